@@ -1,7 +1,9 @@
 -- Each number of a board has one cell, and a slide leaves a board.
-use Rattle.std.proofs.Common.{◌≡◌, ◌≢◌, ℕ, zero, suc, ◌*◌, ◌<◌, ◌≤◌, Bool, true, false, cond, eqb, ◌⊎◌, List, [], ◌∷◌, length, set, inl, inr, refl, sym, ◌∙◌, ap, subst, arith, get_or-set_same, get_or-set_other, length-set, eq-eqb, ne_eqb}
-use Rattle.std.proofs.lemmas.Bool.{cases_eq, cond-true, cond-false, cases_lt, eqb-true}
-use Rattle.puz_board.specs.Boards.{at, IsBoard, cell_of, blank, slid, side_of, side_of_count}
+use Rattle.std.proofs.Common.{◌≡◌, ◌≢◌, ℕ, zero, suc, ◌+◌, ◌*◌, ◌<◌, ◌≤◌, Bool, true, false, cond, eqb, ◌⊎◌, List, [], ◌∷◌, length, set, inl, inr, refl, sym, ◌∙◌, ap, subst, arith, get_or-set_same, get_or-set_other, length-set, eq-eqb, ne_eqb}
+use Rattle.std.proofs.lemmas.Bool.{cases_eq, cond-true, cond-false, cases_lt, eqb-true, and_parts, and_from}
+use Rattle.std.specs.List.{enumerate_from, list_all}
+use Rattle.puz_board.specs.Boards.{IsBoard, IsBoardOf, IsGoal, at, blank, cell_of, is_goal, side_of, side_of_count, slid}
+use Rattle.puz_board.proofs.CellLemmas.{by_side}
 
 -- ---- the cell of a number
 
@@ -65,129 +67,86 @@ pigeonhole (suc n) (suc m) f into one = let h : n ≤ m = pigeonhole n m (avoidi
 abbrev one_more_at : List ℕ → ℕ → ℕ → ℕ → ℕ
 one_more_at b last t i = cond (eqb i last) t (at b i)
 
-module _ (b : List ℕ) (good : IsBoard b) where
+module _ (n : ℕ) (b : List ℕ) (good : IsBoardOf n b) where
   one_cell : (c d : ℕ) → c < length b → d < length b → at b c ≡ at b d → c ≡ d
-  one_cell c d p q e = good.distinct c d p q e
+  one_cell c d p q e = good.distinct c d (let s = good.size in omega arith) (let s = good.size in omega arith) e
 
   -- the cell of the number in c is c
-  pub cell_of-content : (c : ℕ) → c < length b → cell_of (at b c) b ≡ c
-  cell_of-content c l = cell_of-at b c one_cell l
+  pub cell_of-content : (c : ℕ) → c < n * n → cell_of (at b c) b ≡ c
+  cell_of-content c l = cell_of-at b c one_cell (let s = good.size in omega arith)
 
-  pub cell_of-is : (t c : ℕ) → c < length b → at b c ≡ t → cell_of t b ≡ c
+  pub cell_of-is : (t c : ℕ) → c < n * n → at b c ≡ t → cell_of t b ≡ c
   cell_of-is t c l e = ap (λ x. cell_of x b) (sym e) ∙ cell_of-content c l
 
-  -- each number below length b has a cell
-  pub has_cell : (t : ℕ) → t < length b → (c : ℕ) × (c < length b) × (at b c ≡ t)
-  has_cell t l = elim (found t b) [ inl h ↦ (h.0, h.1, h.2) | inr miss ↦ absurd (none miss) ]
+  -- each number below n * n has a cell
+  pub has_cell : (t : ℕ) → t < n * n → (c : ℕ) × (c < n * n) × (at b c ≡ t)
+  has_cell t l = elim (found t b) [
+    | inl h ↦ (h.0, let s = good.size in let p : h.0 < length b = h.1 in omega arith, h.2)
+    | inr miss ↦ absurd (none miss)
+  ]
     where
       none : ((i : ℕ) → i < length b → at b i ≢ t) → ⊥
-      none miss = let big : suc (length b) ≤ length b = pigeonhole (suc (length b)) (length b) (one_more_at b (length b) t) into one in omega arith
+      none miss = let big : suc (n * n) ≤ n * n = pigeonhole (suc (n * n)) (n * n) (one_more_at b (n * n) t) into one in omega arith
         where
-          f_last : (i : ℕ) → i ≡ length b → one_more_at b (length b) t i ≡ t
-          f_last i e = cond-true (eqb i (length b)) t (at b i) (eq-eqb i (length b) e)
+          s : length b ≡ n * n
+          s = good.size
 
-          f_in : (i : ℕ) → i < length b → one_more_at b (length b) t i ≡ at b i
-          f_in i l = cond-false (eqb i (length b)) t (at b i) (ne_eqb i (length b) (λ e. omega arith))
+          f_last : (i : ℕ) → i ≡ n * n → one_more_at b (n * n) t i ≡ t
+          f_last i e = cond-true (eqb i (n * n)) t (at b i) (eq-eqb i (n * n) e)
 
-          into : (i : ℕ) → i < suc (length b) → one_more_at b (length b) t i < length b
-          into i p = elim (cases_lt i (length b)) [
+          f_in : (i : ℕ) → i < n * n → one_more_at b (n * n) t i ≡ at b i
+          f_in i l = cond-false (eqb i (n * n)) t (at b i) (ne_eqb i (n * n) (λ e. omega arith))
+
+          into : (i : ℕ) → i < suc (n * n) → one_more_at b (n * n) t i < n * n
+          into i p = elim (cases_lt i (n * n)) [
             | inl q ↦ let a = f_in i q in let w = good.below i q in omega arith
             | inr q ↦ let a = f_last i (omega arith) in omega arith
           ]
 
-          one : (i j : ℕ) → i < suc (length b) → j < suc (length b) → one_more_at b (length b) t i ≡ one_more_at b (length b) t j → i ≡ j
-          one i j p q e = elim (cases_lt i (length b)) [
-            | inl u ↦ elim (cases_lt j (length b)) [
+          one : (i j : ℕ) → i < suc (n * n) → j < suc (n * n) → one_more_at b (n * n) t i ≡ one_more_at b (n * n) t j → i ≡ j
+          one i j p q e = elim (cases_lt i (n * n)) [
+            | inl u ↦ elim (cases_lt j (n * n)) [
               | inl v ↦ good.distinct i j u v (sym (f_in i u) ∙ e ∙ f_in j v)
               | inr v ↦ absurd (miss i (omega arith) (sym (f_in i u) ∙ e ∙ f_last j (omega arith)))
             ]
-            | inr u ↦ elim (cases_lt j (length b)) [
+            | inr u ↦ elim (cases_lt j (n * n)) [
               | inl v ↦ absurd (miss j (omega arith) (sym (f_in j v) ∙ sym e ∙ f_last i (omega arith)))
               | inr v ↦ omega arith
             ]
           ]
 
-  pub cell_of-below : (t : ℕ) → t < length b → cell_of t b < length b
-  cell_of-below t l = let h = has_cell t l in let e : cell_of t b ≡ h.0 = cell_of-is t h.0 h.1 h.2 in let p : h.0 < length b = h.1 in omega arith
+  pub cell_of-below : (t : ℕ) → t < n * n → cell_of t b < n * n
+  cell_of-below t l =
+      let h = has_cell t l in
+      let e : cell_of t b ≡ h.0 = cell_of-is t h.0 h.1 h.2 in
+      let p : h.0 < n * n = h.1 in
+      omega arith
 
-  pub at-cell_of : (t : ℕ) → t < length b → at b (cell_of t b) ≡ t
+  pub at-cell_of : (t : ℕ) → t < n * n → at b (cell_of t b) ≡ t
   at-cell_of t l = let h = has_cell t l in ap (at b) (cell_of-is t h.0 h.1 h.2) ∙ h.2
 
--- ---- a slide
-
-module _ (b : List ℕ) (good : IsBoard b) (c : ℕ) (inside : c < length b) where
-  some_cell : 0 < length b
-  some_cell = omega arith
-
-  z_below : blank b < length b
-  z_below = cell_of-below b good 0 some_cell
-
-  pub at_blank : at b (blank b) ≡ 0
-  at_blank = at-cell_of b good 0 some_cell
-
-  pub at-slid_there : at (slid b c) c ≡ 0
-  unfolding slid
-  at-slid_there = get_or-set_same (set b (blank b) (at b c)) c 0 0 (let e = length-set b (blank b) (at b c) in omega arith)
-
-  pub at-slid_back : blank b ≢ c → at (slid b c) (blank b) ≡ at b c
-  unfolding slid
-  at-slid_back ne = get_or-set_other (set b (blank b) (at b c)) c (blank b) 0 0 ne ∙ get_or-set_same b (blank b) (at b c) 0 (let w = z_below in omega arith)
-
-  pub at-slid_other : (x : ℕ) → x ≢ c → x ≢ blank b → at (slid b c) x ≡ at b x
-  unfolding slid
-  at-slid_other x p q = get_or-set_other (set b (blank b) (at b c)) c x 0 0 p ∙ get_or-set_other b (blank b) x (at b c) 0 q
-
-  -- where the content of a cell comes from
-  origin : (x : ℕ) → (x < length b) → (y : ℕ) × (y < length b) × (at (slid b c) x ≡ at b y) × (((x ≡ c) × (y ≡ blank b)) ⊎ ((x ≡ blank b) × (y ≡ c)) ⊎ ((x ≢ c) × (x ≢ blank b) × (y ≡ x)))
-  origin x l = elim (cases_eq x c) [
-    | inl e ↦ (blank b, z_below, ap (at (slid b c)) e ∙ at-slid_there ∙ sym at_blank, inl (e, refl))
-    | inr p ↦ elim (cases_eq x (blank b)) [
-      | inl e ↦ (c, inside, ap (at (slid b c)) e ∙ at-slid_back (λ q. p (e ∙ q)), inr (inl (e, refl)))
-      | inr q ↦ (x, l, at-slid_other x p q, inr (inr (p, q, refl)))
-    ]
-  ]
-
-  pub length-slid : length (slid b c) ≡ length b
-  unfolding slid
-  length-slid = length-set (set b (blank b) (at b c)) c 0 ∙ length-set b (blank b) (at b c)
-
-  pub IsBoard-slid : IsBoard (slid b c)
-  IsBoard-slid = record {
-    size = length-slid ∙ good.size ∙ sym (ap (λ n. side_of_count n * side_of_count n) length-slid);
-    low = subst (λ n. 2 ≤ side_of_count n) (sym length-slid) good.low;
-    high = subst (λ n. side_of_count n ≤ 5) (sym length-slid) good.high;
-    below = λ x l.
-        let e = length-slid in
-        let o = origin x (omega arith) in
-        let f : at (slid b c) x ≡ at b o.0 = o.2 in
-        let w : at b o.0 < length b = good.below o.0 o.1 in omega arith;
-    distinct = λ x y l k e.
-        let s = length-slid in
-        let o = origin x (omega arith) in
-        let u = origin y (omega arith) in
-        same x y o.0 u.0 (good.distinct o.0 u.0 o.1 u.1 (sym o.2 ∙ e ∙ u.2)) o.3 u.3;
-  }
-    where
-      same : (x y o u : ℕ) → o ≡ u → (((x ≡ c) × (o ≡ blank b)) ⊎ ((x ≡ blank b) × (o ≡ c)) ⊎ ((x ≢ c) × (x ≢ blank b) × (o ≡ x))) → (((y ≡ c) × (u ≡ blank b)) ⊎ ((y ≡ blank b) × (u ≡ c)) ⊎ ((y ≢ c) × (y ≢ blank b) × (u ≡ y))) → x ≡ y
-      same x y o u e p q = omega arith
-
-  pub blank-slid : blank (slid b c) ≡ c
-  blank-slid = cell_of-is (slid b c) IsBoard-slid 0 c (let e = length-slid in omega arith) at-slid_there
-
 -- ---- how many cells
-
-square_below : (n : ℕ) → n ≤ 5 → n * n ≤ 25
-square_below n l = grind arith
 
 square_above : (n : ℕ) → 2 ≤ n → 4 ≤ n * n
 square_above n l = grind arith
 
-pub length-board : (b : List ℕ) → IsBoard b → (4 ≤ length b) × (length b ≤ 25)
-length-board b good =
-    let s : length b ≡ side_of b * side_of b = good.size in
-    let low = square_above (side_of b) good.low in
-    let high = square_below (side_of b) good.high in
-    (omega arith, omega arith)
+square_below : (n : ℕ) → n ≤ 5 → n * n ≤ 25
+square_below n l = grind arith
+
+-- a board has 4 cells at least and 25 at most
+pub cells_least : (n : ℕ) (b : List ℕ) → IsBoardOf n b → 4 ≤ n * n
+cells_least n b good = square_above n good.low
+
+pub cells_most : (n : ℕ) (b : List ℕ) → IsBoardOf n b → n * n ≤ 25
+cells_most n b good = square_below n good.high
+
+side_of_count-square : (n : ℕ) → 2 ≤ n → n ≤ 5 → side_of_count (n * n) ≡ n
+unfolding side_of_count
+side_of_count-square = by_side (λ n. side_of_count (n * n) ≡ n) refl refl refl refl
+
+-- a board of side n has the side n
+pub side_of-board : (n : ℕ) (b : List ℕ) → IsBoardOf n b → side_of b ≡ n
+side_of-board n b good = ap side_of_count good.size ∙ side_of_count-square n good.low good.high
 
 abbrev side_by : Bool → Bool → Bool → Bool → ℕ
 side_by a b c d = cond a 2 (cond b 3 (cond c 4 (cond d 5 0)))
@@ -204,3 +163,93 @@ side_of_count-sized count ne = go (eqb count 4) (eqb count 9) (eqb count 16) (eq
     go false false true d p q r s ne = (omega arith, omega arith, r refl)
     go false false false true p q r s ne = (omega arith, omega arith, s refl)
     go false false false false p q r s ne = absurd (ne refl)
+
+-- ---- a slide
+
+module _ (n : ℕ) (b : List ℕ) (good : IsBoardOf n b) (c : ℕ) (inside : c < n * n) where
+  some_cell : 0 < n * n
+  some_cell = omega arith
+
+  z_below : blank b < n * n
+  z_below = cell_of-below n b good 0 some_cell
+
+  pub at_blank : at b (blank b) ≡ 0
+  at_blank = at-cell_of n b good 0 some_cell
+
+  pub at-slid_there : at (slid b c) c ≡ 0
+  unfolding slid
+  at-slid_there = get_or-set_same (set b (blank b) (at b c)) c 0 0 (let e = length-set b (blank b) (at b c) in let s = good.size in omega arith)
+
+  pub at-slid_back : blank b ≢ c → at (slid b c) (blank b) ≡ at b c
+  unfolding slid
+  at-slid_back ne =
+      get_or-set_other (set b (blank b) (at b c)) c (blank b) 0 0 ne ∙
+      get_or-set_same b (blank b) (at b c) 0 (let s = good.size in let w = z_below in omega arith)
+
+  pub at-slid_other : (x : ℕ) → x ≢ c → x ≢ blank b → at (slid b c) x ≡ at b x
+  unfolding slid
+  at-slid_other x p q = get_or-set_other (set b (blank b) (at b c)) c x 0 0 p ∙ get_or-set_other b (blank b) x (at b c) 0 q
+
+  -- where the content of a cell comes from
+  origin : (x : ℕ) → (x < n * n) → (y : ℕ) × (y < n * n) × (at (slid b c) x ≡ at b y) × (((x ≡ c) × (y ≡ blank b)) ⊎ ((x ≡ blank b) × (y ≡ c)) ⊎ ((x ≢ c) × (x ≢ blank b) × (y ≡ x)))
+  origin x l = elim (cases_eq x c) [
+    | inl e ↦ (blank b, z_below, ap (at (slid b c)) e ∙ at-slid_there ∙ sym at_blank, inl (e, refl))
+    | inr p ↦ elim (cases_eq x (blank b)) [
+      | inl e ↦ (c, inside, ap (at (slid b c)) e ∙ at-slid_back (λ q. p (e ∙ q)), inr (inl (e, refl)))
+      | inr q ↦ (x, l, at-slid_other x p q, inr (inr (p, q, refl)))
+    ]
+  ]
+
+  pub length-slid : length (slid b c) ≡ length b
+  unfolding slid
+  length-slid = length-set (set b (blank b) (at b c)) c 0 ∙ length-set b (blank b) (at b c)
+
+  pub side_of-slid : side_of (slid b c) ≡ side_of b
+  side_of-slid = ap side_of_count length-slid
+
+  pub IsBoardOf-slid : IsBoardOf n (slid b c)
+  IsBoardOf-slid = record {
+    low = good.low;
+    high = good.high;
+    size = length-slid ∙ good.size;
+    below = λ x l.
+        let o = origin x l in
+        let f : at (slid b c) x ≡ at b o.0 = o.2 in
+        let w : at b o.0 < n * n = good.below o.0 o.1 in omega arith;
+    distinct = λ x y l k e.
+        let o = origin x l in
+        let u = origin y k in
+        same x y o.0 u.0 (good.distinct o.0 u.0 o.1 u.1 (sym o.2 ∙ e ∙ u.2)) o.3 u.3;
+  }
+    where
+      same : (x y o u : ℕ) → o ≡ u → (((x ≡ c) × (o ≡ blank b)) ⊎ ((x ≡ blank b) × (o ≡ c)) ⊎ ((x ≢ c) × (x ≢ blank b) × (o ≡ x))) → (((y ≡ c) × (u ≡ blank b)) ⊎ ((y ≡ blank b) × (u ≡ c)) ⊎ ((y ≢ c) × (y ≢ blank b) × (u ≡ y))) → x ≡ y
+      same x y o u e p q = omega arith
+
+  pub blank-slid : blank (slid b c) ≡ c
+  blank-slid = cell_of-is n (slid b c) IsBoardOf-slid 0 c inside at-slid_there
+
+pub IsBoard-slid : (b : List ℕ) → IsBoard b → (c : ℕ) → c < side_of b * side_of b → IsBoard (slid b c)
+IsBoard-slid b good c inside =
+    subst (λ n. IsBoardOf n (slid b c)) (sym (side_of-slid (side_of b) b good c inside)) (IsBoardOf-slid (side_of b) b good c inside)
+
+-- ---- the goal board
+
+in_order : (i : ℕ) (b : List ℕ) → list_all (λ (c, x). eqb x c) (enumerate_from i b) ≡ true → (c : ℕ) → c < length b → at b c ≡ i + c
+in_order i [] e c l = absurd (omega arith)
+in_order i (x ∷ b) e zero l = let both = and_parts (eqb x i) _ e in let same = eqb-true x i both.0 in omega arith
+in_order i (x ∷ b) e (suc c) l = let both = and_parts (eqb x i) _ e in let next = in_order (i + 1) b both.1 c (omega arith) in omega arith
+
+ordered : (i : ℕ) (b : List ℕ) → ((c : ℕ) → c < length b → at b c ≡ i + c) → list_all (λ (c, x). eqb x c) (enumerate_from i b) ≡ true
+ordered i [] h = refl
+ordered i (x ∷ b) h =
+    let first : x ≡ i + 0 = h 0 (omega arith) in
+    let same : x ≡ i = omega arith in
+    and_from (eqb x i) _ (eq-eqb x i same) (ordered (i + 1) b (λ c l. let next : at b c ≡ i + suc c = h (suc c) (omega arith) in omega arith))
+
+pub is_goal-goal : (b : List ℕ) → IsGoal b → is_goal b ≡ true
+unfolding is_goal
+is_goal-goal b goal = ordered 0 b (λ c l. let here = goal c l in omega arith)
+
+pub goal-is_goal : (b : List ℕ) → is_goal b ≡ true → IsGoal b
+unfolding is_goal
+goal-is_goal b e c l = let here = in_order 0 b e c l in omega arith

@@ -1,13 +1,13 @@
 -- Which fault a list of numbers has, and that a list with none is a board.
-use Rattle.std.proofs.Common.{◌≡◌, ◌≢◌, ℕ, ◌*◌, ◌<◌, ◌≤◌, true, false, eqb, List, length, take, get_or, Option, None, Ok, Err, inl, inr, sym, ◌∙◌, ap₂, arith, eq-eqb, ne_eqb, get_or-take, length-take, lit≤}
+use Rattle.std.proofs.Common.{◌≡◌, ◌≢◌, ℕ, ◌*◌, ◌<◌, ◌≤◌, true, false, eqb, List, length, take, get_or, Option, None, Ok, Err, inl, inr, sym, ◌∙◌, ap₂, arith, leb, eq-eqb, ne_eqb, get_or-take, length-take, lit≤}
 use Rattle.std.proofs.lemmas.Bool.{cases_lt, cases_eq, cond-true, cond-false, leb-false, lt-leb, both_ways}
 use Rattle.std.proofs.lemmas.List.Folds.{list_any_at, list_any_none}
 use Rattle.std.proofs.lemmas.Grind.{get_or_default_zero}
 use Rattle.std.specs.Prelude.{All}
 use Rattle.puz_board.specs.declared.texts.BoardFault.TheVariants.{B1, B2, B3, B4, B5}
 use Rattle.puz_board.specs.Boards.{IsBoard, at, side_of, side_of_count}
-use Rattle.puz_board.specs.Texts.{board_of_numbers, board_of_text, long_run, numbers_of, refuse, repeated, repeated_at, stray, too_large, too_large_at}
-use Rattle.puz_board.proofs.LeastLemmas.{below_least, least-none}
+use Rattle.puz_board.specs.BoardTexts.{board_of_numbers, board_of_text, long_run, numbers_of, refuse, repeated, repeated_at, stray_byte, too_large}
+use Rattle.puz_board.proofs.FirstLemmas.{fails_below, fails_each, first_below-none, position-none}
 
 pub board_of_numbers-no_side : (xs : List ℕ) → side_of xs ≡ 0 → board_of_numbers xs ≡ Err (B3 (length xs))
 unfolding board_of_numbers
@@ -22,7 +22,7 @@ board_of_numbers-sided xs o p side e f =
 module _ (xs : List ℕ) where
   all_below : too_large xs ≡ None → (c : ℕ) → c < length xs → at xs c < length xs
   unfolding too_large
-  all_below none c l = leb-false _ _ (below_least (too_large_at xs) (length xs) none c l)
+  all_below none c l = leb-false _ _ (fails_each (λ x. leb (length xs) x) xs none c l)
 
   not_repeated : repeated xs ≡ None → (c d : ℕ) → c < d → d < length xs → at xs c ≡ at xs d → ⊥
   unfolding repeated
@@ -31,20 +31,20 @@ module _ (xs : List ℕ) where
       let place : c < length (take d xs) = omega arith in
       let same : eqb (get_or (take d xs) c 0) (at xs d) ≡ true = eq-eqb _ _ (get_or-take d xs c 0 l ∙ e) in
       both_ways (repeated_at xs d)
-      (below_least (repeated_at xs) (length xs) none d m)
+      (fails_below (repeated_at xs) (length xs) none d m)
       (list_any_at (λ x. eqb x (at xs d)) (take d xs) c 0 place same)
 
   pub IsBoard-from_tests : length xs ≡ side_of xs * side_of xs → 2 ≤ side_of xs → side_of xs ≤ 5 → too_large xs ≡ None → repeated xs ≡ None → IsBoard xs
   IsBoard-from_tests size low high below once = record {
-    size = size;
     low = low;
     high = high;
-    below = all_below below;
+    size = size;
+    below = λ c l. let h = all_below below c (omega arith) in omega arith;
     distinct = λ c d l m e. elim (cases_lt c d) [
-      | inl p ↦ absurd (not_repeated once c d p m e)
+      | inl p ↦ absurd (not_repeated once c d p (omega arith) e)
       | inr p ↦ elim (cases_eq c d) [
         | inl q ↦ q
-        | inr q ↦ absurd (not_repeated once d c (omega arith) l (sym e))
+        | inr q ↦ absurd (not_repeated once d c (omega arith) (omega arith) (sym e))
       ]
     ];
   }
@@ -52,18 +52,21 @@ module _ (xs : List ℕ) where
 module _ (xs : List ℕ) (good : IsBoard xs) where
   none_too_large : None ≡ too_large xs
   unfolding too_large
-  none_too_large = sym (least-none (too_large_at xs) (length xs) (λ k l. lt-leb _ _ (good.below k l)))
+  none_too_large = sym (position-none (λ x. leb (length xs) x) xs (λ k l. lt-leb _ _ (let s = good.size in let h = good.below k (omega arith) in omega arith)))
 
   none_repeated : None ≡ repeated xs
   unfolding repeated
-  none_repeated = sym (least-none (repeated_at xs) (length xs) (λ k l. list_any_none (λ x. eqb x (at xs k)) (take k xs) (others k l)))
+  none_repeated = sym (first_below-none (repeated_at xs) (length xs) (λ k l. list_any_none (λ x. eqb x (at xs k)) (take k xs) (others k l)))
     where
       others : (k : ℕ) → k < length xs → All (λ x. eqb x (at xs k) ≡ false) (take k xs)
       others k l i d m =
           let few = length-take k xs in
+          let s = good.size in
           let below : i < k = omega arith in
           let within : i < length xs = omega arith in
-          ne_eqb _ _ (λ e. let same : i ≡ k = good.distinct i k within l (sym (get_or_default_zero xs i d within) ∙ sym (get_or-take k xs i d below) ∙ e) in omega arith)
+          ne_eqb _ _ (λ e.
+          let same : i ≡ k = good.distinct i k (omega arith) (omega arith) (sym (get_or_default_zero xs i d within) ∙ sym (get_or-take k xs i d below) ∙ e) in
+          omega arith)
 
   -- the numbers of a board are taken
   pub board_of_numbers-board : board_of_numbers xs ≡ Ok xs
@@ -71,7 +74,7 @@ module _ (xs : List ℕ) (good : IsBoard xs) where
 
 -- ---- texts
 
-pub board_of_text-is : (text : List ℕ) (o p : Option ℕ) → o ≡ stray text → p ≡ long_run text → board_of_text text ≡ refuse B1 o (refuse B2 p (board_of_numbers (numbers_of text)))
+pub board_of_text-is : (text : List ℕ) (o p : Option ℕ) → o ≡ stray_byte text → p ≡ long_run text → board_of_text text ≡ refuse B1 o (refuse B2 p (board_of_numbers (numbers_of text)))
 unfolding board_of_text
 board_of_text-is text o p e f = ap₂ (λ u v. refuse B1 u (refuse B2 v (board_of_numbers (numbers_of text)))) (sym e) (sym f)
 

@@ -5,13 +5,16 @@ use Rattle.std.proofs.lemmas.List.{take-append-le}
 use Rattle.std.proofs.lemmas.List.Elements.{filter_map-append}
 use Rattle.std.proofs.Math.Seq.{drop-cons, take-suc, take-append-add}
 use Rattle.std.specs.List.{cons_option}
-use Rattle.std.specs.Prelude.{is_none, option_and_then, unwrap_or}
+use Rattle.std.specs.Prelude.{is_none, option_and_then}
+use Rattle.std.specs.Option.{option_map_or}
 use Rattle.puz_board.specs.declared.moves.Move.{Move}
 use Rattle.puz_board.specs.declared.replays.MoveFault.TheVariants.{M2, M3, M4}
 use Rattle.puz_board.specs.Cells.{move_of_letter}
-use Rattle.puz_board.specs.Texts.{refuse}
-use Rattle.puz_board.specs.Paths.{board_after, is_goal, leaves_at, leaving, moved, moves_of, replay_of_moves}
-use Rattle.puz_board.proofs.LeastLemmas.{least-none, least-some}
+use Rattle.puz_board.specs.BoardTexts.{refuse}
+use Rattle.puz_board.specs.Boards.{is_goal, moved}
+use Rattle.puz_board.specs.MovesTexts.{leaves_at, leaving, moves_of, replay_of_moves}
+use Rattle.puz_board.specs.Paths.{board_after}
+use Rattle.puz_board.proofs.FirstLemmas.{first_below-none, first_below-some}
 
 -- some moves, and then others
 pub board_after-append : (b : List ℕ) (ms ns : List Move) → board_after b (ms ++ ns) ≡ option_and_then (λ d. board_after d ns) (board_after b ms)
@@ -57,8 +60,8 @@ module _ (b d : List ℕ) (seen : List Move) (stays : board_after b seen ≡ Som
   replay-leaves m more l e =
       let all = length-append seen (m ∷ more) in
       let here : length seen < min 1000 (length (seen ++ m ∷ more)) = omega arith in
-      ap (λ o. refuse M2 o (cond (ltb 1000 (length (seen ++ m ∷ more))) (Err M3) (cond (is_goal (unwrap_or (board_after b (seen ++ m ∷ more)) b)) (Ok (length (seen ++ m ∷ more))) (Err M4))))
-      (least-some (leaves_at b (seen ++ m ∷ more)) (min 1000 (length (seen ++ m ∷ more))) (length seen) here (stays_among m more)
+      ap (λ o. refuse M2 o (cond (ltb 1000 (length (seen ++ m ∷ more))) (Err M3) (cond (option_map_or is_goal (board_after b (seen ++ m ∷ more)) false) (Ok (length (seen ++ m ∷ more))) (Err M4))))
+      (first_below-some (leaves_at b (seen ++ m ∷ more)) (min 1000 (length (seen ++ m ∷ more))) (length seen) here (stays_among m more)
       (ap (λ ms. is_none (board_after b ms)) (seen_and_one m more) ∙ ap is_none (board_after-push b d seen m stays ∙ e)))
 
   -- more than 1000 moves
@@ -67,18 +70,18 @@ module _ (b d : List ℕ) (seen : List Move) (stays : board_after b seen ≡ Som
   replay-long m more l =
       let all = length-append seen (m ∷ more) in
       let big : 1000 < length (seen ++ m ∷ more) = omega arith in
-      ap (λ o. refuse M2 o (cond (ltb 1000 (length (seen ++ m ∷ more))) (Err M3) (cond (is_goal (unwrap_or (board_after b (seen ++ m ∷ more)) b)) (Ok (length (seen ++ m ∷ more))) (Err M4))))
-      (least-none (leaves_at b (seen ++ m ∷ more)) (min 1000 (length (seen ++ m ∷ more))) (λ k p. stays_among m more k (omega arith))) ∙
+      ap (λ o. refuse M2 o (cond (ltb 1000 (length (seen ++ m ∷ more))) (Err M3) (cond (option_map_or is_goal (board_after b (seen ++ m ∷ more)) false) (Ok (length (seen ++ m ∷ more))) (Err M4))))
+      (first_below-none (leaves_at b (seen ++ m ∷ more)) (min 1000 (length (seen ++ m ∷ more))) (λ k p. stays_among m more k (omega arith))) ∙
       cond-true (ltb 1000 (length (seen ++ m ∷ more))) (Err M3) _ (lt-ltb _ _ big)
 
   -- all moves stay
   pub replay-ends : length seen ≤ 1000 → replay_of_moves b seen ≡ cond (is_goal d) (Ok (length seen)) (Err M4)
   unfolding replay_of_moves leaving
   replay-ends l =
-      ap (λ o. refuse M2 o (cond (ltb 1000 (length seen)) (Err M3) (cond (is_goal (unwrap_or (board_after b seen) b)) (Ok (length seen)) (Err M4))))
-      (least-none (leaves_at b seen) (min 1000 (length seen)) (λ k p. front_stays b d seen (k + 1) stays)) ∙
+      ap (λ o. refuse M2 o (cond (ltb 1000 (length seen)) (Err M3) (cond (option_map_or is_goal (board_after b seen) false) (Ok (length seen)) (Err M4))))
+      (first_below-none (leaves_at b seen) (min 1000 (length seen)) (λ k p. front_stays b d seen (k + 1) stays)) ∙
       cond-false (ltb 1000 (length seen)) (Err M3) _ (le-ltb _ _ l) ∙
-      ap (λ o. cond (is_goal (unwrap_or o b)) (Ok (length seen)) (Err M4)) stays
+      ap (λ o. cond (option_map_or is_goal o false) (Ok (length seen)) (Err M4)) stays
 
 -- ---- the moves of a text
 

@@ -2,9 +2,9 @@
 use Rattle.std.proofs.Common.{◌≡◌, ℕ, zero, suc, ◌+◌, ◌-◌, ◌*◌, ◌<◌, List, [], ◌∷◌, length, take, drop, get_or, set, refl, sym, ◌∙◌, ap, ap₂, subst, arith, length-set, get_or-take, ◌++◌, replicate, length-append}
 use Rattle.std.proofs.Math.Seq.{take-append_seam, drop-append_seam}
 use Rattle.puz_board.specs.declared.boards.Board.TheInside.{Inside}
-use Rattle.puz_board.specs.Boards.{IsBoard, blank, side_of, side_of_count, slid}
-use Rattle.puz_board.specs.Stored.{IsStored, cells_shown, stored_of}
-use Rattle.puz_board.proofs.BoardLemmas.{IsBoard-slid, length-slid, cell_of-below, length-board}
+use Rattle.puz_board.specs.Boards.{IsBoard, blank, side_of, slid}
+use Rattle.puz_board.specs.Stored.{IsStored, numbers_shown, stored_of}
+use Rattle.puz_board.proofs.BoardLemmas.{IsBoard-slid, blank-slid, cell_of-below, cells_most, side_of-slid}
 
 pub take-set : (n : ℕ) (xs : List ℕ) (i y : ℕ) → take n (set xs i y) ≡ set (take n xs) i y
 take-set zero xs i y = refl
@@ -18,33 +18,34 @@ drop-set_front (suc n) [] i y l = refl
 drop-set_front (suc n) (x ∷ xs) zero y l = refl
 drop-set_front (suc n) (x ∷ xs) (suc i) y l = drop-set_front n xs i y (omega arith)
 
--- the fields after the tile of cell c has gone to cell z
+-- the fields after the blank of cell z has changed places with the tile of cell c
 abbrev pub moved : Inside → ℕ → ℕ → Inside
-moved s z c = record { side = s.side; cells = set (set s.cells z (get_or s.cells c 0)) c 0 }
+moved s z c = record { side = s.side; blank = c; cells = set (set s.cells z (get_or s.cells c 0)) c 0 }
 
-module _ (s : Inside) (kept : IsStored s) (z c : ℕ) (is_blank : z ≡ blank (cells_shown s)) (inside : c < length (cells_shown s)) where
-  count : length (cells_shown s) ≡ s.side * s.side
-  count = kept.board.size ∙ ap₂ (λ m n. m * n) kept.side kept.side
+module _ (s : Inside) (kept : IsStored s) (z c : ℕ) (is_blank : z ≡ blank (numbers_shown s)) (inside : c < side_of (numbers_shown s) * side_of (numbers_shown s)) where
+  below : c < s.side * s.side
+  below = subst (λ n. c < n * n) kept.side inside
 
   z_inside : z < s.side * s.side
-  z_inside = let e = count in let l = cell_of-below (cells_shown s) kept.board 0 (omega arith) in omega arith
+  z_inside =
+      let l = cell_of-below (side_of (numbers_shown s)) (numbers_shown s) kept.board 0 (omega arith) in
+      subst (λ n. z < n * n) kept.side (omega arith)
 
-  pub cells_shown-moved : cells_shown (moved s z c) ≡ slid (cells_shown s) c
+  pub numbers_shown-moved : numbers_shown (moved s z c) ≡ slid (numbers_shown s) c
   unfolding slid
-  cells_shown-moved =
-      let below : c < s.side * s.side = let e = count in omega arith in
+  numbers_shown-moved =
       take-set (s.side * s.side) (set s.cells z (get_or s.cells c 0)) c 0 ∙
       ap (λ xs. set xs c 0) (
       take-set (s.side * s.side) s.cells z (get_or s.cells c 0) ∙
-      ap₂ (λ i y. set (cells_shown s) i y) is_blank (sym (get_or-take (s.side * s.side) s.cells c 0 below)))
+      ap₂ (λ i y. set (numbers_shown s) i y) is_blank (sym (get_or-take (s.side * s.side) s.cells c 0 below)))
 
   pub IsStored-moved : IsStored (moved s z c)
   IsStored-moved = record {
     room = length-set (set s.cells z (get_or s.cells c 0)) c 0 ∙ length-set s.cells z (get_or s.cells c 0) ∙ kept.room;
-    side = ap side_of cells_shown-moved ∙ ap side_of_count (length-slid (cells_shown s) kept.board c inside) ∙ kept.side;
-    board = subst IsBoard (sym cells_shown-moved) (IsBoard-slid (cells_shown s) kept.board c inside);
+    side = ap side_of numbers_shown-moved ∙ side_of-slid (side_of (numbers_shown s)) (numbers_shown s) kept.board c inside ∙ kept.side;
+    blank_cell = ap blank numbers_shown-moved ∙ blank-slid (side_of (numbers_shown s)) (numbers_shown s) kept.board c inside;
+    board = subst IsBoard (sym numbers_shown-moved) (IsBoard-slid (numbers_shown s) kept.board c inside);
     rest =
-        let below : c < s.side * s.side = let e = count in omega arith in
         drop-set_front (s.side * s.side) (set s.cells z (get_or s.cells c 0)) c 0 below ∙
         drop-set_front (s.side * s.side) s.cells z (get_or s.cells c 0) z_inside ∙ kept.rest;
   }
@@ -67,8 +68,8 @@ length-replicate_zero : (n : ℕ) → length (replicate {A = ℕ} n 0) ≡ n
 length-replicate_zero zero = refl
 length-replicate_zero (suc n) = ap suc (length-replicate_zero n)
 
-pub cells_shown-stored : (xs : List ℕ) → IsBoard xs → cells_shown (stored_of xs) ≡ xs
-cells_shown-stored xs good =
+pub numbers_shown-stored : (xs : List ℕ) → IsBoard xs → numbers_shown (stored_of xs) ≡ xs
+numbers_shown-stored xs good =
     ap (λ n. take n (xs ++ replicate (25 - length xs) 0)) (sym good.size) ∙
     take-append_seam xs (replicate (25 - length xs) 0)
 
@@ -77,10 +78,12 @@ IsStored-stored xs good = record {
   room =
       let e = length-append xs (replicate (25 - length xs) 0) in
       let f = length-replicate_zero (25 - length xs) in
-      let few = length-board xs good in
+      let few = cells_most (side_of xs) xs good in
+      let size = good.size in
       omega arith;
-  side = ap side_of (cells_shown-stored xs good);
-  board = subst IsBoard (sym (cells_shown-stored xs good)) good;
+  side = ap side_of (numbers_shown-stored xs good);
+  blank_cell = ap blank (numbers_shown-stored xs good);
+  board = subst IsBoard (sym (numbers_shown-stored xs good)) good;
   rest =
       ap (λ n. drop n (xs ++ replicate (25 - length xs) 0)) (sym good.size) ∙
       drop-append_seam xs (replicate (25 - length xs) 0) ∙

@@ -4,108 +4,127 @@ use Rattle.std.proofs.lemmas.Bool.{and_parts, and_from, or_from, leb-true, both_
 use Rattle.std.proofs.lemmas.List.{drop_all}
 use Rattle.std.proofs.Math.Seq.{drop-cons}
 use Rattle.std.proofs.lemmas.List.Splits.{slice_split-cons_yes, slice_split-cons_no}
-use Rattle.std.specs.Prelude.{nat_lt, filter, ⊤}
+use Rattle.std.proofs.lemmas.Str.{digit_value_digit}
+use Rattle.std.specs.Prelude.{nat_lt, filter, slice_index, ⊤}
+use Rattle.std.specs.Char.{digit_value, is_ascii_digit}
 use Rattle.std.specs.List.{onto_first}
-use Rattle.puz_board.specs.Boards.{at}
-use Rattle.puz_board.specs.Texts.{digit_test, long_run, number_of, numbers_of, parts, separator_test, stray, stray_at, three_digits_at}
-use Rattle.puz_board.proofs.LeastLemmas.{below_least}
+use Rattle.std.specs.Str.Parse.{digits_value}
+use Rattle.puz_board.specs.BoardTexts.{is_separator, long_run, numbers_of, parts, stray_byte, three_digits_at}
+use Rattle.puz_board.proofs.FirstLemmas.{fails_below, fails_each}
 
 -- nothing follows, or a separator does
-abbrev pub IsParted : (ℕ → Bool) → List ℕ → Type 0
-IsParted separates [] = ⊤
-IsParted separates (b ∷ text) = separates b ≡ true
+abbrev pub IsParted : List ℕ → Type 0
+IsParted [] = ⊤
+IsParted (b ∷ text) = is_separator b ≡ true
 
 abbrev kept : List (List ℕ) → List (List ℕ)
 kept all = filter (λ part. nat_lt 0 (length part)) all
 
-module _ (p : ℕ → Bool) where
-  parts-separator : (b : ℕ) (text : List ℕ) → p b ≡ true → parts p (b ∷ text) ≡ parts p text
-  parts-separator b text e = ap kept (slice_split-cons_yes p b text e)
+parts-separator : (b : ℕ) (text : List ℕ) → is_separator b ≡ true → parts (b ∷ text) ≡ parts text
+parts-separator b text e = ap kept (slice_split-cons_yes is_separator b text e)
 
-  parts-one : (b : ℕ) (text : List ℕ) → p b ≡ false → IsParted p text → parts p (b ∷ text) ≡ (b ∷ []) ∷ parts p text
-  parts-one b [] e f = ap kept (slice_split-cons_no p b [] e)
-  parts-one b (c ∷ text) e f =
-      ap kept (slice_split-cons_no p b (c ∷ text) e ∙ ap (onto_first b) (slice_split-cons_yes p c text f)) ∙
-      ap (λ all. (b ∷ []) ∷ all) (sym (parts-separator c text f))
+parts-one : (b : ℕ) (text : List ℕ) → is_separator b ≡ false → IsParted text → parts (b ∷ text) ≡ (b ∷ []) ∷ parts text
+parts-one b [] e f = ap kept (slice_split-cons_no is_separator b [] e)
+parts-one b (c ∷ text) e f =
+    ap kept (slice_split-cons_no is_separator b (c ∷ text) e ∙ ap (onto_first b) (slice_split-cons_yes is_separator c text f)) ∙
+    ap (λ all. (b ∷ []) ∷ all) (sym (parts-separator c text f))
 
-  parts-two : (a b : ℕ) (text : List ℕ) → p a ≡ false → p b ≡ false → IsParted p text → parts p (a ∷ b ∷ text) ≡ (a ∷ b ∷ []) ∷ parts p text
-  parts-two a b [] d e f = ap kept (slice_split-cons_no p a (b ∷ []) d ∙ ap (onto_first a) (slice_split-cons_no p b [] e))
-  parts-two a b (c ∷ text) d e f =
-      ap kept (slice_split-cons_no p a (b ∷ c ∷ text) d ∙ ap (onto_first a) (slice_split-cons_no p b (c ∷ text) e ∙ ap (onto_first b) (slice_split-cons_yes p c text f))) ∙
-      ap (λ all. (a ∷ b ∷ []) ∷ all) (sym (parts-separator c text f))
-
-pub numbers_of-separator : (b : ℕ) (text : List ℕ) → separator_test b ≡ true → numbers_of (b ∷ text) ≡ numbers_of text
-unfolding numbers_of
-numbers_of-separator b text e = ap (map number_of) (parts-separator separator_test b text e)
-
-pub numbers_of-one : (b : ℕ) (text : List ℕ) → separator_test b ≡ false → IsParted separator_test text → numbers_of (b ∷ text) ≡ (b - 48) ∷ numbers_of text
-unfolding numbers_of
-numbers_of-one b text e f =
-    let one : 10 * 0 + (b - 48) ≡ b - 48 = omega arith in
-    ap (map number_of) (parts-one separator_test b text e f) ∙ ap (λ n. n ∷ map number_of (parts separator_test text)) one
-
-pub numbers_of-two : (a b : ℕ) (text : List ℕ) → separator_test a ≡ false → separator_test b ≡ false → IsParted separator_test text
-    → numbers_of (a ∷ b ∷ text) ≡ (10 * (a - 48) + (b - 48)) ∷ numbers_of text
-unfolding numbers_of
-numbers_of-two a b text d e f =
-    let two : 10 * (10 * 0 + (a - 48)) + (b - 48) ≡ 10 * (a - 48) + (b - 48) = omega arith in
-    ap (map number_of) (parts-two separator_test a b text d e f) ∙ ap (λ n. n ∷ map number_of (parts separator_test text)) two
+parts-two : (a b : ℕ) (text : List ℕ) → is_separator a ≡ false → is_separator b ≡ false → IsParted text → parts (a ∷ b ∷ text) ≡ (a ∷ b ∷ []) ∷ parts text
+parts-two a b [] d e f = ap kept (slice_split-cons_no is_separator a (b ∷ []) d ∙ ap (onto_first a) (slice_split-cons_no is_separator b [] e))
+parts-two a b (c ∷ text) d e f =
+    ap kept (
+    slice_split-cons_no is_separator a (b ∷ c ∷ text) d ∙
+    ap (onto_first a) (slice_split-cons_no is_separator b (c ∷ text) e ∙ ap (onto_first b) (slice_split-cons_yes is_separator c text f))) ∙
+    ap (λ all. (a ∷ b ∷ []) ∷ all) (sym (parts-separator c text f))
 
 -- ---- what follows where no byte is stray and no run is long
 
-separator-digit : (b : ℕ) → digit_test b ≡ true → separator_test b ≡ false
+pub separator-digit : (b : ℕ) → is_ascii_digit b ≡ true → is_separator b ≡ false
 separator-digit b e =
     let both = and_parts (leb 48 b) (leb b 57) e in
     let low : 48 ≤ b = leb-true 48 b both.0 in
     let ne : (n : ℕ) → n < 48 → eqb b n ≡ false = λ n l. ne_eqb b n (λ q. omega arith) in
     or_from (eqb b 32 || eqb b 9 || eqb b 13) (eqb b 10) (or_from (eqb b 32 || eqb b 9) (eqb b 13) (or_from (eqb b 32) (eqb b 9) (ne 32 (lit< tt)) (ne 9 (lit< tt))) (ne 13 (lit< tt))) (ne 10 (lit< tt))
 
+digit_value-digit : (b : ℕ) → is_ascii_digit b ≡ true → digit_value b ≡ b - 48
+digit_value-digit b e =
+    let both = and_parts (leb 48 b) (leb b 57) e in
+    let sum = digit_value_digit b (leb-true 48 b both.0, leb-true b 57 both.1) in
+    omega arith
+
 separator-other : (d s : Bool) → not (d || s) ≡ false → d ≡ false → s ≡ true
 separator-other d true e f = refl
 separator-other true false e f = cc
 separator-other false false e f = cc
 
-module _ (text : List ℕ) (clean : stray text ≡ None) (short : long_run text ≡ None) where
-  separates : (i : ℕ) → i < length text → digit_test (at text i) ≡ false → separator_test (at text i) ≡ true
-  unfolding stray
-  separates i l e = separator-other (digit_test (at text i)) (separator_test (at text i)) (below_least (stray_at text) (length text) clean i l) e
+module _ (text : List ℕ) (clean : stray_byte text ≡ None) (short : long_run text ≡ None) where
+  separates : (i : ℕ) → i < length text → is_ascii_digit (slice_index text i) ≡ false → is_separator (slice_index text i) ≡ true
+  unfolding stray_byte
+  separates i l e = separator-other (is_ascii_digit (slice_index text i)) (is_separator (slice_index text i)) (fails_each (λ b. not (is_ascii_digit b || is_separator b)) text clean i l) e
 
-  parted : (i : ℕ) → (i < length text → digit_test (at text i) ≡ false) → IsParted separator_test (drop i text)
+  parted : (i : ℕ) → (i < length text → is_ascii_digit (slice_index text i) ≡ false) → IsParted (drop i text)
   parted i e = elim (cases_lt i (length text)) [
-    | inl l ↦ subst (IsParted separator_test) (sym (drop-cons text i 0 l)) (separates i l (e l))
-    | inr l ↦ subst (IsParted separator_test) (sym (drop_all i text l)) tt
+    | inl l ↦ subst IsParted (sym (drop-cons text i 0 l)) (separates i l (e l))
+    | inr l ↦ subst IsParted (sym (drop_all i text l)) tt
   ]
 
-  no_third : (i : ℕ) → i < length text → digit_test (at text i) ≡ true → digit_test (at text (i + 1)) ≡ true → digit_test (at text (i + 2)) ≡ false
+  no_third : (i : ℕ) → i < length text → is_ascii_digit (slice_index text i) ≡ true → is_ascii_digit (slice_index text (i + 1)) ≡ true → is_ascii_digit (slice_index text (i + 2)) ≡ false
   unfolding long_run
-  no_third i l e f = last_false (digit_test (at text i)) (digit_test (at text (i + 1))) (digit_test (at text (i + 2))) e f (below_least (three_digits_at text) (length text) short i l)
+  no_third i l e f =
+      last_false (is_ascii_digit (slice_index text i)) (is_ascii_digit (slice_index text (i + 1))) (is_ascii_digit (slice_index text (i + 2))) e f
+      (fails_below (three_digits_at text) (length text) short i l)
     where
       last_false : (a b d : Bool) → a ≡ true → b ≡ true → (a && b && d) ≡ false → d ≡ false
       last_false a b false e f g = refl
       last_false a b true e f g = absurd (both_ways (a && b && true) g (and_from (a && b) true (and_from a b e f) refl))
 
-  pub numbers_of-at_separator : (i : ℕ) → i < length text → digit_test (at text i) ≡ false → numbers_of (drop i text) ≡ numbers_of (drop (i + 1) text)
-  numbers_of-at_separator i l e =
+  pub parts-at_separator : (i : ℕ) → i < length text → is_ascii_digit (slice_index text i) ≡ false → parts (drop i text) ≡ parts (drop (i + 1) text)
+  parts-at_separator i l e =
       let next : suc i ≡ i + 1 = omega arith in
-      ap numbers_of (drop-cons text i 0 l) ∙ numbers_of-separator (at text i) (drop (suc i) text) (separates i l e) ∙ ap (λ k. numbers_of (drop k text)) next
+      ap parts (drop-cons text i 0 l) ∙ parts-separator (slice_index text i) (drop (suc i) text) (separates i l e) ∙ ap (λ k. parts (drop k text)) next
 
-  pub numbers_of-at_one : (i : ℕ) → i < length text → digit_test (at text i) ≡ true → (i + 1 < length text → digit_test (at text (i + 1)) ≡ false)
-      → numbers_of (drop i text) ≡ (at text i - 48) ∷ numbers_of (drop (i + 1) text)
-  numbers_of-at_one i l e f =
+  pub parts-at_one : (i : ℕ) → i < length text → is_ascii_digit (slice_index text i) ≡ true → (i + 1 < length text → is_ascii_digit (slice_index text (i + 1)) ≡ false)
+      → parts (drop i text) ≡ (slice_index text i ∷ []) ∷ parts (drop (i + 1) text)
+  parts-at_one i l e f =
       let next : suc i ≡ i + 1 = omega arith in
-      ap numbers_of (drop-cons text i 0 l ∙ ap (λ k. at text i ∷ drop k text) next) ∙
-      numbers_of-one (at text i) (drop (i + 1) text) (separator-digit (at text i) e) (parted (i + 1) f)
+      ap parts (drop-cons text i 0 l ∙ ap (λ k. slice_index text i ∷ drop k text) next) ∙
+      parts-one (slice_index text i) (drop (i + 1) text) (separator-digit (slice_index text i) e) (parted (i + 1) f)
 
-  pub numbers_of-at_two : (i : ℕ) → i + 1 < length text → digit_test (at text i) ≡ true → digit_test (at text (i + 1)) ≡ true
-      → numbers_of (drop i text) ≡ (10 * (at text i - 48) + (at text (i + 1) - 48)) ∷ numbers_of (drop (i + 1 + 1) text)
-  numbers_of-at_two i l e f =
+  pub parts-at_two : (i : ℕ) → i + 1 < length text → is_ascii_digit (slice_index text i) ≡ true → is_ascii_digit (slice_index text (i + 1)) ≡ true
+      → parts (drop i text) ≡ (slice_index text i ∷ slice_index text (i + 1) ∷ []) ∷ parts (drop (i + 1 + 1) text)
+  parts-at_two i l e f =
       let here : i < length text = omega arith in
       let next : suc i ≡ i + 1 = omega arith in
       let over : suc (i + 1) ≡ i + 1 + 1 = omega arith in
       let third : i + 2 ≡ i + 1 + 1 = omega arith in
-      ap numbers_of (drop-cons text i 0 here ∙ ap (λ k. at text i ∷ drop k text) next ∙ ap (λ t. at text i ∷ t) (drop-cons text (i + 1) 0 l ∙ ap (λ k. at text (i + 1) ∷ drop k text) over)) ∙
-      numbers_of-two (at text i) (at text (i + 1)) (drop (i + 1 + 1) text) (separator-digit (at text i) e) (separator-digit (at text (i + 1)) f)
-      (parted (i + 1 + 1) (λ m. ap (λ k. digit_test (at text k)) (sym third) ∙ no_third i here e f))
+      ap parts (
+      drop-cons text i 0 here ∙ ap (λ k. slice_index text i ∷ drop k text) next ∙
+      ap (λ t. slice_index text i ∷ t) (drop-cons text (i + 1) 0 l ∙ ap (λ k. slice_index text (i + 1) ∷ drop k text) over)) ∙
+      parts-two (slice_index text i) (slice_index text (i + 1)) (drop (i + 1 + 1) text) (separator-digit (slice_index text i) e) (separator-digit (slice_index text (i + 1)) f)
+      (parted (i + 1 + 1) (λ m. ap (λ k. is_ascii_digit (slice_index text k)) (sym third) ∙ no_third i here e f))
+
+  -- ---- the numbers that the parts spell
+
+  pub numbers_of-at_separator : (i : ℕ) → i < length text → is_ascii_digit (slice_index text i) ≡ false → numbers_of (drop i text) ≡ numbers_of (drop (i + 1) text)
+  unfolding numbers_of
+  numbers_of-at_separator i l e = ap (map (digits_value 10)) (parts-at_separator i l e)
+
+  pub numbers_of-at_one : (i : ℕ) → i < length text → is_ascii_digit (slice_index text i) ≡ true → (i + 1 < length text → is_ascii_digit (slice_index text (i + 1)) ≡ false)
+      → numbers_of (drop i text) ≡ (slice_index text i - 48) ∷ numbers_of (drop (i + 1) text)
+  unfolding numbers_of
+  numbers_of-at_one i l e f =
+      let first = digit_value-digit (slice_index text i) e in
+      let one : 0 * 10 + digit_value (slice_index text i) ≡ slice_index text i - 48 = omega arith in
+      ap (map (digits_value 10)) (parts-at_one i l e f) ∙ ap (λ n. n ∷ numbers_of (drop (i + 1) text)) one
+
+  pub numbers_of-at_two : (i : ℕ) → i + 1 < length text → is_ascii_digit (slice_index text i) ≡ true → is_ascii_digit (slice_index text (i + 1)) ≡ true
+      → numbers_of (drop i text) ≡ (10 * (slice_index text i - 48) + (slice_index text (i + 1) - 48)) ∷ numbers_of (drop (i + 1 + 1) text)
+  unfolding numbers_of
+  numbers_of-at_two i l e f =
+      let first = digit_value-digit (slice_index text i) e in
+      let second = digit_value-digit (slice_index text (i + 1)) f in
+      let two : (0 * 10 + digit_value (slice_index text i)) * 10 + digit_value (slice_index text (i + 1)) ≡ 10 * (slice_index text i - 48) + (slice_index text (i + 1) - 48) = omega arith in
+      ap (map (digits_value 10)) (parts-at_two i l e f) ∙ ap (λ n. n ∷ numbers_of (drop (i + 1 + 1) text)) two
 
 -- ---- the next number
 

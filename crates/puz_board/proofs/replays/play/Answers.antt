@@ -1,7 +1,8 @@
 use Rattle.std.proofs.Common.{suc, ◌<◌, ◌≤◌, ◌∷◌, [], cond, length, take, drop, Some, Ok, Err, refl, sym, ◌∙◌, ap, subst, arith, length-append}
 use Rattle.std.proofs.lemmas.List.{take_all}
 use Rattle.puz_board.specs.declared.replays.MoveFault.TheVariants.{M2, M4}
-use Rattle.puz_board.specs.Paths.{board_after, moves_of, replay_of_moves}
+use Rattle.puz_board.specs.MovesTexts.{moves_of, replay_of_moves}
+use Rattle.puz_board.specs.Paths.{board_after}
 use Rattle.puz_board.proofs.PlayLemmas.{board_after-nothing, board_after-push, moves_of-around, moves_of-letter, moves_of-other, replay-ends, replay-leaves, replay-long}
 use Rattle.puz_board.proofs.replays.play.Goals as goal
 use Rattle.puz_board.proofs.replays.play.Goals.{in-Some+else-count-eq1000+in-Some-apply, in_default}
@@ -63,7 +64,7 @@ returns-then-is_goal c =
     let seen = moves_of (take i text) in
     let few : length seen ≤ 1000 = subst (λ n. n ≤ 1000) c.loop-b.invariant.count c.loop-b.invariant.few in
     ap Ok c.loop-b.invariant.count ∙
-    ap (λ b. cond b (Ok (length seen)) (Err M4)) c.if-is_goal.ensures ∙
+    ap (λ b. cond b (Ok (length seen)) (Err M4)) c.if-is_goal.ensures.test ∙
     sym (replay-ends c.args.board.now c.loop-b.current seen c.loop-b.invariant.now few) ∙
     ap (λ t. replay_of_moves c.args.board.now (moves_of t)) (take_all i text c.loop-b-test.false)
 
@@ -73,6 +74,6 @@ returns-else-is_goal c =
     let i = c.loop-b.b-index in
     let seen = moves_of (take i text) in
     let few : length seen ≤ 1000 = subst (λ n. n ≤ 1000) c.loop-b.invariant.count c.loop-b.invariant.few in
-    ap (λ b. cond b (Ok (length seen)) (Err M4)) c.if-is_goal.ensures ∙
+    ap (λ b. cond b (Ok (length seen)) (Err M4)) c.if-is_goal.ensures.test ∙
     sym (replay-ends c.args.board.now c.loop-b.current seen c.loop-b.invariant.now few) ∙
     ap (λ t. replay_of_moves c.args.board.now (moves_of t)) (take_all i text c.loop-b-test.false)

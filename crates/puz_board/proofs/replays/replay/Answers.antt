@@ -1,6 +1,7 @@
 use Rattle.std.proofs.Common.{sym, ◌∙◌}
-use Rattle.puz_board.specs.Solutions.{Solves}
-use Rattle.puz_board.proofs.SolutionLemmas.{IfOk-from, replay_of-solved, solved-replay_of}
+use Rattle.puz_board.specs.MovesTexts.{Solves}
+use Rattle.puz_board.proofs.RefusalLemmas.{IfOk-from}
+use Rattle.puz_board.proofs.SolutionLemmas.{replay_of-solved, solved-replay_of}
 use Rattle.puz_board.proofs.replays.replay.Goals as goal
 
 pub returns-clause-ok : goal.returns-clause-ok

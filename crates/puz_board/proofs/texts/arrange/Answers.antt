@@ -1,6 +1,6 @@
 use Rattle.std.proofs.Common.{◌≢◌, ◌*◌, ◌≤◌, refl, sym, ◌∙◌, ap, ap₂, subst, arith, Ok, Some, None}
 use Rattle.puz_board.specs.Boards.{side_of}
-use Rattle.puz_board.specs.Texts.{repeated}
+use Rattle.puz_board.specs.BoardTexts.{repeated}
 use Rattle.puz_board.proofs.FaultLemmas.{board_of_numbers-no_side, board_of_numbers-sided, IsBoard-from_tests}
 use Rattle.puz_board.proofs.texts.arrange.Goals as goal
 

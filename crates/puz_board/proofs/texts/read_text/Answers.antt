@@ -1,6 +1,6 @@
 use Rattle.std.proofs.Common.{◌<◌, length, refl, sym, ◌∙◌, ap, subst, Some, None, Err}
 use Rattle.puz_board.specs.declared.texts.BoardFault.TheVariants.{B3}
-use Rattle.puz_board.specs.Texts.{board_of_numbers, long_run, numbers_of}
+use Rattle.puz_board.specs.BoardTexts.{board_of_numbers, long_run, numbers_of}
 use Rattle.puz_board.proofs.FaultLemmas.{board_of_numbers-no_side, board_of_text-is, side_of_many}
 use Rattle.puz_board.proofs.texts.read_text.Goals as goal
 

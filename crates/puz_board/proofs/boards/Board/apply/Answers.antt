@@ -1,21 +1,19 @@
-use Rattle.std.proofs.Common.{◌≡◌, ◌*◌, ◌<◌, length, Some, sym, ◌∙◌, ap, ap₂, subst, arith}
+use Rattle.std.proofs.Common.{◌≡◌, ◌*◌, ◌<◌, Some, sym, ◌∙◌, ap, ap₂, subst}
 use Rattle.std.specs.Prelude.{option_map}
-use Rattle.puz_board.specs.Boards.{blank, slid, side_of}
+use Rattle.puz_board.specs.Boards.{blank, side_of, slid}
 use Rattle.puz_board.specs.Cells.{step_of}
-use Rattle.puz_board.proofs.StoredLemmas.{IsStored-moved, cells_shown-moved}
+use Rattle.puz_board.specs.Stored.{numbers_shown}
+use Rattle.puz_board.proofs.StoredLemmas.{IsStored-moved, numbers_shown-moved}
 use Rattle.puz_board.proofs.boards.Board.apply.Goals as goal
 
-within : (c : goal.After-next-2-1) → c.in_ok-to.to < length c.args.self.now
-within c =
-    let e : c.side.result * c.side.result ≡ side_of c.args.self.now * side_of c.args.self.now = ap₂ (λ m n. m * n) c.side.ensures.side c.side.ensures.side in
-    let l = c.in_ok-to.ensures.within in
-    let s = c.side.ensures.board.size in
-    omega arith
+is_blank : (c : goal.After-next-2-1) → c.blank-from.result ≡ blank (numbers_shown c.next.inside)
+is_blank c = c.blank-from.ensures.cell ∙ sym (ap blank c.next.view_is)
+
+inside : (c : goal.After-next-2-1) → c.in_ok-to.to < side_of (numbers_shown c.next.inside) * side_of (numbers_shown c.next.inside)
+inside c = subst (λ n. c.in_ok-to.to < n * n) (c.side.ensures.side ∙ sym (ap side_of c.next.view_is)) c.in_ok-to.ensures.within
 
 pub invariant_of-next : goal.invariant_of-next
-invariant_of-next c = IsStored-moved c.next.inside c.next.invariant c.blank-from.result c.in_ok-to.to
-    (c.blank-from.ensures.cell ∙ sym (ap blank c.next.view_is))
-    (subst (λ b. c.in_ok-to.to < length b) (sym c.next.view_is) (within c))
+invariant_of-next c = IsStored-moved c.next.inside c.next.invariant c.blank-from.result c.in_ok-to.to (is_blank c) (inside c)
 
 pub returns : goal.returns
 returns c =
@@ -23,8 +21,6 @@ returns c =
     let stepped : Some c.in_ok-to.to ≡ step_of (side_of now) (blank now) c.args.mv =
     c.in_ok-to.ensures.cell ∙ ap₂ (λ n z. step_of n z c.args.mv) c.side.ensures.side c.blank-from.ensures.cell in
     ap Some (
-    cells_shown-moved c.next.inside c.next.invariant c.blank-from.result c.in_ok-to.to
-    (c.blank-from.ensures.cell ∙ sym (ap blank c.next.view_is))
-    (subst (λ b. c.in_ok-to.to < length b) (sym c.next.view_is) (within c)) ∙
+    numbers_shown-moved c.next.inside c.next.invariant c.blank-from.result c.in_ok-to.to (is_blank c) (inside c) ∙
     ap (λ b. slid b c.in_ok-to.to) c.next.view_is) ∙
     ap (option_map (slid now)) stepped

@@ -1,6 +1,7 @@
 use Rattle.std.proofs.Common.{sym, ◌∙◌}
-use Rattle.puz_board.specs.Solutions.{Spells}
-use Rattle.puz_board.proofs.SolutionLemmas.{IfOk-from, board_of_text-spelled, spelled-board_of_text}
+use Rattle.puz_board.specs.BoardTexts.{Spells}
+use Rattle.puz_board.proofs.RefusalLemmas.{IfOk-from}
+use Rattle.puz_board.proofs.SpellingLemmas.{board_of_text-spelled, spelled-board_of_text}
 use Rattle.puz_board.proofs.boards.Board.read.Goals as goal
 
 pub returns-clause-ok : goal.returns-clause-ok

@@ -1,12 +1,12 @@
 use Rattle.std.proofs.Common.{◌≡◌, ◌<◌, length, drop, get_or, sym, ◌∙◌, ap, arith, length-set, length-drop, length-take, get_or-take, take}
 use Rattle.std.proofs.lemmas.Grind.{same_number_lists}
 use Rattle.std.proofs.lemmas.List.{drop_all}
-use Rattle.puz_board.specs.Texts.{numbers_of}
+use Rattle.puz_board.specs.BoardTexts.{numbers_of}
 use Rattle.puz_board.proofs.TextLemmas.{kept_more, next_number, numbers_of-at_separator, numbers_of-nothing}
-use Rattle.puz_board.proofs.texts.read_numbers.Goals as goal
+use Rattle.puz_board.proofs.numbers.read_numbers.Goals as goal
 
-pub loop-i-preserved-then-is_digit : goal.loop-i-preserved-then-is_digit
-loop-i-preserved-then-is_digit c =
+pub loop-i-preserved-then-is_ascii_digit : goal.loop-i-preserved-then-is_ascii_digit
+loop-i-preserved-then-is_ascii_digit c =
     let text = c.args.text.now in
     let before = c.loop-i.invariant in
     let number = c.number_at-number in
@@ -28,7 +28,7 @@ loop-i-preserved c =
       few = omega arith;
       within = before.within;
       room = before.room;
-      rest = sym (numbers_of-at_separator text c.requires.clean c.requires.short c.loop-i.i c.loop-i-test.true (sym c.if-is_digit.ensures)) ∙ before.rest;
+      rest = sym (numbers_of-at_separator text c.requires.clean c.requires.short c.loop-i.i c.loop-i-test.true (sym c.if-is_ascii_digit.ensures.value)) ∙ before.rest;
       kept = before.kept;
     }
 

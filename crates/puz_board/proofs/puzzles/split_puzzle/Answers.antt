@@ -1,8 +1,8 @@
 use Rattle.std.proofs.Common.{◌+◌, ◌-◌, ◌≤◌, length, take, drop, Some, ◌∙◌, ap, arith, length-drop}
 use Rattle.std.specs.Prelude.{option_map}
 use Rattle.std.proofs.lemmas.List.{take_all}
-use Rattle.puz_board.specs.Paths.{puzzle_parts}
-use Rattle.puz_board.proofs.replays.split_puzzle.Goals as goal
+use Rattle.puz_board.specs.PuzzleTexts.{puzzle_parts}
+use Rattle.puz_board.proofs.puzzles.split_puzzle.Goals as goal
 
 pub returns : goal.returns
 unfolding puzzle_parts
