@@ -155,12 +155,14 @@ mod tests {
         ];
         for (words, is_help, part) in cases {
             let words = owned(alloc, words)?;
-            let text = match read_words(alloc, words.as_slice()) {
-                Err(WordFault::Help(text)) if is_help => format!(in alloc; "{text}")?,
-                Err(WordFault::Mistake(text)) if !is_help => format!(in alloc; "{text}")?,
-                _ => String::new(alloc),
-            };
-            assert!(rt; text.contains(part), "{text}");
+            match read_words(alloc, words.as_slice()) {
+                Ok(_) => assert!(rt; false, "the words ask for nothing"),
+                Err(fault) => {
+                    assert_eq!(rt; matches!(&fault, WordFault::Help(_)), is_help);
+                    let text = format!(in alloc; "{fault}")?;
+                    assert!(rt; text.contains(part), "{text}");
+                }
+            }
         }
         Ok(())
     }

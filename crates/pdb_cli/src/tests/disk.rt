@@ -1,11 +1,10 @@
 //! A shelf over the files of the system.
 
-use std::fs;
-use std::test::Fail;
-
 use crate::disk::DiskShelf;
 use crate::shelf::Shelf;
 use crate::streams::ReadFault;
+use std::fs;
+use std::test::Fail;
 
 #[test]
 fn a_file_is_read_up_to_its_limit(rt: HostRuntime) -> Result<(), Fail> {
