@@ -1,0 +1,4 @@
+pub mod PassLemmas
+pub mod StepLemmas
+pub mod LawLemmas
+pub mod RunLemmas

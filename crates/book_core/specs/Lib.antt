@@ -1,0 +1,5 @@
+pub mod Passes
+pub mod Books
+pub mod Steps
+pub mod Runs
+pub mod Laws
