@@ -213,6 +213,10 @@ step-keeps b law (Claim w) = by_pass-keeps (slice_get b.passes w) (claims b w) (
 step-keeps b law (Report w place) = by_pass-keeps (slice_get b.passes w) (reports b w place) (reports-keeps b law w place)
 step-keeps b law (Look w) = by_pass-keeps (slice_get b.passes w) (λ p. Ok (looked_by b w p, Answer.Least b.least)) (λ p at. BookLaw-looked_by b law w p at)
 
+-- an event that is answered keeps the law
+pub BookLaw-step : (b c : Book) (e : Event) (a : Answer) → step b e ≡ Ok (c, a) → BookLaw b → BookLaw c
+BookLaw-step b c e a is law = let k : Keeps (Ok (c, a)) = subst Keeps is (step-keeps b law e) in k
+
 -- ---- the start
 
 fresh-at : (n w : ℕ) (p : Deeds) → slice_get (replicate n fresh) w ≡ Some p → p ≡ fresh

@@ -1,5 +1,5 @@
 -- Runs: one more event, where a run stops, and what every run keeps.
-use Rattle.std.proofs.Common.{◌≡◌, ℕ, ◌+◌, ◌<◌, ◌^◌, List, [], ◌∷◌, ◌++◌, length, take, drop, get_or, fold, Option, Some, None, Ok, Err, IsOk, Bool, true, false, cond, ltb, refl, sym, ◌∙◌, ap, slice_get}
+use Rattle.std.proofs.Common.{◌≡◌, ℕ, ◌+◌, ◌<◌, ◌^◌, List, [], ◌∷◌, ◌++◌, length, take, drop, get_or, fold, Option, Some, None, Ok, Err, IsOk, Bool, true, false, cond, ltb, refl, sym, ◌∙◌, ap, subst, slice_get}
 use Rattle.std.proofs.lemmas.List.{length-set, length-replicate, take-append-drop}
 use Rattle.std.proofs.lemmas.List.Sums.{fold-append, fold_more}
 use Rattle.book_core.specs.declared.events.Event.{Event}
@@ -9,7 +9,7 @@ use Rattle.book_core.specs.declared.events.Answer.TheVariants.{Drawn, Ended, Rep
 use Rattle.book_core.specs.declared.events.CoreFault.{CoreFault}
 use Rattle.book_core.specs.declared.events.CoreFault.TheVariants.{C1, C2, C3, Memory}
 use Rattle.book_core.specs.Passes.{Deeds, fresh}
-use Rattle.book_core.specs.Books.{Book, start}
+use Rattle.book_core.specs.Books.{Book, start, SameSizes}
 use Rattle.book_core.specs.Steps.{Outcome, drawn_by, ended_by, reported_by, claims, reports, looks, by_pass, step, IsRefusal}
 use Rattle.book_core.specs.Runs.{Run, after_step, unless_ended, run_on, going, run_from, after, StopsAt}
 use Rattle.book_core.specs.Laws.{BookLaw}
@@ -32,6 +32,9 @@ fold-keeps r law (e ∷ es) = fold-keeps (run_on r e) (unless_ended-keeps r.faul
 -- a run from a book that meets the law ends at one that does
 pub BookLaw-run_from : (b : Book) → BookLaw b → (es : List Event) → BookLaw (run_from b es).book
 BookLaw-run_from b law es = fold-keeps (going b []) law es
+
+pub BookLaw-going : (b c : Book) (es : List Event) (told : List Answer) → run_from b es ≡ going c told → BookLaw b → BookLaw c
+BookLaw-going b c es told is law = subst (λ (r : Run). BookLaw r.book) is (BookLaw-run_from b law es)
 
 -- after every list of events the law holds
 pub BookLaw-after : (jobs workers : ℕ) (es : List Event) → BookLaw (after jobs workers es).book
@@ -84,9 +87,6 @@ module _ (b : Book) (es : List Event) (i : ℕ) (c : Book) (told : List Answer) 
 
 -- ---- a run keeps the counts of jobs and of passes
 
-abbrev SameSizes : Book → Book → Type 0
-SameSizes b c = (c.jobs ≡ b.jobs) × (length c.passes ≡ length b.passes)
-
 abbrev KeepsSizes : Book → Outcome → Type 0
 KeepsSizes b (Ok r) = SameSizes b r.0
 KeepsSizes b (Err f) = Unit {0}
@@ -115,6 +115,9 @@ step-sizes b (Claim w) = by_pass-sizes b (slice_get b.passes w) (claims b w) (cl
 step-sizes b (Report w place) = by_pass-sizes b (slice_get b.passes w) (reports b w place) (reports-sizes b w place)
 step-sizes b (Look w) = by_pass-sizes b (slice_get b.passes w) (looks b w) (λ p. (refl, length-set b.passes w _))
 
+pub SameSizes-step : (b c : Book) (e : Event) (a : Answer) → step b e ≡ Ok (c, a) → SameSizes b c
+SameSizes-step b c e a is = let k : KeepsSizes b (Ok (c, a)) = subst (KeepsSizes b) is (step-sizes b e) in k
+
 after_step-sizes : (r : Run) (o : Outcome) → KeepsSizes r.book o → SameSizes r.book (after_step r o).book
 after_step-sizes r (Ok t) k = k
 after_step-sizes r (Err f) k = (refl, refl)
@@ -126,6 +129,9 @@ unless_ended-sizes (Some f) r e = (refl, refl)
 fold-sizes : (r : Run) (es : List Event) → SameSizes r.book (fold run_on r es).book
 fold-sizes r [] = (refl, refl)
 fold-sizes r (e ∷ es) = let one = unless_ended-sizes r.fault r e in let more = fold-sizes (run_on r e) es in (more.0 ∙ one.0, more.1 ∙ one.1)
+
+pub SameSizes-going : (b c : Book) (es : List Event) (told : List Answer) → run_from b es ≡ going c told → SameSizes b c
+SameSizes-going b c es told is = subst (λ (r : Run). SameSizes b r.book) is (fold-sizes (going b []) es)
 
 pub sizes-after : (jobs workers : ℕ) (es : List Event) → ((after jobs workers es).book.jobs ≡ jobs) × (length (after jobs workers es).book.passes ≡ workers)
 sizes-after jobs workers es = let s = fold-sizes (going (start jobs workers) []) es in (s.0, s.1 ∙ length-replicate workers fresh)

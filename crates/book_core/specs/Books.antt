@@ -1,5 +1,5 @@
 -- The state of a book: its jobs, the two words that its passes share, and what each pass has done.
-use Rattle.std.specs.Prelude.{ℕ, ◌+◌, ◌≤◌, ◌^◌, List, length, replicate, Option, None}
+use Rattle.std.specs.Prelude.{◌≡◌, ℕ, ◌+◌, ◌≤◌, ◌^◌, List, length, replicate, Option, None}
 use Rattle.std.specs.List.{count_by}
 use Rattle.book_core.specs.Passes.{Deeds, fresh}
 
@@ -15,6 +15,10 @@ pub record Book : Type 0 where
 
 abbrev pub start : ℕ → ℕ → Book
 start jobs workers = record { jobs = jobs; next = 0; least = None; passes = replicate workers fresh }
+
+-- as many jobs and passes as before
+abbrev pub SameSizes : Book → Book → Type 0
+SameSizes old new = (new.jobs ≡ old.jobs) × (length new.passes ≡ length old.passes)
 
 -- how many passes were told that no job is left
 abbrev pub ended_count : List Deeds → ℕ

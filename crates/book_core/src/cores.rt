@@ -1,9 +1,10 @@
 //! The machine that one thread steps.
 
 ghost use Rattle.std.specs.Prelude.{◌≡◌, ◌<◌, ◌≤◌, ◌^◌, ◌∷◌, ◌++◌, length, slice_get, take, IfOk, IfErr, IfSome, IfNone, OnOk, OnErr, IsOk, IsOkAnd, IsErrOf, IsSomeAnd};
-ghost use Rattle.book_core.specs.Books.{start};
+ghost use Rattle.book_core.specs.Books.{start, SameSizes};
 ghost use Rattle.book_core.specs.Steps.{step, lesser, IsRefusal, TakesRoom};
 ghost use Rattle.book_core.specs.Runs.{going, run_from, run_on, StopsAt};
+ghost use Rattle.book_core.specs.Laws.{BookLaw};
 
 use crate::events::{Answer, CoreFault, Event};
 use crate::passes::PassRecord;
@@ -42,6 +43,7 @@ impl Core {
         requires jobs { jobs ≤ 2 ^ 32 }
         requires workers { (0 < workers) × (workers ≤ 64) }
         ensures start { IfOk result (λ core. core ≡ start jobs workers) }
+        ensures law { IfOk result BookLaw }
     {
         let mut passes = Vec::with_capacity(alloc, usize::from(workers))?;
         for _ in 0..workers {
@@ -63,6 +65,8 @@ impl Core {
         // Want of memory comes only where a list of a pass has to grow.
         ensures memory { IsErrOf result CoreFault.Memory → IsOkAnd (step self.old event) (λ r. TakesRoom r.1) }
         ensures err { OnErr result (self.new ≡ self.old) }
+        ensures law { BookLaw self.old → BookLaw self.new }
+        ensures sizes { SameSizes self.old self.new }
     {
         if let Some(fault) = self.refusal(event) {
             return Err(fault);
@@ -80,6 +84,8 @@ impl Core {
         ensures ok { IfOk result (λ answers. run_from self.old events.now ≡ going self.new answers.items) }
         ensures fault { IfErr result (λ e. StopsAt self.old events.now e.0 e.1) }
         ensures stands { IfErr result (λ e. self.new ≡ (run_from self.old (take e.0 events.now)).book) }
+        ensures law { BookLaw self.old → BookLaw self.new }
+        ensures sizes { SameSizes self.old self.new }
     {
         let mut answers = Vec::new(self.alloc);
         for (i, event) in events.iter().enumerate() {

@@ -5,6 +5,8 @@ mod cores;
 mod events;
 mod laws;
 mod passes;
+#[cfg(test)]
+mod tests;
 
 pub use cores::{Core, Memory};
 pub use events::{Answer, CoreFault, Event};
