@@ -1,5 +1,5 @@
 -- What each kind of step does to a book, where it is answered.
-use Rattle.std.proofs.Common.{◌≡◌, ℕ, ◌<◌, ◌≤◌, ◌^◌, Bool, true, false, cond, ltb, length, get_or, Option, Some, None, Ok, Err, IsOk, refl, ◌∙◌, ap, subst, arith, slice_get}
+use Rattle.std.proofs.Common.{◌≡◌, ℕ, ◌+◌, ◌<◌, ◌≤◌, ◌^◌, Bool, true, false, cond, ltb, length, get_or, Option, Some, None, Ok, Err, IsOk, refl, ◌∙◌, ap, subst, arith, slice_get}
 use Rattle.std.proofs.lemmas.Bool.{lt-ltb, le-ltb, cond-false}
 use Rattle.std.proofs.lemmas.List.{length-set}
 use Rattle.std.proofs.lemmas.Option.{slice_get_read, slice_get_within}
@@ -62,11 +62,12 @@ module _ (b : Book) (w : ℕ) (p : Deeds) (ok : IsOk (step b (Claim w))) (is : p
   pub claim-ended : b.jobs ≤ b.next → step b (Claim w) ≡ Ok (ended_by b w p, Ended)
   claim-ended over = step-ended b w p claimant (answered-open b w p claimant ok) over
 
-  pub ended-in_range : IsInRange b → IsInRange (ended_by b w p)
-  ended-in_range range =
+  -- the end of a pass makes room for one more claim
+  pub ended-in_range : IsInRange b → (n : ℕ) → n ≤ b.next + 1 → IsInRange (record (ended_by b w p) { next = n })
+  ended-in_range range n le =
       let was : cond {A = ℕ} p.ended 1 0 ≡ 0 = cond-false {A = ℕ} p.ended 1 0 (answered-open b w p claimant ok) in
       record {
         jobs = range.jobs;
         passes = omega (arith, range.passes, length-set b.passes w (with_end p));
-        next = omega (arith, range.next, was, sum_by-changed (λ d. cond d.ended 1 0) b.passes w p (with_end p) claimant);
+        next = omega (arith, le, range.next, was, sum_by-changed (λ d. cond d.ended 1 0) b.passes w p (with_end p) claimant)
       }
