@@ -3,3 +3,4 @@ pub mod Books
 pub mod Steps
 pub mod Runs
 pub mod Laws
+pub mod Shares
