@@ -14,8 +14,10 @@ use Rattle.book_core.specs.declared.events.Answer.TheVariants.{Drawn, Ended, Rep
 use Rattle.book_core.specs.declared.events.CoreFault.TheVariants.{C2, C3}
 use Rattle.book_core.specs.Passes.{Deeds, fresh, with_drawn, with_end, with_report, with_seen}
 use Rattle.book_core.specs.Books.{Book, start}
-use Rattle.book_core.specs.Steps.{lesser, drawn_by, ended_by, reported_by, looked_by, Outcome, claims, reports, by_pass, step}
-use Rattle.book_core.specs.Laws.{times, once_below, IsReported, IsLeast, IsAtMost, BookLaw, IsAllDrawn}
+use Rattle.book_core.specs.Steps.{drawn_by, ended_by, reported_by, looked_by, Outcome, claims, reports, by_pass, step}
+use Rattle.book_core.specs.Laws.{BookLaw, IsAllDrawn}
+use Rattle.book_core.specs.Jobs.{times, once_below}
+use Rattle.book_core.specs.Places.{lesser, IsReported, IsLeast, IsAtMost}
 use Rattle.book_core.proofs.ListLemmas.{sum_by-changed, le-sum_by, slice_get-set_cases, slice_get-set_same, slice_get-set_other}
 
 -- ---- places, and none above them all

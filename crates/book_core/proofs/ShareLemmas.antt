@@ -6,7 +6,7 @@ use Rattle.std.proofs.lemmas.List.{length-set, length-replicate}
 use Rattle.std.proofs.lemmas.List.Sums.{sum_by-cons, sum_by-append, sum_by_push}
 use Rattle.book_core.specs.Passes.{Deeds, fresh}
 use Rattle.book_core.specs.Books.{Book, start}
-use Rattle.book_core.specs.Laws.{once_below}
+use Rattle.book_core.specs.Jobs.{once_below}
 use Rattle.book_core.specs.Shares.{Held, held, times_held, IsDealt, all_fresh, first, others, IsCounted}
 use Rattle.book_core.proofs.ListLemmas.{sum_by-changed, sum_by-two, slice_get-set_same, slice_get-set_other, slice_get-set_cases, slice_get-push_cases, slice_get-append_cases}
 

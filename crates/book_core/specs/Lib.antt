@@ -1,4 +1,6 @@
 pub mod Passes
+pub mod Jobs
+pub mod Places
 pub mod Books
 pub mod Steps
 pub mod Runs

@@ -3,7 +3,7 @@ use Rattle.std.specs.Prelude.{◌≡◌, ℕ, zero, suc, ◌==◌, List, [], ◌
 use Rattle.std.specs.List.{sum_by, count_by}
 use Rattle.book_core.specs.Passes.{Deeds, fresh}
 use Rattle.book_core.specs.Books.{Book}
-use Rattle.book_core.specs.Laws.{once_below}
+use Rattle.book_core.specs.Jobs.{once_below}
 
 -- a pass: its number, and what it has done
 pub record Held : Type 0 where
