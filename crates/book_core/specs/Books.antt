@@ -1,0 +1,31 @@
+-- The state of a book: how many jobs there are and were claimed, the least place, and what each pass has done.
+use Rattle.std.specs.Prelude.{◌≡◌, ℕ, ◌+◌, ◌≤◌, ◌^◌, List, length, replicate, Option, None}
+use Rattle.std.specs.List.{count_by}
+use Rattle.book_core.specs.Passes.{Deeds, fresh}
+
+pub record Book : Type 0 where
+  -- how many jobs there are: the numbers below this
+  pub jobs : ℕ
+  -- how many claims there were
+  pub next : ℕ
+  -- the least place reported so far, or none
+  pub least : Option ℕ
+  -- the passes, by their numbers
+  pub passes : List Deeds
+
+abbrev pub start : ℕ → ℕ → Book
+start jobs workers = record { jobs = jobs; next = 0; least = None; passes = replicate workers fresh }
+
+-- as many jobs and passes as before
+abbrev pub SameSizes : Book → Book → Type 0
+SameSizes old new = (new.jobs ≡ old.jobs) × (length new.passes ≡ length old.passes)
+
+-- how many passes have ended
+abbrev pub ended_count : List Deeds → ℕ
+ended_count passes = count_by (λ p. p.ended) passes
+
+-- next stays far below 2 ^ 64, as each claim draws a job or ends a pass
+pub record IsInRange (b : Book) : Type 0 where
+  pub jobs : b.jobs ≤ 2 ^ 32
+  pub passes : length b.passes ≤ 64
+  pub next : b.next ≤ b.jobs + ended_count b.passes

@@ -1,0 +1,14 @@
+//! A book of jobs as a machine: which pass drew which job, what was reported, and the law that holds after every list of events.
+#![tactic(auto)]
+
+mod cores;
+mod events;
+mod laws;
+mod passes;
+#[cfg(test)]
+mod tests;
+
+pub use cores::{Core, Memory};
+pub use events::{Answer, CoreFault, Event};
+pub use laws::{book_law, share_law};
+pub use passes::PassRecord;
