@@ -1,5 +1,5 @@
--- A verdict is given exactly where it is true.
-use Rattle.std.proofs.Common.{◌≡◌, ◌∙◌, ◌↔◌, ℕ, List, Option, Some, None, Result, Ok, Err, ap, refl}
+-- Inputs have one result, and it is a verdict exactly where that is true.
+use Rattle.std.proofs.Common.{◌≡◌, ◌∙◌, ◌↔◌, ℕ, List, Option, Some, None, Result, Ok, Err, ap, refl, sym}
 use Rattle.puz_board.specs.BoardTexts.{board_of_text}
 use Rattle.puz_board.specs.MovesTexts.{replay_of}
 use Rattle.puz_board.specs.PuzzleTexts.{puzzle_parts}
@@ -8,7 +8,7 @@ use Rattle.puz_board.specs.declared.texts.BoardFault.{BoardFault}
 use Rattle.puz_board.proofs.SolutionLemmas.{replay_of-solved, solved-replay_of}
 use Rattle.puz_board.proofs.SpellingLemmas.{board_of_text-spelled, spelled-board_of_text}
 use Rattle.pdb_cli.specs.Given.{Given, puzzle_text}
-use Rattle.pdb_cli.specs.Verdicts.{IsSolvedPuzzle, IsTrueOf, of_board, of_moves, of_parts, result_of}
+use Rattle.pdb_cli.specs.Verdicts.{IsResult, IsSolvedPuzzle, IsTrueOf, of_board, of_moves, of_parts}
 use Rattle.pdb_cli.specs.declared.verdict.Fault.{Fault}
 use Rattle.pdb_cli.specs.declared.verdict.Fault.TheVariants as fault
 use Rattle.pdb_cli.specs.declared.verdict.Verdict.{Verdict}
@@ -17,8 +17,8 @@ use Rattle.pdb_cli.specs.declared.verdict.Verdict.TheVariants as verdict
 no_yes : {A E : Type 0} (e : E) (x : A) → ◌≡◌ {A = Result A E} (Err e) (Ok x) → ⊥
 no_yes e x same = cc
 
-result_of-solved : (puzzle : List ℕ) (n : ℕ) → IsSolvedPuzzle puzzle n → result_of (puzzle_text puzzle) ≡ Ok (verdict.Solution n)
-result_of-solved puzzle n h =
+of_parts-solved : (puzzle : List ℕ) (n : ℕ) → IsSolvedPuzzle puzzle n → of_parts (puzzle_parts puzzle) ≡ Ok (verdict.Solution n)
+of_parts-solved puzzle n h =
     ap of_parts h.parts
     ∙ ap (λ (r : Result (List ℕ) BoardFault). of_board r h.moves_text) (board_of_text-spelled h.board_text h.board h.spelt)
     ∙ ap of_moves (replay_of-solved h.board h.moves_text n h.spelt.board h.solved)
@@ -48,6 +48,11 @@ solved_by_parts : (puzzle : List ℕ) (n : ℕ) (o : Option (List ℕ × List �
 solved_by_parts puzzle n None parts is = absurd (no_yes _ _ is)
 solved_by_parts puzzle n (Some p) parts is = solved_by_board puzzle p.0 p.1 n (board_of_text p.0) parts refl is
 
--- a verdict is given exactly where it is true
-pub result_of-true : (inputs : Given) (verdict : Verdict) → (result_of inputs ≡ Ok verdict) ↔ IsTrueOf inputs verdict
-result_of-true (puzzle_text puzzle) (verdict.Solution n) = (solved_by_parts puzzle n (puzzle_parts puzzle) refl, result_of-solved puzzle n)
+-- a verdict is the result exactly where it is true
+pub IsResult-true : (inputs : Given) (verdict : Verdict) → IsResult inputs (Ok verdict) ↔ IsTrueOf inputs verdict
+IsResult-true (puzzle_text puzzle) (verdict.Solution n) =
+    (λ is. solved_by_parts puzzle n (puzzle_parts puzzle) refl (sym is), λ h. sym (of_parts-solved puzzle n h))
+
+-- there is one result
+pub IsResult-one : (inputs : Given) (a b : Result Verdict Fault) → IsResult inputs a → IsResult inputs b → a ≡ b
+IsResult-one (puzzle_text puzzle) a b is other = is ∙ sym other

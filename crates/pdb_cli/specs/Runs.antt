@@ -1,12 +1,14 @@
 -- How a run ends: what its writer got, and its status.
-use Rattle.std.specs.Prelude.{◌≡◌, ◌⊎◌, ⊤, ℕ, ◌<◌, List, [], ◌∷◌, ◌++◌, Bool, true, Option, Some, None, IfSome, IsSomeAnd, codes, length}
+use Rattle.std.specs.Prelude.{◌≡◌, ◌⊎◌, ⊤, ℕ, ◌<◌, List, [], ◌∷◌, ◌++◌, Bool, true, Option, Some, None, Result, IfSome, IsSomeAnd, codes, length}
 use Rattle.std.specs.Io.KnownBytes.{Appends, Keeps}
 use Rattle.pdb_words.specs.Words.{Asked, AsksForHelp, IsMistaken, replay}
 use Rattle.pdb_cli.specs.Given.{Given, puzzle_text, text_limit, IsWithinLimits}
 use Rattle.pdb_cli.specs.Lines.{lines_of, status_of}
 use Rattle.pdb_cli.specs.Shelves.{Files}
 use Rattle.pdb_cli.specs.Streams.{AppendsFront}
-use Rattle.pdb_cli.specs.Verdicts.{result_of}
+use Rattle.pdb_cli.specs.Verdicts.{IsResult}
+use Rattle.pdb_cli.specs.declared.verdict.Fault.{Fault}
+use Rattle.pdb_cli.specs.declared.verdict.Verdict.{Verdict}
 
 -- ---- the inputs that words name; shelf and reader may tell their bytes or not
 
@@ -27,8 +29,8 @@ IsAskedFor (replay name) files reader (puzzle_text puzzle) = IsReadFrom files re
 -- ---- what a run may say
 
 pub data Saying : Type 0 where
-  -- the result on these inputs
-  result_on : Given → Saying
+  -- an answer on these inputs
+  answer_on : Given → Result Verdict Fault → Saying
   -- want of memory
   no_memory : Saying
   -- this input can't be read
@@ -37,13 +39,13 @@ pub data Saying : Type 0 where
   size_fault : List ℕ → Saying
 
 abbrev pub text_of : Saying → List ℕ
-text_of (result_on inputs) = lines_of inputs (result_of inputs)
+text_of (answer_on inputs answer) = lines_of inputs answer
 text_of no_memory = codes "no memory\n"
 text_of (read_fault name) = codes "fault read " ++ name ++ codes "\n"
 text_of (size_fault name) = codes "fault size " ++ name ++ codes "\n"
 
 abbrev pub status_with : Saying → ℕ
-status_with (result_on inputs) = status_of (result_of inputs)
+status_with (answer_on inputs answer) = status_of answer
 status_with no_memory = 3
 status_with (read_fault name) = 2
 status_with (size_fault name) = 2
@@ -60,7 +62,7 @@ HasFailed (Some name) failed = failed ≡ true
 
 -- the run has cause to say it
 abbrev pub MaySay : Asked → Option Files → Option (List ℕ) → Bool → Saying → Type 0
-MaySay asked files reader failed (result_on inputs) = IsAskedFor asked files reader inputs × IsWithinLimits inputs
+MaySay asked files reader failed (answer_on inputs answer) = IsAskedFor asked files reader inputs × IsWithinLimits inputs × IsResult inputs answer
 MaySay asked files reader failed no_memory = ⊤
 MaySay (replay name) files reader failed (read_fault word) = (word ≡ shown name) × HasFailed name failed
 MaySay (replay name) files reader failed (size_fault word) = (word ≡ shown name) × IsOverLimit files reader name text_limit
@@ -78,13 +80,15 @@ pub record Ends (asked : Asked) (files : Option Files) (reader : Option (List �
   pub cause : MaySay asked files reader failed saying
   pub said : Says saying old new status
 
--- the writer got exactly the lines on the inputs that the words ask for, and the status is that of the result
+-- the writer got exactly the lines of the result on the inputs that the words ask for, and the status is the result's
 pub record IsAnswered (asked : Asked) (files : Option Files) (reader : Option (List ℕ)) (old new : Option (List ℕ)) (status : ℕ) : Type 0 where
   pub inputs : Given
   pub asked_for : IsAskedFor asked files reader inputs
   pub within_limits : IsWithinLimits inputs
-  pub lines : Appends old new (lines_of inputs (result_of inputs))
-  pub is_status : status ≡ status_of (result_of inputs)
+  pub answer : Result Verdict Fault
+  pub is_result : IsResult inputs answer
+  pub lines : Appends old new (lines_of inputs answer)
+  pub is_status : status ≡ status_of answer
 
 -- words that don't parse: want of memory, or nothing on the writer and status 2, or help
 abbrev pub Refuses : List (List ℕ) → Option (List ℕ) → Option (List ℕ) → ℕ → Type 0

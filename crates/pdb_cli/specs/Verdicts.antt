@@ -1,4 +1,4 @@
--- The one verdict or refusal on given inputs: what the first part that is refused gets, in their order.
+-- The result on given inputs: a verdict, or the first refusal that stands.
 use Rattle.std.specs.Prelude.{◌≡◌, ℕ, List, Option, Some, None, Result, Ok, Err}
 use Rattle.puz_board.specs.BoardTexts.{Spells, board_of_text}
 use Rattle.puz_board.specs.MovesTexts.{Solves, replay_of}
@@ -26,7 +26,7 @@ pub record IsSolvedPuzzle (puzzle : List ℕ) (n : ℕ) : Type 0 where
 abbrev pub IsTrueOf : Given → Verdict → Type 0
 IsTrueOf (puzzle_text puzzle) (verdict.Solution n) = IsSolvedPuzzle puzzle n
 
--- ---- which refusal it is
+-- ---- the result
 
 abbrev pub of_moves : Result ℕ MoveFault → Result Verdict Fault
 of_moves (Err refused) = Err (fault.Moves refused)
@@ -41,5 +41,6 @@ abbrev pub of_parts : Option (List ℕ × List ℕ) → Result Verdict Fault
 of_parts None = Err fault.P1
 of_parts (Some parts) = of_board (board_of_text parts.0) parts.1
 
-abbrev pub result_of : Given → Result Verdict Fault
-result_of (puzzle_text puzzle) = of_parts (puzzle_parts puzzle)
+-- the answer is the result on the inputs
+abbrev pub IsResult : Given → Result Verdict Fault → Type 0
+IsResult (puzzle_text puzzle) answer = answer ≡ of_parts (puzzle_parts puzzle)

@@ -2,6 +2,7 @@
 #![tactic(auto)]
 
 mod disk;
+mod laws;
 mod lines;
 mod memory;
 mod run;

@@ -2,7 +2,7 @@
 
 ghost use Rattle.std.specs.Prelude.{◌≡◌, ◌↔◌, Ok};
 ghost use Rattle.pdb_cli.specs.Given.{given, puzzle_text};
-ghost use Rattle.pdb_cli.specs.Verdicts.{IsTrueOf, result_of};
+ghost use Rattle.pdb_cli.specs.Verdicts.{IsResult, IsTrueOf};
 
 use puz_board::{Board, BoardFault, MoveFault, replay, split_puzzle};
 use thiserror::Error;
@@ -43,7 +43,7 @@ pub fn verify(inputs: &Inputs<'_>) -> Result<Verdict, Fault>
     // A yes comes exactly where it is true.
     ensures yes { (verdict : Verdict) → (result ≡ Ok verdict) ↔ IsTrueOf (given inputs.now) verdict }
     // Which refusal it is.
-    ensures exact { result ≡ result_of (given inputs.now) }
+    ensures exact { IsResult (given inputs.now) result }
 {
     match inputs {
         Inputs::Replay { puzzle } => verify_puzzle(puzzle),
@@ -52,7 +52,7 @@ pub fn verify(inputs: &Inputs<'_>) -> Result<Verdict, Fault>
 
 /// The verdict on a puzzle text.
 fn verify_puzzle(puzzle: &[u8]) -> Result<Verdict, Fault>
-    ensures { result ≡ result_of (puzzle_text puzzle.now) }
+    ensures { IsResult (puzzle_text puzzle.now) result }
 {
     let (board, moves) = split_puzzle(puzzle).ok_or(Fault::P1)?;
     let board = Board::read(board).map_err(Fault::Board)?;
