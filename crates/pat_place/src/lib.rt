@@ -1,0 +1,9 @@
+//! Patterns of the sliding-tile puzzle, placements of their tiles, ranks, and the regions of free cells.
+#![tactic(auto)]
+
+mod masks;
+mod patterns;
+mod placements;
+
+pub use patterns::Pattern;
+pub use placements::Placement;
