@@ -5,3 +5,4 @@ pub mod PatternLemmas
 pub mod RankLemmas
 pub mod BoardFacts
 pub mod PlacementLemmas
+pub mod RankSteps

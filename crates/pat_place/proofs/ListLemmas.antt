@@ -1,5 +1,5 @@
 -- Lists of numbers, and the places of their elements.
-use Rattle.std.proofs.Common.{◌≡◌, ◌≢◌, ℕ, zero, suc, ◌+◌, ◌-◌, ◌*◌, ◌<◌, ◌≤◌, Bool, true, false, cond, eqb, not, ◌⊎◌, List, [], ◌∷◌, ◌++◌, length, map, Option, Some, None, inl, inr, refl, sym, ◌∙◌, ap, ap₂, subst, arith, filter}
+use Rattle.std.proofs.Common.{◌≡◌, ◌≢◌, ℕ, zero, suc, ◌+◌, ◌-◌, ◌*◌, ◌<◌, ◌≤◌, Bool, true, false, cond, eqb, not, ◌⊎◌, List, [], ◌∷◌, ◌++◌, length, map, Option, Some, None, inl, inr, refl, sym, ◌∙◌, ap, ap₂, subst, arith, filter, get_or}
 use Rattle.std.specs.Prelude.{slice_get, ◌&&◌, ◌||◌}
 use Rattle.std.specs.List.{AllByRecursion, range_with_len}
 use Rattle.std.proofs.lemmas.Bool.{cases_eq, cases_lt, cases_Bool, both_ways, or_parts, or_from, or_left, or_right, or_cases, eqb-true, eqb-false, eq-eqb, ne_eqb, true≢false, cond-true, cond-false, and_right}
@@ -143,3 +143,29 @@ range-append a zero n = ap₂ (λ b k. range_with_len b k) (let e : a ≡ a + 0 
 range-append a (suc m) n =
     ap (range_with_len a) (let e : suc m + n ≡ suc (m + n) = omega arith in e) ∙
     ap (λ l. a ∷ l) (range-append (a + 1) m n ∙ ap (λ b. range_with_len (a + 1) m ++ range_with_len b n) (let e : a + 1 + m ≡ a + suc m = omega arith in e))
+
+-- ---- by places
+
+pub all_at : {n : ℕ} (xs : List ℕ) (i : ℕ) → AllByRecursion (λ x. x < n) xs → i < length xs → get_or xs i 0 < n
+all_at [] i all l = absurd (omega arith)
+all_at (x ∷ xs) zero all l = all.0
+all_at (x ∷ xs) (suc i) all l = all_at xs i all.1 (omega arith)
+
+pub has-at : (xs : List ℕ) (c i : ℕ) → i < length xs → get_or xs i 0 ≡ c → has xs c ≡ true
+has-at [] c i l e = absurd (omega arith)
+has-at (x ∷ xs) c zero l e = has-here c x xs e
+has-at (x ∷ xs) c (suc i) l e = has-later c x xs (has-at xs c i (omega arith) e)
+
+pub at-has : (xs : List ℕ) (c : ℕ) → has xs c ≡ true → (i : ℕ) × (i < length xs) × (get_or xs i 0 ≡ c)
+at-has [] c h = absurd (true≢false (sym h))
+at-has (x ∷ xs) c h = elim (has_cases c x xs h) [
+  | inl e ↦ (0, omega arith, e)
+  | inr k ↦ let w = at-has xs c k in (suc w.0, (let l : w.0 < length xs = w.1 in omega arith), w.2)
+]
+
+pub apart_at : (xs : List ℕ) → IsApart xs → (i j : ℕ) → i < length xs → j < length xs → get_or xs i 0 ≡ get_or xs j 0 → i ≡ j
+apart_at [] a i j l k e = absurd (omega arith)
+apart_at (x ∷ xs) a zero zero l k e = refl
+apart_at (x ∷ xs) a zero (suc j) l k e = absurd (both_ways (has xs x) a.0 (has-at xs x j (omega arith) (sym e)))
+apart_at (x ∷ xs) a (suc i) zero l k e = absurd (both_ways (has xs x) a.0 (has-at xs x i (omega arith) e))
+apart_at (x ∷ xs) a (suc i) (suc j) l k e = ap suc (apart_at xs a.1 i j (omega arith) (omega arith) e)

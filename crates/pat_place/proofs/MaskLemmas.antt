@@ -181,3 +181,45 @@ numbers_below-zero n = filter_none (has_bit 0) (range_with_len 0 n) (none 0 n)
     none : (a d : ℕ) → AllByRecursion (λ x. has_bit 0 x ≡ false) (range_with_len a d)
     none a zero = tt
     none a (suc d) = (ne_eqb (bit_at 0 a) 1 (let e = bit_at-zero a in λ one. omega arith), none (a + 1) d)
+
+-- ---- the number with so many below it
+
+-- it is one of the span numbers from this one on
+pub record Holds (mask place number span : ℕ) : Type 0 where
+  pub within : number + span ≤ 32
+  pub some : 0 < span
+  pub low : ones_below mask number ≤ place
+  pub high : place < ones_below mask (number + span)
+
+pub Holds-start : (mask place : ℕ) → mask < 2 ^ 32 → place < count_ones mask → Holds mask place 0 32
+Holds-start mask place fits l = record {
+  within = omega arith;
+  some = omega arith;
+  low = (let z = ones_below-zero mask in omega arith);
+  high = (let e : ones_below mask (0 + 32) ≡ count_ones mask = ap count_ones (mod-eq_of_lt fits) in omega arith);
+}
+
+pub Holds-upper : (mask place number span half : ℕ) → Holds mask place number span → half < span → ones_below mask (number + half) ≤ place → Holds mask place (number + half) (span - half)
+Holds-upper mask place number span half h l le = record {
+  within = (let w = h.within in omega arith);
+  some = omega arith;
+  low = le;
+  high = (let e : ones_below mask (number + half + (span - half)) ≡ ones_below mask (number + span) = ap (ones_below mask) (let e : number + half + (span - half) ≡ number + span = omega arith in e) in let w = h.high in omega arith);
+}
+
+pub Holds-lower : (mask place number span half : ℕ) → Holds mask place number span → half < span → half ≤ span - half → place < ones_below mask (number + half) → Holds mask place number (span - half)
+Holds-lower mask place number span half h l m lt = record {
+  within = (let w = h.within in omega arith);
+  some = omega arith;
+  low = h.low;
+  high = (let up = ones_below-mono mask (number + half) (number + (span - half)) (omega arith) in omega arith);
+}
+
+pub Holds-found : (mask place number span : ℕ) → Holds mask place number span → span ≤ 1 → (bit_at mask number ≡ 1) × (ones_below mask number ≡ place)
+Holds-found mask place number span h l =
+    let one : span ≡ 1 = let s = h.some in omega arith in
+    let e : ones_below mask (number + span) ≡ ones_below mask number + bit_at mask number = ap (ones_below mask) (let e : number + span ≡ suc number = omega arith in e) ∙ ones_below-suc mask number in
+    let b = bit_at-lt mask number in
+    let low = h.low in
+    let high = h.high in
+    (omega arith, omega arith)

@@ -1,5 +1,5 @@
 -- Ranks: each placement has one, each number below the count is one, and how a rank is made of places.
-use Rattle.std.proofs.Common.{◌≡◌, ◌≢◌, ℕ, zero, suc, ◌+◌, ◌-◌, ◌*◌, ◌^◌, ◌<◌, ◌≤◌, Bool, true, false, cond, eqb, not, ◌⊎◌, List, [], ◌∷◌, ◌++◌, length, map, Option, Some, None, inl, inr, refl, sym, ◌∙◌, ap, ap₂, subst, arith, filter, flat_map, zero-mul, lit<}
+use Rattle.std.proofs.Common.{◌≡◌, ◌≢◌, ℕ, zero, suc, ◌+◌, ◌-◌, ◌*◌, ◌^◌, ◌<◌, ◌≤◌, Bool, true, false, cond, eqb, not, ◌⊎◌, List, [], ◌∷◌, ◌++◌, length, map, Option, Some, None, inl, inr, refl, sym, ◌∙◌, ap, ap₂, subst, arith, filter, flat_map, zero-mul, lit<, take}
 use Rattle.std.specs.Prelude.{slice_get}
 use Rattle.std.specs.List.{AllByRecursion, range_with_len}
 use Rattle.std.proofs.lemmas.Bool.{cases_eq, cases_lt, cases_Bool, both_ways, or_parts, or_from, eqb-false, eq-eqb, ne_eqb, true≢false, cond-true, cond-false}
@@ -7,8 +7,8 @@ use Rattle.std.proofs.lemmas.List.{length-append, length-map}
 use Rattle.std.proofs.lemmas.List.FromFn.{length-range_with_len}
 use Rattle.std.proofs.lemmas.Nat.{mul-le}
 use Rattle.std.proofs.Math.Nat.{pow-suc, pow-le-pow_right}
-use Rattle.pat_place.specs.Patterns.{has}
-use Rattle.pat_place.specs.Placements.{IsApart}
+use Rattle.pat_place.specs.Patterns.{has, PatternView}
+use Rattle.pat_place.specs.Placements.{IsApart, IsPlacement}
 use Rattle.pat_place.specs.Ranks.{without, lists_of, placements, IsRank}
 use Rattle.pat_place.proofs.ListLemmas.{Some-one, has_cases, has-here, has-later, has-filter, has-filter_not, has-range, in_range, apart_from_ascending, ascending-range}
 
@@ -151,7 +151,7 @@ length-without_miss c (d ∷ cs) h = go (length-without_miss c cs (or_parts (eqb
     go ih (inl w) = absurd (eqb-false d c (or_parts (eqb d c) (has cs c) h).0 w.0)
     go ih (inr w) = ap length w.1 ∙ ap suc ih
 
-length-without : (c : ℕ) (cs : List ℕ) → IsApart cs → has cs c ≡ true → suc (length (without c cs)) ≡ length cs
+pub length-without : (c : ℕ) (cs : List ℕ) → IsApart cs → has cs c ≡ true → suc (length (without c cs)) ≡ length cs
 length-without c [] a h = absurd (true≢false (sym h))
 length-without c (d ∷ cs) a h = go (λ k. length-without c cs a.1 k) (without_cases c d cs)
   where
@@ -239,3 +239,50 @@ falling_step_fits count cells placed is few less =
     let low : count ≤ 25 ^ placed = omega (arith, falling_fits cells placed few) in
     let more : 25 ^ placed ≤ 25 ^ 7 = pow-le-pow_right (lit< tt) (let l : placed ≤ 7 = omega arith in l) in
     omega (arith, mul-le count (cells - placed) (25 ^ 7) 25 (omega arith) (omega arith))
+
+-- ---- ranks among all placements
+
+pub IsRank-from : (n : ℕ) (cells : List ℕ) (r : ℕ) → slice_get (lists_of (length cells) (range_with_len 0 (n * n))) r ≡ Some cells → IsRank n cells r
+unfolding placements
+IsRank-from n cells r e = e
+
+-- a placement has one rank
+pub IsRank-one : (n : ℕ) (cells : List ℕ) (r s : ℕ) → IsRank n cells r → IsRank n cells s → r ≡ s
+unfolding placements
+IsRank-one n cells r s a b = rank_one (length cells) (range_with_len 0 (n * n)) (apart_from_ascending (range_with_len 0 (n * n)) (ascending-range 0 (n * n))) r s cells a b
+
+get-below : {A : Type 0} (xs : List A) (i : ℕ) (x : A) → slice_get xs i ≡ Some x → i < length xs
+get-below [] i x e = cc
+get-below (y ∷ xs) zero x e = omega arith
+get-below (y ∷ xs) (suc i) x e = let l = get-below xs i x e in omega arith
+
+pub IsRank-below : (n : ℕ) (cells : List ℕ) (r : ℕ) → IsRank n cells r → r < length (placements n (length cells))
+IsRank-below n cells r e = get-below (placements n (length cells)) r cells e
+
+placements-is : (n k : ℕ) → placements n k ≡ lists_of k (range_with_len 0 (n * n))
+unfolding placements
+placements-is n k = refl
+
+pub length-placements : (n k count size : ℕ) → count ≡ n * n → size ≡ k → length (placements n k) ≡ length (lists_of size (range_with_len 0 count))
+length-placements n k count size e f = ap length (placements-is n k) ∙ ap₂ (λ s m. length (lists_of s (range_with_len 0 m))) (sym f) (sym e)
+
+inside_from : (count : ℕ) (xs : List ℕ) → AllByRecursion (λ x. has (range_with_len 0 count) x ≡ true) xs → AllByRecursion (λ x. x < count) xs
+inside_from count [] all = tt
+inside_from count (x ∷ xs) all = (let l = (in_range 0 count x all.0).1 in omega arith, inside_from count xs all.1)
+
+-- what a rank leads to is a placement, and of that rank
+module _ (p : PatternView) (count size rank : ℕ) (cells : List ℕ) (is_count : count ≡ p.side * p.side) (is_size : size ≡ length p.tiles) (found : slice_get (lists_of size (range_with_len 0 count)) rank ≡ Some (take size cells)) where
+  pub IsPlacement-found : IsPlacement (record { pattern = p; cells = take (length p.tiles) cells })
+  IsPlacement-found =
+      let z = placement_of_rank size (range_with_len 0 count) rank (take size cells) found in
+      subst (λ k. IsPlacement (record { pattern = p; cells = take k cells })) is_size (record {
+        size = z.0 ∙ is_size;
+        inside = subst (λ n. AllByRecursion (λ x. x < n) (take size cells)) is_count (inside_from count (take size cells) z.2);
+        apart = z.1;
+      })
+
+  pub IsRank-found : IsRank p.side (take (length p.tiles) cells) rank
+  IsRank-found =
+      let z = placement_of_rank size (range_with_len 0 count) rank (take size cells) found in
+      subst (λ k. IsRank p.side (take k cells) rank) is_size (
+      ap (λ l. slice_get l rank) (placements-is p.side (length (take size cells)) ∙ ap₂ (λ k m. lists_of k (range_with_len 0 m)) z.0 (sym is_count)) ∙ found)

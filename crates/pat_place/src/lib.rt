@@ -4,6 +4,8 @@
 mod masks;
 mod patterns;
 mod placements;
+mod ranks;
 
 pub use patterns::Pattern;
 pub use placements::Placement;
+pub use ranks::{next, rank, unrank};

@@ -1,6 +1,6 @@
 //! Masks of 32 bits: bit x stands for the number x.
 
-ghost use Rattle.std.specs.Prelude.{◌≡◌, ◌≢◌, ℕ, ◌-◌, ◌^◌, ◌<◌, ◌≤◌};
+ghost use Rattle.std.specs.Prelude.{◌≡◌, ◌≢◌, ℕ, ◌-◌, ◌^◌, ◌<◌, ◌≤◌, count_ones};
 ghost use Rattle.std.specs.Int.{bit_at};
 ghost use Rattle.pat_place.specs.Masks.{ones_below};
 
@@ -53,4 +53,23 @@ pub(crate) fn count_below(mask: u32, number: u8) -> u8
     ensures few { result ≤ number }
 {
     (mask & all_below(number)).count_ones() as u8
+}
+
+/// The number of the mask that has `place` numbers of the mask below it.
+pub(crate) fn select(mask: u32, place: u8) -> u8
+    requires { place < count_ones mask }
+    ensures within { result < 32 }
+    ensures here { bit_at mask result ≡ 1 }
+    ensures place { ones_below mask result ≡ place }
+{
+    let mut number = 0;
+    let mut span = 32;
+    while span > 1 {
+        let half = span / 2;
+        if count_below(mask, number + half) <= place {
+            number += half;
+        }
+        span -= half;
+    }
+    number
 }

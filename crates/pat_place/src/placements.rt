@@ -1,6 +1,6 @@
 //! Placements.
 
-ghost use Rattle.std.specs.Prelude.{◌≡◌, ℕ, ◌<◌, ◌≤◌, true, List, length, slice_set};
+ghost use Rattle.std.specs.Prelude.{◌≡◌, ℕ, ◌<◌, ◌≤◌, ◌-◌, true, List, length, slice_set, take, drop, replicate};
 ghost use Rattle.puz_board.specs.Boards.{IsBoard, IsGoal, side_of};
 ghost use Rattle.pat_place.specs.Masks.{IsMaskOf};
 ghost use Rattle.pat_place.specs.Patterns.{IsPattern, has};
@@ -103,6 +103,19 @@ impl Placement {
         cells[index] = cell;
         Placement {
             pattern: self.pattern,
+            cells,
+        }
+    }
+
+    /// The placement with these cells, which have zeros behind them.
+    pub(crate) fn with_cells(pattern: &Pattern, cells: [u8; 8]) -> Placement
+        requires placement { IsPlacement (record { pattern = pattern.now; cells = take (length pattern.now.tiles) cells }) }
+        requires rest { drop (length pattern.now.tiles) cells ≡ replicate (8 - length pattern.now.tiles) 0 }
+        ensures { result ≡ record { pattern = pattern.now; cells = take (length pattern.now.tiles) cells } }
+    {
+        let _side = pattern.side();
+        Placement {
+            pattern: *pattern,
             cells,
         }
     }

@@ -1,0 +1,10 @@
+use Rattle.std.proofs.Common.{◌≡◌, ◌+◌, ◌<◌, ◌≤◌}
+use Rattle.pat_place.specs.Masks.{ones_below}
+use Rattle.pat_place.proofs.MaskLemmas.{Holds}
+use Rattle.pat_place.proofs.masks.select.Given as goal
+
+abbrev pub invariant-loop-span : goal.invariant-loop-span
+invariant-loop-span l = Holds l.mask l.place l.number l.span
+
+abbrev pub decreases-loop-span : goal.decreases-loop-span
+decreases-loop-span l = l.span
