@@ -9,3 +9,7 @@ pub mod RankSteps
 pub mod JoinLemmas
 pub mod SlotLemmas
 pub mod WidthLemmas
+pub mod BitLemmas
+pub mod GrownLemmas
+pub mod RegionLemmas
+pub mod SlotSteps
