@@ -8,6 +8,8 @@ mod patterns;
 mod placements;
 mod ranks;
 mod slots;
+#[cfg(test)]
+mod tests;
 
 pub use patterns::Pattern;
 pub use placements::Placement;
