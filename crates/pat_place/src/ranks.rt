@@ -46,17 +46,13 @@ pub fn unrank(pattern: &Pattern, rank: u64) -> Placement
     ensures pattern { result.pattern ≡ pattern.now }
     ensures rank { IsRank pattern.now.side result.cells rank }
 {
-    let cells = cells_at(
-        rank,
-        pattern.count(),
-        pattern.side().cells(),
-        pattern.size(),
-    );
+    let ranks = pattern.count() as u32;
+    let cells = cells_at(rank as u32, ranks, pattern.side().cells(), pattern.size());
     Placement::with_cells(pattern, cells)
 }
 
 /// The cells of a rank, of which there are `size`, on a board of `count` cells. Zeros stand behind them.
-fn cells_at(rank: u64, ranks: u64, count: u8, size: u8) -> [u8; 8]
+fn cells_at(rank: u32, ranks: u32, count: u8, size: u8) -> [u8; 8]
     requires small { count ≤ 25 }
     requires few { size ≤ 8 }
     requires room { size ≤ count }
@@ -70,7 +66,7 @@ fn cells_at(rank: u64, ranks: u64, count: u8, size: u8) -> [u8; 8]
     let mut rest = rank;
     let mut cells = [0; 8];
     for i in 0..size {
-        block /= u64::from(count - i);
+        block /= u32::from(count - i);
         let cell = masks::select(free, (rest / block) as u8);
         rest %= block;
         free = masks::without(free, cell);

@@ -7,7 +7,7 @@ pub cells_at-cells-requires-clause-ranks : goal.cells_at-cells-requires-clause-r
 cells_at-cells-requires-clause-ranks c =
     let p = c.args.pattern.now in
     let cells : c.cells.result ≡ p.side * p.side = c.cells.ensures.value ∙ ap₂ (λ m n. m * n) c.side.ensures.side c.side.ensures.side in
-    c.count.ensures ∙ length-placements p.side (length p.tiles) c.cells.result c.size.result cells c.size.ensures.size
+    c.count-ranks.ensures.count ∙ length-placements p.side (length p.tiles) c.cells.result c.size.result cells c.size.ensures.size
 
 pub with_cells-requires-clause-placement : goal.with_cells-requires-clause-placement
 with_cells-requires-clause-placement c =
