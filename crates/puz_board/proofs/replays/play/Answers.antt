@@ -5,19 +5,19 @@ use Rattle.puz_board.specs.MovesTexts.{moves_of, replay_of_moves}
 use Rattle.puz_board.specs.Paths.{board_after}
 use Rattle.puz_board.proofs.PlayLemmas.{board_after-nothing, board_after-push, moves_of-around, moves_of-letter, moves_of-other, replay-ends, replay-leaves, replay-long}
 use Rattle.puz_board.proofs.replays.play.Goals as goal
-use Rattle.puz_board.proofs.replays.play.Goals.{in-Some+else-count-eq1000+in-Some-apply, in_default}
+use Rattle.puz_board.proofs.replays.play.Goals.{in-Some+else-count-eq-MOST_MOVES+in-Some-apply, in_default}
 
 pub loop-b-init : goal.loop-b-init
 loop-b-init c = record { now = board_after-nothing c.args.board.now; count = refl; few = omega arith }
 
-pub returns-then-count-eq1000 : goal.returns-then-count-eq1000
-returns-then-count-eq1000 c =
+pub returns-then-count-eq-MOST_MOVES : goal.returns-then-count-eq-MOST_MOVES
+returns-then-count-eq-MOST_MOVES c =
     let text = c.args.text.now in
     let i = c.loop-b.b-index in
     let l = c.loop-b-test.true in
     let m = c.in-Some.mv in
     sym (ap (replay_of_moves c.args.board.now) (moves_of-around text i l m c.in-Some.ensures) ∙
-    replay-long c.args.board.now c.loop-b.current (moves_of (take i text)) c.loop-b.invariant.now m (moves_of (drop (suc i) text)) (sym c.loop-b.invariant.count ∙ c.if-count-eq1000.true))
+    replay-long c.args.board.now c.loop-b.current (moves_of (take i text)) c.loop-b.invariant.now m (moves_of (drop (suc i) text)) (sym c.loop-b.invariant.count ∙ c.if-count-eq-MOST_MOVES.true))
 
 pub returns-in_default-apply : goal.returns-in_default-apply
 returns-in_default-apply c =
@@ -26,7 +26,7 @@ returns-in_default-apply c =
     let l = c.loop-b-test.true in
     let m = c.in-Some.mv in
     let counted = c.loop-b.invariant.count in
-    let few : length (moves_of (take i text)) < 1000 = let other = c.if-count-eq1000.false in let most = c.loop-b.invariant.few in omega arith in
+    let few : length (moves_of (take i text)) < 1000 = let other = c.if-count-eq-MOST_MOVES.false in let most = c.loop-b.invariant.few in omega arith in
     ap (λ n. Err (M2 n)) counted ∙
     sym (ap (replay_of_moves c.args.board.now) (moves_of-around text i l m c.in-Some.ensures) ∙
     replay-leaves c.args.board.now c.loop-b.current (moves_of (take i text)) c.loop-b.invariant.now m (moves_of (drop (suc i) text)) few (sym c.in_default-apply.ensures))
@@ -39,14 +39,14 @@ loop-b-preserved c =
     let seen = moves_of (take i text) in
     let before = c.loop-b.invariant in
     elim c.match-of_byte.branch [
-      | in-Some+else-count-eq1000+in-Some-apply w ↦
+      | in-Some+else-count-eq-MOST_MOVES+in-Some-apply w ↦
           let m = w.in-Some.mv in
           let more = moves_of-letter text i l m w.in-Some.ensures in
           let one = length-append seen (m ∷ []) in
           record {
             now = ap (board_after c.args.board.now) more ∙ board_after-push c.args.board.now c.loop-b.current seen m before.now ∙ sym w.in-Some-apply.ensures ∙ ap Some (sym w.current-is);
             count = let counted = before.count in let is = w.count-is in let all = ap length more in omega arith;
-            few = let other = w.if-count-eq1000.false in let most = before.few in let is = w.count-is in omega arith;
+            few = let other = w.if-count-eq-MOST_MOVES.false in let most = before.few in let is = w.count-is in omega arith;
           }
       | in_default w ↦
           let same = moves_of-other text i l w.in_default.ensures in
