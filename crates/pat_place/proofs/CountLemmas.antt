@@ -1,6 +1,6 @@
 -- How many slots the placements of a pattern have.
-use Rattle.std.proofs.Common.{◌≡◌, ◌≢◌, ℕ, zero, suc, ◌+◌, ◌-◌, ◌*◌, ◌^◌, ◌<◌, ◌≤◌, Bool, true, false, List, length, inl, inr, refl, sym, ◌∙◌, ap, subst, arith, ltb, lt-ltb, ltb-true}
-use Rattle.std.specs.Prelude.{nat_lt, ◌&&◌}
+use Rattle.std.proofs.Common.{◌≡◌, ℕ, zero, suc, ◌*◌, ◌^◌, ◌<◌, ◌≤◌, Bool, true, length, inl, inr, refl, sym, ◌∙◌, ap, subst, arith, ltb, ltb-true}
+use Rattle.std.specs.Prelude.{◌&&◌}
 use Rattle.std.proofs.lemmas.Bool.{and_parts, cases_eq}
 use Rattle.puz_board.proofs.CellLemmas.{by_side}
 use Rattle.pat_place.specs.Patterns.{PatternView, IsPattern, most_tiles, width}

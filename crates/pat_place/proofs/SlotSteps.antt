@@ -1,5 +1,5 @@
 -- Regions taken one after another from the free cells, by their least cells.
-use Rattle.std.proofs.Common.{◌≡◌, ◌≢◌, ℕ, zero, suc, ◌+◌, ◌-◌, ◌*◌, ◌^◌, ◌<◌, ◌≤◌, Bool, true, false, ◌⊎◌, List, [], ◌∷◌, ◌++◌, length, get_or, inl, inr, refl, sym, ◌∙◌, ap, ap₂, subst, arith, lit<, ◌↔◌}
+use Rattle.std.proofs.Common.{◌≡◌, ◌≢◌, ℕ, zero, suc, ◌-◌, ◌*◌, ◌^◌, ◌<◌, ◌≤◌, true, List, [], ◌∷◌, ◌++◌, length, get_or, inl, inr, refl, sym, ◌∙◌, ap, subst, arith, lit<, ◌↔◌}
 use Rattle.std.specs.Prelude.{bit_and}
 use Rattle.std.specs.Int.{bit_at}
 use Rattle.std.specs.List.{AllByRecursion}
@@ -8,13 +8,12 @@ use Rattle.std.proofs.lemmas.List.{get_or_append_left, get_or_at, length_push}
 use Rattle.std.proofs.lemmas.Nat.{and_le_l, pow_pos}
 use Rattle.std.proofs.Math.Nat.{pow-le-pow_right}
 use Rattle.std.proofs.lemmas.Nat.Bits.{bit_at_ones, bit_at_ones_above, bit_at-zero}
-use Rattle.puz_board.specs.Cells.{Adjacent}
 use Rattle.puz_board.proofs.CellLemmas.{by_side}
 use Rattle.pat_place.specs.Masks.{IsMaskOf}
 use Rattle.pat_place.specs.Patterns.{has, width, most_tiles, IsPattern}
 use Rattle.pat_place.specs.Placements.{IsFree, IsApart, PlacementView, IsPlacement}
-use Rattle.pat_place.specs.Regions.{Reaches, here, onward, Joins, IsLeader, IsCount, IsSlot, AreRegions}
-use Rattle.pat_place.proofs.BitLemmas.{IsIn, in_or_out, both_in, in_both, but_in, in_but, in_below}
+use Rattle.pat_place.specs.Regions.{Reaches, here, onward, Joins, IsLeader, IsCount, IsSlot}
+use Rattle.pat_place.proofs.BitLemmas.{IsIn, in_or_out, but_in, in_but}
 use Rattle.pat_place.proofs.JoinLemmas.{Joins-trans, Joins-free, Joins-sym}
 use Rattle.pat_place.proofs.SlotLemmas.{count_same, count_place}
 use Rattle.pat_place.proofs.WidthLemmas.{slot_within}

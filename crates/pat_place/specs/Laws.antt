@@ -1,5 +1,5 @@
 -- What holds of ranks, regions and slots at every placement.
-use Rattle.std.specs.Prelude.{◌≡◌, ℕ, ◌<◌, ◌≤◌, ◌↔◌, ◌⊎◌, List, [], ◌∷◌, length, slice_get, Some, ⊤}
+use Rattle.std.specs.Prelude.{◌≡◌, ℕ, ◌<◌, ◌↔◌, ◌⊎◌, List, [], ◌∷◌, length, slice_get, Some}
 use Rattle.pat_place.specs.Patterns.{IsPattern, width}
 use Rattle.pat_place.specs.Placements.{PlacementView, IsPlacement, IsFree}
 use Rattle.pat_place.specs.Ranks.{IsRank, placements}

@@ -1,5 +1,4 @@
-use Rattle.std.proofs.Common.{◌≡◌, ◌≢◌, ◌*◌, ◌-◌, ◌^◌, ◌%◌, ◌<◌, ◌≤◌, bit_and, sym, ◌∙◌, ap, subst, arith, lit<}
-use Rattle.std.proofs.Math.Nat.{pow-le-pow_right}
+use Rattle.std.proofs.Common.{◌≢◌, ◌*◌, ◌-◌, ◌^◌, ◌%◌, bit_and, sym, ◌∙◌, subst, arith}
 use Rattle.std.proofs.lemmas.Nat.Bits.{bit_at-zero}
 use Rattle.pat_place.specs.Masks.{IsMaskOf}
 use Rattle.pat_place.specs.Regions.{Reaches}

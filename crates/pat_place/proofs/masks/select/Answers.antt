@@ -1,5 +1,4 @@
-use Rattle.std.proofs.Common.{◌≡◌, ◌+◌, ◌-◌, ◌/◌, ◌<◌, ◌≤◌, sym, ap, subst, arith}
-use Rattle.pat_place.specs.Masks.{ones_below}
+use Rattle.std.proofs.Common.{◌-◌, ◌/◌, ◌<◌, ◌≤◌, sym, subst, arith}
 use Rattle.pat_place.proofs.MaskLemmas.{Holds, Holds-upper, Holds-lower, Holds-found}
 use Rattle.pat_place.proofs.masks.select.Goals as goal
 use Rattle.pat_place.proofs.masks.select.Goals.{then-count_below-place, else-count_below-place}

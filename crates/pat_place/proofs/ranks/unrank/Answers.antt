@@ -1,4 +1,4 @@
-use Rattle.std.proofs.Common.{◌≡◌, ◌*◌, length, sym, ◌∙◌, ap, ap₂, subst}
+use Rattle.std.proofs.Common.{◌≡◌, ◌*◌, length, sym, ◌∙◌, ap₂, subst}
 use Rattle.pat_place.specs.Ranks.{IsRank}
 use Rattle.pat_place.proofs.RankLemmas.{length-placements, IsPlacement-found, IsRank-found}
 use Rattle.pat_place.proofs.ranks.unrank.Goals as goal

@@ -1,6 +1,5 @@
-use Rattle.std.proofs.Common.{◌≡◌, suc, ◌+◌, ◌-◌, ◌*◌, ◌^◌, ◌<◌, ◌≤◌, length, sym, ◌∙◌, ap, ap₂, subst, arith}
+use Rattle.std.proofs.Common.{◌≡◌, suc, ◌+◌, ◌-◌, ◌*◌, ◌^◌, ◌<◌, length, sym, ◌∙◌, ap, ap₂, subst, arith}
 use Rattle.pat_place.specs.Patterns.{width}
-use Rattle.pat_place.specs.Ranks.{placements}
 use Rattle.pat_place.proofs.CountLemmas.{few_slots, few_placements}
 use Rattle.pat_place.proofs.RankLemmas.{falling, falling_more, falling_step_fits, count_of_placements}
 use Rattle.pat_place.proofs.SideLemmas.{few_cells}
