@@ -25,6 +25,10 @@ RanksAreInOrder =
     (n k r s : ℕ) (p q : List ℕ) → slice_get (placements n k) r ≡ Some p → slice_get (placements n k) s ≡ Some q →
     r < s → IsBefore p q
 
+-- on side 3, the cells 1, 2, 3 have rank 64, and the last of all, 8, 7, 6, have rank 503
+abbrev pub RanksOfThreeCells : Type 0
+RanksOfThreeCells = IsRank 3 (1 ∷ 2 ∷ 3 ∷ []) 64 × IsRank 3 (8 ∷ 7 ∷ 6 ∷ []) 503 × (length (placements 3 3) ≡ 504)
+
 -- ---- regions and slots
 
 -- each free cell has one slot
