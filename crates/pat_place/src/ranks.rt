@@ -5,7 +5,7 @@ ghost use Rattle.std.specs.List.{AllByRecursion, range_with_len};
 ghost use Rattle.std.specs.Bool.{OnFalse};
 ghost use Rattle.std.specs.Int.{bit_at};
 ghost use Rattle.pat_place.specs.Masks.{ones_below};
-ghost use Rattle.pat_place.specs.Placements.{IsApart};
+ghost use Rattle.pat_place.specs.Placements.{IsApart, IsPlacement};
 ghost use Rattle.pat_place.specs.Ranks.{IsRank, lists_of, placements};
 
 use crate::masks;
@@ -44,6 +44,7 @@ fn rank_among(cells: &[u8], count: u8) -> u64
 pub fn unrank(pattern: &Pattern, rank: u64) -> Placement
     requires { rank < length (placements pattern.now.side (length pattern.now.tiles)) }
     ensures pattern { result.pattern ≡ pattern.now }
+    ensures placement { IsPlacement result }
     ensures rank { IsRank pattern.now.side result.cells rank }
 {
     let ranks = pattern.count() as u32;
@@ -82,6 +83,7 @@ pub fn next(placement: &mut Placement) -> bool
         (IsRank placement.old.pattern.side placement.new.cells (r + 1))
         (r + 1 ≡ length (placements placement.old.pattern.side (length placement.old.cells))) }
     ensures last { OnFalse result (placement.new ≡ placement.old) }
+    ensures placement { IsPlacement placement.new }
 {
     let pattern = placement.pattern();
     let count = pattern.count();

@@ -1,4 +1,5 @@
 use Rattle.std.proofs.Common.{◌≡◌, ◌*◌, length, sym, ◌∙◌, ap₂, subst}
+use Rattle.pat_place.specs.Placements.{IsPlacement}
 use Rattle.pat_place.specs.Ranks.{IsRank}
 use Rattle.pat_place.proofs.RankLemmas.{length-placements, IsPlacement-found, IsRank-found}
 use Rattle.pat_place.proofs.ranks.unrank.Goals as goal
@@ -14,6 +15,13 @@ with_cells-requires-clause-placement c =
     let p = c.args.pattern.now in
     let cells : c.cells.result ≡ p.side * p.side = c.cells.ensures.value ∙ ap₂ (λ m n. m * n) c.side.ensures.side c.side.ensures.side in
     IsPlacement-found p c.cells.result c.size.result c.args.rank c.cells_at-cells.result cells c.size.ensures.size c.cells_at-cells.ensures.cells
+
+pub returns-clause-placement : goal.returns-clause-placement
+returns-clause-placement c =
+    let p = c.args.pattern.now in
+    let cells : c.cells.result ≡ p.side * p.side = c.cells.ensures.value ∙ ap₂ (λ m n. m * n) c.side.ensures.side c.side.ensures.side in
+    subst IsPlacement (sym c.with_cells.ensures) (
+    IsPlacement-found p c.cells.result c.size.result c.args.rank c.cells_at-cells.result cells c.size.ensures.size c.cells_at-cells.ensures.cells)
 
 pub returns-clause-rank : goal.returns-clause-rank
 returns-clause-rank c =
