@@ -66,9 +66,8 @@ pub(crate) fn select(mask: u32, place: u8) -> u8
     let mut span = 32;
     while span > 1 {
         let half = span / 2;
-        if count_below(mask, number + half) <= place {
-            number += half;
-        }
+        let upper = count_below(mask, number + half) <= place;
+        number += half * u8::from(upper);
         span -= half;
     }
     number
