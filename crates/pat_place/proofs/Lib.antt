@@ -1,0 +1,16 @@
+pub mod SideLemmas
+pub mod ListLemmas
+pub mod MaskLemmas
+pub mod PatternLemmas
+pub mod RankLemmas
+pub mod BoardFacts
+pub mod PlacementLemmas
+pub mod RankSteps
+pub mod JoinLemmas
+pub mod SlotLemmas
+pub mod WidthLemmas
+pub mod BitLemmas
+pub mod GrownLemmas
+pub mod RegionLemmas
+pub mod SlotSteps
+pub mod CountLemmas

@@ -1,0 +1,158 @@
+-- Placements: those of boards, and how they are stored.
+use Rattle.std.proofs.Common.{◌≡◌, ◌≢◌, ℕ, zero, suc, ◌+◌, ◌-◌, ◌*◌, ◌<◌, ◌≤◌, false, eqb, List, [], ◌∷◌, ◌++◌, length, take, drop, set, get_or, replicate, refl, sym, ◌∙◌, ap, ap₂, subst, arith, length-append}
+use Rattle.std.specs.List.{AllByRecursion}
+use Rattle.std.proofs.lemmas.Bool.{or_parts, or_from, ne_eqb, eqb-false}
+use Rattle.std.proofs.lemmas.List.{length-map, length-replicate, length-set, take_at, drop_at, take_all}
+use Rattle.puz_board.specs.Boards.{IsBoard, IsGoal, cell_of, side_of}
+use Rattle.pat_place.specs.Patterns.{PatternView, IsPattern, has}
+use Rattle.pat_place.specs.Placements.{PlacementView, IsPlacement, IsApart, IsFree, placement_of}
+use Rattle.pat_place.specs.StoredPlacements.{IsStoredPlacement, placement_shown}
+use Rattle.pat_place.specs.declared.placements.Placement.TheInside.{Inside}
+use Rattle.pat_place.proofs.ListLemmas.{apart_from_ascending}
+use Rattle.pat_place.proofs.PatternLemmas.{few_tiles}
+use Rattle.pat_place.proofs.BoardFacts.{cell_of-inside, cell_of-apart, cell_of-goal}
+
+abbrev pub placed : PatternView → List ℕ → PlacementView
+placed p cells = record { pattern = p; cells = cells }
+
+-- ---- what is stored
+
+module _ (p : PatternView) (good : IsPattern p) (cells : List ℕ) (is : IsPlacement (placed p cells)) (stored : List ℕ) (filled : stored ≡ cells ++ replicate (8 - length cells) 0) where
+  abbrev fields : Inside
+  fields = record { pattern = p; cells = stored }
+
+  pub shown-filled : take (length p.tiles) stored ≡ cells
+  shown-filled = ap (take (length p.tiles)) filled ∙ take_at cells (replicate (8 - length cells) 0) (length p.tiles) is.size
+
+  pub IsStoredPlacement-filled : IsStoredPlacement (record { pattern = p; cells = stored })
+  IsStoredPlacement-filled = record {
+    room =
+        let few = few_tiles p good in
+        let size = is.size in
+        ap length filled ∙ (let e = length-append cells (replicate (8 - length cells) 0) in let f : length (replicate {A = ℕ} (8 - length cells) 0) ≡ 8 - length cells = length-replicate (8 - length cells) 0 in omega arith);
+    pattern = good;
+    placement = subst (λ xs. IsPlacement (placed p xs)) (sym shown-filled) is;
+    rest = ap (drop (length p.tiles)) filled ∙ drop_at cells (replicate (8 - length cells) 0) (length p.tiles) is.size ∙ ap (λ k. replicate (8 - k) 0) is.size;
+  }
+
+-- one more cell behind the first i
+pub filled_more : (xs : List ℕ) (i m : ℕ) → i < length xs → set (take i xs ++ replicate (suc m) 0) i (get_or xs i 0) ≡ take (suc i) xs ++ replicate m 0
+filled_more [] i m l = absurd (omega arith)
+filled_more (x ∷ xs) zero m l = refl
+filled_more (x ∷ xs) (suc i) m l = ap (λ ys. x ∷ ys) (filled_more xs i m (omega arith))
+
+pub filled_to_more : (xs : List ℕ) (i n : ℕ) → i < length xs → i < n → set (take i xs ++ replicate (n - i) 0) i (get_or xs i 0) ≡ take (i + 1) xs ++ replicate (n - (i + 1)) 0
+filled_to_more xs i n l m =
+    let left : n - i ≡ suc (n - (i + 1)) = omega arith in
+    let next : suc i ≡ i + 1 = omega arith in
+    ap (λ k. set (take i xs ++ replicate k 0) i (get_or xs i 0)) left ∙ filled_more xs i (n - (i + 1)) l ∙ ap (λ k. take k xs ++ replicate (n - (i + 1)) 0) next
+
+-- the loop's end
+pub filled_all : (xs stored : List ℕ) (i : ℕ) → length xs ≤ i → i ≤ length xs → stored ≡ take i xs ++ replicate (8 - i) 0 → stored ≡ xs ++ replicate (8 - length xs) 0
+filled_all xs stored i low high e = e ∙ ap₂ (λ ys k. ys ++ replicate (8 - k) 0) (take_all i xs low) (let e : i ≡ length xs = omega arith in e)
+
+-- ---- the goal placement
+
+weaker : (n : ℕ) (ts : List ℕ) → AllByRecursion (λ t. (0 < t) × (t < n)) ts → AllByRecursion (λ t. t < n) ts
+weaker n [] all = tt
+weaker n (t ∷ ts) all = (all.0.1, weaker n ts all.1)
+
+pub IsPlacement-goal : (p : PatternView) → IsPattern p → IsPlacement (placed p p.tiles)
+IsPlacement-goal p good = record {
+  size = refl;
+  inside = weaker (p.side * p.side) p.tiles good.tiles;
+  apart = apart_from_ascending p.tiles good.ascending;
+}
+
+-- ---- the placement of a board
+
+module _ (b : List ℕ) (board : IsBoard b) where
+  abbrev Inner : List ℕ → Type 0
+  Inner ts = AllByRecursion (λ t. (0 < t) × (t < side_of b * side_of b)) ts
+
+  pub placement_of-goal : IsGoal b → (ts : List ℕ) → Inner ts → placement_of ts b ≡ ts
+  placement_of-goal home [] all = refl
+  placement_of-goal home (t ∷ ts) all = ap₂ (λ x xs. x ∷ xs) (cell_of-goal b board home t all.0.1) (placement_of-goal home ts all.1)
+
+  inside-of : (ts : List ℕ) → Inner ts → AllByRecursion (λ c. c < side_of b * side_of b) (placement_of ts b)
+  inside-of [] all = tt
+  inside-of (t ∷ ts) all = (cell_of-inside b board t all.0.1, inside-of ts all.1)
+
+  other : (t : ℕ) (ts : List ℕ) → t < side_of b * side_of b → Inner ts → has ts t ≡ false → has (placement_of ts b) (cell_of t b) ≡ false
+  other t [] l all no_more = refl
+  other t (u ∷ ts) l all no_more =
+      let parts = or_parts (eqb u t) (has ts t) no_more in
+      or_from (eqb (cell_of u b) (cell_of t b)) (has (placement_of ts b) (cell_of t b))
+      (ne_eqb (cell_of u b) (cell_of t b) (λ e. eqb-false u t parts.0 (cell_of-apart b board u t all.0.1 l e)))
+      (other t ts l all.1 parts.1)
+
+  apart-of : (ts : List ℕ) → Inner ts → IsApart ts → IsApart (placement_of ts b)
+  apart-of [] all apart = tt
+  apart-of (t ∷ ts) all apart = (other t ts all.0.1 all.1 apart.0, apart-of ts all.1 apart.1)
+
+  pub IsPlacement-of : (p : PatternView) → IsPattern p → side_of b ≡ p.side → IsPlacement (placed p (placement_of p.tiles b))
+  IsPlacement-of p good e =
+      let all : Inner p.tiles = subst (λ n. AllByRecursion (λ t. (0 < t) × (t < n * n)) p.tiles) (sym e) good.tiles in
+      record {
+        size = length-map p.tiles (λ t. cell_of t b);
+        inside = subst (λ n. AllByRecursion (λ c. c < n * n) (placement_of p.tiles b)) e (inside-of p.tiles all);
+        apart = apart-of p.tiles all (apart_from_ascending p.tiles good.ascending);
+      }
+
+  pub tile_inside : (p : PatternView) → IsPattern p → side_of b ≡ p.side → (i : ℕ) → i < length p.tiles → get_or p.tiles i 0 < side_of b * side_of b
+  tile_inside p good e i l = subst (λ n. get_or p.tiles i 0 < n * n) (sym e) (each p.tiles i (weaker (p.side * p.side) p.tiles good.tiles) l)
+    where
+      each : (ts : List ℕ) (i : ℕ) → AllByRecursion (λ t. t < p.side * p.side) ts → i < length ts → get_or ts i 0 < p.side * p.side
+      each [] i all l = absurd (omega arith)
+      each (t ∷ ts) zero all l = all.0
+      each (t ∷ ts) (suc i) all l = each ts i all.1 (omega arith)
+
+-- ---- one tile moved
+
+not_set : (xs : List ℕ) (i c d : ℕ) → has xs d ≡ false → c ≢ d → has (set xs i c) d ≡ false
+not_set [] i c d out ne = refl
+not_set (x ∷ xs) zero c d out ne = or_from (eqb c d) (has xs d) (ne_eqb c d ne) (or_parts (eqb x d) (has xs d) out).1
+not_set (x ∷ xs) (suc i) c d out ne = let parts = or_parts (eqb x d) (has xs d) out in or_from (eqb x d) (has (set xs i c) d) parts.0 (not_set xs i c d parts.1 ne)
+
+pub IsApart-set : (xs : List ℕ) (i c : ℕ) → IsApart xs → has xs c ≡ false → IsApart (set xs i c)
+IsApart-set [] i c apart out = tt
+IsApart-set (x ∷ xs) zero c apart out = ((or_parts (eqb x c) (has xs c) out).1, apart.1)
+IsApart-set (x ∷ xs) (suc i) c apart out =
+    let parts = or_parts (eqb x c) (has xs c) out in
+    (not_set xs i c x apart.0 (λ e. eqb-false x c parts.0 (sym e)), IsApart-set xs i c apart.1 parts.1)
+
+inside-set : (n : ℕ) (xs : List ℕ) (i c : ℕ) → AllByRecursion (λ x. x < n) xs → c < n → AllByRecursion (λ x. x < n) (set xs i c)
+inside-set n [] i c all l = tt
+inside-set n (x ∷ xs) zero c all l = (l, all.1)
+inside-set n (x ∷ xs) (suc i) c all l = (all.0, inside-set n xs i c all.1 l)
+
+pub IsPlacement-moved : (p : PlacementView) → IsPlacement p → (i c : ℕ) → IsFree p.pattern.side p.cells c → IsPlacement (placed p.pattern (set p.cells i c))
+IsPlacement-moved p is i c free = record {
+  size = length-set p.cells i c ∙ is.size;
+  inside = inside-set (p.pattern.side * p.pattern.side) p.cells i c is.inside free.0;
+  apart = IsApart-set p.cells i c is.apart free.1;
+}
+
+take-set : (n : ℕ) (xs : List ℕ) (i y : ℕ) → take n (set xs i y) ≡ set (take n xs) i y
+take-set zero xs i y = refl
+take-set (suc n) [] i y = refl
+take-set (suc n) (x ∷ xs) zero y = refl
+take-set (suc n) (x ∷ xs) (suc i) y = ap (λ ys. x ∷ ys) (take-set n xs i y)
+
+drop-set_front : (n : ℕ) (xs : List ℕ) (i y : ℕ) → i < n → drop n (set xs i y) ≡ drop n xs
+drop-set_front zero xs i y l = absurd (omega arith)
+drop-set_front (suc n) [] i y l = refl
+drop-set_front (suc n) (x ∷ xs) zero y l = refl
+drop-set_front (suc n) (x ∷ xs) (suc i) y l = drop-set_front n xs i y (omega arith)
+
+module _ (s : Inside) (kept : IsStoredPlacement s) (i c : ℕ) (here : i < length (placement_shown s).cells) (free : IsFree s.pattern.side (placement_shown s).cells c) where
+  pub placement_shown-moved : placement_shown (record { pattern = s.pattern; cells = set s.cells i c }) ≡ placed s.pattern (set (placement_shown s).cells i c)
+  placement_shown-moved = ap (placed s.pattern) (take-set (length s.pattern.tiles) s.cells i c)
+
+  pub IsStoredPlacement-moved : IsStoredPlacement (record { pattern = s.pattern; cells = set s.cells i c })
+  IsStoredPlacement-moved = record {
+    room = length-set s.cells i c ∙ kept.room;
+    pattern = kept.pattern;
+    placement = subst IsPlacement (sym placement_shown-moved) (IsPlacement-moved (placement_shown s) kept.placement i c free);
+    rest = drop-set_front (length s.pattern.tiles) s.cells i c (let e = kept.placement.size in omega arith) ∙ kept.rest;
+  }

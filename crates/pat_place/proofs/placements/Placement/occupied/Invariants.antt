@@ -1,0 +1,7 @@
+use Rattle.std.proofs.Common.{◌≡◌, take, true}
+use Rattle.pat_place.specs.Masks.{IsMaskOf}
+use Rattle.pat_place.specs.Patterns.{has}
+use Rattle.pat_place.proofs.placements.Placement.occupied.Given as goal
+
+abbrev pub invariant-loop-cell : goal.invariant-loop-cell
+invariant-loop-cell l = IsMaskOf l.occupied (λ c. has (take l.cell-index l.cell-items) c ≡ true)

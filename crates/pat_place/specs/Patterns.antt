@@ -1,0 +1,34 @@
+-- Patterns: sets of tiles.
+use Rattle.std.specs.Prelude.{ℕ, ◌+◌, ◌-◌, ◌*◌, ◌<◌, ◌≤◌, ◌==◌, if◌then◌else◌, Bool, List, [], ◌∷◌, length, min, ⊤}
+use Rattle.std.specs.List.{list_any, AllByRecursion}
+
+-- what a contract sees of a pattern: the side of its board, and its tiles
+pub record PatternView : Type 0 where
+  pub side : ℕ
+  pub tiles : List ℕ
+
+-- whether a number stands in a list
+abbrev pub has : List ℕ → ℕ → Bool
+has xs y = list_any (λ x. x == y) xs
+
+-- each number is below all behind it
+abbrev pub IsAscending : List ℕ → Type 0
+IsAscending [] = ⊤
+IsAscending (x ∷ xs) = AllByRecursion (λ y. x < y) xs × IsAscending xs
+
+-- how many tiles a pattern of side n may have
+abbrev pub most_tiles : ℕ → ℕ
+most_tiles n = if n == 2 then 3 else if n == 5 then 6 else 8
+
+-- some of the tiles 1 to n * n - 1, and not too many, for a side n from 2 to 5
+pub record IsPattern (p : PatternView) : Type 0 where
+  pub low : 2 ≤ p.side
+  pub high : p.side ≤ 5
+  pub ascending : IsAscending p.tiles
+  pub tiles : AllByRecursion (λ t. (0 < t) × (t < p.side * p.side)) p.tiles
+  pub some : 0 < length p.tiles
+  pub most : length p.tiles ≤ most_tiles p.side
+
+-- W: no placement of k tiles has more regions of free cells
+abbrev pub width : ℕ → ℕ → ℕ
+width n k = min (k + 1) (n * n - k)

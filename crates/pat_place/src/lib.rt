@@ -1,0 +1,17 @@
+//! Patterns of the sliding-tile puzzle, placements of their tiles, ranks, and the regions of free cells.
+#![tactic(auto)]
+
+mod flood;
+pub mod laws;
+mod masks;
+mod patterns;
+mod placements;
+mod ranks;
+mod slots;
+#[cfg(test)]
+mod tests;
+
+pub use patterns::Pattern;
+pub use placements::Placement;
+pub use ranks::{next, rank, unrank};
+pub use slots::{regions, slot_of};

@@ -1,0 +1,96 @@
+//! Ranks: the places of placements among all placements of a pattern, in lexicographic order.
+
+ghost use Rattle.std.specs.Prelude.{◌≡◌, ℕ, ◌+◌, ◌-◌, ◌<◌, ◌≤◌, length, take, drop, replicate, slice_get, MatchBool};
+ghost use Rattle.std.specs.List.{AllByRecursion, range_with_len};
+ghost use Rattle.std.specs.Bool.{OnFalse};
+ghost use Rattle.std.specs.Int.{bit_at};
+ghost use Rattle.pat_place.specs.Masks.{ones_below};
+ghost use Rattle.pat_place.specs.Placements.{IsApart, IsPlacement};
+ghost use Rattle.pat_place.specs.Ranks.{IsRank, lists_of, placements};
+
+use crate::masks;
+use crate::patterns::Pattern;
+use crate::placements::Placement;
+
+/// The rank of a placement: its place among all placements of its pattern.
+pub fn rank(placement: &Placement) -> u64
+    ensures rank { IsRank placement.now.pattern.side placement.now.cells result }
+    ensures only { (r : ℕ) → IsRank placement.now.pattern.side placement.now.cells r → r ≡ result }
+    ensures below { result < length (placements placement.now.pattern.side (length placement.now.cells)) }
+{
+    rank_among(placement.as_slice(), placement.pattern().side().cells())
+}
+
+/// The place of a list of cells among all of its length, on a board of `count` cells.
+fn rank_among(cells: &[u8], count: u8) -> u64
+    requires small { count ≤ 25 }
+    requires few { length cells.now ≤ 8 }
+    requires inside { AllByRecursion (λ c. c < count) cells.now }
+    requires apart { IsApart cells.now }
+    ensures { slice_get (lists_of (length cells.now) (range_with_len 0 count)) result ≡ Some cells.now }
+{
+    let mut free = masks::all_below(count);
+    let mut room = u64::from(count);
+    let mut rank = 0;
+    for cell in cells {
+        rank = rank * room + u64::from(masks::count_below(free, *cell));
+        free = masks::without(free, *cell);
+        room -= 1;
+    }
+    rank
+}
+
+/// The placement of a rank.
+pub fn unrank(pattern: &Pattern, rank: u64) -> Placement
+    requires { rank < length (placements pattern.now.side (length pattern.now.tiles)) }
+    ensures pattern { result.pattern ≡ pattern.now }
+    ensures placement { IsPlacement result }
+    ensures rank { IsRank pattern.now.side result.cells rank }
+{
+    let ranks = pattern.count() as u32;
+    let cells = cells_at(rank as u32, ranks, pattern.side().cells(), pattern.size());
+    Placement::with_cells(pattern, cells)
+}
+
+/// The cells of a rank, of which there are `size`, on a board of `count` cells. Zeros stand behind them.
+fn cells_at(rank: u32, ranks: u32, count: u8, size: u8) -> [u8; 8]
+    requires small { count ≤ 25 }
+    requires few { size ≤ 8 }
+    requires room { size ≤ count }
+    requires ranks { ranks ≡ length (lists_of size (range_with_len 0 count)) }
+    requires below { rank < ranks }
+    ensures cells { slice_get (lists_of size (range_with_len 0 count)) rank ≡ Some (take size result) }
+    ensures zeros { drop size result ≡ replicate (8 - size) 0 }
+{
+    let mut free = masks::all_below(count);
+    let mut block = ranks;
+    let mut rest = rank;
+    let mut cells = [0; 8];
+    for i in 0..size {
+        block /= u32::from(count - i);
+        let cell = masks::select(free, (rest / block) as u8);
+        rest %= block;
+        free = masks::without(free, cell);
+        cells[i as usize] = cell;
+    }
+    cells
+}
+
+/// Goes to the placement of the next rank. At the last one it answers false, and leaves the placement.
+pub fn next(placement: &mut Placement) -> bool
+    ensures pattern { placement.new.pattern ≡ placement.old.pattern }
+    ensures step { (r : ℕ) → IsRank placement.old.pattern.side placement.old.cells r → MatchBool result
+        (IsRank placement.old.pattern.side placement.new.cells (r + 1))
+        (r + 1 ≡ length (placements placement.old.pattern.side (length placement.old.cells))) }
+    ensures last { OnFalse result (placement.new ≡ placement.old) }
+    ensures placement { IsPlacement placement.new }
+{
+    let pattern = placement.pattern();
+    let count = pattern.count();
+    let rank = rank(placement) + 1;
+    if rank == count {
+        return false;
+    }
+    *placement = unrank(&pattern, rank);
+    true
+}
