@@ -1,0 +1,81 @@
+-- Moves among the cells of one side.
+use Rattle.std.proofs.Common.{◌≡◌, ◌≢◌, ℕ, ◌+◌, ◌-◌, ◌*◌, ◌/◌, ◌%◌, ◌<◌, ◌≤◌, Bool, true, false, cond, eqb, Some, None, inl, inr, refl, sym, ◌∙◌, ap, subst, arith, ne_eqb}
+use Rattle.std.proofs.lemmas.Bool.{cases_eq, cond-false, eqb-false}
+use Rattle.puz_board.specs.declared.moves.Move.{Move}
+use Rattle.puz_board.specs.declared.moves.Move.TheVariants.{Up, Down, Left, Right}
+use Rattle.puz_board.specs.Cells.{IsTakenBackBy, reverse_of, step_of}
+
+-- what holds at each side holds
+pub by_side : (P : ℕ → Type 0) → P 2 → P 3 → P 4 → P 5 → (n : ℕ) → 2 ≤ n → n ≤ 5 → P n
+by_side P two three four five n low high = elim (cases_eq n 2) [
+  | inl e ↦ subst P (sym e) two
+  | inr ne2 ↦ elim (cases_eq n 3) [
+    | inl e ↦ subst P (sym e) three
+    | inr ne3 ↦ elim (cases_eq n 4) [
+      | inl e ↦ subst P (sym e) four
+      | inr ne4 ↦ let e : 5 ≡ n = omega arith in subst P e five
+    ]
+  ]
+]
+
+-- ---- the reverse of a move takes it back
+
+up_back : (n : ℕ) → 2 ≤ n → n ≤ 5 → (c d : ℕ) → c < n * n → c / n ≢ 0 → c - n ≡ d → (d / n ≢ n - 1) × (d + n ≡ c)
+up_back = by_side (λ n. (c d : ℕ) → c < n * n → c / n ≢ 0 → c - n ≡ d → (d / n ≢ n - 1) × (d + n ≡ c)) (λ c d l p e. omega arith) (λ c d l p e. omega arith) (λ c d l p e. omega arith) (λ c d l p e. omega arith)
+
+down_back : (n : ℕ) → 2 ≤ n → n ≤ 5 → (c d : ℕ) → c < n * n → c / n ≢ n - 1 → c + n ≡ d → (d / n ≢ 0) × (d - n ≡ c)
+down_back = by_side (λ n. (c d : ℕ) → c < n * n → c / n ≢ n - 1 → c + n ≡ d → (d / n ≢ 0) × (d - n ≡ c)) (λ c d l p e. omega arith) (λ c d l p e. omega arith) (λ c d l p e. omega arith) (λ c d l p e. omega arith)
+
+left_back : (n : ℕ) → 2 ≤ n → n ≤ 5 → (c d : ℕ) → c < n * n → c % n ≢ 0 → c - 1 ≡ d → (d % n ≢ n - 1) × (d + 1 ≡ c)
+left_back = by_side (λ n. (c d : ℕ) → c < n * n → c % n ≢ 0 → c - 1 ≡ d → (d % n ≢ n - 1) × (d + 1 ≡ c)) (λ c d l p e. omega arith) (λ c d l p e. omega arith) (λ c d l p e. omega arith) (λ c d l p e. omega arith)
+
+right_back : (n : ℕ) → 2 ≤ n → n ≤ 5 → (c d : ℕ) → c < n * n → c % n ≢ n - 1 → c + 1 ≡ d → (d % n ≢ 0) × (d - 1 ≡ c)
+right_back = by_side (λ n. (c d : ℕ) → c < n * n → c % n ≢ n - 1 → c + 1 ≡ d → (d % n ≢ 0) × (d - 1 ≡ c)) (λ c d l p e. omega arith) (λ c d l p e. omega arith) (λ c d l p e. omega arith) (λ c d l p e. omega arith)
+
+-- a move that stays on the board isn't stopped at its edge
+stays : (stopped : Bool) (x d : ℕ) → cond stopped None (Some x) ≡ Some d → (stopped ≡ false) × (x ≡ d)
+stays true x d e = absurd (let bad : None ≡ Some d = e in cc)
+stays false x d e = (refl, cc)
+
+goes : (a edge x c : ℕ) → a ≢ edge → x ≡ c → cond (eqb a edge) None (Some x) ≡ Some c
+goes a edge x c ne e = cond-false (eqb a edge) None (Some x) (ne_eqb a edge ne) ∙ ap Some e
+
+pub reverse_of-takes_back : (m : Move) → IsTakenBackBy m (reverse_of m)
+reverse_of-takes_back Up n c d low high l e =
+    let way = stays (eqb (c / n) 0) (c - n) d e in
+    let back = up_back n low high c d l (eqb-false (c / n) 0 way.0) way.1 in
+    goes (d / n) (n - 1) (d + n) c back.0 back.1
+reverse_of-takes_back Down n c d low high l e =
+    let way = stays (eqb (c / n) (n - 1)) (c + n) d e in
+    let back = down_back n low high c d l (eqb-false (c / n) (n - 1) way.0) way.1 in
+    goes (d / n) 0 (d - n) c back.0 back.1
+reverse_of-takes_back Left n c d low high l e =
+    let way = stays (eqb (c % n) 0) (c - 1) d e in
+    let back = left_back n low high c d l (eqb-false (c % n) 0 way.0) way.1 in
+    goes (d % n) (n - 1) (d + 1) c back.0 back.1
+reverse_of-takes_back Right n c d low high l e =
+    let way = stays (eqb (c % n) (n - 1)) (c + 1) d e in
+    let back = right_back n low high c d l (eqb-false (c % n) (n - 1) way.0) way.1 in
+    goes (d % n) 0 (d - 1) c back.0 back.1
+
+-- ---- a move stays among the cells
+
+down_inside : (n : ℕ) → 2 ≤ n → n ≤ 5 → (c : ℕ) → c < n * n → c / n ≢ n - 1 → c + n < n * n
+down_inside = by_side (λ n. (c : ℕ) → c < n * n → c / n ≢ n - 1 → c + n < n * n) (λ c l ne. omega arith) (λ c l ne. omega arith) (λ c l ne. omega arith) (λ c l ne. omega arith)
+
+right_inside : (n : ℕ) → 2 ≤ n → n ≤ 5 → (c : ℕ) → c < n * n → c % n ≢ n - 1 → c + 1 < n * n
+right_inside = by_side (λ n. (c : ℕ) → c < n * n → c % n ≢ n - 1 → c + 1 < n * n) (λ c l ne. omega arith) (λ c l ne. omega arith) (λ c l ne. omega arith) (λ c l ne. omega arith)
+
+pub step_of-inside : (n c : ℕ) (m : Move) (d : ℕ) → 2 ≤ n → n ≤ 5 → c < n * n → step_of n c m ≡ Some d → d < n * n
+step_of-inside n c Up d low high l e = let way = stays (eqb (c / n) 0) (c - n) d e in let is = way.1 in omega arith
+step_of-inside n c Down d low high l e =
+    let way = stays (eqb (c / n) (n - 1)) (c + n) d e in
+    let is = way.1 in
+    let inside = down_inside n low high c l (eqb-false _ _ way.0) in
+    omega arith
+step_of-inside n c Left d low high l e = let way = stays (eqb (c % n) 0) (c - 1) d e in let is = way.1 in omega arith
+step_of-inside n c Right d low high l e =
+    let way = stays (eqb (c % n) (n - 1)) (c + 1) d e in
+    let is = way.1 in
+    let inside = right_inside n low high c l (eqb-false _ _ way.0) in
+    omega arith

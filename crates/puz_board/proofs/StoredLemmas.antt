@@ -1,0 +1,91 @@
+-- A slide among the stored cells is a slide of the board.
+use Rattle.std.proofs.Common.{◌≡◌, ℕ, zero, suc, ◌+◌, ◌-◌, ◌*◌, ◌<◌, List, [], ◌∷◌, length, take, drop, get_or, set, refl, sym, ◌∙◌, ap, ap₂, subst, arith, length-set, get_or-take, ◌++◌, replicate, length-append}
+use Rattle.std.proofs.Math.Seq.{take-append_seam, drop-append_seam}
+use Rattle.puz_board.specs.declared.boards.Board.TheInside.{Inside}
+use Rattle.puz_board.specs.Boards.{IsBoard, blank, side_of, slid}
+use Rattle.puz_board.specs.Stored.{IsStored, numbers_shown, stored_of}
+use Rattle.puz_board.proofs.BoardLemmas.{IsBoard-slid, blank-slid, cell_of-below, cells_most, side_of-slid}
+
+pub take-set : (n : ℕ) (xs : List ℕ) (i y : ℕ) → take n (set xs i y) ≡ set (take n xs) i y
+take-set zero xs i y = refl
+take-set (suc n) [] i y = refl
+take-set (suc n) (x ∷ xs) zero y = refl
+take-set (suc n) (x ∷ xs) (suc i) y = ap (λ ys. x ∷ ys) (take-set n xs i y)
+
+pub drop-set_front : (n : ℕ) (xs : List ℕ) (i y : ℕ) → i < n → drop n (set xs i y) ≡ drop n xs
+drop-set_front zero xs i y l = absurd (omega arith)
+drop-set_front (suc n) [] i y l = refl
+drop-set_front (suc n) (x ∷ xs) zero y l = refl
+drop-set_front (suc n) (x ∷ xs) (suc i) y l = drop-set_front n xs i y (omega arith)
+
+-- the fields after the blank of cell z has changed places with the tile of cell c
+abbrev pub moved : Inside → ℕ → ℕ → Inside
+moved s z c = record { side = s.side; blank = c; cells = set (set s.cells z (get_or s.cells c 0)) c 0 }
+
+module _ (s : Inside) (kept : IsStored s) (z c : ℕ) (is_blank : z ≡ blank (numbers_shown s)) (inside : c < side_of (numbers_shown s) * side_of (numbers_shown s)) where
+  below : c < s.side * s.side
+  below = subst (λ n. c < n * n) kept.side inside
+
+  z_inside : z < s.side * s.side
+  z_inside =
+      let l = cell_of-below (side_of (numbers_shown s)) (numbers_shown s) kept.board 0 (omega arith) in
+      subst (λ n. z < n * n) kept.side (omega arith)
+
+  pub numbers_shown-moved : numbers_shown (moved s z c) ≡ slid (numbers_shown s) c
+  unfolding slid
+  numbers_shown-moved =
+      take-set (s.side * s.side) (set s.cells z (get_or s.cells c 0)) c 0 ∙
+      ap (λ xs. set xs c 0) (
+      take-set (s.side * s.side) s.cells z (get_or s.cells c 0) ∙
+      ap₂ (λ i y. set (numbers_shown s) i y) is_blank (sym (get_or-take (s.side * s.side) s.cells c 0 below)))
+
+  pub IsStored-moved : IsStored (moved s z c)
+  IsStored-moved = record {
+    room = length-set (set s.cells z (get_or s.cells c 0)) c 0 ∙ length-set s.cells z (get_or s.cells c 0) ∙ kept.room;
+    side = ap side_of numbers_shown-moved ∙ side_of-slid (side_of (numbers_shown s)) (numbers_shown s) kept.board c inside ∙ kept.side;
+    blank_cell = ap blank numbers_shown-moved ∙ blank-slid (side_of (numbers_shown s)) (numbers_shown s) kept.board c inside;
+    board = subst IsBoard (sym numbers_shown-moved) (IsBoard-slid (numbers_shown s) kept.board c inside);
+    rest =
+        drop-set_front (s.side * s.side) (set s.cells z (get_or s.cells c 0)) c 0 below ∙
+        drop-set_front (s.side * s.side) s.cells z (get_or s.cells c 0) z_inside ∙ kept.rest;
+  }
+
+-- ---- a board is stored
+
+one_more : (xs : List ℕ) (i m : ℕ) → i < length xs → set (take i xs ++ replicate (suc m) 0) i (get_or xs i 0) ≡ take (suc i) xs ++ replicate m 0
+one_more [] i m l = absurd (omega arith)
+one_more (x ∷ xs) zero m l = refl
+one_more (x ∷ xs) (suc i) m l = ap (λ ys. x ∷ ys) (one_more xs i m (omega arith))
+
+-- one more number behind the first i
+pub one_more_stored : (xs : List ℕ) (i n : ℕ) → i < length xs → i < n → set (take i xs ++ replicate (n - i) 0) i (get_or xs i 0) ≡ take (i + 1) xs ++ replicate (n - (i + 1)) 0
+one_more_stored xs i n l m =
+    let left : n - i ≡ suc (n - (i + 1)) = omega arith in
+    let next : suc i ≡ i + 1 = omega arith in
+    ap (λ k. set (take i xs ++ replicate k 0) i (get_or xs i 0)) left ∙ one_more xs i (n - (i + 1)) l ∙ ap (λ k. take k xs ++ replicate (n - (i + 1)) 0) next
+
+length-replicate_zero : (n : ℕ) → length (replicate {A = ℕ} n 0) ≡ n
+length-replicate_zero zero = refl
+length-replicate_zero (suc n) = ap suc (length-replicate_zero n)
+
+pub numbers_shown-stored : (xs : List ℕ) → IsBoard xs → numbers_shown (stored_of xs) ≡ xs
+numbers_shown-stored xs good =
+    ap (λ n. take n (xs ++ replicate (25 - length xs) 0)) (sym good.size) ∙
+    take-append_seam xs (replicate (25 - length xs) 0)
+
+pub IsStored-stored : (xs : List ℕ) → IsBoard xs → IsStored (stored_of xs)
+IsStored-stored xs good = record {
+  room =
+      let e = length-append xs (replicate (25 - length xs) 0) in
+      let f = length-replicate_zero (25 - length xs) in
+      let few = cells_most (side_of xs) xs good in
+      let size = good.size in
+      omega arith;
+  side = ap side_of (numbers_shown-stored xs good);
+  blank_cell = ap blank (numbers_shown-stored xs good);
+  board = subst IsBoard (sym (numbers_shown-stored xs good)) good;
+  rest =
+      ap (λ n. drop n (xs ++ replicate (25 - length xs) 0)) (sym good.size) ∙
+      drop-append_seam xs (replicate (25 - length xs) 0) ∙
+      ap (λ n. replicate (25 - n) 0) good.size;
+}
