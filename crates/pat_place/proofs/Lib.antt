@@ -6,3 +6,6 @@ pub mod RankLemmas
 pub mod BoardFacts
 pub mod PlacementLemmas
 pub mod RankSteps
+pub mod JoinLemmas
+pub mod SlotLemmas
+pub mod WidthLemmas
