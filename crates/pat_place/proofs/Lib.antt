@@ -9,3 +9,5 @@ pub mod RankSteps
 pub mod JoinLemmas
 pub mod SlotLemmas
 pub mod WidthLemmas
+pub mod SlideLemmas
+pub mod BoardOf
