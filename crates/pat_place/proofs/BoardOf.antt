@@ -114,7 +114,7 @@ tiles_below : (n : ℕ) (ts : List ℕ) → AllByRecursion (λ t. (0 < t) × (t 
 tiles_below n [] all = tt
 tiles_below n (t ∷ ts) all = (all.0.1, tiles_below n ts all.1)
 
-no_blank : (n : ℕ) (ts : List ℕ) → AllByRecursion (λ t. (0 < t) × (t < n * n)) ts → has ts 0 ≡ false
+pub no_blank : (n : ℕ) (ts : List ℕ) → AllByRecursion (λ t. (0 < t) × (t < n * n)) ts → has ts 0 ≡ false
 no_blank n [] all = refl
 no_blank n (t ∷ ts) all = let big : 0 < t = all.0.0 in or_from (eqb t 0) (has ts 0) (ne_eqb t 0 (λ e. omega arith)) (no_blank n ts all.1)
 

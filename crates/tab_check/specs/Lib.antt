@@ -1,0 +1,5 @@
+pub mod BadEntries
+pub mod Entries
+pub mod ExactTables
+pub mod Laws
+pub mod LocalRule
