@@ -11,3 +11,7 @@ pub mod SlotLemmas
 pub mod WidthLemmas
 pub mod SlideLemmas
 pub mod BoardOf
+pub mod BitLemmas
+pub mod GrownLemmas
+pub mod RegionLemmas
+pub mod SlotSteps

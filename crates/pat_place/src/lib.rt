@@ -2,12 +2,15 @@
 #![tactic(auto)]
 
 pub mod board_laws;
+mod flood;
 pub mod laws;
 mod masks;
 mod patterns;
 mod placements;
 mod ranks;
+mod slots;
 
 pub use patterns::Pattern;
 pub use placements::Placement;
 pub use ranks::{next, rank, unrank};
+pub use slots::{regions, slot_of};

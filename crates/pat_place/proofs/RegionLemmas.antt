@@ -1,0 +1,54 @@
+-- A mask that grows to a region.
+use Rattle.std.proofs.Common.{◌≡◌, ◌≢◌, ℕ, ◌+◌, ◌-◌, ◌*◌, ◌^◌, ◌<◌, ◌≤◌, ◌⊎◌, inl, inr, refl, sym, ◌∙◌, ap, subst, arith}
+use Rattle.std.specs.Int.{bit_at}
+use Rattle.std.proofs.lemmas.Bool.{cases_eq}
+use Rattle.puz_board.specs.Cells.{Adjacent}
+use Rattle.pat_place.specs.Masks.{IsMaskOf}
+use Rattle.pat_place.specs.Regions.{Reaches, here, onward}
+use Rattle.pat_place.proofs.BitLemmas.{IsIn, sub_le}
+
+-- the cells of the region that are found so far
+pub record IsGrowing (n free cell region : ℕ) : Type 0 where
+  pub start : IsIn region cell
+  pub inside : (x : ℕ) → IsIn region x → IsIn free x
+  pub reached : (x : ℕ) → IsIn region x → Reaches n (IsIn free) cell x
+
+abbrev pub Next : ℕ → ℕ → ℕ → ℕ → Type 0
+Next n free region d = IsIn region d ⊎ (IsIn free d × (c : ℕ) × IsIn region c × Adjacent n c d)
+
+module _ (n free cell : ℕ) where
+  on : {c d f : ℕ} → Reaches n (IsIn free) c d → Adjacent n d f → IsIn free f → Reaches n (IsIn free) c f
+  on here a o = onward a o here
+  on (onward b p r) a o = onward b p (on r a o)
+
+  pub IsGrowing-start : (region : ℕ) → IsIn free cell → IsIn region cell → ((x : ℕ) → x ≢ cell → bit_at region x ≡ 0) → IsGrowing n free cell region
+  IsGrowing-start region open_cell set others = record {
+    start = set;
+    inside = (λ x h. subst (IsIn free) (sym (only x h)) open_cell);
+    reached = (λ x h. subst (λ y. Reaches n (IsIn free) cell y) (sym (only x h)) here);
+  }
+    where
+      only : (x : ℕ) → IsIn region x → x ≡ cell
+      only x h = elim (cases_eq x cell) [ inl e ↦ e | inr ne ↦ absurd (let z = others x ne in omega arith) ]
+
+  pub IsGrowing-more : (region more : ℕ) → IsGrowing n free cell region → IsMaskOf more (Next n free region) → IsGrowing n free cell more
+  IsGrowing-more region more g is = record {
+    start = (is cell).1 (inl g.start);
+    inside = (λ x h. elim ((is x).0 h) [ inl a ↦ g.inside x a | inr b ↦ b.0 ]);
+    reached = (λ x h. elim ((is x).0 h) [ inl a ↦ g.reached x a | inr b ↦ on (g.reached b.1 b.2) b.3 b.0 ]);
+  }
+
+  -- a mask that grows no more has all that is reached
+  closed : (region : ℕ) → IsMaskOf region (Next n free region) → {c d : ℕ} → Reaches n (IsIn free) c d → IsIn region c → IsIn region d
+  closed region is here h = h
+  closed region is (onward {c = c} {d = d} a o r) h = closed region is r ((is d).1 (inr (o, c, h, a)))
+
+  pub IsGrowing-all : (region more : ℕ) → IsGrowing n free cell region → IsMaskOf more (Next n free region) → more ≡ region → IsMaskOf region (Reaches n (IsIn free) cell)
+  IsGrowing-all region more g is same x = (g.reached x, λ r. closed region (subst (λ m. IsMaskOf m (Next n free region)) same is) r g.start)
+
+  -- until then it becomes a greater number, which free bounds
+  pub grows : (region more : ℕ) → IsGrowing n free cell region → IsMaskOf more (Next n free region) → more ≢ region → free - more < free - region
+  grows region more g is ne =
+      let up : region ≤ more = sub_le region more (λ x h. (is x).1 (inl h)) in
+      let top : more ≤ free = sub_le more free (IsGrowing-more region more g is).inside in
+      omega arith

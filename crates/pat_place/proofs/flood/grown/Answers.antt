@@ -1,0 +1,5 @@
+use Rattle.pat_place.proofs.GrownLemmas.{grown_is}
+use Rattle.pat_place.proofs.flood.grown.Goals as goal
+
+pub returns : goal.returns
+returns c = grown_is c.args.n c.requires.low c.requires.high c.args.free c.args.right c.args.left c.args.mask c.requires.within c.requires.right c.requires.left c.requires.inside

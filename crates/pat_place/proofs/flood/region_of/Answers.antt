@@ -1,0 +1,42 @@
+use Rattle.std.proofs.Common.{◌≡◌, ◌≢◌, ◌*◌, ◌-◌, ◌^◌, ◌%◌, ◌<◌, ◌≤◌, bit_and, sym, ◌∙◌, ap, subst, arith, lit<}
+use Rattle.std.proofs.Math.Nat.{pow-le-pow_right}
+use Rattle.std.proofs.lemmas.Nat.Bits.{bit_at-zero}
+use Rattle.pat_place.specs.Masks.{IsMaskOf}
+use Rattle.pat_place.specs.Regions.{Reaches}
+use Rattle.pat_place.proofs.BitLemmas.{IsIn, in_below}
+use Rattle.pat_place.proofs.GrownLemmas.{outside_column, free_fits}
+use Rattle.pat_place.proofs.RegionLemmas.{IsGrowing-start, IsGrowing-more, IsGrowing-all, grows}
+use Rattle.pat_place.proofs.SideLemmas.{few_cells}
+use Rattle.pat_place.proofs.flood.region_of.Goals as goal
+
+pub with-region-requires : goal.with-region-requires
+with-region-requires c =
+    let inside = in_below c.args.free (c.args.side * c.args.side) c.args.cell c.requires.within c.requires.free in
+    let few = few_cells c.args.side c.get-n.ensures.low c.get-n.ensures.high in
+    omega arith
+
+pub grow-init : goal.grow-init
+grow-init c = IsGrowing-start c.get-n.result c.args.free c.args.cell c.with-region.result c.requires.free c.with-region.ensures.here (λ x ne. c.with-region.ensures.others x ne ∙ bit_at-zero x)
+
+pub grown-more-requires-clause-right : goal.grown-more-requires-clause-right
+grown-more-requires-clause-right c =
+    let fits = free_fits c.args.side c.args.free c.get-n.ensures.low c.get-n.ensures.high c.requires.within in
+    subst (λ n. IsMaskOf (bit_and c.args.free (2 ^ 32 - 1 - c.first_column.result)) (λ x. IsIn c.args.free x × (x % n ≢ 0))) (sym c.get-n.ensures.value) (
+    outside_column c.args.side 0 c.args.free c.first_column.result fits c.first_column.type_inv c.requires.within c.first_column.ensures)
+
+pub grown-more-requires-clause-left : goal.grown-more-requires-clause-left
+grown-more-requires-clause-left c =
+    let fits = free_fits c.args.side c.args.free c.get-n.ensures.low c.get-n.ensures.high c.requires.within in
+    subst (λ n. IsMaskOf (bit_and c.args.free (2 ^ 32 - 1 - c.last_column.result)) (λ x. IsIn c.args.free x × (x % n ≢ n - 1))) (sym c.get-n.ensures.value) (
+    outside_column c.args.side (c.args.side - 1) c.args.free c.last_column.result fits c.last_column.type_inv c.requires.within c.last_column.ensures)
+
+pub returns-then-more-region : goal.returns-then-more-region
+returns-then-more-region c =
+    subst (λ n. IsMaskOf c.grow.region (Reaches n (IsIn c.args.free) c.args.cell)) c.get-n.ensures.value (
+    IsGrowing-all c.get-n.result c.args.free c.args.cell c.grow.region c.grown-more.result c.grow.invariant c.grown-more.ensures c.if-more-region.true)
+
+pub grow-smaller : goal.grow-smaller
+grow-smaller c = grows c.get-n.result c.args.free c.args.cell c.grow.region c.grown-more.result c.grow.invariant c.grown-more.ensures c.if-more-region.false
+
+pub grow-preserved : goal.grow-preserved
+grow-preserved c = IsGrowing-more c.get-n.result c.args.free c.args.cell c.grow.region c.grown-more.result c.grow.invariant c.grown-more.ensures

@@ -1,0 +1,71 @@
+//! One region of cells, by steps of the whole mask.
+
+ghost use Rattle.std.specs.Prelude.{◌≡◌, ◌≢◌, ℕ, ◌-◌, ◌*◌, ◌%◌, ◌^◌, ◌<◌, ◌≤◌, ◌⊎◌};
+ghost use Rattle.std.specs.Int.{bit_at};
+ghost use Rattle.puz_board.specs.Cells.{Adjacent};
+ghost use Rattle.pat_place.specs.Masks.{IsMaskOf};
+ghost use Rattle.pat_place.specs.Regions.{Reaches};
+
+use crate::masks;
+use puz_board::Side;
+
+/// The free cells that a path of free cells reaches from one of them.
+pub(crate) fn region_of(side: Side, free: u32, cell: u8) -> u32
+    requires free { bit_at free cell ≡ 1 }
+    requires within { free < 2 ^ (side * side) }
+    ensures { IsMaskOf result (Reaches side (λ c. bit_at free c ≡ 1) cell) }
+{
+    let n = side.get();
+    let right = free & !first_column(side);
+    let left = free & !last_column(side);
+    let mut region = masks::with(0, cell);
+    'grow: loop {
+        let more = grown(n, free, right, left, region);
+        if more == region {
+            return region;
+        }
+        region = more;
+    }
+}
+
+/// The mask and the free cells adjacent to its cells. Only free cells outside the first column are entered by a
+/// step to the right, and only those outside the last one by a step to the left.
+#[inline]
+fn grown(n: u8, free: u32, right: u32, left: u32, mask: u32) -> u32
+    requires low { 2 ≤ n }
+    requires high { n ≤ 5 }
+    requires within { free < 2 ^ (n * n) }
+    requires right { IsMaskOf right (λ c. (bit_at free c ≡ 1) × (c % n ≢ 0)) }
+    requires left { IsMaskOf left (λ c. (bit_at free c ≡ 1) × (c % n ≢ n - 1)) }
+    requires inside { (c : ℕ) → bit_at mask c ≡ 1 → bit_at free c ≡ 1 }
+    ensures { IsMaskOf result (λ d. (bit_at mask d ≡ 1)
+        ⊎ ((bit_at free d ≡ 1) × (c : ℕ) × (bit_at mask c ≡ 1) × Adjacent n c d)) }
+{
+    let vertical = (mask << n | mask >> n) & free;
+    let horizontal = mask << 1 & right | mask >> 1 & left;
+    mask | vertical | horizontal
+}
+
+/// The first cell of each row.
+fn first_column(side: Side) -> u32
+    ensures { IsMaskOf result (λ c. (c < side * side) × (c % side ≡ 0)) }
+{
+    match side.get() {
+        2 => 0b01_01,
+        3 => 0b001_001_001,
+        4 => 0b0001_0001_0001_0001,
+        _ => 0b00001_00001_00001_00001_00001,
+    }
+}
+
+/// The last cell of each row.
+fn last_column(side: Side) -> u32
+    ensures { IsMaskOf result (λ c. (c < side * side) × (c % side ≡ side - 1)) }
+{
+    match side.get() {
+        2 => 0b10_10,
+        3 => 0b100_100_100,
+        4 => 0b1000_1000_1000_1000,
+        _ => 0b10000_10000_10000_10000_10000,
+    }
+}
