@@ -1,0 +1,82 @@
+-- Table files are the bytes in which no fault stands.
+use Rattle.std.proofs.Common.{◌≡◌, ℕ, ◌+◌, ◌-◌, List, length, drop, Result, Ok, Err, inl, inr, refl, sym, ◌∙◌, ap, subst, arith, length-drop}
+use Rattle.std.specs.Prelude.{IfErr, IfOk, slice_index}
+use Rattle.std.proofs.lemmas.List.{get_or-drop}
+use Rattle.pat_place.specs.Patterns.{IsPattern}
+use Rattle.tab_file.specs.Tables.{Table, entry_count}
+use Rattle.tab_file.specs.TableFiles.{IsTableFile}
+use Rattle.tab_file.specs.HeadFaults.{IsFirstFault, count_in, pattern_in, table_of_file}
+use Rattle.tab_file.specs.declared.headers.HeadFault.{HeadFault}
+use Rattle.tab_file.specs.declared.headers.HeadFault.TheVariants.{T1, T2, T4, T5, T6}
+use Rattle.tab_file.proofs.FaultLemmas.{Passes, accepted, table_in, which}
+
+module _ (t : Table) (file : List ℕ) (good : IsTableFile t file) where
+  pattern_is : pattern_in file ≡ t.pattern
+  pattern_is = λ i. record { side = good.header.side i; tiles = good.header.mask i }
+
+  table_is : table_in file ≡ t
+  table_is = λ i. record { pattern = pattern_is i; entries = good.entries i }
+
+  pub table_of_file-file : table_of_file file ≡ Ok t
+  table_of_file-file = accepted file (
+    good.header.room,
+    (
+      good.header.begins,
+      (
+        (let l = good.table.pattern.low in let e = good.header.side in omega arith, let l = good.table.pattern.high in let e = good.header.side in omega arith),
+        (
+          (pattern, good.header.size ∙ ap (λ p. length p.tiles) (sym pattern_is), good.header.spare),
+          (
+            count,
+            (
+              whole,
+              tt,
+            ),
+          ),
+        ),
+      ),
+    ),
+  ) ∙ ap Ok table_is
+    where
+      pattern : IsPattern (pattern_in file)
+      pattern = let same = sym pattern_is in subst IsPattern same good.table.pattern
+
+      count : count_in file ≡ entry_count (pattern_in file)
+      count = good.header.count ∙ ap entry_count (sym pattern_is)
+
+      whole : length file ≡ 20 + count_in file
+      whole =
+          let room = good.header.room in
+          let rest : length (drop 20 file) ≡ length file - 20 = length-drop 20 file in
+          let entries : length (drop 20 file) ≡ count_in file = ap length good.entries ∙ good.table.entries ∙ sym good.header.count in
+          omega arith
+
+-- a file that passes is one of the table in it
+IsTableFile-passes : (file : List ℕ) → Passes T1 file → Passes T2 file → Passes T4 file → Passes T5 file → Passes T6 file → IsTableFile (table_in file) file
+IsTableFile-passes file room begins pattern count whole = record {
+  table = record {
+    pattern = pattern.0;
+    entries = (let rest : length (drop 20 file) ≡ length file - 20 = length-drop 20 file in let more : length file - 20 ≡ count_in file = omega arith in rest ∙ more ∙ count);
+  };
+  header = record { room = room; begins = begins; side = refl; size = pattern.1; spare = pattern.2; mask = refl; count = count };
+  entries = refl;
+}
+
+pub IfOk-table : (file : List ℕ) (r : Result Table HeadFault) → r ≡ table_of_file file → IfOk r (λ t. IsTableFile t file)
+IfOk-table file (Err f) e = tt
+IfOk-table file (Ok t) e = elim (which file) [
+  | inl w ↦ absurd (let clash : Ok t ≡ Err w.0 = e ∙ w.1 in cc)
+  | inr w ↦ let same : table_in file ≡ t = (let both : Ok t ≡ Ok (table_in file) = e ∙ w.0 in cc) in
+      subst (λ t. IsTableFile t file) same (IsTableFile-passes file w.1.0 w.1.1.0 w.1.1.1.1.0 w.1.1.1.1.1.0 w.1.1.1.1.1.1.0)
+]
+
+pub IfErr-first : (file : List ℕ) (r : Result Table HeadFault) → r ≡ table_of_file file → IfErr r (λ f. IsFirstFault f file)
+IfErr-first file (Ok t) e = tt
+IfErr-first file (Err f) e = elim (which file) [
+  | inl w ↦ let same : w.0 ≡ f = (let both : Err f ≡ Err w.0 = e ∙ w.1 in cc) in subst (λ f. IsFirstFault f file) same w.2
+  | inr w ↦ absurd (let clash : Err f ≡ Ok (table_in file) = e ∙ w.0 in cc)
+]
+
+-- the entries stand behind the header
+pub slice_index-file : (t : Table) (file : List ℕ) → IsTableFile t file → (i : ℕ) → slice_index t.entries i ≡ slice_index file (20 + i)
+slice_index-file t file good i = ap (λ es. slice_index es i) (sym good.entries) ∙ get_or-drop 20 file i 0

@@ -1,0 +1,33 @@
+-- What is read of the bytes of a header that was written.
+use Rattle.std.proofs.Common.{◌≡◌, ℕ, ◌^◌, ◌<◌, List, [], ◌∷◌, ◌++◌, length, Ok, refl, ap, ◌∙◌, arith}
+use Rattle.byteorder.specs.Endian.{big_bytes}
+use Rattle.byteorder.specs.Numbers.{big_number-reads_back}
+use Rattle.pat_place.specs.Masks.{numbers_of}
+use Rattle.pat_place.specs.Patterns.{PatternView, IsPattern}
+use Rattle.tab_file.specs.Tables.{entry_count}
+use Rattle.tab_file.specs.TableFiles.{IsTableFile, signature}
+use Rattle.tab_file.specs.HeadFaults.{table_of_file}
+use Rattle.tab_file.proofs.FileLemmas.{table_of_file-file}
+
+-- the header with these fields
+abbrev written : ℕ → ℕ → ℕ → ℕ → List ℕ
+written side size mask count = signature ++ side ∷ size ∷ 0 ∷ [] ++ big_bytes 4 mask ++ big_bytes 8 count
+
+module _ (p : PatternView) (side size mask count : ℕ) (good : IsPattern p) (is_side : side ≡ p.side) (is_size : size ≡ length p.tiles) (is_mask : numbers_of mask ≡ p.tiles) (mask_fits : mask < 2 ^ 32) (is_count : count ≡ entry_count p) (count_fits : count < 2 ^ 64) (entries : List ℕ) (all : length entries ≡ entry_count p) where
+  pub IsTableFile-written : IsTableFile (record { pattern = p; entries = entries }) (written side size mask count ++ entries)
+  IsTableFile-written = record {
+    table = record { pattern = good; entries = all };
+    header = record {
+      room = omega arith;
+      begins = refl;
+      side = is_side;
+      size = is_size;
+      spare = refl;
+      mask = ap numbers_of (big_number-reads_back 4 mask (big_bytes 8 count ++ entries) mask_fits) ∙ is_mask;
+      count = big_number-reads_back 8 count entries count_fits ∙ is_count;
+    };
+    entries = refl;
+  }
+
+  pub table_of_file-written : table_of_file (written side size mask count ++ entries) ≡ Ok (record { pattern = p; entries = entries })
+  table_of_file-written = table_of_file-file (record { pattern = p; entries = entries }) (written side size mask count ++ entries) IsTableFile-written

@@ -1,0 +1,4 @@
+pub mod Tables
+pub mod TableFiles
+pub mod HeadFaults
+pub mod StoredTables

@@ -1,0 +1,11 @@
+-- How a view of a table is stored: with the number of slots beside the pattern.
+use Rattle.std.specs.Prelude.{◌≡◌}
+use Rattle.tab_file.specs.declared.views.TableView.TheInside.{Inside}
+use Rattle.tab_file.specs.Tables.{Table, IsTable, slot_count}
+
+abbrev pub table_shown : Inside → Table
+table_shown v = record { pattern = v.pattern; entries = v.entries.now }
+
+pub record IsStoredTable (v : Inside) : Type 0 where
+  pub table : IsTable (table_shown v)
+  pub width : v.width ≡ slot_count v.pattern

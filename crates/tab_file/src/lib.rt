@@ -1,0 +1,11 @@
+//! Table files of pattern databases: a header that names the pattern, and the entries behind it.
+#![tactic(auto)]
+
+mod headers;
+mod views;
+
+pub use headers::{HeadFault, header_of};
+pub use views::{TableView, view};
+
+#[cfg(test)]
+mod tests;
