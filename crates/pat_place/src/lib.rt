@@ -9,6 +9,8 @@ mod patterns;
 mod placements;
 mod ranks;
 mod slots;
+#[cfg(test)]
+mod tests;
 
 pub use patterns::Pattern;
 pub use placements::Placement;

@@ -1,0 +1,246 @@
+use crate::{Pattern, Placement, masks, next, rank, regions, slot_of, unrank};
+use puz_board::{Board, Side};
+use std::process::Abort;
+
+/// The pattern of a side and a mask, where they are one.
+fn pattern_of(n: u8, mask: u32) -> Option<Pattern> {
+    Pattern::of_mask(Side::of(n)?, mask)
+}
+
+/// The placement on a board of a pattern's side.
+fn on_board(rt: &impl Abort, pattern: &Pattern, numbers: &[u8]) -> Placement {
+    let board = Board::from_cells(numbers).expect(rt, "a board");
+    assert!(rt; board.side() == pattern.side());
+    Placement::of_board(pattern, &board)
+}
+
+/// The placement of a rank, which is below the count.
+fn of_rank(rt: &impl Abort, pattern: &Pattern, rank: u64) -> Placement {
+    assert!(rt; rank < pattern.count());
+    unrank(pattern, rank)
+}
+
+/// The slot of a cell, where the cell is free.
+fn slot_at(placement: &Placement, cell: u8) -> Option<u8> {
+    if cell >= placement.pattern().side().cells() || masks::has(placement.occupied(), cell) {
+        return None;
+    }
+    Some(slot_of(placement, cell))
+}
+
+/// The placement with one tile moved, where there is such a tile and the cell is free.
+fn moved_to(placement: &Placement, index: usize, cell: u8) -> Option<Placement> {
+    if index >= placement.cells().len()
+        || cell >= placement.pattern().side().cells()
+        || masks::has(placement.occupied(), cell)
+    {
+        return None;
+    }
+    Some(placement.moved(index, cell))
+}
+
+/// The regions are apart and together the free cells, in the order of their least cells, and slots count them.
+fn check_regions(rt: &impl Abort, placement: &Placement) {
+    let cells = placement.pattern().side().cells();
+    let regions = regions(placement);
+    assert!(rt; regions.len() <= placement.pattern().width() as usize);
+    let mut covered = placement.occupied();
+    let mut least = None;
+    for (slot, region) in regions.as_slice().iter().enumerate() {
+        assert_eq!(rt; covered & *region, 0);
+        assert!(rt; *region != 0 && least < Some(region.trailing_zeros()));
+        covered |= *region;
+        least = Some(region.trailing_zeros());
+        for cell in 0..cells {
+            if *region >> cell & 1 == 1 {
+                assert_eq!(rt; slot_at(placement, cell).map(usize::from), Some(slot));
+            }
+        }
+    }
+    assert_eq!(rt; covered, masks::all_below(cells));
+}
+
+#[test]
+fn patterns_are_the_masks_within_the_limits(rt: HostRuntime) {
+    let masks = [
+        (5, 126, Some((6, 7, 127_512_000))),
+        (5, 254, None),
+        (5, 1 << 24, Some((1, 2, 25))),
+        (5, 1 << 25, None),
+        (4, 510, Some((8, 8, 518_918_400))),
+        (4, 1022, None),
+        (4, 1 << 16, None),
+        (3, 510, Some((8, 1, 362_880))),
+        (3, 14, Some((3, 4, 504))),
+        (3, 1022, None),
+        (3, 512, None),
+        (2, 14, Some((3, 1, 24))),
+        (2, 6, Some((2, 2, 12))),
+        (2, 2, Some((1, 2, 4))),
+        (2, 0, None),
+        (2, 15, None),
+        (2, 18, None),
+    ];
+    for (n, mask, want) in masks {
+        let Some(pattern) = pattern_of(n, mask) else {
+            assert_eq!(rt; want, None, "side {n}, mask {mask}");
+            continue;
+        };
+        let numbers = (pattern.size(), pattern.width(), pattern.count());
+        assert_eq!(rt; Some(numbers), want, "side {n}, mask {mask}");
+        assert_eq!(rt; (pattern.side().get(), pattern.mask()), (n, mask));
+    }
+}
+
+#[test]
+fn tiles_ascend(rt: HostRuntime) {
+    let pattern = pattern_of(5, 1 << 3 | 1 << 1 | 1 << 24).expect(&rt, "a pattern");
+    assert_eq!(rt; pattern.tiles().as_slice(), [1, 3, 24].as_slice());
+}
+
+#[test]
+fn placements_are_the_cells_of_tiles(rt: HostRuntime) {
+    let pattern = pattern_of(3, 14).expect(&rt, "a pattern");
+    let goal = Placement::goal(&pattern);
+    assert_eq!(rt; goal.cells().as_slice(), [1, 2, 3].as_slice());
+    let placement = on_board(&rt, &pattern, &[0, 4, 5, 6, 7, 8, 3, 2, 1]);
+    assert_eq!(rt; placement.cells().as_slice(), [8, 7, 6].as_slice());
+    assert_eq!(rt; placement.occupied(), 0b111_000_000);
+    let moved = moved_to(&placement, 1, 4).expect(&rt, "a free cell");
+    assert_eq!(rt; moved.cells().as_slice(), [8, 4, 6].as_slice());
+    assert!(rt; moved_to(&placement, 1, 6).is_none());
+    assert_eq!(rt;
+        on_board(&rt, &pattern, &[0, 1, 2, 3, 4, 5, 6, 7, 8])
+            .cells()
+            .as_slice(),
+        goal.cells().as_slice()
+    );
+}
+
+#[test]
+fn ranks_are_places_in_lexicographic_order(rt: HostRuntime) {
+    let three = pattern_of(3, 14).expect(&rt, "a pattern");
+    assert_eq!(rt;
+        rank(&on_board(&rt, &three, &[0, 1, 2, 3, 4, 5, 6, 7, 8])),
+        64
+    );
+    assert_eq!(rt;
+        rank(&on_board(&rt, &three, &[0, 4, 5, 6, 7, 8, 3, 2, 1])),
+        503
+    );
+    assert_eq!(rt;
+        of_rank(&rt, &three, 64).cells().as_slice(),
+        [1, 2, 3].as_slice()
+    );
+    assert_eq!(rt;
+        of_rank(&rt, &three, 503).cells().as_slice(),
+        [8, 7, 6].as_slice()
+    );
+
+    let two = pattern_of(2, 6).expect(&rt, "a pattern");
+    let lists = [
+        [0, 1],
+        [0, 2],
+        [0, 3],
+        [1, 0],
+        [1, 2],
+        [1, 3],
+        [2, 0],
+        [2, 1],
+        [2, 3],
+        [3, 0],
+        [3, 1],
+        [3, 2],
+    ];
+    for (r, cells) in lists.iter().enumerate() {
+        let placement = of_rank(&rt, &two, r as u64);
+        assert_eq!(rt; placement.cells().as_slice(), cells.as_slice());
+        assert_eq!(rt; rank(&placement), r as u64);
+    }
+}
+
+#[test]
+fn next_goes_on_and_stays_at_the_last(rt: HostRuntime) {
+    let pattern = pattern_of(3, 14).expect(&rt, "a pattern");
+    let mut last = on_board(&rt, &pattern, &[0, 4, 5, 6, 7, 8, 3, 2, 1]);
+    assert!(rt; !next(&mut last));
+    assert_eq!(rt; last.cells().as_slice(), [8, 7, 6].as_slice());
+
+    let mut placement = on_board(&rt, &pattern, &[1, 0, 4, 5, 6, 7, 8, 3, 2]);
+    assert_eq!(rt; rank(&placement), 55);
+    assert!(rt; next(&mut placement));
+    assert_eq!(rt; placement.cells().as_slice(), [1, 0, 2].as_slice());
+    assert_eq!(rt; rank(&placement), 56);
+}
+
+#[test]
+fn next_walks_all_placements_of_three_tiles(rt: HostRuntime) {
+    let pattern = pattern_of(3, 14).expect(&rt, "a pattern");
+    let mut placement = of_rank(&rt, &pattern, 0);
+    for r in 0..504 {
+        assert_eq!(rt; rank(&placement), r);
+        assert_eq!(rt;
+            of_rank(&rt, &pattern, r).cells().as_slice(),
+            placement.cells().as_slice()
+        );
+        check_regions(&rt, &placement);
+        assert_eq!(rt; next(&mut placement), r < 503);
+    }
+}
+
+#[test]
+fn every_placement_of_side_two(rt: HostRuntime) {
+    for mask in [2, 4, 6, 8, 10, 12, 14] {
+        let pattern = pattern_of(2, mask).expect(&rt, "a pattern");
+        for r in 0..pattern.count() {
+            let placement = of_rank(&rt, &pattern, r);
+            assert_eq!(rt; rank(&placement), r);
+            check_regions(&rt, &placement);
+            // Cells in opposite corners alone part the others.
+            let parted = placement.occupied() == 0b1001 || placement.occupied() == 0b0110;
+            assert_eq!(rt; regions(&placement).len(), if parted { 2 } else { 1 });
+        }
+    }
+}
+
+#[test]
+fn spread_ranks_of_six_tiles_go_there_and_back(rt: HostRuntime) {
+    let pattern = pattern_of(5, 126).expect(&rt, "a pattern");
+    for i in 0..3_000 {
+        let placement = of_rank(&rt, &pattern, i * 42_504);
+        assert_eq!(rt; rank(&placement), i * 42_504);
+        check_regions(&rt, &placement);
+    }
+    let last = of_rank(&rt, &pattern, 127_511_999);
+    assert_eq!(rt;
+        last.cells().as_slice(),
+        [24, 23, 22, 21, 20, 19].as_slice()
+    );
+    assert_eq!(rt; rank(&last), 127_511_999);
+}
+
+#[test]
+fn regions_are_masks_by_least_cell(rt: HostRuntime) {
+    let three = pattern_of(3, 14).expect(&rt, "a pattern");
+    let placement = on_board(&rt, &three, &[0, 1, 4, 2, 3, 5, 6, 7, 8]);
+    assert_eq!(rt; placement.cells().as_slice(), [1, 3, 4].as_slice());
+    assert_eq!(rt; regions(&placement).as_slice(), [1, 484].as_slice());
+
+    let four = pattern_of(3, 30).expect(&rt, "a pattern");
+    let placement = on_board(&rt, &four, &[0, 1, 5, 2, 6, 3, 7, 4, 8]);
+    assert_eq!(rt; placement.cells().as_slice(), [1, 3, 5, 7].as_slice());
+    assert_eq!(rt;
+        regions(&placement).as_slice(),
+        [1, 4, 16, 64, 256].as_slice()
+    );
+    assert_eq!(rt; four.width(), 5);
+}
+
+#[test]
+fn slots_are_regions_by_least_cell(rt: HostRuntime) {
+    let pattern = pattern_of(2, 6).expect(&rt, "a pattern");
+    let placement = on_board(&rt, &pattern, &[1, 0, 3, 2]);
+    assert_eq!(rt; placement.cells().as_slice(), [0, 3].as_slice());
+    let slots = [0, 1, 2, 3, 4].map(|cell| slot_at(&placement, cell));
+    assert_eq!(rt; slots, [None, Some(0), Some(1), None, None]);
+}
