@@ -1,9 +1,10 @@
 -- Each placement and free cell has one entry, and the entries give values: a count is itself, 254 and 255 are none.
-use Rattle.std.proofs.Common.{◌≡◌, ℕ, ◌+◌, ◌*◌, ◌<◌, ◌≤◌, cond, ltb, ◌⊎◌, List, [], ◌∷◌, length, Option, Some, None, inl, inr, refl, sym, ◌∙◌, ap, subst, arith, lt-ltb, le-ltb}
+use Rattle.std.proofs.Common.{◌≡◌, ℕ, ◌+◌, ◌*◌, ◌<◌, ◌≤◌, cond, ltb, ◌⊎◌, List, [], ◌∷◌, length, Option, Some, None, get_or, set, inl, inr, refl, sym, ◌∙◌, ap, subst, arith, lt-ltb, le-ltb}
 use Rattle.std.specs.Prelude.{slice_index}
 use Rattle.std.specs.List.{AllByRecursion}
 use Rattle.std.proofs.lemmas.Bool.{cases_eq, cases_lt, cases_Bool, both_ways, cond-true, cond-false}
 use Rattle.puz_board.specs.Boards.{blank}
+use Rattle.puz_board.specs.Cells.{Adjacent}
 use Rattle.puz_board.proofs.BoardWays.{State}
 use Rattle.pat_place.specs.BoardLaws.{HasBoard}
 use Rattle.pat_place.specs.Patterns.{PatternView, IsPattern, has, width}
@@ -14,10 +15,11 @@ use Rattle.pat_place.proofs.JoinLemmas.{Decided, Joins-free, free_decided}
 use Rattle.pat_place.proofs.RankLemmas.{IsRank-one, IsRank-some}
 use Rattle.pat_place.proofs.SlotLemmas.{least_below, region_slot, slot_one, slot_region, slot_some}
 use Rattle.pat_place.proofs.WidthLemmas.{slot_within}
-use Rattle.tab_check.specs.Entries.{IsNumberOf, HasNoRegion, HasRegion, width_of}
-use Rattle.tab_check.specs.LocalRule.{IsEntryAt, IsNeighbour}
+use Rattle.tab_file.specs.Tables.{slot_count}
+use Rattle.tab_check.specs.Entries.{HasNoRegion, HasRegion, IsEntryAt, IsNumberOf}
+use Rattle.tab_check.specs.LocalRule.{IsNearEntry, MayMove}
 use Rattle.tab_check.proofs.NearLemmas.{IsFree-in, IsPlaced-in, one_from_near}
-use Rattle.tab_check.proofs.Values.{IsConstant, IsNear, IsPlaced}
+use Rattle.tab_check.proofs.Values.{IsConstant, IsNear, IsPlaced, table}
 
 -- ---- bytes and values
 
@@ -64,7 +66,7 @@ placed_decided p cells = elim (cases_eq (length cells) (length p.tiles)) [
 module _ (p : PatternView) (pat : IsPattern p) where
   -- ---- slots
 
-  slot_in : (cells : List ℕ) (c j : ℕ) → IsPlaced p cells → IsSlot p.side cells c j → j < width_of p
+  slot_in : (cells : List ℕ) (c j : ℕ) → IsPlaced p cells → IsSlot p.side cells c j → j < slot_count p
   slot_in cells c j place is = subst (λ k. j < width p.side k) place.size (slot_within p.side pat.low pat.high cells c j place.inside place.apart is)
 
   cell_decided : (cells : List ℕ) (j c : ℕ) → Decided (IsFree p.side cells c × IsSlot p.side cells c j)
@@ -85,29 +87,34 @@ module _ (p : PatternView) (pat : IsPattern p) where
     | inr none ↦ inr (λ c free is. none c free.0 (free, is))
   ]
 
-  -- ---- neighbours of a slot are those of each cell of its region
+  -- ---- the moves of a slot are those of each cell of its region
 
-  pub near_from_neighbour : (cells : List ℕ) (c j : ℕ) (q : List ℕ) (t : ℕ) → IsSlot p.side cells c j → IsNeighbour p.side cells j q t → IsNear p.side cells c q t
-  near_from_neighbour cells c j q t is near = record {
-    to = near.to;
-    joined = slot_region p.side pat.low pat.high cells c near.to j near.free is near.in_slot;
-    index = near.index;
-    is_index = near.is_index;
-    tile_cell = near.tile_cell;
-    adjacent = near.adjacent;
-    moves = near.moves;
+  pub near_from_move : (cells : List ℕ) (c j index to : ℕ) → IsSlot p.side cells c j → MayMove p.side cells j index to → IsNear p.side cells c (set cells index to) (get_or cells index 0)
+  near_from_move cells c j index to is move = record {
+    to = to;
+    joined = slot_region p.side pat.low pat.high cells c to j move.free is move.in_slot;
+    index = index;
+    is_index = move.is_index;
+    tile_cell = refl;
+    adjacent = move.adjacent;
+    moves = refl;
   }
 
-  pub neighbour_from_near : (cells : List ℕ) (c j : ℕ) (q : List ℕ) (t : ℕ) → IsFree p.side cells c → IsSlot p.side cells c j → IsNear p.side cells c q t → IsNeighbour p.side cells j q t
-  neighbour_from_near cells c j q t free is near = record {
-    to = near.to;
+  pub move_from_near : (cells : List ℕ) (c j : ℕ) (q : List ℕ) (t : ℕ) → IsFree p.side cells c → IsSlot p.side cells c j → (near : IsNear p.side cells c q t) → MayMove p.side cells j near.index near.to
+  move_from_near cells c j q t free is near = record {
     free = Joins-free p.side cells free near.joined;
     in_slot = region_slot p.side pat.low pat.high cells c near.to j free near.joined is;
-    index = near.index;
     is_index = near.is_index;
-    tile_cell = near.tile_cell;
-    adjacent = near.adjacent;
-    moves = near.moves;
+    adjacent = subst (λ x. Adjacent p.side near.to x) (sym near.tile_cell) near.adjacent;
+  }
+
+  pub near_entry : (entries cells : List ℕ) (c j : ℕ) (q : List ℕ) (t x : ℕ) → IsFree p.side cells c → IsSlot p.side cells c j → IsNear p.side cells c q t → IsEntryAt (table p entries) q t x
+      → IsNearEntry (table p entries) cells j x
+  near_entry entries cells c j q t x free is near at_q = record {
+    index = near.index;
+    to = near.to;
+    moves = move_from_near cells c j q t free is near;
+    entry = subst (λ r. IsEntryAt (table p entries) r (get_or cells near.index 0) x) near.moves (subst (λ d. IsEntryAt (table p entries) q d x) (sym near.tile_cell) at_q);
   }
 
   -- a neighbour is a placement, and the cell of its blank is free
@@ -121,21 +128,21 @@ module _ (p : PatternView) (pat : IsPattern p) where
   -- ---- entries
 
   pub number_one : (cells : List ℕ) (j a b : ℕ) → IsNumberOf p cells j a → IsNumberOf p cells j b → a ≡ b
-  number_one cells j a b is also = is.counted ∙ ap (λ r. r * width_of p + j) (IsRank-one p.side cells is.rank also.rank is.is_rank also.is_rank) ∙ sym also.counted
+  number_one cells j a b is also = is.counted ∙ ap (λ r. r * slot_count p + j) (IsRank-one p.side cells is.rank also.rank is.is_rank also.is_rank) ∙ sym also.counted
 
   pub number_some : (cells : List ℕ) (c j : ℕ) → IsPlaced p cells → IsSlot p.side cells c j → (number : ℕ) × IsNumberOf p cells j number
   number_some cells c j place is =
       let r = IsRank-some p.side cells place.inside place.apart in
-      (r.0 * width_of p + j, record { placement = place; rank = r.0; is_rank = r.1; slot = slot_in cells c j place is; counted = refl })
+      (r.0 * slot_count p + j, record { placement = place; rank = r.0; is_rank = r.1; slot = slot_in cells c j place is; counted = refl })
 
   module _ (entries : List ℕ) where
-    pub entry_total : (cells : List ℕ) (c : ℕ) → IsPlaced p cells → IsFree p.side cells c → (e : ℕ) × IsEntryAt p entries cells c e
+    pub entry_total : (cells : List ℕ) (c : ℕ) → IsPlaced p cells → IsFree p.side cells c → (e : ℕ) × IsEntryAt (table p entries) cells c e
     entry_total cells c place free =
         let j = slot_some p.side pat.low pat.high cells c free in
         let k = number_some cells c j.0 place j.1 in
         (slice_index entries k.0, record { slot = j.0; is_slot = j.1; number = k.0; is_number = k.1; holds = refl })
 
-    pub entry_one : (cells : List ℕ) (c e f : ℕ) → IsFree p.side cells c → IsEntryAt p entries cells c e → IsEntryAt p entries cells c f → e ≡ f
+    pub entry_one : (cells : List ℕ) (c e f : ℕ) → IsFree p.side cells c → IsEntryAt (table p entries) cells c e → IsEntryAt (table p entries) cells c f → e ≡ f
     entry_one cells c e f free is also =
         let same : is.slot ≡ also.slot = slot_one p.side pat.low pat.high cells c is.slot also.slot free is.is_slot also.is_slot in
         sym is.holds ∙
@@ -149,7 +156,7 @@ module _ (p : PatternView) (pat : IsPattern p) where
     valued cells c (inl place) (inr none) = None
     valued cells c (inr none) f = None
 
-    valued-is : (cells : List ℕ) (c e : ℕ) (a : Decided (IsPlaced p cells)) (f : Decided (IsFree p.side cells c)) → IsPlaced p cells → IsFree p.side cells c → IsEntryAt p entries cells c e
+    valued-is : (cells : List ℕ) (c e : ℕ) (a : Decided (IsPlaced p cells)) (f : Decided (IsFree p.side cells c)) → IsPlaced p cells → IsFree p.side cells c → IsEntryAt (table p entries) cells c e
         → valued cells c a f ≡ decode e
     unfolding valued
     valued-is cells c e (inl place) (inl free) pl fr is = ap decode (entry_one cells c (entry_total cells c place free).0 e free (entry_total cells c place free).1 is)
@@ -159,7 +166,7 @@ module _ (p : PatternView) (pat : IsPattern p) where
     pub value : List ℕ → ℕ → Option ℕ
     value cells c = valued cells c (placed_decided p cells) (free_decided p.side cells c)
 
-    pub value-is : (cells : List ℕ) (c e : ℕ) → IsPlaced p cells → IsFree p.side cells c → IsEntryAt p entries cells c e → value cells c ≡ decode e
+    pub value-is : (cells : List ℕ) (c e : ℕ) → IsPlaced p cells → IsFree p.side cells c → IsEntryAt (table p entries) cells c e → value cells c ≡ decode e
     unfolding value
     value-is cells c e place free is = valued-is cells c e (placed_decided p cells) (free_decided p.side cells c) place free is
 
@@ -167,7 +174,7 @@ module _ (p : PatternView) (pat : IsPattern p) where
     pub value-constant : IsConstant p value
     value-constant cells c d place free_c free_d adj =
         let e = entry_total cells c place free_c in
-        let at_d : IsEntryAt p entries cells d e.0 = record {
+        let at_d : IsEntryAt (table p entries) cells d e.0 = record {
           slot = e.1.slot;
           is_slot = region_slot p.side pat.low pat.high cells c d e.1.slot free_c (onward adj free_d here) e.1.is_slot;
           number = e.1.number;

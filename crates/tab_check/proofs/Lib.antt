@@ -1,6 +1,11 @@
+pub mod BlockLemmas
 pub mod EntryLemmas
 pub mod ExactLemmas
+pub mod MoveLemmas
 pub mod NearLemmas
+pub mod OneEntryLemmas
 pub mod RuleLemmas
+pub mod TableLemmas
+pub mod TowardsLemmas
 pub mod ValueLemmas
 pub mod Values

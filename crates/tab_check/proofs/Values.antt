@@ -6,6 +6,7 @@ use Rattle.puz_board.specs.Costs.{IsLeastCost, IsNeverHome}
 use Rattle.pat_place.specs.Patterns.{PatternView}
 use Rattle.pat_place.specs.Placements.{IsFree, IsPlacement, placement_of}
 use Rattle.pat_place.specs.Regions.{Joins}
+use Rattle.tab_file.specs.Tables.{Table}
 
 -- one tile of the pattern is moved into the region of c, and the blank takes its cell t
 pub record IsNear (n : ℕ) (cells : List ℕ) (c : ℕ) (moved : List ℕ) (t : ℕ) : Type 0 where
@@ -16,6 +17,9 @@ pub record IsNear (n : ℕ) (cells : List ℕ) (c : ℕ) (moved : List ℕ) (t :
   pub tile_cell : get_or cells index 0 ≡ t
   pub adjacent : Adjacent n to t
   pub moves : moved ≡ set cells index to
+
+abbrev pub table : PatternView → List ℕ → Table
+table p entries = record { pattern = p; entries = entries }
 
 abbrev pub IsPlaced : PatternView → List ℕ → Type 0
 IsPlaced p cells = IsPlacement (record { pattern = p; cells = cells })
