@@ -1,6 +1,7 @@
 pub mod BlockLemmas
 pub mod EntryLemmas
 pub mod ExactLemmas
+pub mod LookLemmas
 pub mod MoveLemmas
 pub mod NearLemmas
 pub mod OneEntryLemmas

@@ -2,6 +2,7 @@
 #![tactic(auto)]
 
 mod blocks;
+mod census;
 pub mod laws;
 mod masks;
 mod neighbours;
@@ -9,4 +10,5 @@ mod rule;
 mod tables;
 
 pub use blocks::check_block;
-pub use tables::{CheckedTable, TableFault, check_table};
+pub use census::Census;
+pub use tables::{CheckedTable, Count, TableFault, check_table};

@@ -17,10 +17,10 @@ use tab_file::TableView;
 const NO_REGION: u8 = 254;
 
 /// The entry from which no walk leads home.
-const NEVER: u8 = 255;
+pub(crate) const NEVER: u8 = 255;
 
 /// The greatest count of an entry.
-const MOST: u8 = 253;
+pub(crate) const MOST: u8 = 253;
 
 /// The first slot of a placement whose entry breaks the local rule. Its rank is given, and that of the goal.
 pub(crate) fn first_bad_slot(

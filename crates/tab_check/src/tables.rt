@@ -1,17 +1,23 @@
 //! Tables that are checked whole.
 
-ghost use Rattle.std.specs.Prelude.{◌≡◌, ℕ, Err, IfErr, IfOk, MatchOption, Ok};
+ghost use Rattle.std.specs.Prelude.{◌≡◌, ◌==◌, if◌then◌else◌, ℕ, Err, IfErr, IfOk, MatchOption, Ok};
+ghost use Rattle.puz_board.specs.Boards.{side_of};
 ghost use Rattle.tab_file.specs.HeadFaults.{table_of_file};
 ghost use Rattle.tab_file.specs.TableFiles.{IsTableFile};
 ghost use Rattle.tab_file.specs.Tables.{IsTable, Table};
 ghost use Rattle.tab_check.specs.BadEntries.{AllKeepRule, IsLeastBad};
+ghost use Rattle.tab_check.specs.Counts.{IsCensusOf, IsCountOf};
 ghost use Rattle.tab_check.specs.ExactTables.{IsExactFile};
 ghost use Rattle.tab_check.specs.TableFaults.{IsFaultOf};
 ghost use Rattle.tab_file.specs.declared.headers.HeadFault.{HeadFault};
 ghost use Rattle.tab_check.specs.declared.tables.TableFault.TheVariants.{Head, T7};
+ghost use Rattle.tab_check.specs.declared.tables.Count.TheVariants.{Finite, Never};
 
 use crate::blocks::{block_count, check_block};
-use pat_place::Pattern;
+use crate::census::{Census, census_of};
+use crate::rule::NEVER;
+use pat_place::{Pattern, Placement, rank, slot_of};
+use puz_board::Board;
 use std::marker::Model;
 use tab_file::{HeadFault, TableView, view};
 
@@ -22,6 +28,15 @@ pub enum TableFault {
     Head(HeadFault),
     /// The entry with this number is the least that breaks the local rule.
     T7(u64),
+}
+
+/// What a table tells of a board.
+#[derive(Clone, Copy, Debug, PartialEq, Eq)]
+pub enum Count {
+    /// The least number of moves of the pattern's tiles that bring them home.
+    Finite(u16),
+    /// No walk leads home.
+    Never,
 }
 
 /// A table that was checked: each entry is the least number of moves of the pattern's tiles that bring them home, or
@@ -82,5 +97,34 @@ impl<'a> CheckedTable<'a> {
         ensures table { IsTable self.now }
     {
         self.view.pattern()
+    }
+
+    /// The least number of moves of the pattern's tiles on this board that bring them home.
+    pub fn look(&self, board: &Board) -> Count
+        requires { side_of board.now ≡ self.now.pattern.side }
+        ensures { IsCountOf self.now.pattern.tiles board.now result }
+    {
+        let _side = board.side();
+        let placement = Placement::of_board(&self.view.pattern(), board);
+        let slot = slot_of(&placement, board.blank());
+        count_of(self.view.entry(rank(&placement), slot))
+    }
+
+    /// How many entries there are, how many of them say that no walk leads home, and the greatest count.
+    pub fn census(&self) -> Census
+        ensures { IsCensusOf self.now.entries result }
+    {
+        census_of(self.view.entries())
+    }
+}
+
+/// What an entry of a region says.
+fn count_of(entry: u8) -> Count
+    ensures { result ≡ (if entry == 255 then Never else Finite entry) }
+{
+    if entry == NEVER {
+        Count::Never
+    } else {
+        Count::Finite(u16::from(entry))
     }
 }
