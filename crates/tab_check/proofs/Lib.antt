@@ -6,6 +6,7 @@ pub mod MoveLemmas
 pub mod NearLemmas
 pub mod OneEntryLemmas
 pub mod RuleLemmas
+pub mod StepLemmas
 pub mod TableLemmas
 pub mod TowardsLemmas
 pub mod ValueLemmas

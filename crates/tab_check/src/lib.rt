@@ -8,6 +8,8 @@ mod masks;
 mod neighbours;
 mod rule;
 mod tables;
+#[cfg(test)]
+mod tests;
 
 pub use blocks::check_block;
 pub use census::Census;
