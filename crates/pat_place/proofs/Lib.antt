@@ -9,6 +9,8 @@ pub mod RankSteps
 pub mod JoinLemmas
 pub mod SlotLemmas
 pub mod WidthLemmas
+pub mod SlideLemmas
+pub mod BoardOf
 pub mod BitLemmas
 pub mod GrownLemmas
 pub mod RegionLemmas

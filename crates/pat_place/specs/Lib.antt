@@ -1,7 +1,8 @@
+pub mod BoardLaws
+pub mod Laws
 pub mod Masks
 pub mod Patterns
 pub mod Placements
-pub mod Laws
 pub mod Ranks
 pub mod Regions
 pub mod StoredPatterns

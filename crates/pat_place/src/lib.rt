@@ -1,6 +1,7 @@
 //! Patterns of the sliding-tile puzzle, placements of their tiles, ranks, and the regions of free cells.
 #![tactic(auto)]
 
+pub mod board_laws;
 mod flood;
 pub mod laws;
 mod masks;

@@ -1,0 +1,132 @@
+-- The entries of one placement, and of one block.
+use Rattle.std.proofs.Common.{◌≡◌, ℕ, ◌+◌, ◌*◌, ◌/◌, ◌^◌, ◌<◌, ◌≤◌, eqb, List, length, Some, inl, inr, refl, sym, ◌∙◌, ap, subst, arith, lit<, eq-eqb}
+use Rattle.std.specs.Prelude.{IsTrue, ◌↔◌, slice_get, slice_index}
+use Rattle.std.proofs.lemmas.Bool.{cases_lt, eqb-true}
+use Rattle.std.proofs.Math.Nat.{mul-le-mul_left, mul-le-mul_right, pow-le-pow_right}
+use Rattle.pat_place.specs.Patterns.{PatternView, IsPattern}
+use Rattle.pat_place.specs.Placements.{PlacementView, IsPlacement}
+use Rattle.pat_place.specs.Ranks.{IsRank, placements}
+use Rattle.pat_place.proofs.ListLemmas.{Some-one}
+use Rattle.pat_place.proofs.PatternLemmas.{few_tiles}
+use Rattle.pat_place.proofs.RankLemmas.{IsRank-below, IsRank-one, count_of_placements, falling_fits}
+use Rattle.pat_place.proofs.SideLemmas.{few_cells}
+use Rattle.tab_file.specs.Tables.{Table, entry_at, placement_count, slot_count}
+use Rattle.tab_check.specs.BadEntries.{IsBad, KeepsRule}
+use Rattle.tab_check.specs.Blocks.{BlockKeepsRule, IsFirstBadSlot, IsLeastBadIn, SlotsKeepRule, first_of_block}
+use Rattle.tab_check.specs.LocalRule.{LocalRule}
+
+-- ---- placements by their ranks
+
+pub same_cells : (n : ℕ) (cells other : List ℕ) (r : ℕ) → length cells ≡ length other → IsRank n cells r → IsRank n other r → cells ≡ other
+same_cells n cells other r e is also = Some-one cells other (sym (subst (λ k. slice_get (placements n k) r ≡ Some cells) e is) ∙ also)
+
+module _ (t : Table) (p : PlacementView) (same : p.pattern ≡ t.pattern) (place : IsPlacement p) (r : ℕ) (is : IsRank t.pattern.side p.cells r) where
+  size : length p.cells ≡ length t.pattern.tiles
+  size = place.size ∙ ap (λ q. length q.tiles) same
+
+  pub rank_below : r < placement_count t.pattern
+  rank_below = subst (λ k. r < length (placements t.pattern.side k)) size (IsRank-below t.pattern.side p.cells r is)
+
+  -- the goal is known by its rank
+  pub goal_by_rank : (g : ℕ) → IsRank t.pattern.side t.pattern.tiles g → IsTrue (eqb r g) ↔ (p.cells ≡ t.pattern.tiles)
+  goal_by_rank g goal = (
+    λ h. same_cells t.pattern.side p.cells t.pattern.tiles r size is (subst (IsRank t.pattern.side t.pattern.tiles) (sym (eqb-true r g h)) goal),
+    λ e. eq-eqb r g (IsRank-one t.pattern.side t.pattern.tiles r g (subst (λ cells. IsRank t.pattern.side cells r) e is) goal),
+  )
+
+-- ---- ranks and numbers
+
+rank_low : (r j w m : ℕ) → r * w + j < m * w → r < m
+rank_low r j w m l = elim (cases_lt r m) [ inl k ↦ k | inr k ↦ absurd (let h : m * w ≤ r * w = mul-le-mul_right w k in omega arith) ]
+
+rank_high : (r j w m : ℕ) → j < w → m * w ≤ r * w + j → m ≤ r
+rank_high r j w m low l = elim (cases_lt r m) [ inr k ↦ k | inl k ↦ absurd (let h : (r + 1) * w ≤ m * w = mul-le-mul_right w (let s : r + 1 ≤ m = omega arith in s) in omega arith) ]
+
+-- there are fewer than 2 ^ 38 placements
+pub few_placements : (p : PatternView) → IsPattern p → placement_count p < 2 ^ 38
+few_placements p pat =
+    let fits = falling_fits (p.side * p.side) (length p.tiles) (few_cells p.side pat.low pat.high) in
+    let most : 25 ^ length p.tiles ≤ 25 ^ 8 = pow-le-pow_right (let k : 0 < 25 = lit< tt in k) (few_tiles p pat) in
+    let e = count_of_placements p.side (length p.tiles) in
+    omega arith
+
+pub block_fits : (p : PatternView) → IsPattern p → (block : ℕ) → block < (placement_count p + 255) / 256 → block * 256 < placement_count p
+block_fits p pat block l = omega arith
+
+pub number_fits : (p : PatternView) → IsPattern p → (r w j : ℕ) → r < placement_count p → w < 256 → j < 256 → r * w + j < 2 ^ 64
+number_fits p pat r w j l fit low =
+    let few = few_placements p pat in
+    let most : r * w ≤ r * 255 = mul-le-mul_left r (let k : w ≤ 255 = omega arith in k) in
+    omega arith
+
+module _ (t : Table) where
+  -- the entries of one placement more
+  pub keeps_more : (first place : ℕ) (cells : List ℕ) → length cells ≡ length t.pattern.tiles → IsRank t.pattern.side cells place → SlotsKeepRule t cells place (slot_count t.pattern)
+      → ((number : ℕ) → first ≤ number → number < place * slot_count t.pattern → KeepsRule t number)
+      → (number : ℕ) → first ≤ number → number < (place + 1) * slot_count t.pattern → KeepsRule t number
+  keeps_more first place cells size is keeps before number from to others j number_is = elim (cases_lt number (place * slot_count t.pattern)) [
+    | inl l ↦ before number from l others j number_is
+    | inr l ↦
+        let counted : number ≡ number_is.rank * slot_count t.pattern + j = number_is.counted in
+        let low : number_is.rank < place + 1 = rank_low number_is.rank j (slot_count t.pattern) (place + 1) (omega arith) in
+        let high : place ≤ number_is.rank = rank_high number_is.rank j (slot_count t.pattern) place number_is.slot (omega arith) in
+        let same : number_is.rank ≡ place = omega arith in
+        let one : cells ≡ others = same_cells t.pattern.side cells others place (size ∙ sym number_is.placement.size) is (subst (IsRank t.pattern.side others) same number_is.is_rank) in
+        let here : place * slot_count t.pattern + j ≡ number = ap (λ r. r * slot_count t.pattern + j) (sym same) ∙ sym counted in
+        subst (λ e. LocalRule t others j (slice_index t.entries e)) here (subst (λ q. LocalRule t q j (entry_at t place j)) one (keeps j number_is.slot))
+  ]
+
+  -- the entries of a whole block
+  pub keeps_all : (block place : ℕ) → ((r : ℕ) → r < (block + 1) * 256 → r < placement_count t.pattern → r < place)
+      → ((number : ℕ) → first_of_block t.pattern block ≤ number → number < place * slot_count t.pattern → KeepsRule t number) → BlockKeepsRule t block
+  keeps_all block place past before number inside cells j number_is =
+      let counted : number ≡ number_is.rank * slot_count t.pattern + j = number_is.counted in
+      let to : number < (block + 1) * 256 * slot_count t.pattern = inside.to in
+      let low : number_is.rank < (block + 1) * 256 = rank_low number_is.rank j (slot_count t.pattern) ((block + 1) * 256) (omega arith) in
+      let below : number_is.rank < placement_count t.pattern = subst (λ k. number_is.rank < length (placements t.pattern.side k)) number_is.placement.size (IsRank-below t.pattern.side cells number_is.rank number_is.is_rank) in
+      let r_low : number_is.rank < place = past number_is.rank low below in
+      let next : (number_is.rank + 1) * slot_count t.pattern ≤ place * slot_count t.pattern = mul-le-mul_right (slot_count t.pattern) (let s : number_is.rank + 1 ≤ place = omega arith in s) in
+      let slot : j < slot_count t.pattern = number_is.slot in
+      before number inside.from (omega arith) cells j number_is
+
+  -- the first bad slot of the first placement that has one is the least bad entry
+  pub least_bad_in : (block place slot : ℕ) (p : PlacementView) → p.pattern ≡ t.pattern → IsPlacement p → IsRank t.pattern.side p.cells place
+      → block * 256 ≤ place → place < (block + 1) * 256 → IsFirstBadSlot t p.cells place slot
+      → ((number : ℕ) → first_of_block t.pattern block ≤ number → number < place * slot_count t.pattern → KeepsRule t number)
+      → IsLeastBadIn t block (place * slot_count t.pattern + slot)
+  least_bad_in block place slot p same is is_rank from to bad before =
+      let placed : IsPlacement (record { pattern = t.pattern; cells = p.cells }) = subst (λ q. IsPlacement (record { pattern = q; cells = p.cells })) same is in
+      let low : slot < slot_count t.pattern = bad.slot_low in
+      let at_first : block * 256 * slot_count t.pattern ≤ place * slot_count t.pattern = mul-le-mul_right (slot_count t.pattern) from in
+      let at_end : (place + 1) * slot_count t.pattern ≤ (block + 1) * 256 * slot_count t.pattern = mul-le-mul_right (slot_count t.pattern) (let s : place + 1 ≤ (block + 1) * 256 = omega arith in s) in
+      record {
+        in_block = record { from = omega arith; to = omega arith };
+        bad = record {
+          cells = p.cells;
+          slot = slot;
+          is_number = record { placement = placed; rank = place; is_rank = is_rank; slot = low; counted = refl };
+          breaks = bad.breaks;
+        };
+        least = λ other inside breaks. least p.cells placed.size is_rank bad before other inside.from breaks;
+      }
+    where
+      least : (cells : List ℕ) → length cells ≡ length t.pattern.tiles → IsRank t.pattern.side cells place → IsFirstBadSlot t cells place slot
+          → ((number : ℕ) → first_of_block t.pattern block ≤ number → number < place * slot_count t.pattern → KeepsRule t number)
+          → (other : ℕ) → first_of_block t.pattern block ≤ other → IsBad t other → place * slot_count t.pattern + slot ≤ other
+      least cells size is_rank bad before other from breaks = elim (cases_lt other (place * slot_count t.pattern + slot)) [
+        | inr l ↦ l
+        | inl l ↦ elim (cases_lt other (place * slot_count t.pattern)) [
+          | inl k ↦ absurd (breaks.breaks (before other from k breaks.cells breaks.slot breaks.is_number))
+          | inr k ↦
+              let number_is = breaks.is_number in
+              let counted : other ≡ number_is.rank * slot_count t.pattern + breaks.slot = number_is.counted in
+              let low : slot < slot_count t.pattern = bad.slot_low in
+              let r_low : number_is.rank < place + 1 = rank_low number_is.rank breaks.slot (slot_count t.pattern) (place + 1) (omega arith) in
+              let r_high : place ≤ number_is.rank = rank_high number_is.rank breaks.slot (slot_count t.pattern) place number_is.slot (omega arith) in
+              let same : number_is.rank ≡ place = omega arith in
+              let one : cells ≡ breaks.cells = same_cells t.pattern.side cells breaks.cells place (size ∙ sym number_is.placement.size) is_rank (subst (IsRank t.pattern.side breaks.cells) same number_is.is_rank) in
+              let here : place * slot_count t.pattern + breaks.slot ≡ other = ap (λ r. r * slot_count t.pattern + breaks.slot) (sym same) ∙ sym counted in
+              let slot_low : breaks.slot < slot = omega arith in
+              absurd (breaks.breaks (subst (λ e. LocalRule t breaks.cells breaks.slot (slice_index t.entries e)) here (subst (λ q. LocalRule t q breaks.slot (entry_at t place breaks.slot)) one (bad.below breaks.slot slot_low))))
+        ]
+      ]

@@ -1,0 +1,13 @@
+pub mod BlockLemmas
+pub mod EntryLemmas
+pub mod ExactLemmas
+pub mod LookLemmas
+pub mod MoveLemmas
+pub mod NearLemmas
+pub mod OneEntryLemmas
+pub mod RuleLemmas
+pub mod StepLemmas
+pub mod TableLemmas
+pub mod TowardsLemmas
+pub mod ValueLemmas
+pub mod Values

@@ -1,0 +1,33 @@
+use Rattle.std.proofs.Common.{◌≡◌, ◌<◌, length, sym, ◌∙◌, ap, subst}
+use Rattle.puz_board.specs.Boards.{side_of}
+use Rattle.pat_place.specs.Patterns.{width}
+use Rattle.pat_place.specs.Placements.{IsFree, placement_of}
+use Rattle.pat_place.specs.Ranks.{IsRank}
+use Rattle.pat_place.specs.Regions.{IsSlot}
+use Rattle.tab_check.specs.Counts.{IsCountOf}
+use Rattle.tab_check.proofs.LookLemmas.{free_blank, look_says, placement_on}
+use Rattle.tab_check.proofs.tables.CheckedTable.look.Goals as goal
+
+pub slot_of-slot-requires : goal.slot_of-slot-requires
+slot_of-slot-requires c =
+    let t = c.self.inside.view in
+    let b = c.args.board.now in
+    let side : side_of b ≡ t.pattern.side = c.requires ∙ ap (λ s. s.pattern.side) (sym c.self.view_is) in
+    let on : c.of_board-placement.result ≡ placement_on b t.pattern = c.of_board-placement.ensures ∙ ap (placement_on b) c.pattern.ensures.pattern in
+    subst (λ q. IsFree q.pattern.side q.cells c.blank.result) (sym on) (
+    subst (IsFree t.pattern.side (placement_of t.pattern.tiles b)) (sym c.blank.ensures.cell) (free_blank t.pattern c.self.invariant.is_table.pattern b c.side-side.ensures.board side))
+
+pub returns : goal.returns
+returns c =
+    let t = c.self.inside.view in
+    let b = c.args.board.now in
+    let j = c.slot_of-slot.result in
+    let side : side_of b ≡ t.pattern.side = c.requires ∙ ap (λ s. s.pattern.side) (sym c.self.view_is) in
+    let on : c.of_board-placement.result ≡ placement_on b t.pattern = c.of_board-placement.ensures ∙ ap (placement_on b) c.pattern.ensures.pattern in
+    let is_rank = subst (λ q. IsRank q.pattern.side q.cells c.rank.result) on c.rank.ensures.rank in
+    let in_slot = subst (λ q. IsSlot q.pattern.side q.cells c.blank.result j) on c.slot_of-slot.ensures.slot in
+    let is_slot = subst (λ x. IsSlot t.pattern.side (placement_of t.pattern.tiles b) x j) c.blank.ensures.cell in_slot in
+    let low = subst (λ q. j < width q.pattern.side (length q.cells)) on c.slot_of-slot.ensures.below in
+    subst (λ s. IsCountOf s.pattern.tiles b c.count_of.result) c.self.view_is (
+    subst (IsCountOf t.pattern.tiles b) (sym c.count_of.ensures) (
+    look_says t c.self.invariant b c.side-side.ensures.board side c.rank.result j c.entry.result is_rank is_slot low c.entry.ensures.entry))

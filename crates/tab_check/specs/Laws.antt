@@ -1,0 +1,54 @@
+-- What holds of every table.
+use Rattle.std.specs.Prelude.{◌≡◌, ℕ, ◌≤◌, ◌↔◌, false, true, List, [], ◌∷◌}
+use Rattle.puz_board.specs.Boards.{IsBoardOf, at, blank, slid}
+use Rattle.puz_board.specs.Cells.{Adjacent}
+use Rattle.puz_board.specs.Costs.{LeadsHome, cost, is_one_of}
+use Rattle.pat_place.specs.Placements.{placement_of}
+use Rattle.pat_place.specs.Regions.{IsSlot}
+use Rattle.tab_file.specs.Tables.{Table, IsTable}
+use Rattle.tab_check.specs.BadEntries.{AllKeepRule}
+use Rattle.tab_check.specs.Entries.{IsEntryAt}
+use Rattle.tab_check.specs.ExactTables.{AreExact}
+use Rattle.tab_check.specs.LocalRule.{IsNearEntry}
+
+-- e is the entry of the board's placement and of the region of its blank
+abbrev pub IsEntryOf : Table → List ℕ → ℕ → Type 0
+IsEntryOf t b e = IsEntryAt t (placement_of t.pattern.tiles b) (blank b) e
+
+-- a step that moves no tile of the pattern costs nothing and keeps the entry
+abbrev pub OtherStepsKeepTheEntry : Type 0
+OtherStepsKeepTheEntry =
+    (t : Table) → IsTable t → (b : List ℕ) → IsBoardOf t.pattern.side b → (c : ℕ) → Adjacent t.pattern.side (blank b) c →
+    is_one_of t.pattern.tiles (at b c) ≡ false →
+    (cost t.pattern.tiles b (c ∷ []) ≡ 0) × ((e : ℕ) → IsEntryOf t b e → IsEntryOf t (slid b c) e)
+
+-- a step that moves a tile of the pattern costs one and leads to an entry one move away
+abbrev pub TileStepsLeadToANearEntry : Type 0
+TileStepsLeadToANearEntry =
+    (t : Table) → IsTable t → (b : List ℕ) → IsBoardOf t.pattern.side b → (c : ℕ) → Adjacent t.pattern.side (blank b) c →
+    is_one_of t.pattern.tiles (at b c) ≡ true →
+    (cost t.pattern.tiles b (c ∷ []) ≡ 1) ×
+    ((j e : ℕ) → IsSlot t.pattern.side (placement_of t.pattern.tiles b) (blank b) j → IsEntryOf t (slid b c) e →
+    IsNearEntry t (placement_of t.pattern.tiles b) j e)
+
+-- where each entry keeps the rule, the entry of a board is a count and no path that leads its tiles home costs less
+abbrev pub PathsCostTheEntryAtLeast : Type 0
+PathsCostTheEntryAtLeast =
+    (t : Table) → IsTable t → AllKeepRule t → (b : List ℕ) → IsBoardOf t.pattern.side b → (e : ℕ) → IsEntryOf t b e →
+    (path : List ℕ) → LeadsHome t.pattern.tiles b path → (e ≤ 253) × (e ≤ cost t.pattern.tiles b path)
+
+-- a path that leads a board's tiles home at this cost
+pub record HasPathOf (tiles b : List ℕ) (d : ℕ) : Type 0 where
+  pub path : List ℕ
+  pub leads : LeadsHome tiles b path
+  pub costs : cost tiles b path ≡ d
+
+-- where each entry keeps the rule, an entry that is a count is the cost of a path from each of its boards
+abbrev pub CountsHavePaths : Type 0
+CountsHavePaths =
+    (t : Table) → IsTable t → AllKeepRule t → (b : List ℕ) → IsBoardOf t.pattern.side b → (e : ℕ) → IsEntryOf t b e →
+    e ≤ 253 → HasPathOf t.pattern.tiles b e
+
+-- each entry keeps the local rule exactly where each entry is right
+abbrev pub FilesAreExactByRule : Type 0
+FilesAreExactByRule = (t : Table) → IsTable t → AllKeepRule t ↔ AreExact t

@@ -1,0 +1,28 @@
+//! Laws of tables. Each function here says what holds of every table, and does nothing.
+
+ghost use Rattle.tab_check.specs.Laws.{CountsHavePaths, FilesAreExactByRule, OtherStepsKeepTheEntry, PathsCostTheEntryAtLeast, TileStepsLeadToANearEntry};
+
+/// A step that moves no tile of the pattern costs nothing and keeps the entry.
+pub fn other_steps_keep_the_entry()
+    ensures { OtherStepsKeepTheEntry }
+{}
+
+/// A step that moves a tile of the pattern costs one and leads to an entry one move away.
+pub fn tile_steps_lead_to_a_near_entry()
+    ensures { TileStepsLeadToANearEntry }
+{}
+
+/// Where each entry keeps the local rule, no path home costs less than the entry of its board, which is a count.
+pub fn paths_cost_the_entry_at_least()
+    ensures { PathsCostTheEntryAtLeast }
+{}
+
+/// Where each entry keeps the local rule, a count is the cost of some path home from each of its boards.
+pub fn counts_have_paths()
+    ensures { CountsHavePaths }
+{}
+
+/// Each entry keeps the local rule exactly where each entry is right.
+pub fn files_are_exact_by_rule()
+    ensures { FilesAreExactByRule }
+{}

@@ -1,0 +1,16 @@
+//! Pattern databases: whether each entry is the least number of moves of the pattern's tiles that bring them home.
+#![tactic(auto)]
+
+mod blocks;
+mod census;
+pub mod laws;
+mod masks;
+mod neighbours;
+mod rule;
+mod tables;
+#[cfg(test)]
+mod tests;
+
+pub use blocks::check_block;
+pub use census::Census;
+pub use tables::{CheckedTable, Count, TableFault, check_table};

@@ -1,0 +1,130 @@
+//! Tables that are checked whole.
+
+ghost use Rattle.std.specs.Prelude.{◌≡◌, ◌==◌, if◌then◌else◌, ℕ, Err, IfErr, IfOk, MatchOption, Ok};
+ghost use Rattle.puz_board.specs.Boards.{side_of};
+ghost use Rattle.tab_file.specs.HeadFaults.{table_of_file};
+ghost use Rattle.tab_file.specs.TableFiles.{IsTableFile};
+ghost use Rattle.tab_file.specs.Tables.{IsTable, Table};
+ghost use Rattle.tab_check.specs.BadEntries.{AllKeepRule, IsLeastBad};
+ghost use Rattle.tab_check.specs.Counts.{IsCensusOf, IsCountOf};
+ghost use Rattle.tab_check.specs.ExactTables.{IsExactFile};
+ghost use Rattle.tab_check.specs.TableFaults.{IsFaultOf};
+ghost use Rattle.tab_file.specs.declared.headers.HeadFault.{HeadFault};
+ghost use Rattle.tab_check.specs.declared.tables.TableFault.TheVariants.{Head, T7};
+ghost use Rattle.tab_check.specs.declared.tables.Count.TheVariants.{Finite, Never};
+
+use crate::blocks::{block_count, check_block};
+use crate::census::{Census, census_of};
+use crate::rule::NEVER;
+use pat_place::{Pattern, Placement, rank, slot_of};
+use puz_board::Board;
+use std::marker::Model;
+use tab_file::{HeadFault, TableView, view};
+
+/// Why bytes are no exact table file.
+#[derive(Clone, Copy, Debug, PartialEq, Eq)]
+pub enum TableFault {
+    /// They are no table file.
+    Head(HeadFault),
+    /// The entry with this number is the least that breaks the local rule.
+    T7(u64),
+}
+
+/// What a table tells of a board.
+#[derive(Clone, Copy, Debug, PartialEq, Eq)]
+pub enum Count {
+    /// The least number of moves of the pattern's tiles that bring them home.
+    Finite(u16),
+    /// No walk leads home.
+    Never,
+}
+
+/// A table that was checked: each entry is the least number of moves of the pattern's tiles that bring them home, or
+/// says that no walk does (Korf and Felner 2002).
+#[derive(Drop)]
+pub struct CheckedTable<'a> {
+    view: TableView<'a>,
+}
+
+impl<'a> Model for CheckedTable<'a> {
+    ghost use Rattle.tab_check.specs.ExactTables.{IsExactTable};
+    ghost use Rattle.tab_file.specs.Tables.{Table};
+
+    ghost Value = { Table };
+
+    ghost view = { λ checked. checked.view };
+
+    ghost invariant = { λ checked. IsExactTable checked.view };
+}
+
+/// Checks the bytes of a table file, entry by entry.
+pub fn check_table(file: &[u8]) -> Result<CheckedTable<'_>, TableFault>
+    // A table comes exactly of an exact file, and is that file's.
+    ensures ok { IfOk result (λ table. IsExactFile table file.now) }
+    ensures exact { (table : Table) → IsExactFile table file.now → result ≡ Ok table }
+
+    // Which fault it is.
+    ensures fault { IfErr result (λ fault. IsFaultOf fault file.now) }
+    ensures head { (fault : HeadFault) → table_of_file file.now ≡ Err fault → result ≡ Err (Head fault) }
+    ensures bad { (table : Table) (number : ℕ) → IsTableFile table file.now → IsLeastBad table number → result ≡ Err (T7 number) }
+{
+    let view = match view(file) {
+        Ok(view) => view,
+        Err(fault) => return Err(TableFault::Head(fault)),
+    };
+    match least_bad(&view) {
+        Some(number) => Err(TableFault::T7(number)),
+        None => Ok(CheckedTable { view }),
+    }
+}
+
+/// The number of the least entry that breaks the local rule.
+fn least_bad(table: &TableView<'_>) -> Option<u64>
+    ensures { MatchOption result (AllKeepRule table.now) (IsLeastBad table.now) }
+{
+    for block in 0..block_count(&table.pattern()) {
+        if let Some(number) = check_block(table, block) {
+            return Some(number);
+        }
+    }
+    None
+}
+
+impl<'a> CheckedTable<'a> {
+    /// The pattern of the table.
+    pub fn pattern(&self) -> Pattern
+        ensures pattern { result ≡ self.now.pattern }
+        ensures table { IsTable self.now }
+    {
+        self.view.pattern()
+    }
+
+    /// The least number of moves of the pattern's tiles on this board that bring them home.
+    pub fn look(&self, board: &Board) -> Count
+        requires { side_of board.now ≡ self.now.pattern.side }
+        ensures { IsCountOf self.now.pattern.tiles board.now result }
+    {
+        let _side = board.side();
+        let placement = Placement::of_board(&self.view.pattern(), board);
+        let slot = slot_of(&placement, board.blank());
+        count_of(self.view.entry(rank(&placement), slot))
+    }
+
+    /// How many entries there are, how many of them say that no walk leads home, and the greatest count.
+    pub fn census(&self) -> Census
+        ensures { IsCensusOf self.now.entries result }
+    {
+        census_of(self.view.entries())
+    }
+}
+
+/// What an entry of a region says.
+fn count_of(entry: u8) -> Count
+    ensures { result ≡ (if entry == 255 then Never else Finite entry) }
+{
+    if entry == NEVER {
+        Count::Never
+    } else {
+        Count::Finite(u16::from(entry))
+    }
+}
