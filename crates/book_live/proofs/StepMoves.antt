@@ -1,0 +1,174 @@
+-- Each step of a pass is its one event: the words and the views then show the book after it.
+use Rattle.std.proofs.Common.{◌≡◌, ◌≢◌, ℕ, zero, suc, ◌+◌, ◌%◌, ◌^◌, ◌<◌, ◌≤◌, List, [], ◌∷◌, length, set, min, false, Some, refl, sym, ap, ◌∙◌, subst, inl, inr, arith, slice_get, slice_index}
+use Rattle.std.proofs.lemmas.List.{get_or-set_same, get_or-set_other, length-set, set-get_or}
+use Rattle.std.proofs.lemmas.Bool.{cases_lt}
+use Rattle.std.proofs.Math.Nat.{mod-eq_of_lt}
+use mathlib.Core.Option.{some}
+use lib.ListN.{get_elem?}
+use Rattle.atomic_table.specs.Table.{State, Allows, Act.keeps}
+use Rattle.atomic_table.proofs.Lists.{at_set, set_else}
+use Rattle.book_core.specs.declared.events.Event.TheVariants.{Claim, Report, Look}
+use Rattle.book_core.specs.declared.events.Answer.TheVariants.{Drawn, Ended, Reported, Least}
+use Rattle.book_core.specs.Passes.{Deeds, with_drawn, with_end, with_report, with_seen}
+use Rattle.book_core.specs.Books.{Book}
+use Rattle.book_core.specs.Steps.{drawn_by, ended_by, reported_by, looked_by}
+use Rattle.book_core.specs.Laws.{IsAtMost}
+use Rattle.book_core.proofs.PassLemmas.{slice_get-set_same, slice_get-set_other}
+use Rattle.book_core.proofs.StepLemmas.{step-drawn, step-ended, step-reported, step-looked}
+use Rattle.book_live.specs.declared.views.Sizes.{Sizes}
+use Rattle.book_live.specs.declared.views.Held.{Held}
+use Rattle.book_live.specs.declared.views.View.{View}
+use Rattle.book_live.specs.Views.{held, alone, changed, times_held, spent}
+use Rattle.book_live.specs.Shown.{word_of, place_of, Shows, Shown}
+use Rattle.book_live.specs.Steps.{Claimed, Looked}
+use Rattle.book_live.proofs.ViewLemmas.{sum_by-view, part-le-sum_by, held-counted, times_held-alone, once_below-le}
+use Rattle.book_live.proofs.ReachLemmas.{IsReached-step, BookLaw-reached, jobs-reached, next-le, length-drawn-le}
+use Rattle.book_live.proofs.WordLemmas.{word_of-lesser, place_of-word_of, IsAtMost-reported}
+
+abbrev next : {S : Type 0} → State S View → ℕ
+next s = slice_index s.words 0
+
+abbrev least : {S : Type 0} → State S View → ℕ
+least s = slice_index s.words 1
+
+-- ---- the seat of one pass and one word change
+
+module _ {S : Type 0} (z : Sizes) (b : Book) (s : State S View) (shows : Shows z b s) (id : ℕ) (y : Sizes) (w : ℕ) (p : Deeds) (at : get_elem? s.views id ≡ some (alone y w p)) where
+  -- no other seat stands for this pass
+  held-once : (j : ℕ) (v : View) → j ≢ id → get_elem? s.views j ≡ some v → (k : ℕ) (h : Held) → slice_get v.held k ≡ Some h → h.number ≢ w
+  held-once j v far e k h there same =
+      let count = subst (λ x. 0 < times_held x v) same (held-counted v.held k h there) in
+      let vs = set s.views id spent in
+      omega (
+        arith,
+        count,
+        part-le-sum_by (times_held w) vs j v (set_else s.views id j spent far ∙ e),
+        sum_by-view (times_held w) s.views id (alone y w p) spent at,
+        times_held-alone y w p,
+        shows.numbers w,
+        once_below-le w z.workers,
+      )
+
+  pub pass-shown : slice_get b.passes w ≡ Some p
+  pass-shown = shows.deeds id (alone y w p) at zero (held w p) refl
+
+  module _ (q : Deeds) where
+    deeds-after : (i : ℕ) (v : View) → get_elem? (set s.views id (alone y w q)) i ≡ some v → (k : ℕ) (h : Held) → slice_get v.held k ≡ Some h → slice_get (set b.passes w q) h.number ≡ Some h.deeds
+    deeds-after i v e k h there = elim (at_set s.views id i (alone y w q) v e) [
+      | inl t ↦ here (sym (ap (λ (u : View). u.held) t.1)) k there
+      | inr t ↦ slice_get-set_other b.passes w h.number q (held-once i v t.0 t.1 k h there) ∙ shows.deeds i v t.1 k h there
+    ]
+      where
+        here : v.held ≡ held w q ∷ [] → (n : ℕ) → slice_get v.held n ≡ Some h → slice_get (set b.passes w q) h.number ≡ Some h.deeds
+        here is zero e = let e' : Some (held w q) ≡ Some h = sym (ap (λ l. slice_get l 0) is) ∙ e in let same : held w q ≡ h = cc in subst (λ (x : Held). slice_get (set b.passes w q) x.number ≡ Some x.deeds) same (slice_get-set_same b.passes w p q pass-shown)
+        here is (suc n) e = let e' : slice_get (held w q ∷ []) (suc n) ≡ Some h = sym (ap (λ l. slice_get l (suc n)) is) ∙ e in cc
+
+    -- the book that is shown after the pass has come to q
+    pub Shows-after : (c : Book) (word n : ℕ) → c.passes ≡ set b.passes w q
+        → slice_index (set s.words word n) 0 ≡ c.next → slice_index (set s.words word n) 1 ≡ word_of c.least
+        → Shows z c record { words = set s.words word n; homes = s.homes; views = set s.views id (alone y w q) }
+    Shows-after c word n passes next-is least-is = record {
+      limits = shows.limits;
+      words = length-set s.words word n ∙ shows.words;
+      next = next-is;
+      least = least-is;
+      numbers = λ x. omega (arith, sum_by-view (times_held x) s.views id (alone y w p) (alone y w q) at, shows.numbers x);
+      deeds = λ i v e k h there. ap (λ l. slice_get l h.number) passes ∙ deeds-after i v e k h there;
+    }
+
+-- ---- the three events
+
+pub allows-claim : {S : Type 0} (z : Sizes) (slots id w : ℕ) (p : Deeds) (c : List (ℕ × S)) → p.ended ≡ false
+    → Allows (Shown z) slots id (alone z w p, c) 0 (λ n. (n + 1) % 2 ^ 64) (λ n u. Claimed (alone z w p) n u.0 × (u.1 ≡ c))
+allows-claim z slots id w p c going s h _ at fits =
+    let b = h.0 in
+    let shows = h.2 in
+    let n = next s in
+    let here = pass-shown z b s shows id z w p at in
+    let is : n ≡ b.next = shows.next in
+    let jobs = jobs-reached z b h.1 in
+    let small : (n + 1) % 2 ^ 64 ≡ n + 1 = mod-eq_of_lt (omega (arith, next-le z b h.1, shows.limits.0, shows.limits.1)) in
+    let few : length p.drawn ≤ n = omega (arith, length-drawn-le z b h.1 w p here) in
+    let word0 : slice_index (set s.words 0 (n + 1)) 0 ≡ n + 1 = get_or-set_same s.words 0 (n + 1) 0 (omega (arith, shows.words)) in
+    let word1 : slice_index (set s.words 0 (n + 1)) 1 ≡ least s = get_or-set_other s.words 0 1 (n + 1) 0 (λ e. absurd (omega (arith, e))) in
+    rw small (elim (cases_lt n z.jobs) [
+      | inl room ↦
+          let q = with_drawn p b.next in
+          let d = drawn_by b w p in (
+            alone z w q,
+            keeps,
+            tt,
+            (
+              d,
+              IsReached-step z b d (Claim w) (Drawn b.next) h.1 (step-drawn b w p here going (omega arith)),
+              Shows-after z b s shows id z w p at q d 0 (n + 1) refl (word0 ∙ omega arith) (word1 ∙ shows.least),
+            ),
+            (record { drawn = λ _. ap (λ k. alone z w (with_drawn p k)) (sym is); ended = λ le. absurd (omega (arith, le)); few = few }, refl),
+          )
+      | inr over ↦
+          let q = with_end p in
+          let d = ended_by b w p in (
+            alone z w q,
+            keeps,
+            tt,
+            (
+              d,
+              IsReached-step z b d (Claim w) Ended h.1 (step-ended b w p here going (omega arith)),
+              Shows-after z b s shows id z w p at q d 0 (n + 1) refl (word0 ∙ omega arith) (word1 ∙ shows.least),
+            ),
+            (record { drawn = λ lt. absurd (omega (arith, lt)); ended = λ _. refl; few = few }, refl),
+          )
+    ])
+
+pub allows-report : {S : Type 0} (z : Sizes) (slots id w place : ℕ) (p : Deeds) (c : List (ℕ × S)) → place < 2 ^ 32
+    → Allows (Shown z) slots id (alone z w p, c) 1 (λ n. min n place) (λ n u. (u.0 ≡ changed (alone z w p) (λ p. with_report p place)) × (u.1 ≡ c))
+allows-report z slots id w place p c small s h _ at fits =
+    let b = h.0 in
+    let shows = h.2 in
+    let here = pass-shown z b s shows id z w p at in
+    let q = with_report p place in
+    let d = reported_by b w place p in
+    let m = min (least s) place in
+    let word1 : slice_index (set s.words 1 m) 1 ≡ m = get_or-set_same s.words 1 m 0 (omega (arith, shows.words)) in
+    let word0 : slice_index (set s.words 1 m) 0 ≡ next s = get_or-set_other s.words 1 0 m 0 (λ e. absurd (omega (arith, e))) in (
+      alone z w q,
+      keeps,
+      tt,
+      (
+        d,
+        IsReached-step z b d (Report w place) Reported h.1 (step-reported b w p here place small),
+        Shows-after z b s shows id z w p at q d 1 m refl (word0 ∙ shows.next) (word1 ∙ ap (λ k. min k place) shows.least ∙ sym (word_of-lesser b.least place small)),
+      ),
+      (refl, refl),
+    )
+
+pub allows-look : {S : Type 0} (z : Sizes) (slots id w : ℕ) (p : Deeds) (c : List (ℕ × S))
+    → Allows (Shown z) slots id (alone z w p, c) 1 (λ n. n) (λ n u. Looked (alone z w p) n u.0 × (u.1 ≡ c))
+allows-look z slots id w p c s h _ at fits =
+    let b = h.0 in
+    let shows = h.2 in
+    let law = BookLaw-reached z b h.1 in
+    let here = pass-shown z b s shows id z w p at in
+    let q = with_seen p b.least in
+    let d = looked_by b w p in
+    let same : set s.words 1 (least s) ≡ s.words = set-get_or s.words 1 0 in
+    let word1 : slice_index (set s.words 1 (least s)) 1 ≡ least s = ap (λ ws. slice_index ws 1) same in
+    let word0 : slice_index (set s.words 1 (least s)) 0 ≡ next s = ap (λ ws. slice_index ws 0) same in
+    let told : place_of (least s) ≡ b.least = ap place_of shows.least ∙ place_of-word_of b law in (
+      alone z w q,
+      keeps,
+      tt,
+      (
+        d,
+        IsReached-step z b d (Look w) (Least b.least) h.1 (step-looked b w p here),
+        Shows-after z b s shows id z w p at q d 1 (least s) refl (word0 ∙ shows.next) (word1 ∙ shows.least),
+      ),
+      (
+        record {
+          recorded = ap (λ o. alone z w (with_seen p o)) (sym told);
+          own = λ place has. subst (λ o. IsAtMost o (Some place)) (sym told) (IsAtMost-reported b.least b.passes law.least place (w, p, here, has));
+          falls = subst (λ o. IsAtMost o p.seen) (sym told) (law.seen w p here);
+        },
+        refl,
+      ),
+    )

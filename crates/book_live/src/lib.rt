@@ -1,0 +1,10 @@
+//! The book of jobs on two atomic words: many threads draw its jobs, each once, and the least reported place is kept.
+#![tactic(auto)]
+
+mod books;
+mod passes;
+mod rules;
+mod views;
+
+pub use books::{Book, Memory};
+pub use passes::Pass;
