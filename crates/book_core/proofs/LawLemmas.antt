@@ -1,10 +1,10 @@
 -- The law of a book holds at the start, and each step keeps it.
-use Rattle.std.proofs.Common.{◌≡◌, ℕ, zero, suc, ◌+◌, ◌*◌, ◌<◌, ◌≤◌, ◌^◌, Bool, true, false, cond, eqb, ltb, ◌⊎◌, List, [], ◌∷◌, length, set, min, replicate, Option, Some, None, Ok, Err, inl, inr, refl, sym, ◌∙◌, ap, subst, arith, slice_get, length-append}
+use Rattle.std.proofs.Common.{◌≡◌, ℕ, zero, suc, ◌+◌, ◌*◌, ◌<◌, ◌≤◌, ◌^◌, Bool, true, false, cond, eqb, ltb, ◌⊎◌, List, [], ◌∷◌, length, set, min, replicate, Option, Some, None, IfSome, Ok, Err, inl, inr, refl, sym, ◌∙◌, ap, subst, arith, slice_get, length-append}
 use Rattle.std.specs.List.{sum_by, count_by, Contains}
 use Rattle.std.proofs.lemmas.Bool.{cases_eq, cases_lt, cond-false, le-ltb, ltb-true, ltb-false, true≢false}
 use Rattle.std.proofs.lemmas.Bool.Decides.{nat_tests}
 use Rattle.std.proofs.Math.Nat.{min-eq_left, min-eq_right}
-use Rattle.std.proofs.lemmas.List.Sums.{sum_by_push}
+use Rattle.std.proofs.lemmas.List.Sums.{sum_by_push, count_by-le-length}
 use Rattle.std.proofs.lemmas.List.Folds.{sum_by-replicate}
 use Rattle.std.proofs.lemmas.List.Elements.{Contains-push, Contains-push_cases, Contains-append_left}
 use Rattle.book_core.specs.declared.events.Event.{Event}
@@ -14,9 +14,11 @@ use Rattle.book_core.specs.declared.events.Answer.TheVariants.{Drawn, Ended, Rep
 use Rattle.book_core.specs.declared.events.CoreFault.TheVariants.{C2, C3}
 use Rattle.book_core.specs.Passes.{Deeds, fresh, with_drawn, with_end, with_report, with_seen}
 use Rattle.book_core.specs.Books.{Book, start}
-use Rattle.book_core.specs.Steps.{lesser, drawn_by, ended_by, reported_by, looked_by, Outcome, claims, reports, by_pass, step}
-use Rattle.book_core.specs.Laws.{times, once_below, IsReported, IsLeast, IsAtMost, BookLaw, IsAllDrawn}
-use Rattle.book_core.proofs.PassLemmas.{sum_by-changed, slice_get-set_cases, slice_get-set_same, slice_get-set_other}
+use Rattle.book_core.specs.Steps.{drawn_by, ended_by, reported_by, looked_by, Outcome, claims, reports, by_pass, step}
+use Rattle.book_core.specs.Laws.{BookLaw, IsAllDrawn}
+use Rattle.book_core.specs.Jobs.{times, once_below}
+use Rattle.book_core.specs.Places.{lesser, IsReported, IsLeast, IsAtMost}
+use Rattle.book_core.proofs.ListLemmas.{sum_by-changed, le-sum_by, slice_get-set_cases, slice_get-set_same, slice_get-set_other}
 
 -- ---- places, and none above them all
 
@@ -45,7 +47,7 @@ module _ (ps : List Deeds) (w : ℕ) (p q : Deeds) (at : slice_get ps w ≡ Some
   reported-cases : (x : ℕ) → IsReported (set ps w q) x → Contains q.reported x ⊎ IsReported ps x
   reported-cases x r = elim (slice_get-set_cases ps w r.0 q r.1 r.2) [
     | inl h ↦ inl (subst (λ (d : Deeds). Contains d.reported x) (sym h.1) r.3)
-    | inr h ↦ inr (r.0, r.1, h, r.3)
+    | inr h ↦ inr (r.0, r.1, h.1, r.3)
   ]
 
   reported-here : (x : ℕ) → Contains q.reported x → IsReported (set ps w q) x
@@ -110,13 +112,13 @@ module _ (b : Book) (law : BookLaw b) (w : ℕ) (p : Deeds) (at : slice_get b.pa
       → (v : ℕ) (r : Deeds) → slice_get (set b.passes w q) v ≡ Some r → IsAtMost least r.seen
   seen-kept q least here falls v r e = elim (slice_get-set_cases b.passes w v q r e) [
     | inl h ↦ subst (λ (d : Deeds). IsAtMost least d.seen) h.1 here
-    | inr h ↦ falls r.seen (law.seen v r h)
+    | inr h ↦ falls r.seen (law.seen v r h.1)
   ]
 
   past-kept : (q : Deeds) → q.ended ≡ p.ended → (v : ℕ) (r : Deeds) → slice_get (set b.passes w q) v ≡ Some r → r.ended ≡ true → b.jobs < b.next
   past-kept q same v r e done = elim (slice_get-set_cases b.passes w v q r e) [
     | inl h ↦ law.past w p at (sym same ∙ ap (λ (d : Deeds). d.ended) h.1 ∙ done)
-    | inr h ↦ law.past v r h done
+    | inr h ↦ law.past v r h.1 done
   ]
 
   pub BookLaw-drawn_by : p.ended ≡ false → b.next < b.jobs → BookLaw (drawn_by b w p)
@@ -244,6 +246,32 @@ BookLaw-start jobs workers = record {
 
     none : (x : ℕ) → ¬ IsReported (replicate workers fresh) x
     none x r = not-Contains-nil x (r.1).reported (ap (λ (d : Deeds). d.reported) (fresh-at workers r.0 r.1 r.2)) r.3
+
+-- ---- what the law says of the words and of one pass
+
+-- no word leaves its range
+pub BookLaw-next_le : (b : Book) → BookLaw b → b.next ≤ b.jobs + length b.passes
+BookLaw-next_le b law = omega (arith, law.drawn, law.total, count_by-le-length (λ (d : Deeds). d.ended) b.passes)
+
+pub BookLaw-least_small : (b : Book) → BookLaw b → IfSome b.least (λ place. place < 2 ^ 32)
+BookLaw-least_small b law = go b.least law.least
+  where
+    go : (o : Option ℕ) → IsLeast o b.passes → IfSome o (λ place. place < 2 ^ 32)
+    go None l = tt
+    go (Some x) l = law.small x l.0
+
+module _ (b : Book) (law : BookLaw b) (w : ℕ) (p : Deeds) (at : slice_get b.passes w ≡ Some p) where
+  -- a pass drew no more jobs than there were claims
+  pub BookLaw-drawn_le : length p.drawn ≤ b.next
+  BookLaw-drawn_le = omega (arith, le-sum_by (λ (d : Deeds). length d.drawn) b.passes w p at, law.drawn)
+
+  -- the least is above nothing that the pass has reported
+  pub BookLaw-reported : (place : ℕ) → Contains p.reported place → IsAtMost b.least (Some place)
+  BookLaw-reported place has = go b.least law.least
+    where
+      go : (o : Option ℕ) → IsLeast o b.passes → IsAtMost o (Some place)
+      go None l = absurd (l place (w, p, at, has))
+      go (Some x) l = l.1 place (w, p, at, has)
 
 -- ---- the end
 

@@ -1,4 +1,5 @@
-pub mod PassLemmas
+pub mod ListLemmas
 pub mod StepLemmas
 pub mod LawLemmas
 pub mod RunLemmas
+pub mod ShareLemmas

@@ -9,7 +9,7 @@ use Rattle.book_core.specs.declared.events.CoreFault.TheVariants.{C2, C3}
 use Rattle.book_core.specs.Passes.{Deeds, with_end}
 use Rattle.book_core.specs.Books.{Book, IsInRange}
 use Rattle.book_core.specs.Steps.{drawn_by, ended_by, reported_by, looked_by, Outcome, claims, reports, looks, by_pass, step}
-use Rattle.book_core.proofs.PassLemmas.{sum_by-changed}
+use Rattle.book_core.proofs.ListLemmas.{sum_by-changed}
 
 module _ (b : Book) (w : ℕ) (p : Deeds) (at : slice_get b.passes w ≡ Some p) where
   -- the claim of a pass that has not ended draws a job, while there is one
@@ -69,5 +69,5 @@ module _ (b : Book) (w : ℕ) (p : Deeds) (ok : IsOk (step b (Claim w))) (is : p
       record {
         jobs = range.jobs;
         passes = omega (arith, range.passes, length-set b.passes w (with_end p));
-        next = omega (arith, le, range.next, was, sum_by-changed (λ d. cond d.ended 1 0) b.passes w p (with_end p) claimant)
+        next = omega (arith, le, range.next, was, sum_by-changed (λ d. cond d.ended 1 0) b.passes w p (with_end p) claimant);
       }

@@ -1,4 +1,4 @@
--- The state of a book: its jobs, the two words that its passes share, and what each pass has done.
+-- The state of a book: how many jobs there are and were claimed, the least place, and what each pass has done.
 use Rattle.std.specs.Prelude.{◌≡◌, ℕ, ◌+◌, ◌≤◌, ◌^◌, List, length, replicate, Option, None}
 use Rattle.std.specs.List.{count_by}
 use Rattle.book_core.specs.Passes.{Deeds, fresh}
@@ -20,11 +20,11 @@ start jobs workers = record { jobs = jobs; next = 0; least = None; passes = repl
 abbrev pub SameSizes : Book → Book → Type 0
 SameSizes old new = (new.jobs ≡ old.jobs) × (length new.passes ≡ length old.passes)
 
--- how many passes were told that no job is left
+-- how many passes have ended
 abbrev pub ended_count : List Deeds → ℕ
 ended_count passes = count_by (λ p. p.ended) passes
 
--- a claim more doesn't take next out of its range
+-- next stays far below 2 ^ 64, as each claim draws a job or ends a pass
 pub record IsInRange (b : Book) : Type 0 where
   pub jobs : b.jobs ≤ 2 ^ 32
   pub passes : length b.passes ≤ 64

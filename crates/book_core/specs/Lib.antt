@@ -1,5 +1,8 @@
 pub mod Passes
+pub mod Jobs
+pub mod Places
 pub mod Books
 pub mod Steps
 pub mod Runs
 pub mod Laws
+pub mod Shares

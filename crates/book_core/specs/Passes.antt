@@ -8,7 +8,7 @@ pub record Deeds : Type 0 where
   pub reported : List ℕ
   -- the least place that its last look showed, if it showed one
   pub seen : Option ℕ
-  -- whether it was told that no job is left
+  -- whether a claim of it found no job left
   pub ended : Bool
 
 -- nothing yet

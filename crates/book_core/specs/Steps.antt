@@ -1,5 +1,5 @@
 -- One step of a book: what an event is answered, and the book after it, or why it is refused.
-use Rattle.std.specs.Prelude.{◌≡◌, ℕ, ◌+◌, ◌^◌, if◌then◌else◌, nat_lt, slice_get, slice_set, Option, Some, None, Result, Ok, Err, IsOk, min, ⊤}
+use Rattle.std.specs.Prelude.{◌≡◌, ℕ, ◌+◌, ◌^◌, if◌then◌else◌, nat_lt, slice_get, slice_set, Option, Some, None, Result, Ok, Err, IsOk, ⊤}
 use Rattle.book_core.specs.declared.events.Event.{Event}
 use Rattle.book_core.specs.declared.events.Event.TheVariants.{Claim, Report, Look}
 use Rattle.book_core.specs.declared.events.Answer.{Answer}
@@ -8,17 +8,13 @@ use Rattle.book_core.specs.declared.events.CoreFault.{CoreFault}
 use Rattle.book_core.specs.declared.events.CoreFault.TheVariants.{C1, C2, C3, Memory}
 use Rattle.book_core.specs.Passes.{Deeds, with_drawn, with_end, with_report, with_seen}
 use Rattle.book_core.specs.Books.{Book}
+use Rattle.book_core.specs.Places.{lesser}
 
 -- the number of the pass that asks
 abbrev pub pass_of : Event → ℕ
 pass_of (Claim w) = w
 pass_of (Report w place) = w
 pass_of (Look w) = w
-
--- the smaller of the least place so far and one more place
-abbrev pub lesser : Option ℕ → ℕ → ℕ
-lesser None place = place
-lesser (Some least) place = min least place
 
 -- the book after each kind of step by the pass w, which had done p
 abbrev pub drawn_by : Book → ℕ → Deeds → Book

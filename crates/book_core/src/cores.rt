@@ -1,8 +1,8 @@
-//! The machine that one thread steps.
+//! The machine: a book of jobs that one thread steps.
 
-ghost use Rattle.std.specs.Prelude.{◌≡◌, ◌<◌, ◌≤◌, ◌^◌, ◌∷◌, ◌++◌, length, slice_get, take, IfOk, IfErr, IfSome, IfNone, OnOk, OnErr, IsOk, IsOkAnd, IsErrOf, IsSomeAnd};
+ghost use Rattle.std.specs.Prelude.{◌≡◌, ◌<◌, ◌≤◌, ◌^◌, length, slice_get, take, IfOk, IfErr, IfSome, IfNone, OnOk, OnErr, IsOk, IsOkAnd, IsErrOf, IsSomeAnd};
 ghost use Rattle.book_core.specs.Books.{start, SameSizes};
-ghost use Rattle.book_core.specs.Steps.{step, lesser, IsRefusal, TakesRoom};
+ghost use Rattle.book_core.specs.Steps.{step, IsRefusal, TakesRoom};
 ghost use Rattle.book_core.specs.Runs.{going, run_from, run_on, StopsAt};
 ghost use Rattle.book_core.specs.Laws.{BookLaw};
 
@@ -11,7 +11,7 @@ use crate::passes::PassRecord;
 use std::alloc::{AllocError, Global};
 use std::marker::Model;
 
-/// Want of memory, where nothing else can go wrong.
+/// Want of memory, as a call's only error.
 pub type Memory = AllocError;
 
 /// Places are below this.
@@ -149,7 +149,7 @@ impl Core {
         self.passes[usize::from(pass)].seen()
     }
 
-    /// Whether the pass was told that no job is left.
+    /// Whether a claim of the pass found no job left.
     pub fn ended(&self, pass: u8) -> bool
         requires { pass < length self.now.passes }
         ensures { IsSomeAnd (slice_get self.now.passes pass) (λ p. result ≡ p.ended) }

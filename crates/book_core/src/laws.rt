@@ -1,10 +1,12 @@
-//! What holds after every list of events.
+//! What holds of a book after every list of events, and of its passes where they are shared out.
 
-ghost use Rattle.std.specs.Prelude.{◌≡◌, ℕ, List, length, Some, true, slice_get};
+ghost use Rattle.std.specs.Prelude.{◌≡◌, ◌≢◌, ℕ, List, [], ◌∷◌, ◌++◌, length, map, Some, true, slice_get, slice_set};
 ghost use Rattle.book_core.specs.declared.events.Event.{Event};
 ghost use Rattle.book_core.specs.Passes.{Deeds};
+ghost use Rattle.book_core.specs.Books.{Book, start};
 ghost use Rattle.book_core.specs.Runs.{after};
 ghost use Rattle.book_core.specs.Laws.{BookLaw, IsAllDrawn};
+ghost use Rattle.book_core.specs.Shares.{Held, held, IsDealt, all_fresh, first, others, IsCounted};
 
 /// The law of a book, after every list of events from its start.
 pub fn book_law()
@@ -16,4 +18,22 @@ pub fn book_law()
     // The jobs and the passes stay as many as they were.
     ensures sizes { (jobs workers : ℕ) (events : List Event) →
         ((after jobs workers events).book.jobs ≡ jobs) × (length (after jobs workers events).book.passes ≡ workers) }
+{}
+
+/// The passes of a book stay shared out, each in one share, where one of them takes a step,
+/// where a share is cut, and where two are put together.
+pub fn share_law()
+    ensures start { (jobs workers : ℕ) → IsDealt (start jobs workers) (all_fresh 0 workers ∷ []) }
+    ensures step { (b c : Book) (shares : List (List Held)) (i w : ℕ) (p q : Deeds) → IsDealt b shares →
+        slice_get shares i ≡ Some (held w p ∷ []) → c.passes ≡ slice_set b.passes w q →
+        IsDealt c (slice_set shares i (held w q ∷ [])) }
+    ensures cut { (b : Book) (shares : List (List Held)) (i : ℕ) (share : List Held) → IsDealt b shares →
+        slice_get shares i ≡ Some share → IsDealt b (slice_set shares i (others share) ++ first share ∷ []) }
+    ensures join { (b : Book) (shares : List (List Held)) (i j : ℕ) (one other : List Held) → IsDealt b shares →
+        j ≢ i → slice_get shares i ≡ Some one → slice_get shares j ≡ Some other →
+        IsDealt b (slice_set (slice_set shares i (one ++ other)) j []) }
+    // A share of all passes, in the order of their numbers, is what the book has.
+    ensures whole { (b : Book) (shares : List (List Held)) (i : ℕ) (share : List Held) → IsDealt b shares →
+        slice_get shares i ≡ Some share → length share ≡ length b.passes → IsCounted 0 share →
+        b.passes ≡ map (λ h. h.deeds) share }
 {}

@@ -10,5 +10,5 @@ mod tests;
 
 pub use cores::{Core, Memory};
 pub use events::{Answer, CoreFault, Event};
-pub use laws::book_law;
+pub use laws::{book_law, share_law};
 pub use passes::PassRecord;

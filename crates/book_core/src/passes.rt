@@ -57,7 +57,7 @@ impl PassRecord {
         self.seen
     }
 
-    /// Whether it was told that no job is left.
+    /// Whether a claim of it found no job left.
     pub(crate) fn ended(&self) -> bool
         ensures { result ≡ self.now.ended }
     {

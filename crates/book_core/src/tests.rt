@@ -1,7 +1,6 @@
 //! Worked examples, a long run against what its events say, and want of memory at each growth.
 
 ghost use Rattle.std.specs.Prelude.{◌≡◌, ◌<◌, length, IfOk};
-ghost use Rattle.book_core.specs.declared.tests.TheConstants.{PASSES};
 
 use crate::{Answer, Core, CoreFault, Event};
 use std::alloc::{AllocError, Global};
@@ -211,12 +210,14 @@ fn a_long_run_is_what_its_events_say(rt: HostRuntime) -> Result<(), Fail> {
     let mut core = Core::start(rt.alloc(), JOBS, PASSES)?;
     let mut numbers = Numbers(1);
     let mut events = Vec::new(rt.alloc());
-    for _ in 0..4000 {
+    for _ in 0..6000 {
         let event = numbers.event();
         if core.step(event).is_ok() {
             events.push(event)?;
         }
     }
+    // Each pass has ended, so there was a claim for each job and one more for each pass.
+    assert_eq!(rt; core.next(), 705);
     compare(&rt, rt.alloc(), &core, &events)?;
     let mut again = Core::start(rt.alloc(), JOBS, PASSES)?;
     let answers = again.run(&events)?;
@@ -249,7 +250,7 @@ fn start_again(alloc: Global) -> Result<Core, AllocError>
     }
 }
 
-// Run with each allocation refused in turn: what is refused changes nothing, and can be done again.
+// Each growth is refused in turn by `rt try --test --fail-alloc N`: it changes nothing, and the step can be taken again.
 #[test]
 fn want_of_memory_changes_nothing(rt: HostRuntime) -> Result<(), Fail> {
     let mut numbers = Numbers(7);
