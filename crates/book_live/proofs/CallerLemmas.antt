@@ -3,14 +3,14 @@ use Rattle.std.proofs.Common.{◌≡◌, ◌⊎◌, ℕ, zero, suc, ◌+◌, ◌
 use Rattle.atomic_table.specs.Table.{Me}
 use Rattle.book_core.specs.Passes.{fresh}
 use Rattle.book_core.specs.Books.{Book}
-use Rattle.book_core.specs.Laws.{IsLeast, IsAtMost}
+use Rattle.book_core.specs.Places.{IsLeast, IsAtMost}
+use Rattle.book_core.specs.Shares.{Held, held, all_fresh, IsCounted}
 use Rattle.book_core.proofs.LawLemmas.{BookLaw-all_drawn}
 use Rattle.book_live.specs.declared.views.Sizes.{Sizes}
-use Rattle.book_live.specs.declared.views.Held.{Held}
 use Rattle.book_live.specs.declared.views.View.{View}
-use Rattle.book_live.specs.Views.{held, view, alone, all_fresh, deeds_of, first_alone, without_first}
+use Rattle.book_live.specs.Views.{view, alone, deeds_of, first_alone, without_first}
 use Rattle.book_live.specs.Shown.{IsReached, place_of}
-use Rattle.book_live.specs.Callers.{BookId, PassState, all_deeds, IsEachDrawnOnce, IsOutcome, helds, IsCounted, HoldsAll, IsWhole}
+use Rattle.book_live.specs.Callers.{BookId, PassState, all_deeds, IsEachDrawnOnce, IsOutcome, helds, HoldsAll, IsWhole}
 use Rattle.book_live.proofs.ReachLemmas.{BookLaw-reached, jobs-reached}
 use Rattle.book_live.proofs.WordLemmas.{place_of-word_of}
 

@@ -10,6 +10,7 @@ use Rattle.book_core.specs.Books.{Book, start}
 use Rattle.book_core.specs.Steps.{step}
 use Rattle.book_core.specs.Runs.{Run}
 use Rattle.book_core.specs.Laws.{BookLaw}
+use Rattle.book_core.proofs.ListLemmas.{le-sum_by}
 use Rattle.book_core.proofs.RunLemmas.{BookLaw-after, after-snoc, sizes-after}
 use Rattle.book_live.specs.declared.views.Sizes.{Sizes}
 use Rattle.book_live.specs.Shown.{IsReached}
@@ -40,8 +41,4 @@ module _ (z : Sizes) (b : Book) (r : IsReached z b) where
 
   -- a pass has drawn no more jobs than there were claims
   pub length-drawn-le : (w : ℕ) (p : Deeds) → slice_get b.passes w ≡ Some p → length p.drawn ≤ b.next
-  length-drawn-le w p at =
-      let one : length p.drawn ≤ sum_by (λ (d : Deeds). length d.drawn) b.passes =
-      subst (λ (d : Deeds). length d.drawn ≤ sum_by (λ (d : Deeds). length d.drawn) b.passes) (get_or_from_slice_get b.passes w p p at)
-      (get_or-le-sum_by (λ (d : Deeds). length d.drawn) b.passes w p (slice_get_within b.passes w p at)) in
-      omega (arith, BookLaw-reached.drawn)
+  length-drawn-le w p at = omega (arith, le-sum_by (λ (d : Deeds). length d.drawn) b.passes w p at, BookLaw-reached.drawn)

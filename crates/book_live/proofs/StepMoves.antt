@@ -6,22 +6,21 @@ use Rattle.std.proofs.Math.Nat.{mod-eq_of_lt}
 use mathlib.Core.Option.{some}
 use lib.ListN.{get_elem?}
 use Rattle.atomic_table.specs.Table.{State, Allows, Act.keeps}
-use Rattle.atomic_table.proofs.Lists.{at_set, set_else}
 use Rattle.book_core.specs.declared.events.Event.TheVariants.{Claim, Report, Look}
 use Rattle.book_core.specs.declared.events.Answer.TheVariants.{Drawn, Ended, Reported, Least}
 use Rattle.book_core.specs.Passes.{Deeds, with_drawn, with_end, with_report, with_seen}
 use Rattle.book_core.specs.Books.{Book}
 use Rattle.book_core.specs.Steps.{drawn_by, ended_by, reported_by, looked_by}
-use Rattle.book_core.specs.Laws.{IsAtMost}
-use Rattle.book_core.proofs.PassLemmas.{slice_get-set_same, slice_get-set_other}
+use Rattle.book_core.specs.Places.{IsAtMost}
+use Rattle.book_core.specs.Shares.{IsDealt}
+use Rattle.book_core.proofs.ShareLemmas.{IsDealt-alone, IsDealt-step}
 use Rattle.book_core.proofs.StepLemmas.{step-drawn, step-ended, step-reported, step-looked}
 use Rattle.book_live.specs.declared.views.Sizes.{Sizes}
-use Rattle.book_live.specs.declared.views.Held.{Held}
 use Rattle.book_live.specs.declared.views.View.{View}
-use Rattle.book_live.specs.Views.{held, alone, changed, times_held, spent}
+use Rattle.book_live.specs.Views.{shares, alone, changed}
 use Rattle.book_live.specs.Shown.{word_of, place_of, Shows, Shown}
 use Rattle.book_live.specs.Steps.{Claimed, Looked}
-use Rattle.book_live.proofs.ViewLemmas.{sum_by-view, part-le-sum_by, held-counted, times_held-alone, once_below-le}
+use Rattle.book_live.proofs.ViewLemmas.{share-at, shares-set}
 use Rattle.book_live.proofs.ReachLemmas.{IsReached-step, BookLaw-reached, jobs-reached, next-le, length-drawn-le}
 use Rattle.book_live.proofs.WordLemmas.{word_of-lesser, place_of-word_of, IsAtMost-reported}
 
@@ -34,47 +33,20 @@ least s = slice_index s.words 1
 -- ---- the seat of one pass and one word change
 
 module _ {S : Type 0} (z : Sizes) (b : Book) (s : State S View) (shows : Shows z b s) (id : ℕ) (y : Sizes) (w : ℕ) (p : Deeds) (at : get_elem? s.views id ≡ some (alone y w p)) where
-  -- no other seat stands for this pass
-  held-once : (j : ℕ) (v : View) → j ≢ id → get_elem? s.views j ≡ some v → (k : ℕ) (h : Held) → slice_get v.held k ≡ Some h → h.number ≢ w
-  held-once j v far e k h there same =
-      let count = subst (λ x. 0 < times_held x v) same (held-counted v.held k h there) in
-      let vs = set s.views id spent in
-      omega (
-        arith,
-        count,
-        part-le-sum_by (times_held w) vs j v (set_else s.views id j spent far ∙ e),
-        sum_by-view (times_held w) s.views id (alone y w p) spent at,
-        times_held-alone y w p,
-        shows.numbers w,
-        once_below-le w z.workers,
-      )
+  pass-shown : slice_get b.passes w ≡ Some p
+  pass-shown = IsDealt-alone b (shares s.views) shows.dealt id w p (share-at s.views id (alone y w p) at)
 
-  pub pass-shown : slice_get b.passes w ≡ Some p
-  pass-shown = shows.deeds id (alone y w p) at zero (held w p) refl
-
-  module _ (q : Deeds) where
-    deeds-after : (i : ℕ) (v : View) → get_elem? (set s.views id (alone y w q)) i ≡ some v → (k : ℕ) (h : Held) → slice_get v.held k ≡ Some h → slice_get (set b.passes w q) h.number ≡ Some h.deeds
-    deeds-after i v e k h there = elim (at_set s.views id i (alone y w q) v e) [
-      | inl t ↦ here (sym (ap (λ (u : View). u.held) t.1)) k there
-      | inr t ↦ slice_get-set_other b.passes w h.number q (held-once i v t.0 t.1 k h there) ∙ shows.deeds i v t.1 k h there
-    ]
-      where
-        here : v.held ≡ held w q ∷ [] → (n : ℕ) → slice_get v.held n ≡ Some h → slice_get (set b.passes w q) h.number ≡ Some h.deeds
-        here is zero e = let e' : Some (held w q) ≡ Some h = sym (ap (λ l. slice_get l 0) is) ∙ e in let same : held w q ≡ h = cc in subst (λ (x : Held). slice_get (set b.passes w q) x.number ≡ Some x.deeds) same (slice_get-set_same b.passes w p q pass-shown)
-        here is (suc n) e = let e' : slice_get (held w q ∷ []) (suc n) ≡ Some h = sym (ap (λ l. slice_get l (suc n)) is) ∙ e in cc
-
-    -- the book that is shown after the pass has come to q
-    pub Shows-after : (c : Book) (word n : ℕ) → c.passes ≡ set b.passes w q
-        → slice_index (set s.words word n) 0 ≡ c.next → slice_index (set s.words word n) 1 ≡ word_of c.least
-        → Shows z c record { words = set s.words word n; homes = s.homes; views = set s.views id (alone y w q) }
-    Shows-after c word n passes next-is least-is = record {
-      limits = shows.limits;
-      words = length-set s.words word n ∙ shows.words;
-      next = next-is;
-      least = least-is;
-      numbers = λ x. omega (arith, sum_by-view (times_held x) s.views id (alone y w p) (alone y w q) at, shows.numbers x);
-      deeds = λ i v e k h there. ap (λ l. slice_get l h.number) passes ∙ deeds-after i v e k h there;
-    }
+  -- the book that is shown after the pass has come to q
+  Shows-after : (q : Deeds) (c : Book) (word n : ℕ) → c.passes ≡ set b.passes w q
+      → slice_index (set s.words word n) 0 ≡ c.next → slice_index (set s.words word n) 1 ≡ word_of c.least
+      → Shows z c record { words = set s.words word n; homes = s.homes; views = set s.views id (alone y w q) }
+  Shows-after q c word n passes next-is least-is = record {
+    limits = shows.limits;
+    words = length-set s.words word n ∙ shows.words;
+    next = next-is;
+    least = least-is;
+    dealt = subst (IsDealt c) (sym (shares-set s.views id (alone y w q))) (IsDealt-step b (shares s.views) shows.dealt id w p (share-at s.views id (alone y w p) at) q c passes);
+  }
 
 -- ---- the three events
 

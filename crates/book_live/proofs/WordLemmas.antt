@@ -4,8 +4,8 @@ use Rattle.std.specs.Prelude.{IfSome}
 use Rattle.std.proofs.lemmas.Bool.{lt-ltb, ltb-true}
 use Rattle.book_core.specs.Passes.{Deeds}
 use Rattle.book_core.specs.Books.{Book}
-use Rattle.book_core.specs.Steps.{lesser}
-use Rattle.book_core.specs.Laws.{BookLaw, IsLeast, IsReported, IsAtMost}
+use Rattle.book_core.specs.Places.{lesser, IsLeast, IsReported, IsAtMost}
+use Rattle.book_core.specs.Laws.{BookLaw}
 use Rattle.book_live.specs.Shown.{word_of, place_of}
 
 pub word_of-lesser : (o : Option ℕ) (place : ℕ) → place < 2 ^ 32 → word_of (Some (lesser o place)) ≡ min (word_of o) place

@@ -1,13 +1,12 @@
 -- A book and its passes, as callers see them.
-use Rattle.std.specs.Prelude.{◌≡◌, ℕ, suc, List, [], ◌∷◌, length, map, slice_get, Option, Some}
+use Rattle.std.specs.Prelude.{◌≡◌, ℕ, List, length, map, slice_get, Option, Some}
 use Rattle.atomic_table.specs.Seated.{TableId}
 use Rattle.book_core.specs.Passes.{Deeds}
 use Rattle.book_core.specs.Books.{Book}
-use Rattle.book_core.specs.Laws.{times_drawn, once_below}
+use Rattle.book_core.specs.Jobs.{times_drawn, once_below}
+use Rattle.book_core.specs.Shares.{Held, held, IsCounted}
 use Rattle.book_live.specs.declared.views.Sizes.{Sizes}
-use Rattle.book_live.specs.declared.views.Held.{Held}
 use Rattle.book_live.specs.declared.views.View.{View}
-use Rattle.book_live.specs.Views.{held}
 use Rattle.book_live.specs.Shown.{word_of, IsReached}
 
 -- which book it is, and how many jobs and passes it has
@@ -42,15 +41,10 @@ IsOutcome b passes least = (next : ℕ) × IsReached b.sizes (record { jobs = b.
 abbrev pub helds : List PassState → List Held
 helds passes = map (λ p. held p.number p.deeds) passes
 
--- the numbers go up by one from n
-abbrev pub IsCounted : ℕ → List Held → Type 0
-IsCounted n [] = Unit {0}
-IsCounted n (h ∷ hs) = (h.number ≡ n) × IsCounted (suc n) hs
-
--- the view stands for all passes, in the order of their numbers
+-- it has all passes, in the order of their numbers
 abbrev pub HoldsAll : Sizes → View → Type 0
 HoldsAll z v = (length v.held ≡ z.workers) × IsCounted 0 v.held
 
--- the machine can reach what the view shows of all passes, with the least place of this word
+-- the machine can reach what it shows of all passes, with the least place of this word
 abbrev pub IsWhole : Sizes → View → ℕ → Type 0
 IsWhole z v word = (b : Book) × IsReached z b × (b.passes ≡ map (λ (h : Held). h.deeds) v.held) × (word_of b.least ≡ word)

@@ -1,18 +1,14 @@
 -- The rule of a live book: its two words and the views of its seats show a state of the book as a machine.
-use Rattle.std.specs.Prelude.{◌≡◌, ℕ, ◌≤◌, ◌^◌, if◌then◌else◌, nat_lt, List, length, slice_get, slice_index, Option, Some, None}
-use mathlib.Core.Option.{some}
-use lib.ListN.{get_elem?}
-use Rattle.std.specs.List.{sum_by}
+use Rattle.std.specs.Prelude.{◌≡◌, ℕ, ◌≤◌, ◌^◌, if◌then◌else◌, nat_lt, List, length, slice_index, Option, Some, None}
 use Rattle.atomic_table.specs.Table.{State}
 use Rattle.book_core.specs.declared.events.Event.{Event}
 use Rattle.book_core.specs.declared.events.Answer.{Answer}
 use Rattle.book_core.specs.Books.{Book}
 use Rattle.book_core.specs.Runs.{going, after}
-use Rattle.book_core.specs.Laws.{once_below}
+use Rattle.book_core.specs.Shares.{IsDealt}
 use Rattle.book_live.specs.declared.views.Sizes.{Sizes}
-use Rattle.book_live.specs.declared.views.Held.{Held}
 use Rattle.book_live.specs.declared.views.View.{View}
-use Rattle.book_live.specs.Views.{times_held}
+use Rattle.book_live.specs.Views.{shares}
 
 -- some list of events leads the machine from its start to this book, without a fault
 abbrev pub IsReached : Sizes → Book → Type 0
@@ -30,16 +26,13 @@ place_of word = (if nat_lt word (2 ^ 32) then Some word else None)
 abbrev pub IsInLimits : Sizes → Type 0
 IsInLimits z = (z.jobs ≤ 2 ^ 32) × (z.workers ≤ 64)
 
--- the words and the views show this book
+-- the words and the views show this book: each of its passes stands in the view of one seat
 pub record Shows {S : Type 0} (z : Sizes) (b : Book) (s : State S View) : Type 0 where
   pub limits : IsInLimits z
   pub words : length s.words ≡ 2
   pub next : slice_index s.words 0 ≡ b.next
   pub least : slice_index s.words 1 ≡ word_of b.least
-  -- each pass stands in one view, once
-  pub numbers : (w : ℕ) → sum_by (times_held w) s.views ≡ once_below w z.workers
-  -- and that view holds what the pass has done
-  pub deeds : (i : ℕ) (v : View) → get_elem? s.views i ≡ some v → (k : ℕ) (h : Held) → slice_get v.held k ≡ Some h → slice_get b.passes h.number ≡ Some h.deeds
+  pub dealt : IsDealt b (shares s.views)
 
 abbrev pub Shown : {S : Type 0} → Sizes → State S View → Type 0
 Shown z s = (b : Book) × IsReached z b × Shows z b s

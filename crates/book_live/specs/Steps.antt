@@ -2,7 +2,7 @@
 use Rattle.std.specs.Prelude.{◌≡◌, ℕ, ◌<◌, ◌≤◌, length, Some}
 use Rattle.std.specs.List.{Contains}
 use Rattle.book_core.specs.Passes.{with_drawn, with_end, with_seen}
-use Rattle.book_core.specs.Laws.{IsAtMost}
+use Rattle.book_core.specs.Places.{IsAtMost}
 use Rattle.book_live.specs.declared.views.View.{View}
 use Rattle.book_live.specs.Views.{changed, deeds_of}
 use Rattle.book_live.specs.Shown.{place_of}

@@ -2,7 +2,7 @@
 
 ghost use Rattle.std.specs.Prelude.{◌≡◌, ◌<◌, ◌≤◌, ◌^◌, ℕ, ◌++◌, [], false, true, length, Some, IfOk, IfSome, IfNone, All};
 ghost use Rattle.book_core.specs.Passes.{Deeds, fresh, with_drawn, with_end, with_report, with_seen};
-ghost use Rattle.book_core.specs.Laws.{IsLeast, IsAtMost};
+ghost use Rattle.book_core.specs.Places.{IsLeast, IsAtMost};
 ghost use Rattle.book_live.specs.Views.{view, alone, opening, changed, without_first, first_alone, together};
 ghost use Rattle.book_live.specs.Shown.{place_of};
 ghost use Rattle.book_live.specs.Steps.{Claimed, Looked};

@@ -2,6 +2,7 @@
 
 use book_core::PassRecord;
 use std::collections::LinkedList;
+use std::marker::Model;
 
 /// How many jobs and passes a book has.
 #[derive(Drop)]
@@ -10,14 +11,22 @@ pub struct Sizes {
     pub workers: u8,
 }
 
-/// A pass by its number, and what it has done.
-pub struct Held {
-    pub number: u8,
-    pub deeds: PassRecord,
+/// A pass with its number.
+pub struct NumberedPass {
+    number: u8,
+    deeds: PassRecord,
+}
+
+impl Model for NumberedPass {
+    ghost use Rattle.book_core.specs.Shares.{Held};
+
+    ghost Value = { Held };
+
+    ghost view = { λ p. record { number = p.number; deeds = p.deeds } };
 }
 
 /// The passes that a seat stands for.
 pub struct View {
     pub sizes: Sizes,
-    pub held: LinkedList<Held>,
+    pub held: LinkedList<NumberedPass>,
 }

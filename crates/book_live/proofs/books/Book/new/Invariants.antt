@@ -1,5 +1,6 @@
 use Rattle.std.proofs.Common.{◌≡◌, ◌-◌, ◌≤◌, [], length, vec_capacity}
-use Rattle.book_live.specs.Views.{view, all_fresh}
+use Rattle.book_core.specs.Shares.{all_fresh}
+use Rattle.book_live.specs.Views.{view}
 use Rattle.book_live.proofs.CallerLemmas.{AreFirstPasses}
 use Rattle.book_live.proofs.books.Book.new.Given as goal
 
