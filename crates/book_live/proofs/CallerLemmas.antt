@@ -10,7 +10,7 @@ use Rattle.book_live.specs.declared.views.Sizes.{Sizes}
 use Rattle.book_live.specs.declared.views.View.{View}
 use Rattle.book_live.specs.Views.{view, alone, deeds_of, first_alone, without_first}
 use Rattle.book_live.specs.Shown.{IsReached, place_of}
-use Rattle.book_live.specs.Callers.{BookId, PassState, all_deeds, IsEachDrawnOnce, IsOutcome, helds, HoldsAll, IsWhole}
+use Rattle.book_live.specs.Callers.{BookId, PassState, IsNewPass, all_deeds, IsEachDrawnOnce, IsOutcome, helds, HoldsAll, IsWhole}
 use Rattle.book_live.proofs.ReachLemmas.{BookLaw-reached, jobs-reached}
 use Rattle.book_live.proofs.WordLemmas.{place_of-word_of}
 
@@ -25,10 +25,6 @@ slice_get-push_cases (z ∷ xs) x y zero e = inl e
 slice_get-push_cases (z ∷ xs) x y (suc k) e = elim (slice_get-push_cases xs x y k e) [ inl h ↦ inl h | inr h ↦ inr (omega (arith, h.0), h.1) ]
 
 -- ---- making the passes
-
--- a pass of this book and number that has done nothing
-abbrev pub IsNewPass : BookId → ℕ → PassState → Type 0
-IsNewPass b k p = (p.book ≡ b) × (p.number ≡ k) × (p.deeds ≡ fresh)
 
 abbrev pub AreFirstPasses : BookId → List PassState → Type 0
 AreFirstPasses b passes = (k : ℕ) (p : PassState) → slice_get passes k ≡ Some p → IsNewPass b k p

@@ -1,17 +1,17 @@
 -- Making and joining seats changes no word, and the passes stay shared out.
-use Rattle.std.proofs.Common.{◌≡◌, ◌^◌, ℕ, List, [], ◌∷◌, ◌++◌, Some, set, zero, suc, refl, sym, ap, ◌∙◌, subst, slice_get, slice_index}
+use Rattle.std.proofs.Common.{◌≡◌, ℕ, List, [], ◌∷◌, ◌++◌, Some, set, zero, suc, refl, sym, ap, ◌∙◌, subst, slice_get, slice_index}
 use mathlib.Core.Option.{some, some-injective, some-ne-none}
 use lib.ListN.{get_elem?}
 use Rattle.atomic_table.specs.Table.{State, Splits, Joins, Seen}
 use Rattle.atomic_table.specs.Table as table
 use Rattle.book_core.specs.Books.{start}
-use Rattle.book_core.specs.Shares.{Held, IsDealt, first, others}
+use Rattle.book_core.specs.Shares.{IsDealt, first, others}
 use Rattle.book_core.proofs.ListLemmas.{slice_get-set_other}
 use Rattle.book_core.proofs.ShareLemmas.{IsDealt-start, IsDealt-cut, IsDealt-join, IsDealt-whole}
 use Rattle.book_live.specs.declared.views.Sizes.{Sizes}
 use Rattle.book_live.specs.declared.views.View.{View}
 use Rattle.book_live.specs.Views.{shares, opening, first_alone, without_first, together, spent}
-use Rattle.book_live.specs.Shown.{IsInLimits, Shows, Shown}
+use Rattle.book_live.specs.Shown.{IsInLimits, Shown}
 use Rattle.book_live.specs.Callers.{HoldsAll, IsWhole}
 use Rattle.book_live.proofs.ViewLemmas.{share-at, shares-set, shares-push}
 use Rattle.book_live.proofs.ReachLemmas.{IsReached-start, passes-reached}

@@ -1,7 +1,7 @@
 -- A book and its passes, as callers see them.
 use Rattle.std.specs.Prelude.{◌≡◌, ℕ, List, length, map, slice_get, Option, Some}
 use Rattle.atomic_table.specs.Seated.{TableId}
-use Rattle.book_core.specs.Passes.{Deeds}
+use Rattle.book_core.specs.Passes.{Deeds, fresh}
 use Rattle.book_core.specs.Books.{Book}
 use Rattle.book_core.specs.Jobs.{times_drawn, once_below}
 use Rattle.book_core.specs.Shares.{Held, held, IsCounted}
@@ -24,6 +24,10 @@ pub record PassState : Type 0 where
 pub record ArePasses (b : BookId) (P : PassState → Type 0) (passes : List PassState) : Type 0 where
   pub count : length passes ≡ b.sizes.workers
   pub each : (k : ℕ) (p : PassState) → slice_get passes k ≡ Some p → (p.book ≡ b) × (p.number ≡ k) × P p
+
+-- a pass of this book and number that has done nothing
+abbrev pub IsNewPass : BookId → ℕ → PassState → Type 0
+IsNewPass b number p = (p.book ≡ b) × (p.number ≡ number) × (p.deeds ≡ fresh)
 
 abbrev pub all_deeds : List PassState → List Deeds
 all_deeds passes = map (λ p. p.deeds) passes

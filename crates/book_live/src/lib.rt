@@ -4,6 +4,8 @@
 mod books;
 mod passes;
 mod rules;
+#[cfg(test)]
+mod tests;
 mod views;
 
 pub use books::{Book, Memory};
