@@ -3,8 +3,11 @@
 
 mod gates;
 mod jobs;
+mod promises;
+mod runs;
 mod workers;
 
 pub use gates::{Gate, OpenGate};
 pub use jobs::Job;
+pub use runs::run_jobs;
 pub use workers::work;

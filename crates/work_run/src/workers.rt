@@ -1,8 +1,8 @@
 //! One worker.
 
-ghost use Rattle.std.specs.Prelude.{◌≡◌, true};
+ghost use Rattle.std.specs.Prelude.{◌≡◌};
 ghost use Rattle.book_core.specs.Passes.{fresh};
-ghost use Rattle.work_run.specs.Work.{IsWorked};
+ghost use Rattle.work_run.specs.Work.{IsDone};
 
 use crate::gates::Gate;
 use crate::jobs::Job;
@@ -14,9 +14,7 @@ use book_live::{Book, Pass};
 pub fn work<J: Job, G: Gate>(job: &J, book: &Book, mut pass: Pass, gate: &G) -> Pass
     requires jobs { book.now.sizes.jobs ≡ J.jobs job.now }
     requires pass { (pass.book ≡ book.now) × (pass.deeds ≡ fresh) }
-    ensures pass { (result.book ≡ pass.book) × (result.number ≡ pass.number) }
-    ensures ended { result.deeds.ended ≡ true }
-    ensures worked { IsWorked (J.bad job.now) (J.begins job.now) (J.jobs job.now) result.deeds }
+    ensures { IsDone (J.bad job.now) (J.begins job.now) (J.jobs job.now) pass result }
 {
     while let Some(number) = book.claim(&mut pass) {
         gate.before(number);

@@ -48,10 +48,17 @@ loop-number-preserved g c =
       worked = subst (IsWorked bad begins jobs) (sym is) (IsWorked-good bad begins jobs c.loop-number.pass.deeds i.worked c.in-Some.number c.in_default-run.ensures);
     }
 
-pub returns-clause-worked : goal.returns-clause-worked
-returns-clause-worked g c =
+pub returns : goal.returns
+returns g c =
     let begins = g.J.Job.begins c.args.job.now in
     let jobs = g.J.Job.jobs c.args.job.now in
     let bad = g.J.Job.bad c.args.job.now in
-    let is : c.claim.new.pass.deeds ≡ with_end c.loop-number.pass.deeds = ap (λ (p : PassState). p.deeds) c.in_default.ensures.ended in
-    subst (IsWorked bad begins jobs) (sym is) (IsWorked-ended bad begins jobs c.loop-number.pass.deeds c.loop-number.invariant.worked)
+    let i = c.loop-number.invariant in
+    let last = c.in_default.ensures.ended in
+    let is : c.claim.new.pass.deeds ≡ with_end c.loop-number.pass.deeds = ap (λ (p : PassState). p.deeds) last in
+    record {
+      book = ap (λ (p : PassState). p.book) last ∙ i.book ∙ sym c.requires.pass.0;
+      number = ap (λ (p : PassState). p.number) last ∙ i.number;
+      ended = ap (λ (d : Deeds). d.ended) is;
+      worked = subst (IsWorked bad begins jobs) (sym is) (IsWorked-ended bad begins jobs c.loop-number.pass.deeds i.worked);
+    }
