@@ -10,14 +10,13 @@ use Rattle.std.proofs.lemmas.List.Elements.{Contains-push, Contains-push_cases, 
 use Rattle.book_core.specs.declared.events.Event.{Event}
 use Rattle.book_core.specs.declared.events.Event.TheVariants.{Claim, Report, Look}
 use Rattle.book_core.specs.declared.events.Answer.{Answer}
-use Rattle.book_core.specs.declared.events.Answer.TheVariants.{Drawn, Ended, Reported}
-use Rattle.book_core.specs.declared.events.CoreFault.TheVariants.{C2, C3}
 use Rattle.book_core.specs.Passes.{Deeds, fresh, with_drawn, with_end, with_report, with_seen}
 use Rattle.book_core.specs.Books.{Book, start}
 use Rattle.book_core.specs.Steps.{drawn_by, ended_by, reported_by, looked_by, Outcome, claims, reports, by_pass, step}
 use Rattle.book_core.specs.Laws.{BookLaw, IsAllDrawn}
 use Rattle.book_core.specs.Jobs.{times, once_below}
 use Rattle.book_core.specs.Places.{lesser, IsReported, IsLeast, IsAtMost}
+use Rattle.book_core.proofs.StepLemmas.{claimed, placed}
 use Rattle.book_core.proofs.ListLemmas.{sum_by-changed, le-sum_by, slice_get-set_cases, slice_get-set_same, slice_get-set_other}
 
 -- ---- places, and none above them all
@@ -194,7 +193,7 @@ Keeps (Err f) = Unit {0}
 claims-keeps : (b : Book) → BookLaw b → (w : ℕ) (p : Deeds) → slice_get b.passes w ≡ Some p → Keeps (claims b w p)
 claims-keeps b law w p at = go p.ended refl (ltb b.next b.jobs) refl
   where
-    go : (done : Bool) → p.ended ≡ done → (room : Bool) → ltb b.next b.jobs ≡ room → Keeps (cond done (Err C2) (cond room (Ok (drawn_by b w p, Drawn b.next)) (Ok (ended_by b w p, Ended))))
+    go : (done : Bool) → p.ended ≡ done → (room : Bool) → ltb b.next b.jobs ≡ room → Keeps (claimed b w p done room)
     go true e room f = tt
     go false e true f = BookLaw-drawn_by b law w p at e (ltb-true b.next b.jobs f)
     go false e false f = BookLaw-ended_by b law w p at e (ltb-false b.next b.jobs f)
@@ -202,7 +201,7 @@ claims-keeps b law w p at = go p.ended refl (ltb b.next b.jobs) refl
 reports-keeps : (b : Book) → BookLaw b → (w place : ℕ) (p : Deeds) → slice_get b.passes w ≡ Some p → Keeps (reports b w place p)
 reports-keeps b law w place p at = go (ltb place (2 ^ 32)) refl
   where
-    go : (fits : Bool) → ltb place (2 ^ 32) ≡ fits → Keeps (cond fits (Ok (reported_by b w place p, Reported)) (Err C3))
+    go : (fits : Bool) → ltb place (2 ^ 32) ≡ fits → Keeps (placed b w place p fits)
     go true e = BookLaw-reported_by b law w p at place (ltb-true place (2 ^ 32) e)
     go false e = tt
 

@@ -1,18 +1,18 @@
 -- Runs: one more event, where a run stops, and what every run keeps.
-use Rattle.std.proofs.Common.{◌≡◌, ℕ, ◌+◌, ◌<◌, ◌^◌, List, [], ◌∷◌, ◌++◌, length, take, drop, get_or, fold, Option, Some, None, Ok, Err, IsOk, Bool, true, false, cond, ltb, refl, sym, ◌∙◌, ap, subst, slice_get}
+use Rattle.std.proofs.Common.{◌≡◌, ℕ, ◌+◌, ◌<◌, ◌^◌, List, [], ◌∷◌, ◌++◌, length, take, drop, get_or, fold, Option, Some, None, Ok, Err, IsOk, Bool, true, false, ltb, refl, sym, ◌∙◌, ap, subst, slice_get}
 use Rattle.std.proofs.lemmas.List.{length-set, length-replicate, take-append-drop}
 use Rattle.std.proofs.lemmas.List.Sums.{fold-append, fold_more}
 use Rattle.book_core.specs.declared.events.Event.{Event}
 use Rattle.book_core.specs.declared.events.Event.TheVariants.{Claim, Report, Look}
 use Rattle.book_core.specs.declared.events.Answer.{Answer}
-use Rattle.book_core.specs.declared.events.Answer.TheVariants.{Drawn, Ended, Reported}
 use Rattle.book_core.specs.declared.events.CoreFault.{CoreFault}
 use Rattle.book_core.specs.declared.events.CoreFault.TheVariants.{C1, C2, C3, Memory}
 use Rattle.book_core.specs.Passes.{Deeds, fresh}
 use Rattle.book_core.specs.Books.{Book, start, SameSizes}
-use Rattle.book_core.specs.Steps.{Outcome, drawn_by, ended_by, reported_by, claims, reports, looks, by_pass, step, IsRefusal}
+use Rattle.book_core.specs.Steps.{Outcome, claims, reports, looks, by_pass, step, IsRefusal}
 use Rattle.book_core.specs.Runs.{Run, after_step, unless_ended, run_on, going, run_from, after, StopsAt}
 use Rattle.book_core.specs.Laws.{BookLaw}
+use Rattle.book_core.proofs.StepLemmas.{claimed, placed}
 use Rattle.book_core.proofs.LawLemmas.{Keeps, step-keeps, BookLaw-start}
 
 -- ---- the law
@@ -94,7 +94,7 @@ KeepsSizes b (Err f) = Unit {0}
 claims-sizes : (b : Book) (w : ℕ) (p : Deeds) → KeepsSizes b (claims b w p)
 claims-sizes b w p = go p.ended (ltb b.next b.jobs)
   where
-    go : (done room : Bool) → KeepsSizes b (cond done (Err C2) (cond room (Ok (drawn_by b w p, Drawn b.next)) (Ok (ended_by b w p, Ended))))
+    go : (done room : Bool) → KeepsSizes b (claimed b w p done room)
     go true room = tt
     go false true = (refl, length-set b.passes w _)
     go false false = (refl, length-set b.passes w _)
@@ -102,7 +102,7 @@ claims-sizes b w p = go p.ended (ltb b.next b.jobs)
 reports-sizes : (b : Book) (w place : ℕ) (p : Deeds) → KeepsSizes b (reports b w place p)
 reports-sizes b w place p = go (ltb place (2 ^ 32))
   where
-    go : (fits : Bool) → KeepsSizes b (cond fits (Ok (reported_by b w place p, Reported)) (Err C3))
+    go : (fits : Bool) → KeepsSizes b (placed b w place p fits)
     go true = (refl, length-set b.passes w _)
     go false = tt
 

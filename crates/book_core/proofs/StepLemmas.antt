@@ -11,25 +11,33 @@ use Rattle.book_core.specs.Books.{Book, IsInRange}
 use Rattle.book_core.specs.Steps.{drawn_by, ended_by, reported_by, looked_by, Outcome, claims, reports, looks, by_pass, step}
 use Rattle.book_core.proofs.ListLemmas.{sum_by-changed}
 
+-- a claim, by whether the pass has ended and whether a job is left
+abbrev pub claimed : Book → ℕ → Deeds → Bool → Bool → Outcome
+claimed b w p done room = cond done (Err C2) (cond room (Ok (drawn_by b w p, Drawn b.next)) (Ok (ended_by b w p, Ended)))
+
+-- a report, by whether its place is small enough
+abbrev pub placed : Book → ℕ → ℕ → Deeds → Bool → Outcome
+placed b w place p fits = cond fits (Ok (reported_by b w place p, Reported)) (Err C3)
+
 module _ (b : Book) (w : ℕ) (p : Deeds) (at : slice_get b.passes w ≡ Some p) where
   -- the claim of a pass that has not ended draws a job, while there is one
   pub step-drawn : p.ended ≡ false → b.next < b.jobs → step b (Claim w) ≡ Ok (drawn_by b w p, Drawn b.next)
   step-drawn going room =
       ap (λ o. by_pass o (claims b w)) at
-      ∙ ap (λ (t : Bool). cond {A = Outcome} t (Err C2) (cond {A = Outcome} (ltb b.next b.jobs) (Ok (drawn_by b w p, Drawn b.next)) (Ok (ended_by b w p, Ended)))) going
-      ∙ ap (λ (t : Bool). cond {A = Outcome} t (Ok (drawn_by b w p, Drawn b.next)) (Ok (ended_by b w p, Ended))) (lt-ltb b.next b.jobs room)
+      ∙ ap (λ t. claimed b w p t (ltb b.next b.jobs)) going
+      ∙ ap (claimed b w p false) (lt-ltb b.next b.jobs room)
 
   -- and ends the pass where there is none
   pub step-ended : p.ended ≡ false → b.jobs ≤ b.next → step b (Claim w) ≡ Ok (ended_by b w p, Ended)
   step-ended going over =
       ap (λ o. by_pass o (claims b w)) at
-      ∙ ap (λ (t : Bool). cond {A = Outcome} t (Err C2) (cond {A = Outcome} (ltb b.next b.jobs) (Ok (drawn_by b w p, Drawn b.next)) (Ok (ended_by b w p, Ended)))) going
-      ∙ ap (λ (t : Bool). cond {A = Outcome} t (Ok (drawn_by b w p, Drawn b.next)) (Ok (ended_by b w p, Ended))) (le-ltb b.next b.jobs over)
+      ∙ ap (λ t. claimed b w p t (ltb b.next b.jobs)) going
+      ∙ ap (claimed b w p false) (le-ltb b.next b.jobs over)
 
   pub step-reported : (place : ℕ) → place < 2 ^ 32 → step b (Report w place) ≡ Ok (reported_by b w place p, Reported)
   step-reported place small =
       ap (λ o. by_pass o (reports b w place)) at
-      ∙ ap (λ (t : Bool). cond {A = Outcome} t (Ok (reported_by b w place p, Reported)) (Err C3)) (lt-ltb place (2 ^ 32) small)
+      ∙ ap (placed b w place p) (lt-ltb place (2 ^ 32) small)
 
   pub step-looked : step b (Look w) ≡ Ok (looked_by b w p, Least b.least)
   step-looked = ap (λ o. by_pass o (looks b w)) at
@@ -38,7 +46,7 @@ module _ (b : Book) (w : ℕ) (p : Deeds) (at : slice_get b.passes w ≡ Some p)
   answered-open : IsOk (step b (Claim w)) → p.ended ≡ false
   answered-open ok = go p.ended refl (subst (λ o. IsOk (by_pass o (claims b w))) at ok)
     where
-      go : (t : Bool) → p.ended ≡ t → IsOk (cond {A = Outcome} t (Err C2) (cond {A = Outcome} (ltb b.next b.jobs) (Ok (drawn_by b w p, Drawn b.next)) (Ok (ended_by b w p, Ended)))) → p.ended ≡ false
+      go : (t : Bool) → p.ended ≡ t → IsOk (claimed b w p t (ltb b.next b.jobs)) → p.ended ≡ false
       go true e ok = cc
       go false e ok = e
 

@@ -250,7 +250,7 @@ fn start_again(alloc: Global) -> Result<Core, AllocError>
     }
 }
 
-// Each growth is refused in turn by `rt try --test --fail-alloc N`: it changes nothing, and the step can be taken again.
+// Holds too where any one growth is refused: it changes nothing, and the step can be taken again.
 #[test]
 fn want_of_memory_changes_nothing(rt: HostRuntime) -> Result<(), Fail> {
     let mut numbers = Numbers(7);
