@@ -1,7 +1,7 @@
 -- What all workers together have found.
-use Rattle.std.proofs.Common.{◌≡◌, ◌⊎◌, ℕ, zero, suc, ◌+◌, ◌<◌, ◌≤◌, cond, eqb, List, [], ◌∷◌, length, map, true, Option, Some, None, inl, inr, refl, sym, ◌∙◌, ap, subst, arith, slice_get}
-use Rattle.std.specs.List.{Contains, sum_by}
-use Rattle.std.proofs.lemmas.Bool.{cases_lt, cases_eq, cond-true, cond-false, lt-ltb}
+use Rattle.std.proofs.Common.{◌≡◌, ℕ, zero, suc, ◌+◌, ◌<◌, ◌≤◌, cond, eqb, List, [], ◌∷◌, length, true, Option, Some, None, inl, inr, refl, sym, ◌∙◌, ap, subst, arith, slice_get}
+use Rattle.std.specs.List.{Contains}
+use Rattle.std.proofs.lemmas.Bool.{cases_lt, cases_eq, lt-ltb}
 use Rattle.std.proofs.lemmas.Bool.Decides.{nat_tests}
 use Rattle.std.proofs.lemmas.List.Sums.{sum_by-cons}
 use Rattle.std.proofs.lemmas.List.Elements.{Contains-append_right}
@@ -46,21 +46,21 @@ IsWorked-each bad begins jobs before after done k q at = (AreDone-at bad begins 
 contains-times : (xs : List ℕ) (x : ℕ) → 0 < times x xs → Contains xs x
 contains-times [] x some = absurd (omega (arith, some))
 contains-times (y ∷ xs) x some = elim (cases_eq y x) [
-    | inl e ↦ (0, omega arith, e)
-    | inr ne ↦
-        let none : cond {A = ℕ} (eqb y x) 1 0 ≡ 0 = grind (arith, nat_tests) in
-        Contains-append_right (y ∷ []) xs x (contains-times xs x (omega (arith, sum_by-cons (λ (z : ℕ). cond {A = ℕ} (eqb z x) 1 0) y xs)))
-  ]
+  | inl e ↦ (0, omega arith, e)
+  | inr ne ↦
+      let none : cond {A = ℕ} (eqb y x) 1 0 ≡ 0 = grind (arith, nat_tests) in
+      Contains-append_right (y ∷ []) xs x (contains-times xs x (omega (arith, sum_by-cons (λ (z : ℕ). cond {A = ℕ} (eqb z x) 1 0) y xs)))
+]
 
 -- a pass that drew the job
 drawn-by : (job : ℕ) (passes : List PassState) → 0 < times_drawn job (all_deeds passes) → (k : ℕ) × (p : PassState) × (slice_get passes k ≡ Some p) × Contains p.deeds.drawn job
 drawn-by job [] some = absurd (omega (arith, some))
 drawn-by job (p ∷ passes) some = elim (cases_lt 0 (times job p.deeds.drawn)) [
-    | inl here ↦ (0, p, refl, contains-times p.deeds.drawn job here)
-    | inr none ↦
-        let r = drawn-by job passes (omega (arith, sum_by-cons (λ (d : Deeds). times job d.drawn) p.deeds (all_deeds passes))) in
-        (suc r.0, r.1, r.2, r.3)
-  ]
+  | inl here ↦ (0, p, refl, contains-times p.deeds.drawn job here)
+  | inr none ↦
+      let r = drawn-by job passes (omega (arith, sum_by-cons (λ (d : Deeds). times job d.drawn) p.deeds (all_deeds passes))) in
+      (suc r.0, r.1, r.2, r.3)
+]
 
 -- ---- the fault
 
@@ -68,9 +68,9 @@ drawn-by job (p ∷ passes) some = elim (cases_lt 0 (times job p.deeds.drawn)) [
 job-of : (begins : ℕ → ℕ) (n : ℕ) → begins 0 ≡ 0 → (place : ℕ) → place < begins n → (job : ℕ) × (job < n) × (begins job ≤ place) × (place < begins (job + 1))
 job-of begins zero from place lt = absurd (omega arith)
 job-of begins (suc n) from place lt = elim (cases_lt place (begins n)) [
-    | inl below ↦ let r = job-of begins n from place below in (r.0, omega (arith, r.1), r.2, r.3)
-    | inr here ↦ (n, omega arith, here, subst (λ m. place < begins m) (let e : suc n ≡ n + 1 = omega arith in e) lt)
-  ]
+  | inl below ↦ let r = job-of begins n from place below in (r.0, omega (arith, r.1), r.2, r.3)
+  | inr here ↦ (n, omega arith, here, subst (λ m. place < begins m) (let e : suc n ≡ n + 1 = omega arith in e) lt)
+]
 
 slice_get-all_deeds : (passes : List PassState) (k : ℕ) (p : PassState) → slice_get passes k ≡ Some p → slice_get (all_deeds passes) k ≡ Some p.deeds
 slice_get-all_deeds [] k p e = cc
@@ -86,7 +86,6 @@ module _ (bad : ℕ → Type 0) (begins : ℕ → ℕ) (b : BookId) (passes : Li
     (from : begins 0 ≡ 0)
     (worked : (k : ℕ) (p : PassState) → slice_get passes k ≡ Some p → IsWorked bad begins b.sizes.jobs p.deeds)
     (drawn : IsEachDrawnOnce b passes) where
-
   -- the least bad place of each job was reported
   reported-least : (job : ℕ) → job < b.sizes.jobs → (place : ℕ) → IsLeastBad bad (begins job) (begins (job + 1)) (Some place) → IsReported (all_deeds passes) place
   reported-least job within place least =

@@ -1,4 +1,4 @@
-use Rattle.std.proofs.Common.{◌≡◌, ◌∙◌, subst, sym, ap, rules}
+use Rattle.std.proofs.Common.{◌≡◌, ◌∙◌, subst, sym}
 use Rattle.work_run.specs.Faults.{IsFault}
 use Rattle.work_run.specs.Work.{IsWorked}
 use Rattle.work_run.proofs.RunLemmas.{ArePasses-done, IsWorked-each, IsFault-least}

@@ -1,4 +1,4 @@
-use Rattle.std.proofs.Common.{◌≡◌, ◌∙◌, ◌<◌, ◌≤◌, ◌+◌, ℕ, sym, ap, subst, arith}
+use Rattle.std.proofs.Common.{◌≡◌, ◌∙◌, ◌<◌, ◌≤◌, ◌+◌, sym, ap, subst, arith}
 use Rattle.book_core.specs.Passes.{Deeds, with_drawn, with_end, with_report}
 use Rattle.book_live.specs.Callers.{PassState}
 use Rattle.work_run.specs.Work.{IsWorked}
