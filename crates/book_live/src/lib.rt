@@ -2,6 +2,7 @@
 #![tactic(auto)]
 
 mod books;
+mod laws;
 mod passes;
 mod rules;
 #[cfg(test)]
@@ -9,4 +10,5 @@ mod tests;
 mod views;
 
 pub use books::{Book, Memory};
+pub use laws::shown_law;
 pub use passes::Pass;

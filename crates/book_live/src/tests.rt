@@ -50,6 +50,19 @@ fn a_look_shows_nothing_before_the_first_report(rt: HostRuntime) -> Result<(), F
     Ok(())
 }
 
+// Run with each allocation refused in turn.
+#[test]
+fn want_of_memory_is_answered_and_a_second_book_is_made(rt: HostRuntime) -> Result<(), Fail> {
+    let (book, mut first, second) = match book_of_two(rt.alloc(), 2) {
+        Ok(made) => made,
+        Err(_) => book_of_two(rt.alloc(), 2)?,
+    };
+    assert_eq!(rt; book.claim(&mut first), Some(0));
+    assert_eq!(rt; book.look(&mut first), None);
+    assert_eq!(rt; (second.number(), second.ended()), (1, false));
+    Ok(())
+}
+
 /// What the threads of a book drew, and whether a look was above a report of its own pass.
 #[derive(Drop)]
 struct Tally {

@@ -151,6 +151,19 @@ fn the_least_of_two_bad_places_is_found_by_any_number_of_workers(
     Ok(())
 }
 
+// Run with each allocation refused in turn.
+#[test]
+fn want_of_memory_is_answered_and_a_second_run_finds_the_fault(
+    rt: HostRuntime,
+) -> Result<(), Fail> {
+    let fault = match run_jobs(&rt, rt.alloc(), &Tens, 7, &OpenGate) {
+        Ok(fault) => fault,
+        Err(_) => run_jobs(&rt, rt.alloc(), &Tens, 7, &OpenGate)?,
+    };
+    assert_eq!(rt; fault, Some(12));
+    Ok(())
+}
+
 #[test]
 fn no_jobs_have_no_fault(rt: HostRuntime) -> Result<(), Fail> {
     let none = Good { count: 0 };
