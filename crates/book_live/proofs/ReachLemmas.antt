@@ -1,0 +1,42 @@
+-- What holds of each book that the machine reaches.
+use Rattle.std.proofs.Common.{◌≡◌, ℕ, ◌+◌, ◌≤◌, [], ◌∷◌, ◌++◌, length, Some, Ok, refl, sym, ◌∙◌, ap, subst, arith, slice_get}
+use Rattle.std.proofs.lemmas.List.Sums.{count_by-le-length}
+use Rattle.book_core.specs.declared.events.Event.{Event}
+use Rattle.book_core.specs.declared.events.Answer.{Answer}
+use Rattle.book_core.specs.Passes.{Deeds}
+use Rattle.book_core.specs.Books.{Book, start}
+use Rattle.book_core.specs.Steps.{step}
+use Rattle.book_core.specs.Runs.{Run}
+use Rattle.book_core.specs.Laws.{BookLaw}
+use Rattle.book_core.proofs.ListLemmas.{le-sum_by}
+use Rattle.book_core.proofs.RunLemmas.{BookLaw-after, after-snoc, sizes-after}
+use Rattle.book_live.specs.declared.views.Sizes.{Sizes}
+use Rattle.book_live.specs.Shown.{IsReached}
+
+pub IsReached-start : (z : Sizes) → IsReached z (start z.jobs z.workers)
+IsReached-start z = ([], [], refl)
+
+-- one more event leads to the book after its step
+pub IsReached-step : (z : Sizes) (b c : Book) (e : Event) (a : Answer) → IsReached z b → step b e ≡ Ok (c, a) → IsReached z c
+IsReached-step z b c e a r is =
+    (r.0 ++ e ∷ [], _, after-snoc z.jobs z.workers r.0 e c a (ap (λ (x : Run). x.fault) r.2) (ap (λ (x : Run). step x.book e) r.2 ∙ is))
+
+module _ (z : Sizes) (b : Book) (r : IsReached z b) where
+  pub BookLaw-reached : BookLaw b
+  BookLaw-reached = subst (λ (x : Run). BookLaw x.book) r.2 (BookLaw-after z.jobs z.workers r.0)
+
+  pub jobs-reached : b.jobs ≡ z.jobs
+  jobs-reached = sym (ap (λ (x : Run). x.book.jobs) r.2) ∙ (sizes-after z.jobs z.workers r.0).0
+
+  pub passes-reached : length b.passes ≡ z.workers
+  passes-reached = sym (ap (λ (x : Run). length x.book.passes) r.2) ∙ (sizes-after z.jobs z.workers r.0).1
+
+  -- each claim drew a job or ended a pass, so they are not many
+  pub next-le : b.next ≤ z.jobs + z.workers
+  next-le =
+      let law = BookLaw-reached in
+      omega (arith, law.drawn, law.total, count_by-le-length (λ (d : Deeds). d.ended) b.passes, jobs-reached, passes-reached)
+
+  -- a pass has drawn no more jobs than there were claims
+  pub length-drawn-le : (w : ℕ) (p : Deeds) → slice_get b.passes w ≡ Some p → length p.drawn ≤ b.next
+  length-drawn-le w p at = omega (arith, le-sum_by (λ (d : Deeds). length d.drawn) b.passes w p at, BookLaw-reached.drawn)

@@ -1,0 +1,32 @@
+use Rattle.std.proofs.Common.{◌≡◌, ◌∙◌, ℕ, suc, ◌+◌, ◌-◌, ◌<◌, [], false, refl, sym, ap, subst, arith, rules}
+use Rattle.book_live.specs.Views.{alone, deeds_of}
+use Rattle.book_live.proofs.CallerLemmas.{first-seat, other-seats, AreFirstPasses-push}
+use Rattle.book_live.proofs.books.Book.new.Goals as goal
+
+one-less : (w n : ℕ) → n < w → w - n ≡ suc (w - (n + 1))
+one-less w n lt = omega arith
+
+pub invariant_of-push_reserved : goal.invariant_of-push_reserved
+invariant_of-push_reserved c =
+    let i = c.loop-number.invariant in
+    let n = c.loop-number.number in
+    let own = first-seat _ _ _ n _ _ c.split.ensures.first.1 i.rest (one-less c.args.workers n c.loop-number-test.true) in
+    subst (λ m. (m ≡ (alone m.0.sizes n (deeds_of m.0), [])) × ((deeds_of m.0).ended ≡ false)) (sym own) (refl, refl)
+
+pub loop-number-preserved : goal.loop-number-preserved
+loop-number-preserved c =
+    let i = c.loop-number.invariant in
+    let n = c.loop-number.number in
+    let left = one-less c.args.workers n c.loop-number-test.true in
+    let own = first-seat _ _ _ n _ _ c.split.ensures.first.1 i.rest left in
+    record {
+      room = search rules;
+      count = search rules;
+      table = c.split.ensures.others.0 ∙ i.table;
+      rest = other-seats _ _ _ n _ _ c.split.ensures.others.1 i.rest left;
+      dealt = AreFirstPasses-push c.in_ok-book.book _ _ _ c.push_reserved.ensures.items i.dealt (
+        (λ j. record { table = (c.split.ensures.first.0 ∙ i.table) j; sizes = ap (λ m. m.0.sizes) own j }),
+        sym i.count,
+        ap (λ m. deeds_of m.0) own,
+      );
+    }

@@ -1,0 +1,14 @@
+use Rattle.std.proofs.Common.{◌≡◌, ◌-◌, ◌≤◌, [], length, vec_capacity}
+use Rattle.book_core.specs.Shares.{all_fresh}
+use Rattle.book_live.specs.Views.{view}
+use Rattle.book_live.proofs.CallerLemmas.{AreFirstPasses}
+use Rattle.book_live.proofs.books.Book.new.Given as goal
+
+abbrev pub invariant-loop-number : goal.invariant-loop-number
+invariant-loop-number l = record {
+  room : l.workers ≤ vec_capacity l.passes;
+  count : length l.passes.items ≡ l.number;
+  table : l.seat.table_id ≡ l.book.table;
+  rest : l.seat.me ≡ (view l.book.sizes (all_fresh l.number (l.workers - l.number)), []);
+  dealt : AreFirstPasses l.book l.passes.items;
+}

@@ -1,0 +1,4 @@
+pub mod Views
+pub mod Shown
+pub mod Steps
+pub mod Callers

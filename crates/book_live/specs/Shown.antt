@@ -1,0 +1,48 @@
+-- The rule of a live book: its two words and the views of its seats show a state of the book as a machine.
+use Rattle.std.specs.Prelude.{◌≡◌, ℕ, ◌≤◌, ◌^◌, if◌then◌else◌, nat_lt, List, length, slice_index, slice_set, Option, Some, None, Ok}
+use Rattle.atomic_table.specs.Table.{State}
+use Rattle.book_core.specs.declared.events.Event.{Event}
+use Rattle.book_core.specs.declared.events.Answer.{Answer}
+use Rattle.book_core.specs.Passes.{Deeds}
+use Rattle.book_core.specs.Books.{Book}
+use Rattle.book_core.specs.Steps.{step}
+use Rattle.book_core.specs.Runs.{going, after}
+use Rattle.book_core.specs.Shares.{IsDealt}
+use Rattle.book_live.specs.declared.views.Sizes.{Sizes}
+use Rattle.book_live.specs.declared.views.View.{View}
+use Rattle.book_live.specs.Views.{shares, alone}
+
+-- some list of events leads the machine from its start to this book, without a fault
+abbrev pub IsReached : Sizes → Book → Type 0
+IsReached z b = (events : List Event) × (answers : List Answer) × (after z.jobs z.workers events ≡ going b answers)
+
+-- the word that stands for a place, or for none, which is above all places
+abbrev pub word_of : Option ℕ → ℕ
+word_of None = 2 ^ 32
+word_of (Some place) = place
+
+-- the place that a word stands for, if it stands for one
+abbrev pub place_of : ℕ → Option ℕ
+place_of word = (if nat_lt word (2 ^ 32) then Some word else None)
+
+abbrev pub IsInLimits : Sizes → Type 0
+IsInLimits z = (z.jobs ≤ 2 ^ 32) × (z.workers ≤ 64)
+
+-- the words and the views show this book: each of its passes stands in the view of one seat
+pub record Shows {S : Type 0} (z : Sizes) (b : Book) (s : State S View) : Type 0 where
+  pub limits : IsInLimits z
+  pub words : length s.words ≡ 2
+  pub next : slice_index s.words 0 ≡ b.next
+  pub least : slice_index s.words 1 ≡ word_of b.least
+  pub dealt : IsDealt b (shares s.views)
+
+abbrev pub Shown : {S : Type 0} → Sizes → State S View → Type 0
+Shown z s = (b : Book) × IsReached z b × Shows z b s
+
+-- one word becomes n, and the view of one seat v
+abbrev pub moved : {S : Type 0} → State S View → ℕ → ℕ → ℕ → View → State S View
+moved s word n seat v = record { words = slice_set s.words word n; homes = s.homes; views = slice_set s.views seat v }
+
+-- the event is answered, and what it leads to is shown once this word is n and the seat's view has followed
+abbrev pub ShowsEvent : {S : Type 0} → Sizes → Book → Event → State S View → ℕ → ℕ → ℕ → ℕ → Type 0
+ShowsEvent z b e s word n seat w = (c : Book) × (a : Answer) × (p : Deeds) × (step b e ≡ Ok (c, a)) × Shows z c (moved s word n seat (alone z w p))

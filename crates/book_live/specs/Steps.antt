@@ -1,0 +1,21 @@
+-- What a claim and a look tell the pass that takes them.
+use Rattle.std.specs.Prelude.{◌≡◌, ℕ, ◌<◌, ◌≤◌, length, Some}
+use Rattle.std.specs.List.{Contains}
+use Rattle.book_core.specs.Passes.{with_drawn, with_end, with_seen}
+use Rattle.book_core.specs.Places.{IsAtMost}
+use Rattle.book_live.specs.declared.views.View.{View}
+use Rattle.book_live.specs.Views.{changed, deeds_of}
+use Rattle.book_live.specs.Shown.{place_of}
+
+-- A claim that finds the number of a job draws it, and any other ends the pass.
+-- The pass has drawn no more jobs than there were claims.
+pub record Claimed (before : View) (found : ℕ) (after : View) : Type 0 where
+  pub drawn : found < before.sizes.jobs → after ≡ changed before (λ p. with_drawn p found)
+  pub ended : before.sizes.jobs ≤ found → after ≡ changed before with_end
+  pub few : length (deeds_of before).drawn ≤ found
+
+-- A look records what it finds, which is not above what the pass saw or reported.
+pub record Looked (before : View) (found : ℕ) (after : View) : Type 0 where
+  pub recorded : after ≡ changed before (λ p. with_seen p (place_of found))
+  pub own : (place : ℕ) → Contains (deeds_of before).reported place → IsAtMost (place_of found) (Some place)
+  pub falls : IsAtMost (place_of found) (deeds_of before).seen

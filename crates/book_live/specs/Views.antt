@@ -1,0 +1,50 @@
+-- What a seat shows: its share of the passes of the book.
+use Rattle.std.specs.Prelude.{ℕ, List, [], ◌∷◌, ◌++◌, map}
+use Rattle.book_core.specs.Passes.{Deeds, fresh}
+use Rattle.book_core.specs.Shares.{Held, held, all_fresh, first, others}
+use Rattle.book_live.specs.declared.views.Sizes.{Sizes}
+use Rattle.book_live.specs.declared.views.View.{View}
+
+abbrev pub view : Sizes → List Held → View
+view z share = record { sizes = z; held = share }
+
+abbrev pub shares : List View → List (List Held)
+shares views = map (λ v. v.held) views
+
+-- a seat of one pass
+abbrev pub alone : Sizes → ℕ → Deeds → View
+alone z number p = view z (held number p ∷ [])
+
+-- the first seat has all passes
+abbrev pub opening : Sizes → View
+opening z = view z (all_fresh 0 z.workers)
+
+abbrev pub first_deeds : List Held → Deeds
+first_deeds [] = fresh
+first_deeds (h ∷ hs) = h.deeds
+
+-- what the pass of a seat has done
+abbrev pub deeds_of : View → Deeds
+deeds_of v = first_deeds v.held
+
+abbrev pub first_changed : (Deeds → Deeds) → List Held → List Held
+first_changed f [] = []
+first_changed f (h ∷ hs) = held h.number (f h.deeds) ∷ hs
+
+-- the seat of a pass, once that pass has taken a step
+abbrev pub changed : View → (Deeds → Deeds) → View
+changed v f = view v.sizes (first_changed f v.held)
+
+-- a new seat takes the first pass of another, which keeps the others
+abbrev pub first_alone : View → View
+first_alone v = view v.sizes (first v.held)
+
+abbrev pub without_first : View → View
+without_first v = view v.sizes (others v.held)
+
+-- a seat takes in the passes of another, of which nothing is left
+abbrev pub together : View → View → View
+together v w = view v.sizes (v.held ++ w.held)
+
+abbrev pub spent : View
+spent = view (record { jobs = 0; workers = 0 }) []

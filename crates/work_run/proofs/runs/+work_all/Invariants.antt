@@ -1,0 +1,5 @@
+use Rattle.std.proofs.Common.{vec_len}
+use Rattle.work_run.proofs.runs.+work_all.Given as goal
+
+abbrev pub decreases-work_all : goal.decreases-work_all
+decreases-work_all g l = vec_len l.passes

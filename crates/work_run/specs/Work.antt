@@ -1,0 +1,29 @@
+-- What a worker has done of its jobs.
+use Rattle.std.specs.Prelude.{◌≡◌, ℕ, ◌+◌, ◌<◌, true, List, slice_get, Some}
+use Rattle.std.specs.List.{Contains, AllZip}
+use Rattle.book_core.specs.Passes.{Deeds, fresh}
+use Rattle.book_live.specs.Callers.{BookId, PassState}
+use Rattle.work_run.specs.Faults.{IsLeastBad}
+
+-- for bad places, the places where jobs begin, and the number of jobs
+pub record IsWorked (bad : ℕ → Type 0) (begins : ℕ → ℕ) (jobs : ℕ) (d : Deeds) : Type 0 where
+  -- the least bad place of each drawn job was reported
+  pub found : (job : ℕ) → Contains d.drawn job → (place : ℕ) → IsLeastBad bad (begins job) (begins (job + 1)) (Some place) → Contains d.reported place
+  -- each reported place is a bad one
+  pub is_bad : (place : ℕ) → Contains d.reported place → bad place
+  pub within : (place : ℕ) → Contains d.reported place → place < begins jobs
+
+-- the pass of a worker, before and after its work
+pub record IsDone (bad : ℕ → Type 0) (begins : ℕ → ℕ) (jobs : ℕ) (before after : PassState) : Type 0 where
+  pub book : after.book ≡ before.book
+  pub number : after.number ≡ before.number
+  pub ended : after.deeds.ended ≡ true
+  pub worked : IsWorked bad begins jobs after.deeds
+
+-- the passes are of this book, and have done nothing
+abbrev pub AreNew : BookId → List PassState → Type 0
+AreNew book passes = (k : ℕ) (p : PassState) → slice_get passes k ≡ Some p → (p.book ≡ book) × (p.deeds ≡ fresh)
+
+-- as many passes as before, in their order, each done
+abbrev pub AreDone : (ℕ → Type 0) → (ℕ → ℕ) → ℕ → List PassState → List PassState → Type 0
+AreDone bad begins jobs before after = AllZip (IsDone bad begins jobs) before after

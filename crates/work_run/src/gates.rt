@@ -1,0 +1,15 @@
+//! What a worker passes before each job that it runs.
+
+/// A place where workers are watched, or held for a while.
+pub trait Gate {
+    /// Is called once before each job that is run, by the worker that runs it, and returns.
+    fn before(&self, job: u64);
+}
+
+/// Holds nobody.
+#[derive(Drop)]
+pub struct OpenGate;
+
+impl Gate for OpenGate {
+    fn before(&self, _job: u64) {}
+}

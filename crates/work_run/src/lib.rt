@@ -1,0 +1,15 @@
+//! Workers that share the jobs of a book: whatever the schedule, the answer is the least bad place of all jobs.
+#![tactic(auto)]
+
+mod gates;
+mod jobs;
+mod promises;
+mod runs;
+#[cfg(test)]
+mod tests;
+mod workers;
+
+pub use gates::{Gate, OpenGate};
+pub use jobs::Job;
+pub use runs::run_jobs;
+pub use workers::work;

@@ -1,0 +1,79 @@
+//! All workers of a check.
+
+ghost use Rattle.std.specs.Prelude.{◌≡◌, ℕ, ◌<◌, ◌≤◌, IfOk, Some, slice_get, vec_capacity};
+ghost use Rattle.book_core.specs.Passes.{fresh};
+ghost use Rattle.book_live.specs.Callers.{PassState};
+ghost use Rattle.work_run.specs.Faults.{IsFault};
+ghost use Rattle.work_run.specs.Work.{AreDone, AreNew};
+
+use crate::gates::Gate;
+use crate::jobs::Job;
+use crate::promises::Worked;
+use crate::workers::work;
+use book_live::{Book, Memory, Pass};
+use std::alloc::Global;
+use std::snapshot::Snapshot;
+use std::sync::Wait;
+use std::thread;
+use std::thread::{Scope, Threads};
+
+/// The least bad place of all jobs, or none, by so many workers at once.
+///
+/// The caller's thread is one of them, and each other worker has a thread of its own.
+/// Where a thread can't be started, those that run are joined first.
+pub fn run_jobs<R: Threads + Wait, J: Job + Sync, G: Gate + Sync>(
+    rt: &R,
+    alloc: Global,
+    job: &J,
+    workers: u8,
+    gate: &G,
+) -> Result<Option<u64>, Memory>
+    requires { (0 < workers) × (workers ≤ 64) }
+    ensures { IfOk result (IsFault (J.bad job.now) (J.begins job.now (J.jobs job.now))) }
+{
+    let (book, passes) = Book::new(alloc, job.count(), workers)?;
+    let shared = &book;
+    let ended = thread::scope(
+        thread::scope_env(),
+        rt,
+        |scope| -> Result<Vec<Pass>, Memory>
+            requires { (shared.now.sizes.jobs ≡ J.jobs job.now) × AreNew shared.now passes.items }
+            ensures { IfOk result (λ done. AreDone (J.bad job.entry.now) (J.begins job.entry.now) (J.jobs job.entry.now) passes.items done.items) }
+        { work_all(rt, scope, job, shared, gate, passes) },
+    )?;
+    Ok(book.close(ended))
+}
+
+/// Works through the passes at once: the first on the caller's thread, each other on a thread of its own.
+/// They come back in their order.
+fn work_all<'s, E, R: Threads, J: Job + Sync, G: Gate + Sync>(
+    rt: &R,
+    scope: &Scope<'s, E>,
+    job: &'s J,
+    book: &'s Book,
+    gate: &'s G,
+    mut passes: Vec<Pass>,
+) -> Result<Vec<Pass>, Memory>
+    requires jobs { book.now.sizes.jobs ≡ J.jobs job.now }
+    requires new { AreNew book.now passes.items }
+    ensures done { IfOk result (λ done. AreDone (J.bad job.now) (J.begins job.now) (J.jobs job.now) passes.items done.items) }
+    ensures capacity { IfOk result (λ done. vec_capacity passes ≤ vec_capacity done) }
+{
+    let Some(pass) = passes.pop() else {
+        return Ok(passes);
+    };
+    if passes.is_empty() {
+        passes.push_reserved(work(job, book, pass, gate));
+        return Ok(passes);
+    }
+    let promise = Worked {
+        job: Snapshot::of(job),
+        pass: Snapshot::of(&pass),
+    };
+    let worker = scope.spawn_with(promise, move || work(job, book, pass, gate))?;
+    let others = work_all(rt, scope, job, book, gate, passes);
+    let pass = worker.join(rt);
+    let mut passes = others?;
+    passes.push_reserved(pass);
+    Ok(passes)
+}
