@@ -1,7 +1,7 @@
 -- The bits of masks that are joined, cut, turned over and shifted.
-use Rattle.std.proofs.Common.{◌≡◌, ◌≢◌, ℕ, zero, suc, ◌+◌, ◌-◌, ◌*◌, ◌/◌, ◌%◌, ◌^◌, ◌<◌, ◌≤◌, ◌⊎◌, inl, inr, refl, sym, ◌∙◌, ap, ap₂, subst, arith, mod-eq_of_lt, min, max}
+use Rattle.std.proofs.Common.{◌≡◌, ◌≢◌, ℕ, ◌+◌, ◌-◌, ◌*◌, ◌/◌, ◌%◌, ◌^◌, ◌<◌, ◌≤◌, ◌⊎◌, inl, inr, sym, ◌∙◌, ap, subst, arith, mod-eq_of_lt}
 use Rattle.std.specs.Prelude.{bit_and, bit_or}
-use Rattle.std.specs.Int.{bit_at, bit_not, w32}
+use Rattle.std.specs.Int.{bit_at, w32}
 use Rattle.std.proofs.lemmas.Bool.{cases_eq, cases_lt}
 use Rattle.std.proofs.lemmas.Nat.{and_le_r, pow_pos, shr-shr}
 use Rattle.std.proofs.lemmas.Nat.Bits.{bit_at-lt, bit_at_and, bit_at_or, bit_at_not, bit_at_above, bit_at_cat_low, bit_at_cat_high, bit_at-zero, same_from_bits}
@@ -80,3 +80,17 @@ shl_in m k x fits h = elim (cases_lt x k) [
   where
     whole : bit_at (m * 2 ^ k % 2 ^ 32) x ≡ bit_at (m * 2 ^ k + 0) x
     whole = ap (λ s. bit_at s x) (mod-eq_of_lt fits ∙ (let e : m * 2 ^ k ≡ m * 2 ^ k + 0 = omega arith in e))
+
+-- ---- a mask of one number
+
+pub goal_met : (m goal c : ℕ) → ((x : ℕ) → x ≢ c → bit_at goal x ≡ bit_at 0 x) → bit_and m goal ≢ 0 → IsIn m c
+goal_met m goal c others ne = elim (in_or_out m c) [ inl i ↦ i | inr o ↦ absurd (ne (same_from_bits (bit_and m goal) 0 (none o))) ]
+  where
+    none : bit_at m c ≡ 0 → (x : ℕ) → bit_at (bit_and m goal) x ≡ bit_at 0 x
+    none o x = elim (in_or_out (bit_and m goal) x) [
+      | inl i ↦ absurd (let parts = both_in m goal x i in elim (cases_eq x c) [ inl e ↦ (let z : bit_at m x ≡ 0 = ap (bit_at m) e ∙ o in let one = parts.0 in omega arith) | inr far ↦ (let z = others x far ∙ bit_at-zero x in let one = parts.1 in omega arith) ])
+      | inr z ↦ z ∙ sym (bit_at-zero x)
+    ]
+
+pub goal_missed : (m goal c : ℕ) → bit_at goal c ≡ 1 → bit_and m goal ≡ 0 → bit_at m c ≡ 0
+goal_missed m goal c set none = elim (in_or_out m c) [ inl i ↦ absurd (let one = in_both m goal c i set in let z = ap (λ k. bit_at k c) none ∙ bit_at-zero c in omega arith) | inr o ↦ o ]

@@ -1,16 +1,15 @@
 -- Masks that grow by the cells next to them.
-use Rattle.std.proofs.Common.{◌≡◌, ◌≢◌, ℕ, zero, suc, ◌+◌, ◌-◌, ◌*◌, ◌/◌, ◌%◌, ◌^◌, ◌<◌, ◌≤◌, Bool, true, false, cond, eqb, ◌⊎◌, Some, None, inl, inr, refl, sym, ◌∙◌, ap, ap₂, subst, arith, ne_eqb, ltb, lit<, ◌↔◌}
+use Rattle.std.proofs.Common.{◌≡◌, ◌≢◌, ℕ, ◌+◌, ◌-◌, ◌*◌, ◌/◌, ◌%◌, ◌^◌, ◌<◌, ◌≤◌, Bool, true, false, cond, eqb, ◌⊎◌, Some, None, inl, inr, refl, sym, ◌∙◌, ap, subst, arith, ne_eqb, ltb, lit<}
 use Rattle.std.specs.Prelude.{bit_and, bit_or, ◌&&◌}
 use Rattle.std.specs.Int.{bit_at}
 use Rattle.std.proofs.lemmas.Bool.{cond-false, eqb-false, eqb-true, eq-eqb, ltb-true, lt-ltb, and_parts, and_from, agree_below, agree_below_at}
-use Rattle.std.proofs.lemmas.Nat.{mul-le, pow-add}
+use Rattle.std.proofs.lemmas.Nat.{mul-le}
 use Rattle.std.proofs.Math.Nat.{pow-le-pow_right}
 use Rattle.puz_board.specs.declared.moves.Move.{Move}
 use Rattle.puz_board.specs.declared.moves.Move.TheVariants.{Up, Down, Left, Right}
 use Rattle.puz_board.specs.Cells.{step_of, Adjacent}
 use Rattle.puz_board.proofs.CellLemmas.{by_side}
 use Rattle.pat_place.specs.Masks.{IsMaskOf}
-use Rattle.pat_place.specs.Regions.{Reaches, here, onward}
 use Rattle.pat_place.proofs.BitLemmas.{IsIn, both_in, in_both, either_in, in_left, in_right, in_shr, in_shl, shl_in, sub_le, in_below, in_or_out, in_but, but_in}
 use Rattle.pat_place.proofs.SideLemmas.{few_cells}
 

@@ -1,5 +1,5 @@
 -- Paths of free cells: joined cells are joined back, and whether cells are joined can be decided.
-use Rattle.std.proofs.Common.{◌≡◌, ◌≢◌, ℕ, zero, suc, ◌+◌, ◌*◌, ◌<◌, ◌≤◌, Bool, true, false, cond, eqb, ◌⊎◌, List, [], ◌∷◌, length, Option, Some, None, inl, inr, refl, sym, ◌∙◌, ap, ap₂, subst, arith}
+use Rattle.std.proofs.Common.{◌≡◌, ℕ, zero, suc, ◌*◌, ◌<◌, ◌≤◌, ◌⊎◌, List, Option, Some, None, inl, inr, refl, ap, subst, arith}
 use Rattle.std.proofs.lemmas.Bool.{cases_eq, cases_lt, cases_Bool, both_ways}
 use Rattle.puz_board.specs.declared.moves.Move.{Move}
 use Rattle.puz_board.specs.declared.moves.Move.TheVariants.{Up, Down, Left, Right}
@@ -7,7 +7,7 @@ use Rattle.puz_board.specs.Cells.{step_of, reverse_of, Adjacent}
 use Rattle.puz_board.proofs.CellLemmas.{reverse_of-takes_back}
 use Rattle.pat_place.specs.Patterns.{has}
 use Rattle.pat_place.specs.Placements.{IsFree}
-use Rattle.pat_place.specs.Regions.{Reaches, here, onward, Joins}
+use Rattle.pat_place.specs.Regions.{here, onward, Joins}
 
 abbrev pub Decided : Type 0 → Type 0
 Decided A = A ⊎ (¬ A)

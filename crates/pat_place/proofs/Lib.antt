@@ -15,3 +15,4 @@ pub mod BitLemmas
 pub mod GrownLemmas
 pub mod RegionLemmas
 pub mod SlotSteps
+pub mod CountLemmas

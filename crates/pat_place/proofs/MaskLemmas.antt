@@ -1,12 +1,12 @@
 -- Masks as lists of numbers.
-use Rattle.std.proofs.Common.{◌≡◌, ◌≢◌, ℕ, zero, suc, ◌+◌, ◌-◌, ◌*◌, ◌/◌, ◌%◌, ◌^◌, ◌<◌, ◌≤◌, Bool, true, false, cond, eqb, not, ◌⊎◌, List, [], ◌∷◌, ◌++◌, length, map, Option, Some, None, inl, inr, refl, sym, ◌∙◌, ap, ap₂, subst, arith, filter, lit<, mod-eq_of_lt}
-use Rattle.std.specs.Prelude.{slice_get, count_ones, bit_and, bit_or, ◌&&◌, ◌||◌}
-use Rattle.std.specs.Int.{bit_at, bit_not, w32}
+use Rattle.std.proofs.Common.{◌≡◌, ◌≢◌, ℕ, zero, suc, ◌+◌, ◌-◌, ◌/◌, ◌%◌, ◌^◌, ◌<◌, ◌≤◌, true, false, cond, eqb, not, ◌⊎◌, List, [], ◌∷◌, ◌++◌, length, Some, inl, inr, refl, sym, ◌∙◌, ap, ap₂, arith, filter, lit<, mod-eq_of_lt}
+use Rattle.std.specs.Prelude.{slice_get, count_ones, ◌&&◌}
+use Rattle.std.specs.Int.{bit_at}
 use Rattle.std.specs.List.{AllByRecursion, range_with_len}
-use Rattle.std.proofs.lemmas.Bool.{cases_eq, cases_lt, cases_Bool, both_ways, eqb-true, eqb-false, eq-eqb, ne_eqb, true≢false, cond-true, cond-false}
-use Rattle.std.proofs.lemmas.Nat.{ones_cat, mod-pow-add, shr-shr, pow-add, ones-le, ones_le_self, zero_from_ones, mod_below, pow_pos}
+use Rattle.std.proofs.lemmas.Bool.{cases_eq, cases_Bool, both_ways, eqb-true, eq-eqb, ne_eqb, cond-true, cond-false}
+use Rattle.std.proofs.lemmas.Nat.{ones_cat, mod-pow-add, ones-le, ones_le_self, zero_from_ones, mod_below, pow_pos}
 use Rattle.std.proofs.lemmas.List.{append-nil}
-use Rattle.std.proofs.lemmas.Nat.Bits.{bit_at-lt, bit_at_clear_same, bit_at_clear_other, bit_at_ones, bit_at_ones_above, bit_at-zero}
+use Rattle.std.proofs.lemmas.Nat.Bits.{bit_at-lt, bit_at_ones, bit_at_ones_above, bit_at-zero}
 use Rattle.pat_place.specs.Masks.{has_bit, numbers_below, ones_below}
 use Rattle.pat_place.specs.Patterns.{has, IsAscending}
 use Rattle.pat_place.specs.Ranks.{without}

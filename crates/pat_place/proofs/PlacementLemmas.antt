@@ -1,12 +1,12 @@
 -- Placements: those of boards, and how they are stored.
-use Rattle.std.proofs.Common.{◌≡◌, ◌≢◌, ℕ, zero, suc, ◌+◌, ◌-◌, ◌*◌, ◌<◌, ◌≤◌, Bool, true, false, cond, eqb, ◌⊎◌, List, [], ◌∷◌, ◌++◌, length, map, take, drop, set, get_or, replicate, inl, inr, refl, sym, ◌∙◌, ap, ap₂, subst, arith, length-append}
+use Rattle.std.proofs.Common.{◌≡◌, ◌≢◌, ℕ, zero, suc, ◌+◌, ◌-◌, ◌*◌, ◌<◌, ◌≤◌, false, eqb, List, [], ◌∷◌, ◌++◌, length, take, drop, set, get_or, replicate, refl, sym, ◌∙◌, ap, ap₂, subst, arith, length-append}
 use Rattle.std.specs.List.{AllByRecursion}
-use Rattle.std.proofs.lemmas.Bool.{cases_eq, both_ways, or_parts, or_from, ne_eqb, eqb-false, eqb-true}
+use Rattle.std.proofs.lemmas.Bool.{or_parts, or_from, ne_eqb, eqb-false}
 use Rattle.std.proofs.lemmas.List.{length-map, length-replicate, length-set, take_at, drop_at, take_all}
 use Rattle.puz_board.specs.Boards.{IsBoard, IsGoal, cell_of, side_of}
 use Rattle.pat_place.specs.Patterns.{PatternView, IsPattern, has}
 use Rattle.pat_place.specs.Placements.{PlacementView, IsPlacement, IsApart, IsFree, placement_of}
-use Rattle.pat_place.specs.StoredPlacements.{IsStoredPlacement, placement_shown, stored_placement_of}
+use Rattle.pat_place.specs.StoredPlacements.{IsStoredPlacement, placement_shown}
 use Rattle.pat_place.specs.declared.placements.Placement.TheInside.{Inside}
 use Rattle.pat_place.proofs.ListLemmas.{apart_from_ascending}
 use Rattle.pat_place.proofs.PatternLemmas.{few_tiles}

@@ -1,17 +1,16 @@
 -- A rank made cell by cell, and a placement made cell by cell from its rank.
-use Rattle.std.proofs.Common.{◌≡◌, ◌≢◌, ℕ, zero, suc, ◌+◌, ◌-◌, ◌*◌, ◌/◌, ◌%◌, ◌^◌, ◌<◌, ◌≤◌, Bool, true, false, cond, eqb, not, ◌⊎◌, List, [], ◌∷◌, ◌++◌, length, map, take, drop, get_or, set, replicate, Option, Some, None, inl, inr, refl, sym, ◌∙◌, ap, ap₂, subst, arith, append_assoc, lit<, zero-mul, mul-zero, mul_comm, mod-eq_of_lt}
+use Rattle.std.proofs.Common.{◌≡◌, ◌≢◌, ℕ, suc, ◌+◌, ◌-◌, ◌*◌, ◌/◌, ◌%◌, ◌^◌, ◌<◌, ◌≤◌, List, [], ◌∷◌, ◌++◌, length, take, drop, get_or, set, replicate, Some, inl, inr, refl, sym, ◌∙◌, ap, ap₂, subst, arith, append_assoc, lit<, zero-mul, mul-zero, mul_comm, mod-eq_of_lt}
 use Rattle.std.specs.Prelude.{slice_get, count_ones}
 use Rattle.std.specs.Int.{bit_at}
 use Rattle.std.specs.List.{AllByRecursion, range_with_len}
-use Rattle.std.proofs.lemmas.Bool.{cases_eq, both_ways}
+use Rattle.std.proofs.lemmas.Bool.{cases_eq}
 use Rattle.std.proofs.lemmas.List.{drop_more, drop_all, append-nil, take_more_set, length-set, drop-set-lt, drop-drop, drop-replicate}
 use Rattle.std.proofs.lemmas.Nat.{mul-le, mod_below, div-add-mod', div-mul-add, div_below}
-use Rattle.std.proofs.lemmas.Nat.Bits.{bit_at_ones, bit_at-lt}
+use Rattle.std.proofs.lemmas.Nat.Bits.{bit_at_ones}
 use Rattle.std.proofs.Math.Nat.{pow-suc, pow-le-pow_right}
 use Rattle.pat_place.specs.Masks.{numbers_of, ones_below}
-use Rattle.pat_place.specs.Patterns.{has}
 use Rattle.pat_place.specs.Placements.{IsApart}
-use Rattle.pat_place.specs.Ranks.{without, lists_of, placements, IsRank}
+use Rattle.pat_place.specs.Ranks.{lists_of}
 use Rattle.pat_place.proofs.ListLemmas.{apart_from_ascending, ascending-range, apart_at, all_at}
 use Rattle.pat_place.proofs.MaskLemmas.{ones_below-mono, get-numbers_below, numbers_below-clear, ascending-numbers_below, length-numbers_below, numbers_below-full, ones_below-suc, has-numbers_below}
 use Rattle.pat_place.proofs.RankLemmas.{falling, rank_step, length-without, length_lists}

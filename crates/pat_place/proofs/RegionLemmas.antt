@@ -1,5 +1,5 @@
 -- A mask that grows to a region.
-use Rattle.std.proofs.Common.{◌≡◌, ◌≢◌, ℕ, ◌+◌, ◌-◌, ◌*◌, ◌^◌, ◌<◌, ◌≤◌, ◌⊎◌, inl, inr, refl, sym, ◌∙◌, ap, subst, arith}
+use Rattle.std.proofs.Common.{◌≡◌, ◌≢◌, ℕ, ◌-◌, ◌<◌, ◌≤◌, ◌⊎◌, inl, inr, sym, subst, arith}
 use Rattle.std.specs.Int.{bit_at}
 use Rattle.std.proofs.lemmas.Bool.{cases_eq}
 use Rattle.puz_board.specs.Cells.{Adjacent}
@@ -43,8 +43,8 @@ module _ (n free cell : ℕ) where
   closed region is here h = h
   closed region is (onward {c = c} {d = d} a o r) h = closed region is r ((is d).1 (inr (o, c, h, a)))
 
-  pub IsGrowing-all : (region more : ℕ) → IsGrowing n free cell region → IsMaskOf more (Next n free region) → more ≡ region → IsMaskOf region (Reaches n (IsIn free) cell)
-  IsGrowing-all region more g is same x = (g.reached x, λ r. closed region (subst (λ m. IsMaskOf m (Next n free region)) same is) r g.start)
+  pub IsGrowing-all : (region more : ℕ) → IsGrowing n free cell region → IsMaskOf more (Next n free region) → more ≡ region → IsMaskOf more (Reaches n (IsIn free) cell)
+  IsGrowing-all region more g is same = subst (λ m. IsMaskOf m (Reaches n (IsIn free) cell)) (sym same) (λ x. (g.reached x, λ r. closed region (subst (λ m. IsMaskOf m (Next n free region)) same is) r g.start))
 
   -- until then it becomes a greater number, which free bounds
   pub grows : (region more : ℕ) → IsGrowing n free cell region → IsMaskOf more (Next n free region) → more ≢ region → free - more < free - region

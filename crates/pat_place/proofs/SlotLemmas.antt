@@ -1,8 +1,8 @@
 -- Slots: each free cell has one, its region's cells share it, and no other region has it.
-use Rattle.std.proofs.Common.{◌≡◌, ◌≢◌, ℕ, zero, suc, ◌+◌, ◌-◌, ◌*◌, ◌<◌, ◌≤◌, ◌⊎◌, List, inl, inr, refl, sym, ◌∙◌, ap, subst, arith}
+use Rattle.std.proofs.Common.{◌≡◌, ℕ, zero, suc, ◌*◌, ◌<◌, ◌≤◌, ◌⊎◌, List, inl, inr, refl, sym, ◌∙◌, ap, subst, arith}
 use Rattle.std.proofs.lemmas.Bool.{cases_eq, cases_lt}
 use Rattle.pat_place.specs.Placements.{IsFree}
-use Rattle.pat_place.specs.Regions.{Reaches, here, onward, Joins, IsLeader, IsCount, IsSlot}
+use Rattle.pat_place.specs.Regions.{here, Joins, IsLeader, IsCount, IsSlot}
 use Rattle.pat_place.proofs.JoinLemmas.{Decided, joins_decided, free_decided, Joins-trans, Joins-free, Joins-sym}
 
 -- the least number below m with a decided property

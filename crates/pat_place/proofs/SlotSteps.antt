@@ -1,5 +1,5 @@
 -- Regions taken one after another from the free cells, by their least cells.
-use Rattle.std.proofs.Common.{◌≡◌, ◌≢◌, ℕ, zero, suc, ◌+◌, ◌-◌, ◌*◌, ◌^◌, ◌<◌, ◌≤◌, Bool, true, false, ◌⊎◌, List, [], ◌∷◌, ◌++◌, length, get_or, inl, inr, refl, sym, ◌∙◌, ap, ap₂, subst, arith, lit<, ◌↔◌}
+use Rattle.std.proofs.Common.{◌≡◌, ◌≢◌, ℕ, zero, suc, ◌-◌, ◌*◌, ◌^◌, ◌<◌, ◌≤◌, true, List, [], ◌∷◌, ◌++◌, length, get_or, inl, inr, refl, sym, ◌∙◌, ap, subst, arith, lit<, ◌↔◌}
 use Rattle.std.specs.Prelude.{bit_and}
 use Rattle.std.specs.Int.{bit_at}
 use Rattle.std.specs.List.{AllByRecursion}
@@ -8,13 +8,12 @@ use Rattle.std.proofs.lemmas.List.{get_or_append_left, get_or_at, length_push}
 use Rattle.std.proofs.lemmas.Nat.{and_le_l, pow_pos}
 use Rattle.std.proofs.Math.Nat.{pow-le-pow_right}
 use Rattle.std.proofs.lemmas.Nat.Bits.{bit_at_ones, bit_at_ones_above, bit_at-zero}
-use Rattle.puz_board.specs.Cells.{Adjacent}
 use Rattle.puz_board.proofs.CellLemmas.{by_side}
 use Rattle.pat_place.specs.Masks.{IsMaskOf}
 use Rattle.pat_place.specs.Patterns.{has, width, most_tiles, IsPattern}
 use Rattle.pat_place.specs.Placements.{IsFree, IsApart, PlacementView, IsPlacement}
-use Rattle.pat_place.specs.Regions.{Reaches, here, onward, Joins, IsLeader, IsCount, IsSlot, AreRegions}
-use Rattle.pat_place.proofs.BitLemmas.{IsIn, in_or_out, both_in, in_both, but_in, in_but, in_below}
+use Rattle.pat_place.specs.Regions.{Reaches, here, onward, Joins, IsLeader, IsCount, IsSlot}
+use Rattle.pat_place.proofs.BitLemmas.{IsIn, in_or_out, but_in, in_but}
 use Rattle.pat_place.proofs.JoinLemmas.{Joins-trans, Joins-free, Joins-sym}
 use Rattle.pat_place.proofs.SlotLemmas.{count_same, count_place}
 use Rattle.pat_place.proofs.WidthLemmas.{slot_within}
@@ -79,8 +78,7 @@ joins_is n cells free region seed is reached x = (
   λ r. (reached x).1 (same_paths n (IsFree n cells) (IsIn free) (λ y. (is y).1) r),
 )
 
-module _ (n : ℕ) (low : 2 ≤ n) (high : n ≤ 5) (cells : List ℕ) (rest j : ℕ) (h : IsRest n cells rest j)
-    (seed : ℕ) (set : IsIn rest seed) (lowest : (x : ℕ) → x < seed → bit_at rest x ≡ 0) (region : ℕ) (fits : region < 2 ^ 32) (is : IsMaskOf region (Joins n cells seed)) where
+module _ (n : ℕ) (low : 2 ≤ n) (high : n ≤ 5) (cells : List ℕ) (rest j : ℕ) (h : IsRest n cells rest j) (seed : ℕ) (set : IsIn rest seed) (lowest : (x : ℕ) → x < seed → bit_at rest x ≡ 0) where
   seed_free : IsFree n cells seed
   seed_free = ((h.is seed).0 set).0
 
@@ -94,26 +92,30 @@ module _ (n : ℕ) (low : 2 ≤ n) (high : n ≤ 5) (cells : List ℕ) (rest j :
   seed_leader = (seed_free, λ d r. at_least d (in_rest d r))
 
   seed_count : IsCount (IsLeader n cells) seed j
-  seed_count = count_skip (IsLeader n cells) h.start seed j (((h.is seed).0 set).1 seed here) h.count
-      (λ l a b leader. let i = (h.is l).1 (leader.0, λ d r. let m = leader.1 d r in omega arith) in let c = at_least l i in omega arith)
+  seed_count = count_skip (IsLeader n cells) h.start seed j (((h.is seed).0 set).1 seed here) h.count (λ l a b leader. let i = (h.is l).1 (leader.0, λ d r. let m = leader.1 d r in omega arith) in let c = at_least l i in omega arith)
 
-  -- its cells have slot j
-  region_slot_is : (c : ℕ) → IsIn region c → IsFree n cells c × IsSlot n cells c j
-  region_slot_is c i =
-      let r = (is c).0 i in
-      (Joins-free n cells seed_free r, record { leader = seed; joined = Joins-sym n cells low high seed_free r; is_leader = seed_leader; below = seed_count })
+  -- the cells of its region have slot j
+  joined_slot : (c : ℕ) → Joins n cells seed c → IsSlot n cells c j
+  joined_slot c r = record { leader = seed; joined = Joins-sym n cells low high seed_free r; is_leader = seed_leader; below = seed_count }
 
   -- and no other cells have it
-  slot_region_is : (c : ℕ) → IsFree n cells c → IsSlot n cells c j → IsIn region c
-  slot_region_is c free s =
+  slot_joined : (c : ℕ) → IsFree n cells c → IsSlot n cells c j → Joins n cells seed c
+  slot_joined c free s =
       let same : s.leader ≡ seed = count_same (IsLeader n cells) s.leader seed j s.is_leader seed_leader s.below seed_count in
-      (is c).1 (subst (λ l. Joins n cells l c) same (Joins-sym n cells low high free s.joined))
+      subst (λ l. Joins n cells l c) same (Joins-sym n cells low high free s.joined)
+
+  slot_small : AllByRecursion (λ c. c < n * n) cells → IsApart cells → j < width n (length cells)
+  slot_small inside apart = slot_within n low high cells seed j inside apart (joined_slot seed here)
+
+module _ (n : ℕ) (low : 2 ≤ n) (high : n ≤ 5) (cells : List ℕ) (rest j : ℕ) (h : IsRest n cells rest j) (seed : ℕ) (set : IsIn rest seed) (lowest : (x : ℕ) → x < seed → bit_at rest x ≡ 0) (region : ℕ) (fits : region < 2 ^ 32) (is : IsMaskOf region (Joins n cells seed)) where
+  first_free : IsFree n cells seed
+  first_free = seed_free n low high cells rest j h seed set lowest
 
   IsRest-more : IsRest n cells (bit_and rest (2 ^ 32 - 1 - region)) (suc j)
   IsRest-more = record {
     start = suc seed;
-    within = (let l = seed_free.0 in omega arith);
-    count = inl (seed_leader, j, refl, seed_count);
+    within = (let l = first_free.0 in omega arith);
+    count = inl (seed_leader n low high cells rest j h seed set lowest, j, refl, seed_count n low high cells rest j h seed set lowest);
     bits = (let l = and_le_l rest (2 ^ 32 - 1 - region) in let f = h.bits in omega arith);
     is = (λ c. (
       λ i.
@@ -123,13 +125,13 @@ module _ (n : ℕ) (low : 2 ≤ n) (high : n ≤ 5) (cells : List ℕ) (rest j :
             λ l r.
                 let other : l ≢ seed = λ e. (let one = (is c).1 (Joins-sym n cells low high free (subst (λ x. Joins n cells c x) e r)) in let z = parts.1 in omega arith) in
                 let in_l = (h.is l).1 (Joins-free n cells free r, λ m s. ((h.is c).0 parts.0).1 m (Joins-trans n cells r s)) in
-                let le = at_least l in_l in
+                let le = at_least n low high cells rest j h seed set lowest l in_l in
                 omega arith,
           ),
       λ w.
           let after_start : (l : ℕ) → Joins n cells c l → h.start ≤ l = λ l r. (let a = w.1 l r in let b = ((h.is seed).0 set).1 seed here in omega arith) in
           in_but rest region c h.bits fits ((h.is c).1 (w.0, after_start)) (elim (in_or_out region c) [
-            | inl i ↦ absurd (let bad = w.1 seed (Joins-sym n cells low high seed_free ((is c).0 i)) in omega arith)
+            | inl i ↦ absurd (let bad = w.1 seed (Joins-sym n cells low high first_free ((is c).0 i)) in omega arith)
             | inr o ↦ o
           ]),
     ));
@@ -144,9 +146,6 @@ module _ (n : ℕ) (low : 2 ≤ n) (high : n ≤ 5) (cells : List ℕ) (rest j :
   -- a cell that is left and not of the region is left again
   still_left : (c : ℕ) → IsIn rest c → bit_at region c ≡ 0 → IsIn (bit_and rest (2 ^ 32 - 1 - region)) c
   still_left c i o = in_but rest region c h.bits fits i o
-
-  slot_small : AllByRecursion (λ c. c < n * n) cells → IsApart cells → j < width n (length cells)
-  slot_small inside apart = slot_within n low high cells seed j inside apart (record { leader = seed; joined = here; is_leader = seed_leader; below = seed_count })
 
 -- the region of the least cell that is left, as slot j
 pub record IsTaken (p : PlacementView) (rest j region : ℕ) : Type 0 where
@@ -164,12 +163,26 @@ taken p good placed rest j h side free same is seed set lowest region fits reach
     let n = p.pattern.side in
     let joined = joins_is n p.cells free region seed is (subst (λ k. IsMaskOf region (Reaches k (IsIn free) seed)) same reached) in
     record {
-      slots = (λ c. (region_slot_is n good.low good.high p.cells rest j h seed set lowest region fits joined c, λ w. slot_region_is n good.low good.high p.cells rest j h seed set lowest region fits joined c w.0 w.1));
-      below = slot_small n good.low good.high p.cells rest j h seed set lowest region fits joined placed.inside placed.apart;
+      slots = (λ c. (
+        λ i. let r = (joined c).0 i in (Joins-free n p.cells (((h.is seed).0 set).0) r, joined_slot n good.low good.high p.cells rest j h seed set lowest c r),
+        λ w. (joined c).1 (slot_joined n good.low good.high p.cells rest j h seed set lowest c w.0 w.1),
+      ));
+      below = slot_small n good.low good.high p.cells rest j h seed set lowest placed.inside placed.apart;
       next = IsRest-more n good.low good.high p.cells rest j h seed set lowest region fits joined;
       smaller = rest_smaller n good.low good.high p.cells rest j h seed set lowest region fits joined;
       left = still_left n good.low good.high p.cells rest j h seed set lowest region fits joined;
     }
+
+-- a cell that is reached from the least one has slot j
+pub met : (p : PlacementView) → IsPattern p.pattern → IsPlacement p → (rest j : ℕ) → IsRest p.pattern.side p.cells rest j
+    → (side free : ℕ) → side ≡ p.pattern.side → IsMaskOf free (IsFree p.pattern.side p.cells)
+    → (seed : ℕ) → IsIn rest seed → ((x : ℕ) → x < seed → bit_at rest x ≡ 0)
+    → (c : ℕ) → Reaches side (IsIn free) seed c → IsSlot p.pattern.side p.cells c j × (j < width p.pattern.side (length p.cells))
+met p good placed rest j h side free same is seed set lowest c r =
+    let n = p.pattern.side in (
+      joined_slot n good.low good.high p.cells rest j h seed set lowest c (same_paths n (IsIn free) (IsFree n p.cells) (λ y. (is y).0) (subst (λ k. Reaches k (IsIn free) seed c) same r)),
+      slot_small n good.low good.high p.cells rest j h seed set lowest placed.inside placed.apart,
+    )
 
 -- where no cell is left, all leaders are counted
 pub IsRest-all : (n : ℕ) (cells : List ℕ) (rest j : ℕ) → IsRest n cells rest j → rest ≡ 0 → IsCount (IsLeader n cells) (n * n) j

@@ -1,9 +1,8 @@
 -- No placement has more than W regions.
-use Rattle.std.proofs.Common.{◌≡◌, ◌≢◌, ℕ, zero, suc, ◌+◌, ◌-◌, ◌*◌, ◌<◌, ◌≤◌, Bool, true, false, cond, eqb, ltb, not, ◌⊎◌, List, [], ◌∷◌, length, get_or, Option, Some, None, inl, inr, refl, sym, ◌∙◌, ap, ap₂, subst, arith}
-use Rattle.std.proofs.lemmas.Bool.{cases_eq, cases_lt, cases_Bool, both_ways, and_parts, or_cases, eqb-true, ltb-true, true≢false, not-true}
+use Rattle.std.proofs.Common.{◌≡◌, ℕ, zero, suc, ◌+◌, ◌-◌, ◌*◌, ◌<◌, ◌≤◌, Bool, true, false, eqb, ltb, not, ◌⊎◌, List, [], ◌∷◌, length, Option, Some, None, inl, inr, refl, sym, ◌∙◌, ap, subst, arith}
+use Rattle.std.proofs.lemmas.Bool.{cases_eq, cases_lt, both_ways, and_parts, or_cases, eqb-true, ltb-true, true≢false, not-true}
 use Rattle.std.specs.Prelude.{◌&&◌, ◌||◌}
 use Rattle.std.specs.List.{AllByRecursion}
-use Rattle.puz_board.specs.declared.moves.Move.{Move}
 use Rattle.puz_board.specs.declared.moves.Move.TheVariants.{Up, Down, Left, Right}
 use Rattle.puz_board.specs.Boards.{at}
 use Rattle.puz_board.specs.Cells.{step_of, Adjacent}
@@ -12,7 +11,7 @@ use Rattle.puz_board.proofs.BoardLemmas.{pigeonhole}
 use Rattle.puz_board.proofs.CellLemmas.{by_side}
 use Rattle.pat_place.specs.Patterns.{has, width}
 use Rattle.pat_place.specs.Placements.{IsApart, IsFree}
-use Rattle.pat_place.specs.Regions.{Reaches, here, onward, Joins, IsLeader, IsCount, IsSlot}
+use Rattle.pat_place.specs.Regions.{here, onward, Joins, IsLeader, IsCount, IsSlot}
 use Rattle.pat_place.proofs.JoinLemmas.{Decided, joins_decided, Joins-trans, Joins-free, Joins-sym}
 use Rattle.pat_place.proofs.ListLemmas.{has-at, at-has, apart_at}
 use Rattle.pat_place.proofs.SlotLemmas.{least_below, count_place, count_one, leader_one}

@@ -1,5 +1,5 @@
 -- What holds of ranks, regions and slots at every placement.
-use Rattle.std.specs.Prelude.{◌≡◌, ℕ, ◌<◌, ◌≤◌, ◌↔◌, ◌⊎◌, List, [], ◌∷◌, length, slice_get, Some, ⊤}
+use Rattle.std.specs.Prelude.{◌≡◌, ℕ, ◌<◌, ◌↔◌, ◌⊎◌, List, [], ◌∷◌, length, slice_get, Some}
 use Rattle.pat_place.specs.Patterns.{IsPattern, width}
 use Rattle.pat_place.specs.Placements.{PlacementView, IsPlacement, IsFree}
 use Rattle.pat_place.specs.Ranks.{IsRank, placements}
@@ -24,6 +24,10 @@ abbrev pub RanksAreInOrder : Type 0
 RanksAreInOrder =
     (n k r s : ℕ) (p q : List ℕ) → slice_get (placements n k) r ≡ Some p → slice_get (placements n k) s ≡ Some q →
     r < s → IsBefore p q
+
+-- on side 3, the cells 1, 2, 3 have rank 64, and the last of all, 8, 7, 6, have rank 503
+abbrev pub RanksOfThreeCells : Type 0
+RanksOfThreeCells = IsRank 3 (1 ∷ 2 ∷ 3 ∷ []) 64 × IsRank 3 (8 ∷ 7 ∷ 6 ∷ []) 503 × (length (placements 3 3) ≡ 504)
 
 -- ---- regions and slots
 

@@ -3,6 +3,7 @@ use Rattle.std.specs.Prelude.{◌≡◌, ℕ, ◌%◌, ◌^◌, ◌==◌, ◌↔
 use Rattle.std.specs.Int.{bit_at}
 use Rattle.std.specs.List.{range_with_len}
 
+-- whether x is of the mask
 abbrev pub has_bit : ℕ → ℕ → Bool
 has_bit mask x = bit_at mask x == 1
 

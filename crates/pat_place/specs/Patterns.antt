@@ -1,5 +1,5 @@
 -- Patterns: sets of tiles.
-use Rattle.std.specs.Prelude.{◌≡◌, ℕ, ◌+◌, ◌-◌, ◌*◌, ◌<◌, ◌≤◌, ◌==◌, if◌then◌else◌, Bool, List, [], ◌∷◌, length, min, ⊤}
+use Rattle.std.specs.Prelude.{ℕ, ◌+◌, ◌-◌, ◌*◌, ◌<◌, ◌≤◌, ◌==◌, if◌then◌else◌, Bool, List, [], ◌∷◌, length, min, ⊤}
 use Rattle.std.specs.List.{list_any, AllByRecursion}
 
 -- what a contract sees of a pattern: the side of its board, and its tiles

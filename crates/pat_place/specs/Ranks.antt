@@ -2,6 +2,7 @@
 use Rattle.std.specs.Prelude.{◌≡◌, ℕ, zero, suc, ◌*◌, ◌==◌, not, List, [], ◌∷◌, length, map, filter, slice_get, Some, flat_map}
 use Rattle.std.specs.List.{range_with_len}
 
+-- the others of these cells
 abbrev pub without : ℕ → List ℕ → List ℕ
 without c cs = filter (λ d. not (d == c)) cs
 

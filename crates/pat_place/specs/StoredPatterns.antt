@@ -2,7 +2,7 @@
 use Rattle.std.specs.Prelude.{◌≡◌, ℕ, suc, ◌+◌, ◌*◌, ◌/◌, ◌%◌, ◌^◌, ◌<◌, ◌⊎◌, List, [], ◌∷◌, filter}
 use Rattle.std.specs.Int.{bit_at}
 use Rattle.std.specs.List.{range_with_len}
-use Rattle.std.proofs.Common.{zero, cond, eqb, inl, inr, refl, sym, ◌∙◌, ap, arith, zero-mul, mod-eq_of_lt}
+use Rattle.std.proofs.Common.{zero, cond, inl, inr, sym, ◌∙◌, ap, arith, zero-mul, mod-eq_of_lt}
 use Rattle.std.proofs.lemmas.Bool.{cases_eq, cond-true, cond-false, eq-eqb, ne_eqb}
 use Rattle.std.proofs.lemmas.Nat.{mod-pow-add, shr-shr, pow-add}
 use Rattle.std.proofs.lemmas.Nat.Bits.{bit_at-lt}

@@ -1,5 +1,5 @@
 -- How a placement is stored: its cells stand at the front of an array of 8, with zeros behind them.
-use Rattle.std.specs.Prelude.{◌≡◌, ℕ, ◌-◌, List, ◌++◌, length, take, drop, replicate}
+use Rattle.std.specs.Prelude.{◌≡◌, ◌-◌, ◌++◌, length, take, drop, replicate}
 use Rattle.std.proofs.Common.{sym, ◌∙◌, ap}
 use Rattle.std.proofs.lemmas.List.{take-append-drop}
 use Rattle.pat_place.specs.declared.placements.Placement.TheInside.{Inside}

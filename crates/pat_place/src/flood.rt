@@ -1,6 +1,6 @@
 //! One region of cells, by steps of the whole mask.
 
-ghost use Rattle.std.specs.Prelude.{◌≡◌, ◌≢◌, ℕ, ◌-◌, ◌*◌, ◌%◌, ◌^◌, ◌<◌, ◌≤◌, ◌⊎◌};
+ghost use Rattle.std.specs.Prelude.{◌≡◌, ◌≢◌, ℕ, ◌-◌, ◌*◌, ◌%◌, ◌^◌, ◌<◌, ◌≤◌, ◌⊎◌, bit_and};
 ghost use Rattle.std.specs.Int.{bit_at};
 ghost use Rattle.puz_board.specs.Cells.{Adjacent};
 ghost use Rattle.pat_place.specs.Masks.{IsMaskOf};
@@ -9,11 +9,21 @@ ghost use Rattle.pat_place.specs.Regions.{Reaches};
 use crate::masks;
 use puz_board::Side;
 
-/// The free cells that a path of free cells reaches from one of them.
+/// The region of a free cell: the free cells that a path of free cells reaches from it.
 pub(crate) fn region_of(side: Side, free: u32, cell: u8) -> u32
     requires free { bit_at free cell ≡ 1 }
     requires within { free < 2 ^ (side * side) }
     ensures { IsMaskOf result (Reaches side (λ c. bit_at free c ≡ 1) cell) }
+{
+    region_until(side, free, cell, 0)
+}
+
+/// Cells of the region of a free cell: some of the goal's cells among them, or else the whole region.
+pub(crate) fn region_until(side: Side, free: u32, cell: u8, goal: u32) -> u32
+    requires free { bit_at free cell ≡ 1 }
+    requires within { free < 2 ^ (side * side) }
+    ensures reached { (x : ℕ) → bit_at result x ≡ 1 → Reaches side (λ c. bit_at free c ≡ 1) cell x }
+    ensures whole { bit_and result goal ≡ 0 → IsMaskOf result (Reaches side (λ c. bit_at free c ≡ 1) cell) }
 {
     let n = side.get();
     let right = free & !first_column(side);
@@ -21,8 +31,8 @@ pub(crate) fn region_of(side: Side, free: u32, cell: u8) -> u32
     let mut region = masks::with(0, cell);
     'grow: loop {
         let more = grown(n, free, right, left, region);
-        if more == region {
-            return region;
+        if more == region || more & goal != 0 {
+            return more;
         }
         region = more;
     }

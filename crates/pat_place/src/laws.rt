@@ -1,6 +1,6 @@
 //! Laws of ranks, regions and slots. Each function here says what holds of every placement, and does nothing.
 
-ghost use Rattle.pat_place.specs.Laws.{EachPlacementHasOneRank, RanksAreInOrder, EachFreeCellHasOneSlot, OneSlotIsOneRegion, SlotsAreBelowWidth};
+ghost use Rattle.pat_place.specs.Laws.{EachPlacementHasOneRank, RanksAreInOrder, RanksOfThreeCells, EachFreeCellHasOneSlot, OneSlotIsOneRegion, SlotsAreBelowWidth};
 
 /// Each placement has one rank.
 pub fn each_placement_has_one_rank()
@@ -10,6 +10,11 @@ pub fn each_placement_has_one_rank()
 /// Ranks go up as the lists of cells do, in lexicographic order.
 pub fn ranks_are_in_order()
     ensures { RanksAreInOrder }
+{}
+
+/// Ranks of three cells on side 3, computed.
+pub fn ranks_of_three_cells()
+    ensures { RanksOfThreeCells }
 {}
 
 /// Each free cell has one slot, so it lies in one region.

@@ -1,6 +1,6 @@
 //! Masks of 32 bits: bit x stands for the number x.
 
-ghost use Rattle.std.specs.Prelude.{◌≡◌, ◌≢◌, ℕ, ◌-◌, ◌^◌, ◌<◌, ◌≤◌, ◌↔◌, count_ones, IsTrue};
+ghost use Rattle.std.specs.Prelude.{◌≡◌, ◌≢◌, ℕ, ◌-◌, ◌^◌, ◌<◌, ◌≤◌, count_ones};
 ghost use Rattle.std.specs.Int.{bit_at};
 ghost use Rattle.pat_place.specs.Masks.{ones_below};
 
@@ -32,15 +32,6 @@ pub(crate) fn without(mask: u32, number: u8) -> u32
     ensures least { result ≤ mask }
 {
     mask & !(1 << number)
-}
-
-/// Whether the number is of the mask.
-#[inline]
-pub(crate) fn has(mask: u32, number: u8) -> bool
-    requires { number < 32 }
-    ensures { IsTrue result ↔ (bit_at mask number ≡ 1) }
-{
-    mask >> number & 1 == 1
 }
 
 /// The least number of the mask.
@@ -75,9 +66,8 @@ pub(crate) fn select(mask: u32, place: u8) -> u8
     let mut span = 32;
     while span > 1 {
         let half = span / 2;
-        if count_below(mask, number + half) <= place {
-            number += half;
-        }
+        let upper = count_below(mask, number + half) <= place;
+        number += half * u8::from(upper);
         span -= half;
     }
     number

@@ -94,9 +94,11 @@ impl Pattern {
         (size + 1).min(self.side.cells() - size)
     }
 
-    /// How many placements there are.
+    /// How many placements there are. With `width` slots for each, there are fewer than 2^32 slots.
     pub fn count(&self) -> u64
-        ensures { result ≡ length (placements self.now.side (length self.now.tiles)) }
+        ensures count { result ≡ length (placements self.now.side (length self.now.tiles)) }
+        ensures small { result * width self.now.side (length self.now.tiles) < 2 ^ 32 }
+        ensures fits { result < 2 ^ 32 }
     {
         let cells = u64::from(self.side.cells());
         let mut count = 1;

@@ -74,6 +74,7 @@ impl Placement {
     pub fn cells(&self) -> ArrayVec<u8, 8>
         ensures cells { result.items ≡ self.now.cells }
         ensures placement { IsPlacement self.now }
+        ensures pattern { IsPattern self.now.pattern }
     {
         let mut cells = ArrayVec::new();
         for cell in self.as_slice() {

@@ -5,7 +5,7 @@ ghost use Rattle.std.specs.List.{AllByRecursion, range_with_len};
 ghost use Rattle.std.specs.Bool.{OnFalse};
 ghost use Rattle.std.specs.Int.{bit_at};
 ghost use Rattle.pat_place.specs.Masks.{ones_below};
-ghost use Rattle.pat_place.specs.Placements.{IsApart};
+ghost use Rattle.pat_place.specs.Placements.{IsApart, IsPlacement};
 ghost use Rattle.pat_place.specs.Ranks.{IsRank, lists_of, placements};
 
 use crate::masks;
@@ -44,19 +44,16 @@ fn rank_among(cells: &[u8], count: u8) -> u64
 pub fn unrank(pattern: &Pattern, rank: u64) -> Placement
     requires { rank < length (placements pattern.now.side (length pattern.now.tiles)) }
     ensures pattern { result.pattern ≡ pattern.now }
+    ensures placement { IsPlacement result }
     ensures rank { IsRank pattern.now.side result.cells rank }
 {
-    let cells = cells_at(
-        rank,
-        pattern.count(),
-        pattern.side().cells(),
-        pattern.size(),
-    );
+    let ranks = pattern.count() as u32;
+    let cells = cells_at(rank as u32, ranks, pattern.side().cells(), pattern.size());
     Placement::with_cells(pattern, cells)
 }
 
 /// The cells of a rank, of which there are `size`, on a board of `count` cells. Zeros stand behind them.
-fn cells_at(rank: u64, ranks: u64, count: u8, size: u8) -> [u8; 8]
+fn cells_at(rank: u32, ranks: u32, count: u8, size: u8) -> [u8; 8]
     requires small { count ≤ 25 }
     requires few { size ≤ 8 }
     requires room { size ≤ count }
@@ -70,7 +67,7 @@ fn cells_at(rank: u64, ranks: u64, count: u8, size: u8) -> [u8; 8]
     let mut rest = rank;
     let mut cells = [0; 8];
     for i in 0..size {
-        block /= u64::from(count - i);
+        block /= u32::from(count - i);
         let cell = masks::select(free, (rest / block) as u8);
         rest %= block;
         free = masks::without(free, cell);
@@ -86,6 +83,7 @@ pub fn next(placement: &mut Placement) -> bool
         (IsRank placement.old.pattern.side placement.new.cells (r + 1))
         (r + 1 ≡ length (placements placement.old.pattern.side (length placement.old.cells))) }
     ensures last { OnFalse result (placement.new ≡ placement.old) }
+    ensures placement { IsPlacement placement.new }
 {
     let pattern = placement.pattern();
     let count = pattern.count();

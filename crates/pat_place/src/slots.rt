@@ -7,7 +7,7 @@ ghost use Rattle.pat_place.specs.Patterns.{width};
 ghost use Rattle.pat_place.specs.Placements.{IsFree};
 ghost use Rattle.pat_place.specs.Regions.{IsSlot, AreRegions};
 
-use crate::flood::region_of;
+use crate::flood::{region_of, region_until};
 use crate::masks;
 use crate::placements::Placement;
 use arrayvec::ArrayVec;
@@ -38,10 +38,11 @@ pub fn slot_of(placement: &Placement, cell: u8) -> u8
     let side = placement.pattern().side();
     let free = free_cells(placement);
     let mut rest = free;
+    let goal = masks::with(0, cell);
     let mut slot = 0;
     'search: loop {
-        let region = region_of(side, free, masks::first_of(rest));
-        if masks::has(region, cell) {
+        let region = region_until(side, free, masks::first_of(rest), goal);
+        if region & goal != 0 {
             return slot;
         }
         rest &= !region;

@@ -1,3 +1,6 @@
+ghost use Rattle.std.specs.Prelude.{◌≡◌, ◌<◌, ◌↔◌, IsTrue};
+ghost use Rattle.std.specs.Int.{bit_at};
+
 use crate::{Pattern, Placement, masks, next, rank, regions, slot_of, unrank};
 use puz_board::{Board, Side};
 use std::process::Abort;
@@ -20,9 +23,17 @@ fn of_rank(rt: &impl Abort, pattern: &Pattern, rank: u64) -> Placement {
     unrank(pattern, rank)
 }
 
+/// Whether a number is of a mask.
+fn is_in(mask: u32, number: u8) -> bool
+    requires { number < 32 }
+    ensures { IsTrue result ↔ (bit_at mask number ≡ 1) }
+{
+    mask >> number & 1 == 1
+}
+
 /// The slot of a cell, where the cell is free.
 fn slot_at(placement: &Placement, cell: u8) -> Option<u8> {
-    if cell >= placement.pattern().side().cells() || masks::has(placement.occupied(), cell) {
+    if cell >= placement.pattern().side().cells() || is_in(placement.occupied(), cell) {
         return None;
     }
     Some(slot_of(placement, cell))
@@ -32,7 +43,7 @@ fn slot_at(placement: &Placement, cell: u8) -> Option<u8> {
 fn moved_to(placement: &Placement, index: usize, cell: u8) -> Option<Placement> {
     if index >= placement.cells().len()
         || cell >= placement.pattern().side().cells()
-        || masks::has(placement.occupied(), cell)
+        || is_in(placement.occupied(), cell)
     {
         return None;
     }

@@ -3,7 +3,7 @@ use Rattle.std.proofs.Common.{◌≡◌, ◌≢◌, ℕ, ◌+◌, ◌-◌, ◌*�
 use Rattle.std.proofs.lemmas.Bool.{cases_eq, cond-false, eqb-false}
 use Rattle.puz_board.specs.declared.moves.Move.{Move}
 use Rattle.puz_board.specs.declared.moves.Move.TheVariants.{Up, Down, Left, Right}
-use Rattle.puz_board.specs.Cells.{IsTakenBackBy, reverse_of, step_of}
+use Rattle.puz_board.specs.Cells.{IsBeside, IsTakenBackBy, reverse_of, step_of}
 
 -- what holds at each side holds
 pub by_side : (P : ℕ → Type 0) → P 2 → P 3 → P 4 → P 5 → (n : ℕ) → 2 ≤ n → n ≤ 5 → P n
@@ -79,3 +79,53 @@ step_of-inside n c Right d low high l e =
     let is = way.1 in
     let inside = right_inside n low high c l (eqb-false _ _ way.0) in
     omega arith
+
+-- ---- a move leads to a cell beside, and to each of them
+
+up_beside : (n : ℕ) → 2 ≤ n → n ≤ 5 → (c d : ℕ) → c < n * n → c / n ≢ 0 → c - n ≡ d → (c % n ≡ d % n) × (d / n + 1 ≡ c / n)
+up_beside = by_side (λ n. (c d : ℕ) → c < n * n → c / n ≢ 0 → c - n ≡ d → (c % n ≡ d % n) × (d / n + 1 ≡ c / n)) (λ c d l p e. omega arith) (λ c d l p e. omega arith) (λ c d l p e. omega arith) (λ c d l p e. omega arith)
+
+down_beside : (n : ℕ) → 2 ≤ n → n ≤ 5 → (c d : ℕ) → c < n * n → c + n ≡ d → (c % n ≡ d % n) × (c / n + 1 ≡ d / n)
+down_beside = by_side (λ n. (c d : ℕ) → c < n * n → c + n ≡ d → (c % n ≡ d % n) × (c / n + 1 ≡ d / n)) (λ c d l e. omega arith) (λ c d l e. omega arith) (λ c d l e. omega arith) (λ c d l e. omega arith)
+
+left_beside : (n : ℕ) → 2 ≤ n → n ≤ 5 → (c d : ℕ) → c < n * n → c % n ≢ 0 → c - 1 ≡ d → (c / n ≡ d / n) × (d % n + 1 ≡ c % n)
+left_beside = by_side (λ n. (c d : ℕ) → c < n * n → c % n ≢ 0 → c - 1 ≡ d → (c / n ≡ d / n) × (d % n + 1 ≡ c % n)) (λ c d l p e. omega arith) (λ c d l p e. omega arith) (λ c d l p e. omega arith) (λ c d l p e. omega arith)
+
+right_beside : (n : ℕ) → 2 ≤ n → n ≤ 5 → (c d : ℕ) → c < n * n → c % n ≢ n - 1 → c + 1 ≡ d → (c / n ≡ d / n) × (c % n + 1 ≡ d % n)
+right_beside = by_side (λ n. (c d : ℕ) → c < n * n → c % n ≢ n - 1 → c + 1 ≡ d → (c / n ≡ d / n) × (c % n + 1 ≡ d % n)) (λ c d l p e. omega arith) (λ c d l p e. omega arith) (λ c d l p e. omega arith) (λ c d l p e. omega arith)
+
+pub step_of-beside : (n c : ℕ) (m : Move) (d : ℕ) → 2 ≤ n → n ≤ 5 → c < n * n → step_of n c m ≡ Some d → IsBeside n c d
+step_of-beside n c Up d low high l e =
+    let way = stays (eqb (c / n) 0) (c - n) d e in
+    let at = up_beside n low high c d l (eqb-false _ _ way.0) way.1 in
+    inr (at.0, inr at.1)
+step_of-beside n c Down d low high l e =
+    let way = stays (eqb (c / n) (n - 1)) (c + n) d e in
+    let at = down_beside n low high c d l way.1 in
+    inr (at.0, inl at.1)
+step_of-beside n c Left d low high l e =
+    let way = stays (eqb (c % n) 0) (c - 1) d e in
+    let at = left_beside n low high c d l (eqb-false _ _ way.0) way.1 in
+    inl (at.0, inr at.1)
+step_of-beside n c Right d low high l e =
+    let way = stays (eqb (c % n) (n - 1)) (c + 1) d e in
+    let at = right_beside n low high c d l (eqb-false _ _ way.0) way.1 in
+    inl (at.0, inl at.1)
+
+up_reaches : (n : ℕ) → 2 ≤ n → n ≤ 5 → (c d : ℕ) → c < n * n → d < n * n → c % n ≡ d % n → d / n + 1 ≡ c / n → (c / n ≢ 0) × (c - n ≡ d)
+up_reaches = by_side (λ n. (c d : ℕ) → c < n * n → d < n * n → c % n ≡ d % n → d / n + 1 ≡ c / n → (c / n ≢ 0) × (c - n ≡ d)) (λ c d l k p e. omega arith) (λ c d l k p e. omega arith) (λ c d l k p e. omega arith) (λ c d l k p e. omega arith)
+
+down_reaches : (n : ℕ) → 2 ≤ n → n ≤ 5 → (c d : ℕ) → c < n * n → d < n * n → c % n ≡ d % n → c / n + 1 ≡ d / n → (c / n ≢ n - 1) × (c + n ≡ d)
+down_reaches = by_side (λ n. (c d : ℕ) → c < n * n → d < n * n → c % n ≡ d % n → c / n + 1 ≡ d / n → (c / n ≢ n - 1) × (c + n ≡ d)) (λ c d l k p e. omega arith) (λ c d l k p e. omega arith) (λ c d l k p e. omega arith) (λ c d l k p e. omega arith)
+
+left_reaches : (n : ℕ) → 2 ≤ n → n ≤ 5 → (c d : ℕ) → c < n * n → d < n * n → c / n ≡ d / n → d % n + 1 ≡ c % n → (c % n ≢ 0) × (c - 1 ≡ d)
+left_reaches = by_side (λ n. (c d : ℕ) → c < n * n → d < n * n → c / n ≡ d / n → d % n + 1 ≡ c % n → (c % n ≢ 0) × (c - 1 ≡ d)) (λ c d l k p e. omega arith) (λ c d l k p e. omega arith) (λ c d l k p e. omega arith) (λ c d l k p e. omega arith)
+
+right_reaches : (n : ℕ) → 2 ≤ n → n ≤ 5 → (c d : ℕ) → c < n * n → d < n * n → c / n ≡ d / n → c % n + 1 ≡ d % n → (c % n ≢ n - 1) × (c + 1 ≡ d)
+right_reaches = by_side (λ n. (c d : ℕ) → c < n * n → d < n * n → c / n ≡ d / n → c % n + 1 ≡ d % n → (c % n ≢ n - 1) × (c + 1 ≡ d)) (λ c d l k p e. omega arith) (λ c d l k p e. omega arith) (λ c d l k p e. omega arith) (λ c d l k p e. omega arith)
+
+pub beside-step_of : (n c d : ℕ) → 2 ≤ n → n ≤ 5 → c < n * n → d < n * n → IsBeside n c d → (m : Move) × (step_of n c m ≡ Some d)
+beside-step_of n c d low high l k (inl (same, inl next)) = let at = right_reaches n low high c d l k same next in (Right, goes (c % n) (n - 1) (c + 1) d at.0 at.1)
+beside-step_of n c d low high l k (inl (same, inr next)) = let at = left_reaches n low high c d l k same next in (Left, goes (c % n) 0 (c - 1) d at.0 at.1)
+beside-step_of n c d low high l k (inr (same, inl next)) = let at = down_reaches n low high c d l k same next in (Down, goes (c / n) (n - 1) (c + n) d at.0 at.1)
+beside-step_of n c d low high l k (inr (same, inr next)) = let at = up_reaches n low high c d l k same next in (Up, goes (c / n) 0 (c - n) d at.0 at.1)

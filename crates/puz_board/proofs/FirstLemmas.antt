@@ -1,8 +1,8 @@
 -- The first number, and the first byte, that passes a test.
-use Rattle.std.proofs.Common.{◌≡◌, ℕ, zero, suc, ◌+◌, ◌<◌, Bool, true, false, cond, ltb, List, length, get_or, Some, None, refl, sym, ◌∙◌, ap, arith, not}
-use Rattle.std.proofs.lemmas.Bool.{cond-true, cond-false, le-ltb, ltb-false}
+use Rattle.std.proofs.Common.{◌≡◌, ℕ, zero, suc, ◌+◌, ◌<◌, Bool, true, false, cond, ltb, List, length, get_or, Some, None, refl, sym, ◌∙◌, ap, subst, arith, not}
+use Rattle.std.proofs.lemmas.Bool.{cond-true, cond-false, le-ltb, lt-ltb, ltb-false, ltb-true}
 use Rattle.std.proofs.lemmas.Grind.{get_or_default_zero}
-use Rattle.std.proofs.lemmas.List.Sums.{fails_before_first, position_or_len_is}
+use Rattle.std.proofs.lemmas.List.Sums.{fails_before_first, passes_at_first, position_or_len_is}
 use Rattle.std.specs.Prelude.{position}
 use Rattle.std.specs.List.{AllPass, find, position_or_len, range_with_len}
 use Rattle.puz_board.specs.First.{first_below}
@@ -87,3 +87,26 @@ AllPass-position test xs e k d l =
     passes : (b : Bool) → not b ≡ false → b ≡ true
     passes true e = refl
     passes false e = cc
+
+-- the test passes at i, and at no place before
+pub position-some : (test : ℕ → Bool) (xs : List ℕ) (i : ℕ) → i < length xs → ((k : ℕ) → k < i → test (get_or xs k 0) ≡ false) → test (get_or xs i 0) ≡ true → position test xs ≡ Some i
+position-some test xs i l before here =
+    let is = position_or_len_is test xs i 0 (omega arith) before (λ m. here) in
+    cond-true (ltb (position_or_len test xs) (length xs)) (Some (position_or_len test xs)) None (lt-ltb (position_or_len test xs) (length xs) (omega arith)) ∙
+    ap Some is
+
+pub record IsFirst (test : ℕ → Bool) (xs : List ℕ) (i : ℕ) : Type 0 where
+  pub within : i < length xs
+  pub before : (k : ℕ) → k < i → test (get_or xs k 0) ≡ false
+  pub here : test (get_or xs i 0) ≡ true
+
+pub first-position : (test : ℕ → Bool) (xs : List ℕ) (i : ℕ) → position test xs ≡ Some i → IsFirst test xs i
+first-position test xs i e = go (ltb (position_or_len test xs) (length xs)) refl e
+  where
+    go : (b : Bool) → ltb (position_or_len test xs) (length xs) ≡ b → cond b (Some (position_or_len test xs)) None ≡ Some i → IsFirst test xs i
+    go false p f = cc
+    go true p f =
+        let is : position_or_len test xs ≡ i = cc in
+        let within = ltb-true (position_or_len test xs) (length xs) p in
+        subst (IsFirst test xs) is
+        (record { within = within; before = λ k l. fails_before_first test xs k 0 l; here = passes_at_first test xs 0 within })

@@ -22,7 +22,7 @@ parts text = filter (λ part. nat_lt 0 (length part)) (slice_split is_separator 
 unfoldable pub numbers_of : List ℕ → List ℕ
 numbers_of text = map (digits_value 10) (parts text)
 
--- at most two digits
+-- digits alone, and at most two of them
 pub record IsShortNumeral (part : List ℕ) : Type 0 where
   pub digits : AllPass is_ascii_digit part
   pub short : length part ≤ 2
@@ -39,10 +39,11 @@ pub record Spells (text b : List ℕ) : Type 0 where
 unfoldable pub stray_byte : List ℕ → Option ℕ
 stray_byte text = position (λ b. not (is_ascii_digit b || is_separator b)) text
 
+-- three digits stand in a row from place i on
 abbrev pub three_digits_at : List ℕ → ℕ → Bool
 three_digits_at text i = is_ascii_digit (slice_index text i) && is_ascii_digit (slice_index text (i + 1)) && is_ascii_digit (slice_index text (i + 2))
 
--- the first place from which three digits stand in a row: there the first run of more than two begins
+-- the first such place, which is where the first run of more than two digits begins
 unfoldable pub long_run : List ℕ → Option ℕ
 long_run text = first_below (three_digits_at text) (length text)
 
@@ -50,6 +51,7 @@ long_run text = first_below (three_digits_at text) (length text)
 unfoldable pub too_large : List ℕ → Option ℕ
 too_large numbers = position (λ x. nat_le (length numbers) x) numbers
 
+-- the number with index i equals an earlier one
 abbrev pub repeated_at : List ℕ → ℕ → Bool
 repeated_at numbers i = list_any (λ x. x == slice_index numbers i) (take i numbers)
 

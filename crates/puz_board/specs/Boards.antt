@@ -15,6 +15,7 @@ side_of_count count =
     if count == 16 then 4 else
     if count == 25 then 5 else 0
 
+-- the side of a board, which the count of its numbers gives
 abbrev pub side_of : List ℕ → ℕ
 side_of b = side_of_count (length b)
 
@@ -30,6 +31,7 @@ pub record IsBoardOf (n : ℕ) (b : List ℕ) : Type 0 where
   pub below : (c : ℕ) → c < n * n → at b c < n * n
   pub distinct : (c d : ℕ) → c < n * n → d < n * n → at b c ≡ at b d → c ≡ d
 
+-- a board of its own side
 abbrev pub IsBoard : List ℕ → Type 0
 IsBoard b = IsBoardOf (side_of b) b
 

@@ -13,6 +13,7 @@ use Rattle.puz_board.specs.declared.replays.MoveFault.TheVariants.{M1, M2, M3, M
 
 -- ---- what a moves text is
 
+-- the letter of a move
 abbrev pub is_letter : ℕ → Bool
 is_letter b = is_some (move_of_letter b)
 
@@ -35,10 +36,11 @@ pub record Solves (b text : List ℕ) (n : ℕ) : Type 0 where
 unfoldable pub stray_letter : List ℕ → Option ℕ
 stray_letter text = position (λ b. not (is_letter b || is_separator b)) text
 
+-- the move with number i leaves the board, or one before it does
 abbrev pub leaves_at : List ℕ → List Move → ℕ → Bool
 leaves_at b ms i = is_none (board_after b (take (i + 1) ms))
 
--- the first move that leaves the board, among the first 1000
+-- the first move that leaves the board, if it is among the first 1000
 unfoldable pub leaving : List ℕ → List Move → Option ℕ
 leaving b ms = first_below (leaves_at b ms) (min 1000 (length ms))
 

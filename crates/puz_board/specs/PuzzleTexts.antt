@@ -1,5 +1,11 @@
--- Puzzle texts: a board text, one `;` and a moves text.
-use Rattle.std.specs.Prelude.{ℕ, ◌+◌, ◌==◌, List, take, drop, position, Option, option_map}
+-- Puzzle texts: a board text, one `;` and a moves text. The byte of `;` is 59.
+use Rattle.std.specs.Prelude.{◌≡◌, ℕ, ◌+◌, ◌==◌, not, List, ◌∷◌, ◌++◌, take, drop, position, Option, option_map}
+use Rattle.std.specs.List.{AllPass}
+
+-- the text is the one for the board, a `;` and the one for the moves, with no `;` before this one
+pub record IsPuzzle (text board moves : List ℕ) : Type 0 where
+  pub whole : text ≡ board ++ 59 ∷ moves
+  pub first : AllPass (λ b. not (b == 59)) board
 
 -- what stands before the first `;` and what stands after it; none where there is no `;`
 unfoldable pub puzzle_parts : List ℕ → Option (List ℕ × List ℕ)

@@ -1,4 +1,4 @@
-use Rattle.std.proofs.Common.{◌≡◌, ◌*◌, ◌-◌, ◌%◌, ◌<◌, refl, sym, ◌∙◌, subst, arith, lit<, lit≤}
+use Rattle.std.proofs.Common.{◌≡◌, ◌*◌, ◌%◌, ◌<◌, refl, sym, ◌∙◌, subst, arith, lit<, lit≤}
 use Rattle.pat_place.specs.Masks.{IsMaskOf}
 use Rattle.pat_place.proofs.GrownLemmas.{column_is}
 use Rattle.pat_place.proofs.flood.first_column.Goals as goal

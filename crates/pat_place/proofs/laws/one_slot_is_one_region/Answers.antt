@@ -1,4 +1,4 @@
-use Rattle.std.proofs.Common.{◌≡◌, sym, subst}
+use Rattle.std.proofs.Common.{subst}
 use Rattle.pat_place.specs.Regions.{IsSlot}
 use Rattle.pat_place.proofs.SlotLemmas.{slot_one, slot_region, region_slot}
 use Rattle.pat_place.proofs.laws.one_slot_is_one_region.Goals as goal

@@ -1,21 +1,25 @@
-use Rattle.std.proofs.Common.{◌≡◌, ◌+◌, ◌-◌, ◌/◌, ◌<◌, ◌≤◌, sym, ap, subst, arith}
+use Rattle.std.proofs.Common.{◌≡◌, ℕ, ◌+◌, ◌-◌, ◌*◌, ◌/◌, ◌<◌, Bool, true, false, leb, refl, sym, ◌∙◌, ap, subst, arith}
+use Rattle.std.specs.Int.{from_bool}
+use Rattle.std.proofs.lemmas.Bool.{leb-true, leb-false}
 use Rattle.pat_place.specs.Masks.{ones_below}
 use Rattle.pat_place.proofs.MaskLemmas.{Holds, Holds-upper, Holds-lower, Holds-found}
 use Rattle.pat_place.proofs.masks.select.Goals as goal
-use Rattle.pat_place.proofs.masks.select.Goals.{then-count_below-place, else-count_below-place}
+
+-- the upper half, or the lower one
+halved : (mask place number span : ℕ) → Holds mask place number span → 1 < span → (upper : Bool) → leb (ones_below mask (number + span / 2)) place ≡ upper → Holds mask place (number + span / 2 * from_bool upper) (span - span / 2)
+halved mask place number span h l true e =
+    let at : number + span / 2 ≡ number + span / 2 * 1 = omega arith in
+    subst (λ x. Holds mask place x (span - span / 2)) at (Holds-upper mask place number span (span / 2) h (omega arith) (leb-true (ones_below mask (number + span / 2)) place e))
+halved mask place number span h l false e =
+    let at : number ≡ number + span / 2 * 0 = omega arith in
+    subst (λ x. Holds mask place x (span - span / 2)) at (Holds-lower mask place number span (span / 2) h (omega arith) (omega arith) (leb-false (ones_below mask (number + span / 2)) place e))
 
 pub loop-span-preserved : goal.loop-span-preserved
 loop-span-preserved c =
     let mask = c.args.mask in
-    let place = c.args.place in
-    let number = c.loop-span.number in
     let span = c.loop-span.span in
-    let less : span / 2 < span = omega arith in
-    let half : span / 2 ≤ span - span / 2 = omega arith in
-    elim c.if-count_below-place.branch [
-      | then-count_below-place w ↦ subst (λ x. Holds mask place x (span - span / 2)) (sym w.number-is) (Holds-upper mask place number span (span / 2) c.loop-span.invariant less (let e = c.count_below.ensures.count in let l = w.if-count_below-place.true in omega arith))
-      | else-count_below-place w ↦ subst (λ x. Holds mask place x (span - span / 2)) (sym w.number-is) (Holds-lower mask place number span (span / 2) c.loop-span.invariant less half (let e = c.count_below.ensures.count in let l = w.if-count_below-place.false in omega arith))
-    ]
+    subst (λ b. Holds mask c.args.place (c.loop-span.number + span / 2 * b) (span - span / 2)) (sym (c.from.ensures ∙ ap (λ k. from_bool (leb k c.args.place)) c.count_below.ensures.count)) (
+    halved mask c.args.place c.loop-span.number span c.loop-span.invariant c.loop-span-test.true (leb (ones_below mask (c.loop-span.number + span / 2)) c.args.place) refl)
 
 pub returns-clause-here : goal.returns-clause-here
 returns-clause-here c = (Holds-found c.args.mask c.args.place c.loop-span.number c.loop-span.span c.loop-span.invariant c.loop-span-test.false).0

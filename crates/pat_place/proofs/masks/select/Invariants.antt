@@ -1,5 +1,3 @@
-use Rattle.std.proofs.Common.{◌≡◌, ◌+◌, ◌<◌, ◌≤◌}
-use Rattle.pat_place.specs.Masks.{ones_below}
 use Rattle.pat_place.proofs.MaskLemmas.{Holds}
 use Rattle.pat_place.proofs.masks.select.Given as goal
 

@@ -1,5 +1,4 @@
-use Rattle.std.proofs.Common.{◌≡◌, ◌^◌, ◌/◌, ◌%◌, nat_eq, arith, eq-eqb, eqb-true, sym, ◌∙◌, true, false}
-use Rattle.std.proofs.lemmas.Bool.{ne_eqb, both_ways}
+use Rattle.std.proofs.Common.{◌^◌, ◌/◌, ◌%◌, eq-eqb, eqb-true}
 use Rattle.pat_place.proofs.PatternLemmas.{tiles_only, even_of_tiles, low_of_tiles}
 use Rattle.pat_place.proofs.patterns.has_tiles_only.Goals as goal
 

@@ -1,4 +1,4 @@
-use Rattle.std.proofs.Common.{◌≡◌, ℕ, ◌+◌, ◌-◌, ◌/◌, ◌%◌, ◌<◌, set, replicate, sym, ◌∙◌, ap, subst}
+use Rattle.std.proofs.Common.{◌+◌, ◌/◌, ◌%◌, ◌<◌, set, replicate, sym, ◌∙◌, ap, subst}
 use Rattle.std.specs.Prelude.{count_ones}
 use Rattle.pat_place.proofs.RankSteps.{IsUnranking, IsUnranking-start, IsUnranking-block, IsUnranking-free, IsUnranking-more, IsUnranking-all}
 use Rattle.pat_place.proofs.ranks.cells_at.Goals as goal

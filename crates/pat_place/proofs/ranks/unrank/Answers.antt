@@ -1,4 +1,5 @@
-use Rattle.std.proofs.Common.{◌≡◌, ◌*◌, length, sym, ◌∙◌, ap, ap₂, subst}
+use Rattle.std.proofs.Common.{◌≡◌, ◌*◌, length, sym, ◌∙◌, ap₂, subst}
+use Rattle.pat_place.specs.Placements.{IsPlacement}
 use Rattle.pat_place.specs.Ranks.{IsRank}
 use Rattle.pat_place.proofs.RankLemmas.{length-placements, IsPlacement-found, IsRank-found}
 use Rattle.pat_place.proofs.ranks.unrank.Goals as goal
@@ -7,13 +8,20 @@ pub cells_at-cells-requires-clause-ranks : goal.cells_at-cells-requires-clause-r
 cells_at-cells-requires-clause-ranks c =
     let p = c.args.pattern.now in
     let cells : c.cells.result ≡ p.side * p.side = c.cells.ensures.value ∙ ap₂ (λ m n. m * n) c.side.ensures.side c.side.ensures.side in
-    c.count.ensures ∙ length-placements p.side (length p.tiles) c.cells.result c.size.result cells c.size.ensures.size
+    c.count-ranks.ensures.count ∙ length-placements p.side (length p.tiles) c.cells.result c.size.result cells c.size.ensures.size
 
 pub with_cells-requires-clause-placement : goal.with_cells-requires-clause-placement
 with_cells-requires-clause-placement c =
     let p = c.args.pattern.now in
     let cells : c.cells.result ≡ p.side * p.side = c.cells.ensures.value ∙ ap₂ (λ m n. m * n) c.side.ensures.side c.side.ensures.side in
     IsPlacement-found p c.cells.result c.size.result c.args.rank c.cells_at-cells.result cells c.size.ensures.size c.cells_at-cells.ensures.cells
+
+pub returns-clause-placement : goal.returns-clause-placement
+returns-clause-placement c =
+    let p = c.args.pattern.now in
+    let cells : c.cells.result ≡ p.side * p.side = c.cells.ensures.value ∙ ap₂ (λ m n. m * n) c.side.ensures.side c.side.ensures.side in
+    subst IsPlacement (sym c.with_cells.ensures) (
+    IsPlacement-found p c.cells.result c.size.result c.args.rank c.cells_at-cells.result cells c.size.ensures.size c.cells_at-cells.ensures.cells)
 
 pub returns-clause-rank : goal.returns-clause-rank
 returns-clause-rank c =

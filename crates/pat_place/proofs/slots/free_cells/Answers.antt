@@ -1,4 +1,4 @@
-use Rattle.std.proofs.Common.{◌≡◌, ◌*◌, ◌-◌, ◌^◌, ◌<◌, ◌≤◌, bit_and, sym, ◌∙◌, ap, ap₂, subst, arith}
+use Rattle.std.proofs.Common.{◌≡◌, ◌*◌, ◌-◌, ◌^◌, ◌<◌, bit_and, sym, ◌∙◌, ap, ap₂, subst, arith}
 use Rattle.pat_place.specs.Masks.{IsMaskOf}
 use Rattle.pat_place.specs.Placements.{IsFree}
 use Rattle.pat_place.proofs.SideLemmas.{few_cells}

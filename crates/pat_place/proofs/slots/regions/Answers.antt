@@ -1,4 +1,4 @@
-use Rattle.std.proofs.Common.{◌≡◌, ℕ, suc, ◌-◌, ◌^◌, bit_and, ◌<◌, ◌≤◌, [], ◌∷◌, ◌++◌, length, sym, ◌∙◌, ap, subst, arith, lit<}
+use Rattle.std.proofs.Common.{◌-◌, ◌^◌, bit_and, length, sym, ◌∙◌, ap, subst, arith, lit<}
 use Rattle.pat_place.proofs.SlotSteps.{AreListed, AreListed-more, IsRest-all, taken, width_le, count_within}
 use Rattle.pat_place.proofs.slots.regions.Goals as goal
 

@@ -1,15 +1,9 @@
-use Rattle.std.proofs.Common.{◌+◌, ◌-◌, ◌≤◌, length, take, drop, Some, ◌∙◌, ap, arith, length-drop}
-use Rattle.std.specs.Prelude.{option_map}
-use Rattle.std.proofs.lemmas.List.{take_all}
-use Rattle.puz_board.specs.PuzzleTexts.{puzzle_parts}
+use Rattle.std.proofs.Common.{◌∙◌}
+use Rattle.puz_board.proofs.PuzzleLemmas.{puzzle-puzzle_parts, puzzle_parts-puzzle}
 use Rattle.puz_board.proofs.puzzles.split_puzzle.Goals as goal
 
-pub returns : goal.returns
-unfolding puzzle_parts
-returns c =
-    let text = c.args.text.now in
-    let place = c.in_ok-place.place in
-    let cut = length-drop (place + 1) text in
-    let all : length (drop (place + 1) text) ≤ length text - (place + 1) = omega arith in
-    ap (λ rest. Some (take place text, rest)) (take_all (length text - (place + 1)) (drop (place + 1) text) all) ∙
-    ap (option_map (λ i. (take i text, drop (i + 1) text))) c.in_ok-place.ensures.place
+pub returns-clause-some : goal.returns-clause-some
+returns-clause-some c = puzzle-puzzle_parts c.args.text.now c.split_at_semicolon.result (λ parts. parts.0.now) (λ parts. parts.1.now) c.split_at_semicolon.ensures
+
+pub returns-clause-parted : goal.returns-clause-parted
+returns-clause-parted c board moves puzzle = c.split_at_semicolon.ensures ∙ puzzle_parts-puzzle c.args.text.now board moves puzzle

@@ -1,4 +1,4 @@
-use Rattle.std.proofs.Common.{true, false, refl, sym, ◌∙◌}
+use Rattle.std.proofs.Common.{refl}
 use Rattle.std.proofs.lemmas.Bool.{false≢true, both_ways}
 use Rattle.pat_place.proofs.PatternLemmas.{pattern_from, Tiles-from, Sized-from}
 use Rattle.pat_place.proofs.patterns.Pattern.of_mask.Goals as goal

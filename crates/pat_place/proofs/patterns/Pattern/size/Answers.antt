@@ -1,4 +1,4 @@
-use Rattle.std.proofs.Common.{◌≡◌, ◌≤◌, length, sym, ◌∙◌, ap, subst, arith}
+use Rattle.std.proofs.Common.{◌≡◌, length, sym, ◌∙◌, ap, subst, arith}
 use Rattle.std.specs.Prelude.{count_ones}
 use Rattle.pat_place.specs.Patterns.{IsPattern}
 use Rattle.pat_place.proofs.MaskLemmas.{length-numbers_below}

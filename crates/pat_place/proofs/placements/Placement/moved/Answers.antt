@@ -1,5 +1,5 @@
-use Rattle.std.proofs.Common.{◌≡◌, ◌<◌, length, sym, ◌∙◌, ap, subst, set}
-use Rattle.pat_place.specs.Placements.{IsFree, PlacementView}
+use Rattle.std.proofs.Common.{◌<◌, length, sym, ◌∙◌, ap, subst, set}
+use Rattle.pat_place.specs.Placements.{IsFree}
 use Rattle.pat_place.specs.StoredPlacements.{placement_shown}
 use Rattle.pat_place.proofs.PlacementLemmas.{placed, IsStoredPlacement-moved, placement_shown-moved}
 use Rattle.pat_place.proofs.placements.Placement.moved.Goals as goal

@@ -5,5 +5,5 @@ use Rattle.puz_board.proofs.boards.Board.is_goal.Goals as goal
 
 pub returns-clause-goal : goal.returns-clause-goal
 returns-clause-goal c =
-    let is : c.is_in_order.result ≡ is_goal c.args.self.now = c.is_in_order.ensures ∙ ap is_goal c.numbers.ensures in
+    let is : c.is_in_order.result ≡ is_goal c.args.self.now = c.is_in_order.ensures ∙ ap is_goal c.numbers.ensures.numbers in
     (λ passed. goal-is_goal c.args.self.now (sym is ∙ passed), λ good. is ∙ is_goal-goal c.args.self.now good)

@@ -1,6 +1,6 @@
 use Rattle.std.proofs.Common.{◌-◌}
 use Rattle.pat_place.proofs.RegionLemmas.{IsGrowing}
-use Rattle.pat_place.proofs.flood.region_of.Given as goal
+use Rattle.pat_place.proofs.flood.region_until.Given as goal
 
 abbrev pub invariant-grow : goal.invariant-grow
 invariant-grow l = IsGrowing l.n l.free l.cell l.region

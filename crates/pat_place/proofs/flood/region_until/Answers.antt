@@ -1,5 +1,4 @@
-use Rattle.std.proofs.Common.{◌≡◌, ◌≢◌, ◌*◌, ◌-◌, ◌^◌, ◌%◌, ◌<◌, ◌≤◌, bit_and, sym, ◌∙◌, ap, subst, arith, lit<}
-use Rattle.std.proofs.Math.Nat.{pow-le-pow_right}
+use Rattle.std.proofs.Common.{◌≢◌, ◌*◌, ◌-◌, ◌^◌, ◌%◌, bit_and, sym, ◌∙◌, subst, arith}
 use Rattle.std.proofs.lemmas.Nat.Bits.{bit_at-zero}
 use Rattle.pat_place.specs.Masks.{IsMaskOf}
 use Rattle.pat_place.specs.Regions.{Reaches}
@@ -7,7 +6,8 @@ use Rattle.pat_place.proofs.BitLemmas.{IsIn, in_below}
 use Rattle.pat_place.proofs.GrownLemmas.{outside_column, free_fits}
 use Rattle.pat_place.proofs.RegionLemmas.{IsGrowing-start, IsGrowing-more, IsGrowing-all, grows}
 use Rattle.pat_place.proofs.SideLemmas.{few_cells}
-use Rattle.pat_place.proofs.flood.region_of.Goals as goal
+use Rattle.pat_place.proofs.flood.region_until.Goals as goal
+use Rattle.pat_place.proofs.flood.region_until.Goals.{then-more-region-via-then-more-region, then-more-region-via-else-more-region+then-more-goal-ne0}
 
 pub with-region-requires : goal.with-region-requires
 with-region-requires c =
@@ -30,10 +30,17 @@ grown-more-requires-clause-left c =
     subst (λ n. IsMaskOf (bit_and c.args.free (2 ^ 32 - 1 - c.last_column.result)) (λ x. IsIn c.args.free x × (x % n ≢ n - 1))) (sym c.get-n.ensures.value) (
     outside_column c.args.side (c.args.side - 1) c.args.free c.last_column.result fits c.last_column.type_inv c.requires.within c.last_column.ensures)
 
-pub returns-then-more-region : goal.returns-then-more-region
-returns-then-more-region c =
-    subst (λ n. IsMaskOf c.grow.region (Reaches n (IsIn c.args.free) c.args.cell)) c.get-n.ensures.value (
-    IsGrowing-all c.get-n.result c.args.free c.args.cell c.grow.region c.grown-more.result c.grow.invariant c.grown-more.ensures c.if-more-region.true)
+pub returns-then-more-region-clause-reached : goal.returns-then-more-region-clause-reached
+returns-then-more-region-clause-reached c x in_it =
+    subst (λ n. Reaches n (IsIn c.args.free) c.args.cell x) c.get-n.ensures.value (
+    (IsGrowing-more c.get-n.result c.args.free c.args.cell c.grow.region c.grown-more.result c.grow.invariant c.grown-more.ensures).reached x in_it)
+
+pub returns-then-more-region-clause-whole : goal.returns-then-more-region-clause-whole
+returns-then-more-region-clause-whole c none = elim c.then-more-region.branch [
+  | then-more-region-via-then-more-region w ↦ subst (λ n. IsMaskOf c.grown-more.result (Reaches n (IsIn c.args.free) c.args.cell)) c.get-n.ensures.value (
+      IsGrowing-all c.get-n.result c.args.free c.args.cell c.grow.region c.grown-more.result c.grow.invariant c.grown-more.ensures w.if-more-region.true)
+  | then-more-region-via-else-more-region+then-more-goal-ne0 w ↦ absurd (w.if-more-goal-ne0.true none)
+]
 
 pub grow-smaller : goal.grow-smaller
 grow-smaller c = grows c.get-n.result c.args.free c.args.cell c.grow.region c.grown-more.result c.grow.invariant c.grown-more.ensures c.if-more-region.false

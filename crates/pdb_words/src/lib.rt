@@ -1,0 +1,4 @@
+//! The words of the command line.
+#![tactic(auto)]
+
+pub mod request;

@@ -1,0 +1,39 @@
+#!/usr/bin/env bash
+# Runs the program once for each of its requests for memory, with that one refused. Such a run must write
+# `no memory` alone and end with status 3, or end as the run does that has its memory.
+#
+#     echo '3 2 1 0 ; ULDRUL' | tools/refuse_memory.sh [WORD..]
+set -euo pipefail
+
+root=$(dirname "$(dirname "$(readlink -f "${BASH_SOURCE[0]}")")")
+program=$root/crates/pdb_cli/out/pdb_cli
+work=$(mktemp -d)
+trap 'rm -r "$work"' EXIT
+
+cat >"$work/input"
+cc -O1 -shared -fPIC -o "$work/refuse_memory.so" "$root/tools/refuse_memory.c"
+
+run() {
+    local status=0
+    REFUSE=$1 LD_PRELOAD=$work/refuse_memory.so "$program" "${@:2}" \
+        <"$work/input" >"$work/output" 2>"$work/errors" 9>"$work/refused" || status=$?
+    echo "status $status" >>"$work/output"
+}
+
+run 0 "$@"
+mv "$work/output" "$work/own_answer"
+printf 'no memory\nstatus 3\n' >"$work/no_memory"
+
+request=0
+bad=0
+while :; do
+    request=$((request + 1))
+    run "$request" "$@"
+    [ -s "$work/refused" ] || break
+    if ! cmp -s "$work/output" "$work/no_memory" && ! cmp -s "$work/output" "$work/own_answer"; then
+        echo "request $request refused:" && cat "$work/output"
+        bad=$((bad + 1))
+    fi
+done
+echo "$((request - 1 - bad)) passed, $bad failed"
+[ "$bad" = 0 ]
