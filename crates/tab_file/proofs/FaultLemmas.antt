@@ -11,8 +11,8 @@ use Rattle.pat_place.specs.Patterns.{PatternView, IsAscending, IsPattern, most_t
 use Rattle.pat_place.proofs.MaskLemmas.{ascending-numbers_below}
 use Rattle.byteorder.specs.Endian.{big_number}
 use Rattle.tab_file.specs.Tables.{Table, entry_count}
-use Rattle.tab_file.specs.TableFiles.{signature}
-use Rattle.tab_file.specs.HeadFaults.{Stands, IsFirstFault, count_in, earlier, first_fault, is_pattern, pattern_in, side_in, size_in, spare_in, stands, table_of_file}
+use Rattle.tab_file.specs.TableFiles.{signature, side_in, size_in, spare_in, mask_in, count_in}
+use Rattle.tab_file.specs.HeadFaults.{Stands, IsFirstFault, earlier, first_fault, is_pattern, pattern_in, stands, table_of_file}
 use Rattle.tab_file.specs.declared.headers.HeadFault.{HeadFault}
 use Rattle.tab_file.specs.declared.headers.HeadFault.TheVariants.{T1, T2, T3, T4, T5, T6}
 
@@ -83,7 +83,7 @@ passes-from T3 file e =
 passes-from T4 file e =
     let spare = and_parts (is_pattern (pattern_in file) && nat_eq (size_in file) (length (pattern_in file).tiles)) (nat_eq (spare_in file) 0) (not-false _ e) in
     let size = and_parts (is_pattern (pattern_in file)) (nat_eq (size_in file) (length (pattern_in file).tiles)) spare.0 in
-    (is_pattern-from (pattern_in file) (ascending-numbers_below 32 (big_number 4 (drop 8 file))) size.0, eqb-true (size_in file) (length (pattern_in file).tiles) size.1, eqb-true (spare_in file) 0 spare.1)
+    (is_pattern-from (pattern_in file) (ascending-numbers_below 32 (mask_in file)) size.0, eqb-true (size_in file) (length (pattern_in file).tiles) size.1, eqb-true (spare_in file) 0 spare.1)
 passes-from T5 file e = eqb-true (count_in file) (entry_count (pattern_in file)) (not-false _ e)
 passes-from T6 file e = eqb-true (length file) (20 + count_in file) (not-false _ e)
 

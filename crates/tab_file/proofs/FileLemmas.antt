@@ -4,8 +4,8 @@ use Rattle.std.specs.Prelude.{IfErr, IfOk, slice_index}
 use Rattle.std.proofs.lemmas.List.{get_or-drop}
 use Rattle.pat_place.specs.Patterns.{IsPattern}
 use Rattle.tab_file.specs.Tables.{Table, entry_count}
-use Rattle.tab_file.specs.TableFiles.{IsTableFile}
-use Rattle.tab_file.specs.HeadFaults.{IsFirstFault, count_in, pattern_in, table_of_file}
+use Rattle.tab_file.specs.TableFiles.{IsTableFile, count_in}
+use Rattle.tab_file.specs.HeadFaults.{IsFirstFault, pattern_in, table_of_file}
 use Rattle.tab_file.specs.declared.headers.HeadFault.{HeadFault}
 use Rattle.tab_file.specs.declared.headers.HeadFault.TheVariants.{T1, T2, T4, T5, T6}
 use Rattle.tab_file.proofs.FaultLemmas.{Passes, accepted, table_in, which}

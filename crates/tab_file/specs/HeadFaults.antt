@@ -1,32 +1,17 @@
 -- What keeps bytes from being a table file: six faults, of which the first that stands is named.
-use Rattle.std.specs.Prelude.{◌≡◌, ◌≢◌, ℕ, ◌+◌, ◌*◌, ◌<◌, ◌≤◌, ◌==◌, nat_eq, nat_lt, nat_le, ◌&&◌, not, Bool, List, [], ◌∷◌, drop, length, slice_index, take, find, Option, Result, Ok, Err}
+use Rattle.std.specs.Prelude.{◌≡◌, ◌≢◌, ℕ, ◌+◌, ◌*◌, ◌<◌, ◌≤◌, ◌==◌, nat_eq, nat_lt, nat_le, ◌&&◌, not, Bool, List, [], ◌∷◌, drop, length, take, find, Option, Result, Ok, Err}
 use Rattle.std.specs.List.{AllByRecursion, list_all, starts_with}
 use Rattle.std.specs.Option.{option_map_or}
-use Rattle.byteorder.specs.Endian.{big_number}
 use Rattle.pat_place.specs.Masks.{numbers_of}
 use Rattle.pat_place.specs.Patterns.{PatternView, IsPattern, most_tiles}
 use Rattle.tab_file.specs.Tables.{Table, entry_count}
-use Rattle.tab_file.specs.TableFiles.{signature}
+use Rattle.tab_file.specs.TableFiles.{signature, side_in, size_in, spare_in, mask_in, count_in}
 use Rattle.tab_file.specs.declared.headers.HeadFault.{HeadFault}
 use Rattle.tab_file.specs.declared.headers.HeadFault.TheVariants.{T1, T2, T3, T4, T5, T6}
 
--- ---- the fields of a header
-
-abbrev pub side_in : List ℕ → ℕ
-side_in file = slice_index file 5
-
-abbrev pub size_in : List ℕ → ℕ
-size_in file = slice_index file 6
-
-abbrev pub spare_in : List ℕ → ℕ
-spare_in file = slice_index file 7
-
--- the pattern that the side and the mask name
+-- the pattern that the side and the mask of a header name
 abbrev pub pattern_in : List ℕ → PatternView
-pattern_in file = record { side = side_in file; tiles = numbers_of (big_number 4 (drop 8 file)) }
-
-abbrev pub count_in : List ℕ → ℕ
-count_in file = big_number 8 (drop 12 file)
+pattern_in file = record { side = side_in file; tiles = numbers_of (mask_in file) }
 
 -- ---- the faults, in their order
 
@@ -53,7 +38,7 @@ pub record IsFirstFault (fault : HeadFault) (file : List ℕ) : Type 0 where
 
 -- ---- the same as tests
 
--- for tiles that ascend
+-- whether tiles that ascend make a pattern
 abbrev pub is_pattern : PatternView → Bool
 is_pattern p =
     nat_le 2 p.side && nat_le p.side 5 && list_all (λ t. nat_lt 0 t && nat_lt t (p.side * p.side)) p.tiles &&

@@ -6,19 +6,42 @@ use Rattle.pat_place.specs.Masks.{numbers_of}
 use Rattle.pat_place.specs.Patterns.{PatternView}
 use Rattle.tab_file.specs.Tables.{Table, IsTable, entry_count}
 
--- the letters of the format, and its version
+-- ---- the fields of a header
+
+-- how it begins: the letters of the format, and the version
 abbrev pub signature : List ℕ
 signature = codes "PDBT" ++ 1 ∷ []
+
+abbrev pub side_in : List ℕ → ℕ
+side_in file = slice_index file 5
+
+-- how many tiles there are
+abbrev pub size_in : List ℕ → ℕ
+size_in file = slice_index file 6
+
+-- always 0
+abbrev pub spare_in : List ℕ → ℕ
+spare_in file = slice_index file 7
+
+-- bit t is set for tile t
+abbrev pub mask_in : List ℕ → ℕ
+mask_in file = big_number 4 (drop 8 file)
+
+-- how many entries there are
+abbrev pub count_in : List ℕ → ℕ
+count_in file = big_number 8 (drop 12 file)
+
+-- ---- table files
 
 -- the first 20 bytes are the header of the pattern
 pub record IsHeader (p : PatternView) (file : List ℕ) : Type 0 where
   pub room : 20 ≤ length file
   pub begins : take 5 file ≡ signature
-  pub side : slice_index file 5 ≡ p.side
-  pub size : slice_index file 6 ≡ length p.tiles
-  pub spare : slice_index file 7 ≡ 0
-  pub mask : numbers_of (big_number 4 (drop 8 file)) ≡ p.tiles
-  pub count : big_number 8 (drop 12 file) ≡ entry_count p
+  pub side : side_in file ≡ p.side
+  pub size : size_in file ≡ length p.tiles
+  pub spare : spare_in file ≡ 0
+  pub mask : numbers_of (mask_in file) ≡ p.tiles
+  pub count : count_in file ≡ entry_count p
 
 -- the header of the table's pattern, and then the table's entries
 pub record IsTableFile (t : Table) (file : List ℕ) : Type 0 where
