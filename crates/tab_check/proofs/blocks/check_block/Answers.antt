@@ -22,7 +22,7 @@ overflow_add-first c =
 pub overflow_mul-result : goal.overflow_mul-result
 overflow_mul-result c =
     let t = c.args.table.now in
-    let count : c.count.result ≡ placement_count t.pattern = c.count.ensures ∙ ap placement_count c.pattern-pattern.ensures.pattern in
+    let count : c.count.result ≡ placement_count t.pattern = c.count.ensures.count ∙ ap placement_count c.pattern-pattern.ensures.pattern in
     let least = c.min-end.ensures in
     let low : c.loop-place.place < placement_count t.pattern = let l = c.loop-place-test.true in omega arith in
     let small : c.from-width.result < 256 = let e = c.from-width.ensures in let l = c.width.type_inv in omega arith in
@@ -32,7 +32,7 @@ overflow_mul-result c =
 pub overflow_add-result : goal.overflow_add-result
 overflow_add-result c =
     let t = c.args.table.now in
-    let count : c.count.result ≡ placement_count t.pattern = c.count.ensures ∙ ap placement_count c.pattern-pattern.ensures.pattern in
+    let count : c.count.result ≡ placement_count t.pattern = c.count.ensures.count ∙ ap placement_count c.pattern-pattern.ensures.pattern in
     let least = c.min-end.ensures in
     let low : c.loop-place.place < placement_count t.pattern = let l = c.loop-place-test.true in omega arith in
     let width : c.from-width.result ≡ slot_count t.pattern = c.from-width.ensures ∙ c.width.ensures ∙ ap slot_count c.pattern-pattern.ensures.pattern in
@@ -71,7 +71,7 @@ loop-place-preserved c =
 pub returns : goal.returns
 returns c =
     let t = c.args.table.now in
-    let count : c.count.result ≡ placement_count t.pattern = c.count.ensures ∙ ap placement_count c.pattern-pattern.ensures.pattern in
+    let count : c.count.result ≡ placement_count t.pattern = c.count.ensures.count ∙ ap placement_count c.pattern-pattern.ensures.pattern in
     let least = c.min-end.ensures in
     let past = c.loop-place-test.false in
     keeps_all t c.args.block c.loop-place.place (λ r l k. omega arith) c.loop-place.invariant
