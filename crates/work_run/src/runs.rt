@@ -1,8 +1,6 @@
 //! All workers of a check.
 
-ghost use Rattle.std.specs.Prelude.{◌≡◌, ℕ, ◌<◌, ◌≤◌, IfOk, Some, slice_get, vec_capacity};
-ghost use Rattle.book_core.specs.Passes.{fresh};
-ghost use Rattle.book_live.specs.Callers.{PassState};
+ghost use Rattle.std.specs.Prelude.{◌≡◌, ◌<◌, ◌≤◌, IfOk, vec_capacity};
 ghost use Rattle.work_run.specs.Faults.{IsFault};
 ghost use Rattle.work_run.specs.Work.{AreDone, AreNew};
 

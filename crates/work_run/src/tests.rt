@@ -1,6 +1,6 @@
 //! Checks by several workers, and gates that show them side by side.
 
-ghost use Rattle.std.specs.Prelude.{◌≡◌, ◌<◌, ◌≤◌};
+ghost use Rattle.std.specs.Prelude.{◌<◌, ◌≤◌};
 
 use crate::{Gate, Job, OpenGate, run_jobs, work};
 use book_live::Book;
