@@ -1,5 +1,5 @@
 -- What a run says.
-use Rattle.std.proofs.Common.{◌≡◌, ◌∙◌, ◌⊎◌, ◌≤◌, inl, inr, ℕ, List, Bool, Option, Result, Ok, Err, MatchResult, OnOk, OnErr, lit≤, arith}
+use Rattle.std.proofs.Common.{◌≡◌, ◌∙◌, ◌⊎◌, ◌≤◌, inl, inr, ℕ, List, Bool, Option, Result, Ok, Err, MatchResult, OnOk, OnErr, lit≤, ap, subst, arith}
 use Rattle.std.specs.Io.KnownBytes.{Appends}
 use Rattle.pdb_words.specs.Words.{Asked}
 use Rattle.pdb_cli.specs.declared.verdict.Fault.{Fault}

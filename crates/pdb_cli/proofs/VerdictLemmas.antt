@@ -10,6 +10,7 @@ use Rattle.puz_board.proofs.SpellingLemmas.{board_of_text-spelled, spelled-board
 use Rattle.pdb_cli.specs.Given.{Given, puzzle_text}
 use Rattle.pdb_cli.specs.Verdicts.{IsResult, IsSolvedPuzzle, IsTrueOf, of_board, of_moves, of_parts}
 use Rattle.pdb_cli.specs.declared.verdict.Fault.{Fault}
+use Rattle.pdb_cli.specs.declared.verdict.Fault.TheVariants as fault
 use Rattle.pdb_cli.specs.declared.verdict.Verdict.{Verdict}
 use Rattle.pdb_cli.specs.declared.verdict.Verdict.TheVariants as verdict
 

@@ -1,5 +1,5 @@
 -- How a run ends: what its writer got, and its status.
-use Rattle.std.specs.Prelude.{◌≡◌, ◌⊎◌, ⊤, ℕ, ◌<◌, List, ◌++◌, Bool, true, Option, Some, None, Result, IfSome, IsSomeAnd, codes, length}
+use Rattle.std.specs.Prelude.{◌≡◌, ◌⊎◌, ⊤, ℕ, ◌<◌, List, [], ◌∷◌, ◌++◌, Bool, true, Option, Some, None, Result, IfSome, IsSomeAnd, codes, length}
 use Rattle.std.specs.Io.KnownBytes.{Appends, Keeps}
 use Rattle.pdb_words.specs.Words.{Asked, AsksForHelp, IsMistaken, replay}
 use Rattle.pdb_cli.specs.Given.{Given, puzzle_text, text_limit, IsWithinLimits}

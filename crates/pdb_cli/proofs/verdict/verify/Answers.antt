@@ -1,4 +1,4 @@
-use Rattle.std.proofs.Common.{Ok, Result, rules, subst}
+use Rattle.std.proofs.Common.{◌≡◌, Ok, Result, rules, subst}
 use Rattle.pdb_cli.specs.Given.{given}
 use Rattle.pdb_cli.specs.Verdicts.{IsResult}
 use Rattle.pdb_cli.specs.declared.verdict.Fault.{Fault}

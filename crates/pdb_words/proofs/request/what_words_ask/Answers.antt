@@ -1,4 +1,4 @@
-use Rattle.std.proofs.Common.{refl, ◌≡◌, ◌∷◌, [], ℕ, List, None, Some, codes, nat_eq, false}
+use Rattle.std.proofs.Common.{refl, ◌≡◌, ◌∷◌, [], ℕ, List, None, Some, codes, nat_eq, false, Bool}
 use Rattle.clap.proofs.OnLiterals.{clap_on_literals}
 use Rattle.clap.specs.Lexer.{strip_byte}
 use Rattle.pdb_words.specs.Words.{asked_of, faults_of, replay}
