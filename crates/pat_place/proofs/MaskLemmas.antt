@@ -7,9 +7,10 @@ use Rattle.std.proofs.lemmas.Bool.{cases_eq, cases_Bool, both_ways, eqb-true, eq
 use Rattle.std.proofs.lemmas.Nat.{ones_cat, mod-pow-add, ones-le, ones_le_self, zero_from_ones, mod_below, pow_pos}
 use Rattle.std.proofs.lemmas.List.{append-nil}
 use Rattle.std.proofs.lemmas.Nat.Bits.{bit_at-lt, bit_at_ones, bit_at_ones_above, bit_at-zero}
-use Rattle.pat_place.specs.Masks.{has_bit, numbers_below, ones_below}
+use Rattle.pat_place.specs.Masks.{has_bit, numbers_below, numbers_of, ones_below}
 use Rattle.pat_place.specs.Patterns.{has, IsAscending}
 use Rattle.pat_place.specs.Ranks.{without}
+use Rattle.pat_place.proofs.BitLemmas.{in_below, sub_le}
 use Rattle.pat_place.proofs.ListLemmas.{Some-one, ascending-filter, ascending-range, filter-filter_below, has-filter, has-filter_not, has-range, in_range, without-first, apart_from_ascending, filter_all, filter_none, filter-append, range-append}
 use Rattle.pat_place.specs.Placements.{IsApart}
 
@@ -223,3 +224,11 @@ Holds-found mask place number span h l =
     let low = h.low in
     let high = h.high in
     (omega arith, omega arith)
+
+-- ---- a mask is known by its numbers
+
+numbers_of-le : (a b : ℕ) → a < 2 ^ 32 → numbers_of a ≡ numbers_of b → a ≤ b
+numbers_of-le a b fits same = sub_le a b (λ x is. (in_numbers_below 32 b x (sym (ap (λ xs. has xs x) same) ∙ has-numbers_below 32 a x (in_below a 32 x fits is) is)).1)
+
+pub numbers_of-one : (a b : ℕ) → a < 2 ^ 32 → b < 2 ^ 32 → numbers_of a ≡ numbers_of b → a ≡ b
+numbers_of-one a b fits also same = let low = numbers_of-le a b fits same in let high = numbers_of-le b a also (sym same) in omega arith

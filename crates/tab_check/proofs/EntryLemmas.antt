@@ -69,7 +69,7 @@ module _ (p : PatternView) (pat : IsPattern p) where
   slot_in : (cells : List ℕ) (c j : ℕ) → IsPlaced p cells → IsSlot p.side cells c j → j < slot_count p
   slot_in cells c j place is = subst (λ k. j < width p.side k) place.size (slot_within p.side pat.low pat.high cells c j place.inside place.apart is)
 
-  cell_decided : (cells : List ℕ) (j c : ℕ) → Decided (IsFree p.side cells c × IsSlot p.side cells c j)
+  pub cell_decided : (cells : List ℕ) (j c : ℕ) → Decided (IsFree p.side cells c × IsSlot p.side cells c j)
   cell_decided cells j c = elim (free_decided p.side cells c) [
     | inr none ↦ inr (λ h. none h.0)
     | inl free ↦

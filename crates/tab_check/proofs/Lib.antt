@@ -1,10 +1,12 @@
 pub mod BlockLemmas
+pub mod DecidedLemmas
 pub mod EntryLemmas
 pub mod ExactLemmas
 pub mod LookLemmas
 pub mod MoveLemmas
 pub mod NearLemmas
 pub mod OneEntryLemmas
+pub mod OneResultLemmas
 pub mod RuleLemmas
 pub mod StepLemmas
 pub mod TableLemmas

@@ -23,7 +23,7 @@ same_list_decided (x ∷ xs) (y ∷ ys) = elim (cases_eq x y) [
   | inr ne ↦ inr (λ q. ne (let w : x ≡ y = cc in w))
 ]
 
-goal_decided : (p : PatternView) (cells : List ℕ) (c : ℕ) → Decided (IsGoalRegion p cells c)
+pub goal_decided : (p : PatternView) (cells : List ℕ) (c : ℕ) → Decided (IsGoalRegion p cells c)
 goal_decided p cells c = elim (same_list_decided cells p.tiles) [
   | inl e ↦ elim (joins_decided p.side cells c 0) [ inl r ↦ inl (e, r) | inr none ↦ inr (λ g. none g.1) ]
   | inr ne ↦ inr (λ g. ne g.0)

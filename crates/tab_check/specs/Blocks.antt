@@ -1,7 +1,7 @@
 -- Blocks of a table: the entries of 256 placements each, in the order of their ranks. The last block may have fewer.
-use Rattle.std.specs.Prelude.{ℕ, ◌+◌, ◌*◌, ◌/◌, ◌<◌, ◌≤◌, List}
+use Rattle.std.specs.Prelude.{ℕ, ◌+◌, ◌*◌, ◌/◌, ◌<◌, ◌≤◌, List, min}
 use Rattle.pat_place.specs.Patterns.{PatternView}
-use Rattle.tab_file.specs.Tables.{Table, entry_at, placement_count, slot_count}
+use Rattle.tab_file.specs.Tables.{Table, entry_at, entry_count, placement_count, slot_count}
 use Rattle.tab_check.specs.BadEntries.{IsBad, KeepsRule}
 use Rattle.tab_check.specs.LocalRule.{LocalRule}
 
@@ -12,6 +12,10 @@ block_count p = (placement_count p + 255) / 256
 -- the number of a block's first entry
 abbrev pub first_of_block : PatternView → ℕ → ℕ
 first_of_block p block = block * 256 * slot_count p
+
+-- where a block begins among the entries, and past the last block how many entries there are
+abbrev pub block_begin : PatternView → ℕ → ℕ
+block_begin p block = min (first_of_block p block) (entry_count p)
 
 -- the block has the entry with this number
 pub record IsInBlock (p : PatternView) (block number : ℕ) : Type 0 where

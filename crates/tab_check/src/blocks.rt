@@ -8,7 +8,7 @@ use pat_place::{Pattern, Placement, rank, unrank};
 use tab_file::TableView;
 
 /// How many placements a block has.
-const BLOCK_RANKS: u64 = 256;
+pub(crate) const BLOCK_RANKS: u64 = 256;
 
 /// The number of a block's least entry that breaks the local rule. A block has 256 placements, the last one what is left.
 pub fn check_block(table: &TableView<'_>, block: u64) -> Option<u64>

@@ -1,6 +1,6 @@
-//! Laws of tables. Each function here says what holds of every table, and does nothing.
+//! Laws of tables and their files. Each function here says what holds of all of them, and does nothing.
 
-ghost use Rattle.tab_check.specs.Laws.{CountsHavePaths, FilesAreExactByRule, OtherStepsKeepTheEntry, PathsCostTheEntryAtLeast, TileStepsLeadToANearEntry};
+ghost use Rattle.tab_check.specs.Laws.{CountsHavePaths, EntriesHaveOneCensus, ExactFilesHaveNoFault, FilesAreExactByRule, FilesHaveOneExactTable, FilesHaveOneFault, OtherStepsKeepTheEntry, PathsCostTheEntryAtLeast, TileStepsLeadToANearEntry};
 
 /// A step that moves no tile of the pattern costs nothing and keeps the entry.
 pub fn other_steps_keep_the_entry()
@@ -25,4 +25,16 @@ pub fn counts_have_paths()
 /// Each entry keeps the local rule exactly where each entry is right.
 pub fn files_are_exact_by_rule()
     ensures { FilesAreExactByRule }
+{}
+
+/// What is answered of a file is settled by its bytes, but for want of memory.
+pub fn files_have_one_answer()
+    ensures table { FilesHaveOneExactTable }
+    ensures fault { FilesHaveOneFault }
+    ensures either { ExactFilesHaveNoFault }
+{}
+
+/// The census of a table is settled by its entries.
+pub fn entries_have_one_census()
+    ensures { EntriesHaveOneCensus }
 {}

@@ -3,6 +3,7 @@
 
 mod blocks;
 mod census;
+mod jobs;
 pub mod laws;
 mod masks;
 mod neighbours;

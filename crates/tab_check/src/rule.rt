@@ -29,15 +29,14 @@ pub(crate) fn first_bad_slot(
     rank: u64,
     goal: u64,
 ) -> Option<u8>
+    requires placement { IsPlacement placement.now }
     requires pattern { placement.now.pattern ≡ table.now.pattern }
     requires rank { IsRank table.now.pattern.side placement.now.cells rank }
     requires goal { IsRank table.now.pattern.side table.now.pattern.tiles goal }
-    ensures slot { MatchOption result
+    ensures { MatchOption result
         (SlotsKeepRule table.now placement.now.cells rank (slot_count table.now.pattern))
         (IsFirstBadSlot table.now placement.now.cells rank) }
-    ensures placement { IsPlacement placement.now }
 {
-    let _cells = placement.cells();
     let regions = regions(placement);
     let width = table.pattern().width();
     for slot in 0..width {

@@ -1,31 +1,37 @@
 //! Tables that are checked whole.
 
-ghost use Rattle.std.specs.Prelude.{◌≡◌, ◌==◌, if◌then◌else◌, ℕ, Err, IfErr, IfOk, MatchOption, Ok};
+ghost use Rattle.std.specs.Prelude.{◌≡◌, ◌<◌, ◌≤◌, ◌⊎◌, ◌==◌, if◌then◌else◌, ℕ, Err, IfErr, IfOk, Ok};
 ghost use Rattle.puz_board.specs.Boards.{side_of};
 ghost use Rattle.tab_file.specs.HeadFaults.{table_of_file};
 ghost use Rattle.tab_file.specs.TableFiles.{IsTableFile};
 ghost use Rattle.tab_file.specs.Tables.{IsTable, Table};
-ghost use Rattle.tab_check.specs.BadEntries.{AllKeepRule, IsLeastBad};
+ghost use Rattle.tab_check.specs.BadEntries.{IsLeastBad};
 ghost use Rattle.tab_check.specs.Counts.{IsCensusOf, IsCountOf};
 ghost use Rattle.tab_check.specs.ExactTables.{IsExactFile};
 ghost use Rattle.tab_check.specs.TableFaults.{IsFaultOf};
 ghost use Rattle.tab_file.specs.declared.headers.HeadFault.{HeadFault};
-ghost use Rattle.tab_check.specs.declared.tables.TableFault.TheVariants.{Head, T7};
+ghost use Rattle.tab_check.specs.declared.tables.TableFault.TheVariants.{Head, Memory, T7};
 ghost use Rattle.tab_check.specs.declared.tables.Count.TheVariants.{Finite, Never};
 
-use crate::blocks::{block_count, check_block};
 use crate::census::{Census, census_of};
+use crate::jobs::TableCheck;
 use crate::rule::NEVER;
 use pat_place::{Pattern, Placement, rank, slot_of};
 use puz_board::Board;
+use std::alloc::Global;
 use std::marker::Model;
+use std::sync::Wait;
+use std::thread::Threads;
 use tab_file::{HeadFault, TableView, view};
+use work_run::{Gate, run_jobs};
 
 /// Why bytes are no exact table file.
 #[derive(Clone, Copy, Debug, PartialEq, Eq)]
 pub enum TableFault {
     /// They are no table file.
     Head(HeadFault),
+    /// They are a table file, and there isn't the memory to check it.
+    Memory,
     /// The entry with this number is the least that breaks the local rule.
     T7(u64),
 }
@@ -57,37 +63,38 @@ impl<'a> Model for CheckedTable<'a> {
     ghost invariant = { λ checked. IsExactTable checked.view };
 }
 
-/// Checks the bytes of a table file, entry by entry.
-pub fn check_table(file: &[u8]) -> Result<CheckedTable<'_>, TableFault>
-    // A table comes exactly of an exact file, and is that file's.
+/// Checks the bytes of a table file, block by block, by so many workers at once.
+///
+/// The caller's thread is one of them. Each passes the gate once before each block that it checks.
+pub fn check_table<'a, R: Threads + Wait, G: Gate + Sync>(
+    rt: &R,
+    alloc: Global,
+    file: &'a [u8],
+    workers: u8,
+    gate: &G,
+) -> Result<CheckedTable<'a>, TableFault>
+    requires { (0 < workers) × (workers ≤ 64) }
+
+    // A table comes of an exact file alone, and is that file's. Only want of memory keeps it back.
     ensures ok { IfOk result (λ table. IsExactFile table file.now) }
-    ensures exact { (table : Table) → IsExactFile table file.now → result ≡ Ok table }
+    ensures exact { (table : Table) → IsExactFile table file.now → (result ≡ Ok table) ⊎ (result ≡ Err Memory) }
 
     // Which fault it is.
     ensures fault { IfErr result (λ fault. IsFaultOf fault file.now) }
     ensures head { (fault : HeadFault) → table_of_file file.now ≡ Err fault → result ≡ Err (Head fault) }
-    ensures bad { (table : Table) (number : ℕ) → IsTableFile table file.now → IsLeastBad table number → result ≡ Err (T7 number) }
+    ensures bad { (table : Table) (number : ℕ) → IsTableFile table file.now → IsLeastBad table number
+        → (result ≡ Err (T7 number)) ⊎ (result ≡ Err Memory) }
 {
     let view = match view(file) {
         Ok(view) => view,
         Err(fault) => return Err(TableFault::Head(fault)),
     };
-    match least_bad(&view) {
-        Some(number) => Err(TableFault::T7(number)),
-        None => Ok(CheckedTable { view }),
+    let check = TableCheck { view };
+    match run_jobs(rt, alloc, &check, workers, gate) {
+        Ok(None) => Ok(CheckedTable { view: check.view }),
+        Ok(Some(number)) => Err(TableFault::T7(number)),
+        Err(_) => Err(TableFault::Memory),
     }
-}
-
-/// The number of the least entry that breaks the local rule.
-fn least_bad(table: &TableView<'_>) -> Option<u64>
-    ensures { MatchOption result (AllKeepRule table.now) (IsLeastBad table.now) }
-{
-    for block in 0..block_count(&table.pattern()) {
-        if let Some(number) = check_block(table, block) {
-            return Some(number);
-        }
-    }
-    None
 }
 
 impl<'a> CheckedTable<'a> {
@@ -105,7 +112,7 @@ impl<'a> CheckedTable<'a> {
         ensures { IsCountOf self.now.pattern.tiles board.now result }
     {
         let _side = board.side();
-        let placement = Placement::of_board(&self.view.pattern(), board);
+        let placement = Placement::of_board(&self.pattern(), board);
         let slot = slot_of(&placement, board.blank());
         count_of(self.view.entry(rank(&placement), slot))
     }

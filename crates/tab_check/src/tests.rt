@@ -1,8 +1,18 @@
+//! Known tables and changed ones, by several workers, and gates that watch and hold them.
+
+ghost use Rattle.std.specs.Prelude.{◌<◌, ◌≤◌};
+
 use crate::blocks::block_count;
-use crate::{Census, Count, TableFault, check_block, check_table};
+use crate::{Census, CheckedTable, Count, TableFault, check_block, check_table};
 use puz_board::Board;
+use std::alloc::{AllocError, Global};
 use std::process::Abort;
+use std::sync::Wait;
+use std::sync::atomic::{AtomicU64, Ordering};
+use std::test::Fail;
+use std::thread::Threads;
 use tab_file::{HeadFault, view};
+use work_run::{Gate, OpenGate};
 
 /// The tiles 1, 2 and 3 on side 2: one slot.
 const TILES_123: [u8; 44] = [
@@ -45,17 +55,48 @@ const HEADER: [u8; 20] = [
     0x00, 0x00, 0x07, 0xE0,
 ];
 
-/// The census of a table file, or its fault.
-fn census(file: &[u8]) -> Result<Census, TableFault> {
-    match check_table(file) {
+/// The check of a file by one worker.
+fn checked<'a, R: Threads + Wait + AllocGlobal>(
+    rt: &R,
+    file: &'a [u8],
+) -> Result<CheckedTable<'a>, TableFault> {
+    check_table(rt, rt.alloc(), file, 1, &OpenGate)
+}
+
+/// The census of a table file, or its fault, by so many workers.
+fn census_by<R: Threads + Wait + AllocGlobal, G: Gate + Sync>(
+    rt: &R,
+    file: &[u8],
+    workers: u8,
+    gate: &G,
+) -> Result<Census, TableFault>
+    requires { (0 < workers) × (workers ≤ 64) }
+{
+    match check_table(rt, rt.alloc(), file, workers, gate) {
         Ok(table) => Ok(table.census()),
         Err(fault) => Err(fault),
     }
 }
 
+/// The census of a table file, or its fault, which is the same by any number of workers.
+fn census<R: Threads + Wait + AllocGlobal + Abort>(
+    rt: &R,
+    file: &[u8],
+) -> Result<Census, TableFault> {
+    let alone = census_by(rt, file, 1, &OpenGate);
+    for workers in [2, 7, 64] {
+        assert_eq!(rt;
+            census_by(rt, file, workers, &OpenGate),
+            alone,
+            "{workers} workers"
+        );
+    }
+    alone
+}
+
 /// What a table tells of a board of side 2.
-fn look(file: &[u8], numbers: &[u8; 4]) -> Option<Count> {
-    let table = match check_table(file) {
+fn look<R: Threads + Wait + AllocGlobal>(rt: &R, file: &[u8], numbers: &[u8; 4]) -> Option<Count> {
+    let table = match checked(rt, file) {
         Ok(table) => table,
         Err(_) => return None,
     };
@@ -82,7 +123,7 @@ fn exact_tables_are_accepted_and_counted(rt: HostRuntime) {
             unreachable,
             deepest,
         };
-        assert_eq!(rt; census(file), Ok(want));
+        assert_eq!(rt; census(&rt, file), Ok(want));
     }
 }
 
@@ -97,7 +138,7 @@ fn boards_are_looked_up(rt: HostRuntime) {
         (&TILES_12, [1, 0, 2, 3], Count::Finite(1)),
     ];
     for (file, numbers, want) in looks {
-        assert_eq!(rt; look(file, &numbers), Some(want), "{numbers:?}");
+        assert_eq!(rt; look(&rt, file, &numbers), Some(want), "{numbers:?}");
     }
 }
 
@@ -105,15 +146,15 @@ fn boards_are_looked_up(rt: HostRuntime) {
 fn the_least_bad_entry_is_named(rt: HostRuntime) {
     let mut file = TILES_123;
     file[34] = 0x02;
-    assert_eq!(rt; census(&file), Err(TableFault::T7(14)));
+    assert_eq!(rt; census(&rt, &file), Err(TableFault::T7(14)));
     let mut file = TILES_12;
     file[20] = 0xFE;
-    assert_eq!(rt; census(&file), Err(TableFault::T7(0)));
+    assert_eq!(rt; census(&rt, &file), Err(TableFault::T7(0)));
     let mut file = TILE_1;
     for i in 20..28 {
         file[i] = 0xFF;
     }
-    assert_eq!(rt; census(&file), Err(TableFault::T7(1)));
+    assert_eq!(rt; census(&rt, &file), Err(TableFault::T7(1)));
 }
 
 /// The least bad entry of a block.
@@ -127,12 +168,12 @@ fn bad_in(rt: &impl Abort, file: &[u8], block: u64) -> Option<u64> {
 fn tables_of_one_byte_are_refused(rt: HostRuntime) {
     let mut file = [0xFE; 2036];
     file[..20].copy_from_slice(&HEADER);
-    assert_eq!(rt; census(&file), Err(TableFault::T7(0)));
+    assert_eq!(rt; census(&rt, &file), Err(TableFault::T7(0)));
     assert_eq!(rt; bad_in(&rt, &file, 0), Some(0));
     assert_eq!(rt; bad_in(&rt, &file, 1), Some(1024));
     let mut file = [0xFF; 2036];
     file[..20].copy_from_slice(&HEADER);
-    assert_eq!(rt; census(&file), Err(TableFault::T7(1)));
+    assert_eq!(rt; census(&rt, &file), Err(TableFault::T7(1)));
 }
 
 /// The placements of two tiles on side 2, in the order of their ranks.
@@ -272,7 +313,7 @@ fn each_changed_byte_is_refused(rt: HostRuntime) {
                 changed[place] = byte;
                 let want = least_bad(placements, &changed[20..]);
                 assert_eq!(rt; want.is_none(), byte == file[place]);
-                let fault = check_table(&changed).err();
+                let fault = checked(&rt, &changed).err();
                 assert_eq!(rt; fault, want.map(TableFault::T7), "byte {byte} at {place}");
             }
         }
@@ -281,25 +322,138 @@ fn each_changed_byte_is_refused(rt: HostRuntime) {
 
 #[test]
 fn head_faults_are_handed_on(rt: HostRuntime) {
+    let changes: [(usize, u8, HeadFault); 7] = [
+        (4, 0x02, HeadFault::T2),
+        (5, 0x06, HeadFault::T3),
+        (6, 0x02, HeadFault::T4),
+        (7, 0x01, HeadFault::T4),
+        (11, 0x0F, HeadFault::T4),
+        (12, 0x01, HeadFault::T5),
+        (19, 0x19, HeadFault::T5),
+    ];
+    for (place, byte, want) in changes {
+        let mut file = TILES_123;
+        assert!(rt; place < 44);
+        file[place] = byte;
+        let want = Err(TableFault::Head(want));
+        assert_eq!(rt; census(&rt, &file), want, "byte {place}");
+        assert_eq!(rt; census(&rt, &file[..30]), want, "byte {place}, and cut");
+    }
+}
+
+#[test]
+fn files_of_another_length_are_refused(rt: HostRuntime) {
+    let mut longer = [0xFF; 45];
+    longer[..44].copy_from_slice(&TILES_123);
+    let files: [(&[u8], HeadFault); 5] = [
+        (b"", HeadFault::T1),
+        (b"abc", HeadFault::T1),
+        (&TILES_123[..19], HeadFault::T1),
+        (&TILES_123[..43], HeadFault::T6),
+        (&longer, HeadFault::T6),
+    ];
+    for (file, want) in files {
+        assert_eq!(rt;
+            census(&rt, file),
+            Err(TableFault::Head(want)),
+            "{} bytes",
+            file.len()
+        );
+    }
+}
+
+/// Counts how often each block was entered.
+#[derive(Drop)]
+struct Counting {
+    entered: Vec<AtomicU64>,
+}
+
+impl Counting {
+    fn new(alloc: Global, blocks: usize) -> Result<Counting, AllocError> {
+        let mut entered = Vec::new(alloc);
+        for _ in 0..blocks {
+            entered.push(AtomicU64::new(0))?;
+        }
+        Ok(Counting { entered })
+    }
+}
+
+impl Gate for Counting {
+    fn before(&self, block: u64) {
+        if let Some(count) = self.entered.get(block as usize) {
+            count.fetch_add(1, Ordering::SeqCst);
+        }
+    }
+}
+
+#[test]
+fn each_block_is_entered_once(rt: HostRuntime) -> Result<(), Fail> {
+    // The tiles 1, 2 and 3 on side 4 have 3,360 placements of four slots, in 14 blocks.
+    let mut file = [0xFF; 13460];
+    file[..20].copy_from_slice(b"PDBT\x01\x04\x03\0\0\0\0\x0E\0\0\0\0\0\0\x34\x80");
+    for workers in [1, 2, 7, 64] {
+        let gate = Counting::new(rt.alloc(), 20)?;
+        assert_eq!(rt;
+            census_by(&rt, &file, workers, &gate),
+            Err(TableFault::T7(1))
+        );
+        assert_eq!(rt; gate.entered.len(), 20);
+        for (block, count) in gate.entered.iter().enumerate() {
+            let want = if block < 14 { 1 } else { 0 };
+            assert_eq!(rt;
+                count.load(Ordering::SeqCst),
+                want,
+                "block {block}, {workers} workers"
+            );
+        }
+    }
+    Ok(())
+}
+
+/// Holds block 0 until block 1 was entered, or it has looked too often.
+#[derive(Drop)]
+struct Holding {
+    entered: AtomicU64,
+    seen: AtomicU64,
+}
+
+const LOOKS: u32 = 100_000_000;
+
+impl Gate for Holding {
+    fn before(&self, block: u64) {
+        if block != 0 {
+            self.entered.store(1, Ordering::SeqCst);
+            return;
+        }
+        for _ in 0..LOOKS {
+            if self.entered.load(Ordering::SeqCst) == 1 {
+                self.seen.store(1, Ordering::SeqCst);
+                return;
+            }
+        }
+    }
+}
+
+#[test]
+fn two_workers_check_two_blocks_side_by_side(rt: HostRuntime) {
+    let mut file = [0xFF; 2036];
+    file[..20].copy_from_slice(&HEADER);
+    let gate = Holding {
+        entered: AtomicU64::new(0),
+        seen: AtomicU64::new(0),
+    };
+    assert_eq!(rt; census_by(&rt, &file, 2, &gate), Err(TableFault::T7(1)));
+    assert_eq!(rt; gate.seen.load(Ordering::SeqCst), 1);
+}
+
+// Run with each allocation refused in turn.
+#[test]
+fn want_of_memory_is_answered_and_a_second_check_finds_the_fault(rt: HostRuntime) {
     let mut file = TILES_123;
-    file[4] = 0x02;
-    assert_eq!(rt; census(&file), Err(TableFault::Head(HeadFault::T2)));
-    let mut file = TILES_123;
-    file[5] = 0x06;
-    assert_eq!(rt; census(&file[..30]), Err(TableFault::Head(HeadFault::T3)));
-    let mut file = TILES_123;
-    file[6] = 0x02;
-    assert_eq!(rt; census(&file), Err(TableFault::Head(HeadFault::T4)));
-    let mut file = TILES_123;
-    file[19] = 0x19;
-    assert_eq!(rt; census(&file), Err(TableFault::Head(HeadFault::T5)));
-    assert_eq!(rt;
-        census(&TILES_123[..43]),
-        Err(TableFault::Head(HeadFault::T6))
-    );
-    assert_eq!(rt;
-        census(&TILES_123[..19]),
-        Err(TableFault::Head(HeadFault::T1))
-    );
-    assert_eq!(rt; census(b"abc"), Err(TableFault::Head(HeadFault::T1)));
+    file[34] = 0x02;
+    let mut fault = census_by(&rt, &file, 7, &OpenGate);
+    if fault == Err(TableFault::Memory) {
+        fault = census_by(&rt, &file, 7, &OpenGate);
+    }
+    assert_eq!(rt; fault, Err(TableFault::T7(14)));
 }

@@ -37,7 +37,7 @@ overflow_add-result c =
     let low : c.loop-place.place < placement_count t.pattern = let l = c.loop-place-test.true in omega arith in
     let width : c.from-width.result ≡ slot_count t.pattern = c.from-width.ensures ∙ c.width.ensures ∙ ap slot_count c.pattern-pattern.ensures.pattern in
     let small : c.from-width.result < 256 = let e = c.from-width.ensures in let l = c.width.type_inv in omega arith in
-    let slot_low : c.in-Some.slot < slot_count t.pattern = c.in-Some.ensures.slot.slot_low in
+    let slot_low : c.in-Some.slot < slot_count t.pattern = c.in-Some.ensures.slot_low in
     let slot : c.from.result < 256 = let e = c.from.ensures in omega arith in
     let fits = number_fits t.pattern c.pattern-pattern.ensures.table.pattern c.loop-place.place c.from-width.result c.from.result low small slot in
     omega arith
@@ -51,9 +51,9 @@ returns-in-Some c =
     let least = c.min-end.ensures in
     let end : c.loop-place.place < (c.args.block + 1) * 256 = let l = c.loop-place-test.true in omega arith in
     subst (IsLeastBadIn t c.args.block) (ap₂ (λ w s. c.loop-place.place * w + s) (sym width) (sym c.from.ensures)) (
-    least_bad_in t c.args.block c.loop-place.place c.in-Some.slot placement (c.unrank-placement.ensures.pattern ∙ pattern) c.in-Some.ensures.placement
+    least_bad_in t c.args.block c.loop-place.place c.in-Some.slot placement (c.unrank-placement.ensures.pattern ∙ pattern) c.unrank-placement.ensures.placement
     (subst (λ q. IsRank q.side placement.cells c.loop-place.place) pattern c.unrank-placement.ensures.rank)
-    c.loop-place.auto.place end c.in-Some.ensures.slot c.loop-place.invariant)
+    c.loop-place.auto.place end c.in-Some.ensures c.loop-place.invariant)
 
 pub loop-place-init : goal.loop-place-init
 loop-place-init c number from to = absurd (omega arith)
@@ -64,9 +64,9 @@ loop-place-preserved c =
     let pattern = c.pattern-pattern.ensures.pattern in
     let placement = c.unrank-placement.result in
     let same = c.unrank-placement.ensures.pattern ∙ pattern in
-    let size : length placement.cells ≡ length t.pattern.tiles = c.first_bad_slot.ensures.placement.size ∙ ap (λ q. length q.tiles) same in
+    let size : length placement.cells ≡ length t.pattern.tiles = c.unrank-placement.ensures.placement.size ∙ ap (λ q. length q.tiles) same in
     keeps_more t (first_of_block t.pattern c.args.block) c.loop-place.place placement.cells size
-    (subst (λ q. IsRank q.side placement.cells c.loop-place.place) pattern c.unrank-placement.ensures.rank) c.in_default.ensures.slot c.loop-place.invariant
+    (subst (λ q. IsRank q.side placement.cells c.loop-place.place) pattern c.unrank-placement.ensures.rank) c.in_default.ensures c.loop-place.invariant
 
 pub returns : goal.returns
 returns c =

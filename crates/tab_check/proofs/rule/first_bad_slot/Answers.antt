@@ -6,13 +6,13 @@ use Rattle.tab_check.proofs.BlockLemmas.{goal_by_rank, rank_below}
 use Rattle.tab_check.proofs.rule.first_bad_slot.Goals as goal
 
 pub entry-requires-clause-rank : goal.entry-requires-clause-rank
-entry-requires-clause-rank c = rank_below c.args.table.now c.args.placement.now c.requires.pattern c.cells-cells.ensures.placement c.args.rank c.requires.rank
+entry-requires-clause-rank c = rank_below c.args.table.now c.args.placement.now c.requires.pattern c.requires.placement c.args.rank c.requires.rank
 
 pub keeps_rule-requires-clause-goal : goal.keeps_rule-requires-clause-goal
-keeps_rule-requires-clause-goal c = goal_by_rank c.args.table.now c.args.placement.now c.requires.pattern c.cells-cells.ensures.placement c.args.rank c.requires.rank c.args.goal c.requires.goal
+keeps_rule-requires-clause-goal c = goal_by_rank c.args.table.now c.args.placement.now c.requires.pattern c.requires.placement c.args.rank c.requires.rank c.args.goal c.requires.goal
 
-pub returns-then-not-keeps_rule-clause-slot : goal.returns-then-not-keeps_rule-clause-slot
-returns-then-not-keeps_rule-clause-slot c =
+pub returns-then-not-keeps_rule : goal.returns-then-not-keeps_rule
+returns-then-not-keeps_rule c =
     let t = c.args.table.now in
     let width : c.width-width.result ≡ slot_count t.pattern = c.width-width.ensures ∙ ap slot_count c.pattern.ensures.pattern in
     record {
@@ -29,7 +29,7 @@ loop-slot-preserved c j l = elim (cases_eq j c.loop-slot.slot) [
   | inr ne ↦ c.loop-slot.invariant j (omega arith)
 ]
 
-pub returns-clause-slot : goal.returns-clause-slot
-returns-clause-slot c j l =
+pub returns : goal.returns
+returns c j l =
     let width : c.width-width.result ≡ slot_count c.args.table.now.pattern = c.width-width.ensures ∙ ap slot_count c.pattern.ensures.pattern in
     c.loop-slot.invariant j (let k = c.loop-slot-test.false in omega arith)

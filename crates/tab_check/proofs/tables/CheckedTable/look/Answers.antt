@@ -10,12 +10,11 @@ use Rattle.tab_check.proofs.tables.CheckedTable.look.Goals as goal
 
 pub slot_of-slot-requires : goal.slot_of-slot-requires
 slot_of-slot-requires c =
-    let t = c.self.inside.view in
+    let t = c.args.self.now in
     let b = c.args.board.now in
-    let side : side_of b ≡ t.pattern.side = c.requires ∙ ap (λ s. s.pattern.side) (sym c.self.view_is) in
     let on : c.of_board-placement.result ≡ placement_on b t.pattern = c.of_board-placement.ensures ∙ ap (placement_on b) c.pattern.ensures.pattern in
     subst (λ q. IsFree q.pattern.side q.cells c.blank.result) (sym on) (
-    subst (IsFree t.pattern.side (placement_of t.pattern.tiles b)) (sym c.blank.ensures.cell) (free_blank t.pattern c.self.invariant.is_table.pattern b c.side-side.ensures.board side))
+    subst (IsFree t.pattern.side (placement_of t.pattern.tiles b)) (sym c.blank.ensures.cell) (free_blank t.pattern c.pattern.ensures.table.pattern b c.side-side.ensures.board c.requires))
 
 pub returns : goal.returns
 returns c =
@@ -23,7 +22,7 @@ returns c =
     let b = c.args.board.now in
     let j = c.slot_of-slot.result in
     let side : side_of b ≡ t.pattern.side = c.requires ∙ ap (λ s. s.pattern.side) (sym c.self.view_is) in
-    let on : c.of_board-placement.result ≡ placement_on b t.pattern = c.of_board-placement.ensures ∙ ap (placement_on b) c.pattern.ensures.pattern in
+    let on : c.of_board-placement.result ≡ placement_on b t.pattern = c.of_board-placement.ensures ∙ ap (placement_on b) (c.pattern.ensures.pattern ∙ ap (λ s. s.pattern) (sym c.self.view_is)) in
     let is_rank = subst (λ q. IsRank q.pattern.side q.cells c.rank.result) on c.rank.ensures.rank in
     let in_slot = subst (λ q. IsSlot q.pattern.side q.cells c.blank.result j) on c.slot_of-slot.ensures.slot in
     let is_slot = subst (λ x. IsSlot t.pattern.side (placement_of t.pattern.tiles b) x j) c.blank.ensures.cell in_slot in

@@ -1,0 +1,11 @@
+use Rattle.tab_check.proofs.OneResultLemmas.{IsFaultOf-one, exact_one, exact_or_fault}
+use Rattle.tab_check.proofs.laws.files_have_one_answer.Goals as goal
+
+pub returns-clause-table : goal.returns-clause-table
+returns-clause-table c = exact_one
+
+pub returns-clause-fault : goal.returns-clause-fault
+returns-clause-fault c = IsFaultOf-one
+
+pub returns-clause-either : goal.returns-clause-either
+returns-clause-either c = exact_or_fault

@@ -1,0 +1,51 @@
+//! The blocks of a table as jobs that workers share.
+
+ghost use Rattle.std.specs.Prelude.{◌≤◌, ◌^◌};
+ghost use Rattle.tab_file.specs.Tables.{entry_count};
+ghost use Rattle.tab_check.specs.Blocks.{block_count};
+
+use crate::blocks::{BLOCK_RANKS, block_count, check_block};
+use tab_file::TableView;
+use work_run::Job;
+
+/// The check of a table: a job for each block, whose places are the numbers of its entries.
+#[derive(Drop)]
+pub(crate) struct TableCheck<'a> {
+    pub(crate) view: TableView<'a>,
+    ghost few_blocks: { block_count view.pattern ≤ 2 ^ 32 },
+    ghost few_entries: { entry_count view.pattern ≤ 2 ^ 32 },
+}
+
+impl<'a> Job for TableCheck<'a> {
+    ghost use Rattle.std.proofs.Common.{arith};
+    ghost use Rattle.tab_check.specs.BadEntries.{IsBad};
+    ghost use Rattle.tab_check.specs.Blocks.{block_begin, block_count};
+
+    ghost jobs = { λ check. block_count check.view.pattern };
+
+    ghost begins = { λ check block. block_begin check.view.pattern block };
+
+    ghost bad = { λ check. IsBad check.view };
+
+    ghost few = { λ check. check.few_blocks };
+
+    ghost from_zero = { λ check. Prim.omega arith };
+
+    ghost rises = { λ check block low. Prim.omega arith };
+
+    ghost small = { λ check. Prim.omega (arith, check.few_entries) };
+
+    fn count(&self) -> u64 {
+        block_count(&self.view.pattern())
+    }
+
+    fn first(&self, block: u64) -> u64 {
+        let width = u64::from(self.view.pattern().width());
+        let entries = self.view.entries().len() as u64;
+        entries.min(block * BLOCK_RANKS * width)
+    }
+
+    fn run(&self, block: u64) -> Option<u64> {
+        check_block(&self.view, block)
+    }
+}
