@@ -1,14 +1,15 @@
 -- What a run says.
-use Rattle.std.proofs.Common.{◌≡◌, ◌∙◌, ◌⊎◌, ◌≤◌, inl, inr, ℕ, List, Bool, Option, Result, Ok, Err, MatchResult, OnOk, OnErr, lit≤, ap, subst, arith}
+use Rattle.std.proofs.Common.{◌≡◌, ◌∙◌, ◌⊎◌, ◌≤◌, inl, inr, ℕ, List, Bool, Option, Result, Ok, Err, MatchResult, OnOk, OnErr, lit≤, subst, arith}
 use Rattle.std.specs.Io.KnownBytes.{Appends}
 use Rattle.pdb_words.specs.Words.{Asked}
 use Rattle.pdb_cli.specs.declared.verdict.Fault.{Fault}
 use Rattle.pdb_cli.specs.declared.verdict.Verdict.{Verdict}
-use Rattle.pdb_cli.specs.Given.{Given}
+use Rattle.pdb_cli.specs.Given.{Given, IsWithinLimits}
 use Rattle.pdb_cli.specs.Lines.{lines_of, status_of}
-use Rattle.pdb_cli.specs.Runs.{Ends, IsAnswered, MaySay, Saying, Says, answer_on, no_memory, read_fault, size_fault, status_with, text_of}
+use Rattle.pdb_cli.specs.Runs.{Ends, IsAnswered, IsAskedFor, MaySay, Saying, Says, answer_on, no_memory, read_fault, size_fault, status_with, text_of}
 use Rattle.pdb_cli.specs.Shelves.{Files}
 use Rattle.pdb_cli.specs.Streams.{AppendsFront}
+use Rattle.pdb_cli.specs.Verdicts.{IsAnswerTo}
 
 -- the lines on inputs were reported
 pub Says-reported : {E : Type 0} (old new : Option (List ℕ)) (status ended : ℕ) (written : Result (Unit {0}) E) (answer : Result Verdict Fault) (inputs : Given)
@@ -16,6 +17,22 @@ pub Says-reported : {E : Type 0} (old new : Option (List ℕ)) (status ended : �
     → status ≡ status_of answer → MatchResult written (λ _. ended ≡ status) (λ _. ended ≡ 2) → Says (answer_on inputs answer) old new ended
 Says-reported old new status ended (Ok x) answer inputs whole front s e = inl (whole, e ∙ s)
 Says-reported old new status ended (Err x) answer inputs whole front s e = inr (front, e)
+
+-- so what was said of inputs that are asked for ends the run
+pub Ends-reported : {E : Type 0} (asked : Asked) (files : Option Files) (reader : Option (List ℕ)) (failed : Bool) (old new : Option (List ℕ)) (status ended : ℕ)
+    (written : Result (Unit {0}) E) (answer : Result Verdict Fault) (inputs : Given) → IsAskedFor asked files reader inputs → IsWithinLimits inputs → IsAnswerTo inputs answer
+    → OnOk written (Appends old new (lines_of inputs answer)) → OnErr written (AppendsFront old new (lines_of inputs answer))
+    → status ≡ status_of answer → MatchResult written (λ _. ended ≡ status) (λ _. ended ≡ 2) → Ends asked files reader failed old new ended
+Ends-reported asked files reader failed old new status ended written answer inputs is_asked fits is whole front s e =
+    let said = Says-reported old new status ended written answer inputs whole front s e in
+    elim is [
+      | inl result ↦ record { saying = answer_on inputs answer; cause = (is_asked, fits, result); said = said }
+      | inr lacks ↦ record {
+        saying = no_memory;
+        cause = tt;
+        said = subst (λ (a : Result Verdict Fault). Says (answer_on inputs a) old new ended) lacks.1 said;
+      }
+    ]
 
 neither : (n status : ℕ) → 2 ≤ n → status ≡ n → (status ≡ 0) ⊎ (status ≡ 1) → ⊥
 neither n status big is answered = elim answered [ inl zero ↦ omega arith | inr one ↦ omega arith ]

@@ -1,5 +1,5 @@
 -- Inputs have one result, and it is a verdict exactly where that is true.
-use Rattle.std.proofs.Common.{◌≡◌, ◌∙◌, ◌↔◌, ℕ, List, Option, Some, None, Result, Ok, Err, ap, refl, sym}
+use Rattle.std.proofs.Common.{◌≡◌, ◌∙◌, ◌↔◌, ◌⊎◌, inl, inr, ℕ, List, Option, Some, None, Result, Ok, Err, ap, refl, subst, sym}
 use Rattle.puz_board.specs.BoardTexts.{board_of_text}
 use Rattle.puz_board.specs.MovesTexts.{replay_of}
 use Rattle.puz_board.specs.PuzzleTexts.{puzzle_parts}
@@ -7,15 +7,28 @@ use Rattle.puz_board.specs.declared.replays.MoveFault.{MoveFault}
 use Rattle.puz_board.specs.declared.texts.BoardFault.{BoardFault}
 use Rattle.puz_board.proofs.SolutionLemmas.{replay_of-solved, solved-replay_of}
 use Rattle.puz_board.proofs.SpellingLemmas.{board_of_text-spelled, spelled-board_of_text}
-use Rattle.pdb_cli.specs.Given.{Given, puzzle_text}
-use Rattle.pdb_cli.specs.Verdicts.{IsResult, IsSolvedPuzzle, IsTrueOf, of_board, of_moves, of_parts}
+use Rattle.tab_check.specs.declared.census.Census.{Census}
+use Rattle.pdb_cli.proofs.TableLemmas.{one_of_table}
+use Rattle.pdb_cli.specs.Given.{Given, puzzle_text, table_file}
+use Rattle.pdb_cli.specs.Verdicts.{IsAnswerTo, IsResult, IsSolvedPuzzle, IsTrueOf, LacksMemory, of_board, of_moves, of_parts}
 use Rattle.pdb_cli.specs.declared.verdict.Fault.{Fault}
-use Rattle.pdb_cli.specs.declared.verdict.Fault.TheVariants as fault
 use Rattle.pdb_cli.specs.declared.verdict.Verdict.{Verdict}
 use Rattle.pdb_cli.specs.declared.verdict.Verdict.TheVariants as verdict
 
 no_yes : {A E : Type 0} (e : E) (x : A) → ◌≡◌ {A = Result A E} (Err e) (Ok x) → ⊥
 no_yes e x same = cc
+
+no_exact : (parts : Option (List ℕ × List ℕ)) (side mask : ℕ) (census : Census) → of_parts parts ≡ Ok (verdict.Exact side mask census) → ⊥
+no_exact None side mask census is = no_yes _ _ is
+no_exact (Some parts) side mask census is = of_board_no (board_of_text parts.0) is
+  where
+    of_moves_no : (r : Result ℕ MoveFault) → of_moves r ≡ Ok (verdict.Exact side mask census) → ⊥
+    of_moves_no (Err refused) e = no_yes _ _ e
+    of_moves_no (Ok n) e = cc
+
+    of_board_no : (r : Result (List ℕ) BoardFault) → of_board r parts.1 ≡ Ok (verdict.Exact side mask census) → ⊥
+    of_board_no (Err refused) e = no_yes _ _ e
+    of_board_no (Ok board) e = of_moves_no (replay_of board parts.1) e
 
 of_parts-solved : (puzzle : List ℕ) (n : ℕ) → IsSolvedPuzzle puzzle n → of_parts (puzzle_parts puzzle) ≡ Ok (verdict.Solution n)
 of_parts-solved puzzle n h =
@@ -52,7 +65,27 @@ solved_by_parts puzzle n (Some p) parts is = solved_by_board puzzle p.0 p.1 n (b
 pub IsResult-true : (inputs : Given) (verdict : Verdict) → IsResult inputs (Ok verdict) ↔ IsTrueOf inputs verdict
 IsResult-true (puzzle_text puzzle) (verdict.Solution n) =
     (λ is. solved_by_parts puzzle n (puzzle_parts puzzle) refl (sym is), λ h. sym (of_parts-solved puzzle n h))
+IsResult-true (puzzle_text puzzle) (verdict.Exact side mask census) =
+    (λ is. no_exact (puzzle_parts puzzle) side mask census (sym is), λ h. absurd h)
+IsResult-true (table_file table) (verdict.Solution n) = (λ is. is, λ h. h)
+IsResult-true (table_file table) (verdict.Exact side mask census) = (λ is. is, λ h. h)
 
 -- there is one result
 pub IsResult-one : (inputs : Given) (a b : Result Verdict Fault) → IsResult inputs a → IsResult inputs b → a ≡ b
 IsResult-one (puzzle_text puzzle) a b is other = is ∙ sym other
+IsResult-one (table_file table) a b is other = one_of_table table a b is other
+
+-- a yes is answered only where it is true
+pub yes_is_true : (inputs : Given) (answer : Result Verdict Fault) → IsAnswerTo inputs answer → (verdict : Verdict) → answer ≡ Ok verdict → IsTrueOf inputs verdict
+yes_is_true inputs answer is verdict same = elim is [
+  | inl result ↦ (IsResult-true inputs verdict).0 (subst (λ (a : Result Verdict Fault). IsResult inputs a) same result)
+  | inr lacks ↦ absurd (no_yes _ _ (sym lacks.1 ∙ same))
+]
+
+-- and always then, where memory is there
+pub true_is_yes : (inputs : Given) (answer : Result Verdict Fault) → IsAnswerTo inputs answer → (verdict : Verdict) → IsTrueOf inputs verdict
+    → (answer ≡ Ok verdict) ⊎ LacksMemory inputs answer
+true_is_yes inputs answer is verdict holds = elim is [
+  | inl result ↦ inl (IsResult-one inputs answer (Ok verdict) result ((IsResult-true inputs verdict).1 holds))
+  | inr lacks ↦ inr lacks
+]

@@ -1,8 +1,8 @@
 -- How a run ends: what its writer got, and its status.
-use Rattle.std.specs.Prelude.{◌≡◌, ◌⊎◌, ⊤, ℕ, ◌<◌, List, [], ◌∷◌, ◌++◌, Bool, true, Option, Some, None, Result, IfSome, IsSomeAnd, codes, length}
+use Rattle.std.specs.Prelude.{◌≡◌, ◌⊎◌, ⊤, ℕ, ◌<◌, List, ◌++◌, Bool, true, Option, Some, None, Result, IfSome, IsSomeAnd, codes, length}
 use Rattle.std.specs.Io.KnownBytes.{Appends, Keeps}
-use Rattle.pdb_words.specs.Words.{Asked, AsksForHelp, IsMistaken, replay}
-use Rattle.pdb_cli.specs.Given.{Given, puzzle_text, text_limit, IsWithinLimits}
+use Rattle.pdb_words.specs.Words.{Asked, AsksForHelp, IsMistaken, replay, table}
+use Rattle.pdb_cli.specs.Given.{Given, puzzle_text, table_file, table_limit, text_limit, IsWithinLimits}
 use Rattle.pdb_cli.specs.Lines.{lines_of, status_of}
 use Rattle.pdb_cli.specs.Shelves.{Files}
 use Rattle.pdb_cli.specs.Streams.{AppendsFront}
@@ -25,6 +25,8 @@ IsOverLimit files reader (Some name) limit = IfSome files (λ told. IsSomeAnd (t
 -- the inputs are those that the words ask for
 abbrev pub IsAskedFor : Asked → Option Files → Option (List ℕ) → Given → Type 0
 IsAskedFor (replay name) files reader (puzzle_text puzzle) = IsReadFrom files reader name puzzle
+IsAskedFor (table name workers) files reader (table_file bytes) = IsReadFrom files reader (Some name) bytes
+IsAskedFor asked files reader inputs = ⊥
 
 -- ---- what a run may say
 
@@ -66,6 +68,8 @@ MaySay asked files reader failed (answer_on inputs answer) = IsAskedFor asked fi
 MaySay asked files reader failed no_memory = ⊤
 MaySay (replay name) files reader failed (read_fault word) = (word ≡ shown name) × HasFailed name failed
 MaySay (replay name) files reader failed (size_fault word) = (word ≡ shown name) × IsOverLimit files reader name text_limit
+MaySay (table name workers) files reader failed (read_fault word) = (word ≡ name) × HasFailed (Some name) failed
+MaySay (table name workers) files reader failed (size_fault word) = (word ≡ name) × IsOverLimit files reader (Some name) table_limit
 
 -- it was written whole, or the writer failed after a front of it
 abbrev pub Says : Saying → Option (List ℕ) → Option (List ℕ) → ℕ → Type 0

@@ -3,9 +3,9 @@
 ghost use Rattle.std.specs.Prelude.{◌≡◌, None, false};
 
 use crate::shelf::Shelf;
-use crate::streams::{ReadFault, read_all};
+use crate::streams::{ReadFault, read_sized};
 use std::alloc::Global;
-use std::fs::File;
+use std::fs::{File, OpenFile};
 use std::rt::Files;
 
 /// The files of the system, by their paths. It tells no bytes: what is said of a file speaks of the bytes that were read.
@@ -37,7 +37,8 @@ impl<R: Files> Shelf for DiskShelf<'_, R> {
             self.has_failed = true;
             return Err(ReadFault::F1);
         };
-        match read_all(alloc, &mut file, limit) {
+        let size = file.metadata().map_or(0, |data| data.len());
+        match read_sized(alloc, &mut file, limit, size) {
             Err(ReadFault::F1) => {
                 self.has_failed = true;
                 Err(ReadFault::F1)

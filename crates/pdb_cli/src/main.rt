@@ -1,6 +1,7 @@
-//! Checks claimed solutions of sliding-tile puzzles.
+//! Checks claims about sliding-tile puzzles.
 #![tactic(auto)]
 
+mod digests;
 mod disk;
 mod laws;
 mod lines;
@@ -16,6 +17,7 @@ use disk::DiskShelf;
 use run::run;
 use std::process::ExitCode;
 use std::{env, io};
+use work_run::OpenGate;
 
 /// The words after the program's own name.
 fn words(rt: &HostRuntime) -> io::Result<Vec<String>> {
@@ -44,11 +46,13 @@ fn main(rt: HostRuntime) -> ExitCode {
     let mut out = rt.stdout();
     let mut err = rt.stderr();
     ExitCode::from(run(
+        &rt,
         rt.alloc(),
         words,
         &mut shelf,
         &mut reader,
         &mut out,
         &mut err,
+        &OpenGate,
     ))
 }

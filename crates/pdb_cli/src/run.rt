@@ -1,10 +1,12 @@
 //! The program, over its words, its streams and its shelf.
 
-ghost use Rattle.std.specs.Prelude.{◌≡◌, ◌⊎◌, List, ℕ, Some, map, option_map, string_bytes, MatchResult, IfOk, IsErrOf, length, ◌≤◌};
+ghost use Rattle.std.specs.Prelude.{◌≡◌, ◌⊎◌, List, ℕ, Option, Bool, Some, map, option_map, string_bytes, MatchResult, IfOk, IsErrOf, length, ◌<◌, ◌≤◌};
 ghost use Rattle.std.specs.Io.KnownBytes.{Keeps};
-ghost use Rattle.pdb_words.specs.Words.{IsCauseOf, IsMistaken, Parses, asked_of, replay as asks_replay};
+ghost use Rattle.pdb_words.specs.Words.{Asked, IsCauseOf, IsMistaken, Parses, asked_of, replay as asks_replay, table as asks_table};
+ghost use Rattle.pdb_cli.specs.Given.{IsWithinLimits, given};
 ghost use Rattle.pdb_cli.specs.Lines.{status_of};
-ghost use Rattle.pdb_cli.specs.Runs.{Ends, HasFailed, IsAnswered, IsOverLimit, IsReadFrom, Refuses, Says, no_memory, read_fault, size_fault, shown};
+ghost use Rattle.pdb_cli.specs.Runs.{Ends, HasFailed, IsAnswered, IsAskedFor, IsOverLimit, IsReadFrom, Refuses, Says, no_memory, read_fault, size_fault, shown};
+ghost use Rattle.pdb_cli.specs.Shelves.{Files};
 
 use crate::lines::{line, report};
 use crate::shelf::Shelf;
@@ -13,21 +15,29 @@ use crate::verdict::{Fault, Inputs, Verdict, verify};
 use pdb_words::request::{Request, WordFault, read_words};
 use std::alloc::Global;
 use std::io::{Read, Write};
+use std::sync::Wait;
+use std::thread::Threads;
+use work_run::Gate;
 
 /// The most bytes of a puzzle text.
 const TEXT_LIMIT: u64 = 65_536;
 
+/// The most bytes of a table file.
+const TABLE_LIMIT: u64 = 1 << 32;
+
 /// Does what the words ask for, and answers the status: 0 for a yes, 1 for a refusal, 2 for bad words or a fault
 /// of a read or a write, 3 for want of memory.
 ///
-/// The words leave out the program's own name. Without any it is `replay` on the reader.
-pub fn run<S: Shelf, R: Read, W: Write, E: Write>(
+/// The words leave out the program's own name. Without any it is `replay` on the reader. Workers pass the gate.
+pub fn run<H: Threads + Wait, S: Shelf, R: Read, W: Write, E: Write, G: Gate + Sync>(
+    rt: &H,
     alloc: Global,
     words: Vec<String>,
     shelf: &mut S,
     reader: &mut R,
     out: &mut W,
     err: &mut E,
+    gate: &G,
 ) -> u8
     // With a yes or a no the writer got exactly the lines on the inputs that the words ask for.
     ensures answered { let words = map string_bytes words.items in Parses words → (result ≡ 0) ⊎ (result ≡ 1)
@@ -44,17 +54,19 @@ pub fn run<S: Shelf, R: Read, W: Write, E: Write>(
     // The shelf keeps its bytes.
     ensures same { S.held shelf.new ≡ S.held shelf.old }
 {
-    answer(alloc, words.as_slice(), shelf, reader, out, err)
+    answer(rt, alloc, words.as_slice(), shelf, reader, out, err, gate)
 }
 
 /// Does what the words ask for.
-fn answer<S: Shelf, R: Read, W: Write, E: Write>(
+fn answer<H: Threads + Wait, S: Shelf, R: Read, W: Write, E: Write, G: Gate + Sync>(
+    rt: &H,
     alloc: Global,
     words: &[String],
     shelf: &mut S,
     reader: &mut R,
     out: &mut W,
     err: &mut E,
+    gate: &G,
 ) -> u8
     ensures ends { let words = map string_bytes words.now in Parses words
         → Ends (asked_of words) (S.held shelf.old) (R.remaining reader.old) (S.has_failed shelf.new) (W.contents out.old) (W.contents out.new) result }
@@ -63,18 +75,21 @@ fn answer<S: Shelf, R: Read, W: Write, E: Write>(
     ensures same { S.held shelf.new ≡ S.held shelf.old }
 {
     match read_words(alloc, words) {
-        Ok(Request::Replay(name)) => replay(alloc, name, shelf, reader, out),
+        Ok(Request::Replay(name)) => replay(rt, alloc, name, shelf, reader, out, gate),
+        Ok(Request::Table { file, workers }) => table(rt, alloc, file, workers, shelf, out, gate),
         Err(fault) => explain(&fault, out, err),
     }
 }
 
 /// The verdict on the puzzle text under this name, or of the reader.
-fn replay<S: Shelf, R: Read, W: Write>(
+fn replay<H: Threads + Wait, S: Shelf, R: Read, W: Write, G: Gate + Sync>(
+    rt: &H,
     alloc: Global,
     name: Option<&str>,
     shelf: &mut S,
     reader: &mut R,
     out: &mut W,
+    gate: &G,
 ) -> u8
     ensures ends { Ends (asks_replay (option_map (λ s. s.now) name.entry)) (S.held shelf.old) (R.remaining reader.old) (S.has_failed shelf.new)
         (W.contents out.old) (W.contents out.new) result }
@@ -85,12 +100,54 @@ fn replay<S: Shelf, R: Read, W: Write>(
             let inputs = Inputs::Replay {
                 puzzle: puzzle.as_slice(),
             };
-            let answer = verify(&inputs);
-            let written = report(&inputs, &answer, out);
-            status_after(written, status(&answer))
+            conclude(rt, alloc, &inputs, 1, out, gate)
         }
         Err(fault) => complain(fault, name.unwrap_or("-"), out),
     }
+}
+
+/// The verdict on the table file under this name, by so many workers.
+fn table<H: Threads + Wait, S: Shelf, W: Write, G: Gate + Sync>(
+    rt: &H,
+    alloc: Global,
+    name: &str,
+    workers: u8,
+    shelf: &mut S,
+    out: &mut W,
+    gate: &G,
+) -> u8
+    requires { (0 < workers) × (workers ≤ 64) }
+    ensures ends { (reader : Option (List ℕ)) → Ends (asks_table name.now workers) (S.held shelf.old) reader (S.has_failed shelf.new)
+        (W.contents out.old) (W.contents out.new) result }
+    ensures same { S.held shelf.new ≡ S.held shelf.old }
+{
+    match shelf.load(alloc, name, TABLE_LIMIT) {
+        Ok(table) => {
+            let inputs = Inputs::Table {
+                table: table.as_slice(),
+            };
+            conclude(rt, alloc, &inputs, workers, out, gate)
+        }
+        Err(fault) => complain(fault, name, out),
+    }
+}
+
+/// Checks the inputs and writes all lines on them.
+fn conclude<H: Threads + Wait, W: Write, G: Gate + Sync>(
+    rt: &H,
+    alloc: Global,
+    inputs: &Inputs<'_>,
+    workers: u8,
+    out: &mut W,
+    gate: &G,
+) -> u8
+    requires { (0 < workers) × (workers ≤ 64) }
+    ensures { (asked : Asked) (files : Option Files) (reader : Option (List ℕ)) (failed : Bool) → IsAskedFor asked files reader (given inputs.now)
+        → IsWithinLimits (given inputs.now) → Ends asked files reader failed (W.contents out.old) (W.contents out.new) result }
+{
+    let answer = verify(rt, alloc, inputs, workers, gate);
+    let written = report(inputs, &answer, out);
+    status_after(written, status(&answer))
 }
 
 /// The bytes under this name, or of the reader where there is no name.

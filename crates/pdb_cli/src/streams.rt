@@ -25,6 +25,9 @@ pub enum WriteFault {
     F3,
 }
 
+/// How many bytes a read may give.
+const PIECE: usize = 65_536;
+
 /// Reads to the end of an input, of at most so many bytes, by at most one read a byte and one more.
 /// Nothing past the limit is kept. A read's error ends it, whatever its kind.
 pub fn read_all<R: Read>(alloc: Global, reader: &mut R, limit: u64) -> Result<Vec<u8>, ReadFault>
@@ -33,8 +36,26 @@ pub fn read_all<R: Read>(alloc: Global, reader: &mut R, limit: u64) -> Result<Ve
     ensures fits { IfOk result (λ bytes. length bytes.items ≤ limit) }
     ensures over { IsErrOf result ReadFault.F2 → IfSome (R.remaining reader.old) (λ told. limit < length told) }
 {
-    let mut bytes = Vec::new(alloc);
-    let mut piece = [0u8; 4096];
+    read_sized(alloc, reader, limit, 0)
+}
+
+/// The same, for an input that is said to have so many bytes: memory for these is taken at once, and no more where
+/// there are no more.
+pub fn read_sized<R: Read>(
+    alloc: Global,
+    reader: &mut R,
+    limit: u64,
+    size: u64,
+) -> Result<Vec<u8>, ReadFault>
+    ensures whole { IfOk result (λ bytes. IfSome (R.remaining reader.old) (λ told. told ≡ bytes.items)) }
+    ensures end { OnOk result (IsAtEnd (R.remaining reader.new)) }
+    ensures fits { IfOk result (λ bytes. length bytes.items ≤ limit) }
+    ensures over { IsErrOf result ReadFault.F2 → IfSome (R.remaining reader.old) (λ told. limit < length told) }
+{
+    let Ok(mut bytes) = Vec::with_capacity(alloc, size.min(limit) as usize) else {
+        return Err(ReadFault::Memory);
+    };
+    let mut piece = [0u8; PIECE];
     'reads: loop {
         let count = match reader.read(&mut piece) {
             Ok(count) => count,
@@ -68,7 +89,14 @@ pub fn put_text<W: Write>(out: &mut W, text: &str) -> Result<(), WriteFault>
     ensures whole { OnOk result (Appends (W.contents out.old) (W.contents out.new) text.now) }
     ensures front { OnErr result (AppendsFront (W.contents out.old) (W.contents out.new) text.now) }
 {
-    let bytes = text.as_bytes();
+    put_bytes(out, text.as_bytes())
+}
+
+/// Writes bytes.
+pub fn put_bytes<W: Write>(out: &mut W, bytes: &[u8]) -> Result<(), WriteFault>
+    ensures whole { OnOk result (Appends (W.contents out.old) (W.contents out.new) bytes.now) }
+    ensures front { OnErr result (AppendsFront (W.contents out.old) (W.contents out.new) bytes.now) }
+{
     let mut done = 0;
     while done < bytes.len() {
         match out.write(&bytes[done..]) {

@@ -1,11 +1,16 @@
 -- The words of the command line, and what they ask for.
-use Rattle.std.specs.Prelude.{◌≡◌, ◌≢◌, ⊤, List, [], ◌∷◌, Option, Some, None, codes, true, option_map}
-use Rattle.clap.specs.Walk.{Row, Text, first_of}
-use Rattle.clap.specs.Simple.{App, new_app, new_rule, with_rule, with_subcommand, on_top, subcommand_of}
+use Rattle.std.specs.Prelude.{◌≡◌, ◌≢◌, ◌≤◌, ⊤, ℕ, Bool, ◌&&◌, List, [], Option, Some, None, codes, if◌then◌else◌, nat_le, option_map, unwrap_or}
+use Rattle.std.specs.Option.{option_map_or}
+use Rattle.std.specs.Str.{bytes_eq}
+use Rattle.std.specs.Str.Parse.{digits_value, without_leading_plus}
+use Rattle.clap.specs.Walk.{Row, Text, first_of, one_of}
+use Rattle.clap.specs.ValueTests.{is_numeral}
+use Rattle.clap.specs.Simple.{subcommand_of}
 use Rattle.clap.specs.Faults.{fault_of}
 use Rattle.clap.specs.Kinds.{IsAmong, Kinds}
 use Rattle.clap.specs.declared.error.kind.ErrorKind.{ErrorKind}
 use Rattle.clap.specs.declared.error.kind.ErrorKind.TheVariants.{DisplayHelp}
+use Rattle.pdb_words.specs.Commands.{command_line}
 use Rattle.pdb_words.specs.declared.request.Request.{Request}
 use Rattle.pdb_words.specs.declared.request.Request.TheVariants as request
 use Rattle.pdb_words.specs.declared.request.WordFault.{WordFault}
@@ -15,20 +20,34 @@ use Rattle.pdb_words.specs.declared.request.WordFault.TheVariants as fault
 pub data Asked : Type 0 where
   -- the verdict on the puzzle text of this file, or of standard input where there is no name
   replay : Option Text → Asked
+  -- whether the table file of this name is exact, checked by so many workers
+  table : Text → ℕ → Asked
 
--- `replay [FILE]`
-abbrev pub replay_command : App
-replay_command = with_rule (new_app (codes "replay")) (new_rule (codes "FILE"))
+-- the number that digits write, perhaps after a `+`
+abbrev pub number_of : Text → ℕ
+number_of text = digits_value 10 (without_leading_plus text)
 
--- the commands of the program, over words that leave out its own name
-abbrev pub command_line : App
-command_line = with_subcommand (on_top (λ s. record s { no_binary_name = true })
-    (new_app (codes "pdb_cli"))) replay_command.top
+-- the text writes a number of workers: 1 to 64
+abbrev pub writes_workers : Text → Bool
+writes_workers text = is_numeral (without_leading_plus text) && (nat_le 1 (number_of text) && nat_le (number_of text) 64)
+
+-- how many workers a text asks for: its number, or 1 where it writes none from 1 to 64
+abbrev pub workers_of : Text → ℕ
+workers_of text = if writes_workers text then number_of text else 1
+
+-- how many workers the values found of `table` ask for
+abbrev pub workers_in : List Row → ℕ
+workers_in rows = option_map_or workers_of (one_of (codes "workers") rows) 1
+
+-- what the values found of `table` ask for
+abbrev pub table_in : List Row → Asked
+table_in rows = table (unwrap_or (first_of (codes "FILE") rows) []) (workers_in rows)
 
 -- what the values found of a command ask for; without a command it is `replay` on standard input
 abbrev pub asked_in : Option (Text × List Row) → Asked
 asked_in None = replay None
-asked_in (Some found) = replay (first_of (codes "FILE") found.1)
+asked_in (Some found) = if bytes_eq found.0 (codes "table") then table_in found.1
+    else replay (first_of (codes "FILE") found.1)
 
 abbrev pub asked_of : List Text → Asked
 asked_of words = asked_in (subcommand_of command_line words)
@@ -58,3 +77,9 @@ IsCauseOf words fault.Memory = ⊤
 -- a request, as its bytes
 abbrev pub view : Request → Asked
 view (request.Replay name) = replay (option_map (λ s. s.now) name)
+view (request.Table file workers) = table file.now workers
+
+-- a table's workers are 1 to 64
+abbrev pub HasWorkers : Request → Type 0
+HasWorkers (request.Replay name) = ⊤
+HasWorkers (request.Table file workers) = (1 ≤ workers) × (workers ≤ 64)

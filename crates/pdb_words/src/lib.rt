@@ -1,4 +1,5 @@
 //! The words of the command line.
 #![tactic(auto)]
 
+mod commands;
 pub mod request;

@@ -1,13 +1,14 @@
 //! What the words of the command line ask for, read by `clap`.
 
-ghost use Rattle.std.specs.Prelude.{◌≡◌, ◌∷◌, [], ℕ, List, None, Some, codes, nat_eq, IfOk, IfErr, map, string_bytes, false};
-ghost use Rattle.clap.specs.Words.{app_of, FailsBy, HasKind, subcommand_of, subcommand_rows_of};
-ghost use Rattle.clap.specs.declared.Command.TheViews.{out-Command};
-ghost use Rattle.pdb_words.specs.Words.{Parses, asked_in, asked_of, command_line, faults_of, IsCauseOf, replay, replay_command, view};
+ghost use Rattle.std.specs.Prelude.{◌≡◌, ◌≤◌, ◌∷◌, [], ℕ, List, None, Some, codes, nat_eq, IfOk, IfErr, map, string_bytes, false, true};
+ghost use Rattle.clap.specs.Words.{FailsBy, HasKind, found_of, rows_of, subcommand_of, subcommand_rows_of};
+ghost use Rattle.pdb_words.specs.Commands.{command_line};
+ghost use Rattle.pdb_words.specs.Words.{HasWorkers, IsCauseOf, IsMistaken, Parses, asked_in, asked_of, faults_of, number_of, replay, table, table_in, view, workers_in, writes_workers};
 
+use crate::commands::command;
+use clap::ArgMatches;
 use clap::error::ErrorKind;
-use clap::{Arg, ArgMatches, Command};
-use std::alloc::{AllocError, Global};
+use std::alloc::Global;
 use thiserror::Error;
 
 /// What the words ask for.
@@ -15,6 +16,8 @@ use thiserror::Error;
 pub enum Request<'a> {
     /// Whether the moves of a puzzle text solve its board: the text of this file, or of standard input.
     Replay(Option<&'a str>),
+    /// Whether the table file of this name is exact, checked by so many workers: 1 to 64.
+    Table { file: &'a str, workers: u8 },
 }
 
 /// Why the words ask for nothing.
@@ -35,6 +38,7 @@ pub enum WordFault {
 pub fn read_words<'a>(alloc: Global, words: &'a [String]) -> Result<Request<'a>, WordFault>
     ensures parses { IfOk result (λ _. Parses (map string_bytes words.now)) }
     ensures asked { IfOk result (λ request. view request ≡ asked_of (map string_bytes words.now)) }
+    ensures workers { IfOk result (λ request. HasWorkers request) }
     ensures cause { IfErr result (λ fault. IsCauseOf (map string_bytes words.now) fault) }
 {
     match matches_of(alloc, words) {
@@ -43,38 +47,25 @@ pub fn read_words<'a>(alloc: Global, words: &'a [String]) -> Result<Request<'a>,
     }
 }
 
-/// No words, and `replay` alone, ask for standard input, and `replay` with a name for that file.
+/// No words, and `replay` alone, ask for standard input, and `replay` with a name for that file; `table` with a name
+/// asks for that table, checked by one worker, or by as many as `--workers` says.
 pub fn what_words_ask()
     ensures nothing { Parses [] × (asked_of [] ≡ replay None) }
     ensures command { Parses (codes "replay" ∷ []) × (asked_of (codes "replay" ∷ []) ≡ replay None) }
     // A name begins with a byte that is no `-`.
     ensures file { (b : ℕ) (name : List ℕ) → nat_eq b 45 ≡ false → Parses (codes "replay" ∷ (b ∷ name) ∷ [])
         × (asked_of (codes "replay" ∷ (b ∷ name) ∷ []) ≡ replay (Some (b ∷ name))) }
+    ensures replay_workers { (number : List ℕ) → IsMistaken (codes "replay" ∷ codes "--workers" ∷ number ∷ []) }
+    ensures table { (b : ℕ) (name : List ℕ) → nat_eq b 45 ≡ false → Parses (codes "table" ∷ (b ∷ name) ∷ [])
+        × (asked_of (codes "table" ∷ (b ∷ name) ∷ []) ≡ table (b ∷ name) 1) }
+    ensures table_alone { IsMistaken (codes "table" ∷ []) }
+    // So does a number.
+    ensures table_workers { (d b : ℕ) (number name : List ℕ) → nat_eq d 45 ≡ false → nat_eq b 45 ≡ false → writes_workers (d ∷ number) ≡ true
+        → let words = codes "table" ∷ codes "--workers" ∷ (d ∷ number) ∷ (b ∷ name) ∷ [] in
+        Parses words × (asked_of words ≡ table (b ∷ name) (number_of (d ∷ number))) }
+    ensures table_other_workers { (d b : ℕ) (number name : List ℕ) → nat_eq d 45 ≡ false → nat_eq b 45 ≡ false → writes_workers (d ∷ number) ≡ false
+        → IsMistaken (codes "table" ∷ codes "--workers" ∷ (d ∷ number) ∷ (b ∷ name) ∷ []) }
 {}
-
-/// The command line, for `clap`.
-fn command<'a>(alloc: Global) -> Result<Command<'a>, AllocError>
-    ensures app { IfOk result (λ c. app_of c ≡ command_line) }
-    ensures local { IfOk result (λ c. (out-Command c).has_globals ≡ false) }
-{
-    Command::new(alloc, "pdb_cli")
-        .about("Checks claimed solutions of sliding-tile puzzles")
-        .after_help("Without a command it does `replay` on standard input.")
-        .no_binary_name(true)
-        .subcommand(replay_command(alloc)?)
-}
-
-/// The command `replay`.
-fn replay_command<'a>(alloc: Global) -> Result<Command<'a>, AllocError>
-    ensures app { IfOk result (λ c. app_of c ≡ replay_command) }
-    ensures local { IfOk result (λ c. (out-Command c).has_globals ≡ false) }
-{
-    let file = Arg::new(alloc, "FILE").help("A puzzle text; without it, standard input");
-    Command::new(alloc, "replay")
-        .about("Plays the moves of a puzzle text, and says whether they solve its board")
-        .override_usage("pdb_cli replay [FILE]")
-        .arg(file)
-}
 
 /// What `clap` finds in the words.
 fn matches_of<'a>(alloc: Global, words: &'a [String]) -> Result<ArgMatches<'a>, clap::Error>
@@ -86,11 +77,35 @@ fn matches_of<'a>(alloc: Global, words: &'a [String]) -> Result<ArgMatches<'a>, 
 
 /// What the words ask for, in which these matches were found.
 fn request_in<'a>(matches: &ArgMatches<'a>) -> Request<'a>
-    ensures { view result ≡ asked_in (subcommand_rows_of matches.now) }
+    ensures asked { view result ≡ asked_in (subcommand_rows_of matches.now) }
+    ensures workers { HasWorkers result }
 {
     match matches.subcommand() {
+        Some(("table", table)) => table_in(table),
         Some((_, replay)) => Request::Replay(replay.get_str("FILE")),
         None => Request::Replay(None),
+    }
+}
+
+/// The table that these matches of `table` ask for.
+fn table_in<'a>(table: &ArgMatches<'a>) -> Request<'a>
+    ensures asked { view result ≡ table_in (rows_of (found_of table.now)) }
+    ensures workers { HasWorkers result }
+{
+    Request::Table {
+        file: table.get_str("FILE").unwrap_or(""),
+        workers: workers_in(table),
+    }
+}
+
+/// How many workers these matches of `table` ask for.
+fn workers_in(table: &ArgMatches<'_>) -> u8
+    ensures asked { result ≡ workers_in (rows_of (found_of table.now)) }
+    ensures within { (1 ≤ result) × (result ≤ 64) }
+{
+    match table.get_one::<u8>("workers") {
+        Some(workers @ 1..=64) => workers,
+        _ => 1,
     }
 }
 
@@ -108,6 +123,7 @@ fn fault_by(error: clap::Error) -> WordFault
 #[cfg(test)]
 mod tests {
     use super::*;
+    use std::alloc::AllocError;
     use std::test::Fail;
 
     fn owned(alloc: Global, words: &[&str]) -> Result<Vec<String>, AllocError> {
@@ -119,20 +135,39 @@ mod tests {
     }
 
     #[test]
-    fn replay_names_a_file_or_none(rt: HostRuntime) -> Result<(), Fail> {
+    fn words_ask_for_a_request(rt: HostRuntime) -> Result<(), Fail> {
         let alloc = rt.alloc();
-        let cases: [(&[&str], Option<&str>); 5] = [
-            (&[], None),
-            (&["replay"], None),
-            (&["replay", "puzzle.txt"], Some("puzzle.txt")),
-            (&["replay", "-"], Some("-")),
-            (&["replay", "--", "-x"], Some("-x")),
+        let alone = Request::Table {
+            file: "f",
+            workers: 1,
+        };
+        let shared = Request::Table {
+            file: "f",
+            workers: 64,
+        };
+        let cases: [(&[&str], Request); 13] = [
+            (&[], Request::Replay(None)),
+            (&["replay"], Request::Replay(None)),
+            (
+                &["replay", "puzzle.txt"],
+                Request::Replay(Some("puzzle.txt")),
+            ),
+            (&["replay", "-"], Request::Replay(Some("-"))),
+            (&["replay", "--", "-x"], Request::Replay(Some("-x"))),
+            (&["replay", "table"], Request::Replay(Some("table"))),
+            (&["table", "f"], alone),
+            (&["table", "f", "--workers", "1"], alone),
+            (&["table", "--workers", "+1", "f"], alone),
+            (&["table", "f", "--workers", "64"], shared),
+            (&["table", "--workers", "64", "f"], shared),
+            (&["table", "--workers=64", "f"], shared),
+            (&["table", "--workers", "064", "--", "f"], shared),
         ];
-        for (words, file) in cases {
+        for (words, request) in cases {
             let words = owned(alloc, words)?;
             match read_words(alloc, words.as_slice()) {
-                Ok(Request::Replay(found)) => assert!(rt; found == file),
-                Err(_) => assert!(rt; false, "the words parse"),
+                Ok(found) => assert!(rt; found == request, "{found:?}"),
+                Err(fault) => assert!(rt; false, "{fault}"),
             }
         }
         Ok(())
@@ -141,16 +176,40 @@ mod tests {
     #[test]
     fn help_and_mistakes_are_explained(rt: HostRuntime) -> Result<(), Fail> {
         let alloc = rt.alloc();
-        let cases: [(&[&str], bool, &str); 6] = [
+        let cases: [(&[&str], bool, &str); 18] = [
             (&["--help"], true, "Usage: pdb_cli [COMMAND]"),
             (&["help"], true, "Usage: pdb_cli [COMMAND]"),
             (&["replay", "--help"], true, "Usage: pdb_cli replay [FILE]"),
+            (
+                &["table", "--help"],
+                true,
+                "Usage: pdb_cli table [--workers N] FILE",
+            ),
+            (&["help", "table"], true, "[default: 1]"),
             (&["rplay"], false, "unrecognized subcommand 'rplay'"),
             (&["replay", "a", "b"], false, "unexpected argument 'b'"),
             (
                 &["replay", "--workers", "2"],
                 false,
                 "unexpected argument '--workers'",
+            ),
+            (&["table"], false, "<FILE>"),
+            (&["table", "a", "b"], false, "unexpected argument 'b'"),
+            (&["table", "--workers", "f"], false, "invalid value 'f'"),
+            (&["table", "f", "--workers"], false, "a value is required"),
+            (&["table", "f", "--workers", "0"], false, "1..=64"),
+            (&["table", "f", "--workers", "65"], false, "1..=64"),
+            (&["table", "f", "--workers", "256"], false, "1..=64"),
+            (&["table", "f", "--workers", "x"], false, "invalid digit"),
+            (
+                &["table", "f", "--workers", "-1"],
+                false,
+                "unexpected argument '-1'",
+            ),
+            (
+                &["table", "--workers", "2", "--workers", "3", "f"],
+                false,
+                "cannot be used multiple times",
             ),
         ];
         for (words, is_help, part) in cases {

@@ -6,6 +6,7 @@ use crate::run::run;
 use std::io;
 use std::io::{Read, Write};
 use std::test::Fail;
+use work_run::OpenGate;
 
 /// A reader that gives at most so many bytes at a time, and fails at one of its calls.
 #[derive(Drop)]
@@ -81,7 +82,7 @@ fn a_read_that_fails_is_a_fault_alone(rt: HostRuntime) -> Result<(), Fail> {
             calls: 0,
             fails_at: Some(call),
         };
-        let ended = ran(alloc, &[], &mut shelf, &mut reader)?;
+        let ended = ran(&rt, alloc, &[], &mut shelf, &mut reader)?;
         assert_eq!(rt; ended.status, 2);
         assert!(rt; ended.out.as_slice() == b"fault read -\n".as_slice());
         assert!(rt; ended.err.is_empty());
@@ -99,7 +100,7 @@ fn bytes_read_one_by_one_are_read_whole(rt: HostRuntime) -> Result<(), Fail> {
         calls: 0,
         fails_at: None,
     };
-    let ended = ran(alloc, &[], &mut shelf, &mut reader)?;
+    let ended = ran(&rt, alloc, &[], &mut shelf, &mut reader)?;
     assert_eq!(rt; ended.status, 0);
     assert!(rt; ended.out.as_slice() == b"solution 6\n".as_slice());
     assert_eq!(rt; reader.calls, SOLVED.len() + 1);
@@ -123,7 +124,16 @@ fn a_write_that_fails_leaves_a_front_of_the_line(rt: HostRuntime) -> Result<(), 
             };
             let mut err = Vec::new(alloc);
             let words = owned(alloc, &[])?;
-            let status = run(alloc, words, &mut shelf, &mut reader, &mut out, &mut err);
+            let status = run(
+                &rt,
+                alloc,
+                words,
+                &mut shelf,
+                &mut reader,
+                &mut out,
+                &mut err,
+                &OpenGate,
+            );
             assert_eq!(rt; status, 2);
             assert!(rt; out.taken.as_slice() == &line[..fails_from]);
             assert_eq!(rt; out.calls, fails_from + 1);
@@ -147,7 +157,16 @@ fn a_line_written_byte_by_byte_is_whole(rt: HostRuntime) -> Result<(), Fail> {
     };
     let mut err = Vec::new(alloc);
     let words = owned(alloc, &[])?;
-    let status = run(alloc, words, &mut shelf, &mut reader, &mut out, &mut err);
+    let status = run(
+        &rt,
+        alloc,
+        words,
+        &mut shelf,
+        &mut reader,
+        &mut out,
+        &mut err,
+        &OpenGate,
+    );
     assert_eq!(rt; status, 1);
     assert!(rt; out.taken.as_slice() == b"refused B5 at number 3\n".as_slice());
     Ok(())

@@ -31,12 +31,12 @@ fn a_puzzle_text_of_65536_bytes_is_read_and_one_more_is_not(rt: HostRuntime) -> 
     for _ in 0..65_527usize {
         input.push(b' ')?;
     }
-    let ended = replayed(alloc, input.as_slice())?;
+    let ended = replayed(&rt, alloc, input.as_slice())?;
     assert_eq!(rt; ended.status, 0);
     assert!(rt; ended.out.as_slice() == b"solution 0\n".as_slice());
 
     input.push(b' ')?;
-    let ended = replayed(alloc, input.as_slice())?;
+    let ended = replayed(&rt, alloc, input.as_slice())?;
     assert_eq!(rt; ended.status, 2);
     assert!(rt; ended.out.as_slice() == b"fault size -\n".as_slice());
     Ok(())
@@ -51,7 +51,7 @@ fn a_file_over_its_limit_is_a_fault_of_its_name(rt: HostRuntime) -> Result<(), F
     }
     let mut shelf = MemShelf::of(alloc, &[("long", text.as_slice())])?;
     let mut reader = b"".as_slice();
-    let ended = ran(alloc, &["replay", "long"], &mut shelf, &mut reader)?;
+    let ended = ran(&rt, alloc, &["replay", "long"], &mut shelf, &mut reader)?;
     assert_eq!(rt; ended.status, 2);
     assert!(rt; ended.out.as_slice() == b"fault size long\n".as_slice());
     assert!(rt; !shelf.failed());
@@ -63,7 +63,7 @@ fn a_reader_without_end_is_left_after_one_byte_too_many(rt: HostRuntime) -> Resu
     let alloc = rt.alloc();
     let mut shelf = MemShelf::of(alloc, &[])?;
     let mut reader = Endless { calls: 0 };
-    let ended = ran(alloc, &[], &mut shelf, &mut reader)?;
+    let ended = ran(&rt, alloc, &[], &mut shelf, &mut reader)?;
     assert_eq!(rt; ended.status, 2);
     assert!(rt; ended.out.as_slice() == b"fault size -\n".as_slice());
     assert!(rt; reader.calls <= 65_538);
@@ -77,12 +77,12 @@ fn a_thousand_moves_are_a_solution_and_one_more_is_not(rt: HostRuntime) -> Resul
     for _ in 0..500usize {
         input.extend_from_slice(b"RL")?;
     }
-    let ended = replayed(alloc, input.as_slice())?;
+    let ended = replayed(&rt, alloc, input.as_slice())?;
     assert_eq!(rt; ended.status, 0);
     assert!(rt; ended.out.as_slice() == b"solution 1000\n".as_slice());
 
     input.push(b'R')?;
-    let ended = replayed(alloc, input.as_slice())?;
+    let ended = replayed(&rt, alloc, input.as_slice())?;
     assert_eq!(rt; ended.status, 1);
     assert!(rt; ended.out.as_slice() == b"refused M3\n".as_slice());
     Ok(())

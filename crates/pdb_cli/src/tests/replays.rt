@@ -28,7 +28,7 @@ fn puzzle_texts_get_their_lines(rt: HostRuntime) -> Result<(), Fail> {
         (b"0 1 002 3 ;", b"refused B2 at byte 4\n", 1),
     ];
     for (input, line, status) in cases {
-        let ended = replayed(alloc, input)?;
+        let ended = replayed(&rt, alloc, input)?;
         assert!(rt; ended.out.as_slice() == line);
         assert_eq!(rt; ended.status, status);
         assert!(rt; ended.err.is_empty());
@@ -48,7 +48,7 @@ fn a_file_is_read_under_its_own_name(rt: HostRuntime) -> Result<(), Fail> {
     assert!(rt; shelf.get("six") == Some(b"3 2 1 0 ; ULDRUL".as_slice()));
     assert!(rt; shelf.get("two") == None);
     let mut reader = b"0 1 2 3 ;".as_slice();
-    let ended = ran(alloc, &["replay", "six"], &mut shelf, &mut reader)?;
+    let ended = ran(&rt, alloc, &["replay", "six"], &mut shelf, &mut reader)?;
     assert_eq!(rt; ended.status, 0);
     assert!(rt; ended.out.as_slice() == b"solution 6\n".as_slice());
     assert!(rt; !shelf.failed());
@@ -64,7 +64,7 @@ fn a_name_that_is_not_there_is_a_read_fault(rt: HostRuntime) -> Result<(), Fail>
         ("two", b"fault read two\n".as_slice()),
         ("-", b"fault read -\n"),
     ] {
-        let ended = ran(alloc, &["replay", name], &mut shelf, &mut reader)?;
+        let ended = ran(&rt, alloc, &["replay", name], &mut shelf, &mut reader)?;
         assert_eq!(rt; ended.status, 2);
         assert!(rt; ended.out.as_slice() == line);
         assert!(rt; shelf.failed());
@@ -77,11 +77,11 @@ fn help_goes_to_the_output_and_mistakes_to_the_errors(rt: HostRuntime) -> Result
     let alloc = rt.alloc();
     let mut shelf = MemShelf::of(alloc, &[])?;
     let mut reader = b"".as_slice();
-    let help = ran(alloc, &["--help"], &mut shelf, &mut reader)?;
+    let help = ran(&rt, alloc, &["--help"], &mut shelf, &mut reader)?;
     assert_eq!(rt; help.status, 0);
     assert!(rt; !help.out.is_empty() && help.err.is_empty());
 
-    let mistake = ran(alloc, &["table", "f"], &mut shelf, &mut reader)?;
+    let mistake = ran(&rt, alloc, &["bound", "f"], &mut shelf, &mut reader)?;
     assert_eq!(rt; mistake.status, 2);
     assert!(rt; mistake.out.is_empty() && !mistake.err.is_empty());
     Ok(())

@@ -1,4 +1,3 @@
-use Rattle.std.proofs.Common.{◌≡◌}
 use Rattle.pdb_cli.proofs.lines.put_fault.Goals as goal
 
 pub returns-in-P1-clause-front : goal.returns-in-P1-clause-front

@@ -1,4 +1,3 @@
-use Rattle.std.proofs.Common.{◌≡◌}
 use Rattle.pdb_cli.proofs.lines.put_move_fault.Goals as goal
 
 pub returns-in-M3-clause-front : goal.returns-in-M3-clause-front

@@ -1,4 +1,4 @@
-use Rattle.std.proofs.Common.{◌+◌, ◌-◌, length, take}
+use Rattle.std.proofs.Common.{take}
 use Rattle.std.specs.Io.KnownBytes.{Appends}
 use Rattle.pdb_cli.specs.Streams.{joined}
 use Rattle.pdb_cli.proofs.streams.put.Given as goal

@@ -1,15 +1,25 @@
-use Rattle.std.proofs.Common.{◌≡◌, Ok, Result, rules, subst}
+use Rattle.std.proofs.Common.{rules}
 use Rattle.pdb_cli.specs.Given.{given}
-use Rattle.pdb_cli.specs.Verdicts.{IsResult}
-use Rattle.pdb_cli.specs.declared.verdict.Fault.{Fault}
-use Rattle.pdb_cli.specs.declared.verdict.Verdict.{Verdict}
-use Rattle.pdb_cli.proofs.VerdictLemmas.{IsResult-one, IsResult-true}
+use Rattle.pdb_cli.specs.Verdicts.{IsAnswerTo}
+use Rattle.pdb_cli.proofs.VerdictLemmas.{true_is_yes, yes_is_true}
 use Rattle.pdb_cli.proofs.verdict.verify.Goals as goal
 
-pub returns-clause-yes : goal.returns-clause-yes
-returns-clause-yes c verdict =
-    let exact : IsResult (given c.args.inputs.now) c.verify_puzzle.result = search rules in
-    let true_of = IsResult-true (given c.args.inputs.now) verdict in (
-      λ is. true_of.0 (subst (λ (a : Result Verdict Fault). IsResult (given c.args.inputs.now) a) is exact),
-      λ holds. IsResult-one (given c.args.inputs.now) c.verify_puzzle.result (Ok verdict) exact (true_of.1 holds),
-    )
+pub returns-in-Replay-clause-yes : goal.returns-in-Replay-clause-yes
+returns-in-Replay-clause-yes g c =
+    let exact : IsAnswerTo (given c.args.inputs.now) c.verify_puzzle.result = search rules in
+    yes_is_true (given c.args.inputs.now) c.verify_puzzle.result exact
+
+pub returns-in-Replay-clause-always : goal.returns-in-Replay-clause-always
+returns-in-Replay-clause-always g c =
+    let exact : IsAnswerTo (given c.args.inputs.now) c.verify_puzzle.result = search rules in
+    true_is_yes (given c.args.inputs.now) c.verify_puzzle.result exact
+
+pub returns-in-Table-clause-yes : goal.returns-in-Table-clause-yes
+returns-in-Table-clause-yes g c =
+    let exact : IsAnswerTo (given c.args.inputs.now) c.verify_table.result = search rules in
+    yes_is_true (given c.args.inputs.now) c.verify_table.result exact
+
+pub returns-in-Table-clause-always : goal.returns-in-Table-clause-always
+returns-in-Table-clause-always g c =
+    let exact : IsAnswerTo (given c.args.inputs.now) c.verify_table.result = search rules in
+    true_is_yes (given c.args.inputs.now) c.verify_table.result exact

@@ -1,7 +1,7 @@
-use Rattle.std.proofs.Common.{ap, subst, refl, ◌∙◌, ◌≡◌, map, string_bytes, true}
+use Rattle.std.proofs.Common.{ap, subst, ◌∙◌, ◌≡◌, map, string_bytes}
 use Rattle.clap.specs.Words.{app_of, FailsBy, fault_of, is_simple, is_simple_and_free, App, HasMatchesOf, subcommand_of}
 use Rattle.clap.specs.declared.ArgMatches.{ArgMatches}
-use Rattle.pdb_words.specs.Words.{command_line}
+use Rattle.pdb_words.specs.Commands.{command_line}
 use Rattle.std.proofs.lemmas.Result.{IfOk-weaker}
 use Rattle.pdb_words.proofs.request.matches_of.Goals as goal
 

@@ -1,8 +1,7 @@
-use Rattle.std.proofs.Common.{◌≡◌, ◌∙◌, ap, sym, refl, ℕ, List, Option, Bool, Some, None, true, false, option_map, string_bytes, cond, Vec}
+use Rattle.std.proofs.Common.{◌≡◌, ◌∙◌, ap, refl, Option, Bool, Some, true, false, option_map, string_bytes, cond}
 use Rattle.std.specs.Str.{bytes_eq}
 use Rattle.std.proofs.lemmas.Map.Text.{btree_map_updates_text}
 use Rattle.std.proofs.lemmas.Result.{IfOk-at_ok}
-use Rattle.pdb_cli.specs.Shelves.{files_in, with_file}
 use Rattle.pdb_cli.proofs.memory.MemShelf.hold.Goals as goal
 
 map_cond : {A B : Type 0} (f : A → B) (b : Bool) (x : A) (o : Option A) → option_map f (cond b (Some x) o) ≡ cond b (Some (f x)) (option_map f o)

@@ -1,6 +1,6 @@
 use Rattle.std.proofs.Common.{◌+◌, ◌-◌, ◌≤◌, length}
 use Rattle.std.specs.Io.KnownBytes.{Consumes}
-use Rattle.pdb_cli.proofs.streams.read_all.Given as goal
+use Rattle.pdb_cli.proofs.streams.read_sized.Given as goal
 
 -- what was read so far, within the limit
 abbrev pub invariant-reads : goal.invariant-reads

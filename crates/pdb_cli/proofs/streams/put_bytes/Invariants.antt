@@ -1,6 +1,6 @@
 use Rattle.std.proofs.Common.{◌≤◌, ◌-◌, length, take}
 use Rattle.std.specs.Io.KnownBytes.{Appends}
-use Rattle.pdb_cli.proofs.streams.put_text.Given as goal
+use Rattle.pdb_cli.proofs.streams.put_bytes.Given as goal
 
 -- the bytes up to `done` were appended
 abbrev pub invariant-loop-done : goal.invariant-loop-done
