@@ -1,8 +1,9 @@
 #!/usr/bin/env bash
-# Runs the program once for each of its requests for memory, with that one refused. Such a run must write
-# `no memory` alone and end with status 3, or end as the run does that has its memory.
+# Runs the program once for each of its requests for memory or a thread, with that one refused. Such a run must write
+# `no memory` alone and end with status 3, or end as the run does that is refused nothing.
 #
-#     echo '3 2 1 0 ; ULDRUL' | tools/refuse_memory.sh [WORD..]
+#     echo '3 2 1 0 ; ULDRUL' | tools/refuse_memory.sh
+#     tools/refuse_memory.sh table FILE --workers 4 </dev/null
 set -euo pipefail
 
 root=$(dirname "$(dirname "$(readlink -f "${BASH_SOURCE[0]}")")")
