@@ -259,12 +259,20 @@ static int fail(const char *why)
     return 2;
 }
 
+/* A word as a number; 0, which is no side and no mask, where it is none. */
+static unsigned long number_in(const char *word)
+{
+    char *end;
+    unsigned long number = strtoul(word, &end, 10);
+    return *end ? 0 : number;
+}
+
 int main(int count, char **words)
 {
     struct pattern p;
     if (count != 4)
         return fail("the words are SIDE MASK OUT");
-    if (!read_pattern(&p, strtoul(words[1], NULL, 10), strtoul(words[2], NULL, 10)))
+    if (!read_pattern(&p, number_in(words[1]), number_in(words[2])))
         return fail("SIDE and MASK are no pattern");
     uint8_t *entries = malloc(p.entries);
     if (!entries)
