@@ -239,6 +239,25 @@ status=0
     "$program" >"$work/output" 2>"$work/errors" || status=$?
 check 'an input that comes in parts' wrote 0 'solution 6'
 
+# Standard input is this process's own memory up to a page that is not there.
+cat >"$work/second_read.py" <<'END'
+import ctypes, os, subprocess, sys
+text, page = b"3 2 1 0 ; ULDRUL", os.sysconf("SC_PAGESIZE")
+c = ctypes.CDLL(None)
+c.mmap.restype = ctypes.c_void_p
+c.mmap.argtypes = [ctypes.c_void_p, ctypes.c_size_t, ctypes.c_int, ctypes.c_int, ctypes.c_int, ctypes.c_long]
+c.munmap.argtypes = [ctypes.c_void_p, ctypes.c_size_t]
+at = c.mmap(None, 2 * page, 3, 0x22, -1, 0)
+c.munmap(at + page, page)
+ctypes.memmove(at + page - len(text), text, len(text))
+memory = os.open("/proc/self/mem", os.O_RDONLY)
+os.lseek(memory, at + page - len(text), 0)
+sys.exit(subprocess.run(sys.argv[1:], stdin=memory).returncode)
+END
+status=0
+python3 "$work/second_read.py" "$program" >"$work/output" 2>"$work/errors" || status=$?
+check 'an input whose second read fails' wrote 2 'fault read -'
+
 #
 # Table files.
 #
