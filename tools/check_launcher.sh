@@ -62,6 +62,7 @@ made=$(cat "$here/../KIT-ID" ../../crates.txt stdin ../*/src/*.rt ../*/src/*/*.r
 while [ -e "$orders/hold" ]; do
     sleep 0.05
 done
+[ ! -e "$orders/make_nothing" ] || exit 0
 mkdir -p out
 {
     printf '#!/usr/bin/env bash\nmade=%q\n' "$made"
@@ -241,6 +242,7 @@ take_away() {
 breakages=(
     'log_is_a_folder:cannot be written' 'folder_is_read_only:cannot be' 'lock_is_a_folder:cannot be'
     'build_makes_nothing:not built' 'build_leaves_a_program:not built' 'build_has_no_program:cannot be copied'
+    'build_leaves_the_old_program:cannot be copied'
     'kit_has_no_line:rt version' 'kit_has_an_empty_line:rt version' 'no_rt:is not on the PATH' 'sources_never_rest:change'
     'no_find:can be read and compared' 'no_sort:can be read and compared' 'no_xargs:can be read and compared' 'no_sha256sum:can be read and compared' 'no_flock:cannot be'
     'no_mkdir:cannot be' 'no_rm:cannot be' 'no_cp:cannot be' 'no_mv:cannot be'
@@ -253,6 +255,7 @@ lock_is_a_folder() { rm -f "$checkout/out/lock" && mkdir "$checkout/out/lock"; }
 build_makes_nothing() { order fail_at_once; }
 build_leaves_a_program() { order fail_at_last; }
 build_has_no_program() { order make_none; }
+build_leaves_the_old_program() { order make_nothing; }
 kit_has_no_line() { order no_version; }
 kit_has_an_empty_line() { : >"$kit/KIT-ID"; }
 no_rt() { path=$work/bin; }
@@ -586,6 +589,8 @@ tested() {
 }
 
 tested 'a failure of rt ci counts' '9 passed, 1 failed' answer rt 1 '4 passed, 1 failed'
+start sources
+check 'the launcher takes over no program of a gate that failed' ran 2
 tested 'a failure of the runs counts' '9 passed, 1 failed' answer check_runs.sh 1 '2 passed, 1 failed'
 tested 'a failure of the launcher counts' '9 passed, 1 failed' answer check_launcher.sh 1 '1 passed, 1 failed'
 tested 'a failure with status 0 counts' '9 passed, 1 failed' answer check_runs.sh 0 '2 passed, 1 failed'
