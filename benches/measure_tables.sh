@@ -4,7 +4,7 @@
 #     benches/measure_tables.sh >measured.md
 #
 # The tables are made by benches/make_table.c in a temporary folder. The program has to be built: it is
-# crates/pdb_cli/out/pdb_cli, or the one that PROGRAM names. Each run is repeated 7 times, or as often as REPEATS says.
+# out/pdb_cli, or the one that PROGRAM names. Each run is repeated 7 times, or as often as REPEATS says.
 #
 # What is measured:
 #
@@ -19,7 +19,7 @@ set -euo pipefail
 export LC_ALL=C
 
 root=$(dirname "$(dirname "$(readlink -f "${BASH_SOURCE[0]}")")")
-program=${PROGRAM:-$root/crates/pdb_cli/out/pdb_cli}
+program=${PROGRAM:-$root/out/pdb_cli}
 repeats=${REPEATS:-7}
 tables=('side 3 mask 510' 'side 5 mask 62' 'side 4 mask 126') # the largest last
 largest=${tables[-1]}

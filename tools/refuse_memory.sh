@@ -4,10 +4,15 @@
 #
 #     echo '3 2 1 0 ; ULDRUL' | tools/refuse_memory.sh
 #     tools/refuse_memory.sh table FILE --workers 4 </dev/null
+#
+# Its arguments are the program's words, and its standard input is the program's. It needs the C compiler `cc`. A line is
+# written for each run that ends otherwise, with what that run wrote, and last `N passed, M failed`. The status is 0 if all
+# passed, and otherwise not. The launcher builds the program where that is needed.
 set -euo pipefail
 
 root=$(dirname "$(dirname "$(readlink -f "${BASH_SOURCE[0]}")")")
-program=$root/crates/pdb_cli/out/pdb_cli
+"$root/pdb_cli" --help >/dev/null </dev/null
+program=$root/out/pdb_cli
 work=$(mktemp -d)
 trap 'rm -r "$work"' EXIT
 

@@ -1,0 +1,615 @@
+#!/usr/bin/env bash
+# Checks the launcher `pdb_cli`, and the command `.ci/run`, in temporary checkouts, where another command stands in for
+# `rt`: it makes a script that shows which sources it was made of. So nothing is proved, and no kit is needed.
+#
+#     tools/check_launcher.sh
+#
+# It takes no arguments. A line is written for each check, with what was written where it fails, and last the line
+# `N passed, M failed`. The status is 0 if all passed, and otherwise 1. Where the caller is root, the launcher runs as
+# nobody (by `setpriv`), since nothing is unreadable to root.
+set -uo pipefail
+
+root=$(dirname "$(dirname "$(readlink -f "${BASH_SOURCE[0]}")")")
+work=$(mktemp -d)
+trap 'chmod -R u+rwX "$work"; rm -r "$work"' EXIT
+chmod 711 "$work"
+passed=0
+failed=0
+status=0
+input=/dev/null
+
+plain=()
+if [ "$(id -u)" = 0 ]; then
+    plain=(setpriv --reuid=65534 --regid=65534 --clear-groups --)
+    if ! "${plain[@]}" true; then
+        echo 'as root, the checks run the launcher as nobody, and setpriv failed'
+        echo '0 passed, 1 failed'
+        exit 1
+    fi
+fi
+
+# The launcher finds these commands alone, so each can be taken away.
+env=$(type -P env)
+mkdir "$work/bin"
+for name in bash cat chmod cmp cp dirname env find flock mkdir mktemp mv readlink rm sha256sum sleep sort tail tee xargs; do
+    ln -s "$(type -P "$name")" "$work/bin/$name"
+done
+
+# Makes a kit whose rt does what the files of `orders` beside the kit say, and writes there what it was called for.
+make_kit() {
+    mkdir -p "$1/bin"
+    echo 'kit 1' >"$1/KIT-ID"
+    cat >"$1/bin/rt" <<'END'
+#!/usr/bin/env bash
+# Stands in for rt.
+here=${0%/*}
+orders=$here/../../orders
+if [ "$*" = version ]; then
+    echo version >>"$orders/calls"
+    [ ! -e "$orders/no_version" ] || exit 1
+    exec cat "$here/../KIT-ID"
+fi
+[ "$*" != ci ] || cd crates/pdb_cli || exit 2
+[ "$*" = run ] || [ "$*" = ci ] && [ "${PWD##*/}" = pdb_cli ] || exit 2
+echo "build by rt $*" >>"$orders/calls"
+[ ! -e "$orders/fail_at_once" ] || { echo 'error: nothing is made' && exit 1; }
+echo 'crate low: modules loaded=1 checked=0'
+shopt -s nullglob
+made=$(cat "$here/../KIT-ID" ../../crates.txt stdin ../*/src/*.rt ../*/src/*/*.rt ../*/specs/*.antt)
+[ ! -e "$orders/edit_once" ] || { rm "$orders/edit_once" && echo 'fn edited' >>../low/src/lib.rt; }
+[ ! -e "$orders/edit" ] || echo 'fn edited' >>../low/src/lib.rt
+[ ! -e "$orders/kill_the_launcher" ] || kill -KILL "$PPID"
+while [ -e "$orders/hold" ]; do
+    sleep 0.05
+done
+[ ! -e "$orders/make_nothing" ] || exit 0
+mkdir -p out
+{
+    printf '#!/usr/bin/env bash\nmade=%q\n' "$made"
+    cat <<'PROGRAM'
+case ${1-} in
+sources) printf '%s\n' "$made" ;;
+words) [ "$#" = 1 ] || printf '%s\0' "${@:2}" ;;
+status) exit "$2" ;;
+kill) kill -TERM $$ ;;
+copy) cat && echo 'on standard error' >&2 ;;
+place) pwd ;;
+'') echo "$# words" ;;
+esac
+PROGRAM
+} >out/pdb_cli
+chmod +x out/pdb_cli
+[ ! -e "$orders/make_none" ] || rm out/pdb_cli
+echo 'crate pdb_cli: modules loaded=1 checked=0'
+[ ! -e "$orders/fail_at_last" ] || { echo 'error: what is made is wrong' && exit 1; }
+[ "$*" != ci ] || { cat "$orders/rt" && exit "$(cat "$orders/rt.status")"; }
+END
+    chmod +x "$1/bin/rt"
+}
+
+# Makes a script that stands in for one of those that .ci/run calls.
+make_script() {
+    cat >"$1" <<'END'
+#!/usr/bin/env bash
+# Stands in for another script.
+orders=$(dirname "$(readlink -f "$0")")/../../orders
+echo "${0##*/}${*:+ $*}" >>"$orders/calls"
+cat "$orders/${0##*/}"
+exit "$(cat "$orders/${0##*/}.status")"
+END
+    chmod +x "$1"
+}
+
+# Goes on with the case of this name. Its checkout has in its path what a shell may take for more than a name.
+enter() {
+    at=$work/$1
+    checkout="$at/a [check] out * of 'pdb'"
+    launcher=$checkout/pdb_cli
+    kit=$at/kit
+    place=$at/place
+    path=$kit/bin:$work/bin
+    by=("$launcher")
+    input=/dev/null
+}
+
+# Makes the case of this name, with nothing built.
+make() {
+    enter "$1"
+    mkdir -p "$checkout/tools" "$checkout/crates/low/"{src,specs,must-fail} "$checkout/crates/pdb_cli/"{src,specs} \
+        "$at/orders" "$place"
+    cp "$root/pdb_cli" "$checkout"
+    cp "$root/tools/"{sources,build}.sh "$checkout/tools"
+    cp -r "$root/.ci" "$checkout"
+    make_script "$checkout/tools/check_runs.sh"
+    make_script "$checkout/tools/check_launcher.sh"
+    answer rt 0 '5 passed, 0 failed'
+    answer check_runs.sh 0 '3 passed, 0 failed'
+    answer check_launcher.sh 0 '2 passed, 0 failed'
+    printf '# A library.\nlow:\nunused: low\npdb_cli: low hex\n' >"$checkout/crates.txt"
+    echo 'fn low' >"$checkout/crates/low/src/lib.rt"
+    echo 'Low : ℕ' >"$checkout/crates/low/specs/Low.antt"
+    echo 'A page' >"$checkout/crates/low/README.md"
+    echo 'fn main' >"$checkout/crates/pdb_cli/src/main.rt"
+    echo 'Main : ℕ' >"$checkout/crates/pdb_cli/specs/Main.antt"
+    echo '3 2 1 0 ; ULDRUL' >"$checkout/crates/pdb_cli/stdin"
+    echo 'fn old' >"$place/old.rt"
+    touch -d '2 hours ago' "$place/old.rt"
+    make_kit "$kit"
+    : >"$at/orders/calls"
+    [ "${#plain[@]}" = 0 ] || chown -R 65534:65534 "$at"
+}
+
+# Has the script $1, or `rt ci`, end with status $2 and write the line $3.
+answer() {
+    printf '%s\n' 'some line' "$3" >"$at/orders/$1"
+    echo "$2" >"$at/orders/$1.status"
+}
+
+# Starts the launcher with these words, and keeps what it writes and its status.
+start() {
+    status=0
+    (cd "$place" && exec "${plain[@]}" "$env" "PATH=$path" "${by[@]}" "$@") <"$input" >"$at/stdout" 2>"$at/stderr" || status=$?
+}
+
+calls() {
+    grep -c "$1" "$at/orders/calls"
+}
+
+# Goes on with the case of this name, where the program is built and known by names, sizes and times.
+built() {
+    enter "$1"
+    start sources
+    : >"$at/orders/calls"
+}
+
+# Says that the check $1 passed if the words behind it succeed, and otherwise that it failed and what was written.
+check() {
+    if "${@:2}"; then
+        passed=$((passed + 1))
+        printf 'ok      %s\n' "$1"
+    else
+        failed=$((failed + 1))
+        printf 'FAILED  %s\n' "$1"
+        printf 'status %s, %s builds, and on standard output and standard error:\n' "$status" "$(calls build)"
+        head -c 600 "$at/stdout" "$at/stderr"
+    fi
+}
+
+# What a program of the sources as they are shows.
+sources() {
+    (shopt -s nullglob && cd "$checkout/crates/pdb_cli" &&
+        cat "$kit/KIT-ID" ../../crates.txt stdin ../*/src/*.rt ../*/src/*/*.rt ../*/specs/*.antt)
+}
+
+# Whether the program of the sources as they are was run, after $1 builds.
+ran() {
+    [ "$status" = 0 ] && sources | cmp -s - "$at/stdout" && [ "$(calls build)" = "$1" ]
+}
+
+# Whether nothing was run, and standard error has a line of the launcher with these words.
+refused() {
+    [ "$status" = 125 ] && [ ! -s "$at/stdout" ] && grep -q "^pdb_cli: .*$1" "$at/stderr"
+}
+
+# Whether the status is $1 and standard output has the bytes of the file $2; standard error has the line $3, or nothing.
+wrote() {
+    [ "$status" = "$1" ] && cmp -s "$at/stdout" "$2" && printf '%s' "${3:+$3$'\n'}" | cmp -s - "$at/stderr"
+}
+
+said() {
+    grep -q "$1" "$at/stderr"
+}
+
+#
+# Edits: each is made in the checkout's folder, and the program built before it is then out of date.
+#
+
+edits=(same_size same_size_and_time definition main_file added_file removed_file renamed_file older_file_moved_in
+    deeper_out_folder list_of_crates input_of_the_run kit_in_its_place command_of_the_kit launcher_itself)
+same_size() { echo 'fn LOW' >crates/low/src/lib.rt; }
+same_size_and_time() {
+    touch -r crates/low/src/lib.rt "$place/time" && echo 'fn LOW' >crates/low/src/lib.rt && touch -r "$place/time" crates/low/src/lib.rt
+}
+definition() { echo 'Low : ℤ' >crates/low/specs/Low.antt; }
+main_file() { echo 'fn more' >>crates/pdb_cli/src/main.rt; }
+added_file() { echo 'fn added' >crates/low/src/added.rt; }
+removed_file() { rm crates/low/specs/Low.antt; }
+renamed_file() { mv crates/low/src/lib.rt crates/low/src/main.rt; }
+older_file_moved_in() { mv "$place/old.rt" crates/low/src/lib.rt; }
+deeper_out_folder() { mkdir crates/low/src/out && echo 'fn deep' >crates/low/src/out/deep.rt; }
+list_of_crates() { echo '# more' >>crates.txt; }
+input_of_the_run() { echo '0 1 2 3 ;' >crates/pdb_cli/stdin; }
+kit_in_its_place() { echo 'kit 2' >"$kit/KIT-ID"; }
+command_of_the_kit() { echo 'kit 3' >"$kit/KIT-ID" && cp "$kit/bin/rt" "$kit/bin/rt.new" && mv "$kit/bin/rt.new" "$kit/bin/rt"; }
+launcher_itself() { echo '# more' >>tools/build.sh; }
+
+# These change nothing that a build reads.
+idle_edits=(touched_file page_of_a_crate wrong_body what_rt_made)
+touched_file() { touch crates/low/src/lib.rt; }
+page_of_a_crate() { echo 'More' >>crates/low/README.md; }
+wrong_body() { echo 'file: src/lib.rt' >crates/low/must-fail/wrong.edit; }
+what_rt_made() { mkdir -p crates/low/out && echo 'fn other' >crates/low/out/other.rt && echo 'echo other' >crates/pdb_cli/out/pdb_cli; }
+
+#
+# Breakages: behind each is what the launcher then says. It must not run the program built before the edit.
+#
+
+order() { : >"$at/orders/$1"; }
+take_away() {
+    mkdir "$at/bin" && cp -P "$work/bin/"* "$at/bin" && rm "$at/bin/$1" && path=$kit/bin:$at/bin
+}
+
+breakages=(
+    'log_is_a_folder:cannot be written' 'folder_is_read_only:cannot be' 'lock_is_a_folder:cannot be'
+    'build_makes_nothing:not built' 'build_leaves_a_program:not built' 'build_has_no_program:cannot be copied'
+    'build_leaves_the_old_program:cannot be copied'
+    'kit_has_no_line:rt version' 'kit_has_an_empty_line:rt version' 'no_rt:is not on the PATH' 'sources_never_rest:change'
+    'no_find:can be read and compared' 'no_sort:can be read and compared' 'no_xargs:can be read and compared' 'no_sha256sum:can be read and compared' 'no_flock:cannot be'
+    'no_mkdir:cannot be' 'no_rm:cannot be' 'no_cp:cannot be' 'no_mv:cannot be'
+    'folder_unreadable:can be read and compared' 'file_unreadable:can be read and compared' 'no_list_of_crates:can be read and compared' 'no_script:cannot be read'
+    'no_script_at_all:cannot be read'
+)
+log_is_a_folder() { rm -f "$checkout/out/build.log" && mkdir "$checkout/out/build.log"; }
+folder_is_read_only() { chmod a-w "$checkout/out" "$checkout/out/"*; }
+lock_is_a_folder() { rm -f "$checkout/out/lock" && mkdir "$checkout/out/lock"; }
+build_makes_nothing() { order fail_at_once; }
+build_leaves_a_program() { order fail_at_last; }
+build_has_no_program() { order make_none; }
+build_leaves_the_old_program() { order make_nothing; }
+kit_has_no_line() { order no_version; }
+kit_has_an_empty_line() { : >"$kit/KIT-ID"; }
+no_rt() { path=$work/bin; }
+sources_never_rest() { order edit; }
+folder_unreadable() { chmod 0 "$checkout/crates/low/src"; }
+file_unreadable() { chmod 0 "$checkout/crates/low/src/lib.rt"; }
+no_list_of_crates() { rm "$checkout/crates.txt"; }
+no_script() { rm "$checkout/tools/build.sh"; }
+no_script_at_all() { rm "$checkout/tools/sources.sh"; }
+no_checks() { rm "$checkout/tools/check_launcher.sh"; }
+for name in find sort xargs sha256sum flock mkdir rm cp mv; do
+    eval "no_$name() { take_away $name; }"
+done
+
+# All cases with a program are made and built at once, side by side, and are some seconds old when they are tried.
+others=(streams list no_stamp lost_program changed_program other_program failed_edit find_alone unreadable_alone
+    no_rt_alone read_only_built quick lent no_cmp no_tail no_readlink one_edit)
+cases=("${edits[@]}" "${idle_edits[@]}" "${breakages[@]%%:*}" "${others[@]}")
+for name in "${cases[@]}"; do
+    make "$name"
+done
+for name in "${cases[@]}"; do
+    (enter "$name" && start sources) &
+    while [ "$(jobs -rp | wc -l)" -ge 8 ]; do
+        wait -n
+    done
+done
+wait
+sleep 4
+
+#
+# The first start.
+#
+
+make first
+start sources
+check 'the first start builds the program and runs it' ran 1
+check 'it says which crate of how many is proved' said '^pdb_cli: proved low, crate 1 of 2$'
+check 'the last crate is the program' said '^pdb_cli: proved pdb_cli, crate 2 of 2$'
+check 'what the build said is in the log' grep -q '^crate low: ' "$checkout/out/build.log"
+start sources
+check 'the second start builds nothing' ran 1
+check 'it says nothing' [ ! -s "$at/stderr" ]
+
+make first_input
+head -c 100000 /dev/urandom >"$at/bytes"
+input=$at/bytes
+start copy
+check 'the first build leaves standard input to the program' cmp -s "$at/stdout" "$at/bytes"
+
+make no_terminal
+by=("$(type -P setsid)" -w "$launcher")
+start sources
+check 'it builds where there is no terminal' ran 1
+
+make killed
+order kill_the_launcher
+start sources 2>/dev/null
+check 'a launcher that is killed in its build runs nothing' [ "$status.$(wc -c <"$at/stdout")" = 137.0 ]
+rm "$at/orders/kill_the_launcher"
+start sources
+check 'the next one builds' ran 2
+
+make read_only
+chmod a-w "$checkout"
+start sources
+check 'a checkout that cannot be written and has no program is refused' refused 'cannot be written'
+check 'by one line' [ "$(wc -l <"$at/stderr")" = 1 ]
+
+# Starts the launcher while another start's build is held, and lets it go on once the second says that it waits.
+start_two() {
+    local tries
+    order hold
+    : >"$at/second.stderr"
+    (start sources) &
+    for ((tries = 0; tries < 300; tries++)); do
+        [ "$(calls build)" = 0 ] || break
+        sleep 0.1
+    done
+    (cd "$place" && exec "${plain[@]}" "$env" "PATH=$path" "$launcher" sources) >"$at/second.stdout" 2>"$at/second.stderr" &
+    second=$!
+    for ((tries = 0; tries < 300; tries++)); do
+        ! grep -q '^pdb_cli: .*waiting' "$at/second.stderr" || break
+        sleep 0.1
+    done
+    rm "$at/orders/hold"
+    status=0
+    wait "$second" || status=$?
+    wait
+}
+
+make both
+start_two
+check 'of two starts at once, one builds' [ "$(calls build)" = 1 ]
+check 'the one that builds runs the program' ran 1
+check 'the one that waits says so' grep -q '^pdb_cli: .*waiting' "$at/second.stderr"
+mv "$at/second.stdout" "$at/stdout"
+check 'and runs it too' ran 1
+
+make both_fail
+order fail_at_last
+start_two
+check 'the one that waits for a build that fails runs nothing' [ "$status.$(wc -c <"$at/second.stdout")" = 125.0 ]
+
+#
+# What passes through.
+#
+
+built streams
+printf 'words\0' >"$at/wanted"
+start words
+check 'no words but its own' wrote 0 /dev/null
+all_bytes=$(for ((i = 1; i < 256; i++)); do printf '%b' "\\x$(printf %x "$i")"; done; echo .)
+# shellcheck disable=SC1003,SC2016
+words=('' 'two words' '' '*' $'a\nb\n' '-' '--' '--help' "'" '"$x"' '\' $'\xff\xfe' "$all_bytes" '')
+printf '%s\0' "${words[@]}" >"$at/wanted"
+start words "${words[@]}"
+check 'words are not split or changed' wrote 0 "$at/wanted"
+start
+echo '0 words' >"$at/wanted"
+check 'no words are none' wrote 0 "$at/wanted"
+start ''
+echo '1 words' >"$at/wanted"
+check 'an empty word is one' wrote 0 "$at/wanted"
+head -c 300000 /dev/urandom >"$at/wanted"
+input=$at/wanted
+start copy
+check 'standard input and both streams pass unchanged' wrote 0 "$at/wanted" 'on standard error'
+input=/dev/null
+start copy
+check 'empty standard input too' wrote 0 /dev/null 'on standard error'
+for number in 0 1 2 3 77 125 126 127 255; do
+    start status "$number"
+    check "the status $number is the program's" wrote "$number" /dev/null
+done
+start kill 2>/dev/null
+check 'the program is killed by its own signals' wrote 143 /dev/null
+(cd "$place" && pwd -P) >"$at/wanted"
+start place
+check "the program runs in the caller's folder" wrote 0 "$at/wanted"
+mkdir "$at/links"
+ln -s "$launcher" "$at/links/absolute"
+ln -s absolute "$at/links/link"
+by=("$at/links/link")
+start place
+check 'it is started by a link to a link' wrote 0 "$at/wanted"
+by=(env "PATH=$at/links:$path" link)
+start place
+check 'it is found on the PATH' wrote 0 "$at/wanted"
+place=$checkout
+(cd "$place" && pwd -P) >"$at/wanted"
+by=(./pdb_cli)
+start place
+check 'it is started by a relative name' wrote 0 "$at/wanted"
+place=$checkout/tools
+(cd "$place" && pwd -P) >"$at/wanted"
+by=(env "CDPATH=$work:/" ../pdb_cli)
+start place
+check 'a CDPATH changes nothing' wrote 0 "$at/wanted"
+by=(bash ../pdb_cli)
+start place
+check 'it is started as a word of bash' wrote 0 "$at/wanted"
+check 'none of these builds' [ "$(calls build)" = 0 ]
+by=("$launcher")
+(cd "$place" && exec "${plain[@]}" "$env" "PATH=$path" "$launcher" status 7 <&- >&- 2>&-)
+status=$?
+check 'closed streams change no status' [ "$status" = 7 ]
+
+#
+# What is built of other sources.
+#
+
+for edit in "${edits[@]}"; do
+    built "$edit"
+    (cd "$checkout" && "$edit")
+    start sources
+    check "$edit: the program is built again" ran 1
+    start sources
+    check "$edit: once" ran 1
+done
+
+for edit in "${idle_edits[@]}"; do
+    built "$edit"
+    (cd "$checkout" && "$edit")
+    start sources
+    check "$edit: the program is not built again" ran 0
+done
+
+for breakage in "${breakages[@]}"; do
+    built "${breakage%%:*}"
+    (cd "$checkout" && same_size)
+    "${breakage%%:*}"
+    start sources
+    check "${breakage%%:*}: an edit's program can't be built, and none is run" refused "${breakage#*:}"
+    start sources
+    check "${breakage%%:*}: nor by the next start" refused "${breakage#*:}"
+done
+
+for name in cmp tail readlink; do
+    built "no_$name"
+    (cd "$checkout" && same_size)
+    take_away "$name"
+    start sources
+    check "no_$name: the program is built all the same" ran 1
+done
+
+built list
+start sources
+check 'what is known by names, sizes and times starts without rt' [ "$(calls version).$status" = 0.0 ]
+
+built no_stamp
+rm "$checkout/out/stamp"
+start sources
+check 'without the list of times the program is compared by its digest' ran 0
+check 'by the kit of today' [ "$(calls version)" -ge 1 ]
+: >"$at/orders/calls"
+start sources
+check 'the list of times is then kept' [ "$(calls version)" = 0 ]
+
+built lost_program
+rm "$checkout/out/pdb_cli"
+start sources
+check 'a program that is gone is built' ran 1
+
+built changed_program
+sed 's/words/other/' "$checkout/out/pdb_cli" >"$at/program"
+cat "$at/program" >"$checkout/out/pdb_cli"
+start sources
+check 'a program that is changed is built again' ran 1
+
+built other_program
+(cd "$checkout" && same_size)
+touch -d '1 hour' "$checkout/crates/pdb_cli/out/pdb_cli" "$checkout/out/pdb_cli" "$checkout/out/built" "$checkout/out/stamp"
+start sources
+check 'a newer program of older sources is not run' ran 1
+
+built failed_edit
+(cd "$checkout" && main_file)
+order fail_at_last
+start sources
+check 'a build that fails is refused' refused 'not built'
+check 'and the last lines of its log are shown' said '^error: what is made is wrong$'
+echo 'fn main' >"$checkout/crates/pdb_cli/src/main.rt"
+start sources
+check 'what was built before an edit that is taken back is run' ran 1
+
+built find_alone
+take_away find
+start sources
+check 'without find nothing is compared, and nothing run' refused 'can be read and compared'
+
+built unreadable_alone
+chmod 0 "$checkout/crates/low/src"
+start sources
+check 'where a folder cannot be read, nothing is run' refused 'can be read and compared'
+
+built no_rt_alone
+path=$work/bin
+start sources
+check 'without the kit nothing is compared, and nothing run' refused 'is not on the PATH'
+
+built read_only_built
+chmod -R a-w "$checkout"
+start sources
+check 'a program in a checkout that cannot be written runs' ran 0
+chmod -R u+w "$checkout"
+rm "$checkout/out/stamp"
+chmod -R a-w "$checkout"
+start sources
+check 'also where its list of times is gone' ran 0
+
+built one_edit
+(cd "$checkout" && same_size)
+order edit_once
+start sources
+check 'a source that changes in the build has it built again' ran 2
+
+built lent
+cp -r "$kit" "$at/other_kit"
+path=$at/other_kit/bin:$work/bin
+start sources
+check 'a kit of the same line at another place builds nothing' ran 0
+echo 'kit 2' >"$at/other_kit/KIT-ID"
+kit=$at/other_kit
+start sources
+check 'one of another line does' ran 1
+
+built quick
+is_stale=0
+for ((i = 10; i < 20; i++)); do
+    echo "fn $i" >"$checkout/crates/low/src/lib.rt"
+    start sources
+    sources | cmp -s - "$at/stdout" || is_stale=1
+    echo "fn x$i" >"$checkout/crates/low/src/lib.rt"
+    echo "fn $i" >"$checkout/crates/low/src/lib.rt"
+    start sources
+    sources | cmp -s - "$at/stdout" || is_stale=1
+done
+check 'edits in quick turn are each seen' [ "$is_stale.$(calls build)" = 0.10 ]
+
+#
+# The command that tests everything.
+#
+
+# Runs it, and keeps what it writes and its status.
+test_all() {
+    by=("$checkout/.ci/run")
+    start
+    by=("$launcher")
+}
+
+# Whether it ended with status $1 and the last line $2.
+counted() {
+    [ "$status" = "$1" ] && [ "$(tail -n 1 "$at/stdout")" = "$2" ]
+}
+
+make gate
+test_all
+check 'what is passed is added up' counted 0 '10 passed, 0 failed'
+check 'what the gate says is shown' grep -q '^5 passed, 0 failed$' "$at/stdout"
+check 'the runs are by the launcher' grep -qx 'check_runs.sh' "$at/orders/calls"
+start sources
+check "the launcher runs the gate's program, and builds nothing" ran 1
+
+# tested NAME RESULT WANTED ORDER..: with these orders, .ci/run must fail with this last line.
+tested() {
+    make "gate $1"
+    "${@:3}"
+    test_all
+    check ".ci/run: $1" counted 1 "$2"
+}
+
+tested 'a failure of rt ci counts' '9 passed, 1 failed' answer rt 1 '4 passed, 1 failed'
+start sources
+check 'the launcher takes over no program of a gate that failed' ran 2
+tested 'a failure of the runs counts' '9 passed, 1 failed' answer check_runs.sh 1 '2 passed, 1 failed'
+tested 'a failure of the launcher counts' '9 passed, 1 failed' answer check_launcher.sh 1 '1 passed, 1 failed'
+tested 'a failure with status 0 counts' '9 passed, 1 failed' answer check_runs.sh 0 '2 passed, 1 failed'
+tested 'a status that is not 0 counts' '10 passed, 1 failed' answer rt 1 '5 passed, 0 failed'
+tested 'a script that breaks off counts' '7 passed, 1 failed' answer check_runs.sh 0 'line 7: unbound variable'
+tested 'rt ci that breaks off counts' '5 passed, 1 failed' answer rt 0 'Killed'
+tested 'nothing tried is a failure' '7 passed, 1 failed' answer check_runs.sh 0 '0 passed, 0 failed'
+tested 'no program is a failure' '7 passed, 1 failed' order make_none
+tested 'a gate that stops at once is a failure' '2 passed, 2 failed' order fail_at_once
+tested 'a source that changes is a failure' '10 passed, 1 failed' order edit_once
+tested 'no rt is a failure' '2 passed, 1 failed' no_rt
+tested 'a script that is not there is a failure' '8 passed, 1 failed' no_checks
+tested 'no functions of the program are a failure' '0 passed, 1 failed' no_script
+make 'gate twice'
+test_all
+order fail_at_once
+: >"$at/orders/calls"
+test_all
+check 'the program of an earlier gate is not run' counted 1 '2 passed, 2 failed'
+
+echo "$passed passed, $failed failed"
+[ "$failed" = 0 ]

@@ -1,0 +1,434 @@
+#!/usr/bin/env bash
+# Runs the built program and checks what it writes, where it writes it and its status: words, streams, files and their
+# names, limits, tables, workers, want of memory, and runs at once. What is wanted follows from docs/FORMATS.md.
+#
+#     tools/check_runs.sh [PROGRAM]
+#
+# PROGRAM is the program to run; without it, that is the launcher, which builds what is not built. A line is written for
+# each check that fails, with what was written, and last the line `N passed, M failed`. The status is 0 if all passed, 1 if
+# one failed, and 2 where there is no program to run. It needs python3, as rt does.
+set -uo pipefail
+
+root=$(dirname "$(dirname "$(readlink -f "${BASH_SOURCE[0]}")")")
+if [ "$#" -gt 1 ]; then
+    echo 'usage: tools/check_runs.sh [PROGRAM]' >&2
+    exit 2
+fi
+program=$(readlink -f "${1-$root/pdb_cli}")
+if ! "$program" --help >/dev/null; then
+    echo "there is no program to run: $program --help fails" >&2
+    exit 2
+fi
+# The program itself, where bash's own need of memory is not to count.
+bare=${1+$program}
+bare=${bare:-$root/out/pdb_cli}
+
+work=$(mktemp -d)
+trap 'rm -r "$work"' EXIT
+mkdir "$work/files"
+cd "$work/files" || exit 2
+passed=0
+failed=0
+input=/dev/null
+
+# Runs the program with these words, and keeps what it writes and its status.
+run() {
+    status=0
+    "$program" "$@" <"$input" >"$work/output" 2>"$work/errors" || status=$?
+}
+
+# Counts a check, whose name is $1, by the status of the words behind it.
+check() {
+    local name=$1
+    shift
+    if "$@"; then
+        passed=$((passed + 1))
+        return
+    fi
+    failed=$((failed + 1))
+    printf 'FAILED: %s: status %s; standard output: %s; standard error: %s\n' \
+        "$name" "$status" "$(head -c 400 "$work/output" | tr '\n' '|')" "$(head -c 400 "$work/errors" | tr '\n' '|')"
+}
+
+# Whether the run ended with status $1, wrote exactly the lines behind it, and nothing to standard error.
+wrote() {
+    local wanted=$1
+    shift
+    [ "$status" = "$wanted" ] && [ ! -s "$work/errors" ] && printf '%s\n' "$@" | cmp -s - "$work/output"
+}
+
+# Whether the run told a mistake in the words on standard error, and nothing on standard output.
+told_a_mistake() {
+    [ "$status" = 2 ] && [ ! -s "$work/output" ] && [[ $(head -n 1 "$work/errors") == 'error: '?* ]]
+}
+
+told_a_mistake_and_usage() {
+    told_a_mistake && grep -q '^Usage: pdb_cli' "$work/errors"
+}
+
+told_help() {
+    [ "$status" = 0 ] && [ ! -s "$work/errors" ] && grep -q '^Usage: pdb_cli' "$work/output"
+}
+
+# A run with the words behind `:` must write these lines with this status: expect NAME STATUS LINE.. : WORD..
+expect() {
+    local name=$1 wanted=$2 lines=()
+    shift 2
+    while [ "$1" != : ]; do
+        lines+=("$1")
+        shift
+    done
+    shift
+    run "$@"
+    check "$name" wrote "$wanted" "${lines[@]}"
+}
+
+# The same of a puzzle text, once as a file and once on standard input: puzzle TEXT STATUS LINE
+puzzle() {
+    printf '%s' "$1" >puzzle
+    expect "replay of the file '${1:0:60}'" "$2" "$3" : replay puzzle
+    input=puzzle
+    expect "replay of the input '${1:0:60}'" "$2" "$3" : replay
+    input=/dev/null
+}
+
+# The bytes of hexadecimal numbers.
+bytes() {
+    local number
+    for number in $1; do
+        printf '%b' "\\x$number"
+    done
+}
+
+# A table file must be answered by its digest and this line: table NAME STATUS LINE WORD..
+table() {
+    local digest
+    digest=$(sha256sum <"$1")
+    expect "table $1 ${*:4}" "$2" "sha256 ${digest%% *}" "$3" : table "$1" "${@:4}"
+}
+
+#
+# Puzzle texts.
+#
+
+printf '3 2 1 0 ; ULDRUL\n' >solved
+input=solved
+expect 'no words' 0 'solution 6' :
+input=/dev/null
+puzzle '3 2 1 0 ; ULDRUL' 0 'solution 6'
+puzzle '0 1 2 3 ;' 0 'solution 0'
+puzzle '' 1 'refused P1'
+puzzle '0 1 2 3' 1 'refused P1'
+puzzle '1 0 2 3 ; U' 1 'refused M2 at step 0'
+puzzle '1 0 2 3 ; L' 0 'solution 1'
+puzzle '1 0 2 3 ;' 1 'refused M4'
+puzzle '0 1 2 3 ;u' 1 'refused M1 at byte 0'
+puzzle '0 1 2 3 ;; ' 1 'refused M1 at byte 0'
+puzzle '0 1 2 2 ;' 1 'refused B5 at number 3'
+puzzle '0 1 2 3 4 ;' 1 'refused B3 count 5'
+puzzle '0 1 2 4 ;' 1 'refused B4 at number 3'
+puzzle '0 1 2 x ;u' 1 'refused B1 at byte 6'
+puzzle '0 1 002 3 ;' 1 'refused B2 at byte 4'
+puzzle $' 00\t01\r\n02 03\n;\n' 0 'solution 0'
+puzzle '1 2 0 3 4 5 6 7 8 ; LL' 0 'solution 2'
+puzzle '1 2 3 0 4 5 6 7 8 9 10 11 12 13 14 15 ; LLL' 0 'solution 3'
+puzzle '1 2 3 4 0 5 6 7 8 9 10 11 12 13 14 15 16 17 18 19 20 21 22 23 24 ; LL LL' 0 'solution 4'
+back_and_forth=$(printf 'RL%.0s' {1..500})
+puzzle "0 1 2 3 ;$back_and_forth" 0 'solution 1000'
+puzzle "0 1 2 3 ;${back_and_forth}R" 1 'refused M3'
+printf '0 1 2 3 ;%65527s' '' >puzzle
+expect 'replay of 65,536 bytes' 0 'solution 0' : replay puzzle
+printf ' ' >>puzzle
+expect 'replay of 65,537 bytes' 2 'fault size puzzle' : replay puzzle
+input=puzzle
+expect '65,537 bytes of standard input' 2 'fault size -' : replay
+input=/dev/null
+printf '\xff\x00 1' >puzzle
+expect 'replay of bytes that are no text' 1 'refused P1' : replay puzzle
+printf '0 1 2 \xff ;' >puzzle
+expect 'replay of numbers that are no text' 1 'refused B1 at byte 6' : replay puzzle
+
+#
+# Names of files.
+#
+
+# shellcheck disable=SC1003,SC2016
+for name in 'two words' ' x' 'x ' 'x  ' '*' $'a\nb' $'tab\there' 'é' "it's" '$HOME' '\' 'replay' 'table' '-' 'a/b'; do
+    [[ $name != */* ]] || mkdir -p "${name%/*}"
+    cp solved "./$name"
+    expect "replay of the file '$name'" 0 'solution 6' : replay "$name"
+    rm "./$name"
+done
+cp solved ./-x
+expect 'a name behind --' 0 'solution 6' : replay -- -x
+expect 'a name of another folder' 0 'solution 6' : replay "$work/files/solved"
+expect 'a file that tells no size' 0 'solution 6' : replay <(cat solved)
+expect 'a file that is not there' 2 'fault read not there' : replay 'not there'
+expect 'a blank at the end of a name' 2 'fault read solved ' : replay 'solved '
+expect 'a name that is empty' 2 'fault read ' : replay ''
+expect 'a name -' 2 'fault read -' : replay -
+expect 'a table that is not there' 2 'fault read not there' : table 'not there'
+expect 'a folder' 2 'fault read .' : replay .
+expect 'a table that is a folder' 2 'fault read .' : table .
+expect 'a line feed in a name' 2 'fault read x?solution 80' : replay $'x\nsolution 80'
+expect 'escape codes in a name' 2 'fault read ?[2K?x?' : table $'\e[2K\rx\x7f'
+low=$(for i in {1..31}; do printf '%b' "\\x$(printf %x "$i")"; done; echo .)
+expect 'all bytes of a name below 32' 2 "fault read ???????????????????????????????." : replay "$low"
+expect 'a name of more than one byte a letter' 2 'fault read né →' : replay 'né →'
+
+#
+# Words.
+#
+
+for words in --help -h help 'help replay' 'help table' 'help help' 'replay --help' 'table -h'; do
+    # shellcheck disable=SC2086
+    run $words
+    check "help by $words" told_help
+done
+for words in rplay 'replay a b' 'replay --workers 2' 'replay --workers 2 solved' table 'table a b' --version --workers \
+    '--workers 2 table F1' 'table --none F1' 'table F1 --workers' 'table F1 --workers 2 --workers 2' -x 'replay -x' \
+    'table F1 --workers 0' 'table F1 --workers 65' 'table F1 --workers x' 'table F1 --workers -1' 'table F1 --workers 1.5' \
+    'table F1 --workers 256' 'table F1 --workers 18446744073709551617' 'bound'; do
+    # shellcheck disable=SC2086
+    run $words
+    check "the mistake in $words" told_a_mistake
+done
+run ''
+check 'the mistake in an empty word' told_a_mistake
+run 'replay solved'
+check 'the mistake in two words as one' told_a_mistake
+run table F1 --workers ''
+check 'the mistake in no workers' told_a_mistake
+run $'\xff'
+check 'a command that is no UTF-8' told_a_mistake_and_usage
+run replay $'solved\xff'
+check 'a name that is no UTF-8' told_a_mistake_and_usage
+run table F1 --workers $'\xc3'
+check 'workers that are no UTF-8' told_a_mistake_and_usage
+
+#
+# Streams.
+#
+
+expect 'no input at all' 1 'refused P1' :
+input=.
+expect 'an input that cannot be read' 2 'fault read -' : replay
+input=/dev/null
+status=0
+"$program" replay <&- >"$work/output" 2>"$work/errors" || status=$?
+check 'closed standard input' wrote 2 'fault read -'
+status=0
+"$program" <solved 2>"$work/errors" >/dev/full || status=$?
+: >"$work/output"
+check 'a full standard output' [ "$status" = 2 ]
+status=0
+"$program" <solved 2>"$work/errors" >&- || status=$?
+check 'a closed standard output' [ "$status" = 2 ]
+status=0
+"$program" --help 2>"$work/errors" >/dev/full || status=$?
+check 'help on a full standard output' [ "$status" = 2 ]
+status=0
+"$program" rplay >"$work/output" 2>/dev/full || status=$?
+: >"$work/errors"
+check 'a mistake on a full standard error' [ "$status.$(wc -c <"$work/output")" = 2.0 ]
+status=0
+"$program" <solved >"$work/output" 2>&- || status=$?
+check 'a closed standard error' wrote 0 'solution 6'
+status=0
+(sleep 0.1 && printf '3 2 1' && sleep 0.1 && printf ' 0 ; ULD' && sleep 0.1 && echo RUL) |
+    "$program" >"$work/output" 2>"$work/errors" || status=$?
+check 'an input that comes in parts' wrote 0 'solution 6'
+
+# Standard input is this process's own memory up to a page that is not there.
+cat >"$work/second_read.py" <<'END'
+import ctypes, os, subprocess, sys
+text, page = b"3 2 1 0 ; ULDRUL", os.sysconf("SC_PAGESIZE")
+c = ctypes.CDLL(None)
+c.mmap.restype = ctypes.c_void_p
+c.mmap.argtypes = [ctypes.c_void_p, ctypes.c_size_t, ctypes.c_int, ctypes.c_int, ctypes.c_int, ctypes.c_long]
+c.munmap.argtypes = [ctypes.c_void_p, ctypes.c_size_t]
+at = c.mmap(None, 2 * page, 3, 0x22, -1, 0)
+c.munmap(at + page, page)
+ctypes.memmove(at + page - len(text), text, len(text))
+memory = os.open("/proc/self/mem", os.O_RDONLY)
+os.lseek(memory, at + page - len(text), 0)
+sys.exit(subprocess.run(sys.argv[1:], stdin=memory).returncode)
+END
+status=0
+python3 "$work/second_read.py" "$program" >"$work/output" 2>"$work/errors" || status=$?
+check 'an input whose second read fails' wrote 2 'fault read -'
+
+#
+# Table files.
+#
+
+bytes '50 44 42 54 01 02 03 00 00 00 00 0E 00 00 00 00 00 00 00 18
+    FF FF 02 01 03 FF 02 01 FF 00 FF FF FF FF 06 FF 05 04 FF 03 05 04 FF FF' >F123
+bytes '50 44 42 54 01 02 02 00 00 00 00 06 00 00 00 00 00 00 00 18
+    FF FE 01 FE FF 02 01 FE 00 FF FF FE FF FE FF 04 03 FE 02 FF 03 FE FF FE' >F12
+bytes '50 44 42 54 01 02 01 00 00 00 00 02 00 00 00 00 00 00 00 08 01 FE 00 FE 02 FE 01 FE' >F1
+bytes '50 44 42 54 01 05 01 00 01 00 00 00 00 00 00 00 00 00 00 32
+    08 FE 07 FE 06 FE 05 FE 04 FE 07 FE 06 FE 05 FE 04 FE 03 FE 06 FE 05 FE 04 FE 03 FE 02 FE
+    05 FE 04 FE 03 FE 02 FE 01 FE 04 FE 03 FE 02 FE 01 FE 00 FE' >F24
+
+# A copy of the file $1 whose byte $2 is $3, as the file $4.
+changed() {
+    { head -c "$2" "$1" && bytes "$3" && tail -c +"$(($2 + 2))" "$1"; } >"$4"
+}
+
+table F123 0 'exact side 2 mask 14 entries 24 unreachable 12 deepest 6'
+table F12 0 'exact side 2 mask 6 entries 24 unreachable 8 deepest 4'
+table F1 0 'exact side 2 mask 2 entries 8 unreachable 0 deepest 2'
+table F24 0 'exact side 5 mask 16777216 entries 50 unreachable 0 deepest 8'
+changed F123 34 02 F123_with_02
+table F123_with_02 1 'refused T7 at entry 14'
+changed F12 20 FE F12_with_FE
+table F12_with_FE 1 'refused T7 at entry 0'
+{ head -c 20 F1 && bytes 'FF FF FF FF FF FF FF FF'; } >F1_of_FF
+table F1_of_FF 1 'refused T7 at entry 1'
+changed F12 24 00 F12_with_00
+table F12_with_00 1 'refused T7 at entry 0'
+head -c 43 F123 >F123_without_its_last_byte
+table F123_without_its_last_byte 1 'refused T6'
+{ cat F123 && bytes 00; } >F123_with_a_byte_more
+table F123_with_a_byte_more 1 'refused T6'
+head -c 19 F123 >F123_of_19_bytes
+table F123_of_19_bytes 1 'refused T1'
+changed F123 0 51 other_letters
+table other_letters 1 'refused T2'
+changed F123 4 02 version_2
+table version_2 1 'refused T2'
+changed F123 5 01 side_1
+table side_1 1 'refused T3'
+changed F123 6 02 another_number_of_tiles
+table another_number_of_tiles 1 'refused T4'
+changed F123 7 01 byte_7
+table byte_7 1 'refused T4'
+changed F123 11 0F tile_0
+table tile_0 1 'refused T4'
+changed F123 19 17 entries_23
+table entries_23 1 'refused T5'
+: >empty
+expect 'table of an empty file' 1 'sha256 e3b0c44298fc1c149afbf4c8996fb92427ae41e4649b934ca495991b7852b855' 'refused T1' : table empty
+printf abc >abc
+expect 'table of abc' 1 'sha256 ba7816bf8f01cfea414140de5dae2223b00361a396177a9cb410ff61f20015ad' 'refused T1' : table abc
+cp F12 'a table'
+table 'a table' 0 'exact side 2 mask 6 entries 24 unreachable 8 deepest 4'
+{ cat F123 && head -c 3000000 /dev/zero; } >above_a_mebibyte
+table above_a_mebibyte 1 'refused T6'
+# Four tiles on side 5, 303,600 placements of 5 slots: entry 1 is the first without a region.
+{ bytes '50 44 42 54 01 05 04 00 00 00 00 1E 00 00 00 00 00 17 29 B0' && head -c 1518000 /dev/zero | tr '\0' '\377'; } >long_table
+table long_table 1 'refused T7 at entry 1'
+truncate -s 4294967297 too_long
+status=0
+(ulimit -v 1000000 && exec "$program" table too_long) >"$work/output" 2>"$work/errors" || status=$?
+check 'a file over its limit takes no memory' wrote 2 'fault size too_long'
+status=0
+(ulimit -v 1000000 && exec "$program" replay too_long) >"$work/output" 2>"$work/errors" || status=$?
+check 'a puzzle text over its limit takes no memory' wrote 2 'fault size too_long'
+rm too_long
+
+# The 8-puzzle: every board's number of moves, by a search from the goal board.
+python3 - >all_of_side_3 <<'END'
+import itertools, sys
+home = tuple(range(9))
+beside = [[d for d in range(9) if abs(c // 3 - d // 3) + abs(c % 3 - d % 3) == 1] for c in range(9)]
+moves, last = {home: 0}, [home]
+while last:
+    new = []
+    for board in last:
+        blank = board.index(0)
+        for cell in beside[blank]:
+            moved = list(board)
+            moved[blank], moved[cell] = moved[cell], 0
+            moved = tuple(moved)
+            if moved not in moves:
+                moves[moved] = moves[board] + 1
+                new.append(moved)
+    last = new
+found = bytearray()
+for cells in itertools.permutations(range(9), 8):
+    board = [0] * 9
+    for tile, cell in enumerate(cells):
+        board[cell] = tile + 1
+    found.append(moves.get(tuple(board), 255))
+header = b"PDBT" + bytes([1, 3, 8, 0]) + (510).to_bytes(4, "big") + len(found).to_bytes(8, "big")
+sys.stdout.buffer.write(header + found)
+END
+for workers in 1 2 7 64; do
+    table all_of_side_3 0 'exact side 3 mask 510 entries 362880 unreachable 181440 deepest 31' --workers "$workers"
+    table F12 0 'exact side 2 mask 6 entries 24 unreachable 8 deepest 4' --workers "$workers"
+    table F123_with_02 1 'refused T7 at entry 14' --workers "$workers"
+done
+table all_of_side_3 0 'exact side 3 mask 510 entries 362880 unreachable 181440 deepest 31'
+digest=$(sha256sum <F1)
+expect 'workers before the name' 0 "sha256 ${digest%% *}" 'exact side 2 mask 2 entries 8 unreachable 0 deepest 2' : \
+    table --workers=7 F1
+
+#
+# Want of memory.
+#
+
+digest=$(sha256sum <all_of_side_3)
+printf '%s\n' "sha256 ${digest%% *}" 'exact side 3 mask 510 entries 362880 unreachable 181440 deepest 31' >"$work/exact"
+echo 'no memory' >"$work/no_memory"
+
+# Whether the run wrote `no memory` with status 3, or its answer with status 0.
+lacked_memory_or_not() {
+    [ ! -s "$work/errors" ] && case $status in
+    0) cmp -s "$work/output" "$1" ;;
+    3) cmp -s "$work/output" "$work/no_memory" ;;
+    *) false ;;
+    esac
+}
+
+echo 'solution 6' >"$work/solution"
+refusals=0
+for kilobytes in {2000..6000..100} {7000..40000..3000} {50000..800000..75000}; do
+    # Where the system has no memory to start the program, no answer is the program's.
+    (ulimit -v "$kilobytes" && exec "$bare" --help) >/dev/null 2>"$work/errors"
+    [ "$?" != 127 ] || continue
+    status=0
+    (ulimit -v "$kilobytes" && exec "$bare" table all_of_side_3 --workers 64) >"$work/output" 2>"$work/errors" || status=$?
+    check "a table with $kilobytes kilobytes" lacked_memory_or_not "$work/exact"
+    [ "$status" != 3 ] || refusals=$((refusals + 1))
+    status=0
+    (ulimit -v "$kilobytes" && exec "$bare" replay solved) >"$work/output" 2>"$work/errors" || status=$?
+    check "a puzzle with $kilobytes kilobytes" lacked_memory_or_not "$work/solution"
+done
+check 'memory was refused to some runs' [ "$refusals" -gt 0 ]
+
+#
+# Runs at once, and writes.
+#
+
+: >"$work/errors"
+digest=$(sha256sum <F1)
+printf '%s\n' "sha256 ${digest%% *}" 'exact side 2 mask 2 entries 8 unreachable 0 deepest 2' >"$work/lines"
+digest=$(sha256sum <F12)
+printf '%s\n' "sha256 ${digest%% *}" 'exact side 2 mask 6 entries 24 unreachable 8 deepest 4' >>"$work/lines"
+status=0
+for ((i = 0; i < 500; i++)); do printf '%s\0' F1 F12; done |
+    xargs -0 -n 1 -P 16 "$program" table >"$work/output" 2>"$work/errors" || status=$?
+sort <(paste - - <"$work/output") | uniq -c | sed 's/^ *//' >"$work/counted"
+paste - - <"$work/lines" | sort | sed 's/^/500 /' >"$work/wanted"
+check 'the lines of 1,000 runs at once do not mix' cmp -s "$work/counted" "$work/wanted"
+
+# A pipe of packets tells each write apart.
+cat >"$work/writes.py" <<'END'
+import os, subprocess, sys
+ends = os.pipe2(os.O_DIRECT)
+subprocess.run(sys.argv[1:], stdin=subprocess.DEVNULL, stdout=ends[1])
+os.close(ends[1])
+packets = list(iter(lambda: os.read(ends[0], 1 << 16), b""))
+print(len(packets))
+END
+for words in 'table F1' 'table F1_of_FF' 'replay solved' 'replay none' --help; do
+    # shellcheck disable=SC2086
+    python3 "$work/writes.py" "$program" $words >"$work/output" 2>"$work/errors"
+    status=$?
+    check "$words is written by one write" wrote 0 1
+done
+
+echo "$passed passed, $failed failed"
+[ "$failed" = 0 ]
