@@ -1,5 +1,5 @@
 -- The law of a book holds at the start, and each step keeps it.
-use Rattle.std.proofs.Common.{◌≡◌, ℕ, zero, suc, ◌+◌, ◌*◌, ◌<◌, ◌≤◌, ◌^◌, Bool, true, false, cond, eqb, ltb, ◌⊎◌, List, [], ◌∷◌, length, set, min, replicate, Option, Some, None, IfSome, Ok, Err, inl, inr, refl, sym, ◌∙◌, ap, subst, arith, slice_get, length-append}
+use Rattle.std.proofs.Common.{◌≡◌, ℕ, zero, suc, ◌+◌, ◌*◌, ◌<◌, ◌≤◌, ◌^◌, Bool, true, false, cond, eqb, ltb, ◌⊎◌, List, [], ◌∷◌, length, set, min, replicate, Option, Some, None, Ok, Err, inl, inr, refl, sym, ◌∙◌, ap, subst, arith, slice_get, length-append}
 use Rattle.std.specs.List.{sum_by, count_by, Contains}
 use Rattle.std.proofs.lemmas.Bool.{cases_eq, cases_lt, cond-false, le-ltb, ltb-true, ltb-false, true≢false}
 use Rattle.std.proofs.lemmas.Bool.Decides.{nat_tests}
@@ -21,7 +21,7 @@ use Rattle.book_core.proofs.ListLemmas.{sum_by-changed, le-sum_by, slice_get-set
 
 -- ---- places, and none above them all
 
-pub IsAtMost-refl : (o : Option ℕ) → IsAtMost o o
+IsAtMost-refl : (o : Option ℕ) → IsAtMost o o
 IsAtMost-refl None = tt
 IsAtMost-refl (Some x) = omega arith
 
@@ -120,7 +120,7 @@ module _ (b : Book) (law : BookLaw b) (w : ℕ) (p : Deeds) (at : slice_get b.pa
     | inr h ↦ law.past v r h.1 done
   ]
 
-  pub BookLaw-drawn_by : p.ended ≡ false → b.next < b.jobs → BookLaw (drawn_by b w p)
+  BookLaw-drawn_by : p.ended ≡ false → b.next < b.jobs → BookLaw (drawn_by b w p)
   BookLaw-drawn_by going room =
       let q = with_drawn p b.next in
       let lens = sum_by-changed (λ d. length d.drawn) b.passes w p q at in
@@ -136,7 +136,7 @@ module _ (b : Book) (law : BookLaw b) (w : ℕ) (p : Deeds) (at : slice_get b.pa
         past = λ v r e done. (let l : b.jobs < b.next = past-kept q refl v r e done in omega arith);
       }
 
-  pub BookLaw-ended_by : p.ended ≡ false → b.jobs ≤ b.next → BookLaw (ended_by b w p)
+  BookLaw-ended_by : p.ended ≡ false → b.jobs ≤ b.next → BookLaw (ended_by b w p)
   BookLaw-ended_by going over =
       let q = with_end p in
       let lens = sum_by-changed (λ d. length d.drawn) b.passes w p q at in
@@ -154,7 +154,7 @@ module _ (b : Book) (law : BookLaw b) (w : ℕ) (p : Deeds) (at : slice_get b.pa
         past = λ v r e done. omega arith;
       }
 
-  pub BookLaw-reported_by : (place : ℕ) → place < 2 ^ 32 → BookLaw (reported_by b w place p)
+  BookLaw-reported_by : (place : ℕ) → place < 2 ^ 32 → BookLaw (reported_by b w place p)
   BookLaw-reported_by place lt =
       let q = with_report p place in
       let lens = sum_by-changed (λ d. length d.drawn) b.passes w p q at in
@@ -169,7 +169,7 @@ module _ (b : Book) (law : BookLaw b) (w : ℕ) (p : Deeds) (at : slice_get b.pa
         past = past-kept q refl;
       }
 
-  pub BookLaw-looked_by : BookLaw (looked_by b w p)
+  BookLaw-looked_by : BookLaw (looked_by b w p)
   BookLaw-looked_by =
       let q = with_seen p b.least in
       let lens = sum_by-changed (λ d. length d.drawn) b.passes w p q at in
@@ -251,13 +251,6 @@ BookLaw-start jobs workers = record {
 -- no word leaves its range
 pub BookLaw-next_le : (b : Book) → BookLaw b → b.next ≤ b.jobs + length b.passes
 BookLaw-next_le b law = omega (arith, law.drawn, law.total, count_by-le-length (λ (d : Deeds). d.ended) b.passes)
-
-pub BookLaw-least_small : (b : Book) → BookLaw b → IfSome b.least (λ place. place < 2 ^ 32)
-BookLaw-least_small b law = go b.least law.least
-  where
-    go : (o : Option ℕ) → IsLeast o b.passes → IfSome o (λ place. place < 2 ^ 32)
-    go None l = tt
-    go (Some x) l = law.small x l.0
 
 module _ (b : Book) (law : BookLaw b) (w : ℕ) (p : Deeds) (at : slice_get b.passes w ≡ Some p) where
   -- a pass drew no more jobs than there were claims

@@ -1,5 +1,5 @@
 -- Lists where one element changes, one comes to the end, or two are put together.
-use Rattle.std.proofs.Common.{◌≡◌, ◌≢◌, ◌⊎◌, ℕ, zero, suc, ◌+◌, ◌≤◌, List, [], ◌∷◌, ◌++◌, set, Some, inl, inr, refl, sym, ◌∙◌, ap, subst, arith, slice_get}
+use Rattle.std.proofs.Common.{◌≡◌, ◌≢◌, ◌⊎◌, ℕ, zero, suc, ◌+◌, ◌≤◌, List, [], ◌∷◌, ◌++◌, length, set, Some, inl, inr, refl, sym, ◌∙◌, ap, subst, arith, slice_get}
 use Rattle.std.specs.List.{sum_by}
 use Rattle.std.proofs.lemmas.Option.{slice_get_within, get_or_from_slice_get}
 use Rattle.std.proofs.lemmas.List.Sums.{sum_by-cons, sum_by-set, get_or-le-sum_by}
@@ -46,11 +46,12 @@ module _ {A : Type 0} where
     | inr h ↦ inr ((λ s. h.0 (omega (arith, s))), h.1)
   ]
 
-  pub slice_get-push_cases : (xs : List A) (j : ℕ) (y z : A) → slice_get (xs ++ y ∷ []) j ≡ Some z → (slice_get xs j ≡ Some z) ⊎ (y ≡ z)
-  slice_get-push_cases [] zero y z e = inr (let same : y ≡ z = cc in same)
+  -- an element of a list with one more at its end
+  pub slice_get-push_cases : (xs : List A) (j : ℕ) (y z : A) → slice_get (xs ++ y ∷ []) j ≡ Some z → (slice_get xs j ≡ Some z) ⊎ ((j ≡ length xs) × (y ≡ z))
+  slice_get-push_cases [] zero y z e = inr (refl, let same : y ≡ z = cc in same)
   slice_get-push_cases [] (suc j) y z e = cc
   slice_get-push_cases (x ∷ xs) zero y z e = inl e
-  slice_get-push_cases (x ∷ xs) (suc j) y z e = slice_get-push_cases xs j y z e
+  slice_get-push_cases (x ∷ xs) (suc j) y z e = elim (slice_get-push_cases xs j y z e) [ inl h ↦ inl h | inr h ↦ inr (omega (arith, h.0), h.1) ]
 
   pub slice_get-append_cases : (xs ys : List A) (j : ℕ) (z : A) → slice_get (xs ++ ys) j ≡ Some z → (slice_get xs j ≡ Some z) ⊎ ((k : ℕ) × (slice_get ys k ≡ Some z))
   slice_get-append_cases [] ys j z e = inr (j, e)

@@ -30,7 +30,7 @@ fold-keeps r law [] = law
 fold-keeps r law (e ∷ es) = fold-keeps (run_on r e) (unless_ended-keeps r.fault r law e) es
 
 -- a run from a book that meets the law ends at one that does
-pub BookLaw-run_from : (b : Book) → BookLaw b → (es : List Event) → BookLaw (run_from b es).book
+BookLaw-run_from : (b : Book) → BookLaw b → (es : List Event) → BookLaw (run_from b es).book
 BookLaw-run_from b law es = fold-keeps (going b []) law es
 
 pub BookLaw-going : (b c : Book) (es : List Event) (told : List Answer) → run_from b es ≡ going c told → BookLaw b → BookLaw c

@@ -139,7 +139,7 @@ module _ (b : Book) (shares : List (List Held)) (dealt : IsDealt b shares) where
         | inl is ↦ dealt.deeds i share at (suc k) h (slice_get-others share k h (ap (λ l. slice_get l k) is.1 ∙ there))
         | inr old ↦ dealt.deeds j got old.1 k h there
       ]
-      | inr is ↦ dealt.deeds i share at zero h (slice_get-first share k h (ap (λ l. slice_get l k) is ∙ there))
+      | inr is ↦ dealt.deeds i share at zero h (slice_get-first share k h (ap (λ l. slice_get l k) is.1 ∙ there))
     ];
   }
 

@@ -53,7 +53,7 @@ module _ (b : Book) (w : ℕ) (p : Deeds) (at : slice_get b.passes w ≡ Some p)
 -- ---- an event that is answered
 
 -- is of a pass that is there
-pub answered-within : (b : Book) (w : ℕ) (act : Deeds → Outcome) → IsOk (by_pass (slice_get b.passes w) act) → w < length b.passes
+answered-within : (b : Book) (w : ℕ) (act : Deeds → Outcome) → IsOk (by_pass (slice_get b.passes w) act) → w < length b.passes
 answered-within b w act ok = go (slice_get b.passes w) refl ok
   where
     go : (o : Option Deeds) → slice_get b.passes w ≡ o → IsOk (by_pass o act) → w < length b.passes

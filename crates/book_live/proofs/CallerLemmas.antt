@@ -1,28 +1,29 @@
 -- What callers of a book conclude from the steps of its seats.
-use Rattle.std.proofs.Common.{◌≡◌, ◌⊎◌, ℕ, zero, suc, ◌+◌, ◌<◌, List, [], ◌∷◌, ◌++◌, length, map, drop, get_or, true, Option, Some, inl, inr, refl, sym, ap, ◌∙◌, subst, arith, slice_get}
-use Rattle.atomic_table.specs.Table.{Me}
+use Rattle.std.proofs.Common.{◌≡◌, ℕ, zero, suc, ◌+◌, ◌<◌, List, [], ◌∷◌, ◌++◌, length, length-append, map, set, drop, get_or, true, Option, Some, inl, inr, refl, sym, ap, ◌∙◌, subst, arith, slice_get}
+use Rattle.std.proofs.lemmas.List.{length-set}
+use mathlib.Core.Option.{some}
+use lib.ListN.{get_elem?}
+use Rattle.atomic_table.specs.Table.{State, Me}
+use Rattle.atomic_table.proofs.Lists.{set_here, set_else, at_longer, at_last}
 use Rattle.book_core.specs.Passes.{fresh}
-use Rattle.book_core.specs.Books.{Book}
+use Rattle.book_core.specs.Books.{Book, start}
 use Rattle.book_core.specs.Places.{IsLeast, IsAtMost}
 use Rattle.book_core.specs.Shares.{Held, held, all_fresh, IsCounted}
+use Rattle.book_core.proofs.ListLemmas.{slice_get-push_cases}
 use Rattle.book_core.proofs.LawLemmas.{BookLaw-all_drawn}
 use Rattle.book_live.specs.declared.views.Sizes.{Sizes}
 use Rattle.book_live.specs.declared.views.View.{View}
-use Rattle.book_live.specs.Views.{view, alone, deeds_of, first_alone, without_first}
-use Rattle.book_live.specs.Shown.{IsReached, place_of}
-use Rattle.book_live.specs.Callers.{BookId, PassState, IsNewPass, all_deeds, IsEachDrawnOnce, IsOutcome, helds, HoldsAll, IsWhole}
+use Rattle.book_live.specs.Views.{view, alone, opening, deeds_of, first_alone, without_first}
+use Rattle.book_live.specs.Shown.{IsInLimits, IsReached, Shows, place_of}
+use Rattle.book_live.specs.Steps.{opened, made}
+use Rattle.book_live.specs.Callers.{BookId, PassState, IsNewPass, all_deeds, IsEachDrawnOnce, IsOutcome, helds, ShowsEnd, HoldsAll, IsWhole}
 use Rattle.book_live.proofs.ReachLemmas.{BookLaw-reached, jobs-reached}
+use Rattle.book_live.proofs.SeatMoves.{Shows-opened, Shows-made}
 use Rattle.book_live.proofs.WordLemmas.{place_of-word_of}
 
 -- the seat of a pass of a book of these sizes
 pub seat-alone : {S : Type 0} (me : Me S View) (number : ℕ) (z : Sizes) → me ≡ (alone me.0.sizes number (deeds_of me.0), []) → me.0.sizes ≡ z → me.0 ≡ alone z number (deeds_of me.0)
 seat-alone me number z own sizes = ap (λ m. m.0) own ∙ ap (λ y. alone y number (deeds_of me.0)) sizes
-
-slice_get-push_cases : {A : Type 0} (xs : List A) (x y : A) (k : ℕ) → slice_get (xs ++ x ∷ []) k ≡ Some y → (slice_get xs k ≡ Some y) ⊎ ((k ≡ length xs) × (x ≡ y))
-slice_get-push_cases [] x y zero e = inr (refl, cc)
-slice_get-push_cases [] x y (suc k) e = cc
-slice_get-push_cases (z ∷ xs) x y zero e = inl e
-slice_get-push_cases (z ∷ xs) x y (suc k) e = elim (slice_get-push_cases xs x y k e) [ inl h ↦ inl h | inr h ↦ inr (omega (arith, h.0), h.1) ]
 
 -- ---- making the passes
 
@@ -30,10 +31,40 @@ abbrev pub AreFirstPasses : BookId → List PassState → Type 0
 AreFirstPasses b passes = (k : ℕ) (p : PassState) → slice_get passes k ≡ Some p → IsNewPass b k p
 
 pub AreFirstPasses-push : (b : BookId) (passes more : List PassState) (x : PassState) → more ≡ passes ++ x ∷ [] → AreFirstPasses b passes → IsNewPass b (length passes) x → AreFirstPasses b more
-AreFirstPasses-push b passes more x is each one k p e = elim (slice_get-push_cases passes x p k (ap (λ l. slice_get l k) (sym is) ∙ e)) [
+AreFirstPasses-push b passes more x is each one k p e = elim (slice_get-push_cases passes k x p (ap (λ l. slice_get l k) (sym is) ∙ e)) [
   | inl old ↦ each k p old
   | inr new ↦ subst (IsNewPass b k) new.1 (subst (λ n. IsNewPass b n x) (sym new.0) one)
 ]
+
+-- the start is shown, with these passes in seats of their own and the rest in the seat 0
+abbrev pub ShowsFirst : BookId → View → List PassState → Type 0
+ShowsFirst b rest passes =
+    (s : State (Unit {0}) View)
+    × Shows b.sizes (start b.sizes.jobs b.sizes.workers) s
+    × (get_elem? s.views 0 ≡ some rest)
+    × (length s.views ≡ length passes + 1)
+    × ((k : ℕ) (p : PassState) → slice_get passes k ≡ Some p → get_elem? s.views (k + 1) ≡ some (alone b.sizes p.number p.deeds))
+
+pub ShowsFirst-opened : (b : BookId) → IsInLimits b.sizes → ShowsFirst b (opening b.sizes) []
+ShowsFirst-opened b limits = (opened b.sizes, Shows-opened b.sizes limits, refl, refl, λ k p e. cc)
+
+pub ShowsFirst-push : (b : BookId) (rest : View) (passes more : List PassState) (x : PassState) → more ≡ passes ++ x ∷ [] → first_alone rest ≡ alone b.sizes x.number x.deeds → ShowsFirst b rest passes → ShowsFirst b (without_first rest) more
+ShowsFirst-push b rest passes more x is one h =
+    let s = h.0 in
+    let views = s.views in
+    let cut = set views 0 (without_first rest) in
+    let long : length cut ≡ length passes + 1 = length-set views 0 (without_first rest) ∙ h.3 in (
+      made s 0 rest,
+      Shows-made b.sizes (start b.sizes.jobs b.sizes.workers) s h.1 0 rest h.2,
+      at_longer cut (first_alone rest ∷ []) 0 (without_first rest) (set_here views 0 (without_first rest) (omega (arith, h.3))),
+      omega (arith, long, length-append cut (first_alone rest ∷ []), length-append passes (x ∷ []), ap length is),
+      λ k p e. elim (slice_get-push_cases passes k x p (ap (λ l. slice_get l k) (sym is) ∙ e)) [
+        | inl old ↦ at_longer cut (first_alone rest ∷ []) (k + 1) (alone b.sizes p.number p.deeds) (set_else views 0 (k + 1) (without_first rest) (λ z. absurd (omega (arith, z))) ∙ h.4 k p old)
+        | inr new ↦
+            let last : get_elem? (cut ++ first_alone rest ∷ []) (k + 1) ≡ some (alone b.sizes x.number x.deeds) = at_last cut (first_alone rest) (k + 1) (omega (arith, long, new.0)) ∙ ap some one in
+            subst (λ (y : PassState). get_elem? (cut ++ first_alone rest ∷ []) (k + 1) ≡ some (alone b.sizes y.number y.deeds)) new.1 last
+      ],
+    )
 
 -- the seat that is cut off stands for the first of the passes that are left
 pub first-seat : {S : Type 0} (new me : Me S View) (z : Sizes) (k n m : ℕ) → new ≡ (first_alone me.0, []) → me ≡ (view z (all_fresh k n), []) → n ≡ suc m → new ≡ (alone z k fresh, [])
@@ -49,14 +80,14 @@ other-seats new me z k n m is was e =
 
 -- the first pass and the others behind it
 pub first-and-others : (passes others : List PassState) (first : PassState) → 0 < length passes → first ≡ get_or passes 0 first → others ≡ drop 1 passes → passes ≡ first ∷ others
-first-and-others [] others first some read is = absurd (omega arith)
-first-and-others (p ∷ passes) others first some read is = λ i. sym read i ∷ sym is i
+first-and-others [] others first any read is = absurd (omega arith)
+first-and-others (p ∷ passes) others first any read is = λ i. sym read i ∷ sym is i
 
 -- the closing seat, which was that of the first pass and took in the others, stands for all passes
-pub closing-held : {S : Type 0} (me : Me S View) (number : ℕ) (passes others : List PassState) (first : PassState) (hs : List Held) → me ≡ (alone me.0.sizes number (deeds_of me.0), []) → number ≡ first.number → deeds_of me.0 ≡ first.deeds
-    → passes ≡ first ∷ others → hs ≡ me.0.held ++ helds others → hs ≡ helds passes
-closing-held me number passes others first hs own n d all is =
-    is ∙ ap (λ (m : Me _ View). m.0.held ++ helds others) own ∙ (λ i. held (n i) (d i) ∷ helds others) ∙ ap helds (sym all)
+pub closing-view : {S : Type 0} (me : Me S View) (number : ℕ) (z : Sizes) (passes others : List PassState) (first : PassState) (v : View) → me ≡ (alone me.0.sizes number (deeds_of me.0), []) → number ≡ first.number → deeds_of me.0 ≡ first.deeds
+    → me.0.sizes ≡ z → passes ≡ first ∷ others → v ≡ view me.0.sizes (me.0.held ++ helds others) → v ≡ view z (helds passes)
+closing-view me number z passes others first v own n d sizes all is =
+    is ∙ ap (λ (m : Me _ View). view me.0.sizes (m.0.held ++ helds others)) own ∙ (λ i. view (sizes i) (held (n i) (d i) ∷ helds others)) ∙ ap (λ ps. view z (helds ps)) (sym all)
 
 length-helds : (passes : List PassState) → length (helds passes) ≡ length passes
 length-helds [] = refl
@@ -70,20 +101,30 @@ IsCounted-helds : (n : ℕ) (passes : List PassState) → ((k : ℕ) (p : PassSt
 IsCounted-helds n [] each = tt
 IsCounted-helds n (p ∷ passes) each = (omega (arith, each 0 p refl), IsCounted-helds (suc n) passes (λ k q e. omega (arith, each (suc k) q e)))
 
-pub HoldsAll-helds : (z : Sizes) (passes : List PassState) (v : View) → v.held ≡ helds passes → length passes ≡ z.workers → ((k : ℕ) (p : PassState) → slice_get passes k ≡ Some p → p.number ≡ k) → HoldsAll z v
+pub HoldsAll-helds : (z : Sizes) (passes : List PassState) (v : View) → v ≡ view z (helds passes) → length passes ≡ z.workers → ((k : ℕ) (p : PassState) → slice_get passes k ≡ Some p → p.number ≡ k) → HoldsAll z v
 HoldsAll-helds z passes v is count each =
-    (ap length is ∙ length-helds passes ∙ count, subst (IsCounted 0) (sym is) (IsCounted-helds 0 passes (λ k p e. omega (arith, each k p e))))
+    (ap (λ (u : View). length u.held) is ∙ length-helds passes ∙ count, subst (λ (u : View). IsCounted 0 u.held) (sym is) (IsCounted-helds 0 passes (λ k p e. omega (arith, each k p e))))
 
-pub IsOutcome-whole : (b : BookId) (passes : List PassState) (v : View) (word : ℕ) → v.held ≡ helds passes → IsWhole b.sizes v word → IsOutcome b passes (place_of word)
-IsOutcome-whole b passes v word is whole =
-    let c = whole.0 in
-    let jobs = jobs-reached b.sizes c whole.1 in
-    let least : c.least ≡ place_of word = sym (place_of-word_of c (BookLaw-reached b.sizes c whole.1)) ∙ ap place_of whole.3 in
-    let done : c.passes ≡ all_deeds passes = whole.2 ∙ ap (map (λ (h : Held). h.deeds)) is ∙ map-helds passes in
-    let same : c ≡ record { jobs = b.sizes.jobs; next = c.next; least = place_of word; passes = all_deeds passes } = λ i. record { jobs = jobs i; next = c.next; least = least i; passes = done i } in
-    (c.next, subst (IsReached b.sizes) same whole.1)
+pub ShowsEnd-whole : (b : BookId) (passes : List PassState) (v : View) (word : ℕ) → v ≡ view b.sizes (helds passes) → IsWhole b.sizes v word → ShowsEnd b passes (place_of word)
+ShowsEnd-whole b passes v word is whole = record {
+  state = whole.state;
+  book = whole.book;
+  reached = whole.reached;
+  shows = whole.shows;
+  seat = whole.seat;
+  own = whole.own ∙ ap some is;
+  done = whole.done ∙ ap (λ (u : View). map (λ (h : Held). h.deeds) u.held) is ∙ map-helds passes;
+  least = sym (place_of-word_of whole.book (BookLaw-reached b.sizes whole.book whole.reached)) ∙ ap place_of whole.least;
+}
 
-slice_get-all_deeds : (passes : List PassState) (k : ℕ) (p : PassState) → slice_get passes k ≡ Some p → slice_get (all_deeds passes) k ≡ Some p.deeds
+pub IsOutcome-end : (b : BookId) (passes : List PassState) (least : Option ℕ) → ShowsEnd b passes least → IsOutcome b passes least
+IsOutcome-end b passes least end =
+    let c = end.book in
+    let jobs = jobs-reached b.sizes c end.reached in
+    let same : c ≡ record { jobs = b.sizes.jobs; next = c.next; least = least; passes = all_deeds passes } = λ i. record { jobs = jobs i; next = c.next; least = end.least i; passes = end.done i } in
+    (c.next, subst (IsReached b.sizes) same end.reached)
+
+pub slice_get-all_deeds : (passes : List PassState) (k : ℕ) (p : PassState) → slice_get passes k ≡ Some p → slice_get (all_deeds passes) k ≡ Some p.deeds
 slice_get-all_deeds [] k p e = cc
 slice_get-all_deeds (q ∷ passes) zero p e = let is : q ≡ p = cc in ap (λ (x : PassState). Some x.deeds) is
 slice_get-all_deeds (q ∷ passes) (suc k) p e = slice_get-all_deeds passes k p e

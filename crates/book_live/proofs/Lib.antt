@@ -1,6 +1,6 @@
-pub mod ViewLemmas
-pub mod ReachLemmas
-pub mod WordLemmas
-pub mod StepMoves
-pub mod SeatMoves
+mod ViewLemmas
+mod ReachLemmas
+mod WordLemmas
+mod StepMoves
+mod SeatMoves
 pub mod CallerLemmas

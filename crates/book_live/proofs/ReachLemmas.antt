@@ -1,14 +1,12 @@
 -- What holds of each book that the machine reaches.
-use Rattle.std.proofs.Common.{◌≡◌, ℕ, ◌+◌, ◌≤◌, [], ◌∷◌, ◌++◌, length, Some, Ok, refl, sym, ◌∙◌, ap, subst, arith, slice_get}
-use Rattle.std.proofs.lemmas.List.Sums.{count_by-le-length}
+use Rattle.std.proofs.Common.{◌≡◌, ◌+◌, ◌≤◌, [], ◌∷◌, ◌++◌, length, Ok, refl, sym, ◌∙◌, ap, subst, arith}
 use Rattle.book_core.specs.declared.events.Event.{Event}
 use Rattle.book_core.specs.declared.events.Answer.{Answer}
-use Rattle.book_core.specs.Passes.{Deeds}
 use Rattle.book_core.specs.Books.{Book, start}
 use Rattle.book_core.specs.Steps.{step}
 use Rattle.book_core.specs.Runs.{Run}
 use Rattle.book_core.specs.Laws.{BookLaw}
-use Rattle.book_core.proofs.ListLemmas.{le-sum_by}
+use Rattle.book_core.proofs.LawLemmas.{BookLaw-next_le}
 use Rattle.book_core.proofs.RunLemmas.{BookLaw-after, after-snoc, sizes-after}
 use Rattle.book_live.specs.declared.views.Sizes.{Sizes}
 use Rattle.book_live.specs.Shown.{IsReached}
@@ -33,10 +31,4 @@ module _ (z : Sizes) (b : Book) (r : IsReached z b) where
 
   -- each claim drew a job or ended a pass, so they are not many
   pub next-le : b.next ≤ z.jobs + z.workers
-  next-le =
-      let law = BookLaw-reached in
-      omega (arith, law.drawn, law.total, count_by-le-length (λ (d : Deeds). d.ended) b.passes, jobs-reached, passes-reached)
-
-  -- a pass has drawn no more jobs than there were claims
-  pub length-drawn-le : (w : ℕ) (p : Deeds) → slice_get b.passes w ≡ Some p → length p.drawn ≤ b.next
-  length-drawn-le w p at = omega (arith, le-sum_by (λ (d : Deeds). length d.drawn) b.passes w p at, BookLaw-reached.drawn)
+  next-le = omega (arith, BookLaw-next_le b BookLaw-reached, jobs-reached, passes-reached)

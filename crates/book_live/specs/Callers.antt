@@ -1,13 +1,17 @@
 -- A book and its passes, as callers see them.
-use Rattle.std.specs.Prelude.{◌≡◌, ℕ, List, length, map, slice_get, Option, Some}
+use Rattle.std.specs.Prelude.{◌≡◌, ℕ, ◌+◌, List, length, map, slice_get, Option, Some}
+use mathlib.Core.Option.{some}
+use lib.ListN.{get_elem?}
 use Rattle.atomic_table.specs.Seated.{TableId}
+use Rattle.atomic_table.specs.Table.{State}
 use Rattle.book_core.specs.Passes.{Deeds, fresh}
-use Rattle.book_core.specs.Books.{Book}
+use Rattle.book_core.specs.Books.{Book, start}
 use Rattle.book_core.specs.Jobs.{times_drawn, once_below}
 use Rattle.book_core.specs.Shares.{Held, held, IsCounted}
 use Rattle.book_live.specs.declared.views.Sizes.{Sizes}
 use Rattle.book_live.specs.declared.views.View.{View}
-use Rattle.book_live.specs.Shown.{word_of, IsReached}
+use Rattle.book_live.specs.Views.{view, alone}
+use Rattle.book_live.specs.Shown.{word_of, IsReached, Shows}
 
 -- which book it is, and how many jobs and passes it has
 pub record BookId : Type 0 where
@@ -40,15 +44,41 @@ IsEachDrawnOnce b passes = (job : ℕ) → times_drawn job (all_deeds passes) �
 abbrev pub IsOutcome : BookId → List PassState → Option ℕ → Type 0
 IsOutcome b passes least = (next : ℕ) × IsReached b.sizes (record { jobs = b.sizes.jobs; next = next; least = least; passes = all_deeds passes })
 
--- ---- what the closing seat stands for
+-- The words and the views of a new book show the start of the machine, and each of these passes has a seat of its own.
+-- The seat 0, from which theirs were cut, is left with no pass.
+pub record ShowsStart (b : BookId) (passes : List PassState) : Type 0 where
+  pub state : State (Unit {0}) View
+  pub shows : Shows b.sizes (start b.sizes.jobs b.sizes.workers) state
+  pub own : (k : ℕ) (p : PassState) → slice_get passes k ≡ Some p → get_elem? state.views (k + 1) ≡ some (alone b.sizes p.number p.deeds)
 
 abbrev pub helds : List PassState → List Held
 helds passes = map (λ p. held p.number p.deeds) passes
+
+-- The words and the views of a book at its end show what some list of events leads the machine to:
+-- one seat has all of these passes, with what they have done, and the word has this least place.
+pub record ShowsEnd (b : BookId) (passes : List PassState) (place : Option ℕ) : Type 0 where
+  pub state : State (Unit {0}) View
+  pub book : Book
+  pub reached : IsReached b.sizes book
+  pub shows : Shows b.sizes book state
+  pub seat : ℕ
+  pub own : get_elem? state.views seat ≡ some (view b.sizes (helds passes))
+  pub done : book.passes ≡ all_deeds passes
+  pub least : book.least ≡ place
+
+-- ---- what the closing seat stands for
 
 -- it has all passes, in the order of their numbers
 abbrev pub HoldsAll : Sizes → View → Type 0
 HoldsAll z v = (length v.held ≡ z.workers) × IsCounted 0 v.held
 
--- the machine can reach what it shows of all passes, with the least place of this word
-abbrev pub IsWhole : Sizes → View → ℕ → Type 0
-IsWhole z v word = (b : Book) × IsReached z b × (b.passes ≡ map (λ (h : Held). h.deeds) v.held) × (word_of b.least ≡ word)
+-- the machine can reach what the words and the views show, with all passes in this seat, and the least place of this word
+pub record IsWhole (z : Sizes) (v : View) (word : ℕ) : Type 0 where
+  pub state : State (Unit {0}) View
+  pub book : Book
+  pub reached : IsReached z book
+  pub shows : Shows z book state
+  pub seat : ℕ
+  pub own : get_elem? state.views seat ≡ some v
+  pub done : book.passes ≡ map (λ (h : Held). h.deeds) v.held
+  pub least : word_of book.least ≡ word

@@ -1,16 +1,14 @@
 -- The rule of a live book: its two words and the views of its seats show a state of the book as a machine.
-use Rattle.std.specs.Prelude.{◌≡◌, ℕ, ◌≤◌, ◌^◌, if◌then◌else◌, nat_lt, List, length, slice_index, slice_set, Option, Some, None, Ok}
+use Rattle.std.specs.Prelude.{◌≡◌, ℕ, ◌≤◌, ◌^◌, if◌then◌else◌, nat_lt, List, length, slice_index, Option, Some, None}
 use Rattle.atomic_table.specs.Table.{State}
 use Rattle.book_core.specs.declared.events.Event.{Event}
 use Rattle.book_core.specs.declared.events.Answer.{Answer}
-use Rattle.book_core.specs.Passes.{Deeds}
 use Rattle.book_core.specs.Books.{Book}
-use Rattle.book_core.specs.Steps.{step}
 use Rattle.book_core.specs.Runs.{going, after}
 use Rattle.book_core.specs.Shares.{IsDealt}
 use Rattle.book_live.specs.declared.views.Sizes.{Sizes}
 use Rattle.book_live.specs.declared.views.View.{View}
-use Rattle.book_live.specs.Views.{shares, alone}
+use Rattle.book_live.specs.Views.{shares}
 
 -- some list of events leads the machine from its start to this book, without a fault
 abbrev pub IsReached : Sizes → Book → Type 0
@@ -38,11 +36,3 @@ pub record Shows {S : Type 0} (z : Sizes) (b : Book) (s : State S View) : Type 0
 
 abbrev pub Shown : {S : Type 0} → Sizes → State S View → Type 0
 Shown z s = (b : Book) × IsReached z b × Shows z b s
-
--- one word becomes n, and the view of one seat v
-abbrev pub moved : {S : Type 0} → State S View → ℕ → ℕ → ℕ → View → State S View
-moved s word n seat v = record { words = slice_set s.words word n; homes = s.homes; views = slice_set s.views seat v }
-
--- the event is answered, and what it leads to is shown once this word is n and the seat's view has followed
-abbrev pub ShowsEvent : {S : Type 0} → Sizes → Book → Event → State S View → ℕ → ℕ → ℕ → ℕ → Type 0
-ShowsEvent z b e s word n seat w = (c : Book) × (a : Answer) × (p : Deeds) × (step b e ≡ Ok (c, a)) × Shows z c (moved s word n seat (alone z w p))

@@ -27,6 +27,14 @@ first_deeds (h ∷ hs) = h.deeds
 abbrev pub deeds_of : View → Deeds
 deeds_of v = first_deeds v.held
 
+abbrev pub first_number : List Held → ℕ
+first_number [] = 0
+first_number (h ∷ hs) = h.number
+
+-- the number of the pass of a seat
+abbrev pub number_of : View → ℕ
+number_of v = first_number v.held
+
 abbrev pub first_changed : (Deeds → Deeds) → List Held → List Held
 first_changed f [] = []
 first_changed f (h ∷ hs) = held h.number (f h.deeds) ∷ hs

@@ -1,12 +1,14 @@
 //! The book that threads share.
 
 ghost use Rattle.std.specs.Prelude.{◌≡◌, ◌<◌, ◌≤◌, ◌^◌, ℕ, ◌++◌, [], false, true, length, Some, IfOk, IfSome, IfNone, All};
+ghost use Rattle.book_core.specs.declared.events.Event.{Event};
+ghost use Rattle.book_core.specs.declared.events.Answer.{Answer};
 ghost use Rattle.book_core.specs.Passes.{Deeds, fresh, with_drawn, with_end, with_report, with_seen};
 ghost use Rattle.book_core.specs.Places.{IsLeast, IsAtMost};
 ghost use Rattle.book_live.specs.Views.{view, alone, opening, changed, without_first, first_alone, together};
 ghost use Rattle.book_live.specs.Shown.{place_of};
-ghost use Rattle.book_live.specs.Steps.{Claimed, Looked};
-ghost use Rattle.book_live.specs.Callers.{ArePasses, all_deeds, IsEachDrawnOnce, IsOutcome, helds, HoldsAll, IsWhole};
+ghost use Rattle.book_live.specs.Steps.{IsOneStep, claim_answer, Claimed, Placed, Looked};
+ghost use Rattle.book_live.specs.Callers.{ArePasses, all_deeds, IsEachDrawnOnce, IsOutcome, ShowsStart, helds, ShowsEnd, HoldsAll, IsWhole};
 
 use crate::passes::Pass;
 use crate::rules::{Chair, Claims, LEAST, Looks, NEXT, NONE, Reports, Rule, Shares};
@@ -47,6 +49,7 @@ impl Book {
         requires workers { (0 < workers) × (workers ≤ 64) }
         ensures sizes { IfOk result (λ r. (r.0.sizes.jobs ≡ jobs) × (r.0.sizes.workers ≡ workers)) }
         ensures passes { IfOk result (λ r. ArePasses r.0 (λ p. p.deeds ≡ fresh) r.1.items) }
+        ensures shown { IfOk result (λ r. ShowsStart r.0 r.1.items) }
     {
         let mut passes = Vec::with_capacity(alloc, usize::from(workers))?;
         let (book, mut seat) = Book::open(alloc, jobs, workers)?;
@@ -64,6 +67,7 @@ impl Book {
     pub fn claim(&self, pass: &mut Pass) -> Option<u64>
         requires book { pass.old.book ≡ self.now }
         requires open { pass.old.deeds.ended ≡ false }
+        ensures event { IsOneStep self.now.sizes (Event.Claim pass.old.number) pass.old.deeds (claim_answer result) pass.new.deeds }
         ensures drawn { IfSome result (λ job. pass.new ≡ record pass.old { deeds = with_drawn pass.old.deeds job }) }
         ensures ended { IfNone result (pass.new ≡ record pass.old { deeds = with_end pass.old.deeds }) }
         ensures job { IfSome result (λ job. job < self.now.sizes.jobs) }
@@ -83,7 +87,8 @@ impl Book {
     pub fn report(&self, pass: &mut Pass, place: u64)
         requires book { pass.old.book ≡ self.now }
         requires place { place < 2 ^ 32 }
-        ensures { pass.new ≡ record pass.old { deeds = with_report pass.old.deeds place } }
+        ensures event { IsOneStep self.now.sizes (Event.Report pass.old.number place) pass.old.deeds Answer.Reported pass.new.deeds }
+        ensures reported { pass.new ≡ record pass.old { deeds = with_report pass.old.deeds place } }
     {
         self.report_at(&mut pass.seat, place);
     }
@@ -91,6 +96,7 @@ impl Book {
     /// Shows the least place that any pass has reported so far, or none, and records it as seen.
     pub fn look(&self, pass: &mut Pass) -> Option<u64>
         requires book { pass.old.book ≡ self.now }
+        ensures event { IsOneStep self.now.sizes (Event.Look pass.old.number) pass.old.deeds (Answer.Least result) pass.new.deeds }
         ensures seen { pass.new ≡ record pass.old { deeds = with_seen pass.old.deeds result } }
         ensures place { IfSome result (λ place. place < 2 ^ 32) }
         ensures own { All (λ place. IsAtMost result (Some place)) pass.old.deeds.reported }
@@ -107,6 +113,7 @@ impl Book {
         ensures least { IsLeast result (all_deeds passes.items) }
         ensures seen { All (λ p. IsAtMost result p.deeds.seen) passes.items }
         ensures outcome { IsOutcome self passes.items result }
+        ensures shown { ShowsEnd self passes.items result }
     {
         prove_eq!(passes.len(), usize::from(self.workers));
         let mut seat = passes.remove(0).seat;
@@ -152,7 +159,7 @@ impl Book {
         requires alone { (number : ℕ) × (p : Deeds) × (seat.old.me.0 ≡ alone self.now.sizes number p) }
         requires place { place < 2 ^ 32 }
         ensures table { (seat.new.table_id ≡ seat.old.table_id) × (seat.new.me.1 ≡ seat.old.me.1) }
-        ensures report { seat.new.me.0 ≡ changed seat.old.me.0 (λ p. with_report p place) }
+        ensures report { Placed seat.old.me.0 place seat.new.me.0 }
     {
         self.table.shared.fetch_min::<Reports>(seat, LEAST, place);
     }

@@ -42,10 +42,9 @@ pub struct Reports;
 
 impl Play<(), View> for Reports {
     ghost use Rattle.std.specs.Prelude.{◌≡◌};
-    ghost use Rattle.book_core.specs.Passes.{with_report};
-    ghost use Rattle.book_live.specs.Views.{changed};
+    ghost use Rattle.book_live.specs.Steps.{Placed};
 
-    ghost then = { λ step before _ after. (after.0 ≡ changed before.0 (λ p. with_report p step.first)) × (after.1 ≡ before.1) };
+    ghost then = { λ step before _ after. Placed before.0 step.first after.0 × (after.1 ≡ before.1) };
 }
 
 /// A look: a load.

@@ -1,2 +1,2 @@
-pub mod WorkLemmas
-pub mod RunLemmas
+mod WorkLemmas
+mod RunLemmas

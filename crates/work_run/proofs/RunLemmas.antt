@@ -9,6 +9,7 @@ use Rattle.book_core.specs.Passes.{Deeds, fresh}
 use Rattle.book_core.specs.Jobs.{times, times_drawn, once_below}
 use Rattle.book_core.specs.Places.{IsReported, IsLeast}
 use Rattle.book_live.specs.Callers.{BookId, PassState, ArePasses, all_deeds, IsEachDrawnOnce}
+use Rattle.book_live.proofs.CallerLemmas.{slice_get-all_deeds}
 use Rattle.work_run.specs.Faults.{IsLeastBad, IsFault}
 use Rattle.work_run.specs.Work.{IsWorked, IsDone, AreDone}
 
@@ -71,11 +72,6 @@ job-of begins (suc n) from place lt = elim (cases_lt place (begins n)) [
   | inl below ↦ let r = job-of begins n from place below in (r.0, omega (arith, r.1), r.2, r.3)
   | inr here ↦ (n, omega arith, here, subst (λ m. place < begins m) (let e : suc n ≡ n + 1 = omega arith in e) lt)
 ]
-
-slice_get-all_deeds : (passes : List PassState) (k : ℕ) (p : PassState) → slice_get passes k ≡ Some p → slice_get (all_deeds passes) k ≡ Some p.deeds
-slice_get-all_deeds [] k p e = cc
-slice_get-all_deeds (q ∷ passes) zero p e = let is : q ≡ p = cc in ap (λ (x : PassState). Some x.deeds) is
-slice_get-all_deeds (q ∷ passes) (suc k) p e = slice_get-all_deeds passes k p e
 
 deeds-at : (passes : List PassState) (k : ℕ) (d : Deeds) → slice_get (all_deeds passes) k ≡ Some d → (p : PassState) × (slice_get passes k ≡ Some p) × (p.deeds ≡ d)
 deeds-at [] k d e = cc

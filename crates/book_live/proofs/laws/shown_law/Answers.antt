@@ -1,11 +1,13 @@
 use Rattle.book_live.proofs.ReachLemmas.{BookLaw-reached}
-use Rattle.book_live.proofs.StepMoves.{ShowsEvent-claim, ShowsEvent-report, ShowsEvent-look}
+use Rattle.book_live.proofs.StepMoves.{ShowsEvent-taken}
+use Rattle.book_live.proofs.SeatMoves.{Shows-opened, Shows-made, Shows-joined}
 use Rattle.book_live.proofs.laws.shown_law.Goals as goal
 
 pub returns : goal.returns
 returns c = record {
   law = λ z s h. (h.0, h.1, BookLaw-reached z h.0 h.1, h.2);
-  claim = λ z b s reached shows seat w p at going. ShowsEvent-claim z b s reached shows seat w p at going;
-  report = λ z b s reached shows seat w p at place small. ShowsEvent-report z b s reached shows seat w p at place small;
-  look = λ z b s reached shows seat w p at. ShowsEvent-look z b s reached shows seat w p at;
+  opening = λ z limits. Shows-opened z limits;
+  event = λ z b s reached shows seat e p at may. ShowsEvent-taken z b s reached shows seat p e at may;
+  make = λ z b s shows seat v at. Shows-made z b s shows seat v at;
+  join = λ z b s shows seat other v u at apart there. Shows-joined z b s shows seat v at other u apart there;
 }

@@ -25,10 +25,10 @@ loop-number-preserved-in-Some-run g c =
     let drawn : c.in-Some.number < jobs = omega (arith, c.in-Some.ensures.job, c.requires.jobs) in
     let below : begins (c.in-Some.number + 1) ≤ begins jobs = below-end begins jobs (g.met.J.Job.rises c.args.job.now) (c.in-Some.number + 1) (omega arith) in
     let is : c.report.new.pass.deeds ≡ with_report (with_drawn c.loop-number.pass.deeds c.in-Some.number) c.in-Some-run.place =
-    ap (λ (p : PassState). p.deeds) c.report.ensures ∙ ap (λ (p : PassState). with_report p.deeds c.in-Some-run.place) drew in
+    ap (λ (p : PassState). p.deeds) c.report.ensures.reported ∙ ap (λ (p : PassState). with_report p.deeds c.in-Some-run.place) drew in
     record {
-      book = ap (λ (p : PassState). p.book) c.report.ensures ∙ ap (λ (p : PassState). p.book) drew ∙ i.book;
-      number = ap (λ (p : PassState). p.number) c.report.ensures ∙ ap (λ (p : PassState). p.number) drew ∙ i.number;
+      book = ap (λ (p : PassState). p.book) c.report.ensures.reported ∙ ap (λ (p : PassState). p.book) drew ∙ i.book;
+      number = ap (λ (p : PassState). p.number) c.report.ensures.reported ∙ ap (λ (p : PassState). p.number) drew ∙ i.number;
       going = ap (λ (d : Deeds). d.ended) is ∙ i.going;
       worked = subst (IsWorked bad begins jobs) (sym is) (IsWorked-bad bad begins jobs c.loop-number.pass.deeds i.worked c.in-Some.number c.in-Some-run.place c.in-Some-run.ensures below);
     }

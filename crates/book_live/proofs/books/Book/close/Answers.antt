@@ -1,6 +1,6 @@
-use Rattle.std.proofs.Common.{◌≡◌, ◌<◌, ◌∷◌, Some, sym, ap, subst, arith, slice_get, length}
-use Rattle.book_live.specs.Callers.{IsOutcome}
-use Rattle.book_live.proofs.CallerLemmas.{first-and-others, closing-held, HoldsAll-helds, IsOutcome-whole, IsLeast-outcome, IsAtMost-outcome, IsEachDrawnOnce-outcome}
+use Rattle.std.proofs.Common.{◌≡◌, ◌<◌, ◌∷◌, ◌∙◌, Some, sym, ap, subst, arith, slice_get, length}
+use Rattle.book_live.specs.Callers.{ShowsEnd}
+use Rattle.book_live.proofs.CallerLemmas.{first-and-others, closing-view, HoldsAll-helds, ShowsEnd-whole, IsOutcome-end, IsLeast-outcome, IsAtMost-outcome, IsEachDrawnOnce-outcome}
 use Rattle.book_live.proofs.books.Book.close.Goals as goal
 
 pub finish-least-requires-clause-all : goal.finish-least-requires-clause-all
@@ -10,8 +10,10 @@ finish-least-requires-clause-all c =
     let others = c.remove.new.self.items in
     let some : 0 < length passes = omega (arith, c.requires.count, ap (λ b. b.sizes.workers) c.self.view_is, c.self.invariant) in
     let all : passes ≡ first ∷ others = first-and-others passes others first some c.remove.ensures.value c.remove.ensures.items in
-    let held = closing-held c.seat.inside.seat.me c.seat.inside.number passes others first c.join_all.new.seat.me.0.held c.seat.invariant.0 (ap (λ p. p.number) c.seat.view_is) (ap (λ p. p.deeds) c.seat.view_is) all (ap (λ m. m.0.held) c.join_all.ensures.all) in
-    HoldsAll-helds c.args.self.sizes passes c.join_all.new.seat.me.0 held c.requires.count (λ k p e. (c.requires.each k p e).1)
+    let here : slice_get passes 0 ≡ Some first = ap (λ l. slice_get l 0) all in
+    let sizes = ap (λ p. p.book.sizes) c.seat.view_is ∙ ap (λ b. b.sizes) (c.requires.each 0 first here).0 in
+    let whole = closing-view c.seat.inside.seat.me c.seat.inside.number c.args.self.sizes passes others first c.join_all.new.seat.me.0 c.seat.invariant.0 (ap (λ p. p.number) c.seat.view_is) (ap (λ p. p.deeds) c.seat.view_is) sizes all (ap (λ m. m.0) c.join_all.ensures.all) in
+    HoldsAll-helds c.args.self.sizes passes c.join_all.new.seat.me.0 whole c.requires.count (λ k p e. (c.requires.each k p e).1)
 
 pub returns : goal.returns
 returns c =
@@ -20,13 +22,15 @@ returns c =
     let others = c.remove.new.self.items in
     let some : 0 < length passes = omega (arith, c.requires.count, ap (λ b. b.sizes.workers) c.self.view_is, c.self.invariant) in
     let all : passes ≡ first ∷ others = first-and-others passes others first some c.remove.ensures.value c.remove.ensures.items in
-    let held = closing-held c.seat.inside.seat.me c.seat.inside.number passes others first c.join_all.new.seat.me.0.held c.seat.invariant.0 (ap (λ p. p.number) c.seat.view_is) (ap (λ p. p.deeds) c.seat.view_is) all (ap (λ m. m.0.held) c.join_all.ensures.all) in
-    let whole = IsOutcome-whole c.args.self passes c.join_all.new.seat.me.0 c.finish-least.result held c.finish-least.ensures in
-    let out = subst (IsOutcome c.args.self passes) (sym c.place_in.ensures) whole in
     let here : slice_get passes 0 ≡ Some first = ap (λ l. slice_get l 0) all in
+    let sizes = ap (λ p. p.book.sizes) c.seat.view_is ∙ ap (λ b. b.sizes) (c.requires.each 0 first here).0 in
+    let whole = closing-view c.seat.inside.seat.me c.seat.inside.number c.args.self.sizes passes others first c.join_all.new.seat.me.0 c.seat.invariant.0 (ap (λ p. p.number) c.seat.view_is) (ap (λ p. p.deeds) c.seat.view_is) sizes all (ap (λ m. m.0) c.join_all.ensures.all) in
+    let end = subst (ShowsEnd c.args.self passes) (sym c.place_in.ensures) (ShowsEnd-whole c.args.self passes c.join_all.new.seat.me.0 c.finish-least.result whole c.finish-least.ensures) in
+    let out = IsOutcome-end c.args.self passes c.place_in.result end in
     record {
       drawn = IsEachDrawnOnce-outcome c.args.self passes c.place_in.result out 0 first here (c.requires.each 0 first here).2;
       least = IsLeast-outcome c.args.self passes c.place_in.result out;
       seen = IsAtMost-outcome c.args.self passes c.place_in.result out;
       outcome = out;
+      shown = end;
     }

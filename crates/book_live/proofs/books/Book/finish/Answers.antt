@@ -1,6 +1,7 @@
 use Rattle.std.proofs.Common.{◌≡◌, ◌∙◌, ap, subst, slice_index}
 use Rattle.atomic_table.specs.Table.{Seen}
 use Rattle.book_live.specs.Shown.{Shown}
+use Rattle.book_live.specs.Callers.{IsWhole}
 use Rattle.book_live.proofs.SeatMoves.{IsWhole-seen, slice_index-at}
 use Rattle.book_live.proofs.books.Book.finish.Goals as goal
 
@@ -12,4 +13,4 @@ returns c =
     let seen = subst (λ z. Seen (Shown z) c.args.seat.id c.args.seat.me.0 s) key last.1 in
     let told = IsWhole-seen c.args.self.sizes c.args.seat.id c.args.seat.me.0 s c.requires.all seen in
     let word : slice_index s.words 1 ≡ c.word-least.result = ap (λ ws. slice_index ws 1) last.2 ∙ slice_index-at _ 1 c.word-least.result c.word-least.ensures in
-    (told.0, told.1, told.2, told.3 ∙ word)
+    subst (IsWhole c.args.self.sizes c.args.seat.me.0) word told

@@ -1,7 +1,7 @@
 use Rattle.std.proofs.Common.{◌≡◌, ◌-◌, ◌≤◌, [], length, vec_capacity}
 use Rattle.book_core.specs.Shares.{all_fresh}
 use Rattle.book_live.specs.Views.{view}
-use Rattle.book_live.proofs.CallerLemmas.{AreFirstPasses}
+use Rattle.book_live.proofs.CallerLemmas.{AreFirstPasses, ShowsFirst}
 use Rattle.book_live.proofs.books.Book.new.Given as goal
 
 abbrev pub invariant-loop-number : goal.invariant-loop-number
@@ -11,4 +11,5 @@ invariant-loop-number l = record {
   table : l.seat.table_id ≡ l.book.table;
   rest : l.seat.me ≡ (view l.book.sizes (all_fresh l.number (l.workers - l.number)), []);
   dealt : AreFirstPasses l.book l.passes.items;
+  shown : ShowsFirst l.book l.seat.me.0 l.passes.items;
 }
