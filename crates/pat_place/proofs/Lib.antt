@@ -1,18 +1,16 @@
-pub mod SideLemmas
+mod BoardFacts
+pub mod BoardOf
+pub mod CountLemmas
+pub mod JoinLemmas
 pub mod ListLemmas
 pub mod MaskLemmas
+mod MaskOfLemmas
 pub mod PatternLemmas
-pub mod RankLemmas
-pub mod BoardFacts
 pub mod PlacementLemmas
-pub mod RankSteps
-pub mod JoinLemmas
-pub mod SlotLemmas
-pub mod WidthLemmas
+pub mod RankLemmas
+mod RankSteps
 pub mod SlideLemmas
-pub mod BoardOf
-pub mod BitLemmas
-pub mod GrownLemmas
-pub mod RegionLemmas
-pub mod SlotSteps
-pub mod CountLemmas
+pub mod SlotLemmas
+mod SlotSteps
+pub mod WidthLemmas
+pub use Rattle.puz_board.proofs.BitLemmas

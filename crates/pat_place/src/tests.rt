@@ -171,6 +171,26 @@ fn ranks_are_places_in_lexicographic_order(rt: HostRuntime) {
 }
 
 #[test]
+fn ranks_of_eight_tiles_of_side_four(rt: HostRuntime) {
+    let pattern = pattern_of(4, 510).expect(&rt, "a pattern");
+    let lists = [
+        (0, [0, 1, 2, 3, 4, 5, 6, 7]),
+        (34_761_970, [1, 2, 3, 4, 5, 6, 7, 8]),
+        (164_267_492, [5, 0, 15, 10, 3, 12, 6, 9]),
+        (518_918_399, [15, 14, 13, 12, 11, 10, 9, 8]),
+    ];
+    for (r, cells) in lists {
+        let mut placement = of_rank(&rt, &pattern, r);
+        assert_eq!(rt; placement.cells().as_slice(), cells.as_slice());
+        assert_eq!(rt; rank(&placement), r);
+        let went_on = next(&mut placement);
+        assert_eq!(rt; went_on, r < 518_918_399);
+        assert_eq!(rt; rank(&placement), if went_on { r + 1 } else { r });
+    }
+    assert_eq!(rt; rank(&Placement::goal(&pattern)), 34_761_970);
+}
+
+#[test]
 fn next_goes_on_and_stays_at_the_last(rt: HostRuntime) {
     let pattern = pattern_of(3, 14).expect(&rt, "a pattern");
     let mut last = on_board(&rt, &pattern, &[0, 4, 5, 6, 7, 8, 3, 2, 1]);
@@ -245,6 +265,28 @@ fn regions_are_masks_by_least_cell(rt: HostRuntime) {
         [1, 4, 16, 64, 256].as_slice()
     );
     assert_eq!(rt; four.width(), 5);
+}
+
+#[test]
+fn regions_of_the_larger_sides(rt: HostRuntime) {
+    let placements: [(u8, u32, u64, &[u8], &[u32]); 3] = [
+        (4, 6, 18, &[1, 4], &[1, 65_516]),
+        (
+            4,
+            510,
+            2677481,
+            &[0, 2, 5, 7, 8, 10, 13, 15],
+            &[2, 8, 16, 64, 512, 2_048, 4_096, 16_384],
+        ),
+        (5, 30, 14286, &[1, 5, 7, 11], &[1, 33_552_156, 64]),
+    ];
+    for (n, mask, r, cells, want) in placements {
+        let pattern = pattern_of(n, mask).expect(&rt, "a pattern");
+        let placement = of_rank(&rt, &pattern, r);
+        assert_eq!(rt; placement.cells().as_slice(), cells);
+        assert_eq!(rt; regions(&placement).as_slice(), want);
+        check_regions(&rt, &placement);
+    }
 }
 
 #[test]

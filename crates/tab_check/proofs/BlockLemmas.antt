@@ -9,7 +9,7 @@ use Rattle.pat_place.specs.Ranks.{IsRank, placements}
 use Rattle.pat_place.proofs.ListLemmas.{Some-one}
 use Rattle.pat_place.proofs.PatternLemmas.{few_tiles}
 use Rattle.pat_place.proofs.RankLemmas.{IsRank-below, IsRank-one, count_of_placements, falling_fits}
-use Rattle.pat_place.proofs.SideLemmas.{few_cells}
+use Rattle.puz_board.proofs.CellLemmas.{few_cells}
 use Rattle.tab_file.specs.Tables.{Table, entry_at, placement_count, slot_count}
 use Rattle.tab_check.specs.BadEntries.{IsBad, KeepsRule}
 use Rattle.tab_check.specs.Blocks.{BlockKeepsRule, IsFirstBadSlot, IsLeastBadIn, SlotsKeepRule, first_of_block}

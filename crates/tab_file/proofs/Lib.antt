@@ -1,4 +1,4 @@
-pub mod TableLemmas
 pub mod FaultLemmas
 pub mod FileLemmas
-pub mod HeaderLemmas
+mod HeaderLemmas
+mod TableLemmas

@@ -94,6 +94,21 @@ fn entries_stand_rank_by_rank_and_slot_by_slot(rt: HostRuntime) {
 }
 
 #[test]
+fn a_table_of_side_four_is_viewed(rt: HostRuntime) {
+    let mut file = [0; 52];
+    file[..20].copy_from_slice(b"PDBT\x01\x04\x01\0\0\0\x80\0\0\0\0\0\0\0\0\x20");
+    for i in 0..32u8 {
+        file[20 + i as usize] = i;
+    }
+    let table = view(&file).ok().expect(&rt, "a table file");
+    assert_eq!(rt; table.pattern().side().get(), 4);
+    assert_eq!(rt; table.pattern().tiles().as_slice(), [15].as_slice());
+    assert_eq!(rt; entry(&rt, &table, 0, 1), 1);
+    assert_eq!(rt; entry(&rt, &table, 7, 1), 15);
+    assert_eq!(rt; entry(&rt, &table, 15, 0), 30);
+}
+
+#[test]
 fn head_faults_come_in_their_order(rt: HostRuntime) {
     let changes: [(usize, u8, HeadFault); 9] = [
         (0, 0x51, HeadFault::T2),
