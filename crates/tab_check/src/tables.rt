@@ -7,6 +7,7 @@ ghost use Rattle.tab_file.specs.TableFiles.{IsTableFile};
 ghost use Rattle.tab_file.specs.Tables.{IsTable, Table};
 ghost use Rattle.tab_check.specs.BadEntries.{IsLeastBad};
 ghost use Rattle.tab_check.specs.Counts.{IsCensusOf, IsCountOf};
+ghost use Rattle.tab_check.specs.Entries.{no_way_home};
 ghost use Rattle.tab_check.specs.ExactTables.{IsExactFile};
 ghost use Rattle.tab_check.specs.TableFaults.{IsCauseOf};
 ghost use Rattle.tab_file.specs.declared.headers.HeadFault.{HeadFault};
@@ -16,7 +17,7 @@ ghost use Rattle.tab_check.specs.declared.tables.Count.TheVariants.{Finite, Neve
 
 use crate::census::{Census, census_of};
 use crate::jobs::TableCheck;
-use crate::rule::NEVER;
+use crate::rule::NO_WAY_HOME;
 use pat_place::{Pattern, Placement, rank, slot_of};
 use puz_board::Board;
 use std::alloc::Global;
@@ -135,9 +136,9 @@ impl<'a> CheckedTable<'a> {
 
 /// What an entry of a region says.
 fn count_of(entry: u8) -> Count
-    ensures { result ≡ (if entry == 255 then Never else Finite entry) }
+    ensures { result ≡ (if entry == no_way_home then Never else Finite entry) }
 {
-    if entry == NEVER {
+    if entry == NO_WAY_HOME {
         Count::Never
     } else {
         Count::Finite(u16::from(entry))

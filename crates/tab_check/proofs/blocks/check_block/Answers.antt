@@ -1,8 +1,9 @@
 use Rattle.std.proofs.Common.{◌≡◌, ◌+◌, ◌*◌, ◌<◌, length, sym, ◌∙◌, ap, ap₂, subst, arith}
 use Rattle.pat_place.specs.Ranks.{IsRank}
+use Rattle.pat_place.proofs.CountLemmas.{few_placements}
 use Rattle.tab_file.specs.Tables.{placement_count, slot_count}
 use Rattle.tab_check.specs.Blocks.{IsLeastBadIn, first_of_block}
-use Rattle.tab_check.proofs.BlockLemmas.{block_fits, few_placements, keeps_all, keeps_more, least_bad_in, number_fits}
+use Rattle.tab_check.proofs.BlockLemmas.{block_fits, keeps_all, keeps_more, least_bad_in, number_fits}
 use Rattle.tab_check.proofs.blocks.check_block.Goals as goal
 
 pub overflow_mul-first : goal.overflow_mul-first

@@ -5,6 +5,7 @@ use Rattle.tab_check.specs.BadEntries.{AllKeepRule, IsLeastBad}
 use Rattle.tab_check.specs.ExactTables.{AreExact}
 use Rattle.tab_check.specs.declared.tables.TableFault.TheVariants.{Refused}
 use Rattle.tab_check.specs.declared.tables.TableRefusal.TheVariants.{T7}
+use Rattle.tab_check.proofs.JobLemmas.{block_begin-rises, block_begin-small, block_begin-zero}
 use Rattle.tab_check.proofs.TableLemmas.{exact_from_keeps, keeps_from_exact, keeps_whole, least_bad_one, least_bad_whole, none_bad}
 use Rattle.tab_check.proofs.tables.check_table.Goals as goal
 use Rattle.tab_check.proofs.tables.check_table.Goals.{In-Ok-None, In-Ok-Some}
@@ -15,7 +16,12 @@ invariant_of-check g c =
     let pat = c.in-Ok.ensures.ok.table.pattern in
     let placements : placement_count p < 2 ^ 32 = few_placements p pat in
     let entries : entry_count p < 2 ^ 32 = few_slots p pat in
-    record { few_blocks = omega arith; few_entries = omega arith }
+    record {
+      few_blocks = omega arith;
+      from_zero = block_begin-zero p;
+      rises = block_begin-rises p;
+      small = block_begin-small p (omega arith);
+    }
 
 -- no entry is bad
 keeps : (g : _) (c : In-Ok-None g) → AllKeepRule c.in-Ok.view
