@@ -90,5 +90,6 @@ fn entry_after(table: &TableView<'_>, placement: &Placement, index: usize, cell:
     ensures { IsEntryAt table.now (slice_set placement.now.cells index to) (slice_index placement.now.cells index) result }
 {
     let moved = placement.moved(index, to);
-    table.entry(rank(&moved), slot_of(&moved, cell))
+    let slot = slot_of(&moved, cell);
+    table.entry(rank(&moved), slot)
 }
