@@ -1,4 +1,3 @@
-pub mod SideLemmas
 mod MaskOfLemmas
 pub mod ListLemmas
 pub mod MaskLemmas
@@ -12,8 +11,5 @@ pub mod SlotLemmas
 pub mod WidthLemmas
 pub mod SlideLemmas
 pub mod BoardOf
-pub mod BitLemmas
-pub mod GrownLemmas
-pub mod RegionLemmas
 pub mod SlotSteps
 pub mod CountLemmas

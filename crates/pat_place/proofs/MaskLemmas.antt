@@ -7,10 +7,10 @@ use Rattle.std.proofs.lemmas.Bool.{cases_eq, cases_Bool, both_ways, eqb-true, eq
 use Rattle.std.proofs.lemmas.Nat.{ones_cat, mod-pow-add, ones-le, ones_le_self, zero_from_ones, mod_below, pow_pos}
 use Rattle.std.proofs.lemmas.List.{append-nil}
 use Rattle.std.proofs.lemmas.Nat.Bits.{bit_at-lt, bit_at_ones, bit_at_ones_above, bit_at-zero}
-use Rattle.pat_place.specs.Masks.{has_bit, numbers_below, numbers_of, ones_below}
+use Rattle.puz_board.specs.Masks.{has_bit, numbers_below, numbers_of, ones_below}
 use Rattle.pat_place.specs.Patterns.{has, IsAscending}
 use Rattle.pat_place.specs.Ranks.{without}
-use Rattle.pat_place.proofs.BitLemmas.{in_below, sub_le}
+use Rattle.puz_board.proofs.BitLemmas.{in_below, sub_le}
 use Rattle.pat_place.proofs.ListLemmas.{Some-one, ascending-filter, ascending-range, filter-filter_below, has-filter, has-filter_not, has-range, in_range, without-first, apart_from_ascending, filter_all, filter_none, filter-append, range-append}
 use Rattle.pat_place.specs.Placements.{IsApart}
 

@@ -6,7 +6,7 @@ use Rattle.std.specs.List.{AllByRecursion}
 use Rattle.std.proofs.lemmas.Bool.{cases_eq, cases_lt, cond_both, true≢false}
 use Rattle.std.proofs.lemmas.Nat.{shr-shr}
 use Rattle.std.proofs.lemmas.Nat.Bits.{bit_at-lt, same_from_bits, bit_at-zero, bit_at_above, bit_at_lowest}
-use Rattle.pat_place.specs.Masks.{numbers_of}
+use Rattle.puz_board.specs.Masks.{numbers_of}
 use Rattle.pat_place.specs.Patterns.{PatternView, IsPattern, most_tiles, has}
 use Rattle.pat_place.proofs.ListLemmas.{has_cases, has-here, has-later}
 use Rattle.pat_place.proofs.MaskLemmas.{has-numbers_below, in_numbers_below, length-numbers_below, ascending-numbers_below}

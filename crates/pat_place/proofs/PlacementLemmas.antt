@@ -3,6 +3,8 @@ use Rattle.std.proofs.Common.{◌≡◌, ◌≢◌, ℕ, zero, suc, ◌+◌, ◌
 use Rattle.std.specs.List.{AllByRecursion}
 use Rattle.std.proofs.lemmas.Bool.{or_parts, or_from, ne_eqb, eqb-false}
 use Rattle.std.proofs.lemmas.List.{length-map, length-replicate, length-set, take_at, drop_at, take_all}
+use Rattle.std.proofs.Math.Seq.{take-set-lt}
+use Rattle.std.proofs.lemmas.List.{drop-set-lt}
 use Rattle.puz_board.specs.Boards.{IsBoard, IsGoal, cell_of, side_of}
 use Rattle.pat_place.specs.Patterns.{PatternView, IsPattern, has}
 use Rattle.pat_place.specs.Placements.{PlacementView, IsPlacement, IsApart, IsFree, placement_of}
@@ -133,26 +135,17 @@ IsPlacement-moved p is i c free = record {
   apart = IsApart-set p.cells i c is.apart free.1;
 }
 
-take-set : (n : ℕ) (xs : List ℕ) (i y : ℕ) → take n (set xs i y) ≡ set (take n xs) i y
-take-set zero xs i y = refl
-take-set (suc n) [] i y = refl
-take-set (suc n) (x ∷ xs) zero y = refl
-take-set (suc n) (x ∷ xs) (suc i) y = ap (λ ys. x ∷ ys) (take-set n xs i y)
-
-drop-set_front : (n : ℕ) (xs : List ℕ) (i y : ℕ) → i < n → drop n (set xs i y) ≡ drop n xs
-drop-set_front zero xs i y l = absurd (omega arith)
-drop-set_front (suc n) [] i y l = refl
-drop-set_front (suc n) (x ∷ xs) zero y l = refl
-drop-set_front (suc n) (x ∷ xs) (suc i) y l = drop-set_front n xs i y (omega arith)
-
 module _ (s : Inside) (kept : IsStoredPlacement s) (i c : ℕ) (here : i < length (placement_shown s).cells) (free : IsFree s.pattern.side (placement_shown s).cells c) where
+  within : i < length s.pattern.tiles
+  within = let e = kept.placement.size in omega arith
+
   pub placement_shown-moved : placement_shown (record { pattern = s.pattern; cells = set s.cells i c }) ≡ placed s.pattern (set (placement_shown s).cells i c)
-  placement_shown-moved = ap (placed s.pattern) (take-set (length s.pattern.tiles) s.cells i c)
+  placement_shown-moved = ap (placed s.pattern) (take-set-lt (length s.pattern.tiles) s.cells i c within)
 
   pub IsStoredPlacement-moved : IsStoredPlacement (record { pattern = s.pattern; cells = set s.cells i c })
   IsStoredPlacement-moved = record {
     room = length-set s.cells i c ∙ kept.room;
     pattern = kept.pattern;
     placement = subst IsPlacement (sym placement_shown-moved) (IsPlacement-moved (placement_shown s) kept.placement i c free);
-    rest = drop-set_front (length s.pattern.tiles) s.cells i c (let e = kept.placement.size in omega arith) ∙ kept.rest;
+    rest = drop-set-lt (length s.pattern.tiles) s.cells i c within ∙ kept.rest;
   }

@@ -8,7 +8,7 @@ use Rattle.std.proofs.lemmas.List.{drop_more, drop_all, append-nil, take_more_se
 use Rattle.std.proofs.lemmas.Nat.{mul-le, mod_below, div-add-mod', div-mul-add, div_below}
 use Rattle.std.proofs.lemmas.Nat.Bits.{bit_at_ones}
 use Rattle.std.proofs.Math.Nat.{pow-suc, pow-le-pow_right}
-use Rattle.pat_place.specs.Masks.{numbers_of, ones_below}
+use Rattle.puz_board.specs.Masks.{numbers_of, ones_below}
 use Rattle.pat_place.specs.Placements.{IsApart}
 use Rattle.pat_place.specs.Ranks.{lists_of, falling_factorial}
 use Rattle.pat_place.proofs.ListLemmas.{apart_from_ascending, ascending-range, apart_at, all_at}

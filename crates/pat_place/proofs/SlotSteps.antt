@@ -9,11 +9,11 @@ use Rattle.std.proofs.lemmas.Nat.{and_le_l, pow_pos}
 use Rattle.std.proofs.Math.Nat.{pow-le-pow_right}
 use Rattle.std.proofs.lemmas.Nat.Bits.{bit_at_ones, bit_at_ones_above, bit_at-zero}
 use Rattle.puz_board.proofs.CellLemmas.{by_side}
-use Rattle.pat_place.specs.Masks.{IsMaskOf}
+use Rattle.puz_board.specs.Masks.{IsMaskOf}
 use Rattle.pat_place.specs.Patterns.{has, width, most_tiles, IsPattern}
 use Rattle.pat_place.specs.Placements.{IsFree, IsApart, PlacementView, IsPlacement}
 use Rattle.pat_place.specs.Regions.{Reaches, here, onward, Joins, IsLeader, IsCount, IsSlot}
-use Rattle.pat_place.proofs.BitLemmas.{IsIn, in_or_out, but_in, in_but}
+use Rattle.puz_board.proofs.BitLemmas.{IsIn, in_or_out, but_in, in_but}
 use Rattle.pat_place.proofs.JoinLemmas.{Joins-trans, Joins-free, Joins-sym}
 use Rattle.pat_place.proofs.SlotLemmas.{count_same, count_place}
 use Rattle.pat_place.proofs.WidthLemmas.{slot_within}

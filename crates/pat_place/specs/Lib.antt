@@ -1,6 +1,6 @@
 pub mod BoardLaws
 pub mod Laws
-pub mod Masks
+pub use Rattle.puz_board.specs.Masks
 pub mod Patterns
 pub mod Placements
 pub mod Ranks

@@ -1,15 +1,12 @@
 -- Patterns: sets of tiles.
-use Rattle.std.specs.Prelude.{ℕ, ◌+◌, ◌-◌, ◌*◌, ◌<◌, ◌≤◌, ◌==◌, if◌then◌else◌, Bool, List, [], ◌∷◌, length, min, ⊤}
-use Rattle.std.specs.List.{list_any, AllByRecursion}
+use Rattle.std.specs.Prelude.{ℕ, ◌+◌, ◌-◌, ◌*◌, ◌<◌, ◌≤◌, ◌==◌, if◌then◌else◌, List, [], ◌∷◌, length, min, ⊤}
+use Rattle.std.specs.List.{AllByRecursion}
+pub use Rattle.puz_board.specs.Costs.{is_one_of as has}
 
 -- what a contract sees of a pattern: the side of its board, and its tiles
 pub record PatternView : Type 0 where
   pub side : ℕ
   pub tiles : List ℕ
-
--- whether a number stands in a list
-abbrev pub has : List ℕ → ℕ → Bool
-has xs y = list_any (λ x. x == y) xs
 
 -- each number is below all behind it
 abbrev pub IsAscending : List ℕ → Type 0

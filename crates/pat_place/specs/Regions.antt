@@ -1,13 +1,8 @@
 -- Regions: the free cells that paths of free cells reach.
 use Rattle.std.specs.Prelude.{◌≡◌, ℕ, zero, suc, ◌*◌, ◌<◌, ◌≤◌, ◌↔◌, ◌⊎◌, List, length, slice_index}
 use Rattle.std.specs.Int.{bit_at}
-use Rattle.puz_board.specs.Cells.{Adjacent}
+pub use Rattle.puz_board.specs.Paths.{Reaches, here, onward}
 use Rattle.pat_place.specs.Placements.{IsFree}
-
--- a path of open cells leads from one cell to another
-pub data Reaches (n : ℕ) (Open : ℕ → Type 0) : ℕ → ℕ → Type 0 where
-  here : {c : ℕ} → Reaches n Open c c
-  onward : {c d f : ℕ} → Adjacent n c d → Open d → Reaches n Open d f → Reaches n Open c f
 
 -- a path of free cells leads from one cell to another
 abbrev pub Joins : ℕ → List ℕ → ℕ → ℕ → Type 0

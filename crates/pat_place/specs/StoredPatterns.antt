@@ -1,7 +1,7 @@
 -- How a pattern is stored: bit t of its mask is set for tile t.
 use Rattle.std.specs.Prelude.{◌≡◌, ◌^◌, ◌<◌}
 use Rattle.pat_place.specs.declared.patterns.Pattern.TheInside.{Inside}
-use Rattle.pat_place.specs.Masks.{mask_of, numbers_of}
+use Rattle.puz_board.specs.Masks.{mask_of, numbers_of}
 use Rattle.pat_place.specs.Patterns.{PatternView, IsPattern}
 
 abbrev pub pattern_shown : Inside → PatternView

@@ -2,7 +2,7 @@
 
 ghost use Rattle.std.specs.Prelude.{◌≡◌, ◌≢◌, ℕ, ◌-◌, ◌^◌, ◌<◌, ◌≤◌, count_ones};
 ghost use Rattle.std.specs.Int.{bit_at};
-ghost use Rattle.pat_place.specs.Masks.{ones_below};
+ghost use Rattle.puz_board.specs.Masks.{ones_below};
 
 /// The numbers below `count`.
 #[inline]

@@ -2,7 +2,7 @@
 
 ghost use Rattle.std.specs.Prelude.{◌≡◌, ℕ, ◌+◌, ◌*◌, ◌^◌, ◌<◌, ◌≤◌, ◌↔◌, length, IsSome, IfSome, IsTrue};
 ghost use Rattle.std.specs.List.{AllByRecursion};
-ghost use Rattle.pat_place.specs.Masks.{numbers_of};
+ghost use Rattle.puz_board.specs.Masks.{numbers_of};
 ghost use Rattle.pat_place.specs.Patterns.{IsPattern, most_tiles, width};
 ghost use Rattle.pat_place.specs.Ranks.{falling_factorial, placements};
 

@@ -2,7 +2,7 @@
 
 ghost use Rattle.std.specs.Prelude.{◌≡◌, ℕ, ◌<◌, ◌≤◌, ◌-◌, true, List, length, slice_set, take, drop, replicate};
 ghost use Rattle.puz_board.specs.Boards.{IsBoard, IsGoal, side_of};
-ghost use Rattle.pat_place.specs.Masks.{IsMaskOf};
+ghost use Rattle.puz_board.specs.Masks.{IsMaskOf};
 ghost use Rattle.pat_place.specs.Patterns.{IsPattern, has};
 ghost use Rattle.pat_place.specs.Placements.{IsPlacement, IsFree, placement_of};
 

@@ -2,7 +2,7 @@
 
 ghost use Rattle.std.specs.Prelude.{ℕ, ◌*◌, ◌^◌, ◌<◌, ◌≤◌, length};
 ghost use Rattle.arrayvec.specs.ArrayVec.{array_vec_len};
-ghost use Rattle.pat_place.specs.Masks.{IsMaskOf};
+ghost use Rattle.puz_board.specs.Masks.{IsMaskOf};
 ghost use Rattle.pat_place.specs.Patterns.{width};
 ghost use Rattle.pat_place.specs.Placements.{IsFree};
 ghost use Rattle.pat_place.specs.Regions.{IsSlot, AreRegions};

@@ -1,5 +1,5 @@
 -- Boards of one side are the states of a graph: a step of the blank is free, or it moves one of the tiles and is paid.
-use Rattle.std.proofs.Common.{◌≡◌, ◌≢◌, ℕ, suc, ◌+◌, ◌-◌, ◌/◌, ◌%◌, ◌*◌, ◌<◌, ◌≤◌, Bool, true, false, cond, eqb, List, [], ◌∷◌, Some, None, refl, sym, ◌∙◌, ap, subst, arith, one-add, zero-add}
+use Rattle.std.proofs.Common.{◌≡◌, ◌≢◌, ℕ, suc, ◌+◌, ◌-◌, ◌/◌, ◌%◌, ◌*◌, ◌<◌, ◌≤◌, Bool, true, false, cond, eqb, List, [], ◌∷◌, Some, refl, sym, ◌∙◌, ap, subst, arith, one-add, zero-add}
 use Rattle.std.proofs.lemmas.Bool.{eqb-false}
 use Rattle.puz_board.specs.declared.moves.Move.{Move}
 use Rattle.puz_board.specs.declared.moves.Move.TheVariants.{Up, Down, Left, Right}
@@ -7,15 +7,11 @@ use Rattle.puz_board.specs.Boards.{IsBoardOf, at, blank, slid}
 use Rattle.puz_board.specs.Cells.{Adjacent, step_of}
 use Rattle.puz_board.specs.Costs.{IsHome, IsLeastCost, IsNeverHome, LeadsHome, cost, is_one_of}
 use Rattle.puz_board.specs.Paths.{IsPath, after}
+use Rattle.puz_board.proofs.CellLemmas.{stays}
 use Rattle.puz_board.proofs.BoardLemmas.{IsBoardOf-slid, blank-slid, side_of-board}
 use Rattle.puz_board.proofs.Ways
 
 -- ---- adjacent cells differ
-
--- a step that stays on the board isn't stopped at its edge
-stays : (stopped : Bool) (x d : ℕ) → cond stopped None (Some x) ≡ Some d → (stopped ≡ false) × (x ≡ d)
-stays true x d e = absurd (let bad : None ≡ Some d = e in cc)
-stays false x d e = (refl, cc)
 
 pub Adjacent-apart : (n c d : ℕ) → 2 ≤ n → Adjacent n c d → c ≢ d
 Adjacent-apart n c d low a = go a.1 a.2

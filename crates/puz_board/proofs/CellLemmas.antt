@@ -18,6 +18,10 @@ by_side P two three four five n low high = elim (cases_eq n 2) [
   ]
 ]
 
+-- no board has more than 25 cells
+pub few_cells : (n : ℕ) → 2 ≤ n → n ≤ 5 → n * n ≤ 25
+few_cells = by_side (λ n. n * n ≤ 25) (omega arith) (omega arith) (omega arith) (omega arith)
+
 -- ---- the reverse of a move takes it back
 
 up_back : (n : ℕ) → 2 ≤ n → n ≤ 5 → (c d : ℕ) → c < n * n → c / n ≢ 0 → c - n ≡ d → (d / n ≢ n - 1) × (d + n ≡ c)
@@ -33,11 +37,12 @@ right_back : (n : ℕ) → 2 ≤ n → n ≤ 5 → (c d : ℕ) → c < n * n →
 right_back = by_side (λ n. (c d : ℕ) → c < n * n → c % n ≢ n - 1 → c + 1 ≡ d → (d % n ≢ 0) × (d - 1 ≡ c)) (λ c d l p e. omega arith) (λ c d l p e. omega arith) (λ c d l p e. omega arith) (λ c d l p e. omega arith)
 
 -- a move that stays on the board isn't stopped at its edge
-stays : (stopped : Bool) (x d : ℕ) → cond stopped None (Some x) ≡ Some d → (stopped ≡ false) × (x ≡ d)
+pub stays : (stopped : Bool) (x d : ℕ) → cond stopped None (Some x) ≡ Some d → (stopped ≡ false) × (x ≡ d)
 stays true x d e = absurd (let bad : None ≡ Some d = e in cc)
 stays false x d e = (refl, cc)
 
-goes : (a edge x c : ℕ) → a ≢ edge → x ≡ c → cond (eqb a edge) None (Some x) ≡ Some c
+-- and back
+pub goes : (a edge x c : ℕ) → a ≢ edge → x ≡ c → cond (eqb a edge) None (Some x) ≡ Some c
 goes a edge x c ne e = cond-false (eqb a edge) None (Some x) (ne_eqb a edge ne) ∙ ap Some e
 
 pub reverse_of-takes_back : (m : Move) → IsTakenBackBy m (reverse_of m)

@@ -1,22 +1,11 @@
 -- A slide among the stored cells is a slide of the board.
 use Rattle.std.proofs.Common.{◌≡◌, ℕ, zero, suc, ◌+◌, ◌-◌, ◌*◌, ◌<◌, List, [], ◌∷◌, length, take, drop, get_or, set, refl, sym, ◌∙◌, ap, ap₂, subst, arith, length-set, get_or-take, ◌++◌, replicate, length-append}
-use Rattle.std.proofs.Math.Seq.{take-append_seam, drop-append_seam}
+use Rattle.std.proofs.Math.Seq.{take-append_seam, take-set-lt, drop-append_seam}
+use Rattle.std.proofs.lemmas.List.{drop-set-lt}
 use Rattle.puz_board.specs.declared.boards.Board.TheInside.{Inside}
 use Rattle.puz_board.specs.Boards.{IsBoard, blank, side_of, slid}
 use Rattle.puz_board.specs.Stored.{IsStored, numbers_shown, stored_of}
 use Rattle.puz_board.proofs.BoardLemmas.{IsBoard-slid, blank-slid, cell_of-below, cells_most, side_of-slid}
-
-pub take-set : (n : ℕ) (xs : List ℕ) (i y : ℕ) → take n (set xs i y) ≡ set (take n xs) i y
-take-set zero xs i y = refl
-take-set (suc n) [] i y = refl
-take-set (suc n) (x ∷ xs) zero y = refl
-take-set (suc n) (x ∷ xs) (suc i) y = ap (λ ys. x ∷ ys) (take-set n xs i y)
-
-pub drop-set_front : (n : ℕ) (xs : List ℕ) (i y : ℕ) → i < n → drop n (set xs i y) ≡ drop n xs
-drop-set_front zero xs i y l = absurd (omega arith)
-drop-set_front (suc n) [] i y l = refl
-drop-set_front (suc n) (x ∷ xs) zero y l = refl
-drop-set_front (suc n) (x ∷ xs) (suc i) y l = drop-set_front n xs i y (omega arith)
 
 -- the fields after the blank of cell z has changed places with the tile of cell c
 abbrev pub moved : Inside → ℕ → ℕ → Inside
@@ -34,9 +23,9 @@ module _ (s : Inside) (kept : IsStored s) (z c : ℕ) (is_blank : z ≡ blank (n
   pub numbers_shown-moved : numbers_shown (moved s z c) ≡ slid (numbers_shown s) c
   unfolding slid
   numbers_shown-moved =
-      take-set (s.side * s.side) (set s.cells z (get_or s.cells c 0)) c 0 ∙
+      take-set-lt (s.side * s.side) (set s.cells z (get_or s.cells c 0)) c 0 below ∙
       ap (λ xs. set xs c 0) (
-      take-set (s.side * s.side) s.cells z (get_or s.cells c 0) ∙
+      take-set-lt (s.side * s.side) s.cells z (get_or s.cells c 0) z_inside ∙
       ap₂ (λ i y. set (numbers_shown s) i y) is_blank (sym (get_or-take (s.side * s.side) s.cells c 0 below)))
 
   pub IsStored-moved : IsStored (moved s z c)
@@ -46,8 +35,8 @@ module _ (s : Inside) (kept : IsStored s) (z c : ℕ) (is_blank : z ≡ blank (n
     blank_cell = ap blank numbers_shown-moved ∙ blank-slid (side_of (numbers_shown s)) (numbers_shown s) kept.board c inside;
     board = subst IsBoard (sym numbers_shown-moved) (IsBoard-slid (numbers_shown s) kept.board c inside);
     rest =
-        drop-set_front (s.side * s.side) (set s.cells z (get_or s.cells c 0)) c 0 below ∙
-        drop-set_front (s.side * s.side) s.cells z (get_or s.cells c 0) z_inside ∙ kept.rest;
+        drop-set-lt (s.side * s.side) (set s.cells z (get_or s.cells c 0)) c 0 below ∙
+        drop-set-lt (s.side * s.side) s.cells z (get_or s.cells c 0) z_inside ∙ kept.rest;
   }
 
 -- ---- a board is stored

@@ -1,4 +1,4 @@
--- Paths of the blank, and solutions.
+-- Paths of the blank, cells that paths reach, and solutions.
 use Rattle.std.specs.Prelude.{◌≡◌, ℕ, List, [], ◌∷◌, Option, Some, option_and_then, ⊤}
 use Rattle.puz_board.specs.declared.moves.Move.{Move}
 use Rattle.puz_board.specs.Boards.{IsGoal, blank, moved, side_of, slid}
@@ -19,6 +19,11 @@ after b (c ∷ cs) = after (slid b c) cs
 -- a path of the board's blank that ends in the goal board
 abbrev pub IsSolution : List ℕ → List ℕ → Type 0
 IsSolution b path = IsPath (side_of b) (blank b) path × IsGoal (after b path)
+
+-- a path of open cells leads from one cell to another
+pub data Reaches (n : ℕ) (Open : ℕ → Type 0) : ℕ → ℕ → Type 0 where
+  here : {c : ℕ} → Reaches n Open c c
+  onward : {c d f : ℕ} → Adjacent n c d → Open d → Reaches n Open d f → Reaches n Open c f
 
 -- ---- moves, one after another
 

@@ -51,6 +51,33 @@ fn puzzles_are_replayed(rt: HostRuntime) {
 }
 
 #[test]
+fn puzzles_of_larger_sides_are_replayed(rt: HostRuntime) {
+    // No board of side 3 is more than 31 moves from the goal board.
+    let three = b"8 0 6 5 4 7 2 3 1 ; LDDRUULDDRURULLDRRDLLURRULDDLUU";
+    let four = b"4 3 7 11 5 6 2 0 1 13 9 15 8 12 10 14 ; ULLLDDDRURDRUUULDLLURDLU";
+    let five = b"6 10 1 3 8 11 5 7 4 9 12 13 14 2 0 15 16 17 18 19 20 21 22 23 24 ; ULDLLLUURDLURRRRDDLLURULDDLLUU";
+    let puzzles: [(&[u8], Result<u16, MoveFault>); 8] = [
+        (three, Ok(31)),
+        (&three[..50], Err(MoveFault::M4)),
+        (b"8 0 6 5 4 7 2 3 1 ; LL", Err(MoveFault::M2(1))),
+        (four, Ok(24)),
+        (
+            b"4 3 7 11 5 6 2 0 1 13 9 15 8 12 10 14 ; R",
+            Err(MoveFault::M2(0)),
+        ),
+        (five, Ok(30)),
+        (&five[..five.len() - 1], Err(MoveFault::M4)),
+        (
+            b"6 10 1 3 8 11 5 7 4 9 12 13 14 2 0 15 16 17 18 19 20 21 22 23 24 ; DDD",
+            Err(MoveFault::M2(2)),
+        ),
+    ];
+    for (puzzle, want) in puzzles {
+        assert_eq!(rt; answer(puzzle), Some(Ok(want)), "{puzzle:?}");
+    }
+}
+
+#[test]
 fn a_board_fault_comes_before_a_move_fault(rt: HostRuntime) {
     let puzzles: [(&[u8], BoardFault); 7] = [
         (b"0 1 2 2 ;", BoardFault::B5(3)),

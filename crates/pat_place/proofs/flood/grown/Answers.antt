@@ -1,4 +1,4 @@
-use Rattle.pat_place.proofs.GrownLemmas.{grown_is}
+use Rattle.puz_board.proofs.GrownLemmas.{grown_is}
 use Rattle.pat_place.proofs.flood.grown.Goals as goal
 
 pub returns : goal.returns

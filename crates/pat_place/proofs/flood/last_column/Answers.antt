@@ -1,6 +1,6 @@
 use Rattle.std.proofs.Common.{◌≡◌, ◌*◌, ◌-◌, ◌%◌, ◌<◌, refl, sym, ◌∙◌, subst, arith, lit<, lit≤}
-use Rattle.pat_place.specs.Masks.{IsMaskOf}
-use Rattle.pat_place.proofs.GrownLemmas.{column_is}
+use Rattle.puz_board.specs.Masks.{IsMaskOf}
+use Rattle.puz_board.proofs.GrownLemmas.{column_is}
 use Rattle.pat_place.proofs.flood.last_column.Goals as goal
 
 pub returns-in-2 : goal.returns-in-2

@@ -1,11 +1,11 @@
 use Rattle.std.proofs.Common.{◌≢◌, ◌*◌, ◌-◌, ◌^◌, ◌%◌, bit_and, sym, ◌∙◌, subst, arith}
 use Rattle.std.proofs.lemmas.Nat.Bits.{bit_at-zero}
-use Rattle.pat_place.specs.Masks.{IsMaskOf}
+use Rattle.puz_board.specs.Masks.{IsMaskOf}
 use Rattle.pat_place.specs.Regions.{Reaches}
-use Rattle.pat_place.proofs.BitLemmas.{IsIn, in_below}
-use Rattle.pat_place.proofs.GrownLemmas.{outside_column, free_fits}
-use Rattle.pat_place.proofs.RegionLemmas.{IsGrowing-start, IsGrowing-more, IsGrowing-all, grows}
-use Rattle.pat_place.proofs.SideLemmas.{few_cells}
+use Rattle.puz_board.proofs.BitLemmas.{IsIn, in_below}
+use Rattle.puz_board.proofs.GrownLemmas.{outside_column, free_fits}
+use Rattle.puz_board.proofs.RegionLemmas.{IsGrowing-start, IsGrowing-more, IsGrowing-all, grows}
+use Rattle.puz_board.proofs.CellLemmas.{few_cells}
 use Rattle.pat_place.proofs.flood.region_until.Goals as goal
 use Rattle.pat_place.proofs.flood.region_until.Goals.{then-more-region-via-then-more-region, then-more-region-via-else-more-region+then-more-goal-ne0}
 

@@ -1,5 +1,5 @@
 use Rattle.std.proofs.Common.{◌-◌}
-use Rattle.pat_place.proofs.RegionLemmas.{IsGrowing}
+use Rattle.puz_board.proofs.RegionLemmas.{IsGrowing}
 use Rattle.pat_place.proofs.flood.region_until.Given as goal
 
 abbrev pub invariant-grow : goal.invariant-grow

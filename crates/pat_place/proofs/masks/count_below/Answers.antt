@@ -1,7 +1,7 @@
 use Rattle.std.proofs.Common.{◌≡◌, ◌^◌, ◌%◌, bit_and, ◌∙◌, ap, arith}
 use Rattle.std.specs.Prelude.{count_ones}
 use Rattle.std.proofs.lemmas.Nat.{and_mask, ones-le, mod_below, pow_pos}
-use Rattle.pat_place.specs.Masks.{ones_below}
+use Rattle.puz_board.specs.Masks.{ones_below}
 use Rattle.pat_place.proofs.masks.count_below.Goals as goal
 
 pub returns-clause-count : goal.returns-clause-count

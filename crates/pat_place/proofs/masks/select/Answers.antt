@@ -1,7 +1,7 @@
 use Rattle.std.proofs.Common.{◌≡◌, ℕ, ◌+◌, ◌-◌, ◌*◌, ◌/◌, ◌<◌, Bool, true, false, leb, refl, sym, ◌∙◌, ap, subst, arith}
 use Rattle.std.specs.Int.{from_bool}
 use Rattle.std.proofs.lemmas.Bool.{leb-true, leb-false}
-use Rattle.pat_place.specs.Masks.{ones_below}
+use Rattle.puz_board.specs.Masks.{ones_below}
 use Rattle.pat_place.proofs.MaskLemmas.{Holds, Holds-upper, Holds-lower, Holds-found}
 use Rattle.pat_place.proofs.masks.select.Goals as goal
 

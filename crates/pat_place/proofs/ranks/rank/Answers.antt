@@ -5,7 +5,7 @@ use Rattle.pat_place.specs.Placements.{IsApart}
 use Rattle.pat_place.specs.Ranks.{IsRank, lists_of}
 use Rattle.pat_place.proofs.PatternLemmas.{few_tiles}
 use Rattle.pat_place.proofs.RankLemmas.{IsRank-from, IsRank-one, IsRank-below}
-use Rattle.pat_place.proofs.SideLemmas.{few_cells}
+use Rattle.puz_board.proofs.CellLemmas.{few_cells}
 use Rattle.pat_place.proofs.ranks.rank.Goals as goal
 
 pub rank_among-requires : goal.rank_among-requires

@@ -1,5 +1,5 @@
 use Rattle.std.proofs.Common.{◌≡◌, ◌+◌, ◌-◌, ◌*◌, ◌^◌, get_or, sym, ◌∙◌, subst, arith}
-use Rattle.pat_place.specs.Masks.{ones_below}
+use Rattle.puz_board.specs.Masks.{ones_below}
 use Rattle.pat_place.proofs.RankSteps.{IsRanking, IsRanking-start, IsRanking-fits, IsRanking-more, IsRanking-all}
 use Rattle.pat_place.proofs.ranks.rank_among.Goals as goal
 

@@ -1,7 +1,7 @@
 use Rattle.std.proofs.Common.{◌≡◌, ◌*◌, ◌-◌, ◌^◌, ◌<◌, bit_and, sym, ◌∙◌, ap, ap₂, subst, arith}
-use Rattle.pat_place.specs.Masks.{IsMaskOf}
+use Rattle.puz_board.specs.Masks.{IsMaskOf}
 use Rattle.pat_place.specs.Placements.{IsFree}
-use Rattle.pat_place.proofs.SideLemmas.{few_cells}
+use Rattle.puz_board.proofs.CellLemmas.{few_cells}
 use Rattle.pat_place.proofs.SlotSteps.{free_is, free_within}
 use Rattle.pat_place.proofs.slots.free_cells.Goals as goal
 

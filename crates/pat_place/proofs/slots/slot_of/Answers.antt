@@ -1,5 +1,5 @@
 use Rattle.std.proofs.Common.{◌≡◌, suc, ◌-◌, ◌^◌, bit_and, ◌+◌, ◌∙◌, ap, subst, arith}
-use Rattle.pat_place.proofs.BitLemmas.{goal_met, goal_missed}
+use Rattle.puz_board.proofs.BitLemmas.{goal_met, goal_missed}
 use Rattle.pat_place.proofs.SlotSteps.{IsRest, taken, met, width_le}
 use Rattle.pat_place.proofs.slots.slot_of.Goals as goal
 

@@ -3,7 +3,7 @@ use Rattle.pat_place.specs.Patterns.{width}
 use Rattle.pat_place.specs.Ranks.{falling_factorial}
 use Rattle.pat_place.proofs.CountLemmas.{few_slots, few_placements}
 use Rattle.pat_place.proofs.RankLemmas.{falling_more, falling_step_fits, count_of_placements}
-use Rattle.pat_place.proofs.SideLemmas.{few_cells}
+use Rattle.puz_board.proofs.CellLemmas.{few_cells}
 use Rattle.pat_place.proofs.patterns.Pattern.count.Goals as goal
 
 pub overflow_mul-count : goal.overflow_mul-count

@@ -1,6 +1,6 @@
 use Rattle.std.proofs.Common.{◌≡◌, ℕ, ◌+◌, ◌<◌, ◌≤◌, List, [], ◌∷◌, ◌++◌, length, sym, ◌∙◌, ap, subst, arith, append_assoc, length-append, lit<, true}
 use Rattle.std.proofs.lemmas.List.{append-nil}
-use Rattle.pat_place.specs.Masks.{numbers_of}
+use Rattle.puz_board.specs.Masks.{numbers_of}
 use Rattle.pat_place.specs.Patterns.{IsPattern, has}
 use Rattle.pat_place.proofs.ListLemmas.{length-has}
 use Rattle.pat_place.proofs.MaskLemmas.{has-numbers_below, numbers_below-first, numbers_below-zero}

@@ -1,5 +1,5 @@
 use Rattle.std.proofs.Common.{◌≡◌, ◌++◌}
-use Rattle.pat_place.specs.Masks.{numbers_of}
+use Rattle.puz_board.specs.Masks.{numbers_of}
 use Rattle.pat_place.proofs.patterns.Pattern.tiles.Given as goal
 
 abbrev pub invariant-loop-rest : goal.invariant-loop-rest

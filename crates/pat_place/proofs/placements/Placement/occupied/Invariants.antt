@@ -1,5 +1,5 @@
 use Rattle.std.proofs.Common.{◌≡◌, take, true}
-use Rattle.pat_place.specs.Masks.{IsMaskOf}
+use Rattle.puz_board.specs.Masks.{IsMaskOf}
 use Rattle.pat_place.specs.Patterns.{has}
 use Rattle.pat_place.proofs.placements.Placement.occupied.Given as goal
 

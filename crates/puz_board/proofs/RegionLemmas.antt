@@ -3,9 +3,9 @@ use Rattle.std.proofs.Common.{◌≡◌, ◌≢◌, ℕ, ◌-◌, ◌<◌, ◌�
 use Rattle.std.specs.Int.{bit_at}
 use Rattle.std.proofs.lemmas.Bool.{cases_eq}
 use Rattle.puz_board.specs.Cells.{Adjacent}
-use Rattle.pat_place.specs.Masks.{IsMaskOf}
-use Rattle.pat_place.specs.Regions.{Reaches, here, onward}
-use Rattle.pat_place.proofs.BitLemmas.{IsIn, sub_le}
+use Rattle.puz_board.specs.Masks.{IsMaskOf}
+use Rattle.puz_board.specs.Paths.{Reaches, here, onward}
+use Rattle.puz_board.proofs.BitLemmas.{IsIn, sub_le}
 
 -- the cells of the region that are found so far
 pub record IsGrowing (n free cell region : ℕ) : Type 0 where

@@ -1,26 +1,18 @@
 -- Masks that grow by the cells next to them.
-use Rattle.std.proofs.Common.{◌≡◌, ◌≢◌, ℕ, ◌+◌, ◌-◌, ◌*◌, ◌/◌, ◌%◌, ◌^◌, ◌<◌, ◌≤◌, Bool, true, false, cond, eqb, ◌⊎◌, Some, None, inl, inr, refl, sym, ◌∙◌, ap, subst, arith, ne_eqb, ltb, lit<}
+use Rattle.std.proofs.Common.{◌≡◌, ◌≢◌, ℕ, ◌+◌, ◌-◌, ◌*◌, ◌/◌, ◌%◌, ◌^◌, ◌<◌, ◌≤◌, true, eqb, ◌⊎◌, Some, inl, inr, sym, ◌∙◌, ap, subst, arith, ltb, lit<}
 use Rattle.std.specs.Prelude.{bit_and, bit_or, ◌&&◌}
 use Rattle.std.specs.Int.{bit_at}
-use Rattle.std.proofs.lemmas.Bool.{cond-false, eqb-false, eqb-true, eq-eqb, ltb-true, lt-ltb, and_parts, and_from, agree_below, agree_below_at}
+use Rattle.std.proofs.lemmas.Bool.{eqb-false, eqb-true, eq-eqb, ltb-true, lt-ltb, and_parts, and_from, agree_below, agree_below_at}
 use Rattle.std.proofs.lemmas.Nat.{mul-le}
 use Rattle.std.proofs.Math.Nat.{pow-le-pow_right}
 use Rattle.puz_board.specs.declared.moves.Move.{Move}
 use Rattle.puz_board.specs.declared.moves.Move.TheVariants.{Up, Down, Left, Right}
 use Rattle.puz_board.specs.Cells.{step_of, Adjacent}
-use Rattle.puz_board.proofs.CellLemmas.{by_side}
-use Rattle.pat_place.specs.Masks.{IsMaskOf}
-use Rattle.pat_place.proofs.BitLemmas.{IsIn, both_in, in_both, either_in, in_left, in_right, in_shr, in_shl, shl_in, sub_le, in_below, in_or_out, in_but, but_in}
-use Rattle.pat_place.proofs.SideLemmas.{few_cells}
+use Rattle.puz_board.proofs.CellLemmas.{by_side, few_cells, goes, stays}
+use Rattle.puz_board.specs.Masks.{IsMaskOf}
+use Rattle.puz_board.proofs.BitLemmas.{IsIn, both_in, in_both, either_in, in_left, in_right, in_shr, in_shl, shl_in, sub_le, in_below, in_or_out, in_but, but_in}
 
 -- ---- adjacent cells by their numbers
-
-goes : (a edge x c : ℕ) → a ≢ edge → x ≡ c → cond (eqb a edge) None (Some x) ≡ Some c
-goes a edge x c ne e = cond-false (eqb a edge) None (Some x) (ne_eqb a edge ne) ∙ ap Some e
-
-stays : (stopped : Bool) (x d : ℕ) → cond stopped None (Some x) ≡ Some d → (stopped ≡ false) × (x ≡ d)
-stays true x d e = absurd (let bad : None ≡ Some d = e in cc)
-stays false x d e = (refl, cc)
 
 below_row : (n : ℕ) → 2 ≤ n → n ≤ 5 → (c : ℕ) → n + c < n * n → c / n ≢ n - 1
 below_row = by_side (λ n. (c : ℕ) → n + c < n * n → c / n ≢ n - 1) (λ c l e. omega arith) (λ c l e. omega arith) (λ c l e. omega arith) (λ c l e. omega arith)
