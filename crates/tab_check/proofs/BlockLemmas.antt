@@ -41,8 +41,8 @@ rank_low r j w m l = elim (cases_lt r m) [ inl k ↦ k | inr k ↦ absurd (let h
 rank_high : (r j w m : ℕ) → j < w → m * w ≤ r * w + j → m ≤ r
 rank_high r j w m low l = elim (cases_lt r m) [ inr k ↦ k | inl k ↦ absurd (let h : (r + 1) * w ≤ m * w = mul-le-mul_right w (let s : r + 1 ≤ m = omega arith in s) in omega arith) ]
 
-pub block_fits : (p : PatternView) → IsPattern p → (block : ℕ) → block < (placement_count p + 255) / 256 → block * 256 < placement_count p
-block_fits p pat block l = omega arith
+pub first_fits : (p : PatternView) → IsPattern p → (block : ℕ) → block < (placement_count p + 255) / 256 → block * 256 + 256 < 2 ^ 64
+first_fits p pat block l = let few = few_placements p pat in omega arith
 
 pub number_fits : (p : PatternView) → IsPattern p → (r w j : ℕ) → r < placement_count p → w < 256 → j < 256 → r * w + j < 2 ^ 64
 number_fits p pat r w j l fit low =

@@ -73,9 +73,5 @@ module _ (t : Table) (pat : IsPattern t.pattern) (cells : List ℕ) (j e : ℕ) 
       breaks other (one_more k region far least small is) = let same : m ≡ k = IsLeastOf-only _ m k near least in other (inl (omega arith, omega arith))
       breaks other (never region far least is) = let same : m ≡ 255 = IsLeastOf-only _ m 255 near least in other (inr (same, is))
 
-  -- the goal's slot, by the mask of its region
-  pub goal_from_mask : (mask : ℕ) → IsRegion t.pattern.side cells j mask → cells ≡ t.pattern.tiles → bit_at mask 0 ≡ 1 → IsGoalSlot t.pattern cells j
-  goal_from_mask mask is home inside = (home, ((is 0).0 inside).1)
-
   pub mask_from_goal : (mask : ℕ) → IsRegion t.pattern.side cells j mask → IsGoalSlot t.pattern cells j → bit_at mask 0 ≡ 1
   mask_from_goal mask is g = (is 0).1 (goal_free t.pattern pat cells g.0, g.1)
