@@ -1,15 +1,14 @@
 -- The entries of one placement, and of one block.
-use Rattle.std.proofs.Common.{◌≡◌, ℕ, ◌+◌, ◌*◌, ◌/◌, ◌^◌, ◌<◌, ◌≤◌, eqb, List, length, Some, inl, inr, refl, sym, ◌∙◌, ap, subst, arith, lit<, eq-eqb}
+use Rattle.std.proofs.Common.{◌≡◌, ℕ, ◌+◌, ◌*◌, ◌/◌, ◌^◌, ◌<◌, ◌≤◌, eqb, List, length, Some, inl, inr, refl, sym, ◌∙◌, ap, subst, arith, eq-eqb}
 use Rattle.std.specs.Prelude.{IsTrue, ◌↔◌, slice_get, slice_index}
 use Rattle.std.proofs.lemmas.Bool.{cases_lt, eqb-true}
-use Rattle.std.proofs.Math.Nat.{mul-le-mul_left, mul-le-mul_right, pow-le-pow_right}
+use Rattle.std.proofs.Math.Nat.{mul-le-mul_left, mul-le-mul_right}
 use Rattle.pat_place.specs.Patterns.{PatternView, IsPattern}
 use Rattle.pat_place.specs.Placements.{PlacementView, IsPlacement}
 use Rattle.pat_place.specs.Ranks.{IsRank, placements}
+use Rattle.pat_place.proofs.CountLemmas.{few_placements}
 use Rattle.pat_place.proofs.ListLemmas.{Some-one}
-use Rattle.pat_place.proofs.PatternLemmas.{few_tiles}
-use Rattle.pat_place.proofs.RankLemmas.{IsRank-below, IsRank-one, count_of_placements, falling_fits}
-use Rattle.puz_board.proofs.CellLemmas.{few_cells}
+use Rattle.pat_place.proofs.RankLemmas.{IsRank-below, IsRank-one}
 use Rattle.tab_file.specs.Tables.{Table, entry_at, placement_count, slot_count}
 use Rattle.tab_check.specs.BadEntries.{IsBad, KeepsRule}
 use Rattle.tab_check.specs.Blocks.{BlockKeepsRule, IsFirstBadSlot, IsLeastBadIn, SlotsKeepRule, first_of_block}
@@ -42,16 +41,8 @@ rank_low r j w m l = elim (cases_lt r m) [ inl k ↦ k | inr k ↦ absurd (let h
 rank_high : (r j w m : ℕ) → j < w → m * w ≤ r * w + j → m ≤ r
 rank_high r j w m low l = elim (cases_lt r m) [ inr k ↦ k | inl k ↦ absurd (let h : (r + 1) * w ≤ m * w = mul-le-mul_right w (let s : r + 1 ≤ m = omega arith in s) in omega arith) ]
 
--- there are fewer than 2 ^ 38 placements
-pub few_placements : (p : PatternView) → IsPattern p → placement_count p < 2 ^ 38
-few_placements p pat =
-    let fits = falling_fits (p.side * p.side) (length p.tiles) (few_cells p.side pat.low pat.high) in
-    let most : 25 ^ length p.tiles ≤ 25 ^ 8 = pow-le-pow_right (let k : 0 < 25 = lit< tt in k) (few_tiles p pat) in
-    let e = count_of_placements p.side (length p.tiles) in
-    omega arith
-
-pub block_fits : (p : PatternView) → IsPattern p → (block : ℕ) → block < (placement_count p + 255) / 256 → block * 256 < placement_count p
-block_fits p pat block l = omega arith
+pub first_fits : (p : PatternView) → IsPattern p → (block : ℕ) → block < (placement_count p + 255) / 256 → block * 256 + 256 < 2 ^ 64
+first_fits p pat block l = let few = few_placements p pat in omega arith
 
 pub number_fits : (p : PatternView) → IsPattern p → (r w j : ℕ) → r < placement_count p → w < 256 → j < 256 → r * w + j < 2 ^ 64
 number_fits p pat r w j l fit low =

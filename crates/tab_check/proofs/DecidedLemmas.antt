@@ -1,5 +1,5 @@
 -- Whether an entry keeps the local rule can be told.
-use Rattle.std.proofs.Common.{◌≡◌, ℕ, suc, ◌*◌, ◌<◌, ◌≤◌, ◌⊎◌, Bool, true, false, List, length, get_or, set, inl, inr, refl, subst, arith}
+use Rattle.std.proofs.Common.{◌≡◌, ℕ, suc, ◌*◌, ◌<◌, ◌⊎◌, Bool, true, false, List, length, get_or, set, inl, inr, refl, subst, arith}
 use Rattle.std.specs.Prelude.{MatchBool}
 use Rattle.std.proofs.lemmas.Bool.{cases_eq, cases_lt}
 use Rattle.pat_place.specs.Patterns.{IsPattern}
@@ -80,12 +80,12 @@ from_test : (P : Type 0) (b : Bool) → MatchBool b P (P → ⊥) → Decided P
 from_test P true held = inl held
 from_test P false failed = inr failed
 
-one_more_decided : (m e : ℕ) → Decided (((m ≤ 252) × (e ≡ suc m)) ⊎ ((m ≡ 255) × (e ≡ 255)))
+one_more_decided : (m e : ℕ) → Decided (((m < 253) × (e ≡ suc m)) ⊎ ((m ≡ 255) × (e ≡ 255)))
 one_more_decided m e = elim (cases_lt m 253) [
   | inl low ↦ elim (cases_eq e (suc m)) [ inl same ↦ inl (inl (omega arith, same)) | inr other ↦ inr (λ h. elim h [ inl x ↦ other x.1 | inr x ↦ (let full : m ≡ 255 = x.0 in omega arith) ]) ]
   | inr high ↦ elim (cases_eq m 255) [
-    | inr other ↦ inr (λ h. elim h [ inl x ↦ (let l : m ≤ 252 = x.0 in omega arith) | inr x ↦ other x.0 ])
-    | inl full ↦ elim (cases_eq e 255) [ inl same ↦ inl (inr (full, same)) | inr other ↦ inr (λ h. elim h [ inl x ↦ (let l : m ≤ 252 = x.0 in omega arith) | inr x ↦ other x.1 ]) ]
+    | inr other ↦ inr (λ h. elim h [ inl x ↦ (let l : m < 253 = x.0 in omega arith) | inr x ↦ other x.0 ])
+    | inl full ↦ elim (cases_eq e 255) [ inl same ↦ inl (inr (full, same)) | inr other ↦ inr (λ h. elim h [ inl x ↦ (let l : m < 253 = x.0 in omega arith) | inr x ↦ other x.1 ]) ]
   ]
 ]
 

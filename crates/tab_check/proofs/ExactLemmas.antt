@@ -1,5 +1,5 @@
 -- Right entries keep the local rule.
-use Rattle.std.proofs.Common.{◌≡◌, ℕ, suc, ◌≤◌, ◌⊎◌, ◌↔◌, List, get_or, set, Some, None, inl, inr, refl, sym, ◌∙◌, subst, arith}
+use Rattle.std.proofs.Common.{◌≡◌, ℕ, suc, ◌<◌, ◌≤◌, ◌⊎◌, ◌↔◌, List, get_or, set, Some, None, inl, inr, refl, sym, ◌∙◌, subst, arith}
 use Rattle.std.specs.Prelude.{slice_index}
 use Rattle.puz_board.specs.Boards.{IsBoardOf, blank}
 use Rattle.puz_board.proofs.BoardWays.{State}
@@ -63,7 +63,7 @@ module _ (p : PatternView) (pat : IsPattern p) (entries : List ℕ) (exact : Are
     region = record { cell = c; free = free; in_slot = slot }
 
     -- where the value is one more than the least near it, so is the entry
-    least_near : (k : ℕ) (q : List ℕ) (t : ℕ) → k ≤ 252 → e ≡ suc k → IsNear p.side cells c q t → value p pat entries q t ≡ Some k
+    least_near : (k : ℕ) (q : List ℕ) (t : ℕ) → k < 253 → e ≡ suc k → IsNear p.side cells c q t → value p pat entries q t ≡ Some k
         → ((q : List ℕ) (t k : ℕ) → IsNear p.side cells c q t → value p pat entries q t ≡ Some k → e ≤ suc k) → IsLeastNear (table p entries) cells j k
     least_near k q t small more near has_k bound = record {
       most = omega arith;
@@ -120,7 +120,7 @@ module _ (p : PatternView) (pat : IsPattern p) (entries : List ℕ) (exact : Are
         counted far l one =
             let k : ℕ = one.0.2 in
             let more : e ≡ suc k = one.0.5 in
-            let small : k ≤ 252 = omega arith in
+            let small : k < 253 = omega arith in
             one_more k region far (least_near k one.0.0 one.0.1 small more one.0.3 one.0.4 one.1) small more
 
         away : (¬ IsGoalSlot p cells j) → (e ≤ 253) ⊎ (e ≡ 255) → IsOneMore p (value p pat entries) cells c (value p pat entries cells c) → LocalRule (table p entries) cells j e

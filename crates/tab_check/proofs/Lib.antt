@@ -1,7 +1,9 @@
+pub mod AnswerLemmas
 pub mod BlockLemmas
 pub mod DecidedLemmas
 pub mod EntryLemmas
 pub mod ExactLemmas
+pub mod JobLemmas
 pub mod LookLemmas
 pub mod MoveLemmas
 pub mod NearLemmas

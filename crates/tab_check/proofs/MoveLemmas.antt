@@ -1,14 +1,9 @@
 -- Moves of tiles, and the least of what they lead to.
-use Rattle.std.proofs.Common.{◌≡◌, ℕ, ◌+◌, ◌*◌, ◌<◌, ◌≤◌, ◌⊎◌, true, length, get_or, set, min, inl, inr, refl, sym, ◌∙◌, ap, subst, arith, get_or-set_same, get_or-set_other, length-set}
+use Rattle.std.proofs.Common.{◌≡◌, ℕ, ◌<◌, ◌≤◌, ◌⊎◌, true, length, get_or, set, min, inl, inr, refl, sym, ◌∙◌, ap, subst, arith, get_or-set_same, get_or-set_other, length-set}
 use Rattle.std.proofs.lemmas.Bool.{cases_eq, cases_lt, both_ways, false_from_ne_true}
 use Rattle.pat_place.specs.Patterns.{has}
 use Rattle.pat_place.specs.Placements.{PlacementView, IsFree, IsPlacement}
-use Rattle.pat_place.specs.Ranks.{IsRank}
-use Rattle.pat_place.specs.Regions.{IsSlot}
 use Rattle.pat_place.proofs.ListLemmas.{all_at, apart_at, at-has, has-at}
-use Rattle.pat_place.proofs.PlacementLemmas.{IsPlacement-moved}
-use Rattle.tab_file.specs.Tables.{Table, entry_at, slot_count}
-use Rattle.tab_check.specs.Entries.{IsEntryAt}
 use Rattle.tab_check.specs.LocalRule.{IsLeastOf}
 
 -- ---- one tile moved
@@ -26,23 +21,6 @@ module _ (p : PlacementView) (is : IsPlacement p) (i to : ℕ) (low : i < length
             | inl e ↦ both_ways (has p.cells to) free.1 (has-at p.cells to i low (sym k.2 ∙ ap (λ j. get_or (set p.cells i to) j 0) e ∙ get_or-set_same p.cells i to 0 low))
             | inr ne ↦ ne (apart_at p.cells is.apart k.0 i k_low low (sym (get_or-set_other p.cells i k.0 to 0 ne) ∙ k.2))
           ]
-
-  -- the entry of its rank and of that cell's slot
-  pub IsEntryAt-moved : (t : Table) → p.pattern ≡ t.pattern → (r j e : ℕ) → IsRank p.pattern.side (set p.cells i to) r → IsSlot p.pattern.side (set p.cells i to) (get_or p.cells i 0) j
-      → j < slot_count t.pattern → e ≡ entry_at t r j → IsEntryAt t (set p.cells i to) (get_or p.cells i 0) e
-  IsEntryAt-moved t same r j e is_rank is_slot j_low holds = record {
-    slot = j;
-    is_slot = subst (λ q. IsSlot q.side (set p.cells i to) (get_or p.cells i 0) j) same is_slot;
-    number = r * slot_count t.pattern + j;
-    is_number = record {
-      placement = subst (λ q. IsPlacement (record { pattern = q; cells = set p.cells i to })) same (IsPlacement-moved p is i to free);
-      rank = r;
-      is_rank = subst (λ q. IsRank q.side (set p.cells i to) r) same is_rank;
-      slot = j_low;
-      counted = refl;
-    };
-    holds = sym holds;
-  }
 
 -- ---- the least of several
 

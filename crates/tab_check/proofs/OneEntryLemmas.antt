@@ -60,22 +60,18 @@ module _ (t : Table) (pat : IsPattern t.pattern) (cells : List ℕ) (j e : ℕ) 
       breaks other (never region far least is) = far home
 
   pub rule_away : HasRegion t.pattern.side cells j → (¬ IsGoalSlot t.pattern cells j) → (m : ℕ) → IsLeastNear t cells j m
-      → (b : Bool) → IsTrue b ↔ (((m ≤ 252) × (e ≡ suc m)) ⊎ ((m ≡ 255) × (e ≡ 255))) → MatchBool b (LocalRule t cells j e) (LocalRule t cells j e → ⊥)
+      → (b : Bool) → IsTrue b ↔ (((m < 253) × (e ≡ suc m)) ⊎ ((m ≡ 255) × (e ≡ 255))) → MatchBool b (LocalRule t cells j e) (LocalRule t cells j e → ⊥)
   rule_away has away m near b test = by_test (LocalRule t cells j e) (LocalRule t cells j e → ⊥) b (λ held. keeps (test.0 held)) (λ failed. breaks (λ is. both_ways b failed (test.1 is)))
     where
-      keeps : (((m ≤ 252) × (e ≡ suc m)) ⊎ ((m ≡ 255) × (e ≡ 255))) → LocalRule t cells j e
+      keeps : (((m < 253) × (e ≡ suc m)) ⊎ ((m ≡ 255) × (e ≡ 255))) → LocalRule t cells j e
       keeps (inl h) = one_more m has away near h.0 h.1
       keeps (inr h) = never has away (subst (IsLeastNear t cells j) h.0 near) h.1
 
-      breaks : ((((m ≤ 252) × (e ≡ suc m)) ⊎ ((m ≡ 255) × (e ≡ 255))) → ⊥) → LocalRule t cells j e → ⊥
+      breaks : ((((m < 253) × (e ≡ suc m)) ⊎ ((m ≡ 255) × (e ≡ 255))) → ⊥) → LocalRule t cells j e → ⊥
       breaks other (no_region without is) = without has.cell has.free has.in_slot
       breaks other (goal g is) = away g
       breaks other (one_more k region far least small is) = let same : m ≡ k = IsLeastOf-only _ m k near least in other (inl (omega arith, omega arith))
       breaks other (never region far least is) = let same : m ≡ 255 = IsLeastOf-only _ m 255 near least in other (inr (same, is))
-
-  -- the goal's slot, by the mask of its region
-  pub goal_from_mask : (mask : ℕ) → IsRegion t.pattern.side cells j mask → cells ≡ t.pattern.tiles → bit_at mask 0 ≡ 1 → IsGoalSlot t.pattern cells j
-  goal_from_mask mask is home inside = (home, ((is 0).0 inside).1)
 
   pub mask_from_goal : (mask : ℕ) → IsRegion t.pattern.side cells j mask → IsGoalSlot t.pattern cells j → bit_at mask 0 ≡ 1
   mask_from_goal mask is g = (is 0).1 (goal_free t.pattern pat cells g.0, g.1)

@@ -1,5 +1,5 @@
 -- Entries that keep the local rule are right.
-use Rattle.std.proofs.Common.{◌≡◌, ℕ, suc, ◌≤◌, ◌⊎◌, List, Some, None, get_or, set, inl, inr, refl, sym, ◌∙◌, ap, subst, arith}
+use Rattle.std.proofs.Common.{◌≡◌, ℕ, suc, ◌<◌, ◌≤◌, ◌⊎◌, List, Some, None, get_or, set, inl, inr, refl, sym, ◌∙◌, ap, subst, arith}
 use Rattle.std.specs.Prelude.{slice_index}
 use Rattle.puz_board.specs.Boards.{IsBoardOf, blank}
 use Rattle.pat_place.specs.Patterns.{PatternView, IsPattern, has}
@@ -40,7 +40,7 @@ module _ (p : PatternView) (pat : IsPattern p) where
         value-is p pat entries q t x.0 ok.0 ok.1 x.1 ∙
         decode_large x.0 (let low : 255 ≤ x.0 = least.least x.0 (near_entry p pat entries cells c j q t x.0 free is near x.1) in omega arith)
 
-    some_near : (cells : List ℕ) (c j m : ℕ) → IsPlaced p cells → IsFree p.side cells c → IsSlot p.side cells c j → IsLeastNear (table p entries) cells j m → m ≤ 252
+    some_near : (cells : List ℕ) (c j m : ℕ) → IsPlaced p cells → IsFree p.side cells c → IsSlot p.side cells c j → IsLeastNear (table p entries) cells j m → m < 253
         → IsOneMore p (value p pat entries) cells c (Some (suc m))
     some_near cells c j m place free is least small = (first least.reached, bound)
       where

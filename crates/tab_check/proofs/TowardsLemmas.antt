@@ -1,5 +1,5 @@
 -- The entries after the moves of one tile, and of all tiles.
-use Rattle.std.proofs.Common.{◌≡◌, ℕ, ◌+◌, ◌*◌, ◌<◌, ◌≤◌, ◌⊎◌, List, length, Some, None, get_or, set, min, inl, inr, sym, ◌∙◌, ap, subst, arith}
+use Rattle.std.proofs.Common.{◌≡◌, ℕ, ◌+◌, ◌*◌, ◌<◌, ◌≤◌, ◌⊎◌, List, length, Some, get_or, set, min, inl, inr, sym, ◌∙◌, subst, arith}
 use Rattle.std.specs.Int.{bit_at}
 use Rattle.std.proofs.lemmas.Bool.{cases_eq}
 use Rattle.puz_board.specs.declared.moves.Move.{Move}
@@ -52,13 +52,6 @@ module _ (t : Table) (p : PlacementView) (index : ℕ) (tile : IsTile t p index)
             let at_to : IsEntryAt t (set p.cells index to) (get_or p.cells index 0) f = subst (λ x. IsEntryAt t (set p.cells index x) (get_or p.cells index 0) f) same other.entry in
             let left = left_free p tile.placement index to tile.low (subst (λ q. IsFree q.side p.cells to) (sym tile.same) free) in
             entry_one t.pattern tile.pattern t.entries (set p.cells index to) (get_or p.cells index 0) f e (subst (λ q. IsFree q.side (set p.cells index to) (get_or p.cells index 0)) tile.same left) at_to entry
-
-    pub towards_none : step_of t.pattern.side (get_or p.cells index 0) mv ≡ None → IsLeastOf (IsEntryTowards t p.cells j index mv) 255
-    towards_none stops = IsLeastOf-none (IsEntryTowards t p.cells j index mv) (λ e other. let bad : None ≡ Some other.to = sym stops ∙ other.steps in cc)
-
-    pub towards_out : (to : ℕ) → step_of t.pattern.side (get_or p.cells index 0) mv ≡ Some to → ¬ (bit_at region to ≡ 1) → IsLeastOf (IsEntryTowards t p.cells j index mv) 255
-    towards_out to steps outside = IsLeastOf-none (IsEntryTowards t p.cells j index mv)
-        (λ e other. outside (ap (bit_at region) (sym (Some-one other.to to (sym other.steps ∙ steps))) ∙ (is other.to).1 (other.moves.free, other.moves.in_slot)))
 
   -- ---- the four moves
 

@@ -1,5 +1,5 @@
 -- What holds of every table, and of every file.
-use Rattle.std.specs.Prelude.{◌≡◌, ℕ, ◌≤◌, ◌≢◌, ◌↔◌, false, true, List, [], ◌∷◌}
+use Rattle.std.specs.Prelude.{◌≡◌, ℕ, ◌≤◌, ◌⊎◌, ◌↔◌, false, true, List, [], ◌∷◌}
 use Rattle.puz_board.specs.Boards.{IsBoardOf, at, blank, slid}
 use Rattle.puz_board.specs.Cells.{Adjacent}
 use Rattle.puz_board.specs.Costs.{LeadsHome, cost, is_one_of}
@@ -8,13 +8,12 @@ use Rattle.pat_place.specs.Regions.{IsSlot}
 use Rattle.tab_file.specs.Tables.{Table, IsTable}
 use Rattle.tab_check.specs.BadEntries.{AllKeepRule}
 use Rattle.tab_check.specs.Counts.{IsCensusOf}
-use Rattle.tab_check.specs.Entries.{IsEntryAt}
+use Rattle.tab_check.specs.Entries.{IsEntryAt, greatest_count}
 use Rattle.tab_check.specs.ExactTables.{AreExact, IsExactFile}
 use Rattle.tab_check.specs.LocalRule.{IsNearEntry}
 use Rattle.tab_check.specs.TableFaults.{IsFaultOf}
 use Rattle.tab_check.specs.declared.census.Census.{Census}
-use Rattle.tab_check.specs.declared.tables.TableFault.{TableFault}
-use Rattle.tab_check.specs.declared.tables.TableFault.TheVariants.{Memory}
+use Rattle.tab_check.specs.declared.tables.TableRefusal.{TableRefusal}
 
 -- e is the entry of the board's placement and of the region of its blank
 abbrev pub IsEntryOf : Table → List ℕ → ℕ → Type 0
@@ -40,7 +39,7 @@ TileStepsLeadToANearEntry =
 abbrev pub PathsCostTheEntryAtLeast : Type 0
 PathsCostTheEntryAtLeast =
     (t : Table) → IsTable t → AllKeepRule t → (b : List ℕ) → IsBoardOf t.pattern.side b → (e : ℕ) → IsEntryOf t b e →
-    (path : List ℕ) → LeadsHome t.pattern.tiles b path → (e ≤ 253) × (e ≤ cost t.pattern.tiles b path)
+    (path : List ℕ) → LeadsHome t.pattern.tiles b path → (e ≤ greatest_count) × (e ≤ cost t.pattern.tiles b path)
 
 -- a path that leads a board's tiles home at this cost
 pub record HasPathOf (tiles b : List ℕ) (d : ℕ) : Type 0 where
@@ -52,7 +51,7 @@ pub record HasPathOf (tiles b : List ℕ) (d : ℕ) : Type 0 where
 abbrev pub CountsHavePaths : Type 0
 CountsHavePaths =
     (t : Table) → IsTable t → AllKeepRule t → (b : List ℕ) → IsBoardOf t.pattern.side b → (e : ℕ) → IsEntryOf t b e →
-    e ≤ 253 → HasPathOf t.pattern.tiles b e
+    e ≤ greatest_count → HasPathOf t.pattern.tiles b e
 
 -- each entry keeps the local rule exactly where each entry is right
 abbrev pub FilesAreExactByRule : Type 0
@@ -64,13 +63,21 @@ FilesAreExactByRule = (t : Table) → IsTable t → AllKeepRule t ↔ AreExact t
 abbrev pub FilesHaveOneExactTable : Type 0
 FilesHaveOneExactTable = (file : List ℕ) (t u : Table) → IsExactFile t file → IsExactFile u file → t ≡ u
 
--- besides want of memory no file has two faults
-abbrev pub FilesHaveOneFault : Type 0
-FilesHaveOneFault = (file : List ℕ) (f g : TableFault) → f ≢ Memory → g ≢ Memory → IsFaultOf f file → IsFaultOf g file → f ≡ g
+-- each file is that of an exact table or has a fault
+abbrev pub FilesHaveAnAnswer : Type 0
+FilesHaveAnAnswer = (file : List ℕ) → ((t : Table) × IsExactFile t file) ⊎ ((f : TableRefusal) × IsFaultOf f file)
 
--- besides want of memory an exact file has no fault
+-- no file has two faults
+abbrev pub FilesHaveOneFault : Type 0
+FilesHaveOneFault = (file : List ℕ) (f g : TableRefusal) → IsFaultOf f file → IsFaultOf g file → f ≡ g
+
+-- an exact file has no fault
 abbrev pub ExactFilesHaveNoFault : Type 0
-ExactFilesHaveNoFault = (file : List ℕ) (t : Table) (f : TableFault) → IsExactFile t file → IsFaultOf f file → f ≡ Memory
+ExactFilesHaveNoFault = (file : List ℕ) (t : Table) (f : TableRefusal) → IsExactFile t file → ¬ IsFaultOf f file
+
+-- all entries have a census
+abbrev pub EntriesHaveACensus : Type 0
+EntriesHaveACensus = (entries : List ℕ) → (census : Census) × IsCensusOf entries census
 
 -- no entries have two censuses
 abbrev pub EntriesHaveOneCensus : Type 0

@@ -5,7 +5,7 @@ use Rattle.pat_place.specs.Patterns.{PatternView}
 use Rattle.pat_place.specs.Placements.{IsFree}
 use Rattle.pat_place.specs.Regions.{IsSlot}
 use Rattle.tab_file.specs.Tables.{Table}
-use Rattle.tab_check.specs.Entries.{HasNoRegion, HasRegion, IsEntryAt}
+use Rattle.tab_check.specs.Entries.{HasNoRegion, HasRegion, IsEntryAt, greatest_count, no_region_entry, no_way_home}
 
 -- the tile with this index is adjacent to a cell of the slot's region, to which it may move
 pub record MayMove (n : ℕ) (cells : List ℕ) (j index to : ℕ) : Type 0 where
@@ -21,11 +21,11 @@ pub record IsNearEntry (t : Table) (cells : List ℕ) (j e : ℕ) : Type 0 where
   pub moves : MayMove t.pattern.side cells j index to
   pub entry : IsEntryAt t (slice_set cells index to) (slice_index cells index) e
 
--- m is the least number with the property, or 255 where none is smaller
+-- m is the least number with the property, or that of no way home, 255, where none is smaller
 pub record IsLeastOf (Has : ℕ → Type 0) (m : ℕ) : Type 0 where
-  pub most : m ≤ 255
+  pub most : m ≤ no_way_home
   pub least : (e : ℕ) → Has e → m ≤ e
-  pub reached : (m ≡ 255) ⊎ Has m
+  pub reached : (m ≡ no_way_home) ⊎ Has m
 
 -- m is the least entry one move away, and 255 where there is none
 abbrev pub IsLeastNear : Table → List ℕ → ℕ → ℕ → Type 0
@@ -37,7 +37,7 @@ IsGoalSlot p cells j = (cells ≡ p.tiles) × IsSlot p.side cells 0 j
 
 -- the rule for the entry e of a placement and a slot, by cases
 pub data LocalRule (t : Table) (cells : List ℕ) (j e : ℕ) : Type 0 where
-  no_region : HasNoRegion t.pattern.side cells j → e ≡ 254 → LocalRule t cells j e
+  no_region : HasNoRegion t.pattern.side cells j → e ≡ no_region_entry → LocalRule t cells j e
   goal : IsGoalSlot t.pattern cells j → e ≡ 0 → LocalRule t cells j e
-  one_more : (m : ℕ) → HasRegion t.pattern.side cells j → ¬ IsGoalSlot t.pattern cells j → IsLeastNear t cells j m → m ≤ 252 → e ≡ suc m → LocalRule t cells j e
-  never : HasRegion t.pattern.side cells j → ¬ IsGoalSlot t.pattern cells j → IsLeastNear t cells j 255 → e ≡ 255 → LocalRule t cells j e
+  one_more : (m : ℕ) → HasRegion t.pattern.side cells j → ¬ IsGoalSlot t.pattern cells j → IsLeastNear t cells j m → m < greatest_count → e ≡ suc m → LocalRule t cells j e
+  never : HasRegion t.pattern.side cells j → ¬ IsGoalSlot t.pattern cells j → IsLeastNear t cells j no_way_home → e ≡ no_way_home → LocalRule t cells j e

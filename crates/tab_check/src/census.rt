@@ -2,8 +2,9 @@
 
 ghost use Rattle.std.specs.Prelude.{◌≡◌, ◌==◌, count_by, length};
 ghost use Rattle.tab_check.specs.Counts.{IsCensusOf, IsDeepestOf};
+ghost use Rattle.tab_check.specs.Entries.{no_way_home};
 
-use crate::rule::{MOST, NEVER};
+use crate::rule::{GREATEST_COUNT, NO_WAY_HOME};
 
 /// How many entries a table has, how many of them say that no walk leads home, and the greatest count.
 #[derive(Clone, Copy, Debug, PartialEq, Eq)]
@@ -26,11 +27,11 @@ pub(crate) fn census_of(entries: &[u8]) -> Census
 
 /// How many entries say that no walk leads home.
 fn count_never(entries: &[u8]) -> u64
-    ensures { result ≡ count_by (λ e. e == 255) entries.now }
+    ensures { result ≡ count_by (λ e. e == no_way_home) entries.now }
 {
     let mut count = 0;
     for entry in entries {
-        if *entry == NEVER {
+        if *entry == NO_WAY_HOME {
             count += 1;
         }
     }
@@ -43,7 +44,7 @@ fn deepest(entries: &[u8]) -> u8
 {
     let mut deepest = 0;
     for entry in entries {
-        if *entry <= MOST && *entry > deepest {
+        if *entry <= GREATEST_COUNT && *entry > deepest {
             deepest = *entry;
         }
     }

@@ -1,8 +1,7 @@
 //! The blocks of a table as jobs that workers share.
 
-ghost use Rattle.std.specs.Prelude.{◌≤◌, ◌^◌};
-ghost use Rattle.tab_file.specs.Tables.{entry_count};
-ghost use Rattle.tab_check.specs.Blocks.{block_count};
+ghost use Rattle.std.specs.Prelude.{◌≡◌, ℕ, ◌+◌, ◌≤◌, ◌^◌};
+ghost use Rattle.tab_check.specs.Blocks.{block_begin, block_count};
 
 use crate::blocks::{BLOCK_RANKS, block_count, check_block};
 use tab_file::TableView;
@@ -13,11 +12,12 @@ use work_run::Job;
 pub(crate) struct TableCheck<'a> {
     pub(crate) view: TableView<'a>,
     ghost few_blocks: { block_count view.pattern ≤ 2 ^ 32 },
-    ghost few_entries: { entry_count view.pattern ≤ 2 ^ 32 },
+    ghost from_zero: { block_begin view.pattern 0 ≡ 0 },
+    ghost rises: { (block : ℕ) → block_begin view.pattern block ≤ block_begin view.pattern (block + 1) },
+    ghost small: { block_begin view.pattern (block_count view.pattern) ≤ 2 ^ 32 },
 }
 
 impl<'a> Job for TableCheck<'a> {
-    ghost use Rattle.std.proofs.Common.{arith};
     ghost use Rattle.tab_check.specs.BadEntries.{IsBad};
     ghost use Rattle.tab_check.specs.Blocks.{block_begin, block_count};
 
@@ -29,11 +29,11 @@ impl<'a> Job for TableCheck<'a> {
 
     ghost few = { λ check. check.few_blocks };
 
-    ghost from_zero = { λ check. Prim.omega arith };
+    ghost from_zero = { λ check. check.from_zero };
 
-    ghost rises = { λ check block low. Prim.omega arith };
+    ghost rises = { λ check block low. check.rises block };
 
-    ghost small = { λ check. Prim.omega (arith, check.few_entries) };
+    ghost small = { λ check. check.small };
 
     fn count(&self) -> u64 {
         block_count(&self.view.pattern())

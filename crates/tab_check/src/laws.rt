@@ -1,6 +1,6 @@
 //! Laws of tables and their files. Each function here says what holds of all of them, and does nothing.
 
-ghost use Rattle.tab_check.specs.Laws.{CountsHavePaths, EntriesHaveOneCensus, ExactFilesHaveNoFault, FilesAreExactByRule, FilesHaveOneExactTable, FilesHaveOneFault, OtherStepsKeepTheEntry, PathsCostTheEntryAtLeast, TileStepsLeadToANearEntry};
+ghost use Rattle.tab_check.specs.Laws.{CountsHavePaths, EntriesHaveACensus, EntriesHaveOneCensus, ExactFilesHaveNoFault, FilesAreExactByRule, FilesHaveAnAnswer, FilesHaveOneExactTable, FilesHaveOneFault, OtherStepsKeepTheEntry, PathsCostTheEntryAtLeast, TileStepsLeadToANearEntry};
 
 /// A step that moves no tile of the pattern costs nothing and keeps the entry.
 pub fn other_steps_keep_the_entry()
@@ -27,14 +27,16 @@ pub fn files_are_exact_by_rule()
     ensures { FilesAreExactByRule }
 {}
 
-/// What is answered of a file is settled by its bytes, but for want of memory.
+/// A file is that of an exact table or has a fault, and of these one alone: its bytes settle all but want of memory.
 pub fn files_have_one_answer()
+    ensures some { FilesHaveAnAnswer }
     ensures table { FilesHaveOneExactTable }
     ensures fault { FilesHaveOneFault }
     ensures either { ExactFilesHaveNoFault }
 {}
 
-/// The census of a table is settled by its entries.
+/// The census of a table is settled by its entries, and there is one.
 pub fn entries_have_one_census()
-    ensures { EntriesHaveOneCensus }
+    ensures some { EntriesHaveACensus }
+    ensures one { EntriesHaveOneCensus }
 {}

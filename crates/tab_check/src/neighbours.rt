@@ -8,11 +8,12 @@ ghost use Rattle.tab_check.specs.LocalRule.{IsLeastNear, IsLeastOf};
 ghost use Rattle.tab_check.specs.Moves.{AreFree, IsEntryAfter, IsEntryTowards, IsRegion};
 
 use crate::masks::has_cell;
+use crate::rule::NO_WAY_HOME;
 use pat_place::{Placement, rank, slot_of};
 use puz_board::{Move, step};
 use tab_file::TableView;
 
-/// The least entry one move away from a placement and a region of its free cells, and 255 where there is none.
+/// The least entry one move away from a placement and a region of its free cells, and that of no way home where there is none.
 pub(crate) fn least_near(table: &TableView<'_>, placement: &Placement, region: u32) -> u8
     requires table { IsTable table.now }
     requires pattern { placement.now.pattern ≡ table.now.pattern }
@@ -20,7 +21,7 @@ pub(crate) fn least_near(table: &TableView<'_>, placement: &Placement, region: u
     ensures { (j : ℕ) → IsRegion table.now.pattern.side placement.now.cells j region → IsLeastNear table.now placement.now.cells j result }
 {
     let cells = placement.cells();
-    let mut least = u8::MAX;
+    let mut least = NO_WAY_HOME;
     for (index, cell) in cells.as_slice().iter().enumerate() {
         least = least.min(least_after(table, placement, region, index, *cell));
     }
@@ -51,7 +52,7 @@ fn least_after(
     up.min(down).min(left.min(right))
 }
 
-/// The entry after a tile's move to a cell of the region, and 255 where the move doesn't lead there.
+/// The entry after a tile's move to a cell of the region, and that of no way home where the move doesn't lead there.
 fn entry_towards(
     table: &TableView<'_>,
     placement: &Placement,
@@ -73,9 +74,9 @@ fn entry_towards(
         Some(to) => if has_cell(region, to) {
             entry_after(table, placement, index, cell, to)
         } else {
-            u8::MAX
+            NO_WAY_HOME
         },
-        None => u8::MAX,
+        None => NO_WAY_HOME,
     }
 }
 
@@ -89,5 +90,6 @@ fn entry_after(table: &TableView<'_>, placement: &Placement, index: usize, cell:
     ensures { IsEntryAt table.now (slice_set placement.now.cells index to) (slice_index placement.now.cells index) result }
 {
     let moved = placement.moved(index, to);
-    table.entry(rank(&moved), slot_of(&moved, cell))
+    let slot = slot_of(&moved, cell);
+    table.entry(rank(&moved), slot)
 }

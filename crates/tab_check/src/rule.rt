@@ -1,11 +1,12 @@
 //! The local rule at one entry, and at the entries of one placement.
 
-ghost use Rattle.std.specs.Prelude.{◌≡◌, suc, ◌≤◌, ◌⊎◌, ◌↔◌, IsTrue, MatchBool, MatchOption};
+ghost use Rattle.std.specs.Prelude.{◌≡◌, suc, ◌<◌, ◌⊎◌, ◌↔◌, IsTrue, MatchBool, MatchOption};
 ghost use Rattle.pat_place.specs.Placements.{IsPlacement};
 ghost use Rattle.pat_place.specs.Ranks.{IsRank};
 ghost use Rattle.pat_place.specs.Regions.{AreRegions};
 ghost use Rattle.tab_file.specs.Tables.{IsTable, slot_count};
 ghost use Rattle.tab_check.specs.Blocks.{IsFirstBadSlot, SlotsKeepRule};
+ghost use Rattle.tab_check.specs.Entries.{greatest_count, no_way_home};
 ghost use Rattle.tab_check.specs.LocalRule.{LocalRule};
 
 use crate::masks::has_cell;
@@ -17,10 +18,10 @@ use tab_file::TableView;
 const NO_REGION: u8 = 254;
 
 /// The entry from which no walk leads home.
-pub(crate) const NEVER: u8 = 255;
+pub(crate) const NO_WAY_HOME: u8 = 255;
 
-/// The greatest count of an entry.
-pub(crate) const MOST: u8 = 253;
+/// The greatest count that an entry has.
+pub(crate) const GREATEST_COUNT: u8 = 253;
 
 /// The first slot of a placement whose entry breaks the local rule. Its rank is given, and that of the goal.
 pub(crate) fn first_bad_slot(
@@ -85,11 +86,11 @@ fn keeps_rule(
 
 /// Whether an entry away from the goal is right beside the least entry one move away.
 fn is_one_more(entry: u8, least: u8) -> bool
-    ensures { IsTrue result ↔ (((least ≤ 252) × (entry ≡ suc least)) ⊎ ((least ≡ 255) × (entry ≡ 255))) }
+    ensures { IsTrue result ↔ (((least < greatest_count) × (entry ≡ suc least)) ⊎ ((least ≡ no_way_home) × (entry ≡ no_way_home))) }
 {
-    if least < MOST {
+    if least < GREATEST_COUNT {
         entry == least + 1
     } else {
-        least == NEVER && entry == NEVER
+        least == NO_WAY_HOME && entry == NO_WAY_HOME
     }
 }

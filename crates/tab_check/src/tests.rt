@@ -1,59 +1,18 @@
-//! Known tables and changed ones, by several workers, and gates that watch and hold them.
+//! Known tables, tables by a search of their own and changed ones, by several workers, and gates that watch and hold them.
 
 ghost use Rattle.std.specs.Prelude.{◌<◌, ◌≤◌};
 
 use crate::blocks::block_count;
-use crate::{Census, CheckedTable, Count, TableFault, check_block, check_table};
+use crate::{Census, CheckedTable, Count, TableFault, TableRefusal, check_block, check_table};
 use puz_board::Board;
-use std::alloc::{AllocError, Global};
+use samples::files::{FOURTEEN_BLOCKS, TILE_1, TILE_3, TILE_24, TILES_12, TILES_123, TWO_BLOCKS};
+use samples::{HoldingGate, LeastCosts, Log};
 use std::process::Abort;
 use std::sync::Wait;
-use std::sync::atomic::{AtomicU64, Ordering};
 use std::test::Fail;
 use std::thread::Threads;
 use tab_file::{HeadFault, view};
 use work_run::{Gate, OpenGate};
-
-/// The tiles 1, 2 and 3 on side 2: one slot.
-const TILES_123: [u8; 44] = [
-    0x50, 0x44, 0x42, 0x54, 0x01, 0x02, 0x03, 0x00, 0x00, 0x00, 0x00, 0x0E, 0x00, 0x00, 0x00, 0x00,
-    0x00, 0x00, 0x00, 0x18, 0xFF, 0xFF, 0x02, 0x01, 0x03, 0xFF, 0x02, 0x01, 0xFF, 0x00, 0xFF, 0xFF,
-    0xFF, 0xFF, 0x06, 0xFF, 0x05, 0x04, 0xFF, 0x03, 0x05, 0x04, 0xFF, 0xFF,
-];
-
-/// The tiles 1 and 2 on side 2: two slots.
-const TILES_12: [u8; 44] = [
-    0x50, 0x44, 0x42, 0x54, 0x01, 0x02, 0x02, 0x00, 0x00, 0x00, 0x00, 0x06, 0x00, 0x00, 0x00, 0x00,
-    0x00, 0x00, 0x00, 0x18, 0xFF, 0xFE, 0x01, 0xFE, 0xFF, 0x02, 0x01, 0xFE, 0x00, 0xFF, 0xFF, 0xFE,
-    0xFF, 0xFE, 0xFF, 0x04, 0x03, 0xFE, 0x02, 0xFF, 0x03, 0xFE, 0xFF, 0xFE,
-];
-
-/// The tile 1 on side 2.
-const TILE_1: [u8; 28] = [
-    0x50, 0x44, 0x42, 0x54, 0x01, 0x02, 0x01, 0x00, 0x00, 0x00, 0x00, 0x02, 0x00, 0x00, 0x00, 0x00,
-    0x00, 0x00, 0x00, 0x08, 0x01, 0xFE, 0x00, 0xFE, 0x02, 0xFE, 0x01, 0xFE,
-];
-
-/// The tile 3 on side 2.
-const TILE_3: [u8; 28] = [
-    0x50, 0x44, 0x42, 0x54, 0x01, 0x02, 0x01, 0x00, 0x00, 0x00, 0x00, 0x08, 0x00, 0x00, 0x00, 0x00,
-    0x00, 0x00, 0x00, 0x08, 0x02, 0xFE, 0x01, 0xFE, 0x01, 0xFE, 0x00, 0xFE,
-];
-
-/// The tile 24 on side 5.
-const TILE_24: [u8; 70] = [
-    0x50, 0x44, 0x42, 0x54, 0x01, 0x05, 0x01, 0x00, 0x01, 0x00, 0x00, 0x00, 0x00, 0x00, 0x00, 0x00,
-    0x00, 0x00, 0x00, 0x32, 0x08, 0xFE, 0x07, 0xFE, 0x06, 0xFE, 0x05, 0xFE, 0x04, 0xFE, 0x07, 0xFE,
-    0x06, 0xFE, 0x05, 0xFE, 0x04, 0xFE, 0x03, 0xFE, 0x06, 0xFE, 0x05, 0xFE, 0x04, 0xFE, 0x03, 0xFE,
-    0x02, 0xFE, 0x05, 0xFE, 0x04, 0xFE, 0x03, 0xFE, 0x02, 0xFE, 0x01, 0xFE, 0x04, 0xFE, 0x03, 0xFE,
-    0x02, 0xFE, 0x01, 0xFE, 0x00, 0xFE,
-];
-
-/// The header of the tiles 1, 2 and 3 on side 3, which have 504 placements of four slots.
-const HEADER: [u8; 20] = [
-    0x50, 0x44, 0x42, 0x54, 0x01, 0x03, 0x03, 0x00, 0x00, 0x00, 0x00, 0x0E, 0x00, 0x00, 0x00, 0x00,
-    0x00, 0x00, 0x07, 0xE0,
-];
 
 /// The check of a file by one worker.
 fn checked<'a, R: Threads + Wait + AllocGlobal>(
@@ -94,17 +53,26 @@ fn census<R: Threads + Wait + AllocGlobal + Abort>(
     alone
 }
 
-/// What a table tells of a board of side 2.
-fn look<R: Threads + Wait + AllocGlobal>(rt: &R, file: &[u8], numbers: &[u8; 4]) -> Option<Count> {
-    let table = match checked(rt, file) {
-        Ok(table) => table,
-        Err(_) => return None,
-    };
+/// The refusal that names this entry.
+fn bad_entry(number: u64) -> TableFault {
+    TableFault::Refused(TableRefusal::T7(number))
+}
+
+/// What a table tells of the board with these numbers in its cells.
+fn told(table: &CheckedTable<'_>, numbers: &[u8]) -> Option<Count> {
     let board = Board::from_cells(numbers)?;
     if table.pattern().side() == board.side() {
         Some(table.look(&board))
     } else {
         None
+    }
+}
+
+/// What a table file tells of a board.
+fn look<R: Threads + Wait + AllocGlobal>(rt: &R, file: &[u8], numbers: &[u8]) -> Option<Count> {
+    match checked(rt, file) {
+        Ok(table) => told(&table, numbers),
+        Err(_) => None,
     }
 }
 
@@ -146,15 +114,15 @@ fn boards_are_looked_up(rt: HostRuntime) {
 fn the_least_bad_entry_is_named(rt: HostRuntime) {
     let mut file = TILES_123;
     file[34] = 0x02;
-    assert_eq!(rt; census(&rt, &file), Err(TableFault::T7(14)));
+    assert_eq!(rt; census(&rt, &file), Err(bad_entry(14)));
     let mut file = TILES_12;
     file[20] = 0xFE;
-    assert_eq!(rt; census(&rt, &file), Err(TableFault::T7(0)));
+    assert_eq!(rt; census(&rt, &file), Err(bad_entry(0)));
     let mut file = TILE_1;
     for i in 20..28 {
         file[i] = 0xFF;
     }
-    assert_eq!(rt; census(&rt, &file), Err(TableFault::T7(1)));
+    assert_eq!(rt; census(&rt, &file), Err(bad_entry(1)));
 }
 
 /// The least bad entry of a block.
@@ -167,13 +135,13 @@ fn bad_in(rt: &impl Abort, file: &[u8], block: u64) -> Option<u64> {
 #[test]
 fn tables_of_one_byte_are_refused(rt: HostRuntime) {
     let mut file = [0xFE; 2036];
-    file[..20].copy_from_slice(&HEADER);
-    assert_eq!(rt; census(&rt, &file), Err(TableFault::T7(0)));
+    file[..20].copy_from_slice(&TWO_BLOCKS);
+    assert_eq!(rt; census(&rt, &file), Err(bad_entry(0)));
     assert_eq!(rt; bad_in(&rt, &file, 0), Some(0));
     assert_eq!(rt; bad_in(&rt, &file, 1), Some(1024));
     let mut file = [0xFF; 2036];
-    file[..20].copy_from_slice(&HEADER);
-    assert_eq!(rt; census(&rt, &file), Err(TableFault::T7(1)));
+    file[..20].copy_from_slice(&TWO_BLOCKS);
+    assert_eq!(rt; census(&rt, &file), Err(bad_entry(1)));
 }
 
 /// The placements of two tiles on side 2, in the order of their ranks.
@@ -314,7 +282,7 @@ fn each_changed_byte_is_refused(rt: HostRuntime) {
                 let want = least_bad(placements, &changed[20..]);
                 assert_eq!(rt; want.is_none(), byte == file[place]);
                 let fault = checked(&rt, &changed).err();
-                assert_eq!(rt; fault, want.map(TableFault::T7), "byte {byte} at {place}");
+                assert_eq!(rt; fault, want.map(bad_entry), "byte {byte} at {place}");
             }
         }
     }
@@ -335,7 +303,7 @@ fn head_faults_are_handed_on(rt: HostRuntime) {
         let mut file = TILES_123;
         assert!(rt; place < 44);
         file[place] = byte;
-        let want = Err(TableFault::Head(want));
+        let want = Err(TableFault::Refused(TableRefusal::Head(want)));
         assert_eq!(rt; census(&rt, &file), want, "byte {place}");
         assert_eq!(rt; census(&rt, &file[..30]), want, "byte {place}, and cut");
     }
@@ -355,95 +323,129 @@ fn files_of_another_length_are_refused(rt: HostRuntime) {
     for (file, want) in files {
         assert_eq!(rt;
             census(&rt, file),
-            Err(TableFault::Head(want)),
+            Err(TableFault::Refused(TableRefusal::Head(want))),
             "{} bytes",
             file.len()
         );
     }
 }
 
-/// Counts how often each block was entered.
-#[derive(Drop)]
-struct Counting {
-    entered: Vec<AtomicU64>,
+/// Boards of side 3: the goal, one with two tiles swapped, and others.
+const BOARDS: [[u8; 9]; 6] = [
+    [0, 1, 2, 3, 4, 5, 6, 7, 8],
+    [0, 2, 1, 3, 4, 5, 6, 7, 8],
+    [3, 1, 2, 0, 4, 5, 6, 7, 8],
+    [7, 2, 4, 5, 0, 6, 8, 3, 1],
+    [8, 7, 6, 5, 4, 3, 2, 1, 0],
+    [4, 8, 1, 6, 0, 2, 5, 7, 3],
+];
+
+/// The census of a file's entries, byte by byte.
+fn counted(file: &[u8]) -> Census {
+    let mut want = Census {
+        entries: 0,
+        unreachable: 0,
+        deepest: 0,
+    };
+    for entry in file.iter().skip(20) {
+        want.entries = want.entries.wrapping_add(1);
+        if *entry == 255 {
+            want.unreachable = want.unreachable.wrapping_add(1);
+        } else if *entry < 254 {
+            want.deepest = want.deepest.max(*entry);
+        }
+    }
+    want
 }
 
-impl Counting {
-    fn new(alloc: Global, blocks: usize) -> Result<Counting, AllocError> {
-        let mut entered = Vec::new(alloc);
-        for _ in 0..blocks {
-            entered.push(AtomicU64::new(0))?;
-        }
-        Ok(Counting { entered })
+/// The census of the exact table of these tiles on side 3, which tells of each board what a search tells.
+fn exact_census<R: Threads + Wait + AllocGlobal + Abort>(
+    rt: &R,
+    tiles: &[u8],
+) -> Result<Census, Fail> {
+    let costs = LeastCosts::new(rt.alloc(), tiles)?;
+    let file = costs.table(rt.alloc())?;
+    let want = counted(&file);
+    assert_eq!(rt; census(rt, &file), Ok(want));
+    let table = checked(rt, &file).ok().expect(rt, "an exact table");
+    for numbers in BOARDS {
+        let count = match costs.of(&numbers) {
+            255 => Count::Never,
+            cost => Count::Finite(u16::from(cost)),
+        };
+        assert_eq!(rt; told(&table, &numbers), Some(count), "{numbers:?}");
     }
+    Ok(want)
 }
 
-impl Gate for Counting {
-    fn before(&self, block: u64) {
-        if let Some(count) = self.entered.get(block as usize) {
-            count.fetch_add(1, Ordering::SeqCst);
-        }
-    }
+#[test]
+fn three_tiles_of_side_3_are_exact(rt: HostRuntime) -> Result<(), Fail> {
+    let census = exact_census(&rt, &[1, 2, 3])?;
+    assert_eq!(rt; census.entries, 2016);
+    assert_eq!(rt; census.unreachable, 0);
+    Ok(())
+}
+
+#[test]
+fn seven_tiles_of_side_3_are_exact(rt: HostRuntime) -> Result<(), Fail> {
+    let census = exact_census(&rt, &[1, 2, 3, 4, 5, 6, 7])?;
+    assert_eq!(rt; census.entries, 362_880);
+    Ok(())
+}
+
+#[test]
+fn the_eight_puzzle_is_exact(rt: HostRuntime) -> Result<(), Fail> {
+    let want = Census {
+        entries: 362_880,
+        unreachable: 181_440,
+        deepest: 31,
+    };
+    assert_eq!(rt; exact_census(&rt, &[1, 2, 3, 4, 5, 6, 7, 8])?, want);
+    Ok(())
+}
+
+#[test]
+fn the_last_entry_of_a_large_table_is_checked(rt: HostRuntime) -> Result<(), Fail> {
+    let costs = LeastCosts::new(rt.alloc(), &[1, 2, 3, 4, 5, 6, 7])?;
+    let mut file = costs.table(rt.alloc())?;
+    // The last placement leaves the cells 0 and 1: one region, and a slot without one.
+    assert_eq!(rt; file.pop(), Some(254));
+    file.push(0)?;
+    assert_eq!(rt; census(&rt, &file), Err(bad_entry(362_879)));
+    Ok(())
 }
 
 #[test]
 fn each_block_is_entered_once(rt: HostRuntime) -> Result<(), Fail> {
-    // The tiles 1, 2 and 3 on side 4 have 3,360 placements of four slots, in 14 blocks.
-    let mut file = [0xFF; 13460];
-    file[..20].copy_from_slice(b"PDBT\x01\x04\x03\0\0\0\0\x0E\0\0\0\0\0\0\x34\x80");
+    let costs = LeastCosts::new(rt.alloc(), &[1, 2, 3, 4, 5, 6, 7, 8])?;
+    let file = costs.table(rt.alloc())?;
     for workers in [1, 2, 7, 64] {
-        let gate = Counting::new(rt.alloc(), 20)?;
-        assert_eq!(rt;
-            census_by(&rt, &file, workers, &gate),
-            Err(TableFault::T7(1))
-        );
-        assert_eq!(rt; gate.entered.len(), 20);
-        for (block, count) in gate.entered.iter().enumerate() {
-            let want = if block < 14 { 1 } else { 0 };
-            assert_eq!(rt;
-                count.load(Ordering::SeqCst),
-                want,
-                "block {block}, {workers} workers"
-            );
-        }
+        let log = Log::new(rt.alloc(), 2000)?;
+        assert!(rt; check_table(&rt, rt.alloc(), &file, workers, &log).is_ok());
+        let mut blocks = log.notes(rt.alloc())?;
+        blocks.sort()?;
+        assert_eq!(rt; blocks.len(), 1418, "{workers} workers");
+        assert!(rt; (0..).zip(&blocks).all(|(block, entered)| block == *entered));
     }
     Ok(())
-}
-
-/// Holds block 0 until block 1 was entered, or it has looked too often.
-#[derive(Drop)]
-struct Holding {
-    entered: AtomicU64,
-    seen: AtomicU64,
-}
-
-const LOOKS: u32 = 100_000_000;
-
-impl Gate for Holding {
-    fn before(&self, block: u64) {
-        if block != 0 {
-            self.entered.store(1, Ordering::SeqCst);
-            return;
-        }
-        for _ in 0..LOOKS {
-            if self.entered.load(Ordering::SeqCst) == 1 {
-                self.seen.store(1, Ordering::SeqCst);
-                return;
-            }
-        }
-    }
 }
 
 #[test]
 fn two_workers_check_two_blocks_side_by_side(rt: HostRuntime) {
     let mut file = [0xFF; 2036];
-    file[..20].copy_from_slice(&HEADER);
-    let gate = Holding {
-        entered: AtomicU64::new(0),
-        seen: AtomicU64::new(0),
-    };
-    assert_eq!(rt; census_by(&rt, &file, 2, &gate), Err(TableFault::T7(1)));
-    assert_eq!(rt; gate.seen.load(Ordering::SeqCst), 1);
+    file[..20].copy_from_slice(&TWO_BLOCKS);
+    let gate = HoldingGate::new(&[0], &[1]);
+    assert_eq!(rt; census_by(&rt, &file, 2, &gate), Err(bad_entry(1)));
+    assert!(rt; gate.saw_all());
+}
+
+#[test]
+fn four_workers_check_four_blocks_side_by_side(rt: HostRuntime) {
+    let mut file = [0xFF; 13460];
+    file[..20].copy_from_slice(&FOURTEEN_BLOCKS);
+    let gate = HoldingGate::new(&[0, 1, 2, 3], &[0, 1, 2, 3]);
+    assert_eq!(rt; census_by(&rt, &file, 4, &gate), Err(bad_entry(1)));
+    assert!(rt; gate.saw_all());
 }
 
 // Run with each allocation refused in turn.
@@ -455,5 +457,5 @@ fn want_of_memory_is_answered_and_a_second_check_finds_the_fault(rt: HostRuntime
     if fault == Err(TableFault::Memory) {
         fault = census_by(&rt, &file, 7, &OpenGate);
     }
-    assert_eq!(rt; fault, Err(TableFault::T7(14)));
+    assert_eq!(rt; fault, Err(bad_entry(14)));
 }

@@ -2,21 +2,19 @@ use Rattle.std.proofs.Common.{◌≡◌, ◌+◌, ◌*◌, ◌<◌, length, sym,
 use Rattle.pat_place.specs.Ranks.{IsRank}
 use Rattle.tab_file.specs.Tables.{placement_count, slot_count}
 use Rattle.tab_check.specs.Blocks.{IsLeastBadIn, first_of_block}
-use Rattle.tab_check.proofs.BlockLemmas.{block_fits, few_placements, keeps_all, keeps_more, least_bad_in, number_fits}
+use Rattle.tab_check.proofs.BlockLemmas.{first_fits, keeps_all, keeps_more, least_bad_in, number_fits}
 use Rattle.tab_check.proofs.blocks.check_block.Goals as goal
 
 pub overflow_mul-first : goal.overflow_mul-first
 overflow_mul-first c =
     let pat = c.pattern-pattern.ensures.table.pattern in
-    let few = few_placements c.args.table.now.pattern pat in
-    let fits = block_fits c.args.table.now.pattern pat c.args.block c.requires in
+    let fits = first_fits c.args.table.now.pattern pat c.args.block c.requires in
     omega arith
 
 pub overflow_add-first : goal.overflow_add-first
 overflow_add-first c =
     let pat = c.pattern-pattern.ensures.table.pattern in
-    let few = few_placements c.args.table.now.pattern pat in
-    let fits = block_fits c.args.table.now.pattern pat c.args.block c.requires in
+    let fits = first_fits c.args.table.now.pattern pat c.args.block c.requires in
     omega arith
 
 pub overflow_mul-result : goal.overflow_mul-result

@@ -1,5 +1,9 @@
+use Rattle.tab_check.proofs.AnswerLemmas.{file_answer}
 use Rattle.tab_check.proofs.OneResultLemmas.{IsFaultOf-one, exact_one, exact_or_fault}
 use Rattle.tab_check.proofs.laws.files_have_one_answer.Goals as goal
+
+pub returns-clause-some : goal.returns-clause-some
+returns-clause-some c = file_answer
 
 pub returns-clause-table : goal.returns-clause-table
 returns-clause-table c = exact_one
