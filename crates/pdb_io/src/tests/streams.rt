@@ -1,7 +1,9 @@
 //! Streams that fail, end early or late, or go byte by byte.
 
 use super::sample_bytes;
-use crate::streams::{ReadFault, WriteFault, put, put_bytes, read_all, read_said, read_sized};
+use crate::streams::{
+    ReadFault, WriteFault, put, put_bytes, read_all, read_said, read_sized, read_watched,
+};
 use crate::watched::Watched;
 use sample_streams::{EndlessReader, Failing, SampleReader, SampleWriter};
 use std::io::ErrorKind;
@@ -72,7 +74,7 @@ fn memory_that_is_refused_is_no_failure_of_the_reader(rt: HostRuntime) {
     let alloc = rt.alloc();
     let mut reader = SampleReader::new(TEXT);
     let mut watched = Watched::new(&mut reader);
-    let read = crate::streams::read_watched(alloc, &mut watched, u64::MAX, 1 << 62);
+    let read = read_watched(alloc, &mut watched, u64::MAX, 1 << 62);
     assert!(rt; matches!(read, Err(ReadFault::Memory)));
     assert!(rt; !watched.has_failed());
     assert_eq!(rt; watched.calls(), 0);
