@@ -1,0 +1,10 @@
+//! Bytes in and bytes out: streams, and shelves of named bytes.
+#![tactic(auto)]
+
+pub mod disk;
+pub mod memory;
+pub mod shelf;
+pub mod streams;
+#[cfg(test)]
+mod tests;
+pub mod watched;
