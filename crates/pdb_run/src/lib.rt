@@ -13,3 +13,6 @@ pub use carry::{conclude, read_inputs, say_no_memory};
 pub use command::Command;
 pub use inputs::{Input, Unread, load_all};
 pub use status::Status;
+
+#[cfg(test)]
+mod tests;
