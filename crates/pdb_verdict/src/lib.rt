@@ -18,3 +18,6 @@ pub use reports::{digests, line, report};
 pub use table::run_table;
 pub use verdict::{Fault, Verdict, verify};
 pub use workers::Workers;
+
+#[cfg(test)]
+mod tests;
