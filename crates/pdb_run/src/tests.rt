@@ -1,0 +1,172 @@
+//! What no clause says: how often is written, and that answers and faults come at all.
+
+use crate::{Answer, Command, Input, Status, lines, read_inputs, say, say_digests};
+use pdb_io::memory::MemShelf;
+use pdb_io::streams::WriteFault;
+use std::alloc::{AllocError, Global};
+use std::io;
+use std::io::{Read, Write};
+use std::test::Fail;
+
+/// A writer that takes all until it has taken so often, and then fails.
+#[derive(Drop)]
+struct CountingWriter {
+    taken: Vec<u8>,
+    calls: usize,
+    fails_from: usize,
+}
+
+impl CountingWriter {
+    fn new(alloc: Global, fails_from: usize) -> CountingWriter {
+        CountingWriter {
+            taken: Vec::new(alloc),
+            calls: 0,
+            fails_from,
+        }
+    }
+}
+
+impl Write for CountingWriter {
+    fn write(&mut self, buf: &[u8]) -> io::Result<usize> {
+        let call = self.calls;
+        self.calls = call.saturating_add(1);
+        if call >= self.fails_from {
+            return Err(io::Error::from(io::ErrorKind::Other));
+        }
+        self.taken.extend_from_slice(buf)?;
+        Ok(buf.len())
+    }
+
+    fn flush(&mut self) -> io::Result<()> {
+        Ok(())
+    }
+}
+
+/// The digest lines of no bytes and of `abc`, as `sha256sum` has them.
+const EMPTY: &[u8] = b"sha256 e3b0c44298fc1c149afbf4c8996fb92427ae41e4649b934ca495991b7852b855\n";
+
+const ABC: &[u8] = b"sha256 ba7816bf8f01cfea414140de5dae2223b00361a396177a9cb410ff61f20015ad\n";
+
+/// So many empty files.
+fn empty_files(alloc: Global, count: usize) -> Result<Vec<Vec<u8>>, AllocError> {
+    let mut files = Vec::new(alloc);
+    for _ in 0..count {
+        files.push(Vec::new(alloc))?;
+    }
+    Ok(files)
+}
+
+#[test]
+fn an_answer_is_one_write(rt: HostRuntime) -> Result<(), Fail> {
+    let alloc = rt.alloc();
+    let files = empty_files(alloc, 16)?;
+    let mut out = CountingWriter::new(alloc, 1);
+    let answer = Answer {
+        files: files.as_slice(),
+        last: Some(b"abc"),
+        lines: lines(&["bound ", "6", "\n"]),
+        is_yes: true,
+    };
+    assert!(rt; say(&answer, &mut out).is_ok());
+    assert_eq!(rt; out.calls, 1);
+    assert_eq!(rt; out.taken.len(), 17 * 72 + 8);
+    assert!(rt; out.taken.starts_with(EMPTY));
+    assert!(rt; out.taken[16 * 72..].starts_with(ABC));
+    assert!(rt; out.taken.ends_with(b"\nbound 6\n"));
+    Ok(())
+}
+
+#[test]
+fn more_than_a_page_is_written_whole(rt: HostRuntime) -> Result<(), Fail> {
+    let alloc = rt.alloc();
+    let files = empty_files(alloc, 120)?;
+    let mut out = CountingWriter::new(alloc, 3);
+    assert!(rt; say_digests(files.as_slice(), None, &mut out).is_ok());
+    assert_eq!(rt; out.calls, 3);
+    assert_eq!(rt; out.taken.len(), 120 * 72);
+    for line in out.taken.chunks(72) {
+        assert!(rt; line == EMPTY);
+    }
+    let mut out = CountingWriter::new(alloc, 2);
+    assert!(rt; say_digests(files.as_slice(), None, &mut out) == Err(WriteFault::F3));
+    assert_eq!(rt; out.taken.len(), 8_192);
+    Ok(())
+}
+
+/// A command that wants one input of at most four bytes.
+#[derive(Clone, Copy)]
+struct WantsOne<'a> {
+    name: Option<&'a str>,
+}
+
+impl Command for WantsOne<'_> {
+    ghost use Rattle.std.specs.Prelude.{[], ◌∷◌, option_map};
+
+    ghost wanted = { λ command. record { name = option_map (λ s. s.now) command.name; limit = 4 } ∷ [] };
+
+    ghost MayReply = { λ _ _ _. ⊥ };
+
+    ghost TakesMemory = { λ _ _. ⊥ };
+
+    fn inputs(&self, alloc: Global) -> Result<Vec<Input<'_>>, AllocError> {
+        let mut inputs = Vec::new(alloc);
+        inputs.push(Input {
+            name: self.name,
+            limit: 4,
+        })?;
+        Ok(inputs)
+    }
+}
+
+/// A reader that fails.
+#[derive(Drop)]
+struct Failing;
+
+impl Read for Failing {
+    fn read(&mut self, _buf: &mut [u8]) -> io::Result<usize> {
+        Err(io::Error::from(io::ErrorKind::Other))
+    }
+}
+
+#[test]
+fn a_name_is_shown_without_its_control_characters(rt: HostRuntime) -> Result<(), Fail> {
+    let alloc = rt.alloc();
+    let mut shelf = MemShelf::of(alloc, &[("big\u{1b}[2J", b"12345")])?;
+    let cases: [(Option<&str>, &[u8]); 5] = [
+        (None, b"fault read -\n"),
+        (Some("x\nsolution 80"), b"fault read x?solution 80\n"),
+        (Some("a b\u{7f}\u{e9}~"), b"fault read a b?\xc3\xa9~\n"),
+        (Some("big\u{1b}[2J"), b"fault size big?[2J\n"),
+        (Some(""), b"fault read \n"),
+    ];
+    for (name, line) in cases {
+        let mut out = CountingWriter::new(alloc, 1);
+        let ended = read_inputs(
+            alloc,
+            &WantsOne { name },
+            &mut shelf,
+            &mut Failing,
+            &mut out,
+        );
+        assert!(rt; ended.err() == Some(Status::Fault));
+        assert_eq!(rt; out.calls, 1);
+        assert!(rt; out.taken.as_slice() == line);
+    }
+    Ok(())
+}
+
+#[test]
+fn an_input_is_read_whole(rt: HostRuntime) -> Result<(), Fail> {
+    let alloc = rt.alloc();
+    let mut shelf = MemShelf::of(alloc, &[("four", b"1234")])?;
+    let mut reader = b"abc".as_slice();
+    for (name, bytes) in [(Some("four"), b"1234".as_slice()), (None, b"abc")] {
+        let mut out = CountingWriter::new(alloc, 0);
+        let inputs = read_inputs(alloc, &WantsOne { name }, &mut shelf, &mut reader, &mut out);
+        let inputs = inputs.ok().unwrap_or(Vec::new(alloc));
+        assert_eq!(rt; inputs.len(), 1);
+        assert!(rt; inputs[0].as_slice() == bytes);
+        assert_eq!(rt; out.calls, 0);
+    }
+    Ok(())
+}

@@ -1,0 +1,217 @@
+//! Worked examples: puzzle texts and table files, the verdicts on them and the bytes that tell these. The digests were
+//! worked out by `sha256sum`.
+
+use crate::{Fault, Inputs, digests, line, report, run_replay, verify, verify_puzzle};
+use pdb_io::memory::MemShelf;
+use pdb_run::Status;
+use std::alloc::Global;
+use std::io;
+use std::io::Write;
+use std::sync::Wait;
+use std::test::Fail;
+use std::thread::Threads;
+use work_run::OpenGate;
+
+/// The tiles 1, 2 and 3 on side 2: one slot.
+const TILES_123: [u8; 44] = [
+    0x50, 0x44, 0x42, 0x54, 0x01, 0x02, 0x03, 0x00, 0x00, 0x00, 0x00, 0x0E, 0x00, 0x00, 0x00, 0x00,
+    0x00, 0x00, 0x00, 0x18, 0xFF, 0xFF, 0x02, 0x01, 0x03, 0xFF, 0x02, 0x01, 0xFF, 0x00, 0xFF, 0xFF,
+    0xFF, 0xFF, 0x06, 0xFF, 0x05, 0x04, 0xFF, 0x03, 0x05, 0x04, 0xFF, 0xFF,
+];
+
+/// The tiles 1 and 2 on side 2: two slots.
+const TILES_12: [u8; 44] = [
+    0x50, 0x44, 0x42, 0x54, 0x01, 0x02, 0x02, 0x00, 0x00, 0x00, 0x00, 0x06, 0x00, 0x00, 0x00, 0x00,
+    0x00, 0x00, 0x00, 0x18, 0xFF, 0xFE, 0x01, 0xFE, 0xFF, 0x02, 0x01, 0xFE, 0x00, 0xFF, 0xFF, 0xFE,
+    0xFF, 0xFE, 0xFF, 0x04, 0x03, 0xFE, 0x02, 0xFF, 0x03, 0xFE, 0xFF, 0xFE,
+];
+
+/// The header of the tile 1 on side 2, and entries that all say 255.
+const TILE_1_NEVER: [u8; 28] = [
+    0x50, 0x44, 0x42, 0x54, 0x01, 0x02, 0x01, 0x00, 0x00, 0x00, 0x00, 0x02, 0x00, 0x00, 0x00, 0x00,
+    0x00, 0x00, 0x00, 0x08, 0xFF, 0xFF, 0xFF, 0xFF, 0xFF, 0xFF, 0xFF, 0xFF,
+];
+
+/// Whether the answer on the inputs, by some workers, is told by these bytes.
+fn tells<H: Threads + Wait>(
+    rt: &H,
+    alloc: Global,
+    inputs: &Inputs<'_>,
+    lines: &[u8],
+) -> Result<bool, Fail> {
+    for workers in [1u8, 2, 7, 64] {
+        let answer = verify(rt, alloc, inputs, workers, &OpenGate);
+        let mut out = Vec::new(alloc);
+        let written = report(inputs, &answer, &mut out);
+        if written.is_err() || out.as_slice() != lines {
+            return Ok(false);
+        }
+    }
+    Ok(true)
+}
+
+#[test]
+fn puzzle_texts_have_their_lines(rt: HostRuntime) -> Result<(), Fail> {
+    let alloc = rt.alloc();
+    let cases: [(&[u8], &[u8]); 13] = [
+        (b"3 2 1 0 ; ULDRUL\n", b"solution 6\n"),
+        (b"0 1 2 3 ;", b"solution 0\n"),
+        (b"", b"refused P1\n"),
+        (b"1 0 2 3 ; U", b"refused M2 at step 0\n"),
+        (b"1 0 2 3 ; L", b"solution 1\n"),
+        (b"1 0 2 3 ;", b"refused M4\n"),
+        (b"0 1 2 3 ;u", b"refused M1 at byte 0\n"),
+        (b"0 1 2 2 ;", b"refused B5 at number 3\n"),
+        (b"0 1 2 3 4 ;", b"refused B3 count 5\n"),
+        (b"0 1 2 4 ;", b"refused B4 at number 3\n"),
+        (b"0 1 2 x ;u", b"refused B1 at byte 6\n"),
+        (b"0 1 002 3 ;", b"refused B2 at byte 4\n"),
+        (b"0 1 2 3 ;;", b"refused M1 at byte 0\n"),
+    ];
+    for (puzzle, lines) in cases {
+        assert!(rt; tells(&rt, alloc, &Inputs::Replay { puzzle }, lines)?);
+        let mut out = Vec::new(alloc);
+        assert!(rt; line(&verify_puzzle(puzzle), &mut out).is_ok());
+        assert!(rt; out.as_slice() == lines);
+    }
+    Ok(())
+}
+
+#[test]
+fn a_thousand_moves_are_a_solution_and_one_more_is_not(rt: HostRuntime) -> Result<(), Fail> {
+    let alloc = rt.alloc();
+    let mut puzzle = b"0 1 2 3 ;".to_vec(alloc)?;
+    for _ in 0..500usize {
+        puzzle.extend_from_slice(b"RL")?;
+    }
+    let mut out = Vec::new(alloc);
+    assert!(rt; line(&verify_puzzle(puzzle.as_slice()), &mut out).is_ok());
+    puzzle.push(b'R')?;
+    assert!(rt; line(&verify_puzzle(puzzle.as_slice()), &mut out).is_ok());
+    assert!(rt; out.as_slice() == b"solution 1000\nrefused M3\n".as_slice());
+    Ok(())
+}
+
+#[test]
+fn table_files_have_their_lines(rt: HostRuntime) -> Result<(), Fail> {
+    let alloc = rt.alloc();
+    let mut one_byte = TILES_123;
+    one_byte[34] = 0x02;
+    let mut region_hidden = TILES_12;
+    region_hidden[20] = 0xFE;
+    let mut longer = [0; 45];
+    longer[..44].copy_from_slice(&TILES_123);
+    let cases: [(&[u8], &[u8]); 10] = [
+        (
+            &TILES_123,
+            b"sha256 5c515b94b4098a8408358078f3f9b8b3e46255c04334fedd62c8e67da63d237b\nexact side 2 mask 14 entries 24 unreachable 12 deepest 6\n",
+        ),
+        (
+            &one_byte,
+            b"sha256 93eb632d316304c6909c4a97aa82d761ef94f20ce32f74ce27ef957d6e44accc\nrefused T7 at entry 14\n",
+        ),
+        (
+            &TILES_12,
+            b"sha256 fc9e320726274cbeff6f0c450060cf77617b6e27b10cfe9808da3bb87454b331\nexact side 2 mask 6 entries 24 unreachable 8 deepest 4\n",
+        ),
+        (
+            &region_hidden,
+            b"sha256 758b181644f77d14bceadab78202378f68da9ddebd7e7dd3f8d0542af39c440d\nrefused T7 at entry 0\n",
+        ),
+        (
+            &TILE_1_NEVER,
+            b"sha256 65e994ddac902358680a5b05acbc60789ad4d6eb1e244fabde7e285ddb98eecb\nrefused T7 at entry 1\n",
+        ),
+        (
+            &TILES_123[..43],
+            b"sha256 aea12bbafda4799b56eeb2a425eb5282061caf355651559c15cf44e2fb7135a6\nrefused T6\n",
+        ),
+        (
+            &longer,
+            b"sha256 8bb0f5195425992f8797da48092c346122160b8df08de975cde46782ecd47319\nrefused T6\n",
+        ),
+        (
+            &TILES_123[..19],
+            b"sha256 5d59911633ed3220001c4e550ad0a0c727c8168e1f85e0b882e8ae9a97d1bf0f\nrefused T1\n",
+        ),
+        (
+            b"",
+            b"sha256 e3b0c44298fc1c149afbf4c8996fb92427ae41e4649b934ca495991b7852b855\nrefused T1\n",
+        ),
+        (
+            b"abc",
+            b"sha256 ba7816bf8f01cfea414140de5dae2223b00361a396177a9cb410ff61f20015ad\nrefused T1\n",
+        ),
+    ];
+    for (table, lines) in cases {
+        let inputs = Inputs::Table { table };
+        assert!(rt; tells(&rt, alloc, &inputs, lines)?);
+        let mut out = Vec::new(alloc);
+        assert!(rt; digests(&inputs, &mut out).is_ok());
+        assert!(rt; out.as_slice() == &lines[..72]);
+    }
+    Ok(())
+}
+
+/// A writer that takes one byte at a time, and fails from one of its calls on.
+#[derive(Drop)]
+struct FailingWriter {
+    taken: Vec<u8>,
+    fails_from: usize,
+}
+
+impl Write for FailingWriter {
+    fn write(&mut self, buf: &[u8]) -> io::Result<usize> {
+        if buf.is_empty() || self.taken.len() >= self.fails_from {
+            return Err(io::Error::from(io::ErrorKind::Other));
+        }
+        self.taken.push(buf[0])?;
+        Ok(1)
+    }
+
+    fn flush(&mut self) -> io::Result<()> {
+        Ok(())
+    }
+}
+
+#[test]
+fn a_write_that_fails_leaves_a_front(rt: HostRuntime) -> Result<(), Fail> {
+    let alloc = rt.alloc();
+    let inputs = Inputs::Table { table: b"abc" };
+    let answer = verify(&rt, alloc, &inputs, 1, &OpenGate);
+    let lines =
+        b"sha256 ba7816bf8f01cfea414140de5dae2223b00361a396177a9cb410ff61f20015ad\nrefused T1\n".as_slice();
+    for fails_from in 0..=lines.len() {
+        let mut out = FailingWriter {
+            taken: Vec::new(alloc),
+            fails_from,
+        };
+        let written = report(&inputs, &answer, &mut out);
+        assert_eq!(rt; written.is_ok(), fails_from == lines.len());
+        assert!(rt; out.taken.as_slice() == &lines[..fails_from]);
+    }
+    Ok(())
+}
+
+#[test]
+fn want_of_memory_stands_alone(rt: HostRuntime) -> Result<(), Fail> {
+    let alloc = rt.alloc();
+    let mut out = Vec::new(alloc);
+    let inputs = Inputs::Table { table: b"abc" };
+    assert!(rt; report(&inputs, &Err(Fault::Memory), &mut out).is_ok());
+    assert!(rt; out.as_slice() == b"no memory\n".as_slice());
+    Ok(())
+}
+
+#[test]
+fn a_replay_runs_without_threads(rt: HostRuntime) -> Result<(), Fail> {
+    let alloc = rt.alloc();
+    let mut shelf = MemShelf::of(alloc, &[("one", b"1 0 2 3 ; L".as_slice())])?;
+    let mut reader = b"1 0 2 3 ; U".as_slice();
+    let mut out = Vec::new(alloc);
+    let named = run_replay(alloc, Some("one"), &mut shelf, &mut reader, &mut out);
+    let unnamed = run_replay(alloc, None, &mut shelf, &mut reader, &mut out);
+    assert!(rt; named == Status::Yes && unnamed == Status::Refused);
+    assert!(rt; out.as_slice() == b"solution 1\nrefused M2 at step 0\n".as_slice());
+    Ok(())
+}
