@@ -1,5 +1,5 @@
 -- What the entry of a board says in an exact table.
-use Rattle.std.proofs.Common.{◌≡◌, ℕ, ◌+◌, ◌*◌, ◌<◌, cond, eqb, List, length, inl, inr, refl, sym, ◌∙◌, subst, arith, ne_eqb, eq-eqb}
+use Rattle.std.proofs.Common.{◌≡◌, ℕ, ◌+◌, ◌*◌, ◌<◌, ◌≤◌, cond, eqb, List, length, inl, inr, refl, sym, ◌∙◌, subst, arith, ne_eqb, eq-eqb}
 use Rattle.std.proofs.lemmas.Bool.{cond-true, cond-false}
 use Rattle.std.proofs.lemmas.List.{length-map}
 use Rattle.puz_board.specs.Boards.{IsBoard, IsBoardOf, blank, cell_of, side_of}
@@ -13,7 +13,7 @@ use Rattle.pat_place.proofs.SlideLemmas.{IsFree-blank}
 use Rattle.tab_file.specs.Tables.{Table, entry_at, slot_count}
 use Rattle.tab_check.specs.Counts.{IsCountOf}
 use Rattle.tab_check.specs.Entries.{IsNumberOf}
-use Rattle.tab_check.specs.ExactTables.{IsExactTable}
+use Rattle.tab_check.specs.ExactTables.{IsExactTable, SaysOfBoard}
 use Rattle.tab_check.specs.declared.tables.Count.TheVariants.{Finite, Never}
 
 -- the placement of a board
@@ -26,14 +26,25 @@ free_blank p pat b good e =
     let board : IsBoardOf p.side b = subst (λ n. IsBoardOf n b) e good in
     IsFree-blank p.side p.tiles pat.tiles b board (let l = cells_least p.side b board in omega arith)
 
-pub look_says : (t : Table) → IsExactTable t → (b : List ℕ) → IsBoard b → side_of b ≡ t.pattern.side → (r j e : ℕ) → IsRank t.pattern.side (placement_of t.pattern.tiles b) r
-    → IsSlot t.pattern.side (placement_of t.pattern.tiles b) (blank b) j → j < width t.pattern.side (length (placement_of t.pattern.tiles b)) → e ≡ entry_at t r j → IsCountOf t.pattern.tiles b (cond (eqb e 255) Never (Finite e))
-look_says t is b good side r j e is_rank is_slot low holds =
+-- what an exact table's entry says of a board
+pub entry_says : (t : Table) → IsExactTable t → (b : List ℕ) → IsBoard b → side_of b ≡ t.pattern.side → (r j e : ℕ) → IsRank t.pattern.side (placement_of t.pattern.tiles b) r
+    → IsSlot t.pattern.side (placement_of t.pattern.tiles b) (blank b) j → j < width t.pattern.side (length (placement_of t.pattern.tiles b)) → e ≡ entry_at t r j → SaysOfBoard t.pattern.tiles b e
+entry_says t is b good side r j e is_rank is_slot low holds =
     let slot_low : j < slot_count t.pattern = subst (λ k. j < width t.pattern.side k) (length-map t.pattern.tiles (λ x. cell_of x b)) low in
     let number_is : IsNumberOf t.pattern (placement_of t.pattern.tiles b) j (r * slot_count t.pattern + j) = record { placement = IsPlacement-of b good t.pattern is.is_table.pattern side; rank = r; is_rank = is_rank; slot = slot_low; counted = refl } in
     let right = is.exact (placement_of t.pattern.tiles b) j (r * slot_count t.pattern + j) number_is in
     let board : IsBoardOf t.pattern.side b = subst (λ n. IsBoardOf n b) side good in
-    elim (right.boards b board refl is_slot) [
-      | inl h ↦ subst (IsCountOf t.pattern.tiles b) (sym (cond-false (eqb e 255) Never (Finite e) (ne_eqb e 255 (λ full. let l = h.0 in omega arith)))) (subst (λ x. IsCountOf t.pattern.tiles b (Finite x)) (sym holds) h.1)
-      | inr h ↦ subst (IsCountOf t.pattern.tiles b) (sym (cond-true (eqb e 255) Never (Finite e) (eq-eqb e 255 (holds ∙ h.0)))) h.1
-    ]
+    subst (SaysOfBoard t.pattern.tiles b) (sym holds) (right.boards b board refl is_slot)
+
+-- such an entry as a count
+pub says-count : (tiles b : List ℕ) (e : ℕ) → SaysOfBoard tiles b e → IsCountOf tiles b (cond (eqb e 255) Never (Finite e))
+says-count tiles b e says = elim says [
+  | inl h ↦ subst (IsCountOf tiles b) (sym (cond-false (eqb e 255) Never (Finite e) (ne_eqb e 255 (λ full. let l = h.0 in omega arith)))) h.1
+  | inr h ↦ subst (IsCountOf tiles b) (sym (cond-true (eqb e 255) Never (Finite e) (eq-eqb e 255 h.0))) h.1
+]
+
+pub says-few : (tiles b : List ℕ) (e : ℕ) → SaysOfBoard tiles b e → (d : ℕ) → cond (eqb e 255) Never (Finite e) ≡ Finite d → d ≤ 253
+says-few tiles b e says d is = elim says [
+  | inl h ↦ let same : e ≡ d = (let f : cond (eqb e 255) Never (Finite e) ≡ Finite e = cond-false (eqb e 255) Never (Finite e) (ne_eqb e 255 (λ full. let l = h.0 in omega arith)) in cc) in let l = h.0 in omega arith
+  | inr h ↦ absurd (let f : cond (eqb e 255) Never (Finite e) ≡ Never = cond-true (eqb e 255) Never (Finite e) (eq-eqb e 255 h.0) in let bad : Never ≡ Finite d = sym f ∙ is in cc)
+]

@@ -118,7 +118,8 @@ impl<'a> CheckedTable<'a> {
     /// The least number of moves of the pattern's tiles on this board that bring them home.
     pub fn look(&self, board: &Board) -> Count
         requires { side_of board.now ≡ self.now.pattern.side }
-        ensures { IsCountOf self.now.pattern.tiles board.now result }
+        ensures count { IsCountOf self.now.pattern.tiles board.now result }
+        ensures few { (d : ℕ) → result ≡ Finite d → d ≤ 253 }
     {
         let _side = board.side();
         let placement = Placement::of_board(&self.pattern(), board);

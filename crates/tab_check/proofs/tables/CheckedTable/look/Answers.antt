@@ -5,7 +5,8 @@ use Rattle.pat_place.specs.Placements.{IsFree, placement_of}
 use Rattle.pat_place.specs.Ranks.{IsRank}
 use Rattle.pat_place.specs.Regions.{IsSlot}
 use Rattle.tab_check.specs.Counts.{IsCountOf}
-use Rattle.tab_check.proofs.LookLemmas.{free_blank, look_says, placement_on}
+use Rattle.tab_check.specs.ExactTables.{SaysOfBoard}
+use Rattle.tab_check.proofs.LookLemmas.{entry_says, free_blank, placement_on, says-count, says-few}
 use Rattle.tab_check.proofs.tables.CheckedTable.look.Goals as goal
 
 pub slot_of-slot-requires : goal.slot_of-slot-requires
@@ -27,6 +28,8 @@ returns c =
     let in_slot = subst (λ q. IsSlot q.pattern.side q.cells c.blank.result j) on c.slot_of-slot.ensures.slot in
     let is_slot = subst (λ x. IsSlot t.pattern.side (placement_of t.pattern.tiles b) x j) c.blank.ensures.cell in_slot in
     let low = subst (λ q. j < width q.pattern.side (length q.cells)) on c.slot_of-slot.ensures.below in
-    subst (λ s. IsCountOf s.pattern.tiles b c.count_of.result) c.self.view_is (
-    subst (IsCountOf t.pattern.tiles b) (sym c.count_of.ensures) (
-    look_says t c.self.invariant b c.side-side.ensures.board side c.rank.result j c.entry.result is_rank is_slot low c.entry.ensures.entry))
+    let says : SaysOfBoard t.pattern.tiles b c.entry.result = entry_says t c.self.invariant b c.side-side.ensures.board side c.rank.result j c.entry.result is_rank is_slot low c.entry.ensures.entry in
+    record {
+      count = subst (λ s. IsCountOf s.pattern.tiles b c.count_of.result) c.self.view_is (subst (IsCountOf t.pattern.tiles b) (sym c.count_of.ensures) (says-count t.pattern.tiles b c.entry.result says));
+      few = λ d is. says-few t.pattern.tiles b c.entry.result says d (sym c.count_of.ensures ∙ is);
+    }

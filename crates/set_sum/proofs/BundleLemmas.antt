@@ -1,0 +1,94 @@
+-- The sets of a bundle, as they are stored.
+use Rattle.std.proofs.Common.{◌≡◌, ℕ, ◌<◌, ◌≤◌, List, [], ◌∷◌, length, map, get_or, refl, sym, ◌∙◌, ap, subst, arith}
+use Rattle.std.proofs.lemmas.List.{get_or-map, length-map}
+use Rattle.std.specs.List.{AllByRecursion}
+use Rattle.pat_place.specs.Patterns.{IsPattern}
+use Rattle.tab_file.specs.Tables.{Table}
+use Rattle.set_sum.specs.Bundles.{IsSetOf, set_of}
+use Rattle.set_sum.specs.ReadLines.{AreSetsOf}
+use Rattle.set_sum.specs.SetTexts.{IsLine}
+use Rattle.set_sum.specs.Reading.{AreAlike, IsBundleOf, NamesNoTable, NamesOverlap, first_side, members, patterns_of}
+use Rattle.set_sum.specs.StoredBundles.{IsStoredBundle, bundle_shown, numbers_stored}
+use Rattle.set_sum.specs.declared.bundles.Bundle.TheInside.{Inside}
+use Rattle.set_sum.proofs.LinesReadLemmas.{all_there}
+use Rattle.set_sum.proofs.ListLemmas.{all_at, all_weaker}
+use Rattle.set_sum.proofs.SumLemmas.{IsOf}
+
+module _ (v : Inside) (kept : IsStoredBundle v) where
+  pub length-sets : length (bundle_shown v).sets ≡ length v.sets.items
+  length-sets = length-map (numbers_stored v) (members (patterns_of v.tables.items)) ∙ length-map v.sets.items (λ set. set.items)
+
+  -- the set that was read at a place
+  module _ (place : ℕ) (low : place < length v.sets.items) (numbers : List ℕ) (is : get_or (numbers_stored v) place [] ≡ numbers) where
+    low_stored : place < length (numbers_stored v)
+    low_stored = subst (λ n. place < n) (sym (length-map v.sets.items (λ set. set.items))) low
+
+    pub stored_there : AllByRecursion (λ i. i < length v.tables.items) numbers
+    stored_there = subst (AllByRecursion (λ i. i < length v.tables.items)) is (all_at (AllByRecursion (λ i. i < length v.tables.items)) (numbers_stored v) place [] low_stored kept.numbers)
+
+    pub set_of-stored : set_of (bundle_shown v) place ≡ members (patterns_of v.tables.items) numbers
+    set_of-stored = get_or-map (members (patterns_of v.tables.items)) (numbers_stored v) place [] [] low_stored ∙ ap (members (patterns_of v.tables.items)) is
+
+-- ---- a bundle that is made
+
+all_patterns : (n : ℕ) (tables : List Table) → AllByRecursion (λ t. t.pattern.side ≡ n) tables → AllByRecursion (λ t. IsPattern t.pattern) tables → AllByRecursion (IsOf n) (patterns_of tables)
+all_patterns n [] sides patterns = tt
+all_patterns n (t ∷ tables) sides patterns = (subst (λ m. IsOf m t.pattern.tiles) sides.0 patterns.0, all_patterns n tables sides.1 patterns.1)
+
+member_patterns : (n : ℕ) (tables : List Table) (numbers : List ℕ) → AllByRecursion (IsOf n) (patterns_of tables) → AllByRecursion (λ i. i < length tables) numbers → AllByRecursion (IsOf n) (members (patterns_of tables) numbers)
+member_patterns n tables [] all there = tt
+member_patterns n tables (i ∷ numbers) all there =
+    (all_at (IsOf n) (patterns_of tables) i [] (subst (λ k. i < k) (sym (length-map tables (λ t. t.pattern.tiles))) there.0) all, member_patterns n tables numbers all there.1)
+
+each_set : (n : ℕ) (tables : List Table) (sets : List (List ℕ)) → AllByRecursion (IsOf n) (patterns_of tables) → AllByRecursion IsLine sets → AllByRecursion (AllByRecursion (λ i. i < length tables)) sets
+    → AllByRecursion (λ numbers. ¬ NamesOverlap tables numbers) sets → AllByRecursion (IsSetOf n) (map (members (patterns_of tables)) sets)
+each_set n tables [] all lines there disjoint = tt
+each_set n tables (numbers ∷ sets) all lines there disjoint = (
+  record {
+    some = subst (λ k. 0 < k) (sym (length-map numbers (λ i. get_or (patterns_of tables) i []))) lines.0.some;
+    patterns = member_patterns n tables numbers all there.0;
+    disjoint = disjoint.0;
+  },
+  each_set n tables sets all lines.1 there.1 disjoint.1,
+)
+
+first_limits : (n : ℕ) (tables : List Table) → 0 < length tables → AllByRecursion (λ t. t.pattern.side ≡ n) tables → AllByRecursion (λ t. IsPattern t.pattern) tables → (2 ≤ n) × (n ≤ 5)
+first_limits n [] some sides patterns = absurd (omega arith)
+first_limits n (t ∷ tables) some sides patterns = (subst (λ m. 2 ≤ m) sides.0 patterns.0.low, subst (λ m. m ≤ 5) sides.0 patterns.0.high)
+
+module _ (v : Inside) (text : List ℕ) (first : v.side ≡ first_side v.tables.items) (alike : AreAlike v.tables.items) (patterns : AllByRecursion (λ t. IsPattern t.pattern) v.tables.items)
+    (are : AreSetsOf v.tables.items text (numbers_stored v)) where
+  sides : AllByRecursion (λ t. t.pattern.side ≡ v.side) v.tables.items
+  sides = all_weaker (λ t. t.pattern.side ≡ first_side v.tables.items) (λ t. t.pattern.side ≡ v.side) (λ t same. same ∙ sym first) v.tables.items alike.one_side
+
+  shown : length (bundle_shown v).sets ≡ length (numbers_stored v)
+  shown = length-map (numbers_stored v) (members (patterns_of v.tables.items))
+
+  pub stored_made : IsStoredBundle v
+  stored_made =
+      let limits = first_limits v.side v.tables.items alike.count.some sides patterns in
+      record {
+        bundle = record {
+          low = limits.0;
+          high = limits.1;
+          some_tables = alike.count.some;
+          few_tables = alike.count.few;
+          some_sets = subst (λ k. 0 < k) (sym shown) are.are_sets.lines.some;
+          few_sets = subst (λ k. k ≤ 16) (sym shown) are.are_sets.few;
+          each = each_set v.side v.tables.items (numbers_stored v) (all_patterns v.side v.tables.items sides patterns) are.are_sets.lines.lines are.numbers are.disjoint;
+        };
+        tables = sides;
+        numbers = are.numbers;
+      }
+
+  pub bundle_made : IsBundleOf v.tables.items text (bundle_shown v)
+  bundle_made = record {
+    alike = alike;
+    sets = numbers_stored v;
+    are_sets = are.are_sets;
+    there = all_weaker (AllByRecursion (λ i. i < length v.tables.items)) (λ numbers. ¬ NamesNoTable v.tables.items numbers) (all_there (length v.tables.items)) (numbers_stored v) are.numbers;
+    disjoint = are.disjoint;
+    side = first;
+    counted = refl;
+    members_are = refl;
+  }

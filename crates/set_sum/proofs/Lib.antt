@@ -1,0 +1,12 @@
+pub mod AnswerLemmas
+pub mod AnyLemmas
+pub mod BundleLemmas
+pub mod CostLemmas
+pub mod LineLemmas
+pub mod LinesReadLemmas
+pub mod ListLemmas
+pub mod NumeralLemmas
+pub mod ReadLemmas
+pub mod SayLemmas
+pub mod SumLemmas
+pub mod TakenLemmas

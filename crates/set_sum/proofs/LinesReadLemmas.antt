@@ -1,0 +1,220 @@
+-- Lines as they are counted and kept.
+use Rattle.std.proofs.Common.{◌≡◌, ◌≢◌, ℕ, zero, suc, ◌+◌, ◌<◌, ◌≤◌, ◌⊎◌, List, [], ◌∷◌, ◌++◌, length, get_or, take, Option, Some, None, inl, inr, refl, sym, ◌∙◌, ap, subst, arith, length-append, Bool, true, false, not, eqb}
+use Rattle.std.proofs.lemmas.Bool.{eqb-false, eqb-true}
+use Rattle.std.proofs.lemmas.List.{append-nil, length-take, take-append-le, take_all}
+use Rattle.std.specs.Prelude.{Any, is_some, slice_get}
+use Rattle.std.specs.List.{AllByRecursion}
+use Rattle.set_sum.specs.Reading.{IsFirstWith}
+use Rattle.set_sum.specs.ReadLines.{AreKept, AreRead, IsRead, IsReadLine}
+use Rattle.set_sum.specs.SetTexts.{AreLines, BeginsWithNoLine, IsFirstBadLine, IsLine, line_of, lines_of, numbers_text}
+use Rattle.set_sum.proofs.LineLemmas.{lines_of-push}
+use Rattle.set_sum.proofs.ListLemmas.{all_at, all_push, all_weaker}
+
+-- ---- the first element with a property, in a longer list
+
+pub get-within : {X : Type 0} (xs : List X) (i : ℕ) (x : X) → slice_get xs i ≡ Some x → i < length xs
+get-within [] i x is = absurd (let e : _ = is in cc)
+get-within (y ∷ xs) zero x is = omega arith
+get-within (y ∷ xs) (suc i) x is = let low = get-within xs i x is in omega arith
+
+get-longer : {X : Type 0} (xs ys : List X) (i : ℕ) (x : X) → slice_get xs i ≡ Some x → slice_get (xs ++ ys) i ≡ Some x
+get-longer [] ys i x is = absurd (let e : _ = is in cc)
+get-longer (y ∷ xs) ys zero x is = is
+get-longer (y ∷ xs) ys (suc i) x is = get-longer xs ys i x is
+
+get-end : {X : Type 0} (xs : List X) (x : X) → slice_get (xs ++ x ∷ []) (length xs) ≡ Some x
+get-end [] x = refl
+get-end (y ∷ xs) x = get-end xs x
+
+take-front : {X : Type 0} (xs ys : List X) → take (length xs) (xs ++ ys) ≡ xs
+take-front [] ys = refl
+take-front (x ∷ xs) ys = ap (λ s. x ∷ s) (take-front xs ys)
+
+first-longer : {X : Type 0} (Has : X → Type 0) (xs ys : List X) (i : ℕ) → IsFirstWith Has xs i → IsFirstWith Has (xs ++ ys) i
+first-longer Has xs ys i first = record {
+  item = first.item;
+  is_item = get-longer xs ys i first.item first.is_item;
+  has = first.has;
+  first = subst (AllByRecursion (λ x. ¬ Has x)) (sym (take-append-le i xs ys (let low = get-within xs i first.item first.is_item in omega arith))) first.first;
+}
+
+first-end : {X : Type 0} (Has : X → Type 0) (xs : List X) (x : X) → AllByRecursion (λ y. ¬ Has y) xs → Has x → IsFirstWith Has (xs ++ x ∷ []) (length xs)
+first-end Has xs x none has = record {
+  item = x;
+  is_item = get-end xs x;
+  has = has;
+  first = subst (AllByRecursion (λ y. ¬ Has y)) (sym (take-front xs (x ∷ []))) none;
+}
+
+pub all_there : (tables : ℕ) (xs : List ℕ) → AllByRecursion (λ i. i < tables) xs → ¬ Any (λ i. tables ≤ i) xs
+all_there tables xs all any =
+    let low : get_or xs any.0 any.1 < tables = all_at (λ i. i < tables) xs any.0 any.1 any.2 all in
+    let same : get_or xs any.0 any.1 ≡ any.1 = any.3 in
+    let high : tables ≤ any.1 = any.4 in
+    omega arith
+
+-- ---- one line more
+
+module _ (tables : ℕ) (lines : List (List ℕ)) (numbers : List ℕ) where
+  abbrev No : List ℕ → Type 0
+  No = λ line. Any (λ i. tables ≤ i) line
+
+  -- the sets of the first 16 lines are kept
+  kept_more : (kept next : List (List ℕ)) → AreKept tables lines None kept → AllByRecursion (λ i. i < tables) numbers
+      → ((length kept < 16) × (next ≡ kept ++ numbers ∷ [])) ⊎ ((16 ≤ length kept) × (next ≡ kept)) → AreKept tables (lines ++ numbers ∷ []) None next
+  kept_more kept next are there pushed = (elim pushed [ inl room ↦ roomy room.0 room.1 | inr full ↦ filled full.0 full.1 ], all_push (AllByRecursion (λ i. i < tables)) lines numbers are.1 there)
+    where
+      count : length kept ≡ length (take 16 lines)
+      count = ap length are.0
+
+      roomy : length kept < 16 → next ≡ kept ++ numbers ∷ [] → next ≡ take 16 (lines ++ numbers ∷ [])
+      roomy low is =
+          let cut = length-take 16 lines in
+          let c = count in
+          let short : length lines < 16 = omega arith in
+          let longer : length (lines ++ numbers ∷ []) ≡ length lines + 1 = length-append lines (numbers ∷ []) in
+          is ∙ ap (λ s. s ++ numbers ∷ []) (are.0 ∙ take_all 16 lines (omega arith)) ∙ sym (take_all 16 (lines ++ numbers ∷ []) (omega arith))
+
+      filled : 16 ≤ length kept → next ≡ kept → next ≡ take 16 (lines ++ numbers ∷ [])
+      filled high is =
+          let cut = length-take 16 lines in
+          let c = count in
+          is ∙ are.0 ∙ sym (take-append-le 16 lines (numbers ∷ []) (omega arith))
+
+  missing_first : (kept : List (List ℕ)) → AreKept tables lines None kept → Any (λ i. tables ≤ i) numbers → (next : List (List ℕ)) → AreKept tables (lines ++ numbers ∷ []) (Some (length lines)) next
+  missing_first kept are missing next = first-end No lines numbers (all_weaker (AllByRecursion (λ i. i < tables)) (λ line. ¬ No line) (all_there tables) lines are.1) missing
+
+  missing_before : (kept : List (List ℕ)) (line : ℕ) → AreKept tables lines (Some line) kept → (next : List (List ℕ)) → AreKept tables (lines ++ numbers ∷ []) (Some line) next
+  missing_before kept line are next = first-longer No lines (numbers ∷ []) line are
+
+  counted_more : (count : ℕ) → count ≡ length lines → count + 1 ≡ length (lines ++ numbers ∷ [])
+  counted_more count is = let longer : length (lines ++ numbers ∷ []) ≡ length lines + 1 = length-append lines (numbers ∷ []) in omega arith
+
+  -- a line all of whose tables are there
+  pub read_there : (count : ℕ) (missing : Option ℕ) (kept next : List (List ℕ)) → AreRead tables lines count missing kept → (set : List ℕ) → IsRead tables numbers (Some set)
+      → ((length kept < 16) × (next ≡ kept ++ set ∷ [])) ⊎ ((16 ≤ length kept) × (next ≡ kept)) → AreRead tables (lines ++ numbers ∷ []) (count + 1) missing next
+  read_there count missing kept next are set is pushed = record { counted = counted_more count are.counted; are_kept = go missing are.are_kept }
+    where
+      go : (missing : Option ℕ) → AreKept tables lines missing kept → AreKept tables (lines ++ numbers ∷ []) missing next
+      go None h = kept_more kept next h is.1 (subst (λ s. ((length kept < 16) × (next ≡ kept ++ s ∷ [])) ⊎ ((16 ≤ length kept) × (next ≡ kept))) is.0 pushed)
+      go (Some line) h = missing_before kept line h next
+
+  -- a line one of whose tables isn't
+  pub read_missing : (count : ℕ) (missing after : Option ℕ) (kept : List (List ℕ)) → AreRead tables lines count missing kept → IsRead tables numbers None
+      → ((missing ≡ None) × (after ≡ Some count)) ⊎ ((line : ℕ) × (missing ≡ Some line) × (after ≡ missing)) → AreRead tables (lines ++ numbers ∷ []) (count + 1) after kept
+  read_missing count missing after kept are is changed = record {
+    counted = counted_more count are.counted;
+    are_kept = elim changed [
+      | inl first ↦
+          subst (λ m. AreKept tables (lines ++ numbers ∷ []) m kept) (sym (first.1 ∙ ap Some are.counted)) (missing_first kept (subst (λ m. AreKept tables lines m kept) first.0 are.are_kept) is kept)
+      | inr before ↦
+          subst (λ m. AreKept tables (lines ++ numbers ∷ []) m kept) (sym (before.2 ∙ before.1)) (missing_before kept before.0 (subst (λ m. AreKept tables lines m kept) before.1 are.are_kept) kept)
+    ];
+  }
+
+-- ---- the text so far
+
+-- the text begins with some lines, which are read; behind them is the rest
+pub record HasLines (tables : ℕ) (text rest : List ℕ) (count : ℕ) (missing : Option ℕ) (kept : List (List ℕ)) : Type 0 where
+  pub lines : List (List ℕ)
+  pub are_lines : AllByRecursion IsLine lines
+  pub whole : text ≡ lines_of lines ++ rest
+  pub are_read : AreRead tables lines count missing kept
+  pub more : (count ≡ 0) ⊎ (rest ≢ [])
+
+pub no_lines : (tables : ℕ) (text : List ℕ) → HasLines tables text text 0 None []
+no_lines tables text = record { lines = []; are_lines = tt; whole = refl; are_read = record { counted = refl; are_kept = (refl, tt) }; more = inl refl }
+
+module _ (tables : ℕ) (text rest : List ℕ) (count : ℕ) (missing : Option ℕ) (kept : List (List ℕ)) (has : HasLines tables text rest count missing kept)
+    (set : Option (List ℕ)) (behind : List ℕ) (read : IsReadLine tables rest set behind) where
+  -- the lines with the one that is read
+  abbrev pub longer : List (List ℕ)
+  longer = has.lines ++ read.numbers ∷ []
+
+  whole_more : text ≡ lines_of longer ++ behind
+  whole_more = has.whole ∙ ap (λ s. lines_of has.lines ++ s) read.whole ∙ sym (lines_of-push has.lines read.numbers behind)
+
+  size_more : length longer ≡ length has.lines + 1
+  size_more = length-append has.lines (read.numbers ∷ [])
+
+  module _ (next : ℕ) (after : Option ℕ) (keeps : List (List ℕ)) (are : AreRead tables longer next after keeps) where
+    -- the text goes on behind it
+    pub lines_next : behind ≢ [] → HasLines tables text behind next after keeps
+    lines_next more = record {
+      lines = longer;
+      are_lines = all_push IsLine has.lines read.numbers has.are_lines read.is_line;
+      whole = whole_more;
+      are_read = are;
+      more = inr more;
+    }
+
+    -- or it is the last
+    pub lines_end : behind ≡ [] → (lines : List (List ℕ)) × AreLines text lines × AreRead tables lines next after keeps
+    lines_end end = (
+      longer,
+      record {
+        some = (let e = size_more in omega arith);
+        lines = all_push IsLine has.lines read.numbers has.are_lines read.is_line;
+        whole = whole_more ∙ ap (λ s. lines_of longer ++ s) end ∙ append-nil (lines_of longer);
+      },
+      are,
+    )
+
+    -- there are fewer lines than bytes
+    pub lines_room : count + length rest ≤ length text → next + length behind ≤ length text
+    lines_room room =
+        let old : count ≡ length has.lines = has.are_read.counted in
+        let new : next ≡ length longer = are.counted in
+        let e = size_more in
+        let cut : length rest ≡ length (line_of read.numbers) + length behind = ap length read.whole ∙ length-append (line_of read.numbers) behind in
+        let line : length (line_of read.numbers) ≡ suc (suc (suc (length (numbers_text read.numbers ++ 10 ∷ [])))) = refl in
+        omega arith
+
+pub bad_line : (tables : ℕ) (text rest : List ℕ) (count : ℕ) (missing : Option ℕ) (kept : List (List ℕ)) → HasLines tables text rest count missing kept → BeginsWithNoLine rest → IsFirstBadLine text count
+bad_line tables text rest count missing kept has bad = record {
+  before = has.lines;
+  rest = rest;
+  number = sym has.are_read.counted;
+  lines = has.are_lines;
+  whole = has.whole;
+  more = has.more;
+  bad = bad;
+}
+
+is_some-Some : {X : Type 0} (o : Option X) → is_some o ≡ true → (x : X) × (o ≡ Some x)
+is_some-Some None e = absurd (let bad : false ≡ true = e in cc)
+is_some-Some (Some x) e = (x, refl)
+
+is_some-None : {X : Type 0} (o : Option X) → is_some o ≡ false → o ≡ None
+is_some-None None e = refl
+is_some-None (Some x) e = absurd (let bad : true ≡ false = e in cc)
+
+-- how a test whether a line was missing before tells which is known after it
+pub changed_first : (missing after : Option ℕ) (count : ℕ) (r : Bool) → is_some missing ≡ not r → r ≡ true → after ≡ Some count → ((missing ≡ None) × (after ≡ Some count)) ⊎ ((line : ℕ) × (missing ≡ Some line) × (after ≡ missing))
+changed_first missing after count r is none set = inl (is_some-None missing (is ∙ ap not none), set)
+
+pub changed_before : (missing after : Option ℕ) (count : ℕ) (r : Bool) → is_some missing ≡ not r → r ≡ false → after ≡ missing → ((missing ≡ None) × (after ≡ Some count)) ⊎ ((line : ℕ) × (missing ≡ Some line) × (after ≡ missing))
+changed_before missing after count r is some same = let found = is_some-Some missing (is ∙ ap not some) in inr (found.0, found.1, same)
+
+-- nothing is left, or something
+pub nothing_left : (xs : List ℕ) (r : Bool) → r ≡ eqb (length xs) 0 → r ≡ true → xs ≡ []
+nothing_left [] r is e = refl
+nothing_left (x ∷ xs) r is e = absurd (let none = eqb-true (suc (length xs)) 0 (sym is ∙ e) in omega arith)
+
+pub something_left : (xs : List ℕ) (r : Bool) → r ≡ eqb (length xs) 0 → r ≡ false → xs ≢ []
+something_left xs r is e none = eqb-false (length xs) 0 (sym is ∙ e) (ap length none)
+
+-- at most 16 lines that are all read are kept
+pub all_kept : (tables : ℕ) (lines : List (List ℕ)) (count : ℕ) (missing : Option ℕ) (kept : List (List ℕ)) → AreRead tables lines count missing kept → missing ≡ None → count ≤ 16
+    → (kept ≡ lines) × AllByRecursion (AllByRecursion (λ i. i < tables)) lines
+all_kept tables lines count missing kept are none few =
+    let h = subst (λ m. AreKept tables lines m kept) none are.are_kept in
+    let c : count ≡ length lines = are.counted in
+    (h.0 ∙ take_all 16 lines (omega arith), h.1)
+
+pub missing_line : (tables : ℕ) (lines : List (List ℕ)) (count : ℕ) (missing : Option ℕ) (kept : List (List ℕ)) (line : ℕ) → AreRead tables lines count missing kept → missing ≡ Some line
+    → IsFirstWith (λ numbers. Any (λ i. tables ≤ i) numbers) lines line
+missing_line tables lines count missing kept line are some = subst (λ m. AreKept tables lines m kept) some are.are_kept
+
+pub first-within : {X : Type 0} (Has : X → Type 0) (xs : List X) (i : ℕ) → IsFirstWith Has xs i → i < length xs
+first-within Has xs i first = get-within xs i first.item first.is_item

@@ -1,0 +1,33 @@
+-- What the sets of a bundle say of boards.
+use Rattle.std.proofs.Common.{◌≡◌, ℕ, ◌<◌, ◌≤◌, List, [], length, subst, arith}
+use Rattle.puz_board.specs.Boards.{IsBoardOf}
+use Rattle.tab_check.specs.declared.tables.Count.{Count}
+use Rattle.tab_check.specs.declared.tables.Count.TheVariants.{Finite, Never}
+use Rattle.set_sum.specs.Bounds.{BoundsSolutions, IsBounded, Reaches}
+use Rattle.set_sum.specs.Bundles.{BundleView, IsBundle, IsSetOf, Says, SaysAtLeast, set_of}
+use Rattle.set_sum.proofs.ListLemmas.{all_at}
+use Rattle.set_sum.proofs.SumLemmas.{set_bounds, set_once}
+
+-- no set of a bundle says two things of a board
+pub says_once : (v : BundleView) (number : ℕ) (b : List ℕ) (c d : Count) → Says v number b c → Says v number b d → c ≡ d
+says_once v number b c d one other = set_once (set_of v number) b c d one.says other.says
+
+pub set_is : (v : BundleView) → IsBundle v → (number : ℕ) → number < length v.sets → IsSetOf v.side (set_of v number)
+set_is v is number there = all_at (IsSetOf v.side) v.sets number [] there is.each
+
+pub says_bounds : (v : BundleView) → IsBundle v → (number : ℕ) (b : List ℕ) (count : Count) → IsBoardOf v.side b → Says v number b count → BoundsSolutions b count
+says_bounds v is number b count good says = set_bounds v.side (set_of v number) (set_is v is number says.there) b good count says.says
+
+reaches_bounds : (b : List ℕ) (r : ℕ) (count : Count) → Reaches count r → BoundsSolutions b count → IsBounded b r
+reaches_bounds b r (Finite d) enough bounds = λ path solves. let low : r ≤ d = enough in let high : d ≤ length path = bounds path solves in omega arith
+reaches_bounds b r Never enough none = λ path solves. absurd (none path solves)
+
+-- a set that says at least r bounds the solutions by r
+pub at_least_bounds : (v : BundleView) → IsBundle v → (number : ℕ) (b : List ℕ) (r : ℕ) → IsBoardOf v.side b → SaysAtLeast v number b r → IsBounded b r
+at_least_bounds v is number b r good at_least =
+    reaches_bounds b r at_least.count at_least.enough (says_bounds v is number b at_least.count good at_least.says)
+
+-- where a set says at least r, the count that it says is never or at least r
+pub reaches_from_sum : (v : BundleView) (number : ℕ) (b : List ℕ) (count : Count) (r : ℕ) → Says v number b count → SaysAtLeast v number b r → Reaches count r
+reaches_from_sum v number b count r says at_least =
+    subst (λ c. Reaches c r) (says_once v number b at_least.count count at_least.says says) at_least.enough

@@ -1,0 +1,5 @@
+use Rattle.set_sum.proofs.CostLemmas.{total_cost-within}
+use Rattle.set_sum.proofs.laws.disjoint_costs_are_within_the_length.Goals as goal
+
+pub returns : goal.returns
+returns c patterns apart b path = total_cost-within patterns apart path b

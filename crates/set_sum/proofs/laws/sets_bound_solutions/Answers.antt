@@ -1,0 +1,5 @@
+use Rattle.set_sum.proofs.SumLemmas.{set_bounds}
+use Rattle.set_sum.proofs.laws.sets_bound_solutions.Goals as goal
+
+pub returns : goal.returns
+returns c n set is b good count says = set_bounds n set is b good count says

@@ -1,0 +1,5 @@
+use Rattle.set_sum.proofs.SumLemmas.{set_once}
+use Rattle.set_sum.proofs.laws.sets_say_one_thing.Goals as goal
+
+pub returns : goal.returns
+returns c set b one other says also = set_once set b one other says also

@@ -1,0 +1,11 @@
+use Rattle.set_sum.proofs.AnswerLemmas.{bundle-no_fault, bundle-once, fault-once}
+use Rattle.set_sum.proofs.laws.texts_have_one_answer.Goals as goal
+
+pub returns-clause-bundle : goal.returns-clause-bundle
+returns-clause-bundle c tables text v w one other = bundle-once tables text v w one other
+
+pub returns-clause-fault : goal.returns-clause-fault
+returns-clause-fault c tables text f g one other = fault-once tables text f g one other
+
+pub returns-clause-either : goal.returns-clause-either
+returns-clause-either c tables text v f is fault = bundle-no_fault tables text v f is fault

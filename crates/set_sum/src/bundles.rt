@@ -1,0 +1,148 @@
+//! Bundles of tables, and the sums of their sets.
+
+ghost use Rattle.std.specs.Prelude.{◌≡◌, ◌<◌, Err, IfErr, IfOk, MatchOption, Ok, length, map};
+ghost use Rattle.std.specs.List.{AllByRecursion};
+ghost use Rattle.puz_board.specs.Boards.{side_of};
+ghost use Rattle.set_sum.specs.Bounds.{BoundsSolutions};
+ghost use Rattle.set_sum.specs.Bundles.{BundleView, IsBundle, Says};
+ghost use Rattle.set_sum.specs.ReadLines.{AreSetsOf};
+ghost use Rattle.set_sum.specs.Reading.{AreAlike, IsBundleOf, IsFaultOf, IsFirstWith, NamesOverlap};
+ghost use Rattle.set_sum.specs.declared.faults.SetFault.{SetFault};
+
+use crate::faults::SetFault;
+use crate::lines::read_lines;
+use crate::tables::{one_side, overlap, sum_of};
+use arrayvec::ArrayVec;
+use puz_board::{Board, Side};
+use std::marker::Model;
+use tab_check::{CheckedTable, Count};
+
+/// How many tables a bundle may have, and how many sets.
+pub(crate) const MOST: usize = 16;
+
+/// The numbers of the tables of a set, ascending.
+pub(crate) type Set = ArrayVec<u8, MOST>;
+
+/// Checked tables of one side, and sets of disjoint ones among them: no tile is in two tables of a set.
+///
+/// A move moves one tile, so the counts that the tables of a set tell of a board may be added, and the sum is at most the
+/// number of moves of any solution (Korf and Felner 2002).
+#[derive(Drop)]
+pub struct Bundle<'a> {
+    side: Side,
+    tables: Vec<CheckedTable<'a>>,
+    sets: ArrayVec<Set, MOST>,
+}
+
+impl<'a> Model for Bundle<'a> {
+    ghost use Rattle.set_sum.specs.Bundles.{BundleView};
+
+    ghost Value = { BundleView };
+
+    ghost use Rattle.set_sum.specs.StoredBundles.{IsStoredBundle, bundle_shown};
+
+    ghost view = { bundle_shown };
+
+    ghost invariant = { IsStoredBundle };
+}
+
+impl<'a> Bundle<'a> {
+    /// The bundle of tables and a set text: a line for each set, with the word `set` and the numbers of its tables.
+    ///
+    /// There are 1 to 16 tables, which are numbered from 0 in the order in which they come, and 1 to 16 lines. No memory is
+    /// taken. After a refusal the tables are dropped.
+    pub fn read(tables: Vec<CheckedTable<'a>>, text: &[u8]) -> Result<Bundle<'a>, SetFault>
+        // A bundle comes exactly of tables and a text that make it.
+        ensures ok { IfOk result (λ bundle. IsBundleOf tables.entry.items text.now bundle) }
+        ensures made { (bundle : BundleView) → IsBundleOf tables.entry.items text.now bundle → result ≡ Ok bundle }
+
+        // A fault is answered exactly where it is the first that stands.
+        ensures fault { IfErr result (λ fault. IsFaultOf fault tables.entry.items text.now) }
+        ensures refused { (fault : SetFault) → IsFaultOf fault tables.entry.items text.now → result ≡ Err fault }
+    {
+        make_bundle(tables, text)
+    }
+
+    /// The side of the boards.
+    pub fn side(&self) -> Side
+        ensures side { result ≡ self.now.side }
+        ensures bundle { IsBundle self.now }
+    {
+        self.side
+    }
+
+    /// How many tables there are: 1 to 16.
+    pub fn tables(&self) -> u8
+        ensures tables { result ≡ self.now.tables }
+        ensures bundle { IsBundle self.now }
+    {
+        self.tables.len() as u8
+    }
+
+    /// How many sets there are: 1 to 16. They are numbered from 0, by their lines.
+    pub fn sets(&self) -> u8
+        ensures sets { result ≡ length self.now.sets }
+        ensures bundle { IsBundle self.now }
+    {
+        self.sets.len() as u8
+    }
+
+    /// The sum of what the tables of a set tell of a board, and `Never` where one of them does.
+    pub fn sum(&self, set: u8, board: &Board) -> Count
+        requires set { set < length self.now.sets }
+        requires side { side_of board.now ≡ self.now.side }
+        ensures sum { Says self.now set board.now result }
+
+        // It is at most the number of steps of any solution of the board. `Never` means that there is none.
+        ensures bounds { BoundsSolutions board.now result }
+    {
+        let _side = board.side();
+        sum_of(&self.tables, &self.sets[usize::from(set)], board)
+    }
+}
+
+/// Makes the bundle of tables and a set text.
+fn make_bundle<'a>(tables: Vec<CheckedTable<'a>>, text: &[u8]) -> Result<Bundle<'a>, SetFault>
+    ensures ok { IfOk result (λ bundle. IsBundleOf tables.entry.items text.now bundle) }
+    ensures err { IfErr result (λ fault. IsFaultOf fault tables.entry.items text.now) }
+{
+    let side = one_side(&tables)?;
+    let sets = read_sets(&tables, text)?;
+    Ok(Bundle { side, tables, sets })
+}
+
+/// Reads the sets of a set text over tables of one side.
+fn read_sets(tables: &[CheckedTable<'_>], text: &[u8]) -> Result<ArrayVec<Set, MOST>, SetFault>
+    requires { AreAlike tables.now }
+    ensures ok { IfOk result (λ kept. AreSetsOf tables.now text.now (map (λ set. set.items) kept.items)) }
+    ensures err { IfErr result (λ fault. IsFaultOf fault tables.now text.now) }
+{
+    let lines = match read_lines(text, tables.len()) {
+        Ok(lines) => lines,
+        Err(line) => return Err(SetFault::S1(line)),
+    };
+    if lines.count > MOST {
+        return Err(SetFault::S5);
+    }
+    if let Some(line) = lines.missing {
+        return Err(SetFault::S2(line as u8));
+    }
+    if let Some(line) = first_overlap(tables, &lines.sets) {
+        return Err(SetFault::S3(line as u8));
+    }
+    Ok(lines.sets)
+}
+
+/// The first of some sets two of whose tables share a tile.
+fn first_overlap(tables: &[CheckedTable<'_>], sets: &[Set]) -> Option<usize>
+    requires { AllByRecursion (AllByRecursion (λ i. i < length tables.now)) (map (λ set. set.items) sets.now) }
+    ensures { MatchOption result (AllByRecursion (λ numbers. ¬ NamesOverlap tables.now numbers) (map (λ set. set.items) sets.now))
+        (IsFirstWith (NamesOverlap tables.now) (map (λ set. set.items) sets.now)) }
+{
+    for (line, set) in sets.iter().enumerate() {
+        if overlap(tables, set) {
+            return Some(line);
+        }
+    }
+    None
+}

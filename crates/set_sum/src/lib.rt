@@ -1,0 +1,15 @@
+//! Sums of disjoint pattern databases (Korf and Felner 2002): lower bounds of the solutions of a board.
+//!
+//! Nothing here takes memory.
+#![tactic(auto)]
+
+mod bundles;
+mod faults;
+pub mod laws;
+mod lines;
+mod tables;
+#[cfg(test)]
+mod tests;
+
+pub use bundles::Bundle;
+pub use faults::SetFault;
