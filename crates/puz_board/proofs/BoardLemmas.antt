@@ -140,7 +140,7 @@ cells_least n b good = square_above n good.low
 pub cells_most : (n : ℕ) (b : List ℕ) → IsBoardOf n b → n * n ≤ 25
 cells_most n b good = square_below n good.high
 
-side_of_count-square : (n : ℕ) → 2 ≤ n → n ≤ 5 → side_of_count (n * n) ≡ n
+pub side_of_count-square : (n : ℕ) → 2 ≤ n → n ≤ 5 → side_of_count (n * n) ≡ n
 unfolding side_of_count
 side_of_count-square = by_side (λ n. side_of_count (n * n) ≡ n) refl refl refl refl
 

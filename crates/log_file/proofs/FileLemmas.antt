@@ -1,0 +1,134 @@
+-- A file has one log or one fault.
+use Rattle.std.proofs.Common.{◌≡◌, ℕ, ◌+◌, ◌-◌, ◌<◌, ◌≤◌, ◌⊎◌, List, length, drop, take, Result, Ok, Err, inl, inr, refl, sym, ◌∙◌, ap, ap₂, subst, arith, length-drop}
+use Rattle.std.proofs.Math.Seq.{take-length}
+use Rattle.std.specs.Prelude.{IfOk}
+use Rattle.puz_board.specs.Boards.{IsBoardOf}
+use Rattle.std.specs.List.{AllByRecursion}
+use Rattle.log_file.specs.Logs.{IsLog, IsSize, Lemma, Log}
+use Rattle.log_file.specs.LogFiles.{AreLemmas, HasLemma, IsHeader, IsLogFile, count_in, front_lemma, side_in}
+use Rattle.log_file.specs.FormFaults.{AreBoards, AreFilled, HasHeader, IsFaultOf, IsFirstCut, IsFirstNoBoard, IsLeftOver, behind_first, first_lemmas}
+use Rattle.log_file.specs.declared.faults.FormFault.{FormFault}
+use Rattle.log_file.specs.declared.faults.FormFault.TheVariants.{L1, L2, L3}
+use Rattle.log_file.specs.declared.faults.ViewFault.{ViewFault}
+use Rattle.log_file.specs.declared.faults.ViewFault.TheVariants.{Memory, Refused}
+use Rattle.log_file.proofs.RowLemmas.{AreFilled-lemmas, AreLemmas-first, boards-first, first-boards, first-lemmas, length-first_lemmas}
+
+-- ---- one log
+
+module _ (file : List ℕ) (log : Log) (is : IsLogFile log file) where
+  pub HasHeader-log : HasHeader file
+  HasHeader-log = record {
+    header = record { room = is.header.room; begins = is.header.begins; is_side = refl; is_count = refl };
+    size = subst (λ n. IsSize n (count_in file)) (sym is.header.is_side) (subst (IsSize log.side) (sym is.header.is_count) is.is_log.size);
+  }
+
+  lemmas_are : log.lemmas ≡ first_lemmas (side_in file) (count_in file) (drop 10 file)
+  lemmas_are =
+      first-lemmas log.side log.lemmas (drop 10 file) is.lemmas ∙
+      ap₂ (λ n count. first_lemmas n count (drop 10 file)) (sym is.header.is_side) (sym is.header.is_count)
+
+  filled : AreFilled (side_in file) (count_in file) (drop 10 file)
+  filled =
+      subst (λ n. AreFilled n (count_in file) (drop 10 file)) (sym is.header.is_side)
+      (subst (λ count. AreFilled log.side count (drop 10 file)) (sym is.header.is_count) (AreFilled-lemmas log.side log.lemmas (drop 10 file) is.lemmas))
+
+pub one_log : (file : List ℕ) (a b : Log) → IsLogFile a file → IsLogFile b file → a ≡ b
+one_log file a b is_a is_b =
+    let sides : a.side ≡ b.side = sym is_a.header.is_side ∙ is_b.header.is_side in
+    let lemmas : a.lemmas ≡ b.lemmas = lemmas_are file a is_a ∙ sym (lemmas_are file b is_b) in
+    λ i. record { side = sides i; lemmas = lemmas i }
+
+-- ---- one fault
+
+-- of two numbers that are each the first of their kind, neither is less
+module _ (A : ℕ → Type 0) where
+  same_first : (i j : ℕ) → ((k : ℕ) → k < i → A k) → ¬ A i → ((k : ℕ) → k < j → A k) → ¬ A j → i ≡ j
+  same_first i j below_i at_i below_j at_j =
+      let no_less : i < j → ⊥ = λ l. at_i (below_j i l) in
+      let no_more : j < i → ⊥ = λ l. at_j (below_i j l) in
+      omega arith
+
+module _ (n count : ℕ) (bytes : List ℕ) where
+  one_cut : (i j : ℕ) → (IsFirstCut n count bytes i ⊎ ((i ≡ count) × IsLeftOver n count bytes))
+      → (IsFirstCut n count bytes j ⊎ ((j ≡ count) × IsLeftOver n count bytes)) → i ≡ j
+  one_cut i j (inl a) (inl b) = same_first (λ k. HasLemma n (behind_first n k bytes)) i j a.whole a.cut b.whole b.cut
+  one_cut i j (inl a) (inr b) = absurd (a.cut (b.1.whole i a.within))
+  one_cut i j (inr a) (inl b) = absurd (b.cut (a.1.whole j b.within))
+  one_cut i j (inr a) (inr b) = a.0 ∙ sym b.0
+
+  filled_or_cut : (i : ℕ) → AreFilled n count bytes → ¬ (IsFirstCut n count bytes i ⊎ ((i ≡ count) × IsLeftOver n count bytes))
+  filled_or_cut i filled (inl a) = a.cut (filled.whole i a.within)
+  filled_or_cut i filled (inr a) = a.1.rest filled.rest
+
+  one_no_board : (i j : ℕ) → IsFirstNoBoard n count bytes i → IsFirstNoBoard n count bytes j → i ≡ j
+  one_no_board i j a b = same_first (λ k. IsBoardOf n (front_lemma n (behind_first n k bytes)).board) i j a.boards a.no_board b.boards b.no_board
+
+pub one_fault : (file : List ℕ) (a b : FormFault) → IsFaultOf a file → IsFaultOf b file → a ≡ b
+one_fault file L1 L1 a b = refl
+one_fault file L1 (L2 j) a b = absurd (a b.0)
+one_fault file L1 (L3 j) a b = absurd (a b.0)
+one_fault file (L2 i) L1 a b = absurd (b a.0)
+one_fault file (L2 i) (L2 j) a b = ap L2 (one_cut _ _ _ i j a.1 b.1)
+one_fault file (L2 i) (L3 j) a b = absurd (filled_or_cut _ _ _ i b.1.filled a.1)
+one_fault file (L3 i) L1 a b = absurd (b a.0)
+one_fault file (L3 i) (L2 j) a b = absurd (filled_or_cut _ _ _ j a.1.filled b.1)
+one_fault file (L3 i) (L3 j) a b = ap L3 (one_no_board _ _ _ i j a.1 b.1)
+
+-- ---- not both
+
+pub no_fault : (file : List ℕ) (log : Log) (fault : FormFault) → IsLogFile log file → ¬ IsFaultOf fault file
+no_fault file log L1 is stands = stands (HasHeader-log file log is)
+no_fault file log (L2 i) is stands = filled_or_cut _ _ _ i (filled file log is) stands.1
+no_fault file log (L3 i) is stands =
+    stands.1.no_board (first-boards (side_in file) (count_in file) (drop 10 file) boards i stands.1.within)
+  where
+    boards : AllByRecursion (λ lemma. IsBoardOf (side_in file) lemma.board) (first_lemmas (side_in file) (count_in file) (drop 10 file))
+    boards =
+        subst (AllByRecursion (λ lemma. IsBoardOf (side_in file) lemma.board)) (lemmas_are file log is)
+        (subst (λ n. AllByRecursion (λ lemma. IsBoardOf n lemma.board) log.lemmas) (sym is.header.is_side) is.is_log.boards)
+
+-- ---- what is answered of bytes
+
+-- the bytes behind the header
+pub behind_header : (file : List ℕ) → take (length file - 10) (drop 10 file) ≡ drop 10 file
+behind_header file = ap (λ k. take k (drop 10 file)) (sym (length-drop 10 file)) ∙ take-length (drop 10 file)
+
+module _ (side count : ℕ) (file : List ℕ) (header : IsHeader side count file) (size : IsSize side count) where
+  pub IsLogFile-first : (lemmas : List Lemma) → AreFilled side count (drop 10 file) → AreBoards side count (drop 10 file)
+      → lemmas ≡ first_lemmas side count (drop 10 file) → IsLogFile (record { side = side; lemmas = lemmas }) file
+  IsLogFile-first lemmas filled boards are =
+      let counted : length lemmas ≡ count = ap length are ∙ length-first_lemmas side count (drop 10 file) in
+      record {
+        is_log = record {
+          size = subst (IsSize side) (sym counted) size;
+          boards = subst (AllByRecursion (λ lemma. IsBoardOf side lemma.board)) (sym are) (boards-first side count (drop 10 file) boards);
+        };
+        header = subst (λ k. IsHeader side k file) (sym counted) header;
+        lemmas = subst (λ ls. AreLemmas side ls (drop 10 file)) (sym are) (AreLemmas-first side count (drop 10 file) filled);
+      }
+
+  pub HasHeader-read : HasHeader file
+  HasHeader-read = record {
+    header = record { room = header.room; begins = header.begins; is_side = refl; is_count = refl };
+    size = subst (λ n. IsSize n (count_in file)) (sym header.is_side) (subst (IsSize side) (sym header.is_count) size);
+  }
+
+module _ (file : List ℕ) (r : Result Log ViewFault) (ok : IfOk r (λ log. IsLogFile log file))
+    (refused : (fault : FormFault) → r ≡ Err (Refused fault) → IsFaultOf fault file) where
+  pub log_viewed : (log : Log) → IsLogFile log file → (r ≡ Ok log) ⊎ (r ≡ Err Memory)
+  log_viewed log is = go r ok refused
+    where
+      go : (r : Result Log ViewFault) → IfOk r (λ log. IsLogFile log file) → ((fault : FormFault) → r ≡ Err (Refused fault) → IsFaultOf fault file)
+          → (r ≡ Ok log) ⊎ (r ≡ Err Memory)
+      go (Ok found) ok refused = inl (ap Ok (one_log file found log ok is))
+      go (Err Memory) ok refused = inr refl
+      go (Err (Refused fault)) ok refused = absurd (no_fault file log fault is (refused fault refl))
+
+  pub fault_named : (r ≡ Err Memory → (log : Log) × IsLogFile log file) → (fault : FormFault) → IsFaultOf fault file → r ≡ Err (Refused fault)
+  fault_named memory fault stands = go r ok refused memory
+    where
+      go : (r : Result Log ViewFault) → IfOk r (λ log. IsLogFile log file) → ((fault : FormFault) → r ≡ Err (Refused fault) → IsFaultOf fault file)
+          → (r ≡ Err Memory → (log : Log) × IsLogFile log file) → r ≡ Err (Refused fault)
+      go (Ok found) ok refused memory = absurd (no_fault file found fault ok stands)
+      go (Err Memory) ok refused memory = let log = memory refl in absurd (no_fault file log.0 fault log.1 stands)
+      go (Err (Refused other)) ok refused memory = ap (λ f. Err (Refused f)) (one_fault file other fault (refused other refl) stands)

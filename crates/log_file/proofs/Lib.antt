@@ -1,0 +1,3 @@
+mod BoardLemmas
+mod RowLemmas
+mod FileLemmas

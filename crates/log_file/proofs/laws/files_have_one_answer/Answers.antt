@@ -1,0 +1,11 @@
+use Rattle.log_file.proofs.FileLemmas.{no_fault, one_fault, one_log}
+use Rattle.log_file.proofs.laws.files_have_one_answer.Goals as goal
+
+pub returns-clause-log : goal.returns-clause-log
+returns-clause-log c = one_log
+
+pub returns-clause-fault : goal.returns-clause-fault
+returns-clause-fault c = one_fault
+
+pub returns-clause-either : goal.returns-clause-either
+returns-clause-either c = no_fault

@@ -1,0 +1,8 @@
+use Rattle.log_file.proofs.FileLemmas.{fault_named, log_viewed}
+use Rattle.log_file.proofs.views.LogView.read.Goals as goal
+
+pub returns-clause-viewed : goal.returns-clause-viewed
+returns-clause-viewed c = log_viewed c.args.file.now c.read_log.result c.read_log.ensures.ok c.read_log.ensures.fault
+
+pub returns-clause-exact : goal.returns-clause-exact
+returns-clause-exact c = fault_named c.args.file.now c.read_log.result c.read_log.ensures.ok c.read_log.ensures.fault c.read_log.ensures.memory

@@ -1,0 +1,18 @@
+-- Laws of log files.
+use Rattle.std.specs.Prelude.{◌≡◌, ℕ, List}
+use Rattle.log_file.specs.FormFaults.{IsFaultOf}
+use Rattle.log_file.specs.LogFiles.{IsLogFile}
+use Rattle.log_file.specs.Logs.{Log}
+use Rattle.log_file.specs.declared.faults.FormFault.{FormFault}
+
+-- bytes are the file of one log at most
+abbrev pub FilesHaveOneLog : Type 0
+FilesHaveOneLog = (file : List ℕ) (a b : Log) → IsLogFile a file → IsLogFile b file → a ≡ b
+
+-- they have one fault at most
+abbrev pub FilesHaveOneFault : Type 0
+FilesHaveOneFault = (file : List ℕ) (a b : FormFault) → IsFaultOf a file → IsFaultOf b file → a ≡ b
+
+-- a log's file has none
+abbrev pub LogFilesHaveNoFault : Type 0
+LogFilesHaveNoFault = (file : List ℕ) (log : Log) (fault : FormFault) → IsLogFile log file → ¬ IsFaultOf fault file

@@ -1,0 +1,63 @@
+-- Log files: 10 bytes of header, and behind them the lemmas, one after the other.
+-- The places of bytes are counted from 0, and a number of several bytes has its highest byte first.
+use Rattle.std.specs.Prelude.{◌≡◌, ℕ, ◌+◌, ◌*◌, ◌≤◌, List, [], ◌∷◌, ◌++◌, codes, drop, length, slice_index, take}
+use Rattle.byteorder.specs.Endian.{big_number}
+use Rattle.log_file.specs.Logs.{IsLog, Lemma, Log}
+
+-- ---- the header
+
+-- how it begins: the letters of the format, and the version
+abbrev pub signature : List ℕ
+signature = codes "PDBL" ++ 1 ∷ []
+
+abbrev pub side_in : List ℕ → ℕ
+side_in file = slice_index file 5
+
+-- how many lemmas there are
+abbrev pub count_in : List ℕ → ℕ
+count_in file = big_number 4 (drop 6 file)
+
+-- the first 10 bytes are the header of a log of this side and so many lemmas
+pub record IsHeader (side count : ℕ) (file : List ℕ) : Type 0 where
+  pub room : 10 ≤ length file
+  pub begins : take 5 file ≡ signature
+  pub is_side : side_in file ≡ side
+  pub is_count : count_in file ≡ count
+
+-- ---- the lemma at the front of bytes, for boards of side n
+
+-- how many bytes come before its tree: the board's numbers, one byte for the bound, four for the length of the tree
+abbrev pub head_length : ℕ → ℕ
+head_length n = n * n + 5
+
+abbrev pub tree_length : ℕ → List ℕ → ℕ
+tree_length n bytes = big_number 4 (drop (n * n + 1) bytes)
+
+abbrev pub front_lemma : ℕ → List ℕ → Lemma
+front_lemma n bytes = record {
+  board = take (n * n) bytes;
+  bound = slice_index bytes (n * n);
+  tree = take (tree_length n bytes) (drop (head_length n) bytes);
+}
+
+-- the bytes behind it
+abbrev pub behind : ℕ → List ℕ → List ℕ
+behind n bytes = drop (head_length n + tree_length n bytes) bytes
+
+-- it isn't cut short
+pub record HasLemma (n : ℕ) (bytes : List ℕ) : Type 0 where
+  pub head : head_length n ≤ length bytes
+  pub whole : head_length n + tree_length n bytes ≤ length bytes
+
+-- ---- log files
+
+-- the bytes are these lemmas, one after the other, and nothing more
+abbrev pub AreLemmas : ℕ → List Lemma → List ℕ → Type 0
+AreLemmas n [] bytes = bytes ≡ []
+AreLemmas n (lemma ∷ more) bytes = HasLemma n bytes × (lemma ≡ front_lemma n bytes) × AreLemmas n more (behind n bytes)
+
+-- the header of the log, and then its lemmas
+pub record IsLogFile (log : Log) (file : List ℕ) : Type 0 where
+  pub is_log : IsLog log
+  pub header : IsHeader log.side (length log.lemmas) file
+  pub lemmas : AreLemmas log.side log.lemmas (drop 10 file)

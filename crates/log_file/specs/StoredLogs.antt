@@ -1,0 +1,11 @@
+-- How a view of a log is stored: its lemmas in a list, each with its board and where its tree lies.
+use Rattle.std.specs.Prelude.{List, map}
+use Rattle.log_file.specs.Logs.{Lemma, Log}
+use Rattle.log_file.specs.declared.views.LemmaView.{LemmaView}
+use Rattle.log_file.specs.declared.views.LogView.TheInside.{Inside}
+
+abbrev pub lemma_viewed : LemmaView → Lemma
+lemma_viewed lemma = record { board = lemma.board; bound = lemma.bound; tree = lemma.tree.now }
+
+abbrev pub log_shown : Inside → Log
+log_shown view = record { side = view.side; lemmas = map lemma_viewed view.lemmas.items }

@@ -1,0 +1,44 @@
+//! The headers of log files.
+
+ghost use Rattle.std.specs.Prelude.{IfNone, IfSome};
+ghost use Rattle.log_file.specs.FormFaults.{HasHeader};
+ghost use Rattle.log_file.specs.LogFiles.{IsHeader};
+ghost use Rattle.log_file.specs.Logs.{IsSize};
+
+use byteorder::{BigEndian, ByteOrder};
+use puz_board::Side;
+
+/// How many bytes a header has.
+pub(crate) const HEADER_LEN: usize = 10;
+
+/// How a header begins: the letters of the format, and its version.
+const SIGNATURE: &[u8; 5] = b"PDBL\x01";
+
+/// The most lemmas of a log.
+const MOST_LEMMAS: u32 = 1 << 20;
+
+/// What a header says.
+#[derive(Clone, Copy)]
+pub(crate) struct Header {
+    /// The side of the boards.
+    pub(crate) side: Side,
+    /// How many lemmas there are.
+    pub(crate) count: u32,
+}
+
+/// Reads the header of a log file.
+pub(crate) fn read_header(file: &[u8]) -> Option<Header>
+    ensures some { IfSome result (λ h. IsHeader h.side h.count file.now × IsSize h.side h.count) }
+    ensures none { IfNone result (¬ HasHeader file.now) }
+{
+    if file.len() < HEADER_LEN || !file.starts_with(SIGNATURE) {
+        return None;
+    }
+    let side = Side::of(file[5])?;
+    let count = BigEndian::read_u32(&file[6..]);
+    if 1 <= count && count <= MOST_LEMMAS {
+        Some(Header { side, count })
+    } else {
+        None
+    }
+}

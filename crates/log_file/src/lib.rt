@@ -1,0 +1,16 @@
+//! Log files: claimed lower bounds of boards, each with the bytes of a tree that is to prove it.
+//!
+//! What the trees prove isn't looked at here.
+#![tactic(auto)]
+
+mod checks;
+mod faults;
+mod fronts;
+mod headers;
+pub mod laws;
+#[cfg(test)]
+mod tests;
+mod views;
+
+pub use faults::{FormFault, ViewFault};
+pub use views::{LemmaView, LogView};
