@@ -1,7 +1,7 @@
 -- What a run says.
 use Rattle.std.proofs.Common.{◌≡◌, ◌∙◌, ◌⊎◌, ◌≤◌, inl, inr, ℕ, List, Bool, Option, Result, Ok, Err, MatchResult, OnOk, OnErr, lit≤, subst, arith}
 use Rattle.std.specs.Io.KnownBytes.{Appends}
-use Rattle.pdb_words.specs.Words.{Asked}
+use Rattle.pdb_words.specs.Asked.{Asked}
 use Rattle.pdb_cli.specs.declared.verdict.Fault.{Fault}
 use Rattle.pdb_cli.specs.declared.verdict.Verdict.{Verdict}
 use Rattle.pdb_cli.specs.Given.{Given, IsWithinLimits}

@@ -1,7 +1,8 @@
 -- How a run ends: what its writer got, and its status.
 use Rattle.std.specs.Prelude.{◌≡◌, ◌⊎◌, ⊤, ℕ, ◌<◌, List, ◌++◌, Bool, true, Option, Some, None, Result, IfSome, IsSomeAnd, codes, length}
 use Rattle.std.specs.Io.KnownBytes.{Appends, Keeps}
-use Rattle.pdb_words.specs.Words.{Asked, AsksForHelp, IsMistaken, replay, table}
+use Rattle.pdb_words.specs.Asked.{Asked, replay, table}
+use Rattle.pdb_words.specs.Faults.{AsksForHelp, IsMistaken}
 use Rattle.pdb_cli.specs.Given.{Given, puzzle_text, table_file, table_limit, text_limit, IsWithinLimits}
 use Rattle.pdb_cli.specs.Lines.{lines_of, status_of}
 use Rattle.pdb_cli.specs.Shelves.{Files}

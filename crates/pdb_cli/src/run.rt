@@ -2,7 +2,9 @@
 
 ghost use Rattle.std.specs.Prelude.{◌≡◌, ◌⊎◌, List, ℕ, Option, Bool, Some, map, option_map, string_bytes, MatchResult, IfOk, IsErrOf, length, ◌<◌, ◌≤◌};
 ghost use Rattle.std.specs.Io.KnownBytes.{Keeps};
-ghost use Rattle.pdb_words.specs.Words.{Asked, IsCauseOf, IsMistaken, Parses, asked_of, replay as asks_replay, table as asks_table};
+ghost use Rattle.pdb_words.specs.Asked.{Asked, replay as asks_replay, table as asks_table};
+ghost use Rattle.pdb_words.specs.CommandLine.{Parses, asked_of};
+ghost use Rattle.pdb_words.specs.Faults.{IsCauseOf, IsMistaken};
 ghost use Rattle.pdb_cli.specs.Given.{IsWithinLimits, given};
 ghost use Rattle.pdb_cli.specs.Lines.{status_of};
 ghost use Rattle.pdb_cli.specs.Runs.{Ends, HasFailed, IsAnswered, IsAskedFor, IsOverLimit, IsReadFrom, Refuses, Says, no_memory, read_fault, size_fault, shown};
@@ -12,7 +14,7 @@ use crate::lines::{line, report};
 use crate::shelf::Shelf;
 use crate::streams::{ReadFault, WriteFault, put, read_all};
 use crate::verdict::{Fault, Inputs, Verdict, verify};
-use pdb_words::request::{Request, WordFault, read_words};
+use pdb_words::{Request, WordFault, read_words};
 use std::alloc::Global;
 use std::io::{Read, Write};
 use std::sync::Wait;

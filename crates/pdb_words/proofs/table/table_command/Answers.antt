@@ -2,8 +2,8 @@ use Rattle.std.proofs.Common.{rules, ◌≡◌, ◌∙◌, ap₂, codes, true}
 use Rattle.std.proofs.lemmas.Result.{IfOk-weaker}
 use Rattle.clap.specs.Words.{AddsArg, app_of, new_app, new_rule, rule_of, with_rule}
 use Rattle.clap.specs.declared.Command.{Command}
-use Rattle.pdb_words.specs.Commands.{workers_flag}
-use Rattle.pdb_words.proofs.commands.table_command.Goals as goal
+use Rattle.pdb_words.specs.Table.{workers_flag}
+use Rattle.pdb_words.proofs.table.table_command.Goals as goal
 
 pub returns-clause-app : goal.returns-clause-app
 returns-clause-app c =

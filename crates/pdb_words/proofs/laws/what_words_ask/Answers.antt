@@ -10,8 +10,11 @@ use Rattle.clap.specs.Walk.{Text}
 use Rattle.clap.specs.declared.error.kind.ErrorKind.{ErrorKind}
 use Rattle.clap.specs.declared.error.kind.ErrorKind.TheVariants as kind
 use Rattle.clap.specs.declared.builder.value_parser.ValueParser.TheVariants as parser
-use Rattle.pdb_words.specs.Words.{asked_of, faults_of, number_of, replay, table, workers_of, writes_workers, IsMistaken}
-use Rattle.pdb_words.proofs.request.what_words_ask.Goals as goal
+use Rattle.pdb_words.specs.Asked.{replay, table}
+use Rattle.pdb_words.specs.CommandLine.{asked_of, faults_of}
+use Rattle.pdb_words.specs.Faults.{IsMistaken}
+use Rattle.pdb_words.specs.Table.{number_of, workers_of, writes_workers}
+use Rattle.pdb_words.proofs.laws.what_words_ask.Goals as goal
 
 nothing_faults : faults_of [] ≡ []
 unfolding clap_on_literals
@@ -74,6 +77,17 @@ unfolding clap_on_literals
 workers_faults number name n f true e = simp (n.no_dash, n.no_dashes, f.no_dash, f.no_dashes, e)
 workers_faults number name n f false e = simp (n.no_dash, n.no_dashes, f.no_dash, f.no_dashes, e)
 
+last_asked : (number name : Text) → IsPlain number → IsPlain name
+    → asked_of (codes "table" ∷ name ∷ codes "--workers" ∷ number ∷ []) ≡ table name (workers_of number)
+unfolding clap_on_literals
+last_asked number name n f = simp (n.no_dash, n.no_dashes, f.no_dash, f.no_dashes)
+
+last_faults : (number name : Text) → IsPlain number → IsPlain name → (takes : Bool) → accepts false (parser.Signed (pos 1) (pos 64)) number ≡ takes
+    → faults_of (codes "table" ∷ name ∷ codes "--workers" ∷ number ∷ []) ≡ (if takes then [] else kind.ValueValidation ∷ [])
+unfolding clap_on_literals
+last_faults number name n f true e = simp (n.no_dash, n.no_dashes, f.no_dash, f.no_dashes, e)
+last_faults number name n f false e = simp (n.no_dash, n.no_dashes, f.no_dash, f.no_dashes, e)
+
 -- `clap` takes the texts that write a number of workers
 accepts_is : (d : ℕ) (number : Text) → nat_eq d 45 ≡ false → accepts false (parser.Signed (pos 1) (pos 64)) (d ∷ number) ≡ writes_workers (d ∷ number)
 accepts_is d number e = rw e (in_range (is_numeral (without_leading_plus (d ∷ number))) (number_of (d ∷ number)))
@@ -101,4 +115,10 @@ returns c = record {
   );
   table_other_workers = λ d b number name e f writes.
       mistaken _ _ (workers_faults (d ∷ number) (b ∷ name) (is_plain d number e) (is_plain b name f) false (accepts_is d number e ∙ writes)) (λ e. cc);
+  workers_last = λ d b number name e f writes. (
+    last_faults (d ∷ number) (b ∷ name) (is_plain d number e) (is_plain b name f) true (accepts_is d number e ∙ writes),
+    last_asked (d ∷ number) (b ∷ name) (is_plain d number e) (is_plain b name f) ∙ ap (table (b ∷ name)) (number_asked (d ∷ number) writes),
+  );
+  other_workers_last = λ d b number name e f writes.
+      mistaken _ _ (last_faults (d ∷ number) (b ∷ name) (is_plain d number e) (is_plain b name f) false (accepts_is d number e ∙ writes)) (λ e. cc);
 }

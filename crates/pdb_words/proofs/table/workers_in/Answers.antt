@@ -8,8 +8,8 @@ use Rattle.clap.specs.ValueTests.{is_numeral}
 use Rattle.clap.specs.Words.{ReadsOne, Text, found_of, one_text, rows_of}
 use Rattle.clap.specs.declared.ArgMatches.{ArgMatches}
 use Rattle.clap.proofs.WalkLemmas.{one_text-rows, byte_read}
-use Rattle.pdb_words.specs.Words.{number_of, workers_in, workers_of}
-use Rattle.pdb_words.proofs.request.workers_in.Goals as goal
+use Rattle.pdb_words.specs.Table.{number_of, workers_in, workers_of}
+use Rattle.pdb_words.proofs.table.workers_in.Goals as goal
 
 -- the number that was read, where it is 1 to 64, and otherwise 1
 abbrev within : ℕ → ℕ
@@ -49,21 +49,21 @@ pub returns-in-Some-1-to-64-clause-asked : goal.returns-in-Some-1-to-64-clause-a
 returns-in-Some-1-to-64-clause-asked c =
     let n = c.in-Some-1-to-64.workers in
     sym (inside n (omega arith) (omega arith)) ∙ sym (ap (λ (o : Option ℕ). within (unwrap_or o 0)) c.in-Some-1-to-64.is)
-    ∙ read_in c.args.table.now c.get_one.result c.get_one.ensures.none c.get_one.ensures.value
+    ∙ read_in c.args.found.now c.get_one.result c.get_one.ensures.none c.get_one.ensures.value
 
 pub returns-in_default-clause-asked : goal.returns-in_default-clause-asked
 returns-in_default-clause-asked c =
     let low : (c.in_default.field-0 < 1) ⊎ (64 < c.in_default.field-0) = grind (arith, nat_tests) in
     sym (outside _ low) ∙ sym (ap (λ (o : Option ℕ). within (unwrap_or o 0)) c.in_default.is)
-    ∙ read_in c.args.table.now c.get_one.result c.get_one.ensures.none c.get_one.ensures.value
+    ∙ read_in c.args.found.now c.get_one.result c.get_one.ensures.none c.get_one.ensures.value
 
 pub returns-in_default-2-clause-asked : goal.returns-in_default-2-clause-asked
 returns-in_default-2-clause-asked c =
     let high : (c.in_default.field-0 < 1) ⊎ (64 < c.in_default.field-0) = grind (arith, nat_tests) in
     sym (outside _ high) ∙ sym (ap (λ (o : Option ℕ). within (unwrap_or o 0)) c.in_default.is)
-    ∙ read_in c.args.table.now c.get_one.result c.get_one.ensures.none c.get_one.ensures.value
+    ∙ read_in c.args.found.now c.get_one.result c.get_one.ensures.none c.get_one.ensures.value
 
 pub returns-in_default-3-clause-asked : goal.returns-in_default-3-clause-asked
 returns-in_default-3-clause-asked c =
     sym (ap (λ (o : Option ℕ). within (unwrap_or o 0)) c.in_default.is)
-    ∙ read_in c.args.table.now c.get_one.result c.get_one.ensures.none c.get_one.ensures.value
+    ∙ read_in c.args.found.now c.get_one.result c.get_one.ensures.none c.get_one.ensures.value

@@ -4,8 +4,8 @@ use Rattle.clap.specs.Simple.{on_top}
 use Rattle.clap.specs.Words.{AddsSubcommand, App, app_of, new_app, with_subcommand}
 use Rattle.clap.specs.declared.Command.{Command}
 use Rattle.clap.specs.declared.Command.TheViews.{out-Command}
-use Rattle.pdb_words.specs.Commands.{replay_command}
-use Rattle.pdb_words.proofs.commands.command.Goals as goal
+use Rattle.pdb_words.specs.Replay.{replay_command}
+use Rattle.pdb_words.proofs.command_line.command_line.Goals as goal
 
 -- the program's command, before its own are added
 abbrev bare : App
