@@ -1,5 +1,5 @@
--- A file has one table, one fault besides want of memory, and not both. Entries have one census.
-use Rattle.std.proofs.Common.{◌≡◌, ℕ, ◌≤◌, ◌≢◌, List, [], ◌∷◌, length, Ok, Err, inl, inr, refl, sym, ◌∙◌, ap, subst, arith}
+-- A file has one table, one fault, and not both. Entries have one census.
+use Rattle.std.proofs.Common.{◌≡◌, ℕ, ◌≤◌, List, [], ◌∷◌, length, Ok, Err, inl, inr, sym, ◌∙◌, ap, subst, arith}
 use Rattle.std.specs.Prelude.{slice_index}
 use Rattle.std.specs.List.{AllByRecursion}
 use Rattle.std.proofs.lemmas.Bool.{cases_Bool, both_ways}
@@ -15,8 +15,8 @@ use Rattle.tab_check.specs.Counts.{IsCensusOf, IsDeepestOf}
 use Rattle.tab_check.specs.ExactTables.{IsExactFile}
 use Rattle.tab_check.specs.TableFaults.{IsFaultOf}
 use Rattle.tab_check.specs.declared.census.Census.{Census}
-use Rattle.tab_check.specs.declared.tables.TableFault.{TableFault}
-use Rattle.tab_check.specs.declared.tables.TableFault.TheVariants.{Head, Memory, T7}
+use Rattle.tab_check.specs.declared.tables.TableRefusal.{TableRefusal}
+use Rattle.tab_check.specs.declared.tables.TableRefusal.TheVariants.{Head, T7}
 use Rattle.tab_check.proofs.TableLemmas.{keeps_from_exact, least_bad_one, none_bad}
 
 -- ---- faults of the header
@@ -62,21 +62,16 @@ module _ (file : List ℕ) where
   no_table : (f : HeadFault) (t : Table) → IsFirstFault f file → ¬ IsTableFile t file
   no_table f t is is_file = let clash : Err f ≡ Ok t = sym (table_of_file-fault f file is) ∙ table_of_file-file t file is_file in cc
 
-  pub IsFaultOf-one : (f g : TableFault) → f ≢ Memory → g ≢ Memory → IsFaultOf f file → IsFaultOf g file → f ≡ g
-  IsFaultOf-one Memory g other others is also = absurd (other refl)
-  IsFaultOf-one (Head f) Memory other others is also = absurd (others refl)
-  IsFaultOf-one (T7 a) Memory other others is also = absurd (others refl)
-  IsFaultOf-one (Head f) (Head g) other others is also = let both : Err f ≡ Err g = sym (table_of_file-fault f file is) ∙ table_of_file-fault g file also in let same : f ≡ g = cc in ap Head same
-  IsFaultOf-one (Head f) (T7 b) other others is also = absurd (no_table f also.0 is also.1)
-  IsFaultOf-one (T7 a) (Head g) other others is also = absurd (no_table g is.0 also is.1)
-  IsFaultOf-one (T7 a) (T7 b) other others is also = ap T7 (least_bad_one also.0 a b (subst (λ t. IsLeastBad t a) (table_one is.0 also.0 is.1 also.1) is.2) also.2)
+  pub IsFaultOf-one : (f g : TableRefusal) → IsFaultOf f file → IsFaultOf g file → f ≡ g
+  IsFaultOf-one (Head f) (Head g) is also = let both : Err f ≡ Err g = sym (table_of_file-fault f file is) ∙ table_of_file-fault g file also in let same : f ≡ g = cc in ap Head same
+  IsFaultOf-one (Head f) (T7 b) is also = absurd (no_table f also.0 is also.1)
+  IsFaultOf-one (T7 a) (Head g) is also = absurd (no_table g is.0 also is.1)
+  IsFaultOf-one (T7 a) (T7 b) is also = ap T7 (least_bad_one also.0 a b (subst (λ t. IsLeastBad t a) (table_one is.0 also.0 is.1 also.1) is.2) also.2)
 
-  -- want of memory is the only fault of an exact file
-  pub exact_or_fault : (t : Table) (f : TableFault) → IsExactFile t file → IsFaultOf f file → f ≡ Memory
-  exact_or_fault t Memory is fault = refl
-  exact_or_fault t (Head f) is fault = absurd (no_table f t fault is.is_file)
+  pub exact_or_fault : (t : Table) (f : TableRefusal) → IsExactFile t file → ¬ IsFaultOf f file
+  exact_or_fault t (Head f) is fault = no_table f t fault is.is_file
   exact_or_fault t (T7 number) is fault =
-      absurd (none_bad t (keeps_from_exact t is.is_file.table is.exact) number (subst (λ u. IsLeastBad u number) (table_one fault.0 t fault.1 is.is_file) fault.2))
+      none_bad t (keeps_from_exact t is.is_file.table is.exact) number (subst (λ u. IsLeastBad u number) (table_one fault.0 t fault.1 is.is_file) fault.2)
 
 -- ---- censuses
 

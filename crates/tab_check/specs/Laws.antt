@@ -1,5 +1,5 @@
 -- What holds of every table, and of every file.
-use Rattle.std.specs.Prelude.{◌≡◌, ℕ, ◌≤◌, ◌≢◌, ◌↔◌, false, true, List, [], ◌∷◌}
+use Rattle.std.specs.Prelude.{◌≡◌, ℕ, ◌≤◌, ◌↔◌, false, true, List, [], ◌∷◌}
 use Rattle.puz_board.specs.Boards.{IsBoardOf, at, blank, slid}
 use Rattle.puz_board.specs.Cells.{Adjacent}
 use Rattle.puz_board.specs.Costs.{LeadsHome, cost, is_one_of}
@@ -13,8 +13,7 @@ use Rattle.tab_check.specs.ExactTables.{AreExact, IsExactFile}
 use Rattle.tab_check.specs.LocalRule.{IsNearEntry}
 use Rattle.tab_check.specs.TableFaults.{IsFaultOf}
 use Rattle.tab_check.specs.declared.census.Census.{Census}
-use Rattle.tab_check.specs.declared.tables.TableFault.{TableFault}
-use Rattle.tab_check.specs.declared.tables.TableFault.TheVariants.{Memory}
+use Rattle.tab_check.specs.declared.tables.TableRefusal.{TableRefusal}
 
 -- e is the entry of the board's placement and of the region of its blank
 abbrev pub IsEntryOf : Table → List ℕ → ℕ → Type 0
@@ -64,13 +63,13 @@ FilesAreExactByRule = (t : Table) → IsTable t → AllKeepRule t ↔ AreExact t
 abbrev pub FilesHaveOneExactTable : Type 0
 FilesHaveOneExactTable = (file : List ℕ) (t u : Table) → IsExactFile t file → IsExactFile u file → t ≡ u
 
--- besides want of memory no file has two faults
+-- no file has two faults
 abbrev pub FilesHaveOneFault : Type 0
-FilesHaveOneFault = (file : List ℕ) (f g : TableFault) → f ≢ Memory → g ≢ Memory → IsFaultOf f file → IsFaultOf g file → f ≡ g
+FilesHaveOneFault = (file : List ℕ) (f g : TableRefusal) → IsFaultOf f file → IsFaultOf g file → f ≡ g
 
--- besides want of memory an exact file has no fault
+-- an exact file has no fault
 abbrev pub ExactFilesHaveNoFault : Type 0
-ExactFilesHaveNoFault = (file : List ℕ) (t : Table) (f : TableFault) → IsExactFile t file → IsFaultOf f file → f ≡ Memory
+ExactFilesHaveNoFault = (file : List ℕ) (t : Table) (f : TableRefusal) → IsExactFile t file → ¬ IsFaultOf f file
 
 -- no entries have two censuses
 abbrev pub EntriesHaveOneCensus : Type 0

@@ -14,4 +14,4 @@ mod tests;
 
 pub use blocks::check_block;
 pub use census::Census;
-pub use tables::{CheckedTable, Count, TableFault, check_table};
+pub use tables::{CheckedTable, Count, TableFault, TableRefusal, check_table};

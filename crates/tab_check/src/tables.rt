@@ -8,9 +8,10 @@ ghost use Rattle.tab_file.specs.Tables.{IsTable, Table};
 ghost use Rattle.tab_check.specs.BadEntries.{IsLeastBad};
 ghost use Rattle.tab_check.specs.Counts.{IsCensusOf, IsCountOf};
 ghost use Rattle.tab_check.specs.ExactTables.{IsExactFile};
-ghost use Rattle.tab_check.specs.TableFaults.{IsFaultOf};
+ghost use Rattle.tab_check.specs.TableFaults.{IsCauseOf};
 ghost use Rattle.tab_file.specs.declared.headers.HeadFault.{HeadFault};
-ghost use Rattle.tab_check.specs.declared.tables.TableFault.TheVariants.{Head, Memory, T7};
+ghost use Rattle.tab_check.specs.declared.tables.TableFault.TheVariants.{Memory, Refused};
+ghost use Rattle.tab_check.specs.declared.tables.TableRefusal.TheVariants.{Head, T7};
 ghost use Rattle.tab_check.specs.declared.tables.Count.TheVariants.{Finite, Never};
 
 use crate::census::{Census, census_of};
@@ -27,13 +28,20 @@ use work_run::{Gate, run_jobs};
 
 /// Why bytes are no exact table file.
 #[derive(Clone, Copy, Debug, PartialEq, Eq)]
-pub enum TableFault {
+pub enum TableRefusal {
     /// They are no table file.
     Head(HeadFault),
+    /// They are a table file, and the entry with this number is the least that breaks the local rule.
+    T7(u64),
+}
+
+/// Why no checked table comes of bytes.
+#[derive(Clone, Copy, Debug, PartialEq, Eq)]
+pub enum TableFault {
+    /// They are no exact table file.
+    Refused(TableRefusal),
     /// They are a table file, and there isn't the memory to check it.
     Memory,
-    /// The entry with this number is the least that breaks the local rule.
-    T7(u64),
 }
 
 /// What a table tells of a board.
@@ -80,19 +88,19 @@ pub fn check_table<'a, R: Threads + Wait, G: Gate + Sync>(
     ensures exact { (table : Table) → IsExactFile table file.now → (result ≡ Ok table) ⊎ (result ≡ Err Memory) }
 
     // Which fault it is.
-    ensures fault { IfErr result (λ fault. IsFaultOf fault file.now) }
-    ensures head { (fault : HeadFault) → table_of_file file.now ≡ Err fault → result ≡ Err (Head fault) }
+    ensures fault { IfErr result (λ fault. IsCauseOf fault file.now) }
+    ensures head { (fault : HeadFault) → table_of_file file.now ≡ Err fault → result ≡ Err (Refused (Head fault)) }
     ensures bad { (table : Table) (number : ℕ) → IsTableFile table file.now → IsLeastBad table number
-        → (result ≡ Err (T7 number)) ⊎ (result ≡ Err Memory) }
+        → (result ≡ Err (Refused (T7 number))) ⊎ (result ≡ Err Memory) }
 {
     let view = match view(file) {
         Ok(view) => view,
-        Err(fault) => return Err(TableFault::Head(fault)),
+        Err(fault) => return Err(TableFault::Refused(TableRefusal::Head(fault))),
     };
     let check = TableCheck { view };
     match run_jobs(rt, alloc, &check, workers, gate) {
         Ok(None) => Ok(CheckedTable { view: check.view }),
-        Ok(Some(number)) => Err(TableFault::T7(number)),
+        Ok(Some(number)) => Err(TableFault::Refused(TableRefusal::T7(number))),
         Err(_) => Err(TableFault::Memory),
     }
 }

@@ -3,7 +3,7 @@
 ghost use Rattle.std.specs.Prelude.{◌<◌, ◌≤◌};
 
 use crate::blocks::block_count;
-use crate::{Census, CheckedTable, Count, TableFault, check_block, check_table};
+use crate::{Census, CheckedTable, Count, TableFault, TableRefusal, check_block, check_table};
 use puz_board::Board;
 use std::alloc::{AllocError, Global};
 use std::process::Abort;
@@ -94,6 +94,11 @@ fn census<R: Threads + Wait + AllocGlobal + Abort>(
     alone
 }
 
+/// The refusal that names this entry.
+fn bad_entry(number: u64) -> TableFault {
+    TableFault::Refused(TableRefusal::T7(number))
+}
+
 /// What a table tells of a board of side 2.
 fn look<R: Threads + Wait + AllocGlobal>(rt: &R, file: &[u8], numbers: &[u8; 4]) -> Option<Count> {
     let table = match checked(rt, file) {
@@ -146,15 +151,15 @@ fn boards_are_looked_up(rt: HostRuntime) {
 fn the_least_bad_entry_is_named(rt: HostRuntime) {
     let mut file = TILES_123;
     file[34] = 0x02;
-    assert_eq!(rt; census(&rt, &file), Err(TableFault::T7(14)));
+    assert_eq!(rt; census(&rt, &file), Err(bad_entry(14)));
     let mut file = TILES_12;
     file[20] = 0xFE;
-    assert_eq!(rt; census(&rt, &file), Err(TableFault::T7(0)));
+    assert_eq!(rt; census(&rt, &file), Err(bad_entry(0)));
     let mut file = TILE_1;
     for i in 20..28 {
         file[i] = 0xFF;
     }
-    assert_eq!(rt; census(&rt, &file), Err(TableFault::T7(1)));
+    assert_eq!(rt; census(&rt, &file), Err(bad_entry(1)));
 }
 
 /// The least bad entry of a block.
@@ -168,12 +173,12 @@ fn bad_in(rt: &impl Abort, file: &[u8], block: u64) -> Option<u64> {
 fn tables_of_one_byte_are_refused(rt: HostRuntime) {
     let mut file = [0xFE; 2036];
     file[..20].copy_from_slice(&HEADER);
-    assert_eq!(rt; census(&rt, &file), Err(TableFault::T7(0)));
+    assert_eq!(rt; census(&rt, &file), Err(bad_entry(0)));
     assert_eq!(rt; bad_in(&rt, &file, 0), Some(0));
     assert_eq!(rt; bad_in(&rt, &file, 1), Some(1024));
     let mut file = [0xFF; 2036];
     file[..20].copy_from_slice(&HEADER);
-    assert_eq!(rt; census(&rt, &file), Err(TableFault::T7(1)));
+    assert_eq!(rt; census(&rt, &file), Err(bad_entry(1)));
 }
 
 /// The placements of two tiles on side 2, in the order of their ranks.
@@ -314,7 +319,7 @@ fn each_changed_byte_is_refused(rt: HostRuntime) {
                 let want = least_bad(placements, &changed[20..]);
                 assert_eq!(rt; want.is_none(), byte == file[place]);
                 let fault = checked(&rt, &changed).err();
-                assert_eq!(rt; fault, want.map(TableFault::T7), "byte {byte} at {place}");
+                assert_eq!(rt; fault, want.map(bad_entry), "byte {byte} at {place}");
             }
         }
     }
@@ -335,7 +340,7 @@ fn head_faults_are_handed_on(rt: HostRuntime) {
         let mut file = TILES_123;
         assert!(rt; place < 44);
         file[place] = byte;
-        let want = Err(TableFault::Head(want));
+        let want = Err(TableFault::Refused(TableRefusal::Head(want)));
         assert_eq!(rt; census(&rt, &file), want, "byte {place}");
         assert_eq!(rt; census(&rt, &file[..30]), want, "byte {place}, and cut");
     }
@@ -355,7 +360,7 @@ fn files_of_another_length_are_refused(rt: HostRuntime) {
     for (file, want) in files {
         assert_eq!(rt;
             census(&rt, file),
-            Err(TableFault::Head(want)),
+            Err(TableFault::Refused(TableRefusal::Head(want))),
             "{} bytes",
             file.len()
         );
@@ -393,10 +398,7 @@ fn each_block_is_entered_once(rt: HostRuntime) -> Result<(), Fail> {
     file[..20].copy_from_slice(b"PDBT\x01\x04\x03\0\0\0\0\x0E\0\0\0\0\0\0\x34\x80");
     for workers in [1, 2, 7, 64] {
         let gate = Counting::new(rt.alloc(), 20)?;
-        assert_eq!(rt;
-            census_by(&rt, &file, workers, &gate),
-            Err(TableFault::T7(1))
-        );
+        assert_eq!(rt; census_by(&rt, &file, workers, &gate), Err(bad_entry(1)));
         assert_eq!(rt; gate.entered.len(), 20);
         for (block, count) in gate.entered.iter().enumerate() {
             let want = if block < 14 { 1 } else { 0 };
@@ -442,7 +444,7 @@ fn two_workers_check_two_blocks_side_by_side(rt: HostRuntime) {
         entered: AtomicU64::new(0),
         seen: AtomicU64::new(0),
     };
-    assert_eq!(rt; census_by(&rt, &file, 2, &gate), Err(TableFault::T7(1)));
+    assert_eq!(rt; census_by(&rt, &file, 2, &gate), Err(bad_entry(1)));
     assert_eq!(rt; gate.seen.load(Ordering::SeqCst), 1);
 }
 
@@ -455,5 +457,5 @@ fn want_of_memory_is_answered_and_a_second_check_finds_the_fault(rt: HostRuntime
     if fault == Err(TableFault::Memory) {
         fault = census_by(&rt, &file, 7, &OpenGate);
     }
-    assert_eq!(rt; fault, Err(TableFault::T7(14)));
+    assert_eq!(rt; fault, Err(bad_entry(14)));
 }

@@ -3,7 +3,8 @@ use Rattle.pat_place.proofs.CountLemmas.{few_placements, few_slots}
 use Rattle.tab_file.specs.Tables.{entry_count, placement_count}
 use Rattle.tab_check.specs.BadEntries.{AllKeepRule, IsLeastBad}
 use Rattle.tab_check.specs.ExactTables.{AreExact}
-use Rattle.tab_check.specs.declared.tables.TableFault.TheVariants.{T7}
+use Rattle.tab_check.specs.declared.tables.TableFault.TheVariants.{Refused}
+use Rattle.tab_check.specs.declared.tables.TableRefusal.TheVariants.{T7}
 use Rattle.tab_check.proofs.TableLemmas.{exact_from_keeps, keeps_from_exact, keeps_whole, least_bad_one, least_bad_whole, none_bad}
 use Rattle.tab_check.proofs.tables.check_table.Goals as goal
 use Rattle.tab_check.proofs.tables.check_table.Goals.{In-Ok-None, In-Ok-Some}
@@ -51,4 +52,4 @@ returns-in-Ok-Some-clause-fault g c = (c.in-Ok.view, c.in-Ok.ensures.ok, bad g c
 pub returns-in-Ok-Some-clause-bad : goal.returns-in-Ok-Some-clause-bad
 returns-in-Ok-Some-clause-bad g c table number is_file is =
     let same : c.in-Ok.view ≡ table = (let e = c.in-Ok.ensures.viewed table is_file in cc) in
-    inl (ap (λ n. Err (T7 n)) (least_bad_one c.in-Ok.view c.in-Ok-Some.number number (bad g c) (subst (λ t. IsLeastBad t number) (sym same) is)))
+    inl (ap (λ n. Err (Refused (T7 n))) (least_bad_one c.in-Ok.view c.in-Ok-Some.number number (bad g c) (subst (λ t. IsLeastBad t number) (sym same) is)))

@@ -1,0 +1,7 @@
+use Rattle.std.proofs.Common.{◌≡◌, ℕ, List, false, take}
+use Rattle.pdb_io.specs.MemShelves.{files_in}
+use Rattle.pdb_io.specs.Shelves.{files_of}
+use Rattle.pdb_io.proofs.memory.MemShelf.of.Given as goal
+
+abbrev pub invariant-loop-file : goal.invariant-loop-file
+invariant-loop-file l = ((name : List ℕ) → files_in l.shelf name ≡ files_of (take l.file-index l.files) name) × (l.shelf.has_failed ≡ false)

@@ -1,0 +1,3 @@
+pub mod MemShelves
+pub mod Shelves
+pub mod Streams

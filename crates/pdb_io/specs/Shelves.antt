@@ -1,0 +1,24 @@
+-- A shelf: the bytes that stand under names, as files do.
+use Rattle.std.specs.Prelude.{ℕ, List, Option, Some, None, fold, if◌then◌else◌}
+use Rattle.std.specs.Borrow.{Bor}
+use Rattle.std.specs.Str.{bytes_eq}
+
+-- bytes, each a number below 256; a name is the bytes of its text
+abbrev pub Bytes : Type 0
+Bytes = List ℕ
+
+-- the bytes under each name that has some
+abbrev pub Files : Type 0
+Files = Bytes → Option Bytes
+
+-- a folder without files
+abbrev pub no_files : Files
+no_files name = None
+
+-- the same files, but for these bytes under this name
+abbrev pub with_file : Files → Bytes → Bytes → Files
+with_file files name bytes other = if bytes_eq name other then Some bytes else files other
+
+-- the files of a list of names and bytes, where the last of a name counts
+abbrev pub files_of : List (Bor Bytes × Bor Bytes) → Files
+files_of = fold (λ files pair. with_file files pair.0.now pair.1.now) no_files

@@ -1,0 +1,53 @@
+//! A shelf over the files of the system.
+
+ghost use Rattle.std.specs.Prelude.{◌≡◌, None, false};
+
+use crate::shelf::Shelf;
+use crate::streams::{ReadFault, read_sized};
+use std::alloc::Global;
+use std::fs::{File, OpenFile};
+use std::rt::Files;
+
+/// The files of the system, by their paths. It tells no bytes: what is said of a file speaks of the bytes that were read.
+#[derive(Drop)]
+pub struct DiskShelf<'a, R> {
+    files: &'a R,
+    has_failed: bool,
+}
+
+impl<'a, R: Files> DiskShelf<'a, R> {
+    /// A shelf that hasn't failed.
+    pub fn new(files: &'a R) -> DiskShelf<'a, R>
+        ensures { result.has_failed ≡ false }
+    {
+        DiskShelf {
+            files,
+            has_failed: false,
+        }
+    }
+}
+
+impl<R: Files> Shelf for DiskShelf<'_, R> {
+    ghost held = { λ _. None };
+
+    ghost has_failed = { λ shelf. shelf.has_failed };
+
+    fn load(&mut self, alloc: Global, name: &str, limit: u64) -> Result<Vec<u8>, ReadFault> {
+        let Ok(mut file) = File::open(self.files, name) else {
+            self.has_failed = true;
+            return Err(ReadFault::F1);
+        };
+        let size = file.metadata().map_or(0, |data| data.len());
+        match read_sized(alloc, &mut file, limit, size) {
+            Err(ReadFault::F1) => {
+                self.has_failed = true;
+                Err(ReadFault::F1)
+            }
+            result => result,
+        }
+    }
+
+    fn failed(&self) -> bool {
+        self.has_failed
+    }
+}

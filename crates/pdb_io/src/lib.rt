@@ -1,0 +1,7 @@
+//! Bytes in and bytes out: streams, and shelves of named bytes.
+#![tactic(auto)]
+
+pub mod disk;
+pub mod memory;
+pub mod shelf;
+pub mod streams;

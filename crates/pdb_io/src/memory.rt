@@ -1,0 +1,88 @@
+//! A shelf over memory.
+
+ghost use Rattle.std.specs.Prelude.{◌≡◌, ◌<◌, ◌≤◌, ℕ, List, Some, None, true, false, length, IfOk, OnOk, OnErr, IsErrOf, IsSomeAnd, option_map};
+ghost use Rattle.pdb_io.specs.MemShelves.{files_in};
+ghost use Rattle.pdb_io.specs.Shelves.{files_of, with_file};
+
+use crate::shelf::Shelf;
+use crate::streams::ReadFault;
+use std::alloc::{AllocError, Global};
+use std::collections::BTreeMap;
+
+/// Named bytes in memory.
+#[derive(Drop)]
+pub struct MemShelf {
+    pub(crate) files: BTreeMap<String, Vec<u8>>,
+    pub(crate) has_failed: bool,
+}
+
+impl MemShelf {
+    /// The shelf of these names and bytes, where the last of a name counts.
+    pub fn of(alloc: Global, files: &[(&str, &[u8])]) -> Result<MemShelf, AllocError>
+        ensures files { IfOk result (λ shelf. (name : List ℕ) → files_in shelf name ≡ files_of files.now name) }
+        ensures calm { IfOk result (λ shelf. shelf.has_failed ≡ false) }
+    {
+        let mut shelf = MemShelf {
+            files: BTreeMap::new(alloc),
+            has_failed: false,
+        };
+        for file in files {
+            shelf.hold(alloc, file.0, file.1)?;
+        }
+        Ok(shelf)
+    }
+
+    /// The bytes under a name.
+    pub fn get(&self, name: &str) -> Option<&[u8]>
+        ensures { option_map (λ bytes. bytes.now) result ≡ files_in self.now name.now }
+    {
+        match self.files.get(name) {
+            Some(bytes) => Some(bytes.as_slice()),
+            None => None,
+        }
+    }
+
+    /// Holds these bytes under this name.
+    fn hold(&mut self, alloc: Global, name: &str, bytes: &[u8]) -> Result<(), AllocError>
+        ensures held { OnOk result ((other : List ℕ) → files_in self.new other ≡ with_file (files_in self.old) name.now bytes.now other) }
+        ensures unheld { OnErr result ((other : List ℕ) → files_in self.new other ≡ files_in self.old other) }
+        ensures calm { self.new.has_failed ≡ self.old.has_failed }
+    {
+        let key = String::from_str(alloc, name)?;
+        let copy = Vec::from_slice(alloc, bytes)?;
+        self.files.insert(key, copy)?;
+        Ok(())
+    }
+}
+
+impl Shelf for MemShelf {
+    ghost held = { λ shelf. Some (files_in shelf) };
+
+    ghost has_failed = { λ shelf. shelf.has_failed };
+
+    fn load(&mut self, alloc: Global, name: &str, limit: u64) -> Result<Vec<u8>, ReadFault>
+        ensures found { IfOk result (λ bytes. files_in self.old name.now ≡ Some bytes.items) }
+        ensures fits { IfOk result (λ bytes. length bytes.items ≤ limit) }
+        ensures over { IsErrOf result ReadFault.F2 → IsSomeAnd (files_in self.old name.now) (λ bytes. limit < length bytes) }
+        ensures same { Some (files_in self.new) ≡ Some (files_in self.old) }
+        ensures failed { IsErrOf result ReadFault.F1 → self.new.has_failed ≡ true }
+        ensures calm { (IsErrOf result ReadFault.F1 → ⊥) → self.new.has_failed ≡ self.old.has_failed }
+        ensures missing { IsErrOf result ReadFault.F1 → files_in self.old name.now ≡ None }
+    {
+        let Some(bytes) = self.files.get(name) else {
+            self.has_failed = true;
+            return Err(ReadFault::F1);
+        };
+        if limit < bytes.len() as u64 {
+            return Err(ReadFault::F2);
+        }
+        match Vec::from_slice(alloc, bytes.as_slice()) {
+            Ok(copy) => Ok(copy),
+            Err(_) => Err(ReadFault::Memory),
+        }
+    }
+
+    fn failed(&self) -> bool {
+        self.has_failed
+    }
+}

@@ -1,0 +1,4 @@
+pub mod AnswerLemmas
+mod PageLemmas
+mod ReadingLemmas
+mod RunLemmas

@@ -1,0 +1,121 @@
+-- Inputs in a row.
+use Rattle.std.proofs.Common.{◌≡◌, ◌∙◌, ◌<◌, ◌+◌, ℕ, List, [], ◌∷◌, ◌++◌, Option, Some, None, IfSome, Bool, ap, length, map, refl, subst, sym, take, drop, get_or, suc, Vec}
+use Rattle.std.proofs.lemmas.List.{length-map}
+use Rattle.pdb_run.specs.Replies.{all_bytes}
+use Rattle.std.specs.Io.KnownBytes.{Consumes, IsAtEnd}
+use Rattle.std.proofs.lemmas.List.{drop_more, map-append, take_more, take-append-drop}
+use Rattle.pdb_io.specs.Shelves.{Bytes, Files}
+use Rattle.pdb_io.specs.declared.streams.ReadFault.{ReadFault}
+use Rattle.pdb_run.specs.Plans.{Wanted}
+use Rattle.pdb_run.specs.Readings.{AreRead, IsFirstUnread, IsNext, IsRead, IsReadFrom, IsUnread, IsOverLimit, Tells, left, left_by_all, wanted_of}
+use Rattle.pdb_run.specs.declared.inputs.Input.{Input}
+use Rattle.pdb_io.specs.declared.streams.ReadFault.TheVariants.{F1, F2, Memory}
+
+pub Tells-refl : (reader : Option Bytes) → Tells reader reader
+Tells-refl None = tt
+Tells-refl (Some told) = refl
+
+pub left_by_all-snoc : (reader : Option Bytes) (before : List Wanted) (wanted : Wanted) → left_by_all reader (before ++ wanted ∷ []) ≡ left (left_by_all reader before) wanted.name
+left_by_all-snoc reader [] wanted = refl
+left_by_all-snoc reader (first ∷ before) wanted = left_by_all-snoc (left reader first.name) before wanted
+
+pub AreRead-snoc : (files : Option Files) (reader : Option Bytes) (before : List Wanted) (bytes : List Bytes) (wanted : Wanted) (next : Bytes)
+    → AreRead files reader before bytes → IsRead files (left_by_all reader before) wanted next → AreRead files reader (before ++ wanted ∷ []) (bytes ++ next ∷ [])
+AreRead-snoc files reader [] [] wanted next are is = (is, tt)
+AreRead-snoc files reader [] (b ∷ bytes) wanted next are is = absurd are
+AreRead-snoc files reader (first ∷ before) [] wanted next are is = absurd are
+AreRead-snoc files reader (first ∷ before) (b ∷ bytes) wanted next are is = (are.0, AreRead-snoc files (left reader first.name) before bytes wanted next are.1 is)
+
+pub AreRead-length : (files : Option Files) (reader : Option Bytes) (wanted : List Wanted) (bytes : List Bytes) → AreRead files reader wanted bytes → length bytes ≡ length wanted
+AreRead-length files reader [] [] are = refl
+AreRead-length files reader [] (b ∷ bytes) are = absurd are
+AreRead-length files reader (first ∷ more) [] are = absurd are
+AreRead-length files reader (first ∷ more) (b ∷ bytes) are = ap (λ n. suc n) (AreRead-length files (left reader first.name) more bytes are.1)
+
+-- ---- what is told of the reader
+
+module _ (told actual : Option Bytes) where
+  read_as_told : (files : Option Files) (name : Option Bytes) (bytes : Bytes) → Tells told actual → IsReadFrom files actual name bytes → IsReadFrom files told name bytes
+  read_as_told files (Some name) bytes tells is = is
+  read_as_told files None bytes tells is = by_told told actual tells is
+    where
+      by_told : (told actual : Option Bytes) → Tells told actual → IfSome actual (λ t. t ≡ bytes) → IfSome told (λ t. t ≡ bytes)
+      by_told None actual tells is = tt
+      by_told (Some t) actual tells is = subst (λ (r : Option Bytes). IfSome r (λ t. t ≡ bytes)) tells is
+
+  unread_as_told : (files : Option Files) (failed : Bool) (wanted : Wanted) (why : ReadFault) → Tells told actual → IsUnread files actual failed wanted why → IsUnread files told failed wanted why
+  unread_as_told files failed wanted F1 tells is = is
+  unread_as_told files failed wanted Memory tells is = tt
+  unread_as_told files failed wanted F2 tells is = by_name wanted.name is
+    where
+      by_told : (told actual : Option Bytes) → Tells told actual → IfSome actual (λ t. wanted.limit < length t) → IfSome told (λ t. wanted.limit < length t)
+      by_told None actual tells is = tt
+      by_told (Some t) actual tells is = subst (λ (r : Option Bytes). IfSome r (λ t. wanted.limit < length t)) tells is
+
+      by_name : (name : Option Bytes) → IsOverLimit files actual name wanted.limit → IsOverLimit files told name wanted.limit
+      by_name None is = by_told told actual tells is
+      by_name (Some name) is = is
+
+  left_as_told : (new name : Option Bytes) → Tells told actual → Tells (left actual name) new → Tells (left told name) new
+  left_as_told new None tells is = by_told told actual tells is
+    where
+      by_told : (told actual : Option Bytes) → Tells told actual → Tells (left actual None) new → Tells (left told None) new
+      by_told None actual tells is = tt
+      by_told (Some t) actual tells is = subst (λ (r : Option Bytes). Tells (left r None) new) tells is
+  left_as_told new (Some name) tells is = by_told told actual tells is
+    where
+      by_told : (told actual : Option Bytes) → Tells told actual → Tells actual new → Tells told new
+      by_told None actual tells is = tt
+      by_told (Some t) actual tells is = subst (λ (r : Option Bytes). Tells r new) tells is
+
+-- a reader that is at its end has nothing left
+pub left-end : (old new : Option Bytes) (bytes : Bytes) → Consumes old new bytes → IsAtEnd new → Tells (left old None) new
+left-end None new bytes consumed end = tt
+left-end (Some t) None bytes consumed end = absurd consumed
+left-end (Some t) (Some u) bytes consumed end = ap Some end
+
+-- ---- the loop over inputs
+
+-- the inputs up to here were read, and the reader has what they left
+pub record ReadSoFar (files : Option Files) (reader now : Option Bytes) (wanted : List Wanted) (bytes : List Bytes) : Type 0 where
+  pub read : AreRead files reader wanted bytes
+  pub tells : Tells (left_by_all reader wanted) now
+
+pub ReadSoFar-nil : (files : Option Files) (reader : Option Bytes) → ReadSoFar files reader reader [] []
+ReadSoFar-nil files reader = record { read = tt; tells = Tells-refl reader }
+
+pub ReadSoFar-next : (files actual : Option Files) (reader old new : Option Bytes) (all : List Input) (i : ℕ) (d : Input) (before after : List Bytes) → i < length all → actual ≡ files
+    → ReadSoFar files reader old (map wanted_of (take i all)) before → IsNext actual old new (wanted_of (get_or all i d)) before after
+    → ReadSoFar files reader new (map wanted_of (take (i + 1) all)) after
+ReadSoFar-next files actual reader old new all i d before after lt same so_far next_actual =
+    let next : IsNext files old new (wanted_of (get_or all i d)) before after = subst (λ (f : Option Files). IsNext f old new (wanted_of (get_or all i d)) before after) same next_actual in
+    let wanted = wanted_of (get_or all i d) in
+    let told = left_by_all reader (map wanted_of (take i all)) in
+    let is = read_as_told told old files wanted.name next.bytes so_far.tells next.read.0 in
+    let row : map wanted_of (take (i + 1) all) ≡ map wanted_of (take i all) ++ wanted ∷ [] = ap (map wanted_of) (take_more all i d lt) ∙ map-append wanted_of (take i all) (get_or all i d ∷ []) in
+    let are = AreRead-snoc files reader (map wanted_of (take i all)) before wanted next.bytes so_far.read (is, next.read.1) in
+    let behind = left_as_told told old new wanted.name so_far.tells next.behind in
+    let tells = subst (λ (r : Option Bytes). Tells r new) (sym (left_by_all-snoc reader (map wanted_of (take i all)) wanted)) behind in
+    subst (λ (ws : List Wanted). ReadSoFar files reader new ws after) (sym row)
+    (subst (λ (bs : List Bytes). ReadSoFar files reader new (map wanted_of (take i all) ++ wanted ∷ []) bs) (sym next.added) (record { read = are; tells = tells }))
+
+pub first_unread : (files actual : Option Files) (reader now : Option Bytes) (failed : Bool) (all : List Input) (i : ℕ) (d : Input) (bytes : List Bytes) (why : ReadFault) → i < length all → actual ≡ files
+    → ReadSoFar files reader now (map wanted_of (take i all)) bytes → IsUnread actual now failed (wanted_of (get_or all i d)) why
+    → IsFirstUnread files reader failed (map wanted_of all) (wanted_of (get_or all i d)) why
+first_unread files actual reader now failed all i d bytes why lt same so_far is_actual =
+    let is : IsUnread files now failed (wanted_of (get_or all i d)) why = subst (λ (f : Option Files). IsUnread f now failed (wanted_of (get_or all i d)) why) same is_actual in
+    record {
+      before = map wanted_of (take i all);
+      behind = map wanted_of (drop (i + 1) all);
+      order = ap (map wanted_of) (sym (take-append-drop i all)) ∙ map-append wanted_of (take i all) (drop i all)
+          ∙ ap (λ (ws : List Input). map wanted_of (take i all) ++ map wanted_of ws) (drop_more all i d lt);
+      bytes = bytes;
+      read = so_far.read;
+      cause = unread_as_told (left_by_all reader (map wanted_of (take i all))) now files failed (wanted_of (get_or all i d)) why so_far.tells is;
+    }
+
+-- there are as many bytes as inputs
+pub inputs_match : {A : Type 0} (files : Option Files) (reader : Option Bytes) (all : List Input) (wanted : List Wanted) (inputs : List (Vec ℕ A))
+    → AreRead files reader (map wanted_of all) (all_bytes inputs) → map wanted_of all ≡ wanted → length inputs ≡ length wanted
+inputs_match files reader all wanted inputs are same =
+    sym (length-map inputs (λ v. v.items)) ∙ AreRead-length files reader (map wanted_of all) (all_bytes inputs) are ∙ ap length same

@@ -1,0 +1,26 @@
+use Rattle.std.proofs.Common.{[], ap, refl, ◌++◌, ◌∙◌}
+use Rattle.std.proofs.lemmas.List.{append-nil}
+use Rattle.pdb_io.proofs.Appending.{on_err}
+use Rattle.pdb_run.specs.Lines.{digests_of}
+use Rattle.pdb_run.specs.Replies.{reply_of}
+use Rattle.pdb_run.proofs.PageLemmas.{gathers_more, gathers_nil, said_front, said_stopped, said_whole}
+use Rattle.pdb_run.proofs.answer.say.Goals as goal
+
+pub returns-in_err-add_digests-clause-front : goal.returns-in_err-add_digests-clause-front
+returns-in_err-add_digests-clause-front g c =
+    on_err _ _ (said_stopped _ _ _ _ _ c.new-page.ensures [] (digests_of (reply_of c.args.answer.now).digested) c.args.answer.now.lines.bytes _ refl (gathers_nil _ _) c.in_err-add_digests.ensures.front)
+
+pub returns-in_err-add-clause-front : goal.returns-in_err-add-clause-front
+returns-in_err-add-clause-front g c =
+    let same = ap (λ t. digests_of (reply_of c.args.answer.now).digested ++ t) (append-nil c.as_bytes.result.now ∙ c.as_bytes.ensures.value ∙ c.as_str.ensures.value) in
+    on_err _ _ (said_stopped _ _ _ _ _ c.new-page.ensures _ c.as_bytes.result.now [] _ same c.in_ok-add_digests.ensures.whole c.in_err-add.ensures.front)
+
+pub returns-clause-whole : goal.returns-clause-whole
+returns-clause-whole g c =
+    let same = ap (λ t. digests_of (reply_of c.args.answer.now).digested ++ t) (c.as_bytes.ensures.value ∙ c.as_str.ensures.value) in
+    said_whole _ _ _ _ _ c.new-page.ensures c.write.result _ _ same (gathers_more _ _ _ _ _ _ _ _ c.in_ok-add_digests.ensures.whole c.in_ok-add.ensures.whole) c.write.ensures.whole
+
+pub returns-clause-front : goal.returns-clause-front
+returns-clause-front g c =
+    let same = ap (λ t. digests_of (reply_of c.args.answer.now).digested ++ t) (c.as_bytes.ensures.value ∙ c.as_str.ensures.value) in
+    said_front _ _ _ _ _ c.new-page.ensures c.write.result _ _ same (gathers_more _ _ _ _ _ _ _ _ c.in_ok-add_digests.ensures.whole c.in_ok-add.ensures.whole) c.write.ensures.front

@@ -1,0 +1,10 @@
+use Rattle.std.proofs.Common.{◌≡◌, map, take}
+use Rattle.pdb_run.specs.Readings.{wanted_of}
+use Rattle.pdb_run.specs.Replies.{all_bytes}
+use Rattle.pdb_run.proofs.ReadingLemmas.{ReadSoFar}
+use Rattle.pdb_run.proofs.inputs.load_all.Given as goal
+
+abbrev pub invariant-loop-input : goal.invariant-loop-input
+invariant-loop-input g l =
+    ReadSoFar (g.S.Shelf.held l.fn.shelf) (g.R.Read.remaining l.fn.reader) (g.R.Read.remaining l.reader) (map wanted_of (take l.input-index l.wanted)) (all_bytes l.inputs.items)
+    × (g.S.Shelf.held l.shelf ≡ g.S.Shelf.held l.fn.shelf)

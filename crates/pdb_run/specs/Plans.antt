@@ -1,0 +1,27 @@
+-- What a command does, as far as the outside sees it.
+use Rattle.std.specs.Prelude.{ℕ, Bool, List, Option}
+use Rattle.pdb_io.specs.Shelves.{Bytes}
+
+-- an input: its name, or none for the reader, and the most bytes that it may have
+pub record Wanted : Type 0 where
+  pub name : Option Bytes
+  pub limit : ℕ
+
+-- an answer on inputs
+pub record Reply : Type 0 where
+  -- the files whose digests come first
+  pub digested : List Bytes
+  -- the lines behind the digests
+  pub lines : Bytes
+  pub is_yes : Bool
+
+-- what is read, in this order; which replies are right for the bytes that were read; and for which bytes the check takes
+-- memory
+pub record Plan : Type 1 where
+  pub inputs : List Wanted
+  pub MayReply : List Bytes → Reply → Type 0
+  pub TakesMemory : List Bytes → Type 0
+
+-- the plan with these three
+abbrev pub plan : List Wanted → (List Bytes → Reply → Type 0) → (List Bytes → Type 0) → Plan
+plan inputs MayReply TakesMemory = record { inputs = inputs; MayReply = MayReply; TakesMemory = TakesMemory }

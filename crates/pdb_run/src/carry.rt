@@ -1,0 +1,119 @@
+//! A run of a command.
+
+ghost use Rattle.std.specs.Prelude.{◌≡◌, ◌++◌, codes, map, MatchResult, OnOk, OnErr};
+ghost use Rattle.std.specs.Io.KnownBytes.{Appends};
+ghost use Rattle.pdb_io.specs.Streams.{AppendsFront};
+ghost use Rattle.pdb_run.specs.Lines.{memory_line, named_line, reply_text, shown, shown_byte};
+ghost use Rattle.pdb_run.specs.Plans.{plan};
+ghost use Rattle.pdb_run.specs.Readings.{wanted_of};
+ghost use Rattle.pdb_run.specs.Replies.{reply_of};
+ghost use Rattle.pdb_run.specs.Runs.{Ends, Says, status_of, status_of_reply, text_of, unread, world};
+
+use crate::answer::{Answer, say};
+use crate::command::Command;
+use crate::inputs::{Input, Unread, load_all};
+use crate::pages::Page;
+use crate::status::Status;
+use pdb_io::shelf::Shelf;
+use pdb_io::streams::{ReadFault, WriteFault, put_text};
+use std::alloc::Global;
+use std::io::{Read, Write};
+
+/// Reads the inputs of a command, and writes its answer on them, or why there is none.
+/// It waits where the command does, and nowhere else.
+pub fn carry_out<C: Command, S: Shelf, R: Read, W: Write>(
+    alloc: Global,
+    command: &C,
+    shelf: &mut S,
+    reader: &mut R,
+    out: &mut W,
+) -> Status
+    ensures { Ends (plan (C.wanted command.now) (C.MayReply command.now) (C.TakesMemory command.now))
+        (world (S.held shelf.old) (S.has_failed shelf.old) (R.remaining reader.old) (W.contents out.old))
+        (world (S.held shelf.new) (S.has_failed shelf.new) (R.remaining reader.new) (W.contents out.new)) result }
+{
+    let Ok(wanted) = command.inputs(alloc) else {
+        return say_no_memory(out);
+    };
+    let inputs = match load_all(alloc, wanted.as_slice(), shelf, reader) {
+        Ok(inputs) => inputs,
+        Err(fault) => return say_unread(&fault, out),
+    };
+    match command.answer(alloc, inputs.as_slice()) {
+        Ok(answer) => say_answer(&answer, out),
+        Err(_) => say_no_memory(out),
+    }
+}
+
+/// Writes an answer.
+fn say_answer<W: Write>(answer: &Answer<'_>, out: &mut W) -> Status
+    ensures { Says (reply_text (reply_of answer.now)) (status_of_reply answer.now.is_yes) (W.contents out.old) (W.contents out.new) result }
+{
+    let written = say(answer, out);
+    status_after(
+        written,
+        if answer.is_yes {
+            Status::Yes
+        } else {
+            Status::Refused
+        },
+    )
+}
+
+/// Says which input was not read.
+fn say_unread<W: Write>(fault: &Unread<'_>, out: &mut W) -> Status
+    ensures { let outcome = unread (wanted_of fault.now.input) fault.now.why in Says (text_of outcome) (status_of outcome) (W.contents out.old) (W.contents out.new) result }
+{
+    let name = name_of(&fault.input);
+    match fault.why {
+        ReadFault::F1 => say_named("fault read ", name, out),
+        ReadFault::F2 => say_named("fault size ", name, out),
+        ReadFault::Memory => say_no_memory(out),
+    }
+}
+
+/// An input's name, and `-` for the reader.
+fn name_of<'a>(input: &Input<'a>) -> &'a str
+    ensures { map shown_byte result.now ≡ shown (wanted_of input.now).name }
+{
+    match input.name {
+        Some(name) => name,
+        None => "-",
+    }
+}
+
+/// Writes the line of a fault with a name.
+fn say_named<W: Write>(text: &str, name: &str, out: &mut W) -> Status
+    ensures { Says (named_line text.now (map shown_byte name.now)) Status.Fault (W.contents out.old) (W.contents out.new) result }
+{
+    status_after(put_named(text, name, out), Status::Fault)
+}
+
+/// Writes a text, a name and the line's end.
+fn put_named<W: Write>(text: &str, name: &str, out: &mut W) -> Result<(), WriteFault>
+    ensures whole { OnOk result (Appends (W.contents out.old) (W.contents out.new) (named_line text.now (map shown_byte name.now))) }
+    ensures front { OnErr result (AppendsFront (W.contents out.old) (W.contents out.new) (named_line text.now (map shown_byte name.now))) }
+{
+    let mut page = Page::new();
+    page.add(text.as_bytes(), out)?;
+    page.add_name(name, out)?;
+    page.add(b"\n", out)?;
+    page.write(out)
+}
+
+/// Says that there isn't the memory.
+pub fn say_no_memory<W: Write>(out: &mut W) -> Status
+    ensures { Says memory_line Status.NoMemory (W.contents out.old) (W.contents out.new) result }
+{
+    status_after(put_text(out, "no memory\n"), Status::NoMemory)
+}
+
+/// The status of a run, where this came of its last write.
+fn status_after(written: Result<(), WriteFault>, status: Status) -> Status
+    ensures { MatchResult written (λ _. result ≡ status) (λ _. result ≡ Status.Fault) }
+{
+    match written {
+        Ok(()) => status,
+        Err(_) => Status::Fault,
+    }
+}
