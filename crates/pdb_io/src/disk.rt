@@ -3,7 +3,7 @@
 ghost use Rattle.std.specs.Prelude.{◌≡◌, None, false};
 
 use crate::shelf::Shelf;
-use crate::streams::{ReadFault, read_sized};
+use crate::streams::{ReadFault, read_said};
 use std::alloc::Global;
 use std::fs::{File, OpenFile};
 use std::rt::Files;
@@ -33,21 +33,29 @@ impl<R: Files> Shelf for DiskShelf<'_, R> {
     ghost has_failed = { λ shelf. shelf.has_failed };
 
     fn load(&mut self, alloc: Global, name: &str, limit: u64) -> Result<Vec<u8>, ReadFault> {
-        let Ok(mut file) = File::open(self.files, name) else {
-            self.has_failed = true;
-            return Err(ReadFault::F1);
-        };
-        let size = file.metadata().map_or(0, |data| data.len());
-        match read_sized(alloc, &mut file, limit, size) {
-            Err(ReadFault::F1) => {
-                self.has_failed = true;
-                Err(ReadFault::F1)
+        let result = match File::open(self.files, name) {
+            Ok(mut file) => {
+                let size = said_size(&file);
+                read_said(alloc, &mut file, limit, size)
             }
-            result => result,
+            Err(_) => Err(ReadFault::F1),
+        };
+        if matches!(&result, Err(ReadFault::F1)) {
+            self.has_failed = true;
         }
+        result
     }
 
     fn failed(&self) -> bool {
         self.has_failed
+    }
+}
+
+/// How many bytes the system says that a file has; 0 where it says nothing, or where it is no plain file, as a folder or
+/// a pipe.
+fn said_size<F: OpenFile>(file: &F) -> u64 {
+    match file.metadata() {
+        Ok(data) if data.is_file() => data.len(),
+        _ => 0,
     }
 }

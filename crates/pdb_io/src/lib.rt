@@ -5,3 +5,4 @@ pub mod disk;
 pub mod memory;
 pub mod shelf;
 pub mod streams;
+pub mod watched;

@@ -76,10 +76,7 @@ impl Shelf for MemShelf {
         if limit < bytes.len() as u64 {
             return Err(ReadFault::F2);
         }
-        match Vec::from_slice(alloc, bytes.as_slice()) {
-            Ok(copy) => Ok(copy),
-            Err(_) => Err(ReadFault::Memory),
-        }
+        Ok(Vec::from_slice(alloc, bytes.as_slice())?)
     }
 
     fn failed(&self) -> bool {

@@ -1,10 +1,12 @@
 //! Bytes in and bytes out.
 
-ghost use Rattle.std.specs.Prelude.{◌≡◌, ◌≤◌, ◌<◌, length, IfOk, OnOk, OnErr, IfSome, IsErrOf};
+ghost use Rattle.std.specs.Prelude.{◌≡◌, ◌≤◌, ◌<◌, ◌+◌, true, length, take, drop, IfOk, OnOk, OnErr, IfSome, IsErrOf};
 ghost use Rattle.std.specs.Io.KnownBytes.{Appends, Consumes, IsAtEnd};
 ghost use Rattle.pdb_io.specs.Streams.{AppendsFront, joined};
 
-use std::alloc::Global;
+use crate::watched::Watched;
+use std::alloc::{AllocError, Global};
+use std::io;
 use std::io::{Read, Write};
 
 /// Why an input was not read.
@@ -18,6 +20,16 @@ pub enum ReadFault {
     Memory,
 }
 
+impl From<AllocError> for ReadFault {
+    ghost use Rattle.pdb_io.specs.declared.streams.ReadFault.{ReadFault};
+
+    ghost from_gives = { λ _ fault. fault ≡ ReadFault.Memory };
+
+    fn from(_refused: AllocError) -> ReadFault {
+        ReadFault::Memory
+    }
+}
+
 /// Why bytes were not written.
 #[derive(Clone, Copy, Debug, PartialEq, Eq)]
 pub enum WriteFault {
@@ -25,7 +37,7 @@ pub enum WriteFault {
     F3,
 }
 
-/// How many bytes a read may give.
+/// How many bytes of room are made at a time.
 const PIECE: usize = 65_536;
 
 /// Reads to the end of an input, of at most so many bytes, by at most one read a byte and one more.
@@ -41,7 +53,7 @@ pub fn read_all<R: Read>(alloc: Global, reader: &mut R, limit: u64) -> Result<Ve
 }
 
 /// The same, for an input that is said to have so many bytes: memory for these is taken at once, and no more where
-/// there are no more.
+/// there are no more. Where nothing is said of it, the size is 0.
 pub fn read_sized<R: Read>(
     alloc: Global,
     reader: &mut R,
@@ -54,25 +66,106 @@ pub fn read_sized<R: Read>(
     ensures fits { IfOk result (λ bytes. length bytes.items ≤ limit) }
     ensures over { IsErrOf result ReadFault.F2 → IfSome (R.remaining reader.old) (λ told. limit < length told) }
 {
-    let Ok(mut bytes) = Vec::with_capacity(alloc, size.min(limit) as usize) else {
-        return Err(ReadFault::Memory);
+    read_watched(alloc, &mut Watched::new(reader), limit, size)
+}
+
+/// The same, for an input of which the system says that it has so many bytes: where these are over the limit, nothing
+/// is read.
+pub fn read_said<R: Read>(
+    alloc: Global,
+    reader: &mut R,
+    limit: u64,
+    size: u64,
+) -> Result<Vec<u8>, ReadFault>
+    ensures whole { IfOk result (λ bytes. IfSome (R.remaining reader.old) (λ told. told ≡ bytes.items)) }
+    ensures end { OnOk result (IsAtEnd (R.remaining reader.new)) }
+    ensures consumed { IfOk result (λ bytes. Consumes (R.remaining reader.old) (R.remaining reader.new) bytes.items) }
+    ensures fits { IfOk result (λ bytes. length bytes.items ≤ limit) }
+    ensures over { IsErrOf result ReadFault.F2 → size ≤ limit → IfSome (R.remaining reader.old) (λ told. limit < length told) }
+    ensures unread { limit < size → IsErrOf result ReadFault.F2 × (reader.new ≡ reader.old) }
+{
+    if limit < size {
+        return Err(ReadFault::F2);
+    }
+    read_sized(alloc, reader, limit, size)
+}
+
+/// The same, by a reader that notes its reads: they are at most one a byte and one more, and `F1` says that one failed.
+pub fn read_watched<R: Read>(
+    alloc: Global,
+    reader: &mut Watched<'_, R>,
+    limit: u64,
+    size: u64,
+) -> Result<Vec<u8>, ReadFault>
+    ensures same_stream { reader.new.stream.ghost_name ≡ reader.old.stream.ghost_name }
+    ensures whole { IfOk result (λ bytes. IfSome (R.remaining reader.old.stream.now) (λ told. told ≡ bytes.items)) }
+    ensures end { OnOk result (IsAtEnd (R.remaining reader.new.stream.now)) }
+    ensures consumed { IfOk result (λ bytes. Consumes (R.remaining reader.old.stream.now) (R.remaining reader.new.stream.now) bytes.items) }
+    ensures fits { IfOk result (λ bytes. length bytes.items ≤ limit) }
+    ensures over { IsErrOf result ReadFault.F2 → IfSome (R.remaining reader.old.stream.now) (λ told. limit < length told) }
+    ensures reads { reader.new.calls ≤ reader.old.calls + limit + 1 }
+    ensures failed { IsErrOf result ReadFault.F1 → reader.new.has_failed ≡ true }
+    ensures calm { (IsErrOf result ReadFault.F1 → ⊥) → reader.new.has_failed ≡ reader.old.has_failed }
+{
+    // One byte more shows the end without more memory.
+    let room = if size == 0 {
+        0
+    } else {
+        size.min(limit).saturating_add(1)
     };
-    let mut piece = [0u8; PIECE];
+    let mut bytes = Vec::with_capacity(alloc, room as usize)?;
+    let mut filled = 0;
     'reads: loop {
-        let count = match reader.read(&mut piece) {
-            Ok(count) => count,
-            Err(_) => return Err(ReadFault::F1),
+        make_room(&mut bytes, filled)?;
+        let Ok(count) = read_behind(reader, bytes.as_mut_slice(), filled) else {
+            return Err(ReadFault::F1);
         };
         if count == 0 {
+            bytes.truncate(filled);
             return Ok(bytes);
         }
-        if limit - (bytes.len() as u64) < count as u64 {
+        filled += count;
+        if limit < filled as u64 {
             return Err(ReadFault::F2);
         }
-        if bytes.extend_from_slice(&piece[..count]).is_err() {
-            return Err(ReadFault::Memory);
-        }
     }
+}
+
+/// Makes bytes longer than they are filled, by zeros. What room there is, is used first.
+fn make_room(bytes: &mut Vec<u8>, filled: usize) -> Result<(), AllocError>
+    requires { filled ≤ length bytes.old.items }
+    ensures front { take filled bytes.new.items ≡ take filled bytes.old.items }
+    ensures within { filled ≤ length bytes.new.items }
+    ensures room { OnOk result (filled < length bytes.new.items) }
+{
+    if filled < bytes.len() {
+        return Ok(());
+    }
+    let spare = bytes.capacity() - filled;
+    let more = if spare == 0 { PIECE } else { spare.min(PIECE) };
+    let Some(len) = filled.checked_add(more) else {
+        return Err(AllocError);
+    };
+    bytes.resize(len, 0)
+}
+
+/// One read into the room behind what is filled.
+fn read_behind<R: Read>(
+    reader: &mut Watched<'_, R>,
+    bytes: &mut [u8],
+    filled: usize,
+) -> io::Result<usize>
+    requires { filled < length bytes.old }
+    ensures same_stream { reader.new.stream.ghost_name ≡ reader.old.stream.ghost_name }
+    ensures front { take filled bytes.new ≡ take filled bytes.old }
+    ensures fits { IfOk result (λ count. filled + count ≤ length bytes.new) }
+    ensures bytes { IfOk result (λ count. Consumes (R.remaining reader.old.stream.now) (R.remaining reader.new.stream.now) (take count (drop filled bytes.new))) }
+    ensures end { IfOk result (λ count. count ≡ 0 → IsAtEnd (R.remaining reader.new.stream.now)) }
+    ensures noted { reader.new.calls ≤ reader.old.calls + 1 }
+    ensures calm { OnOk result (reader.new.has_failed ≡ reader.old.has_failed) }
+    ensures failed { OnErr result (reader.new.has_failed ≡ true) }
+{
+    reader.read(&mut bytes[filled..])
 }
 
 /// Writes pieces of text, one after the other.
@@ -98,6 +191,18 @@ pub fn put_text<W: Write>(out: &mut W, text: &str) -> Result<(), WriteFault>
 pub fn put_bytes<W: Write>(out: &mut W, bytes: &[u8]) -> Result<(), WriteFault>
     ensures whole { OnOk result (Appends (W.contents out.old) (W.contents out.new) bytes.now) }
     ensures front { OnErr result (AppendsFront (W.contents out.old) (W.contents out.new) bytes.now) }
+{
+    put_watched(&mut Watched::new(out), bytes)
+}
+
+/// The same, by a writer that notes its writes: `F3` says that one failed, and each of them was of some bytes.
+pub fn put_watched<W: Write>(out: &mut Watched<'_, W>, bytes: &[u8]) -> Result<(), WriteFault>
+    ensures same_stream { out.new.stream.ghost_name ≡ out.old.stream.ghost_name }
+    ensures whole { OnOk result (Appends (W.contents out.old.stream.now) (W.contents out.new.stream.now) bytes.now) }
+    ensures front { OnErr result (AppendsFront (W.contents out.old.stream.now) (W.contents out.new.stream.now) bytes.now) }
+    ensures writes { out.new.calls ≤ out.old.calls + length bytes.now }
+    ensures failed { OnErr result (out.new.has_failed ≡ true) }
+    ensures calm { OnOk result (out.new.has_failed ≡ out.old.has_failed) }
 {
     let mut done = 0;
     while done < bytes.len() {

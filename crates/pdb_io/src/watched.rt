@@ -1,0 +1,103 @@
+//! A stream whose calls are noted.
+
+ghost use Rattle.std.specs.Prelude.{◌≡◌, ◌<◌, ◌+◌, ◌-◌, ◌^◌, min, length, true, false, Ok, OnOk, OnErr, IfOk};
+ghost use Rattle.std.specs.Io.{ReadsAtMost, WritesAtMost};
+ghost use Rattle.std.specs.Io.KnownBytes.{Keeps, ReadConsumes, WriteAppends};
+
+use std::io;
+use std::io::{Read, Write};
+
+/// A reader or a writer that notes how often it was read or written, and whether it failed: by an error, or by a
+/// write that took nothing of some bytes.
+#[derive(Drop)]
+pub struct Watched<'a, S> {
+    pub(crate) stream: &'a mut S,
+    pub(crate) calls: u64,
+    pub(crate) has_failed: bool,
+}
+
+impl<'a, S> Watched<'a, S> {
+    /// A stream that was not called yet.
+    pub fn new(stream: &'a mut S) -> Watched<'a, S>
+        ensures same_stream { result.stream.ghost_name ≡ stream.entry.ghost_name }
+        ensures as_it_was { result.stream.now ≡ stream.old }
+        ensures uncalled { result.calls ≡ 0 }
+        ensures calm { result.has_failed ≡ false }
+    {
+        Watched {
+            stream,
+            calls: 0,
+            has_failed: false,
+        }
+    }
+
+    /// How many reads or writes were made.
+    pub fn calls(&self) -> u64
+        ensures { result ≡ self.now.calls }
+    {
+        self.calls
+    }
+
+    /// Whether a call failed.
+    pub fn has_failed(&self) -> bool
+        ensures { result ≡ self.now.has_failed }
+    {
+        self.has_failed
+    }
+}
+
+impl<R: Read> Read for Watched<'_, R> {
+    ghost remaining = { λ watched. R.remaining watched.stream.now };
+
+    fn read(&mut self, buf: &mut [u8]) -> io::Result<usize>
+        ensures bound { ReadsAtMost result buf.new }
+        ensures bytes { ReadConsumes (R.remaining self.old.stream.now) (R.remaining self.new.stream.now) result buf.new }
+        ensures same_stream { self.new.stream.ghost_name ≡ self.old.stream.ghost_name }
+        ensures counted { self.new.calls ≡ min (self.old.calls + 1) (2 ^ 64 - 1) }
+        ensures calm { OnOk result (self.new.has_failed ≡ self.old.has_failed) }
+        ensures failed { OnErr result (self.new.has_failed ≡ true) }
+    {
+        self.calls = self.calls.saturating_add(1);
+        let result = self.stream.read(buf);
+        if result.is_err() {
+            self.has_failed = true;
+        }
+        result
+    }
+}
+
+impl<W: Write> Write for Watched<'_, W> {
+    ghost contents = { λ watched. W.contents watched.stream.now };
+
+    fn write(&mut self, buf: &[u8]) -> io::Result<usize>
+        ensures bound { WritesAtMost result buf.now }
+        ensures bytes { WriteAppends (W.contents self.old.stream.now) (W.contents self.new.stream.now) result buf.now }
+        ensures same_stream { self.new.stream.ghost_name ≡ self.old.stream.ghost_name }
+        ensures counted { self.new.calls ≡ min (self.old.calls + 1) (2 ^ 64 - 1) }
+        ensures calm { IfOk result (λ count. 0 < count → self.new.has_failed ≡ self.old.has_failed) }
+        ensures stuck { IfOk result (λ count. count ≡ 0 → 0 < length buf.now → self.new.has_failed ≡ true) }
+        ensures failed { OnErr result (self.new.has_failed ≡ true) }
+    {
+        self.calls = self.calls.saturating_add(1);
+        let result = self.stream.write(buf);
+        let failed = match &result {
+            Ok(count) => *count == 0 && !buf.is_empty(),
+            Err(_) => true,
+        };
+        if failed {
+            self.has_failed = true;
+        }
+        result
+    }
+
+    fn flush(&mut self) -> io::Result<()>
+        ensures bytes { Keeps (W.contents self.old.stream.now) (W.contents self.new.stream.now) }
+        ensures same_stream { self.new.stream.ghost_name ≡ self.old.stream.ghost_name }
+    {
+        let result = self.stream.flush();
+        if result.is_err() {
+            self.has_failed = true;
+        }
+        result
+    }
+}
