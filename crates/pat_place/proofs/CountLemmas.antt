@@ -4,8 +4,8 @@ use Rattle.std.specs.Prelude.{◌&&◌}
 use Rattle.std.proofs.lemmas.Bool.{and_parts, cases_eq}
 use Rattle.puz_board.proofs.CellLemmas.{by_side}
 use Rattle.pat_place.specs.Patterns.{PatternView, IsPattern, most_tiles, width}
-use Rattle.pat_place.specs.Ranks.{placements}
-use Rattle.pat_place.proofs.RankLemmas.{falling, count_of_placements}
+use Rattle.pat_place.specs.Ranks.{falling_factorial, placements}
+use Rattle.pat_place.proofs.RankLemmas.{count_of_placements}
 
 -- a test at each number below n
 abbrev holds_below : (ℕ → Bool) → ℕ → Bool
@@ -19,7 +19,7 @@ holds_at test (suc n) k all l =
     elim (cases_eq k n) [ inl e ↦ ap test e ∙ parts.0 | inr ne ↦ holds_at test n k parts.1 (omega arith) ]
 
 abbrev test : ℕ → ℕ → Bool
-test n k = ltb (falling (n * n) k * width n k) 4294967296 && ltb (falling (n * n) k) 4294967296
+test n k = ltb (falling_factorial (n * n) k * width n k) 4294967296 && ltb (falling_factorial (n * n) k) 4294967296
 
 at_side : (n : ℕ) → 2 ≤ n → n ≤ 5 → (k : ℕ) → k ≤ most_tiles n → test n k ≡ true
 at_side = by_side (λ n. (k : ℕ) → k ≤ most_tiles n → test n k ≡ true)
@@ -28,9 +28,9 @@ at_side = by_side (λ n. (k : ℕ) → k ≤ most_tiles n → test n k ≡ true)
     (λ k l. holds_at (test 4) 9 k refl (omega arith))
     (λ k l. holds_at (test 5) 7 k refl (omega arith))
 
-tested : (p : PatternView) → IsPattern p → (falling (p.side * p.side) (length p.tiles) * width p.side (length p.tiles) < 2 ^ 32) × (falling (p.side * p.side) (length p.tiles) < 2 ^ 32)
+tested : (p : PatternView) → IsPattern p → (falling_factorial (p.side * p.side) (length p.tiles) * width p.side (length p.tiles) < 2 ^ 32) × (falling_factorial (p.side * p.side) (length p.tiles) < 2 ^ 32)
 tested p good =
-    let count = falling (p.side * p.side) (length p.tiles) in
+    let count = falling_factorial (p.side * p.side) (length p.tiles) in
     let parts = and_parts (ltb (count * width p.side (length p.tiles)) 4294967296) (ltb count 4294967296) (at_side p.side good.low good.high (length p.tiles) good.most) in
     (ltb-true (count * width p.side (length p.tiles)) 4294967296 parts.0, ltb-true count 4294967296 parts.1)
 

@@ -1,4 +1,5 @@
 pub mod SideLemmas
+mod MaskOfLemmas
 pub mod ListLemmas
 pub mod MaskLemmas
 pub mod PatternLemmas

@@ -10,7 +10,7 @@ use Rattle.std.proofs.Math.Nat.{pow-suc, pow-le-pow_right}
 use Rattle.pat_place.specs.Patterns.{has, IsAscending, PatternView}
 use Rattle.pat_place.specs.Placements.{IsApart, IsPlacement}
 use Rattle.pat_place.specs.Laws.{IsBefore}
-use Rattle.pat_place.specs.Ranks.{without, lists_of, placements, IsRank}
+use Rattle.pat_place.specs.Ranks.{without, lists_of, placements, falling_factorial, IsRank}
 use Rattle.pat_place.proofs.ListLemmas.{Some-one, has_cases, has-here, has-later, has-filter, has-filter_not, has-range, in_range, apart_from_ascending, ascending-range, ascending-filter}
 
 -- ---- get in a list that is made of others
@@ -140,10 +140,6 @@ rank_one (suc k) cs apart i j z a b = flat_one (λ c. lists_of k (without c cs))
 
 -- ---- how many, and the arithmetic of a rank
 
-abbrev pub falling : ℕ → ℕ → ℕ
-falling m zero = 1
-falling m (suc k) = m * falling (m - 1) k
-
 length-without_miss : (c : ℕ) (cs : List ℕ) → has cs c ≡ false → length (without c cs) ≡ length cs
 length-without_miss c [] h = refl
 length-without_miss c (d ∷ cs) h = go (length-without_miss c cs (or_parts (eqb d c) (has cs c) h).1) (without_cases c d cs)
@@ -165,11 +161,11 @@ length-flat : (f : ℕ → List (List ℕ)) (size : ℕ) (cs : List ℕ) → ((c
 length-flat f size [] all = sym (zero-mul size)
 length-flat f size (c ∷ cs) all = length-append (f c) (flat_map f cs) ∙ ap₂ (λ x y. x + y) (all c (has-here c c cs refl)) (length-flat f size cs (λ d h. all d (has-later d c cs h))) ∙ (let e : size + length cs * size ≡ suc (length cs) * size = omega arith in e)
 
-pub length_lists : (k : ℕ) (cs : List ℕ) → IsApart cs → length (lists_of k cs) ≡ falling (length cs) k
+pub length_lists : (k : ℕ) (cs : List ℕ) → IsApart cs → length (lists_of k cs) ≡ falling_factorial (length cs) k
 length_lists zero cs apart = refl
-length_lists (suc k) cs apart = length-flat (λ c. map (λ q. c ∷ q) (lists_of k (without c cs))) (falling (length cs - 1) k) cs
+length_lists (suc k) cs apart = length-flat (λ c. map (λ q. c ∷ q) (lists_of k (without c cs))) (falling_factorial (length cs - 1) k) cs
     (λ c h. length-map (lists_of k (without c cs)) (λ q. c ∷ q) ∙ length_lists k (without c cs) (IsApart-without c cs apart)
-    ∙ ap (λ m. falling m k) (let w = length-without c cs apart h in let e : length (without c cs) ≡ length cs - 1 = omega arith in e))
+    ∙ ap (λ m. falling_factorial m k) (let w = length-without c cs apart h in let e : length (without c cs) ≡ length cs - 1 = omega arith in e))
 
 get_flat : (f : ℕ → List (List ℕ)) (size : ℕ) (cs : List ℕ) → ((c : ℕ) → has cs c ≡ true → length (f c) ≡ size) → (place c r : ℕ) (z : List ℕ) → slice_get cs place ≡ Some c → slice_get (f c) r ≡ Some z
     → slice_get (flat_map f cs) (place * size + r) ≡ Some z
@@ -182,10 +178,10 @@ get_flat f size (d ∷ cs) all (suc place) c r z e h =
 
 -- the rank of c ∷ p among cs, by the place of c and the rank of p among the others
 pub rank_step : (k : ℕ) (cs : List ℕ) → IsApart cs → (place c r : ℕ) (p : List ℕ) → slice_get cs place ≡ Some c → slice_get (lists_of k (without c cs)) r ≡ Some p
-    → slice_get (lists_of (suc k) cs) (place * falling (length cs - 1) k + r) ≡ Some (c ∷ p)
-rank_step k cs apart place c r p e h = get_flat (λ c. map (λ q. c ∷ q) (lists_of k (without c cs))) (falling (length cs - 1) k) cs
+    → slice_get (lists_of (suc k) cs) (place * falling_factorial (length cs - 1) k + r) ≡ Some (c ∷ p)
+rank_step k cs apart place c r p e h = get_flat (λ c. map (λ q. c ∷ q) (lists_of k (without c cs))) (falling_factorial (length cs - 1) k) cs
     (λ c h. length-map (lists_of k (without c cs)) (λ q. c ∷ q) ∙ length_lists k (without c cs) (IsApart-without c cs apart)
-    ∙ ap (λ m. falling m k) (let w = length-without c cs apart h in let e : length (without c cs) ≡ length cs - 1 = omega arith in e))
+    ∙ ap (λ m. falling_factorial m k) (let w = length-without c cs apart h in let e : length (without c cs) ≡ length cs - 1 = omega arith in e))
     place c r (c ∷ p) e (get-map (λ q. c ∷ q) (lists_of k (without c cs)) r p h)
 
 -- ---- what has a rank is a placement
@@ -214,28 +210,28 @@ placement_of_rank (suc k) cs i z e =
     let ih = placement_of_rank k (without h.0 cs) h.1 y.0 y.1 in
     subst (λ z. (length z ≡ suc k) × IsApart z × AllByRecursion (λ x. has cs x ≡ true) z) y.2 (ap suc ih.0, (out_of h.0 y.0 cs ih.2, ih.1), (h.2, back_in h.0 y.0 cs ih.2))
 
--- ---- falling factorials
+-- ---- falling_factorial factorials
 
-pub falling_more : (m k : ℕ) → falling m (suc k) ≡ falling m k * (m - k)
+pub falling_more : (m k : ℕ) → falling_factorial m (suc k) ≡ falling_factorial m k * (m - k)
 falling_more m zero = omega arith
 falling_more m (suc k) =
     ap (λ x. m * x) (falling_more (m - 1) k) ∙
-    (let e : m - 1 - k ≡ m - suc k = omega arith in ap (λ x. m * (falling (m - 1) k * x)) e) ∙
-    regroup m (falling (m - 1) k) (m - suc k)
+    (let e : m - 1 - k ≡ m - suc k = omega arith in ap (λ x. m * (falling_factorial (m - 1) k * x)) e) ∙
+    regroup m (falling_factorial (m - 1) k) (m - suc k)
   where
     regroup : (a b c : ℕ) → a * (b * c) ≡ a * b * c
     regroup a b c = omega arith
 
-pub falling_fits : (m k : ℕ) → m ≤ 25 → falling m k ≤ 25 ^ k
+pub falling_fits : (m k : ℕ) → m ≤ 25 → falling_factorial m k ≤ 25 ^ k
 falling_fits m zero l = omega arith
-falling_fits m (suc k) l = omega (arith, mul-le m (falling (m - 1) k) 25 (25 ^ k) l (falling_fits (m - 1) k (omega arith)), pow-suc 25 k)
+falling_fits m (suc k) l = omega (arith, mul-le m (falling_factorial (m - 1) k) 25 (25 ^ k) l (falling_fits (m - 1) k (omega arith)), pow-suc 25 k)
 
-pub count_of_placements : (n k : ℕ) → length (placements n k) ≡ falling (n * n) k
+pub count_of_placements : (n k : ℕ) → length (placements n k) ≡ falling_factorial (n * n) k
 unfolding placements
-count_of_placements n k = length_lists k (range_with_len 0 (n * n)) (apart_from_ascending (range_with_len 0 (n * n)) (ascending-range 0 (n * n))) ∙ ap (λ m. falling m k) (length-range_with_len 0 (n * n))
+count_of_placements n k = length_lists k (range_with_len 0 (n * n)) (apart_from_ascending (range_with_len 0 (n * n)) (ascending-range 0 (n * n))) ∙ ap (λ m. falling_factorial m k) (length-range_with_len 0 (n * n))
 
 -- a step of the product fits 64 bits
-pub falling_step_fits : (count cells placed : ℕ) → count ≡ falling cells placed → cells ≤ 25 → placed < 8 → count * (cells - placed) < 2 ^ 64
+pub falling_step_fits : (count cells placed : ℕ) → count ≡ falling_factorial cells placed → cells ≤ 25 → placed < 8 → count * (cells - placed) < 2 ^ 64
 falling_step_fits count cells placed is few less =
     let low : count ≤ 25 ^ placed = omega (arith, falling_fits cells placed few) in
     let more : 25 ^ placed ≤ 25 ^ 7 = pow-le-pow_right (lit< tt) (let l : placed ≤ 7 = omega arith in l) in

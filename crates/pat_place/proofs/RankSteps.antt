@@ -10,10 +10,10 @@ use Rattle.std.proofs.lemmas.Nat.Bits.{bit_at_ones}
 use Rattle.std.proofs.Math.Nat.{pow-suc, pow-le-pow_right}
 use Rattle.pat_place.specs.Masks.{numbers_of, ones_below}
 use Rattle.pat_place.specs.Placements.{IsApart}
-use Rattle.pat_place.specs.Ranks.{lists_of}
+use Rattle.pat_place.specs.Ranks.{lists_of, falling_factorial}
 use Rattle.pat_place.proofs.ListLemmas.{apart_from_ascending, ascending-range, apart_at, all_at}
 use Rattle.pat_place.proofs.MaskLemmas.{ones_below-mono, get-numbers_below, numbers_below-clear, ascending-numbers_below, length-numbers_below, numbers_below-full, ones_below-suc, has-numbers_below}
-use Rattle.pat_place.proofs.RankLemmas.{falling, rank_step, length-without, length_lists}
+use Rattle.pat_place.proofs.RankLemmas.{rank_step, length-without, length_lists}
 use Rattle.std.proofs.lemmas.List.FromFn.{length-range_with_len}
 
 regroup : (rank room block place r : ℕ) → rank * (room * block) + (place * block + r) ≡ (rank * room + place) * block + r
@@ -21,7 +21,7 @@ regroup rank room block place r = omega arith
 
 -- one cell more of a list of free cells
 pub step : (m free next c : ℕ) → c < 32 → bit_at free c ≡ 1 → bit_at next c ≡ 0 → ((x : ℕ) → x < 32 → x ≢ c → bit_at next x ≡ bit_at free x) → (r : ℕ) (q : List ℕ)
-    → slice_get (lists_of m (numbers_of next)) r ≡ Some q → slice_get (lists_of (suc m) (numbers_of free)) (ones_below free c * falling (length (numbers_of free) - 1) m + r) ≡ Some (c ∷ q)
+    → slice_get (lists_of m (numbers_of next)) r ≡ Some q → slice_get (lists_of (suc m) (numbers_of free)) (ones_below free c * falling_factorial (length (numbers_of free) - 1) m + r) ≡ Some (c ∷ q)
 step m free next c below here clear same r q e =
     rank_step m (numbers_of free) (apart_from_ascending (numbers_of free) (ascending-numbers_below 32 free)) (ones_below free c) c r q
     (get-numbers_below 32 free c here below)
@@ -45,7 +45,7 @@ pub record IsRanking (cells : List ℕ) (count i free room rank : ℕ) : Type 0 
   pub inside : (j : ℕ) → j < length cells → get_or cells j 0 < 32
   pub coming : (j : ℕ) → i ≤ j → j < length cells → bit_at free (get_or cells j 0) ≡ 1
   pub whole : (r : ℕ) → slice_get (lists_of (length cells - i) (numbers_of free)) r ≡ Some (drop i cells)
-      → slice_get (lists_of (length cells) (range_with_len 0 count)) (rank * falling room (length cells - i) + r) ≡ Some cells
+      → slice_get (lists_of (length cells) (range_with_len 0 count)) (rank * falling_factorial room (length cells - i) + r) ≡ Some cells
 
 pub IsRanking-start : (cells : List ℕ) (count : ℕ) → count ≤ 25 → AllByRecursion (λ c. c < count) cells → IsRanking cells count 0 (2 ^ count - 1) count 0
 IsRanking-start cells count few inside = record {
@@ -57,7 +57,7 @@ IsRanking-start cells count few inside = record {
   inside = (λ j l. let k = all_at cells j inside l in omega arith);
   coming = (λ j low l. bit_at_ones count (get_or cells j 0) (all_at cells j inside l));
   whole = (λ r e.
-      ap (slice_get (lists_of (length cells) (range_with_len 0 count))) (let z = zero-mul (falling count (length cells - 0)) in let q : 0 * falling count (length cells - 0) + r ≡ r = omega arith in q) ∙
+      ap (slice_get (lists_of (length cells) (range_with_len 0 count))) (let z = zero-mul (falling_factorial count (length cells - 0)) in let q : 0 * falling_factorial count (length cells - 0) + r ≡ r = omega arith in q) ∙
       ap (λ cs. slice_get (lists_of (length cells) cs) r) (sym full) ∙
       ap (λ k. slice_get (lists_of k (numbers_of (2 ^ count - 1))) r) (let q : length cells ≡ length cells - 0 = omega arith in q) ∙
       e);
@@ -107,11 +107,11 @@ module _ (cells : List ℕ) (apart : IsApart cells) (count i free room rank : �
         let room_is = h.free_count in
         let some = IsRanking-room.0 in
         ap (slice_get (lists_of (length cells) (range_with_len 0 count))) (
-        sym (regroup rank room (falling (room - 1) (length cells - (i + 1))) (ones_below free (get_or cells i 0)) r) ∙
-        ap (λ k. rank * falling room k + (ones_below free (get_or cells i 0) * falling (room - 1) (length cells - (i + 1)) + r)) (sym m)) ∙
-        h.whole (ones_below free (get_or cells i 0) * falling (room - 1) (length cells - (i + 1)) + r) (
-        ap (λ k. slice_get (lists_of k (numbers_of free)) (ones_below free (get_or cells i 0) * falling (room - 1) (length cells - (i + 1)) + r)) m ∙
-        ap (λ k. slice_get (lists_of (suc (length cells - (i + 1))) (numbers_of free)) (ones_below free (get_or cells i 0) * falling (k - 1) (length cells - (i + 1)) + r)) (sym room_is) ∙
+        sym (regroup rank room (falling_factorial (room - 1) (length cells - (i + 1))) (ones_below free (get_or cells i 0)) r) ∙
+        ap (λ k. rank * falling_factorial room k + (ones_below free (get_or cells i 0) * falling_factorial (room - 1) (length cells - (i + 1)) + r)) (sym m)) ∙
+        h.whole (ones_below free (get_or cells i 0) * falling_factorial (room - 1) (length cells - (i + 1)) + r) (
+        ap (λ k. slice_get (lists_of k (numbers_of free)) (ones_below free (get_or cells i 0) * falling_factorial (room - 1) (length cells - (i + 1)) + r)) m ∙
+        ap (λ k. slice_get (lists_of (suc (length cells - (i + 1))) (numbers_of free)) (ones_below free (get_or cells i 0) * falling_factorial (k - 1) (length cells - (i + 1)) + r)) (sym room_is) ∙
         found ∙
         ap Some (sym (drop_more cells i 0 here))));
   }
@@ -119,7 +119,7 @@ module _ (cells : List ℕ) (apart : IsApart cells) (count i free room rank : �
 pub IsRanking-all : (cells : List ℕ) (count i free room rank : ℕ) → IsRanking cells count i free room rank → length cells ≤ i → i ≤ length cells → slice_get (lists_of (length cells) (range_with_len 0 count)) rank ≡ Some cells
 IsRanking-all cells count i free room rank h low high =
     let none : length cells - i ≡ 0 = omega arith in
-    ap (slice_get (lists_of (length cells) (range_with_len 0 count))) ((let e : rank ≡ rank * 1 + 0 = omega arith in e) ∙ ap (λ k. rank * falling room k + 0) (sym none)) ∙
+    ap (slice_get (lists_of (length cells) (range_with_len 0 count))) ((let e : rank ≡ rank * 1 + 0 = omega arith in e) ∙ ap (λ k. rank * falling_factorial room k + 0) (sym none)) ∙
     h.whole 0 (ap (λ k. slice_get (lists_of k (numbers_of free)) 0) none ∙ ap Some (sym (drop_all i cells low)))
 
 -- ---- a placement
@@ -132,7 +132,7 @@ pub record IsUnranking (size count rank : ℕ) (cells : List ℕ) (i free block 
   pub upto : i ≤ size
   pub bits : free < 2 ^ 32
   pub free_count : length (numbers_of free) + i ≡ count
-  pub block_is : block ≡ falling (count - i) (size - i)
+  pub block_is : block ≡ falling_factorial (count - i) (size - i)
   pub less : rest < block
   pub long : length cells ≡ 8
   pub zeros : drop i cells ≡ replicate (8 - i) 0
@@ -148,7 +148,7 @@ IsUnranking-start size count rank ranks small few room is below = record {
   upto = omega arith;
   bits = (let up : 2 ^ count ≤ 2 ^ 31 = pow-le-pow_right (lit< tt) (let l : count ≤ 31 = omega arith in l) in omega arith);
   free_count = (let e : length (numbers_of (2 ^ count - 1)) ≡ count = ap length full ∙ length-range_with_len 0 count in omega arith);
-  block_is = is ∙ length_lists size (range_with_len 0 count) (apart_from_ascending (range_with_len 0 count) (ascending-range 0 count)) ∙ ap₂ falling (length-range_with_len 0 count ∙ (let e : count ≡ count - 0 = omega arith in e)) (let e : size ≡ size - 0 = omega arith in e);
+  block_is = is ∙ length_lists size (range_with_len 0 count) (apart_from_ascending (range_with_len 0 count) (ascending-range 0 count)) ∙ ap₂ falling_factorial (length-range_with_len 0 count ∙ (let e : count ≡ count - 0 = omega arith in e)) (let e : size ≡ size - 0 = omega arith in e);
   less = below;
   long = refl;
   zeros = refl;
@@ -162,17 +162,17 @@ module _ (size count rank : ℕ) (cells : List ℕ) (i free block rest : ℕ) (h
   pub IsUnranking-cells : 0 < count - i
   IsUnranking-cells = let r = h.room in omega arith
 
-  product : block ≡ falling (count - i - 1) (size - (i + 1)) * (count - i) + 0
+  product : block ≡ falling_factorial (count - i - 1) (size - (i + 1)) * (count - i) + 0
   product =
       h.block_is ∙
-      ap (falling (count - i)) (let e : size - i ≡ suc (size - (i + 1)) = omega arith in e) ∙
-      (let e = mul_comm (count - i) (falling (count - i - 1) (size - (i + 1))) in omega arith)
+      ap (falling_factorial (count - i)) (let e : size - i ≡ suc (size - (i + 1)) = omega arith in e) ∙
+      (let e = mul_comm (count - i) (falling_factorial (count - i - 1) (size - (i + 1))) in omega arith)
 
-  quotient : block / (count - i) ≡ falling (count - i - 1) (size - (i + 1))
-  quotient = ap (λ x. x / (count - i)) product ∙ div-mul-add (falling (count - i - 1) (size - (i + 1))) (count - i) 0 IsUnranking-cells
+  quotient : block / (count - i) ≡ falling_factorial (count - i - 1) (size - (i + 1))
+  quotient = ap (λ x. x / (count - i)) product ∙ div-mul-add (falling_factorial (count - i - 1) (size - (i + 1))) (count - i) 0 IsUnranking-cells
 
   divides : block ≡ (count - i) * (block / (count - i))
-  divides = product ∙ (let e = mul_comm (falling (count - i - 1) (size - (i + 1))) (count - i) in omega arith) ∙ ap (λ x. (count - i) * x) (sym quotient)
+  divides = product ∙ (let e = mul_comm (falling_factorial (count - i - 1) (size - (i + 1))) (count - i) in omega arith) ∙ ap (λ x. (count - i) * x) (sym quotient)
 
   pub IsUnranking-block : 0 < block / (count - i)
   IsUnranking-block = elim (cases_eq (block / (count - i)) 0) [
@@ -196,7 +196,7 @@ module _ (size count rank : ℕ) (cells : List ℕ) (i free block rest : ℕ) (h
     upto = omega arith;
     bits = bits;
     free_count = (let e = count-clear free next cell below one clear same in let f = h.free_count in omega arith);
-    block_is = quotient ∙ ap (λ k. falling k (size - (i + 1))) (let e : count - i - 1 ≡ count - (i + 1) = omega arith in e);
+    block_is = quotient ∙ ap (λ k. falling_factorial k (size - (i + 1))) (let e : count - i - 1 ≡ count - (i + 1) = omega arith in e);
     less = mod_below rest (block / (count - i)) IsUnranking-block;
     long = length-set cells i cell ∙ h.long;
     zeros =
@@ -209,8 +209,8 @@ module _ (size count rank : ℕ) (cells : List ℕ) (i free block rest : ℕ) (h
         let count_is = h.free_count in
         let m : suc (size - (i + 1)) ≡ size - i = omega arith in
         let left : length (numbers_of free) - 1 ≡ count - i - 1 = omega arith in
-        let at_rest : ones_below free cell * falling (length (numbers_of free) - 1) (size - (i + 1)) + rest % (block / (count - i)) ≡ rest =
-        ap₂ (λ x y. x * y + rest % (block / (count - i))) place (ap (λ k. falling k (size - (i + 1))) left ∙ sym quotient) ∙
+        let at_rest : ones_below free cell * falling_factorial (length (numbers_of free) - 1) (size - (i + 1)) + rest % (block / (count - i)) ≡ rest =
+        ap₂ (λ x y. x * y + rest % (block / (count - i))) place (ap (λ k. falling_factorial k (size - (i + 1))) left ∙ sym quotient) ∙
         div-add-mod' rest (block / (count - i)) in
         let found = step (size - (i + 1)) free next cell below one clear same (rest % (block / (count - i))) q e in
         let inside : i < length cells = (let l = h.long in let f = h.few in omega arith) in
@@ -224,7 +224,7 @@ pub IsUnranking-all : (size count rank : ℕ) (cells : List ℕ) (i free block r
 IsUnranking-all size count rank cells i free block rest h l =
     let same : i ≡ size = (let u = h.upto in omega arith) in
     let none : size - i ≡ 0 = omega arith in
-    let one : block ≡ 1 = h.block_is ∙ ap (falling (count - i)) none in
+    let one : block ≡ 1 = h.block_is ∙ ap (falling_factorial (count - i)) none in
     let zero_rest : rest ≡ 0 = (let l = h.less in omega arith) in (
       h.whole [] (ap₂ (λ k r. slice_get (lists_of k (numbers_of free)) r) none zero_rest) ∙ ap Some (append-nil (take i cells) ∙ ap (λ k. take k cells) same),
       subst (λ k. drop k cells ≡ replicate (8 - k) 0) same h.zeros,

@@ -89,7 +89,7 @@ module _ (n : ℕ) (low : 2 ≤ n) (high : n ≤ 5) (p : List ℕ) where
   ]
 
   pub slot_some : (c : ℕ) → IsFree n p c → (j : ℕ) × IsSlot n p c j
-  slot_some c free = let l = leader_of c free in let j = count_of (IsLeader n p) leader_decided l.0 in (j.0, record { leader = l.0; joined = l.1; is_leader = l.2; below = j.1 })
+  slot_some c free = let l = leader_of c free in let j = count_of (IsLeader n p) leader_decided l.0 in (j.0, record { free = free; leader = l.0; joined = l.1; is_leader = l.2; below = j.1 })
 
   pub slot_one : (c i j : ℕ) → IsFree n p c → IsSlot n p c i → IsSlot n p c j → i ≡ j
   slot_one c i j free a b =
@@ -103,4 +103,4 @@ module _ (n : ℕ) (low : 2 ≤ n) (high : n ≤ 5) (p : List ℕ) where
       Joins-trans n p a.joined (subst (λ x. Joins n p x d) (sym e) (Joins-sym n p low high free b.joined))
 
   pub region_slot : (c d j : ℕ) → IsFree n p c → Joins n p c d → IsSlot n p c j → IsSlot n p d j
-  region_slot c d j free r a = record { leader = a.leader; joined = Joins-trans n p (Joins-sym n p low high free r) a.joined; is_leader = a.is_leader; below = a.below }
+  region_slot c d j free r a = record { free = Joins-free n p free r; leader = a.leader; joined = Joins-trans n p (Joins-sym n p low high free r) a.joined; is_leader = a.is_leader; below = a.below }

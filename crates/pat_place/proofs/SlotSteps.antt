@@ -96,13 +96,13 @@ module _ (n : ℕ) (low : 2 ≤ n) (high : n ≤ 5) (cells : List ℕ) (rest j :
 
   -- the cells of its region have slot j
   joined_slot : (c : ℕ) → Joins n cells seed c → IsSlot n cells c j
-  joined_slot c r = record { leader = seed; joined = Joins-sym n cells low high seed_free r; is_leader = seed_leader; below = seed_count }
+  joined_slot c r = record { free = Joins-free n cells seed_free r; leader = seed; joined = Joins-sym n cells low high seed_free r; is_leader = seed_leader; below = seed_count }
 
   -- and no other cells have it
-  slot_joined : (c : ℕ) → IsFree n cells c → IsSlot n cells c j → Joins n cells seed c
-  slot_joined c free s =
+  slot_joined : (c : ℕ) → IsSlot n cells c j → Joins n cells seed c
+  slot_joined c s =
       let same : s.leader ≡ seed = count_same (IsLeader n cells) s.leader seed j s.is_leader seed_leader s.below seed_count in
-      subst (λ l. Joins n cells l c) same (Joins-sym n cells low high free s.joined)
+      subst (λ l. Joins n cells l c) same (Joins-sym n cells low high s.free s.joined)
 
   slot_small : AllByRecursion (λ c. c < n * n) cells → IsApart cells → j < width n (length cells)
   slot_small inside apart = slot_within n low high cells seed j inside apart (joined_slot seed here)
@@ -149,7 +149,7 @@ module _ (n : ℕ) (low : 2 ≤ n) (high : n ≤ 5) (cells : List ℕ) (rest j :
 
 -- the region of the least cell that is left, as slot j
 pub record IsTaken (p : PlacementView) (rest j region : ℕ) : Type 0 where
-  pub slots : (c : ℕ) → IsIn region c ↔ (IsFree p.pattern.side p.cells c × IsSlot p.pattern.side p.cells c j)
+  pub slots : (c : ℕ) → IsIn region c ↔ IsSlot p.pattern.side p.cells c j
   pub below : j < width p.pattern.side (length p.cells)
   pub next : IsRest p.pattern.side p.cells (bit_and rest (2 ^ 32 - 1 - region)) (suc j)
   pub smaller : bit_and rest (2 ^ 32 - 1 - region) < rest
@@ -164,8 +164,8 @@ taken p good placed rest j h side free same is seed set lowest region fits reach
     let joined = joins_is n p.cells free region seed is (subst (λ k. IsMaskOf region (Reaches k (IsIn free) seed)) same reached) in
     record {
       slots = (λ c. (
-        λ i. let r = (joined c).0 i in (Joins-free n p.cells (((h.is seed).0 set).0) r, joined_slot n good.low good.high p.cells rest j h seed set lowest c r),
-        λ w. (joined c).1 (slot_joined n good.low good.high p.cells rest j h seed set lowest c w.0 w.1),
+        λ i. joined_slot n good.low good.high p.cells rest j h seed set lowest c ((joined c).0 i),
+        λ s. (joined c).1 (slot_joined n good.low good.high p.cells rest j h seed set lowest c s),
       ));
       below = slot_small n good.low good.high p.cells rest j h seed set lowest placed.inside placed.apart;
       next = IsRest-more n good.low good.high p.cells rest j h seed set lowest region fits joined;
@@ -196,15 +196,15 @@ some_left rest c i = elim (cases_eq rest 0) [ inl e ↦ absurd (let z = ap (λ m
 
 pub record AreListed (n : ℕ) (cells masks : List ℕ) (rest : ℕ) : Type 0 where
   pub left : IsRest n cells rest (length masks)
-  pub each : (j c : ℕ) → j < length masks → IsIn (get_or masks j 0) c ↔ (IsFree n cells c × IsSlot n cells c j)
+  pub each : (j c : ℕ) → j < length masks → IsIn (get_or masks j 0) c ↔ IsSlot n cells c j
 
 pub AreListed-more : (n : ℕ) (cells masks : List ℕ) (rest region next : ℕ) → AreListed n cells masks rest
-    → ((c : ℕ) → IsIn region c ↔ (IsFree n cells c × IsSlot n cells c (length masks))) → IsRest n cells next (suc (length masks)) → AreListed n cells (masks ++ region ∷ []) next
+    → ((c : ℕ) → IsIn region c ↔ IsSlot n cells c (length masks)) → IsRest n cells next (suc (length masks)) → AreListed n cells (masks ++ region ∷ []) next
 AreListed-more n cells masks rest region next h is left = record {
   left = subst (λ k. IsRest n cells next k) (sym count) left;
   each = (λ j c l. elim (cases_eq j (length masks)) [
-    | inl e ↦ subst (λ m. IsIn m c ↔ (IsFree n cells c × IsSlot n cells c j)) (sym (get_or_at masks region [] 0 j (sym e))) (subst (λ k. IsIn region c ↔ (IsFree n cells c × IsSlot n cells c k)) (sym e) (is c))
-    | inr ne ↦ (let before : j < length masks = let k = count in omega arith in subst (λ m. IsIn m c ↔ (IsFree n cells c × IsSlot n cells c j)) (sym (get_or_append_left masks (region ∷ []) 0 j before)) (h.each j c before))
+    | inl e ↦ subst (λ m. IsIn m c ↔ IsSlot n cells c j) (sym (get_or_at masks region [] 0 j (sym e))) (subst (λ k. IsIn region c ↔ IsSlot n cells c k) (sym e) (is c))
+    | inr ne ↦ (let before : j < length masks = let k = count in omega arith in subst (λ m. IsIn m c ↔ IsSlot n cells c j) (sym (get_or_append_left masks (region ∷ []) 0 j before)) (h.each j c before))
   ]);
 }
   where
@@ -216,7 +216,7 @@ pub count_within : (n : ℕ) → 2 ≤ n → n ≤ 5 → (cells : List ℕ) (j :
 count_within n low high cells zero inside apart a = omega arith
 count_within n low high cells (suc i) inside apart a =
     let last = count_place (IsLeader n cells) (n * n) (suc i) i a (omega arith) in
-    let l = slot_within n low high cells last.0 i inside apart (record { leader = last.0; joined = here; is_leader = last.2; below = last.3 }) in
+    let l = slot_within n low high cells last.0 i inside apart (record { free = last.2.0; leader = last.0; joined = here; is_leader = last.2; below = last.3 }) in
     omega arith
 
 -- W is at most 8

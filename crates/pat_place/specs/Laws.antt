@@ -40,7 +40,7 @@ EachFreeCellHasOneSlot =
 -- two free cells have the same slot exactly where a path of free cells joins them
 abbrev pub OneSlotIsOneRegion : Type 0
 OneSlotIsOneRegion =
-    (p : PlacementView) → IsPattern p.pattern → (c d i j : ℕ) → IsFree p.pattern.side p.cells c → IsFree p.pattern.side p.cells d →
+    (p : PlacementView) → IsPattern p.pattern → (c d i j : ℕ) →
     IsSlot p.pattern.side p.cells c i → IsSlot p.pattern.side p.cells d j → (i ≡ j) ↔ Joins p.pattern.side p.cells c d
 
 -- no placement has more regions than its pattern's width

@@ -24,12 +24,13 @@ IsCount Has (suc m) j = (Has m × (i : ℕ) × (j ≡ suc i) × IsCount Has m i)
 
 -- the slot of a free cell: the number of leaders below its region's leader
 pub record IsSlot (n : ℕ) (cells : List ℕ) (c j : ℕ) : Type 0 where
+  pub free : IsFree n cells c
   pub leader : ℕ
   pub joined : Joins n cells c leader
   pub is_leader : IsLeader n cells leader
   pub below : IsCount (IsLeader n cells) leader j
 
--- a mask for each region, in the order of their least cells: each mask has the free cells of one slot
+-- a mask for each region, in the order of their least cells: each mask has the cells of one slot
 pub record AreRegions (n : ℕ) (cells masks : List ℕ) : Type 0 where
-  pub each : (j c : ℕ) → j < length masks → (bit_at (slice_index masks j) c ≡ 1) ↔ (IsFree n cells c × IsSlot n cells c j)
+  pub each : (j c : ℕ) → j < length masks → (bit_at (slice_index masks j) c ≡ 1) ↔ IsSlot n cells c j
   pub all : IsCount (IsLeader n cells) (n * n) (length masks)

@@ -4,7 +4,7 @@ ghost use Rattle.std.specs.Prelude.{◌≡◌, ℕ, ◌+◌, ◌*◌, ◌^◌, �
 ghost use Rattle.std.specs.List.{AllByRecursion};
 ghost use Rattle.pat_place.specs.Masks.{numbers_of};
 ghost use Rattle.pat_place.specs.Patterns.{IsPattern, most_tiles, width};
-ghost use Rattle.pat_place.specs.Ranks.{placements};
+ghost use Rattle.pat_place.specs.Ranks.{falling_factorial, placements};
 
 use crate::masks;
 use arrayvec::ArrayVec;
@@ -94,8 +94,10 @@ impl Pattern {
         (size + 1).min(self.side.cells() - size)
     }
 
-    /// How many placements there are. With `width` slots for each, there are fewer than 2^32 slots.
+    /// How many placements there are: n²·(n² - 1) ··· (n² - k + 1) for k tiles of side n. With `width` slots for each,
+    /// there are fewer than 2^32 slots.
     pub fn count(&self) -> u64
+        ensures product { result ≡ falling_factorial (self.now.side * self.now.side) (length self.now.tiles) }
         ensures count { result ≡ length (placements self.now.side (length self.now.tiles)) }
         ensures small { result * width self.now.side (length self.now.tiles) < 2 ^ 32 }
         ensures fits { result < 2 ^ 32 }

@@ -5,10 +5,10 @@ use Rattle.std.proofs.Math.Seq.{drop-append-add, drop-cons, get_or-append_seam, 
 use Rattle.std.proofs.lemmas.Bool.{eqb-true}
 use Rattle.std.proofs.lemmas.Grind.{get_or_default_zero}
 use Rattle.std.proofs.lemmas.List.{take-append-drop}
-use Rattle.std.specs.Prelude.{IfSome, option_map, position}
+use Rattle.std.specs.Prelude.{IfNone, IfSome, option_map, position}
 use Rattle.std.specs.List.{AllPass}
-use Rattle.puz_board.specs.PuzzleTexts.{IsPuzzle, puzzle_parts}
-use Rattle.puz_board.proofs.FirstLemmas.{first-position, position-some}
+use Rattle.puz_board.specs.PuzzleTexts.{HasNoSemicolon, IsPuzzle, puzzle_parts}
+use Rattle.puz_board.proofs.FirstLemmas.{fails_each, first-position, position-some}
 
 not_true : (b : Bool) → not b ≡ true → b ≡ false
 not_true true e = cc
@@ -66,3 +66,17 @@ puzzle-puzzle_parts text (Some x) front back e = go (position (λ b. eqb b 59) t
         let after : back x ≡ drop (i + 1) text = ap back_of f in
         let puzzle = puzzle-at text i p in
         record { whole = puzzle.whole ∙ ap₂ (λ a b. a ++ 59 ∷ b) (sym here) (sym after); first = subst (AllPass (λ b. not (eqb b 59))) (sym here) puzzle.first }
+
+-- the two parts that are there are the text's
+pub puzzle-parts : (text board moves : List ℕ) → puzzle_parts text ≡ Some (board, moves) → IsPuzzle text board moves
+puzzle-parts text board moves e = puzzle-puzzle_parts {A = List ℕ × List ℕ} text (Some (board, moves)) (λ parts. parts.0) (λ parts. parts.1) (sym e)
+
+-- where there are none, no byte is a `;`
+pub no_semicolon-puzzle_parts : {A : Type 0} (text : List ℕ) (r : Option A) (parts : A → List ℕ × List ℕ) → option_map parts r ≡ puzzle_parts text → IfNone r (HasNoSemicolon text)
+unfolding puzzle_parts
+no_semicolon-puzzle_parts text (Some x) parts e = tt
+no_semicolon-puzzle_parts text None parts e = go (position (λ b. eqb b 59) text) refl (sym e)
+  where
+    go : (o : Option ℕ) → position (λ b. eqb b 59) text ≡ o → option_map {U = List ℕ × List ℕ} (λ i. (take i text, drop (i + 1) text)) o ≡ None → HasNoSemicolon text
+    go (Some i) p f = cc
+    go None p f = λ k d l. ap (λ b. not (eqb b 59)) (get_or_default_zero text k d l) ∙ ap not (fails_each (λ b. eqb b 59) text p k l)

@@ -2,10 +2,14 @@
 use Rattle.std.specs.Prelude.{◌≡◌, ℕ, ◌+◌, ◌==◌, not, List, ◌∷◌, ◌++◌, take, drop, position, Option, option_map}
 use Rattle.std.specs.List.{AllPass}
 
--- the text is the one for the board, a `;` and the one for the moves, with no `;` before this one
+-- no byte of the text is a `;`
+abbrev pub HasNoSemicolon : List ℕ → Type 0
+HasNoSemicolon text = AllPass (λ b. not (b == 59)) text
+
+-- the puzzle text has these two parts: it is the board's text, a `;` and the moves' text, and this `;` is its first
 pub record IsPuzzle (text board moves : List ℕ) : Type 0 where
   pub whole : text ≡ board ++ 59 ∷ moves
-  pub first : AllPass (λ b. not (b == 59)) board
+  pub first : HasNoSemicolon board
 
 -- what stands before the first `;` and what stands after it; none where there is no `;`
 unfoldable pub puzzle_parts : List ℕ → Option (List ℕ × List ℕ)

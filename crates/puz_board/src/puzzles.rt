@@ -1,12 +1,13 @@
 //! Puzzle texts: a board text, one `;` and a moves text.
 
-ghost use Rattle.std.specs.Prelude.{◌≡◌, ℕ, ◌==◌, ◌<◌, IfSome, List, Some, length, option_map, position};
-ghost use Rattle.puz_board.specs.PuzzleTexts.{IsPuzzle, puzzle_parts};
+ghost use Rattle.std.specs.Prelude.{◌≡◌, ℕ, ◌==◌, ◌<◌, IfNone, IfSome, List, Some, length, option_map, position};
+ghost use Rattle.puz_board.specs.PuzzleTexts.{HasNoSemicolon, IsPuzzle, puzzle_parts};
 
 /// The board text before the first `;` of a puzzle text, and the moves text after it. `None` where there is no `;`.
 pub fn split_puzzle(text: &[u8]) -> Option<(&[u8], &[u8])>
-    // Two texts come exactly where they make up the text, with a `;` between them.
+    // Two texts come exactly where they make up the text, with its first `;` between them; none where it has no `;`.
     ensures some { IfSome result (λ parts. IsPuzzle text.now parts.0.now parts.1.now) }
+    ensures none { IfNone result (HasNoSemicolon text.now) }
     ensures parted { (board moves : List ℕ) → IsPuzzle text.now board moves → option_map {U = List ℕ × List ℕ} (λ parts. (parts.0.now, parts.1.now)) result ≡ Some (board, moves) }
 
     // Which they are, and when there are none.

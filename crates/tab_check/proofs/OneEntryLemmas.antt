@@ -23,10 +23,10 @@ module _ (n : ℕ) (cells masks : List ℕ) (are : AreRegions n cells masks) whe
   pub region_of_mask : (j : ℕ) → j < length masks → HasRegion n cells j
   region_of_mask j l =
       let x = count_place (IsLeader n cells) (n * n) (length masks) j are.all l in
-      record { cell = x.0; free = x.2.0; in_slot = record { leader = x.0; joined = here; is_leader = x.2; below = x.3 } }
+      record { cell = x.0; free = x.2.0; in_slot = record { free = x.2.0; leader = x.0; joined = here; is_leader = x.2; below = x.3 } }
 
   pub mask_is_region : (j : ℕ) → j < length masks → IsRegion n cells j (get_or masks j 0)
-  mask_is_region j l c = are.each j c l
+  mask_is_region j l c = let each = are.each j c l in (λ h. let slot = each.0 h in (slot.free, slot), λ h. each.1 h.1)
 
 -- ---- the rule, where its case is known
 

@@ -1,7 +1,8 @@
 use Rattle.std.proofs.Common.{◌≡◌, suc, ◌+◌, ◌-◌, ◌*◌, ◌^◌, ◌<◌, length, sym, ◌∙◌, ap, ap₂, subst, arith}
 use Rattle.pat_place.specs.Patterns.{width}
+use Rattle.pat_place.specs.Ranks.{falling_factorial}
 use Rattle.pat_place.proofs.CountLemmas.{few_slots, few_placements}
-use Rattle.pat_place.proofs.RankLemmas.{falling, falling_more, falling_step_fits, count_of_placements}
+use Rattle.pat_place.proofs.RankLemmas.{falling_more, falling_step_fits, count_of_placements}
 use Rattle.pat_place.proofs.SideLemmas.{few_cells}
 use Rattle.pat_place.proofs.patterns.Pattern.count.Goals as goal
 
@@ -15,18 +16,20 @@ pub loop-placed-preserved : goal.loop-placed-preserved
 loop-placed-preserved c = (
   ap (λ x. x * (c.from-cells.result - c.loop-placed.placed)) c.loop-placed.invariant.0 ∙
       sym (falling_more c.from-cells.result c.loop-placed.placed) ∙
-      ap (falling c.from-cells.result) (let e : suc c.loop-placed.placed ≡ c.loop-placed.placed + 1 = omega arith in e),
+      ap (falling_factorial c.from-cells.result) (let e : suc c.loop-placed.placed ≡ c.loop-placed.placed + 1 = omega arith in e),
   c.loop-placed.invariant.1,
 )
 
-pub returns-clause-count : goal.returns-clause-count
-returns-clause-count c =
+pub returns-clause-product : goal.returns-clause-product
+returns-clause-product c =
     let side : c.self.inside.side ≡ c.args.self.now.side = ap (λ p. p.side) c.self.view_is in
     let cells : c.from-cells.result ≡ c.args.self.now.side * c.args.self.now.side = c.from-cells.ensures ∙ c.cells.ensures.value ∙ ap₂ (λ m n. m * n) side side in
     let placed : c.loop-placed.placed ≡ length c.args.self.now.tiles = omega arith in
     c.loop-placed.invariant.0 ∙
-    ap₂ falling cells placed ∙
-    sym (count_of_placements c.args.self.now.side (length c.args.self.now.tiles))
+    ap₂ falling_factorial cells placed
+
+pub returns-clause-count : goal.returns-clause-count
+returns-clause-count c = returns-clause-product c ∙ sym (count_of_placements c.args.self.now.side (length c.args.self.now.tiles))
 
 pub returns-clause-small : goal.returns-clause-small
 returns-clause-small c = subst (λ k. k * width c.args.self.now.side (length c.args.self.now.tiles) < 2 ^ 32) (sym (returns-clause-count c)) (few_slots c.args.self.now c.size.ensures.pattern)

@@ -1,5 +1,6 @@
 use Rattle.std.proofs.Common.{refl}
 use Rattle.std.proofs.lemmas.Bool.{false≢true, both_ways}
+use Rattle.pat_place.proofs.MaskOfLemmas.{mask_of-numbers_below}
 use Rattle.pat_place.proofs.PatternLemmas.{pattern_from, Tiles-from, Sized-from}
 use Rattle.pat_place.proofs.patterns.Pattern.of_mask.Goals as goal
 use Rattle.pat_place.proofs.patterns.Pattern.of_mask.Goals.{then-not-has_tiles_only-via-then-not-has_tiles_only, then-not-has_tiles_only-via-else-not-has_tiles_only+then-not-is_size}
@@ -17,6 +18,7 @@ pub invariant_of-result : goal.invariant_of-result
 invariant_of-result c = record {
   pattern = pattern_from c.args.side c.get-n.result c.args.mask c.get-n.ensures.value c.get-n.ensures.low c.get-n.ensures.high c.ranges.mask.fits (c.has_tiles_only.ensures.0 c.if-not-has_tiles_only.false) (c.is_size.ensures.0 c.if-not-is_size.false);
   bits = c.ranges.mask.fits;
+  of_tiles = mask_of-numbers_below 32 c.args.mask c.ranges.mask.fits;
 }
 
 pub returns-clause-pattern : goal.returns-clause-pattern

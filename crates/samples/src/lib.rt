@@ -1,0 +1,11 @@
+//! Sample tables, and gates that watch and hold workers, for the tests of several crates.
+#![tactic(auto)]
+
+pub mod files;
+mod gates;
+mod search;
+#[cfg(test)]
+mod tests;
+
+pub use gates::{HoldingGate, Log};
+pub use search::LeastCosts;
