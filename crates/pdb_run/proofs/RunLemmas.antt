@@ -1,5 +1,5 @@
 -- How a run ends.
-use Rattle.std.proofs.Common.{◌≡◌, List, Option, codes, subst, sym}
+use Rattle.std.proofs.Common.{◌≡◌, List, Option, codes, inr, subst, sym}
 use Rattle.pdb_io.specs.Shelves.{Bytes}
 use Rattle.pdb_io.specs.declared.streams.ReadFault.{ReadFault}
 use Rattle.pdb_io.specs.declared.streams.ReadFault.TheVariants.{F1, F2}
@@ -43,11 +43,20 @@ module _ (plan : Plan) (old new : World) (status : Status) where
     said = said;
   }
 
-  pub ends_replied : (wanted : List Wanted) (seen inputs : List Bytes) (reply : Reply) → wanted ≡ plan.inputs → AreRead old.files old.reader wanted inputs → seen ≡ inputs
-      → plan.MayReply seen reply → new.files ≡ old.files → Says (reply_text reply) (status_of_reply reply.is_yes) old.written new.written status → Ends plan old new status
-  ends_replied wanted seen inputs reply all are as_read right same said = record {
+  as_written : (text : Bytes) (with_text : Status) (was now : Option Bytes) → was ≡ old.written → now ≡ new.written → Says text with_text was now status → Says text with_text old.written new.written status
+  as_written text with_text was now is_old is_new said =
+      subst (λ (w : Option Bytes). Says text with_text old.written w status) is_new (subst (λ (w : Option Bytes). Says text with_text w now status) is_old said)
+
+  pub concluded_replied : (inputs : List Bytes) (reply : Reply) (was now : Option Bytes) → AreRead old.files old.reader plan.inputs inputs → plan.MayReply inputs reply → new.files ≡ old.files
+      → was ≡ old.written → now ≡ new.written → Says (reply_text reply) (status_of_reply reply.is_yes) was now status → Ends plan old new status
+  concluded_replied inputs reply was now are right same is_old is_new said = record {
     outcome = replied inputs reply;
-    cause = (subst (λ (ws : List Wanted). AreRead old.files old.reader ws inputs) all are, subst (λ (bs : List Bytes). plan.MayReply bs reply) as_read right);
+    cause = (are, right);
     files = same;
-    said = said;
+    said = as_written (reply_text reply) (status_of_reply reply.is_yes) was now is_old is_new said;
   }
+
+  pub concluded_no_memory : (inputs : List Bytes) (was now : Option Bytes) → AreRead old.files old.reader plan.inputs inputs → plan.TakesMemory inputs → new.files ≡ old.files
+      → was ≡ old.written → now ≡ new.written → Says memory_line NoMemory was now status → Ends plan old new status
+  concluded_no_memory inputs was now are takes same is_old is_new said =
+      ends_no_memory (inr (inputs, are, takes)) same (as_written memory_line NoMemory was now is_old is_new said)

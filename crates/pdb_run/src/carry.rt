@@ -1,13 +1,13 @@
-//! A run of a command.
+//! A run of a command: its beginning and its end. Between them the command checks.
 
-ghost use Rattle.std.specs.Prelude.{◌≡◌, ◌++◌, codes, map, MatchResult, OnOk, OnErr};
+ghost use Rattle.std.specs.Prelude.{◌≡◌, ◌++◌, codes, length, map, MatchResult, IfOk, IfErr, OnOk, OnErr};
 ghost use Rattle.std.specs.Io.KnownBytes.{Appends};
 ghost use Rattle.pdb_io.specs.Streams.{AppendsFront};
 ghost use Rattle.pdb_run.specs.Lines.{memory_line, named_line, reply_text, shown, shown_byte};
 ghost use Rattle.pdb_run.specs.Plans.{plan};
-ghost use Rattle.pdb_run.specs.Readings.{wanted_of};
-ghost use Rattle.pdb_run.specs.Replies.{reply_of};
-ghost use Rattle.pdb_run.specs.Runs.{Ends, Says, status_of, status_of_reply, text_of, unread, world};
+ghost use Rattle.pdb_run.specs.Readings.{AreRead, wanted_of};
+ghost use Rattle.pdb_run.specs.Replies.{all_bytes, reply_of};
+ghost use Rattle.pdb_run.specs.Runs.{Ends, Says, World, status_of, status_of_reply, text_of, unread, world};
 
 use crate::answer::{Answer, say};
 use crate::command::Command;
@@ -16,31 +16,49 @@ use crate::pages::Page;
 use crate::status::Status;
 use pdb_io::shelf::Shelf;
 use pdb_io::streams::{ReadFault, WriteFault, put_text};
-use std::alloc::Global;
+use std::alloc::{AllocError, Global};
 use std::io::{Read, Write};
 
-/// Reads the inputs of a command, and writes its answer on them, or why there is none.
-/// It waits where the command does, and nowhere else.
-pub fn carry_out<C: Command, S: Shelf, R: Read, W: Write>(
+/// Reads the inputs of a command. Where one can't be read, that is said, and the run has ended.
+pub fn read_inputs<C: Command, S: Shelf, R: Read, W: Write>(
     alloc: Global,
     command: &C,
     shelf: &mut S,
     reader: &mut R,
     out: &mut W,
-) -> Status
-    ensures { Ends (plan (C.wanted command.now) (C.MayReply command.now) (C.TakesMemory command.now))
+) -> Result<Vec<Vec<u8>>, Status>
+    ensures read { IfOk result (λ inputs. AreRead (S.held shelf.old) (R.remaining reader.old) (C.wanted command.now) (all_bytes inputs.items)) }
+    ensures count { IfOk result (λ inputs. length inputs.items ≡ length (C.wanted command.now)) }
+    ensures silent { OnOk result (W.contents out.new ≡ W.contents out.old) }
+    ensures ends { IfErr result (λ status. Ends (plan (C.wanted command.now) (C.MayReply command.now) (C.TakesMemory command.now))
         (world (S.held shelf.old) (S.has_failed shelf.old) (R.remaining reader.old) (W.contents out.old))
-        (world (S.held shelf.new) (S.has_failed shelf.new) (R.remaining reader.new) (W.contents out.new)) result }
+        (world (S.held shelf.new) (S.has_failed shelf.new) (R.remaining reader.new) (W.contents out.new)) status) }
+    ensures same { S.held shelf.new ≡ S.held shelf.old }
 {
     let Ok(wanted) = command.inputs(alloc) else {
-        return say_no_memory(out);
+        return Err(say_no_memory(out));
     };
-    let inputs = match load_all(alloc, wanted.as_slice(), shelf, reader) {
-        Ok(inputs) => inputs,
-        Err(fault) => return say_unread(&fault, out),
-    };
-    match command.answer(alloc, inputs.as_slice()) {
-        Ok(answer) => say_answer(&answer, out),
+    match load_all(alloc, wanted.as_slice(), shelf, reader) {
+        Ok(inputs) => Ok(inputs),
+        Err(fault) => Err(say_unread(&fault, out)),
+    }
+}
+
+/// Says what a command answers on the bytes of its inputs, or that its check wants memory. So a run ends that has read them.
+pub fn conclude<C: Command, W: Write>(
+    command: &C,
+    inputs: &[Vec<u8>],
+    answer: &Result<Answer<'_>, AllocError>,
+    out: &mut W,
+) -> Status
+    requires right { IfOk answer.now (λ a. C.MayReply command.now (all_bytes inputs.now) (reply_of a)) }
+    requires memory { OnErr answer.now (C.TakesMemory command.now (all_bytes inputs.now)) }
+    ensures { (old new : World) → AreRead old.files old.reader (C.wanted command.now) (all_bytes inputs.now) → new.files ≡ old.files
+        → W.contents out.old ≡ old.written → W.contents out.new ≡ new.written
+        → Ends (plan (C.wanted command.now) (C.MayReply command.now) (C.TakesMemory command.now)) old new result }
+{
+    match answer {
+        Ok(answer) => say_answer(answer, out),
         Err(_) => say_no_memory(out),
     }
 }

@@ -4,16 +4,14 @@ ghost use Rattle.std.specs.Prelude.{◌≡◌, ◌<◌, List, length, map, IfOk,
 ghost use Rattle.pdb_io.specs.Shelves.{Bytes};
 ghost use Rattle.pdb_run.specs.Plans.{Reply, Wanted};
 ghost use Rattle.pdb_run.specs.Readings.{wanted_of};
-ghost use Rattle.pdb_run.specs.Replies.{all_bytes, reply_of};
 
-use crate::answer::Answer;
 use crate::inputs::Input;
 use std::alloc::{AllocError, Global};
 
-/// A command, with all that its words say.
+/// A command, with all that its words say: what it wants read, and what it may answer on what was read.
 ///
-/// It reads and writes nothing itself: it says what it wants read, and answers on what was read. An impl for a struct
-/// with a handle may wait; one without returns.
+/// Its check stands between `read_inputs` and `conclude`, in a function of its own: so a command that waits for nobody
+/// has a run that returns.
 pub trait Command {
     /// Its inputs, in order.
     ghost wanted: { Self → List Wanted };
@@ -28,10 +26,4 @@ pub trait Command {
     fn inputs(&self, alloc: Global) -> Result<Vec<Input<'_>>, AllocError>
         ensures all { IfOk result (λ inputs. map wanted_of inputs.items ≡ wanted self.now) }
         ensures memory { OnErr result (0 < length (wanted self.now)) };
-
-    /// The answer on the bytes of its inputs. Want of memory comes only where the check of these bytes takes some.
-    fn answer<'i>(&self, alloc: Global, inputs: &'i [Vec<u8>]) -> Result<Answer<'i>, AllocError>
-        requires { length inputs.now ≡ length (wanted self.now) }
-        ensures right { IfOk result (λ answer. MayReply self.now (all_bytes inputs.now) (reply_of answer)) }
-        ensures memory { OnErr result (TakesMemory self.now (all_bytes inputs.now)) };
 }

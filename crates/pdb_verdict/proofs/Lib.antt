@@ -1,0 +1,4 @@
+mod LineLemmas
+mod ReplayLemmas
+mod TableLemmas
+mod VerdictLemmas

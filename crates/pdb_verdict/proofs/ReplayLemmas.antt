@@ -1,0 +1,77 @@
+-- A puzzle text has one result, and it is a solution exactly where the moves solve the board.
+use Rattle.std.proofs.Common.{◌≡◌, ◌∙◌, ◌↔◌, ℕ, List, Option, Some, None, Result, Ok, Err, ap, refl, sym}
+use Rattle.puz_board.specs.BoardTexts.{board_of_text}
+use Rattle.puz_board.specs.MovesTexts.{replay_of}
+use Rattle.puz_board.specs.PuzzleTexts.{puzzle_parts}
+use Rattle.puz_board.specs.declared.replays.MoveFault.{MoveFault}
+use Rattle.puz_board.specs.declared.texts.BoardFault.{BoardFault}
+use Rattle.puz_board.proofs.PuzzleLemmas.{puzzle-puzzle_parts, puzzle_parts-puzzle}
+use Rattle.puz_board.proofs.SolutionLemmas.{replay_of-solved, solved-replay_of}
+use Rattle.puz_board.proofs.SpellingLemmas.{board_of_text-spelled, spelled-board_of_text}
+use Rattle.tab_check.specs.declared.census.Census.{Census}
+use Rattle.pdb_verdict.specs.Replays.{IsReplayResult, IsSolvedPuzzle, of_board, of_moves, of_parts}
+use Rattle.pdb_verdict.specs.declared.verdict.Fault.{Fault}
+use Rattle.pdb_verdict.specs.declared.verdict.Verdict.{Verdict}
+use Rattle.pdb_verdict.specs.declared.verdict.Verdict.TheVariants as verdict
+
+pub no_yes : {A E : Type 0} (e : E) (x : A) → ◌≡◌ {A = Result A E} (Err e) (Ok x) → ⊥
+no_yes e x same = cc
+
+no_exact : (parts : Option (List ℕ × List ℕ)) (side mask : ℕ) (census : Census) → of_parts parts ≡ Ok (verdict.Exact side mask census) → ⊥
+no_exact None side mask census is = no_yes _ _ is
+no_exact (Some parts) side mask census is = of_board_no (board_of_text parts.0) is
+  where
+    of_moves_no : (r : Result ℕ MoveFault) → of_moves r ≡ Ok (verdict.Exact side mask census) → ⊥
+    of_moves_no (Err refused) e = no_yes _ _ e
+    of_moves_no (Ok n) e = cc
+
+    of_board_no : (r : Result (List ℕ) BoardFault) → of_board r parts.1 ≡ Ok (verdict.Exact side mask census) → ⊥
+    of_board_no (Err refused) e = no_yes _ _ e
+    of_board_no (Ok board) e = of_moves_no (replay_of board parts.1) e
+
+of_parts-solved : (puzzle : List ℕ) (n : ℕ) → IsSolvedPuzzle puzzle n → of_parts (puzzle_parts puzzle) ≡ Ok (verdict.Solution n)
+of_parts-solved puzzle n h =
+    ap of_parts (puzzle_parts-puzzle puzzle h.board_text h.moves_text h.parts)
+    ∙ ap (λ (r : Result (List ℕ) BoardFault). of_board r h.moves_text) (board_of_text-spelled h.board_text h.board h.spelt)
+    ∙ ap of_moves (replay_of-solved h.board h.moves_text n h.spelt.board h.solved)
+
+solved_by_moves : (puzzle board_text moves_text board : List ℕ) (n : ℕ) (r : Result ℕ MoveFault) → puzzle_parts puzzle ≡ Some (board_text, moves_text)
+    → board_of_text board_text ≡ Ok board → replay_of board moves_text ≡ r → of_moves r ≡ Ok (verdict.Solution n) → IsSolvedPuzzle puzzle n
+solved_by_moves puzzle board_text moves_text board n (Err refused) parts spelt replayed is = absurd (no_yes _ _ is)
+solved_by_moves puzzle board_text moves_text board n (Ok m) parts spelt replayed is =
+    let spells = spelled-board_of_text board_text board spelt in
+    let same : m ≡ n = cc in
+    record {
+      board = board;
+      board_text = board_text;
+      moves_text = moves_text;
+      parts = puzzle-puzzle_parts {A = List ℕ × List ℕ} puzzle (Some (board_text, moves_text)) (λ p. p.0) (λ p. p.1) (sym parts);
+      spelt = spells;
+      solved = solved-replay_of board moves_text n spells.board (replayed ∙ ap (λ (k : ℕ). Ok k) same);
+    }
+
+solved_by_board : (puzzle board_text moves_text : List ℕ) (n : ℕ) (r : Result (List ℕ) BoardFault) → puzzle_parts puzzle ≡ Some (board_text, moves_text)
+    → board_of_text board_text ≡ r → of_board r moves_text ≡ Ok (verdict.Solution n) → IsSolvedPuzzle puzzle n
+solved_by_board puzzle board_text moves_text n (Err refused) parts spelt is = absurd (no_yes _ _ is)
+solved_by_board puzzle board_text moves_text n (Ok board) parts spelt is =
+    solved_by_moves puzzle board_text moves_text board n (replay_of board moves_text) parts spelt refl is
+
+solved_by_parts : (puzzle : List ℕ) (n : ℕ) (o : Option (List ℕ × List ℕ)) → puzzle_parts puzzle ≡ o → of_parts o ≡ Ok (verdict.Solution n) → IsSolvedPuzzle puzzle n
+solved_by_parts puzzle n None parts is = absurd (no_yes _ _ is)
+solved_by_parts puzzle n (Some p) parts is = solved_by_board puzzle p.0 p.1 n (board_of_text p.0) parts refl is
+
+-- a number of moves is the result exactly where so many moves solve the puzzle
+pub IsReplayResult-solution : (puzzle : List ℕ) (n : ℕ) → IsReplayResult puzzle (Ok (verdict.Solution n)) ↔ (IsSolvedPuzzle puzzle n)
+IsReplayResult-solution puzzle n = (λ is. solved_by_parts puzzle n (puzzle_parts puzzle) refl (sym is), λ h. sym (of_parts-solved puzzle n h))
+
+-- so an answer that is the result says a number of moves exactly there
+pub says_solution : (puzzle : List ℕ) (answer : Result Verdict Fault) (n : ℕ) → IsReplayResult puzzle answer → (answer ≡ Ok (verdict.Solution n)) ↔ (IsSolvedPuzzle puzzle n)
+says_solution puzzle answer n is = (λ same. (IsReplayResult-solution puzzle n).0 (sym same ∙ is), λ h. is ∙ sym ((IsReplayResult-solution puzzle n).1 h))
+
+-- and never that a table is exact
+pub IsReplayResult-no_exact : (puzzle : List ℕ) (side mask : ℕ) (census : Census) → IsReplayResult puzzle (Ok (verdict.Exact side mask census)) → ⊥
+IsReplayResult-no_exact puzzle side mask census is = no_exact (puzzle_parts puzzle) side mask census (sym is)
+
+-- there is one result
+pub IsReplayResult-one : (puzzle : List ℕ) (a b : Result Verdict Fault) → IsReplayResult puzzle a → IsReplayResult puzzle b → a ≡ b
+IsReplayResult-one puzzle a b is also = is ∙ sym also

@@ -1,0 +1,38 @@
+-- Inputs have one result, and it is a verdict exactly where that is true.
+use Rattle.std.proofs.Common.{◌≡◌, ◌∙◌, ◌↔◌, ◌⊎◌, inl, inr, Result, Ok, subst, sym}
+use Rattle.pdb_verdict.proofs.ReplayLemmas.{IsReplayResult-no_exact, IsReplayResult-one, IsReplayResult-solution, no_yes}
+use Rattle.pdb_verdict.proofs.TableLemmas.{IsTableResult-one}
+use Rattle.pdb_verdict.specs.Given.{Given, puzzle_text, table_file}
+use Rattle.pdb_verdict.specs.Verdicts.{IsAnswerTo, IsResult, IsTrueOf, LacksMemory}
+use Rattle.pdb_verdict.specs.declared.verdict.Fault.{Fault}
+use Rattle.pdb_verdict.specs.declared.verdict.Verdict.{Verdict}
+use Rattle.pdb_verdict.specs.declared.verdict.Verdict.TheVariants as verdict
+
+-- a verdict is the result exactly where it is true
+pub IsResult-true : (inputs : Given) (verdict : Verdict) → IsResult inputs (Ok verdict) ↔ IsTrueOf inputs verdict
+IsResult-true (puzzle_text puzzle) (verdict.Solution n) =
+    IsReplayResult-solution puzzle n
+IsResult-true (puzzle_text puzzle) (verdict.Exact side mask census) =
+    (IsReplayResult-no_exact puzzle side mask census, λ h. absurd h)
+IsResult-true (table_file table) (verdict.Solution n) = (λ is. is, λ h. h)
+IsResult-true (table_file table) (verdict.Exact side mask census) = (λ is. is, λ h. h)
+
+-- there is one result
+pub IsResult-one : (inputs : Given) (a b : Result Verdict Fault) → IsResult inputs a → IsResult inputs b → a ≡ b
+IsResult-one (puzzle_text puzzle) a b is other = IsReplayResult-one puzzle a b is other
+IsResult-one (table_file table) a b is other = IsTableResult-one table a b is other
+
+-- a yes is answered only where it is true
+pub yes_is_true : (inputs : Given) (answer : Result Verdict Fault) → IsAnswerTo inputs answer → (verdict : Verdict) → answer ≡ Ok verdict → IsTrueOf inputs verdict
+yes_is_true inputs answer is verdict same = elim is [
+  | inl result ↦ (IsResult-true inputs verdict).0 (subst (λ (a : Result Verdict Fault). IsResult inputs a) same result)
+  | inr lacks ↦ absurd (no_yes _ _ (sym lacks.1 ∙ same))
+]
+
+-- and always then, where memory is there
+pub true_is_yes : (inputs : Given) (answer : Result Verdict Fault) → IsAnswerTo inputs answer → (verdict : Verdict) → IsTrueOf inputs verdict
+    → (answer ≡ Ok verdict) ⊎ LacksMemory inputs answer
+true_is_yes inputs answer is verdict holds = elim is [
+  | inl result ↦ inl (IsResult-one inputs answer (Ok verdict) result ((IsResult-true inputs verdict).1 holds))
+  | inr lacks ↦ inr lacks
+]

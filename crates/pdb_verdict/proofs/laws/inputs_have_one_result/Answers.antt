@@ -1,0 +1,5 @@
+use Rattle.pdb_verdict.proofs.VerdictLemmas.{IsResult-one}
+use Rattle.pdb_verdict.proofs.laws.inputs_have_one_result.Goals as goal
+
+pub returns : goal.returns
+returns c = IsResult-one

@@ -1,0 +1,20 @@
+-- The most bytes of each kind of input.
+use Rattle.std.specs.Prelude.{ℕ, ◌^◌, Option, Some}
+use Rattle.pdb_io.specs.Shelves.{Bytes}
+use Rattle.pdb_run.specs.Plans.{Wanted}
+
+-- of a board text or a puzzle text
+abbrev pub text_limit : ℕ
+text_limit = 65536
+
+-- of a table file
+abbrev pub table_limit : ℕ
+table_limit = 2 ^ 32
+
+-- a text under this name, or of the reader
+abbrev pub a_text : Option Bytes → Wanted
+a_text name = record { name = name; limit = text_limit }
+
+-- a table file under this name
+abbrev pub a_table : Bytes → Wanted
+a_table name = record { name = Some name; limit = table_limit }

@@ -1,0 +1,102 @@
+-- The lines that a verdict or a refusal is told in.
+use Rattle.std.specs.Prelude.{◌≡◌, ℕ, Bool, true, false, if◌then◌else◌, is_ok, List, [], ◌∷◌, ◌++◌, Result, Ok, Err, codes, decimal}
+use Rattle.puz_board.specs.declared.replays.MoveFault.{MoveFault}
+use Rattle.puz_board.specs.declared.replays.MoveFault.TheVariants.{M1, M2, M3, M4}
+use Rattle.puz_board.specs.declared.texts.BoardFault.{BoardFault}
+use Rattle.puz_board.specs.declared.texts.BoardFault.TheVariants.{B1, B2, B3, B4, B5}
+use Rattle.tab_file.specs.declared.headers.HeadFault.{HeadFault}
+use Rattle.tab_file.specs.declared.headers.HeadFault.TheVariants.{T1, T2, T3, T4, T5, T6}
+use Rattle.tab_check.specs.declared.census.Census.{Census}
+use Rattle.tab_check.specs.declared.tables.TableRefusal.{TableRefusal}
+use Rattle.tab_check.specs.declared.tables.TableRefusal.TheVariants.{Head, T7}
+use Rattle.pdb_io.specs.Shelves.{Bytes}
+use Rattle.pdb_run.specs.Lines.{memory_line, reply_text}
+use Rattle.pdb_run.specs.Plans.{Reply}
+use Rattle.pdb_verdict.specs.Given.{Given, puzzle_text, table_file}
+use Rattle.pdb_verdict.specs.declared.verdict.Fault.{Fault}
+use Rattle.pdb_verdict.specs.declared.verdict.Fault.TheVariants as fault
+use Rattle.pdb_verdict.specs.declared.verdict.Verdict.{Verdict}
+use Rattle.pdb_verdict.specs.declared.verdict.Verdict.TheVariants as verdict
+
+-- a text, a number, and the line's end
+abbrev pub counted : Bytes → ℕ → Bytes
+counted text n = text ++ decimal n ++ codes "\n"
+
+-- of a refused board text
+abbrev pub line_of_board_fault : BoardFault → Bytes
+line_of_board_fault (B1 place) = counted (codes "refused B1 at byte ") place
+line_of_board_fault (B2 place) = counted (codes "refused B2 at byte ") place
+line_of_board_fault (B3 count) = counted (codes "refused B3 count ") count
+line_of_board_fault (B4 index) = counted (codes "refused B4 at number ") index
+line_of_board_fault (B5 index) = counted (codes "refused B5 at number ") index
+
+-- of a refused moves text
+abbrev pub line_of_move_fault : MoveFault → Bytes
+line_of_move_fault (M1 place) = counted (codes "refused M1 at byte ") place
+line_of_move_fault (M2 step) = counted (codes "refused M2 at step ") step
+line_of_move_fault M3 = codes "refused M3\n"
+line_of_move_fault M4 = codes "refused M4\n"
+
+-- of a refused header of a table file
+abbrev pub line_of_head_fault : HeadFault → Bytes
+line_of_head_fault T1 = codes "refused T1\n"
+line_of_head_fault T2 = codes "refused T2\n"
+line_of_head_fault T3 = codes "refused T3\n"
+line_of_head_fault T4 = codes "refused T4\n"
+line_of_head_fault T5 = codes "refused T5\n"
+line_of_head_fault T6 = codes "refused T6\n"
+
+-- of a refused table file
+abbrev pub line_of_table_refusal : TableRefusal → Bytes
+line_of_table_refusal (Head refused) = line_of_head_fault refused
+line_of_table_refusal (T7 number) = counted (codes "refused T7 at entry ") number
+
+-- of a refusal, or of want of memory
+abbrev pub line_of_fault : Fault → Bytes
+line_of_fault fault.P1 = codes "refused P1\n"
+line_of_fault (fault.Board refused) = line_of_board_fault refused
+line_of_fault (fault.Moves refused) = line_of_move_fault refused
+line_of_fault (fault.Table refused) = line_of_table_refusal refused
+line_of_fault fault.Memory = memory_line
+
+-- the side and the mask of a table's pattern, and its census
+abbrev pub exact_line : ℕ → ℕ → Census → Bytes
+exact_line side mask census =
+    codes "exact side " ++ decimal side ++ codes " mask " ++ decimal mask ++ codes " entries " ++ decimal census.entries
+    ++ codes " unreachable " ++ decimal census.unreachable ++ codes " deepest " ++ decimal census.deepest ++ codes "\n"
+
+-- of a yes
+abbrev pub line_of_verdict : Verdict → Bytes
+line_of_verdict (verdict.Solution n) = counted (codes "solution ") n
+line_of_verdict (verdict.Exact side mask census) = exact_line side mask census
+
+-- of an answer
+abbrev pub line_of : Result Verdict Fault → Bytes
+line_of (Ok taken) = line_of_verdict taken
+line_of (Err refused) = line_of_fault refused
+
+-- ---- behind the digests of files
+
+-- the files whose digests are told
+abbrev pub digested_of : Given → List Bytes
+digested_of (puzzle_text puzzle) = []
+digested_of (table_file table) = table ∷ []
+
+-- an answer on inputs, as a run tells it
+abbrev pub reply_to : Given → Result Verdict Fault → Reply
+reply_to inputs answer = record { digested = digested_of inputs; lines = line_of answer; is_yes = is_ok answer }
+
+-- want of memory is said without digests
+abbrev pub stands_alone : Result Verdict Fault → Bool
+stands_alone (Err fault.Memory) = true
+stands_alone answer = false
+
+-- all lines on the inputs: the digests, and then the answer's line
+abbrev pub lines_of : Given → Result Verdict Fault → Bytes
+lines_of inputs answer = if stands_alone answer then line_of answer else reply_text (reply_to inputs answer)
+
+-- a reply on inputs tells an answer of which this holds
+pub record Tells (inputs : Given) (IsAnswer : Result Verdict Fault → Type 0) (reply : Reply) : Type 0 where
+  pub answer : Result Verdict Fault
+  pub is_answer : IsAnswer answer
+  pub told : reply ≡ reply_to inputs answer

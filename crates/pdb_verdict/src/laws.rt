@@ -1,0 +1,13 @@
+//! What holds of all inputs. Each function here says it, and does nothing.
+
+ghost use Rattle.pdb_verdict.specs.Laws.{InputsHaveOneResult, ResultsAreTrueVerdicts};
+
+/// Inputs have not two results.
+pub fn inputs_have_one_result()
+    ensures { InputsHaveOneResult }
+{}
+
+/// A verdict is the result exactly where it is true.
+pub fn results_are_true_verdicts()
+    ensures { ResultsAreTrueVerdicts }
+{}

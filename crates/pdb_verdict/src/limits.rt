@@ -1,0 +1,33 @@
+//! The most bytes of each kind of input.
+
+ghost use Rattle.std.specs.Prelude.{◌≡◌, Some, option_map};
+ghost use Rattle.pdb_run.specs.Readings.{wanted_of};
+ghost use Rattle.pdb_verdict.specs.Limits.{a_table, a_text};
+
+use pdb_run::Input;
+
+/// The most bytes of a board text or a puzzle text.
+const TEXT_LIMIT: u64 = 65_536;
+
+/// The most bytes of a table file.
+const TABLE_LIMIT: u64 = 1 << 32;
+
+/// A text under this name, or of the reader.
+pub(crate) fn a_text<'a>(name: Option<&'a str>) -> Input<'a>
+    ensures { wanted_of result ≡ a_text (option_map (λ s. s.now) name.entry) }
+{
+    Input {
+        name,
+        limit: TEXT_LIMIT,
+    }
+}
+
+/// A table file under this name.
+pub(crate) fn a_table<'a>(name: &'a str) -> Input<'a>
+    ensures { wanted_of result ≡ a_table name.now }
+{
+    Input {
+        name: Some(name),
+        limit: TABLE_LIMIT,
+    }
+}

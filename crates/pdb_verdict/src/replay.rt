@@ -1,0 +1,90 @@
+//! Whether the moves of a puzzle text solve its board.
+
+ghost use Rattle.std.specs.Prelude.{◌≡◌, ◌↔◌, ℕ, Ok, length, option_map};
+ghost use Rattle.pdb_run.specs.Replies.{all_bytes, reply_of};
+ghost use Rattle.pdb_run.specs.Runs.{Ends, world};
+ghost use Rattle.pdb_verdict.specs.Replays.{IsReplayReply, IsReplayResult, IsSolvedPuzzle, replay_inputs, replay_plan};
+ghost use Rattle.pdb_verdict.specs.declared.verdict.Verdict.TheVariants.{Solution};
+
+use crate::inputs::Inputs;
+use crate::limits::a_text;
+use crate::reports::answer_on;
+use crate::verdict::{Fault, Verdict};
+use pdb_io::shelf::Shelf;
+use pdb_run::{Answer, Command, Input, Status, conclude, read_inputs};
+use puz_board::{Board, replay, split_puzzle};
+use std::alloc::{AllocError, Global};
+use std::io::{Read, Write};
+
+/// The command `replay`: the verdict on the puzzle text under this name, or of the reader.
+#[derive(Clone, Copy)]
+struct Replay<'a> {
+    name: Option<&'a str>,
+}
+
+impl Command for Replay<'_> {
+    ghost wanted = { λ command. replay_inputs (option_map (λ s. s.now) command.name) };
+
+    ghost MayReply = { λ _. IsReplayReply };
+
+    ghost TakesMemory = { λ _ _. ⊥ };
+
+    fn inputs(&self, alloc: Global) -> Result<Vec<Input<'_>>, AllocError> {
+        let mut inputs = Vec::new(alloc);
+        inputs.push(a_text(self.name))?;
+        Ok(inputs)
+    }
+}
+
+/// A whole run of `replay`, without threads: it returns where its shelf, its reader and its writer do.
+pub fn run_replay<S: Shelf, R: Read, W: Write>(
+    alloc: Global,
+    name: Option<&str>,
+    shelf: &mut S,
+    reader: &mut R,
+    out: &mut W,
+) -> Status
+    ensures { Ends (replay_plan (option_map (λ s. s.now) name.entry))
+        (world (S.held shelf.old) (S.has_failed shelf.old) (R.remaining reader.old) (W.contents out.old))
+        (world (S.held shelf.new) (S.has_failed shelf.new) (R.remaining reader.new) (W.contents out.new)) result }
+{
+    let command = Replay { name };
+    match read_inputs(alloc, &command, shelf, reader, out) {
+        Ok(inputs) => {
+            let answer = Ok(answer_replay(inputs.as_slice()));
+            conclude(&command, inputs.as_slice(), &answer, out)
+        }
+        Err(status) => status,
+    }
+}
+
+/// The answer on the bytes of the one input.
+fn answer_replay<'i>(inputs: &'i [Vec<u8>]) -> Answer<'i>
+    requires { length inputs.now ≡ 1 }
+    ensures { IsReplayReply (all_bytes inputs.now) (reply_of result) }
+{
+    let puzzle = inputs[0].as_slice();
+    answer_on(&Inputs::Replay { puzzle }, &verify_puzzle(puzzle))
+}
+
+/// The verdict on a puzzle text: the moves behind its first `;` are a solution of the board before it. Or the first
+/// refusal that stands: `P1`, then the board's, then the moves'. It takes no memory and waits for nobody.
+pub fn verify_puzzle(puzzle: &[u8]) -> Result<Verdict, Fault>
+    // A yes comes exactly where it is true.
+    ensures solved { (n : ℕ) → (result ≡ Ok (Solution n)) ↔ (IsSolvedPuzzle puzzle.now n) }
+
+    // Which refusal it is.
+    ensures exact { IsReplayResult puzzle.now result }
+{
+    replay_result(puzzle)
+}
+
+/// The result on a puzzle text.
+fn replay_result(puzzle: &[u8]) -> Result<Verdict, Fault>
+    ensures { IsReplayResult puzzle.now result }
+{
+    let (board, moves) = split_puzzle(puzzle).ok_or(Fault::P1)?;
+    let board = Board::read(board).map_err(Fault::Board)?;
+    let count = replay(&board, moves).map_err(Fault::Moves)?;
+    Ok(Verdict::Solution(count))
+}

@@ -1,0 +1,31 @@
+//! Who checks what has many blocks.
+
+ghost use Rattle.std.specs.Prelude.{◌≡◌, ◌<◌, ◌≤◌, ℕ};
+
+use std::marker::Model;
+
+/// Workers: what starts their threads, how many they are, from 1 to 64, and the gate that each passes before a block.
+#[derive(Drop)]
+pub struct Workers<'a, H, G> {
+    pub(crate) rt: &'a H,
+    pub(crate) count: u8,
+    pub(crate) gate: &'a G,
+}
+
+impl<'a, H, G> Model for Workers<'a, H, G> {
+    ghost Value = { ℕ };
+
+    ghost view = { λ workers. workers.count };
+
+    ghost invariant = { λ workers. (0 < workers.count) × (workers.count ≤ 64) };
+}
+
+impl<'a, H, G> Workers<'a, H, G> {
+    /// So many workers.
+    pub fn new(rt: &'a H, count: u8, gate: &'a G) -> Workers<'a, H, G>
+        requires { (0 < count) × (count ≤ 64) }
+        ensures { result ≡ count }
+    {
+        Workers { rt, count, gate }
+    }
+}
