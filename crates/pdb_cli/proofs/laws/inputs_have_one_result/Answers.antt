@@ -1,5 +1,0 @@
-use Rattle.pdb_cli.proofs.VerdictLemmas.{IsResult-one}
-use Rattle.pdb_cli.proofs.laws.inputs_have_one_result.Goals as goal
-
-pub returns : goal.returns
-returns c = IsResult-one

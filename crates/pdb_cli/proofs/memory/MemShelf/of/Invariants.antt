@@ -1,6 +1,0 @@
-use Rattle.std.proofs.Common.{◌≡◌, ℕ, List, false, take}
-use Rattle.pdb_cli.specs.Shelves.{files_in, files_of}
-use Rattle.pdb_cli.proofs.memory.MemShelf.of.Given as goal
-
-abbrev pub invariant-loop-file : goal.invariant-loop-file
-invariant-loop-file l = ((name : List ℕ) → files_in l.shelf name ≡ files_of (take l.file-index l.files) name) × (l.shelf.has_failed ≡ false)

@@ -1,0 +1,20 @@
+use Rattle.pdb_program.proofs.ProgramLemmas.{answered_by}
+use Rattle.pdb_program.proofs.programs.run.Goals as goal
+
+pub returns-clause-answered : goal.returns-clause-answered
+returns-clause-answered g c = λ parses is.
+    let same = c.as_slice.ensures.value in
+    let ends = c.answer.ensures.ends (rw same parses) in
+    answered_by _ _ _ c.code.result c.answer.result c.code.ensures (rw same at ends) is
+
+pub returns-clause-ends : goal.returns-clause-ends
+returns-clause-ends g c = λ parses.
+    let same = c.as_slice.ensures.value in
+    let ends = c.answer.ensures.ends (rw same parses) in
+    (c.answer.result, c.code.ensures, rw same at ends)
+
+pub returns-clause-refuses : goal.returns-clause-refuses
+returns-clause-refuses g c = λ fails.
+    let same = c.as_slice.ensures.value in
+    let refuses = c.answer.ensures.refuses (λ parses. fails (rw same at parses)) in
+    (c.answer.result, c.code.ensures, rw same at refuses)

@@ -1,0 +1,13 @@
+use Rattle.std.proofs.Common.{◌∙◌, ap}
+use Rattle.pdb_run.specs.Statuses.{number_of}
+use Rattle.pdb_program.proofs.ProgramLemmas.{runs_on}
+use Rattle.pdb_program.proofs.starts.start.Goals as goal
+
+pub returns-in-Ok-clause-runs : goal.returns-in-Ok-clause-runs
+returns-in-Ok-clause-runs g c =
+    rw c.in-Ok.is (runs_on _ _ _ _ _ _ _ c.words_in.ensures c.run.ensures.ends c.run.ensures.refuses c.run.ensures.quiet c.run.ensures.same)
+
+pub returns-in-Err-clause-unreadable : goal.returns-in-Err-clause-unreadable
+returns-in-Err-clause-unreadable g c = rw c.in-Err.is (λ no.
+    let told = c.without_words.ensures.unreadable no in
+    (told.0, told.1, c.code.ensures ∙ ap number_of told.2))

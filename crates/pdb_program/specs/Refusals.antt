@@ -1,0 +1,30 @@
+-- What a run says of words that don't parse.
+use Rattle.std.specs.Prelude.{◌≡◌, ◌⊎◌, List, Option}
+use Rattle.std.specs.Io.KnownBytes.{Appends, Keeps}
+use Rattle.pdb_io.specs.Shelves.{Bytes}
+use Rattle.pdb_io.specs.Streams.{AppendsFront}
+use Rattle.pdb_run.specs.Lines.{memory_line}
+use Rattle.pdb_run.specs.Runs.{Says}
+use Rattle.pdb_run.specs.declared.status.Status.{Status}
+use Rattle.pdb_run.specs.declared.status.Status.TheVariants.{Yes, Fault, NoMemory}
+use Rattle.pdb_words.specs.Faults.{AsksForHelp, IsMistaken}
+
+-- a text was written whole, or a proper front of it
+abbrev pub Tells : Bytes → Option Bytes → Option Bytes → Type 0
+Tells text old new = Appends old new text ⊎ AppendsFront old new text
+
+-- the errors got some text, and the output nothing
+abbrev pub TellsMistake : (old_out new_out old_err new_err : Option Bytes) → Status → Type 0
+TellsMistake old_out new_out old_err new_err status =
+    Keeps old_out new_out × ((text : Bytes) × Tells text old_err new_err) × (status ≡ Fault)
+
+-- the output got a text behind what stood there, with a yes, or a proper front of it
+abbrev pub ShowsHelp : (old_out new_out : Option Bytes) → Status → Type 0
+ShowsHelp old_out new_out status = (help : Bytes) × Says help Yes old_out new_out status
+
+-- want of memory, or a mistake on the errors, or help on the output
+abbrev pub Refuses : List Bytes → (old_out new_out old_err new_err : Option Bytes) → Status → Type 0
+Refuses words old_out new_out old_err new_err status =
+    (Says memory_line NoMemory old_out new_out status × Keeps old_err new_err)
+    ⊎ (IsMistaken words × TellsMistake old_out new_out old_err new_err status)
+    ⊎ (AsksForHelp words × ShowsHelp old_out new_out status × Keeps old_err new_err)

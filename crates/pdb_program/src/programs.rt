@@ -1,0 +1,87 @@
+//! A run of the program on words.
+
+ghost use Rattle.std.specs.Prelude.{◌≡◌, ◌⊎◌, map, string_bytes};
+ghost use Rattle.std.specs.Io.KnownBytes.{Keeps};
+ghost use Rattle.pdb_run.specs.Runs.{Ends, IsAnswered, world};
+ghost use Rattle.pdb_words.specs.CommandLine.{Parses, asked_of};
+ghost use Rattle.pdb_words.specs.Faults.{IsMistaken};
+ghost use Rattle.pdb_program.specs.Programs.{IsNumberOf, plan_of};
+ghost use Rattle.pdb_program.specs.Refusals.{Refuses};
+
+use crate::refusals::explain;
+use pdb_io::shelf::Shelf;
+use pdb_run::Status;
+use pdb_verdict::{Workers, run_replay, run_table};
+use pdb_words::{Request, read_words};
+use std::alloc::Global;
+use std::io::{Read, Write};
+use std::sync::Wait;
+use std::thread::Threads;
+use work_run::Gate;
+
+/// Does what the words ask for, and answers the status: 0 for a yes, 1 for a refusal, 2 for bad words or a fault
+/// of a read or a write, 3 for want of memory.
+///
+/// The words leave out the program's own name. Without any it is `replay` on the reader. Workers pass the gate.
+pub fn run<H: Threads + Wait, S: Shelf, R: Read, W: Write, E: Write, G: Gate + Sync>(
+    rt: &H,
+    alloc: Global,
+    words: Vec<String>,
+    shelf: &mut S,
+    reader: &mut R,
+    out: &mut W,
+    err: &mut E,
+    gate: &G,
+) -> u8
+    // With a yes or a no the writer got exactly the lines on the inputs that the words ask for.
+    ensures answered { let words = map string_bytes words.items in Parses words → (result ≡ 0) ⊎ (result ≡ 1)
+        → IsNumberOf (IsAnswered (plan_of (asked_of words))
+        (world (S.held shelf.old) (S.has_failed shelf.old) (R.remaining reader.old) (W.contents out.old))
+        (world (S.held shelf.new) (S.has_failed shelf.new) (R.remaining reader.new) (W.contents out.new))) result }
+
+    // In any case it is one thing that the run has cause to say, or a proper front of it where the writer failed.
+    ensures ends { let words = map string_bytes words.items in Parses words
+        → IsNumberOf (Ends (plan_of (asked_of words))
+        (world (S.held shelf.old) (S.has_failed shelf.old) (R.remaining reader.old) (W.contents out.old))
+        (world (S.held shelf.new) (S.has_failed shelf.new) (R.remaining reader.new) (W.contents out.new))) result }
+
+    // Words that don't parse.
+    ensures refuses { let words = map string_bytes words.items in (Parses words → ⊥)
+        → IsNumberOf (Refuses words (W.contents out.old) (W.contents out.new) (E.contents err.old) (E.contents err.new)) result }
+    ensures quiet { Keeps (E.contents err.old) (E.contents err.new) ⊎ IsMistaken (map string_bytes words.items) }
+
+    // The shelf keeps its bytes.
+    ensures same { S.held shelf.new ≡ S.held shelf.old }
+{
+    answer(rt, alloc, words.as_slice(), shelf, reader, out, err, gate).code()
+}
+
+/// Does what the words ask for.
+fn answer<H: Threads + Wait, S: Shelf, R: Read, W: Write, E: Write, G: Gate + Sync>(
+    rt: &H,
+    alloc: Global,
+    words: &[String],
+    shelf: &mut S,
+    reader: &mut R,
+    out: &mut W,
+    err: &mut E,
+    gate: &G,
+) -> Status
+    ensures ends { let words = map string_bytes words.now in Parses words
+        → Ends (plan_of (asked_of words))
+        (world (S.held shelf.old) (S.has_failed shelf.old) (R.remaining reader.old) (W.contents out.old))
+        (world (S.held shelf.new) (S.has_failed shelf.new) (R.remaining reader.new) (W.contents out.new)) result }
+    ensures refuses { let words = map string_bytes words.now in (Parses words → ⊥)
+        → Refuses words (W.contents out.old) (W.contents out.new) (E.contents err.old) (E.contents err.new) result }
+    ensures quiet { Keeps (E.contents err.old) (E.contents err.new) ⊎ IsMistaken (map string_bytes words.now) }
+    ensures same { S.held shelf.new ≡ S.held shelf.old }
+{
+    match read_words(alloc, words) {
+        Ok(Request::Replay(name)) => run_replay(alloc, name, shelf, reader, out),
+        Ok(Request::Table { file, workers }) => {
+            let workers = Workers::new(rt, workers, gate);
+            run_table(alloc, file, &workers, shelf, reader, out)
+        }
+        Err(fault) => explain(fault, out, err),
+    }
+}

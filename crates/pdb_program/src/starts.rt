@@ -1,0 +1,73 @@
+//! A run of the program, from what the system gave as its arguments.
+
+ghost use Rattle.std.specs.Prelude.{◌≡◌, ◌≢◌, drop, map, string_bytes, IfErr, IfOk};
+ghost use Rattle.std.specs.IoError.{error_kind};
+ghost use Rattle.std.specs.Io.KnownBytes.{Keeps};
+ghost use Rattle.std.specs.declared.io.ErrorKind.TheVariants.{OutOfMemory};
+ghost use Rattle.pdb_run.specs.Lines.{memory_line};
+ghost use Rattle.pdb_run.specs.Runs.{Says, world};
+ghost use Rattle.pdb_words.specs.Faults.{unreadable_word};
+ghost use Rattle.pdb_program.specs.Programs.{IsNumberOf, RunsOn};
+ghost use Rattle.pdb_program.specs.Refusals.{Tells};
+
+use crate::programs::run;
+use crate::refusals::tell;
+use pdb_io::shelf::Shelf;
+use pdb_run::{Status, say_no_memory};
+use pdb_words::unreadable_word;
+use std::alloc::Global;
+use std::io;
+use std::io::{Read, Write};
+use std::sync::Wait;
+use std::thread::Threads;
+use work_run::Gate;
+
+/// A run on the arguments behind the first, which is the program's own name, or what is said where they can't be taken:
+/// for want of memory, or since one is no UTF-8 text.
+pub fn start<H: Threads + Wait, S: Shelf, R: Read, W: Write, E: Write, G: Gate + Sync>(
+    rt: &H,
+    alloc: Global,
+    arguments: io::Result<Vec<String>>,
+    shelf: &mut S,
+    reader: &mut R,
+    out: &mut W,
+    err: &mut E,
+    gate: &G,
+) -> u8
+    ensures runs { IfOk arguments (λ all. RunsOn (drop 1 (map string_bytes all.items))
+        (world (S.held shelf.old) (S.has_failed shelf.old) (R.remaining reader.old) (W.contents out.old))
+        (world (S.held shelf.new) (S.has_failed shelf.new) (R.remaining reader.new) (W.contents out.new))
+        (E.contents err.old) (E.contents err.new) result) }
+    ensures memory { IfErr arguments (λ e. error_kind e ≡ OutOfMemory
+        → IsNumberOf (Says memory_line Status.NoMemory (W.contents out.old) (W.contents out.new)) result × Keeps (E.contents err.old) (E.contents err.new)) }
+    ensures unreadable { IfErr arguments (λ e. error_kind e ≢ OutOfMemory
+        → Keeps (W.contents out.old) (W.contents out.new) × Tells unreadable_word (E.contents err.old) (E.contents err.new) × (result ≡ 2)) }
+{
+    match arguments {
+        Ok(all) => run(rt, alloc, words_in(all), shelf, reader, out, err, gate),
+        Err(error) => without_words(&error, out, err).code(),
+    }
+}
+
+/// The words behind the program's own name.
+fn words_in(mut arguments: Vec<String>) -> Vec<String>
+    ensures { map string_bytes result.items ≡ drop 1 (map string_bytes arguments.items) }
+{
+    if !arguments.is_empty() {
+        let _name = arguments.remove(0);
+    }
+    arguments
+}
+
+/// Says why there are no words.
+fn without_words<W: Write, E: Write>(error: &io::Error, out: &mut W, err: &mut E) -> Status
+    ensures memory { error_kind error.now ≡ OutOfMemory
+        → Says memory_line Status.NoMemory (W.contents out.old) (W.contents out.new) result × Keeps (E.contents err.old) (E.contents err.new) }
+    ensures unreadable { error_kind error.now ≢ OutOfMemory
+        → Keeps (W.contents out.old) (W.contents out.new) × Tells unreadable_word (E.contents err.old) (E.contents err.new) × (result ≡ Status.Fault) }
+{
+    match error.kind() {
+        io::ErrorKind::OutOfMemory => say_no_memory(out),
+        _ => tell(unreadable_word(), err),
+    }
+}

@@ -1,0 +1,3 @@
+pub mod CommandLemmas
+pub mod FlagLemmas
+pub mod KindLemmas

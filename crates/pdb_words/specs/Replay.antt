@@ -1,0 +1,13 @@
+-- The words of `replay [FILE]`.
+use Rattle.std.specs.Prelude.{List, codes}
+use Rattle.clap.specs.Walk.{Row, first_of}
+use Rattle.clap.specs.Simple.{App, new_app, new_rule, with_rule}
+use Rattle.pdb_words.specs.Asked.{Asked, replay}
+
+-- the command, as `clap` sees it
+abbrev pub replay_command : App
+replay_command = with_rule (new_app (codes "replay")) (new_rule (codes "FILE"))
+
+-- what the values found of it ask for
+abbrev pub replay_in : List Row → Asked
+replay_in rows = replay (first_of (codes "FILE") rows)

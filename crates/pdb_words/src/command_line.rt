@@ -1,0 +1,71 @@
+//! The commands of the program, and the reading of words.
+
+ghost use Rattle.std.specs.Prelude.{◌≡◌, IfErr, IfOk, IfSome, false, map, string_bytes};
+ghost use Rattle.clap.specs.Words.{FailsBy, app_of, subcommand_of, subcommand_rows_of};
+ghost use Rattle.clap.specs.declared.Command.TheViews.{out-Command};
+ghost use Rattle.pdb_words.specs.Asked.{HasWorkers, view};
+ghost use Rattle.pdb_words.specs.CommandLine.{IsCommand, Parses, asked_in, asked_of, command_line, faults_of};
+ghost use Rattle.pdb_words.specs.Faults.{IsCauseOf};
+
+use crate::asked::Request;
+use crate::faults::{WordFault, fault_by};
+use crate::replay::{replay_command, replay_in};
+use crate::table::{table_command, table_in};
+use clap::{ArgMatches, Command};
+use std::alloc::{AllocError, Global};
+
+/// What stands at the end of the help.
+const AFTER_HELP: &str = "Without a command it does `replay` on standard input.
+
+Status: 0 yes, 1 refused, 2 bad words or a read or write fault, 3 no memory.
+The formats of texts, files and output lines are in docs/FORMATS.md.";
+
+/// Reads the words, which leave out the program's own name.
+pub fn read_words<'a>(alloc: Global, words: &'a [String]) -> Result<Request<'a>, WordFault>
+    ensures parses { IfOk result (λ _. Parses (map string_bytes words.now)) }
+    ensures asked { IfOk result (λ request. view request ≡ asked_of (map string_bytes words.now)) }
+    ensures workers { IfOk result (λ request. HasWorkers request) }
+    ensures cause { IfErr result (λ fault. IsCauseOf (map string_bytes words.now) fault) }
+{
+    match matches_of(alloc, words) {
+        Ok(matches) => Ok(request_in(&matches)),
+        Err(error) => Err(fault_by(alloc, error)),
+    }
+}
+
+/// The command line, for `clap`.
+fn command_line<'a>(alloc: Global) -> Result<Command<'a>, AllocError>
+    ensures app { IfOk result (λ c. app_of c ≡ command_line) }
+    ensures local { IfOk result (λ c. (out-Command c).has_globals ≡ false) }
+{
+    Command::new(alloc, "pdb_cli")
+        .bin_name("pdb_cli")?
+        .about("Checks claims about sliding-tile puzzles")
+        .after_help(AFTER_HELP)
+        .no_binary_name(true)
+        .subcommand(replay_command(alloc)?)?
+        .subcommand(table_command(alloc)?)
+}
+
+/// What `clap` finds in the words.
+fn matches_of<'a>(alloc: Global, words: &'a [String]) -> Result<ArgMatches<'a>, clap::Error>
+    ensures rows { IfOk result (λ m. subcommand_rows_of m ≡ subcommand_of command_line (map string_bytes words.now)) }
+    ensures kinds { FailsBy (faults_of (map string_bytes words.now)) result }
+    ensures command { IfOk result (λ m. IfSome (subcommand_rows_of m) (λ found. IsCommand found.0)) }
+{
+    command_line(alloc)?.try_get_matches_from(words)
+}
+
+/// What the words ask for, in which these matches were found.
+fn request_in<'a>(matches: &ArgMatches<'a>) -> Request<'a>
+    requires { IfSome (subcommand_rows_of matches.now) (λ found. IsCommand found.0) }
+    ensures asked { view result ≡ asked_in (subcommand_rows_of matches.now) }
+    ensures workers { HasWorkers result }
+{
+    match matches.subcommand() {
+        None => Request::Replay(None),
+        Some(("replay", found)) => replay_in(found),
+        Some(("table", found)) => table_in(found),
+        Some(_) => unreachable!(),
+    }
+}

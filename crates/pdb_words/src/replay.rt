@@ -1,0 +1,31 @@
+//! The words of `replay [FILE]`.
+
+ghost use Rattle.std.specs.Prelude.{◌≡◌, IfOk, false};
+ghost use Rattle.clap.specs.Words.{app_of, found_of, rows_of};
+ghost use Rattle.clap.specs.declared.Command.TheViews.{out-Command};
+ghost use Rattle.pdb_words.specs.Asked.{HasWorkers, view};
+ghost use Rattle.pdb_words.specs.Replay.{replay_command, replay_in};
+
+use crate::asked::Request;
+use clap::{Arg, ArgMatches, Command};
+use std::alloc::{AllocError, Global};
+
+/// The command, for `clap`.
+pub(crate) fn replay_command<'a>(alloc: Global) -> Result<Command<'a>, AllocError>
+    ensures app { IfOk result (λ c. app_of c ≡ replay_command) }
+    ensures local { IfOk result (λ c. (out-Command c).has_globals ≡ false) }
+{
+    let file = Arg::new(alloc, "FILE").help("A puzzle text; without it, standard input");
+    Command::new(alloc, "replay")
+        .about("Plays the moves of a puzzle text, and says whether they solve its board")
+        .override_usage("pdb_cli replay [FILE]")
+        .arg(file)
+}
+
+/// What these matches of the command ask for.
+pub(crate) fn replay_in<'a>(found: &ArgMatches<'a>) -> Request<'a>
+    ensures asked { view result ≡ replay_in (rows_of (found_of found.now)) }
+    ensures workers { HasWorkers result }
+{
+    Request::Replay(found.get_str("FILE"))
+}
