@@ -1,0 +1,17 @@
+//! Tests of whole runs of the program: from its words to the bytes that go out and the status.
+#![tactic(auto)]
+
+#[cfg(test)]
+mod faulty;
+#[cfg(test)]
+mod limits;
+#[cfg(test)]
+mod replays;
+#[cfg(test)]
+mod runs;
+#[cfg(test)]
+mod starts;
+#[cfg(test)]
+mod tables;
+#[cfg(test)]
+mod workers;

@@ -1,0 +1,123 @@
+//! Runs over memory, and what they left.
+
+use pdb_io::memory::MemShelf;
+use pdb_io::shelf::Shelf;
+use pdb_program::run;
+use std::alloc::{AllocError, Global};
+use std::io::Read;
+use std::sync::Wait;
+use std::test::Fail;
+use std::thread::Threads;
+use work_run::{Gate, OpenGate};
+
+/// What a run left: its status, and the bytes on its two outputs.
+#[derive(Drop)]
+pub struct Ended {
+    pub status: u8,
+    pub out: Vec<u8>,
+    pub err: Vec<u8>,
+}
+
+impl Ended {
+    /// It wrote this and nothing on its errors, and ended with this status; or the test fails, and shows what it wrote.
+    pub fn expect(&self, out: &[u8], status: u8) -> Result<(), Fail> {
+        if self.status == status && self.out.as_slice() == out && self.err.is_empty() {
+            return Ok(());
+        }
+        Err(Fail::new(format_args!(
+            "status {}, written {:?}, on the errors {:?}",
+            self.status,
+            text(&self.out),
+            text(&self.err)
+        )))
+    }
+}
+
+/// Bytes as text.
+fn text(bytes: &[u8]) -> &str {
+    std::str::from_utf8(bytes).unwrap_or("no UTF-8 text")
+}
+
+/// Words of which each is a text of its own.
+pub fn owned(alloc: Global, words: &[&str]) -> Result<Vec<String>, AllocError> {
+    let mut all = Vec::new(alloc);
+    for word in words {
+        all.push(String::from_str(alloc, word)?)?;
+    }
+    Ok(all)
+}
+
+/// A run of these words over a shelf and a reader, whose workers pass a gate.
+pub fn ran_by<H: Threads + Wait, S: Shelf, R: Read, G: Gate + Sync>(
+    rt: &H,
+    alloc: Global,
+    words: &[&str],
+    shelf: &mut S,
+    reader: &mut R,
+    gate: &G,
+) -> Result<Ended, AllocError> {
+    let mut out = Vec::new(alloc);
+    let mut err = Vec::new(alloc);
+    let words = owned(alloc, words)?;
+    let status = run(rt, alloc, words, shelf, reader, &mut out, &mut err, gate);
+    Ok(Ended { status, out, err })
+}
+
+/// A run of these words over a shelf and a reader.
+pub fn ran<H: Threads + Wait, S: Shelf, R: Read>(
+    rt: &H,
+    alloc: Global,
+    words: &[&str],
+    shelf: &mut S,
+    reader: &mut R,
+) -> Result<Ended, AllocError> {
+    ran_by(rt, alloc, words, shelf, reader, &OpenGate)
+}
+
+/// A run of `replay` on standard input with these bytes.
+pub fn replayed<H: Threads + Wait>(
+    rt: &H,
+    alloc: Global,
+    input: &[u8],
+) -> Result<Ended, AllocError> {
+    let mut shelf = MemShelf::of(alloc, &[])?;
+    let mut reader = input;
+    ran(rt, alloc, &["replay"], &mut shelf, &mut reader)
+}
+
+/// A run of `table` by so many workers, who pass a gate, on a file with these bytes.
+pub fn checked_by<H: Threads + Wait, G: Gate + Sync>(
+    rt: &H,
+    alloc: Global,
+    file: &[u8],
+    workers: &str,
+    gate: &G,
+) -> Result<Ended, AllocError> {
+    let mut shelf = MemShelf::of(alloc, &[("a table", file)])?;
+    let mut reader = b"".as_slice();
+    ran_by(
+        rt,
+        alloc,
+        &["table", "a table", "--workers", workers],
+        &mut shelf,
+        &mut reader,
+        gate,
+    )
+}
+
+/// A run on the file says this line below this digest, with this status, whether 1, 2, 7 or 64 workers check it.
+pub fn expect_line<H: Threads + Wait>(
+    rt: &H,
+    alloc: Global,
+    file: &[u8],
+    digest: &str,
+    line: &str,
+    status: u8,
+) -> Result<(), Fail> {
+    let want = format!(in alloc; "sha256 {digest}\n{line}\n")?;
+    for workers in ["1", "2", "7", "64"] {
+        let ended = checked_by(rt, alloc, file, workers, &OpenGate)?;
+        ended.expect(want.as_bytes(), status)?;
+    }
+    Ok(())
+}

@@ -1,0 +1,100 @@
+//! Arguments as the system gives them, and words that ask for nothing.
+
+use crate::runs::{Ended, owned};
+use pdb_io::memory::MemShelf;
+use pdb_program::start;
+use pdb_words::unreadable_word;
+use std::alloc::Global;
+use std::io;
+use std::sync::Wait;
+use std::test::Fail;
+use std::thread::Threads;
+use work_run::OpenGate;
+
+/// A run on these arguments.
+fn started<H: Threads + Wait>(
+    rt: &H,
+    alloc: Global,
+    arguments: io::Result<Vec<String>>,
+) -> Result<Ended, Fail> {
+    let mut shelf = MemShelf::of(alloc, &[("six", b"3 2 1 0 ; ULDRUL".as_slice())])?;
+    let mut reader = b"1 0 2 3 ; L".as_slice();
+    let mut out = b"before\n".to_vec(alloc)?;
+    let mut err = Vec::new(alloc);
+    let status = start(
+        rt,
+        alloc,
+        arguments,
+        &mut shelf,
+        &mut reader,
+        &mut out,
+        &mut err,
+        &OpenGate,
+    );
+    Ok(Ended { status, out, err })
+}
+
+#[test]
+fn the_first_argument_is_the_program_itself(rt: HostRuntime) -> Result<(), Fail> {
+    let alloc = rt.alloc();
+    let cases: [(&[&str], &[u8], u8); 5] = [
+        (&[], b"before\nsolution 1\n", 0),
+        (&["pdb_cli"], b"before\nsolution 1\n", 0),
+        (&["table"], b"before\nsolution 1\n", 0),
+        (&["pdb_cli", "replay", "six"], b"before\nsolution 6\n", 0),
+        (
+            &["", "replay", "pdb_cli"],
+            b"before\nfault read pdb_cli\n",
+            2,
+        ),
+    ];
+    for (arguments, lines, status) in cases {
+        started(&rt, alloc, Ok(owned(alloc, arguments)?))?.expect(lines, status)?;
+    }
+    Ok(())
+}
+
+#[test]
+fn arguments_that_cannot_be_taken(rt: HostRuntime) -> Result<(), Fail> {
+    let alloc = rt.alloc();
+    let no_memory = io::Error::from(io::ErrorKind::OutOfMemory);
+    started(&rt, alloc, Err(no_memory))?.expect(b"before\nno memory\n", 3)?;
+
+    let unreadable = io::Error::from(io::ErrorKind::InvalidData);
+    let ended = started(&rt, alloc, Err(unreadable))?;
+    assert!(rt;
+        ended.status == 2 && ended.out.as_slice() == b"before\n".as_slice(),
+        "status {}",
+        ended.status
+    );
+    assert!(rt; ended.err.as_slice() == unreadable_word().as_bytes());
+    Ok(())
+}
+
+#[test]
+fn help_goes_to_the_output_and_mistakes_to_the_errors(rt: HostRuntime) -> Result<(), Fail> {
+    let alloc = rt.alloc();
+    let help = started(&rt, alloc, Ok(owned(alloc, &["pdb_cli", "--help"])?))?;
+    assert!(rt;
+        help.status == 0 && help.err.is_empty(),
+        "status {}",
+        help.status
+    );
+    assert!(rt;
+        help.out.starts_with(
+            b"before\nChecks claims about sliding-tile puzzles\n\nUsage: pdb_cli [COMMAND]\n"
+        )
+    );
+
+    let mistake = started(&rt, alloc, Ok(owned(alloc, &["pdb_cli", "bound", "f"])?))?;
+    assert!(rt;
+        mistake.status == 2 && mistake.out.as_slice() == b"before\n".as_slice(),
+        "status {}",
+        mistake.status
+    );
+    assert!(rt;
+        mistake.err.as_slice()
+            == b"error: unrecognized subcommand 'bound'\n\nUsage: pdb_cli [COMMAND]\n\nFor more information, try '--help'.\n".as_slice()
+    );
+    Ok(())
+}
