@@ -1,4 +1,5 @@
 mod LineLemmas
 mod ReplayLemmas
+mod ResultLemmas
 mod TableLemmas
 mod VerdictLemmas

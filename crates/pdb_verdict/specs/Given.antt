@@ -13,3 +13,8 @@ pub data Given : Type 0 where
 abbrev pub given : Inputs → Given
 given (inputs.Replay puzzle) = puzzle_text puzzle.now
 given (inputs.Table table) = table_file table.now
+
+-- the bytes of inputs
+abbrev pub bytes_of : Given → Bytes
+bytes_of (puzzle_text puzzle) = puzzle
+bytes_of (table_file table) = table

@@ -1,9 +1,13 @@
 -- What holds of all inputs.
-use Rattle.std.specs.Prelude.{◌≡◌, ◌↔◌, Result, Ok}
-use Rattle.pdb_verdict.specs.Given.{Given}
+use Rattle.std.specs.Prelude.{◌≡◌, ◌↔◌, ℕ, ◌<◌, Result, Ok, slice_index}
+use Rattle.pdb_verdict.specs.Given.{Given, bytes_of}
 use Rattle.pdb_verdict.specs.Verdicts.{IsResult, IsTrueOf}
 use Rattle.pdb_verdict.specs.declared.verdict.Fault.{Fault}
 use Rattle.pdb_verdict.specs.declared.verdict.Verdict.{Verdict}
+
+-- all inputs, which are bytes, have a result
+abbrev pub InputsHaveAResult : Type 0
+InputsHaveAResult = (inputs : Given) → ((i : ℕ) → slice_index (bytes_of inputs) i < 256) → (answer : Result Verdict Fault) × IsResult inputs answer
 
 -- no inputs have two results
 abbrev pub InputsHaveOneResult : Type 0

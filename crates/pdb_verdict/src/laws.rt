@@ -1,6 +1,11 @@
 //! What holds of all inputs. Each function here says it, and does nothing.
 
-ghost use Rattle.pdb_verdict.specs.Laws.{InputsHaveOneResult, ResultsAreTrueVerdicts};
+ghost use Rattle.pdb_verdict.specs.Laws.{InputsHaveAResult, InputsHaveOneResult, ResultsAreTrueVerdicts};
+
+/// Inputs have a result.
+pub fn inputs_have_a_result()
+    ensures { InputsHaveAResult }
+{}
 
 /// Inputs have not two results.
 pub fn inputs_have_one_result()

@@ -185,7 +185,7 @@ fn help_that_cannot_be_written_is_a_fault(rt: HostRuntime) -> Result<(), Fail> {
         let mut out = FaultyWriter::new(alloc, 1, fails_from, Failing::ByError);
         assert_eq!(rt; ran_over(&rt, alloc, &["help", "table"], &mut out)?, 2);
         assert!(rt;
-            out.taken.as_slice() == &whole.taken[..fails_from],
+            out.taken.len() == fails_from && whole.taken.starts_with(out.taken.as_slice()),
             "write {fails_from}"
         );
     }

@@ -35,25 +35,25 @@ fn tables_of_side_3_are_exact_whoever_checks_them(rt: HostRuntime) -> Result<(),
 #[test]
 fn as_many_workers_check_side_by_side_as_are_asked_for(rt: HostRuntime) -> Result<(), Fail> {
     let alloc = rt.alloc();
-    let cases: [(&[u8], usize, &str, HoldingGate, &[u8]); 2] = [
+    let cases: [(&[u8; 20], usize, &str, HoldingGate, &[u8]); 2] = [
         (
             &TWO_BLOCKS,
-            2_016,
+            2_036,
             "2",
             HoldingGate::new(&[0], &[1]),
             b"sha256 f219d425151973ffe4bd953e758bf7e98d83b5a33f56ddef11e2a0e160313ea4\nrefused T7 at entry 1\n",
         ),
         (
             &FOURTEEN_BLOCKS,
-            13_440,
+            13_460,
             "4",
             HoldingGate::new(&[0, 1, 2, 3], &[0, 1, 2, 3]),
             b"sha256 1ce4b6713bb3cec409b9d3168dc71394ac9800feba478e5ef8a0f483db0cdee9\nrefused T7 at entry 1\n",
         ),
     ];
-    for (header, count, workers, gate, lines) in cases {
+    for (header, len, workers, gate, lines) in cases {
         let mut file = header.to_vec(alloc)?;
-        file.resize(header.len() + count, 0xFF)?;
+        file.resize(len, 0xFF)?;
         checked_by(&rt, alloc, file.as_slice(), workers, &gate)?.expect(lines, 1)?;
         assert!(rt; gate.saw_all(), "{workers} workers");
     }
