@@ -22,16 +22,16 @@ mask_low file small = big_from-lt 0 4 (drop 8 file) (λ i. subst (λ byte. byte 
 pub result_some : (inputs : Given) → ((i : ℕ) → slice_index (bytes_of inputs) i < 256) → (answer : Result Verdict Fault) × IsResult inputs answer
 result_some (puzzle_text puzzle) small = (of_parts (puzzle_parts puzzle), refl)
 result_some (table_file file) small = elim (file_answer file) [
-    | inl exact ↦ let census = census_some exact.0.entries in (
-      Ok (verdict.Exact exact.0.pattern.side (mask_in file) census.0),
-      record {
-        table = exact.0;
-        exact = exact.1;
-        is_side = refl;
-        is_mask = exact.1.is_file.header.mask;
-        mask_low = mask_low file small;
-        counted = census.1;
-      },
-    )
-    | inr refused ↦ (Err (fault.Table refused.0), refused.1)
-  ]
+  | inl exact ↦ let census = census_some exact.0.entries in (
+    Ok (verdict.Exact exact.0.pattern.side (mask_in file) census.0),
+    record {
+      table = exact.0;
+      exact = exact.1;
+      is_side = refl;
+      is_mask = exact.1.is_file.header.mask;
+      mask_low = mask_low file small;
+      counted = census.1;
+    },
+  )
+  | inr refused ↦ (Err (fault.Table refused.0), refused.1)
+]
