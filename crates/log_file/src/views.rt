@@ -57,6 +57,9 @@ impl<'a> LogView<'a> {
         // Which fault it is, before any memory is taken.
         ensures fault { (fault : FormFault) → result ≡ Err (Refused fault) → IsFaultOf fault file.now }
         ensures exact { (fault : FormFault) → IsFaultOf fault file.now → result ≡ Err (Refused fault) }
+
+        // Memory is wanted for a log file alone.
+        ensures memory { result ≡ Err Memory → (log : Log) × IsLogFile log file.now }
     {
         read_log(alloc, file)
     }
