@@ -1,1 +1,3 @@
+mod BoundLemmas
+mod GoodLemmas
 mod Pending
