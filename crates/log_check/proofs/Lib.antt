@@ -1,2 +1,4 @@
+mod BoundLemmas
+mod GoodLemmas
 mod Pending
 mod WalkLemmas

@@ -1,0 +1,13 @@
+//! Laws of logs. Each function here says what holds of all of them, and does nothing.
+
+ghost use Rattle.log_check.specs.Laws.{GoodLemmasBound, GoodLogsBound};
+
+/// Where each lemma of a log is good, no solution of a lemma's board has fewer moves than the lemma's bound.
+pub fn good_lemmas_bound()
+    ensures { GoodLemmasBound }
+{}
+
+/// No solution of the board of a good log has fewer moves than its bound.
+pub fn good_logs_bound()
+    ensures { GoodLogsBound }
+{}
