@@ -18,7 +18,7 @@ all_get : {X : Type 0} (P : X → Type 0) (xs : List X) (i : ℕ) (x : X) → sl
 all_get P xs i x e all = subst P (get_or_from_slice_get xs i x x e) (all_at P xs i x (slice_get_within xs i x e) all)
 
 module _ (v : BundleView) (is : IsBundle v) (log : Log) (is_log : IsLog log) (side : log.side ≡ v.side) where
-  board_of : (i : ℕ) (lemma : Lemma) → slice_get log.lemmas i ≡ Some lemma → IsBoardOf v.side lemma.board
+  pub board_of : (i : ℕ) (lemma : Lemma) → slice_get log.lemmas i ≡ Some lemma → IsBoardOf v.side lemma.board
   board_of i lemma there = subst (λ n. IsBoardOf n lemma.board) side (all_get (λ l. IsBoardOf log.side l.board) log.lemmas i lemma there is_log.boards)
 
   -- a good lemma bounds where the earlier ones do
