@@ -1,1 +1,5 @@
+mod BoundLemmas
+mod DecideLemmas
+mod GoodLemmas
 mod Pending
+mod WalkLemmas
