@@ -1,3 +1,4 @@
 mod BoundLemmas
+mod BranchLemmas
 mod GoodLemmas
 mod Pending
