@@ -1,5 +1,5 @@
--- A branch bounds the solutions of its board where each child bounds those of the board after its move. The move that takes
--- the arriving one back has no child: a solution that begins with it has a shorter one of the board before it behind it.
+-- A branch bounds the solutions of its board where each child bounds those of the board after its move. It has no child for
+-- the move that takes back the arriving one: what follows that move in a solution is a shorter solution of the board before.
 use Rattle.std.proofs.Common.{◌≡◌, ℕ, zero, suc, ◌-◌, ◌<◌, ◌≤◌, ◌⊎◌, Bool, true, false, List, [], ◌∷◌, length, Option, Some, None, inl, inr, refl, sym, subst, arith}
 use Rattle.puz_board.specs.declared.moves.Move.{Move}
 use Rattle.puz_board.specs.declared.moves.Move.TheVariants.{Up, Down, Left, Right}
