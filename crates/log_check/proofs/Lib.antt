@@ -1,4 +1,5 @@
 mod BoundLemmas
+mod BranchLemmas
 mod DecideLemmas
 mod GoodLemmas
 mod Pending

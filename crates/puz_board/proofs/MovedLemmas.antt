@@ -1,5 +1,5 @@
 -- Moves lead boards to boards, and the reverse of a move leads back.
-use Rattle.std.proofs.Common.{◌≡◌, ◌≢◌, ℕ, ◌*◌, ◌<◌, List, ◌∷◌, Option, Some, None, inl, inr, refl, sym, ◌∙◌, ap, subst, arith}
+use Rattle.std.proofs.Common.{◌≡◌, ℕ, ◌*◌, ◌<◌, List, ◌∷◌, Option, Some, None, inl, inr, refl, sym, ◌∙◌, ap, subst, arith}
 use Rattle.std.specs.Prelude.{option_map}
 use Rattle.std.proofs.lemmas.Bool.{cases_eq}
 use Rattle.std.proofs.lemmas.List.{ext_get_or}
@@ -10,6 +10,9 @@ use Rattle.puz_board.specs.Paths.{IsPath, IsSolution}
 use Rattle.puz_board.proofs.BoardLemmas.{IsBoardOf-slid, at-slid_back, at-slid_other, at-slid_there, at_blank, blank-slid, cell_of-below, cells_least, side_of-board, side_of-slid}
 use Rattle.puz_board.proofs.CellLemmas.{reverse_of-takes_back, step_of-inside}
 
+blank_inside : (n : ℕ) (b : List ℕ) → IsBoardOf n b → blank b < n * n
+blank_inside n b good = cell_of-below n b good 0 (let some = cells_least n b good in omega arith)
+
 -- a slide, and the slide back
 slid-slid : (n : ℕ) (b : List ℕ) → IsBoardOf n b → (c : ℕ) → c < n * n → slid (slid b c) (blank b) ≡ b
 slid-slid n b good c inside = ext_get_or 0 (slid (slid b c) (blank b)) b (again.size ∙ sym good.size) (λ x low. each x (let e = again.size in omega arith))
@@ -18,7 +21,7 @@ slid-slid n b good c inside = ext_get_or 0 (slid (slid b c) (blank b)) b (again.
     once = IsBoardOf-slid n b good c inside
 
     home : blank b < n * n
-    home = cell_of-below n b good 0 (omega arith)
+    home = blank_inside n b good
 
     again : IsBoardOf n (slid (slid b c) (blank b))
     again = IsBoardOf-slid n (slid b c) once (blank b) home
@@ -48,18 +51,18 @@ record Slide (n : ℕ) (b : List ℕ) (m : Move) (d : List ℕ) : Type 0 where
   is : slid b cell ≡ d
 
 module _ (n : ℕ) (b : List ℕ) (good : IsBoardOf n b) (m : Move) where
+  moved-step_of : moved b m ≡ option_map (slid b) (step_of n (blank b) m)
+  moved-step_of = ap (λ side. option_map (slid b) (step_of side (blank b) m)) (side_of-board n b good)
+
   moved-slid : (c : ℕ) → step_of n (blank b) m ≡ Some c → moved b m ≡ Some (slid b c)
-  moved-slid c e = ap (λ side. option_map (slid b) (step_of side (blank b) m)) (side_of-board n b good) ∙ ap (option_map (slid b)) e
+  moved-slid c step = moved-step_of ∙ ap (option_map (slid b)) step
 
   slide : (d : List ℕ) → moved b m ≡ Some d → Slide n b m d
-  slide d leads = go (step_of n (blank b) m) refl (ap (λ side. option_map (slid b) (step_of side (blank b) m)) (sym (side_of-board n b good)) ∙ leads)
+  slide d leads = go (step_of n (blank b) m) refl (sym moved-step_of ∙ leads)
     where
-      start : blank b < n * n
-      start = cell_of-below n b good 0 (let some = cells_least n b good in omega arith)
-
       go : (o : Option ℕ) → step_of n (blank b) m ≡ o → option_map (slid b) o ≡ Some d → Slide n b m d
-      go None e f = cc
-      go (Some c) e f = record { cell = c; inside = step_of-inside n (blank b) m c good.low good.high start e; step = e; is = cc }
+      go None step is = cc
+      go (Some c) step is = record { cell = c; inside = step_of-inside n (blank b) m c good.low good.high (blank_inside n b good) step; step = step; is = cc }
 
   pub IsBoardOf-moved : (d : List ℕ) → moved b m ≡ Some d → IsBoardOf n d
   IsBoardOf-moved d leads = let s = slide d leads in subst (IsBoardOf n) s.is (IsBoardOf-slid n b good s.cell s.inside)
@@ -68,9 +71,8 @@ module _ (n : ℕ) (b : List ℕ) (good : IsBoardOf n b) (m : Move) where
 pub moved-reverse_of : (n : ℕ) (b : List ℕ) → IsBoardOf n b → (m : Move) (d : List ℕ) → moved b m ≡ Some d → moved d (reverse_of m) ≡ Some b
 moved-reverse_of n b good m d leads =
     let s = slide n b good m d leads in
-    let start : blank b < n * n = cell_of-below n b good 0 (let some = cells_least n b good in omega arith) in
     let there : blank (slid b s.cell) ≡ s.cell = blank-slid n b good s.cell s.inside in
-    let back : step_of n s.cell (reverse_of m) ≡ Some (blank b) = reverse_of-takes_back m n (blank b) s.cell good.low good.high start s.step in
+    let back : step_of n s.cell (reverse_of m) ≡ Some (blank b) = reverse_of-takes_back m n (blank b) s.cell good.low good.high (blank_inside n b good) s.step in
     let step : step_of n (blank (slid b s.cell)) (reverse_of m) ≡ Some (blank b) = ap (λ c. step_of n c (reverse_of m)) there ∙ back in
     ap (λ e. moved e (reverse_of m)) (sym s.is) ∙
     moved-slid n (slid b s.cell) (IsBoardOf-slid n b good s.cell s.inside) (reverse_of m) (blank b) step ∙
