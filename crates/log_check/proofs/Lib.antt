@@ -1,1 +1,4 @@
+mod AnswerLemmas
+mod BoardLemmas
+mod FirstBadLemmas
 mod Pending

@@ -2,7 +2,10 @@
 #![tactic(auto)]
 
 mod faults;
+mod jobs;
+mod lemmas;
 mod logs;
 
 pub use faults::{LogFault, LogRefusal};
+pub use lemmas::check_lemma;
 pub use logs::check_log;
