@@ -1,4 +1,8 @@
 mod AnswerLemmas
 mod BoardLemmas
+mod BoundLemmas
+mod DecideLemmas
 mod FirstBadLemmas
+mod GoodLemmas
 mod Pending
+mod WalkLemmas

@@ -3,6 +3,7 @@
 
 mod faults;
 mod jobs;
+pub mod laws;
 mod lemmas;
 mod logs;
 
