@@ -1,15 +1,19 @@
 -- A file is that of a good log or has a fault, and of these one alone.
 use Rattle.std.proofs.Common.{◌≡◌, ◌≢◌, ℕ, ◌-◌, ◌<◌, ◌≤◌, ◌⊎◌, List, [], length, Result, Ok, Err, Some, inl, inr, refl, sym, ◌∙◌, ap, subst, arith}
 use Rattle.std.specs.Prelude.{IfErr, IfOk, slice_get}
+use Rattle.std.proofs.lemmas.Bool.{cases_eq}
 use Rattle.std.proofs.lemmas.Option.{get_or_from_slice_get, slice_get-get_or, slice_get_within}
 use Rattle.puz_board.specs.Boards.{IsBoardOf, side_of}
 use Rattle.puz_board.proofs.BoardLemmas.{side_of-board}
-use Rattle.set_sum.specs.Bundles.{BundleView}
+use Rattle.tab_check.proofs.ValueLemmas.{same_list_decided}
+use Rattle.set_sum.specs.Bounds.{IsBounded}
+use Rattle.set_sum.specs.Bundles.{BundleView, IsBundle}
 use Rattle.set_sum.proofs.ListLemmas.{all_at}
 use Rattle.log_file.specs.FormFaults as form
 use Rattle.log_file.specs.LogFiles.{IsLogFile}
 use Rattle.log_file.specs.Logs.{IsLog, Lemma, Log}
 use Rattle.log_file.specs.declared.faults.FormFault.{FormFault}
+use Rattle.log_file.proofs.AnswerLemmas.{file_answer}
 use Rattle.log_file.proofs.FileLemmas.{no_fault, one_log, one_fault as one_form_fault}
 use Rattle.log_check.specs.GoodLogs.{AreGood, IsGoodFile, IsGoodLog, IsLast, IsLogFor}
 use Rattle.log_check.specs.LogFaults.{AreOfOneSide, IsCauseOf, IsFaultOf, IsFirstBad}
@@ -17,6 +21,8 @@ use Rattle.log_check.specs.declared.faults.LogFault.{LogFault}
 use Rattle.log_check.specs.declared.faults.LogFault.TheVariants.{Memory, Refused}
 use Rattle.log_check.specs.declared.faults.LogRefusal.{LogRefusal}
 use Rattle.log_check.specs.declared.faults.LogRefusal.TheVariants.{Form, L4, L5, L6}
+use Rattle.log_check.proofs.FirstBadLemmas.{good_or_first_bad}
+use Rattle.log_check.proofs.GoodLemmas.{good_log_bounds}
 
 -- ---- one log
 
@@ -132,3 +138,36 @@ module _ (v : BundleView) (b file : List ℕ) where
   fault_answered (Ok found) ok err fault is = absurd (good_or_fault found fault ok is)
   fault_answered (Err Memory) ok err fault is = inr refl
   fault_answered (Err (Refused other)) ok err fault is = inl (ap (λ f. Err (Refused f)) (one_fault other fault err is))
+
+-- ---- there is an answer
+
+module _ (v : BundleView) (is : IsBundle v) (b file : List ℕ) where
+  abbrev Answer : Type 0
+  Answer = ((bound : ℕ) × IsGoodFile v b file bound) ⊎ ((f : LogRefusal) × IsFaultOf f v b file)
+
+  module _ (log : Log) (is_file : IsLogFile log file) where
+    lemmas_answer : (last : Lemma) → IsLogFor v log b last → Answer
+    lemmas_answer last is_for = elim (good_or_first_bad v is log is_file.is_log is_for.side) [
+      | inl all ↦ inl (last.bound, record { log = log; is_file = is_file; good = record { last = last; is_for = is_for; bound_is = refl; good = all } })
+      | inr first ↦ inr (L6 first.0, (log, last, is_file, is_for, first.1))
+    ]
+
+    board_answer : AreOfOneSide v log b → Answer
+    board_answer sides =
+        let last = last_some log is_file.is_log in
+        elim (same_list_decided last.0.board b) [
+          | inl same ↦ lemmas_answer last.0 (record { side = sides.log_side; is_last = last.1; board = same })
+          | inr other ↦ inr (L5, (log, last.0, is_file, sides, last.1, other))
+        ]
+
+    log_answer : Answer
+    log_answer = elim (cases_eq log.side v.side) [
+      | inr other ↦ inr (L4, (log, is_file, λ sides. other sides.log_side))
+      | inl log_side ↦ elim (cases_eq (side_of b) v.side) [
+        | inr other ↦ inr (L4, (log, is_file, λ sides. other sides.board_side))
+        | inl board_side ↦ board_answer (record { log_side = log_side; board_side = board_side })
+      ]
+    ]
+
+  pub check_answer : Answer
+  check_answer = elim (file_answer file) [ inl has ↦ log_answer has.0 has.1 | inr fault ↦ inr (Form fault.0, fault.1) ]

@@ -5,16 +5,16 @@ use Rattle.set_sum.specs.Bundles.{BundleView, IsBundle}
 use Rattle.log_file.specs.Logs.{IsLog, Log}
 use Rattle.work_run.specs.Faults.{IsFault}
 use Rattle.log_check.specs.GoodLogs.{AreGood, IsGood}
-use Rattle.log_check.specs.Laws.{LemmasAreGoodOrNot}
 use Rattle.log_check.specs.LogFaults.{IsFirstBad}
+use Rattle.log_check.proofs.DecideLemmas.{good_decided}
 
-module _ (good_or_not : LemmasAreGoodOrNot) (v : BundleView) (is : IsBundle v) (log : Log) (is_log : IsLog log) (side : log.side ≡ v.side) where
+module _ (v : BundleView) (is : IsBundle v) (log : Log) (is_log : IsLog log) (side : log.side ≡ v.side) where
   abbrev IsBad : ℕ → Type 0
   IsBad i = ¬ IsGood v log.lemmas i
 
   -- a lemma that isn't bad is good, since that can be told
   good_unless_bad : (i : ℕ) → ¬ IsBad i → IsGood v log.lemmas i
-  good_unless_bad i not = elim (good_or_not v is log is_log side i) [ inl good ↦ good | inr bad ↦ absurd (not bad) ]
+  good_unless_bad i not = elim (good_decided v is log is_log side i) [ inl good ↦ good | inr bad ↦ absurd (not bad) ]
 
   pub good_whole : IsFault IsBad (length log.lemmas) None → AreGood v log.lemmas
   good_whole none i low = good_unless_bad i (none i (omega arith) low)
@@ -28,7 +28,7 @@ module _ (good_or_not : LemmasAreGoodOrNot) (v : BundleView) (is : IsBundle v) (
   good_up_to zero low = inl (λ i none. absurd (omega arith))
   good_up_to (suc m) low = elim (good_up_to m (omega arith)) [
     | inr first ↦ inr first
-    | inl before ↦ elim (good_or_not v is log is_log side m) [
+    | inl before ↦ elim (good_decided v is log is_log side m) [
       | inr bad ↦ inr (m, record { there = omega arith; bad = bad; before = before })
       | inl good ↦ inl (λ i l. elim (cases_lt i m) [
         | inl less ↦ before i less

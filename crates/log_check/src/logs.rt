@@ -66,6 +66,7 @@ fn proven_bound<R: Threads + Wait, G: Gate + Sync>(
 ) -> Result<u8, LogFault>
     requires { (0 < workers) × (workers ≤ 64) }
     ensures ok { IfOk result (IsGoodFile bundle.now board.now file.now) }
+    ensures bounds { IfOk result (IsBounded board.now) }
     ensures fault { IfErr result (λ fault. IsCauseOf fault bundle.now board.now file.now) }
 {
     let log = match LogView::read(alloc, file) {

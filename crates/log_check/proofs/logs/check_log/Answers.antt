@@ -4,9 +4,6 @@ use Rattle.log_check.proofs.logs.check_log.Goals as goal
 pub returns-clause-good : goal.returns-clause-good
 returns-clause-good g c = good_answered c.args.bundle.now c.args.board.now c.args.file.now c.proven_bound.result c.proven_bound.ensures.ok c.proven_bound.ensures.fault
 
-pub returns-clause-bounds : goal.returns-clause-bounds
-returns-clause-bounds g c = ?
-
 pub returns-clause-form : goal.returns-clause-form
 returns-clause-form g c = form_answered c.args.bundle.now c.args.board.now c.args.file.now c.proven_bound.result c.proven_bound.ensures.ok c.proven_bound.ensures.fault
 
