@@ -2,7 +2,14 @@
 #![tactic(auto)]
 
 mod faults;
+mod lemmas;
 mod logs;
+mod nodes;
+mod order;
+#[cfg(test)]
+mod tests;
+mod walks;
 
 pub use faults::{LogFault, LogRefusal};
+pub use lemmas::check_lemma;
 pub use logs::check_log;
