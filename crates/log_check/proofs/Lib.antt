@@ -1,1 +1,2 @@
 mod Pending
+mod WalkLemmas
