@@ -1,2 +1,3 @@
+mod OpenLemmas
 mod Pending
 mod WalkLemmas

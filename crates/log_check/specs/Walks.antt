@@ -71,4 +71,4 @@ waiting_from branches (suc count) place = with_place (slice_get branches place) 
 
 -- the children to come of all branches that are open, those of the last one first
 abbrev pub waiting_in : OpenBranches → List Waiting
-waiting_in open = waiting_from open.branches (open.root - open.bound) open.bound
+waiting_in branches = waiting_from branches.branches (branches.root - branches.bound) branches.bound
