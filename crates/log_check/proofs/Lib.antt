@@ -1,3 +1,6 @@
+mod BoundLemmas
+mod DecideLemmas
+mod GoodLemmas
 mod OpenLemmas
 mod Pending
 mod WalkLemmas

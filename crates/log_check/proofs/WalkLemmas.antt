@@ -28,6 +28,13 @@ same_number j k j_fits k_fits xs ys e =
     let back : xs ≡ ys = sym (drop_at (to_be_bytes w32 j) xs 4 refl) ∙ ap (drop 4) e ∙ drop_at (to_be_bytes w32 k) ys 4 refl in
     (sym (from_be_bytes-to_be_bytes_4 j j_fits) ∙ ap (from_be_bytes w32) front ∙ from_be_bytes-to_be_bytes_4 k k_fits, back)
 
+-- the bytes begin with a number of four bytes, the highest first
+pub record BeginsWithNumber (bytes : List ℕ) : Type 0 where
+  pub number : ℕ
+  pub rest : List ℕ
+  pub fits : number < 2 ^ 32
+  pub is : bytes ≡ to_be_bytes w32 number ++ rest
+
 -- the bytes begin with a branch's, a leaf's, or a citation's and its number
 abbrev pub BeginsWithNode : List ℕ → Type 0
 BeginsWithNode bytes =
@@ -105,17 +112,20 @@ module _ (v : BundleView) (few : length v.sets ≤ 16) (lemmas : List Lemma) (i 
       none (rest, inr (inl (set, small, e))) = let same : byte ≡ set + 1 = first_same byte (set + 1) bytes rest e in omega arith
       none (rest, inr (inr (j, small, e))) = other (first_same byte 32 bytes _ e)
 
-  -- a citation's byte with too few behind it for a number
-  pub cut_citation : (bytes : List ℕ) → length bytes < 4 → ¬ Pending v lemmas i (w ∷ ws) (32 ∷ bytes)
-  cut_citation bytes short p = none (begins_with_node (32 ∷ bytes) p)
+  -- behind a citation's byte is a number
+  pub citation_number : (bytes : List ℕ) → Pending v lemmas i (w ∷ ws) (32 ∷ bytes) → BeginsWithNumber bytes
+  citation_number bytes p = go (begins_with_node (32 ∷ bytes) p)
     where
-      none : BeginsWithNode (32 ∷ bytes) → ⊥
-      none (rest, inl e) = cc
-      none (rest, inr (inl (set, small, e))) = let same : 32 ≡ set + 1 = first_same 32 (set + 1) bytes rest e in omega arith
-      none (rest, inr (inr (j, small, e))) =
-          let same : bytes ≡ to_be_bytes w32 j ++ rest = rest_same 32 32 bytes _ e in
-          let long : length bytes ≡ 4 + length rest = ap length same ∙ length-append (to_be_bytes w32 j) rest in
-          omega arith
+      go : BeginsWithNode (32 ∷ bytes) → BeginsWithNumber bytes
+      go (rest, inl e) = cc
+      go (rest, inr (inl (set, small, e))) = absurd (let same : 32 ≡ set + 1 = first_same 32 (set + 1) bytes rest e in omega arith)
+      go (rest, inr (inr (j, small, e))) = record { number = j; rest = rest; fits = small; is = rest_same 32 32 bytes _ e }
+
+  pub cut_citation : (bytes : List ℕ) → length bytes < 4 → ¬ Pending v lemmas i (w ∷ ws) (32 ∷ bytes)
+  cut_citation bytes short p =
+      let begins = citation_number bytes p in
+      let long : length bytes ≡ 4 + length begins.rest = ap length begins.is ∙ length-append (to_be_bytes w32 begins.number) begins.rest in
+      omega arith
 
   -- a branch's byte
   pub branch_byte : (bytes : List ℕ) → Pending v lemmas i (w ∷ ws) (0 ∷ bytes)
