@@ -35,7 +35,7 @@ last_some log is =
     let some : 1 ≤ length log.lemmas = is.size.some in
     (_, slice_get-get_or log.lemmas (length log.lemmas - 1) (record { board = []; bound = 0; tree = [] }) (omega arith))
 
-pub last_board : (log : Log) → IsLog log → (last : Lemma) → IsLast log.lemmas last → IsBoardOf log.side last.board
+last_board : (log : Log) → IsLog log → (last : Lemma) → IsLast log.lemmas last → IsBoardOf log.side last.board
 last_board log is last is_last =
     let i : ℕ = length log.lemmas - 1 in
     subst (λ lemma. IsBoardOf log.side lemma.board) (get_or_from_slice_get log.lemmas i last last is_last)

@@ -4,5 +4,6 @@ mod BoundLemmas
 mod DecideLemmas
 mod FirstBadLemmas
 mod GoodLemmas
+mod OpenLemmas
 mod Pending
 mod WalkLemmas

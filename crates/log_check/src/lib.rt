@@ -6,6 +6,11 @@ mod jobs;
 pub mod laws;
 mod lemmas;
 mod logs;
+mod nodes;
+mod order;
+#[cfg(test)]
+mod tests;
+mod walks;
 
 pub use faults::{LogFault, LogRefusal};
 pub use lemmas::check_lemma;
