@@ -5,9 +5,13 @@ mod faults;
 mod jobs;
 pub mod laws;
 mod lemmas;
+#[cfg(test)]
+mod log_tests;
 mod logs;
 mod nodes;
 mod order;
+#[cfg(test)]
+mod plain_logs;
 #[cfg(test)]
 mod tests;
 mod walks;
