@@ -5,5 +5,6 @@ mod DecideLemmas
 mod FirstBadLemmas
 mod GoodLemmas
 mod OpenLemmas
+mod NodeLemmas
 mod Pending
 mod WalkLemmas

@@ -1,5 +1,5 @@
 -- The children to come of branches that are open.
-use Rattle.std.proofs.Common.{◌≡◌, ◌≢◌, ℕ, zero, suc, ◌+◌, ◌-◌, ◌<◌, ◌≤◌, List, [], ◌∷◌, Some, ap, ap₂, arith, get_or, length, refl, slice_get, slice_set, subst, sym, ◌∙◌}
+use Rattle.std.proofs.Common.{◌≡◌, ℕ, zero, suc, ◌+◌, ◌-◌, ◌<◌, ◌≤◌, List, [], ◌∷◌, Some, ap, ap₂, arith, get_or, length, refl, slice_get, slice_set, sym, ◌∙◌}
 use Rattle.std.proofs.lemmas.Option.{slice_get-get_or}
 use Rattle.puz_board.specs.declared.moves.Move.TheVariants.{Up}
 use Rattle.log_check.specs.Walks.{all_moves, waiting_from, with_children, with_open, with_place}

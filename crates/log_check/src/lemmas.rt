@@ -1,7 +1,7 @@
 //! The check of one lemma.
 
 ghost use Rattle.std.specs.Prelude.{◌≡◌, ◌<◌, ◌↔◌, IsTrue, length};
-ghost use Rattle.puz_board.specs.Boards.{side_of};
+ghost use Rattle.puz_board.specs.Boards.{IsBoardOf};
 ghost use Rattle.set_sum.specs.Bundles.{SaysAtLeast};
 ghost use Rattle.log_check.specs.GoodLogs.{IsGood};
 ghost use Rattle.log_check.specs.Nodes.{IsNode};
@@ -50,15 +50,10 @@ pub fn check_lemma(log: &LogView<'_>, bundle: &Bundle<'_>, i: u32) -> bool
 }
 
 /// Whether a board may have this node, in lemma `i`.
-fn may_have(
-    log: &LogView<'_>,
-    bundle: &Bundle<'_>,
-    i: u32,
-    waiting: &Waiting,
-    node: Node,
-) -> bool
+fn may_have(log: &LogView<'_>, bundle: &Bundle<'_>, i: u32, waiting: &Waiting, node: Node) -> bool
     requires there { i < length log.now.lemmas }
-    requires side { side_of waiting.now.board ≡ bundle.now.side }
+    requires side { log.now.side ≡ bundle.now.side }
+    requires board { IsBoardOf log.now.side waiting.now.board }
     requires node { IsNode (length bundle.now.sets) node }
     ensures { IsTrue result ↔ MayHave bundle.now log.now.lemmas i waiting.now node }
 {
@@ -72,7 +67,7 @@ fn may_have(
 /// Whether what a set says of a board is never, or at least the board's bound.
 fn says_at_least(bundle: &Bundle<'_>, set: u8, waiting: &Waiting) -> bool
     requires set { set < length bundle.now.sets }
-    requires side { side_of waiting.now.board ≡ bundle.now.side }
+    requires board { IsBoardOf bundle.now.side waiting.now.board }
     ensures { IsTrue result ↔ SaysAtLeast bundle.now set waiting.now.board waiting.now.bound }
 {
     match bundle.sum(set, &waiting.board) {
@@ -83,7 +78,8 @@ fn says_at_least(bundle: &Bundle<'_>, set: u8, waiting: &Waiting) -> bool
 
 /// Whether lemma `i` may cite lemma `j` for a board.
 fn cites(log: &LogView<'_>, i: u32, j: u32, waiting: &Waiting) -> bool
-    requires { i < length log.now.lemmas }
+    requires there { i < length log.now.lemmas }
+    requires board { IsBoardOf log.now.side waiting.now.board }
     ensures { IsTrue result ↔ Cites log.now.lemmas i j waiting.now.board waiting.now.bound }
 {
     j < i && log.board(j) == waiting.board && waiting.bound <= log.bound(j)

@@ -111,12 +111,19 @@ fn one_node_alone(rt: HostRuntime) -> Result<(), Fail> {
         b"\x20\0\0\0\0",
     ];
     for tree in bad {
-        assert_eq!(rt; is_good_alone(&rt, &board, 6, tree)?, Some(false), "{tree:?}");
+        assert_eq!(rt;
+            is_good_alone(&rt, &board, 6, tree)?,
+            Some(false),
+            "{tree:?}"
+        );
     }
     assert_eq!(rt; is_good_alone(&rt, &board, 6, b"\x01")?, Some(true));
     assert_eq!(rt; is_good_alone(&rt, &board, 6, b"\0\x01\x01")?, Some(true));
     assert_eq!(rt; is_good_alone(&rt, &board, 6, b"\0\x01")?, Some(false));
-    assert_eq!(rt; is_good_alone(&rt, &board, 6, b"\0\x01\x01\x01")?, Some(false));
+    assert_eq!(rt;
+        is_good_alone(&rt, &board, 6, b"\0\x01\x01\x01")?,
+        Some(false)
+    );
     Ok(())
 }
 
@@ -178,9 +185,15 @@ fn a_tree_has_255_levels_of_branches(rt: HostRuntime) -> Result<(), Fail> {
         );
     }
     let tree = deep(&rt, 256)?;
-    assert_eq!(rt; is_good_alone(&rt, &board, 255, tree.as_slice())?, Some(false));
+    assert_eq!(rt;
+        is_good_alone(&rt, &board, 255, tree.as_slice())?,
+        Some(false)
+    );
     let tree = deep(&rt, 3)?;
     assert_eq!(rt; is_good_alone(&rt, &board, 3, tree.as_slice())?, Some(true));
-    assert_eq!(rt; is_good_alone(&rt, &board, 2, tree.as_slice())?, Some(false));
+    assert_eq!(rt;
+        is_good_alone(&rt, &board, 2, tree.as_slice())?,
+        Some(false)
+    );
     Ok(())
 }

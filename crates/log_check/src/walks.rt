@@ -1,6 +1,5 @@
 //! Which boards of a tree wait for their nodes.
 
-
 ghost use Rattle.std.specs.Prelude.{◌≤◌};
 
 use crate::order::{move_after, takes_back};
