@@ -2,7 +2,8 @@
 use Rattle.std.proofs.Common.{◌≡◌, ℕ, zero, suc, ◌+◌, ◌-◌, ◌<◌, ◌≤◌, List, [], ◌∷◌, Some, ap, ap₂, arith, get_or, length, refl, slice_get, slice_set, sym, ◌∙◌}
 use Rattle.std.proofs.lemmas.Option.{slice_get-get_or}
 use Rattle.puz_board.specs.declared.moves.Move.TheVariants.{Up}
-use Rattle.log_check.specs.Walks.{all_moves, waiting_from, with_children, with_open, with_place}
+use Rattle.log_check.specs.StoredBranches.{waiting_from, with_open, with_place}
+use Rattle.log_check.specs.Walks.{all_moves, with_children}
 use Rattle.log_check.specs.declared.walks.OpenBranch.{OpenBranch}
 use Rattle.log_check.specs.declared.walks.Waiting.{Waiting}
 

@@ -2,7 +2,7 @@
 
 ghost use Rattle.std.specs.Prelude.{◌≡◌, ◌∷◌, Some};
 ghost use Rattle.log_check.specs.Refutations.{takes_back};
-ghost use Rattle.log_check.specs.Walks.{moves_from};
+ghost use Rattle.log_check.specs.StoredBranches.{moves_from};
 
 use puz_board::Move;
 

@@ -93,37 +93,35 @@ fn a_leaf_reaches_its_bound(rt: HostRuntime) {
 }
 
 #[test]
-fn one_node_alone(rt: HostRuntime) -> Result<(), Fail> {
+fn bytes_spell_one_tree(rt: HostRuntime) -> Result<(), Fail> {
     let board = [3, 2, 1, 0];
-    let bad: [&[u8]; 12] = [
+    // The set says 6 of the board, and 5 of each of its two children.
+    assert_eq!(rt; is_good_alone(&rt, &board, 6, b"\x01")?, Some(true));
+    assert_eq!(rt; is_good_alone(&rt, &board, 6, b"\0\x01\x01")?, Some(true));
+    let others: [&[u8]; 15] = [
         b"",
         b"\0",
+        b"\0\x01",
+        b"\0\x01\x01\x01",
+        b"\x01\x01",
+        b"\x01\0",
         b"\x02",
         b"\x10",
         b"\x11",
         b"\x1F",
         b"\x21",
+        b"\0\x41\x41",
         b"\xFF",
-        b"\x01\x01",
         b"\x20",
         b"\x20\0\0\0",
-        // It cites itself.
-        b"\x20\0\0\0\0",
     ];
-    for tree in bad {
+    for tree in others {
         assert_eq!(rt;
             is_good_alone(&rt, &board, 6, tree)?,
             Some(false),
             "{tree:?}"
         );
     }
-    assert_eq!(rt; is_good_alone(&rt, &board, 6, b"\x01")?, Some(true));
-    assert_eq!(rt; is_good_alone(&rt, &board, 6, b"\0\x01\x01")?, Some(true));
-    assert_eq!(rt; is_good_alone(&rt, &board, 6, b"\0\x01")?, Some(false));
-    assert_eq!(rt;
-        is_good_alone(&rt, &board, 6, b"\0\x01\x01\x01")?,
-        Some(false)
-    );
     Ok(())
 }
 
@@ -132,13 +130,13 @@ fn the_goal_board_has_a_leaf_alone(rt: HostRuntime) -> Result<(), Fail> {
     let goal = [0, 1, 2, 3];
     assert_eq!(rt; is_good_alone(&rt, &goal, 0, b"\x01")?, Some(true));
     assert_eq!(rt; is_good_alone(&rt, &goal, 1, b"\x01")?, Some(false));
-    // One move leads back to it, so its children are leaves of bound 0.
+    // Its two children would have bound 0.
     assert_eq!(rt; is_good_alone(&rt, &goal, 1, b"\0\x01\x01")?, Some(false));
     Ok(())
 }
 
 #[test]
-fn citations(rt: HostRuntime) {
+fn an_earlier_lemma_of_the_board_is_cited(rt: HostRuntime) -> Result<(), Fail> {
     let smaller = with_byte(&rt, &CITED, 14, 4);
     assert_eq!(rt; is_good(&rt, &TILES_12, &smaller, 1), Some(false));
     let greater = with_byte(&rt, &CITED, 14, 6);
@@ -151,6 +149,9 @@ fn citations(rt: HostRuntime) {
     // The board `3 0 2 1`, of the same side, in place of `3 0 1 2`.
     let other = with_byte(&rt, &with_byte(&rt, &CITED, 12, 2), 13, 1);
     assert_eq!(rt; is_good(&rt, &TILES_12, &other, 1), Some(false));
+    let alone = is_good_alone(&rt, &[3, 2, 1, 0], 6, b"\x20\0\0\0\0")?;
+    assert_eq!(rt; alone, Some(false), "it cites itself");
+    Ok(())
 }
 
 #[test]

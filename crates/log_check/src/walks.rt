@@ -29,7 +29,7 @@ pub(crate) struct OpenBranch {
 
 impl OpenBranch {
     ghost use Rattle.std.specs.Prelude.{◌≡◌, List, ◌∷◌, IfNone, IfSome};
-    ghost use Rattle.log_check.specs.Walks.{with_open};
+    ghost use Rattle.log_check.specs.StoredBranches.{with_open};
     ghost use Rattle.log_check.specs.declared.walks.Waiting.{Waiting};
 
     /// The next child, whose bound is this.
@@ -71,7 +71,8 @@ pub(crate) struct OpenBranches {
 
 impl OpenBranches {
     ghost use Rattle.std.specs.Prelude.{◌≡◌, ◌≤◌, [], ◌∷◌, IfNone, IfSome};
-    ghost use Rattle.log_check.specs.Walks.{all_moves, waiting_in, with_children};
+    ghost use Rattle.log_check.specs.StoredBranches.{waiting_in};
+    ghost use Rattle.log_check.specs.Walks.{all_moves, with_children};
 
     /// None yet, where this board waits.
     pub(crate) fn below(root: &Waiting) -> OpenBranches

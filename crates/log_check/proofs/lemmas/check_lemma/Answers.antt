@@ -2,7 +2,8 @@ use Rattle.std.proofs.Common.{◌≡◌, ◌<◌, ◌^◌, ◌∙◌, ◌∷◌,
 use Rattle.puz_board.specs.Boards.{IsBoardOf}
 use Rattle.log_check.specs.GoodLogs.{IsGood}
 use Rattle.log_check.specs.Nodes.{BeginsWith, BeginsWithNone}
-use Rattle.log_check.specs.Walks.{waiting_in, with_node}
+use Rattle.log_check.specs.StoredBranches.{waiting_in}
+use Rattle.log_check.specs.Walks.{with_node}
 use Rattle.log_check.proofs.DecideLemmas.{AreBoards}
 use Rattle.log_check.proofs.NodeLemmas.{AreBoards-node, node_bytes-step, none-pending, none_left, refused, root-pending, walked, with_node-other}
 use Rattle.log_check.proofs.lemmas.check_lemma.Goals as goal

@@ -1,6 +1,6 @@
 use Rattle.std.proofs.Common.{◌≡◌, ◌↔◌, ◌∷◌, length}
 use Rattle.log_check.specs.GoodLogs.{IsGood}
-use Rattle.log_check.specs.Walks.{waiting_in}
+use Rattle.log_check.specs.StoredBranches.{waiting_in}
 use Rattle.log_check.proofs.DecideLemmas.{AreBoards}
 use Rattle.log_check.proofs.Pending.{Pending}
 use Rattle.log_check.proofs.lemmas.check_lemma.Given as goal

@@ -1,5 +1,5 @@
 use Rattle.std.proofs.Common.{◌≡◌, List, length}
-use Rattle.log_check.specs.Walks.{moves_from, with_open}
+use Rattle.log_check.specs.StoredBranches.{moves_from, with_open}
 use Rattle.log_check.specs.declared.walks.Waiting.{Waiting}
 use Rattle.log_check.proofs.walks.OpenBranch.next_child.Given as goal
 

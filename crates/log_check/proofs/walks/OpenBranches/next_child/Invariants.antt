@@ -1,5 +1,5 @@
 use Rattle.std.proofs.Common.{◌≡◌, ◌-◌}
-use Rattle.log_check.specs.Walks.{waiting_in}
+use Rattle.log_check.specs.StoredBranches.{waiting_in}
 use Rattle.log_check.proofs.walks.OpenBranches.next_child.Given as goal
 
 abbrev pub invariant-loop-self : goal.invariant-loop-self
