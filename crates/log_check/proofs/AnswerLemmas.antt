@@ -1,32 +1,30 @@
 -- A file is that of a good log or has a fault, and of these one alone.
 use Rattle.std.proofs.Common.{◌≡◌, ◌≢◌, ℕ, ◌-◌, ◌<◌, ◌≤◌, ◌⊎◌, List, [], length, Result, Ok, Err, Some, inl, inr, refl, sym, ◌∙◌, ap, subst, arith}
-use Rattle.std.specs.Prelude.{IfErr, IfOk, slice_get}
+use Rattle.std.specs.Prelude.{IfErr, IfOk}
 use Rattle.std.proofs.lemmas.Bool.{cases_eq}
-use Rattle.std.proofs.lemmas.Option.{get_or_from_slice_get, slice_get-get_or, slice_get_within}
+use Rattle.std.proofs.lemmas.Option.{slice_get-get_or}
 use Rattle.puz_board.specs.Boards.{IsBoardOf, side_of}
 use Rattle.puz_board.proofs.BoardLemmas.{side_of-board}
 use Rattle.tab_check.proofs.ValueLemmas.{same_list_decided}
-use Rattle.set_sum.specs.Bounds.{IsBounded}
 use Rattle.set_sum.specs.Bundles.{BundleView, IsBundle}
-use Rattle.set_sum.proofs.ListLemmas.{all_at}
 use Rattle.log_file.specs.FormFaults as form
 use Rattle.log_file.specs.LogFiles.{IsLogFile}
 use Rattle.log_file.specs.Logs.{IsLog, Lemma, Log}
 use Rattle.log_file.specs.declared.faults.FormFault.{FormFault}
 use Rattle.log_file.proofs.AnswerLemmas.{file_answer}
 use Rattle.log_file.proofs.FileLemmas.{no_fault, one_log, one_fault as one_form_fault}
-use Rattle.log_check.specs.GoodLogs.{AreGood, IsGoodFile, IsGoodLog, IsLast, IsLogFor}
+use Rattle.log_check.specs.GoodLogs.{IsGoodFile, IsGoodLog, IsLast, IsLogFor}
 use Rattle.log_check.specs.LogFaults.{AreOfOneSide, IsCauseOf, IsFaultOf, IsFirstBad}
 use Rattle.log_check.specs.declared.faults.LogFault.{LogFault}
 use Rattle.log_check.specs.declared.faults.LogFault.TheVariants.{Memory, Refused}
 use Rattle.log_check.specs.declared.faults.LogRefusal.{LogRefusal}
 use Rattle.log_check.specs.declared.faults.LogRefusal.TheVariants.{Form, L4, L5, L6}
 use Rattle.log_check.proofs.FirstBadLemmas.{good_or_first_bad}
-use Rattle.log_check.proofs.GoodLemmas.{good_log_bounds}
+use Rattle.log_check.proofs.GoodLemmas.{all_get}
 
 -- ---- one log
 
-pub last_one : (lemmas : List Lemma) (a b : Lemma) → IsLast lemmas a → IsLast lemmas b → a ≡ b
+last_one : (lemmas : List Lemma) (a b : Lemma) → IsLast lemmas a → IsLast lemmas b → a ≡ b
 last_one lemmas a b is also = let both : Some a ≡ Some b = sym is ∙ also in cc
 
 -- a log has one
@@ -35,16 +33,10 @@ last_some log is =
     let some : 1 ≤ length log.lemmas = is.size.some in
     (_, slice_get-get_or log.lemmas (length log.lemmas - 1) (record { board = []; bound = 0; tree = [] }) (omega arith))
 
-last_board : (log : Log) → IsLog log → (last : Lemma) → IsLast log.lemmas last → IsBoardOf log.side last.board
-last_board log is last is_last =
-    let i : ℕ = length log.lemmas - 1 in
-    subst (λ lemma. IsBoardOf log.side lemma.board) (get_or_from_slice_get log.lemmas i last last is_last)
-    (all_at (λ lemma. IsBoardOf log.side lemma.board) log.lemmas i last (slice_get_within log.lemmas i last is_last) is.boards)
-
 module _ (v : BundleView) (b : List ℕ) (log : Log) where
   of_one_side : IsLog log → (last : Lemma) → IsLogFor v log b last → AreOfOneSide v log b
   of_one_side is last is_for =
-      let board : IsBoardOf log.side last.board = last_board log is last is_for.is_last in
+      let board = all_get (λ lemma. IsBoardOf log.side lemma.board) log.lemmas (length log.lemmas - 1) last is_for.is_last is.boards in
       record { log_side = is_for.side; board_side = ap side_of (sym is_for.board) ∙ side_of-board log.side last.board board ∙ is_for.side }
 
   -- what stands of a log file, in the order of the faults

@@ -1,5 +1,4 @@
 mod AnswerLemmas
-mod BoardLemmas
 mod BoundLemmas
 mod DecideLemmas
 mod FirstBadLemmas

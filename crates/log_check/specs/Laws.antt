@@ -1,5 +1,5 @@
 -- Laws of logs.
-use Rattle.std.specs.Prelude.{◌≡◌, ◌⊎◌, ℕ, ◌<◌, ◌≤◌, List, Some, slice_get}
+use Rattle.std.specs.Prelude.{◌≡◌, ◌⊎◌, ℕ, List, Some, slice_get}
 use Rattle.set_sum.specs.Bounds.{IsBounded}
 use Rattle.set_sum.specs.Bundles.{BundleView, IsBundle}
 use Rattle.log_file.specs.Logs.{IsLog, Lemma, Log}

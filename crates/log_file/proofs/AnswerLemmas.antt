@@ -14,7 +14,7 @@ use Rattle.log_file.proofs.FileLemmas.{IsLogFile-first}
 abbrev Decided : Type 0 → Type 0
 Decided A = A ⊎ (¬ A)
 
-pub lists_decided : (xs ys : List ℕ) → (xs ≡ ys) ⊎ (xs ≢ ys)
+lists_decided : (xs ys : List ℕ) → (xs ≡ ys) ⊎ (xs ≢ ys)
 lists_decided [] [] = inl refl
 lists_decided [] (y ∷ ys) = inr (λ e. cc)
 lists_decided (x ∷ xs) [] = inr (λ e. cc)

@@ -1,8 +1,9 @@
-use Rattle.std.proofs.Common.{◌≡◌, ◌≢◌, ◌-◌, Some, sym, ◌∙◌, subst, rules}
+use Rattle.std.proofs.Common.{◌≡◌, ◌≢◌, ◌-◌, Some, eqb, sym, ◌∙◌, subst, rules}
 use Rattle.std.specs.Prelude.{slice_get}
-use Rattle.puz_board.specs.Boards.{IsBoardOf, side_of}
+use Rattle.std.proofs.lemmas.Bool.{not-false}
+use Rattle.puz_board.specs.Boards.{IsBoardOf, blank, side_of}
 use Rattle.log_check.proofs.AnswerLemmas.{last_some}
-use Rattle.log_check.proofs.BoardLemmas.{board_same}
+use Rattle.log_check.proofs.NodeLemmas.{boards_same}
 use Rattle.log_check.proofs.logs.claimed_bound.Goals as goal
 
 pub returns-then-ne-3-clause-err : goal.returns-then-ne-3-clause-err
@@ -24,7 +25,11 @@ returns-clause-ok c =
     let found : c.board.result ≡ last.0.board = c.board.ensures.value last.0 there in
     let of_side : side_of c.args.board.now ≡ log.side = search rules in
     let is_board : IsBoardOf log.side c.args.board.now = subst (λ n. IsBoardOf n c.args.board.now) of_side c.side-else-ne.ensures.board in
-    let same = board_same log.side c.board.result c.args.board.now c.board.ensures.board is_board c.ne-2.result c.ne-2.ensures c.if-ne-3.false in (
+    let a = c.board.result in
+    let b = c.args.board.now in
+    let same : a ≡ b =
+    boards_same log.side a b c.board.ensures.board is_board (eqb (side_of a) (side_of b)) (eqb (blank a) (blank b))
+    (not-false _ (sym c.ne-2.ensures ∙ c.if-ne-3.false)) in (
       last.0,
       record { side = side; is_last = last.1; board = sym found ∙ same },
       sym (c.bound.ensures last.0 there),
