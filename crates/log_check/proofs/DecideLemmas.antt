@@ -52,7 +52,7 @@ begins_decided bytes = elim (cases_lt (from_be_bytes w32 (take 4 bytes)) (2 ^ 32
 -- ---- boards that wait
 
 -- each board that waits is one of side n
-abbrev AreBoards : ℕ → List Waiting → Type 0
+abbrev pub AreBoards : ℕ → List Waiting → Type 0
 AreBoards n ws = AllByRecursion (λ w. IsBoardOf n w.board) ws
 
 child_boards : (n : ℕ) (w : Waiting) (move : Move) (b : Option (List ℕ)) (back : Bool) (ws : List Waiting)
@@ -61,7 +61,7 @@ child_boards n w move None back ws is more = more
 child_boards n w move (Some b) true ws is more = more
 child_boards n w move (Some b) false ws is more = (is b refl, more)
 
-children_boards : (n : ℕ) (w : Waiting) → IsBoardOf n w.board → (moves : List Move) (ws : List Waiting) → AreBoards n ws → AreBoards n (with_children w moves ws)
+pub children_boards : (n : ℕ) (w : Waiting) → IsBoardOf n w.board → (moves : List Move) (ws : List Waiting) → AreBoards n ws → AreBoards n (with_children w moves ws)
 children_boards n w good [] ws more = more
 children_boards n w good (move ∷ moves) ws more =
     child_boards n w move (moved w.board move) (takes_back w.arriving move) (with_children w moves ws) (IsBoardOf-moved n w.board good move)

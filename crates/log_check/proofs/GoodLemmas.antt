@@ -13,7 +13,7 @@ use Rattle.log_check.specs.GoodLogs.{AreGood, IsGood, IsGoodLog}
 use Rattle.log_check.proofs.BoundLemmas.{EarlierBound, first_tree_bounds}
 
 -- what holds of each element holds of the one at a place
-all_get : {X : Type 0} (P : X → Type 0) (xs : List X) (i : ℕ) (x : X) → slice_get xs i ≡ Some x → AllByRecursion P xs → P x
+pub all_get : {X : Type 0} (P : X → Type 0) (xs : List X) (i : ℕ) (x : X) → slice_get xs i ≡ Some x → AllByRecursion P xs → P x
 all_get P xs i x there all = subst P (get_or_from_slice_get xs i x x there) (all_at P xs i x (slice_get_within xs i x there) all)
 
 module _ (v : BundleView) (is_bundle : IsBundle v) (log : Log) (is_log : IsLog log) (side : log.side ≡ v.side) where

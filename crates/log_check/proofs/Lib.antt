@@ -1,6 +1,10 @@
+mod AnswerLemmas
 mod BoundLemmas
 mod BranchLemmas
 mod DecideLemmas
+mod FirstBadLemmas
 mod GoodLemmas
+mod OpenLemmas
+mod NodeLemmas
 mod Pending
 mod WalkLemmas

@@ -1,5 +1,5 @@
 -- Good lemmas, whose trees prove them, and good logs.
-use Rattle.std.specs.Prelude.{◌≡◌, ℕ, ◌-◌, ◌<◌, List, length, Option, Some, None, slice_get}
+use Rattle.std.specs.Prelude.{◌≡◌, ℕ, ◌-◌, ◌<◌, List, length, Some, None, slice_get}
 use Rattle.set_sum.specs.Bundles.{BundleView}
 use Rattle.log_file.specs.LogFiles.{IsLogFile}
 use Rattle.log_file.specs.Logs.{Lemma, Log}

@@ -1,6 +1,5 @@
 -- Laws of logs.
-use Rattle.std.specs.Prelude.{◌≡◌, ◌⊎◌, ℕ, ◌<◌, ◌≤◌, List, Some, slice_get}
-use Rattle.puz_board.specs.Boards.{IsBoardOf}
+use Rattle.std.specs.Prelude.{◌≡◌, ◌⊎◌, ℕ, List, Some, slice_get}
 use Rattle.set_sum.specs.Bounds.{IsBounded}
 use Rattle.set_sum.specs.Bundles.{BundleView, IsBundle}
 use Rattle.log_file.specs.Logs.{IsLog, Lemma, Log}
@@ -41,5 +40,4 @@ GoodFilesHaveNoFault = (v : BundleView) (b file : List ℕ) (bound : ℕ) (f : L
 -- for a bundle all bytes are such a file or have a fault
 abbrev pub FilesHaveAnAnswer : Type 0
 FilesHaveAnAnswer =
-    (v : BundleView) → IsBundle v → (b file : List ℕ) → IsBoardOf v.side b ⊎ (¬ IsBoardOf v.side b) →
-    ((bound : ℕ) × IsGoodFile v b file bound) ⊎ ((f : LogRefusal) × IsFaultOf f v b file)
+    (v : BundleView) → IsBundle v → (b file : List ℕ) → ((bound : ℕ) × IsGoodFile v b file bound) ⊎ ((f : LogRefusal) × IsFaultOf f v b file)

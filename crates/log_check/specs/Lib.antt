@@ -1,5 +1,8 @@
 pub mod GoodLogs
 pub mod Laws
 pub mod LogFaults
+pub mod Nodes
 pub mod Refutations
+pub mod StoredBranches
 pub mod Trees
+pub mod Walks

@@ -1,5 +1,5 @@
 -- What keeps bytes from being the file of a good log for a board.
-use Rattle.std.specs.Prelude.{◌≡◌, ◌≢◌, ℕ, ◌<◌, ◌≤◌, List, length}
+use Rattle.std.specs.Prelude.{◌≡◌, ◌≢◌, ℕ, ◌<◌, List, length}
 use Rattle.puz_board.specs.Boards.{side_of}
 use Rattle.set_sum.specs.Bundles.{BundleView}
 use Rattle.log_file.specs.FormFaults as form

@@ -2,8 +2,20 @@
 #![tactic(auto)]
 
 mod faults;
+mod jobs;
 pub mod laws;
+mod lemmas;
+#[cfg(test)]
+mod log_tests;
 mod logs;
+mod nodes;
+mod order;
+#[cfg(test)]
+mod plain_logs;
+#[cfg(test)]
+mod tests;
+mod walks;
 
 pub use faults::{LogFault, LogRefusal};
+pub use lemmas::check_lemma;
 pub use logs::check_log;

@@ -1,23 +1,27 @@
 //! The check of a log.
 
-ghost use Rattle.std.specs.Prelude.{◌≡◌, ◌⊎◌, ◌<◌, ◌≤◌, ℕ, Err, IfErr, IfOk, Ok};
+ghost use Rattle.std.specs.Prelude.{◌≡◌, ◌⊎◌, ◌<◌, ◌≤◌, ℕ, Err, IfErr, IfOk, List, MatchOption, Ok};
 ghost use Rattle.set_sum.specs.Bounds.{IsBounded};
+ghost use Rattle.set_sum.specs.Bundles.{IsBundle};
 ghost use Rattle.log_file.specs.FormFaults as form;
+ghost use Rattle.log_file.specs.LogFiles.{IsLogFile};
+ghost use Rattle.log_file.specs.Logs.{IsLog, Lemma};
 ghost use Rattle.log_file.specs.declared.faults.FormFault.{FormFault};
-ghost use Rattle.log_check.specs.GoodLogs.{IsGoodFile};
-ghost use Rattle.log_check.specs.LogFaults.{IsCauseOf, IsFaultOf};
+ghost use Rattle.log_check.specs.GoodLogs.{AreGood, IsGoodFile, IsLogFor};
+ghost use Rattle.log_check.specs.LogFaults.{IsCauseOf, IsFaultOf, IsFirstBad};
 ghost use Rattle.log_check.specs.declared.faults.LogFault.TheVariants.{Memory, Refused};
 ghost use Rattle.log_check.specs.declared.faults.LogRefusal.{LogRefusal};
 ghost use Rattle.log_check.specs.declared.faults.LogRefusal.TheVariants.{Form};
 
 use crate::faults::{LogFault, LogRefusal};
+use crate::jobs::LogCheck;
 use log_file::{LogView, ViewFault};
 use puz_board::Board;
 use set_sum::Bundle;
-use std::alloc::Global;
+use std::alloc::{AllocError, Global};
 use std::sync::Wait;
 use std::thread::Threads;
-use work_run::Gate;
+use work_run::{Gate, run_jobs};
 
 /// The bound that a log proves for a board over a bundle, checked lemma by lemma, by so many workers at once.
 ///
@@ -47,9 +51,76 @@ pub fn check_log<R: Threads + Wait, G: Gate + Sync>(
     ensures refused { (fault : LogRefusal) → IsFaultOf fault bundle.now board.now file.now
         → (result ≡ Err (Refused fault)) ⊎ (result ≡ Err Memory) }
 {
-    match LogView::read(alloc, file) {
-        Ok(_log) => Err(LogFault::Memory),
-        Err(ViewFault::Refused(fault)) => Err(LogFault::Refused(LogRefusal::Form(fault))),
-        Err(ViewFault::Memory) => Err(LogFault::Memory),
+    proven_bound(rt, alloc, bundle, file, board, workers, gate)
+}
+
+/// The bound that a log proves for a board, or why it proves none.
+fn proven_bound<R: Threads + Wait, G: Gate + Sync>(
+    rt: &R,
+    alloc: Global,
+    bundle: &Bundle<'_>,
+    file: &[u8],
+    board: &Board,
+    workers: u8,
+    gate: &G,
+) -> Result<u8, LogFault>
+    requires { (0 < workers) × (workers ≤ 64) }
+    ensures ok { IfOk result (IsGoodFile bundle.now board.now file.now) }
+    ensures bounds { IfOk result (IsBounded board.now) }
+    ensures fault { IfErr result (λ fault. IsCauseOf fault bundle.now board.now file.now) }
+{
+    let log = match LogView::read(alloc, file) {
+        Ok(log) => log,
+        Err(ViewFault::Refused(fault)) => return Err(LogFault::Refused(LogRefusal::Form(fault))),
+        Err(ViewFault::Memory) => return Err(LogFault::Memory),
+    };
+    let bound = match claimed_bound(&log, bundle, board) {
+        Ok(bound) => bound,
+        Err(fault) => return Err(LogFault::Refused(fault)),
+    };
+    match first_bad(rt, alloc, &log, bundle, workers, gate) {
+        Ok(None) => Ok(bound),
+        Ok(Some(number)) => Err(LogFault::Refused(LogRefusal::L6(number))),
+        Err(_) => Err(LogFault::Memory),
+    }
+}
+
+/// The bound of the last lemma of a log, which is to be one of the given board.
+fn claimed_bound(log: &LogView<'_>, bundle: &Bundle<'_>, board: &Board) -> Result<u8, LogRefusal>
+    ensures ok { IfOk result (λ bound. (last : Lemma) × IsLogFor bundle.now log.now board.now last × (last.bound ≡ bound)) }
+    ensures err { IfErr result (λ fault. (file : List ℕ) → IsLogFile log.now file → IsFaultOf fault bundle.now board.now file) }
+    ensures bundle { IsBundle bundle.now }
+    ensures log { IsLog log.now }
+{
+    if log.side() != bundle.side() || board.side() != bundle.side() {
+        return Err(LogRefusal::L4);
+    }
+    let last = log.len() - 1;
+    if log.board(last) != *board {
+        return Err(LogRefusal::L5);
+    }
+    Ok(log.bound(last))
+}
+
+/// The number of the first lemma that isn't good, by so many workers at once.
+fn first_bad<R: Threads + Wait, G: Gate + Sync>(
+    rt: &R,
+    alloc: Global,
+    log: &LogView<'_>,
+    bundle: &Bundle<'_>,
+    workers: u8,
+    gate: &G,
+) -> Result<Option<u32>, AllocError>
+    requires bundle { IsBundle bundle.now }
+    requires log { IsLog log.now }
+    requires side { log.now.side ≡ bundle.now.side }
+    requires workers { (0 < workers) × (workers ≤ 64) }
+    ensures { IfOk result (λ first. MatchOption first (AreGood bundle.now log.now.lemmas) (IsFirstBad bundle.now log.now.lemmas)) }
+{
+    let check = LogCheck { log, bundle };
+    match run_jobs(rt, alloc, &check, workers, gate) {
+        Ok(Some(number)) => Ok(Some(number as u32)),
+        Ok(None) => Ok(None),
+        Err(fault) => Err(fault),
     }
 }

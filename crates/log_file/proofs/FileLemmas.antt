@@ -1,10 +1,10 @@
 -- A file has one log or one fault.
-use Rattle.std.proofs.Common.{◌≡◌, ℕ, ◌+◌, ◌-◌, ◌<◌, ◌≤◌, ◌⊎◌, List, length, drop, take, Result, Ok, Err, inl, inr, refl, sym, ◌∙◌, ap, ap₂, subst, arith, length-drop}
+use Rattle.std.proofs.Common.{◌≡◌, ℕ, ◌-◌, ◌<◌, ◌⊎◌, List, length, drop, take, Result, Ok, Err, inl, inr, refl, sym, ◌∙◌, ap, ap₂, subst, arith, length-drop}
 use Rattle.std.proofs.Math.Seq.{take-length}
 use Rattle.std.specs.Prelude.{IfOk}
 use Rattle.puz_board.specs.Boards.{IsBoardOf}
 use Rattle.std.specs.List.{AllByRecursion}
-use Rattle.log_file.specs.Logs.{IsLog, IsSize, Lemma, Log}
+use Rattle.log_file.specs.Logs.{IsSize, Lemma, Log}
 use Rattle.log_file.specs.LogFiles.{AreLemmas, HasLemma, IsHeader, IsLogFile, count_in, front_lemma, side_in}
 use Rattle.log_file.specs.FormFaults.{AreBoards, AreFilled, HasHeader, IsFaultOf, IsFirstCut, IsFirstNoBoard, IsLeftOver, behind_first, first_lemmas}
 use Rattle.log_file.specs.declared.faults.FormFault.{FormFault}

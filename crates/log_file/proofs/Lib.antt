@@ -1,3 +1,4 @@
+pub mod AnswerLemmas
 mod BoardLemmas
+pub mod FileLemmas
 mod RowLemmas
-mod FileLemmas

@@ -1,5 +1,5 @@
 -- Laws of log files.
-use Rattle.std.specs.Prelude.{◌≡◌, ℕ, List}
+use Rattle.std.specs.Prelude.{◌≡◌, ◌⊎◌, ℕ, List}
 use Rattle.log_file.specs.FormFaults.{IsFaultOf}
 use Rattle.log_file.specs.LogFiles.{IsLogFile}
 use Rattle.log_file.specs.Logs.{Log}
@@ -16,3 +16,7 @@ FilesHaveOneFault = (file : List ℕ) (a b : FormFault) → IsFaultOf a file →
 -- a log's file has none
 abbrev pub LogFilesHaveNoFault : Type 0
 LogFilesHaveNoFault = (file : List ℕ) (log : Log) (fault : FormFault) → IsLogFile log file → ¬ IsFaultOf fault file
+
+-- all bytes are the file of a log or have one
+abbrev pub FilesHaveAnAnswer : Type 0
+FilesHaveAnAnswer = (file : List ℕ) → ((log : Log) × IsLogFile log file) ⊎ ((fault : FormFault) × IsFaultOf fault file)

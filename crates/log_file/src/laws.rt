@@ -1,9 +1,10 @@
 //! Laws of log files. Each function here says what holds of all of them, and does nothing.
 
-ghost use Rattle.log_file.specs.Laws.{FilesHaveOneFault, FilesHaveOneLog, LogFilesHaveNoFault};
+ghost use Rattle.log_file.specs.Laws.{FilesHaveAnAnswer, FilesHaveOneFault, FilesHaveOneLog, LogFilesHaveNoFault};
 
-/// What is answered of a file is settled by its bytes, but for want of memory.
+/// A file is that of a log or has a fault, and of these one alone: its bytes settle all but want of memory.
 pub fn files_have_one_answer()
+    ensures some { FilesHaveAnAnswer }
     ensures log { FilesHaveOneLog }
     ensures fault { FilesHaveOneFault }
     ensures either { LogFilesHaveNoFault }

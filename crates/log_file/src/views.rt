@@ -84,7 +84,8 @@ impl<'a> LogView<'a> {
     /// The board of a lemma.
     pub fn board(&self, i: u32) -> Board
         requires { i < length self.now.lemmas }
-        ensures { (lemma : Lemma) → slice_get self.now.lemmas i ≡ Some lemma → result ≡ lemma.board }
+        ensures value { (lemma : Lemma) → slice_get self.now.lemmas i ≡ Some lemma → result ≡ lemma.board }
+        ensures board { IsBoardOf self.now.side result }
     {
         self.lemmas[i as usize].board
     }

@@ -1,5 +1,9 @@
+use Rattle.log_file.proofs.AnswerLemmas.{file_answer}
 use Rattle.log_file.proofs.FileLemmas.{no_fault, one_fault, one_log}
 use Rattle.log_file.proofs.laws.files_have_one_answer.Goals as goal
+
+pub returns-clause-some : goal.returns-clause-some
+returns-clause-some c = file_answer
 
 pub returns-clause-log : goal.returns-clause-log
 returns-clause-log c = one_log

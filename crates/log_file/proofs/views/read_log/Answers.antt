@@ -1,6 +1,6 @@
 use Rattle.std.proofs.Common.{◌∙◌, ◌-◌, ap, drop, length, refl, rules, subst, take}
 use Rattle.log_file.specs.FormFaults.{AreBoards, AreFilled, first_lemmas}
-use Rattle.log_file.proofs.FileLemmas.{HasHeader-read, IsLogFile-first, behind_header}
+use Rattle.log_file.proofs.FileLemmas.{IsLogFile-first, behind_header}
 use Rattle.log_file.proofs.views.read_log.Goals as goal
 
 pub invariant_of-result : goal.invariant_of-result

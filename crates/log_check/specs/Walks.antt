@@ -1,0 +1,45 @@
+-- Which boards of a tree wait for their nodes, in the order of its bytes.
+use Rattle.std.specs.Prelude.{ℕ, ◌-◌, ◌≤◌, List, [], ◌∷◌, Bool, true, false, Option, Some, None}
+use Rattle.puz_board.specs.Boards.{IsGoal, moved}
+use Rattle.puz_board.specs.declared.moves.Move.{Move}
+use Rattle.puz_board.specs.declared.moves.Move.TheVariants.{Up, Down, Left, Right}
+use Rattle.set_sum.specs.Bundles.{BundleView, SaysAtLeast}
+use Rattle.log_file.specs.Logs.{Lemma}
+use Rattle.log_check.specs.Refutations.{Cites, takes_back}
+use Rattle.log_check.specs.declared.nodes.Node.{Node}
+use Rattle.log_check.specs.declared.nodes.Node.TheVariants.{Branch, Leaf, Citation}
+use Rattle.log_check.specs.declared.walks.Waiting.{Waiting}
+
+-- ---- the children of a branch
+
+abbrev pub with_child_at : Waiting → Move → Option (List ℕ) → Bool → List Waiting → List Waiting
+with_child_at w move None back ws = ws
+with_child_at w move (Some b) true ws = ws
+with_child_at w move (Some b) false ws = record { board = b; arriving = Some move; bound = w.bound - 1 } ∷ ws
+
+-- the child of a move, where there is one, before the others
+abbrev pub with_child : Waiting → Move → List Waiting → List Waiting
+with_child w move ws = with_child_at w move (moved w.board move) (takes_back w.arriving move) ws
+
+-- the children of these moves before the others
+abbrev pub with_children : Waiting → List Move → List Waiting → List Waiting
+with_children w [] ws = ws
+with_children w (move ∷ moves) ws = with_child w move (with_children w moves ws)
+
+-- all moves, in the order of a branch's children
+abbrev pub all_moves : List Move
+all_moves = Up ∷ Down ∷ Left ∷ Right ∷ []
+
+-- ---- the node of the board that waits first
+
+-- the boards that wait behind the node
+abbrev pub with_node : Node → Waiting → List Waiting → List Waiting
+with_node Branch w ws = with_children w all_moves ws
+with_node (Leaf set) w ws = ws
+with_node (Citation lemma) w ws = ws
+
+-- in lemma i the board may have this node
+abbrev pub MayHave : BundleView → List Lemma → ℕ → Waiting → Node → Type 0
+MayHave v lemmas i w Branch = (¬ IsGoal w.board) × (1 ≤ w.bound)
+MayHave v lemmas i w (Leaf set) = SaysAtLeast v set w.board w.bound
+MayHave v lemmas i w (Citation lemma) = Cites lemmas i lemma w.board w.bound

@@ -1,0 +1,86 @@
+//! The check of one lemma.
+
+ghost use Rattle.std.specs.Prelude.{◌≡◌, ◌<◌, ◌↔◌, IsTrue, length};
+ghost use Rattle.puz_board.specs.Boards.{IsBoardOf};
+ghost use Rattle.set_sum.specs.Bundles.{SaysAtLeast};
+ghost use Rattle.log_check.specs.GoodLogs.{IsGood};
+ghost use Rattle.log_check.specs.Nodes.{IsNode};
+ghost use Rattle.log_check.specs.Refutations.{Cites};
+ghost use Rattle.log_check.specs.Walks.{MayHave};
+
+use crate::nodes::{Node, first_node};
+use crate::walks::{OpenBranches, Waiting};
+use log_file::LogView;
+use set_sum::Bundle;
+use tab_check::Count;
+
+/// Whether a lemma of a log is good: its bytes spell one tree, which refutes that the lemma's board has a solution of fewer
+/// moves than the lemma's bound (Korf 1985).
+///
+/// It goes once over the bytes of the tree, and keeps at most 255 boards whose children are still to come.
+pub fn check_lemma(log: &LogView<'_>, bundle: &Bundle<'_>, i: u32) -> bool
+    requires there { i < length log.now.lemmas }
+    requires side { log.now.side ≡ bundle.now.side }
+    ensures { IsTrue result ↔ IsGood bundle.now log.now.lemmas i }
+{
+    let sets = bundle.sets();
+    let mut rest = log.tree(i);
+    let mut waiting = Waiting {
+        board: log.board(i),
+        arriving: None,
+        bound: log.bound(i),
+    };
+    let mut branches = OpenBranches::below(&waiting);
+    loop {
+        let Some((node, behind)) = first_node(rest, sets) else {
+            return false;
+        };
+        if !may_have(log, bundle, i, &waiting, node) {
+            return false;
+        }
+        if let Node::Branch = node {
+            branches.open(&waiting);
+        }
+        let Some(next) = branches.next_child() else {
+            return behind.is_empty();
+        };
+        waiting = next;
+        rest = behind;
+    }
+}
+
+/// Whether a board may have this node, in lemma `i`.
+fn may_have(log: &LogView<'_>, bundle: &Bundle<'_>, i: u32, waiting: &Waiting, node: Node) -> bool
+    requires there { i < length log.now.lemmas }
+    requires side { log.now.side ≡ bundle.now.side }
+    requires board { IsBoardOf log.now.side waiting.now.board }
+    requires node { IsNode (length bundle.now.sets) node }
+    ensures { IsTrue result ↔ MayHave bundle.now log.now.lemmas i waiting.now node }
+{
+    match node {
+        Node::Branch => waiting.bound >= 1 && !waiting.board.is_goal(),
+        Node::Leaf(set) => says_at_least(bundle, set, waiting),
+        Node::Citation(j) => cites(log, i, j, waiting),
+    }
+}
+
+/// Whether what a set says of a board is never, or at least the board's bound.
+fn says_at_least(bundle: &Bundle<'_>, set: u8, waiting: &Waiting) -> bool
+    requires set { set < length bundle.now.sets }
+    requires board { IsBoardOf bundle.now.side waiting.now.board }
+    ensures { IsTrue result ↔ SaysAtLeast bundle.now set waiting.now.board waiting.now.bound }
+{
+    match bundle.sum(set, &waiting.board) {
+        Count::Finite(sum) => u16::from(waiting.bound) <= sum,
+        Count::Never => true,
+    }
+}
+
+/// Whether lemma `i` may cite lemma `j` for a board.
+fn cites(log: &LogView<'_>, i: u32, j: u32, waiting: &Waiting) -> bool
+    requires there { i < length log.now.lemmas }
+    requires board { IsBoardOf log.now.side waiting.now.board }
+    ensures { IsTrue result ↔ Cites log.now.lemmas i j waiting.now.board waiting.now.bound }
+{
+    j < i && log.board(j) == waiting.board && waiting.bound <= log.bound(j)
+}

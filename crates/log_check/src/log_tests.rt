@@ -1,0 +1,387 @@
+//! Logs checked whole, by several workers: worked ones, changed ones byte by byte, long ones, and gates that hold workers.
+
+use crate::plain_logs::{Cells, plain_answer};
+use crate::{LogFault, LogRefusal, check_log};
+use log_file::FormFault;
+use puz_board::Board;
+use samples::files::{TILE_1, TILE_3, TILE_24, TILES_12, TILES_123};
+use samples::{HoldingGate, Log};
+use set_sum::{Bundle, SetFault};
+use std::alloc::{AllocError, Global};
+use std::process::Abort;
+use std::sync::Wait;
+use std::test::Fail;
+use std::thread::Threads;
+use tab_check::{CheckedTable, check_table};
+use work_run::OpenGate;
+
+/// The board `3 2 1 0`, bound 6, and a leaf.
+const LEAF: [u8; 20] = *b"PDBL\x01\x02\0\0\0\x01\x03\x02\x01\0\x06\0\0\0\x01\x01";
+
+/// The same board and bound, and a leaf at the end of each way round.
+const BRANCHES: [u8; 30] = *b"PDBL\x01\x02\0\0\0\x01\
+\x03\x02\x01\0\x06\0\0\0\x0B\0\0\0\0\0\x01\0\0\0\0\x01";
+
+/// The board `3 0 1 2`, bound 5, with 6 bytes of a tree, and `3 2 1 0`, bound 6, whose tree cites that lemma.
+const CITATION: [u8; 45] = *b"PDBL\x01\x02\0\0\0\x02\
+\x03\0\x01\x02\x05\0\0\0\x06\0\x01\0\0\0\x01\
+\x03\x02\x01\0\x06\0\0\0\x0B\0\x20\0\0\0\0\0\0\0\0\x01";
+
+/// The board `0 1 3 2`, which has no solution, bound 255, and a leaf.
+const UNSOLVABLE: [u8; 20] = *b"PDBL\x01\x02\0\0\0\x01\0\x01\x03\x02\xFF\0\0\0\x01\x01";
+
+/// The goal board, bound 0, and a leaf.
+const GOAL: [u8; 20] = *b"PDBL\x01\x02\0\0\0\x01\0\x01\x02\x03\0\0\0\0\x01\x01";
+
+/// The goal board of side 3, bound 0, and a leaf.
+const GOAL_OF_SIDE_3: [u8; 25] =
+    *b"PDBL\x01\x03\0\0\0\x01\0\x01\x02\x03\x04\x05\x06\x07\x08\0\0\0\0\x01\x01";
+
+/// The board of most logs here.
+const BOARD: Cells = [3, 2, 1, 0];
+
+/// The tables of files, checked by one worker.
+fn checked<'a, R: Threads + Wait + AllocGlobal + Abort>(
+    rt: &R,
+    files: &[&'a [u8]],
+) -> Vec<CheckedTable<'a>> {
+    let mut tables = Vec::new(rt.alloc());
+    for file in files {
+        match check_table(rt, rt.alloc(), *file, 1, &OpenGate) {
+            Ok(table) => tables.push(table).expect(rt, "memory"),
+            Err(_) => panic!(rt; "an exact table"),
+        }
+    }
+    tables
+}
+
+/// The bundle of table files and a set text.
+fn bundle<'a, R: Threads + Wait + AllocGlobal + Abort>(
+    rt: &R,
+    files: &[&'a [u8]],
+    text: &[u8],
+) -> Bundle<'a> {
+    match Bundle::read(checked(rt, files), text) {
+        Ok(bundle) => bundle,
+        Err(_) => panic!(rt; "a bundle"),
+    }
+}
+
+/// What a log is answered for a board over a bundle, which is the same by any number of workers.
+fn answer<R: Threads + Wait + AllocGlobal + Abort>(
+    rt: &R,
+    bundle: &Bundle<'_>,
+    log: &[u8],
+    numbers: &[u8],
+) -> Result<u8, LogFault> {
+    let board = Board::from_cells(numbers).expect(rt, "a board");
+    let alone = check_log(rt, rt.alloc(), bundle, log, &board, 1, &OpenGate);
+    for workers in [2, 7, 64] {
+        assert_eq!(rt;
+            check_log(rt, rt.alloc(), bundle, log, &board, workers, &OpenGate),
+            alone,
+            "{workers} workers"
+        );
+    }
+    alone
+}
+
+fn refused(fault: LogRefusal) -> Result<u8, LogFault> {
+    Err(LogFault::Refused(fault))
+}
+
+fn misformed(fault: FormFault) -> Result<u8, LogFault> {
+    refused(LogRefusal::Form(fault))
+}
+
+fn with_byte<const N: usize>(rt: &impl Abort, file: &[u8; N], place: usize, byte: u8) -> [u8; N] {
+    let mut changed = *file;
+    assert!(rt; place < N);
+    changed[place] = byte;
+    changed
+}
+
+#[test]
+fn good_logs_prove_their_bounds(rt: HostRuntime) {
+    let logs: [(&[&[u8]], &[u8], &[u8], Cells, u8); 6] = [
+        (&[&TILES_123], b"set 0\n", &LEAF, BOARD, 6),
+        (&[&TILES_12], b"set 0\n", &BRANCHES, BOARD, 6),
+        (&[&TILES_12], b"set 0\n", &CITATION, BOARD, 6),
+        // The sum is 4 + 2.
+        (&[&TILES_12, &TILE_3], b"set 0 1\n", &LEAF, BOARD, 6),
+        (&[&TILES_123], b"set 0\n", &UNSOLVABLE, [0, 1, 3, 2], 255),
+        (&[&TILES_123], b"set 0\n", &GOAL, [0, 1, 2, 3], 0),
+    ];
+    for (files, text, log, board, bound) in logs {
+        let bundle = bundle(&rt, files, text);
+        assert_eq!(rt; answer(&rt, &bundle, log, &board), Ok(bound), "{log:?}");
+    }
+}
+
+#[test]
+fn bytes_of_another_form_are_refused(rt: HostRuntime) {
+    let bundle = bundle(&rt, &[&TILES_12], b"set 0\n");
+    let mut longer = [0; 31];
+    longer[..30].copy_from_slice(&BRANCHES);
+    let logs: [(&[u8], FormFault); 7] = [
+        (b"", FormFault::L1),
+        (&with_byte(&rt, &LEAF, 9, 0), FormFault::L1),
+        (&with_byte(&rt, &LEAF, 9, 2), FormFault::L2(1)),
+        (&with_byte(&rt, &LEAF, 5, 3), FormFault::L2(0)),
+        (&BRANCHES[..29], FormFault::L2(0)),
+        (&longer, FormFault::L2(1)),
+        (&with_byte(&rt, &LEAF, 10, 2), FormFault::L3(0)),
+    ];
+    for (log, fault) in logs {
+        assert_eq!(rt;
+            answer(&rt, &bundle, log, &BOARD),
+            misformed(fault),
+            "{log:?}"
+        );
+    }
+}
+
+#[test]
+fn logs_bundles_and_boards_have_one_side(rt: HostRuntime) {
+    let two = bundle(&rt, &[&TILES_123], b"set 0\n");
+    let five = bundle(&rt, &[&TILE_24], b"set 0\n");
+    let goal_of_side_3 = [0, 1, 2, 3, 4, 5, 6, 7, 8];
+    let want = refused(LogRefusal::L4);
+    assert_eq!(rt; answer(&rt, &five, &LEAF, &BOARD), want);
+    assert_eq!(rt; answer(&rt, &two, &GOAL, &goal_of_side_3), want);
+    assert_eq!(rt; answer(&rt, &two, &GOAL_OF_SIDE_3, &[0, 1, 2, 3]), want);
+    assert_eq!(rt; answer(&rt, &two, &GOAL_OF_SIDE_3, &goal_of_side_3), want);
+    // Bytes of another form come before it, and so does a board that isn't one.
+    let none = with_byte(&rt, &LEAF, 9, 0);
+    assert_eq!(rt; answer(&rt, &five, &none, &BOARD), misformed(FormFault::L1));
+    let repeated = with_byte(&rt, &LEAF, 10, 2);
+    assert_eq!(rt;
+        answer(&rt, &five, &repeated, &BOARD),
+        misformed(FormFault::L3(0))
+    );
+}
+
+#[test]
+fn the_last_lemma_is_of_the_board(rt: HostRuntime) {
+    let bundle = bundle(&rt, &[&TILES_12], b"set 0\n");
+    let first = [3, 0, 1, 2];
+    assert_eq!(rt;
+        answer(&rt, &bundle, &LEAF, &first),
+        refused(LogRefusal::L5)
+    );
+    assert_eq!(rt;
+        answer(&rt, &bundle, &CITATION, &first),
+        refused(LogRefusal::L5)
+    );
+    // A board of the other kind differs in its last two cells alone.
+    assert_eq!(rt;
+        answer(&rt, &bundle, &LEAF, &[3, 2, 0, 1]),
+        refused(LogRefusal::L5)
+    );
+}
+
+#[test]
+fn the_first_bad_lemma_is_named(rt: HostRuntime) {
+    let three = bundle(&rt, &[&TILES_123], b"set 0\n");
+    let bad = refused(LogRefusal::L6(0));
+    for (place, byte) in [(14, 7), (19, 2), (19, 0x11), (19, 0)] {
+        let log = with_byte(&rt, &LEAF, place, byte);
+        assert_eq!(rt; answer(&rt, &three, &log, &BOARD), bad, "byte {place}");
+    }
+    let one = with_byte(&rt, &GOAL, 14, 1);
+    assert_eq!(rt; answer(&rt, &three, &one, &[0, 1, 2, 3]), bad);
+    let cites_itself = b"PDBL\x01\x02\0\0\0\x01\x03\x02\x01\0\x06\0\0\0\x05\x20\0\0\0\0";
+    assert_eq!(rt; answer(&rt, &three, cites_itself, &BOARD), bad);
+    let two = bundle(&rt, &[&TILES_12], b"set 0\n");
+    let cut_tree = b"PDBL\x01\x02\0\0\0\x01\x03\x02\x01\0\x06\0\0\0\x0A\0\0\0\0\0\x01\0\0\0\0";
+    assert_eq!(rt; answer(&rt, &two, cut_tree, &BOARD), bad);
+    let cites_itself = with_byte(&rt, &CITATION, 39, 1);
+    assert_eq!(rt;
+        answer(&rt, &two, &cites_itself, &BOARD),
+        refused(LogRefusal::L6(1))
+    );
+    let both = with_byte(&rt, &cites_itself, 14, 6);
+    assert_eq!(rt; answer(&rt, &two, &both, &BOARD), bad);
+}
+
+#[test]
+fn no_bundle_comes_of_other_sets(rt: HostRuntime) {
+    let sets: [(&[&[u8]], &[u8], SetFault); 3] = [
+        (&[&TILES_12, &TILE_1], b"set 0 1\n", SetFault::S3(0)),
+        (&[&TILE_1, &TILE_24], b"set 0 1\n", SetFault::S4(1)),
+        (&[&TILES_12, &TILE_3], b"set 0\nset 1 0\n", SetFault::S1(1)),
+    ];
+    for (files, text, fault) in sets {
+        assert_eq!(rt; Bundle::read(checked(&rt, files), text).err(), Some(fault));
+    }
+}
+
+/// A log of so many lemmas of one board: the first has a leaf, and each other cites the one before. The bound is 6, and 7
+/// for the lemmas with these numbers, which no tree proves.
+fn chain(alloc: Global, count: u32, spoilt: &[u32]) -> Result<Vec<u8>, AllocError> {
+    let mut log = Vec::new(alloc);
+    log.extend_from_slice(b"PDBL\x01\x02")?;
+    log.extend_from_slice(&count.to_be_bytes())?;
+    for i in 0..count {
+        log.extend_from_slice(&BOARD)?;
+        log.push(if spoilt.contains(&i) { 7 } else { 6 })?;
+        if i == 0 {
+            log.extend_from_slice(b"\0\0\0\x01\x01")?;
+        } else {
+            log.extend_from_slice(b"\0\0\0\x05\x20")?;
+            log.extend_from_slice(&(i - 1).to_be_bytes())?;
+        }
+    }
+    Ok(log)
+}
+
+#[test]
+fn chains_of_citations_are_checked(rt: HostRuntime) -> Result<(), Fail> {
+    let bundle = bundle(&rt, &[&TILES_123], b"set 0\n");
+    let chains: [(u32, &[u32], Result<u8, LogFault>); 9] = [
+        (1, &[], Ok(6)),
+        (2, &[], Ok(6)),
+        (300, &[], Ok(6)),
+        (1, &[0], refused(LogRefusal::L6(0))),
+        (2, &[1], refused(LogRefusal::L6(1))),
+        (2, &[0, 1], refused(LogRefusal::L6(0))),
+        (300, &[299], refused(LogRefusal::L6(299))),
+        (300, &[7, 100, 299], refused(LogRefusal::L6(7))),
+        (300, &[0, 299], refused(LogRefusal::L6(0))),
+    ];
+    for (count, spoilt, want) in chains {
+        let log = chain(rt.alloc(), count, spoilt)?;
+        assert_eq!(rt;
+            answer(&rt, &bundle, &log, &BOARD),
+            want,
+            "{count}, {spoilt:?}"
+        );
+    }
+    Ok(())
+}
+
+#[test]
+fn the_bound_is_the_last_lemmas(rt: HostRuntime) -> Result<(), Fail> {
+    let bundle = bundle(&rt, &[&TILES_123], b"set 0\n");
+    let mut log = chain(rt.alloc(), 300, &[])?;
+    // The last lemma takes 14 bytes.
+    let place = log.len().saturating_sub(10);
+    if let Some(bound) = log.get_mut(place) {
+        *bound = 2;
+    }
+    assert_eq!(rt; answer(&rt, &bundle, &log, &BOARD), Ok(2));
+    Ok(())
+}
+
+#[test]
+fn a_later_lemma_is_not_cited(rt: HostRuntime) -> Result<(), Fail> {
+    let bundle = bundle(&rt, &[&TILES_123], b"set 0\n");
+    let mut log = chain(rt.alloc(), 3, &[])?;
+    // Lemma 1 begins at byte 20, and its tree cites with the last of its 14 bytes.
+    if let Some(cited) = log.get_mut(33) {
+        *cited = 2;
+    }
+    assert_eq!(rt;
+        answer(&rt, &bundle, &log, &BOARD),
+        refused(LogRefusal::L6(1))
+    );
+    Ok(())
+}
+
+#[test]
+fn each_lemma_is_entered_once(rt: HostRuntime) -> Result<(), Fail> {
+    let bundle = bundle(&rt, &[&TILES_123], b"set 0\n");
+    let board = Board::from_cells(&BOARD).expect(&rt, "a board");
+    let file = chain(rt.alloc(), 300, &[100])?;
+    for workers in [1, 2, 7, 64] {
+        let entered = Log::new(rt.alloc(), 400)?;
+        assert_eq!(rt;
+            check_log(&rt, rt.alloc(), &bundle, &file, &board, workers, &entered),
+            refused(LogRefusal::L6(100))
+        );
+        let mut lemmas = entered.notes(rt.alloc())?;
+        lemmas.sort()?;
+        assert_eq!(rt; lemmas.len(), 300, "{workers} workers");
+        assert!(rt; (0..).zip(&lemmas).all(|(lemma, entered)| lemma == *entered));
+    }
+    Ok(())
+}
+
+#[test]
+fn a_lemma_is_checked_while_one_before_it_waits(rt: HostRuntime) {
+    let bundle = bundle(&rt, &[&TILES_12], b"set 0\n");
+    let board = Board::from_cells(&BOARD).expect(&rt, "a board");
+    let gate = HoldingGate::new(&[0], &[1]);
+    assert_eq!(rt;
+        check_log(&rt, rt.alloc(), &bundle, &CITATION, &board, 2, &gate),
+        Ok(6)
+    );
+    assert!(rt; gate.saw_all());
+}
+
+#[test]
+fn four_workers_check_four_lemmas_side_by_side(rt: HostRuntime) -> Result<(), Fail> {
+    let bundle = bundle(&rt, &[&TILES_123], b"set 0\n");
+    let board = Board::from_cells(&BOARD).expect(&rt, "a board");
+    let log = chain(rt.alloc(), 5, &[2])?;
+    let gate = HoldingGate::new(&[0, 1, 2, 3], &[0, 1, 2, 3]);
+    assert_eq!(rt;
+        check_log(&rt, rt.alloc(), &bundle, &log, &board, 4, &gate),
+        refused(LogRefusal::L6(2))
+    );
+    assert!(rt; gate.saw_all());
+    Ok(())
+}
+
+// Run with each allocation refused in turn.
+#[test]
+fn want_of_memory_is_answered_and_a_second_check_finds_the_bound(rt: HostRuntime) {
+    let bundle = bundle(&rt, &[&TILES_12], b"set 0\n");
+    let board = Board::from_cells(&BOARD).expect(&rt, "a board");
+    let mut bound = check_log(&rt, rt.alloc(), &bundle, &CITATION, &board, 7, &OpenGate);
+    if bound == Err(LogFault::Memory) {
+        bound = check_log(&rt, rt.alloc(), &bundle, &CITATION, &board, 7, &OpenGate);
+    }
+    assert_eq!(rt; bound, Ok(6));
+}
+
+/// Changes each byte of a log to each other, and compares what is answered with what a plain reading answers.
+fn compare_changed<R: Threads + Wait + AllocGlobal + Abort>(
+    rt: &R,
+    table: &[u8],
+    tiles: &[u8],
+    log: &[u8],
+    numbers: &Cells,
+) -> Result<(), Fail> {
+    let bundle = bundle(rt, &[table], b"set 0\n");
+    let board = Board::from_cells(numbers).expect(rt, "a board");
+    let mut changed = Vec::from_slice(rt.alloc(), log)?;
+    for (place, old) in log.iter().enumerate() {
+        for byte in 0..=255 {
+            if let Some(here) = changed.get_mut(place) {
+                *here = byte;
+            }
+            let want = match plain_answer(&changed, numbers, tiles) {
+                Ok(bound) => Ok(bound),
+                Err(fault) => refused(fault),
+            };
+            assert_eq!(rt;
+                check_log(rt, rt.alloc(), &bundle, &changed, &board, 1, &OpenGate),
+                want,
+                "byte {place} is {byte}"
+            );
+        }
+        if let Some(here) = changed.get_mut(place) {
+            *here = *old;
+        }
+    }
+    Ok(())
+}
+
+#[test]
+fn changed_logs_are_answered_as_read_plainly(rt: HostRuntime) -> Result<(), Fail> {
+    compare_changed(&rt, &TILES_123, &[1, 2, 3], &LEAF, &BOARD)?;
+    compare_changed(&rt, &TILES_12, &[1, 2], &BRANCHES, &BOARD)?;
+    compare_changed(&rt, &TILES_12, &[1, 2], &CITATION, &BOARD)?;
+    compare_changed(&rt, &TILES_123, &[1, 2, 3], &UNSOLVABLE, &[0, 1, 3, 2])
+}
