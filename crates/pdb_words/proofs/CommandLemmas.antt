@@ -1,22 +1,23 @@
 -- What the first word makes of all words.
-use Rattle.std.proofs.Common.{◌≡◌, ◌≢◌, inl, inr, refl, sym, ap, subst, ℕ, Bool, true, false, List, [], ◌∷◌, Option, Some, None, codes, eqb-true, nat_eq}
+use Rattle.std.proofs.Common.{◌≡◌, ◌≢◌, ◌⊎◌, ◌∙◌, inl, inr, refl, sym, ap, subst, ℕ, Bool, true, false, List, [], ◌∷◌, ◌++◌, Option, Some, None, codes, eqb-true, nat_eq}
+use Rattle.std.specs.List.{AllByRecursion, find, fold}
 use Rattle.std.specs.Str.{bytes_eq, chars}
-use Rattle.std.specs.Prelude.{IfOk, IfSome, Ok, Err, Result, slice_get}
-use Rattle.std.proofs.lemmas.Slice.Eq.{bytes_eq-Decides}
-use Rattle.clap.specs.Faults.{flags_fault, turn_fault, walk_fault}
-use Rattle.clap.specs.Kinds.{FailsBy, Kinds}
+use Rattle.std.specs.Prelude.{IfOk, IfSome, Ok, Err, Result, is_some, slice_get, unwrap_or}
+use Rattle.clap.specs.Faults.{check_fault, defaults_fault, entered_fault, flags_fault, level_fault, settle_fault, turn_fault, walk_fault}
+use Rattle.clap.specs.Kinds.{FailsBy, Kinds, or_else}
 use Rattle.clap.specs.Lexer.{long_of, name_and_value}
-use Rattle.clap.specs.Simple.{Shape, built, entered, names_of, subcommand_of, subcommand_rows_of}
-use Rattle.clap.specs.Walk.{Names, Row, Text, Walk, bundle_met, nothing_held, walk, walk_from}
+use Rattle.clap.specs.Simple.{Shape, built, entered, label_of, names_of, subcommand_of, subcommand_rows_of}
+use Rattle.clap.specs.Walk.{Names, Row, Text, Walk, answers_to, bundle_met, finished, nothing_held, rows_after, settled, walk, walk_from, walked}
+use Rattle.clap.proofs.FaultLemmas.{past}
 use Rattle.clap.proofs.OnLiterals.{clap_on_literals}
 use Rattle.clap.proofs.WalkLemmas.{walk_stopped}
 use Rattle.clap.specs.declared.parser.matches.ArgMatches.{ArgMatches}
 use Rattle.clap.specs.declared.error.Error.{Error}
-use Rattle.clap.specs.declared.error.kind.ErrorKind.{ErrorKind}
 use Rattle.clap.specs.declared.error.kind.ErrorKind.TheVariants as kind
-use Rattle.pdb_words.specs.CommandLine.{BeginsWithCommand, IsCommand, Parses, command_line, faults_of}
+use Rattle.pdb_words.specs.CommandLine.{BeginsWithCommand, IsCommand, IsPlain, Parses, asked_by, asked_of, command_line, commands, faults_of}
 use Rattle.pdb_words.specs.Faults.{IsMistaken}
 use Rattle.pdb_words.proofs.KindLemmas.{IsFault, first_fault, one_fault, same_fault}
+use Rattle.pdb_words.proofs.TextLemmas.{HasNoDash, each_holds, has_no_dash, labels, named, one_of_more, same_text}
 
 abbrev pub top : Shape
 top = (built command_line).top
@@ -31,142 +32,211 @@ start = walk_from nothing_held
 abbrev pub turn : Text → Kinds
 turn word = turn_fault top names start word
 
--- ---- a first word is wrong
+-- ---- a first word that is no subcommand's name
 
-first_wrong : (word : Text) (rest : List Text) → IsFault (turn word) → IsFault (faults_of (word ∷ rest))
-unfolding walk_fault
-first_wrong word rest is = first_fault _ _ (first_fault (turn word) _ is)
+-- the same, if there were no subcommands
+abbrev bare_turn : Text → Kinds
+bare_turn word = turn_fault top [] start word
 
--- the word is the name of no subcommand
-record IsOther (word : Text) : Type 0 where
-  no_replay : bytes_eq (codes "replay") word ≡ false
-  no_table : bytes_eq (codes "table") word ≡ false
-  no_help : bytes_eq (codes "help") word ≡ false
+abbrev pub IsOther : Text → Type 0
+IsOther word = find (answers_to word) names ≡ None
 
-empty_wrong : turn [] ≡ kind.UnknownArgument ∷ kind.InvalidSubcommand ∷ []
+-- where no name is met, there might as well be none
+same_turn : (s : Shape) (known : Names) (word : Text) → find (answers_to word) known ≡ None → turn_fault s known start word ≡ turn_fault s [] start word
+same_turn s known word none = rw none refl
+
+names_are : names ≡ labels (commands ++ codes "help" ∷ [])
+names_are = refl
+
+-- a word is a command's name, `help`, or neither
+known_or_other : (word : Text) → (IsCommand word ⊎ (word ≡ codes "help")) ⊎ IsOther word
+known_or_other word = elim (named word (commands ++ codes "help" ∷ [])) [
+  | inl known ↦ inl (one_of_more commands (codes "help") word known)
+  | inr none ↦ inr (subst (λ (known : Names). find (answers_to word) known ≡ None) (sym names_are) none)
+]
+
+abbrev stray : Kinds
+stray = kind.UnknownArgument ∷ kind.InvalidSubcommand ∷ []
+
+plain_wrong : (word : Text) → HasNoDash word → bare_turn word ≡ stray
 unfolding clap_on_literals
-empty_wrong = refl
+plain_wrong word plain = simp (plain.no_dash, plain.no_dashes)
 
-plain_wrong : (b : ℕ) (name : Text) → nat_eq b 45 ≡ false → IsOther (b ∷ name) → turn (b ∷ name) ≡ kind.UnknownArgument ∷ kind.InvalidSubcommand ∷ []
-unfolding clap_on_literals
-plain_wrong b name e o = simp (e, o.no_replay, o.no_table, o.no_help)
-
-dash_wrong : turn (45 ∷ []) ≡ kind.UnknownArgument ∷ kind.InvalidSubcommand ∷ []
+dash_wrong : bare_turn (45 ∷ []) ≡ stray
 unfolding clap_on_literals
 dash_wrong = refl
+
+-- a word that begins with one `-` and more
+short_wrong : (c : ℕ) (rest : Text) → nat_eq c 45 ≡ false → IsFault (bare_turn (45 ∷ c ∷ rest))
+unfolding flags_fault bundle_met
+short_wrong c rest e = go (slice_get (chars (c ∷ rest)) 0) refl
+  where
+    none : slice_get (chars (c ∷ rest)) 0 ≡ None → bare_turn (45 ∷ c ∷ rest) ≡ stray
+    none is = simp (e, is)
+
+    short : (x : ℕ) → slice_get (chars (c ∷ rest)) 0 ≡ Some x → (is_h : Bool) → nat_eq 104 x ≡ is_h → IsFault (bare_turn (45 ∷ c ∷ rest))
+    short x is true h = same_fault _ (kind.DisplayHelp ∷ []) (simp (e, is, h)) (one_fault _ _)
+    short x is false h = same_fault _ (kind.UnknownArgument ∷ []) (simp (e, is, h)) (one_fault _ _)
+
+    go : (o : Option ℕ) → slice_get (chars (c ∷ rest)) 0 ≡ o → IsFault (bare_turn (45 ∷ c ∷ rest))
+    go None is = same_fault _ _ (none is) (one_fault _ _)
+    go (Some x) is = short x is (nat_eq 104 x) refl
+
+-- a word that is a long flag
+long_wrong : (word : Text) (p : Text × Option Text) → bytes_eq word (codes "--") ≡ false → long_of word ≡ Some p → IsFault (bare_turn word)
+unfolding clap_on_literals
+long_wrong word p no_dashes is = go p.1 refl (bytes_eq (codes "help") p.0) refl
+  where
+    go : (value : Option Text) → p.1 ≡ value → (is_help : Bool) → bytes_eq (codes "help") p.0 ≡ is_help → IsFault (bare_turn word)
+    go value v false h = same_fault _ (kind.UnknownArgument ∷ []) (simp (no_dashes, is, h)) (one_fault _ _)
+    go None v true h = same_fault _ (kind.DisplayHelp ∷ []) (simp (no_dashes, is, h, v)) (one_fault _ _)
+    go (Some text) v true h = same_fault _ (kind.TooManyValues ∷ []) (simp (no_dashes, is, h, v)) (one_fault _ _)
+
+dashes_wrong : (more : Text) → 45 ∷ 45 ∷ more ≢ codes "--" → IsFault (bare_turn (45 ∷ 45 ∷ more))
+dashes_wrong [] apart = absurd (apart refl)
+dashes_wrong (d ∷ more) apart = long_wrong (45 ∷ 45 ∷ d ∷ more) (name_and_value (d ∷ more)) refl refl
+
+dashed_wrong : (rest : Text) → 45 ∷ rest ≢ codes "--" → IsFault (bare_turn (45 ∷ rest))
+dashed_wrong [] apart = same_fault _ _ dash_wrong (one_fault _ _)
+dashed_wrong (c ∷ more) apart = go (nat_eq c 45) refl
+  where
+    go : (is : Bool) → nat_eq c 45 ≡ is → IsFault (bare_turn (45 ∷ c ∷ more))
+    go false e = short_wrong c more e
+    go true e = subst (λ (x : ℕ). IsFault (bare_turn (45 ∷ x ∷ more))) (sym (eqb-true c 45 e))
+        (dashes_wrong more (subst (λ (x : ℕ). 45 ∷ x ∷ more ≢ codes "--") (eqb-true c 45 e) apart))
+
+bare_wrong : (word : Text) → word ≢ codes "--" → IsFault (bare_turn word)
+bare_wrong [] apart = same_fault _ _ (plain_wrong [] (has_no_dash [] tt)) (one_fault _ _)
+bare_wrong (b ∷ rest) apart = go (nat_eq b 45) refl
+  where
+    go : (is : Bool) → nat_eq b 45 ≡ is → IsFault (bare_turn (b ∷ rest))
+    go false e = same_fault _ _ (plain_wrong (b ∷ rest) (record { no_dash = rw e refl; no_dashes = rw e refl })) (one_fault _ _)
+    go true e = subst (λ (x : ℕ). IsFault (bare_turn (x ∷ rest))) (sym (eqb-true b 45 e))
+        (dashed_wrong rest (subst (λ (x : ℕ). x ∷ rest ≢ codes "--") (eqb-true b 45 e) apart))
+
+other_wrong : (word : Text) → IsOther word → word ≢ codes "--" → IsFault (turn word)
+other_wrong word other apart = same_fault _ _ (same_turn top names word other) (bare_wrong word apart)
 
 help_wrong : turn (codes "help") ≡ kind.DisplayHelp ∷ kind.InvalidSubcommand ∷ []
 unfolding clap_on_literals
 help_wrong = refl
 
--- a word that begins with one `-` and more
-short_wrong : (c : ℕ) (rest : Text) → nat_eq c 45 ≡ false → IsFault (turn (45 ∷ c ∷ rest))
-unfolding flags_fault bundle_met
-short_wrong c rest e = go (slice_get (chars (c ∷ rest)) 0) refl
-  where
-    none : slice_get (chars (c ∷ rest)) 0 ≡ None → turn (45 ∷ c ∷ rest) ≡ kind.UnknownArgument ∷ kind.InvalidSubcommand ∷ []
-    none is = simp (e, is)
-
-    short : (x : ℕ) → slice_get (chars (c ∷ rest)) 0 ≡ Some x → (is_h : Bool) → nat_eq 104 x ≡ is_h → IsFault (turn (45 ∷ c ∷ rest))
-    short x is true h = same_fault _ (kind.DisplayHelp ∷ []) (simp (e, is, h)) (one_fault _ _)
-    short x is false h = same_fault _ (kind.UnknownArgument ∷ []) (simp (e, is, h)) (one_fault _ _)
-
-    go : (o : Option ℕ) → slice_get (chars (c ∷ rest)) 0 ≡ o → IsFault (turn (45 ∷ c ∷ rest))
-    go None is = same_fault _ _ (none is) (one_fault _ _)
-    go (Some x) is = short x is (nat_eq 104 x) refl
-
--- a word that is a long flag
-long_wrong : (word : Text) (p : Text × Option Text) → IsOther word → bytes_eq word (codes "--") ≡ false → long_of word ≡ Some p → IsFault (turn word)
-unfolding clap_on_literals
-long_wrong word p o no_dashes is = go p.1 refl (bytes_eq (codes "help") p.0) refl
-  where
-    go : (value : Option Text) → p.1 ≡ value → (is_help : Bool) → bytes_eq (codes "help") p.0 ≡ is_help → IsFault (turn word)
-    go value v false h = same_fault _ (kind.UnknownArgument ∷ []) (simp (o.no_replay, o.no_table, o.no_help, no_dashes, is, h)) (one_fault _ _)
-    go None v true h = same_fault _ (kind.DisplayHelp ∷ []) (simp (o.no_replay, o.no_table, o.no_help, no_dashes, is, h, v)) (one_fault _ _)
-    go (Some text) v true h = same_fault _ (kind.TooManyValues ∷ []) (simp (o.no_replay, o.no_table, o.no_help, no_dashes, is, h, v)) (one_fault _ _)
-
--- a word behind a first `--`
-dashes_wrong : (word : Text) (rest : List Text) → IsFault (faults_of (codes "--" ∷ word ∷ rest))
-unfolding clap_on_literals
-dashes_wrong word rest = same_fault _ (kind.UnknownArgument ∷ kind.InvalidSubcommand ∷ []) refl (one_fault _ _)
-
 -- ---- so words that parse begin with a command
 
-is_absurd : (word : Text) (rest : List Text) → IsFault (turn word) → Parses (word ∷ rest) → ⊥
-is_absurd word rest is parses = first_wrong word rest is parses
+first_wrong : (word : Text) (rest : List Text) → IsFault (turn word) → IsFault (faults_of (word ∷ rest))
+unfolding walk_fault
+first_wrong word rest is = first_fault _ _ (first_fault (turn word) _ is)
 
-by_dashes : (more : Text) (rest : List Text) → Parses ((45 ∷ 45 ∷ more) ∷ rest) → BeginsWithCommand ((45 ∷ 45 ∷ more) ∷ rest)
-by_dashes [] [] parses = inr (refl, refl)
-by_dashes [] (word ∷ rest) parses = absurd (dashes_wrong word rest parses)
-by_dashes (d ∷ more) rest parses =
-    let other : IsOther (45 ∷ 45 ∷ d ∷ more) = record { no_replay = refl; no_table = refl; no_help = refl } in
-    absurd (is_absurd (45 ∷ 45 ∷ d ∷ more) rest (long_wrong _ (name_and_value (d ∷ more)) other refl refl) parses)
+-- a word behind a first `--`
+behind_dashes : (word : Text) (rest : List Text) → IsFault (faults_of (codes "--" ∷ word ∷ rest))
+unfolding clap_on_literals
+behind_dashes word rest = same_fault _ stray refl (one_fault _ _)
 
-by_dash : (name : Text) (rest : List Text) → Parses ((45 ∷ name) ∷ rest) → BeginsWithCommand ((45 ∷ name) ∷ rest)
-by_dash [] rest parses = absurd (is_absurd (45 ∷ []) rest (same_fault _ _ dash_wrong (one_fault _ _)) parses)
-by_dash (c ∷ more) rest parses = go (nat_eq c 45) refl
+by_dashes : (rest : List Text) → Parses (codes "--" ∷ rest) → rest ≡ []
+by_dashes [] parses = refl
+by_dashes (word ∷ rest) parses = absurd (behind_dashes word rest parses)
+
+by_other : (word : Text) (rest : List Text) → IsOther word → Parses (word ∷ rest) → (word ≡ codes "--") × (rest ≡ [])
+by_other word rest other parses = go (bytes_eq word (codes "--")) refl
   where
-    go : (is : Bool) → nat_eq c 45 ≡ is → BeginsWithCommand ((45 ∷ c ∷ more) ∷ rest)
-    go true e = subst (λ (x : ℕ). BeginsWithCommand ((45 ∷ x ∷ more) ∷ rest)) (sym (eqb-true c 45 e)) (by_dashes more rest (subst (λ (x : ℕ). Parses ((45 ∷ x ∷ more) ∷ rest)) (eqb-true c 45 e) parses))
-    go false e = absurd (is_absurd (45 ∷ c ∷ more) rest (short_wrong c more e) parses)
-
-by_other : (word : Text) (rest : List Text) → IsOther word → Parses (word ∷ rest) → BeginsWithCommand (word ∷ rest)
-by_other [] rest other parses = absurd (is_absurd [] rest (same_fault _ _ empty_wrong (one_fault _ _)) parses)
-by_other (b ∷ name) rest other parses = go (nat_eq b 45) refl
-  where
-    go : (is : Bool) → nat_eq b 45 ≡ is → BeginsWithCommand ((b ∷ name) ∷ rest)
-    go true e = subst (λ (x : ℕ). BeginsWithCommand ((x ∷ name) ∷ rest)) (sym (eqb-true b 45 e)) (by_dash name rest (subst (λ (x : ℕ). Parses ((x ∷ name) ∷ rest)) (eqb-true b 45 e) parses))
-    go false e = absurd (is_absurd (b ∷ name) rest (same_fault _ _ (plain_wrong b name e other) (one_fault _ _)) parses)
-
-same_text : (a b : Text) → bytes_eq a b ≡ true → a ≡ b
-same_text a b = (bytes_eq-Decides a b).0
-
-help_fault : (word : Text) → bytes_eq (codes "help") word ≡ true → IsFault (turn word)
-help_fault word v = same_fault (turn word) (turn (codes "help")) (ap turn (sym (same_text (codes "help") word v))) (same_fault _ _ help_wrong (one_fault _ _))
+    go : (is : Bool) → bytes_eq word (codes "--") ≡ is → (word ≡ codes "--") × (rest ≡ [])
+    go true e =
+        let same = same_text word (codes "--") e in
+        (same, by_dashes rest (subst (λ (w : Text). Parses (w ∷ rest)) same parses))
+    go false e = absurd (first_wrong word rest (other_wrong word other (λ same. let bad : true ≡ false = ap (λ (w : Text). bytes_eq w (codes "--")) (sym same) ∙ e in cc)) parses)
 
 pub begins_with_command : (words : List Text) → Parses words → BeginsWithCommand words
 begins_with_command [] parses = tt
-begins_with_command (word ∷ rest) parses = go (bytes_eq (codes "replay") word) refl (bytes_eq (codes "table") word) refl (bytes_eq (codes "help") word) refl
-  where
-    go : (r : Bool) → bytes_eq (codes "replay") word ≡ r → (t : Bool) → bytes_eq (codes "table") word ≡ t → (h : Bool) → bytes_eq (codes "help") word ≡ h → BeginsWithCommand (word ∷ rest)
-    go true is t u h v = inl (inl (sym (same_text _ _ is)))
-    go false is true u h v = inl (inr (sym (same_text _ _ u)))
-    go false is false u true v = absurd (is_absurd word rest (help_fault word v) parses)
-    go false is false u false v = by_other word rest (record { no_replay = is; no_table = u; no_help = v }) parses
+begins_with_command (word ∷ rest) parses = elim (known_or_other word) [
+  | inl known ↦ elim known [
+    | inl command ↦ inl command
+    | inr help ↦ absurd (first_wrong word rest (same_fault _ _ (ap turn help ∙ help_wrong) (one_fault _ _)) parses)
+  ]
+  | inr other ↦ inr (by_other word rest other parses)
+]
 
 -- ---- another first word is a mistake
 
-first_is : (word : Text) (rest : List Text) (k : ErrorKind) (ks : Kinds) → turn word ≡ k ∷ ks → faults_of (word ∷ rest) ≡ k ∷ ks
+first_is : (word : Text) (rest : List Text) → turn word ≡ stray → faults_of (word ∷ rest) ≡ stray
 unfolding walk_fault
-first_is word rest k ks e = rw e refl
+first_is word rest e = rw e refl
 
-differs : (a b : Text) → (b ≡ a → ⊥) → bytes_eq a b ≡ false
-differs a b apart = go (bytes_eq a b) refl
-  where
-    go : (is : Bool) → bytes_eq a b ≡ is → is ≡ false
-    go true e = absurd (apart (sym (same_text a b e)))
-    go false e = refl
+pub other_command : (first : Text) (rest : List Text) → IsPlain first → (IsCommand first → ⊥) → first ≢ codes "help" → IsMistaken (first ∷ rest)
+other_command first rest plain no_command no_help = elim (known_or_other first) [
+  | inl known ↦ elim known [
+    | inl command ↦ absurd (no_command command)
+    | inr help ↦ absurd (no_help help)
+  ]
+  | inr other ↦ let is = first_is first rest (same_turn top names first other ∙ plain_wrong first (has_no_dash first plain)) in
+      record { kind = kind.UnknownArgument; among = rw is (inl refl); no_help = λ same. cc }
+]
 
-pub other_command : (b : ℕ) (name : Text) (rest : List Text) → nat_eq b 45 ≡ false → (IsCommand (b ∷ name) → ⊥) → b ∷ name ≢ codes "help" → IsMistaken ((b ∷ name) ∷ rest)
-other_command b name rest e no_command no_help =
-    let other : IsOther (b ∷ name) = record {
-      no_replay = differs _ _ (λ is. no_command (inl is));
-      no_table = differs _ _ (λ is. no_command (inr is));
-      no_help = differs _ _ no_help;
-    } in
-    let is = first_is (b ∷ name) rest _ _ (plain_wrong b name e other) in
-    record { kind = kind.UnknownArgument; among = rw is (inl refl); no_help = λ same. cc }
+-- ---- a command's name leaves the words behind it to the command
 
--- ---- what words ask for is a command's
+-- the command of this name, as it is built
+abbrev pub leaf : Text → Shape
+leaf name = unwrap_or (find (λ s. answers_to name (label_of s)) (built command_line).subs) top
 
--- the words behind a command's name are left to it
-pub stops_at_replay : (words : List Text) → (walk top.rules names nothing_held (codes "replay" ∷ words)).stopped ≡ Some (codes "replay", words)
+record IsEntered (name : Text) : Type 0 where
+  passes : turn name ≡ []
+  stops : walked top.rules names start name ≡ record start { stopped = Some (name, []) }
+  found : find (λ s. answers_to name (label_of s)) (built command_line).subs ≡ Some (leaf name)
+  label : (leaf name).name ≡ name
+
+all_entered : AllByRecursion IsEntered commands
 unfolding clap_on_literals
-stops_at_replay words = sym (ap (λ (w : Walk). w.stopped) (walk_stopped top.rules names start (codes "replay") [] words))
+all_entered = (
+  record { passes = refl; stops = refl; found = refl; label = refl },
+  (
+    record { passes = refl; stops = refl; found = refl; label = refl },
+    (
+      record { passes = refl; stops = refl; found = refl; label = refl },
+      (record { passes = refl; stops = refl; found = refl; label = refl }, tt),
+    ),
+  ),
+)
 
-pub stops_at_table : (words : List Text) → (walk top.rules names nothing_held (codes "table" ∷ words)).stopped ≡ Some (codes "table", words)
-unfolding clap_on_literals
-stops_at_table words = sym (ap (λ (w : Walk). w.stopped) (walk_stopped top.rules names start (codes "table") [] words))
+is_entered : (name : Text) → IsCommand name → IsEntered name
+is_entered = each_holds IsEntered commands all_entered
+
+-- nothing is wrong with words behind a subcommand
+stopped_passes : (s : Shape) (known : Names) (w : Walk) (name : Text) (seen words : List Text) → walk_fault s known (record w { stopped = Some (name, seen) }) words ≡ []
+unfolding walk_fault walked
+stopped_passes s known w name seen [] = refl
+stopped_passes s known w name seen (word ∷ rest) = stopped_passes s known w name (seen ++ word ∷ []) rest
+
+-- what the end of the walk over all words has wrong
+abbrev end_fault : Walk → Kinds
+end_fault w = or_else (entered_fault (built command_line) w.stopped)
+    (or_else (settle_fault top.rules top.args_override_self w.held)
+    (or_else (defaults_fault (settled top.rules w.held).rows top.rules)
+    (check_fault top (finished top.rules w.held) (is_some (entered (built command_line) w.stopped)))))
+
+module _ (name : Text) (is : IsCommand name) (words : List Text) where
+  walk_stops : walk top.rules names nothing_held (name ∷ words) ≡ record start { stopped = Some (name, words) }
+  walk_stops = ap (λ (w : Walk). fold (walked top.rules names) w words) (is_entered name is).stops ∙ sym (walk_stopped top.rules names start name [] words)
+
+  walk_passes : walk_fault top names start (name ∷ words) ≡ []
+  unfolding walk_fault
+  walk_passes = past _ _ (is_entered name is).passes
+      ∙ ap (λ (w : Walk). walk_fault top names w words) (is_entered name is).stops ∙ stopped_passes top names start name [] words
+
+  end_is : end_fault (record start { stopped = Some (name, words) }) ≡ or_else (level_fault (leaf name) [] nothing_held words false []) []
+  unfolding defaults_fault
+  end_is = rw (is_entered name is).found refl
+
+  -- what is wrong with the words is what is wrong with those behind the name
+  pub faults_behind : faults_of (name ∷ words) ≡ or_else (level_fault (leaf name) [] nothing_held words false []) []
+  faults_behind = past _ (end_fault (walk top.rules names nothing_held (name ∷ words))) walk_passes ∙ ap end_fault walk_stops ∙ end_is
+
+  pub met : subcommand_of command_line (name ∷ words) ≡ Some (name, rows_after (leaf name).rules [] words)
+  met = ap (λ (w : Walk). entered (built command_line) w.stopped) walk_stops
+      ∙ rw (is_entered name is).found (ap (λ (label : Text). Some (label, rows_after (leaf name).rules [] words)) (is_entered name is).label)
+
+  pub asked_behind : asked_of (name ∷ words) ≡ asked_by name (rows_after (leaf name).rules [] words)
+  asked_behind = rw met refl
+
+-- ---- of words that parse `clap` finds a command of the program, or none
 
 nothing_met : subcommand_of command_line [] ≡ None
 unfolding clap_on_literals
@@ -179,24 +249,14 @@ dashes_met = refl
 abbrev HasCommand : Option (Text × List Row) → Type 0
 HasCommand found = IfSome found (λ p. IsCommand p.0)
 
-replay_met : (words : List Text) → HasCommand (subcommand_of command_line (codes "replay" ∷ words))
-replay_met words = subst (λ (stop : Option (Text × List Text)). HasCommand (entered (built command_line) stop)) (sym (stops_at_replay words)) (inl refl)
-
-table_met : (words : List Text) → HasCommand (subcommand_of command_line (codes "table" ∷ words))
-table_met words = subst (λ (stop : Option (Text × List Text)). HasCommand (entered (built command_line) stop)) (sym (stops_at_table words)) (inr refl)
-
-pub command_met : (words : List Text) → BeginsWithCommand words → HasCommand (subcommand_of command_line words)
+command_met : (words : List Text) → BeginsWithCommand words → HasCommand (subcommand_of command_line words)
 command_met [] begins = subst HasCommand (sym nothing_met) tt
 command_met (word ∷ rest) begins = elim begins [
-  | inl command ↦ elim command [
-    | inl replay ↦ subst (λ (w : Text). HasCommand (subcommand_of command_line (w ∷ rest))) (sym replay) (replay_met rest)
-    | inr table ↦ subst (λ (w : Text). HasCommand (subcommand_of command_line (w ∷ rest))) (sym table) (table_met rest)
-  ]
+  | inl command ↦ subst HasCommand (sym (met word command rest)) command
   | inr dashes ↦ subst (λ (w : Text). HasCommand (subcommand_of command_line (w ∷ rest))) (sym dashes.0)
       (subst (λ (ws : List Text). HasCommand (subcommand_of command_line (codes "--" ∷ ws))) (sym dashes.1) (subst HasCommand (sym dashes_met) tt))
 ]
 
--- of words that parse `clap` finds a command of the program, or none
 pub command_found : (words : List Text) (r : Result ArgMatches Error) → FailsBy (faults_of words) r → IfOk r (λ m. subcommand_rows_of m ≡ subcommand_of command_line words)
     → IfOk r (λ m. HasCommand (subcommand_rows_of m))
 command_found words (Ok m) parses rows = subst HasCommand (sym rows) (command_met words (begins_with_command words parses))

@@ -1,31 +1,20 @@
 -- Which flags stand in words that parse.
-use Rattle.std.proofs.Common.{◌≡◌, ◌≢◌, ◌∙◌, inl, inr, refl, sym, ap, subst, ℕ, Bool, not, true, false, List, [], ◌∷◌, ◌++◌, Option, Some, None, codes}
+use Rattle.std.proofs.Common.{◌≡◌, ◌≢◌, ◌⊎◌, ◌∙◌, inl, inr, refl, sym, subst, ℕ, Bool, not, true, false, List, [], ◌∷◌, ◌++◌, Option, Some, None, codes}
 use Rattle.std.specs.Bool.{⊤}
-use Rattle.std.specs.Prelude.{unwrap_or}
-use Rattle.std.specs.List.{All, find, list_all}
+use Rattle.std.specs.List.{All, AllByRecursion, find, list_all}
 use Rattle.std.specs.Str.{bytes_eq}
 use Rattle.std.proofs.lemmas.List.Elements.{All-head, All-tail}
-use Rattle.std.proofs.lemmas.Slice.Eq.{bytes_eq-Decides}
-use Rattle.clap.specs.Faults.{entered_fault, level_fault, long_fault, turn_fault, walk_fault, word_fault}
+use Rattle.clap.specs.Faults.{level_fault, long_fault, turn_fault, walk_fault, word_fault}
 use Rattle.clap.specs.Lexer.{long_of, short_of}
-use Rattle.clap.specs.Simple.{Shape, built, label_of}
-use Rattle.clap.specs.Walk.{Held, Outcome, Rule, Step, Text, Waiting, Walk, after_flag, after_step, answers_to, arg_by_index, arg_by_long, done, idle, long_or_other, next, nothing_held, option, plain, plain_word, positional, refused, short_or_plain, subcommand, subcommand_met, to_positional, trailing, value, waits, walk, walk_from, walked, walked_from, word_met}
+use Rattle.clap.specs.Simple.{Shape, filled, help_rule}
+use Rattle.clap.specs.Walk.{Held, Outcome, Rule, Step, Text, Waiting, Walk, after_flag, after_step, arg_by_index, arg_by_long, done, idle, long_or_other, next, nothing_held, option, plain, plain_word, positional, refused, short_or_plain, subcommand, subcommand_met, to_positional, trailing, value, waits, walk_from, walked, walked_from, word_met}
 use Rattle.clap.proofs.SimpleLemmas.{is_false}
 use Rattle.clap.proofs.WalkLemmas.{both}
 use Rattle.clap.specs.declared.error.kind.ErrorKind.TheVariants as kind
-use Rattle.pdb_words.specs.CommandLine.{IsCommand, IsLongFlag, Parses, command_line, faults_of}
-use Rattle.pdb_words.proofs.CommandLemmas.{names, stops_at_replay, stops_at_table, top}
+use Rattle.pdb_words.specs.CommandLine.{IsCommand, IsLongFlag, IsOneOf, Parses, commands, shared_commands}
+use Rattle.pdb_words.proofs.CommandLemmas.{faults_behind, leaf}
 use Rattle.pdb_words.proofs.KindLemmas.{IsFault, first_fault, later_fault, one_fault, same_fault}
-
-same_text : (a b : Text) → bytes_eq a b ≡ true → a ≡ b
-same_text a b = (bytes_eq-Decides a b).0
-
-differs : (a b : Text) → a ≢ b → bytes_eq a b ≡ false
-differs a b apart = go (bytes_eq a b) refl
-  where
-    go : (is : Bool) → bytes_eq a b ≡ is → is ≡ false
-    go true e = absurd (apart (same_text a b e))
-    go false e = refl
+use Rattle.pdb_words.proofs.TextLemmas.{differs, each_holds, same_text}
 
 -- ---- a walk goes on, behind each word but `--`
 
@@ -118,48 +107,57 @@ module _ (s : Shape) (no_trailing : HasNoTrailing s.rules) where
 
 -- ---- the commands of the program
 
--- the command of this name, as it is built
-abbrev leaf : Text → Shape
-leaf name = unwrap_or (find (λ s. answers_to name (label_of s)) (built command_line).subs) top
+-- the flag `--help`, as it is built
+abbrev help_flag : Rule
+help_flag = filled help_rule
 
-below_wrong : (words inner : List Text) (name : Text) → (walk top.rules names nothing_held words).stopped ≡ Some (name, inner)
-    → IsFault (entered_fault (built command_line) (Some (name, inner))) → IsFault (faults_of words)
-below_wrong words inner name stops is =
-    later_fault _ _ (first_fault _ _ (same_fault _ _ (ap (entered_fault (built command_line)) stops) is))
+-- a shape knows the flag no better than if it had `--help` alone
+abbrev HasHelpAlone : Text → Shape → Type 0
+HasHelpAlone name s = arg_by_long s.rules name ≡ arg_by_long (help_flag ∷ []) name
 
-replay_wrong : (words : List Text) → IsFault (level_fault (leaf (codes "replay")) [] nothing_held words false []) → IsFault (faults_of (codes "replay" ∷ words))
-replay_wrong words is = below_wrong _ words (codes "replay") (stops_at_replay words) is
-
-table_wrong : (words : List Text) → IsFault (level_fault (leaf (codes "table")) [] nothing_held words false []) → IsFault (faults_of (codes "table" ∷ words))
-table_wrong words is = below_wrong _ words (codes "table") (stops_at_table words) is
-
-replay_flag : (name : Text) (v : Option Text) (h : Held) → IsFault (long_fault (leaf (codes "replay")).rules false (arg_by_long (leaf (codes "replay")).rules name) v h)
-replay_flag name v h = go (bytes_eq (codes "help") name) refl v
+help_wrong : (again : Bool) (c : List Rule) (name : Text) (v : Option Text) (h : Held) → IsFault (long_fault c again (arg_by_long (help_flag ∷ []) name) v h)
+help_wrong again c name v h = go (bytes_eq (codes "help") name) refl v
   where
-    go : (is_help : Bool) → bytes_eq (codes "help") name ≡ is_help → (v : Option Text) → IsFault (long_fault (leaf (codes "replay")).rules false (arg_by_long (leaf (codes "replay")).rules name) v h)
+    go : (is_help : Bool) → bytes_eq (codes "help") name ≡ is_help → (v : Option Text) → IsFault (long_fault c again (arg_by_long (help_flag ∷ []) name) v h)
     go false e v = rw e (one_fault kind.UnknownArgument [])
     go true e None = rw e (later_fault _ _ (one_fault kind.DisplayHelp []))
     go true e (Some text) = rw e (one_fault kind.TooManyValues [])
 
-table_flag : (name : Text) (v : Option Text) (h : Held) → bytes_eq (codes "workers") name ≡ false
-    → IsFault (long_fault (leaf (codes "table")).rules false (arg_by_long (leaf (codes "table")).rules name) v h)
-table_flag name v h other = go (bytes_eq (codes "help") name) refl v
+-- the command knows no flag but `--help`, and where it shares its check, `--workers`
+abbrev KnowsItsFlags : Text → Type 0
+KnowsItsFlags command = (name : Text) → HasHelpAlone name (leaf command) ⊎ (IsOneOf shared_commands command × (name ≡ codes "workers"))
+
+shares_check : (command : Text) → IsOneOf shared_commands command → ((name : Text) → bytes_eq (codes "workers") name ≡ false → HasHelpAlone name (leaf command)) → KnowsItsFlags command
+shares_check command shared others name = go (bytes_eq (codes "workers") name) refl
   where
-    go : (is_help : Bool) → bytes_eq (codes "help") name ≡ is_help → (v : Option Text) → IsFault (long_fault (leaf (codes "table")).rules false (arg_by_long (leaf (codes "table")).rules name) v h)
-    go false e v = rw (other, e) (one_fault kind.UnknownArgument [])
-    go true e None = rw (other, e) (later_fault _ _ (one_fault kind.DisplayHelp []))
-    go true e (Some text) = rw (other, e) (one_fault kind.TooManyValues [])
+    go : (is : Bool) → bytes_eq (codes "workers") name ≡ is → HasHelpAlone name (leaf command) ⊎ (IsOneOf shared_commands command × (name ≡ codes "workers"))
+    go true e = inr (shared, sym (same_text (codes "workers") name e))
+    go false e = inl (others name e)
 
-module _ (name flag : Text) (before after : List Text) (all : All (λ word. word ≢ codes "--") before) (is_flag : IsLongFlag name flag) where
-  of_replay : Parses (codes "replay" ∷ before ++ flag ∷ after) → ⊥
-  of_replay parses = replay_wrong _ (level_wrong (leaf (codes "replay")) refl before flag name is_flag.0 after all is_flag.1 (replay_flag name is_flag.0)) parses
+all_know : AllByRecursion KnowsItsFlags commands
+all_know = (
+  λ name. inl refl,
+  (
+    shares_check (codes "table") (inl refl) (λ name e. rw e refl),
+    (
+      shares_check (codes "bound") (inr (inl refl)) (λ name e. rw e refl),
+      (shares_check (codes "optimal") (inr (inr (inl refl))) (λ name e. rw e refl), tt),
+    ),
+  ),
+)
 
-  of_table : (is : Bool) → bytes_eq (codes "workers") name ≡ is → Parses (codes "table" ∷ before ++ flag ∷ after) → name ≡ codes "workers"
-  of_table true e parses = sym (same_text (codes "workers") name e)
-  of_table false e parses = absurd (table_wrong _ (level_wrong (leaf (codes "table")) refl before flag name is_flag.0 after all is_flag.1 (λ h. table_flag name is_flag.0 h e)) parses)
+all_without_trailing : AllByRecursion (λ command. HasNoTrailing (leaf command).rules) commands
+all_without_trailing = (refl, (refl, (refl, (refl, tt))))
 
-  pub workers_alone : (command : Text) → IsCommand command → Parses (command ∷ before ++ flag ∷ after) → (command ≡ codes "table") × (name ≡ codes "workers")
-  workers_alone command is parses = elim is [
-    | inl replay ↦ absurd (of_replay (subst (λ (word : Text). Parses (word ∷ before ++ flag ∷ after)) replay parses))
-    | inr table ↦ (table, of_table (bytes_eq (codes "workers") name) refl (subst (λ (word : Text). Parses (word ∷ before ++ flag ∷ after)) table parses))
-  ]
+-- behind a command's name, and no `--`, there are no flags but these
+pub flags_known : (command name flag : Text) (before after : List Text) → IsCommand command → All (λ word. word ≢ codes "--") before → IsLongFlag name flag
+    → Parses (command ∷ before ++ flag ∷ after) → IsOneOf shared_commands command × (name ≡ codes "workers")
+flags_known command name flag before after is all is_flag parses = elim (each_holds KnowsItsFlags commands all_know command is name) [
+  | inr workers ↦ workers
+  | inl help ↦
+      let s = leaf command in
+      let wrong : (h : Held) → IsFault (long_fault s.rules s.args_override_self (arg_by_long s.rules name) is_flag.0 h) =
+      λ h. subst (λ (found : Option Rule). IsFault (long_fault s.rules s.args_override_self found is_flag.0 h)) (sym help) (help_wrong s.args_override_self s.rules name is_flag.0 h) in
+      let no_trailing = each_holds (λ command. HasNoTrailing (leaf command).rules) commands all_without_trailing command is in
+      absurd (same_fault _ _ (faults_behind command is (before ++ flag ∷ after)) (first_fault _ [] (level_wrong s no_trailing before flag name is_flag.0 after all is_flag.1 wrong)) parses)
+]

@@ -1,7 +1,11 @@
 -- Faults in a row: the first that there is counts.
-use Rattle.std.proofs.Common.{◌≡◌, ◌≢◌, ◌∙◌, sym, refl, [], ◌∷◌}
+use Rattle.std.proofs.Common.{◌≡◌, ◌≢◌, ◌∙◌, inl, sym, refl, List, [], ◌∷◌}
 use Rattle.clap.specs.Kinds.{Kinds, or_else}
+use Rattle.clap.specs.Walk.{Text}
 use Rattle.clap.specs.declared.error.kind.ErrorKind.{ErrorKind}
+use Rattle.clap.specs.declared.error.kind.ErrorKind.TheVariants as kind
+use Rattle.pdb_words.specs.CommandLine.{faults_of}
+use Rattle.pdb_words.specs.Faults.{IsMistaken}
 
 -- something is wrong
 abbrev pub IsFault : Kinds → Type 0
@@ -20,3 +24,7 @@ first_fault (k ∷ ks) b is e = cc
 pub later_fault : (a b : Kinds) → IsFault b → IsFault (or_else a b)
 later_fault [] b is e = is e
 later_fault (k ∷ ks) b is e = cc
+
+-- a fault that is no wish for help
+pub mistaken : (words : List Text) (k : ErrorKind) (ks : Kinds) → faults_of words ≡ k ∷ ks → k ≢ kind.DisplayHelp → IsMistaken words
+mistaken words k ks is no_help = record { kind = k; among = rw is (inl refl); no_help = no_help }

@@ -1,3 +1,6 @@
 pub mod CommandLemmas
 pub mod FlagLemmas
 pub mod KindLemmas
+pub mod LogLemmas
+pub mod TextLemmas
+pub mod WorkersLemmas

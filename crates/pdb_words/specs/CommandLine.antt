@@ -1,30 +1,51 @@
 -- The words of the command line, and what they ask for.
-use Rattle.std.specs.Prelude.{◌≡◌, ◌⊎◌, ⊤, List, [], ◌∷◌, Option, Some, None, codes, if◌then◌else◌, true}
+use Rattle.std.specs.Prelude.{◌≡◌, ◌≢◌, ◌⊎◌, ◌≤◌, ⊤, List, [], ◌∷◌, Option, Some, None, codes, if◌then◌else◌, length, true}
+use Rattle.std.specs.List.{All}
 use Rattle.std.specs.Str.{bytes_eq}
-use Rattle.clap.specs.Lexer.{long_of}
+use Rattle.clap.specs.Lexer.{long_of, usize_max}
 use Rattle.clap.specs.Walk.{Row, Text}
 use Rattle.clap.specs.Simple.{App, new_app, on_top, subcommand_of, with_subcommand}
 use Rattle.clap.specs.Faults.{fault_of}
 use Rattle.clap.specs.Kinds.{Kinds}
 use Rattle.pdb_words.specs.Asked.{Asked, replay}
+use Rattle.pdb_words.specs.Bound.{bound_command, bound_in}
+use Rattle.pdb_words.specs.Optimal.{optimal_command, optimal_in}
 use Rattle.pdb_words.specs.Replay.{replay_command, replay_in}
 use Rattle.pdb_words.specs.Table.{table_command, table_in}
 
--- the commands of the program, over words that leave out its own name, as `clap` sees them
+-- the program without its commands, over words that leave out its own name, as `clap` sees it
+abbrev pub program : App
+program = on_top (λ s. record s { no_binary_name = true }) (new_app (codes "pdb_cli"))
+
+-- the commands of the program
 abbrev pub command_line : App
-command_line = with_subcommand (with_subcommand (on_top (λ s. record s { no_binary_name = true })
-    (new_app (codes "pdb_cli"))) replay_command.top) table_command.top
+command_line = with_subcommand (with_subcommand (with_subcommand (with_subcommand program
+    replay_command.top) table_command.top) bound_command.top) optimal_command.top
 
 -- ---- what words ask for
 
--- the name of a command of the program
+-- the names of the commands
+abbrev pub commands : List Text
+commands = codes "replay" ∷ codes "table" ∷ codes "bound" ∷ codes "optimal" ∷ []
+
+-- the text is among these
+abbrev pub IsOneOf : List Text → Text → Type 0
+IsOneOf [] text = ⊥
+IsOneOf (first ∷ rest) text = (text ≡ first) ⊎ IsOneOf rest text
+
 abbrev pub IsCommand : Text → Type 0
-IsCommand name = (name ≡ codes "replay") ⊎ (name ≡ codes "table")
+IsCommand name = IsOneOf commands name
+
+-- the commands that take `--workers`
+abbrev pub shared_commands : List Text
+shared_commands = codes "table" ∷ codes "bound" ∷ codes "optimal" ∷ []
 
 -- what the values found of the command of this name ask for
 abbrev pub asked_by : Text → List Row → Asked
 asked_by name rows = if bytes_eq name (codes "replay") then replay_in rows
     else if bytes_eq name (codes "table") then table_in rows
+    else if bytes_eq name (codes "bound") then bound_in rows
+    else if bytes_eq name (codes "optimal") then optimal_in rows
     else replay None
 
 -- without a command it is `replay` on standard input
@@ -48,6 +69,15 @@ Parses words = faults_of words ≡ []
 abbrev pub BeginsWithCommand : List Text → Type 0
 BeginsWithCommand [] = ⊤
 BeginsWithCommand (first ∷ rest) = IsCommand first ⊎ ((first ≡ codes "--") × (rest ≡ []))
+
+-- the word doesn't begin with `-`
+abbrev pub IsPlain : Text → Type 0
+IsPlain [] = ⊤
+IsPlain (first ∷ rest) = first ≢ 45
+
+-- no word begins with `-`, and there are no more than a machine has room for
+abbrev pub AreNames : List Text → Type 0
+AreNames words = All IsPlain words × (length words ≤ usize_max)
 
 -- the word is `--`, a name, and perhaps a value behind `=`
 abbrev pub IsLongFlag : Text → Text → Type 0

@@ -1,43 +1,15 @@
 -- The words of `table [--workers N] FILE`.
-use Rattle.std.specs.Prelude.{ℕ, Bool, ◌&&◌, List, [], ◌∷◌, Some, codes, if◌then◌else◌, nat_le, pos, true, unwrap_or}
-use Rattle.std.specs.Option.{option_map_or}
-use Rattle.std.specs.Str.Parse.{digits_value, without_leading_plus}
-use Rattle.clap.specs.Walk.{Row, Rule, Text, first_of, one_of}
-use Rattle.clap.specs.Simple.{App, new_app, new_rule, with_rule}
-use Rattle.clap.specs.ValueTests.{is_numeral}
-use Rattle.clap.specs.declared.builder.value_parser.ValueParser.TheVariants as parser
+use Rattle.std.specs.Prelude.{List, codes}
+use Rattle.clap.specs.Walk.{Row}
+use Rattle.clap.specs.Simple.{App, new_app, with_rule}
 use Rattle.pdb_words.specs.Asked.{Asked, table}
-
--- `--workers N`, a number from 1 to 64; without it, 1
-abbrev pub workers_flag : Rule
-workers_flag = record (new_rule (codes "workers")) {
-  long = Some (codes "workers");
-  value_names = 1;
-  parser = Some (parser.Signed (pos 1) (pos 64));
-  defaults = codes "1" ∷ [];
-}
+use Rattle.pdb_words.specs.Files.{file_in, needed_file}
+use Rattle.pdb_words.specs.Workers.{workers_flag, workers_in}
 
 -- the command, as `clap` sees it
 abbrev pub table_command : App
-table_command = with_rule (with_rule (new_app (codes "table")) workers_flag)
-    (record (new_rule (codes "FILE")) { required = true })
-
--- the number that digits write, perhaps after a `+`
-abbrev pub number_of : Text → ℕ
-number_of text = digits_value 10 (without_leading_plus text)
-
--- the text writes a number of workers: 1 to 64
-abbrev pub writes_workers : Text → Bool
-writes_workers text = is_numeral (without_leading_plus text) && (nat_le 1 (number_of text) && nat_le (number_of text) 64)
-
--- how many workers a text asks for: its number, or 1 where it writes none from 1 to 64
-abbrev pub workers_of : Text → ℕ
-workers_of text = if writes_workers text then number_of text else 1
-
--- how many workers the values found of the command ask for
-abbrev pub workers_in : List Row → ℕ
-workers_in rows = option_map_or workers_of (one_of (codes "workers") rows) 1
+table_command = with_rule (with_rule (new_app (codes "table")) workers_flag) (needed_file (codes "FILE"))
 
 -- what the values found of it ask for
 abbrev pub table_in : List Row → Asked
-table_in rows = table (unwrap_or (first_of (codes "FILE") rows) []) (workers_in rows)
+table_in rows = table (file_in (codes "FILE") rows) (workers_in rows)

@@ -1,14 +1,16 @@
 //! The commands of the program, and the reading of words.
 
 ghost use Rattle.std.specs.Prelude.{◌≡◌, IfErr, IfOk, IfSome, false, map, string_bytes};
-ghost use Rattle.clap.specs.Words.{FailsBy, app_of, subcommand_of, subcommand_rows_of};
+ghost use Rattle.clap.specs.Words.{FailsBy, app_of, subcommand_of, subcommand_rows_of, with_subcommand};
 ghost use Rattle.clap.specs.declared.Command.TheViews.{out-Command};
 ghost use Rattle.pdb_words.specs.Asked.{HasWorkers, view};
 ghost use Rattle.pdb_words.specs.CommandLine.{IsCommand, Parses, asked_in, asked_of, command_line, faults_of};
 ghost use Rattle.pdb_words.specs.Faults.{IsCauseOf};
 
 use crate::asked::Request;
+use crate::bound::{bound_command, bound_in};
 use crate::faults::{WordFault, fault_by};
+use crate::optimal::{optimal_command, optimal_in};
 use crate::replay::{replay_command, replay_in};
 use crate::table::{table_command, table_in};
 use clap::{ArgMatches, Command};
@@ -28,7 +30,7 @@ pub fn read_words<'a>(alloc: Global, words: &'a [String]) -> Result<Request<'a>,
     ensures cause { IfErr result (λ fault. IsCauseOf (map string_bytes words.now) fault) }
 {
     match matches_of(alloc, words) {
-        Ok(matches) => Ok(request_in(&matches)),
+        Ok(matches) => request_in(alloc, &matches).map_err(|_| WordFault::Memory),
         Err(error) => Err(fault_by(alloc, error)),
     }
 }
@@ -38,13 +40,24 @@ fn command_line<'a>(alloc: Global) -> Result<Command<'a>, AllocError>
     ensures app { IfOk result (λ c. app_of c ≡ command_line) }
     ensures local { IfOk result (λ c. (out-Command c).has_globals ≡ false) }
 {
-    Command::new(alloc, "pdb_cli")
+    let program = Command::new(alloc, "pdb_cli")
         .bin_name("pdb_cli")?
         .about("Checks claims about sliding-tile puzzles")
         .after_help(AFTER_HELP)
-        .no_binary_name(true)
-        .subcommand(replay_command(alloc)?)?
-        .subcommand(table_command(alloc)?)
+        .no_binary_name(true);
+    let program = with_command(program, replay_command(alloc)?)?;
+    let program = with_command(program, table_command(alloc)?)?;
+    let program = with_command(program, bound_command(alloc)?)?;
+    with_command(program, optimal_command(alloc)?)
+}
+
+/// The program with one more command.
+fn with_command<'a>(program: Command<'a>, command: Command<'a>) -> Result<Command<'a>, AllocError>
+    requires { (out-Command command).has_globals ≡ false }
+    ensures app { IfOk result (λ c. app_of c ≡ with_subcommand (app_of program.entry) (app_of command.entry).top) }
+    ensures local { IfOk result (λ c. (out-Command c).has_globals ≡ (out-Command program.entry).has_globals) }
+{
+    program.subcommand(command)
 }
 
 /// What `clap` finds in the words.
@@ -57,15 +70,17 @@ fn matches_of<'a>(alloc: Global, words: &'a [String]) -> Result<ArgMatches<'a>, 
 }
 
 /// What the words ask for, in which these matches were found.
-fn request_in<'a>(matches: &ArgMatches<'a>) -> Request<'a>
+fn request_in<'a>(alloc: Global, matches: &ArgMatches<'a>) -> Result<Request<'a>, AllocError>
     requires { IfSome (subcommand_rows_of matches.now) (λ found. IsCommand found.0) }
-    ensures asked { view result ≡ asked_in (subcommand_rows_of matches.now) }
-    ensures workers { HasWorkers result }
+    ensures asked { IfOk result (λ request. view request ≡ asked_in (subcommand_rows_of matches.now)) }
+    ensures workers { IfOk result (λ request. HasWorkers request) }
 {
     match matches.subcommand() {
-        None => Request::Replay(None),
-        Some(("replay", found)) => replay_in(found),
-        Some(("table", found)) => table_in(found),
+        None => Ok(Request::Replay(None)),
+        Some(("replay", found)) => Ok(replay_in(found)),
+        Some(("table", found)) => Ok(table_in(found)),
+        Some(("bound", found)) => bound_in(alloc, found),
+        Some(("optimal", found)) => optimal_in(alloc, found),
         Some(_) => unreachable!(),
     }
 }

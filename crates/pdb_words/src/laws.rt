@@ -2,44 +2,94 @@
 
 ghost use Rattle.std.specs.Prelude.{◌≡◌, ◌≢◌, ◌∷◌, ◌++◌, [], ℕ, List, None, Some, codes, nat_eq, false, true};
 ghost use Rattle.std.specs.List.{All};
-ghost use Rattle.pdb_words.specs.Asked.{replay, table};
-ghost use Rattle.pdb_words.specs.CommandLine.{BeginsWithCommand, IsCommand, IsLongFlag, Parses, asked_of};
+ghost use Rattle.pdb_words.specs.Asked.{bound, optimal, replay, table};
+ghost use Rattle.pdb_words.specs.CommandLine.{AreNames, BeginsWithCommand, IsCommand, IsLongFlag, IsOneOf, IsPlain, Parses, asked_of, shared_commands};
 ghost use Rattle.pdb_words.specs.Faults.{IsMistaken};
-ghost use Rattle.pdb_words.specs.Table.{number_of, writes_workers};
+ghost use Rattle.pdb_words.specs.Workers.{number_of, writes_workers};
 
-/// No words, and `replay` alone, ask for standard input, and `replay` with a name for that file; `table` with a name
-/// asks for that table, checked by one worker, or by as many as `--workers` says, before the name or behind it.
-pub fn what_words_ask()
+/// No words, and `replay` alone, ask for standard input, and `replay` with a name for that file.
+pub fn what_replay_asks()
     ensures nothing { Parses [] × (asked_of [] ≡ replay None) }
-    ensures command { Parses (codes "replay" ∷ []) × (asked_of (codes "replay" ∷ []) ≡ replay None) }
-    // A name begins with a byte that is no `-`.
-    ensures file { (b : ℕ) (name : List ℕ) → nat_eq b 45 ≡ false → Parses (codes "replay" ∷ (b ∷ name) ∷ [])
-        × (asked_of (codes "replay" ∷ (b ∷ name) ∷ []) ≡ replay (Some (b ∷ name))) }
-    ensures replay_workers { (number : List ℕ) → IsMistaken (codes "replay" ∷ codes "--workers" ∷ number ∷ []) }
-    ensures table { (b : ℕ) (name : List ℕ) → nat_eq b 45 ≡ false → Parses (codes "table" ∷ (b ∷ name) ∷ [])
-        × (asked_of (codes "table" ∷ (b ∷ name) ∷ []) ≡ table (b ∷ name) 1) }
-    ensures table_alone { IsMistaken (codes "table" ∷ []) }
-    // So does a number.
-    ensures table_workers { (d b : ℕ) (number name : List ℕ) → nat_eq d 45 ≡ false → nat_eq b 45 ≡ false → writes_workers (d ∷ number) ≡ true
-        → let words = codes "table" ∷ codes "--workers" ∷ (d ∷ number) ∷ (b ∷ name) ∷ [] in
-        Parses words × (asked_of words ≡ table (b ∷ name) (number_of (d ∷ number))) }
-    ensures table_other_workers { (d b : ℕ) (number name : List ℕ) → nat_eq d 45 ≡ false → nat_eq b 45 ≡ false → writes_workers (d ∷ number) ≡ false
-        → IsMistaken (codes "table" ∷ codes "--workers" ∷ (d ∷ number) ∷ (b ∷ name) ∷ []) }
-    ensures workers_last { (d b : ℕ) (number name : List ℕ) → nat_eq d 45 ≡ false → nat_eq b 45 ≡ false → writes_workers (d ∷ number) ≡ true
-        → let words = codes "table" ∷ (b ∷ name) ∷ codes "--workers" ∷ (d ∷ number) ∷ [] in
-        Parses words × (asked_of words ≡ table (b ∷ name) (number_of (d ∷ number))) }
-    ensures other_workers_last { (d b : ℕ) (number name : List ℕ) → nat_eq d 45 ≡ false → nat_eq b 45 ≡ false → writes_workers (d ∷ number) ≡ false
-        → IsMistaken (codes "table" ∷ (b ∷ name) ∷ codes "--workers" ∷ (d ∷ number) ∷ []) }
+    ensures alone { Parses (codes "replay" ∷ []) × (asked_of (codes "replay" ∷ []) ≡ replay None) }
+    ensures file { (name : List ℕ) → IsPlain name → let words = codes "replay" ∷ name ∷ [] in
+        Parses words × (asked_of words ≡ replay (Some name)) }
+    ensures workers { (number : List ℕ) → IsMistaken (codes "replay" ∷ codes "--workers" ∷ number ∷ []) }
 {}
 
-/// Words that parse begin with a command of the program, and give no flag but `--workers` to `table`.
+/// `table` with a name asks for that table, checked by one worker, or by as many as `--workers` says, before the name
+/// or behind it.
+pub fn what_table_asks()
+    ensures file { (name : List ℕ) → IsPlain name → let words = codes "table" ∷ name ∷ [] in
+        Parses words × (asked_of words ≡ table name 1) }
+    ensures alone { IsMistaken (codes "table" ∷ []) }
+    ensures workers { (number name : List ℕ) → IsPlain number → IsPlain name → writes_workers number ≡ true
+        → let words = codes "table" ∷ codes "--workers" ∷ number ∷ name ∷ [] in
+        Parses words × (asked_of words ≡ table name (number_of number)) }
+    ensures other_workers { (number name : List ℕ) → IsPlain number → IsPlain name → writes_workers number ≡ false
+        → IsMistaken (codes "table" ∷ codes "--workers" ∷ number ∷ name ∷ []) }
+    ensures workers_last { (number name : List ℕ) → IsPlain number → IsPlain name → writes_workers number ≡ true
+        → let words = codes "table" ∷ name ∷ codes "--workers" ∷ number ∷ [] in
+        Parses words × (asked_of words ≡ table name (number_of number)) }
+    ensures other_workers_last { (number name : List ℕ) → IsPlain number → IsPlain name → writes_workers number ≡ false
+        → IsMistaken (codes "table" ∷ name ∷ codes "--workers" ∷ number ∷ []) }
+{}
+
+/// `bound` with the names of a board, the sets, a log and one table or more asks whether the log proves its bound of
+/// the board: the tables in their order, checked by one worker, or by as many as `--workers` says, first or last.
+pub fn what_bound_asks()
+    ensures files { (board sets log table : List ℕ) (tables : List (List ℕ)) → AreNames (board ∷ sets ∷ log ∷ table ∷ tables)
+        → let words = codes "bound" ∷ board ∷ sets ∷ log ∷ table ∷ tables in
+        Parses words × (asked_of words ≡ bound board sets log (table ∷ tables) 1) }
+    ensures no_tables { (board sets log : List ℕ) → IsPlain board → IsPlain sets → IsPlain log
+        → IsMistaken (codes "bound" ∷ board ∷ sets ∷ log ∷ []) }
+    ensures workers { (number board sets log table : List ℕ) (tables : List (List ℕ)) → IsPlain number → AreNames (board ∷ sets ∷ log ∷ table ∷ tables)
+        → writes_workers number ≡ true
+        → let words = codes "bound" ∷ codes "--workers" ∷ number ∷ board ∷ sets ∷ log ∷ table ∷ tables in
+        Parses words × (asked_of words ≡ bound board sets log (table ∷ tables) (number_of number)) }
+    ensures other_workers { (number board sets log table : List ℕ) (tables : List (List ℕ)) → IsPlain number → AreNames (board ∷ sets ∷ log ∷ table ∷ tables)
+        → writes_workers number ≡ false
+        → IsMistaken (codes "bound" ∷ codes "--workers" ∷ number ∷ board ∷ sets ∷ log ∷ table ∷ tables) }
+    ensures workers_last { (number board sets log table : List ℕ) (tables : List (List ℕ)) → IsPlain number → AreNames (board ∷ sets ∷ log ∷ table ∷ tables)
+        → writes_workers number ≡ true
+        → let words = codes "bound" ∷ board ∷ sets ∷ log ∷ table ∷ tables ++ codes "--workers" ∷ number ∷ [] in
+        Parses words × (asked_of words ≡ bound board sets log (table ∷ tables) (number_of number)) }
+    ensures other_workers_last { (number board sets log table : List ℕ) (tables : List (List ℕ)) → IsPlain number → AreNames (board ∷ sets ∷ log ∷ table ∷ tables)
+        → writes_workers number ≡ false
+        → IsMistaken (codes "bound" ∷ board ∷ sets ∷ log ∷ table ∷ tables ++ codes "--workers" ∷ number ∷ []) }
+{}
+
+/// `optimal` asks in the same words, with a puzzle text first, whether the log proves that its moves are a shortest
+/// solution.
+pub fn what_optimal_asks()
+    ensures files { (puzzle sets log table : List ℕ) (tables : List (List ℕ)) → AreNames (puzzle ∷ sets ∷ log ∷ table ∷ tables)
+        → let words = codes "optimal" ∷ puzzle ∷ sets ∷ log ∷ table ∷ tables in
+        Parses words × (asked_of words ≡ optimal puzzle sets log (table ∷ tables) 1) }
+    ensures no_tables { (puzzle sets log : List ℕ) → IsPlain puzzle → IsPlain sets → IsPlain log
+        → IsMistaken (codes "optimal" ∷ puzzle ∷ sets ∷ log ∷ []) }
+    ensures workers { (number puzzle sets log table : List ℕ) (tables : List (List ℕ)) → IsPlain number → AreNames (puzzle ∷ sets ∷ log ∷ table ∷ tables)
+        → writes_workers number ≡ true
+        → let words = codes "optimal" ∷ codes "--workers" ∷ number ∷ puzzle ∷ sets ∷ log ∷ table ∷ tables in
+        Parses words × (asked_of words ≡ optimal puzzle sets log (table ∷ tables) (number_of number)) }
+    ensures other_workers { (number puzzle sets log table : List ℕ) (tables : List (List ℕ)) → IsPlain number → AreNames (puzzle ∷ sets ∷ log ∷ table ∷ tables)
+        → writes_workers number ≡ false
+        → IsMistaken (codes "optimal" ∷ codes "--workers" ∷ number ∷ puzzle ∷ sets ∷ log ∷ table ∷ tables) }
+    ensures workers_last { (number puzzle sets log table : List ℕ) (tables : List (List ℕ)) → IsPlain number → AreNames (puzzle ∷ sets ∷ log ∷ table ∷ tables)
+        → writes_workers number ≡ true
+        → let words = codes "optimal" ∷ puzzle ∷ sets ∷ log ∷ table ∷ tables ++ codes "--workers" ∷ number ∷ [] in
+        Parses words × (asked_of words ≡ optimal puzzle sets log (table ∷ tables) (number_of number)) }
+    ensures other_workers_last { (number puzzle sets log table : List ℕ) (tables : List (List ℕ)) → IsPlain number → AreNames (puzzle ∷ sets ∷ log ∷ table ∷ tables)
+        → writes_workers number ≡ false
+        → IsMistaken (codes "optimal" ∷ puzzle ∷ sets ∷ log ∷ table ∷ tables ++ codes "--workers" ∷ number ∷ []) }
+{}
+
+/// Words that parse begin with a command of the program, and give no flag but `--workers`, to a command that shares its check.
 pub fn no_other_words_parse()
     ensures commands { (words : List (List ℕ)) → Parses words → BeginsWithCommand words }
     // Another first word, other than a wish for help, is a mistake, whatever follows.
-    ensures other_command { (b : ℕ) (name : List ℕ) (rest : List (List ℕ)) → nat_eq b 45 ≡ false
-        → (IsCommand (b ∷ name) → ⊥) → b ∷ name ≢ codes "help" → IsMistaken ((b ∷ name) ∷ rest) }
+    ensures other_command { (first : List ℕ) (rest : List (List ℕ)) → IsPlain first → (IsCommand first → ⊥) → first ≢ codes "help"
+        → IsMistaken (first ∷ rest) }
     // Behind a word `--` no word is a flag.
     ensures flags { (command name flag : List ℕ) (before after : List (List ℕ)) → IsCommand command
         → All (λ word. word ≢ codes "--") before → IsLongFlag name flag
-        → Parses (command ∷ before ++ flag ∷ after) → (command ≡ codes "table") × (name ≡ codes "workers") }
+        → Parses (command ∷ before ++ flag ∷ after) → IsOneOf shared_commands command × (name ≡ codes "workers") }
 {}

@@ -2,15 +2,21 @@
 #![tactic(auto)]
 
 mod asked;
+mod bound;
 mod command_line;
 mod faults;
+mod files;
 mod laws;
+mod optimal;
 mod replay;
 mod table;
 #[cfg(test)]
 mod tests;
+mod workers;
 
-pub use asked::Request;
+pub use asked::{LogCheck, Request};
 pub use command_line::read_words;
 pub use faults::{WordFault, unreadable_word};
-pub use laws::{no_other_words_parse, what_words_ask};
+pub use laws::{
+    no_other_words_parse, what_bound_asks, what_optimal_asks, what_replay_asks, what_table_asks,
+};

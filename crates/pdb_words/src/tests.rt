@@ -1,6 +1,6 @@
 //! What words ask for, and the whole texts of help and of mistakes.
 
-use crate::{Request, WordFault, read_words, unreadable_word};
+use crate::{LogCheck, Request, WordFault, read_words, unreadable_word};
 use std::alloc::{AllocError, Global};
 use std::test::Fail;
 
@@ -9,9 +9,11 @@ const HELP: &str = "Checks claims about sliding-tile puzzles
 Usage: pdb_cli [COMMAND]
 
 Commands:
-  replay  Plays the moves of a puzzle text, and says whether they solve its board
-  table   Says whether a table file is exact
-  help    Print this message or the help of the given subcommand(s)
+  replay   Plays the moves of a puzzle text, and says whether they solve its board
+  table    Says whether a table file is exact
+  bound    Says whether a log proves that no solution of a board has fewer moves than its bound
+  optimal  Says whether a log proves that the moves of a puzzle text are a shortest solution
+  help     Print this message or the help of the given subcommand(s)
 
 Options:
   -h, --help  Print help
@@ -46,6 +48,38 @@ Options:
   -h, --help         Print help
 ";
 
+const HELP_OF_BOUND: &str =
+    "Says whether a log proves that no solution of a board has fewer moves than its bound
+
+Usage: pdb_cli bound [--workers N] BOARD SETS LOG TABLES..
+
+Arguments:
+  <BOARD>      A board text
+  <SETS>       The sets of tables
+  <LOG>        A log file
+  <TABLES>...  The table files, in the order of their numbers
+
+Options:
+      --workers <N>  How many workers share the check, 1 to 64 [default: 1]
+  -h, --help         Print help
+";
+
+const HELP_OF_OPTIMAL: &str =
+    "Says whether a log proves that the moves of a puzzle text are a shortest solution
+
+Usage: pdb_cli optimal [--workers N] PUZZLE SETS LOG TABLES..
+
+Arguments:
+  <PUZZLE>     A puzzle text
+  <SETS>       The sets of tables
+  <LOG>        A log file
+  <TABLES>...  The table files, in the order of their numbers
+
+Options:
+      --workers <N>  How many workers share the check, 1 to 64 [default: 1]
+  -h, --help         Print help
+";
+
 const HELP_OF_HELP: &str = "Print this message or the help of the given subcommand(s)
 
 Usage: pdb_cli help [COMMAND]...
@@ -65,17 +99,27 @@ fn owned(alloc: Global, words: &[&str]) -> Result<Vec<String>, AllocError> {
     Ok(all)
 }
 
+fn table(workers: u8) -> Request<'static> {
+    Request::Table { file: "f", workers }
+}
+
+fn log_check<'a>(
+    alloc: Global,
+    tables: &[&'a str],
+    workers: u8,
+) -> Result<LogCheck<'a>, AllocError> {
+    Ok(LogCheck {
+        claim: "c",
+        sets: "s",
+        log: "l",
+        tables: tables.to_vec(alloc)?,
+        workers,
+    })
+}
+
 #[test]
 fn words_ask_for_a_request(rt: HostRuntime) -> Result<(), Fail> {
     let alloc = rt.alloc();
-    let alone = Request::Table {
-        file: "f",
-        workers: 1,
-    };
-    let shared = Request::Table {
-        file: "f",
-        workers: 64,
-    };
     let cases: [(&[&str], Request); 15] = [
         (&[], Request::Replay(None)),
         (&["--"], Request::Replay(None)),
@@ -87,14 +131,14 @@ fn words_ask_for_a_request(rt: HostRuntime) -> Result<(), Fail> {
         (&["replay", "-"], Request::Replay(Some("-"))),
         (&["replay", "--", "-x"], Request::Replay(Some("-x"))),
         (&["replay", "table"], Request::Replay(Some("table"))),
-        (&["table", "f"], alone),
-        (&["table", "f", "--workers", "1"], alone),
-        (&["table", "--workers", "+1", "f"], alone),
-        (&["table", "f", "--workers", "64"], shared),
-        (&["table", "--workers", "64", "f"], shared),
-        (&["table", "--workers=64", "f"], shared),
-        (&["table", "f", "--workers=64"], shared),
-        (&["table", "--workers", "064", "--", "f"], shared),
+        (&["table", "f"], table(1)),
+        (&["table", "f", "--workers", "1"], table(1)),
+        (&["table", "--workers", "+1", "f"], table(1)),
+        (&["table", "f", "--workers", "64"], table(64)),
+        (&["table", "--workers", "64", "f"], table(64)),
+        (&["table", "--workers=64", "f"], table(64)),
+        (&["table", "f", "--workers=64"], table(64)),
+        (&["table", "--workers", "064", "--", "f"], table(64)),
     ];
     for (words, request) in cases {
         let words = owned(alloc, words)?;
@@ -107,9 +151,48 @@ fn words_ask_for_a_request(rt: HostRuntime) -> Result<(), Fail> {
 }
 
 #[test]
+fn words_name_the_files_of_a_log(rt: HostRuntime) -> Result<(), Fail> {
+    let alloc = rt.alloc();
+    let cases: [(&[&str], &[&str], u8); 8] = [
+        (&["c", "s", "l", "t"], &["t"], 1),
+        (&["c", "s", "l", "t", "u", "t"], &["t", "u", "t"], 1),
+        (&["c", "s", "l", "bound", ""], &["bound", ""], 1),
+        (&["--workers", "7", "c", "s", "l", "t", "u"], &["t", "u"], 7),
+        (
+            &["c", "s", "l", "t", "u", "--workers", "64"],
+            &["t", "u"],
+            64,
+        ),
+        (&["c", "--workers=2", "s", "l", "t", "u"], &["t", "u"], 2),
+        (&["c", "s", "l", "t", "--workers", "2", "u"], &["t", "u"], 2),
+        (
+            &["c", "s", "l", "--", "-t", "--workers"],
+            &["-t", "--workers"],
+            1,
+        ),
+    ];
+    for (words, tables, workers) in cases {
+        let mut words = owned(alloc, words)?;
+        words.insert(0, String::from_str(alloc, "bound")?)?;
+        let bound = Request::Bound(log_check(alloc, tables, workers)?);
+        match read_words(alloc, words.as_slice()) {
+            Ok(found) => assert!(rt; found == bound, "{found:?}"),
+            Err(fault) => assert!(rt; false, "{fault}"),
+        }
+        words[0] = String::from_str(alloc, "optimal")?;
+        let optimal = Request::Optimal(log_check(alloc, tables, workers)?);
+        match read_words(alloc, words.as_slice()) {
+            Ok(found) => assert!(rt; found == optimal, "{found:?}"),
+            Err(fault) => assert!(rt; false, "{fault}"),
+        }
+    }
+    Ok(())
+}
+
+#[test]
 fn help_is_shown_whole(rt: HostRuntime) -> Result<(), Fail> {
     let alloc = rt.alloc();
-    let cases: [(&[&str], &str); 9] = [
+    let cases: [(&[&str], &str); 13] = [
         (&["--help"], HELP),
         (&["-h"], HELP),
         (&["help"], HELP),
@@ -119,6 +202,10 @@ fn help_is_shown_whole(rt: HostRuntime) -> Result<(), Fail> {
         (&["table", "--help"], HELP_OF_TABLE),
         (&["table", "f", "-h"], HELP_OF_TABLE),
         (&["help", "table"], HELP_OF_TABLE),
+        (&["bound", "--help"], HELP_OF_BOUND),
+        (&["help", "bound"], HELP_OF_BOUND),
+        (&["optimal", "c", "s", "l", "t", "-h"], HELP_OF_OPTIMAL),
+        (&["help", "optimal"], HELP_OF_OPTIMAL),
     ];
     for (words, help) in cases {
         let words = owned(alloc, words)?;
@@ -133,10 +220,10 @@ fn help_is_shown_whole(rt: HostRuntime) -> Result<(), Fail> {
 #[test]
 fn mistakes_are_explained(rt: HostRuntime) -> Result<(), Fail> {
     let alloc = rt.alloc();
-    let cases: [(&[&str], &str); 18] = [
+    let cases: [(&[&str], &str); 25] = [
         (&["rplay"], "unrecognized subcommand 'rplay'"),
-        (&["bound", "f"], "unrecognized subcommand 'bound'"),
-        (&["help", "bound"], "unrecognized subcommand 'bound'"),
+        (&["shuffle", "f"], "unrecognized subcommand 'shuffle'"),
+        (&["help", "shuffle"], "unrecognized subcommand 'shuffle'"),
         (&[""], "unrecognized subcommand ''"),
         (&["--workers", "2"], "unexpected argument '--workers' found"),
         (&["-x"], "unexpected argument '-x' found"),
@@ -161,6 +248,22 @@ fn mistakes_are_explained(rt: HostRuntime) -> Result<(), Fail> {
             &["table", "--workers", "2", "--workers", "3", "f"],
             "cannot be used multiple times",
         ),
+        (&["bound"], "<BOARD>"),
+        (&["optimal"], "<PUZZLE>"),
+        (&["bound", "c", "s", "l"], "<TABLES>"),
+        (&["optimal", "--workers", "2", "c", "s", "l"], "<TABLES>"),
+        (
+            &["bound", "c", "s", "l", "t", "--workers", "65"],
+            "65 is not in 1..=64",
+        ),
+        (
+            &["optimal", "--workers", "0", "c", "s", "l", "t"],
+            "0 is not in 1..=64",
+        ),
+        (
+            &["optimal", "c", "s", "l", "t", "--tables", "u"],
+            "unexpected argument '--tables'",
+        ),
     ];
     for (words, part) in cases {
         let words = owned(alloc, words)?;
@@ -180,12 +283,12 @@ fn mistakes_are_explained(rt: HostRuntime) -> Result<(), Fail> {
 #[test]
 fn a_mistake_shows_the_usage(rt: HostRuntime) -> Result<(), Fail> {
     let alloc = rt.alloc();
-    let words = owned(alloc, &["bound"])?;
+    let words = owned(alloc, &["shuffle"])?;
     let Err(WordFault::Mistake(text)) = read_words(alloc, words.as_slice()) else {
         assert!(rt; false, "no mistake");
         return Ok(());
     };
-    let whole = format!(in alloc; "error: unrecognized subcommand 'bound'{USAGE}")?;
+    let whole = format!(in alloc; "error: unrecognized subcommand 'shuffle'{USAGE}")?;
     assert_eq!(rt; text.as_str(), whole.as_str());
     let unreadable = format!(in alloc; "error: a word is no UTF-8 text{USAGE}")?;
     assert_eq!(rt; unreadable_word(), unreadable.as_str());

@@ -1,24 +1,31 @@
-use Rattle.std.proofs.Common.{rules, ◌≡◌, ◌∙◌, ap, ap₂, codes, false, true}
+use Rattle.std.proofs.Common.{rules, ◌≡◌, ◌∙◌, ap₂, false}
 use Rattle.std.proofs.lemmas.Result.{IfOk-weaker}
-use Rattle.clap.specs.Simple.{on_top}
-use Rattle.clap.specs.Words.{AddsSubcommand, App, app_of, new_app, with_subcommand}
+use Rattle.clap.specs.Words.{App, app_of, with_subcommand}
 use Rattle.clap.specs.declared.Command.{Command}
 use Rattle.clap.specs.declared.Command.TheViews.{out-Command}
+use Rattle.pdb_words.specs.Bound.{bound_command}
+use Rattle.pdb_words.specs.CommandLine.{program}
 use Rattle.pdb_words.specs.Replay.{replay_command}
+use Rattle.pdb_words.specs.Table.{table_command}
 use Rattle.pdb_words.proofs.command_line.command_line.Goals as goal
 
--- the program's command, before its own are added
-abbrev bare : App
-bare = on_top (λ s. record s { no_binary_name = true }) (new_app (codes "pdb_cli"))
+abbrev joined : App → App → App
+joined above command = with_subcommand above command.top
 
-pub returns : goal.returns
-returns c =
-    let named : app_of c.no_binary_name.result ≡ bare = search rules in
-    let first : app_of c.in_ok-subcommand.field-0 ≡ with_subcommand bare replay_command.top =
-    c.in_ok-subcommand.ensures.shape c.in_ok-replay_command.ensures.local ∙ ap₂ with_subcommand named (ap (λ (a : App). a.top) c.in_ok-replay_command.ensures.app) in
-    let first_local : (out-Command c.in_ok-subcommand.field-0).has_globals ≡ false = search rules in
-    record {
-      app = IfOk-weaker _ _ _ (λ (whole : Command) (added : AddsSubcommand c.in_ok-subcommand.field-0 c.in_ok-table_command.field-0 whole). added.shape c.in_ok-table_command.ensures.local
-          ∙ ap₂ with_subcommand first (ap (λ (a : App). a.top) c.in_ok-table_command.ensures.app)) c.subcommand-2.ensures;
-      local = IfOk-weaker _ _ _ (λ (whole : Command) (added : AddsSubcommand c.in_ok-subcommand.field-0 c.in_ok-table_command.field-0 whole). rw (added.globals, first_local) c.in_ok-table_command.ensures.local) c.subcommand-2.ensures;
-    }
+pub returns-clause-app : goal.returns-clause-app
+returns-clause-app c =
+    let bare : app_of c.no_binary_name-program.result ≡ program = search rules in
+    let one : app_of c.in_ok-program.program ≡ joined program replay_command =
+    c.in_ok-program.ensures.app ∙ ap₂ joined bare c.in_ok-replay_command.ensures.app in
+    let two : app_of c.in_ok-program-2.program ≡ joined (joined program replay_command) table_command =
+    c.in_ok-program-2.ensures.app ∙ ap₂ joined one c.in_ok-table_command.ensures.app in
+    let three : app_of c.in_ok-program-3.program ≡ joined (joined (joined program replay_command) table_command) bound_command =
+    c.in_ok-program-3.ensures.app ∙ ap₂ joined two c.in_ok-bound_command.ensures.app in
+    IfOk-weaker _ _ _ (λ (whole : Command) (is : app_of whole ≡ joined (app_of c.in_ok-program-3.program) (app_of c.in_ok-optimal_command.field-0)).
+    is ∙ ap₂ joined three c.in_ok-optimal_command.ensures.app) c.with_command-4.ensures.app
+
+pub returns-clause-local : goal.returns-clause-local
+returns-clause-local c =
+    let bare : (out-Command c.no_binary_name-program.result).has_globals ≡ false = search rules in
+    let local = c.in_ok-program-3.ensures.local ∙ c.in_ok-program-2.ensures.local ∙ c.in_ok-program.ensures.local ∙ bare in
+    IfOk-weaker _ _ _ (λ (whole : Command) (is : (out-Command whole).has_globals ≡ (out-Command c.in_ok-program-3.program).has_globals). is ∙ local) c.with_command-4.ensures.local

@@ -8,8 +8,8 @@ use Rattle.clap.specs.ValueTests.{is_numeral}
 use Rattle.clap.specs.Words.{ReadsOne, Text, found_of, one_text, rows_of}
 use Rattle.clap.specs.declared.ArgMatches.{ArgMatches}
 use Rattle.clap.proofs.WalkLemmas.{one_text-rows, byte_read}
-use Rattle.pdb_words.specs.Table.{number_of, workers_in, workers_of}
-use Rattle.pdb_words.proofs.table.workers_in.Goals as goal
+use Rattle.pdb_words.specs.Workers.{number_of, workers_in, workers_of}
+use Rattle.pdb_words.proofs.workers.workers_in.Goals as goal
 
 -- the number that was read, where it is 1 to 64, and otherwise 1
 abbrev within : ℕ → ℕ

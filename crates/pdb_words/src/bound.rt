@@ -1,0 +1,42 @@
+//! The words of `bound [--workers N] BOARD SETS LOG TABLES..`.
+
+ghost use Rattle.std.specs.Prelude.{◌≡◌, IfOk, false};
+ghost use Rattle.clap.specs.Words.{app_of, found_of, rows_of};
+ghost use Rattle.clap.specs.declared.Command.TheViews.{out-Command};
+ghost use Rattle.pdb_words.specs.Asked.{HasWorkers, view};
+ghost use Rattle.pdb_words.specs.Bound.{bound_command, bound_in};
+
+use crate::asked::{LogCheck, Request};
+use crate::files::{file_in, needed_file, tables_in, with_log};
+use crate::workers::workers_in;
+use clap::{ArgMatches, Command};
+use std::alloc::{AllocError, Global};
+
+/// The command, for `clap`.
+pub(crate) fn bound_command<'a>(alloc: Global) -> Result<Command<'a>, AllocError>
+    ensures app { IfOk result (λ c. app_of c ≡ bound_command) }
+    ensures local { IfOk result (λ c. (out-Command c).has_globals ≡ false) }
+{
+    let board = needed_file(alloc, "BOARD").help("A board text");
+    let command = Command::new(alloc, "bound")
+        .about(
+            "Says whether a log proves that no solution of a board has fewer moves than its bound",
+        )
+        .override_usage("pdb_cli bound [--workers N] BOARD SETS LOG TABLES..")
+        .arg(board)?;
+    with_log(alloc, command)
+}
+
+/// What these matches of the command ask for.
+pub(crate) fn bound_in<'a>(alloc: Global, found: &ArgMatches<'a>) -> Result<Request<'a>, AllocError>
+    ensures asked { IfOk result (λ request. view request ≡ bound_in (rows_of (found_of found.now))) }
+    ensures workers { IfOk result (λ request. HasWorkers request) }
+{
+    Ok(Request::Bound(LogCheck {
+        claim: file_in(found, "BOARD"),
+        sets: file_in(found, "SETS"),
+        log: file_in(found, "LOG"),
+        tables: tables_in(alloc, found)?,
+        workers: workers_in(found),
+    }))
+}

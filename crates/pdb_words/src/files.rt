@@ -1,0 +1,68 @@
+//! The files that a command names.
+
+ghost use Rattle.std.specs.Prelude.{◌≡◌, IfOk, false, map};
+ghost use Rattle.clap.specs.Words.{app_of, found_of, rows_of, rule_of, with_rule};
+ghost use Rattle.clap.specs.declared.Command.TheViews.{out-Command};
+ghost use Rattle.pdb_words.specs.Files.{file_in, needed_file, needed_tables, tables_in, with_log};
+
+use crate::workers::workers_flag;
+use clap::{Arg, ArgMatches, Command};
+use std::alloc::{AllocError, Global};
+
+/// A file that has to be named.
+pub(crate) fn needed_file<'a>(alloc: Global, id: &'a str) -> Arg<'a>
+    ensures rule { rule_of result ≡ needed_file id.entry.now }
+    ensures local { result.global ≡ false }
+{
+    Arg::new(alloc, id).required(true)
+}
+
+/// The tables of a log: one or more.
+fn needed_tables<'a>(alloc: Global) -> Arg<'a>
+    ensures rule { rule_of result ≡ needed_tables }
+    ensures local { result.global ≡ false }
+{
+    Arg::new(alloc, "TABLES")
+        .help("The table files, in the order of their numbers")
+        .required(true)
+        .num_args(1..)
+}
+
+/// A command with `SETS LOG TABLES..` behind its own file, and with the flag `--workers`.
+pub(crate) fn with_log<'a>(alloc: Global, command: Command<'a>) -> Result<Command<'a>, AllocError>
+    ensures app { IfOk result (λ c. app_of c ≡ with_log (app_of command.entry)) }
+    ensures local { IfOk result (λ c. (out-Command c).has_globals ≡ (out-Command command.entry).has_globals) }
+{
+    let sets = needed_file(alloc, "SETS").help("The sets of tables");
+    let log = needed_file(alloc, "LOG").help("A log file");
+    let command = with_argument(command, workers_flag(alloc))?;
+    let command = with_argument(command, sets)?;
+    let command = with_argument(command, log)?;
+    with_argument(command, needed_tables(alloc))
+}
+
+/// A command with one more argument.
+fn with_argument<'a>(command: Command<'a>, arg: Arg<'a>) -> Result<Command<'a>, AllocError>
+    requires { arg.global ≡ false }
+    ensures app { IfOk result (λ c. app_of c ≡ with_rule (app_of command.entry) (rule_of arg.entry)) }
+    ensures local { IfOk result (λ c. (out-Command c).has_globals ≡ (out-Command command.entry).has_globals) }
+{
+    command.arg(arg)
+}
+
+/// The name that these matches of a command have for a file.
+pub(crate) fn file_in<'a>(found: &ArgMatches<'a>, id: &str) -> &'a str
+    ensures { result.now ≡ file_in id.now (rows_of (found_of found.now)) }
+{
+    found.get_str(id).unwrap_or("")
+}
+
+/// The names that these matches of a command have for the tables.
+pub(crate) fn tables_in<'a>(
+    alloc: Global,
+    found: &ArgMatches<'a>,
+) -> Result<Vec<&'a str>, AllocError>
+    ensures { IfOk result (λ tables. map (λ s. s.now) tables.items ≡ tables_in (rows_of (found_of found.now))) }
+{
+    found.get_strs("TABLES").unwrap_or(&[]).to_vec(alloc)
+}

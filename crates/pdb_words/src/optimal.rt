@@ -1,0 +1,43 @@
+//! The words of `optimal [--workers N] PUZZLE SETS LOG TABLES..`.
+
+ghost use Rattle.std.specs.Prelude.{◌≡◌, IfOk, false};
+ghost use Rattle.clap.specs.Words.{app_of, found_of, rows_of};
+ghost use Rattle.clap.specs.declared.Command.TheViews.{out-Command};
+ghost use Rattle.pdb_words.specs.Asked.{HasWorkers, view};
+ghost use Rattle.pdb_words.specs.Optimal.{optimal_command, optimal_in};
+
+use crate::asked::{LogCheck, Request};
+use crate::files::{file_in, needed_file, tables_in, with_log};
+use crate::workers::workers_in;
+use clap::{ArgMatches, Command};
+use std::alloc::{AllocError, Global};
+
+/// The command, for `clap`.
+pub(crate) fn optimal_command<'a>(alloc: Global) -> Result<Command<'a>, AllocError>
+    ensures app { IfOk result (λ c. app_of c ≡ optimal_command) }
+    ensures local { IfOk result (λ c. (out-Command c).has_globals ≡ false) }
+{
+    let puzzle = needed_file(alloc, "PUZZLE").help("A puzzle text");
+    let command = Command::new(alloc, "optimal")
+        .about("Says whether a log proves that the moves of a puzzle text are a shortest solution")
+        .override_usage("pdb_cli optimal [--workers N] PUZZLE SETS LOG TABLES..")
+        .arg(puzzle)?;
+    with_log(alloc, command)
+}
+
+/// What these matches of the command ask for.
+pub(crate) fn optimal_in<'a>(
+    alloc: Global,
+    found: &ArgMatches<'a>,
+) -> Result<Request<'a>, AllocError>
+    ensures asked { IfOk result (λ request. view request ≡ optimal_in (rows_of (found_of found.now))) }
+    ensures workers { IfOk result (λ request. HasWorkers request) }
+{
+    Ok(Request::Optimal(LogCheck {
+        claim: file_in(found, "PUZZLE"),
+        sets: file_in(found, "SETS"),
+        log: file_in(found, "LOG"),
+        tables: tables_in(alloc, found)?,
+        workers: workers_in(found),
+    }))
+}
