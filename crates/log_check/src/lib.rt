@@ -4,6 +4,8 @@
 mod faults;
 mod jobs;
 pub mod laws;
+#[cfg(test)]
+mod lemma_tests;
 mod lemmas;
 #[cfg(test)]
 mod log_tests;
@@ -12,8 +14,6 @@ mod nodes;
 mod order;
 #[cfg(test)]
 mod plain_logs;
-#[cfg(test)]
-mod tests;
 mod walks;
 
 pub use faults::{LogFault, LogRefusal};

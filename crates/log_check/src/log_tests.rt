@@ -1,10 +1,12 @@
 //! Logs checked whole, by several workers: worked ones, changed ones byte by byte, long ones, and gates that hold workers.
 
+use crate::lemma_tests::with_byte;
 use crate::plain_logs::{Cells, plain_answer};
 use crate::{LogFault, LogRefusal, check_log};
 use log_file::FormFault;
 use puz_board::Board;
 use samples::files::{TILE_1, TILE_3, TILE_24, TILES_12, TILES_123};
+use samples::logs::{BRANCHES, CITATION, LEAF, UNSOLVABLE};
 use samples::{HoldingGate, Log};
 use set_sum::{Bundle, SetFault};
 use std::alloc::{AllocError, Global};
@@ -14,21 +16,6 @@ use std::test::Fail;
 use std::thread::Threads;
 use tab_check::{CheckedTable, check_table};
 use work_run::OpenGate;
-
-/// The board `3 2 1 0`, bound 6, and a leaf.
-const LEAF: [u8; 20] = *b"PDBL\x01\x02\0\0\0\x01\x03\x02\x01\0\x06\0\0\0\x01\x01";
-
-/// The same board and bound, and a leaf at the end of each way round.
-const BRANCHES: [u8; 30] = *b"PDBL\x01\x02\0\0\0\x01\
-\x03\x02\x01\0\x06\0\0\0\x0B\0\0\0\0\0\x01\0\0\0\0\x01";
-
-/// The board `3 0 1 2`, bound 5, with 6 bytes of a tree, and `3 2 1 0`, bound 6, whose tree cites that lemma.
-const CITATION: [u8; 45] = *b"PDBL\x01\x02\0\0\0\x02\
-\x03\0\x01\x02\x05\0\0\0\x06\0\x01\0\0\0\x01\
-\x03\x02\x01\0\x06\0\0\0\x0B\0\x20\0\0\0\0\0\0\0\0\x01";
-
-/// The board `0 1 3 2`, which has no solution, bound 255, and a leaf.
-const UNSOLVABLE: [u8; 20] = *b"PDBL\x01\x02\0\0\0\x01\0\x01\x03\x02\xFF\0\0\0\x01\x01";
 
 /// The goal board, bound 0, and a leaf.
 const GOAL: [u8; 20] = *b"PDBL\x01\x02\0\0\0\x01\0\x01\x02\x03\0\0\0\0\x01\x01";
@@ -92,13 +79,6 @@ fn refused(fault: LogRefusal) -> Result<u8, LogFault> {
 
 fn misformed(fault: FormFault) -> Result<u8, LogFault> {
     refused(LogRefusal::Form(fault))
-}
-
-fn with_byte<const N: usize>(rt: &impl Abort, file: &[u8; N], place: usize, byte: u8) -> [u8; N] {
-    let mut changed = *file;
-    assert!(rt; place < N);
-    changed[place] = byte;
-    changed
 }
 
 #[test]

@@ -3,6 +3,7 @@
 use crate::check_lemma;
 use log_file::LogView;
 use samples::files::{TILES_12, TILES_123};
+use samples::logs::{BRANCHES, CITATION, LEAF, UNSOLVABLE};
 use set_sum::Bundle;
 use std::process::Abort;
 use std::sync::Wait;
@@ -10,21 +11,6 @@ use std::test::Fail;
 use std::thread::Threads;
 use tab_check::check_table;
 use work_run::OpenGate;
-
-/// The board `3 2 1 0`, bound 6, and a leaf.
-const LEAF: [u8; 20] = *b"PDBL\x01\x02\0\0\0\x01\x03\x02\x01\0\x06\0\0\0\x01\x01";
-
-/// The same, and two branches with a leaf six and five moves deep.
-const BRANCHES: [u8; 30] = *b"PDBL\x01\x02\0\0\0\x01\
-\x03\x02\x01\0\x06\0\0\0\x0B\0\0\0\0\0\x01\0\0\0\0\x01";
-
-/// The board `3 0 1 2`, bound 5, and `3 2 1 0`, bound 6, whose tree cites the first lemma.
-const CITED: [u8; 45] = *b"PDBL\x01\x02\0\0\0\x02\
-\x03\0\x01\x02\x05\0\0\0\x06\0\x01\0\0\0\x01\
-\x03\x02\x01\0\x06\0\0\0\x0B\0\x20\0\0\0\0\0\0\0\0\x01";
-
-/// The board `0 1 3 2`, which has no solution, bound 255, and a leaf.
-const UNSOLVABLE: [u8; 20] = *b"PDBL\x01\x02\0\0\0\x01\0\x01\x03\x02\xFF\0\0\0\x01\x01";
 
 /// Whether a lemma of a log is good over one table.
 fn is_good<R: Threads + Wait + AllocGlobal + Abort>(
@@ -64,7 +50,13 @@ fn is_good_alone<R: Threads + Wait + AllocGlobal + Abort>(
     Ok(is_good(rt, &TILES_123, log.as_slice(), 0))
 }
 
-fn with_byte<const N: usize>(rt: &impl Abort, file: &[u8; N], place: usize, byte: u8) -> [u8; N] {
+/// A file with one byte changed.
+pub(crate) fn with_byte<const N: usize>(
+    rt: &impl Abort,
+    file: &[u8; N],
+    place: usize,
+    byte: u8,
+) -> [u8; N] {
     let mut changed = *file;
     assert!(rt; place < N);
     changed[place] = byte;
@@ -75,8 +67,8 @@ fn with_byte<const N: usize>(rt: &impl Abort, file: &[u8; N], place: usize, byte
 fn worked_lemmas_are_good(rt: HostRuntime) {
     assert_eq!(rt; is_good(&rt, &TILES_123, &LEAF, 0), Some(true));
     assert_eq!(rt; is_good(&rt, &TILES_12, &BRANCHES, 0), Some(true));
-    assert_eq!(rt; is_good(&rt, &TILES_12, &CITED, 0), Some(true));
-    assert_eq!(rt; is_good(&rt, &TILES_12, &CITED, 1), Some(true));
+    assert_eq!(rt; is_good(&rt, &TILES_12, &CITATION, 0), Some(true));
+    assert_eq!(rt; is_good(&rt, &TILES_12, &CITATION, 1), Some(true));
     assert_eq!(rt; is_good(&rt, &TILES_123, &UNSOLVABLE, 0), Some(true));
 }
 
@@ -137,17 +129,17 @@ fn the_goal_board_has_a_leaf_alone(rt: HostRuntime) -> Result<(), Fail> {
 
 #[test]
 fn an_earlier_lemma_of_the_board_is_cited(rt: HostRuntime) -> Result<(), Fail> {
-    let smaller = with_byte(&rt, &CITED, 14, 4);
+    let smaller = with_byte(&rt, &CITATION, 14, 4);
     assert_eq!(rt; is_good(&rt, &TILES_12, &smaller, 1), Some(false));
-    let greater = with_byte(&rt, &CITED, 14, 6);
+    let greater = with_byte(&rt, &CITATION, 14, 6);
     assert_eq!(rt; is_good(&rt, &TILES_12, &greater, 1), Some(true));
     assert_eq!(rt; is_good(&rt, &TILES_12, &greater, 0), Some(false));
-    let itself = with_byte(&rt, &CITED, 39, 1);
+    let itself = with_byte(&rt, &CITATION, 39, 1);
     assert_eq!(rt; is_good(&rt, &TILES_12, &itself, 1), Some(false));
-    let missing = with_byte(&rt, &CITED, 36, 1);
+    let missing = with_byte(&rt, &CITATION, 36, 1);
     assert_eq!(rt; is_good(&rt, &TILES_12, &missing, 1), Some(false));
     // The board `3 0 2 1`, of the same side, in place of `3 0 1 2`.
-    let other = with_byte(&rt, &with_byte(&rt, &CITED, 12, 2), 13, 1);
+    let other = with_byte(&rt, &with_byte(&rt, &CITATION, 12, 2), 13, 1);
     assert_eq!(rt; is_good(&rt, &TILES_12, &other, 1), Some(false));
     let alone = is_good_alone(&rt, &[3, 2, 1, 0], 6, b"\x20\0\0\0\0")?;
     assert_eq!(rt; alone, Some(false), "it cites itself");
@@ -157,8 +149,8 @@ fn an_earlier_lemma_of_the_board_is_cited(rt: HostRuntime) -> Result<(), Fail> {
 #[test]
 fn children_come_in_their_order(rt: HostRuntime) {
     // Down first, whose set says 4, and then left, whose set says 3, where 4 is wanted.
-    assert_eq!(rt; is_good(&rt, &TILES_12, &CITED, 0), Some(true));
-    let mut turned = CITED;
+    assert_eq!(rt; is_good(&rt, &TILES_12, &CITATION, 0), Some(true));
+    let mut turned = CITATION;
     turned[20] = 0;
     turned[23] = 1;
     assert_eq!(rt; is_good(&rt, &TILES_12, &turned, 0), Some(false));
