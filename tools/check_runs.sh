@@ -180,7 +180,8 @@ expect 'a name of more than one byte a letter' 2 'fault read né →' : replay '
 # Words.
 #
 
-for words in --help -h help 'help replay' 'help table' 'help help' 'replay --help' 'table -h'; do
+for words in --help -h help 'help replay' 'help table' 'help bound' 'help optimal' 'help help' 'replay --help' 'table -h' \
+    'bound --help' 'optimal b s l t -h'; do
     # shellcheck disable=SC2086
     run $words
     check "help by $words" told_help
@@ -188,7 +189,9 @@ done
 for words in rplay 'replay a b' 'replay --workers 2' 'replay --workers 2 solved' table 'table a b' --version --workers \
     '--workers 2 table F1' 'table --none F1' 'table F1 --workers' 'table F1 --workers 2 --workers 2' -x 'replay -x' \
     'table F1 --workers 0' 'table F1 --workers 65' 'table F1 --workers x' 'table F1 --workers -1' 'table F1 --workers 1.5' \
-    'table F1 --workers 256' 'table F1 --workers 18446744073709551617' 'bound'; do
+    'table F1 --workers 256' 'table F1 --workers 18446744073709551617' bound 'bound b' 'bound b s' 'bound b s l' \
+    'bound --workers 2 b s l' 'bound b s l t --workers 0' 'bound b s l t --workers 65' 'bound b s l t --none' \
+    optimal 'optimal p s l' 'optimal p s l t --workers x'; do
     # shellcheck disable=SC2086
     run $words
     check "the mistake in $words" told_a_mistake
@@ -366,6 +369,100 @@ expect 'workers before the name' 0 "sha256 ${digest%% *}" 'exact side 2 mask 2 e
     table --workers=7 F1
 
 #
+# Bounds and optima.
+#
+
+bytes '50 44 42 54 01 02 01 00 00 00 00 08 00 00 00 00 00 00 00 08 02 FE 01 FE 01 FE 00 FE' >F3
+echo '3 2 1 0' >board
+echo '3 2 1 0 ; ULDRUL' >six_moves
+echo 'set 0' >one_set
+echo 'set 0 1' >pair
+# A leaf; a branch whose two sides end in leaves after four more; the same by a lemma that the second one cites; and a leaf
+# for a board without a solution.
+bytes '50 44 42 4C 01 02 00 00 00 01 03 02 01 00 06 00 00 00 01 01' >leaf
+bytes '50 44 42 4C 01 02 00 00 00 01 03 02 01 00 06 00 00 00 0B 00 00 00 00 00 01 00 00 00 00 01' >branches
+bytes '50 44 42 4C 01 02 00 00 00 02 03 00 01 02 05 00 00 00 06 00 01 00 00 00 01
+    03 02 01 00 06 00 00 00 0B 00 20 00 00 00 00 00 00 00 00 01' >citation
+bytes '50 44 42 4C 01 02 00 00 00 01 00 01 03 02 FF 00 00 00 01 01' >unsolvable
+
+# The digest lines of these files, and then a line, whether 1, 2 or 7 workers check: claim STATUS LINE FILE.. : WORD..
+claim() {
+    local wanted=$1 line=$2 lines=() digest workers
+    shift 2
+    while [ "$1" != : ]; do
+        digest=$(sha256sum <"$1")
+        lines+=("sha256 ${digest%% *}")
+        shift
+    done
+    shift
+    for workers in 1 2 7; do
+        expect "$* by $workers" "$wanted" "${lines[@]}" "$line" : "$@" --workers "$workers"
+    done
+}
+
+claim 0 'bound 6' F123 leaf : bound board one_set leaf F123
+changed leaf 14 07 leaf_of_7
+claim 1 'refused L6 at lemma 0' F123 leaf_of_7 : bound board one_set leaf_of_7 F123
+claim 0 'bound 6' F12 branches : bound board one_set branches F12
+{ head -c 18 branches && bytes 0A && head -c 29 branches | tail -c 10; } >branches_without_the_last
+claim 1 'refused L6 at lemma 0' F12 branches_without_the_last : bound board one_set branches_without_the_last F12
+head -c 29 branches >branches_cut_short
+claim 1 'refused L2 at lemma 0' F12 branches_cut_short : bound board one_set branches_cut_short F12
+{ cat branches && bytes 00; } >branches_with_a_byte_more
+claim 1 'refused L2 at lemma 1' F12 branches_with_a_byte_more : bound board one_set branches_with_a_byte_more F12
+claim 0 'bound 6' F12 citation : bound board one_set citation F12
+changed citation 39 01 citation_of_itself
+claim 1 'refused L6 at lemma 1' F12 citation_of_itself : bound board one_set citation_of_itself F12
+claim 1 'refused S3 at line 0' F12 F1 branches : bound board pair branches F12 F1
+claim 0 'bound 6' F12 F3 leaf : bound board pair leaf F12 F3
+claim 1 'refused S4 at table 1' F1 F24 leaf : bound board pair leaf F1 F24
+printf 'set 0\nset 1 0\n' >descending
+claim 1 'refused S1 at line 1' F12 F3 leaf : bound board descending leaf F12 F3
+echo '0 1 3 2' >unsolvable_board
+claim 0 'bound 255' F123 unsolvable : bound unsolvable_board one_set unsolvable F123
+echo '3 0 1 2' >another_board
+claim 1 'refused L5' F123 leaf : bound another_board one_set leaf F123
+claim 0 'optimal 6' F12 branches : optimal six_moves one_set branches F12
+echo '3 2 1 0 ; ULDRULRL' >eight_moves
+claim 1 'refused O1 solution 8 bound 6' F12 branches : optimal eight_moves one_set branches F12
+claim 1 'refused T7 at entry 14 of table 0' F123_with_02 leaf : bound board one_set leaf F123_with_02
+claim 1 'refused T7 at entry 0 of table 1' F123 F12_with_FE leaf : bound board one_set leaf F123 F12_with_FE
+claim 1 'refused T6 of table 1' F12 F123_with_a_byte_more leaf : bound board one_set leaf F12 F123_with_a_byte_more
+echo '0 1 2 2' >no_board
+claim 1 'refused B5 at number 3' F123 leaf : bound no_board one_set leaf F123
+seventeen=$(printf 'F123 %.0s' {1..17})
+# shellcheck disable=SC2086
+claim 1 'refused S5' $seventeen leaf : bound board one_set leaf $seventeen
+# shellcheck disable=SC2086
+claim 1 'refused T6 of table 17' $seventeen F123_with_a_byte_more leaf : bound board one_set leaf $seventeen F123_with_a_byte_more
+echo 'set 1' >table_1
+claim 1 'refused S2 at line 0' F12 branches : bound board table_1 branches F12
+claim 1 'refused L4' F24 leaf : bound board one_set leaf F24
+claim 1 'refused L1' F123 empty : bound board one_set empty F123
+changed leaf 10 02 leaf_of_no_board
+claim 1 'refused L3 at lemma 0' F123 leaf_of_no_board : bound board one_set leaf_of_no_board F123
+claim 1 'refused P1' F12 branches : optimal board one_set branches F12
+echo '3 2 1 0 ; U' >one_move
+claim 1 'refused M4' F12 branches : optimal one_move one_set branches F12
+echo '3 2 1 0 ; R' >off_the_board
+claim 1 'refused M2 at step 0' F12 branches : optimal off_the_board one_set branches F12
+claim 1 'refused L6 at lemma 0' F12 leaf : optimal six_moves one_set leaf F12
+claim 1 'refused T7 at entry 0 of table 0' F12_with_FE branches : optimal six_moves one_set branches F12_with_FE
+
+expect 'a log that is not there' 2 'fault read L' : bound board one_set L F123
+expect 'sets that are not there' 2 'fault read S' : bound board S L F123
+expect 'a second table that is not there' 2 'fault read T' : bound board one_set leaf F123 T
+expect 'a puzzle that is not there' 2 'fault read P' : optimal P one_set leaf F123
+head -c 65537 /dev/zero >long_text
+expect 'a board text over its limit' 2 'fault size long_text' : bound long_text one_set leaf F123
+expect 'a set text over its limit' 2 'fault size long_text' : bound board long_text leaf F123
+{ cat leaf && cat long_text; } >long_log
+claim 1 'refused L2 at lemma 1' F123 long_log : bound board one_set long_log F123
+truncate -s 1073741825 log_over_its_limit
+expect 'a log over its limit' 2 'fault size log_over_its_limit' : bound board one_set log_over_its_limit F123
+rm log_over_its_limit
+
+#
 # Want of memory.
 #
 
@@ -423,7 +520,8 @@ os.close(ends[1])
 packets = list(iter(lambda: os.read(ends[0], 1 << 16), b""))
 print(len(packets))
 END
-for words in 'table F1' 'table F1_of_FF' 'replay solved' 'replay none' --help; do
+for words in 'table F1' 'table F1_of_FF' 'replay solved' 'replay none' --help \
+    'bound board one_set leaf F123' 'optimal six_moves one_set branches F12'; do
     # shellcheck disable=SC2086
     python3 "$work/writes.py" "$program" $words >"$work/output" 2>"$work/errors"
     status=$?

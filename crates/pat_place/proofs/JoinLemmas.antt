@@ -12,7 +12,7 @@ use Rattle.pat_place.specs.Regions.{here, onward, Joins}
 abbrev pub Decided : Type 0 → Type 0
 Decided A = A ⊎ (¬ A)
 
-both : {A B : Type 0} → Decided A → Decided B → Decided (A × B)
+pub both : {A B : Type 0} → Decided A → Decided B → Decided (A × B)
 both a b = elim a [ inl x ↦ elim b [ inl y ↦ inl (x, y) | inr n ↦ inr (λ p. n p.1) ] | inr n ↦ inr (λ p. n p.0) ]
 
 either : {A B : Type 0} → Decided A → Decided B → Decided (A ⊎ B)

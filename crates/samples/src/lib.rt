@@ -1,8 +1,9 @@
-//! Sample tables, and gates that watch and hold workers, for the tests of several crates.
+//! Sample tables and logs, and gates that watch and hold workers, for the tests of several crates.
 #![tactic(auto)]
 
 pub mod files;
 mod gates;
+pub mod logs;
 mod search;
 #[cfg(test)]
 mod tests;

@@ -2,17 +2,21 @@
 use Rattle.std.proofs.Common.{◌≡◌, ℕ, ◌<◌, ◌≤◌, List, [], ◌∷◌, length, map, get_or, refl, sym, ◌∙◌, ap, subst, arith}
 use Rattle.std.proofs.lemmas.List.{get_or-map, length-map}
 use Rattle.std.specs.List.{AllByRecursion}
+use Rattle.puz_board.specs.Boards.{IsBoardOf}
 use Rattle.pat_place.specs.Patterns.{IsPattern}
 use Rattle.tab_file.specs.Tables.{Table}
-use Rattle.set_sum.specs.Bundles.{IsSetOf, set_of}
+use Rattle.tab_check.specs.ExactTables.{IsExactTable}
+use Rattle.tab_check.proofs.LookLemmas.{count_some}
+use Rattle.set_sum.specs.Bundles.{IsSetOf, TellsOfAll, set_of}
 use Rattle.set_sum.specs.ReadLines.{AreSetsOf}
 use Rattle.set_sum.specs.SetTexts.{IsLine}
 use Rattle.set_sum.specs.Reading.{AreAlike, IsBundleOf, NamesNoTable, NamesOverlap, first_side, members, patterns_of}
 use Rattle.set_sum.specs.StoredBundles.{IsStoredBundle, bundle_shown, numbers_stored}
+use Rattle.set_sum.specs.Sums.{SetSays}
 use Rattle.set_sum.specs.declared.bundles.Bundle.TheInside.{Inside}
 use Rattle.set_sum.proofs.LinesReadLemmas.{all_there}
 use Rattle.set_sum.proofs.ListLemmas.{all_at, all_weaker}
-use Rattle.set_sum.proofs.SumLemmas.{IsOf}
+use Rattle.set_sum.proofs.SumLemmas.{IsOf, IsTold, set_told}
 
 module _ (v : Inside) (kept : IsStoredBundle v) where
   pub length-sets : length (bundle_shown v).sets ≡ length v.sets.items
@@ -35,10 +39,15 @@ all_patterns : (n : ℕ) (tables : List Table) → AllByRecursion (λ t. t.patte
 all_patterns n [] sides patterns = tt
 all_patterns n (t ∷ tables) sides patterns = (subst (λ m. IsOf m t.pattern.tiles) sides.0 patterns.0, all_patterns n tables sides.1 patterns.1)
 
-member_patterns : (n : ℕ) (tables : List Table) (numbers : List ℕ) → AllByRecursion (IsOf n) (patterns_of tables) → AllByRecursion (λ i. i < length tables) numbers → AllByRecursion (IsOf n) (members (patterns_of tables) numbers)
-member_patterns n tables [] all there = tt
-member_patterns n tables (i ∷ numbers) all there =
-    (all_at (IsOf n) (patterns_of tables) i [] (subst (λ k. i < k) (sym (length-map tables (λ t. t.pattern.tiles))) there.0) all, member_patterns n tables numbers all there.1)
+all_told : (n : ℕ) (b : List ℕ) → IsBoardOf n b → (tables : List Table) → AllByRecursion (λ t. t.pattern.side ≡ n) tables → AllByRecursion IsExactTable tables → AllByRecursion (IsTold b) (patterns_of tables)
+all_told n b board [] sides exact = tt
+all_told n b board (t ∷ tables) sides exact = (count_some t exact.0 b (subst (λ m. IsBoardOf m b) (sym sides.0) board), all_told n b board tables sides.1 exact.1)
+
+-- what holds of each pattern holds of the members
+all_members : (P : List ℕ → Type 0) (tables : List Table) (numbers : List ℕ) → AllByRecursion P (patterns_of tables) → AllByRecursion (λ i. i < length tables) numbers → AllByRecursion P (members (patterns_of tables) numbers)
+all_members P tables [] all there = tt
+all_members P tables (i ∷ numbers) all there =
+    (all_at P (patterns_of tables) i [] (subst (λ k. i < k) (sym (length-map tables (λ t. t.pattern.tiles))) there.0) all, all_members P tables numbers all there.1)
 
 each_set : (n : ℕ) (tables : List Table) (sets : List (List ℕ)) → AllByRecursion (IsOf n) (patterns_of tables) → AllByRecursion IsLine sets → AllByRecursion (AllByRecursion (λ i. i < length tables)) sets
     → AllByRecursion (λ numbers. ¬ NamesOverlap tables numbers) sets → AllByRecursion (IsSetOf n) (map (members (patterns_of tables)) sets)
@@ -46,7 +55,7 @@ each_set n tables [] all lines there disjoint = tt
 each_set n tables (numbers ∷ sets) all lines there disjoint = (
   record {
     some = subst (λ k. 0 < k) (sym (length-map numbers (λ i. get_or (patterns_of tables) i []))) lines.0.some;
-    patterns = member_patterns n tables numbers all there.0;
+    patterns = all_members (IsOf n) tables numbers all there.0;
     disjoint = disjoint.0;
   },
   each_set n tables sets all lines.1 there.1 disjoint.1,
@@ -56,13 +65,25 @@ first_limits : (n : ℕ) (tables : List Table) → 0 < length tables → AllByRe
 first_limits n [] some sides patterns = absurd (omega arith)
 first_limits n (t ∷ tables) some sides patterns = (subst (λ m. 2 ≤ m) sides.0 patterns.0.low, subst (λ m. m ≤ 5) sides.0 patterns.0.high)
 
-module _ (v : Inside) (text : List ℕ) (first : v.side ≡ first_side v.tables.items) (alike : AreAlike v.tables.items) (patterns : AllByRecursion (λ t. IsPattern t.pattern) v.tables.items)
+module _ (v : Inside) (text : List ℕ) (first : v.side ≡ first_side v.tables.items) (alike : AreAlike v.tables.items) (exact : AllByRecursion IsExactTable v.tables.items)
     (are : AreSetsOf v.tables.items text (numbers_stored v)) where
   sides : AllByRecursion (λ t. t.pattern.side ≡ v.side) v.tables.items
   sides = all_weaker (λ t. t.pattern.side ≡ first_side v.tables.items) (λ t. t.pattern.side ≡ v.side) (λ t same. same ∙ sym first) v.tables.items alike.one_side
 
+  patterns : AllByRecursion (λ t. IsPattern t.pattern) v.tables.items
+  patterns = all_weaker IsExactTable (λ t. IsPattern t.pattern) (λ t is. is.is_table.pattern) v.tables.items exact
+
   shown : length (bundle_shown v).sets ≡ length (numbers_stored v)
   shown = length-map (numbers_stored v) (members (patterns_of v.tables.items))
+
+  told : TellsOfAll (bundle_shown v)
+  told number low b board =
+      let stored : number < length (numbers_stored v) = subst (λ k. number < k) shown low in
+      let there = all_at (AllByRecursion (λ i. i < length v.tables.items)) (numbers_stored v) number [] stored are.numbers in
+      let all = all_told v.side b board v.tables.items sides exact in
+      let says = set_told (members (patterns_of v.tables.items) (get_or (numbers_stored v) number [])) b (all_members (IsTold b) v.tables.items (get_or (numbers_stored v) number []) all there) in
+      let set = get_or-map (members (patterns_of v.tables.items)) (numbers_stored v) number [] [] stored in
+      (says.0, record { there = low; says = subst (λ s. SetSays s b says.0) (sym set) says.1 })
 
   pub stored_made : IsStoredBundle v
   stored_made =
@@ -76,6 +97,7 @@ module _ (v : Inside) (text : List ℕ) (first : v.side ≡ first_side v.tables.
           some_sets = subst (λ k. 0 < k) (sym shown) are.are_sets.lines.some;
           few_sets = subst (λ k. k ≤ 16) (sym shown) are.are_sets.few;
           each = each_set v.side v.tables.items (numbers_stored v) (all_patterns v.side v.tables.items sides patterns) are.are_sets.lines.lines are.numbers are.disjoint;
+          told = told;
         };
         tables = sides;
         numbers = are.numbers;

@@ -1,5 +1,6 @@
 -- What the sets of a bundle say of boards.
-use Rattle.std.proofs.Common.{◌≡◌, ℕ, ◌<◌, ◌≤◌, List, [], length, subst, arith}
+use Rattle.std.proofs.Common.{◌≡◌, ℕ, ◌<◌, ◌≤◌, ◌⊎◌, List, [], length, inl, inr, subst, arith}
+use Rattle.std.proofs.lemmas.Bool.{cases_lt}
 use Rattle.puz_board.specs.Boards.{IsBoardOf}
 use Rattle.tab_check.specs.declared.tables.Count.{Count}
 use Rattle.tab_check.specs.declared.tables.Count.TheVariants.{Finite, Never}
@@ -31,3 +32,19 @@ at_least_bounds v is number b r good at_least =
 pub reaches_from_sum : (v : BundleView) (number : ℕ) (b : List ℕ) (count : Count) (r : ℕ) → Says v number b count → SaysAtLeast v number b r → Reaches count r
 reaches_from_sum v number b count r says at_least =
     subst (λ c. Reaches c r) (says_once v number b at_least.count count at_least.says says) at_least.enough
+
+reaches_decided : (count : Count) (r : ℕ) → Reaches count r ⊎ (¬ Reaches count r)
+reaches_decided (Finite d) r = elim (cases_lt d r) [ inl few ↦ inr (λ enough. let l : r ≤ d = enough in omega arith) | inr enough ↦ inl enough ]
+reaches_decided Never r = inl tt
+
+-- whether a set says at least r of a board is settled
+pub at_least_decided : (v : BundleView) → IsBundle v → (number : ℕ) (b : List ℕ) → IsBoardOf v.side b → (r : ℕ) → SaysAtLeast v number b r ⊎ (¬ SaysAtLeast v number b r)
+at_least_decided v is number b board r = elim (cases_lt number (length v.sets)) [
+  | inr none ↦ inr (λ h. let there : number < length v.sets = h.says.there in omega arith)
+  | inl there ↦
+      let told = is.told number there b board in
+      elim (reaches_decided told.0 r) [
+        | inl enough ↦ inl (record { count = told.0; says = told.1; enough = enough })
+        | inr few ↦ inr (λ h. few (reaches_from_sum v number b told.0 r told.1 h))
+      ]
+]

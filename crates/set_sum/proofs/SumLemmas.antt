@@ -12,7 +12,7 @@ use Rattle.tab_check.specs.declared.tables.Count.TheVariants.{Finite, Never}
 use Rattle.set_sum.specs.Bounds.{BoundsSolutions}
 use Rattle.set_sum.specs.Bundles.{IsSetOf}
 use Rattle.set_sum.specs.Sums.{AddUpTo, MemberSays, SetSays, total_cost}
-use Rattle.set_sum.proofs.AnyLemmas.{Any-cases, Any-none}
+use Rattle.set_sum.proofs.AnyLemmas.{Any-cases, Any-here, Any-later, Any-none}
 use Rattle.set_sum.proofs.CostLemmas.{total_cost-within}
 
 -- ---- a solution leads the tiles of each pattern home
@@ -110,3 +110,19 @@ AddUpTo-push [] m b d e sum says = let z : d ≡ 0 = sum in (e, 0, says, refl, l
 AddUpTo-push (x ∷ set) m b d e sum says =
     let z : d ≡ sum.0 + sum.1 = sum.4 in
     (sum.0, sum.1 + e, sum.2, AddUpTo-push set m b sum.1 e sum.3 says, let g : d + e ≡ sum.0 + (sum.1 + e) = omega arith in g)
+
+-- ---- something
+
+-- a pattern says something of the board
+abbrev pub IsTold : List ℕ → List ℕ → Type 0
+IsTold b m = (count : Count) × MemberSays m b count
+
+one_more_told : (m : List ℕ) (ms : List (List ℕ)) (b : List ℕ) (c d : Count) → MemberSays m b c → SetSays ms b d → (count : Count) × SetSays (m ∷ ms) b count
+one_more_told m ms b (Finite c) (Finite d) one more = (Finite (c + d), (c, d, one, more, refl))
+one_more_told m ms b (Finite c) Never one more = (Never, Any-later (λ x. MemberSays x b Never) m ms more)
+one_more_told m ms b Never d one more = (Never, Any-here (λ x. MemberSays x b Never) m ms one)
+
+-- where each member says something of the board, the set does
+pub set_told : (set : List (List ℕ)) (b : List ℕ) → AllByRecursion (IsTold b) set → (count : Count) × SetSays set b count
+set_told [] b all = (Finite 0, refl)
+set_told (m ∷ ms) b all = let rest = set_told ms b all.1 in one_more_told m ms b all.0.0 rest.0 all.0.1 rest.1

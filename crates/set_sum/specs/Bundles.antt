@@ -1,6 +1,7 @@
 -- Bundles: tables of one side, and sets of disjoint ones among them.
 use Rattle.std.specs.Prelude.{ℕ, ◌<◌, ◌≤◌, List, [], length, slice_index_or}
 use Rattle.std.specs.List.{AllByRecursion}
+use Rattle.puz_board.specs.Boards.{IsBoardOf}
 use Rattle.pat_place.specs.Patterns.{IsPattern}
 use Rattle.tab_check.specs.declared.tables.Count.{Count}
 use Rattle.set_sum.specs.Bounds.{Reaches}
@@ -19,16 +20,6 @@ pub record IsSetOf (n : ℕ) (set : List (List ℕ)) : Type 0 where
   pub patterns : AllByRecursion (λ tiles. IsPattern (record { side = n; tiles = tiles })) set
   pub disjoint : AreDisjoint set
 
--- a side from 2 to 5, 1 to 16 tables, and 1 to 16 sets of disjoint patterns of that side
-pub record IsBundle (v : BundleView) : Type 0 where
-  pub low : 2 ≤ v.side
-  pub high : v.side ≤ 5
-  pub some_tables : 0 < v.tables
-  pub few_tables : v.tables ≤ 16
-  pub some_sets : 0 < length v.sets
-  pub few_sets : length v.sets ≤ 16
-  pub each : AllByRecursion (IsSetOf v.side) v.sets
-
 -- ---- what a bundle's sets say of a board
 
 -- the set with this number
@@ -40,8 +31,26 @@ pub record Says (v : BundleView) (number : ℕ) (b : List ℕ) (count : Count) :
   pub there : number < length v.sets
   pub says : SetSays (set_of v number) b count
 
+-- each set says something of each board of the side
+abbrev pub TellsOfAll : BundleView → Type 0
+TellsOfAll v = (number : ℕ) → number < length v.sets → (b : List ℕ) → IsBoardOf v.side b → (count : Count) × Says v number b count
+
 -- the set with this number is there, and what it says of the board is never or at least r
 pub record SaysAtLeast (v : BundleView) (number : ℕ) (b : List ℕ) (r : ℕ) : Type 0 where
   pub count : Count
   pub says : Says v number b count
   pub enough : Reaches count r
+
+-- ---- bundles
+
+-- a side from 2 to 5, 1 to 16 tables, and 1 to 16 sets of disjoint patterns of that side; each set says something of each
+-- board
+pub record IsBundle (v : BundleView) : Type 0 where
+  pub low : 2 ≤ v.side
+  pub high : v.side ≤ 5
+  pub some_tables : 0 < v.tables
+  pub few_tables : v.tables ≤ 16
+  pub some_sets : 0 < length v.sets
+  pub few_sets : length v.sets ≤ 16
+  pub each : AllByRecursion (IsSetOf v.side) v.sets
+  pub told : TellsOfAll v

@@ -5,7 +5,7 @@ ghost use Rattle.std.specs.List.{AllByRecursion};
 ghost use Rattle.set_sum.specs.Reading.{AreAlike, IsFaultOf, NamesOverlap, first_side, members, patterns_of};
 ghost use Rattle.set_sum.specs.Sums.{SetSays};
 ghost use Rattle.puz_board.specs.Boards.{side_of};
-ghost use Rattle.pat_place.specs.Patterns.{IsPattern};
+ghost use Rattle.tab_check.specs.ExactTables.{IsExactTable};
 
 use crate::bundles::{MOST, Set};
 use crate::faults::SetFault;
@@ -14,7 +14,7 @@ use tab_check::{CheckedTable, Count};
 
 /// The one side of 1 to 16 tables.
 pub(crate) fn one_side(tables: &[CheckedTable<'_>]) -> Result<Side, SetFault>
-    ensures ok { IfOk result (λ side. (side ≡ first_side tables.now) × AreAlike tables.now × AllByRecursion (λ t. IsPattern t.pattern) tables.now) }
+    ensures ok { IfOk result (λ side. (side ≡ first_side tables.now) × AreAlike tables.now × AllByRecursion IsExactTable tables.now) }
     ensures err { IfErr result (λ fault. (text : List ℕ) → IsFaultOf fault tables.now text) }
 {
     if tables.is_empty() || tables.len() > MOST {

@@ -4,6 +4,7 @@ use Rattle.std.proofs.lemmas.Bool.{cond-true, cond-false}
 use Rattle.std.proofs.lemmas.List.{length-map}
 use Rattle.puz_board.specs.Boards.{IsBoard, IsBoardOf, blank, cell_of, side_of}
 use Rattle.puz_board.proofs.BoardLemmas.{cells_least}
+use Rattle.puz_board.proofs.BoardWays.{State}
 use Rattle.pat_place.specs.Patterns.{PatternView, IsPattern, width}
 use Rattle.pat_place.specs.Placements.{PlacementView, IsFree, placement_of}
 use Rattle.pat_place.specs.Ranks.{IsRank}
@@ -14,7 +15,10 @@ use Rattle.tab_file.specs.Tables.{Table, entry_at, slot_count}
 use Rattle.tab_check.specs.Counts.{IsCountOf}
 use Rattle.tab_check.specs.Entries.{IsNumberOf}
 use Rattle.tab_check.specs.ExactTables.{IsExactTable, SaysOfBoard}
+use Rattle.tab_check.specs.declared.tables.Count.{Count}
 use Rattle.tab_check.specs.declared.tables.Count.TheVariants.{Finite, Never}
+use Rattle.tab_check.proofs.EntryLemmas.{entry_total}
+use Rattle.tab_check.proofs.NearLemmas.{IsFree-in, IsPlaced-in}
 
 -- the placement of a board
 abbrev pub placement_on : List ℕ → PatternView → PlacementView
@@ -48,3 +52,12 @@ says-few tiles b e says d is = elim says [
   | inl h ↦ let same : e ≡ d = (let f : cond (eqb e 255) Never (Finite e) ≡ Finite e = cond-false (eqb e 255) Never (Finite e) (ne_eqb e 255 (λ full. let l = h.0 in omega arith)) in cc) in let l = h.0 in omega arith
   | inr h ↦ absurd (let f : cond (eqb e 255) Never (Finite e) ≡ Never = cond-true (eqb e 255) Never (Finite e) (eq-eqb e 255 h.0) in let bad : Never ≡ Finite d = sym f ∙ is in cc)
 ]
+
+-- an exact table tells a count of each board of its side
+pub count_some : (t : Table) → IsExactTable t → (b : List ℕ) → IsBoardOf t.pattern.side b → (count : Count) × IsCountOf t.pattern.tiles b count
+count_some t is b board =
+    let pat = is.is_table.pattern in
+    let s : State t.pattern.side = record { cells = b; good = board } in
+    let e = entry_total t.pattern pat t.entries (placement_of t.pattern.tiles b) (blank b) (IsPlaced-in t.pattern pat s) (IsFree-in t.pattern pat s) in
+    let right = is.exact (placement_of t.pattern.tiles b) e.1.slot e.1.number e.1.is_number in
+    (cond (eqb e.0 255) Never (Finite e.0), says-count t.pattern.tiles b e.0 (subst (SaysOfBoard t.pattern.tiles b) e.1.holds (right.boards b board refl e.1.is_slot)))

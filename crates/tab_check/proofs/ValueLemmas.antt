@@ -14,7 +14,7 @@ use Rattle.tab_check.proofs.Values.{AllKeepValueRule, IsConstant, IsExactValue, 
 
 -- ---- whether a cell is of the goal's region
 
-same_list_decided : (xs ys : List ℕ) → Decided (xs ≡ ys)
+pub same_list_decided : (xs ys : List ℕ) → Decided (xs ≡ ys)
 same_list_decided [] [] = inl refl
 same_list_decided [] (y ∷ ys) = inr (λ e. cc)
 same_list_decided (x ∷ xs) [] = inr (λ e. cc)

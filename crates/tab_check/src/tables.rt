@@ -8,7 +8,7 @@ ghost use Rattle.tab_file.specs.Tables.{IsTable, Table};
 ghost use Rattle.tab_check.specs.BadEntries.{IsLeastBad};
 ghost use Rattle.tab_check.specs.Counts.{IsCensusOf, IsCountOf};
 ghost use Rattle.tab_check.specs.Entries.{no_way_home};
-ghost use Rattle.tab_check.specs.ExactTables.{IsExactFile};
+ghost use Rattle.tab_check.specs.ExactTables.{IsExactFile, IsExactTable};
 ghost use Rattle.tab_check.specs.TableFaults.{IsCauseOf};
 ghost use Rattle.tab_file.specs.declared.headers.HeadFault.{HeadFault};
 ghost use Rattle.tab_check.specs.declared.tables.TableFault.TheVariants.{Memory, Refused};
@@ -111,6 +111,7 @@ impl<'a> CheckedTable<'a> {
     pub fn pattern(&self) -> Pattern
         ensures pattern { result ≡ self.now.pattern }
         ensures table { IsTable self.now }
+        ensures exact { IsExactTable self.now }
     {
         self.view.pattern()
     }

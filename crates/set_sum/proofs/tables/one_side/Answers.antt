@@ -2,7 +2,7 @@ use Rattle.std.proofs.Common.{◌≡◌, ◌≢◌, ℕ, ◌<◌, false, true, e
 use Rattle.std.specs.List.{AllByRecursion}
 use Rattle.std.proofs.lemmas.Bool.{both_ways, cases_Bool, eq-eqb, eqb-true, eqb-false}
 use Rattle.std.proofs.lemmas.List.{take_all}
-use Rattle.pat_place.specs.Patterns.{IsPattern}
+use Rattle.tab_check.specs.ExactTables.{IsExactTable}
 use Rattle.set_sum.specs.Reading.{first_side}
 use Rattle.set_sum.proofs.ListLemmas.{all_more, all_weaker, first_side-read, first_with, read_at}
 use Rattle.set_sum.proofs.tables.one_side.Goals as goal
@@ -32,7 +32,7 @@ loop-i-preserved c =
     let side : t.pattern.side ≡ c.side-side.result = sym (c.side.ensures.side ∙ ap (λ p. p.side) c.pattern-in-loop-i.ensures.pattern) ∙ agree c.side.result c.side-side.result c.ne.result c.ne.ensures c.if-ne.false in
     record {
       one_side = all_more (λ u. u.pattern.side ≡ c.side-side.result) tables i t c.loop-i-test.true c.loop-i.invariant.one_side (subst (λ u. u.pattern.side ≡ c.side-side.result) (sym at) side);
-      patterns = all_more (λ u. IsPattern u.pattern) tables i t c.loop-i-test.true c.loop-i.invariant.patterns (subst (λ u. IsPattern u.pattern) (sym at) c.pattern-in-loop-i.ensures.table.pattern);
+      exact = all_more IsExactTable tables i t c.loop-i-test.true c.loop-i.invariant.exact (subst IsExactTable (sym at) c.pattern-in-loop-i.ensures.exact);
     }
 
 pub returns-then-ne-clause-err : goal.returns-then-ne-clause-err
@@ -61,5 +61,5 @@ returns-clause-ok c =
         count = record { some = any; few = c.if-tables-gt-MOST.false };
         one_side = all_weaker (λ u. u.pattern.side ≡ c.side-side.result) (λ u. u.pattern.side ≡ first_side tables) (λ u same. same ∙ first) tables (subst (AllByRecursion (λ u. u.pattern.side ≡ c.side-side.result)) all c.loop-i.invariant.one_side);
       },
-      subst (AllByRecursion (λ u. IsPattern u.pattern)) all c.loop-i.invariant.patterns,
+      subst (AllByRecursion IsExactTable) all c.loop-i.invariant.exact,
     )

@@ -1,0 +1,6 @@
+mod BoundLemmas
+mod BranchLemmas
+mod DecideLemmas
+mod GoodLemmas
+mod Pending
+mod WalkLemmas

@@ -1,0 +1,5 @@
+use Rattle.log_check.proofs.GoodLemmas.{good_bounds}
+use Rattle.log_check.proofs.laws.good_logs_bound.Goals as goal
+
+pub returns : goal.returns
+returns c v is log is_log b bound good = good_bounds v is log is_log b bound good

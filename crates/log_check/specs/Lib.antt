@@ -1,0 +1,5 @@
+pub mod GoodLogs
+pub mod Laws
+pub mod LogFaults
+pub mod Refutations
+pub mod Trees

@@ -1,0 +1,35 @@
+-- What keeps bytes from being the file of a good log for a board.
+use Rattle.std.specs.Prelude.{◌≡◌, ◌≢◌, ℕ, ◌<◌, ◌≤◌, List, length}
+use Rattle.puz_board.specs.Boards.{side_of}
+use Rattle.set_sum.specs.Bundles.{BundleView}
+use Rattle.log_file.specs.FormFaults as form
+use Rattle.log_file.specs.LogFiles.{IsLogFile}
+use Rattle.log_file.specs.Logs.{Lemma, Log}
+use Rattle.log_check.specs.GoodLogs.{IsGood, IsLast, IsLogFor}
+use Rattle.log_check.specs.declared.faults.LogFault.{LogFault}
+use Rattle.log_check.specs.declared.faults.LogFault.TheVariants.{Memory, Refused}
+use Rattle.log_check.specs.declared.faults.LogRefusal.{LogRefusal}
+use Rattle.log_check.specs.declared.faults.LogRefusal.TheVariants.{Form, L4, L5, L6}
+
+-- the boards of the log, those of the bundle and this board have one side
+pub record AreOfOneSide (v : BundleView) (log : Log) (b : List ℕ) : Type 0 where
+  pub log_side : log.side ≡ v.side
+  pub board_side : side_of b ≡ v.side
+
+-- the lemma with this number isn't good, and each one with a smaller number is
+pub record IsFirstBad (v : BundleView) (lemmas : List Lemma) (i : ℕ) : Type 0 where
+  pub there : i < length lemmas
+  pub bad : ¬ IsGood v lemmas i
+  pub before : (j : ℕ) → j < i → IsGood v lemmas j
+
+-- the fault stands, and none of those before it
+abbrev pub IsFaultOf : LogRefusal → BundleView → List ℕ → List ℕ → Type 0
+IsFaultOf (Form fault) v b file = form.IsFaultOf fault file
+IsFaultOf L4 v b file = (log : Log) × IsLogFile log file × ¬ AreOfOneSide v log b
+IsFaultOf L5 v b file = (log : Log) × (last : Lemma) × IsLogFile log file × AreOfOneSide v log b × IsLast log.lemmas last × (last.board ≢ b)
+IsFaultOf (L6 i) v b file = (log : Log) × (last : Lemma) × IsLogFile log file × IsLogFor v log b last × IsFirstBad v log.lemmas i
+
+-- why no bound comes of the bytes: a fault of theirs, or want of memory, which comes of any log file and of no other bytes
+abbrev pub IsCauseOf : LogFault → BundleView → List ℕ → List ℕ → Type 0
+IsCauseOf (Refused fault) v b file = IsFaultOf fault v b file
+IsCauseOf Memory v b file = (log : Log) × IsLogFile log file
