@@ -1,5 +1,5 @@
 -- Table files, a set text and a log file have one result for a board, and it is a bound exactly where that is proved.
-use Rattle.std.proofs.Common.{◌≡◌, ◌∙◌, ◌↔◌, ◌⊎◌, ℕ, zero, suc, ◌<◌, List, [], ◌∷◌, Some, Result, Ok, Err, ap, arith, inl, inr, refl, subst, sym, take}
+use Rattle.std.proofs.Common.{◌≡◌, ◌∙◌, ◌↔◌, ℕ, zero, suc, ◌<◌, List, [], ◌∷◌, Some, Result, Ok, Err, ap, arith, inl, inr, refl, subst, sym, take}
 use Rattle.std.specs.Prelude.{slice_get}
 use Rattle.std.proofs.lemmas.Bool.{cases_order}
 use Rattle.puz_board.specs.BoardTexts.{board_of_text}

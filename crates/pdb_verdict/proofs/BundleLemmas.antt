@@ -1,5 +1,5 @@
 -- Table files that are checked one after the other.
-use Rattle.std.proofs.Common.{◌≡◌, ◌∙◌, ℕ, zero, suc, ◌+◌, ◌<◌, ◌≤◌, List, [], ◌∷◌, ◌++◌, Some, length, map, take, get_or, add-one, ap, arith, refl, subst, sym}
+use Rattle.std.proofs.Common.{◌≡◌, ◌∙◌, ℕ, zero, suc, ◌+◌, ◌<◌, List, [], ◌∷◌, ◌++◌, Some, length, map, take, get_or, add-one, ap, arith, refl, subst, sym}
 use Rattle.std.specs.Prelude.{slice_get}
 use Rattle.std.proofs.lemmas.List.{length-take-le}
 use Rattle.std.proofs.lemmas.Option.{slice_get-get_or, slice_get-map, slice_get_within}
@@ -8,7 +8,7 @@ use Rattle.tab_file.specs.TableFiles.{IsTableFile}
 use Rattle.tab_file.specs.Tables.{Table}
 use Rattle.tab_check.specs.ExactTables.{IsExactFile}
 use Rattle.pdb_io.specs.Shelves.{Bytes}
-use Rattle.pdb_verdict.specs.Bundles.{AreExactFiles, IsFirstRefused, TakesMemoryForTables}
+use Rattle.pdb_verdict.specs.Bundles.{AreExactFiles, TakesMemoryForTables}
 use Rattle.pdb_verdict.specs.Steps.{IsCauseForFile, IsCauseForTables}
 use Rattle.pdb_verdict.specs.declared.verdict.Fault.{Fault}
 use Rattle.pdb_verdict.specs.declared.verdict.Fault.TheVariants as fault

@@ -1,6 +1,6 @@
 -- `optimal PUZZLE SETS LOG TABLES..`: whether the moves of a puzzle text solve its board, and a log proves that no solution
 -- has fewer moves.
-use Rattle.std.specs.Prelude.{◌≡◌, ℕ, ◌==◌, if◌then◌else◌, List, [], ◌∷◌, Option, Some, None, Result, Ok, Err, length}
+use Rattle.std.specs.Prelude.{◌≡◌, ℕ, ◌==◌, if◌then◌else◌, List, ◌∷◌, Option, Some, None, Result, Ok, Err, length}
 use Rattle.puz_board.specs.BoardTexts.{board_of_text}
 use Rattle.puz_board.specs.MovesTexts.{replay_of}
 use Rattle.puz_board.specs.Paths.{IsSolution}

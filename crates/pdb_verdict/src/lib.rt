@@ -28,4 +28,6 @@ pub use verdict::{Fault, Verdict, verify};
 pub use workers::Workers;
 
 #[cfg(test)]
+mod claim_tests;
+#[cfg(test)]
 mod tests;
