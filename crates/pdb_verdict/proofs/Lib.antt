@@ -1,4 +1,7 @@
+mod BoundLemmas
+mod BundleLemmas
 mod LineLemmas
+mod OptimumLemmas
 mod ReplayLemmas
 mod ResultLemmas
 mod TableLemmas

@@ -8,7 +8,6 @@ use Rattle.puz_board.specs.declared.texts.BoardFault.{BoardFault}
 use Rattle.puz_board.proofs.PuzzleLemmas.{puzzle-puzzle_parts, puzzle_parts-puzzle}
 use Rattle.puz_board.proofs.SolutionLemmas.{replay_of-solved, solved-replay_of}
 use Rattle.puz_board.proofs.SpellingLemmas.{board_of_text-spelled, spelled-board_of_text}
-use Rattle.tab_check.specs.declared.census.Census.{Census}
 use Rattle.pdb_verdict.specs.Replays.{IsReplayResult, IsSolvedPuzzle, of_board, of_moves, of_parts}
 use Rattle.pdb_verdict.specs.declared.verdict.Fault.{Fault}
 use Rattle.pdb_verdict.specs.declared.verdict.Verdict.{Verdict}
@@ -17,17 +16,24 @@ use Rattle.pdb_verdict.specs.declared.verdict.Verdict.TheVariants as verdict
 pub no_yes : {A E : Type 0} (e : E) (x : A) → ◌≡◌ {A = Result A E} (Err e) (Ok x) → ⊥
 no_yes e x same = cc
 
-no_exact : (parts : Option (List ℕ × List ℕ)) (side mask : ℕ) (census : Census) → of_parts parts ≡ Ok (verdict.Exact side mask census) → ⊥
-no_exact None side mask census is = no_yes _ _ is
-no_exact (Some parts) side mask census is = of_board_no (board_of_text parts.0) is
-  where
-    of_moves_no : (r : Result ℕ MoveFault) → of_moves r ≡ Ok (verdict.Exact side mask census) → ⊥
-    of_moves_no (Err refused) e = no_yes _ _ e
-    of_moves_no (Ok n) e = cc
+-- ---- a yes is a number of moves
 
-    of_board_no : (r : Result (List ℕ) BoardFault) → of_board r parts.1 ≡ Ok (verdict.Exact side mask census) → ⊥
-    of_board_no (Err refused) e = no_yes _ _ e
-    of_board_no (Ok board) e = of_moves_no (replay_of board parts.1) e
+abbrev IsCounted : Verdict → Type 0
+IsCounted v = (n : ℕ) × (v ≡ verdict.Solution n)
+
+yes_of_moves : (r : Result ℕ MoveFault) (v : Verdict) → of_moves r ≡ Ok v → IsCounted v
+yes_of_moves (Err refused) v e = absurd (no_yes _ _ e)
+yes_of_moves (Ok n) v e = (n, cc)
+
+yes_of_board : (r : Result (List ℕ) BoardFault) (moves : List ℕ) (v : Verdict) → of_board r moves ≡ Ok v → IsCounted v
+yes_of_board (Err refused) moves v e = absurd (no_yes _ _ e)
+yes_of_board (Ok board) moves v e = yes_of_moves (replay_of board moves) v e
+
+yes_of_parts : (parts : Option (List ℕ × List ℕ)) (v : Verdict) → of_parts parts ≡ Ok v → IsCounted v
+yes_of_parts None v e = absurd (no_yes _ _ e)
+yes_of_parts (Some parts) v e = yes_of_board (board_of_text parts.0) parts.1 v e
+
+-- ---- so many moves solve the board
 
 of_parts-solved : (puzzle : List ℕ) (n : ℕ) → IsSolvedPuzzle puzzle n → of_parts (puzzle_parts puzzle) ≡ Ok (verdict.Solution n)
 of_parts-solved puzzle n h =
@@ -68,9 +74,9 @@ IsReplayResult-solution puzzle n = (λ is. solved_by_parts puzzle n (puzzle_part
 pub says_solution : (puzzle : List ℕ) (answer : Result Verdict Fault) (n : ℕ) → IsReplayResult puzzle answer → (answer ≡ Ok (verdict.Solution n)) ↔ (IsSolvedPuzzle puzzle n)
 says_solution puzzle answer n is = (λ same. (IsReplayResult-solution puzzle n).0 (sym same ∙ is), λ h. is ∙ sym ((IsReplayResult-solution puzzle n).1 h))
 
--- and never that a table is exact
-pub IsReplayResult-no_exact : (puzzle : List ℕ) (side mask : ℕ) (census : Census) → IsReplayResult puzzle (Ok (verdict.Exact side mask census)) → ⊥
-IsReplayResult-no_exact puzzle side mask census is = no_exact (puzzle_parts puzzle) side mask census (sym is)
+-- and no other yes comes of a puzzle text
+pub IsReplayResult-counted : (puzzle : List ℕ) (v : Verdict) → IsReplayResult puzzle (Ok v) → (n : ℕ) × (v ≡ verdict.Solution n)
+IsReplayResult-counted puzzle v is = yes_of_parts (puzzle_parts puzzle) v (sym is)
 
 -- there is one result
 pub IsReplayResult-one : (puzzle : List ℕ) (a b : Result Verdict Fault) → IsReplayResult puzzle a → IsReplayResult puzzle b → a ≡ b

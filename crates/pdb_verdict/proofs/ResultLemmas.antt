@@ -1,13 +1,25 @@
 -- Inputs have a result.
-use Rattle.std.proofs.Common.{◌≡◌, ℕ, ◌+◌, ◌<◌, ◌^◌, drop, Result, Ok, Err, inl, inr, refl, sym, subst}
+use Rattle.std.proofs.Common.{◌⊎◌, ℕ, suc, ◌+◌, ◌<◌, ◌^◌, List, [], ◌∷◌, drop, Result, Ok, Err, inl, inr, refl, sym, subst}
 use Rattle.std.specs.Prelude.{slice_index}
+use Rattle.std.specs.List.{AllByRecursion}
 use Rattle.std.proofs.lemmas.List.{get_or-drop}
 use Rattle.byteorder.specs.Numbers.{big_from-lt}
 use Rattle.tab_file.specs.TableFiles.{mask_in}
+use Rattle.tab_file.specs.Tables.{Table}
+use Rattle.tab_check.specs.ExactTables.{IsExactTable}
+use Rattle.tab_check.specs.declared.tables.TableRefusal.{TableRefusal}
 use Rattle.tab_check.proofs.AnswerLemmas.{census_some, file_answer}
+use Rattle.set_sum.proofs.BundleLemmas.{is_bundle}
+use Rattle.set_sum.proofs.DecidedLemmas.{bundle_answer}
+use Rattle.log_check.proofs.AnswerLemmas.{check_answer}
 use Rattle.pdb_io.specs.Shelves.{Bytes}
+use Rattle.puz_board.specs.BoardTexts.{board_of_text}
 use Rattle.puz_board.specs.PuzzleTexts.{puzzle_parts}
-use Rattle.pdb_verdict.specs.Given.{Given, bytes_of, puzzle_text, table_file}
+use Rattle.puz_board.specs.declared.texts.BoardFault.{BoardFault}
+use Rattle.pdb_verdict.specs.Bounds.{IsBoundFor, IsBoundResult, IsResultOfBoard, of_bound}
+use Rattle.pdb_verdict.specs.Bundles.{AreExactFiles, IsBundleOfFiles, IsFirstRefused}
+use Rattle.pdb_verdict.specs.Given.{Given, bytes_of, puzzle_text, table_file, bound_claim, optimum_claim}
+use Rattle.pdb_verdict.specs.Optima.{IsOptimumResult, IsResultOfPuzzle, of_halves, solved_parts}
 use Rattle.pdb_verdict.specs.Replays.{of_parts}
 use Rattle.pdb_verdict.specs.Verdicts.{IsResult}
 use Rattle.pdb_verdict.specs.declared.verdict.Fault.{Fault}
@@ -18,6 +30,55 @@ use Rattle.pdb_verdict.specs.declared.verdict.Verdict.TheVariants as verdict
 -- a mask of four bytes fits 32 bits
 mask_low : (file : Bytes) → ((i : ℕ) → slice_index file i < 256) → mask_in file < 2 ^ 32
 mask_low file small = big_from-lt 0 4 (drop 8 file) (λ i. subst (λ byte. byte < 256) (sym (get_or-drop 8 file i 0)) (small (8 + i)))
+
+-- ---- claims on a log
+
+-- the tables of all files, or the first file that is refused
+tables_answer : (files : List Bytes) → ((tables : List Table) × AreExactFiles tables files) ⊎ ((i : ℕ) × (refused : TableRefusal) × IsFirstRefused files i refused)
+tables_answer [] = inl ([], tt)
+tables_answer (file ∷ files) = elim (file_answer file) [
+  | inr refused ↦ inr (0, refused.0, record { file = file; there = refl; fault = refused.1; tables = []; before = tt })
+  | inl exact ↦ elim (tables_answer files) [
+    | inl are ↦ inl (exact.0 ∷ are.0, (exact.1, are.1))
+    | inr h ↦ inr (suc h.0, h.1, record { file = h.2.file; there = h.2.there; fault = h.2.fault; tables = exact.0 ∷ h.2.tables; before = (exact.1, h.2.before) })
+  ]
+]
+
+all_exact : (tables : List Table) (files : List Bytes) → AreExactFiles tables files → AllByRecursion IsExactTable tables
+all_exact [] files are = tt
+all_exact (t ∷ tables) [] are = absurd are
+all_exact (t ∷ tables) (file ∷ files) are = (record { is_table = are.0.is_file.table; exact = are.0.exact }, all_exact tables files are.1)
+
+-- a bound for a board, or why there is none
+found_some : (board : List ℕ) (sets log : Bytes) (files : List Bytes) → (found : Result ℕ Fault) × IsBoundFor board sets log files found
+found_some board sets log files = elim (tables_answer files) [
+  | inr first ↦ (Err (fault.TableOf first.0 first.1), first.2)
+  | inl are ↦ elim (bundle_answer are.0 sets) [
+    | inr refused ↦ (Err (fault.Sets refused.0), record { tables = are.0; exact = are.1; fault = refused.1 })
+    | inl bundle ↦
+        let of_files : IsBundleOfFiles files sets bundle.0 = record { tables = are.0; exact = are.1; makes = bundle.1 } in
+        elim (check_answer bundle.0 (is_bundle are.0 sets bundle.0 (all_exact are.0 files are.1) bundle.1) board log) [
+          | inl good ↦ (Ok good.0, record { bundle = bundle.0; is_bundle = of_files; good = good.1 })
+          | inr refused ↦ (Err (fault.Log refused.0), record { bundle = bundle.0; is_bundle = of_files; fault = refused.1 })
+        ]
+  ]
+]
+
+bound_some : (text sets log : Bytes) (files : List Bytes) → (answer : Result Verdict Fault) × IsBoundResult text sets log files answer
+bound_some text sets log files = of_board (board_of_text text)
+  where
+    of_board : (r : Result (List ℕ) BoardFault) → (answer : Result Verdict Fault) × IsResultOfBoard r sets log files answer
+    of_board (Err refused) = (Err (fault.Board refused), refl)
+    of_board (Ok board) = let found = found_some board sets log files in (of_bound found.0, (found.0, found.1, refl))
+
+optimum_some : (puzzle sets log : Bytes) (files : List Bytes) → (answer : Result Verdict Fault) × IsOptimumResult puzzle sets log files answer
+optimum_some puzzle sets log files = of_puzzle (solved_parts (puzzle_parts puzzle))
+  where
+    of_puzzle : (r : Result (List ℕ × ℕ) Fault) → (answer : Result Verdict Fault) × IsResultOfPuzzle r sets log files answer
+    of_puzzle (Err refused) = (Err refused, refl)
+    of_puzzle (Ok solved) = let found = found_some solved.0 sets log files in (of_halves solved.1 found.0, (found.0, found.1, refl))
+
+-- ---- all inputs
 
 pub result_some : (inputs : Given) → ((i : ℕ) → slice_index (bytes_of inputs) i < 256) → (answer : Result Verdict Fault) × IsResult inputs answer
 result_some (puzzle_text puzzle) small = (of_parts (puzzle_parts puzzle), refl)
@@ -35,3 +96,5 @@ result_some (table_file file) small = elim (file_answer file) [
   )
   | inr refused ↦ (Err (fault.Table refused.0), refused.1)
 ]
+result_some (bound_claim board sets log tables) small = bound_some board sets log tables
+result_some (optimum_claim puzzle sets log tables) small = optimum_some puzzle sets log tables

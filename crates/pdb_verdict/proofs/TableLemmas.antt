@@ -37,25 +37,43 @@ module _ (file : List ℕ) where
   to_exact side mask census (Ok (verdict.Exact other_side other_mask other)) is also = ap Ok (same_verdict side mask other_side other_mask census other is also)
   to_exact side mask census (Ok (verdict.Solution n)) is also = absurd also
   to_exact side mask census (Err (fault.Table refused)) is also = absurd (exact_or_fault file is.table refused is.exact also)
+  to_exact side mask census (Ok (verdict.Bound n)) is also = absurd also
+  to_exact side mask census (Ok (verdict.Optimal n)) is also = absurd also
   to_exact side mask census (Err fault.P1) is also = absurd also
   to_exact side mask census (Err (fault.Board refused)) is also = absurd also
   to_exact side mask census (Err (fault.Moves refused)) is also = absurd also
+  to_exact side mask census (Err (fault.TableOf number refused)) is also = absurd also
+  to_exact side mask census (Err (fault.Sets refused)) is also = absurd also
+  to_exact side mask census (Err (fault.Log refused)) is also = absurd also
+  to_exact side mask census (Err (fault.O1 solution bound)) is also = absurd also
   to_exact side mask census (Err fault.Memory) is also = absurd also
 
   to_fault : (refused : TableRefusal) (b : Result Verdict Fault) → IsFaultOf refused file → IsTableResult file b → Err (fault.Table refused) ≡ b
   to_fault refused (Ok (verdict.Exact side mask census)) is also = absurd (exact_or_fault file also.table refused also.exact is)
   to_fault refused (Ok (verdict.Solution n)) is also = absurd also
   to_fault refused (Err (fault.Table other)) is also = ap (λ f. Err (fault.Table f)) (IsFaultOf-one file refused other is also)
+  to_fault refused (Ok (verdict.Bound n)) is also = absurd also
+  to_fault refused (Ok (verdict.Optimal n)) is also = absurd also
   to_fault refused (Err fault.P1) is also = absurd also
   to_fault refused (Err (fault.Board other)) is also = absurd also
   to_fault refused (Err (fault.Moves other)) is also = absurd also
+  to_fault refused (Err (fault.TableOf number other)) is also = absurd also
+  to_fault refused (Err (fault.Sets other)) is also = absurd also
+  to_fault refused (Err (fault.Log other)) is also = absurd also
+  to_fault refused (Err (fault.O1 solution bound)) is also = absurd also
   to_fault refused (Err fault.Memory) is also = absurd also
 
   pub IsTableResult-one : (a b : Result Verdict Fault) → IsTableResult file a → IsTableResult file b → a ≡ b
   IsTableResult-one (Ok (verdict.Exact side mask census)) b is also = to_exact side mask census b is also
   IsTableResult-one (Ok (verdict.Solution n)) b is also = absurd is
   IsTableResult-one (Err (fault.Table refused)) b is also = to_fault refused b is also
+  IsTableResult-one (Ok (verdict.Bound n)) b is also = absurd is
+  IsTableResult-one (Ok (verdict.Optimal n)) b is also = absurd is
   IsTableResult-one (Err fault.P1) b is also = absurd is
   IsTableResult-one (Err (fault.Board refused)) b is also = absurd is
   IsTableResult-one (Err (fault.Moves refused)) b is also = absurd is
+  IsTableResult-one (Err (fault.TableOf number refused)) b is also = absurd is
+  IsTableResult-one (Err (fault.Sets refused)) b is also = absurd is
+  IsTableResult-one (Err (fault.Log refused)) b is also = absurd is
+  IsTableResult-one (Err (fault.O1 solution bound)) b is also = absurd is
   IsTableResult-one (Err fault.Memory) b is also = absurd is

@@ -1,8 +1,10 @@
 -- Inputs have one result, and it is a verdict exactly where that is true.
 use Rattle.std.proofs.Common.{◌≡◌, ◌∙◌, ◌↔◌, ◌⊎◌, inl, inr, Result, Ok, subst, sym}
-use Rattle.pdb_verdict.proofs.ReplayLemmas.{IsReplayResult-no_exact, IsReplayResult-one, IsReplayResult-solution, no_yes}
+use Rattle.pdb_verdict.proofs.BoundLemmas.{IsBoundResult-bound, IsBoundResult-one, IsBoundResult-proved}
+use Rattle.pdb_verdict.proofs.OptimumLemmas.{IsOptimumResult-one, IsOptimumResult-proved, IsOptimumResult-yes}
+use Rattle.pdb_verdict.proofs.ReplayLemmas.{IsReplayResult-counted, IsReplayResult-one, IsReplayResult-solution, no_yes}
 use Rattle.pdb_verdict.proofs.TableLemmas.{IsTableResult-one}
-use Rattle.pdb_verdict.specs.Given.{Given, puzzle_text, table_file}
+use Rattle.pdb_verdict.specs.Given.{Given, puzzle_text, table_file, bound_claim, optimum_claim}
 use Rattle.pdb_verdict.specs.Verdicts.{IsAnswerTo, IsResult, IsTrueOf, LacksMemory}
 use Rattle.pdb_verdict.specs.declared.verdict.Fault.{Fault}
 use Rattle.pdb_verdict.specs.declared.verdict.Verdict.{Verdict}
@@ -12,15 +14,30 @@ use Rattle.pdb_verdict.specs.declared.verdict.Verdict.TheVariants as verdict
 pub IsResult-true : (inputs : Given) (verdict : Verdict) → IsResult inputs (Ok verdict) ↔ IsTrueOf inputs verdict
 IsResult-true (puzzle_text puzzle) (verdict.Solution n) =
     IsReplayResult-solution puzzle n
-IsResult-true (puzzle_text puzzle) (verdict.Exact side mask census) =
-    (IsReplayResult-no_exact puzzle side mask census, λ h. absurd h)
+IsResult-true (puzzle_text puzzle) (verdict.Exact side mask census) = (λ is. let e = (IsReplayResult-counted puzzle _ is).1 in cc, λ h. absurd h)
+IsResult-true (puzzle_text puzzle) (verdict.Bound n) = (λ is. let e = (IsReplayResult-counted puzzle _ is).1 in cc, λ h. absurd h)
+IsResult-true (puzzle_text puzzle) (verdict.Optimal n) = (λ is. let e = (IsReplayResult-counted puzzle _ is).1 in cc, λ h. absurd h)
 IsResult-true (table_file table) (verdict.Solution n) = (λ is. is, λ h. h)
 IsResult-true (table_file table) (verdict.Exact side mask census) = (λ is. is, λ h. h)
+IsResult-true (table_file table) (verdict.Bound n) = (λ is. is, λ h. h)
+IsResult-true (table_file table) (verdict.Optimal n) = (λ is. is, λ h. h)
+IsResult-true (bound_claim board sets log tables) (verdict.Solution n) = (λ is. let e = (IsBoundResult-bound board sets log tables _ is).1 in cc, λ h. absurd h)
+IsResult-true (bound_claim board sets log tables) (verdict.Exact side mask census) =
+    (λ is. let e = (IsBoundResult-bound board sets log tables _ is).1 in cc, λ h. absurd h)
+IsResult-true (bound_claim board sets log tables) (verdict.Bound n) = IsBoundResult-proved board sets log tables n
+IsResult-true (bound_claim board sets log tables) (verdict.Optimal n) = (λ is. let e = (IsBoundResult-bound board sets log tables _ is).1 in cc, λ h. absurd h)
+IsResult-true (optimum_claim puzzle sets log tables) (verdict.Solution n) = (λ is. let e = (IsOptimumResult-yes puzzle sets log tables _ is).1 in cc, λ h. absurd h)
+IsResult-true (optimum_claim puzzle sets log tables) (verdict.Exact side mask census) =
+    (λ is. let e = (IsOptimumResult-yes puzzle sets log tables _ is).1 in cc, λ h. absurd h)
+IsResult-true (optimum_claim puzzle sets log tables) (verdict.Bound n) = (λ is. let e = (IsOptimumResult-yes puzzle sets log tables _ is).1 in cc, λ h. absurd h)
+IsResult-true (optimum_claim puzzle sets log tables) (verdict.Optimal n) = IsOptimumResult-proved puzzle sets log tables n
 
 -- there is one result
 pub IsResult-one : (inputs : Given) (a b : Result Verdict Fault) → IsResult inputs a → IsResult inputs b → a ≡ b
 IsResult-one (puzzle_text puzzle) a b is other = IsReplayResult-one puzzle a b is other
 IsResult-one (table_file table) a b is other = IsTableResult-one table a b is other
+IsResult-one (bound_claim board sets log tables) a b is other = IsBoundResult-one board sets log tables a b is other
+IsResult-one (optimum_claim puzzle sets log tables) a b is other = IsOptimumResult-one puzzle sets log tables a b is other
 
 -- a yes is answered only where it is true
 pub yes_is_true : (inputs : Given) (answer : Result Verdict Fault) → IsAnswerTo inputs answer → (verdict : Verdict) → answer ≡ Ok verdict → IsTrueOf inputs verdict

@@ -1,7 +1,11 @@
+pub mod Bounds
+pub mod Bundles
 pub mod Given
 pub mod Laws
 pub mod Limits
 pub mod Lines
+pub mod Optima
 pub mod Replays
+pub mod Steps
 pub mod Tables
 pub mod Verdicts

@@ -3,9 +3,13 @@ use Rattle.std.specs.Prelude.{ℕ, ◌^◌, Option, Some}
 use Rattle.pdb_io.specs.Shelves.{Bytes}
 use Rattle.pdb_run.specs.Plans.{Wanted}
 
--- of a board text or a puzzle text
+-- of a board text, a puzzle text or a set text
 abbrev pub text_limit : ℕ
 text_limit = 65536
+
+-- of a log file
+abbrev pub log_limit : ℕ
+log_limit = 2 ^ 30
 
 -- of a table file
 abbrev pub table_limit : ℕ
@@ -14,6 +18,10 @@ table_limit = 2 ^ 32
 -- a text under this name, or of the reader
 abbrev pub a_text : Option Bytes → Wanted
 a_text name = record { name = name; limit = text_limit }
+
+-- a log file under this name
+abbrev pub a_log : Bytes → Wanted
+a_log name = record { name = Some name; limit = log_limit }
 
 -- a table file under this name
 abbrev pub a_table : Bytes → Wanted

@@ -9,10 +9,16 @@ use Rattle.tab_file.specs.declared.headers.HeadFault.TheVariants.{T1, T2, T3, T4
 use Rattle.tab_check.specs.declared.census.Census.{Census}
 use Rattle.tab_check.specs.declared.tables.TableRefusal.{TableRefusal}
 use Rattle.tab_check.specs.declared.tables.TableRefusal.TheVariants.{Head, T7}
+use Rattle.set_sum.specs.declared.faults.SetFault.{SetFault}
+use Rattle.set_sum.specs.declared.faults.SetFault.TheVariants.{S1, S2, S3, S4, S5}
+use Rattle.log_file.specs.declared.faults.FormFault.{FormFault}
+use Rattle.log_file.specs.declared.faults.FormFault.TheVariants.{L1, L2, L3}
+use Rattle.log_check.specs.declared.faults.LogRefusal.{LogRefusal}
+use Rattle.log_check.specs.declared.faults.LogRefusal.TheVariants.{Form, L4, L5, L6}
 use Rattle.pdb_io.specs.Shelves.{Bytes}
 use Rattle.pdb_run.specs.Lines.{memory_line, reply_text}
 use Rattle.pdb_run.specs.Plans.{Reply}
-use Rattle.pdb_verdict.specs.Given.{Given, puzzle_text, table_file}
+use Rattle.pdb_verdict.specs.Given.{Given, puzzle_text, table_file, bound_claim, optimum_claim}
 use Rattle.pdb_verdict.specs.declared.verdict.Fault.{Fault}
 use Rattle.pdb_verdict.specs.declared.verdict.Fault.TheVariants as fault
 use Rattle.pdb_verdict.specs.declared.verdict.Verdict.{Verdict}
@@ -51,12 +57,55 @@ abbrev pub line_of_table_refusal : TableRefusal → Bytes
 line_of_table_refusal (Head refused) = line_of_head_fault refused
 line_of_table_refusal (T7 number) = counted (codes "refused T7 at entry ") number
 
+-- of a refused header of the table file with number i, where there are several
+abbrev pub line_of_head_fault_of : ℕ → HeadFault → Bytes
+line_of_head_fault_of i T1 = counted (codes "refused T1 of table ") i
+line_of_head_fault_of i T2 = counted (codes "refused T2 of table ") i
+line_of_head_fault_of i T3 = counted (codes "refused T3 of table ") i
+line_of_head_fault_of i T4 = counted (codes "refused T4 of table ") i
+line_of_head_fault_of i T5 = counted (codes "refused T5 of table ") i
+line_of_head_fault_of i T6 = counted (codes "refused T6 of table ") i
+
+-- two texts, each with a number behind it, and the line's end
+abbrev pub counted_twice : Bytes → ℕ → Bytes → ℕ → Bytes
+counted_twice text n other m = text ++ decimal n ++ counted other m
+
+-- of the refused table file with number i, where there are several
+abbrev pub line_of_table_refusal_of : ℕ → TableRefusal → Bytes
+line_of_table_refusal_of i (Head refused) = line_of_head_fault_of i refused
+line_of_table_refusal_of i (T7 number) = counted_twice (codes "refused T7 at entry ") number (codes " of table ") i
+
+-- of refused tables and a refused set text
+abbrev pub line_of_set_fault : SetFault → Bytes
+line_of_set_fault (S1 line) = counted (codes "refused S1 at line ") line
+line_of_set_fault (S2 line) = counted (codes "refused S2 at line ") line
+line_of_set_fault (S3 line) = counted (codes "refused S3 at line ") line
+line_of_set_fault (S4 table) = counted (codes "refused S4 at table ") table
+line_of_set_fault S5 = codes "refused S5\n"
+
+-- of bytes that are no log file
+abbrev pub line_of_form_fault : FormFault → Bytes
+line_of_form_fault L1 = codes "refused L1\n"
+line_of_form_fault (L2 lemma) = counted (codes "refused L2 at lemma ") lemma
+line_of_form_fault (L3 lemma) = counted (codes "refused L3 at lemma ") lemma
+
+-- of a refused log file
+abbrev pub line_of_log_refusal : LogRefusal → Bytes
+line_of_log_refusal (Form refused) = line_of_form_fault refused
+line_of_log_refusal L4 = codes "refused L4\n"
+line_of_log_refusal L5 = codes "refused L5\n"
+line_of_log_refusal (L6 lemma) = counted (codes "refused L6 at lemma ") lemma
+
 -- of a refusal, or of want of memory
 abbrev pub line_of_fault : Fault → Bytes
 line_of_fault fault.P1 = codes "refused P1\n"
 line_of_fault (fault.Board refused) = line_of_board_fault refused
 line_of_fault (fault.Moves refused) = line_of_move_fault refused
 line_of_fault (fault.Table refused) = line_of_table_refusal refused
+line_of_fault (fault.TableOf number refused) = line_of_table_refusal_of number refused
+line_of_fault (fault.Sets refused) = line_of_set_fault refused
+line_of_fault (fault.Log refused) = line_of_log_refusal refused
+line_of_fault (fault.O1 solution bound) = counted_twice (codes "refused O1 solution ") solution (codes " bound ") bound
 line_of_fault fault.Memory = memory_line
 
 -- the side and the mask of a table's pattern, and its census
@@ -69,6 +118,8 @@ exact_line side mask census =
 abbrev pub line_of_verdict : Verdict → Bytes
 line_of_verdict (verdict.Solution n) = counted (codes "solution ") n
 line_of_verdict (verdict.Exact side mask census) = exact_line side mask census
+line_of_verdict (verdict.Bound n) = counted (codes "bound ") n
+line_of_verdict (verdict.Optimal n) = counted (codes "optimal ") n
 
 -- of an answer
 abbrev pub line_of : Result Verdict Fault → Bytes
@@ -81,6 +132,8 @@ line_of (Err refused) = line_of_fault refused
 abbrev pub digested_of : Given → List Bytes
 digested_of (puzzle_text puzzle) = []
 digested_of (table_file table) = table ∷ []
+digested_of (bound_claim board sets log tables) = tables ++ log ∷ []
+digested_of (optimum_claim puzzle sets log tables) = tables ++ log ∷ []
 
 -- an answer on inputs, as a run tells it
 abbrev pub reply_to : Given → Result Verdict Fault → Reply

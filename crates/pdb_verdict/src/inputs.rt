@@ -4,7 +4,25 @@
 #[derive(Clone, Copy)]
 pub enum Inputs<'a> {
     /// Whether the moves of a puzzle text solve its board.
-    Replay { puzzle: &'a [u8] },
+    Replay {
+        puzzle: &'a [u8],
+    },
     /// Whether the table of a table file is exact.
-    Table { table: &'a [u8] },
+    Table {
+        table: &'a [u8],
+    },
+    /// Whether a log proves its bound for the board of a board text, over table files and a set text.
+    Bound {
+        board: &'a [u8],
+        sets: &'a [u8],
+        log: &'a [u8],
+        tables: &'a [Vec<u8>],
+    },
+    /// Whether the moves of a puzzle text solve its board, and a log proves that no solution has fewer moves.
+    Optimal {
+        puzzle: &'a [u8],
+        sets: &'a [u8],
+        log: &'a [u8],
+        tables: &'a [Vec<u8>],
+    },
 }

@@ -2,12 +2,15 @@
 
 ghost use Rattle.std.specs.Prelude.{◌≡◌, Some, option_map};
 ghost use Rattle.pdb_run.specs.Readings.{wanted_of};
-ghost use Rattle.pdb_verdict.specs.Limits.{a_table, a_text};
+ghost use Rattle.pdb_verdict.specs.Limits.{a_log, a_table, a_text};
 
 use pdb_run::Input;
 
-/// The most bytes of a board text or a puzzle text.
+/// The most bytes of a board text, a puzzle text or a set text.
 const TEXT_LIMIT: u64 = 65_536;
+
+/// The most bytes of a log file.
+const LOG_LIMIT: u64 = 1 << 30;
 
 /// The most bytes of a table file.
 const TABLE_LIMIT: u64 = 1 << 32;
@@ -19,6 +22,16 @@ pub(crate) fn a_text<'a>(name: Option<&'a str>) -> Input<'a>
     Input {
         name,
         limit: TEXT_LIMIT,
+    }
+}
+
+/// A log file under this name.
+pub(crate) fn a_log<'a>(name: &'a str) -> Input<'a>
+    ensures { wanted_of result ≡ a_log name.now }
+{
+    Input {
+        name: Some(name),
+        limit: LOG_LIMIT,
     }
 }
 

@@ -1,12 +1,15 @@
 //! The lines that a verdict or a refusal is told in, as values.
 
-ghost use Rattle.std.specs.Prelude.{◌≡◌, ◌≤◌, length};
-ghost use Rattle.pdb_verdict.specs.Lines.{counted, exact_line, line_of, line_of_board_fault, line_of_fault, line_of_head_fault, line_of_move_fault, line_of_table_refusal};
+ghost use Rattle.std.specs.Prelude.{◌≡◌, ◌≤◌, ℕ, length};
+ghost use Rattle.pdb_verdict.specs.Lines.{counted, counted_twice, exact_line, line_of, line_of_board_fault, line_of_fault, line_of_form_fault, line_of_head_fault, line_of_head_fault_of, line_of_log_refusal, line_of_move_fault, line_of_set_fault, line_of_table_refusal, line_of_table_refusal_of};
 
 use crate::verdict::{Fault, Verdict};
 use itoa::Buffer;
+use log_check::LogRefusal;
+use log_file::FormFault;
 use pdb_run::{Lines, lines};
 use puz_board::{BoardFault, MoveFault, Side};
+use set_sum::SetFault;
 use tab_check::{Census, TableRefusal};
 use tab_file::HeadFault;
 
@@ -17,6 +20,8 @@ pub(crate) fn line_of(answer: &Result<Verdict, Fault>) -> Lines
     match answer {
         Ok(Verdict::Solution(moves)) => counted("solution ", *moves as u64),
         Ok(Verdict::Exact(side, mask, census)) => exact_line(*side, *mask, *census),
+        Ok(Verdict::Bound(bound)) => counted("bound ", *bound as u64),
+        Ok(Verdict::Optimal(moves)) => counted("optimal ", *moves as u64),
         Err(fault) => fault_line(fault),
     }
 }
@@ -49,6 +54,17 @@ fn fault_line(fault: &Fault) -> Lines
         Fault::Board(refused) => board_line(*refused),
         Fault::Moves(refused) => moves_line(*refused),
         Fault::Table(refused) => table_line(*refused),
+        Fault::TableOf(number, refused) => numbered_table_line(*number, *refused),
+        Fault::Sets(refused) => sets_line(*refused),
+        Fault::Log(refused) => log_line(*refused),
+        Fault::O1 { solution, bound } => {
+            counted_twice(
+                "refused O1 solution ",
+                *solution as u64,
+                " bound ",
+                *bound as u64,
+            )
+        }
         Fault::Memory => lines(&["no memory\n"]),
     }
 }
@@ -102,6 +118,69 @@ fn head_line(refused: HeadFault) -> Lines
     }
 }
 
+/// The line of the refused table file with this number.
+fn numbered_table_line(number: usize, refused: TableRefusal) -> Lines
+    ensures { result.bytes ≡ line_of_table_refusal_of number refused }
+{
+    match refused {
+        TableRefusal::Head(refused) => counted(numbered_head_text(refused), number as u64),
+        TableRefusal::T7(entry) => {
+            counted_twice("refused T7 at entry ", entry, " of table ", number as u64)
+        }
+    }
+}
+
+/// What comes before the number of a table file whose header is refused.
+fn numbered_head_text(refused: HeadFault) -> &'static str
+    ensures text { (number : ℕ) → counted result.now number ≡ line_of_head_fault_of number refused }
+    ensures short { length result.now ≤ 40 }
+{
+    match refused {
+        HeadFault::T1 => "refused T1 of table ",
+        HeadFault::T2 => "refused T2 of table ",
+        HeadFault::T3 => "refused T3 of table ",
+        HeadFault::T4 => "refused T4 of table ",
+        HeadFault::T5 => "refused T5 of table ",
+        HeadFault::T6 => "refused T6 of table ",
+    }
+}
+
+/// The line of refused tables and a refused set text.
+fn sets_line(refused: SetFault) -> Lines
+    ensures { result.bytes ≡ line_of_set_fault refused }
+{
+    match refused {
+        SetFault::S1(line) => counted("refused S1 at line ", line as u64),
+        SetFault::S2(line) => counted("refused S2 at line ", line as u64),
+        SetFault::S3(line) => counted("refused S3 at line ", line as u64),
+        SetFault::S4(table) => counted("refused S4 at table ", table as u64),
+        SetFault::S5 => lines(&["refused S5\n"]),
+    }
+}
+
+/// The line of a refused log file.
+fn log_line(refused: LogRefusal) -> Lines
+    ensures { result.bytes ≡ line_of_log_refusal refused }
+{
+    match refused {
+        LogRefusal::Form(refused) => form_line(refused),
+        LogRefusal::L4 => lines(&["refused L4\n"]),
+        LogRefusal::L5 => lines(&["refused L5\n"]),
+        LogRefusal::L6(lemma) => counted("refused L6 at lemma ", lemma as u64),
+    }
+}
+
+/// The line of bytes that are no log file.
+fn form_line(refused: FormFault) -> Lines
+    ensures { result.bytes ≡ line_of_form_fault refused }
+{
+    match refused {
+        FormFault::L1 => lines(&["refused L1\n"]),
+        FormFault::L2(lemma) => counted("refused L2 at lemma ", lemma as u64),
+        FormFault::L3(lemma) => counted("refused L3 at lemma ", lemma as u64),
+    }
+}
+
 /// A text, a number and the line's end.
 fn counted(text: &str, number: u64) -> Lines
     requires { length text.now ≤ 40 }
@@ -109,4 +188,18 @@ fn counted(text: &str, number: u64) -> Lines
 {
     let mut digits = Buffer::new();
     lines(&[text, digits.format(number), "\n"])
+}
+
+/// Two texts, each with a number behind it, and the line's end.
+fn counted_twice(text: &str, number: u64, other: &str, other_number: u64) -> Lines
+    requires { (length text.now ≤ 40) × (length other.now ≤ 40) }
+    ensures { result.bytes ≡ counted_twice text.now number other.now other_number }
+{
+    lines(&[
+        text,
+        Buffer::new().format(number),
+        other,
+        Buffer::new().format(other_number),
+        "\n",
+    ])
 }

@@ -1,8 +1,10 @@
 //! Whether the moves of a puzzle text solve its board.
 
 ghost use Rattle.std.specs.Prelude.{◌≡◌, ◌↔◌, ℕ, Ok, length, option_map};
+ghost use Rattle.puz_board.specs.PuzzleTexts.{puzzle_parts};
 ghost use Rattle.pdb_run.specs.Replies.{all_bytes, reply_of};
 ghost use Rattle.pdb_run.specs.Runs.{Ends, world};
+ghost use Rattle.pdb_verdict.specs.Optima.{solved_parts};
 ghost use Rattle.pdb_verdict.specs.Replays.{IsReplayReply, IsReplayResult, IsSolvedPuzzle, replay_inputs, replay_plan};
 ghost use Rattle.pdb_verdict.specs.declared.verdict.Verdict.TheVariants.{Solution};
 
@@ -83,8 +85,16 @@ pub fn verify_puzzle(puzzle: &[u8]) -> Result<Verdict, Fault>
 fn replay_result(puzzle: &[u8]) -> Result<Verdict, Fault>
     ensures { IsReplayResult puzzle.now result }
 {
+    let (_board, count) = solved_board(puzzle)?;
+    Ok(Verdict::Solution(count))
+}
+
+/// The board of a puzzle text, and of how many moves the solution behind it is.
+pub(crate) fn solved_board(puzzle: &[u8]) -> Result<(Board, u16), Fault>
+    ensures { result ≡ solved_parts (puzzle_parts puzzle.now) }
+{
     let (board, moves) = split_puzzle(puzzle).ok_or(Fault::P1)?;
     let board = Board::read(board).map_err(Fault::Board)?;
     let count = replay(&board, moves).map_err(Fault::Moves)?;
-    Ok(Verdict::Solution(count))
+    Ok((board, count))
 }

@@ -1,18 +1,20 @@
 //! What is written of an answer.
 
-ghost use Rattle.std.specs.Prelude.{◌≡◌, option_map, OnOk, OnErr};
+ghost use Rattle.std.specs.Prelude.{◌≡◌, ◌≢◌, ◌++◌, Err, option_map, IfOk, OnOk, OnErr};
 ghost use Rattle.std.specs.Io.KnownBytes.{Appends};
 ghost use Rattle.pdb_io.specs.Streams.{AppendsFront};
 ghost use Rattle.pdb_run.specs.Lines.{digests_of, list_of};
-ghost use Rattle.pdb_run.specs.Replies.{reply_of};
+ghost use Rattle.pdb_run.specs.Replies.{all_bytes, reply_of};
 ghost use Rattle.pdb_verdict.specs.Given.{given};
 ghost use Rattle.pdb_verdict.specs.Lines.{digested_of, line_of, lines_of, reply_to, stands_alone};
+ghost use Rattle.pdb_verdict.specs.declared.verdict.Fault.TheVariants.{Memory};
 
 use crate::inputs::Inputs;
 use crate::lines::line_of;
 use crate::verdict::{Fault, Verdict};
 use pdb_io::streams::{WriteFault, put_text};
 use pdb_run::{Answer, say, say_digests};
+use std::alloc::AllocError;
 use std::io::Write;
 
 /// Writes all lines on the inputs: the digests and then the answer's line, which stands alone for want of memory.
@@ -35,7 +37,8 @@ pub fn digests<W: Write>(inputs: &Inputs<'_>, out: &mut W) -> Result<(), WriteFa
     ensures whole { OnOk result (Appends (W.contents out.old) (W.contents out.new) (digests_of (digested_of (given inputs.now)))) }
     ensures front { OnErr result (AppendsFront (W.contents out.old) (W.contents out.new) (digests_of (digested_of (given inputs.now)))) }
 {
-    say_digests(&[], checked_file(inputs), out)
+    let (files, last) = checked_files(inputs);
+    say_digests(files, last, out)
 }
 
 /// Writes the line of a verdict, a refusal or want of memory.
@@ -50,21 +53,39 @@ pub fn line<W: Write>(answer: &Result<Verdict, Fault>, out: &mut W) -> Result<()
 pub(crate) fn answer_on<'i>(inputs: &Inputs<'i>, answer: &Result<Verdict, Fault>) -> Answer<'i>
     ensures { reply_of result ≡ reply_to (given inputs.now) answer.now }
 {
+    let (files, last) = checked_files(inputs);
     Answer {
-        files: &[],
-        last: checked_file(inputs),
+        files,
+        last,
         lines: line_of(answer),
         is_yes: answer.is_ok(),
     }
 }
 
-/// The file whose digest is told.
-fn checked_file<'i>(inputs: &Inputs<'i>) -> Option<&'i [u8]>
-    ensures { list_of (option_map (λ file. file.now) result) ≡ digested_of (given inputs.now) }
+/// What is to be written of an answer on inputs, but for want of memory.
+pub(crate) fn answer_or_memory<'i>(
+    inputs: &Inputs<'i>,
+    answer: Result<Verdict, Fault>,
+) -> Result<Answer<'i>, AllocError>
+    ensures told { IfOk result (λ told. (reply_of told ≡ reply_to (given inputs.now) answer) × (answer ≢ Err Memory)) }
+    ensures memory { OnErr result (answer ≡ Err Memory) }
+{
+    match answer {
+        Err(Fault::Memory) => Err(AllocError),
+        answer => Ok(answer_on(inputs, &answer)),
+    }
+}
+
+/// The files whose digests are told: several, and one behind them.
+fn checked_files<'i>(inputs: &Inputs<'i>) -> (&'i [Vec<u8>], Option<&'i [u8]>)
+    ensures { all_bytes result.0.now ++ list_of (option_map (λ file. file.now) result.1) ≡ digested_of (given inputs.now) }
 {
     match *inputs {
-        Inputs::Replay { puzzle: _ } => None,
-        Inputs::Table { table } => Some(table),
+        Inputs::Replay { puzzle: _ } => (&[], None),
+        Inputs::Table { table } => (&[], Some(table)),
+        Inputs::Bound { log, tables, .. } | Inputs::Optimal { log, tables, .. } => {
+            (tables, Some(log))
+        }
     }
 }
 

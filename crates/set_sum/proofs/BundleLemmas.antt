@@ -1,19 +1,22 @@
 -- The sets of a bundle, as they are stored.
-use Rattle.std.proofs.Common.{◌≡◌, ℕ, ◌<◌, ◌≤◌, List, [], ◌∷◌, length, map, get_or, refl, sym, ◌∙◌, ap, subst, arith}
+use Rattle.std.proofs.Common.{◌≡◌, ℕ, ◌<◌, ◌≤◌, List, [], ◌∷◌, length, map, get_or, inl, inr, refl, sym, ◌∙◌, ap, subst, arith}
+use Rattle.std.proofs.lemmas.Bool.{cases_lt}
 use Rattle.std.proofs.lemmas.List.{get_or-map, length-map}
+use Rattle.std.specs.Prelude.{Any}
 use Rattle.std.specs.List.{AllByRecursion}
 use Rattle.puz_board.specs.Boards.{IsBoardOf}
 use Rattle.pat_place.specs.Patterns.{IsPattern}
 use Rattle.tab_file.specs.Tables.{Table}
 use Rattle.tab_check.specs.ExactTables.{IsExactTable}
 use Rattle.tab_check.proofs.LookLemmas.{count_some}
-use Rattle.set_sum.specs.Bundles.{IsSetOf, TellsOfAll, set_of}
+use Rattle.set_sum.specs.Bundles.{BundleView, IsBundle, IsSetOf, TellsOfAll, set_of}
 use Rattle.set_sum.specs.ReadLines.{AreSetsOf}
 use Rattle.set_sum.specs.SetTexts.{IsLine}
 use Rattle.set_sum.specs.Reading.{AreAlike, IsBundleOf, NamesNoTable, NamesOverlap, first_side, members, patterns_of}
 use Rattle.set_sum.specs.StoredBundles.{IsStoredBundle, bundle_shown, numbers_stored}
 use Rattle.set_sum.specs.Sums.{SetSays}
 use Rattle.set_sum.specs.declared.bundles.Bundle.TheInside.{Inside}
+use Rattle.set_sum.proofs.AnyLemmas.{Any-here, Any-later}
 use Rattle.set_sum.proofs.LinesReadLemmas.{all_there}
 use Rattle.set_sum.proofs.ListLemmas.{all_at, all_weaker}
 use Rattle.set_sum.proofs.SumLemmas.{IsOf, IsTold, set_told}
@@ -65,44 +68,55 @@ first_limits : (n : ℕ) (tables : List Table) → 0 < length tables → AllByRe
 first_limits n [] some sides patterns = absurd (omega arith)
 first_limits n (t ∷ tables) some sides patterns = (subst (λ m. 2 ≤ m) sides.0 patterns.0.low, subst (λ m. m ≤ 5) sides.0 patterns.0.high)
 
-module _ (v : Inside) (text : List ℕ) (first : v.side ≡ first_side v.tables.items) (alike : AreAlike v.tables.items) (exact : AllByRecursion IsExactTable v.tables.items)
-    (are : AreSetsOf v.tables.items text (numbers_stored v)) where
-  sides : AllByRecursion (λ t. t.pattern.side ≡ v.side) v.tables.items
-  sides = all_weaker (λ t. t.pattern.side ≡ first_side v.tables.items) (λ t. t.pattern.side ≡ v.side) (λ t same. same ∙ sym first) v.tables.items alike.one_side
+-- where no number is that of no table, each is that of a table
+none_missing : (tables : ℕ) (numbers : List ℕ) → ¬ Any (λ i. tables ≤ i) numbers → AllByRecursion (λ i. i < tables) numbers
+none_missing tables [] none = tt
+none_missing tables (i ∷ numbers) none = elim (cases_lt i tables) [
+  | inl low ↦ (low, none_missing tables numbers (λ any. none (Any-later (λ k. tables ≤ k) i numbers any)))
+  | inr high ↦ absurd (none (Any-here (λ k. tables ≤ k) i numbers high))
+]
 
-  patterns : AllByRecursion (λ t. IsPattern t.pattern) v.tables.items
-  patterns = all_weaker IsExactTable (λ t. IsPattern t.pattern) (λ t is. is.is_table.pattern) v.tables.items exact
+-- what exact tables and a text make is a bundle
+module _ (tables : List Table) (text : List ℕ) (v : BundleView) (exact : AllByRecursion IsExactTable tables) (is : IsBundleOf tables text v) where
+  sides : AllByRecursion (λ t. t.pattern.side ≡ v.side) tables
+  sides = all_weaker (λ t. t.pattern.side ≡ first_side tables) (λ t. t.pattern.side ≡ v.side) (λ t same. same ∙ sym is.side) tables is.alike.one_side
 
-  shown : length (bundle_shown v).sets ≡ length (numbers_stored v)
-  shown = length-map (numbers_stored v) (members (patterns_of v.tables.items))
+  patterns : AllByRecursion (λ t. IsPattern t.pattern) tables
+  patterns = all_weaker IsExactTable (λ t. IsPattern t.pattern) (λ t exact_table. exact_table.is_table.pattern) tables exact
 
-  told : TellsOfAll (bundle_shown v)
+  there : AllByRecursion (AllByRecursion (λ i. i < length tables)) is.sets
+  there = all_weaker (λ numbers. ¬ NamesNoTable tables numbers) (AllByRecursion (λ i. i < length tables)) (none_missing (length tables)) is.sets is.there
+
+  shown : length v.sets ≡ length is.sets
+  shown = ap length is.members_are ∙ length-map is.sets (members (patterns_of tables))
+
+  told : TellsOfAll v
   told number low b board =
-      let stored : number < length (numbers_stored v) = subst (λ k. number < k) shown low in
-      let there = all_at (AllByRecursion (λ i. i < length v.tables.items)) (numbers_stored v) number [] stored are.numbers in
-      let all = all_told v.side b board v.tables.items sides exact in
-      let says = set_told (members (patterns_of v.tables.items) (get_or (numbers_stored v) number [])) b (all_members (IsTold b) v.tables.items (get_or (numbers_stored v) number []) all there) in
-      let set = get_or-map (members (patterns_of v.tables.items)) (numbers_stored v) number [] [] stored in
+      let stored : number < length is.sets = subst (λ k. number < k) shown low in
+      let numbers : List ℕ = get_or is.sets number [] in
+      let numbers_there = all_at (AllByRecursion (λ i. i < length tables)) is.sets number [] stored there in
+      let all = all_told v.side b board tables sides exact in
+      let says = set_told (members (patterns_of tables) numbers) b (all_members (IsTold b) tables numbers all numbers_there) in
+      let set = ap (λ s. get_or s number []) is.members_are ∙ get_or-map (members (patterns_of tables)) is.sets number [] [] stored in
       (says.0, record { there = low; says = subst (λ s. SetSays s b says.0) (sym set) says.1 })
 
-  pub stored_made : IsStoredBundle v
-  stored_made =
-      let limits = first_limits v.side v.tables.items alike.count.some sides patterns in
+  pub is_bundle : IsBundle v
+  is_bundle =
+      let limits = first_limits v.side tables is.alike.count.some sides patterns in
       record {
-        bundle = record {
-          low = limits.0;
-          high = limits.1;
-          some_tables = alike.count.some;
-          few_tables = alike.count.few;
-          some_sets = subst (λ k. 0 < k) (sym shown) are.are_sets.lines.some;
-          few_sets = subst (λ k. k ≤ 16) (sym shown) are.are_sets.few;
-          each = each_set v.side v.tables.items (numbers_stored v) (all_patterns v.side v.tables.items sides patterns) are.are_sets.lines.lines are.numbers are.disjoint;
-          told = told;
-        };
-        tables = sides;
-        numbers = are.numbers;
+        low = limits.0;
+        high = limits.1;
+        some_tables = subst (λ k. 0 < k) (sym is.counted) is.alike.count.some;
+        few_tables = subst (λ k. k ≤ 16) (sym is.counted) is.alike.count.few;
+        some_sets = subst (λ k. 0 < k) (sym shown) is.are_sets.lines.some;
+        few_sets = subst (λ k. k ≤ 16) (sym shown) is.are_sets.few;
+        each = subst (AllByRecursion (IsSetOf v.side)) (sym is.members_are)
+            (each_set v.side tables is.sets (all_patterns v.side tables sides patterns) is.are_sets.lines.lines there is.disjoint);
+        told = told;
       }
 
+module _ (v : Inside) (text : List ℕ) (first : v.side ≡ first_side v.tables.items) (alike : AreAlike v.tables.items) (exact : AllByRecursion IsExactTable v.tables.items)
+    (are : AreSetsOf v.tables.items text (numbers_stored v)) where
   pub bundle_made : IsBundleOf v.tables.items text (bundle_shown v)
   bundle_made = record {
     alike = alike;
@@ -113,4 +127,11 @@ module _ (v : Inside) (text : List ℕ) (first : v.side ≡ first_side v.tables.
     side = first;
     counted = refl;
     members_are = refl;
+  }
+
+  pub stored_made : IsStoredBundle v
+  stored_made = record {
+    bundle = is_bundle v.tables.items text (bundle_shown v) exact bundle_made;
+    tables = sides v.tables.items text (bundle_shown v) exact bundle_made;
+    numbers = are.numbers;
   }

@@ -2,6 +2,7 @@ pub mod AnswerLemmas
 pub mod AnyLemmas
 pub mod BundleLemmas
 pub mod CostLemmas
+pub mod DecidedLemmas
 pub mod LineLemmas
 pub mod LinesReadLemmas
 pub mod ListLemmas

@@ -1,5 +1,5 @@
 -- What holds of all sets of disjoint patterns, and of all set texts.
-use Rattle.std.specs.Prelude.{◌≡◌, ℕ, ◌≤◌, List, length}
+use Rattle.std.specs.Prelude.{◌≡◌, ◌⊎◌, ℕ, ◌≤◌, List, length}
 use Rattle.puz_board.specs.Boards.{IsBoardOf}
 use Rattle.tab_file.specs.Tables.{Table}
 use Rattle.tab_check.specs.declared.tables.Count.{Count}
@@ -35,3 +35,7 @@ TextsHaveOneFault = (tables : List Table) (text : List ℕ) (f g : SetFault) →
 -- none make a bundle and have a fault
 abbrev pub BundlesHaveNoFault : Type 0
 BundlesHaveNoFault = (tables : List Table) (text : List ℕ) (v : BundleView) (f : SetFault) → IsBundleOf tables text v → ¬ IsFaultOf f tables text
+
+-- all tables and all texts make a bundle or have a fault
+abbrev pub TextsHaveAnAnswer : Type 0
+TextsHaveAnAnswer = (tables : List Table) (text : List ℕ) → ((v : BundleView) × IsBundleOf tables text v) ⊎ ((f : SetFault) × IsFaultOf f tables text)

@@ -1,6 +1,6 @@
 //! Laws of sets of disjoint patterns, and of set texts. Each function here says what holds of all of them, and does nothing.
 
-ghost use Rattle.set_sum.specs.Laws.{BundlesHaveNoFault, DisjointCostsAreWithinTheLength, SetsBoundSolutions, SetsSayOneThing, TextsHaveOneBundle, TextsHaveOneFault};
+ghost use Rattle.set_sum.specs.Laws.{BundlesHaveNoFault, DisjointCostsAreWithinTheLength, SetsBoundSolutions, SetsSayOneThing, TextsHaveAnAnswer, TextsHaveOneBundle, TextsHaveOneFault};
 
 /// What a path costs disjoint patterns together is at most its number of steps: each step moves one tile.
 pub fn disjoint_costs_are_within_the_length()
@@ -20,6 +20,7 @@ pub fn sets_say_one_thing()
 
 /// What is answered of tables and a set text is settled by them.
 pub fn texts_have_one_answer()
+    ensures some { TextsHaveAnAnswer }
     ensures bundle { TextsHaveOneBundle }
     ensures fault { TextsHaveOneFault }
     ensures either { BundlesHaveNoFault }

@@ -23,3 +23,23 @@ pub returns-in-Table-clause-always : goal.returns-in-Table-clause-always
 returns-in-Table-clause-always g c =
     let exact : IsAnswerTo (given c.args.inputs.now) c.verify_table.result = search rules in
     true_is_yes (given c.args.inputs.now) c.verify_table.result exact
+
+pub returns-in-Bound-clause-yes : goal.returns-in-Bound-clause-yes
+returns-in-Bound-clause-yes g c =
+    let exact : IsAnswerTo (given c.args.inputs.now) c.verify_bound.result = search (rules, c.verify_bound.ensures.answer) in
+    yes_is_true (given c.args.inputs.now) c.verify_bound.result exact
+
+pub returns-in-Bound-clause-always : goal.returns-in-Bound-clause-always
+returns-in-Bound-clause-always g c =
+    let exact : IsAnswerTo (given c.args.inputs.now) c.verify_bound.result = search (rules, c.verify_bound.ensures.answer) in
+    true_is_yes (given c.args.inputs.now) c.verify_bound.result exact
+
+pub returns-in-Optimal-clause-yes : goal.returns-in-Optimal-clause-yes
+returns-in-Optimal-clause-yes g c =
+    let exact : IsAnswerTo (given c.args.inputs.now) c.verify_optimal.result = search (rules, c.verify_optimal.ensures.answer) in
+    yes_is_true (given c.args.inputs.now) c.verify_optimal.result exact
+
+pub returns-in-Optimal-clause-always : goal.returns-in-Optimal-clause-always
+returns-in-Optimal-clause-always g c =
+    let exact : IsAnswerTo (given c.args.inputs.now) c.verify_optimal.result = search (rules, c.verify_optimal.ensures.answer) in
+    true_is_yes (given c.args.inputs.now) c.verify_optimal.result exact

@@ -1,5 +1,9 @@
 use Rattle.set_sum.proofs.AnswerLemmas.{bundle-no_fault, bundle-once, fault-once}
+use Rattle.set_sum.proofs.DecidedLemmas.{bundle_answer}
 use Rattle.set_sum.proofs.laws.texts_have_one_answer.Goals as goal
+
+pub returns-clause-some : goal.returns-clause-some
+returns-clause-some c tables text = bundle_answer tables text
 
 pub returns-clause-bundle : goal.returns-clause-bundle
 returns-clause-bundle c tables text v w one other = bundle-once tables text v w one other

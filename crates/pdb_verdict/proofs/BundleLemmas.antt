@@ -1,0 +1,76 @@
+-- Table files that are checked one after the other.
+use Rattle.std.proofs.Common.{◌≡◌, ◌∙◌, ℕ, zero, suc, ◌+◌, ◌<◌, List, [], ◌∷◌, ◌++◌, Some, length, map, take, get_or, add-one, ap, arith, refl, subst, sym}
+use Rattle.std.specs.Prelude.{slice_get}
+use Rattle.std.proofs.lemmas.List.{length-take-le}
+use Rattle.std.proofs.lemmas.Option.{slice_get-get_or, slice_get-map, slice_get_within}
+use Rattle.std.specs.Option.{option_map}
+use Rattle.tab_file.specs.TableFiles.{IsTableFile}
+use Rattle.tab_file.specs.Tables.{Table}
+use Rattle.tab_check.specs.ExactTables.{IsExactFile}
+use Rattle.pdb_io.specs.Shelves.{Bytes}
+use Rattle.pdb_verdict.specs.Bundles.{AreExactFiles, TakesMemoryForTables}
+use Rattle.pdb_verdict.specs.Steps.{IsCauseForFile, IsCauseForTables}
+use Rattle.pdb_verdict.specs.declared.verdict.Fault.{Fault}
+use Rattle.pdb_verdict.specs.declared.verdict.Fault.TheVariants as fault
+
+-- an element of a list that stands within it, seen through a function
+pub item_there : {A B : Type 0} (f : A → B) (xs : List A) (i : ℕ) (x : A) → i < length xs → x ≡ get_or xs i x → slice_get (map f xs) i ≡ Some (f x)
+item_there f xs i x low is =
+    slice_get-map f xs i ∙ ap (option_map f) (slice_get-get_or xs i x low) ∙ ap (λ y. Some (f y)) (sym is)
+
+-- there are as many tables as files
+pub exact-length : (tables : List Table) (files : List Bytes) → AreExactFiles tables files → length tables ≡ length files
+exact-length [] [] are = refl
+exact-length [] (file ∷ files) are = absurd are
+exact-length (t ∷ tables) [] are = absurd are
+exact-length (t ∷ tables) (file ∷ files) are = ap suc (exact-length tables files are.1)
+
+more : (tables : List Table) (files : List Bytes) (i : ℕ) (t : Table) (file : Bytes) → AreExactFiles tables (take i files) → slice_get files i ≡ Some file
+    → IsExactFile t file → AreExactFiles (tables ++ t ∷ []) (take (suc i) files)
+more tables [] i t file are there exact = absurd (let e : _ = there in cc)
+more [] (f ∷ files) zero t file are there exact = (subst (IsExactFile t) (let e : Some f ≡ Some file = there in cc) exact, tt)
+more (u ∷ tables) (f ∷ files) zero t file are there exact = absurd are
+more [] (f ∷ files) (suc i) t file are there exact = absurd are
+more (u ∷ tables) (f ∷ files) (suc i) t file are there exact = (are.0, more tables files i t file are.1 there exact)
+
+-- the tables of one file more
+pub exact-next : (tables : List Table) (files : List Bytes) (i : ℕ) (t : Table) (file : Bytes) → AreExactFiles tables (take i files)
+    → slice_get files i ≡ Some file → IsExactFile t file → AreExactFiles (tables ++ t ∷ []) (take (i + 1) files)
+exact-next tables files i t file are there exact = subst (λ k. AreExactFiles (tables ++ t ∷ []) (take k files)) (sym (add-one i)) (more tables files i t file are there exact)
+
+-- where those before a table file are of exact tables, the first is a table file
+pub first_taken : (tables : List Table) (files : List Bytes) (i : ℕ) (t : Table) (file : Bytes) → AreExactFiles tables (take i files)
+    → slice_get files i ≡ Some file → IsTableFile t file → TakesMemoryForTables files
+first_taken tables [] i t file are there is = absurd (let e : _ = there in cc)
+first_taken tables (f ∷ files) zero t file are there is = (t, subst (IsTableFile t) (let e : Some f ≡ Some file = there in cc) is)
+first_taken [] (f ∷ files) (suc i) t file are there is = absurd are
+first_taken (u ∷ tables) (f ∷ files) (suc i) t file are there is = (u, are.0.is_file)
+
+-- all files of exact tables, of which there are some, take memory
+pub some_taken : (tables : List Table) (files : List Bytes) → 0 < length tables → AreExactFiles tables files → TakesMemoryForTables files
+some_taken [] files low are = absurd (omega arith)
+some_taken (t ∷ tables) [] low are = absurd are
+some_taken (t ∷ tables) (file ∷ files) low are = (t, are.0.is_file)
+
+-- what keeps one file's table away keeps away those of all
+pub cause_for_tables : (tables : List Table) (files : List Bytes) (i expected : ℕ) (file : Bytes) (cause : Fault) → AreExactFiles tables (take i files)
+    → slice_get files i ≡ Some file → expected ≡ length tables → IsCauseForFile cause expected file → IsCauseForTables cause files
+cause_for_tables tables files i expected file (fault.TableOf number refused) are there counted is =
+    let low : i < length files = slice_get_within files i file there in
+    let before : length tables ≡ i = exact-length tables (take i files) are ∙ length-take-le i files (omega arith) in
+    let same : number ≡ i = is.0 ∙ counted ∙ before in
+    record {
+      file = file;
+      there = ap (slice_get files) same ∙ there;
+      fault = is.1;
+      tables = tables;
+      before = subst (λ k. AreExactFiles tables (take k files)) (sym same) are;
+    }
+cause_for_tables tables files i expected file fault.Memory are there counted is = first_taken tables files i is.0 file are there is.1
+cause_for_tables tables files i expected file fault.P1 are there counted is = absurd is
+cause_for_tables tables files i expected file (fault.Board refused) are there counted is = absurd is
+cause_for_tables tables files i expected file (fault.Moves refused) are there counted is = absurd is
+cause_for_tables tables files i expected file (fault.Table refused) are there counted is = absurd is
+cause_for_tables tables files i expected file (fault.Sets refused) are there counted is = absurd is
+cause_for_tables tables files i expected file (fault.Log refused) are there counted is = absurd is
+cause_for_tables tables files i expected file (fault.O1 solution bound) are there counted is = absurd is

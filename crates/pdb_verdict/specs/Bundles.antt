@@ -1,0 +1,49 @@
+-- Bundles of table files and a set text.
+use Rattle.std.specs.Prelude.{◌≡◌, ⊤, ℕ, List, [], ◌∷◌, Some, slice_get, take}
+use Rattle.tab_file.specs.TableFiles.{IsTableFile}
+use Rattle.tab_file.specs.Tables.{Table}
+use Rattle.tab_check.specs.ExactTables.{IsExactFile}
+use Rattle.tab_check.specs.TableFaults as table_fault
+use Rattle.tab_check.specs.declared.tables.TableRefusal.{TableRefusal}
+use Rattle.set_sum.specs.Bundles.{BundleView}
+use Rattle.set_sum.specs.Reading as reading
+use Rattle.set_sum.specs.declared.faults.SetFault.{SetFault}
+use Rattle.pdb_io.specs.Shelves.{Bytes}
+
+-- ---- what a bundle is
+
+-- each file is that of the exact table in its place
+abbrev pub AreExactFiles : List Table → List Bytes → Type 0
+AreExactFiles [] [] = ⊤
+AreExactFiles [] (file ∷ files) = ⊥
+AreExactFiles (table ∷ tables) [] = ⊥
+AreExactFiles (table ∷ tables) (file ∷ files) = IsExactFile table file × AreExactFiles tables files
+
+-- the files are those of exact tables, and these and the set text make this bundle
+pub record IsBundleOfFiles (files : List Bytes) (sets : Bytes) (bundle : BundleView) : Type 0 where
+  pub tables : List Table
+  pub exact : AreExactFiles tables files
+  pub makes : reading.IsBundleOf tables sets bundle
+
+-- ---- why there is none: the first table file that is refused, and then what is wrong with the tables and the set text
+
+-- the file with this number, from 0, is refused for this, and those before it are of exact tables
+pub record IsFirstRefused (files : List Bytes) (number : ℕ) (refused : TableRefusal) : Type 0 where
+  pub file : Bytes
+  pub there : slice_get files number ≡ Some file
+  pub fault : table_fault.IsFaultOf refused file
+  pub tables : List Table
+  pub before : AreExactFiles tables (take number files)
+
+-- all files are of exact tables, and with these the set text is refused for this
+pub record AreRefusedSets (files : List Bytes) (sets : Bytes) (refused : SetFault) : Type 0 where
+  pub tables : List Table
+  pub exact : AreExactFiles tables files
+  pub fault : reading.IsFaultOf refused tables sets
+
+-- ---- memory
+
+-- to check files takes memory once the first is a table file
+abbrev pub TakesMemoryForTables : List Bytes → Type 0
+TakesMemoryForTables [] = ⊥
+TakesMemoryForTables (file ∷ files) = (table : Table) × IsTableFile table file

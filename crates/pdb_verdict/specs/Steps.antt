@@ -1,0 +1,31 @@
+-- What the steps of a check of a log answer: a result, or want of memory in its place.
+use Rattle.std.specs.Prelude.{◌≡◌, ◌⊎◌, ℕ, List, Result, Err}
+use Rattle.tab_file.specs.TableFiles.{IsTableFile}
+use Rattle.tab_file.specs.Tables.{Table}
+use Rattle.tab_check.specs.TableFaults.{IsFaultOf}
+use Rattle.pdb_io.specs.Shelves.{Bytes}
+use Rattle.pdb_verdict.specs.Bounds.{IsBoundFor}
+use Rattle.pdb_verdict.specs.Bundles.{AreRefusedSets, IsFirstRefused, TakesMemoryForTables}
+use Rattle.pdb_verdict.specs.declared.verdict.Fault.{Fault}
+use Rattle.pdb_verdict.specs.declared.verdict.Fault.TheVariants as fault
+
+-- why there isn't the table of the file with this number: it is refused, or want of memory, which comes of table files alone
+abbrev pub IsCauseForFile : Fault → ℕ → Bytes → Type 0
+IsCauseForFile (fault.TableOf number refused) expected file = (number ≡ expected) × IsFaultOf refused file
+IsCauseForFile fault.Memory expected file = (table : Table) × IsTableFile table file
+IsCauseForFile cause expected file = ⊥
+
+-- why there aren't the tables of all files: the first that is refused, or want of memory
+abbrev pub IsCauseForTables : Fault → List Bytes → Type 0
+IsCauseForTables (fault.TableOf number refused) files = IsFirstRefused files number refused
+IsCauseForTables fault.Memory files = TakesMemoryForTables files
+IsCauseForTables cause files = ⊥
+
+-- why there isn't a bundle of the files and the set text: as before, or the set text
+abbrev pub IsCauseForBundle : Fault → List Bytes → Bytes → Type 0
+IsCauseForBundle (fault.Sets refused) files sets = AreRefusedSets files sets refused
+IsCauseForBundle cause files sets = IsCauseForTables cause files
+
+-- the bound for a board, or why there is none, or want of memory
+abbrev pub IsFoundFor : List ℕ → Bytes → Bytes → List Bytes → Result ℕ Fault → Type 0
+IsFoundFor board sets log tables found = IsBoundFor board sets log tables found ⊎ (TakesMemoryForTables tables × (found ≡ Err fault.Memory))

@@ -1,0 +1,310 @@
+-- Tables and a set text make a bundle or have a fault.
+use Rattle.std.proofs.Common.{◌≡◌, ◌≢◌, ℕ, zero, suc, ◌+◌, ◌<◌, ◌≤◌, ◌⊎◌, Bool, true, false, List, [], ◌∷◌, ◌++◌, length, map, inl, inr, refl, sym, ◌∙◌, ap, subst, arith, length-append}
+use Rattle.std.specs.Prelude.{Any, ◌==◌}
+use Rattle.std.specs.List.{AllByRecursion}
+use Rattle.std.proofs.lemmas.Bool.{cases_eq, cases_lt, eqb-true, eq-eqb}
+use Rattle.std.proofs.lemmas.List.{append-nil, append_cancel_left}
+use Rattle.std.proofs.lemmas.List.Folds.{Any-from_list_any, list_any-from_Any}
+use Rattle.puz_board.specs.Costs.{is_one_of}
+use Rattle.pat_place.specs.Patterns.{IsAscending}
+use Rattle.tab_file.specs.Tables.{Table}
+use Rattle.set_sum.specs.Bundles.{BundleView}
+use Rattle.set_sum.specs.Reading.{AreAlike, AreFew, AreSets, IsBundleOf, IsFaultOf, IsFirstWith, NamesNoTable, NamesOverlap, first_side, members, patterns_of}
+use Rattle.set_sum.specs.SetTexts.{AreLines, BeginsWithNoLine, IsFirstBadLine, IsLine, line_of, lines_of, numbers_text, numeral}
+use Rattle.set_sum.specs.Sums.{HaveOverlap, Overlap}
+use Rattle.set_sum.specs.declared.faults.SetFault.{SetFault}
+use Rattle.set_sum.specs.declared.faults.SetFault.TheVariants.{S1, S2, S3, S4, S5}
+use Rattle.set_sum.proofs.AnyLemmas.{Any-cases, Any-here, Any-later, Any-none, Any-weaker}
+use Rattle.set_sum.proofs.LineLemmas.{line_of-text, lines_of-cons}
+use Rattle.set_sum.proofs.ListLemmas.{all_weaker}
+use Rattle.set_sum.proofs.NumeralLemmas.{head_is, numbers_text-cons, tail_is}
+
+-- ---- what can be decided
+
+abbrev Decided : Type 0 → Type 0
+Decided P = P ⊎ (¬ P)
+
+is_true_decided : (b : Bool) → Decided (b ≡ true)
+is_true_decided true = inl refl
+is_true_decided false = inr (λ e. cc)
+
+any_decided : {X : Type 0} (P : X → Type 0) → ((x : X) → Decided (P x)) → (xs : List X) → Decided (Any P xs)
+any_decided P dec [] = inr (Any-none P)
+any_decided P dec (x ∷ xs) = elim (dec x) [
+  | inl here ↦ inl (Any-here P x xs here)
+  | inr not_here ↦ elim (any_decided P dec xs) [
+    | inl later ↦ inl (Any-later P x xs later)
+    | inr not_later ↦ inr (λ any. elim (Any-cases P x xs any) [ inl h ↦ not_here h | inr h ↦ not_later h ])
+  ]
+]
+
+-- each element lacks what is decided, or there is a first one that has it
+first_or_none : {X : Type 0} (Has : X → Type 0) → ((x : X) → Decided (Has x)) → (xs : List X) → AllByRecursion (λ x. ¬ Has x) xs ⊎ ((i : ℕ) × IsFirstWith Has xs i)
+first_or_none Has dec [] = inl tt
+first_or_none Has dec (x ∷ xs) = elim (dec x) [
+  | inl here ↦ inr (0, record { item = x; is_item = refl; has = here; first = tt })
+  | inr not_here ↦ elim (first_or_none Has dec xs) [
+    | inl none ↦ inl (not_here, none)
+    | inr h ↦ inr (suc h.0, record { item = h.1.item; is_item = h.1.is_item; has = h.1.has; first = (not_here, h.1.first) })
+  ]
+]
+
+-- ---- whether a line begins a text
+
+abbrev BeginsWith : List ℕ → List ℕ → Type 0
+BeginsWith xs text = (rest : List ℕ) × (text ≡ xs ++ rest)
+
+begins_decided : (xs text : List ℕ) → Decided (BeginsWith xs text)
+begins_decided [] text = inl (text, refl)
+begins_decided (x ∷ xs) [] = inr (λ h. let e : _ = h.1 in cc)
+begins_decided (x ∷ xs) (y ∷ text) = elim (cases_eq x y) [
+  | inl same ↦ elim (begins_decided xs text) [
+    | inl h ↦ inl (h.0, λ i. sym same i ∷ h.1 i)
+    | inr none ↦ inr (λ h. none (h.0, tail_is y x text (xs ++ h.0) h.1))
+  ]
+  | inr other ↦ inr (λ h. other (sym (head_is y x text (xs ++ h.0) h.1)))
+]
+
+-- the text begins with the rest of a line, whose numbers ascend from `low` on
+record EndsLine (low : ℕ) (text : List ℕ) : Type 0 where
+  numbers : List ℕ
+  behind : List ℕ
+  from_low : AllByRecursion (λ n. low ≤ n) numbers
+  short : AllByRecursion (λ n. n < 100) numbers
+  ascending : IsAscending numbers
+  whole : text ≡ numbers_text numbers ++ 10 ∷ behind
+
+-- its first number is `low`, or all are above
+from_next : (low : ℕ) (text numbers behind : List ℕ) → AllByRecursion (λ n. low ≤ n) numbers → AllByRecursion (λ n. n < 100) numbers → IsAscending numbers
+    → text ≡ numbers_text numbers ++ 10 ∷ behind → ((t : List ℕ) × (text ≡ 32 ∷ (numeral low ++ t)) × EndsLine (low + 1) t) ⊎ EndsLine (low + 1) text
+from_next low text [] behind from_low short ascending whole =
+    inr (record { numbers = []; behind = behind; from_low = tt; short = tt; ascending = tt; whole = whole })
+from_next low text (n ∷ ns) behind from_low short ascending whole = elim (cases_eq n low) [
+  | inl same ↦ inl (
+    numbers_text ns ++ 10 ∷ behind,
+    whole ∙ numbers_text-cons n ns (10 ∷ behind) ∙ ap (λ k. 32 ∷ (numeral k ++ (numbers_text ns ++ 10 ∷ behind))) same,
+    record {
+      numbers = ns;
+      behind = behind;
+      from_low = all_weaker (λ y. n < y) (λ y. low + 1 ≤ y) (λ y up. omega arith) ns ascending.0;
+      short = short.1;
+      ascending = ascending.1;
+      whole = refl;
+    },
+  )
+  | inr other ↦ inr (let first : low ≤ n = from_low.0 in record {
+    numbers = n ∷ ns;
+    behind = behind;
+    from_low = (omega arith, all_weaker (λ y. n < y) (λ y. low + 1 ≤ y) (λ y up. omega arith) ns ascending.0);
+    short = short;
+    ascending = ascending;
+    whole = whole;
+  })
+]
+
+-- so it is decided from the greatest number down
+ends_decided : (k low : ℕ) → low + k ≡ 100 → (text : List ℕ) → Decided (EndsLine low text)
+ends_decided zero low all text = elim (begins_decided (10 ∷ []) text) [
+  | inl h ↦ inl (record { numbers = []; behind = h.0; from_low = tt; short = tt; ascending = tt; whole = h.1 })
+  | inr none ↦ inr (λ e. no_more none e.numbers e.behind e.from_low e.short e.whole)
+]
+  where
+    no_more : ¬ BeginsWith (10 ∷ []) text → (numbers behind : List ℕ) → AllByRecursion (λ n. low ≤ n) numbers → AllByRecursion (λ n. n < 100) numbers → text ≡ numbers_text numbers ++ 10 ∷ behind → ⊥
+    no_more none [] behind from_low short whole = none (behind, whole)
+    no_more none (n ∷ ns) behind from_low short whole = let first : low ≤ n = from_low.0 in let high : n < 100 = short.0 in omega arith
+ends_decided (suc k) low all text = elim (ends_decided k (low + 1) (omega arith) text) [
+  | inl e ↦ inl (record {
+    numbers = e.numbers;
+    behind = e.behind;
+    from_low = all_weaker (λ n. low + 1 ≤ n) (λ n. low ≤ n) (λ n up. omega arith) e.numbers e.from_low;
+    short = e.short;
+    ascending = e.ascending;
+    whole = e.whole;
+  })
+  | inr above ↦ elim (begins_decided (32 ∷ numeral low) text) [
+    | inr none ↦ inr (λ e. elim (from_next low text e.numbers e.behind e.from_low e.short e.ascending e.whole) [ inl h ↦ none (h.0, h.1) | inr h ↦ above h ])
+    | inl h ↦ elim (ends_decided k (low + 1) (omega arith) h.0) [
+      | inl e ↦ inl (record {
+        numbers = low ∷ e.numbers;
+        behind = e.behind;
+        from_low = (omega arith, all_weaker (λ n. low + 1 ≤ n) (λ n. low ≤ n) (λ n up. omega arith) e.numbers e.from_low);
+        short = (omega arith, e.short);
+        ascending = (all_weaker (λ n. low + 1 ≤ n) (λ n. low < n) (λ n up. omega arith) e.numbers e.from_low, e.ascending);
+        whole = h.1 ∙ ap (λ t. 32 ∷ (numeral low ++ t)) e.whole ∙ sym (numbers_text-cons low e.numbers (10 ∷ e.behind));
+      })
+      | inr none ↦ inr (λ e. elim (from_next low text e.numbers e.behind e.from_low e.short e.ascending e.whole) [
+        | inl g ↦ none (subst (EndsLine (low + 1)) (append_cancel_left (32 ∷ numeral low) g.0 h.0 (sym g.1 ∙ h.1)) g.2)
+        | inr g ↦ above g
+      ])
+    ]
+  ]
+]
+
+-- a line at the front of a text
+record HasLine (text : List ℕ) : Type 0 where
+  numbers : List ℕ
+  behind : List ℕ
+  is_line : IsLine numbers
+  whole : text ≡ line_of numbers ++ behind
+
+-- the word `set`, and then the rest of a line with a number
+line_decided : (text : List ℕ) → Decided (HasLine text)
+line_decided text = elim (begins_decided (115 ∷ 101 ∷ 116 ∷ []) text) [
+  | inr none ↦ inr (λ h. none (numbers_text h.numbers ++ 10 ∷ h.behind, h.whole ∙ line_of-text h.numbers h.behind))
+  | inl word ↦ elim (ends_decided 100 0 refl word.0) [
+    | inr none ↦ inr (λ h. let line = h.is_line in none (record {
+      numbers = h.numbers;
+      behind = h.behind;
+      from_low = all_weaker (λ n. n < 100) (λ n. 0 ≤ n) (λ n short. omega arith) h.numbers line.short;
+      short = line.short;
+      ascending = line.ascending;
+      whole = behind_word word.0 h.numbers h.behind (sym word.1 ∙ h.whole);
+    }))
+    | inl e ↦ by_numbers word.0 word.1 e.numbers e.behind e.short e.ascending e.whole
+  ]
+]
+  where
+    behind_word : (rest numbers behind : List ℕ) → 115 ∷ 101 ∷ 116 ∷ rest ≡ line_of numbers ++ behind → rest ≡ numbers_text numbers ++ 10 ∷ behind
+    behind_word rest numbers behind same = append_cancel_left (115 ∷ 101 ∷ 116 ∷ []) rest (numbers_text numbers ++ 10 ∷ behind) (same ∙ line_of-text numbers behind)
+
+    no_numbers : (rest behind numbers other : List ℕ) → rest ≡ 10 ∷ behind → 0 < length numbers → rest ≡ numbers_text numbers ++ 10 ∷ other → ⊥
+    no_numbers rest behind [] other is some same = omega arith
+    no_numbers rest behind (n ∷ ns) other is some same =
+        let first = head_is 10 32 behind (numeral n ++ (numbers_text ns ++ 10 ∷ other)) (sym is ∙ same ∙ numbers_text-cons n ns (10 ∷ other)) in omega arith
+
+    by_numbers : (rest : List ℕ) → text ≡ 115 ∷ 101 ∷ 116 ∷ rest → (numbers behind : List ℕ) → AllByRecursion (λ n. n < 100) numbers → IsAscending numbers
+        → rest ≡ numbers_text numbers ++ 10 ∷ behind → Decided (HasLine text)
+    by_numbers rest word [] behind short ascending whole =
+        inr (λ h. let line = h.is_line in no_numbers rest behind h.numbers h.behind whole line.some (behind_word rest h.numbers h.behind (sym word ∙ h.whole)))
+    by_numbers rest word (n ∷ ns) behind short ascending whole = inl (record {
+      numbers = n ∷ ns;
+      behind = behind;
+      is_line = record { some = omega arith; short = short; ascending = ascending };
+      whole = word ∙ ap (λ t. 115 ∷ 101 ∷ 116 ∷ t) whole ∙ sym (line_of-text (n ∷ ns) behind);
+    })
+
+-- ---- the lines of a text, as far as lines go
+
+record HasLines (text : List ℕ) : Type 0 where
+  lines : List (List ℕ)
+  rest : List ℕ
+  are_lines : AllByRecursion IsLine lines
+  whole : text ≡ lines_of lines ++ rest
+  bad : BeginsWithNoLine rest
+
+shorter : (text numbers behind : List ℕ) → text ≡ line_of numbers ++ behind → length behind < length text
+shorter text numbers behind whole =
+    let size : length text ≡ length (115 ∷ 101 ∷ 116 ∷ (numbers_text numbers ++ 10 ∷ behind)) = ap length (whole ∙ line_of-text numbers behind) in
+    let parts : length (numbers_text numbers ++ 10 ∷ behind) ≡ length (numbers_text numbers) + length (10 ∷ behind) = length-append (numbers_text numbers) (10 ∷ behind) in
+    omega arith
+
+no_lines : (text : List ℕ) → ¬ HasLine text → HasLines text
+no_lines text none = record {
+  lines = [];
+  rest = text;
+  are_lines = tt;
+  whole = refl;
+  bad = λ numbers behind is_line whole. none (record { numbers = numbers; behind = behind; is_line = is_line; whole = whole });
+}
+
+one_line_more : (text : List ℕ) (first : HasLine text) → HasLines first.behind → HasLines text
+one_line_more text first others = record {
+  lines = first.numbers ∷ others.lines;
+  rest = others.rest;
+  are_lines = (first.is_line, others.are_lines);
+  whole = first.whole ∙ ap (λ t. line_of first.numbers ++ t) others.whole ∙ sym (lines_of-cons first.numbers others.lines others.rest);
+  bad = others.bad;
+}
+
+lines_found : (most : ℕ) (text : List ℕ) → length text ≤ most → HasLines text
+lines_found zero text low = elim (line_decided text) [
+  | inr none ↦ no_lines text none
+  | inl first ↦ let less = shorter text first.numbers first.behind first.whole in absurd (omega arith)
+]
+lines_found (suc most) text low = elim (line_decided text) [
+  | inr none ↦ no_lines text none
+  | inl first ↦ let less = shorter text first.numbers first.behind first.whole in one_line_more text first (lines_found most first.behind (omega arith))
+]
+
+-- a text is one of lines, or has a first bad one
+lines_or_bad : (text : List ℕ) → ((sets : List (List ℕ)) × AreLines text sets) ⊎ ((line : ℕ) × IsFirstBadLine text line)
+lines_or_bad text = let has = lines_found (length text) text (omega arith) in by_rest has.lines has.rest has.are_lines has.whole has.bad
+  where
+    bad_at : (lines : List (List ℕ)) (rest : List ℕ) → AllByRecursion IsLine lines → text ≡ lines_of lines ++ rest → BeginsWithNoLine rest → (length lines ≡ 0) ⊎ (rest ≢ []) → IsFirstBadLine text (length lines)
+    bad_at lines rest are_lines whole bad more = record { before = lines; rest = rest; number = refl; lines = are_lines; whole = whole; more = more; bad = bad }
+
+    by_rest : (lines : List (List ℕ)) (rest : List ℕ) → AllByRecursion IsLine lines → text ≡ lines_of lines ++ rest → BeginsWithNoLine rest
+        → ((sets : List (List ℕ)) × AreLines text sets) ⊎ ((line : ℕ) × IsFirstBadLine text line)
+    by_rest [] rest are_lines whole bad = inr (0, bad_at [] rest are_lines whole bad (inl refl))
+    by_rest (l ∷ ls) [] are_lines whole bad = inl (l ∷ ls, record { some = omega arith; lines = are_lines; whole = whole ∙ append-nil (lines_of (l ∷ ls)) })
+    by_rest (l ∷ ls) (r ∷ rs) are_lines whole bad = inr (length (l ∷ ls), bad_at (l ∷ ls) (r ∷ rs) are_lines whole bad (inr (λ e. cc)))
+
+-- ---- tables that overlap
+
+overlap_decided : (p q : List ℕ) → Decided (Overlap p q)
+overlap_decided p q = elim (any_decided (λ t. is_one_of q t ≡ true) (λ t. is_true_decided (is_one_of q t)) p) [
+  | inl any ↦ inl (any.1, list_any-from_Any (λ x. x == any.1) p (any.0, any.1, any.2, any.3, eq-eqb any.1 any.1 refl), any.4)
+  | inr none ↦ inr (λ h. none (Any-weaker (λ x. (x == h.0) ≡ true) (λ x. is_one_of q x ≡ true) (λ x same. subst (λ t. is_one_of q t ≡ true) (sym (eqb-true x h.0 same)) h.2) p (Any-from_list_any (λ x. x == h.0) p h.1)))
+]
+
+have_overlap_decided : (patterns : List (List ℕ)) → Decided (HaveOverlap patterns)
+have_overlap_decided [] = inr (λ h. h)
+have_overlap_decided (p ∷ ps) = elim (any_decided (Overlap p) (overlap_decided p) ps) [
+  | inl any ↦ inl (inl any)
+  | inr none ↦ elim (have_overlap_decided ps) [
+    | inl others ↦ inl (inr others)
+    | inr no_others ↦ inr (λ h. elim h [ inl any ↦ none any | inr others ↦ no_others others ])
+  ]
+]
+
+-- ---- tables and a text
+
+module _ (tables : List Table) (text : List ℕ) where
+  abbrev Answer : Type 0
+  Answer = ((v : BundleView) × IsBundleOf tables text v) ⊎ ((f : SetFault) × IsFaultOf f tables text)
+
+  sets_answer : AreAlike tables → (sets : List (List ℕ)) → AreSets text sets → Answer
+  sets_answer alike sets are = elim (first_or_none (NamesNoTable tables) (any_decided (λ i. length tables ≤ i) within) sets) [
+    | inr missing ↦ inr (S2 missing.0, (alike, sets, are, missing.1))
+    | inl there ↦ elim (first_or_none (NamesOverlap tables) (λ numbers. have_overlap_decided (members (patterns_of tables) numbers)) sets) [
+      | inr overlap ↦ inr (S3 overlap.0, (alike, sets, are, there, overlap.1))
+      | inl disjoint ↦ inl (
+        record { side = first_side tables; tables = length tables; sets = map (members (patterns_of tables)) sets },
+        record { alike = alike; sets = sets; are_sets = are; there = there; disjoint = disjoint; side = refl; counted = refl; members_are = refl },
+      )
+    ]
+  ]
+    where
+      within : (i : ℕ) → Decided (length tables ≤ i)
+      within i = elim (cases_lt i (length tables)) [ inl low ↦ inr (λ high. omega arith) | inr high ↦ inl high ]
+
+  lines_answer : AreAlike tables → (sets : List (List ℕ)) → AreLines text sets → Answer
+  lines_answer alike sets lines = elim (cases_lt 16 (length sets)) [
+    | inl many ↦ inr (S5, inr (alike, sets, lines, many))
+    | inr few ↦ sets_answer alike sets (record { lines = lines; few = few })
+  ]
+
+  text_answer : AreAlike tables → Answer
+  text_answer alike = elim (lines_or_bad text) [ inl are ↦ lines_answer alike are.0 are.1 | inr bad ↦ inr (S1 bad.0, (alike, bad.1)) ]
+
+  sides_answer : AreFew tables → Answer
+  sides_answer few = elim (first_or_none (λ t. t.pattern.side ≢ first_side tables) other_side tables) [
+    | inr first ↦ inr (S4 first.0, (few, first.1))
+    | inl none ↦ text_answer (record { count = few; one_side = all_weaker (λ t. ¬ (t.pattern.side ≢ first_side tables)) (λ t. t.pattern.side ≡ first_side tables) same_side tables none })
+  ]
+    where
+      other_side : (t : Table) → Decided (t.pattern.side ≢ first_side tables)
+      other_side t = elim (cases_eq t.pattern.side (first_side tables)) [ inl same ↦ inr (λ other. other same) | inr other ↦ inl other ]
+
+      same_side : (t : Table) → ¬ (t.pattern.side ≢ first_side tables) → t.pattern.side ≡ first_side tables
+      same_side t not_other = elim (cases_eq t.pattern.side (first_side tables)) [ inl same ↦ same | inr other ↦ absurd (not_other other) ]
+
+  -- a bundle or a fault
+  pub bundle_answer : Answer
+  bundle_answer = elim (cases_eq (length tables) 0) [
+    | inl none ↦ inr (S5, inl (inl none))
+    | inr some ↦ elim (cases_lt 16 (length tables)) [
+      | inl many ↦ inr (S5, inl (inr many))
+      | inr few ↦ sides_answer (record { some = omega arith; few = few })
+    ]
+  ]
