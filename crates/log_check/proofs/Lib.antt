@@ -1,4 +1,4 @@
-mod AnswerLemmas
+pub mod AnswerLemmas
 mod BoundLemmas
 mod BranchLemmas
 mod DecideLemmas

@@ -1,13 +1,14 @@
 -- The numbers by which runs end.
-use Rattle.std.proofs.Common.{◌≡◌, ◌⊎◌, ◌≤◌, inl, inr, refl, subst, lit≤, arith, ℕ, List, Option}
+use Rattle.std.proofs.Common.{◌≡◌, ◌⊎◌, ◌<◌, ◌≤◌, inl, inr, refl, subst, lit≤, arith, length, ℕ, List, Option}
 use Rattle.std.specs.Io.KnownBytes.{Keeps}
 use Rattle.pdb_io.specs.Shelves.{Bytes}
 use Rattle.pdb_run.specs.Plans.{Plan}
-use Rattle.pdb_run.specs.Runs.{Ends, IsAnswered, World}
+use Rattle.pdb_run.specs.Runs.{Ends, IsAnswered, World, no_memory}
 use Rattle.pdb_run.specs.Statuses.{number_of}
 use Rattle.pdb_run.specs.declared.status.Status.{Status}
 use Rattle.pdb_run.specs.declared.status.Status.TheVariants.{Yes, Refused, Fault, NoMemory}
 use Rattle.pdb_run.proofs.AnswerLemmas.{IsAnswered-ends}
+use Rattle.pdb_words.specs.Asked.{Asked, bound, optimal, replay, table}
 use Rattle.pdb_words.specs.CommandLine.{Parses, asked_of}
 use Rattle.pdb_words.specs.Faults.{IsMistaken}
 use Rattle.pdb_program.specs.Programs.{IsNumberOf, RunsOn, plan_of}
@@ -30,3 +31,23 @@ pub runs_on : (words other : List Bytes) (old new : World) (old_err new_err : Op
     → Keeps old_err new_err ⊎ IsMistaken words → new.files ≡ old.files → RunsOn other old new old_err new_err number
 runs_on words other old new old_err new_err number same ends refuses quiet files =
     subst (λ (all : List Bytes). RunsOn all old new old_err new_err number) same (record { ends = ends; refuses = refuses; quiet = quiet; same = files })
+
+-- ---- words that parse, where memory was refused
+
+-- something is read, whatever is asked for
+reads : (asked : Asked) → 0 < length (plan_of asked).inputs
+reads (replay name) = omega arith
+reads (table name workers) = omega arith
+reads (bound board sets log tables workers) = omega arith
+reads (optimal puzzle sets log tables workers) = omega arith
+
+-- what is said of a fault in words that parse is want of memory
+pub parsed_ends : (words : List Bytes) (old new : World) (old_err new_err : Option Bytes) (status : Status) → Parses words → new.files ≡ old.files
+    → Refuses words old.written new.written old_err new_err status → Ends (plan_of (asked_of words)) old new status
+parsed_ends words old new old_err new_err status parses files refuses = elim refuses [
+  | inl memory ↦ record { outcome = no_memory; cause = inl (reads (asked_of words)); files = files; said = memory.0 }
+  | inr others ↦ elim others [
+    | inl mistake ↦ absurd (rw parses at mistake.0.among)
+    | inr help ↦ absurd (rw parses at help.0)
+  ]
+]

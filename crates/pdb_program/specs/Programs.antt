@@ -6,9 +6,11 @@ use Rattle.pdb_run.specs.Plans.{Plan}
 use Rattle.pdb_run.specs.Runs.{Ends, World}
 use Rattle.pdb_run.specs.Statuses.{number_of}
 use Rattle.pdb_run.specs.declared.status.Status.{Status}
+use Rattle.pdb_verdict.specs.Bounds.{bound_plan}
+use Rattle.pdb_verdict.specs.Optima.{optimum_plan}
 use Rattle.pdb_verdict.specs.Replays.{replay_plan}
 use Rattle.pdb_verdict.specs.Tables.{table_plan}
-use Rattle.pdb_words.specs.Asked.{Asked, replay, table}
+use Rattle.pdb_words.specs.Asked.{Asked, bound, optimal, replay, table}
 use Rattle.pdb_words.specs.CommandLine.{Parses, asked_of}
 use Rattle.pdb_words.specs.Faults.{IsMistaken}
 use Rattle.pdb_program.specs.Refusals.{Refuses}
@@ -17,6 +19,8 @@ use Rattle.pdb_program.specs.Refusals.{Refuses}
 abbrev pub plan_of : Asked → Plan
 plan_of (replay name) = replay_plan name
 plan_of (table name workers) = table_plan name
+plan_of (bound board sets log tables workers) = bound_plan board sets log tables
+plan_of (optimal puzzle sets log tables workers) = optimum_plan puzzle sets log tables
 
 -- the number is that of a status of which this holds
 abbrev pub IsNumberOf : (Status → Type 0) → ℕ → Type 0

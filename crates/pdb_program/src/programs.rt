@@ -11,8 +11,8 @@ ghost use Rattle.pdb_program.specs.Refusals.{Refuses};
 use crate::refusals::explain;
 use pdb_io::shelf::Shelf;
 use pdb_run::Status;
-use pdb_verdict::{Workers, run_replay, run_table};
-use pdb_words::{Request, read_words};
+use pdb_verdict::{ClaimNames, Workers, run_bound, run_optimal, run_replay, run_table};
+use pdb_words::{LogCheck, Request, read_words};
 use std::alloc::Global;
 use std::io::{Read, Write};
 use std::sync::Wait;
@@ -57,15 +57,15 @@ pub fn run<H: Threads + Wait, S: Shelf, R: Read, W: Write, E: Write, G: Gate + S
 }
 
 /// Does what the words ask for.
-fn answer<H: Threads + Wait, S: Shelf, R: Read, W: Write, E: Write, G: Gate + Sync>(
-    rt: &H,
+fn answer<'w, H: Threads + Wait, S: Shelf, R: Read, W: Write, E: Write, G: Gate + Sync>(
+    rt: &'w H,
     alloc: Global,
     words: &[String],
     shelf: &mut S,
     reader: &mut R,
     out: &mut W,
     err: &mut E,
-    gate: &G,
+    gate: &'w G,
 ) -> Status
     ensures ends { let words = map string_bytes words.now in Parses words
         → Ends (plan_of (asked_of words))
@@ -82,6 +82,29 @@ fn answer<H: Threads + Wait, S: Shelf, R: Read, W: Write, E: Write, G: Gate + Sy
             let workers = Workers::new(rt, workers, gate);
             run_table(alloc, file, &workers, shelf, reader, out)
         }
+        Ok(Request::Bound(check)) => {
+            let workers = Workers::new(rt, check.workers, gate);
+            run_bound(alloc, names_in(&check), &workers, shelf, reader, out)
+        }
+        Ok(Request::Optimal(check)) => {
+            let workers = Workers::new(rt, check.workers, gate);
+            run_optimal(alloc, names_in(&check), &workers, shelf, reader, out)
+        }
         Err(fault) => explain(fault, out, err),
+    }
+}
+
+/// The names of the files that the check of a log reads.
+fn names_in<'t, 'n>(check: &'t LogCheck<'n>) -> ClaimNames<'t, 'n>
+    ensures claim { result.text.now ≡ check.now.claim.now }
+    ensures sets { result.sets.now ≡ check.now.sets.now }
+    ensures log { result.log.now ≡ check.now.log.now }
+    ensures tables { result.tables.now ≡ check.now.tables.items }
+{
+    ClaimNames {
+        text: check.claim,
+        sets: check.sets,
+        log: check.log,
+        tables: check.tables.as_slice(),
     }
 }
