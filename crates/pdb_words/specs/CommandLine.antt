@@ -65,6 +65,10 @@ faults_of words = fault_of command_line words
 abbrev pub Parses : List Text → Type 0
 Parses words = faults_of words ≡ []
 
+-- the words parse, and ask for this
+abbrev pub AsksFor : List Text → Asked → Type 0
+AsksFor words asked = Parses words × (asked_of words ≡ asked)
+
 -- there is no word, a command's name comes first, or `--` stands alone
 abbrev pub BeginsWithCommand : List Text → Type 0
 BeginsWithCommand [] = ⊤

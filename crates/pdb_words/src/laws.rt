@@ -1,35 +1,31 @@
 //! What holds of all words. Each function here says it, and does nothing.
 
-ghost use Rattle.std.specs.Prelude.{◌≡◌, ◌≢◌, ◌∷◌, ◌++◌, [], ℕ, List, None, Some, codes, nat_eq, false, true};
+ghost use Rattle.std.specs.Prelude.{◌≡◌, ◌≢◌, ◌∷◌, ◌++◌, [], ℕ, List, None, Some, codes, false, true};
 ghost use Rattle.std.specs.List.{All};
 ghost use Rattle.pdb_words.specs.Asked.{bound, optimal, replay, table};
-ghost use Rattle.pdb_words.specs.CommandLine.{AreNames, BeginsWithCommand, IsCommand, IsLongFlag, IsOneOf, IsPlain, Parses, asked_of, shared_commands};
+ghost use Rattle.pdb_words.specs.CommandLine.{AreNames, AsksFor, BeginsWithCommand, IsCommand, IsLongFlag, IsOneOf, IsPlain, Parses, shared_commands};
 ghost use Rattle.pdb_words.specs.Faults.{IsMistaken};
 ghost use Rattle.pdb_words.specs.Workers.{number_of, writes_workers};
 
 /// No words, and `replay` alone, ask for standard input, and `replay` with a name for that file.
 pub fn what_replay_asks()
-    ensures nothing { Parses [] × (asked_of [] ≡ replay None) }
-    ensures alone { Parses (codes "replay" ∷ []) × (asked_of (codes "replay" ∷ []) ≡ replay None) }
-    ensures file { (name : List ℕ) → IsPlain name → let words = codes "replay" ∷ name ∷ [] in
-        Parses words × (asked_of words ≡ replay (Some name)) }
+    ensures nothing { AsksFor [] (replay None) }
+    ensures alone { AsksFor (codes "replay" ∷ []) (replay None) }
+    ensures file { (name : List ℕ) → IsPlain name → AsksFor (codes "replay" ∷ name ∷ []) (replay (Some name)) }
     ensures workers { (number : List ℕ) → IsMistaken (codes "replay" ∷ codes "--workers" ∷ number ∷ []) }
 {}
 
 /// `table` with a name asks for that table, checked by one worker, or by as many as `--workers` says, before the name
 /// or behind it.
 pub fn what_table_asks()
-    ensures file { (name : List ℕ) → IsPlain name → let words = codes "table" ∷ name ∷ [] in
-        Parses words × (asked_of words ≡ table name 1) }
+    ensures file { (name : List ℕ) → IsPlain name → AsksFor (codes "table" ∷ name ∷ []) (table name 1) }
     ensures alone { IsMistaken (codes "table" ∷ []) }
     ensures workers { (number name : List ℕ) → IsPlain number → IsPlain name → writes_workers number ≡ true
-        → let words = codes "table" ∷ codes "--workers" ∷ number ∷ name ∷ [] in
-        Parses words × (asked_of words ≡ table name (number_of number)) }
+        → AsksFor (codes "table" ∷ codes "--workers" ∷ number ∷ name ∷ []) (table name (number_of number)) }
     ensures other_workers { (number name : List ℕ) → IsPlain number → IsPlain name → writes_workers number ≡ false
         → IsMistaken (codes "table" ∷ codes "--workers" ∷ number ∷ name ∷ []) }
     ensures workers_last { (number name : List ℕ) → IsPlain number → IsPlain name → writes_workers number ≡ true
-        → let words = codes "table" ∷ name ∷ codes "--workers" ∷ number ∷ [] in
-        Parses words × (asked_of words ≡ table name (number_of number)) }
+        → AsksFor (codes "table" ∷ name ∷ codes "--workers" ∷ number ∷ []) (table name (number_of number)) }
     ensures other_workers_last { (number name : List ℕ) → IsPlain number → IsPlain name → writes_workers number ≡ false
         → IsMistaken (codes "table" ∷ name ∷ codes "--workers" ∷ number ∷ []) }
 {}
@@ -38,21 +34,20 @@ pub fn what_table_asks()
 /// the board: the tables in their order, checked by one worker, or by as many as `--workers` says, first or last.
 pub fn what_bound_asks()
     ensures files { (board sets log table : List ℕ) (tables : List (List ℕ)) → AreNames (board ∷ sets ∷ log ∷ table ∷ tables)
-        → let words = codes "bound" ∷ board ∷ sets ∷ log ∷ table ∷ tables in
-        Parses words × (asked_of words ≡ bound board sets log (table ∷ tables) 1) }
+        → AsksFor (codes "bound" ∷ board ∷ sets ∷ log ∷ table ∷ tables) (bound board sets log (table ∷ tables) 1) }
     ensures no_tables { (board sets log : List ℕ) → IsPlain board → IsPlain sets → IsPlain log
         → IsMistaken (codes "bound" ∷ board ∷ sets ∷ log ∷ []) }
     ensures workers { (number board sets log table : List ℕ) (tables : List (List ℕ)) → IsPlain number → AreNames (board ∷ sets ∷ log ∷ table ∷ tables)
         → writes_workers number ≡ true
-        → let words = codes "bound" ∷ codes "--workers" ∷ number ∷ board ∷ sets ∷ log ∷ table ∷ tables in
-        Parses words × (asked_of words ≡ bound board sets log (table ∷ tables) (number_of number)) }
+        → AsksFor (codes "bound" ∷ codes "--workers" ∷ number ∷ board ∷ sets ∷ log ∷ table ∷ tables)
+        (bound board sets log (table ∷ tables) (number_of number)) }
     ensures other_workers { (number board sets log table : List ℕ) (tables : List (List ℕ)) → IsPlain number → AreNames (board ∷ sets ∷ log ∷ table ∷ tables)
         → writes_workers number ≡ false
         → IsMistaken (codes "bound" ∷ codes "--workers" ∷ number ∷ board ∷ sets ∷ log ∷ table ∷ tables) }
     ensures workers_last { (number board sets log table : List ℕ) (tables : List (List ℕ)) → IsPlain number → AreNames (board ∷ sets ∷ log ∷ table ∷ tables)
         → writes_workers number ≡ true
-        → let words = codes "bound" ∷ board ∷ sets ∷ log ∷ table ∷ tables ++ codes "--workers" ∷ number ∷ [] in
-        Parses words × (asked_of words ≡ bound board sets log (table ∷ tables) (number_of number)) }
+        → AsksFor (codes "bound" ∷ board ∷ sets ∷ log ∷ table ∷ tables ++ codes "--workers" ∷ number ∷ [])
+        (bound board sets log (table ∷ tables) (number_of number)) }
     ensures other_workers_last { (number board sets log table : List ℕ) (tables : List (List ℕ)) → IsPlain number → AreNames (board ∷ sets ∷ log ∷ table ∷ tables)
         → writes_workers number ≡ false
         → IsMistaken (codes "bound" ∷ board ∷ sets ∷ log ∷ table ∷ tables ++ codes "--workers" ∷ number ∷ []) }
@@ -62,21 +57,20 @@ pub fn what_bound_asks()
 /// solution.
 pub fn what_optimal_asks()
     ensures files { (puzzle sets log table : List ℕ) (tables : List (List ℕ)) → AreNames (puzzle ∷ sets ∷ log ∷ table ∷ tables)
-        → let words = codes "optimal" ∷ puzzle ∷ sets ∷ log ∷ table ∷ tables in
-        Parses words × (asked_of words ≡ optimal puzzle sets log (table ∷ tables) 1) }
+        → AsksFor (codes "optimal" ∷ puzzle ∷ sets ∷ log ∷ table ∷ tables) (optimal puzzle sets log (table ∷ tables) 1) }
     ensures no_tables { (puzzle sets log : List ℕ) → IsPlain puzzle → IsPlain sets → IsPlain log
         → IsMistaken (codes "optimal" ∷ puzzle ∷ sets ∷ log ∷ []) }
     ensures workers { (number puzzle sets log table : List ℕ) (tables : List (List ℕ)) → IsPlain number → AreNames (puzzle ∷ sets ∷ log ∷ table ∷ tables)
         → writes_workers number ≡ true
-        → let words = codes "optimal" ∷ codes "--workers" ∷ number ∷ puzzle ∷ sets ∷ log ∷ table ∷ tables in
-        Parses words × (asked_of words ≡ optimal puzzle sets log (table ∷ tables) (number_of number)) }
+        → AsksFor (codes "optimal" ∷ codes "--workers" ∷ number ∷ puzzle ∷ sets ∷ log ∷ table ∷ tables)
+        (optimal puzzle sets log (table ∷ tables) (number_of number)) }
     ensures other_workers { (number puzzle sets log table : List ℕ) (tables : List (List ℕ)) → IsPlain number → AreNames (puzzle ∷ sets ∷ log ∷ table ∷ tables)
         → writes_workers number ≡ false
         → IsMistaken (codes "optimal" ∷ codes "--workers" ∷ number ∷ puzzle ∷ sets ∷ log ∷ table ∷ tables) }
     ensures workers_last { (number puzzle sets log table : List ℕ) (tables : List (List ℕ)) → IsPlain number → AreNames (puzzle ∷ sets ∷ log ∷ table ∷ tables)
         → writes_workers number ≡ true
-        → let words = codes "optimal" ∷ puzzle ∷ sets ∷ log ∷ table ∷ tables ++ codes "--workers" ∷ number ∷ [] in
-        Parses words × (asked_of words ≡ optimal puzzle sets log (table ∷ tables) (number_of number)) }
+        → AsksFor (codes "optimal" ∷ puzzle ∷ sets ∷ log ∷ table ∷ tables ++ codes "--workers" ∷ number ∷ [])
+        (optimal puzzle sets log (table ∷ tables) (number_of number)) }
     ensures other_workers_last { (number puzzle sets log table : List ℕ) (tables : List (List ℕ)) → IsPlain number → AreNames (puzzle ∷ sets ∷ log ∷ table ∷ tables)
         → writes_workers number ≡ false
         → IsMistaken (codes "optimal" ∷ puzzle ∷ sets ∷ log ∷ table ∷ tables ++ codes "--workers" ∷ number ∷ []) }

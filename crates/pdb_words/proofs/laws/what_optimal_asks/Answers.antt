@@ -1,4 +1,5 @@
-use Rattle.pdb_words.proofs.LogLemmas.{files_asked, no_tables, on_puzzle, other_workers, other_workers_last, workers_asked, workers_last}
+use Rattle.pdb_words.proofs.LogWalkLemmas.{on_puzzle}
+use Rattle.pdb_words.proofs.LogLemmas.{files_asked, no_tables, other_workers, other_workers_last, workers_asked, workers_last}
 use Rattle.pdb_words.proofs.laws.what_optimal_asks.Goals as goal
 
 pub returns : goal.returns
