@@ -313,7 +313,7 @@ fn four_workers_check_four_lemmas_side_by_side(rt: HostRuntime) -> Result<(), Fa
     Ok(())
 }
 
-// Run with each allocation refused in turn.
+// Run with each allocation behind those of the bundle refused in turn.
 #[test]
 fn want_of_memory_is_answered_and_a_second_check_finds_the_bound(rt: HostRuntime) {
     let bundle = bundle(&rt, &[&TILES_12], b"set 0\n");
