@@ -1,9 +1,9 @@
-mod AnswerLemmas
+pub mod AnswerLemmas
 mod BoundLemmas
 mod BranchLemmas
 mod DecideLemmas
 mod FirstBadLemmas
-mod GoodLemmas
+pub mod GoodLemmas
 mod OpenLemmas
 mod NodeLemmas
 mod Pending
