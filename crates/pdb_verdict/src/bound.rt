@@ -27,11 +27,11 @@ use work_run::Gate;
 
 /// The command `bound`: the verdict on the log for the board under these names.
 #[derive(Clone, Copy)]
-struct Bound<'a> {
-    names: ClaimNames<'a>,
+struct Bound<'t, 'n> {
+    names: ClaimNames<'t, 'n>,
 }
 
-impl Command for Bound<'_> {
+impl Command for Bound<'_, '_> {
     ghost wanted = { λ command. bound_inputs command.names.text.now command.names.sets.now command.names.log.now (map (λ name. name.now) command.names.tables.now) };
 
     ghost MayReply = { λ _. IsBoundReply };
@@ -46,7 +46,7 @@ impl Command for Bound<'_> {
 /// A whole run of `bound`, whoever checks the tables and the log.
 pub fn run_bound<H: Threads + Wait, G: Gate + Sync, S: Shelf, R: Read, W: Write>(
     alloc: Global,
-    names: ClaimNames<'_>,
+    names: ClaimNames<'_, '_>,
     workers: &Workers<'_, H, G>,
     shelf: &mut S,
     reader: &mut R,

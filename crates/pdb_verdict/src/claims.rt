@@ -11,22 +11,22 @@ use std::alloc::{AllocError, Global};
 
 /// The names of the inputs of a claim on a log, in the order in which they are read.
 #[derive(Clone, Copy)]
-pub struct ClaimNames<'a> {
+pub struct ClaimNames<'t, 'n> {
     /// Of a board text for `bound`, and of a puzzle text for `optimal`.
-    pub text: &'a str,
+    pub text: &'n str,
     /// Of a set text.
-    pub sets: &'a str,
+    pub sets: &'n str,
     /// Of a log file.
-    pub log: &'a str,
+    pub log: &'n str,
     /// Of table files, which are numbered from 0.
-    pub tables: &'a [&'a str],
+    pub tables: &'t [&'n str],
 }
 
 /// The inputs under these names.
-pub(crate) fn claim_inputs<'a>(
+pub(crate) fn claim_inputs<'t, 'n>(
     alloc: Global,
-    names: &ClaimNames<'a>,
-) -> Result<Vec<Input<'a>>, AllocError>
+    names: &ClaimNames<'t, 'n>,
+) -> Result<Vec<Input<'n>>, AllocError>
     ensures { IfOk result (λ inputs. map wanted_of inputs.items
         ≡ bound_inputs names.now.text.now names.now.sets.now names.now.log.now (map (λ name. name.now) names.now.tables.now)) }
 {
@@ -39,7 +39,7 @@ pub(crate) fn claim_inputs<'a>(
 }
 
 /// Adds the table files under these names.
-fn push_tables<'a>(inputs: &mut Vec<Input<'a>>, names: &[&'a str]) -> Result<(), AllocError>
+fn push_tables<'n>(inputs: &mut Vec<Input<'n>>, names: &[&'n str]) -> Result<(), AllocError>
     ensures { OnOk result (map wanted_of inputs.new.items ≡ map wanted_of inputs.old.items ++ map a_table (map (λ name. name.now) names.now)) }
 {
     for name in names {

@@ -24,11 +24,11 @@ use work_run::Gate;
 
 /// The command `optimal`: the verdict on the moves and the log under these names.
 #[derive(Clone, Copy)]
-struct Optimal<'a> {
-    names: ClaimNames<'a>,
+struct Optimal<'t, 'n> {
+    names: ClaimNames<'t, 'n>,
 }
 
-impl Command for Optimal<'_> {
+impl Command for Optimal<'_, '_> {
     ghost wanted = { λ command. optimum_inputs command.names.text.now command.names.sets.now command.names.log.now (map (λ name. name.now) command.names.tables.now) };
 
     ghost MayReply = { λ _. IsOptimumReply };
@@ -43,7 +43,7 @@ impl Command for Optimal<'_> {
 /// A whole run of `optimal`, whoever checks the tables and the log.
 pub fn run_optimal<H: Threads + Wait, G: Gate + Sync, S: Shelf, R: Read, W: Write>(
     alloc: Global,
-    names: ClaimNames<'_>,
+    names: ClaimNames<'_, '_>,
     workers: &Workers<'_, H, G>,
     shelf: &mut S,
     reader: &mut R,
