@@ -3,7 +3,7 @@ mod BoundLemmas
 mod BranchLemmas
 mod DecideLemmas
 mod FirstBadLemmas
-mod GoodLemmas
+pub mod GoodLemmas
 mod OpenLemmas
 mod NodeLemmas
 mod Pending

@@ -10,6 +10,7 @@ use Rattle.tab_check.specs.TableFaults.{IsFaultOf}
 use Rattle.tab_check.specs.ExactTables.{IsExactFile}
 use Rattle.tab_check.specs.declared.tables.TableRefusal.{TableRefusal}
 use Rattle.tab_check.proofs.OneResultLemmas.{IsFaultOf-one, exact_one, exact_or_fault}
+use Rattle.set_sum.specs.Bounds.{IsBounded}
 use Rattle.set_sum.specs.Bundles.{BundleView}
 use Rattle.set_sum.specs.Reading as reading
 use Rattle.set_sum.specs.declared.faults.SetFault.{SetFault}
@@ -17,6 +18,8 @@ use Rattle.set_sum.proofs.AnswerLemmas.{bundle-no_fault, bundle-once, fault-once
 use Rattle.log_check.specs.GoodLogs.{IsGoodFile}
 use Rattle.log_check.specs.LogFaults as log_fault
 use Rattle.log_check.specs.declared.faults.LogRefusal.{LogRefusal}
+use Rattle.set_sum.proofs.BundleLemmas.{is_bundle}
+use Rattle.log_check.proofs.GoodLemmas.{good_log_bounds}
 use Rattle.log_check.proofs.AnswerLemmas.{good_or_fault, one_bound, one_fault}
 use Rattle.pdb_io.specs.Shelves.{Bytes}
 use Rattle.pdb_verdict.specs.Bounds.{IsBoundFor, IsBoundOfText, IsBoundResult, IsProvedBound, IsRefusedLog, IsResultOfBoard, of_bound}
@@ -25,6 +28,7 @@ use Rattle.pdb_verdict.specs.declared.verdict.Fault.{Fault}
 use Rattle.pdb_verdict.specs.declared.verdict.Fault.TheVariants as fault
 use Rattle.pdb_verdict.specs.declared.verdict.Verdict.{Verdict}
 use Rattle.pdb_verdict.specs.declared.verdict.Verdict.TheVariants as verdict
+use Rattle.pdb_verdict.proofs.BundleLemmas.{all_exact}
 use Rattle.pdb_verdict.proofs.ReplayLemmas.{no_yes}
 
 -- ---- tables
@@ -207,3 +211,12 @@ module _ (text sets log : Bytes) (files : List Bytes) where
 
   pub IsBoundResult-bound : (v : Verdict) → IsBoundResult text sets log files (Ok v) → (n : ℕ) × (v ≡ verdict.Bound n)
   IsBoundResult-bound v is = counted_by (board_of_text text) v is
+
+-- ---- what a bound says
+
+-- no solution has fewer moves
+pub proved_bounds : (board : List ℕ) (sets log : Bytes) (files : List Bytes) (n : ℕ) → IsProvedBound board sets log files n → IsBounded board n
+proved_bounds board sets log files n h =
+    let of_files = h.is_bundle in
+    let bundle = is_bundle of_files.tables sets h.bundle (all_exact of_files.tables files of_files.exact) of_files.makes in
+    good_log_bounds h.bundle bundle h.good.log log h.good.is_file board n h.good.good

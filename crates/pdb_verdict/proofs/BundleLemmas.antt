@@ -1,12 +1,13 @@
 -- Table files that are checked one after the other.
 use Rattle.std.proofs.Common.{◌≡◌, ◌∙◌, ℕ, zero, suc, ◌+◌, ◌<◌, List, [], ◌∷◌, ◌++◌, Some, length, map, take, get_or, add-one, ap, arith, refl, subst, sym}
 use Rattle.std.specs.Prelude.{slice_get}
+use Rattle.std.specs.List.{AllByRecursion}
 use Rattle.std.proofs.lemmas.List.{length-take-le}
 use Rattle.std.proofs.lemmas.Option.{slice_get-get_or, slice_get-map, slice_get_within}
 use Rattle.std.specs.Option.{option_map}
 use Rattle.tab_file.specs.TableFiles.{IsTableFile}
 use Rattle.tab_file.specs.Tables.{Table}
-use Rattle.tab_check.specs.ExactTables.{IsExactFile}
+use Rattle.tab_check.specs.ExactTables.{IsExactFile, IsExactTable}
 use Rattle.pdb_io.specs.Shelves.{Bytes}
 use Rattle.pdb_verdict.specs.Bundles.{AreExactFiles, TakesMemoryForTables}
 use Rattle.pdb_verdict.specs.Steps.{IsCauseForFile, IsCauseForTables}
@@ -51,6 +52,12 @@ pub some_taken : (tables : List Table) (files : List Bytes) → 0 < length table
 some_taken [] files low are = absurd (omega arith)
 some_taken (t ∷ tables) [] low are = absurd are
 some_taken (t ∷ tables) (file ∷ files) low are = (t, are.0.is_file)
+
+-- tables of exact files are exact
+pub all_exact : (tables : List Table) (files : List Bytes) → AreExactFiles tables files → AllByRecursion IsExactTable tables
+all_exact [] files are = tt
+all_exact (t ∷ tables) [] are = absurd are
+all_exact (t ∷ tables) (file ∷ files) are = (record { is_table = are.0.is_file.table; exact = are.0.exact }, all_exact tables files are.1)
 
 -- what keeps one file's table away keeps away those of all
 pub cause_for_tables : (tables : List Table) (files : List Bytes) (i expected : ℕ) (file : Bytes) (cause : Fault) → AreExactFiles tables (take i files)

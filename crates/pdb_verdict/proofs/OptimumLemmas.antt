@@ -14,7 +14,7 @@ use Rattle.set_sum.specs.Bounds.{IsBounded}
 use Rattle.pdb_io.specs.Shelves.{Bytes}
 use Rattle.pdb_verdict.specs.Bounds.{IsBoundFor, IsProvedBound}
 use Rattle.pdb_verdict.specs.Given.{optimum_claim}
-use Rattle.pdb_verdict.specs.Optima.{IsLeastCount, IsOptimum, IsOptimumResult, IsProvedOptimum, IsResultOfPuzzle, of_halves, solved_board, solved_by, solved_parts}
+use Rattle.pdb_verdict.specs.Optima.{IsOptimum, IsOptimumResult, IsProvedOptimum, IsResultOfPuzzle, of_halves, solved_board, solved_by, solved_parts}
 use Rattle.pdb_verdict.specs.Replays.{IsSolvedPuzzle}
 use Rattle.pdb_verdict.specs.Steps.{IsFoundFor}
 use Rattle.pdb_verdict.specs.Verdicts.{IsAnswerTo}
@@ -22,7 +22,7 @@ use Rattle.pdb_verdict.specs.declared.verdict.Fault.{Fault}
 use Rattle.pdb_verdict.specs.declared.verdict.Fault.TheVariants as fault
 use Rattle.pdb_verdict.specs.declared.verdict.Verdict.{Verdict}
 use Rattle.pdb_verdict.specs.declared.verdict.Verdict.TheVariants as verdict
-use Rattle.pdb_verdict.proofs.BoundLemmas.{found_one}
+use Rattle.pdb_verdict.proofs.BoundLemmas.{found_one, proved_bounds}
 use Rattle.pdb_verdict.proofs.ReplayLemmas.{no_yes}
 
 -- so many moves solve the puzzle's board, which is this one
@@ -68,18 +68,23 @@ parts-solved puzzle n h =
     ∙ ap (λ (r : Result (List ℕ) BoardFault). solved_board r h.moves_text) (board_of_text-spelled h.board_text h.board h.spelt)
     ∙ ap (solved_by h.board) (replay_of-solved h.board h.moves_text n h.spelt.board h.solved)
 
+-- no solution of fewer moves than this one makes it a shortest
+least_by : (puzzle : List ℕ) (n : ℕ) (solved : IsSolvedPuzzle puzzle n) → IsBounded solved.board n → IsOptimum puzzle n
+least_by puzzle n solved bounded = record {
+  solved = solved;
+  least = record { path = solved.solved.path; solution = solved.solved.solution; count = solved.solved.count; bounded = bounded };
+}
+
 -- with a bound that is the number of moves, that is the least number of moves of any solution
 pub is_optimum : (puzzle board : List ℕ) (n bound : ℕ) → solved_parts (puzzle_parts puzzle) ≡ Ok (board, n) → n ≡ bound → IsBounded board bound → IsOptimum puzzle bound
 is_optimum puzzle board n bound is same bounded =
     let solved_with = solved-parts puzzle board n is in
     let solved : IsSolvedPuzzle puzzle n = solved_with.0 in
-    let least : IsLeastCount solved.board n = record {
-      path = solved.solved.path;
-      solution = solved.solved.solution;
-      count = solved.solved.count;
-      bounded = subst (IsBounded solved.board) (sym same) (subst (λ b. IsBounded b bound) (sym solved_with.1) bounded);
-    } in
-    subst (IsOptimum puzzle) same (record { solved = solved; least = least })
+    subst (IsOptimum puzzle) same (least_by puzzle n solved (subst (IsBounded solved.board) (sym same) (subst (λ b. IsBounded b bound) (sym solved_with.1) bounded)))
+
+-- so is it where that bound is proved
+pub proved_optimum : (puzzle sets log : Bytes) (files : List Bytes) (n : ℕ) → IsProvedOptimum puzzle sets log files n → IsOptimum puzzle n
+proved_optimum puzzle sets log files n h = least_by puzzle n h.solved (proved_bounds h.solved.board sets log files n h.proved)
 
 -- what is found for the board of a puzzle that is solved is the answer to the claim
 pub found_answers : (puzzle sets log : Bytes) (tables : List Bytes) (board : List ℕ) (n : ℕ) (found : Result ℕ Fault) → solved_parts (puzzle_parts puzzle) ≡ Ok (board, n)

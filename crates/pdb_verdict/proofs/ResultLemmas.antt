@@ -1,12 +1,10 @@
 -- Inputs have a result.
 use Rattle.std.proofs.Common.{◌⊎◌, ℕ, suc, ◌+◌, ◌<◌, ◌^◌, List, [], ◌∷◌, drop, Result, Ok, Err, inl, inr, refl, sym, subst}
 use Rattle.std.specs.Prelude.{slice_index}
-use Rattle.std.specs.List.{AllByRecursion}
 use Rattle.std.proofs.lemmas.List.{get_or-drop}
 use Rattle.byteorder.specs.Numbers.{big_from-lt}
 use Rattle.tab_file.specs.TableFiles.{mask_in}
 use Rattle.tab_file.specs.Tables.{Table}
-use Rattle.tab_check.specs.ExactTables.{IsExactTable}
 use Rattle.tab_check.specs.declared.tables.TableRefusal.{TableRefusal}
 use Rattle.tab_check.proofs.AnswerLemmas.{census_some, file_answer}
 use Rattle.set_sum.proofs.BundleLemmas.{is_bundle}
@@ -26,6 +24,7 @@ use Rattle.pdb_verdict.specs.declared.verdict.Fault.{Fault}
 use Rattle.pdb_verdict.specs.declared.verdict.Fault.TheVariants as fault
 use Rattle.pdb_verdict.specs.declared.verdict.Verdict.{Verdict}
 use Rattle.pdb_verdict.specs.declared.verdict.Verdict.TheVariants as verdict
+use Rattle.pdb_verdict.proofs.BundleLemmas.{all_exact}
 
 -- a mask of four bytes fits 32 bits
 mask_low : (file : Bytes) → ((i : ℕ) → slice_index file i < 256) → mask_in file < 2 ^ 32
@@ -43,11 +42,6 @@ tables_answer (file ∷ files) = elim (file_answer file) [
     | inr h ↦ inr (suc h.0, h.1, record { file = h.2.file; there = h.2.there; fault = h.2.fault; tables = exact.0 ∷ h.2.tables; before = (exact.1, h.2.before) })
   ]
 ]
-
-all_exact : (tables : List Table) (files : List Bytes) → AreExactFiles tables files → AllByRecursion IsExactTable tables
-all_exact [] files are = tt
-all_exact (t ∷ tables) [] are = absurd are
-all_exact (t ∷ tables) (file ∷ files) are = (record { is_table = are.0.is_file.table; exact = are.0.exact }, all_exact tables files are.1)
 
 -- a bound for a board, or why there is none
 found_some : (board : List ℕ) (sets log : Bytes) (files : List Bytes) → (found : Result ℕ Fault) × IsBoundFor board sets log files found

@@ -1,11 +1,11 @@
 -- Inputs have one result, and it is a verdict exactly where that is true.
 use Rattle.std.proofs.Common.{◌≡◌, ◌∙◌, ◌↔◌, ◌⊎◌, inl, inr, Result, Ok, subst, sym}
-use Rattle.pdb_verdict.proofs.BoundLemmas.{IsBoundResult-bound, IsBoundResult-one, IsBoundResult-proved}
-use Rattle.pdb_verdict.proofs.OptimumLemmas.{IsOptimumResult-one, IsOptimumResult-proved, IsOptimumResult-yes}
+use Rattle.pdb_verdict.proofs.BoundLemmas.{IsBoundResult-bound, IsBoundResult-one, IsBoundResult-proved, proved_bounds}
+use Rattle.pdb_verdict.proofs.OptimumLemmas.{IsOptimumResult-one, IsOptimumResult-proved, IsOptimumResult-yes, proved_optimum}
 use Rattle.pdb_verdict.proofs.ReplayLemmas.{IsReplayResult-counted, IsReplayResult-one, IsReplayResult-solution, no_yes}
 use Rattle.pdb_verdict.proofs.TableLemmas.{IsTableResult-one}
 use Rattle.pdb_verdict.specs.Given.{Given, puzzle_text, table_file, bound_claim, optimum_claim}
-use Rattle.pdb_verdict.specs.Verdicts.{IsAnswerTo, IsResult, IsTrueOf, LacksMemory}
+use Rattle.pdb_verdict.specs.Verdicts.{HoldsOfSolutions, IsAnswerTo, IsResult, IsTrueOf, LacksMemory}
 use Rattle.pdb_verdict.specs.declared.verdict.Fault.{Fault}
 use Rattle.pdb_verdict.specs.declared.verdict.Verdict.{Verdict}
 use Rattle.pdb_verdict.specs.declared.verdict.Verdict.TheVariants as verdict
@@ -31,6 +31,20 @@ IsResult-true (optimum_claim puzzle sets log tables) (verdict.Exact side mask ce
     (λ is. let e = (IsOptimumResult-yes puzzle sets log tables _ is).1 in cc, λ h. absurd h)
 IsResult-true (optimum_claim puzzle sets log tables) (verdict.Bound n) = (λ is. let e = (IsOptimumResult-yes puzzle sets log tables _ is).1 in cc, λ h. absurd h)
 IsResult-true (optimum_claim puzzle sets log tables) (verdict.Optimal n) = IsOptimumResult-proved puzzle sets log tables n
+
+-- a true verdict on a log holds of the solutions
+pub true_holds : (inputs : Given) (verdict : Verdict) → IsTrueOf inputs verdict → HoldsOfSolutions inputs verdict
+true_holds (puzzle_text puzzle) verdict h = tt
+true_holds (table_file table) verdict h = tt
+true_holds (bound_claim board sets log tables) (verdict.Solution n) h = tt
+true_holds (bound_claim board sets log tables) (verdict.Exact side mask census) h = tt
+true_holds (bound_claim board sets log tables) (verdict.Bound n) h =
+    record { board = h.board; spelt = h.spelt; bounded = proved_bounds h.board sets log tables n h.proved }
+true_holds (bound_claim board sets log tables) (verdict.Optimal n) h = tt
+true_holds (optimum_claim puzzle sets log tables) (verdict.Solution n) h = tt
+true_holds (optimum_claim puzzle sets log tables) (verdict.Exact side mask census) h = tt
+true_holds (optimum_claim puzzle sets log tables) (verdict.Bound n) h = tt
+true_holds (optimum_claim puzzle sets log tables) (verdict.Optimal n) h = proved_optimum puzzle sets log tables n h
 
 -- there is one result
 pub IsResult-one : (inputs : Given) (a b : Result Verdict Fault) → IsResult inputs a → IsResult inputs b → a ≡ b

@@ -1,7 +1,7 @@
 -- What holds of all inputs.
 use Rattle.std.specs.Prelude.{◌≡◌, ◌↔◌, ℕ, ◌<◌, Result, Ok, slice_index}
 use Rattle.pdb_verdict.specs.Given.{Given, bytes_of}
-use Rattle.pdb_verdict.specs.Verdicts.{IsResult, IsTrueOf}
+use Rattle.pdb_verdict.specs.Verdicts.{HoldsOfSolutions, IsResult, IsTrueOf}
 use Rattle.pdb_verdict.specs.declared.verdict.Fault.{Fault}
 use Rattle.pdb_verdict.specs.declared.verdict.Verdict.{Verdict}
 
@@ -16,3 +16,7 @@ InputsHaveOneResult = (inputs : Given) (a b : Result Verdict Fault) → IsResult
 -- a verdict is the result exactly where it is true of the inputs
 abbrev pub ResultsAreTrueVerdicts : Type 0
 ResultsAreTrueVerdicts = (inputs : Given) (verdict : Verdict) → IsResult inputs (Ok verdict) ↔ IsTrueOf inputs verdict
+
+-- what is true of a log holds of the solutions of the board
+abbrev pub TrueVerdictsHoldOfSolutions : Type 0
+TrueVerdictsHoldOfSolutions = (inputs : Given) (verdict : Verdict) → IsTrueOf inputs verdict → HoldsOfSolutions inputs verdict

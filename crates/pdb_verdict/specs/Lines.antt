@@ -58,22 +58,22 @@ line_of_table_refusal (Head refused) = line_of_head_fault refused
 line_of_table_refusal (T7 number) = counted (codes "refused T7 at entry ") number
 
 -- of a refused header of the table file with number i, where there are several
-abbrev pub line_of_head_fault_of : ℕ → HeadFault → Bytes
-line_of_head_fault_of i T1 = counted (codes "refused T1 of table ") i
-line_of_head_fault_of i T2 = counted (codes "refused T2 of table ") i
-line_of_head_fault_of i T3 = counted (codes "refused T3 of table ") i
-line_of_head_fault_of i T4 = counted (codes "refused T4 of table ") i
-line_of_head_fault_of i T5 = counted (codes "refused T5 of table ") i
-line_of_head_fault_of i T6 = counted (codes "refused T6 of table ") i
+abbrev pub line_of_numbered_head_fault : ℕ → HeadFault → Bytes
+line_of_numbered_head_fault i T1 = counted (codes "refused T1 of table ") i
+line_of_numbered_head_fault i T2 = counted (codes "refused T2 of table ") i
+line_of_numbered_head_fault i T3 = counted (codes "refused T3 of table ") i
+line_of_numbered_head_fault i T4 = counted (codes "refused T4 of table ") i
+line_of_numbered_head_fault i T5 = counted (codes "refused T5 of table ") i
+line_of_numbered_head_fault i T6 = counted (codes "refused T6 of table ") i
 
 -- two texts, each with a number behind it, and the line's end
 abbrev pub counted_twice : Bytes → ℕ → Bytes → ℕ → Bytes
 counted_twice text n other m = text ++ decimal n ++ counted other m
 
 -- of the refused table file with number i, where there are several
-abbrev pub line_of_table_refusal_of : ℕ → TableRefusal → Bytes
-line_of_table_refusal_of i (Head refused) = line_of_head_fault_of i refused
-line_of_table_refusal_of i (T7 number) = counted_twice (codes "refused T7 at entry ") number (codes " of table ") i
+abbrev pub line_of_numbered_table_refusal : ℕ → TableRefusal → Bytes
+line_of_numbered_table_refusal i (Head refused) = line_of_numbered_head_fault i refused
+line_of_numbered_table_refusal i (T7 number) = counted_twice (codes "refused T7 at entry ") number (codes " of table ") i
 
 -- of refused tables and a refused set text
 abbrev pub line_of_set_fault : SetFault → Bytes
@@ -102,7 +102,7 @@ line_of_fault fault.P1 = codes "refused P1\n"
 line_of_fault (fault.Board refused) = line_of_board_fault refused
 line_of_fault (fault.Moves refused) = line_of_move_fault refused
 line_of_fault (fault.Table refused) = line_of_table_refusal refused
-line_of_fault (fault.TableOf number refused) = line_of_table_refusal_of number refused
+line_of_fault (fault.TableOf number refused) = line_of_numbered_table_refusal number refused
 line_of_fault (fault.Sets refused) = line_of_set_fault refused
 line_of_fault (fault.Log refused) = line_of_log_refusal refused
 line_of_fault (fault.O1 solution bound) = counted_twice (codes "refused O1 solution ") solution (codes " bound ") bound

@@ -19,7 +19,10 @@ mod workers;
 pub use bound::run_bound;
 pub use claims::ClaimNames;
 pub use inputs::Inputs;
-pub use laws::{inputs_have_one_result, results_are_true_verdicts};
+pub use laws::{
+    inputs_have_a_result, inputs_have_one_result, results_are_true_verdicts,
+    true_verdicts_hold_of_solutions,
+};
 pub use optimal::run_optimal;
 pub use replay::{run_replay, verify_puzzle};
 pub use reports::{digests, line, report};

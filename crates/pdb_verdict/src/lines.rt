@@ -1,7 +1,7 @@
 //! The lines that a verdict or a refusal is told in, as values.
 
 ghost use Rattle.std.specs.Prelude.{◌≡◌, ◌≤◌, ℕ, length};
-ghost use Rattle.pdb_verdict.specs.Lines.{counted, counted_twice, exact_line, line_of, line_of_board_fault, line_of_fault, line_of_form_fault, line_of_head_fault, line_of_head_fault_of, line_of_log_refusal, line_of_move_fault, line_of_set_fault, line_of_table_refusal, line_of_table_refusal_of};
+ghost use Rattle.pdb_verdict.specs.Lines.{counted, counted_twice, exact_line, line_of, line_of_board_fault, line_of_fault, line_of_form_fault, line_of_head_fault, line_of_numbered_head_fault, line_of_log_refusal, line_of_move_fault, line_of_set_fault, line_of_table_refusal, line_of_numbered_table_refusal};
 
 use crate::verdict::{Fault, Verdict};
 use itoa::Buffer;
@@ -120,7 +120,7 @@ fn head_line(refused: HeadFault) -> Lines
 
 /// The line of the refused table file with this number.
 fn numbered_table_line(number: usize, refused: TableRefusal) -> Lines
-    ensures { result.bytes ≡ line_of_table_refusal_of number refused }
+    ensures { result.bytes ≡ line_of_numbered_table_refusal number refused }
 {
     match refused {
         TableRefusal::Head(refused) => counted(numbered_head_text(refused), number as u64),
@@ -132,7 +132,7 @@ fn numbered_table_line(number: usize, refused: TableRefusal) -> Lines
 
 /// What comes before the number of a table file whose header is refused.
 fn numbered_head_text(refused: HeadFault) -> &'static str
-    ensures text { (number : ℕ) → counted result.now number ≡ line_of_head_fault_of number refused }
+    ensures text { (number : ℕ) → counted result.now number ≡ line_of_numbered_head_fault number refused }
     ensures short { length result.now ≤ 40 }
 {
     match refused {
