@@ -10,7 +10,7 @@ use std::io::ErrorKind;
 use std::rt::Files;
 use std::{fs, io};
 
-/// What stands behind a name in that of the temporary file beside it.
+/// What the temporary file of a name has behind that name.
 const TEMPORARY: &str = ".unkept";
 
 /// The files of the system, by their paths. It tells no bytes: what is said of a file speaks of the bytes that were read.

@@ -141,10 +141,7 @@ impl SampleFiles {
 
     /// The place of a file.
     fn open(&self, path: &str) -> io::Result<usize> {
-        match self.called(Call::Open)?.find(path) {
-            Some(place) => Ok(place),
-            None => Err(io::Error::from(ErrorKind::NotFound)),
-        }
+        self.called(Call::Open)?.place(path)
     }
 }
 
@@ -170,19 +167,25 @@ impl State {
         Ok(())
     }
 
-    /// The place of the file of this name.
+    /// The place of the file of this name, if there is one.
     fn find(&self, name: &str) -> Option<usize> {
         self.files.iter().position(
             |file| matches!(&file.name, Some(other) if other.as_str() == name),
         )
     }
 
-    /// The file of this name.
-    fn named(&mut self, name: &str) -> io::Result<&mut SampleFile> {
-        match self.find(name).and_then(|place| self.files.get_mut(place)) {
-            Some(file) => Ok(file),
+    /// The same, where there must be one.
+    fn place(&self, name: &str) -> io::Result<usize> {
+        match self.find(name) {
+            Some(place) => Ok(place),
             None => Err(io::Error::from(ErrorKind::NotFound)),
         }
+    }
+
+    /// The file of this name.
+    fn named(&mut self, name: &str) -> io::Result<&mut SampleFile> {
+        let place = self.place(name)?;
+        self.at(place)
     }
 
     /// The file at a place.
@@ -308,9 +311,7 @@ impl Files for SampleFiles {
     fn rename(&self, from: &str, to: &str) -> io::Result<()> {
         let name = String::from_str(self.alloc, to)?;
         let mut state = self.called(Call::Rename)?;
-        let Some(place) = state.find(from) else {
-            return Err(io::Error::from(ErrorKind::NotFound));
-        };
+        let place = state.place(from)?;
         if let Some(replaced) = state.find(to) {
             state.at(replaced)?.name = None;
         }
