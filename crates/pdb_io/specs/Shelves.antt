@@ -1,5 +1,5 @@
 -- A shelf: the bytes that stand under names, as files do.
-use Rattle.std.specs.Prelude.{ℕ, List, Option, Some, None, fold, if◌then◌else◌}
+use Rattle.std.specs.Prelude.{◌≡◌, ◌≢◌, ℕ, List, Option, Some, None, fold, if◌then◌else◌, option_map}
 use Rattle.std.specs.Borrow.{Bor}
 use Rattle.std.specs.Str.{bytes_eq}
 
@@ -22,3 +22,11 @@ with_file files name bytes other = if bytes_eq name other then Some bytes else f
 -- the files of a list of names and bytes, where the last of a name counts
 abbrev pub files_of : List (Bor Bytes × Bor Bytes) → Files
 files_of = fold (λ files pair. with_file files pair.0.now pair.1.now) no_files
+
+-- told files, with these bytes under this name
+abbrev pub told_with : Option Files → Bytes → Bytes → Option Files
+told_with files name bytes = option_map (λ told. with_file told name bytes) files
+
+-- what is told of each other name is the same; of this one nothing is said
+abbrev pub KeepsOthers : Option Files → Option Files → Bytes → Type 0
+KeepsOthers old new name = (other : Bytes) → other ≢ name → option_map (λ told. told other) new ≡ option_map (λ told. told other) old

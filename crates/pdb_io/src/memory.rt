@@ -1,10 +1,10 @@
 //! A shelf over memory.
 
-ghost use Rattle.std.specs.Prelude.{◌≡◌, ◌<◌, ◌≤◌, ℕ, List, Some, None, true, false, length, IfOk, OnOk, OnErr, IsErrOf, IsSomeAnd, option_map};
+ghost use Rattle.std.specs.Prelude.{◌≡◌, ◌<◌, ◌≤◌, ℕ, List, Some, None, true, false, length, IfOk, OnOk, OnErr, IsErrOf, IsOkUnless, IsSomeAnd, option_map};
 ghost use Rattle.pdb_io.specs.MemShelves.{files_in};
 ghost use Rattle.pdb_io.specs.Shelves.{files_of, with_file};
 
-use crate::shelf::Shelf;
+use crate::shelf::{KeepFault, Shelf};
 use crate::streams::ReadFault;
 use std::alloc::{AllocError, Global};
 use std::collections::BTreeMap;
@@ -77,6 +77,16 @@ impl Shelf for MemShelf {
             return Err(ReadFault::F2);
         }
         Ok(Vec::from_slice(alloc, bytes.as_slice())?)
+    }
+
+    fn keep(&mut self, alloc: Global, name: &str, bytes: &[u8]) -> Result<(), KeepFault>
+        ensures kept { OnOk result (Some (files_in self.new) ≡ Some (with_file (files_in self.old) name.now bytes.now)) }
+        ensures unchanged { OnErr result (Some (files_in self.new) ≡ Some (files_in self.old)) }
+        ensures memory { IsOkUnless result KeepFault.Memory }
+        ensures calm { self.new.has_failed ≡ self.old.has_failed }
+    {
+        self.hold(alloc, name, bytes)?;
+        Ok(())
     }
 
     fn failed(&self) -> bool {

@@ -1,10 +1,29 @@
 //! Named bytes.
 
-ghost use Rattle.std.specs.Prelude.{◌≡◌, ◌<◌, ◌≤◌, Option, Bool, Some, true, length, IfOk, IfSome, IsErrOf, IsSomeAnd};
-ghost use Rattle.pdb_io.specs.Shelves.{Files};
+ghost use Rattle.std.specs.Prelude.{◌≡◌, ◌<◌, ◌≤◌, Option, Bool, Some, true, length, IfOk, OnOk, OnErr, IfSome, IsErrOf, IsSomeAnd};
+ghost use Rattle.pdb_io.specs.Shelves.{Files, KeepsOthers, told_with};
 
 use crate::streams::ReadFault;
-use std::alloc::Global;
+use std::alloc::{AllocError, Global};
+
+/// Why bytes were not kept.
+#[derive(Clone, Copy, Debug, PartialEq, Eq)]
+pub enum KeepFault {
+    /// The device failed.
+    F3,
+    /// Memory was refused.
+    Memory,
+}
+
+impl From<AllocError> for KeepFault {
+    ghost use Rattle.pdb_io.specs.declared.shelf.KeepFault.{KeepFault};
+
+    ghost from_gives = { λ _ fault. fault ≡ KeepFault.Memory };
+
+    fn from(_refused: AllocError) -> KeepFault {
+        KeepFault::Memory
+    }
+}
 
 /// Bytes under names, as the files of a folder are.
 pub trait Shelf {
@@ -22,6 +41,13 @@ pub trait Shelf {
         ensures same { held self.new ≡ held self.old }
         ensures failed { IsErrOf result ReadFault.F1 → has_failed self.new ≡ true }
         ensures calm { (IsErrOf result ReadFault.F1 → ⊥) → has_failed self.new ≡ has_failed self.old };
+
+    /// Puts these bytes under a name, in the place of what stood there. What the name holds after a fault is open.
+    fn keep(&mut self, alloc: Global, name: &str, bytes: &[u8]) -> Result<(), KeepFault>
+        ensures kept { OnOk result (held self.new ≡ told_with (held self.old) name.now bytes.now) }
+        ensures others { OnErr result (KeepsOthers (held self.old) (held self.new) name.now) }
+        ensures failed { IsErrOf result KeepFault.F3 → has_failed self.new ≡ true }
+        ensures calm { (IsErrOf result KeepFault.F3 → ⊥) → has_failed self.new ≡ has_failed self.old };
 
     /// Whether its device has failed.
     fn failed(&self) -> bool

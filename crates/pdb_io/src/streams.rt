@@ -37,6 +37,12 @@ pub enum WriteFault {
     F3,
 }
 
+impl From<io::Error> for WriteFault {
+    fn from(_failed: io::Error) -> WriteFault {
+        WriteFault::F3
+    }
+}
+
 /// How many bytes of room are made at a time.
 const PIECE: usize = 65_536;
 

@@ -1,6 +1,7 @@
 //! What no clause says: that calls succeed, real files, and streams that fail on the way.
 
 mod files;
+mod keeping;
 mod shelves;
 mod streams;
 

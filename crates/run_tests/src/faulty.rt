@@ -2,7 +2,7 @@
 
 use crate::runs::{owned, ran};
 use pdb_io::memory::MemShelf;
-use pdb_io::shelf::Shelf;
+use pdb_io::shelf::{KeepFault, Shelf};
 use pdb_io::streams::ReadFault;
 use pdb_program::run;
 use samples::files::TILE_1;
@@ -215,7 +215,7 @@ fn all_that_a_run_says_is_one_write(rt: HostRuntime) -> Result<(), Fail> {
     Ok(())
 }
 
-/// A shelf of which no file is read, and why.
+/// A shelf of which no file is read, and why. It keeps nothing.
 #[derive(Drop)]
 struct Refusing {
     fault: ReadFault,
@@ -230,6 +230,10 @@ impl Shelf for Refusing {
 
     fn load(&mut self, _alloc: Global, _name: &str, _limit: u64) -> Result<Vec<u8>, ReadFault> {
         Err(self.fault)
+    }
+
+    fn keep(&mut self, _alloc: Global, _name: &str, _bytes: &[u8]) -> Result<(), KeepFault> {
+        Err(KeepFault::F3)
     }
 
     fn failed(&self) -> bool {

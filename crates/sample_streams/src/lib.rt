@@ -1,8 +1,10 @@
-//! Readers and writers for tests, that fail, take nothing or go byte by byte when they are told to.
+//! Readers, writers and files for tests, that fail, take nothing or go byte by byte when they are told to.
 #![tactic(auto)]
 
+mod files;
 mod readers;
 mod writers;
 
+pub use files::{Call, OpenSample, SampleFiles};
 pub use readers::{EndlessReader, SampleReader};
 pub use writers::{Failing, SampleWriter};

@@ -1,0 +1,210 @@
+//! Shelves that keep: over memory, over a system whose calls fail, and over real files.
+
+use super::sample_bytes;
+use crate::disk::DiskShelf;
+use crate::memory::MemShelf;
+use crate::shelf::{KeepFault, Shelf};
+use sample_streams::{Call, SampleFiles};
+use std::fs;
+use std::io::Read;
+use std::test::Fail;
+
+const OLD: &[u8] = b"old";
+
+const NEW: &[u8] = b"new bytes";
+
+/// The calls that keep nine bytes.
+const CALLS: &[Call] = &[
+    Call::Look,
+    Call::Create,
+    Call::Write,
+    Call::Write,
+    Call::Write,
+    Call::Sync,
+    Call::Rename,
+];
+
+#[test]
+fn a_shelf_over_memory_has_what_it_kept(rt: HostRuntime) -> Result<(), Fail> {
+    let alloc = rt.alloc();
+    let mut shelf = MemShelf::of(alloc, &[("a", OLD), ("b", OLD)])?;
+    for (name, bytes) in [("a", NEW), ("", OLD), ("-", b""), ("a", b"newest")] {
+        shelf.keep(alloc, name, bytes)?;
+        assert!(rt; shelf.get(name) == Some(bytes));
+        assert!(rt; shelf.load(alloc, name, 9)?.as_slice() == bytes);
+        assert!(rt; shelf.get("b") == Some(OLD));
+    }
+    assert!(rt; !shelf.failed());
+    Ok(())
+}
+
+#[test]
+fn a_file_gets_its_name_when_it_is_whole(rt: HostRuntime) -> Result<(), Fail> {
+    let alloc = rt.alloc();
+    for (name, count) in [("a", 2), ("c", 3)] {
+        let files = SampleFiles::new(alloc, &[("a", OLD), ("b", OLD)])?;
+        let mut shelf = DiskShelf::new(&files);
+        shelf.keep(alloc, name, NEW)?;
+        assert!(rt; files.calls()?.as_slice() == CALLS);
+        assert!(rt; files.has(name, NEW) && files.has("b", OLD));
+        assert_eq!(rt; files.count(), count);
+        assert!(rt; !shelf.failed());
+    }
+    Ok(())
+}
+
+#[test]
+fn a_call_that_fails_leaves_what_was_there(rt: HostRuntime) -> Result<(), Fail> {
+    let alloc = rt.alloc();
+    for call in 1..CALLS.len() as u64 {
+        for name in ["a", "c"] {
+            let files = SampleFiles::new(alloc, &[("a", OLD)])?;
+            files.fail(call, call.saturating_add(1));
+            let mut shelf = DiskShelf::new(&files);
+            assert_eq!(rt; shelf.keep(alloc, name, NEW), Err(KeepFault::F3));
+            assert!(rt; shelf.failed());
+            assert!(rt; files.has("a", OLD) && files.count() == 1, "call {call}");
+        }
+    }
+    Ok(())
+}
+
+#[test]
+fn a_file_is_kept_where_nothing_is_told_of_its_name(rt: HostRuntime) -> Result<(), Fail> {
+    let alloc = rt.alloc();
+    let files = SampleFiles::new(alloc, &[("a", OLD)])?;
+    files.fail(0, 1);
+    DiskShelf::new(&files).keep(alloc, "a", NEW)?;
+    assert!(rt; files.has("a", NEW) && files.count() == 1);
+    Ok(())
+}
+
+#[test]
+fn a_system_that_stops_leaves_the_old_file_or_the_new_one(rt: HostRuntime) -> Result<(), Fail> {
+    let alloc = rt.alloc();
+    for call in 0..=CALLS.len() {
+        let files = SampleFiles::new(alloc, &[("a", OLD)])?;
+        files.fail(call as u64, u64::MAX);
+        let mut shelf = DiskShelf::new(&files);
+        let stopped = call < CALLS.len();
+        assert_eq!(rt; shelf.keep(alloc, "a", NEW).is_err(), stopped);
+        assert_eq!(rt; shelf.failed(), stopped);
+        assert!(rt;
+            files.has("a", if stopped { OLD } else { NEW }),
+            "call {call}"
+        );
+        files.fail(0, 0);
+        DiskShelf::new(&files).keep(alloc, "a", b"newest")?;
+        assert!(rt;
+            files.has("a", b"newest") && files.count() == 1,
+            "call {call}"
+        );
+    }
+    Ok(())
+}
+
+#[test]
+fn a_file_that_was_left_over_is_replaced(rt: HostRuntime) -> Result<(), Fail> {
+    let alloc = rt.alloc();
+    for (fails, count) in [(8, 1), (2, 2), (3, 1)] {
+        let files = SampleFiles::new(alloc, &[("a", OLD), ("a.unkept", b"ne")])?;
+        files.fail(fails, fails.saturating_add(1));
+        let kept = DiskShelf::new(&files).keep(alloc, "a", NEW);
+        assert!(rt; kept == Err(KeepFault::F3) && files.has("a", OLD));
+        assert_eq!(rt; files.count(), count);
+    }
+    let files = SampleFiles::new(alloc, &[("a", OLD), ("a.unkept", b"ne")])?;
+    DiskShelf::new(&files).keep(alloc, "a", NEW)?;
+    let calls = files.calls()?;
+    assert!(rt; calls.starts_with(&[Call::Look, Call::Create, Call::Remove, Call::Create]));
+    assert!(rt; calls.ends_with(&CALLS[1..]));
+    assert!(rt; files.has("a", NEW) && files.count() == 1);
+    Ok(())
+}
+
+#[test]
+fn what_is_no_plain_file_is_only_looked_at(rt: HostRuntime) -> Result<(), Fail> {
+    let alloc = rt.alloc();
+    let files = SampleFiles::new(alloc, &[("folder/", b"")])?;
+    let kept = DiskShelf::new(&files).keep(alloc, "folder/", NEW);
+    assert!(rt; kept == Err(KeepFault::F3));
+    assert!(rt; files.calls()?.as_slice() == [Call::Look].as_slice());
+    Ok(())
+}
+
+/// What a name has after a keep that may be refused memory: run with each request refused in turn.
+fn left<'a>(kept: Result<(), KeepFault>) -> &'a [u8] {
+    match kept {
+        Ok(()) => NEW,
+        Err(KeepFault::Memory) => OLD,
+        Err(KeepFault::F3) => b"",
+    }
+}
+
+#[test]
+fn memory_that_is_refused_leaves_what_was_there(rt: HostRuntime) -> Result<(), Fail> {
+    let alloc = rt.alloc();
+    fs::write(&rt, "memory_test", OLD)?;
+    let mut disk = DiskShelf::new(&rt);
+    let want = left(disk.keep(alloc, "memory_test", NEW));
+    let mut bytes = [0u8; 16];
+    let count = fs::open(&rt, "memory_test")?.read(&mut bytes)?;
+    assert!(rt; &bytes[..count] == want && !disk.failed());
+    assert!(rt; !fs::exists(&rt, "memory_test.unkept")?);
+    fs::remove_file(&rt, "memory_test")?;
+    let mut shelf = MemShelf::of(alloc, &[("a", OLD)])?;
+    let want = left(shelf.keep(alloc, "a", NEW));
+    assert!(rt; shelf.get("a") == Some(want) && !shelf.failed());
+    Ok(())
+}
+
+#[test]
+fn a_real_file_is_kept_whole_under_its_very_name(rt: HostRuntime) -> Result<(), Fail> {
+    let alloc = rt.alloc();
+    let mut shelf = DiskShelf::new(&rt);
+    fs::write(&rt, "keep_test.unkept", OLD)?;
+    for name in ["keep_test", " keep_test", "keep test\t", "./--"] {
+        for count in [9usize, 3_145_745, 0] {
+            let bytes = sample_bytes(alloc, count)?;
+            shelf.keep(alloc, name, bytes.as_slice())?;
+            assert!(rt;
+                fs::read(&rt, name)?.as_slice() == bytes.as_slice(),
+                "{count} bytes"
+            );
+        }
+        fs::remove_file(&rt, name)?;
+    }
+    assert!(rt; !fs::exists(&rt, "keep_test.unkept")?);
+    assert!(rt; !shelf.failed());
+    Ok(())
+}
+
+#[test]
+fn a_folder_and_a_name_without_its_folder_keep_nothing(rt: HostRuntime) -> Result<(), Fail> {
+    fs::create_dir(&rt, "keep_folder")?;
+    for name in [
+        ".",
+        "keep_folder",
+        "keep_folder/",
+        "no_folder/a",
+        "",
+        "a\0b",
+    ] {
+        let mut shelf = DiskShelf::new(&rt);
+        assert!(rt;
+            shelf.keep(rt.alloc(), name, NEW) == Err(KeepFault::F3),
+            "{name}"
+        );
+        assert!(rt; shelf.failed());
+    }
+    for name in [
+        "..unkept",
+        "keep_folder.unkept",
+        "keep_folder/.unkept",
+        ".unkept",
+    ] {
+        assert!(rt; !fs::exists(&rt, name)?, "{name}");
+    }
+    fs::remove_dir(&rt, "keep_folder")?;
+    Ok(())
+}
