@@ -1,9 +1,9 @@
 -- Lemmas one after the other in bytes, from the first on.
-use Rattle.std.proofs.Common.{◌≡◌, ℕ, zero, suc, ◌+◌, ◌<◌, ◌≤◌, List, [], ◌∷◌, ◌++◌, length, refl, sym, ◌∙◌, ap, subst, arith}
+use Rattle.std.proofs.Common.{◌≡◌, ℕ, zero, suc, ◌+◌, List, [], ◌∷◌, ◌++◌, length, refl, ◌∙◌, ap, arith}
 use Rattle.std.specs.List.{AllByRecursion}
 use Rattle.puz_board.specs.Boards.{IsBoardOf}
 use Rattle.log_file.specs.Logs.{Lemma}
-use Rattle.log_file.specs.LogFiles.{AreLemmas, HasLemma, behind, front_lemma}
+use Rattle.log_file.specs.LogFiles.{AreLemmas, behind, front_lemma}
 use Rattle.log_file.specs.FormFaults.{AreBoards, AreFilled, AreWhole, behind_first, first_lemmas}
 
 module _ (n : ℕ) where

@@ -1,5 +1,5 @@
 -- How a view of a log is stored: its lemmas in a list, each with its board and where its tree lies.
-use Rattle.std.specs.Prelude.{List, map}
+use Rattle.std.specs.Prelude.{map}
 use Rattle.log_file.specs.Logs.{Lemma, Log}
 use Rattle.log_file.specs.declared.views.LemmaView.{LemmaView}
 use Rattle.log_file.specs.declared.views.LogView.TheInside.{Inside}

@@ -1,4 +1,4 @@
-use Rattle.std.proofs.Common.{◌≡◌, ◌++◌, [], ◌∷◌, ◌∙◌, ap, ap₂, arith, map, rules, subst, sym}
+use Rattle.std.proofs.Common.{◌≡◌, ◌++◌, [], ◌∷◌, ◌∙◌, ap, ap₂, map, rules, subst, sym}
 use Rattle.std.proofs.lemmas.List.{map-append}
 use Rattle.log_file.specs.FormFaults.{behind_first}
 use Rattle.puz_board.specs.Boards.{IsBoard}
