@@ -90,11 +90,11 @@ no_fault file log (L3 i) is stands =
 -- ---- what is answered of bytes
 
 -- the bytes behind the header
-pub behind_header : (file : List ℕ) → take (length file - 10) (drop 10 file) ≡ drop 10 file
+behind_header : (file : List ℕ) → take (length file - 10) (drop 10 file) ≡ drop 10 file
 behind_header file = ap (λ k. take k (drop 10 file)) (sym (length-drop 10 file)) ∙ take-length (drop 10 file)
 
 module _ (side count : ℕ) (file : List ℕ) (header : IsHeader side count file) (size : IsSize side count) where
-  pub IsLogFile-first : (lemmas : List Lemma) → AreFilled side count (drop 10 file) → AreBoards side count (drop 10 file)
+  IsLogFile-first : (lemmas : List Lemma) → AreFilled side count (drop 10 file) → AreBoards side count (drop 10 file)
       → lemmas ≡ first_lemmas side count (drop 10 file) → IsLogFile (record { side = side; lemmas = lemmas }) file
   IsLogFile-first lemmas filled boards are =
       let counted : length lemmas ≡ count = ap length are ∙ length-first_lemmas side count (drop 10 file) in
@@ -106,6 +106,13 @@ module _ (side count : ℕ) (file : List ℕ) (header : IsHeader side count file
         header = subst (λ k. IsHeader side k file) (sym counted) header;
         lemmas = subst (λ ls. AreLemmas side ls (drop 10 file)) (sym are) (AreLemmas-first side count (drop 10 file) filled);
       }
+
+  -- the same of the bytes behind the header, as they are taken
+  pub IsLogFile-read : (lemmas : List Lemma) → let bytes = take (length file - 10) (drop 10 file) in AreFilled side count bytes → AreBoards side count bytes
+      → lemmas ≡ first_lemmas side count bytes → IsLogFile (record { side = side; lemmas = lemmas }) file
+  IsLogFile-read lemmas filled boards are =
+      IsLogFile-first lemmas (subst (AreFilled side count) (behind_header file) filled) (subst (AreBoards side count) (behind_header file) boards)
+      (are ∙ ap (first_lemmas side count) (behind_header file))
 
   pub HasHeader-read : HasHeader file
   HasHeader-read = record {

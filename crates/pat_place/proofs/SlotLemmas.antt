@@ -91,16 +91,16 @@ module _ (n : ℕ) (low : 2 ≤ n) (high : n ≤ 5) (p : List ℕ) where
   pub slot_some : (c : ℕ) → IsFree n p c → (j : ℕ) × IsSlot n p c j
   slot_some c free = let l = leader_of c free in let j = count_of (IsLeader n p) leader_decided l.0 in (j.0, record { free = free; leader = l.0; joined = l.1; is_leader = l.2; below = j.1 })
 
-  pub slot_one : (c i j : ℕ) → IsFree n p c → IsSlot n p c i → IsSlot n p c j → i ≡ j
-  slot_one c i j free a b =
-      let e : a.leader ≡ b.leader = leader_one c a.leader b.leader free a.joined a.is_leader b.joined b.is_leader in
+  pub slot_one : (c i j : ℕ) → IsSlot n p c i → IsSlot n p c j → i ≡ j
+  slot_one c i j a b =
+      let e : a.leader ≡ b.leader = leader_one c a.leader b.leader a.free a.joined a.is_leader b.joined b.is_leader in
       count_one (IsLeader n p) b.leader i j (subst (λ x. IsCount (IsLeader n p) x i) e a.below) b.below
 
   -- cells of one slot are cells of one region, and back
-  pub slot_region : (c d j : ℕ) → IsFree n p d → IsSlot n p c j → IsSlot n p d j → Joins n p c d
-  slot_region c d j free a b =
+  pub slot_region : (c d j : ℕ) → IsSlot n p c j → IsSlot n p d j → Joins n p c d
+  slot_region c d j a b =
       let e : a.leader ≡ b.leader = count_same (IsLeader n p) a.leader b.leader j a.is_leader b.is_leader a.below b.below in
-      Joins-trans n p a.joined (subst (λ x. Joins n p x d) (sym e) (Joins-sym n p low high free b.joined))
+      Joins-trans n p a.joined (subst (λ x. Joins n p x d) (sym e) (Joins-sym n p low high b.free b.joined))
 
-  pub region_slot : (c d j : ℕ) → IsFree n p c → Joins n p c d → IsSlot n p c j → IsSlot n p d j
-  region_slot c d j free r a = record { free = Joins-free n p free r; leader = a.leader; joined = Joins-trans n p (Joins-sym n p low high free r) a.joined; is_leader = a.is_leader; below = a.below }
+  pub region_slot : (c d j : ℕ) → Joins n p c d → IsSlot n p c j → IsSlot n p d j
+  region_slot c d j r a = record { free = Joins-free n p a.free r; leader = a.leader; joined = Joins-trans n p (Joins-sym n p low high a.free r) a.joined; is_leader = a.is_leader; below = a.below }

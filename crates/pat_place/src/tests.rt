@@ -10,6 +10,10 @@ fn pattern_of(n: u8, mask: u32) -> Option<Pattern> {
     Pattern::of_mask(Side::of(n)?, mask)
 }
 
+fn pattern_with(rt: &impl Abort, n: u8, mask: u32) -> Pattern {
+    pattern_of(n, mask).expect(rt, "a pattern")
+}
+
 /// The placement on a board of a pattern's side.
 fn on_board(rt: &impl Abort, pattern: &Pattern, numbers: &[u8]) -> Placement {
     let board = Board::from_cells(numbers).expect(rt, "a board");
@@ -71,6 +75,21 @@ fn check_regions(rt: &impl Abort, placement: &Placement) {
     assert_eq!(rt; covered, masks::all_below(cells));
 }
 
+/// The placement has these cells and this rank, and is that of the rank.
+fn check_cells(rt: &impl Abort, placement: &Placement, cells: &[u8], r: u64) {
+    assert_eq!(rt; placement.cells().as_slice(), cells);
+    assert_eq!(rt; rank(placement), r);
+    let found = of_rank(rt, &placement.pattern(), r);
+    assert_eq!(rt; found.cells().as_slice(), cells);
+}
+
+/// How many tiles a pattern has, its width and its count; `None` where the mask is no pattern's.
+fn numbers_of(rt: &impl Abort, n: u8, mask: u32) -> Option<(u8, u8, u64)> {
+    let pattern = pattern_of(n, mask)?;
+    assert_eq!(rt; (pattern.side().get(), pattern.mask()), (n, mask));
+    Some((pattern.size(), pattern.width(), pattern.count()))
+}
+
 #[test]
 fn patterns_are_the_masks_within_the_limits(rt: HostRuntime) {
     let masks = [
@@ -82,6 +101,7 @@ fn patterns_are_the_masks_within_the_limits(rt: HostRuntime) {
         (4, 1022, None),
         (4, 1 << 16, None),
         (3, 510, Some((8, 1, 362_880))),
+        (3, 30, Some((4, 5, 3024))),
         (3, 14, Some((3, 4, 504))),
         (3, 1022, None),
         (3, 512, None),
@@ -93,86 +113,66 @@ fn patterns_are_the_masks_within_the_limits(rt: HostRuntime) {
         (2, 18, None),
     ];
     for (n, mask, want) in masks {
-        let Some(pattern) = pattern_of(n, mask) else {
-            assert_eq!(rt; want, None, "side {n}, mask {mask}");
-            continue;
-        };
-        let numbers = (pattern.size(), pattern.width(), pattern.count());
-        assert_eq!(rt; Some(numbers), want, "side {n}, mask {mask}");
-        assert_eq!(rt; (pattern.side().get(), pattern.mask()), (n, mask));
+        assert_eq!(rt; numbers_of(&rt, n, mask), want, "side {n}, mask {mask}");
     }
 }
 
 #[test]
 fn tiles_ascend(rt: HostRuntime) {
-    let pattern = pattern_of(5, 1 << 3 | 1 << 1 | 1 << 24).expect(&rt, "a pattern");
+    let pattern = pattern_with(&rt, 5, 1 << 3 | 1 << 1 | 1 << 24);
     assert_eq!(rt; pattern.tiles().as_slice(), [1, 3, 24].as_slice());
 }
 
 #[test]
 fn placements_are_the_cells_of_tiles(rt: HostRuntime) {
-    let pattern = pattern_of(3, 14).expect(&rt, "a pattern");
-    let goal = Placement::goal(&pattern);
-    assert_eq!(rt; goal.cells().as_slice(), [1, 2, 3].as_slice());
+    let pattern = pattern_with(&rt, 3, 14);
+    check_cells(&rt, &Placement::goal(&pattern), &[1, 2, 3], 64);
+    let home = on_board(&rt, &pattern, &[0, 1, 2, 3, 4, 5, 6, 7, 8]);
+    check_cells(&rt, &home, &[1, 2, 3], 64);
     let placement = on_board(&rt, &pattern, &[0, 4, 5, 6, 7, 8, 3, 2, 1]);
-    assert_eq!(rt; placement.cells().as_slice(), [8, 7, 6].as_slice());
+    check_cells(&rt, &placement, &[8, 7, 6], 503);
     assert_eq!(rt; placement.occupied(), 0b111_000_000);
     let moved = moved_to(&placement, 1, 4).expect(&rt, "a free cell");
-    assert_eq!(rt; moved.cells().as_slice(), [8, 4, 6].as_slice());
+    check_cells(&rt, &moved, &[8, 4, 6], 481);
     assert!(rt; moved_to(&placement, 1, 6).is_none());
-    assert_eq!(rt;
-        on_board(&rt, &pattern, &[0, 1, 2, 3, 4, 5, 6, 7, 8])
-            .cells()
-            .as_slice(),
-        goal.cells().as_slice()
-    );
 }
+
+/// The placements of two tiles on side 2, in the order of their ranks.
+const OF_TWO: [[u8; 2]; 12] = [
+    [0, 1],
+    [0, 2],
+    [0, 3],
+    [1, 0],
+    [1, 2],
+    [1, 3],
+    [2, 0],
+    [2, 1],
+    [2, 3],
+    [3, 0],
+    [3, 1],
+    [3, 2],
+];
 
 #[test]
 fn ranks_are_places_in_lexicographic_order(rt: HostRuntime) {
-    let three = pattern_of(3, 14).expect(&rt, "a pattern");
-    assert_eq!(rt;
-        rank(&on_board(&rt, &three, &[0, 1, 2, 3, 4, 5, 6, 7, 8])),
-        64
-    );
-    assert_eq!(rt;
-        rank(&on_board(&rt, &three, &[0, 4, 5, 6, 7, 8, 3, 2, 1])),
-        503
-    );
-    assert_eq!(rt;
-        of_rank(&rt, &three, 64).cells().as_slice(),
-        [1, 2, 3].as_slice()
-    );
-    assert_eq!(rt;
-        of_rank(&rt, &three, 503).cells().as_slice(),
-        [8, 7, 6].as_slice()
-    );
-
-    let two = pattern_of(2, 6).expect(&rt, "a pattern");
-    let lists = [
-        [0, 1],
-        [0, 2],
-        [0, 3],
-        [1, 0],
-        [1, 2],
-        [1, 3],
-        [2, 0],
-        [2, 1],
-        [2, 3],
-        [3, 0],
-        [3, 1],
-        [3, 2],
-    ];
-    for (r, cells) in lists.iter().enumerate() {
-        let placement = of_rank(&rt, &two, r as u64);
-        assert_eq!(rt; placement.cells().as_slice(), cells.as_slice());
-        assert_eq!(rt; rank(&placement), r as u64);
+    let pattern = pattern_with(&rt, 2, 6);
+    for (r, cells) in (0..).zip(&OF_TWO) {
+        check_cells(&rt, &of_rank(&rt, &pattern, r), cells, r);
     }
+}
+
+/// `next` goes from a rank to the one behind it, or stays at the last.
+fn check_next(rt: &impl Abort, pattern: &Pattern, r: u64) {
+    let mut placement = of_rank(rt, pattern, r);
+    let went_on = next(&mut placement);
+    let behind = r.wrapping_add(1);
+    assert_eq!(rt; went_on, behind < pattern.count());
+    assert_eq!(rt; rank(&placement), if went_on { behind } else { r });
 }
 
 #[test]
 fn ranks_of_eight_tiles_of_side_four(rt: HostRuntime) {
-    let pattern = pattern_of(4, 510).expect(&rt, "a pattern");
+    let pattern = pattern_with(&rt, 4, 510);
     let lists = [
         (0, [0, 1, 2, 3, 4, 5, 6, 7]),
         (34_761_970, [1, 2, 3, 4, 5, 6, 7, 8]),
@@ -180,33 +180,28 @@ fn ranks_of_eight_tiles_of_side_four(rt: HostRuntime) {
         (518_918_399, [15, 14, 13, 12, 11, 10, 9, 8]),
     ];
     for (r, cells) in lists {
-        let mut placement = of_rank(&rt, &pattern, r);
-        assert_eq!(rt; placement.cells().as_slice(), cells.as_slice());
-        assert_eq!(rt; rank(&placement), r);
-        let went_on = next(&mut placement);
-        assert_eq!(rt; went_on, r < 518_918_399);
-        assert_eq!(rt; rank(&placement), if went_on { r + 1 } else { r });
+        check_cells(&rt, &of_rank(&rt, &pattern, r), &cells, r);
+        check_next(&rt, &pattern, r);
     }
     assert_eq!(rt; rank(&Placement::goal(&pattern)), 34_761_970);
 }
 
 #[test]
 fn next_goes_on_and_stays_at_the_last(rt: HostRuntime) {
-    let pattern = pattern_of(3, 14).expect(&rt, "a pattern");
+    let pattern = pattern_with(&rt, 3, 14);
     let mut last = on_board(&rt, &pattern, &[0, 4, 5, 6, 7, 8, 3, 2, 1]);
     assert!(rt; !next(&mut last));
-    assert_eq!(rt; last.cells().as_slice(), [8, 7, 6].as_slice());
+    check_cells(&rt, &last, &[8, 7, 6], 503);
 
     let mut placement = on_board(&rt, &pattern, &[1, 0, 4, 5, 6, 7, 8, 3, 2]);
-    assert_eq!(rt; rank(&placement), 55);
+    check_cells(&rt, &placement, &[0, 8, 7], 55);
     assert!(rt; next(&mut placement));
-    assert_eq!(rt; placement.cells().as_slice(), [1, 0, 2].as_slice());
-    assert_eq!(rt; rank(&placement), 56);
+    check_cells(&rt, &placement, &[1, 0, 2], 56);
 }
 
 #[test]
 fn next_walks_all_placements_of_three_tiles(rt: HostRuntime) {
-    let pattern = pattern_of(3, 14).expect(&rt, "a pattern");
+    let pattern = pattern_with(&rt, 3, 14);
     let mut placement = of_rank(&rt, &pattern, 0);
     for r in 0..504 {
         assert_eq!(rt; rank(&placement), r);
@@ -222,7 +217,7 @@ fn next_walks_all_placements_of_three_tiles(rt: HostRuntime) {
 #[test]
 fn every_placement_of_side_two(rt: HostRuntime) {
     for mask in [2, 4, 6, 8, 10, 12, 14] {
-        let pattern = pattern_of(2, mask).expect(&rt, "a pattern");
+        let pattern = pattern_with(&rt, 2, mask);
         for r in 0..pattern.count() {
             let placement = of_rank(&rt, &pattern, r);
             assert_eq!(rt; rank(&placement), r);
@@ -236,40 +231,29 @@ fn every_placement_of_side_two(rt: HostRuntime) {
 
 #[test]
 fn spread_ranks_of_six_tiles_go_there_and_back(rt: HostRuntime) {
-    let pattern = pattern_of(5, 126).expect(&rt, "a pattern");
+    let pattern = pattern_with(&rt, 5, 126);
     for i in 0..3_000 {
         let placement = of_rank(&rt, &pattern, i * 42_504);
         assert_eq!(rt; rank(&placement), i * 42_504);
         check_regions(&rt, &placement);
     }
     let last = of_rank(&rt, &pattern, 127_511_999);
-    assert_eq!(rt;
-        last.cells().as_slice(),
-        [24, 23, 22, 21, 20, 19].as_slice()
-    );
-    assert_eq!(rt; rank(&last), 127_511_999);
+    check_cells(&rt, &last, &[24, 23, 22, 21, 20, 19], 127_511_999);
+}
+
+/// The regions of the placement of a rank, which has these cells.
+fn check_masks(rt: &impl Abort, pattern: &Pattern, r: u64, cells: &[u8], masks: &[u32]) {
+    let placement = of_rank(rt, pattern, r);
+    check_cells(rt, &placement, cells, r);
+    assert_eq!(rt; regions(&placement).as_slice(), masks);
+    check_regions(rt, &placement);
 }
 
 #[test]
 fn regions_are_masks_by_least_cell(rt: HostRuntime) {
-    let three = pattern_of(3, 14).expect(&rt, "a pattern");
-    let placement = on_board(&rt, &three, &[0, 1, 4, 2, 3, 5, 6, 7, 8]);
-    assert_eq!(rt; placement.cells().as_slice(), [1, 3, 4].as_slice());
-    assert_eq!(rt; regions(&placement).as_slice(), [1, 484].as_slice());
-
-    let four = pattern_of(3, 30).expect(&rt, "a pattern");
-    let placement = on_board(&rt, &four, &[0, 1, 5, 2, 6, 3, 7, 4, 8]);
-    assert_eq!(rt; placement.cells().as_slice(), [1, 3, 5, 7].as_slice());
-    assert_eq!(rt;
-        regions(&placement).as_slice(),
-        [1, 4, 16, 64, 256].as_slice()
-    );
-    assert_eq!(rt; four.width(), 5);
-}
-
-#[test]
-fn regions_of_the_larger_sides(rt: HostRuntime) {
-    let placements: [(u8, u32, u64, &[u8], &[u32]); 3] = [
+    let placements: [(u8, u32, u64, &[u8], &[u32]); 5] = [
+        (3, 14, 72, &[1, 3, 4], &[1, 484]),
+        (3, 30, 442, &[1, 3, 5, 7], &[1, 4, 16, 64, 256]),
         (4, 6, 18, &[1, 4], &[1, 65_516]),
         (
             4,
@@ -280,20 +264,17 @@ fn regions_of_the_larger_sides(rt: HostRuntime) {
         ),
         (5, 30, 14286, &[1, 5, 7, 11], &[1, 33_552_156, 64]),
     ];
-    for (n, mask, r, cells, want) in placements {
-        let pattern = pattern_of(n, mask).expect(&rt, "a pattern");
-        let placement = of_rank(&rt, &pattern, r);
-        assert_eq!(rt; placement.cells().as_slice(), cells);
-        assert_eq!(rt; regions(&placement).as_slice(), want);
-        check_regions(&rt, &placement);
+    for (n, mask, r, cells, masks) in placements {
+        check_masks(&rt, &pattern_with(&rt, n, mask), r, cells, masks);
     }
 }
 
 #[test]
 fn slots_are_regions_by_least_cell(rt: HostRuntime) {
-    let pattern = pattern_of(2, 6).expect(&rt, "a pattern");
-    let placement = on_board(&rt, &pattern, &[1, 0, 3, 2]);
-    assert_eq!(rt; placement.cells().as_slice(), [0, 3].as_slice());
-    let slots = [0, 1, 2, 3, 4].map(|cell| slot_at(&placement, cell));
-    assert_eq!(rt; slots, [None, Some(0), Some(1), None, None]);
+    let placement = on_board(&rt, &pattern_with(&rt, 2, 6), &[1, 0, 3, 2]);
+    check_cells(&rt, &placement, &[0, 3], 2);
+    let slots = [None, Some(0), Some(1), None, None];
+    for (cell, want) in (0..).zip(slots) {
+        assert_eq!(rt; slot_at(&placement, cell), want, "cell {cell}");
+    }
 }

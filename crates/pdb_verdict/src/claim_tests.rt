@@ -1,18 +1,13 @@
 //! Claims on logs that are refused before the log's lemmas are looked at. The digests were worked out by `sha256sum`.
 
-use crate::tests::{TILES_12, TILES_123, tells};
+use crate::tests::tells;
 use crate::{ClaimNames, Inputs, Workers, run_bound, run_optimal};
 use pdb_io::memory::MemShelf;
 use pdb_run::Status;
+use samples::files::{TILE_1, TILES_12, TILES_123};
 use std::alloc::{AllocError, Global};
 use std::test::Fail;
 use work_run::OpenGate;
-
-/// The tile 1 on side 2: two slots.
-const TILE_1: [u8; 28] = [
-    0x50, 0x44, 0x42, 0x54, 0x01, 0x02, 0x01, 0x00, 0x00, 0x00, 0x00, 0x02, 0x00, 0x00, 0x00, 0x00,
-    0x00, 0x00, 0x00, 0x08, 0x01, 0xFE, 0x00, 0xFE, 0x02, 0xFE, 0x01, 0xFE,
-];
 
 /// The tile 24 on side 5: the distance of each cell to cell 24.
 const TILE_24: [u8; 70] = [

@@ -4,33 +4,15 @@
 use crate::{Fault, Inputs, digests, line, report, run_replay, verify, verify_puzzle};
 use pdb_io::memory::MemShelf;
 use pdb_run::Status;
+use sample_streams::{Failing, SampleWriter};
+use samples::files::{TILE_1_NEVER, TILES_12, TILES_123, with_byte, with_one_more};
 use std::alloc::Global;
 use std::io;
-use std::io::Write;
+use std::process::Abort;
 use std::sync::Wait;
 use std::test::Fail;
 use std::thread::Threads;
 use work_run::OpenGate;
-
-/// The tiles 1, 2 and 3 on side 2: one slot.
-pub(crate) const TILES_123: [u8; 44] = [
-    0x50, 0x44, 0x42, 0x54, 0x01, 0x02, 0x03, 0x00, 0x00, 0x00, 0x00, 0x0E, 0x00, 0x00, 0x00, 0x00,
-    0x00, 0x00, 0x00, 0x18, 0xFF, 0xFF, 0x02, 0x01, 0x03, 0xFF, 0x02, 0x01, 0xFF, 0x00, 0xFF, 0xFF,
-    0xFF, 0xFF, 0x06, 0xFF, 0x05, 0x04, 0xFF, 0x03, 0x05, 0x04, 0xFF, 0xFF,
-];
-
-/// The tiles 1 and 2 on side 2: two slots.
-pub(crate) const TILES_12: [u8; 44] = [
-    0x50, 0x44, 0x42, 0x54, 0x01, 0x02, 0x02, 0x00, 0x00, 0x00, 0x00, 0x06, 0x00, 0x00, 0x00, 0x00,
-    0x00, 0x00, 0x00, 0x18, 0xFF, 0xFE, 0x01, 0xFE, 0xFF, 0x02, 0x01, 0xFE, 0x00, 0xFF, 0xFF, 0xFE,
-    0xFF, 0xFE, 0xFF, 0x04, 0x03, 0xFE, 0x02, 0xFF, 0x03, 0xFE, 0xFF, 0xFE,
-];
-
-/// The header of the tile 1 on side 2, and entries that all say 255.
-const TILE_1_NEVER: [u8; 28] = [
-    0x50, 0x44, 0x42, 0x54, 0x01, 0x02, 0x01, 0x00, 0x00, 0x00, 0x00, 0x02, 0x00, 0x00, 0x00, 0x00,
-    0x00, 0x00, 0x00, 0x08, 0xFF, 0xFF, 0xFF, 0xFF, 0xFF, 0xFF, 0xFF, 0xFF,
-];
 
 /// Whether the answer on the inputs, by some workers, is told by these bytes.
 pub(crate) fn tells<H: Threads + Wait>(
@@ -92,86 +74,90 @@ fn a_thousand_moves_are_a_solution_and_one_more_is_not(rt: HostRuntime) -> Resul
     Ok(())
 }
 
-#[test]
-fn table_files_have_their_lines(rt: HostRuntime) -> Result<(), Fail> {
-    let alloc = rt.alloc();
-    let mut one_byte = TILES_123;
-    one_byte[34] = 0x02;
-    let mut region_hidden = TILES_12;
-    region_hidden[20] = 0xFE;
-    let mut longer = [0; 45];
-    longer[..44].copy_from_slice(&TILES_123);
-    let cases: [(&[u8], &[u8]); 10] = [
-        (
-            &TILES_123,
-            b"sha256 5c515b94b4098a8408358078f3f9b8b3e46255c04334fedd62c8e67da63d237b\nexact side 2 mask 14 entries 24 unreachable 12 deepest 6\n",
-        ),
-        (
-            &one_byte,
-            b"sha256 93eb632d316304c6909c4a97aa82d761ef94f20ce32f74ce27ef957d6e44accc\nrefused T7 at entry 14\n",
-        ),
-        (
-            &TILES_12,
-            b"sha256 fc9e320726274cbeff6f0c450060cf77617b6e27b10cfe9808da3bb87454b331\nexact side 2 mask 6 entries 24 unreachable 8 deepest 4\n",
-        ),
-        (
-            &region_hidden,
-            b"sha256 758b181644f77d14bceadab78202378f68da9ddebd7e7dd3f8d0542af39c440d\nrefused T7 at entry 0\n",
-        ),
-        (
-            &TILE_1_NEVER,
-            b"sha256 65e994ddac902358680a5b05acbc60789ad4d6eb1e244fabde7e285ddb98eecb\nrefused T7 at entry 1\n",
-        ),
-        (
-            &TILES_123[..43],
-            b"sha256 aea12bbafda4799b56eeb2a425eb5282061caf355651559c15cf44e2fb7135a6\nrefused T6\n",
-        ),
-        (
-            &longer,
-            b"sha256 8bb0f5195425992f8797da48092c346122160b8df08de975cde46782ecd47319\nrefused T6\n",
-        ),
-        (
-            &TILES_123[..19],
-            b"sha256 5d59911633ed3220001c4e550ad0a0c727c8168e1f85e0b882e8ae9a97d1bf0f\nrefused T1\n",
-        ),
-        (
-            b"",
-            b"sha256 e3b0c44298fc1c149afbf4c8996fb92427ae41e4649b934ca495991b7852b855\nrefused T1\n",
-        ),
-        (
-            b"abc",
-            b"sha256 ba7816bf8f01cfea414140de5dae2223b00361a396177a9cb410ff61f20015ad\nrefused T1\n",
-        ),
-    ];
+/// Checks that each of these table files has its lines, the first of which is its digest.
+fn check_tables<H: Threads + Wait + Abort>(
+    rt: &H,
+    alloc: Global,
+    cases: &[(&[u8], &[u8])],
+) -> Result<(), Fail> {
     for (table, lines) in cases {
         let inputs = Inputs::Table { table };
-        assert!(rt; tells(&rt, alloc, &inputs, lines)?);
+        assert!(rt; tells(rt, alloc, &inputs, lines)?);
         let mut out = Vec::new(alloc);
         assert!(rt; digests(&inputs, &mut out).is_ok());
-        assert!(rt; out.as_slice() == &lines[..72]);
+        assert!(rt; lines.starts_with(&out) && out.len() == 72);
     }
     Ok(())
 }
 
-/// A writer that takes one byte at a time, and fails from one of its calls on.
-#[derive(Drop)]
-struct FailingWriter {
-    taken: Vec<u8>,
-    fails_from: usize,
+#[test]
+fn exact_tables_have_their_lines(rt: HostRuntime) -> Result<(), Fail> {
+    check_tables(
+        &rt,
+        rt.alloc(),
+        &[
+            (
+                &TILES_123,
+                b"sha256 5c515b94b4098a8408358078f3f9b8b3e46255c04334fedd62c8e67da63d237b\nexact side 2 mask 14 entries 24 unreachable 12 deepest 6\n",
+            ),
+            (
+                &TILES_12,
+                b"sha256 fc9e320726274cbeff6f0c450060cf77617b6e27b10cfe9808da3bb87454b331\nexact side 2 mask 6 entries 24 unreachable 8 deepest 4\n",
+            ),
+        ],
+    )
 }
 
-impl Write for FailingWriter {
-    fn write(&mut self, buf: &[u8]) -> io::Result<usize> {
-        if buf.is_empty() || self.taken.len() >= self.fails_from {
-            return Err(io::Error::from(io::ErrorKind::Other));
-        }
-        self.taken.push(buf[0])?;
-        Ok(1)
-    }
+#[test]
+fn bad_entries_have_their_lines(rt: HostRuntime) -> Result<(), Fail> {
+    check_tables(
+        &rt,
+        rt.alloc(),
+        &[
+            (
+                &with_byte(&TILES_123, 34, 0x02),
+                b"sha256 93eb632d316304c6909c4a97aa82d761ef94f20ce32f74ce27ef957d6e44accc\nrefused T7 at entry 14\n",
+            ),
+            (
+                &with_byte(&TILES_12, 20, 0xFE),
+                b"sha256 758b181644f77d14bceadab78202378f68da9ddebd7e7dd3f8d0542af39c440d\nrefused T7 at entry 0\n",
+            ),
+            (
+                &TILE_1_NEVER,
+                b"sha256 65e994ddac902358680a5b05acbc60789ad4d6eb1e244fabde7e285ddb98eecb\nrefused T7 at entry 1\n",
+            ),
+        ],
+    )
+}
 
-    fn flush(&mut self) -> io::Result<()> {
-        Ok(())
-    }
+#[test]
+fn files_of_another_length_have_their_lines(rt: HostRuntime) -> Result<(), Fail> {
+    check_tables(
+        &rt,
+        rt.alloc(),
+        &[
+            (
+                &TILES_123[..43],
+                b"sha256 aea12bbafda4799b56eeb2a425eb5282061caf355651559c15cf44e2fb7135a6\nrefused T6\n",
+            ),
+            (
+                &with_one_more(&TILES_123),
+                b"sha256 8bb0f5195425992f8797da48092c346122160b8df08de975cde46782ecd47319\nrefused T6\n",
+            ),
+            (
+                &TILES_123[..19],
+                b"sha256 5d59911633ed3220001c4e550ad0a0c727c8168e1f85e0b882e8ae9a97d1bf0f\nrefused T1\n",
+            ),
+            (
+                b"",
+                b"sha256 e3b0c44298fc1c149afbf4c8996fb92427ae41e4649b934ca495991b7852b855\nrefused T1\n",
+            ),
+            (
+                b"abc",
+                b"sha256 ba7816bf8f01cfea414140de5dae2223b00361a396177a9cb410ff61f20015ad\nrefused T1\n",
+            ),
+        ],
+    )
 }
 
 #[test]
@@ -182,13 +168,16 @@ fn a_write_that_fails_leaves_a_front(rt: HostRuntime) -> Result<(), Fail> {
     let lines =
         b"sha256 ba7816bf8f01cfea414140de5dae2223b00361a396177a9cb410ff61f20015ad\nrefused T1\n".as_slice();
     for fails_from in 0..=lines.len() {
-        let mut out = FailingWriter {
-            taken: Vec::new(alloc),
-            fails_from,
-        };
+        let mut out = SampleWriter::new(alloc)
+            .failing(
+                fails_from as u64,
+                u64::MAX,
+                Failing::ByError(io::ErrorKind::Other),
+            )
+            .byte_by_byte_from(0);
         let written = report(&inputs, &answer, &mut out);
         assert_eq!(rt; written.is_ok(), fails_from == lines.len());
-        assert!(rt; out.taken.as_slice() == &lines[..fails_from]);
+        assert!(rt; out.taken() == &lines[..fails_from]);
     }
     Ok(())
 }

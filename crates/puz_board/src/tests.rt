@@ -1,4 +1,5 @@
 use crate::{Board, BoardFault, Move, MoveFault, Side, replay, split_puzzle, step};
+use std::process::Abort;
 
 /// The boards of side 2 that reach the goal board, each one move from the one before: R, D, L and U in turn.
 const RING: [[u8; 4]; 12] = [
@@ -25,6 +26,19 @@ fn answer(puzzle: &[u8]) -> Option<Result<Result<u16, MoveFault>, BoardFault>> {
         Ok(board) => Ok(replay(&board, moves)),
         Err(fault) => Err(fault),
     })
+}
+
+/// The fault of a board text.
+fn fault(text: &[u8]) -> Option<BoardFault> {
+    Board::read(text).err()
+}
+
+/// What these moves do from the goal board of side 2.
+fn from_goal(rt: &impl Abort, moves: &[u8]) -> Result<u16, MoveFault> {
+    replay(
+        &Board::from_cells(&[0, 1, 2, 3]).expect(rt, "a board"),
+        moves,
+    )
 }
 
 #[test]
@@ -124,32 +138,31 @@ fn board_faults_come_in_their_order(rt: HostRuntime) {
         ),
     ];
     for (text, want) in texts {
-        assert_eq!(rt; Board::read(text).err(), Some(want), "{text:?}");
+        assert_eq!(rt; fault(text), Some(want), "{text:?}");
     }
-    assert_eq!(rt;
-        Board::read(b" 00 01\t02\n03\r\n").ok(),
-        Board::from_cells(&[0, 1, 2, 3])
-    );
+}
+
+/// The side of the board of a text, its cells, the blank's cell, and whether it is the goal board.
+fn shown(text: &[u8]) -> Option<(u8, u8, u8, bool)> {
+    let board = Board::read(text).ok()?;
+    let side = board.side();
+    Some((side.get(), side.cells(), board.blank(), board.is_goal()))
 }
 
 #[test]
 fn a_board_of_each_side_is_read(rt: HostRuntime) {
-    let texts: [(&[u8], u8); 4] = [
-        (b"3 2 1 0", 2),
-        (b"8 7 6 5 4 3 2 1 0", 3),
-        (b"15 14 13 12 11 10 9 8 7 6 5 4 3 2 1 0", 4),
+    let texts: [(&[u8], (u8, u8, u8, bool)); 5] = [
+        (b" 00 01\t02\n03\r\n", (2, 4, 0, true)),
+        (b"3 2 1 0", (2, 4, 3, false)),
+        (b"8 7 6 5 4 3 2 1 0", (3, 9, 8, false)),
+        (b"15 14 13 12 11 10 9 8 7 6 5 4 3 2 1 0", (4, 16, 15, false)),
         (
             b"24 23 22 21 20 19 18 17 16 15 14 13 12 11 10 9 8 7 6 5 4 3 2 1 0",
-            5,
+            (5, 25, 24, false),
         ),
     ];
-    for (text, n) in texts {
-        let board = Board::read(text).expect(&rt, "a board");
-        let side = board.side();
-        assert_eq!(rt; side.get(), n);
-        assert_eq!(rt; side.cells(), n * n);
-        assert_eq!(rt; board.blank(), n * n - 1);
-        assert_eq!(rt; board.is_goal(), false);
+    for (text, want) in texts {
+        assert_eq!(rt; shown(text), Some(want), "{text:?}");
     }
 }
 
@@ -173,22 +186,27 @@ fn sides_are_two_to_five(rt: HostRuntime) {
     }
 }
 
+/// Where a step leads from a cell of side 3: up, down, left and right.
+fn steps(rt: &impl Abort, cell: u8) -> [Option<u8>; 4] {
+    let side = Side::of(3).expect(rt, "a side");
+    assert!(rt; cell < side.cells());
+    let up = step(side, cell, Move::Up);
+    let down = step(side, cell, Move::Down);
+    let left = step(side, cell, Move::Left);
+    let right = step(side, cell, Move::Right);
+    [up, down, left, right]
+}
+
 #[test]
 fn a_step_stops_at_the_edge(rt: HostRuntime) {
-    let side = Side::of(3).expect(&rt, "a side");
-    let steps = [
+    let cells = [
         (4, [Some(1), Some(7), Some(3), Some(5)]),
         (2, [None, Some(5), Some(1), None]),
         (3, [Some(0), Some(6), None, Some(4)]),
         (8, [Some(5), None, Some(7), None]),
     ];
-    for (cell, want) in steps {
-        assert!(rt; cell < 9);
-        let up = step(side, cell, Move::Up);
-        let down = step(side, cell, Move::Down);
-        let left = step(side, cell, Move::Left);
-        let right = step(side, cell, Move::Right);
-        assert_eq!(rt; [up, down, left, right], want, "from cell {cell}");
+    for (cell, want) in cells {
+        assert_eq!(rt; steps(&rt, cell), want, "from cell {cell}");
     }
 }
 
@@ -231,22 +249,20 @@ fn a_thousand_moves_are_the_most(rt: HostRuntime) {
     for i in 0..500usize {
         text[2 * i + 1] = b'L';
     }
-    let board = Board::read(b"0 1 2 3").expect(&rt, "a board");
-    assert_eq!(rt;
-        text.as_slice()
-            .get(..1000)
-            .map(|front| replay(&board, front)),
-        Some(Ok(1000))
-    );
-    assert_eq!(rt; replay(&board, &text), Err(MoveFault::M3));
+    let front = text.as_slice().get(..1000).unwrap_or(&[]);
+    assert_eq!(rt; from_goal(&rt, front), Ok(1000));
     // The move that leaves the board is the last that counts, or the first that doesn't.
-    text[999] = b'R';
-    assert_eq!(rt; replay(&board, &text), Err(MoveFault::M2(999)));
-    text[999] = b'L';
-    text[1000] = b'L';
-    assert_eq!(rt; replay(&board, &text), Err(MoveFault::M3));
-    text[1000] = b'x';
-    assert_eq!(rt; replay(&board, &text), Err(MoveFault::M1(1000)));
+    let changes = [
+        (1000, b'R', MoveFault::M3),
+        (1000, b'L', MoveFault::M3),
+        (1000, b'x', MoveFault::M1(1000)),
+        (999, b'R', MoveFault::M2(999)),
+    ];
+    for (place, byte, want) in changes {
+        let mut changed = text;
+        changed[place] = byte;
+        assert_eq!(rt; from_goal(&rt, &changed), Err(want), "byte {place}");
+    }
 }
 
 #[test]
@@ -255,11 +271,10 @@ fn texts_of_the_greatest_length(rt: HostRuntime) {
     for i in 0..32768usize {
         numbers[2 * i] = b' ';
     }
-    assert_eq!(rt; Board::read(&numbers).err(), Some(BoardFault::B3(32768)));
+    assert_eq!(rt; fault(&numbers), Some(BoardFault::B3(32768)));
     numbers[65534] = b'1';
-    assert_eq!(rt; Board::read(&numbers).err(), Some(BoardFault::B2(65533)));
+    assert_eq!(rt; fault(&numbers), Some(BoardFault::B2(65533)));
     numbers[65535] = b'x';
-    assert_eq!(rt; Board::read(&numbers).err(), Some(BoardFault::B1(65535)));
-    let board = Board::read(b"0 1 2 3").expect(&rt, "a board");
-    assert_eq!(rt; replay(&board, &[b' '; 65536]), Ok(0));
+    assert_eq!(rt; fault(&numbers), Some(BoardFault::B1(65535)));
+    assert_eq!(rt; from_goal(&rt, &[b' '; 65536]), Ok(0));
 }

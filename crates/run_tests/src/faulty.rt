@@ -5,87 +5,14 @@ use pdb_io::memory::MemShelf;
 use pdb_io::shelf::{KeepFault, Shelf};
 use pdb_io::streams::ReadFault;
 use pdb_program::run;
+use sample_streams::{Failing, SampleReader, SampleWriter};
 use samples::files::TILE_1;
 use std::alloc::Global;
 use std::io;
-use std::io::{Read, Write};
 use std::sync::Wait;
 use std::test::Fail;
 use std::thread::Threads;
 use work_run::OpenGate;
-
-/// A reader that gives at most so many bytes at a time, and fails at one of its calls.
-#[derive(Drop)]
-struct FaultyReader<'a> {
-    rest: &'a [u8],
-    piece: usize,
-    calls: usize,
-    fails_at: Option<usize>,
-}
-
-impl Read for FaultyReader<'_> {
-    fn read(&mut self, buf: &mut [u8]) -> io::Result<usize> {
-        let call = self.calls;
-        self.calls = call.saturating_add(1);
-        if self.fails_at == Some(call) {
-            return Err(io::Error::from(io::ErrorKind::Other));
-        }
-        let count = self.piece.min(buf.len()).min(self.rest.len());
-        let (given, rest) = self.rest.split_at(count);
-        buf[..count].copy_from_slice(given);
-        self.rest = rest;
-        Ok(count)
-    }
-}
-
-/// How a writer fails.
-#[derive(Clone, Copy)]
-enum Failing {
-    ByError,
-    ByTakingNothing,
-}
-
-/// A writer that takes at most so many bytes at a time, and fails from one of its calls on.
-#[derive(Drop)]
-struct FaultyWriter {
-    taken: Vec<u8>,
-    piece: usize,
-    calls: usize,
-    fails_from: usize,
-    failing: Failing,
-}
-
-impl FaultyWriter {
-    fn new(alloc: Global, piece: usize, fails_from: usize, failing: Failing) -> FaultyWriter {
-        FaultyWriter {
-            taken: Vec::new(alloc),
-            piece,
-            calls: 0,
-            fails_from,
-            failing,
-        }
-    }
-}
-
-impl Write for FaultyWriter {
-    fn write(&mut self, buf: &[u8]) -> io::Result<usize> {
-        let call = self.calls;
-        self.calls = call.saturating_add(1);
-        if call >= self.fails_from {
-            return match self.failing {
-                Failing::ByError => Err(io::Error::from(io::ErrorKind::Other)),
-                Failing::ByTakingNothing => Ok(0),
-            };
-        }
-        let count = self.piece.min(buf.len());
-        self.taken.extend_from_slice(&buf[..count])?;
-        Ok(count)
-    }
-
-    fn flush(&mut self) -> io::Result<()> {
-        Ok(())
-    }
-}
 
 const SOLVED: &[u8] = b"3 2 1 0 ; ULDRUL\n";
 
@@ -95,14 +22,11 @@ const EXACT: &[u8] =
 #[test]
 fn a_read_that_fails_is_a_fault_alone(rt: HostRuntime) -> Result<(), Fail> {
     let alloc = rt.alloc();
-    for call in 0..4usize {
+    for call in 0..=SOLVED.len() as u64 {
         let mut shelf = MemShelf::of(alloc, &[])?;
-        let mut reader = FaultyReader {
-            rest: SOLVED,
-            piece: 6,
-            calls: 0,
-            fails_at: Some(call),
-        };
+        let mut reader = SampleReader::new(SOLVED)
+            .failing(call, call + 1, io::ErrorKind::Other)
+            .byte_by_byte_from(0);
         ran(&rt, alloc, &[], &mut shelf, &mut reader)?.expect(b"fault read -\n", 2)?;
     }
     Ok(())
@@ -112,15 +36,19 @@ fn a_read_that_fails_is_a_fault_alone(rt: HostRuntime) -> Result<(), Fail> {
 fn bytes_read_one_by_one_are_read_whole(rt: HostRuntime) -> Result<(), Fail> {
     let alloc = rt.alloc();
     let mut shelf = MemShelf::of(alloc, &[])?;
-    let mut reader = FaultyReader {
-        rest: SOLVED,
-        piece: 1,
-        calls: 0,
-        fails_at: None,
-    };
+    let mut reader = SampleReader::new(SOLVED).byte_by_byte_from(0);
     ran(&rt, alloc, &[], &mut shelf, &mut reader)?.expect(b"solution 6\n", 0)?;
-    assert_eq!(rt; reader.calls, SOLVED.len() + 1);
+    assert_eq!(rt; reader.calls(), SOLVED.len() as u64 + 1);
     Ok(())
+}
+
+const BY_ERROR: Failing = Failing::ByError(io::ErrorKind::Other);
+
+/// A writer that takes one byte at a time, and fails from one of its writes on.
+fn failing_from(alloc: Global, call: usize, how: Failing) -> SampleWriter {
+    SampleWriter::new(alloc)
+        .failing(call as u64, u64::MAX, how)
+        .byte_by_byte_from(0)
 }
 
 /// A run on a shelf with a table, over this output.
@@ -128,7 +56,7 @@ fn ran_over<H: Threads + Wait>(
     rt: &H,
     alloc: Global,
     words: &[&str],
-    out: &mut FaultyWriter,
+    out: &mut SampleWriter,
 ) -> Result<u8, Fail> {
     let mut shelf = MemShelf::of(alloc, &[("t", TILE_1.as_slice())])?;
     let mut reader = SOLVED;
@@ -161,15 +89,15 @@ fn a_write_that_fails_leaves_a_front_of_the_lines(rt: HostRuntime) -> Result<(),
         (&["table", "no table"], b"fault read no table\n"),
     ];
     for (words, lines) in cases {
-        for failing in [Failing::ByError, Failing::ByTakingNothing] {
+        for how in [BY_ERROR, Failing::ByTakingNothing] {
             for fails_from in 0..lines.len() {
-                let mut out = FaultyWriter::new(alloc, 1, fails_from, failing);
+                let mut out = failing_from(alloc, fails_from, how);
                 let status = ran_over(&rt, alloc, words, &mut out)?;
                 assert!(rt;
-                    status == 2 && out.taken.as_slice() == &lines[..fails_from],
+                    status == 2 && out.taken() == &lines[..fails_from],
                     "write {fails_from}"
                 );
-                assert_eq!(rt; out.calls, fails_from + 1);
+                assert_eq!(rt; out.calls(), fails_from as u64 + 1);
             }
         }
     }
@@ -179,13 +107,13 @@ fn a_write_that_fails_leaves_a_front_of_the_lines(rt: HostRuntime) -> Result<(),
 #[test]
 fn help_that_cannot_be_written_is_a_fault(rt: HostRuntime) -> Result<(), Fail> {
     let alloc = rt.alloc();
-    let mut whole = FaultyWriter::new(alloc, usize::MAX, 1, Failing::ByError);
+    let mut whole = SampleWriter::new(alloc).failing(1, u64::MAX, BY_ERROR);
     assert_eq!(rt; ran_over(&rt, alloc, &["help", "table"], &mut whole)?, 0);
     for fails_from in [0, 1, 100] {
-        let mut out = FaultyWriter::new(alloc, 1, fails_from, Failing::ByError);
+        let mut out = failing_from(alloc, fails_from, BY_ERROR);
         assert_eq!(rt; ran_over(&rt, alloc, &["help", "table"], &mut out)?, 2);
         assert!(rt;
-            out.taken.len() == fails_from && whole.taken.starts_with(out.taken.as_slice()),
+            out.taken().len() == fails_from && whole.taken().starts_with(out.taken()),
             "write {fails_from}"
         );
     }
@@ -203,14 +131,14 @@ fn all_that_a_run_says_is_one_write(rt: HostRuntime) -> Result<(), Fail> {
         (&["--help"], 0),
     ];
     for (words, want) in cases {
-        let mut out = FaultyWriter::new(alloc, usize::MAX, usize::MAX, Failing::ByError);
+        let mut out = SampleWriter::new(alloc);
         let status = ran_over(&rt, alloc, words, &mut out)?;
         assert!(rt;
-            status == want && out.calls == 1,
+            status == want && out.calls() == 1,
             "status {status}, {} writes",
-            out.calls
+            out.calls()
         );
-        assert!(rt; out.taken.ends_with(b"\n"));
+        assert!(rt; out.taken().ends_with(b"\n"));
     }
     Ok(())
 }

@@ -3,27 +3,9 @@
 use crate::runs::{expect_line, ran, replayed};
 use pdb_io::memory::MemShelf;
 use pdb_io::shelf::Shelf;
+use sample_streams::EndlessReader;
 use samples::files::TWO_BLOCKS;
-use std::io;
-use std::io::Read;
 use std::test::Fail;
-
-/// A reader that gives one space for ever, and counts its calls.
-#[derive(Drop)]
-struct Endless {
-    calls: usize,
-}
-
-impl Read for Endless {
-    fn read(&mut self, buf: &mut [u8]) -> io::Result<usize> {
-        self.calls = self.calls.saturating_add(1);
-        if buf.is_empty() {
-            return Ok(0);
-        }
-        buf[0] = b' ';
-        Ok(1)
-    }
-}
 
 #[test]
 fn texts_of_65536_bytes_are_read_and_one_more_is_not(rt: HostRuntime) -> Result<(), Fail> {
@@ -46,9 +28,9 @@ fn texts_of_65536_bytes_are_read_and_one_more_is_not(rt: HostRuntime) -> Result<
 fn a_reader_without_end_is_left_after_one_byte_too_many(rt: HostRuntime) -> Result<(), Fail> {
     let alloc = rt.alloc();
     let mut shelf = MemShelf::of(alloc, &[])?;
-    let mut reader = Endless { calls: 0 };
+    let mut reader = EndlessReader::new(1);
     ran(&rt, alloc, &[], &mut shelf, &mut reader)?.expect(b"fault size -\n", 2)?;
-    assert!(rt; reader.calls <= 65_538, "{} reads", reader.calls);
+    assert!(rt; reader.calls() <= 65_538, "{} reads", reader.calls());
     Ok(())
 }
 

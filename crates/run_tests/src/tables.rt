@@ -2,13 +2,33 @@
 
 use crate::runs::{expect_line, ran};
 use pdb_io::memory::MemShelf;
-use samples::files::{TILE_1, TILE_3, TILE_24, TILES_12, TILES_123};
+use samples::files::{
+    TILE_1, TILE_1_NEVER, TILE_3, TILE_24, TILES_12, TILES_123, with_byte, with_one_more,
+};
+use std::alloc::Global;
+use std::sync::Wait;
 use std::test::Fail;
+use std::thread::Threads;
+
+/// A file, its digest and the line on it.
+type Case<'a> = (&'a [u8], &'a str, &'a str);
+
+/// Runs on these files say their lines, with this status.
+fn expect_lines<H: Threads + Wait>(
+    rt: &H,
+    alloc: Global,
+    cases: &[Case<'_>],
+    status: u8,
+) -> Result<(), Fail> {
+    for (file, digest, line) in cases {
+        expect_line(rt, alloc, file, digest, line, status)?;
+    }
+    Ok(())
+}
 
 #[test]
 fn exact_tables_are_told_with_their_census(rt: HostRuntime) -> Result<(), Fail> {
-    let alloc = rt.alloc();
-    let cases: [(&[u8], &str, &str); 5] = [
+    let cases: [Case<'_>; 5] = [
         (
             &TILES_123,
             "5c515b94b4098a8408358078f3f9b8b3e46255c04334fedd62c8e67da63d237b",
@@ -35,76 +55,63 @@ fn exact_tables_are_told_with_their_census(rt: HostRuntime) -> Result<(), Fail> 
             "exact side 5 mask 16777216 entries 50 unreachable 0 deepest 8",
         ),
     ];
-    for (file, digest, line) in cases {
-        expect_line(&rt, alloc, file, digest, line, 0)?;
-    }
-    Ok(())
+    expect_lines(&rt, rt.alloc(), &cases, 0)
 }
 
 #[test]
-fn changed_tables_are_refused(rt: HostRuntime) -> Result<(), Fail> {
-    let alloc = rt.alloc();
-    let cases: [(&[u8], usize, u8, &str, &str); 6] = [
+fn bad_entries_are_refused(rt: HostRuntime) -> Result<(), Fail> {
+    let cases: [Case<'_>; 3] = [
         (
-            &TILES_123,
-            34,
-            0x02,
+            &with_byte(&TILES_123, 34, 0x02),
             "93eb632d316304c6909c4a97aa82d761ef94f20ce32f74ce27ef957d6e44accc",
             "refused T7 at entry 14",
         ),
         (
-            &TILES_12,
-            20,
-            0xFE,
+            &with_byte(&TILES_12, 20, 0xFE),
             "758b181644f77d14bceadab78202378f68da9ddebd7e7dd3f8d0542af39c440d",
             "refused T7 at entry 0",
         ),
         (
-            &TILES_123,
-            4,
-            0x02,
+            &TILE_1_NEVER,
+            "65e994ddac902358680a5b05acbc60789ad4d6eb1e244fabde7e285ddb98eecb",
+            "refused T7 at entry 1",
+        ),
+    ];
+    expect_lines(&rt, rt.alloc(), &cases, 1)
+}
+
+#[test]
+fn bad_headers_are_refused(rt: HostRuntime) -> Result<(), Fail> {
+    let file = with_byte(&TILES_123, 5, 0x06);
+    let cut = file.as_slice().get(..30).unwrap_or(&[]);
+    let cases: [Case<'_>; 4] = [
+        (
+            &with_byte(&TILES_123, 4, 0x02),
             "ef2d666e2f4aaaeb29d2d10038be0a1f9cd55dd3f6187cbcf13f36b81f3b5cba",
             "refused T2",
         ),
         (
-            &TILES_123[..30],
-            5,
-            0x06,
+            cut,
             "cddbe43035ceaf89307ac243dcb9040293a8491aac6513a42426e38e11e3da42",
             "refused T3",
         ),
         (
-            &TILES_123,
-            6,
-            0x02,
+            &with_byte(&TILES_123, 6, 0x02),
             "bce26ef53ba218bccabe92cc108b68cb96a0d0ff657da76eaceee20804a04f88",
             "refused T4",
         ),
         (
-            &TILES_123,
-            19,
-            0x19,
+            &with_byte(&TILES_123, 19, 0x19),
             "0daa9082ccb8569f11fefa74faca284c11f6397338c95bc866e843a90fc81312",
             "refused T5",
         ),
     ];
-    for (file, place, byte, digest, line) in cases {
-        let mut changed = file.to_vec(alloc)?;
-        changed[place] = byte;
-        expect_line(&rt, alloc, changed.as_slice(), digest, line, 1)?;
-    }
-    let mut never = [0xFF; 28];
-    never[..20].copy_from_slice(&TILE_1[..20]);
-    let digest = "65e994ddac902358680a5b05acbc60789ad4d6eb1e244fabde7e285ddb98eecb";
-    expect_line(&rt, alloc, &never, digest, "refused T7 at entry 1", 1)
+    expect_lines(&rt, rt.alloc(), &cases, 1)
 }
 
 #[test]
 fn files_of_another_length_are_refused(rt: HostRuntime) -> Result<(), Fail> {
-    let alloc = rt.alloc();
-    let mut longer = [0; 45];
-    longer[..44].copy_from_slice(&TILES_123);
-    let cases: [(&[u8], &str, &str); 5] = [
+    let cases: [Case<'_>; 5] = [
         (
             b"",
             "e3b0c44298fc1c149afbf4c8996fb92427ae41e4649b934ca495991b7852b855",
@@ -126,15 +133,12 @@ fn files_of_another_length_are_refused(rt: HostRuntime) -> Result<(), Fail> {
             "refused T6",
         ),
         (
-            &longer,
+            &with_one_more(&TILES_123),
             "8bb0f5195425992f8797da48092c346122160b8df08de975cde46782ecd47319",
             "refused T6",
         ),
     ];
-    for (file, digest, line) in cases {
-        expect_line(&rt, alloc, file, digest, line, 1)?;
-    }
-    Ok(())
+    expect_lines(&rt, rt.alloc(), &cases, 1)
 }
 
 #[test]

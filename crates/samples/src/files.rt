@@ -46,3 +46,25 @@ pub const FOURTEEN_BLOCKS: [u8; 20] = [
     0x50, 0x44, 0x42, 0x54, 0x01, 0x04, 0x03, 0x00, 0x00, 0x00, 0x00, 0x0E, 0x00, 0x00, 0x00, 0x00,
     0x00, 0x00, 0x34, 0x80,
 ];
+
+/// The header of the tile 1 on side 2, and entries that all say that no walk leads home.
+pub const TILE_1_NEVER: [u8; 28] = [
+    0x50, 0x44, 0x42, 0x54, 0x01, 0x02, 0x01, 0x00, 0x00, 0x00, 0x00, 0x02, 0x00, 0x00, 0x00, 0x00,
+    0x00, 0x00, 0x00, 0x08, 0xFF, 0xFF, 0xFF, 0xFF, 0xFF, 0xFF, 0xFF, 0xFF,
+];
+
+/// A file with another byte at one place; the same file where there is no such place.
+pub fn with_byte(file: &[u8; 44], place: usize, byte: u8) -> [u8; 44] {
+    let mut changed = *file;
+    if let Some(here) = changed.get_mut(place) {
+        *here = byte;
+    }
+    changed
+}
+
+/// A file with a zero behind it.
+pub fn with_one_more(file: &[u8; 44]) -> [u8; 45] {
+    let mut longer = [0; 45];
+    longer[..44].copy_from_slice(file);
+    longer
+}

@@ -2,6 +2,7 @@
 
 use crate::{Bundle, SetFault};
 use puz_board::Board;
+use samples::files::{TILE_1, TILE_3, TILE_24, TILES_12, TILES_123};
 use std::alloc::Global;
 use std::process::Abort;
 use std::sync::Wait;
@@ -9,41 +10,6 @@ use std::test::Fail;
 use std::thread::Threads;
 use tab_check::{CheckedTable, Count, check_table};
 use work_run::OpenGate;
-
-/// The tiles 1, 2 and 3 on side 2: one slot.
-const TILES_123: [u8; 44] = [
-    0x50, 0x44, 0x42, 0x54, 0x01, 0x02, 0x03, 0x00, 0x00, 0x00, 0x00, 0x0E, 0x00, 0x00, 0x00, 0x00,
-    0x00, 0x00, 0x00, 0x18, 0xFF, 0xFF, 0x02, 0x01, 0x03, 0xFF, 0x02, 0x01, 0xFF, 0x00, 0xFF, 0xFF,
-    0xFF, 0xFF, 0x06, 0xFF, 0x05, 0x04, 0xFF, 0x03, 0x05, 0x04, 0xFF, 0xFF,
-];
-
-/// The tiles 1 and 2 on side 2: two slots.
-const TILES_12: [u8; 44] = [
-    0x50, 0x44, 0x42, 0x54, 0x01, 0x02, 0x02, 0x00, 0x00, 0x00, 0x00, 0x06, 0x00, 0x00, 0x00, 0x00,
-    0x00, 0x00, 0x00, 0x18, 0xFF, 0xFE, 0x01, 0xFE, 0xFF, 0x02, 0x01, 0xFE, 0x00, 0xFF, 0xFF, 0xFE,
-    0xFF, 0xFE, 0xFF, 0x04, 0x03, 0xFE, 0x02, 0xFF, 0x03, 0xFE, 0xFF, 0xFE,
-];
-
-/// The tile 1 on side 2.
-const TILE_1: [u8; 28] = [
-    0x50, 0x44, 0x42, 0x54, 0x01, 0x02, 0x01, 0x00, 0x00, 0x00, 0x00, 0x02, 0x00, 0x00, 0x00, 0x00,
-    0x00, 0x00, 0x00, 0x08, 0x01, 0xFE, 0x00, 0xFE, 0x02, 0xFE, 0x01, 0xFE,
-];
-
-/// The tile 3 on side 2.
-const TILE_3: [u8; 28] = [
-    0x50, 0x44, 0x42, 0x54, 0x01, 0x02, 0x01, 0x00, 0x00, 0x00, 0x00, 0x08, 0x00, 0x00, 0x00, 0x00,
-    0x00, 0x00, 0x00, 0x08, 0x02, 0xFE, 0x01, 0xFE, 0x01, 0xFE, 0x00, 0xFE,
-];
-
-/// The tile 24 on side 5.
-const TILE_24: [u8; 70] = [
-    0x50, 0x44, 0x42, 0x54, 0x01, 0x05, 0x01, 0x00, 0x01, 0x00, 0x00, 0x00, 0x00, 0x00, 0x00, 0x00,
-    0x00, 0x00, 0x00, 0x32, 0x08, 0xFE, 0x07, 0xFE, 0x06, 0xFE, 0x05, 0xFE, 0x04, 0xFE, 0x07, 0xFE,
-    0x06, 0xFE, 0x05, 0xFE, 0x04, 0xFE, 0x03, 0xFE, 0x06, 0xFE, 0x05, 0xFE, 0x04, 0xFE, 0x03, 0xFE,
-    0x02, 0xFE, 0x05, 0xFE, 0x04, 0xFE, 0x03, 0xFE, 0x02, 0xFE, 0x01, 0xFE, 0x04, 0xFE, 0x03, 0xFE,
-    0x02, 0xFE, 0x01, 0xFE, 0x00, 0xFE,
-];
 
 /// The tables of files, checked by one worker.
 fn checked<'a, R: Threads + Wait + AllocGlobal + Abort>(
@@ -86,38 +52,58 @@ fn sum<R: Threads + Wait + AllocGlobal + Abort>(
     }
 }
 
+/// A bundle's files and its set text, a set and a board, and the sum.
+type Sum = (&'static [&'static [u8]], &'static [u8], u8, [u8; 4], Count);
+
+const SUMS: [Sum; 7] = [
+    (
+        &[&TILES_12, &TILE_3],
+        b"set 0 1\n",
+        0,
+        [3, 2, 1, 0],
+        Count::Finite(6),
+    ),
+    (
+        &[&TILES_12, &TILE_3],
+        b"set 0 1\n",
+        0,
+        [0, 1, 3, 2],
+        Count::Never,
+    ),
+    (
+        &[&TILES_12, &TILE_3],
+        b"set 0 1\n",
+        0,
+        [0, 1, 2, 3],
+        Count::Finite(0),
+    ),
+    (
+        &[&TILES_12, &TILE_3],
+        b"set 0\nset 1\n",
+        0,
+        [3, 2, 1, 0],
+        Count::Finite(4),
+    ),
+    (
+        &[&TILES_12, &TILE_3],
+        b"set 0\nset 1\n",
+        1,
+        [3, 2, 1, 0],
+        Count::Finite(2),
+    ),
+    (&[&TILES_123], b"set 0\n", 0, [3, 2, 1, 0], Count::Finite(6)),
+    (&[&TILES_123], b"set 0\n", 0, [0, 1, 3, 2], Count::Never),
+];
+
 #[test]
 fn tables_of_a_set_add_up(rt: HostRuntime) {
-    let files: [&[u8]; 2] = [&TILES_12, &TILE_3];
-    assert_eq!(rt;
-        sum(&rt, &files, b"set 0 1\n", 0, &[3, 2, 1, 0]),
-        Some(Count::Finite(6))
-    );
-    assert_eq!(rt;
-        sum(&rt, &files, b"set 0 1\n", 0, &[0, 1, 3, 2]),
-        Some(Count::Never)
-    );
-    assert_eq!(rt;
-        sum(&rt, &files, b"set 0 1\n", 0, &[0, 1, 2, 3]),
-        Some(Count::Finite(0))
-    );
-    assert_eq!(rt;
-        sum(&rt, &files, b"set 0\nset 1\n", 0, &[3, 2, 1, 0]),
-        Some(Count::Finite(4))
-    );
-    assert_eq!(rt;
-        sum(&rt, &files, b"set 0\nset 1\n", 1, &[3, 2, 1, 0]),
-        Some(Count::Finite(2))
-    );
-    let files: [&[u8]; 1] = [&TILES_123];
-    assert_eq!(rt;
-        sum(&rt, &files, b"set 0\n", 0, &[3, 2, 1, 0]),
-        Some(Count::Finite(6))
-    );
-    assert_eq!(rt;
-        sum(&rt, &files, b"set 0\n", 0, &[0, 1, 3, 2]),
-        Some(Count::Never)
-    );
+    for (files, text, set, numbers, want) in SUMS {
+        assert_eq!(rt;
+            sum(&rt, files, text, set, &numbers),
+            Some(want),
+            "{text:?}, {numbers:?}"
+        );
+    }
 }
 
 /// The side, the tables and the sets of a bundle.
@@ -132,16 +118,18 @@ fn sizes<R: Threads + Wait + AllocGlobal + Abort>(
 
 #[test]
 fn sides_tables_and_sets_are_counted(rt: HostRuntime) {
-    assert_eq!(rt;
-        sizes(&rt, &[&TILES_12, &TILE_3], b"set 0 1\n"),
-        Some((2, 2, 1))
-    );
-    assert_eq!(rt; sizes(&rt, &[&TILE_24], b"set 0\nset 0\n"), Some((5, 1, 2)));
-    let sixteen: [&[u8]; 16] = [&TILE_1; 16];
-    assert_eq!(rt;
-        sizes(&rt, &sixteen, b"set 9\nset 15\nset 10\n"),
-        Some((2, 16, 3))
-    );
+    let bundles: [(&[&[u8]], &[u8], (u8, u8, u8)); 3] = [
+        (&[&TILES_12, &TILE_3], b"set 0 1\n", (2, 2, 1)),
+        (&[&TILE_24], b"set 0\nset 0\n", (5, 1, 2)),
+        (
+            &[TILE_1.as_slice(); 16],
+            b"set 9\nset 15\nset 10\n",
+            (2, 16, 3),
+        ),
+    ];
+    for (files, text, want) in bundles {
+        assert_eq!(rt; sizes(&rt, files, text), Some(want), "{text:?}");
+    }
 }
 
 /// Sixteen lines of the set of table 0, and what may follow them.
@@ -194,45 +182,44 @@ fn lines_of_another_form_are_refused(rt: HostRuntime) {
     }
 }
 
+/// The tiles 1 and 2, and the tile 1 again.
+const OVERLAPPING: &[&[u8]] = &[&TILES_12, &TILE_1];
+
 #[test]
 fn missing_and_overlapping_tables_are_refused(rt: HostRuntime) {
-    let overlapping: [&[u8]; 2] = [&TILES_12, &TILE_1];
-    assert_eq!(rt;
-        fault(&rt, &overlapping, b"set 0 1\n"),
-        Some(SetFault::S3(0))
-    );
-    assert_eq!(rt;
-        fault(&rt, &overlapping, b"set 0\nset 1\nset 0 1\n"),
-        Some(SetFault::S3(2))
-    );
     // A table that isn't there comes before tables that share a tile, on whatever lines.
-    assert_eq!(rt;
-        fault(&rt, &overlapping, b"set 0 1\nset 0 2\n"),
-        Some(SetFault::S2(1))
-    );
-    let files: [&[u8]; 1] = [&TILE_1];
-    assert_eq!(rt;
-        fault(&rt, &files, b"set 0\nset 1\n"),
-        Some(SetFault::S2(1))
-    );
-    assert_eq!(rt;
-        fault(&rt, &files, b"set 0 16 17 99\n"),
-        Some(SetFault::S2(0))
-    );
+    let texts: [(&[&[u8]], &[u8], SetFault); 5] = [
+        (OVERLAPPING, b"set 0 1\n", SetFault::S3(0)),
+        (OVERLAPPING, b"set 0\nset 1\nset 0 1\n", SetFault::S3(2)),
+        (OVERLAPPING, b"set 0 1\nset 0 2\n", SetFault::S2(1)),
+        (&[&TILE_1], b"set 0\nset 1\n", SetFault::S2(1)),
+        (&[&TILE_1], b"set 0 16 17 99\n", SetFault::S2(0)),
+    ];
+    for (files, text, want) in texts {
+        assert_eq!(rt; fault(&rt, files, text), Some(want), "{text:?}");
+    }
 }
 
 #[test]
 fn a_bundle_has_1_to_16_tables_of_one_side(rt: HostRuntime) {
-    assert_eq!(rt; fault(&rt, &[], b"set 0\n"), Some(SetFault::S5));
     let seventeen: [&[u8]; 17] = [&TILE_1; 17];
     assert_eq!(rt; fault(&rt, &seventeen, b"set 0\n"), Some(SetFault::S5));
-    assert_eq!(rt;
-        fault(&rt, &[&TILE_1, &TILE_24], b"set 0 1\n"),
-        Some(SetFault::S4(1))
-    );
     // Other sides come before lines of another form.
-    assert_eq!(rt;
-        fault(&rt, &[&TILE_1, &TILE_3, &TILE_24, &TILE_24], b""),
-        Some(SetFault::S4(2))
-    );
+    let texts: [(&[&[u8]], &[u8], SetFault); 3] = [
+        (&[], b"set 0\n", SetFault::S5),
+        (&[&TILE_1, &TILE_24], b"set 0 1\n", SetFault::S4(1)),
+        (
+            &[&TILE_1, &TILE_3, &TILE_24, &TILE_24],
+            b"",
+            SetFault::S4(2),
+        ),
+    ];
+    for (files, text, want) in texts {
+        assert_eq!(rt;
+            fault(&rt, files, text),
+            Some(want),
+            "{} tables",
+            files.len()
+        );
+    }
 }

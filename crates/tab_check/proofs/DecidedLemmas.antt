@@ -19,11 +19,11 @@ module _ (t : Table) (pat : IsPattern t.pattern) (cells : List ℕ) (place : IsP
 
   move_decided : (index to : ℕ) → Decided (MayMove t.pattern.side cells j index to)
   move_decided index to = elim (cell_decided t.pattern pat cells j to) [
-    | inr none ↦ inr (λ m. none (m.free, m.in_slot))
+    | inr none ↦ inr (λ m. none m.in_slot)
     | inl inside ↦ elim (cases_lt index (length cells)) [
       | inr past ↦ inr (λ m. let l : index < length cells = m.is_index in omega arith)
       | inl low ↦ elim (adjacent_decided t.pattern.side cells to (get_or cells index 0)) [
-        | inl beside ↦ inl (record { free = inside.0; in_slot = inside.1; is_index = low; adjacent = beside })
+        | inl beside ↦ inl (record { in_slot = inside; is_index = low; adjacent = beside })
         | inr none ↦ inr (λ m. none m.adjacent)
       ]
     ]
@@ -41,18 +41,18 @@ module _ (t : Table) (pat : IsPattern t.pattern) (cells : List ℕ) (place : IsP
           let q : List ℕ = set cells index to in
           let left : ℕ = get_or cells index 0 in
           let near = near_from_move t.pattern pat cells has.cell j index to has.in_slot moves in
-          let ok = near_valid t.pattern pat cells has.cell q left place has.free near in
+          let ok = near_valid t.pattern pat cells has.cell q left place has.in_slot.free near in
           let x = entry_total t.pattern pat t.entries q left ok.0 ok.1 in
           elim (cases_eq x.0 e) [
             | inl same ↦ inl (moves, subst (IsEntryAt t q left) same x.1)
-            | inr other ↦ inr (λ h. other (entry_one t.pattern pat t.entries q left x.0 e ok.1 x.1 h.1))
+            | inr other ↦ inr (λ h. other (entry_one t.pattern pat t.entries q left x.0 e x.1 h.1))
           ]
     ]
 
     tile_decided : (e index : ℕ) → Decided ((to : ℕ) × LeadsTo e index to)
     tile_decided e index = elim (least_below (LeadsTo e index) (after_decided e index) (t.pattern.side * t.pattern.side)) [
       | inl h ↦ inl (h.0, h.2)
-      | inr none ↦ inr (λ h. none h.0 h.1.0.free.0 h.1)
+      | inr none ↦ inr (λ h. none h.0 h.1.0.in_slot.free.0 h.1)
     ]
 
     near_decided : (e : ℕ) → Decided (IsNearEntry t cells j e)
@@ -91,15 +91,15 @@ one_more_decided m e = elim (cases_lt m 253) [
 
 pub rule_decided : (t : Table) → IsPattern t.pattern → (cells : List ℕ) (j e : ℕ) → IsPlaced t.pattern cells → Decided (LocalRule t cells j e)
 rule_decided t pat cells j e place = elim (region_cases t.pattern pat cells j) [
-  | inr none ↦ from_test (LocalRule t cells j e) _ (rule_no_region t pat cells j e none)
+  | inr none ↦ from_test (LocalRule t cells j e) _ (rule_no_region t cells j e none)
   | inl has ↦ elim (goal_decided t.pattern cells has.cell) [
-    | inl home ↦ from_test (LocalRule t cells j e) _ (rule_goal t pat cells j e has (slot_from_region t.pattern pat cells has.cell j has.free has.in_slot home))
+    | inl home ↦ from_test (LocalRule t cells j e) _ (rule_goal t cells j e has (slot_from_region t.pattern pat cells has.cell j has.in_slot home))
     | inr far ↦
         let away : ¬ IsGoalSlot t.pattern cells j = λ g. far (region_from_slot t.pattern pat cells has.cell j has.in_slot g) in
         let m = least_near_some t pat cells place j has in
         elim (one_more_decided m.0 e) [
-          | inl held ↦ inl (rule_away t pat cells j e has away m.0 m.1 true (λ _. held, λ _. refl))
-          | inr failed ↦ inr (rule_away t pat cells j e has away m.0 m.1 false (λ no. absurd (let clash : false ≡ true = no in cc), λ held. absurd (failed held)))
+          | inl held ↦ inl (rule_away t cells j e has away m.0 m.1 true (λ _. held, λ _. refl))
+          | inr failed ↦ inr (rule_away t cells j e has away m.0 m.1 false (λ no. absurd (let clash : false ≡ true = no in cc), λ held. absurd (failed held)))
         ]
   ]
 ]

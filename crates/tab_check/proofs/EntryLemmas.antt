@@ -11,7 +11,7 @@ use Rattle.pat_place.specs.Patterns.{PatternView, IsPattern, has, width}
 use Rattle.pat_place.specs.Placements.{IsApart, IsFree}
 use Rattle.pat_place.specs.Regions.{IsSlot, here, onward}
 use Rattle.pat_place.proofs.BoardOf.{board_of}
-use Rattle.pat_place.proofs.JoinLemmas.{Decided, Joins-free, free_decided}
+use Rattle.pat_place.proofs.JoinLemmas.{Decided, free_decided}
 use Rattle.pat_place.proofs.RankLemmas.{IsRank-one, IsRank-some}
 use Rattle.pat_place.proofs.SlotLemmas.{least_below, region_slot, slot_one, slot_region, slot_some}
 use Rattle.pat_place.proofs.WidthLemmas.{slot_within}
@@ -69,22 +69,22 @@ module _ (p : PatternView) (pat : IsPattern p) where
   slot_in : (cells : List ℕ) (c j : ℕ) → IsPlaced p cells → IsSlot p.side cells c j → j < slot_count p
   slot_in cells c j place is = subst (λ k. j < width p.side k) place.size (slot_within p.side pat.low pat.high cells c j place.inside place.apart is)
 
-  pub cell_decided : (cells : List ℕ) (j c : ℕ) → Decided (IsFree p.side cells c × IsSlot p.side cells c j)
+  pub cell_decided : (cells : List ℕ) (j c : ℕ) → Decided (IsSlot p.side cells c j)
   cell_decided cells j c = elim (free_decided p.side cells c) [
-    | inr none ↦ inr (λ h. none h.0)
+    | inr none ↦ inr (λ h. none h.free)
     | inl free ↦
         let some = slot_some p.side pat.low pat.high cells c free in
         elim (cases_eq some.0 j) [
-          | inl e ↦ inl (free, subst (λ i. IsSlot p.side cells c i) e some.1)
-          | inr ne ↦ inr (λ h. ne (slot_one p.side pat.low pat.high cells c some.0 j free some.1 h.1))
+          | inl e ↦ inl (subst (λ i. IsSlot p.side cells c i) e some.1)
+          | inr ne ↦ inr (λ h. ne (slot_one p.side pat.low pat.high cells c some.0 j some.1 h))
         ]
   ]
 
   -- a slot has a region, or it has none
   pub region_cases : (cells : List ℕ) (j : ℕ) → HasRegion p.side cells j ⊎ HasNoRegion p.side cells j
-  region_cases cells j = elim (least_below (λ c. IsFree p.side cells c × IsSlot p.side cells c j) (cell_decided cells j) (p.side * p.side)) [
-    | inl h ↦ inl (record { cell = h.0; free = h.2.0; in_slot = h.2.1 })
-    | inr none ↦ inr (λ c free is. none c free.0 (free, is))
+  region_cases cells j = elim (least_below (λ c. IsSlot p.side cells c j) (cell_decided cells j) (p.side * p.side)) [
+    | inl h ↦ inl (record { cell = h.0; in_slot = h.2 })
+    | inr none ↦ inr (λ c is. none c is.free.0 is)
   ]
 
   -- ---- the moves of a slot are those of each cell of its region
@@ -92,7 +92,7 @@ module _ (p : PatternView) (pat : IsPattern p) where
   pub near_from_move : (cells : List ℕ) (c j index to : ℕ) → IsSlot p.side cells c j → MayMove p.side cells j index to → IsNear p.side cells c (set cells index to) (get_or cells index 0)
   near_from_move cells c j index to is move = record {
     to = to;
-    joined = slot_region p.side pat.low pat.high cells c to j move.free is move.in_slot;
+    joined = slot_region p.side pat.low pat.high cells c to j is move.in_slot;
     index = index;
     is_index = move.is_index;
     tile_cell = refl;
@@ -100,20 +100,19 @@ module _ (p : PatternView) (pat : IsPattern p) where
     moves = refl;
   }
 
-  pub move_from_near : (cells : List ℕ) (c j : ℕ) (q : List ℕ) (t : ℕ) → IsFree p.side cells c → IsSlot p.side cells c j → (near : IsNear p.side cells c q t) → MayMove p.side cells j near.index near.to
-  move_from_near cells c j q t free is near = record {
-    free = Joins-free p.side cells free near.joined;
-    in_slot = region_slot p.side pat.low pat.high cells c near.to j free near.joined is;
+  pub move_from_near : (cells : List ℕ) (c j : ℕ) (q : List ℕ) (t : ℕ) → IsSlot p.side cells c j → (near : IsNear p.side cells c q t) → MayMove p.side cells j near.index near.to
+  move_from_near cells c j q t is near = record {
+    in_slot = region_slot p.side pat.low pat.high cells c near.to j near.joined is;
     is_index = near.is_index;
     adjacent = subst (λ x. Adjacent p.side near.to x) (sym near.tile_cell) near.adjacent;
   }
 
-  pub near_entry : (entries cells : List ℕ) (c j : ℕ) (q : List ℕ) (t x : ℕ) → IsFree p.side cells c → IsSlot p.side cells c j → IsNear p.side cells c q t → IsEntryAt (table p entries) q t x
+  pub near_entry : (entries cells : List ℕ) (c j : ℕ) (q : List ℕ) (t x : ℕ) → IsSlot p.side cells c j → IsNear p.side cells c q t → IsEntryAt (table p entries) q t x
       → IsNearEntry (table p entries) cells j x
-  near_entry entries cells c j q t x free is near at_q = record {
+  near_entry entries cells c j q t x is near at_q = record {
     index = near.index;
     to = near.to;
-    moves = move_from_near cells c j q t free is near;
+    moves = move_from_near cells c j q t is near;
     entry = subst (λ r. IsEntryAt (table p entries) r (get_or cells near.index 0) x) near.moves (subst (λ d. IsEntryAt (table p entries) q d x) (sym near.tile_cell) at_q);
   }
 
@@ -142,9 +141,9 @@ module _ (p : PatternView) (pat : IsPattern p) where
         let k = number_some cells c j.0 place j.1 in
         (slice_index entries k.0, record { slot = j.0; is_slot = j.1; number = k.0; is_number = k.1; holds = refl })
 
-    pub entry_one : (cells : List ℕ) (c e f : ℕ) → IsFree p.side cells c → IsEntryAt (table p entries) cells c e → IsEntryAt (table p entries) cells c f → e ≡ f
-    entry_one cells c e f free is also =
-        let same : is.slot ≡ also.slot = slot_one p.side pat.low pat.high cells c is.slot also.slot free is.is_slot also.is_slot in
+    pub entry_one : (cells : List ℕ) (c e f : ℕ) → IsEntryAt (table p entries) cells c e → IsEntryAt (table p entries) cells c f → e ≡ f
+    entry_one cells c e f is also =
+        let same : is.slot ≡ also.slot = slot_one p.side pat.low pat.high cells c is.slot also.slot is.is_slot also.is_slot in
         sym is.holds ∙
         ap (slice_index entries) (number_one cells also.slot is.number also.number (subst (λ j. IsNumberOf p cells j is.number) same is.is_number) also.is_number) ∙
         also.holds
@@ -159,7 +158,7 @@ module _ (p : PatternView) (pat : IsPattern p) where
     valued-is : (cells : List ℕ) (c e : ℕ) (a : Decided (IsPlaced p cells)) (f : Decided (IsFree p.side cells c)) → IsPlaced p cells → IsFree p.side cells c → IsEntryAt (table p entries) cells c e
         → valued cells c a f ≡ decode e
     unfolding valued
-    valued-is cells c e (inl place) (inl free) pl fr is = ap decode (entry_one cells c (entry_total cells c place free).0 e free (entry_total cells c place free).1 is)
+    valued-is cells c e (inl place) (inl free) pl fr is = ap decode (entry_one cells c (entry_total cells c place free).0 e (entry_total cells c place free).1 is)
     valued-is cells c e (inl place) (inr none) pl fr is = absurd (none fr)
     valued-is cells c e (inr none) f pl fr is = absurd (none pl)
 
@@ -176,7 +175,7 @@ module _ (p : PatternView) (pat : IsPattern p) where
         let e = entry_total cells c place free_c in
         let at_d : IsEntryAt (table p entries) cells d e.0 = record {
           slot = e.1.slot;
-          is_slot = region_slot p.side pat.low pat.high cells c d e.1.slot free_c (onward adj free_d here) e.1.is_slot;
+          is_slot = region_slot p.side pat.low pat.high cells c d e.1.slot (onward adj free_d here) e.1.is_slot;
           number = e.1.number;
           is_number = e.1.is_number;
           holds = e.1.holds;

@@ -58,9 +58,19 @@ module _ (p : PatternView) (pat : IsPattern p) (entries : List ℕ) (exact : Are
       let ok = near_valid p pat cells c q t place free near in
       value-is p pat entries q t x ok.0 ok.1 at_q ∙ decode_small x (omega arith)
 
-  module _ (cells : List ℕ) (c j e : ℕ) (place : IsPlaced p cells) (free : IsFree p.side cells c) (slot : IsSlot p.side cells c j) (is : IsEntryAt (table p entries) cells c e) where
+  module _ (cells : List ℕ) (c j e : ℕ) (place : IsPlaced p cells) (slot : IsSlot p.side cells c j) (is : IsEntryAt (table p entries) cells c e) where
     region : HasRegion p.side cells j
-    region = record { cell = c; free = free; in_slot = slot }
+    region = record { cell = c; in_slot = slot }
+
+    -- an entry one move away is the value near by, or 255
+    near_known : (x : ℕ) → IsNearEntry (table p entries) cells j x → ((q : List ℕ) × (t : ℕ) × IsNear p.side cells c q t × (value p pat entries q t ≡ Some x)) ⊎ (x ≡ 255)
+    near_known x next =
+        let q : List ℕ = set cells next.index next.to in
+        let t : ℕ = get_or cells next.index 0 in
+        let at_q : IsEntryAt (table p entries) q t x = next.entry in
+        let near = near_from_move p pat cells c j next.index next.to slot next.moves in
+        let ok = near_valid p pat cells c q t place slot.free near in
+        elim (shape q t x ok.0 ok.1 at_q) [ inl l ↦ inl (q, t, near, near_value cells c q t x place slot.free near at_q l) | inr full ↦ inr full ]
 
     -- where the value is one more than the least near it, so is the entry
     least_near : (k : ℕ) (q : List ℕ) (t : ℕ) → k < 253 → e ≡ suc k → IsNear p.side cells c q t → value p pat entries q t ≡ Some k
@@ -68,11 +78,11 @@ module _ (p : PatternView) (pat : IsPattern p) (entries : List ℕ) (exact : Are
     least_near k q t small more near has_k bound = record {
       most = omega arith;
       least = lower;
-      reached = inr (near_entry p pat entries cells c j q t k free slot near at_k);
+      reached = inr (near_entry p pat entries cells c j q t k slot near at_k);
     }
       where
         ok : IsPlaced p q × IsFree p.side q t
-        ok = near_valid p pat cells c q t place free near
+        ok = near_valid p pat cells c q t place slot.free near
 
         x : (x : ℕ) × IsEntryAt (table p entries) q t x
         x = entry_total p pat entries q t ok.0 ok.1
@@ -81,40 +91,22 @@ module _ (p : PatternView) (pat : IsPattern p) (entries : List ℕ) (exact : Are
         at_k = subst (IsEntryAt (table p entries) q t) (decode_some x.0 k (sym (value-is p pat entries q t x.0 ok.0 ok.1 x.1) ∙ has_k)) x.1
 
         lower : (x : ℕ) → IsNearEntry (table p entries) cells j x → k ≤ x
-        lower x next =
-            let q : List ℕ = set cells next.index next.to in
-            let t : ℕ = get_or cells next.index 0 in
-            let at_q : IsEntryAt (table p entries) q t x = next.entry in
-            let near = near_from_move p pat cells c j next.index next.to slot next.moves in
-            let ok = near_valid p pat cells c q t place free near in
-            elim (shape q t x ok.0 ok.1 at_q) [
-              | inl l ↦ let b : e ≤ suc x = bound q t x near (near_value cells c q t x place free near at_q l) in omega arith
-              | inr full ↦ omega arith
-            ]
+        lower x next = elim (near_known x next) [ inl h ↦ (let b : e ≤ suc x = bound h.0 h.1 x h.2 h.3 in omega arith) | inr full ↦ omega arith ]
 
     none_near : ((q : List ℕ) (t : ℕ) → IsNear p.side cells c q t → value p pat entries q t ≡ None) → IsLeastNear (table p entries) cells j 255
     none_near none = record { most = omega arith; least = lower; reached = inl refl }
       where
         lower : (x : ℕ) → IsNearEntry (table p entries) cells j x → 255 ≤ x
-        lower x next =
-            let q : List ℕ = set cells next.index next.to in
-            let t : ℕ = get_or cells next.index 0 in
-            let at_q : IsEntryAt (table p entries) q t x = next.entry in
-            let near = near_from_move p pat cells c j next.index next.to slot next.moves in
-            let ok = near_valid p pat cells c q t place free near in
-            elim (shape q t x ok.0 ok.1 at_q) [
-              | inl l ↦ absurd (let bad : Some x ≡ None = sym (near_value cells c q t x place free near at_q l) ∙ none q t near in cc)
-              | inr full ↦ omega arith
-            ]
+        lower x next = elim (near_known x next) [ inl h ↦ absurd (let bad : Some x ≡ None = sym h.3 ∙ none h.0 h.1 h.2 in cc) | inr full ↦ omega arith ]
 
     rule_at : LocalRule (table p entries) cells j e
-    rule_at = elim (rule_from_exact p pat (value p pat entries) (value-constant p pat entries) exact_value cells c place free) [
-      | inl g ↦ goal (slot_from_region p pat cells c j free slot g.0) (decode_some e 0 (sym known ∙ g.1))
-      | inr far ↦ away (λ g. far.0 (region_from_slot p pat cells c j slot g)) (shape cells c e place free is) far.1
+    rule_at = elim (rule_from_exact p pat (value p pat entries) (value-constant p pat entries) exact_value cells c place slot.free) [
+      | inl g ↦ goal (slot_from_region p pat cells c j slot g.0) (decode_some e 0 (sym known ∙ g.1))
+      | inr far ↦ away (λ g. far.0 (region_from_slot p pat cells c j slot g)) (shape cells c e place slot.free is) far.1
     ]
       where
         known : value p pat entries cells c ≡ decode e
-        known = value-is p pat entries cells c e place free is
+        known = value-is p pat entries cells c e place slot.free is
 
         counted : (¬ IsGoalSlot p cells j) → e ≤ 253 → IsOneMore p (value p pat entries) cells c (Some e) → LocalRule (table p entries) cells j e
         counted far l one =
@@ -130,7 +122,7 @@ module _ (p : PatternView) (pat : IsPattern p) (entries : List ℕ) (exact : Are
   pub entries_keep : AllKeepRule (table p entries)
   entries_keep number cells j is = elim (region_cases p pat cells j) [
     | inr none ↦ no_region none ((exact cells j number is).no_region none)
-    | inl has ↦ rule_at cells has.cell j (slice_index entries number) is.placement has.free has.in_slot
+    | inl has ↦ rule_at cells has.cell j (slice_index entries number) is.placement has.in_slot
         (record { slot = j; is_slot = has.in_slot; number = number; is_number = is; holds = refl })
   ]
 

@@ -3,30 +3,28 @@ use Rattle.std.proofs.Common.{◌≡◌, ℕ, suc, ◌*◌, ◌<◌, ◌≤◌, 
 use Rattle.std.specs.Prelude.{MatchBool, IsTrue, ◌↔◌}
 use Rattle.std.specs.Int.{bit_at}
 use Rattle.std.proofs.lemmas.Bool.{both_ways, eqb-true, eqb-false}
-use Rattle.pat_place.specs.Patterns.{IsPattern}
 use Rattle.pat_place.specs.Regions.{AreRegions, IsLeader, here}
 use Rattle.pat_place.proofs.SlotLemmas.{count_grows, count_place}
 use Rattle.tab_file.specs.Tables.{Table}
 use Rattle.tab_check.specs.Entries.{HasNoRegion, HasRegion}
 use Rattle.tab_check.specs.LocalRule.{IsGoalSlot, IsLeastNear, IsLeastOf, LocalRule, goal, never, no_region, one_more}
 use Rattle.tab_check.specs.Moves.{IsRegion}
-use Rattle.tab_check.proofs.RuleLemmas.{goal_free}
 
 -- ---- slots and the list of regions
 
 module _ (n : ℕ) (cells masks : List ℕ) (are : AreRegions n cells masks) where
   pub none_past : (j : ℕ) → length masks ≤ j → HasNoRegion n cells j
-  none_past j l c free is =
+  none_past j l c is =
       let low : j < length masks = count_grows (IsLeader n cells) is.leader (n * n) j (length masks) is.is_leader is.is_leader.0.0 is.below are.all in
       omega arith
 
   pub region_of_mask : (j : ℕ) → j < length masks → HasRegion n cells j
   region_of_mask j l =
       let x = count_place (IsLeader n cells) (n * n) (length masks) j are.all l in
-      record { cell = x.0; free = x.2.0; in_slot = record { free = x.2.0; leader = x.0; joined = here; is_leader = x.2; below = x.3 } }
+      record { cell = x.0; in_slot = record { free = x.2.0; leader = x.0; joined = here; is_leader = x.2; below = x.3 } }
 
   pub mask_is_region : (j : ℕ) → j < length masks → IsRegion n cells j (get_or masks j 0)
-  mask_is_region j l c = let each = are.each j c l in (λ h. let slot = each.0 h in (slot.free, slot), λ h. each.1 h.1)
+  mask_is_region j l c = are.each j c l
 
 -- ---- the rule, where its case is known
 
@@ -40,21 +38,21 @@ IsLeastOf-only Has m k is also = let a = low m k is also in let b = low k m also
     low : (m k : ℕ) → IsLeastOf Has m → IsLeastOf Has k → m ≤ k
     low m k is also = elim also.reached [ inl full ↦ (let l = is.most in omega arith) | inr h ↦ is.least k h ]
 
-module _ (t : Table) (pat : IsPattern t.pattern) (cells : List ℕ) (j e : ℕ) where
+module _ (t : Table) (cells : List ℕ) (j e : ℕ) where
   pub rule_no_region : HasNoRegion t.pattern.side cells j → MatchBool (eqb e 254) (LocalRule t cells j e) (LocalRule t cells j e → ⊥)
   rule_no_region none = by_test (LocalRule t cells j e) (LocalRule t cells j e → ⊥) (eqb e 254) (λ held. no_region none (eqb-true e 254 held)) (λ other. breaks (eqb-false e 254 other))
     where
       breaks : (e ≡ 254 → ⊥) → LocalRule t cells j e → ⊥
       breaks other (no_region without is) = other is
-      breaks other (goal g is) = none 0 (goal_free t.pattern pat cells g.0) g.1
-      breaks other (one_more m region far least small is) = none region.cell region.free region.in_slot
-      breaks other (never region far least is) = none region.cell region.free region.in_slot
+      breaks other (goal g is) = none 0 g.1
+      breaks other (one_more m region far least small is) = none region.cell region.in_slot
+      breaks other (never region far least is) = none region.cell region.in_slot
 
   pub rule_goal : HasRegion t.pattern.side cells j → IsGoalSlot t.pattern cells j → MatchBool (eqb e 0) (LocalRule t cells j e) (LocalRule t cells j e → ⊥)
   rule_goal has home = by_test (LocalRule t cells j e) (LocalRule t cells j e → ⊥) (eqb e 0) (λ held. goal home (eqb-true e 0 held)) (λ other. breaks (eqb-false e 0 other))
     where
       breaks : (e ≡ 0 → ⊥) → LocalRule t cells j e → ⊥
-      breaks other (no_region without is) = without has.cell has.free has.in_slot
+      breaks other (no_region without is) = without has.cell has.in_slot
       breaks other (goal g is) = other is
       breaks other (one_more m region far least small is) = far home
       breaks other (never region far least is) = far home
@@ -68,10 +66,10 @@ module _ (t : Table) (pat : IsPattern t.pattern) (cells : List ℕ) (j e : ℕ) 
       keeps (inr h) = never has away (subst (IsLeastNear t cells j) h.0 near) h.1
 
       breaks : ((((m < 253) × (e ≡ suc m)) ⊎ ((m ≡ 255) × (e ≡ 255))) → ⊥) → LocalRule t cells j e → ⊥
-      breaks other (no_region without is) = without has.cell has.free has.in_slot
+      breaks other (no_region without is) = without has.cell has.in_slot
       breaks other (goal g is) = away g
       breaks other (one_more k region far least small is) = let same : m ≡ k = IsLeastOf-only _ m k near least in other (inl (omega arith, omega arith))
       breaks other (never region far least is) = let same : m ≡ 255 = IsLeastOf-only _ m 255 near least in other (inr (same, is))
 
   pub mask_from_goal : (mask : ℕ) → IsRegion t.pattern.side cells j mask → IsGoalSlot t.pattern cells j → bit_at mask 0 ≡ 1
-  mask_from_goal mask is g = (is 0).1 (goal_free t.pattern pat cells g.0, g.1)
+  mask_from_goal mask is g = (is 0).1 g.1

@@ -16,7 +16,7 @@ use Rattle.tab_check.specs.Laws.{HasPathOf, IsEntryOf}
 use Rattle.tab_check.specs.LocalRule.{IsNearEntry}
 use Rattle.tab_check.proofs.EntryLemmas.{near_entry}
 use Rattle.tab_check.proofs.ExactLemmas.{files_exact}
-use Rattle.tab_check.proofs.NearLemmas.{IsFree-in, free_keeps, near_from_one}
+use Rattle.tab_check.proofs.NearLemmas.{free_keeps, near_from_one}
 
 module _ (t : Table) (is : IsTable t) (b : List ℕ) (good : IsBoardOf t.pattern.side b) where
   before : State t.pattern.side
@@ -32,7 +32,7 @@ module _ (t : Table) (is : IsTable t) (b : List ℕ) (good : IsBoardOf t.pattern
             let k = free_keeps t.pattern is.pattern before (moved t.pattern.side t.pattern.tiles before c adjacent.0) (c, adjacent, other, refl) in
             let at_c : IsEntryAt t (placement_of t.pattern.tiles b) c e = record {
               slot = entry.slot;
-              is_slot = region_slot t.pattern.side is.pattern.low is.pattern.high (placement_of t.pattern.tiles b) (blank b) c entry.slot (IsFree-in t.pattern is.pattern before) (onward adjacent k.2 here) entry.is_slot;
+              is_slot = region_slot t.pattern.side is.pattern.low is.pattern.high (placement_of t.pattern.tiles b) (blank b) c entry.slot (onward adjacent k.2 here) entry.is_slot;
               number = entry.number;
               is_number = entry.is_number;
               holds = entry.holds;
@@ -47,7 +47,7 @@ module _ (t : Table) (is : IsTable t) (b : List ℕ) (good : IsBoardOf t.pattern
         leads : (j e : ℕ) → IsSlot t.pattern.side (placement_of t.pattern.tiles b) (blank b) j → IsEntryOf t (slid b c) e → IsNearEntry t (placement_of t.pattern.tiles b) j e
         leads j e slot entry =
             let near = near_from_one t.pattern is.pattern before (moved t.pattern.side t.pattern.tiles before c adjacent.0) (before, Ways.here, (c, adjacent, tile, refl)) in
-            near_entry t.pattern is.pattern t.entries (placement_of t.pattern.tiles b) (blank b) j (placement_of t.pattern.tiles (slid b c)) (blank (slid b c)) e (IsFree-in t.pattern is.pattern before) slot near entry
+            near_entry t.pattern is.pattern t.entries (placement_of t.pattern.tiles b) (blank b) j (placement_of t.pattern.tiles (slid b c)) (blank (slid b c)) e slot near entry
 
   module _ (keeps : AllKeepRule t) (e : ℕ) (entry : IsEntryOf t b e) where
     says : SaysOfBoard t.pattern.tiles b e

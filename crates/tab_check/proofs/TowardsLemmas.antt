@@ -6,30 +6,25 @@ use Rattle.puz_board.specs.declared.moves.Move.{Move}
 use Rattle.puz_board.specs.declared.moves.Move.TheVariants.{Up, Down, Left, Right}
 use Rattle.puz_board.specs.Cells.{Adjacent, step_of, reverse_of}
 use Rattle.puz_board.proofs.CellLemmas.{reverse_of-takes_back}
-use Rattle.pat_place.specs.Patterns.{IsPattern}
-use Rattle.pat_place.specs.Placements.{PlacementView, IsFree, IsPlacement}
+use Rattle.pat_place.specs.Placements.{PlacementView}
 use Rattle.pat_place.proofs.ListLemmas.{Some-one, all_at}
-use Rattle.tab_file.specs.Tables.{Table}
+use Rattle.tab_file.specs.Tables.{Table, IsTable}
 use Rattle.tab_check.specs.Entries.{IsEntryAt}
 use Rattle.tab_check.specs.LocalRule.{IsLeastNear, IsLeastOf, IsNearEntry}
-use Rattle.tab_check.specs.Moves.{IsEntryAfter, IsEntryAmong, IsEntryTowards, IsRegion}
+use Rattle.tab_check.specs.Moves.{IsEntryAfter, IsEntryAmong, IsEntryTowards, IsRegion, IsTileIn}
 use Rattle.tab_check.proofs.EntryLemmas.{entry_one}
-use Rattle.tab_check.proofs.MoveLemmas.{IsLeastOf-min, IsLeastOf-none, IsLeastOf-one, IsLeastOf-same, left_free}
+use Rattle.tab_check.proofs.MoveLemmas.{IsLeastOf-min, IsLeastOf-none, IsLeastOf-one, IsLeastOf-same}
 
--- a record of what is known of a tile that may move
-pub record IsTile (t : Table) (p : PlacementView) (index : ℕ) : Type 0 where
-  pub pattern : IsPattern t.pattern
-  pub same : p.pattern ≡ t.pattern
-  pub placement : IsPlacement p
-  pub low : index < length p.cells
+module _ (t : Table) (p : PlacementView) (index cell : ℕ) (tile : IsTileIn t p index cell) where
+  table : IsTable t
+  table = tile.0
 
-module _ (t : Table) (p : PlacementView) (index : ℕ) (tile : IsTile t p index) where
   cell_in : get_or p.cells index 0 < t.pattern.side * t.pattern.side
-  cell_in = subst (λ q. get_or p.cells index 0 < q.side * q.side) tile.same (all_at p.cells index tile.placement.inside tile.low)
+  cell_in = subst (λ q. get_or p.cells index 0 < q.side * q.side) tile.1 (all_at p.cells index tile.2.inside tile.3)
 
   -- a move from the tile's cell leads back from where it goes
   back : (mv : Move) (to : ℕ) → step_of t.pattern.side (get_or p.cells index 0) mv ≡ Some to → Adjacent t.pattern.side to (get_or p.cells index 0)
-  back mv to steps = (cell_in, reverse_of mv, reverse_of-takes_back mv t.pattern.side (get_or p.cells index 0) to tile.pattern.low tile.pattern.high cell_in steps)
+  back mv to steps = (cell_in, reverse_of mv, reverse_of-takes_back mv t.pattern.side (get_or p.cells index 0) to table.pattern.low table.pattern.high cell_in steps)
 
   module _ (j region : ℕ) (is : IsRegion t.pattern.side p.cells j region) (mv : Move) where
     pub towards_some : (to e : ℕ) → step_of t.pattern.side (get_or p.cells index 0) mv ≡ Some to → bit_at region to ≡ 1 → e < 256 → IsEntryAt t (set p.cells index to) (get_or p.cells index 0) e
@@ -38,20 +33,16 @@ module _ (t : Table) (p : PlacementView) (index : ℕ) (tile : IsTile t p index)
         (record {
           to = to;
           steps = steps;
-          moves = record { free = free; in_slot = ((is to).0 inside).1; is_index = tile.low; adjacent = back mv to steps };
+          moves = record { in_slot = (is to).0 inside; is_index = tile.3; adjacent = back mv to steps };
           entry = entry;
         })
         only
       where
-        free : IsFree t.pattern.side p.cells to
-        free = ((is to).0 inside).0
-
         only : (f : ℕ) → IsEntryTowards t p.cells j index mv f → f ≡ e
         only f other =
             let same : other.to ≡ to = Some-one other.to to (sym other.steps ∙ steps) in
             let at_to : IsEntryAt t (set p.cells index to) (get_or p.cells index 0) f = subst (λ x. IsEntryAt t (set p.cells index x) (get_or p.cells index 0) f) same other.entry in
-            let left = left_free p tile.placement index to tile.low (subst (λ q. IsFree q.side p.cells to) (sym tile.same) free) in
-            entry_one t.pattern tile.pattern t.entries (set p.cells index to) (get_or p.cells index 0) f e (subst (λ q. IsFree q.side (set p.cells index to) (get_or p.cells index 0)) tile.same left) at_to entry
+            entry_one t.pattern table.pattern t.entries (set p.cells index to) (get_or p.cells index 0) f e at_to entry
 
   -- ---- the four moves
 
@@ -62,7 +53,7 @@ module _ (t : Table) (p : PlacementView) (index : ℕ) (tile : IsTile t p index)
   dropped j mv e other = record { to = other.to; moves = other.moves; entry = other.entry }
 
   split : (j e : ℕ) → IsEntryAfter t p.cells j index e → (Towards j Up e ⊎ Towards j Down e) ⊎ (Towards j Left e ⊎ Towards j Right e)
-  split j e after = go after.moves.adjacent.1 (reverse_of-takes_back after.moves.adjacent.1 t.pattern.side after.to (get_or p.cells index 0) tile.pattern.low tile.pattern.high after.moves.free.0 after.moves.adjacent.2)
+  split j e after = go after.moves.adjacent.1 (reverse_of-takes_back after.moves.adjacent.1 t.pattern.side after.to (get_or p.cells index 0) table.pattern.low table.pattern.high after.moves.in_slot.free.0 after.moves.adjacent.2)
     where
       with_steps : (mv : Move) → step_of t.pattern.side (get_or p.cells index 0) mv ≡ Some after.to → Towards j mv e
       with_steps mv steps = record { to = after.to; steps = steps; moves = after.moves; entry = after.entry }

@@ -1,7 +1,7 @@
 -- Entries of a table: one for each placement and slot, rank by rank, and slot by slot within a rank.
 use Rattle.std.specs.Prelude.{◌≡◌, ℕ, ◌+◌, ◌*◌, ◌<◌, List, slice_index}
 use Rattle.pat_place.specs.Patterns.{PatternView}
-use Rattle.pat_place.specs.Placements.{IsFree, IsPlacement}
+use Rattle.pat_place.specs.Placements.{IsPlacement}
 use Rattle.pat_place.specs.Ranks.{IsRank}
 use Rattle.pat_place.specs.Regions.{IsSlot}
 use Rattle.tab_file.specs.Tables.{Table, slot_count}
@@ -30,15 +30,14 @@ pub record IsNumberOf (p : PatternView) (cells : List ℕ) (j number : ℕ) : Ty
   pub slot : j < slot_count p
   pub counted : number ≡ rank * slot_count p + j
 
--- the slot has a region: a free cell of that slot
+-- the slot has a region: a cell of that slot
 pub record HasRegion (n : ℕ) (cells : List ℕ) (j : ℕ) : Type 0 where
   pub cell : ℕ
-  pub free : IsFree n cells cell
   pub in_slot : IsSlot n cells cell j
 
 -- the slot has no region
 abbrev pub HasNoRegion : ℕ → List ℕ → ℕ → Type 0
-HasNoRegion n cells j = (c : ℕ) → IsFree n cells c → ¬ IsSlot n cells c j
+HasNoRegion n cells j = (c : ℕ) → ¬ IsSlot n cells c j
 
 -- e is the entry of the placement and of the region of cell c
 pub record IsEntryAt (t : Table) (cells : List ℕ) (c e : ℕ) : Type 0 where

@@ -2,14 +2,12 @@
 use Rattle.std.specs.Prelude.{◌≡◌, ℕ, suc, ◌<◌, ◌≤◌, ◌⊎◌, List, length, slice_index, slice_set}
 use Rattle.puz_board.specs.Cells.{Adjacent}
 use Rattle.pat_place.specs.Patterns.{PatternView}
-use Rattle.pat_place.specs.Placements.{IsFree}
 use Rattle.pat_place.specs.Regions.{IsSlot}
 use Rattle.tab_file.specs.Tables.{Table}
 use Rattle.tab_check.specs.Entries.{HasNoRegion, HasRegion, IsEntryAt, greatest_count, no_region_entry, no_way_home}
 
 -- the tile with this index is adjacent to a cell of the slot's region, to which it may move
 pub record MayMove (n : ℕ) (cells : List ℕ) (j index to : ℕ) : Type 0 where
-  pub free : IsFree n cells to
   pub in_slot : IsSlot n cells to j
   pub is_index : index < length cells
   pub adjacent : Adjacent n to (slice_index cells index)

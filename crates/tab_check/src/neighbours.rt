@@ -1,11 +1,11 @@
 //! The entries one move of a pattern's tile away.
 
-ghost use Rattle.std.specs.Prelude.{◌≡◌, ℕ, ◌<◌, length, slice_index, slice_set};
-ghost use Rattle.pat_place.specs.Placements.{IsFree, IsPlacement};
+ghost use Rattle.std.specs.Prelude.{◌≡◌, ℕ, slice_index, slice_set};
+ghost use Rattle.pat_place.specs.Placements.{IsFree};
 ghost use Rattle.tab_file.specs.Tables.{IsTable};
 ghost use Rattle.tab_check.specs.Entries.{IsEntryAt};
 ghost use Rattle.tab_check.specs.LocalRule.{IsLeastNear, IsLeastOf};
-ghost use Rattle.tab_check.specs.Moves.{AreFree, IsEntryAfter, IsEntryTowards, IsRegion};
+ghost use Rattle.tab_check.specs.Moves.{AreFree, IsEntryAfter, IsEntryTowards, IsRegion, IsTileIn};
 
 use crate::masks::has_cell;
 use crate::rule::NO_WAY_HOME;
@@ -36,11 +36,7 @@ fn least_after(
     index: usize,
     cell: u8,
 ) -> u8
-    requires table { IsTable table.now }
-    requires pattern { placement.now.pattern ≡ table.now.pattern }
-    requires placed { IsPlacement placement.now }
-    requires index { index < length placement.now.cells }
-    requires cell { slice_index placement.now.cells index ≡ cell }
+    requires tile { IsTileIn table.now placement.now index cell }
     requires region { AreFree placement.now.pattern.side placement.now.cells region }
     ensures { (j : ℕ) → IsRegion table.now.pattern.side placement.now.cells j region
         → IsLeastOf (IsEntryAfter table.now placement.now.cells j index) result }
@@ -61,11 +57,7 @@ fn entry_towards(
     cell: u8,
     mv: Move,
 ) -> u8
-    requires table { IsTable table.now }
-    requires pattern { placement.now.pattern ≡ table.now.pattern }
-    requires placed { IsPlacement placement.now }
-    requires index { index < length placement.now.cells }
-    requires cell { slice_index placement.now.cells index ≡ cell }
+    requires tile { IsTileIn table.now placement.now index cell }
     requires region { AreFree placement.now.pattern.side placement.now.cells region }
     ensures { (j : ℕ) → IsRegion table.now.pattern.side placement.now.cells j region
         → IsLeastOf (IsEntryTowards table.now placement.now.cells j index mv) result }
@@ -82,10 +74,7 @@ fn entry_towards(
 
 /// The entry of the placement with a tile moved to a free cell, and of the region that has the cell which the tile left.
 fn entry_after(table: &TableView<'_>, placement: &Placement, index: usize, cell: u8, to: u8) -> u8
-    requires pattern { placement.now.pattern ≡ table.now.pattern }
-    requires placed { IsPlacement placement.now }
-    requires index { index < length placement.now.cells }
-    requires cell { slice_index placement.now.cells index ≡ cell }
+    requires tile { IsTileIn table.now placement.now index cell }
     requires free { IsFree placement.now.pattern.side placement.now.cells to }
     ensures { IsEntryAt table.now (slice_set placement.now.cells index to) (slice_index placement.now.cells index) result }
 {

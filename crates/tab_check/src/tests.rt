@@ -5,7 +5,10 @@ ghost use Rattle.std.specs.Prelude.{◌<◌, ◌≤◌};
 use crate::blocks::block_count;
 use crate::{Census, CheckedTable, Count, TableFault, TableRefusal, check_block, check_table};
 use puz_board::Board;
-use samples::files::{FOURTEEN_BLOCKS, TILE_1, TILE_3, TILE_24, TILES_12, TILES_123, TWO_BLOCKS};
+use samples::files::{
+    FOURTEEN_BLOCKS, TILE_1, TILE_1_NEVER, TILE_3, TILE_24, TILES_12, TILES_123, TWO_BLOCKS,
+    with_byte, with_one_more,
+};
 use samples::{HoldingGate, LeastCosts, Log};
 use std::process::Abort;
 use std::sync::Wait;
@@ -112,17 +115,14 @@ fn boards_are_looked_up(rt: HostRuntime) {
 
 #[test]
 fn the_least_bad_entry_is_named(rt: HostRuntime) {
-    let mut file = TILES_123;
-    file[34] = 0x02;
-    assert_eq!(rt; census(&rt, &file), Err(bad_entry(14)));
-    let mut file = TILES_12;
-    file[20] = 0xFE;
-    assert_eq!(rt; census(&rt, &file), Err(bad_entry(0)));
-    let mut file = TILE_1;
-    for i in 20..28 {
-        file[i] = 0xFF;
+    let files: [(&[u8], u64); 3] = [
+        (&with_byte(&TILES_123, 34, 0x02), 14),
+        (&with_byte(&TILES_12, 20, 0xFE), 0),
+        (&TILE_1_NEVER, 1),
+    ];
+    for (file, number) in files {
+        assert_eq!(rt; census(&rt, file), Err(bad_entry(number)));
     }
-    assert_eq!(rt; census(&rt, &file), Err(bad_entry(1)));
 }
 
 /// The least bad entry of a block.
@@ -277,8 +277,7 @@ fn each_changed_byte_is_refused(rt: HostRuntime) {
         assert_eq!(rt; least_bad(placements, &file[20..]), None);
         for place in 20..44 {
             for byte in 0..=255 {
-                let mut changed = *file;
-                changed[place] = byte;
+                let changed = with_byte(file, place, byte);
                 let want = least_bad(placements, &changed[20..]);
                 assert_eq!(rt; want.is_none(), byte == file[place]);
                 let fault = checked(&rt, &changed).err();
@@ -286,6 +285,11 @@ fn each_changed_byte_is_refused(rt: HostRuntime) {
             }
         }
     }
+}
+
+/// The answer that a fault of the header has.
+fn head_fault(fault: HeadFault) -> Result<Census, TableFault> {
+    Err(TableFault::Refused(TableRefusal::Head(fault)))
 }
 
 #[test]
@@ -300,33 +304,29 @@ fn head_faults_are_handed_on(rt: HostRuntime) {
         (19, 0x19, HeadFault::T5),
     ];
     for (place, byte, want) in changes {
-        let mut file = TILES_123;
-        assert!(rt; place < 44);
-        file[place] = byte;
-        let want = Err(TableFault::Refused(TableRefusal::Head(want)));
-        assert_eq!(rt; census(&rt, &file), want, "byte {place}");
-        assert_eq!(rt; census(&rt, &file[..30]), want, "byte {place}, and cut");
+        let file = with_byte(&TILES_123, place, byte);
+        for file in [file.as_slice(), &file[..30]] {
+            assert_eq!(rt;
+                census(&rt, file),
+                head_fault(want),
+                "byte {place} of {}",
+                file.len()
+            );
+        }
     }
 }
 
 #[test]
 fn files_of_another_length_are_refused(rt: HostRuntime) {
-    let mut longer = [0xFF; 45];
-    longer[..44].copy_from_slice(&TILES_123);
     let files: [(&[u8], HeadFault); 5] = [
         (b"", HeadFault::T1),
         (b"abc", HeadFault::T1),
         (&TILES_123[..19], HeadFault::T1),
         (&TILES_123[..43], HeadFault::T6),
-        (&longer, HeadFault::T6),
+        (&with_one_more(&TILES_123), HeadFault::T6),
     ];
     for (file, want) in files {
-        assert_eq!(rt;
-            census(&rt, file),
-            Err(TableFault::Refused(TableRefusal::Head(want))),
-            "{} bytes",
-            file.len()
-        );
+        assert_eq!(rt; census(&rt, file), head_fault(want), "{} bytes", file.len());
     }
 }
 
@@ -425,7 +425,9 @@ fn each_block_is_entered_once(rt: HostRuntime) -> Result<(), Fail> {
         let mut blocks = log.notes(rt.alloc())?;
         blocks.sort()?;
         assert_eq!(rt; blocks.len(), 1418, "{workers} workers");
-        assert!(rt; (0..).zip(&blocks).all(|(block, entered)| block == *entered));
+        for (block, entered) in (0..).zip(&blocks) {
+            assert_eq!(rt; *entered, block);
+        }
     }
     Ok(())
 }
@@ -451,8 +453,7 @@ fn four_workers_check_four_blocks_side_by_side(rt: HostRuntime) {
 // Run with each allocation refused in turn.
 #[test]
 fn want_of_memory_is_answered_and_a_second_check_finds_the_fault(rt: HostRuntime) {
-    let mut file = TILES_123;
-    file[34] = 0x02;
+    let file = with_byte(&TILES_123, 34, 0x02);
     let mut fault = census_by(&rt, &file, 7, &OpenGate);
     if fault == Err(TableFault::Memory) {
         fault = census_by(&rt, &file, 7, &OpenGate);

@@ -66,7 +66,7 @@ is_pattern-from p up e =
 
 -- ---- each test decides
 
-pub passes-test : (f : HeadFault) (file : List ℕ) → Passes f file → stands f file ≡ false
+passes-test : (f : HeadFault) (file : List ℕ) → Passes f file → stands f file ≡ false
 passes-test T1 file p = le-ltb (length file) 20 p
 passes-test T2 file p = not_from_true _ ((bytes_eq-Decides signature (take 5 file)).1 (sym p))
 passes-test T3 file p = not_from_true _ (and_from _ _ (le-leb 2 (side_in file) p.0) (le-leb (side_in file) 5 p.1))
@@ -74,7 +74,7 @@ passes-test T4 file p = not_from_true _ (and_from _ _ (and_from _ _ (is_pattern-
 passes-test T5 file p = not_from_true _ (eq-eqb (count_in file) (entry_count (pattern_in file)) p)
 passes-test T6 file p = not_from_true _ (eq-eqb (length file) (20 + count_in file) p)
 
-pub passes-from : (f : HeadFault) (file : List ℕ) → stands f file ≡ false → Passes f file
+passes-from : (f : HeadFault) (file : List ℕ) → stands f file ≡ false → Passes f file
 passes-from T1 file e = ltb-false (length file) 20 e
 passes-from T2 file e = sym ((bytes_eq-Decides signature (take 5 file)).0 (not-false _ e))
 passes-from T3 file e =
@@ -196,6 +196,12 @@ module _ (file : List ℕ) where
     stands = Stands-from f file w.1;
     first = all_map (λ g. stands g file ≡ false) (λ g. ¬ Stands g file) (λ g e. passes-stands g file (passes-from g file e)) (earlier f) w.0;
   }
+
+  passes_unless : (f : HeadFault) → ¬ Stands f file → Passes f file
+  passes_unless f none = elim (cases_Bool (stands f file)) [ inl e ↦ absurd (none (Stands-from f file e)) | inr e ↦ passes-from f file e ]
+
+  pub table_of_file-fault : (f : HeadFault) → IsFirstFault f file → table_of_file file ≡ Err f
+  table_of_file-fault f is = sym (refused f (all_map (λ g. ¬ Stands g file) (λ g. Passes g file) passes_unless (earlier f) is.first) (λ passes. passes-stands f file passes is.stands))
 
   pub which : ((f : HeadFault) × (table_of_file file ≡ Err f) × IsFirstFault f file) ⊎ ((table_of_file file ≡ Ok (table_in file)) × AllByRecursion (λ g. Passes g file) all_faults)
   which = elim (some_or_none (λ f. stands f file)) [

@@ -8,7 +8,7 @@ use Rattle.tab_file.specs.TableFiles.{IsTableFile, count_in}
 use Rattle.tab_file.specs.HeadFaults.{IsFirstFault, pattern_in, table_of_file}
 use Rattle.tab_file.specs.declared.headers.HeadFault.{HeadFault}
 use Rattle.tab_file.specs.declared.headers.HeadFault.TheVariants.{T1, T2, T4, T5, T6}
-use Rattle.tab_file.proofs.FaultLemmas.{Passes, accepted, table_in, which}
+use Rattle.tab_file.proofs.FaultLemmas.{Passes, accepted, table_in, table_of_file-fault, which}
 
 module _ (t : Table) (file : List ℕ) (good : IsTableFile t file) where
   pattern_is : pattern_in file ≡ t.pattern
@@ -76,6 +76,17 @@ IfErr-first file (Err f) e = elim (which file) [
   | inl w ↦ let same : w.0 ≡ f = (let both : Err f ≡ Err w.0 = e ∙ w.1 in cc) in subst (λ f. IsFirstFault f file) same w.2
   | inr w ↦ absurd (let clash : Err f ≡ Ok (table_in file) = e ∙ w.0 in cc)
 ]
+
+-- a file has one table or one fault, and not both
+module _ (file : List ℕ) where
+  pub table_one : (t u : Table) → IsTableFile t file → IsTableFile u file → t ≡ u
+  table_one t u is also = let both : Ok t ≡ Ok u = sym (table_of_file-file t file is) ∙ table_of_file-file u file also in cc
+
+  pub IsFirstFault-one : (f g : HeadFault) → IsFirstFault f file → IsFirstFault g file → f ≡ g
+  IsFirstFault-one f g is also = let both : Err f ≡ Err g = sym (table_of_file-fault file f is) ∙ table_of_file-fault file g also in cc
+
+  pub table_or_fault : (t : Table) (f : HeadFault) → IsTableFile t file → ¬ IsFirstFault f file
+  table_or_fault t f is_file is = let clash : Err f ≡ Ok t = sym (table_of_file-fault file f is) ∙ table_of_file-file t file is_file in cc
 
 -- the entries stand behind the header
 pub slice_index-file : (t : Table) (file : List ℕ) → IsTableFile t file → (i : ℕ) → slice_index t.entries i ≡ slice_index file (20 + i)

@@ -4,4 +4,4 @@ use Rattle.pat_place.proofs.laws.each_free_cell_has_one_slot.Goals as goal
 pub returns : goal.returns
 returns c p good cell free =
     let some = slot_some p.pattern.side good.low good.high p.cells cell free in
-    (some.0, some.1, λ i is. slot_one p.pattern.side good.low good.high p.cells cell i some.0 free is some.1)
+    (some.0, some.1, λ i is. slot_one p.pattern.side good.low good.high p.cells cell i some.0 is some.1)

@@ -7,4 +7,4 @@ pub slot_of-slot-requires : goal.slot_of-slot-requires
 slot_of-slot-requires c =
     let p = c.args.placement.now in
     subst (λ q. IsFree q.pattern.side q.cells c.args.cell) (sym c.moved-moved.ensures) (
-    subst (λ x. IsFree p.pattern.side (set p.cells c.args.index c.args.to) x) c.requires.cell (left_free p c.requires.placed c.args.index c.args.to c.requires.index c.requires.free))
+    subst (λ x. IsFree p.pattern.side (set p.cells c.args.index c.args.to) x) c.requires.tile.4 (left_free p c.requires.tile.2 c.args.index c.args.to c.requires.tile.3 c.requires.free))

@@ -12,6 +12,5 @@ returns-then-has_cell c j region =
     let p = c.args.placement.now in
     let side : c.side.result ≡ t.pattern.side = c.side.ensures.side ∙ ap (λ q. q.side) c.pattern.ensures.pattern in
     let steps : step_of t.pattern.side (get_or p.cells c.args.index 0) c.args.mv ≡ Some c.in-Some.to =
-    ap₂ (λ n x. step_of n x c.args.mv) (sym side) c.requires.cell ∙ sym c.step.ensures.cell ∙ c.in-Some.is in
-    towards_some t p c.args.index (record { pattern = c.pattern.ensures.table.pattern; same = c.requires.pattern; placement = c.requires.placed; low = c.requires.index })
-    j c.args.region region c.args.mv c.in-Some.to c.entry_after.result steps (c.has_cell.ensures.0 c.if-has_cell.true) c.entry_after.type_inv c.entry_after.ensures
+    ap₂ (λ n x. step_of n x c.args.mv) (sym side) c.requires.tile.4 ∙ sym c.step.ensures.cell ∙ c.in-Some.is in
+    towards_some t p c.args.index c.args.cell c.requires.tile j c.args.region region c.args.mv c.in-Some.to c.entry_after.result steps (c.has_cell.ensures.0 c.if-has_cell.true) c.entry_after.type_inv c.entry_after.ensures

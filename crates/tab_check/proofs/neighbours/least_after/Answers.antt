@@ -9,6 +9,6 @@ returns c j region =
     let t = c.args.table.now in
     let p = c.args.placement.now in
     subst (IsLeastOf (IsEntryAfter t p.cells j c.args.index)) (ap₂ min (sym c.min.ensures) (sym c.min-2.ensures) ∙ sym c.min-3.ensures) (
-    after_all t p c.args.index (record { pattern = c.requires.table.pattern; same = c.requires.pattern; placement = c.requires.placed; low = c.requires.index }) j
+    after_all t p c.args.index c.args.cell c.requires.tile j
     c.entry_towards-up.result c.entry_towards-down.result c.entry_towards-left.result c.entry_towards-right.result
     (c.entry_towards-up.ensures j region) (c.entry_towards-down.ensures j region) (c.entry_towards-left.ensures j region) (c.entry_towards-right.ensures j region))

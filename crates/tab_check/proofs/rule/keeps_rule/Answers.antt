@@ -10,7 +10,7 @@ pub returns-then-slot-regions : goal.returns-then-slot-regions
 returns-then-slot-regions c =
     let t = c.args.table.now in
     let past : length c.args.regions.now ≤ c.args.slot = let e = c.from-slot.ensures in let l = c.if-slot-regions.true in omega arith in
-    rule_no_region t c.requires.table.pattern c.args.placement.now.cells c.args.slot c.args.entry (none_past t.pattern.side c.args.placement.now.cells c.args.regions.now c.requires.regions c.args.slot past)
+    rule_no_region t c.args.placement.now.cells c.args.slot c.args.entry (none_past t.pattern.side c.args.placement.now.cells c.args.regions.now c.requires.regions c.args.slot past)
 
 pub returns : goal.returns
 returns c =
@@ -21,10 +21,10 @@ returns c =
     let mask : IsRegion t.pattern.side cells c.args.slot (get_or regions c.from-slot.result 0) =
     subst (λ i. IsRegion t.pattern.side cells c.args.slot (get_or regions i 0)) (sym c.from-slot.ensures) (mask_is_region t.pattern.side cells regions c.requires.regions c.args.slot low) in
     let away : ¬ IsGoalSlot t.pattern cells c.args.slot = λ home.
-    let here = mask_from_goal t c.requires.table.pattern cells c.args.slot c.args.entry (get_or regions c.from-slot.result 0) mask home in
+    let here = mask_from_goal t cells c.args.slot c.args.entry (get_or regions c.from-slot.result 0) mask home in
     elim c.else-is_goal.branch [
       | else-is_goal-via-then-is_goal+else-has_cell w ↦ both_ways w.has_cell.result w.if-has_cell.false (w.has_cell.ensures.1 here)
       | else-is_goal-via-else-is_goal w ↦ both_ways c.args.is_goal w.if-is_goal.false (c.requires.goal.1 home.0)
     ] in
-    rule_away t c.requires.table.pattern cells c.args.slot c.args.entry (region_of_mask t.pattern.side cells regions c.requires.regions c.args.slot low)
+    rule_away t cells c.args.slot c.args.entry (region_of_mask t.pattern.side cells regions c.requires.regions c.args.slot low)
     away c.least_near-least.result (c.least_near-least.ensures c.args.slot mask) c.is_one_more.result c.is_one_more.ensures
