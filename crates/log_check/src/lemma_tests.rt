@@ -2,7 +2,7 @@
 
 use crate::check_lemma;
 use log_file::LogView;
-use samples::files::{TILES_12, TILES_123};
+use samples::files::{TILES_12, TILES_123, with_byte};
 use samples::logs::{BRANCHES, CITATION, LEAF, UNSOLVABLE};
 use set_sum::Bundle;
 use std::process::Abort;
@@ -50,19 +50,6 @@ fn is_good_alone<R: Threads + Wait + AllocGlobal + Abort>(
     Ok(is_good(rt, &TILES_123, log.as_slice(), 0))
 }
 
-/// A file with one byte changed.
-pub(crate) fn with_byte<const N: usize>(
-    rt: &impl Abort,
-    file: &[u8; N],
-    place: usize,
-    byte: u8,
-) -> [u8; N] {
-    let mut changed = *file;
-    assert!(rt; place < N);
-    changed[place] = byte;
-    changed
-}
-
 #[test]
 fn worked_lemmas_are_good(rt: HostRuntime) {
     assert_eq!(rt; is_good(&rt, &TILES_123, &LEAF, 0), Some(true));
@@ -74,13 +61,13 @@ fn worked_lemmas_are_good(rt: HostRuntime) {
 
 #[test]
 fn a_leaf_reaches_its_bound(rt: HostRuntime) {
-    let seven = with_byte(&rt, &LEAF, 14, 7);
+    let seven = with_byte(&LEAF, 14, 7);
     assert_eq!(rt; is_good(&rt, &TILES_123, &seven, 0), Some(false));
     // The tiles 1 and 2 alone give 4.
     assert_eq!(rt; is_good(&rt, &TILES_12, &LEAF, 0), Some(false));
-    let four = with_byte(&rt, &LEAF, 14, 4);
+    let four = with_byte(&LEAF, 14, 4);
     assert_eq!(rt; is_good(&rt, &TILES_12, &four, 0), Some(true));
-    let five = with_byte(&rt, &LEAF, 14, 5);
+    let five = with_byte(&LEAF, 14, 5);
     assert_eq!(rt; is_good(&rt, &TILES_12, &five, 0), Some(false));
 }
 
@@ -129,17 +116,17 @@ fn the_goal_board_has_a_leaf_alone(rt: HostRuntime) -> Result<(), Fail> {
 
 #[test]
 fn an_earlier_lemma_of_the_board_is_cited(rt: HostRuntime) -> Result<(), Fail> {
-    let smaller = with_byte(&rt, &CITATION, 14, 4);
+    let smaller = with_byte(&CITATION, 14, 4);
     assert_eq!(rt; is_good(&rt, &TILES_12, &smaller, 1), Some(false));
-    let greater = with_byte(&rt, &CITATION, 14, 6);
+    let greater = with_byte(&CITATION, 14, 6);
     assert_eq!(rt; is_good(&rt, &TILES_12, &greater, 1), Some(true));
     assert_eq!(rt; is_good(&rt, &TILES_12, &greater, 0), Some(false));
-    let itself = with_byte(&rt, &CITATION, 39, 1);
+    let itself = with_byte(&CITATION, 39, 1);
     assert_eq!(rt; is_good(&rt, &TILES_12, &itself, 1), Some(false));
-    let missing = with_byte(&rt, &CITATION, 36, 1);
+    let missing = with_byte(&CITATION, 36, 1);
     assert_eq!(rt; is_good(&rt, &TILES_12, &missing, 1), Some(false));
     // The board `3 0 2 1`, of the same side, in place of `3 0 1 2`.
-    let other = with_byte(&rt, &with_byte(&rt, &CITATION, 12, 2), 13, 1);
+    let other = with_byte(&with_byte(&CITATION, 12, 2), 13, 1);
     assert_eq!(rt; is_good(&rt, &TILES_12, &other, 1), Some(false));
     let alone = is_good_alone(&rt, &[3, 2, 1, 0], 6, b"\x20\0\0\0\0")?;
     assert_eq!(rt; alone, Some(false), "it cites itself");

@@ -1,11 +1,10 @@
 //! Logs checked whole, by several workers: worked ones, changed ones byte by byte, long ones, and gates that hold workers.
 
-use crate::lemma_tests::with_byte;
 use crate::plain_logs::{Cells, plain_answer};
 use crate::{LogFault, LogRefusal, check_log};
 use log_file::FormFault;
 use puz_board::Board;
-use samples::files::{TILE_1, TILE_3, TILE_24, TILES_12, TILES_123};
+use samples::files::{TILE_1, TILE_3, TILE_24, TILES_12, TILES_123, with_byte};
 use samples::logs::{BRANCHES, CITATION, LEAF, UNSOLVABLE};
 use samples::{HoldingGate, Log};
 use set_sum::{Bundle, SetFault};
@@ -105,12 +104,12 @@ fn bytes_of_another_form_are_refused(rt: HostRuntime) {
     longer[..30].copy_from_slice(&BRANCHES);
     let logs: [(&[u8], FormFault); 7] = [
         (b"", FormFault::L1),
-        (&with_byte(&rt, &LEAF, 9, 0), FormFault::L1),
-        (&with_byte(&rt, &LEAF, 9, 2), FormFault::L2(1)),
-        (&with_byte(&rt, &LEAF, 5, 3), FormFault::L2(0)),
+        (&with_byte(&LEAF, 9, 0), FormFault::L1),
+        (&with_byte(&LEAF, 9, 2), FormFault::L2(1)),
+        (&with_byte(&LEAF, 5, 3), FormFault::L2(0)),
         (&BRANCHES[..29], FormFault::L2(0)),
         (&longer, FormFault::L2(1)),
-        (&with_byte(&rt, &LEAF, 10, 2), FormFault::L3(0)),
+        (&with_byte(&LEAF, 10, 2), FormFault::L3(0)),
     ];
     for (log, fault) in logs {
         assert_eq!(rt;
@@ -132,9 +131,9 @@ fn logs_bundles_and_boards_have_one_side(rt: HostRuntime) {
     assert_eq!(rt; answer(&rt, &two, &GOAL_OF_SIDE_3, &[0, 1, 2, 3]), want);
     assert_eq!(rt; answer(&rt, &two, &GOAL_OF_SIDE_3, &goal_of_side_3), want);
     // Bytes of another form come before it, and so does a board that isn't one.
-    let none = with_byte(&rt, &LEAF, 9, 0);
+    let none = with_byte(&LEAF, 9, 0);
     assert_eq!(rt; answer(&rt, &five, &none, &BOARD), misformed(FormFault::L1));
-    let repeated = with_byte(&rt, &LEAF, 10, 2);
+    let repeated = with_byte(&LEAF, 10, 2);
     assert_eq!(rt;
         answer(&rt, &five, &repeated, &BOARD),
         misformed(FormFault::L3(0))
@@ -165,22 +164,22 @@ fn the_first_bad_lemma_is_named(rt: HostRuntime) {
     let three = bundle(&rt, &[&TILES_123], b"set 0\n");
     let bad = refused(LogRefusal::L6(0));
     for (place, byte) in [(14, 7), (19, 2), (19, 0x11), (19, 0)] {
-        let log = with_byte(&rt, &LEAF, place, byte);
+        let log = with_byte(&LEAF, place, byte);
         assert_eq!(rt; answer(&rt, &three, &log, &BOARD), bad, "byte {place}");
     }
-    let one = with_byte(&rt, &GOAL, 14, 1);
+    let one = with_byte(&GOAL, 14, 1);
     assert_eq!(rt; answer(&rt, &three, &one, &[0, 1, 2, 3]), bad);
     let cites_itself = b"PDBL\x01\x02\0\0\0\x01\x03\x02\x01\0\x06\0\0\0\x05\x20\0\0\0\0";
     assert_eq!(rt; answer(&rt, &three, cites_itself, &BOARD), bad);
     let two = bundle(&rt, &[&TILES_12], b"set 0\n");
     let cut_tree = b"PDBL\x01\x02\0\0\0\x01\x03\x02\x01\0\x06\0\0\0\x0A\0\0\0\0\0\x01\0\0\0\0";
     assert_eq!(rt; answer(&rt, &two, cut_tree, &BOARD), bad);
-    let cites_itself = with_byte(&rt, &CITATION, 39, 1);
+    let cites_itself = with_byte(&CITATION, 39, 1);
     assert_eq!(rt;
         answer(&rt, &two, &cites_itself, &BOARD),
         refused(LogRefusal::L6(1))
     );
-    let both = with_byte(&rt, &cites_itself, 14, 6);
+    let both = with_byte(&cites_itself, 14, 6);
     assert_eq!(rt; answer(&rt, &two, &both, &BOARD), bad);
 }
 

@@ -3,7 +3,7 @@
 use crate::runs::{Ended, ran_by};
 use pdb_io::memory::MemShelf;
 use samples::HoldingGate;
-use samples::files::{TILE_1, TILE_3, TILE_24, TILES_12, TILES_123};
+use samples::files::{TILE_1, TILE_3, TILE_24, TILES_12, TILES_123, with_byte};
 use samples::logs::{BRANCHES, CITATION, LEAF, UNSOLVABLE};
 use std::alloc::{AllocError, Global};
 use std::sync::Wait;
@@ -219,32 +219,23 @@ fn the_first_refusal_that_stands_is_told(rt: HostRuntime) -> Result<(), Fail> {
     expect_all(&rt, rt.alloc(), &cases, 1)
 }
 
-/// A copy of bytes with one of them changed.
-fn changed(alloc: Global, bytes: &[u8], place: usize, byte: u8) -> Result<Vec<u8>, AllocError> {
-    let mut copy = Vec::from_slice(alloc, bytes)?;
-    if let Some(changed) = copy.get_mut(place) {
-        *changed = byte;
-    }
-    Ok(copy)
-}
-
 #[test]
 fn changed_logs_and_tables_are_refused(rt: HostRuntime) -> Result<(), Fail> {
     let alloc = rt.alloc();
-    let greater = changed(alloc, &LEAF, 14, 7)?;
-    let of_itself = changed(alloc, &CITATION, 39, 1)?;
-    let wrong = changed(alloc, &TILES_123, 34, 2)?;
+    let greater = with_byte(&LEAF, 14, 7);
+    let of_itself = with_byte(&CITATION, 39, 1);
+    let wrong = with_byte(&TILES_123, 34, 2);
     let longer = {
         let mut copy = Vec::from_slice(alloc, &BRANCHES)?;
         copy.push(0)?;
         copy
     };
     let greater_log: File = (
-        greater.as_slice(),
+        &greater,
         "37cab8da8b6e6a8f247a68ab2aeb455969af2005a0a48876b23b53c7a5821a49",
     );
     let of_itself_log: File = (
-        of_itself.as_slice(),
+        &of_itself,
         "ac60291658fcea5e0014a33ee8daa295e7e446df39dd112520f9663d70946571",
     );
     let cut_log: File = (
@@ -256,7 +247,7 @@ fn changed_logs_and_tables_are_refused(rt: HostRuntime) -> Result<(), Fail> {
         "058ef4a1dc74bd594808f019524cf006f796f38b210b8f069eb4da291414bb97",
     );
     let wrong_table: File = (
-        wrong.as_slice(),
+        &wrong,
         "93eb632d316304c6909c4a97aa82d761ef94f20ce32f74ce27ef957d6e44accc",
     );
     let wrong_alone = [wrong_table];

@@ -86,7 +86,7 @@ fn help_goes_to_the_output_and_mistakes_to_the_errors(rt: HostRuntime) -> Result
         )
     );
 
-    let mistake = started(&rt, alloc, Ok(owned(alloc, &["pdb_cli", "bound", "f"])?))?;
+    let mistake = started(&rt, alloc, Ok(owned(alloc, &["pdb_cli", "shuffle", "f"])?))?;
     assert!(rt;
         mistake.status == 2 && mistake.out.as_slice() == b"before\n".as_slice(),
         "status {}",
@@ -94,7 +94,7 @@ fn help_goes_to_the_output_and_mistakes_to_the_errors(rt: HostRuntime) -> Result
     );
     assert!(rt;
         mistake.err.as_slice()
-            == b"error: unrecognized subcommand 'bound'\n\nUsage: pdb_cli [COMMAND]\n\nFor more information, try '--help'.\n".as_slice()
+            == b"error: unrecognized subcommand 'shuffle'\n\nUsage: pdb_cli [COMMAND]\n\nFor more information, try '--help'.\n".as_slice()
     );
     Ok(())
 }

@@ -54,7 +54,7 @@ pub const TILE_1_NEVER: [u8; 28] = [
 ];
 
 /// A file with another byte at one place; the same file where there is no such place.
-pub fn with_byte(file: &[u8; 44], place: usize, byte: u8) -> [u8; 44] {
+pub fn with_byte<const N: usize>(file: &[u8; N], place: usize, byte: u8) -> [u8; N] {
     let mut changed = *file;
     if let Some(here) = changed.get_mut(place) {
         *here = byte;
