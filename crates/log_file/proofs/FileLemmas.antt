@@ -94,7 +94,7 @@ behind_header : (file : List ℕ) → take (length file - 10) (drop 10 file) ≡
 behind_header file = ap (λ k. take k (drop 10 file)) (sym (length-drop 10 file)) ∙ take-length (drop 10 file)
 
 module _ (side count : ℕ) (file : List ℕ) (header : IsHeader side count file) (size : IsSize side count) where
-  IsLogFile-first : (lemmas : List Lemma) → AreFilled side count (drop 10 file) → AreBoards side count (drop 10 file)
+  pub IsLogFile-first : (lemmas : List Lemma) → AreFilled side count (drop 10 file) → AreBoards side count (drop 10 file)
       → lemmas ≡ first_lemmas side count (drop 10 file) → IsLogFile (record { side = side; lemmas = lemmas }) file
   IsLogFile-first lemmas filled boards are =
       let counted : length lemmas ≡ count = ap length are ∙ length-first_lemmas side count (drop 10 file) in
