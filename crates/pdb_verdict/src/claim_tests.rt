@@ -6,7 +6,9 @@ use pdb_io::memory::MemShelf;
 use pdb_run::Status;
 use samples::files::{TILE_1, TILES_12, TILES_123};
 use std::alloc::{AllocError, Global};
+use std::sync::Wait;
 use std::test::Fail;
+use std::thread::Threads;
 use work_run::OpenGate;
 
 /// The tile 24 on side 5: the distance of each cell to cell 24.
@@ -16,6 +18,13 @@ const TILE_24: [u8; 70] = [
     0x06, 0xFE, 0x05, 0xFE, 0x04, 0xFE, 0x03, 0xFE, 0x06, 0xFE, 0x05, 0xFE, 0x04, 0xFE, 0x03, 0xFE,
     0x02, 0xFE, 0x05, 0xFE, 0x04, 0xFE, 0x03, 0xFE, 0x02, 0xFE, 0x01, 0xFE, 0x04, 0xFE, 0x03, 0xFE,
     0x02, 0xFE, 0x01, 0xFE, 0x00, 0xFE,
+];
+
+/// `TILES_123` with entry 14 changed.
+const CHANGED: [u8; 44] = [
+    0x50, 0x44, 0x42, 0x54, 0x01, 0x02, 0x03, 0x00, 0x00, 0x00, 0x00, 0x0E, 0x00, 0x00, 0x00, 0x00,
+    0x00, 0x00, 0x00, 0x18, 0xFF, 0xFF, 0x02, 0x01, 0x03, 0xFF, 0x02, 0x01, 0xFF, 0x00, 0xFF, 0xFF,
+    0xFF, 0xFF, 0x02, 0xFF, 0x05, 0x04, 0xFF, 0x03, 0x05, 0x04, 0xFF, 0xFF,
 ];
 
 const DIGEST_123: &[u8] =
@@ -30,7 +39,6 @@ const DIGEST_1: &[u8] =
 const DIGEST_24: &[u8] =
     b"sha256 27e4c13965b3cafa2240079ec4cc64c32a43f3e4c5f971fae8a8cc3c7bfdb239\n";
 
-/// Of `TILES_123` with entry 14 changed.
 const DIGEST_CHANGED: &[u8] =
     b"sha256 93eb632d316304c6909c4a97aa82d761ef94f20ce32f74ce27ef957d6e44accc\n";
 
@@ -74,96 +82,121 @@ fn lines_of(alloc: Global, case: &Case<'_>) -> Result<Vec<u8>, AllocError> {
     Ok(lines)
 }
 
+/// Whether a claim on a log for a board is answered so.
+fn bound_tells<H: Threads + Wait>(rt: &H, alloc: Global, case: &Case<'_>) -> Result<bool, Fail> {
+    let tables = vectors(alloc, case.tables)?;
+    let inputs = Inputs::Bound {
+        board: case.text,
+        sets: case.sets,
+        log: LOG,
+        tables: tables.as_slice(),
+    };
+    tells(rt, alloc, &inputs, lines_of(alloc, case)?.as_slice())
+}
+
 #[test]
-fn bounds_are_refused_with_the_first_fault(rt: HostRuntime) -> Result<(), Fail> {
+fn a_board_is_refused_before_its_tables(rt: HostRuntime) -> Result<(), Fail> {
     let alloc = rt.alloc();
-    let mut changed = TILES_123;
-    changed[34] = 0x02;
     let cut = &TILES_123[..43];
-    let board = b"3 2 1 0".as_slice();
-    let sets = b"set 0\n".as_slice();
-    let cases = [
-        Case {
-            text: b"0 1 2 2",
-            sets: b"",
-            tables: &[cut],
-            digests: &[DIGEST_CUT],
-            line: b"refused B5 at number 3\n",
-        },
-        Case {
-            text: board,
-            sets,
-            tables: &[&changed],
-            digests: &[DIGEST_CHANGED],
-            line: b"refused T7 at entry 14 of table 0\n",
-        },
-        Case {
-            text: board,
-            sets: b"",
-            tables: &[&TILES_12, &TILE_1, &changed, cut],
-            digests: &[DIGEST_12, DIGEST_1, DIGEST_CHANGED, DIGEST_CUT],
-            line: b"refused T7 at entry 14 of table 2\n",
-        },
-        Case {
-            text: board,
-            sets,
-            tables: &[&TILES_12, cut],
-            digests: &[DIGEST_12, DIGEST_CUT],
-            line: b"refused T6 of table 1\n",
-        },
-        Case {
-            text: board,
-            sets: b"",
-            tables: &[&TILE_1, &TILE_24],
-            digests: &[DIGEST_1, DIGEST_24],
-            line: b"refused S4 at table 1\n",
-        },
-        Case {
-            text: board,
-            sets: b"set 0\nset 1 0\n",
-            tables: &[&TILES_12, &TILE_1],
-            digests: &[DIGEST_12, DIGEST_1],
-            line: b"refused S1 at line 1\n",
-        },
-        Case {
-            text: board,
-            sets: b"set 0\nset 0 2\n",
-            tables: &[&TILES_12, &TILE_1],
-            digests: &[DIGEST_12, DIGEST_1],
-            line: b"refused S2 at line 1\n",
-        },
-        Case {
-            text: board,
-            sets: b"set 0 1\n",
-            tables: &[&TILES_12, &TILE_1],
-            digests: &[DIGEST_12, DIGEST_1],
-            line: b"refused S3 at line 0\n",
-        },
-        Case {
-            text: board,
-            sets,
-            tables: &[],
-            digests: &[],
-            line: b"refused S5\n",
-        },
-        Case {
-            text: board,
-            sets,
-            tables: &[&TILES_123],
-            digests: &[DIGEST_123],
-            line: b"refused L1\n",
-        },
-    ];
-    for case in &cases {
-        let tables = vectors(alloc, case.tables)?;
-        let inputs = Inputs::Bound {
-            board: case.text,
-            sets: case.sets,
-            log: LOG,
-            tables: tables.as_slice(),
-        };
-        assert!(rt; tells(&rt, alloc, &inputs, lines_of(alloc, case)?.as_slice())?);
-    }
+    let case = Case {
+        text: b"0 1 2 2",
+        sets: b"",
+        tables: &[cut],
+        digests: &[DIGEST_CUT],
+        line: b"refused B5 at number 3\n",
+    };
+    assert!(rt; bound_tells(&rt, alloc, &case)?);
+    Ok(())
+}
+
+#[test]
+fn the_first_table_that_is_refused_is_named_by_its_number(rt: HostRuntime) -> Result<(), Fail> {
+    let alloc = rt.alloc();
+    let cut = &TILES_123[..43];
+    let case = Case {
+        text: b"3 2 1 0",
+        sets: b"set 0\n",
+        tables: &[&CHANGED],
+        digests: &[DIGEST_CHANGED],
+        line: b"refused T7 at entry 14 of table 0\n",
+    };
+    assert!(rt; bound_tells(&rt, alloc, &case)?);
+    let case = Case {
+        text: b"3 2 1 0",
+        sets: b"",
+        tables: &[&TILES_12, &TILE_1, &CHANGED, cut],
+        digests: &[DIGEST_12, DIGEST_1, DIGEST_CHANGED, DIGEST_CUT],
+        line: b"refused T7 at entry 14 of table 2\n",
+    };
+    assert!(rt; bound_tells(&rt, alloc, &case)?);
+    let case = Case {
+        text: b"3 2 1 0",
+        sets: b"set 0\n",
+        tables: &[&TILES_12, cut],
+        digests: &[DIGEST_12, DIGEST_CUT],
+        line: b"refused T6 of table 1\n",
+    };
+    assert!(rt; bound_tells(&rt, alloc, &case)?);
+    Ok(())
+}
+
+#[test]
+fn sets_are_refused_behind_the_tables(rt: HostRuntime) -> Result<(), Fail> {
+    let alloc = rt.alloc();
+    let case = Case {
+        text: b"3 2 1 0",
+        sets: b"",
+        tables: &[&TILE_1, &TILE_24],
+        digests: &[DIGEST_1, DIGEST_24],
+        line: b"refused S4 at table 1\n",
+    };
+    assert!(rt; bound_tells(&rt, alloc, &case)?);
+    let case = Case {
+        text: b"3 2 1 0",
+        sets: b"set 0\nset 1 0\n",
+        tables: &[&TILES_12, &TILE_1],
+        digests: &[DIGEST_12, DIGEST_1],
+        line: b"refused S1 at line 1\n",
+    };
+    assert!(rt; bound_tells(&rt, alloc, &case)?);
+    let case = Case {
+        text: b"3 2 1 0",
+        sets: b"set 0\nset 0 2\n",
+        tables: &[&TILES_12, &TILE_1],
+        digests: &[DIGEST_12, DIGEST_1],
+        line: b"refused S2 at line 1\n",
+    };
+    assert!(rt; bound_tells(&rt, alloc, &case)?);
+    let case = Case {
+        text: b"3 2 1 0",
+        sets: b"set 0 1\n",
+        tables: &[&TILES_12, &TILE_1],
+        digests: &[DIGEST_12, DIGEST_1],
+        line: b"refused S3 at line 0\n",
+    };
+    assert!(rt; bound_tells(&rt, alloc, &case)?);
+    let case = Case {
+        text: b"3 2 1 0",
+        sets: b"set 0\n",
+        tables: &[],
+        digests: &[],
+        line: b"refused S5\n",
+    };
+    assert!(rt; bound_tells(&rt, alloc, &case)?);
+    Ok(())
+}
+
+#[test]
+fn a_log_is_refused_behind_the_sets(rt: HostRuntime) -> Result<(), Fail> {
+    let alloc = rt.alloc();
+    let case = Case {
+        text: b"3 2 1 0",
+        sets: b"set 0\n",
+        tables: &[&TILES_123],
+        digests: &[DIGEST_123],
+        line: b"refused L1\n",
+    };
+    assert!(rt; bound_tells(&rt, alloc, &case)?);
     Ok(())
 }
 
