@@ -1,0 +1,5 @@
+mod CountLemmas
+mod FlagLemmas
+mod GreatestLemmas
+mod LesserLemmas
+mod RuleLemmas
