@@ -1,8 +1,9 @@
 -- Lanes that are all ones where a test holds, and 0 where it doesn't.
-use Rattle.std.proofs.Common.{◌≡◌, ℕ, ◌%◌, ◌^◌, ◌<◌, ◌≤◌, Bool, true, false, not, cond, List, map, length, get_or, replicate, refl, sym, ap, ◌∙◌, subst, arith}
+use Rattle.std.proofs.Common.{◌≡◌, ℕ, suc, ◌+◌, ◌-◌, ◌*◌, ◌%◌, ◌^◌, ◌<◌, ◌≤◌, Bool, true, false, not, cond, eqb, eqb-true, eq-eqb, List, [], ◌∷◌, map, length, get_or, replicate, refl, sym, ap, ◌∙◌, subst, arith, w32}
 use Rattle.std.specs.Int.{bit_at}
 use Rattle.std.proofs.lemmas.List.{get_or-map, length-map}
-use Rattle.std.proofs.lemmas.Simd.{length-zip2, get_or-zip2, length-replicate, get_or-replicate, mask_l-lt, mask_l-mod, bit_mask_l}
+use Rattle.std.proofs.lemmas.Simd.{tops_compared, length-zip2, get_or-zip2, length-replicate, get_or-replicate, mask_l-lt, mask_l-mod, bit_mask_l}
+use Rattle.std.proofs.lemmas.Nat.Bits.{bit_at-zero}
 use lib.Lanes.{zip2, mask_l, top}
 
 abbrev pub flag : Bool → ℕ
@@ -68,3 +69,44 @@ module _ (n : ℕ) where
     bit_is i l =
         ap (λ m. bit_at m i) whole ∙ bit_mask_l (map (top 7) v) i ∙
         ap (λ b. cond b 1 0) (get_or-map (top 7) v i 0 false (let e = flags.len in omega arith) ∙ ap (top 7) (flags.lanes i l) ∙ top_flag (test i))
+
+-- ---- where two vectors of masks differ
+
+abbrev differ : ℕ → ℕ → Bool
+differ a b = not (eqb a b)
+
+none_set : (xs ys : List ℕ) → length xs ≡ length ys → ((i : ℕ) → i < length xs → get_or xs i 0 ≡ get_or ys i 0) → mask_l (zip2 differ xs ys) ≡ 0
+none_set [] ys e h = refl
+none_set (x ∷ xs) [] e h = absurd (omega arith)
+none_set (x ∷ xs) (y ∷ ys) e h =
+    let rest = none_set xs ys (omega arith) (λ i l. h (suc i) (omega arith)) in
+    let here : eqb x y ≡ true = eq-eqb x y (h 0 (omega arith)) in
+    ap (λ t. cond (not t) 1 0 + 2 * mask_l (zip2 differ xs ys)) here ∙ omega arith
+
+module _ (n : ℕ) (xs ys : List ℕ) (few : n ≤ 64) (xs_long : length xs ≡ n) (ys_long : length ys ≡ n) where
+  abbrev pub differences : ℕ
+  differences = mask_l (map (top 31) (zip2 (λ a b. cond (not (eqb a b)) (2 ^ 32 - 1) 0) xs ys)) % 2 ^ 64
+
+  same_length : length xs ≡ length ys
+  same_length = xs_long ∙ sym ys_long
+
+  are_differences : differences ≡ mask_l (zip2 differ xs ys)
+  are_differences =
+      let long = length-zip2 differ xs ys same_length in
+      ap (λ ms. mask_l ms % 2 ^ 64) (tops_compared w32 differ xs ys) ∙ mask_l-mod (zip2 differ xs ys) 64 (omega arith)
+
+  pub none_differs : differences ≡ 0 → (i : ℕ) → i < n → get_or xs i 0 ≡ get_or ys i 0
+  none_differs none i l = by (eqb (get_or xs i 0) (get_or ys i 0)) refl
+    where
+      bit : ◌≡◌ {A = ℕ} (cond (differ (get_or xs i 0) (get_or ys i 0)) 1 0) 0
+      bit =
+          ap (λ t. cond t 1 0) (sym (get_or-zip2 differ xs ys i 0 0 false (omega arith) (omega arith))) ∙ sym (bit_mask_l (zip2 differ xs ys) i) ∙
+          ap (λ m. bit_at m i) (sym are_differences ∙ none) ∙
+          bit_at-zero i
+
+      by : (t : Bool) → eqb (get_or xs i 0) (get_or ys i 0) ≡ t → get_or xs i 0 ≡ get_or ys i 0
+      by true e = eqb-true (get_or xs i 0) (get_or ys i 0) e
+      by false e = absurd (let one : ◌≡◌ {A = ℕ} 1 0 = ap (λ t. cond (not t) 1 0) (sym e) ∙ bit in omega arith)
+
+  pub all_same : ((i : ℕ) → i < n → get_or xs i 0 ≡ get_or ys i 0) → differences ≡ 0
+  all_same h = are_differences ∙ none_set xs ys same_length (λ i l. h i (omega arith))

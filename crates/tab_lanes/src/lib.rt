@@ -5,10 +5,12 @@
 
 mod columns;
 mod counts;
+mod floods;
 mod rule;
 
 pub use columns::min_into;
 pub use counts::{count_eq, greatest_count};
+pub use floods::{flood, flood_step};
 pub use rule::{GOAL_SLOT, OTHER_SLOT, WITHOUT_REGION, first_bad};
 
 /// How many bytes one vector has.

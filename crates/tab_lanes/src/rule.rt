@@ -68,9 +68,6 @@ fn kept_by_lanes<const N: usize>(entries: &[u8], mins: &[u8], kinds: &[u8], from
 #[inline]
 fn bad_lanes<const N: usize>(entries: Simd<u8, N>, mins: Simd<u8, N>, kinds: Simd<u8, N>) -> u64
     requires few { N ≤ 64 }
-    requires entries { length entries ≡ N }
-    requires mins { length mins ≡ N }
-    requires kinds { length kinds ≡ N }
     ensures fits { result < 2 ^ N }
     ensures kept { (i : ℕ) → i < N → bit_at result i ≡ 0 → KeepsRuleAt entries.entry mins.entry kinds.entry i }
     ensures broken { (i : ℕ) → i < N → bit_at result i ≡ 1 → ¬ KeepsRuleAt entries.entry mins.entry kinds.entry i }
