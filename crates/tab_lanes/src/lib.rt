@@ -7,6 +7,8 @@ mod columns;
 mod counts;
 mod floods;
 mod rule;
+#[cfg(test)]
+mod tests;
 
 pub use columns::min_into;
 pub use counts::{count_eq, greatest_count};
