@@ -14,28 +14,28 @@ top_flag true = refl
 top_flag false = refl
 
 -- n lanes, by what each of them is
-pub record AreLanes {X : Type 0} (n : ℕ) (v : List X) (d : X) (lane : ℕ → X) : Type 0 where
+pub record AreLanes (n : ℕ) (v : List ℕ) (lane : ℕ → ℕ) : Type 0 where
   pub len : length v ≡ n
-  pub lanes : (j : ℕ) → j < n → get_or v j d ≡ lane j
+  pub lanes : (j : ℕ) → j < n → get_or v j 0 ≡ lane j
 
 -- n flags, by the test of each
 abbrev pub AreFlags : ℕ → List ℕ → (ℕ → Bool) → Type 0
-AreFlags n v test = AreLanes n v 0 (λ j. flag (test j))
+AreFlags n v test = AreLanes n v (λ j. flag (test j))
 
-pub lanes_given : (n : ℕ) (v : List ℕ) → length v ≡ n → AreLanes n v 0 (λ j. get_or v j 0)
+pub lanes_given : (n : ℕ) (v : List ℕ) → length v ≡ n → AreLanes n v (λ j. get_or v j 0)
 lanes_given n v long = record { len = long; lanes = (λ j l. refl) }
 
-pub splat : (n y : ℕ) → AreLanes n (replicate n y) 0 (λ j. y)
+pub splat : (n y : ℕ) → AreLanes n (replicate n y) (λ j. y)
 splat n y = record { len = length-replicate n y; lanes = (λ j l. get_or-replicate n j y 0 l) }
 
 module _ (n : ℕ) where
-  pub lane_by_lane : (f : ℕ → ℕ → ℕ) (xs ys : List ℕ) {a b : ℕ → ℕ} → AreLanes n xs 0 a → AreLanes n ys 0 b → AreLanes n (zip2 f xs ys) 0 (λ j. f (a j) (b j))
+  pub lane_by_lane : (f : ℕ → ℕ → ℕ) (xs ys : List ℕ) {a b : ℕ → ℕ} → AreLanes n xs a → AreLanes n ys b → AreLanes n (zip2 f xs ys) (λ j. f (a j) (b j))
   lane_by_lane f xs ys is_a is_b = record {
     len = length-zip2 f xs ys (is_a.len ∙ sym is_b.len) ∙ is_a.len;
     lanes = (λ j l. get_or-zip2 f xs ys j 0 0 0 (let e = is_a.len in omega arith) (let e = is_b.len in omega arith) ∙ (λ i. f (is_a.lanes j l i) (is_b.lanes j l i)));
   }
 
-  pub compared : (f : ℕ → ℕ → ℕ) (test : ℕ → ℕ → Bool) (xs ys : List ℕ) {a b : ℕ → ℕ} → ((x y : ℕ) → f x y ≡ flag (test x y)) → AreLanes n xs 0 a → AreLanes n ys 0 b → AreFlags n (zip2 f xs ys) (λ j. test (a j) (b j))
+  pub compared : (f : ℕ → ℕ → ℕ) (test : ℕ → ℕ → Bool) (xs ys : List ℕ) {a b : ℕ → ℕ} → ((x y : ℕ) → f x y ≡ flag (test x y)) → AreLanes n xs a → AreLanes n ys b → AreFlags n (zip2 f xs ys) (λ j. test (a j) (b j))
   compared f test xs ys {a = a} {b = b} is is_a is_b =
       let both = lane_by_lane f xs ys is_a is_b in
       record { len = both.len; lanes = (λ j l. both.lanes j l ∙ is (a j) (b j)) }

@@ -31,10 +31,10 @@ module _ (n side : ℕ) (masks free right left : List ℕ) (low : 2 ≤ side) (h
   masks_long : length masks ≡ n
   masks_long = grow.lengths ∙ free_long
 
-  shifted_left : (k : ℕ) → AreLanes n (zip2 left_by masks (replicate n k)) 0 (λ j. left_by (get_or masks j 0) k)
+  shifted_left : (k : ℕ) → AreLanes n (zip2 left_by masks (replicate n k)) (λ j. left_by (get_or masks j 0) k)
   shifted_left k = lane_by_lane n left_by masks (replicate n k) (lanes_given n masks masks_long) (splat n k)
 
-  shifted_right : (k : ℕ) → AreLanes n (zip2 right_by masks (replicate n k)) 0 (λ j. right_by (get_or masks j 0) k)
+  shifted_right : (k : ℕ) → AreLanes n (zip2 right_by masks (replicate n k)) (λ j. right_by (get_or masks j 0) k)
   shifted_right k = lane_by_lane n right_by masks (replicate n k) (lanes_given n masks masks_long) (splat n k)
 
   abbrev up_down_lane : ℕ → ℕ
@@ -43,18 +43,18 @@ module _ (n side : ℕ) (masks free right left : List ℕ) (low : 2 ≤ side) (h
   abbrev side_ways_lane : ℕ → ℕ
   side_ways_lane j = bit_or (bit_and (left_by (get_or masks j 0) 1) (get_or right j 0)) (bit_and (right_by (get_or masks j 0) 1) (get_or left j 0))
 
-  up_down_is : AreLanes n (up_down n side masks free) 0 up_down_lane
+  up_down_is : AreLanes n (up_down n side masks free) up_down_lane
   up_down_is =
       lane_by_lane n bit_and (zip2 bit_or (zip2 left_by masks (replicate n side)) (zip2 right_by masks (replicate n side))) free
       (lane_by_lane n bit_or (zip2 left_by masks (replicate n side)) (zip2 right_by masks (replicate n side)) (shifted_left side) (shifted_right side)) (lanes_given n free free_long)
 
-  side_ways_is : AreLanes n (side_ways n masks right left) 0 side_ways_lane
+  side_ways_is : AreLanes n (side_ways n masks right left) side_ways_lane
   side_ways_is =
       lane_by_lane n bit_or (zip2 bit_and (zip2 left_by masks (replicate n 1)) right) (zip2 bit_and (zip2 right_by masks (replicate n 1)) left)
       (lane_by_lane n bit_and (zip2 left_by masks (replicate n 1)) right (shifted_left 1) (lanes_given n right right_long))
       (lane_by_lane n bit_and (zip2 right_by masks (replicate n 1)) left (shifted_right 1) (lanes_given n left left_long))
 
-  grown_is_lanes : AreLanes n (grown_lanes n side masks free right left) 0 (λ j. bit_or (bit_or (get_or masks j 0) (up_down_lane j)) (side_ways_lane j))
+  grown_is_lanes : AreLanes n (grown_lanes n side masks free right left) (λ j. bit_or (bit_or (get_or masks j 0) (up_down_lane j)) (side_ways_lane j))
   grown_is_lanes =
       lane_by_lane n bit_or (zip2 bit_or masks (up_down n side masks free)) (side_ways n masks right left)
       (lane_by_lane n bit_or masks (up_down n side masks free) (lanes_given n masks masks_long) up_down_is) side_ways_is
@@ -77,7 +77,7 @@ outside n free column = zip2 bit_and free (replicate n (2 ^ 32 - 1 - column))
 
 module _ (n side first last : ℕ) (masks free : List ℕ) (free_long : length free ≡ n) (free_fits : Each1 (Fits w32) free) (grow : AllMayGrow side masks free)
     (first_fits : first < 2 ^ 32) (last_fits : last < 2 ^ 32) (first_is : IsMaskOf first (λ c. (c < side * side) × (c % side ≡ 0))) (last_is : IsMaskOf last (λ c. (c < side * side) × (c % side ≡ side - 1))) where
-  outside_is : (column : ℕ) → AreLanes n (outside n free column) 0 (λ j. bit_and (get_or free j 0) (2 ^ 32 - 1 - column))
+  outside_is : (column : ℕ) → AreLanes n (outside n free column) (λ j. bit_and (get_or free j 0) (2 ^ 32 - 1 - column))
   outside_is column = lane_by_lane n bit_and free (replicate n (2 ^ 32 - 1 - column)) (lanes_given n free free_long) (splat n (2 ^ 32 - 1 - column))
 
   pub all_entered : (i : ℕ) → i < n → AreEntered side (get_or free i 0) (get_or (outside n free first) i 0) (get_or (outside n free last) i 0)

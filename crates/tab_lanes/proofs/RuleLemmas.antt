@@ -7,7 +7,7 @@ use Rattle.std.proofs.lemmas.Simd.{get_or-chunk}
 use lib.Lanes.{chunk, zip2}
 use Rattle.puz_board.proofs.BitLemmas.{in_below}
 use Rattle.tab_lanes.proofs.FlagLemmas.{AreFlags, flag, lanes_given, splat, lane_by_lane, compared, joined, turned}
-use Rattle.tab_lanes.specs.LocalRule.{KeepsRule, no_region, goal, one_more, never, KeepsRuleAt, KeepRuleBetween}
+use Rattle.tab_lanes.specs.LocalRule.{KeepsRuleOfKind, no_region, goal, one_more, never, KeepsRuleAt, KeepRuleBetween}
 
 -- the rule as the vectors test it, for a slot of the last kind, and for any
 abbrev pub keeps_other : ℕ → ℕ → ℕ → Bool
@@ -40,7 +40,7 @@ module _ (k m e : ℕ) where
   abbrev fourth_case : Bool
   fourth_case = eqb m 255 && eqb e 255
 
-  other_kept : (eqb k 2 && (third_case || fourth_case)) ≡ true → KeepsRule k m e
+  other_kept : (eqb k 2 && (third_case || fourth_case)) ≡ true → KeepsRuleOfKind k m e
   other_kept h =
       let parts = and_parts (eqb k 2) (third_case || fourth_case) h in
       let kind = eqb-true k 2 parts.0 in
@@ -53,7 +53,7 @@ module _ (k m e : ℕ) where
         | inr t ↦ (let both = and_parts (eqb m 255) (eqb e 255) t in never kind (eqb-true m 255 both.0) (eqb-true e 255 both.1))
       ]
 
-  kept : keeps k m e ≡ true → KeepsRule k m e
+  kept : keeps k m e ≡ true → KeepsRuleOfKind k m e
   kept h = elim (one_holds (first_case || second_case) (eqb k 2 && (third_case || fourth_case)) h) [
     | inl t ↦ elim (one_holds first_case second_case t) [
       | inl s ↦ (let both = and_parts (eqb k 0) (eqb e 254) s in no_region (eqb-true k 0 both.0) (eqb-true e 254 both.1))
@@ -62,7 +62,7 @@ module _ (k m e : ℕ) where
     | inr t ↦ other_kept t
   ]
 
-  passes : KeepsRule k m e → keeps k m e ≡ true
+  passes : KeepsRuleOfKind k m e → keeps k m e ≡ true
   passes (no_region kind entry) =
       holds_left (first_case || second_case) (eqb k 2 && (third_case || fourth_case)) (
       holds_left first_case second_case (and_from (eqb k 0) (eqb e 254) (eq-eqb k 0 kind) (eq-eqb e 254 entry)))
@@ -79,14 +79,14 @@ module _ (k m e : ℕ) where
       holds_right third_case fourth_case (and_from (eqb m 255) (eqb e 255) (eq-eqb m 255 least) (eq-eqb e 255 entry))))
 
   -- from a bit that is set where the test fails
-  pub rule_kept : (bit : ℕ) → bit ≡ cond (not (keeps k m e)) 1 0 → bit ≡ 0 → KeepsRule k m e
+  pub rule_kept : (bit : ℕ) → bit ≡ cond (not (keeps k m e)) 1 0 → bit ≡ 0 → KeepsRuleOfKind k m e
   rule_kept bit is none = by (keeps k m e) refl
     where
-      by : (t : Bool) → keeps k m e ≡ t → KeepsRule k m e
+      by : (t : Bool) → keeps k m e ≡ t → KeepsRuleOfKind k m e
       by true h = kept h
       by false h = absurd (let set = is ∙ ap (λ t. cond (not t) 1 0) h in omega arith)
 
-  pub rule_broken : (bit : ℕ) → bit ≡ cond (not (keeps k m e)) 1 0 → bit ≡ 1 → ¬ KeepsRule k m e
+  pub rule_broken : (bit : ℕ) → bit ≡ cond (not (keeps k m e)) 1 0 → bit ≡ 1 → ¬ KeepsRuleOfKind k m e
   rule_broken bit is some rule = let none = is ∙ ap (λ t. cond (not t) 1 0) (passes rule) in omega arith
 
 -- ---- the test in vectors
@@ -157,7 +157,7 @@ module _ (n : ℕ) where
 
 module _ (entries mins kinds : List ℕ) (from at n bits : ℕ) (so_far : KeepRuleBetween entries mins kinds from at) where
   in_place : (j : ℕ) → j < n → KeepsRuleAt (chunk at n entries) (chunk at n mins) (chunk at n kinds) j ≡ KeepsRuleAt entries mins kinds (at + j)
-  in_place j l i = KeepsRule (get_or-chunk at n kinds j 0 l i) (get_or-chunk at n mins j 0 l i) (get_or-chunk at n entries j 0 l i)
+  in_place j l i = KeepsRuleOfKind (get_or-chunk at n kinds j 0 l i) (get_or-chunk at n mins j 0 l i) (get_or-chunk at n entries j 0 l i)
 
   module _ (kept_lane : (j : ℕ) → j < n → bit_at bits j ≡ 0 → KeepsRuleAt (chunk at n entries) (chunk at n mins) (chunk at n kinds) j) where
     pub kept_up_to : (m : ℕ) → m ≤ n → ((j : ℕ) → j < m → bit_at bits j ≡ 0) → KeepRuleBetween entries mins kinds from (at + m)

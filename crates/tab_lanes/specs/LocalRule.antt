@@ -32,17 +32,17 @@ other_slot = 2
 -- ---- the rule
 
 -- by cases; the least entry one move away counts only for a slot of the last kind, and is 255 where there is none
-pub data KeepsRule (kind least entry : ℕ) : Type 0 where
-  no_region : kind ≡ without_region → entry ≡ no_region_entry → KeepsRule kind least entry
-  goal : kind ≡ goal_slot → entry ≡ 0 → KeepsRule kind least entry
-  one_more : kind ≡ other_slot → least < greatest_count → entry ≡ suc least → KeepsRule kind least entry
-  never : kind ≡ other_slot → least ≡ no_way_home → entry ≡ no_way_home → KeepsRule kind least entry
+pub data KeepsRuleOfKind (kind least entry : ℕ) : Type 0 where
+  no_region : kind ≡ without_region → entry ≡ no_region_entry → KeepsRuleOfKind kind least entry
+  goal : kind ≡ goal_slot → entry ≡ 0 → KeepsRuleOfKind kind least entry
+  one_more : kind ≡ other_slot → least < greatest_count → entry ≡ suc least → KeepsRuleOfKind kind least entry
+  never : kind ≡ other_slot → least ≡ no_way_home → entry ≡ no_way_home → KeepsRuleOfKind kind least entry
 
 -- ---- columns of entries, least entries and kinds
 
 -- the entry at this place keeps the rule
 abbrev pub KeepsRuleAt : List ℕ → List ℕ → List ℕ → ℕ → Type 0
-KeepsRuleAt entries mins kinds i = KeepsRule (slice_index kinds i) (slice_index mins i) (slice_index entries i)
+KeepsRuleAt entries mins kinds i = KeepsRuleOfKind (slice_index kinds i) (slice_index mins i) (slice_index entries i)
 
 -- those from one place to another keep it, the latter not among them
 abbrev pub KeepRuleBetween : List ℕ → List ℕ → List ℕ → ℕ → ℕ → Type 0

@@ -147,6 +147,21 @@ fn worked_columns_break_the_rule_where_they_do(rt: HostRuntime) {
     assert_eq!(rt; first_bad(&entries, &[0; 33], &[OTHER_SLOT; 33]), Some(7));
 }
 
+/// As many places as a block of eight slots has.
+#[test]
+fn a_long_column_is_taken_to_its_end(rt: HostRuntime) {
+    let mut entries = [1; 2048];
+    entries[2047] = 2;
+    assert_eq!(rt;
+        first_bad(&entries, &[0; 2048], &[OTHER_SLOT; 2048]),
+        Some(2047)
+    );
+    assert_eq!(rt; count_eq(&entries, 1), 2047);
+    assert_eq!(rt; greatest_count(&entries), 2);
+    min_into(&mut entries, &[1; 2048]);
+    assert_eq!(rt; entries, [1; 2048]);
+}
+
 /// The entry that keeps the rule, if there is one.
 fn right_entry(kind: u8, least: u8) -> Option<u8> {
     match (kind, least) {
