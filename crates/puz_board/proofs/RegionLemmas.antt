@@ -17,9 +17,9 @@ abbrev pub Next : ℕ → ℕ → ℕ → ℕ → Type 0
 Next n free region d = IsIn region d ⊎ (IsIn free d × (c : ℕ) × IsIn region c × Adjacent n c d)
 
 module _ (n free cell : ℕ) where
-  on : {c d f : ℕ} → Reaches n (IsIn free) c d → Adjacent n d f → IsIn free f → Reaches n (IsIn free) c f
-  on here a o = onward a o here
-  on (onward b p r) a o = onward b p (on r a o)
+  pub reaches_further : {c d f : ℕ} → Reaches n (IsIn free) c d → Adjacent n d f → IsIn free f → Reaches n (IsIn free) c f
+  reaches_further here a o = onward a o here
+  reaches_further (onward b p r) a o = onward b p (reaches_further r a o)
 
   pub IsGrowing-start : (region : ℕ) → IsIn free cell → IsIn region cell → ((x : ℕ) → x ≢ cell → bit_at region x ≡ 0) → IsGrowing n free cell region
   IsGrowing-start region open_cell set others = record {
@@ -35,16 +35,16 @@ module _ (n free cell : ℕ) where
   IsGrowing-more region more g is = record {
     start = (is cell).1 (inl g.start);
     inside = (λ x h. elim ((is x).0 h) [ inl a ↦ g.inside x a | inr b ↦ b.0 ]);
-    reached = (λ x h. elim ((is x).0 h) [ inl a ↦ g.reached x a | inr b ↦ on (g.reached b.1 b.2) b.3 b.0 ]);
+    reached = (λ x h. elim ((is x).0 h) [ inl a ↦ g.reached x a | inr b ↦ reaches_further (g.reached b.1 b.2) b.3 b.0 ]);
   }
 
   -- a mask that grows no more has all that is reached
-  closed : (region : ℕ) → IsMaskOf region (Next n free region) → {c d : ℕ} → Reaches n (IsIn free) c d → IsIn region c → IsIn region d
-  closed region is here h = h
-  closed region is (onward {c = c} {d = d} a o r) h = closed region is r ((is d).1 (inr (o, c, h, a)))
+  pub stays_inside : (region : ℕ) → IsMaskOf region (Next n free region) → {c d : ℕ} → Reaches n (IsIn free) c d → IsIn region c → IsIn region d
+  stays_inside region is here h = h
+  stays_inside region is (onward {c = c} {d = d} a o r) h = stays_inside region is r ((is d).1 (inr (o, c, h, a)))
 
   pub IsGrowing-all : (region more : ℕ) → IsGrowing n free cell region → IsMaskOf more (Next n free region) → more ≡ region → IsMaskOf more (Reaches n (IsIn free) cell)
-  IsGrowing-all region more g is same = subst (λ m. IsMaskOf m (Reaches n (IsIn free) cell)) (sym same) (λ x. (g.reached x, λ r. closed region (subst (λ m. IsMaskOf m (Next n free region)) same is) r g.start))
+  IsGrowing-all region more g is same = subst (λ m. IsMaskOf m (Reaches n (IsIn free) cell)) (sym same) (λ x. (g.reached x, λ r. stays_inside region (subst (λ m. IsMaskOf m (Next n free region)) same is) r g.start))
 
   -- until then it becomes a greater number, which free bounds
   pub grows : (region more : ℕ) → IsGrowing n free cell region → IsMaskOf more (Next n free region) → more ≢ region → free - more < free - region

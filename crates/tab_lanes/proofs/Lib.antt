@@ -1,0 +1,7 @@
+mod CountLemmas
+mod FlagLemmas
+mod FloodLemmas
+mod FloodingLemmas
+mod GreatestLemmas
+mod LesserLemmas
+mod RuleLemmas

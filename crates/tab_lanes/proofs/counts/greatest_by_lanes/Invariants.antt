@@ -1,0 +1,9 @@
+use Rattle.std.proofs.Common.{◌-◌, ◌≤◌, length}
+use Rattle.tab_lanes.proofs.GreatestLemmas.{AreGreatest}
+use Rattle.tab_lanes.proofs.counts.greatest_by_lanes.Given as goal
+
+abbrev pub invariant-lanes : goal.invariant-lanes
+invariant-lanes g l = AreGreatest l.bytes l.at g.row.N l.lanes × (l.at ≤ length l.bytes)
+
+abbrev pub decreases-lanes : goal.decreases-lanes
+decreases-lanes g l = length l.bytes - l.at

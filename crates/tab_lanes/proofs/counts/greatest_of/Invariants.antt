@@ -1,0 +1,5 @@
+use Rattle.std.proofs.Common.{◌≡◌, ℕ, ◌<◌, ◌≤◌, ◌⊎◌, get_or}
+use Rattle.tab_lanes.proofs.counts.greatest_of.Given as goal
+
+abbrev pub invariant-loop-byte : goal.invariant-loop-byte
+invariant-loop-byte l = ((i : ℕ) → i < l.byte-index → get_or l.bytes i 0 ≤ l.greatest) × ((l.greatest ≡ 0) ⊎ ((i : ℕ) × (i < l.byte-index) × (get_or l.bytes i 0 ≡ l.greatest)))

@@ -1,0 +1,9 @@
+use Rattle.std.proofs.Common.{◌-◌, ◌≤◌, length}
+use Rattle.tab_lanes.specs.Floods.{AreGrownBetween, IsReached}
+use Rattle.tab_lanes.proofs.floods.flood_by_lanes.Given as goal
+
+abbrev pub invariant-lanes : goal.invariant-lanes
+invariant-lanes g l = AreGrownBetween (IsReached l.side) l.fn.masks l.free l.from l.at l.masks × (l.from ≤ l.at) × (l.at ≤ length l.masks)
+
+abbrev pub decreases-lanes : goal.decreases-lanes
+decreases-lanes g l = length l.masks - l.at
