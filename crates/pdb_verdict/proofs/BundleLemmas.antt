@@ -47,12 +47,6 @@ first_taken tables (f ∷ files) zero t file are there is = (t, subst (IsTableFi
 first_taken [] (f ∷ files) (suc i) t file are there is = absurd are
 first_taken (u ∷ tables) (f ∷ files) (suc i) t file are there is = (u, are.0.is_file)
 
--- all files of exact tables, of which there are some, take memory
-pub some_taken : (tables : List Table) (files : List Bytes) → 0 < length tables → AreExactFiles tables files → TakesMemoryForTables files
-some_taken [] files low are = absurd (omega arith)
-some_taken (t ∷ tables) [] low are = absurd are
-some_taken (t ∷ tables) (file ∷ files) low are = (t, are.0.is_file)
-
 -- tables of exact files are exact
 pub all_exact : (tables : List Table) (files : List Bytes) → AreExactFiles tables files → AllByRecursion IsExactTable tables
 all_exact [] files are = tt
