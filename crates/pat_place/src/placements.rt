@@ -58,11 +58,11 @@ impl Placement {
         requires { side_of board.now ≡ pattern.now.side }
         ensures { result ≡ record { pattern = pattern.now; cells = placement_of pattern.now.tiles board.now } }
     {
-        let _side = board.side();
+        let found = board.cells_of_all();
         let mut cells = [0; 8];
         let tiles = pattern.tiles();
         for (i, tile) in tiles.as_slice().iter().enumerate() {
-            cells[i] = board.cell_of(*tile);
+            cells[i] = found[*tile as usize];
         }
         Placement {
             pattern: *pattern,

@@ -173,6 +173,8 @@ fn numbers_and_cells_of_a_board(rt: HostRuntime) {
     assert_eq!(rt; board.at(1), 0);
     assert_eq!(rt; board.cell_of(3), 0);
     assert_eq!(rt; board.cell_of(2), 3);
+    let cells = board.cells_of_all();
+    assert_eq!(rt; cells.get(..4), Some([1, 2, 3, 0].as_slice()));
     assert_eq!(rt; board.blank(), 1);
     assert_eq!(rt; Board::from_cells(&[0, 1, 2]), None);
     assert_eq!(rt; Board::from_cells(&[0, 1, 2, 4]), None);

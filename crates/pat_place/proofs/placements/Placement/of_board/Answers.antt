@@ -20,7 +20,7 @@ filled c =
     (filled_all (placement_of tiles c.args.board.now) c.loop-i.cells c.loop-i.i (omega arith) (omega arith) c.loop-i.invariant)
 
 is : (c : goal.After-result-1) → IsPlacement (placed c.args.pattern.now (cells c))
-is c = IsPlacement-of c.args.board.now c.side-side.ensures.board c.args.pattern.now c.tiles-tiles.ensures.pattern c.requires
+is c = IsPlacement-of c.args.board.now c.cells_of_all-found.ensures.board c.args.pattern.now c.tiles-tiles.ensures.pattern c.requires
 
 pub invariant_of-result : goal.invariant_of-result
 invariant_of-result c = IsStoredPlacement-filled c.args.pattern.now c.tiles-tiles.ensures.pattern (cells c) (is c) c.loop-i.cells (filled c)
