@@ -10,7 +10,7 @@ pub data Asked : Type 0 where
   -- whether the table file of this name is exact, checked by so many workers
   table : List ℕ → ℕ → Asked
   -- whether a log proves its bound of a board: the names of the board, the sets, the log and its tables, in order, and
-  -- how many workers check the tables
+  -- how many workers check the tables and the log
   bound : List ℕ → List ℕ → List ℕ → List (List ℕ) → ℕ → Asked
   -- whether a log proves that the moves of a puzzle text are a shortest solution: the same, with the puzzle text first
   optimal : List ℕ → List ℕ → List ℕ → List (List ℕ) → ℕ → Asked

@@ -13,7 +13,7 @@ pub enum Request<'a> {
     Optimal(LogCheck<'a>),
 }
 
-/// The files that the check of a log reads, by their names, and how many workers check the tables.
+/// The files that the check of a log reads, by their names, and how many workers check the tables and the log.
 #[derive(Debug, PartialEq, Drop)]
 pub struct LogCheck<'a> {
     /// What the log is to prove something of: a board text or a puzzle text.

@@ -1,9 +1,9 @@
-//! `bound` and `optimal`.
+//! `bound` and `optimal` over a shelf of known files.
 
 use crate::runs::{Ended, ran_by};
 use pdb_io::memory::MemShelf;
 use samples::HoldingGate;
-use samples::files::{TILE_1, TILE_3, TILE_24, TILES_12, TILES_123, with_byte};
+use samples::files::{TILE_1, TILE_3, TILE_24, TILES_12, TILES_123};
 use samples::logs::{BRANCHES, CITATION, LEAF, UNSOLVABLE};
 use std::alloc::{AllocError, Global};
 use std::sync::Wait;
@@ -12,337 +12,224 @@ use std::test::Fail;
 use std::thread::Threads;
 use work_run::{Gate, OpenGate};
 
-/// The bytes of a file, and their SHA-256.
-type File<'a> = (&'a [u8], &'a str);
+/// `LEAF` with the bound 7.
+const LEAF_OF_7: [u8; 20] = *b"PDBL\x01\x02\0\0\0\x01\x03\x02\x01\0\x07\0\0\0\x01\x01";
 
-const FILE_123: File<'static> = (
-    &TILES_123,
-    "5c515b94b4098a8408358078f3f9b8b3e46255c04334fedd62c8e67da63d237b",
-);
+/// `CITATION` whose second lemma cites itself.
+const CITES_ITSELF: [u8; 45] =
+    *b"PDBL\x01\x02\0\0\0\x02\x03\0\x01\x02\x05\0\0\0\x06\0\x01\0\0\0\x01\x03\x02\x01\0\x06\0\0\0\x0B\0 \0\0\0\x01\0\0\0\0\x01";
 
-const FILE_12: File<'static> = (
-    &TILES_12,
-    "fc9e320726274cbeff6f0c450060cf77617b6e27b10cfe9808da3bb87454b331",
-);
+/// `TILES_123` with 2 in the place of entry 14.
+const WRONG_123: [u8; 44] =
+    *b"PDBT\x01\x02\x03\0\0\0\0\x0E\0\0\0\0\0\0\0\x18\xFF\xFF\x02\x01\x03\xFF\x02\x01\xFF\0\xFF\xFF\xFF\xFF\x02\xFF\x05\x04\xFF\x03\x05\x04\xFF\xFF";
 
-const FILE_1: File<'static> = (
-    &TILE_1,
-    "26b7b90b4dfe1e0850395df95e9bceb8d79215ca38dc4d14ffced6029e452e58",
-);
-
-const FILE_3: File<'static> = (
-    &TILE_3,
-    "fd85b03648ed99f9ba11852f07d2ef4abf0387a7c115fec94baa88c514d713fe",
-);
-
-const FILE_24: File<'static> = (
-    &TILE_24,
-    "27e4c13965b3cafa2240079ec4cc64c32a43f3e4c5f971fae8a8cc3c7bfdb239",
-);
-
-const LEAF_LOG: File<'static> = (
-    &LEAF,
-    "637ed7557c031455a39a826a90aa07c9b77930b8072f58f7a02c0af00f445342",
-);
-
-const BRANCHES_LOG: File<'static> = (
-    &BRANCHES,
-    "e9e77cadd5844ced52b6de00a0ab5f92b680046686168f0e7823639b16b9505c",
-);
-
-const CITATION_LOG: File<'static> = (
-    &CITATION,
-    "80592536478d7c82b5a31251152584cf9d6e30e0e885a3b45711798db146fa4e",
-);
-
-const UNSOLVABLE_LOG: File<'static> = (
-    &UNSOLVABLE,
-    "5a030d61cba5bc4632c6f4d366185c2c5d3dd2bc744ec73aa007929cc2fe4ab6",
-);
-
-/// What is claimed: a board or puzzle text, a set text, a log and up to two tables.
-#[derive(Clone, Copy)]
-struct Claim<'a> {
-    command: &'a str,
-    text: &'a [u8],
-    sets: &'a [u8],
-    log: File<'a>,
-    tables: &'a [File<'a>],
+/// The files of all runs here, by their names.
+fn shelf(alloc: Global) -> Result<MemShelf, AllocError> {
+    MemShelf::of(
+        alloc,
+        &[
+            ("board", b"3 2 1 0".as_slice()),
+            ("unsolvable_board", b"0 1 3 2"),
+            ("another_board", b"3 0 1 2"),
+            ("no_board", b"0 1 2 2"),
+            ("six_moves", b"3 2 1 0 ; ULDRUL"),
+            ("eight_moves", b"3 2 1 0 ; ULDRULRL"),
+            ("one_move", b"3 2 1 0 ; U"),
+            ("one_set", b"set 0\n"),
+            ("pair", b"set 0 1\n"),
+            ("descending", b"set 0\nset 1 0\n"),
+            ("leaf", &LEAF),
+            ("leaf_of_7", &LEAF_OF_7),
+            ("branches", &BRANCHES),
+            ("branches_cut", &BRANCHES[..29]),
+            ("citation", &CITATION),
+            ("cites_itself", &CITES_ITSELF),
+            ("unsolvable", &UNSOLVABLE),
+            ("f123", &TILES_123),
+            ("wrong_123", &WRONG_123),
+            ("cut_123", &TILES_123[..43]),
+            ("f12", &TILES_12),
+            ("f1", &TILE_1),
+            ("f3", &TILE_3),
+            ("f24", &TILE_24),
+        ],
+    )
 }
 
-/// A claim that a log bounds the solutions of a board.
-fn bound<'a>(text: &'a [u8], sets: &'a [u8], log: File<'a>, tables: &'a [File<'a>]) -> Claim<'a> {
-    Claim {
-        command: "bound",
-        text,
-        sets,
-        log,
-        tables,
+/// The SHA-256 of a log or a table, by its name.
+fn digest_of(name: &str) -> &'static str {
+    match name {
+        "leaf" => "637ed7557c031455a39a826a90aa07c9b77930b8072f58f7a02c0af00f445342",
+        "leaf_of_7" => "37cab8da8b6e6a8f247a68ab2aeb455969af2005a0a48876b23b53c7a5821a49",
+        "branches" => "e9e77cadd5844ced52b6de00a0ab5f92b680046686168f0e7823639b16b9505c",
+        "branches_cut" => "6aa1d8d633739b783ea805f8e0cf0746b0f762d5ae6afe858ab75a9b411292bd",
+        "citation" => "80592536478d7c82b5a31251152584cf9d6e30e0e885a3b45711798db146fa4e",
+        "cites_itself" => "ac60291658fcea5e0014a33ee8daa295e7e446df39dd112520f9663d70946571",
+        "unsolvable" => "5a030d61cba5bc4632c6f4d366185c2c5d3dd2bc744ec73aa007929cc2fe4ab6",
+        "f123" => "5c515b94b4098a8408358078f3f9b8b3e46255c04334fedd62c8e67da63d237b",
+        "wrong_123" => "93eb632d316304c6909c4a97aa82d761ef94f20ce32f74ce27ef957d6e44accc",
+        "cut_123" => "aea12bbafda4799b56eeb2a425eb5282061caf355651559c15cf44e2fb7135a6",
+        "f12" => "fc9e320726274cbeff6f0c450060cf77617b6e27b10cfe9808da3bb87454b331",
+        "f1" => "26b7b90b4dfe1e0850395df95e9bceb8d79215ca38dc4d14ffced6029e452e58",
+        "f3" => "fd85b03648ed99f9ba11852f07d2ef4abf0387a7c115fec94baa88c514d713fe",
+        "f24" => "27e4c13965b3cafa2240079ec4cc64c32a43f3e4c5f971fae8a8cc3c7bfdb239",
+        _ => "",
     }
 }
 
-/// A claim that the moves of a puzzle text are a shortest solution.
-fn optimal<'a>(text: &'a [u8], log: File<'a>, tables: &'a [File<'a>]) -> Claim<'a> {
-    Claim {
-        command: "optimal",
-        text,
-        sets: b"set 0\n",
-        log,
-        tables,
-    }
-}
-
-/// A run on a claim by so many workers, who pass a gate.
-fn checked_by<H: Threads + Wait, G: Gate + Sync>(
+/// A run of these words, which one space parts, by so many workers, who pass a gate.
+fn checked_by<'w, H: Threads + Wait, G: Gate + Sync>(
     rt: &H,
     alloc: Global,
-    claim: &Claim<'_>,
-    workers: &str,
+    words: &'w str,
+    workers: &'w str,
     gate: &G,
 ) -> Result<Ended, AllocError> {
-    let mut words = Vec::from_array(alloc, [claim.command, "a claim", "sets", "a log"])?;
-    let mut files = Vec::from_array(
-        alloc,
-        [
-            ("a claim", claim.text),
-            ("sets", claim.sets),
-            ("a log", claim.log.0),
-        ],
-    )?;
-    for (name, table) in ["table 0", "table 1"].into_iter().zip(claim.tables) {
-        words.push(name)?;
-        files.push((name, table.0))?;
+    let mut all = Vec::new(alloc);
+    for word in words.split(' ') {
+        all.push(word)?;
     }
-    words.push("--workers")?;
-    words.push(workers)?;
-    let mut shelf = MemShelf::of(alloc, files.as_slice())?;
+    all.push("--workers")?;
+    all.push(workers)?;
+    let mut shelf = shelf(alloc)?;
     let mut reader = b"".as_slice();
-    ran_by(rt, alloc, words.as_slice(), &mut shelf, &mut reader, gate)
+    ran_by(rt, alloc, all.as_slice(), &mut shelf, &mut reader, gate)
 }
 
-/// The digest lines of the tables and of the log, and then this line.
-fn lines(alloc: Global, claim: &Claim<'_>, line: &str) -> Result<String, AllocError> {
-    let mut digests = String::new(alloc);
-    for table in claim.tables {
-        digests.push_str("sha256 ")?;
-        digests.push_str(table.1)?;
-        digests.push_str("\n")?;
+/// The digest lines of the tables and of the log that the words name, and then this line.
+fn lines(alloc: Global, words: &str, line: &str) -> Result<String, AllocError> {
+    let mut all = String::new(alloc);
+    for table in words.split(' ').skip(4) {
+        all.push_str("sha256 ")?;
+        all.push_str(digest_of(table))?;
+        all.push_str("\n")?;
     }
-    format!(in alloc; "{digests}sha256 {}\n{line}\n", claim.log.1)
+    let log = words.split(' ').nth(3).unwrap_or("");
+    format!(in alloc; "{all}sha256 {}\n{line}\n", digest_of(log))
 }
 
-/// Each claim says its line below the digests, with this status, whether 1, 2 or 7 workers check it.
-fn expect_all<H: Threads + Wait>(
+/// A run of these words says this line below the digests, with this status, whether 1, 2 or 7 workers check.
+fn expect<H: Threads + Wait>(
     rt: &H,
     alloc: Global,
-    cases: &[(Claim<'_>, &str)],
+    words: &str,
+    line: &str,
     status: u8,
 ) -> Result<(), Fail> {
-    for (claim, line) in cases {
-        let want = lines(alloc, claim, line)?;
-        for workers in ["1", "2", "7"] {
-            let ended = checked_by(rt, alloc, claim, workers, &OpenGate)?;
-            ended.expect(want.as_bytes(), status)?;
-        }
+    let want = lines(alloc, words, line)?;
+    for workers in ["1", "2", "7"] {
+        let ended = checked_by(rt, alloc, words, workers, &OpenGate)?;
+        ended.expect(want.as_bytes(), status)?;
     }
     Ok(())
 }
 
-const BOARD: &[u8] = b"3 2 1 0";
-
-const SOLVED: &[u8] = b"3 2 1 0 ; ULDRUL";
-
 #[test]
 fn bounds_that_good_logs_prove_are_told(rt: HostRuntime) -> Result<(), Fail> {
     let cases = [
-        (bound(BOARD, b"set 0\n", LEAF_LOG, &[FILE_123]), "bound 6"),
+        ("bound board one_set leaf f123", "bound 6"),
+        ("bound board one_set branches f12", "bound 6"),
+        ("bound board one_set citation f12", "bound 6"),
+        // The sum is 4 + 2.
+        ("bound board pair leaf f12 f3", "bound 6"),
         (
-            bound(BOARD, b"set 0\n", BRANCHES_LOG, &[FILE_12]),
-            "bound 6",
-        ),
-        (
-            bound(BOARD, b"set 0\n", CITATION_LOG, &[FILE_12]),
-            "bound 6",
-        ),
-        (
-            bound(BOARD, b"set 0 1\n", LEAF_LOG, &[FILE_12, FILE_3]),
-            "bound 6",
-        ),
-        (
-            bound(b"0 1 3 2", b"set 0\n", UNSOLVABLE_LOG, &[FILE_123]),
+            "bound unsolvable_board one_set unsolvable f123",
             "bound 255",
         ),
-        (optimal(SOLVED, BRANCHES_LOG, &[FILE_12]), "optimal 6"),
+        ("optimal six_moves one_set branches f12", "optimal 6"),
     ];
-    expect_all(&rt, rt.alloc(), &cases, 0)
+    for (words, line) in cases {
+        expect(&rt, rt.alloc(), words, line, 0)?;
+    }
+    Ok(())
 }
 
 #[test]
 fn the_first_refusal_that_stands_is_told(rt: HostRuntime) -> Result<(), Fail> {
-    let bad_set = b"set 0\nset 1 0\n";
     let cases = [
+        ("bound no_board one_set leaf f123", "refused B5 at number 3"),
+        ("bound board pair branches f12 f1", "refused S3 at line 0"),
+        ("bound board pair leaf f1 f24", "refused S4 at table 1"),
+        ("bound board descending leaf f12 f3", "refused S1 at line 1"),
+        ("bound another_board one_set leaf f123", "refused L5"),
+        ("bound board one_set leaf f24", "refused L4"),
+        ("optimal board one_set branches f12", "refused P1"),
+        ("optimal one_move one_set branches f12", "refused M4"),
         (
-            bound(b"0 1 2 2", b"set 0\n", LEAF_LOG, &[FILE_123]),
-            "refused B5 at number 3",
-        ),
-        (
-            bound(BOARD, b"set 0 1\n", BRANCHES_LOG, &[FILE_12, FILE_1]),
-            "refused S3 at line 0",
-        ),
-        (
-            bound(BOARD, b"set 0 1\n", LEAF_LOG, &[FILE_1, FILE_24]),
-            "refused S4 at table 1",
-        ),
-        (
-            bound(BOARD, bad_set, LEAF_LOG, &[FILE_12, FILE_3]),
-            "refused S1 at line 1",
-        ),
-        (
-            bound(b"3 0 1 2", b"set 0\n", LEAF_LOG, &[FILE_123]),
-            "refused L5",
-        ),
-        (bound(BOARD, b"set 0\n", LEAF_LOG, &[FILE_24]), "refused L4"),
-        (optimal(BOARD, BRANCHES_LOG, &[FILE_12]), "refused P1"),
-        (
-            optimal(b"3 2 1 0 ; U", BRANCHES_LOG, &[FILE_12]),
-            "refused M4",
-        ),
-        (
-            optimal(b"3 2 1 0 ; ULDRULRL", BRANCHES_LOG, &[FILE_12]),
+            "optimal eight_moves one_set branches f12",
             "refused O1 solution 8 bound 6",
         ),
         (
-            optimal(SOLVED, LEAF_LOG, &[FILE_12]),
+            "optimal six_moves one_set leaf f12",
             "refused L6 at lemma 0",
         ),
     ];
-    expect_all(&rt, rt.alloc(), &cases, 1)
+    for (words, line) in cases {
+        expect(&rt, rt.alloc(), words, line, 1)?;
+    }
+    Ok(())
 }
 
 #[test]
 fn changed_logs_and_tables_are_refused(rt: HostRuntime) -> Result<(), Fail> {
-    let alloc = rt.alloc();
-    let greater = with_byte(&LEAF, 14, 7);
-    let of_itself = with_byte(&CITATION, 39, 1);
-    let wrong = with_byte(&TILES_123, 34, 2);
-    let longer = {
-        let mut copy = Vec::from_slice(alloc, &BRANCHES)?;
-        copy.push(0)?;
-        copy
-    };
-    let greater_log: File = (
-        &greater,
-        "37cab8da8b6e6a8f247a68ab2aeb455969af2005a0a48876b23b53c7a5821a49",
-    );
-    let of_itself_log: File = (
-        &of_itself,
-        "ac60291658fcea5e0014a33ee8daa295e7e446df39dd112520f9663d70946571",
-    );
-    let cut_log: File = (
-        &BRANCHES[..29],
-        "6aa1d8d633739b783ea805f8e0cf0746b0f762d5ae6afe858ab75a9b411292bd",
-    );
-    let longer_log: File = (
-        longer.as_slice(),
-        "058ef4a1dc74bd594808f019524cf006f796f38b210b8f069eb4da291414bb97",
-    );
-    let wrong_table: File = (
-        &wrong,
-        "93eb632d316304c6909c4a97aa82d761ef94f20ce32f74ce27ef957d6e44accc",
-    );
-    let wrong_alone = [wrong_table];
-    let wrong_behind = [FILE_12, wrong_table];
     let cases = [
         (
-            bound(BOARD, b"set 0\n", greater_log, &[FILE_123]),
+            "bound board one_set leaf_of_7 f123",
             "refused L6 at lemma 0",
         ),
         (
-            bound(BOARD, b"set 0\n", of_itself_log, &[FILE_12]),
+            "bound board one_set cites_itself f12",
             "refused L6 at lemma 1",
         ),
         (
-            bound(BOARD, b"set 0\n", cut_log, &[FILE_12]),
+            "bound board one_set branches_cut f12",
             "refused L2 at lemma 0",
         ),
         (
-            bound(BOARD, b"set 0\n", longer_log, &[FILE_12]),
-            "refused L2 at lemma 1",
-        ),
-        (
-            bound(BOARD, b"set 0\n", LEAF_LOG, &wrong_alone),
+            "bound board one_set leaf wrong_123",
             "refused T7 at entry 14 of table 0",
         ),
         (
-            optimal(SOLVED, BRANCHES_LOG, &wrong_behind),
+            "optimal six_moves one_set branches f12 wrong_123",
             "refused T7 at entry 14 of table 1",
         ),
     ];
-    expect_all(&rt, alloc, &cases, 1)
+    for (words, line) in cases {
+        expect(&rt, rt.alloc(), words, line, 1)?;
+    }
+    Ok(())
 }
 
 #[test]
 fn more_than_16_tables_are_checked_and_then_refused(rt: HostRuntime) -> Result<(), Fail> {
-    let alloc = rt.alloc();
-    let mut shelf = MemShelf::of(
-        alloc,
-        &[
-            ("b", BOARD),
-            ("s", b"set 0\n"),
-            ("l", &LEAF),
-            ("t", &TILES_123),
-            ("u", &TILES_123[..43]),
-        ],
-    )?;
-    for (last, line) in [("t", "refused S5"), ("u", "refused T6 of table 16")] {
-        let mut words = Vec::from_array(alloc, ["bound", "b", "s", "l"])?;
-        words.resize(20, "t")?;
-        words.push(last)?;
-        let mut reader = b"".as_slice();
-        let ended = ran_by(
-            &rt,
-            alloc,
-            words.as_slice(),
-            &mut shelf,
-            &mut reader,
-            &OpenGate,
-        )?;
-        let text = std::str::from_utf8(ended.out.as_slice()).unwrap_or("");
-        assert_eq!(rt; text.lines().count(), 19);
-        assert!(rt;
-            text.lines().last() == Some(line) && ended.status == 1,
-            "{text}"
-        );
+    let cases = [
+        (
+            "bound board one_set leaf f123 f123 f123 f123 f123 f123 f123 f123 f123 f123 f123 f123 f123 f123 f123 f123 f123",
+            "refused S5",
+        ),
+        (
+            "bound board one_set leaf f123 f123 f123 f123 f123 f123 f123 f123 f123 f123 f123 f123 f123 f123 f123 f123 cut_123",
+            "refused T6 of table 16",
+        ),
+    ];
+    for (words, line) in cases {
+        expect(&rt, rt.alloc(), words, line, 1)?;
     }
     Ok(())
 }
 
 #[test]
 fn inputs_that_can_not_be_read_are_named(rt: HostRuntime) -> Result<(), Fail> {
-    let alloc = rt.alloc();
-    let long = Vec::from_elem(alloc, b' ', 65_537)?;
-    let mut shelf = MemShelf::of(
-        alloc,
-        &[
-            ("b", BOARD),
-            ("s", b"set 0\n"),
-            ("l", &LEAF),
-            ("t", &TILES_123),
-            ("long", long.as_slice()),
-        ],
-    )?;
-    let cases: [([&str; 5], &[u8]); 7] = [
-        (["bound", "B", "S", "L", "T"], b"fault read B\n"),
-        (["bound", "b", "S", "L", "T"], b"fault read S\n"),
-        (["bound", "b", "s", "L", "T"], b"fault read L\n"),
-        (["bound", "b", "s", "l", "T"], b"fault read T\n"),
-        (["bound", "long", "s", "L", "t"], b"fault size long\n"),
-        (["optimal", "long", "s", "L", "t"], b"fault size long\n"),
-        (["bound", "b", "long", "L", "t"], b"fault size long\n"),
+    let cases = [
+        ("bound B S L T", "fault read B\n"),
+        ("bound board S L T", "fault read S\n"),
+        ("bound board one_set L T", "fault read L\n"),
+        ("bound board one_set leaf f123 T", "fault read T\n"),
+        ("optimal P one_set leaf f123", "fault read P\n"),
     ];
     for (words, line) in cases {
-        let mut reader = b"".as_slice();
-        ran_by(&rt, alloc, &words, &mut shelf, &mut reader, &OpenGate)?.expect(line, 2)?;
+        let ended = checked_by(&rt, rt.alloc(), words, "2", &OpenGate)?;
+        ended.expect(line.as_bytes(), 2)?;
     }
     Ok(())
 }
@@ -364,14 +251,13 @@ impl<'a> Gate for BehindTheFirst<'a> {
 
 #[test]
 fn two_workers_check_lemmas_side_by_side(rt: HostRuntime) -> Result<(), Fail> {
-    let alloc = rt.alloc();
-    let claim = bound(BOARD, b"set 0\n", CITATION_LOG, &[FILE_12]);
+    let words = "bound board one_set citation f12";
     let gate = BehindTheFirst {
         gate: HoldingGate::new(&[0], &[1]),
         begun: AtomicBool::new(false),
     };
-    let want = lines(alloc, &claim, "bound 6")?;
-    checked_by(&rt, alloc, &claim, "2", &gate)?.expect(want.as_bytes(), 0)?;
+    let want = lines(rt.alloc(), words, "bound 6")?;
+    checked_by(&rt, rt.alloc(), words, "2", &gate)?.expect(want.as_bytes(), 0)?;
     assert!(rt; gate.gate.saw_all(), "one worker alone");
     Ok(())
 }
