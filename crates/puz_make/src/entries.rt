@@ -1,0 +1,42 @@
+//! What the bytes of a table say, and where they stand.
+
+ghost use Rattle.std.specs.Prelude.{◌≡◌, ◌^◌, ◌<◌, ◌≤◌, ◌↔◌, IsSome, IfSome};
+ghost use Rattle.pat_place.specs.Placements.{IsPlacement};
+ghost use Rattle.tab_file.specs.Tables.{entry_count, slot_count};
+
+use pat_place::{Pattern, Placement, rank};
+
+/// The greatest count that an entry may hold.
+pub(crate) const GREATEST_COUNT: u8 = 253;
+
+/// The entry of a slot without a region.
+pub(crate) const NO_REGION: u8 = 254;
+
+/// The entry from which no walk leads home, and of those that no walk has reached yet.
+pub(crate) const NO_WAY_HOME: u8 = 255;
+
+/// The entry that holds a count, where the count is at most 253.
+pub fn entry_of(count: u32) -> Option<u8>
+    ensures some { IsSome result ↔ (count ≤ 253) }
+    ensures value { IfSome result (λ entry. entry ≡ count) }
+{
+    if count <= u32::from(GREATEST_COUNT) {
+        Some(count as u8)
+    } else {
+        None
+    }
+}
+
+/// The number of the entry of a placement and a slot.
+pub(crate) fn number_of(pattern: &Pattern, placement: &Placement, slot: u8) -> u64
+    requires pattern { placement.now.pattern ≡ pattern.now }
+    requires placement { IsPlacement placement.now }
+    requires slot { slot < slot_count pattern.now }
+    ensures there { result < entry_count pattern.now }
+    ensures few { result < 2 ^ 32 }
+{
+    let width = u64::from(pattern.width());
+    let slot = u64::from(slot);
+    let _size = pattern.size();
+    rank(placement) * width + slot
+}

@@ -1,0 +1,27 @@
+//! Why nothing is made.
+
+ghost use Rattle.std.specs.Prelude.{◌≡◌};
+ghost use Rattle.puz_make.specs.declared.faults.MakeFault.TheVariants.{Memory};
+
+use std::alloc::AllocError;
+
+/// Why no table or no log is made.
+#[derive(Clone, Copy, Debug, PartialEq, Eq)]
+pub enum MakeFault {
+    /// The search has expanded as many boards as it may.
+    K1,
+    /// The next threshold would be above 255, or a set says of the board that it has no solution.
+    K2,
+    /// A count would be above 253.
+    K3,
+    /// There isn't the memory, or the log would be longer than a log file may be.
+    Memory,
+}
+
+impl From<AllocError> for MakeFault {
+    ghost from_gives = { λ _ fault. fault ≡ Memory };
+
+    fn from(_: AllocError) -> MakeFault {
+        MakeFault::Memory
+    }
+}

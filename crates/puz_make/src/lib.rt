@@ -1,0 +1,20 @@
+//! Makers of tables and of logs. Nothing here is trusted: what they make is for the checkers.
+#![tactic(auto)]
+
+mod beside;
+mod entries;
+mod faults;
+mod layers;
+mod logs;
+mod moves;
+mod searches;
+mod tables;
+
+pub use entries::entry_of;
+pub use faults::MakeFault;
+pub use layers::layer;
+pub use searches::{Found, solve};
+pub use tables::build;
+
+#[cfg(test)]
+mod tests;

@@ -1,0 +1,198 @@
+//! Shortest solutions by iterative deepening (Korf 1985), and the logs that prove them shortest.
+
+ghost use Rattle.std.specs.Prelude.{◌≡◌, ◌<◌, IfOk, length};
+ghost use Rattle.std.specs.Bool.{OnFalse};
+ghost use Rattle.puz_board.specs.Boards.{IsBoardOf, side_of};
+
+use crate::faults::MakeFault;
+use crate::logs::{log_of, put};
+use crate::moves::{MOVES, letter_of};
+use puz_board::{Board, Move};
+use set_sum::Bundle;
+use std::alloc::Global;
+use std::mem;
+use tab_check::Count;
+
+/// The byte of a branch.
+const BRANCH: u8 = 0;
+
+/// The greatest bound that a lemma claims, and so the greatest threshold.
+const GREATEST_BOUND: u16 = 255;
+
+/// The most bytes of a tree: with its header a log file has at most 2^30.
+const MOST_TREE_BYTES: usize = (1 << 30) - 40;
+
+/// A shortest solution, and the log that proves it shortest.
+#[derive(Drop)]
+pub struct Found {
+    /// The letters of its moves: `U`, `D`, `L` and `R`.
+    pub moves: Vec<u8>,
+    /// The bytes of the log file.
+    pub log: Vec<u8>,
+}
+
+/// Searches for a shortest solution of a board, threshold by threshold, and expands at most `budget` boards.
+///
+/// A board is expanded where its moves are tried. The log has one lemma: its tree is what the last threshold that failed
+/// looked at.
+pub fn solve(
+    alloc: Global,
+    bundle: &Bundle<'_>,
+    board: &Board,
+    budget: u64,
+) -> Result<Found, MakeFault>
+    requires { side_of board.now ≡ bundle.now.side }
+{
+    let _side = board.side();
+    let root = best_leaf(bundle, board);
+    let Some(mut bound) = root.sum else {
+        return Err(MakeFault::K2);
+    };
+    let mut proof = Vec::new(alloc);
+    put(&mut proof, root.byte())?;
+    let mut search = Search {
+        budget,
+        spare: u16::MAX,
+        tree: Vec::new(alloc),
+        moves: Vec::new(alloc),
+    };
+    for threshold in 0..=GREATEST_BOUND {
+        if threshold < bound {
+            continue;
+        }
+        if is_solved(bundle, &mut search, board, None, threshold + 1)? {
+            search.moves.reverse();
+            return Ok(Found {
+                moves: search.moves,
+                log: log_of(alloc, board, threshold as u8, &proof)?,
+            });
+        }
+        bound = threshold.saturating_add(search.spare).saturating_add(1);
+        proof = search.begin_again(proof);
+    }
+    Err(MakeFault::K2)
+}
+
+/// What a search keeps.
+#[derive(Drop)]
+struct Search {
+    /// How many more boards may be expanded.
+    budget: u64,
+    /// The least by which the sum of a leaf of this threshold is above what remains.
+    spare: u16,
+    /// The tree of this threshold, as far as it is written.
+    tree: Vec<u8>,
+    /// The letters of the moves of a solution, the last one first.
+    moves: Vec<u8>,
+}
+
+impl Search {
+    /// Begins the next threshold, in the memory of an older tree. Answers the tree of this one.
+    fn begin_again(&mut self, mut older: Vec<u8>) -> Vec<u8> {
+        older.clear();
+        self.spare = u16::MAX;
+        mem::replace(&mut self.tree, older)
+    }
+
+    /// Writes a node of the tree.
+    fn write(&mut self, node: u8) -> Result<(), MakeFault> {
+        if self.tree.len() >= MOST_TREE_BYTES {
+            return Err(MakeFault::Memory);
+        }
+        put(&mut self.tree, node)?;
+        Ok(())
+    }
+
+    /// Writes a branch, and counts it.
+    fn expand(&mut self) -> Result<(), MakeFault> {
+        if self.budget == 0 {
+            return Err(MakeFault::K1);
+        }
+        self.budget -= 1;
+        self.write(BRANCH)
+    }
+
+    /// Whether a leaf cuts a board off, from which so many moves are to be refuted. It is then written.
+    fn is_cut(&mut self, leaf: &Leaf, remaining: u16) -> Result<bool, MakeFault>
+        ensures { IfOk result (λ cut. OnFalse cut (0 < remaining)) }
+    {
+        if let Some(sum) = leaf.sum {
+            if sum < remaining {
+                return Ok(false);
+            }
+            self.spare = self.spare.min(sum - remaining);
+        }
+        self.write(leaf.byte())?;
+        Ok(true)
+    }
+}
+
+/// Whether a board, reached by a move, has a solution of fewer moves than remain. Where it has none, the tree that refutes
+/// it is written, and otherwise the letters of its moves.
+fn is_solved(
+    bundle: &Bundle<'_>,
+    search: &mut Search,
+    board: &Board,
+    arriving: Option<Move>,
+    remaining: u16,
+) -> Result<bool, MakeFault>
+    requires { IsBoardOf bundle.now.side board.now }
+{
+    let leaf = best_leaf(bundle, board);
+    if search.is_cut(&leaf, remaining)? {
+        return Ok(false);
+    }
+    if board.is_goal() {
+        return Ok(true);
+    }
+    search.expand()?;
+    for mv in &MOVES {
+        if arriving == Some(mv.reverse()) {
+            continue;
+        }
+        if let Some(after) = board.apply(*mv) {
+            if is_solved(bundle, search, &after, Some(*mv), remaining - 1)? {
+                put(&mut search.moves, letter_of(*mv))?;
+                return Ok(true);
+            }
+        }
+    }
+    Ok(false)
+}
+
+/// What a set says of a board.
+#[derive(Clone, Copy)]
+struct Leaf {
+    set: u8,
+    /// A number of moves that no solution is below; none where the board has no solution.
+    sum: Option<u16>,
+}
+
+impl Leaf {
+    /// The byte of the leaf in a tree.
+    fn byte(&self) -> u8 {
+        self.set.wrapping_add(1)
+    }
+}
+
+/// What the first set says that says the most of a board.
+fn best_leaf(bundle: &Bundle<'_>, board: &Board) -> Leaf
+    requires { IsBoardOf bundle.now.side board.now }
+{
+    let _side = board.side();
+    let mut best = 0;
+    let mut most = 0;
+    for set in 0..bundle.sets() {
+        match bundle.sum(set, board) {
+            Count::Finite(sum) => if sum > most {
+                best = set;
+                most = sum;
+            },
+            Count::Never => return Leaf { set, sum: None },
+        }
+    }
+    Leaf {
+        set: best,
+        sum: Some(most),
+    }
+}

@@ -1,0 +1,139 @@
+//! Tables, built breadth first from the entry of the tiles at home.
+
+ghost use Rattle.std.specs.Prelude.{◌≡◌, ◌+◌, ◌*◌, ◌<◌, ◌^◌, IfOk, length};
+ghost use Rattle.tab_file.specs.Tables.{entry_count};
+
+use crate::beside::list_beside;
+use crate::entries::{GREATEST_COUNT, NO_REGION, NO_WAY_HOME, entry_of, number_of};
+use crate::faults::MakeFault;
+use crate::layers::layer;
+use pat_place::{Pattern, Placement, regions, unrank};
+use rayon::prelude::*;
+use std::alloc::{AllocError, Global};
+use std::thread::Threads;
+use tab_file::header_of;
+
+/// How many entries of a layer one piece of the work has.
+const PIECE: usize = 4096;
+
+/// The file of a pattern's table: each entry is filled in with the first layer that reaches it.
+pub fn build<R: Threads + Sync>(
+    rt: &R,
+    alloc: Global,
+    pattern: &Pattern,
+) -> Result<Vec<u8>, MakeFault> {
+    let mut file = unmarked_file(alloc, pattern)?;
+    let (_header, entries) = file.split_at_mut(20);
+    mark_regions(rt, pattern, entries);
+    fill_layers(rt, alloc, pattern, entries)?;
+    Ok(file)
+}
+
+/// The file with entries that all say that their slot has no region.
+fn unmarked_file(alloc: Global, pattern: &Pattern) -> Result<Vec<u8>, AllocError>
+    ensures { IfOk result (λ file. length file.items ≡ 20 + entry_count pattern.now) }
+{
+    let header = header_of(pattern);
+    let count = pattern.count() * u64::from(pattern.width());
+    let length = header.len() + count as usize;
+    let mut file = Vec::with_capacity(alloc, length)?;
+    file.extend_from_slice(&header)?;
+    file.resize(length, NO_REGION)?;
+    Ok(file)
+}
+
+/// Marks the entries of slots with regions as not yet reached.
+fn mark_regions<R: Threads + Sync>(rt: &R, pattern: &Pattern, entries: &mut [u8])
+    ensures { length entries.new ≡ length entries.old }
+{
+    let _size = pattern.size();
+    let width = usize::from(pattern.width());
+    par_chunks_mut_for_each(
+        rt,
+        entries,
+        width,
+        |start, slots| mark_slots(pattern, (start / width) as u64, slots),
+    );
+}
+
+/// Marks the entries of the placement of a rank.
+fn mark_slots(pattern: &Pattern, rank: u64, slots: &mut [u8])
+    ensures { length slots.new ≡ length slots.old }
+{
+    if rank >= pattern.count() {
+        return;
+    }
+    let regions = regions(&unrank(pattern, rank));
+    for slot in slots.iter_mut().take(regions.len()) {
+        *slot = NO_WAY_HOME;
+    }
+}
+
+/// Fills in the entries layer by layer, from the tiles at home on.
+fn fill_layers<R: Threads + Sync>(
+    rt: &R,
+    alloc: Global,
+    pattern: &Pattern,
+    entries: &mut [u8],
+) -> Result<(), MakeFault>
+    requires { length entries.old ≡ entry_count pattern.now }
+{
+    // Cell 0 is the least of all, so the region that has it is the first.
+    let home = number_of(pattern, &Placement::goal(pattern), 0);
+    entries[home as usize] = 0;
+    for count in 0..=GREATEST_COUNT {
+        let near = list_near(rt, alloc, pattern, entries, count)?;
+        if near.as_slice().iter().all(|list| list.is_empty()) {
+            return Ok(());
+        }
+        match entry_of(u32::from(count) + 1) {
+            Some(entry) => write_lists(entries, &near, entry),
+            None => return Err(MakeFault::K3),
+        }
+    }
+    Err(MakeFault::K3)
+}
+
+/// The entries not yet reached that are one move of a tile away from those of a layer, in lists for pieces of the layer.
+fn list_near<R: Threads + Sync>(
+    rt: &R,
+    alloc: Global,
+    pattern: &Pattern,
+    entries: &[u8],
+    count: u8,
+) -> Result<Vec<Vec<u32>>, AllocError>
+    requires { length entries.now ≡ entry_count pattern.now }
+{
+    let _size = pattern.size();
+    let reached = layer(rt, alloc, entries, count)?;
+    reached
+        .as_slice()
+        .par_chunks(PIECE)
+        .with_min_len(1)
+        .map(
+            |numbers: &[u32]| -> Result<Vec<u32>, AllocError>
+                requires { length entries.now ≡ entry_count pattern.now }
+            { list_beside(alloc, pattern, entries, numbers) },
+        )
+        .collect::<Result<Vec<Vec<u32>>, AllocError>>(rt, alloc)?
+}
+
+/// Writes an entry at all these numbers.
+fn write_lists(entries: &mut [u8], lists: &[Vec<u32>], entry: u8)
+    ensures { length entries.new ≡ length entries.old }
+{
+    for list in lists {
+        write_list(entries, list, entry);
+    }
+}
+
+/// Writes an entry at the numbers of one list.
+fn write_list(entries: &mut [u8], numbers: &[u32], entry: u8)
+    ensures { length entries.new ≡ length entries.old }
+{
+    for number in numbers {
+        if let Some(place) = entries.get_mut(*number as usize) {
+            *place = entry;
+        }
+    }
+}
