@@ -1,9 +1,10 @@
 -- A run that ends with a yes or a no has answered.
 use Rattle.std.proofs.Common.{◌≡◌, ◌∙◌, ◌⊎◌, inl, inr, Bool, true, false, ap, refl, sym}
 use Rattle.std.specs.Io.KnownBytes.{Appends}
-use Rattle.pdb_io.specs.declared.streams.ReadFault.TheVariants.{F1, F2, Memory}
+use Rattle.pdb_io.specs.declared.streams.ReadFault.TheVariants as read
+use Rattle.pdb_io.specs.declared.shelf.KeepFault.TheVariants as keep
 use Rattle.pdb_run.specs.Plans.{Plan}
-use Rattle.pdb_run.specs.Runs.{Ends, HasCause, IsAnswered, Outcome, World, no_memory, replied, status_of, text_of, unread}
+use Rattle.pdb_run.specs.Runs.{Ends, HasCause, IsAnswered, LeavesFiles, Outcome, World, no_memory, replied, status_of, text_of, unkept, unread}
 use Rattle.pdb_run.specs.declared.status.Status.{Status}
 use Rattle.pdb_run.specs.declared.status.Status.TheVariants.{Yes, Refused, Fault, NoMemory}
 
@@ -20,12 +21,14 @@ no_answer : (k status : Status) → is_answer k ≡ false → status ≡ k → (
 no_answer k status none is answered = let clash : false ≡ true = sym none ∙ sym (ap is_answer is) ∙ is_answer-answered status answered in cc
 
 module _ (plan : Plan) (old new : World) (status : Status) where
-  whole : (outcome : Outcome) → HasCause plan old new.failed outcome → new.files ≡ old.files → Appends old.written new.written (text_of outcome)
+  whole : (outcome : Outcome) → HasCause plan old new.failed outcome → LeavesFiles plan old.files new.files outcome → Appends old.written new.written (text_of outcome)
       → status ≡ status_of outcome → (status ≡ Yes) ⊎ (status ≡ Refused) → IsAnswered plan old new status
   whole (replied inputs reply) cause files lines is answered = record { inputs = inputs; reply = reply; right = cause; files = files; lines = lines; is_status = is }
-  whole (unread wanted F1) cause files lines is answered = absurd (no_answer Fault status refl is answered)
-  whole (unread wanted F2) cause files lines is answered = absurd (no_answer Fault status refl is answered)
-  whole (unread wanted Memory) cause files lines is answered = absurd (no_answer NoMemory status refl is answered)
+  whole (unread wanted read.F1) cause files lines is answered = absurd (no_answer Fault status refl is answered)
+  whole (unread wanted read.F2) cause files lines is answered = absurd (no_answer Fault status refl is answered)
+  whole (unread wanted read.Memory) cause files lines is answered = absurd (no_answer NoMemory status refl is answered)
+  whole (unkept name keep.F3) cause files lines is answered = absurd (no_answer Fault status refl is answered)
+  whole (unkept name keep.Memory) cause files lines is answered = absurd (no_answer NoMemory status refl is answered)
   whole no_memory cause files lines is answered = absurd (no_answer NoMemory status refl is answered)
 
   pub IsAnswered-ends : Ends plan old new status → (status ≡ Yes) ⊎ (status ≡ Refused) → IsAnswered plan old new status

@@ -9,8 +9,9 @@ use Rattle.std.proofs.lemmas.List.Concat.{flat_map-cons}
 use Rattle.pdb_io.specs.Shelves.{Bytes}
 use Rattle.pdb_io.specs.Streams.{AppendsFront, joined}
 use Rattle.pdb_io.proofs.Appending.{appends_more, front_more}
-use Rattle.pdb_run.specs.Lines.{digest_line, digests_of, shown_byte}
+use Rattle.pdb_run.specs.Lines.{digest_line, digests_of, list_of, reply_text, shown_byte}
 use Rattle.pdb_run.specs.Pages.{Gathers}
+use Rattle.pdb_run.specs.Plans.{Reply}
 use Rattle.pdb_run.specs.Replies.{all_bytes}
 
 -- ---- one page
@@ -124,6 +125,13 @@ pub last_gathers : {T E : Type 0} (r : Result T E) (a b c : Option Bytes) (x y z
     → OnOk r (Gathers b y c z (digests_of last)) → OnOk r (Gathers a x c z (digests_of (files ++ last)))
 last_gathers (Ok k) a b c x y z files last p q = gathers_digests a b c x y z files last p q
 last_gathers (Err e) a b c x y z files last p q = tt
+
+-- the parts of a reply in a row, as they were added
+pub reply_parts : (reply : Reply) (made : Option Bytes) (lines : Bytes) → made ≡ reply.made → lines ≡ reply.lines
+    → (digests_of reply.digested ++ digests_of (list_of made)) ++ lines ≡ reply_text reply
+reply_parts reply made lines is_made is_lines = append_assoc (digests_of reply.digested) (digests_of (list_of made)) lines
+    ∙ ap (λ (m : Option Bytes). digests_of reply.digested ++ (digests_of (list_of m) ++ lines)) is_made
+    ∙ ap (λ (t : Bytes). digests_of reply.digested ++ (digests_of (list_of reply.made) ++ t)) is_lines
 
 module _ {A : Type 0} (a b c : Option Bytes) (x y : Bytes) (files : List (Vec ℕ A)) (i : ℕ) (d : Vec ℕ A) (line : Bytes) (lt : i < length files) (is : line ≡ digest_line (get_or files i d).items) where
   pub file_next : (z : Bytes) → Gathers a x b y (digests_of (all_bytes (take i files))) → Gathers b y c z line → Gathers a x c z (digests_of (all_bytes (take (i + 1) files)))

@@ -22,7 +22,7 @@ list_of (Some file) = file ∷ []
 
 -- all that is written of a reply
 abbrev pub reply_text : Reply → Bytes
-reply_text reply = digests_of reply.digested ++ reply.lines
+reply_text reply = digests_of reply.digested ++ (digests_of (list_of reply.made) ++ reply.lines)
 
 -- ---- faults
 

@@ -1,10 +1,12 @@
 -- How a run of a command ends.
-use Rattle.std.specs.Prelude.{◌≡◌, ◌⊎◌, ◌<◌, Bool, true, false, List, Option, codes, length}
+use Rattle.std.specs.Prelude.{◌≡◌, ◌⊎◌, ◌<◌, Bool, true, false, List, Option, Some, None, codes, length}
 use Rattle.std.specs.Io.KnownBytes.{Appends}
-use Rattle.pdb_io.specs.Shelves.{Bytes, Files}
+use Rattle.pdb_io.specs.Shelves.{Bytes, Files, KeepsOthers, told_with}
 use Rattle.pdb_io.specs.Streams.{AppendsFront}
 use Rattle.pdb_io.specs.declared.streams.ReadFault.{ReadFault}
-use Rattle.pdb_io.specs.declared.streams.ReadFault.TheVariants.{F1, F2, Memory}
+use Rattle.pdb_io.specs.declared.streams.ReadFault.TheVariants as read
+use Rattle.pdb_io.specs.declared.shelf.KeepFault.{KeepFault}
+use Rattle.pdb_io.specs.declared.shelf.KeepFault.TheVariants as keep
 use Rattle.pdb_run.specs.Lines.{memory_line, named_line, reply_text, shown}
 use Rattle.pdb_run.specs.Plans.{Plan, Reply, Wanted}
 use Rattle.pdb_run.specs.Readings.{AreRead, IsFirstUnread}
@@ -31,15 +33,19 @@ pub data Outcome : Type 0 where
   replied : List Bytes → Reply → Outcome
   -- this input can't be read
   unread : Wanted → ReadFault → Outcome
+  -- a file that was made can't be kept under this name
+  unkept : Bytes → KeepFault → Outcome
   -- want of memory elsewhere
   no_memory : Outcome
 
 -- its lines
 abbrev pub text_of : Outcome → Bytes
 text_of (replied inputs reply) = reply_text reply
-text_of (unread wanted F1) = named_line (codes "fault read ") (shown wanted.name)
-text_of (unread wanted F2) = named_line (codes "fault size ") (shown wanted.name)
-text_of (unread wanted Memory) = memory_line
+text_of (unread wanted read.F1) = named_line (codes "fault read ") (shown wanted.name)
+text_of (unread wanted read.F2) = named_line (codes "fault size ") (shown wanted.name)
+text_of (unread wanted read.Memory) = memory_line
+text_of (unkept name keep.F3) = named_line (codes "fault write ") (shown (Some name))
+text_of (unkept name keep.Memory) = memory_line
 text_of no_memory = memory_line
 
 -- a yes or a no
@@ -50,9 +56,11 @@ status_of_reply false = Refused
 -- its status, where all its lines are written
 abbrev pub status_of : Outcome → Status
 status_of (replied inputs reply) = status_of_reply reply.is_yes
-status_of (unread wanted F1) = Fault
-status_of (unread wanted F2) = Fault
-status_of (unread wanted Memory) = NoMemory
+status_of (unread wanted read.F1) = Fault
+status_of (unread wanted read.F2) = Fault
+status_of (unread wanted read.Memory) = NoMemory
+status_of (unkept name keep.F3) = Fault
+status_of (unkept name keep.Memory) = NoMemory
 status_of no_memory = NoMemory
 
 -- ---- its cause
@@ -61,15 +69,51 @@ status_of no_memory = NoMemory
 abbrev pub IsRight : Plan → World → List Bytes → Reply → Type 0
 IsRight plan old inputs reply = AreRead old.files old.reader plan.inputs inputs × plan.MayReply inputs reply
 
+-- what was made is kept after a yes, and after nothing else
+abbrev pub kept_after : Bool → Option Bytes → Option Bytes
+kept_after true made = made
+kept_after false made = None
+
+-- the file that is kept of a reply
+abbrev pub kept : Reply → Option Bytes
+kept reply = kept_after reply.is_yes reply.made
+
+-- a right reply has a file to keep under this name, and the shelf has failed, or memory was wanted to keep it
+pub record IsUnkept (plan : Plan) (old : World) (failed : Bool) (name : Bytes) (why : KeepFault) : Type 0 where
+  pub under : plan.keeps_under ≡ Some name
+  pub inputs : List Bytes
+  pub reply : Reply
+  pub right : IsRight plan old inputs reply
+  pub file : Bytes
+  pub is_kept : kept reply ≡ Some file
+  pub has_failed : why ≡ keep.F3 → failed ≡ true
+
 -- memory was wanted to list the inputs, or by the check of those that were read
 abbrev pub WantsMemory : Plan → World → Type 0
 WantsMemory plan old = (0 < length plan.inputs) ⊎ ((inputs : List Bytes) × AreRead old.files old.reader plan.inputs inputs × plan.TakesMemory inputs)
 
--- a reply is right, the input that was not read is the first, and memory was wanted
+-- a reply is right, the input that was not read is the first, a file to keep was not kept, and memory was wanted
 abbrev pub HasCause : Plan → World → Bool → Outcome → Type 0
 HasCause plan old failed (replied inputs reply) = IsRight plan old inputs reply
 HasCause plan old failed (unread wanted why) = IsFirstUnread old.files old.reader failed plan.inputs wanted why
+HasCause plan old failed (unkept name why) = IsUnkept plan old failed name why
 HasCause plan old failed no_memory = WantsMemory plan old
+
+-- ---- its effects
+
+-- these files, with that one under the name, where there is a name and a file
+abbrev pub with_kept : Option Files → Option Bytes → Option Bytes → Option Files
+with_kept files None file = files
+with_kept files (Some name) None = files
+with_kept files (Some name) (Some file) = told_with files name file
+
+-- a reply leaves the files as they were but for the one that is kept; where keeping failed, what that name has is open;
+-- anything else leaves them as they were
+abbrev pub LeavesFiles : Plan → Option Files → Option Files → Outcome → Type 0
+LeavesFiles plan old new (replied inputs reply) = new ≡ with_kept old plan.keeps_under (kept reply)
+LeavesFiles plan old new (unread wanted why) = new ≡ old
+LeavesFiles plan old new (unkept name why) = KeepsOthers old new name
+LeavesFiles plan old new no_memory = new ≡ old
 
 -- the text was written whole, or the writer failed with at least one byte of it left to write
 abbrev pub Says : Bytes → Status → Option Bytes → Option Bytes → Status → Type 0
@@ -77,20 +121,20 @@ Says text with_text old new status = (Appends old new text × (status ≡ with_t
 
 -- ---- how it ends
 
--- it does one thing that it has cause to do, and says that; the files of its shelf stay as they are
+-- it does one thing that it has cause to do, leaves the files as that does, and says it
 pub record Ends (plan : Plan) (old new : World) (status : Status) : Type 0 where
   pub outcome : Outcome
   pub cause : HasCause plan old new.failed outcome
-  pub files : new.files ≡ old.files
+  pub files : LeavesFiles plan old.files new.files outcome
   pub said : Says (text_of outcome) (status_of outcome) old.written new.written status
 
 -- ---- what follows for a yes or a no
 
--- the writer got exactly the lines of a right reply on the inputs at the start, and the files stay as they are
+-- the writer got exactly the lines of a right reply on the inputs at the start, and of the files only the kept one changed
 pub record IsAnswered (plan : Plan) (old new : World) (status : Status) : Type 0 where
   pub inputs : List Bytes
   pub reply : Reply
   pub right : IsRight plan old inputs reply
-  pub files : new.files ≡ old.files
+  pub files : new.files ≡ with_kept old.files plan.keeps_under (kept reply)
   pub lines : Appends old.written new.written (reply_text reply)
   pub is_status : status ≡ status_of_reply reply.is_yes

@@ -17,13 +17,15 @@ pub const LINES_LEN: usize = 256;
 /// Lines, as a value.
 pub type Lines = ArrayString<LINES_LEN>;
 
-/// An answer: the files that it speaks of, its lines, and whether it is a yes.
+/// An answer: the files that it speaks of, a file that was made, its lines, and whether it is a yes.
 #[derive(Drop)]
 pub struct Answer<'a> {
     /// The files whose digests come first.
     pub files: &'a [Vec<u8>],
     /// A file whose digest comes next.
     pub last: Option<&'a [u8]>,
+    /// A file that was made: its digest comes then, and after a yes it is kept, where the command keeps any.
+    pub made: Option<Vec<u8>>,
     /// The lines behind the digests.
     pub lines: Lines,
     /// Whether it is a yes.
@@ -49,6 +51,7 @@ pub fn say<W: Write>(answer: &Answer<'_>, out: &mut W) -> Result<(), WriteFault>
 {
     let mut page = Page::new();
     page.add_digests(answer.files, answer.last, out)?;
+    page.add_digest(answer.made.as_deref(), out)?;
     page.add(answer.lines.as_str().as_bytes(), out)?;
     page.write(out)
 }

@@ -1,20 +1,21 @@
 //! A run of a command: its beginning and its end. Between them the command checks.
 
-ghost use Rattle.std.specs.Prelude.{◌≡◌, ◌++◌, codes, length, map, MatchResult, IfOk, IfErr, OnOk, OnErr};
+ghost use Rattle.std.specs.Prelude.{◌≡◌, ◌++◌, ℕ, List, None, Some, codes, length, map, true, MatchResult, IfOk, IfErr, IsErrOf, OnOk, OnErr};
 ghost use Rattle.std.specs.Io.KnownBytes.{Appends};
+ghost use Rattle.pdb_io.specs.Shelves.{KeepsOthers};
 ghost use Rattle.pdb_io.specs.Streams.{AppendsFront};
 ghost use Rattle.pdb_run.specs.Lines.{memory_line, named_line, reply_text, shown, shown_byte};
-ghost use Rattle.pdb_run.specs.Plans.{plan};
+ghost use Rattle.pdb_run.specs.Plans.{plan_under};
 ghost use Rattle.pdb_run.specs.Readings.{AreRead, wanted_of};
 ghost use Rattle.pdb_run.specs.Replies.{all_bytes, reply_of};
-ghost use Rattle.pdb_run.specs.Runs.{Ends, Says, World, status_of, status_of_reply, text_of, unread, world};
+ghost use Rattle.pdb_run.specs.Runs.{Ends, Says, World, kept, status_of, status_of_reply, text_of, unkept, unread, with_kept, world};
 
 use crate::answer::{Answer, say};
 use crate::command::Command;
 use crate::inputs::{Input, Unread, load_all};
 use crate::pages::Page;
 use crate::status::Status;
-use pdb_io::shelf::Shelf;
+use pdb_io::shelf::{KeepFault, Shelf};
 use pdb_io::streams::{ReadFault, WriteFault, put_text};
 use std::alloc::{AllocError, Global};
 use std::io::{Read, Write};
@@ -30,7 +31,7 @@ pub fn read_inputs<C: Command, S: Shelf, R: Read, W: Write>(
     ensures read { IfOk result (λ inputs. AreRead (S.held shelf.old) (R.remaining reader.old) (C.wanted command.now) (all_bytes inputs.items)) }
     ensures count { IfOk result (λ inputs. length inputs.items ≡ length (C.wanted command.now)) }
     ensures silent { OnOk result (W.contents out.new ≡ W.contents out.old) }
-    ensures ends { IfErr result (λ status. Ends (plan (C.wanted command.now) (C.MayReply command.now) (C.TakesMemory command.now))
+    ensures ends { IfErr result (λ status. Ends (plan_under (C.keeps_under command.now) (C.wanted command.now) (C.MayReply command.now) (C.TakesMemory command.now))
         (world (S.held shelf.old) (S.has_failed shelf.old) (R.remaining reader.old) (W.contents out.old))
         (world (S.held shelf.new) (S.has_failed shelf.new) (R.remaining reader.new) (W.contents out.new)) status) }
     ensures same { S.held shelf.new ≡ S.held shelf.old }
@@ -44,7 +45,8 @@ pub fn read_inputs<C: Command, S: Shelf, R: Read, W: Write>(
     }
 }
 
-/// Says what a command answers on the bytes of its inputs, or that its check wants memory. So a run ends that has read them.
+/// Says what a command answers on the bytes of its inputs, or that its check wants memory. So a run ends that has read them,
+/// of a command that keeps nothing.
 pub fn conclude<C: Command, W: Write>(
     command: &C,
     inputs: &[Vec<u8>],
@@ -53,13 +55,60 @@ pub fn conclude<C: Command, W: Write>(
 ) -> Status
     requires right { IfOk answer.now (λ a. C.MayReply command.now (all_bytes inputs.now) (reply_of a)) }
     requires memory { OnErr answer.now (C.TakesMemory command.now (all_bytes inputs.now)) }
+    requires keeps_nothing { C.keeps_under command.now ≡ None }
     ensures { (old new : World) → AreRead old.files old.reader (C.wanted command.now) (all_bytes inputs.now) → new.files ≡ old.files
         → W.contents out.old ≡ old.written → W.contents out.new ≡ new.written
-        → Ends (plan (C.wanted command.now) (C.MayReply command.now) (C.TakesMemory command.now)) old new result }
+        → Ends (plan_under (C.keeps_under command.now) (C.wanted command.now) (C.MayReply command.now) (C.TakesMemory command.now)) old new result }
 {
     match answer {
         Ok(answer) => say_answer(answer, out),
         Err(_) => say_no_memory(out),
+    }
+}
+
+/// As `conclude`, of a command that keeps a file under a name: what it made is kept after a yes, and then the answer is
+/// said. Where it can't be kept, that is said alone.
+pub fn keep_and_conclude<C: Command, S: Shelf, W: Write>(
+    alloc: Global,
+    command: &C,
+    inputs: &[Vec<u8>],
+    answer: &Result<Answer<'_>, AllocError>,
+    name: &str,
+    shelf: &mut S,
+    out: &mut W,
+) -> Status
+    requires right { IfOk answer.now (λ a. C.MayReply command.now (all_bytes inputs.now) (reply_of a)) }
+    requires memory { OnErr answer.now (C.TakesMemory command.now (all_bytes inputs.now)) }
+    requires under { C.keeps_under command.now ≡ Some name.now }
+    ensures { (old new : World) → AreRead old.files old.reader (C.wanted command.now) (all_bytes inputs.now)
+        → S.held shelf.old ≡ old.files → S.held shelf.new ≡ new.files → S.has_failed shelf.new ≡ new.failed
+        → W.contents out.old ≡ old.written → W.contents out.new ≡ new.written
+        → Ends (plan_under (C.keeps_under command.now) (C.wanted command.now) (C.MayReply command.now) (C.TakesMemory command.now)) old new result }
+{
+    match answer {
+        Ok(answer) => match keep_made(alloc, answer, name, shelf) {
+            Ok(()) => say_answer(answer, out),
+            Err(why) => say_unkept(name, why, out),
+        },
+        Err(_) => say_no_memory(out),
+    }
+}
+
+/// Keeps what was made, after a yes.
+fn keep_made<S: Shelf>(
+    alloc: Global,
+    answer: &Answer<'_>,
+    name: &str,
+    shelf: &mut S,
+) -> Result<(), KeepFault>
+    ensures kept { OnOk result (S.held shelf.new ≡ with_kept (S.held shelf.old) (Some name.now) (kept (reply_of answer.now))) }
+    ensures made { OnErr result ((file : List ℕ) × (kept (reply_of answer.now) ≡ Some file)) }
+    ensures others { OnErr result (KeepsOthers (S.held shelf.old) (S.held shelf.new) name.now) }
+    ensures failed { IsErrOf result KeepFault.F3 → S.has_failed shelf.new ≡ true }
+{
+    match &answer.made {
+        Some(made) if answer.is_yes => shelf.keep(alloc, name, made.as_slice()),
+        _ => Ok(()),
     }
 }
 
@@ -87,6 +136,16 @@ fn say_unread<W: Write>(fault: &Unread<'_>, out: &mut W) -> Status
         ReadFault::F1 => say_named("fault read ", name, out),
         ReadFault::F2 => say_named("fault size ", name, out),
         ReadFault::Memory => say_no_memory(out),
+    }
+}
+
+/// Says that a file was not kept under its name.
+fn say_unkept<W: Write>(name: &str, why: KeepFault, out: &mut W) -> Status
+    ensures { let outcome = unkept name.now why in Says (text_of outcome) (status_of outcome) (W.contents out.old) (W.contents out.new) result }
+{
+    match why {
+        KeepFault::F3 => say_named("fault write ", name, out),
+        KeepFault::Memory => say_no_memory(out),
     }
 }
 

@@ -1,6 +1,6 @@
 //! What a command is.
 
-ghost use Rattle.std.specs.Prelude.{◌≡◌, ◌<◌, List, length, map, IfOk, OnErr};
+ghost use Rattle.std.specs.Prelude.{◌≡◌, ◌<◌, List, Option, None, length, map, IfOk, OnErr};
 ghost use Rattle.pdb_io.specs.Shelves.{Bytes};
 ghost use Rattle.pdb_run.specs.Plans.{Reply, Wanted};
 ghost use Rattle.pdb_run.specs.Readings.{wanted_of};
@@ -11,10 +11,13 @@ use std::alloc::{AllocError, Global};
 /// A command, with all that its words say: what it wants read, and what it may answer on what was read.
 ///
 /// Its check stands between `read_inputs` and `conclude`, in a function of its own: so a command that waits for nobody
-/// has a run that returns.
+/// has a run that returns. One that makes a file to keep ends by `keep_and_conclude`.
 pub trait Command {
     /// Its inputs, in order.
     ghost wanted: { Self → List Wanted };
+
+    /// The name under which a file that it made is kept. Most commands make none, and keep nothing.
+    ghost keeps_under: { Self → Option Bytes } = { λ _. None };
 
     /// Which replies are right for the bytes of the inputs.
     ghost MayReply: { Self → List Bytes → Reply → Type 0 };

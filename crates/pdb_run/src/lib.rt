@@ -9,7 +9,7 @@ mod pages;
 mod status;
 
 pub use answer::{Answer, LINES_LEN, Lines, lines, say, say_digests};
-pub use carry::{conclude, read_inputs, say_no_memory};
+pub use carry::{conclude, keep_and_conclude, read_inputs, say_no_memory};
 pub use command::Command;
 pub use inputs::{Input, Unread, load_all};
 pub use status::Status;

@@ -83,7 +83,7 @@ impl Page {
         ensures front { OnErr result (AppendsFront (W.contents out.old) (W.contents out.new) (self.old.text.items ++ digests_of (all_bytes files.now ++ list_of (option_map (λ f. f.now) last.entry)))) }
     {
         self.add_files(files, out)?;
-        self.add_last(last, out)
+        self.add_digest(last, out)
     }
 
     /// Adds the digest line of each file.
@@ -98,7 +98,11 @@ impl Page {
     }
 
     /// Adds the digest line of a file, where there is one.
-    fn add_last<W: Write>(&mut self, file: Option<&[u8]>, out: &mut W) -> Result<(), WriteFault>
+    pub(crate) fn add_digest<W: Write>(
+        &mut self,
+        file: Option<&[u8]>,
+        out: &mut W,
+    ) -> Result<(), WriteFault>
         ensures whole { OnOk result (Gathers (W.contents out.old) self.old.text.items (W.contents out.new) self.new.text.items (digests_of (list_of (option_map (λ f. f.now) file.entry)))) }
         ensures front { OnErr result (AppendsFront (W.contents out.old) (W.contents out.new) (self.old.text.items ++ digests_of (list_of (option_map (λ f. f.now) file.entry)))) }
     {

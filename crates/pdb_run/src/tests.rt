@@ -1,8 +1,11 @@
 //! What no clause says: how often is written, and that answers and faults come at all.
 
-use crate::{Answer, Command, Input, Status, lines, read_inputs, say, say_digests};
+use crate::{
+    Answer, Command, Input, Status, keep_and_conclude, lines, read_inputs, say, say_digests,
+};
 use pdb_io::memory::MemShelf;
-use pdb_io::streams::WriteFault;
+use pdb_io::shelf::{KeepFault, Shelf};
+use pdb_io::streams::{ReadFault, WriteFault};
 use std::alloc::{AllocError, Global};
 use std::io;
 use std::io::{Read, Write};
@@ -64,6 +67,7 @@ fn an_answer_is_one_write(rt: HostRuntime) -> Result<(), Fail> {
     let answer = Answer {
         files: files.as_slice(),
         last: Some(b"abc"),
+        made: None,
         lines: lines(&["bound ", "6", "\n"]),
         is_yes: true,
     };
@@ -169,4 +173,148 @@ fn an_input_is_read_whole(rt: HostRuntime) -> Result<(), Fail> {
         assert_eq!(rt; out.calls, 0);
     }
     Ok(())
+}
+
+/// A command that reads nothing, and keeps what it makes under this name.
+#[derive(Clone, Copy)]
+struct Makes<'a> {
+    out: &'a str,
+}
+
+impl Command for Makes<'_> {
+    ghost use Rattle.std.specs.Prelude.{⊤, [], Some};
+
+    ghost wanted = { λ _. [] };
+
+    ghost keeps_under = { λ command. Some command.out.now };
+
+    ghost MayReply = { λ _ _ _. ⊤ };
+
+    ghost TakesMemory = { λ _ _. ⊤ };
+
+    fn inputs(&self, alloc: Global) -> Result<Vec<Input<'_>>, AllocError> {
+        Ok(Vec::new(alloc))
+    }
+}
+
+/// Its answer where it made `abc`.
+fn makes_abc<'i>(alloc: Global, is_yes: bool) -> Result<Answer<'i>, AllocError> {
+    Ok(Answer {
+        files: &[],
+        last: Some(b""),
+        made: Some(b"abc".to_vec(alloc)?),
+        lines: if is_yes {
+            lines(&["exact\n"])
+        } else {
+            lines(&["refused T7\n"])
+        },
+        is_yes,
+    })
+}
+
+/// The end of its run.
+fn conclude_making<S: Shelf, W: Write>(
+    alloc: Global,
+    out_name: &str,
+    answer: &Result<Answer<'_>, AllocError>,
+    shelf: &mut S,
+    out: &mut W,
+) -> Status {
+    let command = Makes { out: out_name };
+    keep_and_conclude(alloc, &command, &[], answer, out_name, shelf, out)
+}
+
+/// A shelf on which nothing can be kept.
+#[derive(Drop)]
+struct Full {
+    why: KeepFault,
+    has_failed: bool,
+}
+
+impl Shelf for Full {
+    ghost use Rattle.std.specs.Prelude.{None};
+
+    ghost held = { λ _. None };
+
+    ghost has_failed = { λ shelf. shelf.has_failed };
+
+    fn load(&mut self, _alloc: Global, _name: &str, _limit: u64) -> Result<Vec<u8>, ReadFault> {
+        Err(ReadFault::Memory)
+    }
+
+    fn keep(&mut self, _alloc: Global, _name: &str, _bytes: &[u8]) -> Result<(), KeepFault> {
+        if self.why == KeepFault::F3 {
+            self.has_failed = true;
+        }
+        Err(self.why)
+    }
+
+    fn failed(&self) -> bool {
+        self.has_failed
+    }
+}
+
+#[test]
+fn a_file_that_was_made_is_kept_after_a_yes(rt: HostRuntime) -> Result<(), Fail> {
+    let alloc = rt.alloc();
+    let mut shelf = MemShelf::of(alloc, &[("o", b"old"), ("p", b"other")])?;
+    let mut out = CountingWriter::new(alloc, 1);
+    let status = conclude_making(alloc, "o", &makes_abc(alloc, true), &mut shelf, &mut out);
+    assert_eq!(rt; status, Status::Yes);
+    assert!(rt; shelf.get("o") == Some(b"abc".as_slice()));
+    assert!(rt; shelf.get("p") == Some(b"other".as_slice()));
+    assert!(rt; out.taken.starts_with(EMPTY));
+    assert!(rt; out.taken[72..].starts_with(ABC));
+    assert!(rt; &out.taken[144..] == b"exact\n".as_slice());
+    Ok(())
+}
+
+#[test]
+fn a_file_is_kept_before_any_line(rt: HostRuntime) -> Result<(), Fail> {
+    let alloc = rt.alloc();
+    let mut shelf = MemShelf::of(alloc, &[])?;
+    let mut out = CountingWriter::new(alloc, 0);
+    let status = conclude_making(alloc, "o", &makes_abc(alloc, true), &mut shelf, &mut out);
+    assert_eq!(rt; status, Status::Fault);
+    assert!(rt; out.taken.is_empty());
+    assert!(rt; shelf.get("o") == Some(b"abc".as_slice()));
+    Ok(())
+}
+
+#[test]
+fn nothing_is_kept_after_a_no_or_without_memory(rt: HostRuntime) -> Result<(), Fail> {
+    let alloc = rt.alloc();
+    let mut shelf = MemShelf::of(alloc, &[("o", b"old")])?;
+    let mut out = CountingWriter::new(alloc, 2);
+    let status = conclude_making(alloc, "o", &makes_abc(alloc, false), &mut shelf, &mut out);
+    assert_eq!(rt; status, Status::Refused);
+    assert!(rt; out.taken.starts_with(EMPTY));
+    assert!(rt; out.taken[72..].starts_with(ABC));
+    assert!(rt; &out.taken[144..] == b"refused T7\n".as_slice());
+    out.taken.clear();
+    let status = conclude_making(alloc, "o", &Err(AllocError), &mut shelf, &mut out);
+    assert_eq!(rt; status, Status::NoMemory);
+    assert!(rt; out.taken.as_slice() == b"no memory\n".as_slice());
+    assert!(rt; shelf.get("o") == Some(b"old".as_slice()));
+    Ok(())
+}
+
+#[test]
+fn a_keep_that_fails_is_said_alone(rt: HostRuntime) {
+    let alloc = rt.alloc();
+    let cases: [(KeepFault, &str, &[u8], Status); 3] = [
+        (KeepFault::F3, "o", b"fault write o\n", Status::Fault),
+        (KeepFault::F3, "a b\n", b"fault write a b?\n", Status::Fault),
+        (KeepFault::Memory, "o", b"no memory\n", Status::NoMemory),
+    ];
+    for (why, name, line, want) in cases {
+        let mut shelf = Full {
+            why,
+            has_failed: false,
+        };
+        let mut out = CountingWriter::new(alloc, 1);
+        let status = conclude_making(alloc, name, &makes_abc(alloc, true), &mut shelf, &mut out);
+        assert_eq!(rt; status, want);
+        assert!(rt; out.taken.as_slice() == line);
+    }
 }

@@ -1,5 +1,5 @@
 -- The lines that a verdict or a refusal is told in.
-use Rattle.std.specs.Prelude.{◌≡◌, ℕ, Bool, true, false, if◌then◌else◌, is_ok, List, [], ◌∷◌, ◌++◌, Result, Ok, Err, codes, decimal}
+use Rattle.std.specs.Prelude.{◌≡◌, ℕ, Bool, true, false, if◌then◌else◌, is_ok, List, [], ◌∷◌, ◌++◌, None, Result, Ok, Err, codes, decimal}
 use Rattle.puz_board.specs.declared.replays.MoveFault.{MoveFault}
 use Rattle.puz_board.specs.declared.replays.MoveFault.TheVariants.{M1, M2, M3, M4}
 use Rattle.puz_board.specs.declared.texts.BoardFault.{BoardFault}
@@ -135,9 +135,9 @@ digested_of (table_file table) = table ∷ []
 digested_of (bound_claim board sets log tables) = tables ++ log ∷ []
 digested_of (optimum_claim puzzle sets log tables) = tables ++ log ∷ []
 
--- an answer on inputs, as a run tells it
+-- an answer on inputs, as a run tells it; no file is made
 abbrev pub reply_to : Given → Result Verdict Fault → Reply
-reply_to inputs answer = record { digested = digested_of inputs; lines = line_of answer; is_yes = is_ok answer }
+reply_to inputs answer = record { digested = digested_of inputs; made = None; lines = line_of answer; is_yes = is_ok answer }
 
 -- want of memory is said without digests
 abbrev pub stands_alone : Result Verdict Fault → Bool

@@ -57,6 +57,7 @@ pub(crate) fn answer_on<'i>(inputs: &Inputs<'i>, answer: &Result<Verdict, Fault>
     Answer {
         files,
         last,
+        made: None,
         lines: line_of(answer),
         is_yes: answer.is_ok(),
     }

@@ -1,26 +1,35 @@
-use Rattle.std.proofs.Common.{[], ap, refl, ◌++◌, ◌∙◌}
+use Rattle.std.proofs.Common.{[], ap, option_map, refl, ◌++◌, ◌∙◌}
 use Rattle.std.proofs.lemmas.List.{append-nil}
 use Rattle.pdb_io.proofs.Appending.{on_err}
-use Rattle.pdb_run.specs.Lines.{digests_of}
+use Rattle.pdb_run.specs.Lines.{digests_of, list_of}
 use Rattle.pdb_run.specs.Replies.{reply_of}
-use Rattle.pdb_run.proofs.PageLemmas.{gathers_more, gathers_nil, said_front, said_stopped, said_whole}
+use Rattle.pdb_run.proofs.PageLemmas.{gathers_more, gathers_nil, reply_parts, said_front, said_stopped, said_whole}
 use Rattle.pdb_run.proofs.answer.say.Goals as goal
 
 pub returns-in_err-add_digests-clause-front : goal.returns-in_err-add_digests-clause-front
 returns-in_err-add_digests-clause-front g c =
-    on_err _ _ (said_stopped _ _ _ _ _ c.new-page.ensures [] (digests_of (reply_of c.args.answer.now).digested) c.args.answer.now.lines.bytes _ refl (gathers_nil _ _) c.in_err-add_digests.ensures.front)
+    let reply = reply_of c.args.answer.now in
+    on_err _ _ (said_stopped _ _ _ _ _ c.new-page.ensures [] (digests_of reply.digested) (digests_of (list_of reply.made) ++ reply.lines) _ refl (gathers_nil _ _) c.in_err-add_digests.ensures.front)
+
+pub returns-in_err-add_digest-clause-front : goal.returns-in_err-add_digest-clause-front
+returns-in_err-add_digest-clause-front g c =
+    let reply = reply_of c.args.answer.now in
+    let same = ap (λ m. digests_of reply.digested ++ (digests_of (list_of m) ++ reply.lines)) c.as_deref.ensures.value in
+    on_err _ _ (said_stopped _ _ _ _ _ c.new-page.ensures _ (digests_of (list_of (option_map (λ f. f.now) c.as_deref.result))) reply.lines _ same c.in_ok-add_digests.ensures.whole c.in_err-add_digest.ensures.front)
 
 pub returns-in_err-add-clause-front : goal.returns-in_err-add-clause-front
 returns-in_err-add-clause-front g c =
-    let same = ap (λ t. digests_of (reply_of c.args.answer.now).digested ++ t) (append-nil c.as_bytes.result.now ∙ c.as_bytes.ensures.value ∙ c.as_str.ensures.value) in
-    on_err _ _ (said_stopped _ _ _ _ _ c.new-page.ensures _ c.as_bytes.result.now [] _ same c.in_ok-add_digests.ensures.whole c.in_err-add.ensures.front)
+    let same = reply_parts (reply_of c.args.answer.now) _ _ c.as_deref.ensures.value (append-nil c.as_bytes.result.now ∙ c.as_bytes.ensures.value ∙ c.as_str.ensures.value) in
+    on_err _ _ (said_stopped _ _ _ _ _ c.new-page.ensures _ c.as_bytes.result.now [] _ same (gathers_more _ _ _ _ _ _ _ _ c.in_ok-add_digests.ensures.whole c.in_ok-add_digest.ensures.whole) c.in_err-add.ensures.front)
 
 pub returns-clause-whole : goal.returns-clause-whole
 returns-clause-whole g c =
-    let same = ap (λ t. digests_of (reply_of c.args.answer.now).digested ++ t) (c.as_bytes.ensures.value ∙ c.as_str.ensures.value) in
-    said_whole _ _ _ _ _ c.new-page.ensures c.write.result _ _ same (gathers_more _ _ _ _ _ _ _ _ c.in_ok-add_digests.ensures.whole c.in_ok-add.ensures.whole) c.write.ensures.whole
+    let same = reply_parts (reply_of c.args.answer.now) _ _ c.as_deref.ensures.value (c.as_bytes.ensures.value ∙ c.as_str.ensures.value) in
+    let digests = gathers_more _ _ _ _ _ _ _ _ c.in_ok-add_digests.ensures.whole c.in_ok-add_digest.ensures.whole in
+    said_whole _ _ _ _ _ c.new-page.ensures c.write.result _ _ same (gathers_more _ _ _ _ _ _ _ _ digests c.in_ok-add.ensures.whole) c.write.ensures.whole
 
 pub returns-clause-front : goal.returns-clause-front
 returns-clause-front g c =
-    let same = ap (λ t. digests_of (reply_of c.args.answer.now).digested ++ t) (c.as_bytes.ensures.value ∙ c.as_str.ensures.value) in
-    said_front _ _ _ _ _ c.new-page.ensures c.write.result _ _ same (gathers_more _ _ _ _ _ _ _ _ c.in_ok-add_digests.ensures.whole c.in_ok-add.ensures.whole) c.write.ensures.front
+    let same = reply_parts (reply_of c.args.answer.now) _ _ c.as_deref.ensures.value (c.as_bytes.ensures.value ∙ c.as_str.ensures.value) in
+    let digests = gathers_more _ _ _ _ _ _ _ _ c.in_ok-add_digests.ensures.whole c.in_ok-add_digest.ensures.whole in
+    said_front _ _ _ _ _ c.new-page.ensures c.write.result _ _ same (gathers_more _ _ _ _ _ _ _ _ digests c.in_ok-add.ensures.whole) c.write.ensures.front
