@@ -11,8 +11,9 @@ use arrayvec::ArrayString;
 use pdb_io::streams::WriteFault;
 use std::io::Write;
 
-/// The most bytes of the lines behind the digests.
-pub const LINES_LEN: usize = 256;
+/// The most bytes of the lines behind the digests: the longest are the letters of 255 moves, which is the greatest bound of a
+/// log, and a verdict.
+pub const LINES_LEN: usize = 320;
 
 /// Lines, as a value.
 pub type Lines = ArrayString<LINES_LEN>;
