@@ -13,7 +13,8 @@
 #   the least of the rounds and, in brackets, their median; what is worked out rests on the least.
 # - "digest" is a run on the same bytes with byte 7 set to 1, which is refused by the header (T4) and prints the digest
 #   of the whole file all the same. So it has the start, the reading and the digest of a run, and nothing of the check.
-# - "share" is the digest's part of the run; "check" is the run without the digest.
+# - "share" is the digest's part of the run of one worker; "check" is that run without the digest. Several workers check
+#   while the digest is made, so of their runs nothing is taken off.
 # - "peak" is the most memory that was resident, in one further run of one worker or, below, of so many workers.
 set -euo pipefail
 export LC_ALL=C
@@ -93,9 +94,8 @@ table_row() {
 
 workers_row() {
     awk -v workers="$1" -v one="$(least "$largest 1")" -v run="$(least "$largest $1")" -v median="$(median "$largest $1")" \
-        -v digest="$(least "$largest digest")" -v peak="$(peak "$work/$largest" --workers "$1")" 'BEGIN {
-        printf "| %d | %.1f (%.1f) | %.2f | %.1f | %.2f | %.1f |\n", workers, run / 1e3, median / 1e3, one / run,
-            (run - digest) / 1e3, (one - digest) / (run - digest), peak / 1024 }'
+        -v peak="$(peak "$work/$largest" --workers "$1")" 'BEGIN {
+        printf "| %d | %.1f (%.1f) | %.2f | %.1f |\n", workers, run / 1e3, median / 1e3, one / run, peak / 1024 }'
 }
 
 [ -x "$program" ] || fail "no program $program: ./pdb_cli --help builds it"
@@ -119,8 +119,8 @@ for table in "${tables[@]}"; do
     table_row "$table"
 done
 echo
-echo "| workers, $largest | run, ms | times as fast | check, ms | times as fast | peak, MiB |"
-echo '|---|---|---|---|---|---|'
+echo "| workers, $largest | run, ms | times as fast | peak, MiB |"
+echo '|---|---|---|---|'
 for workers in 1 2 4; do
     workers_row "$workers"
 done

@@ -10,11 +10,12 @@ ghost use Rattle.pdb_run.specs.Readings.{AreRead, wanted_of};
 ghost use Rattle.pdb_run.specs.Replies.{all_bytes, reply_of};
 ghost use Rattle.pdb_run.specs.Runs.{Ends, Says, World, kept, status_of, status_of_reply, text_of, unkept, unread, with_kept, world};
 
-use crate::answer::{Answer, say};
+use crate::answer::Answer;
 use crate::command::Command;
 use crate::inputs::{Input, Unread, load_all};
 use crate::pages::Page;
 use crate::status::Status;
+use crate::writing::say;
 use pdb_io::shelf::{KeepFault, Shelf};
 use pdb_io::streams::{ReadFault, WriteFault, put_text};
 use std::alloc::{AllocError, Global};

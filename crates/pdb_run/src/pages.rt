@@ -3,23 +3,17 @@
 ghost use Rattle.std.specs.Prelude.{◌≡◌, ◌++◌, ◌∷◌, [], map, option_map, OnOk, OnErr};
 ghost use Rattle.std.specs.Io.KnownBytes.{Appends};
 ghost use Rattle.pdb_io.specs.Streams.{AppendsFront};
-ghost use Rattle.pdb_run.specs.Lines.{digest_line, digests_of, list_of, shown_byte};
+ghost use Rattle.pdb_run.specs.Lines.{digests_of, list_of, shown_byte};
 ghost use Rattle.pdb_run.specs.Pages.{Gathers};
 ghost use Rattle.pdb_run.specs.Replies.{all_bytes};
 
+use crate::digests::digest_line;
 use arrayvec::ArrayVec;
 use pdb_io::streams::{WriteFault, put_bytes};
-use sha2::{Digest, Sha256};
 use std::io::Write;
 
 /// How many bytes a page holds: the digests of 16 tables and a log, and the lines behind them.
 const PAGE_LEN: usize = 4_096;
-
-/// How many bytes a digest line has: `sha256 `, 64 digits and its end.
-const DIGEST_LEN: usize = 72;
-
-/// Where its digits begin.
-const DIGITS: usize = 7;
 
 /// Text on its way to a writer: written where the page is full, and at its end.
 #[derive(Drop)]
@@ -130,15 +124,4 @@ fn shown_byte(byte: u8) -> u8
     } else {
         byte
     }
-}
-
-/// The SHA-256 of a file, in a line (FIPS 180-4).
-fn digest_line(file: &[u8]) -> [u8; DIGEST_LEN]
-    ensures { result ≡ digest_line file.now }
-{
-    let digest = Sha256::digest(file);
-    let mut line = [b'\n'; DIGEST_LEN];
-    line[..DIGITS].copy_from_slice(b"sha256 ");
-    let _ = hex::encode_to_slice(digest, &mut line[DIGITS..DIGEST_LEN - 1]);
-    line
 }

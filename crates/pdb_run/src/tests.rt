@@ -1,7 +1,7 @@
 //! What no clause says: how often is written, and that answers and faults come at all.
 
 use crate::{
-    Answer, Command, Input, Status, keep_and_conclude, lines, read_inputs, say, say_digests,
+    Answer, Command, Input, Status, beside, keep_and_conclude, lines, read_inputs, say, say_digests,
 };
 use pdb_io::memory::MemShelf;
 use pdb_io::shelf::{KeepFault, Shelf};
@@ -67,6 +67,7 @@ fn an_answer_is_one_write(rt: HostRuntime) -> Result<(), Fail> {
     let answer = Answer {
         files: files.as_slice(),
         last: Some(b"abc"),
+        digests: None,
         made: None,
         lines: lines(&["bound ", "6", "\n"]),
         is_yes: true,
@@ -94,6 +95,42 @@ fn more_than_a_page_is_written_whole(rt: HostRuntime) -> Result<(), Fail> {
     let mut out = CountingWriter::new(alloc, 2);
     assert!(rt; say_digests(files.as_slice(), None, &mut out) == Err(WriteFault::F3));
     assert_eq!(rt; out.taken.len(), 8_192);
+    Ok(())
+}
+
+/// A text of 56 bytes (FIPS 180-4, second example), and its digest line.
+const LETTERS: &[u8] = b"abcdbcdecdefdefgefghfghighijhijkijkljklmklmnlmnomnopnopq";
+
+const OF_LETTERS: &[u8] =
+    b"sha256 248d6a61d20638b8e5c026930c3e6039a33ce45964ff2167f6ecedd419db06c1\n";
+
+/// So many files, no two neighbours the same, and their digest lines.
+fn known_files(alloc: Global, count: usize) -> Result<(Vec<Vec<u8>>, Vec<u8>), AllocError> {
+    let known: [(&[u8], &[u8]); 3] = [(b"abc", ABC), (LETTERS, OF_LETTERS), (b"", EMPTY)];
+    let mut files = Vec::new(alloc);
+    let mut digests = Vec::new(alloc);
+    for (file, line) in known.iter().cycle().take(count) {
+        files.push(file.to_vec(alloc)?)?;
+        digests.extend_from_slice(line)?;
+    }
+    Ok((files, digests))
+}
+
+#[test]
+fn digests_are_made_beside_a_check(rt: HostRuntime) -> Result<(), Fail> {
+    let alloc = rt.alloc();
+    for count in [0usize, 1, 2, 3, 5, 16, 17, 40] {
+        let (files, mut want) = known_files(alloc, count)?;
+        want.extend_from_slice(EMPTY)?;
+        for workers in [1u8, 2, 3, 7, 64] {
+            let (digests, answer) = beside(&rt, workers, files.as_slice(), Some(b""), || 6u8);
+            assert_eq!(rt; answer, 6);
+            match digests {
+                Some(digests) => assert!(rt; digests.as_slice() == want.as_slice()),
+                None => assert!(rt; workers == 1 || count > 16),
+            }
+        }
+    }
     Ok(())
 }
 
@@ -202,6 +239,7 @@ fn makes_abc<'i>(alloc: Global, is_yes: bool) -> Result<Answer<'i>, AllocError> 
     Ok(Answer {
         files: &[],
         last: Some(b""),
+        digests: None,
         made: Some(b"abc".to_vec(alloc)?),
         lines: if is_yes {
             lines(&["exact\n"])

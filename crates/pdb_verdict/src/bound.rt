@@ -12,7 +12,7 @@ ghost use Rattle.pdb_verdict.specs.Verdicts.{HoldsOfSolutions, IsAnswerTo};
 use crate::bundles::read_bundle;
 use crate::claims::{ClaimNames, claim_inputs};
 use crate::inputs::Inputs;
-use crate::reports::answer_or_memory;
+use crate::reports::{answer_or_memory, check_beside};
 use crate::verdict::{Fault, Verdict};
 use crate::workers::Workers;
 use log_check::{LogFault, check_log};
@@ -78,16 +78,17 @@ fn answer_bound<'i, H: Threads + Wait, G: Gate + Sync>(
 {
     let (board, sets) = (inputs[0].as_slice(), inputs[1].as_slice());
     let (log, tables) = (inputs[2].as_slice(), &inputs[3..]);
-    let answer = verify_bound(alloc, board, sets, log, tables, workers);
-    answer_or_memory(
-        &Inputs::Bound {
-            board,
-            sets,
-            log,
-            tables,
-        },
-        answer,
-    )
+    let inputs = Inputs::Bound {
+        board,
+        sets,
+        log,
+        tables,
+    };
+    let check = || -> Result<Verdict, Fault>
+        ensures { IsAnswerTo (bound_claim board.entry.now sets.entry.now log.entry.now (all_bytes tables.entry.now)) result }
+    { verify_bound(alloc, board, sets, log, tables, workers) };
+    let (digests, answer) = check_beside(&inputs, workers, check);
+    answer_or_memory(&inputs, digests, answer)
 }
 
 /// The verdict on a log for a board. Or the first refusal that stands: the board text's, that of the first table file that is

@@ -11,7 +11,7 @@ use crate::bound::bound_for;
 use crate::claims::{ClaimNames, claim_inputs};
 use crate::inputs::Inputs;
 use crate::replay::solved_board;
-use crate::reports::answer_or_memory;
+use crate::reports::{answer_or_memory, check_beside};
 use crate::verdict::{Fault, Verdict};
 use crate::workers::Workers;
 use pdb_io::shelf::Shelf;
@@ -75,16 +75,17 @@ fn answer_optimal<'i, H: Threads + Wait, G: Gate + Sync>(
 {
     let (puzzle, sets) = (inputs[0].as_slice(), inputs[1].as_slice());
     let (log, tables) = (inputs[2].as_slice(), &inputs[3..]);
-    let answer = verify_optimal(alloc, puzzle, sets, log, tables, workers);
-    answer_or_memory(
-        &Inputs::Optimal {
-            puzzle,
-            sets,
-            log,
-            tables,
-        },
-        answer,
-    )
+    let inputs = Inputs::Optimal {
+        puzzle,
+        sets,
+        log,
+        tables,
+    };
+    let check = || -> Result<Verdict, Fault>
+        ensures { IsAnswerTo (optimum_claim puzzle.entry.now sets.entry.now log.entry.now (all_bytes tables.entry.now)) result }
+    { verify_optimal(alloc, puzzle, sets, log, tables, workers) };
+    let (digests, answer) = check_beside(&inputs, workers, check);
+    answer_or_memory(&inputs, digests, answer)
 }
 
 /// The verdict on a puzzle text and a log: the moves are a solution of the board, and the log proves that none has fewer. Or the

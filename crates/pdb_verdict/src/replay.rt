@@ -66,7 +66,7 @@ fn answer_replay<'i>(inputs: &'i [Vec<u8>]) -> Answer<'i>
     ensures { IsReplayReply (all_bytes inputs.now) (reply_of result) }
 {
     let puzzle = inputs[0].as_slice();
-    answer_on(&Inputs::Replay { puzzle }, &verify_puzzle(puzzle))
+    answer_on(&Inputs::Replay { puzzle }, None, &verify_puzzle(puzzle))
 }
 
 /// The verdict on a puzzle text: the moves behind its first `;` are a solution of the board before it. Or the first

@@ -1,6 +1,6 @@
 //! What is written of an answer.
 
-ghost use Rattle.std.specs.Prelude.{◌≡◌, ◌≢◌, ◌++◌, Err, option_map, IfOk, OnOk, OnErr};
+ghost use Rattle.std.specs.Prelude.{◌≡◌, ◌≢◌, ◌++◌, Err, option_map, IfOk, IfSome, OnOk, OnErr};
 ghost use Rattle.std.specs.Io.KnownBytes.{Appends};
 ghost use Rattle.pdb_io.specs.Streams.{AppendsFront};
 ghost use Rattle.pdb_run.specs.Lines.{digests_of, list_of};
@@ -12,10 +12,12 @@ ghost use Rattle.pdb_verdict.specs.declared.verdict.Fault.TheVariants.{Memory};
 use crate::inputs::Inputs;
 use crate::lines::line_of;
 use crate::verdict::{Fault, Verdict};
+use crate::workers::Workers;
 use pdb_io::streams::{WriteFault, put_text};
-use pdb_run::{Answer, say, say_digests};
+use pdb_run::{Answer, Digests, beside, say, say_digests};
 use std::alloc::AllocError;
 use std::io::Write;
+use std::thread::Threads;
 
 /// Writes all lines on the inputs: the digests and then the answer's line, which stands alone for want of memory.
 pub fn report<W: Write>(
@@ -29,7 +31,7 @@ pub fn report<W: Write>(
     if stands_alone(answer) {
         return line(answer, out);
     }
-    say(&answer_on(inputs, answer), out)
+    say(&answer_on(inputs, None, answer), out)
 }
 
 /// Writes the digest line of each file that is checked.
@@ -49,14 +51,34 @@ pub fn line<W: Write>(answer: &Result<Verdict, Fault>, out: &mut W) -> Result<()
     put_text(out, line_of(answer).as_str())
 }
 
-/// What is to be written of an answer on inputs.
-pub(crate) fn answer_on<'i>(inputs: &Inputs<'i>, answer: &Result<Verdict, Fault>) -> Answer<'i>
+/// What a check answers on inputs, and the digest lines that are made beside it, where there are some.
+pub(crate) fn check_beside<H: Threads, G, F: FnOnce() -> Result<Verdict, Fault>>(
+    inputs: &Inputs<'_>,
+    workers: &Workers<'_, H, G>,
+    check: F,
+) -> (Option<Digests>, Result<Verdict, Fault>)
+    requires { F.pre check }
+    ensures digests { IfSome result.0 (λ digests. digests.items ≡ digests_of (digested_of (given inputs.now))) }
+    ensures answer { F.post check result.1 }
+{
+    let (files, last) = checked_files(inputs);
+    beside(workers.rt, workers.count, files, last, check)
+}
+
+/// What is to be written of an answer on inputs, whose digest lines may be made already.
+pub(crate) fn answer_on<'i>(
+    inputs: &Inputs<'i>,
+    digests: Option<Digests>,
+    answer: &Result<Verdict, Fault>,
+) -> Answer<'i>
+    requires { IfSome digests (λ digests. digests.items ≡ digests_of (digested_of (given inputs.now))) }
     ensures { reply_of result ≡ reply_to (given inputs.now) answer.now }
 {
     let (files, last) = checked_files(inputs);
     Answer {
         files,
         last,
+        digests,
         made: None,
         lines: line_of(answer),
         is_yes: answer.is_ok(),
@@ -66,14 +88,16 @@ pub(crate) fn answer_on<'i>(inputs: &Inputs<'i>, answer: &Result<Verdict, Fault>
 /// What is to be written of an answer on inputs, but for want of memory.
 pub(crate) fn answer_or_memory<'i>(
     inputs: &Inputs<'i>,
+    digests: Option<Digests>,
     answer: Result<Verdict, Fault>,
 ) -> Result<Answer<'i>, AllocError>
+    requires { IfSome digests (λ digests. digests.items ≡ digests_of (digested_of (given inputs.now))) }
     ensures told { IfOk result (λ told. (reply_of told ≡ reply_to (given inputs.now) answer) × (answer ≢ Err Memory)) }
     ensures memory { OnErr result (answer ≡ Err Memory) }
 {
     match answer {
         Err(Fault::Memory) => Err(AllocError),
-        answer => Ok(answer_on(inputs, &answer)),
+        answer => Ok(answer_on(inputs, digests, &answer)),
     }
 }
 

@@ -9,7 +9,7 @@ ghost use Rattle.pdb_verdict.specs.Verdicts.{IsAnswerTo};
 
 use crate::inputs::Inputs;
 use crate::limits::a_table;
-use crate::reports::answer_on;
+use crate::reports::{answer_or_memory, check_beside};
 use crate::verdict::{Fault, Verdict};
 use crate::workers::Workers;
 use pdb_io::shelf::Shelf;
@@ -75,10 +75,12 @@ fn answer_table<'i, H: Threads + Wait, G: Gate + Sync>(
     ensures memory { OnErr result (TakesMemoryForTable (all_bytes inputs.now)) }
 {
     let table = inputs[0].as_slice();
-    match verify_table(alloc, table, workers) {
-        Err(Fault::Memory) => Err(AllocError),
-        answer => Ok(answer_on(&Inputs::Table { table }, &answer)),
-    }
+    let inputs = Inputs::Table { table };
+    let check = || -> Result<Verdict, Fault>
+        ensures { IsAnswerTo (table_file table.entry.now) result }
+    { verify_table(alloc, table, workers) };
+    let (digests, answer) = check_beside(&inputs, workers, check);
+    answer_or_memory(&inputs, digests, answer)
 }
 
 /// The verdict on a table file: each of its entries is right. Or the first refusal that stands: its header's, then the

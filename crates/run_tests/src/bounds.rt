@@ -108,7 +108,7 @@ fn lines(alloc: Global, words: &str, line: &str) -> Result<String, AllocError> {
     format!(in alloc; "{all}sha256 {}\n{line}\n", digest_of(log))
 }
 
-/// A run of these words says this line below the digests, with this status, whether 1, 2 or 7 workers check.
+/// A run of these words says this line below the digests, with this status, whether 1, 2, 7 or 64 workers check.
 fn expect<H: Threads + Wait>(
     rt: &H,
     alloc: Global,
@@ -117,7 +117,7 @@ fn expect<H: Threads + Wait>(
     status: u8,
 ) -> Result<(), Fail> {
     let want = lines(alloc, words, line)?;
-    for workers in ["1", "2", "7"] {
+    for workers in ["1", "2", "7", "64"] {
         let ended = checked_by(rt, alloc, words, workers, &OpenGate)?;
         ended.expect(want.as_bytes(), status)?;
     }
@@ -132,6 +132,10 @@ fn bounds_that_good_logs_prove_are_told(rt: HostRuntime) -> Result<(), Fail> {
         ("bound board one_set citation f12", "bound 6"),
         // The sum is 4 + 2.
         ("bound board pair leaf f12 f3", "bound 6"),
+        (
+            "bound board one_set leaf f123 f1 f12 f3 f3 f12 f1 f123 f1 f1 f3 f123 f12 f12 f3 f1",
+            "bound 6",
+        ),
         (
             "bound unsolvable_board one_set unsolvable f123",
             "bound 255",

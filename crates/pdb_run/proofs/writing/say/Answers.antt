@@ -4,7 +4,7 @@ use Rattle.pdb_io.proofs.Appending.{on_err}
 use Rattle.pdb_run.specs.Lines.{digests_of, list_of}
 use Rattle.pdb_run.specs.Replies.{reply_of}
 use Rattle.pdb_run.proofs.PageLemmas.{gathers_more, gathers_nil, reply_parts, said_front, said_stopped, said_whole}
-use Rattle.pdb_run.proofs.answer.say.Goals as goal
+use Rattle.pdb_run.proofs.writing.say.Goals as goal
 
 pub returns-in_err-add_digests-clause-front : goal.returns-in_err-add_digests-clause-front
 returns-in_err-add_digests-clause-front g c =

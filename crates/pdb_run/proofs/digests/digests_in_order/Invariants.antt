@@ -1,0 +1,7 @@
+use Rattle.std.proofs.Common.{◌≡◌, take}
+use Rattle.pdb_run.specs.Lines.{digests_of}
+use Rattle.pdb_run.specs.Replies.{all_bytes}
+use Rattle.pdb_run.proofs.digests.digests_in_order.Given as goal
+
+abbrev pub invariant-loop-file : goal.invariant-loop-file
+invariant-loop-file l = l.digests.items ≡ digests_of (all_bytes (take l.file-index l.files))

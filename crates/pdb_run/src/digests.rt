@@ -1,0 +1,126 @@
+//! Digest lines, and how they are made beside a check.
+
+ghost use Rattle.std.specs.Prelude.{◌≡◌, ◌<◌, ◌++◌, option_map, IfOk, IfSome, IsOk, OnOk};
+ghost use Rattle.pdb_run.specs.Lines.{digest_line, digests_of, list_of};
+ghost use Rattle.pdb_run.specs.Replies.{all_bytes};
+
+use arrayvec::{ArrayVec, CapacityError};
+use sha2::{Digest, Sha256};
+use std::thread::{Threads, join};
+
+/// How many bytes a digest line has: `sha256 `, 64 digits and its end.
+const DIGEST_LEN: usize = 72;
+
+/// Where its digits begin.
+const DIGITS: usize = 7;
+
+/// The most files before the last one whose digests are made beside a check: as many as a bundle has tables.
+const FILES_BESIDE: usize = 16;
+
+/// How many bytes their digest lines and that of the last one have.
+pub const DIGESTS_LEN: usize = 1_224;
+
+/// Digest lines, as a value.
+pub type Digests = ArrayVec<u8, DIGESTS_LEN>;
+
+/// Digest lines that were made, or too many of them.
+type Made = Result<Digests, CapacityError>;
+
+/// The digest lines of files and of a last one, where there is one, and what a check answers beside which they are made: in
+/// threads of their own, at most as many as workers. Where a thread can't be started, its digests are made after the check.
+/// With one worker, or more files than a bundle has tables, none are made.
+pub fn beside<R: Threads, T, F: FnOnce() -> T>(
+    rt: &R,
+    workers: u8,
+    files: &[Vec<u8>],
+    last: Option<&[u8]>,
+    check: F,
+) -> (Option<Digests>, T)
+    requires { F.pre check }
+    ensures digests { IfSome result.0 (λ digests. digests.items ≡ digests_of (all_bytes files.now ++ list_of (option_map (λ f. f.now) last.entry))) }
+    ensures answer { F.post check result.1 }
+{
+    if workers < 2 || files.len() > FILES_BESIDE {
+        return (None, check());
+    }
+    let (digests, answer) = beside_in_groups(rt, workers, files, last, check);
+    (digests.ok(), answer)
+}
+
+/// As `beside`, with so many groups of files, each in a thread of its own.
+fn beside_in_groups<R: Threads, T, F: FnOnce() -> T>(
+    rt: &R,
+    groups: u8,
+    files: &[Vec<u8>],
+    last: Option<&[u8]>,
+    check: F,
+) -> (Made, T)
+    requires { F.pre check }
+    ensures digests { IfOk result.0 (λ digests. digests.items ≡ digests_of (all_bytes files.now ++ list_of (option_map (λ f. f.now) last.entry))) }
+    ensures answer { F.post check result.1 }
+{
+    if groups < 2 || files.is_empty() {
+        return group_beside(rt, files, last, check);
+    }
+    let (front, behind) = files.split_at(files.len().div_ceil(usize::from(groups)));
+    let others = || -> (Made, T)
+        requires { F.pre check × (1 < groups) }
+        ensures digests { IfOk result.0 (λ digests. digests.items ≡ digests_of (all_bytes behind.entry.now ++ list_of (option_map (λ f. f.now) last.entry))) }
+        ensures answer { F.post check result.1 }
+    { beside_in_groups(rt, groups - 1, behind, last, check) };
+    let (front, (behind, answer)) = group_beside(rt, front, None, others);
+    (in_order(front, behind), answer)
+}
+
+/// The digest lines of one group, in a thread of its own.
+fn group_beside<R: Threads, T, F: FnOnce() -> T>(
+    rt: &R,
+    files: &[Vec<u8>],
+    last: Option<&[u8]>,
+    check: F,
+) -> (Made, T)
+    requires { F.pre check }
+    ensures digests { IfOk result.0 (λ digests. digests.items ≡ digests_of (all_bytes files.now ++ list_of (option_map (λ f. f.now) last.entry))) }
+    ensures answer { F.post check result.1 }
+{
+    let digests = || -> Made
+        ensures { IfOk result (λ digests. digests.items ≡ digests_of (all_bytes files.entry.now ++ list_of (option_map (λ f. f.now) last.entry))) }
+    { digests_in_order(files, last) };
+    join(rt, digests, check)
+}
+
+/// The digest lines of files, and of the last one, where there is one.
+fn digests_in_order(files: &[Vec<u8>], last: Option<&[u8]>) -> Made
+    ensures { IfOk result (λ digests. digests.items ≡ digests_of (all_bytes files.now ++ list_of (option_map (λ f. f.now) last.entry))) }
+{
+    let mut digests = Digests::new();
+    for file in files {
+        digests.try_extend_from_slice(&digest_line(file.as_slice()))?;
+    }
+    if let Some(file) = last {
+        digests.try_extend_from_slice(&digest_line(file))?;
+    }
+    Ok(digests)
+}
+
+/// Lines, and the lines behind them.
+fn in_order(front: Made, behind: Made) -> Made
+    ensures lines { IfOk result (λ all. IfOk front (λ f. IfOk behind (λ b. all.items ≡ f.items ++ b.items))) }
+    ensures both { OnOk result (IsOk front × IsOk behind) }
+{
+    let mut all = front?;
+    let behind = behind?;
+    all.try_extend_from_slice(behind.as_slice())?;
+    Ok(all)
+}
+
+/// The SHA-256 of a file, in a line (FIPS 180-4).
+pub(crate) fn digest_line(file: &[u8]) -> [u8; DIGEST_LEN]
+    ensures { result ≡ digest_line file.now }
+{
+    let digest = Sha256::digest(file);
+    let mut line = [b'\n'; DIGEST_LEN];
+    line[..DIGITS].copy_from_slice(b"sha256 ");
+    let _ = hex::encode_to_slice(digest, &mut line[DIGITS..DIGEST_LEN - 1]);
+    line
+}

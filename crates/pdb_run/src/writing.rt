@@ -1,0 +1,54 @@
+//! What is written of an answer.
+
+ghost use Rattle.std.specs.Prelude.{◌≡◌, ◌++◌, option_map, OnOk, OnErr};
+ghost use Rattle.std.specs.Io.KnownBytes.{Appends};
+ghost use Rattle.pdb_io.specs.Streams.{AppendsFront};
+ghost use Rattle.pdb_run.specs.Lines.{digests_of, list_of, reply_text};
+ghost use Rattle.pdb_run.specs.Pages.{Gathers};
+ghost use Rattle.pdb_run.specs.Replies.{all_bytes, reply_of};
+
+use crate::answer::Answer;
+use crate::pages::Page;
+use pdb_io::streams::WriteFault;
+use std::io::Write;
+
+/// Writes an answer: the digests, and then its lines. It is one write, where the writer takes all and a page holds all.
+pub fn say<W: Write>(answer: &Answer<'_>, out: &mut W) -> Result<(), WriteFault>
+    ensures whole { OnOk result (Appends (W.contents out.old) (W.contents out.new) (reply_text (reply_of answer.now))) }
+    ensures front { OnErr result (AppendsFront (W.contents out.old) (W.contents out.new) (reply_text (reply_of answer.now))) }
+{
+    let mut page = Page::new();
+    add_digests(&mut page, answer, out)?;
+    page.add_digest(answer.made.as_deref(), out)?;
+    page.add(answer.lines.as_str().as_bytes(), out)?;
+    page.write(out)
+}
+
+/// Adds the digests to a page: the lines that are made already, or else those of the files.
+fn add_digests<W: Write>(
+    page: &mut Page,
+    answer: &Answer<'_>,
+    out: &mut W,
+) -> Result<(), WriteFault>
+    ensures whole { OnOk result (Gathers (W.contents out.old) page.old.text.items (W.contents out.new) page.new.text.items (digests_of (reply_of answer.now).digested)) }
+    ensures front { OnErr result (AppendsFront (W.contents out.old) (W.contents out.new) (page.old.text.items ++ digests_of (reply_of answer.now).digested)) }
+{
+    match &answer.digests {
+        Some(digests) => page.add(digests.as_slice(), out),
+        None => page.add_digests(answer.files, answer.last, out),
+    }
+}
+
+/// Writes the digest line of each file, and of the last one, where there is one.
+pub fn say_digests<W: Write>(
+    files: &[Vec<u8>],
+    last: Option<&[u8]>,
+    out: &mut W,
+) -> Result<(), WriteFault>
+    ensures whole { OnOk result (Appends (W.contents out.old) (W.contents out.new) (digests_of (all_bytes files.now ++ list_of (option_map (λ f. f.now) last.entry)))) }
+    ensures front { OnErr result (AppendsFront (W.contents out.old) (W.contents out.new) (digests_of (all_bytes files.now ++ list_of (option_map (λ f. f.now) last.entry)))) }
+{
+    let mut page = Page::new();
+    page.add_digests(files, last, out)?;
+    page.write(out)
+}
