@@ -1,5 +1,6 @@
 #!/usr/bin/env bash
-# Measures `pdb_cli table` on tables of side 3 with eight tiles, side 5 with five and side 4 with six.
+# Measures `pdb_cli table` on tables of side 3 with eight tiles, side 5 with five and side 4 with six, and on the last with
+# one bad entry.
 #
 #     benches/measure_tables.sh >measured.md
 #
@@ -15,6 +16,8 @@
 #   of the whole file all the same. So it has the start, the reading and the digest of a run, and nothing of the check.
 # - "share" is the digest's part of the run of one worker; "check" is that run without the digest. Several workers check
 #   while the digest is made, so of their runs nothing is taken off.
+# - "of the good file's" is the run on the largest table with a zero for the last slot of its first, middle or last
+#   placement, which has no region, beside the run on the table itself with as many workers. No other entry is bad then.
 # - "peak" is the most memory that was resident, in one further run of one worker or, below, of so many workers.
 set -euo pipefail
 export LC_ALL=C
@@ -24,6 +27,7 @@ program=${PROGRAM:-$root/out/pdb_cli}
 repeats=${REPEATS:-7}
 tables=('side 3 mask 510' 'side 5 mask 62' 'side 4 mask 126') # the largest last
 largest=${tables[-1]}
+declare -A bad=([first]=6 [middle]=20180166 [last]=40360319) # entries of the largest table for slots without a region
 declare -A times
 
 fail() {
@@ -40,6 +44,14 @@ make_files() {
     printf '\1' | dd of="$work/$1 refused" bs=1 seek=7 conv=notrunc status=none
 }
 
+# The largest table with a zero at this entry.
+make_bad() {
+    local file="$work/$1 bad" at=$((20 + bad[$1]))
+    [ "$(od -An -tu1 -j "$at" -N 1 "$work/$largest" | tr -d ' ')" = 254 ] || fail "entry ${bad[$1]} has a region"
+    cp "$work/$largest" "$file"
+    printf '\0' | dd of="$file" bs=1 seek="$at" conv=notrunc status=none
+}
+
 # One run, under a name, that has to answer a line which begins so.
 measure() { # NAME LINE WORD..
     local name=$1 line=$2 begin end
@@ -52,13 +64,18 @@ measure() { # NAME LINE WORD..
 }
 
 measure_all() {
-    local table workers
+    local table workers where
     for table in "${tables[@]}"; do
         measure "$table digest" 'refused T4$' "$work/$table refused"
         measure "$table 1" "exact $table " "$work/$table" --workers 1
     done
     for workers in 2 4; do
         measure "$largest $workers" "exact $largest " "$work/$largest" --workers "$workers"
+    done
+    for where in first middle last; do
+        for workers in 1 4; do
+            measure "$where $workers" "refused T7 at entry ${bad[$where]}\$" "$work/$where bad" --workers "$workers"
+        done
     done
 }
 
@@ -98,6 +115,13 @@ workers_row() {
         printf "| %d | %.1f (%.1f) | %.2f | %.1f |\n", workers, run / 1e3, median / 1e3, one / run, peak / 1024 }'
 }
 
+bad_row() {
+    awk -v place="$1" -v entry="${bad[$1]}" -v one="$(least "$1 1")" -v ones="$(median "$1 1")" -v four="$(least "$1 4")" \
+        -v fours="$(median "$1 4")" -v good="$(least "$largest 1")" -v good_by_four="$(least "$largest 4")" 'BEGIN {
+        printf "| %s, %d | %.1f (%.1f) | %.0f%% | %.1f (%.1f) | %.0f%% |\n", place, entry, one / 1e3, ones / 1e3,
+            100 * one / good, four / 1e3, fours / 1e3, 100 * four / good_by_four }'
+}
+
 [ -x "$program" ] || fail "no program $program: ./pdb_cli --help builds it"
 load=$(cut -d ' ' -f 1 /proc/loadavg)
 work=$(mktemp -d)
@@ -105,6 +129,9 @@ trap 'rm -r "$work"' EXIT
 cc -O2 -o "$work/make_table" "$root/benches/make_table.c"
 for table in "${tables[@]}"; do
     make_files "$table"
+done
+for where in first middle last; do
+    make_bad "$where"
 done
 for ((round = 0; round < repeats; round++)); do
     measure_all
@@ -123,4 +150,10 @@ echo "| workers, $largest | run, ms | times as fast | peak, MiB |"
 echo '|---|---|---|---|'
 for workers in 1 2 4; do
     workers_row "$workers"
+done
+echo
+echo "| bad entry, $largest | 1 worker, ms | of the good file's | 4 workers, ms | of the good file's |"
+echo '|---|---|---|---|---|'
+for where in first middle last; do
+    bad_row "$where"
 done

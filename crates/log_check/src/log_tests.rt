@@ -271,18 +271,32 @@ fn a_later_lemma_is_not_cited(rt: HostRuntime) -> Result<(), Fail> {
 fn each_lemma_is_entered_once(rt: HostRuntime) -> Result<(), Fail> {
     let bundle = bundle(&rt, &[&TILES_123], b"set 0\n");
     let board = Board::from_cells(&BOARD).expect(&rt, "a board");
-    let file = chain(rt.alloc(), 300, &[100])?;
+    let file = chain(rt.alloc(), 300, &[])?;
     for workers in [1, 2, 7, 64] {
         let entered = Log::new(rt.alloc(), 400)?;
         assert_eq!(rt;
             check_log(&rt, rt.alloc(), &bundle, &file, &board, workers, &entered),
-            refused(LogRefusal::L6(100))
+            Ok(6)
         );
         let mut lemmas = entered.notes(rt.alloc())?;
         lemmas.sort()?;
         assert_eq!(rt; lemmas.len(), 300, "{workers} workers");
         assert!(rt; (0..).zip(&lemmas).all(|(lemma, entered)| lemma == *entered));
     }
+    Ok(())
+}
+
+#[test]
+fn lemmas_behind_a_bad_one_are_not_entered(rt: HostRuntime) -> Result<(), Fail> {
+    let bundle = bundle(&rt, &[&TILES_12], b"set 0\n");
+    let board = Board::from_cells(&BOARD).expect(&rt, "a board");
+    let file = with_byte(&CITATION, 14, 6);
+    let entered = Log::new(rt.alloc(), 2)?;
+    assert_eq!(rt;
+        check_log(&rt, rt.alloc(), &bundle, &file, &board, 1, &entered),
+        refused(LogRefusal::L6(0))
+    );
+    assert_eq!(rt; entered.notes(rt.alloc())?.as_slice(), [0].as_slice());
     Ok(())
 }
 

@@ -433,6 +433,16 @@ fn each_block_is_entered_once(rt: HostRuntime) -> Result<(), Fail> {
 }
 
 #[test]
+fn blocks_above_a_bad_entry_are_not_entered(rt: HostRuntime) -> Result<(), Fail> {
+    let mut file = [0xFE; 2036];
+    file[..20].copy_from_slice(&TWO_BLOCKS);
+    let log = Log::new(rt.alloc(), 2)?;
+    assert_eq!(rt; census_by(&rt, &file, 1, &log), Err(bad_entry(0)));
+    assert_eq!(rt; log.notes(rt.alloc())?.as_slice(), [0].as_slice());
+    Ok(())
+}
+
+#[test]
 fn two_workers_check_two_blocks_side_by_side(rt: HostRuntime) {
     let mut file = [0xFF; 2036];
     file[..20].copy_from_slice(&TWO_BLOCKS);

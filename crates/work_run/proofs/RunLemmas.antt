@@ -1,17 +1,19 @@
 -- What all workers together have found.
 use Rattle.std.proofs.Common.{◌≡◌, ℕ, zero, suc, ◌+◌, ◌<◌, ◌≤◌, cond, eqb, List, [], ◌∷◌, length, true, Option, Some, None, inl, inr, refl, sym, ◌∙◌, ap, subst, arith, slice_get}
-use Rattle.std.specs.List.{Contains}
+use Rattle.std.specs.List.{All, Contains}
 use Rattle.std.proofs.lemmas.Bool.{cases_lt, cases_eq, lt-ltb}
 use Rattle.std.proofs.lemmas.Bool.Decides.{nat_tests}
+use Rattle.std.proofs.lemmas.Option.{get_or_from_slice_get, slice_get_within}
 use Rattle.std.proofs.lemmas.List.Sums.{sum_by-cons}
 use Rattle.std.proofs.lemmas.List.Elements.{Contains-append_right}
 use Rattle.book_core.specs.Passes.{Deeds, fresh}
 use Rattle.book_core.specs.Jobs.{times, times_drawn, once_below}
-use Rattle.book_core.specs.Places.{IsReported, IsLeast}
+use Rattle.book_core.specs.Places.{IsReported, IsLeast, IsAtMost}
 use Rattle.book_live.specs.Callers.{BookId, PassState, ArePasses, all_deeds, IsEachDrawnOnce}
 use Rattle.book_live.proofs.CallerLemmas.{slice_get-all_deeds}
 use Rattle.work_run.specs.Faults.{IsLeastBad, IsFault}
-use Rattle.work_run.specs.Work.{IsWorked, IsDone, AreDone}
+use Rattle.work_run.specs.Work.{IsAbove, IsWorked, IsDone, AreDone}
+use Rattle.work_run.proofs.WorkLemmas.{IsAbove-falls}
 
 -- ---- the passes that come back
 
@@ -78,34 +80,50 @@ deeds-at [] k d e = cc
 deeds-at (q ∷ passes) zero d e = (q, refl, let is : q.deeds ≡ d = cc in is)
 deeds-at (q ∷ passes) (suc k) d e = deeds-at passes k d e
 
+module _ (bad : ℕ → Type 0) (begins : ℕ → ℕ) (jobs : ℕ) (from : begins 0 ≡ 0) (end : ℕ)
+    (least_bad : (job : ℕ) → job < jobs → (place : ℕ) → IsLeastBad bad (begins job) (begins (job + 1)) (Some place) → end ≤ place) where
+  good-below : (job : ℕ) → job < jobs → (n place : ℕ) → place < n → begins job ≤ place → place < begins (job + 1) → place < end → ¬ bad place
+  good-below job within zero place lt above below under is = absurd (omega arith)
+  good-below job within (suc n) place lt above below under is =
+      let least : IsLeastBad bad (begins job) (begins (job + 1)) (Some place) = (above, below, is, λ q low before. good-below job within n q (omega arith) low (omega arith) (omega arith)) in
+      absurd (omega (arith, least_bad job within place least))
+
+  -- where the least bad place of no job is below the end, no place below it is bad
+  good : (place : ℕ) → place < begins jobs → place < end → ¬ bad place
+  good place lt under = let j = job-of begins jobs from place lt in good-below j.0 j.1 (suc place) place (omega arith) j.2 j.3 under
+
+IsAtMost-reported : (closing : Option ℕ) (passes : List Deeds) → IsLeast closing passes → (place : ℕ) → IsReported passes place → IsAtMost closing (Some place)
+IsAtMost-reported None passes none place is = none place is
+IsAtMost-reported (Some least) passes is_least place is = is_least.1 place is
+
+IsAtMost-above : (closing : Option ℕ) (low place : ℕ) → IsAbove low closing → low ≤ place → IsAtMost closing (Some place)
+IsAtMost-above None low place above from = above
+IsAtMost-above (Some least) low place above from = omega (arith, above)
+
 module _ (bad : ℕ → Type 0) (begins : ℕ → ℕ) (b : BookId) (passes : List PassState)
     (from : begins 0 ≡ 0)
     (worked : (k : ℕ) (p : PassState) → slice_get passes k ≡ Some p → IsWorked bad begins b.sizes.jobs p.deeds)
     (drawn : IsEachDrawnOnce b passes) where
-  -- the least bad place of each job was reported
-  reported-least : (job : ℕ) → job < b.sizes.jobs → (place : ℕ) → IsLeastBad bad (begins job) (begins (job + 1)) (Some place) → IsReported (all_deeds passes) place
-  reported-least job within place least =
+  -- the closing answer isn't above the least bad place of any job: that was reported, or its job begins above what its pass saw
+  IsAtMost-least : (closing : Option ℕ) → IsLeast closing (all_deeds passes) → All (λ (p : PassState). IsAtMost closing p.deeds.seen) passes
+      → (job : ℕ) → job < b.sizes.jobs → (place : ℕ) → IsLeastBad bad (begins job) (begins (job + 1)) (Some place) → IsAtMost closing (Some place)
+  IsAtMost-least closing is_least seen job within place least =
       let once : once_below job b.sizes.jobs ≡ 1 = ap (λ t. cond {A = ℕ} t 1 0) (lt-ltb job b.sizes.jobs within) in
       let by = drawn-by job passes (omega (arith, drawn job)) in
-      (by.0, by.1.deeds, slice_get-all_deeds passes by.0 by.1 by.2, (worked by.0 by.1 by.2).found job by.3 place least)
+      let p = by.1 in
+      let saw : IsAtMost closing p.deeds.seen =
+      subst (λ (q : PassState). IsAtMost closing q.deeds.seen) (get_or_from_slice_get passes by.0 p p by.2) (seen by.0 p (slice_get_within passes by.0 p by.2)) in
+      elim ((worked by.0 p by.2).settled job by.3) [
+        | inl found ↦ IsAtMost-reported closing (all_deeds passes) is_least place (by.0, p.deeds, slice_get-all_deeds passes by.0 p by.2, found place least)
+        | inr above ↦ IsAtMost-above closing (begins job) place (IsAbove-falls (begins job) closing p.deeds.seen saw above) least.0
+      ]
 
-  -- no place below all reports is bad
-  good-below : (end : ℕ) → ((place : ℕ) → IsReported (all_deeds passes) place → end ≤ place) → (job : ℕ) → job < b.sizes.jobs → (n place : ℕ) → place < n → begins job ≤ place → place < begins (job + 1) → place < end → ¬ bad place
-  good-below end low job within zero place lt above below under is = absurd (omega arith)
-  good-below end low job within (suc n) place lt above below under is =
-      let least : IsLeastBad bad (begins job) (begins (job + 1)) (Some place) = (above, below, is, λ q from lower. good-below end low job within n q (omega arith) from (omega arith) (omega arith)) in
-      absurd (omega (arith, low place (reported-least job within place least)))
-
-  good : (end : ℕ) → ((place : ℕ) → IsReported (all_deeds passes) place → end ≤ place) → (place : ℕ) → place < begins b.sizes.jobs → place < end → ¬ bad place
-  good end low place lt under =
-      let j = job-of begins b.sizes.jobs from place lt in
-      good-below end low j.0 j.1 (suc place) place (omega arith) j.2 j.3 under
-
-  pub IsFault-least : (least : Option ℕ) → IsLeast least (all_deeds passes) → IsFault bad (begins b.sizes.jobs) least
-  IsFault-least None none = λ place _ lt. good (suc place) (λ q r. absurd (none q r)) place lt (omega arith)
-  IsFault-least (Some least) is =
+  pub IsFault-least : (closing : Option ℕ) → IsLeast closing (all_deeds passes) → All (λ (p : PassState). IsAtMost closing p.deeds.seen) passes → IsFault bad (begins b.sizes.jobs) closing
+  IsFault-least None none seen = λ place _ lt.
+      good bad begins b.sizes.jobs from (suc place) (λ job within q least. absurd (IsAtMost-least None none seen job within q least)) place lt (omega arith)
+  IsFault-least (Some least) is seen =
       let r = is.0 in
       let at = deeds-at passes r.0 r.1 r.2 in
       let has : Contains at.0.deeds.reported least = subst (λ (d : Deeds). Contains d.reported least) (sym at.2) r.3 in
       let w = worked r.0 at.0 at.1 in
-      (omega arith, w.within least has, w.is_bad least has, λ place _ lt. good least is.1 place (omega (arith, w.within least has)) lt)
+      (omega arith, w.within least has, w.is_bad least has, λ place _ lt. good bad begins b.sizes.jobs from least (IsAtMost-least (Some least) is seen) place (omega (arith, w.within least has)) lt)

@@ -1,6 +1,6 @@
 //! Checks by several workers, and gates that show them side by side.
 
-ghost use Rattle.std.specs.Prelude.{ℕ, ◌+◌, ◌*◌, ◌<◌, ◌≤◌, ◌^◌};
+ghost use Rattle.std.specs.Prelude.{◌≡◌, ℕ, ◌+◌, ◌*◌, ◌<◌, ◌≤◌, ◌^◌};
 
 use crate::{Gate, Job, OpenGate, run_jobs, work};
 use book_live::Book;
@@ -11,44 +11,55 @@ use std::sync::atomic::{AtomicU64, Ordering};
 use std::test::Fail;
 use std::thread::{Threads, yield_now};
 
-/// Five jobs of ten places each, of which 12 and 43 are bad.
+/// Jobs of so many places each, of which two are bad. The two may be one.
 #[derive(Drop)]
-struct Tens {
-    ghost few: { 5 ≤ 2 ^ 32 },
-    ghost small: { 10 * 5 ≤ 2 ^ 32 },
-    ghost rises: { (job : ℕ) → 10 * job ≤ 10 * (job + 1) },
+struct Spoilt {
+    jobs: u64,
+    width: u64,
+    least: u64,
+    other: u64,
+    ghost few: { jobs ≤ 2 ^ 32 },
+    ghost small: { width * jobs ≤ 2 ^ 32 },
+    ghost rises: { (job : ℕ) → width * job ≤ width * (job + 1) },
+    ghost fits: { (job : ℕ) → job ≤ jobs → width * job ≤ 2 ^ 32 },
+    ghost in_order: { least ≤ other },
 }
 
-impl Job for Tens {
-    ghost use Rattle.std.specs.Prelude.{◌≡◌, ◌*◌, ◌⊎◌, refl};
+impl Job for Spoilt {
+    ghost use Rattle.std.specs.Prelude.{◌≡◌, ◌*◌, ◌⊎◌};
+    ghost use Rattle.std.proofs.Math.Nat.{mul-zero};
 
-    ghost jobs = { λ _. 5 };
+    ghost jobs = { λ spoilt. spoilt.jobs };
 
-    ghost begins = { λ _ job. 10 * job };
+    ghost begins = { λ spoilt job. spoilt.width * job };
 
-    ghost bad = { λ _ place. (place ≡ 12) ⊎ (place ≡ 43) };
+    ghost bad = { λ spoilt place. (place ≡ spoilt.least) ⊎ (place ≡ spoilt.other) };
 
-    ghost few = { λ tens. tens.few };
+    ghost few = { λ spoilt. spoilt.few };
 
-    ghost from_zero = { λ _. refl };
+    ghost from_zero = { λ spoilt. mul-zero spoilt.width };
 
-    ghost rises = { λ tens job _. tens.rises job };
+    ghost rises = { λ spoilt job _. spoilt.rises job };
 
-    ghost small = { λ tens. tens.small };
+    ghost small = { λ spoilt. spoilt.small };
 
     fn count(&self) -> u64 {
-        5
+        self.jobs
     }
 
     fn first(&self, job: u64) -> u64 {
-        10 * job
+        self.width * job
     }
 
     fn run(&self, job: u64) -> Option<u64> {
-        match job {
-            1 => Some(12),
-            4 => Some(43),
-            _ => None,
+        let from = self.first(job);
+        let end = self.first(job + 1);
+        if from <= self.least && self.least < end {
+            Some(self.least)
+        } else if from <= self.other && self.other < end {
+            Some(self.other)
+        } else {
+            None
         }
     }
 }
@@ -115,6 +126,21 @@ struct Holding {
     seen: AtomicU64,
 }
 
+impl Holding {
+    fn new(held: u64, others: u64) -> Holding {
+        Holding {
+            held,
+            others,
+            entered: AtomicU64::new(0),
+            seen: AtomicU64::new(0),
+        }
+    }
+
+    fn saw_others(&self) -> bool {
+        self.seen.load(Ordering::SeqCst) == 1
+    }
+}
+
 impl Gate for Holding {
     fn before(&self, job: u64) {
         if job != self.held {
@@ -122,6 +148,37 @@ impl Gate for Holding {
         } else if sees(&self.entered, self.others) {
             self.seen.store(1, Ordering::SeqCst);
         }
+    }
+}
+
+/// Counts the calls and sets bit n at one for the job n. Bit 63 stands for all jobs from 63 on.
+#[derive(Drop)]
+struct Entries {
+    calls: AtomicU64,
+    jobs: AtomicU64,
+}
+
+impl Entries {
+    fn new() -> Entries {
+        Entries {
+            calls: AtomicU64::new(0),
+            jobs: AtomicU64::new(0),
+        }
+    }
+
+    /// How many calls there were, and for which jobs.
+    fn entered(&self) -> (u64, u64) {
+        (
+            self.calls.load(Ordering::SeqCst),
+            self.jobs.load(Ordering::SeqCst),
+        )
+    }
+}
+
+impl Gate for Entries {
+    fn before(&self, job: u64) {
+        self.calls.fetch_add(1, Ordering::SeqCst);
+        self.jobs.fetch_or(1 << job.min(63), Ordering::SeqCst);
     }
 }
 
@@ -214,13 +271,26 @@ impl Job for Diary {
     }
 }
 
+/// Five jobs of ten places each, of which 12 and 43 are bad.
+fn five_tens() -> Spoilt
+    ensures { result.jobs ≡ 5 }
+{
+    Spoilt {
+        jobs: 5,
+        width: 10,
+        least: 12,
+        other: 43,
+    }
+}
+
 #[test]
 fn the_least_of_two_bad_places_is_found_by_any_number_of_workers(
     rt: HostRuntime,
 ) -> Result<(), Fail> {
+    let jobs = five_tens();
     for workers in [1, 2, 7, 64] {
         assert_eq!(rt;
-            run_jobs(&rt, rt.alloc(), &Tens {}, workers, &OpenGate)?,
+            run_jobs(&rt, rt.alloc(), &jobs, workers, &OpenGate)?,
             Some(12)
         );
     }
@@ -232,9 +302,10 @@ fn the_least_of_two_bad_places_is_found_by_any_number_of_workers(
 fn want_of_memory_is_answered_and_a_second_run_finds_the_fault(
     rt: HostRuntime,
 ) -> Result<(), Fail> {
-    let fault = match run_jobs(&rt, rt.alloc(), &Tens {}, 7, &OpenGate) {
+    let jobs = five_tens();
+    let fault = match run_jobs(&rt, rt.alloc(), &jobs, 7, &OpenGate) {
         Ok(fault) => fault,
-        Err(_) => run_jobs(&rt, rt.alloc(), &Tens {}, 7, &OpenGate)?,
+        Err(_) => run_jobs(&rt, rt.alloc(), &jobs, 7, &OpenGate)?,
     };
     assert_eq!(rt; fault, Some(12));
     Ok(())
@@ -247,39 +318,60 @@ fn no_jobs_have_no_fault(rt: HostRuntime) -> Result<(), Fail> {
     Ok(())
 }
 
-/// Whether the gate saw all other jobs entered while it held this one.
-fn sees_others<R: Threads + Wait + Abort>(
-    rt: &R,
-    alloc: Global,
-    jobs: u64,
-    held: u64,
-) -> Result<bool, Fail>
-    requires { (0 < jobs) × (jobs ≤ 100) }
-{
-    let gate = Holding {
-        held,
-        others: jobs - 1,
-        entered: AtomicU64::new(0),
-        seen: AtomicU64::new(0),
-    };
-    assert_eq!(rt; run_jobs(rt, alloc, &Good { count: jobs }, 2, &gate)?, None);
-    Ok(gate.seen.load(Ordering::SeqCst) == 1)
-}
-
 #[test]
 fn two_workers_run_two_jobs_side_by_side(rt: HostRuntime) -> Result<(), Fail> {
-    assert!(rt; sees_others(&rt, rt.alloc(), 2, 0)?);
+    let gate = Holding::new(0, 1);
+    let jobs = Good { count: 2 };
+    assert_eq!(rt; run_jobs(&rt, rt.alloc(), &jobs, 2, &gate)?, None);
+    assert!(rt; gate.saw_others());
     Ok(())
 }
 
 #[test]
 fn a_worker_that_is_held_leaves_all_other_jobs_to_the_other(rt: HostRuntime) -> Result<(), Fail> {
     for held in 0..4 {
-        assert!(rt;
-            sees_others(&rt, rt.alloc(), 4, held)?,
-            "holding job {held}"
-        );
+        let gate = Holding::new(held, 3);
+        let jobs = Good { count: 4 };
+        assert_eq!(rt; run_jobs(&rt, rt.alloc(), &jobs, 2, &gate)?, None);
+        assert!(rt; gate.saw_others(), "holding job {held}");
     }
+    Ok(())
+}
+
+#[test]
+fn a_job_that_is_held_may_have_the_least_bad_place(rt: HostRuntime) -> Result<(), Fail> {
+    let gate = Holding::new(0, 1);
+    let jobs = Spoilt {
+        jobs: 2,
+        width: 10,
+        least: 3,
+        other: 10,
+    };
+    assert_eq!(rt; run_jobs(&rt, rt.alloc(), &jobs, 2, &gate)?, Some(3));
+    assert!(rt; gate.saw_others());
+    Ok(())
+}
+
+#[test]
+fn jobs_above_the_seen_place_are_not_entered(rt: HostRuntime) -> Result<(), Fail> {
+    let gate = Entries::new();
+    let jobs = Spoilt {
+        jobs: 1000,
+        width: 1,
+        least: 0,
+        other: 0,
+    };
+    assert_eq!(rt; run_jobs(&rt, rt.alloc(), &jobs, 1, &gate)?, Some(0));
+    assert_eq!(rt; gate.entered(), (1, 0b1));
+    let gate = Entries::new();
+    let jobs = Spoilt {
+        jobs: 6,
+        width: 10,
+        least: 30,
+        other: 50,
+    };
+    assert_eq!(rt; run_jobs(&rt, rt.alloc(), &jobs, 1, &gate)?, Some(30));
+    assert_eq!(rt; gate.entered(), (4, 0b1111));
     Ok(())
 }
 
@@ -321,7 +413,7 @@ fn each_job_is_entered_once_and_then_run_once(rt: HostRuntime) -> Result<(), Fai
 #[test]
 fn one_worker_works_through_its_pass(rt: HostRuntime) -> Result<(), Fail> {
     let (book, mut passes) = Book::new(rt.alloc(), 5, 1)?;
-    let pass = work(&Tens {}, &book, passes.remove(0), &OpenGate);
+    let pass = work(&five_tens(), &book, passes.remove(0), &OpenGate);
     assert!(rt; pass.ended());
     let passes = vec![in rt.alloc(); pass]?;
     assert_eq!(rt; book.close(passes), Some(12));

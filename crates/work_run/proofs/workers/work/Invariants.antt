@@ -1,14 +1,9 @@
-use Rattle.std.proofs.Common.{◌≡◌, ◌-◌, false, length}
-use Rattle.work_run.specs.Work.{IsWorked}
+use Rattle.std.proofs.Common.{◌-◌, length}
+use Rattle.work_run.proofs.WorkLemmas.{IsAtWork}
 use Rattle.work_run.proofs.workers.work.Given as goal
 
 abbrev pub invariant-loop-number : goal.invariant-loop-number
-invariant-loop-number g l = record {
-  book : l.pass.book ≡ l.book;
-  number : l.pass.number ≡ l.initial.pass.number;
-  going : l.pass.deeds.ended ≡ false;
-  worked : IsWorked (g.J.Job.bad l.job) (g.J.Job.begins l.job) (g.J.Job.jobs l.job) l.pass.deeds;
-}
+invariant-loop-number g l = IsAtWork (g.J.Job.bad l.job) (g.J.Job.begins l.job) (g.J.Job.jobs l.job) l.book l.initial.pass.number l.pass
 
 abbrev pub decreases-loop-number : goal.decreases-loop-number
 decreases-loop-number g l = l.book.sizes.jobs - length l.pass.deeds.drawn
