@@ -1,127 +1,104 @@
 //! The entries one move of a tile away.
 
-ghost use Rattle.std.specs.Prelude.{◌≡◌, ◌^◌, ◌<◌, ◌↔◌, length, slice_index, IsTrue};
-ghost use Rattle.std.specs.Int.{bit_at};
-ghost use Rattle.pat_place.specs.Placements.{IsFree, IsPlacement};
-ghost use Rattle.tab_check.specs.Moves.{AreFree};
-ghost use Rattle.tab_file.specs.Tables.{entry_count};
-
-use crate::entries::{NO_WAY_HOME, number_of};
-use crate::moves::MOVES;
-use pat_place::{Pattern, Placement, regions, slot_of, unrank};
-use puz_board::step;
+use crate::entries::{NO_REGION, NO_WAY_HOME};
+use crate::grids::{Grid, mask_of};
+use crate::walks::Walk;
 use std::alloc::{AllocError, Global};
 
 /// The entries one move of a tile away from some entries that no walk has reached yet.
 pub(crate) fn list_beside(
     alloc: Global,
-    pattern: &Pattern,
+    grid: &Grid,
     entries: &[u8],
     numbers: &[u32],
-) -> Result<Vec<u32>, AllocError>
-    requires { length entries.now ≡ entry_count pattern.now }
-{
+) -> Result<Vec<u32>, AllocError> {
     let mut near = Vec::new(alloc);
+    let mut walk = Walk::new(grid);
     for number in numbers {
-        add_beside(pattern, entries, u64::from(*number), &mut near)?;
+        let slot = walk.go_to(*number);
+        let region = if has_one_region(entries, walk.first) {
+            walk.free
+        } else {
+            grid.region(walk.free, slot)
+        };
+        add_after_all(grid, entries, &walk, region, &mut near)?;
     }
     Ok(near)
 }
 
-/// Adds the entries one move of a tile away from one.
-fn add_beside(
-    pattern: &Pattern,
-    entries: &[u8],
-    number: u64,
-    near: &mut Vec<u32>,
-) -> Result<(), AllocError>
-    requires { length entries.now ≡ entry_count pattern.now }
-{
-    let _size = pattern.size();
-    let width = u64::from(pattern.width());
-    let rank = number / width;
-    if rank >= pattern.count() {
-        return Ok(());
-    }
-    let placement = unrank(pattern, rank);
-    let regions = regions(&placement);
-    let regions = regions.as_slice();
-    let slot = (number % width) as usize;
-    if slot < regions.len() {
-        add_after_all(pattern, entries, &placement, regions[slot], near)?;
-    }
-    Ok(())
+/// Whether the placement that has this first entry has one region: then no region has the next slot.
+#[inline]
+fn has_one_region(entries: &[u8], first: u32) -> bool {
+    entries.get((first as usize).wrapping_add(1)) == Some(&NO_REGION)
 }
 
 /// Adds the entries after all moves of tiles into a region.
 fn add_after_all(
-    pattern: &Pattern,
+    grid: &Grid,
     entries: &[u8],
-    placement: &Placement,
+    walk: &Walk<'_>,
     region: u32,
     near: &mut Vec<u32>,
-) -> Result<(), AllocError>
-    requires entries { length entries.now ≡ entry_count pattern.now }
-    requires pattern { placement.now.pattern ≡ pattern.now }
-    requires region { AreFree placement.now.pattern.side placement.now.cells region }
-{
-    let cells = placement.cells();
-    for (index, cell) in cells.as_slice().iter().enumerate() {
-        add_after(pattern, entries, placement, region, index, *cell, near)?;
-    }
-    Ok(())
-}
-
-/// Adds the entries after the moves of one tile into a region. The tile is given by its index and its cell.
-fn add_after(
-    pattern: &Pattern,
-    entries: &[u8],
-    placement: &Placement,
-    region: u32,
-    index: usize,
-    cell: u8,
-    near: &mut Vec<u32>,
-) -> Result<(), AllocError>
-    requires entries { length entries.now ≡ entry_count pattern.now }
-    requires pattern { placement.now.pattern ≡ pattern.now }
-    requires placement { IsPlacement placement.now }
-    requires index { index < length placement.now.cells }
-    requires cell { slice_index placement.now.cells index ≡ cell }
-    requires region { AreFree placement.now.pattern.side placement.now.cells region }
-{
-    for mv in &MOVES {
-        if let Some(to) = step(pattern.side(), cell, *mv) {
-            if has_cell(region, to) {
-                let number = number_after(pattern, placement, index, cell, to);
-                if entries[number as usize] == NO_WAY_HOME {
-                    near.push(number as u32)?;
-                }
+) -> Result<(), AllocError> {
+    for (index, cell) in walk.cells.iter().enumerate().take(grid.size) {
+        let mut rest = grid.beside(*cell) & region;
+        for _ in 0..4 {
+            if rest == 0 {
+                break;
             }
+            let to = rest.trailing_zeros() as u8;
+            rest &= rest.wrapping_sub(1);
+            add_after(grid, entries, walk, index, *cell, to, near)?;
         }
     }
     Ok(())
 }
 
-/// The number of the entry after a tile's move to a free cell: of the region that has the cell which the tile left.
-fn number_after(pattern: &Pattern, placement: &Placement, index: usize, cell: u8, to: u8) -> u64
-    requires pattern { placement.now.pattern ≡ pattern.now }
-    requires placement { IsPlacement placement.now }
-    requires index { index < length placement.now.cells }
-    requires cell { slice_index placement.now.cells index ≡ cell }
-    requires free { IsFree placement.now.pattern.side placement.now.cells to }
-    ensures there { result < entry_count pattern.now }
-    ensures few { result < 2 ^ 32 }
-{
-    let moved = placement.moved(index, to);
-    let _cells = moved.cells();
-    number_of(pattern, &moved, slot_of(&moved, cell))
+/// Adds the entry after the move of one tile, by its index and its cell, to another cell.
+#[inline]
+fn add_after(
+    grid: &Grid,
+    entries: &[u8],
+    walk: &Walk<'_>,
+    index: usize,
+    cell: u8,
+    to: u8,
+    near: &mut Vec<u32>,
+) -> Result<(), AllocError> {
+    let first = if cell < to {
+        walk.first.wrapping_add(growth(grid, walk, index, cell, to))
+    } else {
+        walk.first.wrapping_sub(growth(grid, walk, index, to, cell))
+    };
+    let slot = if has_one_region(entries, first) {
+        0
+    } else {
+        grid.slot_of(walk.free & !mask_of(to) | mask_of(cell), cell)
+    };
+    let number = first.wrapping_add(slot);
+    if entries.get(number as usize) == Some(&NO_WAY_HOME) {
+        near.push(number)?;
+    }
+    Ok(())
 }
 
-/// Whether the mask has the cell.
+/// By how much the number of a placement's first entry grows where a tile goes from the lower of two cells to the higher
+/// one. It passes the cells between them, and so do the tiles there it.
 #[inline]
-fn has_cell(mask: u32, cell: u8) -> bool
-    requires { cell < 32 }
-    ensures { IsTrue result ↔ (bit_at mask cell ≡ 1) }
-{
-    mask >> cell & 1 == 1
+fn growth(grid: &Grid, walk: &Walk<'_>, index: usize, low: u8, high: u8) -> u32 {
+    let weight = grid.weights.get(index).copied().unwrap_or(0);
+    if high.wrapping_sub(low) == 1 {
+        return weight;
+    }
+    let mut growth = weight.wrapping_mul(u32::from(high.wrapping_sub(low)));
+    for (other, (cell, passed)) in walk.cells.iter().zip(&grid.weights).enumerate().take(grid.size) {
+        if low < *cell && *cell < high {
+            growth = if other < index {
+                growth.wrapping_sub(weight)
+            } else {
+                growth.wrapping_add(*passed)
+            };
+        }
+    }
+    growth
 }

@@ -6,6 +6,9 @@ ghost use Rattle.tab_file.specs.Tables.{entry_count, slot_count};
 
 use pat_place::{Pattern, Placement, rank};
 
+/// How many tiles a pattern has at most.
+pub(crate) const MOST_TILES: usize = 8;
+
 /// The greatest count that an entry may hold.
 pub(crate) const GREATEST_COUNT: u8 = 253;
 

@@ -4,11 +4,13 @@
 mod beside;
 mod entries;
 mod faults;
+mod grids;
 mod layers;
 mod logs;
 mod moves;
 mod searches;
 mod tables;
+mod walks;
 
 pub use entries::entry_of;
 pub use faults::MakeFault;

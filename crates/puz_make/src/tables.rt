@@ -6,8 +6,10 @@ ghost use Rattle.tab_file.specs.Tables.{entry_count};
 use crate::beside::list_beside;
 use crate::entries::{GREATEST_COUNT, NO_REGION, NO_WAY_HOME, entry_of, number_of};
 use crate::faults::MakeFault;
+use crate::grids::Grid;
 use crate::layers::layer;
-use pat_place::{Pattern, Placement, regions, unrank};
+use crate::walks::Walk;
+use pat_place::{Pattern, Placement};
 use rayon::prelude::*;
 use std::alloc::{AllocError, Global};
 use std::thread::Threads;
@@ -15,6 +17,9 @@ use tab_file::header_of;
 
 /// How many entries of a layer one piece of the work has.
 const PIECE: usize = 4096;
+
+/// How many placements are marked at once.
+const MARKED: usize = 4096;
 
 /// The file of a pattern's table: each entry is filled in with the first layer that reaches it.
 pub fn build<R: Threads + Sync>(
@@ -24,7 +29,7 @@ pub fn build<R: Threads + Sync>(
 ) -> Result<Vec<u8>, MakeFault> {
     let mut file = unmarked_file(alloc, pattern)?;
     let (_header, entries) = file.split_at_mut(20);
-    mark_regions(rt, pattern, entries);
+    mark_regions(rt, &Grid::new(pattern), entries);
     fill_layers(rt, alloc, pattern, entries)?;
     Ok(file)
 }
@@ -43,29 +48,32 @@ fn unmarked_file(alloc: Global, pattern: &Pattern) -> Result<Vec<u8>, AllocError
 }
 
 /// Marks the entries of slots with regions as not yet reached.
-fn mark_regions<R: Threads + Sync>(rt: &R, pattern: &Pattern, entries: &mut [u8])
+fn mark_regions<R: Threads + Sync>(rt: &R, grid: &Grid, entries: &mut [u8])
     ensures { length entries.new ≡ length entries.old }
 {
-    let _size = pattern.size();
-    let width = usize::from(pattern.width());
+    let width = grid.width.max(1);
     par_chunks_mut_for_each(
         rt,
         entries,
-        width,
-        |start, slots| mark_slots(pattern, (start / width) as u64, slots),
+        width.saturating_mul(MARKED),
+        |start, placements| mark_placements(grid, start, width, placements),
     );
 }
 
-/// Marks the entries of the placement of a rank.
-fn mark_slots(pattern: &Pattern, rank: u64, slots: &mut [u8])
-    ensures { length slots.new ≡ length slots.old }
+/// Marks the entries of the placements from an entry on.
+fn mark_placements(grid: &Grid, start: usize, width: usize, placements: &mut [u8])
+    requires { 0 < width }
+    ensures { length placements.new ≡ length placements.old }
 {
-    if rank >= pattern.count() {
-        return;
-    }
-    let regions = regions(&unrank(pattern, rank));
-    for slot in slots.iter_mut().take(regions.len()) {
-        *slot = NO_WAY_HOME;
+    let mut walk = Walk::new(grid);
+    for (place, slots) in placements.chunks_mut(width).enumerate() {
+        let Ok(number) = u32::try_from(start.wrapping_add(place.wrapping_mul(width))) else {
+            return;
+        };
+        walk.go_to(number);
+        for slot in slots.iter_mut().take(grid.regions(walk.free)) {
+            *slot = NO_WAY_HOME;
+        }
     }
 }
 
@@ -105,15 +113,14 @@ fn list_near<R: Threads + Sync>(
     requires { length entries.now ≡ entry_count pattern.now }
 {
     let _size = pattern.size();
+    let grid = Grid::new(pattern);
     let reached = layer(rt, alloc, entries, count)?;
     reached
         .as_slice()
         .par_chunks(PIECE)
         .with_min_len(1)
         .map(
-            |numbers: &[u32]| -> Result<Vec<u32>, AllocError>
-                requires { length entries.now ≡ entry_count pattern.now }
-            { list_beside(alloc, pattern, entries, numbers) },
+            |numbers: &[u32]| -> Result<Vec<u32>, AllocError> { list_beside(alloc, &grid, entries, numbers) },
         )
         .collect::<Result<Vec<Vec<u32>>, AllocError>>(rt, alloc)?
 }

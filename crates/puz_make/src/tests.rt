@@ -17,6 +17,50 @@ use work_run::OpenGate;
 /// More boards than any search here expands.
 const PLENTY: u64 = 1_000_000;
 
+/// Boards of side 3 that have solutions.
+const BOARDS_OF_SIDE_3: [[u8; 9]; 40] = [
+    [8, 3, 2, 5, 1, 4, 6, 7, 0],
+    [1, 7, 6, 4, 3, 5, 8, 0, 2],
+    [5, 0, 2, 6, 1, 4, 8, 7, 3],
+    [3, 6, 4, 2, 5, 0, 8, 1, 7],
+    [8, 3, 7, 2, 0, 4, 5, 6, 1],
+    [3, 7, 0, 2, 4, 1, 5, 8, 6],
+    [0, 3, 5, 8, 7, 4, 1, 2, 6],
+    [8, 6, 5, 7, 1, 2, 0, 3, 4],
+    [4, 6, 8, 7, 5, 1, 0, 3, 2],
+    [0, 2, 3, 4, 7, 8, 5, 1, 6],
+    [3, 8, 7, 4, 0, 6, 5, 1, 2],
+    [1, 6, 0, 5, 4, 7, 3, 2, 8],
+    [2, 6, 5, 4, 8, 0, 1, 7, 3],
+    [2, 5, 3, 4, 0, 8, 6, 1, 7],
+    [3, 2, 1, 7, 6, 0, 5, 8, 4],
+    [2, 8, 6, 0, 1, 7, 4, 5, 3],
+    [7, 6, 3, 0, 1, 2, 5, 4, 8],
+    [2, 4, 5, 1, 6, 8, 3, 7, 0],
+    [3, 1, 8, 4, 5, 2, 7, 6, 0],
+    [5, 3, 6, 8, 2, 4, 0, 7, 1],
+    [1, 6, 7, 0, 4, 8, 2, 5, 3],
+    [4, 7, 3, 8, 6, 5, 2, 0, 1],
+    [3, 6, 8, 1, 4, 5, 7, 2, 0],
+    [7, 5, 6, 0, 4, 3, 1, 8, 2],
+    [8, 4, 5, 7, 2, 3, 6, 1, 0],
+    [5, 8, 2, 1, 7, 0, 3, 4, 6],
+    [6, 4, 5, 7, 2, 0, 3, 1, 8],
+    [2, 5, 7, 4, 0, 3, 8, 6, 1],
+    [5, 0, 2, 4, 8, 3, 6, 7, 1],
+    [6, 1, 0, 7, 2, 5, 8, 4, 3],
+    [7, 3, 1, 6, 0, 2, 4, 8, 5],
+    [5, 4, 2, 0, 8, 3, 1, 7, 6],
+    [5, 8, 3, 4, 0, 6, 7, 1, 2],
+    [3, 7, 8, 1, 0, 6, 5, 4, 2],
+    [7, 8, 5, 6, 4, 2, 1, 3, 0],
+    [2, 3, 7, 1, 8, 0, 6, 5, 4],
+    [7, 6, 0, 8, 2, 5, 3, 4, 1],
+    [7, 1, 6, 5, 4, 2, 0, 8, 3],
+    [6, 2, 5, 4, 3, 7, 8, 1, 0],
+    [8, 1, 0, 7, 3, 4, 2, 5, 6],
+];
+
 /// The table that is built for a side and a mask.
 fn built<R: Threads + Sync + AllocGlobal + Abort>(
     rt: &R,
@@ -173,13 +217,28 @@ fn solutions_are_proved_shortest(rt: HostRuntime) {
 }
 
 #[test]
+fn solutions_of_side_3_are_as_short_as_a_search_finds_them(rt: HostRuntime) -> Result<(), Fail> {
+    let first = LeastCosts::new(rt.alloc(), &[1, 2, 3, 4])?.table(rt.alloc())?;
+    let second = LeastCosts::new(rt.alloc(), &[5, 6, 7, 8])?.table(rt.alloc())?;
+    let search = LeastCosts::new(rt.alloc(), &[1, 2, 3, 4, 5, 6, 7, 8])?;
+    let bundle = bundle(&rt, &[&first, &second], b"set 0 1\n");
+    for numbers in &BOARDS_OF_SIDE_3 {
+        assert_eq!(rt; certified(&rt, &bundle, numbers), Ok(search.of(numbers)), "{numbers:?}");
+    }
+    Ok(())
+}
+
+#[test]
 fn searches_end(rt: HostRuntime) {
     let all = bundle(&rt, &[&TILES_123], b"set 0\n");
     let two = bundle(&rt, &[&TILES_12], b"set 0\n");
     let fault = |bundle: &Bundle<'_>, numbers: &[u8], budget: u64| found(
         &rt, bundle, numbers, budget,
     ).err();
+    let one = bundle(&rt, &[&TILE_1], b"set 0\n");
     assert_eq!(rt; fault(&all, &[0, 1, 3, 2], PLENTY), Some(MakeFault::K2));
+    assert_eq!(rt; fault(&one, &[0, 1, 3, 2], PLENTY), Some(MakeFault::K2));
+    assert_eq!(rt; fault(&one, &[0, 1, 3, 2], 1000), Some(MakeFault::K1));
     assert_eq!(rt; fault(&two, &[3, 2, 1, 0], 1), Some(MakeFault::K1));
     assert_eq!(rt; fault(&all, &[1, 0, 2, 3], 0), Some(MakeFault::K1));
     assert_eq!(rt; fault(&all, &[0, 1, 2, 3], 0), None);

@@ -1,4 +1,4 @@
-use Rattle.std.proofs.Common.{◌≡◌, ◌+◌, ◌*◌, ◌^◌, ◌<◌, ◌∙◌, sym, subst, arith}
+use Rattle.std.proofs.Common.{◌+◌, ◌*◌, ◌^◌, ◌<◌, ◌∙◌, sym, subst, arith}
 use Rattle.pat_place.proofs.CountLemmas.{few_slots}
 use Rattle.tab_file.specs.Tables.{entry_count, slot_count}
 use Rattle.puz_make.proofs.EntryLemmas.{number_there}

@@ -1,0 +1,133 @@
+//! The board of a pattern as masks of cells, and how far apart its placements stand in a table.
+
+use crate::entries::MOST_TILES;
+use pat_place::Pattern;
+
+/// How many regions a placement has at most, with one more for a tile's cell.
+const MOST_REGIONS: u8 = 9;
+
+/// How many steps lead from one cell of a board to each cell of its region at most.
+const MOST_STEPS: u8 = 25;
+
+/// What is the same for all placements of a pattern.
+#[derive(Clone, Copy)]
+pub(crate) struct Grid {
+    /// How many cells a row has.
+    pub(crate) side: u8,
+    /// How many tiles the pattern has.
+    pub(crate) size: usize,
+    /// How many slots each placement has.
+    pub(crate) width: usize,
+    /// All cells.
+    pub(crate) all: u32,
+    /// By how much the number of an entry grows where a tile goes to the next cell that the tiles before it leave.
+    pub(crate) weights: [u32; MOST_TILES],
+    /// The cells outside the first column: those that a step to the right enters.
+    right: u32,
+    /// The cells outside the last column: those that a step to the left enters.
+    left: u32,
+}
+
+impl Grid {
+    /// The grid of a pattern.
+    pub(crate) fn new(pattern: &Pattern) -> Grid {
+        let side = pattern.side().get();
+        let (all, first_column) = match side {
+            2 => (0xF, 0b01_01),
+            3 => (0x1FF, 0b001_001_001),
+            4 => (0xFFFF, 0b0001_0001_0001_0001),
+            _ => (0x1FF_FFFF, 0b00001_00001_00001_00001_00001),
+        };
+        Grid {
+            side,
+            size: usize::from(pattern.size()),
+            width: usize::from(pattern.width()),
+            all,
+            weights: weights(pattern),
+            right: all & !first_column,
+            left: all & !(first_column << (side - 1)),
+        }
+    }
+
+    /// The cells beside one.
+    #[inline]
+    pub(crate) fn beside(&self, cell: u8) -> u32 {
+        self.grown(mask_of(cell), self.all) & !mask_of(cell)
+    }
+
+    /// The region of free cells with this number.
+    pub(crate) fn region(&self, free: u32, slot: u32) -> u32 {
+        let mut rest = free;
+        for _ in 0..slot {
+            rest &= !self.first_region(rest);
+        }
+        self.first_region(rest)
+    }
+
+    /// The number of the region of free cells that has a cell.
+    pub(crate) fn slot_of(&self, free: u32, cell: u8) -> u32 {
+        let mut rest = free;
+        for slot in 0..MOST_REGIONS {
+            let region = self.first_region(rest);
+            if region & mask_of(cell) != 0 {
+                return u32::from(slot);
+            }
+            rest &= !region;
+        }
+        0
+    }
+
+    /// How many regions the free cells have.
+    pub(crate) fn regions(&self, free: u32) -> usize {
+        let mut rest = free;
+        for count in 0..MOST_REGIONS {
+            if rest == 0 {
+                return usize::from(count);
+            }
+            rest &= !self.first_region(rest);
+        }
+        usize::from(MOST_REGIONS)
+    }
+
+    /// The region of the least of some whole regions' cells.
+    #[inline]
+    fn first_region(&self, free: u32) -> u32 {
+        let mut region = free & free.wrapping_neg();
+        for _ in 0..MOST_STEPS {
+            let more = self.grown(region, free);
+            if more == region {
+                break;
+            }
+            region = more;
+        }
+        region
+    }
+
+    /// The mask, and the free cells beside its cells.
+    #[inline]
+    fn grown(&self, mask: u32, free: u32) -> u32 {
+        let side = u32::from(self.side);
+        let vertical = mask.wrapping_shl(side) | mask.wrapping_shr(side);
+        let horizontal = mask << 1 & self.right | mask >> 1 & self.left;
+        mask | (vertical | horizontal) & free
+    }
+}
+
+/// The mask of one cell.
+#[inline]
+pub(crate) fn mask_of(cell: u8) -> u32 {
+    1u32.wrapping_shl(u32::from(cell))
+}
+
+/// How many entries stand between two placements of which one has a tile in the next cell that is left for it.
+fn weights(pattern: &Pattern) -> [u32; MOST_TILES] {
+    let cells = u32::from(pattern.side().cells());
+    let size = usize::from(pattern.size());
+    let mut weights = [0; MOST_TILES];
+    let mut weight = u32::from(pattern.width());
+    for index in (0..size).rev() {
+        weights[index] = weight;
+        weight = weight.wrapping_mul(cells.wrapping_sub(index as u32));
+    }
+    weights
+}
