@@ -1,0 +1,6 @@
+pub mod Checks
+pub mod Rows
+pub mod Runs
+pub mod SetRows
+pub mod Steps
+pub mod StoredRows
