@@ -1,7 +1,9 @@
 pub mod CheckLemmas
 pub mod EntriesLemmas
+pub mod KindLemmas
 pub mod LoopLemmas
 pub mod MaskLemmas
+pub mod MaskRunLemmas
 pub mod RowLemmas
 pub mod RunLemmas
 pub mod RunRanks

@@ -1,12 +1,15 @@
 -- The rows of one set of cells, column by column.
-use Rattle.std.proofs.Common.{◌≡◌, ◌≢◌, ℕ, ◌+◌, ◌*◌, ◌<◌, ◌≤◌, List, length, get_or, set, inl, inr, refl, sym, ◌∙◌, ap, ap₂, subst, arith, get_or-set_same, get_or-set_other}
+use Rattle.std.proofs.Common.{◌≡◌, ◌≢◌, ℕ, ◌+◌, ◌*◌, ◌<◌, ◌≤◌, ◌-◌, Bool, true, false, Some, List, length, get_or, set, inl, inr, refl, sym, ◌∙◌, ap, ap₂, subst, arith, get_or-set_same, get_or-set_other}
+use Rattle.std.specs.Prelude.{IsTrue, ◌↔◌, slice_get}
 use Rattle.std.specs.Int.{bit_at}
-use Rattle.std.proofs.lemmas.Bool.{cases_eq, cases_lt}
+use Rattle.std.specs.List.{range_with_len}
+use Rattle.std.proofs.lemmas.Bool.{both_ways, cases_eq, cases_lt, false_from_ne_true}
 use Rattle.std.proofs.Math.Nat.{mul-le-mul_right}
-use Rattle.pat_place.specs.Patterns.{IsPattern, PatternView, width}
+use Rattle.puz_board.specs.Masks.{IsMaskOf}
+use Rattle.pat_place.specs.Patterns.{IsPattern, PatternView, has, width}
 use Rattle.pat_place.specs.Placements.{IsFree, IsPlacement, PlacementView}
-use Rattle.pat_place.specs.Ranks.{IsRank}
-use Rattle.pat_place.proofs.RankLemmas.{IsRank-one}
+use Rattle.pat_place.specs.Ranks.{IsRank, lists_of}
+use Rattle.pat_place.proofs.RankLemmas.{IsRank-from, IsRank-one}
 use Rattle.tab_check.proofs.BlockLemmas.{same_cells}
 use Rattle.pat_place.specs.Regions.{AreRegions}
 use Rattle.pat_place.proofs.SlotLemmas.{slot_one}
@@ -143,3 +146,27 @@ module _ (p : PatternView) (pat : IsPattern p) (cells : List ℕ) (run : IsRun p
   regions_few view count same cells_are few =
       let e : width view.pattern.side (length view.cells) ≡ slot_count p = ap₂ (λ q k. width q.side k) same (ap length cells_are ∙ (placed_last p cells c run free).size) in
       omega arith
+
+  pub marks_low : free_below cells c * slot_count p + slot_count p ≤ run_length p.side cells * slot_count p
+  marks_low =
+      let h : (free_below cells c + 1) * slot_count p ≤ run_length p.side cells * slot_count p = mul-le-mul_right (slot_count p) (let l = low_place in let s : free_below cells c + 1 ≤ run_length p.side cells = omega arith in s) in
+      omega arith
+
+-- what is known at a free cell of the last tile: the rank of its placement, and how many places are before its own
+pub record IsAtLast (p : PatternView) (cells : List ℕ) (last rank number before : ℕ) : Type 0 where
+  pub free : IsFree p.side cells last
+  pub is_rank : IsRank p.side cells rank
+  pub number_is : number ≡ rank * run_length p.side cells + free_below cells last
+  pub before_is : before ≡ free_below cells last * slot_count p
+
+pub at_last : (p : PatternView) (cells : List ℕ) (set side count from width rank last free place : ℕ) (taken : Bool) → IsMaskOf set (λ c. has cells c ≡ true) → side ≡ p.side → count ≡ side * side → from ≡ count → width ≡ slot_count p
+    → slice_get (lists_of (length cells) (range_with_len 0 count)) rank ≡ Some cells → last < count → IsTrue taken ↔ (bit_at set last ≡ 1) → taken ≡ false → free ≡ free_below cells last → place ≡ free
+    → IsAtLast p cells last rank (rank * (from - length cells) + place) (free * width)
+at_last p cells set side count from width rank last free place taken is side_is count_is from_is width_is found low test not_taken free_is place_is =
+    let all : count ≡ p.side * p.side = count_is ∙ ap₂ (λ m n. m * n) side_is side_is in
+    record {
+      free = ((let l = low in omega arith), false_from_ne_true (has cells last) (λ t. both_ways taken not_taken (test.1 ((is last).1 t))));
+      is_rank = IsRank-from p.side cells rank (subst (λ m. slice_get (lists_of (length cells) (range_with_len 0 m)) rank ≡ Some cells) all found);
+      number_is = ap₂ (λ l f. rank * l + f) (ap (λ k. k - length cells) (from_is ∙ all)) (place_is ∙ free_is);
+      before_is = ap₂ (λ f w. f * w) free_is width_is;
+    }

@@ -27,7 +27,7 @@ row_of_set n w p block is x l = record {
     byte : (c : ℕ) → c < n * n → get_or (take (n * n) (drop (x * (n * n)) block)) c 0 ≡ get_or block (x * (n * n) + c) 0
     byte c low = get_or-take (n * n) (drop (x * (n * n)) block) c 0 low ∙ get_or-drop (x * (n * n)) block c 0
 
-same_masks : (mask : ℕ) (p q : List ℕ) → IsMaskOf mask (λ c. has p c ≡ true) → IsMaskOf mask (λ c. has q c ≡ true) → SameCells p q
+pub same_masks : (mask : ℕ) (p q : List ℕ) → IsMaskOf mask (λ c. has p c ≡ true) → IsMaskOf mask (λ c. has q c ≡ true) → SameCells p q
 same_masks mask p q is also x = elim (cases_Bool (has p x)) [
   | inl t ↦ t ∙ sym ((also x).0 ((is x).1 t))
   | inr f ↦ elim (cases_Bool (has q x)) [

@@ -1,4 +1,5 @@
 pub mod Checks
+pub mod Kinds
 pub mod Rows
 pub mod Runs
 pub mod SetRows

@@ -6,6 +6,7 @@ mod checks;
 mod kernels;
 mod masks;
 mod near;
+mod numbers;
 mod rows;
 mod runs;
 mod set_rows;

@@ -8,9 +8,9 @@ ghost use Rattle.puz_board.specs.Masks.{IsMaskOf};
 ghost use Rattle.pat_place.specs.Patterns.{has};
 ghost use Rattle.pat_place.specs.Placements.{IsFree};
 ghost use Rattle.tab_file.specs.TableFiles.{IsTableFile};
-ghost use Rattle.tab_file.specs.Tables.{slot_count};
 ghost use Rattle.tab_runs.specs.Rows.{IsRowOf};
 ghost use Rattle.tab_runs.specs.Runs.{AreRunEntries, IsRun};
+ghost use Rattle.tab_runs.specs.StoredRows.{rows_for};
 ghost use Rattle.tab_runs.specs.Steps.{AreLeastNear, IsBesideStep, IsIndexStep, IsPairStep, IsSomeLastStep, IsStepAmong, IsTakenIn, IsTileStep};
 
 use crate::beside::beside;
@@ -48,8 +48,7 @@ fn take_tile(
     mins: &mut [u8; 256],
 ) -> bool
     requires file { IsTableFile table.now file.now }
-    requires side { rows.now.side ≡ table.now.pattern.side }
-    requires width { rows.now.width ≡ slot_count table.now.pattern }
+    requires rows { rows.now ≡ rows_for table.now.pattern }
     requires run { IsRun table.now.pattern cells.now }
     requires set { IsMaskOf set (λ c. has cells.now c ≡ true) }
     requires index { index < length cells.now }
@@ -82,8 +81,7 @@ fn take_index(
     mins: &mut [u8; 256],
 ) -> bool
     requires file { IsTableFile table.now file.now }
-    requires side { rows.now.side ≡ table.now.pattern.side }
-    requires width { rows.now.width ≡ slot_count table.now.pattern }
+    requires rows { rows.now ≡ rows_for table.now.pattern }
     requires run { IsRun table.now.pattern cells.now }
     requires set { IsMaskOf set (λ c. has cells.now c ≡ true) }
     requires index { index < length cells.now }
@@ -110,8 +108,7 @@ fn take_tiles(
     mins: &mut [u8; 256],
 ) -> bool
     requires file { IsTableFile table.now file.now }
-    requires side { rows.now.side ≡ table.now.pattern.side }
-    requires width { rows.now.width ≡ slot_count table.now.pattern }
+    requires rows { rows.now ≡ rows_for table.now.pattern }
     requires run { IsRun table.now.pattern cells.now }
     requires set { IsMaskOf set (λ c. has cells.now c ≡ true) }
     ensures { OnTrue result (IsTakenIn mins.old mins.new (IsStepAmong table.now cells.now (length cells.now))) }
@@ -138,8 +135,7 @@ fn take_pair(
     mins: &mut [u8; 256],
 ) -> bool
     requires own { AreRunEntries table.now cells.now own.now }
-    requires side { rows.now.side ≡ table.now.pattern.side }
-    requires width { rows.now.width ≡ slot_count table.now.pattern }
+    requires rows { rows.now ≡ rows_for table.now.pattern }
     requires run { IsRun table.now.pattern cells.now }
     requires set { IsMaskOf set (λ c. has cells.now c ≡ true) }
     requires free_a { IsFree table.now.pattern.side cells.now a }
@@ -175,8 +171,7 @@ fn take_beside(
     mins: &mut [u8; 256],
 ) -> bool
     requires own { AreRunEntries table.now cells.now own.now }
-    requires side { rows.now.side ≡ table.now.pattern.side }
-    requires width { rows.now.width ≡ slot_count table.now.pattern }
+    requires rows { rows.now ≡ rows_for table.now.pattern }
     requires run { IsRun table.now.pattern cells.now }
     requires set { IsMaskOf set (λ c. has cells.now c ≡ true) }
     requires free_a { IsFree table.now.pattern.side cells.now a }
@@ -204,8 +199,7 @@ fn take_lasts(
     mins: &mut [u8; 256],
 ) -> bool
     requires own { AreRunEntries table.now cells.now own.now }
-    requires side { rows.now.side ≡ table.now.pattern.side }
-    requires width { rows.now.width ≡ slot_count table.now.pattern }
+    requires rows { rows.now ≡ rows_for table.now.pattern }
     requires run { IsRun table.now.pattern cells.now }
     requires set { IsMaskOf set (λ c. has cells.now c ≡ true) }
     ensures { OnTrue result (IsTakenIn mins.old mins.new (IsSomeLastStep table.now cells.now)) }
@@ -232,8 +226,7 @@ pub(crate) fn least_near(
     set: u32,
 ) -> Option<[u8; 256]>
     requires file { IsTableFile table.now file.now }
-    requires side { rows.now.side ≡ table.now.pattern.side }
-    requires width { rows.now.width ≡ slot_count table.now.pattern }
+    requires rows { rows.now ≡ rows_for table.now.pattern }
     requires run { IsRun table.now.pattern cells.now }
     requires set { IsMaskOf set (λ c. has cells.now c ≡ true) }
     ensures { IfSome result (λ mins. AreLeastNear table.now cells.now mins) }

@@ -1,19 +1,20 @@
 //! The rows of all cells for one set of cells.
 
-ghost use Rattle.std.specs.Prelude.{◌≡◌, ◌≢◌, ℕ, ◌+◌, ◌*◌, ◌<◌, ◌≤◌, MatchOption, length, slice_index, true, IfOk};
+ghost use Rattle.std.specs.Prelude.{◌≡◌, ◌≢◌, ℕ, ◌+◌, ◌*◌, ◌^◌, ◌<◌, ◌≤◌, MatchOption, count_ones, length, slice_index, true, IfOk, OnOk};
 ghost use Rattle.std.specs.Int.{bit_at};
-ghost use Rattle.pat_place.specs.Patterns.{IsPattern, has};
 ghost use Rattle.puz_board.specs.Masks.{IsMaskOf};
+ghost use Rattle.pat_place.specs.Patterns.{has};
 ghost use Rattle.tab_file.specs.Tables.{slot_count};
+ghost use Rattle.tab_runs.specs.Kinds.{AreKindsUpTo, AreMarked};
+ghost use Rattle.tab_runs.specs.Runs.{IsRun, run_length};
 ghost use Rattle.tab_runs.specs.SetRows.{AreRowsUpTo, IsColumn};
-ghost use Rattle.tab_runs.specs.Runs.{IsRun};
-ghost use Rattle.tab_runs.specs.StoredRows.{AreAllRows};
-ghost use Rattle.std.specs.Result.{OnOk};
+ghost use Rattle.tab_runs.specs.StoredRows.{AreAllKinds, AreAllRows, entries_of_run};
 
 use crate::masks;
 use crate::runs::rank_of;
 use pat_place::{Pattern, regions, unrank};
 use std::alloc::{AllocError, Global};
+use tab_lanes::OTHER_SLOT;
 
 /// The first of these regions that has the cell.
 #[inline]
@@ -46,12 +47,33 @@ fn fill_column(set_rows: &mut [u8], cells: u8, last: u8, before: u8, regions: &[
     }
 }
 
-/// Fills in the rows of all cells for a run's set of cells.
-pub(crate) fn fill_rows(pattern: &Pattern, cells: &[u8], set: u32, set_rows: &mut [u8])
+/// Marks the places of a placement's slots that have a region.
+fn mark(kinds: &mut [u8], at: usize, count: usize)
+    requires { at + count ≤ length kinds.old }
+    ensures { AreMarked at count kinds.old kinds.new }
+{
+    for place in at..at + count {
+        kinds[place] = OTHER_SLOT;
+    }
+}
+
+/// How many entries a run of the pattern has.
+pub(crate) fn entries_of_run(pattern: &Pattern) -> usize
+    ensures { result ≡ entries_of_run pattern.now.side (length pattern.now.tiles) }
+{
+    let run = usize::from(pattern.side().cells()) + 1 - usize::from(pattern.size());
+    run * usize::from(pattern.width())
+}
+
+/// Fills in the rows of all cells for a run's set of cells, and which slots have a region.
+fn fill_rows(pattern: &Pattern, cells: &[u8], set: u32, set_rows: &mut [u8], kinds: &mut [u8])
     requires run { IsRun pattern.now cells.now }
     requires set { IsMaskOf set (λ c. has cells.now c ≡ true) }
     requires set_rows { AreRowsUpTo pattern.now.side (slot_count pattern.now) cells.now 0 set_rows.old }
-    ensures { AreRowsUpTo pattern.now.side (slot_count pattern.now) cells.now (pattern.now.side * pattern.now.side) set_rows.new }
+    requires kinds { AreKindsUpTo pattern.now.side (slot_count pattern.now) cells.now 0 kinds.old }
+    requires room { length kinds.old ≡ run_length pattern.now.side cells.now * slot_count pattern.now }
+    ensures rows { AreRowsUpTo pattern.now.side (slot_count pattern.now) cells.now (pattern.now.side * pattern.now.side) set_rows.new }
+    ensures kinds { AreKindsUpTo pattern.now.side (slot_count pattern.now) cells.now (pattern.now.side * pattern.now.side) kinds.new }
 {
     let count = pattern.side().cells();
     let width = pattern.width();
@@ -62,40 +84,57 @@ pub(crate) fn fill_rows(pattern: &Pattern, cells: &[u8], set: u32, set_rows: &mu
         if !masks::has_cell(set, last) {
             let placement = unrank(pattern, first + u64::from(free));
             let regions = regions(&placement);
-            fill_column(set_rows, count, last, 1 + free * width, regions.as_slice());
+            let before = free * width;
+            fill_column(set_rows, count, last, 1 + before, regions.as_slice());
+            mark(kinds, usize::from(before), regions.len());
             free += 1;
         }
     }
 }
 
-/// The rows of all cells for a run's set of cells.
-fn rows_of(alloc: Global, pattern: &Pattern, cells: &[u8], set: u32) -> Result<Vec<u8>, AllocError>
-    requires run { IsRun pattern.now cells.now }
-    requires set { IsMaskOf set (λ c. has cells.now c ≡ true) }
-    ensures { IfOk result (λ set_rows. AreRowsUpTo pattern.now.side (slot_count pattern.now) cells.now (pattern.now.side * pattern.now.side) set_rows.items) }
-{
-    let count = usize::from(pattern.side().cells());
-    let mut set_rows = vec![in alloc; 0; count * count]?;
-    fill_rows(pattern, cells, set, set_rows.as_mut_slice());
-    Ok(set_rows)
+/// The rows of all cells for one set of cells, and which slots have a region.
+#[derive(Drop)]
+struct SetRows {
+    rows: Vec<u8>,
+    kinds: Vec<u8>,
 }
 
-/// Puts a run's set of cells and its rows behind those that are there.
+/// The rows of all cells for a run's set of cells, and which slots have a region.
+fn rows_of(alloc: Global, pattern: &Pattern, cells: &[u8], set: u32) -> Result<SetRows, AllocError>
+    requires run { IsRun pattern.now cells.now }
+    requires set { IsMaskOf set (λ c. has cells.now c ≡ true) }
+    ensures rows { IfOk result (λ made. AreRowsUpTo pattern.now.side (slot_count pattern.now) cells.now (pattern.now.side * pattern.now.side) made.rows.items) }
+    ensures kinds { IfOk result (λ made. AreKindsUpTo pattern.now.side (slot_count pattern.now) cells.now (pattern.now.side * pattern.now.side) made.kinds.items) }
+    ensures size { IfOk result (λ made. length made.kinds.items ≡ entries_of_run pattern.now.side (length pattern.now.tiles)) }
+{
+    let count = usize::from(pattern.side().cells());
+    let mut rows = vec![in alloc; 0; count * count]?;
+    let mut kinds = vec![in alloc; 0; entries_of_run(pattern)]?;
+    fill_rows(pattern, cells, set, rows.as_mut_slice(), kinds.as_mut_slice());
+    Ok(SetRows { rows, kinds })
+}
+
+/// Puts a set of cells, its rows and its kinds behind those that are there.
 pub(crate) fn push_set(
     alloc: Global,
     pattern: &Pattern,
-    cells: &[u8],
     set: u32,
     masks: &mut Vec<u32>,
     rows: &mut Vec<u8>,
+    kinds: &mut Vec<u8>,
 ) -> Result<(), AllocError>
-    requires run { IsRun pattern.now cells.now }
-    requires set { IsMaskOf set (λ c. has cells.now c ≡ true) }
+    requires bits { set < 2 ^ (pattern.now.side * pattern.now.side) }
+    requires size { count_ones set + 1 ≡ length pattern.now.tiles }
     requires rows { AreAllRows pattern.now.side (slot_count pattern.now) masks.old.items rows.old.items }
-    ensures { OnOk result (AreAllRows pattern.now.side (slot_count pattern.now) masks.new.items rows.new.items) }
+    requires kinds { AreAllKinds pattern.now.side (slot_count pattern.now) (entries_of_run pattern.now.side (length pattern.now.tiles)) masks.old.items kinds.old.items }
+    ensures rows { OnOk result (AreAllRows pattern.now.side (slot_count pattern.now) masks.new.items rows.new.items) }
+    ensures kinds { OnOk result (AreAllKinds pattern.now.side (slot_count pattern.now) (entries_of_run pattern.now.side (length pattern.now.tiles)) masks.new.items kinds.new.items) }
 {
-    let set_rows = rows_of(alloc, pattern, cells, set)?;
-    rows.extend_from_slice(set_rows.as_slice())?;
+    let _pattern = pattern.side();
+    let cells = masks::numbers_of(set);
+    let made = rows_of(alloc, pattern, cells.as_slice(), set)?;
+    rows.extend_from_slice(made.rows.as_slice())?;
+    kinds.extend_from_slice(made.kinds.as_slice())?;
     masks.push(set)?;
     Ok(())
 }
