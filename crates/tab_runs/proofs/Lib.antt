@@ -4,6 +4,7 @@ pub mod KindLemmas
 pub mod LoopLemmas
 pub mod MaskLemmas
 pub mod MaskRunLemmas
+pub mod PartLemmas
 pub mod RowLemmas
 pub mod RunLemmas
 pub mod RunRanks

@@ -1,5 +1,6 @@
 pub mod Checks
 pub mod Kinds
+pub mod Parts
 pub mod Rows
 pub mod Runs
 pub mod SetRows

@@ -2,6 +2,7 @@
 #![tactic(auto)]
 
 mod beside;
+mod blocks;
 mod checks;
 mod kernels;
 mod masks;
@@ -10,3 +11,6 @@ mod numbers;
 mod rows;
 mod runs;
 mod set_rows;
+
+pub use blocks::check_runs;
+pub use rows::RowTable;

@@ -110,7 +110,13 @@ fn rows_of(alloc: Global, pattern: &Pattern, cells: &[u8], set: u32) -> Result<S
     let count = usize::from(pattern.side().cells());
     let mut rows = vec![in alloc; 0; count * count]?;
     let mut kinds = vec![in alloc; 0; entries_of_run(pattern)]?;
-    fill_rows(pattern, cells, set, rows.as_mut_slice(), kinds.as_mut_slice());
+    fill_rows(
+        pattern,
+        cells,
+        set,
+        rows.as_mut_slice(),
+        kinds.as_mut_slice(),
+    );
     Ok(SetRows { rows, kinds })
 }
 

@@ -136,8 +136,8 @@ loop-last-preserved c =
     elim c.if-not-has_cell.branch [
       | then-not-has_cell w ↦
           let at =
-    at_last p cells c.args.set c.side.result c.cells-count.result c.from.result c.width-width.result c.rank_of.result c.loop-last.last c.loop-last.free w.from-then-not-has_cell.result c.has_cell.result
-    c.requires.set c.side.ensures.side c.cells-count.ensures.value c.from.ensures c.width-width.ensures c.rank_of.ensures c.loop-last-test.true c.has_cell.ensures w.if-not-has_cell.true c.loop-last.invariant.count w.from-then-not-has_cell.ensures in
+          at_last p cells c.args.set c.side.result c.cells-count.result c.from.result c.width-width.result c.rank_of.result c.loop-last.last c.loop-last.free w.from-then-not-has_cell.result c.has_cell.result
+          c.requires.set c.side.ensures.side c.cells-count.ensures.value c.from.ensures c.width-width.ensures c.rank_of.ensures c.loop-last-test.true c.has_cell.ensures w.if-not-has_cell.true c.loop-last.invariant.count w.from-then-not-has_cell.ensures in
           let view = w.unrank-placement.result in
           let regions = w.as_slice.result.now in
           let is = placement_is p pat cells c.requires.run c.rank_of.result at.is_rank last at.free view w.unrank-placement.ensures.pattern w.unrank-placement.ensures.placement (subst (IsRank p.side view.cells) at.number_is w.unrank-placement.ensures.rank) in
