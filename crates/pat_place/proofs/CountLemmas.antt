@@ -8,11 +8,11 @@ use Rattle.pat_place.specs.Ranks.{falling_factorial, placements}
 use Rattle.pat_place.proofs.RankLemmas.{count_of_placements}
 
 -- a test at each number below n
-abbrev holds_below : (ℕ → Bool) → ℕ → Bool
+abbrev pub holds_below : (ℕ → Bool) → ℕ → Bool
 holds_below test zero = true
 holds_below test (suc n) = test n && holds_below test n
 
-holds_at : (test : ℕ → Bool) (n k : ℕ) → holds_below test n ≡ true → k < n → test k ≡ true
+pub holds_at : (test : ℕ → Bool) (n k : ℕ) → holds_below test n ≡ true → k < n → test k ≡ true
 holds_at test zero k all l = absurd (omega arith)
 holds_at test (suc n) k all l =
     let parts = and_parts (test n) (holds_below test n) all in

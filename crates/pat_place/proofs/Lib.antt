@@ -8,9 +8,9 @@ mod MaskOfLemmas
 pub mod PatternLemmas
 pub mod PlacementLemmas
 pub mod RankLemmas
-mod RankSteps
+pub mod RankSteps
 pub mod SlideLemmas
 pub mod SlotLemmas
-mod SlotSteps
+pub mod SlotSteps
 pub mod WidthLemmas
 pub use Rattle.puz_board.proofs.BitLemmas

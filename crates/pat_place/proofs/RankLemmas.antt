@@ -81,7 +81,7 @@ in_flat f (d ∷ cs) c i z h e = elim (has_cases c d cs h) [
   | inr k ↦ let r = in_flat f cs c i z k e in (length (f d) + r.0, get-append_right (f d) (flat_map f cs) r.0 ∙ r.1)
 ]
 
-still_in : (c : ℕ) (p cs : List ℕ) → AllByRecursion (λ x. has cs x ≡ true) p → has p c ≡ false → AllByRecursion (λ x. has (without c cs) x ≡ true) p
+pub still_in : (c : ℕ) (p cs : List ℕ) → AllByRecursion (λ x. has cs x ≡ true) p → has p c ≡ false → AllByRecursion (λ x. has (without c cs) x ≡ true) p
 still_in c [] cs all out = tt
 still_in c (x ∷ p) cs all out = let o = or_parts (eqb x c) (has p c) out in (has-without c x cs all.0 (λ e. eqb-false x c o.0 (sym e)), still_in c p cs all.1 o.1)
 
@@ -248,7 +248,7 @@ pub IsRank-one : (n : ℕ) (cells : List ℕ) (r s : ℕ) → IsRank n cells r �
 unfolding placements
 IsRank-one n cells r s a b = rank_one (length cells) (range_with_len 0 (n * n)) (apart_from_ascending (range_with_len 0 (n * n)) (ascending-range 0 (n * n))) r s cells a b
 
-get-below : {A : Type 0} (xs : List A) (i : ℕ) (x : A) → slice_get xs i ≡ Some x → i < length xs
+pub get-below : {A : Type 0} (xs : List A) (i : ℕ) (x : A) → slice_get xs i ≡ Some x → i < length xs
 get-below [] i x e = cc
 get-below (y ∷ xs) zero x e = omega arith
 get-below (y ∷ xs) (suc i) x e = let l = get-below xs i x e in omega arith
@@ -333,7 +333,7 @@ pub placements_in_order : (n k r s : ℕ) (p q : List ℕ) → slice_get (placem
 unfolding placements
 placements_in_order n k r s p q a b l = lists_in_order k (range_with_len 0 (n * n)) (ascending-range 0 (n * n)) r s p q a b l
 
-in_all : (count : ℕ) (xs : List ℕ) → AllByRecursion (λ x. x < count) xs → AllByRecursion (λ x. has (range_with_len 0 count) x ≡ true) xs
+pub in_all : (count : ℕ) (xs : List ℕ) → AllByRecursion (λ x. x < count) xs → AllByRecursion (λ x. has (range_with_len 0 count) x ≡ true) xs
 in_all count [] all = tt
 in_all count (x ∷ xs) all = (has-range 0 count x (omega arith) (let l = all.0 in omega arith), in_all count xs all.1)
 

@@ -67,7 +67,7 @@ IsRest-start n cells free fits is = record {
   is = (λ c. (λ h. ((is c).0 h, λ l r. omega arith), λ w. (is c).1 w.0));
 }
 
-same_paths : (n : ℕ) (A B : ℕ → Type 0) → ((x : ℕ) → A x → B x) → {c d : ℕ} → Reaches n A c d → Reaches n B c d
+pub same_paths : (n : ℕ) (A B : ℕ → Type 0) → ((x : ℕ) → A x → B x) → {c d : ℕ} → Reaches n A c d → Reaches n B c d
 same_paths n A B to here = here
 same_paths n A B to (onward {d = d} a o r) = onward a (to d o) (same_paths n A B to r)
 

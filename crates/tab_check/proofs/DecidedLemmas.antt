@@ -80,7 +80,7 @@ from_test : (P : Type 0) (b : Bool) → MatchBool b P (P → ⊥) → Decided P
 from_test P true held = inl held
 from_test P false failed = inr failed
 
-one_more_decided : (m e : ℕ) → Decided (((m < 253) × (e ≡ suc m)) ⊎ ((m ≡ 255) × (e ≡ 255)))
+pub one_more_decided : (m e : ℕ) → Decided (((m < 253) × (e ≡ suc m)) ⊎ ((m ≡ 255) × (e ≡ 255)))
 one_more_decided m e = elim (cases_lt m 253) [
   | inl low ↦ elim (cases_eq e (suc m)) [ inl same ↦ inl (inl (omega arith, same)) | inr other ↦ inr (λ h. elim h [ inl x ↦ other x.1 | inr x ↦ (let full : m ≡ 255 = x.0 in omega arith) ]) ]
   | inr high ↦ elim (cases_eq m 255) [

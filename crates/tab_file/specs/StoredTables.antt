@@ -1,6 +1,7 @@
--- How a view of a table is stored: with the number of slots beside the pattern.
+-- How a view of a table is stored: with the number of slots and the bytes of the whole file beside the pattern.
 use Rattle.std.specs.Prelude.{◌≡◌}
 use Rattle.tab_file.specs.declared.views.TableView.TheInside.{Inside}
+use Rattle.tab_file.specs.TableFiles.{IsTableFile}
 use Rattle.tab_file.specs.Tables.{Table, IsTable, slot_count}
 
 abbrev pub table_shown : Inside → Table
@@ -9,3 +10,4 @@ table_shown v = record { pattern = v.pattern; entries = v.entries.now }
 pub record IsStoredTable (v : Inside) : Type 0 where
   pub table : IsTable (table_shown v)
   pub width : v.width ≡ slot_count v.pattern
+  pub file : IsTableFile (table_shown v) v.file.now

@@ -17,6 +17,7 @@ use std::marker::Model;
 pub struct TableView<'a> {
     pattern: Pattern,
     width: usize,
+    file: &'a [u8],
     entries: &'a [u8],
 }
 
@@ -76,6 +77,7 @@ fn read_table(file: &[u8]) -> Result<TableView<'_>, HeadFault>
     Ok(TableView {
         pattern,
         width,
+        file,
         entries,
     })
 }
@@ -87,6 +89,13 @@ impl<'a> TableView<'a> {
         ensures table { IsTable self.now }
     {
         self.pattern
+    }
+
+    /// The bytes of the file: the header, and behind it the entries.
+    pub fn file(&self) -> &'a [u8]
+        ensures { IsTableFile self.now result.now }
+    {
+        self.file
     }
 
     /// The entries, which are all bytes behind the header: rank by rank, and slot by slot for each rank.

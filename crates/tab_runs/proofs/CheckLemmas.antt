@@ -1,0 +1,209 @@
+-- The entries of a run, place by place.
+use Rattle.std.proofs.Common.{◌≡◌, ℕ, suc, ◌+◌, ◌-◌, ◌*◌, ◌/◌, ◌%◌, ◌<◌, ◌≤◌, ◌⊎◌, Bool, true, false, eqb, List, length, get_or, take, drop, inl, inr, refl, sym, ◌∙◌, ap, subst, arith, length-drop}
+use Rattle.std.specs.Prelude.{MatchBool, slice_index}
+use Rattle.std.proofs.lemmas.Bool.{cases_eq, cases_lt, eqb-true, eq-eqb}
+use Rattle.std.proofs.lemmas.List.{get_or-drop, get_or-take, length-take-le}
+use Rattle.std.proofs.lemmas.Nat.{div-add-mod', mod_below}
+use Rattle.std.proofs.Math.Nat.{mul-le-mul_right}
+use Rattle.pat_place.specs.Patterns.{IsPattern}
+use Rattle.pat_place.specs.Placements.{IsFree}
+use Rattle.pat_place.specs.Ranks.{IsRank}
+use Rattle.pat_place.proofs.RankLemmas.{IsRank-one}
+use Rattle.tab_check.specs.BadEntries.{IsBad, KeepsRule}
+use Rattle.tab_check.specs.Entries.{IsNumberOf}
+use Rattle.tab_check.specs.LocalRule.{IsLeastNear, LocalRule}
+use Rattle.tab_check.proofs.BlockLemmas.{same_cells}
+use Rattle.tab_check.proofs.DecidedLemmas.{one_more_decided}
+use Rattle.tab_check.proofs.OneEntryLemmas.{rule_away, rule_goal, rule_no_region}
+use Rattle.tab_file.specs.Tables.{Table, slot_count}
+use Rattle.tab_lanes.specs.LocalRule.{AllKeepRule, IsFirstBad, KeepsRuleAt, KeepsRuleOfKind, goal, never, no_region, one_more}
+use Rattle.tab_runs.specs.Checks.{AreKinds, IsFirstBadPlace, IsKind, RunKeepsRule}
+use Rattle.tab_runs.specs.Runs.{AreRunEntries, IsFirstRank, IsRun, free_below, run_length, with_last}
+use Rattle.tab_runs.specs.Steps.{AreLeastNear}
+use Rattle.tab_runs.proofs.RowLemmas.{parts_one}
+use Rattle.tab_runs.proofs.RunLemmas.{placed_last}
+use Rattle.tab_runs.proofs.RunRanks.{free_at}
+
+-- ---- one entry by its kind
+
+iff_of : (P Q : Type 0) (b : Bool) → MatchBool b P (P → ⊥) → (b ≡ true → Q) → (Q → b ≡ true) → (Q → P) × (P → Q)
+iff_of P Q true holds to back = (λ q. holds, λ p. to refl)
+iff_of P Q false fails to back = (λ q. absurd (let clash : false ≡ true = back q in cc), λ p. absurd (fails p))
+
+-- what the rule by numbers says of an entry of each kind
+of_no_region : (kind least e : ℕ) → kind ≡ 0 → KeepsRuleOfKind kind least e → e ≡ 254
+of_no_region kind least e is (no_region k h) = h
+of_no_region kind least e is (goal k h) = omega arith
+of_no_region kind least e is (one_more k l h) = omega arith
+of_no_region kind least e is (never k l h) = omega arith
+
+of_goal : (kind least e : ℕ) → kind ≡ 1 → KeepsRuleOfKind kind least e → e ≡ 0
+of_goal kind least e is (no_region k h) = omega arith
+of_goal kind least e is (goal k h) = h
+of_goal kind least e is (one_more k l h) = omega arith
+of_goal kind least e is (never k l h) = omega arith
+
+of_other : (kind least e : ℕ) → kind ≡ 2 → KeepsRuleOfKind kind least e → ((least < 253) × (e ≡ suc least)) ⊎ ((least ≡ 255) × (e ≡ 255))
+of_other kind least e is (no_region k h) = absurd (omega arith)
+of_other kind least e is (goal k h) = absurd (omega arith)
+of_other kind least e is (one_more k l h) = inl (l, h)
+of_other kind least e is (never k l h) = inr (l, h)
+
+other_of : (kind least e : ℕ) → kind ≡ 2 → ((least < 253) × (e ≡ suc least)) ⊎ ((least ≡ 255) × (e ≡ 255)) → KeepsRuleOfKind kind least e
+other_of kind least e is (inl h) = one_more is h.0 h.1
+other_of kind least e is (inr h) = never is h.0 h.1
+
+module _ (t : Table) (cells : List ℕ) (j kind least e : ℕ) (near : IsLeastNear t cells j least) where
+  pub rule_by_kind : IsKind t cells j kind → (KeepsRuleOfKind kind least e → LocalRule t cells j e) × (LocalRule t cells j e → KeepsRuleOfKind kind least e)
+  rule_by_kind is = elim is [
+    | inl none ↦ iff_of (LocalRule t cells j e) (KeepsRuleOfKind kind least e) (eqb e 254) (rule_no_region t cells j e none.1)
+        (λ b. no_region none.0 (eqb-true e 254 b))
+        (λ q. eq-eqb e 254 (of_no_region kind least e none.0 q))
+    | inr some ↦ elim some [
+      | inl home ↦ iff_of (LocalRule t cells j e) (KeepsRuleOfKind kind least e) (eqb e 0) (rule_goal t cells j e home.1 home.2)
+          (λ b. goal home.0 (eqb-true e 0 b))
+          (λ q. eq-eqb e 0 (of_goal kind least e home.0 q))
+      | inr far ↦ elim (one_more_decided least e) [
+        | inl held ↦ (λ q. rule_away t cells j e far.1 far.2 least near true (λ b. held, λ h. refl), λ p. other_of kind least e far.0 held)
+        | inr failed ↦ (
+          λ q. absurd (failed (of_other kind least e far.0 q)),
+          λ p. absurd (rule_away t cells j e far.1 far.2 least near false (λ b. absurd (let clash : false ≡ true = b in cc), λ h. absurd (failed h)) p),
+        )
+      ]
+    ]
+  ]
+
+-- the entry of a place, counted from 0, keeps the rule by numbers
+abbrev KeepsAt : List ℕ → List ℕ → List ℕ → ℕ → Type 0
+KeepsAt own mins kinds place = KeepsRuleOfKind (slice_index kinds place) (slice_index mins (1 + place)) (slice_index own (1 + place))
+
+-- ---- one place
+
+split : (x w : ℕ) → 0 < w → x ≡ x / w * w + x % w
+split x w some = let e = div-add-mod' x w in omega arith
+
+quotient : (x w m : ℕ) → 0 < w → x < m * w → x / w < m
+quotient x w m some l = elim (cases_lt (x / w) m) [ inl k ↦ k | inr k ↦ absurd (let h : m * w ≤ x / w * w = mul-le-mul_right w k in let e = split x w some in omega arith) ]
+
+same_rule : {k l e k2 l2 e2 : ℕ} → k ≡ k2 → l ≡ l2 → e ≡ e2 → KeepsRuleOfKind k l e → KeepsRuleOfKind k2 l2 e2
+same_rule {k} {l} {e} {k2} {l2} {e2} a b c h = subst (λ x. KeepsRuleOfKind x l2 e2) a (subst (λ x. KeepsRuleOfKind k x e2) b (subst (KeepsRuleOfKind k l) c h))
+
+module _ (t : Table) (pat : IsPattern t.pattern) (p : List ℕ) (run : IsRun t.pattern p) (own mins kinds : List ℕ) (entries : AreRunEntries t p own) (least : AreLeastNear t p mins) (are : AreKinds t p kinds) where
+  -- the last tile's cell and the slot of a place
+  record IsAt (place : ℕ) : Type 0 where
+    cell : ℕ
+    slot : ℕ
+    free : IsFree t.pattern.side p cell
+    low : slot < slot_count t.pattern
+    counted : place ≡ free_below p cell * slot_count t.pattern + slot
+
+  at_place : (place : ℕ) → place < run_length t.pattern.side p * slot_count t.pattern → IsAt place
+  at_place place l =
+      let some : 0 < slot_count t.pattern = elim (cases_eq (slot_count t.pattern) 0) [ inl z ↦ absurd (let none : run_length t.pattern.side p * slot_count t.pattern ≡ run_length t.pattern.side p * 0 = ap (λ w. run_length t.pattern.side p * w) z in omega arith) | inr ne ↦ omega arith ] in
+      let c = free_at t.pattern.side p run.inside run.apart (place / slot_count t.pattern) (quotient place (slot_count t.pattern) (run_length t.pattern.side p) some l) in
+      record {
+        cell = c.0;
+        slot = place % slot_count t.pattern;
+        free = c.1;
+        low = mod_below place (slot_count t.pattern) some;
+        counted = split place (slot_count t.pattern) some ∙ ap (λ k. k * slot_count t.pattern + place % slot_count t.pattern) (sym c.2);
+      }
+
+  number_is : (first : ℕ) → IsFirstRank t.pattern.side p first → (place : ℕ) → (a : IsAt place) → IsNumberOf t.pattern (with_last p a.cell) a.slot (first * slot_count t.pattern + place)
+  number_is first is_first place a = record {
+    placement = placed_last t.pattern p a.cell run a.free;
+    rank = first + free_below p a.cell;
+    is_rank = is_first.each a.cell a.free;
+    slot = a.low;
+    counted = ap (λ k. first * slot_count t.pattern + k) a.counted ∙ (omega arith);
+  }
+
+  -- the entry of its number is the byte of its place
+  entry_is : (first : ℕ) → IsFirstRank t.pattern.side p first → (place : ℕ) → (a : IsAt place) → slice_index t.entries (first * slot_count t.pattern + place) ≡ get_or own (1 + place) 0
+  entry_is first is_first place a =
+      let same : first + free_below p a.cell ≡ entries.first + free_below p a.cell = IsRank-one t.pattern.side (with_last p a.cell) (first + free_below p a.cell) (entries.first + free_below p a.cell)
+      (is_first.each a.cell a.free) (entries.is_first.each a.cell a.free) in
+      let number : first * slot_count t.pattern + (free_below p a.cell * slot_count t.pattern + a.slot) ≡ (first + free_below p a.cell) * slot_count t.pattern + a.slot = omega arith in
+      let at : 1 + free_below p a.cell * slot_count t.pattern + a.slot ≡ 1 + place = (let c = a.counted in omega arith) in
+      ap (slice_index t.entries) (ap (λ k. first * slot_count t.pattern + k) a.counted ∙ number ∙ ap (λ r. r * slot_count t.pattern + a.slot) same) ∙
+      sym (entries.each a.cell a.slot a.free a.low) ∙
+      ap (λ i. get_or own i 0) at
+
+  rule_at : (first : ℕ) → IsFirstRank t.pattern.side p first → (place : ℕ) → (a : IsAt place)
+      → (KeepsAt own mins kinds place → LocalRule t (with_last p a.cell) a.slot (slice_index t.entries (first * slot_count t.pattern + place)))
+      × (LocalRule t (with_last p a.cell) a.slot (slice_index t.entries (first * slot_count t.pattern + place)) → KeepsAt own mins kinds place)
+  rule_at first is_first place a =
+      let e = entry_is first is_first place a in
+      let at : 1 + free_below p a.cell * slot_count t.pattern + a.slot ≡ 1 + place = (let c = a.counted in omega arith) in
+      let near : IsLeastNear t (with_last p a.cell) a.slot (get_or mins (1 + place) 0) = subst (λ i. IsLeastNear t (with_last p a.cell) a.slot (get_or mins i 0)) at (least a.cell a.slot a.free a.low) in
+      let kind : IsKind t (with_last p a.cell) a.slot (get_or kinds place 0) = subst (λ i. IsKind t (with_last p a.cell) a.slot (get_or kinds i 0)) (sym a.counted) (are a.cell a.slot a.free a.low) in
+      let both = rule_by_kind t (with_last p a.cell) a.slot (get_or kinds place 0) (get_or mins (1 + place) 0) (get_or own (1 + place) 0) near kind in
+      (λ k. subst (LocalRule t (with_last p a.cell) a.slot) (sym e) (both.0 k), λ r. both.1 (subst (LocalRule t (with_last p a.cell) a.slot) e r))
+
+  pub keeps_at : (place : ℕ) → place < run_length t.pattern.side p * slot_count t.pattern → KeepsAt own mins kinds place → (first : ℕ) → IsFirstRank t.pattern.side p first → KeepsRule t (first * slot_count t.pattern + place)
+  keeps_at place l keeps first is_first cells j is =
+      let a = at_place place l in
+      let here = number_is first is_first place a in
+      let parts = parts_one is.rank here.rank (slot_count t.pattern) j a.slot is.slot a.low (sym is.counted ∙ here.counted) in
+      let one : with_last p a.cell ≡ cells = same_cells t.pattern.side (with_last p a.cell) cells is.rank (here.placement.size ∙ sym is.placement.size) (subst (IsRank t.pattern.side (with_last p a.cell)) (sym parts.0) here.is_rank) is.is_rank in
+      subst (λ i. LocalRule t cells i (slice_index t.entries (first * slot_count t.pattern + place))) (sym parts.1)
+      (subst (λ q. LocalRule t q a.slot (slice_index t.entries (first * slot_count t.pattern + place))) one ((rule_at first is_first place a).0 keeps))
+
+  pub bad_at : (place : ℕ) → place < run_length t.pattern.side p * slot_count t.pattern → ¬ KeepsAt own mins kinds place → (first : ℕ) → IsFirstRank t.pattern.side p first → IsBad t (first * slot_count t.pattern + place)
+  bad_at place l breaks first is_first =
+      let a = at_place place l in
+      record {
+        cells = with_last p a.cell;
+        slot = a.slot;
+        is_number = number_is first is_first place a;
+        breaks = λ r. breaks ((rule_at first is_first place a).1 r);
+      }
+
+  -- ---- from one place up to another
+
+  module _ (low high : ℕ) (order : low ≤ high) (room : high ≤ run_length t.pattern.side p * slot_count t.pattern) where
+    abbrev part_own : List ℕ
+    part_own = take (1 + high - (1 + low)) (drop (1 + low) own)
+
+    abbrev part_mins : List ℕ
+    part_mins = take (1 + high - (1 + low)) (drop (1 + low) mins)
+
+    abbrev part_kinds : List ℕ
+    part_kinds = take (high - low) (drop low kinds)
+
+    part_size : length (take (1 + high - (1 + low)) (drop (1 + low) own)) ≡ high - low
+    part_size = length-take-le (1 + high - (1 + low)) (drop (1 + low) own) (let e = entries.size in let d = length-drop (1 + low) own in omega arith) ∙ (let e : 1 + high - (1 + low) ≡ high - low = omega arith in e)
+
+    part_at : (bytes : List ℕ) (len from i : ℕ) → i < len → get_or (take len (drop from bytes)) i 0 ≡ get_or bytes (from + i) 0
+    part_at bytes len from i l = get_or-take len (drop from bytes) i 0 l ∙ get_or-drop from bytes i 0
+
+    at_one : (bytes : List ℕ) (i : ℕ) → i < high - low → get_or (take (1 + high - (1 + low)) (drop (1 + low) bytes)) i 0 ≡ get_or bytes (1 + (low + i)) 0
+    at_one bytes i l = part_at bytes (1 + high - (1 + low)) (1 + low) i (omega arith) ∙ ap (λ k. get_or bytes k 0) (let e : 1 + low + i ≡ 1 + (low + i) = omega arith in e)
+
+    to_at : (i : ℕ) → i < high - low → KeepsRuleAt part_own part_mins part_kinds i → KeepsAt own mins kinds (low + i)
+    to_at i l h = same_rule (part_at kinds (high - low) low i l) (at_one mins i l) (at_one own i l) h
+
+    from_at : (i : ℕ) → i < high - low → KeepsAt own mins kinds (low + i) → KeepsRuleAt part_own part_mins part_kinds i
+    from_at i l h = same_rule (sym (part_at kinds (high - low) low i l)) (sym (at_one mins i l)) (sym (at_one own i l)) h
+
+    pub run_keeps : AllKeepRule (take (1 + high - (1 + low)) (drop (1 + low) own)) (take (1 + high - (1 + low)) (drop (1 + low) mins)) (take (high - low) (drop low kinds)) → RunKeepsRule t p low high
+    run_keeps all first is_first place from to =
+        let i : ℕ = place - low in
+        let l : i < high - low = omega arith in
+        let at : low + i ≡ place = omega arith in
+        let here : KeepsAt own mins kinds (low + i) = to_at i l (all i (omega arith) (let s = part_size in omega arith)) in
+        subst (λ k. KeepsRule t (first * slot_count t.pattern + k)) at (keeps_at (low + i) (omega arith) here first is_first)
+
+    pub run_bad : (i : ℕ) → IsFirstBad (take (1 + high - (1 + low)) (drop (1 + low) own)) (take (1 + high - (1 + low)) (drop (1 + low) mins)) (take (high - low) (drop low kinds)) i → IsFirstBadPlace t p low high (low + i)
+    run_bad i is =
+        let l : i < high - low = (let s = part_size in let k = is.there in omega arith) in
+        record {
+          from = omega arith;
+          to = omega arith;
+          bad = bad_at (low + i) (omega arith) (λ keeps. is.bad (from_at i l keeps));
+          before = λ first is_first place from to.
+              let k : ℕ = place - low in
+              let m : k < high - low = omega arith in
+              let at : low + k ≡ place = omega arith in
+              subst (λ x. KeepsRule t (first * slot_count t.pattern + x)) at (keeps_at (low + k) (omega arith) (to_at k m (is.before k (omega arith) (omega arith))) first is_first);
+        }

@@ -1,0 +1,17 @@
+pub mod CheckLemmas
+pub mod EntriesLemmas
+pub mod KindLemmas
+pub mod LoopLemmas
+pub mod MaskLemmas
+pub mod MaskRunLemmas
+pub mod PartLemmas
+pub mod RowLemmas
+pub mod RunLemmas
+pub mod RunRanks
+pub mod SetLemmas
+pub mod SetRowLemmas
+pub mod StepLemmas
+pub mod TableLemmas
+pub mod TableRowLemmas
+pub mod TakenLemmas
+pub mod TileLemmas

@@ -1,0 +1,106 @@
+-- Rows depend on the set of cells alone, and their places are different.
+use Rattle.std.proofs.Common.{◌≡◌, ℕ, zero, suc, ◌+◌, ◌-◌, ◌*◌, ◌<◌, ◌≤◌, Bool, true, not, List, length, filter, get_or, inl, inr, refl, sym, ◌∙◌, ap, subst, arith, ltb, ltb-true}
+use Rattle.std.specs.Prelude.{◌&&◌}
+use Rattle.std.specs.List.{AllByRecursion, range_with_len}
+use Rattle.std.proofs.lemmas.Bool.{cases_eq, cases_lt, and_parts}
+use Rattle.std.proofs.Math.Nat.{mul-le-mul_right}
+use Rattle.puz_board.proofs.CellLemmas.{by_side}
+use Rattle.pat_place.specs.Patterns.{IsPattern, PatternView, most_tiles, width}
+use Rattle.pat_place.specs.Placements.{IsApart, IsFree}
+use Rattle.pat_place.specs.Regions.{IsSlot}
+use Rattle.pat_place.proofs.CountLemmas.{holds_at}
+use Rattle.pat_place.proofs.SlotLemmas.{slot_some}
+use Rattle.pat_place.proofs.WidthLemmas.{slot_within}
+use Rattle.tab_file.specs.Tables.{slot_count}
+use Rattle.tab_runs.specs.Rows.{IsOpen, IsRow, place_of}
+use Rattle.tab_runs.specs.Runs.{IsRun, SameCells, free_below, run_length, with_last}
+use Rattle.tab_runs.proofs.RunLemmas.{open_decided, open_free, placed_last, same_with_last}
+use Rattle.tab_runs.proofs.RunRanks.{free_below-low, free_below-one}
+use Rattle.tab_runs.proofs.SetLemmas.{free_same, same_back, slot_same}
+
+-- ---- the order of the cells is all the same
+
+pub free_below-same : (p q : List ℕ) → SameCells p q → (c : ℕ) → free_below p c ≡ free_below q c
+unfolding free_below
+free_below-same p q same c = λ i. length (filter (λ d. not (same d i)) (range_with_len 0 c))
+
+open_same : (n : ℕ) (p q : List ℕ) → SameCells p q → (x c : ℕ) → IsOpen n p x c → IsOpen n q x c
+open_same n p q same x c o = record { last = free_same n p q same c o.last; cell = free_same n p q same x o.cell; other = o.other }
+
+pub row_same : (n w : ℕ) (p q : List ℕ) → SameCells p q → (x : ℕ) (row : List ℕ) → IsRow n w p x row → IsRow n w q x row
+row_same n w p q same x row is = record {
+  size = is.size;
+  place = λ c j o s.
+      is.place c j (open_same n q p (same_back p q same) x c o) (slot_same n (with_last q c) (with_last p c) (same_with_last q p c (same_back p q same)) x j s) ∙
+      ap (λ k. 1 + k * w + j) (free_below-same p q same c);
+  none = λ c l closed. is.none c l (λ o. closed (open_same n p q same x c o));
+}
+
+-- ---- places are different
+
+above : (a b w j k : ℕ) → j < w → k < w → a < b → a * w + j ≡ b * w + k → ⊥
+above a b w j k l m less e = let h : (a + 1) * w ≤ b * w = mul-le-mul_right w (let s : a + 1 ≤ b = omega arith in s) in omega arith
+
+pub parts_one : (a b w j k : ℕ) → j < w → k < w → a * w + j ≡ b * w + k → (a ≡ b) × (j ≡ k)
+parts_one a b w j k l m e = elim (cases_eq a b) [
+  | inl same ↦ (same, let h : a * w ≡ b * w = ap (λ x. x * w) same in omega arith)
+  | inr ne ↦ elim (cases_lt a b) [
+    | inl less ↦ absurd (above a b w j k l m less e)
+    | inr more ↦ absurd (above b a w k j m l (omega arith) (sym e))
+  ]
+]
+
+pub place_one : (n w : ℕ) (p : List ℕ) (c d j k : ℕ) → j < w → k < w → IsFree n p c → IsFree n p d → place_of w p c j ≡ place_of w p d k → (c ≡ d) × (j ≡ k)
+place_one n w p c d j k l m free also e =
+    let parts = parts_one (free_below p c) (free_below p d) w j k l m (omega arith) in
+    (free_below-one n p c d free also parts.0, parts.1)
+
+pub place_low : (n w : ℕ) (p : List ℕ) (c j : ℕ) → AllByRecursion (λ x. x < n * n) p → IsApart p → IsFree n p c → j < w → place_of w p c j < 1 + run_length n p * w
+place_low n w p c j inside apart free l =
+    let low = free_below-low n p c inside apart free in
+    let h : (free_below p c + 1) * w ≤ run_length n p * w = mul-le-mul_right w (let s : free_below p c + 1 ≤ run_length n p = omega arith in s) in
+    omega arith
+
+-- ---- a run has at most 140 entries
+
+abbrev test : ℕ → ℕ → Bool
+test n k = ltb ((n * n - k) * width n (k + 1)) 141
+
+at_side : (n : ℕ) → 2 ≤ n → n ≤ 5 → (k : ℕ) → k + 1 ≤ most_tiles n → test n k ≡ true
+at_side = by_side (λ n. (k : ℕ) → k + 1 ≤ most_tiles n → test n k ≡ true)
+    (λ k l. holds_at (test 2) 3 k refl (omega arith))
+    (λ k l. holds_at (test 3) 8 k refl (omega arith))
+    (λ k l. holds_at (test 4) 8 k refl (omega arith))
+    (λ k l. holds_at (test 5) 6 k refl (omega arith))
+
+pub few_entries : (p : PatternView) → IsPattern p → (cells : List ℕ) → IsRun p cells → run_length p.side cells * slot_count p ≤ 140
+few_entries p pat cells run =
+    let small = ltb-true ((p.side * p.side - length cells) * width p.side (length cells + 1)) 141 (at_side p.side pat.low pat.high (length cells) (let m = pat.most in let s = run.size in omega arith)) in
+    let e : run_length p.side cells * width p.side (length cells + 1) ≡ run_length p.side cells * slot_count p = ap (λ k. run_length p.side cells * width p.side k) run.size in
+    omega arith
+
+-- ---- what a row holds
+
+module _ (p : PatternView) (pat : IsPattern p) (cells : List ℕ) (run : IsRun p cells) where
+  pub slot_low : (c x j : ℕ) → IsFree p.side cells c → IsSlot p.side (with_last cells c) x j → j < slot_count p
+  slot_low c x j free is =
+      let place = placed_last p cells c run free in
+      subst (λ k. j < width p.side k) place.size (slot_within p.side pat.low pat.high (with_last cells c) x j place.inside place.apart is)
+
+  pub slot_of_open : (x c : ℕ) → IsOpen p.side cells x c → (j : ℕ) × IsSlot p.side (with_last cells c) x j
+  slot_of_open x c o = slot_some p.side pat.low pat.high (with_last cells c) x (open_free p.side cells x c o)
+
+  module _ (x : ℕ) (row : List ℕ) (is : IsRow p.side (slot_count p) cells x row) where
+    -- at a place but 0 the cells are open
+    pub row_open : (c : ℕ) → c < p.side * p.side → 0 < get_or row c 0 → IsOpen p.side cells x c
+    row_open c l some = elim (open_decided p.side cells x c) [ inl o ↦ o | inr none ↦ absurd (let z = is.none c l none in omega arith) ]
+
+    pub row_low : (c : ℕ) → c < p.side * p.side → get_or row c 0 < 1 + run_length p.side cells * slot_count p
+    row_low c l = elim (open_decided p.side cells x c) [
+      | inr none ↦ (let z = is.none c l none in omega arith)
+      | inl o ↦
+          let j = slot_of_open x c o in
+          let e = is.place c j.0 o j.1 in
+          let low = place_low p.side (slot_count p) cells c j.0 run.inside run.apart o.last (slot_low c x j.0 o.last j.1) in
+          omega arith
+    ]

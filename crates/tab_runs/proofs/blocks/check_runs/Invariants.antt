@@ -1,0 +1,14 @@
+use Rattle.std.proofs.Common.{◌-◌, ◌*◌, ◌≤◌}
+use Rattle.tab_file.specs.Tables.{slot_count}
+use Rattle.tab_check.specs.Blocks.{first_of_block}
+use Rattle.tab_runs.specs.Parts.{EntriesKeepRule}
+use Rattle.tab_runs.proofs.blocks.check_runs.Given as goal
+
+abbrev pub invariant-runs : goal.invariant-runs
+invariant-runs l = record {
+  begun : l.block * 256 ≤ l.from;
+  kept : EntriesKeepRule l.table (first_of_block l.table.pattern l.block) (l.from * slot_count l.table.pattern);
+}
+
+abbrev pub decreases-runs : goal.decreases-runs
+decreases-runs l = l.end - l.from

@@ -1,0 +1,38 @@
+use Rattle.std.proofs.Common.{◌≡◌, ◌*◌, ◌-◌, ◌^◌, sym, ◌∙◌, ap, ap₂, subst, arith}
+use Rattle.std.specs.Prelude.{bit_and}
+use Rattle.std.specs.Int.{bit_at}
+use Rattle.puz_board.specs.Masks.{IsMaskOf}
+use Rattle.pat_place.specs.Placements.{IsFree}
+use Rattle.puz_board.proofs.BitLemmas.{in_below}
+use Rattle.puz_board.proofs.CellLemmas.{few_cells}
+use Rattle.pat_place.proofs.SlotSteps.{free_is}
+use Rattle.tab_runs.proofs.LoopLemmas.{left_all, left_more, left_start, was_in}
+use Rattle.tab_runs.proofs.near.take_lasts.Goals as goal
+
+pub left-init : goal.left-init
+left-init c =
+    let t = c.args.table.now in
+    let pat = c.pattern.ensures.table.pattern in
+    let side : c.side.result ≡ t.pattern.side = c.side.ensures.side ∙ ap (λ q. q.side) c.pattern.ensures.pattern in
+    let cells : c.cells.result ≡ t.pattern.side * t.pattern.side = c.cells.ensures.value ∙ ap₂ (λ m n. m * n) side side in
+    let few = few_cells t.pattern.side pat.low pat.high in
+    left_start t pat c.args.cells.now c.args.mins.now _
+    (subst (λ all. IsMaskOf (bit_and all (2 ^ 32 - 1 - c.args.set)) (IsFree t.pattern.side c.args.cells.now)) (sym c.all_below.ensures)
+    (free_is t.pattern.side c.args.set c.args.cells.now c.cells.result cells (omega arith) c.ranges.set.fits c.requires.set))
+
+pub take_beside-requires-clause-others : goal.take_beside-requires-clause-others
+take_beside-requires-clause-others c x h = (
+  c.left.invariant.some x (was_in c.left.left c.first_of-a.result c.without-left.result x
+      (record { was = c.first_of-a.ensures.here; bits = c.without-left.type_inv; here = c.without-left.ensures.here; others = c.without-left.ensures.others })
+      (in_below c.without-left.result 32 x c.without-left.type_inv h) h),
+  λ e. (let z : bit_at c.without-left.result x ≡ 0 = ap (bit_at c.without-left.result) e ∙ c.without-left.ensures.here in omega arith),
+)
+
+pub left-preserved : goal.left-preserved
+left-preserved c =
+    left_more c.args.table.now c.pattern.ensures.table.pattern c.args.cells.now c.args.mins.now c.left.mins c.take_beside.new.mins c.left.left c.first_of-a.result c.without-left.result c.left.invariant
+    (record { was = c.first_of-a.ensures.here; bits = c.without-left.type_inv; here = c.without-left.ensures.here; others = c.without-left.ensures.others })
+    c.if-not-take_beside.ensures
+
+pub returns : goal.returns
+returns c = left_all c.args.table.now c.pattern.ensures.table.pattern c.args.cells.now c.args.mins.now c.left.mins c.left.left c.left.invariant c.left-test.false

@@ -1,0 +1,13 @@
+use Rattle.std.proofs.Common.{◌≡◌, ◌*◌, length}
+use Rattle.tab_file.specs.Tables.{slot_count}
+use Rattle.tab_runs.specs.Kinds.{AreKindsUpTo}
+use Rattle.tab_runs.specs.Runs.{free_below, run_length}
+use Rattle.tab_runs.specs.SetRows.{AreRowsUpTo}
+use Rattle.tab_runs.proofs.set_rows.fill_rows.Given as goal
+
+abbrev pub invariant-loop-last : goal.invariant-loop-last
+invariant-loop-last l = record {
+  rows : AreRowsUpTo l.pattern.side (slot_count l.pattern) l.cells l.last l.set_rows;
+  kinds : AreKindsUpTo l.pattern.side (slot_count l.pattern) l.cells l.last l.kinds;
+  count : l.free ≡ free_below l.cells l.last;
+}

@@ -1,0 +1,49 @@
+use Rattle.std.proofs.Common.{◌≡◌, true, ◌++◌, ◌∷◌, [], length, sym, ◌∙◌, ap, subst}
+use Rattle.puz_board.specs.Masks.{IsMaskOf, numbers_of}
+use Rattle.pat_place.specs.Patterns.{has}
+use Rattle.tab_file.specs.Tables.{slot_count}
+use Rattle.tab_runs.specs.Runs.{IsRun}
+use Rattle.tab_runs.specs.StoredRows.{AreAllKinds, AreAllRows, entries_of_run}
+use Rattle.tab_runs.proofs.KindLemmas.{kinds_all, kinds_push}
+use Rattle.tab_runs.proofs.MaskRunLemmas.{few_numbers, mask_of_numbers, run_of_mask}
+use Rattle.tab_runs.proofs.TableLemmas.{rows_more}
+use Rattle.tab_runs.proofs.set_rows.push_set.Goals as goal
+
+pub numbers_of-cells-requires : goal.numbers_of-cells-requires
+numbers_of-cells-requires c = few_numbers c.args.pattern.now c.side-pattern.ensures.pattern c.args.set c.requires.bits c.requires.size
+
+pub rows_of-requires-clause-run : goal.rows_of-requires-clause-run
+rows_of-requires-clause-run c = subst (IsRun c.args.pattern.now) (sym (c.as_slice.ensures.value ∙ c.numbers_of-cells.ensures)) (run_of_mask c.args.pattern.now c.side-pattern.ensures.pattern c.args.set c.requires.bits c.requires.size)
+
+pub rows_of-requires-clause-set : goal.rows_of-requires-clause-set
+rows_of-requires-clause-set c =
+    subst (λ q. IsMaskOf c.args.set (λ x. has q x ≡ true)) (sym (c.as_slice.ensures.value ∙ c.numbers_of-cells.ensures)) (mask_of_numbers c.args.pattern.now c.side-pattern.ensures.pattern c.args.set c.requires.bits c.requires.size)
+
+pub returns-clause-rows : goal.returns-clause-rows
+returns-clause-rows c =
+    let p = c.args.pattern.now in
+    let masks = c.args.masks.now.items in
+    let rows = c.args.rows.now.items in
+    let cells = c.as_slice.result.now in
+    let made = c.in_ok-made.made in
+    let is : IsMaskOf c.args.set (λ x. has cells x ≡ true) =
+    subst (λ q. IsMaskOf c.args.set (λ x. has q x ≡ true)) (sym (c.as_slice.ensures.value ∙ c.numbers_of-cells.ensures)) (mask_of_numbers p c.side-pattern.ensures.pattern c.args.set c.requires.bits c.requires.size) in
+    let put : c.extend_from_slice.new.self.items ≡ rows ++ made.rows.items = c.in_ok-extend_from_slice.ensures.items ∙ ap (λ b. rows ++ b) c.as_slice-2.ensures.value in
+    subst (λ m. AreAllRows p.side (slot_count p) m c.extend_from_slice.new.self.items) (sym c.in_ok-push.ensures.items)
+    (subst (AreAllRows p.side (slot_count p) (masks ++ c.args.set ∷ [])) (sym put)
+    (rows_more p.side (slot_count p) masks rows cells made.rows.items c.args.set c.requires.rows is c.in_ok-made.ensures.rows))
+
+pub returns-clause-kinds : goal.returns-clause-kinds
+returns-clause-kinds c =
+    let p = c.args.pattern.now in
+    let masks = c.args.masks.now.items in
+    let kinds = c.args.kinds.now.items in
+    let cells = c.as_slice.result.now in
+    let made = c.in_ok-made.made in
+    let is : IsMaskOf c.args.set (λ x. has cells x ≡ true) =
+    subst (λ q. IsMaskOf c.args.set (λ x. has q x ≡ true)) (sym (c.as_slice.ensures.value ∙ c.numbers_of-cells.ensures)) (mask_of_numbers p c.side-pattern.ensures.pattern c.args.set c.requires.bits c.requires.size) in
+    let put : c.extend_from_slice-2.new.self.items ≡ kinds ++ made.kinds.items = c.in_ok-extend_from_slice-2.ensures.items ∙ ap (λ b. kinds ++ b) c.as_slice-3.ensures.value in
+    subst (λ m. AreAllKinds p.side (slot_count p) (entries_of_run p.side (length p.tiles)) m c.extend_from_slice-2.new.self.items) (sym c.in_ok-push.ensures.items)
+    (subst (AreAllKinds p.side (slot_count p) (entries_of_run p.side (length p.tiles)) (masks ++ c.args.set ∷ [])) (sym put)
+    (kinds_push p.side (slot_count p) (entries_of_run p.side (length p.tiles)) masks kinds cells made.kinds.items c.args.set c.requires.kinds is
+    (kinds_all p.side (slot_count p) cells made.kinds.items c.in_ok-made.ensures.kinds) c.in_ok-made.ensures.size))

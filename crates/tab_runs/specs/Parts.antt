@@ -1,0 +1,24 @@
+-- Parts of a table: the entries from one number up to another.
+use Rattle.std.specs.Prelude.{ℕ, ◌<◌, ◌≤◌}
+use Rattle.pat_place.specs.Patterns.{PatternView}
+use Rattle.pat_place.specs.Regions.{IsSlot}
+use Rattle.tab_check.specs.BadEntries.{IsBad, KeepsRule}
+use Rattle.tab_check.specs.Entries.{IsNumberOf}
+use Rattle.tab_file.specs.Tables.{Table}
+
+-- each of them keeps the rule
+abbrev pub EntriesKeepRule : Table → ℕ → ℕ → Type 0
+EntriesKeepRule t low high = (number : ℕ) → low ≤ number → number < high → KeepsRule t number
+
+-- the entry with this number is the first of them that is bad
+pub record IsFirstBadEntry (t : Table) (low high number : ℕ) : Type 0 where
+  pub from : low ≤ number
+  pub to : number < high
+  pub bad : IsBad t number
+  pub before : EntriesKeepRule t low number
+
+-- the number of the entry of the goal's placement and of the region that has cell 0
+pub record IsGoalNumber (p : PatternView) (number : ℕ) : Type 0 where
+  pub slot : ℕ
+  pub in_slot : IsSlot p.side p.tiles 0 slot
+  pub is_number : IsNumberOf p p.tiles slot number

@@ -1,0 +1,33 @@
+//! The cells beside a cell, as a mask.
+
+ghost use Rattle.std.specs.Prelude.{◌≡◌, ℕ, ◌*◌, ◌<◌, ◌⊎◌, ◌↔◌, Some};
+ghost use Rattle.std.specs.Int.{bit_at};
+ghost use Rattle.puz_board.specs.Masks.{IsMaskOf};
+ghost use Rattle.puz_board.specs.Cells.{Adjacent, step_of};
+
+use crate::masks;
+use puz_board::{Move, Side, step};
+
+/// The mask, and the cell to which a move leads.
+#[inline]
+fn with_step(mask: u32, side: Side, cell: u8, mv: Move) -> u32
+    requires { cell < side * side }
+    ensures { (x : ℕ) → (bit_at result x ≡ 1) ↔ ((bit_at mask x ≡ 1) ⊎ (step_of side cell mv ≡ Some x)) }
+{
+    match step(side, cell, mv) {
+        Some(to) => masks::with(mask, to),
+        None => mask,
+    }
+}
+
+/// The cells beside a cell.
+pub(crate) fn beside(side: Side, cell: u8) -> u32
+    requires { cell < side * side }
+    ensures { IsMaskOf result (Adjacent side cell) }
+{
+    let _n = side.get();
+    let up = with_step(0, side, cell, Move::Up);
+    let down = with_step(up, side, cell, Move::Down);
+    let left = with_step(down, side, cell, Move::Left);
+    with_step(left, side, cell, Move::Right)
+}

@@ -1,0 +1,154 @@
+//! The check of a block of a table, run by run.
+
+ghost use Rattle.std.specs.Prelude.{◌≡◌, ◌≢◌, ℕ, ◌+◌, ◌-◌, ◌*◌, ◌%◌, ◌<◌, ◌≤◌, true, IfOk, MatchOption, length, slice_index};
+ghost use Rattle.puz_board.specs.Masks.{IsMaskOf};
+ghost use Rattle.pat_place.specs.Patterns.{has};
+ghost use Rattle.tab_check.specs.Blocks.{BlockKeepsRule, IsLeastBadIn, block_count};
+ghost use Rattle.tab_file.specs.Tables.{placement_count, slot_count};
+ghost use Rattle.tab_lanes.specs.LocalRule.{goal_slot};
+ghost use Rattle.tab_runs.specs.Parts.{EntriesKeepRule, IsFirstBadEntry, IsGoalNumber};
+ghost use Rattle.tab_runs.specs.Runs.{IsFirstRank, IsRun, run_length};
+ghost use Rattle.tab_runs.specs.StoredRows.{rows_for};
+
+use crate::checks::first_bad;
+use crate::masks;
+use crate::near::least_near;
+use crate::rows::RowTable;
+use crate::runs::run_entries;
+use pat_place::{Pattern, Placement, rank, slot_of, unrank};
+use tab_check::check_block;
+use tab_file::TableView;
+use tab_lanes::{GOAL_SLOT, WITHOUT_REGION};
+
+/// How many placements a block has.
+const BLOCK_RANKS: u64 = 256;
+
+/// The table of rows doesn't have a set of cells.
+#[derive(Clone, Copy)]
+struct MissingRow;
+
+/// The number of a block's least entry that breaks the local rule, as `tab_check::check_block` answers it. The rows are
+/// those of the table's side and number of tiles; where they lack a set, the block is checked without them.
+pub fn check_runs(table: &TableView<'_>, rows: &RowTable, block: u64) -> Option<u64>
+    requires block { block < block_count table.now.pattern }
+    requires rows { rows.now ≡ rows_for table.now.pattern }
+    ensures { MatchOption result (BlockKeepsRule table.now block) (IsLeastBadIn table.now block) }
+{
+    let pattern = table.pattern();
+    let run = placements_of_run(&pattern);
+    let goal = goal_number(&pattern);
+    let first = block * BLOCK_RANKS;
+    let end = pattern.count().min(first + BLOCK_RANKS);
+    let mut from = first;
+    'runs: while from < end {
+        let to = end.min(from - from % run + run);
+        match check_run(table, rows, goal, from, to) {
+            Ok(None) => from = to,
+            Ok(Some(number)) => return Some(number),
+            Err(_) => return check_block(table, block),
+        }
+    }
+    None
+}
+
+/// The first bad entry of the placements from one rank up to another, all of one run.
+fn check_run(
+    table: &TableView<'_>,
+    rows: &RowTable,
+    goal: u64,
+    from: u64,
+    to: u64,
+) -> Result<Option<u64>, MissingRow>
+    requires rows { rows.now ≡ rows_for table.now.pattern }
+    requires goal { IsGoalNumber table.now.pattern goal }
+    requires some { from < to }
+    requires count { to ≤ placement_count table.now.pattern }
+    requires run { to ≤ from - from % (table.now.pattern.side * table.now.pattern.side + 1 - length table.now.pattern.tiles)
+        + (table.now.pattern.side * table.now.pattern.side + 1 - length table.now.pattern.tiles) }
+    ensures { IfOk result (λ found. MatchOption found
+        (EntriesKeepRule table.now (from * slot_count table.now.pattern) (to * slot_count table.now.pattern))
+        (IsFirstBadEntry table.now (from * slot_count table.now.pattern) (to * slot_count table.now.pattern))) }
+{
+    let pattern = table.pattern();
+    let placement = unrank(&pattern, from);
+    let placed = placement.cells();
+    let all_cells = placed.as_slice();
+    let index = usize::from(pattern.size()) - 1;
+    let set = masks::without(placement.occupied(), all_cells[index]);
+    let first = from - from % placements_of_run(&pattern);
+    check_part(table, rows, goal, &all_cells[..index], set, first, from, to)
+}
+
+/// The first bad entry of the placements of this run, which begins at rank `first`, from one rank up to another.
+fn check_part(
+    table: &TableView<'_>,
+    rows: &RowTable,
+    goal: u64,
+    cells: &[u8],
+    set: u32,
+    first: u64,
+    from: u64,
+    to: u64,
+) -> Result<Option<u64>, MissingRow>
+    requires rows { rows.now ≡ rows_for table.now.pattern }
+    requires goal { IsGoalNumber table.now.pattern goal }
+    requires run { IsRun table.now.pattern cells.now }
+    requires set { IsMaskOf set (λ c. has cells.now c ≡ true) }
+    requires first { IsFirstRank table.now.pattern.side cells.now first }
+    requires low { first ≤ from }
+    requires some { from < to }
+    requires high { to ≤ first + run_length table.now.pattern.side cells.now }
+    requires count { to ≤ placement_count table.now.pattern }
+    ensures { IfOk result (λ found. MatchOption found
+        (EntriesKeepRule table.now (from * slot_count table.now.pattern) (to * slot_count table.now.pattern))
+        (IsFirstBadEntry table.now (from * slot_count table.now.pattern) (to * slot_count table.now.pattern))) }
+{
+    let Some(told) = rows.kinds(rows.number(set), set) else {
+        return Err(MissingRow);
+    };
+    let Some(mins) = least_near(table, table.file(), rows, cells, set) else {
+        return Err(MissingRow);
+    };
+    let width = u64::from(table.pattern().width());
+    let kinds = with_goal(told, first * width, goal);
+    let own = run_entries(table, table.file(), cells);
+    let low = ((from - first) * width) as usize;
+    let high = ((to - first) * width) as usize;
+    match first_bad(table, cells, own, &mins, &kinds, low, high) {
+        Some(place) => Ok(Some(first * width + place as u64)),
+        None => Ok(None),
+    }
+}
+
+/// The kinds of a run's slots: the goal's is told by its number among all entries, and the run's first entry by its own.
+fn with_goal(told: &[u8], first: u64, goal: u64) -> [u8; 256]
+    requires { length told.now ≤ 140 }
+    ensures goal { (place : ℕ) → place < length told.now → first + place ≡ goal → slice_index result place ≡ goal_slot }
+    ensures others { (place : ℕ) → place < length told.now → first + place ≢ goal → slice_index result place ≡ slice_index told.now place }
+{
+    let mut kinds = [WITHOUT_REGION; 256];
+    for (place, kind) in told.iter().enumerate() {
+        kinds[place] = *kind;
+    }
+    if goal >= first && goal - first < told.len() as u64 {
+        kinds[(goal - first) as usize] = GOAL_SLOT;
+    }
+    kinds
+}
+
+/// The number of the goal's entry.
+fn goal_number(pattern: &Pattern) -> u64
+    ensures { IsGoalNumber pattern.now result }
+{
+    let _side = pattern.side();
+    let goal = Placement::goal(pattern);
+    rank(&goal) * u64::from(pattern.width()) + u64::from(slot_of(&goal, 0))
+}
+
+/// How many placements a run has.
+fn placements_of_run(pattern: &Pattern) -> u64
+    ensures count { result ≡ pattern.now.side * pattern.now.side + 1 - length pattern.now.tiles }
+    ensures some { 0 < result }
+{
+    u64::from(pattern.side().cells()) + 1 - u64::from(pattern.size())
+}

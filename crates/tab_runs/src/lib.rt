@@ -1,0 +1,16 @@
+//! Runs: the placements of a table that differ in the last tile alone, and the least entries near all of them at once.
+#![tactic(auto)]
+
+mod beside;
+mod blocks;
+mod checks;
+mod kernels;
+mod masks;
+mod near;
+mod numbers;
+mod rows;
+mod runs;
+mod set_rows;
+
+pub use blocks::check_runs;
+pub use rows::RowTable;

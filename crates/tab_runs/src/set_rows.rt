@@ -1,0 +1,146 @@
+//! The rows of all cells for one set of cells.
+
+ghost use Rattle.std.specs.Prelude.{◌≡◌, ◌≢◌, ℕ, ◌+◌, ◌*◌, ◌^◌, ◌<◌, ◌≤◌, MatchOption, count_ones, length, slice_index, true, IfOk, OnOk};
+ghost use Rattle.std.specs.Int.{bit_at};
+ghost use Rattle.puz_board.specs.Masks.{IsMaskOf};
+ghost use Rattle.pat_place.specs.Patterns.{has};
+ghost use Rattle.tab_file.specs.Tables.{slot_count};
+ghost use Rattle.tab_runs.specs.Kinds.{AreKindsUpTo, AreMarked};
+ghost use Rattle.tab_runs.specs.Runs.{IsRun, run_length};
+ghost use Rattle.tab_runs.specs.SetRows.{AreRowsUpTo, IsColumn};
+ghost use Rattle.tab_runs.specs.StoredRows.{AreAllKinds, AreAllRows, entries_of_run};
+
+use crate::masks;
+use crate::runs::rank_of;
+use pat_place::{Pattern, regions, unrank};
+use std::alloc::{AllocError, Global};
+use tab_lanes::OTHER_SLOT;
+
+/// The first of these regions that has the cell.
+#[inline]
+fn find_region(regions: &[u32], cell: u8) -> Option<usize>
+    requires { cell < 32 }
+    ensures { MatchOption result
+        ((j : ℕ) → j < length regions.now → bit_at (slice_index regions.now j) cell ≢ 1)
+        (λ j. (j < length regions.now) × (bit_at (slice_index regions.now j) cell ≡ 1)) }
+{
+    for (j, region) in regions.iter().enumerate() {
+        if *region >> cell & 1 == 1 {
+            return Some(j);
+        }
+    }
+    None
+}
+
+/// Fills in where the regions of one placement stand: `before`, and the number of the region.
+fn fill_column(set_rows: &mut [u8], cells: u8, last: u8, before: u8, regions: &[u32])
+    requires small { cells ≤ 25 }
+    requires last { last < cells }
+    requires size { length set_rows.old ≡ cells * cells }
+    requires fits { before + length regions.now ≤ 255 }
+    ensures { IsColumn cells last before regions.now cells set_rows.old set_rows.new }
+{
+    for x in 0..cells {
+        if let Some(j) = find_region(regions, x) {
+            set_rows[usize::from(x) * usize::from(cells) + usize::from(last)] = before + j as u8;
+        }
+    }
+}
+
+/// Marks the places of a placement's slots that have a region.
+fn mark(kinds: &mut [u8], at: usize, count: usize)
+    requires { at + count ≤ length kinds.old }
+    ensures { AreMarked at count kinds.old kinds.new }
+{
+    for place in at..at + count {
+        kinds[place] = OTHER_SLOT;
+    }
+}
+
+/// How many entries a run of the pattern has.
+pub(crate) fn entries_of_run(pattern: &Pattern) -> usize
+    ensures { result ≡ entries_of_run pattern.now.side (length pattern.now.tiles) }
+{
+    let run = usize::from(pattern.side().cells()) + 1 - usize::from(pattern.size());
+    run * usize::from(pattern.width())
+}
+
+/// Fills in the rows of all cells for a run's set of cells, and which slots have a region.
+fn fill_rows(pattern: &Pattern, cells: &[u8], set: u32, set_rows: &mut [u8], kinds: &mut [u8])
+    requires run { IsRun pattern.now cells.now }
+    requires set { IsMaskOf set (λ c. has cells.now c ≡ true) }
+    requires set_rows { AreRowsUpTo pattern.now.side (slot_count pattern.now) cells.now 0 set_rows.old }
+    requires kinds { AreKindsUpTo pattern.now.side (slot_count pattern.now) cells.now 0 kinds.old }
+    requires room { length kinds.old ≡ run_length pattern.now.side cells.now * slot_count pattern.now }
+    ensures rows { AreRowsUpTo pattern.now.side (slot_count pattern.now) cells.now (pattern.now.side * pattern.now.side) set_rows.new }
+    ensures kinds { AreKindsUpTo pattern.now.side (slot_count pattern.now) cells.now (pattern.now.side * pattern.now.side) kinds.new }
+{
+    let count = pattern.side().cells();
+    let width = pattern.width();
+    let run = u64::from(count) - cells.len() as u64;
+    let first = rank_of(cells, count) * run;
+    let mut free: u8 = 0;
+    for last in 0..count {
+        if !masks::has_cell(set, last) {
+            let placement = unrank(pattern, first + u64::from(free));
+            let regions = regions(&placement);
+            let before = free * width;
+            fill_column(set_rows, count, last, 1 + before, regions.as_slice());
+            mark(kinds, usize::from(before), regions.len());
+            free += 1;
+        }
+    }
+}
+
+/// The rows of all cells for one set of cells, and which slots have a region.
+#[derive(Drop)]
+struct SetRows {
+    rows: Vec<u8>,
+    kinds: Vec<u8>,
+}
+
+/// The rows of all cells for a run's set of cells, and which slots have a region.
+fn rows_of(alloc: Global, pattern: &Pattern, cells: &[u8], set: u32) -> Result<SetRows, AllocError>
+    requires run { IsRun pattern.now cells.now }
+    requires set { IsMaskOf set (λ c. has cells.now c ≡ true) }
+    ensures rows { IfOk result (λ made. AreRowsUpTo pattern.now.side (slot_count pattern.now) cells.now (pattern.now.side * pattern.now.side) made.rows.items) }
+    ensures kinds { IfOk result (λ made. AreKindsUpTo pattern.now.side (slot_count pattern.now) cells.now (pattern.now.side * pattern.now.side) made.kinds.items) }
+    ensures size { IfOk result (λ made. length made.kinds.items ≡ entries_of_run pattern.now.side (length pattern.now.tiles)) }
+{
+    let count = usize::from(pattern.side().cells());
+    let mut rows = vec![in alloc; 0; count * count]?;
+    let mut kinds = vec![in alloc; 0; entries_of_run(pattern)]?;
+    fill_rows(
+        pattern,
+        cells,
+        set,
+        rows.as_mut_slice(),
+        kinds.as_mut_slice(),
+    );
+    Ok(SetRows { rows, kinds })
+}
+
+/// Puts a set of cells, its rows and its kinds behind those that are there.
+pub(crate) fn push_set(
+    alloc: Global,
+    pattern: &Pattern,
+    set: u32,
+    masks: &mut Vec<u32>,
+    rows: &mut Vec<u8>,
+    kinds: &mut Vec<u8>,
+) -> Result<(), AllocError>
+    requires bits { set < 2 ^ (pattern.now.side * pattern.now.side) }
+    requires size { count_ones set + 1 ≡ length pattern.now.tiles }
+    requires rows { AreAllRows pattern.now.side (slot_count pattern.now) masks.old.items rows.old.items }
+    requires kinds { AreAllKinds pattern.now.side (slot_count pattern.now) (entries_of_run pattern.now.side (length pattern.now.tiles)) masks.old.items kinds.old.items }
+    ensures rows { OnOk result (AreAllRows pattern.now.side (slot_count pattern.now) masks.new.items rows.new.items) }
+    ensures kinds { OnOk result (AreAllKinds pattern.now.side (slot_count pattern.now) (entries_of_run pattern.now.side (length pattern.now.tiles)) masks.new.items kinds.new.items) }
+{
+    let _pattern = pattern.side();
+    let cells = masks::numbers_of(set);
+    let made = rows_of(alloc, pattern, cells.as_slice(), set)?;
+    rows.extend_from_slice(made.rows.as_slice())?;
+    kinds.extend_from_slice(made.kinds.as_slice())?;
+    masks.push(set)?;
+    Ok(())
+}
