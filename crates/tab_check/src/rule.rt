@@ -15,7 +15,7 @@ use pat_place::{Placement, regions};
 use tab_file::TableView;
 
 /// The entry of a slot without a region.
-const NO_REGION: u8 = 254;
+pub(crate) const NO_REGION: u8 = 254;
 
 /// The entry from which no walk leads home.
 pub(crate) const NO_WAY_HOME: u8 = 255;
