@@ -15,7 +15,8 @@ use Rattle.tab_file.specs.declared.headers.HeadFault.{HeadFault}
 use Rattle.tab_file.proofs.FileLemmas.{IfErr-first, IfOk-table}
 use Rattle.tab_check.specs.BadEntries.{IsLeastBad, KeepsRule}
 use Rattle.tab_check.specs.Blocks.{IsFirstBadSlot, SlotsKeepRule}
-use Rattle.tab_check.specs.Counts.{IsCensusOf, IsDeepestOf}
+use Rattle.tab_lanes.specs.Counts.{IsGreatestCount}
+use Rattle.tab_check.specs.Counts.{IsCensusOf}
 use Rattle.tab_check.specs.ExactTables.{IsExactFile}
 use Rattle.tab_check.specs.LocalRule.{LocalRule}
 use Rattle.tab_check.specs.TableFaults.{IsFaultOf}
@@ -118,7 +119,7 @@ file_answer file = by_table (table_of_file file) refl
 
 -- ---- the census
 
-module _ (entries : List ℕ) (m d : ℕ) (is : IsDeepestOf entries m d) where
+module _ (entries : List ℕ) (m d : ℕ) (is : IsGreatestCount entries m d) where
   bound_more : (e : ℕ) → d ≤ e → (slice_index entries m ≤ 253 → slice_index entries m ≤ e) → (i : ℕ) → i < suc m → slice_index entries i ≤ 253 → slice_index entries i ≤ e
   bound_more e up here i low count = elim (cases_lt i m) [
     | inl l ↦ let old : slice_index entries i ≤ d = is.bound i l count in omega arith
@@ -129,7 +130,7 @@ module _ (entries : List ℕ) (m d : ℕ) (is : IsDeepestOf entries m d) where
   reached_more = elim is.reached [ inl none ↦ inl none | inr h ↦ inr (h.0, (let l : h.0 < m = h.1 in omega arith), h.2) ]
 
   -- the greatest count among one entry more
-  deepest_more : (e : ℕ) × IsDeepestOf entries (suc m) e
+  deepest_more : (e : ℕ) × IsGreatestCount entries (suc m) e
   deepest_more = elim (cases_lt (slice_index entries m) 254) [
     | inr large ↦ (d, record { most = is.most; bound = bound_more d (omega arith) (λ count. absurd (omega arith)); reached = reached_more })
     | inl small ↦ elim (cases_lt d (slice_index entries m)) [
@@ -141,7 +142,7 @@ module _ (entries : List ℕ) (m d : ℕ) (is : IsDeepestOf entries m d) where
     ]
   ]
 
-deepest_some : (entries : List ℕ) (first : ℕ) → (d : ℕ) × IsDeepestOf entries first d
+deepest_some : (entries : List ℕ) (first : ℕ) → (d : ℕ) × IsGreatestCount entries first d
 deepest_some entries zero = (0, record { most = omega arith; bound = λ i low small. absurd (omega arith); reached = inl refl })
 deepest_some entries (suc m) = let before = deepest_some entries m in deepest_more entries m before.0 before.1
 

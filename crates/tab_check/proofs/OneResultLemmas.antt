@@ -4,7 +4,8 @@ use Rattle.std.specs.Prelude.{slice_index}
 use Rattle.tab_file.specs.Tables.{Table}
 use Rattle.tab_file.proofs.FileLemmas.{IsFirstFault-one, table_one, table_or_fault}
 use Rattle.tab_check.specs.BadEntries.{IsLeastBad}
-use Rattle.tab_check.specs.Counts.{IsCensusOf, IsDeepestOf}
+use Rattle.tab_lanes.specs.Counts.{IsGreatestCount}
+use Rattle.tab_check.specs.Counts.{IsCensusOf}
 use Rattle.tab_check.specs.ExactTables.{IsExactFile}
 use Rattle.tab_check.specs.TableFaults.{IsFaultOf}
 use Rattle.tab_check.specs.declared.census.Census.{Census}
@@ -31,7 +32,7 @@ module _ (file : List ℕ) where
 
 -- ---- censuses
 
-deepest_low : (entries : List ℕ) (first d e : ℕ) → IsDeepestOf entries first d → IsDeepestOf entries first e → d ≤ e
+deepest_low : (entries : List ℕ) (first d e : ℕ) → IsGreatestCount entries first d → IsGreatestCount entries first e → d ≤ e
 deepest_low entries first d e is also = elim is.reached [
   | inl zero ↦ omega arith
   | inr h ↦ let at_most : slice_index entries h.0 ≤ 253 = (let same : slice_index entries h.0 ≡ d = h.2 in let most : d ≤ 253 = is.most in omega arith) in

@@ -1,7 +1,8 @@
 -- What a table tells of a board, and how many of its entries tell what.
-use Rattle.std.specs.Prelude.{◌≡◌, ℕ, ◌<◌, ◌≤◌, ◌⊎◌, ◌==◌, count_by, List, length, slice_index}
+use Rattle.std.specs.Prelude.{◌≡◌, ℕ, ◌==◌, count_by, List, length}
 use Rattle.puz_board.specs.Costs.{IsLeastCost, IsNeverHome}
-use Rattle.tab_check.specs.Entries.{greatest_count, no_way_home}
+use Rattle.tab_lanes.specs.Counts.{IsGreatestCount}
+use Rattle.tab_check.specs.Entries.{no_way_home}
 use Rattle.tab_check.specs.declared.census.Census.{Census}
 use Rattle.tab_check.specs.declared.tables.Count.{Count}
 use Rattle.tab_check.specs.declared.tables.Count.TheVariants.{Finite, Never}
@@ -11,14 +12,8 @@ abbrev pub IsCountOf : List ℕ → List ℕ → Count → Type 0
 IsCountOf tiles b (Finite d) = IsLeastCost tiles b d
 IsCountOf tiles b Never = IsNeverHome tiles b
 
--- the greatest count among the first entries, and 0 where there is none
-pub record IsDeepestOf (entries : List ℕ) (first d : ℕ) : Type 0 where
-  pub most : d ≤ greatest_count
-  pub bound : (i : ℕ) → i < first → slice_index entries i ≤ greatest_count → slice_index entries i ≤ d
-  pub reached : (d ≡ 0) ⊎ ((i : ℕ) × (i < first) × (slice_index entries i ≡ d))
-
 -- the census of a table's entries: how many there are, how many say that no walk leads home, and the greatest count
 pub record IsCensusOf (entries : List ℕ) (census : Census) : Type 0 where
   pub entries_counted : census.entries ≡ length entries
   pub never_counted : census.unreachable ≡ count_by (λ e. e == no_way_home) entries
-  pub greatest : IsDeepestOf entries (length entries) census.deepest
+  pub greatest : IsGreatestCount entries (length entries) census.deepest

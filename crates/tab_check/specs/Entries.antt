@@ -5,20 +5,8 @@ use Rattle.pat_place.specs.Placements.{IsPlacement}
 use Rattle.pat_place.specs.Ranks.{IsRank}
 use Rattle.pat_place.specs.Regions.{IsSlot}
 use Rattle.tab_file.specs.Tables.{Table, slot_count}
-
--- ---- what an entry says
-
--- the greatest count that an entry has; a count is itself
-abbrev pub greatest_count : ℕ
-greatest_count = 253
-
--- the slot has no region
-abbrev pub no_region_entry : ℕ
-no_region_entry = 254
-
--- no walk leads home
-abbrev pub no_way_home : ℕ
-no_way_home = 255
+-- what an entry says
+pub use Rattle.tab_lanes.specs.LocalRule.{greatest_count, no_region_entry, no_way_home}
 
 -- ---- which entry it is
 

@@ -15,13 +15,13 @@ use pat_place::{Placement, regions};
 use tab_file::TableView;
 
 /// The entry of a slot without a region.
-const NO_REGION: u8 = 254;
+pub(crate) const NO_REGION: u8 = 254;
 
 /// The entry from which no walk leads home.
 pub(crate) const NO_WAY_HOME: u8 = 255;
 
 /// The greatest count that an entry has.
-pub(crate) const GREATEST_COUNT: u8 = 253;
+const GREATEST_COUNT: u8 = 253;
 
 /// The first slot of a placement whose entry breaks the local rule. Its rank is given, and that of the goal.
 pub(crate) fn first_bad_slot(

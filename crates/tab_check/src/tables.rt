@@ -4,7 +4,10 @@ ghost use Rattle.std.specs.Prelude.{◌≡◌, ◌<◌, ◌≤◌, ◌⊎◌, �
 ghost use Rattle.puz_board.specs.Boards.{side_of};
 ghost use Rattle.tab_file.specs.HeadFaults.{table_of_file};
 ghost use Rattle.tab_file.specs.TableFiles.{IsTableFile};
-ghost use Rattle.tab_file.specs.Tables.{IsTable, Table};
+ghost use Rattle.pat_place.specs.Placements.{IsFree, IsPlacement};
+ghost use Rattle.pat_place.specs.Ranks.{IsRank};
+ghost use Rattle.pat_place.specs.Regions.{IsSlot};
+ghost use Rattle.tab_file.specs.Tables.{IsTable, Table, slot_count};
 ghost use Rattle.tab_check.specs.BadEntries.{IsLeastBad};
 ghost use Rattle.tab_check.specs.Counts.{IsCensusOf, IsCountOf};
 ghost use Rattle.tab_check.specs.Entries.{no_way_home};
@@ -17,7 +20,7 @@ ghost use Rattle.tab_check.specs.declared.tables.Count.TheVariants.{Finite, Neve
 
 use crate::census::{Census, census_of};
 use crate::jobs::TableCheck;
-use crate::rule::NO_WAY_HOME;
+use crate::rule::{NO_REGION, NO_WAY_HOME};
 use pat_place::{Pattern, Placement, rank, slot_of};
 use puz_board::Board;
 use std::alloc::Global;
@@ -124,8 +127,26 @@ impl<'a> CheckedTable<'a> {
     {
         let _side = board.side();
         let placement = Placement::of_board(&self.pattern(), board);
-        let slot = slot_of(&placement, board.blank());
-        count_of(self.view.entry(rank(&placement), slot))
+        let rank = rank(&placement);
+        let slot = self.slot_in(&placement, rank, board.blank());
+        count_of(self.view.entry(rank, slot))
+    }
+
+    /// The slot of a free cell of a placement, whose rank is given. It takes no flood where the second slot has no
+    /// region, so that all free cells are of the first.
+    #[inline]
+    fn slot_in(&self, placement: &Placement, rank: u64, cell: u8) -> u8
+        requires placement { IsPlacement placement.now }
+        requires pattern { placement.now.pattern ≡ self.now.pattern }
+        requires rank { IsRank placement.now.pattern.side placement.now.cells rank }
+        requires free { IsFree placement.now.pattern.side placement.now.cells cell }
+        ensures slot { IsSlot placement.now.pattern.side placement.now.cells cell result }
+        ensures below { result < slot_count self.now.pattern }
+    {
+        if self.pattern().width() > 1 && self.view.entry(rank, 1) == NO_REGION {
+            return 0;
+        }
+        slot_of(placement, cell)
     }
 
     /// How many entries there are, how many of them say that no walk leads home, and the greatest count.
