@@ -1,6 +1,6 @@
 //! Placements.
 
-ghost use Rattle.std.specs.Prelude.{◌≡◌, ℕ, ◌<◌, ◌≤◌, ◌-◌, true, List, length, slice_set, take, drop, replicate};
+ghost use Rattle.std.specs.Prelude.{◌≡◌, ℕ, ◌<◌, ◌≤◌, ◌-◌, true, List, length, slice_index, slice_set, take, drop, replicate};
 ghost use Rattle.puz_board.specs.Boards.{IsBoard, IsGoal, side_of};
 ghost use Rattle.puz_board.specs.Masks.{IsMaskOf};
 ghost use Rattle.pat_place.specs.Patterns.{IsPattern, has};
@@ -81,6 +81,17 @@ impl Placement {
             cells.push(*cell);
         }
         cells
+    }
+
+    /// The cell of one tile, by its index in the pattern.
+    #[inline]
+    pub fn cell(&self, index: usize) -> u8
+        requires { index < length self.now.cells }
+        ensures cell { result ≡ slice_index self.now.cells index }
+        ensures placement { IsPlacement self.now }
+        ensures pattern { IsPattern self.now.pattern }
+    {
+        self.as_slice()[index]
     }
 
     /// The cells as a mask: bit c is set for cell c.

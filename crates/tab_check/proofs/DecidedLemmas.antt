@@ -1,105 +1,31 @@
 -- Whether an entry keeps the local rule can be told.
-use Rattle.std.proofs.Common.{◌≡◌, ℕ, suc, ◌*◌, ◌<◌, ◌⊎◌, Bool, true, false, List, length, get_or, set, inl, inr, refl, subst, arith}
-use Rattle.std.specs.Prelude.{MatchBool}
-use Rattle.std.proofs.lemmas.Bool.{cases_eq, cases_lt}
+use Rattle.std.proofs.Common.{ℕ, List, inl, inr, refl}
 use Rattle.pat_place.specs.Patterns.{IsPattern}
-use Rattle.pat_place.proofs.JoinLemmas.{Decided, adjacent_decided}
-use Rattle.pat_place.proofs.SlotLemmas.{least_below}
+use Rattle.pat_place.proofs.JoinLemmas.{Decided}
 use Rattle.tab_file.specs.Tables.{Table}
-use Rattle.tab_check.specs.Entries.{HasRegion, IsEntryAt}
-use Rattle.tab_check.specs.LocalRule.{IsGoalSlot, IsLeastNear, IsNearEntry, LocalRule, MayMove}
-use Rattle.tab_check.proofs.EntryLemmas.{cell_decided, entry_one, entry_total, near_from_move, near_valid, region_cases}
-use Rattle.tab_check.proofs.OneEntryLemmas.{rule_away, rule_goal, rule_no_region}
+use Rattle.tab_check.specs.LocalRule.{IsKindOf, IsLeastNear, LocalRule, no_region, goal, other}
+use Rattle.tab_check.proofs.CaseLemmas.{keeps_decided, none_near_nothing, rule_by_numbers}
+use Rattle.tab_check.proofs.EntryLemmas.{region_cases}
+use Rattle.tab_check.proofs.NearestLemmas.{least_near_some}
 use Rattle.tab_check.proofs.RuleLemmas.{region_from_slot, slot_from_region}
 use Rattle.tab_check.proofs.ValueLemmas.{goal_decided}
 use Rattle.tab_check.proofs.Values.{IsPlaced}
 
-module _ (t : Table) (pat : IsPattern t.pattern) (cells : List ℕ) (place : IsPlaced t.pattern cells) (j : ℕ) where
-  -- ---- the entries one move away
-
-  move_decided : (index to : ℕ) → Decided (MayMove t.pattern.side cells j index to)
-  move_decided index to = elim (cell_decided t.pattern pat cells j to) [
-    | inr none ↦ inr (λ m. none m.in_slot)
-    | inl inside ↦ elim (cases_lt index (length cells)) [
-      | inr past ↦ inr (λ m. let l : index < length cells = m.is_index in omega arith)
-      | inl low ↦ elim (adjacent_decided t.pattern.side cells to (get_or cells index 0)) [
-        | inl beside ↦ inl (record { in_slot = inside; is_index = low; adjacent = beside })
-        | inr none ↦ inr (λ m. none m.adjacent)
-      ]
-    ]
-  ]
-
-  module _ (has : HasRegion t.pattern.side cells j) where
-    -- e is the entry after this move
-    abbrev LeadsTo : ℕ → ℕ → ℕ → Type 0
-    LeadsTo e index to = MayMove t.pattern.side cells j index to × IsEntryAt t (set cells index to) (get_or cells index 0) e
-
-    after_decided : (e index to : ℕ) → Decided (LeadsTo e index to)
-    after_decided e index to = elim (move_decided index to) [
-      | inr none ↦ inr (λ h. none h.0)
-      | inl moves ↦
-          let q : List ℕ = set cells index to in
-          let left : ℕ = get_or cells index 0 in
-          let near = near_from_move t.pattern pat cells has.cell j index to has.in_slot moves in
-          let ok = near_valid t.pattern pat cells has.cell q left place has.in_slot.free near in
-          let x = entry_total t.pattern pat t.entries q left ok.0 ok.1 in
-          elim (cases_eq x.0 e) [
-            | inl same ↦ inl (moves, subst (IsEntryAt t q left) same x.1)
-            | inr other ↦ inr (λ h. other (entry_one t.pattern pat t.entries q left x.0 e x.1 h.1))
-          ]
-    ]
-
-    tile_decided : (e index : ℕ) → Decided ((to : ℕ) × LeadsTo e index to)
-    tile_decided e index = elim (least_below (LeadsTo e index) (after_decided e index) (t.pattern.side * t.pattern.side)) [
-      | inl h ↦ inl (h.0, h.2)
-      | inr none ↦ inr (λ h. none h.0 h.1.0.in_slot.free.0 h.1)
-    ]
-
-    near_decided : (e : ℕ) → Decided (IsNearEntry t cells j e)
-    near_decided e = elim (least_below (λ index. (to : ℕ) × LeadsTo e index to) (tile_decided e) (length cells)) [
-      | inl h ↦ inl (record { index = h.0; to = h.2.0; moves = h.2.1.0; entry = h.2.1.1 })
-      | inr none ↦ inr (λ near. none near.index near.moves.is_index (near.to, (near.moves, near.entry)))
-    ]
-
-    least_near_some : (m : ℕ) × IsLeastNear t cells j m
-    least_near_some = elim (least_below (IsNearEntry t cells j) near_decided 255) [
-      | inl h ↦ (h.0, record { most = (let l : h.0 < 255 = h.1 in omega arith); least = h.3; reached = inr h.2 })
-      | inr none ↦ (
-        255,
-        record {
-          most = omega arith;
-          least = λ e near. elim (cases_lt e 255) [ inl l ↦ absurd (none e l near) | inr l ↦ l ];
-          reached = inl refl;
-        },
-      )
-    ]
-
--- ---- the rule
-
-from_test : (P : Type 0) (b : Bool) → MatchBool b P (P → ⊥) → Decided P
-from_test P true held = inl held
-from_test P false failed = inr failed
-
-pub one_more_decided : (m e : ℕ) → Decided (((m < 253) × (e ≡ suc m)) ⊎ ((m ≡ 255) × (e ≡ 255)))
-one_more_decided m e = elim (cases_lt m 253) [
-  | inl low ↦ elim (cases_eq e (suc m)) [ inl same ↦ inl (inl (omega arith, same)) | inr other ↦ inr (λ h. elim h [ inl x ↦ other x.1 | inr x ↦ (let full : m ≡ 255 = x.0 in omega arith) ]) ]
-  | inr high ↦ elim (cases_eq m 255) [
-    | inr other ↦ inr (λ h. elim h [ inl x ↦ (let l : m < 253 = x.0 in omega arith) | inr x ↦ other x.0 ])
-    | inl full ↦ elim (cases_eq e 255) [ inl same ↦ inl (inr (full, same)) | inr other ↦ inr (λ h. elim h [ inl x ↦ (let l : m < 253 = x.0 in omega arith) | inr x ↦ other x.1 ]) ]
-  ]
-]
-
-pub rule_decided : (t : Table) → IsPattern t.pattern → (cells : List ℕ) (j e : ℕ) → IsPlaced t.pattern cells → Decided (LocalRule t cells j e)
-rule_decided t pat cells j e place = elim (region_cases t.pattern pat cells j) [
-  | inr none ↦ from_test (LocalRule t cells j e) _ (rule_no_region t cells j e none)
-  | inl has ↦ elim (goal_decided t.pattern cells has.cell) [
-    | inl home ↦ from_test (LocalRule t cells j e) _ (rule_goal t cells j e has (slot_from_region t.pattern pat cells has.cell j has.in_slot home))
-    | inr far ↦
-        let away : ¬ IsGoalSlot t.pattern cells j = λ g. far (region_from_slot t.pattern pat cells has.cell j has.in_slot g) in
+module _ (t : Table) (pat : IsPattern t.pattern) (cells : List ℕ) (j : ℕ) (place : IsPlaced t.pattern cells) where
+  -- each slot has a kind and a least entry one move away
+  numbers_some : (kind : ℕ) × (least : ℕ) × IsKindOf t.pattern cells j kind × IsLeastNear t cells j least
+  numbers_some = elim (region_cases t.pattern pat cells j) [
+    | inr none ↦ (0, 255, no_region none refl, none_near_nothing t cells j none)
+    | inl has ↦
         let m = least_near_some t pat cells place j has in
-        elim (one_more_decided m.0 e) [
-          | inl held ↦ inl (rule_away t cells j e has away m.0 m.1 true (λ _. held, λ _. refl))
-          | inr failed ↦ inr (rule_away t cells j e has away m.0 m.1 false (λ no. absurd (let clash : false ≡ true = no in cc), λ held. absurd (failed held)))
+        elim (goal_decided t.pattern cells has.cell) [
+          | inl home ↦ (1, m.0, goal (slot_from_region t.pattern pat cells has.cell j has.in_slot home) refl, m.1)
+          | inr far ↦ (2, m.0, other has (λ g. far (region_from_slot t.pattern pat cells has.cell j has.in_slot g)) refl, m.1)
         ]
   ]
-]
+
+pub rule_decided : (t : Table) → IsPattern t.pattern → (cells : List ℕ) (j e : ℕ) → IsPlaced t.pattern cells → Decided (LocalRule t cells j e)
+rule_decided t pat cells j e place =
+    let n = numbers_some t pat cells j place in
+    let by_numbers = rule_by_numbers t cells j e n.0 n.1 n.2 n.3 in
+    elim (keeps_decided n.0 n.1 e) [ inl keeps ↦ inl (by_numbers.0 keeps) | inr breaks ↦ inr (λ rule. breaks (by_numbers.1 rule)) ]

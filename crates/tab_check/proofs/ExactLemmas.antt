@@ -12,7 +12,8 @@ use Rattle.tab_file.specs.Tables.{Table, IsTable}
 use Rattle.tab_check.specs.BadEntries.{AllKeepRule}
 use Rattle.tab_check.specs.Entries.{HasRegion, IsEntryAt}
 use Rattle.tab_check.specs.ExactTables.{AreExact, SaysOfBoard}
-use Rattle.tab_check.specs.LocalRule.{IsGoalSlot, IsLeastNear, IsNearEntry, LocalRule, goal, never, no_region, one_more}
+use Rattle.tab_check.specs.LocalRule.{IsGoalSlot, IsLeastNear, IsNearEntry}
+use Rattle.tab_check.proofs.CaseLemmas.{RuleCase, goal, never, no_region, one_more, rule_of_case}
 use Rattle.tab_check.proofs.EntryLemmas.{decode, decode_large, decode_small, decode_some, entry_total, near_entry, near_from_move, near_valid, region_cases, value, value-constant, value-is}
 use Rattle.tab_check.proofs.NearLemmas.{IsFree-in, IsPlaced-in}
 use Rattle.tab_check.proofs.RuleLemmas.{exact_entries, region_from_slot, slot_from_region}
@@ -99,7 +100,7 @@ module _ (p : PatternView) (pat : IsPattern p) (entries : List ℕ) (exact : Are
         lower : (x : ℕ) → IsNearEntry (table p entries) cells j x → 255 ≤ x
         lower x next = elim (near_known x next) [ inl h ↦ absurd (let bad : Some x ≡ None = sym h.3 ∙ none h.0 h.1 h.2 in cc) | inr full ↦ omega arith ]
 
-    rule_at : LocalRule (table p entries) cells j e
+    rule_at : RuleCase (table p entries) cells j e
     rule_at = elim (rule_from_exact p pat (value p pat entries) (value-constant p pat entries) exact_value cells c place slot.free) [
       | inl g ↦ goal (slot_from_region p pat cells c j slot g.0) (decode_some e 0 (sym known ∙ g.1))
       | inr far ↦ away (λ g. far.0 (region_from_slot p pat cells c j slot g)) (shape cells c e place slot.free is) far.1
@@ -108,23 +109,23 @@ module _ (p : PatternView) (pat : IsPattern p) (entries : List ℕ) (exact : Are
         known : value p pat entries cells c ≡ decode e
         known = value-is p pat entries cells c e place slot.free is
 
-        counted : (¬ IsGoalSlot p cells j) → e ≤ 253 → IsOneMore p (value p pat entries) cells c (Some e) → LocalRule (table p entries) cells j e
+        counted : (¬ IsGoalSlot p cells j) → e ≤ 253 → IsOneMore p (value p pat entries) cells c (Some e) → RuleCase (table p entries) cells j e
         counted far l one =
             let k : ℕ = one.0.2 in
             let more : e ≡ suc k = one.0.5 in
             let small : k < 253 = omega arith in
             one_more k region far (least_near k one.0.0 one.0.1 small more one.0.3 one.0.4 one.1) small more
 
-        away : (¬ IsGoalSlot p cells j) → (e ≤ 253) ⊎ (e ≡ 255) → IsOneMore p (value p pat entries) cells c (value p pat entries cells c) → LocalRule (table p entries) cells j e
+        away : (¬ IsGoalSlot p cells j) → (e ≤ 253) ⊎ (e ≡ 255) → IsOneMore p (value p pat entries) cells c (value p pat entries cells c) → RuleCase (table p entries) cells j e
         away far (inl l) one = counted far l (subst (IsOneMore p (value p pat entries) cells c) (known ∙ decode_small e (omega arith)) one)
         away far (inr full) one = never region far (none_near (subst (IsOneMore p (value p pat entries) cells c) (known ∙ decode_large e (omega arith)) one)) full
 
   pub entries_keep : AllKeepRule (table p entries)
-  entries_keep number cells j is = elim (region_cases p pat cells j) [
+  entries_keep number cells j is = rule_of_case (table p entries) cells j (slice_index entries number) pat is.placement (elim (region_cases p pat cells j) [
     | inr none ↦ no_region none ((exact cells j number is).no_region none)
     | inl has ↦ rule_at cells has.cell j (slice_index entries number) is.placement has.in_slot
         (record { slot = j; is_slot = has.in_slot; number = number; is_number = is; holds = refl })
-  ]
+  ])
 
 pub files_exact : (t : Table) → IsTable t → AllKeepRule t ↔ AreExact t
 files_exact t is = (exact_entries t.pattern is.pattern t.entries, entries_keep t.pattern is.pattern t.entries)

@@ -1,5 +1,7 @@
 pub mod AnswerLemmas
 pub mod BlockLemmas
+pub mod CaseLemmas
+pub mod ColumnLemmas
 pub mod DecidedLemmas
 pub mod EntryLemmas
 pub mod ExactLemmas
@@ -7,6 +9,7 @@ pub mod JobLemmas
 pub mod LookLemmas
 pub mod MoveLemmas
 pub mod NearLemmas
+pub mod NearestLemmas
 pub mod OneEntryLemmas
 pub mod OneResultLemmas
 pub mod RuleLemmas

@@ -1,14 +1,15 @@
--- The local rule at one entry, case by case, and at the slots of one placement.
-use Rattle.std.proofs.Common.{◌≡◌, ℕ, suc, ◌*◌, ◌<◌, ◌≤◌, ◌⊎◌, Bool, true, false, eqb, List, length, get_or, inl, inr, refl, subst, arith}
-use Rattle.std.specs.Prelude.{MatchBool, IsTrue, ◌↔◌}
+-- The slots of one placement, and the masks of its regions.
+use Rattle.std.proofs.Common.{◌≡◌, ℕ, ◌*◌, ◌<◌, ◌≤◌, List, length, get_or, inl, inr, sym, ◌∙◌, ap, arith}
 use Rattle.std.specs.Int.{bit_at}
-use Rattle.std.proofs.lemmas.Bool.{both_ways, eqb-true, eqb-false}
+use Rattle.std.proofs.lemmas.Nat.Bits.{bit_at-lt, bit_at-zero, same_from_bits}
+use Rattle.pat_place.specs.Patterns.{PatternView, IsPattern}
 use Rattle.pat_place.specs.Regions.{AreRegions, IsLeader, here}
 use Rattle.pat_place.proofs.SlotLemmas.{count_grows, count_place}
-use Rattle.tab_file.specs.Tables.{Table}
+use Rattle.tab_check.specs.Columns.{IsKindByMask, no_region as by_none, goal as by_goal, other as by_other}
 use Rattle.tab_check.specs.Entries.{HasNoRegion, HasRegion}
-use Rattle.tab_check.specs.LocalRule.{IsGoalSlot, IsLeastNear, IsLeastOf, LocalRule, goal, never, no_region, one_more}
+use Rattle.tab_check.specs.LocalRule.{IsGoalSlot, IsKindOf, no_region, goal, other}
 use Rattle.tab_check.specs.Moves.{IsRegion}
+use Rattle.tab_check.proofs.EntryLemmas.{region_cases}
 
 -- ---- slots and the list of regions
 
@@ -26,50 +27,32 @@ module _ (n : ℕ) (cells masks : List ℕ) (are : AreRegions n cells masks) whe
   pub mask_is_region : (j : ℕ) → j < length masks → IsRegion n cells j (get_or masks j 0)
   mask_is_region j l c = are.each j c l
 
--- ---- the rule, where its case is known
+-- a slot without a region has the empty mask
+pub empty_region : (n : ℕ) (cells : List ℕ) (j : ℕ) → HasNoRegion n cells j → IsRegion n cells j 0
+empty_region n cells j none c = (λ one. absurd (let z = bit_at-zero c in omega arith), λ is. absurd (none c is))
 
-by_test : (P Q : Type 0) (b : Bool) → (b ≡ true → P) → (b ≡ false → Q) → MatchBool b P Q
-by_test P Q true held failed = held refl
-by_test P Q false held failed = failed refl
+-- ---- the kind of a slot by the mask of its region
 
-IsLeastOf-only : (Has : ℕ → Type 0) (m k : ℕ) → IsLeastOf Has m → IsLeastOf Has k → m ≡ k
-IsLeastOf-only Has m k is also = let a = low m k is also in let b = low k m also is in omega arith
-  where
-    low : (m k : ℕ) → IsLeastOf Has m → IsLeastOf Has k → m ≤ k
-    low m k is also = elim also.reached [ inl full ↦ (let l = is.most in omega arith) | inr h ↦ is.least k h ]
+module _ (p : PatternView) (pat : IsPattern p) (cells : List ℕ) (j mask : ℕ) (is : IsRegion p.side cells j mask) where
+  none_of_zero : mask ≡ 0 → HasNoRegion p.side cells j
+  none_of_zero zero c slot = let one = (is c).1 slot in let z = ap (λ m. bit_at m c) zero ∙ bit_at-zero c in omega arith
 
-module _ (t : Table) (cells : List ℕ) (j e : ℕ) where
-  pub rule_no_region : HasNoRegion t.pattern.side cells j → MatchBool (eqb e 254) (LocalRule t cells j e) (LocalRule t cells j e → ⊥)
-  rule_no_region none = by_test (LocalRule t cells j e) (LocalRule t cells j e → ⊥) (eqb e 254) (λ held. no_region none (eqb-true e 254 held)) (λ other. breaks (eqb-false e 254 other))
+  some_of_mask : (mask ≡ 0 → ⊥) → HasRegion p.side cells j
+  some_of_mask some = elim (region_cases p pat cells j) [
+    | inl has ↦ has
+    | inr none ↦ absurd (some (same_from_bits mask 0 (λ c. low c (λ one. none c ((is c).0 one)) ∙ sym (bit_at-zero c))))
+  ]
     where
-      breaks : (e ≡ 254 → ⊥) → LocalRule t cells j e → ⊥
-      breaks other (no_region without is) = other is
-      breaks other (goal g is) = none 0 g.1
-      breaks other (one_more m region far least small is) = none region.cell region.in_slot
-      breaks other (never region far least is) = none region.cell region.in_slot
+      low : (c : ℕ) → (bit_at mask c ≡ 1 → ⊥) → bit_at mask c ≡ 0
+      low c far = let l = bit_at-lt mask c in omega arith
 
-  pub rule_goal : HasRegion t.pattern.side cells j → IsGoalSlot t.pattern cells j → MatchBool (eqb e 0) (LocalRule t cells j e) (LocalRule t cells j e → ⊥)
-  rule_goal has home = by_test (LocalRule t cells j e) (LocalRule t cells j e → ⊥) (eqb e 0) (λ held. goal home (eqb-true e 0 held)) (λ other. breaks (eqb-false e 0 other))
-    where
-      breaks : (e ≡ 0 → ⊥) → LocalRule t cells j e → ⊥
-      breaks other (no_region without is) = without has.cell has.in_slot
-      breaks other (goal g is) = other is
-      breaks other (one_more m region far least small is) = far home
-      breaks other (never region far least is) = far home
+  pub kind_of_mask : (IsGoal : Type 0) → (IsGoal → IsGoalSlot p cells j) → (IsGoalSlot p cells j → IsGoal) → (kind : ℕ) → IsKindByMask mask IsGoal kind → IsKindOf p cells j kind
+  kind_of_mask IsGoal to back kind (by_none zero kinds) = no_region (none_of_zero zero) kinds
+  kind_of_mask IsGoal to back kind (by_goal some home kinds) = goal (to home) kinds
+  kind_of_mask IsGoal to back kind (by_other some far kinds) = other (some_of_mask some) (λ home. far (back home)) kinds
 
-  pub rule_away : HasRegion t.pattern.side cells j → (¬ IsGoalSlot t.pattern cells j) → (m : ℕ) → IsLeastNear t cells j m
-      → (b : Bool) → IsTrue b ↔ (((m < 253) × (e ≡ suc m)) ⊎ ((m ≡ 255) × (e ≡ 255))) → MatchBool b (LocalRule t cells j e) (LocalRule t cells j e → ⊥)
-  rule_away has away m near b test = by_test (LocalRule t cells j e) (LocalRule t cells j e → ⊥) b (λ held. keeps (test.0 held)) (λ failed. breaks (λ is. both_ways b failed (test.1 is)))
-    where
-      keeps : (((m < 253) × (e ≡ suc m)) ⊎ ((m ≡ 255) × (e ≡ 255))) → LocalRule t cells j e
-      keeps (inl h) = one_more m has away near h.0 h.1
-      keeps (inr h) = never has away (subst (IsLeastNear t cells j) h.0 near) h.1
-
-      breaks : ((((m < 253) × (e ≡ suc m)) ⊎ ((m ≡ 255) × (e ≡ 255))) → ⊥) → LocalRule t cells j e → ⊥
-      breaks other (no_region without is) = without has.cell has.in_slot
-      breaks other (goal g is) = away g
-      breaks other (one_more k region far least small is) = let same : m ≡ k = IsLeastOf-only _ m k near least in other (inl (omega arith, omega arith))
-      breaks other (never region far least is) = let same : m ≡ 255 = IsLeastOf-only _ m 255 near least in other (inr (same, is))
-
-  pub mask_from_goal : (mask : ℕ) → IsRegion t.pattern.side cells j mask → IsGoalSlot t.pattern cells j → bit_at mask 0 ≡ 1
-  mask_from_goal mask is g = (is 0).1 g.1
+-- whether a slot is the goal's, said in other words
+pub kind_same : (mask kind : ℕ) (A B : Type 0) → (A → B) → (B → A) → IsKindByMask mask A kind → IsKindByMask mask B kind
+kind_same mask kind A B to back (by_none zero kinds) = by_none zero kinds
+kind_same mask kind A B to back (by_goal some home kinds) = by_goal some (to home) kinds
+kind_same mask kind A B to back (by_other some far kinds) = by_other some (λ b. far (back b)) kinds

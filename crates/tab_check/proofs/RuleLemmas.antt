@@ -9,7 +9,8 @@ use Rattle.pat_place.proofs.SlotLemmas.{region_slot, slot_region}
 use Rattle.tab_check.specs.BadEntries.{AllKeepRule}
 use Rattle.tab_check.specs.Entries.{HasNoRegion, IsEntryAt}
 use Rattle.tab_check.specs.ExactTables.{AreExact, SaysOfBoard}
-use Rattle.tab_check.specs.LocalRule.{IsGoalSlot, IsLeastNear, IsNearEntry, LocalRule, goal, never, no_region, one_more}
+use Rattle.tab_check.specs.LocalRule.{IsGoalSlot, IsLeastNear, IsNearEntry, LocalRule}
+use Rattle.tab_check.proofs.CaseLemmas.{RuleCase, goal, never, no_region, one_more, rule_cases}
 use Rattle.tab_check.proofs.EntryLemmas.{decode, decode_large, decode_small, decode_some, entry_total, near_entry, near_from_move, near_valid, value, value-constant, value-is}
 use Rattle.tab_check.proofs.ValueLemmas.{exact_from_rule}
 use Rattle.tab_check.proofs.Values.{AllKeepValueRule, IsGoalRegion, IsNear, IsOneMore, IsPlaced, KeepsValueRule, Says, table}
@@ -57,7 +58,7 @@ module _ (p : PatternView) (pat : IsPattern p) where
             omega arith
 
     value_rule : AllKeepValueRule p (value p pat entries)
-    value_rule cells c place free = go e.1.slot e.1.is_slot (subst (LocalRule (table p entries) cells e.1.slot) e.1.holds (keeps e.1.number cells e.1.slot e.1.is_number))
+    value_rule cells c place free = go e.1.slot e.1.is_slot (rule_cases (table p entries) cells e.1.slot e.0 (subst (LocalRule (table p entries) cells e.1.slot) e.1.holds (keeps e.1.number cells e.1.slot e.1.is_number)))
       where
         e : (e : ℕ) × IsEntryAt (table p entries) cells c e
         e = entry_total p pat entries cells c place free
@@ -65,7 +66,7 @@ module _ (p : PatternView) (pat : IsPattern p) where
         known : value p pat entries cells c ≡ decode e.0
         known = value-is p pat entries cells c e.0 place free e.1
 
-        go : (j : ℕ) → IsSlot p.side cells c j → LocalRule (table p entries) cells j e.0 → KeepsValueRule p (value p pat entries) cells c
+        go : (j : ℕ) → IsSlot p.side cells c j → RuleCase (table p entries) cells j e.0 → KeepsValueRule p (value p pat entries) cells c
         go j is (no_region none full) = absurd (none c is)
         go j is (goal g zero) = inl (region_from_slot cells c j is g, known ∙ ap decode zero)
         go j is (one_more m region far least small more) =
@@ -82,27 +83,30 @@ module _ (p : PatternView) (pat : IsPattern p) where
     -- ---- what each entry says
 
     -- an entry of a region is a count or 255
-    shape : (cells : List ℕ) (c j e : ℕ) → IsSlot p.side cells c j → LocalRule (table p entries) cells j e → (e ≤ 253) ⊎ (e ≡ 255)
+    shape : (cells : List ℕ) (c j e : ℕ) → IsSlot p.side cells c j → RuleCase (table p entries) cells j e → (e ≤ 253) ⊎ (e ≡ 255)
     shape cells c j e is (no_region none full) = absurd (none c is)
     shape cells c j e is (goal g zero) = inl (omega arith)
     shape cells c j e is (one_more m region far least small more) = inl (omega arith)
     shape cells c j e is (never region far least full) = inr full
 
     -- an entry of no region is 254
-    empty : (cells : List ℕ) (j e : ℕ) → LocalRule (table p entries) cells j e → HasNoRegion p.side cells j → e ≡ 254
+    empty : (cells : List ℕ) (j e : ℕ) → RuleCase (table p entries) cells j e → HasNoRegion p.side cells j → e ≡ 254
     empty cells j e (no_region none full) nowhere = full
     empty cells j e (goal g zero) nowhere = absurd (nowhere 0 g.1)
     empty cells j e (one_more m region far least small more) nowhere = absurd (nowhere region.cell region.in_slot)
     empty cells j e (never region far least full) nowhere = absurd (nowhere region.cell region.in_slot)
 
     pub exact_entries : AreExact (table p entries)
-    exact_entries cells j number is = record { no_region = empty cells j e (keeps number cells j is); boards = says }
+    exact_entries cells j number is = record { no_region = empty cells j e kept; boards = says }
       where
         e : ℕ
         e = slice_index entries number
 
+        kept : RuleCase (table p entries) cells j e
+        kept = rule_cases (table p entries) cells j e (keeps number cells j is)
+
         says : (b : List ℕ) → IsBoardOf p.side b → placement_of p.tiles b ≡ cells → IsSlot p.side cells (blank b) j → SaysOfBoard p.tiles b e
-        says b good same slot = elim (shape cells (blank b) j e slot (keeps number cells j is)) [
+        says b good same slot = elim (shape cells (blank b) j e slot kept) [
           | inl small ↦ inl (small, subst (Says p.tiles b) (known ∙ decode_small e (omega arith)) right)
           | inr full ↦ inr (full, subst (Says p.tiles b) (known ∙ decode_large e (omega arith)) right)
         ]

@@ -1,5 +1,6 @@
 pub mod BadEntries
 pub mod Blocks
+pub mod Columns
 pub mod Counts
 pub mod Entries
 pub mod ExactTables

@@ -1,10 +1,11 @@
 -- The local rule: an entry and the entries one move of a pattern's tile away.
-use Rattle.std.specs.Prelude.{◌≡◌, ℕ, suc, ◌<◌, ◌≤◌, ◌⊎◌, List, length, slice_index, slice_set}
+use Rattle.std.specs.Prelude.{◌≡◌, ℕ, ◌<◌, ◌≤◌, ◌⊎◌, List, length, slice_index, slice_set}
 use Rattle.puz_board.specs.Cells.{Adjacent}
 use Rattle.pat_place.specs.Patterns.{PatternView}
 use Rattle.pat_place.specs.Regions.{IsSlot}
+use Rattle.tab_lanes.specs.LocalRule.{KeepsRuleOfKind, goal_slot, other_slot, without_region}
 use Rattle.tab_file.specs.Tables.{Table}
-use Rattle.tab_check.specs.Entries.{HasNoRegion, HasRegion, IsEntryAt, greatest_count, no_region_entry, no_way_home}
+use Rattle.tab_check.specs.Entries.{HasNoRegion, HasRegion, IsEntryAt, no_way_home}
 
 -- the tile with this index is adjacent to a cell of the slot's region, to which it may move
 pub record MayMove (n : ℕ) (cells : List ℕ) (j index to : ℕ) : Type 0 where
@@ -33,9 +34,16 @@ IsLeastNear t cells j = IsLeastOf (IsNearEntry t cells j)
 abbrev pub IsGoalSlot : PatternView → List ℕ → ℕ → Type 0
 IsGoalSlot p cells j = (cells ≡ p.tiles) × IsSlot p.side cells 0 j
 
--- the rule for the entry e of a placement and a slot, by cases
-pub data LocalRule (t : Table) (cells : List ℕ) (j e : ℕ) : Type 0 where
-  no_region : HasNoRegion t.pattern.side cells j → e ≡ no_region_entry → LocalRule t cells j e
-  goal : IsGoalSlot t.pattern cells j → e ≡ 0 → LocalRule t cells j e
-  one_more : (m : ℕ) → HasRegion t.pattern.side cells j → ¬ IsGoalSlot t.pattern cells j → IsLeastNear t cells j m → m < greatest_count → e ≡ suc m → LocalRule t cells j e
-  never : HasRegion t.pattern.side cells j → ¬ IsGoalSlot t.pattern cells j → IsLeastNear t cells j no_way_home → e ≡ no_way_home → LocalRule t cells j e
+-- the kind of a slot, as a number
+pub data IsKindOf (p : PatternView) (cells : List ℕ) (j kind : ℕ) : Type 0 where
+  no_region : HasNoRegion p.side cells j → kind ≡ without_region → IsKindOf p cells j kind
+  goal : IsGoalSlot p cells j → kind ≡ goal_slot → IsKindOf p cells j kind
+  other : HasRegion p.side cells j → ¬ IsGoalSlot p cells j → kind ≡ other_slot → IsKindOf p cells j kind
+
+-- the rule for the entry e of a placement and a slot: that of the slot's kind and of the least entry one move away
+pub record LocalRule (t : Table) (cells : List ℕ) (j e : ℕ) : Type 0 where
+  pub kind : ℕ
+  pub is_kind : IsKindOf t.pattern cells j kind
+  pub least : ℕ
+  pub is_least : IsLeastNear t cells j least
+  pub keeps : KeepsRuleOfKind kind least e

@@ -1,11 +1,13 @@
 //! Blocks of a table, and the least bad entry of each.
 
-ghost use Rattle.std.specs.Prelude.{◌≡◌, ◌<◌, MatchOption};
+ghost use Rattle.std.specs.Prelude.{◌≡◌, ◌+◌, ◌<◌, ◌≤◌, MatchOption, drop, length, take};
 ghost use Rattle.tab_check.specs.Blocks.{BlockKeepsRule, IsLeastBadIn, block_count};
 
-use crate::rule::first_bad_slot;
-use pat_place::{Pattern, Placement, rank, unrank};
+use crate::columns::{goal_number, kinds_of, masks_of, placements_from};
+use crate::neighbours::least_near;
+use pat_place::Pattern;
 use tab_file::TableView;
+use tab_lanes::first_bad;
 
 /// How many placements a block has.
 pub(crate) const BLOCK_RANKS: u64 = 256;
@@ -16,17 +18,29 @@ pub fn check_block(table: &TableView<'_>, block: u64) -> Option<u64>
     ensures { MatchOption result (BlockKeepsRule table.now block) (IsLeastBadIn table.now block) }
 {
     let pattern = table.pattern();
-    let width = u64::from(pattern.width());
-    let goal = rank(&Placement::goal(&pattern));
+    let width = usize::from(pattern.width());
     let first = block * BLOCK_RANKS;
-    let end = pattern.count().min(first + BLOCK_RANKS);
-    for place in first..end {
-        let placement = unrank(&pattern, place);
-        if let Some(slot) = first_bad_slot(table, &placement, place, goal) {
-            return Some(place * width + u64::from(slot));
-        }
+    let count = (pattern.count() - first).min(BLOCK_RANKS) as usize;
+    let begin = first as usize * width;
+    let len = count * width;
+    let all = placements_from(&pattern, first, count);
+    let placements = &all[..count];
+    let masks = masks_of(table, placements);
+    let kinds = kinds_of(&masks, begin as u64, goal_number(table));
+    let least = least_near(table, placements, &masks);
+    let entries = part(table.entries(), begin, len);
+    match first_bad(entries, part(&least, 0, len), part(&kinds, 0, len)) {
+        Some(place) => Some((begin + place) as u64),
+        None => None,
     }
-    None
+}
+
+/// So many bytes from this one on.
+fn part(bytes: &[u8], begin: usize, len: usize) -> &[u8]
+    requires { begin + len ≤ length bytes.now }
+    ensures { result.now ≡ take len (drop begin bytes.now) }
+{
+    &bytes[begin..begin + len]
 }
 
 /// How many blocks a table of the pattern has.

@@ -2,7 +2,7 @@
 
 ghost use Rattle.tab_check.specs.Counts.{IsCensusOf};
 
-use crate::rule::NO_WAY_HOME;
+use crate::entries::NO_WAY_HOME;
 use tab_lanes::{count_eq, greatest_count};
 
 /// How many entries a table has, how many of them say that no walk leads home, and the greatest count.

@@ -3,11 +3,12 @@
 
 mod blocks;
 mod census;
+mod columns;
+mod entries;
 mod jobs;
 pub mod laws;
 mod masks;
 mod neighbours;
-mod rule;
 mod tables;
 #[cfg(test)]
 mod tests;

@@ -19,8 +19,8 @@ ghost use Rattle.tab_check.specs.declared.tables.TableRefusal.TheVariants.{Head,
 ghost use Rattle.tab_check.specs.declared.tables.Count.TheVariants.{Finite, Never};
 
 use crate::census::{Census, census_of};
+use crate::entries::{NO_REGION, NO_WAY_HOME};
 use crate::jobs::TableCheck;
-use crate::rule::{NO_REGION, NO_WAY_HOME};
 use pat_place::{Pattern, Placement, rank, slot_of};
 use puz_board::Board;
 use std::alloc::Global;

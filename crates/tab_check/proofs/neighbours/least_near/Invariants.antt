@@ -1,7 +1,11 @@
-use Rattle.std.proofs.Common.{ℕ}
+use Rattle.std.proofs.Common.{◌≡◌, length}
+use Rattle.tab_check.specs.Columns.{EachSlot}
 use Rattle.tab_check.specs.LocalRule.{IsLeastOf}
-use Rattle.tab_check.specs.Moves.{IsEntryAmong, IsRegion}
+use Rattle.tab_check.specs.Moves.{IsEntryAmong}
 use Rattle.tab_check.proofs.neighbours.least_near.Given as goal
 
 abbrev pub invariant-loop-index : goal.invariant-loop-index
-invariant-loop-index l = (j : ℕ) → IsRegion l.table.pattern.side l.placement.cells j l.region → IsLeastOf (IsEntryAmong l.table l.placement.cells j l.index) l.least
+invariant-loop-index l = record {
+  each : EachSlot l.table.pattern l.placements (λ cells j. IsLeastOf (IsEntryAmong l.table cells j l.index)) (length l.placements) l.least;
+  len : length l.least ≡ 2048;
+}
