@@ -1,8 +1,7 @@
 -- The numbers of entries.
 use Rattle.std.proofs.Common.{◌≡◌, ℕ, suc, ◌+◌, ◌*◌, ◌<◌, ◌≤◌, length, sym, ◌∙◌, ap, ap₂, subst, arith}
 use Rattle.std.proofs.Math.Nat.{mul-le-mul_right}
-use Rattle.puz_board.proofs.CellLemmas.{by_side}
-use Rattle.pat_place.specs.Patterns.{PatternView, IsPattern, most_tiles, width}
+use Rattle.pat_place.specs.Patterns.{PatternView}
 use Rattle.pat_place.specs.Placements.{PlacementView, IsPlacement}
 use Rattle.pat_place.specs.Ranks.{placements}
 use Rattle.tab_file.specs.Tables.{entry_count, placement_count, slot_count}
@@ -22,12 +21,3 @@ number_there p q same is r w j low width slot =
     let count : length (placements q.pattern.side (length q.cells)) ≡ placement_count p =
     ap₂ (λ s k. length (placements s k)) (ap (λ x. x.side) same) (is.size ∙ ap (λ x. length x.tiles) same) in
     subst (λ v. r * v + j < entry_count p) (sym width) (number-lt p r j (omega (arith, count, low)) slot)
-
--- each placement has a slot
-pub some_slot : (p : PatternView) → IsPattern p → 0 < slot_count p
-some_slot p good = by_side (λ n. (k : ℕ) → k ≤ most_tiles n → 0 < width n k)
-    (λ k l. omega arith)
-    (λ k l. omega arith)
-    (λ k l. omega arith)
-    (λ k l. omega arith)
-    p.side good.low good.high (length p.tiles) good.most

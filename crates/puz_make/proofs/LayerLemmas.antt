@@ -1,6 +1,6 @@
 -- The parts of a layer.
-use Rattle.std.proofs.Common.{get_or, ◌≡◌, ℕ, true, false, subst, ◌≢◌, eq-eqb, ne_eqb, zero, suc, ◌+◌, ◌-◌, ◌*◌, ◌<◌, ◌≤◌, ◌==◌, ◌⊎◌, ⊎_elim, Bool, cond, List, [], ◌∷◌, ◌++◌, length, take, drop, min, sym, ◌∙◌, ap, ap₂, arith, refl}
-use Rattle.std.specs.Prelude.{filter, count_by, slice_index, Result, Ok, Err, IfOk, map}
+use Rattle.std.proofs.Common.{get_or, ◌≡◌, ℕ, false, subst, ◌≢◌, eq-eqb, ne_eqb, zero, suc, ◌+◌, ◌-◌, ◌*◌, ◌<◌, ◌≤◌, ◌==◌, ⊎_elim, Bool, cond, List, [], ◌∷◌, ◌++◌, length, take, drop, min, sym, ◌∙◌, ap, ap₂, arith, refl}
+use Rattle.std.specs.Prelude.{filter, count_by, slice_index, Result, Ok, map}
 use Rattle.std.specs.List.{range_with_len, AllZip}
 use Rattle.std.specs.declared.vec.Vec.{Vec}
 use Rattle.std.proofs.lemmas.List.{append-nil, append_assoc}

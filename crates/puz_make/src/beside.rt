@@ -1,14 +1,19 @@
 //! The entries one move of a tile away.
 
-use crate::entries::{NO_REGION, NO_WAY_HOME};
+use crate::entries::NO_WAY_HOME;
 use crate::grids::{Grid, mask_of};
+use crate::regions::{Regions, region_of};
 use crate::walks::Walk;
 use std::alloc::{AllocError, Global};
+
+/// How many moves of tiles into one region there are at most: eight tiles have four cells beside them each.
+const MOST_MOVES: usize = 32;
 
 /// The entries one move of a tile away from some entries that no walk has reached yet.
 pub(crate) fn list_beside(
     alloc: Global,
     grid: &Grid,
+    regions: &Regions,
     entries: &[u8],
     numbers: &[u32],
 ) -> Result<Vec<u32>, AllocError> {
@@ -16,31 +21,53 @@ pub(crate) fn list_beside(
     let mut walk = Walk::new(grid);
     for number in numbers {
         let slot = walk.go_to(*number);
-        let region = if has_one_region(entries, walk.first) {
-            walk.free
-        } else {
-            grid.region(walk.free, slot)
-        };
-        add_after_all(grid, entries, &walk, region, &mut near)?;
+        let region = region_of(regions.around(grid.all & !walk.free), walk.free, slot);
+        let mut found = Found::new();
+        find_after_all(grid, regions, entries, &walk, region, &mut found);
+        near.extend_from_slice(found.as_slice())?;
     }
     Ok(near)
 }
 
-/// Whether the placement that has this first entry has one region: then no region has the next slot.
-#[inline]
-fn has_one_region(entries: &[u8], first: u32) -> bool {
-    entries.get((first as usize).wrapping_add(1)) == Some(&NO_REGION)
+/// Entries that no walk has reached yet, one move away from one entry.
+#[derive(Clone, Copy)]
+struct Found {
+    numbers: [u32; MOST_MOVES],
+    count: usize,
 }
 
-/// Adds the entries after all moves of tiles into a region.
-fn add_after_all(
+impl Found {
+    fn new() -> Found {
+        Found {
+            numbers: [0; MOST_MOVES],
+            count: 0,
+        }
+    }
+
+    /// Adds an entry where it is new. There is no branch on this, which no processor could guess.
+    #[inline]
+    fn add(&mut self, number: u32, is_new: bool) {
+        if let Some(place) = self.numbers.get_mut(self.count) {
+            *place = number;
+        }
+        self.count = self.count.wrapping_add(usize::from(is_new));
+    }
+
+    fn as_slice(&self) -> &[u32] {
+        &self.numbers[..self.count.min(MOST_MOVES)]
+    }
+}
+
+/// Finds the entries after all moves of tiles into a region.
+fn find_after_all(
     grid: &Grid,
+    regions: &Regions,
     entries: &[u8],
     walk: &Walk<'_>,
     region: u32,
-    near: &mut Vec<u32>,
-) -> Result<(), AllocError> {
-    for (index, cell) in walk.cells.iter().enumerate().take(grid.size) {
+    found: &mut Found,
+) {
+    for (index, cell) in walk.cells.iter().enumerate().take(usize::from(grid.size)) {
         let mut rest = grid.beside(*cell) & region;
         for _ in 0..4 {
             if rest == 0 {
@@ -48,38 +75,31 @@ fn add_after_all(
             }
             let to = rest.trailing_zeros() as u8;
             rest &= rest.wrapping_sub(1);
-            add_after(grid, entries, walk, index, *cell, to, near)?;
+            let number = number_after(grid, regions, walk, index, *cell, to);
+            let is_new = entries.get(number as usize) == Some(&NO_WAY_HOME);
+            found.add(number, is_new);
         }
     }
-    Ok(())
 }
 
-/// Adds the entry after the move of one tile, by its index and its cell, to another cell.
+/// The number of the entry after the move of one tile, by its index and its cell, to another cell.
 #[inline]
-fn add_after(
+fn number_after(
     grid: &Grid,
-    entries: &[u8],
+    regions: &Regions,
     walk: &Walk<'_>,
     index: usize,
     cell: u8,
     to: u8,
-    near: &mut Vec<u32>,
-) -> Result<(), AllocError> {
+) -> u32 {
     let first = if cell < to {
         walk.first.wrapping_add(growth(grid, walk, index, cell, to))
     } else {
         walk.first.wrapping_sub(growth(grid, walk, index, to, cell))
     };
-    let slot = if has_one_region(entries, first) {
-        0
-    } else {
-        grid.slot_of(walk.free & !mask_of(to) | mask_of(cell), cell)
-    };
-    let number = first.wrapping_add(slot);
-    if entries.get(number as usize) == Some(&NO_WAY_HOME) {
-        near.push(number)?;
-    }
-    Ok(())
+    let free = walk.free & !mask_of(to) | mask_of(cell);
+    let slot = regions.around(grid.all & !free)[usize::from(cell % 32)];
+    first.wrapping_add(u32::from(slot))
 }
 
 /// By how much the number of a placement's first entry grows where a tile goes from the lower of two cells to the higher
@@ -91,7 +111,13 @@ fn growth(grid: &Grid, walk: &Walk<'_>, index: usize, low: u8, high: u8) -> u32 
         return weight;
     }
     let mut growth = weight.wrapping_mul(u32::from(high.wrapping_sub(low)));
-    for (other, (cell, passed)) in walk.cells.iter().zip(&grid.weights).enumerate().take(grid.size) {
+    for (other, (cell, passed)) in walk
+        .cells
+        .iter()
+        .zip(&grid.weights)
+        .enumerate()
+        .take(usize::from(grid.size))
+    {
         if low < *cell && *cell < high {
             growth = if other < index {
                 growth.wrapping_sub(weight)

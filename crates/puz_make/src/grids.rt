@@ -3,9 +3,6 @@
 use crate::entries::MOST_TILES;
 use pat_place::Pattern;
 
-/// How many regions a placement has at most, with one more for a tile's cell.
-const MOST_REGIONS: u8 = 9;
-
 /// How many steps lead from one cell of a board to each cell of its region at most.
 const MOST_STEPS: u8 = 25;
 
@@ -15,7 +12,7 @@ pub(crate) struct Grid {
     /// How many cells a row has.
     pub(crate) side: u8,
     /// How many tiles the pattern has.
-    pub(crate) size: usize,
+    pub(crate) size: u8,
     /// How many slots each placement has.
     pub(crate) width: usize,
     /// All cells.
@@ -40,7 +37,7 @@ impl Grid {
         };
         Grid {
             side,
-            size: usize::from(pattern.size()),
+            size: pattern.size(),
             width: usize::from(pattern.width()),
             all,
             weights: weights(pattern),
@@ -55,43 +52,9 @@ impl Grid {
         self.grown(mask_of(cell), self.all) & !mask_of(cell)
     }
 
-    /// The region of free cells with this number.
-    pub(crate) fn region(&self, free: u32, slot: u32) -> u32 {
-        let mut rest = free;
-        for _ in 0..slot {
-            rest &= !self.first_region(rest);
-        }
-        self.first_region(rest)
-    }
-
-    /// The number of the region of free cells that has a cell.
-    pub(crate) fn slot_of(&self, free: u32, cell: u8) -> u32 {
-        let mut rest = free;
-        for slot in 0..MOST_REGIONS {
-            let region = self.first_region(rest);
-            if region & mask_of(cell) != 0 {
-                return u32::from(slot);
-            }
-            rest &= !region;
-        }
-        0
-    }
-
-    /// How many regions the free cells have.
-    pub(crate) fn regions(&self, free: u32) -> usize {
-        let mut rest = free;
-        for count in 0..MOST_REGIONS {
-            if rest == 0 {
-                return usize::from(count);
-            }
-            rest &= !self.first_region(rest);
-        }
-        usize::from(MOST_REGIONS)
-    }
-
     /// The region of the least of some whole regions' cells.
     #[inline]
-    fn first_region(&self, free: u32) -> u32 {
+    pub(crate) fn first_region(&self, free: u32) -> u32 {
         let mut region = free & free.wrapping_neg();
         for _ in 0..MOST_STEPS {
             let more = self.grown(region, free);

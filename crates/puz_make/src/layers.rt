@@ -52,12 +52,7 @@ fn joined(alloc: Global, lists: &[Vec<u32>]) -> Result<Vec<u32>, AllocError>
 }
 
 /// The layer within the piece that begins with an entry.
-fn layer_of_piece(
-    alloc: Global,
-    entries: &[u8],
-    d: u8,
-    from: usize,
-) -> Result<Vec<u32>, AllocError>
+fn layer_of_piece(alloc: Global, entries: &[u8], d: u8, from: usize) -> Result<Vec<u32>, AllocError>
     requires few { length entries.now < 2 ^ 32 }
     requires from { from ≤ length entries.now }
     ensures { IfOk result (λ numbers. numbers.items ≡ layer_from d entries.now from (min 65536 (length entries.now - from))) }

@@ -8,6 +8,7 @@ mod grids;
 mod layers;
 mod logs;
 mod moves;
+mod regions;
 mod searches;
 mod tables;
 mod walks;

@@ -8,6 +8,7 @@ use crate::entries::{GREATEST_COUNT, NO_REGION, NO_WAY_HOME, entry_of, number_of
 use crate::faults::MakeFault;
 use crate::grids::Grid;
 use crate::layers::layer;
+use crate::regions::{Regions, count_of};
 use crate::walks::Walk;
 use pat_place::{Pattern, Placement};
 use rayon::prelude::*;
@@ -29,8 +30,9 @@ pub fn build<R: Threads + Sync>(
 ) -> Result<Vec<u8>, MakeFault> {
     let mut file = unmarked_file(alloc, pattern)?;
     let (_header, entries) = file.split_at_mut(20);
-    mark_regions(rt, &Grid::new(pattern), entries);
-    fill_layers(rt, alloc, pattern, entries)?;
+    let regions = Regions::new(alloc, &Grid::new(pattern))?;
+    mark_regions(rt, &Grid::new(pattern), &regions, entries);
+    fill_layers(rt, alloc, pattern, &regions, entries)?;
     Ok(file)
 }
 
@@ -48,7 +50,7 @@ fn unmarked_file(alloc: Global, pattern: &Pattern) -> Result<Vec<u8>, AllocError
 }
 
 /// Marks the entries of slots with regions as not yet reached.
-fn mark_regions<R: Threads + Sync>(rt: &R, grid: &Grid, entries: &mut [u8])
+fn mark_regions<R: Threads + Sync>(rt: &R, grid: &Grid, regions: &Regions, entries: &mut [u8])
     ensures { length entries.new ≡ length entries.old }
 {
     let width = grid.width.max(1);
@@ -56,12 +58,18 @@ fn mark_regions<R: Threads + Sync>(rt: &R, grid: &Grid, entries: &mut [u8])
         rt,
         entries,
         width.saturating_mul(MARKED),
-        |start, placements| mark_placements(grid, start, width, placements),
+        |start, placements| mark_placements(grid, regions, start, width, placements),
     );
 }
 
 /// Marks the entries of the placements from an entry on.
-fn mark_placements(grid: &Grid, start: usize, width: usize, placements: &mut [u8])
+fn mark_placements(
+    grid: &Grid,
+    regions: &Regions,
+    start: usize,
+    width: usize,
+    placements: &mut [u8],
+)
     requires { 0 < width }
     ensures { length placements.new ≡ length placements.old }
 {
@@ -71,7 +79,8 @@ fn mark_placements(grid: &Grid, start: usize, width: usize, placements: &mut [u8
             return;
         };
         walk.go_to(number);
-        for slot in slots.iter_mut().take(grid.regions(walk.free)) {
+        let count = count_of(regions.around(grid.all & !walk.free));
+        for slot in slots.iter_mut().take(usize::from(count)) {
             *slot = NO_WAY_HOME;
         }
     }
@@ -82,6 +91,7 @@ fn fill_layers<R: Threads + Sync>(
     rt: &R,
     alloc: Global,
     pattern: &Pattern,
+    regions: &Regions,
     entries: &mut [u8],
 ) -> Result<(), MakeFault>
     requires { length entries.old ≡ entry_count pattern.now }
@@ -90,7 +100,7 @@ fn fill_layers<R: Threads + Sync>(
     let home = number_of(pattern, &Placement::goal(pattern), 0);
     entries[home as usize] = 0;
     for count in 0..=GREATEST_COUNT {
-        let near = list_near(rt, alloc, pattern, entries, count)?;
+        let near = list_near(rt, alloc, pattern, regions, entries, count)?;
         if near.as_slice().iter().all(|list| list.is_empty()) {
             return Ok(());
         }
@@ -107,6 +117,7 @@ fn list_near<R: Threads + Sync>(
     rt: &R,
     alloc: Global,
     pattern: &Pattern,
+    regions: &Regions,
     entries: &[u8],
     count: u8,
 ) -> Result<Vec<Vec<u32>>, AllocError>
@@ -119,9 +130,9 @@ fn list_near<R: Threads + Sync>(
         .as_slice()
         .par_chunks(PIECE)
         .with_min_len(1)
-        .map(
-            |numbers: &[u32]| -> Result<Vec<u32>, AllocError> { list_beside(alloc, &grid, entries, numbers) },
-        )
+        .map(|numbers: &[u32]| -> Result<Vec<u32>, AllocError> {
+            list_beside(alloc, &grid, regions, entries, numbers)
+        })
         .collect::<Result<Vec<Vec<u32>>, AllocError>>(rt, alloc)?
 }
 

@@ -223,7 +223,11 @@ fn solutions_of_side_3_are_as_short_as_a_search_finds_them(rt: HostRuntime) -> R
     let search = LeastCosts::new(rt.alloc(), &[1, 2, 3, 4, 5, 6, 7, 8])?;
     let bundle = bundle(&rt, &[&first, &second], b"set 0 1\n");
     for numbers in &BOARDS_OF_SIDE_3 {
-        assert_eq!(rt; certified(&rt, &bundle, numbers), Ok(search.of(numbers)), "{numbers:?}");
+        assert_eq!(rt;
+            certified(&rt, &bundle, numbers),
+            Ok(search.of(numbers)),
+            "{numbers:?}"
+        );
     }
     Ok(())
 }

@@ -48,17 +48,14 @@ impl<'a> Walk<'a> {
 
     /// Places the tiles from this one on for an entry.
     fn place_from(&mut self, index: usize, number: u32) {
-        for index in index..self.grid.size.min(MOST_TILES) {
+        for index in index..usize::from(self.grid.size).min(MOST_TILES) {
             let (first, free) = if index == 0 {
                 (0, self.grid.all)
             } else {
                 (self.firsts[index - 1], self.frees[index - 1])
             };
             let weight = self.grid.weights[index];
-            let place = number
-                .wrapping_sub(first)
-                .checked_div(weight)
-                .unwrap_or(0);
+            let place = number.wrapping_sub(first).checked_div(weight).unwrap_or(0);
             let cell = cell_at(free, place);
             self.cells[index] = cell;
             self.firsts[index] = first.wrapping_add(place.wrapping_mul(weight));

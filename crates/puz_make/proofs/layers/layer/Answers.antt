@@ -1,6 +1,5 @@
-use Rattle.std.proofs.Common.{◌+◌, ◌/◌, ◌%◌, min, subst, ◌≡◌, ◌<◌, ◌-◌, ◌*◌, ◌≤◌, ℕ, arith, length, sym, ap, ◌∙◌}
+use Rattle.std.proofs.Common.{◌+◌, ◌/◌, ◌%◌, min, subst, ◌≡◌, ◌<◌, ◌-◌, ◌*◌, ◌≤◌, arith, length, sym, ap, ◌∙◌}
 use Rattle.rayon.proofs.ListFacts.{IfOk-then}
-use Rattle.rayon.proofs.ToStd.{nat_range-All}
 use Rattle.std.proofs.lemmas.List.FromFn.{length-range_with_len, get_or-range_with_len}
 use Rattle.std.specs.List.{range_with_len}
 use Rattle.puz_make.specs.Layers.{layer_from}

@@ -1,4 +1,4 @@
-use Rattle.std.proofs.Common.{◌≡◌, length, arith}
+use Rattle.std.proofs.Common.{arith}
 use Rattle.pat_place.proofs.CountLemmas.{few_slots}
 use Rattle.puz_make.proofs.tables.list_near.Goals as goal
 
