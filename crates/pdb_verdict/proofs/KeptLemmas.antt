@@ -1,23 +1,20 @@
 -- What a maker's yes keeps.
-use Rattle.std.proofs.Common.{◌≡◌, ◌∙◌, ℕ, List, [], ◌∷◌, ◌++◌, Bool, true, false, Some, Result, Ok, Err, ap, codes, inl, refl, subst, sym}
+use Rattle.std.proofs.Common.{◌≡◌, ◌∙◌, ℕ, List, [], ◌∷◌, Bool, true, false, Some, Ok, Err, ap, inl, refl, subst, sym}
 use Rattle.std.specs.Io.KnownBytes.{Appends}
 use Rattle.puz_board.specs.BoardTexts.{Spells}
 use Rattle.puz_board.specs.MovesTexts.{Solves}
-use Rattle.tab_check.specs.declared.census.Census.{Census}
-use Rattle.pdb_io.specs.Shelves.{Bytes, told_with}
+use Rattle.pdb_io.specs.Shelves.{Bytes}
 use Rattle.pdb_run.specs.Lines.{reply_text}
 use Rattle.pdb_run.specs.Plans.{Reply}
 use Rattle.pdb_run.specs.Readings.{AreRead}
-use Rattle.pdb_run.specs.Runs.{Ends, IsAnswered, World, kept, status_of_reply, with_kept}
-use Rattle.pdb_run.specs.declared.status.Status.{Status}
+use Rattle.pdb_run.specs.Runs.{Ends, World, kept, status_of_reply, with_kept}
 use Rattle.pdb_run.specs.declared.status.Status.TheVariants.{Yes, Refused}
 use Rattle.pdb_run.proofs.AnswerLemmas.{IsAnswered-ends}
-use Rattle.pdb_verdict.specs.Kept.{IsFoundLeast, IsLogKept, IsTableKept}
+use Rattle.pdb_verdict.specs.Kept.{IsLogKept, IsTableKept}
 use Rattle.pdb_verdict.specs.MadeTables.{Build, IsBuildFor, built, make_table_plan, reply_to_build, unbuilt}
 use Rattle.pdb_verdict.specs.Optima.{IsProvedOptimum}
 use Rattle.pdb_verdict.specs.Searches.{IsSearchOf, IsSolveReply, Search, puzzle_of, reply_to_search, searched, solve_inputs, solve_plan, unmade}
 use Rattle.pdb_verdict.specs.Tables.{IsExactFor}
-use Rattle.pdb_verdict.specs.declared.verdict.Fault.{Fault}
 use Rattle.pdb_verdict.specs.declared.verdict.Verdict.{Verdict}
 use Rattle.pdb_verdict.specs.declared.verdict.Verdict.TheVariants as verdict
 use Rattle.pdb_verdict.proofs.MakerLemmas.{solved-moves}

@@ -1,7 +1,7 @@
 -- `make-table SIDE MASK OUT`: a table is built, and kept where it is that of the pattern which the words name.
 --
 -- The maker is free: it may build any bytes, or give up. What is told of them, and whether they are kept, is not free.
-use Rattle.std.specs.Prelude.{◌≡◌, ◌⊎◌, ⊤, ℕ, false, [], Some, None, Result, Ok, Err, is_ok}
+use Rattle.std.specs.Prelude.{◌≡◌, ◌⊎◌, ⊤, ℕ, false, [], Some, None, Result, Ok, is_ok}
 use Rattle.pat_place.specs.Masks.{numbers_of}
 use Rattle.pat_place.specs.Patterns.{IsPattern}
 use Rattle.tab_check.specs.declared.census.Census.{Census}

@@ -170,6 +170,62 @@ fn solved<H: Threads + Wait>(
     Ok((status, out, shelf))
 }
 
+/// A shelf for a claim on moves and a log, over one table.
+fn claim_of<'x>(
+    alloc: Global,
+    puzzle: &'x [u8],
+    sets: &'x [u8],
+    log: &'x [u8],
+    table: &'x [u8],
+) -> Result<MemShelf, AllocError> {
+    MemShelf::of(
+        alloc,
+        &[
+            ("puzzle", puzzle),
+            ("sets", sets),
+            ("log", log),
+            ("table", table),
+        ],
+    )
+}
+
+/// What `optimal` says of a claim.
+fn verdict_on<H: Threads + Wait>(
+    alloc: Global,
+    mut claim: MemShelf,
+    workers: &Workers<'_, H, OpenGate>,
+) -> (Status, Vec<u8>) {
+    let names = ClaimNames {
+        text: "puzzle",
+        sets: "sets",
+        log: "log",
+        tables: &["table"],
+    };
+    let mut told = Vec::new(alloc);
+    let mut reader = b"".as_slice();
+    let status = run_optimal(alloc, names, workers, &mut claim, &mut reader, &mut told);
+    (status, told)
+}
+
+/// A board text, `;` and moves.
+fn puzzle_of<'x>(alloc: Global, board: &'x [u8], moves: &'x [u8]) -> Result<Vec<u8>, AllocError> {
+    joined(alloc, &[board, b";", moves])
+}
+
+/// Two digests, the letters of moves, and the line behind them.
+fn lines_of<'x>(
+    alloc: Global,
+    digests: &'x [u8],
+    moves: &'x [u8],
+    line: &'x [u8],
+) -> Result<Vec<u8>, AllocError> {
+    if moves.is_empty() {
+        joined(alloc, &[digests, b"moves\n", line])
+    } else {
+        joined(alloc, &[digests, b"moves ", moves, b"\n", line])
+    }
+}
+
 /// Checks that a search finds these moves, and that `optimal` says of them, and of the log that was kept, what the search said.
 fn check_solution<H: Threads + Wait + Abort>(
     rt: &H,
@@ -183,39 +239,12 @@ fn check_solution<H: Threads + Wait + Abort>(
         let (status, out, shelf) = solved(alloc, task, PLENTY, &workers)?;
         assert!(rt; status == Status::Yes);
         let log = shelf.get("o").ok_or("a log is kept")?;
-        let puzzle = joined(alloc, &[task.board, b";", moves])?;
-        let mut claims = MemShelf::of(
-            alloc,
-            &[
-                ("puzzle", puzzle.as_slice()),
-                ("sets", task.sets),
-                ("log", log),
-                ("table", task.table),
-            ],
-        )?;
-        let names = ClaimNames {
-            text: "puzzle",
-            sets: "sets",
-            log: "log",
-            tables: &["table"],
-        };
-        let mut told = Vec::new(alloc);
-        let mut reader = b"".as_slice();
-        let agreed = run_optimal(alloc, names, &workers, &mut claims, &mut reader, &mut told);
-        assert!(rt; agreed == Status::Yes && told.len() > 144);
-        let space: &[u8] = if moves.is_empty() { b"" } else { b" " };
-        let all = joined(
-            alloc,
-            &[
-                told.get(..144).ok_or("two digests")?,
-                b"moves",
-                space,
-                moves,
-                b"\n",
-                line,
-            ],
-        )?;
-        assert!(rt; out == all && told.ends_with(line));
+        let puzzle = puzzle_of(alloc, task.board, moves)?;
+        let claim = claim_of(alloc, puzzle.as_slice(), task.sets, log, task.table)?;
+        let (agreed, told) = verdict_on(alloc, claim, &workers);
+        assert!(rt; agreed == Status::Yes && told.ends_with(line));
+        let digests = told.get(..144).ok_or("two digests")?;
+        assert!(rt; out == lines_of(alloc, digests, moves, line)?);
     }
     Ok(())
 }

@@ -106,7 +106,10 @@ pub(crate) fn verify_optimal<H: Threads + Wait, G: Gate + Sync>(
     ensures holds { IfOk result (HoldsOfSolutions (optimum_claim puzzle.now sets.now log.now (all_bytes tables.now))) }
 {
     let (board, solution) = solved_board(puzzle)?;
-    compare(solution, bound_for(alloc, &board, sets, log, tables, workers))
+    compare(
+        solution,
+        bound_for(alloc, &board, sets, log, tables, workers),
+    )
 }
 
 /// As `verify_optimal`, over a bundle that is there.
