@@ -24,11 +24,12 @@ use Rattle.log_check.proofs.AnswerLemmas.{good_or_fault, one_bound, one_fault}
 use Rattle.pdb_io.specs.Shelves.{Bytes}
 use Rattle.pdb_verdict.specs.Bounds.{IsBoundFor, IsBoundOfText, IsBoundResult, IsProvedBound, IsRefusedLog, IsResultOfBoard, of_bound}
 use Rattle.pdb_verdict.specs.Bundles.{AreExactFiles, AreRefusedSets, IsBundleOfFiles, IsFirstRefused}
+use Rattle.pdb_verdict.specs.Steps.{IsFoundFor, IsFoundOver}
 use Rattle.pdb_verdict.specs.declared.verdict.Fault.{Fault}
 use Rattle.pdb_verdict.specs.declared.verdict.Fault.TheVariants as fault
 use Rattle.pdb_verdict.specs.declared.verdict.Verdict.{Verdict}
 use Rattle.pdb_verdict.specs.declared.verdict.Verdict.TheVariants as verdict
-use Rattle.pdb_verdict.proofs.BundleLemmas.{all_exact}
+use Rattle.pdb_verdict.proofs.BundleLemmas.{all_exact, bundle_taken}
 use Rattle.pdb_verdict.proofs.ReplayLemmas.{no_yes}
 
 -- ---- tables
@@ -122,6 +123,8 @@ module _ (board : List ℕ) (sets log : Bytes) (files : List Bytes) where
   from_bound n (Err (fault.Moves g)) is also = absurd also
   from_bound n (Err (fault.Table g)) is also = absurd also
   from_bound n (Err (fault.O1 s b)) is also = absurd also
+  from_bound n (Err (fault.Make unmade)) is also = absurd also
+  from_bound n (Err fault.K4) is also = absurd also
   from_bound n (Err fault.Memory) is also = absurd also
 
   from_table : (i : ℕ) (r : TableRefusal) (b : Result ℕ Fault) → IsFirstRefused files i r → Is b → Err (fault.TableOf i r) ≡ b
@@ -134,6 +137,8 @@ module _ (board : List ℕ) (sets log : Bytes) (files : List Bytes) where
   from_table i r (Err (fault.Moves g)) is also = absurd also
   from_table i r (Err (fault.Table g)) is also = absurd also
   from_table i r (Err (fault.O1 s b)) is also = absurd also
+  from_table i r (Err (fault.Make unmade)) is also = absurd also
+  from_table i r (Err fault.K4) is also = absurd also
   from_table i r (Err fault.Memory) is also = absurd also
 
   from_sets : (f : SetFault) (b : Result ℕ Fault) → AreRefusedSets files sets f → Is b → Err (fault.Sets f) ≡ b
@@ -146,6 +151,8 @@ module _ (board : List ℕ) (sets log : Bytes) (files : List Bytes) where
   from_sets f (Err (fault.Moves g)) is also = absurd also
   from_sets f (Err (fault.Table g)) is also = absurd also
   from_sets f (Err (fault.O1 s b)) is also = absurd also
+  from_sets f (Err (fault.Make unmade)) is also = absurd also
+  from_sets f (Err fault.K4) is also = absurd also
   from_sets f (Err fault.Memory) is also = absurd also
 
   from_log : (f : LogRefusal) (b : Result ℕ Fault) → IsRefusedLog board sets log files f → Is b → Err (fault.Log f) ≡ b
@@ -158,6 +165,8 @@ module _ (board : List ℕ) (sets log : Bytes) (files : List Bytes) where
   from_log f (Err (fault.Moves g)) is also = absurd also
   from_log f (Err (fault.Table g)) is also = absurd also
   from_log f (Err (fault.O1 s b)) is also = absurd also
+  from_log f (Err (fault.Make unmade)) is also = absurd also
+  from_log f (Err fault.K4) is also = absurd also
   from_log f (Err fault.Memory) is also = absurd also
 
   -- one thing is found
@@ -171,7 +180,27 @@ module _ (board : List ℕ) (sets log : Bytes) (files : List Bytes) where
   found_one (Err (fault.Moves g)) b is also = absurd is
   found_one (Err (fault.Table g)) b is also = absurd is
   found_one (Err (fault.O1 s c)) b is also = absurd is
+  found_one (Err (fault.Make unmade)) b is also = absurd is
+  found_one (Err fault.K4) b is also = absurd is
   found_one (Err fault.Memory) b is also = absurd is
+
+-- ---- over a bundle
+
+module _ (board : List ℕ) (sets log : Bytes) (files : List Bytes) (bundle : BundleView) (is_bundle : IsBundleOfFiles files sets bundle) where
+  -- what is found over the bundle that files make is found for them
+  pub found_over : (found : Result ℕ Fault) → IsFoundOver bundle board log found → IsFoundFor board sets log files found
+  found_over (Ok n) is = inl (record { bundle = bundle; is_bundle = is_bundle; good = is })
+  found_over (Err (fault.Log refused)) is = inl (record { bundle = bundle; is_bundle = is_bundle; fault = is })
+  found_over (Err fault.Memory) is = inr (bundle_taken files sets bundle is_bundle, refl)
+  found_over (Err fault.P1) is = absurd is
+  found_over (Err (fault.Board refused)) is = absurd is
+  found_over (Err (fault.Moves refused)) is = absurd is
+  found_over (Err (fault.Table refused)) is = absurd is
+  found_over (Err (fault.TableOf number refused)) is = absurd is
+  found_over (Err (fault.Sets refused)) is = absurd is
+  found_over (Err (fault.O1 solution bound)) is = absurd is
+  found_over (Err (fault.Make unmade)) is = absurd is
+  found_over (Err fault.K4) is = absurd is
 
 -- ---- the result of `bound`
 
