@@ -12,7 +12,7 @@ use pdb_io::streams::WriteFault;
 use std::io::Write;
 
 /// The most bytes of the lines behind the digests.
-pub const LINES_LEN: usize = 256;
+pub const LINES_LEN: usize = 512;
 
 /// Lines, as a value.
 pub type Lines = ArrayString<LINES_LEN>;

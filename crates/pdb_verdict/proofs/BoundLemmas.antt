@@ -122,6 +122,8 @@ module _ (board : List ℕ) (sets log : Bytes) (files : List Bytes) where
   from_bound n (Err (fault.Moves g)) is also = absurd also
   from_bound n (Err (fault.Table g)) is also = absurd also
   from_bound n (Err (fault.O1 s b)) is also = absurd also
+  from_bound n (Err (fault.Make unmade)) is also = absurd also
+  from_bound n (Err fault.K4) is also = absurd also
   from_bound n (Err fault.Memory) is also = absurd also
 
   from_table : (i : ℕ) (r : TableRefusal) (b : Result ℕ Fault) → IsFirstRefused files i r → Is b → Err (fault.TableOf i r) ≡ b
@@ -134,6 +136,8 @@ module _ (board : List ℕ) (sets log : Bytes) (files : List Bytes) where
   from_table i r (Err (fault.Moves g)) is also = absurd also
   from_table i r (Err (fault.Table g)) is also = absurd also
   from_table i r (Err (fault.O1 s b)) is also = absurd also
+  from_table i r (Err (fault.Make unmade)) is also = absurd also
+  from_table i r (Err fault.K4) is also = absurd also
   from_table i r (Err fault.Memory) is also = absurd also
 
   from_sets : (f : SetFault) (b : Result ℕ Fault) → AreRefusedSets files sets f → Is b → Err (fault.Sets f) ≡ b
@@ -146,6 +150,8 @@ module _ (board : List ℕ) (sets log : Bytes) (files : List Bytes) where
   from_sets f (Err (fault.Moves g)) is also = absurd also
   from_sets f (Err (fault.Table g)) is also = absurd also
   from_sets f (Err (fault.O1 s b)) is also = absurd also
+  from_sets f (Err (fault.Make unmade)) is also = absurd also
+  from_sets f (Err fault.K4) is also = absurd also
   from_sets f (Err fault.Memory) is also = absurd also
 
   from_log : (f : LogRefusal) (b : Result ℕ Fault) → IsRefusedLog board sets log files f → Is b → Err (fault.Log f) ≡ b
@@ -158,6 +164,8 @@ module _ (board : List ℕ) (sets log : Bytes) (files : List Bytes) where
   from_log f (Err (fault.Moves g)) is also = absurd also
   from_log f (Err (fault.Table g)) is also = absurd also
   from_log f (Err (fault.O1 s b)) is also = absurd also
+  from_log f (Err (fault.Make unmade)) is also = absurd also
+  from_log f (Err fault.K4) is also = absurd also
   from_log f (Err fault.Memory) is also = absurd also
 
   -- one thing is found
@@ -171,6 +179,8 @@ module _ (board : List ℕ) (sets log : Bytes) (files : List Bytes) where
   found_one (Err (fault.Moves g)) b is also = absurd is
   found_one (Err (fault.Table g)) b is also = absurd is
   found_one (Err (fault.O1 s c)) b is also = absurd is
+  found_one (Err (fault.Make unmade)) b is also = absurd is
+  found_one (Err fault.K4) b is also = absurd is
   found_one (Err fault.Memory) b is also = absurd is
 
 -- ---- the result of `bound`

@@ -75,3 +75,5 @@ cause_for_tables tables files i expected file (fault.Table refused) are there co
 cause_for_tables tables files i expected file (fault.Sets refused) are there counted is = absurd is
 cause_for_tables tables files i expected file (fault.Log refused) are there counted is = absurd is
 cause_for_tables tables files i expected file (fault.O1 solution bound) are there counted is = absurd is
+cause_for_tables tables files i expected file (fault.Make unmade) are there counted is = absurd is
+cause_for_tables tables files i expected file fault.K4 are there counted is = absurd is

@@ -1,6 +1,8 @@
 mod BoundLemmas
 mod BundleLemmas
+mod KeptLemmas
 mod LineLemmas
+mod MakerLemmas
 mod OptimumLemmas
 mod ReplayLemmas
 mod ResultLemmas

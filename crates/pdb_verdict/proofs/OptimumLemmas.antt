@@ -14,7 +14,7 @@ use Rattle.set_sum.specs.Bounds.{IsBounded}
 use Rattle.pdb_io.specs.Shelves.{Bytes}
 use Rattle.pdb_verdict.specs.Bounds.{IsBoundFor, IsProvedBound}
 use Rattle.pdb_verdict.specs.Given.{optimum_claim}
-use Rattle.pdb_verdict.specs.Optima.{IsOptimum, IsOptimumResult, IsProvedOptimum, IsResultOfPuzzle, of_halves, solved_board, solved_by, solved_parts}
+use Rattle.pdb_verdict.specs.Optima.{IsLeastCount, IsOptimum, IsOptimumResult, IsProvedOptimum, IsResultOfPuzzle, of_halves, solved_board, solved_by, solved_parts}
 use Rattle.pdb_verdict.specs.Replays.{IsSolvedPuzzle}
 use Rattle.pdb_verdict.specs.Steps.{IsFoundFor}
 use Rattle.pdb_verdict.specs.Verdicts.{IsAnswerTo}
@@ -69,11 +69,11 @@ parts-solved puzzle n h =
     ∙ ap (solved_by h.board) (replay_of-solved h.board h.moves_text n h.spelt.board h.solved)
 
 -- no solution of fewer moves than this one makes it a shortest
+least_count : (puzzle : List ℕ) (n : ℕ) (solved : IsSolvedPuzzle puzzle n) → IsBounded solved.board n → IsLeastCount solved.board n
+least_count puzzle n solved bounded = record { path = solved.solved.path; solution = solved.solved.solution; count = solved.solved.count; bounded = bounded }
+
 least_by : (puzzle : List ℕ) (n : ℕ) (solved : IsSolvedPuzzle puzzle n) → IsBounded solved.board n → IsOptimum puzzle n
-least_by puzzle n solved bounded = record {
-  solved = solved;
-  least = record { path = solved.solved.path; solution = solved.solved.solution; count = solved.solved.count; bounded = bounded };
-}
+least_by puzzle n solved bounded = record { solved = solved; least = least_count puzzle n solved bounded }
 
 -- with a bound that is the number of moves, that is the least number of moves of any solution
 pub is_optimum : (puzzle board : List ℕ) (n bound : ℕ) → solved_parts (puzzle_parts puzzle) ≡ Ok (board, n) → n ≡ bound → IsBounded board bound → IsOptimum puzzle bound
@@ -85,6 +85,9 @@ is_optimum puzzle board n bound is same bounded =
 -- so is it where that bound is proved
 pub proved_optimum : (puzzle sets log : Bytes) (files : List Bytes) (n : ℕ) → IsProvedOptimum puzzle sets log files n → IsOptimum puzzle n
 proved_optimum puzzle sets log files n h = least_by puzzle n h.solved (proved_bounds h.solved.board sets log files n h.proved)
+
+pub proved_least : (puzzle sets log : Bytes) (files : List Bytes) (n : ℕ) (h : IsProvedOptimum puzzle sets log files n) → IsLeastCount h.solved.board n
+proved_least puzzle sets log files n h = least_count puzzle n h.solved (proved_bounds h.solved.board sets log files n h.proved)
 
 -- what is found for the board of a puzzle that is solved is the answer to the claim
 pub found_answers : (puzzle sets log : Bytes) (tables : List Bytes) (board : List ℕ) (n : ℕ) (found : Result ℕ Fault) → solved_parts (puzzle_parts puzzle) ≡ Ok (board, n)

@@ -46,6 +46,8 @@ module _ (file : List ℕ) where
   to_exact side mask census (Err (fault.Sets refused)) is also = absurd also
   to_exact side mask census (Err (fault.Log refused)) is also = absurd also
   to_exact side mask census (Err (fault.O1 solution bound)) is also = absurd also
+  to_exact side mask census (Err (fault.Make unmade)) is also = absurd also
+  to_exact side mask census (Err fault.K4) is also = absurd also
   to_exact side mask census (Err fault.Memory) is also = absurd also
 
   to_fault : (refused : TableRefusal) (b : Result Verdict Fault) → IsFaultOf refused file → IsTableResult file b → Err (fault.Table refused) ≡ b
@@ -61,6 +63,8 @@ module _ (file : List ℕ) where
   to_fault refused (Err (fault.Sets other)) is also = absurd also
   to_fault refused (Err (fault.Log other)) is also = absurd also
   to_fault refused (Err (fault.O1 solution bound)) is also = absurd also
+  to_fault refused (Err (fault.Make unmade)) is also = absurd also
+  to_fault refused (Err fault.K4) is also = absurd also
   to_fault refused (Err fault.Memory) is also = absurd also
 
   pub IsTableResult-one : (a b : Result Verdict Fault) → IsTableResult file a → IsTableResult file b → a ≡ b
@@ -76,4 +80,6 @@ module _ (file : List ℕ) where
   IsTableResult-one (Err (fault.Sets refused)) b is also = absurd is
   IsTableResult-one (Err (fault.Log refused)) b is also = absurd is
   IsTableResult-one (Err (fault.O1 solution bound)) b is also = absurd is
+  IsTableResult-one (Err (fault.Make unmade)) b is also = absurd is
+  IsTableResult-one (Err fault.K4) b is also = absurd is
   IsTableResult-one (Err fault.Memory) b is also = absurd is

@@ -21,6 +21,8 @@ use Rattle.pdb_run.specs.Plans.{Reply}
 use Rattle.pdb_verdict.specs.Given.{Given, puzzle_text, table_file, bound_claim, optimum_claim}
 use Rattle.pdb_verdict.specs.declared.verdict.Fault.{Fault}
 use Rattle.pdb_verdict.specs.declared.verdict.Fault.TheVariants as fault
+use Rattle.pdb_verdict.specs.declared.verdict.MakeRefusal.{MakeRefusal}
+use Rattle.pdb_verdict.specs.declared.verdict.MakeRefusal.TheVariants.{K1, K2, K3}
 use Rattle.pdb_verdict.specs.declared.verdict.Verdict.{Verdict}
 use Rattle.pdb_verdict.specs.declared.verdict.Verdict.TheVariants as verdict
 
@@ -96,6 +98,12 @@ line_of_log_refusal L4 = codes "refused L4\n"
 line_of_log_refusal L5 = codes "refused L5\n"
 line_of_log_refusal (L6 lemma) = counted (codes "refused L6 at lemma ") lemma
 
+-- of a maker that makes nothing
+abbrev pub line_of_make_refusal : MakeRefusal → Bytes
+line_of_make_refusal K1 = codes "refused K1\n"
+line_of_make_refusal K2 = codes "refused K2\n"
+line_of_make_refusal K3 = codes "refused K3\n"
+
 -- of a refusal, or of want of memory
 abbrev pub line_of_fault : Fault → Bytes
 line_of_fault fault.P1 = codes "refused P1\n"
@@ -106,6 +114,8 @@ line_of_fault (fault.TableOf number refused) = line_of_numbered_table_refusal nu
 line_of_fault (fault.Sets refused) = line_of_set_fault refused
 line_of_fault (fault.Log refused) = line_of_log_refusal refused
 line_of_fault (fault.O1 solution bound) = counted_twice (codes "refused O1 solution ") solution (codes " bound ") bound
+line_of_fault (fault.Make refused) = line_of_make_refusal refused
+line_of_fault fault.K4 = codes "refused K4\n"
 line_of_fault fault.Memory = memory_line
 
 -- the side and the mask of a table's pattern, and its census

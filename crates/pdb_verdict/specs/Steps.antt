@@ -1,13 +1,17 @@
--- What the steps of a check of a log answer: a result, or want of memory in its place.
-use Rattle.std.specs.Prelude.{◌≡◌, ◌⊎◌, ℕ, List, Result, Err}
+-- What the steps of a check of a log, and of a maker, answer: a result, or want of memory in its place.
+use Rattle.std.specs.Prelude.{◌≡◌, ◌⊎◌, ⊤, ℕ, List, Result, Ok, Err, length}
 use Rattle.tab_file.specs.TableFiles.{IsTableFile}
 use Rattle.tab_file.specs.Tables.{Table}
 use Rattle.tab_check.specs.TableFaults.{IsFaultOf}
 use Rattle.pdb_io.specs.Shelves.{Bytes}
-use Rattle.pdb_verdict.specs.Bounds.{IsBoundFor}
+use Rattle.pdb_verdict.specs.Bounds.{IsBoundFor, TakesMemoryForBound}
 use Rattle.pdb_verdict.specs.Bundles.{AreRefusedSets, IsFirstRefused, TakesMemoryForTables}
+use Rattle.pdb_verdict.specs.MadeTables.{ArePattern, IsUnbuilt}
+use Rattle.pdb_verdict.specs.Searches.{IsUnmade, letters_of}
 use Rattle.pdb_verdict.specs.declared.verdict.Fault.{Fault}
 use Rattle.pdb_verdict.specs.declared.verdict.Fault.TheVariants as fault
+use Rattle.pdb_verdict.specs.declared.verdict.Verdict.{Verdict}
+use Rattle.pdb_verdict.specs.declared.verdict.Verdict.TheVariants as verdict
 
 -- why there isn't the table of the file with this number: it is refused, or want of memory, which comes of table files alone
 abbrev pub IsCauseForFile : Fault → ℕ → Bytes → Type 0
@@ -25,6 +29,19 @@ IsCauseForTables cause files = ⊥
 abbrev pub IsCauseForBundle : Fault → List Bytes → Bytes → Type 0
 IsCauseForBundle (fault.Sets refused) files sets = AreRefusedSets files sets refused
 IsCauseForBundle cause files sets = IsCauseForTables cause files
+
+-- why a maker of a table builds none, or want of memory, which comes of patterns alone
+abbrev pub IsCauseForBuild : ℕ → ℕ → Fault → Type 0
+IsCauseForBuild side mask cause = IsUnbuilt side mask cause ⊎ (ArePattern side mask × (cause ≡ fault.Memory))
+
+-- why a search makes no log, or want of memory, which comes where the check of the tables takes some
+abbrev pub IsCauseForSearch : Bytes → Bytes → List Bytes → Fault → Type 0
+IsCauseForSearch text sets tables cause = IsUnmade text sets tables cause ⊎ (TakesMemoryForBound text tables × (cause ≡ fault.Memory))
+
+-- an optimum is the number of these moves
+abbrev pub HasItsMoves : Bytes → Result Verdict Fault → Type 0
+HasItsMoves moves (Ok (verdict.Optimal n)) = length (letters_of moves) ≡ n
+HasItsMoves moves answer = ⊤
 
 -- the bound for a board, or why there is none, or want of memory
 abbrev pub IsFoundFor : List ℕ → Bytes → Bytes → List Bytes → Result ℕ Fault → Type 0

@@ -39,7 +39,10 @@ pub(crate) fn claim_inputs<'t, 'n>(
 }
 
 /// Adds the table files under these names.
-fn push_tables<'n>(inputs: &mut Vec<Input<'n>>, names: &[&'n str]) -> Result<(), AllocError>
+pub(crate) fn push_tables<'n>(
+    inputs: &mut Vec<Input<'n>>,
+    names: &[&'n str],
+) -> Result<(), AllocError>
     ensures { OnOk result (map wanted_of inputs.new.items ≡ map wanted_of inputs.old.items ++ map a_table (map (λ name. name.now) names.now)) }
 {
     for name in names {

@@ -34,6 +34,17 @@ pub enum Verdict {
     Optimal(u8),
 }
 
+/// Why a maker makes nothing.
+#[derive(Clone, Copy, Debug, PartialEq, Eq)]
+pub enum MakeRefusal {
+    /// The search has expanded as many boards as it may.
+    K1,
+    /// The next threshold of the search would be above 255, or a set says of the board that it has no solution.
+    K2,
+    /// A count of the table would be above 253.
+    K3,
+}
+
 /// A no, or want of memory.
 #[derive(Clone, Copy, Debug, PartialEq, Eq, Error)]
 pub enum Fault {
@@ -61,6 +72,12 @@ pub enum Fault {
     /// The moves are a solution, and more than the bound that the log proves.
     #[error("the solution has {solution} moves, and the bound is {bound}")]
     O1 { solution: u16, bound: u8 },
+    /// The maker makes nothing.
+    #[error("nothing is made: {0:?}")]
+    Make(MakeRefusal),
+    /// A side and a mask are no pattern, or the table that was built for them is exact for another pattern.
+    #[error("this is no pattern, or the table that was built is that of another one")]
+    K4,
     /// Memory was refused.
     #[error("no memory")]
     Memory,
