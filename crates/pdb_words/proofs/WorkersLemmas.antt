@@ -1,5 +1,5 @@
 -- Texts that write a number of workers, or a budget.
-use Rattle.std.proofs.Common.{◌≡◌, arith, false, Bool}
+use Rattle.std.proofs.Common.{◌≡◌, arith, false, ℕ, Bool}
 use Rattle.std.specs.Prelude.{pos}
 use Rattle.clap.specs.ValueTests.{accepts}
 use Rattle.clap.specs.Walk.{Text}
