@@ -24,11 +24,12 @@ use Rattle.log_check.proofs.AnswerLemmas.{good_or_fault, one_bound, one_fault}
 use Rattle.pdb_io.specs.Shelves.{Bytes}
 use Rattle.pdb_verdict.specs.Bounds.{IsBoundFor, IsBoundOfText, IsBoundResult, IsProvedBound, IsRefusedLog, IsResultOfBoard, of_bound}
 use Rattle.pdb_verdict.specs.Bundles.{AreExactFiles, AreRefusedSets, IsBundleOfFiles, IsFirstRefused}
+use Rattle.pdb_verdict.specs.Steps.{IsFoundFor, IsFoundOver}
 use Rattle.pdb_verdict.specs.declared.verdict.Fault.{Fault}
 use Rattle.pdb_verdict.specs.declared.verdict.Fault.TheVariants as fault
 use Rattle.pdb_verdict.specs.declared.verdict.Verdict.{Verdict}
 use Rattle.pdb_verdict.specs.declared.verdict.Verdict.TheVariants as verdict
-use Rattle.pdb_verdict.proofs.BundleLemmas.{all_exact}
+use Rattle.pdb_verdict.proofs.BundleLemmas.{all_exact, bundle_taken}
 use Rattle.pdb_verdict.proofs.ReplayLemmas.{no_yes}
 
 -- ---- tables
@@ -182,6 +183,24 @@ module _ (board : List ℕ) (sets log : Bytes) (files : List Bytes) where
   found_one (Err (fault.Make unmade)) b is also = absurd is
   found_one (Err fault.K4) b is also = absurd is
   found_one (Err fault.Memory) b is also = absurd is
+
+-- ---- over a bundle
+
+module _ (board : List ℕ) (sets log : Bytes) (files : List Bytes) (bundle : BundleView) (is_bundle : IsBundleOfFiles files sets bundle) where
+  -- what is found over the bundle that files make is found for them
+  pub found_over : (found : Result ℕ Fault) → IsFoundOver bundle board log found → IsFoundFor board sets log files found
+  found_over (Ok n) is = inl (record { bundle = bundle; is_bundle = is_bundle; good = is })
+  found_over (Err (fault.Log refused)) is = inl (record { bundle = bundle; is_bundle = is_bundle; fault = is })
+  found_over (Err fault.Memory) is = inr (bundle_taken files sets bundle is_bundle, refl)
+  found_over (Err fault.P1) is = absurd is
+  found_over (Err (fault.Board refused)) is = absurd is
+  found_over (Err (fault.Moves refused)) is = absurd is
+  found_over (Err (fault.Table refused)) is = absurd is
+  found_over (Err (fault.TableOf number refused)) is = absurd is
+  found_over (Err (fault.Sets refused)) is = absurd is
+  found_over (Err (fault.O1 solution bound)) is = absurd is
+  found_over (Err (fault.Make unmade)) is = absurd is
+  found_over (Err fault.K4) is = absurd is
 
 -- ---- the result of `bound`
 

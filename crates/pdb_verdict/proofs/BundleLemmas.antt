@@ -8,8 +8,9 @@ use Rattle.std.specs.Option.{option_map}
 use Rattle.tab_file.specs.TableFiles.{IsTableFile}
 use Rattle.tab_file.specs.Tables.{Table}
 use Rattle.tab_check.specs.ExactTables.{IsExactFile, IsExactTable}
+use Rattle.set_sum.specs.Bundles.{BundleView}
 use Rattle.pdb_io.specs.Shelves.{Bytes}
-use Rattle.pdb_verdict.specs.Bundles.{AreExactFiles, TakesMemoryForTables}
+use Rattle.pdb_verdict.specs.Bundles.{AreExactFiles, IsBundleOfFiles, TakesMemoryForTables}
 use Rattle.pdb_verdict.specs.Steps.{IsCauseForFile, IsCauseForTables}
 use Rattle.pdb_verdict.specs.declared.verdict.Fault.{Fault}
 use Rattle.pdb_verdict.specs.declared.verdict.Fault.TheVariants as fault
@@ -52,6 +53,15 @@ pub all_exact : (tables : List Table) (files : List Bytes) → AreExactFiles tab
 all_exact [] files are = tt
 all_exact (t ∷ tables) [] are = absurd are
 all_exact (t ∷ tables) (file ∷ files) are = (record { is_table = are.0.is_file.table; exact = are.0.exact }, all_exact tables files are.1)
+
+exact_taken : (tables : List Table) (files : List Bytes) → 0 < length tables → AreExactFiles tables files → TakesMemoryForTables files
+exact_taken [] files some are = absurd (omega arith)
+exact_taken (t ∷ tables) [] some are = absurd are
+exact_taken (t ∷ tables) (file ∷ files) some are = (t, are.0.is_file)
+
+-- what makes a bundle has a table file, so it takes memory to check it
+pub bundle_taken : (files : List Bytes) (sets : Bytes) (bundle : BundleView) → IsBundleOfFiles files sets bundle → TakesMemoryForTables files
+bundle_taken files sets bundle is = exact_taken is.tables files is.makes.alike.count.some is.exact
 
 -- what keeps one file's table away keeps away those of all
 pub cause_for_tables : (tables : List Table) (files : List Bytes) (i expected : ℕ) (file : Bytes) (cause : Fault) → AreExactFiles tables (take i files)

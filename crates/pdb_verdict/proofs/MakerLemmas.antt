@@ -1,5 +1,5 @@
 -- What comes of makers.
-use Rattle.std.proofs.Common.{◌≡◌, ◌∙◌, ℕ, suc, ◌+◌, ◌-◌, ◌<◌, ◌≤◌, Bool, true, false, cond, List, [], ◌∷◌, ◌++◌, Option, Some, None, Result, Ok, Err, length, map, drop, get_or, take, not, ◌||◌, ap, append_assoc, arith, inl, inr, length-append, refl, subst, sym}
+use Rattle.std.proofs.Common.{◌≡◌, ◌≢◌, ◌∙◌, ℕ, suc, ◌+◌, ◌-◌, ◌<◌, ◌≤◌, Bool, true, false, cond, List, [], ◌∷◌, ◌++◌, Option, Some, None, Result, Ok, Err, IfErr, length, map, drop, get_or, take, not, ◌||◌, ap, append_assoc, arith, inl, inr, length-append, refl, subst, sym}
 use Rattle.std.specs.Prelude.{◌==◌, position, slice_range}
 use Rattle.std.specs.Char.{is_ascii_digit}
 use Rattle.std.specs.List.{cons_option, position_or_len}
@@ -8,6 +8,7 @@ use Rattle.std.proofs.lemmas.Grind.{get_or_default_zero}
 use Rattle.std.proofs.lemmas.List.{drop_more, length-map, take_all}
 use Rattle.std.proofs.lemmas.List.Sums.{fails_before_first}
 use Rattle.puz_board.specs.BoardTexts.{Spells, is_separator, stray_byte}
+use Rattle.puz_board.specs.Boards.{side_of}
 use Rattle.puz_board.specs.Cells.{move_of_letter}
 use Rattle.puz_board.specs.MovesTexts.{moves_of}
 use Rattle.puz_board.specs.Paths.{Leads}
@@ -16,19 +17,23 @@ use Rattle.puz_board.specs.declared.moves.Move.{Move}
 use Rattle.puz_board.proofs.PuzzleLemmas.{puzzle_parts-puzzle}
 use Rattle.puz_board.proofs.SpellingLemmas.{stray_byte-numerals}
 use Rattle.set_sum.specs.Bundles.{BundleView}
-use Rattle.tab_file.specs.Tables.{Table}
 use Rattle.pdb_io.specs.Shelves.{Bytes}
-use Rattle.pdb_verdict.specs.Bundles.{AreExactFiles, IsBundleOfFiles, TakesMemoryForTables}
+use Rattle.pdb_verdict.specs.Bundles.{IsBundleOfFiles}
 use Rattle.pdb_verdict.specs.Given.{table_file}
 use Rattle.pdb_verdict.specs.MadeTables.{IsOfAnother, SpeaksOf}
-use Rattle.pdb_verdict.specs.Searches.{IsMade, letter_of, letters_of, puzzle_of}
-use Rattle.pdb_verdict.specs.Steps.{HasItsMoves}
+use Rattle.pdb_verdict.specs.Searches.{AreForBoard, IsMade, letter_of, letters_of, puzzle_of}
+use Rattle.pdb_verdict.specs.Steps.{HasItsMoves, IsCauseForSearch, IsGivenUp, IsMadeOver, IsOptimumOver}
+use Rattle.pdb_verdict.specs.Optima.{IsResultOfPuzzle, of_halves, solved_parts}
 use Rattle.pdb_verdict.specs.Replays.{IsSolvedPuzzle}
 use Rattle.pdb_verdict.specs.Tables.{IsTableResult}
 use Rattle.pdb_verdict.specs.Verdicts.{IsAnswerTo}
 use Rattle.pdb_verdict.specs.declared.verdict.Fault.{Fault}
+use Rattle.pdb_verdict.specs.declared.verdict.Fault.TheVariants as fault
+use Rattle.pdb_verdict.specs.declared.verdict.MakeRefusal.TheVariants.{K1, K2, K3}
 use Rattle.pdb_verdict.specs.declared.verdict.Verdict.{Verdict}
 use Rattle.pdb_verdict.specs.declared.verdict.Verdict.TheVariants as verdict
+use Rattle.pdb_verdict.proofs.BoundLemmas.{found_over}
+use Rattle.pdb_verdict.proofs.BundleLemmas.{bundle_taken}
 use Rattle.pdb_verdict.proofs.OptimumLemmas.{IsOptimumResult-yes}
 
 -- ---- tables
@@ -47,16 +52,48 @@ another_built side mask file answer is other = elim is [
   | inr lacks ↦ absurd (other (subst (SpeaksOf side mask) (sym lacks.1) tt))
 ]
 
--- ---- memory
+-- ---- searches over a bundle
 
-exact_taken : (tables : List Table) (files : List Bytes) → 0 < length tables → AreExactFiles tables files → TakesMemoryForTables files
-exact_taken [] files some are = absurd (omega arith)
-exact_taken (t ∷ tables) [] some are = absurd are
-exact_taken (t ∷ tables) (file ∷ files) some are = (t, are.0.is_file)
+module _ (text sets : Bytes) (files : List Bytes) (bundle : BundleView) (is_bundle : IsBundleOfFiles files sets bundle) where
+  of_puzzle : (log : Bytes) (r : Result (List ℕ × ℕ) Fault) (answer : Result Verdict Fault) → IsOptimumOver bundle r log answer → answer ≢ Err fault.Memory
+      → IsResultOfPuzzle r sets log files answer
+  of_puzzle log (Err refused) answer is no_want = is
+  of_puzzle log (Ok solved) answer is no_want = elim (found_over solved.0 sets log files bundle is_bundle is.0 is.1) [
+    | inl found ↦ (is.0, found, is.2)
+    | inr lacks ↦ absurd (no_want (is.2 ∙ ap (of_halves solved.1) lacks.1))
+  ]
 
--- what makes a bundle has a table file, so it takes memory to check it
-pub bundle_taken : (files : List Bytes) (sets : Bytes) (bundle : BundleView) → IsBundleOfFiles files sets bundle → TakesMemoryForTables files
-bundle_taken files sets bundle is = exact_taken is.tables files is.makes.alike.count.some is.exact
+  module _ (board : List ℕ) (spelt : Spells text board) (one_side : side_of board ≡ bundle.side) where
+    searchable : AreForBoard board sets files
+    searchable = record { bundle = bundle; is_bundle = is_bundle; one_side = one_side }
+
+    -- what is made over the bundle of files is made of them
+    pub made_over : (moves log : Bytes) (answer : Result Verdict Fault) → IsMadeOver bundle text moves log answer → IsMade text sets files moves log answer
+    made_over moves log answer is = record {
+      could = record { board = board; spelt = spelt; are_for = searchable };
+      is_result = of_puzzle log (solved_parts (puzzle_parts (puzzle_of text moves))) answer is.is_result is.no_want;
+    }
+
+    -- so is what is given up
+    pub given_up : (cause : Fault) → IsGivenUp cause → IsCauseForSearch text sets files cause
+    given_up (fault.Make K1) is = inl (record { board = board; spelt = spelt; unmade = searchable })
+    given_up (fault.Make K2) is = inl (record { board = board; spelt = spelt; unmade = searchable })
+    given_up (fault.Make K3) is = absurd is
+    given_up fault.Memory is = inr (record { board = board; spelt = spelt; tables_take = bundle_taken files sets bundle is_bundle }, refl)
+    given_up fault.P1 is = absurd is
+    given_up (fault.Board refused) is = absurd is
+    given_up (fault.Moves refused) is = absurd is
+    given_up (fault.Table refused) is = absurd is
+    given_up (fault.TableOf number refused) is = absurd is
+    given_up (fault.Sets refused) is = absurd is
+    given_up (fault.Log refused) is = absurd is
+    given_up (fault.O1 solution bound) is = absurd is
+    given_up fault.K4 is = absurd is
+
+-- what follows from each error follows from an error
+pub if_err : {A : Type 0} (r : Result A Fault) (P Q : Fault → Type 0) → ((cause : Fault) → P cause → Q cause) → IfErr r P → IfErr r Q
+if_err (Ok x) P Q all is = tt
+if_err (Err cause) P Q all is = all cause is
 
 -- ---- the puzzle text of a search
 

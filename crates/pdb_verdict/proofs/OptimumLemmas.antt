@@ -75,14 +75,7 @@ least_count puzzle n solved bounded = record { path = solved.solved.path; soluti
 least_by : (puzzle : List ℕ) (n : ℕ) (solved : IsSolvedPuzzle puzzle n) → IsBounded solved.board n → IsOptimum puzzle n
 least_by puzzle n solved bounded = record { solved = solved; least = least_count puzzle n solved bounded }
 
--- with a bound that is the number of moves, that is the least number of moves of any solution
-pub is_optimum : (puzzle board : List ℕ) (n bound : ℕ) → solved_parts (puzzle_parts puzzle) ≡ Ok (board, n) → n ≡ bound → IsBounded board bound → IsOptimum puzzle bound
-is_optimum puzzle board n bound is same bounded =
-    let solved_with = solved-parts puzzle board n is in
-    let solved : IsSolvedPuzzle puzzle n = solved_with.0 in
-    subst (IsOptimum puzzle) same (least_by puzzle n solved (subst (IsBounded solved.board) (sym same) (subst (λ b. IsBounded b bound) (sym solved_with.1) bounded)))
-
--- so is it where that bound is proved
+-- so is a solution whose number of moves is proved as a bound
 pub proved_optimum : (puzzle sets log : Bytes) (files : List Bytes) (n : ℕ) → IsProvedOptimum puzzle sets log files n → IsOptimum puzzle n
 proved_optimum puzzle sets log files n h = least_by puzzle n h.solved (proved_bounds h.solved.board sets log files n h.proved)
 

@@ -1,5 +1,5 @@
 -- Inputs have one result, and it is a verdict exactly where that is true.
-use Rattle.std.proofs.Common.{◌≡◌, ◌∙◌, ◌↔◌, ◌⊎◌, inl, inr, Result, Ok, subst, sym}
+use Rattle.std.proofs.Common.{◌≡◌, ◌∙◌, ◌↔◌, ◌⊎◌, IfOk, inl, inr, refl, Result, Ok, Err, subst, sym}
 use Rattle.pdb_verdict.proofs.BoundLemmas.{IsBoundResult-bound, IsBoundResult-one, IsBoundResult-proved, proved_bounds}
 use Rattle.pdb_verdict.proofs.OptimumLemmas.{IsOptimumResult-one, IsOptimumResult-proved, IsOptimumResult-yes, proved_optimum}
 use Rattle.pdb_verdict.proofs.ReplayLemmas.{IsReplayResult-counted, IsReplayResult-one, IsReplayResult-solution, no_yes}
@@ -67,3 +67,8 @@ true_is_yes inputs answer is verdict holds = elim is [
   | inl result ↦ inl (IsResult-one inputs answer (Ok verdict) result ((IsResult-true inputs verdict).1 holds))
   | inr lacks ↦ inr lacks
 ]
+
+-- what is answered with a yes holds of the solutions
+pub answer_holds : (inputs : Given) (answer : Result Verdict Fault) → IsAnswerTo inputs answer → IfOk answer (HoldsOfSolutions inputs)
+answer_holds inputs (Ok verdict) is = true_holds inputs verdict (yes_is_true inputs (Ok verdict) is verdict refl)
+answer_holds inputs (Err refused) is = tt

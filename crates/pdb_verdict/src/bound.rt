@@ -6,7 +6,7 @@ ghost use Rattle.pdb_run.specs.Replies.{all_bytes, reply_of};
 ghost use Rattle.pdb_run.specs.Runs.{Ends, world};
 ghost use Rattle.pdb_verdict.specs.Bounds.{BoundTakesMemory, IsBoundReply, bound_inputs, bound_plan};
 ghost use Rattle.pdb_verdict.specs.Given.{bound_claim};
-ghost use Rattle.pdb_verdict.specs.Steps.{IsFoundFor};
+ghost use Rattle.pdb_verdict.specs.Steps.{IsFoundFor, IsFoundOver};
 ghost use Rattle.pdb_verdict.specs.Verdicts.{HoldsOfSolutions, IsAnswerTo};
 
 use crate::bundles::read_bundle;
@@ -19,6 +19,7 @@ use log_check::{LogFault, check_log};
 use pdb_io::shelf::Shelf;
 use pdb_run::{Answer, Command, Input, Status, conclude, read_inputs};
 use puz_board::Board;
+use set_sum::Bundle;
 use std::alloc::{AllocError, Global};
 use std::io::{Read, Write};
 use std::sync::Wait;
@@ -123,10 +124,24 @@ pub(crate) fn bound_for<H: Threads + Wait, G: Gate + Sync>(
     ensures bounded { IfOk result (IsBounded board.now) }
 {
     let bundle = read_bundle(alloc, tables, sets, workers)?;
+    bound_over(alloc, &bundle, board, log, workers)
+}
+
+/// The bound that a log proves for a board, over a bundle.
+pub(crate) fn bound_over<H: Threads + Wait, G: Gate + Sync>(
+    alloc: Global,
+    bundle: &Bundle<'_>,
+    board: &Board,
+    log: &[u8],
+    workers: &Workers<'_, H, G>,
+) -> Result<u8, Fault>
+    ensures found { IsFoundOver bundle.now board.now log.now result }
+    ensures bounded { IfOk result (IsBounded board.now) }
+{
     match check_log(
         workers.rt,
         alloc,
-        &bundle,
+        bundle,
         log,
         board,
         workers.count,

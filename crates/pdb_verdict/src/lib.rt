@@ -38,4 +38,6 @@ pub use workers::Workers;
 #[cfg(test)]
 mod claim_tests;
 #[cfg(test)]
+mod maker_tests;
+#[cfg(test)]
 mod tests;

@@ -1,13 +1,15 @@
 //! Whether the moves of a puzzle text are a solution, and a log proves that none has fewer.
 
-ghost use Rattle.std.specs.Prelude.{◌≤◌, length, map, IfOk, OnErr};
+ghost use Rattle.std.specs.Prelude.{◌≡◌, ◌≤◌, length, map, IfOk, OnErr};
+ghost use Rattle.puz_board.specs.PuzzleTexts.{puzzle_parts};
 ghost use Rattle.pdb_run.specs.Replies.{all_bytes, reply_of};
 ghost use Rattle.pdb_run.specs.Runs.{Ends, world};
 ghost use Rattle.pdb_verdict.specs.Given.{optimum_claim};
-ghost use Rattle.pdb_verdict.specs.Optima.{IsOptimumReply, OptimumTakesMemory, optimum_inputs, optimum_plan};
+ghost use Rattle.pdb_verdict.specs.Optima.{IsOptimumReply, OptimumTakesMemory, of_halves, optimum_inputs, optimum_plan, solved_parts};
+ghost use Rattle.pdb_verdict.specs.Steps.{IsOptimumOver};
 ghost use Rattle.pdb_verdict.specs.Verdicts.{HoldsOfSolutions, IsAnswerTo};
 
-use crate::bound::bound_for;
+use crate::bound::{bound_for, bound_over};
 use crate::claims::{ClaimNames, claim_inputs};
 use crate::inputs::Inputs;
 use crate::replay::solved_board;
@@ -16,6 +18,7 @@ use crate::verdict::{Fault, Verdict};
 use crate::workers::Workers;
 use pdb_io::shelf::Shelf;
 use pdb_run::{Answer, Command, Input, Status, conclude, read_inputs};
+use set_sum::Bundle;
 use std::alloc::{AllocError, Global};
 use std::io::{Read, Write};
 use std::sync::Wait;
@@ -103,7 +106,28 @@ pub(crate) fn verify_optimal<H: Threads + Wait, G: Gate + Sync>(
     ensures holds { IfOk result (HoldsOfSolutions (optimum_claim puzzle.now sets.now log.now (all_bytes tables.now))) }
 {
     let (board, solution) = solved_board(puzzle)?;
-    let bound = bound_for(alloc, &board, sets, log, tables, workers)?;
+    compare(solution, bound_for(alloc, &board, sets, log, tables, workers))
+}
+
+/// As `verify_optimal`, over a bundle that is there.
+pub(crate) fn optimum_over<H: Threads + Wait, G: Gate + Sync>(
+    alloc: Global,
+    bundle: &Bundle<'_>,
+    puzzle: &[u8],
+    log: &[u8],
+    workers: &Workers<'_, H, G>,
+) -> Result<Verdict, Fault>
+    ensures { IsOptimumOver bundle.now (solved_parts (puzzle_parts puzzle.now)) log.now result }
+{
+    let (board, solution) = solved_board(puzzle)?;
+    compare(solution, bound_over(alloc, bundle, &board, log, workers))
+}
+
+/// The verdict on how many moves solve a board, and on what a log proves for it.
+fn compare(solution: u16, found: Result<u8, Fault>) -> Result<Verdict, Fault>
+    ensures { result ≡ of_halves solution found }
+{
+    let bound = found?;
     if solution == u16::from(bound) {
         Ok(Verdict::Optimal(bound))
     } else {

@@ -1,16 +1,17 @@
 //! Searches for a shortest solution, and keeps the log that proves it shortest once both are checked.
 
-ghost use Rattle.std.specs.Prelude.{◌≡◌, ◌≤◌, Some, length, map, IfErr, IfOk, OnErr, OnOk};
+ghost use Rattle.std.specs.Prelude.{◌≡◌, ◌≤◌, Some, length, map, IfErr, IfOk, OnErr};
+ghost use Rattle.puz_board.specs.Boards.{side_of};
 ghost use Rattle.pdb_run.specs.Replies.{all_bytes, reply_of};
 ghost use Rattle.pdb_run.specs.Runs.{Ends, world};
-ghost use Rattle.pdb_verdict.specs.Searches.{IsMade, IsSearchable, IsSolveReply, SolveTakesMemory, puzzle_of, reply_to_search, searched, solve_inputs, solve_plan, unmade};
-ghost use Rattle.pdb_verdict.specs.Steps.{HasItsMoves, IsCauseForSearch};
+ghost use Rattle.pdb_verdict.specs.Searches.{IsMade, IsSolveReply, SolveTakesMemory, puzzle_of, reply_to_search, searched, solve_inputs, solve_plan, unmade};
+ghost use Rattle.pdb_verdict.specs.Steps.{HasItsMoves, IsCauseForSearch, IsGivenUp, IsMadeOver};
 
 use crate::bundles::read_bundle;
 use crate::claims::push_tables;
 use crate::limits::a_text;
 use crate::lines::line_of;
-use crate::optimal::verify_optimal;
+use crate::optimal::optimum_over;
 use crate::solutions::lines_on;
 use crate::verdict::{Fault, MakeRefusal, Verdict};
 use crate::workers::Workers;
@@ -19,6 +20,7 @@ use pdb_io::shelf::Shelf;
 use pdb_run::{Answer, Command, Input, Status, keep_and_conclude, read_inputs};
 use puz_board::Board;
 use puz_make::{Found, MakeFault, solve};
+use set_sum::Bundle;
 use std::alloc::{AllocError, Global};
 use std::io::{Read, Write};
 use std::sync::Wait;
@@ -163,43 +165,45 @@ fn search<H: Threads + Wait, G: Gate + Sync>(
     ensures made { IfOk result (λ made. IsMade text.now sets.now (all_bytes tables.now) made.moves.items made.log.items made.answer) }
     ensures unmade { IfErr result (λ cause. IsCauseForSearch text.now sets.now (all_bytes tables.now) cause) }
 {
-    let found = find(alloc, text, sets, tables, budget, workers)?;
+    let board = Board::read(text).map_err(Fault::Board)?;
+    let bundle = read_bundle(alloc, tables, sets, workers)?;
+    if board.side() != bundle.side() {
+        return Err(Fault::Log(LogRefusal::L4));
+    }
+    search_over(alloc, &bundle, &board, text, budget, workers)
+}
+
+/// Searches for a shortest solution of the board that a text spells, over a bundle of its side, and checks what is found.
+fn search_over<H: Threads + Wait, G: Gate + Sync>(
+    alloc: Global,
+    bundle: &Bundle<'_>,
+    board: &Board,
+    text: &[u8],
+    budget: u64,
+    workers: &Workers<'_, H, G>,
+) -> Result<Made, Fault>
+    requires { side_of board.now ≡ bundle.now.side }
+    ensures made { IfOk result (λ made. IsMadeOver bundle.now text.now made.moves.items made.log.items made.answer) }
+    ensures unmade { IfErr result IsGivenUp }
+{
+    let found = find(alloc, bundle, board, budget)?;
     let Ok(puzzle) = join(alloc, text, found.moves.as_slice()) else {
         return Err(Fault::Memory);
     };
     let (moves, log) = (found.moves, found.log);
-    let answer = verify_optimal(
-        alloc,
-        puzzle.as_slice(),
-        sets,
-        log.as_slice(),
-        tables,
-        workers,
-    );
+    let answer = optimum_over(alloc, bundle, puzzle.as_slice(), log.as_slice(), workers);
     match answer {
         Err(Fault::Memory) => Err(Fault::Memory),
         answer => Ok(Made { moves, log, answer }),
     }
 }
 
-/// What a search finds for the board of a text, unchecked.
-fn find<H: Threads + Wait, G: Gate + Sync>(
-    alloc: Global,
-    text: &[u8],
-    sets: &[u8],
-    tables: &[Vec<u8>],
-    budget: u64,
-    workers: &Workers<'_, H, G>,
-) -> Result<Found, Fault>
-    ensures found { OnOk result (IsSearchable text.now sets.now (all_bytes tables.now)) }
-    ensures unmade { IfErr result (λ cause. IsCauseForSearch text.now sets.now (all_bytes tables.now) cause) }
+/// What a search finds, unchecked.
+fn find(alloc: Global, bundle: &Bundle<'_>, board: &Board, budget: u64) -> Result<Found, Fault>
+    requires { side_of board.now ≡ bundle.now.side }
+    ensures { IfErr result IsGivenUp }
 {
-    let board = Board::read(text).map_err(Fault::Board)?;
-    let bundle = read_bundle(alloc, tables, sets, workers)?;
-    if board.side() != bundle.side() {
-        return Err(Fault::Log(LogRefusal::L4));
-    }
-    match solve(alloc, &bundle, &board, budget) {
+    match solve(alloc, bundle, board, budget) {
         Ok(found) => Ok(found),
         Err(MakeFault::K1) => Err(Fault::Make(MakeRefusal::K1)),
         Err(MakeFault::Memory) => Err(Fault::Memory),
