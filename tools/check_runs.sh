@@ -181,7 +181,7 @@ expect 'a name of more than one byte a letter' 2 'fault read né →' : replay '
 #
 
 for words in --help -h help 'help replay' 'help table' 'help bound' 'help optimal' 'help help' 'replay --help' 'table -h' \
-    'bound --help' 'optimal b s l t -h'; do
+    'bound --help' 'optimal b s l t -h' 'help make-table' 'make-table -h' 'help solve' 'solve --help'; do
     # shellcheck disable=SC2086
     run $words
     check "help by $words" told_help
@@ -191,7 +191,10 @@ for words in rplay 'replay a b' 'replay --workers 2' 'replay --workers 2 solved'
     'table F1 --workers 0' 'table F1 --workers 65' 'table F1 --workers x' 'table F1 --workers -1' 'table F1 --workers 1.5' \
     'table F1 --workers 256' 'table F1 --workers 18446744073709551617' bound 'bound b' 'bound b s' 'bound b s l' \
     'bound --workers 2 b s l' 'bound b s l t --workers 0' 'bound b s l t --workers 65' 'bound b s l t --none' \
-    optimal 'optimal p s l' 'optimal p s l t --workers x'; do
+    optimal 'optimal p s l' 'optimal p s l t --workers x' make-table 'make-table 2' 'make-table 2 14' 'make-table x 2 o' \
+    'make-table 2 x o' 'make-table -2 14 o' 'make-table 256 2 o' 'make-table 2 4294967296 o' 'make-table 2 14 o p' \
+    'make-table 2 14 o --workers 0' 'make-table 2 14 o --budget 1' solve 'solve b s o' 'solve --budget 0 b s o t' \
+    'solve b s o t --budget 1000000000001' 'solve b s o t --budget x' 'solve b s o t --workers 65'; do
     # shellcheck disable=SC2086
     run $words
     check "the mistake in $words" told_a_mistake
@@ -498,6 +501,119 @@ check 'memory was refused to some runs' [ "$refusals" -gt 0 ]
 #
 # Runs at once, and writes.
 #
+# Tables and logs that are made.
+#
+
+# Whether the folder holds the names of before, and this one, if it is given, and no others.
+names_of() {
+    find . -mindepth 1 | sort
+}
+only_new() {
+    names_of | cmp -s - <(printf '%s\n' "$names_before" ${1:+"./$1"} | sort)
+}
+
+# A table that is made must be told, and be this file: made FILE LINE SIDE MASK WORD..
+made() {
+    local digest
+    rm -f made
+    names_before=$(names_of)
+    digest=$(sha256sum <"$1")
+    expect "make-table ${*:3}" 0 "sha256 ${digest%% *}" "$2" : make-table "$3" "$4" made "${@:5}"
+    check "make-table ${*:3} keeps its table" cmp -s "$1" made
+    check "make-table ${*:3} keeps nothing else" only_new made
+}
+
+made F123 'exact side 2 mask 14 entries 24 unreachable 12 deepest 6' 2 14
+made F12 'exact side 2 mask 6 entries 24 unreachable 8 deepest 4' 2 6
+made F24 'exact side 5 mask 16777216 entries 50 unreachable 0 deepest 8' 5 16777216
+for workers in 1 2 7; do
+    made all_of_side_3 'exact side 3 mask 510 entries 362880 unreachable 181440 deepest 31' 3 510 --workers "$workers"
+done
+rm -f made
+names_before=$(names_of)
+for numbers in '2 1' '6 2' '2 0' '2 15' '5 254' '0 0' '255 4294967295'; do
+    # shellcheck disable=SC2086
+    expect "make-table $numbers" 1 'refused K4' : make-table $numbers made
+    check "make-table $numbers keeps nothing" only_new
+done
+echo 'what stood here' >taken
+expect 'make-table without a pattern over a file' 1 'refused K4' : make-table 2 1 taken
+check 'a refusal leaves the file' cmp -s taken <(echo 'what stood here')
+digest=$(sha256sum <F12)
+expect 'make-table over a file' 0 "sha256 ${digest%% *}" 'exact side 2 mask 6 entries 24 unreachable 8 deepest 4' : \
+    make-table 2 6 taken
+check 'the file is replaced' cmp -s taken F12
+rm taken
+
+# What is found for a board must be told with its log's digest, and `optimal` must say the same of it:
+# solved BOARD MOVES TABLE WORD..
+solved() {
+    local board=$1 moves=$2 file=$3 table log letters
+    shift 3
+    rm -f made
+    names_before=$(names_of)
+    table=$(sha256sum <"$file")
+    run solve "$board" one_set made "$file" "$@"
+    log=$(sha256sum 2>/dev/null <made)
+    letters=$(sed -n '3s/^moves *//p' "$work/output")
+    check "solve $board $*" wrote 0 "sha256 ${table%% *}" "sha256 ${log%% *}" "moves${letters:+ $letters}" "optimal $moves"
+    check "solve $board $* tells as many letters" [ "${#letters}" = "$moves" ]
+    check "solve $board $* keeps nothing else" only_new made
+    { cat "$board" && echo "; $letters"; } >"$work/puzzle"
+    expect "optimal of what solve $board $* found" 0 "sha256 ${table%% *}" "sha256 ${log%% *}" "optimal $moves" : \
+        optimal "$work/puzzle" one_set made "$file"
+}
+
+echo '0 1 2 3' >solved_board
+echo '1 0 2 3' >next_board
+echo '0 1 3 2' >unsolvable_board
+solved solved_board 0 F123
+solved next_board 1 F123
+solved board 6 F12
+solved board 6 F123 --workers 7
+solved board 6 F12 --workers 2 --budget 1000
+rm -f made
+names_before=$(names_of)
+for words in 'unsolvable_board F123 K2' 'solved_board F24 L4' 'board F12 K1 --budget 1'; do
+    read -r board file refusal flags <<<"$words"
+    digest=$(sha256sum <"$file")
+    # shellcheck disable=SC2086
+    expect "solve $words" 1 "sha256 ${digest%% *}" "refused $refusal" : solve "$board" one_set made "$file" $flags
+    check "solve $words keeps nothing" only_new
+done
+expect 'solve without a board' 2 'fault read none' : solve none one_set made F12
+cp board both
+run solve both one_set both F12
+check 'solve over its own board' [ "$status.$(tail -n 1 "$work/output")" = '0.optimal 6' ]
+{ cat board && sed -n 's/^moves/;/p' "$work/output"; } >"$work/puzzle"
+run optimal "$work/puzzle" one_set both F12
+check 'what stands there is the log' [ "$status.$(tail -n 1 "$work/output")" = '0.optimal 6' ]
+rm both
+
+# Files that can't be written.
+names_before=$(names_of)
+expect 'a folder that is not there' 2 'fault write no_folder/made' : make-table 2 6 no_folder/made
+expect 'a log in a folder that is not there' 2 'fault write no_folder/made' : solve board one_set no_folder/made F12
+mkdir "$work/a_folder"
+expect 'a folder in the place of a file' 2 "fault write $work/a_folder" : make-table 2 6 "$work/a_folder"
+check 'nothing is left of files that can not be written' only_new
+expect 'an empty name' 2 'fault write ' : make-table 2 6 ''
+check 'nothing is left of an empty name' only_new
+if [ "$(id -u)" != 0 ]; then
+    chmod a-w "$work/a_folder"
+    expect 'a folder that can not be written' 2 "fault write $work/a_folder/made" : make-table 2 6 "$work/a_folder/made"
+    chmod u+w "$work/a_folder"
+fi
+check 'the folder is as it was' [ -z "$(ls -A "$work/a_folder")" ]
+expect 'a device without room' 2 'fault write /dev/full' : make-table 2 6 /dev/full
+status=0
+"$program" make-table 2 6 made >/dev/full 2>"$work/errors" || status=$?
+: >"$work/output"
+check 'a made table on a full standard output' [ "$status" = 2 ]
+check 'what was made stays' cmp -s made F12
+rm made
+
+#
 
 : >"$work/errors"
 digest=$(sha256sum <F1)
@@ -521,7 +637,8 @@ packets = list(iter(lambda: os.read(ends[0], 1 << 16), b""))
 print(len(packets))
 END
 for words in 'table F1' 'table F1_of_FF' 'replay solved' 'replay none' --help \
-    'bound board one_set leaf F123' 'optimal six_moves one_set branches F12'; do
+    'bound board one_set leaf F123' 'optimal six_moves one_set branches F12' 'make-table 2 6 made' 'make-table 2 1 made' \
+    'solve board one_set made F12'; do
     # shellcheck disable=SC2086
     python3 "$work/writes.py" "$program" $words >"$work/output" 2>"$work/errors"
     status=$?

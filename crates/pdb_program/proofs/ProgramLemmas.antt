@@ -1,17 +1,19 @@
 -- The numbers by which runs end.
-use Rattle.std.proofs.Common.{◌≡◌, ◌⊎◌, ◌<◌, ◌≤◌, inl, inr, refl, subst, lit≤, arith, length, ℕ, List, Option}
+use Rattle.std.proofs.Common.{◌≡◌, ◌⊎◌, ◌∙◌, ◌≤◌, inl, inr, refl, sym, ap, subst, lit≤, arith, ℕ, List, [], Option, Some, None}
 use Rattle.std.specs.Io.KnownBytes.{Keeps}
 use Rattle.pdb_io.specs.Shelves.{Bytes}
 use Rattle.pdb_run.specs.Plans.{Plan}
-use Rattle.pdb_run.specs.Runs.{Ends, IsAnswered, World, no_memory}
+use Rattle.pdb_run.specs.Runs.{Ends, HasCause, IsAnswered, LeavesFiles, Outcome, WantsMemory, World, kept, no_memory, replied, unkept, unread, with_kept}
 use Rattle.pdb_run.specs.Statuses.{number_of}
 use Rattle.pdb_run.specs.declared.status.Status.{Status}
 use Rattle.pdb_run.specs.declared.status.Status.TheVariants.{Yes, Refused, Fault, NoMemory}
 use Rattle.pdb_run.proofs.AnswerLemmas.{IsAnswered-ends}
-use Rattle.pdb_words.specs.Asked.{Asked, bound, optimal, replay, table}
+use Rattle.pdb_verdict.specs.MadeTables.{make_table_plan}
+use Rattle.pdb_verdict.proofs.KeptLemmas.{log_kept, table_kept}
+use Rattle.pdb_words.specs.Asked.{Asked, bound, make_table, optimal, replay, solve, table}
 use Rattle.pdb_words.specs.CommandLine.{Parses, asked_of}
 use Rattle.pdb_words.specs.Faults.{IsMistaken}
-use Rattle.pdb_program.specs.Programs.{IsNumberOf, RunsOn, plan_of}
+use Rattle.pdb_program.specs.Programs.{AskToKeepNothing, HasKept, IsNumberOf, RunsOn, plan_of, taking_memory}
 use Rattle.pdb_program.specs.Refusals.{Refuses}
 
 other : (n number : ℕ) → 2 ≤ n → number ≡ n → (number ≡ 0) ⊎ (number ≡ 1) → ⊥
@@ -28,26 +30,95 @@ answered_by plan old new number NoMemory e ends is = absurd (other 3 number (lit
 pub runs_on : (words other : List Bytes) (old new : World) (old_err new_err : Option Bytes) (number : ℕ) → words ≡ other
     → (Parses words → IsNumberOf (Ends (plan_of (asked_of words)) old new) number)
     → ((Parses words → ⊥) → IsNumberOf (Refuses words old.written new.written old_err new_err) number)
-    → Keeps old_err new_err ⊎ IsMistaken words → new.files ≡ old.files → RunsOn other old new old_err new_err number
-runs_on words other old new old_err new_err number same ends refuses quiet files =
-    subst (λ (all : List Bytes). RunsOn all old new old_err new_err number) same (record { ends = ends; refuses = refuses; quiet = quiet; same = files })
+    → Keeps old_err new_err ⊎ IsMistaken words → (Parses words → number ≡ 0 → HasKept (asked_of words) old new) → (AskToKeepNothing words → new.files ≡ old.files)
+    → RunsOn other old new old_err new_err number
+runs_on words other old new old_err new_err number same ends refuses quiet kept files =
+    subst (λ (all : List Bytes). RunsOn all old new old_err new_err number) same (record { ends = ends; refuses = refuses; quiet = quiet; kept = kept; same = files })
 
 -- ---- words that parse, where memory was refused
 
--- something is read, whatever is asked for
-reads : (asked : Asked) → 0 < length (plan_of asked).inputs
-reads (replay name) = omega arith
-reads (table name workers) = omega arith
-reads (bound board sets log tables workers) = omega arith
-reads (optimal puzzle sets log tables workers) = omega arith
+-- whatever is asked for, memory may be wanted: to list what is read, or for a table that is to be made
+wants : (asked : Asked) (old : World) → WantsMemory (plan_of asked) old
+wants (replay name) old = inl (omega arith)
+wants (table name workers) old = inl (omega arith)
+wants (bound board sets log tables workers) old = inl (omega arith)
+wants (optimal puzzle sets log tables workers) old = inl (omega arith)
+wants (make_table side mask out workers) old = inr ([], tt, tt)
+wants (solve board sets out tables workers budget) old = inl (omega arith)
 
 -- what is said of a fault in words that parse is want of memory
 pub parsed_ends : (words : List Bytes) (old new : World) (old_err new_err : Option Bytes) (status : Status) → Parses words → new.files ≡ old.files
     → Refuses words old.written new.written old_err new_err status → Ends (plan_of (asked_of words)) old new status
 parsed_ends words old new old_err new_err status parses files refuses = elim refuses [
-  | inl memory ↦ record { outcome = no_memory; cause = inl (reads (asked_of words)); files = files; said = memory.0 }
+  | inl memory ↦ record { outcome = no_memory; cause = wants (asked_of words) old; files = files; said = memory.0 }
   | inr others ↦ elim others [
     | inl mistake ↦ absurd (rw parses at mistake.0.among)
     | inr help ↦ absurd (rw parses at help.0)
   ]
 ]
+
+-- ---- what a run keeps
+
+module _ (plan : Plan) (old new : World) (status : Status) where
+  left : (outcome : Outcome) → plan.keeps_under ≡ None → HasCause plan old new.failed outcome → LeavesFiles plan old.files new.files outcome → new.files ≡ old.files
+  left (replied inputs reply) none cause files = files ∙ ap (λ (name : Option Bytes). with_kept old.files name (kept reply)) none
+  left (unread wanted why) none cause files = files
+  left (unkept name why) none cause files = let clash : None ≡ Some name = sym none ∙ cause.under in cc
+  left no_memory none cause files = files
+
+  -- a run that keeps nothing leaves the files as they were
+  pub kept_nothing : plan.keeps_under ≡ None → Ends plan old new status → new.files ≡ old.files
+  kept_nothing none ends = left ends.outcome none ends.cause ends.files
+
+  has_cause : (outcome : Outcome) → HasCause plan old new.failed outcome → HasCause (taking_memory plan) old new.failed outcome
+  has_cause (replied inputs reply) cause = cause
+  has_cause (unread wanted why) cause = cause
+  has_cause (unkept name why) cause = record { under = cause.under; inputs = cause.inputs; reply = cause.reply; right = cause.right; file = cause.file; is_kept = cause.is_kept; has_failed = cause.has_failed }
+  has_cause no_memory (inl listed) = inl listed
+  has_cause no_memory (inr checked) = inr (checked.0, checked.1, tt)
+
+  leaves : (outcome : Outcome) → LeavesFiles plan old.files new.files outcome → LeavesFiles (taking_memory plan) old.files new.files outcome
+  leaves (replied inputs reply) files = files
+  leaves (unread wanted why) files = files
+  leaves (unkept name why) files = files
+  leaves no_memory files = files
+
+  -- a run that ends by a plan ends by that which may want memory at any time
+  ends_taking : Ends plan old new status → Ends (taking_memory plan) old new status
+  ends_taking ends = record { outcome = ends.outcome; cause = has_cause ends.outcome ends.cause; files = leaves ends.outcome ends.files; said = ends.said }
+
+  -- a yes or a no by that plan is one by the plan itself
+  pub answers : IsAnswered (taking_memory plan) old new status → Ends plan old new status
+  answers answered = record {
+    outcome = replied answered.inputs answered.reply;
+    cause = answered.right;
+    files = answered.files;
+    said = inl (answered.lines, answered.is_status);
+  }
+
+-- what was asked for is a table to be made
+pub made_ends : (side mask : ℕ) (out : Bytes) (workers : ℕ) (asked : Asked) (old new : World) (status : Status) → make_table side mask out workers ≡ asked
+    → Ends (make_table_plan side mask out) old new status → Ends (plan_of asked) old new status
+made_ends side mask out workers asked old new status is ends =
+    subst (λ (a : Asked). Ends (plan_of a) old new status) is (ends_taking (make_table_plan side mask out) old new status ends)
+
+-- ---- what a run keeps with a yes
+
+yes_keeps : (asked : Asked) (old new : World) → Ends (plan_of asked) old new Yes → HasKept asked old new
+yes_keeps (replay name) old new ends = kept_nothing (plan_of (replay name)) old new Yes refl ends
+yes_keeps (table name workers) old new ends = kept_nothing (plan_of (table name workers)) old new Yes refl ends
+yes_keeps (bound board sets log tables workers) old new ends = kept_nothing (plan_of (bound board sets log tables workers)) old new Yes refl ends
+yes_keeps (optimal puzzle sets log tables workers) old new ends = kept_nothing (plan_of (optimal puzzle sets log tables workers)) old new Yes refl ends
+yes_keeps (make_table side mask out workers) old new ends =
+    table_kept side mask out old new (answers (make_table_plan side mask out) old new Yes (IsAnswered-ends (plan_of (make_table side mask out workers)) old new Yes ends (inl refl)))
+yes_keeps (solve board sets out tables workers budget) old new ends = log_kept board sets out tables old new ends
+
+not_both : (number : ℕ) → number ≡ 1 → number ≡ 0 → ⊥
+not_both number one zero = omega arith
+
+-- so a run whose number is 0 has kept what was asked for
+pub kept_by : (asked : Asked) (old new : World) (number : ℕ) (status : Status) → number ≡ number_of status → Ends (plan_of asked) old new status → number ≡ 0 → HasKept asked old new
+kept_by asked old new number Yes e ends is = yes_keeps asked old new ends
+kept_by asked old new number Refused e ends is = absurd (not_both number e is)
+kept_by asked old new number Fault e ends is = absurd (other 2 number (lit≤ tt) e (inl is))
+kept_by asked old new number NoMemory e ends is = absurd (other 3 number (lit≤ tt) e (inl is))

@@ -1,5 +1,5 @@
 -- What the words of the program do, and how a run on words ends.
-use Rattle.std.specs.Prelude.{◌≡◌, ◌⊎◌, ℕ, List, Option}
+use Rattle.std.specs.Prelude.{◌≡◌, ◌⊎◌, ⊤, ℕ, List, Option, None}
 use Rattle.std.specs.Io.KnownBytes.{Keeps}
 use Rattle.pdb_io.specs.Shelves.{Bytes}
 use Rattle.pdb_run.specs.Plans.{Plan}
@@ -7,20 +7,44 @@ use Rattle.pdb_run.specs.Runs.{Ends, World}
 use Rattle.pdb_run.specs.Statuses.{number_of}
 use Rattle.pdb_run.specs.declared.status.Status.{Status}
 use Rattle.pdb_verdict.specs.Bounds.{bound_plan}
+use Rattle.pdb_verdict.specs.Kept.{IsLogKept, IsTableKept}
+use Rattle.pdb_verdict.specs.MadeTables.{make_table_plan}
 use Rattle.pdb_verdict.specs.Optima.{optimum_plan}
 use Rattle.pdb_verdict.specs.Replays.{replay_plan}
+use Rattle.pdb_verdict.specs.Searches.{solve_plan}
 use Rattle.pdb_verdict.specs.Tables.{table_plan}
-use Rattle.pdb_words.specs.Asked.{Asked, bound, optimal, replay, table}
+use Rattle.pdb_words.specs.Asked.{Asked, bound, make_table, optimal, replay, solve, table}
 use Rattle.pdb_words.specs.CommandLine.{Parses, asked_of}
 use Rattle.pdb_words.specs.Faults.{IsMistaken}
 use Rattle.pdb_program.specs.Refusals.{Refuses}
 
--- the plan of what words ask for; how many workers share a check changes nothing of it
+-- the plan, where memory may be wanted whatever is asked for
+abbrev pub taking_memory : Plan → Plan
+taking_memory plan = record plan { TakesMemory = λ inputs. ⊤ }
+
+-- the plan of what words ask for; how many workers share a check and how far a search may go change nothing of it, and
+-- to read the words of a table that is to be made takes memory, whatever its numbers are
 abbrev pub plan_of : Asked → Plan
 plan_of (replay name) = replay_plan name
 plan_of (table name workers) = table_plan name
 plan_of (bound board sets log tables workers) = bound_plan board sets log tables
 plan_of (optimal puzzle sets log tables workers) = optimum_plan puzzle sets log tables
+plan_of (make_table side mask out workers) = taking_memory (make_table_plan side mask out)
+plan_of (solve board sets out tables workers budget) = solve_plan board sets out tables
+
+-- the words ask for nothing under whose name a file is kept: only make-table and solve keep one
+abbrev pub AskToKeepNothing : List Bytes → Type 0
+AskToKeepNothing words = Parses words → (plan_of (asked_of words)).keeps_under ≡ None
+
+-- after a yes: what was made for these words stands under its name, checked, and under each other name what stood there;
+-- what was asked for with other words leaves the shelf as it was
+abbrev pub HasKept : Asked → World → World → Type 0
+HasKept (replay name) old new = new.files ≡ old.files
+HasKept (table name workers) old new = new.files ≡ old.files
+HasKept (bound board sets log tables workers) old new = new.files ≡ old.files
+HasKept (optimal puzzle sets log tables workers) old new = new.files ≡ old.files
+HasKept (make_table side mask out workers) old new = IsTableKept side mask out old new
+HasKept (solve board sets out tables workers budget) old new = IsLogKept board sets out tables old new
 
 -- the number is that of a status of which this holds
 abbrev pub IsNumberOf : (Status → Type 0) → ℕ → Type 0
@@ -31,4 +55,5 @@ pub record RunsOn (words : List Bytes) (old new : World) (old_err new_err : Opti
   pub ends : Parses words → IsNumberOf (Ends (plan_of (asked_of words)) old new) number
   pub refuses : (Parses words → ⊥) → IsNumberOf (Refuses words old.written new.written old_err new_err) number
   pub quiet : Keeps old_err new_err ⊎ IsMistaken words
-  pub same : new.files ≡ old.files
+  pub kept : Parses words → number ≡ 0 → HasKept (asked_of words) old new
+  pub same : AskToKeepNothing words → new.files ≡ old.files

@@ -5,14 +5,17 @@ ghost use Rattle.std.specs.Io.KnownBytes.{Keeps};
 ghost use Rattle.pdb_run.specs.Runs.{Ends, IsAnswered, world};
 ghost use Rattle.pdb_words.specs.CommandLine.{Parses, asked_of};
 ghost use Rattle.pdb_words.specs.Faults.{IsMistaken};
-ghost use Rattle.pdb_program.specs.Programs.{IsNumberOf, plan_of};
+ghost use Rattle.pdb_program.specs.Programs.{AskToKeepNothing, HasKept, IsNumberOf, plan_of};
 ghost use Rattle.pdb_program.specs.Refusals.{Refuses};
 
 use crate::refusals::explain;
 use pdb_io::shelf::Shelf;
 use pdb_run::Status;
-use pdb_verdict::{ClaimNames, Workers, run_bound, run_optimal, run_replay, run_table};
-use pdb_words::{LogCheck, Request, read_words};
+use pdb_verdict::{
+    ClaimNames, SearchNames, Workers, run_bound, run_make_table, run_optimal, run_replay,
+    run_solve, run_table,
+};
+use pdb_words::{LogCheck, Request, Search, read_words};
 use std::alloc::Global;
 use std::io::{Read, Write};
 use std::sync::Wait;
@@ -23,7 +26,7 @@ use work_run::Gate;
 /// of a read or a write, 3 for want of memory.
 ///
 /// The words leave out the program's own name. Without any it is `replay` on the reader. Workers pass the gate.
-pub fn run<H: Threads + Wait, S: Shelf, R: Read, W: Write, E: Write, G: Gate + Sync>(
+pub fn run<H: Threads + Wait + Sync, S: Shelf, R: Read, W: Write, E: Write, G: Gate + Sync>(
     rt: &H,
     alloc: Global,
     words: Vec<String>,
@@ -50,14 +53,20 @@ pub fn run<H: Threads + Wait, S: Shelf, R: Read, W: Write, E: Write, G: Gate + S
         → IsNumberOf (Refuses words (W.contents out.old) (W.contents out.new) (E.contents err.old) (E.contents err.new)) result }
     ensures quiet { Keeps (E.contents err.old) (E.contents err.new) ⊎ IsMistaken (map string_bytes words.items) }
 
-    // The shelf keeps its bytes.
-    ensures same { S.held shelf.new ≡ S.held shelf.old }
+    // With a yes what was made and checked stands under its name, and nothing else has changed.
+    ensures kept { let words = map string_bytes words.items in Parses words → result ≡ 0
+        → HasKept (asked_of words)
+        (world (S.held shelf.old) (S.has_failed shelf.old) (R.remaining reader.old) (W.contents out.old))
+        (world (S.held shelf.new) (S.has_failed shelf.new) (R.remaining reader.new) (W.contents out.new)) }
+
+    // The shelf keeps its bytes, unless the words ask for something to keep.
+    ensures same { AskToKeepNothing (map string_bytes words.items) → S.held shelf.new ≡ S.held shelf.old }
 {
     answer(rt, alloc, words.as_slice(), shelf, reader, out, err, gate).code()
 }
 
 /// Does what the words ask for.
-fn answer<'w, H: Threads + Wait, S: Shelf, R: Read, W: Write, E: Write, G: Gate + Sync>(
+fn answer<'w, H: Threads + Wait + Sync, S: Shelf, R: Read, W: Write, E: Write, G: Gate + Sync>(
     rt: &'w H,
     alloc: Global,
     words: &[String],
@@ -74,7 +83,7 @@ fn answer<'w, H: Threads + Wait, S: Shelf, R: Read, W: Write, E: Write, G: Gate 
     ensures refuses { let words = map string_bytes words.now in (Parses words → ⊥)
         → Refuses words (W.contents out.old) (W.contents out.new) (E.contents err.old) (E.contents err.new) result }
     ensures quiet { Keeps (E.contents err.old) (E.contents err.new) ⊎ IsMistaken (map string_bytes words.now) }
-    ensures same { S.held shelf.new ≡ S.held shelf.old }
+    ensures same { AskToKeepNothing (map string_bytes words.now) → S.held shelf.new ≡ S.held shelf.old }
 {
     match read_words(alloc, words) {
         Ok(Request::Replay(name)) => run_replay(alloc, name, shelf, reader, out),
@@ -89,6 +98,22 @@ fn answer<'w, H: Threads + Wait, S: Shelf, R: Read, W: Write, E: Write, G: Gate 
         Ok(Request::Optimal(check)) => {
             let workers = Workers::new(rt, check.workers, gate);
             run_optimal(alloc, names_in(&check), &workers, shelf, reader, out)
+        }
+        Ok(
+            Request::MakeTable {
+                side,
+                mask,
+                out: name,
+                workers,
+            },
+        ) => {
+            let workers = Workers::new(rt, workers, gate);
+            run_make_table(alloc, side, mask, name, &workers, shelf, reader, out)
+        }
+        Ok(Request::Solve(search)) => {
+            let workers = Workers::new(rt, search.workers, gate);
+            let names = search_names_in(&search);
+            run_solve(alloc, names, search.budget, &workers, shelf, reader, out)
         }
         Err(fault) => explain(fault, out, err),
     }
@@ -106,5 +131,20 @@ fn names_in<'t, 'n>(check: &'t LogCheck<'n>) -> ClaimNames<'t, 'n>
         sets: check.sets,
         log: check.log,
         tables: check.tables.as_slice(),
+    }
+}
+
+/// The names that a search speaks of.
+fn search_names_in<'t, 'n>(search: &'t Search<'n>) -> SearchNames<'t, 'n>
+    ensures board { result.board.now ≡ search.now.board.now }
+    ensures sets { result.sets.now ≡ search.now.sets.now }
+    ensures out { result.out.now ≡ search.now.out.now }
+    ensures tables { result.tables.now ≡ search.now.tables.items }
+{
+    SearchNames {
+        board: search.board,
+        sets: search.sets,
+        out: search.out,
+        tables: search.tables.as_slice(),
     }
 }

@@ -24,7 +24,7 @@ use work_run::Gate;
 
 /// A run on the arguments behind the first, which is the program's own name, or what is said where they can't be taken:
 /// for want of memory, or since one is no UTF-8 text.
-pub fn start<H: Threads + Wait, S: Shelf, R: Read, W: Write, E: Write, G: Gate + Sync>(
+pub fn start<H: Threads + Wait + Sync, S: Shelf, R: Read, W: Write, E: Write, G: Gate + Sync>(
     rt: &H,
     alloc: Global,
     arguments: io::Result<Vec<String>>,

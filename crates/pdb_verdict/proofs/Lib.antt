@@ -1,6 +1,6 @@
 mod BoundLemmas
 mod BundleLemmas
-mod KeptLemmas
+pub mod KeptLemmas
 mod LineLemmas
 mod MakerLemmas
 mod OptimumLemmas

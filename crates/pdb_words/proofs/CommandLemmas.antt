@@ -191,7 +191,13 @@ all_entered = (
     record { passes = refl; stops = refl; found = refl; label = refl },
     (
       record { passes = refl; stops = refl; found = refl; label = refl },
-      (record { passes = refl; stops = refl; found = refl; label = refl }, tt),
+      (
+        record { passes = refl; stops = refl; found = refl; label = refl },
+        (
+          record { passes = refl; stops = refl; found = refl; label = refl },
+          (record { passes = refl; stops = refl; found = refl; label = refl }, tt),
+        ),
+      ),
     ),
   ),
 )

@@ -11,7 +11,7 @@ use Rattle.clap.specs.Walk.{Held, Outcome, Rule, Step, Text, Waiting, Walk, afte
 use Rattle.clap.proofs.SimpleLemmas.{is_false}
 use Rattle.clap.proofs.WalkLemmas.{both}
 use Rattle.clap.specs.declared.error.kind.ErrorKind.TheVariants as kind
-use Rattle.pdb_words.specs.CommandLine.{IsCommand, IsLongFlag, IsOneOf, Parses, commands, shared_commands}
+use Rattle.pdb_words.specs.CommandLine.{IsCommand, IsLongFlag, IsOneOf, Parses, TakesFlag, commands, shared_commands}
 use Rattle.pdb_words.proofs.CommandLemmas.{faults_behind, leaf}
 use Rattle.pdb_words.proofs.KindLemmas.{IsFault, first_fault, later_fault, one_fault, same_fault}
 use Rattle.pdb_words.proofs.TextLemmas.{differs, each_holds, same_text}
@@ -123,16 +123,28 @@ help_wrong again c name v h = go (bytes_eq (codes "help") name) refl v
     go true e None = rw e (later_fault _ _ (one_fault kind.DisplayHelp []))
     go true e (Some text) = rw e (one_fault kind.TooManyValues [])
 
--- the command knows no flag but `--help`, and where it shares its check, `--workers`
+-- the command knows no flag but `--help` and those that it takes
 abbrev KnowsItsFlags : Text → Type 0
-KnowsItsFlags command = (name : Text) → HasHelpAlone name (leaf command) ⊎ (IsOneOf shared_commands command × (name ≡ codes "workers"))
+KnowsItsFlags command = (name : Text) → HasHelpAlone name (leaf command) ⊎ TakesFlag command name
+
+takes_workers : (command name : Text) → IsOneOf shared_commands command → bytes_eq (codes "workers") name ≡ true → TakesFlag command name
+takes_workers command name shared e = inl (shared, sym (same_text (codes "workers") name e))
 
 shares_check : (command : Text) → IsOneOf shared_commands command → ((name : Text) → bytes_eq (codes "workers") name ≡ false → HasHelpAlone name (leaf command)) → KnowsItsFlags command
 shares_check command shared others name = go (bytes_eq (codes "workers") name) refl
   where
-    go : (is : Bool) → bytes_eq (codes "workers") name ≡ is → HasHelpAlone name (leaf command) ⊎ (IsOneOf shared_commands command × (name ≡ codes "workers"))
-    go true e = inr (shared, sym (same_text (codes "workers") name e))
+    go : (is : Bool) → bytes_eq (codes "workers") name ≡ is → HasHelpAlone name (leaf command) ⊎ TakesFlag command name
+    go true e = inr (takes_workers command name shared e)
     go false e = inl (others name e)
+
+solve_knows : KnowsItsFlags (codes "solve")
+solve_knows name = go (bytes_eq (codes "workers") name) refl (bytes_eq (codes "budget") name) refl
+  where
+    go : (is : Bool) → bytes_eq (codes "workers") name ≡ is → (is_budget : Bool) → bytes_eq (codes "budget") name ≡ is_budget
+        → HasHelpAlone name (leaf (codes "solve")) ⊎ TakesFlag (codes "solve") name
+    go true e is_budget f = inr (takes_workers (codes "solve") name (inr (inr (inr (inr (inl refl))))) e)
+    go false e true f = inr (inr (refl, sym (same_text (codes "budget") name f)))
+    go false e false f = inl (rw (e, f) refl)
 
 all_know : AllByRecursion KnowsItsFlags commands
 all_know = (
@@ -141,19 +153,22 @@ all_know = (
     shares_check (codes "table") (inl refl) (λ name e. rw e refl),
     (
       shares_check (codes "bound") (inr (inl refl)) (λ name e. rw e refl),
-      (shares_check (codes "optimal") (inr (inr (inl refl))) (λ name e. rw e refl), tt),
+      (
+        shares_check (codes "optimal") (inr (inr (inl refl))) (λ name e. rw e refl),
+        (shares_check (codes "make-table") (inr (inr (inr (inl refl)))) (λ name e. rw e refl), (solve_knows, tt)),
+      ),
     ),
   ),
 )
 
 all_without_trailing : AllByRecursion (λ command. HasNoTrailing (leaf command).rules) commands
-all_without_trailing = (refl, (refl, (refl, (refl, tt))))
+all_without_trailing = (refl, (refl, (refl, (refl, (refl, (refl, tt))))))
 
 -- behind a command's name, and no `--`, there are no flags but these
 pub flags_known : (command name flag : Text) (before after : List Text) → IsCommand command → All (λ word. word ≢ codes "--") before → IsLongFlag name flag
-    → Parses (command ∷ before ++ flag ∷ after) → IsOneOf shared_commands command × (name ≡ codes "workers")
+    → Parses (command ∷ before ++ flag ∷ after) → TakesFlag command name
 flags_known command name flag before after is all is_flag parses = elim (each_holds KnowsItsFlags commands all_know command is name) [
-  | inr workers ↦ workers
+  | inr taken ↦ taken
   | inl help ↦
       let s = leaf command in
       let wrong : (h : Held) → IsFault (long_fault s.rules s.args_override_self (arg_by_long s.rules name) is_flag.0 h) =

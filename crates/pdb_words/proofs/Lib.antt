@@ -3,6 +3,8 @@ pub mod FlagLemmas
 pub mod KindLemmas
 pub mod LogLemmas
 pub mod LogWalkLemmas
+pub mod MakeTableLemmas
+pub mod NumberLemmas
 pub mod TablesLemmas
 pub mod TextLemmas
 pub mod WorkersLemmas

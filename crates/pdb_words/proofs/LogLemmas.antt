@@ -1,8 +1,9 @@
--- What the words of `bound` and `optimal` ask for, and what is wrong with them.
-use Rattle.std.proofs.Common.{◌≡◌, ◌≢◌, ◌∙◌, ◌≤◌, arith, inl, inr, refl, ap, subst, ℕ, Bool, false, true, List, [], ◌∷◌, ◌++◌, Option, Some, None, codes, append-nil, length}
+-- What the words of `bound`, `optimal` and `solve` ask for, and what is wrong with them.
+use Rattle.std.proofs.Common.{◌≡◌, ◌≢◌, ◌∙◌, ◌≤◌, arith, inl, inr, refl, sym, ap, ap₂, subst, ℕ, Bool, false, true, List, [], ◌∷◌, ◌++◌, codes, append-nil, length}
+use Rattle.std.specs.Bool.{⊤}
 use Rattle.std.specs.List.{fold}
 use Rattle.std.specs.Prelude.{if◌then◌else◌}
-use Rattle.clap.specs.Faults.{level_fault, turn_fault, walk_fault}
+use Rattle.clap.specs.Faults.{level_fault, settle_fault, turn_fault, walk_fault}
 use Rattle.clap.specs.Kinds.{Kinds, or_else}
 use Rattle.clap.specs.Lexer.{usize_max}
 use Rattle.clap.specs.Walk.{Text, Walk, finished, nothing_held, walk, walked}
@@ -10,28 +11,42 @@ use Rattle.clap.specs.declared.error.kind.ErrorKind.TheVariants as kind
 use Rattle.clap.specs.declared.error.kind.ErrorKind.{ErrorKind}
 use Rattle.clap.proofs.FaultLemmas.{past}
 use Rattle.clap.proofs.OnLiterals.{clap_on_literals}
-use Rattle.pdb_words.specs.Asked.{Asked, bound, optimal}
+use Rattle.pdb_words.specs.Asked.{Asked, bound, optimal, solve}
+use Rattle.pdb_words.specs.Budget.{budget_of, writes_budget}
 use Rattle.pdb_words.specs.CommandLine.{AreNames, AsksFor, IsCommand, IsPlain, Parses, asked_by, asked_of}
 use Rattle.pdb_words.specs.Faults.{IsMistaken}
-use Rattle.pdb_words.specs.Workers.{number_of, workers_of, writes_workers}
+use Rattle.pdb_words.specs.Numbers.{number_of}
+use Rattle.pdb_words.specs.Workers.{workers_of, writes_workers}
 use Rattle.pdb_words.proofs.CommandLemmas.{asked_behind, faults_behind, start}
 use Rattle.pdb_words.proofs.KindLemmas.{mistaken}
-use Rattle.pdb_words.proofs.LogWalkLemmas.{LogCommand, on_board, on_puzzle, IsTaken, at, claim_of, file_row, files, files_pass, files_walk, first_pass, first_steps, flag_before, name_of, plain_claim, rows_before, shape_of}
+use Rattle.pdb_words.proofs.LogWalkLemmas.{LogCommand, on_board, on_puzzle, on_search, Flags, none, workers, budget, both, IsTaken, IsTakenAs, at, claim_of, file_row, files, files_pass, files_walk, first_pass, first_steps, flags_before, log_of, name_of, plain_claim, rows_before, shape_of}
+use Rattle.pdb_words.proofs.NumberLemmas.{number_asked}
 use Rattle.pdb_words.proofs.TablesLemmas.{gathering, last_fault, level_ends, tables_pass, tables_row}
 use Rattle.pdb_words.proofs.TextLemmas.{HasNoDash, has_no_dash}
-use Rattle.pdb_words.proofs.WorkersLemmas.{accepted, accepted_is, number_asked}
+use Rattle.pdb_words.proofs.WorkersLemmas.{accepted, accepted_budget, accepted_budget_is, accepted_is}
 
-abbrev pub asks : LogCommand → Text → Text → Text → List Text → ℕ → Asked
-asks on_board = bound
-asks on_puzzle = optimal
+-- what the words ask for, of so many workers and with such a budget
+abbrev pub asks : LogCommand → Text → Text → Text → List Text → ℕ → ℕ → Asked
+asks on_board claim sets log tables n boards = bound claim sets log tables n
+asks on_puzzle claim sets log tables n boards = optimal claim sets log tables n
+asks on_search claim sets log tables n boards = solve claim sets log tables n boards
 
-abbrev pub workers_before : Option Text → ℕ
-workers_before None = 1
-workers_before (Some number) = workers_of number
+abbrev pub workers_before : Flags → ℕ
+workers_before none = 1
+workers_before (workers number) = workers_of number
+workers_before (budget number) = 1
+workers_before (both number other) = workers_of number
+
+abbrev pub budget_before : Flags → ℕ
+budget_before none = 1000000
+budget_before (workers number) = 1000000
+budget_before (budget number) = budget_of number
+budget_before (both number other) = budget_of other
 
 is_command : (command : LogCommand) → IsCommand (name_of command)
 is_command on_board = inr (inr (inl refl))
 is_command on_puzzle = inr (inr (inr (inl refl)))
+is_command on_search = inr (inr (inr (inr (inr (inl refl)))))
 
 parses : (command : LogCommand) (words : List Text) → level_fault (shape_of command) [] nothing_held words false [] ≡ [] → Parses (name_of command ∷ words)
 parses command words passes = faults_behind (name_of command) (is_command command) words ∙ past _ [] passes
@@ -40,90 +55,208 @@ asked : (command : LogCommand) (words : List Text) (w : Walk) → walk (shape_of
     → asked_of (name_of command ∷ words) ≡ asked_by (name_of command) (finished (shape_of command).rules w.held)
 asked command words w is = asked_behind (name_of command) (is_command command) words ∙ ap (λ (w : Walk). asked_by (name_of command) (finished (shape_of command).rules w.held)) is
 
+-- ---- one flag
+
+pub data Flag : Type 0 where
+  of_workers : Flag
+  of_budget : Flag
+
+abbrev pub IsKnown : LogCommand → Flag → Type 0
+IsKnown command of_workers = ⊤
+IsKnown on_search of_budget = ⊤
+IsKnown on_board of_budget = ⊥
+IsKnown on_puzzle of_budget = ⊥
+
+abbrev pub word_of : Flag → Text
+word_of of_workers = codes "--workers"
+word_of of_budget = codes "--budget"
+
+abbrev pub id_of : Flag → Text
+id_of of_workers = codes "workers"
+id_of of_budget = codes "budget"
+
+abbrev pub flags_of : Flag → Text → Flags
+flags_of of_workers number = workers number
+flags_of of_budget number = budget number
+
+abbrev pub accepted_as : Flag → Text → Bool
+accepted_as of_workers number = accepted number
+accepted_as of_budget number = accepted_budget number
+
+abbrev pub writes_as : Flag → Text → Bool
+writes_as of_workers number = writes_workers number
+writes_as of_budget number = writes_budget number
+
+accepted_as_is : (flag : Flag) (number : Text) → IsPlain number → accepted_as flag number ≡ writes_as flag number
+accepted_as_is of_workers number plain = accepted_is number plain
+accepted_as_is of_budget number plain = accepted_budget_is number
+
+budget_taken : (command : LogCommand) → IsKnown command of_budget → (number : Text) → IsTakenAs accepted_budget number → IsTaken command (budget number)
+budget_taken on_board known number taken = absurd known
+budget_taken on_puzzle known number taken = absurd known
+budget_taken on_search known number taken = taken
+
+-- what the words ask for, with this number for the flag
+abbrev pub asks_flag : LogCommand → Text → Text → Text → List Text → Flag → ℕ → Asked
+asks_flag command claim sets log tables of_workers n = asks command claim sets log tables n 1000000
+asks_flag command claim sets log tables of_budget n = asks command claim sets log tables 1 n
+
+flag_counts : (command : LogCommand) (claim sets log : Text) (tables : List Text) (flag : Flag) (number : Text) → writes_as flag number ≡ true
+    → asks command claim sets log tables (workers_before (flags_of flag number)) (budget_before (flags_of flag number)) ≡ asks_flag command claim sets log tables flag (number_of number)
+flag_counts command claim sets log tables of_workers number writes = ap (λ (n : ℕ). asks command claim sets log tables n 1000000) (number_asked 1 64 1 number writes)
+flag_counts command claim sets log tables of_budget number writes = ap (asks command claim sets log tables 1) (number_asked 1 1000000000000 1000000 number writes)
+
+-- ---- at the end of the words
+
 module _ (claim sets log table : Text) (tables : List Text) (many : length (table ∷ tables) ≤ usize_max) where
-  end_pass : (command : LogCommand) (number : Option Text) → last_fault (shape_of command) (gathering (rows_before number (files command claim sets log)) (table ∷ tables)).held ≡ []
+  end_pass : (command : LogCommand) (flags : Flags) → IsTaken command flags → last_fault (shape_of command) (gathering (rows_before flags (files command claim sets log)) (table ∷ tables)).held ≡ []
   unfolding clap_on_literals
-  end_pass on_board None = past _ _ (tables_pass false table tables (rows_before None (files on_board claim sets log)) many)
-  end_pass on_board (Some number) = past _ _ (tables_pass false table tables (rows_before (Some number) (files on_board claim sets log)) many)
-  end_pass on_puzzle None = past _ _ (tables_pass false table tables (rows_before None (files on_puzzle claim sets log)) many)
-  end_pass on_puzzle (Some number) = past _ _ (tables_pass false table tables (rows_before (Some number) (files on_puzzle claim sets log)) many)
+  end_pass on_board none taken = past _ _ (tables_pass false table tables (rows_before none (files on_board claim sets log)) many)
+  end_pass on_board (workers number) taken = past _ _ (tables_pass false table tables (rows_before (workers number) (files on_board claim sets log)) many)
+  end_pass on_board (budget number) taken = absurd taken
+  end_pass on_board (both number other) taken = absurd taken
+  end_pass on_puzzle none taken = past _ _ (tables_pass false table tables (rows_before none (files on_puzzle claim sets log)) many)
+  end_pass on_puzzle (workers number) taken = past _ _ (tables_pass false table tables (rows_before (workers number) (files on_puzzle claim sets log)) many)
+  end_pass on_puzzle (budget number) taken = absurd taken
+  end_pass on_puzzle (both number other) taken = absurd taken
+  end_pass on_search none taken = past _ _ (tables_pass false table tables (rows_before none (files on_search claim sets log)) many)
+  end_pass on_search (workers number) taken = past _ _ (tables_pass false table tables (rows_before (workers number) (files on_search claim sets log)) many)
+  end_pass on_search (budget number) taken = past _ _ (tables_pass false table tables (rows_before (budget number) (files on_search claim sets log)) many)
+  end_pass on_search (both number other) taken = past _ _ (tables_pass false table tables (rows_before (both number other) (files on_search claim sets log)) many)
 
-  end_asked : (command : LogCommand) (number : Option Text) → IsTaken number
-      → asked_by (name_of command) (finished (shape_of command).rules (gathering (rows_before number (files command claim sets log)) (table ∷ tables)).held)
-      ≡ asks command claim sets log (table ∷ tables) (workers_before number)
-  end_asked on_board None taken = refl
-  end_asked on_board (Some number) taken = simp (taken.0.no_dash)
-  end_asked on_puzzle None taken = refl
-  end_asked on_puzzle (Some number) taken = simp (taken.0.no_dash)
+  end_asked : (command : LogCommand) (flags : Flags) → IsTaken command flags
+      → asked_by (name_of command) (finished (shape_of command).rules (gathering (rows_before flags (files command claim sets log)) (table ∷ tables)).held)
+      ≡ asks command claim sets log (table ∷ tables) (workers_before flags) (budget_before flags)
+  end_asked on_board none taken = refl
+  end_asked on_board (workers number) taken = simp (taken.0.no_dash)
+  end_asked on_board (budget number) taken = absurd taken
+  end_asked on_board (both number other) taken = absurd taken
+  end_asked on_puzzle none taken = refl
+  end_asked on_puzzle (workers number) taken = simp (taken.0.no_dash)
+  end_asked on_puzzle (budget number) taken = absurd taken
+  end_asked on_puzzle (both number other) taken = absurd taken
+  end_asked on_search none taken = refl
+  end_asked on_search (workers number) taken = simp (taken.0.no_dash)
+  end_asked on_search (budget number) taken = refl
+  end_asked on_search (both number other) taken = simp (taken.0.0.no_dash)
 
-  -- `--workers N` behind the tables
-  last_steps : (command : LogCommand) (number : Text) → HasNoDash number
-      → fold (walked (shape_of command).rules []) (gathering (files command claim sets log) (table ∷ tables)) (codes "--workers" ∷ number ∷ [])
-      ≡ at 4 (files command claim sets log ++ tables_row (table ∷ tables) ∷ []) (codes "workers") number
+  -- a flag behind the tables
+  last_steps : (command : LogCommand) (flag : Flag) → IsKnown command flag → (number : Text) → HasNoDash number
+      → fold (walked (shape_of command).rules []) (gathering (files command claim sets log) (table ∷ tables)) (word_of flag ∷ number ∷ [])
+      ≡ at 4 (files command claim sets log ++ tables_row (table ∷ tables) ∷ []) (id_of flag) number
   unfolding clap_on_literals
-  last_steps on_board number n = simp (n.no_dash, n.no_dashes)
-  last_steps on_puzzle number n = simp (n.no_dash, n.no_dashes)
+  last_steps on_board of_workers known number n = simp (n.no_dash, n.no_dashes)
+  last_steps on_board of_budget known number n = absurd known
+  last_steps on_puzzle of_workers known number n = simp (n.no_dash, n.no_dashes)
+  last_steps on_puzzle of_budget known number n = absurd known
+  last_steps on_search of_workers known number n = simp (n.no_dash, n.no_dashes)
+  last_steps on_search of_budget known number n = simp (n.no_dash, n.no_dashes)
 
-  flag_pass : (command : LogCommand) → turn_fault (shape_of command) [] (gathering (files command claim sets log) (table ∷ tables)) (codes "--workers") ≡ []
-  flag_pass on_board = past _ [] (tables_pass false table tables (files on_board claim sets log) many)
-  flag_pass on_puzzle = past _ [] (tables_pass false table tables (files on_puzzle claim sets log) many)
+  flag_pass : (command : LogCommand) (flag : Flag) → IsKnown command flag → turn_fault (shape_of command) [] (gathering (files command claim sets log) (table ∷ tables)) (word_of flag) ≡ []
+  flag_pass on_board of_workers known = past _ [] (tables_pass false table tables (files on_board claim sets log) many)
+  flag_pass on_board of_budget known = absurd known
+  flag_pass on_puzzle of_workers known = past _ [] (tables_pass false table tables (files on_puzzle claim sets log) many)
+  flag_pass on_puzzle of_budget known = absurd known
+  flag_pass on_search of_workers known = past _ [] (tables_pass false table tables (files on_search claim sets log) many)
+  flag_pass on_search of_budget known = past _ [] (tables_pass false table tables (files on_search claim sets log) many)
 
-  number_pass : (command : LogCommand) (number : Text) → HasNoDash number
-      → walk_fault (shape_of command) [] (walked (shape_of command).rules [] (gathering (files command claim sets log) (table ∷ tables)) (codes "--workers")) (number ∷ []) ≡ []
+  number_pass : (command : LogCommand) (flag : Flag) → IsKnown command flag → (number : Text) → HasNoDash number
+      → walk_fault (shape_of command) [] (walked (shape_of command).rules [] (gathering (files command claim sets log) (table ∷ tables)) (word_of flag)) (number ∷ []) ≡ []
   unfolding clap_on_literals
-  number_pass on_board number n = simp (n.no_dash, n.no_dashes)
-  number_pass on_puzzle number n = simp (n.no_dash, n.no_dashes)
+  number_pass on_board of_workers known number n = simp (n.no_dash, n.no_dashes)
+  number_pass on_board of_budget known number n = absurd known
+  number_pass on_puzzle of_workers known number n = simp (n.no_dash, n.no_dashes)
+  number_pass on_puzzle of_budget known number n = absurd known
+  number_pass on_search of_workers known number n = simp (n.no_dash, n.no_dashes)
+  number_pass on_search of_budget known number n = simp (n.no_dash, n.no_dashes)
 
-  last_pass : (command : LogCommand) (number : Text) → HasNoDash number
-      → walk_fault (shape_of command) [] (gathering (files command claim sets log) (table ∷ tables)) (codes "--workers" ∷ number ∷ []) ≡ []
+  last_pass : (command : LogCommand) (flag : Flag) → IsKnown command flag → (number : Text) → HasNoDash number
+      → walk_fault (shape_of command) [] (gathering (files command claim sets log) (table ∷ tables)) (word_of flag ∷ number ∷ []) ≡ []
   unfolding walk_fault
-  last_pass command number n = past _ _ (flag_pass command) ∙ number_pass command number n
+  last_pass command flag known number n = past _ _ (flag_pass command flag known) ∙ number_pass command flag known number n
 
-  last_end : (command : LogCommand) (number : Text) (takes : Bool) → accepted number ≡ takes
-      → last_fault (shape_of command) (at 4 (files command claim sets log ++ tables_row (table ∷ tables) ∷ []) (codes "workers") number).held ≡ (if takes then [] else kind.ValueValidation ∷ [])
+  -- of a search the last flag is settled first, and then all else is
+  abbrev settled_last : Text → Text → Kinds
+  settled_last id number = settle_fault (shape_of on_search).rules (shape_of on_search).args_override_self
+      (at 4 (files on_search claim sets log ++ tables_row (table ∷ tables) ∷ []) id number).held
+
+  workers_settle : (number : Text) (takes : Bool) → accepted number ≡ takes → settled_last (codes "workers") number ≡ (if takes then [] else kind.ValueValidation ∷ [])
   unfolding clap_on_literals
-  last_end on_board number true e = simp e
-  last_end on_board number false e = simp e
-  last_end on_puzzle number true e = simp e
-  last_end on_puzzle number false e = simp e
+  workers_settle number true e = simp e
+  workers_settle number false e = simp e
 
-  last_asked : (command : LogCommand) (number : Text) → HasNoDash number
-      → asked_by (name_of command) (finished (shape_of command).rules (at 4 (files command claim sets log ++ tables_row (table ∷ tables) ∷ []) (codes "workers") number).held)
-      ≡ asks command claim sets log (table ∷ tables) (workers_of number)
-  last_asked on_board number n = simp (n.no_dash)
-  last_asked on_puzzle number n = simp (n.no_dash)
+  budget_settles : (number : Text) (takes : Bool) → accepted_budget number ≡ takes → settled_last (codes "budget") number ≡ (if takes then [] else kind.ValueValidation ∷ [])
+  unfolding clap_on_literals
+  budget_settles number true e = simp e
+  budget_settles number false e = simp e
+
+  first_fault_is : (a b : Kinds) → a ≡ kind.ValueValidation ∷ [] → or_else a b ≡ kind.ValueValidation ∷ []
+  first_fault_is a b e = rw e refl
+
+  last_end : (command : LogCommand) (flag : Flag) → IsKnown command flag → (number : Text) (takes : Bool) → accepted_as flag number ≡ takes
+      → last_fault (shape_of command) (at 4 (files command claim sets log ++ tables_row (table ∷ tables) ∷ []) (id_of flag) number).held ≡ (if takes then [] else kind.ValueValidation ∷ [])
+  unfolding clap_on_literals
+  last_end on_board of_workers known number true e = simp e
+  last_end on_board of_budget known number true e = absurd known
+  last_end on_puzzle of_workers known number true e = simp e
+  last_end on_puzzle of_budget known number true e = absurd known
+  last_end on_search of_workers known number true e = past _ _ (workers_settle number true e)
+  last_end on_search of_budget known number true e = past _ _ (budget_settles number true e)
+  last_end on_board of_workers known number false e = simp e
+  last_end on_board of_budget known number false e = absurd known
+  last_end on_puzzle of_workers known number false e = simp e
+  last_end on_puzzle of_budget known number false e = absurd known
+  last_end on_search of_workers known number false e = first_fault_is _ _ (workers_settle number false e)
+  last_end on_search of_budget known number false e = first_fault_is _ _ (budget_settles number false e)
+
+  last_asked : (command : LogCommand) (flag : Flag) → IsKnown command flag → (number : Text) → HasNoDash number
+      → asked_by (name_of command) (finished (shape_of command).rules (at 4 (files command claim sets log ++ tables_row (table ∷ tables) ∷ []) (id_of flag) number).held)
+      ≡ asks command claim sets log (table ∷ tables) (workers_before (flags_of flag number)) (budget_before (flags_of flag number))
+  last_asked on_board of_workers known number n = simp (n.no_dash)
+  last_asked on_board of_budget known number n = absurd known
+  last_asked on_puzzle of_workers known number n = simp (n.no_dash)
+  last_asked on_puzzle of_budget known number n = absurd known
+  last_asked on_search of_workers known number n = simp (n.no_dash)
+  last_asked on_search of_budget known number n = refl
 
 -- a number that can't be taken
-refused_first : (command : LogCommand) (number claim : Text) (behind : List Text) → HasNoDash number → HasNoDash claim → accepted number ≡ false
-    → walk_fault (shape_of command) [] start (codes "--workers" ∷ number ∷ claim ∷ behind) ≡ kind.ValueValidation ∷ []
+refused_first : (command : LogCommand) (flag : Flag) → IsKnown command flag → (number claim : Text) (behind : List Text) → HasNoDash number → HasNoDash claim → accepted_as flag number ≡ false
+    → walk_fault (shape_of command) [] start (word_of flag ∷ number ∷ claim ∷ behind) ≡ kind.ValueValidation ∷ []
 unfolding clap_on_literals
-refused_first on_board number claim behind n f e = simp (n.no_dash, n.no_dashes, f.no_dash, f.no_dashes, e)
-refused_first on_puzzle number claim behind n f e = simp (n.no_dash, n.no_dashes, f.no_dash, f.no_dashes, e)
+refused_first on_board of_workers known number claim behind n f e = simp (n.no_dash, n.no_dashes, f.no_dash, f.no_dashes, e)
+refused_first on_board of_budget known number claim behind n f e = absurd known
+refused_first on_puzzle of_workers known number claim behind n f e = simp (n.no_dash, n.no_dashes, f.no_dash, f.no_dashes, e)
+refused_first on_puzzle of_budget known number claim behind n f e = absurd known
+refused_first on_search of_workers known number claim behind n f e = simp (n.no_dash, n.no_dashes, f.no_dash, f.no_dashes, e)
+refused_first on_search of_budget known number claim behind n f e = simp (n.no_dash, n.no_dashes, f.no_dash, f.no_dashes, e)
 
 -- no table
 module _ (claim sets log : Text) (f : HasNoDash claim) (t : HasNoDash sets) (l : HasNoDash log) where
   abbrev without_tables : LogCommand → Walk
-  without_tables command = at 4 (file_row (claim_of command) claim ∷ file_row (codes "SETS") sets ∷ []) (codes "LOG") log
+  without_tables command = at 4 (file_row (claim_of command) claim ∷ file_row (codes "SETS") sets ∷ []) (log_of command) log
 
   two_steps : (command : LogCommand) → fold (walked (shape_of command).rules []) (at 2 [] (claim_of command) claim) (sets ∷ log ∷ []) ≡ without_tables command
   unfolding clap_on_literals
   two_steps on_board = simp (t.no_dash, t.no_dashes, l.no_dash, l.no_dashes)
   two_steps on_puzzle = simp (t.no_dash, t.no_dashes, l.no_dash, l.no_dashes)
+  two_steps on_search = simp (t.no_dash, t.no_dashes, l.no_dash, l.no_dashes)
 
   two_pass : (command : LogCommand) → walk_fault (shape_of command) [] (at 2 [] (claim_of command) claim) (sets ∷ log ∷ []) ≡ []
   unfolding clap_on_literals
   two_pass on_board = simp (t.no_dash, t.no_dashes, l.no_dash, l.no_dashes)
   two_pass on_puzzle = simp (t.no_dash, t.no_dashes, l.no_dash, l.no_dashes)
+  two_pass on_search = simp (t.no_dash, t.no_dashes, l.no_dash, l.no_dashes)
 
   tables_missing : (command : LogCommand) → last_fault (shape_of command) (without_tables command).held ≡ kind.MissingRequiredArgument ∷ []
   unfolding clap_on_literals
   tables_missing on_board = refl
   tables_missing on_puzzle = refl
+  tables_missing on_search = refl
 
   none_left : (command : LogCommand) → level_fault (shape_of command) [] nothing_held (claim ∷ sets ∷ log ∷ []) false [] ≡ kind.MissingRequiredArgument ∷ []
   none_left command = level_ends (shape_of command) _ (without_tables command)
-      (first_pass claim f (sets ∷ log ∷ []) command None tt ∙ two_pass command)
-      (ap (λ (w : Walk). fold (walked (shape_of command).rules []) w (sets ∷ log ∷ [])) (first_steps claim f command None tt) ∙ two_steps command)
+      (first_pass claim f (sets ∷ log ∷ []) command none tt ∙ two_pass command)
+      (ap (λ (w : Walk). fold (walked (shape_of command).rules []) w (sets ∷ log ∷ [])) (first_steps claim f command none tt) ∙ two_steps command)
       (tables_missing command)
 
 is_mistaken : (command : LogCommand) (words : List Text) (k : ErrorKind) → level_fault (shape_of command) [] nothing_held words false [] ≡ k ∷ [] → k ≢ kind.DisplayHelp
@@ -137,55 +270,71 @@ module _ (command : LogCommand) (claim sets log table : Text) (tables : List Tex
   room : length (table ∷ tables) ≤ usize_max
   room = omega (arith, names.1)
 
-  asks_for : (number : Option Text) → IsTaken number
-      → AsksFor (name_of command ∷ flag_before number (claim ∷ sets ∷ log ∷ table ∷ tables)) (asks command claim sets log (table ∷ tables) (workers_before number))
+  asks_for : (flags : Flags) → IsTaken command flags
+      → AsksFor (name_of command ∷ flags_before flags (claim ∷ sets ∷ log ∷ table ∷ tables)) (asks command claim sets log (table ∷ tables) (workers_before flags) (budget_before flags))
   unfolding walk_fault
-  asks_for number taken = subst (λ (ts : List Text). AsksFor (name_of command ∷ flag_before number (claim ∷ sets ∷ log ∷ table ∷ ts)) (asks command claim sets log (table ∷ tables) (workers_before number)))
-      (append-nil tables) (passes, asked command words _ whole ∙ end_asked claim sets log table tables room command number taken)
+  asks_for flags taken = subst (λ (ts : List Text). AsksFor (name_of command ∷ flags_before flags (claim ∷ sets ∷ log ∷ table ∷ ts)) (asks command claim sets log (table ∷ tables) (workers_before flags) (budget_before flags)))
+      (append-nil tables) (passes, asked command words _ whole ∙ end_asked claim sets log table tables room command flags taken)
     where
       words : List Text
-      words = flag_before number (claim ∷ sets ∷ log ∷ table ∷ tables ++ [])
+      words = flags_before flags (claim ∷ sets ∷ log ∷ table ∷ tables ++ [])
 
-      whole : walk (shape_of command).rules [] nothing_held words ≡ gathering (rows_before number (files command claim sets log)) (table ∷ tables)
-      whole = files_walk command claim sets log table tables names number taken []
+      whole : walk (shape_of command).rules [] nothing_held words ≡ gathering (rows_before flags (files command claim sets log)) (table ∷ tables)
+      whole = files_walk command claim sets log table tables names flags taken []
 
       passes : Parses (name_of command ∷ words)
-      passes = parses command words (level_ends (shape_of command) words _ (files_pass command claim sets log table tables names number taken []) whole
-          (end_pass claim sets log table tables room command number))
+      passes = parses command words (level_ends (shape_of command) words _ (files_pass command claim sets log table tables names flags taken []) whole
+          (end_pass claim sets log table tables room command flags taken))
 
-  pub files_asked : AsksFor (name_of command ∷ claim ∷ sets ∷ log ∷ table ∷ tables) (asks command claim sets log (table ∷ tables) 1)
-  files_asked = asks_for None tt
+  pub files_asked : AsksFor (name_of command ∷ claim ∷ sets ∷ log ∷ table ∷ tables) (asks command claim sets log (table ∷ tables) 1 1000000)
+  files_asked = asks_for none tt
 
-  module _ (number : Text) (n : IsPlain number) where
+  module _ (flag : Flag) (known : IsKnown command flag) (number : Text) (n : IsPlain number) where
     plain : HasNoDash number
     plain = has_no_dash number n
 
-    pub workers_asked : writes_workers number ≡ true
-        → AsksFor (name_of command ∷ codes "--workers" ∷ number ∷ claim ∷ sets ∷ log ∷ table ∷ tables) (asks command claim sets log (table ∷ tables) (number_of number))
-    workers_asked writes =
-        let whole = asks_for (Some number) (plain, accepted_is number n ∙ writes) in
-        (whole.0, whole.1 ∙ ap (asks command claim sets log (table ∷ tables)) (number_asked number writes))
+    pub flag_asked : writes_as flag number ≡ true
+        → AsksFor (name_of command ∷ word_of flag ∷ number ∷ claim ∷ sets ∷ log ∷ table ∷ tables) (asks_flag command claim sets log (table ∷ tables) flag (number_of number))
+    flag_asked writes =
+        let whole = asks_first flag known (plain, accepted_as_is flag number n ∙ writes) in
+        (whole.0, whole.1 ∙ flag_counts command claim sets log (table ∷ tables) flag number writes)
+      where
+        asks_first : (flag : Flag) → IsKnown command flag → IsTakenAs (accepted_as flag) number
+            → AsksFor (name_of command ∷ word_of flag ∷ number ∷ claim ∷ sets ∷ log ∷ table ∷ tables)
+            (asks command claim sets log (table ∷ tables) (workers_before (flags_of flag number)) (budget_before (flags_of flag number)))
+        asks_first of_workers known taken = asks_for (workers number) taken
+        asks_first of_budget known taken = asks_for (budget number) (budget_taken command known number taken)
 
-    pub other_workers : writes_workers number ≡ false → IsMistaken (name_of command ∷ codes "--workers" ∷ number ∷ claim ∷ sets ∷ log ∷ table ∷ tables)
-    other_workers writes = is_mistaken command _ kind.ValueValidation
-        (rw (refused_first command number claim (sets ∷ log ∷ table ∷ tables) plain (plain_claim command claim sets log table tables names) (accepted_is number n ∙ writes)) refl) (λ e. cc)
+    pub other_number : writes_as flag number ≡ false → IsMistaken (name_of command ∷ word_of flag ∷ number ∷ claim ∷ sets ∷ log ∷ table ∷ tables)
+    other_number writes = is_mistaken command _ kind.ValueValidation
+        (rw (refused_first command flag known number claim (sets ∷ log ∷ table ∷ tables) plain (plain_claim command claim sets log table tables names) (accepted_as_is flag number n ∙ writes)) refl) (λ e. cc)
 
-    last_level : (takes : Bool) → accepted number ≡ takes
-        → level_fault (shape_of command) [] nothing_held (claim ∷ sets ∷ log ∷ table ∷ tables ++ codes "--workers" ∷ number ∷ []) false [] ≡ (if takes then [] else kind.ValueValidation ∷ [])
-    last_level takes e = level_ends (shape_of command) _ _ (files_pass command claim sets log table tables names None tt (codes "--workers" ∷ number ∷ []) ∙ last_pass claim sets log table tables room command number plain)
-        (files_walk command claim sets log table tables names None tt (codes "--workers" ∷ number ∷ []) ∙ last_steps claim sets log table tables room command number plain)
-        (last_end claim sets log table tables room command number takes e)
+    last_level : (takes : Bool) → accepted_as flag number ≡ takes
+        → level_fault (shape_of command) [] nothing_held (claim ∷ sets ∷ log ∷ table ∷ tables ++ word_of flag ∷ number ∷ []) false [] ≡ (if takes then [] else kind.ValueValidation ∷ [])
+    last_level takes e = level_ends (shape_of command) _ _ (files_pass command claim sets log table tables names none tt (word_of flag ∷ number ∷ []) ∙ last_pass claim sets log table tables room command flag known number plain)
+        (files_walk command claim sets log table tables names none tt (word_of flag ∷ number ∷ []) ∙ last_steps claim sets log table tables room command flag known number plain)
+        (last_end claim sets log table tables room command flag known number takes e)
 
-    pub workers_last : writes_workers number ≡ true
-        → AsksFor (name_of command ∷ claim ∷ sets ∷ log ∷ table ∷ tables ++ codes "--workers" ∷ number ∷ []) (asks command claim sets log (table ∷ tables) (number_of number))
-    workers_last writes = (
-      parses command _ (last_level true (accepted_is number n ∙ writes)),
-      asked command (claim ∷ sets ∷ log ∷ table ∷ tables ++ codes "--workers" ∷ number ∷ []) _ (files_walk command claim sets log table tables names None tt (codes "--workers" ∷ number ∷ []) ∙ last_steps claim sets log table tables room command number plain)
-          ∙ last_asked claim sets log table tables room command number plain ∙ ap (asks command claim sets log (table ∷ tables)) (number_asked number writes),
+    pub flag_last : writes_as flag number ≡ true
+        → AsksFor (name_of command ∷ claim ∷ sets ∷ log ∷ table ∷ tables ++ word_of flag ∷ number ∷ []) (asks_flag command claim sets log (table ∷ tables) flag (number_of number))
+    flag_last writes = (
+      parses command _ (last_level true (accepted_as_is flag number n ∙ writes)),
+      asked command (claim ∷ sets ∷ log ∷ table ∷ tables ++ word_of flag ∷ number ∷ []) _ (files_walk command claim sets log table tables names none tt (word_of flag ∷ number ∷ []) ∙ last_steps claim sets log table tables room command flag known number plain)
+          ∙ last_asked claim sets log table tables room command flag known number plain ∙ flag_counts command claim sets log (table ∷ tables) flag number writes,
     )
 
-    pub other_workers_last : writes_workers number ≡ false → IsMistaken (name_of command ∷ claim ∷ sets ∷ log ∷ table ∷ tables ++ codes "--workers" ∷ number ∷ [])
-    other_workers_last writes = is_mistaken command _ kind.ValueValidation (last_level false (accepted_is number n ∙ writes)) (λ e. cc)
+    pub other_last : writes_as flag number ≡ false → IsMistaken (name_of command ∷ claim ∷ sets ∷ log ∷ table ∷ tables ++ word_of flag ∷ number ∷ [])
+    other_last writes = is_mistaken command _ kind.ValueValidation (last_level false (accepted_as_is flag number n ∙ writes)) (λ e. cc)
+
+  -- both flags, the workers first
+  pub both_asked : command ≡ on_search → (number other : Text) → IsPlain number → IsPlain other → writes_workers number ≡ true → writes_budget other ≡ true
+      → AsksFor (name_of command ∷ codes "--workers" ∷ number ∷ codes "--budget" ∷ other ∷ claim ∷ sets ∷ log ∷ table ∷ tables)
+      (asks command claim sets log (table ∷ tables) (number_of number) (number_of other))
+  both_asked is number other n m writes writes_other =
+      let taken : IsTaken command (both number other) = subst (λ (c : LogCommand). IsTaken c (both number other)) (sym is)
+      ((has_no_dash number n, accepted_is number n ∙ writes), (has_no_dash other m, accepted_budget_is other ∙ writes_other)) in
+      let whole = asks_for (both number other) taken in
+      (whole.0, whole.1 ∙ ap₂ (asks command claim sets log (table ∷ tables)) (number_asked 1 64 1 number writes) (number_asked 1 1000000000000 1000000 other writes_other))
 
 pub no_tables : (command : LogCommand) (claim sets log : Text) → IsPlain claim → IsPlain sets → IsPlain log → IsMistaken (name_of command ∷ claim ∷ sets ∷ log ∷ [])
 no_tables command claim sets log f t l =

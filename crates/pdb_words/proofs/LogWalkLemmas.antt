@@ -1,5 +1,5 @@
--- The words behind `bound` and `optimal`: a board or a puzzle, the sets, the log, and the tables.
-use Rattle.std.proofs.Common.{◌≡◌, ◌∙◌, ◌≤◌, arith, refl, ap, ℕ, false, true, List, [], ◌∷◌, ◌++◌, Option, Some, None, codes, length}
+-- The words behind `bound`, `optimal` and `solve`: a board or a puzzle, the sets, the log, and the tables.
+use Rattle.std.proofs.Common.{◌≡◌, ◌∙◌, ◌≤◌, arith, refl, ap, ℕ, Bool, false, true, List, [], ◌∷◌, ◌++◌, Some, None, codes, length}
 use Rattle.std.specs.Bool.{⊤}
 use Rattle.std.specs.List.{All, fold}
 use Rattle.std.proofs.lemmas.List.Elements.{All-head, All-tail}
@@ -10,36 +10,60 @@ use Rattle.clap.specs.Walk.{Row, Text, Walk, arg_by_index, idle, nothing_held, r
 use Rattle.clap.specs.declared.parser.matches.ValueSource.TheVariants.{CommandLine}
 use Rattle.clap.proofs.OnLiterals.{clap_on_literals}
 use Rattle.pdb_words.specs.CommandLine.{AreNames, IsPlain}
+use Rattle.pdb_words.specs.Budget.{budget_flag}
 use Rattle.pdb_words.specs.Workers.{workers_flag}
 use Rattle.pdb_words.proofs.CommandLemmas.{leaf, start}
 use Rattle.pdb_words.proofs.TablesLemmas.{gathering, more_pass, more_walk, tables_rule}
 use Rattle.pdb_words.proofs.TextLemmas.{HasNoDash, has_no_dash}
-use Rattle.pdb_words.proofs.WorkersLemmas.{accepted}
+use Rattle.pdb_words.proofs.WorkersLemmas.{accepted, accepted_budget}
 
 pub data LogCommand : Type 0 where
   on_board : LogCommand
   on_puzzle : LogCommand
+  on_search : LogCommand
 
 abbrev pub name_of : LogCommand → Text
 name_of on_board = codes "bound"
 name_of on_puzzle = codes "optimal"
+name_of on_search = codes "solve"
 
 abbrev pub claim_of : LogCommand → Text
 claim_of on_board = codes "BOARD"
 claim_of on_puzzle = codes "PUZZLE"
+claim_of on_search = codes "BOARD"
+
+abbrev pub log_of : LogCommand → Text
+log_of on_board = codes "LOG"
+log_of on_puzzle = codes "LOG"
+log_of on_search = codes "OUT"
 
 -- the command, as it is built
 abbrev pub shape_of : LogCommand → Shape
 shape_of command = leaf (name_of command)
 
--- `--workers N`, where it comes first
-abbrev pub flag_before : Option Text → List Text → List Text
-flag_before None words = words
-flag_before (Some number) words = codes "--workers" ∷ number ∷ words
+-- the flags that come first
+pub data Flags : Type 0 where
+  none : Flags
+  workers : Text → Flags
+  budget : Text → Flags
+  both : Text → Text → Flags
 
-abbrev pub IsTaken : Option Text → Type 0
-IsTaken None = ⊤
-IsTaken (Some number) = HasNoDash number × (accepted number ≡ true)
+abbrev pub flags_before : Flags → List Text → List Text
+flags_before none words = words
+flags_before (workers number) words = codes "--workers" ∷ number ∷ words
+flags_before (budget number) words = codes "--budget" ∷ number ∷ words
+flags_before (both number other) words = codes "--workers" ∷ number ∷ codes "--budget" ∷ other ∷ words
+
+abbrev pub IsTakenAs : (Text → Bool) → Text → Type 0
+IsTakenAs accepts number = HasNoDash number × (accepts number ≡ true)
+
+abbrev pub IsTaken : LogCommand → Flags → Type 0
+IsTaken command none = ⊤
+IsTaken command (workers number) = IsTakenAs accepted number
+IsTaken on_search (budget number) = IsTakenAs accepted_budget number
+IsTaken on_search (both number other) = IsTakenAs accepted number × IsTakenAs accepted_budget other
+IsTaken on_board other = ⊥
+IsTaken on_puzzle other = ⊥
 
 -- what is found of a file
 abbrev pub file_row : Text → Text → Row
@@ -49,13 +73,19 @@ file_row id name = record { id = id; values = name ∷ []; count = None; source 
 abbrev pub workers_row : Text → Row
 workers_row number = record { id = codes "workers"; values = number ∷ []; count = None; source = Some CommandLine; reading = reading_by workers_flag }
 
+-- what is found of `--budget N`
+abbrev pub budget_row : Text → Row
+budget_row number = record { id = codes "budget"; values = number ∷ []; count = None; source = Some CommandLine; reading = reading_by budget_flag }
+
 -- what is found before the tables
-abbrev pub rows_before : Option Text → List Row → List Row
-rows_before None rows = rows
-rows_before (Some number) rows = workers_row number ∷ rows
+abbrev pub rows_before : Flags → List Row → List Row
+rows_before none rows = rows
+rows_before (workers number) rows = workers_row number ∷ rows
+rows_before (budget number) rows = budget_row number ∷ rows
+rows_before (both number other) rows = workers_row number ∷ budget_row other ∷ rows
 
 abbrev pub files : LogCommand → Text → Text → Text → List Row
-files command claim sets log = file_row (claim_of command) claim ∷ file_row (codes "SETS") sets ∷ file_row (codes "LOG") log ∷ []
+files command claim sets log = file_row (claim_of command) claim ∷ file_row (codes "SETS") sets ∷ file_row (log_of command) log ∷ []
 
 -- the walk behind a file that takes one name
 abbrev pub at : ℕ → List Row → Text → Text → Walk
@@ -70,40 +100,91 @@ at position rows id name = record {
 -- ---- the walk over the files
 
 module _ (claim : Text) (f : HasNoDash claim) where
-  pub first_steps : (command : LogCommand) (number : Option Text) → IsTaken number
-      → fold (walked (shape_of command).rules []) start (flag_before number (claim ∷ [])) ≡ at 2 (rows_before number []) (claim_of command) claim
+  pub first_steps : (command : LogCommand) (flags : Flags) → IsTaken command flags
+      → fold (walked (shape_of command).rules []) start (flags_before flags (claim ∷ [])) ≡ at 2 (rows_before flags []) (claim_of command) claim
   unfolding clap_on_literals
-  first_steps on_board None taken = simp (f.no_dash, f.no_dashes)
-  first_steps on_board (Some number) taken = simp (taken.0.no_dash, taken.0.no_dashes, f.no_dash, f.no_dashes)
-  first_steps on_puzzle None taken = simp (f.no_dash, f.no_dashes)
-  first_steps on_puzzle (Some number) taken = simp (taken.0.no_dash, taken.0.no_dashes, f.no_dash, f.no_dashes)
+  first_steps on_board none taken = simp (f.no_dash, f.no_dashes)
+  first_steps on_board (workers number) taken = simp (taken.0.no_dash, taken.0.no_dashes, f.no_dash, f.no_dashes)
+  first_steps on_board (budget number) taken = absurd taken
+  first_steps on_board (both number other) taken = absurd taken
+  first_steps on_puzzle none taken = simp (f.no_dash, f.no_dashes)
+  first_steps on_puzzle (workers number) taken = simp (taken.0.no_dash, taken.0.no_dashes, f.no_dash, f.no_dashes)
+  first_steps on_puzzle (budget number) taken = absurd taken
+  first_steps on_puzzle (both number other) taken = absurd taken
+  first_steps on_search none taken = simp (f.no_dash, f.no_dashes)
+  first_steps on_search (workers number) taken = simp (taken.0.no_dash, taken.0.no_dashes, f.no_dash, f.no_dashes)
+  first_steps on_search (budget number) taken = simp (taken.0.no_dash, taken.0.no_dashes, f.no_dash, f.no_dashes)
+  first_steps on_search (both number other) taken = simp (taken.0.0.no_dash, taken.0.0.no_dashes, taken.1.0.no_dash, taken.1.0.no_dashes, f.no_dash, f.no_dashes)
 
-  pub first_pass : (behind : List Text) (command : LogCommand) (number : Option Text) → IsTaken number
-      → walk_fault (shape_of command) [] start (flag_before number (claim ∷ behind)) ≡ walk_fault (shape_of command) [] (at 2 (rows_before number []) (claim_of command) claim) behind
+  -- both flags of a search, one after the other
+  workers_pass : (number : Text) → IsTakenAs accepted number → (rest : List Text)
+      → walk_fault (shape_of on_search) [] start (codes "--workers" ∷ number ∷ rest) ≡ walk_fault (shape_of on_search) [] (at 1 [] (codes "workers") number) rest
   unfolding clap_on_literals
-  first_pass behind on_board None taken = simp (f.no_dash, f.no_dashes)
-  first_pass behind on_board (Some number) taken = simp (taken.0.no_dash, taken.0.no_dashes, taken.1, f.no_dash, f.no_dashes)
-  first_pass behind on_puzzle None taken = simp (f.no_dash, f.no_dashes)
-  first_pass behind on_puzzle (Some number) taken = simp (taken.0.no_dash, taken.0.no_dashes, taken.1, f.no_dash, f.no_dashes)
+  workers_pass number n rest = simp (n.0.no_dash, n.0.no_dashes)
+
+  budget_pass : (number other : Text) → IsTakenAs accepted number → IsTakenAs accepted_budget other → (rest : List Text)
+      → walk_fault (shape_of on_search) [] (at 1 [] (codes "workers") number) (codes "--budget" ∷ other ∷ rest)
+      ≡ walk_fault (shape_of on_search) [] (at 1 (workers_row number ∷ []) (codes "budget") other) rest
+  unfolding clap_on_literals
+  budget_pass number other n m rest = simp (m.0.no_dash, m.0.no_dashes, n.1)
+
+  claim_pass : (number other : Text) → IsTakenAs accepted_budget other → (behind : List Text)
+      → walk_fault (shape_of on_search) [] (at 1 (workers_row number ∷ []) (codes "budget") other) (claim ∷ behind)
+      ≡ walk_fault (shape_of on_search) [] (at 2 (workers_row number ∷ budget_row other ∷ []) (codes "BOARD") claim) behind
+  unfolding clap_on_literals
+  claim_pass number other m behind = simp (m.1, f.no_dash, f.no_dashes)
+
+  pub first_pass : (behind : List Text) (command : LogCommand) (flags : Flags) → IsTaken command flags
+      → walk_fault (shape_of command) [] start (flags_before flags (claim ∷ behind)) ≡ walk_fault (shape_of command) [] (at 2 (rows_before flags []) (claim_of command) claim) behind
+  unfolding clap_on_literals
+  first_pass behind on_board none taken = simp (f.no_dash, f.no_dashes)
+  first_pass behind on_board (workers number) taken = simp (taken.0.no_dash, taken.0.no_dashes, taken.1, f.no_dash, f.no_dashes)
+  first_pass behind on_board (budget number) taken = absurd taken
+  first_pass behind on_board (both number other) taken = absurd taken
+  first_pass behind on_puzzle none taken = simp (f.no_dash, f.no_dashes)
+  first_pass behind on_puzzle (workers number) taken = simp (taken.0.no_dash, taken.0.no_dashes, taken.1, f.no_dash, f.no_dashes)
+  first_pass behind on_puzzle (budget number) taken = absurd taken
+  first_pass behind on_puzzle (both number other) taken = absurd taken
+  first_pass behind on_search none taken = simp (f.no_dash, f.no_dashes)
+  first_pass behind on_search (workers number) taken = simp (taken.0.no_dash, taken.0.no_dashes, taken.1, f.no_dash, f.no_dashes)
+  first_pass behind on_search (budget number) taken = simp (taken.0.no_dash, taken.0.no_dashes, taken.1, f.no_dash, f.no_dashes)
+  first_pass behind on_search (both number other) taken = workers_pass number taken.0 (codes "--budget" ∷ other ∷ claim ∷ behind) ∙ budget_pass number other taken.0 taken.1 (claim ∷ behind)
+      ∙ claim_pass number other taken.1 behind
 
 module _ (claim sets log table : Text) (t : HasNoDash sets) (l : HasNoDash log) (f : HasNoDash table) where
-  more_steps : (command : LogCommand) (number : Option Text)
-      → fold (walked (shape_of command).rules []) (at 2 (rows_before number []) (claim_of command) claim) (sets ∷ log ∷ table ∷ [])
-      ≡ gathering (rows_before number (files command claim sets log)) (table ∷ [])
+  more_steps : (command : LogCommand) (flags : Flags) → IsTaken command flags
+      → fold (walked (shape_of command).rules []) (at 2 (rows_before flags []) (claim_of command) claim) (sets ∷ log ∷ table ∷ [])
+      ≡ gathering (rows_before flags (files command claim sets log)) (table ∷ [])
   unfolding clap_on_literals
-  more_steps on_board None = simp (t.no_dash, t.no_dashes, l.no_dash, l.no_dashes, f.no_dash, f.no_dashes)
-  more_steps on_board (Some number) = simp (t.no_dash, t.no_dashes, l.no_dash, l.no_dashes, f.no_dash, f.no_dashes)
-  more_steps on_puzzle None = simp (t.no_dash, t.no_dashes, l.no_dash, l.no_dashes, f.no_dash, f.no_dashes)
-  more_steps on_puzzle (Some number) = simp (t.no_dash, t.no_dashes, l.no_dash, l.no_dashes, f.no_dash, f.no_dashes)
+  more_steps on_board none taken = simp (t.no_dash, t.no_dashes, l.no_dash, l.no_dashes, f.no_dash, f.no_dashes)
+  more_steps on_board (workers number) taken = simp (t.no_dash, t.no_dashes, l.no_dash, l.no_dashes, f.no_dash, f.no_dashes)
+  more_steps on_board (budget number) taken = absurd taken
+  more_steps on_board (both number other) taken = absurd taken
+  more_steps on_puzzle none taken = simp (t.no_dash, t.no_dashes, l.no_dash, l.no_dashes, f.no_dash, f.no_dashes)
+  more_steps on_puzzle (workers number) taken = simp (t.no_dash, t.no_dashes, l.no_dash, l.no_dashes, f.no_dash, f.no_dashes)
+  more_steps on_puzzle (budget number) taken = absurd taken
+  more_steps on_puzzle (both number other) taken = absurd taken
+  more_steps on_search none taken = simp (t.no_dash, t.no_dashes, l.no_dash, l.no_dashes, f.no_dash, f.no_dashes)
+  more_steps on_search (workers number) taken = simp (t.no_dash, t.no_dashes, l.no_dash, l.no_dashes, f.no_dash, f.no_dashes)
+  more_steps on_search (budget number) taken = simp (t.no_dash, t.no_dashes, l.no_dash, l.no_dashes, f.no_dash, f.no_dashes)
+  more_steps on_search (both number other) taken = simp (t.no_dash, t.no_dashes, l.no_dash, l.no_dashes, f.no_dash, f.no_dashes)
 
-  more_files_pass : (behind : List Text) (command : LogCommand) (number : Option Text)
-      → walk_fault (shape_of command) [] (at 2 (rows_before number []) (claim_of command) claim) (sets ∷ log ∷ table ∷ behind)
-      ≡ walk_fault (shape_of command) [] (gathering (rows_before number (files command claim sets log)) (table ∷ [])) behind
+  more_files_pass : (behind : List Text) (command : LogCommand) (flags : Flags) → IsTaken command flags
+      → walk_fault (shape_of command) [] (at 2 (rows_before flags []) (claim_of command) claim) (sets ∷ log ∷ table ∷ behind)
+      ≡ walk_fault (shape_of command) [] (gathering (rows_before flags (files command claim sets log)) (table ∷ [])) behind
   unfolding clap_on_literals
-  more_files_pass behind on_board None = simp (t.no_dash, t.no_dashes, l.no_dash, l.no_dashes, f.no_dash, f.no_dashes)
-  more_files_pass behind on_board (Some number) = simp (t.no_dash, t.no_dashes, l.no_dash, l.no_dashes, f.no_dash, f.no_dashes)
-  more_files_pass behind on_puzzle None = simp (t.no_dash, t.no_dashes, l.no_dash, l.no_dashes, f.no_dash, f.no_dashes)
-  more_files_pass behind on_puzzle (Some number) = simp (t.no_dash, t.no_dashes, l.no_dash, l.no_dashes, f.no_dash, f.no_dashes)
+  more_files_pass behind on_board none taken = simp (t.no_dash, t.no_dashes, l.no_dash, l.no_dashes, f.no_dash, f.no_dashes)
+  more_files_pass behind on_board (workers number) taken = simp (t.no_dash, t.no_dashes, l.no_dash, l.no_dashes, f.no_dash, f.no_dashes)
+  more_files_pass behind on_board (budget number) taken = absurd taken
+  more_files_pass behind on_board (both number other) taken = absurd taken
+  more_files_pass behind on_puzzle none taken = simp (t.no_dash, t.no_dashes, l.no_dash, l.no_dashes, f.no_dash, f.no_dashes)
+  more_files_pass behind on_puzzle (workers number) taken = simp (t.no_dash, t.no_dashes, l.no_dash, l.no_dashes, f.no_dash, f.no_dashes)
+  more_files_pass behind on_puzzle (budget number) taken = absurd taken
+  more_files_pass behind on_puzzle (both number other) taken = absurd taken
+  more_files_pass behind on_search none taken = simp (t.no_dash, t.no_dashes, l.no_dash, l.no_dashes, f.no_dash, f.no_dashes)
+  more_files_pass behind on_search (workers number) taken = simp (t.no_dash, t.no_dashes, l.no_dash, l.no_dashes, f.no_dash, f.no_dashes)
+  more_files_pass behind on_search (budget number) taken = simp (t.no_dash, t.no_dashes, l.no_dash, l.no_dashes, f.no_dash, f.no_dashes)
+  more_files_pass behind on_search (both number other) taken = simp (t.no_dash, t.no_dashes, l.no_dash, l.no_dashes, f.no_dash, f.no_dashes)
 
 module _ (command : LogCommand) (claim sets log table : Text) (tables : List Text) (names : AreNames (claim ∷ sets ∷ log ∷ table ∷ tables)) where
   behind_claim : All IsPlain (sets ∷ log ∷ table ∷ tables)
@@ -136,24 +217,27 @@ module _ (command : LogCommand) (claim sets log table : Text) (tables : List Tex
   fourth : (command : LogCommand) → arg_by_index (shape_of command).rules 4 ≡ Some tables_rule
   fourth on_board = refl
   fourth on_puzzle = refl
+  fourth on_search = refl
 
-  pub files_walk : (number : Option Text) → IsTaken number → (behind : List Text)
-      → walk (shape_of command).rules [] nothing_held (flag_before number (claim ∷ sets ∷ log ∷ table ∷ tables ++ behind))
-      ≡ fold (walked (shape_of command).rules []) (gathering (rows_before number (files command claim sets log)) (table ∷ tables)) behind
-  files_walk number taken behind =
-      begins number ∙ ap (λ (w : Walk). fold (walked (shape_of command).rules []) w (sets ∷ log ∷ table ∷ tables ++ behind)) (first_steps claim plain_claim command number taken)
-      ∙ ap (λ (w : Walk). fold (walked (shape_of command).rules []) w (tables ++ behind)) (more_steps claim sets log table plain_sets plain_log plain_table command number)
-      ∙ more_walk (shape_of command) (fourth command) (rows_before number (files command claim sets log)) (table ∷ []) tables behind others
+  pub files_walk : (flags : Flags) → IsTaken command flags → (behind : List Text)
+      → walk (shape_of command).rules [] nothing_held (flags_before flags (claim ∷ sets ∷ log ∷ table ∷ tables ++ behind))
+      ≡ fold (walked (shape_of command).rules []) (gathering (rows_before flags (files command claim sets log)) (table ∷ tables)) behind
+  files_walk flags taken behind =
+      begins flags ∙ ap (λ (w : Walk). fold (walked (shape_of command).rules []) w (sets ∷ log ∷ table ∷ tables ++ behind)) (first_steps claim plain_claim command flags taken)
+      ∙ ap (λ (w : Walk). fold (walked (shape_of command).rules []) w (tables ++ behind)) (more_steps claim sets log table plain_sets plain_log plain_table command flags taken)
+      ∙ more_walk (shape_of command) (fourth command) (rows_before flags (files command claim sets log)) (table ∷ []) tables behind others
     where
-      begins : (number : Option Text) → walk (shape_of command).rules [] nothing_held (flag_before number (claim ∷ sets ∷ log ∷ table ∷ tables ++ behind))
-          ≡ fold (walked (shape_of command).rules []) (fold (walked (shape_of command).rules []) start (flag_before number (claim ∷ []))) (sets ∷ log ∷ table ∷ tables ++ behind)
-      begins None = refl
-      begins (Some number) = refl
+      begins : (flags : Flags) → walk (shape_of command).rules [] nothing_held (flags_before flags (claim ∷ sets ∷ log ∷ table ∷ tables ++ behind))
+          ≡ fold (walked (shape_of command).rules []) (fold (walked (shape_of command).rules []) start (flags_before flags (claim ∷ []))) (sets ∷ log ∷ table ∷ tables ++ behind)
+      begins none = refl
+      begins (workers number) = refl
+      begins (budget number) = refl
+      begins (both number other) = refl
 
-  pub files_pass : (number : Option Text) → IsTaken number → (behind : List Text)
-      → walk_fault (shape_of command) [] start (flag_before number (claim ∷ sets ∷ log ∷ table ∷ tables ++ behind))
-      ≡ walk_fault (shape_of command) [] (gathering (rows_before number (files command claim sets log)) (table ∷ tables)) behind
-  files_pass number taken behind =
-      first_pass claim plain_claim (sets ∷ log ∷ table ∷ tables ++ behind) command number taken
-      ∙ more_files_pass claim sets log table plain_sets plain_log plain_table (tables ++ behind) command number
-      ∙ more_pass (shape_of command) (fourth command) (rows_before number (files command claim sets log)) (table ∷ []) tables behind others
+  pub files_pass : (flags : Flags) → IsTaken command flags → (behind : List Text)
+      → walk_fault (shape_of command) [] start (flags_before flags (claim ∷ sets ∷ log ∷ table ∷ tables ++ behind))
+      ≡ walk_fault (shape_of command) [] (gathering (rows_before flags (files command claim sets log)) (table ∷ tables)) behind
+  files_pass flags taken behind =
+      first_pass claim plain_claim (sets ∷ log ∷ table ∷ tables ++ behind) command flags taken
+      ∙ more_files_pass claim sets log table plain_sets plain_log plain_table (tables ++ behind) command flags taken
+      ∙ more_pass (shape_of command) (fourth command) (rows_before flags (files command claim sets log)) (table ∷ []) tables behind others

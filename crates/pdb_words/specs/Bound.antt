@@ -8,7 +8,7 @@ use Rattle.pdb_words.specs.Workers.{workers_in}
 
 -- the command, as `clap` sees it
 abbrev pub bound_command : App
-bound_command = with_log (with_rule (new_app (codes "bound")) (needed_file (codes "BOARD")))
+bound_command = with_log (with_rule (new_app (codes "bound")) (needed_file (codes "BOARD"))) (needed_file (codes "LOG"))
 
 -- what the values found of it ask for
 abbrev pub bound_in : List Row → Asked

@@ -9,24 +9,30 @@ use Rattle.clap.specs.Faults.{fault_of}
 use Rattle.clap.specs.Kinds.{Kinds}
 use Rattle.pdb_words.specs.Asked.{Asked, replay}
 use Rattle.pdb_words.specs.Bound.{bound_command, bound_in}
+use Rattle.pdb_words.specs.MakeTable.{make_table_command, make_table_in}
 use Rattle.pdb_words.specs.Optimal.{optimal_command, optimal_in}
 use Rattle.pdb_words.specs.Replay.{replay_command, replay_in}
+use Rattle.pdb_words.specs.Solve.{solve_command, solve_in}
 use Rattle.pdb_words.specs.Table.{table_command, table_in}
 
 -- the program without its commands, over words that leave out its own name, as `clap` sees it
 abbrev pub program : App
 program = on_top (λ s. record s { no_binary_name = true }) (new_app (codes "pdb_cli"))
 
--- the commands of the program
-abbrev pub command_line : App
-command_line = with_subcommand (with_subcommand (with_subcommand (with_subcommand program
+-- the program with the commands that only check
+abbrev pub checks : App
+checks = with_subcommand (with_subcommand (with_subcommand (with_subcommand program
     replay_command.top) table_command.top) bound_command.top) optimal_command.top
+
+-- the program with all its commands
+abbrev pub command_line : App
+command_line = with_subcommand (with_subcommand checks make_table_command.top) solve_command.top
 
 -- ---- what words ask for
 
 -- the names of the commands
 abbrev pub commands : List Text
-commands = codes "replay" ∷ codes "table" ∷ codes "bound" ∷ codes "optimal" ∷ []
+commands = codes "replay" ∷ codes "table" ∷ codes "bound" ∷ codes "optimal" ∷ codes "make-table" ∷ codes "solve" ∷ []
 
 -- the text is among these
 abbrev pub IsOneOf : List Text → Text → Type 0
@@ -38,7 +44,11 @@ IsCommand name = IsOneOf commands name
 
 -- the commands that take `--workers`
 abbrev pub shared_commands : List Text
-shared_commands = codes "table" ∷ codes "bound" ∷ codes "optimal" ∷ []
+shared_commands = codes "table" ∷ codes "bound" ∷ codes "optimal" ∷ codes "make-table" ∷ codes "solve" ∷ []
+
+-- the command takes the flag of this name
+abbrev pub TakesFlag : Text → Text → Type 0
+TakesFlag command name = (IsOneOf shared_commands command × (name ≡ codes "workers")) ⊎ ((command ≡ codes "solve") × (name ≡ codes "budget"))
 
 -- what the values found of the command of this name ask for
 abbrev pub asked_by : Text → List Row → Asked
@@ -46,6 +56,8 @@ asked_by name rows = if bytes_eq name (codes "replay") then replay_in rows
     else if bytes_eq name (codes "table") then table_in rows
     else if bytes_eq name (codes "bound") then bound_in rows
     else if bytes_eq name (codes "optimal") then optimal_in rows
+    else if bytes_eq name (codes "make-table") then make_table_in rows
+    else if bytes_eq name (codes "solve") then solve_in rows
     else replay None
 
 -- without a command it is `replay` on standard input

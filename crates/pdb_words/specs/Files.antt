@@ -23,7 +23,7 @@ needed_tables = record (needed_file (codes "TABLES")) {
 abbrev pub tables_in : List Row → List Text
 tables_in rows = unwrap_or (all_of (codes "TABLES") rows) []
 
--- the command with `SETS LOG TABLES..` behind its own file, and with the workers that check the tables
-abbrev pub with_log : App → App
-with_log command = with_rule (with_rule (with_rule (with_rule command workers_flag)
-    (needed_file (codes "SETS"))) (needed_file (codes "LOG"))) needed_tables
+-- the command with `SETS`, the file of a log and `TABLES..` behind its own file, and with the workers that check the tables
+abbrev pub with_log : App → Rule → App
+with_log command log = with_rule (with_rule (with_rule (with_rule command workers_flag)
+    (needed_file (codes "SETS"))) log) needed_tables

@@ -8,7 +8,7 @@ use Rattle.pdb_words.specs.Workers.{workers_in}
 
 -- the command, as `clap` sees it
 abbrev pub optimal_command : App
-optimal_command = with_log (with_rule (new_app (codes "optimal")) (needed_file (codes "PUZZLE")))
+optimal_command = with_log (with_rule (new_app (codes "optimal")) (needed_file (codes "PUZZLE"))) (needed_file (codes "LOG"))
 
 -- what the values found of it ask for
 abbrev pub optimal_in : List Row → Asked

@@ -11,6 +11,16 @@ pub enum Request<'a> {
     Bound(LogCheck<'a>),
     /// Whether a log proves that the moves of a puzzle text are a shortest solution of its board.
     Optimal(LogCheck<'a>),
+    /// The table of the pattern with this side and this tile mask, kept under the name `out` once so many workers,
+    /// 1 to 64, found it exact. Not every side and mask are a pattern.
+    MakeTable {
+        side: u8,
+        mask: u32,
+        out: &'a str,
+        workers: u8,
+    },
+    /// A shortest solution of a board, and the log that proves that it is one.
+    Solve(Search<'a>),
 }
 
 /// The files that the check of a log reads, by their names, and how many workers check the tables and the log.
@@ -25,4 +35,22 @@ pub struct LogCheck<'a> {
     pub tables: Vec<&'a str>,
     /// 1 to 64.
     pub workers: u8,
+}
+
+/// The files that a search reads and the one that it keeps, by their names, how many workers check the tables and the
+/// log, and how far the search may go.
+#[derive(Debug, PartialEq, Drop)]
+pub struct Search<'a> {
+    /// The board text.
+    pub board: &'a str,
+    /// The sets of tables that the log sums over.
+    pub sets: &'a str,
+    /// What is to hold the log.
+    pub out: &'a str,
+    /// The tables, in the order of their numbers: one or more.
+    pub tables: Vec<&'a str>,
+    /// 1 to 64.
+    pub workers: u8,
+    /// How many boards the search may expand: 1 to 1,000,000,000,000.
+    pub budget: u64,
 }

@@ -3,7 +3,7 @@
 ghost use Rattle.std.specs.Prelude.{◌≡◌, IfOk, false};
 ghost use Rattle.clap.specs.Words.{app_of, found_of, rows_of};
 ghost use Rattle.clap.specs.declared.Command.TheViews.{out-Command};
-ghost use Rattle.pdb_words.specs.Asked.{HasWorkers, view};
+ghost use Rattle.pdb_words.specs.Asked.{HasBudget, HasWorkers, view};
 ghost use Rattle.pdb_words.specs.Bound.{bound_command, bound_in};
 
 use crate::asked::{LogCheck, Request};
@@ -18,19 +18,21 @@ pub(crate) fn bound_command<'a>(alloc: Global) -> Result<Command<'a>, AllocError
     ensures local { IfOk result (λ c. (out-Command c).has_globals ≡ false) }
 {
     let board = needed_file(alloc, "BOARD").help("A board text");
+    let log = needed_file(alloc, "LOG").help("A log file");
     let command = Command::new(alloc, "bound")
         .about(
             "Says whether a log proves that no solution of a board has fewer moves than its bound",
         )
         .override_usage("pdb_cli bound [--workers N] BOARD SETS LOG TABLES..")
         .arg(board)?;
-    with_log(alloc, command)
+    with_log(alloc, command, log)
 }
 
 /// What these matches of the command ask for.
 pub(crate) fn bound_in<'a>(alloc: Global, found: &ArgMatches<'a>) -> Result<Request<'a>, AllocError>
     ensures asked { IfOk result (λ request. view request ≡ bound_in (rows_of (found_of found.now))) }
     ensures workers { IfOk result (λ request. HasWorkers request) }
+    ensures budget { IfOk result (λ request. HasBudget request) }
 {
     Ok(Request::Bound(LogCheck {
         claim: file_in(found, "BOARD"),

@@ -3,15 +3,17 @@
 ghost use Rattle.std.specs.Prelude.{◌≡◌, IfErr, IfOk, IfSome, false, map, string_bytes};
 ghost use Rattle.clap.specs.Words.{FailsBy, app_of, subcommand_of, subcommand_rows_of, with_subcommand};
 ghost use Rattle.clap.specs.declared.Command.TheViews.{out-Command};
-ghost use Rattle.pdb_words.specs.Asked.{HasWorkers, view};
-ghost use Rattle.pdb_words.specs.CommandLine.{IsCommand, Parses, asked_in, asked_of, command_line, faults_of};
+ghost use Rattle.pdb_words.specs.Asked.{HasBudget, HasWorkers, view};
+ghost use Rattle.pdb_words.specs.CommandLine.{IsCommand, Parses, asked_in, asked_of, checks, command_line, faults_of};
 ghost use Rattle.pdb_words.specs.Faults.{IsCauseOf};
 
 use crate::asked::Request;
 use crate::bound::{bound_command, bound_in};
 use crate::faults::{WordFault, fault_by};
+use crate::make_table::{make_table_command, make_table_in};
 use crate::optimal::{optimal_command, optimal_in};
 use crate::replay::{replay_command, replay_in};
+use crate::solve::{solve_command, solve_in};
 use crate::table::{table_command, table_in};
 use clap::{ArgMatches, Command};
 use std::alloc::{AllocError, Global};
@@ -27,6 +29,7 @@ pub fn read_words<'a>(alloc: Global, words: &'a [String]) -> Result<Request<'a>,
     ensures parses { IfOk result (λ _. Parses (map string_bytes words.now)) }
     ensures asked { IfOk result (λ request. view request ≡ asked_of (map string_bytes words.now)) }
     ensures workers { IfOk result (λ request. HasWorkers request) }
+    ensures budget { IfOk result (λ request. HasBudget request) }
     ensures cause { IfErr result (λ fault. IsCauseOf (map string_bytes words.now) fault) }
 {
     match matches_of(alloc, words) {
@@ -40,9 +43,18 @@ fn command_line<'a>(alloc: Global) -> Result<Command<'a>, AllocError>
     ensures app { IfOk result (λ c. app_of c ≡ command_line) }
     ensures local { IfOk result (λ c. (out-Command c).has_globals ≡ false) }
 {
+    let program = with_command(checks(alloc)?, make_table_command(alloc)?)?;
+    with_command(program, solve_command(alloc)?)
+}
+
+/// The program with the commands that only check.
+fn checks<'a>(alloc: Global) -> Result<Command<'a>, AllocError>
+    ensures app { IfOk result (λ c. app_of c ≡ checks) }
+    ensures local { IfOk result (λ c. (out-Command c).has_globals ≡ false) }
+{
     let program = Command::new(alloc, "pdb_cli")
         .bin_name("pdb_cli")?
-        .about("Checks claims about sliding-tile puzzles")
+        .about("Checks claims about sliding-tile puzzles, and makes tables and logs")
         .after_help(AFTER_HELP)
         .no_binary_name(true);
     let program = with_command(program, replay_command(alloc)?)?;
@@ -74,6 +86,7 @@ fn request_in<'a>(alloc: Global, matches: &ArgMatches<'a>) -> Result<Request<'a>
     requires { IfSome (subcommand_rows_of matches.now) (λ found. IsCommand found.0) }
     ensures asked { IfOk result (λ request. view request ≡ asked_in (subcommand_rows_of matches.now)) }
     ensures workers { IfOk result (λ request. HasWorkers request) }
+    ensures budget { IfOk result (λ request. HasBudget request) }
 {
     match matches.subcommand() {
         None => Ok(Request::Replay(None)),
@@ -81,6 +94,8 @@ fn request_in<'a>(alloc: Global, matches: &ArgMatches<'a>) -> Result<Request<'a>
         Some(("table", found)) => Ok(table_in(found)),
         Some(("bound", found)) => bound_in(alloc, found),
         Some(("optimal", found)) => optimal_in(alloc, found),
+        Some(("make-table", found)) => Ok(make_table_in(found)),
+        Some(("solve", found)) => solve_in(alloc, found),
         Some(_) => unreachable!(),
     }
 }

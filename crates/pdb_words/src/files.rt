@@ -28,13 +28,17 @@ fn needed_tables<'a>(alloc: Global) -> Arg<'a>
         .num_args(1..)
 }
 
-/// A command with `SETS LOG TABLES..` behind its own file, and with the flag `--workers`.
-pub(crate) fn with_log<'a>(alloc: Global, command: Command<'a>) -> Result<Command<'a>, AllocError>
-    ensures app { IfOk result (λ c. app_of c ≡ with_log (app_of command.entry)) }
+/// A command with `SETS`, the file of a log and `TABLES..` behind its own file, and with the flag `--workers`.
+pub(crate) fn with_log<'a>(
+    alloc: Global,
+    command: Command<'a>,
+    log: Arg<'a>,
+) -> Result<Command<'a>, AllocError>
+    requires { log.global ≡ false }
+    ensures app { IfOk result (λ c. app_of c ≡ with_log (app_of command.entry) (rule_of log.entry)) }
     ensures local { IfOk result (λ c. (out-Command c).has_globals ≡ (out-Command command.entry).has_globals) }
 {
     let sets = needed_file(alloc, "SETS").help("The sets of tables");
-    let log = needed_file(alloc, "LOG").help("A log file");
     let command = with_argument(command, workers_flag(alloc))?;
     let command = with_argument(command, sets)?;
     let command = with_argument(command, log)?;
@@ -42,7 +46,7 @@ pub(crate) fn with_log<'a>(alloc: Global, command: Command<'a>) -> Result<Comman
 }
 
 /// A command with one more argument.
-fn with_argument<'a>(command: Command<'a>, arg: Arg<'a>) -> Result<Command<'a>, AllocError>
+pub(crate) fn with_argument<'a>(command: Command<'a>, arg: Arg<'a>) -> Result<Command<'a>, AllocError>
     requires { arg.global ≡ false }
     ensures app { IfOk result (λ c. app_of c ≡ with_rule (app_of command.entry) (rule_of arg.entry)) }
     ensures local { IfOk result (λ c. (out-Command c).has_globals ≡ (out-Command command.entry).has_globals) }

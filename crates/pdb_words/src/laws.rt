@@ -3,9 +3,10 @@
 ghost use Rattle.std.specs.Prelude.{◌≡◌, ◌≢◌, ◌∷◌, ◌++◌, [], ℕ, List, None, Some, codes, false, true};
 ghost use Rattle.std.specs.List.{All};
 ghost use Rattle.pdb_words.specs.Asked.{bound, optimal, replay, table};
-ghost use Rattle.pdb_words.specs.CommandLine.{AreNames, AsksFor, BeginsWithCommand, IsCommand, IsLongFlag, IsOneOf, IsPlain, Parses, shared_commands};
+ghost use Rattle.pdb_words.specs.CommandLine.{AreNames, AsksFor, BeginsWithCommand, IsCommand, IsLongFlag, IsPlain, Parses, TakesFlag};
 ghost use Rattle.pdb_words.specs.Faults.{IsMistaken};
-ghost use Rattle.pdb_words.specs.Workers.{number_of, writes_workers};
+ghost use Rattle.pdb_words.specs.Numbers.{number_of};
+ghost use Rattle.pdb_words.specs.Workers.{writes_workers};
 
 /// No words, and `replay` alone, ask for standard input, and `replay` with a name for that file.
 pub fn what_replay_asks()
@@ -76,7 +77,8 @@ pub fn what_optimal_asks()
         → IsMistaken (codes "optimal" ∷ puzzle ∷ sets ∷ log ∷ table ∷ tables ++ codes "--workers" ∷ number ∷ []) }
 {}
 
-/// Words that parse begin with a command of the program, and give no flag but `--workers`, to a command that shares its check.
+/// Words that parse begin with a command of the program, and give no flag but those that their command takes:
+/// `--workers`, which `replay` doesn't take, and behind `solve` `--budget`.
 pub fn no_other_words_parse()
     ensures commands { (words : List (List ℕ)) → Parses words → BeginsWithCommand words }
     // Another first word, other than a wish for help, is a mistake, whatever follows.
@@ -85,5 +87,5 @@ pub fn no_other_words_parse()
     // Behind a word `--` no word is a flag.
     ensures flags { (command name flag : List ℕ) (before after : List (List ℕ)) → IsCommand command
         → All (λ word. word ≢ codes "--") before → IsLongFlag name flag
-        → Parses (command ∷ before ++ flag ∷ after) → IsOneOf shared_commands command × (name ≡ codes "workers") }
+        → Parses (command ∷ before ++ flag ∷ after) → TakesFlag command name }
 {}

@@ -3,7 +3,7 @@
 ghost use Rattle.std.specs.Prelude.{◌≡◌, IfOk, false};
 ghost use Rattle.clap.specs.Words.{app_of, found_of, rows_of};
 ghost use Rattle.clap.specs.declared.Command.TheViews.{out-Command};
-ghost use Rattle.pdb_words.specs.Asked.{HasWorkers, view};
+ghost use Rattle.pdb_words.specs.Asked.{HasBudget, HasWorkers, view};
 ghost use Rattle.pdb_words.specs.Optimal.{optimal_command, optimal_in};
 
 use crate::asked::{LogCheck, Request};
@@ -18,11 +18,12 @@ pub(crate) fn optimal_command<'a>(alloc: Global) -> Result<Command<'a>, AllocErr
     ensures local { IfOk result (λ c. (out-Command c).has_globals ≡ false) }
 {
     let puzzle = needed_file(alloc, "PUZZLE").help("A puzzle text");
+    let log = needed_file(alloc, "LOG").help("A log file");
     let command = Command::new(alloc, "optimal")
         .about("Says whether a log proves that the moves of a puzzle text are a shortest solution")
         .override_usage("pdb_cli optimal [--workers N] PUZZLE SETS LOG TABLES..")
         .arg(puzzle)?;
-    with_log(alloc, command)
+    with_log(alloc, command, log)
 }
 
 /// What these matches of the command ask for.
@@ -32,6 +33,7 @@ pub(crate) fn optimal_in<'a>(
 ) -> Result<Request<'a>, AllocError>
     ensures asked { IfOk result (λ request. view request ≡ optimal_in (rows_of (found_of found.now))) }
     ensures workers { IfOk result (λ request. HasWorkers request) }
+    ensures budget { IfOk result (λ request. HasBudget request) }
 {
     Ok(Request::Optimal(LogCheck {
         claim: file_in(found, "PUZZLE"),

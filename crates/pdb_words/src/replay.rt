@@ -3,7 +3,7 @@
 ghost use Rattle.std.specs.Prelude.{◌≡◌, IfOk, false};
 ghost use Rattle.clap.specs.Words.{app_of, found_of, rows_of};
 ghost use Rattle.clap.specs.declared.Command.TheViews.{out-Command};
-ghost use Rattle.pdb_words.specs.Asked.{HasWorkers, view};
+ghost use Rattle.pdb_words.specs.Asked.{HasBudget, HasWorkers, view};
 ghost use Rattle.pdb_words.specs.Replay.{replay_command, replay_in};
 
 use crate::asked::Request;
@@ -26,6 +26,7 @@ pub(crate) fn replay_command<'a>(alloc: Global) -> Result<Command<'a>, AllocErro
 pub(crate) fn replay_in<'a>(found: &ArgMatches<'a>) -> Request<'a>
     ensures asked { view result ≡ replay_in (rows_of (found_of found.now)) }
     ensures workers { HasWorkers result }
+    ensures budget { HasBudget result }
 {
     Request::Replay(found.get_str("FILE"))
 }

@@ -3,7 +3,7 @@
 ghost use Rattle.std.specs.Prelude.{◌≡◌, IfOk, false};
 ghost use Rattle.clap.specs.Words.{app_of, found_of, rows_of};
 ghost use Rattle.clap.specs.declared.Command.TheViews.{out-Command};
-ghost use Rattle.pdb_words.specs.Asked.{HasWorkers, view};
+ghost use Rattle.pdb_words.specs.Asked.{HasBudget, HasWorkers, view};
 ghost use Rattle.pdb_words.specs.Table.{table_command, table_in};
 
 use crate::asked::Request;
@@ -29,6 +29,7 @@ pub(crate) fn table_command<'a>(alloc: Global) -> Result<Command<'a>, AllocError
 pub(crate) fn table_in<'a>(found: &ArgMatches<'a>) -> Request<'a>
     ensures asked { view result ≡ table_in (rows_of (found_of found.now)) }
     ensures workers { HasWorkers result }
+    ensures budget { HasBudget result }
 {
     Request::Table {
         file: file_in(found, "FILE"),

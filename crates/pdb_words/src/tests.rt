@@ -1,19 +1,21 @@
 //! What words ask for, and the whole texts of help and of mistakes.
 
-use crate::{LogCheck, Request, WordFault, read_words, unreadable_word};
+use crate::{LogCheck, Request, Search, WordFault, read_words, unreadable_word};
 use std::alloc::{AllocError, Global};
 use std::test::Fail;
 
-const HELP: &str = "Checks claims about sliding-tile puzzles
+const HELP: &str = "Checks claims about sliding-tile puzzles, and makes tables and logs
 
 Usage: pdb_cli [COMMAND]
 
 Commands:
-  replay   Plays the moves of a puzzle text, and says whether they solve its board
-  table    Says whether a table file is exact
-  bound    Says whether a log proves that no solution of a board has fewer moves than its bound
-  optimal  Says whether a log proves that the moves of a puzzle text are a shortest solution
-  help     Print this message or the help of the given subcommand(s)
+  replay      Plays the moves of a puzzle text, and says whether they solve its board
+  table       Says whether a table file is exact
+  bound       Says whether a log proves that no solution of a board has fewer moves than its bound
+  optimal     Says whether a log proves that the moves of a puzzle text are a shortest solution
+  make-table  Makes the table of a pattern, and keeps it if it is exact
+  solve       Searches for a shortest solution of a board, and keeps the log that proves it
+  help        Print this message or the help of the given subcommand(s)
 
 Options:
   -h, --help  Print help
@@ -77,6 +79,37 @@ Arguments:
 
 Options:
       --workers <N>  How many workers share the check, 1 to 64 [default: 1]
+  -h, --help         Print help
+";
+
+const HELP_OF_MAKE_TABLE: &str = "Makes the table of a pattern, and keeps it if it is exact
+
+Usage: pdb_cli make-table [--workers N] SIDE MASK OUT
+
+Arguments:
+  <SIDE>  The side of the puzzle, 2 to 5
+  <MASK>  The tiles of the pattern: the sum of 2^t over its tiles t
+  <OUT>   The file that is to hold the table
+
+Options:
+      --workers <N>  How many workers share the check, 1 to 64 [default: 1]
+  -h, --help         Print help
+";
+
+const HELP_OF_SOLVE: &str =
+    "Searches for a shortest solution of a board, and keeps the log that proves it
+
+Usage: pdb_cli solve [--workers N] [--budget N] BOARD SETS OUT TABLES..
+
+Arguments:
+  <BOARD>      A board text
+  <SETS>       The sets of tables
+  <OUT>        The file that is to hold the log
+  <TABLES>...  The table files, in the order of their numbers
+
+Options:
+      --workers <N>  How many workers share the check, 1 to 64 [default: 1]
+      --budget <N>   How many boards the search may expand, 1 to 1000000000000 [default: 1000000]
   -h, --help         Print help
 ";
 
@@ -191,9 +224,84 @@ fn names(check: &LogCheck<'_>, tables: &[&str], workers: u8) -> bool {
 }
 
 #[test]
+fn words_ask_for_a_table_to_be_made(rt: HostRuntime) -> Result<(), Fail> {
+    let alloc = rt.alloc();
+    let cases: [(&[&str], u8, u32, u8); 6] = [
+        (&["2", "14", "o"], 2, 14, 1),
+        (&["--workers", "7", "5", "16777216", "o"], 5, 16_777_216, 7),
+        (&["3", "510", "o", "--workers", "64"], 3, 510, 64),
+        (&["0", "4294967295", "o"], 0, u32::MAX, 1),
+        (&["255", "0", "o"], 255, 0, 1),
+        (&["+2", "006", "--workers=2", "o"], 2, 6, 2),
+    ];
+    for (words, side, mask, workers) in cases {
+        let mut words = owned(alloc, words)?;
+        words.insert(0, String::from_str(alloc, "make-table")?)?;
+        match read_words(alloc, words.as_slice()) {
+            Ok(found) => {
+                let out = "o";
+                assert!(rt; found == Request::MakeTable { side, mask, out, workers }, "{found:?}");
+            }
+            Err(fault) => assert!(rt; false, "{fault}"),
+        }
+    }
+    Ok(())
+}
+
+#[test]
+fn words_ask_for_a_search(rt: HostRuntime) -> Result<(), Fail> {
+    let alloc = rt.alloc();
+    let cases: [(&[&str], &[&str], u8, u64); 7] = [
+        (&["b", "s", "o", "t"], &["t"], 1, 1_000_000),
+        (&["b", "s", "o", "t", "u"], &["t", "u"], 1, 1_000_000),
+        (&["--budget", "1", "b", "s", "o", "t"], &["t"], 1, 1),
+        (
+            &["b", "s", "o", "t", "--budget", "1000000000000"],
+            &["t"],
+            1,
+            1_000_000_000_000,
+        ),
+        (
+            &["--workers", "7", "--budget", "5", "b", "s", "o", "t", "u"],
+            &["t", "u"],
+            7,
+            5,
+        ),
+        (
+            &["--budget=9", "b", "s", "o", "t", "--workers=64"],
+            &["t"],
+            64,
+            9,
+        ),
+        (&["--", "b", "s", "o", "-t"], &["-t"], 1, 1_000_000),
+    ];
+    for (words, tables, workers, budget) in cases {
+        let mut words = owned(alloc, words)?;
+        words.insert(0, String::from_str(alloc, "solve")?)?;
+        match read_words(alloc, words.as_slice()) {
+            Ok(Request::Solve(search)) => {
+                assert!(rt; searches(&search, tables, workers, budget), "{search:?}");
+            }
+            other => assert!(rt; false, "{other:?}"),
+        }
+    }
+    Ok(())
+}
+
+/// Whether the search takes the files `b`, `s` and `o`, these tables and workers, and this budget.
+fn searches(search: &Search<'_>, tables: &[&str], workers: u8, budget: u64) -> bool {
+    search.board == "b"
+        && search.sets == "s"
+        && search.out == "o"
+        && search.tables.as_slice() == tables
+        && search.workers == workers
+        && search.budget == budget
+}
+
+#[test]
 fn help_is_shown_whole(rt: HostRuntime) -> Result<(), Fail> {
     let alloc = rt.alloc();
-    let cases: [(&[&str], &str); 13] = [
+    let cases: [(&[&str], &str); 17] = [
         (&["--help"], HELP),
         (&["-h"], HELP),
         (&["help"], HELP),
@@ -207,6 +315,10 @@ fn help_is_shown_whole(rt: HostRuntime) -> Result<(), Fail> {
         (&["help", "bound"], HELP_OF_BOUND),
         (&["optimal", "c", "s", "l", "t", "-h"], HELP_OF_OPTIMAL),
         (&["help", "optimal"], HELP_OF_OPTIMAL),
+        (&["make-table", "-h"], HELP_OF_MAKE_TABLE),
+        (&["help", "make-table"], HELP_OF_MAKE_TABLE),
+        (&["solve", "--help"], HELP_OF_SOLVE),
+        (&["help", "solve"], HELP_OF_SOLVE),
     ];
     for (words, help) in cases {
         let words = owned(alloc, words)?;
@@ -221,7 +333,7 @@ fn help_is_shown_whole(rt: HostRuntime) -> Result<(), Fail> {
 #[test]
 fn mistakes_are_explained(rt: HostRuntime) -> Result<(), Fail> {
     let alloc = rt.alloc();
-    let cases: [(&[&str], &str); 25] = [
+    let cases: [(&[&str], &str); 37] = [
         (&["rplay"], "unrecognized subcommand 'rplay'"),
         (&["shuffle", "f"], "unrecognized subcommand 'shuffle'"),
         (&["help", "shuffle"], "unrecognized subcommand 'shuffle'"),
@@ -264,6 +376,36 @@ fn mistakes_are_explained(rt: HostRuntime) -> Result<(), Fail> {
         (
             &["optimal", "c", "s", "l", "t", "--tables", "u"],
             "unexpected argument '--tables'",
+        ),
+        (&["make-table", "x", "2", "o"], "invalid value 'x'"),
+        (&["make-table", "256", "2", "o"], "256 is not in 0..=255"),
+        (&["make-table", "2", "1.5", "o"], "invalid value '1.5'"),
+        (
+            &["make-table", "2", "4294967296", "o"],
+            "4294967296 is not in 0..=4294967295",
+        ),
+        (&["make-table", "2", "14"], "<OUT>"),
+        (&["make-table", "2", "14", "o", "p"], "unexpected argument 'p'"),
+        (
+            &["make-table", "2", "14", "o", "--budget", "5"],
+            "unexpected argument '--budget'",
+        ),
+        (&["solve", "b", "s", "o"], "<TABLES>"),
+        (
+            &["solve", "--budget", "0", "b", "s", "o", "t"],
+            "0 is not in 1..=1000000000000",
+        ),
+        (
+            &["solve", "b", "s", "o", "t", "--budget", "1000000000001"],
+            "1000000000001 is not in 1..=1000000000000",
+        ),
+        (
+            &["solve", "b", "s", "o", "t", "--budget", "many"],
+            "invalid value 'many'",
+        ),
+        (
+            &["solve", "--workers", "65", "b", "s", "o", "t"],
+            "65 is not in 1..=64",
         ),
     ];
     for (words, part) in cases {

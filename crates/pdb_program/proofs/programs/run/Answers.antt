@@ -1,4 +1,4 @@
-use Rattle.pdb_program.proofs.ProgramLemmas.{answered_by}
+use Rattle.pdb_program.proofs.ProgramLemmas.{answered_by, kept_by}
 use Rattle.pdb_program.proofs.programs.run.Goals as goal
 
 pub returns-clause-answered : goal.returns-clause-answered
@@ -13,8 +13,19 @@ returns-clause-ends g c = λ parses.
     let ends = c.answer.ensures.ends (rw same parses) in
     (c.answer.result, c.code.ensures, rw same at ends)
 
+pub returns-clause-kept : goal.returns-clause-kept
+returns-clause-kept g c = λ parses is.
+    let same = c.as_slice.ensures.value in
+    let ends = c.answer.ensures.ends (rw same parses) in
+    kept_by _ _ _ c.code.result c.answer.result c.code.ensures (rw same at ends) is
+
 pub returns-clause-refuses : goal.returns-clause-refuses
 returns-clause-refuses g c = λ fails.
     let same = c.as_slice.ensures.value in
     let refuses = c.answer.ensures.refuses (λ parses. fails (rw same at parses)) in
     (c.answer.result, c.code.ensures, rw same at refuses)
+
+pub returns-clause-same : goal.returns-clause-same
+returns-clause-same g c = λ nothing.
+    let same = c.as_slice.ensures.value in
+    c.answer.ensures.same (rw same nothing)

@@ -8,7 +8,8 @@ use Rattle.pdb_words.specs.CommandLine.{asked_of, faults_of}
 use Rattle.pdb_words.specs.Workers.{workers_of}
 use Rattle.pdb_words.proofs.KindLemmas.{mistaken}
 use Rattle.pdb_words.proofs.TextLemmas.{HasNoDash, has_no_dash}
-use Rattle.pdb_words.proofs.WorkersLemmas.{accepted, accepted_is, number_asked}
+use Rattle.pdb_words.proofs.NumberLemmas.{number_asked}
+use Rattle.pdb_words.proofs.WorkersLemmas.{accepted, accepted_is}
 use Rattle.pdb_words.proofs.laws.what_table_asks.Goals as goal
 
 alone_faults : faults_of (codes "table" ∷ []) ≡ kind.MissingRequiredArgument ∷ []
@@ -51,13 +52,13 @@ returns c = record {
   alone = mistaken _ kind.MissingRequiredArgument [] alone_faults (λ e. cc);
   workers = λ number name n f writes. (
     workers_faults name (has_no_dash name f) number (has_no_dash number n) true (accepted_is number n ∙ writes),
-    workers_asked name (has_no_dash name f) number (has_no_dash number n) ∙ ap (table name) (number_asked number writes),
+    workers_asked name (has_no_dash name f) number (has_no_dash number n) ∙ ap (table name) (number_asked 1 64 1 number writes),
   );
   other_workers = λ number name n f writes.
       mistaken _ kind.ValueValidation [] (workers_faults name (has_no_dash name f) number (has_no_dash number n) false (accepted_is number n ∙ writes)) (λ e. cc);
   workers_last = λ number name n f writes. (
     last_faults name (has_no_dash name f) number (has_no_dash number n) true (accepted_is number n ∙ writes),
-    last_asked name (has_no_dash name f) number (has_no_dash number n) ∙ ap (table name) (number_asked number writes),
+    last_asked name (has_no_dash name f) number (has_no_dash number n) ∙ ap (table name) (number_asked 1 64 1 number writes),
   );
   other_workers_last = λ number name n f writes.
       mistaken _ kind.ValueValidation [] (last_faults name (has_no_dash name f) number (has_no_dash number n) false (accepted_is number n ∙ writes)) (λ e. cc);

@@ -1,0 +1,106 @@
+-- Texts that write numbers, and what is read of them.
+use Rattle.std.proofs.Common.{◌≡◌, ◌∙◌, ◌⊎◌, ◌≤◌, ◌<◌, ◌^◌, ◌&&◌, arith, refl, sym, ap, ℕ, suc, Bool, false, true, List, [], ◌∷◌, lt-ltb, ltb-true, nat_le, nat_lt, ne_eqb, length}
+use Rattle.std.specs.Char.{digit_value}
+use Rattle.std.specs.List.{list_all}
+use Rattle.std.specs.Option.{option_map_or}
+use Rattle.std.specs.Prelude.{Option, Some, None, Result, if◌then◌else◌, pos, unwrap_or}
+use Rattle.std.specs.Str.Parse.{AllDigits, ExplainsUnsignedError, HasUnsignedDigitsIfOk, IsNumeral, ParsesUnsigned, without_leading_plus}
+use Rattle.std.specs.declared.num.ParseIntError.{ParseIntError}
+use Rattle.std.proofs.lemmas.Bool.Decides.{nat_tests}
+use Rattle.clap.proofs.WalkLemmas.{both, one_text-rows}
+use Rattle.clap.specs.ValueTests.{accepts, is_numeral}
+use Rattle.clap.specs.Walk.{Text}
+use Rattle.clap.specs.Words.{ReadsOne, found_of, one_text, rows_of}
+use Rattle.clap.specs.declared.ArgMatches.{ArgMatches}
+use Rattle.clap.specs.declared.builder.value_parser.ValueParser.TheVariants as parser
+use Rattle.pdb_words.specs.CommandLine.{IsPlain}
+use Rattle.pdb_words.specs.Numbers.{number_in, number_of, number_within, writes_within}
+
+-- ---- which numbers `clap` takes
+
+in_range : (numeral : Bool) (n low high most : ℕ) → high < most → (numeral && (nat_lt n most && (nat_le low n && nat_le n high))) ≡ (numeral && (nat_le low n && nat_le n high))
+in_range numeral n low high most fits = grind (arith, nat_tests)
+
+pub signed_accepted : (low high : ℕ) (number : Text) → high < 2 ^ 63 → IsPlain number → accepts false (parser.Signed (pos low) (pos high)) number ≡ writes_within low high number
+signed_accepted low high [] fits plain = refl
+signed_accepted low high (d ∷ number) fits plain =
+    rw (ne_eqb d 45 plain) (in_range (is_numeral (without_leading_plus (d ∷ number))) (number_of (d ∷ number)) low high (2 ^ 63) fits)
+
+pub unsigned_accepted : (low high : ℕ) (number : Text) → high < 2 ^ 64 → accepts false (parser.Unsigned low high) number ≡ writes_within low high number
+unsigned_accepted low high number fits = in_range (is_numeral (without_leading_plus number)) (number_of number) low high (2 ^ 64) fits
+
+pub number_asked : (low high other : ℕ) (number : Text) → writes_within low high number ≡ true → number_within low high other number ≡ number_of number
+number_asked low high other number e = rw e refl
+
+-- ---- what is read of a text
+
+numeral_test : (ds : List ℕ) → IsNumeral 10 ds → is_numeral ds ≡ true
+numeral_test ds h = rw (lt-ltb 0 (length ds) h.0) (digits_pass ds h.1)
+  where
+    digits_pass : (ds : List ℕ) → AllDigits 10 ds → list_all (λ d. nat_lt (digit_value d) 10) ds ≡ true
+    digits_pass [] h = refl
+    digits_pass (d ∷ ds) h = rw (lt-ltb (digit_value d) 10 h.0) (digits_pass ds h.1)
+
+numeral_tested : (ds : List ℕ) → is_numeral ds ≡ true → IsNumeral 10 ds
+numeral_tested ds e = let parts = both _ _ e in (ltb-true _ _ parts.0, digits_from ds parts.1)
+  where
+    digits_from : (ds : List ℕ) → list_all (λ d. nat_lt (digit_value d) 10) ds ≡ true → AllDigits 10 ds
+    digits_from [] e = tt
+    digits_from (d ∷ ds) e = let parts = both _ _ e in (ltb-true _ _ parts.0, digits_from ds parts.1)
+
+-- the number that was read, where it is one from low to high, and otherwise another
+abbrev pub kept : ℕ → ℕ → ℕ → Option ℕ → ℕ
+kept low high other None = other
+kept low high other (Some n) = if nat_le low n && nat_le n high then n else other
+
+pub inside : (low high other n : ℕ) → low ≤ n → n ≤ high → kept low high other (Some n) ≡ n
+inside low high other n above below = grind (arith, nat_tests)
+
+pub outside : (low high other n : ℕ) → (n < low) ⊎ (high < n) → kept low high other (Some n) ≡ other
+outside low high other n out = grind (arith, nat_tests)
+
+-- what an unsigned type of these bits makes of a text
+abbrev Gives : ℕ → Text → Result ℕ ParseIntError → Type 0
+Gives bits text r = ParsesUnsigned bits 10 text r × ExplainsUnsignedError 10 text r × HasUnsignedDigitsIfOk text r
+
+module _ (bits low high other : ℕ) (fits : high < 2 ^ bits) where
+  text_read : (text : Text) (read : Option ℕ) → ReadsOne (Gives bits) text read → kept low high other read ≡ number_within low high other text
+  text_read text (Some n) reads = rw (numeral_test (without_leading_plus text) reads.0.0.0, reads.0.1) refl
+  text_read text None reads = go (is_numeral (without_leading_plus text)) refl
+    where
+      out : (n : ℕ) → (n < 2 ^ bits → ⊥) → other ≡ (if nat_le low n && nat_le n high then n else other)
+      out n large = grind (arith, nat_tests, fits)
+
+      go : (numeral : Bool) → is_numeral (without_leading_plus text) ≡ numeral → other ≡ number_within low high other text
+      go false e = rw e refl
+      go true e = rw e (out (number_of text) (λ small. reads.1.0 (numeral_tested (without_leading_plus text) e, small)))
+
+  -- what `get_one` read of a text that may be missing
+  pub number_read : (m : ArgMatches) (id : Text) (read : Option ℕ)
+      → (one_text (found_of m) id ≡ None → read ≡ None) → ((text : Text) → one_text (found_of m) id ≡ Some text → ReadsOne (Gives bits) text read)
+      → kept low high other read ≡ number_in low high other id (rows_of (found_of m))
+  number_read m id read none value =
+      go (one_text (found_of m) id) none value ∙ ap (λ (o : Option Text). option_map_or (number_within low high other) o other) (one_text-rows (found_of m) id)
+    where
+      go : (o : Option Text) → (o ≡ None → read ≡ None) → ((text : Text) → o ≡ Some text → ReadsOne (Gives bits) text read)
+          → kept low high other read ≡ option_map_or (number_within low high other) o other
+      go None none value = rw (none refl) refl
+      go (Some text) none value = text_read text read (value text refl)
+
+-- where each number of the type will do
+module _ (bits high other : ℕ) (whole : 2 ^ bits ≡ suc high) where
+  text_kept : (text : Text) (read : Option ℕ) → ReadsOne (Gives bits) text read → unwrap_or read other ≡ kept 0 high other read
+  text_kept text None reads = refl
+  text_kept text (Some n) reads =
+      let small : number_of text < 2 ^ bits = reads.0.0.1 in
+      let same : n ≡ number_of text = reads.0.1 in
+      sym (inside 0 high other n (omega arith) (omega (arith, whole)))
+
+  pub any_number_read : (m : ArgMatches) (id : Text) (read : Option ℕ)
+      → (one_text (found_of m) id ≡ None → read ≡ None) → ((text : Text) → one_text (found_of m) id ≡ Some text → ReadsOne (Gives bits) text read)
+      → unwrap_or read other ≡ number_in 0 high other id (rows_of (found_of m))
+  any_number_read m id read none value = go (one_text (found_of m) id) none value ∙ number_read bits 0 high other (omega (arith, whole)) m id read none value
+    where
+      go : (o : Option Text) → (o ≡ None → read ≡ None) → ((text : Text) → o ≡ Some text → ReadsOne (Gives bits) text read) → unwrap_or read other ≡ kept 0 high other read
+      go None none value = rw (none refl) refl
+      go (Some text) none value = text_kept text read (value text refl)

@@ -1,0 +1,26 @@
+-- The flag `--budget N`: how many boards a search may expand, from 1 to 1,000,000,000,000, and without it 1,000,000.
+use Rattle.std.specs.Prelude.{ℕ, Bool, List, [], ◌∷◌, Some, codes}
+use Rattle.clap.specs.Walk.{Row, Rule, Text}
+use Rattle.clap.specs.Simple.{new_rule}
+use Rattle.clap.specs.declared.builder.value_parser.ValueParser.TheVariants as parser
+use Rattle.pdb_words.specs.Numbers.{number_in, number_within, writes_within}
+
+abbrev pub budget_flag : Rule
+budget_flag = record (new_rule (codes "budget")) {
+  long = Some (codes "budget");
+  value_names = 1;
+  parser = Some (parser.Unsigned 1 1000000000000);
+  defaults = codes "1000000" ∷ [];
+}
+
+-- the text writes a budget
+abbrev pub writes_budget : Text → Bool
+writes_budget text = writes_within 1 1000000000000 text
+
+-- the budget that a text asks for: its number, or the usual one where it writes none
+abbrev pub budget_of : Text → ℕ
+budget_of text = number_within 1 1000000000000 1000000 text
+
+-- the budget that the values found of a command ask for
+abbrev pub budget_in : List Row → ℕ
+budget_in rows = number_in 1 1000000000000 1000000 (codes "budget") rows

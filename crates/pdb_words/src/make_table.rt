@@ -1,0 +1,86 @@
+//! The words of `make-table [--workers N] SIDE MASK OUT`.
+
+ghost use Rattle.std.specs.Prelude.{◌≡◌, IfOk, codes, false};
+ghost use Rattle.clap.specs.Words.{app_of, found_of, rows_of, rule_of, with_rule};
+ghost use Rattle.clap.specs.declared.Command.TheViews.{out-Command};
+ghost use Rattle.pdb_words.specs.Asked.{HasBudget, HasWorkers, view};
+ghost use Rattle.pdb_words.specs.MakeTable.{make_table_command, make_table_in, needed_mask, needed_side};
+ghost use Rattle.pdb_words.specs.Numbers.{number_in};
+
+use crate::asked::Request;
+use crate::files::{file_in, needed_file, with_argument};
+use crate::workers::{workers_flag, workers_in};
+use clap::{Arg, ArgMatches, Command, value_parser};
+use std::alloc::{AllocError, Global};
+
+/// The command, for `clap`.
+pub(crate) fn make_table_command<'a>(alloc: Global) -> Result<Command<'a>, AllocError>
+    ensures app { IfOk result (λ c. app_of c ≡ make_table_command) }
+    ensures local { IfOk result (λ c. (out-Command c).has_globals ≡ false) }
+{
+    let out = needed_file(alloc, "OUT").help("The file that is to hold the table");
+    let command = Command::new(alloc, "make-table")
+        .about("Makes the table of a pattern, and keeps it if it is exact")
+        .override_usage("pdb_cli make-table [--workers N] SIDE MASK OUT")
+        .arg(workers_flag(alloc))?;
+    with_pattern(alloc, command)?.arg(out)
+}
+
+/// A command with `SIDE MASK` behind what it has.
+fn with_pattern<'a>(alloc: Global, command: Command<'a>) -> Result<Command<'a>, AllocError>
+    ensures app { IfOk result (λ c. app_of c ≡ with_rule (with_rule (app_of command.entry) needed_side) needed_mask) }
+    ensures local { IfOk result (λ c. (out-Command c).has_globals ≡ (out-Command command.entry).has_globals) }
+{
+    let command = with_argument(command, needed_side(alloc))?;
+    with_argument(command, needed_mask(alloc))
+}
+
+/// The side of a pattern.
+fn needed_side<'a>(alloc: Global) -> Arg<'a>
+    ensures rule { rule_of result ≡ needed_side }
+    ensures local { result.global ≡ false }
+{
+    Arg::new(alloc, "SIDE")
+        .help("The side of the puzzle, 2 to 5")
+        .required(true)
+        .value_parser(value_parser!(u8))
+}
+
+/// The tile mask of a pattern.
+fn needed_mask<'a>(alloc: Global) -> Arg<'a>
+    ensures rule { rule_of result ≡ needed_mask }
+    ensures local { result.global ≡ false }
+{
+    Arg::new(alloc, "MASK")
+        .help("The tiles of the pattern: the sum of 2^t over its tiles t")
+        .required(true)
+        .value_parser(value_parser!(u32))
+}
+
+/// The side that these matches of the command name.
+fn side_in(found: &ArgMatches<'_>) -> u8
+    ensures { result ≡ number_in 0 255 0 (codes "SIDE") (rows_of (found_of found.now)) }
+{
+    found.get_one::<u8>("SIDE").unwrap_or(0)
+}
+
+/// The tile mask that these matches of the command name.
+fn mask_in(found: &ArgMatches<'_>) -> u32
+    ensures { result ≡ number_in 0 4294967295 0 (codes "MASK") (rows_of (found_of found.now)) }
+{
+    found.get_one::<u32>("MASK").unwrap_or(0)
+}
+
+/// What these matches of the command ask for.
+pub(crate) fn make_table_in<'a>(found: &ArgMatches<'a>) -> Request<'a>
+    ensures asked { view result ≡ make_table_in (rows_of (found_of found.now)) }
+    ensures workers { HasWorkers result }
+    ensures budget { HasBudget result }
+{
+    Request::MakeTable {
+        side: side_in(found),
+        mask: mask_in(found),
+        out: file_in(found, "OUT"),
+        workers: workers_in(found),
+    }
+}

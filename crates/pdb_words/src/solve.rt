@@ -1,0 +1,44 @@
+//! The words of `solve [--workers N] [--budget N] BOARD SETS OUT TABLES..`.
+
+ghost use Rattle.std.specs.Prelude.{◌≡◌, IfOk, false};
+ghost use Rattle.clap.specs.Words.{app_of, found_of, rows_of};
+ghost use Rattle.clap.specs.declared.Command.TheViews.{out-Command};
+ghost use Rattle.pdb_words.specs.Asked.{HasBudget, HasWorkers, view};
+ghost use Rattle.pdb_words.specs.Solve.{solve_command, solve_in};
+
+use crate::asked::{Request, Search};
+use crate::budget::{budget_flag, budget_in};
+use crate::files::{file_in, needed_file, tables_in, with_log};
+use crate::workers::workers_in;
+use clap::{ArgMatches, Command};
+use std::alloc::{AllocError, Global};
+
+/// The command, for `clap`.
+pub(crate) fn solve_command<'a>(alloc: Global) -> Result<Command<'a>, AllocError>
+    ensures app { IfOk result (λ c. app_of c ≡ solve_command) }
+    ensures local { IfOk result (λ c. (out-Command c).has_globals ≡ false) }
+{
+    let board = needed_file(alloc, "BOARD").help("A board text");
+    let out = needed_file(alloc, "OUT").help("The file that is to hold the log");
+    let command = Command::new(alloc, "solve")
+        .about("Searches for a shortest solution of a board, and keeps the log that proves it")
+        .override_usage("pdb_cli solve [--workers N] [--budget N] BOARD SETS OUT TABLES..")
+        .arg(board)?;
+    with_log(alloc, command, out)?.arg(budget_flag(alloc))
+}
+
+/// What these matches of the command ask for.
+pub(crate) fn solve_in<'a>(alloc: Global, found: &ArgMatches<'a>) -> Result<Request<'a>, AllocError>
+    ensures asked { IfOk result (λ request. view request ≡ solve_in (rows_of (found_of found.now))) }
+    ensures workers { IfOk result (λ request. HasWorkers request) }
+    ensures budget { IfOk result (λ request. HasBudget request) }
+{
+    Ok(Request::Solve(Search {
+        board: file_in(found, "BOARD"),
+        sets: file_in(found, "SETS"),
+        out: file_in(found, "OUT"),
+        tables: tables_in(alloc, found)?,
+        workers: workers_in(found),
+        budget: budget_in(found),
+    }))
+}
