@@ -1,6 +1,7 @@
 #!/usr/bin/env bash
 # Runs the built program and checks what it writes, where it writes it and its status: words, streams, files and their
-# names, limits, tables, workers, want of memory, and runs at once. What is wanted follows from docs/FORMATS.md.
+# names, limits, tables, workers, want of memory, changed inputs, and runs at once. What is wanted follows from
+# docs/FORMATS.md.
 #
 #     tools/check_runs.sh [PROGRAM]
 #
@@ -230,6 +231,12 @@ check 'a full standard output' [ "$status" = 2 ]
 status=0
 "$program" <solved 2>"$work/errors" >&- || status=$?
 check 'a closed standard output' [ "$status" = 2 ]
+if [ "$#" = 0 ]; then
+    status=0
+    (ulimit -f 0 && exec "$program" <solved >"$work/output" 2>/dev/null) || status=$?
+    : >"$work/errors"
+    check 'a standard output at the limit of its size' [ "$status.$(wc -c <"$work/output")" = 2.0 ]
+fi
 status=0
 "$program" --help 2>"$work/errors" >/dev/full || status=$?
 check 'help on a full standard output' [ "$status" = 2 ]
@@ -497,6 +504,15 @@ for kilobytes in {2000..6000..100} {7000..40000..3000} {50000..800000..75000}; d
     check "a puzzle with $kilobytes kilobytes" lacked_memory_or_not "$work/solution"
 done
 check 'memory was refused to some runs' [ "$refusals" -gt 0 ]
+
+#
+# Changed inputs.
+#
+
+status=0
+"$root/tools/try_hostile.py" --program "$bare" >"$work/output" 2>"$work/errors" || status=$?
+check '2,000 changed inputs are answered as their plain answers say' \
+    [ "$status.$(tail -n 1 "$work/output")" = '0.2000 passed, 0 failed' ]
 
 #
 # Runs at once, and writes.

@@ -6,8 +6,8 @@
 #     tools/refuse_memory.sh table FILE --workers 4 </dev/null
 #
 # Its arguments are the program's words, and its standard input is the program's. It needs the C compiler `cc`. A line is
-# written for each run that ends otherwise, with what that run wrote, and last `N passed, M failed`. The status is 0 if all
-# passed, and otherwise not. The launcher builds the program where that is needed.
+# written for each run that ends otherwise, with what that run wrote, then one that counts both answers, and last
+# `N passed, M failed`. The status is 0 if all passed, and otherwise not. The launcher builds the program where that is needed.
 set -euo pipefail
 
 root=$(dirname "$(dirname "$(readlink -f "${BASH_SOURCE[0]}")")")
@@ -31,15 +31,22 @@ mv "$work/output" "$work/own_answer"
 printf 'no memory\nstatus 3\n' >"$work/no_memory"
 
 request=0
+without=0
+own=0
 bad=0
 while :; do
     request=$((request + 1))
     run "$request" "$@"
     [ -s "$work/refused" ] || break
-    if ! cmp -s "$work/output" "$work/no_memory" && ! cmp -s "$work/output" "$work/own_answer"; then
+    if cmp -s "$work/output" "$work/no_memory"; then
+        without=$((without + 1))
+    elif cmp -s "$work/output" "$work/own_answer"; then
+        own=$((own + 1))
+    else
         echo "request $request refused:" && cat "$work/output"
         bad=$((bad + 1))
     fi
 done
-echo "$((request - 1 - bad)) passed, $bad failed"
+echo "no memory: $without, the run's own answer: $own"
+echo "$((without + own)) passed, $bad failed"
 [ "$bad" = 0 ]

@@ -5,7 +5,7 @@ use crate::{LogFault, LogRefusal, check_log};
 use log_file::FormFault;
 use puz_board::Board;
 use samples::files::{TILE_1, TILE_3, TILE_24, TILES_12, TILES_123, with_byte};
-use samples::logs::{BRANCHES, CITATION, LEAF, UNSOLVABLE};
+use samples::logs::{BRANCHES, CITATION, LEAF, UNSOLVABLE, deepest, too_deep};
 use samples::{HoldingGate, Log};
 use set_sum::{Bundle, SetFault};
 use std::alloc::{AllocError, Global};
@@ -118,6 +118,65 @@ fn bytes_of_another_form_are_refused(rt: HostRuntime) {
             "{log:?}"
         );
     }
+}
+
+#[test]
+fn a_log_is_refused_at_each_length(rt: HostRuntime) {
+    let bundle = bundle(&rt, &[&TILES_12], b"set 0\n");
+    for len in 0..45 {
+        let want = match len {
+            0..10 => FormFault::L1,
+            10..25 => FormFault::L2(0),
+            _ => FormFault::L2(1),
+        };
+        assert_eq!(rt;
+            answer(&rt, &bundle, &CITATION[..len], &BOARD),
+            misformed(want),
+            "{len} bytes"
+        );
+    }
+}
+
+/// `LEAF` with other bytes from a place on.
+fn with_bytes(place: usize, bytes: &[u8; 4]) -> [u8; 20] {
+    let mut log = LEAF;
+    for (here, byte) in log.iter_mut().skip(place).zip(bytes) {
+        *here = *byte;
+    }
+    log
+}
+
+#[test]
+fn great_numbers_of_lemmas_and_tree_bytes_are_refused(rt: HostRuntime) {
+    let bundle = bundle(&rt, &[&TILES_123], b"set 0\n");
+    let logs: [(usize, [u8; 4], FormFault); 4] = [
+        (6, [0x00, 0x10, 0x00, 0x00], FormFault::L2(1)),
+        (6, [0x00, 0x10, 0x00, 0x01], FormFault::L1),
+        (6, [0xFF, 0xFF, 0xFF, 0xFF], FormFault::L1),
+        (15, [0xFF, 0xFF, 0xFF, 0xFF], FormFault::L2(0)),
+    ];
+    for (place, bytes, want) in logs {
+        assert_eq!(rt;
+            answer(&rt, &bundle, &with_bytes(place, &bytes), &BOARD),
+            misformed(want),
+            "{bytes:?} at {place}"
+        );
+    }
+}
+
+#[test]
+fn the_deepest_tree_proves_the_greatest_bound(rt: HostRuntime) -> Result<(), Fail> {
+    let bundle = bundle(&rt, &[&TILE_1], b"set 0\n");
+    let board = [0, 1, 3, 2];
+    let log = deepest(rt.alloc())?;
+    assert_eq!(rt; log.len(), 530);
+    assert_eq!(rt; answer(&rt, &bundle, &log, &board), Ok(255));
+    let log = too_deep(rt.alloc())?;
+    assert_eq!(rt;
+        answer(&rt, &bundle, &log, &board),
+        refused(LogRefusal::L6(0))
+    );
+    Ok(())
 }
 
 #[test]

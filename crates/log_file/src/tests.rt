@@ -105,6 +105,13 @@ fn lemmas_that_are_cut_short_are_refused(rt: HostRuntime) {
         Some(FormFault::L2(0)),
         "a longer tree"
     );
+    let mut longest = ONE_LEAF;
+    longest[15..19].fill(0xFF);
+    assert_eq!(rt;
+        refused(alloc, &longest),
+        Some(FormFault::L2(0)),
+        "the longest tree"
+    );
     let shorter = with_byte(&rt, &TWO_LEMMAS, 33, 0x0A);
     assert_eq!(rt;
         refused(alloc, &shorter),

@@ -1,9 +1,7 @@
-//! Streams and shelves that fail, and what a run over them leaves.
+//! Streams that fail, and what a run over them leaves.
 
 use crate::runs::{owned, ran};
 use pdb_io::memory::MemShelf;
-use pdb_io::shelf::{KeepFault, Shelf};
-use pdb_io::streams::ReadFault;
 use pdb_program::run;
 use sample_streams::{Failing, SampleReader, SampleWriter};
 use samples::files::TILE_1;
@@ -105,6 +103,23 @@ fn a_write_that_fails_leaves_a_front_of_the_lines(rt: HostRuntime) -> Result<(),
 }
 
 #[test]
+fn lines_that_are_taken_byte_by_byte_are_the_same(rt: HostRuntime) -> Result<(), Fail> {
+    let alloc = rt.alloc();
+    let cases: [(&[&str], &[u8], u8); 3] = [
+        (&[], b"solution 6\n", 0),
+        (&["table", "t"], EXACT, 0),
+        (&["table", "no table"], b"fault read no table\n", 2),
+    ];
+    for (words, lines, want) in cases {
+        let mut out = SampleWriter::new(alloc).byte_by_byte_from(0);
+        let status = ran_over(&rt, alloc, words, &mut out)?;
+        assert!(rt; status == want && out.taken() == lines, "status {status}");
+        assert_eq!(rt; out.calls(), lines.len() as u64);
+    }
+    Ok(())
+}
+
+#[test]
 fn help_that_cannot_be_written_is_a_fault(rt: HostRuntime) -> Result<(), Fail> {
     let alloc = rt.alloc();
     let mut whole = SampleWriter::new(alloc).failing(1, u64::MAX, BY_ERROR);
@@ -139,50 +154,6 @@ fn all_that_a_run_says_is_one_write(rt: HostRuntime) -> Result<(), Fail> {
             out.calls()
         );
         assert!(rt; out.taken().ends_with(b"\n"));
-    }
-    Ok(())
-}
-
-/// A shelf of which no file is read, and why. It keeps nothing.
-#[derive(Drop)]
-struct Refusing {
-    fault: ReadFault,
-}
-
-impl Shelf for Refusing {
-    ghost use Rattle.std.specs.Prelude.{◌≡◌, None, true};
-
-    ghost held = { λ _. None };
-
-    ghost has_failed = { λ _. true };
-
-    fn load(&mut self, _alloc: Global, _name: &str, _limit: u64) -> Result<Vec<u8>, ReadFault> {
-        Err(self.fault)
-    }
-
-    fn keep(&mut self, _alloc: Global, _name: &str, _bytes: &[u8]) -> Result<(), KeepFault> {
-        Err(KeepFault::F3)
-    }
-
-    fn failed(&self) -> bool {
-        true
-    }
-}
-
-#[test]
-fn a_file_that_is_not_read_is_a_fault_alone(rt: HostRuntime) -> Result<(), Fail> {
-    let alloc = rt.alloc();
-    let cases = [
-        (ReadFault::F1, b"fault read t\n".as_slice(), 2),
-        (ReadFault::F2, b"fault size t\n", 2),
-        (ReadFault::Memory, b"no memory\n", 3),
-    ];
-    for (fault, line, status) in cases {
-        for command in ["replay", "table"] {
-            let mut shelf = Refusing { fault };
-            let mut reader = b"".as_slice();
-            ran(&rt, alloc, &[command, "t"], &mut shelf, &mut reader)?.expect(line, status)?;
-        }
     }
     Ok(())
 }

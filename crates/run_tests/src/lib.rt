@@ -4,6 +4,8 @@
 #[cfg(test)]
 mod bounds;
 #[cfg(test)]
+mod cuts;
+#[cfg(test)]
 mod faulty;
 #[cfg(test)]
 mod limits;
@@ -11,6 +13,8 @@ mod limits;
 mod replays;
 #[cfg(test)]
 mod runs;
+#[cfg(test)]
+mod shelves;
 #[cfg(test)]
 mod starts;
 #[cfg(test)]

@@ -11,9 +11,9 @@ use std::test::Fail;
 fn texts_of_65536_bytes_are_read_and_one_more_is_not(rt: HostRuntime) -> Result<(), Fail> {
     let alloc = rt.alloc();
     let mut text = b"0 1 2 3 ;".to_vec(alloc)?;
-    text.resize(65_536, b'\t')?;
+    text.resize(65_536, b' ')?;
     replayed(&rt, alloc, text.as_slice())?.expect(b"solution 0\n", 0)?;
-    text.push(b'\t')?;
+    text.push(b' ')?;
     replayed(&rt, alloc, text.as_slice())?.expect(b"fault size -\n", 2)?;
 
     let mut shelf = MemShelf::of(alloc, &[("too long", text.as_slice())])?;

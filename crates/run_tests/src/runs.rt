@@ -31,6 +31,22 @@ impl Ended {
             text(&self.err)
         )))
     }
+
+    /// It wrote so many digest lines, then one that begins so, and nothing on its errors, and was a refusal; or the test
+    /// fails, and shows what it wrote.
+    pub fn expect_refused(&self, digests: usize, line: &[u8]) -> Result<(), Fail> {
+        let mut rest = self.out.as_slice();
+        for _ in 0..digests {
+            rest = rest
+                .strip_prefix(b"sha256 ")
+                .and_then(|digest| digest.get(65..))
+                .unwrap_or(&[]);
+        }
+        if self.status == 1 && rest.starts_with(line) && self.err.is_empty() {
+            return Ok(());
+        }
+        self.expect(line, 1)
+    }
 }
 
 /// Bytes as text.

@@ -1,5 +1,7 @@
 //! Log files of side 2, worked out by hand, byte for byte. Their trees ask set 0.
 
+use std::alloc::{AllocError, Global};
+
 /// The board 3 2 1 0, bound 6: a leaf.
 pub const LEAF: [u8; 20] = [
     0x50, 0x44, 0x42, 0x4C, 0x01, 0x02, 0x00, 0x00, 0x00, 0x01, 0x03, 0x02, 0x01, 0x00, 0x06, 0x00,
@@ -24,3 +26,28 @@ pub const UNSOLVABLE: [u8; 20] = [
     0x50, 0x44, 0x42, 0x4C, 0x01, 0x02, 0x00, 0x00, 0x00, 0x01, 0x00, 0x01, 0x03, 0x02, 0xFF, 0x00,
     0x00, 0x00, 0x01, 0x01,
 ];
+
+/// The board 0 1 3 2, which has no solution, bound 255: a branch over two chains of 254 branches, with a leaf below each,
+/// where nothing remains.
+pub fn deepest(alloc: Global) -> Result<Vec<u8>, AllocError> {
+    chains(alloc, &[0x00, 0x00, 0x01, 0xFF], 254)
+}
+
+/// The same with one branch more in the first chain, where nothing remains.
+pub fn too_deep(alloc: Global) -> Result<Vec<u8>, AllocError> {
+    chains(alloc, &[0x00, 0x00, 0x02, 0x00], 255)
+}
+
+/// The log of a tree of this length, whose first chain has so many branches.
+fn chains(alloc: Global, length: &[u8; 4], first: usize) -> Result<Vec<u8>, AllocError> {
+    let mut log = b"PDBL\x01\x02\0\0\0\x01\0\x01\x03\x02\xFF".to_vec(alloc)?;
+    log.extend_from_slice(length)?;
+    log.push(0)?;
+    for branches in [first, 254] {
+        for _ in 0..branches {
+            log.push(0)?;
+        }
+        log.push(1)?;
+    }
+    Ok(log)
+}

@@ -182,6 +182,23 @@ fn lines_of_another_form_are_refused(rt: HostRuntime) {
     }
 }
 
+#[test]
+fn a_text_that_is_cut_is_refused_at_its_last_line(rt: HostRuntime) {
+    let text = b"set 0 1\nset 1\n";
+    for len in 0..14 {
+        let want = match len {
+            0..8 => Some(SetFault::S1(0)),
+            8 => None,
+            _ => Some(SetFault::S1(1)),
+        };
+        assert_eq!(rt;
+            fault(&rt, &[&TILES_12, &TILE_3], &text[..len]),
+            want,
+            "{len} bytes"
+        );
+    }
+}
+
 /// The tiles 1 and 2, and the tile 1 again.
 const OVERLAPPING: &[&[u8]] = &[&TILES_12, &TILE_1];
 

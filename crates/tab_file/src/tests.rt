@@ -109,6 +109,25 @@ fn head_faults_come_in_their_order(rt: HostRuntime) {
 }
 
 #[test]
+fn a_header_with_one_bit_turned_is_refused(rt: HostRuntime) {
+    for place in 0..20 {
+        for bit in [1, 2, 4, 8, 16, 32, 64, 128] {
+            let byte = TILES_12[place] ^ bit;
+            let want = match (place, byte) {
+                (0..5, _) => HeadFault::T2,
+                // Two tiles of side 3 have more placements.
+                (5, 3) => HeadFault::T5,
+                (5, _) => HeadFault::T3,
+                (6..12, _) => HeadFault::T4,
+                _ => HeadFault::T5,
+            };
+            let file = with_byte(&TILES_12, place, byte);
+            assert_eq!(rt; fault(&file), Some(want), "byte {byte} at {place}");
+        }
+    }
+}
+
+#[test]
 fn a_file_of_another_length_is_refused(rt: HostRuntime) {
     for file in [&TILES_123, &TILES_12] {
         for len in 0..44 {

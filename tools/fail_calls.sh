@@ -1,0 +1,133 @@
+#!/usr/bin/env bash
+# Runs the program once for each of its system calls, with that one failing, for each way to fail below. Such a run must
+# answer as the run does in which nothing fails, or tell the fault: `fault read NAME` or `fault write NAME` with status 2, or
+# `no memory` with status 3, or nothing with status 2 where the lines can't be written. It must leave its files as they were,
+# or as the run does in which nothing fails.
+#
+#     echo '3 2 1 0 ; ULDRUL' | tools/fail_calls.sh
+#     tools/fail_calls.sh table FILE --workers 4 </dev/null
+#
+# Its arguments are the program's words, and its standard input is the program's. Names are those of files in the folder that
+# it is called in, of which each run gets a copy. It needs `strace`, Debian's package. The calls are those of the program's
+# first thread, behind those by which the system starts it. A line is written for each kind of call, with what was answered,
+# and for each run that ends otherwise; last `N passed, M failed`. The status is 0 if all passed, and otherwise not. The
+# launcher builds the program where that is needed.
+set -uo pipefail
+
+# How each call may fail. Of `brk` the system tells no error, but that memory ends where it did. `munmap` is left out: glibc
+# aborts where a thread's stack can't be given back, which Linux doesn't refuse of a whole mapping.
+declare -A faults=(
+    [read]='error=EIO error=EINTR' [openat]='error=EACCES error=EMFILE error=ENOMEM' [statx]=error=EIO [close]=error=EIO
+    [write]='error=ENOSPC error=EPIPE error=EINTR retval=0' [mmap]=error=ENOMEM [mprotect]=error=ENOMEM [brk]=retval=0
+    [clone3]='error=EAGAIN error=ENOSYS' [getrandom]='error=ENOSYS error=EAGAIN'
+    [rt_sigaction]=error=EINVAL [rename]='error=EIO error=EACCES' [fsync]='error=EIO error=ENOSPC' [unlink]=error=EIO
+)
+
+root=$(dirname "$(dirname "$(readlink -f "${BASH_SOURCE[0]}")")")
+"$root/pdb_cli" --help >/dev/null </dev/null || exit
+program=$root/out/pdb_cli
+work=$(mktemp -d) || exit
+trap 'rm -r "$work"' EXIT
+
+mkdir "$work/given" && cat >"$work/input"
+for word in "$@"; do
+    [ ! -f "$word" ] || cp --parents -- "$word" "$work/given"
+done
+
+# Names and digests of the files that a run has left.
+list_files() {
+    (cd "$work/files" && find . -type f -exec sha256sum {} + | sort)
+}
+
+# Runs the program with the words behind $1 in a copy of the files. $1 says which call fails, and is empty where none does.
+run() {
+    local status=0
+    rm -rf "$work/files" && cp -a "$work/given" "$work/files"
+    (cd "$work/files" && exec strace -f -q -o "$work/calls" ${1:+-e "inject=$1"} "$program" "${@:2}" \
+        <"$work/input" >"$work/output" 2>"$work/errors") 2>/dev/null || status=$?
+    echo "status $status" >>"$work/output"
+    list_files >"$work/left"
+}
+
+# How often a call was made by the first thread, in the lines of standard input.
+count_of() {
+    grep -c "^$first *$1("
+}
+
+# Whether this is standard input's name, or one of the words behind it.
+is_name() {
+    local word
+    for word in - "${@:2}"; do
+        [ "$1" != "$word" ] || return 0
+    done
+    return 1
+}
+
+# Sets `told` to what the run with the words behind $1 has answered, in which the call $1 failed; its status is not 0 where
+# that is no right answer.
+judge() {
+    local lines=()
+    mapfile -t lines <"$work/output"
+    told='something else'
+    [ ! -s "$work/errors" ] && { cmp -s "$work/left" "$work/before" || cmp -s "$work/left" "$work/after"; } || return
+    if cmp -s "$work/output" "$work/own_answer"; then
+        told='its own answer'
+    elif [ "${lines[*]}" = 'no memory status 3' ]; then
+        told='no memory'
+    elif [[ ${lines[0]} =~ ^(fault\ (read|write))\ (.*)$ && ${lines[*]:1} = 'status 2' ]] &&
+        is_name "${BASH_REMATCH[3]}" "${@:2}"; then
+        told=${BASH_REMATCH[1]}
+    elif [ "$1 ${lines[*]}" = 'write status 2' ]; then
+        told='nothing, status 2'
+    else
+        return 1
+    fi
+}
+
+run '' "$@"
+if ! grep -q SIGPIPE "$work/calls"; then
+    echo 'strace is not there, or may not follow the program'
+    exit 1
+fi
+mv "$work/output" "$work/own_answer"
+mv "$work/left" "$work/after"
+mv "$work/calls" "$work/own_calls"
+rm -rf "$work/files" && cp -a "$work/given" "$work/files" && list_files >"$work/before"
+read -r first _ <"$work/own_calls"
+
+passed=0
+failed=0
+
+# Has each call $1 of the program fail in the way $2, with the program's words behind them.
+fail_each() {
+    local call=$1 fault=$2 number from to
+    local -A answers=()
+    shift 2
+    # The program's own calls begin where it turns off the signal of a closed pipe.
+    from=$(sed '/SIGPIPE/Q' "$work/own_calls" | count_of "$call")
+    to=$(count_of "$call" <"$work/own_calls")
+    for ((number = from + 1; number <= to; number++)); do
+        run "$call:$fault:when=$number" "$@"
+        if judge "$call" "$@"; then
+            passed=$((passed + 1))
+        else
+            failed=$((failed + 1))
+            printf 'FAILED: %s %s, call %s:\n' "$call" "$fault" "$number"
+            cat "$work/output" "$work/errors" "$work/left"
+        fi
+        answers[$told]=$((${answers[$told]-0} + 1))
+    done
+    for told in "${!answers[@]}"; do
+        echo "$call $fault: ${answers[$told]} times $told" >>"$work/table"
+    done
+}
+
+: >"$work/table"
+for call in "${!faults[@]}"; do
+    for fault in ${faults[$call]}; do
+        fail_each "$call" "$fault" "$@"
+    done
+done
+sort "$work/table"
+echo "$passed passed, $failed failed"
+[ "$passed" != 0 ] && [ "$failed" = 0 ]

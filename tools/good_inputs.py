@@ -1,0 +1,171 @@
+"""Good inputs of every kind, drawn at random: puzzle texts, exact tables, set texts, and logs that prove their bounds."""
+
+import functools
+import itertools
+
+from plain_answers import (
+    BRANCH,
+    CITATION,
+    LETTERS,
+    REVERSE,
+    goal,
+    moved,
+    pattern_of,
+    read_sets,
+    read_table,
+    side_of,
+    sum_of,
+    ways,
+)
+
+# Masks of patterns by their side, small enough for many tables a second.
+MASKS = {
+    2: [2, 4, 6, 8, 10, 12, 14],
+    3: [2, 4, 6, 14, 22, 48, 112, 256, 384, 448, 30],
+    4: [2, 32768, 6],
+    5: [2, 16777216],
+}
+# A tree of the bound 255 on side 2 has two chains of 255 nodes.
+MOST_NODES = {2: 520, 3: 150}
+
+
+def board_text(draw, board):
+    """A board text of this board, with separators and leading zeros as they may be."""
+    if draw.random() < 0.5:
+        return b" ".join(b"%d" % number for number in board)
+    text = draw.choice([b"", b" ", b"\n"])
+    for number in board:
+        text += (b"%02d" if draw.random() < 0.2 else b"%d") % number
+        text += b"".join(draw.choices([b" ", b"\t", b"\r", b"\n"], k=draw.choice([1, 1, 1, 2, 3])))
+    return text
+
+
+def walk(draw, side, steps):
+    """The board after so many moves from the goal board, and the letters that lead back."""
+    board, letters = goal(side), ""
+    for _ in range(steps):
+        letter = draw.choice([letter for letter in ways(side, board.index(0)) if letter != letters[:1]])
+        board = moved(board, letter)
+        letters = REVERSE[letter] + letters
+    return board, letters
+
+
+def puzzle_text(draw, board, letters):
+    separator = draw.choice([b"", b"", b" ", b"\n"])
+    moves = separator.join(letter.encode() for letter in letters)
+    return board_text(draw, board) + draw.choice([b";", b" ; "]) + moves + draw.choice([b"", b"\n"])
+
+
+def puzzle(draw):
+    side = draw.choice([2, 2, 3, 3, 3, 4, 5])
+    board, letters = walk(draw, side, draw.choice([0, 1, 2, 5, 12, 40]))
+    if draw.random() < 0.02:
+        letters += "RL" * ((1000 - len(letters)) // 2)
+    return puzzle_text(draw, board, letters)
+
+
+def table_of(side, mask):
+    pattern = pattern_of(side, mask)
+    header = b"PDBT" + bytes([1, side, len(pattern.tiles), 0]) + mask.to_bytes(4, "big")
+    return header + len(pattern.exact).to_bytes(8, "big") + pattern.exact
+
+
+def table(draw, side=None):
+    side = side or draw.choice([2, 2, 2, 3, 3, 3, 4, 5])
+    return table_of(side, draw.choice(MASKS[side]))
+
+
+def set_text(draw, tables):
+    """A set text over these table files. The tables of a line have no tile in common."""
+    masks = [read_table(file).pattern.mask for file in tables]
+    lines = b""
+    for _ in range(draw.choice([1, 1, 1, 1, 2, 2, 3, 3, 16])):
+        taken, line = 0, []
+        for number in sorted(draw.sample(range(len(tables)), draw.randint(1, len(tables)))):
+            if not masks[number] & taken:
+                taken |= masks[number]
+                line.append(number)
+        lines += b"set " + b" ".join(b"%d" % number for number in line) + b"\n"
+    return lines
+
+
+class Prover:
+    """Trees that refute, over sets and the lemmas that were proved before."""
+
+    def __init__(self, draw, sets):
+        self.draw, self.lemmas, self.nodes = draw, [], 0
+        self.sums = functools.cache(lambda board: [sum_of(tables, board) for tables in sets])
+
+    def leaves(self, board, remaining):
+        for number, says in enumerate(self.sums(board)):
+            if says is None or says >= remaining:
+                yield bytes([number + 1])
+
+    def citations(self, board, remaining):
+        for number, (claimed, bound, _) in enumerate(self.lemmas):
+            if claimed == board and bound >= remaining:
+                yield bytes([CITATION]) + number.to_bytes(4, "big")
+
+    def tree(self, board, remaining, arriving=None):
+        """A tree that refutes the board, or None where none was found."""
+        self.nodes += 1
+        ends = list(itertools.chain(self.leaves(board, remaining), self.citations(board, remaining)))
+        if ends and self.draw.random() < 0.7:
+            return self.draw.choice(ends)
+        branch = self.branch(board, remaining, arriving)
+        return self.draw.choice(ends) if branch is None and ends else branch
+
+    def branch(self, board, remaining, arriving):
+        if remaining < 1 or board == goal(side_of(board)) or self.nodes > MOST_NODES[side_of(board)]:
+            return None
+        tree = bytes([BRANCH])
+        for letter in ways(side_of(board), board.index(0)):
+            if letter != REVERSE.get(arriving):
+                child = self.tree(moved(board, letter), remaining - 1, letter)
+                if child is None:
+                    return None
+                tree += child
+        return tree
+
+    def prove(self, board, bound):
+        """Adds a lemma of the board with the greatest bound up to this one that is found at once. A leaf of any set proves
+        what that set says."""
+        told = min((bound if says is None else says for says in self.sums(board)), default=0)
+        for claimed in (bound, (bound + told) // 2, min(bound, told)):
+            self.nodes = 0
+            tree = self.tree(board, claimed)
+            if tree is not None:
+                self.lemmas.append((board, claimed, tree))
+                return
+
+
+def log_of(lemmas):
+    side = side_of(lemmas[0][0])
+    return b"PDBL" + bytes([1, side]) + len(lemmas).to_bytes(4, "big") + b"".join(
+        bytes(board) + bytes([bound]) + len(tree).to_bytes(4, "big") + tree for board, bound, tree in lemmas
+    )
+
+
+def unsolvable(board):
+    """The board with its two greatest numbers exchanged."""
+    one, other = len(board) - 1, len(board) - 2
+    return tuple({one: other, other: one}.get(number, number) for number in board)
+
+
+def claim(draw):
+    """A board, the letters of a solution of it or None, a set text, a log and tables."""
+    side = draw.choice([2, 2, 2, 3, 3])
+    files = [table(draw, side) for _ in range(draw.choice([1, 1, 2, 2, 3, 16]))]
+    sets_text = set_text(draw, files)
+    prover = Prover(draw, read_sets(sets_text, [read_table(file) for file in files]))
+    board, letters = walk(draw, side, draw.randint(0, 7 if side == 2 else 14))
+    if draw.random() < 0.15:
+        board, letters = unsolvable(board), None
+    for _ in range(draw.choice([0, 0, 1, 3])):
+        nearby = board
+        for letter in draw.sample(LETTERS.decode(), 2):
+            nearby = moved(nearby, letter) or nearby
+        prover.prove(nearby, draw.randint(0, 10))
+    steps = len(letters) if letters is not None else draw.choice([3, 8, 255])
+    prover.prove(board, steps)
+    return board, letters, sets_text, prover.lemmas, files

@@ -1,0 +1,431 @@
+#!/usr/bin/env python3
+"""Changes good inputs of every kind at random, runs the built program on them, and compares its lines and its status with
+plain answers read off docs/FORMATS.md (tools/plain_answers.py).
+
+    tools/try_hostile.py [--inputs N] [--seed SEED] [--first N] [--processes N] [--program PROGRAM] [--keep FOLDER]
+
+An input is determined by the seed and its number: `--first N --inputs 1` makes number N again. PROGRAM is the program to
+run; without it, that is what the launcher builds. Each input that is answered otherwise is made as short as can be, kept
+in a folder of its own below FOLDER with its words and both answers, and told in a line. Before the last line there is one
+for each kind of answer, with the times it was given. The last line is `N passed, M failed`, and the status is 0 if all passed.
+"""
+
+import argparse
+import collections
+import concurrent.futures
+import os
+import pathlib
+import random
+import re
+import shlex
+import shutil
+import signal
+import subprocess
+import sys
+import tempfile
+from dataclasses import dataclass, replace
+
+import good_inputs
+from plain_answers import CITATION, LETTERS, TEXT_LIMIT, answer
+
+ROOT = pathlib.Path(__file__).resolve().parent.parent
+BATCH = 500
+SECONDS = 60
+MOST_TRIES = 2000
+TELLING = bytes([0, 1, 2, 3, 4, 8, 16, 17, 32, 65, 128, 252, 253, 254, 255]) + b" \t\r\n;0129UDLRuset-+"
+STANDARD_INPUT = "-"
+
+
+@dataclass(frozen=True)
+class Run:
+    """A command, its names, the bytes that some of them have, and further words."""
+
+    command: str
+    names: tuple
+    files: dict
+    further: tuple = ()
+
+    def words(self):
+        names = [name for name in self.names if name != STANDARD_INPUT]
+        return [self.command, *self.further, *names]
+
+
+# Changes of bytes.
+
+
+def turned(draw, data):
+    place = draw.randrange(len(data))
+    return data[:place] + bytes([data[place] ^ 1 << draw.randrange(8)]) + data[place + 1 :]
+
+
+def replaced(draw, data):
+    place = draw.randrange(len(data))
+    return data[:place] + bytes([draw.choice(TELLING)]) + data[place + 1 :]
+
+
+def raised(draw, data):
+    place = draw.randrange(len(data))
+    return data[:place] + bytes([(data[place] + draw.choice([1, 255])) % 256]) + data[place + 1 :]
+
+
+def with_more(draw, data):
+    place = draw.randrange(len(data) + 1)
+    return data[:place] + bytes(draw.choices(TELLING, k=draw.choice([1, 1, 2, 5]))) + data[place:]
+
+
+def with_less(draw, data):
+    place = draw.randrange(len(data))
+    return data[:place] + data[place + draw.choice([1, 1, 2, 4, 20]) :]
+
+
+def cut(draw, data):
+    return data[: draw.randrange(len(data))]
+
+
+def doubled(draw, data):
+    place, end = sorted(draw.choices(range(len(data) + 1), k=2))
+    return data[:end] + data[place:end] + data[end:]
+
+
+def exchanged(draw, data):
+    one, other = sorted(draw.choices(range(len(data)), k=2))
+    changed = bytearray(data)
+    changed[one], changed[other] = changed[other], changed[one]
+    return bytes(changed)
+
+
+def filled(draw, data):
+    place, end = sorted(draw.choices(range(len(data) + 1), k=2))
+    return data[:place] + bytes([draw.choice(TELLING)]) * (end - place) + data[end:]
+
+
+CHANGES = [turned, turned, replaced, replaced, raised, with_more, with_less, cut, doubled, exchanged, filled]
+
+
+def changed(draw, data, changes=CHANGES):
+    """The bytes after none, one or several changes."""
+    for _ in range(draw.choice([0, 1, 1, 1, 1, 2, 2, 3, 6])):
+        if data:
+            data = draw.choice(changes)(draw, data)
+    return data
+
+
+# Changes that know a format, and go deeper into what is checked.
+
+
+def with_other_letters(draw, text):
+    """A moves text in which one letter is another one, or several, or none."""
+    places = [place for place, byte in enumerate(text) if byte in LETTERS]
+    place = draw.choice(places or [len(text)])
+    return text[:place] + bytes(draw.choices(LETTERS, k=draw.choice([0, 1, 1, 2]))) + text[place + 1 :]
+
+
+PUZZLE_CHANGES = CHANGES + [with_other_letters] * 6
+
+
+def with_header_byte(draw, file):
+    place = draw.randrange(min(20, len(file)))
+    return file[:place] + bytes([draw.choice(TELLING)]) + file[place + 1 :]
+
+
+def with_entry(draw, file):
+    place = draw.randrange(20, len(file)) if len(file) > 20 else 0
+    return file[:place] + bytes([draw.choice([0, 1, 252, 253, 254, 255, (file[place] + 1) % 256])]) + file[place + 1 :]
+
+
+def with_other_count(draw, file):
+    """Each entry that has one value gets another value."""
+    one = draw.choice(file[20:] or b"\0")
+    other = draw.choice([(one + 1) % 256, (one - 1) % 256, 254, 255, 0])
+    return file[:20] + file[20:].replace(bytes([one]), bytes([other]))
+
+
+def with_all_greater(draw, file):
+    step = draw.choice([1, 2, 200, 250])
+    return file[:20] + bytes(min(entry + step, 255) if entry < 254 else entry for entry in file[20:])
+
+
+def with_other_header(draw, file):
+    return good_inputs.table(draw)[:20] + file[20:]
+
+
+TABLE_CHANGES = CHANGES + [with_header_byte, with_entry, with_entry, with_other_count, with_all_greater, with_other_header]
+
+
+def changed_tree(draw, tree):
+    tree = changed(draw, tree)
+    if draw.random() < 0.3:
+        place = draw.randrange(len(tree) + 1)
+        tree = tree[:place] + bytes([CITATION]) + draw.randrange(4).to_bytes(4, "big") + tree[place + 1 :]
+    return tree
+
+
+def changed_lemma(draw, lemma):
+    board, bound, tree = lemma
+    what = draw.choice(["board", "bound", "tree", "tree"])
+    if what == "board":
+        return tuple(exchanged(draw, bytes(board))), bound, tree
+    if what == "bound":
+        return board, draw.choice([(bound + 1) % 256, max(bound - 1, 0), 0, 255]), tree
+    return board, bound, changed_tree(draw, tree)
+
+
+def changed_log(draw, lemmas):
+    """A log of lemmas one or two of which were changed, or of the same in another order."""
+    lemmas = list(lemmas)
+    for _ in range(draw.choice([0, 1, 1, 2])):
+        place = draw.randrange(len(lemmas))
+        lemmas[place] = changed_lemma(draw, lemmas[place])
+    how = draw.random()
+    if how < 0.1:
+        draw.shuffle(lemmas)
+    elif how < 0.2:
+        lemmas.insert(0, draw.choice(lemmas))
+    log = good_inputs.log_of(lemmas)
+    return changed(draw, log) if draw.random() < 0.3 else log
+
+
+def changed_set_text(draw, text):
+    numbers = re.sub(rb"[0-9]+", lambda _: b"%d" % draw.choice([0, 1, 2, 3, 9, 15, 16, 99]), text)
+    return draw.choice([numbers, b"set 0 1\n", b"set 0\nset 1 2\n", changed(draw, text), changed(draw, numbers)])
+
+
+def long_text(draw, text):
+    """The text with so many separators behind it that it is as long as it may be, or a byte longer."""
+    return text.ljust(TEXT_LIMIT + draw.choice([0, 1]), b" ") if draw.random() < 0.01 else text
+
+
+# Runs.
+
+
+def replayed(draw):
+    name = draw.choice([STANDARD_INPUT, "puzzle"])
+    text = long_text(draw, changed(draw, good_inputs.puzzle(draw), PUZZLE_CHANGES))
+    return Run("replay", (name,), {name: text})
+
+
+def workers(draw):
+    return draw.choice([(), (), (), (), (), ("--workers", str(draw.choice([1, 2, 3, 7, 64])))])
+
+
+def checked(draw):
+    file = good_inputs.table(draw)
+    for _ in range(draw.choice([0, 1, 1, 1, 2])):
+        file = changed(draw, file, TABLE_CHANGES)
+    return Run("table", ("table",), {"table": file}, workers(draw))
+
+
+def claimed(draw):
+    """A run of `bound` or `optimal`, most of whose inputs are good, so that all of them are reached."""
+    board, letters, sets, lemmas, tables = good_inputs.claim(draw)
+    command = "bound" if letters is None else draw.choice(["bound", "bound", "optimal"])
+    if command == "bound":
+        text = good_inputs.board_text(draw, board)
+    else:
+        text = good_inputs.puzzle_text(draw, board, letters)
+    which = draw.choice(["nothing", "text", "sets", "log", "log", "log", "log", "table"])
+    if which == "text" or draw.random() < 0.05:
+        text = long_text(draw, changed(draw, text, CHANGES if command == "bound" else PUZZLE_CHANGES))
+    if which == "sets" or draw.random() < 0.05:
+        sets = long_text(draw, changed_set_text(draw, sets))
+    if which == "table":
+        place = draw.randrange(len(tables))
+        tables[place] = draw.choice([good_inputs.table(draw), changed(draw, tables[place], TABLE_CHANGES)])
+    log = changed_log(draw, lemmas) if which == "log" or draw.random() < 0.05 else good_inputs.log_of(lemmas)
+    if draw.random() < 0.02:
+        tables += [draw.choice(tables)] * 16
+    names = [f"table_{number}" for number in range(len(tables))]
+    files = {"text": text, "sets": sets, "log": log, **dict(zip(names, tables))}
+    return Run(command, ("text", "sets", "log", *names), files, workers(draw))
+
+
+def drawn(seed, number):
+    """The run of this number."""
+    draw = random.Random(f"{seed}/{number}")
+    run = draw.choice([replayed, checked, checked, claimed, claimed])(draw)
+    if draw.random() < 0.01:
+        missing = draw.choice(run.names)
+        if missing != STANDARD_INPUT:
+            other = draw.choice(["none", "no\nname", "\x1b[2J", "né\x7f"])
+            names = tuple(other if name == missing else name for name in run.names)
+            run = replace(run, names=names, files={name: run.files[name] for name in run.files if name in names})
+    return run
+
+
+# The program.
+
+
+class Program:
+    """The built program, which is started in a folder of its own for each run."""
+
+    def __init__(self, path, folder):
+        self.path, self.folder = path, pathlib.Path(folder)
+
+    def start(self, run):
+        folder = pathlib.Path(tempfile.mkdtemp(dir=self.folder))
+        for name, data in run.files.items():
+            if name != STANDARD_INPUT:
+                (folder / name).write_bytes(data)
+        (folder / ".in").write_bytes(run.files.get(STANDARD_INPUT, b""))
+        os.chdir(folder)
+        opened = [
+            (os.POSIX_SPAWN_OPEN, 0, ".in", os.O_RDONLY, 0),
+            (os.POSIX_SPAWN_OPEN, 1, ".out", os.O_WRONLY | os.O_CREAT, 0o600),
+            (os.POSIX_SPAWN_OPEN, 2, ".err", os.O_WRONLY | os.O_CREAT, 0o600),
+        ]
+        words = ["pdb_cli", *run.words()]
+        return folder, os.posix_spawn(self.path, words, os.environ, file_actions=opened)
+
+    def ended(self, started):
+        """What the run wrote and its status, which is None where it did not end in time."""
+        folder, process = started
+        signal.alarm(SECONDS)
+        try:
+            status = os.waitstatus_to_exitcode(os.waitpid(process, 0)[1])
+        except TimeoutError:
+            os.kill(process, signal.SIGKILL)
+            os.waitpid(process, 0)
+            status = None
+        finally:
+            signal.alarm(0)
+        written, errors = (folder / ".out").read_bytes(), (folder / ".err").read_bytes()
+        shutil.rmtree(folder)
+        return written + errors, status
+
+    def answers(self, run):
+        return self.ended(self.start(run))
+
+
+def too_late(*_):
+    raise TimeoutError
+
+
+def is_broken(program, run):
+    return program.answers(run) != answer(run.command, run.names, run.files)
+
+
+# Breaks.
+
+
+def without(run, name):
+    """The run without this input."""
+    files = {other: data for other, data in run.files.items() if other != name}
+    return replace(run, names=tuple(other for other in run.names if other != name), files=files)
+
+
+def shorter(run):
+    """Runs that are a little shorter, those that lack most first."""
+    if run.further:
+        yield replace(run, further=())
+    for name in run.names[4:]:
+        yield without(run, name)
+    for name, data in run.files.items():
+        size = len(data)
+        while size:
+            for place in range(0, len(data), size):
+                yield replace(run, files={**run.files, name: data[:place] + data[place + size :]})
+            size //= 2
+
+
+def shortest(program, run):
+    """A run that breaks, and doesn't when any one part more is left out."""
+    tries = 0
+    while True:
+        for candidate in shorter(run):
+            tries += 1
+            if tries > MOST_TRIES:
+                return run
+            if is_broken(program, candidate):
+                run = candidate
+                break
+        else:
+            return run
+
+
+def keep(run, written, folder):
+    """Keeps a run and both answers, and gives the words of the program."""
+    shutil.rmtree(folder, ignore_errors=True)
+    folder.mkdir(parents=True)
+    for name, data in run.files.items():
+        (folder / ("standard_input" if name == STANDARD_INPUT else name)).write_bytes(data)
+    line = shlex.join(run.words()) + (" <standard_input" if STANDARD_INPUT in run.files else "")
+    (folder / "words").write_text(f"{line}\n")
+    wanted = answer(run.command, run.names, run.files)
+    for name, (lines, status) in (("wanted", wanted), ("written", written)):
+        (folder / name).write_bytes(lines + b"status %s\n" % str(status).encode())
+    return line
+
+
+# Batches.
+
+
+def kind(command, lines):
+    """What an answer is, without its numbers."""
+    words = lines.decode(errors="replace").splitlines()[-1].split()
+    return f"{command}: {' '.join(words[:2] if words[0] in ('refused', 'fault') else words[:1])}"
+
+
+def compared(settings, numbers):
+    """How often each kind of answer was given to the inputs of these numbers, and a line for each break. A run goes on
+    while the next one is drawn and answered."""
+    signal.signal(signal.SIGALRM, too_late)
+    counts, broken, before = collections.Counter(), [], None
+    with tempfile.TemporaryDirectory() as folder:
+        program = Program(settings.program, folder)
+        for number in [*numbers, None]:
+            now = None
+            if number is not None:
+                run = drawn(settings.seed, number)
+                now = number, run, answer(run.command, run.names, run.files), program.start(run)
+            if before is not None:
+                number, run, wanted, started = before
+                counts[kind(run.command, wanted[0])] += 1
+                if program.ended(started) != wanted:
+                    broken.append(told(settings, program, number, run))
+            before = now
+        os.chdir("/")
+    return counts, broken
+
+
+def told(settings, program, number, run):
+    run = shortest(program, run)
+    folder = settings.keep / f"{settings.seed}-{number}"
+    line = keep(run, program.answers(run), folder)
+    return f"input {number} of seed {settings.seed}: {line}: in {folder}"
+
+
+def read_settings():
+    parser = argparse.ArgumentParser(description=__doc__.split("\n\n")[0])
+    parser.add_argument("--inputs", type=int, default=2000)
+    parser.add_argument("--seed", default="1")
+    parser.add_argument("--first", type=int, default=0)
+    parser.add_argument("--processes", type=int, default=1)
+    parser.add_argument("--program", type=pathlib.Path)
+    parser.add_argument("--keep", type=pathlib.Path, default=pathlib.Path(tempfile.gettempdir()) / "broken_inputs")
+    settings = parser.parse_args()
+    if settings.program is None:
+        subprocess.run([ROOT / "pdb_cli", "--help"], stdin=subprocess.DEVNULL, stdout=subprocess.DEVNULL, check=True)
+        settings.program = ROOT / "out" / "pdb_cli"
+    settings.program, settings.keep = settings.program.resolve(strict=True), settings.keep.resolve()
+    return settings
+
+
+def main():
+    settings = read_settings()
+    end = settings.first + settings.inputs
+    batches = [range(first, min(first + BATCH, end)) for first in range(settings.first, end, BATCH)]
+    counts, failed = collections.Counter(), 0
+    with concurrent.futures.ProcessPoolExecutor(settings.processes) as pool:
+        for batch, broken in pool.map(compared, [settings] * len(batches), batches):
+            counts += batch
+            failed += len(broken)
+            for line in broken:
+                print(f"FAILED: {line}", flush=True)
+    for answered, times in sorted(counts.items()):
+        print(f"{times:8} {answered}")
+    print(f"{counts.total() - failed} passed, {failed} failed")
+    sys.exit(failed != 0)
+
+
+if __name__ == "__main__":
+    main()
