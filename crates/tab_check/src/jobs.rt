@@ -1,23 +1,26 @@
 //! The blocks of a table as jobs that workers share.
 
-ghost use Rattle.std.specs.Prelude.{◌≡◌, ℕ, ◌+◌, ◌≤◌, ◌^◌};
+ghost use Rattle.std.specs.Prelude.{◌≡◌, ℕ, ◌+◌, ◌≤◌, ◌^◌, true};
 ghost use Rattle.tab_check.specs.Blocks.{block_begin, block_count};
 
-use crate::blocks::{BLOCK_RANKS, block_count, check_block};
+use crate::block_checks::BlockCheck;
+use crate::blocks::{BLOCK_RANKS, block_count};
 use tab_file::TableView;
 use work_run::Job;
 
 /// The check of a table: a job for each block, whose places are the numbers of its entries.
 #[derive(Drop)]
-pub(crate) struct TableCheck<'a> {
+pub(crate) struct TableCheck<'a, 'c, C: BlockCheck> {
     pub(crate) view: TableView<'a>,
+    pub(crate) blocks: &'c C,
+    ghost serves: { C.serves blocks.now view.pattern ≡ true },
     ghost few_blocks: { block_count view.pattern ≤ 2 ^ 32 },
     ghost from_zero: { block_begin view.pattern 0 ≡ 0 },
     ghost rises: { (block : ℕ) → block_begin view.pattern block ≤ block_begin view.pattern (block + 1) },
     ghost small: { block_begin view.pattern (block_count view.pattern) ≤ 2 ^ 32 },
 }
 
-impl<'a> Job for TableCheck<'a> {
+impl<C: BlockCheck> Job for TableCheck<'_, '_, C> {
     ghost use Rattle.tab_check.specs.BadEntries.{IsBad};
     ghost use Rattle.tab_check.specs.Blocks.{block_begin, block_count};
 
@@ -46,6 +49,6 @@ impl<'a> Job for TableCheck<'a> {
     }
 
     fn run(&self, block: u64) -> Option<u64> {
-        check_block(&self.view, block)
+        self.blocks.check(&self.view, block)
     }
 }

@@ -1,6 +1,7 @@
 //! Pattern databases: whether each entry is the least number of moves of the pattern's tiles that bring them home.
 #![tactic(auto)]
 
+mod block_checks;
 mod blocks;
 mod census;
 mod columns;
@@ -13,6 +14,7 @@ mod tables;
 #[cfg(test)]
 mod tests;
 
+pub use block_checks::{BlockCheck, EntryByEntry};
 pub use blocks::check_block;
 pub use census::Census;
-pub use tables::{CheckedTable, Count, TableFault, TableRefusal, check_table};
+pub use tables::{CheckedTable, Count, TableFault, TableRefusal, check_table, check_table_by};

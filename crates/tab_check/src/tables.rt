@@ -1,6 +1,6 @@
 //! Tables that are checked whole.
 
-ghost use Rattle.std.specs.Prelude.{◌≡◌, ◌<◌, ◌≤◌, ◌⊎◌, ◌==◌, if◌then◌else◌, ℕ, Err, IfErr, IfOk, Ok};
+ghost use Rattle.std.specs.Prelude.{◌≡◌, ◌<◌, ◌≤◌, ◌⊎◌, ◌==◌, if◌then◌else◌, ℕ, true, Err, IfErr, IfOk, Ok};
 ghost use Rattle.puz_board.specs.Boards.{side_of};
 ghost use Rattle.tab_file.specs.HeadFaults.{table_of_file};
 ghost use Rattle.tab_file.specs.TableFiles.{IsTableFile};
@@ -18,6 +18,7 @@ ghost use Rattle.tab_check.specs.declared.tables.TableFault.TheVariants.{Memory,
 ghost use Rattle.tab_check.specs.declared.tables.TableRefusal.TheVariants.{Head, T7};
 ghost use Rattle.tab_check.specs.declared.tables.Count.TheVariants.{Finite, Never};
 
+use crate::block_checks::{BlockCheck, EntryByEntry};
 use crate::census::{Census, census_of};
 use crate::entries::{NO_REGION, NO_WAY_HOME};
 use crate::jobs::TableCheck;
@@ -97,11 +98,36 @@ pub fn check_table<'a, R: Threads + Wait, G: Gate + Sync>(
     ensures bad { (table : Table) (number : ℕ) → IsTableFile table file.now → IsLeastBad table number
         → (result ≡ Err (Refused (T7 number))) ⊎ (result ≡ Err Memory) }
 {
+    check_table_by(rt, alloc, file, workers, gate, &EntryByEntry)
+}
+
+/// As `check_table`, with this way to check a block.
+pub fn check_table_by<'a, R: Threads + Wait, G: Gate + Sync, C: BlockCheck + Sync>(
+    rt: &R,
+    alloc: Global,
+    file: &'a [u8],
+    workers: u8,
+    gate: &G,
+    blocks: &C,
+) -> Result<CheckedTable<'a>, TableFault>
+    requires workers { (0 < workers) × (workers ≤ 64) }
+    requires serves { (table : Table) → IsTableFile table file.now → C.serves blocks.now table.pattern ≡ true }
+
+    // A table comes of an exact file alone, and is that file's. Only want of memory keeps it back.
+    ensures ok { IfOk result (λ table. IsExactFile table file.now) }
+    ensures exact { (table : Table) → IsExactFile table file.now → (result ≡ Ok table) ⊎ (result ≡ Err Memory) }
+
+    // Which fault it is.
+    ensures fault { IfErr result (λ fault. IsCauseOf fault file.now) }
+    ensures head { (fault : HeadFault) → table_of_file file.now ≡ Err fault → result ≡ Err (Refused (Head fault)) }
+    ensures bad { (table : Table) (number : ℕ) → IsTableFile table file.now → IsLeastBad table number
+        → (result ≡ Err (Refused (T7 number))) ⊎ (result ≡ Err Memory) }
+{
     let view = match view(file) {
         Ok(view) => view,
         Err(fault) => return Err(TableFault::Refused(TableRefusal::Head(fault))),
     };
-    let check = TableCheck { view };
+    let check = TableCheck { view, blocks };
     match run_jobs(rt, alloc, &check, workers, gate) {
         Ok(None) => Ok(CheckedTable { view: check.view }),
         Ok(Some(number)) => Err(TableFault::Refused(TableRefusal::T7(number))),

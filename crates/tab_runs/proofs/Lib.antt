@@ -8,6 +8,7 @@ pub mod PartLemmas
 pub mod RowLemmas
 pub mod RunLemmas
 pub mod RunRanks
+pub mod ServingLemmas
 pub mod SetLemmas
 pub mod SetRowLemmas
 pub mod StepLemmas

@@ -3,6 +3,7 @@ pub mod Kinds
 pub mod Parts
 pub mod Rows
 pub mod Runs
+pub mod Serving
 pub mod SetRows
 pub mod Steps
 pub mod StoredRows

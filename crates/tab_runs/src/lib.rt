@@ -11,6 +11,8 @@ mod numbers;
 mod rows;
 mod runs;
 mod set_rows;
+mod tables;
 
 pub use blocks::check_runs;
 pub use rows::RowTable;
+pub use tables::check_table;

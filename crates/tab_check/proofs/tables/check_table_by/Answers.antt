@@ -7,8 +7,8 @@ use Rattle.tab_check.specs.declared.tables.TableFault.TheVariants.{Refused}
 use Rattle.tab_check.specs.declared.tables.TableRefusal.TheVariants.{T7}
 use Rattle.tab_check.proofs.JobLemmas.{block_begin-rises, block_begin-small, block_begin-zero}
 use Rattle.tab_check.proofs.TableLemmas.{exact_from_keeps, keeps_from_exact, keeps_whole, least_bad_one, least_bad_whole, none_bad}
-use Rattle.tab_check.proofs.tables.check_table.Goals as goal
-use Rattle.tab_check.proofs.tables.check_table.Goals.{In-Ok-None, In-Ok-Some}
+use Rattle.tab_check.proofs.tables.check_table_by.Goals as goal
+use Rattle.tab_check.proofs.tables.check_table_by.Goals.{In-Ok-None, In-Ok-Some}
 
 pub invariant_of-check : goal.invariant_of-check
 invariant_of-check g c =
@@ -17,6 +17,7 @@ invariant_of-check g c =
     let placements : placement_count p < 2 ^ 32 = few_placements p pat in
     let entries : entry_count p < 2 ^ 32 = few_slots p pat in
     record {
+      serves = c.requires.serves c.in-Ok.view c.in-Ok.ensures.ok;
       few_blocks = omega arith;
       from_zero = block_begin-zero p;
       rises = block_begin-rises p;
