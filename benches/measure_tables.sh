@@ -16,8 +16,9 @@
 #   of the whole file all the same. So it has the start, the reading and the digest of a run, and nothing of the check.
 # - "share" is the digest's part of the run of one worker; "check" is that run without the digest. Several workers check
 #   while the digest is made, so of their runs nothing is taken off.
-# - "of the good file's" is the run on the largest table with a zero for the last slot of its first, middle or last
-#   placement, which has no region, beside the run on the table itself with as many workers. No other entry is bad then.
+# - "bad entry" is the one bad entry of the largest table with a zero for the last slot, which has no region, of its
+#   first, middle or last placement. "of the good file's" is beside the table itself with as many workers, and
+#   "processor" what all threads of the run took together, which a busy machine changes less than the time.
 # - "peak" is the most memory that was resident, in one further run of one worker or, below, of so many workers.
 set -euo pipefail
 export LC_ALL=C
@@ -28,7 +29,8 @@ repeats=${REPEATS:-7}
 tables=('side 3 mask 510' 'side 5 mask 62' 'side 4 mask 126') # the largest last
 largest=${tables[-1]}
 declare -A bad=([first]=6 [middle]=20180166 [last]=40360319) # entries of the largest table for slots without a region
-declare -A times
+declare -A times spent
+TIMEFORMAT='%3U %3S'
 
 fail() {
     echo "measure_tables: $1" >&2
@@ -57,10 +59,11 @@ measure() { # NAME LINE WORD..
     local name=$1 line=$2 begin end
     shift 2
     begin=${EPOCHREALTIME/./}
-    "$program" table "$@" >"$work/output" || true
+    { time "$program" table "$@" >"$work/output" || true; } 2>"$work/spent"
     end=${EPOCHREALTIME/./}
     grep -q "^$line" "$work/output" || fail "no line '$line' for $*: $(<"$work/output")"
     times[$name]+=$((end - begin))$'\n'
+    spent[$name]+=$(awk 'END { printf "%d", 1e6 * ($1 + $2) }' "$work/spent")$'\n'
 }
 
 measure_all() {
@@ -79,9 +82,13 @@ measure_all() {
     done
 }
 
-# The microseconds of a name's runs: the least, or the middle one.
+# The microseconds of a name's runs: the least, or the middle one, and the least of a processor.
 least() {
     printf '%s' "${times[$1]}" | sort -n | sed -n 1p
+}
+
+least_spent() {
+    printf '%s' "${spent[$1]}" | sort -n | sed -n 1p
 }
 
 median() {
@@ -116,10 +123,10 @@ workers_row() {
 }
 
 bad_row() {
-    awk -v place="$1" -v entry="${bad[$1]}" -v one="$(least "$1 1")" -v ones="$(median "$1 1")" -v four="$(least "$1 4")" \
-        -v fours="$(median "$1 4")" -v good="$(least "$largest 1")" -v good_by_four="$(least "$largest 4")" 'BEGIN {
-        printf "| %s, %d | %.1f (%.1f) | %.0f%% | %.1f (%.1f) | %.0f%% |\n", place, entry, one / 1e3, ones / 1e3,
-            100 * one / good, four / 1e3, fours / 1e3, 100 * four / good_by_four }'
+    awk -v place="$1" -v entry="${bad[$1]}" -v workers="$2" -v run="$(least "$1 $2")" -v median="$(median "$1 $2")" \
+        -v good="$(least "$largest $2")" -v spent="$(least_spent "$1 $2")" -v good_spent="$(least_spent "$largest $2")" 'BEGIN {
+        printf "| %s, %d | %d | %.1f (%.1f) | %.0f%% | %.0f | %.0f%% |\n", place, entry, workers, run / 1e3, median / 1e3,
+            100 * run / good, spent / 1e3, 100 * spent / good_spent }'
 }
 
 [ -x "$program" ] || fail "no program $program: ./pdb_cli --help builds it"
@@ -152,8 +159,10 @@ for workers in 1 2 4; do
     workers_row "$workers"
 done
 echo
-echo "| bad entry, $largest | 1 worker, ms | of the good file's | 4 workers, ms | of the good file's |"
-echo '|---|---|---|---|---|'
+echo "| bad entry, $largest | workers | run, ms | of the good file's | processor, ms | of the good file's |"
+echo '|---|---|---|---|---|---|'
 for where in first middle last; do
-    bad_row "$where"
+    for workers in 1 4; do
+        bad_row "$where" "$workers"
+    done
 done

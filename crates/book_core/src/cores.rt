@@ -7,7 +7,7 @@ ghost use Rattle.book_core.specs.Runs.{going, run_from, run_on, StopsAt};
 ghost use Rattle.book_core.specs.Laws.{BookLaw};
 
 use crate::events::{Answer, CoreFault, Event};
-use crate::passes::PassRecord;
+use crate::passes::Deeds;
 use std::alloc::{AllocError, Global};
 use std::marker::Model;
 
@@ -24,7 +24,7 @@ pub struct Core {
     jobs: u64,
     next: u64,
     least: Option<u64>,
-    passes: Vec<PassRecord>,
+    passes: Vec<Deeds>,
 }
 
 impl Model for Core {
@@ -47,7 +47,7 @@ impl Core {
     {
         let mut passes = Vec::with_capacity(alloc, usize::from(workers))?;
         for _ in 0..workers {
-            passes.push(PassRecord::new(alloc))?;
+            passes.push(Deeds::new(alloc))?;
         }
         Ok(Core {
             alloc,

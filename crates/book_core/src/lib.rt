@@ -11,4 +11,4 @@ mod tests;
 pub use cores::{Core, Memory};
 pub use events::{Answer, CoreFault, Event};
 pub use laws::{book_law, share_law};
-pub use passes::PassRecord;
+pub use passes::Deeds;

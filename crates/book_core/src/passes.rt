@@ -8,14 +8,14 @@ use std::marker::Model;
 
 /// What one pass has done.
 #[derive(Drop)]
-pub struct PassRecord {
+pub struct Deeds {
     drawn: Vec<u64>,
     reported: Vec<u64>,
     seen: Option<u64>,
     ended: bool,
 }
 
-impl Model for PassRecord {
+impl Model for Deeds {
     ghost use Rattle.book_core.specs.Passes.{Deeds};
 
     ghost Value = { Deeds };
@@ -23,12 +23,12 @@ impl Model for PassRecord {
     ghost view = { λ p. record { drawn = p.drawn.items; reported = p.reported.items; seen = p.seen; ended = p.ended } };
 }
 
-impl PassRecord {
+impl Deeds {
     /// A pass that has done nothing.
-    pub(crate) fn new(alloc: Global) -> PassRecord
+    pub(crate) fn new(alloc: Global) -> Deeds
         ensures { result ≡ fresh }
     {
-        PassRecord {
+        Deeds {
             drawn: Vec::new(alloc),
             reported: Vec::new(alloc),
             seen: None,

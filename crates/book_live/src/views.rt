@@ -1,6 +1,6 @@
 //! What a seat of a book shows. The rule and the proofs speak of it, and no value of a view is made.
 
-use book_core::PassRecord;
+use book_core::Deeds;
 use std::collections::LinkedList;
 use std::marker::Model;
 
@@ -14,7 +14,7 @@ pub struct Sizes {
 /// A pass with its number.
 pub struct NumberedPass {
     number: u8,
-    deeds: PassRecord,
+    deeds: Deeds,
 }
 
 impl Model for NumberedPass {

@@ -10,8 +10,8 @@ use book_live::{Book, Pass};
 
 /// Claims jobs, runs them and reports their least bad places, until no job is left.
 ///
-/// Before it runs a job it looks once at the least place reported so far, and skips the job where that begins above it:
-/// what is bad there can't be the least. It answers its pass, ended. The pass is a new one of the book.
+/// Before it runs a job it looks once at the least place reported so far, and skips a job that begins above that:
+/// no bad place there can be the least. It answers its pass, ended. The pass is a new one of the book.
 pub fn work<J: Job, G: Gate>(job: &J, book: &Book, mut pass: Pass, gate: &G) -> Pass
     requires jobs { book.now.sizes.jobs ≡ J.jobs job.now }
     requires pass { (pass.book ≡ book.now) × (pass.deeds ≡ fresh) }
