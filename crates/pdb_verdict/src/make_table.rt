@@ -95,6 +95,7 @@ fn answer_make_table<H: Threads + Wait + Sync, G: Gate + Sync>(
         Ok(built) => Ok(Answer {
             files: &[],
             last: None,
+            digests: None,
             lines: line_of(&built.answer),
             is_yes: built.answer.is_ok(),
             made: Some(built.file),
@@ -103,6 +104,7 @@ fn answer_make_table<H: Threads + Wait + Sync, G: Gate + Sync>(
         Err(refused) => Ok(Answer {
             files: &[],
             last: None,
+            digests: None,
             made: None,
             lines: line_of(&Err(refused)),
             is_yes: false,

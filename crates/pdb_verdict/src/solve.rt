@@ -124,6 +124,7 @@ fn answer_on(tables: &[Vec<u8>], made: Made) -> Answer<'_>
     Answer {
         files: tables,
         last: None,
+        digests: None,
         lines: lines_on(made.moves.as_slice(), &made.answer),
         is_yes: made.answer.is_ok(),
         made: Some(made.log),
@@ -137,6 +138,7 @@ fn refusal_of(tables: &[Vec<u8>], refused: Fault) -> Answer<'_>
     Answer {
         files: tables,
         last: None,
+        digests: None,
         made: None,
         lines: line_of(&Err(refused)),
         is_yes: false,
