@@ -12,7 +12,8 @@ use set_sum::Bundle;
 use std::alloc::Global;
 use std::sync::Wait;
 use std::thread::Threads;
-use tab_check::{CheckedTable, TableFault, check_table};
+use tab_check::{CheckedTable, TableFault};
+use tab_runs::check_table;
 use work_run::Gate;
 
 /// The bundle of table files and a set text: each table is checked, and then the text is read.

@@ -18,7 +18,8 @@ use std::alloc::{AllocError, Global};
 use std::io::{Read, Write};
 use std::sync::Wait;
 use std::thread::Threads;
-use tab_check::{TableFault, check_table};
+use tab_check::TableFault;
+use tab_runs::check_table;
 use work_run::Gate;
 
 /// The command `table`: the verdict on the table file under this name.

@@ -11,67 +11,17 @@ use Rattle.pat_place.specs.Ranks.{IsRank}
 use Rattle.pat_place.proofs.RankLemmas.{IsRank-one}
 use Rattle.tab_check.specs.BadEntries.{IsBad, KeepsRule}
 use Rattle.tab_check.specs.Entries.{IsNumberOf}
-use Rattle.tab_check.specs.LocalRule.{IsLeastNear, LocalRule}
+use Rattle.tab_check.specs.LocalRule.{IsKindOf, IsLeastNear, LocalRule}
 use Rattle.tab_check.proofs.BlockLemmas.{same_cells}
-use Rattle.tab_check.proofs.DecidedLemmas.{one_more_decided}
-use Rattle.tab_check.proofs.OneEntryLemmas.{rule_away, rule_goal, rule_no_region}
+use Rattle.tab_check.proofs.CaseLemmas.{rule_by_numbers}
 use Rattle.tab_file.specs.Tables.{Table, slot_count}
-use Rattle.tab_lanes.specs.LocalRule.{AllKeepRule, IsFirstBad, KeepsRuleAt, KeepsRuleOfKind, goal, never, no_region, one_more}
-use Rattle.tab_runs.specs.Checks.{AreKinds, IsFirstBadPlace, IsKind, RunKeepsRule}
+use Rattle.tab_lanes.specs.LocalRule.{AllKeepRule, IsFirstBad, KeepsRuleAt, KeepsRuleOfKind}
+use Rattle.tab_runs.specs.Checks.{AreKinds, IsFirstBadPlace, RunKeepsRule}
 use Rattle.tab_runs.specs.Runs.{AreRunEntries, IsFirstRank, IsRun, free_below, run_length, with_last}
 use Rattle.tab_runs.specs.Steps.{AreLeastNear}
 use Rattle.tab_runs.proofs.RowLemmas.{parts_one}
 use Rattle.tab_runs.proofs.RunLemmas.{placed_last}
 use Rattle.tab_runs.proofs.RunRanks.{free_at}
-
--- ---- one entry by its kind
-
-iff_of : (P Q : Type 0) (b : Bool) → MatchBool b P (P → ⊥) → (b ≡ true → Q) → (Q → b ≡ true) → (Q → P) × (P → Q)
-iff_of P Q true holds to back = (λ q. holds, λ p. to refl)
-iff_of P Q false fails to back = (λ q. absurd (let clash : false ≡ true = back q in cc), λ p. absurd (fails p))
-
--- what the rule by numbers says of an entry of each kind
-of_no_region : (kind least e : ℕ) → kind ≡ 0 → KeepsRuleOfKind kind least e → e ≡ 254
-of_no_region kind least e is (no_region k h) = h
-of_no_region kind least e is (goal k h) = omega arith
-of_no_region kind least e is (one_more k l h) = omega arith
-of_no_region kind least e is (never k l h) = omega arith
-
-of_goal : (kind least e : ℕ) → kind ≡ 1 → KeepsRuleOfKind kind least e → e ≡ 0
-of_goal kind least e is (no_region k h) = omega arith
-of_goal kind least e is (goal k h) = h
-of_goal kind least e is (one_more k l h) = omega arith
-of_goal kind least e is (never k l h) = omega arith
-
-of_other : (kind least e : ℕ) → kind ≡ 2 → KeepsRuleOfKind kind least e → ((least < 253) × (e ≡ suc least)) ⊎ ((least ≡ 255) × (e ≡ 255))
-of_other kind least e is (no_region k h) = absurd (omega arith)
-of_other kind least e is (goal k h) = absurd (omega arith)
-of_other kind least e is (one_more k l h) = inl (l, h)
-of_other kind least e is (never k l h) = inr (l, h)
-
-other_of : (kind least e : ℕ) → kind ≡ 2 → ((least < 253) × (e ≡ suc least)) ⊎ ((least ≡ 255) × (e ≡ 255)) → KeepsRuleOfKind kind least e
-other_of kind least e is (inl h) = one_more is h.0 h.1
-other_of kind least e is (inr h) = never is h.0 h.1
-
-module _ (t : Table) (cells : List ℕ) (j kind least e : ℕ) (near : IsLeastNear t cells j least) where
-  pub rule_by_kind : IsKind t cells j kind → (KeepsRuleOfKind kind least e → LocalRule t cells j e) × (LocalRule t cells j e → KeepsRuleOfKind kind least e)
-  rule_by_kind is = elim is [
-    | inl none ↦ iff_of (LocalRule t cells j e) (KeepsRuleOfKind kind least e) (eqb e 254) (rule_no_region t cells j e none.1)
-        (λ b. no_region none.0 (eqb-true e 254 b))
-        (λ q. eq-eqb e 254 (of_no_region kind least e none.0 q))
-    | inr some ↦ elim some [
-      | inl home ↦ iff_of (LocalRule t cells j e) (KeepsRuleOfKind kind least e) (eqb e 0) (rule_goal t cells j e home.1 home.2)
-          (λ b. goal home.0 (eqb-true e 0 b))
-          (λ q. eq-eqb e 0 (of_goal kind least e home.0 q))
-      | inr far ↦ elim (one_more_decided least e) [
-        | inl held ↦ (λ q. rule_away t cells j e far.1 far.2 least near true (λ b. held, λ h. refl), λ p. other_of kind least e far.0 held)
-        | inr failed ↦ (
-          λ q. absurd (failed (of_other kind least e far.0 q)),
-          λ p. absurd (rule_away t cells j e far.1 far.2 least near false (λ b. absurd (let clash : false ≡ true = b in cc), λ h. absurd (failed h)) p),
-        )
-      ]
-    ]
-  ]
 
 -- the entry of a place, counted from 0, keeps the rule by numbers
 abbrev KeepsAt : List ℕ → List ℕ → List ℕ → ℕ → Type 0
@@ -136,8 +86,8 @@ module _ (t : Table) (pat : IsPattern t.pattern) (p : List ℕ) (run : IsRun t.p
       let e = entry_is first is_first place a in
       let at : 1 + free_below p a.cell * slot_count t.pattern + a.slot ≡ 1 + place = (let c = a.counted in omega arith) in
       let near : IsLeastNear t (with_last p a.cell) a.slot (get_or mins (1 + place) 0) = subst (λ i. IsLeastNear t (with_last p a.cell) a.slot (get_or mins i 0)) at (least a.cell a.slot a.free a.low) in
-      let kind : IsKind t (with_last p a.cell) a.slot (get_or kinds place 0) = subst (λ i. IsKind t (with_last p a.cell) a.slot (get_or kinds i 0)) (sym a.counted) (are a.cell a.slot a.free a.low) in
-      let both = rule_by_kind t (with_last p a.cell) a.slot (get_or kinds place 0) (get_or mins (1 + place) 0) (get_or own (1 + place) 0) near kind in
+      let kind : IsKindOf t.pattern (with_last p a.cell) a.slot (get_or kinds place 0) = subst (λ i. IsKindOf t.pattern (with_last p a.cell) a.slot (get_or kinds i 0)) (sym a.counted) (are a.cell a.slot a.free a.low) in
+      let both = rule_by_numbers t (with_last p a.cell) a.slot (get_or own (1 + place) 0) (get_or kinds place 0) (get_or mins (1 + place) 0) kind near in
       (λ k. subst (LocalRule t (with_last p a.cell) a.slot) (sym e) (both.0 k), λ r. both.1 (subst (LocalRule t (with_last p a.cell) a.slot) e r))
 
   pub keeps_at : (place : ℕ) → place < run_length t.pattern.side p * slot_count t.pattern → KeepsAt own mins kinds place → (first : ℕ) → IsFirstRank t.pattern.side p first → KeepsRule t (first * slot_count t.pattern + place)

@@ -21,10 +21,10 @@ use Rattle.pat_place.proofs.SlotLemmas.{slot_one}
 use Rattle.tab_check.specs.BadEntries.{IsBad, KeepsRule}
 use Rattle.tab_check.specs.Blocks.{IsLeastBadIn, first_of_block}
 use Rattle.tab_check.specs.Entries.{HasRegion}
-use Rattle.tab_check.specs.LocalRule.{IsGoalSlot}
+use Rattle.tab_check.specs.LocalRule.{IsGoalSlot, no_region, goal as goal_kind, other as other_kind}
 use Rattle.tab_check.proofs.BlockLemmas.{same_cells}
 use Rattle.tab_file.specs.Tables.{Table, slot_count}
-use Rattle.tab_runs.specs.Checks.{AreKinds, IsFirstBadPlace, IsKind, RunKeepsRule}
+use Rattle.tab_runs.specs.Checks.{AreKinds, IsFirstBadPlace, RunKeepsRule}
 use Rattle.tab_runs.specs.Kinds.{TellRegions}
 use Rattle.tab_runs.specs.Parts.{EntriesKeepRule, IsFirstBadEntry, IsGoalNumber}
 use Rattle.tab_runs.specs.Runs.{IsFirstRank, IsRun, free_below, run_length, with_last}
@@ -139,10 +139,10 @@ module _ (t : Table) (pat : IsPattern t.pattern) (p : List ℕ) (run : IsRun t.p
         | inl e ↦
             let g = at_goal c j free low e in
             let slot = subst (λ q. IsSlotOf q j) (sym g.0) (subst (IsSlotOf t.pattern.tiles) (sym g.1) goal.in_slot) in
-            inr (inl (here place inside e, record { cell = 0; in_slot = slot }, (g.0, slot)))
+            goal_kind (g.0, slot) (here place inside e)
         | inr ne ↦ elim (tells c j free low) [
-          | inl none ↦ inl (others place inside ne ∙ none.0, none.1)
-          | inr some ↦ inr (inr (others place inside ne ∙ some.0, some.1, λ g. ne (number_at c j free g)))
+          | inl none ↦ no_region none.1 (others place inside ne ∙ none.0)
+          | inr some ↦ other_kind some.1 (λ g. ne (number_at c j free g)) (others place inside ne ∙ some.0)
         ]
       ]
 

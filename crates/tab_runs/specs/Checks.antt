@@ -1,25 +1,16 @@
 -- Checks of a run: its entries against the least near entries, by the kinds of their slots.
-use Rattle.std.specs.Prelude.{◌≡◌, ℕ, ◌+◌, ◌*◌, ◌<◌, ◌≤◌, ◌⊎◌, List, slice_index}
+use Rattle.std.specs.Prelude.{ℕ, ◌+◌, ◌*◌, ◌<◌, ◌≤◌, List, slice_index}
 use Rattle.pat_place.specs.Placements.{IsFree}
 use Rattle.tab_check.specs.BadEntries.{IsBad, KeepsRule}
-use Rattle.tab_check.specs.Entries.{HasNoRegion, HasRegion}
-use Rattle.tab_check.specs.LocalRule.{IsGoalSlot}
+use Rattle.tab_check.specs.LocalRule.{IsKindOf}
 use Rattle.tab_file.specs.Tables.{Table, slot_count}
-use Rattle.tab_lanes.specs.LocalRule.{goal_slot, other_slot, without_region}
 use Rattle.tab_runs.specs.Runs.{IsFirstRank, free_below, with_last}
-
--- the kind of a slot: without a region, the goal's, or any other
-abbrev pub IsKind : Table → List ℕ → ℕ → ℕ → Type 0
-IsKind t cells j kind =
-    ((kind ≡ without_region) × HasNoRegion t.pattern.side cells j) ⊎
-    (((kind ≡ goal_slot) × HasRegion t.pattern.side cells j × IsGoalSlot t.pattern cells j) ⊎
-    ((kind ≡ other_slot) × HasRegion t.pattern.side cells j × (¬ IsGoalSlot t.pattern cells j)))
 
 -- the kinds of the slots of a run's placements, side by side
 abbrev pub AreKinds : Table → List ℕ → List ℕ → Type 0
 AreKinds t p kinds =
     (c j : ℕ) → IsFree t.pattern.side p c → j < slot_count t.pattern →
-    IsKind t (with_last p c) j (slice_index kinds (free_below p c * slot_count t.pattern + j))
+    IsKindOf t.pattern (with_last p c) j (slice_index kinds (free_below p c * slot_count t.pattern + j))
 
 -- the entries of a run from one place up to another keep the rule
 abbrev pub RunKeepsRule : Table → List ℕ → ℕ → ℕ → Type 0
