@@ -23,9 +23,6 @@ use Rattle.tab_runs.proofs.TableLemmas.{same_masks}
 
 -- ---- one placement more
 
-pub kinds_start : (n w : ℕ) (p kinds : List ℕ) → ((i : ℕ) → get_or kinds i 0 ≡ 0) → AreKindsUpTo n w p 0 kinds
-kinds_start n w p kinds none = record { filled = λ c j l free low. absurd (omega arith); empty = λ c j past free low. none (free_below p c * w + j) }
-
 module _ (n w : ℕ) (p : List ℕ) (c : ℕ) (old : List ℕ) (kinds : AreKindsUpTo n w p c old) where
   -- a cell that a tile is in
   pub kinds_skip : ¬ IsFree n p c → AreKindsUpTo n w p (c + 1) old

@@ -11,6 +11,8 @@ mod numbers;
 mod rows;
 mod runs;
 mod set_rows;
+#[cfg(test)]
+mod tests;
 
 pub use blocks::check_runs;
 pub use rows::RowTable;
