@@ -20,7 +20,7 @@ use Rattle.tab_runs.specs.Runs.{IsRun, free_below, run_length, with_last}
 use Rattle.tab_runs.proofs.EntriesLemmas.{run_few}
 use Rattle.tab_runs.proofs.RunRanks.{first_some, free_below-low}
 use Rattle.tab_runs.proofs.RowLemmas.{few_entries, parts_one}
-use Rattle.tab_runs.proofs.RunLemmas.{open_free, placed_last, with_last-free}
+use Rattle.tab_runs.proofs.RunLemmas.{placed_last, with_last-free}
 
 -- ---- one column
 
