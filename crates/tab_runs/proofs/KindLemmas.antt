@@ -1,15 +1,13 @@
 -- Which slots of a run's placements have a region.
-use Rattle.std.proofs.Common.{◌≡◌, ◌≢◌, ℕ, ◌+◌, ◌-◌, ◌*◌, ◌<◌, ◌≤◌, ◌⊎◌, true, List, [], ◌∷◌, ◌++◌, length, get_or, take, drop, inl, inr, refl, sym, ◌∙◌, ap, subst, arith, length-append, length-drop}
-use Rattle.std.specs.Int.{bit_at}
+use Rattle.std.proofs.Common.{◌≡◌, ◌≢◌, ℕ, ◌+◌, ◌-◌, ◌*◌, ◌<◌, ◌≤◌, true, List, [], ◌∷◌, ◌++◌, length, get_or, take, drop, inl, inr, sym, ◌∙◌, ap, subst, arith, length-append, length-drop}
 use Rattle.std.proofs.lemmas.Bool.{cases_eq, cases_lt}
 use Rattle.std.proofs.lemmas.List.{drop-append-le, get_or_append_left, get_or_at, length_push, take-append-le, take_all}
 use Rattle.std.proofs.Math.Nat.{mul-le-mul_right}
 use Rattle.std.proofs.Math.Seq.{drop-append-add}
 use Rattle.puz_board.specs.Masks.{IsMaskOf}
-use Rattle.pat_place.specs.Patterns.{IsPattern, PatternView, has}
+use Rattle.pat_place.specs.Patterns.{PatternView, has}
 use Rattle.pat_place.specs.Placements.{IsFree}
 use Rattle.pat_place.specs.Regions.{AreRegions}
-use Rattle.tab_check.specs.Entries.{HasNoRegion, HasRegion}
 use Rattle.tab_check.proofs.OneEntryLemmas.{none_past, region_of_mask}
 use Rattle.tab_file.specs.Tables.{slot_count}
 use Rattle.tab_runs.specs.Kinds.{AreKindsUpTo, AreMarked, TellRegions, TellRegionsOf, TellsRegion}
@@ -22,9 +20,6 @@ use Rattle.tab_runs.proofs.SetLemmas.{free_same, same_back, slot_same}
 use Rattle.tab_runs.proofs.TableLemmas.{same_masks}
 
 -- ---- one placement more
-
-pub kinds_start : (n w : ℕ) (p kinds : List ℕ) → ((i : ℕ) → get_or kinds i 0 ≡ 0) → AreKindsUpTo n w p 0 kinds
-kinds_start n w p kinds none = record { filled = λ c j l free low. absurd (omega arith); empty = λ c j past free low. none (free_below p c * w + j) }
 
 module _ (n w : ℕ) (p : List ℕ) (c : ℕ) (old : List ℕ) (kinds : AreKindsUpTo n w p c old) where
   -- a cell that a tile is in

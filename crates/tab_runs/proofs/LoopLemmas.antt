@@ -86,9 +86,6 @@ module _ (t : Table) (pat : IsPattern t.pattern) (p : List ℕ) (run : IsRun t.p
 -- ---- the tiles
 
 module _ (t : Table) (p old : List ℕ) where
-  pub among_start : IsTakenIn old old (IsStepAmong t p 0)
-  among_start = taken_none old (IsStepAmong t p 0) (λ place e some s. let l : s.index < 0 = s.low in omega arith)
-
   pub among_more : (mid new : List ℕ) (index : ℕ) → IsTakenIn old mid (IsStepAmong t p index) → IsTakenIn mid new (IsIndexStep t p index) → IsTakenIn old new (IsStepAmong t p (index + 1))
   among_more mid new index a b = taken_then old mid new (IsStepAmong t p index) (IsIndexStep t p index) (IsStepAmong t p (index + 1))
       (λ place e some s. record { index = s.index; low = (let l : s.index < index = s.low in omega arith); step = s.step })

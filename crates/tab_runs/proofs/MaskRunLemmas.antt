@@ -1,5 +1,5 @@
 -- The run of a mask's cells.
-use Rattle.std.proofs.Common.{◌≡◌, ℕ, ◌+◌, ◌*◌, ◌^◌, ◌<◌, ◌≤◌, true, length, sym, ◌∙◌, ap, arith}
+use Rattle.std.proofs.Common.{◌≡◌, ℕ, ◌+◌, ◌*◌, ◌^◌, ◌<◌, ◌≤◌, true, length, arith}
 use Rattle.std.specs.Prelude.{count_ones}
 use Rattle.puz_board.specs.Masks.{IsMaskOf, numbers_of}
 use Rattle.puz_board.proofs.BitLemmas.{in_below}

@@ -18,9 +18,8 @@ use Rattle.pat_place.proofs.ListLemmas.{all_at, at-has}
 use Rattle.pat_place.proofs.PatternLemmas.{has_from_all}
 use Rattle.pat_place.proofs.RankLemmas.{IsRank-one}
 use Rattle.pat_place.proofs.SlotLemmas.{slot_one}
-use Rattle.tab_check.specs.BadEntries.{IsBad, KeepsRule}
+use Rattle.tab_check.specs.BadEntries.{KeepsRule}
 use Rattle.tab_check.specs.Blocks.{IsLeastBadIn, first_of_block}
-use Rattle.tab_check.specs.Entries.{HasRegion}
 use Rattle.tab_check.specs.LocalRule.{IsGoalSlot, no_region, goal as goal_kind, other as other_kind}
 use Rattle.tab_check.proofs.BlockLemmas.{same_cells}
 use Rattle.tab_file.specs.Tables.{Table, slot_count}

@@ -2,13 +2,13 @@
 use Rattle.std.proofs.Common.{◌≡◌, ℕ, zero, suc, ◌+◌, ◌-◌, ◌*◌, ◌<◌, Bool, true, false, cond, eqb, not, List, [], ◌∷◌, ◌++◌, length, Some, inl, inr, refl, sym, ◌∙◌, ap, ap₂, arith, filter}
 use Rattle.std.specs.Prelude.{slice_get, ◌&&◌, ◌||◌}
 use Rattle.std.specs.List.{AllByRecursion, range_with_len}
-use Rattle.std.proofs.lemmas.Bool.{cases_eq, cases_Bool, both_ways, or_parts, eqb-false, ne_eqb, eq-eqb, true≢false, cond-true, cond-false}
+use Rattle.std.proofs.lemmas.Bool.{cases_eq, cases_Bool, both_ways, ne_eqb, eq-eqb, true≢false, cond-true, cond-false}
 use Rattle.std.proofs.lemmas.List.{length-append, length_push}
 use Rattle.std.proofs.lemmas.List.FromFn.{length-range_with_len}
 use Rattle.pat_place.specs.Patterns.{has, IsAscending}
 use Rattle.pat_place.specs.Placements.{IsApart, IsFree}
 use Rattle.pat_place.specs.Ranks.{without, lists_of, falling_factorial, IsRank}
-use Rattle.pat_place.proofs.ListLemmas.{Some-one, has_cases, has-filter, has-filter_not, has-get, has-range, in_range, apart_from_ascending, ascending-filter, ascending-range, filter-append, range-append}
+use Rattle.pat_place.proofs.ListLemmas.{Some-one, has_cases, has-filter, has-filter_not, has-get, in_range, apart_from_ascending, ascending-filter, ascending-range, filter-append, range-append}
 use Rattle.pat_place.proofs.RankLemmas.{IsRank-from, falling_more, get-below, in_all, length-without, rank_step, still_in}
 use Rattle.tab_runs.specs.Runs.{IsFirstRank, free_below, run_length, with_last}
 

@@ -20,7 +20,7 @@ use Rattle.tab_runs.specs.Runs.{IsRun, free_below, run_length, with_last}
 use Rattle.tab_runs.proofs.EntriesLemmas.{run_few}
 use Rattle.tab_runs.proofs.RunRanks.{first_some, free_below-low}
 use Rattle.tab_runs.proofs.RowLemmas.{few_entries, parts_one}
-use Rattle.tab_runs.proofs.RunLemmas.{open_free, placed_last, with_last-free}
+use Rattle.tab_runs.proofs.RunLemmas.{placed_last, with_last-free}
 
 -- ---- one column
 
@@ -43,9 +43,6 @@ module _ (m c before : ℕ) (regions : List ℕ) (x : ℕ) (old mid new : List �
     ];
     others = λ i out. there i (out x (omega arith)) ∙ column.others i (λ y l. out y (omega arith));
   }
-
-pub column_start : (m c before : ℕ) (regions old : List ℕ) → IsColumn m c before regions 0 old old
-column_start m c before regions old = record { filled = λ y l. absurd (omega arith); others = λ i out. refl }
 
 pub column_set : (m c before : ℕ) (regions : List ℕ) (x : ℕ) (old mid : List ℕ) → c < m → x * m + c < length mid → IsColumn m c before regions x old mid → (j : ℕ) → j < length regions → bit_at (get_or regions j 0) x ≡ 1
     → IsColumn m c before regions (x + 1) old (set mid (x * m + c) (before + j))

@@ -16,7 +16,7 @@ use Rattle.tab_runs.specs.Rows.{IsOpen, IsRow, place_of}
 use Rattle.tab_runs.specs.Runs.{AreRunEntries, IsRun, free_below, with_last}
 use Rattle.tab_runs.specs.Steps.{IsLastStep, IsOneStep, IsRowStep, IsRunStep, IsSomeLastStep, IsStepAmong, IsTileStep}
 use Rattle.tab_runs.proofs.RowLemmas.{place_one, row_open, slot_low, slot_of_open}
-use Rattle.tab_runs.proofs.RunLemmas.{open_free, open_moved, placed_last, run_moved, with_last-free}
+use Rattle.tab_runs.proofs.RunLemmas.{open_moved, placed_last, run_moved, with_last-free}
 
 module _ (t : Table) (pat : IsPattern t.pattern) (p : List ℕ) (run : IsRun t.pattern p) where
   -- ---- the byte that a row leads to is an entry

@@ -1,3 +1,4 @@
+pub mod Beside
 pub mod Checks
 pub mod Kinds
 pub mod Parts

@@ -4,6 +4,7 @@ ghost use Rattle.std.specs.Prelude.{◌≡◌, ℕ, ◌*◌, ◌<◌, ◌⊎◌,
 ghost use Rattle.std.specs.Int.{bit_at};
 ghost use Rattle.puz_board.specs.Masks.{IsMaskOf};
 ghost use Rattle.puz_board.specs.Cells.{Adjacent, step_of};
+ghost use Rattle.tab_runs.specs.Beside.{AreBesideAll};
 
 use crate::masks;
 use puz_board::{Move, Side, step};
@@ -21,7 +22,7 @@ fn with_step(mask: u32, side: Side, cell: u8, mv: Move) -> u32
 }
 
 /// The cells beside a cell.
-pub(crate) fn beside(side: Side, cell: u8) -> u32
+fn beside(side: Side, cell: u8) -> u32
     requires { cell < side * side }
     ensures { IsMaskOf result (Adjacent side cell) }
 {
@@ -30,4 +31,15 @@ pub(crate) fn beside(side: Side, cell: u8) -> u32
     let down = with_step(up, side, cell, Move::Down);
     let left = with_step(down, side, cell, Move::Left);
     with_step(left, side, cell, Move::Right)
+}
+
+/// The cells beside each cell.
+pub(crate) fn beside_all(side: Side) -> [u32; 25]
+    ensures { AreBesideAll side result }
+{
+    let mut masks = [0; 25];
+    for cell in 0..side.cells() {
+        masks[usize::from(cell)] = beside(side, cell);
+    }
+    masks
 }

@@ -12,6 +12,8 @@ mod rows;
 mod runs;
 mod set_rows;
 mod tables;
+#[cfg(test)]
+mod tests;
 
 pub use blocks::check_runs;
 pub use rows::RowTable;

@@ -13,7 +13,6 @@ ghost use Rattle.tab_runs.specs.Runs.{AreRunEntries, IsRun};
 ghost use Rattle.tab_runs.specs.StoredRows.{rows_for};
 ghost use Rattle.tab_runs.specs.Steps.{AreLeastNear, IsBesideStep, IsIndexStep, IsPairStep, IsSomeLastStep, IsStepAmong, IsTakenIn, IsTileStep};
 
-use crate::beside::beside;
 use crate::kernels::{take_in, take_one};
 use crate::masks;
 use crate::rows::RowTable;
@@ -87,7 +86,8 @@ fn take_index(
     requires index { index < length cells.now }
     ensures { OnTrue result (IsTakenIn mins.old mins.new (IsIndexStep table.now cells.now index)) }
 {
-    let mut targets = beside(table.pattern().side(), cells[index]) & !set;
+    let _pattern = table.pattern();
+    let mut targets = rows.beside(cells[index]) & !set;
     'targets: while targets != 0 {
         let to = masks::first_of(targets);
         if !take_tile(table, file, rows, cells, set, index, to, mins) {
@@ -178,7 +178,8 @@ fn take_beside(
     requires others { (x : ℕ) → bit_at mask x ≡ 1 → IsFree table.now.pattern.side cells.now x × (x ≢ a) }
     ensures { OnTrue result (IsTakenIn mins.old mins.new (IsBesideStep table.now cells.now a mask 0)) }
 {
-    let mut targets = beside(table.pattern().side(), a) & mask;
+    let _pattern = table.pattern();
+    let mut targets = rows.beside(a) & mask;
     'targets: while targets != 0 {
         let b = masks::first_of(targets);
         if !take_pair(table, own, rows, cells, set, number, a, b, mins) {

@@ -1,7 +1,7 @@
-use Rattle.std.proofs.Common.{◌≡◌, ◌+◌, ◌-◌, ◌*◌, ◌<◌, ◌≤◌, length, sym, ◌∙◌, ap, subst, arith}
+use Rattle.std.proofs.Common.{◌≡◌, ◌+◌, ◌-◌, ◌*◌, ◌<◌, length, sym, ◌∙◌, ap, subst, arith}
 use Rattle.pat_place.specs.Patterns.{width}
 use Rattle.tab_check.proofs.BlockLemmas.{number_fits}
-use Rattle.tab_file.specs.Tables.{placement_count, slot_count}
+use Rattle.tab_file.specs.Tables.{slot_count}
 use Rattle.tab_runs.specs.Kinds.{TellRegionsOf}
 use Rattle.tab_runs.specs.Runs.{run_length}
 use Rattle.tab_runs.specs.StoredRows.{entries_of_run}

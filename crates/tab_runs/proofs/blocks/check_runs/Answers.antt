@@ -1,4 +1,4 @@
-use Rattle.std.proofs.Common.{◌≡◌, ◌+◌, ◌*◌, ◌<◌, ◌≤◌, ◌∙◌, ap, subst, arith}
+use Rattle.std.proofs.Common.{◌≡◌, ◌*◌, ◌∙◌, ap, subst, arith}
 use Rattle.std.specs.Prelude.{MatchOption}
 use Rattle.tab_check.specs.Blocks.{first_of_block}
 use Rattle.tab_check.proofs.BlockLemmas.{first_fits, keeps_all}

@@ -1,4 +1,4 @@
-use Rattle.std.proofs.Common.{◌≡◌, ◌<◌, length, sym, subst, arith}
+use Rattle.std.proofs.Common.{◌<◌, length, sym, subst, arith}
 use Rattle.pat_place.specs.Placements.{IsFree}
 use Rattle.pat_place.specs.Ranks.{placements}
 use Rattle.tab_file.specs.Tables.{placement_count}

@@ -1,4 +1,4 @@
-use Rattle.std.proofs.Common.{◌≡◌, ◌+◌, ◌-◌, ◌*◌, ◌<◌, ◌≤◌, true, [], length, refl, sym, ◌∙◌, ap, ap₂, subst, arith}
+use Rattle.std.proofs.Common.{◌≡◌, ◌+◌, ◌*◌, ◌<◌, ◌≤◌, true, [], length, refl, sym, ◌∙◌, ap, ap₂, subst, arith}
 use Rattle.std.proofs.lemmas.Bool.{both_ways}
 use Rattle.puz_board.proofs.CellLemmas.{few_cells}
 use Rattle.pat_place.specs.Patterns.{has}
@@ -8,7 +8,7 @@ use Rattle.pat_place.proofs.CountLemmas.{few_placements}
 use Rattle.tab_file.specs.Tables.{placement_count, slot_count}
 use Rattle.tab_runs.specs.Kinds.{AreKindsUpTo, AreMarked}
 use Rattle.tab_runs.specs.SetRows.{AreRowsUpTo, IsColumn}
-use Rattle.tab_runs.specs.Runs.{free_below, run_length}
+use Rattle.tab_runs.specs.Runs.{free_below}
 use Rattle.tab_runs.proofs.EntriesLemmas.{are_numbers, run_few}
 use Rattle.tab_runs.proofs.KindLemmas.{kinds_more, kinds_skip}
 use Rattle.tab_runs.proofs.RunRanks.{free_below-free, free_below-low, free_below-taken, free_below-zero}

@@ -1,7 +1,7 @@
-use Rattle.std.proofs.Common.{◌≡◌, ◌*◌, length}
+use Rattle.std.proofs.Common.{◌≡◌}
 use Rattle.tab_file.specs.Tables.{slot_count}
 use Rattle.tab_runs.specs.Kinds.{AreKindsUpTo}
-use Rattle.tab_runs.specs.Runs.{free_below, run_length}
+use Rattle.tab_runs.specs.Runs.{free_below}
 use Rattle.tab_runs.specs.SetRows.{AreRowsUpTo}
 use Rattle.tab_runs.proofs.set_rows.fill_rows.Given as goal
 
