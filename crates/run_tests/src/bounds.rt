@@ -78,7 +78,7 @@ fn digest_of(name: &str) -> &'static str {
 }
 
 /// A run of these words, which one space parts, by so many workers, who pass a gate.
-fn checked_by<'w, H: Threads + Wait, G: Gate + Sync>(
+fn checked_by<'w, H: Threads + Wait + Sync, G: Gate + Sync>(
     rt: &H,
     alloc: Global,
     words: &'w str,
@@ -109,7 +109,7 @@ fn lines(alloc: Global, words: &str, line: &str) -> Result<String, AllocError> {
 }
 
 /// A run of these words says this line below the digests, with this status, whether 1, 2, 7 or 64 workers check.
-fn expect<H: Threads + Wait>(
+fn expect<H: Threads + Wait + Sync>(
     rt: &H,
     alloc: Global,
     words: &str,

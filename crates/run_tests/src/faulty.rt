@@ -50,7 +50,7 @@ fn failing_from(alloc: Global, call: usize, how: Failing) -> SampleWriter {
 }
 
 /// A run on a shelf with a table, over this output.
-fn ran_over<H: Threads + Wait>(
+fn ran_over<H: Threads + Wait + Sync>(
     rt: &H,
     alloc: Global,
     words: &[&str],

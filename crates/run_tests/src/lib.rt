@@ -10,6 +10,8 @@ mod faulty;
 #[cfg(test)]
 mod limits;
 #[cfg(test)]
+mod makers;
+#[cfg(test)]
 mod replays;
 #[cfg(test)]
 mod runs;

@@ -64,7 +64,7 @@ pub fn owned(alloc: Global, words: &[&str]) -> Result<Vec<String>, AllocError> {
 }
 
 /// A run of these words over a shelf and a reader, whose workers pass a gate.
-pub fn ran_by<H: Threads + Wait, S: Shelf, R: Read, G: Gate + Sync>(
+pub fn ran_by<H: Threads + Wait + Sync, S: Shelf, R: Read, G: Gate + Sync>(
     rt: &H,
     alloc: Global,
     words: &[&str],
@@ -80,7 +80,7 @@ pub fn ran_by<H: Threads + Wait, S: Shelf, R: Read, G: Gate + Sync>(
 }
 
 /// A run of these words over a shelf and a reader.
-pub fn ran<H: Threads + Wait, S: Shelf, R: Read>(
+pub fn ran<H: Threads + Wait + Sync, S: Shelf, R: Read>(
     rt: &H,
     alloc: Global,
     words: &[&str],
@@ -91,7 +91,7 @@ pub fn ran<H: Threads + Wait, S: Shelf, R: Read>(
 }
 
 /// A run of `replay` on standard input with these bytes.
-pub fn replayed<H: Threads + Wait>(
+pub fn replayed<H: Threads + Wait + Sync>(
     rt: &H,
     alloc: Global,
     input: &[u8],
@@ -102,7 +102,7 @@ pub fn replayed<H: Threads + Wait>(
 }
 
 /// A run of `table` by so many workers, who pass a gate, on a file with these bytes.
-pub fn checked_by<H: Threads + Wait, G: Gate + Sync>(
+pub fn checked_by<H: Threads + Wait + Sync, G: Gate + Sync>(
     rt: &H,
     alloc: Global,
     file: &[u8],
@@ -122,7 +122,7 @@ pub fn checked_by<H: Threads + Wait, G: Gate + Sync>(
 }
 
 /// A run on the file says this line below this digest, with this status, whether 1, 2, 7 or 64 workers check it.
-pub fn expect_line<H: Threads + Wait>(
+pub fn expect_line<H: Threads + Wait + Sync>(
     rt: &H,
     alloc: Global,
     file: &[u8],

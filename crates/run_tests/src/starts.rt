@@ -12,7 +12,7 @@ use std::thread::Threads;
 use work_run::OpenGate;
 
 /// A run on these arguments.
-fn started<H: Threads + Wait>(
+fn started<H: Threads + Wait + Sync>(
     rt: &H,
     alloc: Global,
     arguments: io::Result<Vec<String>>,
@@ -82,7 +82,7 @@ fn help_goes_to_the_output_and_mistakes_to_the_errors(rt: HostRuntime) -> Result
     );
     assert!(rt;
         help.out.starts_with(
-            b"before\nChecks claims about sliding-tile puzzles\n\nUsage: pdb_cli [COMMAND]\n"
+            b"before\nChecks claims about sliding-tile puzzles, and makes tables and logs\n\nUsage: pdb_cli [COMMAND]\n"
         )
     );
 

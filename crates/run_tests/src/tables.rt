@@ -14,7 +14,7 @@ use std::thread::Threads;
 type Case<'a> = (&'a [u8], &'a str, &'a str);
 
 /// Runs on these files say their lines, with this status.
-fn expect_lines<H: Threads + Wait>(
+fn expect_lines<H: Threads + Wait + Sync>(
     rt: &H,
     alloc: Global,
     cases: &[Case<'_>],
