@@ -93,11 +93,13 @@ pub(crate) fn verify_table<H: Threads + Wait, G: Gate + Sync>(
 ) -> Result<Verdict, Fault>
     ensures { IsAnswerTo (table_file table.now) result }
 {
-    let table = check_table(workers.rt, alloc, table, workers.count, workers.gate).map_err(
-        table_fault,
-    )?;
-    let pattern = table.pattern();
-    Ok(Verdict::Exact(pattern.side(), pattern.mask(), table.census()))
+    match check_table(workers.rt, alloc, table, workers.count, workers.gate) {
+        Ok(table) => {
+            let pattern = table.pattern();
+            Ok(Verdict::Exact(pattern.side(), pattern.mask(), table.census()))
+        }
+        Err(fault) => Err(table_fault(fault)),
+    }
 }
 
 /// A refusal of a table file, or want of memory.

@@ -240,7 +240,7 @@ module _ (side mask : Text) (s : HasNoDash side) (m : HasNoDash mask) where
   pub no_side : accepted_side side ≡ false → (behind : List Text) → wrong (side ∷ mask ∷ behind) ≡ kind.ValueValidation ∷ []
   no_side e behind =
       rw (one_word start (at_side nothing side) side (mask ∷ behind) (side_turn side s nothing true refl) (side_step side s nothing)
-          ∙ stops (at_side nothing side) mask behind kind.ValueValidation (mask_turn side mask m nothing false e)) refl
+      ∙ stops (at_side nothing side) mask behind kind.ValueValidation (mask_turn side mask m nothing false e)) refl
 
   pub no_name : accepted_side side ≡ true → (takes : Bool) → accepted_mask mask ≡ takes → wrong (side ∷ mask ∷ []) ≡ (if takes then kind.MissingRequiredArgument ∷ [] else kind.ValueValidation ∷ [])
   unfolding walk_fault

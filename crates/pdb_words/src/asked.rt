@@ -6,7 +6,10 @@ pub enum Request<'a> {
     /// Whether the moves of a puzzle text solve its board: the text of this file, or of standard input.
     Replay(Option<&'a str>),
     /// Whether the table file of this name is exact, checked by so many workers: 1 to 64.
-    Table { file: &'a str, workers: u8 },
+    Table {
+        file: &'a str,
+        workers: u8,
+    },
     /// Whether a log proves that no solution of a board has fewer moves than its bound.
     Bound(LogCheck<'a>),
     /// Whether a log proves that the moves of a puzzle text are a shortest solution of its board.

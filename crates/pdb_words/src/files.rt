@@ -46,7 +46,10 @@ pub(crate) fn with_log<'a>(
 }
 
 /// A command with one more argument.
-pub(crate) fn with_argument<'a>(command: Command<'a>, arg: Arg<'a>) -> Result<Command<'a>, AllocError>
+pub(crate) fn with_argument<'a>(
+    command: Command<'a>,
+    arg: Arg<'a>,
+) -> Result<Command<'a>, AllocError>
     requires { arg.global ≡ false }
     ensures app { IfOk result (λ c. app_of c ≡ with_rule (app_of command.entry) (rule_of arg.entry)) }
     ensures local { IfOk result (λ c. (out-Command c).has_globals ≡ (out-Command command.entry).has_globals) }

@@ -240,7 +240,16 @@ fn words_ask_for_a_table_to_be_made(rt: HostRuntime) -> Result<(), Fail> {
         match read_words(alloc, words.as_slice()) {
             Ok(found) => {
                 let out = "o";
-                assert!(rt; found == Request::MakeTable { side, mask, out, workers }, "{found:?}");
+                assert!(rt;
+                    found
+                        == Request::MakeTable {
+                            side,
+                            mask,
+                            out,
+                            workers
+                        },
+                    "{found:?}"
+                );
             }
             Err(fault) => assert!(rt; false, "{fault}"),
         }
@@ -385,7 +394,10 @@ fn mistakes_are_explained(rt: HostRuntime) -> Result<(), Fail> {
             "4294967296 is not in 0..=4294967295",
         ),
         (&["make-table", "2", "14"], "<OUT>"),
-        (&["make-table", "2", "14", "o", "p"], "unexpected argument 'p'"),
+        (
+            &["make-table", "2", "14", "o", "p"],
+            "unexpected argument 'p'",
+        ),
         (
             &["make-table", "2", "14", "o", "--budget", "5"],
             "unexpected argument '--budget'",

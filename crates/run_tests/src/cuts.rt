@@ -11,12 +11,16 @@ use std::thread::Threads;
 use work_run::OpenGate;
 
 /// A run of `table` by one worker.
-fn checked<H: Threads + Wait>(rt: &H, alloc: Global, file: &[u8]) -> Result<Ended, AllocError> {
+fn checked<H: Threads + Wait + Sync>(
+    rt: &H,
+    alloc: Global,
+    file: &[u8],
+) -> Result<Ended, AllocError> {
     checked_by(rt, alloc, file, "1", &OpenGate)
 }
 
 /// A run of `bound` over a board, one table and its set.
-fn bounded<'f, H: Threads + Wait>(
+fn bounded<'f, H: Threads + Wait + Sync>(
     rt: &H,
     alloc: Global,
     board: &'f [u8],
