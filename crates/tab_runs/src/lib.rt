@@ -11,6 +11,8 @@ mod numbers;
 mod rows;
 mod runs;
 mod set_rows;
+#[cfg(test)]
+mod table_tests;
 mod tables;
 #[cfg(test)]
 mod tests;
