@@ -3,8 +3,8 @@
 #
 #     benches/measure_logs.sh >measured.md
 #
-# Tables and logs are made by benches/make_table.c and benches/make_log.c in a temporary folder. The board is the end of
-# a random walk; each log proves the length of its shortest solution, one in a single lemma with a tree of 10 MB, the
+# The tables are made by `pdb_cli make-table`, the logs by benches/make_log.c, in a temporary folder. The board is the
+# end of a random walk; each log proves the length of its shortest solution, one in a single lemma with a tree of 10 MB, the
 # other in about 2,800 lemmas, which workers share. The program has to be built: it is out/pdb_cli, or the one that
 # PROGRAM names. Each run is repeated 7 times, or as often as REPEATS says.
 #
@@ -41,10 +41,9 @@ fail() {
 # The files, all in the temporary folder, where the script stands from then on.
 make_files() {
     local mask board
-    cc -O2 -o make_table "$root/benches/make_table.c"
     cc -O2 -march=x86-64-v2 -o make_log "$root/benches/make_log.c"
     for mask in "${masks[@]}"; do
-        ./make_table "$side" "$mask" "table $mask"
+        "$program" make-table "$side" "$mask" "table $mask" >/dev/null
     done
     tables=("${masks[@]/#/table }")
     echo set "${!masks[@]}" >sets

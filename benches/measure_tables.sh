@@ -4,7 +4,7 @@
 #
 #     benches/measure_tables.sh >measured.md
 #
-# The tables are made by benches/make_table.c in a temporary folder. The program has to be built: it is
+# The tables are made by `pdb_cli make-table` in a temporary folder. The program has to be built: it is
 # out/pdb_cli, or the one that PROGRAM names. Each run is repeated 7 times, or as often as REPEATS says.
 #
 # What is measured:
@@ -41,7 +41,7 @@ fail() {
 make_files() {
     local _ side mask
     read -r _ side _ mask <<<"$1"
-    "$work/make_table" "$side" "$mask" "$work/$1"
+    "$program" make-table "$side" "$mask" "$work/$1" >/dev/null
     cp "$work/$1" "$work/$1 refused"
     printf '\1' | dd of="$work/$1 refused" bs=1 seek=7 conv=notrunc status=none
 }
@@ -133,7 +133,6 @@ bad_row() {
 load=$(cut -d ' ' -f 1 /proc/loadavg)
 work=$(mktemp -d)
 trap 'rm -r "$work"' EXIT
-cc -O2 -o "$work/make_table" "$root/benches/make_table.c"
 for table in "${tables[@]}"; do
     make_files "$table"
 done
