@@ -162,6 +162,20 @@ fn a_slot_without_a_region_is_found_in_any_run(rt: HostRuntime) -> Result<(), Fa
 }
 
 #[test]
+fn a_changed_entry_of_the_eight_puzzle_is_found_in_any_run(rt: HostRuntime) -> Result<(), Fail> {
+    let file = exact_table(rt.alloc(), &[1, 2, 3, 4, 5, 6, 7, 8])?;
+    // Two entries are a run: these are of the first, the middle and the last. In the first two the blank is in cell 8, so
+    // a move takes a tile to a greater cell, and both entries one move away come later. The last one has the tiles in the
+    // cells 8, 7 and so on. With a zero there both entries one move away would have to be 1, and the goal is farther:
+    // the lesser of the two is that of tile 6 in cell 0, where 21 entries are left behind it.
+    for (number, byte, least) in [(0, 254, 0), (181_440, 254, 181_440), (362_879, 0, 362_858)] {
+        let changed = with_entry(rt.alloc(), &file, number, byte)?;
+        assert_eq!(rt; census(&rt, &changed), bad_entry(least));
+    }
+    Ok(())
+}
+
+#[test]
 fn each_block_of_a_large_table_is_entered_once(rt: HostRuntime) -> Result<(), Fail> {
     let file = exact_table(rt.alloc(), &[1, 2, 3, 4, 5, 6, 7, 8])?;
     for workers in [1, 2, 7, 64] {
