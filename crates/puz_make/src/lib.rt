@@ -8,6 +8,8 @@ mod grids;
 mod layers;
 mod logs;
 mod moves;
+mod places;
+mod positions;
 mod regions;
 mod searches;
 mod tables;

@@ -1,17 +1,17 @@
 //! Shortest solutions by iterative deepening (Korf 1985), and the logs that prove them shortest.
 
-ghost use Rattle.std.specs.Prelude.{◌≡◌, ◌<◌, IfOk, length};
+ghost use Rattle.std.specs.Prelude.{◌≡◌, ◌<◌, IfOk};
 ghost use Rattle.std.specs.Bool.{OnFalse};
-ghost use Rattle.puz_board.specs.Boards.{IsBoardOf, side_of};
+ghost use Rattle.puz_board.specs.Boards.{side_of};
 
 use crate::faults::MakeFault;
 use crate::logs::{log_of, put};
 use crate::moves::{MOVES, letter_of};
-use puz_board::{Board, Move};
+use crate::positions::{Leaf, NOWHERE, Position};
+use puz_board::Board;
 use set_sum::Bundle;
 use std::alloc::Global;
 use std::mem;
-use tab_check::Count;
 
 /// The byte of a branch.
 const BRANCH: u8 = 0;
@@ -43,14 +43,16 @@ pub fn solve(
 ) -> Result<Found, MakeFault>
     requires { side_of board.now ≡ bundle.now.side }
 {
-    let _side = board.side();
-    let root = best_leaf(bundle, board);
-    let Some(mut bound) = root.sum else {
+    let position = Position::new(alloc, bundle, board)?;
+    if position.is_hopeless() {
         return Err(MakeFault::K2);
-    };
+    }
+    let root = position.best_leaf();
+    let mut bound = root.sum;
     let mut proof = Vec::new(alloc);
     put(&mut proof, root.byte())?;
     let mut search = Search {
+        position,
         budget,
         spare: u16::MAX,
         tree: Vec::new(alloc),
@@ -60,7 +62,7 @@ pub fn solve(
         if threshold < bound {
             continue;
         }
-        if is_solved(bundle, &mut search, board, None, threshold + 1)? {
+        if search.is_solved(NOWHERE, threshold + 1)? {
             search.moves.reverse();
             return Ok(Found {
                 moves: search.moves,
@@ -75,7 +77,8 @@ pub fn solve(
 
 /// What a search keeps.
 #[derive(Drop)]
-struct Search {
+struct Search<'b, 'a> {
+    position: Position<'b, 'a>,
     /// How many more boards may be expanded.
     budget: u64,
     /// The least by which the sum of a leaf of this threshold is above what remains.
@@ -86,7 +89,7 @@ struct Search {
     moves: Vec<u8>,
 }
 
-impl Search {
+impl Search<'_, '_> {
     /// Begins the next threshold, in the memory of an older tree. Answers the tree of this one.
     fn begin_again(&mut self, mut older: Vec<u8>) -> Vec<u8> {
         older.clear();
@@ -116,83 +119,38 @@ impl Search {
     fn is_cut(&mut self, leaf: &Leaf, remaining: u16) -> Result<bool, MakeFault>
         ensures { IfOk result (λ cut. OnFalse cut (0 < remaining)) }
     {
-        if let Some(sum) = leaf.sum {
-            if sum < remaining {
-                return Ok(false);
-            }
-            self.spare = self.spare.min(sum - remaining);
+        if leaf.sum < remaining {
+            return Ok(false);
         }
+        self.spare = self.spare.min(leaf.sum - remaining);
         self.write(leaf.byte())?;
         Ok(true)
     }
-}
 
-/// Whether a board, reached by a move, has a solution of fewer moves than remain. Where it has none, the tree that refutes
-/// it is written, and otherwise the letters of its moves.
-fn is_solved(
-    bundle: &Bundle<'_>,
-    search: &mut Search,
-    board: &Board,
-    arriving: Option<Move>,
-    remaining: u16,
-) -> Result<bool, MakeFault>
-    requires { IsBoardOf bundle.now.side board.now }
-{
-    let leaf = best_leaf(bundle, board);
-    if search.is_cut(&leaf, remaining)? {
-        return Ok(false);
-    }
-    if board.is_goal() {
-        return Ok(true);
-    }
-    search.expand()?;
-    for mv in &MOVES {
-        if arriving == Some(mv.reverse()) {
-            continue;
+    /// Whether the board, to which the blank came from a cell, has a solution of fewer moves than remain. Where it has none,
+    /// the tree that refutes it is written, and otherwise the letters of its moves.
+    fn is_solved(&mut self, came_from: u8, remaining: u16) -> Result<bool, MakeFault> {
+        let leaf = self.position.best_leaf();
+        if self.is_cut(&leaf, remaining)? {
+            return Ok(false);
         }
-        if let Some(after) = board.apply(*mv) {
-            if is_solved(bundle, search, &after, Some(*mv), remaining - 1)? {
-                put(&mut search.moves, letter_of(*mv))?;
+        if leaf.sum == 0 && self.position.is_goal() {
+            return Ok(true);
+        }
+        self.expand()?;
+        let blank = self.position.blank();
+        let steps = self.position.steps();
+        for (mv, to) in MOVES.iter().zip(&steps) {
+            if *to == NOWHERE || *to == came_from {
+                continue;
+            }
+            let before = self.position.slide(*to);
+            if self.is_solved(blank, remaining - 1)? {
+                put(&mut self.moves, letter_of(*mv))?;
                 return Ok(true);
             }
+            self.position.slide_back(blank, &before);
         }
-    }
-    Ok(false)
-}
-
-/// What a set says of a board.
-#[derive(Clone, Copy)]
-struct Leaf {
-    set: u8,
-    /// A number of moves that no solution is below; none where the board has no solution.
-    sum: Option<u16>,
-}
-
-impl Leaf {
-    /// The byte of the leaf in a tree.
-    fn byte(&self) -> u8 {
-        self.set.wrapping_add(1)
-    }
-}
-
-/// What the first set says that says the most of a board.
-fn best_leaf(bundle: &Bundle<'_>, board: &Board) -> Leaf
-    requires { IsBoardOf bundle.now.side board.now }
-{
-    let _side = board.side();
-    let mut best = 0;
-    let mut most = 0;
-    for set in 0..bundle.sets() {
-        match bundle.sum(set, board) {
-            Count::Finite(sum) => if sum > most {
-                best = set;
-                most = sum;
-            },
-            Count::Never => return Leaf { set, sum: None },
-        }
-    }
-    Leaf {
-        set: best,
-        sum: Some(most),
+        Ok(false)
     }
 }

@@ -1,6 +1,6 @@
 //! Bundles of tables, and the sums of their sets.
 
-ghost use Rattle.std.specs.Prelude.{◌≡◌, ◌<◌, Err, IfErr, IfOk, MatchOption, Ok, length, map};
+ghost use Rattle.std.specs.Prelude.{◌≡◌, ◌<◌, ◌≤◌, Err, IfErr, IfOk, MatchOption, Ok, length, map};
 ghost use Rattle.std.specs.List.{AllByRecursion};
 ghost use Rattle.puz_board.specs.Boards.{side_of};
 ghost use Rattle.set_sum.specs.Bounds.{BoundsSolutions};
@@ -79,12 +79,29 @@ impl<'a> Bundle<'a> {
         self.tables.len() as u8
     }
 
+    /// The table with a number.
+    pub fn table(&self, number: u8) -> &CheckedTable<'a>
+        requires { number < self.now.tables }
+        ensures { result.now.pattern.side ≡ self.now.side }
+    {
+        &self.tables[usize::from(number)]
+    }
+
     /// How many sets there are: 1 to 16. They are numbered from 0, by their lines.
     pub fn sets(&self) -> u8
         ensures sets { result ≡ length self.now.sets }
         ensures bundle { IsBundle self.now }
     {
         self.sets.len() as u8
+    }
+
+    /// The numbers of the tables of a set, ascending.
+    pub fn set(&self, set: u8) -> &[u8]
+        requires { set < length self.now.sets }
+        ensures there { AllByRecursion (λ number. number < self.now.tables) result.now }
+        ensures few { length result.now ≤ 16 }
+    {
+        self.sets[usize::from(set)].as_slice()
     }
 
     /// The sum of what the tables of a set tell of a board, and `Never` where one of them does.

@@ -175,6 +175,14 @@ impl<'a> CheckedTable<'a> {
         slot_of(placement, cell)
     }
 
+    /// The entries, which are all bytes behind the header: rank by rank, and slot by slot for each rank.
+    pub fn entries(&self) -> &'a [u8]
+        ensures entries { result.now ≡ self.now.entries }
+        ensures exact { IsExactTable self.now }
+    {
+        self.view.entries()
+    }
+
     /// How many entries there are, how many of them say that no walk leads home, and the greatest count.
     pub fn census(&self) -> Census
         ensures { IsCensusOf self.now.entries result }
