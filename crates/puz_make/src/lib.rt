@@ -1,16 +1,19 @@
 //! Makers of tables and of logs. Nothing here is trusted: what they make is for the checkers.
 #![tactic(auto)]
 
-mod beside;
 mod entries;
 mod faults;
 mod grids;
 mod layers;
 mod logs;
 mod moves;
-mod regions;
+mod reached;
 mod searches;
+mod sets;
+mod shapes;
+mod steps;
 mod tables;
+mod turns;
 mod walks;
 
 pub use entries::entry_of;
