@@ -1,10 +1,6 @@
 //! What the bytes of a table say, and where they stand.
 
-ghost use Rattle.std.specs.Prelude.{◌≡◌, ◌^◌, ◌<◌, ◌≤◌, ◌↔◌, IsSome, IfSome};
-ghost use Rattle.pat_place.specs.Placements.{IsPlacement};
-ghost use Rattle.tab_file.specs.Tables.{entry_count, slot_count};
-
-use pat_place::{Pattern, Placement, rank};
+ghost use Rattle.std.specs.Prelude.{◌≡◌, ◌≤◌, ◌↔◌, IsSome, IfSome};
 
 /// How many tiles a pattern has at most.
 pub(crate) const MOST_TILES: usize = 8;
@@ -28,18 +24,4 @@ pub fn entry_of(count: u32) -> Option<u8>
     } else {
         None
     }
-}
-
-/// The number of the entry of a placement and a slot.
-pub(crate) fn number_of(pattern: &Pattern, placement: &Placement, slot: u8) -> u64
-    requires pattern { placement.now.pattern ≡ pattern.now }
-    requires placement { IsPlacement placement.now }
-    requires slot { slot < slot_count pattern.now }
-    ensures there { result < entry_count pattern.now }
-    ensures few { result < 2 ^ 32 }
-{
-    let width = u64::from(pattern.width());
-    let slot = u64::from(slot);
-    let _size = pattern.size();
-    rank(placement) * width + slot
 }

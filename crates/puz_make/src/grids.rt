@@ -15,6 +15,8 @@ pub(crate) struct Grid {
     pub(crate) size: u8,
     /// How many slots each placement has.
     pub(crate) width: usize,
+    /// How many entries a run has: the placements that differ in the last tile alone.
+    pub(crate) run: usize,
     /// All cells.
     pub(crate) all: u32,
     /// By how much the number of an entry grows where a tile goes to the next cell that the tiles before it leave.
@@ -35,10 +37,13 @@ impl Grid {
             4 => (0xFFFF, 0b0001_0001_0001_0001),
             _ => (0x1FF_FFFF, 0b00001_00001_00001_00001_00001),
         };
+        let run = usize::from(pattern.side().cells()) + 1 - usize::from(pattern.size());
+        let width = usize::from(pattern.width());
         Grid {
             side,
             size: pattern.size(),
-            width: usize::from(pattern.width()),
+            width,
+            run: run * width,
             all,
             weights: weights(pattern),
             right: all & !first_column,
@@ -80,6 +85,16 @@ impl Grid {
 #[inline]
 pub(crate) fn mask_of(cell: u8) -> u32 {
     1u32.wrapping_shl(u32::from(cell))
+}
+
+/// The cell of a mask that has so many cells of it before it.
+#[inline]
+pub(crate) fn cell_at(mask: u32, place: u32) -> u8 {
+    let mut rest = mask;
+    for _ in 0..place {
+        rest &= rest.wrapping_sub(1);
+    }
+    rest.trailing_zeros() as u8
 }
 
 /// How many entries stand between two placements of which one has a tile in the next cell that is left for it.

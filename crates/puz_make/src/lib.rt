@@ -1,7 +1,6 @@
 //! Makers of tables and of logs. Nothing here is trusted: what they make is for the checkers.
 #![tactic(auto)]
 
-mod beside;
 mod entries;
 mod faults;
 mod grids;
@@ -10,9 +9,13 @@ mod logs;
 mod moves;
 mod places;
 mod positions;
-mod regions;
+mod reached;
 mod searches;
+mod sets;
+mod shapes;
+mod steps;
 mod tables;
+mod turns;
 mod walks;
 
 pub use entries::entry_of;
