@@ -16,6 +16,9 @@ const NO_REGION_ENTRY: u8 = 254;
 /// The entry from which no walk leads home.
 const NO_WAY_HOME: u8 = 255;
 
+/// How many bytes a short vector has.
+const FEW: usize = 16;
+
 /// The kind of a slot for which the placement has no region.
 pub const WITHOUT_REGION: u8 = 0;
 
@@ -33,6 +36,10 @@ pub fn first_bad(entries: &[u8], mins: &[u8], kinds: &[u8]) -> Option<usize>
     ensures { MatchOption result (AllKeepRule entries.now mins.now kinds.now) (IsFirstBad entries.now mins.now kinds.now) }
 {
     let place = kept_by_lanes::<LANES>(entries, mins, kinds, 0);
+    let place = kept_by_lanes::<FEW>(entries, mins, kinds, place);
+    // Some places once more, so that few slices have places left for one lane.
+    let last = entries.len().saturating_sub(FEW);
+    let place = kept_by_lanes::<FEW>(entries, mins, kinds, place.min(last));
     let place = kept_by_lanes::<1>(entries, mins, kinds, place);
     (place < entries.len()).then_some(place)
 }

@@ -1,9 +1,6 @@
 -- Which slots of a run's placements have a region.
-use Rattle.std.proofs.Common.{◌≡◌, ◌≢◌, ℕ, ◌+◌, ◌-◌, ◌*◌, ◌<◌, ◌≤◌, true, List, [], ◌∷◌, ◌++◌, length, get_or, take, drop, inl, inr, sym, ◌∙◌, ap, subst, arith, length-append, length-drop}
+use Rattle.std.proofs.Common.{◌≡◌, ◌≢◌, ℕ, ◌+◌, ◌-◌, ◌*◌, ◌<◌, ◌≤◌, true, List, length, get_or, inl, inr, sym, ◌∙◌, ap, subst, arith}
 use Rattle.std.proofs.lemmas.Bool.{cases_eq, cases_lt}
-use Rattle.std.proofs.lemmas.List.{drop-append-le, get_or_append_left, get_or_at, length_push, take-append-le, take_all}
-use Rattle.std.proofs.Math.Nat.{mul-le-mul_right}
-use Rattle.std.proofs.Math.Seq.{drop-append-add}
 use Rattle.puz_board.specs.Masks.{IsMaskOf}
 use Rattle.pat_place.specs.Patterns.{PatternView, has}
 use Rattle.pat_place.specs.Placements.{IsFree}
@@ -12,7 +9,7 @@ use Rattle.tab_check.proofs.OneEntryLemmas.{none_past, region_of_mask}
 use Rattle.tab_file.specs.Tables.{slot_count}
 use Rattle.tab_runs.specs.Kinds.{AreKindsUpTo, AreMarked, TellRegions, TellRegionsOf, TellsRegion}
 use Rattle.tab_runs.specs.Runs.{IsRun, SameCells, free_below, run_length, with_last}
-use Rattle.tab_runs.specs.StoredRows.{AreAllKinds, entries_of_run}
+use Rattle.tab_runs.specs.StoredRows.{entries_of_run}
 use Rattle.tab_runs.proofs.RowLemmas.{free_below-same, parts_one}
 use Rattle.tab_runs.proofs.RunLemmas.{same_with_last}
 use Rattle.tab_runs.proofs.RunRanks.{free_below-one}
@@ -82,25 +79,5 @@ tells_same n w p q same kinds tells c j free low =
 pub entries_same : (p : PatternView) (cells : List ℕ) → IsRun p cells → run_length p.side cells * slot_count p ≡ entries_of_run p.side (length p.tiles)
 entries_same p cells run = ap (λ k. k * slot_count p) (let s = run.size in let e : p.side * p.side - length cells ≡ p.side * p.side + 1 - length p.tiles = omega arith in e)
 
-pub kinds_push : (n w len : ℕ) (masks kinds p more : List ℕ) (mask : ℕ) → AreAllKinds n w len masks kinds → IsMaskOf mask (λ c. has p c ≡ true) → TellRegions n w p more → length more ≡ len → AreAllKinds n w len (masks ++ mask ∷ []) (kinds ++ more)
-kinds_push n w len masks kinds p more mask are is tells long = record {
-  size =
-      length-append kinds more ∙
-      (let s = are.size in let e : length kinds + length more ≡ (length masks + 1) * len = omega arith in e) ∙
-      ap (λ k. k * len) (sym (length_push masks mask));
-  each = λ number low. elim (cases_eq number (length masks)) [
-    | inl e ↦
-        let at : number * len ≡ length kinds + 0 = ap (λ k. k * len) e ∙ (let s = are.size in omega arith) in
-        let part : take len (drop (number * len) (kinds ++ more)) ≡ more = ap (λ k. take len (drop k (kinds ++ more))) at ∙ ap (take len) (drop-append-add kinds more 0) ∙ take_all len more (omega arith) in
-        subst (λ k. TellRegionsOf n w k (take len (drop (number * len) (kinds ++ more)))) (sym (get_or_at masks mask [] 0 number (sym e)))
-        (λ q also. subst (TellRegions n w q) (sym part) (tells_same n w p q (same_masks mask p q is also) more tells))
-    | inr ne ↦
-        let before : number < length masks = (let k = length_push masks mask in omega arith) in
-        let end : (number + 1) * len ≤ length masks * len = mul-le-mul_right len (let l : number + 1 ≤ length masks = omega arith in l) in
-        let part : take len (drop (number * len) (kinds ++ more)) ≡ take len (drop (number * len) kinds) =
-        ap (take len) (drop-append-le (number * len) kinds more (let s = are.size in omega arith)) ∙
-        take-append-le len (drop (number * len) kinds) more (let k = length-drop (number * len) kinds in let s = are.size in omega arith) in
-        subst (λ k. TellRegionsOf n w k (take len (drop (number * len) (kinds ++ more)))) (sym (get_or_append_left masks (mask ∷ []) 0 number before))
-        (subst (TellRegionsOf n w (get_or masks number 0)) (sym part) (are.each number before))
-  ];
-}
+pub kinds_of_set : (n w : ℕ) (p kinds : List ℕ) (mask : ℕ) → IsMaskOf mask (λ c. has p c ≡ true) → TellRegions n w p kinds → TellRegionsOf n w mask kinds
+kinds_of_set n w p kinds mask is tells q also = tells_same n w p q (same_masks mask p q is also) kinds tells

@@ -1,13 +1,18 @@
 -- One tile's move in all placements of a run.
-use Rattle.std.proofs.Common.{◌≡◌, ◌≢◌, ℕ, ◌^◌, ◌<◌, true, List, length, get_or, set, sym, ◌∙◌, subst, arith}
+use Rattle.std.proofs.Common.{◌≡◌, ◌≢◌, ℕ, ◌*◌, ◌^◌, ◌<◌, true, List, length, get_or, set, sym, ◌∙◌, ap, subst, arith}
 use Rattle.std.specs.Int.{bit_at}
 use Rattle.puz_board.specs.Masks.{IsMaskOf}
 use Rattle.pat_place.specs.Patterns.{IsPattern, has}
 use Rattle.pat_place.specs.Placements.{IsFree}
 use Rattle.puz_board.proofs.CellLemmas.{few_cells}
 use Rattle.tab_file.specs.Tables.{Table, slot_count}
-use Rattle.tab_runs.specs.Rows.{IsRow, IsRowOf}
+use Rattle.pat_place.specs.Patterns.{width}
+use Rattle.tab_runs.specs.Rows.{IsRow}
+use Rattle.tab_runs.specs.StoredRows.{AreRowsOf, RowsView, row_of, rows_for}
 use Rattle.tab_runs.specs.Runs.{AreRunEntries, IsRun}
+use Rattle.tab_runs.specs.RunsOfTables.{IsRunOf}
+use Rattle.tab_runs.specs.declared.runs.Run.{Run}
+use Rattle.pat_place.proofs.ListLemmas.{all_at}
 use Rattle.tab_runs.specs.Steps.{IsRowStep, IsTakenIn, IsTileStep}
 use Rattle.tab_runs.proofs.MaskLemmas.{mask_moved}
 use Rattle.tab_runs.proofs.RowLemmas.{row_low}
@@ -15,9 +20,17 @@ use Rattle.tab_runs.proofs.RunLemmas.{run_moved}
 use Rattle.tab_runs.proofs.StepLemmas.{row_from_tile, tile_from_row}
 use Rattle.tab_runs.proofs.TakenLemmas.{taken_same}
 
-pub row_of : (n w side width mask x : ℕ) (p row : List ℕ) → side ≡ n → width ≡ w → IsMaskOf mask (λ c. has p c ≡ true) → IsRowOf side width mask x row → IsRow n w p x row
-row_of n w side width mask x p row same_side same_width is rows =
-    subst (λ v. IsRow n v p x row) same_width (subst (λ m. IsRow m width p x row) same_side (rows p is))
+-- the row that is found among those of a set
+pub row_found : (n w side mask x : ℕ) (p rows row : List ℕ) → side ≡ n → x < n * n → AreRowsOf n w mask rows → row ≡ row_of (side * side) rows x → IsMaskOf mask (λ c. has p c ≡ true) → IsRow n w p x row
+row_found n w side mask x p rows row side_is low are row_is is = subst (IsRow n w p x) (sym (row_is ∙ ap (λ k. row_of (k * k) rows x) side_is)) (are.each x low p is)
+
+-- what is kept for a set serves the table
+pub kept_rows : (t : Table) (v : RowsView) (mask : ℕ) (rows : List ℕ) → v ≡ rows_for t.pattern → AreRowsOf v.side (width v.side v.tiles) mask rows → AreRowsOf t.pattern.side (slot_count t.pattern) mask rows
+kept_rows t v mask rows same are = subst (λ u. AreRowsOf u.side (width u.side u.tiles) mask rows) same are
+
+-- the row that is found for the run's own set
+pub own_row : (t : Table) (v : RowsView) (r : Run) (x : ℕ) (row : List ℕ) → v ≡ rows_for t.pattern → IsRunOf t r → x < t.pattern.side * t.pattern.side → row ≡ row_of (v.side * v.side) r.rows.now x → IsRow t.pattern.side (slot_count t.pattern) r.cells.now x row
+own_row t v r x row same run low row_is = row_found t.pattern.side (slot_count t.pattern) v.side r.set x r.cells.now r.rows.now row (ap (λ u. u.side) same) low run.rows row_is run.set
 
 -- what is known of the rows of a tile's move
 pub record AreTileRows (t : Table) (p : List ℕ) (i f : ℕ) (to from : List ℕ) : Type 0 where
@@ -47,17 +60,20 @@ module _ (t : Table) (p : List ℕ) (i f : ℕ) (to from : List ℕ) (are : AreT
       (λ place e some s. row_from_tile t are.pattern p are.run i f are.low are.free near entries to from are.is_to are.is_from place e s)
       is
 
--- the rows that are found for the sets before the move and after it
-pub tile_rows : (t : Table) (p : List ℕ) (i f side width mask less more : ℕ) (to from : List ℕ) → IsPattern t.pattern → side ≡ t.pattern.side → width ≡ slot_count t.pattern → IsRun t.pattern p → IsMaskOf mask (λ c. has p c ≡ true)
-    → i < length p → IsFree t.pattern.side p f
-    → less < 2 ^ 32 → bit_at less (get_or p i 0) ≡ 0 → ((x : ℕ) → x < 32 → x ≢ get_or p i 0 → bit_at less x ≡ bit_at mask x) → bit_at more f ≡ 1 → ((x : ℕ) → x ≢ f → bit_at more x ≡ bit_at less x)
-    → IsRowOf side width mask f to → IsRowOf side width more (get_or p i 0) from → AreTileRows t p i f to from
-tile_rows t p i f side width mask less more to from pat same_side same_width run is low free fits clear same here others is_to is_from = record {
-  pattern = pat;
-  run = run;
-  low = low;
-  free = free;
-  is_to = row_of t.pattern.side (slot_count t.pattern) side width mask f p to same_side same_width is is_to;
-  is_from = row_of t.pattern.side (slot_count t.pattern) side width more (get_or p i 0) (set p i f) from same_side same_width
-      (mask_moved t.pattern.side (few_cells t.pattern.side pat.low pat.high) p run.inside run.apart i f low mask less more fits is clear same here others) is_from;
-}
+-- the rows that are found for a tile's move
+pub tile_rows : (t : Table) (v : RowsView) (r : Run) (i f less more : ℕ) (kept to from : List ℕ) → IsPattern t.pattern → v ≡ rows_for t.pattern → IsRunOf t r → i < length r.cells.now → IsFree t.pattern.side r.cells.now f
+    → less < 2 ^ 32 → bit_at less (get_or r.cells.now i 0) ≡ 0 → ((x : ℕ) → x < 32 → x ≢ get_or r.cells.now i 0 → bit_at less x ≡ bit_at r.set x) → bit_at more f ≡ 1 → ((x : ℕ) → x ≢ f → bit_at more x ≡ bit_at less x)
+    → AreRowsOf v.side (width v.side v.tiles) more kept → to ≡ row_of (v.side * v.side) r.rows.now f → from ≡ row_of (v.side * v.side) kept (get_or r.cells.now i 0) → AreTileRows t r.cells.now i f to from
+tile_rows t v r i f less more kept to from pat same run low free fits clear others_same here others are to_is from_is =
+    let p = r.cells.now in
+    let n = t.pattern.side in
+    let side : v.side ≡ n = ap (λ u. u.side) same in
+    record {
+      pattern = pat;
+      run = run.run;
+      low = low;
+      free = free;
+      is_to = own_row t v r f to same run free.0 to_is;
+      is_from = row_found n (slot_count t.pattern) v.side more (get_or p i 0) (set p i f) kept from side (all_at p i run.run.inside low) (kept_rows t v more kept same are) from_is
+          (mask_moved n (few_cells n pat.low pat.high) p run.run.inside run.run.apart i f low r.set less more fits run.set clear others_same here others);
+    }

@@ -4,6 +4,7 @@ pub mod Kinds
 pub mod Parts
 pub mod Rows
 pub mod Runs
+pub mod RunsOfTables
 pub mod Serving
 pub mod SetRows
 pub mod Steps

@@ -6,15 +6,19 @@ ghost use Rattle.pat_place.specs.Patterns.{has};
 ghost use Rattle.tab_check.specs.Blocks.{BlockKeepsRule, IsLeastBadIn, block_count};
 ghost use Rattle.tab_file.specs.Tables.{placement_count, slot_count};
 ghost use Rattle.tab_lanes.specs.LocalRule.{goal_slot};
-ghost use Rattle.tab_runs.specs.Parts.{EntriesKeepRule, IsFirstBadEntry, IsGoalNumber};
+ghost use Rattle.tab_runs.specs.Checks.{IsFirstBadPlace, RunKeepsRule};
+ghost use Rattle.tab_runs.specs.Kinds.{TellRegions};
+ghost use Rattle.tab_runs.specs.Parts.{EntriesKeepRule, IsBeforeRun, IsFirstBadEntry, IsGoalNumber};
 ghost use Rattle.tab_runs.specs.Runs.{IsFirstRank, IsRun, run_length};
+ghost use Rattle.tab_runs.specs.RunsOfTables.{IsRunOf};
+ghost use Rattle.tab_runs.specs.Steps.{AreLeastNear};
 ghost use Rattle.tab_runs.specs.StoredRows.{rows_for};
 
 use crate::checks::first_bad;
 use crate::masks;
 use crate::near::least_near;
 use crate::rows::RowTable;
-use crate::runs::run_entries;
+use crate::runs::{Run, run_entries};
 use pat_place::{Pattern, Placement, rank, slot_of, unrank};
 use tab_check::check_block;
 use tab_file::TableView;
@@ -103,36 +107,72 @@ fn check_part(
         (EntriesKeepRule table.now (from * slot_count table.now.pattern) (to * slot_count table.now.pattern))
         (IsFirstBadEntry table.now (from * slot_count table.now.pattern) (to * slot_count table.now.pattern))) }
 {
-    let Some(told) = rows.kinds(rows.number(set), set) else {
+    let Some(kept) = rows.of_set(set) else {
         return Err(MissingRow);
     };
-    let Some(mins) = least_near(table, table.file(), rows, cells, set) else {
+    let run = Run {
+        cells,
+        set,
+        rows: kept.rows,
+        own: run_entries(table, cells),
+    };
+    let Some(mins) = least_near(table, rows, &run) else {
         return Err(MissingRow);
     };
     let width = u64::from(table.pattern().width());
-    let kinds = with_goal(told, first * width, goal);
-    let own = run_entries(table, table.file(), cells);
     let low = ((from - first) * width) as usize;
     let high = ((to - first) * width) as usize;
-    match first_bad(table, cells, own, &mins, &kinds, low, high) {
-        Some(place) => Ok(Some(first * width + place as u64)),
+    let before = first * width;
+    match first_bad_of_kinds(table, &run, &mins, kept.kinds, before, goal, low, high) {
+        Some(place) => Ok(Some(before + place as u64)),
         None => Ok(None),
     }
 }
 
-/// The kinds of a run's slots: the goal's is told by its number among all entries, and the run's first entry by its own.
-fn with_goal(told: &[u8], first: u64, goal: u64) -> [u8; 256]
-    requires { length told.now ≤ 140 }
-    ensures goal { (place : ℕ) → place < length told.now → first + place ≡ goal → slice_index result place ≡ goal_slot }
-    ensures others { (place : ℕ) → place < length told.now → first + place ≢ goal → slice_index result place ≡ slice_index told.now place }
+/// The first place of a run's entries, from `low` up to `high`, whose entry breaks the local rule, where `before` entries
+/// are before the run's and the goal's has the number `goal`.
+fn first_bad_of_kinds(
+    table: &TableView<'_>,
+    run: &Run<'_>,
+    mins: &[u8; 256],
+    told: &[u8],
+    before: u64,
+    goal: u64,
+    low: usize,
+    high: usize,
+) -> Option<usize>
+    requires run { IsRunOf table.now run.now }
+    requires mins { AreLeastNear table.now run.now.cells.now mins.now }
+    requires told { TellRegions table.now.pattern.side (slot_count table.now.pattern) run.now.cells.now told.now }
+    requires size { length told.now ≡ run_length table.now.pattern.side run.now.cells.now * slot_count table.now.pattern }
+    requires before { IsBeforeRun table.now run.now.cells.now before }
+    requires goal { IsGoalNumber table.now.pattern goal }
+    requires low { low ≤ high }
+    requires high { high ≤ run_length table.now.pattern.side run.now.cells.now * slot_count table.now.pattern }
+    ensures { MatchOption result
+        (RunKeepsRule table.now run.now.cells.now low high)
+        (IsFirstBadPlace table.now run.now.cells.now low high) }
+{
+    let _pattern = table.pattern();
+    if goal < before || goal - before >= told.len() as u64 {
+        return first_bad(table, run, mins, told, low, high);
+    }
+    let kinds = with_goal(told, (goal - before) as usize);
+    first_bad(table, run, mins, &kinds, low, high)
+}
+
+/// The kinds of a run's slots, of which the one at this place is the goal's.
+fn with_goal(told: &[u8], goal: usize) -> [u8; 256]
+    requires few { length told.now ≤ 140 }
+    requires goal { goal < length told.now }
+    ensures goal { slice_index result goal ≡ goal_slot }
+    ensures others { (place : ℕ) → place < length told.now → place ≢ goal → slice_index result place ≡ slice_index told.now place }
 {
     let mut kinds = [WITHOUT_REGION; 256];
     for (place, kind) in told.iter().enumerate() {
         kinds[place] = *kind;
     }
-    if goal >= first && goal - first < told.len() as u64 {
-        kinds[(goal - first) as usize] = GOAL_SLOT;
-    }
+    kinds[goal] = GOAL_SLOT;
     kinds
 }
 

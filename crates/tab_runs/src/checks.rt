@@ -3,36 +3,36 @@
 ghost use Rattle.std.specs.Prelude.{◌≡◌, ◌+◌, ◌*◌, ◌≤◌, MatchOption, length};
 ghost use Rattle.tab_file.specs.Tables.{slot_count};
 ghost use Rattle.tab_runs.specs.Checks.{AreKinds, IsFirstBadPlace, RunKeepsRule};
-ghost use Rattle.tab_runs.specs.Runs.{AreRunEntries, IsRun, run_length};
+ghost use Rattle.tab_runs.specs.Runs.{run_length};
+ghost use Rattle.tab_runs.specs.RunsOfTables.{IsRunOf};
 ghost use Rattle.tab_runs.specs.Steps.{AreLeastNear};
 
+use crate::runs::Run;
 use tab_file::TableView;
 
 /// The first place of a run's entries, from `low` up to `high`, whose entry breaks the local rule. Places are counted
 /// from 0 here.
 pub(crate) fn first_bad(
     table: &TableView<'_>,
-    cells: &[u8],
-    own: &[u8],
+    run: &Run<'_>,
     mins: &[u8; 256],
     kinds: &[u8],
     low: usize,
     high: usize,
 ) -> Option<usize>
-    requires run { IsRun table.now.pattern cells.now }
-    requires own { AreRunEntries table.now cells.now own.now }
-    requires mins { AreLeastNear table.now cells.now mins.now }
-    requires kinds { AreKinds table.now cells.now kinds.now }
-    requires room { run_length table.now.pattern.side cells.now * slot_count table.now.pattern ≤ length kinds.now }
+    requires run { IsRunOf table.now run.now }
+    requires mins { AreLeastNear table.now run.now.cells.now mins.now }
+    requires kinds { AreKinds table.now run.now.cells.now kinds.now }
+    requires room { run_length table.now.pattern.side run.now.cells.now * slot_count table.now.pattern ≤ length kinds.now }
     requires low { low ≤ high }
-    requires high { high ≤ run_length table.now.pattern.side cells.now * slot_count table.now.pattern }
+    requires high { high ≤ run_length table.now.pattern.side run.now.cells.now * slot_count table.now.pattern }
     ensures { MatchOption result
-        (RunKeepsRule table.now cells.now low high)
-        (IsFirstBadPlace table.now cells.now low high) }
+        (RunKeepsRule table.now run.now.cells.now low high)
+        (IsFirstBadPlace table.now run.now.cells.now low high) }
 {
     let _pattern = table.pattern();
     let Some(place) = tab_lanes::first_bad(
-        &own[1 + low..1 + high],
+        &run.own[1 + low..1 + high],
         &mins[1 + low..1 + high],
         &kinds[low..high],
     ) else {

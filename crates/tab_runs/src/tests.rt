@@ -126,7 +126,7 @@ fn each_set_of_the_right_size_has_rows_and_no_other(rt: HostRuntime) -> Result<(
         let rows = RowTable::build(rt.alloc(), &pattern)?;
         let tiles = u32::from(pattern.size());
         for set in 0..1u32 << pattern.side().cells() {
-            let kept = rows.kinds(rows.number(set), set).is_some();
+            let kept = rows.of_set(set).is_some();
             assert_eq!(rt; kept, set.count_ones() + 1 == tiles, "{side} {set}");
         }
     }
@@ -138,8 +138,8 @@ fn the_slots_with_a_region_are_told(rt: HostRuntime) -> Result<(), Fail> {
     let pattern = pattern_of(2, 0b0110).expect(&rt, "a pattern");
     let rows = RowTable::build(rt.alloc(), &pattern)?;
     // One tile is in cell 0. With the other in cell 1 or 2 the free cells are one region, and with it in cell 3 they are two.
-    let told = rows.kinds(rows.number(1), 1).expect(&rt, "kept");
-    assert_eq!(rt; told, [2, 0, 2, 0, 2, 2].as_slice());
+    let told = rows.of_set(1).expect(&rt, "kept");
+    assert_eq!(rt; told.kinds, [2, 0, 2, 0, 2, 2].as_slice());
     Ok(())
 }
 

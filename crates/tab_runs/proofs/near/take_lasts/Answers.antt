@@ -16,9 +16,9 @@ left-init c =
     let side : c.side.result ≡ t.pattern.side = c.side.ensures.side ∙ ap (λ q. q.side) c.pattern.ensures.pattern in
     let cells : c.cells.result ≡ t.pattern.side * t.pattern.side = c.cells.ensures.value ∙ ap₂ (λ m n. m * n) side side in
     let few = few_cells t.pattern.side pat.low pat.high in
-    left_start t pat c.args.cells.now c.args.mins.now _
-    (subst (λ all. IsMaskOf (bit_and all (2 ^ 32 - 1 - c.args.set)) (IsFree t.pattern.side c.args.cells.now)) (sym c.all_below.ensures)
-    (free_is t.pattern.side c.args.set c.args.cells.now c.cells.result cells (omega arith) c.ranges.set.fits c.requires.set))
+    left_start t pat c.args.run.now.cells.now c.args.mins.now _
+    (subst (λ all. IsMaskOf (bit_and all (2 ^ 32 - 1 - c.args.run.now.set)) (IsFree t.pattern.side c.args.run.now.cells.now)) (sym c.all_below.ensures)
+    (free_is t.pattern.side c.args.run.now.set c.args.run.now.cells.now c.cells.result cells (omega arith) c.requires.run.bits c.requires.run.set))
 
 pub take_beside-requires-clause-others : goal.take_beside-requires-clause-others
 take_beside-requires-clause-others c x h = (
@@ -30,9 +30,9 @@ take_beside-requires-clause-others c x h = (
 
 pub left-preserved : goal.left-preserved
 left-preserved c =
-    left_more c.args.table.now c.pattern.ensures.table.pattern c.args.cells.now c.args.mins.now c.left.mins c.take_beside.new.mins c.left.left c.first_of-a.result c.without-left.result c.left.invariant
+    left_more c.args.table.now c.pattern.ensures.table.pattern c.args.run.now.cells.now c.args.mins.now c.left.mins c.take_beside.new.mins c.left.left c.first_of-a.result c.without-left.result c.left.invariant
     (record { was = c.first_of-a.ensures.here; bits = c.without-left.type_inv; here = c.without-left.ensures.here; others = c.without-left.ensures.others })
-    c.if-not-take_beside.ensures
+    c.take_beside.ensures
 
 pub returns : goal.returns
-returns c = left_all c.args.table.now c.pattern.ensures.table.pattern c.args.cells.now c.args.mins.now c.left.mins c.left.left c.left.invariant c.left-test.false
+returns c = left_all c.args.table.now c.pattern.ensures.table.pattern c.args.run.now.cells.now c.args.mins.now c.left.mins c.left.left c.left.invariant c.left-test.false

@@ -24,27 +24,27 @@ are : (c : After-rank_of) → AreNumbers c.args.table.now c.args.cells.now c.ran
 are c = are_numbers c.args.table.now c.pattern-pattern.result c.args.cells.now c.side.result c.cells-count.result c.from.result c.width.result c.from-width.result c.rank_of.result
     c.pattern-pattern.ensures.pattern c.side.ensures.side c.cells-count.ensures.value c.from.ensures c.width.ensures c.from-width.ensures c.rank_of.ensures
 
-ends : (c : After-rank_of) → 19 + c.rank_of.result * (c.from.result - length c.args.cells.now) * c.from-width.result + (c.from.result - length c.args.cells.now) * c.from-width.result + 1 ≤ length c.args.file.now
-ends c = run_within c.args.table.now c.args.file.now c.args.cells.now c.requires.file c.requires.run c.rank_of.result (are c).is_rank (c.from.result - length c.args.cells.now) c.from-width.result (are c)
+ends : (c : After-rank_of) → 19 + c.rank_of.result * (c.from.result - length c.args.cells.now) * c.from-width.result + (c.from.result - length c.args.cells.now) * c.from-width.result + 1 ≤ length c.file-file.result.now
+ends c = run_within c.args.table.now c.file-file.result.now c.args.cells.now c.file-file.ensures c.requires.run c.rank_of.result (are c).is_rank (c.from.result - length c.args.cells.now) c.from-width.result (are c)
 
 pub overflow_mul-start : goal.overflow_mul-start
 overflow_mul-start c =
     let h = run_few c.args.table.now.pattern c.args.cells.now c.requires.run c.rank_of.result (are c).is_rank in
-    let few = few_placements c.args.table.now.pattern c.requires.file.table.pattern in
+    let few = few_placements c.args.table.now.pattern c.file-file.ensures.table.pattern in
     let e = ap (λ l. c.rank_of.result * l) (are c).is_run in
     omega arith
 
 pub overflow_mul-start-2 : goal.overflow_mul-start-2
-overflow_mul-start-2 c = let h = ends c in let l = file_small c.args.table.now c.args.file.now c.requires.file in omega arith
+overflow_mul-start-2 c = let h = ends c in let l = file_small c.args.table.now c.file-file.result.now c.file-file.ensures in omega arith
 
 pub overflow_add-start : goal.overflow_add-start
-overflow_add-start c = let h = ends c in let l = file_small c.args.table.now c.args.file.now c.requires.file in omega arith
+overflow_add-start c = let h = ends c in let l = file_small c.args.table.now c.file-file.result.now c.file-file.ensures in omega arith
 
 pub overflow_add-result : goal.overflow_add-result
-overflow_add-result c = let h = ends c in let l = file_small c.args.table.now c.args.file.now c.requires.file in omega arith
+overflow_add-result c = let h = ends c in let l = file_small c.args.table.now c.file-file.result.now c.file-file.ensures in omega arith
 
 pub overflow_add-result-2 : goal.overflow_add-result-2
-overflow_add-result-2 c = let h = ends c in let l = file_small c.args.table.now c.args.file.now c.requires.file in omega arith
+overflow_add-result-2 c = let h = ends c in let l = file_small c.args.table.now c.file-file.result.now c.file-file.ensures in omega arith
 
 pub slice_bounds-result-end : goal.slice_bounds-result-end
 slice_bounds-result-end c = ends c
@@ -53,4 +53,4 @@ pub returns : goal.returns
 returns c =
     let are = are_numbers c.args.table.now c.pattern-pattern.result c.args.cells.now c.side.result c.cells-count.result c.from.result c.width.result c.from-width.result c.rank_of.result
     c.pattern-pattern.ensures.pattern c.side.ensures.side c.cells-count.ensures.value c.from.ensures c.width.ensures c.from-width.ensures c.rank_of.ensures in
-    run_slice c.args.table.now c.args.file.now c.args.cells.now c.requires.file c.requires.run c.rank_of.result are.is_rank (c.from.result - length c.args.cells.now) c.from-width.result are
+    run_slice c.args.table.now c.file-file.result.now c.args.cells.now c.file-file.ensures c.requires.run c.rank_of.result are.is_rank (c.from.result - length c.args.cells.now) c.from-width.result are

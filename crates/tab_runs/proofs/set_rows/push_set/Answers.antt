@@ -1,12 +1,14 @@
-use Rattle.std.proofs.Common.{◌≡◌, true, ◌++◌, ◌∷◌, [], length, sym, ◌∙◌, ap, subst}
+use Rattle.std.proofs.Common.{◌≡◌, ◌*◌, true, ◌++◌, ◌∷◌, [], length, sym, ◌∙◌, ap, subst}
 use Rattle.puz_board.specs.Masks.{IsMaskOf}
 use Rattle.pat_place.specs.Patterns.{has}
 use Rattle.tab_file.specs.Tables.{slot_count}
 use Rattle.tab_runs.specs.Runs.{IsRun}
-use Rattle.tab_runs.specs.StoredRows.{AreAllKinds, AreAllRows, entries_of_run}
-use Rattle.tab_runs.proofs.KindLemmas.{kinds_all, kinds_push}
+use Rattle.tab_runs.specs.Kinds.{TellRegionsOf}
+use Rattle.tab_runs.specs.StoredRows.{AreAllKinds, AreAllRows, AreRowsOf, entries_of_run}
+use Rattle.tab_runs.proofs.KindLemmas.{kinds_all, kinds_of_set}
 use Rattle.tab_runs.proofs.MaskRunLemmas.{few_numbers, mask_of_numbers, run_of_mask}
-use Rattle.tab_runs.proofs.TableLemmas.{rows_more}
+use Rattle.tab_runs.proofs.TableLemmas.{rows_of_set}
+use Rattle.tab_runs.proofs.TableRowLemmas.{all_push}
 use Rattle.tab_runs.proofs.set_rows.push_set.Goals as goal
 
 pub numbers_of-cells-requires : goal.numbers_of-cells-requires
@@ -31,7 +33,8 @@ returns-clause-rows c =
     let put : c.extend_from_slice.new.self.items ≡ rows ++ made.rows.items = c.in_ok-extend_from_slice.ensures.items ∙ ap (λ b. rows ++ b) c.as_slice-2.ensures.value in
     subst (λ m. AreAllRows p.side (slot_count p) m c.extend_from_slice.new.self.items) (sym c.in_ok-push.ensures.items)
     (subst (AreAllRows p.side (slot_count p) (masks ++ c.args.set ∷ [])) (sym put)
-    (rows_more p.side (slot_count p) masks rows cells made.rows.items c.args.set c.requires.rows is c.in_ok-made.ensures.rows))
+    (all_push (AreRowsOf p.side (slot_count p)) (p.side * p.side * (p.side * p.side)) masks rows made.rows.items c.args.set c.requires.rows (rows_of_set p.side (slot_count p) cells made.rows.items c.args.set is c.in_ok-made.ensures.rows)
+    (c.in_ok-made.ensures.rows).size))
 
 pub returns-clause-kinds : goal.returns-clause-kinds
 returns-clause-kinds c =
@@ -45,5 +48,5 @@ returns-clause-kinds c =
     let put : c.extend_from_slice-2.new.self.items ≡ kinds ++ made.kinds.items = c.in_ok-extend_from_slice-2.ensures.items ∙ ap (λ b. kinds ++ b) c.as_slice-3.ensures.value in
     subst (λ m. AreAllKinds p.side (slot_count p) (entries_of_run p.side (length p.tiles)) m c.extend_from_slice-2.new.self.items) (sym c.in_ok-push.ensures.items)
     (subst (AreAllKinds p.side (slot_count p) (entries_of_run p.side (length p.tiles)) (masks ++ c.args.set ∷ [])) (sym put)
-    (kinds_push p.side (slot_count p) (entries_of_run p.side (length p.tiles)) masks kinds cells made.kinds.items c.args.set c.requires.kinds is
-    (kinds_all p.side (slot_count p) cells made.kinds.items c.in_ok-made.ensures.kinds) c.in_ok-made.ensures.size))
+    (all_push (TellRegionsOf p.side (slot_count p)) (entries_of_run p.side (length p.tiles)) masks kinds made.kinds.items c.args.set c.requires.kinds
+    (kinds_of_set p.side (slot_count p) cells made.kinds.items c.args.set is (kinds_all p.side (slot_count p) cells made.kinds.items c.in_ok-made.ensures.kinds)) c.in_ok-made.ensures.size))
