@@ -127,11 +127,9 @@ last_gathers (Ok k) a b c x y z files last p q = gathers_digests a b c x y z fil
 last_gathers (Err e) a b c x y z files last p q = tt
 
 -- the parts of a reply in a row, as they were added
-pub reply_parts : (reply : Reply) (made : Option Bytes) (lines : Bytes) → made ≡ reply.made → lines ≡ reply.lines
-    → (digests_of reply.digested ++ digests_of (list_of made)) ++ lines ≡ reply_text reply
-reply_parts reply made lines is_made is_lines = append_assoc (digests_of reply.digested) (digests_of (list_of made)) lines
-    ∙ ap (λ (m : Option Bytes). digests_of reply.digested ++ (digests_of (list_of m) ++ lines)) is_made
-    ∙ ap (λ (t : Bytes). digests_of reply.digested ++ (digests_of (list_of reply.made) ++ t)) is_lines
+pub reply_parts : (reply : Reply) (lines : Bytes) → lines ≡ reply.lines → (digests_of reply.digested ++ digests_of (list_of reply.made)) ++ lines ≡ reply_text reply
+reply_parts reply lines is = append_assoc (digests_of reply.digested) (digests_of (list_of reply.made)) lines
+    ∙ ap (λ (t : Bytes). digests_of reply.digested ++ (digests_of (list_of reply.made) ++ t)) is
 
 module _ {A : Type 0} (a b c : Option Bytes) (x y : Bytes) (files : List (Vec ℕ A)) (i : ℕ) (d : Vec ℕ A) (line : Bytes) (lt : i < length files) (is : line ≡ digest_line (get_or files i d).items) where
   pub file_next : (z : Bytes) → Gathers a x b y (digests_of (all_bytes (take i files))) → Gathers b y c z line → Gathers a x c z (digests_of (all_bytes (take (i + 1) files)))

@@ -25,11 +25,14 @@ pub struct Answer<'a> {
     pub digests: Option<Digests>,
     /// A file that was made: its digest comes then, and after a yes it is kept, where the command keeps any.
     pub made: Option<Vec<u8>>,
+    /// The line of this digest, where it is made already.
+    pub made_digest: Option<Digests>,
     /// The lines behind the digests.
     pub lines: Lines,
     /// Whether it is a yes.
     pub is_yes: bool,
     ghost ready: { option_map (λ d. d.items) digests ≡ option_map (λ _. digests_of (map (λ v. v.items) files.now ++ list_of (option_map (λ f. f.now) last))) digests },
+    ghost made_ready: { option_map (λ d. d.items) made_digest ≡ option_map (λ _. digests_of (list_of (option_map (λ v. v.items) made))) made_digest },
 }
 
 /// Pieces of text in one.

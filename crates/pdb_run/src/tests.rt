@@ -69,6 +69,7 @@ fn an_answer_is_one_write(rt: HostRuntime) -> Result<(), Fail> {
         last: Some(b"abc"),
         digests: None,
         made: None,
+        made_digest: None,
         lines: lines(&["bound ", "6", "\n"]),
         is_yes: true,
     };
@@ -241,6 +242,7 @@ fn makes_abc<'i>(alloc: Global, is_yes: bool) -> Result<Answer<'i>, AllocError> 
         last: Some(b""),
         digests: None,
         made: Some(b"abc".to_vec(alloc)?),
+        made_digest: None,
         lines: if is_yes {
             lines(&["exact\n"])
         } else {

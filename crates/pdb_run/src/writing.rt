@@ -19,7 +19,7 @@ pub fn say<W: Write>(answer: &Answer<'_>, out: &mut W) -> Result<(), WriteFault>
 {
     let mut page = Page::new();
     add_digests(&mut page, answer, out)?;
-    page.add_digest(answer.made.as_deref(), out)?;
+    add_made_digest(&mut page, answer, out)?;
     page.add(answer.lines.as_str().as_bytes(), out)?;
     page.write(out)
 }
@@ -36,6 +36,22 @@ fn add_digests<W: Write>(
     match &answer.digests {
         Some(digests) => page.add(digests.as_slice(), out),
         None => page.add_digests(answer.files, answer.last, out),
+    }
+}
+
+/// Adds the digest of the file that was made to a page, where there is one: the line that is made already, or else that of the
+/// file.
+fn add_made_digest<W: Write>(
+    page: &mut Page,
+    answer: &Answer<'_>,
+    out: &mut W,
+) -> Result<(), WriteFault>
+    ensures whole { OnOk result (Gathers (W.contents out.old) page.old.text.items (W.contents out.new) page.new.text.items (digests_of (list_of (reply_of answer.now).made))) }
+    ensures front { OnErr result (AppendsFront (W.contents out.old) (W.contents out.new) (page.old.text.items ++ digests_of (list_of (reply_of answer.now).made))) }
+{
+    match &answer.made_digest {
+        Some(digest) => page.add(digest.as_slice(), out),
+        None => page.add_digest(answer.made.as_deref(), out),
     }
 }
 

@@ -1,18 +1,19 @@
 //! Makes a table, and keeps it once it is found exact for the pattern that was asked for.
 
-ghost use Rattle.std.specs.Prelude.{◌↔◌, IsSome, IsTrue, IfErr, IfOk, OnErr, Some, []};
+ghost use Rattle.std.specs.Prelude.{◌≡◌, ◌↔◌, ◌∷◌, [], IsSome, IsTrue, IfErr, IfOk, OnErr, Some, option_map};
+ghost use Rattle.pdb_run.specs.Lines.{digests_of};
 ghost use Rattle.pdb_run.specs.Replies.{reply_of};
 ghost use Rattle.pdb_run.specs.Runs.{Ends, world};
 ghost use Rattle.pdb_verdict.specs.MadeTables.{ArePattern, IsBuilt, SpeaksOf, TellsBuild, make_table_plan};
 ghost use Rattle.pdb_verdict.specs.Steps.{IsCauseForBuild};
 
 use crate::lines::line_of;
-use crate::table::verify_table;
+use crate::table::table_beside;
 use crate::verdict::{Fault, MakeRefusal, Verdict};
 use crate::workers::Workers;
 use pat_place::Pattern;
 use pdb_io::shelf::Shelf;
-use pdb_run::{Answer, Command, Input, Status, keep_and_conclude, read_inputs};
+use pdb_run::{Answer, Command, Digests, Input, Status, keep_and_conclude, read_inputs};
 use puz_board::Side;
 use puz_make::{MakeFault, build};
 use std::alloc::{AllocError, Global};
@@ -99,6 +100,7 @@ fn answer_make_table<H: Threads + Wait + Sync, G: Gate + Sync>(
             lines: line_of(&built.answer),
             is_yes: built.answer.is_ok(),
             made: Some(built.file),
+            made_digest: built.digest,
         }),
         Err(Fault::Memory) => Err(AllocError),
         Err(refused) => Ok(Answer {
@@ -106,17 +108,20 @@ fn answer_make_table<H: Threads + Wait + Sync, G: Gate + Sync>(
             last: None,
             digests: None,
             made: None,
+            made_digest: None,
             lines: line_of(&Err(refused)),
             is_yes: false,
         }),
     }
 }
 
-/// A file that was built, and the result on it.
+/// A file that was built, its digest line, where that is made already, and the result on it.
 #[derive(Drop)]
 struct Built {
     file: Vec<u8>,
+    digest: Option<Digests>,
     answer: Result<Verdict, Fault>,
+    ghost digested: { option_map (λ d. d.items) digest ≡ option_map (λ _. digests_of (file.items ∷ [])) digest },
 }
 
 /// The file that is built for a side and a mask, checked. Or why there is none to tell of: they are no pattern, the maker
@@ -138,12 +143,16 @@ fn build_table<H: Threads + Wait + Sync, G: Gate + Sync>(
         Err(MakeFault::Memory) => return Err(Fault::Memory),
         Err(_) => return Err(Fault::Make(MakeRefusal::K3)),
     };
-    let answer = verify_table(alloc, file.as_slice(), workers);
+    let (digest, answer) = table_beside(alloc, file.as_slice(), workers);
     match answer {
         Err(Fault::Memory) => Err(Fault::Memory),
         _ => {
             if speaks_of(&answer, side, mask) {
-                Ok(Built { file, answer })
+                Ok(Built {
+                    file,
+                    digest,
+                    answer,
+                })
             } else {
                 Err(Fault::K4)
             }

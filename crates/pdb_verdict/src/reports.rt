@@ -80,6 +80,7 @@ pub(crate) fn answer_on<'i>(
         last,
         digests,
         made: None,
+        made_digest: None,
         lines: line_of(answer),
         is_yes: answer.is_ok(),
     }

@@ -1,11 +1,14 @@
 //! Searches for a shortest solution, and keeps the log that proves it shortest once both are checked.
 
-ghost use Rattle.std.specs.Prelude.{◌≡◌, ◌≤◌, Some, length, map, IfErr, IfOk, OnErr};
+ghost use Rattle.std.specs.Prelude.{◌≡◌, ◌≤◌, ◌∷◌, [], Some, length, map, option_map, IfErr, IfOk, IfSome, OnErr};
 ghost use Rattle.puz_board.specs.Boards.{side_of};
+ghost use Rattle.puz_board.specs.PuzzleTexts.{puzzle_parts};
+ghost use Rattle.pdb_run.specs.Lines.{digests_of};
 ghost use Rattle.pdb_run.specs.Replies.{all_bytes, reply_of};
 ghost use Rattle.pdb_run.specs.Runs.{Ends, world};
 ghost use Rattle.pdb_verdict.specs.Searches.{IsMade, IsSolveReply, SolveTakesMemory, puzzle_of, reply_to_search, searched, solve_inputs, solve_plan, unmade};
-ghost use Rattle.pdb_verdict.specs.Steps.{HasItsMoves, IsCauseForSearch, IsGivenUp, IsMadeOver};
+ghost use Rattle.pdb_verdict.specs.Optima.{solved_parts};
+ghost use Rattle.pdb_verdict.specs.Steps.{HasItsMoves, IsCauseForSearch, IsGivenUp, IsMadeOver, IsOptimumOver};
 
 use crate::bundles::read_bundle;
 use crate::claims::push_tables;
@@ -17,7 +20,7 @@ use crate::verdict::{Fault, MakeRefusal, Verdict};
 use crate::workers::Workers;
 use log_check::LogRefusal;
 use pdb_io::shelf::Shelf;
-use pdb_run::{Answer, Command, Input, Status, keep_and_conclude, read_inputs};
+use pdb_run::{Answer, Command, Digests, Input, Status, beside, keep_and_conclude, read_inputs};
 use puz_board::Board;
 use puz_make::{Found, MakeFault, solve};
 use set_sum::Bundle;
@@ -109,48 +112,75 @@ fn answer_solve<'i, H: Threads + Wait, G: Gate + Sync>(
     ensures memory { OnErr result (SolveTakesMemory (all_bytes inputs.now)) }
 {
     let (text, sets, tables) = (inputs[0].as_slice(), inputs[1].as_slice(), &inputs[2..]);
-    match search(alloc, text, sets, tables, budget, workers) {
-        Ok(made) => Ok(answer_on(tables, made)),
+    let (digests, outcome) = search_beside(alloc, text, sets, tables, budget, workers);
+    match outcome {
+        Ok(made) => Ok(answer_on(tables, digests, made)),
         Err(Fault::Memory) => Err(AllocError),
-        Err(refused) => Ok(refusal_of(tables, refused)),
+        Err(refused) => Ok(refusal_of(tables, digests, refused)),
     }
 }
 
 /// The answer on what a search made.
-fn answer_on(tables: &[Vec<u8>], made: Made) -> Answer<'_>
-    requires { HasItsMoves made.moves.items made.answer }
+fn answer_on(tables: &[Vec<u8>], digests: Option<Digests>, made: Made) -> Answer<'_>
+    requires digests { IfSome digests (λ digests. digests.items ≡ digests_of (all_bytes tables.now)) }
+    requires count { HasItsMoves made.moves.items made.answer }
     ensures { reply_of result ≡ reply_to_search (all_bytes tables.now) (searched made.moves.items made.log.items made.answer) }
 {
     Answer {
         files: tables,
         last: None,
-        digests: None,
+        digests,
         lines: lines_on(made.moves.as_slice(), &made.answer),
         is_yes: made.answer.is_ok(),
         made: Some(made.log),
+        made_digest: made.digest,
     }
 }
 
 /// The answer where a search made nothing.
-fn refusal_of(tables: &[Vec<u8>], refused: Fault) -> Answer<'_>
+fn refusal_of(tables: &[Vec<u8>], digests: Option<Digests>, refused: Fault) -> Answer<'_>
+    requires { IfSome digests (λ digests. digests.items ≡ digests_of (all_bytes tables.now)) }
     ensures { reply_of result ≡ reply_to_search (all_bytes tables.now) (unmade refused) }
 {
     Answer {
         files: tables,
         last: None,
-        digests: None,
+        digests,
         made: None,
+        made_digest: None,
         lines: line_of(&Err(refused)),
         is_yes: false,
     }
 }
 
-/// The moves and the log of a search, and the result on them.
+/// The moves and the log of a search, the log's digest line, where that is made already, and the result on them.
 #[derive(Drop)]
 struct Made {
     moves: Vec<u8>,
     log: Vec<u8>,
+    digest: Option<Digests>,
     answer: Result<Verdict, Fault>,
+    ghost digested: { option_map (λ d. d.items) digest ≡ option_map (λ _. digests_of (log.items ∷ [])) digest },
+}
+
+/// What comes of a search, and the digest lines of the tables, where they are made beside it.
+fn search_beside<H: Threads + Wait, G: Gate + Sync>(
+    alloc: Global,
+    text: &[u8],
+    sets: &[u8],
+    tables: &[Vec<u8>],
+    budget: u64,
+    workers: &Workers<'_, H, G>,
+) -> (Option<Digests>, Result<Made, Fault>)
+    ensures digests { IfSome result.0 (λ digests. digests.items ≡ digests_of (all_bytes tables.now)) }
+    ensures made { IfOk result.1 (λ made. IsMade text.now sets.now (all_bytes tables.now) made.moves.items made.log.items made.answer) }
+    ensures unmade { IfErr result.1 (λ cause. IsCauseForSearch text.now sets.now (all_bytes tables.now) cause) }
+{
+    let search = || -> Result<Made, Fault>
+        ensures made { IfOk result (λ made. IsMade text.entry.now sets.entry.now (all_bytes tables.entry.now) made.moves.items made.log.items made.answer) }
+        ensures unmade { IfErr result (λ cause. IsCauseForSearch text.entry.now sets.entry.now (all_bytes tables.entry.now) cause) }
+    { search(alloc, text, sets, tables, budget, workers) };
+    beside(workers.rt, workers.count, tables, None, search)
 }
 
 /// Searches for a shortest solution of the board of a text, and checks what is found. Or the first refusal that stands: the
@@ -193,11 +223,33 @@ fn search_over<H: Threads + Wait, G: Gate + Sync>(
         return Err(Fault::Memory);
     };
     let (moves, log) = (found.moves, found.log);
-    let answer = optimum_over(alloc, bundle, puzzle.as_slice(), log.as_slice(), workers);
+    let (digest, answer) = log_beside(alloc, bundle, puzzle.as_slice(), log.as_slice(), workers);
     match answer {
         Err(Fault::Memory) => Err(Fault::Memory),
-        answer => Ok(Made { moves, log, answer }),
+        answer => Ok(Made {
+            moves,
+            log,
+            digest,
+            answer,
+        }),
     }
+}
+
+/// The result on a puzzle text and a log over a bundle, and the log's digest line, where that is made beside the check.
+fn log_beside<H: Threads + Wait, G: Gate + Sync>(
+    alloc: Global,
+    bundle: &Bundle<'_>,
+    puzzle: &[u8],
+    log: &[u8],
+    workers: &Workers<'_, H, G>,
+) -> (Option<Digests>, Result<Verdict, Fault>)
+    ensures digest { IfSome result.0 (λ digest. digest.items ≡ digests_of (log.now ∷ [])) }
+    ensures answer { IsOptimumOver bundle.now (solved_parts (puzzle_parts puzzle.now)) log.now result.1 }
+{
+    let check = || -> Result<Verdict, Fault>
+        ensures { IsOptimumOver bundle.entry.now (solved_parts (puzzle_parts puzzle.entry.now)) log.entry.now result }
+    { optimum_over(alloc, bundle, puzzle, log, workers) };
+    beside(workers.rt, workers.count, &[], Some(log), check)
 }
 
 /// What a search finds, unchecked.

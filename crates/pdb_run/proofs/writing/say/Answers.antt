@@ -1,4 +1,4 @@
-use Rattle.std.proofs.Common.{[], ap, option_map, refl, ◌++◌, ◌∙◌}
+use Rattle.std.proofs.Common.{[], refl, ◌++◌, ◌∙◌}
 use Rattle.std.proofs.lemmas.List.{append-nil}
 use Rattle.pdb_io.proofs.Appending.{on_err}
 use Rattle.pdb_run.specs.Lines.{digests_of, list_of}
@@ -11,25 +11,24 @@ returns-in_err-add_digests-clause-front g c =
     let reply = reply_of c.args.answer.now in
     on_err _ _ (said_stopped _ _ _ _ _ c.new-page.ensures [] (digests_of reply.digested) (digests_of (list_of reply.made) ++ reply.lines) _ refl (gathers_nil _ _) c.in_err-add_digests.ensures.front)
 
-pub returns-in_err-add_digest-clause-front : goal.returns-in_err-add_digest-clause-front
-returns-in_err-add_digest-clause-front g c =
+pub returns-in_err-add_made_digest-clause-front : goal.returns-in_err-add_made_digest-clause-front
+returns-in_err-add_made_digest-clause-front g c =
     let reply = reply_of c.args.answer.now in
-    let same = ap (λ m. digests_of reply.digested ++ (digests_of (list_of m) ++ reply.lines)) c.as_deref.ensures.value in
-    on_err _ _ (said_stopped _ _ _ _ _ c.new-page.ensures _ (digests_of (list_of (option_map (λ f. f.now) c.as_deref.result))) reply.lines _ same c.in_ok-add_digests.ensures.whole c.in_err-add_digest.ensures.front)
+    on_err _ _ (said_stopped _ _ _ _ _ c.new-page.ensures _ (digests_of (list_of reply.made)) reply.lines _ refl c.in_ok-add_digests.ensures.whole c.in_err-add_made_digest.ensures.front)
 
 pub returns-in_err-add-clause-front : goal.returns-in_err-add-clause-front
 returns-in_err-add-clause-front g c =
-    let same = reply_parts (reply_of c.args.answer.now) _ _ c.as_deref.ensures.value (append-nil c.as_bytes.result.now ∙ c.as_bytes.ensures.value ∙ c.as_str.ensures.value) in
-    on_err _ _ (said_stopped _ _ _ _ _ c.new-page.ensures _ c.as_bytes.result.now [] _ same (gathers_more _ _ _ _ _ _ _ _ c.in_ok-add_digests.ensures.whole c.in_ok-add_digest.ensures.whole) c.in_err-add.ensures.front)
+    let same = reply_parts (reply_of c.args.answer.now) _ (append-nil c.as_bytes.result.now ∙ c.as_bytes.ensures.value ∙ c.as_str.ensures.value) in
+    on_err _ _ (said_stopped _ _ _ _ _ c.new-page.ensures _ c.as_bytes.result.now [] _ same (gathers_more _ _ _ _ _ _ _ _ c.in_ok-add_digests.ensures.whole c.in_ok-add_made_digest.ensures.whole) c.in_err-add.ensures.front)
 
 pub returns-clause-whole : goal.returns-clause-whole
 returns-clause-whole g c =
-    let same = reply_parts (reply_of c.args.answer.now) _ _ c.as_deref.ensures.value (c.as_bytes.ensures.value ∙ c.as_str.ensures.value) in
-    let digests = gathers_more _ _ _ _ _ _ _ _ c.in_ok-add_digests.ensures.whole c.in_ok-add_digest.ensures.whole in
+    let same = reply_parts (reply_of c.args.answer.now) _ (c.as_bytes.ensures.value ∙ c.as_str.ensures.value) in
+    let digests = gathers_more _ _ _ _ _ _ _ _ c.in_ok-add_digests.ensures.whole c.in_ok-add_made_digest.ensures.whole in
     said_whole _ _ _ _ _ c.new-page.ensures c.write.result _ _ same (gathers_more _ _ _ _ _ _ _ _ digests c.in_ok-add.ensures.whole) c.write.ensures.whole
 
 pub returns-clause-front : goal.returns-clause-front
 returns-clause-front g c =
-    let same = reply_parts (reply_of c.args.answer.now) _ _ c.as_deref.ensures.value (c.as_bytes.ensures.value ∙ c.as_str.ensures.value) in
-    let digests = gathers_more _ _ _ _ _ _ _ _ c.in_ok-add_digests.ensures.whole c.in_ok-add_digest.ensures.whole in
+    let same = reply_parts (reply_of c.args.answer.now) _ (c.as_bytes.ensures.value ∙ c.as_str.ensures.value) in
+    let digests = gathers_more _ _ _ _ _ _ _ _ c.in_ok-add_digests.ensures.whole c.in_ok-add_made_digest.ensures.whole in
     said_front _ _ _ _ _ c.new-page.ensures c.write.result _ _ same (gathers_more _ _ _ _ _ _ _ _ digests c.in_ok-add.ensures.whole) c.write.ensures.front

@@ -7,8 +7,8 @@ use Rattle.pdb_verdict.specs.declared.verdict.Fault.TheVariants as fault
 use Rattle.pdb_verdict.proofs.MakerLemmas.{has_its_moves, inputs_order}
 use Rattle.pdb_verdict.proofs.solve.answer_solve.Goals as goal
 
-pub answer_on-requires : goal.answer_on-requires
-answer_on-requires g c = has_its_moves _ _ _ _ _ _ c.in-Ok.ensures.made
+pub answer_on-requires-clause-count : goal.answer_on-requires-clause-count
+answer_on-requires-clause-count g c = has_its_moves _ _ _ _ _ _ (rw c.in-Ok.is at c.search_beside-digests.ensures.made)
 
 pub returns-in-Ok-clause-right : goal.returns-in-Ok-clause-right
 returns-in-Ok-clause-right g c =
@@ -20,7 +20,7 @@ returns-in-Ok-clause-right g c =
     read ∙ (λ i. text_read i ∷ sets_read i ∷ tables) in
     let tells : TellsSearch c.as_slice-text.result.now c.as_slice-sets.result.now tables (reply_of c.answer_on.result) = record {
       outcome = searched c.in-Ok.made.moves.items c.in-Ok.made.log.items c.in-Ok.made.answer;
-      is_outcome = c.in-Ok.ensures.made;
+      is_outcome = rw c.in-Ok.is at c.search_beside-digests.ensures.made;
       told = c.answer_on.ensures;
     } in
     subst (λ (xs : List Bytes). IsSolveReply xs (reply_of c.answer_on.result)) (sym order) tells
@@ -35,7 +35,7 @@ returns-in-Err-clause-right g c =
     read ∙ (λ i. text_read i ∷ sets_read i ∷ tables) in
     let not_memory : c.in-Err.refused ≢ fault.Memory = search rules in
     let is : IsUnmade c.as_slice-text.result.now c.as_slice-sets.result.now tables c.in-Err.refused =
-    elim c.in-Err.ensures.unmade [ inl h ↦ h | inr lacks ↦ absurd (not_memory lacks.1) ] in
+    elim (rw c.in-Err.is at c.search_beside-digests.ensures.unmade) [ inl h ↦ h | inr lacks ↦ absurd (not_memory lacks.1) ] in
     let tells : TellsSearch c.as_slice-text.result.now c.as_slice-sets.result.now tables (reply_of c.refusal_of.result) = record {
       outcome = unmade c.in-Err.refused;
       is_outcome = is;
