@@ -1,10 +1,4 @@
 pub mod CommandLemmas
-pub mod FlagLemmas
 pub mod KindLemmas
-pub mod LogLemmas
-pub mod LogWalkLemmas
-pub mod MakeTableLemmas
 pub mod NumberLemmas
-pub mod TablesLemmas
 pub mod TextLemmas
-pub mod WorkersLemmas

@@ -1,38 +1,18 @@
--- Texts that write numbers, and what is read of them.
-use Rattle.std.proofs.Common.{◌≡◌, ◌∙◌, ◌⊎◌, ◌≤◌, ◌<◌, ◌^◌, ◌&&◌, arith, refl, sym, ap, ℕ, suc, Bool, false, true, List, [], ◌∷◌, lt-ltb, ltb-true, nat_le, nat_lt, ne_eqb, length}
+-- What is read of a text that writes a number.
+use Rattle.std.proofs.Common.{◌≡◌, ◌∙◌, ◌⊎◌, ◌≤◌, ◌<◌, ◌^◌, ◌&&◌, arith, refl, sym, ap, ℕ, suc, Bool, false, true, List, [], ◌∷◌, lt-ltb, ltb-true, nat_le, nat_lt, length}
 use Rattle.std.specs.Char.{digit_value}
 use Rattle.std.specs.List.{list_all}
 use Rattle.std.specs.Option.{option_map_or}
-use Rattle.std.specs.Prelude.{Option, Some, None, Result, if◌then◌else◌, pos, unwrap_or}
+use Rattle.std.specs.Prelude.{Option, Some, None, Result, if◌then◌else◌, unwrap_or}
 use Rattle.std.specs.Str.Parse.{AllDigits, ExplainsUnsignedError, HasUnsignedDigitsIfOk, IsNumeral, ParsesUnsigned, without_leading_plus}
 use Rattle.std.specs.declared.num.ParseIntError.{ParseIntError}
 use Rattle.std.proofs.lemmas.Bool.Decides.{nat_tests}
 use Rattle.clap.proofs.WalkLemmas.{both, one_text-rows}
-use Rattle.clap.specs.ValueTests.{accepts, is_numeral}
+use Rattle.clap.specs.ValueTests.{is_numeral}
 use Rattle.clap.specs.Walk.{Text}
 use Rattle.clap.specs.Words.{ReadsOne, found_of, one_text, rows_of}
 use Rattle.clap.specs.declared.ArgMatches.{ArgMatches}
-use Rattle.clap.specs.declared.builder.value_parser.ValueParser.TheVariants as parser
-use Rattle.pdb_words.specs.CommandLine.{IsPlain}
-use Rattle.pdb_words.specs.Numbers.{number_in, number_of, number_within, writes_within}
-
--- ---- which numbers `clap` takes
-
-in_range : (numeral : Bool) (n low high most : ℕ) → high < most → (numeral && (nat_lt n most && (nat_le low n && nat_le n high))) ≡ (numeral && (nat_le low n && nat_le n high))
-in_range numeral n low high most fits = grind (arith, nat_tests)
-
-pub signed_accepted : (low high : ℕ) (number : Text) → high < 2 ^ 63 → IsPlain number → accepts false (parser.Signed (pos low) (pos high)) number ≡ writes_within low high number
-signed_accepted low high [] fits plain = refl
-signed_accepted low high (d ∷ number) fits plain =
-    rw (ne_eqb d 45 plain) (in_range (is_numeral (without_leading_plus (d ∷ number))) (number_of (d ∷ number)) low high (2 ^ 63) fits)
-
-pub unsigned_accepted : (low high : ℕ) (number : Text) → high < 2 ^ 64 → accepts false (parser.Unsigned low high) number ≡ writes_within low high number
-unsigned_accepted low high number fits = in_range (is_numeral (without_leading_plus number)) (number_of number) low high (2 ^ 64) fits
-
-pub number_asked : (low high other : ℕ) (number : Text) → writes_within low high number ≡ true → number_within low high other number ≡ number_of number
-number_asked low high other number e = rw e refl
-
--- ---- what is read of a text
+use Rattle.pdb_words.specs.Numbers.{number_in, number_of, number_within}
 
 numeral_test : (ds : List ℕ) → IsNumeral 10 ds → is_numeral ds ≡ true
 numeral_test ds h = rw (lt-ltb 0 (length ds) h.0) (digits_pass ds h.1)

@@ -1,4 +1,4 @@
-use Rattle.std.proofs.Common.{◌≡◌, ◌∙◌, ◌⊎◌, ◌<◌, sym, ap, arith, codes}
+use Rattle.std.proofs.Common.{◌∙◌, ◌⊎◌, ◌<◌, sym, ap, arith, codes}
 use Rattle.std.proofs.lemmas.Bool.Decides.{nat_tests}
 use Rattle.pdb_words.proofs.NumberLemmas.{inside, kept, number_read, outside}
 use Rattle.pdb_words.proofs.workers.workers_in.Goals as goal

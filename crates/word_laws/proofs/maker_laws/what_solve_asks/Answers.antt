@@ -1,7 +1,7 @@
 use Rattle.std.proofs.Common.{refl}
-use Rattle.pdb_words.proofs.LogWalkLemmas.{on_search}
-use Rattle.pdb_words.proofs.LogLemmas.{both_asked, files_asked, flag_asked, flag_last, no_tables, of_budget, of_workers, other_last, other_number}
-use Rattle.pdb_words.proofs.maker_laws.what_solve_asks.Goals as goal
+use Rattle.word_laws.proofs.LogWalkLemmas.{on_search}
+use Rattle.word_laws.proofs.LogLemmas.{both_asked, files_asked, flag_asked, flag_last, no_tables, of_budget, of_workers, other_last, other_number}
+use Rattle.word_laws.proofs.maker_laws.what_solve_asks.Goals as goal
 
 pub returns : goal.returns
 returns c = record {

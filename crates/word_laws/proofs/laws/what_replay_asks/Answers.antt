@@ -6,7 +6,7 @@ use Rattle.pdb_words.specs.Asked.{replay}
 use Rattle.pdb_words.specs.CommandLine.{asked_of, faults_of}
 use Rattle.pdb_words.proofs.KindLemmas.{mistaken}
 use Rattle.pdb_words.proofs.TextLemmas.{HasNoDash, has_no_dash}
-use Rattle.pdb_words.proofs.laws.what_replay_asks.Goals as goal
+use Rattle.word_laws.proofs.laws.what_replay_asks.Goals as goal
 
 nothing_faults : faults_of [] ≡ []
 unfolding clap_on_literals

@@ -1,6 +1,6 @@
-use Rattle.pdb_words.proofs.FlagLemmas.{flags_known}
+use Rattle.word_laws.proofs.FlagLemmas.{flags_known}
 use Rattle.pdb_words.proofs.CommandLemmas.{begins_with_command, other_command}
-use Rattle.pdb_words.proofs.laws.no_other_words_parse.Goals as goal
+use Rattle.word_laws.proofs.laws.no_other_words_parse.Goals as goal
 
 pub returns-clause-commands : goal.returns-clause-commands
 returns-clause-commands c = begins_with_command

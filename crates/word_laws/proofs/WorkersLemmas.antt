@@ -1,5 +1,5 @@
 -- Texts that write a number of workers, or a budget.
-use Rattle.std.proofs.Common.{◌≡◌, arith, false, ℕ, Bool}
+use Rattle.std.proofs.Common.{◌≡◌, arith, false, Bool}
 use Rattle.std.specs.Prelude.{pos}
 use Rattle.clap.specs.ValueTests.{accepts}
 use Rattle.clap.specs.Walk.{Text}
@@ -7,7 +7,7 @@ use Rattle.clap.specs.declared.builder.value_parser.ValueParser.TheVariants as p
 use Rattle.pdb_words.specs.Budget.{writes_budget}
 use Rattle.pdb_words.specs.CommandLine.{IsPlain}
 use Rattle.pdb_words.specs.Workers.{writes_workers}
-use Rattle.pdb_words.proofs.NumberLemmas.{signed_accepted, unsigned_accepted}
+use Rattle.word_laws.proofs.NumberLemmas.{signed_accepted, unsigned_accepted}
 
 -- `clap` takes the text as a number from 1 to 64
 abbrev pub accepted : Text → Bool

@@ -1,6 +1,6 @@
-use Rattle.pdb_words.proofs.LogWalkLemmas.{on_puzzle}
-use Rattle.pdb_words.proofs.LogLemmas.{files_asked, flag_asked, flag_last, no_tables, of_workers, other_last, other_number}
-use Rattle.pdb_words.proofs.laws.what_optimal_asks.Goals as goal
+use Rattle.word_laws.proofs.LogWalkLemmas.{on_puzzle}
+use Rattle.word_laws.proofs.LogLemmas.{files_asked, flag_asked, flag_last, no_tables, of_workers, other_last, other_number}
+use Rattle.word_laws.proofs.laws.what_optimal_asks.Goals as goal
 
 pub returns : goal.returns
 returns c = record {

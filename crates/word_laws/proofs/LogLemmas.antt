@@ -19,11 +19,11 @@ use Rattle.pdb_words.specs.Numbers.{number_of}
 use Rattle.pdb_words.specs.Workers.{workers_of, writes_workers}
 use Rattle.pdb_words.proofs.CommandLemmas.{asked_behind, faults_behind, start}
 use Rattle.pdb_words.proofs.KindLemmas.{mistaken}
-use Rattle.pdb_words.proofs.LogWalkLemmas.{LogCommand, on_board, on_puzzle, on_search, Flags, none, workers, budget, both, IsTaken, IsTakenAs, at, claim_of, file_row, files, files_pass, files_walk, first_pass, first_steps, flags_before, log_of, name_of, plain_claim, rows_before, shape_of}
-use Rattle.pdb_words.proofs.NumberLemmas.{number_asked}
-use Rattle.pdb_words.proofs.TablesLemmas.{gathering, last_fault, level_ends, tables_pass, tables_row}
+use Rattle.word_laws.proofs.LogWalkLemmas.{LogCommand, on_board, on_puzzle, on_search, Flags, none, workers, budget, both, IsTaken, IsTakenAs, at, claim_of, file_row, files, files_pass, files_walk, first_pass, first_steps, flags_before, log_of, name_of, plain_claim, rows_before, shape_of}
+use Rattle.word_laws.proofs.NumberLemmas.{number_asked}
+use Rattle.word_laws.proofs.TablesLemmas.{gathering, last_fault, level_ends, tables_pass, tables_row}
 use Rattle.pdb_words.proofs.TextLemmas.{HasNoDash, has_no_dash}
-use Rattle.pdb_words.proofs.WorkersLemmas.{accepted, accepted_budget, accepted_budget_is, accepted_is}
+use Rattle.word_laws.proofs.WorkersLemmas.{accepted, accepted_budget, accepted_budget_is, accepted_is}
 
 -- what the words ask for, of so many workers and with such a budget
 abbrev pub asks : LogCommand → Text → Text → Text → List Text → ℕ → ℕ → Asked

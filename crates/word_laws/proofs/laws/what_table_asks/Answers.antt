@@ -8,9 +8,9 @@ use Rattle.pdb_words.specs.CommandLine.{asked_of, faults_of}
 use Rattle.pdb_words.specs.Workers.{workers_of}
 use Rattle.pdb_words.proofs.KindLemmas.{mistaken}
 use Rattle.pdb_words.proofs.TextLemmas.{HasNoDash, has_no_dash}
-use Rattle.pdb_words.proofs.NumberLemmas.{number_asked}
-use Rattle.pdb_words.proofs.WorkersLemmas.{accepted, accepted_is}
-use Rattle.pdb_words.proofs.laws.what_table_asks.Goals as goal
+use Rattle.word_laws.proofs.NumberLemmas.{number_asked}
+use Rattle.word_laws.proofs.WorkersLemmas.{accepted, accepted_is}
+use Rattle.word_laws.proofs.laws.what_table_asks.Goals as goal
 
 alone_faults : faults_of (codes "table" ∷ []) ≡ kind.MissingRequiredArgument ∷ []
 unfolding clap_on_literals

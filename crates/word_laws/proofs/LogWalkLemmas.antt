@@ -13,9 +13,9 @@ use Rattle.pdb_words.specs.CommandLine.{AreNames, IsPlain}
 use Rattle.pdb_words.specs.Budget.{budget_flag}
 use Rattle.pdb_words.specs.Workers.{workers_flag}
 use Rattle.pdb_words.proofs.CommandLemmas.{leaf, start}
-use Rattle.pdb_words.proofs.TablesLemmas.{gathering, more_pass, more_walk, tables_rule}
+use Rattle.word_laws.proofs.TablesLemmas.{gathering, more_pass, more_walk, tables_rule}
 use Rattle.pdb_words.proofs.TextLemmas.{HasNoDash, has_no_dash}
-use Rattle.pdb_words.proofs.WorkersLemmas.{accepted, accepted_budget}
+use Rattle.word_laws.proofs.WorkersLemmas.{accepted, accepted_budget}
 
 pub data LogCommand : Type 0 where
   on_board : LogCommand

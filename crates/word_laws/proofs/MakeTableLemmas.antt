@@ -1,5 +1,5 @@
 -- What the words of `make-table` ask for, and what is wrong with them, word by word.
-use Rattle.std.proofs.Common.{◌≡◌, ◌∙◌, refl, inl, inr, ap, ℕ, Bool, false, true, List, [], ◌∷◌, ◌++◌, None, Some, codes}
+use Rattle.std.proofs.Common.{◌≡◌, ◌∙◌, refl, inl, inr, ap, ℕ, Bool, false, true, List, [], ◌∷◌, None, Some, codes}
 use Rattle.std.specs.Bool.{⊤}
 use Rattle.std.specs.List.{fold}
 use Rattle.std.specs.Prelude.{if◌then◌else◌, pos}
@@ -20,10 +20,10 @@ use Rattle.pdb_words.specs.MakeTable.{needed_mask, needed_side}
 use Rattle.pdb_words.specs.Numbers.{number_within}
 use Rattle.pdb_words.specs.Workers.{workers_of}
 use Rattle.pdb_words.proofs.CommandLemmas.{asked_behind, faults_behind, leaf, start}
-use Rattle.pdb_words.proofs.LogWalkLemmas.{at, file_row, workers_row}
-use Rattle.pdb_words.proofs.TablesLemmas.{last_fault, level_ends}
+use Rattle.word_laws.proofs.LogWalkLemmas.{at, file_row, workers_row}
+use Rattle.word_laws.proofs.TablesLemmas.{last_fault, level_ends}
 use Rattle.pdb_words.proofs.TextLemmas.{HasNoDash}
-use Rattle.pdb_words.proofs.WorkersLemmas.{accepted}
+use Rattle.word_laws.proofs.WorkersLemmas.{accepted}
 
 -- the command, as it is built
 abbrev pub shape : Shape

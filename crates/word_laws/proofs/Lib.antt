@@ -1,0 +1,7 @@
+mod FlagLemmas
+mod LogLemmas
+mod LogWalkLemmas
+mod MakeTableLemmas
+mod NumberLemmas
+mod TablesLemmas
+mod WorkersLemmas

@@ -1,0 +1,158 @@
+//! The helps, whole.
+
+use crate::readings::expect_help;
+use std::test::Fail;
+
+const HELP: &str = "Checks claims about sliding-tile puzzles, and makes tables and logs
+
+Usage: pdb_cli [COMMAND]
+
+Commands:
+  replay      Plays the moves of a puzzle text, and says whether they solve its board
+  table       Says whether a table file is exact
+  bound       Says whether a log proves that no solution of a board has fewer moves than its bound
+  optimal     Says whether a log proves that the moves of a puzzle text are a shortest solution
+  make-table  Makes the table of a pattern, and keeps it if it is exact
+  solve       Searches for a shortest solution of a board, and keeps the log that proves it
+  help        Print this message or the help of the given subcommand(s)
+
+Options:
+  -h, --help  Print help
+
+Without a command it does `replay` on standard input.
+
+Status: 0 yes, 1 refused, 2 bad words or a read or write fault, 3 no memory.
+The formats of texts, files and output lines are in docs/FORMATS.md.
+";
+
+const HELP_OF_REPLAY: &str =
+    "Plays the moves of a puzzle text, and says whether they solve its board
+
+Usage: pdb_cli replay [FILE]
+
+Arguments:
+  [FILE]  A puzzle text; without it, standard input
+
+Options:
+  -h, --help  Print help
+";
+
+const HELP_OF_TABLE: &str = "Says whether a table file is exact
+
+Usage: pdb_cli table [--workers N] FILE
+
+Arguments:
+  <FILE>  A table file
+
+Options:
+      --workers <N>  How many workers share the check, 1 to 64 [default: 1]
+  -h, --help         Print help
+";
+
+const HELP_OF_BOUND: &str =
+    "Says whether a log proves that no solution of a board has fewer moves than its bound
+
+Usage: pdb_cli bound [--workers N] BOARD SETS LOG TABLES..
+
+Arguments:
+  <BOARD>      A board text
+  <SETS>       The sets of tables
+  <LOG>        A log file
+  <TABLES>...  The table files, in the order of their numbers
+
+Options:
+      --workers <N>  How many workers share the check, 1 to 64 [default: 1]
+  -h, --help         Print help
+";
+
+const HELP_OF_OPTIMAL: &str =
+    "Says whether a log proves that the moves of a puzzle text are a shortest solution
+
+Usage: pdb_cli optimal [--workers N] PUZZLE SETS LOG TABLES..
+
+Arguments:
+  <PUZZLE>     A puzzle text
+  <SETS>       The sets of tables
+  <LOG>        A log file
+  <TABLES>...  The table files, in the order of their numbers
+
+Options:
+      --workers <N>  How many workers share the check, 1 to 64 [default: 1]
+  -h, --help         Print help
+";
+
+const HELP_OF_MAKE_TABLE: &str = "Makes the table of a pattern, and keeps it if it is exact
+
+Usage: pdb_cli make-table [--workers N] SIDE MASK OUT
+
+Arguments:
+  <SIDE>  The side of the puzzle, 2 to 5
+  <MASK>  The tiles of the pattern: the sum of 2^t over its tiles t
+  <OUT>   The file that is to hold the table
+
+Options:
+      --workers <N>  How many workers share the check, 1 to 64 [default: 1]
+  -h, --help         Print help
+";
+
+const HELP_OF_SOLVE: &str =
+    "Searches for a shortest solution of a board, and keeps the log that proves it
+
+Usage: pdb_cli solve [--workers N] [--budget N] BOARD SETS OUT TABLES..
+
+Arguments:
+  <BOARD>      A board text
+  <SETS>       The sets of tables
+  <OUT>        The file that is to hold the log
+  <TABLES>...  The table files, in the order of their numbers
+
+Options:
+      --workers <N>  How many workers share the check, 1 to 64 [default: 1]
+      --budget <N>   How many boards the search may expand, 1 to 1000000000000 [default: 1000000]
+  -h, --help         Print help
+";
+
+const HELP_OF_HELP: &str = "Print this message or the help of the given subcommand(s)
+
+Usage: pdb_cli help [COMMAND]...
+
+Arguments:
+  [COMMAND]...  Print help for the subcommand(s)
+";
+
+#[test]
+fn help_of_the_program_is_shown_whole(rt: HostRuntime) -> Result<(), Fail> {
+    let cases: [(&[&str], &str); 4] = [
+        (&["--help"], HELP),
+        (&["-h"], HELP),
+        (&["help"], HELP),
+        (&["help", "help"], HELP_OF_HELP),
+    ];
+    for (words, help) in cases {
+        expect_help(rt.alloc(), words, help)?;
+    }
+    Ok(())
+}
+
+#[test]
+fn help_of_a_command_is_shown_whole(rt: HostRuntime) -> Result<(), Fail> {
+    let cases: [(&[&str], &str); 13] = [
+        (&["replay", "--help"], HELP_OF_REPLAY),
+        (&["help", "replay"], HELP_OF_REPLAY),
+        (&["table", "--help"], HELP_OF_TABLE),
+        (&["table", "f", "-h"], HELP_OF_TABLE),
+        (&["help", "table"], HELP_OF_TABLE),
+        (&["bound", "--help"], HELP_OF_BOUND),
+        (&["help", "bound"], HELP_OF_BOUND),
+        (&["optimal", "c", "s", "l", "t", "-h"], HELP_OF_OPTIMAL),
+        (&["help", "optimal"], HELP_OF_OPTIMAL),
+        (&["make-table", "-h"], HELP_OF_MAKE_TABLE),
+        (&["help", "make-table"], HELP_OF_MAKE_TABLE),
+        (&["solve", "--help"], HELP_OF_SOLVE),
+        (&["help", "solve"], HELP_OF_SOLVE),
+    ];
+    for (words, help) in cases {
+        expect_help(rt.alloc(), words, help)?;
+    }
+    Ok(())
+}

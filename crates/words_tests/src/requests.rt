@@ -1,0 +1,149 @@
+//! What words ask for.
+
+use crate::readings::{behind, expect_request};
+use pdb_words::{LogCheck, Request, Search};
+use std::test::Fail;
+
+#[test]
+fn words_ask_for_a_replay(rt: HostRuntime) -> Result<(), Fail> {
+    let cases: [(&[&str], Option<&str>); 7] = [
+        (&[], None),
+        (&["--"], None),
+        (&["replay"], None),
+        (&["replay", "a puzzle.txt"], Some("a puzzle.txt")),
+        (&["replay", "-"], Some("-")),
+        (&["replay", "--", "-x"], Some("-x")),
+        (&["replay", "table"], Some("table")),
+    ];
+    for (words, name) in cases {
+        expect_request(rt.alloc(), words, &Request::Replay(name))?;
+    }
+    Ok(())
+}
+
+#[test]
+fn words_ask_for_a_table(rt: HostRuntime) -> Result<(), Fail> {
+    let file = "f";
+    let cases: [(&[&str], u8); 8] = [
+        (&["table", "f"], 1),
+        (&["table", "f", "--workers", "1"], 1),
+        (&["table", "--workers", "+1", "f"], 1),
+        (&["table", "f", "--workers", "64"], 64),
+        (&["table", "--workers", "64", "f"], 64),
+        (&["table", "--workers=64", "f"], 64),
+        (&["table", "f", "--workers=64"], 64),
+        (&["table", "--workers", "064", "--", "f"], 64),
+    ];
+    for (words, workers) in cases {
+        expect_request(rt.alloc(), words, &Request::Table { file, workers })?;
+    }
+    Ok(())
+}
+
+#[test]
+fn words_name_the_files_of_a_log(rt: HostRuntime) -> Result<(), Fail> {
+    let alloc = rt.alloc();
+    let cases: [(&[&str], &[&str], u8); 8] = [
+        (&["c", "s", "l", "t"], &["t"], 1),
+        (&["c", "s", "l", "t", "u", "t"], &["t", "u", "t"], 1),
+        (&["c", "s", "l", "bound", ""], &["bound", ""], 1),
+        (&["--workers", "7", "c", "s", "l", "t", "u"], &["t", "u"], 7),
+        (
+            &["c", "s", "l", "t", "u", "--workers", "64"],
+            &["t", "u"],
+            64,
+        ),
+        (&["c", "--workers=2", "s", "l", "t", "u"], &["t", "u"], 2),
+        (&["c", "s", "l", "t", "--workers", "2", "u"], &["t", "u"], 2),
+        (
+            &["c", "s", "l", "--", "-t", "--workers"],
+            &["-t", "--workers"],
+            1,
+        ),
+    ];
+    for (words, tables, workers) in cases {
+        let check = || -> Result<LogCheck<'_>, Fail> {
+            Ok(LogCheck {
+                claim: "c",
+                sets: "s",
+                log: "l",
+                tables: tables.to_vec(alloc)?,
+                workers,
+            })
+        };
+        let bound = behind(alloc, "bound", words)?;
+        expect_request(alloc, bound.as_slice(), &Request::Bound(check()?))?;
+        let optimal = behind(alloc, "optimal", words)?;
+        expect_request(alloc, optimal.as_slice(), &Request::Optimal(check()?))?;
+    }
+    Ok(())
+}
+
+#[test]
+fn words_ask_for_a_table_to_be_made(rt: HostRuntime) -> Result<(), Fail> {
+    let alloc = rt.alloc();
+    let out = "o";
+    let cases: [(&[&str], u8, u32, u8); 6] = [
+        (&["2", "14", "o"], 2, 14, 1),
+        (&["--workers", "7", "5", "16777216", "o"], 5, 16_777_216, 7),
+        (&["3", "510", "o", "--workers", "64"], 3, 510, 64),
+        (&["0", "4294967295", "o"], 0, u32::MAX, 1),
+        (&["255", "0", "o"], 255, 0, 1),
+        (&["+2", "006", "--workers=2", "o"], 2, 6, 2),
+    ];
+    for (words, side, mask, workers) in cases {
+        let wanted = Request::MakeTable {
+            side,
+            mask,
+            out,
+            workers,
+        };
+        expect_request(
+            alloc,
+            behind(alloc, "make-table", words)?.as_slice(),
+            &wanted,
+        )?;
+    }
+    Ok(())
+}
+
+#[test]
+fn words_ask_for_a_search(rt: HostRuntime) -> Result<(), Fail> {
+    let alloc = rt.alloc();
+    let cases: [(&[&str], &[&str], u8, u64); 7] = [
+        (&["b", "s", "o", "t"], &["t"], 1, 1_000_000),
+        (&["b", "s", "o", "t", "u"], &["t", "u"], 1, 1_000_000),
+        (&["--budget", "1", "b", "s", "o", "t"], &["t"], 1, 1),
+        (
+            &["b", "s", "o", "t", "--budget", "1000000000000"],
+            &["t"],
+            1,
+            1_000_000_000_000,
+        ),
+        (
+            &["--workers", "7", "--budget", "5", "b", "s", "o", "t", "u"],
+            &["t", "u"],
+            7,
+            5,
+        ),
+        (
+            &["--budget=9", "b", "s", "o", "t", "--workers=64"],
+            &["t"],
+            64,
+            9,
+        ),
+        (&["--", "b", "s", "o", "-t"], &["-t"], 1, 1_000_000),
+    ];
+    for (words, tables, workers, budget) in cases {
+        let wanted = Request::Solve(Search {
+            board: "b",
+            sets: "s",
+            out: "o",
+            tables: tables.to_vec(alloc)?,
+            workers,
+            budget,
+        });
+        expect_request(alloc, behind(alloc, "solve", words)?.as_slice(), &wanted)?;
+    }
+    Ok(())
+}
