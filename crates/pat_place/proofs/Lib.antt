@@ -10,8 +10,10 @@ pub mod PatternLemmas
 pub mod PlacementLemmas
 pub mod RankLemmas
 pub mod RankSteps
+mod SetLemmas
 pub mod SlideLemmas
 pub mod SlotLemmas
 pub mod SlotSteps
+mod SlotTableLemmas
 pub mod WidthLemmas
 pub use Rattle.puz_board.proofs.BitLemmas

@@ -7,3 +7,4 @@ pub mod Ranks
 pub mod Regions
 pub mod StoredPatterns
 pub mod StoredPlacements
+pub mod StoredSlots

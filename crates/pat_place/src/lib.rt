@@ -8,6 +8,8 @@ mod masks;
 mod patterns;
 mod placements;
 mod ranks;
+mod set_numbers;
+mod slot_tables;
 mod slots;
 #[cfg(test)]
 mod tests;
@@ -15,4 +17,5 @@ mod tests;
 pub use patterns::Pattern;
 pub use placements::Placement;
 pub use ranks::{next, rank, unrank};
+pub use slot_tables::SlotTable;
 pub use slots::{regions, slot_of};

@@ -76,14 +76,7 @@ impl Pattern {
         ensures tiles { result.items ≡ self.now.tiles }
         ensures pattern { IsPattern self.now }
     {
-        let mut tiles = ArrayVec::new();
-        let mut rest = self.mask;
-        while rest != 0 {
-            let tile = masks::first_of(rest);
-            tiles.push(tile);
-            rest = masks::without(rest, tile);
-        }
-        tiles
+        masks::numbers_of(self.mask)
     }
 
     /// How many slots a table has for each placement: no placement has more regions of free cells.

@@ -1,6 +1,6 @@
 //! Placements.
 
-ghost use Rattle.std.specs.Prelude.{◌≡◌, ℕ, ◌<◌, ◌≤◌, ◌-◌, true, List, length, slice_index, slice_set, take, drop, replicate};
+ghost use Rattle.std.specs.Prelude.{◌≡◌, ℕ, ◌*◌, ◌^◌, ◌<◌, ◌≤◌, ◌-◌, true, List, count_ones, length, slice_index, slice_set, take, drop, replicate};
 ghost use Rattle.puz_board.specs.Boards.{IsBoard, IsGoal, side_of};
 ghost use Rattle.puz_board.specs.Masks.{IsMaskOf};
 ghost use Rattle.pat_place.specs.Patterns.{IsPattern, has};
@@ -42,15 +42,7 @@ impl Placement {
         ensures of_goal { (b : List ℕ) → IsBoard b → side_of b ≡ pattern.now.side → IsGoal b
             → placement_of pattern.now.tiles b ≡ result.cells }
     {
-        let mut cells = [0; 8];
-        let tiles = pattern.tiles();
-        for (i, tile) in tiles.as_slice().iter().enumerate() {
-            cells[i] = *tile;
-        }
-        Placement {
-            pattern: *pattern,
-            cells,
-        }
+        Placement::in_cells(pattern, pattern.tiles().as_slice())
     }
 
     /// Where the pattern's tiles are on a board.
@@ -116,6 +108,33 @@ impl Placement {
         Placement {
             pattern: self.pattern,
             cells,
+        }
+    }
+
+    /// The placement with the pattern's tiles, in their order, in the cells of a set, ascending.
+    pub(crate) fn of_set(pattern: &Pattern, set: u32) -> Placement
+        requires bits { set < 2 ^ (pattern.now.side * pattern.now.side) }
+        requires size { count_ones set ≡ length pattern.now.tiles }
+        ensures pattern { result.pattern ≡ pattern.now }
+        ensures set { IsMaskOf set (λ c. has result.cells c ≡ true) }
+    {
+        let _side = pattern.side();
+        Placement::in_cells(pattern, masks::numbers_of(set).as_slice())
+    }
+
+    /// The placement with the pattern's tiles in these cells.
+    fn in_cells(pattern: &Pattern, cells: &[u8]) -> Placement
+        requires { IsPlacement (record { pattern = pattern.now; cells = cells.now }) }
+        ensures { result ≡ record { pattern = pattern.now; cells = cells.now } }
+    {
+        let _side = pattern.side();
+        let mut stored = [0; 8];
+        for (i, cell) in cells.iter().enumerate() {
+            stored[i] = *cell;
+        }
+        Placement {
+            pattern: *pattern,
+            cells: stored,
         }
     }
 

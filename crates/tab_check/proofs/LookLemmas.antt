@@ -1,6 +1,6 @@
 -- What the entry of a board says in an exact table.
-use Rattle.std.proofs.Common.{◌≡◌, ℕ, ◌+◌, ◌*◌, ◌<◌, ◌≤◌, cond, eqb, List, inl, inr, refl, sym, ◌∙◌, subst, arith, ne_eqb, eq-eqb}
-use Rattle.std.specs.Prelude.{slice_index}
+use Rattle.std.proofs.Common.{◌≡◌, ℕ, ◌+◌, ◌*◌, ◌<◌, ◌≤◌, cond, eqb, List, Option, Some, None, inl, inr, refl, sym, ◌∙◌, subst, arith, ne_eqb, eq-eqb}
+use Rattle.std.specs.Prelude.{slice_index, IfSome}
 use Rattle.std.proofs.lemmas.Bool.{cases_eq, cases_lt, cond-true, cond-false}
 use Rattle.puz_board.specs.Boards.{IsBoard, IsBoardOf, blank, side_of}
 use Rattle.puz_board.proofs.BoardLemmas.{cells_least}
@@ -32,6 +32,10 @@ pub free_blank : (p : PatternView) → IsPattern p → (b : List ℕ) → IsBoar
 free_blank p pat b good e =
     let board : IsBoardOf p.side b = subst (λ n. IsBoardOf n b) e good in
     IsFree-blank p.side p.tiles pat.tiles b board (let l = cells_least p.side b board in omega arith)
+
+pub if_some_more : (P Q : ℕ → Type 0) (found : Option ℕ) → ((j : ℕ) → P j → Q j) → IfSome found P → IfSome found Q
+if_some_more P Q None more has = tt
+if_some_more P Q (Some j) more has = more j has
 
 -- ---- where the second slot has no region, all free cells are of the first
 

@@ -7,4 +7,5 @@ pub mod ExactTables
 pub mod Laws
 pub mod LocalRule
 pub mod Moves
+pub mod StoredTables
 pub mod TableFaults

@@ -1,6 +1,6 @@
 //! Tables that are checked whole.
 
-ghost use Rattle.std.specs.Prelude.{◌≡◌, ◌<◌, ◌≤◌, ◌⊎◌, ◌==◌, if◌then◌else◌, ℕ, true, Err, IfErr, IfOk, Ok};
+ghost use Rattle.std.specs.Prelude.{◌≡◌, ◌<◌, ◌≤◌, ◌⊎◌, ◌==◌, if◌then◌else◌, ℕ, true, Err, IfErr, IfOk, IfSome, Ok};
 ghost use Rattle.puz_board.specs.Boards.{side_of};
 ghost use Rattle.tab_file.specs.HeadFaults.{table_of_file};
 ghost use Rattle.tab_file.specs.TableFiles.{IsTableFile};
@@ -22,7 +22,7 @@ use crate::block_checks::{BlockCheck, EntryByEntry};
 use crate::census::{Census, census_of};
 use crate::entries::{NO_REGION, NO_WAY_HOME};
 use crate::jobs::TableCheck;
-use pat_place::{Pattern, Placement, rank, slot_of};
+use pat_place::{Pattern, Placement, SlotTable, rank, slot_of};
 use puz_board::Board;
 use std::alloc::Global;
 use std::marker::Model;
@@ -63,17 +63,19 @@ pub enum Count {
 #[derive(Drop)]
 pub struct CheckedTable<'a> {
     view: TableView<'a>,
+    /// The slots of all its placements, where they are kept.
+    slots: Option<SlotTable>,
 }
 
 impl<'a> Model for CheckedTable<'a> {
-    ghost use Rattle.tab_check.specs.ExactTables.{IsExactTable};
+    ghost use Rattle.tab_check.specs.StoredTables.{IsStoredTable};
     ghost use Rattle.tab_file.specs.Tables.{Table};
 
     ghost Value = { Table };
 
     ghost view = { λ checked. checked.view };
 
-    ghost invariant = { λ checked. IsExactTable checked.view };
+    ghost invariant = { IsStoredTable };
 }
 
 /// Checks the bytes of a table file, block by block, by so many workers at once.
@@ -129,13 +131,27 @@ pub fn check_table_by<'a, R: Threads + Wait, G: Gate + Sync, C: BlockCheck + Syn
     };
     let check = TableCheck { view, blocks };
     match run_jobs(rt, alloc, &check, workers, gate) {
-        Ok(None) => Ok(CheckedTable { view: check.view }),
+        Ok(None) => Ok(CheckedTable {
+            view: check.view,
+            slots: None,
+        }),
         Ok(Some(number)) => Err(TableFault::Refused(TableRefusal::T7(number))),
         Err(_) => Err(TableFault::Memory),
     }
 }
 
 impl<'a> CheckedTable<'a> {
+    /// The same table, which keeps the slots of all its placements where their memory is granted: looks are faster then.
+    pub fn with_slots(self, alloc: Global) -> CheckedTable<'a>
+        ensures { result ≡ self.entry }
+    {
+        let slots = SlotTable::build(alloc, &self.pattern()).ok();
+        CheckedTable {
+            view: self.view,
+            slots,
+        }
+    }
+
     /// The pattern of the table.
     pub fn pattern(&self) -> Pattern
         ensures pattern { result ≡ self.now.pattern }
@@ -158,8 +174,8 @@ impl<'a> CheckedTable<'a> {
         count_of(self.view.entry(rank, slot))
     }
 
-    /// The slot of a free cell of a placement, whose rank is given. It takes no flood where the second slot has no
-    /// region, so that all free cells are of the first.
+    /// The slot of a free cell of a placement, whose rank is given. It takes no flood where the slots are kept, or where
+    /// the second slot has no region, so that all free cells are of the first.
     #[inline]
     fn slot_in(&self, placement: &Placement, rank: u64, cell: u8) -> u8
         requires placement { IsPlacement placement.now }
@@ -169,6 +185,9 @@ impl<'a> CheckedTable<'a> {
         ensures slot { IsSlot placement.now.pattern.side placement.now.cells cell result }
         ensures below { result < slot_count self.now.pattern }
     {
+        if let Some(slot) = self.kept_slot(placement, cell) {
+            return slot;
+        }
         if self.pattern().width() > 1 && self.view.entry(rank, 1) == NO_REGION {
             return 0;
         }
@@ -181,6 +200,19 @@ impl<'a> CheckedTable<'a> {
         ensures exact { IsExactTable self.now }
     {
         self.view.entries()
+    }
+
+    /// The slot of a free cell of a placement, where it is kept.
+    #[inline]
+    fn kept_slot(&self, placement: &Placement, cell: u8) -> Option<u8>
+        requires placement { IsPlacement placement.now }
+        requires pattern { placement.now.pattern ≡ self.now.pattern }
+        requires free { IsFree placement.now.pattern.side placement.now.cells cell }
+        ensures slot { IfSome result (IsSlot placement.now.pattern.side placement.now.cells cell) }
+        ensures below { IfSome result (λ slot. slot < slot_count self.now.pattern) }
+    {
+        let _pattern = self.pattern();
+        self.slots.as_ref()?.slot(placement, cell)
     }
 
     /// How many entries there are, how many of them say that no walk leads home, and the greatest count.

@@ -35,7 +35,7 @@ bad g c = least_bad_whole c.in-Ok.view c.in-Ok-Some.number (rw c.in-Ok-Some.fiel
 pub invariant_of-result : goal.invariant_of-result
 invariant_of-result g c =
     let is = c.in-Ok.ensures.ok.table in
-    record { is_table = is; exact = exact_from_keeps c.in-Ok.view is (keeps g c) }
+    record { exact = record { is_table = is; exact = exact_from_keeps c.in-Ok.view is (keeps g c) }; slots = tt }
 
 pub returns-in-Ok-None-clause-ok : goal.returns-in-Ok-None-clause-ok
 returns-in-Ok-None-clause-ok g c =

@@ -37,7 +37,7 @@ returns c =
     let in_slot = subst (λ q. IsSlot q.pattern.side q.cells c.blank.result j) on c.slot_in-slot.ensures.slot in
     let is_slot = subst (λ x. IsSlot t.pattern.side (placement_of t.pattern.tiles b) x j) c.blank.ensures.cell in_slot in
     let low = subst (λ q. j < slot_count q) shown c.slot_in-slot.ensures.below in
-    let says : SaysOfBoard t.pattern.tiles b c.entry.result = entry_says t c.self.invariant b c.side-side.ensures.board side c.rank-rank.result j c.entry.result is_rank is_slot low c.entry.ensures.entry in
+    let says : SaysOfBoard t.pattern.tiles b c.entry.result = entry_says t c.self.invariant.exact b c.side-side.ensures.board side c.rank-rank.result j c.entry.result is_rank is_slot low c.entry.ensures.entry in
     record {
       count = subst (λ s. IsCountOf s.pattern.tiles b c.count_of.result) c.self.view_is (subst (IsCountOf t.pattern.tiles b) (sym c.count_of.ensures) (says-count t.pattern.tiles b c.entry.result says));
       few = λ d is. says-few t.pattern.tiles b c.entry.result says d (sym c.count_of.ensures ∙ is);

@@ -21,7 +21,7 @@ returns-then-entry-clause-slot c =
     let same : p.pattern ≡ t.pattern = c.requires.pattern ∙ ap (λ s. s.pattern) (sym c.self.view_is) in
     let width : c.width.result ≡ slot_count t.pattern = c.width.ensures ∙ ap slot_count (c.pattern.ensures.pattern ∙ ap (λ s. s.pattern) (sym c.self.view_is)) in
     subst (λ q. IsSlot q.side p.cells c.args.cell 0) (sym same) (
-    slot_first t c.self.invariant p.cells (subst (λ q. IsPlacement (record { pattern = q; cells = p.cells })) same c.requires.placement) c.args.rank c.args.cell
+    slot_first t c.self.invariant.exact p.cells (subst (λ q. IsPlacement (record { pattern = q; cells = p.cells })) same c.requires.placement) c.args.rank c.args.cell
     (subst (λ q. IsRank q.side p.cells c.args.rank) same c.requires.rank) (let l = c.if-width-gt1.true in omega arith) (sym c.entry.ensures.entry ∙ c.if-entry.true)
     (subst (λ q. IsFree q.side p.cells c.args.cell) same c.requires.free))
 
