@@ -24,10 +24,13 @@ use work_run::Gate;
 
 /// The command `make-table`: the table of this side and this mask, under this name.
 #[derive(Clone, Copy)]
-struct MakeTable<'a> {
-    side: u8,
-    mask: u32,
-    out: &'a str,
+pub struct MakeTable<'n> {
+    /// Of the pattern's boards.
+    pub side: u8,
+    /// The pattern's tiles: bit t for tile t.
+    pub mask: u32,
+    /// Under which the table is kept.
+    pub out: &'n str,
 }
 
 impl Command for MakeTable<'_> {
@@ -44,36 +47,28 @@ impl Command for MakeTable<'_> {
     }
 }
 
-/// A whole run of `make-table`: the table of the pattern whose tiles are the bits of `mask`, on boards of `side`, is kept
-/// under the name `out` once it is found exact.
+/// A whole run of `make-table`: the table is kept under its name once it is found exact.
 pub fn run_make_table<H: Threads + Wait + Sync, G: Gate + Sync, S: Shelf, R: Read, W: Write>(
     alloc: Global,
-    side: u8,
-    mask: u32,
-    out_name: &str,
+    command: MakeTable<'_>,
     workers: &Workers<'_, H, G>,
     shelf: &mut S,
     reader: &mut R,
     out: &mut W,
 ) -> Status
-    ensures { Ends (make_table_plan side mask out_name.now)
+    ensures { Ends (make_table_plan command.entry.side command.entry.mask command.entry.out.now)
         (world (S.held shelf.old) (S.has_failed shelf.old) (R.remaining reader.old) (W.contents out.old))
         (world (S.held shelf.new) (S.has_failed shelf.new) (R.remaining reader.new) (W.contents out.new)) result }
 {
-    let command = MakeTable {
-        side,
-        mask,
-        out: out_name,
-    };
     match read_inputs(alloc, &command, shelf, reader, out) {
         Ok(inputs) => {
-            let answer = answer_make_table(alloc, side, mask, workers);
+            let answer = answer_make_table(alloc, command.side, command.mask, workers);
             keep_and_conclude(
                 alloc,
                 &command,
                 inputs.as_slice(),
                 &answer,
-                out_name,
+                command.out,
                 shelf,
                 out,
             )
