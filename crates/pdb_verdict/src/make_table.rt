@@ -7,8 +7,9 @@ ghost use Rattle.pdb_run.specs.Runs.{Ends, world};
 ghost use Rattle.pdb_verdict.specs.MadeTables.{ArePattern, IsBuilt, SpeaksOf, TellsBuild, make_table_plan};
 ghost use Rattle.pdb_verdict.specs.Steps.{IsCauseForBuild};
 
+use crate::inputs::Inputs;
 use crate::lines::line_of;
-use crate::table::table_beside;
+use crate::reports::verify_beside;
 use crate::verdict::{Fault, MakeRefusal, Verdict};
 use crate::workers::Workers;
 use pat_place::Pattern;
@@ -138,7 +139,8 @@ fn build_table<H: Threads + Wait + Sync, G: Gate + Sync>(
         Err(MakeFault::Memory) => return Err(Fault::Memory),
         Err(_) => return Err(Fault::Make(MakeRefusal::K3)),
     };
-    let (digest, answer) = table_beside(alloc, file.as_slice(), workers);
+    let table = file.as_slice();
+    let (digest, answer) = verify_beside(alloc, &Inputs::Table { table }, workers);
     match answer {
         Err(Fault::Memory) => Err(Fault::Memory),
         _ => {
