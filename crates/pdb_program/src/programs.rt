@@ -1,6 +1,6 @@
 //! A run of the program on words.
 
-ghost use Rattle.std.specs.Prelude.{◌≡◌, ◌⊎◌, map, string_bytes};
+ghost use Rattle.std.specs.Prelude.{◌≡◌, ◌<◌, ◌≤◌, ◌⊎◌, map, string_bytes};
 ghost use Rattle.std.specs.Io.KnownBytes.{Keeps};
 ghost use Rattle.pdb_run.specs.Runs.{Ends, IsAnswered, world};
 ghost use Rattle.pdb_words.specs.CommandLine.{Parses, asked_of};
@@ -12,8 +12,8 @@ use crate::refusals::explain;
 use pdb_io::shelf::Shelf;
 use pdb_run::Status;
 use pdb_verdict::{
-    ClaimNames, SearchNames, Workers, run_bound, run_make_table, run_optimal, run_replay,
-    run_solve, run_table,
+    ClaimNames, MakeTable, SearchNames, Workers, run_bound, run_make_table, run_optimal,
+    run_replay, run_solve, run_table,
 };
 use pdb_words::{LogCheck, Request, Search, read_words};
 use std::alloc::Global;
@@ -62,19 +62,36 @@ pub fn run<H: Threads + Wait + Sync, S: Shelf, R: Read, W: Write, E: Write, G: G
     // The shelf keeps its bytes, unless the words ask for something to keep.
     ensures same { AskToKeepNothing (map string_bytes words.items) → S.held shelf.new ≡ S.held shelf.old }
 {
-    answer(rt, alloc, words.as_slice(), shelf, reader, out, err, gate).code()
+    let host = Host { rt, alloc, gate };
+    answer(&host, words.as_slice(), shelf, reader, out, err).code()
+}
+
+/// What a run has of its host: what starts threads, memory, and the gate that workers pass.
+#[derive(Drop)]
+struct Host<'h, H, G> {
+    rt: &'h H,
+    alloc: Global,
+    gate: &'h G,
+}
+
+impl<'h, H, G> Host<'h, H, G> {
+    /// So many workers.
+    fn workers(&self, count: u8) -> Workers<'h, H, G>
+        requires { (0 < count) × (count ≤ 64) }
+        ensures { result ≡ count }
+    {
+        Workers::new(self.rt, count, self.gate)
+    }
 }
 
 /// Does what the words ask for.
-fn answer<'w, H: Threads + Wait + Sync, S: Shelf, R: Read, W: Write, E: Write, G: Gate + Sync>(
-    rt: &'w H,
-    alloc: Global,
+fn answer<H: Threads + Wait + Sync, S: Shelf, R: Read, W: Write, E: Write, G: Gate + Sync>(
+    host: &Host<'_, H, G>,
     words: &[String],
     shelf: &mut S,
     reader: &mut R,
     out: &mut W,
     err: &mut E,
-    gate: &'w G,
 ) -> Status
     ensures ends { let words = map string_bytes words.now in Parses words
         → Ends (plan_of (asked_of words))
@@ -85,18 +102,19 @@ fn answer<'w, H: Threads + Wait + Sync, S: Shelf, R: Read, W: Write, E: Write, G
     ensures quiet { Keeps (E.contents err.old) (E.contents err.new) ⊎ IsMistaken (map string_bytes words.now) }
     ensures same { AskToKeepNothing (map string_bytes words.now) → S.held shelf.new ≡ S.held shelf.old }
 {
+    let alloc = host.alloc;
     match read_words(alloc, words) {
         Ok(Request::Replay(name)) => run_replay(alloc, name, shelf, reader, out),
         Ok(Request::Table { file, workers }) => {
-            let workers = Workers::new(rt, workers, gate);
+            let workers = host.workers(workers);
             run_table(alloc, file, &workers, shelf, reader, out)
         }
         Ok(Request::Bound(check)) => {
-            let workers = Workers::new(rt, check.workers, gate);
+            let workers = host.workers(check.workers);
             run_bound(alloc, names_in(&check), &workers, shelf, reader, out)
         }
         Ok(Request::Optimal(check)) => {
-            let workers = Workers::new(rt, check.workers, gate);
+            let workers = host.workers(check.workers);
             run_optimal(alloc, names_in(&check), &workers, shelf, reader, out)
         }
         Ok(
@@ -107,11 +125,16 @@ fn answer<'w, H: Threads + Wait + Sync, S: Shelf, R: Read, W: Write, E: Write, G
                 workers,
             },
         ) => {
-            let workers = Workers::new(rt, workers, gate);
-            run_make_table(alloc, side, mask, name, &workers, shelf, reader, out)
+            let workers = host.workers(workers);
+            let command = MakeTable {
+                side,
+                mask,
+                out: name,
+            };
+            run_make_table(alloc, command, &workers, shelf, reader, out)
         }
         Ok(Request::Solve(search)) => {
-            let workers = Workers::new(rt, search.workers, gate);
+            let workers = host.workers(search.workers);
             let names = search_names_in(&search);
             run_solve(alloc, names, search.budget, &workers, shelf, reader, out)
         }

@@ -12,7 +12,7 @@ ghost use Rattle.pdb_verdict.specs.Verdicts.{HoldsOfSolutions, IsAnswerTo};
 use crate::bundles::read_bundle;
 use crate::claims::{ClaimNames, claim_inputs};
 use crate::inputs::Inputs;
-use crate::reports::{answer_or_memory, check_beside};
+use crate::reports::{answer_or_memory, verify_beside};
 use crate::verdict::{Fault, Verdict};
 use crate::workers::Workers;
 use log_check::{LogFault, check_log};
@@ -85,10 +85,7 @@ fn answer_bound<'i, H: Threads + Wait, G: Gate + Sync>(
         log,
         tables,
     };
-    let check = || -> Result<Verdict, Fault>
-        ensures { IsAnswerTo (bound_claim board.entry.now sets.entry.now log.entry.now (all_bytes tables.entry.now)) result }
-    { verify_bound(alloc, board, sets, log, tables, workers) };
-    let (digests, answer) = check_beside(&inputs, workers, check);
+    let (digests, answer) = verify_beside(alloc, &inputs, workers);
     answer_or_memory(&inputs, digests, answer)
 }
 

@@ -26,7 +26,7 @@ pub use laws::{
     inputs_have_a_result, inputs_have_one_result, kept_logs_prove_optima, kept_tables_are_exact,
     results_are_true_verdicts, true_verdicts_hold_of_solutions,
 };
-pub use make_table::run_make_table;
+pub use make_table::{MakeTable, run_make_table};
 pub use optimal::run_optimal;
 pub use replay::{run_replay, verify_puzzle};
 pub use reports::{digests, line, report};
@@ -34,10 +34,3 @@ pub use solve::{SearchNames, run_solve};
 pub use table::run_table;
 pub use verdict::{Fault, MakeRefusal, Verdict, verify};
 pub use workers::Workers;
-
-#[cfg(test)]
-mod claim_tests;
-#[cfg(test)]
-mod maker_tests;
-#[cfg(test)]
-mod tests;

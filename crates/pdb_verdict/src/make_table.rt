@@ -7,8 +7,9 @@ ghost use Rattle.pdb_run.specs.Runs.{Ends, world};
 ghost use Rattle.pdb_verdict.specs.MadeTables.{ArePattern, IsBuilt, SpeaksOf, TellsBuild, make_table_plan};
 ghost use Rattle.pdb_verdict.specs.Steps.{IsCauseForBuild};
 
+use crate::inputs::Inputs;
 use crate::lines::line_of;
-use crate::table::table_beside;
+use crate::reports::verify_beside;
 use crate::verdict::{Fault, MakeRefusal, Verdict};
 use crate::workers::Workers;
 use pat_place::Pattern;
@@ -24,10 +25,13 @@ use work_run::Gate;
 
 /// The command `make-table`: the table of this side and this mask, under this name.
 #[derive(Clone, Copy)]
-struct MakeTable<'a> {
-    side: u8,
-    mask: u32,
-    out: &'a str,
+pub struct MakeTable<'n> {
+    /// Of the pattern's boards.
+    pub side: u8,
+    /// The pattern's tiles: bit t for tile t.
+    pub mask: u32,
+    /// Under which the table is kept.
+    pub out: &'n str,
 }
 
 impl Command for MakeTable<'_> {
@@ -44,36 +48,28 @@ impl Command for MakeTable<'_> {
     }
 }
 
-/// A whole run of `make-table`: the table of the pattern whose tiles are the bits of `mask`, on boards of `side`, is kept
-/// under the name `out` once it is found exact.
+/// A whole run of `make-table`: the table is kept under its name once it is found exact.
 pub fn run_make_table<H: Threads + Wait + Sync, G: Gate + Sync, S: Shelf, R: Read, W: Write>(
     alloc: Global,
-    side: u8,
-    mask: u32,
-    out_name: &str,
+    command: MakeTable<'_>,
     workers: &Workers<'_, H, G>,
     shelf: &mut S,
     reader: &mut R,
     out: &mut W,
 ) -> Status
-    ensures { Ends (make_table_plan side mask out_name.now)
+    ensures { Ends (make_table_plan command.entry.side command.entry.mask command.entry.out.now)
         (world (S.held shelf.old) (S.has_failed shelf.old) (R.remaining reader.old) (W.contents out.old))
         (world (S.held shelf.new) (S.has_failed shelf.new) (R.remaining reader.new) (W.contents out.new)) result }
 {
-    let command = MakeTable {
-        side,
-        mask,
-        out: out_name,
-    };
     match read_inputs(alloc, &command, shelf, reader, out) {
         Ok(inputs) => {
-            let answer = answer_make_table(alloc, side, mask, workers);
+            let answer = answer_make_table(alloc, command.side, command.mask, workers);
             keep_and_conclude(
                 alloc,
                 &command,
                 inputs.as_slice(),
                 &answer,
-                out_name,
+                command.out,
                 shelf,
                 out,
             )
@@ -143,7 +139,8 @@ fn build_table<H: Threads + Wait + Sync, G: Gate + Sync>(
         Err(MakeFault::Memory) => return Err(Fault::Memory),
         Err(_) => return Err(Fault::Make(MakeRefusal::K3)),
     };
-    let (digest, answer) = table_beside(alloc, file.as_slice(), workers);
+    let table = file.as_slice();
+    let (digest, answer) = verify_beside(alloc, &Inputs::Table { table }, workers);
     match answer {
         Err(Fault::Memory) => Err(Fault::Memory),
         _ => {

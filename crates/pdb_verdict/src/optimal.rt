@@ -13,7 +13,7 @@ use crate::bound::{bound_for, bound_over};
 use crate::claims::{ClaimNames, claim_inputs};
 use crate::inputs::Inputs;
 use crate::replay::solved_board;
-use crate::reports::{answer_or_memory, check_beside};
+use crate::reports::{answer_or_memory, verify_beside};
 use crate::verdict::{Fault, Verdict};
 use crate::workers::Workers;
 use pdb_io::shelf::Shelf;
@@ -84,10 +84,7 @@ fn answer_optimal<'i, H: Threads + Wait, G: Gate + Sync>(
         log,
         tables,
     };
-    let check = || -> Result<Verdict, Fault>
-        ensures { IsAnswerTo (optimum_claim puzzle.entry.now sets.entry.now log.entry.now (all_bytes tables.entry.now)) result }
-    { verify_optimal(alloc, puzzle, sets, log, tables, workers) };
-    let (digests, answer) = check_beside(&inputs, workers, check);
+    let (digests, answer) = verify_beside(alloc, &inputs, workers);
     answer_or_memory(&inputs, digests, answer)
 }
 

@@ -7,17 +7,20 @@ ghost use Rattle.pdb_run.specs.Lines.{digests_of, list_of};
 ghost use Rattle.pdb_run.specs.Replies.{all_bytes, reply_of};
 ghost use Rattle.pdb_verdict.specs.Given.{given};
 ghost use Rattle.pdb_verdict.specs.Lines.{digested_of, line_of, lines_of, reply_to, stands_alone};
+ghost use Rattle.pdb_verdict.specs.Verdicts.{IsAnswerTo};
 ghost use Rattle.pdb_verdict.specs.declared.verdict.Fault.TheVariants.{Memory};
 
 use crate::inputs::Inputs;
 use crate::lines::line_of;
-use crate::verdict::{Fault, Verdict};
+use crate::verdict::{Fault, Verdict, verify_by};
 use crate::workers::Workers;
 use pdb_io::streams::{WriteFault, put_text};
 use pdb_run::{Answer, Digests, beside, say, say_digests};
-use std::alloc::AllocError;
+use std::alloc::{AllocError, Global};
 use std::io::Write;
+use std::sync::Wait;
 use std::thread::Threads;
+use work_run::Gate;
 
 /// Writes all lines on the inputs: the digests and then the answer's line, which stands alone for want of memory.
 pub fn report<W: Write>(
@@ -51,17 +54,19 @@ pub fn line<W: Write>(answer: &Result<Verdict, Fault>, out: &mut W) -> Result<()
     put_text(out, line_of(answer).as_str())
 }
 
-/// What a check answers on inputs, and the digest lines that are made beside it, where there are some.
-pub(crate) fn check_beside<H: Threads, G, F: FnOnce() -> Result<Verdict, Fault>>(
+/// What these workers answer to inputs, and the digest lines that are made beside their check, where there are some.
+pub(crate) fn verify_beside<H: Threads + Wait, G: Gate + Sync>(
+    alloc: Global,
     inputs: &Inputs<'_>,
     workers: &Workers<'_, H, G>,
-    check: F,
 ) -> (Option<Digests>, Result<Verdict, Fault>)
-    requires { F.pre check }
     ensures digests { IfSome result.0 (λ digests. digests.items ≡ digests_of (digested_of (given inputs.now))) }
-    ensures answer { F.post check result.1 }
+    ensures answer { IsAnswerTo (given inputs.now) result.1 }
 {
     let (files, last) = checked_files(inputs);
+    let check = || -> Result<Verdict, Fault>
+        ensures { IsAnswerTo (given inputs.entry.now) result }
+    { verify_by(alloc, inputs, workers) };
     beside(workers.rt, workers.count, files, last, check)
 }
 

@@ -1,7 +1,6 @@
 //! Whether the table of a table file is exact.
 
-ghost use Rattle.std.specs.Prelude.{◌≡◌, ◌∷◌, [], length, IfOk, IfSome, OnErr};
-ghost use Rattle.pdb_run.specs.Lines.{digests_of};
+ghost use Rattle.std.specs.Prelude.{◌≡◌, length, IfOk, OnErr};
 ghost use Rattle.pdb_run.specs.Replies.{all_bytes, reply_of};
 ghost use Rattle.pdb_run.specs.Runs.{Ends, world};
 ghost use Rattle.pdb_verdict.specs.Given.{table_file};
@@ -10,11 +9,11 @@ ghost use Rattle.pdb_verdict.specs.Verdicts.{IsAnswerTo};
 
 use crate::inputs::Inputs;
 use crate::limits::a_table;
-use crate::reports::{answer_or_memory, check_beside};
+use crate::reports::{answer_or_memory, verify_beside};
 use crate::verdict::{Fault, Verdict};
 use crate::workers::Workers;
 use pdb_io::shelf::Shelf;
-use pdb_run::{Answer, Command, Digests, Input, Status, conclude, read_inputs};
+use pdb_run::{Answer, Command, Input, Status, conclude, read_inputs};
 use std::alloc::{AllocError, Global};
 use std::io::{Read, Write};
 use std::sync::Wait;
@@ -77,23 +76,9 @@ fn answer_table<'i, H: Threads + Wait, G: Gate + Sync>(
     ensures memory { OnErr result (TakesMemoryForTable (all_bytes inputs.now)) }
 {
     let table = inputs[0].as_slice();
-    let (digests, answer) = table_beside(alloc, table, workers);
-    answer_or_memory(&Inputs::Table { table }, digests, answer)
-}
-
-/// The verdict on a table file, and its digest line, where that is made beside the check.
-pub(crate) fn table_beside<H: Threads + Wait, G: Gate + Sync>(
-    alloc: Global,
-    table: &[u8],
-    workers: &Workers<'_, H, G>,
-) -> (Option<Digests>, Result<Verdict, Fault>)
-    ensures digest { IfSome result.0 (λ digest. digest.items ≡ digests_of (table.now ∷ [])) }
-    ensures answer { IsAnswerTo (table_file table.now) result.1 }
-{
-    let check = || -> Result<Verdict, Fault>
-        ensures { IsAnswerTo (table_file table.entry.now) result }
-    { verify_table(alloc, table, workers) };
-    check_beside(&Inputs::Table { table }, workers, check)
+    let inputs = Inputs::Table { table };
+    let (digests, answer) = verify_beside(alloc, &inputs, workers);
+    answer_or_memory(&inputs, digests, answer)
 }
 
 /// The verdict on a table file: each of its entries is right. Or the first refusal that stands: its header's, then the

@@ -104,21 +104,31 @@ pub fn verify<H: Threads + Wait, G: Gate + Sync>(
     // Which refusal it is.
     ensures exact { IsAnswerTo (given inputs.now) result }
 {
-    let workers = Workers::new(rt, workers, gate);
+    verify_by(alloc, inputs, &Workers::new(rt, workers, gate))
+}
+
+/// What these workers answer to inputs.
+pub(crate) fn verify_by<H: Threads + Wait, G: Gate + Sync>(
+    alloc: Global,
+    inputs: &Inputs<'_>,
+    workers: &Workers<'_, H, G>,
+) -> Result<Verdict, Fault>
+    ensures { IsAnswerTo (given inputs.now) result }
+{
     match *inputs {
         Inputs::Replay { puzzle } => verify_puzzle(puzzle),
-        Inputs::Table { table } => verify_table(alloc, table, &workers),
+        Inputs::Table { table } => verify_table(alloc, table, workers),
         Inputs::Bound {
             board,
             sets,
             log,
             tables,
-        } => verify_bound(alloc, board, sets, log, tables, &workers),
+        } => verify_bound(alloc, board, sets, log, tables, workers),
         Inputs::Optimal {
             puzzle,
             sets,
             log,
             tables,
-        } => verify_optimal(alloc, puzzle, sets, log, tables, &workers),
+        } => verify_optimal(alloc, puzzle, sets, log, tables, workers),
     }
 }

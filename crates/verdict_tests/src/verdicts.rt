@@ -1,9 +1,10 @@
-//! Worked examples: puzzle texts and table files, the verdicts on them and the bytes that tell these. The digests were
-//! worked out by `sha256sum`.
+//! Worked examples: puzzle texts and table files, the verdicts on them and the bytes that tell these.
 
-use crate::{Fault, Inputs, digests, line, report, run_replay, verify, verify_puzzle};
+use crate::sha256;
+use crate::telling::{joined, tells};
 use pdb_io::memory::MemShelf;
 use pdb_run::Status;
+use pdb_verdict::{Fault, Inputs, digests, line, report, run_replay, verify, verify_puzzle};
 use sample_streams::{Failing, SampleWriter};
 use samples::files::{TILE_1_NEVER, TILES_12, TILES_123, with_byte, with_one_more};
 use std::alloc::Global;
@@ -13,24 +14,6 @@ use std::sync::Wait;
 use std::test::Fail;
 use std::thread::Threads;
 use work_run::OpenGate;
-
-/// Whether the answer on the inputs, by some workers, is told by these bytes.
-pub(crate) fn tells<H: Threads + Wait>(
-    rt: &H,
-    alloc: Global,
-    inputs: &Inputs<'_>,
-    lines: &[u8],
-) -> Result<bool, Fail> {
-    for workers in [1u8, 2, 7, 64] {
-        let answer = verify(rt, alloc, inputs, workers, &OpenGate);
-        let mut out = Vec::new(alloc);
-        let written = report(inputs, &answer, &mut out);
-        if written.is_err() || out.as_slice() != lines {
-            return Ok(false);
-        }
-    }
-    Ok(true)
-}
 
 #[test]
 fn puzzle_texts_have_their_lines(rt: HostRuntime) -> Result<(), Fail> {
@@ -74,18 +57,25 @@ fn a_thousand_moves_are_a_solution_and_one_more_is_not(rt: HostRuntime) -> Resul
     Ok(())
 }
 
-/// Checks that each of these table files has its lines, the first of which is its digest.
+/// Checks that each of these table files has its digest, and behind it its line.
 fn check_tables<H: Threads + Wait + Abort>(
     rt: &H,
     alloc: Global,
-    cases: &[(&[u8], &[u8])],
+    cases: &[(&[u8], &[u8], &[u8])],
 ) -> Result<(), Fail> {
-    for (table, lines) in cases {
+    for (table, digest, line) in cases {
         let inputs = Inputs::Table { table };
-        assert!(rt; tells(rt, alloc, &inputs, lines)?);
+        assert!(rt;
+            tells(
+                rt,
+                alloc,
+                &inputs,
+                joined(alloc, &[digest, line])?.as_slice()
+            )?
+        );
         let mut out = Vec::new(alloc);
         assert!(rt; digests(&inputs, &mut out).is_ok());
-        assert!(rt; lines.starts_with(&out) && out.len() == 72);
+        assert!(rt; out.as_slice() == *digest);
     }
     Ok(())
 }
@@ -98,11 +88,13 @@ fn exact_tables_have_their_lines(rt: HostRuntime) -> Result<(), Fail> {
         &[
             (
                 &TILES_123,
-                b"sha256 5c515b94b4098a8408358078f3f9b8b3e46255c04334fedd62c8e67da63d237b\nexact side 2 mask 14 entries 24 unreachable 12 deepest 6\n",
+                sha256::OF_123,
+                b"exact side 2 mask 14 entries 24 unreachable 12 deepest 6\n",
             ),
             (
                 &TILES_12,
-                b"sha256 fc9e320726274cbeff6f0c450060cf77617b6e27b10cfe9808da3bb87454b331\nexact side 2 mask 6 entries 24 unreachable 8 deepest 4\n",
+                sha256::OF_12,
+                b"exact side 2 mask 6 entries 24 unreachable 8 deepest 4\n",
             ),
         ],
     )
@@ -116,15 +108,18 @@ fn bad_entries_have_their_lines(rt: HostRuntime) -> Result<(), Fail> {
         &[
             (
                 &with_byte(&TILES_123, 34, 0x02),
-                b"sha256 93eb632d316304c6909c4a97aa82d761ef94f20ce32f74ce27ef957d6e44accc\nrefused T7 at entry 14\n",
+                sha256::OF_CHANGED,
+                b"refused T7 at entry 14\n",
             ),
             (
                 &with_byte(&TILES_12, 20, 0xFE),
-                b"sha256 758b181644f77d14bceadab78202378f68da9ddebd7e7dd3f8d0542af39c440d\nrefused T7 at entry 0\n",
+                b"sha256 758b181644f77d14bceadab78202378f68da9ddebd7e7dd3f8d0542af39c440d\n",
+                b"refused T7 at entry 0\n",
             ),
             (
                 &TILE_1_NEVER,
-                b"sha256 65e994ddac902358680a5b05acbc60789ad4d6eb1e244fabde7e285ddb98eecb\nrefused T7 at entry 1\n",
+                b"sha256 65e994ddac902358680a5b05acbc60789ad4d6eb1e244fabde7e285ddb98eecb\n",
+                b"refused T7 at entry 1\n",
             ),
         ],
     )
@@ -136,26 +131,23 @@ fn files_of_another_length_have_their_lines(rt: HostRuntime) -> Result<(), Fail>
         &rt,
         rt.alloc(),
         &[
-            (
-                &TILES_123[..43],
-                b"sha256 aea12bbafda4799b56eeb2a425eb5282061caf355651559c15cf44e2fb7135a6\nrefused T6\n",
-            ),
+            (&TILES_123[..43], sha256::OF_CUT, b"refused T6\n"),
             (
                 &with_one_more(&TILES_123),
-                b"sha256 8bb0f5195425992f8797da48092c346122160b8df08de975cde46782ecd47319\nrefused T6\n",
+                b"sha256 8bb0f5195425992f8797da48092c346122160b8df08de975cde46782ecd47319\n",
+                b"refused T6\n",
             ),
             (
                 &TILES_123[..19],
-                b"sha256 5d59911633ed3220001c4e550ad0a0c727c8168e1f85e0b882e8ae9a97d1bf0f\nrefused T1\n",
+                b"sha256 5d59911633ed3220001c4e550ad0a0c727c8168e1f85e0b882e8ae9a97d1bf0f\n",
+                b"refused T1\n",
             ),
             (
                 b"",
-                b"sha256 e3b0c44298fc1c149afbf4c8996fb92427ae41e4649b934ca495991b7852b855\nrefused T1\n",
+                b"sha256 e3b0c44298fc1c149afbf4c8996fb92427ae41e4649b934ca495991b7852b855\n",
+                b"refused T1\n",
             ),
-            (
-                b"abc",
-                b"sha256 ba7816bf8f01cfea414140de5dae2223b00361a396177a9cb410ff61f20015ad\nrefused T1\n",
-            ),
+            (b"abc", sha256::OF_ABC, b"refused T1\n"),
         ],
     )
 }

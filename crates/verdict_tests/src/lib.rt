@@ -1,0 +1,15 @@
+//! Tests of verdicts on claims and of the commands that give them, over the public calls of `pdb_verdict`.
+#![tactic(auto)]
+
+#[cfg(test)]
+mod claims;
+#[cfg(test)]
+mod searches;
+#[cfg(test)]
+mod sha256;
+#[cfg(test)]
+mod tables;
+#[cfg(test)]
+mod telling;
+#[cfg(test)]
+mod verdicts;
