@@ -12,6 +12,7 @@ mod places;
 mod positions;
 mod regions;
 mod searches;
+mod slots;
 mod tables;
 mod walks;
 
@@ -21,5 +22,7 @@ pub use layers::layer;
 pub use searches::{Found, solve};
 pub use tables::build;
 
+#[cfg(test)]
+mod search_tests;
 #[cfg(test)]
 mod tests;
