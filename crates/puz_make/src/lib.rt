@@ -13,6 +13,7 @@ mod reached;
 mod searches;
 mod sets;
 mod shapes;
+mod slots;
 mod steps;
 mod tables;
 mod turns;
@@ -24,5 +25,7 @@ pub use layers::layer;
 pub use searches::{Found, solve};
 pub use tables::build;
 
+#[cfg(test)]
+mod search_tests;
 #[cfg(test)]
 mod tests;

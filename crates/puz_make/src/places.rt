@@ -2,11 +2,9 @@
 
 use crate::entries::{MOST_TILES, NO_REGION, NO_WAY_HOME};
 use crate::grids::{Grid, mask_of};
+use crate::slots::{CELLS, Slots};
 use puz_board::Board;
 use tab_check::CheckedTable;
-
-/// More than there are numbers or cells on any board.
-pub(crate) const NUMBERS: usize = 32;
 
 /// A table, and where its pattern's tiles are.
 #[derive(Clone, Copy)]
@@ -15,7 +13,7 @@ pub(crate) struct Place<'a> {
     /// The entries of the table.
     entries: &'a [u8],
     /// The index of each tile of the pattern among its tiles.
-    indexes: [u8; NUMBERS],
+    indexes: [u8; CELLS],
     /// The cell of each tile, by its index.
     cells: [u8; MOST_TILES],
     /// The cells that no tile is in.
@@ -30,14 +28,14 @@ impl<'a> Place<'a> {
         let mut place = Place {
             grid,
             entries: table.entries(),
-            indexes: [0; NUMBERS],
+            indexes: [0; CELLS],
             cells: [0; MOST_TILES],
             free: grid.all,
         };
         let found = board.cells_of_all();
         for (index, tile) in pattern.tiles().as_slice().iter().enumerate() {
             let cell = found.get(usize::from(*tile)).copied().unwrap_or(0);
-            place.indexes[usize::from(*tile) % NUMBERS] = index as u8;
+            place.indexes[usize::from(*tile) % CELLS] = index as u8;
             place.cells[index % MOST_TILES] = cell;
             place.free &= !mask_of(cell);
         }
@@ -47,22 +45,22 @@ impl<'a> Place<'a> {
     /// Moves a tile of the pattern from one cell to another.
     #[inline]
     pub(crate) fn slide(&mut self, tile: u8, from: u8, to: u8) {
-        let index = self.indexes[usize::from(tile) % NUMBERS];
+        let index = self.indexes[usize::from(tile) % CELLS];
         self.cells[usize::from(index) % MOST_TILES] = to;
         self.free = self.free & !mask_of(to) | mask_of(from);
     }
 
-    /// The entry of the board whose blank is in this cell. It takes no flood where the second slot has no region, so that
-    /// all free cells are of the first.
+    /// The entry of the board whose blank is in this cell. The slot isn't looked for where the second one has no region, so
+    /// that all free cells are of the first.
     #[inline]
-    pub(crate) fn entry(&self, blank: u8) -> u8 {
+    pub(crate) fn entry(&self, slots: &mut Slots, blank: u8) -> u8 {
         let first = self.first_number();
         let slot = if self.entry_at(first.wrapping_add(1)) == NO_REGION {
             0
         } else {
-            self.slot_of(blank)
+            slots.slot_of(&self.grid, self.free, blank)
         };
-        self.entry_at(first.wrapping_add(slot))
+        self.entry_at(first.wrapping_add(u32::from(slot)))
     }
 
     /// The number of the first entry of these cells.
@@ -77,19 +75,6 @@ impl<'a> Place<'a> {
             left &= !here;
         }
         number
-    }
-
-    /// The slot of a free cell.
-    fn slot_of(&self, cell: u8) -> u32 {
-        let mut rest = self.free;
-        for slot in 0..MOST_TILES as u32 {
-            let region = self.grid.first_region(rest);
-            if region & mask_of(cell) != 0 {
-                return slot;
-            }
-            rest &= !region;
-        }
-        0
     }
 
     /// The entry with a number.

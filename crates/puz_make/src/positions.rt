@@ -4,7 +4,8 @@ ghost use Rattle.std.specs.Prelude.{◌<◌, ◌*◌, length};
 
 use crate::entries::NO_WAY_HOME;
 use crate::moves::MOVES;
-use crate::places::{NUMBERS, Place};
+use crate::places::Place;
+use crate::slots::{CELLS, Slots};
 use puz_board::{Board, Side, step};
 use set_sum::Bundle;
 use std::alloc::{AllocError, Global};
@@ -16,7 +17,7 @@ const MOST_TABLES: usize = 16;
 /// No cell.
 pub(crate) const NOWHERE: u8 = u8::MAX;
 
-/// For each table of a bundle what it says of a board.
+/// For each table of a bundle its entry of a board.
 pub(crate) type Entries = [u8; MOST_TABLES];
 
 /// What a set says of a board.
@@ -34,20 +35,21 @@ impl Leaf {
     }
 }
 
-/// A board, and what the tables of a bundle say of it.
+/// A board, and its entries in the tables of a bundle.
 #[derive(Drop)]
 pub(crate) struct Position<'b, 'a> {
     bundle: &'b Bundle<'a>,
     /// The number in each cell.
-    numbers: [u8; NUMBERS],
+    numbers: [u8; CELLS],
     /// The cell of the blank.
     blank: u8,
     /// Where the moves lead from each cell, in their order.
-    steps: [[u8; 4]; NUMBERS],
+    steps: [[u8; 4]; CELLS],
     /// For each table where its tiles are.
     places: Vec<Place<'a>>,
+    slots: Slots,
     /// The tables that have each tile, as the bits of a mask.
-    owners: [u16; NUMBERS],
+    owners: [u16; CELLS],
     entries: Entries,
 }
 
@@ -64,7 +66,8 @@ impl<'b, 'a> Position<'b, 'a> {
             blank: board.blank(),
             steps: steps_of(board.side()),
             places: Vec::new(alloc),
-            owners: [0; NUMBERS],
+            slots: Slots::new(alloc)?,
+            owners: [0; CELLS],
             entries: [0; MOST_TABLES],
         };
         for number in 0..bundle.tables() {
@@ -82,9 +85,9 @@ impl<'b, 'a> Position<'b, 'a> {
     ) -> Result<(), AllocError> {
         let place = Place::new(table, board);
         for tile in table.pattern().tiles().as_slice() {
-            self.owners[usize::from(*tile) % NUMBERS] |= 1u16.wrapping_shl(u32::from(number));
+            self.owners[usize::from(*tile) % CELLS] |= 1u16.wrapping_shl(u32::from(number));
         }
-        self.entries[usize::from(number) % MOST_TABLES] = place.entry(self.blank);
+        self.entries[usize::from(number) % MOST_TABLES] = place.entry(&mut self.slots, self.blank);
         self.places.push(place)?;
         Ok(())
     }
@@ -98,42 +101,39 @@ impl<'b, 'a> Position<'b, 'a> {
     /// Where the moves lead, in their order.
     #[inline]
     pub(crate) fn steps(&self) -> [u8; 4] {
-        self.steps[usize::from(self.blank) % NUMBERS]
+        self.steps[usize::from(self.blank) % CELLS]
     }
 
-    /// Moves the blank to a cell beside it. Answers what the tables said before.
+    /// Moves the blank to a cell beside it, and looks the board up in the tables that have the moved tile. Answers the
+    /// entries of the board before.
     #[inline]
     pub(crate) fn slide(&mut self, to: u8) -> Entries {
         let before = self.entries;
         let from = self.blank;
         let tile = self.swap(to);
-        let mut owners = self.owners[usize::from(tile) % NUMBERS];
+        let mut owners = self.owners[usize::from(tile) % CELLS];
         for _ in 0..MOST_TABLES {
-            if owners == 0 {
+            let Some(table) = take_least(&mut owners) else {
                 break;
-            }
-            let table = owners.trailing_zeros() as usize;
-            owners &= owners.wrapping_sub(1);
+            };
             if let Some(place) = self.places.get_mut(table) {
                 place.slide(tile, to, from);
-                self.entries[table % MOST_TABLES] = place.entry(to);
+                self.entries[table % MOST_TABLES] = place.entry(&mut self.slots, to);
             }
         }
         before
     }
 
-    /// Moves the blank back to the cell where it was, and to what the tables said there.
+    /// Moves the blank back to the cell where it was, and the entries to what they were.
     #[inline]
     pub(crate) fn slide_back(&mut self, to: u8, before: &Entries) {
         let from = self.blank;
         let tile = self.swap(to);
-        let mut owners = self.owners[usize::from(tile) % NUMBERS];
+        let mut owners = self.owners[usize::from(tile) % CELLS];
         for _ in 0..MOST_TABLES {
-            if owners == 0 {
+            let Some(table) = take_least(&mut owners) else {
                 break;
-            }
-            let table = owners.trailing_zeros() as usize;
-            owners &= owners.wrapping_sub(1);
+            };
             if let Some(place) = self.places.get_mut(table) {
                 place.slide(tile, to, from);
             }
@@ -144,9 +144,9 @@ impl<'b, 'a> Position<'b, 'a> {
     /// Changes the places of the blank and of the tile in a cell. Answers the tile.
     #[inline]
     fn swap(&mut self, to: u8) -> u8 {
-        let tile = self.numbers[usize::from(to) % NUMBERS];
-        self.numbers[usize::from(self.blank) % NUMBERS] = tile;
-        self.numbers[usize::from(to) % NUMBERS] = 0;
+        let tile = self.numbers[usize::from(to) % CELLS];
+        self.numbers[usize::from(self.blank) % CELLS] = tile;
+        self.numbers[usize::from(to) % CELLS] = 0;
         self.blank = to;
         tile
     }
@@ -200,20 +200,31 @@ impl<'b, 'a> Position<'b, 'a> {
     }
 }
 
+/// The least number of a mask, which is taken out of it.
+#[inline]
+fn take_least(mask: &mut u16) -> Option<usize> {
+    if *mask == 0 {
+        return None;
+    }
+    let least = mask.trailing_zeros() as usize;
+    *mask &= mask.wrapping_sub(1);
+    Some(least)
+}
+
 /// The number in each cell of a board.
-fn numbers_of(board: &Board) -> [u8; NUMBERS] {
-    let mut numbers = [0; NUMBERS];
+fn numbers_of(board: &Board) -> [u8; CELLS] {
+    let mut numbers = [0; CELLS];
     for cell in 0..board.side().cells() {
-        numbers[usize::from(cell) % NUMBERS] = board.at(cell);
+        numbers[usize::from(cell) % CELLS] = board.at(cell);
     }
     numbers
 }
 
 /// Where the moves lead from each cell, in their order.
-fn steps_of(side: Side) -> [[u8; 4]; NUMBERS] {
-    let mut steps = [[NOWHERE; 4]; NUMBERS];
+fn steps_of(side: Side) -> [[u8; 4]; CELLS] {
+    let mut steps = [[NOWHERE; 4]; CELLS];
     for cell in 0..side.cells() {
-        steps[usize::from(cell) % NUMBERS] = steps_from(side, cell);
+        steps[usize::from(cell) % CELLS] = steps_from(side, cell);
     }
     steps
 }

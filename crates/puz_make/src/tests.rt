@@ -73,7 +73,7 @@ fn built<R: Threads + Sync + AllocGlobal + Abort>(
 }
 
 /// The bundle of table files and a set text.
-fn bundle<'a, R: Threads + Wait + AllocGlobal + Abort>(
+pub(crate) fn bundle<'a, R: Threads + Wait + AllocGlobal + Abort>(
     rt: &R,
     files: &[&'a [u8]],
     text: &[u8],
@@ -96,7 +96,7 @@ fn board_of(rt: &impl Abort, numbers: &[u8]) -> Board {
 }
 
 /// What a search over a bundle finds for a board of its side.
-fn found<R: Threads + Wait + AllocGlobal + Abort>(
+pub(crate) fn found<R: Threads + Wait + AllocGlobal + Abort>(
     rt: &R,
     bundle: &Bundle<'_>,
     numbers: &[u8],

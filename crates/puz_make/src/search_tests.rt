@@ -1,0 +1,46 @@
+//! Searches that their budget ends.
+
+use crate::MakeFault;
+use crate::tests::{bundle, found};
+use samples::LeastCosts;
+use samples::files::{TILE_1, TILES_12, TILES_123};
+use set_sum::Bundle;
+use std::process::Abort;
+use std::sync::Wait;
+use std::test::Fail;
+use std::thread::Threads;
+
+/// Checks that a search which expands so many boards ends by K1 at each smaller budget, and at that one finds these moves.
+fn ends_below<R: Threads + Wait + AllocGlobal + Abort>(
+    rt: &R,
+    bundle: &Bundle<'_>,
+    numbers: &[u8],
+    expanded: u64,
+    moves: &[u8],
+) {
+    for budget in 0..expanded {
+        let fault = found(rt, bundle, numbers, budget).err();
+        assert_eq!(rt; fault, Some(MakeFault::K1), "{numbers:?} with {budget}");
+    }
+    match found(rt, bundle, numbers, expanded) {
+        Ok(found) => assert_eq!(rt; found.moves.as_slice(), moves),
+        Err(_) => panic!(rt; "a solution"),
+    }
+}
+
+// How many boards are expanded was counted by another program: a search over counts that it finds breadth first.
+#[test]
+fn searches_end_below_the_budget_that_they_need(rt: HostRuntime) -> Result<(), Fail> {
+    let one = bundle(&rt, &[&TILE_1], b"set 0\n");
+    let two = bundle(&rt, &[&TILES_12], b"set 0\n");
+    let all = bundle(&rt, &[&TILES_123], b"set 0\n");
+    for (bundle, expanded) in [(&one, 30), (&two, 18), (&all, 6)] {
+        ends_below(&rt, bundle, &[3, 2, 1, 0], expanded, b"ULDRUL");
+    }
+    let first = LeastCosts::new(rt.alloc(), &[1, 2, 3, 4])?.table(rt.alloc())?;
+    let second = LeastCosts::new(rt.alloc(), &[5, 6, 7, 8])?.table(rt.alloc())?;
+    let parts = bundle(&rt, &[&first, &second], b"set 0 1\n");
+    let numbers = [3, 2, 1, 7, 6, 0, 5, 8, 4];
+    ends_below(&rt, &parts, &numbers, 33, b"DLUURDLLDRULURRDLUL");
+    Ok(())
+}
