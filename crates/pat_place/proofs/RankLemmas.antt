@@ -49,13 +49,13 @@ without_cases c d cs = elim (cases_eq d c) [
   | inr ne ↦ inr (ne, ap (λ b. cond (not b) (d ∷ without c cs) (without c cs)) (ne_eqb d c ne))
 ]
 
-has-without : (c x : ℕ) (cs : List ℕ) → has cs x ≡ true → c ≢ x → has (without c cs) x ≡ true
+pub has-without : (c x : ℕ) (cs : List ℕ) → has cs x ≡ true → c ≢ x → has (without c cs) x ≡ true
 has-without c x cs h ne = has-filter (λ d. not (eqb d c)) x cs (ap not (ne_eqb x c (λ e. ne (sym e)))) ∙ h
 
-has-without_same : (c : ℕ) (cs : List ℕ) → has (without c cs) c ≡ false
+pub has-without_same : (c : ℕ) (cs : List ℕ) → has (without c cs) c ≡ false
 has-without_same c cs = has-filter_not (λ d. not (eqb d c)) c cs (ap not (eq-eqb c c refl))
 
-has_from-without : (c x : ℕ) (cs : List ℕ) → has (without c cs) x ≡ true → has cs x ≡ true
+pub has_from-without : (c x : ℕ) (cs : List ℕ) → has (without c cs) x ≡ true → has cs x ≡ true
 has_from-without c x cs h = elim (cases_eq x c) [
   | inl e ↦ absurd (both_ways (has (without c cs) c) (has-without_same c cs) (ap (has (without c cs)) (sym e) ∙ h))
   | inr ne ↦ sym (has-filter (λ d. not (eqb d c)) x cs (ap not (ne_eqb x c ne))) ∙ h
@@ -263,7 +263,7 @@ placements-is n k = refl
 pub length-placements : (n k count size : ℕ) → count ≡ n * n → size ≡ k → length (placements n k) ≡ length (lists_of size (range_with_len 0 count))
 length-placements n k count size e f = ap length (placements-is n k) ∙ ap₂ (λ s m. length (lists_of s (range_with_len 0 m))) (sym f) (sym e)
 
-inside_from : (count : ℕ) (xs : List ℕ) → AllByRecursion (λ x. has (range_with_len 0 count) x ≡ true) xs → AllByRecursion (λ x. x < count) xs
+pub inside_from : (count : ℕ) (xs : List ℕ) → AllByRecursion (λ x. has (range_with_len 0 count) x ≡ true) xs → AllByRecursion (λ x. x < count) xs
 inside_from count [] all = tt
 inside_from count (x ∷ xs) all = (let l = (in_range 0 count x all.0).1 in omega arith, inside_from count xs all.1)
 
@@ -286,7 +286,7 @@ module _ (p : PatternView) (count size rank : ℕ) (cells : List ℕ) (is_count 
 
 -- ---- ranks go up as the lists do
 
-above-has : (d c : ℕ) (cs : List ℕ) → AllByRecursion (λ y. d < y) cs → has cs c ≡ true → d < c
+pub above-has : (d c : ℕ) (cs : List ℕ) → AllByRecursion (λ y. d < y) cs → has cs c ≡ true → d < c
 above-has d c [] all h = absurd (true≢false (sym h))
 above-has d c (x ∷ cs) all h = elim (has_cases c x cs h) [ inl e ↦ subst (λ y. d < y) e all.0 | inr k ↦ above-has d c cs all.1 k ]
 

@@ -34,6 +34,16 @@ pub(crate) fn without(mask: u32, number: u8) -> u32
     mask & !(1 << number)
 }
 
+/// The numbers of the mask above `number`.
+#[inline]
+pub(crate) fn above(mask: u32, number: u8) -> u32
+    requires { number < 31 }
+    ensures above { (x : ℕ) → number < x → bit_at result x ≡ bit_at mask x }
+    ensures upto { (x : ℕ) → x ≤ number → bit_at result x ≡ 0 }
+{
+    mask & !all_below(number + 1)
+}
+
 /// The least number of the mask.
 #[inline]
 pub(crate) fn first_of(mask: u32) -> u8

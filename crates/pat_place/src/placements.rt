@@ -132,6 +132,15 @@ impl Placement {
         }
     }
 
+    /// The cells, with zeros behind them.
+    pub(crate) fn padded(&self) -> [u8; 8]
+        ensures len { length result ≡ 8 }
+        ensures cells { take (length self.now.pattern.tiles) result ≡ self.now.cells }
+        ensures rest { drop (length self.now.pattern.tiles) result ≡ replicate (8 - length self.now.pattern.tiles) 0 }
+    {
+        self.cells
+    }
+
     /// The pattern.
     pub(crate) fn pattern(&self) -> Pattern
         ensures pattern { result ≡ self.now.pattern }

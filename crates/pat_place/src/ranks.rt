@@ -1,16 +1,17 @@
 //! Ranks: the places of placements among all placements of a pattern, in lexicographic order.
 
-ghost use Rattle.std.specs.Prelude.{◌≡◌, ℕ, ◌+◌, ◌-◌, ◌<◌, ◌≤◌, length, take, drop, replicate, slice_get, MatchBool};
+ghost use Rattle.std.specs.Prelude.{◌≡◌, ℕ, ◌+◌, ◌-◌, ◌<◌, ◌≤◌, count_ones, length, take, drop, replicate, slice_get, MatchBool};
 ghost use Rattle.std.specs.List.{AllByRecursion, range_with_len};
 ghost use Rattle.std.specs.Bool.{OnFalse};
 ghost use Rattle.std.specs.Int.{bit_at};
-ghost use Rattle.puz_board.specs.Masks.{ones_below};
+ghost use Rattle.puz_board.specs.Masks.{numbers_of, ones_below};
 ghost use Rattle.pat_place.specs.Placements.{IsApart, IsPlacement};
 ghost use Rattle.pat_place.specs.Ranks.{IsRank, lists_of, placements};
 
 use crate::masks;
 use crate::patterns::Pattern;
 use crate::placements::Placement;
+use crate::slots::free_cells;
 
 /// The rank of a placement: its place among all placements of its pattern.
 pub fn rank(placement: &Placement) -> u64
@@ -77,6 +78,9 @@ fn cells_at(rank: u32, ranks: u32, count: u8, size: u8) -> [u8; 8]
 }
 
 /// Goes to the placement of the next rank. At the last one it answers false, and leaves the placement.
+///
+/// The last tile that has a greater free cell goes to the next one, once the tiles behind it are lifted. These take the
+/// least cells that are left.
 pub fn next(placement: &mut Placement) -> bool
     ensures pattern { placement.new.pattern ≡ placement.old.pattern }
     ensures step { (r : ℕ) → IsRank placement.old.pattern.side placement.old.cells r → MatchBool result
@@ -86,11 +90,34 @@ pub fn next(placement: &mut Placement) -> bool
     ensures placement { IsPlacement placement.new }
 {
     let pattern = placement.pattern();
-    let count = pattern.count();
-    let rank = rank(placement) + 1;
-    if rank == count {
-        return false;
+    let size = usize::from(pattern.size());
+    let mut cells = placement.padded();
+    let mut free = free_cells(placement);
+    let mut index = size;
+    while index > 0 {
+        index -= 1;
+        let cell = cells[index];
+        let greater = masks::above(free, cell);
+        free = masks::with(free, cell);
+        if greater != 0 {
+            let target = masks::first_of(greater);
+            cells[index] = target;
+            fill(&mut cells[index + 1..size], masks::without(free, target));
+            *placement = Placement::with_cells(&pattern, cells);
+            return true;
+        }
     }
-    *placement = unrank(&pattern, rank);
-    true
+    false
+}
+
+/// Fills the list with the least free cells, in order.
+fn fill(cells: &mut [u8], free: u32)
+    requires { length cells.old ≤ count_ones free }
+    ensures { slice_get (lists_of (length cells.old) (numbers_of free)) 0 ≡ Some cells.new }
+{
+    let mut rest = free;
+    for cell in cells {
+        *cell = masks::first_of(rest);
+        rest = masks::without(rest, *cell);
+    }
 }

@@ -197,6 +197,11 @@ fn next_goes_on_and_stays_at_the_last(rt: HostRuntime) {
     check_cells(&rt, &placement, &[0, 8, 7], 55);
     assert!(rt; next(&mut placement));
     check_cells(&rt, &placement, &[1, 0, 2], 56);
+
+    let mut placement = on_board(&rt, &pattern, &[0, 1, 2, 4, 5, 6, 7, 8, 3]);
+    check_cells(&rt, &placement, &[1, 2, 8], 69);
+    assert!(rt; next(&mut placement));
+    check_cells(&rt, &placement, &[1, 3, 0], 70);
 }
 
 #[test]
