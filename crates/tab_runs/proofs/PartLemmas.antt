@@ -1,12 +1,12 @@
 -- Parts of a table: the entries of a run between two ranks.
-use Rattle.std.proofs.Common.{◌≡◌, ◌≢◌, ℕ, suc, ◌+◌, ◌-◌, ◌*◌, ◌/◌, ◌%◌, ◌^◌, ◌<◌, ◌≤◌, true, false, eqb, List, [], ◌∷◌, length, get_or, take, inl, inr, refl, sym, ◌∙◌, ap, subst, arith}
+use Rattle.std.proofs.Common.{◌≡◌, ◌≢◌, ℕ, suc, ◌+◌, ◌-◌, ◌*◌, ◌/◌, ◌%◌, ◌^◌, ◌<◌, ◌≤◌, true, false, eqb, List, [], ◌∷◌, length, get_or, set, take, inl, inr, refl, sym, ◌∙◌, ap, subst, arith}
 use Rattle.std.specs.Int.{bit_at}
 use Rattle.std.specs.List.{AllByRecursion}
 use Rattle.std.proofs.lemmas.Bool.{both_ways, cases_eq, cases_lt, eqb-false, false_from_ne_true, ne_eqb, or_from, or_left, or_parts, or_cases, eqb-true}
 use Rattle.std.proofs.lemmas.List.{length-take-le, take_all}
 use Rattle.std.proofs.lemmas.Nat.{div-add-mod', mod_below}
 use Rattle.std.proofs.Math.Nat.{mul-le-mul_right}
-use Rattle.std.proofs.Math.Seq.{take-suc}
+use Rattle.std.proofs.Math.Seq.{set-append_seam, take-suc}
 use Rattle.puz_board.specs.Masks.{IsMaskOf}
 use Rattle.puz_board.proofs.BitLemmas.{in_below}
 use Rattle.puz_board.proofs.CellLemmas.{few_cells}
@@ -25,11 +25,12 @@ use Rattle.tab_check.proofs.BlockLemmas.{same_cells}
 use Rattle.tab_file.specs.Tables.{Table, slot_count}
 use Rattle.tab_runs.specs.Checks.{AreKinds, IsFirstBadPlace, RunKeepsRule}
 use Rattle.tab_runs.specs.Kinds.{TellRegions}
+use Rattle.tab_runs.specs.Outside.{IsLastOutside}
 use Rattle.tab_runs.specs.Parts.{EntriesKeepRule, IsFirstBadEntry, IsGoalNumber}
 use Rattle.tab_runs.specs.Runs.{IsFirstRank, IsRun, free_below, run_length, with_last}
 use Rattle.tab_runs.proofs.RowLemmas.{parts_one, place_low}
 use Rattle.tab_runs.proofs.RunLemmas.{has-with_last, placed_last}
-use Rattle.tab_runs.proofs.RunRanks.{first_some, free_below-low}
+use Rattle.tab_runs.proofs.RunRanks.{first_some, free_at, free_below-low, free_below-up}
 
 -- ---- the run of a placement
 
@@ -103,6 +104,62 @@ run_at t pat view same placed from rank cells cells_are index occupied set len i
       low = omega arith;
       mask = mask_front p c occupied set apart.1 (below_more (t.pattern.side * t.pattern.side) 25 few p inside.0) fits (subst (λ q. IsMaskOf occupied (λ x. has q x ≡ true)) (sym whole) is) clear others;
     }
+
+-- the cells with the last one changed
+pub set_last : (cells : List ℕ) (index g : ℕ) → length cells ≡ index + 1 → set cells index g ≡ with_last (take index cells) g
+set_last cells index g size =
+    let c : ℕ = get_or cells index 0 in
+    let whole : with_last (take index cells) c ≡ cells = sym (take-suc cells index 0 (omega arith)) ∙ take_all (suc index) cells (omega arith) in
+    let long : length (take index cells) ≡ index = length-take-le index cells (omega arith) in
+    ap (λ q. set q index g) (sym whole) ∙ ap (λ k. set (with_last (take index cells) c) k g) (sym long) ∙ set-append_seam (take index cells) c [] g
+
+pub same_last : (cells : List ℕ) (index : ℕ) → length cells ≡ index + 1 → with_last (take index cells) (get_or cells index 0) ≡ cells
+same_last cells index size = sym (take-suc cells index 0 (omega arith)) ∙ take_all (suc index) cells (omega arith)
+
+-- no cell of the run's last tile is behind the greatest one
+behind_all : (n : ℕ) (p : List ℕ) (g : ℕ) → AllByRecursion (λ x. x < n * n) p → IsApart p → IsFree n p g → ((x : ℕ) → g < x → x < n * n → has p x ≡ true) → free_below p g + 1 ≡ run_length n p
+behind_all n p g inside apart free last =
+    let low = free_below-low n p g inside apart free in
+    elim (cases_lt (free_below p g + 1) (run_length n p)) [
+      | inr l ↦ (omega arith)
+      | inl l ↦ absurd (
+          let d = free_at n p inside apart (free_below p g + 1) l in
+          elim (cases_lt g d.0) [
+            | inl above ↦ both_ways (has p d.0) d.1.1 (last d.0 above d.1.0)
+            | inr below ↦ (let up = free_below-up p d.0 g (omega arith) in let e = d.2 in omega arith)
+          ])
+    ]
+
+-- the last placement of a run
+pub last_rank : (t : Table) → IsPattern t.pattern → (p : List ℕ) (c from first set : ℕ) → IsRunAt t p c from first set → (g : ℕ) → IsFree t.pattern.side p g → ((x : ℕ) → g < x → x < t.pattern.side * t.pattern.side → has p x ≡ true)
+    → IsRank t.pattern.side (with_last p g) (first + (t.pattern.side * t.pattern.side - length t.pattern.tiles))
+last_rank t pat p c from first set at g free last =
+    let e = behind_all t.pattern.side p g at.run.inside at.run.apart free last in
+    let s = at.run.size in
+    subst (λ k. IsRank t.pattern.side (with_last p g) (first + k)) (let q : free_below p g ≡ t.pattern.side * t.pattern.side - length t.pattern.tiles = omega arith in q) (at.is_first.each g free)
+
+-- what a set of the run's cells lacks
+pub outside_free : (t : Table) → (p : List ℕ) (c from first set : ℕ) → IsRunAt t p c from first set → (g count : ℕ) → count ≡ t.pattern.side * t.pattern.side → IsLastOutside set count g
+    → IsFree t.pattern.side p g × ((x : ℕ) → g < x → x < t.pattern.side * t.pattern.side → has p x ≡ true)
+outside_free t p c from first set at g count count_is is = (
+  ((let l = is.low in omega arith), false_from_ne_true (has p g) (λ h. let one = (at.mask g).1 h in let z = is.outside in omega arith)),
+  λ x above low. (at.mask x).0 (is.last x above (omega arith)),
+)
+
+-- so the last tile can go there
+pub free_last : (p : PatternView) → IsPattern p → (view : PlacementView) → view.pattern ≡ p → (occupied set cell g count : ℕ) → count ≡ p.side * p.side → IsMaskOf occupied (λ c. has view.cells c ≡ true)
+    → ((x : ℕ) → x < 32 → x ≢ cell → bit_at set x ≡ bit_at occupied x) → IsLastOutside set count g → g ≢ cell → IsFree view.pattern.side view.cells g
+free_last p pat view same occupied set cell g count count_is is others last ne =
+    subst (λ n. IsFree n view.cells g) (sym (ap (λ q. q.side) same)) (
+      (let l = last.low in omega arith),
+      false_from_ne_true (has view.cells g) (λ h.
+          let one = (is g).1 h in
+          let few = few_cells p.side pat.low pat.high in
+          let l = last.low in
+          let e = others g (omega arith) ne in
+          let z = last.outside in
+          omega arith),
+    )
 
 -- ---- the kinds of a run's slots
 

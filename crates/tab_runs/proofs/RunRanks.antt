@@ -1,5 +1,5 @@
 -- The ranks of a run stand side by side.
-use Rattle.std.proofs.Common.{◌≡◌, ℕ, zero, suc, ◌+◌, ◌-◌, ◌*◌, ◌<◌, Bool, true, false, cond, eqb, not, List, [], ◌∷◌, ◌++◌, length, Some, inl, inr, refl, sym, ◌∙◌, ap, ap₂, arith, filter}
+use Rattle.std.proofs.Common.{◌≡◌, ℕ, zero, suc, ◌+◌, ◌-◌, ◌*◌, ◌<◌, ◌≤◌, Bool, true, false, cond, eqb, not, List, [], ◌∷◌, ◌++◌, length, Some, inl, inr, refl, sym, ◌∙◌, ap, ap₂, arith, filter}
 use Rattle.std.specs.Prelude.{slice_get, ◌&&◌, ◌||◌}
 use Rattle.std.specs.List.{AllByRecursion, range_with_len}
 use Rattle.std.proofs.lemmas.Bool.{cases_eq, cases_Bool, both_ways, ne_eqb, eq-eqb, true≢false, cond-true, cond-false}
@@ -95,6 +95,20 @@ free_below-free p c free = free_below-next p c ∙ ap (λ xs. free_below p c + l
 
 pub free_below-taken : (p : List ℕ) (c : ℕ) → has p c ≡ true → free_below p (c + 1) ≡ free_below p c
 free_below-taken p c taken = free_below-next p c ∙ ap (λ xs. free_below p c + length xs) (cond-false (is_open p c) (c ∷ []) [] (ap not taken)) ∙ (let e : free_below p c + 0 ≡ free_below p c = omega arith in e)
+
+-- no more are below a smaller cell
+pub free_below-up : (p : List ℕ) (c d : ℕ) → c ≤ d → free_below p c ≤ free_below p d
+free_below-up p c zero l = ap-le (ap (free_below p) (let e : c ≡ zero = omega arith in e))
+  where
+    ap-le : {a b : ℕ} → a ≡ b → a ≤ b
+    ap-le e = omega arith
+free_below-up p c (suc d) l = elim (cases_eq c (suc d)) [
+  | inl e ↦ (let same : free_below p c ≡ free_below p (suc d) = ap (free_below p) e in omega arith)
+  | inr ne ↦
+      let before = free_below-up p c d (omega arith) in
+      let next : free_below p (suc d) ≡ free_below p d + length (cond (is_open p d) (d ∷ []) []) = ap (free_below p) (let e : suc d ≡ d + 1 = omega arith in e) ∙ free_below-next p d in
+      omega arith
+]
 
 -- no two free cells have the same number of free cells below
 pub free_below-one : (n : ℕ) (p : List ℕ) (c d : ℕ) → IsFree n p c → IsFree n p d → free_below p c ≡ free_below p d → c ≡ d

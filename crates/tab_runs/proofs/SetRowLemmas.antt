@@ -6,7 +6,8 @@ use Rattle.std.specs.List.{range_with_len}
 use Rattle.std.proofs.lemmas.Bool.{both_ways, cases_eq, cases_lt, false_from_ne_true}
 use Rattle.std.proofs.Math.Nat.{mul-le-mul_right}
 use Rattle.puz_board.specs.Masks.{IsMaskOf}
-use Rattle.pat_place.specs.Patterns.{IsPattern, PatternView, has, width}
+use Rattle.puz_board.proofs.CellLemmas.{by_side}
+use Rattle.pat_place.specs.Patterns.{IsPattern, PatternView, has, most_tiles, width}
 use Rattle.pat_place.specs.Placements.{IsFree, IsPlacement, PlacementView}
 use Rattle.pat_place.specs.Ranks.{IsRank, lists_of}
 use Rattle.pat_place.proofs.RankLemmas.{IsRank-from, IsRank-one}
@@ -117,9 +118,6 @@ module _ (p : PatternView) (pat : IsPattern p) (cells : List ℕ) (run : IsRun p
   low_place : free_below cells c < run_length p.side cells
   low_place = free_below-low p.side cells c run.inside run.apart free
 
-  pub number_low : r * run_length p.side cells + free_below cells c < placement_count p
-  number_low = let few = run_few p cells run r is in let l = low_place in omega arith
-
   last_rank : IsRank p.side (with_last cells c) (r * run_length p.side cells + free_below cells c)
   last_rank =
       let first = first_some p.side cells run.inside run.apart in
@@ -148,6 +146,33 @@ module _ (p : PatternView) (pat : IsPattern p) (cells : List ℕ) (run : IsRun p
   marks_low =
       let h : (free_below cells c + 1) * slot_count p ≤ run_length p.side cells * slot_count p = mul-le-mul_right (slot_count p) (let l = low_place in let s : free_below cells c + 1 ≤ run_length p.side cells = omega arith in s) in
       omega arith
+
+-- the first placement of a run is one of the table's
+run_some : (p : PatternView) → IsPattern p → (cells : List ℕ) → IsRun p cells → 0 < run_length p.side cells
+run_some p pat cells run =
+    let k = by_side (λ n. (k : ℕ) → k + 1 ≤ most_tiles n → k < n * n)
+    (λ k l. let m : k + 1 ≤ 3 = l in omega arith)
+    (λ k l. let m : k + 1 ≤ 8 = l in omega arith)
+    (λ k l. let m : k + 1 ≤ 8 = l in omega arith)
+    (λ k l. let m : k + 1 ≤ 6 = l in omega arith)
+    p.side pat.low pat.high (length cells) (let m = pat.most in let s = run.size in omega arith) in
+    omega arith
+
+pub first_low : (p : PatternView) → IsPattern p → (cells : List ℕ) → IsRun p cells → (r : ℕ) → IsRank p.side cells r → (run : ℕ) → run ≡ run_length p.side cells → r * run < placement_count p
+first_low p pat cells run r is len len_is =
+    let few = run_few p cells run r is in
+    let some = run_some p pat cells run in
+    let e : r * len ≡ r * run_length p.side cells = ap (λ k. r * k) len_is in
+    omega arith
+
+pub run_is : (p : PatternView) (side count from k : ℕ) → side ≡ p.side → count ≡ side * side → from ≡ count → from - k ≡ p.side * p.side - k
+run_is p side count from k side_is count_is from_is = ap (λ m. m - k) (from_is ∙ count_is ∙ ap₂ (λ a b. a * b) side_is side_is)
+
+pub place_before_run : (p : PatternView) → IsPattern p → (cells : List ℕ) → IsRun p cells → (c : ℕ) → IsFree p.side cells c → (place : ℕ) → place ≡ free_below cells c → (run : ℕ) → run ≡ run_length p.side cells → place < run
+place_before_run p pat cells run c free place place_is len len_is = let low = free_below-low p.side cells c run.inside run.apart free in omega arith
+
+pub rank_as : (n first : ℕ) {f g : ℕ} {u v : PlacementView} → f ≡ g → u ≡ v → IsRank n v.cells (first + g) → IsRank n u.cells (first + f)
+rank_as n first {f} {g} {u} {v} a b is = subst (λ k. IsRank n u.cells (first + k)) (sym a) (subst (λ q. IsRank n q.cells (first + g)) (sym b) is)
 
 -- what is known at a free cell of the last tile: the rank of its placement, and how many places are before its own
 pub record IsAtLast (p : PatternView) (cells : List ℕ) (last rank number before : ℕ) : Type 0 where

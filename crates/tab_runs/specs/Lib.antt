@@ -1,6 +1,7 @@
 pub mod Beside
 pub mod Checks
 pub mod Kinds
+pub mod Outside
 pub mod Parts
 pub mod Rows
 pub mod Runs

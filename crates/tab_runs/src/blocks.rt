@@ -3,6 +3,8 @@
 ghost use Rattle.std.specs.Prelude.{◌≡◌, ◌≢◌, ℕ, ◌+◌, ◌-◌, ◌*◌, ◌%◌, ◌<◌, ◌≤◌, true, IfOk, MatchOption, length, slice_index};
 ghost use Rattle.puz_board.specs.Masks.{IsMaskOf};
 ghost use Rattle.pat_place.specs.Patterns.{has};
+ghost use Rattle.pat_place.specs.Placements.{IsPlacement};
+ghost use Rattle.pat_place.specs.Ranks.{IsRank};
 ghost use Rattle.tab_check.specs.Blocks.{BlockKeepsRule, IsLeastBadIn, block_count};
 ghost use Rattle.tab_file.specs.Tables.{placement_count, slot_count};
 ghost use Rattle.tab_lanes.specs.LocalRule.{goal_slot};
@@ -19,7 +21,7 @@ use crate::masks;
 use crate::near::least_near;
 use crate::rows::RowTable;
 use crate::runs::{Run, run_entries};
-use pat_place::{Pattern, Placement, rank, slot_of, unrank};
+use pat_place::{Pattern, Placement, next, rank, slot_of, unrank};
 use tab_check::check_block;
 use tab_file::TableView;
 use tab_lanes::{GOAL_SLOT, WITHOUT_REGION};
@@ -43,11 +45,16 @@ pub fn check_runs(table: &TableView<'_>, rows: &RowTable, block: u64) -> Option<
     let goal = goal_number(&pattern);
     let first = block * BLOCK_RANKS;
     let end = pattern.count().min(first + BLOCK_RANKS);
+    let mut placement = unrank(&pattern, first);
     let mut from = first;
     'runs: while from < end {
         let to = end.min(from - from % run + run);
-        match check_run(table, rows, goal, from, to) {
-            Ok(None) => from = to,
+        match check_run(table, rows, goal, &placement, from, to) {
+            Ok(None) => {
+                from = to;
+                placement = last_of_run(&pattern, &placement);
+                next(&mut placement);
+            }
             Ok(Some(number)) => return Some(number),
             Err(_) => return check_block(table, block),
         }
@@ -55,16 +62,41 @@ pub fn check_runs(table: &TableView<'_>, rows: &RowTable, block: u64) -> Option<
     None
 }
 
-/// The first bad entry of the placements from one rank up to another, all of one run.
+/// The last placement of a placement's run.
+fn last_of_run(pattern: &Pattern, placement: &Placement) -> Placement
+    requires pattern { placement.now.pattern ≡ pattern.now }
+    requires placement { IsPlacement placement.now }
+    ensures pattern { result.pattern ≡ pattern.now }
+    ensures placement { IsPlacement result }
+    ensures rank { (r : ℕ) → IsRank pattern.now.side placement.now.cells r → IsRank pattern.now.side result.cells
+        (r - r % (pattern.now.side * pattern.now.side + 1 - length pattern.now.tiles) + (pattern.now.side * pattern.now.side - length pattern.now.tiles)) }
+{
+    let count = pattern.side().cells();
+    let index = usize::from(pattern.size()) - 1;
+    let cell = placement.cell(index);
+    let set = masks::without(placement.occupied(), cell);
+    let Some(last) = masks::last_outside(set, count) else {
+        return *placement;
+    };
+    if last == cell {
+        return *placement;
+    }
+    placement.moved(index, last)
+}
+
+/// The first bad entry of the placements from one rank up to another, all of one run, where this is the first one's.
 fn check_run(
     table: &TableView<'_>,
     rows: &RowTable,
     goal: u64,
+    placement: &Placement,
     from: u64,
     to: u64,
 ) -> Result<Option<u64>, MissingRow>
     requires rows { rows.now ≡ rows_for table.now.pattern }
     requires goal { IsGoalNumber table.now.pattern goal }
+    requires pattern { placement.now.pattern ≡ table.now.pattern }
+    requires rank { IsRank table.now.pattern.side placement.now.cells from }
     requires some { from < to }
     requires count { to ≤ placement_count table.now.pattern }
     requires run { to ≤ from - from % (table.now.pattern.side * table.now.pattern.side + 1 - length table.now.pattern.tiles)
@@ -74,7 +106,6 @@ fn check_run(
         (IsFirstBadEntry table.now (from * slot_count table.now.pattern) (to * slot_count table.now.pattern))) }
 {
     let pattern = table.pattern();
-    let placement = unrank(&pattern, from);
     let placed = placement.cells();
     let all_cells = placed.as_slice();
     let index = usize::from(pattern.size()) - 1;

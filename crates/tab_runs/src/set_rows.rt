@@ -12,7 +12,7 @@ ghost use Rattle.tab_runs.specs.StoredRows.{AreAllKinds, AreAllRows, entries_of_
 
 use crate::masks;
 use crate::runs::rank_of;
-use pat_place::{Pattern, regions, unrank};
+use pat_place::{Pattern, next, regions, unrank};
 use std::alloc::{AllocError, Global};
 use tab_lanes::OTHER_SLOT;
 
@@ -79,14 +79,15 @@ fn fill_rows(pattern: &Pattern, cells: &[u8], set: u32, set_rows: &mut [u8], kin
     let width = pattern.width();
     let run = u64::from(count) - cells.len() as u64;
     let first = rank_of(cells, count) * run;
+    let mut placement = unrank(pattern, first);
     let mut free: u8 = 0;
     for last in 0..count {
         if !masks::has_cell(set, last) {
-            let placement = unrank(pattern, first + u64::from(free));
             let regions = regions(&placement);
             let before = free * width;
             fill_column(set_rows, count, last, 1 + before, regions.as_slice());
             mark(kinds, usize::from(before), regions.len());
+            next(&mut placement);
             free += 1;
         }
     }

@@ -1,5 +1,4 @@
 use Rattle.std.proofs.Common.{◌≡◌, ◌+◌, ◌-◌, ◌*◌, ◌%◌, ◌≤◌, length, get_or, take, sym, ◌∙◌, ap, subst, arith}
-use Rattle.pat_place.specs.Ranks.{IsRank}
 use Rattle.tab_runs.proofs.PartLemmas.{IsRunAt, run_at}
 use Rattle.tab_runs.proofs.blocks.check_run.Goals as goal
 use Rattle.tab_runs.proofs.blocks.check_run.Goals.{After-placements_of_run}
@@ -7,8 +6,7 @@ use Rattle.tab_runs.proofs.blocks.check_run.Goals.{After-placements_of_run}
 -- the run of the first rank
 found : (c : After-placements_of_run) → IsRunAt c.args.table.now (take (c.from-index.result - 1) c.as_slice-all_cells.result.now) (get_or c.as_slice-all_cells.result.now (c.from-index.result - 1) 0) c.args.from (c.args.from - c.args.from % c.placements_of_run.result) c.without-set.result
 found c =
-    run_at c.args.table.now c.pattern-pattern.ensures.table.pattern c.unrank-placement.result (c.unrank-placement.ensures.pattern ∙ c.pattern-pattern.ensures.pattern) c.unrank-placement.ensures.placement c.args.from
-    (subst (λ q. IsRank q.side c.unrank-placement.result.cells c.args.from) c.pattern-pattern.ensures.pattern c.unrank-placement.ensures.rank) c.as_slice-all_cells.result.now (c.as_slice-all_cells.ensures.value ∙ c.cells-placed.ensures.cells)
+    run_at c.args.table.now c.pattern-pattern.ensures.table.pattern c.args.placement.now c.requires.pattern c.cells-placed.ensures.placement c.args.from c.requires.rank c.as_slice-all_cells.result.now (c.as_slice-all_cells.ensures.value ∙ c.cells-placed.ensures.cells)
     (c.from-index.result - 1) c.occupied.result c.without-set.result c.placements_of_run.result
     (let e = c.from-index.ensures ∙ c.size.ensures.size ∙ ap (λ q. length q.tiles) c.pattern-pattern.ensures.pattern in let s = c.pattern-pattern.ensures.table.pattern.some in omega arith)
     c.occupied.ensures c.without-set.type_inv c.without-set.ensures.here c.without-set.ensures.others

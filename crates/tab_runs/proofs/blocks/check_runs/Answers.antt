@@ -1,4 +1,6 @@
-use Rattle.std.proofs.Common.{◌≡◌, ◌*◌, ◌∙◌, ap, subst, arith}
+use Rattle.std.proofs.Common.{◌≡◌, ◌+◌, ◌-◌, ◌*◌, ◌%◌, ◌<◌, length, sym, ◌∙◌, ap, subst, arith}
+use Rattle.pat_place.specs.Ranks.{IsRank}
+use Rattle.tab_check.proofs.ColumnLemmas.{next_rank}
 use Rattle.std.specs.Prelude.{MatchOption}
 use Rattle.tab_check.specs.Blocks.{first_of_block}
 use Rattle.tab_check.proofs.BlockLemmas.{first_fits, keeps_all}
@@ -10,6 +12,22 @@ use Rattle.tab_runs.proofs.blocks.check_runs.Goals as goal
 pub overflow_mul-first : goal.overflow_mul-first
 overflow_mul-first c = let fits = first_fits c.args.table.now.pattern c.pattern-pattern.ensures.table.pattern c.args.block c.requires.block in omega arith
 
+pub unrank-placement-requires : goal.unrank-placement-requires
+unrank-placement-requires c =
+    let p = c.args.table.now.pattern in
+    let low : c.args.block * 256 < placement_count p = (let b = c.requires.block in omega arith) in
+    subst (λ q. c.args.block * 256 < placement_count q) (sym c.pattern-pattern.ensures.pattern) low
+
+pub runs-init : goal.runs-init
+runs-init c =
+    record {
+      begun = omega arith;
+      kept = λ number from to. absurd (omega arith);
+      pattern = c.unrank-placement.ensures.pattern ∙ c.pattern-pattern.ensures.pattern;
+      placement = c.unrank-placement.ensures.placement;
+      rank = λ l. subst (λ q. IsRank q.side c.unrank-placement.result.cells (c.args.block * 256)) c.pattern-pattern.ensures.pattern c.unrank-placement.ensures.rank;
+    }
+
 pub runs-preserved : goal.runs-preserved
 runs-preserved c =
     let t = c.args.table.now in
@@ -18,6 +36,25 @@ runs-preserved c =
     record {
       begun = (let m = c.min-to.ensures in let s = c.placements_of_run-run.ensures.some in let b = c.runs.invariant.begun in let l = c.runs-test.true in omega arith);
       kept = entries_more t (first_of_block t.pattern c.args.block) low high c.runs.invariant.kept (subst (λ f. MatchOption f (EntriesKeepRule t low high) (IsFirstBadEntry t low high)) c.in-Ok-None.field-0-is c.in-Ok-None.ensures);
+      pattern = c.next.ensures.pattern ∙ c.last_of_run-placement.ensures.pattern ∙ c.pattern-pattern.ensures.pattern;
+      placement = c.next.ensures.placement;
+      rank = λ l.
+          let from = c.runs.from in
+          let p = t.pattern in
+          let view = c.last_of_run-placement.result in
+          let same = c.pattern-pattern.ensures.pattern in
+          let was = subst (λ q. IsRank q.side c.runs.placement.cells from) (sym same) (c.runs.invariant.rank c.runs-test.true) in
+          let last : IsRank p.side view.cells (from - from % (p.side * p.side + 1 - length p.tiles) + (p.side * p.side - length p.tiles)) =
+          subst (λ q. IsRank q.side view.cells (from - from % (q.side * q.side + 1 - length q.tiles) + (q.side * q.side - length q.tiles))) same (c.last_of_run-placement.ensures.rank from was) in
+          let run : c.placements_of_run-run.result ≡ p.side * p.side + 1 - length p.tiles = c.placements_of_run-run.ensures.count ∙ ap (λ q. q.side * q.side + 1 - length q.tiles) same in
+          let some = c.placements_of_run-run.ensures.some in
+          let rest : from % c.placements_of_run-run.result ≡ from % (p.side * p.side + 1 - length p.tiles) = ap (λ k. from % k) run in
+          let m = c.min-to.ensures in
+          let to : from - from % (p.side * p.side + 1 - length p.tiles) + (p.side * p.side - length p.tiles) + 1 ≡ c.min-to.result = omega arith in
+          let count : c.count.result ≡ placement_count p = c.count.ensures.count ∙ ap placement_count same in
+          let end = c.min-end.ensures in
+          subst (IsRank p.side c.next.new.placement.cells) to
+          (next_rank p view c.next.new.placement.cells c.next.result (from - from % (p.side * p.side + 1 - length p.tiles) + (p.side * p.side - length p.tiles)) (c.last_of_run-placement.ensures.pattern ∙ same) c.last_of_run-placement.ensures.placement last (omega arith) c.next.ensures.step);
     }
 
 pub returns-in-Ok-Some : goal.returns-in-Ok-Some

@@ -1,4 +1,6 @@
-use Rattle.std.proofs.Common.{◌-◌, ◌*◌, ◌≤◌}
+use Rattle.std.proofs.Common.{◌≡◌, ◌-◌, ◌*◌, ◌<◌, ◌≤◌}
+use Rattle.pat_place.specs.Placements.{IsPlacement}
+use Rattle.pat_place.specs.Ranks.{IsRank}
 use Rattle.tab_file.specs.Tables.{slot_count}
 use Rattle.tab_check.specs.Blocks.{first_of_block}
 use Rattle.tab_runs.specs.Parts.{EntriesKeepRule}
@@ -8,6 +10,9 @@ abbrev pub invariant-runs : goal.invariant-runs
 invariant-runs l = record {
   begun : l.block * 256 ≤ l.from;
   kept : EntriesKeepRule l.table (first_of_block l.table.pattern l.block) (l.from * slot_count l.table.pattern);
+  pattern : l.placement.pattern ≡ l.table.pattern;
+  placement : IsPlacement l.placement;
+  rank : l.from < l.end → IsRank l.table.pattern.side l.placement.cells l.from;
 }
 
 abbrev pub decreases-runs : goal.decreases-runs

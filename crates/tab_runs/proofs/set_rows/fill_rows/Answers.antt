@@ -1,23 +1,32 @@
-use Rattle.std.proofs.Common.{◌≡◌, ◌+◌, ◌*◌, ◌<◌, ◌≤◌, true, [], length, refl, sym, ◌∙◌, ap, ap₂, subst, arith}
+use Rattle.std.proofs.Common.{◌≡◌, ◌+◌, ◌-◌, ◌*◌, ◌<◌, ◌≤◌, true, [], length, refl, sym, ◌∙◌, ap, ap₂, subst, arith}
 use Rattle.std.proofs.lemmas.Bool.{both_ways}
 use Rattle.puz_board.proofs.CellLemmas.{few_cells}
 use Rattle.pat_place.specs.Patterns.{has}
+use Rattle.pat_place.specs.Placements.{IsPlacement}
 use Rattle.pat_place.specs.Ranks.{IsRank}
 use Rattle.pat_place.specs.Regions.{AreRegions}
 use Rattle.pat_place.proofs.CountLemmas.{few_placements}
-use Rattle.tab_file.specs.Tables.{placement_count, slot_count}
+use Rattle.tab_file.specs.Tables.{slot_count}
 use Rattle.tab_runs.specs.Kinds.{AreKindsUpTo, AreMarked}
 use Rattle.tab_runs.specs.SetRows.{AreRowsUpTo, IsColumn}
-use Rattle.tab_runs.specs.Runs.{free_below}
+use Rattle.tab_runs.specs.Runs.{free_below, run_length}
 use Rattle.tab_runs.proofs.EntriesLemmas.{are_numbers, run_few}
 use Rattle.tab_runs.proofs.KindLemmas.{kinds_more, kinds_skip}
 use Rattle.tab_runs.proofs.RunRanks.{free_below-free, free_below-low, free_below-taken, free_below-zero}
-use Rattle.tab_runs.proofs.SetRowLemmas.{at_last, before_low, marks_low, number_low, placement_is, regions_are, regions_few, set_rows_more, set_rows_skip}
+use Rattle.tab_runs.proofs.SetRowLemmas.{at_last, before_low, first_low, marks_low, place_before_run, placement_is, rank_as, regions_are, regions_few, run_is, set_rows_more, set_rows_skip}
+use Rattle.tab_check.proofs.ColumnLemmas.{next_rank}
 use Rattle.tab_runs.proofs.set_rows.fill_rows.Goals as goal
 use Rattle.tab_runs.proofs.set_rows.fill_rows.Goals.{then-not-has_cell, else-not-has_cell}
 
 pub loop-last-init : goal.loop-last-init
-loop-last-init c = record { rows = c.requires.set_rows; kinds = c.requires.kinds; count = sym (free_below-zero c.args.cells.now) }
+loop-last-init c = record {
+  rows = c.requires.set_rows;
+  kinds = c.requires.kinds;
+  count = sym (free_below-zero c.args.cells.now);
+  pattern = c.unrank-placement.ensures.pattern;
+  placement = c.unrank-placement.ensures.placement;
+  rank = λ l. subst (IsRank c.args.pattern.now.side c.unrank-placement.result.cells) (let e : c.rank_of.result * (c.from.result - length c.args.cells.now) ≡ c.rank_of.result * (c.from.result - length c.args.cells.now) + 0 = omega arith in e) c.unrank-placement.ensures.rank;
+}
 
 pub overflow_mul-first : goal.overflow_mul-first
 overflow_mul-first c =
@@ -30,28 +39,13 @@ overflow_mul-first c =
     let e = ap (λ l. c.rank_of.result * l) nums.is_run in
     omega arith
 
-pub overflow_add-first : goal.overflow_add-first
-overflow_add-first c =
-    let p = c.args.pattern.now in
-    let cells = c.args.cells.now in
-    let pat = c.side.ensures.pattern in
-    let at =
-    at_last p cells c.args.set c.side.result c.cells-count.result c.from.result c.width-width.result c.rank_of.result c.loop-last.last c.loop-last.free c.from-then-not-has_cell.result c.has_cell.result
-    c.requires.set c.side.ensures.side c.cells-count.ensures.value c.from.ensures c.width-width.ensures c.rank_of.ensures c.loop-last-test.true c.has_cell.ensures c.if-not-has_cell.true c.loop-last.invariant.count c.from-then-not-has_cell.ensures in
-    let h = number_low p pat cells c.requires.run c.rank_of.result at.is_rank c.loop-last.last at.free in
-    let few = few_placements p pat in
-    let e = at.number_is in
-    omega arith
-
 pub unrank-placement-requires : goal.unrank-placement-requires
 unrank-placement-requires c =
     let p = c.args.pattern.now in
     let cells = c.args.cells.now in
     let pat = c.side.ensures.pattern in
-    let at =
-    at_last p cells c.args.set c.side.result c.cells-count.result c.from.result c.width-width.result c.rank_of.result c.loop-last.last c.loop-last.free c.from-then-not-has_cell.result c.has_cell.result
-    c.requires.set c.side.ensures.side c.cells-count.ensures.value c.from.ensures c.width-width.ensures c.rank_of.ensures c.loop-last-test.true c.has_cell.ensures c.if-not-has_cell.true c.loop-last.invariant.count c.from-then-not-has_cell.ensures in
-    subst (λ k. k < placement_count p) (sym at.number_is) (number_low p pat cells c.requires.run c.rank_of.result at.is_rank c.loop-last.last at.free)
+    let nums = are_numbers (record { pattern = p; entries = [] }) p cells c.side.result c.cells-count.result c.from.result c.width-width.result c.width-width.result c.rank_of.result refl c.side.ensures.side c.cells-count.ensures.value c.from.ensures c.width-width.ensures refl c.rank_of.ensures in
+    first_low p pat cells c.requires.run c.rank_of.result nums.is_rank (c.from.result - length cells) nums.is_run
 
 pub overflow_mul-before : goal.overflow_mul-before
 overflow_mul-before c =
@@ -59,8 +53,8 @@ overflow_mul-before c =
     let cells = c.args.cells.now in
     let pat = c.side.ensures.pattern in
     let at =
-    at_last p cells c.args.set c.side.result c.cells-count.result c.from.result c.width-width.result c.rank_of.result c.loop-last.last c.loop-last.free c.from-then-not-has_cell.result c.has_cell.result
-    c.requires.set c.side.ensures.side c.cells-count.ensures.value c.from.ensures c.width-width.ensures c.rank_of.ensures c.loop-last-test.true c.has_cell.ensures c.if-not-has_cell.true c.loop-last.invariant.count c.from-then-not-has_cell.ensures in
+    at_last p cells c.args.set c.side.result c.cells-count.result c.from.result c.width-width.result c.rank_of.result c.loop-last.last c.loop-last.free c.loop-last.free c.has_cell.result
+    c.requires.set c.side.ensures.side c.cells-count.ensures.value c.from.ensures c.width-width.ensures c.rank_of.ensures c.loop-last-test.true c.has_cell.ensures c.if-not-has_cell.true c.loop-last.invariant.count refl in
     let h = before_low p pat cells c.requires.run c.rank_of.result at.is_rank c.loop-last.last at.free in
     let e = at.before_is in
     omega arith
@@ -71,8 +65,8 @@ overflow_add-before c =
     let cells = c.args.cells.now in
     let pat = c.side.ensures.pattern in
     let at =
-    at_last p cells c.args.set c.side.result c.cells-count.result c.from.result c.width-width.result c.rank_of.result c.loop-last.last c.loop-last.free c.from-then-not-has_cell.result c.has_cell.result
-    c.requires.set c.side.ensures.side c.cells-count.ensures.value c.from.ensures c.width-width.ensures c.rank_of.ensures c.loop-last-test.true c.has_cell.ensures c.if-not-has_cell.true c.loop-last.invariant.count c.from-then-not-has_cell.ensures in
+    at_last p cells c.args.set c.side.result c.cells-count.result c.from.result c.width-width.result c.rank_of.result c.loop-last.last c.loop-last.free c.loop-last.free c.has_cell.result
+    c.requires.set c.side.ensures.side c.cells-count.ensures.value c.from.ensures c.width-width.ensures c.rank_of.ensures c.loop-last-test.true c.has_cell.ensures c.if-not-has_cell.true c.loop-last.invariant.count refl in
     let h = before_low p pat cells c.requires.run c.rank_of.result at.is_rank c.loop-last.last at.free in
     let e = at.before_is in
     omega arith
@@ -83,11 +77,11 @@ fill_column-requires-clause-fits c =
     let cells = c.args.cells.now in
     let pat = c.side.ensures.pattern in
     let at =
-    at_last p cells c.args.set c.side.result c.cells-count.result c.from.result c.width-width.result c.rank_of.result c.loop-last.last c.loop-last.free c.from-then-not-has_cell.result c.has_cell.result
-    c.requires.set c.side.ensures.side c.cells-count.ensures.value c.from.ensures c.width-width.ensures c.rank_of.ensures c.loop-last-test.true c.has_cell.ensures c.if-not-has_cell.true c.loop-last.invariant.count c.from-then-not-has_cell.ensures in
-    let view = c.unrank-placement.result in
-    let is = placement_is p pat cells c.requires.run c.rank_of.result at.is_rank c.loop-last.last at.free view c.unrank-placement.ensures.pattern c.unrank-placement.ensures.placement (subst (IsRank p.side view.cells) at.number_is c.unrank-placement.ensures.rank) in
-    let few : length c.regions-regions.result.items ≤ slot_count p = regions_few p pat cells c.requires.run c.rank_of.result at.is_rank c.loop-last.last at.free view (length c.regions-regions.result.items) c.unrank-placement.ensures.pattern is c.regions-regions.ensures.few in
+    at_last p cells c.args.set c.side.result c.cells-count.result c.from.result c.width-width.result c.rank_of.result c.loop-last.last c.loop-last.free c.loop-last.free c.has_cell.result
+    c.requires.set c.side.ensures.side c.cells-count.ensures.value c.from.ensures c.width-width.ensures c.rank_of.ensures c.loop-last-test.true c.has_cell.ensures c.if-not-has_cell.true c.loop-last.invariant.count refl in
+    let view = c.loop-last.placement in
+    let is = placement_is p pat cells c.requires.run c.rank_of.result at.is_rank c.loop-last.last at.free view c.loop-last.invariant.pattern c.loop-last.invariant.placement (subst (IsRank p.side view.cells) at.number_is (c.loop-last.invariant.rank (place_before_run p pat cells c.requires.run c.loop-last.last at.free c.loop-last.free c.loop-last.invariant.count (c.from.result - length cells) (run_is p c.side.result c.cells-count.result c.from.result (length cells) c.side.ensures.side c.cells-count.ensures.value c.from.ensures)))) in
+    let few : length c.regions-regions.result.items ≤ slot_count p = regions_few p pat cells c.requires.run c.rank_of.result at.is_rank c.loop-last.last at.free view (length c.regions-regions.result.items) c.loop-last.invariant.pattern is c.regions-regions.ensures.few in
     let h = before_low p pat cells c.requires.run c.rank_of.result at.is_rank c.loop-last.last at.free in
     let e = at.before_is in
     let l = ap length c.as_slice.ensures.value in
@@ -99,13 +93,13 @@ mark-requires c =
     let cells = c.args.cells.now in
     let pat = c.side.ensures.pattern in
     let at =
-    at_last p cells c.args.set c.side.result c.cells-count.result c.from.result c.width-width.result c.rank_of.result c.loop-last.last c.loop-last.free c.from-then-not-has_cell.result c.has_cell.result
-    c.requires.set c.side.ensures.side c.cells-count.ensures.value c.from.ensures c.width-width.ensures c.rank_of.ensures c.loop-last-test.true c.has_cell.ensures c.if-not-has_cell.true c.loop-last.invariant.count c.from-then-not-has_cell.ensures in
-    let view = c.unrank-placement.result in
-    let is = placement_is p pat cells c.requires.run c.rank_of.result at.is_rank c.loop-last.last at.free view c.unrank-placement.ensures.pattern c.unrank-placement.ensures.placement (subst (IsRank p.side view.cells) at.number_is c.unrank-placement.ensures.rank) in
-    let few : length c.regions-regions.result.items ≤ slot_count p = regions_few p pat cells c.requires.run c.rank_of.result at.is_rank c.loop-last.last at.free view (length c.regions-regions.result.items) c.unrank-placement.ensures.pattern is c.regions-regions.ensures.few in
+    at_last p cells c.args.set c.side.result c.cells-count.result c.from.result c.width-width.result c.rank_of.result c.loop-last.last c.loop-last.free c.loop-last.free c.has_cell.result
+    c.requires.set c.side.ensures.side c.cells-count.ensures.value c.from.ensures c.width-width.ensures c.rank_of.ensures c.loop-last-test.true c.has_cell.ensures c.if-not-has_cell.true c.loop-last.invariant.count refl in
+    let view = c.loop-last.placement in
+    let is = placement_is p pat cells c.requires.run c.rank_of.result at.is_rank c.loop-last.last at.free view c.loop-last.invariant.pattern c.loop-last.invariant.placement (subst (IsRank p.side view.cells) at.number_is (c.loop-last.invariant.rank (place_before_run p pat cells c.requires.run c.loop-last.last at.free c.loop-last.free c.loop-last.invariant.count (c.from.result - length cells) (run_is p c.side.result c.cells-count.result c.from.result (length cells) c.side.ensures.side c.cells-count.ensures.value c.from.ensures)))) in
+    let few : length c.regions-regions.result.items ≤ slot_count p = regions_few p pat cells c.requires.run c.rank_of.result at.is_rank c.loop-last.last at.free view (length c.regions-regions.result.items) c.loop-last.invariant.pattern is c.regions-regions.ensures.few in
     let h = marks_low p pat cells c.requires.run c.rank_of.result at.is_rank c.loop-last.last at.free in
-    let e = c.from-then-not-has_cell-2.ensures ∙ at.before_is in
+    let e = c.from-then-not-has_cell.ensures ∙ at.before_is in
     let l = c.len.ensures.value in
     let k = c.loop-last.auto.kinds in
     let r = c.requires.room in
@@ -117,8 +111,8 @@ overflow_add-free c =
     let cells = c.args.cells.now in
     let pat = c.side.ensures.pattern in
     let at =
-    at_last p cells c.args.set c.side.result c.cells-count.result c.from.result c.width-width.result c.rank_of.result c.loop-last.last c.loop-last.free c.from-then-not-has_cell.result c.has_cell.result
-    c.requires.set c.side.ensures.side c.cells-count.ensures.value c.from.ensures c.width-width.ensures c.rank_of.ensures c.loop-last-test.true c.has_cell.ensures c.if-not-has_cell.true c.loop-last.invariant.count c.from-then-not-has_cell.ensures in
+    at_last p cells c.args.set c.side.result c.cells-count.result c.from.result c.width-width.result c.rank_of.result c.loop-last.last c.loop-last.free c.loop-last.free c.has_cell.result
+    c.requires.set c.side.ensures.side c.cells-count.ensures.value c.from.ensures c.width-width.ensures c.rank_of.ensures c.loop-last-test.true c.has_cell.ensures c.if-not-has_cell.true c.loop-last.invariant.count refl in
     let h = free_below-low p.side cells c.loop-last.last c.requires.run.inside c.requires.run.apart at.free in
     let few = few_cells p.side pat.low pat.high in
     let e = c.loop-last.invariant.count in
@@ -133,28 +127,40 @@ loop-last-preserved c =
     let board : c.cells-count.result ≡ p.side * p.side = c.cells-count.ensures.value ∙ ap₂ (λ m n. m * n) c.side.ensures.side c.side.ensures.side in
     let inside : last < p.side * p.side = (let l = c.loop-last-test.true in omega arith) in
     let count : c.loop-last.free ≡ free_below cells last = c.loop-last.invariant.count in
+    let first = c.rank_of.result * (c.from.result - length cells) in
     elim c.if-not-has_cell.branch [
       | then-not-has_cell w ↦
           let at =
-          at_last p cells c.args.set c.side.result c.cells-count.result c.from.result c.width-width.result c.rank_of.result c.loop-last.last c.loop-last.free w.from-then-not-has_cell.result c.has_cell.result
-          c.requires.set c.side.ensures.side c.cells-count.ensures.value c.from.ensures c.width-width.ensures c.rank_of.ensures c.loop-last-test.true c.has_cell.ensures w.if-not-has_cell.true c.loop-last.invariant.count w.from-then-not-has_cell.ensures in
-          let view = w.unrank-placement.result in
+          at_last p cells c.args.set c.side.result c.cells-count.result c.from.result c.width-width.result c.rank_of.result c.loop-last.last c.loop-last.free c.loop-last.free c.has_cell.result
+          c.requires.set c.side.ensures.side c.cells-count.ensures.value c.from.ensures c.width-width.ensures c.rank_of.ensures c.loop-last-test.true c.has_cell.ensures w.if-not-has_cell.true c.loop-last.invariant.count refl in
+          let view = c.loop-last.placement in
           let regions = w.as_slice.result.now in
-          let is = placement_is p pat cells c.requires.run c.rank_of.result at.is_rank last at.free view w.unrank-placement.ensures.pattern w.unrank-placement.ensures.placement (subst (IsRank p.side view.cells) at.number_is w.unrank-placement.ensures.rank) in
-          let are = regions_are p pat cells c.requires.run c.rank_of.result at.is_rank last at.free view regions w.unrank-placement.ensures.pattern is (subst (AreRegions view.pattern.side view.cells) (sym w.as_slice.ensures.value) w.regions-regions.ensures.regions) in
-          let few : length w.regions-regions.result.items ≤ slot_count p = regions_few p pat cells c.requires.run c.rank_of.result at.is_rank last at.free view (length w.regions-regions.result.items) w.unrank-placement.ensures.pattern is w.regions-regions.ensures.few in
+          let is = placement_is p pat cells c.requires.run c.rank_of.result at.is_rank last at.free view c.loop-last.invariant.pattern c.loop-last.invariant.placement (subst (IsRank p.side view.cells) at.number_is (c.loop-last.invariant.rank (place_before_run p pat cells c.requires.run c.loop-last.last at.free c.loop-last.free c.loop-last.invariant.count (c.from.result - length cells) (run_is p c.side.result c.cells-count.result c.from.result (length cells) c.side.ensures.side c.cells-count.ensures.value c.from.ensures)))) in
+          let are = regions_are p pat cells c.requires.run c.rank_of.result at.is_rank last at.free view regions c.loop-last.invariant.pattern is (subst (AreRegions view.pattern.side view.cells) (sym w.as_slice.ensures.value) w.regions-regions.ensures.regions) in
+          let few : length w.regions-regions.result.items ≤ slot_count p = regions_few p pat cells c.requires.run c.rank_of.result at.is_rank last at.free view (length w.regions-regions.result.items) c.loop-last.invariant.pattern is w.regions-regions.ensures.few in
           let counted : length w.regions-regions.result.items ≡ length regions = sym (ap length w.as_slice.ensures.value) in
           let column : IsColumn (p.side * p.side) last (1 + free_below cells last * slot_count p) regions (p.side * p.side) c.loop-last.set_rows w.fill_column.new.set_rows =
           subst (λ b. IsColumn (p.side * p.side) last b regions (p.side * p.side) c.loop-last.set_rows w.fill_column.new.set_rows) (ap (λ k. 1 + k) at.before_is)
           (subst (λ m. IsColumn m last (1 + c.loop-last.free * c.width-width.result) regions m c.loop-last.set_rows w.fill_column.new.set_rows) board w.fill_column.ensures) in
           let marked : AreMarked (free_below cells last * slot_count p) (length regions) c.loop-last.kinds w.mark.new.kinds =
-          subst (λ k. AreMarked k (length regions) c.loop-last.kinds w.mark.new.kinds) (w.from-then-not-has_cell-2.ensures ∙ at.before_is)
-          (subst (λ k. AreMarked w.from-then-not-has_cell-2.result k c.loop-last.kinds w.mark.new.kinds) (w.len.ensures.value ∙ counted) w.mark.ensures) in
+          subst (λ k. AreMarked k (length regions) c.loop-last.kinds w.mark.new.kinds) (w.from-then-not-has_cell.ensures ∙ at.before_is)
+          (subst (λ k. AreMarked w.from-then-not-has_cell.result k c.loop-last.kinds w.mark.new.kinds) (w.len.ensures.value ∙ counted) w.mark.ensures) in
           let size : length w.fill_column.new.set_rows ≡ length c.loop-last.set_rows = w.fill_column.auto.set_rows in
           record {
             rows = subst (AreRowsUpTo p.side (slot_count p) cells (last + 1)) (sym w.set_rows-is) (set_rows_more p pat cells last inside c.loop-last.set_rows c.loop-last.invariant.rows at.free regions w.fill_column.new.set_rows are size column);
             kinds = subst (AreKindsUpTo p.side (slot_count p) cells (last + 1)) (sym w.kinds-is) (kinds_more p.side (slot_count p) cells last c.loop-last.kinds c.loop-last.invariant.kinds at.free regions w.mark.new.kinds are (omega arith) marked);
             count = w.free-is ∙ ap (λ k. k + 1) count ∙ sym (free_below-free cells last at.free.1);
+            pattern = ap (λ v. v.pattern) w.placement-is ∙ w.next.ensures.pattern ∙ c.loop-last.invariant.pattern;
+            placement = subst IsPlacement (sym w.placement-is) w.next.ensures.placement;
+            rank = λ l.
+                let run : c.from.result - length cells ≡ run_length p.side cells = run_is p c.side.result c.cells-count.result c.from.result (length cells) c.side.ensures.side c.cells-count.ensures.value c.from.ensures in
+                let few = run_few p cells c.requires.run c.rank_of.result at.is_rank in
+                let size : first ≡ c.rank_of.result * run_length p.side cells = ap (λ k. c.rank_of.result * k) run in
+                let e = w.free-is in
+                let low : c.loop-last.free < c.from.result - length cells = omega arith in
+                let more : c.loop-last.free + 1 < c.from.result - length cells = omega arith in
+                let here = next_rank p view w.next.new.placement.cells w.next.result (first + c.loop-last.free) c.loop-last.invariant.pattern c.loop-last.invariant.placement (c.loop-last.invariant.rank low) (omega arith) w.next.ensures.step in
+                rank_as p.side first w.free-is w.placement-is (subst (IsRank p.side w.next.new.placement.cells) (let q : first + c.loop-last.free + 1 ≡ first + (c.loop-last.free + 1) = omega arith in q) here);
           }
       | else-not-has_cell w ↦
           let taken : has cells last ≡ true = (c.requires.set last).0 (c.has_cell.ensures.0 w.if-not-has_cell.false) in
@@ -162,6 +168,9 @@ loop-last-preserved c =
             rows = subst (AreRowsUpTo p.side (slot_count p) cells (last + 1)) (sym w.set_rows-is) (set_rows_skip p pat cells last inside c.loop-last.set_rows c.loop-last.invariant.rows (λ f. both_ways (has cells last) f.1 taken));
             kinds = subst (AreKindsUpTo p.side (slot_count p) cells (last + 1)) (sym w.kinds-is) (kinds_skip p.side (slot_count p) cells last c.loop-last.kinds c.loop-last.invariant.kinds (λ f. both_ways (has cells last) f.1 taken));
             count = w.free-is ∙ count ∙ sym (free_below-taken cells last taken);
+            pattern = ap (λ v. v.pattern) w.placement-is ∙ c.loop-last.invariant.pattern;
+            placement = subst IsPlacement (sym w.placement-is) c.loop-last.invariant.placement;
+            rank = λ l. rank_as p.side first w.free-is w.placement-is (c.loop-last.invariant.rank (let e = w.free-is in omega arith));
           }
     ]
 
