@@ -127,7 +127,9 @@ impl Placement {
         ensures set { IsMaskOf set (λ c. has result.cells c ≡ true) }
     {
         let _side = pattern.side();
-        Placement::in_cells(pattern, masks::numbers_of(set).as_slice())
+        let mut cells = ArrayVec::new();
+        masks::put_numbers(set, &mut cells);
+        Placement::in_cells(pattern, cells.as_slice())
     }
 
     /// The placement with the pattern's tiles in these cells.
