@@ -7,7 +7,7 @@ use Rattle.std.proofs.Math.Seq.{take-set-lt}
 use Rattle.std.proofs.lemmas.List.{drop-set-lt}
 use Rattle.puz_board.specs.Boards.{IsBoard, IsGoal, cell_of, side_of}
 use Rattle.pat_place.specs.Patterns.{PatternView, IsPattern, has}
-use Rattle.pat_place.specs.Placements.{PlacementView, IsPlacement, IsApart, IsFree, placement_of}
+use Rattle.pat_place.specs.Placements.{PlacementView, IsPlacement, IsApart, IsFree, cells_found, placement_of}
 use Rattle.pat_place.specs.StoredPlacements.{IsStoredPlacement, placement_shown}
 use Rattle.pat_place.specs.declared.placements.Placement.TheInside.{Inside}
 use Rattle.pat_place.proofs.ListLemmas.{apart_from_ascending}
@@ -149,3 +149,12 @@ module _ (s : Inside) (kept : IsStoredPlacement s) (i c : ℕ) (here : i < lengt
     placement = subst IsPlacement (sym placement_shown-moved) (IsPlacement-moved (placement_shown s) kept.placement i c free);
     rest = drop-set-lt (length s.pattern.tiles) s.cells i c within ∙ kept.rest;
   }
+
+-- ---- the placement of a board whose cells were found
+
+cells_same : (b found : List ℕ) (m : ℕ) → ((t : ℕ) → t < m → get_or found t 0 ≡ cell_of t b) → (ts : List ℕ) → AllByRecursion (λ t. (0 < t) × (t < m)) ts → cells_found ts found ≡ placement_of ts b
+cells_same b found m each [] all = refl
+cells_same b found m each (t ∷ ts) all = ap₂ (λ x xs. x ∷ xs) (each t all.0.1) (cells_same b found m each ts all.1)
+
+pub cells_of_board : (b : List ℕ) → IsBoard b → (p : PatternView) → IsPattern p → side_of b ≡ p.side → (found : List ℕ) → ((t : ℕ) → t < length b → get_or found t 0 ≡ cell_of t b) → cells_found p.tiles found ≡ placement_of p.tiles b
+cells_of_board b board p good side found each = cells_same b found (p.side * p.side) (λ t l. each t (let e = board.size in let s : side_of b * side_of b ≡ p.side * p.side = ap₂ (λ x y. x * y) side side in omega arith)) p.tiles good.tiles

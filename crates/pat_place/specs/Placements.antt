@@ -1,5 +1,5 @@
 -- Placements: the cells of a pattern's tiles, in the tiles' order.
-use Rattle.std.specs.Prelude.{◌≡◌, ℕ, ◌*◌, ◌<◌, false, List, [], ◌∷◌, length, map, ⊤}
+use Rattle.std.specs.Prelude.{◌≡◌, ℕ, ◌*◌, ◌<◌, false, List, [], ◌∷◌, length, map, slice_index, ⊤}
 use Rattle.std.specs.List.{AllByRecursion}
 use Rattle.puz_board.specs.Boards.{cell_of}
 use Rattle.pat_place.specs.Patterns.{PatternView, has}
@@ -23,6 +23,10 @@ pub record IsPlacement (p : PlacementView) : Type 0 where
 -- the cells of these tiles on a board
 abbrev pub placement_of : List ℕ → List ℕ → List ℕ
 placement_of tiles b = map (λ t. cell_of t b) tiles
+
+-- the cells of these tiles, where a list has the cell of each number
+abbrev pub cells_found : List ℕ → List ℕ → List ℕ
+cells_found tiles found = map (λ t. slice_index found t) tiles
 
 -- a cell of the board that no tile of the pattern is in
 abbrev pub IsFree : ℕ → List ℕ → ℕ → Type 0

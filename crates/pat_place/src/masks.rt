@@ -1,6 +1,6 @@
 //! Masks of 32 bits: bit x stands for the number x.
 
-ghost use Rattle.std.specs.Prelude.{◌≡◌, ◌≢◌, ℕ, ◌-◌, ◌^◌, ◌<◌, ◌≤◌, count_ones, length};
+ghost use Rattle.std.specs.Prelude.{◌≡◌, ◌≢◌, ℕ, ◌-◌, ◌^◌, ◌<◌, ◌≤◌, [], count_ones, length};
 ghost use Rattle.std.specs.Int.{bit_at};
 ghost use Rattle.puz_board.specs.Masks.{numbers_of, ones_below};
 
@@ -85,17 +85,17 @@ pub(crate) fn select(mask: u32, place: u8) -> u8
     number
 }
 
-/// The numbers of the mask, ascending. There are eight at most.
-pub(crate) fn numbers_of(mask: u32) -> ArrayVec<u8, 8>
-    requires { length (numbers_of mask) ≤ 8 }
-    ensures { result.items ≡ numbers_of mask }
+/// Puts the numbers of the mask, ascending, into an empty list. There are eight at most.
+#[inline]
+pub(crate) fn put_numbers(mask: u32, numbers: &mut ArrayVec<u8, 8>)
+    requires few { length (numbers_of mask) ≤ 8 }
+    requires empty { numbers.old.items ≡ [] }
+    ensures { numbers.new.items ≡ numbers_of mask }
 {
-    let mut numbers = ArrayVec::new();
     let mut rest = mask;
     while rest != 0 {
         let number = first_of(rest);
         numbers.push(number);
         rest = without(rest, number);
     }
-    numbers
 }

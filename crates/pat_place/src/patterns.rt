@@ -76,7 +76,9 @@ impl Pattern {
         ensures tiles { result.items ≡ self.now.tiles }
         ensures pattern { IsPattern self.now }
     {
-        masks::numbers_of(self.mask)
+        let mut tiles = ArrayVec::new();
+        masks::put_numbers(self.mask, &mut tiles);
+        tiles
     }
 
     /// How many slots a table has for each placement: no placement has more regions of free cells.

@@ -4,7 +4,7 @@ ghost use Rattle.std.specs.Prelude.{◌≡◌, ℕ, ◌*◌, ◌^◌, ◌<◌, �
 ghost use Rattle.puz_board.specs.Boards.{IsBoard, IsGoal, side_of};
 ghost use Rattle.puz_board.specs.Masks.{IsMaskOf};
 ghost use Rattle.pat_place.specs.Patterns.{IsPattern, has};
-ghost use Rattle.pat_place.specs.Placements.{IsPlacement, IsFree, placement_of};
+ghost use Rattle.pat_place.specs.Placements.{IsPlacement, IsFree, cells_found, placement_of};
 
 use crate::masks;
 use crate::patterns::Pattern;
@@ -50,7 +50,15 @@ impl Placement {
         requires { side_of board.now ≡ pattern.now.side }
         ensures { result ≡ record { pattern = pattern.now; cells = placement_of pattern.now.tiles board.now } }
     {
-        let found = board.cells_of_all();
+        let _side = pattern.side();
+        Placement::of_cells(pattern, &board.cells_of_all())
+    }
+
+    /// The placement with each of the pattern's tiles in the cell that was found for its number.
+    pub fn of_cells(pattern: &Pattern, found: &[u8; 25]) -> Placement
+        requires { IsPlacement (record { pattern = pattern.now; cells = cells_found pattern.now.tiles found.now }) }
+        ensures { result ≡ record { pattern = pattern.now; cells = cells_found pattern.now.tiles found.now } }
+    {
         let mut cells = [0; 8];
         let tiles = pattern.tiles();
         for (i, tile) in tiles.as_slice().iter().enumerate() {
@@ -119,7 +127,9 @@ impl Placement {
         ensures set { IsMaskOf set (λ c. has result.cells c ≡ true) }
     {
         let _side = pattern.side();
-        Placement::in_cells(pattern, masks::numbers_of(set).as_slice())
+        let mut cells = ArrayVec::new();
+        masks::put_numbers(set, &mut cells);
+        Placement::in_cells(pattern, cells.as_slice())
     }
 
     /// The placement with the pattern's tiles in these cells.

@@ -49,7 +49,7 @@ fn check_tables<'a, H: Threads + Wait, G: Gate + Sync>(
     Ok(tables)
 }
 
-/// The table of the file with this number.
+/// The table of the file with this number, with the slots of its placements, since many boards are looked up in it.
 fn check_file<'a, H: Threads + Wait, G: Gate + Sync>(
     alloc: Global,
     number: usize,
@@ -60,7 +60,7 @@ fn check_file<'a, H: Threads + Wait, G: Gate + Sync>(
     ensures err { IfErr result (λ cause. IsCauseForFile cause number file.now) }
 {
     match check_table(workers.rt, alloc, file, workers.count, workers.gate) {
-        Ok(table) => Ok(table),
+        Ok(table) => Ok(table.with_slots(alloc)),
         Err(TableFault::Refused(refusal)) => Err(Fault::TableOf(number, refusal)),
         Err(TableFault::Memory) => Err(Fault::Memory),
     }

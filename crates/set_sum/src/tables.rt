@@ -52,9 +52,10 @@ pub(crate) fn sum_of(tables: &[CheckedTable<'_>], numbers: &[u8], board: &Board)
     requires side { AllByRecursion (λ t. t.pattern.side ≡ side_of board.now) tables.now }
     ensures { SetSays (members (patterns_of tables.now) numbers.now) board.now result }
 {
+    let found = board.cells_of_all();
     let mut total = 0;
     for number in numbers {
-        match tables[usize::from(*number)].look(board) {
+        match tables[usize::from(*number)].look_in(board, &found) {
             Count::Finite(count) => total += count,
             Count::Never => return Count::Never,
         }

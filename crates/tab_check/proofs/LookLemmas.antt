@@ -1,17 +1,17 @@
 -- What the entry of a board says in an exact table.
-use Rattle.std.proofs.Common.{◌≡◌, ℕ, ◌+◌, ◌*◌, ◌<◌, ◌≤◌, cond, eqb, List, Option, Some, None, inl, inr, refl, sym, ◌∙◌, subst, arith, ne_eqb, eq-eqb}
+use Rattle.std.proofs.Common.{◌≡◌, ℕ, ◌+◌, ◌*◌, ◌<◌, ◌≤◌, cond, eqb, List, Option, Some, None, length, ap, inl, inr, refl, sym, ◌∙◌, subst, arith, ne_eqb, eq-eqb}
 use Rattle.std.specs.Prelude.{slice_index, IfSome}
 use Rattle.std.proofs.lemmas.Bool.{cases_eq, cases_lt, cond-true, cond-false}
-use Rattle.puz_board.specs.Boards.{IsBoard, IsBoardOf, blank, side_of}
+use Rattle.puz_board.specs.Boards.{IsBoard, IsBoardOf, blank, cell_of, side_of}
 use Rattle.puz_board.proofs.BoardLemmas.{cells_least}
 use Rattle.puz_board.proofs.BoardWays.{State}
 use Rattle.pat_place.specs.BoardLaws.{HasBoard}
 use Rattle.pat_place.specs.Patterns.{PatternView, IsPattern}
-use Rattle.pat_place.specs.Placements.{PlacementView, IsFree, IsPlacement, placement_of}
+use Rattle.pat_place.specs.Placements.{PlacementView, IsFree, IsPlacement, cells_found, placement_of}
 use Rattle.pat_place.specs.Ranks.{IsRank}
 use Rattle.pat_place.specs.Regions.{IsLeader, IsSlot, here}
 use Rattle.pat_place.proofs.BoardOf.{board_of}
-use Rattle.pat_place.proofs.PlacementLemmas.{IsPlacement-of}
+use Rattle.pat_place.proofs.PlacementLemmas.{IsPlacement-of, cells_of_board}
 use Rattle.pat_place.proofs.SlideLemmas.{IsFree-blank}
 use Rattle.pat_place.proofs.SlotLemmas.{count_place, slot_some}
 use Rattle.tab_file.specs.Tables.{Table, entry_at, slot_count}
@@ -26,6 +26,13 @@ use Rattle.tab_check.proofs.NearLemmas.{IsFree-in, IsPlaced-in}
 -- the placement of a board
 abbrev pub placement_on : List ℕ → PatternView → PlacementView
 placement_on b p = record { pattern = p; cells = placement_of p.tiles b }
+
+-- the same where the cell of each number was found
+pub placement_found : (b found : List ℕ) → IsBoard b → (p : PatternView) → IsPattern p → side_of b ≡ p.side → ((t : ℕ) → t < length b → slice_index found t ≡ cell_of t b) → (q : PatternView) → q ≡ p
+    → record { pattern = q; cells = cells_found q.tiles found } ≡ placement_on b p
+placement_found b found good p pat side each q same =
+    ap {B = PlacementView} (λ x. record { pattern = x; cells = cells_found x.tiles found }) same ∙
+    ap {B = PlacementView} (λ xs. record { pattern = p; cells = xs }) (cells_of_board b good p pat side found each)
 
 -- the blank's cell is free
 pub free_blank : (p : PatternView) → IsPattern p → (b : List ℕ) → IsBoard b → side_of b ≡ p.side → IsFree p.side (placement_of p.tiles b) (blank b)

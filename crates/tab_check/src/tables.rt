@@ -1,7 +1,7 @@
 //! Tables that are checked whole.
 
-ghost use Rattle.std.specs.Prelude.{◌≡◌, ◌<◌, ◌≤◌, ◌⊎◌, ◌==◌, if◌then◌else◌, ℕ, true, Err, IfErr, IfOk, IfSome, Ok};
-ghost use Rattle.puz_board.specs.Boards.{side_of};
+ghost use Rattle.std.specs.Prelude.{◌≡◌, ◌<◌, ◌≤◌, ◌⊎◌, ◌==◌, if◌then◌else◌, ℕ, true, Err, IfErr, IfOk, IfSome, Ok, length, slice_index};
+ghost use Rattle.puz_board.specs.Boards.{cell_of, side_of};
 ghost use Rattle.tab_file.specs.HeadFaults.{table_of_file};
 ghost use Rattle.tab_file.specs.TableFiles.{IsTableFile};
 ghost use Rattle.pat_place.specs.Placements.{IsFree, IsPlacement};
@@ -167,8 +167,18 @@ impl<'a> CheckedTable<'a> {
         ensures count { IsCountOf self.now.pattern.tiles board.now result }
         ensures few { (d : ℕ) → result ≡ Finite d → d ≤ 253 }
     {
+        self.look_in(board, &board.cells_of_all())
+    }
+
+    /// As `look`, where the cell of each number was found before.
+    pub fn look_in(&self, board: &Board, found: &[u8; 25]) -> Count
+        requires side { side_of board.now ≡ self.now.pattern.side }
+        requires found { (number : ℕ) → number < length board.now → slice_index found.now number ≡ cell_of number board.now }
+        ensures count { IsCountOf self.now.pattern.tiles board.now result }
+        ensures few { (d : ℕ) → result ≡ Finite d → d ≤ 253 }
+    {
         let _side = board.side();
-        let placement = Placement::of_board(&self.pattern(), board);
+        let placement = Placement::of_cells(&self.pattern(), found);
         let rank = rank(&placement);
         let slot = self.slot_in(&placement, rank, board.blank());
         count_of(self.view.entry(rank, slot))

@@ -10,14 +10,14 @@ use Rattle.set_sum.proofs.ListLemmas.{named_has, named_here, named_more}
 use Rattle.set_sum.proofs.SumLemmas.{AddUpTo-push}
 use Rattle.set_sum.proofs.tables.sum_of.Goals as goal
 
-pub look-requires : goal.look-requires
-look-requires c =
+pub look_in-requires-clause-side : goal.look_in-requires-clause-side
+look_in-requires-clause-side c =
     sym (named_has c.args.tables.now c.args.numbers.now c.loop-number.number-index c.from.result c.index-tables-from.result c.loop-number-test.true c.from.ensures c.requires.there c.index-tables-from.is
     (λ t. t.pattern.side ≡ side_of c.args.board.now) c.requires.side)
 
 pub overflow_add-total : goal.overflow_add-total
 overflow_add-total c =
-    let each = c.look.ensures.few c.in-Finite.count c.in-Finite.is in
+    let each = c.look_in.ensures.few c.in-Finite.count c.in-Finite.is in
     let few = c.requires.few in
     let so_far = c.loop-number.invariant.few in
     let test = c.loop-number-test.true in
@@ -29,7 +29,7 @@ loop-number-preserved c =
     let numbers = c.args.numbers.now in
     let i = c.loop-number.number-index in
     let t = c.index-tables-from.result in
-    let each = c.look.ensures.few c.in-Finite.count c.in-Finite.is in
+    let each = c.look_in.ensures.few c.in-Finite.count c.in-Finite.is in
     let so_far = c.loop-number.invariant.few in
     let more = named_more tables numbers i c.from.result t c.loop-number-test.true c.from.ensures c.requires.there c.index-tables-from.is in
     record {

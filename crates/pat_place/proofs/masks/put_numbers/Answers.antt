@@ -4,7 +4,7 @@ use Rattle.puz_board.specs.Masks.{numbers_of}
 use Rattle.pat_place.specs.Patterns.{has}
 use Rattle.pat_place.proofs.ListLemmas.{length-has}
 use Rattle.pat_place.proofs.MaskLemmas.{has-numbers_below, numbers_below-first, numbers_below-zero}
-use Rattle.pat_place.proofs.masks.numbers_of.Goals as goal
+use Rattle.pat_place.proofs.masks.put_numbers.Goals as goal
 
 -- where a number is left, there is room for it
 room : (items : List ℕ) (rest number : ℕ) (numbers : List ℕ) → items ++ numbers_of rest ≡ numbers → has (numbers_of rest) number ≡ true → length numbers ≤ 8 → length items < 8
@@ -16,7 +16,7 @@ room items rest number numbers whole some few =
 pub push-requires : goal.push-requires
 push-requires c = (
   lit< tt,
-  room c.loop-rest.numbers.items c.loop-rest.rest c.first_of-number.result (numbers_of c.args.mask) c.loop-rest.invariant (has-numbers_below 32 c.loop-rest.rest c.first_of-number.result c.first_of-number.ensures.within c.first_of-number.ensures.here) c.requires,
+  room c.loop-rest.numbers.items c.loop-rest.rest c.first_of-number.result (numbers_of c.args.mask) c.loop-rest.invariant (has-numbers_below 32 c.loop-rest.rest c.first_of-number.result c.first_of-number.ensures.within c.first_of-number.ensures.here) c.requires.few,
 )
 
 pub loop-rest-preserved : goal.loop-rest-preserved
