@@ -7,7 +7,8 @@
 #
 # PROGRAM is the program to run; without it, that is the launcher, which builds what is not built. A line is written for
 # each check that fails, with what was written, and last the line `N passed, M failed`. The status is 0 if all passed, 1 if
-# one failed, and 2 where there is no program to run. It needs python3, as rt does.
+# one failed, and 2 where there is no program to run. It needs python3, as rt does. With the C compiler cc, each request for
+# memory is refused in turn besides.
 set -uo pipefail
 
 root=$(dirname "$(dirname "$(readlink -f "${BASH_SOURCE[0]}")")")
@@ -431,6 +432,7 @@ claim 1 'refused S1 at line 1' F12 F3 leaf : bound board descending leaf F12 F3
 echo '0 1 3 2' >unsolvable_board
 claim 0 'bound 255' F123 unsolvable : bound unsolvable_board one_set unsolvable F123
 echo '3 0 1 2' >another_board
+echo '1 0 2 3' >next_board
 claim 1 'refused L5' F123 leaf : bound another_board one_set leaf F123
 claim 0 'optimal 6' F12 branches : optimal six_moves one_set branches F12
 echo '3 2 1 0 ; ULDRULRL' >eight_moves
@@ -476,34 +478,57 @@ rm log_over_its_limit
 # Want of memory.
 #
 
-digest=$(sha256sum <all_of_side_3)
-printf '%s\n' "sha256 ${digest%% *}" 'exact side 3 mask 510 entries 362880 unreachable 181440 deepest 31' >"$work/exact"
 echo 'no memory' >"$work/no_memory"
 
-# Whether the run wrote `no memory` with status 3, or its answer with status 0.
+# Whether the run wrote `no memory` with status 3, or its own answer.
 lacked_memory_or_not() {
-    [ ! -s "$work/errors" ] && case $status in
-    0) cmp -s "$work/output" "$1" ;;
+    [ ! -s "$work/errors" ] || return 1
+    case $status in
+    "$own_status") cmp -s "$work/output" "$work/own_answer" ;;
     3) cmp -s "$work/output" "$work/no_memory" ;;
     *) false ;;
     esac
 }
 
-echo 'solution 6' >"$work/solution"
+# A run with these words that is refused nothing, and then one for each of these limits of its memory, in kilobytes.
+limit_memory() {
+    local kilobytes
+    run "$@"
+    own_status=$status
+    mv "$work/output" "$work/own_answer"
+    for kilobytes in {2000..6000..100} {7000..40000..3000} {50000..800000..75000}; do
+        # Where the system has no memory to start the program, no answer is the program's.
+        (ulimit -v "$kilobytes" && exec "$bare" --help) >/dev/null 2>"$work/errors"
+        [ "$?" != 127 ] || continue
+        status=0
+        (ulimit -v "$kilobytes" && exec "$bare" "$@") >"$work/output" 2>"$work/errors" || status=$?
+        check "$* with $kilobytes kilobytes" lacked_memory_or_not
+        [ "$status" != 3 ] || refusals=$((refusals + 1))
+    done
+}
+
 refusals=0
-for kilobytes in {2000..6000..100} {7000..40000..3000} {50000..800000..75000}; do
-    # Where the system has no memory to start the program, no answer is the program's.
-    (ulimit -v "$kilobytes" && exec "$bare" --help) >/dev/null 2>"$work/errors"
-    [ "$?" != 127 ] || continue
-    status=0
-    (ulimit -v "$kilobytes" && exec "$bare" table all_of_side_3 --workers 64) >"$work/output" 2>"$work/errors" || status=$?
-    check "a table with $kilobytes kilobytes" lacked_memory_or_not "$work/exact"
-    [ "$status" != 3 ] || refusals=$((refusals + 1))
-    status=0
-    (ulimit -v "$kilobytes" && exec "$bare" replay solved) >"$work/output" 2>"$work/errors" || status=$?
-    check "a puzzle with $kilobytes kilobytes" lacked_memory_or_not "$work/solution"
-done
+limit_memory table all_of_side_3 --workers 64
+limit_memory replay solved
+limit_memory optimal six_moves one_set branches F12 --workers 7
+limit_memory make-table 3 126 made --workers 7
+limit_memory solve board one_set made F12 --workers 7
+rm -f made
 check 'memory was refused to some runs' [ "$refusals" -gt 0 ]
+
+# Each request for memory or a thread is refused in turn, where there is a compiler for the library that refuses.
+if command -v cc >/dev/null; then
+    for words in '' 'table F123' 'table F123 --workers 2' 'table F123_with_02' 'make-table 5 16777216 made' \
+        'bound board one_set leaf F123' 'bound board one_set branches_without_the_last F12' \
+        'bound board one_set citation F12' 'bound board one_set citation F12 --workers 2' \
+        'optimal six_moves one_set branches F12' 'solve next_board one_set made F123'; do
+        status=0
+        # shellcheck disable=SC2086
+        PROGRAM=$bare "$root/tools/refuse_memory.sh" $words <solved >"$work/output" 2>"$work/errors" || status=$?
+        check "each request of '$words' is refused" [ "$status" = 0 ]
+    done
+    rm -f made
+fi
 
 #
 # Changed inputs.
@@ -581,8 +606,6 @@ solved() {
 }
 
 echo '0 1 2 3' >solved_board
-echo '1 0 2 3' >next_board
-echo '0 1 3 2' >unsolvable_board
 solved solved_board 0 F123
 solved next_board 1 F123
 solved board 6 F12

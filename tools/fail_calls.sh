@@ -10,8 +10,8 @@
 # Its arguments are the program's words, and its standard input is the program's. Names are those of files in the folder that
 # it is called in, of which each run gets a copy. It needs `strace`, Debian's package. The calls are those of the program's
 # first thread, behind those by which the system starts it. A line is written for each kind of call, with what was answered,
-# and for each run that ends otherwise; last `N passed, M failed`. The status is 0 if all passed, and otherwise not. The
-# launcher builds the program where that is needed.
+# and for each run that ends otherwise; last `N passed, M failed`. The status is 0 if all passed, and otherwise not. The program
+# is that of the variable PROGRAM, a path; without it, the launcher builds it where that is needed.
 set -uo pipefail
 
 # How each call may fail. Of `brk` the system tells no error, but that memory ends where it did. `munmap` is left out: glibc
@@ -24,8 +24,11 @@ declare -A faults=(
 )
 
 root=$(dirname "$(dirname "$(readlink -f "${BASH_SOURCE[0]}")")")
-"$root/pdb_cli" --help >/dev/null </dev/null || exit
-program=$root/out/pdb_cli
+program=${PROGRAM-}
+if [ -z "$program" ]; then
+    "$root/pdb_cli" --help >/dev/null </dev/null || exit
+    program=$root/out/pdb_cli
+fi
 work=$(mktemp -d) || exit
 trap 'rm -r "$work"' EXIT
 

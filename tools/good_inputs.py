@@ -1,4 +1,5 @@
-"""Good inputs of every kind, drawn at random: puzzle texts, exact tables, set texts, and logs that prove their bounds."""
+"""Good inputs of every kind, drawn at random: puzzle texts, exact tables, set texts, logs that prove their bounds, patterns
+and searches."""
 
 import functools
 import itertools
@@ -10,11 +11,11 @@ from plain_answers import (
     REVERSE,
     goal,
     moved,
-    pattern_of,
     read_sets,
     read_table,
     side_of,
     sum_of,
+    table_of,
     ways,
 )
 
@@ -25,6 +26,8 @@ MASKS = {
     4: [2, 32768, 6],
     5: [2, 16777216],
 }
+# Patterns whose tables are large enough to be checked by runs, by their sides.
+LARGE = [(3, 126), (4, 30), (3, 510), (4, 1632), (3, 254), (4, 61440), (3, 380), (3, 438)]
 # A tree of the bound 255 on side 2 has two chains of 255 nodes.
 MOST_NODES = {2: 520, 3: 150}
 
@@ -62,12 +65,6 @@ def puzzle(draw):
     if draw.random() < 0.02:
         letters += "RL" * ((1000 - len(letters)) // 2)
     return puzzle_text(draw, board, letters)
-
-
-def table_of(side, mask):
-    pattern = pattern_of(side, mask)
-    header = b"PDBT" + bytes([1, side, len(pattern.tiles), 0]) + mask.to_bytes(4, "big")
-    return header + len(pattern.exact).to_bytes(8, "big") + pattern.exact
 
 
 def table(draw, side=None):
@@ -169,3 +166,45 @@ def claim(draw):
     steps = len(letters) if letters is not None else draw.choice([3, 8, 255])
     prover.prove(board, steps)
     return board, letters, sets_text, prover.lemmas, files
+
+
+def side_and_mask(draw):
+    """A side and a mask, most of them a pattern of few tiles."""
+    side = draw.choice([2, 2, 3, 3, 3, 4, 5])
+    how = draw.random()
+    if how < 0.5:
+        return side, draw.choice(MASKS[side])
+    tiles = draw.sample(range(1, side * side), draw.randint(1, {2: 3, 3: 4, 4: 2, 5: 1}[side]))
+    mask = sum(1 << tile for tile in tiles)
+    if how < 0.75:
+        return side, mask
+    no_pattern = [
+        (side, mask | 1),
+        (side, 0),
+        (side, mask | 1 << draw.randrange(side * side, 32)),
+        (side, (1 << side * side) - 2 if side > 3 else (1 << side * side) - 1),
+        (draw.choice([0, 1, 6, 7, 255]), mask),
+        (draw.choice([256, 1000, 2**64]), mask),
+        (side, draw.choice([2**32, 2**32 + mask, 2**70])),
+    ]
+    return draw.choice(no_pattern)
+
+
+def board_to_solve(draw, side):
+    """A board, most of them near the goal board, and how many boards may be expanded: few where the search is long."""
+    steps = {2: 6, 3: 14, 4: 8, 5: 5}[side]
+    board, _ = walk(draw, side, draw.randint(0, steps))
+    most = draw.choice([1_000_000] * 6 + [10**12, 1, 2, 5, 20, 100, 1000])
+    if side == 3 and draw.random() < 0.2:
+        return tuple(draw.sample(range(9), 9)), draw.choice([1, 10, 100, 1000, 3000])
+    if draw.random() < 0.1:
+        return unsolvable(board), 1_000_000 if side == 2 else min(most, 20_000)
+    return board, most
+
+
+def search(draw):
+    """A board, the budget of a search, a set text and tables."""
+    side = draw.choice([2, 2, 2, 3, 3, 3, 4, 5])
+    board, budget = board_to_solve(draw, side)
+    files = [table(draw, side) for _ in range(draw.choice([1, 1, 1, 2, 3, 16]))]
+    return board, budget, set_text(draw, files), files

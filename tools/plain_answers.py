@@ -1,7 +1,10 @@
 """What the program must answer, read off docs/FORMATS.md as plainly as can be. Nothing of the program is used.
 
-`answer` gives the lines and the status of a run. A table is judged by the local rule, entry by entry, and besides by a
-breadth-first search over placements and regions: the two must agree.
+`answer` gives how a run must end: its lines, its status and the files that it leaves. A table is judged by the local rule,
+entry by entry, and besides by a breadth-first search over placements and regions: the two must agree. A table of 65,536
+entries and more is compared with the search, and where it differs, the rule is asked of all entries that can break it.
+What `solve` finds is its own: its moves must solve the board, be as few as a breadth-first search over boards says, and the
+log that it keeps must prove that they are.
 """
 
 import functools
@@ -19,6 +22,12 @@ NO_REGION, NEVER = 254, 255
 BRANCH, CITATION = 0x00, 0x20
 TEXT_LIMIT, LOG_LIMIT, TABLE_LIMIT = 65_536, 2**30, 2**32
 MOST_LEMMAS = 1_048_576
+MANY_ENTRIES = 65_536
+STANDARD_INPUT = "-"
+MISTAKE = b"error: "
+PIECE = 4096
+# All boards of side 3 that have a solution, and more.
+MOST_BOARDS = 200_000
 
 
 class Refused(Exception):
@@ -124,34 +133,40 @@ class Pattern:
         self.width = min(len(self.tiles) + 1, side * side - len(self.tiles))
         self.placements = list(itertools.permutations(range(side * side), len(self.tiles)))
         self.rank = {placement: rank for rank, placement in enumerate(self.placements)}
-        self.regions = [self.regions_of(placement) for placement in self.placements]
+        self.regions_by_cells, self.found_beside = {}, {}
+        self.size = len(self.placements) * self.width
         self.home = self.entry_of(self.tiles, 0)
-        self.beside = [
-            self.beside_region(placement, regions[slot]) if slot < len(regions) else None
-            for placement, regions in zip(self.placements, self.regions)
-            for slot in range(self.width)
-        ]
 
-    def regions_of(self, placement):
+    def regions(self, placement):
         """The regions of the free cells, in the order of their least cells."""
-        free = [cell for cell in range(self.side * self.side) if cell not in placement]
-        found = []
-        while free:
-            region = [free[0]]
-            for cell in region:
-                region += [to for to in ways(self.side, cell).values() if to in free and to not in region]
-            free = [cell for cell in free if cell not in region]
-            found.append(region)
-        return found
+        cells = frozenset(placement)
+        if cells not in self.regions_by_cells:
+            free = [cell for cell in range(self.side * self.side) if cell not in cells]
+            found = []
+            while free:
+                region = [free[0]]
+                for cell in region:
+                    region += [to for to in ways(self.side, cell).values() if to in free and to not in region]
+                free = [cell for cell in free if cell not in region]
+                found.append(region)
+            self.regions_by_cells[cells] = found
+        return self.regions_by_cells[cells]
 
     def entry_of(self, placement, cell):
         """The number of the entry of a placement and the region of a free cell."""
-        rank = self.rank[placement]
-        slot = next(slot for slot, region in enumerate(self.regions[rank]) if cell in region)
-        return rank * self.width + slot
+        slot = next(slot for slot, region in enumerate(self.regions(placement)) if cell in region)
+        return self.rank[placement] * self.width + slot
+
+    def beside(self, number):
+        """The entries one move of a tile of the pattern away from an entry, or None where its slot has no region."""
+        if number not in self.found_beside:
+            rank, slot = divmod(number, self.width)
+            placement = self.placements[rank]
+            regions = self.regions(placement)
+            self.found_beside[number] = self.beside_region(placement, regions[slot]) if slot < len(regions) else None
+        return self.found_beside[number]
 
     def beside_region(self, placement, region):
-        """The entries one move of a tile of the pattern away."""
         found = []
         for place, cell in enumerate(placement):
             for to in ways(self.side, cell).values():
@@ -170,19 +185,22 @@ class Pattern:
         counts, todo = {self.home: 0}, deque([self.home])
         while todo:
             here = todo.popleft()
-            for there in self.beside[here]:
+            for there in self.beside(here):
                 if there not in counts:
                     counts[there] = counts[here] + 1
                     todo.append(there)
         if max(counts.values()) > 253:
             return None
-        return bytes(
-            NO_REGION if beside is None else counts.get(number, NEVER) for number, beside in enumerate(self.beside)
-        )
+        entries = bytearray()
+        for rank, placement in enumerate(self.placements):
+            for slot in range(self.width):
+                has_region = slot < len(self.regions(placement))
+                entries.append(counts.get(rank * self.width + slot, NEVER) if has_region else NO_REGION)
+        return bytes(entries)
 
     def keeps(self, entries, number):
         """Whether an entry keeps the local rule."""
-        entry, beside = entries[number], self.beside[number]
+        entry, beside = entries[number], self.beside(number)
         if beside is None:
             return entry == NO_REGION
         if number == self.home:
@@ -190,10 +208,43 @@ class Pattern:
         least = min((entries[other] for other in beside), default=NEVER)
         return entry == least + 1 if least <= 252 else least == NEVER == entry
 
+    def least_bad(self, entries):
+        """The least entry that breaks the local rule, or None."""
+        if self.size < MANY_ENTRIES:
+            asked = range(self.size)
+        else:
+            asked = self.beside_changes(entries)
+        bad = next((number for number in asked if not self.keeps(entries, number)), None)
+        if (bad is None) != (entries == self.exact):
+            raise AssertionError("the local rule and the search disagree")
+        return bad
+
+    def beside_changes(self, entries):
+        """Those entries that can break the rule, ascending: the ones that aren't exact, and those beside them. As a move can
+        be taken back, an entry stands beside those that stand beside it."""
+        changed = []
+        for first in range(0, self.size, PIECE):
+            here, exact = entries[first : first + PIECE], self.exact[first : first + PIECE]
+            if here != exact:
+                changed += [first + place for place in range(len(here)) if here[place] != exact[place]]
+        if len(changed) > PIECE:
+            return range(self.size)
+        return sorted({*changed, *(other for number in changed for other in self.beside(number) or [])})
+
 
 @functools.lru_cache(maxsize=40)
-def pattern_of(side, mask):
+def small_pattern(side, mask):
     return Pattern(side, mask)
+
+
+@functools.lru_cache(maxsize=1)
+def large_pattern(side, mask):
+    return Pattern(side, mask)
+
+
+def pattern_of(side, mask):
+    is_large = count_of_entries(side, mask.bit_count()) >= MANY_ENTRIES
+    return large_pattern(side, mask) if is_large else small_pattern(side, mask)
 
 
 def count_of_entries(side, tiles):
@@ -223,8 +274,7 @@ def read_header(file):
     if not 2 <= side <= 5:
         raise Refused("T3")
     mask = int.from_bytes(file[8:12], "big")
-    is_pattern = mask % 2 == 0 and 0 < mask < 1 << side * side and mask.bit_count() <= MOST_TILES[side]
-    if not is_pattern or tiles != mask.bit_count() or file[7] != 0:
+    if not is_pattern(side, mask) or tiles != mask.bit_count() or file[7] != 0:
         raise Refused("T4")
     count = int.from_bytes(file[12:20], "big")
     if count != count_of_entries(side, tiles):
@@ -237,20 +287,30 @@ def read_header(file):
 @functools.lru_cache(maxsize=40)
 def read_table(file):
     pattern, entries = pattern_of(*read_header(file)), file[20:]
-    bad = [number for number in range(len(entries)) if not pattern.keeps(entries, number)]
-    if (not bad) != (entries == pattern.exact):
-        raise AssertionError("the local rule and the search disagree")
-    if bad:
-        raise Refused(f"T7 at entry {bad[0]}")
+    bad = pattern.least_bad(entries)
+    if bad is not None:
+        raise Refused(f"T7 at entry {bad}")
     return Table(pattern, entries)
 
 
+def is_pattern(side, mask):
+    return mask % 2 == 0 and 0 < mask < 1 << side * side and mask.bit_count() <= MOST_TILES[side]
+
+
+def table_of(side, mask):
+    """The exact table file of a pattern."""
+    if side not in MOST_TILES or not is_pattern(side, mask):
+        raise KeyError(side, mask)
+    pattern = pattern_of(side, mask)
+    header = b"PDBT" + bytes([1, side, len(pattern.tiles), 0]) + mask.to_bytes(4, "big")
+    return header + pattern.size.to_bytes(8, "big") + pattern.exact
+
+
 def exact_line(table):
-    counts = [entry for entry in table.entries if entry <= 253]
     pattern = table.pattern
     return (
         f"exact side {pattern.side} mask {pattern.mask} entries {len(table.entries)}"
-        f" unreachable {table.entries.count(NEVER)} deepest {max(counts)}"
+        f" unreachable {table.entries.count(NEVER)} deepest {max(set(table.entries) - {NO_REGION, NEVER})}"
     )
 
 
@@ -390,7 +450,117 @@ def read_log(log, board, tables, sets):
     return lemmas[-1].bound
 
 
+# Searches.
+
+
+@functools.cache
+def layers(side):
+    """The boards of each number of moves from the goal board, as far as they were asked for, and that number for each."""
+    return [[goal(side)]], {goal(side): 0}
+
+
+def least_moves(board):
+    """The number of moves of a shortest solution, or None where there is none, or where it is too far away to be found."""
+    found, moves = layers(side_of(board))
+    while board not in moves and found[-1] and len(moves) < MOST_BOARDS:
+        found.append([])
+        for here in found[-2]:
+            for letter in ways(side_of(here), here.index(0)):
+                there = moved(here, letter)
+                if there not in moves:
+                    moves[there] = len(found) - 1
+                    found[-1].append(there)
+    return moves.get(board)
+
+
+def has_solution(board):
+    """Whether the board has a solution: a move changes the parity of the order of all numbers, and that of the blank's
+    distance from its corner."""
+    turned = sum(one > other for one, other in itertools.combinations(board, 2))
+    return (turned + sum(divmod(board.index(0), side_of(board)))) % 2 == 0
+
+
+@functools.cache
+def walks(side, most):
+    """How many walks of at most 0, 1 and so on moves, none of which is taken back at once, begin in each cell."""
+    last = {(cell, letter): 1 for cell in range(side * side) for letter in [None, *REVERSE]}
+    found = [[1] * side * side]
+    for _ in range(most):
+        last = {
+            (cell, arriving): 1
+            + sum(last[to, letter] for letter, to in ways(side, cell).items() if letter != REVERSE.get(arriving))
+            for cell, arriving in last
+        }
+        found.append([last[cell, None] for cell in range(side * side)])
+    return found
+
+
+def most_expanded(board, moves):
+    """No search with the thresholds up to this number of moves expands more boards, even if it goes through each threshold
+    several times."""
+    return 4 * sum(begun[board.index(0)] for begun in walks(side_of(board), moves))
+
+
+def gives_up(board, sets, budget):
+    """With which refusals a search over these sets may end."""
+    if any(sum_of(tables, board) is None for tables in sets):
+        return ["K2"]
+    if not has_solution(board):
+        return ["K1", "K2"] if budget < most_expanded(board, 255) else ["K2"]
+    least = least_moves(board)
+    return ["K1"] if least is None or budget < most_expanded(board, least) else []
+
+
+def solved(run, ended, board, sets, tables):
+    """The lines behind the digests of the tables where a search ends well, and the log that it keeps. Its moves and its log
+    are taken from how the run ended, and must be right."""
+    told = re.search(rb"^moves ?([UDLR]*)$", ended.written, re.MULTILINE)
+    letters, log = told.group(1) if told else b"", ended.files.get(run.out, b"")
+    try:
+        found = {replay(board, letters), read_log(log, board, tables, sets)}
+    except Refused as refused:
+        raise Refused(f"nothing: what was found is refused {refused}") from None
+    least = least_moves(board)
+    if len(found) != 1 or found != {least} and least is not None:
+        raise Refused(f"nothing: {found}, where {least} moves are the fewest")
+    if run.budget < len(letters):
+        raise Refused("K1")
+    return digest_line(log) + b"moves%s\noptimal %d\n" % (b" " + letters if letters else b"", len(letters)), log
+
+
 # Runs.
+
+
+@dataclass(frozen=True)
+class Run:
+    """A command, the names that it reads, the bytes that files have, the name that it keeps under, the numbers of a side and
+    a mask, the budget of a search, and how many workers are asked for."""
+
+    command: str
+    names: tuple
+    files: dict
+    out: str = None
+    numbers: tuple = ()
+    budget: int = 1_000_000
+    workers: int = 1
+
+    def words(self):
+        names = [name for name in self.names if name != STANDARD_INPUT]
+        flags = ["--workers", str(self.workers)] if self.workers != 1 else []
+        flags += ["--budget", str(self.budget)] if self.budget != 1_000_000 else []
+        kept = [] if self.out is None else [self.out]
+        return [self.command, *flags, *map(str, self.numbers), *names[:2], *kept, *names[2:]]
+
+
+@dataclass(frozen=True)
+class Ended:
+    """How a run ended: what it wrote, its status, and the bytes of the files that are there. A mistake in the words is told
+    on standard error."""
+
+    written: bytes
+    status: int
+    files: dict
+    errors: bytes = b""
 
 
 def verdict(command, inputs):
@@ -413,29 +583,81 @@ def limits(command, count):
         return [TEXT_LIMIT]
     if command == "table":
         return [TABLE_LIMIT]
-    return [TEXT_LIMIT, TEXT_LIMIT, LOG_LIMIT] + [TABLE_LIMIT] * (count - 3)
+    texts = {"solve": [TEXT_LIMIT] * 2, "make-table": []}.get(command, [TEXT_LIMIT, TEXT_LIMIT, LOG_LIMIT])
+    return texts + [TABLE_LIMIT] * (count - len(texts))
 
 
 def shown(name):
     return bytes(byte if byte >= 32 and byte != 127 else ord("?") for byte in name.encode())
 
 
+def digest_line(file):
+    return b"sha256 %s\n" % hashlib.sha256(file).hexdigest().encode()
+
+
 def digest_lines(command, inputs):
-    digested = {"replay": [], "table": inputs}.get(command, inputs[3:] + inputs[2:3])
-    return b"".join(b"sha256 %s\n" % hashlib.sha256(file).hexdigest().encode() for file in digested)
+    digested = {"replay": [], "table": inputs, "make-table": [], "solve": inputs[2:]}.get(command, inputs[3:] + inputs[2:3])
+    return b"".join(digest_line(file) for file in digested)
 
 
-def answer(command, names, files):
-    """The lines of a run and its status. `files` has the bytes of each name that can be read; the name `-` is standard
-    input."""
-    for name, limit in zip(names, limits(command, len(names))):
-        if name not in files:
-            return b"fault read " + shown(name) + b"\n", 2
-        if len(files[name]) > limit:
-            return b"fault size " + shown(name) + b"\n", 2
-    inputs = [files[name] for name in names]
+def made_table(run):
+    """The lines of a table that is made, and its bytes."""
+    side, mask = run.numbers
     try:
-        line, status = verdict(command, inputs), 0
+        file = table_of(side, mask)
+    except KeyError:
+        raise Refused("K4") from None
+    return digest_line(file) + exact_line(read_table(file)).encode() + b"\n", file
+
+
+def made_log(run, ended, inputs):
+    """The lines of a search behind the digests of its tables, and the log that it makes."""
+    text, set_text, *files = inputs
+    board = read_board(text)
+    tables = read_tables(files)
+    sets = read_sets(set_text, tables)
+    if tables[0].pattern.side != side_of(board):
+        raise Refused("L4")
+    refusals = gives_up(board, sets, run.budget)
+    told = [refusal for refusal in refusals if ended.written.endswith(b"refused %s\n" % refusal.encode())]
+    if told or not has_solution(board):
+        raise Refused([*refusals, *told][-1])
+    return solved(run, ended, board, sets, tables) if can_be_kept(run.out) else (b"", b"")
+
+
+def can_be_kept(name):
+    """Whether a file can stand under this name: not in a folder that isn't there, nor in the place of a folder or device."""
+    return "/" not in name and name not in ("", ".")
+
+
+def is_mistaken(run):
+    """Whether a number among the words is none that they may have."""
+    within = [0 <= number < limit for number, limit in zip(run.numbers, [256, 2**32])]
+    return not (all(within) and 1 <= run.budget <= 10**12 and 1 <= run.workers <= 64)
+
+
+def answer(run, ended):
+    """How the run must end. How it has ended tells the moves and the log of `solve`, and whether it gave up where it may."""
+    if is_mistaken(run):
+        return Ended(b"", 2, run.files, MISTAKE)
+    for name, limit in zip(run.names, limits(run.command, len(run.names))):
+        if name not in run.files:
+            return Ended(b"fault read " + shown(name) + b"\n", 2, run.files)
+        if len(run.files[name]) > limit:
+            return Ended(b"fault size " + shown(name) + b"\n", 2, run.files)
+    inputs = [run.files[name] for name in run.names]
+    lines, made = digest_lines(run.command, inputs), None
+    try:
+        if run.command == "make-table":
+            told, made = made_table(run)
+        elif run.command == "solve":
+            told, made = made_log(run, ended, inputs)
+        else:
+            told = verdict(run.command, inputs).encode() + b"\n"
     except Refused as refused:
-        line, status = f"refused {refused}", 1
-    return digest_lines(command, inputs) + line.encode() + b"\n", status
+        return Ended(lines + f"refused {refused}\n".encode(), 1, run.files)
+    if made is None:
+        return Ended(lines + told, 0, run.files)
+    if not can_be_kept(run.out):
+        return Ended(b"fault write " + shown(run.out) + b"\n", 2, run.files)
+    return Ended(lines + told, 0, {**run.files, run.out: made})

@@ -7,12 +7,16 @@
 #
 # Its arguments are the program's words, and its standard input is the program's. It needs the C compiler `cc`. A line is
 # written for each run that ends otherwise, with what that run wrote, then one that counts both answers, and last
-# `N passed, M failed`. The status is 0 if all passed, and otherwise not. The launcher builds the program where that is needed.
+# `N passed, M failed`. The status is 0 if all passed, and otherwise not. The program is that of the variable PROGRAM, a path;
+# without it, the launcher builds it where that is needed.
 set -euo pipefail
 
 root=$(dirname "$(dirname "$(readlink -f "${BASH_SOURCE[0]}")")")
-"$root/pdb_cli" --help >/dev/null </dev/null
-program=$root/out/pdb_cli
+program=${PROGRAM-}
+if [ -z "$program" ]; then
+    "$root/pdb_cli" --help >/dev/null </dev/null
+    program=$root/out/pdb_cli
+fi
 work=$(mktemp -d)
 trap 'rm -r "$work"' EXIT
 

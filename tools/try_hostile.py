@@ -1,6 +1,6 @@
 #!/usr/bin/env python3
-"""Changes good inputs of every kind at random, runs the built program on them, and compares its lines and its status with
-plain answers read off docs/FORMATS.md (tools/plain_answers.py).
+"""Changes good inputs of every kind at random, runs the built program on them, and compares its lines, its status and the
+files that it leaves with plain answers read off docs/FORMATS.md (tools/plain_answers.py).
 
     tools/try_hostile.py [--inputs N] [--seed SEED] [--first N] [--processes N] [--program PROGRAM] [--keep FOLDER]
 
@@ -13,6 +13,7 @@ for each kind of answer, with the times it was given. The last line is `N passed
 import argparse
 import collections
 import concurrent.futures
+import hashlib
 import os
 import pathlib
 import random
@@ -23,31 +24,20 @@ import signal
 import subprocess
 import sys
 import tempfile
-from dataclasses import dataclass, replace
+from dataclasses import replace
 
 import good_inputs
-from plain_answers import CITATION, LETTERS, TEXT_LIMIT, answer
+from plain_answers import CITATION, LETTERS, MISTAKE, STANDARD_INPUT, TEXT_LIMIT, Ended, Run, answer, table_of
 
 ROOT = pathlib.Path(__file__).resolve().parent.parent
 BATCH = 500
+# So many inputs one after the other have one large table: its search takes seconds.
+SAME_LARGE = 10 * BATCH
 SECONDS = 60
 MOST_TRIES = 2000
 TELLING = bytes([0, 1, 2, 3, 4, 8, 16, 17, 32, 65, 128, 252, 253, 254, 255]) + b" \t\r\n;0129UDLRuset-+"
-STANDARD_INPUT = "-"
-
-
-@dataclass(frozen=True)
-class Run:
-    """A command, its names, the bytes that some of them have, and further words."""
-
-    command: str
-    names: tuple
-    files: dict
-    further: tuple = ()
-
-    def words(self):
-        names = [name for name in self.names if name != STANDARD_INPUT]
-        return [self.command, *self.further, *names]
+# The names of what a run writes and reads by its standard streams, in its folder.
+STREAMS = [".in", ".out", ".err"]
 
 
 # Changes of bytes.
@@ -152,6 +142,44 @@ def with_other_header(draw, file):
 TABLE_CHANGES = CHANGES + [with_header_byte, with_entry, with_entry, with_other_count, with_all_greater, with_other_header]
 
 
+def some_place(draw, size):
+    return draw.choice([0, size // 2, size - 1, draw.randrange(size), draw.randrange(size)])
+
+
+def with_far_entry(draw, file):
+    """Another value for one entry, of the first, the middle or the last ones, or any."""
+    place = 20 + some_place(draw, len(file) - 20)
+    old = file[place]
+    value = draw.choice([0, 1, 252, 253, 254, 255, (old + 1) % 256, (old - 1) % 256])
+    return file[:place] + bytes([value]) + file[place + 1 :]
+
+
+def with_changed_goal(draw, file):
+    """Another value for one of the entries that are 0, 1 or 2."""
+    low = draw.choice([0, 1, 2])
+    places = [place for place in range(20, len(file)) if file[place] == low] or [20]
+    place = draw.choice(places)
+    return file[:place] + bytes([draw.choice([0, 1, 2, 3, 254, 255])]) + file[place + 1 :]
+
+
+def with_exchanged_marks(draw, file):
+    """One or all of the entries of a short stretch that are 254 or 255 exchanged for each other."""
+    place = 20 + some_place(draw, len(file) - 20)
+    end = place + draw.choice([1, 10, 500])
+    return file[:place] + file[place:end].translate(bytes([*range(254), 255, 254])) + file[end:]
+
+
+def with_stretch(draw, file):
+    """One value for all entries of a short stretch."""
+    place = 20 + some_place(draw, len(file) - 20)
+    end = min(place + draw.choice([2, 16, 256, 1000]), len(file))
+    return file[:place] + bytes([draw.choice([0, 1, 253, 254, 255])]) * (end - place) + file[end:]
+
+
+LARGE_CHANGES = [with_far_entry] * 6 + [with_exchanged_marks, with_stretch] * 2
+LARGE_CHANGES += [with_changed_goal, with_header_byte, cut, with_more]
+
+
 def changed_tree(draw, tree):
     tree = changed(draw, tree)
     if draw.random() < 0.3:
@@ -198,24 +226,46 @@ def long_text(draw, text):
 # Runs.
 
 
-def replayed(draw):
+def replayed(draw, _number):
     name = draw.choice([STANDARD_INPUT, "puzzle"])
     text = long_text(draw, changed(draw, good_inputs.puzzle(draw), PUZZLE_CHANGES))
     return Run("replay", (name,), {name: text})
 
 
 def workers(draw):
-    return draw.choice([(), (), (), (), (), ("--workers", str(draw.choice([1, 2, 3, 7, 64])))])
+    return draw.choice([1] * 10 + [2, 3, 7, 64]) if draw.random() < 0.99 else draw.choice([0, 65, 256])
 
 
-def checked(draw):
+def checked(draw, _number):
     file = good_inputs.table(draw)
     for _ in range(draw.choice([0, 1, 1, 1, 2])):
         file = changed(draw, file, TABLE_CHANGES)
-    return Run("table", ("table",), {"table": file}, workers(draw))
+    return Run("table", ("table",), {"table": file}, workers=workers(draw))
 
 
-def claimed(draw):
+def large_table(number):
+    return table_of(*good_inputs.LARGE[number // SAME_LARGE % len(good_inputs.LARGE)])
+
+
+def checked_large(draw, number):
+    file = large_table(number)
+    for _ in range(draw.choice([0, 1, 1, 1, 2, 5])):
+        file = draw.choice(LARGE_CHANGES)(draw, file)
+    return Run("table", ("table",), {"table": file}, workers=draw.choice([1, 2, 3, 7, 64]))
+
+
+def changed_tables(draw, tables):
+    """The tables, one of which was changed or is another."""
+    place = draw.randrange(len(tables))
+    other = draw.choice([good_inputs.table(draw), changed(draw, tables[place], TABLE_CHANGES)])
+    return tables[:place] + [other] + tables[place + 1 :]
+
+
+def named(tables):
+    return {f"table_{number}": file for number, file in enumerate(tables)}
+
+
+def claimed(draw, number):
     """A run of `bound` or `optimal`, most of whose inputs are good, so that all of them are reached."""
     board, letters, sets, lemmas, tables = good_inputs.claim(draw)
     command = "bound" if letters is None else draw.choice(["bound", "bound", "optimal"])
@@ -229,26 +279,65 @@ def claimed(draw):
     if which == "sets" or draw.random() < 0.05:
         sets = long_text(draw, changed_set_text(draw, sets))
     if which == "table":
-        place = draw.randrange(len(tables))
-        tables[place] = draw.choice([good_inputs.table(draw), changed(draw, tables[place], TABLE_CHANGES)])
+        tables = changed_tables(draw, tables)
     log = changed_log(draw, lemmas) if which == "log" or draw.random() < 0.05 else good_inputs.log_of(lemmas)
     if draw.random() < 0.02:
         tables += [draw.choice(tables)] * 16
-    names = [f"table_{number}" for number in range(len(tables))]
-    files = {"text": text, "sets": sets, "log": log, **dict(zip(names, tables))}
-    return Run(command, ("text", "sets", "log", *names), files, workers(draw))
+    if draw.random() < 0.01:
+        tables += [draw.choice(LARGE_CHANGES)(draw, large_table(number))]
+    files = {"text": text, "sets": sets, "log": log, **named(tables)}
+    return Run(command, ("text", "sets", "log", *named(tables)), files, workers=workers(draw))
+
+
+def kept_under(draw, files):
+    """A name to keep under, and the files with what may stand there already."""
+    unkept = ["no_folder/made", "no\x1bfolder/a", "/dev/full", ".", ""]
+    out = draw.choice(["made"] * 8 + ["taken"] * 3 + ["two words", "a\nb"] + unkept)
+    if files and draw.random() < 0.1:
+        out = draw.choice(list(files))
+    return out, {**files, "taken": b"what stood here"}
+
+
+def made(draw, _number):
+    out, files = kept_under(draw, {})
+    return Run("make-table", (), files, out, good_inputs.side_and_mask(draw), workers=workers(draw))
+
+
+def solved(draw, number):
+    """A run of `solve`, most of whose inputs are good."""
+    board, budget, sets, tables = good_inputs.search(draw)
+    text = good_inputs.board_text(draw, board)
+    which = draw.choice(["nothing"] * 6 + ["text", "sets", "table"])
+    if which == "text":
+        # Its board may be far from the goal board.
+        text, budget = long_text(draw, changed(draw, text)), min(budget, 20_000)
+    if which == "sets":
+        sets = long_text(draw, changed_set_text(draw, sets))
+    if which == "table":
+        tables = changed_tables(draw, tables)
+    if draw.random() < 0.02:
+        tables += [draw.choice(tables)] * 16
+    if draw.random() < 0.02:
+        tables = [large_table(number)]
+    if draw.random() < 0.02:
+        budget = draw.choice([0, 10**12 + 1])
+    out, files = kept_under(draw, {"text": text, "sets": sets, **named(tables)})
+    return Run("solve", ("text", "sets", *named(tables)), files, out, budget=budget, workers=workers(draw))
+
+
+KINDS = [replayed] * 20 + [checked] * 35 + [checked_large] * 3 + [claimed] * 30 + [made] * 5 + [solved] * 7
 
 
 def drawn(seed, number):
     """The run of this number."""
     draw = random.Random(f"{seed}/{number}")
-    run = draw.choice([replayed, checked, checked, claimed, claimed])(draw)
-    if draw.random() < 0.01:
+    run = draw.choice(KINDS)(draw, number)
+    if run.names and draw.random() < 0.01:
         missing = draw.choice(run.names)
         if missing != STANDARD_INPUT:
             other = draw.choice(["none", "no\nname", "\x1b[2J", "né\x7f"])
             names = tuple(other if name == missing else name for name in run.names)
-            run = replace(run, names=names, files={name: run.files[name] for name in run.files if name in names})
+            run = replace(run, names=names, files={name: data for name, data in run.files.items() if name != missing})
     return run
 
 
@@ -277,7 +366,7 @@ class Program:
         return folder, os.posix_spawn(self.path, words, os.environ, file_actions=opened)
 
     def ended(self, started):
-        """What the run wrote and its status, which is None where it did not end in time."""
+        """How a run ended; its status is None where it did not end in time."""
         folder, process = started
         signal.alarm(SECONDS)
         try:
@@ -289,10 +378,11 @@ class Program:
         finally:
             signal.alarm(0)
         written, errors = (folder / ".out").read_bytes(), (folder / ".err").read_bytes()
+        left = {path.name: path.read_bytes() for path in folder.iterdir() if path.name not in STREAMS}
         shutil.rmtree(folder)
-        return written + errors, status
+        return Ended(written, status, left, MISTAKE if errors.startswith(MISTAKE) else errors)
 
-    def answers(self, run):
+    def ended_alone(self, run):
         return self.ended(self.start(run))
 
 
@@ -300,8 +390,15 @@ def too_late(*_):
     raise TimeoutError
 
 
+def wanted(run, ended):
+    """How the run must end, with the files of its folder."""
+    right = answer(run, ended)
+    return replace(right, files={name: data for name, data in right.files.items() if name != STANDARD_INPUT})
+
+
 def is_broken(program, run):
-    return program.answers(run) != answer(run.command, run.names, run.files)
+    ended = program.ended_alone(run)
+    return ended != wanted(run, ended)
 
 
 # Breaks.
@@ -315,8 +412,8 @@ def without(run, name):
 
 def shorter(run):
     """Runs that are a little shorter, those that lack most first."""
-    if run.further:
-        yield replace(run, further=())
+    if run.workers != 1:
+        yield replace(run, workers=1)
     for name in run.names[4:]:
         yield without(run, name)
     for name, data in run.files.items():
@@ -342,32 +439,34 @@ def shortest(program, run):
             return run
 
 
-def keep(run, written, folder):
-    """Keeps a run and both answers, and gives the words of the program."""
+def keep(run, ended, folder):
+    """Keeps a run, how it ended and how it must end, and gives the words of the program."""
     shutil.rmtree(folder, ignore_errors=True)
     folder.mkdir(parents=True)
     for name, data in run.files.items():
         (folder / ("standard_input" if name == STANDARD_INPUT else name)).write_bytes(data)
     line = shlex.join(run.words()) + (" <standard_input" if STANDARD_INPUT in run.files else "")
     (folder / "words").write_text(f"{line}\n")
-    wanted = answer(run.command, run.names, run.files)
-    for name, (lines, status) in (("wanted", wanted), ("written", written)):
-        (folder / name).write_bytes(lines + b"status %s\n" % str(status).encode())
+    for name, end in (("wanted", wanted(run, ended)), ("ended", ended)):
+        files = [f"{file!r}: {hashlib.sha256(data).hexdigest()}\n" for file, data in sorted(end.files.items())]
+        (folder / name).write_bytes(end.written + end.errors + f"\nstatus {end.status}\n{''.join(files)}".encode())
     return line
 
 
 # Batches.
 
 
-def kind(command, lines):
+def kind(command, right):
     """What an answer is, without its numbers."""
-    words = lines.decode(errors="replace").splitlines()[-1].split()
+    if right.errors:
+        return f"{command}: mistake"
+    words = right.written.decode(errors="replace").splitlines()[-1].split()
     return f"{command}: {' '.join(words[:2] if words[0] in ('refused', 'fault') else words[:1])}"
 
 
 def compared(settings, numbers):
     """How often each kind of answer was given to the inputs of these numbers, and a line for each break. A run goes on
-    while the next one is drawn and answered."""
+    while the next one is drawn."""
     signal.signal(signal.SIGALRM, too_late)
     counts, broken, before = collections.Counter(), [], None
     with tempfile.TemporaryDirectory() as folder:
@@ -376,11 +475,13 @@ def compared(settings, numbers):
             now = None
             if number is not None:
                 run = drawn(settings.seed, number)
-                now = number, run, answer(run.command, run.names, run.files), program.start(run)
+                now = number, run, program.start(run)
             if before is not None:
-                number, run, wanted, started = before
-                counts[kind(run.command, wanted[0])] += 1
-                if program.ended(started) != wanted:
+                number, run, started = before
+                ended = program.ended(started)
+                right = wanted(run, ended)
+                counts[kind(run.command, right)] += 1
+                if ended != right:
                     broken.append(told(settings, program, number, run))
             before = now
         os.chdir("/")
@@ -390,7 +491,7 @@ def compared(settings, numbers):
 def told(settings, program, number, run):
     run = shortest(program, run)
     folder = settings.keep / f"{settings.seed}-{number}"
-    line = keep(run, program.answers(run), folder)
+    line = keep(run, program.ended_alone(run), folder)
     return f"input {number} of seed {settings.seed}: {line}: in {folder}"
 
 

@@ -47,22 +47,37 @@ fn a_table_is_refused_at_each_length(rt: HostRuntime) -> Result<(), Fail> {
     Ok(())
 }
 
+/// The least bad entry of `TILES_12` with a bit of one entry turned, by the number of that entry.
+const LEAST_BAD: [u8; 24] = [
+    0, 1, 2, 3, 0, 5, 6, 7, 2, 9, 4, 11, 12, 13, 0, 15, 16, 17, 18, 12, 20, 21, 9, 23,
+];
+
+/// The same, where this bit was turned. With 2 or 1 in the place of the 3 in entry 16 or 20, entry 15 is too great.
+fn least_bad(number: usize, bit: u8) -> u8 {
+    match (number, bit) {
+        (16 | 20, 1 | 2) => 15,
+        _ => LEAST_BAD.get(number).copied().unwrap_or(0),
+    }
+}
+
 #[test]
 fn a_table_with_one_bit_turned_is_refused(rt: HostRuntime) -> Result<(), Fail> {
+    let alloc = rt.alloc();
     for place in 0..44 {
         for bit in [1, 2, 4, 8, 16, 32, 64, 128] {
             let byte = TILES_12[place] ^ bit;
-            let line: &[u8] = match (place, byte) {
-                (0..5, _) => b"refused T2\n",
+            let refusal = match (place, byte) {
+                (0..5, _) => String::from_str(alloc, "T2")?,
                 // Two tiles of side 3 have more placements.
-                (5, 3) => b"refused T5\n",
-                (5, _) => b"refused T3\n",
-                (6..12, _) => b"refused T4\n",
-                (12..20, _) => b"refused T5\n",
-                _ => b"refused T7 at entry ",
+                (5, 3) => String::from_str(alloc, "T5")?,
+                (5, _) => String::from_str(alloc, "T3")?,
+                (6..12, _) => String::from_str(alloc, "T4")?,
+                (12..20, _) => String::from_str(alloc, "T5")?,
+                _ => format!(in alloc; "T7 at entry {}", least_bad(place - 20, bit))?,
             };
             let file = with_byte(&TILES_12, place, byte);
-            checked(&rt, rt.alloc(), &file)?.expect_refused(1, line)?;
+            let line = format!(in alloc; "refused {refusal}\n")?;
+            checked(&rt, alloc, &file)?.expect_refused(1, line.as_bytes())?;
         }
     }
     Ok(())

@@ -4,7 +4,8 @@ use crate::runs::{owned, ran};
 use pdb_io::memory::MemShelf;
 use pdb_program::run;
 use sample_streams::{Failing, SampleReader, SampleWriter};
-use samples::files::TILE_1;
+use samples::files::{TILE_1, TILES_123};
+use samples::logs::LEAF;
 use std::alloc::Global;
 use std::io;
 use std::sync::Wait;
@@ -49,14 +50,24 @@ fn failing_from(alloc: Global, call: usize, how: Failing) -> SampleWriter {
         .byte_by_byte_from(0)
 }
 
-/// A run on a shelf with a table, over this output.
+/// The names of the files here and their bytes.
+const FILES: [(&str, &[u8]); 6] = [
+    ("t", &TILE_1),
+    ("f123", &TILES_123),
+    ("board", b"3 2 1 0"),
+    ("puzzle", b"3 2 1 0 ; ULDRUL"),
+    ("sets", b"set 0\n"),
+    ("log", &LEAF),
+];
+
+/// A run on a shelf with these files, over this output.
 fn ran_over<H: Threads + Wait + Sync>(
     rt: &H,
     alloc: Global,
     words: &[&str],
     out: &mut SampleWriter,
-) -> Result<u8, Fail> {
-    let mut shelf = MemShelf::of(alloc, &[("t", TILE_1.as_slice())])?;
+) -> Result<(u8, MemShelf), Fail> {
+    let mut shelf = MemShelf::of(alloc, &FILES)?;
     let mut reader = SOLVED;
     let mut err = Vec::new(alloc);
     let words = owned(alloc, words)?;
@@ -72,30 +83,57 @@ fn ran_over<H: Threads + Wait + Sync>(
         &gate,
     );
     if err.is_empty() {
-        Ok(status)
+        Ok((status, shelf))
     } else {
         Err(Fail::new("written on the errors"))
     }
 }
 
+/// Words, the lines of their run, and its status.
+const CASES: [(&[&str], &[u8], u8); 8] = [
+    (&[], b"solution 6\n", 0),
+    (&["replay", "board"], b"refused P1\n", 1),
+    (&["table", "t"], EXACT, 0),
+    (&["table", "no table"], b"fault read no table\n", 2),
+    (
+        &["bound", "board", "sets", "log", "f123"],
+        b"sha256 5c515b94b4098a8408358078f3f9b8b3e46255c04334fedd62c8e67da63d237b\nsha256 637ed7557c031455a39a826a90aa07c9b77930b8072f58f7a02c0af00f445342\nbound 6\n",
+        0,
+    ),
+    (
+        &["optimal", "puzzle", "sets", "log", "f123"],
+        b"sha256 5c515b94b4098a8408358078f3f9b8b3e46255c04334fedd62c8e67da63d237b\nsha256 637ed7557c031455a39a826a90aa07c9b77930b8072f58f7a02c0af00f445342\noptimal 6\n",
+        0,
+    ),
+    (&["make-table", "2", "2", "made"], EXACT, 0),
+    (
+        &["solve", "board", "sets", "made", "t", "--budget", "1"],
+        b"sha256 26b7b90b4dfe1e0850395df95e9bceb8d79215ca38dc4d14ffced6029e452e58\nrefused K1\n",
+        1,
+    ),
+];
+
 #[test]
 fn a_write_that_fails_leaves_a_front_of_the_lines(rt: HostRuntime) -> Result<(), Fail> {
     let alloc = rt.alloc();
-    let cases: [(&[&str], &[u8]); 3] = [
-        (&[], b"solution 6\n"),
-        (&["table", "t"], EXACT),
-        (&["table", "no table"], b"fault read no table\n"),
-    ];
-    for (words, lines) in cases {
+    for (words, lines, status) in CASES {
         for how in [BY_ERROR, Failing::ByTakingNothing] {
             for fails_from in 0..lines.len() {
                 let mut out = failing_from(alloc, fails_from, how);
-                let status = ran_over(&rt, alloc, words, &mut out)?;
+                let (ended, shelf) = ran_over(&rt, alloc, words, &mut out)?;
                 assert!(rt;
-                    status == 2 && out.taken() == &lines[..fails_from],
+                    ended == 2 && out.taken() == &lines[..fails_from],
                     "write {fails_from}"
                 );
                 assert_eq!(rt; out.calls(), fails_from as u64 + 1);
+                // What was made stays, since it is kept before any line is written.
+                let is_made = status == 0 && words.contains(&"made");
+                let made = if is_made {
+                    Some(TILE_1.as_slice())
+                } else {
+                    None
+                };
+                assert!(rt; shelf.get("made") == made);
             }
         }
     }
@@ -105,14 +143,9 @@ fn a_write_that_fails_leaves_a_front_of_the_lines(rt: HostRuntime) -> Result<(),
 #[test]
 fn lines_that_are_taken_byte_by_byte_are_the_same(rt: HostRuntime) -> Result<(), Fail> {
     let alloc = rt.alloc();
-    let cases: [(&[&str], &[u8], u8); 3] = [
-        (&[], b"solution 6\n", 0),
-        (&["table", "t"], EXACT, 0),
-        (&["table", "no table"], b"fault read no table\n", 2),
-    ];
-    for (words, lines, want) in cases {
+    for (words, lines, want) in CASES {
         let mut out = SampleWriter::new(alloc).byte_by_byte_from(0);
-        let status = ran_over(&rt, alloc, words, &mut out)?;
+        let (status, _shelf) = ran_over(&rt, alloc, words, &mut out)?;
         assert!(rt; status == want && out.taken() == lines, "status {status}");
         assert_eq!(rt; out.calls(), lines.len() as u64);
     }
@@ -123,10 +156,10 @@ fn lines_that_are_taken_byte_by_byte_are_the_same(rt: HostRuntime) -> Result<(),
 fn help_that_cannot_be_written_is_a_fault(rt: HostRuntime) -> Result<(), Fail> {
     let alloc = rt.alloc();
     let mut whole = SampleWriter::new(alloc).failing(1, u64::MAX, BY_ERROR);
-    assert_eq!(rt; ran_over(&rt, alloc, &["help", "table"], &mut whole)?, 0);
+    assert_eq!(rt; ran_over(&rt, alloc, &["help", "table"], &mut whole)?.0, 0);
     for fails_from in [0, 1, 100] {
         let mut out = failing_from(alloc, fails_from, BY_ERROR);
-        assert_eq!(rt; ran_over(&rt, alloc, &["help", "table"], &mut out)?, 2);
+        assert_eq!(rt; ran_over(&rt, alloc, &["help", "table"], &mut out)?.0, 2);
         assert!(rt;
             out.taken().len() == fails_from && whole.taken().starts_with(out.taken()),
             "write {fails_from}"
@@ -138,22 +171,14 @@ fn help_that_cannot_be_written_is_a_fault(rt: HostRuntime) -> Result<(), Fail> {
 #[test]
 fn all_that_a_run_says_is_one_write(rt: HostRuntime) -> Result<(), Fail> {
     let alloc = rt.alloc();
-    let cases: [(&[&str], u8); 5] = [
-        (&["replay"], 0),
-        (&["table", "t"], 0),
-        (&["table", "no table"], 2),
-        (&["replay", "t"], 1),
-        (&["--help"], 0),
-    ];
-    for (words, want) in cases {
+    for (words, lines, want) in CASES {
         let mut out = SampleWriter::new(alloc);
-        let status = ran_over(&rt, alloc, words, &mut out)?;
-        assert!(rt;
-            status == want && out.calls() == 1,
-            "status {status}, {} writes",
-            out.calls()
-        );
-        assert!(rt; out.taken().ends_with(b"\n"));
+        let (status, _shelf) = ran_over(&rt, alloc, words, &mut out)?;
+        assert!(rt; status == want && out.taken() == lines, "status {status}");
+        assert_eq!(rt; out.calls(), 1);
     }
+    let mut help = SampleWriter::new(alloc);
+    let (status, _shelf) = ran_over(&rt, alloc, &["--help"], &mut help)?;
+    assert!(rt; status == 0 && help.calls() == 1 && help.taken().ends_with(b"\n"));
     Ok(())
 }

@@ -6,6 +6,8 @@ mod bounds;
 #[cfg(test)]
 mod cuts;
 #[cfg(test)]
+mod disks;
+#[cfg(test)]
 mod faulty;
 #[cfg(test)]
 mod limits;

@@ -5,6 +5,7 @@ use pdb_io::memory::MemShelf;
 use pdb_io::shelf::Shelf;
 use sample_streams::EndlessReader;
 use samples::files::TWO_BLOCKS;
+use std::io;
 use std::test::Fail;
 
 #[test]
@@ -31,7 +32,8 @@ fn a_reader_without_end_is_left_after_one_byte_too_many(rt: HostRuntime) -> Resu
     let mut reader = EndlessReader::new(1);
     ran(&rt, alloc, &[], &mut shelf, &mut reader)?.expect(b"fault size -\n", 2)?;
     assert!(rt; reader.calls() <= 65_538, "{} reads", reader.calls());
-    Ok(())
+    let mut spaces = io::repeat(b' ');
+    ran(&rt, alloc, &["replay"], &mut shelf, &mut spaces)?.expect(b"fault size -\n", 2)
 }
 
 #[test]

@@ -2,8 +2,7 @@
 
 use crate::runs::{Ended, ran};
 use pdb_io::memory::MemShelf;
-use pdb_io::shelf::{KeepFault, Shelf};
-use pdb_io::streams::ReadFault;
+use pdb_io::shelf::Shelf;
 use samples::files::{TILE_24, TILES_12, TILES_123};
 use std::alloc::{AllocError, Global};
 use std::sync::Wait;
@@ -296,52 +295,4 @@ fn inputs_of_a_search_that_can_not_be_read_are_named(rt: HostRuntime) -> Result<
         expect_held(&shelf, "o", None)?;
     }
     Ok(())
-}
-
-/// A shelf whose files are read, and which keeps nothing, for this reason.
-#[derive(Drop)]
-struct Unkeeping {
-    files: MemShelf,
-    fault: KeepFault,
-}
-
-impl Shelf for Unkeeping {
-    ghost use Rattle.std.specs.Prelude.{◌≡◌, None, true};
-
-    ghost held = { λ _. None };
-
-    ghost has_failed = { λ _. true };
-
-    fn load(&mut self, alloc: Global, name: &str, limit: u64) -> Result<Vec<u8>, ReadFault> {
-        self.files.load(alloc, name, limit)
-    }
-
-    fn keep(&mut self, _alloc: Global, _name: &str, _bytes: &[u8]) -> Result<(), KeepFault> {
-        Err(self.fault)
-    }
-
-    fn failed(&self) -> bool {
-        true
-    }
-}
-
-#[test]
-fn what_can_not_be_kept_is_told_alone(rt: HostRuntime) -> Result<(), Fail> {
-    let alloc = rt.alloc();
-    for words in ["make-table 2 14 o", "solve one sets o f123"] {
-        for (fault, line, status) in [
-            (KeepFault::F3, b"fault write o\n".as_slice(), 2),
-            (KeepFault::Memory, b"no memory\n", 3),
-        ] {
-            let files = shelf(alloc)?;
-            let mut shelf = Unkeeping { files, fault };
-            ran_on(&rt, alloc, words, &mut shelf)?.expect(line, status)?;
-        }
-    }
-
-    // Nothing is to be kept after a no.
-    let files = shelf(alloc)?;
-    let fault = KeepFault::F3;
-    let mut shelf = Unkeeping { files, fault };
-    ran_on(&rt, alloc, "make-table 2 1 o", &mut shelf)?.expect(b"refused K4\n", 1)
 }

@@ -32,20 +32,31 @@ impl Ended {
         )))
     }
 
-    /// It wrote so many digest lines, then one that begins so, and nothing on its errors, and was a refusal; or the test
-    /// fails, and shows what it wrote.
+    /// It wrote so many digest lines, then this, and nothing on its errors, and was a refusal; or the test fails, and shows
+    /// what it wrote.
     pub fn expect_refused(&self, digests: usize, line: &[u8]) -> Result<(), Fail> {
         let mut rest = self.out.as_slice();
         for _ in 0..digests {
-            rest = rest
-                .strip_prefix(b"sha256 ")
-                .and_then(|digest| digest.get(65..))
-                .unwrap_or(&[]);
+            rest = behind_digest(rest).unwrap_or(&[]);
         }
-        if self.status == 1 && rest.starts_with(line) && self.err.is_empty() {
+        if self.status == 1 && rest == line && self.err.is_empty() {
             return Ok(());
         }
         self.expect(line, 1)
+    }
+}
+
+/// What stands behind a digest line, where there is one at the front.
+fn behind_digest(lines: &[u8]) -> Option<&[u8]> {
+    let rest = lines.strip_prefix(b"sha256 ")?;
+    let (digest, rest) = rest.split_at_checked(64)?;
+    let is_digest = digest
+        .iter()
+        .all(|byte| matches!(*byte, b'0'..=b'9' | b'a'..=b'f'));
+    if is_digest {
+        rest.strip_prefix(b"\n")
+    } else {
+        None
     }
 }
 
