@@ -15,4 +15,4 @@ mod tests;
 pub use patterns::Pattern;
 pub use placements::Placement;
 pub use ranks::{next, rank, unrank};
-pub use slots::{regions, slot_of};
+pub use slots::{free_cells, regions, slot_of};
