@@ -18,4 +18,4 @@ pub use patterns::Pattern;
 pub use placements::Placement;
 pub use ranks::{next, rank, unrank};
 pub use slot_tables::SlotTable;
-pub use slots::{regions, slot_of};
+pub use slots::{free_cells, regions, slot_of};

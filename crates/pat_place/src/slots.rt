@@ -51,7 +51,7 @@ pub fn slot_of(placement: &Placement, cell: u8) -> u8
 }
 
 /// The cells that no tile of the pattern is in.
-pub(crate) fn free_cells(placement: &Placement) -> u32
+pub fn free_cells(placement: &Placement) -> u32
     ensures free { IsMaskOf result (IsFree placement.now.pattern.side placement.now.cells) }
     ensures within { result < 2 ^ (placement.now.pattern.side * placement.now.pattern.side) }
 {

@@ -1,7 +1,7 @@
 -- Columns of a block, row by row.
 use Rattle.std.proofs.Common.{◌≡◌, ℕ, ◌+◌, ◌*◌, ◌<◌, ◌≤◌, ◌⊎◌, Bool, true, false, List, length, take, Option, Some, None, get_or, set, min, inl, inr, refl, sym, ◌∙◌, ap, subst, arith, get_or-set_same, get_or-set_other, length-set}
 use Rattle.std.specs.Prelude.{IfSome, MatchBool, MatchOption, slice_get}
-use Rattle.std.proofs.lemmas.Bool.{cases_eq, cases_lt}
+use Rattle.std.proofs.lemmas.Bool.{cases_eq}
 use Rattle.std.proofs.lemmas.List.{get_or-take, length-take}
 use Rattle.std.proofs.lemmas.Option.{get_or_from_slice_get, slice_get-get_or, slice_get_within}
 use Rattle.std.proofs.lemmas.Simd.{get_or-zip2, length-zip2}
@@ -12,15 +12,13 @@ use Rattle.puz_board.specs.Cells.{step_of}
 use Rattle.puz_board.proofs.CellLemmas.{by_side, step_of-inside}
 use Rattle.pat_place.specs.Placements.{PlacementView, IsPlacement}
 use Rattle.pat_place.specs.Ranks.{IsRank, placements}
-use Rattle.pat_place.specs.Regions.{AreRegions}
 use Rattle.pat_place.proofs.ListLemmas.{Some-one, all_at}
 use Rattle.tab_file.specs.Tables.{Table, IsTable, placement_count, slot_count}
 use Rattle.tab_check.specs.Columns.{AreOf, EachSlot}
 use Rattle.tab_check.specs.LocalRule.{IsLeastNear, IsLeastOf}
-use Rattle.tab_check.specs.Moves.{IsEntryAmong, IsEntryTowards, IsFoundTowards, IsRegion, NoneTowards}
+use Rattle.tab_check.specs.Moves.{IsEntryAmong, IsEntryTowards, IsFoundTowards, NoneTowards}
 use Rattle.puz_board.specs.declared.moves.Move.{Move}
 use Rattle.puz_board.specs.declared.moves.Move.TheVariants.{Up, Down, Left, Right}
-use Rattle.tab_check.proofs.OneEntryLemmas.{empty_region, mask_is_region, none_past}
 use Rattle.tab_check.proofs.TowardsLemmas.{among_all, among_none, taken_in}
 
 -- ---- elements of lists
@@ -71,9 +69,6 @@ row_fits p pat row l =
     let all : (row + 1) * slot_count p ≤ 256 * slot_count p = mul-le-mul_right (slot_count p) (let s : row + 1 ≤ 256 = omega arith in s) in
     omega arith
 
-pub width_of : (p : PatternView) (v : PlacementView) → v.pattern ≡ p → IsPlacement v → width v.pattern.side (length v.cells) ≡ slot_count p
-width_of p v same place = ap (λ k. width v.pattern.side k) place.size ∙ ap slot_count same
-
 module _ (p : PatternView) (placements : List PlacementView) (Says : List ℕ → ℕ → ℕ → Type 0) where
   pub each_none : (column : List ℕ) → EachSlot p placements Says 0 column
   each_none column row j v l is low = absurd (omega arith)
@@ -87,29 +82,6 @@ module _ (p : PatternView) (placements : List PlacementView) (Says : List ℕ �
 
   pub each_all : (row : ℕ) (column : List ℕ) → length placements ≤ row → EachSlot p placements Says row column → EachSlot p placements Says (length placements) column
   each_all row column all each r j v l is low = each r j v (omega arith) is low
-
--- ---- the masks of one placement more
-
-pub masks_more : (p : PatternView) (ps : List PlacementView) (row at : ℕ) (column new regs : List ℕ) (v : PlacementView) → at ≡ row * slot_count p → slice_get ps row ≡ Some v
-    → AreRegions p.side v.cells regs → length regs ≤ slot_count p → EachSlot p ps (IsRegion p.side) row column
-    → ((i : ℕ) → row * slot_count p ≤ i → i < 2048 → get_or column i 0 ≡ 0) → row * slot_count p + slot_count p ≤ 2048
-    → ((i : ℕ) → i < length regs → get_or new (at + i) 0 ≡ get_or regs i 0) → ((i : ℕ) → (i < at) ⊎ (at + length regs ≤ i) → get_or new i 0 ≡ get_or column i 0)
-    → EachSlot p ps (IsRegion p.side) (row + 1) new × ((i : ℕ) → (row + 1) * slot_count p ≤ i → i < 2048 → get_or new i 0 ≡ 0)
-masks_more p ps row at column new regs v at_is is are few each empty fits inside outside = (
-  each_more p ps (IsRegion p.side) row column new each (λ i l. outside i (inl (omega arith))) of_row,
-  λ i l k. outside i (inr (omega arith)) ∙ empty i (omega arith) k,
-)
-  where
-    at_slot : (j : ℕ) → j < slot_count p → IsRegion p.side v.cells j (get_or new (at + j) 0)
-    at_slot j low = elim (cases_lt j (length regs)) [
-      | inl l ↦ subst (IsRegion p.side v.cells j) (sym (inside j l)) (mask_is_region p.side v.cells regs are j l)
-      | inr l ↦ subst (IsRegion p.side v.cells j) (sym (outside (at + j) (inr (omega arith)) ∙ empty (at + j) (omega arith) (omega arith))) (empty_region p.side v.cells j (none_past p.side v.cells regs are j l))
-    ]
-
-    of_row : (u : PlacementView) → slice_get ps row ≡ Some u → (j : ℕ) → j < slot_count p → IsRegion p.side u.cells j (get_or new (row * slot_count p + j) 0)
-    of_row u also j low =
-        subst (λ x. IsRegion p.side x.cells j (get_or new (row * slot_count p + j) 0)) (Some-one v u (sym is ∙ also)) (
-        subst (λ a. IsRegion p.side v.cells j (get_or new (a + j) 0)) at_is (at_slot j low))
 
 -- ---- the entry after one move of one placement more
 

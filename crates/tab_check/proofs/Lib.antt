@@ -5,6 +5,7 @@ pub mod ColumnLemmas
 pub mod DecidedLemmas
 pub mod EntryLemmas
 pub mod ExactLemmas
+mod FloodLemmas
 pub mod JobLemmas
 pub mod LookLemmas
 pub mod MoveLemmas

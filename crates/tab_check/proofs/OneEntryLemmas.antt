@@ -1,5 +1,5 @@
 -- The slots of one placement, and the masks of its regions.
-use Rattle.std.proofs.Common.{◌≡◌, ℕ, ◌*◌, ◌<◌, ◌≤◌, List, length, get_or, inl, inr, sym, ◌∙◌, ap, arith}
+use Rattle.std.proofs.Common.{◌≡◌, ℕ, ◌*◌, ◌<◌, ◌≤◌, List, length, inl, inr, sym, ◌∙◌, ap, arith}
 use Rattle.std.specs.Int.{bit_at}
 use Rattle.std.proofs.lemmas.Nat.Bits.{bit_at-lt, bit_at-zero, same_from_bits}
 use Rattle.pat_place.specs.Patterns.{PatternView, IsPattern}
@@ -23,9 +23,6 @@ module _ (n : ℕ) (cells masks : List ℕ) (are : AreRegions n cells masks) whe
   region_of_mask j l =
       let x = count_place (IsLeader n cells) (n * n) (length masks) j are.all l in
       record { cell = x.0; in_slot = record { free = x.2.0; leader = x.0; joined = here; is_leader = x.2; below = x.3 } }
-
-  pub mask_is_region : (j : ℕ) → j < length masks → IsRegion n cells j (get_or masks j 0)
-  mask_is_region j l c = are.each j c l
 
 -- a slot without a region has the empty mask
 pub empty_region : (n : ℕ) (cells : List ℕ) (j : ℕ) → HasNoRegion n cells j → IsRegion n cells j 0

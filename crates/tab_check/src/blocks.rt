@@ -3,7 +3,8 @@
 ghost use Rattle.std.specs.Prelude.{◌≡◌, ◌+◌, ◌<◌, ◌≤◌, MatchOption, drop, length, take};
 ghost use Rattle.tab_check.specs.Blocks.{BlockKeepsRule, IsLeastBadIn, block_count};
 
-use crate::columns::{goal_number, kinds_of, masks_of, placements_from};
+use crate::columns::{goal_number, kinds_of, placements_from};
+use crate::floods::masks_of;
 use crate::neighbours::least_near;
 use pat_place::Pattern;
 use tab_file::TableView;

@@ -1,20 +1,19 @@
-//! Columns of a block: its placements, the masks of their regions, and the kinds of their slots.
+//! Columns of a block: its placements, and the kinds of their slots.
 //!
 //! A column has a number for each slot of each placement, in the order of the entries.
 
-ghost use Rattle.std.specs.Prelude.{◌≡◌, ℕ, ◌+◌, ◌^◌, ◌<◌, ◌≤◌, ◌⊎◌, IsTrue, length, slice_index, take};
+ghost use Rattle.std.specs.Prelude.{◌≡◌, ℕ, ◌+◌, ◌^◌, ◌<◌, ◌≤◌, IsTrue, length, slice_index, take};
 ghost use Rattle.pat_place.specs.Regions.{IsSlot};
 ghost use Rattle.tab_file.specs.Tables.{placement_count};
-ghost use Rattle.tab_check.specs.Columns.{AreOf, EachSlot, HaveRanks, IsKindByMask};
+ghost use Rattle.tab_check.specs.Columns.{HaveRanks, IsKindByMask};
 ghost use Rattle.tab_check.specs.Entries.{IsNumberOf};
-ghost use Rattle.tab_check.specs.Moves.{IsRegion};
 
-use pat_place::{Pattern, Placement, next, rank, regions, slot_of, unrank};
+use pat_place::{Pattern, Placement, next, rank, slot_of, unrank};
 use tab_file::TableView;
 use tab_lanes::{GOAL_SLOT, OTHER_SLOT, WITHOUT_REGION};
 
 /// The most placements that a block has.
-const MOST_PLACEMENTS: usize = 256;
+pub(crate) const MOST_PLACEMENTS: usize = 256;
 
 /// The most entries that a block has: 8 slots for each placement.
 pub(crate) const MOST_ENTRIES: usize = 2048;
@@ -37,32 +36,6 @@ pub(crate) fn placements_from(
         placements[row] = placement;
     }
     placements
-}
-
-/// The mask of each slot's region, and 0 for a slot without one.
-pub(crate) fn masks_of(table: &TableView<'_>, placements: &[Placement]) -> [u32; MOST_ENTRIES]
-    requires few { length placements.now ≤ 256 }
-    requires placements { AreOf table.now.pattern placements.now }
-    ensures { EachSlot table.now.pattern placements.now (IsRegion table.now.pattern.side) (length placements.now) result }
-{
-    let width = usize::from(table.pattern().width());
-    let mut masks = [0; MOST_ENTRIES];
-    for (row, placement) in placements.iter().enumerate() {
-        put(&mut masks, row * width, regions(placement).as_slice());
-    }
-    masks
-}
-
-/// Puts masks into a column, from this place on.
-fn put(column: &mut [u32], at: usize, masks: &[u32])
-    requires { at + length masks.now ≤ length column.old }
-    ensures len { length column.new ≡ length column.old }
-    ensures inside { (i : ℕ) → i < length masks.now → slice_index column.new (at + i) ≡ slice_index masks.now i }
-    ensures outside { (i : ℕ) → (i < at) ⊎ (at + length masks.now ≤ i) → slice_index column.new i ≡ slice_index column.old i }
-{
-    for (i, mask) in masks.iter().enumerate() {
-        column[at + i] = *mask;
-    }
 }
 
 /// The number of the goal's entry: that of the goal's placement and of the region that has cell 0.

@@ -6,6 +6,7 @@ mod blocks;
 mod census;
 mod columns;
 mod entries;
+mod floods;
 mod jobs;
 pub mod laws;
 mod masks;
