@@ -1,13 +1,13 @@
 //! Makers of tables and of logs. Nothing here is trusted: what they make is for the checkers.
 #![tactic(auto)]
 
+mod counts;
 mod entries;
 mod faults;
 mod grids;
 mod layers;
 mod logs;
 mod moves;
-mod reached;
 mod searches;
 mod sets;
 mod shapes;
