@@ -23,4 +23,6 @@ pub use searches::{Found, solve};
 pub use tables::build;
 
 #[cfg(test)]
+mod build_tests;
+#[cfg(test)]
 mod tests;
