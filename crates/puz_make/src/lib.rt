@@ -1,6 +1,7 @@
 //! Makers of tables and of logs. Nothing here is trusted: what they make is for the checkers.
 #![tactic(auto)]
 
+mod counts;
 mod entries;
 mod faults;
 mod grids;
@@ -9,7 +10,6 @@ mod logs;
 mod moves;
 mod places;
 mod positions;
-mod reached;
 mod searches;
 mod sets;
 mod shapes;
@@ -25,6 +25,8 @@ pub use layers::layer;
 pub use searches::{Found, solve};
 pub use tables::build;
 
+#[cfg(test)]
+mod build_tests;
 #[cfg(test)]
 mod search_tests;
 #[cfg(test)]

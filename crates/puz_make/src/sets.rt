@@ -25,7 +25,7 @@ impl SetNumbers {
     /// The numbers of the sets of as many cells as a pattern has tiles.
     pub(crate) fn new(alloc: Global, grid: &Grid) -> Result<SetNumbers, AllocError> {
         let mut counts = [0; 32];
-        let places = low_places(alloc, &mut counts)?;
+        let places = low_places(alloc, grid.all % LOW_PARTS, &mut counts)?;
         let mut firsts = Vec::new(alloc);
         let mut count = 0u32;
         for high in 0..=grid.all >> LOW_CELLS {
@@ -49,10 +49,14 @@ impl SetNumbers {
     }
 }
 
-/// The place of each lower part among those of as many cells. Counts those of each number of cells.
-fn low_places(alloc: Global, counts: &mut [u32; 32]) -> Result<Vec<u32>, AllocError> {
+/// The place of each lower part, up to the greatest, among those of as many cells. Counts those of each number of cells.
+fn low_places(
+    alloc: Global,
+    greatest: u32,
+    counts: &mut [u32; 32],
+) -> Result<Vec<u32>, AllocError> {
     let mut places = Vec::new(alloc);
-    for low in 0..LOW_PARTS {
+    for low in 0..=greatest {
         let count = &mut counts[low.count_ones() as usize % 32];
         places.push(*count)?;
         *count = count.wrapping_add(1);

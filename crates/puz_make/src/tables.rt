@@ -3,12 +3,12 @@
 ghost use Rattle.std.specs.Prelude.{◌≡◌, ◌+◌, ◌<◌, IfOk, length};
 ghost use Rattle.tab_file.specs.Tables.{entry_count};
 
+use crate::counts::Counts;
 use crate::entries::NO_REGION;
 use crate::faults::MakeFault;
 use crate::grids::{Grid, mask_of};
-use crate::reached::Reached;
 use crate::shapes::Shapes;
-use crate::steps::{Steps, place_of};
+use crate::steps::place_of;
 use crate::walks::{Walk, next_order};
 use pat_place::Pattern;
 use rayon::prelude::*;
@@ -27,11 +27,10 @@ pub fn build<R: Threads + Sync>(
 ) -> Result<Vec<u8>, MakeFault> {
     let grid = Grid::new(pattern);
     let shapes = Shapes::new(alloc, &grid)?;
-    let steps = Steps::new(alloc, &grid, &shapes)?;
-    let reached = Reached::new(rt, alloc, &shapes, &steps, pattern.mask())?;
+    let counts = Counts::new(rt, alloc, &grid, &shapes, pattern.mask())?;
     let mut file = unfilled_file(alloc, pattern)?;
     let (_header, entries) = file.split_at_mut(20);
-    fill_entries(rt, &grid, &shapes, &reached, entries);
+    fill_entries(rt, &grid, &shapes, &counts, entries);
     Ok(file)
 }
 
@@ -53,12 +52,12 @@ fn fill_entries<R: Threads + Sync>(
     rt: &R,
     grid: &Grid,
     shapes: &Shapes,
-    reached: &Reached,
+    counts: &Counts,
     entries: &mut [u8],
 ) {
     let run = grid.run.max(1);
     par_chunks_mut_for_each(rt, entries, run.saturating_mul(RUNS), |start, runs| {
-        fill_runs(grid, shapes, reached, start, run, runs)
+        fill_runs(grid, shapes, counts, start, run, runs)
     });
 }
 
@@ -66,7 +65,7 @@ fn fill_entries<R: Threads + Sync>(
 fn fill_runs(
     grid: &Grid,
     shapes: &Shapes,
-    reached: &Reached,
+    counts: &Counts,
     start: usize,
     run: usize,
     runs: &mut [u8],
@@ -79,12 +78,12 @@ fn fill_runs(
             return;
         };
         walk.go_to(number);
-        fill_run(grid, shapes, reached, &walk, entries);
+        fill_run(grid, shapes, counts, &walk, entries);
     }
 }
 
 /// Fills in the entries of a run.
-fn fill_run(grid: &Grid, shapes: &Shapes, reached: &Reached, walk: &Walk<'_>, entries: &mut [u8]) {
+fn fill_run(grid: &Grid, shapes: &Shapes, counts: &Counts, walk: &Walk<'_>, entries: &mut [u8]) {
     let mut free = grid.all & !walk.set;
     for slots in entries.chunks_mut(grid.width.max(1)) {
         let cell = free.trailing_zeros() as u8;
@@ -93,7 +92,7 @@ fn fill_run(grid: &Grid, shapes: &Shapes, reached: &Reached, walk: &Walk<'_>, en
         let order = next_order(walk.order, last, place_of(walk.set, cell));
         let shapes = shapes.of_set(walk.set | mask_of(cell));
         for (slot, shape) in slots.iter_mut().zip(shapes) {
-            *slot = reached.entry(shape, order);
+            *slot = counts.entry(shape, order);
         }
     }
 }

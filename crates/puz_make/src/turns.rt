@@ -68,7 +68,8 @@ impl Turns {
 
 /// The turn of a tile that goes from one place among the tiles to another.
 pub(crate) fn turn_of(from: u32, to: u32) -> u32 {
-    from % 8 * 8 + to % 8
+    let places = MOST_TILES as u32;
+    from % places * places + to % places
 }
 
 /// For each order the orders in which the tile at a place and the one before it are swapped.

@@ -1,9 +1,10 @@
-//! What walks from the tiles at home reach, layer by layer.
+//! How few moves lead to the tiles at home, found layer by layer.
 
-ghost use Rattle.std.specs.Prelude.{◌≡◌, ◌<◌, ◌^◌, length};
+ghost use Rattle.std.specs.Prelude.{◌<◌, ◌^◌, length};
 
 use crate::entries::{GREATEST_COUNT, NO_WAY_HOME, entry_of};
 use crate::faults::MakeFault;
+use crate::grids::Grid;
 use crate::layers::layer;
 use crate::shapes::Shapes;
 use crate::steps::Steps;
@@ -17,40 +18,33 @@ const PIECE: usize = 32768;
 
 /// The least counts of moves that lead to the tiles at home.
 #[derive(Drop)]
-pub(crate) struct Reached {
+pub(crate) struct Counts {
     /// How many orders there are.
     orders: usize,
-    /// How many words a set of orders has.
-    words: usize,
     /// For each shape and order the count, as an entry.
-    counts: Vec<u8>,
-    /// The last layer that reached each shape.
-    last: Vec<u8>,
-    /// The orders of each shape in that layer.
-    last_orders: Vec<u64>,
-    /// The last layer that may reach each shape, since the one before it reached a shape one move away.
-    near: Vec<u8>,
+    entries: Vec<u8>,
 }
 
-impl Reached {
+impl Counts {
     /// The counts for the pattern whose tiles are the bits of a mask.
     pub(crate) fn new<R: Threads + Sync>(
         rt: &R,
         alloc: Global,
+        grid: &Grid,
         shapes: &Shapes,
-        steps: &Steps,
         mask: u32,
-    ) -> Result<Reached, MakeFault> {
+    ) -> Result<Counts, MakeFault> {
+        let steps = Steps::new(alloc, grid, shapes)?;
         // At home each tile stands on the cell of its number, and the blank is in cell 0.
         let home = shapes.with_cells(mask, 1);
-        let mut reached = Reached::at(alloc, shapes, steps, home)?;
+        let mut reached = Reached::at(alloc, shapes, &steps, home)?;
         for count in 1..=GREATEST_COUNT + 1 {
-            let lists = reached.find_layer(rt, alloc, steps, count)?;
+            let lists = reached.find_layer(rt, alloc, &steps, count)?;
             if lists.as_slice().iter().all(|found| found.shapes.is_empty()) {
-                return Ok(reached);
+                return Ok(reached.counts);
             }
             match entry_of(u32::from(count)) {
-                Some(entry) => reached.write_lists(steps, &lists, entry),
+                Some(entry) => reached.write_lists(&steps, &lists, entry),
                 None => return Err(MakeFault::K3),
             }
         }
@@ -63,18 +57,44 @@ impl Reached {
         let place = (shape as usize)
             .wrapping_mul(self.orders)
             .wrapping_add(order as usize);
-        self.counts.get(place).copied().unwrap_or(NO_WAY_HOME)
+        self.entries.get(place).copied().unwrap_or(NO_WAY_HOME)
     }
 
-    /// A walk that has only begun, with the tiles in the last order of a shape.
+    /// Writes an entry for each order of a set, at a shape.
+    fn write(&mut self, shape: u32, orders: &[u64], entry: u8) {
+        let first = (shape as usize).wrapping_mul(self.orders);
+        let first = first.min(self.entries.len());
+        write_entries(orders, &mut self.entries[first..], entry);
+    }
+}
+
+/// What walks from the tiles at home have reached.
+#[derive(Drop)]
+struct Reached {
+    counts: Counts,
+    /// How many words a set of orders has.
+    words: usize,
+    /// The last layer that reached each shape.
+    last: Vec<u8>,
+    /// The orders of each shape in that layer.
+    last_orders: Vec<u64>,
+    /// The last layer that may reach each shape, since the one before it reached a shape one move away.
+    near: Vec<u8>,
+}
+
+impl Reached {
+    /// What is reached before any move, with the tiles in the last order of a shape.
     fn at(alloc: Global, shapes: &Shapes, steps: &Steps, home: u32) -> Result<Reached, AllocError> {
         let orders = usize::from(steps.turns.orders);
         let words = orders.div_ceil(ORDERS_OF_WORD);
         let count = shapes.as_slice().len();
-        let mut reached = Reached {
+        let counts = Counts {
             orders,
+            entries: vec![in alloc; NO_WAY_HOME; count.wrapping_mul(orders)]?,
+        };
+        let mut reached = Reached {
+            counts,
             words,
-            counts: vec![in alloc; NO_WAY_HOME; count.wrapping_mul(orders)]?,
             last: vec![in alloc; NO_WAY_HOME; count]?,
             last_orders: vec![in alloc; 0; count.wrapping_mul(words)]?,
             near: vec![in alloc; NO_WAY_HOME; count]?,
@@ -94,7 +114,7 @@ impl Reached {
         count: u8,
     ) -> Result<Vec<Found>, AllocError> {
         let near = layer(rt, alloc, self.near_layers(), count)?;
-        let piece = PIECE.checked_div(self.orders).unwrap_or(0).max(1);
+        let piece = PIECE.checked_div(self.counts.orders).unwrap_or(0).max(1);
         near.as_slice()
             .par_chunks(piece)
             .with_min_len(1)
@@ -177,8 +197,7 @@ impl Reached {
         }
         let first = number.wrapping_mul(self.words).min(self.last_orders.len());
         copy(orders, &mut self.last_orders[first..]);
-        let first = number.wrapping_mul(self.orders).min(self.counts.len());
-        write_counts(orders, &mut self.counts[first..], entry);
+        self.counts.write(shape, orders, entry);
         for step in steps.to(shape) {
             if let Some(near) = self.near.get_mut(step.shape as usize) {
                 *near = entry.wrapping_add(1);
@@ -218,19 +237,19 @@ fn remove_all(others: &[u64], orders: &mut [u64]) {
 }
 
 /// Writes an entry for each order of a set.
-fn write_counts(orders: &[u64], counts: &mut [u8], entry: u8) {
-    for (word, counts) in orders.iter().zip(counts.chunks_mut(ORDERS_OF_WORD)) {
-        write_counts_of_word(*word, counts, entry);
+fn write_entries(orders: &[u64], entries: &mut [u8], entry: u8) {
+    for (word, entries) in orders.iter().zip(entries.chunks_mut(ORDERS_OF_WORD)) {
+        write_entries_of_word(*word, entries, entry);
     }
 }
 
 /// Writes an entry for each order of a word.
 #[inline]
-fn write_counts_of_word(word: u64, counts: &mut [u8], entry: u8) {
+fn write_entries_of_word(word: u64, entries: &mut [u8], entry: u8) {
     let mut rest = word;
     for _ in 0..word.count_ones() {
-        if let Some(count) = counts.get_mut(rest.trailing_zeros() as usize) {
-            *count = entry;
+        if let Some(place) = entries.get_mut(rest.trailing_zeros() as usize) {
+            *place = entry;
         }
         rest &= rest.wrapping_sub(1);
     }
