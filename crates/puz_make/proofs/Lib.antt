@@ -1,2 +1,2 @@
-pub mod EntryLemmas
+mod EntryLemmas
 mod LayerLemmas
