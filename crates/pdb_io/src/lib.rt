@@ -5,6 +5,4 @@ pub mod disk;
 pub mod memory;
 pub mod shelf;
 pub mod streams;
-#[cfg(test)]
-mod tests;
 pub mod watched;

@@ -1,4 +1,4 @@
 pub mod CommandLemmas
 pub mod KindLemmas
-pub mod NumberLemmas
+mod NumberLemmas
 pub mod TextLemmas

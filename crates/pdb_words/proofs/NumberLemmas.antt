@@ -1,9 +1,9 @@
 -- What is read of a text that writes a number.
-use Rattle.std.proofs.Common.{◌≡◌, ◌∙◌, ◌⊎◌, ◌≤◌, ◌<◌, ◌^◌, ◌&&◌, arith, refl, sym, ap, ℕ, suc, Bool, false, true, List, [], ◌∷◌, lt-ltb, ltb-true, nat_le, nat_lt, length}
+use Rattle.std.proofs.Common.{◌≡◌, ◌∙◌, ◌⊎◌, ◌≤◌, ◌<◌, ◌^◌, ◌&&◌, arith, refl, sym, ap, ℕ, Bool, false, true, List, [], ◌∷◌, lt-ltb, ltb-true, nat_le, nat_lt, length}
 use Rattle.std.specs.Char.{digit_value}
 use Rattle.std.specs.List.{list_all}
 use Rattle.std.specs.Option.{option_map_or}
-use Rattle.std.specs.Prelude.{Option, Some, None, Result, if◌then◌else◌, unwrap_or}
+use Rattle.std.specs.Prelude.{Option, Some, None, Result, if◌then◌else◌}
 use Rattle.std.specs.Str.Parse.{AllDigits, ExplainsUnsignedError, HasUnsignedDigitsIfOk, IsNumeral, ParsesUnsigned, without_leading_plus}
 use Rattle.std.specs.declared.num.ParseIntError.{ParseIntError}
 use Rattle.std.proofs.lemmas.Bool.Decides.{nat_tests}
@@ -29,26 +29,26 @@ numeral_tested ds e = let parts = both _ _ e in (ltb-true _ _ parts.0, digits_fr
     digits_from (d ∷ ds) e = let parts = both _ _ e in (ltb-true _ _ parts.0, digits_from ds parts.1)
 
 -- the number that was read, where it is one from low to high, and otherwise another
-abbrev pub kept : ℕ → ℕ → ℕ → Option ℕ → ℕ
+abbrev kept : ℕ → ℕ → ℕ → Option ℕ → ℕ
 kept low high other None = other
 kept low high other (Some n) = if nat_le low n && nat_le n high then n else other
 
-pub inside : (low high other n : ℕ) → low ≤ n → n ≤ high → kept low high other (Some n) ≡ n
+inside : (low high other n : ℕ) → low ≤ n → n ≤ high → kept low high other (Some n) ≡ n
 inside low high other n above below = grind (arith, nat_tests)
 
-pub outside : (low high other n : ℕ) → (n < low) ⊎ (high < n) → kept low high other (Some n) ≡ other
+outside : (low high other n : ℕ) → (n < low) ⊎ (high < n) → kept low high other (Some n) ≡ other
 outside low high other n out = grind (arith, nat_tests)
 
--- what an unsigned type of these bits makes of a text
-abbrev Gives : ℕ → Text → Result ℕ ParseIntError → Type 0
-Gives bits text r = ParsesUnsigned bits 10 text r × ExplainsUnsignedError 10 text r × HasUnsignedDigitsIfOk text r
+-- what `u64` makes of a text
+abbrev Gives : Text → Result ℕ ParseIntError → Type 0
+Gives text r = ParsesUnsigned 64 10 text r × ExplainsUnsignedError 10 text r × HasUnsignedDigitsIfOk text r
 
-module _ (bits low high other : ℕ) (fits : high < 2 ^ bits) where
-  text_read : (text : Text) (read : Option ℕ) → ReadsOne (Gives bits) text read → kept low high other read ≡ number_within low high other text
+module _ (low high other : ℕ) (fits : high < 2 ^ 64) where
+  text_read : (text : Text) (read : Option ℕ) → ReadsOne Gives text read → kept low high other read ≡ number_within low high other text
   text_read text (Some n) reads = rw (numeral_test (without_leading_plus text) reads.0.0.0, reads.0.1) refl
   text_read text None reads = go (is_numeral (without_leading_plus text)) refl
     where
-      out : (n : ℕ) → (n < 2 ^ bits → ⊥) → other ≡ (if nat_le low n && nat_le n high then n else other)
+      out : (n : ℕ) → (n < 2 ^ 64 → ⊥) → other ≡ (if nat_le low n && nat_le n high then n else other)
       out n large = grind (arith, nat_tests, fits)
 
       go : (numeral : Bool) → is_numeral (without_leading_plus text) ≡ numeral → other ≡ number_within low high other text
@@ -56,31 +56,21 @@ module _ (bits low high other : ℕ) (fits : high < 2 ^ bits) where
       go true e = rw e (out (number_of text) (λ small. reads.1.0 (numeral_tested (without_leading_plus text) e, small)))
 
   -- what `get_one` read of a text that may be missing
-  pub number_read : (m : ArgMatches) (id : Text) (read : Option ℕ)
-      → (one_text (found_of m) id ≡ None → read ≡ None) → ((text : Text) → one_text (found_of m) id ≡ Some text → ReadsOne (Gives bits) text read)
-      → kept low high other read ≡ number_in low high other id (rows_of (found_of m))
-  number_read m id read none value =
-      go (one_text (found_of m) id) none value ∙ ap (λ (o : Option Text). option_map_or (number_within low high other) o other) (one_text-rows (found_of m) id)
-    where
-      go : (o : Option Text) → (o ≡ None → read ≡ None) → ((text : Text) → o ≡ Some text → ReadsOne (Gives bits) text read)
-          → kept low high other read ≡ option_map_or (number_within low high other) o other
-      go None none value = rw (none refl) refl
-      go (Some text) none value = text_read text read (value text refl)
+  module _ (m : ArgMatches) (id : Text) (read : Option ℕ)
+      (none : one_text (found_of m) id ≡ None → read ≡ None) (value : (text : Text) → one_text (found_of m) id ≡ Some text → ReadsOne Gives text read) where
+    number_read : kept low high other read ≡ number_in low high other id (rows_of (found_of m))
+    number_read = go (one_text (found_of m) id) none value ∙ ap (λ (o : Option Text). option_map_or (number_within low high other) o other) (one_text-rows (found_of m) id)
+      where
+        go : (o : Option Text) → (o ≡ None → read ≡ None) → ((text : Text) → o ≡ Some text → ReadsOne Gives text read)
+            → kept low high other read ≡ option_map_or (number_within low high other) o other
+        go None none value = rw (none refl) refl
+        go (Some text) none value = text_read text read (value text refl)
 
--- where each number of the type will do
-module _ (bits high other : ℕ) (whole : 2 ^ bits ≡ suc high) where
-  text_kept : (text : Text) (read : Option ℕ) → ReadsOne (Gives bits) text read → unwrap_or read other ≡ kept 0 high other read
-  text_kept text None reads = refl
-  text_kept text (Some n) reads =
-      let small : number_of text < 2 ^ bits = reads.0.0.1 in
-      let same : n ≡ number_of text = reads.0.1 in
-      sym (inside 0 high other n (omega arith) (omega (arith, whole)))
+    pub read_inside : (n : ℕ) → read ≡ Some n → low ≤ n → n ≤ high → n ≡ number_in low high other id (rows_of (found_of m))
+    read_inside n is above below = sym (inside low high other n above below) ∙ sym (ap (kept low high other) is) ∙ number_read
 
-  pub any_number_read : (m : ArgMatches) (id : Text) (read : Option ℕ)
-      → (one_text (found_of m) id ≡ None → read ≡ None) → ((text : Text) → one_text (found_of m) id ≡ Some text → ReadsOne (Gives bits) text read)
-      → unwrap_or read other ≡ number_in 0 high other id (rows_of (found_of m))
-  any_number_read m id read none value = go (one_text (found_of m) id) none value ∙ number_read bits 0 high other (omega (arith, whole)) m id read none value
-    where
-      go : (o : Option Text) → (o ≡ None → read ≡ None) → ((text : Text) → o ≡ Some text → ReadsOne (Gives bits) text read) → unwrap_or read other ≡ kept 0 high other read
-      go None none value = rw (none refl) refl
-      go (Some text) none value = text_kept text read (value text refl)
+    pub read_outside : (n : ℕ) → read ≡ Some n → (n < low) ⊎ (high < n) → other ≡ number_in low high other id (rows_of (found_of m))
+    read_outside n is out = sym (outside low high other n out) ∙ sym (ap (kept low high other) is) ∙ number_read
+
+    pub none_read : read ≡ None → other ≡ number_in low high other id (rows_of (found_of m))
+    none_read is = sym (ap (kept low high other) is) ∙ number_read

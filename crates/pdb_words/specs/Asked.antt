@@ -27,12 +27,19 @@ names_of_tables check = map (λ s. s.now) check.tables.items
 abbrev tables_of_search : Search → List (List ℕ)
 tables_of_search search = map (λ s. s.now) search.tables.items
 
+-- what is asked of a claim, the sets, a log and its tables, and of so many workers
+abbrev pub AsksCheck : Type 0
+AsksCheck = List ℕ → List ℕ → List ℕ → List (List ℕ) → ℕ → Asked
+
+abbrev pub asks_check : AsksCheck → LogCheck → Asked
+asks_check asks check = asks check.claim.now check.sets.now check.log.now (names_of_tables check) check.workers
+
 -- a request, as its bytes
 abbrev pub view : Request → Asked
 view (request.Replay name) = replay (option_map (λ s. s.now) name)
 view (request.Table file workers) = table file.now workers
-view (request.Bound check) = bound check.claim.now check.sets.now check.log.now (names_of_tables check) check.workers
-view (request.Optimal check) = optimal check.claim.now check.sets.now check.log.now (names_of_tables check) check.workers
+view (request.Bound check) = asks_check bound check
+view (request.Optimal check) = asks_check optimal check
 view (request.MakeTable side mask out workers) = make_table side mask out.now workers
 view (request.Solve search) = solve search.board.now search.sets.now search.out.now (tables_of_search search) search.workers search.budget
 

@@ -1,17 +1,11 @@
 -- The flag `--budget N`: how many boards a search may expand, from 1 to 1,000,000,000,000, and without it 1,000,000.
-use Rattle.std.specs.Prelude.{ℕ, Bool, List, [], ◌∷◌, Some, codes}
+use Rattle.std.specs.Prelude.{ℕ, Bool, List, codes}
 use Rattle.clap.specs.Walk.{Row, Rule, Text}
-use Rattle.clap.specs.Simple.{new_rule}
 use Rattle.clap.specs.declared.builder.value_parser.ValueParser.TheVariants as parser
-use Rattle.pdb_words.specs.Numbers.{number_in, number_within, writes_within}
+use Rattle.pdb_words.specs.Numbers.{number_flag, number_in, number_within, writes_within}
 
 abbrev pub budget_flag : Rule
-budget_flag = record (new_rule (codes "budget")) {
-  long = Some (codes "budget");
-  value_names = 1;
-  parser = Some (parser.Unsigned 1 1000000000000);
-  defaults = codes "1000000" ∷ [];
-}
+budget_flag = number_flag (codes "budget") (parser.Unsigned 1 1000000000000) (codes "1000000")
 
 -- the text writes a budget
 abbrev pub writes_budget : Text → Bool

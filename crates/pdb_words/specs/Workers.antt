@@ -1,17 +1,11 @@
 -- The flag `--workers N`: a number from 1 to 64, and without it 1.
-use Rattle.std.specs.Prelude.{ℕ, Bool, List, [], ◌∷◌, Some, codes, pos}
+use Rattle.std.specs.Prelude.{ℕ, Bool, List, codes, pos}
 use Rattle.clap.specs.Walk.{Row, Rule, Text}
-use Rattle.clap.specs.Simple.{new_rule}
 use Rattle.clap.specs.declared.builder.value_parser.ValueParser.TheVariants as parser
-use Rattle.pdb_words.specs.Numbers.{number_in, number_within, writes_within}
+use Rattle.pdb_words.specs.Numbers.{number_flag, number_in, number_within, writes_within}
 
 abbrev pub workers_flag : Rule
-workers_flag = record (new_rule (codes "workers")) {
-  long = Some (codes "workers");
-  value_names = 1;
-  parser = Some (parser.Signed (pos 1) (pos 64));
-  defaults = codes "1" ∷ [];
-}
+workers_flag = number_flag (codes "workers") (parser.Signed (pos 1) (pos 64)) (codes "1")
 
 -- the text writes a number of workers: 1 to 64
 abbrev pub writes_workers : Text → Bool

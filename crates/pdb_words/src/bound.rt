@@ -6,9 +6,9 @@ ghost use Rattle.clap.specs.declared.Command.TheViews.{out-Command};
 ghost use Rattle.pdb_words.specs.Asked.{HasBudget, HasWorkers, view};
 ghost use Rattle.pdb_words.specs.Bound.{bound_command, bound_in};
 
-use crate::asked::{LogCheck, Request};
-use crate::files::{file_in, needed_file, tables_in, with_log};
-use crate::workers::workers_in;
+use crate::asked::Request;
+use crate::files::needed_file;
+use crate::log_checks::{check_in, with_claim};
 use clap::{ArgMatches, Command};
 use std::alloc::{AllocError, Global};
 
@@ -18,14 +18,12 @@ pub(crate) fn bound_command<'a>(alloc: Global) -> Result<Command<'a>, AllocError
     ensures local { IfOk result (λ c. (out-Command c).has_globals ≡ false) }
 {
     let board = needed_file(alloc, "BOARD").help("A board text");
-    let log = needed_file(alloc, "LOG").help("A log file");
     let command = Command::new(alloc, "bound")
         .about(
             "Says whether a log proves that no solution of a board has fewer moves than its bound",
         )
-        .override_usage("pdb_cli bound [--workers N] BOARD SETS LOG TABLES..")
-        .arg(board)?;
-    with_log(alloc, command, log)
+        .override_usage("pdb_cli bound [--workers N] BOARD SETS LOG TABLES..");
+    with_claim(alloc, command, board)
 }
 
 /// What these matches of the command ask for.
@@ -34,11 +32,5 @@ pub(crate) fn bound_in<'a>(alloc: Global, found: &ArgMatches<'a>) -> Result<Requ
     ensures workers { IfOk result (λ request. HasWorkers request) }
     ensures budget { IfOk result (λ request. HasBudget request) }
 {
-    Ok(Request::Bound(LogCheck {
-        claim: file_in(found, "BOARD"),
-        sets: file_in(found, "SETS"),
-        log: file_in(found, "LOG"),
-        tables: tables_in(alloc, found)?,
-        workers: workers_in(found),
-    }))
+    Ok(Request::Bound(check_in(alloc, found, "BOARD")?))
 }

@@ -9,6 +9,7 @@ ghost use Rattle.pdb_words.specs.Numbers.{number_in};
 
 use crate::asked::Request;
 use crate::files::{file_in, needed_file, with_argument};
+use crate::numbers::number_in;
 use crate::workers::{workers_flag, workers_in};
 use clap::{Arg, ArgMatches, Command, value_parser};
 use std::alloc::{AllocError, Global};
@@ -61,14 +62,14 @@ fn needed_mask<'a>(alloc: Global) -> Arg<'a>
 fn side_in(found: &ArgMatches<'_>) -> u8
     ensures { result ≡ number_in 0 255 0 (codes "SIDE") (rows_of (found_of found.now)) }
 {
-    found.get_one::<u8>("SIDE").unwrap_or(0)
+    number_in(found, "SIDE", 0, 255, 0) as u8
 }
 
 /// The tile mask that these matches of the command name.
 fn mask_in(found: &ArgMatches<'_>) -> u32
     ensures { result ≡ number_in 0 4294967295 0 (codes "MASK") (rows_of (found_of found.now)) }
 {
-    found.get_one::<u32>("MASK").unwrap_or(0)
+    number_in(found, "MASK", 0, 4_294_967_295, 0) as u32
 }
 
 /// What these matches of the command ask for.

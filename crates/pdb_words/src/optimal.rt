@@ -6,9 +6,9 @@ ghost use Rattle.clap.specs.declared.Command.TheViews.{out-Command};
 ghost use Rattle.pdb_words.specs.Asked.{HasBudget, HasWorkers, view};
 ghost use Rattle.pdb_words.specs.Optimal.{optimal_command, optimal_in};
 
-use crate::asked::{LogCheck, Request};
-use crate::files::{file_in, needed_file, tables_in, with_log};
-use crate::workers::workers_in;
+use crate::asked::Request;
+use crate::files::needed_file;
+use crate::log_checks::{check_in, with_claim};
 use clap::{ArgMatches, Command};
 use std::alloc::{AllocError, Global};
 
@@ -18,12 +18,10 @@ pub(crate) fn optimal_command<'a>(alloc: Global) -> Result<Command<'a>, AllocErr
     ensures local { IfOk result (λ c. (out-Command c).has_globals ≡ false) }
 {
     let puzzle = needed_file(alloc, "PUZZLE").help("A puzzle text");
-    let log = needed_file(alloc, "LOG").help("A log file");
     let command = Command::new(alloc, "optimal")
         .about("Says whether a log proves that the moves of a puzzle text are a shortest solution")
-        .override_usage("pdb_cli optimal [--workers N] PUZZLE SETS LOG TABLES..")
-        .arg(puzzle)?;
-    with_log(alloc, command, log)
+        .override_usage("pdb_cli optimal [--workers N] PUZZLE SETS LOG TABLES..");
+    with_claim(alloc, command, puzzle)
 }
 
 /// What these matches of the command ask for.
@@ -35,11 +33,5 @@ pub(crate) fn optimal_in<'a>(
     ensures workers { IfOk result (λ request. HasWorkers request) }
     ensures budget { IfOk result (λ request. HasBudget request) }
 {
-    Ok(Request::Optimal(LogCheck {
-        claim: file_in(found, "PUZZLE"),
-        sets: file_in(found, "SETS"),
-        log: file_in(found, "LOG"),
-        tables: tables_in(alloc, found)?,
-        workers: workers_in(found),
-    }))
+    Ok(Request::Optimal(check_in(alloc, found, "PUZZLE")?))
 }

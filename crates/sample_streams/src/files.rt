@@ -46,6 +46,7 @@ struct State {
     calls: Vec<Call>,
     failing_from: u64,
     failing_to: u64,
+    said: Option<u64>,
 }
 
 /// A file, which may be open and have no name any more. The first bytes of it are synced.
@@ -72,6 +73,7 @@ impl SampleFiles {
             calls: Vec::new(alloc),
             failing_from: 0,
             failing_to: 0,
+            said: None,
         });
         Ok(SampleFiles {
             alloc,
@@ -84,6 +86,13 @@ impl SampleFiles {
         if let Ok(mut state) = self.state.try_borrow_mut() {
             state.failing_from = from;
             state.failing_to = to;
+        }
+    }
+
+    /// From now on each open file is said to have so many bytes, whatever it has.
+    pub fn say(&self, size: u64) {
+        if let Ok(mut state) = self.state.try_borrow_mut() {
+            state.said = Some(size);
         }
     }
 
@@ -246,7 +255,8 @@ impl Seek for OpenSample {
 impl OpenFile for OpenSample {
     fn metadata(&self) -> io::Result<Metadata> {
         let mut state = called(&self.state, Call::Look)?;
-        Ok(Metadata::of_file(state.at(self.place)?.bytes.len() as u64))
+        let size = state.at(self.place)?.bytes.len() as u64;
+        Ok(Metadata::of_file(state.said.unwrap_or(size)))
     }
 
     fn set_len(&self, _size: u64) -> io::Result<()> {

@@ -1,13 +1,13 @@
 pub mod AnswerLemmas
-pub mod AnyLemmas
+mod AnyLemmas
 pub mod BundleLemmas
-pub mod CostLemmas
+mod CostLemmas
 pub mod DecidedLemmas
-pub mod LineLemmas
-pub mod LinesReadLemmas
+mod LineLemmas
+mod LinesReadLemmas
 pub mod ListLemmas
-pub mod NumeralLemmas
-pub mod ReadLemmas
+mod NumeralLemmas
+mod ReadLemmas
 pub mod SayLemmas
 pub mod SumLemmas
-pub mod TakenLemmas
+mod TakenLemmas

@@ -23,6 +23,7 @@ use Rattle.word_laws.proofs.LogWalkLemmas.{LogCommand, on_board, on_puzzle, on_s
 use Rattle.word_laws.proofs.NumberLemmas.{number_asked}
 use Rattle.word_laws.proofs.TablesLemmas.{gathering, last_fault, level_ends, tables_pass, tables_row}
 use Rattle.pdb_words.proofs.TextLemmas.{HasNoDash, has_no_dash}
+use Rattle.word_laws.specs.LogWords.{NamesLog}
 use Rattle.word_laws.proofs.WorkersLemmas.{accepted, accepted_budget, accepted_budget_is, accepted_is}
 
 -- what the words ask for, of so many workers and with such a budget
@@ -286,7 +287,7 @@ module _ (command : LogCommand) (claim sets log table : Text) (tables : List Tex
       passes = parses command words (level_ends (shape_of command) words _ (files_pass command claim sets log table tables names flags taken []) whole
           (end_pass claim sets log table tables room command flags taken))
 
-  pub files_asked : AsksFor (name_of command ∷ claim ∷ sets ∷ log ∷ table ∷ tables) (asks command claim sets log (table ∷ tables) 1 1000000)
+  files_asked : AsksFor (name_of command ∷ claim ∷ sets ∷ log ∷ table ∷ tables) (asks command claim sets log (table ∷ tables) 1 1000000)
   files_asked = asks_for none tt
 
   module _ (flag : Flag) (known : IsKnown command flag) (number : Text) (n : IsPlain number) where
@@ -336,6 +337,21 @@ module _ (command : LogCommand) (claim sets log table : Text) (tables : List Tex
       let whole = asks_for (both number other) taken in
       (whole.0, whole.1 ∙ ap₂ (asks command claim sets log (table ∷ tables)) (number_asked 1 64 1 number writes) (number_asked 1 1000000000000 1000000 other writes_other))
 
-pub no_tables : (command : LogCommand) (claim sets log : Text) → IsPlain claim → IsPlain sets → IsPlain log → IsMistaken (name_of command ∷ claim ∷ sets ∷ log ∷ [])
+no_tables : (command : LogCommand) (claim sets log : Text) → IsPlain claim → IsPlain sets → IsPlain log → IsMistaken (name_of command ∷ claim ∷ sets ∷ log ∷ [])
 no_tables command claim sets log f t l =
     is_mistaken command _ kind.MissingRequiredArgument (none_left claim sets log (has_no_dash claim f) (has_no_dash sets t) (has_no_dash log l) command) (λ e. cc)
+
+takes_workers : (command : LogCommand) → IsKnown command of_workers
+takes_workers on_board = tt
+takes_workers on_puzzle = tt
+takes_workers on_search = tt
+
+pub names_log : (command : LogCommand) → NamesLog (name_of command) (λ claim sets log tables n. asks command claim sets log tables n 1000000)
+names_log command = record {
+  files = λ claim sets log table tables names. files_asked command claim sets log table tables names;
+  no_tables = no_tables command;
+  workers = λ number claim sets log table tables n names. flag_asked command claim sets log table tables names of_workers (takes_workers command) number n;
+  other_workers = λ number claim sets log table tables n names. other_number command claim sets log table tables names of_workers (takes_workers command) number n;
+  workers_last = λ number claim sets log table tables n names. flag_last command claim sets log table tables names of_workers (takes_workers command) number n;
+  other_workers_last = λ number claim sets log table tables n names. other_last command claim sets log table tables names of_workers (takes_workers command) number n;
+}

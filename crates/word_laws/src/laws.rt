@@ -3,10 +3,11 @@
 ghost use Rattle.std.specs.Prelude.{◌≡◌, ◌≢◌, ◌∷◌, ◌++◌, [], ℕ, List, None, Some, codes, false, true};
 ghost use Rattle.std.specs.List.{All};
 ghost use Rattle.pdb_words.specs.Asked.{bound, optimal, replay, table};
-ghost use Rattle.pdb_words.specs.CommandLine.{AreNames, AsksFor, BeginsWithCommand, IsCommand, IsLongFlag, IsPlain, Parses, TakesFlag};
+ghost use Rattle.pdb_words.specs.CommandLine.{AsksFor, BeginsWithCommand, IsCommand, IsLongFlag, IsPlain, Parses, TakesFlag};
 ghost use Rattle.pdb_words.specs.Faults.{IsMistaken};
 ghost use Rattle.pdb_words.specs.Numbers.{number_of};
 ghost use Rattle.pdb_words.specs.Workers.{writes_workers};
+ghost use Rattle.word_laws.specs.LogWords.{NamesLog};
 
 /// No words, and `replay` alone, ask for standard input, and `replay` with a name for that file.
 pub fn what_replay_asks()
@@ -34,47 +35,13 @@ pub fn what_table_asks()
 /// `bound` with the names of a board, the sets, a log and one table or more asks whether the log proves its bound of
 /// the board: the tables in their order, checked by one worker, or by as many as `--workers` says, first or last.
 pub fn what_bound_asks()
-    ensures files { (board sets log table : List ℕ) (tables : List (List ℕ)) → AreNames (board ∷ sets ∷ log ∷ table ∷ tables)
-        → AsksFor (codes "bound" ∷ board ∷ sets ∷ log ∷ table ∷ tables) (bound board sets log (table ∷ tables) 1) }
-    ensures no_tables { (board sets log : List ℕ) → IsPlain board → IsPlain sets → IsPlain log
-        → IsMistaken (codes "bound" ∷ board ∷ sets ∷ log ∷ []) }
-    ensures workers { (number board sets log table : List ℕ) (tables : List (List ℕ)) → IsPlain number → AreNames (board ∷ sets ∷ log ∷ table ∷ tables)
-        → writes_workers number ≡ true
-        → AsksFor (codes "bound" ∷ codes "--workers" ∷ number ∷ board ∷ sets ∷ log ∷ table ∷ tables)
-        (bound board sets log (table ∷ tables) (number_of number)) }
-    ensures other_workers { (number board sets log table : List ℕ) (tables : List (List ℕ)) → IsPlain number → AreNames (board ∷ sets ∷ log ∷ table ∷ tables)
-        → writes_workers number ≡ false
-        → IsMistaken (codes "bound" ∷ codes "--workers" ∷ number ∷ board ∷ sets ∷ log ∷ table ∷ tables) }
-    ensures workers_last { (number board sets log table : List ℕ) (tables : List (List ℕ)) → IsPlain number → AreNames (board ∷ sets ∷ log ∷ table ∷ tables)
-        → writes_workers number ≡ true
-        → AsksFor (codes "bound" ∷ board ∷ sets ∷ log ∷ table ∷ tables ++ codes "--workers" ∷ number ∷ [])
-        (bound board sets log (table ∷ tables) (number_of number)) }
-    ensures other_workers_last { (number board sets log table : List ℕ) (tables : List (List ℕ)) → IsPlain number → AreNames (board ∷ sets ∷ log ∷ table ∷ tables)
-        → writes_workers number ≡ false
-        → IsMistaken (codes "bound" ∷ board ∷ sets ∷ log ∷ table ∷ tables ++ codes "--workers" ∷ number ∷ []) }
+    ensures { NamesLog (codes "bound") bound }
 {}
 
 /// `optimal` asks in the same words, with a puzzle text first, whether the log proves that its moves are a shortest
 /// solution.
 pub fn what_optimal_asks()
-    ensures files { (puzzle sets log table : List ℕ) (tables : List (List ℕ)) → AreNames (puzzle ∷ sets ∷ log ∷ table ∷ tables)
-        → AsksFor (codes "optimal" ∷ puzzle ∷ sets ∷ log ∷ table ∷ tables) (optimal puzzle sets log (table ∷ tables) 1) }
-    ensures no_tables { (puzzle sets log : List ℕ) → IsPlain puzzle → IsPlain sets → IsPlain log
-        → IsMistaken (codes "optimal" ∷ puzzle ∷ sets ∷ log ∷ []) }
-    ensures workers { (number puzzle sets log table : List ℕ) (tables : List (List ℕ)) → IsPlain number → AreNames (puzzle ∷ sets ∷ log ∷ table ∷ tables)
-        → writes_workers number ≡ true
-        → AsksFor (codes "optimal" ∷ codes "--workers" ∷ number ∷ puzzle ∷ sets ∷ log ∷ table ∷ tables)
-        (optimal puzzle sets log (table ∷ tables) (number_of number)) }
-    ensures other_workers { (number puzzle sets log table : List ℕ) (tables : List (List ℕ)) → IsPlain number → AreNames (puzzle ∷ sets ∷ log ∷ table ∷ tables)
-        → writes_workers number ≡ false
-        → IsMistaken (codes "optimal" ∷ codes "--workers" ∷ number ∷ puzzle ∷ sets ∷ log ∷ table ∷ tables) }
-    ensures workers_last { (number puzzle sets log table : List ℕ) (tables : List (List ℕ)) → IsPlain number → AreNames (puzzle ∷ sets ∷ log ∷ table ∷ tables)
-        → writes_workers number ≡ true
-        → AsksFor (codes "optimal" ∷ puzzle ∷ sets ∷ log ∷ table ∷ tables ++ codes "--workers" ∷ number ∷ [])
-        (optimal puzzle sets log (table ∷ tables) (number_of number)) }
-    ensures other_workers_last { (number puzzle sets log table : List ℕ) (tables : List (List ℕ)) → IsPlain number → AreNames (puzzle ∷ sets ∷ log ∷ table ∷ tables)
-        → writes_workers number ≡ false
-        → IsMistaken (codes "optimal" ∷ puzzle ∷ sets ∷ log ∷ table ∷ tables ++ codes "--workers" ∷ number ∷ []) }
+    ensures { NamesLog (codes "optimal") optimal }
 {}
 
 /// Words that parse begin with a command of the program, and give no flag but those that their command takes:

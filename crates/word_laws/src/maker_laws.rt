@@ -8,6 +8,7 @@ ghost use Rattle.pdb_words.specs.Faults.{IsMistaken};
 ghost use Rattle.pdb_words.specs.MakeTable.{writes_mask, writes_side};
 ghost use Rattle.pdb_words.specs.Numbers.{number_of};
 ghost use Rattle.pdb_words.specs.Workers.{writes_workers};
+ghost use Rattle.word_laws.specs.LogWords.{NamesLog};
 
 /// `make-table` with a side, a tile mask and a name asks for the table of that pattern under that name: a side from 0
 /// to 255, a mask from 0 to 4,294,967,295, and one worker, or as many as `--workers` says, first or last.
@@ -39,17 +40,7 @@ pub fn what_make_table_asks()
 /// solution of the board: the tables in their order, one worker, or as many as `--workers` says, and 1,000,000 boards,
 /// or as many as `--budget` says, first or last.
 pub fn what_solve_asks()
-    ensures files { (board sets out table : List ℕ) (tables : List (List ℕ)) → AreNames (board ∷ sets ∷ out ∷ table ∷ tables)
-        → AsksFor (codes "solve" ∷ board ∷ sets ∷ out ∷ table ∷ tables) (solve board sets out (table ∷ tables) 1 1000000) }
-    ensures no_tables { (board sets out : List ℕ) → IsPlain board → IsPlain sets → IsPlain out
-        → IsMistaken (codes "solve" ∷ board ∷ sets ∷ out ∷ []) }
-    ensures workers { (number board sets out table : List ℕ) (tables : List (List ℕ)) → IsPlain number → AreNames (board ∷ sets ∷ out ∷ table ∷ tables)
-        → writes_workers number ≡ true
-        → AsksFor (codes "solve" ∷ codes "--workers" ∷ number ∷ board ∷ sets ∷ out ∷ table ∷ tables)
-        (solve board sets out (table ∷ tables) (number_of number) 1000000) }
-    ensures other_workers { (number board sets out table : List ℕ) (tables : List (List ℕ)) → IsPlain number → AreNames (board ∷ sets ∷ out ∷ table ∷ tables)
-        → writes_workers number ≡ false
-        → IsMistaken (codes "solve" ∷ codes "--workers" ∷ number ∷ board ∷ sets ∷ out ∷ table ∷ tables) }
+    ensures workers { NamesLog (codes "solve") (λ board sets out tables workers. solve board sets out tables workers 1000000) }
     ensures budget { (number board sets out table : List ℕ) (tables : List (List ℕ)) → IsPlain number → AreNames (board ∷ sets ∷ out ∷ table ∷ tables)
         → writes_budget number ≡ true
         → AsksFor (codes "solve" ∷ codes "--budget" ∷ number ∷ board ∷ sets ∷ out ∷ table ∷ tables)
@@ -61,13 +52,6 @@ pub fn what_solve_asks()
         → AreNames (board ∷ sets ∷ out ∷ table ∷ tables) → writes_workers number ≡ true → writes_budget budget ≡ true
         → AsksFor (codes "solve" ∷ codes "--workers" ∷ number ∷ codes "--budget" ∷ budget ∷ board ∷ sets ∷ out ∷ table ∷ tables)
         (solve board sets out (table ∷ tables) (number_of number) (number_of budget)) }
-    ensures workers_last { (number board sets out table : List ℕ) (tables : List (List ℕ)) → IsPlain number → AreNames (board ∷ sets ∷ out ∷ table ∷ tables)
-        → writes_workers number ≡ true
-        → AsksFor (codes "solve" ∷ board ∷ sets ∷ out ∷ table ∷ tables ++ codes "--workers" ∷ number ∷ [])
-        (solve board sets out (table ∷ tables) (number_of number) 1000000) }
-    ensures other_workers_last { (number board sets out table : List ℕ) (tables : List (List ℕ)) → IsPlain number → AreNames (board ∷ sets ∷ out ∷ table ∷ tables)
-        → writes_workers number ≡ false
-        → IsMistaken (codes "solve" ∷ board ∷ sets ∷ out ∷ table ∷ tables ++ codes "--workers" ∷ number ∷ []) }
     ensures budget_last { (number board sets out table : List ℕ) (tables : List (List ℕ)) → IsPlain number → AreNames (board ∷ sets ∷ out ∷ table ∷ tables)
         → writes_budget number ≡ true
         → AsksFor (codes "solve" ∷ board ∷ sets ∷ out ∷ table ∷ tables ++ codes "--budget" ∷ number ∷ [])

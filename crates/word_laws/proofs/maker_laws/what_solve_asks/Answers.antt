@@ -1,19 +1,14 @@
 use Rattle.std.proofs.Common.{refl}
 use Rattle.word_laws.proofs.LogWalkLemmas.{on_search}
-use Rattle.word_laws.proofs.LogLemmas.{both_asked, files_asked, flag_asked, flag_last, no_tables, of_budget, of_workers, other_last, other_number}
+use Rattle.word_laws.proofs.LogLemmas.{both_asked, flag_asked, flag_last, names_log, of_budget, other_last, other_number}
 use Rattle.word_laws.proofs.maker_laws.what_solve_asks.Goals as goal
 
 pub returns : goal.returns
 returns c = record {
-  files = λ board sets out table tables names. files_asked on_search board sets out table tables names;
-  no_tables = no_tables on_search;
-  workers = λ number board sets out table tables n names. flag_asked on_search board sets out table tables names of_workers tt number n;
-  other_workers = λ number board sets out table tables n names. other_number on_search board sets out table tables names of_workers tt number n;
+  workers = names_log on_search;
   budget = λ number board sets out table tables n names. flag_asked on_search board sets out table tables names of_budget tt number n;
   other_budget = λ number board sets out table tables n names. other_number on_search board sets out table tables names of_budget tt number n;
   both = λ number budget board sets out table tables n m names. both_asked on_search board sets out table tables names refl number budget n m;
-  workers_last = λ number board sets out table tables n names. flag_last on_search board sets out table tables names of_workers tt number n;
-  other_workers_last = λ number board sets out table tables n names. other_last on_search board sets out table tables names of_workers tt number n;
   budget_last = λ number board sets out table tables n names. flag_last on_search board sets out table tables names of_budget tt number n;
   other_budget_last = λ number board sets out table tables n names. other_last on_search board sets out table tables names of_budget tt number n;
 }

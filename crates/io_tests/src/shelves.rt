@@ -1,10 +1,10 @@
 //! Shelves over memory, and over real files.
 
-use super::sample_bytes;
-use crate::disk::DiskShelf;
-use crate::memory::MemShelf;
-use crate::shelf::Shelf;
-use crate::streams::ReadFault;
+use crate::bytes::sample_bytes;
+use pdb_io::disk::DiskShelf;
+use pdb_io::memory::MemShelf;
+use pdb_io::shelf::Shelf;
+use pdb_io::streams::ReadFault;
 use std::fs;
 use std::test::Fail;
 

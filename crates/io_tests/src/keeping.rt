@@ -1,9 +1,9 @@
 //! Shelves that keep: over memory, over a system whose calls fail, and over real files.
 
-use super::sample_bytes;
-use crate::disk::DiskShelf;
-use crate::memory::MemShelf;
-use crate::shelf::{KeepFault, Shelf};
+use crate::bytes::sample_bytes;
+use pdb_io::disk::DiskShelf;
+use pdb_io::memory::MemShelf;
+use pdb_io::shelf::{KeepFault, Shelf};
 use sample_streams::{Call, SampleFiles};
 use std::fs;
 use std::io::Read;

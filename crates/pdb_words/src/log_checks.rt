@@ -1,0 +1,46 @@
+//! What `bound` and `optimal` share: the words that name a claim and its log.
+
+ghost use Rattle.std.specs.Prelude.{◌≡◌, ◌≤◌, IfOk, codes, false};
+ghost use Rattle.clap.specs.Words.{app_of, found_of, rows_of, rule_of, with_rule};
+ghost use Rattle.clap.specs.declared.Command.TheViews.{out-Command};
+ghost use Rattle.pdb_words.specs.Asked.{AsksCheck, asks_check};
+ghost use Rattle.pdb_words.specs.Files.{needed_file, with_log};
+ghost use Rattle.pdb_words.specs.LogChecks.{check_in};
+
+use crate::asked::LogCheck;
+use crate::files::{file_in, needed_file, tables_in, with_argument, with_log};
+use crate::workers::workers_in;
+use clap::{Arg, ArgMatches, Command};
+use std::alloc::{AllocError, Global};
+
+/// A command with the file of its claim, `SETS LOG TABLES..` and the flag `--workers`.
+pub(crate) fn with_claim<'a>(
+    alloc: Global,
+    command: Command<'a>,
+    claim: Arg<'a>,
+) -> Result<Command<'a>, AllocError>
+    requires { claim.global ≡ false }
+    ensures app { IfOk result (λ c. app_of c ≡ with_log (with_rule (app_of command.entry) (rule_of claim.entry)) (needed_file (codes "LOG"))) }
+    ensures local { IfOk result (λ c. (out-Command c).has_globals ≡ (out-Command command.entry).has_globals) }
+{
+    let log = needed_file(alloc, "LOG").help("A log file");
+    with_log(alloc, with_argument(command, claim)?, log)
+}
+
+/// The check that these matches of a command ask for, whose claim stands under this id.
+pub(crate) fn check_in<'a>(
+    alloc: Global,
+    found: &ArgMatches<'a>,
+    claim: &str,
+) -> Result<LogCheck<'a>, AllocError>
+    ensures asked { IfOk result (λ check. (asks : AsksCheck) → asks_check asks check ≡ check_in asks claim.now (rows_of (found_of found.now))) }
+    ensures workers { IfOk result (λ check. (1 ≤ check.workers) × (check.workers ≤ 64)) }
+{
+    Ok(LogCheck {
+        claim: file_in(found, claim),
+        sets: file_in(found, "SETS"),
+        log: file_in(found, "LOG"),
+        tables: tables_in(alloc, found)?,
+        workers: workers_in(found),
+    })
+}

@@ -1,0 +1,38 @@
+//! Numbers, as words write them.
+
+ghost use Rattle.std.specs.Prelude.{◌≡◌, ◌≤◌, false};
+ghost use Rattle.clap.specs.Words.{found_of, rows_of, rule_of};
+ghost use Rattle.pdb_words.specs.Numbers.{number_flag, number_in};
+
+use clap::builder::ValueParser;
+use clap::{Arg, ArgMatches};
+use std::alloc::Global;
+
+/// The flag `--NAME N`, for `clap`: a number that this parser takes, and without the flag the usual one.
+pub(crate) fn number_flag<'a>(
+    alloc: Global,
+    name: &'a str,
+    parser: ValueParser<'a>,
+    usual: &'a str,
+) -> Arg<'a>
+    ensures rule { rule_of result ≡ number_flag name.entry.now parser.entry usual.entry.now }
+    ensures local { result.global ≡ false }
+{
+    Arg::new(alloc, name)
+        .long(name)
+        .value_name("N")
+        .value_parser(parser)
+        .default_value(usual)
+}
+
+/// The number that these matches of a command have under an id, or the usual one where they have none from low to high.
+pub(crate) fn number_in(found: &ArgMatches<'_>, id: &str, low: u64, high: u64, usual: u64) -> u64
+    requires { (low ≤ usual) × (usual ≤ high) }
+    ensures asked { result ≡ number_in low high usual id.now (rows_of (found_of found.now)) }
+    ensures within { (low ≤ result) × (result ≤ high) }
+{
+    match found.get_one::<u64>(id) {
+        Some(number) if low <= number && number <= high => number,
+        _ => usual,
+    }
+}
