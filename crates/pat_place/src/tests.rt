@@ -1,9 +1,8 @@
 ghost use Rattle.std.specs.Prelude.{◌≡◌, ◌<◌, ◌↔◌, IsTrue};
 ghost use Rattle.std.specs.Int.{bit_at};
 
-use crate::{Pattern, Placement, SlotTable, masks, next, rank, regions, slot_of, unrank};
+use crate::{Pattern, Placement, masks, next, rank, regions, slot_of, unrank};
 use puz_board::{Board, Side};
-use std::alloc::Global;
 use std::process::Abort;
 
 /// The pattern of a side and a mask, where they are one.
@@ -283,72 +282,4 @@ fn slots_are_regions_by_least_cell(rt: HostRuntime) {
     for (cell, want) in (0..).zip(slots) {
         assert_eq!(rt; slot_at(&placement, cell), want, "cell {cell}");
     }
-}
-
-/// The slot of a cell in a table for this pattern, where the cell is free and the placement's cells are kept.
-fn kept_slot_at(alloc: Global, pattern: &Pattern, placement: &Placement, cell: u8) -> Option<u8> {
-    if pattern.side() != placement.pattern().side() || slot_at(placement, cell).is_none() {
-        return None;
-    }
-    SlotTable::build(alloc, pattern).ok()?.slot(placement, cell)
-}
-
-#[test]
-fn kept_slots_are_regions_by_least_cell(rt: HostRuntime) {
-    let placements: [(u8, u32, &[u8], &[Option<u8>]); 3] = [
-        (2, 6, &[1, 0, 3, 2], &[None, Some(0), Some(1), None]),
-        (
-            3,
-            30,
-            &[0, 1, 5, 2, 6, 3, 7, 4, 8],
-            &[
-                Some(0),
-                None,
-                Some(1),
-                None,
-                Some(2),
-                None,
-                Some(3),
-                None,
-                Some(4),
-            ],
-        ),
-        (
-            3,
-            14,
-            &[4, 1, 0, 2, 3, 5, 6, 7, 8],
-            &[
-                Some(0),
-                None,
-                Some(1),
-                None,
-                None,
-                Some(1),
-                Some(1),
-                Some(1),
-                Some(1),
-            ],
-        ),
-    ];
-    for (n, mask, board, slots) in placements {
-        let pattern = pattern_with(&rt, n, mask);
-        let placement = on_board(&rt, &pattern, board);
-        for (cell, want) in (0..).zip(slots) {
-            let slot = kept_slot_at(rt.alloc(), &pattern, &placement, cell);
-            assert_eq!(rt; slot, *want, "side {n}, mask {mask}, cell {cell}");
-        }
-    }
-}
-
-#[test]
-fn slots_are_kept_for_one_number_of_tiles(rt: HostRuntime) {
-    let two = pattern_with(&rt, 2, 6);
-    let other_two = pattern_with(&rt, 2, 12);
-    let placement = on_board(&rt, &two, &[1, 0, 3, 2]);
-    assert_eq!(rt;
-        kept_slot_at(rt.alloc(), &other_two, &placement, 2),
-        Some(1)
-    );
-    let three = pattern_with(&rt, 2, 14);
-    assert_eq!(rt; kept_slot_at(rt.alloc(), &three, &placement, 2), None);
 }
