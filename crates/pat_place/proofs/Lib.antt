@@ -5,7 +5,7 @@ pub mod JoinLemmas
 pub mod ListLemmas
 pub mod MaskLemmas
 mod MaskOfLemmas
-pub mod NextLemmas
+mod NextLemmas
 pub mod PatternLemmas
 pub mod PlacementLemmas
 pub mod RankLemmas

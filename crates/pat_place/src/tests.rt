@@ -1,8 +1,9 @@
 ghost use Rattle.std.specs.Prelude.{◌≡◌, ◌<◌, ◌↔◌, IsTrue};
 ghost use Rattle.std.specs.Int.{bit_at};
 
-use crate::{Pattern, Placement, masks, next, rank, regions, slot_of, unrank};
+use crate::{Pattern, Placement, SlotTable, masks, next, rank, regions, slot_of, unrank};
 use puz_board::{Board, Side};
+use std::alloc::Global;
 use std::process::Abort;
 
 /// The pattern of a side and a mask, where they are one.
@@ -281,5 +282,63 @@ fn slots_are_regions_by_least_cell(rt: HostRuntime) {
     let slots = [None, Some(0), Some(1), None, None];
     for (cell, want) in (0..).zip(slots) {
         assert_eq!(rt; slot_at(&placement, cell), want, "cell {cell}");
+    }
+}
+
+/// The slot of a cell that a table for the placement's pattern keeps, where the cell is free.
+fn kept_slot_at(alloc: Global, placement: &Placement, cell: u8) -> Option<u8> {
+    let pattern = placement.pattern();
+    if cell >= pattern.side().cells() || is_in(placement.occupied(), cell) {
+        return None;
+    }
+    match SlotTable::build(alloc, &pattern) {
+        Ok(kept) => kept.slot(placement, cell),
+        Err(_) => None,
+    }
+}
+
+#[test]
+fn kept_slots_are_regions_by_least_cell(rt: HostRuntime) {
+    let placements: [(u8, u32, &[u8], &[Option<u8>]); 3] = [
+        (2, 6, &[1, 0, 3, 2], &[None, Some(0), Some(1), None]),
+        (
+            3,
+            30,
+            &[0, 1, 5, 2, 6, 3, 7, 4, 8],
+            &[
+                Some(0),
+                None,
+                Some(1),
+                None,
+                Some(2),
+                None,
+                Some(3),
+                None,
+                Some(4),
+            ],
+        ),
+        (
+            3,
+            14,
+            &[4, 1, 0, 2, 3, 5, 6, 7, 8],
+            &[
+                Some(0),
+                None,
+                Some(1),
+                None,
+                None,
+                Some(1),
+                Some(1),
+                Some(1),
+                Some(1),
+            ],
+        ),
+    ];
+    for (n, mask, board, slots) in placements {
+        let placement = on_board(&rt, &pattern_with(&rt, n, mask), board);
+        for (cell, want) in (0..).zip(slots) {
+            let slot = kept_slot_at(rt.alloc(), &placement, cell);
+            assert_eq!(rt; slot, *want, "side {n}, mask {mask}, cell {cell}");
+        }
     }
 }

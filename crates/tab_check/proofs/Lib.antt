@@ -2,20 +2,20 @@ pub mod AnswerLemmas
 pub mod BlockLemmas
 pub mod CaseLemmas
 pub mod ColumnLemmas
-pub mod DecidedLemmas
+mod DecidedLemmas
 pub mod EntryLemmas
-pub mod ExactLemmas
+mod ExactLemmas
 mod FloodLemmas
-pub mod JobLemmas
+mod JobLemmas
 pub mod LookLemmas
 pub mod MoveLemmas
-pub mod NearLemmas
-pub mod NearestLemmas
+mod NearLemmas
+mod NearestLemmas
 pub mod OneEntryLemmas
 pub mod OneResultLemmas
-pub mod RuleLemmas
-pub mod StepLemmas
-pub mod TableLemmas
-pub mod TowardsLemmas
+mod RuleLemmas
+mod StepLemmas
+mod TableLemmas
+mod TowardsLemmas
 pub mod ValueLemmas
-pub mod Values
+mod Values

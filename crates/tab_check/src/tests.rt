@@ -79,6 +79,18 @@ fn look<R: Threads + Wait + AllocGlobal>(rt: &R, file: &[u8], numbers: &[u8]) ->
     }
 }
 
+/// As `look`, by a table that keeps its slots.
+fn look_by_slots<R: Threads + Wait + AllocGlobal>(
+    rt: &R,
+    file: &[u8],
+    numbers: &[u8],
+) -> Option<Count> {
+    match checked(rt, file) {
+        Ok(table) => told(&table.with_slots(rt.alloc()), numbers),
+        Err(_) => None,
+    }
+}
+
 #[test]
 fn exact_tables_are_accepted_and_counted(rt: HostRuntime) {
     let tables: [(&[u8], u64, u64, u8); 5] = [
@@ -110,6 +122,7 @@ fn boards_are_looked_up(rt: HostRuntime) {
     ];
     for (file, numbers, want) in looks {
         assert_eq!(rt; look(&rt, file, &numbers), Some(want), "{numbers:?}");
+        assert_eq!(rt; look_by_slots(&rt, file, &numbers), Some(want), "{numbers:?}");
     }
 }
 

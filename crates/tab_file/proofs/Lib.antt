@@ -1,4 +1,4 @@
-pub mod FaultLemmas
+mod FaultLemmas
 pub mod FileLemmas
 mod HeaderLemmas
 mod TableLemmas

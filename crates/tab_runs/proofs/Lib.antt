@@ -1,18 +1,18 @@
-pub mod CheckLemmas
-pub mod EntriesLemmas
-pub mod KindLemmas
-pub mod LoopLemmas
-pub mod MaskLemmas
-pub mod MaskRunLemmas
-pub mod PartLemmas
-pub mod RowLemmas
-pub mod RunLemmas
-pub mod RunRanks
-pub mod ServingLemmas
-pub mod SetLemmas
-pub mod SetRowLemmas
-pub mod StepLemmas
-pub mod TableLemmas
-pub mod TableRowLemmas
-pub mod TakenLemmas
-pub mod TileLemmas
+mod CheckLemmas
+mod EntriesLemmas
+mod KindLemmas
+mod LoopLemmas
+mod MaskLemmas
+mod MaskRunLemmas
+mod PartLemmas
+mod RowLemmas
+mod RunLemmas
+mod RunRanks
+mod ServingLemmas
+mod SetLemmas
+mod SetRowLemmas
+mod StepLemmas
+mod TableLemmas
+mod TableRowLemmas
+mod TakenLemmas
+mod TileLemmas
