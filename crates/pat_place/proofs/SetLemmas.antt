@@ -1,5 +1,5 @@
 -- Placements of one set of cells: their cells ascending, and slots, which depend on the set alone.
-use Rattle.std.proofs.Common.{◌≡◌, ℕ, zero, suc, ◌*◌, ◌^◌, ◌<◌, ◌≤◌, true, List, length, inl, inr, sym, ◌∙◌, subst, arith}
+use Rattle.std.proofs.Common.{◌≡◌, ℕ, zero, suc, ◌*◌, ◌^◌, ◌<◌, ◌≤◌, true, List, length, inl, inr, sym, ◌∙◌, arith}
 use Rattle.std.specs.Prelude.{count_ones}
 use Rattle.puz_board.specs.Masks.{IsMaskOf, numbers_of}
 use Rattle.puz_board.proofs.BitLemmas.{in_below}

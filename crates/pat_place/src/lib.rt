@@ -4,7 +4,7 @@
 pub mod board_laws;
 mod flood;
 pub mod laws;
-mod masks;
+pub mod masks;
 mod patterns;
 mod placements;
 mod ranks;
@@ -16,6 +16,7 @@ mod tests;
 
 pub use patterns::Pattern;
 pub use placements::Placement;
-pub use ranks::{next, rank, unrank};
+pub use ranks::{next, rank, rank_among, unrank};
+pub use set_numbers::SetNumbers;
 pub use slot_tables::SlotTable;
 pub use slots::{free_cells, regions, slot_of};

@@ -8,7 +8,7 @@ use arrayvec::ArrayVec;
 
 /// The numbers below `count`.
 #[inline]
-pub(crate) fn all_below(count: u8) -> u32
+pub fn all_below(count: u8) -> u32
     requires { count < 32 }
     ensures { result ≡ 2 ^ count - 1 }
 {
@@ -17,7 +17,7 @@ pub(crate) fn all_below(count: u8) -> u32
 
 /// The mask with one number more.
 #[inline]
-pub(crate) fn with(mask: u32, number: u8) -> u32
+pub fn with(mask: u32, number: u8) -> u32
     requires { number < 32 }
     ensures here { bit_at result number ≡ 1 }
     ensures others { (x : ℕ) → x ≢ number → bit_at result x ≡ bit_at mask x }
@@ -27,7 +27,7 @@ pub(crate) fn with(mask: u32, number: u8) -> u32
 
 /// The mask without one number.
 #[inline]
-pub(crate) fn without(mask: u32, number: u8) -> u32
+pub fn without(mask: u32, number: u8) -> u32
     requires { number < 32 }
     ensures here { bit_at result number ≡ 0 }
     ensures others { (x : ℕ) → x < 32 → x ≢ number → bit_at result x ≡ bit_at mask x }
@@ -48,7 +48,7 @@ pub(crate) fn above(mask: u32, number: u8) -> u32
 
 /// The least number of the mask.
 #[inline]
-pub(crate) fn first_of(mask: u32) -> u8
+pub fn first_of(mask: u32) -> u8
     requires { 0 < mask }
     ensures within { result < 32 }
     ensures here { bit_at mask result ≡ 1 }
@@ -59,7 +59,7 @@ pub(crate) fn first_of(mask: u32) -> u8
 
 /// How many numbers of the mask are below `number`.
 #[inline]
-pub(crate) fn count_below(mask: u32, number: u8) -> u8
+pub fn count_below(mask: u32, number: u8) -> u8
     requires { number < 32 }
     ensures count { result ≡ ones_below mask number }
     ensures few { result ≤ number }

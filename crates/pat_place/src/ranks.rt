@@ -23,7 +23,8 @@ pub fn rank(placement: &Placement) -> u64
 }
 
 /// The place of a list of cells among all of its length, on a board of `count` cells.
-fn rank_among(cells: &[u8], count: u8) -> u64
+#[inline(always)]
+pub fn rank_among(cells: &[u8], count: u8) -> u64
     requires small { count ≤ 25 }
     requires few { length cells.now ≤ 8 }
     requires inside { AllByRecursion (λ c. c < count) cells.now }

@@ -11,14 +11,14 @@ const HIGH: u32 = 12;
 /// The places of sets of cells in a list of masks that has all sets of one size, ascending. Each place is the sum of two
 /// numbers, by the set's low cells and by the others. That a number is the right one is for the caller to see.
 #[derive(Drop)]
-pub(crate) struct SetNumbers {
+pub struct SetNumbers {
     low: Vec<u32>,
     high: Vec<u32>,
 }
 
 impl SetNumbers {
     /// The numbers of these sets.
-    pub(crate) fn of_sets(alloc: Global, sets: &[u32]) -> Result<SetNumbers, AllocError> {
+    pub fn of_sets(alloc: Global, sets: &[u32]) -> Result<SetNumbers, AllocError> {
         let mut low_numbers = vec![in alloc; 0; 1 << LOW]?;
         let mut high_numbers = vec![in alloc; 0; 1 << HIGH]?;
         let mut number: u32 = 0;
@@ -43,7 +43,7 @@ impl SetNumbers {
 
     /// The number of a set. A set that isn't one of them has any number.
     #[inline]
-    pub(crate) fn number_of(&self, set: u32) -> usize {
+    pub fn number_of(&self, set: u32) -> usize {
         let low = self.low.get((set % (1 << LOW)) as usize);
         let high = self.high.get((set >> LOW) as usize);
         let low = low.copied().unwrap_or(0);

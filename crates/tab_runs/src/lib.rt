@@ -7,7 +7,6 @@ mod checks;
 mod kernels;
 mod masks;
 mod near;
-mod numbers;
 mod rows;
 mod runs;
 mod set_rows;

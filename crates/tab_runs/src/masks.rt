@@ -1,62 +1,12 @@
 //! Masks of 32 bits: bit x stands for the number x.
 
-ghost use Rattle.std.specs.Prelude.{◌≡◌, ◌≢◌, ℕ, ◌-◌, ◌^◌, ◌<◌, ◌≤◌, ◌↔◌, IsTrue, MatchOption, length};
+ghost use Rattle.std.specs.Prelude.{◌≡◌, ℕ, ◌<◌, ◌≤◌, ◌↔◌, IsTrue, MatchOption, length};
 ghost use Rattle.std.specs.Int.{bit_at};
-ghost use Rattle.puz_board.specs.Masks.{numbers_of, ones_below};
+ghost use Rattle.puz_board.specs.Masks.{numbers_of};
 ghost use Rattle.tab_runs.specs.Outside.{IsLastOutside};
 
 use arrayvec::ArrayVec;
-
-/// The numbers below `count`.
-#[inline]
-pub(crate) fn all_below(count: u8) -> u32
-    requires { count < 32 }
-    ensures { result ≡ 2 ^ count - 1 }
-{
-    (1 << count) - 1
-}
-
-/// The mask with one number more.
-#[inline]
-pub(crate) fn with(mask: u32, number: u8) -> u32
-    requires { number < 32 }
-    ensures here { bit_at result number ≡ 1 }
-    ensures others { (x : ℕ) → x ≢ number → bit_at result x ≡ bit_at mask x }
-{
-    mask | 1 << number
-}
-
-/// The mask without one number.
-#[inline]
-pub(crate) fn without(mask: u32, number: u8) -> u32
-    requires { number < 32 }
-    ensures here { bit_at result number ≡ 0 }
-    ensures others { (x : ℕ) → x < 32 → x ≢ number → bit_at result x ≡ bit_at mask x }
-    ensures least { result ≤ mask }
-{
-    mask & !(1 << number)
-}
-
-/// The least number of the mask.
-#[inline]
-pub(crate) fn first_of(mask: u32) -> u8
-    requires { 0 < mask }
-    ensures within { result < 32 }
-    ensures here { bit_at mask result ≡ 1 }
-    ensures lowest { (x : ℕ) → x < result → bit_at mask x ≡ 0 }
-{
-    mask.trailing_zeros() as u8
-}
-
-/// How many numbers of the mask are below `number`.
-#[inline]
-pub(crate) fn count_below(mask: u32, number: u8) -> u8
-    requires { number < 32 }
-    ensures count { result ≡ ones_below mask number }
-    ensures few { result ≤ number }
-{
-    (mask & all_below(number)).count_ones() as u8
-}
+pub(crate) use pat_place::masks::{all_below, first_of, with, without};
 
 /// Whether the mask has a number.
 #[inline]

@@ -11,8 +11,7 @@ ghost use Rattle.tab_runs.specs.SetRows.{AreRowsUpTo, IsColumn};
 ghost use Rattle.tab_runs.specs.StoredRows.{AreAllKinds, AreAllRows, entries_of_run};
 
 use crate::masks;
-use crate::runs::rank_of;
-use pat_place::{Pattern, next, regions, unrank};
+use pat_place::{Pattern, next, rank_among, regions, unrank};
 use std::alloc::{AllocError, Global};
 use tab_lanes::OTHER_SLOT;
 
@@ -78,7 +77,7 @@ fn fill_rows(pattern: &Pattern, cells: &[u8], set: u32, set_rows: &mut [u8], kin
     let count = pattern.side().cells();
     let width = pattern.width();
     let run = u64::from(count) - cells.len() as u64;
-    let first = rank_of(cells, count) * run;
+    let first = rank_among(cells, count) * run;
     let mut placement = unrank(pattern, first);
     let mut free: u8 = 0;
     for last in 0..count {

@@ -1,4 +1,4 @@
-use Rattle.std.proofs.Common.{◌≡◌, ◌*◌, ◌<◌, ◌∷◌, ◌++◌, [], length, take, sym, ◌∙◌, ap, ap₂, subst, arith}
+use Rattle.std.proofs.Common.{◌≡◌, ◌*◌, ◌<◌, ◌∷◌, ◌++◌, [], length, take, sym, ◌∙◌, ap₂, subst, arith}
 use Rattle.std.proofs.lemmas.List.{get_or-take, length-take-le}
 use Rattle.puz_board.proofs.CellLemmas.{few_cells}
 use Rattle.pat_place.specs.StoredSlots.{AreAllSlots, AreSlots}

@@ -1,4 +1,4 @@
-use Rattle.std.proofs.Common.{◌≡◌, ◌+◌, ◌*◌, ◌<◌, ◌≤◌, length, set, sym, ◌∙◌, ap, ap₂, subst, arith, length-set}
+use Rattle.std.proofs.Common.{◌≡◌, ◌+◌, ◌*◌, ◌<◌, length, set, sym, ◌∙◌, ap, ap₂, subst, arith, length-set}
 use Rattle.puz_board.proofs.CellLemmas.{few_cells}
 use Rattle.pat_place.specs.Regions.{AreRegions}
 use Rattle.pat_place.proofs.SlotTableLemmas.{AreSlotsUpTo, slots_set, slots_skip}

@@ -5,10 +5,10 @@ use Rattle.pat_place.proofs.PatternLemmas.{few_tiles}
 use Rattle.puz_board.proofs.CellLemmas.{few_cells}
 use Rattle.tab_runs.proofs.EntriesLemmas.{AreNumbers, are_numbers, file_small, run_few, run_slice, run_within}
 use Rattle.tab_runs.proofs.runs.run_entries.Goals as goal
-use Rattle.tab_runs.proofs.runs.run_entries.Goals.{After-rank_of}
+use Rattle.tab_runs.proofs.runs.run_entries.Goals.{After-rank_among}
 
-pub rank_of-requires : goal.rank_of-requires
-rank_of-requires c =
+pub rank_among-requires : goal.rank_among-requires
+rank_among-requires c =
     let t = c.args.table.now in
     let side : c.side.result ≡ t.pattern.side = c.side.ensures.side ∙ ap (λ q. q.side) c.pattern-pattern.ensures.pattern in
     let cells : c.cells-count.result ≡ t.pattern.side * t.pattern.side = c.cells-count.ensures.value ∙ ap₂ (λ m n. m * n) side side in
@@ -20,18 +20,18 @@ rank_of-requires c =
       apart = c.requires.run.apart;
     }
 
-are : (c : After-rank_of) → AreNumbers c.args.table.now c.args.cells.now c.rank_of.result (c.from.result - length c.args.cells.now) c.from-width.result
-are c = are_numbers c.args.table.now c.pattern-pattern.result c.args.cells.now c.side.result c.cells-count.result c.from.result c.width.result c.from-width.result c.rank_of.result
-    c.pattern-pattern.ensures.pattern c.side.ensures.side c.cells-count.ensures.value c.from.ensures c.width.ensures c.from-width.ensures c.rank_of.ensures
+are : (c : After-rank_among) → AreNumbers c.args.table.now c.args.cells.now c.rank_among.result (c.from.result - length c.args.cells.now) c.from-width.result
+are c = are_numbers c.args.table.now c.pattern-pattern.result c.args.cells.now c.side.result c.cells-count.result c.from.result c.width.result c.from-width.result c.rank_among.result
+    c.pattern-pattern.ensures.pattern c.side.ensures.side c.cells-count.ensures.value c.from.ensures c.width.ensures c.from-width.ensures c.rank_among.ensures
 
-ends : (c : After-rank_of) → 19 + c.rank_of.result * (c.from.result - length c.args.cells.now) * c.from-width.result + (c.from.result - length c.args.cells.now) * c.from-width.result + 1 ≤ length c.file-file.result.now
-ends c = run_within c.args.table.now c.file-file.result.now c.args.cells.now c.file-file.ensures c.requires.run c.rank_of.result (are c).is_rank (c.from.result - length c.args.cells.now) c.from-width.result (are c)
+ends : (c : After-rank_among) → 19 + c.rank_among.result * (c.from.result - length c.args.cells.now) * c.from-width.result + (c.from.result - length c.args.cells.now) * c.from-width.result + 1 ≤ length c.file-file.result.now
+ends c = run_within c.args.table.now c.file-file.result.now c.args.cells.now c.file-file.ensures c.requires.run c.rank_among.result (are c).is_rank (c.from.result - length c.args.cells.now) c.from-width.result (are c)
 
 pub overflow_mul-start : goal.overflow_mul-start
 overflow_mul-start c =
-    let h = run_few c.args.table.now.pattern c.args.cells.now c.requires.run c.rank_of.result (are c).is_rank in
+    let h = run_few c.args.table.now.pattern c.args.cells.now c.requires.run c.rank_among.result (are c).is_rank in
     let few = few_placements c.args.table.now.pattern c.file-file.ensures.table.pattern in
-    let e = ap (λ l. c.rank_of.result * l) (are c).is_run in
+    let e = ap (λ l. c.rank_among.result * l) (are c).is_run in
     omega arith
 
 pub overflow_mul-start-2 : goal.overflow_mul-start-2
@@ -51,6 +51,6 @@ slice_bounds-result-end c = ends c
 
 pub returns : goal.returns
 returns c =
-    let are = are_numbers c.args.table.now c.pattern-pattern.result c.args.cells.now c.side.result c.cells-count.result c.from.result c.width.result c.from-width.result c.rank_of.result
-    c.pattern-pattern.ensures.pattern c.side.ensures.side c.cells-count.ensures.value c.from.ensures c.width.ensures c.from-width.ensures c.rank_of.ensures in
-    run_slice c.args.table.now c.file-file.result.now c.args.cells.now c.file-file.ensures c.requires.run c.rank_of.result are.is_rank (c.from.result - length c.args.cells.now) c.from-width.result are
+    let are = are_numbers c.args.table.now c.pattern-pattern.result c.args.cells.now c.side.result c.cells-count.result c.from.result c.width.result c.from-width.result c.rank_among.result
+    c.pattern-pattern.ensures.pattern c.side.ensures.side c.cells-count.ensures.value c.from.ensures c.width.ensures c.from-width.ensures c.rank_among.ensures in
+    run_slice c.args.table.now c.file-file.result.now c.args.cells.now c.file-file.ensures c.requires.run c.rank_among.result are.is_rank (c.from.result - length c.args.cells.now) c.from-width.result are

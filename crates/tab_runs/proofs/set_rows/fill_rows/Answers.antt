@@ -25,7 +25,7 @@ loop-last-init c = record {
   count = sym (free_below-zero c.args.cells.now);
   pattern = c.unrank-placement.ensures.pattern;
   placement = c.unrank-placement.ensures.placement;
-  rank = λ l. subst (IsRank c.args.pattern.now.side c.unrank-placement.result.cells) (let e : c.rank_of.result * (c.from.result - length c.args.cells.now) ≡ c.rank_of.result * (c.from.result - length c.args.cells.now) + 0 = omega arith in e) c.unrank-placement.ensures.rank;
+  rank = λ l. subst (IsRank c.args.pattern.now.side c.unrank-placement.result.cells) (let e : c.rank_among.result * (c.from.result - length c.args.cells.now) ≡ c.rank_among.result * (c.from.result - length c.args.cells.now) + 0 = omega arith in e) c.unrank-placement.ensures.rank;
 }
 
 pub overflow_mul-first : goal.overflow_mul-first
@@ -33,10 +33,10 @@ overflow_mul-first c =
     let p = c.args.pattern.now in
     let cells = c.args.cells.now in
     let pat = c.side.ensures.pattern in
-    let nums = are_numbers (record { pattern = p; entries = [] }) p cells c.side.result c.cells-count.result c.from.result c.width-width.result c.width-width.result c.rank_of.result refl c.side.ensures.side c.cells-count.ensures.value c.from.ensures c.width-width.ensures refl c.rank_of.ensures in
-    let h = run_few p cells c.requires.run c.rank_of.result nums.is_rank in
+    let nums = are_numbers (record { pattern = p; entries = [] }) p cells c.side.result c.cells-count.result c.from.result c.width-width.result c.width-width.result c.rank_among.result refl c.side.ensures.side c.cells-count.ensures.value c.from.ensures c.width-width.ensures refl c.rank_among.ensures in
+    let h = run_few p cells c.requires.run c.rank_among.result nums.is_rank in
     let few = few_placements p pat in
-    let e = ap (λ l. c.rank_of.result * l) nums.is_run in
+    let e = ap (λ l. c.rank_among.result * l) nums.is_run in
     omega arith
 
 pub unrank-placement-requires : goal.unrank-placement-requires
@@ -44,8 +44,8 @@ unrank-placement-requires c =
     let p = c.args.pattern.now in
     let cells = c.args.cells.now in
     let pat = c.side.ensures.pattern in
-    let nums = are_numbers (record { pattern = p; entries = [] }) p cells c.side.result c.cells-count.result c.from.result c.width-width.result c.width-width.result c.rank_of.result refl c.side.ensures.side c.cells-count.ensures.value c.from.ensures c.width-width.ensures refl c.rank_of.ensures in
-    first_low p pat cells c.requires.run c.rank_of.result nums.is_rank (c.from.result - length cells) nums.is_run
+    let nums = are_numbers (record { pattern = p; entries = [] }) p cells c.side.result c.cells-count.result c.from.result c.width-width.result c.width-width.result c.rank_among.result refl c.side.ensures.side c.cells-count.ensures.value c.from.ensures c.width-width.ensures refl c.rank_among.ensures in
+    first_low p pat cells c.requires.run c.rank_among.result nums.is_rank (c.from.result - length cells) nums.is_run
 
 pub overflow_mul-before : goal.overflow_mul-before
 overflow_mul-before c =
@@ -53,9 +53,9 @@ overflow_mul-before c =
     let cells = c.args.cells.now in
     let pat = c.side.ensures.pattern in
     let at =
-    at_last p cells c.args.set c.side.result c.cells-count.result c.from.result c.width-width.result c.rank_of.result c.loop-last.last c.loop-last.free c.loop-last.free c.has_cell.result
-    c.requires.set c.side.ensures.side c.cells-count.ensures.value c.from.ensures c.width-width.ensures c.rank_of.ensures c.loop-last-test.true c.has_cell.ensures c.if-not-has_cell.true c.loop-last.invariant.count refl in
-    let h = before_low p pat cells c.requires.run c.rank_of.result at.is_rank c.loop-last.last at.free in
+    at_last p cells c.args.set c.side.result c.cells-count.result c.from.result c.width-width.result c.rank_among.result c.loop-last.last c.loop-last.free c.loop-last.free c.has_cell.result
+    c.requires.set c.side.ensures.side c.cells-count.ensures.value c.from.ensures c.width-width.ensures c.rank_among.ensures c.loop-last-test.true c.has_cell.ensures c.if-not-has_cell.true c.loop-last.invariant.count refl in
+    let h = before_low p pat cells c.requires.run c.rank_among.result at.is_rank c.loop-last.last at.free in
     let e = at.before_is in
     omega arith
 
@@ -65,9 +65,9 @@ overflow_add-before c =
     let cells = c.args.cells.now in
     let pat = c.side.ensures.pattern in
     let at =
-    at_last p cells c.args.set c.side.result c.cells-count.result c.from.result c.width-width.result c.rank_of.result c.loop-last.last c.loop-last.free c.loop-last.free c.has_cell.result
-    c.requires.set c.side.ensures.side c.cells-count.ensures.value c.from.ensures c.width-width.ensures c.rank_of.ensures c.loop-last-test.true c.has_cell.ensures c.if-not-has_cell.true c.loop-last.invariant.count refl in
-    let h = before_low p pat cells c.requires.run c.rank_of.result at.is_rank c.loop-last.last at.free in
+    at_last p cells c.args.set c.side.result c.cells-count.result c.from.result c.width-width.result c.rank_among.result c.loop-last.last c.loop-last.free c.loop-last.free c.has_cell.result
+    c.requires.set c.side.ensures.side c.cells-count.ensures.value c.from.ensures c.width-width.ensures c.rank_among.ensures c.loop-last-test.true c.has_cell.ensures c.if-not-has_cell.true c.loop-last.invariant.count refl in
+    let h = before_low p pat cells c.requires.run c.rank_among.result at.is_rank c.loop-last.last at.free in
     let e = at.before_is in
     omega arith
 
@@ -77,12 +77,12 @@ fill_column-requires-clause-fits c =
     let cells = c.args.cells.now in
     let pat = c.side.ensures.pattern in
     let at =
-    at_last p cells c.args.set c.side.result c.cells-count.result c.from.result c.width-width.result c.rank_of.result c.loop-last.last c.loop-last.free c.loop-last.free c.has_cell.result
-    c.requires.set c.side.ensures.side c.cells-count.ensures.value c.from.ensures c.width-width.ensures c.rank_of.ensures c.loop-last-test.true c.has_cell.ensures c.if-not-has_cell.true c.loop-last.invariant.count refl in
+    at_last p cells c.args.set c.side.result c.cells-count.result c.from.result c.width-width.result c.rank_among.result c.loop-last.last c.loop-last.free c.loop-last.free c.has_cell.result
+    c.requires.set c.side.ensures.side c.cells-count.ensures.value c.from.ensures c.width-width.ensures c.rank_among.ensures c.loop-last-test.true c.has_cell.ensures c.if-not-has_cell.true c.loop-last.invariant.count refl in
     let view = c.loop-last.placement in
-    let is = placement_is p pat cells c.requires.run c.rank_of.result at.is_rank c.loop-last.last at.free view c.loop-last.invariant.pattern c.loop-last.invariant.placement (subst (IsRank p.side view.cells) at.number_is (c.loop-last.invariant.rank (place_before_run p pat cells c.requires.run c.loop-last.last at.free c.loop-last.free c.loop-last.invariant.count (c.from.result - length cells) (run_is p c.side.result c.cells-count.result c.from.result (length cells) c.side.ensures.side c.cells-count.ensures.value c.from.ensures)))) in
-    let few : length c.regions-regions.result.items ≤ slot_count p = regions_few p pat cells c.requires.run c.rank_of.result at.is_rank c.loop-last.last at.free view (length c.regions-regions.result.items) c.loop-last.invariant.pattern is c.regions-regions.ensures.few in
-    let h = before_low p pat cells c.requires.run c.rank_of.result at.is_rank c.loop-last.last at.free in
+    let is = placement_is p pat cells c.requires.run c.rank_among.result at.is_rank c.loop-last.last at.free view c.loop-last.invariant.pattern c.loop-last.invariant.placement (subst (IsRank p.side view.cells) at.number_is (c.loop-last.invariant.rank (place_before_run p pat cells c.requires.run c.loop-last.last at.free c.loop-last.free c.loop-last.invariant.count (c.from.result - length cells) (run_is p c.side.result c.cells-count.result c.from.result (length cells) c.side.ensures.side c.cells-count.ensures.value c.from.ensures)))) in
+    let few : length c.regions-regions.result.items ≤ slot_count p = regions_few p pat cells c.requires.run c.rank_among.result at.is_rank c.loop-last.last at.free view (length c.regions-regions.result.items) c.loop-last.invariant.pattern is c.regions-regions.ensures.few in
+    let h = before_low p pat cells c.requires.run c.rank_among.result at.is_rank c.loop-last.last at.free in
     let e = at.before_is in
     let l = ap length c.as_slice.ensures.value in
     omega arith
@@ -93,12 +93,12 @@ mark-requires c =
     let cells = c.args.cells.now in
     let pat = c.side.ensures.pattern in
     let at =
-    at_last p cells c.args.set c.side.result c.cells-count.result c.from.result c.width-width.result c.rank_of.result c.loop-last.last c.loop-last.free c.loop-last.free c.has_cell.result
-    c.requires.set c.side.ensures.side c.cells-count.ensures.value c.from.ensures c.width-width.ensures c.rank_of.ensures c.loop-last-test.true c.has_cell.ensures c.if-not-has_cell.true c.loop-last.invariant.count refl in
+    at_last p cells c.args.set c.side.result c.cells-count.result c.from.result c.width-width.result c.rank_among.result c.loop-last.last c.loop-last.free c.loop-last.free c.has_cell.result
+    c.requires.set c.side.ensures.side c.cells-count.ensures.value c.from.ensures c.width-width.ensures c.rank_among.ensures c.loop-last-test.true c.has_cell.ensures c.if-not-has_cell.true c.loop-last.invariant.count refl in
     let view = c.loop-last.placement in
-    let is = placement_is p pat cells c.requires.run c.rank_of.result at.is_rank c.loop-last.last at.free view c.loop-last.invariant.pattern c.loop-last.invariant.placement (subst (IsRank p.side view.cells) at.number_is (c.loop-last.invariant.rank (place_before_run p pat cells c.requires.run c.loop-last.last at.free c.loop-last.free c.loop-last.invariant.count (c.from.result - length cells) (run_is p c.side.result c.cells-count.result c.from.result (length cells) c.side.ensures.side c.cells-count.ensures.value c.from.ensures)))) in
-    let few : length c.regions-regions.result.items ≤ slot_count p = regions_few p pat cells c.requires.run c.rank_of.result at.is_rank c.loop-last.last at.free view (length c.regions-regions.result.items) c.loop-last.invariant.pattern is c.regions-regions.ensures.few in
-    let h = marks_low p pat cells c.requires.run c.rank_of.result at.is_rank c.loop-last.last at.free in
+    let is = placement_is p pat cells c.requires.run c.rank_among.result at.is_rank c.loop-last.last at.free view c.loop-last.invariant.pattern c.loop-last.invariant.placement (subst (IsRank p.side view.cells) at.number_is (c.loop-last.invariant.rank (place_before_run p pat cells c.requires.run c.loop-last.last at.free c.loop-last.free c.loop-last.invariant.count (c.from.result - length cells) (run_is p c.side.result c.cells-count.result c.from.result (length cells) c.side.ensures.side c.cells-count.ensures.value c.from.ensures)))) in
+    let few : length c.regions-regions.result.items ≤ slot_count p = regions_few p pat cells c.requires.run c.rank_among.result at.is_rank c.loop-last.last at.free view (length c.regions-regions.result.items) c.loop-last.invariant.pattern is c.regions-regions.ensures.few in
+    let h = marks_low p pat cells c.requires.run c.rank_among.result at.is_rank c.loop-last.last at.free in
     let e = c.from-then-not-has_cell.ensures ∙ at.before_is in
     let l = c.len.ensures.value in
     let k = c.loop-last.auto.kinds in
@@ -111,8 +111,8 @@ overflow_add-free c =
     let cells = c.args.cells.now in
     let pat = c.side.ensures.pattern in
     let at =
-    at_last p cells c.args.set c.side.result c.cells-count.result c.from.result c.width-width.result c.rank_of.result c.loop-last.last c.loop-last.free c.loop-last.free c.has_cell.result
-    c.requires.set c.side.ensures.side c.cells-count.ensures.value c.from.ensures c.width-width.ensures c.rank_of.ensures c.loop-last-test.true c.has_cell.ensures c.if-not-has_cell.true c.loop-last.invariant.count refl in
+    at_last p cells c.args.set c.side.result c.cells-count.result c.from.result c.width-width.result c.rank_among.result c.loop-last.last c.loop-last.free c.loop-last.free c.has_cell.result
+    c.requires.set c.side.ensures.side c.cells-count.ensures.value c.from.ensures c.width-width.ensures c.rank_among.ensures c.loop-last-test.true c.has_cell.ensures c.if-not-has_cell.true c.loop-last.invariant.count refl in
     let h = free_below-low p.side cells c.loop-last.last c.requires.run.inside c.requires.run.apart at.free in
     let few = few_cells p.side pat.low pat.high in
     let e = c.loop-last.invariant.count in
@@ -127,17 +127,17 @@ loop-last-preserved c =
     let board : c.cells-count.result ≡ p.side * p.side = c.cells-count.ensures.value ∙ ap₂ (λ m n. m * n) c.side.ensures.side c.side.ensures.side in
     let inside : last < p.side * p.side = (let l = c.loop-last-test.true in omega arith) in
     let count : c.loop-last.free ≡ free_below cells last = c.loop-last.invariant.count in
-    let first = c.rank_of.result * (c.from.result - length cells) in
+    let first = c.rank_among.result * (c.from.result - length cells) in
     elim c.if-not-has_cell.branch [
       | then-not-has_cell w ↦
           let at =
-          at_last p cells c.args.set c.side.result c.cells-count.result c.from.result c.width-width.result c.rank_of.result c.loop-last.last c.loop-last.free c.loop-last.free c.has_cell.result
-          c.requires.set c.side.ensures.side c.cells-count.ensures.value c.from.ensures c.width-width.ensures c.rank_of.ensures c.loop-last-test.true c.has_cell.ensures w.if-not-has_cell.true c.loop-last.invariant.count refl in
+          at_last p cells c.args.set c.side.result c.cells-count.result c.from.result c.width-width.result c.rank_among.result c.loop-last.last c.loop-last.free c.loop-last.free c.has_cell.result
+          c.requires.set c.side.ensures.side c.cells-count.ensures.value c.from.ensures c.width-width.ensures c.rank_among.ensures c.loop-last-test.true c.has_cell.ensures w.if-not-has_cell.true c.loop-last.invariant.count refl in
           let view = c.loop-last.placement in
           let regions = w.as_slice.result.now in
-          let is = placement_is p pat cells c.requires.run c.rank_of.result at.is_rank last at.free view c.loop-last.invariant.pattern c.loop-last.invariant.placement (subst (IsRank p.side view.cells) at.number_is (c.loop-last.invariant.rank (place_before_run p pat cells c.requires.run c.loop-last.last at.free c.loop-last.free c.loop-last.invariant.count (c.from.result - length cells) (run_is p c.side.result c.cells-count.result c.from.result (length cells) c.side.ensures.side c.cells-count.ensures.value c.from.ensures)))) in
-          let are = regions_are p pat cells c.requires.run c.rank_of.result at.is_rank last at.free view regions c.loop-last.invariant.pattern is (subst (AreRegions view.pattern.side view.cells) (sym w.as_slice.ensures.value) w.regions-regions.ensures.regions) in
-          let few : length w.regions-regions.result.items ≤ slot_count p = regions_few p pat cells c.requires.run c.rank_of.result at.is_rank last at.free view (length w.regions-regions.result.items) c.loop-last.invariant.pattern is w.regions-regions.ensures.few in
+          let is = placement_is p pat cells c.requires.run c.rank_among.result at.is_rank last at.free view c.loop-last.invariant.pattern c.loop-last.invariant.placement (subst (IsRank p.side view.cells) at.number_is (c.loop-last.invariant.rank (place_before_run p pat cells c.requires.run c.loop-last.last at.free c.loop-last.free c.loop-last.invariant.count (c.from.result - length cells) (run_is p c.side.result c.cells-count.result c.from.result (length cells) c.side.ensures.side c.cells-count.ensures.value c.from.ensures)))) in
+          let are = regions_are p pat cells c.requires.run c.rank_among.result at.is_rank last at.free view regions c.loop-last.invariant.pattern is (subst (AreRegions view.pattern.side view.cells) (sym w.as_slice.ensures.value) w.regions-regions.ensures.regions) in
+          let few : length w.regions-regions.result.items ≤ slot_count p = regions_few p pat cells c.requires.run c.rank_among.result at.is_rank last at.free view (length w.regions-regions.result.items) c.loop-last.invariant.pattern is w.regions-regions.ensures.few in
           let counted : length w.regions-regions.result.items ≡ length regions = sym (ap length w.as_slice.ensures.value) in
           let column : IsColumn (p.side * p.side) last (1 + free_below cells last * slot_count p) regions (p.side * p.side) c.loop-last.set_rows w.fill_column.new.set_rows =
           subst (λ b. IsColumn (p.side * p.side) last b regions (p.side * p.side) c.loop-last.set_rows w.fill_column.new.set_rows) (ap (λ k. 1 + k) at.before_is)
@@ -154,8 +154,8 @@ loop-last-preserved c =
             placement = subst IsPlacement (sym w.placement-is) w.next.ensures.placement;
             rank = λ l.
                 let run : c.from.result - length cells ≡ run_length p.side cells = run_is p c.side.result c.cells-count.result c.from.result (length cells) c.side.ensures.side c.cells-count.ensures.value c.from.ensures in
-                let few = run_few p cells c.requires.run c.rank_of.result at.is_rank in
-                let size : first ≡ c.rank_of.result * run_length p.side cells = ap (λ k. c.rank_of.result * k) run in
+                let few = run_few p cells c.requires.run c.rank_among.result at.is_rank in
+                let size : first ≡ c.rank_among.result * run_length p.side cells = ap (λ k. c.rank_among.result * k) run in
                 let e = w.free-is in
                 let low : c.loop-last.free < c.from.result - length cells = omega arith in
                 let more : c.loop-last.free + 1 < c.from.result - length cells = omega arith in

@@ -1,4 +1,4 @@
-use Rattle.std.proofs.Common.{sym, ap, subst, ◌≤◌, length}
+use Rattle.std.proofs.Common.{sym, subst, ◌≤◌, length}
 use Rattle.pat_place.specs.Patterns.{IsPattern}
 use Rattle.pat_place.proofs.PatternLemmas.{few_tiles}
 use Rattle.pat_place.proofs.patterns.Pattern.tiles.Goals as goal
