@@ -122,7 +122,11 @@ fn boards_are_looked_up(rt: HostRuntime) {
     ];
     for (file, numbers, want) in looks {
         assert_eq!(rt; look(&rt, file, &numbers), Some(want), "{numbers:?}");
-        assert_eq!(rt; look_by_slots(&rt, file, &numbers), Some(want), "{numbers:?}");
+        assert_eq!(rt;
+            look_by_slots(&rt, file, &numbers),
+            Some(want),
+            "{numbers:?}"
+        );
     }
 }
 

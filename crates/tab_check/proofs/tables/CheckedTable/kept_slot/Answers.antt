@@ -24,7 +24,7 @@ returns-clause-below c =
     let same = c.requires.pattern in
     let size : length p.cells ≡ length q.tiles = place.size ∙ ap (λ x. length x.tiles) same in
     if_some_more (IsSlot p.pattern.side p.cells c.args.cell) (λ j. j < slot_count q) c.slot.result (
-        λ j is.
-            subst (λ k. j < width q.side k) size (
-            subst (λ x. j < width x.side (length p.cells)) same (
-            slot_within p.pattern.side (subst (λ x. 2 ≤ x.side) (sym same) pat.low) (subst (λ x. x.side ≤ 5) (sym same) pat.high) p.cells c.args.cell j place.inside place.apart is))) c.slot.ensures
+    λ j is.
+    subst (λ k. j < width q.side k) size (
+    subst (λ x. j < width x.side (length p.cells)) same (
+    slot_within p.pattern.side (subst (λ x. 2 ≤ x.side) (sym same) pat.low) (subst (λ x. x.side ≤ 5) (sym same) pat.high) p.cells c.args.cell j place.inside place.apart is))) c.slot.ensures
