@@ -414,13 +414,18 @@ fn exact_census<R: Threads + Wait + AllocGlobal + Abort>(
     assert_eq!(rt; census(rt, &file), Ok(want));
     let table = checked(rt, &file).ok().expect(rt, "an exact table");
     for numbers in BOARDS {
-        let count = match costs.of(&numbers) {
-            255 => Count::Never,
-            cost => Count::Finite(u16::from(cost)),
-        };
-        assert_eq!(rt; told(&table, &numbers), Some(count), "{numbers:?}");
+        check_look(rt, &table, &numbers, costs.of(&numbers));
     }
     Ok(want)
+}
+
+/// The table tells of a board of side 3 what it costs, and 255 stands for no way home.
+fn check_look(rt: &impl Abort, table: &CheckedTable<'_>, numbers: &[u8; 9], cost: u8) {
+    let count = match cost {
+        255 => Count::Never,
+        cost => Count::Finite(u16::from(cost)),
+    };
+    assert_eq!(rt; told(table, numbers), Some(count), "{numbers:?}");
 }
 
 #[test]
