@@ -509,10 +509,6 @@ limit_memory() {
 
 refusals=0
 limit_memory table all_of_side_3 --workers 64
-limit_memory replay solved
-limit_memory optimal six_moves one_set branches F12 --workers 7
-limit_memory make-table 3 126 made --workers 7
-limit_memory solve board one_set made F12 --workers 7
 rm -f made
 check 'memory was refused to some runs' [ "$refusals" -gt 0 ]
 
