@@ -8,8 +8,8 @@ use Rattle.pdb_run.specs.Statuses.{number_of}
 use Rattle.pdb_run.specs.declared.status.Status.{Status}
 use Rattle.pdb_run.specs.declared.status.Status.TheVariants.{Yes, Refused, Fault, NoMemory}
 use Rattle.pdb_run.proofs.AnswerLemmas.{IsAnswered-ends}
-use Rattle.pdb_verdict.specs.MadeTables.{make_table_plan}
-use Rattle.pdb_verdict.proofs.KeptLemmas.{log_kept, table_kept}
+use Rattle.pdb_keep.specs.MadeTables.{make_table_plan}
+use Rattle.pdb_keep.proofs.KeptLemmas.{log_kept, table_kept}
 use Rattle.pdb_words.specs.Asked.{Asked, bound, make_table, optimal, replay, solve, table}
 use Rattle.pdb_words.specs.CommandLine.{Parses, asked_of}
 use Rattle.pdb_words.specs.Faults.{IsMistaken}

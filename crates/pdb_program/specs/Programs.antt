@@ -7,12 +7,12 @@ use Rattle.pdb_run.specs.Runs.{Ends, World}
 use Rattle.pdb_run.specs.Statuses.{number_of}
 use Rattle.pdb_run.specs.declared.status.Status.{Status}
 use Rattle.pdb_verdict.specs.Bounds.{bound_plan}
-use Rattle.pdb_verdict.specs.Kept.{IsLogKept, IsTableKept}
-use Rattle.pdb_verdict.specs.MadeTables.{make_table_plan}
 use Rattle.pdb_verdict.specs.Optima.{optimum_plan}
 use Rattle.pdb_verdict.specs.Replays.{replay_plan}
-use Rattle.pdb_verdict.specs.Searches.{solve_plan}
 use Rattle.pdb_verdict.specs.Tables.{table_plan}
+use Rattle.pdb_keep.specs.Kept.{IsLogKept, IsTableKept}
+use Rattle.pdb_keep.specs.MadeTables.{make_table_plan}
+use Rattle.pdb_keep.specs.Searches.{solve_plan}
 use Rattle.pdb_words.specs.Asked.{Asked, bound, make_table, optimal, replay, solve, table}
 use Rattle.pdb_words.specs.CommandLine.{Parses, asked_of}
 use Rattle.pdb_words.specs.Faults.{IsMistaken}

@@ -10,11 +10,9 @@ ghost use Rattle.pdb_program.specs.Refusals.{Refuses};
 
 use crate::refusals::explain;
 use pdb_io::shelf::Shelf;
+use pdb_keep::{MakeTable, SearchNames, run_make_table, run_solve};
 use pdb_run::Status;
-use pdb_verdict::{
-    ClaimNames, MakeTable, SearchNames, Workers, run_bound, run_make_table, run_optimal,
-    run_replay, run_solve, run_table,
-};
+use pdb_verdict::{ClaimNames, Workers, run_bound, run_optimal, run_replay, run_table};
 use pdb_words::{LogCheck, Request, Search, read_words};
 use std::alloc::Global;
 use std::io::{Read, Write};

@@ -1,9 +1,7 @@
-mod BoundLemmas
-mod BundleLemmas
-pub mod KeptLemmas
+pub mod BoundLemmas
+pub mod BundleLemmas
 mod LineLemmas
-mod MakerLemmas
-mod OptimumLemmas
+pub mod OptimumLemmas
 mod ReplayLemmas
 mod ResultLemmas
 mod TableLemmas

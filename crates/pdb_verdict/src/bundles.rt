@@ -17,7 +17,7 @@ use tab_runs::check_table;
 use work_run::Gate;
 
 /// The bundle of table files and a set text: each table is checked, and then the text is read.
-pub(crate) fn read_bundle<'a, H: Threads + Wait, G: Gate + Sync>(
+pub fn read_bundle<'a, H: Threads + Wait, G: Gate + Sync>(
     alloc: Global,
     files: &'a [Vec<u8>],
     sets: &[u8],

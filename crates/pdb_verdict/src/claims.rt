@@ -39,10 +39,7 @@ pub(crate) fn claim_inputs<'t, 'n>(
 }
 
 /// Adds the table files under these names.
-pub(crate) fn push_tables<'n>(
-    inputs: &mut Vec<Input<'n>>,
-    names: &[&'n str],
-) -> Result<(), AllocError>
+pub fn push_tables<'n>(inputs: &mut Vec<Input<'n>>, names: &[&'n str]) -> Result<(), AllocError>
     ensures { OnOk result (map wanted_of inputs.new.items ≡ map wanted_of inputs.old.items ++ map a_table (map (λ name. name.now) names.now)) }
 {
     for name in names {

@@ -16,7 +16,7 @@ const LOG_LIMIT: u64 = 1 << 30;
 const TABLE_LIMIT: u64 = 1 << 32;
 
 /// A text under this name, or of the reader.
-pub(crate) fn a_text<'a>(name: Option<&'a str>) -> Input<'a>
+pub fn a_text<'a>(name: Option<&'a str>) -> Input<'a>
     ensures { wanted_of result ≡ a_text (option_map (λ s. s.now) name.entry) }
 {
     Input {

@@ -14,7 +14,7 @@ use tab_check::{Census, TableRefusal};
 use tab_file::HeadFault;
 
 /// The line of a verdict, a refusal or want of memory.
-pub(crate) fn line_of(answer: &Result<Verdict, Fault>) -> Lines
+pub fn line_of(answer: &Result<Verdict, Fault>) -> Lines
     ensures { result.bytes ≡ line_of answer.now }
 {
     match answer {

@@ -111,7 +111,7 @@ pub(crate) fn verify_optimal<H: Threads + Wait, G: Gate + Sync>(
 }
 
 /// As `verify_optimal`, over a bundle that is there.
-pub(crate) fn optimum_over<H: Threads + Wait, G: Gate + Sync>(
+pub fn optimum_over<H: Threads + Wait, G: Gate + Sync>(
     alloc: Global,
     bundle: &Bundle<'_>,
     puzzle: &[u8],

@@ -7,8 +7,8 @@ use std::marker::Model;
 /// Workers: what starts their threads, how many they are, from 1 to 64, and the gate that each passes before a block.
 #[derive(Drop)]
 pub struct Workers<'a, H, G> {
-    pub(crate) rt: &'a H,
-    pub(crate) count: u8,
+    pub rt: &'a H,
+    pub count: u8,
     pub(crate) gate: &'a G,
 }
 

@@ -1,4 +1,5 @@
-//! Tests of verdicts on claims and of the commands that give them, over the public calls of `pdb_verdict`.
+//! Tests of verdicts on claims and of the commands that give them or keep what makers make, over the public calls of
+//! `pdb_verdict` and `pdb_keep`.
 #![tactic(auto)]
 
 #[cfg(test)]

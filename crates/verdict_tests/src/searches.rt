@@ -3,8 +3,9 @@
 use crate::sha256;
 use crate::telling::joined;
 use pdb_io::memory::MemShelf;
+use pdb_keep::{SearchNames, run_solve};
 use pdb_run::Status;
-use pdb_verdict::{ClaimNames, SearchNames, Workers, run_optimal, run_solve};
+use pdb_verdict::{ClaimNames, Workers, run_optimal};
 use samples::files::{TILE_24, TILES_12, TILES_123, with_byte};
 use std::alloc::{AllocError, Global};
 use std::process::Abort;

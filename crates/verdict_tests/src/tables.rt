@@ -3,8 +3,9 @@
 use crate::sha256;
 use crate::telling::joined;
 use pdb_io::memory::MemShelf;
+use pdb_keep::{MakeTable, run_make_table};
 use pdb_run::Status;
-use pdb_verdict::{MakeTable, Workers, run_make_table};
+use pdb_verdict::Workers;
 use samples::files::{TILE_24, TILES_12, TILES_123};
 use std::alloc::Global;
 use std::sync::Wait;

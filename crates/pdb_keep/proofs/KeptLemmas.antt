@@ -1,0 +1,105 @@
+-- What a maker's yes keeps.
+use Rattle.std.proofs.Common.{◌≡◌, ◌∙◌, ℕ, List, [], ◌∷◌, Bool, true, false, Some, Ok, Err, ap, inl, refl, subst, sym}
+use Rattle.std.specs.Io.KnownBytes.{Appends}
+use Rattle.puz_board.specs.BoardTexts.{Spells}
+use Rattle.puz_board.specs.MovesTexts.{Solves}
+use Rattle.pdb_io.specs.Shelves.{Bytes}
+use Rattle.pdb_run.specs.Lines.{reply_text}
+use Rattle.pdb_run.specs.Plans.{Reply}
+use Rattle.pdb_run.specs.Readings.{AreRead}
+use Rattle.pdb_run.specs.Runs.{Ends, World, kept, status_of_reply, with_kept}
+use Rattle.pdb_run.specs.declared.status.Status.TheVariants.{Yes, Refused}
+use Rattle.pdb_run.proofs.AnswerLemmas.{IsAnswered-ends}
+use Rattle.pdb_verdict.specs.Optima.{IsProvedOptimum}
+use Rattle.pdb_verdict.specs.Tables.{IsExactFor}
+use Rattle.pdb_verdict.specs.declared.verdict.Verdict.{Verdict}
+use Rattle.pdb_verdict.specs.declared.verdict.Verdict.TheVariants as verdict
+use Rattle.pdb_verdict.proofs.OptimumLemmas.{IsOptimumResult-yes, proved_least}
+use Rattle.pdb_keep.specs.Kept.{IsLogKept, IsTableKept}
+use Rattle.pdb_keep.specs.MadeTables.{Build, IsBuildFor, built, make_table_plan, reply_to_build, unbuilt}
+use Rattle.pdb_keep.specs.Searches.{IsSearchOf, IsSolveReply, Search, puzzle_of, reply_to_search, searched, solve_inputs, solve_plan, unmade}
+use Rattle.pdb_keep.proofs.MakerLemmas.{solved-moves}
+
+-- a no is no yes
+no_is_no : (says_yes : Bool) → Yes ≡ status_of_reply says_yes → says_yes ≡ true
+no_is_no true is = refl
+no_is_no false is = let clash : Yes ≡ Refused = is in cc
+
+-- ---- tables
+
+module _ (side mask : ℕ) (out : Bytes) (old new : World) where
+  exact_kept : (build : Build) → IsBuildFor side mask build → (reply_to_build build).is_yes ≡ true → new.files ≡ with_kept old.files (Some out) (kept (reply_to_build build))
+      → Appends old.written new.written (reply_text (reply_to_build build)) → IsTableKept side mask out old new
+  exact_kept (unbuilt refused) is says_yes files lines = absurd (let clash : false ≡ true = says_yes in cc)
+  exact_kept (built file (Err refused)) is says_yes files lines = absurd (let clash : false ≡ true = says_yes in cc)
+  exact_kept (built file (Ok (verdict.Solution n))) is says_yes files lines = absurd is.is_result
+  exact_kept (built file (Ok (verdict.Bound n))) is says_yes files lines = absurd is.is_result
+  exact_kept (built file (Ok (verdict.Optimal n))) is says_yes files lines = absurd is.is_result
+  exact_kept (built file (Ok (verdict.Exact s m census))) is says_yes files lines =
+      let own : verdict.Exact s m census ≡ verdict.Exact side mask census = λ i. verdict.Exact (is.own.0 i) (is.own.1 i) census in
+      let told : reply_to_build (built file (Ok (verdict.Exact s m census))) ≡ reply_to_build (built file (Ok (verdict.Exact side mask census))) =
+      ap (λ (v : Verdict). reply_to_build (built file (Ok v))) own in
+      record {
+        file = file;
+        census = census;
+        exact = subst (λ (k : ℕ). IsExactFor file k mask census) is.own.0 (subst (λ (k : ℕ). IsExactFor file s k census) is.own.1 is.is_result);
+        kept = files;
+        lines = subst (λ (r : Reply). Appends old.written new.written (reply_text r)) told lines;
+      }
+
+  pub table_kept : Ends (make_table_plan side mask out) old new Yes → IsTableKept side mask out old new
+  table_kept ends =
+      let answered = IsAnswered-ends (make_table_plan side mask out) old new Yes ends (inl refl) in
+      let tells = answered.right.1 in
+      exact_kept tells.build tells.is_build
+      (ap (λ (r : Reply). r.is_yes) (sym tells.told) ∙ no_is_no answered.reply.is_yes answered.is_status)
+      (subst (λ (r : Reply). new.files ≡ with_kept old.files (Some out) (kept r)) tells.told answered.files)
+      (subst (λ (r : Reply). Appends old.written new.written (reply_text r)) tells.told answered.lines)
+
+-- ---- logs
+
+module _ (text sets out : Bytes) (tables : List Bytes) (old new : World) where
+  good_kept : (board_text set_text : Bytes) (files : List Bytes) → AreRead old.files old.reader (solve_inputs text sets tables) (board_text ∷ set_text ∷ files)
+      → (outcome : Search) → IsSearchOf board_text set_text files outcome → (reply_to_search files outcome).is_yes ≡ true
+      → new.files ≡ with_kept old.files (Some out) (kept (reply_to_search files outcome))
+      → Appends old.written new.written (reply_text (reply_to_search files outcome)) → IsLogKept text sets out tables old new
+  good_kept board_text set_text files read (unmade refused) is says_yes kept_file lines = absurd (let clash : false ≡ true = says_yes in cc)
+  good_kept board_text set_text files read (searched moves log (Err refused)) is says_yes kept_file lines = absurd (let clash : false ≡ true = says_yes in cc)
+  good_kept board_text set_text files read (searched moves log (Ok found)) is says_yes kept_file lines =
+      let proved_yes = IsOptimumResult-yes (puzzle_of board_text moves) set_text log files found is.is_result in
+      let n = proved_yes.0 in
+      let proved : IsProvedOptimum (puzzle_of board_text moves) set_text log files n = proved_yes.2 in
+      let parts = solved-moves board_text moves is.could.board n proved.solved is.could.spelt in
+      record {
+        moves = moves;
+        log = log;
+        files = files;
+        n = n;
+        found = record {
+          board_text = board_text;
+          set_text = set_text;
+          read = read;
+          board = proved.solved.board;
+          spelt = subst (λ (t : Bytes). Spells t proved.solved.board) parts.0 proved.solved.spelt;
+          solved = subst (λ (t : Bytes). Solves proved.solved.board t n) parts.1 proved.solved.solved;
+          proved = proved.proved;
+          least = proved_least (puzzle_of board_text moves) set_text log files n proved;
+        };
+        kept = kept_file;
+        lines = subst (λ (v : Verdict). Appends old.written new.written (reply_text (reply_to_search files (searched moves log (Ok v))))) proved_yes.1 lines;
+      }
+
+  by_inputs : (inputs : List Bytes) (reply : Reply) → AreRead old.files old.reader (solve_inputs text sets tables) inputs → IsSolveReply inputs reply → reply.is_yes ≡ true
+      → new.files ≡ with_kept old.files (Some out) (kept reply) → Appends old.written new.written (reply_text reply) → IsLogKept text sets out tables old new
+  by_inputs [] reply read is says_yes files lines = absurd is
+  by_inputs (board_text ∷ []) reply read is says_yes files lines = absurd is
+  by_inputs (board_text ∷ set_text ∷ table_files) reply read is says_yes files lines =
+      good_kept board_text set_text table_files read is.outcome is.is_outcome
+      (ap (λ (r : Reply). r.is_yes) (sym is.told) ∙ says_yes)
+      (subst (λ (r : Reply). new.files ≡ with_kept old.files (Some out) (kept r)) is.told files)
+      (subst (λ (r : Reply). Appends old.written new.written (reply_text r)) is.told lines)
+
+  pub log_kept : Ends (solve_plan text sets out tables) old new Yes → IsLogKept text sets out tables old new
+  log_kept ends =
+      let answered = IsAnswered-ends (solve_plan text sets out tables) old new Yes ends (inl refl) in
+      by_inputs answered.inputs answered.reply answered.right.0 answered.right.1 (no_is_no answered.reply.is_yes answered.is_status) answered.files answered.lines

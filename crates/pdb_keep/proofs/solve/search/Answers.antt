@@ -1,0 +1,16 @@
+use Rattle.std.proofs.Common.{◌≡◌, rules}
+use Rattle.puz_board.specs.BoardTexts.{Spells}
+use Rattle.puz_board.specs.Boards.{side_of}
+use Rattle.pdb_run.specs.Replies.{all_bytes}
+use Rattle.pdb_keep.specs.Steps.{IsCauseForSearch, IsGivenUp}
+use Rattle.pdb_keep.proofs.MakerLemmas.{given_up, if_err}
+use Rattle.pdb_keep.proofs.solve.search.Goals as goal
+
+pub returns-clause-unmade : goal.returns-clause-unmade
+returns-clause-unmade g c =
+    let files = all_bytes c.args.tables.now in
+    let spelt : Spells c.args.text.now c.in_ok-board.board = search (rules, c.read.ensures.ok) in
+    let one_side : side_of c.in_ok-board.board ≡ c.in_ok-bundle.bundle.side = search rules in
+    if_err c.search_over.result IsGivenUp (IsCauseForSearch c.args.text.now c.args.sets.now files)
+    (given_up c.args.text.now c.args.sets.now files c.in_ok-bundle.bundle c.in_ok-bundle.ensures.ok c.in_ok-board.board spelt one_side)
+    c.search_over.ensures.unmade

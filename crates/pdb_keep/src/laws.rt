@@ -1,0 +1,13 @@
+//! What holds of all runs of makers. Each function here says it, and does nothing.
+
+ghost use Rattle.pdb_keep.specs.Laws.{KeptLogsProveOptima, KeptTablesAreExact};
+
+/// With a yes `make-table` has kept the exact table of its pattern, and told its line.
+pub fn kept_tables_are_exact()
+    ensures { KeptTablesAreExact }
+{}
+
+/// With a yes `solve` has kept a log that proves its moves to be the fewest, and told the moves and their number.
+pub fn kept_logs_prove_optima()
+    ensures { KeptLogsProveOptima }
+{}

@@ -1,0 +1,12 @@
+//! What makers make, kept once it is checked: tables of patterns, and shortest solutions with the logs that prove them
+//! shortest.
+#![tactic(auto)]
+
+mod laws;
+mod make_table;
+mod solutions;
+mod solve;
+
+pub use laws::{kept_logs_prove_optima, kept_tables_are_exact};
+pub use make_table::{MakeTable, run_make_table};
+pub use solve::{SearchNames, run_solve};

@@ -1,0 +1,171 @@
+//! Makes a table, and keeps it once it is found exact for the pattern that was asked for.
+
+ghost use Rattle.std.specs.Prelude.{◌≡◌, ◌↔◌, ◌∷◌, [], IsSome, IsTrue, IfErr, IfOk, OnErr, Some, option_map};
+ghost use Rattle.pdb_run.specs.Lines.{digests_of};
+ghost use Rattle.pdb_run.specs.Replies.{reply_of};
+ghost use Rattle.pdb_run.specs.Runs.{Ends, world};
+ghost use Rattle.pdb_keep.specs.MadeTables.{ArePattern, IsBuilt, SpeaksOf, TellsBuild, make_table_plan};
+ghost use Rattle.pdb_keep.specs.Steps.{IsCauseForBuild};
+
+use pat_place::Pattern;
+use pdb_io::shelf::Shelf;
+use pdb_run::{Answer, Command, Digests, Input, Status, keep_and_conclude, read_inputs};
+use pdb_verdict::{Fault, Inputs, MakeRefusal, Verdict, Workers, line_of, verify_beside};
+use puz_board::Side;
+use puz_make::{MakeFault, build};
+use std::alloc::{AllocError, Global};
+use std::io::{Read, Write};
+use std::sync::Wait;
+use std::thread::Threads;
+use work_run::Gate;
+
+/// The command `make-table`: the table of this side and this mask, under this name.
+#[derive(Clone, Copy)]
+pub struct MakeTable<'n> {
+    /// Of the pattern's boards.
+    pub side: u8,
+    /// The pattern's tiles: bit t for tile t.
+    pub mask: u32,
+    /// Under which the table is kept.
+    pub out: &'n str,
+}
+
+impl Command for MakeTable<'_> {
+    ghost wanted = { λ _. [] };
+
+    ghost keeps_under = { λ command. Some command.out.now };
+
+    ghost MayReply = { λ command inputs. TellsBuild command.side command.mask };
+
+    ghost TakesMemory = { λ command inputs. ArePattern command.side command.mask };
+
+    fn inputs(&self, alloc: Global) -> Result<Vec<Input<'_>>, AllocError> {
+        Ok(Vec::new(alloc))
+    }
+}
+
+/// A whole run of `make-table`: the table is kept under its name once it is found exact.
+pub fn run_make_table<H: Threads + Wait + Sync, G: Gate + Sync, S: Shelf, R: Read, W: Write>(
+    alloc: Global,
+    command: MakeTable<'_>,
+    workers: &Workers<'_, H, G>,
+    shelf: &mut S,
+    reader: &mut R,
+    out: &mut W,
+) -> Status
+    ensures { Ends (make_table_plan command.entry.side command.entry.mask command.entry.out.now)
+        (world (S.held shelf.old) (S.has_failed shelf.old) (R.remaining reader.old) (W.contents out.old))
+        (world (S.held shelf.new) (S.has_failed shelf.new) (R.remaining reader.new) (W.contents out.new)) result }
+{
+    match read_inputs(alloc, &command, shelf, reader, out) {
+        Ok(inputs) => {
+            let answer = answer_make_table(alloc, command.side, command.mask, workers);
+            keep_and_conclude(
+                alloc,
+                &command,
+                inputs.as_slice(),
+                &answer,
+                command.out,
+                shelf,
+                out,
+            )
+        }
+        Err(status) => status,
+    }
+}
+
+/// The answer on a side and a mask. Want of memory never comes of what is no pattern.
+fn answer_make_table<H: Threads + Wait + Sync, G: Gate + Sync>(
+    alloc: Global,
+    side: u8,
+    mask: u32,
+    workers: &Workers<'_, H, G>,
+) -> Result<Answer<'static>, AllocError>
+    ensures right { IfOk result (λ answer. TellsBuild side mask (reply_of answer)) }
+    ensures memory { OnErr result (ArePattern side mask) }
+{
+    match build_table(alloc, side, mask, workers) {
+        Ok(built) => Ok(Answer {
+            files: &[],
+            last: None,
+            digests: None,
+            lines: line_of(&built.answer),
+            is_yes: built.answer.is_ok(),
+            made: Some(built.file),
+            made_digest: built.digest,
+        }),
+        Err(Fault::Memory) => Err(AllocError),
+        Err(refused) => Ok(Answer {
+            files: &[],
+            last: None,
+            digests: None,
+            made: None,
+            made_digest: None,
+            lines: line_of(&Err(refused)),
+            is_yes: false,
+        }),
+    }
+}
+
+/// A file that was built, its digest line, where that is made already, and the result on it.
+#[derive(Drop)]
+struct Built {
+    file: Vec<u8>,
+    digest: Option<Digests>,
+    answer: Result<Verdict, Fault>,
+    ghost digested: { option_map (λ d. d.items) digest ≡ option_map (λ _. digests_of (file.items ∷ [])) digest },
+}
+
+/// The file that is built for a side and a mask, checked. Or why there is none to tell of: they are no pattern, the maker
+/// gave up, or it built the table of another pattern.
+fn build_table<H: Threads + Wait + Sync, G: Gate + Sync>(
+    alloc: Global,
+    side: u8,
+    mask: u32,
+    workers: &Workers<'_, H, G>,
+) -> Result<Built, Fault>
+    ensures built { IfOk result (λ built. IsBuilt side mask built.file.items built.answer) }
+    ensures unbuilt { IfErr result (λ cause. IsCauseForBuild side mask cause) }
+{
+    let Some(pattern) = pattern_of(side, mask) else {
+        return Err(Fault::K4);
+    };
+    let file = match build(workers.rt, alloc, &pattern) {
+        Ok(file) => file,
+        Err(MakeFault::Memory) => return Err(Fault::Memory),
+        Err(_) => return Err(Fault::Make(MakeRefusal::K3)),
+    };
+    let table = file.as_slice();
+    let (digest, answer) = verify_beside(alloc, &Inputs::Table { table }, workers);
+    match answer {
+        Err(Fault::Memory) => Err(Fault::Memory),
+        _ => {
+            if speaks_of(&answer, side, mask) {
+                Ok(Built {
+                    file,
+                    digest,
+                    answer,
+                })
+            } else {
+                Err(Fault::K4)
+            }
+        }
+    }
+}
+
+/// Whether a verdict on a table speaks of this side and this mask; so does each refusal.
+fn speaks_of(answer: &Result<Verdict, Fault>, side: u8, mask: u32) -> bool
+    ensures { IsTrue result ↔ SpeaksOf side mask answer.now }
+{
+    match answer {
+        Ok(Verdict::Exact(of_side, of_mask, _)) => of_side.get() == side && *of_mask == mask,
+        _ => true,
+    }
+}
+
+/// The pattern of a side and a mask, where they are one.
+fn pattern_of(side: u8, mask: u32) -> Option<Pattern>
+    ensures { IsSome result ↔ ArePattern side mask }
+{
+    Pattern::of_mask(Side::of(side)?, mask)
+}
