@@ -6,37 +6,37 @@ use Rattle.book_core.specs.Books.{Book}
 use Rattle.book_core.specs.Jobs.{once_below}
 
 -- a pass: its number, and what it has done
-pub record Held : Type 0 where
+pub record NumberedPass : Type 0 where
   pub number : ℕ
   pub deeds : Deeds
 
-abbrev pub held : ℕ → Deeds → Held
-held w p = record { number = w; deeds = p }
+abbrev pub numbered_pass : ℕ → Deeds → NumberedPass
+numbered_pass w p = record { number = w; deeds = p }
 
 -- how often the number w stands in a share
-abbrev pub times_held : ℕ → List Held → ℕ
+abbrev pub times_held : ℕ → List NumberedPass → ℕ
 times_held w share = count_by (λ h. h.number == w) share
 
 -- each pass of the book stands in one share, once, as the book has it
-pub record IsDealt (b : Book) (shares : List (List Held)) : Type 0 where
+pub record IsDealt (b : Book) (shares : List (List NumberedPass)) : Type 0 where
   pub numbers : (w : ℕ) → sum_by (times_held w) shares ≡ once_below w (length b.passes)
-  pub deeds : (i : ℕ) (share : List Held) → slice_get shares i ≡ Some share → (k : ℕ) (h : Held) → slice_get share k ≡ Some h → slice_get b.passes h.number ≡ Some h.deeds
+  pub deeds : (i : ℕ) (share : List NumberedPass) → slice_get shares i ≡ Some share → (k : ℕ) (h : NumberedPass) → slice_get share k ≡ Some h → slice_get b.passes h.number ≡ Some h.deeds
 
 -- n passes that have done nothing, from the number w on
-abbrev pub all_fresh : ℕ → ℕ → List Held
+abbrev pub all_fresh : ℕ → ℕ → List NumberedPass
 all_fresh w zero = []
-all_fresh w (suc n) = held w fresh ∷ all_fresh (suc w) n
+all_fresh w (suc n) = numbered_pass w fresh ∷ all_fresh (suc w) n
 
 -- the first pass of a share, and the others
-abbrev pub first : List Held → List Held
+abbrev pub first : List NumberedPass → List NumberedPass
 first [] = []
 first (h ∷ hs) = h ∷ []
 
-abbrev pub others : List Held → List Held
+abbrev pub others : List NumberedPass → List NumberedPass
 others [] = []
 others (h ∷ hs) = hs
 
 -- the numbers go up by one from w
-abbrev pub IsCounted : ℕ → List Held → Type 0
+abbrev pub IsCounted : ℕ → List NumberedPass → Type 0
 IsCounted w [] = Unit {0}
 IsCounted w (h ∷ hs) = (h.number ≡ w) × IsCounted (suc w) hs

@@ -6,7 +6,7 @@ ghost use Rattle.book_core.specs.Passes.{Deeds};
 ghost use Rattle.book_core.specs.Books.{Book, start};
 ghost use Rattle.book_core.specs.Runs.{after};
 ghost use Rattle.book_core.specs.Laws.{BookLaw, IsAllDrawn};
-ghost use Rattle.book_core.specs.Shares.{Held, held, IsDealt, all_fresh, first, others, IsCounted};
+ghost use Rattle.book_core.specs.Shares.{NumberedPass, numbered_pass, IsDealt, all_fresh, first, others, IsCounted};
 
 /// The law of a book, after every list of events from its start.
 pub fn book_law()
@@ -24,16 +24,16 @@ pub fn book_law()
 /// where a share is cut, and where two are put together.
 pub fn share_law()
     ensures start { (jobs workers : ℕ) → IsDealt (start jobs workers) (all_fresh 0 workers ∷ []) }
-    ensures step { (b c : Book) (shares : List (List Held)) (i w : ℕ) (p q : Deeds) → IsDealt b shares →
-        slice_get shares i ≡ Some (held w p ∷ []) → c.passes ≡ slice_set b.passes w q →
-        IsDealt c (slice_set shares i (held w q ∷ [])) }
-    ensures cut { (b : Book) (shares : List (List Held)) (i : ℕ) (share : List Held) → IsDealt b shares →
+    ensures step { (b c : Book) (shares : List (List NumberedPass)) (i w : ℕ) (p q : Deeds) → IsDealt b shares →
+        slice_get shares i ≡ Some (numbered_pass w p ∷ []) → c.passes ≡ slice_set b.passes w q →
+        IsDealt c (slice_set shares i (numbered_pass w q ∷ [])) }
+    ensures cut { (b : Book) (shares : List (List NumberedPass)) (i : ℕ) (share : List NumberedPass) → IsDealt b shares →
         slice_get shares i ≡ Some share → IsDealt b (slice_set shares i (others share) ++ first share ∷ []) }
-    ensures join { (b : Book) (shares : List (List Held)) (i j : ℕ) (one other : List Held) → IsDealt b shares →
+    ensures join { (b : Book) (shares : List (List NumberedPass)) (i j : ℕ) (one other : List NumberedPass) → IsDealt b shares →
         j ≢ i → slice_get shares i ≡ Some one → slice_get shares j ≡ Some other →
         IsDealt b (slice_set (slice_set shares i (one ++ other)) j []) }
     // A share of all passes, in the order of their numbers, is what the book has.
-    ensures whole { (b : Book) (shares : List (List Held)) (i : ℕ) (share : List Held) → IsDealt b shares →
+    ensures whole { (b : Book) (shares : List (List NumberedPass)) (i : ℕ) (share : List NumberedPass) → IsDealt b shares →
         slice_get shares i ≡ Some share → length share ≡ length b.passes → IsCounted 0 share →
         b.passes ≡ map (λ h. h.deeds) share }
 {}

@@ -8,7 +8,7 @@ use Rattle.atomic_table.proofs.Lists.{set_here, set_else, at_longer, at_last}
 use Rattle.book_core.specs.Passes.{fresh}
 use Rattle.book_core.specs.Books.{Book, start}
 use Rattle.book_core.specs.Places.{IsLeast, IsAtMost}
-use Rattle.book_core.specs.Shares.{Held, held, all_fresh, IsCounted}
+use Rattle.book_core.specs.Shares.{NumberedPass, numbered_pass, all_fresh, IsCounted}
 use Rattle.book_core.proofs.ListLemmas.{slice_get-push_cases}
 use Rattle.book_core.proofs.LawLemmas.{BookLaw-all_drawn}
 use Rattle.book_live.specs.declared.views.Sizes.{Sizes}
@@ -16,7 +16,7 @@ use Rattle.book_live.specs.declared.views.View.{View}
 use Rattle.book_live.specs.Views.{view, alone, opening, deeds_of, first_alone, without_first}
 use Rattle.book_live.specs.Shown.{IsInLimits, IsReached, Shows, place_of}
 use Rattle.book_live.specs.Steps.{opened, made}
-use Rattle.book_live.specs.Callers.{BookId, PassState, IsNewPass, all_deeds, IsEachDrawnOnce, IsOutcome, helds, ShowsEnd, HoldsAll, IsWhole}
+use Rattle.book_live.specs.Callers.{BookId, PassState, IsNewPass, all_deeds, IsEachDrawnOnce, IsOutcome, numbered_passes, ShowsEnd, HoldsAll, IsWhole}
 use Rattle.book_live.proofs.ReachLemmas.{BookLaw-reached, jobs-reached}
 use Rattle.book_live.proofs.SeatMoves.{Shows-opened, Shows-made}
 use Rattle.book_live.proofs.WordLemmas.{place_of-word_of}
@@ -85,27 +85,27 @@ first-and-others (p ∷ passes) others first any read is = λ i. sym read i ∷ 
 
 -- the closing seat, which was that of the first pass and took in the others, stands for all passes
 pub closing-view : {S : Type 0} (me : Me S View) (number : ℕ) (z : Sizes) (passes others : List PassState) (first : PassState) (v : View) → me ≡ (alone me.0.sizes number (deeds_of me.0), []) → number ≡ first.number → deeds_of me.0 ≡ first.deeds
-    → me.0.sizes ≡ z → passes ≡ first ∷ others → v ≡ view me.0.sizes (me.0.held ++ helds others) → v ≡ view z (helds passes)
+    → me.0.sizes ≡ z → passes ≡ first ∷ others → v ≡ view me.0.sizes (me.0.held ++ numbered_passes others) → v ≡ view z (numbered_passes passes)
 closing-view me number z passes others first v own n d sizes all is =
-    is ∙ ap (λ (m : Me _ View). view me.0.sizes (m.0.held ++ helds others)) own ∙ (λ i. view (sizes i) (held (n i) (d i) ∷ helds others)) ∙ ap (λ ps. view z (helds ps)) (sym all)
+    is ∙ ap (λ (m : Me _ View). view me.0.sizes (m.0.held ++ numbered_passes others)) own ∙ (λ i. view (sizes i) (numbered_pass (n i) (d i) ∷ numbered_passes others)) ∙ ap (λ ps. view z (numbered_passes ps)) (sym all)
 
-length-helds : (passes : List PassState) → length (helds passes) ≡ length passes
-length-helds [] = refl
-length-helds (p ∷ passes) = omega (arith, length-helds passes)
+length-numbered_passes : (passes : List PassState) → length (numbered_passes passes) ≡ length passes
+length-numbered_passes [] = refl
+length-numbered_passes (p ∷ passes) = omega (arith, length-numbered_passes passes)
 
-map-helds : (passes : List PassState) → map (λ (h : Held). h.deeds) (helds passes) ≡ all_deeds passes
-map-helds [] = refl
-map-helds (p ∷ passes) = λ i. p.deeds ∷ map-helds passes i
+map-numbered_passes : (passes : List PassState) → map (λ (h : NumberedPass). h.deeds) (numbered_passes passes) ≡ all_deeds passes
+map-numbered_passes [] = refl
+map-numbered_passes (p ∷ passes) = λ i. p.deeds ∷ map-numbered_passes passes i
 
-IsCounted-helds : (n : ℕ) (passes : List PassState) → ((k : ℕ) (p : PassState) → slice_get passes k ≡ Some p → p.number ≡ n + k) → IsCounted n (helds passes)
-IsCounted-helds n [] each = tt
-IsCounted-helds n (p ∷ passes) each = (omega (arith, each 0 p refl), IsCounted-helds (suc n) passes (λ k q e. omega (arith, each (suc k) q e)))
+IsCounted-numbered_passes : (n : ℕ) (passes : List PassState) → ((k : ℕ) (p : PassState) → slice_get passes k ≡ Some p → p.number ≡ n + k) → IsCounted n (numbered_passes passes)
+IsCounted-numbered_passes n [] each = tt
+IsCounted-numbered_passes n (p ∷ passes) each = (omega (arith, each 0 p refl), IsCounted-numbered_passes (suc n) passes (λ k q e. omega (arith, each (suc k) q e)))
 
-pub HoldsAll-helds : (z : Sizes) (passes : List PassState) (v : View) → v ≡ view z (helds passes) → length passes ≡ z.workers → ((k : ℕ) (p : PassState) → slice_get passes k ≡ Some p → p.number ≡ k) → HoldsAll z v
-HoldsAll-helds z passes v is count each =
-    (ap (λ (u : View). length u.held) is ∙ length-helds passes ∙ count, subst (λ (u : View). IsCounted 0 u.held) (sym is) (IsCounted-helds 0 passes (λ k p e. omega (arith, each k p e))))
+pub HoldsAll-numbered_passes : (z : Sizes) (passes : List PassState) (v : View) → v ≡ view z (numbered_passes passes) → length passes ≡ z.workers → ((k : ℕ) (p : PassState) → slice_get passes k ≡ Some p → p.number ≡ k) → HoldsAll z v
+HoldsAll-numbered_passes z passes v is count each =
+    (ap (λ (u : View). length u.held) is ∙ length-numbered_passes passes ∙ count, subst (λ (u : View). IsCounted 0 u.held) (sym is) (IsCounted-numbered_passes 0 passes (λ k p e. omega (arith, each k p e))))
 
-pub ShowsEnd-whole : (b : BookId) (passes : List PassState) (v : View) (word : ℕ) → v ≡ view b.sizes (helds passes) → IsWhole b.sizes v word → ShowsEnd b passes (place_of word)
+pub ShowsEnd-whole : (b : BookId) (passes : List PassState) (v : View) (word : ℕ) → v ≡ view b.sizes (numbered_passes passes) → IsWhole b.sizes v word → ShowsEnd b passes (place_of word)
 ShowsEnd-whole b passes v word is whole = record {
   state = whole.state;
   book = whole.book;
@@ -113,7 +113,7 @@ ShowsEnd-whole b passes v word is whole = record {
   shows = whole.shows;
   seat = whole.seat;
   own = whole.own ∙ ap some is;
-  done = whole.done ∙ ap (λ (u : View). map (λ (h : Held). h.deeds) u.held) is ∙ map-helds passes;
+  done = whole.done ∙ ap (λ (u : View). map (λ (h : NumberedPass). h.deeds) u.held) is ∙ map-numbered_passes passes;
   least = sym (place_of-word_of whole.book (BookLaw-reached b.sizes whole.book whole.reached)) ∙ ap place_of whole.least;
 }
 

@@ -7,7 +7,7 @@ use Rattle.atomic_table.specs.Table.{State}
 use Rattle.book_core.specs.Passes.{Deeds, fresh}
 use Rattle.book_core.specs.Books.{Book, start}
 use Rattle.book_core.specs.Jobs.{times_drawn, once_below}
-use Rattle.book_core.specs.Shares.{Held, held, IsCounted}
+use Rattle.book_core.specs.Shares.{NumberedPass, numbered_pass, IsCounted}
 use Rattle.book_live.specs.declared.views.Sizes.{Sizes}
 use Rattle.book_live.specs.declared.views.View.{View}
 use Rattle.book_live.specs.Views.{view, alone}
@@ -51,8 +51,8 @@ pub record ShowsStart (b : BookId) (passes : List PassState) : Type 0 where
   pub shows : Shows b.sizes (start b.sizes.jobs b.sizes.workers) state
   pub own : (k : ℕ) (p : PassState) → slice_get passes k ≡ Some p → get_elem? state.views (k + 1) ≡ some (alone b.sizes p.number p.deeds)
 
-abbrev pub helds : List PassState → List Held
-helds passes = map (λ p. held p.number p.deeds) passes
+abbrev pub numbered_passes : List PassState → List NumberedPass
+numbered_passes passes = map (λ p. numbered_pass p.number p.deeds) passes
 
 -- The words and the views of a book at its end show what some list of events leads the machine to:
 -- one seat has all of these passes, with what they have done, and the word has this least place.
@@ -62,7 +62,7 @@ pub record ShowsEnd (b : BookId) (passes : List PassState) (place : Option ℕ) 
   pub reached : IsReached b.sizes book
   pub shows : Shows b.sizes book state
   pub seat : ℕ
-  pub own : get_elem? state.views seat ≡ some (view b.sizes (helds passes))
+  pub own : get_elem? state.views seat ≡ some (view b.sizes (numbered_passes passes))
   pub done : book.passes ≡ all_deeds passes
   pub least : book.least ≡ place
 
@@ -80,5 +80,5 @@ pub record IsWhole (z : Sizes) (v : View) (word : ℕ) : Type 0 where
   pub shows : Shows z book state
   pub seat : ℕ
   pub own : get_elem? state.views seat ≡ some v
-  pub done : book.passes ≡ map (λ (h : Held). h.deeds) v.held
+  pub done : book.passes ≡ map (λ (h : NumberedPass). h.deeds) v.held
   pub least : word_of book.least ≡ word

@@ -1,25 +1,25 @@
 -- What a seat shows: its share of the passes of the book.
 use Rattle.std.specs.Prelude.{ℕ, List, [], ◌∷◌, ◌++◌, map}
 use Rattle.book_core.specs.Passes.{Deeds, fresh}
-use Rattle.book_core.specs.Shares.{Held, held, all_fresh, first, others}
+use Rattle.book_core.specs.Shares.{NumberedPass, numbered_pass, all_fresh, first, others}
 use Rattle.book_live.specs.declared.views.Sizes.{Sizes}
 use Rattle.book_live.specs.declared.views.View.{View}
 
-abbrev pub view : Sizes → List Held → View
+abbrev pub view : Sizes → List NumberedPass → View
 view z share = record { sizes = z; held = share }
 
-abbrev pub shares : List View → List (List Held)
+abbrev pub shares : List View → List (List NumberedPass)
 shares views = map (λ v. v.held) views
 
 -- a seat of one pass
 abbrev pub alone : Sizes → ℕ → Deeds → View
-alone z number p = view z (held number p ∷ [])
+alone z number p = view z (numbered_pass number p ∷ [])
 
 -- the first seat has all passes
 abbrev pub opening : Sizes → View
 opening z = view z (all_fresh 0 z.workers)
 
-abbrev pub first_deeds : List Held → Deeds
+abbrev pub first_deeds : List NumberedPass → Deeds
 first_deeds [] = fresh
 first_deeds (h ∷ hs) = h.deeds
 
@@ -27,7 +27,7 @@ first_deeds (h ∷ hs) = h.deeds
 abbrev pub deeds_of : View → Deeds
 deeds_of v = first_deeds v.held
 
-abbrev pub first_number : List Held → ℕ
+abbrev pub first_number : List NumberedPass → ℕ
 first_number [] = 0
 first_number (h ∷ hs) = h.number
 
@@ -35,9 +35,9 @@ first_number (h ∷ hs) = h.number
 abbrev pub number_of : View → ℕ
 number_of v = first_number v.held
 
-abbrev pub first_changed : (Deeds → Deeds) → List Held → List Held
+abbrev pub first_changed : (Deeds → Deeds) → List NumberedPass → List NumberedPass
 first_changed f [] = []
-first_changed f (h ∷ hs) = held h.number (f h.deeds) ∷ hs
+first_changed f (h ∷ hs) = numbered_pass h.number (f h.deeds) ∷ hs
 
 -- the seat of a pass, once that pass has taken a step
 abbrev pub changed : View → (Deeds → Deeds) → View

@@ -8,7 +8,7 @@ ghost use Rattle.book_core.specs.Places.{IsLeast, IsAtMost};
 ghost use Rattle.book_live.specs.Views.{view, alone, opening, changed, without_first, first_alone, together};
 ghost use Rattle.book_live.specs.Shown.{place_of};
 ghost use Rattle.book_live.specs.Steps.{IsOneStep, claim_answer, Claimed, Placed, Looked};
-ghost use Rattle.book_live.specs.Callers.{ArePasses, all_deeds, IsEachDrawnOnce, IsOutcome, ShowsStart, helds, ShowsEnd, HoldsAll, IsWhole};
+ghost use Rattle.book_live.specs.Callers.{ArePasses, all_deeds, IsEachDrawnOnce, IsOutcome, ShowsStart, numbered_passes, ShowsEnd, HoldsAll, IsWhole};
 
 use crate::passes::Pass;
 use crate::rules::{Chair, Claims, LEAST, Looks, NEXT, NONE, Reports, Rule, Shares};
@@ -197,7 +197,7 @@ impl Book {
         requires seat { seat.old.table_id ≡ self.now.table }
         requires passes { All (λ p. p.book ≡ self.now) passes.items }
         ensures table { seat.new.table_id ≡ seat.old.table_id }
-        ensures all { seat.new.me ≡ (view seat.old.me.0.sizes (seat.old.me.0.held ++ helds passes.items), seat.old.me.1) }
+        ensures all { seat.new.me ≡ (view seat.old.me.0.sizes (seat.old.me.0.held ++ numbered_passes passes.items), seat.old.me.1) }
     {
         for pass in passes {
             self.join(seat, pass.seat);

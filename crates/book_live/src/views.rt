@@ -18,9 +18,9 @@ pub struct NumberedPass {
 }
 
 impl Model for NumberedPass {
-    ghost use Rattle.book_core.specs.Shares.{Held};
+    ghost use Rattle.book_core.specs.Shares.{NumberedPass};
 
-    ghost Value = { Held };
+    ghost Value = { NumberedPass };
 
     ghost view = { λ p. record { number = p.number; deeds = p.deeds } };
 }

@@ -10,7 +10,7 @@ pub mod PatternLemmas
 pub mod PlacementLemmas
 pub mod RankLemmas
 pub mod RankSteps
-mod SetLemmas
+pub mod SetLemmas
 pub mod SlideLemmas
 pub mod SlotLemmas
 pub mod SlotSteps

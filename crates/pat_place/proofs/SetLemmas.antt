@@ -37,14 +37,15 @@ module _ (p : PatternView) (pat : IsPattern p) (set : ℕ) (bits : set < 2 ^ (p.
 
 -- ---- the order of the cells is all the same
 
-abbrev pub AreSame : List ℕ → List ℕ → Type 0
-AreSame p q = (x : ℕ) → has p x ≡ has q x
+-- the cells of two lists are the same
+abbrev pub SameCells : List ℕ → List ℕ → Type 0
+SameCells p q = (x : ℕ) → has p x ≡ has q x
 
-same_back : (p q : List ℕ) → AreSame p q → AreSame q p
+pub same_back : (p q : List ℕ) → SameCells p q → SameCells q p
 same_back p q same x = sym (same x)
 
 -- cells of one mask
-pub same_of_mask : (mask : ℕ) (p q : List ℕ) → IsMaskOf mask (λ c. has p c ≡ true) → IsMaskOf mask (λ c. has q c ≡ true) → AreSame p q
+pub same_of_mask : (mask : ℕ) (p q : List ℕ) → IsMaskOf mask (λ c. has p c ≡ true) → IsMaskOf mask (λ c. has q c ≡ true) → SameCells p q
 same_of_mask mask p q is also x = elim (cases_Bool (has p x)) [
   | inl t ↦ t ∙ sym ((also x).0 ((is x).1 t))
   | inr f ↦ elim (cases_Bool (has q x)) [
@@ -53,13 +54,13 @@ same_of_mask mask p q is also x = elim (cases_Bool (has p x)) [
   ]
 ]
 
-free_same : (n : ℕ) (p q : List ℕ) → AreSame p q → (c : ℕ) → IsFree n p c → IsFree n q c
+pub free_same : (n : ℕ) (p q : List ℕ) → SameCells p q → (c : ℕ) → IsFree n p c → IsFree n q c
 free_same n p q same c free = (free.0, sym (same c) ∙ free.1)
 
-joins_same : (n : ℕ) (p q : List ℕ) → AreSame p q → {c d : ℕ} → Joins n p c d → Joins n q c d
+joins_same : (n : ℕ) (p q : List ℕ) → SameCells p q → {c d : ℕ} → Joins n p c d → Joins n q c d
 joins_same n p q same r = same_paths n (IsFree n p) (IsFree n q) (free_same n p q same) r
 
-leader_same : (n : ℕ) (p q : List ℕ) → AreSame p q → (c : ℕ) → IsLeader n p c → IsLeader n q c
+leader_same : (n : ℕ) (p q : List ℕ) → SameCells p q → (c : ℕ) → IsLeader n p c → IsLeader n q c
 leader_same n p q same c l = (free_same n p q same c l.0, λ d r. l.1 d (joins_same n q p (same_back p q same) r))
 
 count_of_same : (A B : ℕ → Type 0) → ((x : ℕ) → A x → B x) → ((x : ℕ) → B x → A x) → (m j : ℕ) → IsCount A m j → IsCount B m j
@@ -69,7 +70,7 @@ count_of_same A B to back (suc m) j a = elim a [
   | inr x ↦ inr (λ b. x.0 (back m b), count_of_same A B to back m j x.1)
 ]
 
-pub slot_same : (n : ℕ) (p q : List ℕ) → AreSame p q → (c j : ℕ) → IsSlot n p c j → IsSlot n q c j
+pub slot_same : (n : ℕ) (p q : List ℕ) → SameCells p q → (c j : ℕ) → IsSlot n p c j → IsSlot n q c j
 slot_same n p q same c j s = record {
   free = free_same n p q same c s.free;
   leader = s.leader;

@@ -1,5 +1,5 @@
 -- Regions: the free cells that paths of free cells reach.
-use Rattle.std.specs.Prelude.{◌≡◌, ℕ, zero, suc, ◌*◌, ◌<◌, ◌≤◌, ◌↔◌, ◌⊎◌, List, length, slice_index}
+use Rattle.std.specs.Prelude.{◌≡◌, ◌≢◌, ℕ, zero, suc, ◌*◌, ◌<◌, ◌≤◌, ◌↔◌, ◌⊎◌, List, length, slice_index}
 use Rattle.std.specs.Int.{bit_at}
 pub use Rattle.puz_board.specs.Paths.{Reaches, here, onward}
 use Rattle.pat_place.specs.Placements.{IsFree}
@@ -29,3 +29,9 @@ pub record IsSlot (n : ℕ) (cells : List ℕ) (c j : ℕ) : Type 0 where
 pub record AreRegions (n : ℕ) (cells masks : List ℕ) : Type 0 where
   pub each : (j c : ℕ) → j < length masks → (bit_at (slice_index masks j) c ≡ 1) ↔ IsSlot n cells c j
   pub all : IsCount (IsLeader n cells) (n * n) (length masks)
+
+-- mask number j is the first of these that has the cell
+pub record IsFirstWith (masks : List ℕ) (cell j : ℕ) : Type 0 where
+  pub low : j < length masks
+  pub here : bit_at (slice_index masks j) cell ≡ 1
+  pub before : (i : ℕ) → i < j → bit_at (slice_index masks i) cell ≢ 1

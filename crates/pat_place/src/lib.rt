@@ -19,4 +19,4 @@ pub use placements::Placement;
 pub use ranks::{next, rank, rank_among, unrank};
 pub use set_numbers::SetNumbers;
 pub use slot_tables::SlotTable;
-pub use slots::{free_cells, regions, slot_of};
+pub use slots::{find_region, free_cells, regions, slot_of};

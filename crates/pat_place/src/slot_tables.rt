@@ -1,7 +1,6 @@
 //! The slots of all placements of one size, by their sets of cells.
 
-ghost use Rattle.std.specs.Prelude.{◌≡◌, ◌≢◌, ℕ, ◌*◌, ◌^◌, ◌<◌, IfOk, IfSome, MatchOption, OnOk, count_ones, length, slice_index};
-ghost use Rattle.std.specs.Int.{bit_at};
+ghost use Rattle.std.specs.Prelude.{◌≡◌, ◌*◌, ◌^◌, ◌<◌, IfOk, IfSome, OnOk, count_ones, length};
 ghost use Rattle.pat_place.specs.Placements.{IsFree};
 ghost use Rattle.pat_place.specs.Regions.{IsSlot};
 ghost use Rattle.pat_place.specs.StoredSlots.{AreAllSlots, AreSlots};
@@ -9,7 +8,7 @@ ghost use Rattle.pat_place.specs.StoredSlots.{AreAllSlots, AreSlots};
 use crate::patterns::Pattern;
 use crate::placements::Placement;
 use crate::set_numbers::SetNumbers;
-use crate::slots::regions;
+use crate::slots::{find_region, regions};
 use std::alloc::{AllocError, Global};
 use std::marker::Model;
 
@@ -115,19 +114,4 @@ fn slots_of(placement: &Placement) -> [u8; 25]
         }
     }
     slots
-}
-
-/// The first of these regions that has the cell.
-fn find_region(regions: &[u32], cell: u8) -> Option<usize>
-    requires { cell < 32 }
-    ensures { MatchOption result
-        ((j : ℕ) → j < length regions.now → bit_at (slice_index regions.now j) cell ≢ 1)
-        (λ j. (j < length regions.now) × (bit_at (slice_index regions.now j) cell ≡ 1)) }
-{
-    for (j, region) in regions.iter().enumerate() {
-        if *region >> cell & 1 == 1 {
-            return Some(j);
-        }
-    }
-    None
 }

@@ -1,11 +1,12 @@
 //! Regions of free cells, and slots.
 
-ghost use Rattle.std.specs.Prelude.{ℕ, ◌*◌, ◌^◌, ◌<◌, ◌≤◌, length};
+ghost use Rattle.std.specs.Prelude.{◌≢◌, ℕ, ◌*◌, ◌^◌, ◌<◌, ◌≤◌, MatchOption, length, slice_index};
+ghost use Rattle.std.specs.Int.{bit_at};
 ghost use Rattle.arrayvec.specs.ArrayVec.{array_vec_len};
 ghost use Rattle.puz_board.specs.Masks.{IsMaskOf};
 ghost use Rattle.pat_place.specs.Patterns.{width};
 ghost use Rattle.pat_place.specs.Placements.{IsFree};
-ghost use Rattle.pat_place.specs.Regions.{IsSlot, AreRegions};
+ghost use Rattle.pat_place.specs.Regions.{IsSlot, AreRegions, IsFirstWith};
 
 use crate::flood::{region_of, region_until};
 use crate::masks;
@@ -27,6 +28,22 @@ pub fn regions(placement: &Placement) -> ArrayVec<u32, 8>
         rest &= !region;
     }
     regions
+}
+
+/// The first of these regions that has the cell.
+#[inline]
+pub fn find_region(regions: &[u32], cell: u8) -> Option<usize>
+    requires { cell < 32 }
+    ensures { MatchOption result
+        ((i : ℕ) → i < length regions.now → bit_at (slice_index regions.now i) cell ≢ 1)
+        (IsFirstWith regions.now cell) }
+{
+    for (j, region) in regions.iter().enumerate() {
+        if *region >> cell & 1 == 1 {
+            return Some(j);
+        }
+    }
+    None
 }
 
 /// The slot of a free cell: the number of its region among all regions, from 0.

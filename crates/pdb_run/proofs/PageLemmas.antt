@@ -9,10 +9,9 @@ use Rattle.std.proofs.lemmas.List.Concat.{flat_map-cons}
 use Rattle.pdb_io.specs.Shelves.{Bytes}
 use Rattle.pdb_io.specs.Streams.{AppendsFront, joined}
 use Rattle.pdb_io.proofs.Appending.{appends_more, front_more}
-use Rattle.pdb_run.specs.Lines.{digest_line, digests_of, list_of, reply_text, shown_byte}
+use Rattle.pdb_run.specs.Lines.{all_bytes, digest_line, digests_of, list_of, reply_text, shown_byte}
 use Rattle.pdb_run.specs.Pages.{Gathers}
 use Rattle.pdb_run.specs.Plans.{Reply}
-use Rattle.pdb_run.specs.Replies.{all_bytes}
 
 -- ---- one page
 

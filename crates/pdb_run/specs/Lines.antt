@@ -1,5 +1,6 @@
 -- The lines that a run of any command writes.
-use Rattle.std.specs.Prelude.{ℕ, ◌==◌, ◌||◌, nat_lt, if◌then◌else◌, List, [], ◌∷◌, ◌++◌, Option, Some, None, codes, flat_map, map}
+use Rattle.std.specs.Prelude.{ℕ, ◌==◌, ◌||◌, nat_lt, if◌then◌else◌, List, [], ◌∷◌, ◌++◌, Option, Some, None, Vec, codes, flat_map, map, option_map}
+use Rattle.std.specs.Borrow.{Bor}
 use Rattle.hex.specs.Hex.{encode_lower}
 use Rattle.sha2.specs.Sha256.{sha256}
 use Rattle.pdb_io.specs.Shelves.{Bytes}
@@ -19,6 +20,14 @@ digests_of = flat_map digest_line
 abbrev pub list_of : Option Bytes → List Bytes
 list_of None = []
 list_of (Some file) = file ∷ []
+
+-- the bytes of each vector
+abbrev pub all_bytes : {A : Type 0} → List (Vec ℕ A) → List Bytes
+all_bytes = map (λ v. v.items)
+
+-- the files of several vectors and a last file behind them, where there is one
+abbrev pub all_files : {A : Type 0} → List (Vec ℕ A) → Option (Bor Bytes) → List Bytes
+all_files files last = all_bytes files ++ list_of (option_map (λ f. f.now) last)
 
 -- all that is written of a reply
 abbrev pub reply_text : Reply → Bytes

@@ -1,8 +1,8 @@
 //! An answer as a value.
 
-ghost use Rattle.std.specs.Prelude.{◌≡◌, ◌≤◌, ◌++◌, length, map, option_map};
+ghost use Rattle.std.specs.Prelude.{◌≡◌, ◌≤◌, length, option_map};
 ghost use Rattle.pdb_io.specs.Streams.{joined};
-ghost use Rattle.pdb_run.specs.Lines.{digests_of, list_of};
+ghost use Rattle.pdb_run.specs.Lines.{all_files, digests_of, list_of};
 
 use crate::digests::Digests;
 use arrayvec::ArrayString;
@@ -31,7 +31,7 @@ pub struct Answer<'a> {
     pub lines: Lines,
     /// Whether it is a yes.
     pub is_yes: bool,
-    ghost ready: { option_map (λ d. d.items) digests ≡ option_map (λ _. digests_of (map (λ v. v.items) files.now ++ list_of (option_map (λ f. f.now) last))) digests },
+    ghost ready: { option_map (λ d. d.items) digests ≡ option_map (λ _. digests_of (all_files files.now last)) digests },
     ghost made_ready: { option_map (λ d. d.items) made_digest ≡ option_map (λ _. digests_of (list_of (option_map (λ v. v.items) made))) made_digest },
 }
 

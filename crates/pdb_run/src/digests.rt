@@ -1,8 +1,7 @@
 //! Digest lines, and how they are made beside a check.
 
-ghost use Rattle.std.specs.Prelude.{◌≡◌, ◌<◌, ◌++◌, option_map, IfOk, IfSome, IsOk, OnOk};
-ghost use Rattle.pdb_run.specs.Lines.{digest_line, digests_of, list_of};
-ghost use Rattle.pdb_run.specs.Replies.{all_bytes};
+ghost use Rattle.std.specs.Prelude.{◌≡◌, ◌<◌, ◌++◌, IfOk, IfSome, IsOk, OnOk};
+ghost use Rattle.pdb_run.specs.Lines.{all_files, digest_line, digests_of};
 
 use arrayvec::{ArrayVec, CapacityError};
 use sha2::{Digest, Sha256};
@@ -37,7 +36,7 @@ pub fn beside<R: Threads, T, F: FnOnce() -> T>(
     check: F,
 ) -> (Option<Digests>, T)
     requires { F.pre check }
-    ensures digests { IfSome result.0 (λ digests. digests.items ≡ digests_of (all_bytes files.now ++ list_of (option_map (λ f. f.now) last.entry))) }
+    ensures digests { IfSome result.0 (λ digests. digests.items ≡ digests_of (all_files files.now last.entry)) }
     ensures answer { F.post check result.1 }
 {
     if workers < 2 || files.len() > FILES_BESIDE {
@@ -56,7 +55,7 @@ fn beside_in_groups<R: Threads, T, F: FnOnce() -> T>(
     check: F,
 ) -> (Made, T)
     requires { F.pre check }
-    ensures digests { IfOk result.0 (λ digests. digests.items ≡ digests_of (all_bytes files.now ++ list_of (option_map (λ f. f.now) last.entry))) }
+    ensures digests { IfOk result.0 (λ digests. digests.items ≡ digests_of (all_files files.now last.entry)) }
     ensures answer { F.post check result.1 }
 {
     if groups < 2 || files.is_empty() {
@@ -65,7 +64,7 @@ fn beside_in_groups<R: Threads, T, F: FnOnce() -> T>(
     let (front, behind) = files.split_at(files.len().div_ceil(usize::from(groups)));
     let others = || -> (Made, T)
         requires { F.pre check × (1 < groups) }
-        ensures digests { IfOk result.0 (λ digests. digests.items ≡ digests_of (all_bytes behind.entry.now ++ list_of (option_map (λ f. f.now) last.entry))) }
+        ensures digests { IfOk result.0 (λ digests. digests.items ≡ digests_of (all_files behind.entry.now last.entry)) }
         ensures answer { F.post check result.1 }
     { beside_in_groups(rt, groups - 1, behind, last, check) };
     let (front, (behind, answer)) = group_beside(rt, front, None, others);
@@ -80,18 +79,18 @@ fn group_beside<R: Threads, T, F: FnOnce() -> T>(
     check: F,
 ) -> (Made, T)
     requires { F.pre check }
-    ensures digests { IfOk result.0 (λ digests. digests.items ≡ digests_of (all_bytes files.now ++ list_of (option_map (λ f. f.now) last.entry))) }
+    ensures digests { IfOk result.0 (λ digests. digests.items ≡ digests_of (all_files files.now last.entry)) }
     ensures answer { F.post check result.1 }
 {
     let digests = || -> Made
-        ensures { IfOk result (λ digests. digests.items ≡ digests_of (all_bytes files.entry.now ++ list_of (option_map (λ f. f.now) last.entry))) }
+        ensures { IfOk result (λ digests. digests.items ≡ digests_of (all_files files.entry.now last.entry)) }
     { digests_in_order(files, last) };
     join(rt, digests, check)
 }
 
 /// The digest lines of files, and of the last one, where there is one.
 fn digests_in_order(files: &[Vec<u8>], last: Option<&[u8]>) -> Made
-    ensures { IfOk result (λ digests. digests.items ≡ digests_of (all_bytes files.now ++ list_of (option_map (λ f. f.now) last.entry))) }
+    ensures { IfOk result (λ digests. digests.items ≡ digests_of (all_files files.now last.entry)) }
 {
     let mut digests = Digests::new();
     for file in files {

@@ -3,9 +3,8 @@
 ghost use Rattle.std.specs.Prelude.{◌≡◌, ◌++◌, ◌∷◌, [], map, option_map, OnOk, OnErr};
 ghost use Rattle.std.specs.Io.KnownBytes.{Appends};
 ghost use Rattle.pdb_io.specs.Streams.{AppendsFront};
-ghost use Rattle.pdb_run.specs.Lines.{digests_of, list_of, shown_byte};
+ghost use Rattle.pdb_run.specs.Lines.{all_bytes, all_files, digests_of, list_of, shown_byte};
 ghost use Rattle.pdb_run.specs.Pages.{Gathers};
-ghost use Rattle.pdb_run.specs.Replies.{all_bytes};
 
 use crate::digests::digest_line;
 use arrayvec::ArrayVec;
@@ -73,8 +72,8 @@ impl Page {
         last: Option<&[u8]>,
         out: &mut W,
     ) -> Result<(), WriteFault>
-        ensures whole { OnOk result (Gathers (W.contents out.old) self.old.text.items (W.contents out.new) self.new.text.items (digests_of (all_bytes files.now ++ list_of (option_map (λ f. f.now) last.entry)))) }
-        ensures front { OnErr result (AppendsFront (W.contents out.old) (W.contents out.new) (self.old.text.items ++ digests_of (all_bytes files.now ++ list_of (option_map (λ f. f.now) last.entry)))) }
+        ensures whole { OnOk result (Gathers (W.contents out.old) self.old.text.items (W.contents out.new) self.new.text.items (digests_of (all_files files.now last.entry))) }
+        ensures front { OnErr result (AppendsFront (W.contents out.old) (W.contents out.new) (self.old.text.items ++ digests_of (all_files files.now last.entry))) }
     {
         self.add_files(files, out)?;
         self.add_digest(last, out)

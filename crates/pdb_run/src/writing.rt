@@ -1,11 +1,11 @@
 //! What is written of an answer.
 
-ghost use Rattle.std.specs.Prelude.{◌≡◌, ◌++◌, option_map, OnOk, OnErr};
+ghost use Rattle.std.specs.Prelude.{◌≡◌, ◌++◌, OnOk, OnErr};
 ghost use Rattle.std.specs.Io.KnownBytes.{Appends};
 ghost use Rattle.pdb_io.specs.Streams.{AppendsFront};
-ghost use Rattle.pdb_run.specs.Lines.{digests_of, list_of, reply_text};
+ghost use Rattle.pdb_run.specs.Lines.{all_files, digests_of, list_of, reply_text};
 ghost use Rattle.pdb_run.specs.Pages.{Gathers};
-ghost use Rattle.pdb_run.specs.Replies.{all_bytes, reply_of};
+ghost use Rattle.pdb_run.specs.Replies.{reply_of};
 
 use crate::answer::Answer;
 use crate::pages::Page;
@@ -61,8 +61,8 @@ pub fn say_digests<W: Write>(
     last: Option<&[u8]>,
     out: &mut W,
 ) -> Result<(), WriteFault>
-    ensures whole { OnOk result (Appends (W.contents out.old) (W.contents out.new) (digests_of (all_bytes files.now ++ list_of (option_map (λ f. f.now) last.entry)))) }
-    ensures front { OnErr result (AppendsFront (W.contents out.old) (W.contents out.new) (digests_of (all_bytes files.now ++ list_of (option_map (λ f. f.now) last.entry)))) }
+    ensures whole { OnOk result (Appends (W.contents out.old) (W.contents out.new) (digests_of (all_files files.now last.entry))) }
+    ensures front { OnErr result (AppendsFront (W.contents out.old) (W.contents out.new) (digests_of (all_files files.now last.entry))) }
 {
     let mut page = Page::new();
     page.add_digests(files, last, out)?;

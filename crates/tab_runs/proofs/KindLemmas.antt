@@ -5,16 +5,15 @@ use Rattle.puz_board.specs.Masks.{IsMaskOf}
 use Rattle.pat_place.specs.Patterns.{PatternView, has}
 use Rattle.pat_place.specs.Placements.{IsFree}
 use Rattle.pat_place.specs.Regions.{AreRegions}
+use Rattle.pat_place.proofs.SetLemmas.{SameCells, free_same, same_back, same_of_mask, slot_same}
 use Rattle.tab_check.proofs.OneEntryLemmas.{none_past, region_of_mask}
 use Rattle.tab_file.specs.Tables.{slot_count}
 use Rattle.tab_runs.specs.Kinds.{AreKindsUpTo, AreMarked, TellRegions, TellRegionsOf, TellsRegion}
-use Rattle.tab_runs.specs.Runs.{IsRun, SameCells, free_below, run_length, with_last}
+use Rattle.tab_runs.specs.Runs.{IsRun, free_below, run_length, with_last}
 use Rattle.tab_runs.specs.StoredRows.{entries_of_run}
 use Rattle.tab_runs.proofs.RowLemmas.{free_below-same, parts_one}
 use Rattle.tab_runs.proofs.RunLemmas.{same_with_last}
 use Rattle.tab_runs.proofs.RunRanks.{free_below-one}
-use Rattle.tab_runs.proofs.SetLemmas.{free_same, same_back, slot_same}
-use Rattle.tab_runs.proofs.TableLemmas.{same_masks}
 
 -- ---- one placement more
 
@@ -80,4 +79,4 @@ pub entries_same : (p : PatternView) (cells : List ℕ) → IsRun p cells → ru
 entries_same p cells run = ap (λ k. k * slot_count p) (let s = run.size in let e : p.side * p.side - length cells ≡ p.side * p.side + 1 - length p.tiles = omega arith in e)
 
 pub kinds_of_set : (n w : ℕ) (p kinds : List ℕ) (mask : ℕ) → IsMaskOf mask (λ c. has p c ≡ true) → TellRegions n w p kinds → TellRegionsOf n w mask kinds
-kinds_of_set n w p kinds mask is tells q also = tells_same n w p q (same_masks mask p q is also) kinds tells
+kinds_of_set n w p kinds mask is tells q also = tells_same n w p q (same_of_mask mask p q is also) kinds tells

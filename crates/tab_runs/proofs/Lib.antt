@@ -9,7 +9,6 @@ mod RowLemmas
 mod RunLemmas
 mod RunRanks
 mod ServingLemmas
-mod SetLemmas
 mod SetRowLemmas
 mod StepLemmas
 mod TableLemmas

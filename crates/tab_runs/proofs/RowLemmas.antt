@@ -8,14 +8,14 @@ use Rattle.pat_place.specs.Patterns.{IsPattern, PatternView, most_tiles, width}
 use Rattle.pat_place.specs.Placements.{IsApart, IsFree}
 use Rattle.pat_place.specs.Regions.{IsSlot}
 use Rattle.pat_place.proofs.CountLemmas.{holds_at}
+use Rattle.pat_place.proofs.SetLemmas.{SameCells, free_same, same_back, slot_same}
 use Rattle.pat_place.proofs.SlotLemmas.{slot_some}
 use Rattle.pat_place.proofs.WidthLemmas.{slot_within}
 use Rattle.tab_file.specs.Tables.{slot_count}
 use Rattle.tab_runs.specs.Rows.{IsOpen, IsRow, place_of}
-use Rattle.tab_runs.specs.Runs.{IsRun, SameCells, free_below, run_length, with_last}
+use Rattle.tab_runs.specs.Runs.{IsRun, free_below, run_length, with_last}
 use Rattle.tab_runs.proofs.RunLemmas.{open_decided, open_free, placed_last, same_with_last}
 use Rattle.tab_runs.proofs.RunRanks.{free_below-low, free_below-one}
-use Rattle.tab_runs.proofs.SetLemmas.{free_same, same_back, slot_same}
 
 -- ---- the order of the cells is all the same
 

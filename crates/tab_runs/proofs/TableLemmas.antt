@@ -1,13 +1,12 @@
 -- The table of rows, set by set.
-use Rattle.std.proofs.Common.{◌≡◌, ℕ, ◌+◌, ◌*◌, ◌<◌, ◌≤◌, true, List, get_or, take, drop, inl, inr, sym, ◌∙◌, arith, length-drop}
-use Rattle.std.proofs.lemmas.Bool.{cases_Bool, both_ways}
+use Rattle.std.proofs.Common.{◌≡◌, ℕ, ◌+◌, ◌*◌, ◌<◌, ◌≤◌, true, List, get_or, take, drop, ◌∙◌, arith, length-drop}
 use Rattle.std.proofs.lemmas.List.{get_or-drop, get_or-take, length-take-le}
 use Rattle.std.proofs.Math.Nat.{mul-le-mul_right}
 use Rattle.puz_board.specs.Masks.{IsMaskOf}
 use Rattle.pat_place.specs.Patterns.{has}
+use Rattle.pat_place.proofs.SetLemmas.{same_of_mask}
 use Rattle.tab_runs.specs.SetRows.{AreRowsUpTo}
 use Rattle.tab_runs.specs.Rows.{IsRow}
-use Rattle.tab_runs.specs.Runs.{SameCells}
 use Rattle.tab_runs.specs.StoredRows.{AreRowsOf, row_of}
 use Rattle.tab_runs.proofs.RowLemmas.{row_same}
 
@@ -25,18 +24,9 @@ row_of_set n w p block is x l = record {
     byte : (c : ℕ) → c < n * n → get_or (take (n * n) (drop (x * (n * n)) block)) c 0 ≡ get_or block (x * (n * n) + c) 0
     byte c low = get_or-take (n * n) (drop (x * (n * n)) block) c 0 low ∙ get_or-drop (x * (n * n)) block c 0
 
-pub same_masks : (mask : ℕ) (p q : List ℕ) → IsMaskOf mask (λ c. has p c ≡ true) → IsMaskOf mask (λ c. has q c ≡ true) → SameCells p q
-same_masks mask p q is also x = elim (cases_Bool (has p x)) [
-  | inl t ↦ t ∙ sym ((also x).0 ((is x).1 t))
-  | inr f ↦ elim (cases_Bool (has q x)) [
-    | inl t ↦ absurd (both_ways (has p x) f ((is x).0 ((also x).1 t)))
-    | inr g ↦ f ∙ sym g
-  ]
-]
-
 -- the rows of a block are those of its mask, by each order of the cells
 pub rows_of_set : (n w : ℕ) (p block : List ℕ) (mask : ℕ) → IsMaskOf mask (λ c. has p c ≡ true) → AreRowsUpTo n w p (n * n) block → AreRowsOf n w mask block
 rows_of_set n w p block mask is filled = record {
   size = filled.size;
-  each = λ cell inside q also. row_same n w p q (same_masks mask p q is also) cell (row_of (n * n) block cell) (row_of_set n w p block filled cell inside);
+  each = λ cell inside q also. row_same n w p q (same_of_mask mask p q is also) cell (row_of (n * n) block cell) (row_of_set n w p block filled cell inside);
 }

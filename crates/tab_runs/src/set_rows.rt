@@ -1,7 +1,6 @@
 //! The rows of all cells for one set of cells.
 
-ghost use Rattle.std.specs.Prelude.{◌≡◌, ◌≢◌, ℕ, ◌+◌, ◌*◌, ◌^◌, ◌<◌, ◌≤◌, MatchOption, count_ones, length, slice_index, true, IfOk, OnOk};
-ghost use Rattle.std.specs.Int.{bit_at};
+ghost use Rattle.std.specs.Prelude.{◌≡◌, ◌+◌, ◌*◌, ◌^◌, ◌<◌, ◌≤◌, count_ones, length, true, IfOk, OnOk};
 ghost use Rattle.puz_board.specs.Masks.{IsMaskOf};
 ghost use Rattle.pat_place.specs.Patterns.{has};
 ghost use Rattle.tab_file.specs.Tables.{slot_count};
@@ -11,25 +10,9 @@ ghost use Rattle.tab_runs.specs.SetRows.{AreRowsUpTo, IsColumn};
 ghost use Rattle.tab_runs.specs.StoredRows.{AreAllKinds, AreAllRows, entries_of_run};
 
 use crate::masks;
-use pat_place::{Pattern, next, rank_among, regions, unrank};
+use pat_place::{Pattern, find_region, next, rank_among, regions, unrank};
 use std::alloc::{AllocError, Global};
 use tab_lanes::OTHER_SLOT;
-
-/// The first of these regions that has the cell.
-#[inline]
-fn find_region(regions: &[u32], cell: u8) -> Option<usize>
-    requires { cell < 32 }
-    ensures { MatchOption result
-        ((j : ℕ) → j < length regions.now → bit_at (slice_index regions.now j) cell ≢ 1)
-        (λ j. (j < length regions.now) × (bit_at (slice_index regions.now j) cell ≡ 1)) }
-{
-    for (j, region) in regions.iter().enumerate() {
-        if *region >> cell & 1 == 1 {
-            return Some(j);
-        }
-    }
-    None
-}
 
 /// Fills in where the regions of one placement stand: `before`, and the number of the region.
 fn fill_column(set_rows: &mut [u8], cells: u8, last: u8, before: u8, regions: &[u32])

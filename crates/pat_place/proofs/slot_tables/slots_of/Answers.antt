@@ -21,7 +21,7 @@ loop-cell-preserved c =
           let put = w.slots-is ∙ ap (λ i. set c.loop-cell.slots i w.in-Some.slot) w.from.ensures in
           record {
             size = ap length put ∙ length-set c.loop-cell.slots cell w.in-Some.slot ∙ c.loop-cell.invariant.size;
-            slots = subst (AreSlotsUpTo n p.cells (cell + 1)) (sym put) (slots_set n pat.low pat.high p.cells regions are cell c.loop-cell.slots c.loop-cell.invariant.slots w.in-Some.slot w.in-Some.ensures.0 w.in-Some.ensures.1 room);
+            slots = subst (AreSlotsUpTo n p.cells (cell + 1)) (sym put) (slots_set n pat.low pat.high p.cells regions are cell c.loop-cell.slots c.loop-cell.invariant.slots w.in-Some.slot w.in-Some.ensures.low w.in-Some.ensures.here room);
           }
       | in_default w ↦ record {
         size = ap length w.slots-is ∙ c.loop-cell.invariant.size;

@@ -18,7 +18,7 @@ loop-x-preserved c =
       | in-Some w ↦
           let at : w.from.result * w.from-in-Some.result + w.from-in-Some-2.result ≡ x * m + last = ap₂ (λ a b. a * b + w.from-in-Some-2.result) w.from.ensures w.from-in-Some.ensures ∙ ap (λ k. x * m + k) w.from-in-Some-2.ensures in
           subst (λ b. IsColumn m last before regions (x + 1) c.args.set_rows.now b) (sym (w.set_rows-is ∙ ap (λ i. set c.loop-x.set_rows i (before + w.in-Some.j)) at))
-          (column_set m last before regions x c.args.set_rows.now c.loop-x.set_rows c.requires.last inside c.loop-x.invariant w.in-Some.j w.in-Some.ensures.0 w.in-Some.ensures.1)
+          (column_set m last before regions x c.args.set_rows.now c.loop-x.set_rows c.requires.last inside c.loop-x.invariant w.in-Some.j w.in-Some.ensures.low w.in-Some.ensures.here)
       | in_default w ↦
           subst (λ b. IsColumn m last before regions (x + 1) c.args.set_rows.now b) (sym w.set_rows-is)
           (column_skip m last before regions x c.args.set_rows.now c.loop-x.set_rows c.requires.last c.loop-x.invariant (w.in_default.ensures {u = tt}))

@@ -1,6 +1,6 @@
 use Rattle.std.proofs.Common.{◌≡◌, ◌<◌, ◌∷◌, ◌∙◌, Some, sym, ap, subst, arith, slice_get, length}
 use Rattle.book_live.specs.Callers.{ShowsEnd}
-use Rattle.book_live.proofs.CallerLemmas.{first-and-others, closing-view, HoldsAll-helds, ShowsEnd-whole, IsOutcome-end, IsLeast-outcome, IsAtMost-outcome, IsEachDrawnOnce-outcome}
+use Rattle.book_live.proofs.CallerLemmas.{first-and-others, closing-view, HoldsAll-numbered_passes, ShowsEnd-whole, IsOutcome-end, IsLeast-outcome, IsAtMost-outcome, IsEachDrawnOnce-outcome}
 use Rattle.book_live.proofs.books.Book.close.Goals as goal
 
 pub finish-least-requires-clause-all : goal.finish-least-requires-clause-all
@@ -13,7 +13,7 @@ finish-least-requires-clause-all c =
     let here : slice_get passes 0 ≡ Some first = ap (λ l. slice_get l 0) all in
     let sizes = ap (λ p. p.book.sizes) c.seat.view_is ∙ ap (λ b. b.sizes) (c.requires.each 0 first here).0 in
     let whole = closing-view c.seat.inside.seat.me c.seat.inside.number c.args.self.sizes passes others first c.join_all.new.seat.me.0 c.seat.invariant.0 (ap (λ p. p.number) c.seat.view_is) (ap (λ p. p.deeds) c.seat.view_is) sizes all (ap (λ m. m.0) c.join_all.ensures.all) in
-    HoldsAll-helds c.args.self.sizes passes c.join_all.new.seat.me.0 whole c.requires.count (λ k p e. (c.requires.each k p e).1)
+    HoldsAll-numbered_passes c.args.self.sizes passes c.join_all.new.seat.me.0 whole c.requires.count (λ k p e. (c.requires.each k p e).1)
 
 pub returns : goal.returns
 returns c =

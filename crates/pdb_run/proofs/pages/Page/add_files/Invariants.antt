@@ -1,7 +1,6 @@
 use Rattle.std.proofs.Common.{take}
-use Rattle.pdb_run.specs.Lines.{digests_of}
+use Rattle.pdb_run.specs.Lines.{all_bytes, digests_of}
 use Rattle.pdb_run.specs.Pages.{Gathers}
-use Rattle.pdb_run.specs.Replies.{all_bytes}
 use Rattle.pdb_run.proofs.pages.Page.add_files.Given as goal
 
 abbrev pub invariant-loop-file : goal.invariant-loop-file

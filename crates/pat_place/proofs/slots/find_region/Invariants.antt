@@ -1,6 +1,6 @@
 use Rattle.std.proofs.Common.{◌≢◌, ℕ, ◌<◌, get_or}
 use Rattle.std.specs.Int.{bit_at}
-use Rattle.tab_runs.proofs.set_rows.find_region.Given as goal
+use Rattle.pat_place.proofs.slots.find_region.Given as goal
 
 abbrev pub invariant-loop-j : goal.invariant-loop-j
 invariant-loop-j l = (j : ℕ) → j < l.j → bit_at (get_or l.regions j 0) l.cell ≢ 1
