@@ -24,10 +24,3 @@ pub use faults::MakeFault;
 pub use layers::layer;
 pub use searches::{Found, solve};
 pub use tables::build;
-
-#[cfg(test)]
-mod build_tests;
-#[cfg(test)]
-mod search_tests;
-#[cfg(test)]
-mod tests;

@@ -1,7 +1,7 @@
-//! Searches that their budget ends.
+//! Searches that their budget ends, or that find no solution.
 
-use crate::MakeFault;
-use crate::tests::{bundle, found};
+use crate::finding::{PLENTY, bundle, found};
+use puz_make::MakeFault;
 use samples::LeastCosts;
 use samples::files::{TILE_1, TILES_12, TILES_123};
 use set_sum::Bundle;
@@ -43,4 +43,20 @@ fn searches_end_below_the_budget_that_they_need(rt: HostRuntime) -> Result<(), F
     let numbers = [3, 2, 1, 7, 6, 0, 5, 8, 4];
     ends_below(&rt, &parts, &numbers, 33, b"DLUURDLLDRULURRDLUL");
     Ok(())
+}
+
+#[test]
+fn searches_end(rt: HostRuntime) {
+    let all = bundle(&rt, &[&TILES_123], b"set 0\n");
+    let two = bundle(&rt, &[&TILES_12], b"set 0\n");
+    let fault = |bundle: &Bundle<'_>, numbers: &[u8], budget: u64| found(
+        &rt, bundle, numbers, budget,
+    ).err();
+    let one = bundle(&rt, &[&TILE_1], b"set 0\n");
+    assert_eq!(rt; fault(&all, &[0, 1, 3, 2], PLENTY), Some(MakeFault::K2));
+    assert_eq!(rt; fault(&one, &[0, 1, 3, 2], PLENTY), Some(MakeFault::K2));
+    assert_eq!(rt; fault(&one, &[0, 1, 3, 2], 1000), Some(MakeFault::K1));
+    assert_eq!(rt; fault(&two, &[3, 2, 1, 0], 1), Some(MakeFault::K1));
+    assert_eq!(rt; fault(&all, &[1, 0, 2, 3], 0), Some(MakeFault::K1));
+    assert_eq!(rt; fault(&all, &[0, 1, 2, 3], 0), None);
 }

@@ -1,0 +1,15 @@
+//! Tests of the makers of tables and of logs, over the public calls of `puz_make`.
+#![tactic(auto)]
+
+#[cfg(test)]
+mod boards;
+#[cfg(test)]
+mod budgets;
+#[cfg(test)]
+mod finding;
+#[cfg(test)]
+mod layers;
+#[cfg(test)]
+mod searches;
+#[cfg(test)]
+mod tables;
