@@ -8,7 +8,7 @@ use crate::grids::Grid;
 use crate::layers::layer;
 use crate::shapes::Shapes;
 use crate::steps::Steps;
-use crate::turns::{ORDERS_OF_WORD, add};
+use crate::turns::{ORDERS_OF_WORD, add, take_order};
 use rayon::prelude::*;
 use std::alloc::{AllocError, Global};
 use std::thread::Threads;
@@ -248,9 +248,8 @@ fn write_entries(orders: &[u64], entries: &mut [u8], entry: u8) {
 fn write_entries_of_word(word: u64, entries: &mut [u8], entry: u8) {
     let mut rest = word;
     for _ in 0..word.count_ones() {
-        if let Some(place) = entries.get_mut(rest.trailing_zeros() as usize) {
+        if let Some(place) = entries.get_mut(take_order(&mut rest)) {
             *place = entry;
         }
-        rest &= rest.wrapping_sub(1);
     }
 }

@@ -57,17 +57,18 @@ impl Grid {
         self.grown(mask_of(cell), self.all) & !mask_of(cell)
     }
 
-    /// The region of the least of some whole regions' cells.
+    /// The region of the least of some whole regions' cells, which is taken out of them.
     #[inline]
-    pub(crate) fn first_region(&self, free: u32) -> u32 {
-        let mut region = free & free.wrapping_neg();
+    pub(crate) fn take_region(&self, free: &mut u32) -> u32 {
+        let mut region = *free & free.wrapping_neg();
         for _ in 0..MOST_STEPS {
-            let more = self.grown(region, free);
+            let more = self.grown(region, *free);
             if more == region {
                 break;
             }
             region = more;
         }
+        *free &= !region;
         region
     }
 
@@ -85,6 +86,20 @@ impl Grid {
 #[inline]
 pub(crate) fn mask_of(cell: u8) -> u32 {
     1u32.wrapping_shl(u32::from(cell))
+}
+
+/// The least number of a mask, which is taken out of it.
+#[inline]
+pub(crate) fn take_least(mask: &mut u32) -> u8 {
+    let least = mask.trailing_zeros() as u8;
+    *mask &= mask.wrapping_sub(1);
+    least
+}
+
+/// The place of a cell in a mask: how many of its cells are before this one.
+#[inline]
+pub(crate) fn place_of(mask: u32, cell: u8) -> u32 {
+    (mask & mask_of(cell).wrapping_sub(1)).count_ones()
 }
 
 /// The cell of a mask that has so many cells of it before it.

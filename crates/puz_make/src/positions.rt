@@ -3,6 +3,7 @@
 ghost use Rattle.std.specs.Prelude.{◌<◌, ◌*◌, length};
 
 use crate::entries::NO_WAY_HOME;
+use crate::grids::{mask_of, take_least};
 use crate::moves::MOVES;
 use crate::places::Place;
 use crate::slots::{CELLS, Slots};
@@ -49,7 +50,7 @@ pub(crate) struct Position<'b, 'a> {
     places: Vec<Place<'a>>,
     slots: Slots,
     /// The tables that have each tile, as the bits of a mask.
-    owners: [u16; CELLS],
+    owners: [u32; CELLS],
     entries: Entries,
 }
 
@@ -85,7 +86,7 @@ impl<'b, 'a> Position<'b, 'a> {
     ) -> Result<(), AllocError> {
         let place = Place::new(table, board);
         for tile in table.pattern().tiles().as_slice() {
-            self.owners[usize::from(*tile) % CELLS] |= 1u16.wrapping_shl(u32::from(number));
+            self.owners[usize::from(*tile) % CELLS] |= mask_of(number);
         }
         self.entries[usize::from(number) % MOST_TABLES] = place.entry(&mut self.slots, self.blank);
         self.places.push(place)?;
@@ -109,46 +110,35 @@ impl<'b, 'a> Position<'b, 'a> {
     #[inline]
     pub(crate) fn slide(&mut self, to: u8) -> Entries {
         let before = self.entries;
-        let from = self.blank;
-        let tile = self.swap(to);
-        let mut owners = self.owners[usize::from(tile) % CELLS];
-        for _ in 0..MOST_TABLES {
-            let Some(table) = take_least(&mut owners) else {
-                break;
-            };
-            if let Some(place) = self.places.get_mut(table) {
-                place.slide(tile, to, from);
-                self.entries[table % MOST_TABLES] = place.entry(&mut self.slots, to);
-            }
-        }
+        self.shift(to, true);
         before
     }
 
     /// Moves the blank back to the cell where it was, and the entries to what they were.
     #[inline]
     pub(crate) fn slide_back(&mut self, to: u8, before: &Entries) {
-        let from = self.blank;
-        let tile = self.swap(to);
-        let mut owners = self.owners[usize::from(tile) % CELLS];
-        for _ in 0..MOST_TABLES {
-            let Some(table) = take_least(&mut owners) else {
-                break;
-            };
-            if let Some(place) = self.places.get_mut(table) {
-                place.slide(tile, to, from);
-            }
-        }
+        self.shift(to, false);
         self.entries = *before;
     }
 
-    /// Changes the places of the blank and of the tile in a cell. Answers the tile.
+    /// Changes the places of the blank and of the tile in a cell, and may look the board up in the tables that have the tile.
     #[inline]
-    fn swap(&mut self, to: u8) -> u8 {
+    fn shift(&mut self, to: u8, looks_up: bool) {
+        let from = self.blank;
         let tile = self.numbers[usize::from(to) % CELLS];
-        self.numbers[usize::from(self.blank) % CELLS] = tile;
+        self.numbers[usize::from(from) % CELLS] = tile;
         self.numbers[usize::from(to) % CELLS] = 0;
         self.blank = to;
-        tile
+        let mut owners = self.owners[usize::from(tile) % CELLS];
+        for _ in 0..owners.count_ones() {
+            let table = usize::from(take_least(&mut owners));
+            if let Some(place) = self.places.get_mut(table) {
+                place.slide(tile, to, from);
+                if looks_up {
+                    self.entries[table % MOST_TABLES] = place.entry(&mut self.slots, to);
+                }
+            }
+        }
     }
 
     /// Whether each number is in the cell of its own number.
@@ -198,17 +188,6 @@ impl<'b, 'a> Position<'b, 'a> {
         }
         sum
     }
-}
-
-/// The least number of a mask, which is taken out of it.
-#[inline]
-fn take_least(mask: &mut u16) -> Option<usize> {
-    if *mask == 0 {
-        return None;
-    }
-    let least = mask.trailing_zeros() as usize;
-    *mask &= mask.wrapping_sub(1);
-    Some(least)
 }
 
 /// The number in each cell of a board.

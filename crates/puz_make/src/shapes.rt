@@ -1,7 +1,8 @@
 //! Shapes: what is left of a placement and a region where nothing is said of which tile is which.
 
 use crate::grids::Grid;
-use crate::sets::{SetNumbers, first_set, next_set};
+use crate::sets::all_sets;
+use pat_place::SetNumbers;
 use std::alloc::{AllocError, Global};
 use std::ops::Range;
 
@@ -28,15 +29,14 @@ pub(crate) struct Shape {
 impl Shapes {
     /// The shapes of a grid's pattern.
     pub(crate) fn new(alloc: Global, grid: &Grid) -> Result<Shapes, AllocError> {
-        let numbers = SetNumbers::new(alloc, grid)?;
+        let sets = all_sets(alloc, grid)?;
+        let numbers = SetNumbers::of_sets(alloc, sets.as_slice())?;
         let mut firsts = Vec::new(alloc);
         let mut shapes = Vec::new(alloc);
-        let mut set = first_set(grid);
         let mut first = 0u32;
-        for _ in 0..numbers.count {
+        for set in &sets {
             firsts.push(first)?;
-            first = first.wrapping_add(push_shapes(grid, set, &mut shapes)?);
-            set = next_set(set);
+            first = first.wrapping_add(push_shapes(grid, *set, &mut shapes)?);
         }
         firsts.push(first)?;
         Ok(Shapes {
@@ -86,9 +86,8 @@ fn push_shapes(grid: &Grid, set: u32, shapes: &mut Vec<Shape>) -> Result<u32, Al
         if rest == 0 {
             return Ok(count);
         }
-        let region = grid.first_region(rest);
+        let region = grid.take_region(&mut rest);
         shapes.push(Shape { set, region })?;
-        rest &= !region;
     }
     Ok(MOST_REGIONS)
 }

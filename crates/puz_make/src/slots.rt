@@ -64,9 +64,8 @@ fn around_all(grid: &Grid, free: u32) -> Around {
         if rest == 0 {
             break;
         }
-        let region = grid.first_region(rest);
+        let region = grid.take_region(&mut rest);
         mark(&mut around.slots, region, slot);
-        rest &= !region;
     }
     around
 }

@@ -1,6 +1,6 @@
 //! The moves of tiles between shapes.
 
-use crate::grids::{Grid, mask_of};
+use crate::grids::{Grid, mask_of, place_of, take_least};
 use crate::shapes::{Shape, Shapes};
 use crate::turns::{Turns, turn_of};
 use std::alloc::{AllocError, Global};
@@ -57,8 +57,7 @@ fn push_steps(
 ) -> Result<(), AllocError> {
     let mut rest = shape.set;
     for _ in 0..grid.size {
-        let tile = rest.trailing_zeros() as u8;
-        rest &= rest.wrapping_sub(1);
+        let tile = take_least(&mut rest);
         push_steps_of(grid, shapes, shape, tile, steps)?;
     }
     Ok(())
@@ -77,8 +76,7 @@ fn push_steps_of(
         if rest == 0 {
             break;
         }
-        let from = rest.trailing_zeros() as u8;
-        rest &= rest.wrapping_sub(1);
+        let from = take_least(&mut rest);
         let set = shape.set & !mask_of(to) | mask_of(from);
         steps.push(Step {
             shape: shapes.with_cells(set, mask_of(to)),
@@ -86,10 +84,4 @@ fn push_steps_of(
         })?;
     }
     Ok(())
-}
-
-/// The place of a cell in a set.
-#[inline]
-pub(crate) fn place_of(set: u32, cell: u8) -> u32 {
-    (set & mask_of(cell).wrapping_sub(1)).count_ones()
 }

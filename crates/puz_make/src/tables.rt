@@ -6,9 +6,8 @@ ghost use Rattle.tab_file.specs.Tables.{entry_count};
 use crate::counts::Counts;
 use crate::entries::NO_REGION;
 use crate::faults::MakeFault;
-use crate::grids::{Grid, mask_of};
+use crate::grids::{Grid, mask_of, place_of, take_least};
 use crate::shapes::Shapes;
-use crate::steps::place_of;
 use crate::walks::{Walk, next_order};
 use pat_place::Pattern;
 use rayon::prelude::*;
@@ -86,8 +85,7 @@ fn fill_runs(
 fn fill_run(grid: &Grid, shapes: &Shapes, counts: &Counts, walk: &Walk<'_>, entries: &mut [u8]) {
     let mut free = grid.all & !walk.set;
     for slots in entries.chunks_mut(grid.width.max(1)) {
-        let cell = free.trailing_zeros() as u8;
-        free &= free.wrapping_sub(1);
+        let cell = take_least(&mut free);
         let last = u32::from(grid.size).wrapping_sub(1);
         let order = next_order(walk.order, last, place_of(walk.set, cell));
         let shapes = shapes.of_set(walk.set | mask_of(cell));

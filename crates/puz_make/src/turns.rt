@@ -164,12 +164,18 @@ fn add_by_row(row: &[u16], orders: &[u64], turned: &mut [u64]) {
 fn add_of_word(row: &[u16], word: u64, turned: &mut [u64]) {
     let mut rest = word;
     for _ in 0..word.count_ones() {
-        let place = rest.trailing_zeros() as usize;
-        rest &= rest.wrapping_sub(1);
-        if let Some(order) = row.get(place) {
+        if let Some(order) = row.get(take_order(&mut rest)) {
             add(usize::from(*order), turned);
         }
     }
+}
+
+/// The least order of a word, which is taken out of it.
+#[inline]
+pub(crate) fn take_order(word: &mut u64) -> usize {
+    let order = word.trailing_zeros() as usize;
+    *word &= word.wrapping_sub(1);
+    order
 }
 
 /// Adds one order.

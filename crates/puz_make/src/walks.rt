@@ -1,8 +1,7 @@
 //! The placements of a pattern's tiles but the last, in the order of their entries.
 
 use crate::entries::MOST_TILES;
-use crate::grids::{Grid, cell_at, mask_of};
-use crate::steps::place_of;
+use crate::grids::{Grid, cell_at, mask_of, place_of};
 
 /// A placement of all tiles but the last among those of a pattern, from which later ones are found at little cost: where
 /// only the last of these tiles change their cells, nothing is done for the others.
