@@ -7,7 +7,7 @@ ghost use Rattle.pdb_words.specs.Asked.{HasBudget, HasWorkers, view};
 ghost use Rattle.pdb_words.specs.Bound.{bound_command, bound_in};
 
 use crate::asked::Request;
-use crate::files::needed_file;
+use crate::commands::new_command;
 use crate::log_checks::{check_in, with_claim};
 use clap::{ArgMatches, Command};
 use std::alloc::{AllocError, Global};
@@ -17,13 +17,13 @@ pub(crate) fn bound_command<'a>(alloc: Global) -> Result<Command<'a>, AllocError
     ensures app { IfOk result (λ c. app_of c ≡ bound_command) }
     ensures local { IfOk result (λ c. (out-Command c).has_globals ≡ false) }
 {
-    let board = needed_file(alloc, "BOARD").help("A board text");
-    let command = Command::new(alloc, "bound")
-        .about(
-            "Says whether a log proves that no solution of a board has fewer moves than its bound",
-        )
-        .override_usage("pdb_cli bound [--workers N] BOARD SETS LOG TABLES..");
-    with_claim(alloc, command, board)
+    let command = new_command(
+        alloc,
+        "bound",
+        "Says whether a log proves that no solution of a board has fewer moves than its bound",
+        "pdb_cli bound [--workers N] BOARD SETS LOG TABLES..",
+    );
+    with_claim(alloc, command, "BOARD", "A board text")
 }
 
 /// What these matches of the command ask for.

@@ -5,12 +5,13 @@ ghost use Rattle.clap.specs.Words.{app_of, found_of, rows_of, rule_of, with_rule
 ghost use Rattle.clap.specs.declared.Command.TheViews.{out-Command};
 ghost use Rattle.pdb_words.specs.Files.{file_in, needed_file, needed_tables, tables_in, with_log};
 
-use crate::workers::workers_flag;
+use crate::commands::with_argument;
+use crate::workers::with_workers;
 use clap::{Arg, ArgMatches, Command};
 use std::alloc::{AllocError, Global};
 
 /// A file that has to be named.
-pub(crate) fn needed_file<'a>(alloc: Global, id: &'a str) -> Arg<'a>
+fn needed_file<'a>(alloc: Global, id: &'a str) -> Arg<'a>
     ensures rule { rule_of result ≡ needed_file id.entry.now }
     ensures local { result.global ≡ false }
 {
@@ -28,33 +29,33 @@ fn needed_tables<'a>(alloc: Global) -> Arg<'a>
         .num_args(1..)
 }
 
+/// A command with one more file that has to be named.
+pub(crate) fn with_file<'a>(
+    alloc: Global,
+    command: Command<'a>,
+    id: &'a str,
+    help: &'a str,
+) -> Result<Command<'a>, AllocError>
+    ensures app { IfOk result (λ c. app_of c ≡ with_rule (app_of command.entry) (needed_file id.entry.now)) }
+    ensures local { IfOk result (λ c. (out-Command c).has_globals ≡ (out-Command command.entry).has_globals) }
+{
+    with_argument(command, needed_file(alloc, id).help(help))
+}
+
 /// A command with `SETS`, the file of a log and `TABLES..` behind its own file, and with the flag `--workers`.
 pub(crate) fn with_log<'a>(
     alloc: Global,
     command: Command<'a>,
-    log: Arg<'a>,
+    log: &'a str,
+    help: &'a str,
 ) -> Result<Command<'a>, AllocError>
-    requires { log.global ≡ false }
-    ensures app { IfOk result (λ c. app_of c ≡ with_log (app_of command.entry) (rule_of log.entry)) }
+    ensures app { IfOk result (λ c. app_of c ≡ with_log (app_of command.entry) (needed_file log.entry.now)) }
     ensures local { IfOk result (λ c. (out-Command c).has_globals ≡ (out-Command command.entry).has_globals) }
 {
-    let sets = needed_file(alloc, "SETS").help("The sets of tables");
-    let command = with_argument(command, workers_flag(alloc))?;
-    let command = with_argument(command, sets)?;
-    let command = with_argument(command, log)?;
+    let command = with_workers(alloc, command)?;
+    let command = with_file(alloc, command, "SETS", "The sets of tables")?;
+    let command = with_file(alloc, command, log, help)?;
     with_argument(command, needed_tables(alloc))
-}
-
-/// A command with one more argument.
-pub(crate) fn with_argument<'a>(
-    command: Command<'a>,
-    arg: Arg<'a>,
-) -> Result<Command<'a>, AllocError>
-    requires { arg.global ≡ false }
-    ensures app { IfOk result (λ c. app_of c ≡ with_rule (app_of command.entry) (rule_of arg.entry)) }
-    ensures local { IfOk result (λ c. (out-Command c).has_globals ≡ (out-Command command.entry).has_globals) }
-{
-    command.arg(arg)
 }
 
 /// The name that these matches of a command have for a file.

@@ -5,6 +5,7 @@ mod asked;
 mod bound;
 mod budget;
 mod command_line;
+mod commands;
 mod faults;
 mod files;
 mod log_checks;

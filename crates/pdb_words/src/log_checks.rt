@@ -1,30 +1,30 @@
 //! What `bound` and `optimal` share: the words that name a claim and its log.
 
-ghost use Rattle.std.specs.Prelude.{◌≡◌, ◌≤◌, IfOk, codes, false};
-ghost use Rattle.clap.specs.Words.{app_of, found_of, rows_of, rule_of, with_rule};
+ghost use Rattle.std.specs.Prelude.{◌≡◌, ◌≤◌, IfOk, codes};
+ghost use Rattle.clap.specs.Words.{app_of, found_of, rows_of, with_rule};
 ghost use Rattle.clap.specs.declared.Command.TheViews.{out-Command};
 ghost use Rattle.pdb_words.specs.Asked.{AsksCheck, asks_check};
 ghost use Rattle.pdb_words.specs.Files.{needed_file, with_log};
 ghost use Rattle.pdb_words.specs.LogChecks.{check_in};
 
 use crate::asked::LogCheck;
-use crate::files::{file_in, needed_file, tables_in, with_argument, with_log};
+use crate::files::{file_in, tables_in, with_file, with_log};
 use crate::workers::workers_in;
-use clap::{Arg, ArgMatches, Command};
+use clap::{ArgMatches, Command};
 use std::alloc::{AllocError, Global};
 
 /// A command with the file of its claim, `SETS LOG TABLES..` and the flag `--workers`.
 pub(crate) fn with_claim<'a>(
     alloc: Global,
     command: Command<'a>,
-    claim: Arg<'a>,
+    claim: &'a str,
+    help: &'a str,
 ) -> Result<Command<'a>, AllocError>
-    requires { claim.global ≡ false }
-    ensures app { IfOk result (λ c. app_of c ≡ with_log (with_rule (app_of command.entry) (rule_of claim.entry)) (needed_file (codes "LOG"))) }
+    ensures app { IfOk result (λ c. app_of c ≡ with_log (with_rule (app_of command.entry) (needed_file claim.entry.now)) (needed_file (codes "LOG"))) }
     ensures local { IfOk result (λ c. (out-Command c).has_globals ≡ (out-Command command.entry).has_globals) }
 {
-    let log = needed_file(alloc, "LOG").help("A log file");
-    with_log(alloc, with_argument(command, claim)?, log)
+    let command = with_file(alloc, command, claim, help)?;
+    with_log(alloc, command, "LOG", "A log file")
 }
 
 /// The check that these matches of a command ask for, whose claim stands under this id.

@@ -8,9 +8,10 @@ ghost use Rattle.pdb_words.specs.MakeTable.{make_table_command, make_table_in, n
 ghost use Rattle.pdb_words.specs.Numbers.{number_in};
 
 use crate::asked::Request;
-use crate::files::{file_in, needed_file, with_argument};
+use crate::commands::{new_command, with_argument};
+use crate::files::{file_in, with_file};
 use crate::numbers::number_in;
-use crate::workers::{workers_flag, workers_in};
+use crate::workers::{with_workers, workers_in};
 use clap::{Arg, ArgMatches, Command, value_parser};
 use std::alloc::{AllocError, Global};
 
@@ -19,12 +20,15 @@ pub(crate) fn make_table_command<'a>(alloc: Global) -> Result<Command<'a>, Alloc
     ensures app { IfOk result (λ c. app_of c ≡ make_table_command) }
     ensures local { IfOk result (λ c. (out-Command c).has_globals ≡ false) }
 {
-    let out = needed_file(alloc, "OUT").help("The file that is to hold the table");
-    let command = Command::new(alloc, "make-table")
-        .about("Makes the table of a pattern, and keeps it if it is exact")
-        .override_usage("pdb_cli make-table [--workers N] SIDE MASK OUT")
-        .arg(workers_flag(alloc))?;
-    with_pattern(alloc, command)?.arg(out)
+    let command = new_command(
+        alloc,
+        "make-table",
+        "Makes the table of a pattern, and keeps it if it is exact",
+        "pdb_cli make-table [--workers N] SIDE MASK OUT",
+    );
+    let command = with_workers(alloc, command)?;
+    let command = with_pattern(alloc, command)?;
+    with_file(alloc, command, "OUT", "The file that is to hold the table")
 }
 
 /// A command with `SIDE MASK` behind what it has.

@@ -7,7 +7,7 @@ ghost use Rattle.pdb_words.specs.Asked.{HasBudget, HasWorkers, view};
 ghost use Rattle.pdb_words.specs.Optimal.{optimal_command, optimal_in};
 
 use crate::asked::Request;
-use crate::files::needed_file;
+use crate::commands::new_command;
 use crate::log_checks::{check_in, with_claim};
 use clap::{ArgMatches, Command};
 use std::alloc::{AllocError, Global};
@@ -17,11 +17,13 @@ pub(crate) fn optimal_command<'a>(alloc: Global) -> Result<Command<'a>, AllocErr
     ensures app { IfOk result (λ c. app_of c ≡ optimal_command) }
     ensures local { IfOk result (λ c. (out-Command c).has_globals ≡ false) }
 {
-    let puzzle = needed_file(alloc, "PUZZLE").help("A puzzle text");
-    let command = Command::new(alloc, "optimal")
-        .about("Says whether a log proves that the moves of a puzzle text are a shortest solution")
-        .override_usage("pdb_cli optimal [--workers N] PUZZLE SETS LOG TABLES..");
-    with_claim(alloc, command, puzzle)
+    let command = new_command(
+        alloc,
+        "optimal",
+        "Says whether a log proves that the moves of a puzzle text are a shortest solution",
+        "pdb_cli optimal [--workers N] PUZZLE SETS LOG TABLES..",
+    );
+    with_claim(alloc, command, "PUZZLE", "A puzzle text")
 }
 
 /// What these matches of the command ask for.

@@ -7,6 +7,7 @@ ghost use Rattle.pdb_words.specs.Asked.{HasBudget, HasWorkers, view};
 ghost use Rattle.pdb_words.specs.Replay.{replay_command, replay_in};
 
 use crate::asked::Request;
+use crate::commands::{new_command, with_argument};
 use clap::{Arg, ArgMatches, Command};
 use std::alloc::{AllocError, Global};
 
@@ -16,10 +17,13 @@ pub(crate) fn replay_command<'a>(alloc: Global) -> Result<Command<'a>, AllocErro
     ensures local { IfOk result (λ c. (out-Command c).has_globals ≡ false) }
 {
     let file = Arg::new(alloc, "FILE").help("A puzzle text; without it, standard input");
-    Command::new(alloc, "replay")
-        .about("Plays the moves of a puzzle text, and says whether they solve its board")
-        .override_usage("pdb_cli replay [FILE]")
-        .arg(file)
+    let command = new_command(
+        alloc,
+        "replay",
+        "Plays the moves of a puzzle text, and says whether they solve its board",
+        "pdb_cli replay [FILE]",
+    );
+    with_argument(command, file)
 }
 
 /// What these matches of the command ask for.

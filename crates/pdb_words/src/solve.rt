@@ -8,7 +8,8 @@ ghost use Rattle.pdb_words.specs.Solve.{solve_command, solve_in};
 
 use crate::asked::{Request, Search};
 use crate::budget::{budget_flag, budget_in};
-use crate::files::{file_in, needed_file, tables_in, with_log};
+use crate::commands::{new_command, with_argument};
+use crate::files::{file_in, tables_in, with_file, with_log};
 use crate::workers::workers_in;
 use clap::{ArgMatches, Command};
 use std::alloc::{AllocError, Global};
@@ -18,13 +19,15 @@ pub(crate) fn solve_command<'a>(alloc: Global) -> Result<Command<'a>, AllocError
     ensures app { IfOk result (λ c. app_of c ≡ solve_command) }
     ensures local { IfOk result (λ c. (out-Command c).has_globals ≡ false) }
 {
-    let board = needed_file(alloc, "BOARD").help("A board text");
-    let out = needed_file(alloc, "OUT").help("The file that is to hold the log");
-    let command = Command::new(alloc, "solve")
-        .about("Searches for a shortest solution of a board, and keeps the log that proves it")
-        .override_usage("pdb_cli solve [--workers N] [--budget N] BOARD SETS OUT TABLES..")
-        .arg(board)?;
-    with_log(alloc, command, out)?.arg(budget_flag(alloc))
+    let command = new_command(
+        alloc,
+        "solve",
+        "Searches for a shortest solution of a board, and keeps the log that proves it",
+        "pdb_cli solve [--workers N] [--budget N] BOARD SETS OUT TABLES..",
+    );
+    let command = with_file(alloc, command, "BOARD", "A board text")?;
+    let command = with_log(alloc, command, "OUT", "The file that is to hold the log")?;
+    with_argument(command, budget_flag(alloc))
 }
 
 /// What these matches of the command ask for.

@@ -7,8 +7,9 @@ ghost use Rattle.pdb_words.specs.Asked.{HasBudget, HasWorkers, view};
 ghost use Rattle.pdb_words.specs.Table.{table_command, table_in};
 
 use crate::asked::Request;
-use crate::files::{file_in, needed_file};
-use crate::workers::{workers_flag, workers_in};
+use crate::commands::new_command;
+use crate::files::{file_in, with_file};
+use crate::workers::{with_workers, workers_in};
 use clap::{ArgMatches, Command};
 use std::alloc::{AllocError, Global};
 
@@ -17,12 +18,14 @@ pub(crate) fn table_command<'a>(alloc: Global) -> Result<Command<'a>, AllocError
     ensures app { IfOk result (λ c. app_of c ≡ table_command) }
     ensures local { IfOk result (λ c. (out-Command c).has_globals ≡ false) }
 {
-    let file = needed_file(alloc, "FILE").help("A table file");
-    Command::new(alloc, "table")
-        .about("Says whether a table file is exact")
-        .override_usage("pdb_cli table [--workers N] FILE")
-        .arg(workers_flag(alloc))?
-        .arg(file)
+    let command = new_command(
+        alloc,
+        "table",
+        "Says whether a table file is exact",
+        "pdb_cli table [--workers N] FILE",
+    );
+    let command = with_workers(alloc, command)?;
+    with_file(alloc, command, "FILE", "A table file")
 }
 
 /// What these matches of the command ask for.

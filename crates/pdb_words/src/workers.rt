@@ -1,20 +1,30 @@
 //! The flag `--workers N`.
 
-ghost use Rattle.std.specs.Prelude.{◌≡◌, ◌≤◌, false};
-ghost use Rattle.clap.specs.Words.{found_of, rows_of, rule_of};
+ghost use Rattle.std.specs.Prelude.{◌≡◌, ◌≤◌, IfOk, false};
+ghost use Rattle.clap.specs.Words.{app_of, found_of, rows_of, rule_of, with_rule};
+ghost use Rattle.clap.specs.declared.Command.TheViews.{out-Command};
 ghost use Rattle.pdb_words.specs.Workers.{workers_flag, workers_in};
 
+use crate::commands::with_argument;
 use crate::numbers::{number_flag, number_in};
-use clap::{Arg, ArgMatches, value_parser};
-use std::alloc::Global;
+use clap::{Arg, ArgMatches, Command, value_parser};
+use std::alloc::{AllocError, Global};
 
 /// The flag, for `clap`.
-pub(crate) fn workers_flag<'a>(alloc: Global) -> Arg<'a>
+fn workers_flag<'a>(alloc: Global) -> Arg<'a>
     ensures rule { rule_of result ≡ workers_flag }
     ensures local { result.global ≡ false }
 {
     let parser = value_parser!(u8).range(1..=64);
     number_flag(alloc, "workers", parser, "1").help("How many workers share the check, 1 to 64")
+}
+
+/// A command with the flag.
+pub(crate) fn with_workers<'a>(alloc: Global, command: Command<'a>) -> Result<Command<'a>, AllocError>
+    ensures app { IfOk result (λ c. app_of c ≡ with_rule (app_of command.entry) workers_flag) }
+    ensures local { IfOk result (λ c. (out-Command c).has_globals ≡ (out-Command command.entry).has_globals) }
+{
+    with_argument(command, workers_flag(alloc))
 }
 
 /// How many workers these matches of a command ask for.

@@ -1,0 +1,33 @@
+//! What the commands are made of.
+
+ghost use Rattle.std.specs.Prelude.{◌≡◌, IfOk, false};
+ghost use Rattle.clap.specs.Words.{app_of, new_app, rule_of, with_rule};
+ghost use Rattle.clap.specs.declared.Command.TheViews.{out-Command};
+
+use clap::{Arg, Command};
+use std::alloc::{AllocError, Global};
+
+/// A command without arguments, with what it does and how it is used.
+pub(crate) fn new_command<'a>(
+    alloc: Global,
+    name: &'a str,
+    about: &'a str,
+    usage: &'a str,
+) -> Command<'a>
+    ensures app { app_of result ≡ new_app name.entry.now }
+    ensures local { (out-Command result).has_globals ≡ false }
+{
+    Command::new(alloc, name).about(about).override_usage(usage)
+}
+
+/// A command with one more argument.
+pub(crate) fn with_argument<'a>(
+    command: Command<'a>,
+    arg: Arg<'a>,
+) -> Result<Command<'a>, AllocError>
+    requires { arg.global ≡ false }
+    ensures app { IfOk result (λ c. app_of c ≡ with_rule (app_of command.entry) (rule_of arg.entry)) }
+    ensures local { IfOk result (λ c. (out-Command c).has_globals ≡ (out-Command command.entry).has_globals) }
+{
+    command.arg(arg)
+}
