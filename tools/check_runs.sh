@@ -508,7 +508,11 @@ limit_memory() {
 }
 
 refusals=0
+limit_memory replay solved
 limit_memory table all_of_side_3 --workers 64
+limit_memory optimal six_moves one_set branches F12 --workers 7
+limit_memory make-table 3 126 made --workers 7
+limit_memory solve board one_set made F12 --workers 7
 rm -f made
 check 'memory was refused to some runs' [ "$refusals" -gt 0 ]
 
@@ -525,6 +529,40 @@ if command -v cc >/dev/null; then
     done
     rm -f made
 fi
+
+#
+# The stack.
+#
+
+# Whether the run gave its own answer.
+same_answer() {
+    [ "$status" = "$own_status" ] && [ ! -s "$work/errors" ] && cmp -s "$work/output" "$work/own_answer"
+}
+
+# A run with these words on the stack that each process has from its start, in kilobytes. What a run needs beyond it the
+# system may refuse where memory is limited, and then ends the run by a signal.
+limit_stack() {
+    run "$@"
+    own_status=$status
+    mv "$work/output" "$work/own_answer"
+    status=0
+    (ulimit -s 128 && exec env -i "$bare" "$@") <"$input" >"$work/output" 2>"$work/errors" || status=$?
+    check "$* with the stack of a start" same_answer
+}
+
+most_tables=(F12 F12 F12 F12 F12 F12 F12 F12 F12 F12 F12 F12 F12 F12 F12 F12)
+limit_stack --help
+limit_stack replay solved
+limit_stack table F123
+limit_stack table F12 --workers 7
+limit_stack table all_of_side_3 --workers 64
+limit_stack bound board one_set citation "${most_tables[@]}" --workers 64
+limit_stack optimal six_moves one_set branches "${most_tables[@]}" --workers 64
+limit_stack make-table 2 14 made
+limit_stack make-table 3 126 made --workers 64
+limit_stack solve next_board one_set made F123
+limit_stack solve board one_set made "${most_tables[@]}" --workers 64
+rm -f made
 
 #
 # Changed inputs.

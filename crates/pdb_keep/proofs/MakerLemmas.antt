@@ -1,5 +1,5 @@
 -- What comes of makers.
-use Rattle.std.proofs.Common.{◌≡◌, ◌≢◌, ◌∙◌, ℕ, suc, ◌+◌, ◌-◌, ◌<◌, ◌≤◌, Bool, true, false, cond, List, [], ◌∷◌, ◌++◌, Option, Some, None, Result, Ok, Err, IfErr, length, map, drop, get_or, take, not, ◌||◌, ap, append_assoc, arith, inl, inr, length-append, refl, subst, sym}
+use Rattle.std.proofs.Common.{◌≡◌, ◌≢◌, ◌∙◌, ℕ, suc, ◌+◌, ◌-◌, ◌<◌, ◌≤◌, Bool, true, false, cond, List, [], ◌∷◌, ◌++◌, Option, Some, None, Result, Ok, Err, IfErr, IfOk, length, map, drop, get_or, take, not, ◌||◌, ap, append_assoc, arith, inl, inr, length-append, refl, subst, sym}
 use Rattle.std.specs.Prelude.{◌==◌, position, slice_range}
 use Rattle.std.specs.Char.{is_ascii_digit}
 use Rattle.std.specs.List.{cons_option, position_or_len}
@@ -95,6 +95,11 @@ module _ (text sets : Bytes) (files : List Bytes) (bundle : BundleView) (is_bund
 pub if_err : {A : Type 0} (r : Result A Fault) (P Q : Fault → Type 0) → ((cause : Fault) → P cause → Q cause) → IfErr r P → IfErr r Q
 if_err (Ok x) P Q all is = tt
 if_err (Err cause) P Q all is = all cause is
+
+-- what follows from each value follows from a value
+pub if_ok : {A : Type 0} (r : Result A Fault) (P Q : A → Type 0) → ((x : A) → P x → Q x) → IfOk r P → IfOk r Q
+if_ok (Ok x) P Q all is = all x is
+if_ok (Err cause) P Q all is = tt
 
 -- ---- the puzzle text of a search
 

@@ -66,7 +66,7 @@ impl Command for Solve<'_, '_> {
 
 /// A whole run of `solve`, whoever checks the tables and the log: at most `budget` boards are expanded, and the log is kept
 /// once it and the moves are found to prove an optimum.
-pub fn run_solve<H: Threads + Wait, G: Gate + Sync, S: Shelf, R: Read, W: Write>(
+pub fn run_solve<H: Threads + Wait + Sync, G: Gate + Sync, S: Shelf, R: Read, W: Write>(
     alloc: Global,
     names: SearchNames<'_, '_>,
     budget: u64,
@@ -98,7 +98,7 @@ pub fn run_solve<H: Threads + Wait, G: Gate + Sync, S: Shelf, R: Read, W: Write>
 }
 
 /// The answer on the bytes of the inputs. Want of memory never comes of a board that is refused.
-fn answer_solve<'i, H: Threads + Wait, G: Gate + Sync>(
+fn answer_solve<'i, H: Threads + Wait + Sync, G: Gate + Sync>(
     alloc: Global,
     inputs: &'i [Vec<u8>],
     budget: u64,
@@ -161,7 +161,7 @@ struct Made {
 }
 
 /// What comes of a search, and the digest lines of the tables, where they are made beside it.
-fn search_beside<H: Threads + Wait, G: Gate + Sync>(
+fn search_beside<H: Threads + Wait + Sync, G: Gate + Sync>(
     alloc: Global,
     text: &[u8],
     sets: &[u8],
@@ -183,7 +183,7 @@ fn search_beside<H: Threads + Wait, G: Gate + Sync>(
 /// Searches for a shortest solution of the board of a text, and checks what is found. Or the first refusal that stands: the
 /// board text's, that of the first table file that is refused, the set text's, `L4` where the bundle has another side than
 /// the board, and then the maker's.
-fn search<H: Threads + Wait, G: Gate + Sync>(
+fn search<H: Threads + Wait + Sync, G: Gate + Sync>(
     alloc: Global,
     text: &[u8],
     sets: &[u8],
@@ -203,7 +203,7 @@ fn search<H: Threads + Wait, G: Gate + Sync>(
 }
 
 /// Searches for a shortest solution of the board that a text spells, over a bundle of its side, and checks what is found.
-fn search_over<H: Threads + Wait, G: Gate + Sync>(
+fn search_over<H: Threads + Wait + Sync, G: Gate + Sync>(
     alloc: Global,
     bundle: &Bundle<'_>,
     board: &Board,
@@ -233,7 +233,7 @@ fn search_over<H: Threads + Wait, G: Gate + Sync>(
 }
 
 /// The result on a puzzle text and a log over a bundle, and the log's digest line, where that is made beside the check.
-fn log_beside<H: Threads + Wait, G: Gate + Sync>(
+fn log_beside<H: Threads + Wait + Sync, G: Gate + Sync>(
     alloc: Global,
     bundle: &Bundle<'_>,
     puzzle: &[u8],

@@ -1,6 +1,6 @@
 //! Digest lines, and how they are made beside a check.
 
-ghost use Rattle.std.specs.Prelude.{◌≡◌, ◌<◌, ◌++◌, IfOk, IfSome, IsOk, OnOk};
+ghost use Rattle.std.specs.Prelude.{◌≡◌, ◌<◌, ◌++◌, None, IfOk, IfSome, IsOk, OnOk};
 ghost use Rattle.pdb_run.specs.Lines.{all_files, digest_line, digests_of};
 
 use arrayvec::{ArrayVec, CapacityError};
@@ -28,7 +28,7 @@ type Made = Result<Digests, CapacityError>;
 /// The digest lines of files and of a last one, where there is one, and what a check answers beside which they are made: in
 /// threads of their own, at most as many as workers. Where a thread can't be started, its digests are made after the check.
 /// With one worker, or more files than a bundle has tables, none are made.
-pub fn beside<R: Threads, T, F: FnOnce() -> T>(
+pub fn beside<R: Threads + Sync, T, F: FnOnce() -> T>(
     rt: &R,
     workers: u8,
     files: &[Vec<u8>],
@@ -42,50 +42,37 @@ pub fn beside<R: Threads, T, F: FnOnce() -> T>(
     if workers < 2 || files.len() > FILES_BESIDE {
         return (None, check());
     }
-    let (digests, answer) = beside_in_groups(rt, workers, files, last, check);
+    let digests = || -> Made
+        ensures { IfOk result (λ digests. digests.items ≡ digests_of (all_files files.entry.now last.entry)) }
+    { digests_in_groups(rt, workers, files, last) };
+    let (digests, answer) = join(rt, digests, check);
     (digests.ok(), answer)
 }
 
-/// As `beside`, with so many groups of files, each in a thread of its own.
-fn beside_in_groups<R: Threads, T, F: FnOnce() -> T>(
+/// The digest lines of files, and of a last one, where there is one: by at most so many groups, each but the last one in a
+/// thread of its own. The groups are halved at each step, so the stack grows as the logarithm of their number.
+fn digests_in_groups<R: Threads + Sync>(
     rt: &R,
     groups: u8,
     files: &[Vec<u8>],
     last: Option<&[u8]>,
-    check: F,
-) -> (Made, T)
-    requires { F.pre check }
-    ensures digests { IfOk result.0 (λ digests. digests.items ≡ digests_of (all_files files.now last.entry)) }
-    ensures answer { F.post check result.1 }
+) -> Made
+    ensures { IfOk result (λ digests. digests.items ≡ digests_of (all_files files.now last.entry)) }
 {
-    if groups < 2 || files.is_empty() {
-        return group_beside(rt, files, last, check);
+    if groups < 2 || files.len() + usize::from(last.is_some()) < 2 {
+        return digests_in_order(files, last);
     }
-    let (front, behind) = files.split_at(files.len().div_ceil(usize::from(groups)));
-    let others = || -> (Made, T)
-        requires { F.pre check × (1 < groups) }
-        ensures digests { IfOk result.0 (λ digests. digests.items ≡ digests_of (all_files behind.entry.now last.entry)) }
-        ensures answer { F.post check result.1 }
-    { beside_in_groups(rt, groups - 1, behind, last, check) };
-    let (front, (behind, answer)) = group_beside(rt, front, None, others);
-    (in_order(front, behind), answer)
-}
-
-/// The digest lines of one group, in a thread of its own.
-fn group_beside<R: Threads, T, F: FnOnce() -> T>(
-    rt: &R,
-    files: &[Vec<u8>],
-    last: Option<&[u8]>,
-    check: F,
-) -> (Made, T)
-    requires { F.pre check }
-    ensures digests { IfOk result.0 (λ digests. digests.items ≡ digests_of (all_files files.now last.entry)) }
-    ensures answer { F.post check result.1 }
-{
-    let digests = || -> Made
-        ensures { IfOk result (λ digests. digests.items ≡ digests_of (all_files files.entry.now last.entry)) }
-    { digests_in_order(files, last) };
-    join(rt, digests, check)
+    let (front, behind) = files.split_at(files.len().div_ceil(2));
+    let front_digests = || -> Made
+        requires { 1 < groups }
+        ensures { IfOk result (λ digests. digests.items ≡ digests_of (all_files front.entry.now None)) }
+    { digests_in_groups(rt, groups / 2, front, None) };
+    let digests_behind = || -> Made
+        requires { 1 < groups }
+        ensures { IfOk result (λ digests. digests.items ≡ digests_of (all_files behind.entry.now last.entry)) }
+    { digests_in_groups(rt, groups - groups / 2, behind, last) };
+    let (front, behind) = join(rt, front_digests, digests_behind);
+    in_order(front, behind)
 }
 
 /// The digest lines of files, and of the last one, where there is one.

@@ -45,7 +45,7 @@ impl Command for Bound<'_, '_> {
 }
 
 /// A whole run of `bound`, whoever checks the tables and the log.
-pub fn run_bound<H: Threads + Wait, G: Gate + Sync, S: Shelf, R: Read, W: Write>(
+pub fn run_bound<H: Threads + Wait + Sync, G: Gate + Sync, S: Shelf, R: Read, W: Write>(
     alloc: Global,
     names: ClaimNames<'_, '_>,
     workers: &Workers<'_, H, G>,
@@ -68,7 +68,7 @@ pub fn run_bound<H: Threads + Wait, G: Gate + Sync, S: Shelf, R: Read, W: Write>
 }
 
 /// The answer on the bytes of the inputs. Want of memory never comes of a board that is refused.
-fn answer_bound<'i, H: Threads + Wait, G: Gate + Sync>(
+fn answer_bound<'i, H: Threads + Wait + Sync, G: Gate + Sync>(
     alloc: Global,
     inputs: &'i [Vec<u8>],
     workers: &Workers<'_, H, G>,

@@ -44,7 +44,7 @@ impl Command for Optimal<'_, '_> {
 }
 
 /// A whole run of `optimal`, whoever checks the tables and the log.
-pub fn run_optimal<H: Threads + Wait, G: Gate + Sync, S: Shelf, R: Read, W: Write>(
+pub fn run_optimal<H: Threads + Wait + Sync, G: Gate + Sync, S: Shelf, R: Read, W: Write>(
     alloc: Global,
     names: ClaimNames<'_, '_>,
     workers: &Workers<'_, H, G>,
@@ -67,7 +67,7 @@ pub fn run_optimal<H: Threads + Wait, G: Gate + Sync, S: Shelf, R: Read, W: Writ
 }
 
 /// The answer on the bytes of the inputs. Want of memory never comes of a puzzle text that is refused.
-fn answer_optimal<'i, H: Threads + Wait, G: Gate + Sync>(
+fn answer_optimal<'i, H: Threads + Wait + Sync, G: Gate + Sync>(
     alloc: Global,
     inputs: &'i [Vec<u8>],
     workers: &Workers<'_, H, G>,

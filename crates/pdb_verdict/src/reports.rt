@@ -55,7 +55,7 @@ pub fn line<W: Write>(answer: &Result<Verdict, Fault>, out: &mut W) -> Result<()
 }
 
 /// What these workers answer to inputs, and the digest lines that are made beside their check, where there are some.
-pub fn verify_beside<H: Threads + Wait, G: Gate + Sync>(
+pub fn verify_beside<H: Threads + Wait + Sync, G: Gate + Sync>(
     alloc: Global,
     inputs: &Inputs<'_>,
     workers: &Workers<'_, H, G>,

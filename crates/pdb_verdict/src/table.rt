@@ -43,7 +43,7 @@ impl Command for Table<'_> {
 }
 
 /// A whole run of `table`, whoever checks the table.
-pub fn run_table<H: Threads + Wait, G: Gate + Sync, S: Shelf, R: Read, W: Write>(
+pub fn run_table<H: Threads + Wait + Sync, G: Gate + Sync, S: Shelf, R: Read, W: Write>(
     alloc: Global,
     name: &str,
     workers: &Workers<'_, H, G>,
@@ -66,7 +66,7 @@ pub fn run_table<H: Threads + Wait, G: Gate + Sync, S: Shelf, R: Read, W: Write>
 }
 
 /// The answer on the bytes of the one input. Want of memory never comes of a header that is refused.
-fn answer_table<'i, H: Threads + Wait, G: Gate + Sync>(
+fn answer_table<'i, H: Threads + Wait + Sync, G: Gate + Sync>(
     alloc: Global,
     inputs: &'i [Vec<u8>],
     workers: &Workers<'_, H, G>,
