@@ -1,10 +1,10 @@
 //! The commands of the program, and the reading of words.
 
 ghost use Rattle.std.specs.Prelude.{◌≡◌, IfErr, IfOk, IfSome, false, map, string_bytes};
-ghost use Rattle.clap.specs.Words.{FailsBy, app_of, subcommand_of, subcommand_rows_of, with_subcommand};
+ghost use Rattle.clap.specs.Words.{App, FailsBy, app_of, subcommand_of, subcommand_rows_of, with_subcommand};
 ghost use Rattle.clap.specs.declared.Command.TheViews.{out-Command};
 ghost use Rattle.pdb_words.specs.Asked.{HasBudget, HasWorkers, view};
-ghost use Rattle.pdb_words.specs.CommandLine.{IsCommand, Parses, asked_in, asked_of, checks, command_line, faults_of};
+ghost use Rattle.pdb_words.specs.CommandLine.{IsCommand, Parses, asked_in, asked_of, checks, command_line, faults_of, program};
 ghost use Rattle.pdb_words.specs.Faults.{IsCauseOf};
 
 use crate::asked::Request;
@@ -43,8 +43,8 @@ fn command_line<'a>(alloc: Global) -> Result<Command<'a>, AllocError>
     ensures app { IfOk result (λ c. app_of c ≡ command_line) }
     ensures local { IfOk result (λ c. (out-Command c).has_globals ≡ false) }
 {
-    let program = with_command(checks(alloc)?, make_table_command(alloc)?)?;
-    with_command(program, solve_command(alloc)?)
+    let program = with_command(checks(alloc), make_table_command(alloc));
+    with_command(program, solve_command(alloc))
 }
 
 /// The program with the commands that only check.
@@ -52,23 +52,38 @@ fn checks<'a>(alloc: Global) -> Result<Command<'a>, AllocError>
     ensures app { IfOk result (λ c. app_of c ≡ checks) }
     ensures local { IfOk result (λ c. (out-Command c).has_globals ≡ false) }
 {
-    let program = Command::new(alloc, "pdb_cli")
-        .bin_name("pdb_cli")?
-        .about("Checks claims about sliding-tile puzzles, and makes tables and logs")
-        .after_help(AFTER_HELP)
-        .no_binary_name(true);
-    let program = with_command(program, replay_command(alloc)?)?;
-    let program = with_command(program, table_command(alloc)?)?;
-    let program = with_command(program, bound_command(alloc)?)?;
-    with_command(program, optimal_command(alloc)?)
+    let program = with_command(program(alloc), replay_command(alloc));
+    let program = with_command(program, table_command(alloc));
+    let program = with_command(program, bound_command(alloc));
+    with_command(program, optimal_command(alloc))
 }
 
-/// The program with one more command.
-fn with_command<'a>(program: Command<'a>, command: Command<'a>) -> Result<Command<'a>, AllocError>
-    requires { (out-Command command).has_globals ≡ false }
-    ensures app { IfOk result (λ c. app_of c ≡ with_subcommand (app_of program.entry) (app_of command.entry).top) }
-    ensures local { IfOk result (λ c. (out-Command c).has_globals ≡ (out-Command program.entry).has_globals) }
+/// The program without its commands.
+fn program<'a>(alloc: Global) -> Result<Command<'a>, AllocError>
+    ensures app { IfOk result (λ c. app_of c ≡ program) }
+    ensures local { IfOk result (λ c. (out-Command c).has_globals ≡ false) }
 {
+    let program = Command::new(alloc, "pdb_cli").bin_name("pdb_cli")?;
+    Ok(
+        program
+            .about("Checks claims about sliding-tile puzzles, and makes tables and logs")
+            .after_help(AFTER_HELP)
+            .no_binary_name(true),
+    )
+}
+
+/// The program with one more command, where memory was there for both.
+fn with_command<'a>(
+    program: Result<Command<'a>, AllocError>,
+    command: Result<Command<'a>, AllocError>,
+) -> Result<Command<'a>, AllocError>
+    requires { IfOk command (λ c. (out-Command c).has_globals ≡ false) }
+    ensures app { (above app : App) → IfOk program.entry (λ c. app_of c ≡ above) → IfOk command.entry (λ c. app_of c ≡ app)
+        → IfOk result (λ c. app_of c ≡ with_subcommand above app.top) }
+    ensures local { IfOk program.entry (λ c. (out-Command c).has_globals ≡ false) → IfOk result (λ c. (out-Command c).has_globals ≡ false) }
+{
+    let program = program?;
+    let command = command?;
     program.subcommand(command)
 }
 

@@ -1,6 +1,6 @@
 use Rattle.std.proofs.Common.{rules, ◌≡◌, ◌∙◌, ap, ap₂, Bool, [], ◌∷◌}
 use Rattle.std.specs.Prelude.{Option, Some}
-use Rattle.clap.specs.Words.{Rule, new_rule, rule_of}
+use Rattle.clap.specs.Words.{Rule, rule_of}
 use Rattle.clap.specs.declared.Arg.{Arg}
 use Rattle.clap.specs.declared.builder.value_parser.ValueParser.{ValueParser}
 use Rattle.pdb_words.proofs.numbers.number_flag.Goals as goal
