@@ -1,6 +1,7 @@
 mod CheckLemmas
 mod EntriesLemmas
 mod KindLemmas
+mod ListedLemmas
 mod LoopLemmas
 mod MaskLemmas
 mod MaskRunLemmas

@@ -12,11 +12,11 @@ use Rattle.puz_board.proofs.BitLemmas.{both_in, in_below, in_both, in_or_out}
 use Rattle.pat_place.proofs.ListLemmas.{all_at}
 use Rattle.puz_board.proofs.CellLemmas.{few_cells}
 use Rattle.tab_file.specs.Tables.{Table, slot_count}
-use Rattle.tab_runs.specs.Rows.{IsRow, place_of}
+use Rattle.tab_runs.specs.Rows.{IsOpen, IsRow, listed_below, place_of}
 use Rattle.tab_runs.specs.Runs.{AreRunEntries, IsRun}
 use Rattle.tab_runs.specs.Steps.{AreLeastNear, IsBesideStep, IsDonePairStep, IsIndexStep, IsOneStep, IsPairStep, IsRunStep, IsSomeLastStep, IsStepAmong, IsTakenIn, IsTargetStep, IsTileStep}
 use Rattle.tab_runs.proofs.MaskLemmas.{adjacent_back}
-use Rattle.tab_runs.proofs.RowLemmas.{few_entries, place_low, row_low}
+use Rattle.tab_runs.proofs.RowLemmas.{few_entries, open_low, place_low}
 use Rattle.tab_runs.proofs.StepLemmas.{last_from_one, least_near_of_run, one_from_last}
 use Rattle.tab_runs.proofs.TakenLemmas.{least_of_taken, taken_none, taken_same, taken_then}
 
@@ -99,14 +99,14 @@ module _ (t : Table) (p old : List ℕ) where
 -- ---- the last tile between two cells
 
 module _ (t : Table) (pat : IsPattern t.pattern) (p : List ℕ) (run : IsRun t.pattern p) (own : List ℕ) (entries : AreRunEntries t p own) where
-  pub own_low : (x c : ℕ) (row : List ℕ) → IsRow t.pattern.side (slot_count t.pattern) p x row → c < t.pattern.side * t.pattern.side → get_or row c 0 < length own
-  own_low x c row is l = let low = row_low t.pattern pat p run x row is c l in let e = entries.size in omega arith
+  pub own_low : (x c : ℕ) (row : List ℕ) → IsRow t.pattern.side (length t.pattern.tiles) p x row → IsOpen t.pattern.side p x c → get_or row (listed_below p x c) 0 < length own
+  own_low x c row is o = let low = open_low t.pattern pat p run x row is c o in let e = entries.size in omega arith
 
-  pub pair_taken : (a b : ℕ) → IsFree t.pattern.side p a → IsFree t.pattern.side p b → b ≢ a → (row_a row_b : List ℕ) → IsRow t.pattern.side (slot_count t.pattern) p a row_a → IsRow t.pattern.side (slot_count t.pattern) p b row_b
-      → (old mid new : List ℕ) → IsTakenIn old mid (IsOneStep (get_or row_b a 0) (get_or own (get_or row_a b 0) 0)) → IsTakenIn mid new (IsOneStep (get_or row_a b 0) (get_or own (get_or row_b a 0) 0))
+  pub pair_taken : (a b : ℕ) → IsFree t.pattern.side p a → IsFree t.pattern.side p b → b ≢ a → (row_a row_b : List ℕ) → IsRow t.pattern.side (length t.pattern.tiles) p a row_a → IsRow t.pattern.side (length t.pattern.tiles) p b row_b
+      → (old mid new : List ℕ) → IsTakenIn old mid (IsOneStep (get_or row_b (listed_below p b a) 0) (get_or own (get_or row_a (listed_below p a b) 0) 0)) → IsTakenIn mid new (IsOneStep (get_or row_a (listed_below p a b) 0) (get_or own (get_or row_b (listed_below p b a) 0) 0))
       → IsTakenIn old new (IsPairStep t p a b)
   pair_taken a b free_a free_b apart row_a row_b is_a is_b old mid new first second = taken_then old mid new
-      (IsOneStep (get_or row_b a 0) (get_or own (get_or row_a b 0) 0)) (IsOneStep (get_or row_a b 0) (get_or own (get_or row_b a 0) 0)) (IsPairStep t p a b)
+      (IsOneStep (get_or row_b (listed_below p b a) 0) (get_or own (get_or row_a (listed_below p a b) 0) 0)) (IsOneStep (get_or row_a (listed_below p a b) 0) (get_or own (get_or row_b (listed_below p b a) 0) 0)) (IsPairStep t p a b)
       (λ place e some s. inl (last_from_one t pat p run own entries a b free_a free_b apart row_a row_b is_a is_b place e s))
       (λ place e some s. inr (last_from_one t pat p run own entries b a free_b free_a (λ q. apart (sym q)) row_b row_a is_b is_a place e s))
       (λ place e some s. elim s [

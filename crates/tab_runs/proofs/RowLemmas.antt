@@ -12,10 +12,10 @@ use Rattle.pat_place.proofs.SetLemmas.{SameCells, free_same, same_back, slot_sam
 use Rattle.pat_place.proofs.SlotLemmas.{slot_some}
 use Rattle.pat_place.proofs.WidthLemmas.{slot_within}
 use Rattle.tab_file.specs.Tables.{slot_count}
-use Rattle.tab_runs.specs.Rows.{IsOpen, IsRow, place_of}
+use Rattle.tab_runs.specs.Rows.{IsOpen, IsRow, listed_below, place_of, row_length}
 use Rattle.tab_runs.specs.Runs.{IsRun, free_below, run_length, with_last}
-use Rattle.tab_runs.proofs.RunLemmas.{open_decided, open_free, placed_last, same_with_last}
-use Rattle.tab_runs.proofs.RunRanks.{free_below-low, free_below-one}
+use Rattle.tab_runs.proofs.RunLemmas.{free-with_last, open_free, placed_last, same_with_last, with_last-free}
+use Rattle.tab_runs.proofs.RunRanks.{free_at, free_below-low, free_below-one}
 
 -- ---- the order of the cells is all the same
 
@@ -26,13 +26,13 @@ free_below-same p q same c = λ i. length (filter (λ d. not (same d i)) (range_
 open_same : (n : ℕ) (p q : List ℕ) → SameCells p q → (x c : ℕ) → IsOpen n p x c → IsOpen n q x c
 open_same n p q same x c o = record { last = free_same n p q same c o.last; cell = free_same n p q same x o.cell; other = o.other }
 
-pub row_same : (n w : ℕ) (p q : List ℕ) → SameCells p q → (x : ℕ) (row : List ℕ) → IsRow n w p x row → IsRow n w q x row
-row_same n w p q same x row is = record {
+pub row_same : (n k : ℕ) (p q : List ℕ) → SameCells p q → (x : ℕ) (row : List ℕ) → IsRow n k p x row → IsRow n k q x row
+row_same n k p q same x row is = record {
   size = is.size;
   place = λ c j o s.
+      ap (λ i. get_or row i 0) (sym (free_below-same (with_last p x) (with_last q x) (same_with_last p q x same) c)) ∙
       is.place c j (open_same n q p (same_back p q same) x c o) (slot_same n (with_last q c) (with_last p c) (same_with_last q p c (same_back p q same)) x j s) ∙
-      ap (λ k. 1 + k * w + j) (free_below-same p q same c);
-  none = λ c l closed. is.none c l (λ o. closed (open_same n p q same x c o));
+      ap (λ l. 1 + l * width n k + j) (free_below-same p q same c);
 }
 
 -- ---- places are different
@@ -89,17 +89,30 @@ module _ (p : PatternView) (pat : IsPattern p) (cells : List ℕ) (run : IsRun p
   pub slot_of_open : (x c : ℕ) → IsOpen p.side cells x c → (j : ℕ) × IsSlot p.side (with_last cells c) x j
   slot_of_open x c o = slot_some p.side pat.low pat.high (with_last cells c) x (open_free p.side cells x c o)
 
-  module _ (x : ℕ) (row : List ℕ) (is : IsRow p.side (slot_count p) cells x row) where
-    -- at a place but 0 the cells are open
-    pub row_open : (c : ℕ) → c < p.side * p.side → 0 < get_or row c 0 → IsOpen p.side cells x c
-    row_open c l some = elim (open_decided p.side cells x c) [ inl o ↦ o | inr none ↦ absurd (let z = is.none c l none in omega arith) ]
+  -- a row has a place for each cell that is open with its own
+  pub listed_low : (x c : ℕ) → IsOpen p.side cells x c → listed_below cells x c < row_length p.side (length p.tiles)
+  listed_low x c o =
+      let place = placed_last p cells x run o.cell in
+      let low = free_below-low p.side (with_last cells x) c place.inside place.apart (free-with_last p.side cells x c o.last (λ e. o.other (sym e))) in
+      subst (λ k. listed_below cells x c < row_length p.side k) place.size low
 
-    pub row_low : (c : ℕ) → c < p.side * p.side → get_or row c 0 < 1 + run_length p.side cells * slot_count p
-    row_low c l = elim (open_decided p.side cells x c) [
-      | inr none ↦ (let z = is.none c l none in omega arith)
-      | inl o ↦
-          let j = slot_of_open x c o in
-          let e = is.place c j.0 o j.1 in
-          let low = place_low p.side (slot_count p) cells c j.0 run.inside run.apart o.last (slot_low c x j.0 o.last j.1) in
-          omega arith
-    ]
+  -- and no other
+  pub listed_at : (x i : ℕ) → IsFree p.side cells x → i < row_length p.side (length p.tiles) → (c : ℕ) × IsOpen p.side cells x c × (listed_below cells x c ≡ i)
+  listed_at x i free low =
+      let place = placed_last p cells x run free in
+      let at = free_at p.side (with_last cells x) place.inside place.apart i (subst (λ k. i < row_length p.side k) (sym place.size) low) in
+      let was = with_last-free p.side cells x at.0 at.1 in
+      (at.0, record { last = was.0; cell = free; other = λ e. was.1 (sym e) }, at.2)
+
+  module _ (x : ℕ) (row : List ℕ) (is : IsRow p.side (length p.tiles) cells x row) where
+    pub open_low : (c : ℕ) → IsOpen p.side cells x c → get_or row (listed_below cells x c) 0 < 1 + run_length p.side cells * slot_count p
+    open_low c o =
+        let j = slot_of_open x c o in
+        let e = is.place c j.0 o j.1 in
+        let low = place_low p.side (slot_count p) cells c j.0 run.inside run.apart o.last (slot_low c x j.0 o.last j.1) in
+        omega arith
+
+    pub row_low : IsFree p.side cells x → (i : ℕ) → i < length row → get_or row i 0 < 1 + run_length p.side cells * slot_count p
+    row_low free i l =
+        let at = listed_at x i free (let s = is.size in omega arith) in
+        subst (λ k. get_or row k 0 < 1 + run_length p.side cells * slot_count p) at.2 (open_low at.0 at.1)

@@ -96,6 +96,14 @@ free_below-free p c free = free_below-next p c ∙ ap (λ xs. free_below p c + l
 pub free_below-taken : (p : List ℕ) (c : ℕ) → has p c ≡ true → free_below p (c + 1) ≡ free_below p c
 free_below-taken p c taken = free_below-next p c ∙ ap (λ xs. free_below p c + length xs) (cond-false (is_open p c) (c ∷ []) [] (ap not taken)) ∙ (let e : free_below p c + 0 ≡ free_below p c = omega arith in e)
 
+-- one cell further, of which two lists say the same
+pub free_below-alike : (p q : List ℕ) (c more : ℕ) → has p c ≡ has q c → free_below q c ≡ free_below p c + more → free_below q (c + 1) ≡ free_below p (c + 1) + more
+free_below-alike p q c more same e =
+    let one : length (cond (is_open p c) (c ∷ []) []) ≡ length (cond (is_open q c) (c ∷ []) []) = ap (λ b. length (cond (not b) (c ∷ []) [])) same in
+    let h = free_below-next p c in
+    let k = free_below-next q c in
+    omega arith
+
 -- no more are below a smaller cell
 pub free_below-up : (p : List ℕ) (c d : ℕ) → c ≤ d → free_below p c ≤ free_below p d
 free_below-up p c zero l = ap-le (ap (free_below p) (let e : c ≡ zero = omega arith in e))

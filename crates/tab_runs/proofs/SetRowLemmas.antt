@@ -12,104 +12,105 @@ use Rattle.pat_place.specs.Placements.{IsFree, IsPlacement, PlacementView}
 use Rattle.pat_place.specs.Ranks.{IsRank, lists_of}
 use Rattle.pat_place.proofs.RankLemmas.{IsRank-from, IsRank-one}
 use Rattle.tab_check.proofs.BlockLemmas.{same_cells}
-use Rattle.pat_place.specs.Regions.{AreRegions}
+use Rattle.pat_place.specs.Regions.{AreRegions, IsSlot}
 use Rattle.pat_place.proofs.SlotLemmas.{slot_one}
 use Rattle.tab_check.proofs.OneEntryLemmas.{none_past}
 use Rattle.tab_file.specs.Tables.{placement_count, slot_count}
-use Rattle.tab_runs.specs.SetRows.{AreRowsUpTo, IsColumn, IsFilledAt, IsPlaceAt}
+use Rattle.tab_runs.specs.Rows.{IsOpen, listed_below, place_of, row_length}
+use Rattle.tab_runs.specs.SetRows.{AreRowsUpTo, IsColumn, IsInSome, IsNumbered, listed_of}
 use Rattle.tab_runs.specs.Runs.{IsRun, free_below, run_length, with_last}
 use Rattle.tab_runs.proofs.EntriesLemmas.{run_few}
-use Rattle.tab_runs.proofs.RunRanks.{first_some, free_below-low}
-use Rattle.tab_runs.proofs.RowLemmas.{few_entries, parts_one}
-use Rattle.tab_runs.proofs.RunLemmas.{placed_last, with_last-free}
+use Rattle.tab_runs.proofs.ListedLemmas.{listed_behind, listed_is}
+use Rattle.tab_runs.proofs.RunRanks.{first_some, free_below-low, free_below-one}
+use Rattle.tab_runs.proofs.RowLemmas.{few_entries, listed_low, parts_one}
+use Rattle.tab_runs.proofs.RunLemmas.{free-with_last, placed_last, with_last-free}
 
 -- ---- one column
 
-module _ (m c before : ℕ) (regions : List ℕ) (x : ℕ) (old mid new : List ℕ) (low : c < m) (column : IsColumn m c before regions x old mid)
-    (there : (i : ℕ) → i ≢ x * m + c → get_or new i 0 ≡ get_or mid i 0) (here : IsFilledAt regions before x (get_or mid (x * m + c) 0) (get_or new (x * m + c) 0)) where
-  apart : (y : ℕ) → y ≢ x → y * m + c ≢ x * m + c
-  apart y ne e = ne (parts_one y x m c c low low e).0
-
-  mid_is_old : get_or mid (x * m + c) 0 ≡ get_or old (x * m + c) 0
-  mid_is_old = column.others (x * m + c) (λ y l e. apart y (λ q. omega arith) (sym e))
-
-  pub column_more : IsColumn m c before regions (x + 1) old new
-  column_more = record {
-    filled = λ y l. elim (cases_eq y x) [
-      | inl e ↦
-          subst (λ k. IsFilledAt regions before k (get_or old (k * m + c) 0) (get_or new (k * m + c) 0)) (sym e)
-          (subst (λ v. IsFilledAt regions before x v (get_or new (x * m + c) 0)) mid_is_old here)
-      | inr ne ↦
-          subst (λ v. IsFilledAt regions before y (get_or old (y * m + c) 0) v) (sym (there (y * m + c) (apart y ne))) (column.filled y (omega arith))
+module _ (m c free before : ℕ) (regions : List ℕ) (x : ℕ) (old mid : List ℕ) (within : (y : ℕ) → IsInSome regions y → listed_of c free y < m) (column : IsColumn m c free before regions x old mid) where
+  pub column_set : x * m + listed_of c free x < length mid → (j : ℕ) → j < length regions → bit_at (get_or regions j 0) x ≡ 1 → IsColumn m c free before regions (x + 1) old (set mid (x * m + listed_of c free x) (before + j))
+  column_set inside j l bit = record {
+    filled = λ y k some. elim (cases_eq y x) [
+      | inl e ↦ subst (λ z. IsNumbered regions before z (get_or (set mid (x * m + listed_of c free x) (before + j)) (z * m + listed_of c free z) 0)) (sym e)
+          (j, l, bit, get_or-set_same mid (x * m + listed_of c free x) (before + j) 0 inside)
+      | inr ne ↦ subst (IsNumbered regions before y)
+          (sym (get_or-set_other mid (x * m + listed_of c free x) (y * m + listed_of c free y) (before + j) 0 (λ e. ne (parts_one y x m (listed_of c free y) (listed_of c free x) (within y some) (within x (j, l, bit)) e).0)))
+          (column.filled y (omega arith) some)
     ];
-    others = λ i out. there i (out x (omega arith)) ∙ column.others i (λ y l. out y (omega arith));
+    others = λ i out. get_or-set_other mid (x * m + listed_of c free x) i (before + j) 0 (out x (omega arith) (j, l, bit)) ∙ column.others i (λ y k some. out y (omega arith) some);
   }
 
-pub column_set : (m c before : ℕ) (regions : List ℕ) (x : ℕ) (old mid : List ℕ) → c < m → x * m + c < length mid → IsColumn m c before regions x old mid → (j : ℕ) → j < length regions → bit_at (get_or regions j 0) x ≡ 1
-    → IsColumn m c before regions (x + 1) old (set mid (x * m + c) (before + j))
-column_set m c before regions x old mid low inside column j l bit = column_more m c before regions x old mid (set mid (x * m + c) (before + j)) low column
-    (λ i ne. get_or-set_other mid (x * m + c) i (before + j) 0 ne)
-    (inl (j, l, bit, get_or-set_same mid (x * m + c) (before + j) 0 inside))
-
-pub column_skip : (m c before : ℕ) (regions : List ℕ) (x : ℕ) (old mid : List ℕ) → c < m → IsColumn m c before regions x old mid → ((j : ℕ) → j < length regions → bit_at (get_or regions j 0) x ≢ 1)
-    → IsColumn m c before regions (x + 1) old mid
-column_skip m c before regions x old mid low column none = column_more m c before regions x old mid mid low column (λ i ne. refl) (inr (none, refl))
+  pub column_skip : ((j : ℕ) → j < length regions → bit_at (get_or regions j 0) x ≢ 1) → IsColumn m c free before regions (x + 1) old mid
+  column_skip none = record {
+    filled = λ y k some. elim (cases_eq y x) [
+      | inl e ↦ absurd (none some.0 some.1 (subst (λ z. bit_at (get_or regions some.0 0) z ≡ 1) e some.2))
+      | inr ne ↦ column.filled y (omega arith) some
+    ];
+    others = λ i out. column.others i (λ y k some. out y (omega arith) some);
+  }
 
 -- ---- one cell of the last tile more
 
-module _ (p : PatternView) (pat : IsPattern p) (cells : List ℕ) (c : ℕ) (inside : c < p.side * p.side) (old : List ℕ) (set_rows : AreRowsUpTo p.side (slot_count p) cells c old) where
-  m : ℕ
-  m = p.side * p.side
+-- a cell that a tile is in
+pub set_rows_skip : (n k : ℕ) (cells : List ℕ) (c : ℕ) (block : List ℕ) → AreRowsUpTo n k cells c block → ¬ IsFree n cells c → AreRowsUpTo n k cells (c + 1) block
+set_rows_skip n k cells c block set_rows taken = record {
+  size = set_rows.size;
+  filled = λ x d j l o s. elim (cases_eq d c) [
+    | inl e ↦ absurd (taken (subst (IsFree n cells) e o.last))
+    | inr ne ↦ set_rows.filled x d j (omega arith) o s
+  ];
+}
 
-  w : ℕ
-  w = slot_count p
+-- a free cell
+module _ (p : PatternView) (pat : IsPattern p) (cells : List ℕ) (run : IsRun p cells) (c : ℕ) (free : IsFree p.side cells c) (regions : List ℕ) (are : AreRegions p.side (with_last cells c) regions) where
+  some_open : (x : ℕ) → IsInSome regions x → IsOpen p.side cells x c
+  some_open x some =
+      let in_region = (are.each some.0 x some.1).0 some.2 in
+      let w = with_last-free p.side cells c x in_region.free in
+      record { last = free; cell = w.0; other = w.1 }
 
-  -- a cell that a tile is in
-  pub set_rows_skip : ¬ IsFree p.side cells c → AreRowsUpTo p.side (slot_count p) cells (c + 1) old
-  set_rows_skip taken = record {
-    size = set_rows.size;
-    filled = λ x d l k. elim (cases_eq d c) [
-      | inl e ↦ record {
-        place = λ j o s. absurd (taken (subst (IsFree p.side cells) e o.last));
-        none = λ closed. set_rows.empty x d l (omega arith) (λ q. omega arith);
-      }
-      | inr ne ↦ set_rows.filled x d l (omega arith)
-    ];
-    empty = λ x d l k past. set_rows.empty x d l k (λ q. past (omega arith));
-  }
+  listed_as : (x : ℕ) → IsInSome regions x → listed_of c (free_below cells c) x ≡ listed_below cells x c
+  listed_as x some = listed_is cells x (some_open x some).cell.1 c (free_below cells c) refl
 
-  -- a free cell
-  module _ (free : IsFree p.side cells c) (regions new : List ℕ) (are : AreRegions p.side (with_last cells c) regions) (size : length new ≡ length old)
-      (column : IsColumn (p.side * p.side) c (1 + free_below cells c * slot_count p) regions (p.side * p.side) old new) where
-    at_column : (x : ℕ) → x < p.side * p.side → IsPlaceAt p.side (slot_count p) cells x c (get_or new (x * (p.side * p.side) + c) 0)
-    at_column x l = elim (column.filled x l) [
-      | inl f ↦
-          let in_region = (are.each f.0 x f.1).0 f.2 in
-          let w = with_last-free p.side cells c x in_region.free in
-          record {
-            place = λ j o s. f.3 ∙ ap (λ k. 1 + free_below cells c * slot_count p + k) (slot_one p.side pat.low pat.high (with_last cells c) x f.0 j in_region s);
-            none = λ closed. absurd (closed (record { last = free; cell = w.0; other = w.1 }));
-          }
-      | inr f ↦ record {
-        place = λ j o s. absurd (elim (cases_lt j (length regions)) [
-          | inl k ↦ f.0 j k ((are.each j x k).1 s)
-          | inr k ↦ none_past p.side (with_last cells c) regions are j k x s
-        ]);
-        none = λ closed. f.1 ∙ set_rows.empty x c l inside (λ q. omega arith);
-      }
-    ]
+  pub listed_within : (x : ℕ) → IsInSome regions x → listed_of c (free_below cells c) x < row_length p.side (length p.tiles)
+  listed_within x some = let low = listed_low p pat cells run x c (some_open x some) in let e = listed_as x some in omega arith
 
-    kept : (x d : ℕ) → d < p.side * p.side → d ≢ c → get_or new (x * (p.side * p.side) + d) 0 ≡ get_or old (x * (p.side * p.side) + d) 0
-    kept x d l ne = column.others (x * (p.side * p.side) + d) (λ y k e. ne (parts_one x y (p.side * p.side) d c l inside e).1)
+  pub listed_some : (x : ℕ) → IsInSome regions x → x < c → 0 < free_below cells c
+  listed_some x some l = let e = listed_behind cells x (some_open x some).cell.1 c l in omega arith
 
-    pub set_rows_more : AreRowsUpTo p.side (slot_count p) cells (c + 1) new
+  is_in_some : (x j : ℕ) → IsSlot p.side (with_last cells c) x j → IsInSome regions x
+  is_in_some x j s = elim (cases_lt j (length regions)) [
+    | inl l ↦ (j, l, (are.each j x l).1 s)
+    | inr l ↦ absurd (none_past p.side (with_last cells c) regions are j l x s)
+  ]
+
+  module _ (old new : List ℕ) (set_rows : AreRowsUpTo p.side (length p.tiles) cells c old) (size : length new ≡ length old)
+      (column : IsColumn (row_length p.side (length p.tiles)) c (free_below cells c) (1 + free_below cells c * slot_count p) regions (p.side * p.side) old new) where
+    abbrev len : ℕ
+    len = row_length p.side (length p.tiles)
+
+    at_column : (x j : ℕ) → IsOpen p.side cells x c → IsSlot p.side (with_last cells c) x j → get_or new (x * len + listed_below cells x c) 0 ≡ place_of (slot_count p) cells c j
+    at_column x j o s =
+        let some = is_in_some x j s in
+        let f = column.filled x o.cell.0 some in
+        ap (λ k. get_or new (x * len + k) 0) (sym (listed_as x some)) ∙ f.3 ∙
+        ap (λ k. 1 + free_below cells c * slot_count p + k) (slot_one p.side pat.low pat.high (with_last cells c) x f.0 j ((are.each f.0 x f.1).0 f.2) s)
+
+    kept : (x d : ℕ) → IsOpen p.side cells x d → d ≢ c → get_or new (x * len + listed_below cells x d) 0 ≡ get_or old (x * len + listed_below cells x d) 0
+    kept x d o ne = column.others (x * len + listed_below cells x d) (λ y k some e.
+        let parts = parts_one x y len (listed_below cells x d) (listed_of c (free_below cells c) y) (listed_low p pat cells run x d o) (listed_within y some) e in
+        let also : IsOpen p.side cells x c = subst (λ z. IsOpen p.side cells z c) (sym parts.0) (some_open y some) in
+        let same : listed_below cells x d ≡ listed_below cells x c = parts.1 ∙ listed_as y some ∙ ap (λ z. listed_below cells z c) (sym parts.0) in
+        ne (free_below-one p.side (with_last cells x) d c (free-with_last p.side cells x d o.last (λ q. o.other (sym q))) (free-with_last p.side cells x c also.last (λ q. also.other (sym q))) same))
+
+    pub set_rows_more : AreRowsUpTo p.side (length p.tiles) cells (c + 1) new
     set_rows_more = record {
       size = size ∙ set_rows.size;
-      filled = λ x d l k. elim (cases_eq d c) [
-        | inl e ↦ subst (λ q. IsPlaceAt p.side (slot_count p) cells x q (get_or new (x * (p.side * p.side) + q) 0)) (sym e) (at_column x l)
-        | inr ne ↦ subst (IsPlaceAt p.side (slot_count p) cells x d) (sym (kept x d (omega arith) ne)) (set_rows.filled x d l (omega arith))
+      filled = λ x d j l o s. elim (cases_eq d c) [
+        | inl e ↦ subst (λ q. get_or new (x * len + listed_below cells x q) 0 ≡ place_of (slot_count p) cells q j) (sym e)
+            (at_column x j (subst (IsOpen p.side cells x) e o) (subst (λ q. IsSlot p.side (with_last cells q) x j) e s))
+        | inr ne ↦ kept x d o ne ∙ set_rows.filled x d j (omega arith) o s
       ];
-      empty = λ x d l k past. kept x d k (λ e. past (omega arith)) ∙ set_rows.empty x d l k (λ q. past (omega arith));
     }
 
 -- ---- the placement of a cell of the last tile

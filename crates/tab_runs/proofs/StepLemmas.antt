@@ -12,17 +12,17 @@ use Rattle.tab_check.specs.Entries.{IsEntryAt}
 use Rattle.tab_check.specs.LocalRule.{IsLeastNear, IsLeastOf, IsNearEntry}
 use Rattle.tab_check.proofs.EntryLemmas.{entry_one}
 use Rattle.tab_check.proofs.MoveLemmas.{IsLeastOf-same}
-use Rattle.tab_runs.specs.Rows.{IsOpen, IsRow, place_of}
+use Rattle.tab_runs.specs.Rows.{IsOpen, IsRow, listed_below, place_of}
 use Rattle.tab_runs.specs.Runs.{AreRunEntries, IsRun, free_below, with_last}
 use Rattle.tab_runs.specs.Steps.{IsLastStep, IsOneStep, IsRowStep, IsRunStep, IsSomeLastStep, IsStepAmong, IsTileStep}
-use Rattle.tab_runs.proofs.RowLemmas.{place_one, row_open, slot_low, slot_of_open}
-use Rattle.tab_runs.proofs.RunLemmas.{open_moved, placed_last, run_moved, with_last-free}
+use Rattle.tab_runs.proofs.RowLemmas.{free_below-same, listed_at, listed_low, place_one, slot_low, slot_of_open}
+use Rattle.tab_runs.proofs.RunLemmas.{open_moved, placed_last, run_moved, same_moved, with_last-free}
 
 module _ (t : Table) (pat : IsPattern t.pattern) (p : List ℕ) (run : IsRun t.pattern p) where
   -- ---- the byte that a row leads to is an entry
 
-  pub row_entry : (near : List ℕ) → AreRunEntries t p near → (x : ℕ) (row : List ℕ) → IsRow t.pattern.side (slot_count t.pattern) p x row
-      → (c : ℕ) → IsOpen t.pattern.side p x c → IsEntryAt t (with_last p c) x (get_or near (get_or row c 0) 0)
+  pub row_entry : (near : List ℕ) → AreRunEntries t p near → (x : ℕ) (row : List ℕ) → IsRow t.pattern.side (length t.pattern.tiles) p x row
+      → (c : ℕ) → IsOpen t.pattern.side p x c → IsEntryAt t (with_last p c) x (get_or near (get_or row (listed_below p x c) 0) 0)
   row_entry near entries x row is c o =
       let j = slot_of_open t.pattern pat p run x c o in
       let low = slot_low t.pattern pat p run c x j.0 o.last j.1 in
@@ -46,14 +46,14 @@ module _ (t : Table) (pat : IsPattern t.pattern) (p : List ℕ) (run : IsRun t.p
   -- ---- the last tile moves
 
   module _ (own : List ℕ) (entries : AreRunEntries t p own) (a b : ℕ) (free_a : IsFree t.pattern.side p a) (free_b : IsFree t.pattern.side p b) (apart : b ≢ a)
-      (row_a row_b : List ℕ) (is_a : IsRow t.pattern.side (slot_count t.pattern) p a row_a) (is_b : IsRow t.pattern.side (slot_count t.pattern) p b row_b) where
+      (row_a row_b : List ℕ) (is_a : IsRow t.pattern.side (length t.pattern.tiles) p a row_a) (is_b : IsRow t.pattern.side (length t.pattern.tiles) p b row_b) where
     open_b : IsOpen t.pattern.side p b a
     open_b = record { last = free_a; cell = free_b; other = apart }
 
     open_a : IsOpen t.pattern.side p a b
     open_a = record { last = free_b; cell = free_a; other = λ e. apart (sym e) }
 
-    pub last_from_one : (place e : ℕ) → IsOneStep (get_or row_b a 0) (get_or own (get_or row_a b 0) 0) place e → IsLastStep t p a b place e
+    pub last_from_one : (place e : ℕ) → IsOneStep (get_or row_b (listed_below p b a) 0) (get_or own (get_or row_a (listed_below p a b) 0) 0) place e → IsLastStep t p a b place e
     last_from_one place e s =
         let j = slot_of_open t.pattern pat p run b a open_b in
         record {
@@ -64,44 +64,49 @@ module _ (t : Table) (pat : IsPattern t.pattern) (p : List ℕ) (run : IsRun t.p
           entry = subst (IsEntryAt t (with_last p b) a) (sym s.is_entry) (row_entry own entries a row_a is_a b open_a);
         }
 
-    pub one_from_last : (place e : ℕ) → IsLastStep t p a b place e → IsOneStep (get_or row_b a 0) (get_or own (get_or row_a b 0) 0) place e
+    pub one_from_last : (place e : ℕ) → IsLastStep t p a b place e → IsOneStep (get_or row_b (listed_below p b a) 0) (get_or own (get_or row_a (listed_below p a b) 0) 0) place e
     one_from_last place e s = record {
       is_place = s.is_place ∙ sym (is_b.place a s.slot s.opens s.in_slot);
-      is_entry = entry_same a b e (get_or own (get_or row_a b 0) 0) open_a s.entry (row_entry own entries a row_a is_a b open_a);
+      is_entry = entry_same a b e (get_or own (get_or row_a (listed_below p a b) 0) 0) open_a s.entry (row_entry own entries a row_a is_a b open_a);
     }
 
 -- ---- another tile moves
 
 module _ (t : Table) (pat : IsPattern t.pattern) (p : List ℕ) (run : IsRun t.pattern p) (i f : ℕ) (low : i < length p) (free : IsFree t.pattern.side p f) (near : List ℕ) (entries : AreRunEntries t (set p i f) near)
-    (to from : List ℕ) (is_to : IsRow t.pattern.side (slot_count t.pattern) p f to) (is_from : IsRow t.pattern.side (slot_count t.pattern) (set p i f) (get_or p i 0) from) where
+    (to from : List ℕ) (is_to : IsRow t.pattern.side (length t.pattern.tiles) p f to) (is_from : IsRow t.pattern.side (length t.pattern.tiles) (set p i f) (get_or p i 0) from) where
   moved : IsRun t.pattern (set p i f)
   moved = run_moved t.pattern p i f run free
 
-  pub tile_from_row : (place e : ℕ) → 0 < place → IsRowStep to near from (length to) place e → IsTileStep t p i f place e
-  tile_from_row place e some s =
-      let inside : s.cell < t.pattern.side * t.pattern.side = (let l : s.cell < length to = s.low in let z = is_to.size in omega arith) in
-      let o = row_open t.pattern pat p run f to is_to s.cell inside (let at = s.is_place in omega arith) in
-      let j = slot_of_open t.pattern pat p run f s.cell o in
-      let o2 = open_moved t.pattern.side p run.inside run.apart i f low free s.cell o in
+  -- both rows list the same cells
+  same_listed : (c : ℕ) → listed_below p f c ≡ listed_below (set p i f) (get_or p i 0) c
+  same_listed = free_below-same (with_last p f) (with_last (set p i f) (get_or p i 0)) (same_moved p i f low)
+
+  from_entry : (c : ℕ) → IsOpen t.pattern.side p f c → IsEntryAt t (with_last (set p i f) c) (get_or p i 0) (get_or near (get_or from (listed_below p f c) 0) 0)
+  from_entry c o = subst (λ k. IsEntryAt t (with_last (set p i f) c) (get_or p i 0) (get_or near (get_or from k 0) 0)) (sym (same_listed c))
+      (row_entry t pat (set p i f) moved near entries (get_or p i 0) from is_from c (open_moved t.pattern.side p run.inside run.apart i f low free c o))
+
+  pub tile_from_row : (place e : ℕ) → IsRowStep to near from (length to) place e → IsTileStep t p i f place e
+  tile_from_row place e s =
+      let at = listed_at t.pattern pat p run f s.cell free (let l : s.cell < length to = s.low in let z = is_to.size in omega arith) in
+      let c : ℕ = at.0 in
+      let j = slot_of_open t.pattern pat p run f c at.1 in
       record {
-        last = s.cell;
-        opens = o;
+        last = c;
+        opens = at.1;
         slot = j.0;
         in_slot = j.1;
-        is_place = sym s.is_place ∙ is_to.place s.cell j.0 o j.1;
-        entry = subst (IsEntryAt t (with_last (set p i f) s.cell) (get_or p i 0)) s.is_entry (row_entry t pat (set p i f) moved near entries (get_or p i 0) from is_from s.cell o2);
+        is_place = sym s.is_place ∙ ap (λ k. get_or to k 0) (sym at.2) ∙ is_to.place c j.0 at.1 j.1;
+        entry = subst (IsEntryAt t (with_last (set p i f) c) (get_or p i 0)) (ap (λ k. get_or near (get_or from k 0) 0) at.2 ∙ s.is_entry) (from_entry c at.1);
       }
 
   pub row_from_tile : (place e : ℕ) → IsTileStep t p i f place e → IsRowStep to near from (length to) place e
-  row_from_tile place e s =
-      let o2 = open_moved t.pattern.side p run.inside run.apart i f low free s.last s.opens in
-      record {
-        cell = s.last;
-        low = (let l : s.last < t.pattern.side * t.pattern.side = s.opens.last.0 in let z = is_to.size in omega arith);
-        is_place = is_to.place s.last s.slot s.opens s.in_slot ∙ sym s.is_place;
-        is_entry = entry_same t pat (set p i f) moved (get_or p i 0) s.last (get_or near (get_or from s.last 0) 0) e o2
-            (row_entry t pat (set p i f) moved near entries (get_or p i 0) from is_from s.last o2) s.entry;
-      }
+  row_from_tile place e s = record {
+    cell = listed_below p f s.last;
+    low = (let l = listed_low t.pattern pat p run f s.last s.opens in let z = is_to.size in omega arith);
+    is_place = is_to.place s.last s.slot s.opens s.in_slot ∙ sym s.is_place;
+    is_entry = entry_same t pat (set p i f) moved (get_or p i 0) s.last (get_or near (get_or from (listed_below p f s.last) 0) 0) e
+        (open_moved t.pattern.side p run.inside run.apart i f low free s.last s.opens) (from_entry s.last s.opens) s.entry;
+  }
 
 -- ---- all moves of a run are the near entries of its placements
 

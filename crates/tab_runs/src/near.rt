@@ -3,8 +3,10 @@
 ghost use Rattle.std.specs.Prelude.{◌≡◌, ℕ, ◌+◌, ◌*◌, ◌<◌, ◌≤◌, ◌≢◌, true, length, slice_index, slice_set, take, IfSome};
 ghost use Rattle.std.specs.Bool.{OnTrue};
 ghost use Rattle.std.specs.Int.{bit_at};
+ghost use Rattle.puz_board.specs.Masks.{IsMaskOf};
+ghost use Rattle.pat_place.specs.Patterns.{has};
 ghost use Rattle.pat_place.specs.Placements.{IsFree};
-ghost use Rattle.tab_runs.specs.Runs.{AreRunEntries, IsRun};
+ghost use Rattle.tab_runs.specs.Runs.{AreFreeBelow, AreRunEntries, IsRun};
 ghost use Rattle.tab_runs.specs.RunsOfTables.{IsRunOf};
 ghost use Rattle.tab_runs.specs.StoredRows.{rows_for};
 ghost use Rattle.tab_runs.specs.Steps.{AreLeastNear, IsBesideStep, IsIndexStep, IsPairStep, IsSomeLastStep, IsStepAmong, IsTakenIn, IsTileStep};
@@ -98,54 +100,77 @@ fn take_tiles(table: &TableView<'_>, rows: &RowTable, run: &Run<'_>, mins: &mut 
     true
 }
 
-/// Takes in the last tile's moves between two free cells.
+/// For each of the first `count` cells how many cells below it no tile of the run is in.
+fn free_below_each(run: &Run<'_>, count: u8) -> [u8; 25]
+    requires small { count ≤ 25 }
+    requires set { IsMaskOf run.now.set (λ c. has run.now.cells.now c ≡ true) }
+    ensures { AreFreeBelow run.now.cells.now count result }
+{
+    let mut below = [0; 25];
+    let mut free: u8 = 0;
+    for cell in 0..count {
+        below[usize::from(cell)] = free;
+        if !masks::has_cell(run.set, cell) {
+            free += 1;
+        }
+    }
+    below
+}
+
+/// Takes in the last tile's moves between two free cells, the lower one first.
 #[inline]
 fn take_pair(
     table: &TableView<'_>,
     rows: &RowTable,
     run: &Run<'_>,
+    below: &[u8; 25],
     a: u8,
     b: u8,
     mins: &mut [u8; 256],
 )
     requires rows { rows.now ≡ rows_for table.now.pattern }
     requires run { IsRunOf table.now run.now }
+    requires below { AreFreeBelow run.now.cells.now (table.now.pattern.side * table.now.pattern.side) below.now }
     requires free_a { IsFree table.now.pattern.side run.now.cells.now a }
     requires free_b { IsFree table.now.pattern.side run.now.cells.now b }
-    requires apart { b ≢ a }
+    requires order { a < b }
     ensures { IsTakenIn mins.old mins.new (IsPairStep table.now run.now.cells.now a b) }
 {
     let _pattern = table.pattern();
     let own = run.own;
     let row_a = rows.row_in(run.rows, a);
     let row_b = rows.row_in(run.rows, b);
-    let in_a = row_b[usize::from(a)];
-    let in_b = row_a[usize::from(b)];
+    let index_a = below[usize::from(a)];
+    let index_b = below[usize::from(b)] - 1;
+    let in_a = row_b[usize::from(index_a)];
+    let in_b = row_a[usize::from(index_b)];
     take_one(mins, in_a, own[usize::from(in_b)]);
     take_one(mins, in_b, own[usize::from(in_a)]);
 }
 
-/// Takes in the last tile's moves between one free cell and those of a mask.
+/// Takes in the last tile's moves between one free cell and those of a mask, which are all above it.
 #[inline]
 fn take_beside(
     table: &TableView<'_>,
     rows: &RowTable,
     run: &Run<'_>,
+    below: &[u8; 25],
     a: u8,
     mask: u32,
     mins: &mut [u8; 256],
 )
     requires rows { rows.now ≡ rows_for table.now.pattern }
     requires run { IsRunOf table.now run.now }
+    requires below { AreFreeBelow run.now.cells.now (table.now.pattern.side * table.now.pattern.side) below.now }
     requires free_a { IsFree table.now.pattern.side run.now.cells.now a }
-    requires others { (x : ℕ) → bit_at mask x ≡ 1 → IsFree table.now.pattern.side run.now.cells.now x × (x ≢ a) }
+    requires others { (x : ℕ) → bit_at mask x ≡ 1 → IsFree table.now.pattern.side run.now.cells.now x × (a < x) }
     ensures { IsTakenIn mins.old mins.new (IsBesideStep table.now run.now.cells.now a mask 0) }
 {
     let _pattern = table.pattern();
     let mut targets = rows.beside(a) & mask;
     'targets: while targets != 0 {
         let b = masks::first_of(targets);
-        take_pair(table, rows, run, a, b, mins);
+        take_pair(table, rows, run, below, a, b, mins);
         targets = masks::without(targets, b);
     }
 }
@@ -156,11 +181,13 @@ fn take_lasts(table: &TableView<'_>, rows: &RowTable, run: &Run<'_>, mins: &mut 
     requires run { IsRunOf table.now run.now }
     ensures { IsTakenIn mins.old mins.new (IsSomeLastStep table.now run.now.cells.now) }
 {
-    let mut left = masks::all_below(table.pattern().side().cells()) & !run.set;
+    let count = table.pattern().side().cells();
+    let below = free_below_each(run, count);
+    let mut left = masks::all_below(count) & !run.set;
     'left: while left != 0 {
         let a = masks::first_of(left);
         left = masks::without(left, a);
-        take_beside(table, rows, run, a, left, mins);
+        take_beside(table, rows, run, &below, a, left, mins);
     }
 }
 

@@ -1,12 +1,13 @@
 //! The rows of all cells for one set of cells.
 
-ghost use Rattle.std.specs.Prelude.{◌≡◌, ◌+◌, ◌*◌, ◌^◌, ◌<◌, ◌≤◌, count_ones, length, true, IfOk, OnOk};
+ghost use Rattle.std.specs.Prelude.{◌≡◌, ℕ, ◌+◌, ◌*◌, ◌^◌, ◌<◌, ◌≤◌, count_ones, length, true, IfOk, OnOk};
 ghost use Rattle.puz_board.specs.Masks.{IsMaskOf};
 ghost use Rattle.pat_place.specs.Patterns.{has};
 ghost use Rattle.tab_file.specs.Tables.{slot_count};
 ghost use Rattle.tab_runs.specs.Kinds.{AreKindsUpTo, AreMarked};
 ghost use Rattle.tab_runs.specs.Runs.{IsRun, run_length};
-ghost use Rattle.tab_runs.specs.SetRows.{AreRowsUpTo, IsColumn};
+ghost use Rattle.tab_runs.specs.Rows.{row_length};
+ghost use Rattle.tab_runs.specs.SetRows.{AreRowsUpTo, IsColumn, IsInSome, listed_of};
 ghost use Rattle.tab_runs.specs.StoredRows.{AreAllKinds, AreAllRows, entries_of_run};
 
 use crate::masks;
@@ -14,17 +15,29 @@ use pat_place::{Pattern, find_region, next, rank_among, regions, unrank};
 use std::alloc::{AllocError, Global};
 use tab_lanes::OTHER_SLOT;
 
-/// Fills in where the regions of one placement stand: `before`, and the number of the region.
-fn fill_column(set_rows: &mut [u8], cells: u8, last: u8, before: u8, regions: &[u32])
+/// Fills in where the regions of one placement stand, with the last tile in cell `last` and `free` free cells below it:
+/// `before`, and the number of the region.
+fn fill_column(
+    set_rows: &mut [u8],
+    cells: u8,
+    listed: usize,
+    last: u8,
+    free: u8,
+    before: u8,
+    regions: &[u32],
+)
     requires small { cells ≤ 25 }
-    requires last { last < cells }
-    requires size { length set_rows.old ≡ cells * cells }
+    requires short { listed ≤ 25 }
+    requires size { length set_rows.old ≡ cells * listed }
+    requires below { (x : ℕ) → IsInSome regions.now x → x < last → 0 < free }
+    requires within { (x : ℕ) → IsInSome regions.now x → listed_of last free x < listed }
     requires fits { before + length regions.now ≤ 255 }
-    ensures { IsColumn cells last before regions.now cells set_rows.old set_rows.new }
+    ensures { IsColumn listed last free before regions.now cells set_rows.old set_rows.new }
 {
     for x in 0..cells {
         if let Some(j) = find_region(regions, x) {
-            set_rows[usize::from(x) * usize::from(cells) + usize::from(last)] = before + j as u8;
+            let index = free - u8::from(x < last);
+            set_rows[usize::from(x) * listed + usize::from(index)] = before + j as u8;
         }
     }
 }
@@ -47,18 +60,26 @@ pub(crate) fn entries_of_run(pattern: &Pattern) -> usize
     run * usize::from(pattern.width())
 }
 
+/// How many cells a row of the pattern lists.
+pub(crate) fn cells_of_row(pattern: &Pattern) -> usize
+    ensures { result ≡ row_length pattern.now.side (length pattern.now.tiles) }
+{
+    usize::from(pattern.side().cells()) - usize::from(pattern.size())
+}
+
 /// Fills in the rows of all cells for a run's set of cells, and which slots have a region.
 fn fill_rows(pattern: &Pattern, cells: &[u8], set: u32, set_rows: &mut [u8], kinds: &mut [u8])
     requires run { IsRun pattern.now cells.now }
     requires set { IsMaskOf set (λ c. has cells.now c ≡ true) }
-    requires set_rows { AreRowsUpTo pattern.now.side (slot_count pattern.now) cells.now 0 set_rows.old }
+    requires size { length set_rows.old ≡ pattern.now.side * pattern.now.side * row_length pattern.now.side (length pattern.now.tiles) }
     requires kinds { AreKindsUpTo pattern.now.side (slot_count pattern.now) cells.now 0 kinds.old }
     requires room { length kinds.old ≡ run_length pattern.now.side cells.now * slot_count pattern.now }
-    ensures rows { AreRowsUpTo pattern.now.side (slot_count pattern.now) cells.now (pattern.now.side * pattern.now.side) set_rows.new }
+    ensures rows { AreRowsUpTo pattern.now.side (length pattern.now.tiles) cells.now (pattern.now.side * pattern.now.side) set_rows.new }
     ensures kinds { AreKindsUpTo pattern.now.side (slot_count pattern.now) cells.now (pattern.now.side * pattern.now.side) kinds.new }
 {
     let count = pattern.side().cells();
     let width = pattern.width();
+    let listed = cells_of_row(pattern);
     let run = u64::from(count) - cells.len() as u64;
     let first = rank_among(cells, count) * run;
     let mut placement = unrank(pattern, first);
@@ -67,7 +88,15 @@ fn fill_rows(pattern: &Pattern, cells: &[u8], set: u32, set_rows: &mut [u8], kin
         if !masks::has_cell(set, last) {
             let regions = regions(&placement);
             let before = free * width;
-            fill_column(set_rows, count, last, 1 + before, regions.as_slice());
+            fill_column(
+                set_rows,
+                count,
+                listed,
+                last,
+                free,
+                1 + before,
+                regions.as_slice(),
+            );
             mark(kinds, usize::from(before), regions.len());
             next(&mut placement);
             free += 1;
@@ -86,12 +115,12 @@ struct SetRows {
 fn rows_of(alloc: Global, pattern: &Pattern, cells: &[u8], set: u32) -> Result<SetRows, AllocError>
     requires run { IsRun pattern.now cells.now }
     requires set { IsMaskOf set (λ c. has cells.now c ≡ true) }
-    ensures rows { IfOk result (λ made. AreRowsUpTo pattern.now.side (slot_count pattern.now) cells.now (pattern.now.side * pattern.now.side) made.rows.items) }
+    ensures rows { IfOk result (λ made. AreRowsUpTo pattern.now.side (length pattern.now.tiles) cells.now (pattern.now.side * pattern.now.side) made.rows.items) }
     ensures kinds { IfOk result (λ made. AreKindsUpTo pattern.now.side (slot_count pattern.now) cells.now (pattern.now.side * pattern.now.side) made.kinds.items) }
     ensures size { IfOk result (λ made. length made.kinds.items ≡ entries_of_run pattern.now.side (length pattern.now.tiles)) }
 {
     let count = usize::from(pattern.side().cells());
-    let mut rows = vec![in alloc; 0; count * count]?;
+    let mut rows = vec![in alloc; 0; count * cells_of_row(pattern)]?;
     let mut kinds = vec![in alloc; 0; entries_of_run(pattern)]?;
     fill_rows(
         pattern,
@@ -114,9 +143,9 @@ pub(crate) fn push_set(
 ) -> Result<(), AllocError>
     requires bits { set < 2 ^ (pattern.now.side * pattern.now.side) }
     requires size { count_ones set + 1 ≡ length pattern.now.tiles }
-    requires rows { AreAllRows pattern.now.side (slot_count pattern.now) masks.old.items rows.old.items }
+    requires rows { AreAllRows pattern.now.side (length pattern.now.tiles) masks.old.items rows.old.items }
     requires kinds { AreAllKinds pattern.now.side (slot_count pattern.now) (entries_of_run pattern.now.side (length pattern.now.tiles)) masks.old.items kinds.old.items }
-    ensures rows { OnOk result (AreAllRows pattern.now.side (slot_count pattern.now) masks.new.items rows.new.items) }
+    ensures rows { OnOk result (AreAllRows pattern.now.side (length pattern.now.tiles) masks.new.items rows.new.items) }
     ensures kinds { OnOk result (AreAllKinds pattern.now.side (slot_count pattern.now) (entries_of_run pattern.now.side (length pattern.now.tiles)) masks.new.items kinds.new.items) }
 {
     let _pattern = pattern.side();

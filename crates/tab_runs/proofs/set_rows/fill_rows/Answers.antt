@@ -8,19 +8,20 @@ use Rattle.pat_place.specs.Regions.{AreRegions}
 use Rattle.pat_place.proofs.CountLemmas.{few_placements}
 use Rattle.tab_file.specs.Tables.{slot_count}
 use Rattle.tab_runs.specs.Kinds.{AreKindsUpTo, AreMarked}
-use Rattle.tab_runs.specs.SetRows.{AreRowsUpTo, IsColumn}
+use Rattle.tab_runs.specs.Rows.{row_length}
+use Rattle.tab_runs.specs.SetRows.{AreRowsUpTo, IsColumn, listed_of}
 use Rattle.tab_runs.specs.Runs.{free_below, run_length}
 use Rattle.tab_runs.proofs.EntriesLemmas.{are_numbers, run_few}
 use Rattle.tab_runs.proofs.KindLemmas.{kinds_more, kinds_skip}
 use Rattle.tab_runs.proofs.RunRanks.{free_below-free, free_below-low, free_below-taken, free_below-zero}
-use Rattle.tab_runs.proofs.SetRowLemmas.{at_last, before_low, first_low, marks_low, place_before_run, placement_is, rank_as, regions_are, regions_few, run_is, set_rows_more, set_rows_skip}
+use Rattle.tab_runs.proofs.SetRowLemmas.{at_last, before_low, first_low, marks_low, place_before_run, placement_is, listed_some, listed_within, rank_as, regions_are, regions_few, run_is, set_rows_more, set_rows_skip}
 use Rattle.tab_check.proofs.ColumnLemmas.{next_rank}
 use Rattle.tab_runs.proofs.set_rows.fill_rows.Goals as goal
 use Rattle.tab_runs.proofs.set_rows.fill_rows.Goals.{then-not-has_cell, else-not-has_cell}
 
 pub loop-last-init : goal.loop-last-init
 loop-last-init c = record {
-  rows = c.requires.set_rows;
+  rows = record { size = c.requires.size; filled = λ x d j l o s. absurd (omega arith) };
   kinds = c.requires.kinds;
   count = sym (free_below-zero c.args.cells.now);
   pattern = c.unrank-placement.ensures.pattern;
@@ -87,6 +88,35 @@ fill_column-requires-clause-fits c =
     let l = ap length c.as_slice.ensures.value in
     omega arith
 
+pub fill_column-requires-clause-below : goal.fill_column-requires-clause-below
+fill_column-requires-clause-below c x some low =
+    let p = c.args.pattern.now in
+    let cells = c.args.cells.now in
+    let pat = c.side.ensures.pattern in
+    let at =
+    at_last p cells c.args.set c.side.result c.cells-count.result c.from.result c.width-width.result c.rank_among.result c.loop-last.last c.loop-last.free c.loop-last.free c.has_cell.result
+    c.requires.set c.side.ensures.side c.cells-count.ensures.value c.from.ensures c.width-width.ensures c.rank_among.ensures c.loop-last-test.true c.has_cell.ensures c.if-not-has_cell.true c.loop-last.invariant.count refl in
+    let view = c.loop-last.placement in
+    let is = placement_is p pat cells c.requires.run c.rank_among.result at.is_rank c.loop-last.last at.free view c.loop-last.invariant.pattern c.loop-last.invariant.placement (subst (IsRank p.side view.cells) at.number_is (c.loop-last.invariant.rank (place_before_run p pat cells c.requires.run c.loop-last.last at.free c.loop-last.free c.loop-last.invariant.count (c.from.result - length cells) (run_is p c.side.result c.cells-count.result c.from.result (length cells) c.side.ensures.side c.cells-count.ensures.value c.from.ensures)))) in
+    let regions = c.as_slice.result.now in
+    let are = regions_are p pat cells c.requires.run c.rank_among.result at.is_rank c.loop-last.last at.free view regions c.loop-last.invariant.pattern is (subst (AreRegions view.pattern.side view.cells) (sym c.as_slice.ensures.value) c.regions-regions.ensures.regions) in
+    subst (λ k. 0 < k) (sym c.loop-last.invariant.count) (listed_some p pat cells c.requires.run c.loop-last.last at.free regions are x some low)
+
+pub fill_column-requires-clause-within : goal.fill_column-requires-clause-within
+fill_column-requires-clause-within c x some =
+    let p = c.args.pattern.now in
+    let cells = c.args.cells.now in
+    let pat = c.side.ensures.pattern in
+    let at =
+    at_last p cells c.args.set c.side.result c.cells-count.result c.from.result c.width-width.result c.rank_among.result c.loop-last.last c.loop-last.free c.loop-last.free c.has_cell.result
+    c.requires.set c.side.ensures.side c.cells-count.ensures.value c.from.ensures c.width-width.ensures c.rank_among.ensures c.loop-last-test.true c.has_cell.ensures c.if-not-has_cell.true c.loop-last.invariant.count refl in
+    let view = c.loop-last.placement in
+    let is = placement_is p pat cells c.requires.run c.rank_among.result at.is_rank c.loop-last.last at.free view c.loop-last.invariant.pattern c.loop-last.invariant.placement (subst (IsRank p.side view.cells) at.number_is (c.loop-last.invariant.rank (place_before_run p pat cells c.requires.run c.loop-last.last at.free c.loop-last.free c.loop-last.invariant.count (c.from.result - length cells) (run_is p c.side.result c.cells-count.result c.from.result (length cells) c.side.ensures.side c.cells-count.ensures.value c.from.ensures)))) in
+    let regions = c.as_slice.result.now in
+    let are = regions_are p pat cells c.requires.run c.rank_among.result at.is_rank c.loop-last.last at.free view regions c.loop-last.invariant.pattern is (subst (AreRegions view.pattern.side view.cells) (sym c.as_slice.ensures.value) c.regions-regions.ensures.regions) in
+    subst (λ f. listed_of c.loop-last.last f x < c.cells_of_row-listed.result) (sym c.loop-last.invariant.count)
+    (subst (λ k. listed_of c.loop-last.last (free_below cells c.loop-last.last) x < k) (sym c.cells_of_row-listed.ensures) (listed_within p pat cells c.requires.run c.loop-last.last at.free regions are x some))
+
 pub mark-requires : goal.mark-requires
 mark-requires c =
     let p = c.args.pattern.now in
@@ -125,9 +155,9 @@ loop-last-preserved c =
     let pat = c.side.ensures.pattern in
     let last = c.loop-last.last in
     let board : c.cells-count.result ≡ p.side * p.side = c.cells-count.ensures.value ∙ ap₂ (λ m n. m * n) c.side.ensures.side c.side.ensures.side in
-    let inside : last < p.side * p.side = (let l = c.loop-last-test.true in omega arith) in
     let count : c.loop-last.free ≡ free_below cells last = c.loop-last.invariant.count in
     let first = c.rank_among.result * (c.from.result - length cells) in
+    let len = row_length p.side (length p.tiles) in
     elim c.if-not-has_cell.branch [
       | then-not-has_cell w ↦
           let at =
@@ -139,15 +169,17 @@ loop-last-preserved c =
           let are = regions_are p pat cells c.requires.run c.rank_among.result at.is_rank last at.free view regions c.loop-last.invariant.pattern is (subst (AreRegions view.pattern.side view.cells) (sym w.as_slice.ensures.value) w.regions-regions.ensures.regions) in
           let few : length w.regions-regions.result.items ≤ slot_count p = regions_few p pat cells c.requires.run c.rank_among.result at.is_rank last at.free view (length w.regions-regions.result.items) c.loop-last.invariant.pattern is w.regions-regions.ensures.few in
           let counted : length w.regions-regions.result.items ≡ length regions = sym (ap length w.as_slice.ensures.value) in
-          let column : IsColumn (p.side * p.side) last (1 + free_below cells last * slot_count p) regions (p.side * p.side) c.loop-last.set_rows w.fill_column.new.set_rows =
-          subst (λ b. IsColumn (p.side * p.side) last b regions (p.side * p.side) c.loop-last.set_rows w.fill_column.new.set_rows) (ap (λ k. 1 + k) at.before_is)
-          (subst (λ m. IsColumn m last (1 + c.loop-last.free * c.width-width.result) regions m c.loop-last.set_rows w.fill_column.new.set_rows) board w.fill_column.ensures) in
+          let column : IsColumn len last (free_below cells last) (1 + free_below cells last * slot_count p) regions (p.side * p.side) c.loop-last.set_rows w.fill_column.new.set_rows =
+          subst (λ f. IsColumn len last f (1 + free_below cells last * slot_count p) regions (p.side * p.side) c.loop-last.set_rows w.fill_column.new.set_rows) count
+          (subst (λ b. IsColumn len last c.loop-last.free b regions (p.side * p.side) c.loop-last.set_rows w.fill_column.new.set_rows) (ap (λ k. 1 + k) at.before_is)
+          (subst (λ m. IsColumn len last c.loop-last.free (1 + c.loop-last.free * c.width-width.result) regions m c.loop-last.set_rows w.fill_column.new.set_rows) board
+          (subst (λ k. IsColumn k last c.loop-last.free (1 + c.loop-last.free * c.width-width.result) regions c.cells-count.result c.loop-last.set_rows w.fill_column.new.set_rows) c.cells_of_row-listed.ensures w.fill_column.ensures))) in
           let marked : AreMarked (free_below cells last * slot_count p) (length regions) c.loop-last.kinds w.mark.new.kinds =
           subst (λ k. AreMarked k (length regions) c.loop-last.kinds w.mark.new.kinds) (w.from-then-not-has_cell.ensures ∙ at.before_is)
           (subst (λ k. AreMarked w.from-then-not-has_cell.result k c.loop-last.kinds w.mark.new.kinds) (w.len.ensures.value ∙ counted) w.mark.ensures) in
           let size : length w.fill_column.new.set_rows ≡ length c.loop-last.set_rows = w.fill_column.auto.set_rows in
           record {
-            rows = subst (AreRowsUpTo p.side (slot_count p) cells (last + 1)) (sym w.set_rows-is) (set_rows_more p pat cells last inside c.loop-last.set_rows c.loop-last.invariant.rows at.free regions w.fill_column.new.set_rows are size column);
+            rows = subst (AreRowsUpTo p.side (length p.tiles) cells (last + 1)) (sym w.set_rows-is) (set_rows_more p pat cells c.requires.run last at.free regions are c.loop-last.set_rows w.fill_column.new.set_rows c.loop-last.invariant.rows size column);
             kinds = subst (AreKindsUpTo p.side (slot_count p) cells (last + 1)) (sym w.kinds-is) (kinds_more p.side (slot_count p) cells last c.loop-last.kinds c.loop-last.invariant.kinds at.free regions w.mark.new.kinds are (omega arith) marked);
             count = w.free-is ∙ ap (λ k. k + 1) count ∙ sym (free_below-free cells last at.free.1);
             pattern = ap (λ v. v.pattern) w.placement-is ∙ w.next.ensures.pattern ∙ c.loop-last.invariant.pattern;
@@ -165,7 +197,7 @@ loop-last-preserved c =
       | else-not-has_cell w ↦
           let taken : has cells last ≡ true = (c.requires.set last).0 (c.has_cell.ensures.0 w.if-not-has_cell.false) in
           record {
-            rows = subst (AreRowsUpTo p.side (slot_count p) cells (last + 1)) (sym w.set_rows-is) (set_rows_skip p pat cells last inside c.loop-last.set_rows c.loop-last.invariant.rows (λ f. both_ways (has cells last) f.1 taken));
+            rows = subst (AreRowsUpTo p.side (length p.tiles) cells (last + 1)) (sym w.set_rows-is) (set_rows_skip p.side (length p.tiles) cells last c.loop-last.set_rows c.loop-last.invariant.rows (λ f. both_ways (has cells last) f.1 taken));
             kinds = subst (AreKindsUpTo p.side (slot_count p) cells (last + 1)) (sym w.kinds-is) (kinds_skip p.side (slot_count p) cells last c.loop-last.kinds c.loop-last.invariant.kinds (λ f. both_ways (has cells last) f.1 taken));
             count = w.free-is ∙ count ∙ sym (free_below-taken cells last taken);
             pattern = ap (λ v. v.pattern) w.placement-is ∙ c.loop-last.invariant.pattern;
@@ -180,6 +212,6 @@ returns c =
     let board : c.cells-count.result ≡ p.side * p.side = c.cells-count.ensures.value ∙ ap₂ (λ m n. m * n) c.side.ensures.side c.side.ensures.side in
     let end : c.loop-last.last ≡ p.side * p.side = (let l = c.loop-last-test.false in let m = c.loop-last.auto.last-end in omega arith) in
     record {
-      rows = subst (λ k. AreRowsUpTo p.side (slot_count p) c.args.cells.now k c.loop-last.set_rows) end c.loop-last.invariant.rows;
+      rows = subst (λ k. AreRowsUpTo p.side (length p.tiles) c.args.cells.now k c.loop-last.set_rows) end c.loop-last.invariant.rows;
       kinds = subst (λ k. AreKindsUpTo p.side (slot_count p) c.args.cells.now k c.loop-last.kinds) end c.loop-last.invariant.kinds;
     }

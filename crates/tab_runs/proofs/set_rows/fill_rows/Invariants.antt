@@ -1,4 +1,4 @@
-use Rattle.std.proofs.Common.{◌≡◌, ◌+◌, ◌<◌}
+use Rattle.std.proofs.Common.{◌≡◌, ◌+◌, ◌<◌, length}
 use Rattle.pat_place.specs.Placements.{IsPlacement}
 use Rattle.pat_place.specs.Ranks.{IsRank}
 use Rattle.tab_file.specs.Tables.{slot_count}
@@ -9,7 +9,7 @@ use Rattle.tab_runs.proofs.set_rows.fill_rows.Given as goal
 
 abbrev pub invariant-loop-last : goal.invariant-loop-last
 invariant-loop-last l = record {
-  rows : AreRowsUpTo l.pattern.side (slot_count l.pattern) l.cells l.last l.set_rows;
+  rows : AreRowsUpTo l.pattern.side (length l.pattern.tiles) l.cells l.last l.set_rows;
   kinds : AreKindsUpTo l.pattern.side (slot_count l.pattern) l.cells l.last l.kinds;
   count : l.free ≡ free_below l.cells l.last;
   pattern : l.placement.pattern ≡ l.pattern;

@@ -2,6 +2,7 @@ use Rattle.std.proofs.Common.{◌≡◌, ◌*◌, true, ◌++◌, ◌∷◌, [],
 use Rattle.puz_board.specs.Masks.{IsMaskOf}
 use Rattle.pat_place.specs.Patterns.{has}
 use Rattle.tab_file.specs.Tables.{slot_count}
+use Rattle.tab_runs.specs.Rows.{row_length}
 use Rattle.tab_runs.specs.Runs.{IsRun}
 use Rattle.tab_runs.specs.Kinds.{TellRegionsOf}
 use Rattle.tab_runs.specs.StoredRows.{AreAllKinds, AreAllRows, AreRowsOf, entries_of_run}
@@ -30,10 +31,11 @@ returns-clause-rows c =
     let made = c.in_ok-made.made in
     let is : IsMaskOf c.args.set (λ x. has cells x ≡ true) =
     subst (λ q. IsMaskOf c.args.set (λ x. has q x ≡ true)) (sym (c.as_slice.ensures.value ∙ c.numbers_of-cells.ensures)) (mask_of_numbers p c.side-pattern.ensures.pattern c.args.set c.requires.bits c.requires.size) in
+    let run : IsRun p cells = subst (IsRun p) (sym (c.as_slice.ensures.value ∙ c.numbers_of-cells.ensures)) (run_of_mask p c.side-pattern.ensures.pattern c.args.set c.requires.bits c.requires.size) in
     let put : c.extend_from_slice.new.self.items ≡ rows ++ made.rows.items = c.in_ok-extend_from_slice.ensures.items ∙ ap (λ b. rows ++ b) c.as_slice-2.ensures.value in
-    subst (λ m. AreAllRows p.side (slot_count p) m c.extend_from_slice.new.self.items) (sym c.in_ok-push.ensures.items)
-    (subst (AreAllRows p.side (slot_count p) (masks ++ c.args.set ∷ [])) (sym put)
-    (all_push (AreRowsOf p.side (slot_count p)) (p.side * p.side * (p.side * p.side)) masks rows made.rows.items c.args.set c.requires.rows (rows_of_set p.side (slot_count p) cells made.rows.items c.args.set is c.in_ok-made.ensures.rows)
+    subst (λ m. AreAllRows p.side (length p.tiles) m c.extend_from_slice.new.self.items) (sym c.in_ok-push.ensures.items)
+    (subst (AreAllRows p.side (length p.tiles) (masks ++ c.args.set ∷ [])) (sym put)
+    (all_push (AreRowsOf p.side (length p.tiles)) (p.side * p.side * row_length p.side (length p.tiles)) masks rows made.rows.items c.args.set c.requires.rows (rows_of_set p c.side-pattern.ensures.pattern cells run made.rows.items c.in_ok-made.ensures.rows c.args.set is)
     (c.in_ok-made.ensures.rows).size))
 
 pub returns-clause-kinds : goal.returns-clause-kinds

@@ -5,6 +5,6 @@ use Rattle.tab_runs.proofs.rows.RowTable.build.Given as goal
 
 abbrev pub invariant-loop-set : goal.invariant-loop-set
 invariant-loop-set l = record {
-  rows : AreAllRows l.pattern.side (slot_count l.pattern) l.masks.items l.rows.items;
+  rows : AreAllRows l.pattern.side (length l.pattern.tiles) l.masks.items l.rows.items;
   kinds : AreAllKinds l.pattern.side (slot_count l.pattern) (entries_of_run l.pattern.side (length l.pattern.tiles)) l.masks.items l.kinds.items;
 }

@@ -2,6 +2,7 @@ use Rattle.std.proofs.Common.{◌≡◌, ◌+◌, ◌*◌, ◌<◌, ◌≤◌, d
 use Rattle.std.proofs.lemmas.List.{length-take-le}
 use Rattle.pat_place.specs.Patterns.{width}
 use Rattle.tab_runs.specs.Kinds.{TellRegionsOf}
+use Rattle.tab_runs.specs.Rows.{row_length}
 use Rattle.tab_runs.specs.StoredRows.{AreRowsOf, entries_of_run}
 use Rattle.tab_runs.proofs.TableRowLemmas.{part_end, part_says}
 use Rattle.tab_runs.proofs.rows.RowTable.of_set.Goals as goal
@@ -11,8 +12,8 @@ part-requires c =
     let r = c.self.inside in
     let number = c.number_of-number.result in
     let low : number < length r.masks.items = (let l = c.if-number-masks.false in let e = ap length c.as_slice-masks.ensures.value in omega arith) in
-    let end = part_end (r.side * r.side * (r.side * r.side)) (length r.masks.items) number low in
-    let board : r.cells * r.cells ≡ r.side * r.side * (r.side * r.side) = ap₂ (λ a b. a * b) c.self.invariant.few c.self.invariant.few in
+    let end = part_end (r.side * r.side * row_length r.side r.tiles) (length r.masks.items) number low in
+    let board : r.cells * r.listed ≡ r.side * r.side * row_length r.side r.tiles = ap₂ (λ a b. a * b) c.self.invariant.few c.self.invariant.short in
     subst (λ k. number * k + k ≤ length c.as_slice.result.now) (sym board) (let s = c.self.invariant.rows.size in let e = ap length c.as_slice.ensures.value in omega arith)
 
 pub part-requires-2 : goal.part-requires-2
@@ -31,9 +32,9 @@ returns-clause-rows c =
     let number = c.number_of-number.result in
     let low : number < length r.masks.items = (let l = c.if-number-masks.false in let e = ap length c.as_slice-masks.ensures.value in omega arith) in
     let mask : get_or r.masks.items number 0 ≡ c.args.set = ap (λ xs. get_or xs number 0) (sym c.as_slice-masks.ensures.value) ∙ c.if-masks-number.false in
-    let board : r.cells * r.cells ≡ r.side * r.side * (r.side * r.side) = ap₂ (λ a b. a * b) c.self.invariant.few c.self.invariant.few in
-    subst (λ v. AreRowsOf v.side (width v.side v.tiles) c.args.set c.part.result.now) c.self.view_is
-    (part_says (AreRowsOf r.side (width r.side r.tiles)) (r.side * r.side * (r.side * r.side)) (r.cells * r.cells) r.masks.items r.rows.items c.as_slice.result.now c.part.result.now number c.args.set
+    let board : r.cells * r.listed ≡ r.side * r.side * row_length r.side r.tiles = ap₂ (λ a b. a * b) c.self.invariant.few c.self.invariant.short in
+    subst (λ v. AreRowsOf v.side v.tiles c.args.set c.part.result.now) c.self.view_is
+    (part_says (AreRowsOf r.side r.tiles) (r.side * r.side * row_length r.side r.tiles) (r.cells * r.listed) r.masks.items r.rows.items c.as_slice.result.now c.part.result.now number c.args.set
     c.self.invariant.rows low mask board c.as_slice.ensures.value c.part.ensures)
 
 pub returns-clause-told : goal.returns-clause-told

@@ -1,0 +1,11 @@
+use Rattle.std.proofs.Common.{◌≡◌, ◌≤◌, length}
+use Rattle.tab_runs.specs.Runs.{AreFreeBelow, free_below}
+use Rattle.tab_runs.proofs.near.free_below_each.Given as goal
+
+abbrev pub invariant-loop-cell : goal.invariant-loop-cell
+invariant-loop-cell l = record {
+  size : length l.below ≡ 25;
+  few : l.free ≤ l.cell;
+  count : l.free ≡ free_below l.run.cells.now l.cell;
+  filled : AreFreeBelow l.run.cells.now l.cell l.below;
+}
