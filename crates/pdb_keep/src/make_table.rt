@@ -45,6 +45,7 @@ impl Command for MakeTable<'_> {
 }
 
 /// A whole run of `make-table`: the table is kept under its name once it is found exact.
+#[inline(never)] // so that the stack has the values of one command alone
 pub fn run_make_table<H: Threads + Wait + Sync, G: Gate + Sync, S: Shelf, R: Read, W: Write>(
     alloc: Global,
     command: MakeTable<'_>,

@@ -66,6 +66,7 @@ impl Command for Solve<'_, '_> {
 
 /// A whole run of `solve`, whoever checks the tables and the log: at most `budget` boards are expanded, and the log is kept
 /// once it and the moves are found to prove an optimum.
+#[inline(never)] // so that the stack has the values of one command alone
 pub fn run_solve<H: Threads + Wait + Sync, G: Gate + Sync, S: Shelf, R: Read, W: Write>(
     alloc: Global,
     names: SearchNames<'_, '_>,

@@ -45,6 +45,7 @@ impl Command for Bound<'_, '_> {
 }
 
 /// A whole run of `bound`, whoever checks the tables and the log.
+#[inline(never)] // so that the stack has the values of one command alone
 pub fn run_bound<H: Threads + Wait + Sync, G: Gate + Sync, S: Shelf, R: Read, W: Write>(
     alloc: Global,
     names: ClaimNames<'_, '_>,

@@ -44,6 +44,7 @@ impl Command for Optimal<'_, '_> {
 }
 
 /// A whole run of `optimal`, whoever checks the tables and the log.
+#[inline(never)] // so that the stack has the values of one command alone
 pub fn run_optimal<H: Threads + Wait + Sync, G: Gate + Sync, S: Shelf, R: Read, W: Write>(
     alloc: Global,
     names: ClaimNames<'_, '_>,

@@ -39,6 +39,7 @@ impl Command for Replay<'_> {
 }
 
 /// A whole run of `replay`, without threads: it returns where its shelf, its reader and its writer do.
+#[inline(never)] // so that the stack has the values of one command alone
 pub fn run_replay<S: Shelf, R: Read, W: Write>(
     alloc: Global,
     name: Option<&str>,

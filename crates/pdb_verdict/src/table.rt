@@ -43,6 +43,7 @@ impl Command for Table<'_> {
 }
 
 /// A whole run of `table`, whoever checks the table.
+#[inline(never)] // so that the stack has the values of one command alone
 pub fn run_table<H: Threads + Wait + Sync, G: Gate + Sync, S: Shelf, R: Read, W: Write>(
     alloc: Global,
     name: &str,
