@@ -204,6 +204,7 @@ fn search<H: Threads + Wait + Sync, G: Gate + Sync>(
 }
 
 /// Searches for a shortest solution of the board that a text spells, over a bundle of its side, and checks what is found.
+#[inline(never)] // so that the stack hasn't its values while tables are checked
 fn search_over<H: Threads + Wait + Sync, G: Gate + Sync>(
     alloc: Global,
     bundle: &Bundle<'_>,

@@ -25,6 +25,7 @@ Status: 0 yes, 1 refused, 2 bad words or a read or write fault, 3 no memory.
 The formats of texts, files and output lines are in docs/FORMATS.md.";
 
 /// Reads the words, which leave out the program's own name.
+#[inline(never)] // so that a run's stack hasn't the values of this
 pub fn read_words<'a>(alloc: Global, words: &'a [String]) -> Result<Request<'a>, WordFault>
     ensures parses { IfOk result (λ _. Parses (map string_bytes words.now)) }
     ensures asked { IfOk result (λ request. view request ≡ asked_of (map string_bytes words.now)) }
