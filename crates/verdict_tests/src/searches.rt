@@ -26,7 +26,7 @@ struct Task<'a> {
 }
 
 /// How a search ends, what it writes, and its shelf, where `o` is the name to keep a log under.
-fn solved<H: Threads + Wait>(
+fn solved<H: Threads + Wait + Sync>(
     alloc: Global,
     task: &Task<'_>,
     budget: u64,
@@ -80,7 +80,7 @@ fn claim_of<'x>(
 }
 
 /// What `optimal` says of a claim.
-fn verdict_on<H: Threads + Wait>(
+fn verdict_on<H: Threads + Wait + Sync>(
     alloc: Global,
     mut claim: MemShelf,
     workers: &Workers<'_, H, OpenGate>,
@@ -117,7 +117,7 @@ fn lines_of<'x>(
 }
 
 /// Checks that a search finds these moves, and that `optimal` says of them, and of the log that was kept, what the search said.
-fn check_solution<H: Threads + Wait + Abort>(
+fn check_solution<H: Threads + Wait + Sync + Abort>(
     rt: &H,
     alloc: Global,
     task: &Task<'_>,
@@ -172,7 +172,7 @@ fn six_letters_solve_a_board_of_six_moves(rt: HostRuntime) -> Result<(), Fail> {
 }
 
 /// Checks that a search is refused in this line behind the digest of its table, and keeps nothing.
-fn expect_refused<H: Threads + Wait + Abort>(
+fn expect_refused<H: Threads + Wait + Sync + Abort>(
     rt: &H,
     alloc: Global,
     task: &Task<'_>,
@@ -286,7 +286,7 @@ fn shelf(alloc: Global) -> Result<MemShelf, AllocError> {
 }
 
 /// How a search under these names ends, and what it writes.
-fn ended_under<H: Threads + Wait>(
+fn ended_under<H: Threads + Wait + Sync>(
     rt: &H,
     alloc: Global,
     names: SearchNames<'_, '_>,
