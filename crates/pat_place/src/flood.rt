@@ -8,6 +8,7 @@ ghost use Rattle.pat_place.specs.Regions.{Reaches};
 
 use crate::masks;
 use puz_board::Side;
+use puz_board::masks::{first_column, last_column};
 
 /// The region of a free cell: the free cells that a path of free cells reaches from it.
 pub(crate) fn region_of(side: Side, free: u32, cell: u8) -> u32
@@ -54,28 +55,4 @@ fn grown(n: u8, free: u32, right: u32, left: u32, mask: u32) -> u32
     let vertical = (mask << n | mask >> n) & free;
     let horizontal = mask << 1 & right | mask >> 1 & left;
     mask | vertical | horizontal
-}
-
-/// The first cell of each row.
-fn first_column(side: Side) -> u32
-    ensures { IsMaskOf result (λ c. (c < side * side) × (c % side ≡ 0)) }
-{
-    match side.get() {
-        2 => 0b01_01,
-        3 => 0b001_001_001,
-        4 => 0b0001_0001_0001_0001,
-        _ => 0b00001_00001_00001_00001_00001,
-    }
-}
-
-/// The last cell of each row.
-fn last_column(side: Side) -> u32
-    ensures { IsMaskOf result (λ c. (c < side * side) × (c % side ≡ side - 1)) }
-{
-    match side.get() {
-        2 => 0b10_10,
-        3 => 0b100_100_100,
-        4 => 0b1000_1000_1000_1000,
-        _ => 0b10000_10000_10000_10000_10000,
-    }
 }

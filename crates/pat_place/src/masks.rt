@@ -87,7 +87,7 @@ pub(crate) fn select(mask: u32, place: u8) -> u8
 
 /// Puts the numbers of the mask, ascending, into an empty list. There are eight at most.
 #[inline]
-pub(crate) fn put_numbers(mask: u32, numbers: &mut ArrayVec<u8, 8>)
+pub fn put_numbers(mask: u32, numbers: &mut ArrayVec<u8, 8>)
     requires few { length (numbers_of mask) ≤ 8 }
     requires empty { numbers.old.items ≡ [] }
     ensures { numbers.new.items ≡ numbers_of mask }

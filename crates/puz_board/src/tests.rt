@@ -1,3 +1,4 @@
+use crate::masks::{first_column, last_column};
 use crate::{Board, BoardFault, Move, MoveFault, Side, replay, split_puzzle, step};
 use std::process::Abort;
 
@@ -185,6 +186,21 @@ fn numbers_and_cells_of_a_board(rt: HostRuntime) {
 fn sides_are_two_to_five(rt: HostRuntime) {
     for n in 0..=255u8 {
         assert_eq!(rt; Side::of(n).is_some(), matches!(n, 2..=5), "at {n}");
+    }
+}
+
+#[test]
+fn columns_are_masks_of_cells(rt: HostRuntime) {
+    let columns = [
+        (2, 0x5, 0xA),
+        (3, 0x49, 0x124),
+        (4, 0x1111, 0x8888),
+        (5, 0x10_8421, 0x108_4210),
+    ];
+    for (n, first, last) in columns {
+        let side = Side::of(n).expect(&rt, "a side");
+        assert_eq!(rt; first_column(side), first, "side {n}");
+        assert_eq!(rt; last_column(side), last, "side {n}");
     }
 }
 

@@ -1,10 +1,10 @@
 //! Masks of cells that grow over free cells, a mask a lane.
 
-ghost use Rattle.std.specs.Prelude.{◌≡◌, ℕ, ◌+◌, ◌-◌, ◌*◌, ◌%◌, ◌<◌, ◌≤◌, length, slice_index};
-ghost use Rattle.puz_board.specs.Masks.{IsMaskOf};
+ghost use Rattle.std.specs.Prelude.{ℕ, ◌+◌, ◌<◌, ◌≤◌, length, slice_index};
 ghost use Rattle.tab_lanes.specs.Floods.{AllMayGrow, AreEntered, AreGrown, AreGrownBetween, IsAStepAway, IsReached, MayGrowFrom};
 
 use puz_board::Side;
+use puz_board::masks::{first_column, last_column};
 use std::simd::prelude::*;
 
 /// How many masks one vector has.
@@ -127,28 +127,4 @@ fn grown<const N: usize>(
     let vertical = (masks << row | masks >> row) & free;
     let horizontal = masks << one & right | masks >> one & left;
     masks | vertical | horizontal
-}
-
-/// The first cell of each row.
-fn first_column(side: Side) -> u32
-    ensures { IsMaskOf result (λ c. (c < side * side) × (c % side ≡ 0)) }
-{
-    match side.get() {
-        2 => 0b01_01,
-        3 => 0b001_001_001,
-        4 => 0b0001_0001_0001_0001,
-        _ => 0b00001_00001_00001_00001_00001,
-    }
-}
-
-/// The last cell of each row.
-fn last_column(side: Side) -> u32
-    ensures { IsMaskOf result (λ c. (c < side * side) × (c % side ≡ side - 1)) }
-{
-    match side.get() {
-        2 => 0b10_10,
-        3 => 0b100_100_100,
-        4 => 0b1000_1000_1000_1000,
-        _ => 0b10000_10000_10000_10000_10000,
-    }
 }

@@ -1,12 +1,10 @@
 //! Masks of 32 bits: bit x stands for the number x.
 
-ghost use Rattle.std.specs.Prelude.{◌≡◌, ℕ, ◌<◌, ◌≤◌, ◌↔◌, IsTrue, MatchOption, length};
+ghost use Rattle.std.specs.Prelude.{◌≡◌, ℕ, ◌<◌, ◌≤◌, ◌↔◌, IsTrue, MatchOption};
 ghost use Rattle.std.specs.Int.{bit_at};
-ghost use Rattle.puz_board.specs.Masks.{numbers_of};
 ghost use Rattle.tab_runs.specs.Outside.{IsLastOutside};
 
-use arrayvec::ArrayVec;
-pub(crate) use pat_place::masks::{all_below, first_of, with, without};
+pub(crate) use pat_place::masks::{all_below, first_of, put_numbers, with, without};
 
 /// Whether the mask has a number.
 #[inline]
@@ -33,19 +31,4 @@ pub(crate) fn last_outside(mask: u32, count: u8) -> Option<u8>
         end -= 1;
     }
     None
-}
-
-/// The numbers of the mask, ascending. There are eight at most.
-pub(crate) fn numbers_of(mask: u32) -> ArrayVec<u8, 8>
-    requires { length (numbers_of mask) ≤ 8 }
-    ensures { result.items ≡ numbers_of mask }
-{
-    let mut numbers = ArrayVec::new();
-    let mut rest = mask;
-    while rest != 0 {
-        let number = first_of(rest);
-        numbers.push(number);
-        rest = without(rest, number);
-    }
-    numbers
 }

@@ -11,6 +11,7 @@ ghost use Rattle.tab_runs.specs.SetRows.{AreRowsUpTo, IsColumn, IsInSome, listed
 ghost use Rattle.tab_runs.specs.StoredRows.{AreAllKinds, AreAllRows, entries_of_run};
 
 use crate::masks;
+use arrayvec::ArrayVec;
 use pat_place::{Pattern, find_region, next, rank_among, regions, unrank};
 use std::alloc::{AllocError, Global};
 use tab_lanes::OTHER_SLOT;
@@ -149,7 +150,8 @@ pub(crate) fn push_set(
     ensures kinds { OnOk result (AreAllKinds pattern.now.side (slot_count pattern.now) (entries_of_run pattern.now.side (length pattern.now.tiles)) masks.new.items kinds.new.items) }
 {
     let _pattern = pattern.side();
-    let cells = masks::numbers_of(set);
+    let mut cells = ArrayVec::new();
+    masks::put_numbers(set, &mut cells);
     let made = rows_of(alloc, pattern, cells.as_slice(), set)?;
     rows.extend_from_slice(made.rows.as_slice())?;
     kinds.extend_from_slice(made.kinds.as_slice())?;

@@ -12,15 +12,15 @@ use Rattle.tab_runs.proofs.TableLemmas.{rows_of_set}
 use Rattle.tab_runs.proofs.TableRowLemmas.{all_push}
 use Rattle.tab_runs.proofs.set_rows.push_set.Goals as goal
 
-pub numbers_of-cells-requires : goal.numbers_of-cells-requires
-numbers_of-cells-requires c = few_numbers c.args.pattern.now c.side-pattern.ensures.pattern c.args.set c.requires.bits c.requires.size
+pub put_numbers-requires-clause-few : goal.put_numbers-requires-clause-few
+put_numbers-requires-clause-few c = few_numbers c.args.pattern.now c.side-pattern.ensures.pattern c.args.set c.requires.bits c.requires.size
 
 pub rows_of-requires-clause-run : goal.rows_of-requires-clause-run
-rows_of-requires-clause-run c = subst (IsRun c.args.pattern.now) (sym (c.as_slice.ensures.value ∙ c.numbers_of-cells.ensures)) (run_of_mask c.args.pattern.now c.side-pattern.ensures.pattern c.args.set c.requires.bits c.requires.size)
+rows_of-requires-clause-run c = subst (IsRun c.args.pattern.now) (sym (c.as_slice.ensures.value ∙ c.put_numbers.ensures)) (run_of_mask c.args.pattern.now c.side-pattern.ensures.pattern c.args.set c.requires.bits c.requires.size)
 
 pub rows_of-requires-clause-set : goal.rows_of-requires-clause-set
 rows_of-requires-clause-set c =
-    subst (λ q. IsMaskOf c.args.set (λ x. has q x ≡ true)) (sym (c.as_slice.ensures.value ∙ c.numbers_of-cells.ensures)) (mask_of_numbers c.args.pattern.now c.side-pattern.ensures.pattern c.args.set c.requires.bits c.requires.size)
+    subst (λ q. IsMaskOf c.args.set (λ x. has q x ≡ true)) (sym (c.as_slice.ensures.value ∙ c.put_numbers.ensures)) (mask_of_numbers c.args.pattern.now c.side-pattern.ensures.pattern c.args.set c.requires.bits c.requires.size)
 
 pub returns-clause-rows : goal.returns-clause-rows
 returns-clause-rows c =
@@ -30,8 +30,8 @@ returns-clause-rows c =
     let cells = c.as_slice.result.now in
     let made = c.in_ok-made.made in
     let is : IsMaskOf c.args.set (λ x. has cells x ≡ true) =
-    subst (λ q. IsMaskOf c.args.set (λ x. has q x ≡ true)) (sym (c.as_slice.ensures.value ∙ c.numbers_of-cells.ensures)) (mask_of_numbers p c.side-pattern.ensures.pattern c.args.set c.requires.bits c.requires.size) in
-    let run : IsRun p cells = subst (IsRun p) (sym (c.as_slice.ensures.value ∙ c.numbers_of-cells.ensures)) (run_of_mask p c.side-pattern.ensures.pattern c.args.set c.requires.bits c.requires.size) in
+    subst (λ q. IsMaskOf c.args.set (λ x. has q x ≡ true)) (sym (c.as_slice.ensures.value ∙ c.put_numbers.ensures)) (mask_of_numbers p c.side-pattern.ensures.pattern c.args.set c.requires.bits c.requires.size) in
+    let run : IsRun p cells = subst (IsRun p) (sym (c.as_slice.ensures.value ∙ c.put_numbers.ensures)) (run_of_mask p c.side-pattern.ensures.pattern c.args.set c.requires.bits c.requires.size) in
     let put : c.extend_from_slice.new.self.items ≡ rows ++ made.rows.items = c.in_ok-extend_from_slice.ensures.items ∙ ap (λ b. rows ++ b) c.as_slice-2.ensures.value in
     subst (λ m. AreAllRows p.side (length p.tiles) m c.extend_from_slice.new.self.items) (sym c.in_ok-push.ensures.items)
     (subst (AreAllRows p.side (length p.tiles) (masks ++ c.args.set ∷ [])) (sym put)
@@ -46,7 +46,7 @@ returns-clause-kinds c =
     let cells = c.as_slice.result.now in
     let made = c.in_ok-made.made in
     let is : IsMaskOf c.args.set (λ x. has cells x ≡ true) =
-    subst (λ q. IsMaskOf c.args.set (λ x. has q x ≡ true)) (sym (c.as_slice.ensures.value ∙ c.numbers_of-cells.ensures)) (mask_of_numbers p c.side-pattern.ensures.pattern c.args.set c.requires.bits c.requires.size) in
+    subst (λ q. IsMaskOf c.args.set (λ x. has q x ≡ true)) (sym (c.as_slice.ensures.value ∙ c.put_numbers.ensures)) (mask_of_numbers p c.side-pattern.ensures.pattern c.args.set c.requires.bits c.requires.size) in
     let put : c.extend_from_slice-2.new.self.items ≡ kinds ++ made.kinds.items = c.in_ok-extend_from_slice-2.ensures.items ∙ ap (λ b. kinds ++ b) c.as_slice-3.ensures.value in
     subst (λ m. AreAllKinds p.side (slot_count p) (entries_of_run p.side (length p.tiles)) m c.extend_from_slice-2.new.self.items) (sym c.in_ok-push.ensures.items)
     (subst (AreAllKinds p.side (slot_count p) (entries_of_run p.side (length p.tiles)) (masks ++ c.args.set ∷ [])) (sym put)

@@ -1,7 +1,7 @@
 use Rattle.std.proofs.Common.{◌≡◌, ◌*◌, ◌%◌, ◌<◌, refl, sym, ◌∙◌, subst, arith, lit<, lit≤}
 use Rattle.puz_board.specs.Masks.{IsMaskOf}
 use Rattle.puz_board.proofs.GrownLemmas.{column_is}
-use Rattle.pat_place.proofs.flood.first_column.Goals as goal
+use Rattle.puz_board.proofs.masks.first_column.Goals as goal
 
 pub returns-in-2 : goal.returns-in-2
 returns-in-2 c = subst (λ s. IsMaskOf 5 (λ x. (x < s * s) × (x % s ≡ 0))) (sym c.in-2.is ∙ c.get.ensures.value) (column_is 2 0 5 (lit≤ tt) (lit< tt) refl)

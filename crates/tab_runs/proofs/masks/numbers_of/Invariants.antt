@@ -1,9 +1,0 @@
-use Rattle.std.proofs.Common.{◌≡◌, ◌++◌}
-use Rattle.puz_board.specs.Masks.{numbers_of}
-use Rattle.tab_runs.proofs.masks.numbers_of.Given as goal
-
-abbrev pub invariant-loop-rest : goal.invariant-loop-rest
-invariant-loop-rest l = l.numbers.items ++ numbers_of l.rest ≡ numbers_of l.mask
-
-abbrev pub decreases-loop-rest : goal.decreases-loop-rest
-decreases-loop-rest l = l.rest
