@@ -1,8 +1,7 @@
 -- The entries of one placement, and of one block.
-use Rattle.std.proofs.Common.{◌≡◌, ℕ, ◌+◌, ◌-◌, ◌*◌, ◌/◌, ◌%◌, ◌^◌, ◌<◌, ◌≤◌, ◌⊎◌, eqb, List, length, take, drop, min, Some, get_or, inl, inr, refl, sym, ◌∙◌, ap, subst, arith, eq-eqb, length-drop}
+use Rattle.std.proofs.Common.{◌≡◌, ℕ, ◌+◌, ◌-◌, ◌*◌, ◌/◌, ◌%◌, ◌^◌, ◌<◌, ◌≤◌, ◌⊎◌, eqb, List, length, Some, get_or, inl, inr, refl, sym, ◌∙◌, ap, subst, arith, eq-eqb}
 use Rattle.std.specs.Prelude.{IsTrue, ◌↔◌, slice_get, slice_index}
 use Rattle.std.proofs.lemmas.Bool.{cases_lt, eqb-true}
-use Rattle.std.proofs.lemmas.List.{get_or-drop, get_or-take, length-take-le}
 use Rattle.std.proofs.lemmas.Nat.{div-add-mod', mod_below}
 use Rattle.std.proofs.lemmas.Option.{slice_get-get_or}
 use Rattle.std.proofs.Math.Nat.{mul-le-mul_left, mul-le-mul_right}
@@ -23,7 +22,6 @@ use Rattle.tab_check.specs.Entries.{IsNumberOf}
 use Rattle.tab_check.specs.LocalRule.{IsGoalSlot, IsKindOf, IsLeastNear, LocalRule}
 use Rattle.tab_check.specs.Moves.{IsRegion}
 use Rattle.tab_check.proofs.CaseLemmas.{rule_by_numbers}
-use Rattle.tab_check.proofs.ColumnLemmas.{few_slots_each}
 use Rattle.tab_check.proofs.OneEntryLemmas.{kind_of_mask}
 
 -- ---- placements by their ranks
@@ -250,59 +248,3 @@ module _ (t : Table) (table : IsTable t) (block count : ℕ) (ps : List Placemen
                 absurd (bad.breaks (kept i other (omega arith) inside (λ m. is.before i (omega arith) (omega arith)) bad.cells bad.slot bad.is_number))
           ];
         }
-
--- the entries of a block
-module _ (t : Table) (table : IsTable t) (block count : ℕ) (least_is : count ≡ min (placement_count t.pattern - block * 256) 256) (some : block < (placement_count t.pattern + 255) / 256) where
-  abbrev len : ℕ
-  len = count * slot_count t.pattern
-
-  abbrev begin : ℕ
-  begin = block * 256 * slot_count t.pattern
-
-  pub block_within : begin + len ≤ length t.entries
-  block_within =
-      let all : length t.entries ≡ placement_count t.pattern * slot_count t.pattern = table.entries in
-      let scaled : (block * 256 + count) * slot_count t.pattern ≤ placement_count t.pattern * slot_count t.pattern = mul-le-mul_right (slot_count t.pattern) (let u : block * 256 + count ≤ placement_count t.pattern = omega arith in u) in
-      omega arith
-
-  pub block_len : len ≤ 2048
-  block_len =
-      let few : slot_count t.pattern ≤ 8 = few_slots_each t.pattern table.pattern in
-      let all : count * slot_count t.pattern ≤ 256 * slot_count t.pattern = mul-le-mul_right (slot_count t.pattern) (let u : count ≤ 256 = omega arith in u) in
-      omega arith
-
-  pub length-entries : length (take len (drop begin t.entries)) ≡ len
-  length-entries = length-take-le len (drop begin t.entries) (let within = block_within in let left = length-drop begin t.entries in omega arith)
-
-  read : (i : ℕ) → i < len → get_or (take len (drop begin t.entries)) i 0 ≡ get_or t.entries (begin + i) 0
-  read i l = get_or-take len (drop begin t.entries) i 0 l ∙ get_or-drop begin t.entries i 0
-
-  abbrev own : List ℕ
-  own = take len (drop begin t.entries)
-
-  most : count ≤ 256
-  most = omega arith
-
-  whole : (count ≡ 256) ⊎ (placement_count t.pattern ≤ block * 256 + count)
-  whole = elim (cases_lt 256 (placement_count t.pattern - block * 256)) [ inl l ↦ inl (omega arith) | inr l ↦ inr (omega arith) ]
-
-  -- what the columns of a block tell of it
-  module _ (ps : List PlacementView) (ranks : HaveRanks t.pattern (block * 256) ps) (long : length ps ≡ count)
-      (goal : ℕ) (home : (k : ℕ) × IsNumberOf t.pattern t.pattern.tiles k goal × IsSlot t.pattern.side t.pattern.tiles 0 k) (masks kinds least : List ℕ)
-      (are_masks : EachSlot t.pattern ps (IsRegion t.pattern.side) (length ps) masks) (are_least : EachSlot t.pattern ps (IsLeastNear t) (length ps) least)
-      (are_kinds : (i : ℕ) → i < 2048 → IsKindByMask (get_or masks i 0) (block * 256 * slot_count t.pattern + i ≡ goal) (get_or kinds i 0)) where
-    rule : (row j : ℕ) (v : PlacementView) → row < count → slice_get ps row ≡ Some v → j < slot_count t.pattern
-        → KeepsRuleAt own (take len least) (take len kinds) (row * slot_count t.pattern + j) ↔ LocalRule t v.cells j (get_or own (row * slot_count t.pattern + j) 0)
-    rule row j v l get slot =
-        let i : ℕ = row * slot_count t.pattern + j in
-        let next : (row + 1) * slot_count t.pattern ≤ count * slot_count t.pattern = mul-le-mul_right (slot_count t.pattern) (let u : row + 1 ≤ count = omega arith in u) in
-        let low : i < len = omega arith in
-        let both = rule_of_slot t table block count ps ranks long most whole goal home.0 home.1 home.2 masks kinds least are_masks are_least are_kinds row j (get_or own i 0) v l get slot (let few = block_len in omega arith) in
-        subst (λ x. KeepsRuleOfKind x (get_or (take len least) i 0) (get_or own i 0) ↔ LocalRule t v.cells j (get_or own i 0)) (sym (get_or-take len kinds i 0 low)) (
-        subst (λ x. KeepsRuleOfKind (get_or kinds i 0) x (get_or own i 0) ↔ LocalRule t v.cells j (get_or own i 0)) (sym (get_or-take len least i 0 low)) both)
-
-    pub columns_keep : AllKeepRule own (take len least) (take len kinds) → BlockKeepsRule t block
-    columns_keep = block_keeps t table block count ps ranks long most whole own (take len least) (take len kinds) length-entries read rule
-
-    pub columns_bad : (place : ℕ) → IsFirstBad own (take len least) (take len kinds) place → IsLeastBadIn t block (begin + place)
-    columns_bad = block_least_bad t table block count ps ranks long most whole own (take len least) (take len kinds) length-entries read rule

@@ -3,7 +3,7 @@ use Rattle.std.proofs.Common.{◌≡◌, ℕ, ◌+◌, ◌*◌, ◌<◌, ◌≤�
 use Rattle.std.specs.Prelude.{IfSome, MatchBool, MatchOption, slice_get}
 use Rattle.std.proofs.lemmas.Bool.{cases_eq}
 use Rattle.std.proofs.lemmas.List.{get_or-take, length-take}
-use Rattle.std.proofs.lemmas.Option.{get_or_from_slice_get, slice_get-get_or, slice_get_within}
+use Rattle.std.proofs.lemmas.Option.{get_or_from_slice_get, slice_get-get_or, slice_get_read, slice_get_within}
 use Rattle.std.proofs.lemmas.Simd.{get_or-zip2, length-zip2}
 use Rattle.std.proofs.Math.Nat.{mul-le-mul_right}
 use lib.Lanes.{zip2}
@@ -63,7 +63,7 @@ place_before r row j w l low = let next : (r + 1) * w ≤ row * w = mul-le-mul_r
 pub few_slots_each : (p : PatternView) → IsPattern p → slot_count p ≤ 8
 few_slots_each p pat = by_side (λ n. (k : ℕ) → k ≤ most_tiles n → width n k ≤ 8) (λ k l. omega arith) (λ k l. omega arith) (λ k l. omega arith) (λ k l. omega arith) p.side pat.low pat.high (length p.tiles) pat.most
 
-pub row_fits : (p : PatternView) → IsPattern p → (row : ℕ) → row < 256 → row * slot_count p + slot_count p ≤ 2048
+row_fits : (p : PatternView) → IsPattern p → (row : ℕ) → row < 256 → row * slot_count p + slot_count p ≤ 2048
 row_fits p pat row l =
     let few : slot_count p ≤ 8 = few_slots_each p pat in
     let all : (row + 1) * slot_count p ≤ 256 * slot_count p = mul-le-mul_right (slot_count p) (let s : row + 1 ≤ 256 = omega arith in s) in
@@ -85,75 +85,87 @@ module _ (p : PatternView) (placements : List PlacementView) (Says : List ℕ �
 
 -- ---- the entry after one move of one placement more
 
-pub entries_more : (t : Table) (ps : List PlacementView) (index : ℕ) (mv : Move) (row at : ℕ) (column new : List ℕ) (v : PlacementView) (found : Option (ℕ × ℕ)) → at ≡ row * slot_count t.pattern
-    → slice_get ps row ≡ Some v → MatchOption found (NoneTowards t v.cells index mv) (λ f. IsFoundTowards t v.cells index mv f.0 f.1)
-    → MatchOption found (new ≡ column) (λ f. new ≡ set column (at + f.0) f.1)
-    → EachSlot t.pattern ps (λ cells j. IsLeastOf (IsEntryTowards t cells j index mv)) row column → length column ≡ 2048
-    → ((i : ℕ) → row * slot_count t.pattern ≤ i → i < 2048 → get_or column i 0 ≡ 255) → row * slot_count t.pattern + slot_count t.pattern ≤ 2048
-    → EachSlot t.pattern ps (λ cells j. IsLeastOf (IsEntryTowards t cells j index mv)) (row + 1) new × (length new ≡ 2048) × ((i : ℕ) → (row + 1) * slot_count t.pattern ≤ i → i < 2048 → get_or new i 0 ≡ 255)
-entries_more t ps index mv row at column new v None at_is is none same each long empty fits = (
-  each_more t.pattern ps Says row column new each (λ i l. ap (λ xs. get_or xs i 0) same)
-      (λ u also j low. subst (λ x. Says x.cells j (get_or new (row * slot_count t.pattern + j) 0)) (Some-one v u (sym is ∙ also))
-      (subst (Says v.cells j) (sym (ap (λ xs. get_or xs (row * slot_count t.pattern + j) 0) same ∙ empty (row * slot_count t.pattern + j) (omega arith) (omega arith))) (none j low))),
-  ap length same ∙ long,
-  λ i l k. ap (λ xs. get_or xs i 0) same ∙ empty i (omega arith) k,
-)
-  where
-    Says : List ℕ → ℕ → ℕ → Type 0
-    Says cells j = IsLeastOf (IsEntryTowards t cells j index mv)
-entries_more t ps index mv row at column new v (Some f) at_is is found same each long empty fits = (
-  each_more t.pattern ps Says row column new each (λ i l. other i (let low = found.low in omega arith)) of_row,
-  ap length same ∙ length-set column (at + f.0) f.1 ∙ long,
-  λ i l k. other i (let low = found.low in omega arith) ∙ empty i (omega arith) k,
-)
-  where
-    Says : List ℕ → ℕ → ℕ → Type 0
-    Says cells j = IsLeastOf (IsEntryTowards t cells j index mv)
+-- the row has this placement, and its slots stand within the column
+pub record IsRow (t : Table) (ps : List PlacementView) (row w : ℕ) (v : PlacementView) : Type 0 where
+  pub get : slice_get ps row ≡ Some v
+  pub of : (v.pattern ≡ t.pattern) × IsPlacement v
+  pub at : row * w ≡ row * slot_count t.pattern
+  pub fits : row * slot_count t.pattern + slot_count t.pattern ≤ 2048
 
-    other : (i : ℕ) → (i ≡ at + f.0 → ⊥) → get_or new i 0 ≡ get_or column i 0
-    other i ne = ap (λ xs. get_or xs i 0) same ∙ get_or-set_other column (at + f.0) i f.1 0 ne
+pub row_is : {t : Table} {p : PatternView} {ps : List PlacementView} {row w : ℕ} {v : PlacementView} → IsTable t → AreOf t.pattern ps → length ps ≤ 256 → p ≡ t.pattern → w ≡ slot_count p → row < length ps → v ≡ get_or ps row v
+    → IsRow t ps row w v
+row_is {t = t} {ps = ps} {row = row} {v = v} table of few same width low read =
+    let get = slice_get_read ps (length ps) row v refl low read in
+    record { get = get; of = of row v get; at = ap (λ x. row * x) (width ∙ ap slot_count same); fits = row_fits t.pattern table.pattern row (omega arith) }
 
-    at_slot : (j : ℕ) → j < slot_count t.pattern → Says v.cells j (get_or new (at + j) 0)
-    at_slot j low = elim (cases_eq j f.0) [
-      | inl e ↦
-          let value : get_or new (at + j) 0 ≡ f.1 = ap (λ xs. get_or xs (at + j) 0) same ∙ ap (λ k. get_or (set column (at + f.0) f.1) (at + k) 0) e ∙ get_or-set_same column (at + f.0) f.1 0 (omega arith) in
-          subst (Says v.cells j) (sym value) (subst (λ k. Says v.cells k f.1) (sym e) found.here)
-      | inr ne ↦ subst (Says v.cells j) (sym (other (at + j) (λ e. ne (omega arith)) ∙ empty (at + j) (omega arith) (omega arith))) (found.others j low ne)
-    ]
+module _ {t : Table} {ps : List PlacementView} {row w : ℕ} {v : PlacementView} (is : IsRow t ps row w v) (index : ℕ) (mv : Move) where
+  abbrev Says : List ℕ → ℕ → ℕ → Type 0
+  Says cells j = IsLeastOf (IsEntryTowards t cells j index mv)
 
-    of_row : (u : PlacementView) → slice_get ps row ≡ Some u → (j : ℕ) → j < slot_count t.pattern → Says u.cells j (get_or new (row * slot_count t.pattern + j) 0)
-    of_row u also j low =
-        subst (λ x. Says x.cells j (get_or new (row * slot_count t.pattern + j) 0)) (Some-one v u (sym is ∙ also)) (
-        subst (λ a. Says v.cells j (get_or new (a + j) 0)) at_is (at_slot j low))
+  pub found_fits : (found : Option (ℕ × ℕ)) → MatchOption found (NoneTowards t v.cells index mv) (λ f. IsFoundTowards t v.cells index mv f.0 f.1) → IfSome found (λ f. row * w + f.0 < 2048)
+  found_fits None none = tt
+  found_fits (Some f) found = let low : f.0 < slot_count t.pattern = found.low in let at = is.at in let fits = is.fits in omega arith
+
+  pub entries_more : (column new : List ℕ) (found : Option (ℕ × ℕ)) → MatchOption found (NoneTowards t v.cells index mv) (λ f. IsFoundTowards t v.cells index mv f.0 f.1)
+      → MatchOption found (new ≡ column) (λ f. new ≡ set column (row * w + f.0) f.1) → EachSlot t.pattern ps Says row column → length column ≡ 2048
+      → ((i : ℕ) → row * slot_count t.pattern ≤ i → i < 2048 → get_or column i 0 ≡ 255)
+      → EachSlot t.pattern ps Says (row + 1) new × (length new ≡ 2048) × ((i : ℕ) → (row + 1) * slot_count t.pattern ≤ i → i < 2048 → get_or new i 0 ≡ 255)
+  entries_more column new None none same each long empty = (
+    each_more t.pattern ps Says row column new each (λ i l. ap (λ xs. get_or xs i 0) same)
+        (λ u also j low. subst (λ x. Says x.cells j (get_or new (row * slot_count t.pattern + j) 0)) (Some-one v u (sym is.get ∙ also))
+        (subst (Says v.cells j) (sym (ap (λ xs. get_or xs (row * slot_count t.pattern + j) 0) same ∙ empty (row * slot_count t.pattern + j) (omega arith) (let fits = is.fits in omega arith))) (none j low))),
+    ap length same ∙ long,
+    λ i l k. ap (λ xs. get_or xs i 0) same ∙ empty i (omega arith) k,
+  )
+  entries_more column new (Some f) found same each long empty = (
+    each_more t.pattern ps Says row column new each (λ i l. other i (let low = found.low in let at = is.at in omega arith)) of_row,
+    ap length same ∙ length-set column (row * w + f.0) f.1 ∙ long,
+    λ i l k. other i (let low = found.low in let at = is.at in omega arith) ∙ empty i (omega arith) k,
+  )
+    where
+      other : (i : ℕ) → (i ≡ row * w + f.0 → ⊥) → get_or new i 0 ≡ get_or column i 0
+      other i ne = ap (λ xs. get_or xs i 0) same ∙ get_or-set_other column (row * w + f.0) i f.1 0 ne
+
+      at_slot : (j : ℕ) → j < slot_count t.pattern → Says v.cells j (get_or new (row * w + j) 0)
+      at_slot j low =
+          let at = is.at in
+          let fits = is.fits in
+          elim (cases_eq j f.0) [
+            | inl e ↦
+                let value : get_or new (row * w + j) 0 ≡ f.1 = ap (λ xs. get_or xs (row * w + j) 0) same ∙ ap (λ k. get_or (set column (row * w + f.0) f.1) (row * w + k) 0) e ∙ get_or-set_same column (row * w + f.0) f.1 0 (omega arith) in
+                subst (Says v.cells j) (sym value) (subst (λ k. Says v.cells k f.1) (sym e) found.here)
+            | inr ne ↦ subst (Says v.cells j) (sym (other (row * w + j) (λ e. ne (omega arith)) ∙ empty (row * w + j) (omega arith) (omega arith))) (found.others j low ne)
+          ]
+
+      of_row : (u : PlacementView) → slice_get ps row ≡ Some u → (j : ℕ) → j < slot_count t.pattern → Says u.cells j (get_or new (row * slot_count t.pattern + j) 0)
+      of_row u also j low =
+          subst (λ x. Says x.cells j (get_or new (row * slot_count t.pattern + j) 0)) (Some-one v u (sym is.get ∙ also)) (
+          subst (λ a. Says v.cells j (get_or new (a + j) 0)) is.at (at_slot j low))
 
 -- ---- the cell beside a tile's
 
-module _ (t : Table) (table : IsTable t) (v : PlacementView) (of : (v.pattern ≡ t.pattern) × IsPlacement v) (index : ℕ) (low : index < length t.pattern.tiles) (side : ℕ) (same : side ≡ t.pattern.side) (mv : Move)
-    (beside : List (Option ℕ)) (is : (c : ℕ) → c < side * side → slice_get beside c ≡ Some (step_of side c mv)) where
+module _ {t : Table} {v : PlacementView} {index : ℕ} (table : IsTable t) (of : (v.pattern ≡ t.pattern) × IsPlacement v) (low : index < length t.pattern.tiles) where
   cell_in : get_or v.cells index 0 < t.pattern.side * t.pattern.side
   cell_in =
       let size : length v.cells ≡ length t.pattern.tiles = of.1.size ∙ ap (λ q. length q.tiles) of.0 in
       subst (λ q. get_or v.cells index 0 < q.side * q.side) of.0 (all_at v.cells index of.1.inside (omega arith))
 
-  pub cell_step : (cell : ℕ) → cell ≡ get_or v.cells index 0 → get_or beside cell None ≡ step_of t.pattern.side (get_or v.cells index 0) mv
-  cell_step cell here =
-      let inside : cell < side * side = subst (λ n. cell < n * n) (sym same) (subst (λ c. c < t.pattern.side * t.pattern.side) (sym here) cell_in) in
-      get_or_from_slice_get beside cell (step_of side cell mv) None (is cell inside) ∙ ap (λ n. step_of n cell mv) same ∙ ap (λ c. step_of t.pattern.side c mv) here
+  pub cell_step : {p : PatternView} {side cell : ℕ} (mv : Move) (beside : List (Option ℕ)) → p ≡ t.pattern → side ≡ p.side → ((c : ℕ) → c < side * side → slice_get beside c ≡ Some (step_of side c mv)) → cell ≡ get_or v.cells index 0
+      → get_or beside cell None ≡ step_of t.pattern.side (get_or v.cells index 0) mv
+  cell_step {side = side} {cell = cell} mv beside same_pattern same is here =
+      let own : side ≡ t.pattern.side = same ∙ ap (λ q. q.side) same_pattern in
+      let inside : cell < side * side = subst (λ n. cell < n * n) (sym own) (subst (λ c. c < t.pattern.side * t.pattern.side) (sym here) cell_in) in
+      get_or_from_slice_get beside cell (step_of side cell mv) None (is cell inside) ∙ ap (λ n. step_of n cell mv) own ∙ ap (λ c. step_of t.pattern.side c mv) here
 
-  pub step_fits : (to : Option ℕ) → to ≡ step_of t.pattern.side (get_or v.cells index 0) mv → IfSome to (λ c. c < 32)
-  step_fits None e = tt
-  step_fits (Some c) e =
+  pub step_fits : (mv : Move) (to : Option ℕ) → to ≡ step_of t.pattern.side (get_or v.cells index 0) mv → IfSome to (λ c. c < 32)
+  step_fits mv None e = tt
+  step_fits mv (Some c) e =
       let inside : c < t.pattern.side * t.pattern.side = step_of-inside t.pattern.side (get_or v.cells index 0) mv c table.pattern.low table.pattern.high cell_in (sym e) in
       let most : t.pattern.side * t.pattern.side ≤ 25 = cells_few t.pattern.side table.pattern.low table.pattern.high in
       omega arith
     where
       cells_few : (n : ℕ) → 2 ≤ n → n ≤ 5 → n * n ≤ 25
       cells_few = by_side (λ n. n * n ≤ 25) (omega arith) (omega arith) (omega arith) (omega arith)
-
-pub found_fits : (t : Table) (cells : List ℕ) (index : ℕ) (mv : Move) (row at : ℕ) (found : Option (ℕ × ℕ)) → at ≡ row * slot_count t.pattern → row * slot_count t.pattern + slot_count t.pattern ≤ 2048
-    → MatchOption found (NoneTowards t cells index mv) (λ f. IsFoundTowards t cells index mv f.0 f.1) → IfSome found (λ f. at + f.0 < 2048)
-found_fits t cells index mv row at None at_is fits none = tt
-found_fits t cells index mv row at (Some f) at_is fits found = let low : f.0 < slot_count t.pattern = found.low in omega arith
 
 -- ---- the least entries of one tile more
 

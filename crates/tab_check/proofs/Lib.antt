@@ -13,6 +13,7 @@ mod NearLemmas
 mod NearestLemmas
 pub mod OneEntryLemmas
 pub mod OneResultLemmas
+mod PartLemmas
 mod RuleLemmas
 mod StepLemmas
 mod TableLemmas
