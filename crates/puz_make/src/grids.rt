@@ -2,6 +2,8 @@
 
 use crate::entries::MOST_TILES;
 use pat_place::Pattern;
+use pat_place::masks::all_below;
+use puz_board::masks::{first_column, last_column};
 
 /// How many steps lead from one cell of a board to each cell of its region at most.
 const MOST_STEPS: u8 = 25;
@@ -30,24 +32,19 @@ pub(crate) struct Grid {
 impl Grid {
     /// The grid of a pattern.
     pub(crate) fn new(pattern: &Pattern) -> Grid {
-        let side = pattern.side().get();
-        let (all, first_column) = match side {
-            2 => (0xF, 0b01_01),
-            3 => (0x1FF, 0b001_001_001),
-            4 => (0xFFFF, 0b0001_0001_0001_0001),
-            _ => (0x1FF_FFFF, 0b00001_00001_00001_00001_00001),
-        };
-        let run = usize::from(pattern.side().cells()) + 1 - usize::from(pattern.size());
+        let side = pattern.side();
+        let all = all_below(side.cells());
+        let run = usize::from(side.cells()) + 1 - usize::from(pattern.size());
         let width = usize::from(pattern.width());
         Grid {
-            side,
+            side: side.get(),
             size: pattern.size(),
             width,
             run: run * width,
             all,
             weights: weights(pattern),
-            right: all & !first_column,
-            left: all & !(first_column << (side - 1)),
+            right: all & !first_column(side),
+            left: all & !last_column(side),
         }
     }
 
