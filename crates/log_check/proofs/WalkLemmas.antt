@@ -1,5 +1,5 @@
 -- What the first byte tells of the boards that wait: one lemma for each kind of node.
-use Rattle.std.proofs.Common.{◌≡◌, ◌≢◌, ℕ, ◌+◌, ◌-◌, ◌<◌, ◌≤◌, ◌^◌, ◌⊎◌, ◌↔◌, Bool, true, false, List, [], ◌∷◌, ◌++◌, length, drop, take, length-append, Option, Some, None, inl, inr, refl, sym, ◌∙◌, ap, subst, arith, append_assoc, drop_at, slice_get, take_at}
+use Rattle.std.proofs.Common.{◌≡◌, ◌≢◌, ℕ, ◌+◌, ◌-◌, ◌<◌, ◌≤◌, ◌^◌, ◌⊎◌, ◌↔◌, Bool, true, false, List, [], ◌∷◌, ◌++◌, length, drop, take, Option, Some, None, inl, inr, refl, sym, ◌∙◌, ap, subst, arith, append_assoc, drop_at, slice_get, take_at}
 use Rattle.std.specs.Int.{from_be_bytes, to_be_bytes, w32}
 use Rattle.std.proofs.lemmas.Nat.{from_be_bytes-to_be_bytes_4}
 use Rattle.puz_board.specs.Boards.{IsGoal, moved}
@@ -120,12 +120,6 @@ module _ (v : BundleView) (few : length v.sets ≤ 16) (lemmas : List Lemma) (i 
       go (rest, inl e) = cc
       go (rest, inr (inl (set, small, e))) = absurd (let same : 32 ≡ set + 1 = first_same 32 (set + 1) bytes rest e in omega arith)
       go (rest, inr (inr (j, small, e))) = record { number = j; rest = rest; fits = small; is = rest_same 32 32 bytes _ e }
-
-  pub cut_citation : (bytes : List ℕ) → length bytes < 4 → ¬ Pending v lemmas i (w ∷ ws) (32 ∷ bytes)
-  cut_citation bytes short p =
-      let begins = citation_number bytes p in
-      let long : length bytes ≡ 4 + length begins.rest = ap length begins.is ∙ length-append (to_be_bytes w32 begins.number) begins.rest in
-      omega arith
 
   -- a branch's byte
   pub branch_byte : (bytes : List ℕ) → Pending v lemmas i (w ∷ ws) (0 ∷ bytes)

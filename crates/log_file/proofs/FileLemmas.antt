@@ -114,12 +114,6 @@ module _ (side count : ℕ) (file : List ℕ) (header : IsHeader side count file
       IsLogFile-first lemmas (subst (AreFilled side count) (behind_header file) filled) (subst (AreBoards side count) (behind_header file) boards)
       (are ∙ ap (first_lemmas side count) (behind_header file))
 
-  pub HasHeader-read : HasHeader file
-  HasHeader-read = record {
-    header = record { room = header.room; begins = header.begins; is_side = refl; is_count = refl };
-    size = subst (λ n. IsSize n (count_in file)) (sym header.is_side) (subst (IsSize side) (sym header.is_count) size);
-  }
-
 module _ (file : List ℕ) (r : Result Log ViewFault) (ok : IfOk r (λ log. IsLogFile log file))
     (refused : (fault : FormFault) → r ≡ Err (Refused fault) → IsFaultOf fault file) where
   pub log_viewed : (log : Log) → IsLogFile log file → (r ≡ Ok log) ⊎ (r ≡ Err Memory)

@@ -192,14 +192,6 @@ pub record Holds (mask place number span : ℕ) : Type 0 where
   pub low : ones_below mask number ≤ place
   pub high : place < ones_below mask (number + span)
 
-pub Holds-start : (mask place : ℕ) → mask < 2 ^ 32 → place < count_ones mask → Holds mask place 0 32
-Holds-start mask place fits l = record {
-  within = omega arith;
-  some = omega arith;
-  low = (let z = ones_below-zero mask in omega arith);
-  high = (let e : ones_below mask (0 + 32) ≡ count_ones mask = ap count_ones (mod-eq_of_lt fits) in omega arith);
-}
-
 pub Holds-upper : (mask place number span half : ℕ) → Holds mask place number span → half < span → ones_below mask (number + half) ≤ place → Holds mask place (number + half) (span - half)
 Holds-upper mask place number span half h l le = record {
   within = (let w = h.within in omega arith);

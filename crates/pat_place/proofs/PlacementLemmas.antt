@@ -101,14 +101,6 @@ module _ (b : List ℕ) (board : IsBoard b) where
         apart = apart-of p.tiles all (apart_from_ascending p.tiles good.ascending);
       }
 
-  pub tile_inside : (p : PatternView) → IsPattern p → side_of b ≡ p.side → (i : ℕ) → i < length p.tiles → get_or p.tiles i 0 < side_of b * side_of b
-  tile_inside p good e i l = subst (λ n. get_or p.tiles i 0 < n * n) (sym e) (each p.tiles i (weaker (p.side * p.side) p.tiles good.tiles) l)
-    where
-      each : (ts : List ℕ) (i : ℕ) → AllByRecursion (λ t. t < p.side * p.side) ts → i < length ts → get_or ts i 0 < p.side * p.side
-      each [] i all l = absurd (omega arith)
-      each (t ∷ ts) zero all l = all.0
-      each (t ∷ ts) (suc i) all l = each ts i all.1 (omega arith)
-
 -- ---- one tile moved
 
 not_set : (xs : List ℕ) (i c d : ℕ) → has xs d ≡ false → c ≢ d → has (set xs i c) d ≡ false

@@ -189,9 +189,6 @@ pub IsRest-all : (n : ℕ) (cells : List ℕ) (rest j : ℕ) → IsRest n cells 
 IsRest-all n cells rest j h none = count_skip (IsLeader n cells) h.start (n * n) j h.within h.count
     (λ l a b leader. let i = (h.is l).1 (leader.0, λ d r. let m = leader.1 d r in omega arith) in let z = ap (λ m. bit_at m l) none ∙ bit_at-zero l in omega arith)
 
-pub some_left : (rest c : ℕ) → IsIn rest c → 0 < rest
-some_left rest c i = elim (cases_eq rest 0) [ inl e ↦ absurd (let z = ap (λ m. bit_at m c) e ∙ bit_at-zero c in omega arith) | inr ne ↦ omega arith ]
-
 -- ---- the list of the regions
 
 pub record AreListed (n : ℕ) (cells masks : List ℕ) (rest : ℕ) : Type 0 where

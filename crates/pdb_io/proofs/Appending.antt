@@ -1,7 +1,7 @@
 -- Appends in a row.
-use Rattle.std.proofs.Common.{◌≡◌, ◌∙◌, ◌≤◌, ◌<◌, ◌+◌, ◌-◌, ℕ, List, [], ◌++◌, Option, Some, None, length, take, drop, sym, ap, append_assoc, arith, length-append, subst}
+use Rattle.std.proofs.Common.{◌≡◌, ◌∙◌, ◌≤◌, ◌<◌, ◌+◌, ◌-◌, ℕ, List, ◌++◌, Option, Some, None, length, take, drop, sym, ap, append_assoc, arith, length-append, subst}
 use Rattle.std.proofs.Math.Seq.{take-add, take-append-add}
-use Rattle.std.proofs.lemmas.List.{append-nil, take-append-le}
+use Rattle.std.proofs.lemmas.List.{take-append-le}
 use Rattle.std.proofs.lemmas.Grind.{common_steps}
 use Rattle.std.specs.Io.KnownBytes.{Appends}
 use Rattle.std.specs.Borrow.{Bor}
@@ -33,11 +33,6 @@ front_more a b c xs ys zs p q =
     let proper : length xs + q.0 < length (xs ++ (ys ++ zs)) = omega (arith, length-append xs (ys ++ zs), length-append ys zs) in
     let same : xs ++ take q.0 ys ≡ take (length xs + q.0) (xs ++ (ys ++ zs)) = ap (λ (t : List ℕ). xs ++ t) (sym (take-append-le q.0 ys zs within)) ∙ sym (take-append-add xs (ys ++ zs) q.0) in
     (length xs + q.0, proper, subst (λ (t : List ℕ). Appends a c t) same (appends_more a b c _ _ p q.2))
-
--- a front of what comes last, where that fails
-pub err_last : {T E : Type 0} (r : Result T E) (a b c : Option (List ℕ)) (xs ys : List ℕ) → Appends a b xs → OnErr r (AppendsFront b c ys) → OnErr r (AppendsFront a c (xs ++ ys))
-err_last (Ok x) a b c xs ys p q = tt
-err_last (Err e) a b c xs ys p q = subst (λ (t : List ℕ). AppendsFront a c (xs ++ t)) (append-nil ys) (front_more a b c xs ys [] p q)
 
 pieces_around : (pieces : List (Bor (List ℕ))) (i : ℕ) (d : Bor (List ℕ)) → i < length pieces
     → joined (take i pieces) ++ ((get_or pieces i d).now ++ joined (drop (i + 1) pieces)) ≡ joined pieces

@@ -108,11 +108,6 @@ pub gathers_digests : (a b c : Option Bytes) (x y z : Bytes) (files last : List 
     → Gathers a x c z (digests_of (files ++ last))
 gathers_digests a b c x y z files last p q = gathers_next a b c x y z _ _ _ (digests_row files last) p q
 
--- where the files fail
-pub files_stopped : (a b : Option Bytes) (x : Bytes) (files last : List Bytes) → AppendsFront a b (x ++ digests_of files) → AppendsFront a b (x ++ digests_of (files ++ last))
-files_stopped a b x files last p = subst (λ (t : Bytes). AppendsFront a b t) (append_assoc x (digests_of files) (digests_of last) ∙ ap (λ (t : Bytes). x ++ t) (digests_row files last))
-    (front_then a b (x ++ digests_of files) (digests_of last) p)
-
 -- where the last one fails
 pub last_stopped : {T E : Type 0} (r : Result T E) (a b c : Option Bytes) (x y : Bytes) (files last : List Bytes) → Gathers a x b y (digests_of files)
     → OnErr r (AppendsFront b c (y ++ digests_of last)) → OnErr r (AppendsFront a c (x ++ digests_of (files ++ last)))

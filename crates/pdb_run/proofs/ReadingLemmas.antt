@@ -2,7 +2,6 @@
 use Rattle.std.proofs.Common.{◌≡◌, ◌∙◌, ◌<◌, ◌+◌, ℕ, List, [], ◌∷◌, ◌++◌, Option, Some, None, IfSome, Bool, ap, length, map, refl, subst, sym, take, drop, get_or, suc, Vec}
 use Rattle.std.proofs.lemmas.List.{length-map}
 use Rattle.pdb_run.specs.Replies.{all_bytes}
-use Rattle.std.specs.Io.KnownBytes.{Consumes, IsAtEnd}
 use Rattle.std.proofs.lemmas.List.{drop_more, map-append, take_more, take-append-drop}
 use Rattle.pdb_io.specs.Shelves.{Bytes, Files}
 use Rattle.pdb_io.specs.declared.streams.ReadFault.{ReadFault}
@@ -10,10 +9,6 @@ use Rattle.pdb_run.specs.Plans.{Wanted}
 use Rattle.pdb_run.specs.Readings.{AreRead, IsFirstUnread, IsNext, IsRead, IsReadFrom, IsUnread, IsOverLimit, Tells, left, left_by_all, wanted_of}
 use Rattle.pdb_run.specs.declared.inputs.Input.{Input}
 use Rattle.pdb_io.specs.declared.streams.ReadFault.TheVariants.{F1, F2, Memory}
-
-pub Tells-refl : (reader : Option Bytes) → Tells reader reader
-Tells-refl None = tt
-Tells-refl (Some told) = refl
 
 pub left_by_all-snoc : (reader : Option Bytes) (before : List Wanted) (wanted : Wanted) → left_by_all reader (before ++ wanted ∷ []) ≡ left (left_by_all reader before) wanted.name
 left_by_all-snoc reader [] wanted = refl
@@ -68,21 +63,12 @@ module _ (told actual : Option Bytes) where
       by_told None actual tells is = tt
       by_told (Some t) actual tells is = subst (λ (r : Option Bytes). Tells r new) tells is
 
--- a reader that is at its end has nothing left
-pub left-end : (old new : Option Bytes) (bytes : Bytes) → Consumes old new bytes → IsAtEnd new → Tells (left old None) new
-left-end None new bytes consumed end = tt
-left-end (Some t) None bytes consumed end = absurd consumed
-left-end (Some t) (Some u) bytes consumed end = ap Some end
-
 -- ---- the loop over inputs
 
 -- the inputs up to here were read, and the reader has what they left
 pub record ReadSoFar (files : Option Files) (reader now : Option Bytes) (wanted : List Wanted) (bytes : List Bytes) : Type 0 where
   pub read : AreRead files reader wanted bytes
   pub tells : Tells (left_by_all reader wanted) now
-
-pub ReadSoFar-nil : (files : Option Files) (reader : Option Bytes) → ReadSoFar files reader reader [] []
-ReadSoFar-nil files reader = record { read = tt; tells = Tells-refl reader }
 
 pub ReadSoFar-next : (files actual : Option Files) (reader old new : Option Bytes) (all : List Input) (i : ℕ) (d : Input) (before after : List Bytes) → i < length all → actual ≡ files
     → ReadSoFar files reader old (map wanted_of (take i all)) before → IsNext actual old new (wanted_of (get_or all i d)) before after

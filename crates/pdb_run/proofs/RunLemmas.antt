@@ -1,16 +1,16 @@
 -- How a run ends.
-use Rattle.std.proofs.Common.{◌≡◌, ◌∙◌, Bool, true, List, Option, Some, None, ap, codes, inr, subst, sym}
+use Rattle.std.proofs.Common.{◌≡◌, ◌∙◌, Bool, true, List, Option, Some, None, ap, codes, subst, sym}
 use Rattle.pdb_io.specs.Shelves.{Bytes, Files, KeepsOthers}
 use Rattle.pdb_io.specs.declared.streams.ReadFault.{ReadFault}
 use Rattle.pdb_io.specs.declared.streams.ReadFault.TheVariants.{F1, F2}
 use Rattle.pdb_io.specs.declared.shelf.KeepFault.{KeepFault}
 use Rattle.pdb_io.specs.declared.shelf.KeepFault.TheVariants as keep
-use Rattle.pdb_run.specs.Lines.{memory_line, named_line, reply_text, shown}
+use Rattle.pdb_run.specs.Lines.{named_line, reply_text, shown}
 use Rattle.pdb_run.specs.Plans.{Plan, Reply, Wanted}
 use Rattle.pdb_run.specs.Readings.{AreRead, IsFirstUnread}
-use Rattle.pdb_run.specs.Runs.{Ends, Says, WantsMemory, World, kept, no_memory, replied, status_of, status_of_reply, text_of, unkept, unread, with_kept}
+use Rattle.pdb_run.specs.Runs.{Ends, Says, World, kept, replied, status_of, status_of_reply, text_of, unkept, unread, with_kept}
 use Rattle.pdb_run.specs.declared.status.Status.{Status}
-use Rattle.pdb_run.specs.declared.status.Status.TheVariants.{Fault, NoMemory}
+use Rattle.pdb_run.specs.declared.status.Status.TheVariants.{Fault}
 
 -- ---- the line of an input that wasn't read
 
@@ -33,9 +33,6 @@ module _ (wanted : Wanted) (why : ReadFault) (name : Bytes) (old new : Option By
 -- ---- the ends of a run
 
 module _ (plan : Plan) (old new : World) (status : Status) where
-  pub ends_no_memory : WantsMemory plan old → new.files ≡ old.files → Says memory_line NoMemory old.written new.written status → Ends plan old new status
-  ends_no_memory wants same said = record { outcome = no_memory; cause = wants; files = same; said = said }
-
   pub ends_unread : (inputs : List Wanted) (wanted : Wanted) (why : ReadFault) → inputs ≡ plan.inputs → IsFirstUnread old.files old.reader new.failed inputs wanted why → new.files ≡ old.files
       → Says (text_of (unread wanted why)) (status_of (unread wanted why)) old.written new.written status → Ends plan old new status
   ends_unread inputs wanted why all first same said = record {
@@ -90,8 +87,3 @@ module _ (plan : Plan) (old new : World) (status : Status) where
     files = subst (λ (f : Option Files). KeepsOthers old.files f name) is_held (subst (λ (f : Option Files). KeepsOthers f holds name) was_held others);
     said = as_written (text_of (unkept name why)) (status_of (unkept name why)) was now is_old is_new said;
   }
-
-  pub concluded_no_memory : (inputs : List Bytes) (was now : Option Bytes) → AreRead old.files old.reader plan.inputs inputs → plan.TakesMemory inputs → new.files ≡ old.files
-      → was ≡ old.written → now ≡ new.written → Says memory_line NoMemory was now status → Ends plan old new status
-  concluded_no_memory inputs was now are takes same is_old is_new said =
-      ends_no_memory (inr (inputs, are, takes)) same (as_written memory_line NoMemory was now is_old is_new said)

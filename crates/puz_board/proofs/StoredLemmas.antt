@@ -1,11 +1,11 @@
 -- A slide among the stored cells is a slide of the board.
-use Rattle.std.proofs.Common.{◌≡◌, ℕ, zero, suc, ◌+◌, ◌-◌, ◌*◌, ◌<◌, List, [], ◌∷◌, length, take, drop, get_or, set, refl, sym, ◌∙◌, ap, ap₂, subst, arith, length-set, get_or-take, ◌++◌, replicate, length-append}
-use Rattle.std.proofs.Math.Seq.{take-append_seam, take-set-lt, drop-append_seam}
+use Rattle.std.proofs.Common.{◌≡◌, ℕ, zero, suc, ◌+◌, ◌-◌, ◌*◌, ◌<◌, List, [], ◌∷◌, length, take, get_or, set, refl, sym, ◌∙◌, ap, ap₂, subst, arith, length-set, get_or-take, ◌++◌, replicate}
+use Rattle.std.proofs.Math.Seq.{take-set-lt}
 use Rattle.std.proofs.lemmas.List.{drop-set-lt}
 use Rattle.puz_board.specs.declared.boards.Board.TheInside.{Inside}
 use Rattle.puz_board.specs.Boards.{IsBoard, blank, side_of, slid}
-use Rattle.puz_board.specs.Stored.{IsStored, numbers_shown, stored_of}
-use Rattle.puz_board.proofs.BoardLemmas.{IsBoard-slid, blank-slid, cell_of-below, cells_most, side_of-slid}
+use Rattle.puz_board.specs.Stored.{IsStored, numbers_shown}
+use Rattle.puz_board.proofs.BoardLemmas.{IsBoard-slid, blank-slid, cell_of-below, side_of-slid}
 
 -- the fields after the blank of cell z has changed places with the tile of cell c
 abbrev pub moved : Inside → ℕ → ℕ → Inside
@@ -52,29 +52,3 @@ one_more_stored xs i n l m =
     let left : n - i ≡ suc (n - (i + 1)) = omega arith in
     let next : suc i ≡ i + 1 = omega arith in
     ap (λ k. set (take i xs ++ replicate k 0) i (get_or xs i 0)) left ∙ one_more xs i (n - (i + 1)) l ∙ ap (λ k. take k xs ++ replicate (n - (i + 1)) 0) next
-
-length-replicate_zero : (n : ℕ) → length (replicate {A = ℕ} n 0) ≡ n
-length-replicate_zero zero = refl
-length-replicate_zero (suc n) = ap suc (length-replicate_zero n)
-
-pub numbers_shown-stored : (xs : List ℕ) → IsBoard xs → numbers_shown (stored_of xs) ≡ xs
-numbers_shown-stored xs good =
-    ap (λ n. take n (xs ++ replicate (25 - length xs) 0)) (sym good.size) ∙
-    take-append_seam xs (replicate (25 - length xs) 0)
-
-pub IsStored-stored : (xs : List ℕ) → IsBoard xs → IsStored (stored_of xs)
-IsStored-stored xs good = record {
-  room =
-      let e = length-append xs (replicate (25 - length xs) 0) in
-      let f = length-replicate_zero (25 - length xs) in
-      let few = cells_most (side_of xs) xs good in
-      let size = good.size in
-      omega arith;
-  side = ap side_of (numbers_shown-stored xs good);
-  blank_cell = ap blank (numbers_shown-stored xs good);
-  board = subst IsBoard (sym (numbers_shown-stored xs good)) good;
-  rest =
-      ap (λ n. drop n (xs ++ replicate (25 - length xs) 0)) (sym good.size) ∙
-      drop-append_seam xs (replicate (25 - length xs) 0) ∙
-      ap (λ n. replicate (25 - n) 0) good.size;
-}

@@ -18,10 +18,6 @@ module _ {S : Type 0} (Free Paid : S → S → Type 0) (Home : S → Type 0) whe
   way_from_one o w = along o.1 (paid o.2 w)
 
   module _ (v : S → Option ℕ) (steady : (s t : S) → Free s t → v t ≡ v s) where
-    steady_all : {s m : S} → Frees Free Paid Home s m → v m ≡ v s
-    steady_all here = refl
-    steady_all (onward {s = s} {m = m} f r) = steady_all r ∙ steady s m f
-
     -- ---- the rule everywhere makes every value right
     module _ (rule : (s : S) → Rule Free Paid Home v s) where
       at_home : (s : S) → Home s → v s ≡ Some 0

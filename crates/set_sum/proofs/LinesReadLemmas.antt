@@ -6,7 +6,7 @@ use Rattle.std.specs.Prelude.{Any, is_some, slice_get}
 use Rattle.std.specs.List.{AllByRecursion}
 use Rattle.set_sum.specs.Reading.{IsFirstWith}
 use Rattle.set_sum.specs.ReadLines.{AreKept, AreRead, IsRead, IsReadLine}
-use Rattle.set_sum.specs.SetTexts.{AreLines, BeginsWithNoLine, IsFirstBadLine, IsLine, line_of, lines_of, numbers_text}
+use Rattle.set_sum.specs.SetTexts.{AreLines, IsLine, line_of, lines_of, numbers_text}
 use Rattle.set_sum.proofs.LineLemmas.{lines_of-push}
 use Rattle.set_sum.proofs.ListLemmas.{all_at, all_push, all_weaker}
 
@@ -169,17 +169,6 @@ module _ (tables : ℕ) (text rest : List ℕ) (count : ℕ) (missing : Option �
         let cut : length rest ≡ length (line_of read.numbers) + length behind = ap length read.whole ∙ length-append (line_of read.numbers) behind in
         let line : length (line_of read.numbers) ≡ suc (suc (suc (length (numbers_text read.numbers ++ 10 ∷ [])))) = refl in
         omega arith
-
-pub bad_line : (tables : ℕ) (text rest : List ℕ) (count : ℕ) (missing : Option ℕ) (kept : List (List ℕ)) → HasLines tables text rest count missing kept → BeginsWithNoLine rest → IsFirstBadLine text count
-bad_line tables text rest count missing kept has bad = record {
-  before = has.lines;
-  rest = rest;
-  number = sym has.are_read.counted;
-  lines = has.are_lines;
-  whole = has.whole;
-  more = has.more;
-  bad = bad;
-}
 
 is_some-Some : {X : Type 0} (o : Option X) → is_some o ≡ true → (x : X) × (o ≡ Some x)
 is_some-Some None e = absurd (let bad : false ≡ true = e in cc)

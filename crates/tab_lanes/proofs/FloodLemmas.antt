@@ -6,7 +6,7 @@ use lib.Lanes.{Each1, zip2, chunk, put_chunk}
 use Rattle.puz_board.specs.Masks.{IsMaskOf}
 use Rattle.puz_board.proofs.GrownLemmas.{grown_is, outside_column}
 use Rattle.puz_board.proofs.BitLemmas.{IsIn}
-use Rattle.tab_lanes.specs.Floods.{AllMayGrow, AreEntered, AreGrown, AreGrownBetween, IsAStepAway, MayGrow, MayGrowFrom}
+use Rattle.tab_lanes.specs.Floods.{AllMayGrow, AreEntered, AreGrown, AreGrownBetween, IsAStepAway}
 use Rattle.tab_lanes.proofs.FlagLemmas.{AreLanes, lanes_given, splat, lane_by_lane}
 
 -- ---- one step in vectors
@@ -93,21 +93,10 @@ module _ (n side first last : ℕ) (masks free : List ℕ) (free_long : length f
 
 -- ---- n masks of a column
 
-module _ (side from at n : ℕ) (masks free now : List ℕ) (Has : ℕ → ℕ → ℕ → Type 0) (room : at + n ≤ length now) (on : from ≤ at)
-    (so_far : AreGrownBetween Has masks free from at now) (grow : MayGrowFrom side from masks free) where
-  free_room : at + n ≤ length free
-  free_room = let e = so_far.len in let f = grow.lengths in omega arith
-
+module _ (from at n : ℕ) (masks free now : List ℕ) (Has : ℕ → ℕ → ℕ → Type 0) (room : at + n ≤ length now) (on : from ≤ at)
+    (so_far : AreGrownBetween Has masks free from at now) where
   same_mask : (j : ℕ) → j < n → get_or (chunk at n now) j 0 ≡ get_or masks (at + j) 0
   same_mask j l = get_or-chunk at n now j 0 l ∙ so_far.kept (at + j) (inr (omega arith))
-
-  pub block_may_grow : AllMayGrow side (chunk at n now) (chunk at n free)
-  block_may_grow = record {
-    lengths = length-chunk at n now room ∙ sym (length-chunk at n free free_room);
-    each = (λ j low l.
-        let inside : j < n = let e = length-chunk at n now room in omega arith in
-        subst (λ F. F) (λ i. MayGrow side (sym (get_or-chunk at n free j 0 inside) i) (sym (same_mask j inside) i)) (grow.each (at + j) (omega arith) (let e = so_far.len in omega arith)));
-  }
 
   module _ (block : List ℕ) (grown_block : AreGrown Has (chunk at n now) (chunk at n free) block) where
     block_long : length block ≡ n
@@ -130,21 +119,3 @@ module _ (side from at n : ℕ) (masks free now : List ℕ) (Has : ℕ → ℕ �
         | inr l ↦ get_or-put_chunk_above at now block i 0 (let e = block_long in omega arith) ∙ so_far.kept i (inr (omega arith))
       ]);
     }
-
--- ---- two stretches that make up the whole
-
-module _ (side to end : ℕ) (masks free half : List ℕ) (Has : ℕ → ℕ → ℕ → Type 0) (first : AreGrownBetween Has masks free 0 to half) where
-  pub rest_may_grow : AllMayGrow side masks free → MayGrowFrom side to half free
-  rest_may_grow grow = record {
-    lengths = first.len ∙ grow.lengths;
-    each = (λ i low l. subst (λ m. MayGrow side (get_or free i 0) m) (sym (first.kept i (inr low))) (grow.each i (omega arith) (let e = first.len in omega arith)));
-  }
-
-  pub all_grown : (new : List ℕ) → AreGrownBetween Has half free to end new → length masks < end + 1 → AreGrown Has masks free new
-  all_grown new second whole = record {
-    len = second.len ∙ first.len;
-    each = (λ i l. elim (cases_lt i to) [
-      | inl before ↦ subst (λ m. IsMaskOf m (Has (get_or free i 0) (get_or masks i 0))) (sym (second.kept i (inl before))) (first.grown i (omega arith) before)
-      | inr behind ↦ subst (λ m. IsMaskOf (get_or new i 0) (Has (get_or free i 0) m)) (first.kept i (inr behind)) (second.grown i behind (omega arith))
-    ]);
-  }
