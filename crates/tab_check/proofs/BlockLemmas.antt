@@ -1,7 +1,7 @@
 -- The entries of one placement, and of one block.
-use Rattle.std.proofs.Common.{◌≡◌, ℕ, ◌+◌, ◌-◌, ◌*◌, ◌/◌, ◌%◌, ◌^◌, ◌<◌, ◌≤◌, ◌⊎◌, eqb, List, length, Some, get_or, inl, inr, refl, sym, ◌∙◌, ap, subst, arith, eq-eqb}
-use Rattle.std.specs.Prelude.{IsTrue, ◌↔◌, slice_get, slice_index}
-use Rattle.std.proofs.lemmas.Bool.{cases_lt, eqb-true}
+use Rattle.std.proofs.Common.{◌≡◌, ℕ, ◌+◌, ◌-◌, ◌*◌, ◌/◌, ◌%◌, ◌^◌, ◌<◌, ◌≤◌, ◌⊎◌, List, length, Some, get_or, inl, inr, refl, sym, ◌∙◌, ap, subst, arith}
+use Rattle.std.specs.Prelude.{◌↔◌, slice_get, slice_index}
+use Rattle.std.proofs.lemmas.Bool.{cases_lt}
 use Rattle.std.proofs.lemmas.Nat.{div-add-mod', mod_below}
 use Rattle.std.proofs.lemmas.Option.{slice_get-get_or}
 use Rattle.std.proofs.Math.Nat.{mul-le-mul_left, mul-le-mul_right}
@@ -35,13 +35,6 @@ module _ (t : Table) (p : PlacementView) (same : p.pattern ≡ t.pattern) (place
 
   pub rank_below : r < placement_count t.pattern
   rank_below = subst (λ k. r < length (placements t.pattern.side k)) size (IsRank-below t.pattern.side p.cells r is)
-
-  -- the goal is known by its rank
-  pub goal_by_rank : (g : ℕ) → IsRank t.pattern.side t.pattern.tiles g → IsTrue (eqb r g) ↔ (p.cells ≡ t.pattern.tiles)
-  goal_by_rank g goal = (
-    λ h. same_cells t.pattern.side p.cells t.pattern.tiles r size is (subst (IsRank t.pattern.side t.pattern.tiles) (sym (eqb-true r g h)) goal),
-    λ e. eq-eqb r g (IsRank-one t.pattern.side t.pattern.tiles r g (subst (λ cells. IsRank t.pattern.side cells r) e is) goal),
-  )
 
 -- ---- ranks and numbers
 
