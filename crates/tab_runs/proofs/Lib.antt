@@ -1,5 +1,6 @@
 mod CheckLemmas
 mod EntriesLemmas
+mod HeldLemmas
 mod KindLemmas
 mod ListedLemmas
 mod LoopLemmas
