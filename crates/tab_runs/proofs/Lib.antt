@@ -8,6 +8,7 @@ mod MaskLemmas
 mod MaskRunLemmas
 mod PartLemmas
 mod RowLemmas
+mod RunAtLemmas
 mod RunLemmas
 mod RunRanks
 mod ServingLemmas
