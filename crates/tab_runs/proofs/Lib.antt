@@ -6,6 +6,7 @@ mod ListedLemmas
 mod LoopLemmas
 mod MaskLemmas
 mod MaskRunLemmas
+mod PairLemmas
 mod PartLemmas
 mod RowLemmas
 mod RunAtLemmas
