@@ -1,5 +1,5 @@
 -- The run of a placement, and the last one of its placements.
-use Rattle.std.proofs.Common.{◌≡◌, ◌≢◌, ℕ, suc, ◌+◌, ◌-◌, ◌*◌, ◌/◌, ◌%◌, ◌^◌, ◌<◌, ◌≤◌, true, false, eqb, List, [], ◌∷◌, length, get_or, set, take, inl, inr, refl, sym, ◌∙◌, ap, ap₂, subst, arith}
+use Rattle.std.proofs.Common.{◌≡◌, ◌≢◌, ℕ, suc, ◌+◌, ◌-◌, ◌*◌, ◌/◌, ◌%◌, ◌^◌, ◌<◌, ◌≤◌, true, false, eqb, List, [], ◌∷◌, length, get_or, set, take, inl, inr, refl, sym, ◌∙◌, ap, subst, arith}
 use Rattle.std.specs.Int.{bit_at}
 use Rattle.std.specs.List.{AllByRecursion}
 use Rattle.std.proofs.lemmas.Bool.{both_ways, cases_lt, eqb-false, false_from_ne_true, ne_eqb, or_from, or_left, or_parts, or_cases, eqb-true}
@@ -133,52 +133,60 @@ outside_free t p c from first set at g count count_is is = (
   λ x above low. (at.mask x).0 (is.last x above (omega arith)),
 )
 
--- the set without the last tile's cell: the greatest cell that it lacks is where the run's last placement has the last tile
-module _ {q : PatternView} {view : PlacementView} {side count tiles cell rest : ℕ} (occupied : ℕ) (pat : IsPattern q) (same : view.pattern ≡ q) (placed : IsPlacement view) (side_is : side ≡ q.side) (count_is : count ≡ side * side)
-    (tiles_is : tiles ≡ length q.tiles) (cell_is : cell ≡ get_or view.cells (tiles - 1) 0) (occupies : IsMaskOf occupied (λ c. has view.cells c ≡ true))
-    (fits : rest < 2 ^ 32) (clear : bit_at rest cell ≡ 0) (others : (x : ℕ) → x < 32 → x ≢ cell → bit_at rest x ≡ bit_at occupied x) where
-  board : count ≡ q.side * q.side
-  board = count_is ∙ ap₂ (λ m n. m * n) side_is side_is
+-- the set of a placement's cells without that of its last tile
+pub record IsWithoutLast (q : PatternView) (view : PlacementView) (count index cell occupied rest : ℕ) : Type 0 where
+  pub pattern : IsPattern q
+  pub same : view.pattern ≡ q
+  pub placed : IsPlacement view
+  pub board : count ≡ q.side * q.side
+  pub index_is : index + 1 ≡ length q.tiles
+  pub cell_is : cell ≡ get_or view.cells index 0
+  pub occupies : IsMaskOf occupied (λ c. has view.cells c ≡ true)
+  pub fits : rest < 2 ^ 32
+  pub clear : bit_at rest cell ≡ 0
+  pub others : (x : ℕ) → x < 32 → x ≢ cell → bit_at rest x ≡ bit_at occupied x
 
-  long : length view.cells ≡ tiles - 1 + 1
-  long = let e = placed.size ∙ ap (λ u. length u.tiles) same in let s = pat.some in omega arith
+-- the greatest cell that it lacks is where the run's last placement has the last tile
+module _ {q : PatternView} {view : PlacementView} {count index cell occupied rest : ℕ} (w : IsWithoutLast q view count index cell occupied rest) where
+  long : length view.cells ≡ index + 1
+  long = w.placed.size ∙ ap (λ u. length u.tiles) w.same ∙ sym w.index_is
 
   pub free_last : {g : ℕ} → IsLastOutside rest count g → g ≢ cell → IsFree view.pattern.side view.cells g
   free_last {g} last ne =
-      subst (λ n. IsFree n view.cells g) (sym (ap (λ u. u.side) same)) (
-        (let l = last.low in let b = board in omega arith),
+      subst (λ n. IsFree n view.cells g) (sym (ap (λ u. u.side) w.same)) (
+        (let l = last.low in let b = w.board in omega arith),
         false_from_ne_true (has view.cells g) (λ h.
-            let one = (occupies g).1 h in
-            let few = few_cells q.side pat.low pat.high in
+            let one = (w.occupies g).1 h in
+            let few = few_cells q.side w.pattern.low w.pattern.high in
             let l = last.low in
-            let b = board in
-            let e = others g (omega arith) ne in
+            let b = w.board in
+            let e = w.others g (omega arith) ne in
             let z = last.outside in
             omega arith),
       )
 
   module _ (r : ℕ) (is : IsRank q.side view.cells r) where
-    run_without : IsRunAt (record { pattern = q; entries = [] }) (take (tiles - 1) view.cells) cell r (r - r % (q.side * q.side + 1 - length q.tiles)) rest
+    run_without : IsRunAt (record { pattern = q; entries = [] }) (take index view.cells) cell r (r - r % (q.side * q.side + 1 - length q.tiles)) rest
     run_without =
-        subst (λ x. IsRunAt (record { pattern = q; entries = [] }) (take (tiles - 1) view.cells) x r (r - r % (q.side * q.side + 1 - length q.tiles)) rest) (sym cell_is)
-        (run_at (record { pattern = q; entries = [] }) pat view same placed r is view.cells refl (tiles - 1) occupied rest (q.side * q.side + 1 - length q.tiles) (let s = pat.some in omega arith) occupies fits
-        (ap (bit_at rest) (sym cell_is) ∙ clear) (λ x low ne. others x low (λ e. ne (e ∙ cell_is))) refl)
+        subst (λ x. IsRunAt (record { pattern = q; entries = [] }) (take index view.cells) x r (r - r % (q.side * q.side + 1 - length q.tiles)) rest) (sym w.cell_is)
+        (run_at (record { pattern = q; entries = [] }) w.pattern view w.same w.placed r is view.cells refl index occupied rest (q.side * q.side + 1 - length q.tiles) w.index_is w.occupies w.fits
+        (ap (bit_at rest) (sym w.cell_is) ∙ w.clear) (λ x low ne. w.others x low (λ e. ne (e ∙ w.cell_is))) refl)
 
     pub some_outside : ¬ ((x : ℕ) → x < count → bit_at rest x ≡ 1)
-    some_outside all = let one = all cell (let l = run_without.free.0 in let b = board in omega arith) in omega arith
+    some_outside all = let z = w.clear in let one = all cell (let l = run_without.free.0 in let b = w.board in omega arith) in omega arith
 
     module _ {g : ℕ} (last : IsLastOutside rest count g) where
-      last_placed : IsRank q.side (with_last (take (tiles - 1) view.cells) g) (r - r % (q.side * q.side + 1 - length q.tiles) + (q.side * q.side - length q.tiles))
+      last_placed : IsRank q.side (with_last (take index view.cells) g) (r - r % (q.side * q.side + 1 - length q.tiles) + (q.side * q.side - length q.tiles))
       last_placed =
           let t : Table = record { pattern = q; entries = [] } in
           let first = r - r % (q.side * q.side + 1 - length q.tiles) in
-          let outside = outside_free t (take (tiles - 1) view.cells) cell r first rest run_without g count board last in
-          last_rank t pat (take (tiles - 1) view.cells) cell r first rest run_without g outside.0 outside.1
+          let outside = outside_free t (take index view.cells) cell r first rest run_without g count w.board last in
+          last_rank t w.pattern (take index view.cells) cell r first rest run_without g outside.0 outside.1
 
       pub last_same : g ≡ cell → IsRank q.side view.cells (r - r % (q.side * q.side + 1 - length q.tiles) + (q.side * q.side - length q.tiles))
       last_same e = subst (λ cells. IsRank q.side cells (r - r % (q.side * q.side + 1 - length q.tiles) + (q.side * q.side - length q.tiles)))
-          (ap (with_last (take (tiles - 1) view.cells)) (e ∙ cell_is) ∙ same_last view.cells (tiles - 1) long) last_placed
+          (ap (with_last (take index view.cells)) (e ∙ w.cell_is) ∙ same_last view.cells index long) last_placed
 
-      pub last_moved : {cells : List ℕ} → cells ≡ set view.cells (tiles - 1) g → IsRank q.side cells (r - r % (q.side * q.side + 1 - length q.tiles) + (q.side * q.side - length q.tiles))
+      pub last_moved : {cells : List ℕ} → cells ≡ set view.cells index g → IsRank q.side cells (r - r % (q.side * q.side + 1 - length q.tiles) + (q.side * q.side - length q.tiles))
       last_moved {cells} e = subst (λ cells. IsRank q.side cells (r - r % (q.side * q.side + 1 - length q.tiles) + (q.side * q.side - length q.tiles)))
-          (sym (e ∙ set_last view.cells (tiles - 1) g long)) last_placed
+          (sym (e ∙ set_last view.cells index g long)) last_placed
