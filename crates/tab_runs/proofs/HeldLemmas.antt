@@ -17,7 +17,7 @@ use Rattle.pat_place.specs.Regions.{AreRegions}
 use Rattle.tab_file.specs.Tables.{placement_count, slot_count}
 use Rattle.tab_runs.specs.Runs.{IsFirstRank, IsRun, free_below, run_length, with_last}
 use Rattle.tab_runs.proofs.EntriesLemmas.{run_few}
-use Rattle.tab_runs.proofs.RunRanks.{first_some, free_below-free, free_below-low, free_below-taken}
+use Rattle.tab_runs.proofs.RunRanks.{first_some, free_below-free, free_below-low, free_below-taken, free_below-zero}
 use Rattle.tab_runs.proofs.RowLemmas.{few_entries}
 use Rattle.tab_runs.proofs.RunLemmas.{placed_last}
 
@@ -78,6 +78,14 @@ pub record IsHeld (p : PatternView) (cells : List ℕ) (size first last free : �
   pub pattern : view.pattern ≡ p
   pub placement : IsPlacement view
   pub rank : free < size → IsRank p.side view.cells (first + free)
+
+pub held_start : {p : PatternView} {cells : List ℕ} {size first : ℕ} {view : PlacementView} → view.pattern ≡ p → IsPlacement view → IsRank p.side view.cells first → IsHeld p cells size first 0 0 view
+held_start {p} {cells} {size} {first} {view} same placed is = record {
+  count = sym (free_below-zero cells);
+  pattern = same;
+  placement = placed;
+  rank = λ l. subst (IsRank p.side view.cells) (let e : first ≡ first + 0 = omega arith in e) is;
+}
 
 pub held_as : {p : PatternView} {cells : List ℕ} {size first last f g : ℕ} {u v : PlacementView} → f ≡ g → u ≡ v → IsHeld p cells size first last g v → IsHeld p cells size first last f u
 held_as {p} {cells} {size} {first} {last} {f} {g} {u} {v} a b is = subst (λ k. IsHeld p cells size first last k u) (sym a) (subst (IsHeld p cells size first last g) (sym b) is)

@@ -2,56 +2,53 @@ use Rattle.std.proofs.Common.{◌≡◌, ◌+◌, ◌-◌, ◌*◌, ◌≤◌, t
 use Rattle.std.proofs.lemmas.Bool.{both_ways}
 use Rattle.puz_board.proofs.CellLemmas.{few_cells}
 use Rattle.pat_place.specs.Patterns.{has}
-use Rattle.pat_place.specs.Ranks.{IsRank}
 use Rattle.pat_place.proofs.CountLemmas.{few_placements}
 use Rattle.tab_file.specs.Tables.{slot_count}
 use Rattle.tab_runs.specs.Kinds.{AreKindsUpTo}
 use Rattle.tab_runs.specs.SetRows.{AreRowsUpTo}
-use Rattle.tab_runs.proofs.HeldLemmas.{at_last, held_as, held_more, held_skip, regions_are, regions_few, run_of_set}
+use Rattle.tab_runs.proofs.HeldLemmas.{IsAtLast, IsRunOfSet, at_last, held_as, held_more, held_skip, held_start, regions_are, regions_few, run_of_set}
 use Rattle.tab_runs.proofs.KindLemmas.{kinds_more, kinds_skip}
-use Rattle.tab_runs.proofs.RunRanks.{free_below-low, free_below-zero}
+use Rattle.tab_runs.proofs.RunRanks.{free_below-low}
 use Rattle.tab_runs.proofs.SetRowLemmas.{column_as, listed_some, listed_within, marked_as, set_rows_more, set_rows_skip}
 use Rattle.tab_runs.proofs.set_rows.fill_rows.Goals as goal
-use Rattle.tab_runs.proofs.set_rows.fill_rows.Goals.{then-not-has_cell, else-not-has_cell}
+use Rattle.tab_runs.proofs.set_rows.fill_rows.Goals.{After-rank_among, After-regions-regions, then-not-has_cell, else-not-has_cell}
+
+of_set : (c : After-rank_among) → IsRunOfSet c.args.pattern.now c.args.cells.now c.args.set c.cells-count.result c.width-width.result (c.from.result - length c.args.cells.now) (c.rank_among.result * (c.from.result - length c.args.cells.now))
+of_set c = run_of_set c.args.pattern.now c.side.ensures.pattern c.args.cells.now c.requires.run c.args.set c.rank_among.result c.requires.set c.side.ensures.side c.cells-count.ensures.value c.from.ensures c.width-width.ensures c.rank_among.ensures
 
 pub loop-last-init : goal.loop-last-init
 loop-last-init c = record {
-  of_set = run_of_set c.args.pattern.now c.side.ensures.pattern c.args.cells.now c.requires.run c.args.set c.rank_among.result c.requires.set c.side.ensures.side c.cells-count.ensures.value c.from.ensures c.width-width.ensures c.rank_among.ensures;
-  held = record {
-    count = sym (free_below-zero c.args.cells.now);
-    pattern = c.unrank-placement.ensures.pattern;
-    placement = c.unrank-placement.ensures.placement;
-    rank = λ l. subst (IsRank c.args.pattern.now.side c.unrank-placement.result.cells) (let e : c.rank_among.result * (c.from.result - length c.args.cells.now) ≡ c.rank_among.result * (c.from.result - length c.args.cells.now) + 0 = omega arith in e) c.unrank-placement.ensures.rank;
-  };
+  of_set = of_set (goal.at.loop-last-init c).After-rank_among;
+  held = held_start c.unrank-placement.ensures.pattern c.unrank-placement.ensures.placement c.unrank-placement.ensures.rank;
   rows = record { size = c.requires.size; filled = λ x d j l o s. absurd (omega arith) };
   kinds = c.requires.kinds;
 }
 
 pub overflow_mul-first : goal.overflow_mul-first
 overflow_mul-first c =
-    let is = run_of_set c.args.pattern.now c.side.ensures.pattern c.args.cells.now c.requires.run c.args.set c.rank_among.result c.requires.set c.side.ensures.side c.cells-count.ensures.value c.from.ensures c.width-width.ensures c.rank_among.ensures in
-    let low = is.low in
-    let few = few_placements c.args.pattern.now is.pattern in
+    let low = (of_set (goal.at.overflow_mul-first c).After-rank_among).low in
+    let few = few_placements c.args.pattern.now c.side.ensures.pattern in
     omega arith
 
 pub unrank-placement-requires : goal.unrank-placement-requires
-unrank-placement-requires c = (run_of_set c.args.pattern.now c.side.ensures.pattern c.args.cells.now c.requires.run c.args.set c.rank_among.result c.requires.set c.side.ensures.side c.cells-count.ensures.value c.from.ensures c.width-width.ensures c.rank_among.ensures).low
+unrank-placement-requires c = (of_set (goal.at.unrank-placement-requires c).After-rank_among).low
+
+at_free : (c : After-regions-regions) → IsAtLast c.args.pattern.now c.args.cells.now c.loop-last.last (c.loop-last.free * c.width-width.result) c.loop-last.placement
+at_free c = at_last c.loop-last.invariant.of_set c.loop-last.invariant.held c.loop-last-test.true c.has_cell.ensures c.if-not-has_cell.true
 
 pub overflow_mul-before : goal.overflow_mul-before
 overflow_mul-before c =
-    let at = at_last c.loop-last.invariant.of_set c.loop-last.invariant.held c.loop-last-test.true c.has_cell.ensures c.if-not-has_cell.true in
-    let low = at.before_low in
+    let low = (at_free (goal.at.overflow_mul-before c).After-regions-regions).before_low in
     omega arith
 
 pub overflow_add-before : goal.overflow_add-before
 overflow_add-before c =
-    let at = at_last c.loop-last.invariant.of_set c.loop-last.invariant.held c.loop-last-test.true c.has_cell.ensures c.if-not-has_cell.true in
-    let low = at.before_low in
+    let low = (at_free (goal.at.overflow_add-before c).After-regions-regions).before_low in
     omega arith
 
 pub fill_column-requires-clause-fits : goal.fill_column-requires-clause-fits
 fill_column-requires-clause-fits c =
-    let at = at_last c.loop-last.invariant.of_set c.loop-last.invariant.held c.loop-last-test.true c.has_cell.ensures c.if-not-has_cell.true in
+    let at = at_free (goal.at.fill_column-requires-clause-fits c).After-regions-regions in
     let few = regions_few at c.regions-regions.ensures.few in
     let low = at.before_low in
     let same = ap length c.as_slice.ensures.value in
@@ -60,20 +57,20 @@ fill_column-requires-clause-fits c =
 pub fill_column-requires-clause-below : goal.fill_column-requires-clause-below
 fill_column-requires-clause-below c =
     let is = c.loop-last.invariant.of_set in
-    let at = at_last is c.loop-last.invariant.held c.loop-last-test.true c.has_cell.ensures c.if-not-has_cell.true in
+    let at = at_free (goal.at.fill_column-requires-clause-below c).After-regions-regions in
     let are = regions_are at c.as_slice.ensures.value c.regions-regions.ensures.regions in
     listed_some c.args.pattern.now is.pattern c.args.cells.now is.run c.loop-last.last at.free c.as_slice.result.now are c.loop-last.invariant.held.count
 
 pub fill_column-requires-clause-within : goal.fill_column-requires-clause-within
 fill_column-requires-clause-within c =
     let is = c.loop-last.invariant.of_set in
-    let at = at_last is c.loop-last.invariant.held c.loop-last-test.true c.has_cell.ensures c.if-not-has_cell.true in
+    let at = at_free (goal.at.fill_column-requires-clause-within c).After-regions-regions in
     let are = regions_are at c.as_slice.ensures.value c.regions-regions.ensures.regions in
     listed_within c.args.pattern.now is.pattern c.args.cells.now is.run c.loop-last.last at.free c.as_slice.result.now are c.loop-last.invariant.held.count c.cells_of_row-listed.ensures
 
 pub mark-requires : goal.mark-requires
 mark-requires c =
-    let at = at_last c.loop-last.invariant.of_set c.loop-last.invariant.held c.loop-last-test.true c.has_cell.ensures c.if-not-has_cell.true in
+    let at = at_free (goal.at.mark-requires c).After-regions-regions in
     let few = regions_few at c.regions-regions.ensures.few in
     let low = at.marks_low in
     let e = c.from-then-not-has_cell.ensures in
@@ -86,7 +83,7 @@ pub overflow_add-free : goal.overflow_add-free
 overflow_add-free c =
     let p = c.args.pattern.now in
     let is = c.loop-last.invariant.of_set in
-    let at = at_last is c.loop-last.invariant.held c.loop-last-test.true c.has_cell.ensures c.if-not-has_cell.true in
+    let at = at_free (goal.at.overflow_add-free c).After-regions-regions in
     let low = free_below-low p.side c.args.cells.now c.loop-last.last is.run.inside is.run.apart at.free in
     let few = few_cells p.side is.pattern.low is.pattern.high in
     let e = c.loop-last.invariant.held.count in
