@@ -151,6 +151,7 @@ module _ {q : PatternView} {view : PlacementView} {count index cell occupied res
   long : length view.cells ≡ index + 1
   long = w.placed.size ∙ ap (λ u. length u.tiles) w.same ∙ sym w.index_is
 
+  -- where it is another cell than the tile's, the tile can go there
   pub free_last : {g : ℕ} → IsLastOutside rest count g → g ≢ cell → IsFree view.pattern.side view.cells g
   free_last {g} last ne =
       subst (λ n. IsFree n view.cells g) (sym (ap (λ u. u.side) w.same)) (
