@@ -1,12 +1,15 @@
 mod CheckLemmas
 mod EntriesLemmas
+mod HeldLemmas
 mod KindLemmas
 mod ListedLemmas
 mod LoopLemmas
 mod MaskLemmas
 mod MaskRunLemmas
+mod PairLemmas
 mod PartLemmas
 mod RowLemmas
+mod RunAtLemmas
 mod RunLemmas
 mod RunRanks
 mod ServingLemmas

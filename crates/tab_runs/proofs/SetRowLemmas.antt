@@ -1,29 +1,21 @@
 -- The rows of one set of cells, column by column.
-use Rattle.std.proofs.Common.{◌≡◌, ◌≢◌, ℕ, ◌+◌, ◌*◌, ◌<◌, ◌≤◌, ◌-◌, Bool, true, false, Some, List, length, get_or, set, inl, inr, refl, sym, ◌∙◌, ap, ap₂, subst, arith, get_or-set_same, get_or-set_other}
-use Rattle.std.specs.Prelude.{IsTrue, ◌↔◌, slice_get}
+use Rattle.std.proofs.Common.{◌≡◌, ◌≢◌, ℕ, ◌+◌, ◌*◌, ◌<◌, List, length, get_or, set, inl, inr, refl, sym, ◌∙◌, ap, subst, arith, get_or-set_same, get_or-set_other}
 use Rattle.std.specs.Int.{bit_at}
-use Rattle.std.specs.List.{range_with_len}
-use Rattle.std.proofs.lemmas.Bool.{both_ways, cases_eq, cases_lt, false_from_ne_true}
-use Rattle.std.proofs.Math.Nat.{mul-le-mul_right}
-use Rattle.puz_board.specs.Masks.{IsMaskOf}
-use Rattle.puz_board.proofs.CellLemmas.{by_side}
-use Rattle.pat_place.specs.Patterns.{IsPattern, PatternView, has, most_tiles, width}
-use Rattle.pat_place.specs.Placements.{IsFree, IsPlacement, PlacementView}
-use Rattle.pat_place.specs.Ranks.{IsRank, lists_of}
-use Rattle.pat_place.proofs.RankLemmas.{IsRank-from, IsRank-one}
-use Rattle.tab_check.proofs.BlockLemmas.{same_cells}
+use Rattle.std.proofs.lemmas.Bool.{cases_eq, cases_lt}
+use Rattle.pat_place.specs.Patterns.{IsPattern, PatternView}
+use Rattle.pat_place.specs.Placements.{IsFree}
 use Rattle.pat_place.specs.Regions.{AreRegions, IsSlot}
 use Rattle.pat_place.proofs.SlotLemmas.{slot_one}
 use Rattle.tab_check.proofs.OneEntryLemmas.{none_past}
-use Rattle.tab_file.specs.Tables.{placement_count, slot_count}
+use Rattle.tab_file.specs.Tables.{slot_count}
+use Rattle.tab_runs.specs.Kinds.{AreMarked}
 use Rattle.tab_runs.specs.Rows.{IsOpen, listed_below, place_of, row_length}
 use Rattle.tab_runs.specs.SetRows.{AreRowsUpTo, IsColumn, IsInSome, IsNumbered, listed_of}
-use Rattle.tab_runs.specs.Runs.{IsRun, free_below, run_length, with_last}
-use Rattle.tab_runs.proofs.EntriesLemmas.{run_few}
+use Rattle.tab_runs.specs.Runs.{IsRun, free_below, with_last}
 use Rattle.tab_runs.proofs.ListedLemmas.{listed_behind, listed_is}
-use Rattle.tab_runs.proofs.RunRanks.{first_some, free_below-low, free_below-one}
-use Rattle.tab_runs.proofs.RowLemmas.{few_entries, listed_low, parts_one}
-use Rattle.tab_runs.proofs.RunLemmas.{free-with_last, placed_last, with_last-free}
+use Rattle.tab_runs.proofs.RunRanks.{free_below-one}
+use Rattle.tab_runs.proofs.RowLemmas.{listed_low, parts_one}
+use Rattle.tab_runs.proofs.RunLemmas.{free-with_last, with_last-free}
 
 -- ---- one column
 
@@ -49,6 +41,18 @@ module _ (m c free before : ℕ) (regions : List ℕ) (x : ℕ) (old mid : List 
     others = λ i out. column.others i (λ y k some. out y (omega arith) some);
   }
 
+-- a column, and marks, by other names of their numbers
+pub column_as : (c : ℕ) (regions old new : List ℕ) {m n place free before from count board : ℕ} → m ≡ n → place ≡ free → before ≡ from → count ≡ board
+    → IsColumn m c place (1 + before) regions count old new → IsColumn n c free (1 + from) regions board old new
+column_as c regions old new {m} {n} {place} {free} {before} {from} {count} {board} m_is place_is before_is count_is is =
+    subst (λ k. IsColumn k c free (1 + from) regions board old new) m_is (
+    subst (λ k. IsColumn m c k (1 + from) regions board old new) place_is (
+    subst (λ k. IsColumn m c place (1 + k) regions board old new) before_is (
+    subst (λ k. IsColumn m c place (1 + before) regions k old new) count_is is)))
+
+pub marked_as : (old new : List ℕ) {at before count many : ℕ} → at ≡ before → count ≡ many → AreMarked at count old new → AreMarked before many old new
+marked_as old new {at} {before} {count} {many} at_is count_is is = subst (λ k. AreMarked k many old new) at_is (subst (λ k. AreMarked at k old new) count_is is)
+
 -- ---- one cell of the last tile more
 
 -- a cell that a tile is in
@@ -72,11 +76,11 @@ module _ (p : PatternView) (pat : IsPattern p) (cells : List ℕ) (run : IsRun p
   listed_as : (x : ℕ) → IsInSome regions x → listed_of c (free_below cells c) x ≡ listed_below cells x c
   listed_as x some = listed_is cells x (some_open x some).cell.1 c (free_below cells c) refl
 
-  pub listed_within : (x : ℕ) → IsInSome regions x → listed_of c (free_below cells c) x < row_length p.side (length p.tiles)
-  listed_within x some = let low = listed_low p pat cells run x c (some_open x some) in let e = listed_as x some in omega arith
+  pub listed_within : {place : ℕ} → place ≡ free_below cells c → {listed : ℕ} → listed ≡ row_length p.side (length p.tiles) → (x : ℕ) → IsInSome regions x → listed_of c place x < listed
+  listed_within {place} at all x some = let low = listed_low p pat cells run x c (some_open x some) in let e = listed_is cells x (some_open x some).cell.1 c place at in omega arith
 
-  pub listed_some : (x : ℕ) → IsInSome regions x → x < c → 0 < free_below cells c
-  listed_some x some l = let e = listed_behind cells x (some_open x some).cell.1 c l in omega arith
+  pub listed_some : {place : ℕ} → place ≡ free_below cells c → (x : ℕ) → IsInSome regions x → x < c → 0 < place
+  listed_some at x some l = let e = listed_behind cells x (some_open x some).cell.1 c l in omega arith
 
   is_in_some : (x j : ℕ) → IsSlot p.side (with_last cells c) x j → IsInSome regions x
   is_in_some x j s = elim (cases_lt j (length regions)) [
@@ -98,7 +102,7 @@ module _ (p : PatternView) (pat : IsPattern p) (cells : List ℕ) (run : IsRun p
 
     kept : (x d : ℕ) → IsOpen p.side cells x d → d ≢ c → get_or new (x * len + listed_below cells x d) 0 ≡ get_or old (x * len + listed_below cells x d) 0
     kept x d o ne = column.others (x * len + listed_below cells x d) (λ y k some e.
-        let parts = parts_one x y len (listed_below cells x d) (listed_of c (free_below cells c) y) (listed_low p pat cells run x d o) (listed_within y some) e in
+        let parts = parts_one x y len (listed_below cells x d) (listed_of c (free_below cells c) y) (listed_low p pat cells run x d o) (listed_within refl refl y some) e in
         let also : IsOpen p.side cells x c = subst (λ z. IsOpen p.side cells z c) (sym parts.0) (some_open y some) in
         let same : listed_below cells x d ≡ listed_below cells x c = parts.1 ∙ listed_as y some ∙ ap (λ z. listed_below cells z c) (sym parts.0) in
         ne (free_below-one p.side (with_last cells x) d c (free-with_last p.side cells x d o.last (λ q. o.other (sym q))) (free-with_last p.side cells x c also.last (λ q. also.other (sym q))) same))
@@ -111,85 +115,4 @@ module _ (p : PatternView) (pat : IsPattern p) (cells : List ℕ) (run : IsRun p
             (at_column x j (subst (IsOpen p.side cells x) e o) (subst (λ q. IsSlot p.side (with_last cells q) x j) e s))
         | inr ne ↦ kept x d o ne ∙ set_rows.filled x d j (omega arith) o s
       ];
-    }
-
--- ---- the placement of a cell of the last tile
-
-module _ (p : PatternView) (pat : IsPattern p) (cells : List ℕ) (run : IsRun p cells) (r : ℕ) (is : IsRank p.side cells r) (c : ℕ) (free : IsFree p.side cells c) where
-  low_place : free_below cells c < run_length p.side cells
-  low_place = free_below-low p.side cells c run.inside run.apart free
-
-  last_rank : IsRank p.side (with_last cells c) (r * run_length p.side cells + free_below cells c)
-  last_rank =
-      let first = first_some p.side cells run.inside run.apart in
-      let same : first.0 ≡ r = IsRank-one p.side cells first.0 r first.1 is in
-      subst (λ k. IsRank p.side (with_last cells c) (k * run_length p.side cells + free_below cells c)) same (first.2.each c free)
-
-  pub before_low : 1 + free_below cells c * slot_count p + slot_count p ≤ 141
-  before_low =
-      let h : (free_below cells c + 1) * slot_count p ≤ run_length p.side cells * slot_count p = mul-le-mul_right (slot_count p) (let l = low_place in let s : free_below cells c + 1 ≤ run_length p.side cells = omega arith in s) in
-      let few = few_entries p pat cells run in
-      omega arith
-
-  pub placement_is : (view : PlacementView) → view.pattern ≡ p → IsPlacement view → IsRank p.side view.cells (r * run_length p.side cells + free_below cells c) → view.cells ≡ with_last cells c
-  placement_is view same placed rank = same_cells p.side view.cells (with_last cells c) (r * run_length p.side cells + free_below cells c)
-      (placed.size ∙ ap (λ q. length q.tiles) same ∙ sym (placed_last p cells c run free).size) rank last_rank
-
-  pub regions_are : (view : PlacementView) (regions : List ℕ) → view.pattern ≡ p → view.cells ≡ with_last cells c → AreRegions view.pattern.side view.cells regions → AreRegions p.side (with_last cells c) regions
-  regions_are view regions same cells_are are = subst (λ q. AreRegions p.side q regions) cells_are (subst (λ q. AreRegions q.side view.cells regions) same are)
-
-  pub regions_few : (view : PlacementView) (count : ℕ) → view.pattern ≡ p → view.cells ≡ with_last cells c → count ≤ width view.pattern.side (length view.cells) → count ≤ slot_count p
-  regions_few view count same cells_are few =
-      let e : width view.pattern.side (length view.cells) ≡ slot_count p = ap₂ (λ q k. width q.side k) same (ap length cells_are ∙ (placed_last p cells c run free).size) in
-      omega arith
-
-  pub marks_low : free_below cells c * slot_count p + slot_count p ≤ run_length p.side cells * slot_count p
-  marks_low =
-      let h : (free_below cells c + 1) * slot_count p ≤ run_length p.side cells * slot_count p = mul-le-mul_right (slot_count p) (let l = low_place in let s : free_below cells c + 1 ≤ run_length p.side cells = omega arith in s) in
-      omega arith
-
--- the first placement of a run is one of the table's
-run_some : (p : PatternView) → IsPattern p → (cells : List ℕ) → IsRun p cells → 0 < run_length p.side cells
-run_some p pat cells run =
-    let k = by_side (λ n. (k : ℕ) → k + 1 ≤ most_tiles n → k < n * n)
-    (λ k l. let m : k + 1 ≤ 3 = l in omega arith)
-    (λ k l. let m : k + 1 ≤ 8 = l in omega arith)
-    (λ k l. let m : k + 1 ≤ 8 = l in omega arith)
-    (λ k l. let m : k + 1 ≤ 6 = l in omega arith)
-    p.side pat.low pat.high (length cells) (let m = pat.most in let s = run.size in omega arith) in
-    omega arith
-
-pub first_low : (p : PatternView) → IsPattern p → (cells : List ℕ) → IsRun p cells → (r : ℕ) → IsRank p.side cells r → (run : ℕ) → run ≡ run_length p.side cells → r * run < placement_count p
-first_low p pat cells run r is len len_is =
-    let few = run_few p cells run r is in
-    let some = run_some p pat cells run in
-    let e : r * len ≡ r * run_length p.side cells = ap (λ k. r * k) len_is in
-    omega arith
-
-pub run_is : (p : PatternView) (side count from k : ℕ) → side ≡ p.side → count ≡ side * side → from ≡ count → from - k ≡ p.side * p.side - k
-run_is p side count from k side_is count_is from_is = ap (λ m. m - k) (from_is ∙ count_is ∙ ap₂ (λ a b. a * b) side_is side_is)
-
-pub place_before_run : (p : PatternView) → IsPattern p → (cells : List ℕ) → IsRun p cells → (c : ℕ) → IsFree p.side cells c → (place : ℕ) → place ≡ free_below cells c → (run : ℕ) → run ≡ run_length p.side cells → place < run
-place_before_run p pat cells run c free place place_is len len_is = let low = free_below-low p.side cells c run.inside run.apart free in omega arith
-
-pub rank_as : (n first : ℕ) {f g : ℕ} {u v : PlacementView} → f ≡ g → u ≡ v → IsRank n v.cells (first + g) → IsRank n u.cells (first + f)
-rank_as n first {f} {g} {u} {v} a b is = subst (λ k. IsRank n u.cells (first + k)) (sym a) (subst (λ q. IsRank n q.cells (first + g)) (sym b) is)
-
--- what is known at a free cell of the last tile: the rank of its placement, and how many places are before its own
-pub record IsAtLast (p : PatternView) (cells : List ℕ) (last rank number before : ℕ) : Type 0 where
-  pub free : IsFree p.side cells last
-  pub is_rank : IsRank p.side cells rank
-  pub number_is : number ≡ rank * run_length p.side cells + free_below cells last
-  pub before_is : before ≡ free_below cells last * slot_count p
-
-pub at_last : (p : PatternView) (cells : List ℕ) (set side count from width rank last free place : ℕ) (taken : Bool) → IsMaskOf set (λ c. has cells c ≡ true) → side ≡ p.side → count ≡ side * side → from ≡ count → width ≡ slot_count p
-    → slice_get (lists_of (length cells) (range_with_len 0 count)) rank ≡ Some cells → last < count → IsTrue taken ↔ (bit_at set last ≡ 1) → taken ≡ false → free ≡ free_below cells last → place ≡ free
-    → IsAtLast p cells last rank (rank * (from - length cells) + place) (free * width)
-at_last p cells set side count from width rank last free place taken is side_is count_is from_is width_is found low test not_taken free_is place_is =
-    let all : count ≡ p.side * p.side = count_is ∙ ap₂ (λ m n. m * n) side_is side_is in
-    record {
-      free = ((let l = low in omega arith), false_from_ne_true (has cells last) (λ t. both_ways taken not_taken (test.1 ((is last).1 t))));
-      is_rank = IsRank-from p.side cells rank (subst (λ m. slice_get (lists_of (length cells) (range_with_len 0 m)) rank ≡ Some cells) all found);
-      number_is = ap₂ (λ l f. rank * l + f) (ap (λ k. k - length cells) (from_is ∙ all)) (place_is ∙ free_is);
-      before_is = ap₂ (λ f w. f * w) free_is width_is;
     }

@@ -1,5 +1,5 @@
 use Rattle.std.proofs.Common.{◌≡◌, ◌+◌, ◌-◌, ◌*◌, ◌%◌, ◌≤◌, length, get_or, take, sym, ◌∙◌, ap, subst, arith}
-use Rattle.tab_runs.proofs.PartLemmas.{IsRunAt, run_at}
+use Rattle.tab_runs.proofs.RunAtLemmas.{IsRunAt, run_at}
 use Rattle.tab_runs.proofs.blocks.check_run.Goals as goal
 use Rattle.tab_runs.proofs.blocks.check_run.Goals.{After-placements_of_run}
 
