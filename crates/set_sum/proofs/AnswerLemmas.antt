@@ -1,11 +1,11 @@
 -- Tables and a set text make one bundle, or have one fault.
-use Rattle.std.proofs.Common.{◌≡◌, ◌≢◌, ℕ, zero, suc, ◌<◌, ◌≤◌, List, [], ◌∷◌, length, map, take, inl, inr, refl, sym, ◌∙◌, ap, subst, arith, Some}
+use Rattle.std.proofs.Common.{◌≡◌, ◌≢◌, ℕ, zero, suc, ◌<◌, ◌≤◌, List, [], ◌∷◌, length, take, inl, inr, refl, sym, ◌∙◌, ap, subst, arith, Some}
 use Rattle.std.proofs.lemmas.Bool.{cases_order}
 use Rattle.std.specs.Prelude.{Err, IfErr, IfOk, Ok, Result, slice_get}
 use Rattle.std.specs.List.{AllByRecursion}
 use Rattle.tab_file.specs.Tables.{Table}
 use Rattle.set_sum.specs.Bundles.{BundleView}
-use Rattle.set_sum.specs.Reading.{AreAlike, AreFew, AreNotFew, AreSets, IsBundleOf, IsFaultOf, IsFirstWith, NamesNoTable, NamesOverlap, first_side, members, patterns_of}
+use Rattle.set_sum.specs.Reading.{AreAlike, AreFew, AreNotFew, AreSets, IsBundleOf, IsFaultOf, IsFirstWith, NamesNoTable, NamesOverlap, first_side}
 use Rattle.set_sum.specs.SetTexts.{AreLines}
 use Rattle.set_sum.specs.declared.faults.SetFault.{SetFault}
 use Rattle.set_sum.specs.declared.faults.SetFault.TheVariants.{S1, S2, S3, S4, S5}
@@ -90,20 +90,20 @@ module _ (tables : List Table) (text : List ℕ) where
 
   -- a bundle, and then no fault
   pub bundle-no_fault : (v : BundleView) (f : SetFault) → IsBundleOf tables text v → ¬ IsFaultOf f tables text
-  bundle-no_fault v (S1 i) is fault = no_bad_line text is.sets i is.are_sets.lines fault.1
-  bundle-no_fault v (S2 i) is fault = first-none No is.sets i (subst (λ ss. IsFirstWith No ss i) (sets-once fault.1 is.sets fault.2 is.are_sets) fault.3) is.there
-  bundle-no_fault v (S3 i) is fault = first-none Two is.sets i (subst (λ ss. IsFirstWith Two ss i) (sets-once fault.1 is.sets fault.2 is.are_sets) fault.4) is.disjoint
+  bundle-no_fault v (S1 i) is fault = no_bad_line text v.sets i is.are_sets.lines fault.1
+  bundle-no_fault v (S2 i) is fault = first-none No v.sets i (subst (λ ss. IsFirstWith No ss i) (sets-once fault.1 v.sets fault.2 is.are_sets) fault.3) is.there
+  bundle-no_fault v (S3 i) is fault = first-none Two v.sets i (subst (λ ss. IsFirstWith Two ss i) (sets-once fault.1 v.sets fault.2 is.are_sets) fault.4) is.disjoint
   bundle-no_fault v (S4 i) is fault = one_side is.alike i fault.1
-  bundle-no_fault v S5 is fault = elim fault [ inl none ↦ not_few is.alike.count none | inr many ↦ few_lines is.sets many.1 is.are_sets many.2 many.3 ]
+  bundle-no_fault v S5 is fault = elim fault [ inl none ↦ not_few is.alike.count none | inr many ↦ few_lines v.sets many.1 is.are_sets many.2 many.3 ]
 
   -- ---- one bundle
 
   pub bundle-once : (v w : BundleView) → IsBundleOf tables text v → IsBundleOf tables text w → v ≡ w
   bundle-once v w one other =
       let side : v.side ≡ w.side = one.side ∙ sym other.side in
-      let counted : v.tables ≡ w.tables = one.counted ∙ sym other.counted in
-      let sets : v.sets ≡ w.sets = one.members_are ∙ ap (map (members (patterns_of tables))) (sets-once one.sets other.sets one.are_sets other.are_sets) ∙ sym other.members_are in
-      λ i. record { side = side i; tables = counted i; sets = sets i }
+      let patterns : v.tables ≡ w.tables = one.patterns ∙ sym other.patterns in
+      let sets : v.sets ≡ w.sets = sets-once v.sets w.sets one.are_sets other.are_sets in
+      λ i. record { side = side i; tables = patterns i; sets = sets i }
 
   -- ---- an answer that is right is the answer
 

@@ -1,40 +1,35 @@
--- The sets of a bundle, as they are stored.
-use Rattle.std.proofs.Common.{◌≡◌, ℕ, ◌<◌, ◌≤◌, List, [], ◌∷◌, length, map, get_or, inl, inr, refl, sym, ◌∙◌, ap, subst, arith}
+-- Bundles, as they are stored and as they are made.
+use Rattle.std.proofs.Common.{◌≡◌, ℕ, ◌<◌, ◌≤◌, List, [], ◌∷◌, length, get_or, inl, inr, refl, sym, ◌∙◌, ap, subst, arith}
 use Rattle.std.proofs.lemmas.Bool.{cases_lt}
-use Rattle.std.proofs.lemmas.List.{get_or-map, length-map}
+use Rattle.std.proofs.lemmas.List.{length-map}
 use Rattle.std.specs.Prelude.{Any}
 use Rattle.std.specs.List.{AllByRecursion}
+use Rattle.arrayvec.specs.ArrayVec.{ArrayVec}
 use Rattle.puz_board.specs.Boards.{IsBoardOf}
 use Rattle.pat_place.specs.Patterns.{IsPattern}
 use Rattle.tab_file.specs.Tables.{Table}
 use Rattle.tab_check.specs.ExactTables.{IsExactTable}
 use Rattle.tab_check.proofs.LookLemmas.{count_some}
-use Rattle.set_sum.specs.Bundles.{BundleView, IsBundle, IsSetOf, TellsOfAll, set_of}
+use Rattle.set_sum.specs.Bundles.{BundleView, IsBundle, IsSetOf, TellsOfAll, members}
 use Rattle.set_sum.specs.ReadLines.{AreSetsOf}
 use Rattle.set_sum.specs.SetTexts.{IsLine}
-use Rattle.set_sum.specs.Reading.{AreAlike, IsBundleOf, NamesNoTable, NamesOverlap, first_side, members, patterns_of}
+use Rattle.set_sum.specs.Reading.{AreAlike, IsBundleOf, NamesNoTable, NamesOverlap, first_side, patterns_of}
 use Rattle.set_sum.specs.StoredBundles.{IsStoredBundle, bundle_shown, numbers_stored}
 use Rattle.set_sum.specs.Sums.{SetSays}
 use Rattle.set_sum.specs.declared.bundles.Bundle.TheInside.{Inside}
 use Rattle.set_sum.proofs.AnyLemmas.{Any-here, Any-later}
 use Rattle.set_sum.proofs.LinesReadLemmas.{all_there}
-use Rattle.set_sum.proofs.ListLemmas.{all_at, all_weaker}
+use Rattle.set_sum.proofs.ListLemmas.{all_at, all_weaker, mapped_at}
 use Rattle.set_sum.proofs.SumLemmas.{IsOf, IsTold, set_told}
 
-module _ (v : Inside) (kept : IsStoredBundle v) where
-  pub length-sets : length (bundle_shown v).sets ≡ length v.sets.items
-  length-sets = length-map (numbers_stored v) (members (patterns_of v.tables.items)) ∙ length-map v.sets.items (λ set. set.items)
+-- what is stored of a set is what is shown of it
+module _ (v : Inside) (place : ℕ) (low : place < length (bundle_shown v).sets) (set : ArrayVec ℕ) (is : set ≡ get_or v.sets.items place set) where
+  pub stored_set : get_or (bundle_shown v).sets place [] ≡ set.items
+  stored_set = mapped_at (λ s. s.items) v.sets.items place set [] (subst (λ n. place < n) (length-map v.sets.items (λ s. s.items)) low) is
 
-  -- the set that was read at a place
-  module _ (place : ℕ) (low : place < length v.sets.items) (numbers : List ℕ) (is : get_or (numbers_stored v) place [] ≡ numbers) where
-    low_stored : place < length (numbers_stored v)
-    low_stored = subst (λ n. place < n) (sym (length-map v.sets.items (λ set. set.items))) low
-
-    pub stored_there : AllByRecursion (λ i. i < length v.tables.items) numbers
-    stored_there = subst (AllByRecursion (λ i. i < length v.tables.items)) is (all_at (AllByRecursion (λ i. i < length v.tables.items)) (numbers_stored v) place [] low_stored kept.numbers)
-
-    pub set_of-stored : set_of (bundle_shown v) place ≡ members (patterns_of v.tables.items) numbers
-    set_of-stored = get_or-map (members (patterns_of v.tables.items)) (numbers_stored v) place [] [] low_stored ∙ ap (members (patterns_of v.tables.items)) is
+-- the numbers of a set are those of tables
+pub set_there : (v : BundleView) → IsBundle v → (number : ℕ) → number < length v.sets → AllByRecursion (λ i. i < length v.tables) (get_or v.sets number [])
+set_there v is number low = all_at (AllByRecursion (λ i. i < length v.tables)) v.sets number [] low is.there
 
 -- ---- a bundle that is made
 
@@ -53,7 +48,7 @@ all_members P tables (i ∷ numbers) all there =
     (all_at P (patterns_of tables) i [] (subst (λ k. i < k) (sym (length-map tables (λ t. t.pattern.tiles))) there.0) all, all_members P tables numbers all there.1)
 
 each_set : (n : ℕ) (tables : List Table) (sets : List (List ℕ)) → AllByRecursion (IsOf n) (patterns_of tables) → AllByRecursion IsLine sets → AllByRecursion (AllByRecursion (λ i. i < length tables)) sets
-    → AllByRecursion (λ numbers. ¬ NamesOverlap tables numbers) sets → AllByRecursion (IsSetOf n) (map (members (patterns_of tables)) sets)
+    → AllByRecursion (λ numbers. ¬ NamesOverlap tables numbers) sets → AllByRecursion (λ numbers. IsSetOf n (members (patterns_of tables) numbers)) sets
 each_set n tables [] all lines there disjoint = tt
 each_set n tables (numbers ∷ sets) all lines there disjoint = (
   record {
@@ -84,21 +79,19 @@ module _ (tables : List Table) (text : List ℕ) (v : BundleView) (exact : AllBy
   patterns : AllByRecursion (λ t. IsPattern t.pattern) tables
   patterns = all_weaker IsExactTable (λ t. IsPattern t.pattern) (λ t exact_table. exact_table.is_table.pattern) tables exact
 
-  there : AllByRecursion (AllByRecursion (λ i. i < length tables)) is.sets
-  there = all_weaker (λ numbers. ¬ NamesNoTable tables numbers) (AllByRecursion (λ i. i < length tables)) (none_missing (length tables)) is.sets is.there
+  there : AllByRecursion (AllByRecursion (λ i. i < length tables)) v.sets
+  there = all_weaker (λ numbers. ¬ NamesNoTable tables numbers) (AllByRecursion (λ i. i < length tables)) (none_missing (length tables)) v.sets is.there
 
-  shown : length v.sets ≡ length is.sets
-  shown = ap length is.members_are ∙ length-map is.sets (members (patterns_of tables))
+  counted : length tables ≡ length v.tables
+  counted = sym (ap length is.patterns ∙ length-map tables (λ t. t.pattern.tiles))
 
   told : TellsOfAll v
   told number low b board =
-      let stored : number < length is.sets = subst (λ k. number < k) shown low in
-      let numbers : List ℕ = get_or is.sets number [] in
-      let numbers_there = all_at (AllByRecursion (λ i. i < length tables)) is.sets number [] stored there in
+      let numbers : List ℕ = get_or v.sets number [] in
+      let numbers_there = all_at (AllByRecursion (λ i. i < length tables)) v.sets number [] low there in
       let all = all_told v.side b board tables sides exact in
       let says = set_told (members (patterns_of tables) numbers) b (all_members (IsTold b) tables numbers all numbers_there) in
-      let set = ap (λ s. get_or s number []) is.members_are ∙ get_or-map (members (patterns_of tables)) is.sets number [] [] stored in
-      (says.0, record { there = low; says = subst (λ s. SetSays s b says.0) (sym set) says.1 })
+      (says.0, record { there = low; says = subst (λ ps. SetSays (members ps numbers) b says.0) (sym is.patterns) says.1 })
 
   pub is_bundle : IsBundle v
   is_bundle =
@@ -106,12 +99,13 @@ module _ (tables : List Table) (text : List ℕ) (v : BundleView) (exact : AllBy
       record {
         low = limits.0;
         high = limits.1;
-        some_tables = subst (λ k. 0 < k) (sym is.counted) is.alike.count.some;
-        few_tables = subst (λ k. k ≤ 16) (sym is.counted) is.alike.count.few;
-        some_sets = subst (λ k. 0 < k) (sym shown) is.are_sets.lines.some;
-        few_sets = subst (λ k. k ≤ 16) (sym shown) is.are_sets.few;
-        each = subst (AllByRecursion (IsSetOf v.side)) (sym is.members_are)
-            (each_set v.side tables is.sets (all_patterns v.side tables sides patterns) is.are_sets.lines.lines there is.disjoint);
+        some_tables = subst (λ k. 0 < k) counted is.alike.count.some;
+        few_tables = subst (λ k. k ≤ 16) counted is.alike.count.few;
+        some_sets = is.are_sets.lines.some;
+        few_sets = is.are_sets.few;
+        there = subst (λ k. AllByRecursion (AllByRecursion (λ i. i < k)) v.sets) counted there;
+        each = subst (λ ps. AllByRecursion (λ numbers. IsSetOf v.side (members ps numbers)) v.sets) (sym is.patterns)
+            (each_set v.side tables v.sets (all_patterns v.side tables sides patterns) is.are_sets.lines.lines there is.disjoint);
         told = told;
       }
 
@@ -120,18 +114,15 @@ module _ (v : Inside) (text : List ℕ) (first : v.side ≡ first_side v.tables.
   pub bundle_made : IsBundleOf v.tables.items text (bundle_shown v)
   bundle_made = record {
     alike = alike;
-    sets = numbers_stored v;
+    side = first;
+    patterns = refl;
     are_sets = are.are_sets;
     there = all_weaker (AllByRecursion (λ i. i < length v.tables.items)) (λ numbers. ¬ NamesNoTable v.tables.items numbers) (all_there (length v.tables.items)) (numbers_stored v) are.numbers;
     disjoint = are.disjoint;
-    side = first;
-    counted = refl;
-    members_are = refl;
   }
 
   pub stored_made : IsStoredBundle v
   stored_made = record {
     bundle = is_bundle v.tables.items text (bundle_shown v) exact bundle_made;
     tables = sides v.tables.items text (bundle_shown v) exact bundle_made;
-    numbers = are.numbers;
   }

@@ -8,8 +8,8 @@ use Rattle.std.proofs.lemmas.List.Folds.{Any-from_list_any, list_any-from_Any}
 use Rattle.puz_board.specs.Costs.{is_one_of}
 use Rattle.pat_place.specs.Patterns.{IsAscending}
 use Rattle.tab_file.specs.Tables.{Table}
-use Rattle.set_sum.specs.Bundles.{BundleView}
-use Rattle.set_sum.specs.Reading.{AreAlike, AreFew, AreSets, IsBundleOf, IsFaultOf, IsFirstWith, NamesNoTable, NamesOverlap, first_side, members, patterns_of}
+use Rattle.set_sum.specs.Bundles.{BundleView, members}
+use Rattle.set_sum.specs.Reading.{AreAlike, AreFew, AreSets, IsBundleOf, IsFaultOf, IsFirstWith, NamesNoTable, NamesOverlap, first_side, patterns_of}
 use Rattle.set_sum.specs.SetTexts.{AreLines, BeginsWithNoLine, IsFirstBadLine, IsLine, line_of, lines_of, numbers_text, numeral}
 use Rattle.set_sum.specs.Sums.{HaveOverlap, Overlap}
 use Rattle.set_sum.specs.declared.faults.SetFault.{SetFault}
@@ -269,8 +269,8 @@ module _ (tables : List Table) (text : List ℕ) where
     | inl there ↦ elim (first_or_none (NamesOverlap tables) (λ numbers. have_overlap_decided (members (patterns_of tables) numbers)) sets) [
       | inr overlap ↦ inr (S3 overlap.0, (alike, sets, are, there, overlap.1))
       | inl disjoint ↦ inl (
-        record { side = first_side tables; tables = length tables; sets = map (members (patterns_of tables)) sets },
-        record { alike = alike; sets = sets; are_sets = are; there = there; disjoint = disjoint; side = refl; counted = refl; members_are = refl },
+        record { side = first_side tables; tables = patterns_of tables; sets = sets },
+        record { alike = alike; side = refl; patterns = refl; are_sets = are; there = there; disjoint = disjoint },
       )
     ]
   ]

@@ -5,7 +5,8 @@ use Rattle.std.proofs.lemmas.List.{get_or-map, map-append, take_more, take-appen
 use Rattle.std.proofs.Math.Seq.{drop-cons}
 use Rattle.std.specs.List.{AllByRecursion}
 use Rattle.tab_file.specs.Tables.{Table}
-use Rattle.set_sum.specs.Reading.{IsFirstWith, first_side, members, patterns_of}
+use Rattle.set_sum.specs.Bundles.{members}
+use Rattle.set_sum.specs.Reading.{IsFirstWith, first_side, patterns_of}
 
 -- ---- each element
 

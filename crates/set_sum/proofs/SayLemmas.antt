@@ -5,7 +5,7 @@ use Rattle.puz_board.specs.Boards.{IsBoardOf}
 use Rattle.tab_check.specs.declared.tables.Count.{Count}
 use Rattle.tab_check.specs.declared.tables.Count.TheVariants.{Finite, Never}
 use Rattle.set_sum.specs.Bounds.{BoundsSolutions, IsBounded, Reaches}
-use Rattle.set_sum.specs.Bundles.{BundleView, IsBundle, IsSetOf, Says, SaysAtLeast, set_of}
+use Rattle.set_sum.specs.Bundles.{BundleView, IsBundle, IsSetOf, Says, SaysAtLeast, members, set_of}
 use Rattle.set_sum.proofs.ListLemmas.{all_at}
 use Rattle.set_sum.proofs.SumLemmas.{set_bounds, set_once}
 
@@ -14,7 +14,7 @@ pub says_once : (v : BundleView) (number : ℕ) (b : List ℕ) (c d : Count) →
 says_once v number b c d one other = set_once (set_of v number) b c d one.says other.says
 
 pub set_is : (v : BundleView) → IsBundle v → (number : ℕ) → number < length v.sets → IsSetOf v.side (set_of v number)
-set_is v is number there = all_at (IsSetOf v.side) v.sets number [] there is.each
+set_is v is number there = all_at (λ numbers. IsSetOf v.side (members v.tables numbers)) v.sets number [] there is.each
 
 pub says_bounds : (v : BundleView) → IsBundle v → (number : ℕ) (b : List ℕ) (count : Count) → IsBoardOf v.side b → Says v number b count → BoundsSolutions b count
 says_bounds v is number b count good says = set_bounds v.side (set_of v number) (set_is v is number says.there) b good count says.says

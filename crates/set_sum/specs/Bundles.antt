@@ -1,5 +1,5 @@
 -- Bundles: tables of one side, and sets of disjoint ones among them.
-use Rattle.std.specs.Prelude.{ℕ, ◌<◌, ◌≤◌, List, [], length, slice_index_or}
+use Rattle.std.specs.Prelude.{ℕ, ◌<◌, ◌≤◌, List, [], length, map, slice_index_or}
 use Rattle.std.specs.List.{AllByRecursion}
 use Rattle.puz_board.specs.Boards.{IsBoardOf}
 use Rattle.pat_place.specs.Patterns.{IsPattern}
@@ -7,12 +7,16 @@ use Rattle.tab_check.specs.declared.tables.Count.{Count}
 use Rattle.set_sum.specs.Bounds.{Reaches}
 use Rattle.set_sum.specs.Sums.{AreDisjoint, SetSays}
 
--- what a contract sees of a bundle: the side of its boards, how many tables it has, and its sets, each the list of its
--- members' patterns
+-- what a contract sees of a bundle: the side of its boards, its tables, each the list of its pattern's tiles, and its sets,
+-- each the list of its tables' numbers, from 0
 pub record BundleView : Type 0 where
   pub side : ℕ
-  pub tables : ℕ
-  pub sets : List (List (List ℕ))
+  pub tables : List (List ℕ)
+  pub sets : List (List ℕ)
+
+-- the patterns of the tables with these numbers
+abbrev pub members : List (List ℕ) → List ℕ → List (List ℕ)
+members patterns numbers = map (λ i. slice_index_or patterns i []) numbers
 
 -- some disjoint patterns of side n
 pub record IsSetOf (n : ℕ) (set : List (List ℕ)) : Type 0 where
@@ -22,9 +26,9 @@ pub record IsSetOf (n : ℕ) (set : List (List ℕ)) : Type 0 where
 
 -- ---- what a bundle's sets say of a board
 
--- the set with this number
+-- the patterns of the set with this number
 abbrev pub set_of : BundleView → ℕ → List (List ℕ)
-set_of v number = slice_index_or v.sets number []
+set_of v number = members v.tables (slice_index_or v.sets number [])
 
 -- the set with this number is there, and says this of the board
 pub record Says (v : BundleView) (number : ℕ) (b : List ℕ) (count : Count) : Type 0 where
@@ -43,14 +47,15 @@ pub record SaysAtLeast (v : BundleView) (number : ℕ) (b : List ℕ) (r : ℕ) 
 
 -- ---- bundles
 
--- a side from 2 to 5, 1 to 16 tables, and 1 to 16 sets of disjoint patterns of that side; each set says something of each
--- board
+-- a side from 2 to 5, 1 to 16 tables, and 1 to 16 sets of tables that are there, whose patterns are disjoint and of that
+-- side; each set says something of each board
 pub record IsBundle (v : BundleView) : Type 0 where
   pub low : 2 ≤ v.side
   pub high : v.side ≤ 5
-  pub some_tables : 0 < v.tables
-  pub few_tables : v.tables ≤ 16
+  pub some_tables : 0 < length v.tables
+  pub few_tables : length v.tables ≤ 16
   pub some_sets : 0 < length v.sets
   pub few_sets : length v.sets ≤ 16
-  pub each : AllByRecursion (IsSetOf v.side) v.sets
+  pub there : AllByRecursion (AllByRecursion (λ number. number < length v.tables)) v.sets
+  pub each : AllByRecursion (λ numbers. IsSetOf v.side (members v.tables numbers)) v.sets
   pub told : TellsOfAll v

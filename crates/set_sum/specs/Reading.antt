@@ -1,8 +1,8 @@
 -- What tables and a set text make: a bundle, or the first of their faults.
-use Rattle.std.specs.Prelude.{◌≡◌, ◌≢◌, ℕ, ◌<◌, ◌≤◌, List, [], ◌∷◌, length, map, slice_get, slice_index_or, take, Any, Some, ◌⊎◌}
+use Rattle.std.specs.Prelude.{◌≡◌, ◌≢◌, ℕ, ◌<◌, ◌≤◌, List, [], ◌∷◌, length, map, slice_get, take, Any, Some, ◌⊎◌}
 use Rattle.std.specs.List.{AllByRecursion}
 use Rattle.tab_file.specs.Tables.{Table}
-use Rattle.set_sum.specs.Bundles.{BundleView}
+use Rattle.set_sum.specs.Bundles.{BundleView, members}
 use Rattle.set_sum.specs.SetTexts.{AreLines, IsFirstBadLine}
 use Rattle.set_sum.specs.Sums.{HaveOverlap}
 use Rattle.set_sum.specs.declared.faults.SetFault.{SetFault}
@@ -31,10 +31,6 @@ patterns_of tables = map (λ t. t.pattern.tiles) tables
 
 -- ---- sets
 
--- the patterns of the tables with these numbers
-abbrev pub members : List (List ℕ) → List ℕ → List (List ℕ)
-members patterns numbers = map (λ i. slice_index_or patterns i []) numbers
-
 -- one of the numbers is that of no table
 abbrev pub NamesNoTable : List Table → List ℕ → Type 0
 NamesNoTable tables numbers = Any (λ i. length tables ≤ i) numbers
@@ -52,13 +48,11 @@ pub record AreSets (text : List ℕ) (sets : List (List ℕ)) : Type 0 where
 -- two of whose tables share a tile
 pub record IsBundleOf (tables : List Table) (text : List ℕ) (v : BundleView) : Type 0 where
   pub alike : AreAlike tables
-  pub sets : List (List ℕ)
-  pub are_sets : AreSets text sets
-  pub there : AllByRecursion (λ numbers. ¬ NamesNoTable tables numbers) sets
-  pub disjoint : AllByRecursion (λ numbers. ¬ NamesOverlap tables numbers) sets
   pub side : v.side ≡ first_side tables
-  pub counted : v.tables ≡ length tables
-  pub members_are : v.sets ≡ map (members (patterns_of tables)) sets
+  pub patterns : v.tables ≡ patterns_of tables
+  pub are_sets : AreSets text v.sets
+  pub there : AllByRecursion (λ numbers. ¬ NamesNoTable tables numbers) v.sets
+  pub disjoint : AllByRecursion (λ numbers. ¬ NamesOverlap tables numbers) v.sets
 
 -- ---- the faults, in their order: S5 for the tables, S4, S1, S5 for the lines, S2, S3
 

@@ -1,8 +1,8 @@
 -- How a bundle is stored: its tables, and for each set the numbers of its tables.
-use Rattle.std.specs.Prelude.{◌≡◌, ℕ, ◌<◌, List, length, map}
+use Rattle.std.specs.Prelude.{◌≡◌, ℕ, List, map}
 use Rattle.std.specs.List.{AllByRecursion}
 use Rattle.set_sum.specs.Bundles.{BundleView, IsBundle}
-use Rattle.set_sum.specs.Reading.{members, patterns_of}
+use Rattle.set_sum.specs.Reading.{patterns_of}
 use Rattle.set_sum.specs.declared.bundles.Bundle.TheInside.{Inside}
 
 -- the numbers of the sets' tables
@@ -12,11 +12,10 @@ numbers_stored v = map (λ set. set.items) v.sets.items
 abbrev pub bundle_shown : Inside → BundleView
 bundle_shown v = record {
   side = v.side;
-  tables = length v.tables.items;
-  sets = map (members (patterns_of v.tables.items)) (numbers_stored v);
+  tables = patterns_of v.tables.items;
+  sets = numbers_stored v;
 }
 
 pub record IsStoredBundle (v : Inside) : Type 0 where
   pub bundle : IsBundle (bundle_shown v)
   pub tables : AllByRecursion (λ t. t.pattern.side ≡ v.side) v.tables.items
-  pub numbers : AllByRecursion (AllByRecursion (λ i. i < length v.tables.items)) (numbers_stored v)

@@ -1,6 +1,6 @@
 //! Bundles of tables, and the sums of their sets.
 
-ghost use Rattle.std.specs.Prelude.{◌≡◌, ◌<◌, ◌≤◌, Err, IfErr, IfOk, MatchOption, Ok, length, map};
+ghost use Rattle.std.specs.Prelude.{◌≡◌, ◌<◌, ◌≤◌, Err, IfErr, IfOk, MatchOption, Ok, [], length, map, slice_index_or};
 ghost use Rattle.std.specs.List.{AllByRecursion};
 ghost use Rattle.puz_board.specs.Boards.{side_of};
 ghost use Rattle.set_sum.specs.Bounds.{BoundsSolutions};
@@ -73,16 +73,17 @@ impl<'a> Bundle<'a> {
 
     /// How many tables there are: 1 to 16.
     pub fn tables(&self) -> u8
-        ensures tables { result ≡ self.now.tables }
+        ensures tables { result ≡ length self.now.tables }
         ensures bundle { IsBundle self.now }
     {
         self.tables.len() as u8
     }
 
-    /// The table with a number.
+    /// The table with a number: that of the pattern in this place.
     pub fn table(&self, number: u8) -> &CheckedTable<'a>
-        requires { number < self.now.tables }
-        ensures { result.now.pattern.side ≡ self.now.side }
+        requires { number < length self.now.tables }
+        ensures side { result.now.pattern.side ≡ self.now.side }
+        ensures tiles { result.now.pattern.tiles ≡ slice_index_or self.now.tables number [] }
     {
         &self.tables[usize::from(number)]
     }
@@ -98,7 +99,8 @@ impl<'a> Bundle<'a> {
     /// The numbers of the tables of a set, ascending.
     pub fn set(&self, set: u8) -> &[u8]
         requires { set < length self.now.sets }
-        ensures there { AllByRecursion (λ number. number < self.now.tables) result.now }
+        ensures numbers { result.now ≡ slice_index_or self.now.sets set [] }
+        ensures there { AllByRecursion (λ number. number < length self.now.tables) result.now }
         ensures few { length result.now ≤ 16 }
     {
         self.sets[usize::from(set)].as_slice()

@@ -2,7 +2,8 @@
 
 ghost use Rattle.std.specs.Prelude.{◌≡◌, ℕ, ◌<◌, ◌≤◌, ◌↔◌, IfErr, IfOk, IsTrue, List, length, map};
 ghost use Rattle.std.specs.List.{AllByRecursion};
-ghost use Rattle.set_sum.specs.Reading.{AreAlike, IsFaultOf, NamesOverlap, first_side, members, patterns_of};
+ghost use Rattle.set_sum.specs.Bundles.{members};
+ghost use Rattle.set_sum.specs.Reading.{AreAlike, IsFaultOf, NamesOverlap, first_side, patterns_of};
 ghost use Rattle.set_sum.specs.Sums.{SetSays};
 ghost use Rattle.puz_board.specs.Boards.{side_of};
 ghost use Rattle.tab_check.specs.ExactTables.{IsExactTable};

@@ -132,6 +132,47 @@ fn sides_tables_and_sets_are_counted(rt: HostRuntime) {
     }
 }
 
+/// The mask of the table of a bundle with a number.
+fn mask<R: Threads + Wait + AllocGlobal + Abort>(
+    rt: &R,
+    files: &[&[u8]],
+    text: &[u8],
+    number: u8,
+) -> Option<u32> {
+    let bundle = Bundle::read(checked(rt, files), text).ok()?;
+    if number < bundle.tables() {
+        Some(bundle.table(number).pattern().mask())
+    } else {
+        None
+    }
+}
+
+/// Whether these are the numbers of a set of a bundle.
+fn has_set<R: Threads + Wait + AllocGlobal + Abort>(
+    rt: &R,
+    files: &[&[u8]],
+    text: &[u8],
+    set: u8,
+    numbers: &[u8],
+) -> Option<bool> {
+    let bundle = Bundle::read(checked(rt, files), text).ok()?;
+    if set < bundle.sets() {
+        Some(bundle.set(set) == numbers)
+    } else {
+        None
+    }
+}
+
+#[test]
+fn tables_and_sets_are_those_that_were_read(rt: HostRuntime) {
+    let files: [&[u8]; 2] = [&TILES_12, &TILE_3];
+    let text = b"set 0 1\nset 1\n";
+    assert_eq!(rt; mask(&rt, &files, text, 0), Some(6));
+    assert_eq!(rt; mask(&rt, &files, text, 1), Some(8));
+    assert_eq!(rt; has_set(&rt, &files, text, 0, &[0, 1]), Some(true));
+    assert_eq!(rt; has_set(&rt, &files, text, 1, &[1]), Some(true));
+}
+
 /// Sixteen lines of the set of table 0, and what may follow them.
 const LINES: &[u8] =
     b"set 0\nset 0\nset 0\nset 0\nset 0\nset 0\nset 0\nset 0\nset 0\nset 0\nset 0\nset 0\nset 0\nset 0\nset 0\nset 0\nset 0\nset 0";

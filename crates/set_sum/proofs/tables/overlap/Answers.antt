@@ -2,7 +2,8 @@ use Rattle.std.proofs.Common.{refl, sym, ◌∙◌, ap, subst, arith, take, drop
 use Rattle.std.specs.Prelude.{bit_or}
 use Rattle.std.proofs.lemmas.Bool.{true≢false}
 use Rattle.std.proofs.lemmas.List.{take_all}
-use Rattle.set_sum.specs.Reading.{members, patterns_of}
+use Rattle.set_sum.specs.Bundles.{members}
+use Rattle.set_sum.specs.Reading.{patterns_of}
 use Rattle.set_sum.specs.Sums.{HaveOverlap}
 use Rattle.set_sum.proofs.ListLemmas.{named_here, named_more}
 use Rattle.set_sum.proofs.TakenLemmas.{IsTaken, taken_meets, taken_more, taken_none}

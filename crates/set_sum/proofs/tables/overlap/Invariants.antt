@@ -1,5 +1,6 @@
 use Rattle.std.proofs.Common.{take}
-use Rattle.set_sum.specs.Reading.{members, patterns_of}
+use Rattle.set_sum.specs.Bundles.{members}
+use Rattle.set_sum.specs.Reading.{patterns_of}
 use Rattle.set_sum.proofs.TakenLemmas.{IsTaken}
 use Rattle.set_sum.proofs.tables.overlap.Given as goal
 

@@ -2,7 +2,8 @@ use Rattle.std.proofs.Common.{◌≡◌, ◌+◌, sym, subst, arith, take, drop,
 use Rattle.std.proofs.lemmas.List.{take_all}
 use Rattle.puz_board.specs.Boards.{side_of}
 use Rattle.tab_check.specs.declared.tables.Count.TheVariants.{Never}
-use Rattle.set_sum.specs.Reading.{members, patterns_of}
+use Rattle.set_sum.specs.Bundles.{members}
+use Rattle.set_sum.specs.Reading.{patterns_of}
 use Rattle.set_sum.specs.Sums.{AddUpTo, MemberSays}
 use Rattle.std.specs.Prelude.{Any}
 use Rattle.set_sum.proofs.AnyLemmas.{Any-here, Any-right}
