@@ -1,6 +1,6 @@
 #!/usr/bin/env bash
 # Runs the built program and checks what it writes, where it writes it and its status: words, streams, files and their
-# names, limits, tables, workers, want of memory, changed inputs, and runs at once. What is wanted follows from
+# names, limits, tables, workers, want of memory, changed inputs, the tour, and runs at once. What is wanted follows from
 # docs/FORMATS.md.
 #
 #     tools/check_runs.sh [PROGRAM]
@@ -572,6 +572,14 @@ status=0
 "$root/tools/try_hostile.py" --program "$bare" >"$work/output" 2>"$work/errors" || status=$?
 check '2,000 changed inputs are answered as their plain answers say' \
     [ "$status.$(tail -n 1 "$work/output")" = '0.2000 passed, 0 failed' ]
+
+#
+# The tour.
+#
+
+status=0
+"$root/tools/check_tour.sh" "$bare" >"$work/output" 2>"$work/errors" || status=$?
+check 'the commands of the tour write what its page says' [ "$status" = 0 ]
 
 #
 # Runs at once, and writes.
