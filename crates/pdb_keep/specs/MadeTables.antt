@@ -40,8 +40,8 @@ pub record IsBuilt (side mask : ℕ) (file : Bytes) (answer : Result Verdict Fau
   pub is_result : IsTableResult file answer
   pub own : SpeaksOf side mask answer
 
--- why no file is told of: K4 where they are no pattern, or where the table of another was built for them; K3 where the maker
--- gave up on a pattern
+-- why no file is told of: K4 where they are no pattern, or where they are one and a file is the exact table of another; K3
+-- where they are a pattern. What the maker built, or where it gave up, isn't seen here
 abbrev pub IsUnbuilt : ℕ → ℕ → Fault → Type 0
 IsUnbuilt side mask fault.K4 = (¬ ArePattern side mask) ⊎ (ArePattern side mask × (file : Bytes) × IsOfAnother side mask file)
 IsUnbuilt side mask (fault.Make K3) = ArePattern side mask

@@ -3,7 +3,7 @@ use Rattle.std.proofs.Common.{◌≡◌, ◌⊎◌, ◌∙◌, ◌≤◌, inl, i
 use Rattle.std.specs.Io.KnownBytes.{Keeps}
 use Rattle.pdb_io.specs.Shelves.{Bytes}
 use Rattle.pdb_run.specs.Plans.{Plan}
-use Rattle.pdb_run.specs.Runs.{Ends, HasCause, IsAnswered, LeavesFiles, Outcome, WantsMemory, World, kept, no_memory, replied, unkept, unread, with_kept}
+use Rattle.pdb_run.specs.Runs.{Ends, HasCause, IsAnswered, LeavesFiles, LeavesReader, Outcome, WantsMemory, World, kept, no_memory, replied, unkept, unread, with_kept}
 use Rattle.pdb_run.specs.Statuses.{number_of}
 use Rattle.pdb_run.specs.declared.status.Status.{Status}
 use Rattle.pdb_run.specs.declared.status.Status.TheVariants.{Yes, Refused, Fault, NoMemory}
@@ -50,7 +50,7 @@ wants (solve board sets out tables workers budget) old = inl (omega arith)
 pub parsed_ends : (words : List Bytes) (old new : World) (old_err new_err : Option Bytes) (status : Status) → Parses words → new.files ≡ old.files
     → Refuses words old.written new.written old_err new_err status → Ends (plan_of (asked_of words)) old new status
 parsed_ends words old new old_err new_err status parses files refuses = elim refuses [
-  | inl memory ↦ record { outcome = no_memory; cause = wants (asked_of words) old; files = files; said = memory.0 }
+  | inl memory ↦ record { outcome = no_memory; cause = wants (asked_of words) old; files = files; reader = tt; said = memory.0 }
   | inr others ↦ elim others [
     | inl mistake ↦ absurd (rw parses at mistake.0.among)
     | inr help ↦ absurd (rw parses at help.0)
@@ -83,9 +83,15 @@ module _ (plan : Plan) (old new : World) (status : Status) where
   leaves (unkept name why) files = files
   leaves no_memory files = files
 
+  leaves_reader : (outcome : Outcome) → LeavesReader plan old.reader new.reader outcome → LeavesReader (taking_memory plan) old.reader new.reader outcome
+  leaves_reader (replied inputs reply) reader = reader
+  leaves_reader (unread wanted why) reader = reader
+  leaves_reader (unkept name why) reader = reader
+  leaves_reader no_memory reader = reader
+
   -- a run that ends by a plan ends by that which may want memory at any time
   ends_taking : Ends plan old new status → Ends (taking_memory plan) old new status
-  ends_taking ends = record { outcome = ends.outcome; cause = has_cause ends.outcome ends.cause; files = leaves ends.outcome ends.files; said = ends.said }
+  ends_taking ends = record { outcome = ends.outcome; cause = has_cause ends.outcome ends.cause; files = leaves ends.outcome ends.files; reader = leaves_reader ends.outcome ends.reader; said = ends.said }
 
   -- a yes or a no by that plan is one by the plan itself
   pub answers : IsAnswered (taking_memory plan) old new status → Ends plan old new status
@@ -93,6 +99,7 @@ module _ (plan : Plan) (old new : World) (status : Status) where
     outcome = replied answered.inputs answered.reply;
     cause = answered.right;
     files = answered.files;
+    reader = answered.reader;
     said = inl (answered.lines, answered.is_status);
   }
 

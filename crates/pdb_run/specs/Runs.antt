@@ -1,5 +1,5 @@
 -- How a run of a command ends.
-use Rattle.std.specs.Prelude.{◌≡◌, ◌⊎◌, ◌<◌, Bool, true, false, List, Option, Some, None, codes, length}
+use Rattle.std.specs.Prelude.{◌≡◌, ◌⊎◌, ⊤, ◌<◌, Bool, true, false, List, Option, Some, None, codes, length}
 use Rattle.std.specs.Io.KnownBytes.{Appends}
 use Rattle.pdb_io.specs.Shelves.{Bytes, Files, KeepsOthers, told_with}
 use Rattle.pdb_io.specs.Streams.{AppendsFront}
@@ -9,7 +9,7 @@ use Rattle.pdb_io.specs.declared.shelf.KeepFault.{KeepFault}
 use Rattle.pdb_io.specs.declared.shelf.KeepFault.TheVariants as keep
 use Rattle.pdb_run.specs.Lines.{memory_line, named_line, reply_text, shown}
 use Rattle.pdb_run.specs.Plans.{Plan, Reply, Wanted}
-use Rattle.pdb_run.specs.Readings.{AreRead, IsFirstUnread}
+use Rattle.pdb_run.specs.Readings.{AreRead, IsFirstUnread, Tells, left_by_all}
 use Rattle.pdb_run.specs.declared.status.Status.{Status}
 use Rattle.pdb_run.specs.declared.status.Status.TheVariants.{Yes, Refused, Fault, NoMemory}
 
@@ -115,26 +115,37 @@ LeavesFiles plan old new (unread wanted why) = new ≡ old
 LeavesFiles plan old new (unkept name why) = KeepsOthers old new name
 LeavesFiles plan old new no_memory = new ≡ old
 
+-- once all inputs are read, the reader has what they left: all that it had, where none of them is the reader; how far it was
+-- read before a fault or want of memory is open
+abbrev pub LeavesReader : Plan → Option Bytes → Option Bytes → Outcome → Type 0
+LeavesReader plan old new (replied inputs reply) = Tells (left_by_all old plan.inputs) new
+LeavesReader plan old new (unread wanted why) = ⊤
+LeavesReader plan old new (unkept name why) = Tells (left_by_all old plan.inputs) new
+LeavesReader plan old new no_memory = ⊤
+
 -- the text was written whole, or the writer failed with at least one byte of it left to write
 abbrev pub Says : Bytes → Status → Option Bytes → Option Bytes → Status → Type 0
 Says text with_text old new status = (Appends old new text × (status ≡ with_text)) ⊎ (AppendsFront old new text × (status ≡ Fault))
 
 -- ---- how it ends
 
--- it does one thing that it has cause to do, leaves the files as that does, and says it
+-- it does one thing that it has cause to do, leaves the files and the reader as that does, and says it
 pub record Ends (plan : Plan) (old new : World) (status : Status) : Type 0 where
   pub outcome : Outcome
   pub cause : HasCause plan old new.failed outcome
   pub files : LeavesFiles plan old.files new.files outcome
+  pub reader : LeavesReader plan old.reader new.reader outcome
   pub said : Says (text_of outcome) (status_of outcome) old.written new.written status
 
 -- ---- what follows for a yes or a no
 
--- the writer got exactly the lines of a right reply on the inputs at the start, and of the files only the kept one changed
+-- the writer got exactly the lines of a right reply on the inputs at the start, of the files only the kept one changed, and
+-- the reader has what the inputs left
 pub record IsAnswered (plan : Plan) (old new : World) (status : Status) : Type 0 where
   pub inputs : List Bytes
   pub reply : Reply
   pub right : IsRight plan old inputs reply
   pub files : new.files ≡ with_kept old.files plan.keeps_under (kept reply)
+  pub reader : Tells (left_by_all old.reader plan.inputs) new.reader
   pub lines : Appends old.written new.written (reply_text reply)
   pub is_status : status ≡ status_of_reply reply.is_yes

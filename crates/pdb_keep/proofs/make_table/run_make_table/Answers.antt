@@ -9,4 +9,4 @@ returns-in-Ok g c =
     let was = world (g.S.Shelf.held c.args.shelf.now) (g.S.Shelf.has_failed c.args.shelf.now) (g.R.Read.remaining c.args.reader.now) (g.W.Write.contents c.args.out.now) in
     let is = world (g.S.Shelf.held c.keep_and_conclude.new.shelf) (g.S.Shelf.has_failed c.keep_and_conclude.new.shelf) (g.R.Read.remaining c.read_inputs.new.reader) (g.W.Write.contents c.keep_and_conclude.new.out) in
     let are : AreRead was.files was.reader [] (all_bytes c.as_slice.result.now) = search rules in
-    c.keep_and_conclude.ensures was is are (search rules) refl refl (search rules) refl
+    c.keep_and_conclude.ensures was is are (search rules) (search rules) refl refl (search rules) refl
