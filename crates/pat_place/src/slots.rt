@@ -30,7 +30,7 @@ pub fn regions(placement: &Placement) -> ArrayVec<u32, 8>
     regions
 }
 
-/// The first of these regions that has the cell.
+/// The place of the first of these regions that has the cell.
 #[inline]
 pub fn find_region(regions: &[u32], cell: u8) -> Option<usize>
     requires { cell < 32 }

@@ -46,7 +46,7 @@ impl From<io::Error> for WriteFault {
 /// How many bytes of room are made at a time.
 const PIECE: usize = 65_536;
 
-/// Reads to the end of an input, of at most so many bytes, by at most one read a byte and one more.
+/// Reads to the end of an input, of at most so many bytes, by at most so many reads and one more.
 /// Nothing past the limit is kept. A read's error ends it, whatever its kind.
 pub fn read_all<R: Read>(alloc: Global, reader: &mut R, limit: u64) -> Result<Vec<u8>, ReadFault>
     ensures whole { IfOk result (λ bytes. IfSome (R.remaining reader.old) (λ told. told ≡ bytes.items)) }
@@ -96,7 +96,7 @@ pub fn read_said<R: Read>(
     read_sized(alloc, reader, limit, size)
 }
 
-/// The same, by a reader that notes its reads: they are at most one a byte and one more, and `F1` says that one failed.
+/// The same, by a reader that notes its reads: they are at most one more than the limit, and `F1` says that one failed.
 pub fn read_watched<R: Read>(
     alloc: Global,
     reader: &mut Watched<'_, R>,

@@ -26,8 +26,8 @@ pub type Digests = ArrayVec<u8, DIGESTS_LEN>;
 type Made = Result<Digests, CapacityError>;
 
 /// The digest lines of files and of a last one, where there is one, and what a check answers beside which they are made: in
-/// threads of their own, at most as many as workers. Where a thread can't be started, its digests are made after the check.
-/// With one worker, or more files than a bundle has tables, none are made.
+/// threads of their own, at most as many as workers. Where a thread can't be started, its digests are made after the check
+/// or after others. With one worker, or more files than a bundle has tables, none are made.
 pub fn beside<R: Threads + Sync, T, F: FnOnce() -> T>(
     rt: &R,
     workers: u8,
