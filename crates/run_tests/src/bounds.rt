@@ -15,6 +15,14 @@ use work_run::{Gate, OpenGate};
 /// `LEAF` with the bound 7.
 const LEAF_OF_7: [u8; 20] = *b"PDBL\x01\x02\0\0\0\x01\x03\x02\x01\0\x07\0\0\0\x01\x01";
 
+/// `BRANCHES` without the last byte of its tree, whose length says so.
+const WITHOUT_A_CHILD: [u8; 29] =
+    *b"PDBL\x01\x02\0\0\0\x01\x03\x02\x01\0\x06\0\0\0\x0A\0\0\0\0\0\x01\0\0\0\0";
+
+/// `BRANCHES` with one byte more behind its lemma.
+const BRANCHES_AND_MORE: [u8; 31] =
+    *b"PDBL\x01\x02\0\0\0\x01\x03\x02\x01\0\x06\0\0\0\x0B\0\0\0\0\0\x01\0\0\0\0\x01\0";
+
 /// `CITATION` whose second lemma cites itself.
 const CITES_ITSELF: [u8; 45] =
     *b"PDBL\x01\x02\0\0\0\x02\x03\0\x01\x02\x05\0\0\0\x06\0\x01\0\0\0\x01\x03\x02\x01\0\x06\0\0\0\x0B\0 \0\0\0\x01\0\0\0\0\x01";
@@ -42,6 +50,8 @@ fn shelf(alloc: Global) -> Result<MemShelf, AllocError> {
             ("leaf_of_7", &LEAF_OF_7),
             ("branches", &BRANCHES),
             ("branches_cut", &BRANCHES[..29]),
+            ("without_a_child", &WITHOUT_A_CHILD),
+            ("branches_and_more", &BRANCHES_AND_MORE),
             ("citation", &CITATION),
             ("cites_itself", &CITES_ITSELF),
             ("unsolvable", &UNSOLVABLE),
@@ -63,6 +73,8 @@ fn digest_of(name: &str) -> &'static str {
         "leaf_of_7" => "37cab8da8b6e6a8f247a68ab2aeb455969af2005a0a48876b23b53c7a5821a49",
         "branches" => "e9e77cadd5844ced52b6de00a0ab5f92b680046686168f0e7823639b16b9505c",
         "branches_cut" => "6aa1d8d633739b783ea805f8e0cf0746b0f762d5ae6afe858ab75a9b411292bd",
+        "without_a_child" => "957a69565a07f2e0523fe361b105f86692353c11f98ef2cb08c6b379f2e84afd",
+        "branches_and_more" => "058ef4a1dc74bd594808f019524cf006f796f38b210b8f069eb4da291414bb97",
         "citation" => "80592536478d7c82b5a31251152584cf9d6e30e0e885a3b45711798db146fa4e",
         "cites_itself" => "ac60291658fcea5e0014a33ee8daa295e7e446df39dd112520f9663d70946571",
         "unsolvable" => "5a030d61cba5bc4632c6f4d366185c2c5d3dd2bc744ec73aa007929cc2fe4ab6",
@@ -190,6 +202,14 @@ fn changed_logs_and_tables_are_refused(rt: HostRuntime) -> Result<(), Fail> {
             "refused L2 at lemma 0",
         ),
         (
+            "bound board one_set without_a_child f12",
+            "refused L6 at lemma 0",
+        ),
+        (
+            "bound board one_set branches_and_more f12",
+            "refused L2 at lemma 1",
+        ),
+        (
             "bound board one_set leaf wrong_123",
             "refused T7 at entry 14 of table 0",
         ),
@@ -255,13 +275,18 @@ impl<'a> Gate for BehindTheFirst<'a> {
 
 #[test]
 fn two_workers_check_lemmas_side_by_side(rt: HostRuntime) -> Result<(), Fail> {
-    let words = "bound board one_set citation f12";
-    let gate = BehindTheFirst {
-        gate: HoldingGate::new(&[0], &[1]),
-        begun: AtomicBool::new(false),
-    };
-    let want = lines(rt.alloc(), words, "bound 6")?;
-    checked_by(&rt, rt.alloc(), words, "2", &gate)?.expect(want.as_bytes(), 0)?;
-    assert!(rt; gate.gate.saw_all(), "one worker alone");
+    let cases = [
+        ("bound board one_set citation f12", "bound 6"),
+        ("optimal six_moves one_set citation f12", "optimal 6"),
+    ];
+    for (words, line) in cases {
+        let gate = BehindTheFirst {
+            gate: HoldingGate::new(&[0], &[1]),
+            begun: AtomicBool::new(false),
+        };
+        let want = lines(rt.alloc(), words, line)?;
+        checked_by(&rt, rt.alloc(), words, "2", &gate)?.expect(want.as_bytes(), 0)?;
+        assert!(rt; gate.gate.saw_all(), "one worker alone: {words}");
+    }
     Ok(())
 }

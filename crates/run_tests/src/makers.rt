@@ -1,19 +1,25 @@
 //! `make-table` and `solve`: what they say, and what the shelf then holds.
 
-use crate::runs::{Ended, ran};
+use crate::runs::{Ended, ran, ran_by};
 use pdb_io::memory::MemShelf;
 use pdb_io::shelf::Shelf;
 use samples::files::{TILE_24, TILES_12, TILES_123};
+use samples::{HoldingGate, LeastCosts};
 use std::alloc::{AllocError, Global};
 use std::sync::Wait;
+use std::sync::atomic::{AtomicU64, Ordering};
 use std::test::Fail;
 use std::thread::Threads;
+use work_run::Gate;
 
 const DIGEST_OF_123: &str = "5c515b94b4098a8408358078f3f9b8b3e46255c04334fedd62c8e67da63d237b";
 
 const DIGEST_OF_12: &str = "fc9e320726274cbeff6f0c450060cf77617b6e27b10cfe9808da3bb87454b331";
 
 const DIGEST_OF_24: &str = "27e4c13965b3cafa2240079ec4cc64c32a43f3e4c5f971fae8a8cc3c7bfdb239";
+
+/// The tiles 1, 2 and 3 of side 3.
+const DIGEST_OF_14: &str = "f503a236a614823c96a7c227f8874402564f88e193d26e5fe7daeec1a649fd9d";
 
 const DIGEST_OF_510: &str = "de0283d945aa2ab28127e5821e10408f87115b560763ad76c93445c493ed9f19";
 
@@ -119,6 +125,22 @@ fn two_workers_check_the_table_of_all_tiles(rt: HostRuntime) -> Result<(), Fail>
 #[test]
 fn seven_workers_check_the_table_of_all_tiles(rt: HostRuntime) -> Result<(), Fail> {
     expect_all_tiles(&rt, rt.alloc(), "7")
+}
+
+/// Three tiles of side 3 have two blocks: two workers are in both at once.
+#[test]
+fn two_workers_check_a_made_table_side_by_side(rt: HostRuntime) -> Result<(), Fail> {
+    let alloc = rt.alloc();
+    let mut shelf = MemShelf::of(alloc, &[])?;
+    let mut reader = b"".as_slice();
+    let gate = HoldingGate::new(&[0], &[1]);
+    let words = ["make-table", "3", "14", "o", "--workers", "2"];
+    let line = "exact side 3 mask 14 entries 2016 unreachable 0 deepest 12";
+    let want = format!(in alloc; "sha256 {DIGEST_OF_14}\n{line}\n")?;
+    ran_by(&rt, alloc, &words, &mut shelf, &mut reader, &gate)?.expect(want.as_bytes(), 0)?;
+    assert!(rt; gate.saw_all(), "one worker alone");
+    let table = LeastCosts::new(alloc, &[1, 2, 3])?.table(alloc)?;
+    expect_held(&shelf, "o", Some(table.as_slice()))
 }
 
 #[test]
@@ -233,6 +255,43 @@ fn the_one_move_home_is_told(rt: HostRuntime) -> Result<(), Fail> {
     let mut shelf = shelf(rt.alloc())?;
     let ended = ran_on(&rt, rt.alloc(), "solve one sets o f123", &mut shelf)?;
     assert!(rt; ended.status == 0 && ended.out.ends_with(b"\nmoves L\noptimal 1\n"));
+    Ok(())
+}
+
+/// Another gate to the first two jobs of all, which are a table's, and lets the others pass.
+#[derive(Drop)]
+struct TheFirstTwo<'a> {
+    gate: HoldingGate<'a>,
+    begun: AtomicU64,
+}
+
+impl<'a> Gate for TheFirstTwo<'a> {
+    fn before(&self, job: u64) {
+        if self.begun.fetch_add(1, Ordering::SeqCst) < 2 {
+            self.gate.before(job);
+        }
+    }
+}
+
+#[test]
+fn two_workers_check_the_table_of_a_search_side_by_side(rt: HostRuntime) -> Result<(), Fail> {
+    let alloc = rt.alloc();
+    let table = LeastCosts::new(alloc, &[1, 2, 3])?.table(alloc)?;
+    let files: [(&str, &[u8]); 3] = [
+        ("one", b"1 0 2 3 4 5 6 7 8"),
+        ("sets", b"set 0\n"),
+        ("three", table.as_slice()),
+    ];
+    let mut shelf = MemShelf::of(alloc, &files)?;
+    let mut reader = b"".as_slice();
+    let gate = TheFirstTwo {
+        gate: HoldingGate::new(&[0], &[1]),
+        begun: AtomicU64::new(0),
+    };
+    let words = ["solve", "one", "sets", "o", "three", "--workers", "2"];
+    let ended = ran_by(&rt, alloc, &words, &mut shelf, &mut reader, &gate)?;
+    assert!(rt; ended.status == 0 && ended.out.ends_with(b"\nmoves L\noptimal 1\n"));
+    assert!(rt; gate.gate.saw_all(), "one worker alone");
     Ok(())
 }
 

@@ -4,7 +4,7 @@ ghost use Rattle.std.specs.Prelude.{◌<◌, ◌≤◌};
 
 use crate::check_table;
 use samples::files::{TILE_1_NEVER, TILE_24, TILES_12, TILES_123, with_byte, with_one_more};
-use samples::{LeastCosts, Log};
+use samples::{HoldingGate, LeastCosts, Log};
 use std::alloc::{AllocError, Global};
 use std::process::Abort;
 use std::sync::Wait;
@@ -188,6 +188,24 @@ fn each_block_of_a_large_table_is_entered_once(rt: HostRuntime) -> Result<(), Fa
             assert_eq!(rt; *entered, block);
         }
     }
+    Ok(())
+}
+
+#[test]
+fn blocks_of_a_large_table_above_a_bad_entry_are_not_entered(rt: HostRuntime) -> Result<(), Fail> {
+    let file = of_one_byte(rt.alloc(), 0xFE)?;
+    let log = Log::new(rt.alloc(), 2)?;
+    assert_eq!(rt; census_by(&rt, &file, 1, &log), bad_entry(0));
+    assert_eq!(rt; log.notes(rt.alloc())?.as_slice(), [0].as_slice());
+    Ok(())
+}
+
+#[test]
+fn two_workers_check_two_blocks_of_a_large_table_side_by_side(rt: HostRuntime) -> Result<(), Fail> {
+    let file = of_one_byte(rt.alloc(), 0xFF)?;
+    let gate = HoldingGate::new(&[0], &[1]);
+    assert_eq!(rt; census_by(&rt, &file, 2, &gate), bad_entry(46_233));
+    assert!(rt; gate.saw_all());
     Ok(())
 }
 

@@ -1,17 +1,22 @@
-//! Claims on logs that are refused before the log's lemmas are looked at.
+//! Claims on logs: good ones, and those that are refused before the log's lemmas are looked at.
+
+ghost use Rattle.std.specs.Prelude.{◌<◌, ◌≤◌};
 
 use crate::sha256;
 use crate::telling::{joined, tells};
 use pdb_io::memory::MemShelf;
 use pdb_run::Status;
-use pdb_verdict::{ClaimNames, Inputs, Workers, run_bound, run_optimal};
-use samples::files::{TILE_1, TILE_24, TILES_12, TILES_123, with_byte};
+use pdb_verdict::{ClaimNames, Fault, Inputs, Verdict, Workers, run_bound, run_optimal, verify};
+use samples::HoldingGate;
+use samples::files::{TILE_1, TILE_3, TILE_24, TILES_12, TILES_123, with_byte};
+use samples::logs::{BRANCHES, CITATION, LEAF, UNSOLVABLE};
 use std::alloc::{AllocError, Global};
 use std::process::Abort;
 use std::sync::Wait;
+use std::sync::atomic::{AtomicBool, Ordering};
 use std::test::Fail;
 use std::thread::Threads;
-use work_run::OpenGate;
+use work_run::{Gate, OpenGate};
 
 /// No log file.
 const LOG: &[u8] = b"abc";
@@ -56,6 +61,101 @@ fn bound_tells<H: Threads + Wait>(rt: &H, alloc: Global, case: &Case<'_>) -> Res
         tables: tables.as_slice(),
     };
     tells(rt, alloc, &inputs, lines_of(alloc, case)?.as_slice())
+}
+
+#[test]
+fn good_logs_prove_their_bounds(rt: HostRuntime) -> Result<(), Fail> {
+    let alloc = rt.alloc();
+    let cases: [(&[u8], &[u8], &[u8], &[&[u8]], u8); 5] = [
+        (b"3 2 1 0", b"set 0\n", &LEAF, &[&TILES_123], 6),
+        (b"3 2 1 0", b"set 0\n", &BRANCHES, &[&TILES_12], 6),
+        (b"3 2 1 0", b"set 0\n", &CITATION, &[&TILES_12], 6),
+        // The sum is 4 + 2.
+        (b"3 2 1 0", b"set 0 1\n", &LEAF, &[&TILES_12, &TILE_3], 6),
+        (b"0 1 3 2", b"set 0\n", &UNSOLVABLE, &[&TILES_123], 255),
+    ];
+    for (board, sets, log, files, bound) in cases {
+        let tables = vectors(alloc, files)?;
+        let inputs = Inputs::Bound {
+            board,
+            sets,
+            log,
+            tables: tables.as_slice(),
+        };
+        for workers in [1u8, 2, 7] {
+            let answer = verify(&rt, alloc, &inputs, workers, &OpenGate);
+            assert!(rt; answer == Ok(Verdict::Bound(bound)), "{log:?} by {workers}");
+        }
+    }
+    Ok(())
+}
+
+/// The claim that so many moves are the fewest for the board `3 2 1 0`, by `BRANCHES` over the tiles 1 and 2.
+fn optimum<H: Threads + Wait>(
+    rt: &H,
+    alloc: Global,
+    puzzle: &[u8],
+    workers: u8,
+) -> Result<Result<Verdict, Fault>, Fail>
+    requires { (0 < workers) × (workers ≤ 64) }
+{
+    let tables = vectors(alloc, &[&TILES_12])?;
+    let inputs = Inputs::Optimal {
+        puzzle,
+        sets: b"set 0\n",
+        log: &BRANCHES,
+        tables: tables.as_slice(),
+    };
+    Ok(verify(rt, alloc, &inputs, workers, &OpenGate))
+}
+
+#[test]
+fn as_many_moves_as_the_bound_are_the_fewest(rt: HostRuntime) -> Result<(), Fail> {
+    for workers in [1u8, 2, 7] {
+        let six = optimum(&rt, rt.alloc(), b"3 2 1 0 ; ULDRUL", workers)?;
+        assert!(rt; six == Ok(Verdict::Optimal(6)));
+        let eight = optimum(&rt, rt.alloc(), b"3 2 1 0 ; ULDRULRL", workers)?;
+        let more = Fault::O1 {
+            solution: 8,
+            bound: 6,
+        };
+        assert!(rt; eight == Err(more));
+    }
+    Ok(())
+}
+
+/// Lets the first job of all pass, which is a table's, and is another gate to the others.
+#[derive(Drop)]
+struct BehindTheFirst<'a> {
+    gate: HoldingGate<'a>,
+    begun: AtomicBool,
+}
+
+impl<'a> Gate for BehindTheFirst<'a> {
+    fn before(&self, job: u64) {
+        if self.begun.swap(true, Ordering::SeqCst) {
+            self.gate.before(job);
+        }
+    }
+}
+
+#[test]
+fn two_workers_check_lemmas_side_by_side(rt: HostRuntime) -> Result<(), Fail> {
+    let alloc = rt.alloc();
+    let tables = vectors(alloc, &[&TILES_12])?;
+    let inputs = Inputs::Bound {
+        board: b"3 2 1 0",
+        sets: b"set 0\n",
+        log: &CITATION,
+        tables: tables.as_slice(),
+    };
+    let gate = BehindTheFirst {
+        gate: HoldingGate::new(&[0], &[1]),
+        begun: AtomicBool::new(false),
+    };
+    let answer = verify(&rt, alloc, &inputs, 2, &gate);
+    assert!(rt; answer == Ok(Verdict::Bound(6)) && gate.gate.saw_all());
+    Ok(())
 }
 
 #[test]

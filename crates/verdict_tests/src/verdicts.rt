@@ -4,9 +4,12 @@ use crate::sha256;
 use crate::telling::{joined, tells};
 use pdb_io::memory::MemShelf;
 use pdb_run::Status;
-use pdb_verdict::{Fault, Inputs, digests, line, report, run_replay, verify, verify_puzzle};
+use pdb_verdict::{
+    Fault, Inputs, MakeRefusal, digests, line, report, run_replay, verify, verify_puzzle,
+};
 use sample_streams::{Failing, SampleWriter};
-use samples::files::{TILE_1_NEVER, TILES_12, TILES_123, with_byte, with_one_more};
+use samples::HoldingGate;
+use samples::files::{TILE_1_NEVER, TILES_12, TILES_123, TWO_BLOCKS, with_byte, with_one_more};
 use std::alloc::Global;
 use std::io;
 use std::process::Abort;
@@ -171,6 +174,39 @@ fn a_write_that_fails_leaves_a_front(rt: HostRuntime) -> Result<(), Fail> {
         assert_eq!(rt; written.is_ok(), fails_from == lines.len());
         assert!(rt; out.taken() == &lines[..fails_from]);
     }
+    Ok(())
+}
+
+#[test]
+fn two_workers_check_two_blocks_side_by_side(rt: HostRuntime) -> Result<(), Fail> {
+    let alloc = rt.alloc();
+    let mut file = TWO_BLOCKS.to_vec(alloc)?;
+    file.resize(2_036, 0xFF)?;
+    let inputs = Inputs::Table {
+        table: file.as_slice(),
+    };
+    let gate = HoldingGate::new(&[0], &[1]);
+    let answer = verify(&rt, alloc, &inputs, 2, &gate);
+    let mut out = Vec::new(alloc);
+    assert!(rt; line(&answer, &mut out).is_ok() && gate.saw_all());
+    assert!(rt; out.as_slice() == b"refused T7 at entry 1\n".as_slice());
+    Ok(())
+}
+
+#[test]
+fn makers_that_give_up_have_their_lines(rt: HostRuntime) -> Result<(), Fail> {
+    let faults = [
+        Fault::Make(MakeRefusal::K1),
+        Fault::Make(MakeRefusal::K2),
+        Fault::Make(MakeRefusal::K3),
+        Fault::K4,
+    ];
+    let mut out = Vec::new(rt.alloc());
+    for fault in faults {
+        assert!(rt; line(&Err(fault), &mut out).is_ok());
+    }
+    let lines = b"refused K1\nrefused K2\nrefused K3\nrefused K4\n".as_slice();
+    assert!(rt; out.as_slice() == lines);
     Ok(())
 }
 
