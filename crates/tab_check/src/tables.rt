@@ -142,6 +142,7 @@ pub fn check_table_by<'a, R: Threads + Wait, G: Gate + Sync, C: BlockCheck + Syn
 
 impl<'a> CheckedTable<'a> {
     /// The same table, which keeps the slots of all its placements where their memory is granted: looks are faster then.
+    /// It may keep none; only speed depends on it.
     pub fn with_slots(self, alloc: Global) -> CheckedTable<'a>
         ensures { result ≡ self.entry }
     {
