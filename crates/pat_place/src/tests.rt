@@ -1,6 +1,3 @@
-ghost use Rattle.std.specs.Prelude.{◌≡◌, ◌<◌, ◌↔◌, IsTrue};
-ghost use Rattle.std.specs.Int.{bit_at};
-
 use crate::{Pattern, Placement, SlotTable, masks, next, rank, regions, slot_of, unrank};
 use puz_board::{Board, Side};
 use std::alloc::Global;
@@ -28,17 +25,9 @@ fn of_rank(rt: &impl Abort, pattern: &Pattern, rank: u64) -> Placement {
     unrank(pattern, rank)
 }
 
-/// Whether a number is of a mask.
-fn is_in(mask: u32, number: u8) -> bool
-    requires { number < 32 }
-    ensures { IsTrue result ↔ (bit_at mask number ≡ 1) }
-{
-    mask >> number & 1 == 1
-}
-
 /// The slot of a cell, where the cell is free.
 fn slot_at(placement: &Placement, cell: u8) -> Option<u8> {
-    if cell >= placement.pattern().side().cells() || is_in(placement.occupied(), cell) {
+    if cell >= placement.pattern().side().cells() || masks::has_cell(placement.occupied(), cell) {
         return None;
     }
     Some(slot_of(placement, cell))
@@ -48,7 +37,7 @@ fn slot_at(placement: &Placement, cell: u8) -> Option<u8> {
 fn moved_to(placement: &Placement, index: usize, cell: u8) -> Option<Placement> {
     if index >= placement.cells().len()
         || cell >= placement.pattern().side().cells()
-        || is_in(placement.occupied(), cell)
+        || masks::has_cell(placement.occupied(), cell)
     {
         return None;
     }
@@ -68,7 +57,7 @@ fn check_regions(rt: &impl Abort, placement: &Placement) {
         covered |= *region;
         least = Some(region.trailing_zeros());
         for cell in 0..cells {
-            if *region >> cell & 1 == 1 {
+            if masks::has_cell(*region, cell) {
                 assert_eq!(rt; slot_at(placement, cell).map(usize::from), Some(slot));
             }
         }
@@ -288,7 +277,7 @@ fn slots_are_regions_by_least_cell(rt: HostRuntime) {
 /// The slot of a cell that a table for the placement's pattern keeps, where the cell is free.
 fn kept_slot_at(alloc: Global, placement: &Placement, cell: u8) -> Option<u8> {
     let pattern = placement.pattern();
-    if cell >= pattern.side().cells() || is_in(placement.occupied(), cell) {
+    if cell >= pattern.side().cells() || masks::has_cell(placement.occupied(), cell) {
         return None;
     }
     match SlotTable::build(alloc, &pattern) {

@@ -9,7 +9,6 @@ mod entries;
 mod floods;
 mod jobs;
 pub mod laws;
-mod masks;
 mod neighbours;
 mod tables;
 #[cfg(test)]

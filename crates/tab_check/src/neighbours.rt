@@ -13,7 +13,7 @@ ghost use Rattle.tab_check.specs.Moves.{IsEntryTowards, IsFoundTowards, IsRegion
 
 use crate::columns::MOST_ENTRIES;
 use crate::entries::NO_WAY_HOME;
-use crate::masks::has_cell;
+use pat_place::masks::has_cell;
 use pat_place::{Placement, rank, slot_of};
 use puz_board::{Move, Side, step};
 use tab_file::TableView;
