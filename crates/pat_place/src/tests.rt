@@ -1,7 +1,9 @@
+ghost use Rattle.std.specs.Prelude.{◌≡◌};
+
 use crate::{Pattern, Placement, SlotTable, masks, next, rank, regions, slot_of, unrank};
 use puz_board::{Board, Side};
-use std::alloc::Global;
 use std::process::Abort;
+use std::test::Fail;
 
 /// The pattern of a side and a mask, where they are one.
 fn pattern_of(n: u8, mask: u32) -> Option<Pattern> {
@@ -274,20 +276,18 @@ fn slots_are_regions_by_least_cell(rt: HostRuntime) {
     }
 }
 
-/// The slot of a cell that a table for the placement's pattern keeps, where the cell is free.
-fn kept_slot_at(alloc: Global, placement: &Placement, cell: u8) -> Option<u8> {
-    let pattern = placement.pattern();
-    if cell >= pattern.side().cells() || masks::has_cell(placement.occupied(), cell) {
+/// The slot of a cell that a table keeps, where the cell is free.
+fn kept_slot_at(kept: &SlotTable, placement: &Placement, cell: u8) -> Option<u8>
+    requires { placement.now.pattern.side ≡ kept.now }
+{
+    if cell >= placement.pattern().side().cells() || masks::has_cell(placement.occupied(), cell) {
         return None;
     }
-    match SlotTable::build(alloc, &pattern) {
-        Ok(kept) => kept.slot(placement, cell),
-        Err(_) => None,
-    }
+    kept.slot(placement, cell)
 }
 
 #[test]
-fn kept_slots_are_regions_by_least_cell(rt: HostRuntime) {
+fn kept_slots_are_regions_by_least_cell(rt: HostRuntime) -> Result<(), Fail> {
     let placements: [(u8, u32, &[u8], &[Option<u8>]); 3] = [
         (2, 6, &[1, 0, 3, 2], &[None, Some(0), Some(1), None]),
         (
@@ -325,9 +325,67 @@ fn kept_slots_are_regions_by_least_cell(rt: HostRuntime) {
     ];
     for (n, mask, board, slots) in placements {
         let placement = on_board(&rt, &pattern_with(&rt, n, mask), board);
+        let kept = SlotTable::build(rt.alloc(), &placement.pattern())?;
         for (cell, want) in (0..).zip(slots) {
-            let slot = kept_slot_at(rt.alloc(), &placement, cell);
+            let slot = kept_slot_at(&kept, &placement, cell);
             assert_eq!(rt; slot, *want, "side {n}, mask {mask}, cell {cell}");
         }
     }
+    Ok(())
+}
+
+/// In the placements of a pattern's tiles, ascending, each free cell has the slot that a flood finds if the sets are kept,
+/// and none if they aren't.
+fn check_sets(rt: &impl Abort, kept: &SlotTable, pattern: &Pattern, is_kept: bool)
+    requires { pattern.now.side ≡ kept.now }
+{
+    let cells = pattern.side().cells();
+    let size = u32::from(pattern.size());
+    for set in 0..1u32 << cells {
+        if set.count_ones() == size {
+            let placement = Placement::of_set(pattern, set);
+            for cell in 0..cells {
+                let want = if is_kept {
+                    slot_at(&placement, cell)
+                } else {
+                    None
+                };
+                assert_eq!(rt; kept_slot_at(kept, &placement, cell), want, "{set} {cell}");
+            }
+        }
+    }
+}
+
+/// A mask of each number of tiles, from 1 to 8.
+const OF_EACH_SIZE: [u32; 8] = [
+    0b10,
+    0b110,
+    0b1110,
+    0b1_1110,
+    0b11_1110,
+    0b111_1110,
+    0b1111_1110,
+    0b1_1111_1110,
+];
+
+#[test]
+fn each_set_of_the_right_size_has_its_slots_and_no_other(rt: HostRuntime) -> Result<(), Fail> {
+    let patterns = [
+        (2, 0b0010),
+        (2, 0b0110),
+        (2, 0b1110),
+        (3, 0b10),
+        (3, 0b1110),
+        (3, 0b1_1111_1110),
+    ];
+    for (side, mask) in patterns {
+        let pattern = pattern_with(&rt, side, mask);
+        let kept = SlotTable::build(rt.alloc(), &pattern)?;
+        for mask in OF_EACH_SIZE {
+            if let Some(other) = Pattern::of_mask(pattern.side(), mask) {
+                check_sets(&rt, &kept, &other, other.size() == pattern.size());
+            }
+        }
+    }
+    Ok(())
 }
