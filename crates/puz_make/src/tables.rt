@@ -4,7 +4,6 @@ ghost use Rattle.std.specs.Prelude.{◌≡◌, ◌+◌, ◌<◌, IfOk, length};
 ghost use Rattle.tab_file.specs.Tables.{entry_count};
 
 use crate::counts::Counts;
-use crate::entries::NO_REGION;
 use crate::faults::MakeFault;
 use crate::grids::{Grid, mask_of, place_of, take_least};
 use crate::shapes::Shapes;
@@ -14,6 +13,7 @@ use rayon::prelude::*;
 use std::alloc::{AllocError, Global};
 use std::thread::Threads;
 use tab_file::{HEADER_LEN, header_of};
+use tab_lanes::NO_REGION;
 
 /// How many runs are filled in at once.
 const RUNS: usize = 512;

@@ -5,7 +5,6 @@ mod block_checks;
 mod blocks;
 mod census;
 mod columns;
-mod entries;
 mod floods;
 mod jobs;
 pub mod laws;

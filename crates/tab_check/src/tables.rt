@@ -20,7 +20,6 @@ ghost use Rattle.tab_check.specs.declared.tables.Count.TheVariants.{Finite, Neve
 
 use crate::block_checks::{BlockCheck, EntryByEntry};
 use crate::census::{Census, census_of};
-use crate::entries::{NO_REGION, NO_WAY_HOME};
 use crate::jobs::TableCheck;
 use pat_place::{Pattern, Placement, SlotTable, rank, slot_of};
 use puz_board::Board;
@@ -29,6 +28,7 @@ use std::marker::Model;
 use std::sync::Wait;
 use std::thread::Threads;
 use tab_file::{HeadFault, TableView, view};
+use tab_lanes::{NO_REGION, NO_WAY_HOME};
 use work_run::{Gate, run_jobs};
 
 /// Why bytes are no exact table file.
