@@ -14,6 +14,7 @@ mod tables;
 mod tests;
 
 pub use block_checks::{BlockCheck, EntryByEntry};
-pub use blocks::check_block;
+pub use blocks::{BLOCK_RANKS, check_block};
 pub use census::Census;
+pub use columns::goal_number;
 pub use tables::{CheckedTable, Count, TableFault, TableRefusal, check_table, check_table_by};
