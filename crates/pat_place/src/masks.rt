@@ -1,6 +1,6 @@
 //! Masks of 32 bits: bit x stands for the number x.
 
-ghost use Rattle.std.specs.Prelude.{◌≡◌, ◌≢◌, ℕ, ◌-◌, ◌^◌, ◌<◌, ◌≤◌, [], count_ones, length};
+ghost use Rattle.std.specs.Prelude.{◌≡◌, ◌≢◌, ℕ, ◌-◌, ◌^◌, ◌<◌, ◌≤◌, ◌↔◌, [], IsTrue, count_ones, length};
 ghost use Rattle.std.specs.Int.{bit_at};
 ghost use Rattle.puz_board.specs.Masks.{numbers_of, ones_below};
 
@@ -13,6 +13,15 @@ pub fn all_below(count: u8) -> u32
     ensures { result ≡ 2 ^ count - 1 }
 {
     (1 << count) - 1
+}
+
+/// Whether the mask has a number.
+#[inline]
+pub fn has_cell(mask: u32, number: u8) -> bool
+    requires { number < 32 }
+    ensures { IsTrue result ↔ (bit_at mask number ≡ 1) }
+{
+    mask >> number & 1 == 1
 }
 
 /// The mask with one number more.

@@ -17,7 +17,7 @@ pub struct SetNumbers {
 }
 
 impl SetNumbers {
-    /// The numbers of these sets.
+    /// The numbers of these sets. They may be any numbers; only speed depends on them.
     pub fn of_sets(alloc: Global, sets: &[u32]) -> Result<SetNumbers, AllocError> {
         let mut low_numbers = vec![in alloc; 0; 1 << LOW]?;
         let mut high_numbers = vec![in alloc; 0; 1 << HIGH]?;
@@ -41,7 +41,7 @@ impl SetNumbers {
         })
     }
 
-    /// The number of a set. A set that isn't one of them has any number.
+    /// The number of a set, if it is one of them. It may answer any number for any set; only speed depends on it.
     #[inline]
     pub fn number_of(&self, set: u32) -> usize {
         let low = self.low.get((set % (1 << LOW)) as usize);

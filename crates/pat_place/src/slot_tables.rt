@@ -42,7 +42,7 @@ impl Model for SlotTable {
 
 impl SlotTable {
     /// The slots for the placements of as many tiles as the pattern has, on boards of its side. Want of memory leaves
-    /// nothing behind.
+    /// nothing behind. It may keep any sets or none; only speed depends on it.
     pub fn build(alloc: Global, pattern: &Pattern) -> Result<SlotTable, AllocError>
         ensures { IfOk result (λ side. side ≡ pattern.now.side) }
     {
@@ -65,7 +65,8 @@ impl SlotTable {
         })
     }
 
-    /// The slot of a free cell of a placement, where the set of its cells is kept.
+    /// The slot of a free cell of a placement, where the set of its cells is kept. It may answer none for any set; only
+    /// speed depends on it.
     #[inline]
     pub fn slot(&self, placement: &Placement, cell: u8) -> Option<u8>
         requires side { placement.now.pattern.side ≡ self.now }

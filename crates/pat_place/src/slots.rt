@@ -39,7 +39,7 @@ pub fn find_region(regions: &[u32], cell: u8) -> Option<usize>
         (IsFirstWith regions.now cell) }
 {
     for (j, region) in regions.iter().enumerate() {
-        if *region >> cell & 1 == 1 {
+        if masks::has_cell(*region, cell) {
             return Some(j);
         }
     }

@@ -1,10 +1,9 @@
-ghost use Rattle.std.specs.Prelude.{◌≡◌, ◌<◌, ◌↔◌, IsTrue};
-ghost use Rattle.std.specs.Int.{bit_at};
+ghost use Rattle.std.specs.Prelude.{◌≡◌};
 
 use crate::{Pattern, Placement, SlotTable, masks, next, rank, regions, slot_of, unrank};
 use puz_board::{Board, Side};
-use std::alloc::Global;
 use std::process::Abort;
+use std::test::Fail;
 
 /// The pattern of a side and a mask, where they are one.
 fn pattern_of(n: u8, mask: u32) -> Option<Pattern> {
@@ -28,17 +27,9 @@ fn of_rank(rt: &impl Abort, pattern: &Pattern, rank: u64) -> Placement {
     unrank(pattern, rank)
 }
 
-/// Whether a number is of a mask.
-fn is_in(mask: u32, number: u8) -> bool
-    requires { number < 32 }
-    ensures { IsTrue result ↔ (bit_at mask number ≡ 1) }
-{
-    mask >> number & 1 == 1
-}
-
 /// The slot of a cell, where the cell is free.
 fn slot_at(placement: &Placement, cell: u8) -> Option<u8> {
-    if cell >= placement.pattern().side().cells() || is_in(placement.occupied(), cell) {
+    if cell >= placement.pattern().side().cells() || masks::has_cell(placement.occupied(), cell) {
         return None;
     }
     Some(slot_of(placement, cell))
@@ -48,7 +39,7 @@ fn slot_at(placement: &Placement, cell: u8) -> Option<u8> {
 fn moved_to(placement: &Placement, index: usize, cell: u8) -> Option<Placement> {
     if index >= placement.cells().len()
         || cell >= placement.pattern().side().cells()
-        || is_in(placement.occupied(), cell)
+        || masks::has_cell(placement.occupied(), cell)
     {
         return None;
     }
@@ -68,7 +59,7 @@ fn check_regions(rt: &impl Abort, placement: &Placement) {
         covered |= *region;
         least = Some(region.trailing_zeros());
         for cell in 0..cells {
-            if *region >> cell & 1 == 1 {
+            if masks::has_cell(*region, cell) {
                 assert_eq!(rt; slot_at(placement, cell).map(usize::from), Some(slot));
             }
         }
@@ -285,20 +276,18 @@ fn slots_are_regions_by_least_cell(rt: HostRuntime) {
     }
 }
 
-/// The slot of a cell that a table for the placement's pattern keeps, where the cell is free.
-fn kept_slot_at(alloc: Global, placement: &Placement, cell: u8) -> Option<u8> {
-    let pattern = placement.pattern();
-    if cell >= pattern.side().cells() || is_in(placement.occupied(), cell) {
+/// The slot of a cell that a table keeps, where the cell is free.
+fn kept_slot_at(kept: &SlotTable, placement: &Placement, cell: u8) -> Option<u8>
+    requires { placement.now.pattern.side ≡ kept.now }
+{
+    if cell >= placement.pattern().side().cells() || masks::has_cell(placement.occupied(), cell) {
         return None;
     }
-    match SlotTable::build(alloc, &pattern) {
-        Ok(kept) => kept.slot(placement, cell),
-        Err(_) => None,
-    }
+    kept.slot(placement, cell)
 }
 
 #[test]
-fn kept_slots_are_regions_by_least_cell(rt: HostRuntime) {
+fn kept_slots_are_regions_by_least_cell(rt: HostRuntime) -> Result<(), Fail> {
     let placements: [(u8, u32, &[u8], &[Option<u8>]); 3] = [
         (2, 6, &[1, 0, 3, 2], &[None, Some(0), Some(1), None]),
         (
@@ -336,9 +325,67 @@ fn kept_slots_are_regions_by_least_cell(rt: HostRuntime) {
     ];
     for (n, mask, board, slots) in placements {
         let placement = on_board(&rt, &pattern_with(&rt, n, mask), board);
+        let kept = SlotTable::build(rt.alloc(), &placement.pattern())?;
         for (cell, want) in (0..).zip(slots) {
-            let slot = kept_slot_at(rt.alloc(), &placement, cell);
+            let slot = kept_slot_at(&kept, &placement, cell);
             assert_eq!(rt; slot, *want, "side {n}, mask {mask}, cell {cell}");
         }
     }
+    Ok(())
+}
+
+/// In the placements of a pattern's tiles, ascending, each free cell has the slot that a flood finds if the sets are kept,
+/// and none if they aren't.
+fn check_sets(rt: &impl Abort, kept: &SlotTable, pattern: &Pattern, is_kept: bool)
+    requires { pattern.now.side ≡ kept.now }
+{
+    let cells = pattern.side().cells();
+    let size = u32::from(pattern.size());
+    for set in 0..1u32 << cells {
+        if set.count_ones() == size {
+            let placement = Placement::of_set(pattern, set);
+            for cell in 0..cells {
+                let want = if is_kept {
+                    slot_at(&placement, cell)
+                } else {
+                    None
+                };
+                assert_eq!(rt; kept_slot_at(kept, &placement, cell), want, "{set} {cell}");
+            }
+        }
+    }
+}
+
+/// A mask of each number of tiles, from 1 to 8.
+const OF_EACH_SIZE: [u32; 8] = [
+    0b10,
+    0b110,
+    0b1110,
+    0b1_1110,
+    0b11_1110,
+    0b111_1110,
+    0b1111_1110,
+    0b1_1111_1110,
+];
+
+#[test]
+fn each_set_of_the_right_size_has_its_slots_and_no_other(rt: HostRuntime) -> Result<(), Fail> {
+    let patterns = [
+        (2, 0b0010),
+        (2, 0b0110),
+        (2, 0b1110),
+        (3, 0b10),
+        (3, 0b1110),
+        (3, 0b1_1111_1110),
+    ];
+    for (side, mask) in patterns {
+        let pattern = pattern_with(&rt, side, mask);
+        let kept = SlotTable::build(rt.alloc(), &pattern)?;
+        for mask in OF_EACH_SIZE {
+            if let Some(other) = Pattern::of_mask(pattern.side(), mask) {
+                check_sets(&rt, &kept, &other, other.size() == pattern.size());
+            }
+        }
+    }
+    Ok(())
 }

@@ -2,7 +2,7 @@
 
 ghost use Rattle.std.specs.Prelude.{◌<◌, ◌^◌, length};
 
-use crate::entries::{GREATEST_COUNT, NO_WAY_HOME, entry_of};
+use crate::entries::entry_of;
 use crate::faults::MakeFault;
 use crate::grids::Grid;
 use crate::layers::layer;
@@ -12,6 +12,7 @@ use crate::turns::{ORDERS_OF_WORD, add, take_order};
 use rayon::prelude::*;
 use std::alloc::{AllocError, Global};
 use std::thread::Threads;
+use tab_lanes::{GREATEST_COUNT, NO_WAY_HOME};
 
 /// How many orders the shapes of one piece of the work have together.
 const PIECE: usize = 32768;

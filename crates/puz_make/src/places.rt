@@ -1,10 +1,11 @@
 //! Where the tiles of a table's pattern are on the board of a search, and what the table tells of it.
 
-use crate::entries::{MOST_TILES, NO_REGION, NO_WAY_HOME};
+use crate::entries::MOST_TILES;
 use crate::grids::{Grid, mask_of};
 use crate::slots::{CELLS, Slots};
 use puz_board::Board;
 use tab_check::CheckedTable;
+use tab_lanes::{NO_REGION, NO_WAY_HOME};
 
 /// A table, and where its pattern's tiles are.
 #[derive(Clone, Copy)]

@@ -2,7 +2,6 @@
 
 ghost use Rattle.std.specs.Prelude.{◌<◌, ◌*◌, length};
 
-use crate::entries::NO_WAY_HOME;
 use crate::grids::{mask_of, take_least};
 use crate::moves::MOVES;
 use crate::places::Place;
@@ -11,6 +10,7 @@ use puz_board::{Board, Side, step};
 use set_sum::Bundle;
 use std::alloc::{AllocError, Global};
 use tab_check::CheckedTable;
+use tab_lanes::NO_WAY_HOME;
 
 /// How many tables a bundle has at most.
 const MOST_TABLES: usize = 16;

@@ -6,7 +6,7 @@ ghost use Rattle.puz_board.specs.Boards.{side_of};
 
 use crate::faults::MakeFault;
 use crate::logs::{log_of, put};
-use crate::moves::{MOVES, letter_of};
+use crate::moves::MOVES;
 use crate::positions::{Leaf, NOWHERE, Position};
 use puz_board::Board;
 use set_sum::Bundle;
@@ -146,7 +146,7 @@ impl Search<'_, '_> {
             }
             let before = self.position.slide(*to);
             if self.is_solved(blank, remaining - 1)? {
-                put(&mut self.moves, letter_of(*mv))?;
+                put(&mut self.moves, mv.letter())?;
                 return Ok(true);
             }
             self.position.slide_back(blank, &before);

@@ -4,7 +4,6 @@ ghost use Rattle.std.specs.Prelude.{◌≡◌, ◌+◌, ◌<◌, IfOk, length};
 ghost use Rattle.tab_file.specs.Tables.{entry_count};
 
 use crate::counts::Counts;
-use crate::entries::NO_REGION;
 use crate::faults::MakeFault;
 use crate::grids::{Grid, mask_of, place_of, take_least};
 use crate::shapes::Shapes;
@@ -13,7 +12,8 @@ use pat_place::Pattern;
 use rayon::prelude::*;
 use std::alloc::{AllocError, Global};
 use std::thread::Threads;
-use tab_file::header_of;
+use tab_file::{HEADER_LEN, header_of};
+use tab_lanes::NO_REGION;
 
 /// How many runs are filled in at once.
 const RUNS: usize = 512;
@@ -28,7 +28,7 @@ pub fn build<R: Threads + Sync>(
     let shapes = Shapes::new(alloc, &grid)?;
     let counts = Counts::new(rt, alloc, &grid, &shapes, pattern.mask())?;
     let mut file = unfilled_file(alloc, pattern)?;
-    let (_header, entries) = file.split_at_mut(20);
+    let (_header, entries) = file.split_at_mut(HEADER_LEN);
     fill_entries(rt, &grid, &shapes, &counts, entries);
     Ok(file)
 }

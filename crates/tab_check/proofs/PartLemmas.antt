@@ -6,12 +6,11 @@ use Rattle.std.proofs.lemmas.List.{get_or-drop, get_or-take, length-take-le}
 use Rattle.std.proofs.Math.Nat.{mul-le-mul_right}
 use Rattle.pat_place.specs.Patterns.{PatternView}
 use Rattle.pat_place.specs.Placements.{PlacementView}
-use Rattle.pat_place.specs.Regions.{IsSlot}
 use Rattle.tab_lanes.specs.LocalRule.{AllKeepRule, IsFirstBad, KeepsRuleAt, KeepsRuleOfKind}
 use Rattle.tab_file.specs.Tables.{Table, IsTable, placement_count, slot_count}
 use Rattle.tab_check.specs.Blocks.{BlockKeepsRule, IsLeastBadIn}
 use Rattle.tab_check.specs.Columns.{EachSlot, HaveRanks, IsKindByMask}
-use Rattle.tab_check.specs.Entries.{IsNumberOf}
+use Rattle.tab_check.specs.Entries.{IsGoalNumber}
 use Rattle.tab_check.specs.LocalRule.{IsLeastNear, LocalRule}
 use Rattle.tab_check.specs.Moves.{IsRegion}
 use Rattle.tab_check.proofs.BlockLemmas.{block_keeps, block_least_bad, rule_of_slot}
@@ -51,7 +50,7 @@ pub record TellOf (t : Table) (block w : ℕ) (own mins marks : List ℕ) : Type
   pub bad : (place : ℕ) → IsFirstBad own mins marks place → IsLeastBadIn t block (block * 256 * w + place)
 
 module _ (t : Table) (block count : ℕ) (is : IsBlock t block count (slot_count t.pattern)) (ps : List PlacementView) (ranks : HaveRanks t.pattern (block * 256) ps) (long : length ps ≡ count)
-    (goal : ℕ) (home : (k : ℕ) × IsNumberOf t.pattern t.pattern.tiles k goal × IsSlot t.pattern.side t.pattern.tiles 0 k) (masks kinds least : List ℕ)
+    (goal : ℕ) (home : IsGoalNumber t.pattern goal) (masks kinds least : List ℕ)
     (are_masks : EachSlot t.pattern ps (IsRegion t.pattern.side) (length ps) masks) (are_least : EachSlot t.pattern ps (IsLeastNear t) (length ps) least)
     (are_kinds : (i : ℕ) → i < 2048 → IsKindByMask (get_or masks i 0) (block * 256 * slot_count t.pattern + i ≡ goal) (get_or kinds i 0)) where
   abbrev len : ℕ
@@ -78,7 +77,7 @@ module _ (t : Table) (block count : ℕ) (is : IsBlock t block count (slot_count
       let i : ℕ = row * slot_count t.pattern + j in
       let next : (row + 1) * slot_count t.pattern ≤ count * slot_count t.pattern = mul-le-mul_right (slot_count t.pattern) (let u : row + 1 ≤ count = omega arith in u) in
       let low : i < len = omega arith in
-      let both = rule_of_slot t is.table block count ps ranks long most whole goal home.0 home.1 home.2 masks kinds least are_masks are_least are_kinds row j (get_or block_entries i 0) v l get slot (let few = is.few in omega arith) in
+      let both = rule_of_slot t is.table block count ps ranks long most whole goal home.slot home.is_number home.in_slot masks kinds least are_masks are_least are_kinds row j (get_or block_entries i 0) v l get slot (let few = is.few in omega arith) in
       subst (λ x. KeepsRuleOfKind x (get_or (take len least) i 0) (get_or block_entries i 0) ↔ LocalRule t v.cells j (get_or block_entries i 0)) (sym (get_or-take len kinds i 0 low)) (
       subst (λ x. KeepsRuleOfKind (get_or kinds i 0) x (get_or block_entries i 0) ↔ LocalRule t v.cells j (get_or block_entries i 0)) (sym (get_or-take len least i 0 low)) both)
 
@@ -89,7 +88,7 @@ module _ (t : Table) (block count : ℕ) (is : IsBlock t block count (slot_count
   }
 
 pub parts_tell : {t : Table} {p : PatternView} {block count w goal : ℕ} {entries own mins marks : List ℕ} (ps : List PlacementView) (masks kinds least : List ℕ) → IsBlock t block count w → p ≡ t.pattern → HaveRanks p (block * 256) ps → length ps ≡ count
-    → (k : ℕ) × IsNumberOf t.pattern t.pattern.tiles k goal × IsSlot t.pattern.side t.pattern.tiles 0 k
+    → IsGoalNumber t.pattern goal
     → EachSlot t.pattern ps (IsRegion t.pattern.side) (length ps) masks → EachSlot t.pattern ps (IsLeastNear t) (length ps) least
     → ((i : ℕ) → i < 2048 → IsKindByMask (get_or masks i 0) (block * 256 * w + i ≡ goal) (get_or kinds i 0))
     → entries ≡ t.entries → own ≡ take (count * w) (drop (block * 256 * w) entries) → mins ≡ take (count * w) least → marks ≡ take (count * w) kinds → TellOf t block w own mins marks

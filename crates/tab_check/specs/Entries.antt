@@ -18,6 +18,12 @@ pub record IsNumberOf (p : PatternView) (cells : List ℕ) (j number : ℕ) : Ty
   pub slot : j < slot_count p
   pub counted : number ≡ rank * slot_count p + j
 
+-- the number of the entry of the goal's placement and of the region that has cell 0
+pub record IsGoalNumber (p : PatternView) (number : ℕ) : Type 0 where
+  pub slot : ℕ
+  pub in_slot : IsSlot p.side p.tiles 0 slot
+  pub is_number : IsNumberOf p p.tiles slot number
+
 -- the slot has a region: a cell of that slot
 pub record HasRegion (n : ℕ) (cells : List ℕ) (j : ℕ) : Type 0 where
   pub cell : ℕ

@@ -11,7 +11,7 @@ use tab_file::TableView;
 use tab_lanes::first_bad;
 
 /// How many placements a block has.
-pub(crate) const BLOCK_RANKS: u64 = 256;
+pub const BLOCK_RANKS: u64 = 256;
 
 /// The number of a block's least entry that breaks the local rule. A block has 256 placements, the last one what is left.
 pub fn check_block(table: &TableView<'_>, block: u64) -> Option<u64>

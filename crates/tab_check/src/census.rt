@@ -2,8 +2,7 @@
 
 ghost use Rattle.tab_check.specs.Counts.{IsCensusOf};
 
-use crate::entries::NO_WAY_HOME;
-use tab_lanes::{count_eq, greatest_count};
+use tab_lanes::{NO_WAY_HOME, count_eq, greatest_count};
 
 /// How many entries a table has, how many of them say that no walk leads home, and the greatest count.
 #[derive(Clone, Copy, Debug, PartialEq, Eq)]

@@ -3,10 +3,9 @@
 //! A column has a number for each slot of each placement, in the order of the entries.
 
 ghost use Rattle.std.specs.Prelude.{◌≡◌, ℕ, ◌+◌, ◌^◌, ◌<◌, ◌≤◌, IsTrue, length, slice_index, take};
-ghost use Rattle.pat_place.specs.Regions.{IsSlot};
 ghost use Rattle.tab_file.specs.Tables.{placement_count};
 ghost use Rattle.tab_check.specs.Columns.{HaveRanks, IsKindByMask};
-ghost use Rattle.tab_check.specs.Entries.{IsNumberOf};
+ghost use Rattle.tab_check.specs.Entries.{IsGoalNumber};
 
 use pat_place::{Pattern, Placement, next, rank, slot_of, unrank};
 use tab_file::TableView;
@@ -39,8 +38,8 @@ pub(crate) fn placements_from(
 }
 
 /// The number of the goal's entry: that of the goal's placement and of the region that has cell 0.
-pub(crate) fn goal_number(table: &TableView<'_>) -> u64
-    ensures { (j : ℕ) × IsNumberOf table.now.pattern table.now.pattern.tiles j result × IsSlot table.now.pattern.side table.now.pattern.tiles 0 j }
+pub fn goal_number(table: &TableView<'_>) -> u64
+    ensures { IsGoalNumber table.now.pattern result }
 {
     let pattern = table.pattern();
     let goal = Placement::goal(&pattern);

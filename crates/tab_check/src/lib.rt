@@ -5,17 +5,16 @@ mod block_checks;
 mod blocks;
 mod census;
 mod columns;
-mod entries;
 mod floods;
 mod jobs;
 pub mod laws;
-mod masks;
 mod neighbours;
 mod tables;
 #[cfg(test)]
 mod tests;
 
 pub use block_checks::{BlockCheck, EntryByEntry};
-pub use blocks::check_block;
+pub use blocks::{BLOCK_RANKS, check_block};
 pub use census::Census;
+pub use columns::goal_number;
 pub use tables::{CheckedTable, Count, TableFault, TableRefusal, check_table, check_table_by};

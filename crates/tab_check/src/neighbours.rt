@@ -12,12 +12,11 @@ ghost use Rattle.tab_check.specs.LocalRule.{IsLeastNear, IsLeastOf};
 ghost use Rattle.tab_check.specs.Moves.{IsEntryTowards, IsFoundTowards, IsRegion, IsTileIn, NoneTowards};
 
 use crate::columns::MOST_ENTRIES;
-use crate::entries::NO_WAY_HOME;
-use crate::masks::has_cell;
+use pat_place::masks::has_cell;
 use pat_place::{Placement, rank, slot_of};
 use puz_board::{Move, Side, step};
 use tab_file::TableView;
-use tab_lanes::min_into;
+use tab_lanes::{NO_WAY_HOME, min_into};
 
 /// The most cells that a board has.
 const MOST_CELLS: usize = 25;

@@ -20,7 +20,6 @@ ghost use Rattle.tab_check.specs.declared.tables.Count.TheVariants.{Finite, Neve
 
 use crate::block_checks::{BlockCheck, EntryByEntry};
 use crate::census::{Census, census_of};
-use crate::entries::{NO_REGION, NO_WAY_HOME};
 use crate::jobs::TableCheck;
 use pat_place::{Pattern, Placement, SlotTable, rank, slot_of};
 use puz_board::Board;
@@ -29,6 +28,7 @@ use std::marker::Model;
 use std::sync::Wait;
 use std::thread::Threads;
 use tab_file::{HeadFault, TableView, view};
+use tab_lanes::{NO_REGION, NO_WAY_HOME};
 use work_run::{Gate, run_jobs};
 
 /// Why bytes are no exact table file.
@@ -142,6 +142,7 @@ pub fn check_table_by<'a, R: Threads + Wait, G: Gate + Sync, C: BlockCheck + Syn
 
 impl<'a> CheckedTable<'a> {
     /// The same table, which keeps the slots of all its placements where their memory is granted: looks are faster then.
+    /// It may keep none; only speed depends on it.
     pub fn with_slots(self, alloc: Global) -> CheckedTable<'a>
         ensures { result ≡ self.entry }
     {

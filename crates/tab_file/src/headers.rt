@@ -10,7 +10,7 @@ use byteorder::{BigEndian, ByteOrder};
 use pat_place::Pattern;
 
 /// How many bytes a header has.
-pub(crate) const HEADER_LEN: usize = 20;
+pub const HEADER_LEN: usize = 20;
 
 /// How a header begins: the letters of the format, and its version.
 pub(crate) const SIGNATURE: &[u8; 5] = b"PDBT\x01";
@@ -35,7 +35,7 @@ pub enum HeadFault {
 }
 
 /// The header of the table files of a pattern.
-pub fn header_of(pattern: &Pattern) -> [u8; 20]
+pub fn header_of(pattern: &Pattern) -> [u8; HEADER_LEN]
     // With the entries of a table behind it, it is that table's file, and is viewed as that table.
     ensures file { (entries : List ℕ) → length entries ≡ entry_count pattern.now
         → IsTableFile (record { pattern = pattern.now; entries = entries }) (result ++ entries) }

@@ -4,7 +4,7 @@
 mod headers;
 mod views;
 
-pub use headers::{HeadFault, header_of};
+pub use headers::{HEADER_LEN, HeadFault, header_of};
 pub use views::{TableView, view};
 
 #[cfg(test)]

@@ -13,7 +13,9 @@ mod tests;
 pub use columns::min_into;
 pub use counts::{count_eq, greatest_count};
 pub use floods::{flood, flood_step};
-pub use rule::{GOAL_SLOT, OTHER_SLOT, WITHOUT_REGION, first_bad};
+pub use rule::{
+    GOAL_SLOT, GREATEST_COUNT, NO_REGION, NO_WAY_HOME, OTHER_SLOT, WITHOUT_REGION, first_bad,
+};
 
 /// How many bytes one vector has.
 pub(crate) const LANES: usize = 64;

@@ -8,13 +8,13 @@ use crate::LANES;
 use std::simd::prelude::*;
 
 /// The greatest count that an entry has.
-pub(crate) const GREATEST_COUNT: u8 = 253;
+pub const GREATEST_COUNT: u8 = 253;
 
 /// The entry of a slot without a region.
-const NO_REGION_ENTRY: u8 = 254;
+pub const NO_REGION: u8 = 254;
 
 /// The entry from which no walk leads home.
-const NO_WAY_HOME: u8 = 255;
+pub const NO_WAY_HOME: u8 = 255;
 
 /// How many bytes a short vector has.
 const FEW: usize = 16;
@@ -80,7 +80,7 @@ fn bad_lanes<const N: usize>(entries: Simd<u8, N>, mins: Simd<u8, N>, kinds: Sim
     ensures broken { (i : ℕ) → i < N → bit_at result i ≡ 1 → ¬ KeepsRuleAt entries.entry mins.entry kinds.entry i }
 {
     let no_region = kinds.simd_eq(Simd::splat(WITHOUT_REGION))
-        & entries.simd_eq(Simd::splat(NO_REGION_ENTRY));
+        & entries.simd_eq(Simd::splat(NO_REGION));
     let goal = kinds.simd_eq(Simd::splat(GOAL_SLOT)) & entries.simd_eq(Simd::splat(0));
     let one_more = mins.simd_lt(Simd::splat(GREATEST_COUNT))
         & entries.simd_eq(mins + Simd::splat(1));

@@ -1,22 +1,22 @@
 -- Parts of a table: the entries of a run between two ranks.
 use Rattle.std.proofs.Common.{◌≡◌, ◌≢◌, ℕ, ◌+◌, ◌-◌, ◌*◌, ◌<◌, ◌≤◌, List, length, get_or, inl, inr, sym, ◌∙◌, ap, subst, arith}
-use Rattle.std.proofs.lemmas.Bool.{cases_eq, cases_lt, false_from_ne_true}
+use Rattle.std.proofs.lemmas.Bool.{cases_eq, cases_lt}
 use Rattle.std.proofs.Math.Nat.{mul-le-mul_right}
-use Rattle.pat_place.specs.Patterns.{IsPattern, PatternView, has}
+use Rattle.pat_place.specs.Patterns.{IsPattern, PatternView}
 use Rattle.pat_place.specs.Placements.{IsFree}
 use Rattle.pat_place.specs.Ranks.{IsRank}
 use Rattle.pat_place.specs.Regions.{IsSlot}
-use Rattle.pat_place.proofs.PatternLemmas.{has_from_all}
 use Rattle.pat_place.proofs.RankLemmas.{IsRank-one}
 use Rattle.pat_place.proofs.SlotLemmas.{slot_one}
 use Rattle.tab_check.specs.BadEntries.{KeepsRule}
 use Rattle.tab_check.specs.Blocks.{IsLeastBadIn, first_of_block}
+use Rattle.tab_check.specs.Entries.{IsGoalNumber}
 use Rattle.tab_check.specs.LocalRule.{IsGoalSlot, no_region, goal as goal_kind, other as other_kind}
 use Rattle.tab_check.proofs.BlockLemmas.{same_cells}
 use Rattle.tab_file.specs.Tables.{Table, slot_count}
 use Rattle.tab_runs.specs.Checks.{AreKinds, IsFirstBadPlace, RunKeepsRule}
 use Rattle.tab_runs.specs.Kinds.{TellRegions}
-use Rattle.tab_runs.specs.Parts.{EntriesKeepRule, IsFirstBadEntry, IsGoalNumber}
+use Rattle.tab_runs.specs.Parts.{EntriesKeepRule, IsFirstBadEntry}
 use Rattle.tab_runs.specs.Runs.{IsFirstRank, IsRun, free_below, run_length, with_last}
 use Rattle.tab_runs.proofs.RowLemmas.{parts_one, place_low}
 use Rattle.tab_runs.proofs.RunLemmas.{placed_last}
@@ -103,13 +103,6 @@ part_low a b w l = mul-le-mul_right w l
 
 pub part_few : (p : PatternView) (cells : List ℕ) (count w : ℕ) → w ≡ slot_count p → count ≤ run_length p.side cells → count * w ≤ run_length p.side cells * slot_count p
 part_few p cells count w same l = subst (λ v. count * v ≤ run_length p.side cells * slot_count p) (sym same) (mul-le-mul_right (slot_count p) l)
-
--- cell 0 is free of a goal's tiles
-pub goal_free : (p : PatternView) → IsPattern p → IsFree p.side p.tiles 0
-goal_free p pat = (
-  (let h : 2 * p.side ≤ p.side * p.side = mul-le-mul_right p.side pat.low in let l = pat.low in omega arith),
-  false_from_ne_true (has p.tiles 0) (λ h. let l = (has_from_all (λ t. (0 < t) × (t < p.side * p.side)) p.tiles 0 pat.tiles h).0 in omega arith),
-)
 
 -- ---- from part to part of a block
 

@@ -1,9 +1,6 @@
 -- Parts of a table: the entries from one number up to another.
 use Rattle.std.specs.Prelude.{◌≡◌, ℕ, ◌*◌, ◌<◌, ◌≤◌, List}
-use Rattle.pat_place.specs.Patterns.{PatternView}
-use Rattle.pat_place.specs.Regions.{IsSlot}
 use Rattle.tab_check.specs.BadEntries.{IsBad, KeepsRule}
-use Rattle.tab_check.specs.Entries.{IsNumberOf}
 use Rattle.tab_file.specs.Tables.{Table, slot_count}
 use Rattle.tab_runs.specs.Runs.{IsFirstRank}
 
@@ -23,9 +20,3 @@ pub record IsBeforeRun (t : Table) (p : List ℕ) (before : ℕ) : Type 0 where
   pub first : ℕ
   pub is_first : IsFirstRank t.pattern.side p first
   pub counted : before ≡ first * slot_count t.pattern
-
--- the number of the entry of the goal's placement and of the region that has cell 0
-pub record IsGoalNumber (p : PatternView) (number : ℕ) : Type 0 where
-  pub slot : ℕ
-  pub in_slot : IsSlot p.side p.tiles 0 slot
-  pub is_number : IsNumberOf p p.tiles slot number

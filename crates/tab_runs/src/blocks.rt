@@ -6,11 +6,12 @@ ghost use Rattle.pat_place.specs.Patterns.{has};
 ghost use Rattle.pat_place.specs.Placements.{IsPlacement};
 ghost use Rattle.pat_place.specs.Ranks.{IsRank};
 ghost use Rattle.tab_check.specs.Blocks.{BlockKeepsRule, IsLeastBadIn, block_count};
+ghost use Rattle.tab_check.specs.Entries.{IsGoalNumber};
 ghost use Rattle.tab_file.specs.Tables.{placement_count, slot_count};
 ghost use Rattle.tab_lanes.specs.LocalRule.{goal_slot};
 ghost use Rattle.tab_runs.specs.Checks.{IsFirstBadPlace, RunKeepsRule};
 ghost use Rattle.tab_runs.specs.Kinds.{TellRegions};
-ghost use Rattle.tab_runs.specs.Parts.{EntriesKeepRule, IsBeforeRun, IsFirstBadEntry, IsGoalNumber};
+ghost use Rattle.tab_runs.specs.Parts.{EntriesKeepRule, IsBeforeRun, IsFirstBadEntry};
 ghost use Rattle.tab_runs.specs.Runs.{IsFirstRank, IsRun, run_length};
 ghost use Rattle.tab_runs.specs.RunsOfTables.{IsRunOf};
 ghost use Rattle.tab_runs.specs.Steps.{AreLeastNear};
@@ -21,13 +22,10 @@ use crate::masks;
 use crate::near::least_near;
 use crate::rows::RowTable;
 use crate::runs::{Run, run_entries};
-use pat_place::{Pattern, Placement, next, rank, slot_of, unrank};
-use tab_check::check_block;
+use pat_place::{Pattern, Placement, next, unrank};
+use tab_check::{BLOCK_RANKS, check_block, goal_number};
 use tab_file::TableView;
 use tab_lanes::{GOAL_SLOT, WITHOUT_REGION};
-
-/// How many placements a block has.
-const BLOCK_RANKS: u64 = 256;
 
 /// The table of rows doesn't have a set of cells.
 #[derive(Clone, Copy)]
@@ -42,7 +40,7 @@ pub fn check_runs(table: &TableView<'_>, rows: &RowTable, block: u64) -> Option<
 {
     let pattern = table.pattern();
     let run = placements_of_run(&pattern);
-    let goal = goal_number(&pattern);
+    let goal = goal_number(table);
     let first = block * BLOCK_RANKS;
     let end = pattern.count().min(first + BLOCK_RANKS);
     let mut placement = unrank(&pattern, first);
@@ -205,15 +203,6 @@ fn with_goal(told: &[u8], goal: usize) -> [u8; 256]
     }
     kinds[goal] = GOAL_SLOT;
     kinds
-}
-
-/// The number of the goal's entry.
-fn goal_number(pattern: &Pattern) -> u64
-    ensures { IsGoalNumber pattern.now result }
-{
-    let _side = pattern.side();
-    let goal = Placement::goal(pattern);
-    rank(&goal) * u64::from(pattern.width()) + u64::from(slot_of(&goal, 0))
 }
 
 /// How many placements a run has.

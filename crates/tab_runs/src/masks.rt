@@ -1,19 +1,10 @@
 //! Masks of 32 bits: bit x stands for the number x.
 
-ghost use Rattle.std.specs.Prelude.{◌≡◌, ℕ, ◌<◌, ◌≤◌, ◌↔◌, IsTrue, MatchOption};
+ghost use Rattle.std.specs.Prelude.{◌≡◌, ℕ, ◌<◌, ◌≤◌, MatchOption};
 ghost use Rattle.std.specs.Int.{bit_at};
 ghost use Rattle.tab_runs.specs.Outside.{IsLastOutside};
 
-pub(crate) use pat_place::masks::{all_below, first_of, put_numbers, with, without};
-
-/// Whether the mask has a number.
-#[inline]
-pub(crate) fn has_cell(mask: u32, number: u8) -> bool
-    requires { number < 32 }
-    ensures { IsTrue result ↔ (bit_at mask number ≡ 1) }
-{
-    mask >> number & 1 == 1
-}
+pub(crate) use pat_place::masks::{all_below, first_of, has_cell, put_numbers, with, without};
 
 /// The greatest number below `count` that the mask lacks.
 #[inline]

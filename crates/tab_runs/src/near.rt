@@ -16,6 +16,7 @@ use crate::masks;
 use crate::rows::RowTable;
 use crate::runs::{Run, run_entries};
 use tab_file::TableView;
+use tab_lanes::NO_WAY_HOME;
 
 /// The cells with one of them changed. Zeros stand behind them.
 #[inline]
@@ -199,7 +200,7 @@ pub(crate) fn least_near(table: &TableView<'_>, rows: &RowTable, run: &Run<'_>) 
     ensures { IfSome result (λ mins. AreLeastNear table.now run.now.cells.now mins) }
 {
     let _pattern = table.pattern();
-    let mut mins = [255; 256];
+    let mut mins = [NO_WAY_HOME; 256];
     if !take_tiles(table, rows, run, &mut mins) {
         return None;
     }
