@@ -5,7 +5,7 @@ ghost use Rattle.book_core.specs.declared.events.Event.{Event};
 ghost use Rattle.book_core.specs.declared.events.Answer.{Answer};
 ghost use Rattle.book_core.specs.Passes.{Deeds, fresh, with_drawn, with_end, with_report, with_seen};
 ghost use Rattle.book_core.specs.Places.{IsLeast, IsAtMost};
-ghost use Rattle.book_live.specs.Views.{view, alone, opening, changed, without_first, first_alone, together};
+ghost use Rattle.book_live.specs.Views.{view, alone, opening, without_first, first_alone, together};
 ghost use Rattle.book_live.specs.Shown.{place_of};
 ghost use Rattle.book_live.specs.Steps.{IsOneStep, claim_answer, Claimed, Placed, Looked};
 ghost use Rattle.book_live.specs.Callers.{ArePasses, all_deeds, IsEachDrawnOnce, IsOutcome, ShowsStart, numbered_passes, ShowsEnd, HoldsAll, IsWhole};

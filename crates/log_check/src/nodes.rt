@@ -1,6 +1,6 @@
 //! The nodes of trees, as they stand at the front of bytes.
 
-ghost use Rattle.std.specs.Prelude.{ℕ, ◌≤◌, List, IfNone, IfSome};
+ghost use Rattle.std.specs.Prelude.{◌≤◌, IfNone, IfSome};
 ghost use Rattle.log_check.specs.Nodes.{BeginsWith, BeginsWithNone};
 
 /// A node of a tree.

@@ -1,9 +1,9 @@
 //! Views of log files.
 
-ghost use Rattle.std.specs.Prelude.{◌≡◌, ◌⊎◌, ℕ, ◌<◌, ◌≤◌, ◌^◌, Err, IfErr, IfOk, Ok, Some, length, map, slice_get};
+ghost use Rattle.std.specs.Prelude.{◌≡◌, ◌⊎◌, ◌<◌, ◌≤◌, ◌^◌, Err, IfOk, Ok, Some, length, map, slice_get};
 ghost use Rattle.puz_board.specs.Boards.{IsBoardOf};
 ghost use Rattle.log_file.specs.FormFaults.{AreBoards, AreFilled, IsFaultOf, first_lemmas};
-ghost use Rattle.log_file.specs.LogFiles.{AreLemmas, IsLogFile};
+ghost use Rattle.log_file.specs.LogFiles.{IsLogFile};
 ghost use Rattle.log_file.specs.Logs.{IsLog, Lemma, Log};
 ghost use Rattle.log_file.specs.StoredLogs.{lemma_viewed};
 ghost use Rattle.log_file.specs.declared.faults.FormFault.{FormFault};

@@ -1,6 +1,6 @@
 //! Placements.
 
-ghost use Rattle.std.specs.Prelude.{◌≡◌, ℕ, ◌*◌, ◌^◌, ◌<◌, ◌≤◌, ◌-◌, true, List, count_ones, length, slice_index, slice_set, take, drop, replicate};
+ghost use Rattle.std.specs.Prelude.{◌≡◌, ℕ, ◌*◌, ◌^◌, ◌<◌, ◌-◌, true, List, count_ones, length, slice_index, slice_set, take, drop, replicate};
 ghost use Rattle.puz_board.specs.Boards.{IsBoard, IsGoal, side_of};
 ghost use Rattle.puz_board.specs.Masks.{IsMaskOf};
 ghost use Rattle.pat_place.specs.Patterns.{IsPattern, has};

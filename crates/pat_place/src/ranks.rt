@@ -3,8 +3,7 @@
 ghost use Rattle.std.specs.Prelude.{◌≡◌, ℕ, ◌+◌, ◌-◌, ◌<◌, ◌≤◌, count_ones, length, take, drop, replicate, slice_get, MatchBool};
 ghost use Rattle.std.specs.List.{AllByRecursion, range_with_len};
 ghost use Rattle.std.specs.Bool.{OnFalse};
-ghost use Rattle.std.specs.Int.{bit_at};
-ghost use Rattle.puz_board.specs.Masks.{numbers_of, ones_below};
+ghost use Rattle.puz_board.specs.Masks.{numbers_of};
 ghost use Rattle.pat_place.specs.Placements.{IsApart, IsPlacement};
 ghost use Rattle.pat_place.specs.Ranks.{IsRank, lists_of, placements};
 

@@ -1,6 +1,6 @@
 //! The inputs of a command.
 
-ghost use Rattle.std.specs.Prelude.{◌≡◌, ◌≤◌, ◌++◌, ◌∷◌, [], length, map, IfOk, IfErr, OnOk};
+ghost use Rattle.std.specs.Prelude.{◌≡◌, map, IfOk, IfErr, OnOk};
 ghost use Rattle.pdb_run.specs.Readings.{AreRead, IsFirstUnread, IsNext, IsRead, IsUnread, Tells, left, left_by_all, wanted_of};
 ghost use Rattle.pdb_run.specs.Replies.{all_bytes};
 

@@ -1,6 +1,6 @@
 //! What is written of an answer.
 
-ghost use Rattle.std.specs.Prelude.{◌≡◌, ◌++◌, OnOk, OnErr};
+ghost use Rattle.std.specs.Prelude.{◌++◌, OnOk, OnErr};
 ghost use Rattle.std.specs.Io.KnownBytes.{Appends};
 ghost use Rattle.pdb_io.specs.Streams.{AppendsFront};
 ghost use Rattle.pdb_run.specs.Lines.{all_files, digests_of, list_of, reply_text};

@@ -1,6 +1,6 @@
 //! Whether a log proves that no solution of a board has fewer moves than its bound.
 
-ghost use Rattle.std.specs.Prelude.{◌≡◌, ◌≤◌, length, map, IfOk, OnErr};
+ghost use Rattle.std.specs.Prelude.{◌≤◌, length, map, IfOk, OnErr};
 ghost use Rattle.set_sum.specs.Bounds.{IsBounded};
 ghost use Rattle.pdb_run.specs.Replies.{all_bytes, reply_of};
 ghost use Rattle.pdb_run.specs.Runs.{Ends, world};

@@ -1,6 +1,6 @@
 //! Set texts: a line for each set, with the numbers of its tables.
 
-ghost use Rattle.std.specs.Prelude.{◌≡◌, ℕ, ◌+◌, ◌<◌, ◌≤◌, ◌∷◌, ◌++◌, ◌⊎◌, [], false, if◌then◌else◌, IfErr, IfOk, IfSome, IsSome, IsSomeAnd, List, length, map, option_map};
+ghost use Rattle.std.specs.Prelude.{◌≡◌, ℕ, ◌+◌, ◌<◌, ◌≤◌, ◌∷◌, ◌++◌, ◌⊎◌, [], false, IfErr, IfOk, IfSome, IsSome, IsSomeAnd, List, map, option_map};
 ghost use Rattle.set_sum.specs.ReadLines.{AreRead, IsRead, IsReadLine, ending};
 ghost use Rattle.set_sum.specs.SetTexts.{AreLines, IsFirstBadLine, IsLine, line_of, numeral};
 

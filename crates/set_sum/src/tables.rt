@@ -1,6 +1,6 @@
 //! The tables of a bundle: their side, which of them share tiles, and what some of them tell of a board together.
 
-ghost use Rattle.std.specs.Prelude.{◌≡◌, ℕ, ◌<◌, ◌≤◌, ◌↔◌, IfErr, IfOk, IsTrue, List, length, map};
+ghost use Rattle.std.specs.Prelude.{◌≡◌, ℕ, ◌<◌, ◌≤◌, ◌↔◌, IfErr, IfOk, IsTrue, List, length};
 ghost use Rattle.std.specs.List.{AllByRecursion};
 ghost use Rattle.set_sum.specs.Bundles.{members};
 ghost use Rattle.set_sum.specs.Reading.{AreAlike, IsFaultOf, NamesOverlap, first_side, patterns_of};

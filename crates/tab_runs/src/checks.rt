@@ -1,6 +1,6 @@
 //! The check of a run: the first entry between two places that breaks the local rule.
 
-ghost use Rattle.std.specs.Prelude.{◌≡◌, ◌+◌, ◌*◌, ◌≤◌, MatchOption, length};
+ghost use Rattle.std.specs.Prelude.{◌+◌, ◌*◌, ◌≤◌, MatchOption, length};
 ghost use Rattle.tab_file.specs.Tables.{slot_count};
 ghost use Rattle.tab_runs.specs.Checks.{AreKinds, IsFirstBadPlace, RunKeepsRule};
 ghost use Rattle.tab_runs.specs.Runs.{run_length};
