@@ -14,7 +14,7 @@
  *
  * `check` walks the trees of a log, and prints how long that took for each of their bytes.
  *
- * The tables have no tile in common, are files as benches/make_table.c writes them, and are believed. The set text is
+ * The tables have no tile in common, are files as `pdb_cli make-table` makes them, and are believed. The set text is
  * `set 0 1 ..` with the numbers of them all. The status is 0, or 1 where a log isn't good or a bound isn't true, or 2
  * where the words are wrong, memory is refused or a file fails. Nothing here is proved, and nothing rests on it. */
 #include <stdint.h>

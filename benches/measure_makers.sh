@@ -17,7 +17,6 @@
 # - "peak" is the most memory that was resident, in one further run.
 # - Boards a second: the search for each board, which is the end of a random walk, is ended by a budget (K1), so it
 #   expands as many boards as the budget says. What the same run takes with a budget of 1 is taken off.
-# - `make_table` is benches/make_table.c, a plain maker of one thread.
 set -euo pipefail
 export LC_ALL=C
 
@@ -47,7 +46,7 @@ measure() { # NAME LINE WORD..
 }
 
 measure_tables() {
-    local table side mask workers begin end
+    local table side mask workers
     for table in "${tables[@]}"; do
         read -r side mask <<<"$table"
         for workers in 1 2 4; do
@@ -57,11 +56,6 @@ measure_tables() {
         cp "$table" refused
         printf '\1' | dd of=refused bs=1 seek=7 conv=notrunc status=none
         measure "$table digest" 'refused T4$' table refused
-        begin=${EPOCHREALTIME/./}
-        ./make_table "$side" "$mask" plain >/dev/null
-        end=${EPOCHREALTIME/./}
-        times[$table plain]+=$((end - begin))$'\n'
-        cmp -s plain "$table" || fail "another table of $table"
     done
 }
 
@@ -92,10 +86,10 @@ table_row() { # TABLE WORKERS
     local side mask
     read -r side mask <<<"$1"
     awk -v table="side $side mask $mask" -v workers="$2" -v make="$(least "$1 make $2")" -v made="$(median "$1 make $2")" \
-        -v check="$(least "$1 check $2")" -v digest="$(least "$1 digest")" -v plain="$(least "$1 plain")" \
+        -v check="$(least "$1 check $2")" -v digest="$(least "$1 digest")" \
         -v peak="$(peak make-table "$side" "$mask" again --workers "$2")" 'BEGIN {
-        printf "| %s | %d | %.0f (%.0f) | %.0f | %.0f | %.0f | %.0f | %s |\n", table, workers, make / 1e3, made / 1e3,
-            (make - check) / 1e3, check / 1e3, digest / 1e3, plain / 1e3, peak }'
+        printf "| %s | %d | %.0f (%.0f) | %.0f | %.0f | %.0f | %s |\n", table, workers, make / 1e3, made / 1e3,
+            (make - check) / 1e3, check / 1e3, digest / 1e3, peak }'
 }
 
 search_row() { # SEED
@@ -108,7 +102,6 @@ load=$(cut -d ' ' -f 1 /proc/loadavg)
 work=$(mktemp -d)
 trap 'rm -r "$work"' EXIT
 cd "$work"
-cc -O2 -o make_table "$root/benches/make_table.c"
 cc -O2 -o make_log "$root/benches/make_log.c"
 for mask in "${parts[@]}"; do
     "$program" make-table 4 "$mask" "$mask" >output
@@ -125,8 +118,8 @@ done
 echo "$(nproc) processors ($(sed -n 's/^model name.*: //p;T;q' /proc/cpuinfo)), load $load before;" \
     "$repeats rounds; least (median), in ms"
 echo
-echo '| table | workers | `make-table` | build | check | digest | `make_table` | peak, MiB |'
-echo '|---|---|---|---|---|---|---|---|'
+echo '| table | workers | `make-table` | build | check | digest | peak, MiB |'
+echo '|---|---|---|---|---|---|---|'
 for table in "${tables[@]}"; do
     for workers in 1 2 4; do
         table_row "$table" "$workers"
