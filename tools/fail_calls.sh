@@ -8,10 +8,11 @@
 #     tools/fail_calls.sh table FILE --workers 4 </dev/null
 #
 # Its arguments are the program's words, and its standard input is the program's. Names are those of files in the folder that
-# it is called in, of which each run gets a copy. It needs `strace`, Debian's package. The calls are those of the program's
-# first thread, behind those by which the system starts it. A line is written for each kind of call, with what was answered,
-# and for each run that ends otherwise; last `N passed, M failed`. The status is 0 if all passed, and otherwise not. The program
-# is that of the variable PROGRAM, a path; without it, the launcher builds it where that is needed.
+# it is called in, of which each run gets a copy. It needs `strace` and `gdb`, Debian's packages. The calls are those of the
+# program's first thread, behind those by which the system starts it, and those of its other threads, in the order in which
+# these make them, whichever it is. A line is written for each kind of call, with what was answered, and for each run that ends
+# otherwise; last `N passed, M failed`. The status is 0 if all passed, and otherwise not. The program is that of the variable
+# PROGRAM, a path; without it, the launcher builds it where that is needed.
 set -uo pipefail
 
 # How each call may fail. Of `brk` the system tells no error, but that memory ends where it did. `munmap` is left out: glibc
@@ -42,14 +43,31 @@ list_files() {
     (cd "$work/files" && find . -type f -exec sha256sum {} + | sort)
 }
 
-# Runs the program with the words behind $1 in a copy of the files. $1 says which call fails, and is empty where none does.
-run() {
+# Runs a command by which the program is run, in a copy of the files.
+run_by() {
     local status=0
     rm -rf "$work/files" && cp -a "$work/given" "$work/files"
-    (cd "$work/files" && exec strace -f -q -o "$work/calls" ${1:+-e "inject=$1"} "$program" "${@:2}" \
-        <"$work/input" >"$work/output" 2>"$work/errors") 2>/dev/null || status=$?
+    (cd "$work/files" && exec "$@") 2>/dev/null || status=$?
     echo "status $status" >>"$work/output"
     list_files >"$work/left"
+}
+
+# Runs the program with the words behind $1. $1 says which call of the first thread fails, and is empty where none does.
+run() {
+    run_by strace -f -q -o "$work/calls" ${1:+-e "inject=$1"} "$program" "${@:2}" \
+        <"$work/input" >"$work/output" 2>"$work/errors"
+}
+
+# Runs the program with the words behind $3, where the call $1 of another thread than the first fails by $2 that comes behind
+# $before others. The status is not 0 where there was none.
+run_thread() {
+    local call=$1 result=$2 words=
+    [ "$#" = 2 ] || printf -v words '%q ' "${@:3}"
+    [[ $result = retval=* ]] || result=$(python3 -c 'import errno, sys; print(-getattr(errno, sys.argv[1]))' "${result#*=}")
+    SHELL=$BASH run_by gdb -batch -nx -q -ex "set \$before = $before" -ex "set \$result = ${result#*=}" \
+        -ex "catch syscall $call" -ex "set args $words <$work/input >$work/output 2>$work/errors" \
+        -x "$root/tools/fail_thread_call.gdb" "$program" </dev/null >"$work/debugger" 2>&1
+    grep -q '^a call has failed' "$work/debugger"
 }
 
 # How often a call was made by the first thread, in the lines of standard input.
@@ -101,9 +119,21 @@ read -r first _ <"$work/own_calls"
 passed=0
 failed=0
 
+# Counts a run, with the program's words behind $2: $1 is the call that failed, and $2 says how.
+count() {
+    if judge "$1" "${@:3}"; then
+        passed=$((passed + 1))
+    else
+        failed=$((failed + 1))
+        printf 'FAILED: %s %s:\n' "$1" "$2"
+        cat "$work/output" "$work/errors" "$work/left"
+    fi
+    answers[$told]=$((${answers[$told]-0} + 1))
+}
+
 # Has each call $1 of the program fail in the way $2, with the program's words behind them.
 fail_each() {
-    local call=$1 fault=$2 number from to
+    local call=$1 fault=$2 number from to before=0
     local -A answers=()
     shift 2
     # The program's own calls begin where it turns off the signal of a closed pipe.
@@ -111,15 +141,18 @@ fail_each() {
     to=$(count_of "$call" <"$work/own_calls")
     for ((number = from + 1; number <= to; number++)); do
         run "$call:$fault:when=$number" "$@"
-        if judge "$call" "$@"; then
-            passed=$((passed + 1))
-        else
-            failed=$((failed + 1))
-            printf 'FAILED: %s %s, call %s:\n' "$call" "$fault" "$number"
-            cat "$work/output" "$work/errors" "$work/left"
-        fi
-        answers[$told]=$((${answers[$told]-0} + 1))
+        count "$call" "$fault, call $number" "$@"
     done
+    if grep -v "^$first " "$work/own_calls" | grep -q "^[0-9]* *$call("; then
+        while run_thread "$call" "$fault" "$@"; do
+            before=$((before + 1))
+            count "$call" "$fault, call $before of other threads" "$@"
+        done
+        if [ "$before" = 0 ]; then
+            failed=$((failed + 1))
+            echo "FAILED: $call $fault: other threads make that call, and gdb has none of theirs fail"
+        fi
+    fi
     for told in "${!answers[@]}"; do
         echo "$call $fault: ${answers[$told]} times $told" >>"$work/table"
     done

@@ -6,7 +6,7 @@
 #
 # PROGRAM is the program to run; without it, that is what the launcher builds. What these scripts tell of runs that end
 # otherwise goes to standard error. The last line is `N passed, M failed`, and the status is 0 if all passed. It needs
-# python3, and cc or strace, as these scripts do.
+# python3, and cc, or strace and gdb, as these scripts do.
 # The names of rows have backquotes of their own.
 # shellcheck disable=SC2016
 set -uo pipefail
