@@ -84,7 +84,7 @@ impl SlotTable {
     }
 }
 
-/// Puts a set of cells and the slots of its free cells behind those that are there.
+/// Puts a set of cells and the slots of its free cells behind those that are there. Without them only speed is lost.
 fn push_set(
     pattern: &Pattern,
     set: u32,

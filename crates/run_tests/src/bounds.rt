@@ -7,7 +7,6 @@ use samples::files::{TILE_1, TILE_3, TILE_24, TILES_12, TILES_123};
 use samples::logs::{BRANCHES, CITATION, LEAF, UNSOLVABLE};
 use std::alloc::{AllocError, Global};
 use std::sync::Wait;
-use std::sync::atomic::{AtomicBool, Ordering};
 use std::test::Fail;
 use std::thread::Threads;
 use work_run::{Gate, OpenGate};
@@ -258,21 +257,6 @@ fn inputs_that_can_not_be_read_are_named(rt: HostRuntime) -> Result<(), Fail> {
     Ok(())
 }
 
-/// Lets the first job of all pass, which is a table's, and is another gate to the others.
-#[derive(Drop)]
-struct BehindTheFirst<'a> {
-    gate: HoldingGate<'a>,
-    begun: AtomicBool,
-}
-
-impl<'a> Gate for BehindTheFirst<'a> {
-    fn before(&self, job: u64) {
-        if self.begun.swap(true, Ordering::SeqCst) {
-            self.gate.before(job);
-        }
-    }
-}
-
 #[test]
 fn two_workers_check_lemmas_side_by_side(rt: HostRuntime) -> Result<(), Fail> {
     let cases = [
@@ -280,13 +264,11 @@ fn two_workers_check_lemmas_side_by_side(rt: HostRuntime) -> Result<(), Fail> {
         ("optimal six_moves one_set citation f12", "optimal 6"),
     ];
     for (words, line) in cases {
-        let gate = BehindTheFirst {
-            gate: HoldingGate::new(&[0], &[1]),
-            begun: AtomicBool::new(false),
-        };
+        // The first job of all is the table's.
+        let gate = HoldingGate::new(&[0], &[1]).among(1..u64::MAX);
         let want = lines(rt.alloc(), words, line)?;
         checked_by(&rt, rt.alloc(), words, "2", &gate)?.expect(want.as_bytes(), 0)?;
-        assert!(rt; gate.gate.saw_all(), "one worker alone: {words}");
+        assert!(rt; gate.saw_all(), "one worker alone: {words}");
     }
     Ok(())
 }

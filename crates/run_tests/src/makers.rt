@@ -7,10 +7,8 @@ use samples::files::{TILE_24, TILES_12, TILES_123};
 use samples::{HoldingGate, LeastCosts};
 use std::alloc::{AllocError, Global};
 use std::sync::Wait;
-use std::sync::atomic::{AtomicU64, Ordering};
 use std::test::Fail;
 use std::thread::Threads;
-use work_run::Gate;
 
 const DIGEST_OF_123: &str = "5c515b94b4098a8408358078f3f9b8b3e46255c04334fedd62c8e67da63d237b";
 
@@ -258,21 +256,6 @@ fn the_one_move_home_is_told(rt: HostRuntime) -> Result<(), Fail> {
     Ok(())
 }
 
-/// Another gate to the first two jobs of all, which are a table's, and lets the others pass.
-#[derive(Drop)]
-struct TheFirstTwo<'a> {
-    gate: HoldingGate<'a>,
-    begun: AtomicU64,
-}
-
-impl<'a> Gate for TheFirstTwo<'a> {
-    fn before(&self, job: u64) {
-        if self.begun.fetch_add(1, Ordering::SeqCst) < 2 {
-            self.gate.before(job);
-        }
-    }
-}
-
 #[test]
 fn two_workers_check_the_table_of_a_search_side_by_side(rt: HostRuntime) -> Result<(), Fail> {
     let alloc = rt.alloc();
@@ -284,14 +267,12 @@ fn two_workers_check_the_table_of_a_search_side_by_side(rt: HostRuntime) -> Resu
     ];
     let mut shelf = MemShelf::of(alloc, &files)?;
     let mut reader = b"".as_slice();
-    let gate = TheFirstTwo {
-        gate: HoldingGate::new(&[0], &[1]),
-        begun: AtomicU64::new(0),
-    };
+    // The first two jobs of all are the table's.
+    let gate = HoldingGate::new(&[0], &[1]).among(0..2);
     let words = ["solve", "one", "sets", "o", "three", "--workers", "2"];
     let ended = ran_by(&rt, alloc, &words, &mut shelf, &mut reader, &gate)?;
     assert!(rt; ended.status == 0 && ended.out.ends_with(b"\nmoves L\noptimal 1\n"));
-    assert!(rt; gate.gate.saw_all(), "one worker alone");
+    assert!(rt; gate.saw_all(), "one worker alone");
     Ok(())
 }
 

@@ -1,6 +1,7 @@
 //! Gates that hold workers, and a log of what happens in which order.
 
 use std::alloc::{AllocError, Global};
+use std::ops::Range;
 use std::sync::atomic::{AtomicU64, Ordering};
 use std::thread::yield_now;
 use work_run::Gate;
@@ -13,6 +14,8 @@ const LOOKS: u64 = 20_000_000;
 pub struct HoldingGate<'a> {
     held: &'a [u64],
     awaited: &'a [u64],
+    places: Range<u64>,
+    came: AtomicU64,
     entered: AtomicU64,
     let_on: AtomicU64,
 }
@@ -23,9 +26,17 @@ impl<'a> HoldingGate<'a> {
         HoldingGate {
             held,
             awaited,
+            places: 0..u64::MAX,
+            came: AtomicU64::new(0),
             entered: AtomicU64::new(0),
             let_on: AtomicU64::new(0),
         }
+    }
+
+    /// The same gate to the jobs with these places, from 0, in the order in which all jobs come. The others pass.
+    pub fn among(mut self, places: Range<u64>) -> HoldingGate<'a> {
+        self.places = places;
+        self
     }
 
     /// Whether each of the held jobs came, and saw all the others entered before its looks ran out.
@@ -36,22 +47,29 @@ impl<'a> HoldingGate<'a> {
     fn is_open(&self) -> bool {
         self.entered.load(Ordering::SeqCst) == self.awaited.len() as u64
     }
-}
 
-impl<'a> Gate for HoldingGate<'a> {
-    fn before(&self, job: u64) {
-        if self.awaited.contains(&job) {
-            self.entered.fetch_add(1, Ordering::SeqCst);
-        }
-        if !self.held.contains(&job) {
-            return;
-        }
+    fn wait(&self) {
         for _ in 0..LOOKS {
             if self.is_open() {
                 self.let_on.fetch_add(1, Ordering::SeqCst);
                 return;
             }
             yield_now();
+        }
+    }
+}
+
+impl<'a> Gate for HoldingGate<'a> {
+    fn before(&self, job: u64) {
+        let place = self.came.fetch_add(1, Ordering::SeqCst);
+        if !self.places.contains(&place) {
+            return;
+        }
+        if self.awaited.contains(&job) {
+            self.entered.fetch_add(1, Ordering::SeqCst);
+        }
+        if self.held.contains(&job) {
+            self.wait();
         }
     }
 }

@@ -52,6 +52,18 @@ fn a_gate_holds_nobody_once_all_others_came(rt: HostRuntime) {
 }
 
 #[test]
+fn a_gate_lets_jobs_of_other_places_pass(rt: HostRuntime) {
+    let gate = HoldingGate::new(&[0], &[1]).among(1..3);
+    gate.before(0);
+    gate.before(1);
+    assert!(rt; !gate.saw_all());
+    gate.before(0);
+    assert!(rt; gate.saw_all());
+    gate.before(0);
+    assert!(rt; gate.saw_all());
+}
+
+#[test]
 fn a_log_keeps_the_order_and_counts_what_it_has_no_room_for(rt: HostRuntime) -> Result<(), Fail> {
     let log = Log::new(rt.alloc(), 2)?;
     log.before(7);

@@ -133,7 +133,7 @@ fn rows_of(alloc: Global, pattern: &Pattern, cells: &[u8], set: u32) -> Result<S
     Ok(SetRows { rows, kinds })
 }
 
-/// Puts a set of cells, its rows and its kinds behind those that are there.
+/// Puts a set of cells, its rows and its kinds behind those that are there. Without them only speed is lost.
 pub(crate) fn push_set(
     alloc: Global,
     pattern: &Pattern,

@@ -13,10 +13,9 @@ use samples::logs::{BRANCHES, CITATION, LEAF, UNSOLVABLE};
 use std::alloc::{AllocError, Global};
 use std::process::Abort;
 use std::sync::Wait;
-use std::sync::atomic::{AtomicBool, Ordering};
 use std::test::Fail;
 use std::thread::Threads;
-use work_run::{Gate, OpenGate};
+use work_run::OpenGate;
 
 /// No log file.
 const LOG: &[u8] = b"abc";
@@ -124,21 +123,6 @@ fn as_many_moves_as_the_bound_are_the_fewest(rt: HostRuntime) -> Result<(), Fail
     Ok(())
 }
 
-/// Lets the first job of all pass, which is a table's, and is another gate to the others.
-#[derive(Drop)]
-struct BehindTheFirst<'a> {
-    gate: HoldingGate<'a>,
-    begun: AtomicBool,
-}
-
-impl<'a> Gate for BehindTheFirst<'a> {
-    fn before(&self, job: u64) {
-        if self.begun.swap(true, Ordering::SeqCst) {
-            self.gate.before(job);
-        }
-    }
-}
-
 #[test]
 fn two_workers_check_lemmas_side_by_side(rt: HostRuntime) -> Result<(), Fail> {
     let alloc = rt.alloc();
@@ -149,12 +133,10 @@ fn two_workers_check_lemmas_side_by_side(rt: HostRuntime) -> Result<(), Fail> {
         log: &CITATION,
         tables: tables.as_slice(),
     };
-    let gate = BehindTheFirst {
-        gate: HoldingGate::new(&[0], &[1]),
-        begun: AtomicBool::new(false),
-    };
+    // The first job of all is the table's.
+    let gate = HoldingGate::new(&[0], &[1]).among(1..u64::MAX);
     let answer = verify(&rt, alloc, &inputs, 2, &gate);
-    assert!(rt; answer == Ok(Verdict::Bound(6)) && gate.gate.saw_all());
+    assert!(rt; answer == Ok(Verdict::Bound(6)) && gate.saw_all());
     Ok(())
 }
 
