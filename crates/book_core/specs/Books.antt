@@ -3,6 +3,7 @@ use Rattle.std.specs.Prelude.{◌≡◌, ℕ, ◌+◌, ◌≤◌, ◌^◌, List,
 use Rattle.std.specs.List.{count_by}
 use Rattle.book_core.specs.Passes.{Deeds, fresh}
 
+-- the state of a book
 pub record Book : Type 0 where
   -- how many jobs there are: the numbers below this
   pub jobs : ℕ
@@ -13,6 +14,7 @@ pub record Book : Type 0 where
   -- the passes, by their numbers
   pub passes : List Deeds
 
+-- a book of so many jobs and passes, before the first event
 abbrev pub start : ℕ → ℕ → Book
 start jobs workers = record { jobs = jobs; next = 0; least = None; passes = replicate workers fresh }
 
@@ -24,8 +26,12 @@ SameSizes old new = (new.jobs ≡ old.jobs) × (length new.passes ≡ length old
 abbrev pub ended_count : List Deeds → ℕ
 ended_count passes = count_by (λ p. p.ended) passes
 
+-- a book has at most so many passes
+abbrev pub most_passes : ℕ
+most_passes = 64
+
 -- next stays far below 2 ^ 64, as each claim draws a job or ends a pass
 pub record IsInRange (b : Book) : Type 0 where
   pub jobs : b.jobs ≤ 2 ^ 32
-  pub passes : length b.passes ≤ 64
+  pub passes : length b.passes ≤ most_passes
   pub next : b.next ≤ b.jobs + ended_count b.passes

@@ -5,6 +5,7 @@ use Rattle.book_core.specs.Books.{Book, ended_count}
 use Rattle.book_core.specs.Jobs.{times_drawn, drawn_count, once_below}
 use Rattle.book_core.specs.Places.{IsReported, IsLeast, IsAtMost}
 
+-- what holds of a book after any events from its start
 pub record BookLaw (b : Book) : Type 0 where
   -- the drawn jobs are the numbers below the smaller of next and jobs, each once
   pub once : (job : ℕ) → times_drawn job b.passes ≡ once_below job (min b.next b.jobs)

@@ -13,6 +13,7 @@ pub record Run : Type 0 where
   pub answers : List Answer
   pub fault : Option CoreFault
 
+-- the run after a step with this outcome
 abbrev pub after_step : Run → Outcome → Run
 after_step r (Ok (b, a)) = record { book = b; answers = r.answers ++ a ∷ []; fault = None }
 after_step r (Err f) = record r { fault = Some f }
@@ -22,6 +23,7 @@ abbrev pub unless_ended : Option CoreFault → Run → Event → Run
 unless_ended None r e = after_step r (step r.book e)
 unless_ended (Some f) r e = r
 
+-- the run after one more event
 abbrev pub run_on : Run → Event → Run
 run_on r e = unless_ended r.fault r e
 

@@ -10,6 +10,7 @@ pub record NumberedPass : Type 0 where
   pub number : ℕ
   pub deeds : Deeds
 
+-- the pass of this number, which has done this
 abbrev pub numbered_pass : ℕ → Deeds → NumberedPass
 numbered_pass w p = record { number = w; deeds = p }
 
@@ -27,11 +28,12 @@ abbrev pub all_fresh : ℕ → ℕ → List NumberedPass
 all_fresh w zero = []
 all_fresh w (suc n) = numbered_pass w fresh ∷ all_fresh (suc w) n
 
--- the first pass of a share, and the others
+-- the first pass of a share, by itself
 abbrev pub first : List NumberedPass → List NumberedPass
 first [] = []
 first (h ∷ hs) = h ∷ []
 
+-- the share without its first pass
 abbrev pub others : List NumberedPass → List NumberedPass
 others [] = []
 others (h ∷ hs) = hs

@@ -16,19 +16,23 @@ pass_of (Claim w) = w
 pass_of (Report w place) = w
 pass_of (Look w) = w
 
--- the book after each kind of step by the pass w, which had done p
+-- the book after the next job was drawn by the pass w, which had done p
 abbrev pub drawn_by : Book → ℕ → Deeds → Book
 drawn_by b w p = record b { next = b.next + 1; passes = slice_set b.passes w (with_drawn p b.next) }
 
+-- the book after a claim that ended the pass w, which had done p
 abbrev pub ended_by : Book → ℕ → Deeds → Book
 ended_by b w p = record b { next = b.next + 1; passes = slice_set b.passes w (with_end p) }
 
+-- the book after a place was reported by the pass w, which had done p
 abbrev pub reported_by : Book → ℕ → ℕ → Deeds → Book
 reported_by b w place p = record b { least = Some (lesser b.least place); passes = slice_set b.passes w (with_report p place) }
 
+-- the book after a look of the pass w, which had done p
 abbrev pub looked_by : Book → ℕ → Deeds → Book
 looked_by b w p = record b { passes = slice_set b.passes w (with_seen p b.least) }
 
+-- what a step comes to: the book after it and the answer, or why it is refused
 abbrev pub Outcome : Type 0
 Outcome = Result (Book × Answer) CoreFault
 
@@ -51,6 +55,7 @@ abbrev pub by_pass : Option Deeds → (Deeds → Outcome) → Outcome
 by_pass None act = Err C1
 by_pass (Some p) act = act p
 
+-- what an event comes to in a book
 abbrev pub step : Book → Event → Outcome
 step b (Claim w) = by_pass (slice_get b.passes w) (claims b w)
 step b (Report w place) = by_pass (slice_get b.passes w) (reports b w place)

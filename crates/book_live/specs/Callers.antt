@@ -33,6 +33,7 @@ pub record ArePasses (b : BookId) (P : PassState → Type 0) (passes : List Pass
 abbrev pub IsNewPass : BookId → ℕ → PassState → Type 0
 IsNewPass b number p = (p.book ≡ b) × (p.number ≡ number) × (p.deeds ≡ fresh)
 
+-- what each of the passes has done, in the same order
 abbrev pub all_deeds : List PassState → List Deeds
 all_deeds passes = map (λ p. p.deeds) passes
 
@@ -51,6 +52,7 @@ pub record ShowsStart (b : BookId) (passes : List PassState) : Type 0 where
   pub shows : Shows b.sizes (start b.sizes.jobs b.sizes.workers) state
   pub own : (k : ℕ) (p : PassState) → slice_get passes k ≡ Some p → get_elem? state.views (k + 1) ≡ some (alone b.sizes p.number p.deeds)
 
+-- the share of these passes: the number of each, and what it has done
 abbrev pub numbered_passes : List PassState → List NumberedPass
 numbered_passes passes = map (λ p. numbered_pass p.number p.deeds) passes
 

@@ -3,7 +3,7 @@ use Rattle.std.specs.Prelude.{◌≡◌, ℕ, ◌≤◌, ◌^◌, if◌then◌el
 use Rattle.atomic_table.specs.Table.{State}
 use Rattle.book_core.specs.declared.events.Event.{Event}
 use Rattle.book_core.specs.declared.events.Answer.{Answer}
-use Rattle.book_core.specs.Books.{Book}
+use Rattle.book_core.specs.Books.{Book, most_passes}
 use Rattle.book_core.specs.Runs.{going, after}
 use Rattle.book_core.specs.Shares.{IsDealt}
 use Rattle.book_live.specs.declared.views.Sizes.{Sizes}
@@ -23,8 +23,9 @@ word_of (Some place) = place
 abbrev pub place_of : ℕ → Option ℕ
 place_of word = (if nat_lt word (2 ^ 32) then Some word else None)
 
+-- there are at most 2 ^ 32 jobs and at most 64 passes
 abbrev pub IsInLimits : Sizes → Type 0
-IsInLimits z = (z.jobs ≤ 2 ^ 32) × (z.workers ≤ 64)
+IsInLimits z = (z.jobs ≤ 2 ^ 32) × (z.workers ≤ most_passes)
 
 -- the words and the views show this book: each of its passes stands in the view of one seat
 pub record Shows {S : Type 0} (z : Sizes) (b : Book) (s : State S View) : Type 0 where
@@ -34,5 +35,6 @@ pub record Shows {S : Type 0} (z : Sizes) (b : Book) (s : State S View) : Type 0
   pub least : slice_index s.words 1 ≡ word_of b.least
   pub dealt : IsDealt b (shares s.views)
 
+-- the words and the views show a book to which some list of events leads
 abbrev pub Shown : {S : Type 0} → Sizes → State S View → Type 0
 Shown z s = (b : Book) × IsReached z b × Shows z b s

@@ -7,6 +7,7 @@ use Rattle.puz_board.specs.Boards.{IsBoardOf, side_of}
 use Rattle.puz_board.proofs.BoardLemmas.{side_of-board}
 use Rattle.tab_check.proofs.ValueLemmas.{same_list_decided}
 use Rattle.set_sum.specs.Bundles.{BundleView, IsBundle}
+use Rattle.set_sum.proofs.AnswerLemmas.{all_get}
 use Rattle.log_file.specs.FormFaults as form
 use Rattle.log_file.specs.LogFiles.{IsLogFile}
 use Rattle.log_file.specs.Logs.{IsLog, Lemma, Log}
@@ -20,7 +21,6 @@ use Rattle.log_check.specs.declared.faults.LogFault.TheVariants.{Memory, Refused
 use Rattle.log_check.specs.declared.faults.LogRefusal.{LogRefusal}
 use Rattle.log_check.specs.declared.faults.LogRefusal.TheVariants.{Form, L4, L5, L6}
 use Rattle.log_check.proofs.FirstBadLemmas.{good_or_first_bad}
-use Rattle.log_check.proofs.GoodLemmas.{all_get}
 
 -- ---- one log
 

@@ -1,20 +1,15 @@
 -- Good lemmas bound the solutions of their boards, and good logs those of theirs.
 use Rattle.std.proofs.Common.{◌≡◌, ℕ, zero, suc, ◌-◌, List, length, Some, subst, arith}
 use Rattle.std.specs.Prelude.{slice_get}
-use Rattle.std.specs.List.{AllByRecursion}
-use Rattle.std.proofs.lemmas.Option.{get_or_from_slice_get, slice_get_within}
+use Rattle.std.proofs.lemmas.Option.{slice_get_within}
 use Rattle.puz_board.specs.Boards.{IsBoardOf}
 use Rattle.set_sum.specs.Bounds.{IsBounded}
 use Rattle.set_sum.specs.Bundles.{BundleView, IsBundle}
-use Rattle.set_sum.proofs.ListLemmas.{all_at}
+use Rattle.set_sum.proofs.AnswerLemmas.{all_get}
 use Rattle.log_file.specs.LogFiles.{IsLogFile}
 use Rattle.log_file.specs.Logs.{IsLog, Lemma, Log}
 use Rattle.log_check.specs.GoodLogs.{AreGood, IsGood, IsGoodLog}
 use Rattle.log_check.proofs.BoundLemmas.{EarlierBound, first_tree_bounds}
-
--- what holds of each element holds of the one at a place
-pub all_get : {X : Type 0} (P : X → Type 0) (xs : List X) (i : ℕ) (x : X) → slice_get xs i ≡ Some x → AllByRecursion P xs → P x
-all_get P xs i x there all = subst P (get_or_from_slice_get xs i x x there) (all_at P xs i x (slice_get_within xs i x there) all)
 
 module _ (v : BundleView) (is_bundle : IsBundle v) (log : Log) (is_log : IsLog log) (side : log.side ≡ v.side) where
   pub board_of : (i : ℕ) (lemma : Lemma) → slice_get log.lemmas i ≡ Some lemma → IsBoardOf v.side lemma.board

@@ -6,6 +6,7 @@ use Rattle.puz_board.specs.Boards.{IsGoal, moved}
 use Rattle.puz_board.specs.declared.moves.Move.{Move}
 use Rattle.puz_board.specs.declared.moves.Move.TheVariants.{Up, Down, Left, Right}
 use Rattle.set_sum.specs.Bundles.{BundleView, SaysAtLeast}
+use Rattle.set_sum.proofs.NumeralLemmas.{head_is, tail_is}
 use Rattle.log_file.specs.Logs.{Lemma}
 use Rattle.log_check.specs.GoodLogs.{IsGood}
 use Rattle.log_check.specs.Refutations.{Cites, IsChild, Refutes, takes_back}
@@ -13,12 +14,6 @@ use Rattle.log_check.specs.Trees.{Tree, absent, branch, citation, leaf, spelling
 use Rattle.log_check.proofs.Pending.{Pending, Waiting, all_moves, with_child, with_child_at, with_children}
 
 -- ---- bytes
-
-first_same : (x y : ℕ) (xs ys : List ℕ) → x ∷ xs ≡ y ∷ ys → x ≡ y
-first_same x y xs ys e = cc
-
-rest_same : (x y : ℕ) (xs ys : List ℕ) → x ∷ xs ≡ y ∷ ys → xs ≡ ys
-rest_same x y xs ys e = cc
 
 -- the number of a citation, and the bytes behind it, are the bytes' own
 pub same_number : (j k : ℕ) → j < 2 ^ 32 → k < 2 ^ 32 → (xs ys : List ℕ) → to_be_bytes w32 j ++ xs ≡ to_be_bytes w32 k ++ ys → (j ≡ k) × (xs ≡ ys)
@@ -108,9 +103,9 @@ module _ (v : BundleView) (few : length v.sets ≤ 16) (lemmas : List Lemma) (i 
   other_byte byte bytes large other p = none (begins_with_node (byte ∷ bytes) p)
     where
       none : BeginsWithNode (byte ∷ bytes) → ⊥
-      none (rest, inl e) = let same : byte ≡ 0 = first_same byte 0 bytes rest e in omega arith
-      none (rest, inr (inl (set, small, e))) = let same : byte ≡ set + 1 = first_same byte (set + 1) bytes rest e in omega arith
-      none (rest, inr (inr (j, small, e))) = other (first_same byte 32 bytes _ e)
+      none (rest, inl e) = let same : byte ≡ 0 = head_is byte 0 bytes rest e in omega arith
+      none (rest, inr (inl (set, small, e))) = let same : byte ≡ set + 1 = head_is byte (set + 1) bytes rest e in omega arith
+      none (rest, inr (inr (j, small, e))) = other (head_is byte 32 bytes _ e)
 
   -- behind a citation's byte is a number
   pub citation_number : (bytes : List ℕ) → Pending v lemmas i (w ∷ ws) (32 ∷ bytes) → BeginsWithNumber bytes
@@ -118,8 +113,8 @@ module _ (v : BundleView) (few : length v.sets ≤ 16) (lemmas : List Lemma) (i 
     where
       go : BeginsWithNode (32 ∷ bytes) → BeginsWithNumber bytes
       go (rest, inl e) = cc
-      go (rest, inr (inl (set, small, e))) = absurd (let same : 32 ≡ set + 1 = first_same 32 (set + 1) bytes rest e in omega arith)
-      go (rest, inr (inr (j, small, e))) = record { number = j; rest = rest; fits = small; is = rest_same 32 32 bytes _ e }
+      go (rest, inr (inl (set, small, e))) = absurd (let same : 32 ≡ set + 1 = head_is 32 (set + 1) bytes rest e in omega arith)
+      go (rest, inr (inr (j, small, e))) = record { number = j; rest = rest; fits = small; is = tail_is 32 32 bytes _ e }
 
   -- a branch's byte
   pub branch_byte : (bytes : List ℕ) → Pending v lemmas i (w ∷ ws) (0 ∷ bytes)
@@ -129,10 +124,10 @@ module _ (v : BundleView) (few : length v.sets ≤ 16) (lemmas : List Lemma) (i 
       split : (tree : Tree) (rest : List ℕ) → 0 ∷ bytes ≡ spelling tree ++ rest → Refutes v lemmas i tree w.board w.arriving w.bound → Pending v lemmas i ws rest
           → (¬ IsGoal w.board) × (1 ≤ w.bound) × Pending v lemmas i (with_children w all_moves ws) bytes
       split absent rest e refutes more = absurd refutes
-      split (leaf set) rest e refutes more = absurd (let bad : 0 ≡ set + 1 = first_same 0 (set + 1) bytes rest e in omega arith)
+      split (leaf set) rest e refutes more = absurd (let bad : 0 ≡ set + 1 = head_is 0 (set + 1) bytes rest e in omega arith)
       split (citation j) rest e refutes more = cc
       split (branch up down left right) rest e refutes more =
-          let same : bytes ≡ (spelling up ++ spelling down ++ spelling left ++ spelling right) ++ rest = rest_same 0 0 bytes _ e in
+          let same : bytes ≡ (spelling up ++ spelling down ++ spelling left ++ spelling right) ++ rest = tail_is 0 0 bytes _ e in
           let pending : Pending v lemmas i (with_children w all_moves ws) (spelling up ++ (spelling down ++ (spelling left ++ (spelling right ++ rest)))) =
           push_child v lemmas i w Up up _ _ refutes.2
           (push_child v lemmas i w Down down _ _ refutes.3
@@ -157,11 +152,11 @@ module _ (v : BundleView) (few : length v.sets ≤ 16) (lemmas : List Lemma) (i 
           → SaysAtLeast v set w.board w.bound × Pending v lemmas i ws bytes
       split absent rest e refutes more = absurd refutes
       split (leaf other) rest e refutes more =
-          let byte : set + 1 ≡ other + 1 = first_same (set + 1) (other + 1) bytes rest e in
+          let byte : set + 1 ≡ other + 1 = head_is (set + 1) (other + 1) bytes rest e in
           let same : other ≡ set = omega arith in
-          (subst (λ s. SaysAtLeast v s w.board w.bound) same refutes, subst (Pending v lemmas i ws) (sym (rest_same (set + 1) (other + 1) bytes rest e)) more)
-      split (citation j) rest e refutes more = absurd (let bad : set + 1 ≡ 32 = first_same (set + 1) 32 bytes _ e in omega arith)
-      split (branch up down left right) rest e refutes more = absurd (let bad : set + 1 ≡ 0 = first_same (set + 1) 0 bytes _ e in omega arith)
+          (subst (λ s. SaysAtLeast v s w.board w.bound) same refutes, subst (Pending v lemmas i ws) (sym (tail_is (set + 1) (other + 1) bytes rest e)) more)
+      split (citation j) rest e refutes more = absurd (let bad : set + 1 ≡ 32 = head_is (set + 1) 32 bytes _ e in omega arith)
+      split (branch up down left right) rest e refutes more = absurd (let bad : set + 1 ≡ 0 = head_is (set + 1) 0 bytes _ e in omega arith)
 
   -- a citation's byte and number
   pub citation_byte : (j : ℕ) (bytes : List ℕ) → j < 2 ^ 32
@@ -172,10 +167,10 @@ module _ (v : BundleView) (few : length v.sets ≤ 16) (lemmas : List Lemma) (i 
           → Cites lemmas i j w.board w.bound × Pending v lemmas i ws bytes
       split absent rest e refutes more = absurd refutes
       split (leaf set) rest e refutes more = absurd
-          (let bad : 32 ≡ set + 1 = first_same 32 (set + 1) _ rest e in let there = refutes.says.there in omega arith)
+          (let bad : 32 ≡ set + 1 = head_is 32 (set + 1) _ rest e in let there = refutes.says.there in omega arith)
       split (citation k) rest e refutes more =
           let k_fits : k < 2 ^ 32 = (let earlier = refutes.earlier in omega arith) in
-          let same = same_number j k j_fits k_fits bytes rest (rest_same 32 32 (to_be_bytes w32 j ++ bytes) (to_be_bytes w32 k ++ rest) e) in
+          let same = same_number j k j_fits k_fits bytes rest (tail_is 32 32 (to_be_bytes w32 j ++ bytes) (to_be_bytes w32 k ++ rest) e) in
           (subst (λ x. Cites lemmas i x w.board w.bound) (sym same.0) refutes, subst (Pending v lemmas i ws) (sym same.1) more)
       split (branch up down left right) rest e refutes more = cc
 

@@ -11,6 +11,7 @@ use Rattle.log_check.specs.Trees.{Tree, absent, leaf, citation, branch}
 
 -- ---- the moves of a branch
 
+-- whether the two moves are the same
 abbrev pub is_same_move : Move → Move → Bool
 is_same_move Up Up = true
 is_same_move Down Down = true

@@ -19,6 +19,7 @@ moves_from (Some Right) = Right ∷ []
 abbrev pub with_open : OpenBranch → ℕ → List Waiting → List Waiting
 with_open branch bound ws = with_children (record { board = branch.board; arriving = branch.arriving; bound = bound + 1 }) (moves_from branch.next) ws
 
+-- the same where there is a branch, and otherwise the others alone
 abbrev pub with_place : Option OpenBranch → ℕ → List Waiting → List Waiting
 with_place None bound ws = ws
 with_place (Some branch) bound ws = with_open branch bound ws

@@ -12,6 +12,7 @@ use Rattle.log_check.specs.declared.walks.Waiting.{Waiting}
 
 -- ---- the children of a branch
 
+-- before the others the board to which a move leads, where there is one and the move doesn't take back the arriving one
 abbrev pub with_child_at : Waiting → Move → Option (List ℕ) → Bool → List Waiting → List Waiting
 with_child_at w move None back ws = ws
 with_child_at w move (Some b) true ws = ws

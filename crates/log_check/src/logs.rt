@@ -1,6 +1,7 @@
 //! The check of a log.
 
-ghost use Rattle.std.specs.Prelude.{◌≡◌, ◌⊎◌, ◌<◌, ◌≤◌, ℕ, Err, IfErr, IfOk, List, MatchOption, Ok};
+ghost use Rattle.std.specs.Prelude.{◌≡◌, ◌⊎◌, ℕ, Err, IfErr, IfOk, List, MatchOption, Ok};
+ghost use Rattle.work_run.specs.Workers.{AreWorkers};
 ghost use Rattle.set_sum.specs.Bounds.{IsBounded};
 ghost use Rattle.set_sum.specs.Bundles.{IsBundle};
 ghost use Rattle.log_file.specs.FormFaults as form;
@@ -36,7 +37,7 @@ pub fn check_log<R: Threads + Wait, G: Gate + Sync>(
     workers: u8,
     gate: &G,
 ) -> Result<u8, LogFault>
-    requires { (0 < workers) × (workers ≤ 64) }
+    requires { AreWorkers workers }
 
     // A bound comes of the file of a good log alone, and is that log's. Only want of memory keeps it back.
     ensures ok { IfOk result (IsGoodFile bundle.now board.now file.now) }
@@ -64,7 +65,7 @@ fn proven_bound<R: Threads + Wait, G: Gate + Sync>(
     workers: u8,
     gate: &G,
 ) -> Result<u8, LogFault>
-    requires { (0 < workers) × (workers ≤ 64) }
+    requires { AreWorkers workers }
     ensures ok { IfOk result (IsGoodFile bundle.now board.now file.now) }
     ensures bounds { IfOk result (IsBounded board.now) }
     ensures fault { IfErr result (λ fault. IsCauseOf fault bundle.now board.now file.now) }
@@ -114,7 +115,7 @@ fn first_bad<R: Threads + Wait, G: Gate + Sync>(
     requires bundle { IsBundle bundle.now }
     requires log { IsLog log.now }
     requires side { log.now.side ≡ bundle.now.side }
-    requires workers { (0 < workers) × (workers ≤ 64) }
+    requires workers { AreWorkers workers }
     ensures { IfOk result (λ first. MatchOption first (AreGood bundle.now log.now.lemmas) (IsFirstBad bundle.now log.now.lemmas)) }
 {
     let check = LogCheck { log, bundle };

@@ -10,6 +10,7 @@ use Rattle.log_file.specs.Logs.{IsLog, Lemma, Log}
 abbrev pub signature : List ℕ
 signature = codes "PDBL" ++ 1 ∷ []
 
+-- the side of the boards
 abbrev pub side_in : List ℕ → ℕ
 side_in file = slice_index file 5
 
@@ -30,9 +31,11 @@ pub record IsHeader (side count : ℕ) (file : List ℕ) : Type 0 where
 abbrev pub head_length : ℕ → ℕ
 head_length n = n * n + 5
 
+-- how many bytes its tree is to have
 abbrev pub tree_length : ℕ → List ℕ → ℕ
 tree_length n bytes = big_number 4 (drop (n * n + 1) bytes)
 
+-- the lemma itself: its board, its bound and the bytes of its tree
 abbrev pub front_lemma : ℕ → List ℕ → Lemma
 front_lemma n bytes = record {
   board = take (n * n) bytes;

@@ -4,6 +4,7 @@ use Rattle.std.specs.Prelude.{ℕ, ◌≤◌, ◌^◌, List, length}
 use Rattle.std.specs.List.{AllByRecursion}
 use Rattle.puz_board.specs.Boards.{IsBoardOf}
 
+-- what a contract sees of a lemma: its board, its bound and the bytes of its tree
 pub record Lemma : Type 0 where
   pub board : List ℕ
   pub bound : ℕ

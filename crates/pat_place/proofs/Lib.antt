@@ -5,11 +5,11 @@ pub mod JoinLemmas
 pub mod ListLemmas
 pub mod MaskLemmas
 mod MaskOfLemmas
-mod NextLemmas
+pub mod NextLemmas
 pub mod PatternLemmas
 pub mod PlacementLemmas
 pub mod RankLemmas
-pub mod RankSteps
+mod RankSteps
 pub mod SetLemmas
 pub mod SlideLemmas
 pub mod SlotLemmas

@@ -94,10 +94,6 @@ in_numbers_below n m x h = go (cases_Bool (has_bit m x))
     go (inl t) = let w = in_range 0 n x (sym (has-filter (has_bit m) x (range_with_len 0 n) t) ∙ h) in (let l = w.1 in omega arith, eqb-true (bit_at m x) 1 t)
     go (inr f) = absurd (both_ways (has (numbers_below n m) x) (has-filter_not (has_bit m) x (range_with_len 0 n) f) h)
 
-pub no_bit-numbers_below : (n m x : ℕ) → bit_at m x ≡ 0 → has (numbers_below n m) x ≡ false
-unfolding numbers_below
-no_bit-numbers_below n m x z = has-filter_not (has_bit m) x (range_with_len 0 n) (ne_eqb (bit_at m x) 1 (λ e. omega arith))
-
 -- ---- how many
 
 length-filter : (m a n : ℕ) → length (filter (has_bit m) (range_with_len a n)) + ones_below m a ≡ ones_below m (a + n)

@@ -115,7 +115,7 @@ abbrev pub left_of : List ℕ → List ℕ → List ℕ
 left_of [] cs = cs
 left_of (x ∷ xs) cs = left_of xs (without x cs)
 
-get-has : (cs : List ℕ) (c : ℕ) → has cs c ≡ true → (place : ℕ) × (slice_get cs place ≡ Some c)
+pub get-has : (cs : List ℕ) (c : ℕ) → has cs c ≡ true → (place : ℕ) × (slice_get cs place ≡ Some c)
 get-has [] c h = absurd (true≢false (sym h))
 get-has (d ∷ cs) c h = elim (has_cases c d cs h) [ inl e ↦ (0, ap Some e) | inr k ↦ let w = get-has cs c k in (suc w.0, w.1) ]
 
@@ -144,7 +144,7 @@ ascending-left_of : (xs cs : List ℕ) → IsAscending cs → IsAscending (left_
 ascending-left_of [] cs up = up
 ascending-left_of (x ∷ xs) cs up = ascending-left_of xs (without x cs) (ascending-filter (λ d. not (eqb d x)) cs up)
 
-same_bool : (a b : Bool) → (a ≡ true → b ≡ true) → (b ≡ true → a ≡ true) → a ≡ b
+pub same_bool : (a b : Bool) → (a ≡ true → b ≡ true) → (b ≡ true → a ≡ true) → a ≡ b
 same_bool true b to from = sym (to refl)
 same_bool false true to from = from refl
 same_bool false false to from = refl

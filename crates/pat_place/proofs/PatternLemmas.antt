@@ -4,9 +4,9 @@ use Rattle.std.specs.Prelude.{count_ones}
 use Rattle.std.specs.Int.{bit_at}
 use Rattle.std.specs.List.{AllByRecursion}
 use Rattle.std.proofs.lemmas.Bool.{cases_eq, cases_lt, cond_both, true≢false}
-use Rattle.std.proofs.lemmas.Nat.{shr-shr}
 use Rattle.std.proofs.lemmas.Nat.Bits.{bit_at-lt, same_from_bits, bit_at-zero, bit_at_above, bit_at_lowest}
 use Rattle.puz_board.specs.Masks.{numbers_of}
+use Rattle.puz_board.proofs.BitLemmas.{in_shr}
 use Rattle.pat_place.specs.Patterns.{PatternView, IsPattern, most_tiles, has}
 use Rattle.pat_place.proofs.ListLemmas.{has_cases, has-here, has-later}
 use Rattle.pat_place.proofs.MaskLemmas.{has-numbers_below, in_numbers_below, length-numbers_below, ascending-numbers_below}
@@ -32,10 +32,6 @@ has_from_all P (y ∷ xs) x all h = elim (has_cases x y xs h) [ inl e ↦ subst 
 zero_of_bits : (q : ℕ) → ((i : ℕ) → bit_at q i ≡ 0) → q ≡ 0
 zero_of_bits q none = same_from_bits q 0 (λ i. none i ∙ sym (bit_at-zero i))
 
--- a bit of what is left of a mask
-bit_of_rest : (mask k i : ℕ) → bit_at (mask / 2 ^ k) i ≡ bit_at mask (k + i)
-bit_of_rest mask k i = ap (λ q. q % 2) (shr-shr mask k i)
-
 pub tiles_only : (mask cells : ℕ) → mask % 2 ≡ 0 → mask / 2 ^ cells ≡ 0 → AllByRecursion (λ t. (0 < t) × (t < cells)) (numbers_of mask)
 tiles_only mask cells even low = all_from_has (λ t. (0 < t) × (t < cells)) (numbers_of mask) (λ x h. let one = (in_numbers_below 32 mask x h).1 in (positive x one, below x one))
   where
@@ -47,7 +43,7 @@ tiles_only mask cells even low = all_from_has (λ t. (0 < t) × (t < cells)) (nu
     below x one = elim (cases_lt x cells) [
       | inl l ↦ l
       | inr l ↦ absurd (
-          let e : bit_at (mask / 2 ^ cells) (x - cells) ≡ bit_at mask x = bit_of_rest mask cells (x - cells) ∙ ap (bit_at mask) (let e : cells + (x - cells) ≡ x = omega arith in e) in
+          let e : bit_at (mask / 2 ^ cells) (x - cells) ≡ bit_at mask x = in_shr mask cells (x - cells) ∙ ap (bit_at mask) (let e : cells + (x - cells) ≡ x = omega arith in e) in
           let z : bit_at (mask / 2 ^ cells) (x - cells) ≡ 0 = ap (λ q. bit_at q (x - cells)) low ∙ bit_at-zero (x - cells) in
           omega arith)
     ]
@@ -59,7 +55,7 @@ even_of_tiles mask cells all = elim (cases_eq (bit_at mask 0) 1) [
 ]
 
 pub low_of_tiles : (mask cells : ℕ) → mask < 2 ^ 32 → AllByRecursion (λ t. (0 < t) × (t < cells)) (numbers_of mask) → mask / 2 ^ cells ≡ 0
-low_of_tiles mask cells fits all = zero_of_bits (mask / 2 ^ cells) (λ i. bit_of_rest mask cells i ∙ none (cells + i) (omega arith))
+low_of_tiles mask cells fits all = zero_of_bits (mask / 2 ^ cells) (λ i. in_shr mask cells i ∙ none (cells + i) (omega arith))
   where
     none : (x : ℕ) → cells ≤ x → bit_at mask x ≡ 0
     none x l = elim (cases_lt x 32) [

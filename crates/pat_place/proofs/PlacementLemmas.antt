@@ -1,5 +1,5 @@
 -- Placements: those of boards, and how they are stored.
-use Rattle.std.proofs.Common.{◌≡◌, ◌≢◌, ℕ, zero, suc, ◌+◌, ◌-◌, ◌*◌, ◌<◌, ◌≤◌, false, eqb, List, [], ◌∷◌, ◌++◌, length, take, drop, set, get_or, replicate, refl, sym, ◌∙◌, ap, ap₂, subst, arith, length-append}
+use Rattle.std.proofs.Common.{◌≡◌, ◌≢◌, ℕ, zero, suc, ◌-◌, ◌*◌, ◌<◌, ◌≤◌, false, eqb, List, [], ◌∷◌, ◌++◌, length, take, drop, set, get_or, replicate, refl, sym, ◌∙◌, ap, ap₂, subst, arith, length-append}
 use Rattle.std.specs.List.{AllByRecursion}
 use Rattle.std.proofs.lemmas.Bool.{or_parts, or_from, ne_eqb, eqb-false}
 use Rattle.std.proofs.lemmas.List.{length-map, length-replicate, length-set, take_at, drop_at, take_all}
@@ -36,18 +36,6 @@ module _ (p : PatternView) (good : IsPattern p) (cells : List ℕ) (is : IsPlace
     placement = subst (λ xs. IsPlacement (placed p xs)) (sym shown-filled) is;
     rest = ap (drop (length p.tiles)) filled ∙ drop_at cells (replicate (8 - length cells) 0) (length p.tiles) is.size ∙ ap (λ k. replicate (8 - k) 0) is.size;
   }
-
--- one more cell behind the first i
-pub filled_more : (xs : List ℕ) (i m : ℕ) → i < length xs → set (take i xs ++ replicate (suc m) 0) i (get_or xs i 0) ≡ take (suc i) xs ++ replicate m 0
-filled_more [] i m l = absurd (omega arith)
-filled_more (x ∷ xs) zero m l = refl
-filled_more (x ∷ xs) (suc i) m l = ap (λ ys. x ∷ ys) (filled_more xs i m (omega arith))
-
-pub filled_to_more : (xs : List ℕ) (i n : ℕ) → i < length xs → i < n → set (take i xs ++ replicate (n - i) 0) i (get_or xs i 0) ≡ take (i + 1) xs ++ replicate (n - (i + 1)) 0
-filled_to_more xs i n l m =
-    let left : n - i ≡ suc (n - (i + 1)) = omega arith in
-    let next : suc i ≡ i + 1 = omega arith in
-    ap (λ k. set (take i xs ++ replicate k 0) i (get_or xs i 0)) left ∙ filled_more xs i (n - (i + 1)) l ∙ ap (λ k. take k xs ++ replicate (n - (i + 1)) 0) next
 
 -- the loop's end
 pub filled_all : (xs stored : List ℕ) (i : ℕ) → length xs ≤ i → i ≤ length xs → stored ≡ take i xs ++ replicate (8 - i) 0 → stored ≡ xs ++ replicate (8 - length xs) 0

@@ -15,7 +15,7 @@ use Rattle.pat_place.proofs.ListLemmas.{Some-one, has_cases, has-here, has-later
 
 -- ---- get in a list that is made of others
 
-get-append_left : {A : Type 0} (xs ys : List A) (i : ℕ) (x : A) → slice_get xs i ≡ Some x → slice_get (xs ++ ys) i ≡ Some x
+pub get-append_left : {A : Type 0} (xs ys : List A) (i : ℕ) (x : A) → slice_get xs i ≡ Some x → slice_get (xs ++ ys) i ≡ Some x
 get-append_left [] ys i x e = cc
 get-append_left (y ∷ xs) ys zero x e = e
 get-append_left (y ∷ xs) ys (suc i) x e = get-append_left xs ys i x e

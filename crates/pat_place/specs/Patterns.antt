@@ -2,7 +2,7 @@
 use Rattle.std.specs.Prelude.{ℕ, ◌+◌, ◌-◌, ◌*◌, ◌<◌, ◌≤◌, ◌==◌, if◌then◌else◌, List, [], ◌∷◌, length, min, ⊤}
 use Rattle.std.specs.List.{AllByRecursion}
 -- whether a number stands in a list
-pub use Rattle.puz_board.specs.Costs.{is_one_of as has}
+pub use Rattle.puz_board.specs.Costs.{has}
 
 -- what a contract sees of a pattern: the side of its board, and its tiles
 pub record PatternView : Type 0 where

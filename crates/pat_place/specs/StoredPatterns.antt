@@ -4,9 +4,11 @@ use Rattle.pat_place.specs.declared.patterns.Pattern.TheInside.{Inside}
 use Rattle.puz_board.specs.Masks.{mask_of, numbers_of}
 use Rattle.pat_place.specs.Patterns.{PatternView, IsPattern}
 
+-- the pattern with this side and the tiles of this mask
 abbrev pub pattern_shown : Inside → PatternView
 pattern_shown p = record { side = p.side; tiles = numbers_of p.mask }
 
+-- these are the fields of a pattern
 pub record IsStoredPattern (p : Inside) : Type 0 where
   pub pattern : IsPattern (pattern_shown p)
   pub bits : p.mask < 2 ^ 32

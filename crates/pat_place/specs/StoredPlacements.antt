@@ -10,6 +10,7 @@ use Rattle.pat_place.specs.Placements.{PlacementView, IsPlacement}
 abbrev pub placement_shown : Inside → PlacementView
 placement_shown p = record { pattern = p.pattern; cells = take (length p.pattern.tiles) p.cells }
 
+-- these are the fields of a placement
 pub record IsStoredPlacement (p : Inside) : Type 0 where
   pub room : length p.cells ≡ 8
   pub pattern : IsPattern p.pattern

@@ -19,9 +19,11 @@ pub record AreAllSlots (n : ℕ) (masks slots : List ℕ) : Type 0 where
   pub each : (number : ℕ) (p : List ℕ) → number < length masks → IsMaskOf (slice_index masks number) (λ c. has p c ≡ true) →
       AreSlotsFrom n p slots (number * (n * n))
 
+-- what a contract sees of a table of slots: the side of its boards
 abbrev pub side_shown : Inside → ℕ
 side_shown s = s.side
 
+-- these are the fields of a table of slots
 pub record IsStoredSlots (s : Inside) : Type 0 where
   pub low : 2 ≤ s.side
   pub high : s.side ≤ 5

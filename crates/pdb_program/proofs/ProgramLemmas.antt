@@ -4,7 +4,7 @@ use Rattle.std.specs.Io.KnownBytes.{Keeps}
 use Rattle.pdb_io.specs.Shelves.{Bytes}
 use Rattle.pdb_run.specs.Plans.{Plan}
 use Rattle.pdb_run.specs.Runs.{Ends, HasCause, IsAnswered, LeavesFiles, LeavesReader, Outcome, WantsMemory, World, kept, no_memory, replied, unkept, unread, with_kept}
-use Rattle.pdb_run.specs.Statuses.{number_of}
+use Rattle.pdb_run.specs.Statuses.{status_number}
 use Rattle.pdb_run.specs.declared.status.Status.{Status}
 use Rattle.pdb_run.specs.declared.status.Status.TheVariants.{Yes, Refused, Fault, NoMemory}
 use Rattle.pdb_run.proofs.AnswerLemmas.{IsAnswered-ends}
@@ -20,7 +20,7 @@ other : (n number : ℕ) → 2 ≤ n → number ≡ n → (number ≡ 0) ⊎ (nu
 other n number big e is = elim is [ inl zero ↦ omega arith | inr one ↦ omega arith ]
 
 -- a run whose number is 0 or 1 is answered
-pub answered_by : (plan : Plan) (old new : World) (number : ℕ) (status : Status) → number ≡ number_of status → Ends plan old new status → (number ≡ 0) ⊎ (number ≡ 1) → IsNumberOf (IsAnswered plan old new) number
+pub answered_by : (plan : Plan) (old new : World) (number : ℕ) (status : Status) → number ≡ status_number status → Ends plan old new status → (number ≡ 0) ⊎ (number ≡ 1) → IsNumberOf (IsAnswered plan old new) number
 answered_by plan old new number Yes e ends is = (Yes, e, IsAnswered-ends plan old new Yes ends (inl refl))
 answered_by plan old new number Refused e ends is = (Refused, e, IsAnswered-ends plan old new Refused ends (inr refl))
 answered_by plan old new number Fault e ends is = absurd (other 2 number (lit≤ tt) e is)
@@ -124,7 +124,7 @@ not_both : (number : ℕ) → number ≡ 1 → number ≡ 0 → ⊥
 not_both number one zero = omega arith
 
 -- so a run whose number is 0 has kept what was asked for
-pub kept_by : (asked : Asked) (old new : World) (number : ℕ) (status : Status) → number ≡ number_of status → Ends (plan_of asked) old new status → number ≡ 0 → HasKept asked old new
+pub kept_by : (asked : Asked) (old new : World) (number : ℕ) (status : Status) → number ≡ status_number status → Ends (plan_of asked) old new status → number ≡ 0 → HasKept asked old new
 kept_by asked old new number Yes e ends is = yes_keeps asked old new ends
 kept_by asked old new number Refused e ends is = absurd (not_both number e is)
 kept_by asked old new number Fault e ends is = absurd (other 2 number (lit≤ tt) e (inl is))

@@ -4,7 +4,7 @@ use Rattle.std.specs.Io.KnownBytes.{Keeps}
 use Rattle.pdb_io.specs.Shelves.{Bytes}
 use Rattle.pdb_run.specs.Plans.{Plan}
 use Rattle.pdb_run.specs.Runs.{Ends, World}
-use Rattle.pdb_run.specs.Statuses.{number_of}
+use Rattle.pdb_run.specs.Statuses.{status_number}
 use Rattle.pdb_run.specs.declared.status.Status.{Status}
 use Rattle.pdb_verdict.specs.Bounds.{bound_plan}
 use Rattle.pdb_verdict.specs.Optima.{optimum_plan}
@@ -48,7 +48,7 @@ HasKept (solve board sets out tables workers budget) old new = IsLogKept board s
 
 -- the number is that of a status of which this holds
 abbrev pub IsNumberOf : (Status → Type 0) → ℕ → Type 0
-IsNumberOf Holds number = (status : Status) × (number ≡ number_of status) × Holds status
+IsNumberOf Holds number = (status : Status) × (number ≡ status_number status) × Holds status
 
 -- a run on these words, from the one world to the other; what stood on the errors before and after it; and its number
 pub record RunsOn (words : List Bytes) (old new : World) (old_err new_err : Option Bytes) (number : ℕ) : Type 0 where

@@ -10,13 +10,13 @@ use Rattle.pdb_run.specs.declared.status.Status.TheVariants.{Yes, Fault, NoMemor
 use Rattle.pdb_words.specs.Faults.{AsksForHelp, IsMistaken}
 
 -- a text was written whole, or a proper front of it
-abbrev pub Tells : Bytes → Option Bytes → Option Bytes → Type 0
-Tells text old new = Appends old new text ⊎ AppendsFront old new text
+abbrev pub AppendsWholeOrFront : Bytes → Option Bytes → Option Bytes → Type 0
+AppendsWholeOrFront text old new = Appends old new text ⊎ AppendsFront old new text
 
 -- the errors got some text, and the output nothing
 abbrev pub TellsMistake : (old_out new_out old_err new_err : Option Bytes) → Status → Type 0
 TellsMistake old_out new_out old_err new_err status =
-    Keeps old_out new_out × ((text : Bytes) × Tells text old_err new_err) × (status ≡ Fault)
+    Keeps old_out new_out × ((text : Bytes) × AppendsWholeOrFront text old_err new_err) × (status ≡ Fault)
 
 -- the output got a text behind what stood there, with a yes, or a proper front of it
 abbrev pub ShowsHelp : (old_out new_out : Option Bytes) → Status → Type 0

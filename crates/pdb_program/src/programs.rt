@@ -1,7 +1,8 @@
 //! A run of the program on words.
 
-ghost use Rattle.std.specs.Prelude.{◌≡◌, ◌<◌, ◌≤◌, ◌⊎◌, map, string_bytes};
+ghost use Rattle.std.specs.Prelude.{◌≡◌, ◌⊎◌, map, string_bytes};
 ghost use Rattle.std.specs.Io.KnownBytes.{Keeps};
+ghost use Rattle.work_run.specs.Workers.{AreWorkers};
 ghost use Rattle.pdb_run.specs.Runs.{Ends, IsAnswered, world};
 ghost use Rattle.pdb_words.specs.CommandLine.{Parses, asked_of};
 ghost use Rattle.pdb_words.specs.Faults.{IsMistaken};
@@ -75,7 +76,7 @@ struct Host<'h, H, G> {
 impl<'h, H, G> Host<'h, H, G> {
     /// So many workers.
     fn workers(&self, count: u8) -> Workers<'h, H, G>
-        requires { (0 < count) × (count ≤ 64) }
+        requires { AreWorkers count }
         ensures { result ≡ count }
     {
         Workers::new(self.rt, count, self.gate)

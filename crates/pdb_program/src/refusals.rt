@@ -3,7 +3,7 @@
 ghost use Rattle.std.specs.Prelude.{◌≡◌, ℕ, List};
 ghost use Rattle.pdb_run.specs.Runs.{Says};
 ghost use Rattle.pdb_words.specs.Faults.{IsCauseOf};
-ghost use Rattle.pdb_program.specs.Refusals.{Refuses, Tells};
+ghost use Rattle.pdb_program.specs.Refusals.{AppendsWholeOrFront, Refuses};
 
 use pdb_io::streams::put_text;
 use pdb_run::{Status, say_no_memory};
@@ -34,7 +34,7 @@ fn show_help<W: Write>(text: &str, out: &mut W) -> Status
 
 /// Tells of a mistake in the words. Where that can't be written, there is nobody to tell.
 pub(crate) fn tell<E: Write>(text: &str, err: &mut E) -> Status
-    ensures told { Tells text.now (E.contents err.old) (E.contents err.new) }
+    ensures told { AppendsWholeOrFront text.now (E.contents err.old) (E.contents err.new) }
     ensures status { result ≡ Status.Fault }
 {
     let _ = put_text(err, text);

@@ -8,7 +8,7 @@ ghost use Rattle.pdb_run.specs.Lines.{memory_line};
 ghost use Rattle.pdb_run.specs.Runs.{Says, world};
 ghost use Rattle.pdb_words.specs.Faults.{unreadable_word};
 ghost use Rattle.pdb_program.specs.Programs.{IsNumberOf, RunsOn};
-ghost use Rattle.pdb_program.specs.Refusals.{Tells};
+ghost use Rattle.pdb_program.specs.Refusals.{AppendsWholeOrFront};
 
 use crate::programs::run;
 use crate::refusals::tell;
@@ -41,7 +41,7 @@ pub fn start<H: Threads + Wait + Sync, S: Shelf, R: Read, W: Write, E: Write, G:
     ensures memory { IfErr arguments (λ e. error_kind e ≡ OutOfMemory
         → IsNumberOf (Says memory_line Status.NoMemory (W.contents out.old) (W.contents out.new)) result × Keeps (E.contents err.old) (E.contents err.new)) }
     ensures unreadable { IfErr arguments (λ e. error_kind e ≢ OutOfMemory
-        → Keeps (W.contents out.old) (W.contents out.new) × Tells unreadable_word (E.contents err.old) (E.contents err.new) × (result ≡ 2)) }
+        → Keeps (W.contents out.old) (W.contents out.new) × AppendsWholeOrFront unreadable_word (E.contents err.old) (E.contents err.new) × (result ≡ 2)) }
 {
     match arguments {
         Ok(all) => run(rt, alloc, words_in(all), shelf, reader, out, err, gate),
@@ -64,7 +64,7 @@ fn without_words<W: Write, E: Write>(error: &io::Error, out: &mut W, err: &mut E
     ensures memory { error_kind error.now ≡ OutOfMemory
         → Says memory_line Status.NoMemory (W.contents out.old) (W.contents out.new) result × Keeps (E.contents err.old) (E.contents err.new) }
     ensures unreadable { error_kind error.now ≢ OutOfMemory
-        → Keeps (W.contents out.old) (W.contents out.new) × Tells unreadable_word (E.contents err.old) (E.contents err.new) × (result ≡ Status.Fault) }
+        → Keeps (W.contents out.old) (W.contents out.new) × AppendsWholeOrFront unreadable_word (E.contents err.old) (E.contents err.new) × (result ≡ Status.Fault) }
 {
     match error.kind() {
         io::ErrorKind::OutOfMemory => say_no_memory(out),

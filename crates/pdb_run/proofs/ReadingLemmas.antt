@@ -6,7 +6,7 @@ use Rattle.std.proofs.lemmas.List.{drop_more, map-append, take_more, take-append
 use Rattle.pdb_io.specs.Shelves.{Bytes, Files}
 use Rattle.pdb_io.specs.declared.streams.ReadFault.{ReadFault}
 use Rattle.pdb_run.specs.Plans.{Wanted}
-use Rattle.pdb_run.specs.Readings.{AreRead, IsFirstUnread, IsNext, IsRead, IsReadFrom, IsUnread, IsOverLimit, Tells, left, left_by_all, wanted_of}
+use Rattle.pdb_run.specs.Readings.{AreRead, IsAsTold, IsFirstUnread, IsNext, IsOverLimit, IsRead, IsReadFrom, IsUnread, left, left_by_all, wanted_of}
 use Rattle.pdb_run.specs.declared.inputs.Input.{Input}
 use Rattle.pdb_io.specs.declared.streams.ReadFault.TheVariants.{F1, F2, Memory}
 
@@ -30,20 +30,20 @@ AreRead-length files reader (first ∷ more) (b ∷ bytes) are = ap (λ n. suc n
 -- ---- what is told of the reader
 
 module _ (told actual : Option Bytes) where
-  read_as_told : (files : Option Files) (name : Option Bytes) (bytes : Bytes) → Tells told actual → IsReadFrom files actual name bytes → IsReadFrom files told name bytes
+  read_as_told : (files : Option Files) (name : Option Bytes) (bytes : Bytes) → IsAsTold told actual → IsReadFrom files actual name bytes → IsReadFrom files told name bytes
   read_as_told files (Some name) bytes tells is = is
   read_as_told files None bytes tells is = by_told told actual tells is
     where
-      by_told : (told actual : Option Bytes) → Tells told actual → IfSome actual (λ t. t ≡ bytes) → IfSome told (λ t. t ≡ bytes)
+      by_told : (told actual : Option Bytes) → IsAsTold told actual → IfSome actual (λ t. t ≡ bytes) → IfSome told (λ t. t ≡ bytes)
       by_told None actual tells is = tt
       by_told (Some t) actual tells is = subst (λ (r : Option Bytes). IfSome r (λ t. t ≡ bytes)) tells is
 
-  unread_as_told : (files : Option Files) (failed : Bool) (wanted : Wanted) (why : ReadFault) → Tells told actual → IsUnread files actual failed wanted why → IsUnread files told failed wanted why
+  unread_as_told : (files : Option Files) (failed : Bool) (wanted : Wanted) (why : ReadFault) → IsAsTold told actual → IsUnread files actual failed wanted why → IsUnread files told failed wanted why
   unread_as_told files failed wanted F1 tells is = is
   unread_as_told files failed wanted Memory tells is = tt
   unread_as_told files failed wanted F2 tells is = by_name wanted.name is
     where
-      by_told : (told actual : Option Bytes) → Tells told actual → IfSome actual (λ t. wanted.limit < length t) → IfSome told (λ t. wanted.limit < length t)
+      by_told : (told actual : Option Bytes) → IsAsTold told actual → IfSome actual (λ t. wanted.limit < length t) → IfSome told (λ t. wanted.limit < length t)
       by_told None actual tells is = tt
       by_told (Some t) actual tells is = subst (λ (r : Option Bytes). IfSome r (λ t. wanted.limit < length t)) tells is
 
@@ -51,24 +51,24 @@ module _ (told actual : Option Bytes) where
       by_name None is = by_told told actual tells is
       by_name (Some name) is = is
 
-  left_as_told : (new name : Option Bytes) → Tells told actual → Tells (left actual name) new → Tells (left told name) new
+  left_as_told : (new name : Option Bytes) → IsAsTold told actual → IsAsTold (left actual name) new → IsAsTold (left told name) new
   left_as_told new None tells is = by_told told actual tells is
     where
-      by_told : (told actual : Option Bytes) → Tells told actual → Tells (left actual None) new → Tells (left told None) new
+      by_told : (told actual : Option Bytes) → IsAsTold told actual → IsAsTold (left actual None) new → IsAsTold (left told None) new
       by_told None actual tells is = tt
-      by_told (Some t) actual tells is = subst (λ (r : Option Bytes). Tells (left r None) new) tells is
+      by_told (Some t) actual tells is = subst (λ (r : Option Bytes). IsAsTold (left r None) new) tells is
   left_as_told new (Some name) tells is = by_told told actual tells is
     where
-      by_told : (told actual : Option Bytes) → Tells told actual → Tells actual new → Tells told new
+      by_told : (told actual : Option Bytes) → IsAsTold told actual → IsAsTold actual new → IsAsTold told new
       by_told None actual tells is = tt
-      by_told (Some t) actual tells is = subst (λ (r : Option Bytes). Tells r new) tells is
+      by_told (Some t) actual tells is = subst (λ (r : Option Bytes). IsAsTold r new) tells is
 
 -- ---- the loop over inputs
 
 -- the inputs up to here were read, and the reader has what they left
 pub record ReadSoFar (files : Option Files) (reader now : Option Bytes) (wanted : List Wanted) (bytes : List Bytes) : Type 0 where
   pub read : AreRead files reader wanted bytes
-  pub tells : Tells (left_by_all reader wanted) now
+  pub tells : IsAsTold (left_by_all reader wanted) now
 
 pub ReadSoFar-next : (files actual : Option Files) (reader old new : Option Bytes) (all : List Input) (i : ℕ) (d : Input) (before after : List Bytes) → i < length all → actual ≡ files
     → ReadSoFar files reader old (map wanted_of (take i all)) before → IsNext actual old new (wanted_of (get_or all i d)) before after
@@ -81,7 +81,7 @@ ReadSoFar-next files actual reader old new all i d before after lt same so_far n
     let row : map wanted_of (take (i + 1) all) ≡ map wanted_of (take i all) ++ wanted ∷ [] = ap (map wanted_of) (take_more all i d lt) ∙ map-append wanted_of (take i all) (get_or all i d ∷ []) in
     let are = AreRead-snoc files reader (map wanted_of (take i all)) before wanted next.bytes so_far.read (is, next.read.1) in
     let behind = left_as_told told old new wanted.name so_far.tells next.behind in
-    let tells = subst (λ (r : Option Bytes). Tells r new) (sym (left_by_all-snoc reader (map wanted_of (take i all)) wanted)) behind in
+    let tells = subst (λ (r : Option Bytes). IsAsTold r new) (sym (left_by_all-snoc reader (map wanted_of (take i all)) wanted)) behind in
     subst (λ (ws : List Wanted). ReadSoFar files reader new ws after) (sym row)
     (subst (λ (bs : List Bytes). ReadSoFar files reader new (map wanted_of (take i all) ++ wanted ∷ []) bs) (sym next.added) (record { read = are; tells = tells }))
 

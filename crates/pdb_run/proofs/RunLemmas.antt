@@ -7,7 +7,7 @@ use Rattle.pdb_io.specs.declared.shelf.KeepFault.{KeepFault}
 use Rattle.pdb_io.specs.declared.shelf.KeepFault.TheVariants as keep
 use Rattle.pdb_run.specs.Lines.{named_line, reply_text, shown}
 use Rattle.pdb_run.specs.Plans.{Plan, Reply, Wanted}
-use Rattle.pdb_run.specs.Readings.{AreRead, IsFirstUnread, Tells, left_by_all}
+use Rattle.pdb_run.specs.Readings.{AreRead, IsAsTold, IsFirstUnread, left_by_all}
 use Rattle.pdb_run.specs.Runs.{Ends, Says, World, kept, replied, status_of, status_of_reply, text_of, unkept, unread, with_kept}
 use Rattle.pdb_run.specs.declared.status.Status.{Status}
 use Rattle.pdb_run.specs.declared.status.Status.TheVariants.{Fault}
@@ -48,7 +48,7 @@ module _ (plan : Plan) (old new : World) (status : Status) where
       subst (λ (w : Option Bytes). Says text with_text old.written w status) is_new (subst (λ (w : Option Bytes). Says text with_text w now status) is_old said)
 
   -- a reply that is right for the bytes that were read, with the file that was kept
-  concluded : (inputs : List Bytes) (reply : Reply) (was now : Option Bytes) → AreRead old.files old.reader plan.inputs inputs → Tells (left_by_all old.reader plan.inputs) new.reader → plan.MayReply inputs reply
+  concluded : (inputs : List Bytes) (reply : Reply) (was now : Option Bytes) → AreRead old.files old.reader plan.inputs inputs → IsAsTold (left_by_all old.reader plan.inputs) new.reader → plan.MayReply inputs reply
       → new.files ≡ with_kept old.files plan.keeps_under (kept reply)
       → was ≡ old.written → now ≡ new.written → Says (reply_text reply) (status_of_reply reply.is_yes) was now status → Ends plan old new status
   concluded inputs reply was now are behind right files is_old is_new said = record {
@@ -59,12 +59,12 @@ module _ (plan : Plan) (old new : World) (status : Status) where
     said = as_written (reply_text reply) (status_of_reply reply.is_yes) was now is_old is_new said;
   }
 
-  pub concluded_replied : (inputs : List Bytes) (reply : Reply) (was now : Option Bytes) → AreRead old.files old.reader plan.inputs inputs → Tells (left_by_all old.reader plan.inputs) new.reader → plan.MayReply inputs reply → plan.keeps_under ≡ None → new.files ≡ old.files
+  pub concluded_replied : (inputs : List Bytes) (reply : Reply) (was now : Option Bytes) → AreRead old.files old.reader plan.inputs inputs → IsAsTold (left_by_all old.reader plan.inputs) new.reader → plan.MayReply inputs reply → plan.keeps_under ≡ None → new.files ≡ old.files
       → was ≡ old.written → now ≡ new.written → Says (reply_text reply) (status_of_reply reply.is_yes) was now status → Ends plan old new status
   concluded_replied inputs reply was now are behind right none same is_old is_new said =
       concluded inputs reply was now are behind right (same ∙ ap (λ (n : Option Bytes). with_kept old.files n (kept reply)) (sym none)) is_old is_new said
 
-  pub concluded_kept : (inputs : List Bytes) (reply : Reply) (name : Bytes) (held holds : Option Files) (was now : Option Bytes) → AreRead old.files old.reader plan.inputs inputs → Tells (left_by_all old.reader plan.inputs) new.reader → plan.MayReply inputs reply
+  pub concluded_kept : (inputs : List Bytes) (reply : Reply) (name : Bytes) (held holds : Option Files) (was now : Option Bytes) → AreRead old.files old.reader plan.inputs inputs → IsAsTold (left_by_all old.reader plan.inputs) new.reader → plan.MayReply inputs reply
       → plan.keeps_under ≡ Some name → held ≡ old.files → holds ≡ new.files → holds ≡ with_kept held (Some name) (kept reply)
       → was ≡ old.written → now ≡ new.written → Says (reply_text reply) (status_of_reply reply.is_yes) was now status → Ends plan old new status
   concluded_kept inputs reply name held holds was now are behind right under was_held is_held with_file is_old is_new said =
@@ -72,7 +72,7 @@ module _ (plan : Plan) (old new : World) (status : Status) where
       concluded inputs reply was now are behind right files is_old is_new said
 
   pub concluded_unkept : (inputs : List Bytes) (reply : Reply) (name : Bytes) (why : KeepFault) (held holds : Option Files) (failed : Bool) (was now : Option Bytes)
-      → AreRead old.files old.reader plan.inputs inputs → Tells (left_by_all old.reader plan.inputs) new.reader → plan.MayReply inputs reply → plan.keeps_under ≡ Some name → (file : Bytes) × (kept reply ≡ Some file)
+      → AreRead old.files old.reader plan.inputs inputs → IsAsTold (left_by_all old.reader plan.inputs) new.reader → plan.MayReply inputs reply → plan.keeps_under ≡ Some name → (file : Bytes) × (kept reply ≡ Some file)
       → held ≡ old.files → holds ≡ new.files → failed ≡ new.failed → KeepsOthers held holds name → (why ≡ keep.F3 → failed ≡ true)
       → was ≡ old.written → now ≡ new.written → Says (text_of (unkept name why)) (status_of (unkept name why)) was now status → Ends plan old new status
   concluded_unkept inputs reply name why held holds failed was now are behind right under file was_held is_held is_failed others has_failed is_old is_new said = record {

@@ -9,7 +9,7 @@ use Rattle.pdb_io.specs.declared.shelf.KeepFault.{KeepFault}
 use Rattle.pdb_io.specs.declared.shelf.KeepFault.TheVariants as keep
 use Rattle.pdb_run.specs.Lines.{memory_line, named_line, reply_text, shown}
 use Rattle.pdb_run.specs.Plans.{Plan, Reply, Wanted}
-use Rattle.pdb_run.specs.Readings.{AreRead, IsFirstUnread, Tells, left_by_all}
+use Rattle.pdb_run.specs.Readings.{AreRead, IsAsTold, IsFirstUnread, left_by_all}
 use Rattle.pdb_run.specs.declared.status.Status.{Status}
 use Rattle.pdb_run.specs.declared.status.Status.TheVariants.{Yes, Refused, Fault, NoMemory}
 
@@ -28,6 +28,7 @@ world files failed reader written = record { files = files; failed = failed; rea
 
 -- ---- the one thing that a run does
 
+-- what a run comes to: a reply, a fault, or want of memory
 pub data Outcome : Type 0 where
   -- this reply on these inputs
   replied : List Bytes → Reply → Outcome
@@ -118,9 +119,9 @@ LeavesFiles plan old new no_memory = new ≡ old
 -- once all inputs are read, the reader has what they left: all that it had, where none of them is the reader; how far it was
 -- read before a fault or want of memory is open
 abbrev pub LeavesReader : Plan → Option Bytes → Option Bytes → Outcome → Type 0
-LeavesReader plan old new (replied inputs reply) = Tells (left_by_all old plan.inputs) new
+LeavesReader plan old new (replied inputs reply) = IsAsTold (left_by_all old plan.inputs) new
 LeavesReader plan old new (unread wanted why) = ⊤
-LeavesReader plan old new (unkept name why) = Tells (left_by_all old plan.inputs) new
+LeavesReader plan old new (unkept name why) = IsAsTold (left_by_all old plan.inputs) new
 LeavesReader plan old new no_memory = ⊤
 
 -- the text was written whole, or the writer failed with at least one byte of it left to write
@@ -146,6 +147,6 @@ pub record IsAnswered (plan : Plan) (old new : World) (status : Status) : Type 0
   pub reply : Reply
   pub right : IsRight plan old inputs reply
   pub files : new.files ≡ with_kept old.files plan.keeps_under (kept reply)
-  pub reader : Tells (left_by_all old.reader plan.inputs) new.reader
+  pub reader : IsAsTold (left_by_all old.reader plan.inputs) new.reader
   pub lines : Appends old.written new.written (reply_text reply)
   pub is_status : status ≡ status_of_reply reply.is_yes

@@ -4,8 +4,8 @@ use Rattle.pdb_run.specs.declared.status.Status.{Status}
 use Rattle.pdb_run.specs.declared.status.Status.TheVariants.{Yes, Refused, Fault, NoMemory}
 
 -- 0 for a yes, 1 for a refusal, 2 for bad words or a fault of a read or a write, 3 for want of memory
-abbrev pub number_of : Status → ℕ
-number_of Yes = 0
-number_of Refused = 1
-number_of Fault = 2
-number_of NoMemory = 3
+abbrev pub status_number : Status → ℕ
+status_number Yes = 0
+status_number Refused = 1
+status_number Fault = 2
+status_number NoMemory = 3

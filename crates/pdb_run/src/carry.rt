@@ -6,7 +6,7 @@ ghost use Rattle.pdb_io.specs.Shelves.{KeepsOthers};
 ghost use Rattle.pdb_io.specs.Streams.{AppendsFront};
 ghost use Rattle.pdb_run.specs.Lines.{memory_line, named_line, reply_text, shown, shown_byte};
 ghost use Rattle.pdb_run.specs.Plans.{plan_under};
-ghost use Rattle.pdb_run.specs.Readings.{AreRead, Tells, left_by_all, wanted_of};
+ghost use Rattle.pdb_run.specs.Readings.{AreRead, IsAsTold, left_by_all, wanted_of};
 ghost use Rattle.pdb_run.specs.Replies.{all_bytes, reply_of};
 ghost use Rattle.pdb_run.specs.Runs.{Ends, Says, World, kept, status_of, status_of_reply, text_of, unkept, unread, with_kept, world};
 
@@ -31,7 +31,7 @@ pub fn read_inputs<C: Command, S: Shelf, R: Read, W: Write>(
 ) -> Result<Vec<Vec<u8>>, Status>
     ensures read { IfOk result (λ inputs. AreRead (S.held shelf.old) (R.remaining reader.old) (C.wanted command.now) (all_bytes inputs.items)) }
     ensures count { IfOk result (λ inputs. length inputs.items ≡ length (C.wanted command.now)) }
-    ensures behind { OnOk result (Tells (left_by_all (R.remaining reader.old) (C.wanted command.now)) (R.remaining reader.new)) }
+    ensures behind { OnOk result (IsAsTold (left_by_all (R.remaining reader.old) (C.wanted command.now)) (R.remaining reader.new)) }
     ensures silent { OnOk result (W.contents out.new ≡ W.contents out.old) }
     ensures ends { IfErr result (λ status. Ends (plan_under (C.keeps_under command.now) (C.wanted command.now) (C.MayReply command.now) (C.TakesMemory command.now))
         (world (S.held shelf.old) (S.has_failed shelf.old) (R.remaining reader.old) (W.contents out.old))
@@ -59,7 +59,7 @@ pub fn conclude<C: Command, W: Write>(
     requires memory { OnErr answer.now (C.TakesMemory command.now (all_bytes inputs.now)) }
     requires keeps_nothing { C.keeps_under command.now ≡ None }
     ensures { (old new : World) → AreRead old.files old.reader (C.wanted command.now) (all_bytes inputs.now)
-        → Tells (left_by_all old.reader (C.wanted command.now)) new.reader → new.files ≡ old.files
+        → IsAsTold (left_by_all old.reader (C.wanted command.now)) new.reader → new.files ≡ old.files
         → W.contents out.old ≡ old.written → W.contents out.new ≡ new.written
         → Ends (plan_under (C.keeps_under command.now) (C.wanted command.now) (C.MayReply command.now) (C.TakesMemory command.now)) old new result }
 {
@@ -84,7 +84,7 @@ pub fn keep_and_conclude<C: Command, S: Shelf, W: Write>(
     requires memory { OnErr answer.now (C.TakesMemory command.now (all_bytes inputs.now)) }
     requires under { C.keeps_under command.now ≡ Some name.now }
     ensures { (old new : World) → AreRead old.files old.reader (C.wanted command.now) (all_bytes inputs.now)
-        → Tells (left_by_all old.reader (C.wanted command.now)) new.reader
+        → IsAsTold (left_by_all old.reader (C.wanted command.now)) new.reader
         → S.held shelf.old ≡ old.files → S.held shelf.new ≡ new.files → S.has_failed shelf.new ≡ new.failed
         → W.contents out.old ≡ old.written → W.contents out.new ≡ new.written
         → Ends (plan_under (C.keeps_under command.now) (C.wanted command.now) (C.MayReply command.now) (C.TakesMemory command.now)) old new result }

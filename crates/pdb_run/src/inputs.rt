@@ -1,7 +1,7 @@
 //! The inputs of a command.
 
 ghost use Rattle.std.specs.Prelude.{◌≡◌, map, IfOk, IfErr, OnOk};
-ghost use Rattle.pdb_run.specs.Readings.{AreRead, IsFirstUnread, IsNext, IsRead, IsUnread, Tells, left, left_by_all, wanted_of};
+ghost use Rattle.pdb_run.specs.Readings.{AreRead, IsAsTold, IsFirstUnread, IsNext, IsRead, IsUnread, left, left_by_all, wanted_of};
 ghost use Rattle.pdb_run.specs.Replies.{all_bytes};
 
 use pdb_io::shelf::Shelf;
@@ -31,7 +31,7 @@ pub fn load_all<'a, S: Shelf, R: Read>(
     reader: &mut R,
 ) -> Result<Vec<Vec<u8>>, Unread<'a>>
     ensures read { IfOk result (λ inputs. AreRead (S.held shelf.old) (R.remaining reader.old) (map wanted_of wanted.now) (all_bytes inputs.items)) }
-    ensures behind { OnOk result (Tells (left_by_all (R.remaining reader.old) (map wanted_of wanted.now)) (R.remaining reader.new)) }
+    ensures behind { OnOk result (IsAsTold (left_by_all (R.remaining reader.old) (map wanted_of wanted.now)) (R.remaining reader.new)) }
     ensures unread { IfErr result (λ e. IsFirstUnread (S.held shelf.old) (R.remaining reader.old) (S.has_failed shelf.new) (map wanted_of wanted.now) (wanted_of e.input) e.why) }
     ensures same { S.held shelf.new ≡ S.held shelf.old }
 {
@@ -71,7 +71,7 @@ fn load<S: Shelf, R: Read>(
     reader: &mut R,
 ) -> Result<Vec<u8>, ReadFault>
     ensures read { IfOk result (λ bytes. IsRead (S.held shelf.old) (R.remaining reader.old) (wanted_of input.now) bytes.items) }
-    ensures behind { OnOk result (Tells (left (R.remaining reader.old) (wanted_of input.now).name) (R.remaining reader.new)) }
+    ensures behind { OnOk result (IsAsTold (left (R.remaining reader.old) (wanted_of input.now).name) (R.remaining reader.new)) }
     ensures unread { IfErr result (λ why. IsUnread (S.held shelf.old) (R.remaining reader.old) (S.has_failed shelf.new) (wanted_of input.now) why) }
     ensures same { S.held shelf.new ≡ S.held shelf.old }
 {

@@ -1,7 +1,7 @@
 //! How a run ended, for the caller of a program.
 
 ghost use Rattle.std.specs.Prelude.{◌≡◌};
-ghost use Rattle.pdb_run.specs.Statuses.{number_of};
+ghost use Rattle.pdb_run.specs.Statuses.{status_number};
 
 /// How a run ended.
 #[derive(Clone, Copy, Debug, PartialEq, Eq)]
@@ -19,7 +19,7 @@ pub enum Status {
 impl Status {
     /// The exit status of the program: 0 to 3.
     pub fn code(self) -> u8
-        ensures { result ≡ number_of self }
+        ensures { result ≡ status_number self }
     {
         match self {
             Status::Yes => 0,

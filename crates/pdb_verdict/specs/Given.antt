@@ -5,6 +5,7 @@ use Rattle.pdb_run.specs.Replies.{all_bytes}
 use Rattle.pdb_verdict.specs.declared.inputs.Inputs.{Inputs}
 use Rattle.pdb_verdict.specs.declared.inputs.Inputs.TheVariants as inputs
 
+-- what a command is to check: the bytes of each of its inputs
 pub data Given : Type 0 where
   -- of `replay`: a puzzle text
   puzzle_text : Bytes → Given

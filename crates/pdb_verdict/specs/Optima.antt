@@ -46,10 +46,12 @@ abbrev pub solved_by : List ℕ → Result ℕ MoveFault → Result (List ℕ ×
 solved_by board (Err refused) = Err (fault.Moves refused)
 solved_by board (Ok n) = Ok (board, n)
 
+-- the same of a board that was read, and otherwise why the board was refused
 abbrev pub solved_board : Result (List ℕ) BoardFault → Bytes → Result (List ℕ × ℕ) Fault
 solved_board (Err refused) moves = Err (fault.Board refused)
 solved_board (Ok board) moves = solved_by board (replay_of board moves)
 
+-- the same of the two parts of a puzzle text, and otherwise that the text has no two parts
 abbrev pub solved_parts : Option (Bytes × Bytes) → Result (List ℕ × ℕ) Fault
 solved_parts None = Err fault.P1
 solved_parts (Some parts) = solved_board (board_of_text parts.0) parts.1

@@ -1,6 +1,7 @@
 //! Verdicts on claims.
 
-ghost use Rattle.std.specs.Prelude.{◌≡◌, ◌⊎◌, ◌<◌, ◌≤◌, Ok};
+ghost use Rattle.std.specs.Prelude.{◌≡◌, ◌⊎◌, Ok};
+ghost use Rattle.work_run.specs.Workers.{AreWorkers};
 ghost use Rattle.pdb_verdict.specs.Given.{given};
 ghost use Rattle.pdb_verdict.specs.Verdicts.{HoldsOfSolutions, IsAnswerTo, IsTrueOf, LacksMemory};
 
@@ -95,7 +96,7 @@ pub fn verify<H: Threads + Wait, G: Gate + Sync>(
     workers: u8,
     gate: &G,
 ) -> Result<Verdict, Fault>
-    requires { (0 < workers) × (workers ≤ 64) }
+    requires { AreWorkers workers }
     // A yes comes only where it is true, and always then where memory is there.
     ensures yes { (verdict : Verdict) → result ≡ Ok verdict → IsTrueOf (given inputs.now) verdict }
     ensures always { (verdict : Verdict) → IsTrueOf (given inputs.now) verdict → (result ≡ Ok verdict) ⊎ LacksMemory (given inputs.now) result }

@@ -1,6 +1,7 @@
 //! Who checks what has many blocks.
 
-ghost use Rattle.std.specs.Prelude.{◌≡◌, ◌<◌, ◌≤◌, ℕ};
+ghost use Rattle.std.specs.Prelude.{◌≡◌, ℕ};
+ghost use Rattle.work_run.specs.Workers.{AreWorkers};
 
 use std::marker::Model;
 
@@ -17,13 +18,13 @@ impl<'a, H, G> Model for Workers<'a, H, G> {
 
     ghost view = { λ workers. workers.count };
 
-    ghost invariant = { λ workers. (0 < workers.count) × (workers.count ≤ 64) };
+    ghost invariant = { λ workers. AreWorkers workers.count };
 }
 
 impl<'a, H, G> Workers<'a, H, G> {
     /// So many workers.
     pub fn new(rt: &'a H, count: u8, gate: &'a G) -> Workers<'a, H, G>
-        requires { (0 < count) × (count ≤ 64) }
+        requires { AreWorkers count }
         ensures { result ≡ count }
     {
         Workers { rt, count, gate }

@@ -5,6 +5,7 @@ use Rattle.pdb_words.specs.declared.asked.Request.{Request}
 use Rattle.pdb_words.specs.declared.asked.Request.TheVariants as request
 use Rattle.pdb_words.specs.declared.asked.Search.{Search}
 
+-- what words ask for: a command, with the names and numbers it is given
 pub data Asked : Type 0 where
   -- the verdict on the puzzle text of this file, or of standard input where there is no name
   replay : Option (List ℕ) → Asked
@@ -21,9 +22,11 @@ pub data Asked : Type 0 where
   -- log and its tables, in order, how many workers check the tables and the log, and how many boards may be expanded
   solve : List ℕ → List ℕ → List ℕ → List (List ℕ) → ℕ → ℕ → Asked
 
+-- the names of the tables with which a log is to be checked
 abbrev names_of_tables : LogCheck → List (List ℕ)
 names_of_tables check = map (λ s. s.now) check.tables.items
 
+-- the names of the tables with which a solution is to be searched for
 abbrev tables_of_search : Search → List (List ℕ)
 tables_of_search search = map (λ s. s.now) search.tables.items
 
@@ -31,6 +34,7 @@ tables_of_search search = map (λ s. s.now) search.tables.items
 abbrev pub AsksCheck : Type 0
 AsksCheck = List ℕ → List ℕ → List ℕ → List (List ℕ) → ℕ → Asked
 
+-- what the check of a log asks for, with this kind of claim
 abbrev pub asks_check : AsksCheck → LogCheck → Asked
 asks_check asks check = asks check.claim.now check.sets.now check.log.now (names_of_tables check) check.workers
 

@@ -4,6 +4,7 @@ use Rattle.clap.specs.Walk.{Row, Rule, Text}
 use Rattle.clap.specs.declared.builder.value_parser.ValueParser.TheVariants as parser
 use Rattle.pdb_words.specs.Numbers.{number_flag, number_in, number_within, writes_within}
 
+-- the flag, as `clap` sees it
 abbrev pub budget_flag : Rule
 budget_flag = number_flag (codes "budget") (parser.Unsigned 1 1000000000000) (codes "1000000")
 

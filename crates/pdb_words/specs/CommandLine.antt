@@ -39,6 +39,7 @@ abbrev pub IsOneOf : List Text → Text → Type 0
 IsOneOf [] text = ⊥
 IsOneOf (first ∷ rest) text = (text ≡ first) ⊎ IsOneOf rest text
 
+-- the text is the name of a command
 abbrev pub IsCommand : Text → Type 0
 IsCommand name = IsOneOf commands name
 
@@ -65,6 +66,7 @@ abbrev pub asked_in : Option (Text × List Row) → Asked
 asked_in None = replay None
 asked_in (Some found) = asked_by found.0 found.1
 
+-- what words that parse ask for
 abbrev pub asked_of : List Text → Asked
 asked_of words = asked_in (subcommand_of command_line words)
 
@@ -74,6 +76,7 @@ asked_of words = asked_in (subcommand_of command_line words)
 abbrev pub faults_of : List Text → Kinds
 faults_of words = fault_of command_line words
 
+-- nothing is wrong with the words, and they don't ask for help
 abbrev pub Parses : List Text → Type 0
 Parses words = faults_of words ≡ []
 

@@ -8,6 +8,7 @@ use Rattle.pdb_words.specs.CommandLine.{faults_of}
 use Rattle.pdb_words.specs.declared.faults.WordFault.{WordFault}
 use Rattle.pdb_words.specs.declared.faults.WordFault.TheVariants as fault
 
+-- a wish for help is among what is wrong with the words
 abbrev pub AsksForHelp : List Text → Type 0
 AsksForHelp words = IsAmong DisplayHelp (faults_of words)
 

@@ -4,6 +4,7 @@ use Rattle.clap.specs.Walk.{Row, Rule, Text}
 use Rattle.clap.specs.declared.builder.value_parser.ValueParser.TheVariants as parser
 use Rattle.pdb_words.specs.Numbers.{number_flag, number_in, number_within, writes_within}
 
+-- the flag, as `clap` sees it
 abbrev pub workers_flag : Rule
 workers_flag = number_flag (codes "workers") (parser.Signed (pos 1) (pos 64)) (codes "1")
 

@@ -5,7 +5,7 @@ use Rattle.puz_board.specs.declared.moves.Move.{Move}
 use Rattle.puz_board.specs.declared.moves.Move.TheVariants.{Up, Down, Left, Right}
 use Rattle.puz_board.specs.Boards.{IsBoardOf, at, blank, slid}
 use Rattle.puz_board.specs.Cells.{Adjacent, step_of}
-use Rattle.puz_board.specs.Costs.{IsHome, IsLeastCost, IsNeverHome, LeadsHome, cost, is_one_of}
+use Rattle.puz_board.specs.Costs.{IsHome, IsLeastCost, IsNeverHome, LeadsHome, cost, has}
 use Rattle.puz_board.specs.Paths.{IsPath, after}
 use Rattle.puz_board.proofs.CellLemmas.{stays}
 use Rattle.puz_board.proofs.BoardLemmas.{IsBoardOf-slid, blank-slid, side_of-board}
@@ -31,7 +31,7 @@ pub record State (n : ℕ) : Type 0 where
 module _ (n : ℕ) (tiles : List ℕ) where
   -- a step that moves one of the tiles, or another one
   abbrev pub Step : Bool → State n → State n → Type 0
-  Step paid s t = (c : ℕ) × Adjacent n (blank s.cells) c × (is_one_of tiles (at s.cells c) ≡ paid) × (t.cells ≡ slid s.cells c)
+  Step paid s t = (c : ℕ) × Adjacent n (blank s.cells) c × (has tiles (at s.cells c) ≡ paid) × (t.cells ≡ slid s.cells c)
 
   abbrev pub Free : State n → State n → Type 0
   Free = Step false
@@ -46,15 +46,15 @@ module _ (n : ℕ) (tiles : List ℕ) where
   moved s c l = record { cells = slid s.cells c; good = IsBoardOf-slid n s.cells s.good c l }
 
   -- the cost of a path that begins with a step of one of the tiles, or of another one
-  cost_paid : (b : List ℕ) (c : ℕ) (cs : List ℕ) → is_one_of tiles (at b c) ≡ true → cost tiles b (c ∷ cs) ≡ suc (cost tiles (slid b c) cs)
+  cost_paid : (b : List ℕ) (c : ℕ) (cs : List ℕ) → has tiles (at b c) ≡ true → cost tiles b (c ∷ cs) ≡ suc (cost tiles (slid b c) cs)
   cost_paid b c cs e = ap (λ h. cond h 1 0 + cost tiles (slid b c) cs) e ∙ one-add (cost tiles (slid b c) cs)
 
-  cost_free : (b : List ℕ) (c : ℕ) (cs : List ℕ) → is_one_of tiles (at b c) ≡ false → cost tiles b (c ∷ cs) ≡ cost tiles (slid b c) cs
+  cost_free : (b : List ℕ) (c : ℕ) (cs : List ℕ) → has tiles (at b c) ≡ false → cost tiles b (c ∷ cs) ≡ cost tiles (slid b c) cs
   cost_free b c cs e = ap (λ h. cond h 1 0 + cost tiles (slid b c) cs) e ∙ zero-add (cost tiles (slid b c) cs)
 
   -- ---- a path is a way of its cost
 
-  begun : (s : State n) (c : ℕ) (cs : List ℕ) (l : c < n * n) → Adjacent n (blank s.cells) c → (paid : Bool) → is_one_of tiles (at s.cells c) ≡ paid
+  begun : (s : State n) (c : ℕ) (cs : List ℕ) (l : c < n * n) → Adjacent n (blank s.cells) c → (paid : Bool) → has tiles (at s.cells c) ≡ paid
       → Ways.Way Free Paid Home (moved s c l) (cost tiles (slid s.cells c) cs) → Ways.Way Free Paid Home s (cost tiles s.cells (c ∷ cs))
   begun s c cs l a true e w = subst (λ x. Ways.Way Free Paid Home s x) (sym (cost_paid s.cells c cs e)) (Ways.paid (c, a, e, refl) w)
   begun s c cs l a false e w = subst (λ x. Ways.Way Free Paid Home s x) (sym (cost_free s.cells c cs e)) (Ways.free (c, a, e, refl) w)
@@ -64,7 +64,7 @@ module _ (n : ℕ) (tiles : List ℕ) where
   way_along (c ∷ cs) s walk home =
       let inside : c < n * n = walk.0.0 in
       let on : IsPath n (blank (slid s.cells c)) cs = subst (λ x. IsPath n x cs) (sym (blank-slid n s.cells s.good c inside)) walk.1 in
-      begun s c cs inside walk.0 (is_one_of tiles (at s.cells c)) refl (way_along cs (moved s c inside) on home)
+      begun s c cs inside walk.0 (has tiles (at s.cells c)) refl (way_along cs (moved s c inside) on home)
 
   pub way_of_path : (path : List ℕ) (s : State n) → LeadsHome tiles s.cells path → Ways.Way Free Paid Home s (cost tiles s.cells path)
   way_of_path path s leads = way_along path s (subst (λ m. IsPath m (blank s.cells) path) (side_of-board n s.cells s.good) leads.walk) leads.ends
@@ -77,7 +77,7 @@ module _ (n : ℕ) (tiles : List ℕ) where
     ends : IsHome tiles (after s.cells path)
     costs : cost tiles s.cells path ≡ d
 
-  total : (paid : Bool) (s : State n) (c : ℕ) (cs : List ℕ) (d e : ℕ) → is_one_of tiles (at s.cells c) ≡ paid → cost tiles (slid s.cells c) cs ≡ d → cond paid (suc d) d ≡ e
+  total : (paid : Bool) (s : State n) (c : ℕ) (cs : List ℕ) (d e : ℕ) → has tiles (at s.cells c) ≡ paid → cost tiles (slid s.cells c) cs ≡ d → cond paid (suc d) d ≡ e
       → cost tiles s.cells (c ∷ cs) ≡ e
   total true s c cs d e is rest sum = cost_paid s.cells c cs is ∙ ap suc rest ∙ sum
   total false s c cs d e is rest sum = cost_free s.cells c cs is ∙ rest ∙ sum

@@ -1,19 +1,17 @@
 -- What is replayed with a count solves the board, and back.
-use Rattle.std.proofs.Common.{◌≡◌, ℕ, ◌+◌, ◌≤◌, min, true, false, ltb, List, [], ◌∷◌, length, take, Option, Some, None, Ok, Err, refl, sym, ◌∙◌, ap, arith, ◌||◌}
+use Rattle.std.proofs.Common.{◌≡◌, ℕ, ◌≤◌, true, false, ltb, List, length, Option, Some, None, Ok, Err, refl, sym, ◌∙◌, ap, arith, ◌||◌}
 use Rattle.std.proofs.lemmas.Bool.{cond-true, ltb-false}
-use Rattle.std.proofs.Math.Seq.{take-length}
-use Rattle.std.specs.Prelude.{is_none}
 use Rattle.std.specs.Option.{option_map_or}
 use Rattle.puz_board.specs.declared.moves.Move.{Move}
 use Rattle.puz_board.specs.declared.replays.MoveFault.TheVariants.{M1, M2, M3, M4}
 use Rattle.puz_board.specs.Boards.{IsBoard, is_goal}
 use Rattle.puz_board.specs.BoardTexts.{is_separator, refuse}
-use Rattle.puz_board.specs.MovesTexts.{Solves, is_letter, leaves_at, leaving, moves_of, replay_of, replay_of_moves, stray_letter}
+use Rattle.puz_board.specs.MovesTexts.{Solves, is_letter, leaving, moves_of, replay_of, replay_of_moves, stray_letter}
 use Rattle.puz_board.specs.Paths.{after, board_after}
 use Rattle.puz_board.proofs.BoardLemmas.{goal-is_goal, is_goal-goal}
-use Rattle.puz_board.proofs.FirstLemmas.{AllPass-position, fails_below, position-AllPass}
+use Rattle.puz_board.proofs.FirstLemmas.{AllPass-position, position-AllPass}
 use Rattle.puz_board.proofs.PathLemmas.{board_after-led, led-board_after}
-use Rattle.puz_board.proofs.PlayLemmas.{board_after-nothing, replay-ends}
+use Rattle.puz_board.proofs.PlayLemmas.{replay-ends}
 use Rattle.puz_board.proofs.RefusalLemmas.{refuse_ok, unless_ok, when_ok}
 
 -- what solves a board is answered with its count
@@ -28,15 +26,6 @@ replay_of-solved b text n good solved =
     ap Ok (sym play.1 ∙ solved.count)
 
 -- ---- and back
-
--- where no move of at most 1000 leaves the board, they all stay
-all_stay : (b : List ℕ) (ms : List Move) → leaving b ms ≡ None → length ms ≤ 1000 → is_none (board_after b ms) ≡ false
-unfolding leaving
-all_stay b [] none l = ap is_none (board_after-nothing b)
-all_stay b (m ∷ ms) none l =
-    let last : length ms + 1 ≡ length (m ∷ ms) = omega arith in
-    ap (λ ns. is_none (board_after b ns)) (sym (take-length (m ∷ ms)) ∙ ap (λ n. take n (m ∷ ms)) (sym last)) ∙
-    fails_below (leaves_at b (m ∷ ms)) (min 1000 (length (m ∷ ms))) none (length ms) (omega arith)
 
 -- a board that is there and passes the test
 goal_of : (o : Option (List ℕ)) → option_map_or is_goal o false ≡ true → (d : List ℕ) × (o ≡ Some d) × (is_goal d ≡ true)

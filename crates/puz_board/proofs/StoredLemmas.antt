@@ -41,7 +41,7 @@ module _ (s : Inside) (kept : IsStored s) (z c : ℕ) (is_blank : z ≡ blank (n
 
 -- ---- a board is stored
 
-one_more : (xs : List ℕ) (i m : ℕ) → i < length xs → set (take i xs ++ replicate (suc m) 0) i (get_or xs i 0) ≡ take (suc i) xs ++ replicate m 0
+pub one_more : (xs : List ℕ) (i m : ℕ) → i < length xs → set (take i xs ++ replicate (suc m) 0) i (get_or xs i 0) ≡ take (suc i) xs ++ replicate m 0
 one_more [] i m l = absurd (omega arith)
 one_more (x ∷ xs) zero m l = refl
 one_more (x ∷ xs) (suc i) m l = ap (λ ys. x ∷ ys) (one_more xs i m (omega arith))

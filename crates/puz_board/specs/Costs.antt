@@ -4,14 +4,14 @@ use Rattle.std.specs.List.{list_any, AllByRecursion}
 use Rattle.puz_board.specs.Boards.{at, blank, cell_of, side_of, slid}
 use Rattle.puz_board.specs.Paths.{IsPath, after}
 
--- whether a tile is one of them
-abbrev pub is_one_of : List ℕ → ℕ → Bool
-is_one_of tiles t = list_any (λ x. x == t) tiles
+-- whether a tile is one of the tiles
+abbrev pub has : List ℕ → ℕ → Bool
+has tiles t = list_any (λ x. x == t) tiles
 
 -- how many steps of a path move one of the tiles
 abbrev pub cost : List ℕ → List ℕ → List ℕ → ℕ
 cost tiles b [] = 0
-cost tiles b (c ∷ cs) = (if is_one_of tiles (at b c) then 1 else 0) + cost tiles (slid b c) cs
+cost tiles b (c ∷ cs) = (if has tiles (at b c) then 1 else 0) + cost tiles (slid b c) cs
 
 -- each of the tiles is in the cell of its own number, and the blank is in cell 0; the other tiles may be anywhere
 pub record IsHome (tiles b : List ℕ) : Type 0 where

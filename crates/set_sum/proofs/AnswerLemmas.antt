@@ -21,7 +21,7 @@ all_take P (y ∷ xs) i zero x low is all = absurd (omega arith)
 all_take P (y ∷ xs) zero (suc j) x low is all = subst P (let e : Some y ≡ Some x = is in cc) all.0
 all_take P (y ∷ xs) (suc i) (suc j) x low is all = all_take P xs i j x (omega arith) is all.1
 
-all_get : {X : Type 0} (P : X → Type 0) (xs : List X) (i : ℕ) (x : X) → slice_get xs i ≡ Some x → AllByRecursion P xs → P x
+pub all_get : {X : Type 0} (P : X → Type 0) (xs : List X) (i : ℕ) (x : X) → slice_get xs i ≡ Some x → AllByRecursion P xs → P x
 all_get P [] i x is all = absurd (let e : _ = is in cc)
 all_get P (y ∷ xs) zero x is all = subst P (let e : Some y ≡ Some x = is in cc) all.0
 all_get P (y ∷ xs) (suc i) x is all = all_get P xs i x is all.1

@@ -5,17 +5,17 @@ use Rattle.std.specs.List.{AllByRecursion}
 use Rattle.std.proofs.lemmas.Bool.{cases_eq, cases_lt, eqb-true, eq-eqb}
 use Rattle.std.proofs.lemmas.List.{append-nil, append_cancel_left}
 use Rattle.std.proofs.lemmas.List.Folds.{Any-from_list_any, list_any-from_Any}
-use Rattle.puz_board.specs.Costs.{is_one_of}
+use Rattle.puz_board.specs.Costs.{has}
 use Rattle.pat_place.specs.Patterns.{IsAscending}
 use Rattle.tab_file.specs.Tables.{Table}
 use Rattle.set_sum.specs.Bundles.{BundleView, members}
 use Rattle.set_sum.specs.Reading.{AreAlike, AreFew, AreSets, IsBundleOf, IsFaultOf, IsFirstWith, NamesNoTable, NamesOverlap, first_side, patterns_of}
-use Rattle.set_sum.specs.SetTexts.{AreLines, BeginsWithNoLine, IsFirstBadLine, IsLine, line_of, lines_of, numbers_text, numeral}
+use Rattle.set_sum.specs.SetTexts.{AreLines, BeginsWithNoLine, IsFirstBadLine, IsLine, numbers_text, numeral, set_line, set_lines}
 use Rattle.set_sum.specs.Sums.{HaveOverlap, Overlap}
 use Rattle.set_sum.specs.declared.faults.SetFault.{SetFault}
 use Rattle.set_sum.specs.declared.faults.SetFault.TheVariants.{S1, S2, S3, S4, S5}
 use Rattle.set_sum.proofs.AnyLemmas.{Any-cases, Any-here, Any-later, Any-none, Any-weaker}
-use Rattle.set_sum.proofs.LineLemmas.{line_of-text, lines_of-cons}
+use Rattle.set_sum.proofs.LineLemmas.{set_line-text, set_lines-cons}
 use Rattle.set_sum.proofs.ListLemmas.{all_weaker}
 use Rattle.set_sum.proofs.NumeralLemmas.{head_is, numbers_text-cons, tail_is}
 
@@ -145,12 +145,12 @@ record HasLine (text : List ℕ) : Type 0 where
   numbers : List ℕ
   behind : List ℕ
   is_line : IsLine numbers
-  whole : text ≡ line_of numbers ++ behind
+  whole : text ≡ set_line numbers ++ behind
 
 -- the word `set`, and then the rest of a line with a number
 line_decided : (text : List ℕ) → Decided (HasLine text)
 line_decided text = elim (begins_decided (115 ∷ 101 ∷ 116 ∷ []) text) [
-  | inr none ↦ inr (λ h. none (numbers_text h.numbers ++ 10 ∷ h.behind, h.whole ∙ line_of-text h.numbers h.behind))
+  | inr none ↦ inr (λ h. none (numbers_text h.numbers ++ 10 ∷ h.behind, h.whole ∙ set_line-text h.numbers h.behind))
   | inl word ↦ elim (ends_decided 100 0 refl word.0) [
     | inr none ↦ inr (λ h. let line = h.is_line in none (record {
       numbers = h.numbers;
@@ -164,8 +164,8 @@ line_decided text = elim (begins_decided (115 ∷ 101 ∷ 116 ∷ []) text) [
   ]
 ]
   where
-    behind_word : (rest numbers behind : List ℕ) → 115 ∷ 101 ∷ 116 ∷ rest ≡ line_of numbers ++ behind → rest ≡ numbers_text numbers ++ 10 ∷ behind
-    behind_word rest numbers behind same = append_cancel_left (115 ∷ 101 ∷ 116 ∷ []) rest (numbers_text numbers ++ 10 ∷ behind) (same ∙ line_of-text numbers behind)
+    behind_word : (rest numbers behind : List ℕ) → 115 ∷ 101 ∷ 116 ∷ rest ≡ set_line numbers ++ behind → rest ≡ numbers_text numbers ++ 10 ∷ behind
+    behind_word rest numbers behind same = append_cancel_left (115 ∷ 101 ∷ 116 ∷ []) rest (numbers_text numbers ++ 10 ∷ behind) (same ∙ set_line-text numbers behind)
 
     no_numbers : (rest behind numbers other : List ℕ) → rest ≡ 10 ∷ behind → 0 < length numbers → rest ≡ numbers_text numbers ++ 10 ∷ other → ⊥
     no_numbers rest behind [] other is some same = omega arith
@@ -180,7 +180,7 @@ line_decided text = elim (begins_decided (115 ∷ 101 ∷ 116 ∷ []) text) [
       numbers = n ∷ ns;
       behind = behind;
       is_line = record { some = omega arith; short = short; ascending = ascending };
-      whole = word ∙ ap (λ t. 115 ∷ 101 ∷ 116 ∷ t) whole ∙ sym (line_of-text (n ∷ ns) behind);
+      whole = word ∙ ap (λ t. 115 ∷ 101 ∷ 116 ∷ t) whole ∙ sym (set_line-text (n ∷ ns) behind);
     })
 
 -- ---- the lines of a text, as far as lines go
@@ -189,12 +189,12 @@ record HasLines (text : List ℕ) : Type 0 where
   lines : List (List ℕ)
   rest : List ℕ
   are_lines : AllByRecursion IsLine lines
-  whole : text ≡ lines_of lines ++ rest
+  whole : text ≡ set_lines lines ++ rest
   bad : BeginsWithNoLine rest
 
-shorter : (text numbers behind : List ℕ) → text ≡ line_of numbers ++ behind → length behind < length text
+shorter : (text numbers behind : List ℕ) → text ≡ set_line numbers ++ behind → length behind < length text
 shorter text numbers behind whole =
-    let size : length text ≡ length (115 ∷ 101 ∷ 116 ∷ (numbers_text numbers ++ 10 ∷ behind)) = ap length (whole ∙ line_of-text numbers behind) in
+    let size : length text ≡ length (115 ∷ 101 ∷ 116 ∷ (numbers_text numbers ++ 10 ∷ behind)) = ap length (whole ∙ set_line-text numbers behind) in
     let parts : length (numbers_text numbers ++ 10 ∷ behind) ≡ length (numbers_text numbers) + length (10 ∷ behind) = length-append (numbers_text numbers) (10 ∷ behind) in
     omega arith
 
@@ -212,7 +212,7 @@ one_line_more text first others = record {
   lines = first.numbers ∷ others.lines;
   rest = others.rest;
   are_lines = (first.is_line, others.are_lines);
-  whole = first.whole ∙ ap (λ t. line_of first.numbers ++ t) others.whole ∙ sym (lines_of-cons first.numbers others.lines others.rest);
+  whole = first.whole ∙ ap (λ t. set_line first.numbers ++ t) others.whole ∙ sym (set_lines-cons first.numbers others.lines others.rest);
   bad = others.bad;
 }
 
@@ -230,21 +230,21 @@ lines_found (suc most) text low = elim (line_decided text) [
 lines_or_bad : (text : List ℕ) → ((sets : List (List ℕ)) × AreLines text sets) ⊎ ((line : ℕ) × IsFirstBadLine text line)
 lines_or_bad text = let has = lines_found (length text) text (omega arith) in by_rest has.lines has.rest has.are_lines has.whole has.bad
   where
-    bad_at : (lines : List (List ℕ)) (rest : List ℕ) → AllByRecursion IsLine lines → text ≡ lines_of lines ++ rest → BeginsWithNoLine rest → (length lines ≡ 0) ⊎ (rest ≢ []) → IsFirstBadLine text (length lines)
+    bad_at : (lines : List (List ℕ)) (rest : List ℕ) → AllByRecursion IsLine lines → text ≡ set_lines lines ++ rest → BeginsWithNoLine rest → (length lines ≡ 0) ⊎ (rest ≢ []) → IsFirstBadLine text (length lines)
     bad_at lines rest are_lines whole bad more = record { before = lines; rest = rest; number = refl; lines = are_lines; whole = whole; more = more; bad = bad }
 
-    by_rest : (lines : List (List ℕ)) (rest : List ℕ) → AllByRecursion IsLine lines → text ≡ lines_of lines ++ rest → BeginsWithNoLine rest
+    by_rest : (lines : List (List ℕ)) (rest : List ℕ) → AllByRecursion IsLine lines → text ≡ set_lines lines ++ rest → BeginsWithNoLine rest
         → ((sets : List (List ℕ)) × AreLines text sets) ⊎ ((line : ℕ) × IsFirstBadLine text line)
     by_rest [] rest are_lines whole bad = inr (0, bad_at [] rest are_lines whole bad (inl refl))
-    by_rest (l ∷ ls) [] are_lines whole bad = inl (l ∷ ls, record { some = omega arith; lines = are_lines; whole = whole ∙ append-nil (lines_of (l ∷ ls)) })
+    by_rest (l ∷ ls) [] are_lines whole bad = inl (l ∷ ls, record { some = omega arith; lines = are_lines; whole = whole ∙ append-nil (set_lines (l ∷ ls)) })
     by_rest (l ∷ ls) (r ∷ rs) are_lines whole bad = inr (length (l ∷ ls), bad_at (l ∷ ls) (r ∷ rs) are_lines whole bad (inr (λ e. cc)))
 
 -- ---- tables that overlap
 
 overlap_decided : (p q : List ℕ) → Decided (Overlap p q)
-overlap_decided p q = elim (any_decided (λ t. is_one_of q t ≡ true) (λ t. is_true_decided (is_one_of q t)) p) [
+overlap_decided p q = elim (any_decided (λ t. has q t ≡ true) (λ t. is_true_decided (has q t)) p) [
   | inl any ↦ inl (any.1, list_any-from_Any (λ x. x == any.1) p (any.0, any.1, any.2, any.3, eq-eqb any.1 any.1 refl), any.4)
-  | inr none ↦ inr (λ h. none (Any-weaker (λ x. (x == h.0) ≡ true) (λ x. is_one_of q x ≡ true) (λ x same. subst (λ t. is_one_of q t ≡ true) (sym (eqb-true x h.0 same)) h.2) p (Any-from_list_any (λ x. x == h.0) p h.1)))
+  | inr none ↦ inr (λ h. none (Any-weaker (λ x. (x == h.0) ≡ true) (λ x. has q x ≡ true) (λ x same. subst (λ t. has q t ≡ true) (sym (eqb-true x h.0 same)) h.2) p (Any-from_list_any (λ x. x == h.0) p h.1)))
 ]
 
 have_overlap_decided : (patterns : List (List ℕ)) → Decided (HaveOverlap patterns)

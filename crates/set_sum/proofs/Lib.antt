@@ -6,7 +6,7 @@ pub mod DecidedLemmas
 mod LineLemmas
 mod LinesReadLemmas
 pub mod ListLemmas
-mod NumeralLemmas
+pub mod NumeralLemmas
 mod ReadLemmas
 pub mod SayLemmas
 pub mod SumLemmas

@@ -1,26 +1,17 @@
 -- Lines as they are counted and kept.
-use Rattle.std.proofs.Common.{◌≡◌, ◌≢◌, ℕ, zero, suc, ◌+◌, ◌<◌, ◌≤◌, ◌⊎◌, List, [], ◌∷◌, ◌++◌, length, get_or, take, Option, Some, None, inl, inr, refl, sym, ◌∙◌, ap, subst, arith, length-append, Bool, true, false, not, eqb}
+use Rattle.std.proofs.Common.{◌≡◌, ◌≢◌, ℕ, suc, ◌+◌, ◌<◌, ◌≤◌, ◌⊎◌, List, [], ◌∷◌, ◌++◌, length, get_or, take, Option, Some, None, inl, inr, refl, sym, ◌∙◌, ap, subst, arith, length-append, Bool, true, false, not, eqb}
 use Rattle.std.proofs.lemmas.Bool.{eqb-false, eqb-true}
 use Rattle.std.proofs.lemmas.List.{append-nil, length-take, take-append-le, take_all}
 use Rattle.std.specs.Prelude.{Any, is_some, slice_get}
 use Rattle.std.specs.List.{AllByRecursion}
+use Rattle.pat_place.proofs.RankLemmas.{get-append_left, get-below}
 use Rattle.set_sum.specs.Reading.{IsFirstWith}
 use Rattle.set_sum.specs.ReadLines.{AreKept, AreRead, IsRead, IsReadLine}
-use Rattle.set_sum.specs.SetTexts.{AreLines, IsLine, line_of, lines_of, numbers_text}
-use Rattle.set_sum.proofs.LineLemmas.{lines_of-push}
+use Rattle.set_sum.specs.SetTexts.{AreLines, IsLine, numbers_text, set_line, set_lines}
+use Rattle.set_sum.proofs.LineLemmas.{set_lines-push}
 use Rattle.set_sum.proofs.ListLemmas.{all_at, all_push, all_weaker}
 
 -- ---- the first element with a property, in a longer list
-
-pub get-within : {X : Type 0} (xs : List X) (i : ℕ) (x : X) → slice_get xs i ≡ Some x → i < length xs
-get-within [] i x is = absurd (let e : _ = is in cc)
-get-within (y ∷ xs) zero x is = omega arith
-get-within (y ∷ xs) (suc i) x is = let low = get-within xs i x is in omega arith
-
-get-longer : {X : Type 0} (xs ys : List X) (i : ℕ) (x : X) → slice_get xs i ≡ Some x → slice_get (xs ++ ys) i ≡ Some x
-get-longer [] ys i x is = absurd (let e : _ = is in cc)
-get-longer (y ∷ xs) ys zero x is = is
-get-longer (y ∷ xs) ys (suc i) x is = get-longer xs ys i x is
 
 get-end : {X : Type 0} (xs : List X) (x : X) → slice_get (xs ++ x ∷ []) (length xs) ≡ Some x
 get-end [] x = refl
@@ -33,9 +24,9 @@ take-front (x ∷ xs) ys = ap (λ s. x ∷ s) (take-front xs ys)
 first-longer : {X : Type 0} (Has : X → Type 0) (xs ys : List X) (i : ℕ) → IsFirstWith Has xs i → IsFirstWith Has (xs ++ ys) i
 first-longer Has xs ys i first = record {
   item = first.item;
-  is_item = get-longer xs ys i first.item first.is_item;
+  is_item = get-append_left xs ys i first.item first.is_item;
   has = first.has;
-  first = subst (AllByRecursion (λ x. ¬ Has x)) (sym (take-append-le i xs ys (let low = get-within xs i first.item first.is_item in omega arith))) first.first;
+  first = subst (AllByRecursion (λ x. ¬ Has x)) (sym (take-append-le i xs ys (let low = get-below xs i first.item first.is_item in omega arith))) first.first;
 }
 
 first-end : {X : Type 0} (Has : X → Type 0) (xs : List X) (x : X) → AllByRecursion (λ y. ¬ Has y) xs → Has x → IsFirstWith Has (xs ++ x ∷ []) (length xs)
@@ -118,7 +109,7 @@ module _ (tables : ℕ) (lines : List (List ℕ)) (numbers : List ℕ) where
 pub record HasLines (tables : ℕ) (text rest : List ℕ) (count : ℕ) (missing : Option ℕ) (kept : List (List ℕ)) : Type 0 where
   pub lines : List (List ℕ)
   pub are_lines : AllByRecursion IsLine lines
-  pub whole : text ≡ lines_of lines ++ rest
+  pub whole : text ≡ set_lines lines ++ rest
   pub are_read : AreRead tables lines count missing kept
   pub more : (count ≡ 0) ⊎ (rest ≢ [])
 
@@ -131,8 +122,8 @@ module _ (tables : ℕ) (text rest : List ℕ) (count : ℕ) (missing : Option �
   abbrev pub longer : List (List ℕ)
   longer = has.lines ++ read.numbers ∷ []
 
-  whole_more : text ≡ lines_of longer ++ behind
-  whole_more = has.whole ∙ ap (λ s. lines_of has.lines ++ s) read.whole ∙ sym (lines_of-push has.lines read.numbers behind)
+  whole_more : text ≡ set_lines longer ++ behind
+  whole_more = has.whole ∙ ap (λ s. set_lines has.lines ++ s) read.whole ∙ sym (set_lines-push has.lines read.numbers behind)
 
   size_more : length longer ≡ length has.lines + 1
   size_more = length-append has.lines (read.numbers ∷ [])
@@ -155,7 +146,7 @@ module _ (tables : ℕ) (text rest : List ℕ) (count : ℕ) (missing : Option �
       record {
         some = (let e = size_more in omega arith);
         lines = all_push IsLine has.lines read.numbers has.are_lines read.is_line;
-        whole = whole_more ∙ ap (λ s. lines_of longer ++ s) end ∙ append-nil (lines_of longer);
+        whole = whole_more ∙ ap (λ s. set_lines longer ++ s) end ∙ append-nil (set_lines longer);
       },
       are,
     )
@@ -166,8 +157,8 @@ module _ (tables : ℕ) (text rest : List ℕ) (count : ℕ) (missing : Option �
         let old : count ≡ length has.lines = has.are_read.counted in
         let new : next ≡ length longer = are.counted in
         let e = size_more in
-        let cut : length rest ≡ length (line_of read.numbers) + length behind = ap length read.whole ∙ length-append (line_of read.numbers) behind in
-        let line : length (line_of read.numbers) ≡ suc (suc (suc (length (numbers_text read.numbers ++ 10 ∷ [])))) = refl in
+        let cut : length rest ≡ length (set_line read.numbers) + length behind = ap length read.whole ∙ length-append (set_line read.numbers) behind in
+        let line : length (set_line read.numbers) ≡ suc (suc (suc (length (numbers_text read.numbers ++ 10 ∷ [])))) = refl in
         omega arith
 
 is_some-Some : {X : Type 0} (o : Option X) → is_some o ≡ true → (x : X) × (o ≡ Some x)
@@ -206,4 +197,4 @@ pub missing_line : (tables : ℕ) (lines : List (List ℕ)) (count : ℕ) (missi
 missing_line tables lines count missing kept line are some = subst (λ m. AreKept tables lines m kept) some are.are_kept
 
 pub first-within : {X : Type 0} (Has : X → Type 0) (xs : List X) (i : ℕ) → IsFirstWith Has xs i → i < length xs
-first-within Has xs i first = get-within xs i first.item first.is_item
+first-within Has xs i first = get-below xs i first.item first.is_item

@@ -4,9 +4,9 @@ use Rattle.std.specs.Prelude.{Any}
 use Rattle.std.specs.List.{AllByRecursion}
 use Rattle.pat_place.specs.Patterns.{IsAscending}
 use Rattle.set_sum.specs.ReadLines.{IsRead, IsReadLine}
-use Rattle.set_sum.specs.SetTexts.{IsLine, line_of, numbers_text, numeral}
+use Rattle.set_sum.specs.SetTexts.{IsLine, numbers_text, numeral, set_line}
 use Rattle.set_sum.proofs.AnyLemmas.{Any-here, Any-left, Any-right}
-use Rattle.set_sum.proofs.LineLemmas.{line_of-text}
+use Rattle.set_sum.proofs.LineLemmas.{set_line-text}
 use Rattle.set_sum.proofs.ListLemmas.{all_at, all_push, all_weaker}
 use Rattle.set_sum.proofs.NumeralLemmas.{BeginsWithEnd, GoesOn, begins, goes_on, numbers_text-push, tail_is}
 
@@ -97,7 +97,7 @@ pub line_read : (tables : ℕ) (text rest kept : List ℕ) (is_there : Bool) (le
 line_read tables text rest kept is_there least has set end = record {
   numbers = has.numbers;
   is_line = record { some = some_numbers has.numbers has.last; short = has.short; ascending = has.ascending };
-  whole = has.whole ∙ sym (line_of-text has.numbers rest);
+  whole = has.whole ∙ sym (set_line-text has.numbers rest);
   is_read = elim end [
     | inl there ↦ subst (IsRead tables has.numbers) (sym there.1) (subst (IsKept tables has.numbers kept) there.0 has.is_kept)
     | inr missing ↦ subst (IsRead tables has.numbers) (sym missing.1) (subst (IsKept tables has.numbers kept) missing.0 has.is_kept)
@@ -126,7 +126,7 @@ ascending_middle [] x ys up = tt
 ascending_middle (y ∷ xs) x ys up = (all_middle (λ z. y < z) xs x ys up.0, ascending_middle xs x ys up.1)
 
 pub next_number : (tables : ℕ) (text rest kept : List ℕ) (is_there : Bool) (least : ℕ) → HasNumbers tables text (32 ∷ rest) kept is_there least
-    → (numbers behind : List ℕ) → IsLine numbers → text ≡ line_of numbers ++ behind → NextNumber rest least
+    → (numbers behind : List ℕ) → IsLine numbers → text ≡ set_line numbers ++ behind → NextNumber rest least
 next_number tables text rest kept is_there least has numbers behind line is = record {
   number = on.number;
   end = first.byte;
@@ -138,7 +138,7 @@ next_number tables text rest kept is_there least has numbers behind line is = re
 }
   where
     same : 115 ∷ 101 ∷ 116 ∷ (numbers_text has.numbers ++ 32 ∷ rest) ≡ 115 ∷ 101 ∷ 116 ∷ (numbers_text numbers ++ 10 ∷ behind)
-    same = sym has.whole ∙ is ∙ line_of-text numbers behind
+    same = sym has.whole ∙ is ∙ set_line-text numbers behind
 
     on : GoesOn has.numbers numbers rest behind
     on =
@@ -161,6 +161,6 @@ next_number tables text rest kept is_there least has numbers behind line is = re
     ]
 
 -- the line of a set begins with the word `set` and a space
-pub begins_with_set : (text numbers behind : List ℕ) → IsLine numbers → text ≡ line_of numbers ++ behind → take 4 text ≡ 115 ∷ 101 ∷ 116 ∷ 32 ∷ []
+pub begins_with_set : (text numbers behind : List ℕ) → IsLine numbers → text ≡ set_line numbers ++ behind → take 4 text ≡ 115 ∷ 101 ∷ 116 ∷ 32 ∷ []
 begins_with_set text [] behind line is = absurd (let some : 0 < 0 = line.some in omega arith)
-begins_with_set text (n ∷ numbers) behind line is = ap (take 4) (is ∙ line_of-text (n ∷ numbers) behind)
+begins_with_set text (n ∷ numbers) behind line is = ap (take 4) (is ∙ set_line-text (n ∷ numbers) behind)

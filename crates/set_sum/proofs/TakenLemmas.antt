@@ -4,7 +4,7 @@ use Rattle.std.specs.Prelude.{Any, bit_and, bit_or}
 use Rattle.std.specs.Int.{bit_at, trailing_zeros, w32}
 use Rattle.std.proofs.lemmas.Nat.{and_le_r}
 use Rattle.std.proofs.lemmas.Nat.Bits.{bit_at-trailing_zeros, bit_at-zero}
-use Rattle.puz_board.specs.Costs.{is_one_of}
+use Rattle.puz_board.specs.Costs.{has}
 use Rattle.pat_place.specs.Masks.{numbers_of}
 use Rattle.pat_place.proofs.BitLemmas.{both_in, either_in, in_below, in_both, in_left, in_right}
 use Rattle.pat_place.proofs.MaskLemmas.{has-numbers_below, in_numbers_below}
@@ -39,13 +39,13 @@ overlap_new (p ∷ ps) q rest h = elim (Any-cases (λ p. Overlap p q) p ps h) [
 -- ---- the mask
 
 abbrev HasTile : ℕ → List ℕ → Type 0
-HasTile t p = is_one_of p t ≡ true
+HasTile t p = has p t ≡ true
 
 -- the patterns are disjoint, and the bits that are set are those of their tiles
 pub record IsTaken (patterns : List (List ℕ)) (mask : ℕ) : Type 0 where
   pub disjoint : AreDisjoint patterns
-  pub covers : (t : ℕ) → bit_at mask t ≡ 1 → Any (λ p. is_one_of p t ≡ true) patterns
-  pub covered : (t : ℕ) → Any (λ p. is_one_of p t ≡ true) patterns → bit_at mask t ≡ 1
+  pub covers : (t : ℕ) → bit_at mask t ≡ 1 → Any (λ p. has p t ≡ true) patterns
+  pub covered : (t : ℕ) → Any (λ p. has p t ≡ true) patterns → bit_at mask t ≡ 1
 
 pub taken_none : IsTaken [] 0
 taken_none = record {
@@ -55,11 +55,11 @@ taken_none = record {
 }
 
 module _ (ps : List (List ℕ)) (mask m : ℕ) (q : List ℕ) (taken : IsTaken ps mask) (tiles : numbers_of m ≡ q) (fits : m < 2 ^ 32) where
-  bit_of : (t : ℕ) → is_one_of q t ≡ true → bit_at m t ≡ 1
-  bit_of t has = (in_numbers_below 32 m t (ap (λ s. is_one_of s t) tiles ∙ has)).1
+  bit_of : (t : ℕ) → has q t ≡ true → bit_at m t ≡ 1
+  bit_of t is_tile = (in_numbers_below 32 m t (ap (λ s. has s t) tiles ∙ is_tile)).1
 
-  of_bit : (t : ℕ) → bit_at m t ≡ 1 → is_one_of q t ≡ true
-  of_bit t set = sym (ap (λ s. is_one_of s t) tiles) ∙ has-numbers_below 32 m t (in_below m 32 t fits set) set
+  of_bit : (t : ℕ) → bit_at m t ≡ 1 → has q t ≡ true
+  of_bit t set = sym (ap (λ s. has s t) tiles) ∙ has-numbers_below 32 m t (in_below m 32 t fits set) set
 
   pub taken_more : bit_and mask m ≡ 0 → IsTaken (ps ++ q ∷ []) (bit_or mask m)
   taken_more none = record {
@@ -79,7 +79,7 @@ module _ (ps : List (List ℕ)) (mask m : ℕ) (q : List ℕ) (taken : IsTaken p
     covered = λ t h. elim (Any-either (HasTile t) ps (q ∷ []) h) [
       | inl old ↦ in_left mask m t (taken.covered t old)
       | inr new ↦ elim (Any-cases (HasTile t) q [] new) [
-        | inl has ↦ in_right mask m t (bit_of t has)
+        | inl is_tile ↦ in_right mask m t (bit_of t is_tile)
         | inr more ↦ absurd (Any-none (HasTile t) more)
       ]
     ];
@@ -92,4 +92,4 @@ module _ (ps : List (List ℕ)) (mask m : ℕ) (q : List ℕ) (taken : IsTaken p
       let found = bit_at-trailing_zeros w32 (bit_and mask m) (omega arith) (omega arith) in
       let t : ℕ = trailing_zeros w32 (bit_and mask m) in
       let parts = both_in mask m t found.1 in
-      overlap_new ps q rest (Any-weaker (HasTile t) (λ p. Overlap p q) (λ p has. (t, has, of_bit t parts.1)) ps (taken.covers t parts.0))
+      overlap_new ps q rest (Any-weaker (HasTile t) (λ p. Overlap p q) (λ p is_tile. (t, is_tile, of_bit t parts.1)) ps (taken.covers t parts.0))

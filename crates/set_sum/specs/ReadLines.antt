@@ -3,7 +3,7 @@ use Rattle.std.specs.Prelude.{◌≡◌, ℕ, ◌<◌, ◌≤◌, ◌++◌, Any,
 use Rattle.std.specs.List.{AllByRecursion}
 use Rattle.tab_file.specs.Tables.{Table}
 use Rattle.set_sum.specs.Reading.{AreSets, IsFirstWith, NamesOverlap}
-use Rattle.set_sum.specs.SetTexts.{IsLine, line_of}
+use Rattle.set_sum.specs.SetTexts.{IsLine, set_line}
 
 -- the byte behind a number: LF behind the last one, and a space behind the others
 abbrev pub ending : Bool → ℕ
@@ -19,7 +19,7 @@ IsRead tables numbers None = Any (λ i. tables ≤ i) numbers
 pub record IsReadLine (tables : ℕ) (text : List ℕ) (set : Option (List ℕ)) (rest : List ℕ) : Type 0 where
   pub numbers : List ℕ
   pub is_line : IsLine numbers
-  pub whole : text ≡ line_of numbers ++ rest
+  pub whole : text ≡ set_line numbers ++ rest
   pub is_read : IsRead tables numbers set
 
 -- the first 16 lines are kept where all lines are read as sets; otherwise the first that isn't is known

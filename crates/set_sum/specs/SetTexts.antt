@@ -14,12 +14,12 @@ abbrev pub numbers_text : List ℕ → List ℕ
 numbers_text numbers = flat_map (λ n. 32 ∷ numeral n) numbers
 
 -- the line of a set: the word `set`, the numbers of its tables, and LF, whose byte is 10
-abbrev pub line_of : List ℕ → List ℕ
-line_of numbers = codes "set" ++ numbers_text numbers ++ 10 ∷ []
+abbrev pub set_line : List ℕ → List ℕ
+set_line numbers = codes "set" ++ numbers_text numbers ++ 10 ∷ []
 
 -- the lines of sets, one after the other
-abbrev pub lines_of : List (List ℕ) → List ℕ
-lines_of sets = flat_map line_of sets
+abbrev pub set_lines : List (List ℕ) → List ℕ
+set_lines sets = flat_map set_line sets
 
 -- ---- what a set text is
 
@@ -33,11 +33,11 @@ pub record IsLine (numbers : List ℕ) : Type 0 where
 pub record AreLines (text : List ℕ) (sets : List (List ℕ)) : Type 0 where
   pub some : 0 < length sets
   pub lines : AllByRecursion IsLine sets
-  pub whole : text ≡ lines_of sets
+  pub whole : text ≡ set_lines sets
 
 -- no line of a set stands at the front of the text
 abbrev pub BeginsWithNoLine : List ℕ → Type 0
-BeginsWithNoLine text = (numbers behind : List ℕ) → IsLine numbers → text ≢ line_of numbers ++ behind
+BeginsWithNoLine text = (numbers behind : List ℕ) → IsLine numbers → text ≢ set_line numbers ++ behind
 
 -- this line, counted from 0, is the first that isn't of a set: all before it are, and what follows them is neither the end
 -- of a text that has lines, nor begins with the line of a set
@@ -46,6 +46,6 @@ pub record IsFirstBadLine (text : List ℕ) (line : ℕ) : Type 0 where
   pub rest : List ℕ
   pub number : length before ≡ line
   pub lines : AllByRecursion IsLine before
-  pub whole : text ≡ lines_of before ++ rest
+  pub whole : text ≡ set_lines before ++ rest
   pub more : (line ≡ 0) ⊎ (rest ≢ [])
   pub bad : BeginsWithNoLine rest

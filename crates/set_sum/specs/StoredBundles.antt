@@ -9,6 +9,7 @@ use Rattle.set_sum.specs.declared.bundles.Bundle.TheInside.{Inside}
 abbrev pub numbers_stored : Inside → List (List ℕ)
 numbers_stored v = map (λ set. set.items) v.sets.items
 
+-- the bundle with this side, the patterns of these tables, and these sets
 abbrev pub bundle_shown : Inside → BundleView
 bundle_shown v = record {
   side = v.side;
@@ -16,6 +17,7 @@ bundle_shown v = record {
   sets = numbers_stored v;
 }
 
+-- these are the fields of a bundle, each table of which has its side
 pub record IsStoredBundle (v : Inside) : Type 0 where
   pub bundle : IsBundle (bundle_shown v)
   pub tables : AllByRecursion (λ t. t.pattern.side ≡ v.side) v.tables.items

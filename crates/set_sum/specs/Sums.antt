@@ -1,6 +1,6 @@
 -- What patterns say of a board together. A pattern is the list of its tiles, and a set the list of its members' patterns.
 use Rattle.std.specs.Prelude.{◌≡◌, ℕ, ◌+◌, true, Any, List, [], ◌∷◌, ◌⊎◌}
-use Rattle.puz_board.specs.Costs.{cost, is_one_of}
+use Rattle.puz_board.specs.Costs.{cost, has}
 use Rattle.tab_check.specs.Counts.{IsCountOf}
 use Rattle.tab_check.specs.declared.tables.Count.{Count}
 use Rattle.tab_check.specs.declared.tables.Count.TheVariants.{Finite, Never}
@@ -9,7 +9,7 @@ use Rattle.tab_check.specs.declared.tables.Count.TheVariants.{Finite, Never}
 
 -- a tile is in both patterns
 abbrev pub Overlap : List ℕ → List ℕ → Type 0
-Overlap p q = (t : ℕ) × (is_one_of p t ≡ true) × (is_one_of q t ≡ true)
+Overlap p q = (t : ℕ) × (has p t ≡ true) × (has q t ≡ true)
 
 -- a tile is in two of the patterns
 abbrev pub HaveOverlap : List (List ℕ) → Type 0

@@ -2,7 +2,7 @@
 
 ghost use Rattle.std.specs.Prelude.{◌≡◌, ℕ, ◌+◌, ◌<◌, ◌≤◌, ◌∷◌, ◌++◌, ◌⊎◌, [], false, IfErr, IfOk, IfSome, IsSome, IsSomeAnd, List, map, option_map};
 ghost use Rattle.set_sum.specs.ReadLines.{AreRead, IsRead, IsReadLine, ending};
-ghost use Rattle.set_sum.specs.SetTexts.{AreLines, IsFirstBadLine, IsLine, line_of, numeral};
+ghost use Rattle.set_sum.specs.SetTexts.{AreLines, IsFirstBadLine, IsLine, numeral, set_line};
 
 use crate::bundles::{MOST, Set};
 use arrayvec::ArrayVec;
@@ -66,7 +66,7 @@ struct Line<'a> {
 fn split_line(text: &[u8], tables: usize) -> Option<Line<'_>>
     requires { tables ≤ 16 }
     ensures some { IfSome result (λ line. IsReadLine tables text.now (option_map (λ set. set.items) line.set) line.rest.now) }
-    ensures read { (numbers behind : List ℕ) → IsLine numbers → text.now ≡ line_of numbers ++ behind → IsSome result }
+    ensures read { (numbers behind : List ℕ) → IsLine numbers → text.now ≡ set_line numbers ++ behind → IsSome result }
 {
     if !text.starts_with(b"set ") {
         return None;

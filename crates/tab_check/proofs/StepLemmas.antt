@@ -2,7 +2,7 @@
 use Rattle.std.proofs.Common.{◌≡◌, ℕ, ◌+◌, ◌≤◌, true, false, cond, List, [], ◌∷◌, inl, inr, refl, sym, ap, subst, arith}
 use Rattle.puz_board.specs.Boards.{IsBoardOf, at, blank, slid}
 use Rattle.puz_board.specs.Cells.{Adjacent}
-use Rattle.puz_board.specs.Costs.{LeadsHome, cost, is_one_of}
+use Rattle.puz_board.specs.Costs.{LeadsHome, cost, has}
 use Rattle.puz_board.proofs.BoardWays.{State, moved}
 use Rattle.puz_board.proofs.Ways
 use Rattle.pat_place.specs.Placements.{placement_of}
@@ -23,7 +23,7 @@ module _ (t : Table) (is : IsTable t) (b : List ℕ) (good : IsBoardOf t.pattern
   before = record { cells = b; good = good }
 
   module _ (c : ℕ) (adjacent : Adjacent t.pattern.side (blank b) c) where
-    pub other_step : is_one_of t.pattern.tiles (at b c) ≡ false → (cost t.pattern.tiles b (c ∷ []) ≡ 0) × ((e : ℕ) → IsEntryOf t b e → IsEntryOf t (slid b c) e)
+    pub other_step : has t.pattern.tiles (at b c) ≡ false → (cost t.pattern.tiles b (c ∷ []) ≡ 0) × ((e : ℕ) → IsEntryOf t b e → IsEntryOf t (slid b c) e)
     unfolding before
     other_step other = (ap (λ h. cond h 1 0 + 0) other, keeps)
       where
@@ -39,7 +39,7 @@ module _ (t : Table) (is : IsTable t) (b : List ℕ) (good : IsBoardOf t.pattern
             } in
             subst (λ x. IsEntryAt t (placement_of t.pattern.tiles (slid b c)) x e) (sym k.1) (subst (λ q. IsEntryAt t q c e) (sym k.0) at_c)
 
-    pub tile_step : is_one_of t.pattern.tiles (at b c) ≡ true → (cost t.pattern.tiles b (c ∷ []) ≡ 1) ×
+    pub tile_step : has t.pattern.tiles (at b c) ≡ true → (cost t.pattern.tiles b (c ∷ []) ≡ 1) ×
         ((j e : ℕ) → IsSlot t.pattern.side (placement_of t.pattern.tiles b) (blank b) j → IsEntryOf t (slid b c) e → IsNearEntry t (placement_of t.pattern.tiles b) j e)
     unfolding before
     tile_step tile = (ap (λ h. cond h 1 0 + 0) tile, leads)

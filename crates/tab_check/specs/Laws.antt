@@ -2,7 +2,7 @@
 use Rattle.std.specs.Prelude.{◌≡◌, ℕ, ◌≤◌, ◌⊎◌, ◌↔◌, false, true, List, [], ◌∷◌}
 use Rattle.puz_board.specs.Boards.{IsBoardOf, at, blank, slid}
 use Rattle.puz_board.specs.Cells.{Adjacent}
-use Rattle.puz_board.specs.Costs.{LeadsHome, cost, is_one_of}
+use Rattle.puz_board.specs.Costs.{LeadsHome, cost, has}
 use Rattle.pat_place.specs.Placements.{placement_of}
 use Rattle.pat_place.specs.Regions.{IsSlot}
 use Rattle.tab_file.specs.Tables.{Table, IsTable}
@@ -23,14 +23,14 @@ IsEntryOf t b e = IsEntryAt t (placement_of t.pattern.tiles b) (blank b) e
 abbrev pub OtherStepsKeepTheEntry : Type 0
 OtherStepsKeepTheEntry =
     (t : Table) → IsTable t → (b : List ℕ) → IsBoardOf t.pattern.side b → (c : ℕ) → Adjacent t.pattern.side (blank b) c →
-    is_one_of t.pattern.tiles (at b c) ≡ false →
+    has t.pattern.tiles (at b c) ≡ false →
     (cost t.pattern.tiles b (c ∷ []) ≡ 0) × ((e : ℕ) → IsEntryOf t b e → IsEntryOf t (slid b c) e)
 
 -- a step that moves a tile of the pattern costs one and leads to an entry one move away
 abbrev pub TileStepsLeadToANearEntry : Type 0
 TileStepsLeadToANearEntry =
     (t : Table) → IsTable t → (b : List ℕ) → IsBoardOf t.pattern.side b → (c : ℕ) → Adjacent t.pattern.side (blank b) c →
-    is_one_of t.pattern.tiles (at b c) ≡ true →
+    has t.pattern.tiles (at b c) ≡ true →
     (cost t.pattern.tiles b (c ∷ []) ≡ 1) ×
     ((j e : ℕ) → IsSlot t.pattern.side (placement_of t.pattern.tiles b) (blank b) j → IsEntryOf t (slid b c) e →
     IsNearEntry t (placement_of t.pattern.tiles b) j e)

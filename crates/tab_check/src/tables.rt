@@ -10,10 +10,11 @@ ghost use Rattle.pat_place.specs.Regions.{IsSlot};
 ghost use Rattle.tab_file.specs.Tables.{IsTable, Table, slot_count};
 ghost use Rattle.tab_check.specs.BadEntries.{IsLeastBad};
 ghost use Rattle.tab_check.specs.Counts.{IsCensusOf, IsCountOf};
-ghost use Rattle.tab_check.specs.Entries.{no_way_home};
+ghost use Rattle.tab_check.specs.Entries.{greatest_count, no_way_home};
 ghost use Rattle.tab_check.specs.ExactTables.{IsExactFile, IsExactTable};
 ghost use Rattle.tab_check.specs.TableFaults.{IsCauseOf};
 ghost use Rattle.tab_file.specs.declared.headers.HeadFault.{HeadFault};
+ghost use Rattle.work_run.specs.Workers.{AreWorkers};
 ghost use Rattle.tab_check.specs.declared.tables.TableFault.TheVariants.{Memory, Refused};
 ghost use Rattle.tab_check.specs.declared.tables.TableRefusal.TheVariants.{Head, T7};
 ghost use Rattle.tab_check.specs.declared.tables.Count.TheVariants.{Finite, Never};
@@ -88,7 +89,7 @@ pub fn check_table<'a, R: Threads + Wait, G: Gate + Sync>(
     workers: u8,
     gate: &G,
 ) -> Result<CheckedTable<'a>, TableFault>
-    requires { (0 < workers) × (workers ≤ 64) }
+    requires { AreWorkers workers }
 
     // A table comes of an exact file alone, and is that file's. Only want of memory keeps it back.
     ensures ok { IfOk result (λ table. IsExactFile table file.now) }
@@ -112,7 +113,7 @@ pub fn check_table_by<'a, R: Threads + Wait, G: Gate + Sync, C: BlockCheck + Syn
     gate: &G,
     blocks: &C,
 ) -> Result<CheckedTable<'a>, TableFault>
-    requires workers { (0 < workers) × (workers ≤ 64) }
+    requires workers { AreWorkers workers }
     requires serves { (table : Table) → IsTableFile table file.now → C.serves blocks.now table.pattern ≡ true }
 
     // A table comes of an exact file alone, and is that file's. Only want of memory keeps it back.
@@ -166,7 +167,7 @@ impl<'a> CheckedTable<'a> {
     pub fn look(&self, board: &Board) -> Count
         requires { side_of board.now ≡ self.now.pattern.side }
         ensures count { IsCountOf self.now.pattern.tiles board.now result }
-        ensures few { (d : ℕ) → result ≡ Finite d → d ≤ 253 }
+        ensures few { (d : ℕ) → result ≡ Finite d → d ≤ greatest_count }
     {
         self.look_in(board, &board.cells_of_all())
     }
@@ -176,7 +177,7 @@ impl<'a> CheckedTable<'a> {
         requires side { side_of board.now ≡ self.now.pattern.side }
         requires found { (number : ℕ) → number < length board.now → slice_index found.now number ≡ cell_of number board.now }
         ensures count { IsCountOf self.now.pattern.tiles board.now result }
-        ensures few { (d : ℕ) → result ≡ Finite d → d ≤ 253 }
+        ensures few { (d : ℕ) → result ≡ Finite d → d ≤ greatest_count }
     {
         let _side = board.side();
         let placement = Placement::of_cells(&self.pattern(), found);

@@ -12,7 +12,7 @@ use Rattle.pat_place.proofs.MaskLemmas.{ascending-numbers_below}
 use Rattle.byteorder.specs.Endian.{big_number}
 use Rattle.tab_file.specs.Tables.{Table, entry_count}
 use Rattle.tab_file.specs.TableFiles.{signature, side_in, size_in, spare_in, mask_in, count_in}
-use Rattle.tab_file.specs.HeadFaults.{Stands, IsFirstFault, earlier, first_fault, is_pattern, pattern_in, stands, table_of_file}
+use Rattle.tab_file.specs.HeadFaults.{Stands, IsFirstFault, earlier, first_fault, is_pattern, is_standing, pattern_in, table_of_file}
 use Rattle.tab_file.specs.declared.headers.HeadFault.{HeadFault}
 use Rattle.tab_file.specs.declared.headers.HeadFault.TheVariants.{T1, T2, T3, T4, T5, T6}
 
@@ -66,7 +66,7 @@ is_pattern-from p up e =
 
 -- ---- each test decides
 
-passes-test : (f : HeadFault) (file : List ℕ) → Passes f file → stands f file ≡ false
+passes-test : (f : HeadFault) (file : List ℕ) → Passes f file → is_standing f file ≡ false
 passes-test T1 file p = le-ltb (length file) 20 p
 passes-test T2 file p = not_from_true _ ((bytes_eq-Decides signature (take 5 file)).1 (sym p))
 passes-test T3 file p = not_from_true _ (and_from _ _ (le-leb 2 (side_in file) p.0) (le-leb (side_in file) 5 p.1))
@@ -74,7 +74,7 @@ passes-test T4 file p = not_from_true _ (and_from _ _ (and_from _ _ (is_pattern-
 passes-test T5 file p = not_from_true _ (eq-eqb (count_in file) (entry_count (pattern_in file)) p)
 passes-test T6 file p = not_from_true _ (eq-eqb (length file) (20 + count_in file) p)
 
-passes-from : (f : HeadFault) (file : List ℕ) → stands f file ≡ false → Passes f file
+passes-from : (f : HeadFault) (file : List ℕ) → is_standing f file ≡ false → Passes f file
 passes-from T1 file e = ltb-false (length file) 20 e
 passes-from T2 file e = sym ((bytes_eq-Decides signature (take 5 file)).0 (not-false _ e))
 passes-from T3 file e =
@@ -87,13 +87,13 @@ passes-from T4 file e =
 passes-from T5 file e = eqb-true (count_in file) (entry_count (pattern_in file)) (not-false _ e)
 passes-from T6 file e = eqb-true (length file) (20 + count_in file) (not-false _ e)
 
-Stands-from : (f : HeadFault) (file : List ℕ) → stands f file ≡ true → Stands f file
+Stands-from : (f : HeadFault) (file : List ℕ) → is_standing f file ≡ true → Stands f file
 Stands-from T1 file e = ltb-true (length file) 20 e
-Stands-from T2 file e = λ p. both_ways (stands T2 file) (passes-test T2 file p) e
-Stands-from T3 file e = λ p. both_ways (stands T3 file) (passes-test T3 file p) e
-Stands-from T4 file e = λ p. both_ways (stands T4 file) (passes-test T4 file p) e
-Stands-from T5 file e = λ p. both_ways (stands T5 file) (passes-test T5 file p) e
-Stands-from T6 file e = λ p. both_ways (stands T6 file) (passes-test T6 file p) e
+Stands-from T2 file e = λ p. both_ways (is_standing T2 file) (passes-test T2 file p) e
+Stands-from T3 file e = λ p. both_ways (is_standing T3 file) (passes-test T3 file p) e
+Stands-from T4 file e = λ p. both_ways (is_standing T4 file) (passes-test T4 file p) e
+Stands-from T5 file e = λ p. both_ways (is_standing T5 file) (passes-test T5 file p) e
+Stands-from T6 file e = λ p. both_ways (is_standing T6 file) (passes-test T6 file p) e
 
 passes-stands : (f : HeadFault) (file : List ℕ) → Passes f file → ¬ Stands f file
 passes-stands T1 file p s = omega arith
@@ -171,42 +171,42 @@ module _ (file : List ℕ) where
   unfolding table_of_file
   from_found o e = ap (λ x. option_map_or Err x (Ok (table_in file))) e
 
-  found : (o : Option HeadFault) → find (λ f. stands f file) all_faults ≡ o → first_fault file ≡ o
+  found : (o : Option HeadFault) → find (λ f. is_standing f file) all_faults ≡ o → first_fault file ≡ o
   unfolding first_fault
   found o e = e
 
-  pub table_of_file-first : (f : HeadFault) → First (λ f. stands f file) f → table_of_file file ≡ Err f
-  table_of_file-first f w = from_found (Some f) (found (Some f) (first_of (λ f. stands f file) f w.0 w.1))
+  pub table_of_file-first : (f : HeadFault) → First (λ f. is_standing f file) f → table_of_file file ≡ Err f
+  table_of_file-first f w = from_found (Some f) (found (Some f) (first_of (λ f. is_standing f file) f w.0 w.1))
 
-  pub table_of_file-none : AllByRecursion (λ g. stands g file ≡ false) all_faults → table_of_file file ≡ Ok (table_in file)
-  table_of_file-none w = from_found None (found None (none_in (λ f. stands f file) all_faults w))
+  pub table_of_file-none : AllByRecursion (λ g. is_standing g file ≡ false) all_faults → table_of_file file ≡ Ok (table_in file)
+  table_of_file-none w = from_found None (found None (none_in (λ f. is_standing f file) all_faults w))
 
   -- a fault that stands, where the file passes what comes before
   pub refused : (f : HeadFault) → AllByRecursion (λ g. Passes g file) (earlier f) → ¬ Passes f file → Err f ≡ table_of_file file
   refused f before fails = sym (table_of_file-first f (
-    all_map (λ g. Passes g file) (λ g. stands g file ≡ false) (λ g p. passes-test g file p) (earlier f) before,
-    true_from_ne_false (stands f file) (λ e. fails (passes-from f file e)),
+    all_map (λ g. Passes g file) (λ g. is_standing g file ≡ false) (λ g p. passes-test g file p) (earlier f) before,
+    true_from_ne_false (is_standing f file) (λ e. fails (passes-from f file e)),
   ))
 
   pub accepted : AllByRecursion (λ g. Passes g file) all_faults → table_of_file file ≡ Ok (table_in file)
-  accepted all = table_of_file-none (all_map (λ g. Passes g file) (λ g. stands g file ≡ false) (λ g p. passes-test g file p) all_faults all)
+  accepted all = table_of_file-none (all_map (λ g. Passes g file) (λ g. is_standing g file ≡ false) (λ g p. passes-test g file p) all_faults all)
 
-  IsFirstFault-from : (f : HeadFault) → First (λ f. stands f file) f → IsFirstFault f file
+  IsFirstFault-from : (f : HeadFault) → First (λ f. is_standing f file) f → IsFirstFault f file
   IsFirstFault-from f w = record {
     stands = Stands-from f file w.1;
-    first = all_map (λ g. stands g file ≡ false) (λ g. ¬ Stands g file) (λ g e. passes-stands g file (passes-from g file e)) (earlier f) w.0;
+    first = all_map (λ g. is_standing g file ≡ false) (λ g. ¬ Stands g file) (λ g e. passes-stands g file (passes-from g file e)) (earlier f) w.0;
   }
 
   passes_unless : (f : HeadFault) → ¬ Stands f file → Passes f file
-  passes_unless f none = elim (cases_Bool (stands f file)) [ inl e ↦ absurd (none (Stands-from f file e)) | inr e ↦ passes-from f file e ]
+  passes_unless f none = elim (cases_Bool (is_standing f file)) [ inl e ↦ absurd (none (Stands-from f file e)) | inr e ↦ passes-from f file e ]
 
   pub table_of_file-fault : (f : HeadFault) → IsFirstFault f file → table_of_file file ≡ Err f
   table_of_file-fault f is = sym (refused f (all_map (λ g. ¬ Stands g file) (λ g. Passes g file) passes_unless (earlier f) is.first) (λ passes. passes-stands f file passes is.stands))
 
   pub which : ((f : HeadFault) × (table_of_file file ≡ Err f) × IsFirstFault f file) ⊎ ((table_of_file file ≡ Ok (table_in file)) × AllByRecursion (λ g. Passes g file) all_faults)
-  which = elim (some_or_none (λ f. stands f file)) [
+  which = elim (some_or_none (λ f. is_standing f file)) [
     | inl w ↦ inl (w.0, table_of_file-first w.0 w.1, IsFirstFault-from w.0 w.1)
-    | inr w ↦ inr (table_of_file-none w, all_map (λ g. stands g file ≡ false) (λ g. Passes g file) (λ g e. passes-from g file e) all_faults w)
+    | inr w ↦ inr (table_of_file-none w, all_map (λ g. is_standing g file ≡ false) (λ g. Passes g file) (λ g e. passes-from g file e) all_faults w)
   ]
 
 -- ---- what the calls of the standard library and of the patterns say

@@ -15,6 +15,7 @@ pattern_in file = record { side = side_in file; tiles = numbers_of (mask_in file
 
 -- ---- the faults, in their order
 
+-- what each fault says of a file
 abbrev pub Stands : HeadFault → List ℕ → Type 0
 Stands T1 file = length file < 20
 Stands T2 file = take 5 file ≢ signature
@@ -23,6 +24,7 @@ Stands T4 file = ¬ (IsPattern (pattern_in file) × (size_in file ≡ length (pa
 Stands T5 file = count_in file ≢ entry_count (pattern_in file)
 Stands T6 file = length file ≢ 20 + count_in file
 
+-- the faults before this one
 abbrev pub earlier : HeadFault → List HeadFault
 earlier T1 = []
 earlier T2 = T1 ∷ []
@@ -44,17 +46,18 @@ is_pattern p =
     nat_le 2 p.side && nat_le p.side 5 && list_all (λ t. nat_lt 0 t && nat_lt t (p.side * p.side)) p.tiles &&
     nat_lt 0 (length p.tiles) && nat_le (length p.tiles) (most_tiles p.side)
 
-abbrev pub stands : HeadFault → List ℕ → Bool
-stands T1 file = nat_lt (length file) 20
-stands T2 file = not (starts_with nat_eq file signature)
-stands T3 file = not (nat_le 2 (side_in file) && nat_le (side_in file) 5)
-stands T4 file = not (is_pattern (pattern_in file) && size_in file == length (pattern_in file).tiles && spare_in file == 0)
-stands T5 file = not (count_in file == entry_count (pattern_in file))
-stands T6 file = not (length file == 20 + count_in file)
+-- whether the fault stands
+abbrev pub is_standing : HeadFault → List ℕ → Bool
+is_standing T1 file = nat_lt (length file) 20
+is_standing T2 file = not (starts_with nat_eq file signature)
+is_standing T3 file = not (nat_le 2 (side_in file) && nat_le (side_in file) 5)
+is_standing T4 file = not (is_pattern (pattern_in file) && size_in file == length (pattern_in file).tiles && spare_in file == 0)
+is_standing T5 file = not (count_in file == entry_count (pattern_in file))
+is_standing T6 file = not (length file == 20 + count_in file)
 
 -- the first fault that stands
 unfoldable pub first_fault : List ℕ → Option HeadFault
-first_fault file = find (λ fault. stands fault file) (T1 ∷ T2 ∷ T3 ∷ T4 ∷ T5 ∷ T6 ∷ [])
+first_fault file = find (λ fault. is_standing fault file) (T1 ∷ T2 ∷ T3 ∷ T4 ∷ T5 ∷ T6 ∷ [])
 
 -- the table in a file, or the first fault that stands
 unfoldable pub table_of_file : List ℕ → Result Table HeadFault

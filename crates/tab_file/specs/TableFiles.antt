@@ -12,6 +12,7 @@ use Rattle.tab_file.specs.Tables.{Table, IsTable, entry_count}
 abbrev pub signature : List ℕ
 signature = codes "PDBT" ++ 1 ∷ []
 
+-- the side of the board
 abbrev pub side_in : List ℕ → ℕ
 side_in file = slice_index file 5
 

@@ -20,6 +20,7 @@ slot_count p = width p.side (length p.tiles)
 abbrev pub entry_count : PatternView → ℕ
 entry_count p = placement_count p * slot_count p
 
+-- it is a table of a pattern, with an entry for each placement and each slot
 pub record IsTable (t : Table) : Type 0 where
   pub pattern : IsPattern t.pattern
   pub entries : length t.entries ≡ entry_count t.pattern

@@ -2,24 +2,18 @@
 use Rattle.std.proofs.Common.{◌≡◌, ℕ, zero, suc, ◌+◌, ◌-◌, ◌*◌, ◌<◌, ◌≤◌, Bool, true, false, cond, eqb, not, List, [], ◌∷◌, ◌++◌, length, Some, inl, inr, refl, sym, ◌∙◌, ap, ap₂, arith, filter}
 use Rattle.std.specs.Prelude.{slice_get, ◌&&◌, ◌||◌}
 use Rattle.std.specs.List.{AllByRecursion, range_with_len}
-use Rattle.std.proofs.lemmas.Bool.{cases_eq, cases_Bool, both_ways, ne_eqb, eq-eqb, true≢false, cond-true, cond-false}
+use Rattle.std.proofs.lemmas.Bool.{cases_eq, cases_Bool, both_ways, ne_eqb, eq-eqb, cond-true, cond-false}
 use Rattle.std.proofs.lemmas.List.{length-append, length_push}
 use Rattle.std.proofs.lemmas.List.FromFn.{length-range_with_len}
 use Rattle.pat_place.specs.Patterns.{has, IsAscending}
 use Rattle.pat_place.specs.Placements.{IsApart, IsFree}
 use Rattle.pat_place.specs.Ranks.{without, lists_of, falling_factorial, IsRank}
-use Rattle.pat_place.proofs.ListLemmas.{Some-one, has_cases, has-filter, has-filter_not, has-get, in_range, apart_from_ascending, ascending-filter, ascending-range, filter-append, range-append}
+use Rattle.pat_place.proofs.ListLemmas.{Some-one, has-filter, has-filter_not, has-get, in_range, apart_from_ascending, ascending-filter, ascending-range, filter-append, range-append}
 use Rattle.pat_place.proofs.RankLemmas.{IsRank-from, falling_more, get-below, in_all, length-without, rank_step, still_in}
+use Rattle.pat_place.proofs.NextLemmas.{get-has}
 use Rattle.tab_runs.specs.Runs.{IsFirstRank, free_below, run_length, with_last}
 
 -- ---- places in a list
-
-get_has : (xs : List ℕ) (x : ℕ) → has xs x ≡ true → (i : ℕ) × (slice_get xs i ≡ Some x)
-get_has [] x h = absurd (true≢false (sym h))
-get_has (y ∷ xs) x h = elim (has_cases x y xs h) [
-  | inl e ↦ (0, ap Some e)
-  | inr k ↦ let r = get_has xs x k in (suc r.0, r.1)
-]
 
 get_middle : (xs ys : List ℕ) (x : ℕ) → slice_get (xs ++ x ∷ ys) (length xs) ≡ Some x
 get_middle [] ys x = refl
@@ -201,7 +195,7 @@ run_total [] cs up apart all = (
         rank_step 0 cs (apart_from_ascending cs up) place c 0 [] e refl;
   },
 )
-run_total (x ∷ p) cs up apart all = go (get_has cs x all.0) (run_total p (without x cs) (ascending-filter (λ d. not (eqb d x)) cs up) apart.1 (still_in x p cs all.1 apart.0))
+run_total (x ∷ p) cs up apart all = go (get-has cs x all.0) (run_total p (without x cs) (ascending-filter (λ d. not (eqb d x)) cs up) apart.1 (still_in x p cs all.1 apart.0))
   where
     go : ((q : ℕ) × (slice_get cs q ≡ Some x)) → ((r : ℕ) × HasRun p (without x cs) r) → (r : ℕ) × HasRun (x ∷ p) cs r
     go at ih = (

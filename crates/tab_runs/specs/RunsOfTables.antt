@@ -7,6 +7,7 @@ use Rattle.tab_runs.specs.declared.runs.Run.{Run}
 use Rattle.tab_runs.specs.Runs.{AreRunEntries, IsRun}
 use Rattle.tab_runs.specs.StoredRows.{AreRowsOf}
 
+-- the run is one of the table, and what is kept with it is that of its cells
 pub record IsRunOf (t : Table) (r : Run) : Type 0 where
   pub run : IsRun t.pattern r.cells.now
   pub bits : r.set < 2 ^ 32

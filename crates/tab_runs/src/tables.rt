@@ -1,6 +1,6 @@
 //! Tables that are checked whole, run by run.
 
-ghost use Rattle.std.specs.Prelude.{◌≡◌, ◌<◌, ◌≤◌, ◌⊎◌, ℕ, Err, IfErr, IfOk, IfSome, Ok};
+ghost use Rattle.std.specs.Prelude.{◌≡◌, ◌⊎◌, ℕ, Err, IfErr, IfOk, IfSome, Ok};
 ghost use Rattle.tab_file.specs.HeadFaults.{table_of_file};
 ghost use Rattle.tab_file.specs.TableFiles.{IsTableFile};
 ghost use Rattle.tab_file.specs.Tables.{Table};
@@ -8,6 +8,7 @@ ghost use Rattle.tab_check.specs.BadEntries.{IsLeastBad};
 ghost use Rattle.tab_check.specs.ExactTables.{IsExactFile};
 ghost use Rattle.tab_check.specs.TableFaults.{IsCauseOf};
 ghost use Rattle.tab_file.specs.declared.headers.HeadFault.{HeadFault};
+ghost use Rattle.work_run.specs.Workers.{AreWorkers};
 ghost use Rattle.tab_check.specs.declared.tables.TableFault.TheVariants.{Memory, Refused};
 ghost use Rattle.tab_check.specs.declared.tables.TableRefusal.TheVariants.{Head, T7};
 ghost use Rattle.tab_runs.specs.StoredRows.{rows_for};
@@ -35,7 +36,7 @@ pub fn check_table<'a, R: Threads + Wait, G: Gate + Sync>(
     workers: u8,
     gate: &G,
 ) -> Result<CheckedTable<'a>, TableFault>
-    requires { (0 < workers) × (workers ≤ 64) }
+    requires { AreWorkers workers }
 
     // A table comes of an exact file alone, and is that file's. Only want of memory keeps it back.
     ensures ok { IfOk result (λ table. IsExactFile table file.now) }

@@ -1,8 +1,9 @@
 //! All workers of a check.
 
-ghost use Rattle.std.specs.Prelude.{◌≡◌, ◌<◌, ◌≤◌, IfOk, vec_capacity};
+ghost use Rattle.std.specs.Prelude.{◌≡◌, ◌≤◌, IfOk, vec_capacity};
 ghost use Rattle.work_run.specs.Faults.{IsFault};
 ghost use Rattle.work_run.specs.Work.{AreDone, AreNew};
+ghost use Rattle.work_run.specs.Workers.{AreWorkers};
 
 use crate::gates::Gate;
 use crate::jobs::Job;
@@ -26,7 +27,7 @@ pub fn run_jobs<R: Threads + Wait, J: Job + Sync, G: Gate + Sync>(
     workers: u8,
     gate: &G,
 ) -> Result<Option<u64>, Memory>
-    requires { (0 < workers) × (workers ≤ 64) }
+    requires { AreWorkers workers }
     ensures { IfOk result (IsFault (J.bad job.now) (J.begins job.now (J.jobs job.now))) }
 {
     let (book, passes) = Book::new(alloc, job.count(), workers)?;

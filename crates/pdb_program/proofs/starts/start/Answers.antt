@@ -1,5 +1,5 @@
 use Rattle.std.proofs.Common.{◌∙◌, ap}
-use Rattle.pdb_run.specs.Statuses.{number_of}
+use Rattle.pdb_run.specs.Statuses.{status_number}
 use Rattle.pdb_program.proofs.ProgramLemmas.{runs_on}
 use Rattle.pdb_program.proofs.starts.start.Goals as goal
 
@@ -10,4 +10,4 @@ returns-in-Ok-clause-runs g c =
 pub returns-in-Err-clause-unreadable : goal.returns-in-Err-clause-unreadable
 returns-in-Err-clause-unreadable g c = rw c.in-Err.is (λ no.
     let told = c.without_words.ensures.unreadable no in
-    (told.0, told.1, c.code.ensures ∙ ap number_of told.2))
+    (told.0, told.1, c.code.ensures ∙ ap status_number told.2))

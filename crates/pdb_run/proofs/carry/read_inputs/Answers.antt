@@ -1,6 +1,6 @@
 use Rattle.std.proofs.Common.{◌∙◌, ap, map, List, subst}
 use Rattle.pdb_run.specs.Plans.{Wanted}
-use Rattle.pdb_run.specs.Readings.{AreRead, Tells, left_by_all, wanted_of}
+use Rattle.pdb_run.specs.Readings.{AreRead, IsAsTold, left_by_all, wanted_of}
 use Rattle.pdb_run.specs.Replies.{all_bytes}
 use Rattle.pdb_run.proofs.ReadingLemmas.{inputs_match}
 use Rattle.pdb_run.proofs.RunLemmas.{ends_unread}
@@ -13,7 +13,7 @@ returns-in-Ok-load_all-clause-read g c =
 
 pub returns-in-Ok-load_all-clause-behind : goal.returns-in-Ok-load_all-clause-behind
 returns-in-Ok-load_all-clause-behind g c =
-    subst (λ (ws : List Wanted). Tells (left_by_all (g.R.Read.remaining c.args.reader.now) ws) (g.R.Read.remaining c.load_all.new.reader))
+    subst (λ (ws : List Wanted). IsAsTold (left_by_all (g.R.Read.remaining c.args.reader.now) ws) (g.R.Read.remaining c.load_all.new.reader))
     (ap (map wanted_of) c.as_slice.ensures.value ∙ c.in-Ok.ensures.all) c.in-Ok-load_all.ensures.behind
 
 pub returns-in-Ok-load_all-clause-count : goal.returns-in-Ok-load_all-clause-count

@@ -1,5 +1,6 @@
 use Rattle.std.proofs.Common.{◌≡◌, ◌-◌, ◌<◌, ◌++◌, get_or, replicate, length, set, ◌∙◌, ap, arith}
-use Rattle.pat_place.proofs.PlacementLemmas.{placed, IsStoredPlacement-filled, shown-filled, filled_all, filled_to_more}
+use Rattle.puz_board.proofs.StoredLemmas.{one_more_stored}
+use Rattle.pat_place.proofs.PlacementLemmas.{placed, IsStoredPlacement-filled, shown-filled, filled_all}
 use Rattle.pat_place.proofs.PatternLemmas.{few_tiles}
 use Rattle.pat_place.proofs.placements.Placement.in_cells.Goals as goal
 
@@ -19,4 +20,4 @@ loop-i-preserved c =
     let cells = c.args.cells.now in
     let low : i < length cells = c.loop-i-test.true in
     let few : i < 8 = (let few = few_tiles c.args.pattern.now c.side-side.ensures.pattern in let size = c.requires.size in omega arith) in
-    ap (λ s. set s i (get_or cells i 0)) c.loop-i.invariant ∙ filled_to_more cells i 8 low few
+    ap (λ s. set s i (get_or cells i 0)) c.loop-i.invariant ∙ one_more_stored cells i 8 low few
