@@ -1,12 +1,11 @@
 -- What comes of makers.
-use Rattle.std.proofs.Common.{◌≡◌, ◌≢◌, ◌∙◌, ℕ, suc, ◌+◌, ◌-◌, ◌<◌, ◌≤◌, Bool, true, false, cond, List, [], ◌∷◌, ◌++◌, Option, Some, None, Result, Ok, Err, IfErr, IfOk, length, map, drop, get_or, take, not, ◌||◌, ap, append_assoc, arith, inl, inr, length-append, refl, subst, sym}
-use Rattle.std.specs.Prelude.{◌==◌, position, slice_range}
+use Rattle.std.proofs.Common.{◌≡◌, ◌≢◌, ◌∙◌, ℕ, suc, ◌+◌, ◌-◌, ◌<◌, ◌≤◌, Bool, true, false, List, [], ◌∷◌, ◌++◌, Option, Some, None, Result, Ok, Err, IfErr, IfOk, length, map, drop, get_or, take, not, ◌||◌, ap, append_assoc, arith, inl, inr, length-append, refl, subst, sym}
+use Rattle.std.specs.Prelude.{◌==◌, slice_range}
 use Rattle.std.specs.Char.{is_ascii_digit}
-use Rattle.std.specs.List.{cons_option, position_or_len}
-use Rattle.std.proofs.lemmas.Bool.{eqb-true, ltb-false}
+use Rattle.std.specs.List.{cons_option}
+use Rattle.std.proofs.lemmas.Bool.{eqb-true}
 use Rattle.std.proofs.lemmas.Grind.{get_or_default_zero}
 use Rattle.std.proofs.lemmas.List.{drop_more, length-map, take_all}
-use Rattle.std.proofs.lemmas.List.Sums.{fails_before_first}
 use Rattle.puz_board.specs.BoardTexts.{Spells, is_separator, stray_byte}
 use Rattle.puz_board.specs.Boards.{side_of}
 use Rattle.puz_board.specs.Cells.{move_of_letter}
@@ -16,6 +15,7 @@ use Rattle.puz_board.specs.PuzzleTexts.{HasNoSemicolon, puzzle_parts}
 use Rattle.puz_board.specs.declared.moves.Move.{Move}
 use Rattle.puz_board.proofs.PuzzleLemmas.{puzzle_parts-puzzle}
 use Rattle.puz_board.proofs.SpellingLemmas.{stray_byte-numerals}
+use Rattle.puz_board.proofs.FirstLemmas.{fails_each}
 use Rattle.set_sum.specs.Bundles.{BundleView}
 use Rattle.pdb_io.specs.Shelves.{Bytes}
 use Rattle.pdb_verdict.specs.Bundles.{IsBundleOfFiles}
@@ -106,16 +106,6 @@ if_ok (Err cause) P Q all is = tt
 not_semicolon : (b : ℕ) (t : Bool) → (b == 59) ≡ t → (is_ascii_digit b || is_separator b) ≡ true → not t ≡ true
 not_semicolon b true is clean = let clash : false ≡ true = subst (λ x. (is_ascii_digit x || is_separator x) ≡ true) (eqb-true b 59 is) clean in cc
 not_semicolon b false is clean = refl
-
--- where a test is passed nowhere, each byte fails it
-fails_each : (test : ℕ → Bool) (xs : List ℕ) → position test xs ≡ None → (k : ℕ) → k < length xs → test (get_or xs k 0) ≡ false
-fails_each test xs none k low =
-    let over : length xs ≤ position_or_len test xs = ltb-false (position_or_len test xs) (length xs) (not_below _ _ none) in
-    fails_before_first test xs k 0 (omega arith)
-  where
-    not_below : (b : Bool) (i : ℕ) → cond b (Some i) None ≡ None → b ≡ false
-    not_below true i e = cc
-    not_below false i e = refl
 
 clean_byte : (b : Bool) → not b ≡ false → b ≡ true
 clean_byte true e = refl

@@ -134,6 +134,7 @@ fn build_table<H: Threads + Wait + Sync, G: Gate + Sync>(
     let file = match build(workers.rt, alloc, &pattern) {
         Ok(file) => file,
         Err(MakeFault::Memory) => return Err(Fault::Memory),
+        // K3 alone is left: no other refusal comes of building.
         Err(_) => return Err(Fault::Make(MakeRefusal::K3)),
     };
     let table = file.as_slice();

@@ -260,6 +260,7 @@ fn find(alloc: Global, bundle: &Bundle<'_>, board: &Board, budget: u64) -> Resul
         Ok(found) => Ok(found),
         Err(MakeFault::K1) => Err(Fault::Make(MakeRefusal::K1)),
         Err(MakeFault::Memory) => Err(Fault::Memory),
+        // K2 alone is left: K3 never comes of searching.
         Err(_) => Err(Fault::Make(MakeRefusal::K2)),
     }
 }

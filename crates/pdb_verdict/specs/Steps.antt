@@ -1,9 +1,11 @@
 -- What the steps of a check of a log answer: a result, or want of memory in its place.
-use Rattle.std.specs.Prelude.{◌≡◌, ◌⊎◌, ⊤, ℕ, List, Result, Ok, Err}
+use Rattle.std.specs.Prelude.{◌≡◌, ◌⊎◌, ℕ, List, Result, Ok, Err}
 use Rattle.tab_file.specs.TableFiles.{IsTableFile}
 use Rattle.tab_file.specs.Tables.{Table}
 use Rattle.tab_check.specs.TableFaults.{IsFaultOf}
 use Rattle.set_sum.specs.Bundles.{BundleView}
+use Rattle.log_file.specs.LogFiles.{IsLogFile}
+use Rattle.log_file.specs.Logs.{Log}
 use Rattle.log_check.specs.GoodLogs.{IsGoodFile}
 use Rattle.log_check.specs.LogFaults as log_fault
 use Rattle.pdb_io.specs.Shelves.{Bytes}
@@ -31,11 +33,11 @@ abbrev pub IsCauseForBundle : Fault → List Bytes → Bytes → Type 0
 IsCauseForBundle (fault.Sets refused) files sets = AreRefusedSets files sets refused
 IsCauseForBundle cause files sets = IsCauseForTables cause files
 
--- the bound for a board over a bundle, or why there is none, or want of memory
+-- the bound for a board over a bundle, or why there is none, or want of memory, which comes of log files alone
 abbrev pub IsFoundOver : BundleView → List ℕ → Bytes → Result ℕ Fault → Type 0
 IsFoundOver bundle board log (Ok bound) = IsGoodFile bundle board log bound
 IsFoundOver bundle board log (Err (fault.Log refused)) = log_fault.IsFaultOf refused bundle board log
-IsFoundOver bundle board log (Err fault.Memory) = ⊤
+IsFoundOver bundle board log (Err fault.Memory) = (l : Log) × IsLogFile l log
 IsFoundOver bundle board log found = ⊥
 
 -- the result on a puzzle text and a log over a bundle, or want of memory

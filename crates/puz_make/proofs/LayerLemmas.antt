@@ -7,19 +7,10 @@ use Rattle.std.proofs.lemmas.List.{append-nil, append_assoc}
 use Rattle.std.proofs.lemmas.List.Elements.{filter-append}
 use Rattle.std.proofs.lemmas.Bool.{cases_lt, false_from_ne_true}
 use Rattle.std.proofs.lemmas.List.Sums.{sum_by-cons}
+use Rattle.pat_place.proofs.ListLemmas.{range-append}
 use lib.Seq.{drop-cons}
 use Rattle.puz_make.specs.Layers.{layer_from}
 use Rattle.puz_make.specs.Pieces.{all_items}
-
-range-append : (a m n : ℕ) → range_with_len a (m + n) ≡ range_with_len a m ++ range_with_len (a + m) n
-range-append a zero n =
-    let none : 0 + n ≡ n = omega arith in
-    let here : a ≡ a + 0 = omega arith in
-    ap (range_with_len a) none ∙ ap (λ k. range_with_len k n) here
-range-append a (suc m) n =
-    let whole : suc m + n ≡ suc (m + n) = omega arith in
-    let from : a + 1 + m ≡ a + suc m = omega arith in
-    ap (range_with_len a) whole ∙ ap (λ l. a ∷ l) (range-append (a + 1) m n ∙ ap (λ k. range_with_len (a + 1) m ++ range_with_len k n) from)
 
 abbrev weight : Bool → ℕ
 weight b = cond b 1 0

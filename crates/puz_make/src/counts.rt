@@ -1,6 +1,7 @@
 //! How few moves lead to the tiles at home, found layer by layer.
 
-ghost use Rattle.std.specs.Prelude.{◌<◌, ◌^◌, length};
+ghost use Rattle.std.specs.Prelude.{◌<◌, ◌^◌, IfErr, length};
+ghost use Rattle.puz_make.specs.Faults.{IsBuildFault};
 
 use crate::entries::entry_of;
 use crate::faults::MakeFault;
@@ -34,7 +35,9 @@ impl Counts {
         grid: &Grid,
         shapes: &Shapes,
         mask: u32,
-    ) -> Result<Counts, MakeFault> {
+    ) -> Result<Counts, MakeFault>
+        ensures { IfErr result IsBuildFault }
+    {
         let steps = Steps::new(alloc, grid, shapes)?;
         // At home each tile stands on the cell of its number, and the blank is in cell 0.
         let home = shapes.with_cells(mask, 1);

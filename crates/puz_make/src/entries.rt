@@ -1,6 +1,7 @@
 //! What the bytes of a table say, and where they stand.
 
 ghost use Rattle.std.specs.Prelude.{◌≡◌, ◌≤◌, ◌↔◌, IsSome, IfSome};
+ghost use Rattle.tab_lanes.specs.LocalRule.{greatest_count};
 
 use tab_lanes::GREATEST_COUNT;
 
@@ -9,7 +10,7 @@ pub(crate) const MOST_TILES: usize = 8;
 
 /// The entry that holds a count, where the count is at most 253.
 pub fn entry_of(count: u32) -> Option<u8>
-    ensures some { IsSome result ↔ (count ≤ 253) }
+    ensures some { IsSome result ↔ (count ≤ greatest_count) }
     ensures value { IfSome result (λ entry. entry ≡ count) }
 {
     if count <= u32::from(GREATEST_COUNT) {

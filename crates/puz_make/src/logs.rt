@@ -1,5 +1,8 @@
 //! Log files of one lemma.
 
+ghost use Rattle.std.specs.Prelude.{IfErr};
+ghost use Rattle.puz_make.specs.Faults.{IsSearchFault};
+
 use crate::faults::MakeFault;
 use puz_board::Board;
 use std::alloc::{AllocError, Global};
@@ -13,7 +16,9 @@ pub(crate) fn log_of(
     board: &Board,
     bound: u8,
     tree: &[u8],
-) -> Result<Vec<u8>, MakeFault> {
+) -> Result<Vec<u8>, MakeFault>
+    ensures { IfErr result IsSearchFault }
+{
     let Ok(length) = u32::try_from(tree.len()) else {
         return Err(MakeFault::Memory);
     };

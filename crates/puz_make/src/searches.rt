@@ -1,8 +1,9 @@
 //! Shortest solutions by iterative deepening (Korf 1985), and the logs that prove them shortest.
 
-ghost use Rattle.std.specs.Prelude.{◌≡◌, ◌<◌, IfOk};
+ghost use Rattle.std.specs.Prelude.{◌≡◌, ◌<◌, IfErr, IfOk};
 ghost use Rattle.std.specs.Bool.{OnFalse};
 ghost use Rattle.puz_board.specs.Boards.{side_of};
+ghost use Rattle.puz_make.specs.Faults.{IsSearchFault};
 
 use crate::faults::MakeFault;
 use crate::logs::{log_of, put};
@@ -42,6 +43,7 @@ pub fn solve(
     budget: u64,
 ) -> Result<Found, MakeFault>
     requires { side_of board.now ≡ bundle.now.side }
+    ensures fault { IfErr result IsSearchFault }
 {
     let position = Position::new(alloc, bundle, board)?;
     if position.is_hopeless() {
@@ -98,7 +100,9 @@ impl Search<'_, '_> {
     }
 
     /// Writes a node of the tree.
-    fn write(&mut self, node: u8) -> Result<(), MakeFault> {
+    fn write(&mut self, node: u8) -> Result<(), MakeFault>
+        ensures { IfErr result IsSearchFault }
+    {
         if self.tree.len() >= MOST_TREE_BYTES {
             return Err(MakeFault::Memory);
         }
@@ -107,7 +111,9 @@ impl Search<'_, '_> {
     }
 
     /// Writes a branch, and counts it.
-    fn expand(&mut self) -> Result<(), MakeFault> {
+    fn expand(&mut self) -> Result<(), MakeFault>
+        ensures { IfErr result IsSearchFault }
+    {
         if self.budget == 0 {
             return Err(MakeFault::K1);
         }
@@ -117,7 +123,8 @@ impl Search<'_, '_> {
 
     /// Whether a leaf cuts a board off, from which so many moves are to be refuted. It is then written.
     fn is_cut(&mut self, leaf: &Leaf, remaining: u16) -> Result<bool, MakeFault>
-        ensures { IfOk result (λ cut. OnFalse cut (0 < remaining)) }
+        ensures cut { IfOk result (λ cut. OnFalse cut (0 < remaining)) }
+        ensures fault { IfErr result IsSearchFault }
     {
         if leaf.sum < remaining {
             return Ok(false);
@@ -129,7 +136,9 @@ impl Search<'_, '_> {
 
     /// Whether the board, to which the blank came from a cell, has a solution of fewer moves than remain. Where it has none,
     /// the tree that refutes it is written, and otherwise the letters of its moves.
-    fn is_solved(&mut self, came_from: u8, remaining: u16) -> Result<bool, MakeFault> {
+    fn is_solved(&mut self, came_from: u8, remaining: u16) -> Result<bool, MakeFault>
+        ensures { IfErr result IsSearchFault }
+    {
         let leaf = self.position.best_leaf();
         if self.is_cut(&leaf, remaining)? {
             return Ok(false);

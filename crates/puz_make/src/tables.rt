@@ -1,7 +1,8 @@
 //! Tables, built breadth first from the tiles at home.
 
-ghost use Rattle.std.specs.Prelude.{◌≡◌, ◌+◌, ◌<◌, IfOk, length};
+ghost use Rattle.std.specs.Prelude.{◌≡◌, ◌+◌, ◌<◌, IfErr, IfOk, length};
 ghost use Rattle.tab_file.specs.Tables.{entry_count};
+ghost use Rattle.puz_make.specs.Faults.{IsBuildFault};
 
 use crate::counts::Counts;
 use crate::faults::MakeFault;
@@ -23,7 +24,9 @@ pub fn build<R: Threads + Sync>(
     rt: &R,
     alloc: Global,
     pattern: &Pattern,
-) -> Result<Vec<u8>, MakeFault> {
+) -> Result<Vec<u8>, MakeFault>
+    ensures fault { IfErr result IsBuildFault }
+{
     let grid = Grid::new(pattern);
     let shapes = Shapes::new(alloc, &grid)?;
     let counts = Counts::new(rt, alloc, &grid, &shapes, pattern.mask())?;
