@@ -29,7 +29,7 @@ MASKS = {
 # Patterns whose tables are large enough to be checked by runs, by their sides.
 LARGE = [(3, 126), (4, 30), (3, 510), (4, 1632), (3, 254), (4, 61440), (3, 380), (3, 438)]
 # A tree of the bound 255 on side 2 has two chains of 255 nodes.
-MOST_NODES = {2: 520, 3: 150}
+MOST_NODES = {2: 520, 3: 150, 4: 150, 5: 150}
 
 
 def board_text(draw, board):
@@ -151,11 +151,11 @@ def unsolvable(board):
 
 def claim(draw):
     """A board, the letters of a solution of it or None, a set text, a log and tables."""
-    side = draw.choice([2, 2, 2, 3, 3])
+    side = draw.choice([2] * 5 + [3] * 3 + [4, 5])
     files = [table(draw, side) for _ in range(draw.choice([1, 1, 2, 2, 3, 16]))]
     sets_text = set_text(draw, files)
     prover = Prover(draw, read_sets(sets_text, [read_table(file) for file in files]))
-    board, letters = walk(draw, side, draw.randint(0, 7 if side == 2 else 14))
+    board, letters = walk(draw, side, draw.randint(0, {2: 7, 3: 14, 4: 10, 5: 8}[side]))
     if draw.random() < 0.15:
         board, letters = unsolvable(board), None
     for _ in range(draw.choice([0, 0, 1, 3])):

@@ -90,7 +90,7 @@ fn ran_over<H: Threads + Wait + Sync>(
 }
 
 /// Words, the lines of their run, and its status.
-const CASES: [(&[&str], &[u8], u8); 8] = [
+const CASES: [(&[&str], &[u8], u8); 9] = [
     (&[], b"solution 6\n", 0),
     (&["replay", "board"], b"refused P1\n", 1),
     (&["table", "t"], EXACT, 0),
@@ -107,11 +107,25 @@ const CASES: [(&[&str], &[u8], u8); 8] = [
     ),
     (&["make-table", "2", "2", "made"], EXACT, 0),
     (
+        &["solve", "board", "sets", "made", "f123"],
+        b"sha256 5c515b94b4098a8408358078f3f9b8b3e46255c04334fedd62c8e67da63d237b\nsha256 637ed7557c031455a39a826a90aa07c9b77930b8072f58f7a02c0af00f445342\nmoves ULDRUL\noptimal 6\n",
+        0,
+    ),
+    (
         &["solve", "board", "sets", "made", "t", "--budget", "1"],
         b"sha256 26b7b90b4dfe1e0850395df95e9bceb8d79215ca38dc4d14ffced6029e452e58\nrefused K1\n",
         1,
     ),
 ];
+
+/// What a run that ends with this status has made under `made`.
+fn made_by(words: &[&str], status: u8) -> Option<&'static [u8]> {
+    match words {
+        ["make-table", ..] if status == 0 => Some(&TILE_1),
+        ["solve", ..] if status == 0 => Some(&LEAF),
+        _ => None,
+    }
+}
 
 #[test]
 fn a_write_that_fails_leaves_a_front_of_the_lines(rt: HostRuntime) -> Result<(), Fail> {
@@ -127,13 +141,7 @@ fn a_write_that_fails_leaves_a_front_of_the_lines(rt: HostRuntime) -> Result<(),
                 );
                 assert_eq!(rt; out.calls(), fails_from as u64 + 1);
                 // What was made stays, since it is kept before any line is written.
-                let is_made = status == 0 && words.contains(&"made");
-                let made = if is_made {
-                    Some(TILE_1.as_slice())
-                } else {
-                    None
-                };
-                assert!(rt; shelf.get("made") == made);
+                assert!(rt; shelf.get("made") == made_by(words, status));
             }
         }
     }

@@ -162,17 +162,18 @@ fn a_write_that_fails_leaves_a_front(rt: HostRuntime) -> Result<(), Fail> {
     let answer = verify(&rt, alloc, &inputs, 1, &OpenGate);
     let lines =
         b"sha256 ba7816bf8f01cfea414140de5dae2223b00361a396177a9cb410ff61f20015ad\nrefused T1\n".as_slice();
-    for fails_from in 0..=lines.len() {
-        let mut out = SampleWriter::new(alloc)
-            .failing(
-                fails_from as u64,
-                u64::MAX,
-                Failing::ByError(io::ErrorKind::Other),
-            )
-            .byte_by_byte_from(0);
-        let written = report(&inputs, &answer, &mut out);
-        assert_eq!(rt; written.is_ok(), fails_from == lines.len());
-        assert!(rt; out.taken() == &lines[..fails_from]);
+    for how in [
+        Failing::ByError(io::ErrorKind::Other),
+        Failing::ByTakingNothing,
+    ] {
+        for fails_from in 0..=lines.len() {
+            let mut out = SampleWriter::new(alloc)
+                .failing(fails_from as u64, u64::MAX, how)
+                .byte_by_byte_from(0);
+            let written = report(&inputs, &answer, &mut out);
+            assert_eq!(rt; written.is_ok(), fails_from == lines.len());
+            assert!(rt; out.taken() == &lines[..fails_from]);
+        }
     }
     Ok(())
 }
