@@ -582,8 +582,6 @@ status=0
 check 'the commands of the tour write what its page says' [ "$status" = 0 ]
 
 #
-# Runs at once, and writes.
-#
 # Tables and logs that are made.
 #
 
@@ -694,6 +692,8 @@ check 'a made table on a full standard output' [ "$status" = 2 ]
 check 'what was made stays' cmp -s made F12
 rm made
 
+#
+# Runs at once, and writes.
 #
 
 : >"$work/errors"
