@@ -7,8 +7,8 @@
 #
 # PROGRAM is the program to run; without it, that is the launcher, which builds what is not built. A line is written for
 # each check that fails, with what was written, and last the line `N passed, M failed`. The status is 0 if all passed, 1 if
-# one failed, and 2 where there is no program to run. It needs python3, as rt does. With the C compiler cc, each request for
-# memory is refused in turn besides.
+# one failed, and 2 where there is no program to run. It needs python3, as rt does, and the C compiler cc, for requests that
+# are refused.
 set -uo pipefail
 
 root=$(dirname "$(dirname "$(readlink -f "${BASH_SOURCE[0]}")")")
@@ -516,19 +516,17 @@ limit_memory solve board one_set made F12 --workers 7
 rm -f made
 check 'memory was refused to some runs' [ "$refusals" -gt 0 ]
 
-# Each request for memory or a thread is refused in turn, where there is a compiler for the library that refuses.
-if command -v cc >/dev/null; then
-    for words in '' 'table F123' 'table F123 --workers 2' 'table F123_with_02' 'make-table 5 16777216 made' \
-        'bound board one_set leaf F123' 'bound board one_set branches_without_the_last F12' \
-        'bound board one_set citation F12' 'bound board one_set citation F12 --workers 2' \
-        'optimal six_moves one_set branches F12' 'solve next_board one_set made F123'; do
-        status=0
-        # shellcheck disable=SC2086
-        PROGRAM=$bare "$root/tools/refuse_memory.sh" $words <solved >"$work/output" 2>"$work/errors" || status=$?
-        check "each request of '$words' is refused" [ "$status" = 0 ]
-    done
-    rm -f made
-fi
+# Each request for memory or a thread is refused in turn.
+for words in '' 'table F123' 'table F123 --workers 2' 'table F123_with_02' 'make-table 5 16777216 made' \
+    'bound board one_set leaf F123' 'bound board one_set branches_without_the_last F12' \
+    'bound board one_set citation F12' 'bound board one_set citation F12 --workers 2' \
+    'optimal six_moves one_set branches F12' 'solve next_board one_set made F123'; do
+    status=0
+    # shellcheck disable=SC2086
+    PROGRAM=$bare "$root/tools/refuse_memory.sh" $words <solved >"$work/output" 2>"$work/errors" || status=$?
+    check "each request of '$words' is refused" [ "$status" = 0 ]
+done
+rm -f made
 
 #
 # The stack.

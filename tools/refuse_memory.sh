@@ -1,14 +1,16 @@
 #!/usr/bin/env bash
 # Runs the program once for each of its requests for memory or a thread, with that one refused. Such a run must write
-# `no memory` alone and end with status 3, or end as the run does that is refused nothing.
+# `no memory` alone, end with status 3 and leave its files as they were, or end as the run does that is refused nothing, with
+# the files that this one leaves.
 #
 #     echo '3 2 1 0 ; ULDRUL' | tools/refuse_memory.sh
 #     tools/refuse_memory.sh table FILE --workers 4 </dev/null
 #
-# Its arguments are the program's words, and its standard input is the program's. It needs the C compiler `cc`. A line is
-# written for each run that ends otherwise, with what that run wrote, then one that counts both answers, and last
-# `N passed, M failed`. The status is 0 if all passed, and otherwise not. The program is that of the variable PROGRAM, a path;
-# without it, the launcher builds it where that is needed.
+# Its arguments are the program's words, and its standard input is the program's. Names are those of files in the folder that
+# it is called in, of which each run gets a copy. It needs the C compiler `cc`. A line is written for each run that ends
+# otherwise, with what that run wrote and left, then one that counts both answers, and last `N passed, M failed`. The status
+# is 0 if all passed, and otherwise not. The program is that of the variable PROGRAM, a path; without it, the launcher builds
+# it where that is needed.
 set -euo pipefail
 
 root=$(dirname "$(dirname "$(readlink -f "${BASH_SOURCE[0]}")")")
@@ -20,19 +22,31 @@ fi
 work=$(mktemp -d)
 trap 'rm -r "$work"' EXIT
 
-cat >"$work/input"
+mkdir "$work/given" && cat >"$work/input"
+for word in "$@"; do
+    [ ! -f "$word" ] || cp --parents -- "$word" "$work/given"
+done
 cc -O1 -shared -fPIC -o "$work/refuse_memory.so" "$root/tools/refuse_memory.c"
 
+# Names and digests of the files that a run has left, behind a line that says its status.
+list_end() {
+    echo "status $1"
+    (cd "$work/files" && find . -type f -exec sha256sum {} + | sort)
+}
+
+# Runs the program with the words behind $1, in a copy of the files, with the request $1 refused.
 run() {
     local status=0
-    REFUSE=$1 LD_PRELOAD=$work/refuse_memory.so "$program" "${@:2}" \
+    rm -rf "$work/files" && cp -a "$work/given" "$work/files"
+    (cd "$work/files" && REFUSE=$1 LD_PRELOAD=$work/refuse_memory.so exec "$program" "${@:2}") \
         <"$work/input" >"$work/output" 2>"$work/errors" 9>"$work/refused" || status=$?
-    echo "status $status" >>"$work/output"
+    list_end "$status" >>"$work/output"
 }
 
 run 0 "$@"
 mv "$work/output" "$work/own_answer"
-printf 'no memory\nstatus 3\n' >"$work/no_memory"
+rm -rf "$work/files" && cp -a "$work/given" "$work/files"
+{ echo 'no memory' && list_end 3; } >"$work/no_memory"
 
 request=0
 without=0

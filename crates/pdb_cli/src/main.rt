@@ -2,7 +2,7 @@
 #![tactic(auto)]
 
 use pdb_io::disk::DiskShelf;
-use pdb_program::start;
+use pdb_program::{Host, start};
 use std::process::ExitCode;
 use std::{env, io};
 use work_run::OpenGate;
@@ -18,14 +18,17 @@ fn main(rt: HostRuntime) -> ExitCode {
     let mut reader = rt.stdin();
     let mut out = rt.stdout();
     let mut err = rt.stderr();
+    let host = Host {
+        rt: &rt,
+        alloc: rt.alloc(),
+        gate: &OpenGate,
+    };
     ExitCode::from(start(
-        &rt,
-        rt.alloc(),
+        &host,
         arguments(&rt),
         &mut shelf,
         &mut reader,
         &mut out,
         &mut err,
-        &OpenGate,
     ))
 }

@@ -1,3 +1,3 @@
-pub mod MemShelves
-pub mod Shelves
+pub mod Memory
+pub mod Shelf
 pub mod Streams

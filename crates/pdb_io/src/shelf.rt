@@ -1,7 +1,7 @@
 //! Named bytes.
 
 ghost use Rattle.std.specs.Prelude.{◌≡◌, ◌<◌, ◌≤◌, Option, Bool, Some, true, length, IfOk, OnOk, OnErr, IfSome, IsErrOf, IsSomeAnd};
-ghost use Rattle.pdb_io.specs.Shelves.{Files, KeepsOthers, told_with};
+ghost use Rattle.pdb_io.specs.Shelf.{Files, KeepsOthers, told_with};
 
 use crate::streams::ReadFault;
 use std::alloc::{AllocError, Global};

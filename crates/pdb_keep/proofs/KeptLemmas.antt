@@ -3,21 +3,21 @@ use Rattle.std.proofs.Common.{◌≡◌, ◌∙◌, ℕ, List, [], ◌∷◌, Bo
 use Rattle.std.specs.Io.KnownBytes.{Appends}
 use Rattle.puz_board.specs.BoardTexts.{Spells}
 use Rattle.puz_board.specs.MovesTexts.{Solves}
-use Rattle.pdb_io.specs.Shelves.{Bytes}
-use Rattle.pdb_run.specs.Lines.{reply_text}
-use Rattle.pdb_run.specs.Plans.{Reply}
-use Rattle.pdb_run.specs.Readings.{AreRead}
+use Rattle.pdb_io.specs.Shelf.{Bytes}
+use Rattle.pdb_run.specs.Writing.{reply_text}
+use Rattle.pdb_run.specs.Commands.{Reply}
+use Rattle.pdb_run.specs.Inputs.{AreRead}
 use Rattle.pdb_run.specs.Runs.{Ends, World, kept, status_of_reply, with_kept}
-use Rattle.pdb_run.specs.declared.status.Status.TheVariants.{Yes, Refused}
+use Rattle.pdb_run.specs.declared.statuses.Status.TheVariants.{Yes, Refused}
 use Rattle.pdb_run.proofs.AnswerLemmas.{IsAnswered-ends}
-use Rattle.pdb_verdict.specs.Optima.{IsProvedOptimum}
-use Rattle.pdb_verdict.specs.Tables.{IsExactFor}
-use Rattle.pdb_verdict.specs.declared.verdict.Verdict.{Verdict}
-use Rattle.pdb_verdict.specs.declared.verdict.Verdict.TheVariants as verdict
+use Rattle.pdb_verdict.specs.Optimal.{IsProvedOptimum}
+use Rattle.pdb_verdict.specs.Table.{IsExactFor}
+use Rattle.pdb_verdict.specs.declared.verdicts.Verdict.{Verdict}
+use Rattle.pdb_verdict.specs.declared.verdicts.Verdict.TheVariants as verdict
 use Rattle.pdb_verdict.proofs.OptimumLemmas.{IsOptimumResult-yes, proved_least}
 use Rattle.pdb_keep.specs.Kept.{IsLogKept, IsTableKept}
-use Rattle.pdb_keep.specs.MadeTables.{Build, IsBuildFor, built, make_table_plan, reply_to_build, unbuilt}
-use Rattle.pdb_keep.specs.Searches.{IsSearchOf, IsSolveReply, Search, puzzle_of, reply_to_search, searched, solve_inputs, solve_plan, unmade}
+use Rattle.pdb_keep.specs.MakeTable.{Build, IsBuildFor, built, make_table_plan, reply_to_build, unbuilt}
+use Rattle.pdb_keep.specs.Solve.{IsSearchOf, IsSolveReply, Search, puzzle_of, reply_to_search, searched, solve_inputs, solve_plan, unmade}
 use Rattle.pdb_keep.proofs.MakerLemmas.{solved-moves}
 
 -- a no is no yes

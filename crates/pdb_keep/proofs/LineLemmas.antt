@@ -2,7 +2,7 @@
 use Rattle.std.proofs.Common.{◌≡◌, ◌∙◌, ℕ, ◌<◌, List, [], ◌∷◌, ◌++◌, ap, ap₂, append_assoc, arith, codes, false, length, sym}
 use Rattle.std.specs.Prelude.{◌==◌, decimal}
 use Rattle.pdb_verdict.specs.Lines.{counted}
-use Rattle.pdb_keep.specs.Searches.{moves_line}
+use Rattle.pdb_keep.specs.Solve.{moves_line}
 
 -- a list that isn't empty has an element
 pub not_none : (xs : List ℕ) → (length xs == 0) ≡ false → 0 < length xs

@@ -17,24 +17,24 @@ use Rattle.puz_board.proofs.PuzzleLemmas.{puzzle_parts-puzzle}
 use Rattle.puz_board.proofs.SpellingLemmas.{stray_byte-numerals}
 use Rattle.puz_board.proofs.FirstLemmas.{fails_each}
 use Rattle.set_sum.specs.Bundles.{BundleView}
-use Rattle.pdb_io.specs.Shelves.{Bytes}
+use Rattle.pdb_io.specs.Shelf.{Bytes}
 use Rattle.pdb_verdict.specs.Bundles.{IsBundleOfFiles}
-use Rattle.pdb_verdict.specs.Given.{table_file}
-use Rattle.pdb_verdict.specs.Optima.{IsResultOfPuzzle, of_halves, solved_parts}
-use Rattle.pdb_verdict.specs.Replays.{IsSolvedPuzzle}
+use Rattle.pdb_verdict.specs.Inputs.{table_file}
+use Rattle.pdb_verdict.specs.Optimal.{IsResultOfPuzzle, of_halves, solved_parts}
+use Rattle.pdb_verdict.specs.Replay.{IsSolvedPuzzle}
 use Rattle.pdb_verdict.specs.Steps.{IsOptimumOver}
-use Rattle.pdb_verdict.specs.Tables.{IsTableResult}
+use Rattle.pdb_verdict.specs.Table.{IsTableResult}
 use Rattle.pdb_verdict.specs.Verdicts.{IsAnswerTo}
-use Rattle.pdb_verdict.specs.declared.verdict.Fault.{Fault}
-use Rattle.pdb_verdict.specs.declared.verdict.Fault.TheVariants as fault
-use Rattle.pdb_verdict.specs.declared.verdict.MakeRefusal.TheVariants.{K1, K2, K3}
-use Rattle.pdb_verdict.specs.declared.verdict.Verdict.{Verdict}
-use Rattle.pdb_verdict.specs.declared.verdict.Verdict.TheVariants as verdict
+use Rattle.pdb_verdict.specs.declared.verdicts.Fault.{Fault}
+use Rattle.pdb_verdict.specs.declared.verdicts.Fault.TheVariants as fault
+use Rattle.pdb_verdict.specs.declared.verdicts.MakeRefusal.TheVariants.{K1, K2, K3}
+use Rattle.pdb_verdict.specs.declared.verdicts.Verdict.{Verdict}
+use Rattle.pdb_verdict.specs.declared.verdicts.Verdict.TheVariants as verdict
 use Rattle.pdb_verdict.proofs.BoundLemmas.{found_over}
 use Rattle.pdb_verdict.proofs.BundleLemmas.{bundle_taken}
 use Rattle.pdb_verdict.proofs.OptimumLemmas.{IsOptimumResult-yes}
-use Rattle.pdb_keep.specs.MadeTables.{IsOfAnother, SpeaksOf}
-use Rattle.pdb_keep.specs.Searches.{AreForBoard, IsMade, letter_of, letters_of, puzzle_of}
+use Rattle.pdb_keep.specs.MakeTable.{IsOfAnother, SpeaksOf}
+use Rattle.pdb_keep.specs.Solve.{AreForBoard, IsMade, letter_of, letters_of, puzzle_of}
 use Rattle.pdb_keep.specs.Steps.{HasItsMoves, IsCauseForSearch, IsGivenUp, IsMadeOver}
 
 -- ---- tables

@@ -4,15 +4,15 @@ use Rattle.std.specs.Io.KnownBytes.{Appends}
 use Rattle.puz_board.specs.BoardTexts.{Spells}
 use Rattle.puz_board.specs.MovesTexts.{Solves}
 use Rattle.tab_check.specs.declared.census.Census.{Census}
-use Rattle.pdb_io.specs.Shelves.{Bytes, told_with}
-use Rattle.pdb_run.specs.Lines.{digests_of}
-use Rattle.pdb_run.specs.Readings.{AreRead}
+use Rattle.pdb_io.specs.Shelf.{Bytes, told_with}
+use Rattle.pdb_run.specs.Writing.{digests_of}
+use Rattle.pdb_run.specs.Inputs.{AreRead}
 use Rattle.pdb_run.specs.Runs.{World}
-use Rattle.pdb_verdict.specs.Bounds.{IsProvedBound}
+use Rattle.pdb_verdict.specs.Bound.{IsProvedBound}
 use Rattle.pdb_verdict.specs.Lines.{counted, exact_line}
-use Rattle.pdb_verdict.specs.Optima.{IsLeastCount}
-use Rattle.pdb_verdict.specs.Tables.{IsExactFor}
-use Rattle.pdb_keep.specs.Searches.{letters_of, moves_line, solve_inputs}
+use Rattle.pdb_verdict.specs.Optimal.{IsLeastCount}
+use Rattle.pdb_verdict.specs.Table.{IsExactFor}
+use Rattle.pdb_keep.specs.Solve.{letters_of, moves_line, solve_inputs}
 
 -- the shelf has the exact table of this side and this mask under the name, and under each other name what it had; the writer
 -- got its digest and its line

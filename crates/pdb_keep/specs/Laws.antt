@@ -1,11 +1,11 @@
 -- What holds of all runs of makers.
 use Rattle.std.specs.Prelude.{ℕ, List}
-use Rattle.pdb_io.specs.Shelves.{Bytes}
+use Rattle.pdb_io.specs.Shelf.{Bytes}
 use Rattle.pdb_run.specs.Runs.{Ends, World}
-use Rattle.pdb_run.specs.declared.status.Status.TheVariants.{Yes}
+use Rattle.pdb_run.specs.declared.statuses.Status.TheVariants.{Yes}
 use Rattle.pdb_keep.specs.Kept.{IsLogKept, IsTableKept}
-use Rattle.pdb_keep.specs.MadeTables.{make_table_plan}
-use Rattle.pdb_keep.specs.Searches.{solve_plan}
+use Rattle.pdb_keep.specs.MakeTable.{make_table_plan}
+use Rattle.pdb_keep.specs.Solve.{solve_plan}
 
 -- a run of `make-table` that ends with a yes has kept the exact table of its pattern
 abbrev pub KeptTablesAreExact : Type 0

@@ -1,5 +1,5 @@
 pub mod Kept
 pub mod Laws
-pub mod MadeTables
-pub mod Searches
+pub mod MakeTable
+pub mod Solve
 pub mod Steps

@@ -2,17 +2,17 @@
 use Rattle.std.specs.Prelude.{◌≡◌, ◌≢◌, ◌⊎◌, ⊤, ℕ, List, Result, Ok, Err, length}
 use Rattle.puz_board.specs.PuzzleTexts.{puzzle_parts}
 use Rattle.set_sum.specs.Bundles.{BundleView}
-use Rattle.pdb_io.specs.Shelves.{Bytes}
-use Rattle.pdb_verdict.specs.Bounds.{TakesMemoryForBound}
-use Rattle.pdb_verdict.specs.Optima.{solved_parts}
+use Rattle.pdb_io.specs.Shelf.{Bytes}
+use Rattle.pdb_verdict.specs.Bound.{TakesMemoryForBound}
+use Rattle.pdb_verdict.specs.Optimal.{solved_parts}
 use Rattle.pdb_verdict.specs.Steps.{IsOptimumOver}
-use Rattle.pdb_verdict.specs.declared.verdict.Fault.{Fault}
-use Rattle.pdb_verdict.specs.declared.verdict.Fault.TheVariants as fault
-use Rattle.pdb_verdict.specs.declared.verdict.MakeRefusal.TheVariants.{K1, K2}
-use Rattle.pdb_verdict.specs.declared.verdict.Verdict.{Verdict}
-use Rattle.pdb_verdict.specs.declared.verdict.Verdict.TheVariants as verdict
-use Rattle.pdb_keep.specs.MadeTables.{ArePattern, IsUnbuilt}
-use Rattle.pdb_keep.specs.Searches.{IsUnmade, letters_of, puzzle_of}
+use Rattle.pdb_verdict.specs.declared.verdicts.Fault.{Fault}
+use Rattle.pdb_verdict.specs.declared.verdicts.Fault.TheVariants as fault
+use Rattle.pdb_verdict.specs.declared.verdicts.MakeRefusal.TheVariants.{K1, K2}
+use Rattle.pdb_verdict.specs.declared.verdicts.Verdict.{Verdict}
+use Rattle.pdb_verdict.specs.declared.verdicts.Verdict.TheVariants as verdict
+use Rattle.pdb_keep.specs.MakeTable.{ArePattern, IsUnbuilt}
+use Rattle.pdb_keep.specs.Solve.{IsUnmade, letters_of, puzzle_of}
 
 -- why a maker of a table builds none, or want of memory, which comes of patterns alone
 abbrev pub IsCauseForBuild : ℕ → ℕ → Fault → Type 0

@@ -1,10 +1,10 @@
 //! Makes a table, and keeps it once it is found exact for the pattern that was asked for.
 
 ghost use Rattle.std.specs.Prelude.{◌≡◌, ◌↔◌, ◌∷◌, [], IsSome, IsTrue, IfErr, IfOk, OnErr, Some, option_map};
-ghost use Rattle.pdb_run.specs.Lines.{digests_of};
-ghost use Rattle.pdb_run.specs.Replies.{reply_of};
+ghost use Rattle.pdb_run.specs.Writing.{digests_of};
+ghost use Rattle.pdb_run.specs.Answers.{reply_of};
 ghost use Rattle.pdb_run.specs.Runs.{Ends, world};
-ghost use Rattle.pdb_keep.specs.MadeTables.{ArePattern, IsBuilt, SpeaksOf, TellsBuild, make_table_plan};
+ghost use Rattle.pdb_keep.specs.MakeTable.{ArePattern, IsBuilt, SpeaksOf, TellsBuild, make_table_plan};
 ghost use Rattle.pdb_keep.specs.Steps.{IsCauseForBuild};
 
 use pat_place::Pattern;

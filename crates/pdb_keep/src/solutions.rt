@@ -2,7 +2,7 @@
 
 ghost use Rattle.std.specs.Prelude.{◌≡◌, ◌≤◌, ◌++◌, ◌∷◌, [], codes, length};
 ghost use Rattle.pdb_verdict.specs.Lines.{counted};
-ghost use Rattle.pdb_keep.specs.Searches.{letters_of, lines_on, moves_line};
+ghost use Rattle.pdb_keep.specs.Solve.{letters_of, lines_on, moves_line};
 ghost use Rattle.pdb_keep.specs.Steps.{HasItsMoves};
 
 use arrayvec::ArrayString;

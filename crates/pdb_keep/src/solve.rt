@@ -3,12 +3,12 @@
 ghost use Rattle.std.specs.Prelude.{◌≡◌, ◌≤◌, ◌∷◌, [], Some, length, map, option_map, IfErr, IfOk, IfSome, OnErr};
 ghost use Rattle.puz_board.specs.Boards.{side_of};
 ghost use Rattle.puz_board.specs.PuzzleTexts.{puzzle_parts};
-ghost use Rattle.pdb_run.specs.Lines.{digests_of};
-ghost use Rattle.pdb_run.specs.Replies.{all_bytes, reply_of};
+ghost use Rattle.pdb_run.specs.Writing.{digests_of};
+ghost use Rattle.pdb_run.specs.Answers.{all_bytes, reply_of};
 ghost use Rattle.pdb_run.specs.Runs.{Ends, world};
-ghost use Rattle.pdb_verdict.specs.Optima.{solved_parts};
+ghost use Rattle.pdb_verdict.specs.Optimal.{solved_parts};
 ghost use Rattle.pdb_verdict.specs.Steps.{IsOptimumOver};
-ghost use Rattle.pdb_keep.specs.Searches.{IsMade, IsSolveReply, SolveTakesMemory, puzzle_of, reply_to_search, searched, solve_inputs, solve_plan, unmade};
+ghost use Rattle.pdb_keep.specs.Solve.{IsMade, IsSolveReply, SolveTakesMemory, puzzle_of, reply_to_search, searched, solve_inputs, solve_plan, unmade};
 ghost use Rattle.pdb_keep.specs.Steps.{HasItsMoves, IsCauseForSearch, IsGivenUp, IsMadeOver};
 
 use crate::solutions::lines_on;

@@ -1,14 +1,14 @@
 -- The numbers by which runs end.
 use Rattle.std.proofs.Common.{◌≡◌, ◌⊎◌, ◌∙◌, ◌≤◌, inl, inr, refl, sym, ap, subst, lit≤, arith, ℕ, List, [], Option, Some, None}
 use Rattle.std.specs.Io.KnownBytes.{Keeps}
-use Rattle.pdb_io.specs.Shelves.{Bytes}
-use Rattle.pdb_run.specs.Plans.{Plan}
+use Rattle.pdb_io.specs.Shelf.{Bytes}
+use Rattle.pdb_run.specs.Commands.{Plan}
 use Rattle.pdb_run.specs.Runs.{Ends, HasCause, IsAnswered, LeavesFiles, LeavesReader, Outcome, WantsMemory, World, kept, no_memory, replied, unkept, unread, with_kept}
 use Rattle.pdb_run.specs.Statuses.{status_number}
-use Rattle.pdb_run.specs.declared.status.Status.{Status}
-use Rattle.pdb_run.specs.declared.status.Status.TheVariants.{Yes, Refused, Fault, NoMemory}
+use Rattle.pdb_run.specs.declared.statuses.Status.{Status}
+use Rattle.pdb_run.specs.declared.statuses.Status.TheVariants.{Yes, Refused, Fault, NoMemory}
 use Rattle.pdb_run.proofs.AnswerLemmas.{IsAnswered-ends}
-use Rattle.pdb_keep.specs.MadeTables.{make_table_plan}
+use Rattle.pdb_keep.specs.MakeTable.{make_table_plan}
 use Rattle.pdb_keep.proofs.KeptLemmas.{log_kept, table_kept}
 use Rattle.pdb_words.specs.Asked.{Asked, bound, make_table, optimal, replay, solve, table}
 use Rattle.pdb_words.specs.CommandLine.{Parses, asked_of}

@@ -1,18 +1,18 @@
 -- What the words of the program do, and how a run on words ends.
 use Rattle.std.specs.Prelude.{◌≡◌, ◌⊎◌, ⊤, ℕ, List, Option, None}
 use Rattle.std.specs.Io.KnownBytes.{Keeps}
-use Rattle.pdb_io.specs.Shelves.{Bytes}
-use Rattle.pdb_run.specs.Plans.{Plan}
+use Rattle.pdb_io.specs.Shelf.{Bytes}
+use Rattle.pdb_run.specs.Commands.{Plan}
 use Rattle.pdb_run.specs.Runs.{Ends, World}
 use Rattle.pdb_run.specs.Statuses.{status_number}
-use Rattle.pdb_run.specs.declared.status.Status.{Status}
-use Rattle.pdb_verdict.specs.Bounds.{bound_plan}
-use Rattle.pdb_verdict.specs.Optima.{optimum_plan}
-use Rattle.pdb_verdict.specs.Replays.{replay_plan}
-use Rattle.pdb_verdict.specs.Tables.{table_plan}
+use Rattle.pdb_run.specs.declared.statuses.Status.{Status}
+use Rattle.pdb_verdict.specs.Bound.{bound_plan}
+use Rattle.pdb_verdict.specs.Optimal.{optimum_plan}
+use Rattle.pdb_verdict.specs.Replay.{replay_plan}
+use Rattle.pdb_verdict.specs.Table.{table_plan}
 use Rattle.pdb_keep.specs.Kept.{IsLogKept, IsTableKept}
-use Rattle.pdb_keep.specs.MadeTables.{make_table_plan}
-use Rattle.pdb_keep.specs.Searches.{solve_plan}
+use Rattle.pdb_keep.specs.MakeTable.{make_table_plan}
+use Rattle.pdb_keep.specs.Solve.{solve_plan}
 use Rattle.pdb_words.specs.Asked.{Asked, bound, make_table, optimal, replay, solve, table}
 use Rattle.pdb_words.specs.CommandLine.{Parses, asked_of}
 use Rattle.pdb_words.specs.Faults.{IsMistaken}

@@ -1,12 +1,12 @@
 -- What a run says of words that don't parse.
 use Rattle.std.specs.Prelude.{◌≡◌, ◌⊎◌, List, Option}
 use Rattle.std.specs.Io.KnownBytes.{Appends, Keeps}
-use Rattle.pdb_io.specs.Shelves.{Bytes}
+use Rattle.pdb_io.specs.Shelf.{Bytes}
 use Rattle.pdb_io.specs.Streams.{AppendsFront}
-use Rattle.pdb_run.specs.Lines.{memory_line}
+use Rattle.pdb_run.specs.Writing.{memory_line}
 use Rattle.pdb_run.specs.Runs.{Says}
-use Rattle.pdb_run.specs.declared.status.Status.{Status}
-use Rattle.pdb_run.specs.declared.status.Status.TheVariants.{Yes, Fault, NoMemory}
+use Rattle.pdb_run.specs.declared.statuses.Status.{Status}
+use Rattle.pdb_run.specs.declared.statuses.Status.TheVariants.{Yes, Fault, NoMemory}
 use Rattle.pdb_words.specs.Faults.{AsksForHelp, IsMistaken}
 
 -- a text was written whole, or a proper front of it

@@ -2,18 +2,18 @@
 
 ghost use Rattle.std.specs.Prelude.{◌≡◌, ◌⊎◌, map, string_bytes};
 ghost use Rattle.std.specs.Io.KnownBytes.{Keeps};
-ghost use Rattle.work_run.specs.Workers.{AreWorkers};
 ghost use Rattle.pdb_run.specs.Runs.{Ends, IsAnswered, world};
 ghost use Rattle.pdb_words.specs.CommandLine.{Parses, asked_of};
 ghost use Rattle.pdb_words.specs.Faults.{IsMistaken};
 ghost use Rattle.pdb_program.specs.Programs.{AskToKeepNothing, HasKept, IsNumberOf, plan_of};
 ghost use Rattle.pdb_program.specs.Refusals.{Refuses};
 
+use crate::hosts::Host;
 use crate::refusals::explain;
 use pdb_io::shelf::Shelf;
 use pdb_keep::{MakeTable, SearchNames, run_make_table, run_solve};
 use pdb_run::Status;
-use pdb_verdict::{ClaimNames, Workers, run_bound, run_optimal, run_replay, run_table};
+use pdb_verdict::{ClaimNames, run_bound, run_optimal, run_replay, run_table};
 use pdb_words::{LogCheck, Request, Search, read_words};
 use std::alloc::Global;
 use std::io::{Read, Write};
@@ -63,24 +63,6 @@ pub fn run<H: Threads + Wait + Sync, S: Shelf, R: Read, W: Write, E: Write, G: G
 {
     let host = Host { rt, alloc, gate };
     answer(&host, words.as_slice(), shelf, reader, out, err).code()
-}
-
-/// What a run has of its host: what starts threads, memory, and the gate that workers pass.
-#[derive(Drop)]
-struct Host<'h, H, G> {
-    rt: &'h H,
-    alloc: Global,
-    gate: &'h G,
-}
-
-impl<'h, H, G> Host<'h, H, G> {
-    /// So many workers.
-    fn workers(&self, count: u8) -> Workers<'h, H, G>
-        requires { AreWorkers count }
-        ensures { result ≡ count }
-    {
-        Workers::new(self.rt, count, self.gate)
-    }
 }
 
 /// Does what the words ask for.

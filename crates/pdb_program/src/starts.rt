@@ -4,18 +4,18 @@ ghost use Rattle.std.specs.Prelude.{◌≡◌, ◌≢◌, drop, map, string_byte
 ghost use Rattle.std.specs.IoError.{error_kind};
 ghost use Rattle.std.specs.Io.KnownBytes.{Keeps};
 ghost use Rattle.std.specs.declared.io.ErrorKind.TheVariants.{OutOfMemory};
-ghost use Rattle.pdb_run.specs.Lines.{memory_line};
+ghost use Rattle.pdb_run.specs.Writing.{memory_line};
 ghost use Rattle.pdb_run.specs.Runs.{Says, world};
 ghost use Rattle.pdb_words.specs.Faults.{unreadable_word};
 ghost use Rattle.pdb_program.specs.Programs.{IsNumberOf, RunsOn};
 ghost use Rattle.pdb_program.specs.Refusals.{AppendsWholeOrFront};
 
+use crate::hosts::Host;
 use crate::programs::run;
 use crate::refusals::tell;
 use pdb_io::shelf::Shelf;
 use pdb_run::{Status, say_no_memory};
 use pdb_words::unreadable_word;
-use std::alloc::Global;
 use std::io;
 use std::io::{Read, Write};
 use std::sync::Wait;
@@ -25,14 +25,12 @@ use work_run::Gate;
 /// A run on the arguments behind the first, which is the program's own name, or what is said where they can't be taken:
 /// for want of memory, or since one is no UTF-8 text.
 pub fn start<H: Threads + Wait + Sync, S: Shelf, R: Read, W: Write, E: Write, G: Gate + Sync>(
-    rt: &H,
-    alloc: Global,
+    host: &Host<'_, H, G>,
     arguments: io::Result<Vec<String>>,
     shelf: &mut S,
     reader: &mut R,
     out: &mut W,
     err: &mut E,
-    gate: &G,
 ) -> u8
     ensures runs { IfOk arguments (λ all. RunsOn (drop 1 (map string_bytes all.items))
         (world (S.held shelf.old) (S.has_failed shelf.old) (R.remaining reader.old) (W.contents out.old))
@@ -44,7 +42,16 @@ pub fn start<H: Threads + Wait + Sync, S: Shelf, R: Read, W: Write, E: Write, G:
         → Keeps (W.contents out.old) (W.contents out.new) × AppendsWholeOrFront unreadable_word (E.contents err.old) (E.contents err.new) × (result ≡ 2)) }
 {
     match arguments {
-        Ok(all) => run(rt, alloc, words_in(all), shelf, reader, out, err, gate),
+        Ok(all) => run(
+            host.rt,
+            host.alloc,
+            words_in(all),
+            shelf,
+            reader,
+            out,
+            err,
+            host.gate,
+        ),
         Err(error) => without_words(&error, out, err).code(),
     }
 }

@@ -3,10 +3,10 @@ use Rattle.std.proofs.Common.{◌≡◌, ◌∙◌, ◌⊎◌, inl, inr, Bool, t
 use Rattle.std.specs.Io.KnownBytes.{Appends}
 use Rattle.pdb_io.specs.declared.streams.ReadFault.TheVariants as read
 use Rattle.pdb_io.specs.declared.shelf.KeepFault.TheVariants as keep
-use Rattle.pdb_run.specs.Plans.{Plan}
+use Rattle.pdb_run.specs.Commands.{Plan}
 use Rattle.pdb_run.specs.Runs.{Ends, HasCause, IsAnswered, LeavesFiles, LeavesReader, Outcome, World, no_memory, replied, status_of, text_of, unkept, unread}
-use Rattle.pdb_run.specs.declared.status.Status.{Status}
-use Rattle.pdb_run.specs.declared.status.Status.TheVariants.{Yes, Refused, Fault, NoMemory}
+use Rattle.pdb_run.specs.declared.statuses.Status.{Status}
+use Rattle.pdb_run.specs.declared.statuses.Status.TheVariants.{Yes, Refused, Fault, NoMemory}
 
 abbrev is_answer : Status → Bool
 is_answer Yes = true

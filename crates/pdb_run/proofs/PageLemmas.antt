@@ -6,12 +6,12 @@ use Rattle.std.proofs.KnownBytes.{Appends-nil}
 use Rattle.std.proofs.lemmas.Grind.{flat_map-append}
 use Rattle.std.proofs.lemmas.List.{append-nil, drop_more, map-append, take-append-drop, take_more}
 use Rattle.std.proofs.lemmas.List.Concat.{flat_map-cons}
-use Rattle.pdb_io.specs.Shelves.{Bytes}
+use Rattle.pdb_io.specs.Shelf.{Bytes}
 use Rattle.pdb_io.specs.Streams.{AppendsFront, joined}
 use Rattle.pdb_io.proofs.Appending.{appends_more, front_more}
-use Rattle.pdb_run.specs.Lines.{all_bytes, digest_line, digests_of, list_of, reply_text, shown_byte}
+use Rattle.pdb_run.specs.Writing.{all_bytes, digest_line, digests_of, list_of, reply_text, shown_byte}
 use Rattle.pdb_run.specs.Pages.{Gathers}
-use Rattle.pdb_run.specs.Plans.{Reply}
+use Rattle.pdb_run.specs.Commands.{Reply}
 
 -- ---- one page
 

@@ -1,12 +1,12 @@
 -- Inputs in a row.
 use Rattle.std.proofs.Common.{◌≡◌, ◌∙◌, ◌<◌, ◌+◌, ℕ, List, [], ◌∷◌, ◌++◌, Option, Some, None, IfSome, Bool, ap, length, map, refl, subst, sym, take, drop, get_or, suc, Vec}
 use Rattle.std.proofs.lemmas.List.{length-map}
-use Rattle.pdb_run.specs.Replies.{all_bytes}
+use Rattle.pdb_run.specs.Answers.{all_bytes}
 use Rattle.std.proofs.lemmas.List.{drop_more, map-append, take_more, take-append-drop}
-use Rattle.pdb_io.specs.Shelves.{Bytes, Files}
+use Rattle.pdb_io.specs.Shelf.{Bytes, Files}
 use Rattle.pdb_io.specs.declared.streams.ReadFault.{ReadFault}
-use Rattle.pdb_run.specs.Plans.{Wanted}
-use Rattle.pdb_run.specs.Readings.{AreRead, IsAsTold, IsFirstUnread, IsNext, IsOverLimit, IsRead, IsReadFrom, IsUnread, left, left_by_all, wanted_of}
+use Rattle.pdb_run.specs.Commands.{Wanted}
+use Rattle.pdb_run.specs.Inputs.{AreRead, IsAsTold, IsFirstUnread, IsNext, IsOverLimit, IsRead, IsReadFrom, IsUnread, left, left_by_all, wanted_of}
 use Rattle.pdb_run.specs.declared.inputs.Input.{Input}
 use Rattle.pdb_io.specs.declared.streams.ReadFault.TheVariants.{F1, F2, Memory}
 

@@ -1,16 +1,16 @@
 -- How a run ends.
 use Rattle.std.proofs.Common.{◌≡◌, ◌∙◌, Bool, true, List, Option, Some, None, ap, codes, subst, sym}
-use Rattle.pdb_io.specs.Shelves.{Bytes, Files, KeepsOthers}
+use Rattle.pdb_io.specs.Shelf.{Bytes, Files, KeepsOthers}
 use Rattle.pdb_io.specs.declared.streams.ReadFault.{ReadFault}
 use Rattle.pdb_io.specs.declared.streams.ReadFault.TheVariants.{F1, F2}
 use Rattle.pdb_io.specs.declared.shelf.KeepFault.{KeepFault}
 use Rattle.pdb_io.specs.declared.shelf.KeepFault.TheVariants as keep
-use Rattle.pdb_run.specs.Lines.{named_line, reply_text, shown}
-use Rattle.pdb_run.specs.Plans.{Plan, Reply, Wanted}
-use Rattle.pdb_run.specs.Readings.{AreRead, IsAsTold, IsFirstUnread, left_by_all}
+use Rattle.pdb_run.specs.Writing.{named_line, reply_text, shown}
+use Rattle.pdb_run.specs.Commands.{Plan, Reply, Wanted}
+use Rattle.pdb_run.specs.Inputs.{AreRead, IsAsTold, IsFirstUnread, left_by_all}
 use Rattle.pdb_run.specs.Runs.{Ends, Says, World, kept, replied, status_of, status_of_reply, text_of, unkept, unread, with_kept}
-use Rattle.pdb_run.specs.declared.status.Status.{Status}
-use Rattle.pdb_run.specs.declared.status.Status.TheVariants.{Fault}
+use Rattle.pdb_run.specs.declared.statuses.Status.{Status}
+use Rattle.pdb_run.specs.declared.statuses.Status.TheVariants.{Fault}
 
 -- ---- the line of an input that wasn't read
 

@@ -1,7 +1,7 @@
-pub mod Lines
+pub mod Answers
+pub mod Commands
+pub mod Inputs
 pub mod Pages
-pub mod Plans
-pub mod Readings
-pub mod Replies
 pub mod Runs
 pub mod Statuses
+pub mod Writing

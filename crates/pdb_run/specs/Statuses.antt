@@ -1,7 +1,7 @@
 -- The number by which a caller of the program sees how a run ended.
 use Rattle.std.specs.Prelude.{ℕ}
-use Rattle.pdb_run.specs.declared.status.Status.{Status}
-use Rattle.pdb_run.specs.declared.status.Status.TheVariants.{Yes, Refused, Fault, NoMemory}
+use Rattle.pdb_run.specs.declared.statuses.Status.{Status}
+use Rattle.pdb_run.specs.declared.statuses.Status.TheVariants.{Yes, Refused, Fault, NoMemory}
 
 -- 0 for a yes, 1 for a refusal, 2 for bad words or a fault of a read or a write, 3 for want of memory
 abbrev pub status_number : Status → ℕ

@@ -1,7 +1,7 @@
 //! Digest lines, and how they are made beside a check.
 
 ghost use Rattle.std.specs.Prelude.{◌≡◌, ◌<◌, ◌++◌, None, IfOk, IfSome, IsOk, OnOk};
-ghost use Rattle.pdb_run.specs.Lines.{all_files, digest_line, digests_of};
+ghost use Rattle.pdb_run.specs.Writing.{all_files, digest_line, digests_of};
 
 use arrayvec::{ArrayVec, CapacityError};
 use sha2::{Digest, Sha256};

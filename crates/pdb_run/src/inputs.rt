@@ -1,8 +1,8 @@
 //! The inputs of a command.
 
 ghost use Rattle.std.specs.Prelude.{◌≡◌, map, IfOk, IfErr, OnOk};
-ghost use Rattle.pdb_run.specs.Readings.{AreRead, IsAsTold, IsFirstUnread, IsNext, IsRead, IsUnread, left, left_by_all, wanted_of};
-ghost use Rattle.pdb_run.specs.Replies.{all_bytes};
+ghost use Rattle.pdb_run.specs.Inputs.{AreRead, IsAsTold, IsFirstUnread, IsNext, IsRead, IsUnread, left, left_by_all, wanted_of};
+ghost use Rattle.pdb_run.specs.Answers.{all_bytes};
 
 use pdb_io::shelf::Shelf;
 use pdb_io::streams::{ReadFault, read_all};

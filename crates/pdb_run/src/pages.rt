@@ -3,7 +3,7 @@
 ghost use Rattle.std.specs.Prelude.{◌≡◌, ◌++◌, ◌∷◌, [], map, option_map, OnOk, OnErr};
 ghost use Rattle.std.specs.Io.KnownBytes.{Appends};
 ghost use Rattle.pdb_io.specs.Streams.{AppendsFront};
-ghost use Rattle.pdb_run.specs.Lines.{all_bytes, all_files, digests_of, list_of, shown_byte};
+ghost use Rattle.pdb_run.specs.Writing.{all_bytes, all_files, digests_of, list_of, shown_byte};
 ghost use Rattle.pdb_run.specs.Pages.{Gathers};
 
 use crate::digests::digest_line;

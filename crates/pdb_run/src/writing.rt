@@ -3,11 +3,11 @@
 ghost use Rattle.std.specs.Prelude.{◌++◌, OnOk, OnErr};
 ghost use Rattle.std.specs.Io.KnownBytes.{Appends};
 ghost use Rattle.pdb_io.specs.Streams.{AppendsFront};
-ghost use Rattle.pdb_run.specs.Lines.{all_files, digests_of, list_of, reply_text};
+ghost use Rattle.pdb_run.specs.Writing.{all_files, digests_of, list_of, reply_text};
 ghost use Rattle.pdb_run.specs.Pages.{Gathers};
-ghost use Rattle.pdb_run.specs.Replies.{reply_of};
+ghost use Rattle.pdb_run.specs.Answers.{reply_of};
 
-use crate::answer::Answer;
+use crate::answers::Answer;
 use crate::pages::Page;
 use pdb_io::streams::WriteFault;
 use std::io::Write;

@@ -21,14 +21,14 @@ use Rattle.log_check.specs.declared.faults.LogRefusal.{LogRefusal}
 use Rattle.set_sum.proofs.BundleLemmas.{is_bundle}
 use Rattle.log_check.proofs.GoodLemmas.{good_log_bounds}
 use Rattle.log_check.proofs.AnswerLemmas.{good_or_fault, one_bound, one_fault}
-use Rattle.pdb_io.specs.Shelves.{Bytes}
-use Rattle.pdb_verdict.specs.Bounds.{IsBoundFor, IsBoundOfText, IsBoundResult, IsProvedBound, IsRefusedLog, IsResultOfBoard, of_bound}
+use Rattle.pdb_io.specs.Shelf.{Bytes}
+use Rattle.pdb_verdict.specs.Bound.{IsBoundFor, IsBoundOfText, IsBoundResult, IsProvedBound, IsRefusedLog, IsResultOfBoard, of_bound}
 use Rattle.pdb_verdict.specs.Bundles.{AreExactFiles, AreRefusedSets, IsBundleOfFiles, IsFirstRefused}
 use Rattle.pdb_verdict.specs.Steps.{IsFoundFor, IsFoundOver}
-use Rattle.pdb_verdict.specs.declared.verdict.Fault.{Fault}
-use Rattle.pdb_verdict.specs.declared.verdict.Fault.TheVariants as fault
-use Rattle.pdb_verdict.specs.declared.verdict.Verdict.{Verdict}
-use Rattle.pdb_verdict.specs.declared.verdict.Verdict.TheVariants as verdict
+use Rattle.pdb_verdict.specs.declared.verdicts.Fault.{Fault}
+use Rattle.pdb_verdict.specs.declared.verdicts.Fault.TheVariants as fault
+use Rattle.pdb_verdict.specs.declared.verdicts.Verdict.{Verdict}
+use Rattle.pdb_verdict.specs.declared.verdicts.Verdict.TheVariants as verdict
 use Rattle.pdb_verdict.proofs.BundleLemmas.{all_exact, bundle_taken}
 use Rattle.pdb_verdict.proofs.ReplayLemmas.{no_yes}
 

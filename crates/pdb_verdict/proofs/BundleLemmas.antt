@@ -9,11 +9,11 @@ use Rattle.tab_file.specs.TableFiles.{IsTableFile}
 use Rattle.tab_file.specs.Tables.{Table}
 use Rattle.tab_check.specs.ExactTables.{IsExactFile, IsExactTable}
 use Rattle.set_sum.specs.Bundles.{BundleView}
-use Rattle.pdb_io.specs.Shelves.{Bytes}
+use Rattle.pdb_io.specs.Shelf.{Bytes}
 use Rattle.pdb_verdict.specs.Bundles.{AreExactFiles, IsBundleOfFiles, TakesMemoryForTables}
 use Rattle.pdb_verdict.specs.Steps.{IsCauseForFile, IsCauseForTables}
-use Rattle.pdb_verdict.specs.declared.verdict.Fault.{Fault}
-use Rattle.pdb_verdict.specs.declared.verdict.Fault.TheVariants as fault
+use Rattle.pdb_verdict.specs.declared.verdicts.Fault.{Fault}
+use Rattle.pdb_verdict.specs.declared.verdicts.Fault.TheVariants as fault
 
 -- an element of a list that stands within it, seen through a function
 pub item_there : {A B : Type 0} (f : A → B) (xs : List A) (i : ℕ) (x : A) → i < length xs → x ≡ get_or xs i x → slice_get (map f xs) i ≡ Some (f x)

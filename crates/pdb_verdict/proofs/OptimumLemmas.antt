@@ -11,17 +11,17 @@ use Rattle.puz_board.proofs.PuzzleLemmas.{puzzle_parts-puzzle, puzzle-parts}
 use Rattle.puz_board.proofs.SolutionLemmas.{replay_of-solved, solved-replay_of}
 use Rattle.puz_board.proofs.SpellingLemmas.{board_of_text-spelled, spelled-board_of_text}
 use Rattle.set_sum.specs.Bounds.{IsBounded}
-use Rattle.pdb_io.specs.Shelves.{Bytes}
-use Rattle.pdb_verdict.specs.Bounds.{IsBoundFor, IsProvedBound}
-use Rattle.pdb_verdict.specs.Given.{optimum_claim}
-use Rattle.pdb_verdict.specs.Optima.{IsLeastCount, IsOptimum, IsOptimumResult, IsProvedOptimum, IsResultOfPuzzle, of_halves, solved_board, solved_by, solved_parts}
-use Rattle.pdb_verdict.specs.Replays.{IsSolvedPuzzle}
+use Rattle.pdb_io.specs.Shelf.{Bytes}
+use Rattle.pdb_verdict.specs.Bound.{IsBoundFor, IsProvedBound}
+use Rattle.pdb_verdict.specs.Inputs.{optimum_claim}
+use Rattle.pdb_verdict.specs.Optimal.{IsLeastCount, IsOptimum, IsOptimumResult, IsProvedOptimum, IsResultOfPuzzle, of_halves, solved_board, solved_by, solved_parts}
+use Rattle.pdb_verdict.specs.Replay.{IsSolvedPuzzle}
 use Rattle.pdb_verdict.specs.Steps.{IsFoundFor}
 use Rattle.pdb_verdict.specs.Verdicts.{IsAnswerTo}
-use Rattle.pdb_verdict.specs.declared.verdict.Fault.{Fault}
-use Rattle.pdb_verdict.specs.declared.verdict.Fault.TheVariants as fault
-use Rattle.pdb_verdict.specs.declared.verdict.Verdict.{Verdict}
-use Rattle.pdb_verdict.specs.declared.verdict.Verdict.TheVariants as verdict
+use Rattle.pdb_verdict.specs.declared.verdicts.Fault.{Fault}
+use Rattle.pdb_verdict.specs.declared.verdicts.Fault.TheVariants as fault
+use Rattle.pdb_verdict.specs.declared.verdicts.Verdict.{Verdict}
+use Rattle.pdb_verdict.specs.declared.verdicts.Verdict.TheVariants as verdict
 use Rattle.pdb_verdict.proofs.BoundLemmas.{found_one, proved_bounds}
 use Rattle.pdb_verdict.proofs.ReplayLemmas.{no_yes}
 

@@ -10,20 +10,20 @@ use Rattle.tab_check.proofs.AnswerLemmas.{census_some, file_answer}
 use Rattle.set_sum.proofs.BundleLemmas.{is_bundle}
 use Rattle.set_sum.proofs.DecidedLemmas.{bundle_answer}
 use Rattle.log_check.proofs.AnswerLemmas.{check_answer}
-use Rattle.pdb_io.specs.Shelves.{Bytes}
+use Rattle.pdb_io.specs.Shelf.{Bytes}
 use Rattle.puz_board.specs.BoardTexts.{board_of_text}
 use Rattle.puz_board.specs.PuzzleTexts.{puzzle_parts}
 use Rattle.puz_board.specs.declared.texts.BoardFault.{BoardFault}
-use Rattle.pdb_verdict.specs.Bounds.{IsBoundFor, IsBoundResult, IsResultOfBoard, of_bound}
+use Rattle.pdb_verdict.specs.Bound.{IsBoundFor, IsBoundResult, IsResultOfBoard, of_bound}
 use Rattle.pdb_verdict.specs.Bundles.{AreExactFiles, IsBundleOfFiles, IsFirstRefused}
-use Rattle.pdb_verdict.specs.Given.{Given, bytes_of, puzzle_text, table_file, bound_claim, optimum_claim}
-use Rattle.pdb_verdict.specs.Optima.{IsOptimumResult, IsResultOfPuzzle, of_halves, solved_parts}
-use Rattle.pdb_verdict.specs.Replays.{of_parts}
+use Rattle.pdb_verdict.specs.Inputs.{Given, bytes_of, puzzle_text, table_file, bound_claim, optimum_claim}
+use Rattle.pdb_verdict.specs.Optimal.{IsOptimumResult, IsResultOfPuzzle, of_halves, solved_parts}
+use Rattle.pdb_verdict.specs.Replay.{of_parts}
 use Rattle.pdb_verdict.specs.Verdicts.{IsResult}
-use Rattle.pdb_verdict.specs.declared.verdict.Fault.{Fault}
-use Rattle.pdb_verdict.specs.declared.verdict.Fault.TheVariants as fault
-use Rattle.pdb_verdict.specs.declared.verdict.Verdict.{Verdict}
-use Rattle.pdb_verdict.specs.declared.verdict.Verdict.TheVariants as verdict
+use Rattle.pdb_verdict.specs.declared.verdicts.Fault.{Fault}
+use Rattle.pdb_verdict.specs.declared.verdicts.Fault.TheVariants as fault
+use Rattle.pdb_verdict.specs.declared.verdicts.Verdict.{Verdict}
+use Rattle.pdb_verdict.specs.declared.verdicts.Verdict.TheVariants as verdict
 use Rattle.pdb_verdict.proofs.BundleLemmas.{all_exact}
 
 -- a mask of four bytes fits 32 bits

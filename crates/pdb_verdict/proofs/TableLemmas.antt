@@ -6,11 +6,11 @@ use Rattle.tab_check.specs.TableFaults.{IsFaultOf}
 use Rattle.tab_check.specs.declared.census.Census.{Census}
 use Rattle.tab_check.specs.declared.tables.TableRefusal.{TableRefusal}
 use Rattle.tab_check.proofs.OneResultLemmas.{IsCensusOf-one, IsFaultOf-one, exact_one, exact_or_fault}
-use Rattle.pdb_verdict.specs.Tables.{IsExactFor, IsTableResult}
-use Rattle.pdb_verdict.specs.declared.verdict.Fault.{Fault}
-use Rattle.pdb_verdict.specs.declared.verdict.Fault.TheVariants as fault
-use Rattle.pdb_verdict.specs.declared.verdict.Verdict.{Verdict}
-use Rattle.pdb_verdict.specs.declared.verdict.Verdict.TheVariants as verdict
+use Rattle.pdb_verdict.specs.Table.{IsExactFor, IsTableResult}
+use Rattle.pdb_verdict.specs.declared.verdicts.Fault.{Fault}
+use Rattle.pdb_verdict.specs.declared.verdicts.Fault.TheVariants as fault
+use Rattle.pdb_verdict.specs.declared.verdicts.Verdict.{Verdict}
+use Rattle.pdb_verdict.specs.declared.verdicts.Verdict.TheVariants as verdict
 
 module _ (file : List ℕ) where
   -- ---- one verdict

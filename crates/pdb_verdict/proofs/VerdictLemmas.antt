@@ -4,11 +4,11 @@ use Rattle.pdb_verdict.proofs.BoundLemmas.{IsBoundResult-bound, IsBoundResult-on
 use Rattle.pdb_verdict.proofs.OptimumLemmas.{IsOptimumResult-one, IsOptimumResult-proved, IsOptimumResult-yes, proved_optimum}
 use Rattle.pdb_verdict.proofs.ReplayLemmas.{IsReplayResult-counted, IsReplayResult-one, IsReplayResult-solution, no_yes}
 use Rattle.pdb_verdict.proofs.TableLemmas.{IsTableResult-one}
-use Rattle.pdb_verdict.specs.Given.{Given, puzzle_text, table_file, bound_claim, optimum_claim}
+use Rattle.pdb_verdict.specs.Inputs.{Given, puzzle_text, table_file, bound_claim, optimum_claim}
 use Rattle.pdb_verdict.specs.Verdicts.{HoldsOfSolutions, IsAnswerTo, IsResult, IsTrueOf, LacksMemory}
-use Rattle.pdb_verdict.specs.declared.verdict.Fault.{Fault}
-use Rattle.pdb_verdict.specs.declared.verdict.Verdict.{Verdict}
-use Rattle.pdb_verdict.specs.declared.verdict.Verdict.TheVariants as verdict
+use Rattle.pdb_verdict.specs.declared.verdicts.Fault.{Fault}
+use Rattle.pdb_verdict.specs.declared.verdicts.Verdict.{Verdict}
+use Rattle.pdb_verdict.specs.declared.verdicts.Verdict.TheVariants as verdict
 
 -- a verdict is the result exactly where it is true
 pub IsResult-true : (inputs : Given) (verdict : Verdict) → IsResult inputs (Ok verdict) ↔ IsTrueOf inputs verdict

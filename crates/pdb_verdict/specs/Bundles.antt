@@ -8,7 +8,7 @@ use Rattle.tab_check.specs.declared.tables.TableRefusal.{TableRefusal}
 use Rattle.set_sum.specs.Bundles.{BundleView}
 use Rattle.set_sum.specs.Reading as reading
 use Rattle.set_sum.specs.declared.faults.SetFault.{SetFault}
-use Rattle.pdb_io.specs.Shelves.{Bytes}
+use Rattle.pdb_io.specs.Shelf.{Bytes}
 
 -- ---- what a bundle is
 

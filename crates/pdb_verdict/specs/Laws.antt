@@ -1,9 +1,9 @@
 -- What holds of all inputs.
 use Rattle.std.specs.Prelude.{◌≡◌, ◌↔◌, ℕ, ◌<◌, Result, Ok, slice_index}
-use Rattle.pdb_verdict.specs.Given.{Given, bytes_of}
+use Rattle.pdb_verdict.specs.Inputs.{Given, bytes_of}
 use Rattle.pdb_verdict.specs.Verdicts.{HoldsOfSolutions, IsResult, IsTrueOf}
-use Rattle.pdb_verdict.specs.declared.verdict.Fault.{Fault}
-use Rattle.pdb_verdict.specs.declared.verdict.Verdict.{Verdict}
+use Rattle.pdb_verdict.specs.declared.verdicts.Fault.{Fault}
+use Rattle.pdb_verdict.specs.declared.verdicts.Verdict.{Verdict}
 
 -- all inputs, which are bytes, have a result
 abbrev pub InputsHaveAResult : Type 0

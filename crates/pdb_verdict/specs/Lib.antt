@@ -1,11 +1,11 @@
-pub mod Bounds
+pub mod Bound
 pub mod Bundles
-pub mod Given
+pub mod Inputs
 pub mod Laws
 pub mod Limits
 pub mod Lines
-pub mod Optima
-pub mod Replays
+pub mod Optimal
+pub mod Replay
 pub mod Steps
-pub mod Tables
+pub mod Table
 pub mod Verdicts

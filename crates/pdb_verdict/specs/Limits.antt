@@ -1,7 +1,7 @@
 -- The most bytes of each kind of input.
 use Rattle.std.specs.Prelude.{ℕ, ◌^◌, Option, Some}
-use Rattle.pdb_io.specs.Shelves.{Bytes}
-use Rattle.pdb_run.specs.Plans.{Wanted}
+use Rattle.pdb_io.specs.Shelf.{Bytes}
+use Rattle.pdb_run.specs.Commands.{Wanted}
 
 -- of a board text, a puzzle text or a set text
 abbrev pub text_limit : ℕ

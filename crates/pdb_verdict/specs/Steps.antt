@@ -8,13 +8,13 @@ use Rattle.log_file.specs.LogFiles.{IsLogFile}
 use Rattle.log_file.specs.Logs.{Log}
 use Rattle.log_check.specs.GoodLogs.{IsGoodFile}
 use Rattle.log_check.specs.LogFaults as log_fault
-use Rattle.pdb_io.specs.Shelves.{Bytes}
-use Rattle.pdb_verdict.specs.Bounds.{IsBoundFor}
+use Rattle.pdb_io.specs.Shelf.{Bytes}
+use Rattle.pdb_verdict.specs.Bound.{IsBoundFor}
 use Rattle.pdb_verdict.specs.Bundles.{AreRefusedSets, IsFirstRefused, TakesMemoryForTables}
-use Rattle.pdb_verdict.specs.Optima.{of_halves}
-use Rattle.pdb_verdict.specs.declared.verdict.Fault.{Fault}
-use Rattle.pdb_verdict.specs.declared.verdict.Fault.TheVariants as fault
-use Rattle.pdb_verdict.specs.declared.verdict.Verdict.{Verdict}
+use Rattle.pdb_verdict.specs.Optimal.{of_halves}
+use Rattle.pdb_verdict.specs.declared.verdicts.Fault.{Fault}
+use Rattle.pdb_verdict.specs.declared.verdicts.Fault.TheVariants as fault
+use Rattle.pdb_verdict.specs.declared.verdicts.Verdict.{Verdict}
 
 -- why there isn't the table of the file with this number: it is refused, or want of memory, which comes of table files alone
 abbrev pub IsCauseForFile : Fault → ℕ → Bytes → Type 0

@@ -1,14 +1,14 @@
 -- The result on given inputs: a verdict, or the first refusal that stands.
 use Rattle.std.specs.Prelude.{◌≡◌, ◌⊎◌, ⊤, [], ◌∷◌, Result, Err}
-use Rattle.pdb_verdict.specs.Bounds.{IsBoundOfText, IsBoundResult, IsBoundedText, TakesMemoryForBound}
-use Rattle.pdb_verdict.specs.Given.{Given, puzzle_text, table_file, bound_claim, optimum_claim}
-use Rattle.pdb_verdict.specs.Optima.{IsOptimum, IsOptimumResult, IsProvedOptimum, TakesMemoryForOptimum}
-use Rattle.pdb_verdict.specs.Replays.{IsReplayResult, IsSolvedPuzzle}
-use Rattle.pdb_verdict.specs.Tables.{IsExactFor, IsTableResult, TakesMemoryForTable}
-use Rattle.pdb_verdict.specs.declared.verdict.Fault.{Fault}
-use Rattle.pdb_verdict.specs.declared.verdict.Fault.TheVariants as fault
-use Rattle.pdb_verdict.specs.declared.verdict.Verdict.{Verdict}
-use Rattle.pdb_verdict.specs.declared.verdict.Verdict.TheVariants as verdict
+use Rattle.pdb_verdict.specs.Bound.{IsBoundOfText, IsBoundResult, IsBoundedText, TakesMemoryForBound}
+use Rattle.pdb_verdict.specs.Inputs.{Given, puzzle_text, table_file, bound_claim, optimum_claim}
+use Rattle.pdb_verdict.specs.Optimal.{IsOptimum, IsOptimumResult, IsProvedOptimum, TakesMemoryForOptimum}
+use Rattle.pdb_verdict.specs.Replay.{IsReplayResult, IsSolvedPuzzle}
+use Rattle.pdb_verdict.specs.Table.{IsExactFor, IsTableResult, TakesMemoryForTable}
+use Rattle.pdb_verdict.specs.declared.verdicts.Fault.{Fault}
+use Rattle.pdb_verdict.specs.declared.verdicts.Fault.TheVariants as fault
+use Rattle.pdb_verdict.specs.declared.verdicts.Verdict.{Verdict}
+use Rattle.pdb_verdict.specs.declared.verdicts.Verdict.TheVariants as verdict
 
 -- the verdict is true of the inputs
 abbrev pub IsTrueOf : Given → Verdict → Type 0

@@ -2,10 +2,10 @@
 
 ghost use Rattle.std.specs.Prelude.{◌≤◌, length, map, IfOk, OnErr};
 ghost use Rattle.set_sum.specs.Bounds.{IsBounded};
-ghost use Rattle.pdb_run.specs.Replies.{all_bytes, reply_of};
+ghost use Rattle.pdb_run.specs.Answers.{all_bytes, reply_of};
 ghost use Rattle.pdb_run.specs.Runs.{Ends, world};
-ghost use Rattle.pdb_verdict.specs.Bounds.{BoundTakesMemory, IsBoundReply, bound_inputs, bound_plan};
-ghost use Rattle.pdb_verdict.specs.Given.{bound_claim};
+ghost use Rattle.pdb_verdict.specs.Bound.{BoundTakesMemory, IsBoundReply, bound_inputs, bound_plan};
+ghost use Rattle.pdb_verdict.specs.Inputs.{bound_claim};
 ghost use Rattle.pdb_verdict.specs.Steps.{IsFoundFor, IsFoundOver};
 ghost use Rattle.pdb_verdict.specs.Verdicts.{HoldsOfSolutions, IsAnswerTo};
 
@@ -13,7 +13,7 @@ use crate::bundles::read_bundle;
 use crate::claims::{ClaimNames, claim_inputs};
 use crate::inputs::Inputs;
 use crate::reports::{answer_or_memory, verify_beside};
-use crate::verdict::{Fault, Verdict};
+use crate::verdicts::{Fault, Verdict};
 use crate::workers::Workers;
 use log_check::{LogFault, check_log};
 use pdb_io::shelf::Shelf;

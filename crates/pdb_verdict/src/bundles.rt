@@ -2,11 +2,11 @@
 
 ghost use Rattle.std.specs.Prelude.{IfErr, IfOk};
 ghost use Rattle.tab_check.specs.ExactTables.{IsExactFile};
-ghost use Rattle.pdb_run.specs.Replies.{all_bytes};
+ghost use Rattle.pdb_run.specs.Answers.{all_bytes};
 ghost use Rattle.pdb_verdict.specs.Bundles.{AreExactFiles, IsBundleOfFiles};
 ghost use Rattle.pdb_verdict.specs.Steps.{IsCauseForBundle, IsCauseForFile, IsCauseForTables};
 
-use crate::verdict::Fault;
+use crate::verdicts::Fault;
 use crate::workers::Workers;
 use set_sum::Bundle;
 use std::alloc::Global;

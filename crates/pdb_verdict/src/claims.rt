@@ -1,8 +1,8 @@
 //! The inputs of a claim on a log.
 
 ghost use Rattle.std.specs.Prelude.{◌≡◌, ◌++◌, IfOk, OnOk, map};
-ghost use Rattle.pdb_run.specs.Readings.{wanted_of};
-ghost use Rattle.pdb_verdict.specs.Bounds.{bound_inputs};
+ghost use Rattle.pdb_run.specs.Inputs.{wanted_of};
+ghost use Rattle.pdb_verdict.specs.Bound.{bound_inputs};
 ghost use Rattle.pdb_verdict.specs.Limits.{a_table};
 
 use crate::limits::{a_log, a_table, a_text};

@@ -13,7 +13,7 @@ mod optimal;
 mod replay;
 mod reports;
 mod table;
-mod verdict;
+mod verdicts;
 mod workers;
 
 pub use bound::run_bound;
@@ -30,5 +30,5 @@ pub use optimal::{optimum_over, run_optimal};
 pub use replay::{run_replay, verify_puzzle};
 pub use reports::{digests, line, report, verify_beside};
 pub use table::run_table;
-pub use verdict::{Fault, MakeRefusal, Verdict, verify};
+pub use verdicts::{Fault, MakeRefusal, Verdict, verify};
 pub use workers::Workers;

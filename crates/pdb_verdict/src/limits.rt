@@ -1,7 +1,7 @@
 //! The most bytes of each kind of input.
 
 ghost use Rattle.std.specs.Prelude.{◌≡◌, Some, option_map};
-ghost use Rattle.pdb_run.specs.Readings.{wanted_of};
+ghost use Rattle.pdb_run.specs.Inputs.{wanted_of};
 ghost use Rattle.pdb_verdict.specs.Limits.{a_log, a_table, a_text};
 
 use pdb_run::Input;

@@ -3,7 +3,7 @@
 ghost use Rattle.std.specs.Prelude.{◌≡◌, ◌≤◌, ℕ, length};
 ghost use Rattle.pdb_verdict.specs.Lines.{counted, counted_twice, exact_line, line_of, line_of_board_fault, line_of_fault, line_of_form_fault, line_of_head_fault, line_of_make_refusal, line_of_numbered_head_fault, line_of_log_refusal, line_of_move_fault, line_of_set_fault, line_of_table_refusal, line_of_numbered_table_refusal};
 
-use crate::verdict::{Fault, MakeRefusal, Verdict};
+use crate::verdicts::{Fault, MakeRefusal, Verdict};
 use itoa::Buffer;
 use log_check::LogRefusal;
 use log_file::FormFault;

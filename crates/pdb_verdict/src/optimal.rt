@@ -2,10 +2,10 @@
 
 ghost use Rattle.std.specs.Prelude.{◌≡◌, ◌≤◌, length, map, IfOk, OnErr};
 ghost use Rattle.puz_board.specs.PuzzleTexts.{puzzle_parts};
-ghost use Rattle.pdb_run.specs.Replies.{all_bytes, reply_of};
+ghost use Rattle.pdb_run.specs.Answers.{all_bytes, reply_of};
 ghost use Rattle.pdb_run.specs.Runs.{Ends, world};
-ghost use Rattle.pdb_verdict.specs.Given.{optimum_claim};
-ghost use Rattle.pdb_verdict.specs.Optima.{IsOptimumReply, OptimumTakesMemory, of_halves, optimum_inputs, optimum_plan, solved_parts};
+ghost use Rattle.pdb_verdict.specs.Inputs.{optimum_claim};
+ghost use Rattle.pdb_verdict.specs.Optimal.{IsOptimumReply, OptimumTakesMemory, of_halves, optimum_inputs, optimum_plan, solved_parts};
 ghost use Rattle.pdb_verdict.specs.Steps.{IsOptimumOver};
 ghost use Rattle.pdb_verdict.specs.Verdicts.{HoldsOfSolutions, IsAnswerTo};
 
@@ -14,7 +14,7 @@ use crate::claims::{ClaimNames, claim_inputs};
 use crate::inputs::Inputs;
 use crate::replay::solved_board;
 use crate::reports::{answer_or_memory, verify_beside};
-use crate::verdict::{Fault, Verdict};
+use crate::verdicts::{Fault, Verdict};
 use crate::workers::Workers;
 use pdb_io::shelf::Shelf;
 use pdb_run::{Answer, Command, Input, Status, conclude, read_inputs};

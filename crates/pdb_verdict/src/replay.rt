@@ -2,16 +2,16 @@
 
 ghost use Rattle.std.specs.Prelude.{◌≡◌, ◌↔◌, ℕ, Ok, length, option_map};
 ghost use Rattle.puz_board.specs.PuzzleTexts.{puzzle_parts};
-ghost use Rattle.pdb_run.specs.Replies.{all_bytes, reply_of};
+ghost use Rattle.pdb_run.specs.Answers.{all_bytes, reply_of};
 ghost use Rattle.pdb_run.specs.Runs.{Ends, world};
-ghost use Rattle.pdb_verdict.specs.Optima.{solved_parts};
-ghost use Rattle.pdb_verdict.specs.Replays.{IsReplayReply, IsReplayResult, IsSolvedPuzzle, replay_inputs, replay_plan};
-ghost use Rattle.pdb_verdict.specs.declared.verdict.Verdict.TheVariants.{Solution};
+ghost use Rattle.pdb_verdict.specs.Optimal.{solved_parts};
+ghost use Rattle.pdb_verdict.specs.Replay.{IsReplayReply, IsReplayResult, IsSolvedPuzzle, replay_inputs, replay_plan};
+ghost use Rattle.pdb_verdict.specs.declared.verdicts.Verdict.TheVariants.{Solution};
 
 use crate::inputs::Inputs;
 use crate::limits::a_text;
 use crate::reports::answer_on;
-use crate::verdict::{Fault, Verdict};
+use crate::verdicts::{Fault, Verdict};
 use pdb_io::shelf::Shelf;
 use pdb_run::{Answer, Command, Input, Status, conclude, read_inputs};
 use puz_board::{Board, replay, split_puzzle};

@@ -3,16 +3,16 @@
 ghost use Rattle.std.specs.Prelude.{◌≡◌, ◌≢◌, ◌++◌, Err, option_map, IfOk, IfSome, OnOk, OnErr};
 ghost use Rattle.std.specs.Io.KnownBytes.{Appends};
 ghost use Rattle.pdb_io.specs.Streams.{AppendsFront};
-ghost use Rattle.pdb_run.specs.Lines.{digests_of, list_of};
-ghost use Rattle.pdb_run.specs.Replies.{all_bytes, reply_of};
-ghost use Rattle.pdb_verdict.specs.Given.{given};
+ghost use Rattle.pdb_run.specs.Writing.{digests_of, list_of};
+ghost use Rattle.pdb_run.specs.Answers.{all_bytes, reply_of};
+ghost use Rattle.pdb_verdict.specs.Inputs.{given};
 ghost use Rattle.pdb_verdict.specs.Lines.{digested_of, line_of, lines_of, reply_to, stands_alone};
 ghost use Rattle.pdb_verdict.specs.Verdicts.{IsAnswerTo};
-ghost use Rattle.pdb_verdict.specs.declared.verdict.Fault.TheVariants.{Memory};
+ghost use Rattle.pdb_verdict.specs.declared.verdicts.Fault.TheVariants.{Memory};
 
 use crate::inputs::Inputs;
 use crate::lines::line_of;
-use crate::verdict::{Fault, Verdict, verify_by};
+use crate::verdicts::{Fault, Verdict, verify_by};
 use crate::workers::Workers;
 use pdb_io::streams::{WriteFault, put_text};
 use pdb_run::{Answer, Digests, beside, say, say_digests};

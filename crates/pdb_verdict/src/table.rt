@@ -1,16 +1,16 @@
 //! Whether the table of a table file is exact.
 
 ghost use Rattle.std.specs.Prelude.{◌≡◌, length, IfOk, OnErr};
-ghost use Rattle.pdb_run.specs.Replies.{all_bytes, reply_of};
+ghost use Rattle.pdb_run.specs.Answers.{all_bytes, reply_of};
 ghost use Rattle.pdb_run.specs.Runs.{Ends, world};
-ghost use Rattle.pdb_verdict.specs.Given.{table_file};
-ghost use Rattle.pdb_verdict.specs.Tables.{IsTableReply, TakesMemoryForTable, of_table, table_inputs, table_plan};
+ghost use Rattle.pdb_verdict.specs.Inputs.{table_file};
+ghost use Rattle.pdb_verdict.specs.Table.{IsTableReply, TakesMemoryForTable, of_table, table_inputs, table_plan};
 ghost use Rattle.pdb_verdict.specs.Verdicts.{IsAnswerTo};
 
 use crate::inputs::Inputs;
 use crate::limits::a_table;
 use crate::reports::{answer_or_memory, verify_beside};
-use crate::verdict::{Fault, Verdict};
+use crate::verdicts::{Fault, Verdict};
 use crate::workers::Workers;
 use pdb_io::shelf::Shelf;
 use pdb_run::{Answer, Command, Input, Status, conclude, read_inputs};

@@ -4,7 +4,7 @@ ghost use Rattle.std.specs.Prelude.{◌≡◌, ℕ, ◌+◌, ◌<◌, ◌≤◌,
 ghost use Rattle.tab_lanes.specs.Counts.{IsGreatestCount};
 
 use crate::LANES;
-use crate::rule::GREATEST_COUNT;
+use crate::local_rule::GREATEST_COUNT;
 use std::simd::prelude::*;
 
 /// How many of the bytes are this one.

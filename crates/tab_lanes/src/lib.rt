@@ -6,14 +6,14 @@
 mod columns;
 mod counts;
 mod floods;
-mod rule;
+mod local_rule;
 #[cfg(test)]
 mod tests;
 
 pub use columns::min_into;
 pub use counts::{count_eq, greatest_count};
 pub use floods::{flood, flood_step};
-pub use rule::{
+pub use local_rule::{
     GOAL_SLOT, GREATEST_COUNT, NO_REGION, NO_WAY_HOME, OTHER_SLOT, WITHOUT_REGION, first_bad,
 };
 

@@ -1,6 +1,6 @@
 use Rattle.std.proofs.Common.{◌≢◌, [], Some, None, inl, inr, rules, false}
-use Rattle.pdb_verdict.specs.declared.verdict.Fault.TheVariants as fault
-use Rattle.pdb_keep.specs.MadeTables.{IsUnbuilt, built, unbuilt}
+use Rattle.pdb_verdict.specs.declared.verdicts.Fault.TheVariants as fault
+use Rattle.pdb_keep.specs.MakeTable.{IsUnbuilt, built, unbuilt}
 use Rattle.pdb_keep.proofs.make_table.answer_make_table.Goals as goal
 
 pub returns-in-Ok-clause-right : goal.returns-in-Ok-clause-right

@@ -1,8 +1,8 @@
 use Rattle.std.proofs.Common.{inl, inr, rules, subst}
-use Rattle.pdb_io.specs.Shelves.{Bytes}
-use Rattle.pdb_verdict.specs.Given.{table_file}
+use Rattle.pdb_io.specs.Shelf.{Bytes}
+use Rattle.pdb_verdict.specs.Inputs.{table_file}
 use Rattle.pdb_verdict.specs.Verdicts.{IsAnswerTo}
-use Rattle.pdb_keep.specs.MadeTables.{ArePattern, SpeaksOf}
+use Rattle.pdb_keep.specs.MakeTable.{ArePattern, SpeaksOf}
 use Rattle.pdb_keep.proofs.MakerLemmas.{another_built}
 use Rattle.pdb_keep.proofs.make_table.build_table.Goals as goal
 

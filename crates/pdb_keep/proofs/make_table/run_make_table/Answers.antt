@@ -1,6 +1,6 @@
 use Rattle.std.proofs.Common.{[], refl, rules}
-use Rattle.pdb_run.specs.Readings.{AreRead}
-use Rattle.pdb_run.specs.Replies.{all_bytes}
+use Rattle.pdb_run.specs.Inputs.{AreRead}
+use Rattle.pdb_run.specs.Answers.{all_bytes}
 use Rattle.pdb_run.specs.Runs.{world}
 use Rattle.pdb_keep.proofs.make_table.run_make_table.Goals as goal
 

@@ -1,5 +1,5 @@
 use Rattle.std.proofs.Common.{◌≡◌, ◌++◌, drop}
-use Rattle.pdb_keep.specs.Searches.{letters_of}
+use Rattle.pdb_keep.specs.Solve.{letters_of}
 use Rattle.pdb_keep.proofs.solutions.letters_of.Given as goal
 
 -- the letters so far and those of what is left are all

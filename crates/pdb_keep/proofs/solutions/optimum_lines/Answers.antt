@@ -1,5 +1,5 @@
 use Rattle.std.proofs.Common.{◌≡◌, ◌∙◌, ◌<◌, List, ℕ, length, subst, sym}
-use Rattle.pdb_keep.specs.Searches.{letters_of}
+use Rattle.pdb_keep.specs.Solve.{letters_of}
 use Rattle.pdb_keep.proofs.LineLemmas.{moves_parts, not_none}
 use Rattle.pdb_keep.proofs.solutions.optimum_lines.Goals as goal
 

@@ -1,9 +1,9 @@
 use Rattle.std.proofs.Common.{◌≡◌, ◌≢◌, ◌∙◌, List, ◌∷◌, inl, inr, length, rules, subst, sym}
 use Rattle.std.specs.Prelude.{slice_range}
-use Rattle.pdb_io.specs.Shelves.{Bytes}
-use Rattle.pdb_run.specs.Replies.{all_bytes, reply_of}
-use Rattle.pdb_verdict.specs.declared.verdict.Fault.TheVariants as fault
-use Rattle.pdb_keep.specs.Searches.{IsSolveReply, IsUnmade, TellsSearch, searched, unmade}
+use Rattle.pdb_io.specs.Shelf.{Bytes}
+use Rattle.pdb_run.specs.Answers.{all_bytes, reply_of}
+use Rattle.pdb_verdict.specs.declared.verdicts.Fault.TheVariants as fault
+use Rattle.pdb_keep.specs.Solve.{IsSolveReply, IsUnmade, TellsSearch, searched, unmade}
 use Rattle.pdb_keep.proofs.MakerLemmas.{has_its_moves, inputs_order}
 use Rattle.pdb_keep.proofs.solve.answer_solve.Goals as goal
 

@@ -1,8 +1,8 @@
 use Rattle.std.proofs.Common.{◌≡◌, ◌≢◌, inl, rules}
 use Rattle.puz_board.specs.BoardTexts.{Spells}
 use Rattle.puz_board.specs.Boards.{side_of}
-use Rattle.pdb_run.specs.Replies.{all_bytes}
-use Rattle.pdb_keep.specs.Searches.{IsMade}
+use Rattle.pdb_run.specs.Answers.{all_bytes}
+use Rattle.pdb_keep.specs.Solve.{IsMade}
 use Rattle.pdb_keep.specs.Steps.{IsCauseForSearch, IsGivenUp, IsMadeOver}
 use Rattle.pdb_keep.proofs.MakerLemmas.{given_up, if_err, if_ok, made_over}
 use Rattle.pdb_keep.proofs.solve.search.Goals as goal

@@ -1,5 +1,5 @@
 use Rattle.std.proofs.Common.{◌≡◌, take}
-use Rattle.pdb_run.specs.Lines.{all_bytes, digests_of}
+use Rattle.pdb_run.specs.Writing.{all_bytes, digests_of}
 use Rattle.pdb_run.proofs.digests.digests_in_order.Given as goal
 
 abbrev pub invariant-loop-file : goal.invariant-loop-file

@@ -1,6 +1,6 @@
 use Rattle.std.proofs.Common.{◌≡◌, map, take}
-use Rattle.pdb_run.specs.Readings.{wanted_of}
-use Rattle.pdb_run.specs.Replies.{all_bytes}
+use Rattle.pdb_run.specs.Inputs.{wanted_of}
+use Rattle.pdb_run.specs.Answers.{all_bytes}
 use Rattle.pdb_run.proofs.ReadingLemmas.{ReadSoFar}
 use Rattle.pdb_run.proofs.inputs.load_all.Given as goal
 

@@ -1,8 +1,8 @@
 use Rattle.std.proofs.Common.{[], refl, ◌++◌, ◌∙◌}
 use Rattle.std.proofs.lemmas.List.{append-nil}
 use Rattle.pdb_io.proofs.Appending.{on_err}
-use Rattle.pdb_run.specs.Lines.{digests_of, list_of}
-use Rattle.pdb_run.specs.Replies.{reply_of}
+use Rattle.pdb_run.specs.Writing.{digests_of, list_of}
+use Rattle.pdb_run.specs.Answers.{reply_of}
 use Rattle.pdb_run.proofs.PageLemmas.{gathers_more, gathers_nil, reply_parts, said_front, said_stopped, said_whole}
 use Rattle.pdb_run.proofs.writing.say.Goals as goal
 

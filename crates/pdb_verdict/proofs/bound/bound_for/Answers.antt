@@ -1,4 +1,4 @@
-use Rattle.pdb_run.specs.Replies.{all_bytes}
+use Rattle.pdb_run.specs.Answers.{all_bytes}
 use Rattle.pdb_verdict.proofs.BoundLemmas.{found_over}
 use Rattle.pdb_verdict.proofs.bound.bound_for.Goals as goal
 

@@ -1,7 +1,7 @@
 use Rattle.std.proofs.Common.{◌≡◌, ◌∙◌, ap, rules, subst, sym, Some}
 use Rattle.std.specs.Prelude.{slice_get}
 use Rattle.tab_check.specs.ExactTables.{IsExactFile}
-use Rattle.pdb_run.specs.Replies.{all_bytes}
+use Rattle.pdb_run.specs.Answers.{all_bytes}
 use Rattle.pdb_verdict.specs.Steps.{IsCauseForTables}
 use Rattle.pdb_verdict.proofs.BundleLemmas.{cause_for_tables, exact-next, first_taken, item_there}
 use Rattle.pdb_verdict.proofs.bundles.check_tables.Goals as goal

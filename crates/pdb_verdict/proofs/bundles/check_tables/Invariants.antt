@@ -1,5 +1,5 @@
 use Rattle.std.proofs.Common.{take}
-use Rattle.pdb_run.specs.Replies.{all_bytes}
+use Rattle.pdb_run.specs.Answers.{all_bytes}
 use Rattle.pdb_verdict.specs.Bundles.{AreExactFiles}
 use Rattle.pdb_verdict.proofs.bundles.check_tables.Given as goal
 

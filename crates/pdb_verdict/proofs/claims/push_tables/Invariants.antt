@@ -1,5 +1,5 @@
 use Rattle.std.proofs.Common.{◌≡◌, ◌++◌, map, take}
-use Rattle.pdb_run.specs.Readings.{wanted_of}
+use Rattle.pdb_run.specs.Inputs.{wanted_of}
 use Rattle.pdb_verdict.specs.Limits.{a_table}
 use Rattle.pdb_verdict.proofs.claims.push_tables.Given as goal
 

@@ -1,6 +1,6 @@
 use Rattle.std.proofs.Common.{◌∙◌, ℕ, List, Result, subst, sym}
 use Rattle.pdb_verdict.specs.Steps.{IsOptimumOver}
-use Rattle.pdb_verdict.specs.declared.verdict.Fault.{Fault}
+use Rattle.pdb_verdict.specs.declared.verdicts.Fault.{Fault}
 use Rattle.pdb_verdict.proofs.optimal.optimum_over.Goals as goal
 
 pub returns : goal.returns

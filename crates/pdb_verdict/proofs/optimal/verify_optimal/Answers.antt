@@ -1,9 +1,9 @@
 use Rattle.std.proofs.Common.{◌∙◌, Result, subst, sym}
-use Rattle.pdb_run.specs.Replies.{all_bytes}
-use Rattle.pdb_verdict.specs.Given.{optimum_claim}
+use Rattle.pdb_run.specs.Answers.{all_bytes}
+use Rattle.pdb_verdict.specs.Inputs.{optimum_claim}
 use Rattle.pdb_verdict.specs.Verdicts.{IsAnswerTo}
-use Rattle.pdb_verdict.specs.declared.verdict.Fault.{Fault}
-use Rattle.pdb_verdict.specs.declared.verdict.Verdict.{Verdict}
+use Rattle.pdb_verdict.specs.declared.verdicts.Fault.{Fault}
+use Rattle.pdb_verdict.specs.declared.verdicts.Verdict.{Verdict}
 use Rattle.pdb_verdict.proofs.OptimumLemmas.{found_answers}
 use Rattle.pdb_verdict.proofs.VerdictLemmas.{answer_holds}
 use Rattle.pdb_verdict.proofs.optimal.verify_optimal.Goals as goal

@@ -1,6 +1,6 @@
 use Rattle.std.proofs.Common.{◌≡◌, ℕ, List, false, take}
-use Rattle.pdb_io.specs.MemShelves.{files_in}
-use Rattle.pdb_io.specs.Shelves.{files_of}
+use Rattle.pdb_io.specs.Memory.{files_in}
+use Rattle.pdb_io.specs.Shelf.{files_of}
 use Rattle.pdb_io.proofs.memory.MemShelf.of.Given as goal
 
 abbrev pub invariant-loop-file : goal.invariant-loop-file

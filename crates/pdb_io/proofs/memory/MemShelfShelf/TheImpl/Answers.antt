@@ -1,5 +1,5 @@
 use Rattle.std.proofs.Common.{◌≡◌, Option, Result, Ok, Err, OnErr, option_map, ap, arith, rules}
-use Rattle.pdb_io.specs.Shelves.{Bytes, Files, KeepsOthers}
+use Rattle.pdb_io.specs.Shelf.{Bytes, Files, KeepsOthers}
 use Rattle.pdb_io.proofs.memory.MemShelfShelf.TheImpl.Goals as goal
 
 -- files that are the same keep the others

@@ -1,5 +1,5 @@
 use Rattle.std.proofs.Common.{option_map}
-use Rattle.pdb_run.specs.Lines.{all_bytes, list_of}
+use Rattle.pdb_run.specs.Writing.{all_bytes, list_of}
 use Rattle.pdb_run.proofs.PageLemmas.{last_gathers, last_stopped}
 use Rattle.pdb_run.proofs.pages.Page.add_digests.Goals as goal
 

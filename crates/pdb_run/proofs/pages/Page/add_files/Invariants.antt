@@ -1,5 +1,5 @@
 use Rattle.std.proofs.Common.{take}
-use Rattle.pdb_run.specs.Lines.{all_bytes, digests_of}
+use Rattle.pdb_run.specs.Writing.{all_bytes, digests_of}
 use Rattle.pdb_run.specs.Pages.{Gathers}
 use Rattle.pdb_run.proofs.pages.Page.add_files.Given as goal
 

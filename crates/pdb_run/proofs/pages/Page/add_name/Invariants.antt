@@ -1,5 +1,5 @@
 use Rattle.std.proofs.Common.{map, take}
-use Rattle.pdb_run.specs.Lines.{shown_byte}
+use Rattle.pdb_run.specs.Writing.{shown_byte}
 use Rattle.pdb_run.specs.Pages.{Gathers}
 use Rattle.pdb_run.proofs.pages.Page.add_name.Given as goal
 

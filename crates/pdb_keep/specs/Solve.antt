@@ -1,0 +1,140 @@
+-- `solve BOARD SETS OUT TABLES..`: moves and a log are made for a board, and the log is kept where both prove an optimum.
+--
+-- The maker is free: it may find any moves and any log, or give up. What is told of them, and whether the log is kept, is not
+-- free.
+use Rattle.std.specs.Prelude.{◌≡◌, ◌≢◌, ℕ, false, List, [], ◌∷◌, ◌++◌, Some, None, Result, Ok, Err, codes, is_ok, map}
+use Rattle.puz_board.specs.BoardTexts.{Spells, board_of_text}
+use Rattle.puz_board.specs.Boards.{side_of}
+use Rattle.puz_board.specs.MovesTexts.{moves_of}
+use Rattle.puz_board.specs.declared.moves.Move.{Move}
+use Rattle.puz_board.specs.declared.moves.Move.TheVariants.{Up, Down, Left, Right}
+use Rattle.set_sum.specs.Bundles.{BundleView}
+use Rattle.log_check.specs.declared.faults.LogRefusal.TheVariants.{L4}
+use Rattle.pdb_io.specs.Shelf.{Bytes}
+use Rattle.pdb_run.specs.Commands.{Plan, Reply, Wanted, plan_under}
+use Rattle.pdb_verdict.specs.Bound.{TakesMemoryForBound}
+use Rattle.pdb_verdict.specs.Bundles.{AreRefusedSets, IsBundleOfFiles, IsFirstRefused}
+use Rattle.pdb_verdict.specs.Limits.{a_table, a_text}
+use Rattle.pdb_verdict.specs.Lines.{counted, line_of, line_of_fault}
+use Rattle.pdb_verdict.specs.Optimal.{IsOptimumResult}
+use Rattle.pdb_verdict.specs.declared.verdicts.Fault.{Fault}
+use Rattle.pdb_verdict.specs.declared.verdicts.Fault.TheVariants as fault
+use Rattle.pdb_verdict.specs.declared.verdicts.MakeRefusal.TheVariants.{K1, K2}
+use Rattle.pdb_verdict.specs.declared.verdicts.Verdict.{Verdict}
+use Rattle.pdb_verdict.specs.declared.verdicts.Verdict.TheVariants as verdict
+
+-- ---- before a log is made
+
+-- the table files and the set text make a bundle, whose side is that of the board
+pub record AreForBoard (board : List ℕ) (sets : Bytes) (tables : List Bytes) : Type 0 where
+  pub bundle : BundleView
+  pub is_bundle : IsBundleOfFiles tables sets bundle
+  pub one_side : side_of board ≡ bundle.side
+
+-- the text spells a board for which they do, so that there is something to search over
+pub record IsSearchable (text sets : Bytes) (tables : List Bytes) : Type 0 where
+  pub board : List ℕ
+  pub spelt : Spells text board
+  pub are_for : AreForBoard board sets tables
+
+-- they make a bundle of another side
+pub record AreForAnotherSide (board : List ℕ) (sets : Bytes) (tables : List Bytes) : Type 0 where
+  pub bundle : BundleView
+  pub is_bundle : IsBundleOfFiles tables sets bundle
+  pub another_side : side_of board ≢ bundle.side
+
+-- why no log is made for a board: each table file comes first, then the set text, then L4 for a bundle of another side;
+-- behind them the maker may give up on the search, with K1 or K2
+abbrev pub IsUnmadeFor : List ℕ → Bytes → List Bytes → Fault → Type 0
+IsUnmadeFor board sets tables (fault.TableOf number refused) = IsFirstRefused tables number refused
+IsUnmadeFor board sets tables (fault.Sets refused) = AreRefusedSets tables sets refused
+IsUnmadeFor board sets tables (fault.Log L4) = AreForAnotherSide board sets tables
+IsUnmadeFor board sets tables (fault.Make K1) = AreForBoard board sets tables
+IsUnmadeFor board sets tables (fault.Make K2) = AreForBoard board sets tables
+IsUnmadeFor board sets tables refused = ⊥
+
+-- the text spells a board, for which no log is made
+pub record IsUnmadeForText (text sets : Bytes) (tables : List Bytes) (refused : Fault) : Type 0 where
+  pub board : List ℕ
+  pub spelt : Spells text board
+  pub unmade : IsUnmadeFor board sets tables refused
+
+-- why no log is made: the board text comes before all else
+abbrev pub IsUnmade : Bytes → Bytes → List Bytes → Fault → Type 0
+IsUnmade text sets tables (fault.Board refused) = board_of_text text ≡ Err refused
+IsUnmade text sets tables refused = IsUnmadeForText text sets tables refused
+
+-- ---- a log that is made
+
+-- the board text and moves as a puzzle text; the byte of `;` is 59
+abbrev pub puzzle_of : Bytes → Bytes → Bytes
+puzzle_of text moves = text ++ 59 ∷ moves
+
+-- a search could begin, and the answer is the result on its moves and its log
+pub record IsMade (text sets : Bytes) (tables : List Bytes) (moves log : Bytes) (answer : Result Verdict Fault) : Type 0 where
+  pub could : IsSearchable text sets tables
+  pub is_result : IsOptimumResult (puzzle_of text moves) sets log tables answer
+
+-- ---- what is told of it
+
+-- the letter of a move
+abbrev pub letter_of : Move → ℕ
+letter_of Up = 85
+letter_of Down = 68
+letter_of Left = 76
+letter_of Right = 82
+
+-- the letters of the moves of a text
+abbrev pub letters_of : Bytes → Bytes
+letters_of moves = map letter_of (moves_of moves)
+
+-- the line of letters: a space stands before them, where there are any
+abbrev pub moves_line : Bytes → Bytes
+moves_line [] = codes "moves\n"
+moves_line (letter ∷ letters) = codes "moves " ++ (letter ∷ letters ++ codes "\n")
+
+-- of an optimum the moves come before its line
+abbrev pub lines_on : Bytes → Result Verdict Fault → Bytes
+lines_on moves (Ok (verdict.Optimal n)) = moves_line (letters_of moves) ++ counted (codes "optimal ") n
+lines_on moves answer = line_of answer
+
+-- what comes of a search: a refusal, or moves, a log, and the result on them
+pub data Search : Type 0 where
+  unmade : Fault → Search
+  searched : Bytes → Bytes → Result Verdict Fault → Search
+
+-- on this board text, this set text and these table files
+abbrev pub IsSearchOf : Bytes → Bytes → List Bytes → Search → Type 0
+IsSearchOf text sets tables (unmade refused) = IsUnmade text sets tables refused
+IsSearchOf text sets tables (searched moves log answer) = IsMade text sets tables moves log answer
+
+-- the digests of the tables, and of the log where one was made, and then the lines
+abbrev pub reply_to_search : List Bytes → Search → Reply
+reply_to_search tables (unmade refused) = record { digested = tables; made = None; lines = line_of_fault refused; is_yes = false }
+reply_to_search tables (searched moves log answer) = record { digested = tables; made = Some log; lines = lines_on moves answer; is_yes = is_ok answer }
+
+-- a reply tells what comes of a search
+pub record TellsSearch (text sets : Bytes) (tables : List Bytes) (reply : Reply) : Type 0 where
+  pub outcome : Search
+  pub is_outcome : IsSearchOf text sets tables outcome
+  pub told : reply ≡ reply_to_search tables outcome
+
+-- ---- the command
+
+-- the board text, the set text and the table files, in this order
+abbrev pub solve_inputs : Bytes → Bytes → List Bytes → List Wanted
+solve_inputs text sets tables = a_text (Some text) ∷ a_text (Some sets) ∷ map a_table tables
+
+-- what comes of a search on them is told
+abbrev pub IsSolveReply : List Bytes → Reply → Type 0
+IsSolveReply (text ∷ sets ∷ tables) reply = TellsSearch text sets tables reply
+IsSolveReply inputs reply = ⊥
+
+-- it takes memory to check the tables of a board that is spelt, and so to search over them
+abbrev pub SolveTakesMemory : List Bytes → Type 0
+SolveTakesMemory (text ∷ sets ∷ tables) = TakesMemoryForBound text tables
+SolveTakesMemory inputs = ⊥
+
+-- for any budget and any number of workers
+abbrev pub solve_plan : Bytes → Bytes → Bytes → List Bytes → Plan
+solve_plan text sets out tables = plan_under (Some out) (solve_inputs text sets tables) IsSolveReply SolveTakesMemory

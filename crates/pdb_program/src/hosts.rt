@@ -1,0 +1,28 @@
+//! What a run has of its host: what starts threads, memory, and the gate that workers pass.
+
+ghost use Rattle.std.specs.Prelude.{◌≡◌};
+ghost use Rattle.work_run.specs.Workers.{AreWorkers};
+
+use pdb_verdict::Workers;
+use std::alloc::Global;
+
+/// What a run has of its host.
+#[derive(Drop)]
+pub struct Host<'h, H, G> {
+    /// What starts threads.
+    pub rt: &'h H,
+    /// Memory.
+    pub alloc: Global,
+    /// The gate that each worker passes before a block.
+    pub gate: &'h G,
+}
+
+impl<'h, H, G> Host<'h, H, G> {
+    /// So many workers.
+    pub(crate) fn workers(&self, count: u8) -> Workers<'h, H, G>
+        requires { AreWorkers count }
+        ensures { result ≡ count }
+    {
+        Workers::new(self.rt, count, self.gate)
+    }
+}

@@ -1,6 +1,0 @@
-use Rattle.std.proofs.Common.{◌≡◌, take}
-use Rattle.pdb_io.specs.Streams.{joined}
-use Rattle.pdb_run.proofs.answer.lines.Given as goal
-
-abbrev pub invariant-loop-piece : goal.invariant-loop-piece
-invariant-loop-piece l = l.all.bytes ≡ joined (take l.piece-index l.pieces)

@@ -1,0 +1,34 @@
+-- What a command does, as far as the outside sees it.
+use Rattle.std.specs.Prelude.{ℕ, Bool, List, Option, None}
+use Rattle.pdb_io.specs.Shelf.{Bytes}
+
+-- an input: its name, or none for the reader, and the most bytes that it may have
+pub record Wanted : Type 0 where
+  pub name : Option Bytes
+  pub limit : ℕ
+
+-- an answer on inputs
+pub record Reply : Type 0 where
+  -- the files whose digests come first
+  pub digested : List Bytes
+  -- a file that was made: its digest comes next, and after a yes it is kept, where the plan has a name for it
+  pub made : Option Bytes
+  -- the lines behind the digests
+  pub lines : Bytes
+  pub is_yes : Bool
+
+-- what is read, in this order; the name under which a file that was made is kept, if any is; which replies are right for
+-- the bytes that were read; and for which bytes the check takes memory
+pub record Plan : Type 1 where
+  pub inputs : List Wanted
+  pub keeps_under : Option Bytes
+  pub MayReply : List Bytes → Reply → Type 0
+  pub TakesMemory : List Bytes → Type 0
+
+-- the plan with these four
+abbrev pub plan_under : Option Bytes → List Wanted → (List Bytes → Reply → Type 0) → (List Bytes → Type 0) → Plan
+plan_under name inputs MayReply TakesMemory = record { inputs = inputs; keeps_under = name; MayReply = MayReply; TakesMemory = TakesMemory }
+
+-- the plan of a command that keeps nothing
+abbrev pub plan : List Wanted → (List Bytes → Reply → Type 0) → (List Bytes → Type 0) → Plan
+plan = plan_under None

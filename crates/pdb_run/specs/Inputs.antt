@@ -1,0 +1,81 @@
+-- What inputs give; shelf and reader may tell their bytes or not.
+use Rattle.std.specs.Prelude.{◌≡◌, ⊤, ℕ, ◌<◌, ◌≤◌, List, [], ◌∷◌, ◌++◌, Bool, true, Option, Some, None, IfSome, IsSomeAnd, length, option_map}
+use Rattle.pdb_io.specs.Shelf.{Bytes, Files}
+use Rattle.pdb_io.specs.declared.streams.ReadFault.{ReadFault}
+use Rattle.pdb_io.specs.declared.streams.ReadFault.TheVariants.{F1, F2, Memory}
+use Rattle.pdb_run.specs.Commands.{Wanted}
+use Rattle.pdb_run.specs.declared.inputs.Input.{Input}
+
+-- ---- one input
+
+-- these are the bytes under the name, or of the reader where there is no name
+abbrev pub IsReadFrom : Option Files → Option Bytes → Option Bytes → Bytes → Type 0
+IsReadFrom files reader None bytes = IfSome reader (λ told. told ≡ bytes)
+IsReadFrom files reader (Some name) bytes = IfSome files (λ told. told name ≡ Some bytes)
+
+-- these are its bytes, no more than it may have
+abbrev pub IsRead : Option Files → Option Bytes → Wanted → Bytes → Type 0
+IsRead files reader wanted bytes = IsReadFrom files reader wanted.name bytes × (length bytes ≤ wanted.limit)
+
+-- they are more than the limit
+abbrev pub IsOverLimit : Option Files → Option Bytes → Option Bytes → ℕ → Type 0
+IsOverLimit files reader None limit = IfSome reader (λ told. limit < length told)
+IsOverLimit files reader (Some name) limit = IfSome files (λ told. IsSomeAnd (told name) (λ bytes. limit < length bytes))
+
+-- a shelf can't be read only where it has failed; a reader may fail unseen
+abbrev pub HasFailed : Option Bytes → Bool → Type 0
+HasFailed None failed = ⊤
+HasFailed (Some name) failed = failed ≡ true
+
+-- why an input was not read: its read failed, or it is over its limit, or memory was wanted to hold it
+abbrev pub IsUnread : Option Files → Option Bytes → Bool → Wanted → ReadFault → Type 0
+IsUnread files reader failed wanted F1 = HasFailed wanted.name failed
+IsUnread files reader failed wanted F2 = IsOverLimit files reader wanted.name wanted.limit
+IsUnread files reader failed wanted Memory = ⊤
+
+-- ---- inputs in a row
+
+-- what the reader has left behind an input of this name
+abbrev pub left : Option Bytes → Option Bytes → Option Bytes
+left reader None = option_map (λ _. []) reader
+left reader (Some name) = reader
+
+-- and behind inputs in a row
+abbrev pub left_by_all : Option Bytes → List Wanted → Option Bytes
+left_by_all reader [] = reader
+left_by_all reader (wanted ∷ more) = left_by_all (left reader wanted.name) more
+
+-- these are the bytes of the inputs, each in its place
+abbrev pub AreRead : Option Files → Option Bytes → List Wanted → List Bytes → Type 0
+AreRead files reader [] [] = ⊤
+AreRead files reader [] (bytes ∷ rest) = ⊥
+AreRead files reader (wanted ∷ more) [] = ⊥
+AreRead files reader (wanted ∷ more) (bytes ∷ rest) = IsRead files reader wanted bytes × AreRead files (left reader wanted.name) more rest
+
+-- the inputs before this one were read, and this one was not
+pub record IsFirstUnread (files : Option Files) (reader : Option Bytes) (failed : Bool) (all : List Wanted) (wanted : Wanted) (why : ReadFault) : Type 0 where
+  pub before : List Wanted
+  pub behind : List Wanted
+  pub order : all ≡ before ++ wanted ∷ behind
+  pub bytes : List Bytes
+  pub read : AreRead files reader before bytes
+  pub cause : IsUnread files (left_by_all reader before) failed wanted why
+
+-- ---- steps of reading
+
+-- where it is told what the reader has, it has that
+abbrev pub IsAsTold : Option Bytes → Option Bytes → Type 0
+IsAsTold told reader = IfSome told (λ bytes. reader ≡ Some bytes)
+
+-- this input was read behind those before it
+pub record IsNext (files : Option Files) (old_reader new_reader : Option Bytes) (wanted : Wanted) (old new : List Bytes) : Type 0 where
+  pub bytes : Bytes
+  pub read : IsRead files old_reader wanted bytes
+  pub added : new ≡ old ++ bytes ∷ []
+  pub behind : IsAsTold (left old_reader wanted.name) new_reader
+
+-- ---- an input as the code has it
+
+-- its name as bytes, and its limit
+abbrev pub wanted_of : Input → Wanted
+wanted_of input = record { name = option_map (λ s. s.now) input.name; limit = input.limit }

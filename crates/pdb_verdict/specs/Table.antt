@@ -1,0 +1,64 @@
+-- `table FILE`: whether the table of a table file is exact.
+use Rattle.std.specs.Prelude.{◌≡◌, ℕ, ◌<◌, ◌^◌, List, [], ◌∷◌, Result, Ok, Err}
+use Rattle.pat_place.specs.Masks.{numbers_of}
+use Rattle.tab_file.specs.TableFiles.{IsTableFile}
+use Rattle.tab_file.specs.Tables.{Table}
+use Rattle.tab_check.specs.Counts.{IsCensusOf}
+use Rattle.tab_check.specs.ExactTables.{IsExactFile}
+use Rattle.tab_check.specs.TableFaults.{IsFaultOf}
+use Rattle.tab_check.specs.declared.census.Census.{Census}
+use Rattle.tab_check.specs.declared.tables.TableFault.{TableFault}
+use Rattle.tab_check.specs.declared.tables.TableFault.TheVariants.{Memory, Refused}
+use Rattle.pdb_io.specs.Shelf.{Bytes}
+use Rattle.pdb_run.specs.Commands.{Plan, Reply, Wanted, plan}
+use Rattle.pdb_verdict.specs.Inputs.{table_file}
+use Rattle.pdb_verdict.specs.Limits.{a_table}
+use Rattle.pdb_verdict.specs.Lines.{Tells}
+use Rattle.pdb_verdict.specs.declared.verdicts.Fault.{Fault}
+use Rattle.pdb_verdict.specs.declared.verdicts.Fault.TheVariants as fault
+use Rattle.pdb_verdict.specs.declared.verdicts.Verdict.{Verdict}
+use Rattle.pdb_verdict.specs.declared.verdicts.Verdict.TheVariants as verdict
+
+-- ---- what a yes means
+
+-- the file of an exact table with this census, for the pattern of this side and mask
+pub record IsExactFor (file : Bytes) (side mask : ℕ) (census : Census) : Type 0 where
+  pub table : Table
+  pub exact : IsExactFile table file
+  pub is_side : side ≡ table.pattern.side
+  pub is_mask : numbers_of mask ≡ table.pattern.tiles
+  pub mask_low : mask < 2 ^ 32
+  pub counted : IsCensusOf table.entries census
+
+-- ---- the result
+
+-- the answer is the result on the table file
+abbrev pub IsTableResult : Bytes → Result Verdict Fault → Type 0
+IsTableResult file (Ok (verdict.Exact side mask census)) = IsExactFor file side mask census
+IsTableResult file (Err (fault.Table refused)) = IsFaultOf refused file
+IsTableResult file answer = ⊥
+
+-- why a table file is refused, or want of memory
+abbrev pub of_table : TableFault → Fault
+of_table (Refused refused) = fault.Table refused
+of_table Memory = fault.Memory
+
+-- ---- the command
+
+-- one table file
+abbrev pub table_inputs : Bytes → List Wanted
+table_inputs name = a_table name ∷ []
+
+-- the result on that file is told
+abbrev pub IsTableReply : List Bytes → Reply → Type 0
+IsTableReply (file ∷ []) reply = Tells (table_file file) (IsTableResult file) reply
+IsTableReply inputs reply = ⊥
+
+-- it takes memory to check a table file, and none where the header is refused
+abbrev pub TakesMemoryForTable : List Bytes → Type 0
+TakesMemoryForTable (file ∷ []) = (t : Table) × IsTableFile t file
+TakesMemoryForTable inputs = ⊥
+
+-- for any number of workers
+abbrev pub table_plan : Bytes → Plan
+table_plan name = plan (table_inputs name) IsTableReply TakesMemoryForTable

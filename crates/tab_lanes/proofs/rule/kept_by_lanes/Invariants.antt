@@ -1,9 +1,0 @@
-use Rattle.std.proofs.Common.{◌-◌, ◌≤◌, length}
-use Rattle.tab_lanes.specs.LocalRule.{KeepRuleBetween}
-use Rattle.tab_lanes.proofs.rule.kept_by_lanes.Given as goal
-
-abbrev pub invariant-lanes : goal.invariant-lanes
-invariant-lanes g l = KeepRuleBetween l.entries l.mins l.kinds l.from l.at × (l.from ≤ l.at) × (l.at ≤ length l.entries)
-
-abbrev pub decreases-lanes : goal.decreases-lanes
-decreases-lanes g l = length l.entries - l.at
