@@ -1,17 +1,25 @@
--- Blocks of a table: the entries of 256 placements each, in the order of their ranks. The last block may have fewer.
-use Rattle.std.specs.Prelude.{ℕ, ◌+◌, ◌*◌, ◌/◌, ◌<◌, ◌≤◌, List, min}
+-- Blocks of a table: the entries of equally many placements each, in the order of their ranks. The last block may have fewer.
+use Rattle.std.specs.Prelude.{ℕ, ◌+◌, ◌-◌, ◌*◌, ◌/◌, ◌<◌, ◌≤◌, List, min}
 use Rattle.pat_place.specs.Patterns.{PatternView}
 use Rattle.tab_file.specs.Tables.{Table, entry_at, entry_count, placement_count, slot_count}
 use Rattle.tab_check.specs.BadEntries.{IsBad, KeepsRule}
 use Rattle.tab_check.specs.LocalRule.{LocalRule}
 
--- how many there are
+-- how many placements a block has
+abbrev pub block_ranks : ℕ
+block_ranks = 256
+
+-- the most entries that it has: 8 slots for each placement
+abbrev pub most_entries : ℕ
+most_entries = block_ranks * 8
+
+-- how many blocks there are
 abbrev pub block_count : PatternView → ℕ
-block_count p = (placement_count p + 255) / 256
+block_count p = (placement_count p + (block_ranks - 1)) / block_ranks
 
 -- the number of a block's first entry
 abbrev pub first_of_block : PatternView → ℕ → ℕ
-first_of_block p block = block * 256 * slot_count p
+first_of_block p block = block * block_ranks * slot_count p
 
 -- where a block begins among the entries, and past the last block how many entries there are
 abbrev pub block_begin : PatternView → ℕ → ℕ

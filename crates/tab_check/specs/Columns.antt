@@ -8,6 +8,7 @@ use Rattle.pat_place.specs.Placements.{PlacementView, IsFree, IsPlacement}
 use Rattle.pat_place.specs.Ranks.{IsRank}
 use Rattle.tab_lanes.specs.LocalRule.{goal_slot, other_slot, without_region}
 use Rattle.tab_file.specs.Tables.{slot_count}
+use Rattle.tab_check.specs.Blocks.{block_ranks}
 
 -- the placements of a list are those of the pattern
 abbrev pub AreOf : PatternView → List PlacementView → Type 0
@@ -28,10 +29,10 @@ EachSlot p placements Says count column =
 
 -- those of the first placements are their free cells, and behind them stand masks without cells
 pub record AreFree (placements : List PlacementView) (count : ℕ) (column : List ℕ) : Type 0 where
-  pub len : length column ≡ 256
+  pub len : length column ≡ block_ranks
   pub each : (row : ℕ) (placement : PlacementView) → row < count → slice_get placements row ≡ Some placement →
       IsMaskOf (slice_index column row) (IsFree placement.pattern.side placement.cells) × (slice_index column row < 2 ^ (placement.pattern.side * placement.pattern.side))
-  pub behind : (row : ℕ) → count ≤ row → row < 256 → slice_index column row ≡ 0
+  pub behind : (row : ℕ) → count ≤ row → row < block_ranks → slice_index column row ≡ 0
 
 -- the mask of the least cell of a mask
 pub record IsFirstCell (mask first : ℕ) : Type 0 where

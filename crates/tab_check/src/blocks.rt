@@ -13,7 +13,8 @@ use tab_lanes::first_bad;
 /// How many placements a block has.
 pub const BLOCK_RANKS: u64 = 256;
 
-/// The number of a block's least entry that breaks the local rule. A block has 256 placements, the last one what is left.
+/// The number of a block's least entry that breaks the local rule. A block has `BLOCK_RANKS`
+/// placements, the last one what is left.
 pub fn check_block(table: &TableView<'_>, block: u64) -> Option<u64>
     requires { block < block_count table.now.pattern }
     ensures { MatchOption result (BlockKeepsRule table.now block) (IsLeastBadIn table.now block) }

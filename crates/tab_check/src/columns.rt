@@ -4,18 +4,20 @@
 
 ghost use Rattle.std.specs.Prelude.{◌≡◌, ℕ, ◌+◌, ◌^◌, ◌<◌, ◌≤◌, IsTrue, length, slice_index, take};
 ghost use Rattle.tab_file.specs.Tables.{placement_count};
+ghost use Rattle.tab_check.specs.Blocks.{block_ranks, most_entries};
 ghost use Rattle.tab_check.specs.Columns.{HaveRanks, IsKindByMask};
 ghost use Rattle.tab_check.specs.Entries.{IsGoalNumber};
 
+use crate::blocks::BLOCK_RANKS;
 use pat_place::{Pattern, Placement, next, rank, slot_of, unrank};
 use tab_file::TableView;
 use tab_lanes::{GOAL_SLOT, OTHER_SLOT, WITHOUT_REGION};
 
 /// The most placements that a block has.
-pub(crate) const MOST_PLACEMENTS: usize = 256;
+pub(crate) const MOST_PLACEMENTS: usize = BLOCK_RANKS as usize;
 
 /// The most entries that a block has: 8 slots for each placement.
-pub(crate) const MOST_ENTRIES: usize = 2048;
+pub(crate) const MOST_ENTRIES: usize = MOST_PLACEMENTS * 8;
 
 /// So many placements in the order of their ranks, from this rank on. What stands behind them counts for nothing.
 pub(crate) fn placements_from(
@@ -24,7 +26,7 @@ pub(crate) fn placements_from(
     count: usize,
 ) -> [Placement; MOST_PLACEMENTS]
     requires some { 0 < count }
-    requires few { count ≤ 256 }
+    requires few { count ≤ block_ranks }
     requires within { first + count ≤ placement_count pattern.now }
     ensures { HaveRanks pattern.now first (take count result) }
 {
@@ -50,8 +52,8 @@ pub fn goal_number(table: &TableView<'_>) -> u64
 /// The kind of each slot by the mask of its region. The number of the first slot's entry is given, and that of the goal's.
 pub(crate) fn kinds_of(masks: &[u32; MOST_ENTRIES], begin: u64, goal: u64) -> [u8; MOST_ENTRIES]
     requires { begin < 2 ^ 32 }
-    ensures len { length result ≡ 2048 }
-    ensures each { (i : ℕ) → i < 2048 → IsKindByMask (slice_index masks.now i) (begin + i ≡ goal) (slice_index result i) }
+    ensures len { length result ≡ most_entries }
+    ensures each { (i : ℕ) → i < most_entries → IsKindByMask (slice_index masks.now i) (begin + i ≡ goal) (slice_index result i) }
 {
     let mut kinds = [WITHOUT_REGION; MOST_ENTRIES];
     for (i, mask) in masks.iter().enumerate() {

@@ -4,6 +4,7 @@
 
 ghost use Rattle.std.specs.Prelude.{◌≡◌, ◌≢◌, ℕ, ◌+◌, ◌-◌, ◌*◌, ◌^◌, ◌<◌, ◌≤◌, bit_and, length, slice_index};
 ghost use Rattle.tab_lanes.specs.Floods.{AllMayGrow};
+ghost use Rattle.tab_check.specs.Blocks.{block_ranks};
 ghost use Rattle.tab_check.specs.Columns.{AreFree, AreOf, EachSlot, IsFirstCell, IsFirstRegion};
 ghost use Rattle.tab_check.specs.Moves.{IsRegion};
 
@@ -15,7 +16,7 @@ use tab_lanes::flood;
 
 /// The mask of each slot's region, and 0 for a slot without one.
 pub(crate) fn masks_of(table: &TableView<'_>, placements: &[Placement]) -> [u32; MOST_ENTRIES]
-    requires few { length placements.now ≤ 256 }
+    requires few { length placements.now ≤ block_ranks }
     requires placements { AreOf table.now.pattern placements.now }
     ensures { EachSlot table.now.pattern placements.now (IsRegion table.now.pattern.side) (length placements.now) result }
 {
@@ -34,7 +35,7 @@ pub(crate) fn masks_of(table: &TableView<'_>, placements: &[Placement]) -> [u32;
 
 /// The free cells of each placement.
 fn free_column(placements: &[Placement]) -> [u32; MOST_PLACEMENTS]
-    requires { length placements.now ≤ 256 }
+    requires { length placements.now ≤ block_ranks }
     ensures { AreFree placements.now (length placements.now) result }
 {
     let mut free = [0; MOST_PLACEMENTS];
@@ -51,8 +52,8 @@ fn first_regions(
     free: &[u32; MOST_PLACEMENTS],
 ) -> [u32; MOST_PLACEMENTS]
     requires { AllMayGrow side rest.now free.now }
-    ensures len { length result ≡ 256 }
-    ensures each { (row : ℕ) → row < 256
+    ensures len { length result ≡ block_ranks }
+    ensures each { (row : ℕ) → row < block_ranks
         → IsFirstRegion side (slice_index free.now row) (slice_index rest.now row) (slice_index result row) }
 {
     let mut regions = [0; MOST_PLACEMENTS];
@@ -84,7 +85,7 @@ fn put_slot(
 )
     requires width { width ≤ 8 }
     requires slot { slot < width }
-    ensures here { (row : ℕ) → row < 256 → slice_index masks.new (row * width + slot) ≡ slice_index regions.now row }
+    ensures here { (row : ℕ) → row < block_ranks → slice_index masks.new (row * width + slot) ≡ slice_index regions.now row }
     ensures others { (row j : ℕ) → j < width → j ≢ slot → slice_index masks.new (row * width + j) ≡ slice_index masks.old (row * width + j) }
 {
     for (row, region) in regions.iter().enumerate() {
@@ -94,7 +95,7 @@ fn put_slot(
 
 /// Takes the cells of a region out of those that are left, for each placement.
 fn take_out(rest: &mut [u32; MOST_PLACEMENTS], regions: &[u32; MOST_PLACEMENTS])
-    ensures { (row : ℕ) → row < 256
+    ensures { (row : ℕ) → row < block_ranks
         → slice_index rest.new row ≡ bit_and (slice_index rest.old row) (2 ^ 32 - 1 - slice_index regions.now row) }
 {
     for (row, region) in regions.iter().enumerate() {

@@ -6,6 +6,7 @@ ghost use Rattle.puz_board.specs.Cells.{step_of};
 ghost use Rattle.puz_board.specs.declared.moves.Move.{Move};
 ghost use Rattle.pat_place.specs.Placements.{IsFree, IsPlacement};
 ghost use Rattle.tab_file.specs.Tables.{IsTable, slot_count};
+ghost use Rattle.tab_check.specs.Blocks.{block_ranks, most_entries};
 ghost use Rattle.tab_check.specs.Columns.{AreOf, EachSlot};
 ghost use Rattle.tab_check.specs.Entries.{IsEntryAt};
 ghost use Rattle.tab_check.specs.LocalRule.{IsLeastNear, IsLeastOf};
@@ -29,10 +30,10 @@ pub(crate) fn least_near(
     masks: &[u32; MOST_ENTRIES],
 ) -> [u8; MOST_ENTRIES]
     requires table { IsTable table.now }
-    requires few { length placements.now ≤ 256 }
+    requires few { length placements.now ≤ block_ranks }
     requires placements { AreOf table.now.pattern placements.now }
     requires masks { EachSlot table.now.pattern placements.now (IsRegion table.now.pattern.side) (length placements.now) masks.now }
-    ensures len { length result ≡ 2048 }
+    ensures len { length result ≡ most_entries }
     ensures each { EachSlot table.now.pattern placements.now (IsLeastNear table.now) (length placements.now) result }
 {
     let mut least = [NO_WAY_HOME; MOST_ENTRIES];
@@ -59,11 +60,11 @@ fn entries_towards(
     mv: Move,
 ) -> [u8; MOST_ENTRIES]
     requires table { IsTable table.now }
-    requires few { length placements.now ≤ 256 }
+    requires few { length placements.now ≤ block_ranks }
     requires placements { AreOf table.now.pattern placements.now }
     requires masks { EachSlot table.now.pattern placements.now (IsRegion table.now.pattern.side) (length placements.now) masks.now }
     requires index { index < length table.now.pattern.tiles }
-    ensures len { length result ≡ 2048 }
+    ensures len { length result ≡ most_entries }
     ensures each { EachSlot table.now.pattern placements.now (λ cells j. IsLeastOf (IsEntryTowards table.now cells j index mv)) (length placements.now) result }
 {
     let pattern = table.pattern();
@@ -93,7 +94,7 @@ fn cells_towards(side: Side, mv: Move) -> [Option<u8>; MOST_CELLS]
 /// Puts an entry that was found, with its slot, into the column of a placement that begins here.
 #[inline]
 fn put_found(entries: &mut [u8; MOST_ENTRIES], begin: usize, found: Option<(usize, u8)>)
-    requires { IfSome found (λ f. begin + f.0 < 2048) }
+    requires { IfSome found (λ f. begin + f.0 < most_entries) }
     ensures { MatchOption found (entries.new ≡ entries.old) (λ f. entries.new ≡ slice_set entries.old (begin + f.0) f.1) }
 {
     if let Some((slot, entry)) = found {
@@ -116,7 +117,7 @@ fn entry_after_step(
     requires pattern { placement.now.pattern ≡ table.now.pattern }
     requires placement { IsPlacement placement.now }
     requires index { index < length table.now.pattern.tiles }
-    requires within { begin + slot_count table.now.pattern ≤ 2048 }
+    requires within { begin + slot_count table.now.pattern ≤ most_entries }
     requires masks { (j : ℕ) → j < slot_count table.now.pattern → IsRegion table.now.pattern.side placement.now.cells j (slice_index masks.now (begin + j)) }
     requires to { IfSome to (λ c. c < 32) }
     ensures { (mv : Move) → to ≡ step_of table.now.pattern.side (slice_index placement.now.cells index) mv → MatchOption result
@@ -133,7 +134,7 @@ fn entry_after_step(
 /// The first of so many slots whose region has the cell. The masks of the regions stand in the column from `begin` on.
 #[inline]
 fn slot_with(masks: &[u32; MOST_ENTRIES], begin: usize, width: usize, cell: u8) -> Option<usize>
-    requires within { begin + width ≤ 2048 }
+    requires within { begin + width ≤ most_entries }
     requires cell { cell < 32 }
     ensures { MatchOption result
         ((j : ℕ) → j < width → bit_at (slice_index masks.now (begin + j)) cell ≢ 1)

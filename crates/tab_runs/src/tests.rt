@@ -13,14 +13,14 @@ use samples::files::{
 };
 use std::process::Abort;
 use std::test::Fail;
-use tab_check::check_block;
+use tab_check::{BLOCK_RANKS, check_block};
 use tab_file::view;
 
 /// How many blocks a table of the pattern has.
 fn blocks_of(pattern: &Pattern) -> u64
     ensures { result ≡ block_count pattern.now }
 {
-    pattern.count().div_ceil(256)
+    pattern.count().div_ceil(BLOCK_RANKS)
 }
 
 /// The least bad entry of each block that has one, by runs. The plain check has the same answer for each block.
