@@ -7,8 +7,9 @@ use Rattle.pat_place.specs.Patterns.{PatternView}
 use Rattle.pat_place.specs.Placements.{PlacementView, IsFree, IsPlacement}
 use Rattle.pat_place.specs.Ranks.{IsRank}
 use Rattle.tab_lanes.specs.LocalRule.{goal_slot, other_slot, without_region}
-use Rattle.tab_file.specs.Tables.{slot_count}
+use Rattle.tab_file.specs.Tables.{Table, IsTable, slot_count}
 use Rattle.tab_check.specs.Blocks.{block_ranks}
+use Rattle.tab_check.specs.Moves.{IsRegion}
 
 -- the placements of a list are those of the pattern
 abbrev pub AreOf : PatternView → List PlacementView → Type 0
@@ -24,6 +25,13 @@ abbrev pub EachSlot : PatternView → List PlacementView → (List ℕ → ℕ �
 EachSlot p placements Says count column =
     (row j : ℕ) (placement : PlacementView) → row < count → slice_get placements row ≡ Some placement → j < slot_count p →
     Says placement.cells j (slice_index column (row * slot_count p + j))
+
+-- some placements of the table's pattern, no more than a block has, and a column with the mask of each slot's region
+pub record AreColumnsOf (t : Table) (ps : List PlacementView) (masks : List ℕ) : Type 0 where
+  pub table : IsTable t
+  pub few : length ps ≤ block_ranks
+  pub placements : AreOf t.pattern ps
+  pub regions : EachSlot t.pattern ps (IsRegion t.pattern.side) (length ps) masks
 
 -- ---- masks of cells, one for each placement
 

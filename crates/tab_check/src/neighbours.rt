@@ -6,8 +6,8 @@ ghost use Rattle.puz_board.specs.Cells.{step_of};
 ghost use Rattle.puz_board.specs.declared.moves.Move.{Move};
 ghost use Rattle.pat_place.specs.Placements.{IsFree, IsPlacement};
 ghost use Rattle.tab_file.specs.Tables.{IsTable, slot_count};
-ghost use Rattle.tab_check.specs.Blocks.{block_ranks, most_entries};
-ghost use Rattle.tab_check.specs.Columns.{AreOf, EachSlot};
+ghost use Rattle.tab_check.specs.Blocks.{most_entries};
+ghost use Rattle.tab_check.specs.Columns.{AreColumnsOf, EachSlot};
 ghost use Rattle.tab_check.specs.Entries.{IsEntryAt};
 ghost use Rattle.tab_check.specs.LocalRule.{IsLeastNear, IsLeastOf};
 ghost use Rattle.tab_check.specs.Moves.{IsEntryTowards, IsFoundTowards, IsRegion, IsTileIn, NoneTowards};
@@ -29,10 +29,7 @@ pub(crate) fn least_near(
     placements: &[Placement],
     masks: &[u32; MOST_ENTRIES],
 ) -> [u8; MOST_ENTRIES]
-    requires table { IsTable table.now }
-    requires few { length placements.now ≤ block_ranks }
-    requires placements { AreOf table.now.pattern placements.now }
-    requires masks { EachSlot table.now.pattern placements.now (IsRegion table.now.pattern.side) (length placements.now) masks.now }
+    requires { AreColumnsOf table.now placements.now masks.now }
     ensures len { length result ≡ most_entries }
     ensures each { EachSlot table.now.pattern placements.now (IsLeastNear table.now) (length placements.now) result }
 {
@@ -59,10 +56,7 @@ fn entries_towards(
     index: usize,
     mv: Move,
 ) -> [u8; MOST_ENTRIES]
-    requires table { IsTable table.now }
-    requires few { length placements.now ≤ block_ranks }
-    requires placements { AreOf table.now.pattern placements.now }
-    requires masks { EachSlot table.now.pattern placements.now (IsRegion table.now.pattern.side) (length placements.now) masks.now }
+    requires columns { AreColumnsOf table.now placements.now masks.now }
     requires index { index < length table.now.pattern.tiles }
     ensures len { length result ≡ most_entries }
     ensures each { EachSlot table.now.pattern placements.now (λ cells j. IsLeastOf (IsEntryTowards table.now cells j index mv)) (length placements.now) result }

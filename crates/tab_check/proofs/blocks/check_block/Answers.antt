@@ -11,8 +11,13 @@ overflow_mul-first c =
 pub masks_of-masks-requires-clause-placements : goal.masks_of-masks-requires-clause-placements
 masks_of-masks-requires-clause-placements c row v get = let has = c.placements_from-all.ensures row v get in (has.0 ∙ c.pattern-pattern.ensures.pattern, has.1)
 
-pub least_near-least-requires-clause-placements : goal.least_near-least-requires-clause-placements
-least_near-least-requires-clause-placements c row v get = let has = c.placements_from-all.ensures row v get in (has.0 ∙ c.pattern-pattern.ensures.pattern, has.1)
+pub least_near-least-requires : goal.least_near-least-requires
+least_near-least-requires c = record {
+  table = c.pattern-pattern.ensures.table;
+  few = (let most = c.min-count.ensures in first_of (omega arith, search rules));
+  placements = λ row v get. let has = c.placements_from-all.ensures row v get in (has.0 ∙ c.pattern-pattern.ensures.pattern, has.1);
+  regions = c.masks_of-masks.ensures;
+}
 
 pub part-entries-requires : goal.part-entries-requires
 part-entries-requires c =
