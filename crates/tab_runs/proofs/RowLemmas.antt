@@ -13,7 +13,7 @@ use Rattle.pat_place.proofs.SlotLemmas.{slot_some}
 use Rattle.pat_place.proofs.WidthLemmas.{slot_within}
 use Rattle.tab_file.specs.Tables.{slot_count}
 use Rattle.tab_runs.specs.Rows.{IsOpen, IsRow, listed_below, place_of, row_length}
-use Rattle.tab_runs.specs.Runs.{IsRun, free_below, run_length, with_last}
+use Rattle.tab_runs.specs.Runs.{IsRun, free_below, most_run_entries, run_length, with_last}
 use Rattle.tab_runs.proofs.RunLemmas.{free-with_last, open_free, placed_last, same_with_last, with_last-free}
 use Rattle.tab_runs.proofs.RunRanks.{free_at, free_below-low, free_below-one}
 
@@ -60,10 +60,10 @@ place_low n w p c j inside apart free l =
     let h : (free_below p c + 1) * w ≤ run_length n p * w = mul-le-mul_right w (let s : free_below p c + 1 ≤ run_length n p = omega arith in s) in
     omega arith
 
--- ---- a run has at most 140 entries
+-- ---- a run has few entries
 
 abbrev test : ℕ → ℕ → Bool
-test n k = ltb ((n * n - k) * width n (k + 1)) 141
+test n k = ltb ((n * n - k) * width n (k + 1)) (most_run_entries + 1)
 
 at_side : (n : ℕ) → 2 ≤ n → n ≤ 5 → (k : ℕ) → k + 1 ≤ most_tiles n → test n k ≡ true
 at_side = by_side (λ n. (k : ℕ) → k + 1 ≤ most_tiles n → test n k ≡ true)
@@ -72,9 +72,9 @@ at_side = by_side (λ n. (k : ℕ) → k + 1 ≤ most_tiles n → test n k ≡ t
     (λ k l. holds_at (test 4) 8 k refl (omega arith))
     (λ k l. holds_at (test 5) 6 k refl (omega arith))
 
-pub few_entries : (p : PatternView) → IsPattern p → (cells : List ℕ) → IsRun p cells → run_length p.side cells * slot_count p ≤ 140
+pub few_entries : (p : PatternView) → IsPattern p → (cells : List ℕ) → IsRun p cells → run_length p.side cells * slot_count p ≤ most_run_entries
 few_entries p pat cells run =
-    let small = ltb-true ((p.side * p.side - length cells) * width p.side (length cells + 1)) 141 (at_side p.side pat.low pat.high (length cells) (let m = pat.most in let s = run.size in omega arith)) in
+    let small = ltb-true ((p.side * p.side - length cells) * width p.side (length cells + 1)) (most_run_entries + 1) (at_side p.side pat.low pat.high (length cells) (let m = pat.most in let s = run.size in omega arith)) in
     let e : run_length p.side cells * width p.side (length cells + 1) ≡ run_length p.side cells * slot_count p = ap (λ k. run_length p.side cells * width p.side k) run.size in
     omega arith
 

@@ -12,7 +12,7 @@ ghost use Rattle.tab_lanes.specs.LocalRule.{goal_slot};
 ghost use Rattle.tab_runs.specs.Checks.{IsFirstBadPlace, RunKeepsRule};
 ghost use Rattle.tab_runs.specs.Kinds.{TellRegions};
 ghost use Rattle.tab_runs.specs.Parts.{EntriesKeepRule, IsBeforeRun, IsFirstBadEntry};
-ghost use Rattle.tab_runs.specs.Runs.{IsFirstRank, IsRun, run_length};
+ghost use Rattle.tab_runs.specs.Runs.{IsFirstRank, IsRun, most_run_entries, run_length};
 ghost use Rattle.tab_runs.specs.RunsOfTables.{IsRunOf};
 ghost use Rattle.tab_runs.specs.Steps.{AreLeastNear};
 ghost use Rattle.tab_runs.specs.StoredRows.{rows_for};
@@ -21,7 +21,7 @@ use crate::checks::first_bad;
 use crate::masks;
 use crate::near::least_near;
 use crate::rows::RowTable;
-use crate::runs::{Run, run_entries};
+use crate::runs::{BYTE_PLACES, Run, run_entries};
 use pat_place::{Pattern, Placement, next, unrank};
 use tab_check::{BLOCK_RANKS, check_block, goal_number};
 use tab_file::TableView;
@@ -163,7 +163,7 @@ fn check_part(
 fn first_bad_of_kinds(
     table: &TableView<'_>,
     run: &Run<'_>,
-    mins: &[u8; 256],
+    mins: &[u8; BYTE_PLACES],
     told: &[u8],
     before: u64,
     goal: u64,
@@ -191,13 +191,13 @@ fn first_bad_of_kinds(
 }
 
 /// The kinds of a run's slots, of which the one at this place is the goal's.
-fn with_goal(told: &[u8], goal: usize) -> [u8; 256]
-    requires few { length told.now ≤ 140 }
+fn with_goal(told: &[u8], goal: usize) -> [u8; BYTE_PLACES]
+    requires few { length told.now ≤ most_run_entries }
     requires goal { goal < length told.now }
     ensures goal { slice_index result goal ≡ goal_slot }
     ensures others { (place : ℕ) → place < length told.now → place ≢ goal → slice_index result place ≡ slice_index told.now place }
 {
-    let mut kinds = [WITHOUT_REGION; 256];
+    let mut kinds = [WITHOUT_REGION; BYTE_PLACES];
     for (place, kind) in told.iter().enumerate() {
         kinds[place] = *kind;
     }

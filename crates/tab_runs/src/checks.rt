@@ -7,7 +7,7 @@ ghost use Rattle.tab_runs.specs.Runs.{run_length};
 ghost use Rattle.tab_runs.specs.RunsOfTables.{IsRunOf};
 ghost use Rattle.tab_runs.specs.Steps.{AreLeastNear};
 
-use crate::runs::Run;
+use crate::runs::{BYTE_PLACES, Run};
 use tab_file::TableView;
 
 /// The first place of a run's entries, from `low` up to `high`, whose entry breaks the local rule. Places are counted
@@ -15,7 +15,7 @@ use tab_file::TableView;
 pub(crate) fn first_bad(
     table: &TableView<'_>,
     run: &Run<'_>,
-    mins: &[u8; 256],
+    mins: &[u8; BYTE_PLACES],
     kinds: &[u8],
     low: usize,
     high: usize,

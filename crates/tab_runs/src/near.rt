@@ -14,7 +14,7 @@ ghost use Rattle.tab_runs.specs.Steps.{AreLeastNear, IsBesideStep, IsIndexStep, 
 use crate::kernels::{take_in, take_one};
 use crate::masks;
 use crate::rows::RowTable;
-use crate::runs::{Run, run_entries};
+use crate::runs::{BYTE_PLACES, Run, run_entries};
 use tab_file::TableView;
 use tab_lanes::NO_WAY_HOME;
 
@@ -41,7 +41,7 @@ fn take_tile(
     run: &Run<'_>,
     index: usize,
     to: u8,
-    mins: &mut [u8; 256],
+    mins: &mut [u8; BYTE_PLACES],
 ) -> bool
     requires rows { rows.now ≡ rows_for table.now.pattern }
     requires run { IsRunOf table.now run.now }
@@ -68,7 +68,7 @@ fn take_index(
     rows: &RowTable,
     run: &Run<'_>,
     index: usize,
-    mins: &mut [u8; 256],
+    mins: &mut [u8; BYTE_PLACES],
 ) -> bool
     requires rows { rows.now ≡ rows_for table.now.pattern }
     requires run { IsRunOf table.now run.now }
@@ -88,7 +88,12 @@ fn take_index(
 }
 
 /// Takes in all moves of all tiles but the last. Where a set is not kept it answers false.
-fn take_tiles(table: &TableView<'_>, rows: &RowTable, run: &Run<'_>, mins: &mut [u8; 256]) -> bool
+fn take_tiles(
+    table: &TableView<'_>,
+    rows: &RowTable,
+    run: &Run<'_>,
+    mins: &mut [u8; BYTE_PLACES],
+) -> bool
     requires rows { rows.now ≡ rows_for table.now.pattern }
     requires run { IsRunOf table.now run.now }
     ensures { OnTrue result (IsTakenIn mins.old mins.new (IsStepAmong table.now run.now.cells.now (length run.now.cells.now))) }
@@ -127,7 +132,7 @@ fn take_pair(
     below: &[u8; 25],
     a: u8,
     b: u8,
-    mins: &mut [u8; 256],
+    mins: &mut [u8; BYTE_PLACES],
 )
     requires rows { rows.now ≡ rows_for table.now.pattern }
     requires run { IsRunOf table.now run.now }
@@ -158,7 +163,7 @@ fn take_beside(
     below: &[u8; 25],
     a: u8,
     mask: u32,
-    mins: &mut [u8; 256],
+    mins: &mut [u8; BYTE_PLACES],
 )
     requires rows { rows.now ≡ rows_for table.now.pattern }
     requires run { IsRunOf table.now run.now }
@@ -177,7 +182,7 @@ fn take_beside(
 }
 
 /// Takes in all moves of the last tile.
-fn take_lasts(table: &TableView<'_>, rows: &RowTable, run: &Run<'_>, mins: &mut [u8; 256])
+fn take_lasts(table: &TableView<'_>, rows: &RowTable, run: &Run<'_>, mins: &mut [u8; BYTE_PLACES])
     requires rows { rows.now ≡ rows_for table.now.pattern }
     requires run { IsRunOf table.now run.now }
     ensures { IsTakenIn mins.old mins.new (IsSomeLastStep table.now run.now.cells.now) }
@@ -194,13 +199,17 @@ fn take_lasts(table: &TableView<'_>, rows: &RowTable, run: &Run<'_>, mins: &mut 
 
 /// The least entries one move away from the placements of a run, at the places of their slots. Where a set is not kept
 /// there is no answer.
-pub(crate) fn least_near(table: &TableView<'_>, rows: &RowTable, run: &Run<'_>) -> Option<[u8; 256]>
+pub(crate) fn least_near(
+    table: &TableView<'_>,
+    rows: &RowTable,
+    run: &Run<'_>,
+) -> Option<[u8; BYTE_PLACES]>
     requires rows { rows.now ≡ rows_for table.now.pattern }
     requires run { IsRunOf table.now run.now }
     ensures { IfSome result (λ mins. AreLeastNear table.now run.now.cells.now mins) }
 {
     let _pattern = table.pattern();
-    let mut mins = [NO_WAY_HOME; 256];
+    let mut mins = [NO_WAY_HOME; BYTE_PLACES];
     if !take_tiles(table, rows, run, &mut mins) {
         return None;
     }
