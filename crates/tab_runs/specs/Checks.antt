@@ -4,13 +4,18 @@ use Rattle.pat_place.specs.Placements.{IsFree}
 use Rattle.tab_check.specs.BadEntries.{IsBad, KeepsRule}
 use Rattle.tab_check.specs.LocalRule.{IsKindOf}
 use Rattle.tab_file.specs.Tables.{Table, slot_count}
-use Rattle.tab_runs.specs.Runs.{IsFirstRank, free_below, with_last}
+use Rattle.tab_runs.specs.Runs.{IsFirstRank, free_below, run_length, with_last}
 
 -- the kinds of the slots of a run's placements, side by side
 abbrev pub AreKinds : Table → List ℕ → List ℕ → Type 0
 AreKinds t p kinds =
     (c j : ℕ) → IsFree t.pattern.side p c → j < slot_count t.pattern →
     IsKindOf t.pattern (with_last p c) j (slice_index kinds (free_below p c * slot_count t.pattern + j))
+
+-- the entries of a run have the places from one up to another
+pub record ArePlacesOf (t : Table) (p : List ℕ) (from to : ℕ) : Type 0 where
+  pub low : from ≤ to
+  pub high : to ≤ run_length t.pattern.side p * slot_count t.pattern
 
 -- the entries of a run from one place up to another keep the rule
 abbrev pub RunKeepsRule : Table → List ℕ → ℕ → ℕ → Type 0

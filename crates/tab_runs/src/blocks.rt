@@ -1,19 +1,16 @@
 //! The check of a block of a table, run by run.
 
-ghost use Rattle.std.specs.Prelude.{◌≡◌, ◌≢◌, ℕ, ◌+◌, ◌-◌, ◌*◌, ◌%◌, ◌<◌, ◌≤◌, true, IfOk, MatchOption, length, slice_index};
-ghost use Rattle.puz_board.specs.Masks.{IsMaskOf};
-ghost use Rattle.pat_place.specs.Patterns.{has};
+ghost use Rattle.std.specs.Prelude.{◌≡◌, ◌≢◌, ℕ, ◌+◌, ◌-◌, ◌*◌, ◌%◌, ◌<◌, ◌≤◌, IfOk, MatchOption, length, slice_index};
 ghost use Rattle.pat_place.specs.Placements.{IsPlacement};
 ghost use Rattle.pat_place.specs.Ranks.{IsRank};
 ghost use Rattle.tab_check.specs.Blocks.{BlockKeepsRule, IsLeastBadIn, block_count};
 ghost use Rattle.tab_check.specs.Entries.{IsGoalNumber};
 ghost use Rattle.tab_file.specs.Tables.{placement_count, slot_count};
 ghost use Rattle.tab_lanes.specs.LocalRule.{goal_slot};
-ghost use Rattle.tab_runs.specs.Checks.{IsFirstBadPlace, RunKeepsRule};
-ghost use Rattle.tab_runs.specs.Kinds.{TellRegions};
-ghost use Rattle.tab_runs.specs.Parts.{EntriesKeepRule, IsBeforeRun, IsFirstBadEntry};
-ghost use Rattle.tab_runs.specs.Runs.{IsFirstRank, IsRun, most_run_entries, run_length};
-ghost use Rattle.tab_runs.specs.RunsOfTables.{IsRunOf};
+ghost use Rattle.tab_runs.specs.Checks.{ArePlacesOf, IsFirstBadPlace, RunKeepsRule};
+ghost use Rattle.tab_runs.specs.Parts.{EntriesKeepRule, IsFirstBadEntry};
+ghost use Rattle.tab_runs.specs.Runs.{most_run_entries};
+ghost use Rattle.tab_runs.specs.RunsOfTables.{AreCellsOf, AreRanksOf, IsRunOf, TellKindsOf};
 ghost use Rattle.tab_runs.specs.Steps.{AreLeastNear};
 ghost use Rattle.tab_runs.specs.StoredRows.{rows_for};
 
@@ -21,8 +18,9 @@ use crate::checks::first_bad;
 use crate::masks;
 use crate::near::least_near;
 use crate::rows::RowTable;
-use crate::runs::{BYTE_PLACES, Run, run_entries};
+use crate::runs::{BYTE_PLACES, Run, RunCells, RunKinds, run_entries};
 use pat_place::{Pattern, Placement, next, unrank};
+use std::ops::Range;
 use tab_check::{BLOCK_RANKS, check_block, goal_number};
 use tab_file::TableView;
 use tab_lanes::{GOAL_SLOT, WITHOUT_REGION};
@@ -47,7 +45,7 @@ pub fn check_runs(table: &TableView<'_>, rows: &RowTable, block: u64) -> Option<
     let mut from = first;
     'runs: while from < end {
         let to = end.min(from - from % run + run);
-        match check_run(table, rows, goal, &placement, from, to) {
+        match check_run(table, rows, goal, &placement, from..to) {
             Ok(None) => {
                 from = to;
                 placement = last_of_run(&pattern, &placement);
@@ -82,60 +80,57 @@ fn last_of_run(pattern: &Pattern, placement: &Placement) -> Placement
     placement.moved(index, last)
 }
 
-/// The first bad entry of the placements from one rank up to another, all of one run, where this is the first one's.
+/// The first bad entry of the placements with these ranks, all of one run, where this is the first placement.
 fn check_run(
     table: &TableView<'_>,
     rows: &RowTable,
     goal: u64,
     placement: &Placement,
-    from: u64,
-    to: u64,
+    ranks: Range<u64>,
 ) -> Result<Option<u64>, MissingRow>
     requires rows { rows.now ≡ rows_for table.now.pattern }
     requires goal { IsGoalNumber table.now.pattern goal }
     requires pattern { placement.now.pattern ≡ table.now.pattern }
-    requires rank { IsRank table.now.pattern.side placement.now.cells from }
-    requires some { from < to }
-    requires count { to ≤ placement_count table.now.pattern }
-    requires run { to ≤ from - from % (table.now.pattern.side * table.now.pattern.side + 1 - length table.now.pattern.tiles)
+    requires rank { IsRank table.now.pattern.side placement.now.cells ranks.start }
+    requires some { ranks.start < ranks.end }
+    requires count { ranks.end ≤ placement_count table.now.pattern }
+    requires run { ranks.end ≤ ranks.start - ranks.start % (table.now.pattern.side * table.now.pattern.side + 1 - length table.now.pattern.tiles)
         + (table.now.pattern.side * table.now.pattern.side + 1 - length table.now.pattern.tiles) }
     ensures { IfOk result (λ found. MatchOption found
-        (EntriesKeepRule table.now (from * slot_count table.now.pattern) (to * slot_count table.now.pattern))
-        (IsFirstBadEntry table.now (from * slot_count table.now.pattern) (to * slot_count table.now.pattern))) }
+        (EntriesKeepRule table.now (ranks.start * slot_count table.now.pattern) (ranks.end * slot_count table.now.pattern))
+        (IsFirstBadEntry table.now (ranks.start * slot_count table.now.pattern) (ranks.end * slot_count table.now.pattern))) }
 {
     let pattern = table.pattern();
     let placed = placement.cells();
     let all_cells = placed.as_slice();
     let index = usize::from(pattern.size()) - 1;
     let set = masks::without(placement.occupied(), all_cells[index]);
-    let first = from - from % placements_of_run(&pattern);
-    check_part(table, rows, goal, &all_cells[..index], set, first, from, to)
+    let first = ranks.start - ranks.start % placements_of_run(&pattern);
+    let run_cells = RunCells {
+        cells: &all_cells[..index],
+        set,
+        first,
+    };
+    check_part(table, rows, goal, &run_cells, ranks)
 }
 
-/// The first bad entry of the placements of this run, which begins at rank `first`, from one rank up to another.
+/// The first bad entry of the placements of a run that have these ranks.
 fn check_part(
     table: &TableView<'_>,
     rows: &RowTable,
     goal: u64,
-    cells: &[u8],
-    set: u32,
-    first: u64,
-    from: u64,
-    to: u64,
+    run_cells: &RunCells<'_>,
+    ranks: Range<u64>,
 ) -> Result<Option<u64>, MissingRow>
     requires rows { rows.now ≡ rows_for table.now.pattern }
     requires goal { IsGoalNumber table.now.pattern goal }
-    requires run { IsRun table.now.pattern cells.now }
-    requires set { IsMaskOf set (λ c. has cells.now c ≡ true) }
-    requires first { IsFirstRank table.now.pattern.side cells.now first }
-    requires low { first ≤ from }
-    requires some { from < to }
-    requires high { to ≤ first + run_length table.now.pattern.side cells.now }
-    requires count { to ≤ placement_count table.now.pattern }
+    requires run_cells { AreCellsOf table.now run_cells.now }
+    requires ranks { AreRanksOf table.now run_cells.now ranks.start ranks.end }
     ensures { IfOk result (λ found. MatchOption found
-        (EntriesKeepRule table.now (from * slot_count table.now.pattern) (to * slot_count table.now.pattern))
-        (IsFirstBadEntry table.now (from * slot_count table.now.pattern) (to * slot_count table.now.pattern))) }
+        (EntriesKeepRule table.now (ranks.start * slot_count table.now.pattern) (ranks.end * slot_count table.now.pattern))
+        (IsFirstBadEntry table.now (ranks.start * slot_count table.now.pattern) (ranks.end * slot_count table.now.pattern))) }
 {
+    let RunCells { cells, set, first } = *run_cells;
     let Some(kept) = rows.of_set(set) else {
         return Err(MissingRow);
     };
@@ -149,45 +144,43 @@ fn check_part(
         return Err(MissingRow);
     };
     let width = u64::from(table.pattern().width());
-    let low = ((from - first) * width) as usize;
-    let high = ((to - first) * width) as usize;
+    let low = ((ranks.start - first) * width) as usize;
+    let high = ((ranks.end - first) * width) as usize;
     let before = first * width;
-    match first_bad_of_kinds(table, &run, &mins, kept.kinds, before, goal, low, high) {
+    let kinds = RunKinds {
+        told: kept.kinds,
+        before,
+        goal,
+    };
+    match first_bad_of_kinds(table, &run, &mins, &kinds, low..high) {
         Some(place) => Ok(Some(before + place as u64)),
         None => Ok(None),
     }
 }
 
-/// The first place of a run's entries, from `low` up to `high`, whose entry breaks the local rule, where `before` entries
-/// are before the run's and the goal's has the number `goal`.
+/// The first place of a run's entries, among these, whose entry breaks the local rule.
 fn first_bad_of_kinds(
     table: &TableView<'_>,
     run: &Run<'_>,
     mins: &[u8; BYTE_PLACES],
-    told: &[u8],
-    before: u64,
-    goal: u64,
-    low: usize,
-    high: usize,
+    kinds: &RunKinds<'_>,
+    places: Range<usize>,
 ) -> Option<usize>
     requires run { IsRunOf table.now run.now }
     requires mins { AreLeastNear table.now run.now.cells.now mins.now }
-    requires told { TellRegions table.now.pattern.side (slot_count table.now.pattern) run.now.cells.now told.now }
-    requires size { length told.now ≡ run_length table.now.pattern.side run.now.cells.now * slot_count table.now.pattern }
-    requires before { IsBeforeRun table.now run.now.cells.now before }
-    requires goal { IsGoalNumber table.now.pattern goal }
-    requires low { low ≤ high }
-    requires high { high ≤ run_length table.now.pattern.side run.now.cells.now * slot_count table.now.pattern }
+    requires kinds { TellKindsOf table.now run.now.cells.now kinds.now }
+    requires places { ArePlacesOf table.now run.now.cells.now places.start places.end }
     ensures { MatchOption result
-        (RunKeepsRule table.now run.now.cells.now low high)
-        (IsFirstBadPlace table.now run.now.cells.now low high) }
+        (RunKeepsRule table.now run.now.cells.now places.start places.end)
+        (IsFirstBadPlace table.now run.now.cells.now places.start places.end) }
 {
     let _pattern = table.pattern();
+    let RunKinds { told, before, goal } = *kinds;
     if goal < before || goal - before >= told.len() as u64 {
-        return first_bad(table, run, mins, told, low, high);
+        return first_bad(table, run, mins, told, places);
     }
     let kinds = with_goal(told, (goal - before) as usize);
-    first_bad(table, run, mins, &kinds, low, high)
+    first_bad(table, run, mins, &kinds, places)
 }
 
 /// The kinds of a run's slots, of which the one at this place is the goal's.

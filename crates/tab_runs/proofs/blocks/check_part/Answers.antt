@@ -12,10 +12,10 @@ use Rattle.tab_runs.proofs.blocks.check_part.Goals as goal
 
 pub least_near-requires-clause-run : goal.least_near-requires-clause-run
 least_near-requires-clause-run c = record {
-  run = c.requires.run;
-  bits = c.ranges.set.fits;
-  set = c.requires.set;
-  rows = kept_rows c.args.table.now c.args.rows.now c.args.set c.in-Some.kept.rows.now c.requires.rows c.in-Some.ensures.rows;
+  run = c.requires.run_cells.run;
+  bits = c.requires.run_cells.bits;
+  set = c.requires.run_cells.set;
+  rows = kept_rows c.args.table.now c.args.rows.now c.args.run_cells.now.set c.in-Some.kept.rows.now c.requires.rows c.in-Some.ensures.rows;
   own = c.run_entries.ensures;
 }
 
@@ -23,47 +23,51 @@ pub overflow_mul-low : goal.overflow_mul-low
 overflow_mul-low c =
     let p = c.args.table.now.pattern in
     let w : c.from-width.result ≡ slot_count p = c.from-width.ensures ∙ c.width.ensures ∙ ap slot_count c.pattern.ensures.pattern in
-    let most = part_few p c.args.cells.now (c.args.from - c.args.first) c.from-width.result w (let a = c.requires.high in let b = c.requires.some in omega arith) in
-    let few = few_entries p c.pattern.ensures.table.pattern c.args.cells.now c.requires.run in
+    let most = part_few p c.args.run_cells.now.cells.now (c.args.ranks.start - c.args.run_cells.now.first) c.from-width.result w (let a = c.requires.ranks.high in let b = c.requires.ranks.some in omega arith) in
+    let few = few_entries p c.pattern.ensures.table.pattern c.args.run_cells.now.cells.now c.requires.run_cells.run in
     omega arith
 
 pub overflow_mul-high : goal.overflow_mul-high
 overflow_mul-high c =
     let p = c.args.table.now.pattern in
     let w : c.from-width.result ≡ slot_count p = c.from-width.ensures ∙ c.width.ensures ∙ ap slot_count c.pattern.ensures.pattern in
-    let most = part_few p c.args.cells.now (c.args.to - c.args.first) c.from-width.result w (let a = c.requires.high in omega arith) in
-    let few = few_entries p c.pattern.ensures.table.pattern c.args.cells.now c.requires.run in
+    let most = part_few p c.args.run_cells.now.cells.now (c.args.ranks.end - c.args.run_cells.now.first) c.from-width.result w (let a = c.requires.ranks.high in omega arith) in
+    let few = few_entries p c.pattern.ensures.table.pattern c.args.run_cells.now.cells.now c.requires.run_cells.run in
     omega arith
 
 pub first_bad_of_kinds-requires : goal.first_bad_of_kinds-requires
 first_bad_of_kinds-requires c =
     let t = c.args.table.now in
     let p = t.pattern in
-    let cells = c.args.cells.now in
+    let cells = c.args.run_cells.now.cells.now in
     let told = c.in-Some.kept.kinds.now in
     let w : c.from-width.result ≡ slot_count p = c.from-width.ensures ∙ c.width.ensures ∙ ap slot_count c.pattern.ensures.pattern in
     record {
       run = record {
-        run = c.requires.run;
-        bits = c.ranges.set.fits;
-        set = c.requires.set;
-        rows = kept_rows c.args.table.now c.args.rows.now c.args.set c.in-Some.kept.rows.now c.requires.rows c.in-Some.ensures.rows;
+        run = c.requires.run_cells.run;
+        bits = c.requires.run_cells.bits;
+        set = c.requires.run_cells.set;
+        rows = kept_rows c.args.table.now c.args.rows.now c.args.run_cells.now.set c.in-Some.kept.rows.now c.requires.rows c.in-Some.ensures.rows;
         own = c.run_entries.ensures;
       };
       mins = c.in-Some-least_near.ensures;
-      told = subst (λ v. TellRegionsOf v.side (width v.side v.tiles) c.args.set told) c.requires.rows c.in-Some.ensures.told cells c.requires.set;
-      size = c.in-Some.ensures.size ∙ ap (λ v. entries_of_run v.side v.tiles) c.requires.rows ∙ sym (entries_same p cells c.requires.run);
-      before = record { first = c.args.first; is_first = c.requires.first; counted = ap (λ k. c.args.first * k) w };
-      goal = c.requires.goal;
-      low = part_low (c.args.from - c.args.first) (c.args.to - c.args.first) c.from-width.result (let a = c.requires.some in omega arith);
-      high = part_few p cells (c.args.to - c.args.first) c.from-width.result w (let a = c.requires.high in omega arith);
+      kinds = record {
+        told = subst (λ v. TellRegionsOf v.side (width v.side v.tiles) c.args.run_cells.now.set told) c.requires.rows c.in-Some.ensures.told cells c.requires.run_cells.set;
+        size = c.in-Some.ensures.size ∙ ap (λ v. entries_of_run v.side v.tiles) c.requires.rows ∙ sym (entries_same p cells c.requires.run_cells.run);
+        before = record { first = c.args.run_cells.now.first; is_first = c.requires.run_cells.first; counted = ap (λ k. c.args.run_cells.now.first * k) w };
+        goal = c.requires.goal;
+      };
+      places = record {
+        low = part_low (c.args.ranks.start - c.args.run_cells.now.first) (c.args.ranks.end - c.args.run_cells.now.first) c.from-width.result (let a = c.requires.ranks.some in omega arith);
+        high = part_few p cells (c.args.ranks.end - c.args.run_cells.now.first) c.from-width.result w (let a = c.requires.ranks.high in omega arith);
+      };
     }
 
 pub overflow_mul-before : goal.overflow_mul-before
 overflow_mul-before c =
     let p = c.args.table.now.pattern in
     let small : c.from-width.result < 256 = (let e = c.from-width.ensures in let l = c.width.type_inv in omega arith) in
-    let fits = number_fits p c.pattern.ensures.table.pattern c.args.first c.from-width.result 0 (let a = c.requires.count in let b = c.requires.some in let d = c.requires.low in omega arith) small (omega arith) in
+    let fits = number_fits p c.pattern.ensures.table.pattern c.args.run_cells.now.first c.from-width.result 0 (let a = c.requires.ranks.count in let b = c.requires.ranks.some in let d = c.requires.ranks.low in omega arith) small (omega arith) in
     omega arith
 
 pub overflow_add-result : goal.overflow_add-result
@@ -71,18 +75,18 @@ overflow_add-result c =
     let p = c.args.table.now.pattern in
     let w : c.from-width.result ≡ slot_count p = c.from-width.ensures ∙ c.width.ensures ∙ ap slot_count c.pattern.ensures.pattern in
     let small : c.from-width.result < 256 = (let e = c.from-width.ensures in let l = c.width.type_inv in omega arith) in
-    let most = part_few p c.args.cells.now (c.args.to - c.args.first) c.from-width.result w (let a = c.requires.high in omega arith) in
-    let few = few_entries p c.pattern.ensures.table.pattern c.args.cells.now c.requires.run in
+    let most = part_few p c.args.run_cells.now.cells.now (c.args.ranks.end - c.args.run_cells.now.first) c.from-width.result w (let a = c.requires.ranks.high in omega arith) in
+    let few = few_entries p c.pattern.ensures.table.pattern c.args.run_cells.now.cells.now c.requires.run_cells.run in
     let place : c.in-Some-first_bad_of_kinds.place < 256 = (let l = c.in-Some-first_bad_of_kinds.ensures.to in omega arith) in
-    let fits = number_fits p c.pattern.ensures.table.pattern c.args.first c.from-width.result c.in-Some-first_bad_of_kinds.place (let a = c.requires.count in let b = c.requires.some in let d = c.requires.low in omega arith) small place in
+    let fits = number_fits p c.pattern.ensures.table.pattern c.args.run_cells.now.first c.from-width.result c.in-Some-first_bad_of_kinds.place (let a = c.requires.ranks.count in let b = c.requires.ranks.some in let d = c.requires.ranks.low in omega arith) small place in
     omega arith
 
 pub returns-in-Some-first_bad_of_kinds : goal.returns-in-Some-first_bad_of_kinds
 returns-in-Some-first_bad_of_kinds c =
-    bad_between c.args.table.now c.args.cells.now c.args.first c.requires.first c.args.from c.args.to c.requires.low c.requires.some c.from-width.result (c.from-width.ensures ∙ c.width.ensures ∙ ap slot_count c.pattern.ensures.pattern)
+    bad_between c.args.table.now c.args.run_cells.now.cells.now c.args.run_cells.now.first c.requires.run_cells.first c.args.ranks.start c.args.ranks.end c.requires.ranks.low c.requires.ranks.some c.from-width.result (c.from-width.ensures ∙ c.width.ensures ∙ ap slot_count c.pattern.ensures.pattern)
     c.in-Some-first_bad_of_kinds.place c.in-Some-first_bad_of_kinds.ensures
 
 pub returns-in-None : goal.returns-in-None
 returns-in-None c =
-    keep_between c.args.table.now c.args.cells.now c.args.first c.requires.first c.args.from c.args.to c.requires.low c.requires.some c.from-width.result (c.from-width.ensures ∙ c.width.ensures ∙ ap slot_count c.pattern.ensures.pattern)
+    keep_between c.args.table.now c.args.run_cells.now.cells.now c.args.run_cells.now.first c.requires.run_cells.first c.args.ranks.start c.args.ranks.end c.requires.ranks.low c.requires.ranks.some c.from-width.result (c.from-width.ensures ∙ c.width.ensures ∙ ap slot_count c.pattern.ensures.pattern)
     c.in-None.ensures

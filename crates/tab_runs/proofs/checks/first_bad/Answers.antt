@@ -4,12 +4,12 @@ use Rattle.tab_runs.proofs.RowLemmas.{few_entries}
 use Rattle.tab_runs.proofs.checks.first_bad.Goals as goal
 
 pub slice_bounds-first_bad-end-2 : goal.slice_bounds-first_bad-end-2
-slice_bounds-first_bad-end-2 c = let few = few_entries c.args.table.now.pattern c.pattern-pattern.ensures.table.pattern c.args.run.now.cells.now c.requires.run.run in let high = c.requires.high in omega arith
+slice_bounds-first_bad-end-2 c = let few = few_entries c.args.table.now.pattern c.pattern-pattern.ensures.table.pattern c.args.run.now.cells.now c.requires.run.run in let high = c.requires.places.high in omega arith
 
 pub returns-in_default : goal.returns-in_default
 returns-in_default c = run_keeps c.args.table.now c.pattern-pattern.ensures.table.pattern c.args.run.now.cells.now c.requires.run.run c.args.run.now.own.now c.args.mins.now c.args.kinds.now c.requires.run.own c.requires.mins c.requires.kinds
-    c.args.low c.args.high c.requires.low c.requires.high c.in_default.ensures
+    c.args.places.start c.args.places.end c.requires.places.low c.requires.places.high c.in_default.ensures
 
 pub returns : goal.returns
 returns c = run_bad c.args.table.now c.pattern-pattern.ensures.table.pattern c.args.run.now.cells.now c.requires.run.run c.args.run.now.own.now c.args.mins.now c.args.kinds.now c.requires.run.own c.requires.mins c.requires.kinds
-    c.args.low c.args.high c.requires.low c.requires.high c.in-Some.place c.in-Some.ensures
+    c.args.places.start c.args.places.end c.requires.places.low c.requires.places.high c.in-Some.place c.in-Some.ensures
