@@ -1,7 +1,7 @@
 //! The machine: a book of jobs that one thread steps.
 
 ghost use Rattle.std.specs.Prelude.{◌≡◌, ◌<◌, ◌≤◌, ◌^◌, length, slice_get, take, IfOk, IfErr, IfSome, IfNone, OnOk, OnErr, IsOk, IsOkAnd, IsErrOf, IsSomeAnd};
-ghost use Rattle.book_core.specs.Books.{SameSizes, most_passes, start};
+ghost use Rattle.book_core.specs.Books.{AreWorkers, SameSizes, start};
 ghost use Rattle.book_core.specs.Steps.{step, IsRefusal, TakesRoom};
 ghost use Rattle.book_core.specs.Runs.{going, run_from, run_on, StopsAt};
 ghost use Rattle.book_core.specs.Laws.{BookLaw};
@@ -13,6 +13,9 @@ use std::marker::Model;
 
 /// Want of memory, as a call's only error.
 pub type Memory = AllocError;
+
+/// At most so many workers share a book.
+pub const MOST_WORKERS: u8 = 64;
 
 /// Places are below this.
 const PLACES: u64 = 1 << 32;
@@ -41,7 +44,7 @@ impl Core {
     /// A book at its start: no job is drawn and nothing is reported.
     pub fn start(alloc: Global, jobs: u64, workers: u8) -> Result<Core, Memory>
         requires jobs { jobs ≤ 2 ^ 32 }
-        requires workers { (0 < workers) × (workers ≤ most_passes) }
+        requires workers { AreWorkers workers }
         ensures start { IfOk result (λ core. core ≡ start jobs workers) }
         ensures law { IfOk result BookLaw }
     {

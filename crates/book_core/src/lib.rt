@@ -8,7 +8,7 @@ mod passes;
 #[cfg(test)]
 mod tests;
 
-pub use cores::{Core, Memory};
+pub use cores::{Core, MOST_WORKERS, Memory};
 pub use events::{Answer, CoreFault, Event};
 pub use laws::{book_law, share_law};
 pub use passes::Deeds;

@@ -3,7 +3,7 @@ use Rattle.std.specs.Prelude.{◌≡◌, ℕ, ◌≤◌, ◌^◌, if◌then◌el
 use Rattle.atomic_table.specs.Table.{State}
 use Rattle.book_core.specs.declared.events.Event.{Event}
 use Rattle.book_core.specs.declared.events.Answer.{Answer}
-use Rattle.book_core.specs.Books.{Book, most_passes}
+use Rattle.book_core.specs.Books.{Book, most_workers}
 use Rattle.book_core.specs.Runs.{going, after}
 use Rattle.book_core.specs.Shares.{IsDealt}
 use Rattle.book_live.specs.declared.views.Sizes.{Sizes}
@@ -23,9 +23,9 @@ word_of (Some place) = place
 abbrev pub place_of : ℕ → Option ℕ
 place_of word = (if nat_lt word (2 ^ 32) then Some word else None)
 
--- there are at most 2 ^ 32 jobs and at most 64 passes
+-- there are at most 2 ^ 32 jobs, and no more passes than a book has workers at most
 abbrev pub IsInLimits : Sizes → Type 0
-IsInLimits z = (z.jobs ≤ 2 ^ 32) × (z.workers ≤ most_passes)
+IsInLimits z = (z.jobs ≤ 2 ^ 32) × (z.workers ≤ most_workers)
 
 -- the words and the views show this book: each of its passes stands in the view of one seat
 pub record Shows {S : Type 0} (z : Sizes) (b : Book) (s : State S View) : Type 0 where

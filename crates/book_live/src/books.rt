@@ -1,7 +1,7 @@
 //! The book that threads share.
 
 ghost use Rattle.std.specs.Prelude.{◌≡◌, ◌<◌, ◌≤◌, ◌^◌, ℕ, ◌++◌, [], false, true, length, Some, IfOk, IfSome, IfNone, All};
-ghost use Rattle.book_core.specs.Books.{most_passes};
+ghost use Rattle.book_core.specs.Books.{AreWorkers};
 ghost use Rattle.book_core.specs.declared.events.Event.{Event};
 ghost use Rattle.book_core.specs.declared.events.Answer.{Answer};
 ghost use Rattle.book_core.specs.Passes.{Deeds, fresh, with_drawn, with_end, with_report, with_seen};
@@ -47,7 +47,7 @@ impl Book {
     /// A book from which no job is drawn, and its passes in the order of their numbers.
     pub fn new(alloc: Global, jobs: u64, workers: u8) -> Result<(Book, Vec<Pass>), Memory>
         requires jobs { jobs ≤ 2 ^ 32 }
-        requires workers { (0 < workers) × (workers ≤ most_passes) }
+        requires workers { AreWorkers workers }
         ensures sizes { IfOk result (λ r. (r.0.sizes.jobs ≡ jobs) × (r.0.sizes.workers ≡ workers)) }
         ensures passes { IfOk result (λ r. ArePasses r.0 (λ p. p.deeds ≡ fresh) r.1.items) }
         ensures shown { IfOk result (λ r. ShowsStart r.0 r.1.items) }
@@ -126,7 +126,7 @@ impl Book {
     /// A book, and a seat that stands for all its passes.
     fn open(alloc: Global, jobs: u64, workers: u8) -> Result<(Book, Chair), AllocError>
         requires jobs { jobs ≤ 2 ^ 32 }
-        requires workers { (0 < workers) × (workers ≤ most_passes) }
+        requires workers { AreWorkers workers }
         ensures sizes { IfOk result (λ r. (r.0.sizes.jobs ≡ jobs) × (r.0.sizes.workers ≡ workers)) }
         ensures seat { IfOk result (λ r. (r.1.table_id ≡ r.0.table) × (r.1.me ≡ (opening r.0.sizes, []))) }
     {

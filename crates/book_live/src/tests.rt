@@ -1,6 +1,7 @@
 //! A worked example of two passes in one thread, and books that many threads share.
 
 ghost use Rattle.std.specs.Prelude.{◌≡◌, ◌<◌, ◌≤◌, ◌^◌, true, IfOk, IfSome};
+ghost use Rattle.book_core.specs.Books.{AreWorkers};
 ghost use Rattle.book_core.specs.Passes.{fresh};
 ghost use Rattle.book_live.specs.Callers.{IsNewPass};
 
@@ -123,7 +124,7 @@ fn close_after_threads<R: Threads + Sync>(
     tally: &Tally,
 ) -> Result<Option<u64>, AllocError>
     requires jobs { jobs ≤ 2 ^ 32 }
-    requires workers { (0 < workers) × (workers ≤ 64) }
+    requires workers { AreWorkers workers }
 {
     let (book, passes) = Book::new(alloc, jobs, workers)?;
     let shared = &book;

@@ -1,9 +1,10 @@
 -- What words ask for.
+use Rattle.std.specs.Borrow.{Bor}
 use Rattle.std.specs.Prelude.{⊤, ℕ, ◌≤◌, List, Option, map, option_map}
+use Rattle.book_core.specs.Books.{AreWorkers}
 use Rattle.pdb_words.specs.declared.asked.LogCheck.{LogCheck}
 use Rattle.pdb_words.specs.declared.asked.Request.{Request}
 use Rattle.pdb_words.specs.declared.asked.Request.TheVariants as request
-use Rattle.pdb_words.specs.declared.asked.Search.{Search}
 
 -- what words ask for: a command, with the names and numbers it is given
 pub data Asked : Type 0 where
@@ -22,13 +23,9 @@ pub data Asked : Type 0 where
   -- log and its tables, in order, how many workers check the tables and the log, and how many boards may be expanded
   solve : List ℕ → List ℕ → List ℕ → List (List ℕ) → ℕ → ℕ → Asked
 
--- the names of the tables with which a log is to be checked
-abbrev names_of_tables : LogCheck → List (List ℕ)
-names_of_tables check = map (λ s. s.now) check.tables.items
-
--- the names of the tables with which a solution is to be searched for
-abbrev tables_of_search : Search → List (List ℕ)
-tables_of_search search = map (λ s. s.now) search.tables.items
+-- the names of files, as their bytes
+abbrev pub file_names : List (Bor (List ℕ)) → List (List ℕ)
+file_names names = map (λ name. name.now) names
 
 -- what is asked of a claim, the sets, a log and its tables, and of so many workers
 abbrev pub AsksCheck : Type 0
@@ -36,7 +33,7 @@ AsksCheck = List ℕ → List ℕ → List ℕ → List (List ℕ) → ℕ → A
 
 -- what the check of a log asks for, with this kind of claim
 abbrev pub asks_check : AsksCheck → LogCheck → Asked
-asks_check asks check = asks check.claim.now check.sets.now check.log.now (names_of_tables check) check.workers
+asks_check asks check = asks check.claim.now check.sets.now check.log.now (file_names check.tables.items) check.workers
 
 -- a request, as its bytes
 abbrev pub view : Request → Asked
@@ -45,18 +42,26 @@ view (request.Table file workers) = table file.now workers
 view (request.Bound check) = asks_check bound check
 view (request.Optimal check) = asks_check optimal check
 view (request.MakeTable side mask out workers) = make_table side mask out.now workers
-view (request.Solve search) = solve search.board.now search.sets.now search.out.now (tables_of_search search) search.workers search.budget
+view (request.Solve search) = solve search.board.now search.sets.now search.out.now (file_names search.tables.items) search.workers search.budget
 
--- there are 1 to 64 workers
+-- there are as many workers as may share a check, where any are asked for
 abbrev pub HasWorkers : Request → Type 0
 HasWorkers (request.Replay name) = ⊤
-HasWorkers (request.Table file workers) = (1 ≤ workers) × (workers ≤ 64)
-HasWorkers (request.Bound check) = (1 ≤ check.workers) × (check.workers ≤ 64)
-HasWorkers (request.Optimal check) = (1 ≤ check.workers) × (check.workers ≤ 64)
-HasWorkers (request.MakeTable side mask out workers) = (1 ≤ workers) × (workers ≤ 64)
-HasWorkers (request.Solve search) = (1 ≤ search.workers) × (search.workers ≤ 64)
+HasWorkers (request.Table file workers) = AreWorkers workers
+HasWorkers (request.Bound check) = AreWorkers check.workers
+HasWorkers (request.Optimal check) = AreWorkers check.workers
+HasWorkers (request.MakeTable side mask out workers) = AreWorkers workers
+HasWorkers (request.Solve search) = AreWorkers search.workers
 
--- a search may expand 1 to 1,000,000,000,000 boards
+-- a search may be let expand so many boards at most
+abbrev pub most_budget : ℕ
+most_budget = 1000000000000
+
+-- a search may be let expand so many boards
+abbrev pub IsBudget : ℕ → Type 0
+IsBudget count = (1 ≤ count) × (count ≤ most_budget)
+
+-- a search has a budget
 abbrev pub HasBudget : Request → Type 0
-HasBudget (request.Solve search) = (1 ≤ search.budget) × (search.budget ≤ 1000000000000)
+HasBudget (request.Solve search) = IsBudget search.budget
 HasBudget other = ⊤

@@ -2,20 +2,25 @@
 use Rattle.std.specs.Prelude.{ℕ, Bool, List, codes}
 use Rattle.clap.specs.Walk.{Row, Rule, Text}
 use Rattle.clap.specs.declared.builder.value_parser.ValueParser.TheVariants as parser
+use Rattle.pdb_words.specs.Asked.{most_budget}
 use Rattle.pdb_words.specs.Numbers.{number_flag, number_in, number_within, writes_within}
+
+-- so many boards may be expanded where the words don't say how many
+abbrev pub usual_budget : ℕ
+usual_budget = 1000000
 
 -- the flag, as `clap` sees it
 abbrev pub budget_flag : Rule
-budget_flag = number_flag (codes "budget") (parser.Unsigned 1 1000000000000) (codes "1000000")
+budget_flag = number_flag (codes "budget") (parser.Unsigned 1 most_budget) (codes "1000000")
 
 -- the text writes a budget
 abbrev pub writes_budget : Text → Bool
-writes_budget text = writes_within 1 1000000000000 text
+writes_budget text = writes_within 1 most_budget text
 
 -- the budget that a text asks for: its number, or the usual one where it writes none
 abbrev pub budget_of : Text → ℕ
-budget_of text = number_within 1 1000000000000 1000000 text
+budget_of text = number_within 1 most_budget usual_budget text
 
 -- the budget that the values found of a command ask for
 abbrev pub budget_in : List Row → ℕ
-budget_in rows = number_in 1 1000000000000 1000000 (codes "budget") rows
+budget_in rows = number_in 1 most_budget usual_budget (codes "budget") rows

@@ -30,9 +30,13 @@ command_line = with_subcommand (with_subcommand checks make_table_command.top) s
 
 -- ---- what words ask for
 
+-- the names of the commands that take `--workers`
+abbrev pub shared_commands : List Text
+shared_commands = codes "table" ∷ codes "bound" ∷ codes "optimal" ∷ codes "make-table" ∷ codes "solve" ∷ []
+
 -- the names of the commands
 abbrev pub commands : List Text
-commands = codes "replay" ∷ codes "table" ∷ codes "bound" ∷ codes "optimal" ∷ codes "make-table" ∷ codes "solve" ∷ []
+commands = codes "replay" ∷ shared_commands
 
 -- the text is among these
 abbrev pub IsOneOf : List Text → Text → Type 0
@@ -42,10 +46,6 @@ IsOneOf (first ∷ rest) text = (text ≡ first) ⊎ IsOneOf rest text
 -- the text is the name of a command
 abbrev pub IsCommand : Text → Type 0
 IsCommand name = IsOneOf commands name
-
--- the commands that take `--workers`
-abbrev pub shared_commands : List Text
-shared_commands = codes "table" ∷ codes "bound" ∷ codes "optimal" ∷ codes "make-table" ∷ codes "solve" ∷ []
 
 -- the command takes the flag of this name
 abbrev pub TakesFlag : Text → Text → Type 0

@@ -1,5 +1,5 @@
 -- The words of `make-table [--workers N] SIDE MASK OUT`.
-use Rattle.std.specs.Prelude.{Bool, List, Some, codes, pos, true}
+use Rattle.std.specs.Prelude.{ℕ, Bool, List, Some, codes, pos, true}
 use Rattle.clap.specs.Walk.{Row, Rule, Text}
 use Rattle.clap.specs.Simple.{App, new_app, new_rule, with_rule}
 use Rattle.clap.specs.declared.builder.value_parser.ValueParser.TheVariants as parser
@@ -8,13 +8,21 @@ use Rattle.pdb_words.specs.Files.{file_in, needed_file}
 use Rattle.pdb_words.specs.Numbers.{number_in, writes_within}
 use Rattle.pdb_words.specs.Workers.{workers_flag, workers_in}
 
+-- the greatest number that may be meant for a side: that of a byte
+abbrev pub most_side : ℕ
+most_side = 255
+
+-- the greatest number that may be meant for a tile mask: that of four bytes
+abbrev pub most_mask : ℕ
+most_mask = 4294967295
+
 -- the side, a number from 0 to 255, which has to be given
 abbrev pub needed_side : Rule
-needed_side = record (new_rule (codes "SIDE")) { required = true; parser = Some (parser.Signed (pos 0) (pos 255)) }
+needed_side = record (new_rule (codes "SIDE")) { required = true; parser = Some (parser.Signed (pos 0) (pos most_side)) }
 
 -- the tile mask, a number from 0 to 4,294,967,295, which has to be given
 abbrev pub needed_mask : Rule
-needed_mask = record (new_rule (codes "MASK")) { required = true; parser = Some (parser.Signed (pos 0) (pos 4294967295)) }
+needed_mask = record (new_rule (codes "MASK")) { required = true; parser = Some (parser.Signed (pos 0) (pos most_mask)) }
 
 -- the command, as `clap` sees it
 abbrev pub make_table_command : App
@@ -23,13 +31,20 @@ make_table_command = with_rule (with_rule (with_rule (with_rule (new_app (codes 
 
 -- the text writes a number that may be meant for a side
 abbrev pub writes_side : Text → Bool
-writes_side text = writes_within 0 255 text
+writes_side text = writes_within 0 most_side text
 
 -- the text writes a number that may be meant for a tile mask
 abbrev pub writes_mask : Text → Bool
-writes_mask text = writes_within 0 4294967295 text
+writes_mask text = writes_within 0 most_mask text
+
+-- the side that the values found of it name
+abbrev pub side_in : List Row → ℕ
+side_in rows = number_in 0 most_side 0 (codes "SIDE") rows
+
+-- the tile mask that they name
+abbrev pub mask_in : List Row → ℕ
+mask_in rows = number_in 0 most_mask 0 (codes "MASK") rows
 
 -- what the values found of it ask for
 abbrev pub make_table_in : List Row → Asked
-make_table_in rows = make_table (number_in 0 255 0 (codes "SIDE") rows) (number_in 0 4294967295 0 (codes "MASK") rows)
-    (file_in (codes "OUT") rows) (workers_in rows)
+make_table_in rows = make_table (side_in rows) (mask_in rows) (file_in (codes "OUT") rows) (workers_in rows)

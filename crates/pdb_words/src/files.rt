@@ -1,8 +1,9 @@
 //! The files that a command names.
 
-ghost use Rattle.std.specs.Prelude.{◌≡◌, IfOk, false, map};
+ghost use Rattle.std.specs.Prelude.{◌≡◌, IfOk, false};
 ghost use Rattle.clap.specs.Words.{app_of, found_of, rows_of, rule_of, with_rule};
 ghost use Rattle.clap.specs.declared.Command.TheViews.{out-Command};
+ghost use Rattle.pdb_words.specs.Asked.{file_names};
 ghost use Rattle.pdb_words.specs.Files.{file_in, needed_file, needed_tables, tables_in, with_log};
 
 use crate::commands::with_argument;
@@ -70,7 +71,7 @@ pub(crate) fn tables_in<'a>(
     alloc: Global,
     found: &ArgMatches<'a>,
 ) -> Result<Vec<&'a str>, AllocError>
-    ensures { IfOk result (λ tables. map (λ s. s.now) tables.items ≡ tables_in (rows_of (found_of found.now))) }
+    ensures { IfOk result (λ tables. file_names tables.items ≡ tables_in (rows_of (found_of found.now))) }
 {
     found.get_strs("TABLES").unwrap_or(&[]).to_vec(alloc)
 }

@@ -1,8 +1,9 @@
 //! What `bound` and `optimal` share: the words that name a claim and its log.
 
-ghost use Rattle.std.specs.Prelude.{◌≡◌, ◌≤◌, IfOk, codes};
+ghost use Rattle.std.specs.Prelude.{◌≡◌, IfOk, codes};
 ghost use Rattle.clap.specs.Words.{app_of, found_of, rows_of, with_rule};
 ghost use Rattle.clap.specs.declared.Command.TheViews.{out-Command};
+ghost use Rattle.book_core.specs.Books.{AreWorkers};
 ghost use Rattle.pdb_words.specs.Asked.{AsksCheck, asks_check};
 ghost use Rattle.pdb_words.specs.Files.{needed_file, with_log};
 ghost use Rattle.pdb_words.specs.LogChecks.{check_in};
@@ -34,7 +35,7 @@ pub(crate) fn check_in<'a>(
     claim: &str,
 ) -> Result<LogCheck<'a>, AllocError>
     ensures asked { IfOk result (λ check. (asks : AsksCheck) → asks_check asks check ≡ check_in asks claim.now (rows_of (found_of found.now))) }
-    ensures workers { IfOk result (λ check. (1 ≤ check.workers) × (check.workers ≤ 64)) }
+    ensures workers { IfOk result (λ check. AreWorkers check.workers) }
 {
     Ok(LogCheck {
         claim: file_in(found, claim),

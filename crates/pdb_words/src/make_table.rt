@@ -1,11 +1,10 @@
 //! The words of `make-table [--workers N] SIDE MASK OUT`.
 
-ghost use Rattle.std.specs.Prelude.{◌≡◌, IfOk, codes, false};
+ghost use Rattle.std.specs.Prelude.{◌≡◌, IfOk, false};
 ghost use Rattle.clap.specs.Words.{app_of, found_of, rows_of, rule_of, with_rule};
 ghost use Rattle.clap.specs.declared.Command.TheViews.{out-Command};
 ghost use Rattle.pdb_words.specs.Asked.{HasBudget, HasWorkers, view};
-ghost use Rattle.pdb_words.specs.MakeTable.{make_table_command, make_table_in, needed_mask, needed_side};
-ghost use Rattle.pdb_words.specs.Numbers.{number_in};
+ghost use Rattle.pdb_words.specs.MakeTable.{make_table_command, make_table_in, mask_in, needed_mask, needed_side, side_in};
 
 use crate::asked::Request;
 use crate::commands::{new_command, with_argument};
@@ -64,16 +63,16 @@ fn needed_mask<'a>(alloc: Global) -> Arg<'a>
 
 /// The side that these matches of the command name.
 fn side_in(found: &ArgMatches<'_>) -> u8
-    ensures { result ≡ number_in 0 255 0 (codes "SIDE") (rows_of (found_of found.now)) }
+    ensures { result ≡ side_in (rows_of (found_of found.now)) }
 {
-    number_in(found, "SIDE", 0, 255, 0) as u8
+    number_in(found, "SIDE", 0, u64::from(u8::MAX), 0) as u8
 }
 
 /// The tile mask that these matches of the command name.
 fn mask_in(found: &ArgMatches<'_>) -> u32
-    ensures { result ≡ number_in 0 4294967295 0 (codes "MASK") (rows_of (found_of found.now)) }
+    ensures { result ≡ mask_in (rows_of (found_of found.now)) }
 {
-    number_in(found, "MASK", 0, 4_294_967_295, 0) as u32
+    number_in(found, "MASK", 0, u64::from(u32::MAX), 0) as u32
 }
 
 /// What these matches of the command ask for.

@@ -1,12 +1,14 @@
 //! The flag `--workers N`.
 
-ghost use Rattle.std.specs.Prelude.{◌≡◌, ◌≤◌, IfOk, false};
+ghost use Rattle.std.specs.Prelude.{◌≡◌, IfOk, false};
 ghost use Rattle.clap.specs.Words.{app_of, found_of, rows_of, rule_of, with_rule};
 ghost use Rattle.clap.specs.declared.Command.TheViews.{out-Command};
+ghost use Rattle.book_core.specs.Books.{AreWorkers};
 ghost use Rattle.pdb_words.specs.Workers.{workers_flag, workers_in};
 
 use crate::commands::with_argument;
 use crate::numbers::{number_flag, number_in};
+use book_core::MOST_WORKERS;
 use clap::{Arg, ArgMatches, Command, value_parser};
 use std::alloc::{AllocError, Global};
 
@@ -15,7 +17,7 @@ fn workers_flag<'a>(alloc: Global) -> Arg<'a>
     ensures rule { rule_of result ≡ workers_flag }
     ensures local { result.global ≡ false }
 {
-    let parser = value_parser!(u8).range(1..=64);
+    let parser = value_parser!(u8).range(1..=i64::from(MOST_WORKERS));
     number_flag(alloc, "workers", parser, "1").help("How many workers share the check, 1 to 64")
 }
 
@@ -33,7 +35,7 @@ pub(crate) fn with_workers<'a>(
 /// How many workers these matches of a command ask for.
 pub(crate) fn workers_in(found: &ArgMatches<'_>) -> u8
     ensures asked { result ≡ workers_in (rows_of (found_of found.now)) }
-    ensures within { (1 ≤ result) × (result ≤ 64) }
+    ensures within { AreWorkers result }
 {
-    number_in(found, "workers", 1, 64, 1) as u8
+    number_in(found, "workers", 1, u64::from(MOST_WORKERS), 1) as u8
 }

@@ -11,8 +11,9 @@ use Rattle.clap.specs.declared.error.kind.ErrorKind.TheVariants as kind
 use Rattle.clap.specs.declared.error.kind.ErrorKind.{ErrorKind}
 use Rattle.clap.proofs.FaultLemmas.{past}
 use Rattle.clap.proofs.OnLiterals.{clap_on_literals}
-use Rattle.pdb_words.specs.Asked.{Asked, bound, optimal, solve}
-use Rattle.pdb_words.specs.Budget.{budget_of, writes_budget}
+use Rattle.book_core.specs.Books.{most_workers}
+use Rattle.pdb_words.specs.Asked.{Asked, bound, most_budget, optimal, solve}
+use Rattle.pdb_words.specs.Budget.{budget_of, usual_budget, writes_budget}
 use Rattle.pdb_words.specs.CommandLine.{AreNames, AsksFor, IsCommand, IsPlain, Parses, asked_by, asked_of}
 use Rattle.pdb_words.specs.Faults.{IsMistaken}
 use Rattle.pdb_words.specs.Numbers.{number_of}
@@ -39,8 +40,8 @@ workers_before (budget number) = 1
 workers_before (both number other) = workers_of number
 
 abbrev pub budget_before : Flags → ℕ
-budget_before none = 1000000
-budget_before (workers number) = 1000000
+budget_before none = usual_budget
+budget_before (workers number) = usual_budget
 budget_before (budget number) = budget_of number
 budget_before (both number other) = budget_of other
 
@@ -99,13 +100,13 @@ budget_taken on_search known number taken = taken
 
 -- what the words ask for, with this number for the flag
 abbrev pub asks_flag : LogCommand → Text → Text → Text → List Text → Flag → ℕ → Asked
-asks_flag command claim sets log tables of_workers n = asks command claim sets log tables n 1000000
+asks_flag command claim sets log tables of_workers n = asks command claim sets log tables n usual_budget
 asks_flag command claim sets log tables of_budget n = asks command claim sets log tables 1 n
 
 flag_counts : (command : LogCommand) (claim sets log : Text) (tables : List Text) (flag : Flag) (number : Text) → writes_as flag number ≡ true
     → asks command claim sets log tables (workers_before (flags_of flag number)) (budget_before (flags_of flag number)) ≡ asks_flag command claim sets log tables flag (number_of number)
-flag_counts command claim sets log tables of_workers number writes = ap (λ (n : ℕ). asks command claim sets log tables n 1000000) (number_asked 1 64 1 number writes)
-flag_counts command claim sets log tables of_budget number writes = ap (asks command claim sets log tables 1) (number_asked 1 1000000000000 1000000 number writes)
+flag_counts command claim sets log tables of_workers number writes = ap (λ (n : ℕ). asks command claim sets log tables n usual_budget) (number_asked 1 most_workers 1 number writes)
+flag_counts command claim sets log tables of_budget number writes = ap (asks command claim sets log tables 1) (number_asked 1 most_budget usual_budget number writes)
 
 -- ---- at the end of the words
 
@@ -287,7 +288,7 @@ module _ (command : LogCommand) (claim sets log table : Text) (tables : List Tex
       passes = parses command words (level_ends (shape_of command) words _ (files_pass command claim sets log table tables names flags taken []) whole
           (end_pass claim sets log table tables room command flags taken))
 
-  files_asked : AsksFor (name_of command ∷ claim ∷ sets ∷ log ∷ table ∷ tables) (asks command claim sets log (table ∷ tables) 1 1000000)
+  files_asked : AsksFor (name_of command ∷ claim ∷ sets ∷ log ∷ table ∷ tables) (asks command claim sets log (table ∷ tables) 1 usual_budget)
   files_asked = asks_for none tt
 
   module _ (flag : Flag) (known : IsKnown command flag) (number : Text) (n : IsPlain number) where
@@ -335,7 +336,7 @@ module _ (command : LogCommand) (claim sets log table : Text) (tables : List Tex
       let taken : IsTaken command (both number other) = subst (λ (c : LogCommand). IsTaken c (both number other)) (sym is)
       ((has_no_dash number n, accepted_is number n ∙ writes), (has_no_dash other m, accepted_budget_is other ∙ writes_other)) in
       let whole = asks_for (both number other) taken in
-      (whole.0, whole.1 ∙ ap₂ (asks command claim sets log (table ∷ tables)) (number_asked 1 64 1 number writes) (number_asked 1 1000000000000 1000000 other writes_other))
+      (whole.0, whole.1 ∙ ap₂ (asks command claim sets log (table ∷ tables)) (number_asked 1 most_workers 1 number writes) (number_asked 1 most_budget usual_budget other writes_other))
 
 no_tables : (command : LogCommand) (claim sets log : Text) → IsPlain claim → IsPlain sets → IsPlain log → IsMistaken (name_of command ∷ claim ∷ sets ∷ log ∷ [])
 no_tables command claim sets log f t l =
@@ -346,7 +347,7 @@ takes_workers on_board = tt
 takes_workers on_puzzle = tt
 takes_workers on_search = tt
 
-pub names_log : (command : LogCommand) → NamesLog (name_of command) (λ claim sets log tables n. asks command claim sets log tables n 1000000)
+pub names_log : (command : LogCommand) → NamesLog (name_of command) (λ claim sets log tables n. asks command claim sets log tables n usual_budget)
 names_log command = record {
   files = λ claim sets log table tables names. files_asked command claim sets log table tables names;
   no_tables = no_tables command;

@@ -16,7 +16,7 @@ use Rattle.clap.specs.declared.error.kind.ErrorKind.TheVariants as kind
 use Rattle.clap.specs.declared.parser.matches.ValueSource.TheVariants.{CommandLine}
 use Rattle.pdb_words.specs.Asked.{Asked, make_table}
 use Rattle.pdb_words.specs.CommandLine.{IsCommand, asked_by, asked_of, faults_of}
-use Rattle.pdb_words.specs.MakeTable.{needed_mask, needed_side}
+use Rattle.pdb_words.specs.MakeTable.{most_mask, most_side, needed_mask, needed_side}
 use Rattle.pdb_words.specs.Numbers.{number_within}
 use Rattle.pdb_words.specs.Workers.{workers_of}
 use Rattle.pdb_words.proofs.CommandLemmas.{asked_behind, faults_behind, leaf, start}
@@ -34,10 +34,10 @@ is_command = inr (inr (inr (inr (inl refl))))
 
 -- `clap` takes the text as a side, or as a tile mask
 abbrev pub accepted_side : Text → Bool
-accepted_side text = accepts false (parser.Signed (pos 0) (pos 255)) text
+accepted_side text = accepts false (parser.Signed (pos 0) (pos most_side)) text
 
 abbrev pub accepted_mask : Text → Bool
-accepted_mask text = accepts false (parser.Signed (pos 0) (pos 4294967295)) text
+accepted_mask text = accepts false (parser.Signed (pos 0) (pos most_mask)) text
 
 -- what is wrong with the words behind the command's name
 abbrev pub wrong : List Text → Kinds
@@ -189,7 +189,7 @@ module _ (side mask out : Text) where
   out_ends (flag number) = refl
 
   abbrev made : ℕ → Asked
-  made workers = make_table (number_within 0 255 0 side) (number_within 0 4294967295 0 mask) out workers
+  made workers = make_table (number_within 0 most_side 0 side) (number_within 0 most_mask 0 mask) out workers
 
   out_asks : HasNoDash side → HasNoDash mask → (first : First) → IsRead first → asked_by (codes "make-table") (finished shape.rules (at_out first side mask out).held) ≡ made (workers_at first)
   out_asks s m nothing read = simp (s.no_dash, m.no_dash)

@@ -2,7 +2,7 @@
 
 ghost use Rattle.std.specs.Prelude.{◌≡◌, ◌∷◌, ◌++◌, [], ℕ, List, codes, false, true};
 ghost use Rattle.pdb_words.specs.Asked.{make_table, solve};
-ghost use Rattle.pdb_words.specs.Budget.{writes_budget};
+ghost use Rattle.pdb_words.specs.Budget.{usual_budget, writes_budget};
 ghost use Rattle.pdb_words.specs.CommandLine.{AreNames, AsksFor, IsPlain};
 ghost use Rattle.pdb_words.specs.Faults.{IsMistaken};
 ghost use Rattle.pdb_words.specs.MakeTable.{writes_mask, writes_side};
@@ -40,7 +40,7 @@ pub fn what_make_table_asks()
 /// solution of the board: the tables in their order, one worker, or as many as `--workers` says, and 1,000,000 boards,
 /// or as many as `--budget` says, first or last.
 pub fn what_solve_asks()
-    ensures workers { NamesLog (codes "solve") (λ board sets out tables workers. solve board sets out tables workers 1000000) }
+    ensures workers { NamesLog (codes "solve") (λ board sets out tables workers. solve board sets out tables workers usual_budget) }
     ensures budget { (number board sets out table : List ℕ) (tables : List (List ℕ)) → IsPlain number → AreNames (board ∷ sets ∷ out ∷ table ∷ tables)
         → writes_budget number ≡ true
         → AsksFor (codes "solve" ∷ codes "--budget" ∷ number ∷ board ∷ sets ∷ out ∷ table ∷ tables)

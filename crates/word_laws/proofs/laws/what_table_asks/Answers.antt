@@ -3,6 +3,7 @@ use Rattle.std.specs.Prelude.{if◌then◌else◌}
 use Rattle.clap.proofs.OnLiterals.{clap_on_literals}
 use Rattle.clap.specs.Walk.{Text}
 use Rattle.clap.specs.declared.error.kind.ErrorKind.TheVariants as kind
+use Rattle.book_core.specs.Books.{most_workers}
 use Rattle.pdb_words.specs.Asked.{table}
 use Rattle.pdb_words.specs.CommandLine.{asked_of, faults_of}
 use Rattle.pdb_words.specs.Workers.{workers_of}
@@ -52,13 +53,13 @@ returns c = record {
   alone = mistaken _ kind.MissingRequiredArgument [] alone_faults (λ e. cc);
   workers = λ number name n f writes. (
     workers_faults name (has_no_dash name f) number (has_no_dash number n) true (accepted_is number n ∙ writes),
-    workers_asked name (has_no_dash name f) number (has_no_dash number n) ∙ ap (table name) (number_asked 1 64 1 number writes),
+    workers_asked name (has_no_dash name f) number (has_no_dash number n) ∙ ap (table name) (number_asked 1 most_workers 1 number writes),
   );
   other_workers = λ number name n f writes.
       mistaken _ kind.ValueValidation [] (workers_faults name (has_no_dash name f) number (has_no_dash number n) false (accepted_is number n ∙ writes)) (λ e. cc);
   workers_last = λ number name n f writes. (
     last_faults name (has_no_dash name f) number (has_no_dash number n) true (accepted_is number n ∙ writes),
-    last_asked name (has_no_dash name f) number (has_no_dash number n) ∙ ap (table name) (number_asked 1 64 1 number writes),
+    last_asked name (has_no_dash name f) number (has_no_dash number n) ∙ ap (table name) (number_asked 1 most_workers 1 number writes),
   );
   other_workers_last = λ number name n f writes.
       mistaken _ kind.ValueValidation [] (last_faults name (has_no_dash name f) number (has_no_dash number n) false (accepted_is number n ∙ writes)) (λ e. cc);

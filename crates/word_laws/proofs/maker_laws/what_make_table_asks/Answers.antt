@@ -1,10 +1,11 @@
 use Rattle.std.proofs.Common.{◌≡◌, ◌∙◌, ◌∷◌, [], refl, sym, ap, arith, Bool, List, codes, false, true, ℕ}
 use Rattle.clap.specs.Walk.{Text}
 use Rattle.clap.specs.declared.error.kind.ErrorKind.TheVariants as kind
+use Rattle.book_core.specs.Books.{most_workers}
 use Rattle.pdb_words.specs.Asked.{make_table}
 use Rattle.pdb_words.specs.CommandLine.{AsksFor, IsPlain}
 use Rattle.pdb_words.specs.Faults.{IsMistaken}
-use Rattle.pdb_words.specs.MakeTable.{writes_mask, writes_side}
+use Rattle.pdb_words.specs.MakeTable.{most_mask, most_side, writes_mask, writes_side}
 use Rattle.pdb_words.specs.Numbers.{number_of, number_within}
 use Rattle.pdb_words.specs.Workers.{workers_of, writes_workers}
 use Rattle.pdb_words.proofs.KindLemmas.{mistaken}
@@ -18,15 +19,15 @@ is_mistaken : (words : List Text) → wrong words ≡ kind.ValueValidation ∷ [
 is_mistaken words e = mistaken _ kind.ValueValidation [] (faults_are words _ e) (λ e. cc)
 
 side_is : (side : Text) → IsPlain side → accepted_side side ≡ writes_side side
-side_is side plain = signed_accepted 0 255 side (omega arith) plain
+side_is side plain = signed_accepted 0 most_side side (omega arith) plain
 
 mask_is : (mask : Text) → IsPlain mask → accepted_mask mask ≡ writes_mask mask
-mask_is mask plain = signed_accepted 0 4294967295 mask (omega arith) plain
+mask_is mask plain = signed_accepted 0 most_mask mask (omega arith) plain
 
 -- numbers that are taken, for what they write
 numbers_are : (side mask out : Text) (workers : ℕ) → writes_side side ≡ true → writes_mask mask ≡ true
-    → make_table (number_within 0 255 0 side) (number_within 0 4294967295 0 mask) out workers ≡ make_table (number_of side) (number_of mask) out workers
-numbers_are side mask out workers e f = rw (number_asked 0 255 0 side e, number_asked 0 4294967295 0 mask f) refl
+    → make_table (number_within 0 most_side 0 side) (number_within 0 most_mask 0 mask) out workers ≡ make_table (number_of side) (number_of mask) out workers
+numbers_are side mask out workers e f = rw (number_asked 0 most_side 0 side e, number_asked 0 most_mask 0 mask f) refl
 
 module _ (side mask : Text) (s : IsPlain side) (m : IsPlain mask) where
   a : HasNoDash side
@@ -77,7 +78,7 @@ module _ (side mask : Text) (s : IsPlain side) (m : IsPlain mask) where
           → AsksFor (codes "make-table" ∷ codes "--workers" ∷ number ∷ side ∷ mask ∷ out ∷ []) (make_table (number_of side) (number_of mask) out (number_of number))
       workers g e f = (
         faults_are (codes "--workers" ∷ number ∷ side ∷ mask ∷ out ∷ []) [] (whole_wrong side mask a b out d (flag number) w (accepted_is number n ∙ g) (side_is side s ∙ e) (mask_is mask m ∙ f)),
-        whole_asked side mask a b out d (flag number) w ∙ numbers_are side mask out (workers_of number) e f ∙ ap (make_table (number_of side) (number_of mask) out) (number_asked 1 64 1 number g),
+        whole_asked side mask a b out d (flag number) w ∙ numbers_are side mask out (workers_of number) e f ∙ ap (make_table (number_of side) (number_of mask) out) (number_asked 1 most_workers 1 number g),
       )
 
       other_workers : writes_workers number ≡ false → IsMistaken (codes "make-table" ∷ codes "--workers" ∷ number ∷ side ∷ mask ∷ out ∷ [])
@@ -87,7 +88,7 @@ module _ (side mask : Text) (s : IsPlain side) (m : IsPlain mask) where
           → AsksFor (codes "make-table" ∷ side ∷ mask ∷ out ∷ codes "--workers" ∷ number ∷ []) (make_table (number_of side) (number_of mask) out (number_of number))
       workers_last g e f = (
         faults_are (side ∷ mask ∷ out ∷ codes "--workers" ∷ number ∷ []) [] (last_wrong side mask a b out d number w (side_is side s ∙ e) (mask_is mask m ∙ f) true (accepted_is number n ∙ g)),
-        last_asked side mask a b out d number w ∙ numbers_are side mask out (workers_of number) e f ∙ ap (make_table (number_of side) (number_of mask) out) (number_asked 1 64 1 number g),
+        last_asked side mask a b out d number w ∙ numbers_are side mask out (workers_of number) e f ∙ ap (make_table (number_of side) (number_of mask) out) (number_asked 1 most_workers 1 number g),
       )
 
       other_workers_last : writes_workers number ≡ false → IsMistaken (codes "make-table" ∷ side ∷ mask ∷ out ∷ codes "--workers" ∷ number ∷ [])
