@@ -152,9 +152,21 @@ fn memory_that_is_refused_leaves_what_was_there(rt: HostRuntime) -> Result<(), F
     assert!(rt; &bytes[..count] == want && !disk.failed());
     assert!(rt; !fs::exists(&rt, "memory_test.unkept")?);
     fs::remove_file(&rt, "memory_test")?;
-    let mut shelf = MemShelf::of(alloc, &[("a", OLD)])?;
+    Ok(())
+}
+
+#[test]
+fn memory_that_is_refused_leaves_a_shelf_over_memory(rt: HostRuntime) -> Result<(), Fail> {
+    let alloc = rt.alloc();
+    let mut shelf = MemShelf::of(alloc, &[("a", OLD), ("b", OLD)])?;
     let want = left(shelf.keep(alloc, "a", NEW));
-    assert!(rt; shelf.get("a") == Some(want) && !shelf.failed());
+    assert!(rt; shelf.get("a") == Some(want) && shelf.get("b") == Some(OLD));
+    match shelf.keep(alloc, "c", NEW) {
+        Ok(()) => assert!(rt; shelf.get("c") == Some(NEW)),
+        Err(why) => assert!(rt; why == KeepFault::Memory && shelf.get("c").is_none()),
+    }
+    assert!(rt; shelf.get("a") == Some(want) && shelf.get("b") == Some(OLD));
+    assert!(rt; !shelf.failed());
     Ok(())
 }
 

@@ -17,6 +17,3 @@ pub use inputs::{Input, Unread, load_all};
 pub use runs::{conclude, keep_and_conclude, read_inputs, say_no_memory};
 pub use statuses::Status;
 pub use writing::{say, say_digests};
-
-#[cfg(test)]
-mod tests;

@@ -1,0 +1,97 @@
+//! What a run says: how often it writes, and that digests come at all.
+
+use crate::sha256;
+use pdb_io::streams::WriteFault;
+use pdb_run::{Answer, beside, lines, say, say_digests};
+use sample_streams::{Failing, SampleWriter};
+use std::alloc::{AllocError, Global};
+use std::io::ErrorKind;
+use std::test::Fail;
+
+/// So many empty files.
+fn empty_files(alloc: Global, count: usize) -> Result<Vec<Vec<u8>>, AllocError> {
+    let mut files = Vec::new(alloc);
+    for _ in 0..count {
+        files.push(Vec::new(alloc))?;
+    }
+    Ok(files)
+}
+
+/// A writer that takes all that it is given so often, and then fails.
+fn taking(alloc: Global, writes: u64) -> SampleWriter {
+    SampleWriter::new(alloc).failing(writes, u64::MAX, Failing::ByError(ErrorKind::Other))
+}
+
+#[test]
+fn an_answer_is_one_write(rt: HostRuntime) -> Result<(), Fail> {
+    let alloc = rt.alloc();
+    let files = empty_files(alloc, 16)?;
+    let mut out = taking(alloc, 1);
+    let answer = Answer {
+        files: files.as_slice(),
+        last: Some(b"abc"),
+        digests: None,
+        made: None,
+        made_digest: None,
+        lines: lines(&["bound ", "6", "\n"]),
+        is_yes: true,
+    };
+    assert!(rt; say(&answer, &mut out).is_ok());
+    assert_eq!(rt; out.calls(), 1);
+    assert_eq!(rt; out.taken().len(), 17 * 72 + 8);
+    assert!(rt; out.taken().starts_with(sha256::OF_NOTHING));
+    assert!(rt; out.taken()[16 * 72..].starts_with(sha256::OF_ABC));
+    assert!(rt; out.taken().ends_with(b"\nbound 6\n"));
+    Ok(())
+}
+
+#[test]
+fn more_than_a_page_is_written_whole(rt: HostRuntime) -> Result<(), Fail> {
+    let alloc = rt.alloc();
+    let files = empty_files(alloc, 120)?;
+    let mut out = taking(alloc, 3);
+    assert!(rt; say_digests(files.as_slice(), None, &mut out).is_ok());
+    assert_eq!(rt; out.calls(), 3);
+    assert_eq!(rt; out.taken().len(), 120 * 72);
+    for line in out.taken().chunks(72) {
+        assert!(rt; line == sha256::OF_NOTHING);
+    }
+    let mut out = taking(alloc, 2);
+    assert!(rt; say_digests(files.as_slice(), None, &mut out) == Err(WriteFault::F3));
+    assert_eq!(rt; out.taken().len(), 8_192);
+    Ok(())
+}
+
+/// So many files, no two neighbours the same, and their digest lines.
+fn known_files(alloc: Global, count: usize) -> Result<(Vec<Vec<u8>>, Vec<u8>), AllocError> {
+    let known: [(&[u8], &[u8]); 3] = [
+        (b"abc", sha256::OF_ABC),
+        (sha256::LETTERS, sha256::OF_LETTERS),
+        (b"", sha256::OF_NOTHING),
+    ];
+    let mut files = Vec::new(alloc);
+    let mut digests = Vec::new(alloc);
+    for (file, line) in known.iter().cycle().take(count) {
+        files.push(file.to_vec(alloc)?)?;
+        digests.extend_from_slice(line)?;
+    }
+    Ok((files, digests))
+}
+
+#[test]
+fn digests_are_made_beside_a_check(rt: HostRuntime) -> Result<(), Fail> {
+    let alloc = rt.alloc();
+    for count in [0usize, 1, 2, 3, 5, 16, 17, 40] {
+        let (files, mut want) = known_files(alloc, count)?;
+        want.extend_from_slice(sha256::OF_NOTHING)?;
+        for workers in [1u8, 2, 3, 7, 64] {
+            let (digests, answer) = beside(&rt, workers, files.as_slice(), Some(b""), || 6u8);
+            assert_eq!(rt; answer, 6);
+            match digests {
+                Some(digests) => assert!(rt; digests.as_slice() == want.as_slice()),
+                None => assert!(rt; workers == 1 || count > 16),
+            }
+        }
+    }
+    Ok(())
+}

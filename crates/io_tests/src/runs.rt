@@ -1,0 +1,233 @@
+//! A run's beginning and its end: that inputs are read, what is said where one isn't, and what is kept.
+
+use crate::sha256;
+use pdb_io::memory::MemShelf;
+use pdb_io::shelf::Shelf;
+use pdb_io::streams::ReadFault;
+use pdb_run::{Answer, Command, Input, Status, keep_and_conclude, lines, load_all, read_inputs};
+use sample_streams::{Failing, FailingShelf, SampleReader, SampleWriter, ShelfFault};
+use std::alloc::{AllocError, Global};
+use std::io::{ErrorKind, Write};
+use std::test::Fail;
+
+/// A command that wants one input of at most four bytes.
+#[derive(Clone, Copy)]
+struct WantsOne<'a> {
+    name: Option<&'a str>,
+}
+
+impl Command for WantsOne<'_> {
+    ghost use Rattle.std.specs.Prelude.{[], ◌∷◌, option_map};
+
+    ghost wanted = { λ command. record { name = option_map (λ s. s.now) command.name; limit = 4 } ∷ [] };
+
+    ghost MayReply = { λ _ _ _. ⊥ };
+
+    ghost TakesMemory = { λ _ _. ⊥ };
+
+    fn inputs(&self, alloc: Global) -> Result<Vec<Input<'_>>, AllocError> {
+        let mut inputs = Vec::new(alloc);
+        inputs.push(Input {
+            name: self.name,
+            limit: 4,
+        })?;
+        Ok(inputs)
+    }
+}
+
+#[test]
+fn a_name_is_shown_without_its_control_characters(rt: HostRuntime) -> Result<(), Fail> {
+    let alloc = rt.alloc();
+    let mut shelf = MemShelf::of(alloc, &[("big\u{1b}[2J", b"12345")])?;
+    let cases: [(Option<&str>, &[u8]); 5] = [
+        (None, b"fault read -\n"),
+        (Some("x\nsolution 80"), b"fault read x?solution 80\n"),
+        (Some("a b\u{7f}\u{e9}~"), b"fault read a b?\xc3\xa9~\n"),
+        (Some("big\u{1b}[2J"), b"fault size big?[2J\n"),
+        (Some(""), b"fault read \n"),
+    ];
+    for (name, line) in cases {
+        let mut reader = SampleReader::new(b"").failing(0, u64::MAX, ErrorKind::Other);
+        let mut out = SampleWriter::new(alloc);
+        let ended = read_inputs(alloc, &WantsOne { name }, &mut shelf, &mut reader, &mut out);
+        assert!(rt; ended.err() == Some(Status::Fault));
+        assert_eq!(rt; out.calls(), 1);
+        assert!(rt; out.taken() == line);
+    }
+    Ok(())
+}
+
+#[test]
+fn an_input_is_read_whole(rt: HostRuntime) -> Result<(), Fail> {
+    let alloc = rt.alloc();
+    let mut shelf = MemShelf::of(alloc, &[("four", b"1234")])?;
+    let mut reader = b"abc".as_slice();
+    for (name, bytes) in [(Some("four"), b"1234".as_slice()), (None, b"abc")] {
+        let mut out = SampleWriter::new(alloc);
+        let inputs = read_inputs(alloc, &WantsOne { name }, &mut shelf, &mut reader, &mut out);
+        let inputs = inputs.ok().unwrap_or(Vec::new(alloc));
+        assert_eq!(rt; inputs.len(), 1);
+        assert!(rt; inputs[0].as_slice() == bytes);
+        assert_eq!(rt; out.calls(), 0);
+    }
+    Ok(())
+}
+
+/// Names, and the bytes under each.
+const FILES: [(&str, &[u8]); 3] = [("a", b"first"), ("b", b""), ("c", b"last")];
+
+/// Whether a shelf has just the bytes of `FILES` under their names.
+fn has_its_files(shelf: &FailingShelf) -> bool {
+    FILES
+        .iter()
+        .all(|(name, bytes)| shelf.files().get(name) == Some(*bytes))
+}
+
+#[test]
+fn the_first_input_that_is_not_read_is_named(rt: HostRuntime) -> Result<(), Fail> {
+    let alloc = rt.alloc();
+    let wanted = FILES.map(|(name, _)| Input {
+        name: Some(name),
+        limit: 5,
+    });
+    for (call, (name, _)) in (0..).zip(FILES) {
+        for (fault, why) in [
+            (ShelfFault::Device, ReadFault::F1),
+            (ShelfFault::Size, ReadFault::F2),
+            (ShelfFault::Memory, ReadFault::Memory),
+        ] {
+            let mut shelf = FailingShelf::new(MemShelf::of(alloc, &FILES)?, call, fault);
+            let mut reader = b"".as_slice();
+            let loaded = load_all(alloc, &wanted, &mut shelf, &mut reader);
+            let unread = loaded.err().ok_or("an input is not read")?;
+            assert!(rt; unread.input.name == Some(name) && unread.why == why);
+            assert_eq!(rt; shelf.calls(), call + 1);
+            assert_eq!(rt; shelf.failed(), why == ReadFault::F1);
+            assert!(rt; has_its_files(&shelf));
+        }
+    }
+    Ok(())
+}
+
+/// A command that reads nothing, and keeps what it makes under this name.
+#[derive(Clone, Copy)]
+struct Makes<'a> {
+    out: &'a str,
+}
+
+impl Command for Makes<'_> {
+    ghost use Rattle.std.specs.Prelude.{⊤, [], Some};
+
+    ghost wanted = { λ _. [] };
+
+    ghost keeps_under = { λ command. Some command.out.now };
+
+    ghost MayReply = { λ _ _ _. ⊤ };
+
+    ghost TakesMemory = { λ _ _. ⊤ };
+
+    fn inputs(&self, alloc: Global) -> Result<Vec<Input<'_>>, AllocError> {
+        Ok(Vec::new(alloc))
+    }
+}
+
+/// Its answer where it made `abc`.
+fn makes_abc<'i>(alloc: Global, is_yes: bool) -> Result<Answer<'i>, AllocError> {
+    Ok(Answer {
+        files: &[],
+        last: Some(b""),
+        digests: None,
+        made: Some(b"abc".to_vec(alloc)?),
+        made_digest: None,
+        lines: if is_yes {
+            lines(&["exact\n"])
+        } else {
+            lines(&["refused T7\n"])
+        },
+        is_yes,
+    })
+}
+
+/// The end of its run.
+fn conclude_making<S: Shelf, W: Write>(
+    alloc: Global,
+    out_name: &str,
+    answer: &Result<Answer<'_>, AllocError>,
+    shelf: &mut S,
+    out: &mut W,
+) -> Status {
+    let command = Makes { out: out_name };
+    keep_and_conclude(alloc, &command, &[], answer, out_name, shelf, out)
+}
+
+#[test]
+fn a_file_that_was_made_is_kept_after_a_yes(rt: HostRuntime) -> Result<(), Fail> {
+    let alloc = rt.alloc();
+    let mut shelf = MemShelf::of(alloc, &[("o", b"old"), ("p", b"other")])?;
+    let mut out = SampleWriter::new(alloc);
+    let status = conclude_making(alloc, "o", &makes_abc(alloc, true), &mut shelf, &mut out);
+    assert_eq!(rt; status, Status::Yes);
+    assert!(rt; shelf.get("o") == Some(b"abc".as_slice()));
+    assert!(rt; shelf.get("p") == Some(b"other".as_slice()));
+    assert_eq!(rt; out.calls(), 1);
+    assert!(rt; out.taken().starts_with(sha256::OF_NOTHING));
+    assert!(rt; out.taken()[72..].starts_with(sha256::OF_ABC));
+    assert!(rt; &out.taken()[144..] == b"exact\n".as_slice());
+    Ok(())
+}
+
+#[test]
+fn a_file_is_kept_before_any_line(rt: HostRuntime) -> Result<(), Fail> {
+    let alloc = rt.alloc();
+    let mut shelf = MemShelf::of(alloc, &[])?;
+    let mut out = SampleWriter::new(alloc).failing(0, u64::MAX, Failing::ByTakingNothing);
+    let status = conclude_making(alloc, "o", &makes_abc(alloc, true), &mut shelf, &mut out);
+    assert_eq!(rt; status, Status::Fault);
+    assert!(rt; out.taken().is_empty());
+    assert!(rt; shelf.get("o") == Some(b"abc".as_slice()));
+    Ok(())
+}
+
+#[test]
+fn nothing_is_kept_after_a_no_or_without_memory(rt: HostRuntime) -> Result<(), Fail> {
+    let alloc = rt.alloc();
+    let mut shelf = MemShelf::of(alloc, &[("o", b"old")])?;
+    let mut out = SampleWriter::new(alloc);
+    let status = conclude_making(alloc, "o", &makes_abc(alloc, false), &mut shelf, &mut out);
+    assert_eq!(rt; status, Status::Refused);
+    assert!(rt; out.taken().starts_with(sha256::OF_NOTHING));
+    assert!(rt; out.taken()[72..].starts_with(sha256::OF_ABC));
+    assert!(rt; &out.taken()[144..] == b"refused T7\n".as_slice());
+    let mut out = SampleWriter::new(alloc);
+    let status = conclude_making(alloc, "o", &Err(AllocError), &mut shelf, &mut out);
+    assert_eq!(rt; status, Status::NoMemory);
+    assert!(rt; out.taken() == b"no memory\n".as_slice());
+    assert!(rt; shelf.get("o") == Some(b"old".as_slice()));
+    Ok(())
+}
+
+#[test]
+fn a_keep_that_fails_is_said_alone(rt: HostRuntime) -> Result<(), Fail> {
+    let alloc = rt.alloc();
+    let cases: [(ShelfFault, &str, &[u8], Status); 3] = [
+        (ShelfFault::Device, "a", b"fault write a\n", Status::Fault),
+        (
+            ShelfFault::Device,
+            "a b\n",
+            b"fault write a b?\n",
+            Status::Fault,
+        ),
+        (ShelfFault::Memory, "a", b"no memory\n", Status::NoMemory),
+    ];
+    for (why, name, line, want) in cases {
+        let mut shelf = FailingShelf::new(MemShelf::of(alloc, &FILES)?, 0, why);
+        let mut out = SampleWriter::new(alloc);
+        let status = conclude_making(alloc, name, &makes_abc(alloc, true), &mut shelf, &mut out);
+        assert_eq!(rt; status, want);
+        assert_eq!(rt; out.calls(), 1);
+        assert!(rt; out.taken() == line);
+        assert!(rt; has_its_files(&shelf) && shelf.files().get("a b\n").is_none());
+        assert_eq!(rt; (shelf.calls(), shelf.failed()), (1, want == Status::Fault));
+    }
+    Ok(())
+}
