@@ -1,29 +1,15 @@
 use crate::{FormFault, LogView, ViewFault};
 use puz_board::Board;
+use samples::files::with_byte;
+use samples::logs::{CITATION, LEAF};
 use std::alloc::{AllocError, Global};
-use std::process::Abort;
 use std::test::Fail;
-
-/// One lemma: the board `3 2 1 0`, bound 6, and a leaf.
-const ONE_LEAF: [u8; 20] = *b"PDBL\x01\x02\0\0\0\x01\x03\x02\x01\0\x06\0\0\0\x01\x01";
-
-/// Two lemmas: the board `3 0 1 2`, bound 5, with 6 bytes of a tree, and `3 2 1 0`, bound 6, with 11.
-const TWO_LEMMAS: [u8; 45] = *b"PDBL\x01\x02\0\0\0\x02\
-\x03\0\x01\x02\x05\0\0\0\x06\0\x01\0\0\0\x01\
-\x03\x02\x01\0\x06\0\0\0\x0B\0\x20\0\0\0\0\0\0\0\0\x01";
 
 fn refused(alloc: Global, file: &[u8]) -> Option<FormFault> {
     match LogView::read(alloc, file) {
         Err(ViewFault::Refused(fault)) => Some(fault),
         _ => None,
     }
-}
-
-fn with_byte<const N: usize>(rt: &impl Abort, file: &[u8; N], place: usize, byte: u8) -> [u8; N] {
-    let mut changed = *file;
-    assert!(rt; place < N);
-    changed[place] = byte;
-    changed
 }
 
 /// A file of so many lemmas, each of six bytes of which one is a tree's: the goal board of side 2, bound 0, a leaf.
@@ -39,7 +25,7 @@ fn many(alloc: Global, count: u32) -> Result<Vec<u8>, AllocError> {
 
 #[test]
 fn lemmas_are_read_in_their_order(rt: HostRuntime) {
-    let log = LogView::read(rt.alloc(), &TWO_LEMMAS)
+    let log = LogView::read(rt.alloc(), &CITATION)
         .ok()
         .expect(&rt, "a log");
     assert_eq!(rt; log.side().get(), 2);
@@ -61,16 +47,16 @@ fn headers_are_refused(rt: HostRuntime) {
     let alloc = rt.alloc();
     let changes: [(usize, u8); 7] = [(0, 0x51), (3, 0x54), (4, 2), (5, 1), (5, 6), (9, 0), (6, 1)];
     for (place, byte) in changes {
-        let file = with_byte(&rt, &ONE_LEAF, place, byte);
+        let file = with_byte(&LEAF, place, byte);
         assert_eq!(rt; refused(alloc, &file), Some(FormFault::L1), "byte {place}");
     }
-    let most = with_byte(&rt, &with_byte(&rt, &ONE_LEAF, 7, 0x10), 9, 0);
+    let most = with_byte(&with_byte(&LEAF, 7, 0x10), 9, 0);
     assert_eq!(rt;
         refused(alloc, &most),
         Some(FormFault::L2(1)),
         "1,048,576 lemmas"
     );
-    let above = with_byte(&rt, &most, 9, 1);
+    let above = with_byte(&most, 9, 1);
     assert_eq!(rt;
         refused(alloc, &above),
         Some(FormFault::L1),
@@ -87,32 +73,28 @@ fn lemmas_that_are_cut_short_are_refused(rt: HostRuntime) {
             10..25 => FormFault::L2(0),
             _ => FormFault::L2(1),
         };
-        assert_eq!(rt;
-            refused(alloc, &TWO_LEMMAS[..len]),
-            Some(want),
-            "{len} bytes"
-        );
+        assert_eq!(rt; refused(alloc, &CITATION[..len]), Some(want), "{len} bytes");
     }
-    let two = with_byte(&rt, &ONE_LEAF, 9, 2);
+    let two = with_byte(&LEAF, 9, 2);
     assert_eq!(rt;
         refused(alloc, &two),
         Some(FormFault::L2(1)),
         "one lemma of two"
     );
-    let endless = with_byte(&rt, &ONE_LEAF, 15, 0xFF);
+    let endless = with_byte(&LEAF, 15, 0xFF);
     assert_eq!(rt;
         refused(alloc, &endless),
         Some(FormFault::L2(0)),
         "a longer tree"
     );
-    let mut longest = ONE_LEAF;
+    let mut longest = LEAF;
     longest[15..19].fill(0xFF);
     assert_eq!(rt;
         refused(alloc, &longest),
         Some(FormFault::L2(0)),
         "the longest tree"
     );
-    let shorter = with_byte(&rt, &TWO_LEMMAS, 33, 0x0A);
+    let shorter = with_byte(&CITATION, 33, 0x0A);
     assert_eq!(rt;
         refused(alloc, &shorter),
         Some(FormFault::L2(2)),
@@ -123,15 +105,15 @@ fn lemmas_that_are_cut_short_are_refused(rt: HostRuntime) {
 #[test]
 fn boards_are_refused_behind_all_lengths(rt: HostRuntime) {
     let alloc = rt.alloc();
-    let repeated = with_byte(&rt, &ONE_LEAF, 10, 2);
+    let repeated = with_byte(&LEAF, 10, 2);
     assert_eq!(rt; refused(alloc, &repeated), Some(FormFault::L3(0)));
-    let second = with_byte(&rt, &TWO_LEMMAS, 25, 4);
+    let second = with_byte(&CITATION, 25, 4);
     assert_eq!(rt; refused(alloc, &second), Some(FormFault::L3(1)));
-    let both = with_byte(&rt, &second, 10, 4);
+    let both = with_byte(&second, 10, 4);
     assert_eq!(rt; refused(alloc, &both), Some(FormFault::L3(0)));
-    let cut = with_byte(&rt, &both, 33, 0x0C);
+    let cut = with_byte(&both, 33, 0x0C);
     assert_eq!(rt; refused(alloc, &cut), Some(FormFault::L2(1)));
-    let wider = with_byte(&rt, &ONE_LEAF, 5, 3);
+    let wider = with_byte(&LEAF, 5, 3);
     assert_eq!(rt; refused(alloc, &wider), Some(FormFault::L2(0)));
 }
 

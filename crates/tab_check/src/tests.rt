@@ -356,25 +356,6 @@ fn files_of_another_length_are_refused(rt: HostRuntime) {
     }
 }
 
-#[test]
-fn a_header_with_one_bit_turned_is_refused(rt: HostRuntime) {
-    for place in 0..20 {
-        for bit in [1, 2, 4, 8, 16, 32, 64, 128] {
-            let byte = TILES_12[place] ^ bit;
-            let want = match (place, byte) {
-                (0..5, _) => HeadFault::T2,
-                // Two tiles of side 3 have more placements.
-                (5, 3) => HeadFault::T5,
-                (5, _) => HeadFault::T3,
-                (6..12, _) => HeadFault::T4,
-                _ => HeadFault::T5,
-            };
-            let turned = census_by(&rt, &with_byte(&TILES_12, place, byte), 1, &OpenGate);
-            assert_eq!(rt; turned, head_fault(want), "byte {byte} at {place}");
-        }
-    }
-}
-
 /// Boards of side 3: the goal, one with two tiles swapped, and others.
 const BOARDS: [[u8; 9]; 6] = [
     [0, 1, 2, 3, 4, 5, 6, 7, 8],

@@ -9,6 +9,8 @@ mod searches;
 #[cfg(test)]
 mod sha256;
 #[cfg(test)]
+mod shelves;
+#[cfg(test)]
 mod tables;
 #[cfg(test)]
 mod telling;
