@@ -1,6 +1,7 @@
 //! The nodes of trees, as they stand at the front of bytes.
 
 ghost use Rattle.std.specs.Prelude.{◌≤◌, IfNone, IfSome};
+ghost use Rattle.set_sum.specs.Bundles.{most_sets};
 ghost use Rattle.log_check.specs.Nodes.{BeginsWith, BeginsWithNone};
 
 /// A node of a tree.
@@ -16,7 +17,7 @@ pub(crate) enum Node {
 
 /// The node at the front of the bytes, where there are so many sets, and the bytes behind it.
 pub(crate) fn first_node(bytes: &[u8], sets: u8) -> Option<(Node, &[u8])>
-    requires { sets ≤ 16 }
+    requires { sets ≤ most_sets }
     ensures some { IfSome result (λ r. BeginsWith sets r.0 r.1.now bytes.now) }
     ensures none { IfNone result (BeginsWithNone sets bytes.now) }
 {

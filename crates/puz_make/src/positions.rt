@@ -7,13 +7,10 @@ use crate::moves::MOVES;
 use crate::places::Place;
 use crate::slots::{CELLS, Slots};
 use puz_board::{Board, Side, step};
-use set_sum::Bundle;
+use set_sum::{Bundle, MOST_TABLES};
 use std::alloc::{AllocError, Global};
 use tab_check::CheckedTable;
 use tab_lanes::NO_WAY_HOME;
-
-/// How many tables a bundle has at most.
-const MOST_TABLES: usize = 16;
 
 /// No cell.
 pub(crate) const NOWHERE: u8 = u8::MAX;

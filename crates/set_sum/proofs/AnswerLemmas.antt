@@ -4,7 +4,7 @@ use Rattle.std.proofs.lemmas.Bool.{cases_order}
 use Rattle.std.specs.Prelude.{Err, IfErr, IfOk, Ok, Result, slice_get}
 use Rattle.std.specs.List.{AllByRecursion}
 use Rattle.tab_file.specs.Tables.{Table}
-use Rattle.set_sum.specs.Bundles.{BundleView}
+use Rattle.set_sum.specs.Bundles.{BundleView, most_sets}
 use Rattle.set_sum.specs.Reading.{AreAlike, AreFew, AreNotFew, AreSets, IsBundleOf, IsFaultOf, IsFirstWith, NamesNoTable, NamesOverlap, first_side}
 use Rattle.set_sum.specs.SetTexts.{AreLines}
 use Rattle.set_sum.specs.declared.faults.SetFault.{SetFault}
@@ -47,8 +47,8 @@ module _ (tables : List Table) (text : List ℕ) where
       first-none (λ t. t.pattern.side ≢ first_side tables) tables i first
       (all_weaker (λ t. t.pattern.side ≡ first_side tables) (λ t. ¬ (t.pattern.side ≢ first_side tables)) (λ t same other. other same) tables alike.one_side)
 
-  few_lines : (ss ts : List (List ℕ)) → AreSets text ss → AreLines text ts → ¬ (16 < length ts)
-  few_lines ss ts are lines many = let same : length ss ≡ length ts = ap length (AreLines-once text ss ts are.lines lines) in let few : length ss ≤ 16 = are.few in omega arith
+  few_lines : (ss ts : List (List ℕ)) → AreSets text ss → AreLines text ts → ¬ (most_sets < length ts)
+  few_lines ss ts are lines many = let same : length ss ≡ length ts = ap length (AreLines-once text ss ts are.lines lines) in let few : length ss ≤ most_sets = are.few in omega arith
 
   sets-once : (ss ts : List (List ℕ)) → AreSets text ss → AreSets text ts → ss ≡ ts
   sets-once ss ts one other = AreLines-once text ss ts one.lines other.lines

@@ -10,7 +10,7 @@ use Rattle.pat_place.specs.Patterns.{IsPattern}
 use Rattle.tab_file.specs.Tables.{Table}
 use Rattle.tab_check.specs.ExactTables.{IsExactTable}
 use Rattle.tab_check.proofs.LookLemmas.{count_some}
-use Rattle.set_sum.specs.Bundles.{BundleView, IsBundle, IsSetOf, TellsOfAll, members}
+use Rattle.set_sum.specs.Bundles.{BundleView, IsBundle, IsSetOf, TellsOfAll, members, most_tables}
 use Rattle.set_sum.specs.ReadLines.{AreSetsOf}
 use Rattle.set_sum.specs.SetTexts.{IsLine}
 use Rattle.set_sum.specs.Reading.{AreAlike, IsBundleOf, NamesNoTable, NamesOverlap, first_side, patterns_of}
@@ -100,7 +100,7 @@ module _ (tables : List Table) (text : List ℕ) (v : BundleView) (exact : AllBy
         low = limits.0;
         high = limits.1;
         some_tables = subst (λ k. 0 < k) counted is.alike.count.some;
-        few_tables = subst (λ k. k ≤ 16) counted is.alike.count.few;
+        few_tables = subst (λ k. k ≤ most_tables) counted is.alike.count.few;
         some_sets = is.are_sets.lines.some;
         few_sets = is.are_sets.few;
         there = subst (λ k. AllByRecursion (AllByRecursion (λ i. i < k)) v.sets) counted there;

@@ -8,7 +8,7 @@ use Rattle.std.proofs.lemmas.List.Folds.{Any-from_list_any, list_any-from_Any}
 use Rattle.puz_board.specs.Costs.{has}
 use Rattle.pat_place.specs.Patterns.{IsAscending}
 use Rattle.tab_file.specs.Tables.{Table}
-use Rattle.set_sum.specs.Bundles.{BundleView, members}
+use Rattle.set_sum.specs.Bundles.{BundleView, members, most_sets, most_tables}
 use Rattle.set_sum.specs.Reading.{AreAlike, AreFew, AreSets, IsBundleOf, IsFaultOf, IsFirstWith, NamesNoTable, NamesOverlap, first_side, patterns_of}
 use Rattle.set_sum.specs.SetTexts.{AreLines, BeginsWithNoLine, IsFirstBadLine, IsLine, numbers_text, numeral, set_line, set_lines}
 use Rattle.set_sum.specs.Sums.{HaveOverlap, Overlap}
@@ -279,7 +279,7 @@ module _ (tables : List Table) (text : List ℕ) where
       within i = elim (cases_lt i (length tables)) [ inl low ↦ inr (λ high. omega arith) | inr high ↦ inl high ]
 
   lines_answer : AreAlike tables → (sets : List (List ℕ)) → AreLines text sets → Answer
-  lines_answer alike sets lines = elim (cases_lt 16 (length sets)) [
+  lines_answer alike sets lines = elim (cases_lt most_sets (length sets)) [
     | inl many ↦ inr (S5, inr (alike, sets, lines, many))
     | inr few ↦ sets_answer alike sets (record { lines = lines; few = few })
   ]
@@ -303,7 +303,7 @@ module _ (tables : List Table) (text : List ℕ) where
   pub bundle_answer : Answer
   bundle_answer = elim (cases_eq (length tables) 0) [
     | inl none ↦ inr (S5, inl (inl none))
-    | inr some ↦ elim (cases_lt 16 (length tables)) [
+    | inr some ↦ elim (cases_lt most_tables (length tables)) [
       | inl many ↦ inr (S5, inl (inr many))
       | inr few ↦ sides_answer (record { some = omega arith; few = few })
     ]

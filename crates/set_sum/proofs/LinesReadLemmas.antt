@@ -5,6 +5,7 @@ use Rattle.std.proofs.lemmas.List.{append-nil, length-take, take-append-le, take
 use Rattle.std.specs.Prelude.{Any, is_some, slice_get}
 use Rattle.std.specs.List.{AllByRecursion}
 use Rattle.pat_place.proofs.RankLemmas.{get-append_left, get-below}
+use Rattle.set_sum.specs.Bundles.{most_sets}
 use Rattle.set_sum.specs.Reading.{IsFirstWith}
 use Rattle.set_sum.specs.ReadLines.{AreKept, AreRead, IsRead, IsReadLine}
 use Rattle.set_sum.specs.SetTexts.{AreLines, IsLine, numbers_text, set_line, set_lines}
@@ -50,27 +51,27 @@ module _ (tables : ℕ) (lines : List (List ℕ)) (numbers : List ℕ) where
   abbrev No : List ℕ → Type 0
   No = λ line. Any (λ i. tables ≤ i) line
 
-  -- the sets of the first 16 lines are kept
+  -- the sets of as many lines as a bundle may have are kept
   kept_more : (kept next : List (List ℕ)) → AreKept tables lines None kept → AllByRecursion (λ i. i < tables) numbers
-      → ((length kept < 16) × (next ≡ kept ++ numbers ∷ [])) ⊎ ((16 ≤ length kept) × (next ≡ kept)) → AreKept tables (lines ++ numbers ∷ []) None next
+      → ((length kept < most_sets) × (next ≡ kept ++ numbers ∷ [])) ⊎ ((most_sets ≤ length kept) × (next ≡ kept)) → AreKept tables (lines ++ numbers ∷ []) None next
   kept_more kept next are there pushed = (elim pushed [ inl room ↦ roomy room.0 room.1 | inr full ↦ filled full.0 full.1 ], all_push (AllByRecursion (λ i. i < tables)) lines numbers are.1 there)
     where
-      count : length kept ≡ length (take 16 lines)
+      count : length kept ≡ length (take most_sets lines)
       count = ap length are.0
 
-      roomy : length kept < 16 → next ≡ kept ++ numbers ∷ [] → next ≡ take 16 (lines ++ numbers ∷ [])
+      roomy : length kept < most_sets → next ≡ kept ++ numbers ∷ [] → next ≡ take most_sets (lines ++ numbers ∷ [])
       roomy low is =
-          let cut = length-take 16 lines in
+          let cut = length-take most_sets lines in
           let c = count in
-          let short : length lines < 16 = omega arith in
+          let short : length lines < most_sets = omega arith in
           let longer : length (lines ++ numbers ∷ []) ≡ length lines + 1 = length-append lines (numbers ∷ []) in
-          is ∙ ap (λ s. s ++ numbers ∷ []) (are.0 ∙ take_all 16 lines (omega arith)) ∙ sym (take_all 16 (lines ++ numbers ∷ []) (omega arith))
+          is ∙ ap (λ s. s ++ numbers ∷ []) (are.0 ∙ take_all most_sets lines (omega arith)) ∙ sym (take_all most_sets (lines ++ numbers ∷ []) (omega arith))
 
-      filled : 16 ≤ length kept → next ≡ kept → next ≡ take 16 (lines ++ numbers ∷ [])
+      filled : most_sets ≤ length kept → next ≡ kept → next ≡ take most_sets (lines ++ numbers ∷ [])
       filled high is =
-          let cut = length-take 16 lines in
+          let cut = length-take most_sets lines in
           let c = count in
-          is ∙ are.0 ∙ sym (take-append-le 16 lines (numbers ∷ []) (omega arith))
+          is ∙ are.0 ∙ sym (take-append-le most_sets lines (numbers ∷ []) (omega arith))
 
   missing_first : (kept : List (List ℕ)) → AreKept tables lines None kept → Any (λ i. tables ≤ i) numbers → (next : List (List ℕ)) → AreKept tables (lines ++ numbers ∷ []) (Some (length lines)) next
   missing_first kept are missing next = first-end No lines numbers (all_weaker (AllByRecursion (λ i. i < tables)) (λ line. ¬ No line) (all_there tables) lines are.1) missing
@@ -83,11 +84,11 @@ module _ (tables : ℕ) (lines : List (List ℕ)) (numbers : List ℕ) where
 
   -- a line all of whose tables are there
   pub read_there : (count : ℕ) (missing : Option ℕ) (kept next : List (List ℕ)) → AreRead tables lines count missing kept → (set : List ℕ) → IsRead tables numbers (Some set)
-      → ((length kept < 16) × (next ≡ kept ++ set ∷ [])) ⊎ ((16 ≤ length kept) × (next ≡ kept)) → AreRead tables (lines ++ numbers ∷ []) (count + 1) missing next
+      → ((length kept < most_sets) × (next ≡ kept ++ set ∷ [])) ⊎ ((most_sets ≤ length kept) × (next ≡ kept)) → AreRead tables (lines ++ numbers ∷ []) (count + 1) missing next
   read_there count missing kept next are set is pushed = record { counted = counted_more count are.counted; are_kept = go missing are.are_kept }
     where
       go : (missing : Option ℕ) → AreKept tables lines missing kept → AreKept tables (lines ++ numbers ∷ []) missing next
-      go None h = kept_more kept next h is.1 (subst (λ s. ((length kept < 16) × (next ≡ kept ++ s ∷ [])) ⊎ ((16 ≤ length kept) × (next ≡ kept))) is.0 pushed)
+      go None h = kept_more kept next h is.1 (subst (λ s. ((length kept < most_sets) × (next ≡ kept ++ s ∷ [])) ⊎ ((most_sets ≤ length kept) × (next ≡ kept))) is.0 pushed)
       go (Some line) h = missing_before kept line h next
 
   -- a line one of whose tables isn't
@@ -184,13 +185,13 @@ nothing_left (x ∷ xs) r is e = absurd (let none = eqb-true (suc (length xs)) 0
 pub something_left : (xs : List ℕ) (r : Bool) → r ≡ eqb (length xs) 0 → r ≡ false → xs ≢ []
 something_left xs r is e none = eqb-false (length xs) 0 (sym is ∙ e) (ap length none)
 
--- at most 16 lines that are all read are kept
-pub all_kept : (tables : ℕ) (lines : List (List ℕ)) (count : ℕ) (missing : Option ℕ) (kept : List (List ℕ)) → AreRead tables lines count missing kept → missing ≡ None → count ≤ 16
+-- lines that are all read are kept, where a bundle may have so many
+pub all_kept : (tables : ℕ) (lines : List (List ℕ)) (count : ℕ) (missing : Option ℕ) (kept : List (List ℕ)) → AreRead tables lines count missing kept → missing ≡ None → count ≤ most_sets
     → (kept ≡ lines) × AllByRecursion (AllByRecursion (λ i. i < tables)) lines
 all_kept tables lines count missing kept are none few =
     let h = subst (λ m. AreKept tables lines m kept) none are.are_kept in
     let c : count ≡ length lines = are.counted in
-    (h.0 ∙ take_all 16 lines (omega arith), h.1)
+    (h.0 ∙ take_all most_sets lines (omega arith), h.1)
 
 pub missing_line : (tables : ℕ) (lines : List (List ℕ)) (count : ℕ) (missing : Option ℕ) (kept : List (List ℕ)) (line : ℕ) → AreRead tables lines count missing kept → missing ≡ Some line
     → IsFirstWith (λ numbers. Any (λ i. tables ≤ i) numbers) lines line

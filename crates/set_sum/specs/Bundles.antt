@@ -7,6 +7,18 @@ use Rattle.tab_check.specs.declared.tables.Count.{Count}
 use Rattle.set_sum.specs.Bounds.{Reaches}
 use Rattle.set_sum.specs.Sums.{AreDisjoint, SetSays}
 
+-- ---- limits
+
+-- the most tables of a bundle
+abbrev pub most_tables : ℕ
+most_tables = 16
+
+-- the most sets of a bundle, each of which has a line in its text
+abbrev pub most_sets : ℕ
+most_sets = 16
+
+-- ---- what is seen
+
 -- what a contract sees of a bundle: the side of its boards, its tables, each the list of its pattern's tiles, and its sets,
 -- each the list of its tables' numbers, from 0
 pub record BundleView : Type 0 where
@@ -47,15 +59,15 @@ pub record SaysAtLeast (v : BundleView) (number : ℕ) (b : List ℕ) (r : ℕ) 
 
 -- ---- bundles
 
--- a side from 2 to 5, 1 to 16 tables, and 1 to 16 sets of tables that are there, whose patterns are disjoint and of that
--- side; each set says something of each board
+-- a side from 2 to 5, and some tables and some sets, no more of each than a bundle may have; a set is of tables that are
+-- there, whose patterns are disjoint and of that side, and says something of each board
 pub record IsBundle (v : BundleView) : Type 0 where
   pub low : 2 ≤ v.side
   pub high : v.side ≤ 5
   pub some_tables : 0 < length v.tables
-  pub few_tables : length v.tables ≤ 16
+  pub few_tables : length v.tables ≤ most_tables
   pub some_sets : 0 < length v.sets
-  pub few_sets : length v.sets ≤ 16
+  pub few_sets : length v.sets ≤ most_sets
   pub there : AllByRecursion (AllByRecursion (λ number. number < length v.tables)) v.sets
   pub each : AllByRecursion (λ numbers. IsSetOf v.side (members v.tables numbers)) v.sets
   pub told : TellsOfAll v

@@ -2,6 +2,7 @@
 use Rattle.std.specs.Prelude.{◌≡◌, ℕ, ◌<◌, ◌≤◌, ◌++◌, Any, Bool, true, false, List, length, Option, Some, None, take}
 use Rattle.std.specs.List.{AllByRecursion}
 use Rattle.tab_file.specs.Tables.{Table}
+use Rattle.set_sum.specs.Bundles.{most_sets}
 use Rattle.set_sum.specs.Reading.{AreSets, IsFirstWith, NamesOverlap}
 use Rattle.set_sum.specs.SetTexts.{IsLine, set_line}
 
@@ -22,9 +23,9 @@ pub record IsReadLine (tables : ℕ) (text : List ℕ) (set : Option (List ℕ))
   pub whole : text ≡ set_line numbers ++ rest
   pub is_read : IsRead tables numbers set
 
--- the first 16 lines are kept where all lines are read as sets; otherwise the first that isn't is known
+-- as many lines as a bundle may have sets are kept, the first of them, where all lines are read as sets; otherwise the first that isn't is known
 abbrev pub AreKept : ℕ → List (List ℕ) → Option ℕ → List (List ℕ) → Type 0
-AreKept tables lines None kept = (kept ≡ take 16 lines) × AllByRecursion (AllByRecursion (λ i. i < tables)) lines
+AreKept tables lines None kept = (kept ≡ take most_sets lines) × AllByRecursion (AllByRecursion (λ i. i < tables)) lines
 AreKept tables lines (Some first) kept = IsFirstWith (λ numbers. Any (λ i. tables ≤ i) numbers) lines first
 
 -- the lines are counted and kept

@@ -2,7 +2,7 @@
 use Rattle.std.specs.Prelude.{◌≡◌, ◌≢◌, ℕ, ◌<◌, ◌≤◌, List, [], ◌∷◌, length, map, slice_get, take, Any, Some, ◌⊎◌}
 use Rattle.std.specs.List.{AllByRecursion}
 use Rattle.tab_file.specs.Tables.{Table}
-use Rattle.set_sum.specs.Bundles.{BundleView, members}
+use Rattle.set_sum.specs.Bundles.{BundleView, members, most_sets, most_tables}
 use Rattle.set_sum.specs.SetTexts.{AreLines, IsFirstBadLine}
 use Rattle.set_sum.specs.Sums.{HaveOverlap}
 use Rattle.set_sum.specs.declared.faults.SetFault.{SetFault}
@@ -15,12 +15,12 @@ abbrev pub first_side : List Table → ℕ
 first_side [] = 0
 first_side (t ∷ ts) = t.pattern.side
 
--- 1 to 16 tables
+-- some tables, and no more than a bundle may have
 pub record AreFew (tables : List Table) : Type 0 where
   pub some : 0 < length tables
-  pub few : length tables ≤ 16
+  pub few : length tables ≤ most_tables
 
--- 1 to 16 tables of one side
+-- that many tables, of one side
 pub record AreAlike (tables : List Table) : Type 0 where
   pub count : AreFew tables
   pub one_side : AllByRecursion (λ t. t.pattern.side ≡ first_side tables) tables
@@ -39,10 +39,10 @@ NamesNoTable tables numbers = Any (λ i. length tables ≤ i) numbers
 abbrev pub NamesOverlap : List Table → List ℕ → Type 0
 NamesOverlap tables numbers = HaveOverlap (members (patterns_of tables) numbers)
 
--- 1 to 16 lines of sets
+-- lines of sets, at least one and no more than a bundle may have
 pub record AreSets (text : List ℕ) (sets : List (List ℕ)) : Type 0 where
   pub lines : AreLines text sets
-  pub few : length sets ≤ 16
+  pub few : length sets ≤ most_sets
 
 -- the tables and the text make this bundle: its sets are those of the text's lines, all of whose tables are there and no
 -- two of whose tables share a tile
@@ -63,9 +63,9 @@ pub record IsFirstWith {X : Type 0} (Has : X → Type 0) (xs : List X) (place : 
   pub has : Has item
   pub first : AllByRecursion (λ x. ¬ Has x) (take place xs)
 
--- there is no table, or there are more than 16
+-- there is no table, or there are more than a bundle may have
 abbrev pub AreNotFew : List Table → Type 0
-AreNotFew tables = (length tables ≡ 0) ⊎ (16 < length tables)
+AreNotFew tables = (length tables ≡ 0) ⊎ (most_tables < length tables)
 
 -- the fault stands, and none before it in the order does
 abbrev pub IsFaultOf : SetFault → List Table → List ℕ → Type 0
@@ -77,4 +77,4 @@ IsFaultOf (S3 line) tables text =
     IsFirstWith (NamesOverlap tables) sets line
 IsFaultOf (S4 place) tables text = AreFew tables × IsFirstWith (λ t. t.pattern.side ≢ first_side tables) tables place
 IsFaultOf S5 tables text =
-    AreNotFew tables ⊎ (AreAlike tables × (sets : List (List ℕ)) × AreLines text sets × (16 < length sets))
+    AreNotFew tables ⊎ (AreAlike tables × (sets : List (List ℕ)) × AreLines text sets × (most_sets < length sets))

@@ -4,7 +4,7 @@ ghost use Rattle.std.specs.Prelude.{◌≡◌, ◌<◌, ◌≤◌, Err, IfErr, I
 ghost use Rattle.std.specs.List.{AllByRecursion};
 ghost use Rattle.puz_board.specs.Boards.{side_of};
 ghost use Rattle.set_sum.specs.Bounds.{BoundsSolutions};
-ghost use Rattle.set_sum.specs.Bundles.{BundleView, IsBundle, Says};
+ghost use Rattle.set_sum.specs.Bundles.{BundleView, IsBundle, Says, most_tables};
 ghost use Rattle.set_sum.specs.ReadLines.{AreSetsOf};
 ghost use Rattle.set_sum.specs.Reading.{AreAlike, IsBundleOf, IsFaultOf, IsFirstWith, NamesOverlap};
 ghost use Rattle.set_sum.specs.declared.faults.SetFault.{SetFault};
@@ -17,11 +17,14 @@ use puz_board::{Board, Side};
 use std::marker::Model;
 use tab_check::{CheckedTable, Count};
 
-/// How many tables a bundle may have, and how many sets.
-pub(crate) const MOST: usize = 16;
+/// The most tables of a bundle.
+pub const MOST_TABLES: usize = 16;
+
+/// The most sets of a bundle.
+pub(crate) const MOST_SETS: usize = 16;
 
 /// The numbers of the tables of a set, ascending.
-pub(crate) type Set = ArrayVec<u8, MOST>;
+pub(crate) type Set = ArrayVec<u8, MOST_TABLES>;
 
 /// Checked tables of one side, and sets of disjoint ones among them: no tile is in two tables of a set.
 ///
@@ -31,7 +34,7 @@ pub(crate) type Set = ArrayVec<u8, MOST>;
 pub struct Bundle<'a> {
     side: Side,
     tables: Vec<CheckedTable<'a>>,
-    sets: ArrayVec<Set, MOST>,
+    sets: ArrayVec<Set, MOST_SETS>,
 }
 
 impl<'a> Model for Bundle<'a> {
@@ -101,7 +104,7 @@ impl<'a> Bundle<'a> {
         requires { set < length self.now.sets }
         ensures numbers { result.now ≡ slice_index_or self.now.sets set [] }
         ensures there { AllByRecursion (λ number. number < length self.now.tables) result.now }
-        ensures few { length result.now ≤ 16 }
+        ensures few { length result.now ≤ most_tables }
     {
         self.sets[usize::from(set)].as_slice()
     }
@@ -131,7 +134,7 @@ fn make_bundle<'a>(tables: Vec<CheckedTable<'a>>, text: &[u8]) -> Result<Bundle<
 }
 
 /// Reads the sets of a set text over tables of one side.
-fn read_sets(tables: &[CheckedTable<'_>], text: &[u8]) -> Result<ArrayVec<Set, MOST>, SetFault>
+fn read_sets(tables: &[CheckedTable<'_>], text: &[u8]) -> Result<ArrayVec<Set, MOST_SETS>, SetFault>
     requires { AreAlike tables.now }
     ensures ok { IfOk result (λ kept. AreSetsOf tables.now text.now (map (λ set. set.items) kept.items)) }
     ensures err { IfErr result (λ fault. IsFaultOf fault tables.now text.now) }
@@ -140,7 +143,7 @@ fn read_sets(tables: &[CheckedTable<'_>], text: &[u8]) -> Result<ArrayVec<Set, M
         Ok(lines) => lines,
         Err(line) => return Err(SetFault::S1(line)),
     };
-    if lines.count > MOST {
+    if lines.count > MOST_SETS {
         return Err(SetFault::S5);
     }
     if let Some(line) = lines.missing {

@@ -11,5 +11,5 @@ mod tables;
 #[cfg(test)]
 mod tests;
 
-pub use bundles::Bundle;
+pub use bundles::{Bundle, MOST_TABLES};
 pub use faults::SetFault;

@@ -1,10 +1,11 @@
 //! Set texts: a line for each set, with the numbers of its tables.
 
 ghost use Rattle.std.specs.Prelude.{◌≡◌, ℕ, ◌+◌, ◌<◌, ◌≤◌, ◌∷◌, ◌++◌, ◌⊎◌, [], false, IfErr, IfOk, IfSome, IsSome, IsSomeAnd, List, map, option_map};
+ghost use Rattle.set_sum.specs.Bundles.{most_tables};
 ghost use Rattle.set_sum.specs.ReadLines.{AreRead, IsRead, IsReadLine, ending};
 ghost use Rattle.set_sum.specs.SetTexts.{AreLines, IsFirstBadLine, IsLine, numeral, set_line};
 
-use crate::bundles::{MOST, Set};
+use crate::bundles::{MOST_SETS, Set};
 use arrayvec::ArrayVec;
 
 /// The number of one or two digits, without a leading zero, at the front of a text, and the text behind it.
@@ -64,7 +65,7 @@ struct Line<'a> {
 
 /// The line of a set at the front of a text, where there are so many tables.
 fn split_line(text: &[u8], tables: usize) -> Option<Line<'_>>
-    requires { tables ≤ 16 }
+    requires { tables ≤ most_tables }
     ensures some { IfSome result (λ line. IsReadLine tables text.now (option_map (λ set. set.items) line.set) line.rest.now) }
     ensures read { (numbers behind : List ℕ) → IsLine numbers → text.now ≡ set_line numbers ++ behind → IsSome result }
 {
@@ -101,8 +102,8 @@ pub(crate) struct Lines {
     pub(crate) count: usize,
     /// The first of them one of whose tables isn't there.
     pub(crate) missing: Option<usize>,
-    /// The sets of the first 16, where no table is missing.
-    pub(crate) sets: ArrayVec<Set, MOST>,
+    /// The sets of the first lines, as many as a bundle may have, where no table is missing.
+    pub(crate) sets: ArrayVec<Set, MOST_SETS>,
 }
 
 impl Lines {
@@ -128,7 +129,7 @@ impl Lines {
 
 /// Reads a set text, where there are so many tables. The first line that isn't of a set is the fault.
 pub(crate) fn read_lines(text: &[u8], tables: usize) -> Result<Lines, usize>
-    requires { tables ≤ 16 }
+    requires { tables ≤ most_tables }
     ensures ok { IfOk result (λ lines. (sets : List (List ℕ)) × AreLines text.now sets × AreRead tables sets lines.count lines.missing (map (λ set. set.items) lines.sets.items)) }
     ensures err { IfErr result (IsFirstBadLine text.now) }
 {

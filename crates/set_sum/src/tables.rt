@@ -2,13 +2,13 @@
 
 ghost use Rattle.std.specs.Prelude.{◌≡◌, ℕ, ◌<◌, ◌≤◌, ◌↔◌, IfErr, IfOk, IsTrue, List, length};
 ghost use Rattle.std.specs.List.{AllByRecursion};
-ghost use Rattle.set_sum.specs.Bundles.{members};
+ghost use Rattle.set_sum.specs.Bundles.{members, most_tables};
 ghost use Rattle.set_sum.specs.Reading.{AreAlike, IsFaultOf, NamesOverlap, first_side, patterns_of};
 ghost use Rattle.set_sum.specs.Sums.{SetSays};
 ghost use Rattle.puz_board.specs.Boards.{side_of};
 ghost use Rattle.tab_check.specs.ExactTables.{IsExactTable};
 
-use crate::bundles::{MOST, Set};
+use crate::bundles::{MOST_TABLES, Set};
 use crate::faults::SetFault;
 use puz_board::{Board, Side};
 use tab_check::{CheckedTable, Count};
@@ -18,7 +18,7 @@ pub(crate) fn one_side(tables: &[CheckedTable<'_>]) -> Result<Side, SetFault>
     ensures ok { IfOk result (λ side. (side ≡ first_side tables.now) × AreAlike tables.now × AllByRecursion IsExactTable tables.now) }
     ensures err { IfErr result (λ fault. (text : List ℕ) → IsFaultOf fault tables.now text) }
 {
-    if tables.is_empty() || tables.len() > MOST {
+    if tables.is_empty() || tables.len() > MOST_TABLES {
         return Err(SetFault::S5);
     }
     let side = tables[0].pattern().side();
@@ -49,7 +49,7 @@ pub(crate) fn overlap(tables: &[CheckedTable<'_>], numbers: &[u8]) -> bool
 /// The sum of what the tables with these numbers tell of a board, and `Never` where one of them does.
 pub(crate) fn sum_of(tables: &[CheckedTable<'_>], numbers: &[u8], board: &Board) -> Count
     requires there { AllByRecursion (λ i. i < length tables.now) numbers.now }
-    requires few { length numbers.now ≤ 16 }
+    requires few { length numbers.now ≤ most_tables }
     requires side { AllByRecursion (λ t. t.pattern.side ≡ side_of board.now) tables.now }
     ensures { SetSays (members (patterns_of tables.now) numbers.now) board.now result }
 {

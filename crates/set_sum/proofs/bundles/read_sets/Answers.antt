@@ -13,7 +13,7 @@ overflow_cast-result c =
     let tables = length c.args.tables.now in
     let low = first-within _ ok.0 c.in-Some.line (missing_line tables ok.0 lines.count lines.missing (map (λ set. set.items) lines.sets.items) c.in-Some.line ok.2 c.in-Some.is) in
     let counted : lines.count ≡ length ok.0 = ok.2.counted in
-    let few = c.if-lines-gt-MOST.false in
+    let few = c.if-lines-gt-MOST_SETS.false in
     omega arith
 
 pub returns-in-Some-first_overlap-clause-err : goal.returns-in-Some-first_overlap-clause-err
@@ -21,11 +21,11 @@ returns-in-Some-first_overlap-clause-err c =
     let lines = c.in-Ok.lines in
     let ok = c.in-Ok.ensures.ok in
     let tables = c.args.tables.now in
-    let kept = all_kept (length tables) ok.0 lines.count lines.missing (map (λ set. set.items) lines.sets.items) ok.2 c.in_default.is c.if-lines-gt-MOST.false in
+    let kept = all_kept (length tables) ok.0 lines.count lines.missing (map (λ set. set.items) lines.sets.items) ok.2 c.in_default.is c.if-lines-gt-MOST_SETS.false in
     let same : map (λ set. set.items) c.deref.result.now ≡ ok.0 = ap (map (λ set. set.items)) c.deref.ensures.0 ∙ kept.0 in (
       c.requires,
       ok.0,
-      record { lines = ok.1; few = let counted : lines.count ≡ length ok.0 = ok.2.counted in let few = c.if-lines-gt-MOST.false in omega arith },
+      record { lines = ok.1; few = let counted : lines.count ≡ length ok.0 = ok.2.counted in let few = c.if-lines-gt-MOST_SETS.false in omega arith },
       all_weaker (AllByRecursion (λ i. i < length tables)) (λ numbers. ¬ NamesNoTable tables numbers) (all_there (length tables)) ok.0 kept.1,
       subst (λ sets. IsFirstWith (NamesOverlap tables) sets c.in-Some-first_overlap.line) same c.in-Some-first_overlap.ensures,
     )
@@ -35,10 +35,10 @@ returns-clause-ok c =
     let lines = c.in-Ok.lines in
     let ok = c.in-Ok.ensures.ok in
     let tables = c.args.tables.now in
-    let kept = all_kept (length tables) ok.0 lines.count lines.missing (map (λ set. set.items) lines.sets.items) ok.2 c.in_default.is c.if-lines-gt-MOST.false in
+    let kept = all_kept (length tables) ok.0 lines.count lines.missing (map (λ set. set.items) lines.sets.items) ok.2 c.in_default.is c.if-lines-gt-MOST_SETS.false in
     let same : map (λ set. set.items) c.deref.result.now ≡ ok.0 = ap (map (λ set. set.items)) c.deref.ensures.0 ∙ kept.0 in
     subst (AreSetsOf tables c.args.text.now) (sym kept.0) (record {
-      are_sets = record { lines = ok.1; few = let counted : lines.count ≡ length ok.0 = ok.2.counted in let few = c.if-lines-gt-MOST.false in omega arith };
+      are_sets = record { lines = ok.1; few = let counted : lines.count ≡ length ok.0 = ok.2.counted in let few = c.if-lines-gt-MOST_SETS.false in omega arith };
       numbers = kept.1;
       disjoint = subst (AllByRecursion (λ numbers. ¬ NamesOverlap tables numbers)) same c.in_default-first_overlap.ensures;
     })

@@ -6,12 +6,12 @@ use Rattle.tab_check.specs.ExactTables.{IsExactTable}
 use Rattle.set_sum.specs.Reading.{first_side}
 use Rattle.set_sum.proofs.ListLemmas.{all_more, all_weaker, first_side-read, first_with, read_at}
 use Rattle.set_sum.proofs.tables.one_side.Goals as goal
-use Rattle.set_sum.proofs.tables.one_side.Goals.{then-is_empty-via-then-is_empty, then-is_empty-via-else-is_empty+then-tables-gt-MOST}
+use Rattle.set_sum.proofs.tables.one_side.Goals.{then-is_empty-via-then-is_empty, then-is_empty-via-else-is_empty+then-tables-gt-MOST_TABLES}
 
 pub returns-then-is_empty-clause-err : goal.returns-then-is_empty-clause-err
 returns-then-is_empty-clause-err c text = elim c.then-is_empty.branch [
   | then-is_empty-via-then-is_empty w ↦ inl (inl (eqb-true (length c.args.tables.now) 0 (sym c.is_empty.ensures ∙ w.if-is_empty.true)))
-  | then-is_empty-via-else-is_empty+then-tables-gt-MOST w ↦ inl (inr w.if-tables-gt-MOST.true)
+  | then-is_empty-via-else-is_empty+then-tables-gt-MOST_TABLES w ↦ inl (inr w.if-tables-gt-MOST_TABLES.true)
 ]
 
 differ : (a b : ℕ) (r : _) → r ≡ not (eqb a b) → r ≡ true → a ≢ b
@@ -45,7 +45,7 @@ returns-then-ne-clause-err c text =
     let at : get_or tables i t ≡ t = read_at tables i t t c.loop-i-test.true c.index-tables-i.is in
     let side : c.side.result ≡ t.pattern.side = c.side.ensures.side ∙ ap (λ p. p.side) c.pattern-in-loop-i.ensures.pattern in
     let other : t.pattern.side ≢ first_side tables = λ same. differ c.side.result c.side-side.result c.ne.result c.ne.ensures c.if-ne.true (side ∙ same ∙ sym first) in (
-      record { some = any; few = c.if-tables-gt-MOST.false },
+      record { some = any; few = c.if-tables-gt-MOST_TABLES.false },
       first_with (λ u. u.pattern.side ≢ first_side tables) tables i t c.loop-i-test.true (subst (λ u. u.pattern.side ≢ first_side tables) (sym at) other) (
           all_weaker (λ u. u.pattern.side ≡ c.side-side.result) (λ u. ¬ (u.pattern.side ≢ first_side tables)) (λ u same ne. ne (same ∙ first)) (take i tables) c.loop-i.invariant.one_side),
     )
@@ -58,7 +58,7 @@ returns-clause-ok c =
     let all = take_all c.loop-i.i tables c.loop-i-test.false in (
       first,
       record {
-        count = record { some = any; few = c.if-tables-gt-MOST.false };
+        count = record { some = any; few = c.if-tables-gt-MOST_TABLES.false };
         one_side = all_weaker (λ u. u.pattern.side ≡ c.side-side.result) (λ u. u.pattern.side ≡ first_side tables) (λ u same. same ∙ first) tables (subst (AllByRecursion (λ u. u.pattern.side ≡ c.side-side.result)) all c.loop-i.invariant.one_side);
       },
       subst (AllByRecursion IsExactTable) all c.loop-i.invariant.exact,
