@@ -3,7 +3,7 @@ use Rattle.std.proofs.Common.{◌≡◌, ◌≢◌, ℕ, zero, suc, ◌+◌, ◌
 use Rattle.std.proofs.lemmas.Bool.{cases_eq, cases_lt}
 use Rattle.puz_board.specs.Boards.{IsBoardOf, at}
 use Rattle.log_file.specs.Logs.{IsSize, Log}
-use Rattle.log_file.specs.LogFiles.{HasLemma, IsLogFile, count_in, front_lemma, head_length, side_in, signature, tree_length}
+use Rattle.log_file.specs.LogFiles.{HasLemma, IsLogFile, count_in, front_lemma, head_length, header_length, side_in, signature, tree_length}
 use Rattle.log_file.specs.FormFaults.{AreFilled, HasHeader, IsFaultOf, behind_first, first_lemmas}
 use Rattle.log_file.specs.declared.faults.FormFault.{FormFault}
 use Rattle.log_file.specs.declared.faults.FormFault.TheVariants.{L1, L2, L3}
@@ -107,7 +107,7 @@ size_decided side count = elim (at_most_decided 2 side) [
 ]
 
 header_decided : (file : List ℕ) → Decided (HasHeader file)
-header_decided file = elim (at_most_decided 10 (length file)) [
+header_decided file = elim (at_most_decided header_length (length file)) [
   | inr not ↦ inr (λ has. not has.header.room)
   | inl room ↦ elim (lists_decided (take 5 file) signature) [
     | inr not ↦ inr (λ has. not has.header.begins)
@@ -135,7 +135,7 @@ module _ (file : List ℕ) (has : HasHeader file) where
   count = count_in file
 
   abbrev bytes : List ℕ
-  bytes = drop 10 file
+  bytes = drop header_length file
 
   boards_answer : AreFilled n count bytes → ((log : Log) × IsLogFile log file) ⊎ ((fault : FormFault) × IsFaultOf fault file)
   boards_answer filled = elim (all_or_first (λ i. IsBoardOf n (front_lemma n (behind_first n i bytes)).board) (λ i. board_decided n _) count) [

@@ -5,7 +5,7 @@ use Rattle.std.specs.Prelude.{IfOk}
 use Rattle.puz_board.specs.Boards.{IsBoardOf}
 use Rattle.std.specs.List.{AllByRecursion}
 use Rattle.log_file.specs.Logs.{IsSize, Lemma, Log}
-use Rattle.log_file.specs.LogFiles.{AreLemmas, HasLemma, IsHeader, IsLogFile, count_in, front_lemma, side_in}
+use Rattle.log_file.specs.LogFiles.{AreLemmas, HasLemma, IsHeader, IsLogFile, count_in, front_lemma, header_length, side_in}
 use Rattle.log_file.specs.FormFaults.{AreBoards, AreFilled, HasHeader, IsFaultOf, IsFirstCut, IsFirstNoBoard, IsLeftOver, behind_first, first_lemmas}
 use Rattle.log_file.specs.declared.faults.FormFault.{FormFault}
 use Rattle.log_file.specs.declared.faults.FormFault.TheVariants.{L1, L2, L3}
@@ -22,15 +22,15 @@ module _ (file : List ℕ) (log : Log) (is : IsLogFile log file) where
     size = subst (λ n. IsSize n (count_in file)) (sym is.header.is_side) (subst (IsSize log.side) (sym is.header.is_count) is.is_log.size);
   }
 
-  lemmas_are : log.lemmas ≡ first_lemmas (side_in file) (count_in file) (drop 10 file)
+  lemmas_are : log.lemmas ≡ first_lemmas (side_in file) (count_in file) (drop header_length file)
   lemmas_are =
-      first-lemmas log.side log.lemmas (drop 10 file) is.lemmas ∙
-      ap₂ (λ n count. first_lemmas n count (drop 10 file)) (sym is.header.is_side) (sym is.header.is_count)
+      first-lemmas log.side log.lemmas (drop header_length file) is.lemmas ∙
+      ap₂ (λ n count. first_lemmas n count (drop header_length file)) (sym is.header.is_side) (sym is.header.is_count)
 
-  filled : AreFilled (side_in file) (count_in file) (drop 10 file)
+  filled : AreFilled (side_in file) (count_in file) (drop header_length file)
   filled =
-      subst (λ n. AreFilled n (count_in file) (drop 10 file)) (sym is.header.is_side)
-      (subst (λ count. AreFilled log.side count (drop 10 file)) (sym is.header.is_count) (AreFilled-lemmas log.side log.lemmas (drop 10 file) is.lemmas))
+      subst (λ n. AreFilled n (count_in file) (drop header_length file)) (sym is.header.is_side)
+      (subst (λ count. AreFilled log.side count (drop header_length file)) (sym is.header.is_count) (AreFilled-lemmas log.side log.lemmas (drop header_length file) is.lemmas))
 
 pub one_log : (file : List ℕ) (a b : Log) → IsLogFile a file → IsLogFile b file → a ≡ b
 one_log file a b is_a is_b =
@@ -80,9 +80,9 @@ pub no_fault : (file : List ℕ) (log : Log) (fault : FormFault) → IsLogFile l
 no_fault file log L1 is stands = stands (HasHeader-log file log is)
 no_fault file log (L2 i) is stands = filled_or_cut _ _ _ i (filled file log is) stands.1
 no_fault file log (L3 i) is stands =
-    stands.1.no_board (first-boards (side_in file) (count_in file) (drop 10 file) boards i stands.1.within)
+    stands.1.no_board (first-boards (side_in file) (count_in file) (drop header_length file) boards i stands.1.within)
   where
-    boards : AllByRecursion (λ lemma. IsBoardOf (side_in file) lemma.board) (first_lemmas (side_in file) (count_in file) (drop 10 file))
+    boards : AllByRecursion (λ lemma. IsBoardOf (side_in file) lemma.board) (first_lemmas (side_in file) (count_in file) (drop header_length file))
     boards =
         subst (AllByRecursion (λ lemma. IsBoardOf (side_in file) lemma.board)) (lemmas_are file log is)
         (subst (λ n. AllByRecursion (λ lemma. IsBoardOf n lemma.board) log.lemmas) (sym is.header.is_side) is.is_log.boards)
@@ -90,25 +90,25 @@ no_fault file log (L3 i) is stands =
 -- ---- what is answered of bytes
 
 -- the bytes behind the header
-behind_header : (file : List ℕ) → take (length file - 10) (drop 10 file) ≡ drop 10 file
-behind_header file = ap (λ k. take k (drop 10 file)) (sym (length-drop 10 file)) ∙ take-length (drop 10 file)
+behind_header : (file : List ℕ) → take (length file - header_length) (drop header_length file) ≡ drop header_length file
+behind_header file = ap (λ k. take k (drop header_length file)) (sym (length-drop header_length file)) ∙ take-length (drop header_length file)
 
 module _ (side count : ℕ) (file : List ℕ) (header : IsHeader side count file) (size : IsSize side count) where
-  pub IsLogFile-first : (lemmas : List Lemma) → AreFilled side count (drop 10 file) → AreBoards side count (drop 10 file)
-      → lemmas ≡ first_lemmas side count (drop 10 file) → IsLogFile (record { side = side; lemmas = lemmas }) file
+  pub IsLogFile-first : (lemmas : List Lemma) → AreFilled side count (drop header_length file) → AreBoards side count (drop header_length file)
+      → lemmas ≡ first_lemmas side count (drop header_length file) → IsLogFile (record { side = side; lemmas = lemmas }) file
   IsLogFile-first lemmas filled boards are =
-      let counted : length lemmas ≡ count = ap length are ∙ length-first_lemmas side count (drop 10 file) in
+      let counted : length lemmas ≡ count = ap length are ∙ length-first_lemmas side count (drop header_length file) in
       record {
         is_log = record {
           size = subst (IsSize side) (sym counted) size;
-          boards = subst (AllByRecursion (λ lemma. IsBoardOf side lemma.board)) (sym are) (boards-first side count (drop 10 file) boards);
+          boards = subst (AllByRecursion (λ lemma. IsBoardOf side lemma.board)) (sym are) (boards-first side count (drop header_length file) boards);
         };
         header = subst (λ k. IsHeader side k file) (sym counted) header;
-        lemmas = subst (λ ls. AreLemmas side ls (drop 10 file)) (sym are) (AreLemmas-first side count (drop 10 file) filled);
+        lemmas = subst (λ ls. AreLemmas side ls (drop header_length file)) (sym are) (AreLemmas-first side count (drop header_length file) filled);
       }
 
   -- the same of the bytes behind the header, as they are taken
-  pub IsLogFile-read : (lemmas : List Lemma) → let bytes = take (length file - 10) (drop 10 file) in AreFilled side count bytes → AreBoards side count bytes
+  pub IsLogFile-read : (lemmas : List Lemma) → let bytes = take (length file - header_length) (drop header_length file) in AreFilled side count bytes → AreBoards side count bytes
       → lemmas ≡ first_lemmas side count bytes → IsLogFile (record { side = side; lemmas = lemmas }) file
   IsLogFile-read lemmas filled boards are =
       IsLogFile-first lemmas (subst (AreFilled side count) (behind_header file) filled) (subst (AreBoards side count) (behind_header file) boards)

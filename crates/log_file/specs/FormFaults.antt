@@ -2,7 +2,7 @@
 use Rattle.std.specs.Prelude.{◌≡◌, ◌≢◌, ◌⊎◌, ℕ, zero, suc, ◌<◌, List, [], ◌∷◌, drop}
 use Rattle.puz_board.specs.Boards.{IsBoardOf}
 use Rattle.log_file.specs.Logs.{IsSize, Lemma}
-use Rattle.log_file.specs.LogFiles.{HasLemma, IsHeader, behind, count_in, front_lemma, side_in}
+use Rattle.log_file.specs.LogFiles.{HasLemma, IsHeader, behind, count_in, front_lemma, header_length, side_in}
 use Rattle.log_file.specs.declared.faults.FormFault.{FormFault}
 use Rattle.log_file.specs.declared.faults.FormFault.TheVariants.{L1, L2, L3}
 
@@ -56,6 +56,6 @@ pub record IsFirstNoBoard (n count : ℕ) (bytes : List ℕ) (i : ℕ) : Type 0 
 abbrev pub IsFaultOf : FormFault → List ℕ → Type 0
 IsFaultOf L1 file = ¬ HasHeader file
 IsFaultOf (L2 i) file = HasHeader file
-    × (IsFirstCut (side_in file) (count_in file) (drop 10 file) i
-    ⊎ ((i ≡ count_in file) × IsLeftOver (side_in file) (count_in file) (drop 10 file)))
-IsFaultOf (L3 i) file = HasHeader file × IsFirstNoBoard (side_in file) (count_in file) (drop 10 file) i
+    × (IsFirstCut (side_in file) (count_in file) (drop header_length file) i
+    ⊎ ((i ≡ count_in file) × IsLeftOver (side_in file) (count_in file) (drop header_length file)))
+IsFaultOf (L3 i) file = HasHeader file × IsFirstNoBoard (side_in file) (count_in file) (drop header_length file) i

@@ -1,10 +1,14 @@
--- Log files: 10 bytes of header, and behind them the lemmas, one after the other.
+-- Log files: a header, and behind it the lemmas, one after the other.
 -- The places of bytes are counted from 0, and a number of several bytes has its highest byte first.
 use Rattle.std.specs.Prelude.{◌≡◌, ℕ, ◌+◌, ◌*◌, ◌≤◌, List, [], ◌∷◌, ◌++◌, codes, drop, length, slice_index, take}
 use Rattle.byteorder.specs.Endian.{big_number}
 use Rattle.log_file.specs.Logs.{IsLog, Lemma, Log}
 
 -- ---- the header
+
+-- how many bytes it has
+abbrev pub header_length : ℕ
+header_length = 10
 
 -- how it begins: the letters of the format, and the version
 abbrev pub signature : List ℕ
@@ -18,18 +22,22 @@ side_in file = slice_index file 5
 abbrev pub count_in : List ℕ → ℕ
 count_in file = big_number 4 (drop 6 file)
 
--- the first 10 bytes are the header of a log of this side and so many lemmas
+-- the first bytes are the header of a log of this side and so many lemmas
 pub record IsHeader (side count : ℕ) (file : List ℕ) : Type 0 where
-  pub room : 10 ≤ length file
+  pub room : header_length ≤ length file
   pub begins : take 5 file ≡ signature
   pub is_side : side_in file ≡ side
   pub is_count : count_in file ≡ count
 
 -- ---- the lemma at the front of bytes, for boards of side n
 
--- how many bytes come before its tree: the board's numbers, one byte for the bound, four for the length of the tree
+-- how many bytes stand between its board and its tree: one for the bound, four for the length of the tree
+abbrev pub bound_and_length : ℕ
+bound_and_length = 5
+
+-- how many bytes come before its tree: the board's numbers among them
 abbrev pub head_length : ℕ → ℕ
-head_length n = n * n + 5
+head_length n = n * n + bound_and_length
 
 -- how many bytes its tree is to have
 abbrev pub tree_length : ℕ → List ℕ → ℕ
@@ -63,4 +71,4 @@ AreLemmas n (lemma ∷ more) bytes = HasLemma n bytes × (lemma ≡ front_lemma 
 pub record IsLogFile (log : Log) (file : List ℕ) : Type 0 where
   pub is_log : IsLog log
   pub header : IsHeader log.side (length log.lemmas) file
-  pub lemmas : AreLemmas log.side log.lemmas (drop 10 file)
+  pub lemmas : AreLemmas log.side log.lemmas (drop header_length file)

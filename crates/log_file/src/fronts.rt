@@ -7,6 +7,9 @@ ghost use Rattle.log_file.specs.LogFiles.{HasLemma, behind, front_lemma};
 use byteorder::{BigEndian, ByteOrder};
 use puz_board::Side;
 
+/// How many bytes stand between a lemma's board and its tree: one for the bound, four for the length of the tree.
+pub const BOUND_AND_LENGTH: usize = 5;
+
 /// The parts of a lemma, as they lie in its bytes.
 #[derive(Clone, Copy)]
 pub(crate) struct Parts<'a> {
@@ -24,11 +27,11 @@ pub(crate) fn front(side: Side, bytes: &[u8]) -> Option<(Parts<'_>, &[u8])>
     ensures none { IfNone result (¬ HasLemma side bytes.now) }
 {
     let cells = usize::from(side.cells());
-    if bytes.len() < cells + 5 {
+    if bytes.len() < cells + BOUND_AND_LENGTH {
         return None;
     }
     let length = BigEndian::read_u32(&bytes[cells + 1..]) as usize;
-    let rest = &bytes[cells + 5..];
+    let rest = &bytes[cells + BOUND_AND_LENGTH..];
     if rest.len() < length {
         return None;
     }

@@ -9,10 +9,10 @@ use byteorder::{BigEndian, ByteOrder};
 use puz_board::Side;
 
 /// How many bytes a header has.
-pub(crate) const HEADER_LEN: usize = 10;
+pub const HEADER_LEN: usize = 10;
 
 /// How a header begins: the letters of the format, and its version.
-const SIGNATURE: &[u8; 5] = b"PDBL\x01";
+pub const SIGNATURE: &[u8; 5] = b"PDBL\x01";
 
 /// The most lemmas of a log.
 const MOST_LEMMAS: u32 = 1 << 20;

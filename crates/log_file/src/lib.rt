@@ -13,4 +13,6 @@ mod tests;
 mod views;
 
 pub use faults::{FormFault, ViewFault};
+pub use fronts::BOUND_AND_LENGTH;
+pub use headers::{HEADER_LEN, SIGNATURE};
 pub use views::{LemmaView, LogView};

@@ -4,11 +4,9 @@ ghost use Rattle.std.specs.Prelude.{IfErr};
 ghost use Rattle.puz_make.specs.Faults.{IsSearchFault};
 
 use crate::faults::MakeFault;
+use log_file::SIGNATURE;
 use puz_board::Board;
 use std::alloc::{AllocError, Global};
-
-/// How a log of one lemma begins: the letters of the format, and its version.
-const SIGNATURE: &[u8; 5] = b"PDBL\x01";
 
 /// The log file whose one lemma is this board, bound and tree.
 pub(crate) fn log_of(

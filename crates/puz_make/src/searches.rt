@@ -9,6 +9,7 @@ use crate::faults::MakeFault;
 use crate::logs::{log_of, put};
 use crate::moves::MOVES;
 use crate::positions::{Leaf, NOWHERE, Position};
+use log_file::{BOUND_AND_LENGTH, HEADER_LEN};
 use puz_board::Board;
 use set_sum::Bundle;
 use std::alloc::Global;
@@ -20,8 +21,11 @@ const BRANCH: u8 = 0;
 /// The greatest bound that a lemma claims, and so the greatest threshold.
 const GREATEST_BOUND: u16 = 255;
 
-/// The most bytes of a tree: with its header a log file has at most 2^30.
-const MOST_TREE_BYTES: usize = (1 << 30) - 40;
+/// The most bytes before the tree of a log of one lemma: boards of side 5 have 25 numbers.
+const MOST_BEFORE_TREE: usize = HEADER_LEN + 25 + BOUND_AND_LENGTH;
+
+/// The most bytes of a tree: with those before it a log file has at most 2^30.
+const MOST_TREE_BYTES: usize = (1 << 30) - MOST_BEFORE_TREE;
 
 /// A shortest solution, and the log that proves it shortest.
 #[derive(Drop)]

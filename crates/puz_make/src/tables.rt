@@ -38,7 +38,7 @@ pub fn build<R: Threads + Sync>(
 
 /// The file with entries that all say that their slot has no region.
 fn unfilled_file(alloc: Global, pattern: &Pattern) -> Result<Vec<u8>, AllocError>
-    ensures { IfOk result (λ file. length file.items ≡ 20 + entry_count pattern.now) }
+    ensures { IfOk result (λ file. length file.items ≡ HEADER_LEN + entry_count pattern.now) }
 {
     let header = header_of(pattern);
     let count = pattern.count() * u64::from(pattern.width());
