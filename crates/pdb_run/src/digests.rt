@@ -8,16 +8,16 @@ use sha2::{Digest, Sha256};
 use std::thread::{Threads, join};
 
 /// How many bytes a digest line has: `sha256 `, 64 digits and its end.
-const DIGEST_LEN: usize = 72;
+pub(crate) const DIGEST_LEN: usize = 72;
 
 /// Where its digits begin.
 const DIGITS: usize = 7;
 
-/// The most files before the last one whose digests are made beside a check: as many as a bundle has tables.
-const FILES_BESIDE: usize = 16;
+/// The most files before the last one whose digests are made beside a check.
+pub const FILES_BESIDE: usize = 16;
 
 /// How many bytes their digest lines and that of the last one have.
-pub const DIGESTS_LEN: usize = 1_224;
+pub const DIGESTS_LEN: usize = (FILES_BESIDE + 1) * DIGEST_LEN;
 
 /// Digest lines, as a value.
 pub type Digests = ArrayVec<u8, DIGESTS_LEN>;
@@ -27,7 +27,7 @@ type Made = Result<Digests, CapacityError>;
 
 /// The digest lines of files and of a last one, where there is one, and what a check answers beside which they are made: in
 /// threads of their own, at most as many as workers. Where a thread can't be started, its digests are made after the check
-/// or after others. With one worker, or more files than a bundle has tables, none are made.
+/// or after others. With one worker, or more files than `FILES_BESIDE`, none are made.
 pub fn beside<R: Threads + Sync, T, F: FnOnce() -> T>(
     rt: &R,
     workers: u8,

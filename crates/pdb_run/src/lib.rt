@@ -12,8 +12,8 @@ mod writing;
 
 pub use answers::{Answer, LINES_LEN, Lines, lines};
 pub use commands::Command;
-pub use digests::{DIGESTS_LEN, Digests, beside};
+pub use digests::{DIGESTS_LEN, Digests, FILES_BESIDE, beside};
 pub use inputs::{Input, Unread, load_all};
-pub use runs::{conclude, keep_and_conclude, read_inputs, say_no_memory};
+pub use runs::{NO_MEMORY, conclude, keep_and_conclude, read_inputs, say_no_memory};
 pub use statuses::Status;
 pub use writing::{say, say_digests};

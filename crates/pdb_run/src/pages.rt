@@ -6,13 +6,17 @@ ghost use Rattle.pdb_io.specs.Streams.{AppendsFront};
 ghost use Rattle.pdb_run.specs.Writing.{all_bytes, all_files, digests_of, list_of, shown_byte};
 ghost use Rattle.pdb_run.specs.Pages.{Gathers};
 
-use crate::digests::digest_line;
+use crate::answers::LINES_LEN;
+use crate::digests::{DIGEST_LEN, DIGESTS_LEN, digest_line};
 use arrayvec::ArrayVec;
 use pdb_io::streams::{WriteFault, put_bytes};
 use std::io::Write;
 
-/// How many bytes a page holds: the digests of 16 tables and a log, and the lines behind them.
+/// How many bytes a page holds.
 const PAGE_LEN: usize = 4_096;
+
+// A page holds all digest lines that may be made beside a check, that of a file that was made, and the lines behind them.
+const _: () = prove!(DIGESTS_LEN + DIGEST_LEN + LINES_LEN <= PAGE_LEN);
 
 /// Text on its way to a writer: written where the page is full, and at its end.
 #[derive(Drop)]

@@ -21,6 +21,9 @@ use pdb_io::streams::{ReadFault, WriteFault, put_text};
 use std::alloc::{AllocError, Global};
 use std::io::{Read, Write};
 
+/// The line of want of memory.
+pub const NO_MEMORY: &str = "no memory\n";
+
 /// Reads the inputs of a command. Where one can't be read, that is said, and the run has ended.
 pub fn read_inputs<C: Command, S: Shelf, R: Read, W: Write>(
     alloc: Global,
@@ -186,7 +189,7 @@ fn put_named<W: Write>(text: &str, name: &str, out: &mut W) -> Result<(), WriteF
 pub fn say_no_memory<W: Write>(out: &mut W) -> Status
     ensures { Says memory_line Status.NoMemory (W.contents out.old) (W.contents out.new) result }
 {
-    status_after(put_text(out, "no memory\n"), Status::NoMemory)
+    status_after(put_text(out, NO_MEMORY), Status::NoMemory)
 }
 
 /// The status of a run, where this came of its last write.

@@ -7,11 +7,14 @@ use crate::verdicts::{Fault, MakeRefusal, Verdict};
 use itoa::Buffer;
 use log_check::LogRefusal;
 use log_file::FormFault;
-use pdb_run::{Lines, lines};
+use pdb_run::{Lines, NO_MEMORY, lines};
 use puz_board::{BoardFault, MoveFault, Side};
 use set_sum::SetFault;
 use tab_check::{Census, TableRefusal};
 use tab_file::HeadFault;
+
+/// The most bytes of a text before a number: two such texts with their numbers fit into lines.
+const MOST_TEXT: usize = 40;
 
 /// The line of a verdict, a refusal or want of memory.
 pub fn line_of(answer: &Result<Verdict, Fault>) -> Lines
@@ -67,7 +70,7 @@ fn fault_line(fault: &Fault) -> Lines
         }
         Fault::Make(refused) => make_line(*refused),
         Fault::K4 => lines(&["refused K4\n"]),
-        Fault::Memory => lines(&["no memory\n"]),
+        Fault::Memory => lines(&[NO_MEMORY]),
     }
 }
 
@@ -135,7 +138,7 @@ fn numbered_table_line(number: usize, refused: TableRefusal) -> Lines
 /// What comes before the number of a table file whose header is refused.
 fn numbered_head_text(refused: HeadFault) -> &'static str
     ensures text { (number : ℕ) → counted result.now number ≡ line_of_numbered_head_fault number refused }
-    ensures short { length result.now ≤ 40 }
+    ensures short { length result.now ≤ MOST_TEXT }
 {
     match refused {
         HeadFault::T1 => "refused T1 of table ",
@@ -196,7 +199,7 @@ fn make_line(refused: MakeRefusal) -> Lines
 
 /// A text, a number and the line's end.
 fn counted(text: &str, number: u64) -> Lines
-    requires { length text.now ≤ 40 }
+    requires { length text.now ≤ MOST_TEXT }
     ensures { result.bytes ≡ counted text.now number }
 {
     let mut digits = Buffer::new();
@@ -205,7 +208,7 @@ fn counted(text: &str, number: u64) -> Lines
 
 /// Two texts, each with a number behind it, and the line's end.
 fn counted_twice(text: &str, number: u64, other: &str, other_number: u64) -> Lines
-    requires { (length text.now ≤ 40) × (length other.now ≤ 40) }
+    requires { (length text.now ≤ MOST_TEXT) × (length other.now ≤ MOST_TEXT) }
     ensures { result.bytes ≡ counted_twice text.now number other.now other_number }
 {
     lines(&[

@@ -15,12 +15,16 @@ use crate::lines::line_of;
 use crate::verdicts::{Fault, Verdict, verify_by};
 use crate::workers::Workers;
 use pdb_io::streams::{WriteFault, put_text};
-use pdb_run::{Answer, Digests, beside, say, say_digests};
+use pdb_run::{Answer, Digests, FILES_BESIDE, beside, say, say_digests};
+use set_sum::MOST_TABLES;
 use std::alloc::{AllocError, Global};
 use std::io::Write;
 use std::sync::Wait;
 use std::thread::Threads;
 use work_run::Gate;
+
+// The digests of all tables of a bundle may be made beside its check.
+const _: () = prove!(FILES_BESIDE == MOST_TABLES);
 
 /// Writes all lines on the inputs: the digests and then the answer's line, which stands alone for want of memory.
 pub fn report<W: Write>(
