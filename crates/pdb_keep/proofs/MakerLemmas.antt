@@ -36,6 +36,7 @@ use Rattle.pdb_verdict.proofs.OptimumLemmas.{IsOptimumResult-yes}
 use Rattle.pdb_keep.specs.MakeTable.{IsOfAnother, SpeaksOf}
 use Rattle.pdb_keep.specs.Solve.{AreForBoard, IsMade, letter_of, letters_of, puzzle_of}
 use Rattle.pdb_keep.specs.Steps.{HasItsMoves, IsCauseForSearch, IsGivenUp, IsMadeOver}
+use Rattle.pdb_keep.specs.declared.solutions.TheConstants.{MOST_LETTERS}
 
 -- ---- tables
 
@@ -192,7 +193,7 @@ module _ (moves front piece : Bytes) (i : ℕ) (low : i < length moves) (so_far 
       append_assoc front piece (letters_of (drop (i + 1) moves)) ∙ ap (λ (rest : Bytes). front ++ rest) (sym next) ∙ so_far
 
   -- there is room for the next
-  pub letters-room : length (letters_of moves) ≤ 255 → length front + length piece ≤ 255
+  pub letters-room : length (letters_of moves) ≤ MOST_LETTERS → length front + length piece ≤ MOST_LETTERS
   letters-room few =
       let both : length (front ++ piece) ≡ length front + length piece = length-append front piece in
       let all : length ((front ++ piece) ++ letters_of (drop (i + 1) moves)) ≡ length (front ++ piece) + length (letters_of (drop (i + 1) moves)) =

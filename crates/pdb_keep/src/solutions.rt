@@ -11,6 +11,9 @@ use pdb_run::{Lines, lines};
 use pdb_verdict::{Fault, Verdict, line_of};
 use puz_board::Move;
 
+/// The most letters of the moves of an optimum: how many they are is a byte.
+const MOST_LETTERS: usize = u8::MAX as usize;
+
 /// The lines of a result on moves and their log: of an optimum the moves come first.
 pub(crate) fn lines_on(moves: &[u8], answer: &Result<Verdict, Fault>) -> Lines
     requires { HasItsMoves moves.now answer.now }
@@ -38,8 +41,8 @@ fn optimum_lines(moves: &[u8], count: u8) -> Lines
 }
 
 /// The letters of the moves of a text.
-fn letters_of(moves: &[u8]) -> ArrayString<255>
-    requires { length (letters_of moves.now) ≤ 255 }
+fn letters_of(moves: &[u8]) -> ArrayString<MOST_LETTERS>
+    requires { length (letters_of moves.now) ≤ MOST_LETTERS }
     ensures { result.bytes ≡ letters_of moves.now }
 {
     let mut letters = ArrayString::new();
