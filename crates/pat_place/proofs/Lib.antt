@@ -16,4 +16,3 @@ pub mod SlotLemmas
 pub mod SlotSteps
 mod SlotTableLemmas
 pub mod WidthLemmas
-pub use Rattle.puz_board.proofs.BitLemmas

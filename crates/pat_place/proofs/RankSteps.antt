@@ -9,10 +9,11 @@ use Rattle.std.proofs.lemmas.Nat.{mul-le, mod_below, div-add-mod', div-mul-add, 
 use Rattle.std.proofs.lemmas.Nat.Bits.{bit_at_ones}
 use Rattle.std.proofs.Math.Nat.{pow-suc, pow-le-pow_right}
 use Rattle.puz_board.specs.Masks.{numbers_of, ones_below}
+use Rattle.puz_board.proofs.OnesLemmas.{ones_below-mono, ones_below-suc}
 use Rattle.pat_place.specs.Placements.{IsApart}
 use Rattle.pat_place.specs.Ranks.{lists_of, falling_factorial}
 use Rattle.pat_place.proofs.ListLemmas.{apart_from_ascending, ascending-range, apart_at, all_at}
-use Rattle.pat_place.proofs.MaskLemmas.{ones_below-mono, get-numbers_below, numbers_below-clear, ascending-numbers_below, length-numbers_below, numbers_below-full, ones_below-suc, has-numbers_below}
+use Rattle.pat_place.proofs.MaskLemmas.{get-numbers_below, numbers_below-clear, ascending-numbers_below, length-numbers_below, numbers_below-full, has-numbers_below}
 use Rattle.pat_place.proofs.RankLemmas.{rank_step, length-without, length_lists}
 use Rattle.std.proofs.lemmas.List.FromFn.{length-range_with_len}
 

@@ -1,6 +1,5 @@
 pub mod BoardLaws
 pub mod Laws
-pub use Rattle.puz_board.specs.Masks
 pub mod Patterns
 pub mod Placements
 pub mod Ranks

@@ -6,9 +6,7 @@ ghost use Rattle.puz_board.specs.Cells.{Adjacent};
 ghost use Rattle.puz_board.specs.Masks.{IsMaskOf};
 ghost use Rattle.pat_place.specs.Regions.{Reaches};
 
-use crate::masks;
-use puz_board::Side;
-use puz_board::masks::{first_column, last_column};
+use puz_board::{Side, masks};
 
 /// The region of a free cell: the free cells that a path of free cells reaches from it.
 pub(crate) fn region_of(side: Side, free: u32, cell: u8) -> u32
@@ -27,8 +25,8 @@ pub(crate) fn region_until(side: Side, free: u32, cell: u8, goal: u32) -> u32
     ensures whole { bit_and result goal ≡ 0 → IsMaskOf result (Reaches side (λ c. bit_at free c ≡ 1) cell) }
 {
     let n = side.get();
-    let right = free & !first_column(side);
-    let left = free & !last_column(side);
+    let right = free & !masks::first_column(side);
+    let left = free & !masks::last_column(side);
     let mut region = masks::with(0, cell);
     'grow: loop {
         let more = grown(n, free, right, left, region);

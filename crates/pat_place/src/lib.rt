@@ -4,7 +4,7 @@
 pub mod board_laws;
 mod flood;
 pub mod laws;
-pub mod masks;
+mod mask_numbers;
 mod patterns;
 mod placements;
 mod ranks;
@@ -14,6 +14,7 @@ mod slots;
 #[cfg(test)]
 mod tests;
 
+pub use mask_numbers::put_numbers;
 pub use patterns::Pattern;
 pub use placements::Placement;
 pub use ranks::{next, rank, rank_among, unrank};

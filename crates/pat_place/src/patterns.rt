@@ -6,7 +6,7 @@ ghost use Rattle.puz_board.specs.Masks.{numbers_of};
 ghost use Rattle.pat_place.specs.Patterns.{IsPattern, most_tiles, width};
 ghost use Rattle.pat_place.specs.Ranks.{falling_factorial, placements};
 
-use crate::masks;
+use crate::mask_numbers::put_numbers;
 use arrayvec::ArrayVec;
 use puz_board::Side;
 use std::marker::Model;
@@ -77,7 +77,7 @@ impl Pattern {
         ensures pattern { IsPattern self.now }
     {
         let mut tiles = ArrayVec::new();
-        masks::put_numbers(self.mask, &mut tiles);
+        put_numbers(self.mask, &mut tiles);
         tiles
     }
 

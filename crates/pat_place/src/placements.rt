@@ -6,10 +6,10 @@ ghost use Rattle.puz_board.specs.Masks.{IsMaskOf};
 ghost use Rattle.pat_place.specs.Patterns.{IsPattern, has};
 ghost use Rattle.pat_place.specs.Placements.{IsPlacement, IsFree, cells_found, placement_of};
 
-use crate::masks;
+use crate::mask_numbers::put_numbers;
 use crate::patterns::Pattern;
 use arrayvec::ArrayVec;
-use puz_board::Board;
+use puz_board::{Board, masks};
 use std::marker::Model;
 
 /// A placement: the cells of a pattern's tiles, in the tiles' order.
@@ -128,7 +128,7 @@ impl Placement {
     {
         let _side = pattern.side();
         let mut cells = ArrayVec::new();
-        masks::put_numbers(set, &mut cells);
+        put_numbers(set, &mut cells);
         Placement::in_cells(pattern, cells.as_slice())
     }
 

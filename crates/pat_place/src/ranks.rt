@@ -7,10 +7,10 @@ ghost use Rattle.puz_board.specs.Masks.{numbers_of};
 ghost use Rattle.pat_place.specs.Placements.{IsApart, IsPlacement};
 ghost use Rattle.pat_place.specs.Ranks.{IsRank, lists_of, placements};
 
-use crate::masks;
 use crate::patterns::Pattern;
 use crate::placements::Placement;
 use crate::slots::free_cells;
+use puz_board::masks;
 
 /// The rank of a placement: its place among all placements of its pattern.
 pub fn rank(placement: &Placement) -> u64

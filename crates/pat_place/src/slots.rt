@@ -9,9 +9,9 @@ ghost use Rattle.pat_place.specs.Placements.{IsFree};
 ghost use Rattle.pat_place.specs.Regions.{IsSlot, AreRegions, IsFirstWith};
 
 use crate::flood::{region_of, region_until};
-use crate::masks;
 use crate::placements::Placement;
 use arrayvec::ArrayVec;
+use puz_board::masks;
 
 /// The regions of free cells as masks, in the order of their least cells.
 pub fn regions(placement: &Placement) -> ArrayVec<u32, 8>

@@ -1,7 +1,7 @@
 ghost use Rattle.std.specs.Prelude.{◌≡◌};
 
-use crate::{Pattern, Placement, SlotTable, masks, next, rank, regions, slot_of, unrank};
-use puz_board::{Board, Side};
+use crate::{Pattern, Placement, SlotTable, next, rank, regions, slot_of, unrank};
+use puz_board::{Board, Side, masks};
 use std::process::Abort;
 use std::test::Fail;
 

@@ -2,7 +2,7 @@
 --
 -- The maker is free: it may build any bytes, or give up. What is told of them, and whether they are kept, is not free.
 use Rattle.std.specs.Prelude.{◌≡◌, ◌⊎◌, ⊤, ℕ, false, [], Some, None, Result, Ok, is_ok}
-use Rattle.pat_place.specs.Masks.{numbers_of}
+use Rattle.puz_board.specs.Masks.{numbers_of}
 use Rattle.pat_place.specs.Patterns.{IsPattern}
 use Rattle.tab_check.specs.declared.census.Census.{Census}
 use Rattle.pdb_io.specs.Shelf.{Bytes}

@@ -1,6 +1,6 @@
 -- `table FILE`: whether the table of a table file is exact.
 use Rattle.std.specs.Prelude.{◌≡◌, ℕ, ◌<◌, ◌^◌, List, [], ◌∷◌, Result, Ok, Err}
-use Rattle.pat_place.specs.Masks.{numbers_of}
+use Rattle.puz_board.specs.Masks.{numbers_of}
 use Rattle.tab_file.specs.TableFiles.{IsTableFile}
 use Rattle.tab_file.specs.Tables.{Table}
 use Rattle.tab_check.specs.Counts.{IsCensusOf}

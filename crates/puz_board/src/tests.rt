@@ -1,4 +1,7 @@
-use crate::masks::{first_column, last_column};
+use crate::masks::{
+    above, all_below, count_below, first_column, first_of, has_cell, last_column, select, with,
+    without,
+};
 use crate::{Board, BoardFault, Move, MoveFault, Side, replay, split_puzzle, step};
 use std::process::Abort;
 
@@ -202,6 +205,21 @@ fn columns_are_masks_of_cells(rt: HostRuntime) {
         assert_eq!(rt; first_column(side), first, "side {n}");
         assert_eq!(rt; last_column(side), last, "side {n}");
     }
+}
+
+#[test]
+fn masks_have_their_numbers(rt: HostRuntime) {
+    // The numbers 1, 3 and 7.
+    let mask = 0b1000_1010;
+    assert!(rt; has_cell(mask, 3) && !has_cell(mask, 2));
+    assert_eq!(rt; with(mask, 0), 0b1000_1011);
+    assert_eq!(rt; without(mask, 3), 0b1000_0010);
+    assert_eq!(rt; above(mask, 3), 0b1000_0000);
+    assert_eq!(rt; all_below(3), 0b111);
+    assert_eq!(rt; first_of(mask), 1);
+    assert_eq!(rt; count_below(mask, 7), 2);
+    assert!(rt; mask.count_ones() > 2);
+    assert_eq!(rt; select(mask, 2), 7);
 }
 
 /// Where a step leads from a cell of side 3: up, down, left and right.

@@ -2,8 +2,7 @@
 
 use crate::entries::MOST_TILES;
 use pat_place::Pattern;
-use pat_place::masks::all_below;
-use puz_board::masks::{first_column, last_column};
+use puz_board::masks::{all_below, first_column, last_column};
 
 /// How many steps lead from one cell of a board to each cell of its region at most.
 const MOST_STEPS: u8 = 25;

@@ -5,8 +5,8 @@ use Rattle.std.specs.Int.{bit_at, trailing_zeros, w32}
 use Rattle.std.proofs.lemmas.Nat.{and_le_r}
 use Rattle.std.proofs.lemmas.Nat.Bits.{bit_at-trailing_zeros, bit_at-zero}
 use Rattle.puz_board.specs.Costs.{has}
-use Rattle.pat_place.specs.Masks.{numbers_of}
-use Rattle.pat_place.proofs.BitLemmas.{both_in, either_in, in_below, in_both, in_left, in_right}
+use Rattle.puz_board.specs.Masks.{numbers_of}
+use Rattle.puz_board.proofs.BitLemmas.{both_in, either_in, in_below, in_both, in_left, in_right}
 use Rattle.pat_place.proofs.MaskLemmas.{has-numbers_below, in_numbers_below}
 use Rattle.set_sum.specs.Sums.{AreDisjoint, HaveOverlap, Overlap}
 use Rattle.set_sum.proofs.AnyLemmas.{Any-cases, Any-either, Any-here, Any-later, Any-left, Any-none, Any-right, Any-weaker}

@@ -2,7 +2,7 @@
 use Rattle.std.specs.Prelude.{◌≡◌, ◌≢◌, ℕ, ◌<◌, List, length, slice_index, slice_set, Some}
 use Rattle.puz_board.specs.Cells.{step_of}
 use Rattle.puz_board.specs.declared.moves.Move.{Move}
-use Rattle.pat_place.specs.Masks.{IsMaskOf}
+use Rattle.puz_board.specs.Masks.{IsMaskOf}
 use Rattle.pat_place.specs.Placements.{PlacementView, IsPlacement}
 use Rattle.pat_place.specs.Regions.{IsSlot}
 use Rattle.tab_file.specs.Tables.{Table, IsTable, slot_count}

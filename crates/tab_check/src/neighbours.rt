@@ -13,8 +13,8 @@ ghost use Rattle.tab_check.specs.LocalRule.{IsLeastNear, IsLeastOf};
 ghost use Rattle.tab_check.specs.Moves.{IsEntryTowards, IsFoundTowards, IsRegion, IsTileIn, NoneTowards};
 
 use crate::columns::MOST_ENTRIES;
-use pat_place::masks::has_cell;
 use pat_place::{Placement, rank, slot_of};
+use puz_board::masks::has_cell;
 use puz_board::{Move, Side, step};
 use tab_file::TableView;
 use tab_lanes::{NO_WAY_HOME, min_into};

@@ -2,7 +2,7 @@
 use Rattle.std.specs.Prelude.{◌≡◌, ◌≢◌, ℕ, ◌+◌, ◌*◌, ◌<◌, ◌≤◌, ◌==◌, nat_eq, nat_lt, nat_le, ◌&&◌, not, Bool, List, [], ◌∷◌, drop, length, take, find, Option, Result, Ok, Err}
 use Rattle.std.specs.List.{AllByRecursion, list_all, starts_with}
 use Rattle.std.specs.Option.{option_map_or}
-use Rattle.pat_place.specs.Masks.{numbers_of}
+use Rattle.puz_board.specs.Masks.{numbers_of}
 use Rattle.pat_place.specs.Patterns.{PatternView, IsPattern, most_tiles}
 use Rattle.tab_file.specs.Tables.{Table, entry_count}
 use Rattle.tab_file.specs.TableFiles.{signature, side_in, size_in, spare_in, mask_in, count_in}

@@ -2,7 +2,7 @@
 -- The places of bytes are counted from 0, and a number of several bytes has its highest byte first.
 use Rattle.std.specs.Prelude.{◌≡◌, ℕ, ◌≤◌, List, [], ◌∷◌, ◌++◌, codes, drop, length, slice_index, take}
 use Rattle.byteorder.specs.Endian.{big_number}
-use Rattle.pat_place.specs.Masks.{numbers_of}
+use Rattle.puz_board.specs.Masks.{numbers_of}
 use Rattle.pat_place.specs.Patterns.{PatternView}
 use Rattle.tab_file.specs.Tables.{Table, IsTable, entry_count}
 

@@ -7,6 +7,7 @@ use crate::{
     GOAL_SLOT, OTHER_SLOT, WITHOUT_REGION, count_eq, first_bad, flood, flood_step, greatest_count,
     min_into,
 };
+use puz_board::masks::{has_cell, with};
 use puz_board::{Move, Side, step};
 use std::process::Abort;
 use std::test::Fail;
@@ -275,12 +276,6 @@ fn worked_masks_grow(rt: HostRuntime) {
     assert_eq!(rt; flooded(five, &[1], &[33_554_431]), Some([33_554_431]));
 }
 
-fn has_cell(mask: u32, cell: u8) -> bool
-    requires { cell < 32 }
-{
-    mask >> cell & 1 == 1
-}
-
 /// One step of a mask, cell by cell.
 fn plain_step(side: Side, mask: u32, free: u32) -> u32 {
     let mut grown = mask;
@@ -288,7 +283,7 @@ fn plain_step(side: Side, mask: u32, free: u32) -> u32 {
         for way in [Move::Up, Move::Down, Move::Left, Move::Right] {
             if let Some(to) = step(side, cell, way) {
                 if has_cell(mask, cell) && has_cell(free, to) {
-                    grown |= 1 << to;
+                    grown = with(grown, to);
                 }
             }
         }

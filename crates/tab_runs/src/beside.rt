@@ -6,8 +6,7 @@ ghost use Rattle.puz_board.specs.Masks.{IsMaskOf};
 ghost use Rattle.puz_board.specs.Cells.{Adjacent, step_of};
 ghost use Rattle.tab_runs.specs.Beside.{AreBesideAll};
 
-use crate::masks;
-use puz_board::{Move, Side, step};
+use puz_board::{Move, Side, masks, step};
 
 /// The mask, and the cell to which a move leads.
 #[inline]

@@ -15,11 +15,12 @@ ghost use Rattle.tab_runs.specs.Steps.{AreLeastNear};
 ghost use Rattle.tab_runs.specs.StoredRows.{rows_for};
 
 use crate::checks::first_bad;
-use crate::masks;
+use crate::masks::last_outside;
 use crate::near::least_near;
 use crate::rows::RowTable;
 use crate::runs::{BYTE_PLACES, Run, RunCells, RunKinds, run_entries};
 use pat_place::{Pattern, Placement, next, unrank};
+use puz_board::masks;
 use std::ops::Range;
 use tab_check::{BLOCK_RANKS, check_block, goal_number};
 use tab_file::TableView;
@@ -71,7 +72,7 @@ fn last_of_run(pattern: &Pattern, placement: &Placement) -> Placement
     let index = usize::from(pattern.size()) - 1;
     let cell = placement.cell(index);
     let set = masks::without(placement.occupied(), cell);
-    let Some(last) = masks::last_outside(set, count) else {
+    let Some(last) = last_outside(set, count) else {
         return *placement;
     };
     if last == cell {

@@ -1,10 +1,10 @@
-//! Masks of 32 bits: bit x stands for the number x.
+//! What a mask lacks.
 
 ghost use Rattle.std.specs.Prelude.{◌≡◌, ℕ, ◌<◌, ◌≤◌, MatchOption};
 ghost use Rattle.std.specs.Int.{bit_at};
 ghost use Rattle.tab_runs.specs.Outside.{IsLastOutside};
 
-pub(crate) use pat_place::masks::{all_below, first_of, has_cell, put_numbers, with, without};
+use puz_board::masks::has_cell;
 
 /// The greatest number below `count` that the mask lacks.
 #[inline]

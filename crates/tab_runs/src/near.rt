@@ -12,9 +12,9 @@ ghost use Rattle.tab_runs.specs.StoredRows.{rows_for};
 ghost use Rattle.tab_runs.specs.Steps.{AreLeastNear, IsBesideStep, IsIndexStep, IsPairStep, IsSomeLastStep, IsStepAmong, IsTakenIn, IsTileStep};
 
 use crate::kernels::{take_in, take_one};
-use crate::masks;
 use crate::rows::RowTable;
 use crate::runs::{BYTE_PLACES, Run, run_entries};
+use puz_board::masks;
 use tab_file::TableView;
 use tab_lanes::NO_WAY_HOME;
 

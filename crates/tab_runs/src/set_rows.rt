@@ -10,9 +10,9 @@ ghost use Rattle.tab_runs.specs.Rows.{row_length};
 ghost use Rattle.tab_runs.specs.SetRows.{AreRowsUpTo, IsColumn, IsInSome, listed_of};
 ghost use Rattle.tab_runs.specs.StoredRows.{AreAllKinds, AreAllRows, entries_of_run};
 
-use crate::masks;
 use arrayvec::ArrayVec;
-use pat_place::{Pattern, find_region, next, rank_among, regions, unrank};
+use pat_place::{Pattern, find_region, next, put_numbers, rank_among, regions, unrank};
+use puz_board::masks;
 use std::alloc::{AllocError, Global};
 use tab_lanes::OTHER_SLOT;
 
@@ -151,7 +151,7 @@ pub(crate) fn push_set(
 {
     let _pattern = pattern.side();
     let mut cells = ArrayVec::new();
-    masks::put_numbers(set, &mut cells);
+    put_numbers(set, &mut cells);
     let made = rows_of(alloc, pattern, cells.as_slice(), set)?;
     rows.extend_from_slice(made.rows.as_slice())?;
     kinds.extend_from_slice(made.kinds.as_slice())?;

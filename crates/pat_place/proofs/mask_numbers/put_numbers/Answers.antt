@@ -4,7 +4,7 @@ use Rattle.puz_board.specs.Masks.{numbers_of}
 use Rattle.pat_place.specs.Patterns.{has}
 use Rattle.pat_place.proofs.ListLemmas.{length-has}
 use Rattle.pat_place.proofs.MaskLemmas.{has-numbers_below, numbers_below-first, numbers_below-zero}
-use Rattle.pat_place.proofs.masks.put_numbers.Goals as goal
+use Rattle.pat_place.proofs.mask_numbers.put_numbers.Goals as goal
 
 -- where a number is left, there is room for it
 room : (items : List ℕ) (rest number : ℕ) (numbers : List ℕ) → items ++ numbers_of rest ≡ numbers → has (numbers_of rest) number ≡ true → length numbers ≤ 8 → length items < 8

@@ -2,7 +2,7 @@ use Rattle.std.proofs.Common.{◌≡◌, ◌^◌, ◌%◌, bit_and, ◌∙◌, a
 use Rattle.std.specs.Prelude.{count_ones}
 use Rattle.std.proofs.lemmas.Nat.{and_mask, ones-le, mod_below, pow_pos}
 use Rattle.puz_board.specs.Masks.{ones_below}
-use Rattle.pat_place.proofs.masks.count_below.Goals as goal
+use Rattle.puz_board.proofs.masks.count_below.Goals as goal
 
 pub returns-clause-count : goal.returns-clause-count
 returns-clause-count c = ap count_ones (ap (bit_and c.args.mask) c.all_below.ensures ∙ and_mask c.args.mask c.args.number)

@@ -1,6 +1,6 @@
 use Rattle.std.specs.Int.{w32}
 use Rattle.std.proofs.lemmas.Nat.Bits.{bit_at_clear_same, bit_at_clear_other}
-use Rattle.pat_place.proofs.masks.without.Goals as goal
+use Rattle.puz_board.proofs.masks.without.Goals as goal
 
 pub returns-clause-here : goal.returns-clause-here
 returns-clause-here c = bit_at_clear_same w32 c.args.mask c.args.number c.requires

@@ -2,8 +2,8 @@ use Rattle.std.proofs.Common.{◌≡◌, ℕ, ◌+◌, ◌-◌, ◌*◌, ◌/◌
 use Rattle.std.specs.Int.{from_bool}
 use Rattle.std.proofs.lemmas.Bool.{leb-true, leb-false}
 use Rattle.puz_board.specs.Masks.{ones_below}
-use Rattle.pat_place.proofs.MaskLemmas.{Holds, Holds-upper, Holds-lower, Holds-found}
-use Rattle.pat_place.proofs.masks.select.Goals as goal
+use Rattle.puz_board.proofs.OnesLemmas.{Holds, Holds-upper, Holds-lower, Holds-found}
+use Rattle.puz_board.proofs.masks.select.Goals as goal
 
 -- the upper half, or the lower one
 halved : (mask place number span : ℕ) → Holds mask place number span → 1 < span → (upper : Bool) → leb (ones_below mask (number + span / 2)) place ≡ upper → Holds mask place (number + span / 2 * from_bool upper) (span - span / 2)

@@ -1,6 +1,6 @@
 use Rattle.std.specs.Int.{w32}
 use Rattle.std.proofs.lemmas.Nat.Bits.{bit_at-trailing_zeros}
-use Rattle.pat_place.proofs.masks.first_of.Goals as goal
+use Rattle.puz_board.proofs.masks.first_of.Goals as goal
 
 pub returns-clause-here : goal.returns-clause-here
 returns-clause-here c = (bit_at-trailing_zeros w32 c.args.mask c.requires c.ranges.mask.fits).1

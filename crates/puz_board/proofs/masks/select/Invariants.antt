@@ -1,5 +1,5 @@
-use Rattle.pat_place.proofs.MaskLemmas.{Holds}
-use Rattle.pat_place.proofs.masks.select.Given as goal
+use Rattle.puz_board.proofs.OnesLemmas.{Holds}
+use Rattle.puz_board.proofs.masks.select.Given as goal
 
 abbrev pub invariant-loop-span : goal.invariant-loop-span
 invariant-loop-span l = Holds l.mask l.place l.number l.span

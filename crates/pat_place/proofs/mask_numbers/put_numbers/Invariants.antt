@@ -1,6 +1,6 @@
 use Rattle.std.proofs.Common.{◌≡◌, ◌++◌}
 use Rattle.puz_board.specs.Masks.{numbers_of}
-use Rattle.pat_place.proofs.masks.put_numbers.Given as goal
+use Rattle.pat_place.proofs.mask_numbers.put_numbers.Given as goal
 
 abbrev pub invariant-loop-rest : goal.invariant-loop-rest
 invariant-loop-rest l = l.numbers.items ++ numbers_of l.rest ≡ numbers_of l.mask

@@ -2,7 +2,7 @@ use Rattle.std.proofs.Common.{◌≡◌, ◌+◌, ◌-◌, ◌^◌, inl, inr, �
 use Rattle.std.specs.Int.{bit_at, w32}
 use Rattle.std.proofs.lemmas.Bool.{cases_lt}
 use Rattle.std.proofs.lemmas.Nat.Bits.{bit_at-lt, bit_at_and, bit_at_not, bit_at_above, bit_at_ones, bit_at_ones_above}
-use Rattle.pat_place.proofs.masks.above.Goals as goal
+use Rattle.puz_board.proofs.masks.above.Goals as goal
 
 pub returns-clause-above : goal.returns-clause-above
 returns-clause-above c x above =
