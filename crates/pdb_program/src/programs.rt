@@ -125,13 +125,13 @@ fn answer<H: Threads + Wait + Sync, S: Shelf, R: Read, W: Write, E: Write, G: Ga
 
 /// The names of the files that the check of a log reads.
 fn names_in<'t, 'n>(check: &'t LogCheck<'n>) -> ClaimNames<'t, 'n>
-    ensures claim { result.text.now ≡ check.now.claim.now }
+    ensures text { result.text.now ≡ check.now.text.now }
     ensures sets { result.sets.now ≡ check.now.sets.now }
     ensures log { result.log.now ≡ check.now.log.now }
     ensures tables { result.tables.now ≡ check.now.tables.items }
 {
     ClaimNames {
-        text: check.claim,
+        text: check.text,
         sets: check.sets,
         log: check.log,
         tables: check.tables.as_slice(),

@@ -33,7 +33,7 @@ AsksCheck = List ℕ → List ℕ → List ℕ → List (List ℕ) → ℕ → A
 
 -- what the check of a log asks for, with this kind of claim
 abbrev pub asks_check : AsksCheck → LogCheck → Asked
-asks_check asks check = asks check.claim.now check.sets.now check.log.now (file_names check.tables.items) check.workers
+asks_check asks check = asks check.text.now check.sets.now check.log.now (file_names check.tables.items) check.workers
 
 -- a request, as its bytes
 abbrev pub view : Request → Asked

@@ -30,7 +30,7 @@ pub enum Request<'a> {
 #[derive(Debug, PartialEq, Drop)]
 pub struct LogCheck<'a> {
     /// What the log is to prove something of: a board text or a puzzle text.
-    pub claim: &'a str,
+    pub text: &'a str,
     /// The sets of tables that the log sums over.
     pub sets: &'a str,
     pub log: &'a str,

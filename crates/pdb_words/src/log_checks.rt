@@ -38,7 +38,7 @@ pub(crate) fn check_in<'a>(
     ensures workers { IfOk result (λ check. AreWorkers check.workers) }
 {
     Ok(LogCheck {
-        claim: file_in(found, claim),
+        text: file_in(found, claim),
         sets: file_in(found, "SETS"),
         log: file_in(found, "LOG"),
         tables: tables_in(alloc, found)?,

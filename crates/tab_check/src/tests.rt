@@ -1,6 +1,6 @@
 //! Known tables, tables by a search of their own and changed ones, by several workers, and gates that watch and hold them.
 
-ghost use Rattle.std.specs.Prelude.{◌<◌, ◌≤◌};
+ghost use Rattle.work_run.specs.Workers.{AreWorkers};
 
 use crate::blocks::block_count;
 use crate::{Census, CheckedTable, Count, TableFault, TableRefusal, check_block, check_table};
@@ -32,7 +32,7 @@ fn census_by<R: Threads + Wait + AllocGlobal, G: Gate + Sync>(
     workers: u8,
     gate: &G,
 ) -> Result<Census, TableFault>
-    requires { (0 < workers) × (workers ≤ 64) }
+    requires { AreWorkers workers }
 {
     match check_table(rt, rt.alloc(), file, workers, gate) {
         Ok(table) => Ok(table.census()),

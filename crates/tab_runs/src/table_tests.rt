@@ -1,6 +1,6 @@
 //! Tables that are checked run by run, and small ones: known tables, tables by a search of their own, and changed ones.
 
-ghost use Rattle.std.specs.Prelude.{◌<◌, ◌≤◌};
+ghost use Rattle.work_run.specs.Workers.{AreWorkers};
 
 use crate::check_table;
 use samples::files::{TILE_1_NEVER, TILE_24, TILES_12, TILES_123, with_byte, with_one_more};
@@ -27,7 +27,7 @@ fn census_by<R: Threads + Wait + AllocGlobal, G: Gate + Sync>(
     workers: u8,
     gate: &G,
 ) -> Result<Census, TableFault>
-    requires { (0 < workers) × (workers ≤ 64) }
+    requires { AreWorkers workers }
 {
     match check_table(rt, rt.alloc(), file, workers, gate) {
         Ok(table) => Ok(table.census()),

@@ -64,7 +64,7 @@ fn words_name_the_files_of_a_log(rt: HostRuntime) -> Result<(), Fail> {
     for (words, tables, workers) in cases {
         let check = || -> Result<LogCheck<'_>, Fail> {
             Ok(LogCheck {
-                claim: "c",
+                text: "c",
                 sets: "s",
                 log: "l",
                 tables: tables.to_vec(alloc)?,
