@@ -12,7 +12,7 @@ ghost use Rattle.book_live.specs.Steps.{IsOneStep, claim_answer, Claimed, Placed
 ghost use Rattle.book_live.specs.Callers.{ArePasses, all_deeds, IsEachDrawnOnce, IsOutcome, ShowsStart, numbered_passes, ShowsEnd, HoldsAll, IsWhole};
 
 use crate::passes::Pass;
-use crate::rules::{Chair, Claims, LEAST, Looks, NEXT, NONE, Reports, Rule, Shares};
+use crate::rules::{BookSeat, Claims, LEAST, Looks, NEXT, NONE, Reports, Rule, Shares};
 use crate::views::{Sizes, View};
 use atomic_table::Table;
 use std::alloc::{AllocError, Global};
@@ -124,7 +124,7 @@ impl Book {
     }
 
     /// A book, and a seat that stands for all its passes.
-    fn open(alloc: Global, jobs: u64, workers: u8) -> Result<(Book, Chair), AllocError>
+    fn open(alloc: Global, jobs: u64, workers: u8) -> Result<(Book, BookSeat), AllocError>
         requires jobs { jobs ≤ 2 ^ 32 }
         requires workers { AreWorkers workers }
         ensures sizes { IfOk result (λ r. (r.0.sizes.jobs ≡ jobs) × (r.0.sizes.workers ≡ workers)) }
@@ -145,7 +145,7 @@ impl Book {
 
 impl Book {
     /// One step that adds a claim to the first word, and answers how many there were before.
-    fn claim_at(&self, seat: &mut Chair) -> u64
+    fn claim_at(&self, seat: &mut BookSeat) -> u64
         requires table { seat.old.table_id ≡ self.now.table }
         requires open { (number : ℕ) × (p : Deeds) × (seat.old.me.0 ≡ alone self.now.sizes number p) × (p.ended ≡ false) }
         ensures table { (seat.new.table_id ≡ seat.old.table_id) × (seat.new.me.1 ≡ seat.old.me.1) }
@@ -155,7 +155,7 @@ impl Book {
     }
 
     /// One step that lowers the second word to the place.
-    fn report_at(&self, seat: &mut Chair, place: u64)
+    fn report_at(&self, seat: &mut BookSeat, place: u64)
         requires table { seat.old.table_id ≡ self.now.table }
         requires alone { (number : ℕ) × (p : Deeds) × (seat.old.me.0 ≡ alone self.now.sizes number p) }
         requires place { place < 2 ^ 32 }
@@ -166,7 +166,7 @@ impl Book {
     }
 
     /// One step that reads the second word.
-    fn look_at(&self, seat: &mut Chair) -> u64
+    fn look_at(&self, seat: &mut BookSeat) -> u64
         requires table { seat.old.table_id ≡ self.now.table }
         requires alone { (number : ℕ) × (p : Deeds) × (seat.old.me.0 ≡ alone self.now.sizes number p) }
         ensures table { (seat.new.table_id ≡ seat.old.table_id) × (seat.new.me.1 ≡ seat.old.me.1) }
@@ -176,7 +176,7 @@ impl Book {
     }
 
     /// A seat for the first of the passes.
-    fn split(&self, seat: &mut Chair) -> Chair
+    fn split(&self, seat: &mut BookSeat) -> BookSeat
         requires { seat.old.table_id ≡ self.now.table }
         ensures others { (seat.new.table_id ≡ seat.old.table_id) × (seat.new.me ≡ (without_first seat.old.me.0, seat.old.me.1)) }
         ensures first { (result.table_id ≡ seat.old.table_id) × (result.me ≡ (first_alone seat.old.me.0, [])) }
@@ -185,7 +185,7 @@ impl Book {
     }
 
     /// Takes in the passes of another seat.
-    fn join(&self, seat: &mut Chair, other: Chair)
+    fn join(&self, seat: &mut BookSeat, other: BookSeat)
         requires seat { seat.old.table_id ≡ self.now.table }
         requires other { (other.table_id ≡ self.now.table) × (other.me.1 ≡ []) }
         ensures { (seat.new.table_id ≡ seat.old.table_id) × (seat.new.me ≡ (together seat.old.me.0 other.me.0, seat.old.me.1)) }
@@ -194,7 +194,7 @@ impl Book {
     }
 
     /// Takes in these passes, in their order.
-    fn join_all(&self, seat: &mut Chair, passes: Vec<Pass>)
+    fn join_all(&self, seat: &mut BookSeat, passes: Vec<Pass>)
         requires seat { seat.old.table_id ≡ self.now.table }
         requires passes { All (λ p. p.book ≡ self.now) passes.items }
         ensures table { seat.new.table_id ≡ seat.old.table_id }
@@ -206,7 +206,7 @@ impl Book {
     }
 
     /// The second word at the end, when the seat stands for all passes.
-    fn finish(self, seat: Chair) -> u64
+    fn finish(self, seat: BookSeat) -> u64
         requires table { seat.table_id ≡ self.table }
         requires all { HoldsAll self.sizes seat.me.0 }
         ensures { IsWhole self.sizes seat.me.0 result }

@@ -2,13 +2,13 @@
 
 ghost use Rattle.std.specs.Prelude.{◌≡◌};
 
-use crate::rules::Chair;
+use crate::rules::BookSeat;
 use std::marker::Model;
 
 /// One of the passes of a book. It may go to another thread, and only who has it steps with it.
 #[derive(Drop)]
 pub struct Pass {
-    pub(crate) seat: Chair,
+    pub(crate) seat: BookSeat,
     pub(crate) number: u8,
     pub(crate) ended: bool,
 }

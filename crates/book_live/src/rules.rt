@@ -13,7 +13,7 @@ pub const LEAST: usize = 1;
 pub const NONE: u64 = 1 << 32;
 
 /// What a thread steps with. It has no bytes.
-pub type Chair = Seat<(), View>;
+pub type BookSeat = Seat<(), View>;
 
 /// The words and the views show the book after some list of events.
 pub struct Rule;

@@ -2,7 +2,7 @@
 use Rattle.std.proofs.Common.{◌≡◌, ◌≢◌, ℕ, zero, suc, ◌+◌, ◌*◌, ◌<◌, ◌≤◌, ◌^◌, ◌⊎◌, List, [], ◌∷◌, length, drop, take, inl, inr, refl, sym, subst, arith}
 use Rattle.std.proofs.lemmas.Bool.{cases_eq, cases_lt}
 use Rattle.puz_board.specs.Boards.{IsBoardOf, at}
-use Rattle.log_file.specs.Logs.{IsSize, Log}
+use Rattle.log_file.specs.Logs.{IsSize, Log, most_lemmas}
 use Rattle.log_file.specs.LogFiles.{HasLemma, IsLogFile, count_in, front_lemma, head_length, header_length, side_in, signature, tree_length}
 use Rattle.log_file.specs.FormFaults.{AreFilled, HasHeader, IsFaultOf, behind_first, first_lemmas}
 use Rattle.log_file.specs.declared.faults.FormFault.{FormFault}
@@ -98,7 +98,7 @@ size_decided side count = elim (at_most_decided 2 side) [
     | inr not ↦ inr (λ is. not is.high)
     | inl high ↦ elim (at_most_decided 1 count) [
       | inr not ↦ inr (λ is. not is.some)
-      | inl some ↦ elim (at_most_decided count (2 ^ 20)) [
+      | inl some ↦ elim (at_most_decided count most_lemmas) [
         | inr not ↦ inr (λ is. not is.few)
         | inl few ↦ inl (record { low = low; high = high; some = some; few = few })
       ]

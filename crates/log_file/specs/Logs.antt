@@ -15,12 +15,16 @@ pub record Log : Type 0 where
   pub side : ℕ
   pub lemmas : List Lemma
 
+-- a log has at most so many lemmas
+abbrev pub most_lemmas : ℕ
+most_lemmas = 2 ^ 20
+
 -- a side from 2 to 5, and 1 to 1,048,576 lemmas
 pub record IsSize (side count : ℕ) : Type 0 where
   pub low : 2 ≤ side
   pub high : side ≤ 5
   pub some : 1 ≤ count
-  pub few : count ≤ 2 ^ 20
+  pub few : count ≤ most_lemmas
 
 -- a log of that size, each board of which has its side
 pub record IsLog (log : Log) : Type 0 where

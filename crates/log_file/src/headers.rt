@@ -14,6 +14,9 @@ pub const HEADER_LEN: usize = 10;
 /// How a header begins: the letters of the format, and its version.
 pub const SIGNATURE: &[u8; 5] = b"PDBL\x01";
 
+/// The most bytes of a log file.
+pub const MOST_BYTES: usize = 1 << 30;
+
 /// The most lemmas of a log.
 const MOST_LEMMAS: u32 = 1 << 20;
 

@@ -4,7 +4,7 @@ ghost use Rattle.std.specs.Prelude.{◌≡◌, ◌⊎◌, ◌<◌, ◌≤◌, �
 ghost use Rattle.puz_board.specs.Boards.{IsBoardOf};
 ghost use Rattle.log_file.specs.FormFaults.{AreBoards, AreFilled, IsFaultOf, first_lemmas};
 ghost use Rattle.log_file.specs.LogFiles.{IsLogFile};
-ghost use Rattle.log_file.specs.Logs.{IsLog, Lemma, Log};
+ghost use Rattle.log_file.specs.Logs.{IsLog, Lemma, Log, most_lemmas};
 ghost use Rattle.log_file.specs.StoredLogs.{lemma_viewed};
 ghost use Rattle.log_file.specs.declared.faults.FormFault.{FormFault};
 ghost use Rattle.log_file.specs.declared.faults.ViewFault.TheVariants.{Memory, Refused};
@@ -76,7 +76,7 @@ impl<'a> LogView<'a> {
     pub fn len(&self) -> u32
         ensures count { result ≡ length self.now.lemmas }
         ensures some { 1 ≤ result }
-        ensures few { result ≤ 2 ^ 20 }
+        ensures few { result ≤ most_lemmas }
     {
         self.lemmas.len() as u32
     }

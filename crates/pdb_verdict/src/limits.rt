@@ -9,9 +9,6 @@ use pdb_run::Input;
 /// The most bytes of a board text, a puzzle text or a set text.
 const TEXT_LIMIT: u64 = 65_536;
 
-/// The most bytes of a log file.
-const LOG_LIMIT: u64 = 1 << 30;
-
 /// The most bytes of a table file.
 const TABLE_LIMIT: u64 = 1 << 32;
 
@@ -31,7 +28,7 @@ pub(crate) fn a_log<'a>(name: &'a str) -> Input<'a>
 {
     Input {
         name: Some(name),
-        limit: LOG_LIMIT,
+        limit: log_file::MOST_BYTES as u64,
     }
 }
 

@@ -10,7 +10,7 @@ use std::thread::Threads;
 use tab_lanes::count_eq;
 
 /// How many entries one piece of the work has.
-const PIECE: usize = 65536;
+const PIECE: usize = 65_536;
 
 /// How many entries are looked at together: those of a block that has none of a layer are passed over.
 const BLOCK: usize = 64;
@@ -31,9 +31,9 @@ pub fn layer(
         .with_min_len(1)
         .map(
             |piece: usize| -> Result<Vec<u32>, AllocError>
-                requires { (length entries.now < 2 ^ 32) × (piece * 65536 ≤ length entries.now) }
+                requires { (length entries.now < 2 ^ 32) × (piece * PIECE ≤ length entries.now) }
                 ensures { IfOk result (λ numbers. numbers.items
-                    ≡ layer_from d entries.entry.now (piece * 65536) (min 65536 (length entries.entry.now - piece * 65536))) }
+                    ≡ layer_from d entries.entry.now (piece * PIECE) (min PIECE (length entries.entry.now - piece * PIECE))) }
             { layer_of_piece(alloc, entries, d, piece * PIECE) },
         )
         .collect::<Result<Vec<Vec<u32>>, AllocError>>(rt, alloc)??;
@@ -55,7 +55,7 @@ fn joined(alloc: Global, lists: &[Vec<u32>]) -> Result<Vec<u32>, AllocError>
 fn layer_of_piece(alloc: Global, entries: &[u8], d: u8, from: usize) -> Result<Vec<u32>, AllocError>
     requires few { length entries.now < 2 ^ 32 }
     requires from { from ≤ length entries.now }
-    ensures { IfOk result (λ numbers. numbers.items ≡ layer_from d entries.now from (min 65536 (length entries.now - from))) }
+    ensures { IfOk result (λ numbers. numbers.items ≡ layer_from d entries.now from (min PIECE (length entries.now - from))) }
 {
     let end = entries.len().min(from + PIECE);
     let mut numbers = Vec::new(alloc);

@@ -24,8 +24,8 @@ const GREATEST_BOUND: u16 = 255;
 /// The most bytes before the tree of a log of one lemma: boards of side 5 have 25 numbers.
 const MOST_BEFORE_TREE: usize = HEADER_LEN + 25 + BOUND_AND_LENGTH;
 
-/// The most bytes of a tree: with those before it a log file has at most 2^30.
-const MOST_TREE_BYTES: usize = (1 << 30) - MOST_BEFORE_TREE;
+/// The most bytes of a tree, beside those before it.
+const MOST_TREE_BYTES: usize = log_file::MOST_BYTES - MOST_BEFORE_TREE;
 
 /// A shortest solution, and the log that proves it shortest.
 #[derive(Drop)]

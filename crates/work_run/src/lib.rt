@@ -5,8 +5,6 @@ mod gates;
 mod jobs;
 mod promises;
 mod runs;
-#[cfg(test)]
-mod tests;
 mod workers;
 
 pub use gates::{Gate, OpenGate};

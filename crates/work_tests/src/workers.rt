@@ -2,14 +2,12 @@
 
 ghost use Rattle.std.specs.Prelude.{◌≡◌, ℕ, ◌+◌, ◌*◌, ◌<◌, ◌≤◌, ◌^◌};
 
-use crate::{Gate, Job, OpenGate, run_jobs, work};
 use book_live::Book;
+use samples::{HoldingGate, Log};
 use std::alloc::{AllocError, Global};
-use std::process::Abort;
-use std::sync::Wait;
 use std::sync::atomic::{AtomicU64, Ordering};
 use std::test::Fail;
-use std::thread::{Threads, yield_now};
+use work_run::{Gate, Job, OpenGate, run_jobs, work};
 
 /// Jobs of so many places each, of which two are bad. The two may be one.
 #[derive(Drop)]
@@ -102,103 +100,6 @@ impl Job for Good {
     }
 }
 
-/// How often a gate looks for the other workers. Each look gives its processor away, so that on a loaded machine,
-/// where another thread is long in coming, a look is long too.
-const LOOKS: u32 = 20_000_000;
-
-/// Whether the count has come to the wanted number before the looks ran out.
-fn sees(count: &AtomicU64, wanted: u64) -> bool {
-    for _ in 0..LOOKS {
-        if count.load(Ordering::SeqCst) == wanted {
-            return true;
-        }
-        yield_now();
-    }
-    false
-}
-
-/// Holds one job until so many others were entered, or it has looked too often.
-#[derive(Drop)]
-struct Holding {
-    held: u64,
-    others: u64,
-    entered: AtomicU64,
-    seen: AtomicU64,
-}
-
-impl Holding {
-    fn new(held: u64, others: u64) -> Holding {
-        Holding {
-            held,
-            others,
-            entered: AtomicU64::new(0),
-            seen: AtomicU64::new(0),
-        }
-    }
-
-    fn saw_others(&self) -> bool {
-        self.seen.load(Ordering::SeqCst) == 1
-    }
-}
-
-impl Gate for Holding {
-    fn before(&self, job: u64) {
-        if job != self.held {
-            self.entered.fetch_add(1, Ordering::SeqCst);
-        } else if sees(&self.entered, self.others) {
-            self.seen.store(1, Ordering::SeqCst);
-        }
-    }
-}
-
-/// Counts the calls and sets bit n at one for the job n. Bit 63 stands for all jobs from 63 on.
-#[derive(Drop)]
-struct Entries {
-    calls: AtomicU64,
-    jobs: AtomicU64,
-}
-
-impl Entries {
-    fn new() -> Entries {
-        Entries {
-            calls: AtomicU64::new(0),
-            jobs: AtomicU64::new(0),
-        }
-    }
-
-    /// How many calls there were, and for which jobs.
-    fn entered(&self) -> (u64, u64) {
-        (
-            self.calls.load(Ordering::SeqCst),
-            self.jobs.load(Ordering::SeqCst),
-        )
-    }
-}
-
-impl Gate for Entries {
-    fn before(&self, job: u64) {
-        self.calls.fetch_add(1, Ordering::SeqCst);
-        self.jobs.fetch_or(1 << job.min(63), Ordering::SeqCst);
-    }
-}
-
-/// Holds each job until all were entered, or it has looked too often, and counts those that saw it.
-#[derive(Drop)]
-struct Meeting {
-    jobs: u64,
-    entered: AtomicU64,
-    met: AtomicU64,
-}
-
-impl Gate for Meeting {
-    fn before(&self, _job: u64) {
-        self.entered.fetch_add(1, Ordering::SeqCst);
-        if sees(&self.entered, self.jobs) {
-            self.met.fetch_add(1, Ordering::SeqCst);
-        }
-    }
-}
-
 const NOTED_JOBS: u64 = 101;
 
 /// Jobs and a gate in one: it numbers the calls of both, from 1, and notes for each job those that were for it.
@@ -271,6 +172,15 @@ impl Job for Diary {
     }
 }
 
+/// The numbers below this one.
+fn numbers_below(alloc: Global, end: u64) -> Result<Vec<u64>, AllocError> {
+    let mut numbers = Vec::new(alloc);
+    for number in 0..end {
+        numbers.push(number)?;
+    }
+    Ok(numbers)
+}
+
 /// Five jobs of ten places each, of which 12 and 43 are bad.
 fn five_tens() -> Spoilt
     ensures { result.jobs ≡ 5 }
@@ -320,27 +230,34 @@ fn no_jobs_have_no_fault(rt: HostRuntime) -> Result<(), Fail> {
 
 #[test]
 fn two_workers_run_two_jobs_side_by_side(rt: HostRuntime) -> Result<(), Fail> {
-    let gate = Holding::new(0, 1);
+    let gate = HoldingGate::new(&[0], &[1]);
     let jobs = Good { count: 2 };
     assert_eq!(rt; run_jobs(&rt, rt.alloc(), &jobs, 2, &gate)?, None);
-    assert!(rt; gate.saw_others());
+    assert!(rt; gate.saw_all());
     Ok(())
 }
 
 #[test]
 fn a_worker_that_is_held_leaves_all_other_jobs_to_the_other(rt: HostRuntime) -> Result<(), Fail> {
-    for held in 0..4 {
-        let gate = Holding::new(held, 3);
+    let cases: [(u64, [u64; 3]); 4] = [
+        (0, [1, 2, 3]),
+        (1, [0, 2, 3]),
+        (2, [0, 1, 3]),
+        (3, [0, 1, 2]),
+    ];
+    for (held, others) in cases {
+        let held = [held];
+        let gate = HoldingGate::new(&held, &others);
         let jobs = Good { count: 4 };
         assert_eq!(rt; run_jobs(&rt, rt.alloc(), &jobs, 2, &gate)?, None);
-        assert!(rt; gate.saw_others(), "holding job {held}");
+        assert!(rt; gate.saw_all(), "holding job {}", held[0]);
     }
     Ok(())
 }
 
 #[test]
 fn a_job_that_is_held_may_have_the_least_bad_place(rt: HostRuntime) -> Result<(), Fail> {
-    let gate = Holding::new(0, 1);
+    let gate = HoldingGate::new(&[0], &[1]);
     let jobs = Spoilt {
         jobs: 2,
         width: 10,
@@ -348,13 +265,13 @@ fn a_job_that_is_held_may_have_the_least_bad_place(rt: HostRuntime) -> Result<()
         other: 10,
     };
     assert_eq!(rt; run_jobs(&rt, rt.alloc(), &jobs, 2, &gate)?, Some(3));
-    assert!(rt; gate.saw_others());
+    assert!(rt; gate.saw_all());
     Ok(())
 }
 
 #[test]
 fn jobs_above_the_seen_place_are_not_entered(rt: HostRuntime) -> Result<(), Fail> {
-    let gate = Entries::new();
+    let gate = Log::new(rt.alloc(), 8)?;
     let jobs = Spoilt {
         jobs: 1000,
         width: 1,
@@ -362,8 +279,8 @@ fn jobs_above_the_seen_place_are_not_entered(rt: HostRuntime) -> Result<(), Fail
         other: 0,
     };
     assert_eq!(rt; run_jobs(&rt, rt.alloc(), &jobs, 1, &gate)?, Some(0));
-    assert_eq!(rt; gate.entered(), (1, 0b1));
-    let gate = Entries::new();
+    assert_eq!(rt; gate.notes(rt.alloc())?.as_slice(), [0].as_slice());
+    let gate = Log::new(rt.alloc(), 8)?;
     let jobs = Spoilt {
         jobs: 6,
         width: 10,
@@ -371,23 +288,20 @@ fn jobs_above_the_seen_place_are_not_entered(rt: HostRuntime) -> Result<(), Fail
         other: 50,
     };
     assert_eq!(rt; run_jobs(&rt, rt.alloc(), &jobs, 1, &gate)?, Some(30));
-    assert_eq!(rt; gate.entered(), (4, 0b1111));
+    assert_eq!(rt; gate.notes(rt.alloc())?.as_slice(), [0, 1, 2, 3].as_slice());
     Ok(())
 }
 
 #[test]
 fn as_many_workers_as_asked_for_run_side_by_side(rt: HostRuntime) -> Result<(), Fail> {
     for workers in [4, 64] {
-        let gate = Meeting {
-            jobs: u64::from(workers),
-            entered: AtomicU64::new(0),
-            met: AtomicU64::new(0),
-        };
+        let all = numbers_below(rt.alloc(), u64::from(workers))?;
+        let gate = HoldingGate::new(all.as_slice(), all.as_slice());
         let jobs = Good {
             count: u64::from(workers),
         };
         assert_eq!(rt; run_jobs(&rt, rt.alloc(), &jobs, workers, &gate)?, None);
-        assert_eq!(rt; gate.met.into_inner(), u64::from(workers));
+        assert!(rt; gate.saw_all(), "{workers} workers");
     }
     Ok(())
 }
