@@ -4,16 +4,10 @@
 mod faults;
 mod jobs;
 pub mod laws;
-#[cfg(test)]
-mod lemma_tests;
 mod lemmas;
-#[cfg(test)]
-mod log_tests;
 mod logs;
 mod nodes;
 mod order;
-#[cfg(test)]
-mod plain_logs;
 mod walks;
 
 pub use faults::{LogFault, LogRefusal};

@@ -1,6 +1,6 @@
 //! Worked logs over known tables of side 2, and lemmas that aren't good.
 
-use crate::check_lemma;
+use log_check::check_lemma;
 use log_file::LogView;
 use samples::files::{TILES_12, TILES_123, with_byte};
 use samples::logs::{BRANCHES, CITATION, LEAF, UNSOLVABLE};

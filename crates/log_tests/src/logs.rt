@@ -1,7 +1,7 @@
 //! Logs checked whole, by several workers: worked ones, changed ones byte by byte, long ones, and gates that hold workers.
 
 use crate::plain_logs::{Cells, plain_answer};
-use crate::{LogFault, LogRefusal, check_log};
+use log_check::{LogFault, LogRefusal, check_log};
 use log_file::FormFault;
 use puz_board::Board;
 use samples::files::{TILE_1, TILE_3, TILE_24, TILES_12, TILES_123, with_byte};

@@ -1,7 +1,7 @@
 //! Logs of side 2 read plainly, for tests: trees by recursion, and counts by going round a ring of boards.
 //! It shares nothing with the check but the names of faults.
 
-use crate::LogRefusal;
+use log_check::LogRefusal;
 use log_file::FormFault;
 
 /// A board of side 2: the number in each of its cells.
