@@ -2,7 +2,7 @@
 
 use crate::bytes::sample_bytes;
 use pdb_io::streams::{
-    ReadFault, WriteFault, put, put_bytes, read_all, read_said, read_sized, read_watched,
+    ReadFault, WriteFault, put_bytes, put_text, read_all, read_said, read_sized, read_watched,
 };
 use pdb_io::watched::Watched;
 use sample_streams::{EndlessReader, Failing, SampleReader, SampleWriter};
@@ -99,7 +99,7 @@ fn a_text_is_written_whole_whatever_the_pieces(rt: HostRuntime) -> Result<(), Fa
     let alloc = rt.alloc();
     for single_from in [0u64, 1, u64::MAX] {
         let mut out = SampleWriter::new(alloc).byte_by_byte_from(single_from);
-        put(&mut out, &["refused B5 at number ", "3", "", "\n"])?;
+        put_text(&mut out, "refused B5 at number 3\n")?;
         assert!(rt; out.taken() == b"refused B5 at number 3\n".as_slice());
     }
     Ok(())

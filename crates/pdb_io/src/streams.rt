@@ -2,7 +2,7 @@
 
 ghost use Rattle.std.specs.Prelude.{◌≡◌, ◌≤◌, ◌<◌, ◌+◌, true, length, take, drop, IfOk, OnOk, OnErr, IfSome, IsErrOf};
 ghost use Rattle.std.specs.Io.KnownBytes.{Appends, Consumes, IsAtEnd};
-ghost use Rattle.pdb_io.specs.Streams.{AppendsFront, joined};
+ghost use Rattle.pdb_io.specs.Streams.{AppendsFront};
 
 use crate::watched::Watched;
 use std::alloc::{AllocError, Global};
@@ -172,17 +172,6 @@ fn read_behind<R: Read>(
     ensures failed { OnErr result (reader.new.has_failed ≡ true) }
 {
     reader.read(&mut bytes[filled..])
-}
-
-/// Writes pieces of text, one after the other.
-pub fn put<W: Write>(out: &mut W, pieces: &[&str]) -> Result<(), WriteFault>
-    ensures whole { OnOk result (Appends (W.contents out.old) (W.contents out.new) (joined pieces.now)) }
-    ensures front { OnErr result (AppendsFront (W.contents out.old) (W.contents out.new) (joined pieces.now)) }
-{
-    for piece in pieces {
-        put_text(out, piece)?;
-    }
-    Ok(())
 }
 
 /// Writes a text.

@@ -3,13 +3,14 @@ use Rattle.std.proofs.Common.{◌≡◌, ◌∙◌, ◌≤◌, ◌<◌, ◌+◌,
 use Rattle.std.specs.Borrow.{Bor}
 use Rattle.std.specs.Io.KnownBytes.{Appends}
 use Rattle.std.proofs.KnownBytes.{Appends-nil}
+use Rattle.std.proofs.Math.Seq.{take-append-add}
 use Rattle.std.proofs.lemmas.Grind.{flat_map-append}
-use Rattle.std.proofs.lemmas.List.{append-nil, drop_more, map-append, take-append-drop, take_more}
+use Rattle.std.proofs.lemmas.List.{append-nil, drop_more, map-append, take-append-drop, take-append-le, take_more}
 use Rattle.std.proofs.lemmas.List.Concat.{flat_map-cons}
 use Rattle.pdb_io.specs.Shelf.{Bytes}
-use Rattle.pdb_io.specs.Streams.{AppendsFront, joined}
-use Rattle.pdb_io.proofs.Appending.{appends_more, front_more}
-use Rattle.pdb_run.specs.Writing.{all_bytes, digest_line, digests_of, list_of, reply_text, shown_byte}
+use Rattle.pdb_io.specs.Streams.{AppendsFront}
+use Rattle.pdb_io.proofs.Appending.{appends_more}
+use Rattle.pdb_run.specs.Writing.{all_bytes, digest_line, digests_of, joined, list_of, reply_text, shown_byte}
 use Rattle.pdb_run.specs.Pages.{Gathers}
 use Rattle.pdb_run.specs.Commands.{Reply}
 
@@ -26,6 +27,18 @@ gathers_more a b c x y z xs ys p q = record {
 }
 
 -- ---- a page that can't be written
+
+pub on_err : {T E : Type 0} (r : Result T E) (P : Type 0) → P → OnErr r P
+on_err (Ok x) P p = tt
+on_err (Err e) P p = p
+
+-- a front of what follows
+front_more : (a b c : Option Bytes) (xs ys zs : Bytes) → Appends a b xs → AppendsFront b c ys → AppendsFront a c (xs ++ (ys ++ zs))
+front_more a b c xs ys zs p q =
+    let within : q.0 ≤ length ys = omega (arith, q.1) in
+    let proper : length xs + q.0 < length (xs ++ (ys ++ zs)) = omega (arith, length-append xs (ys ++ zs), length-append ys zs) in
+    let same : xs ++ take q.0 ys ≡ take (length xs + q.0) (xs ++ (ys ++ zs)) = ap (λ (t : Bytes). xs ++ t) (sym (take-append-le q.0 ys zs within)) ∙ sym (take-append-add xs (ys ++ zs) q.0) in
+    (length xs + q.0, proper, subst (λ (t : Bytes). Appends a c t) same (appends_more a b c _ _ p q.2))
 
 -- a front of some bytes is one of more bytes
 pub front_then : (a c : Option Bytes) (xs zs : Bytes) → AppendsFront a c xs → AppendsFront a c (xs ++ zs)

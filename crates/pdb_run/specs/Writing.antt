@@ -6,6 +6,10 @@ use Rattle.sha2.specs.Sha256.{sha256}
 use Rattle.pdb_io.specs.Shelf.{Bytes}
 use Rattle.pdb_run.specs.Commands.{Reply}
 
+-- pieces of text, one after the other
+abbrev pub joined : List (Bor Bytes) → Bytes
+joined = flat_map (λ piece. piece.now)
+
 -- ---- digests
 
 -- the SHA-256 of a file (FIPS 180-4), in 64 hexadecimal digits

@@ -1,8 +1,7 @@
 //! An answer as a value.
 
 ghost use Rattle.std.specs.Prelude.{◌≡◌, ◌≤◌, length, option_map};
-ghost use Rattle.pdb_io.specs.Streams.{joined};
-ghost use Rattle.pdb_run.specs.Writing.{all_files, digests_of, list_of};
+ghost use Rattle.pdb_run.specs.Writing.{all_files, digests_of, joined, list_of};
 
 use crate::digests::Digests;
 use arrayvec::ArrayString;

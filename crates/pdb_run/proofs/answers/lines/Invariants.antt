@@ -1,5 +1,5 @@
 use Rattle.std.proofs.Common.{◌≡◌, take}
-use Rattle.pdb_io.specs.Streams.{joined}
+use Rattle.pdb_run.specs.Writing.{joined}
 use Rattle.pdb_run.proofs.answers.lines.Given as goal
 
 abbrev pub invariant-loop-piece : goal.invariant-loop-piece

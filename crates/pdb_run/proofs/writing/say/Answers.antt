@@ -1,9 +1,8 @@
 use Rattle.std.proofs.Common.{[], refl, ◌++◌, ◌∙◌}
 use Rattle.std.proofs.lemmas.List.{append-nil}
-use Rattle.pdb_io.proofs.Appending.{on_err}
 use Rattle.pdb_run.specs.Writing.{digests_of, list_of}
 use Rattle.pdb_run.specs.Answers.{reply_of}
-use Rattle.pdb_run.proofs.PageLemmas.{gathers_more, gathers_nil, reply_parts, said_front, said_stopped, said_whole}
+use Rattle.pdb_run.proofs.PageLemmas.{gathers_more, gathers_nil, on_err, reply_parts, said_front, said_stopped, said_whole}
 use Rattle.pdb_run.proofs.writing.say.Goals as goal
 
 pub returns-in_err-add_digests-clause-front : goal.returns-in_err-add_digests-clause-front

@@ -1,5 +1,4 @@
-use Rattle.pdb_io.proofs.Appending.{on_err}
-use Rattle.pdb_run.proofs.PageLemmas.{byte_next, byte_stopped}
+use Rattle.pdb_run.proofs.PageLemmas.{byte_next, byte_stopped, on_err}
 use Rattle.pdb_run.proofs.pages.Page.add.Goals as goal
 
 pub returns-in_err-add_byte-clause-front : goal.returns-in_err-add_byte-clause-front

@@ -1,7 +1,6 @@
 use Rattle.std.proofs.Common.{◌∙◌, ap}
-use Rattle.pdb_io.proofs.Appending.{on_err}
 use Rattle.pdb_run.specs.Writing.{digest_line}
-use Rattle.pdb_run.proofs.PageLemmas.{file_next, file_stopped}
+use Rattle.pdb_run.proofs.PageLemmas.{file_next, file_stopped, on_err}
 use Rattle.pdb_run.proofs.pages.Page.add_files.Goals as goal
 
 pub returns-in_err-add-clause-front : goal.returns-in_err-add-clause-front
