@@ -12,7 +12,7 @@ fn refused(alloc: Global, file: &[u8]) -> Option<FormFault> {
     }
 }
 
-/// A file of so many lemmas, each of six bytes of which one is a tree's: the goal board of side 2, bound 0, a leaf.
+/// A file of so many lemmas, each of ten bytes: the goal board of side 2, bound 0, a leaf.
 fn many(alloc: Global, count: u32) -> Result<Vec<u8>, AllocError> {
     let mut file = Vec::new(alloc);
     file.extend_from_slice(b"PDBL\x01\x02")?;

@@ -9,7 +9,8 @@ const LOW: u32 = 13;
 const HIGH: u32 = 12;
 
 /// The places of sets of cells in a list of masks that has all sets of one size, ascending. Each place is the sum of two
-/// numbers, by the set's low cells and by the others. That a number is the right one is for the caller to see.
+/// numbers, by the set's low cells and by the others. No clause says that a number is the right one: a proof rests on one
+/// only where the caller compares the set that it keeps under it.
 #[derive(Drop)]
 pub struct SetNumbers {
     low: Vec<u32>,
@@ -17,7 +18,7 @@ pub struct SetNumbers {
 }
 
 impl SetNumbers {
-    /// The numbers of these sets. They may be any numbers; only speed depends on them.
+    /// The numbers of these sets. No clause speaks of them.
     pub fn of_sets(alloc: Global, sets: &[u32]) -> Result<SetNumbers, AllocError> {
         let mut low_numbers = vec![in alloc; 0; 1 << LOW]?;
         let mut high_numbers = vec![in alloc; 0; 1 << HIGH]?;
@@ -41,7 +42,7 @@ impl SetNumbers {
         })
     }
 
-    /// The number of a set, if it is one of them. It may answer any number for any set; only speed depends on it.
+    /// The number of a set, if it is one of them. No clause speaks of it.
     #[inline]
     pub fn number_of(&self, set: u32) -> usize {
         let low = self.low.get((set % (1 << LOW)) as usize);

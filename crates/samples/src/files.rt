@@ -1,4 +1,4 @@
-//! Table files of sides 2 and 5, worked out by hand, byte for byte.
+//! Table files of sides 2 and 5, and headers of sides 3 and 4, worked out by hand, byte for byte.
 
 /// The tiles 1, 2 and 3 on side 2: one slot.
 pub const TILES_123: [u8; 44] = [

@@ -187,7 +187,7 @@ impl<'a> CheckedTable<'a> {
     }
 
     /// The slot of a free cell of a placement, whose rank is given. It takes no flood where the slots are kept, or where
-    /// the second slot has no region, so that all free cells are of the first.
+    /// there is a second slot that has no region, so that all free cells are of the first.
     #[inline]
     fn slot_in(&self, placement: &Placement, rank: u64, cell: u8) -> u8
         requires placement { IsPlacement placement.now }
