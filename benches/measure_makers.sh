@@ -98,6 +98,7 @@ search_row() { # SEED
 }
 
 [ -x "$program" ] || fail "no program $program: ./pdb_cli --help builds it"
+program=$(readlink -f "$program")
 load=$(cut -d ' ' -f 1 /proc/loadavg)
 work=$(mktemp -d)
 trap 'rm -r "$work"' EXIT

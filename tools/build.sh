@@ -26,7 +26,7 @@ digest() {
         return 1
     fi
     if ! (
-        cd -- "$root" && find_paths '' && printf '%s\0' "$line" &&
+        cd -P -- "$root/" && find_paths '' && printf '%s\0' "$line" &&
             find -H "${paths[@]}" -printf '%y %p\0' | LC_ALL=C sort -z &&
             find -H "${paths[@]}" -type f -print0 | LC_ALL=C sort -z | xargs -0 sha256sum --
     ) | sha256sum; then
@@ -85,7 +85,7 @@ take_lock() {
     fi
     flock -n "$lock" && return
     if [ "$?" = 1 ]; then
-        say 'another launcher builds the program: waiting for it'
+        say 'the program is being built already: waiting for that'
         flock "$lock" && return
     fi
     say "$kept/lock cannot be locked"
@@ -113,7 +113,7 @@ install_program() {
 # Sets `steps` to the crates that the program is made of, in the order of crates.txt.
 find_steps() {
     local line name use order=() found=(pdb_cli) i
-    local -A uses=() is_found=([pdb_cli]=yes)
+    local -A uses=([pdb_cli]='') is_found=([pdb_cli]=yes)
     while IFS= read -r line || [ -n "$line" ]; do
         line=${line%%#*}
         name=${line%%[: ]*}
@@ -158,7 +158,7 @@ build() {
             return 1
         fi
         say "proving and building ${#steps[@]} crates, some minutes the first time; the log is $log"
-        if ! (cd -- "$crate" && exec "$rt" run <stdin) 2>&1 | follow >>"$log"; then
+        if ! (cd -P -- "$crate" && exec "$rt" run <stdin) 2>&1 | follow >>"$log"; then
             tail -n 20 -- "$log" >&2
             say "the program is not built: rt run failed, and $log has all that it said"
             return 1

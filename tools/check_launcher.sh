@@ -10,7 +10,7 @@
 set -uo pipefail
 
 root=$(dirname "$(dirname "$(readlink -f "${BASH_SOURCE[0]}")")")
-work=$(mktemp -d)
+work=$(mktemp -d) || exit 1
 trap 'chmod -R u+rwX "$work"; rm -r "$work"' EXIT
 chmod 711 "$work"
 passed=0
@@ -271,8 +271,8 @@ for name in find sort xargs sha256sum flock mkdir rm cp mv; do
 done
 
 # All cases with a program are made and built at once, side by side, and are some seconds old when they are tried.
-others=(streams list no_stamp lost_program changed_program other_program failed_edit find_alone unreadable_alone
-    no_rt_alone read_only_built quick lent no_cmp no_tail no_readlink one_edit)
+others=(streams list no_stamp no_stamp_and_no_room lost_program changed_program other_program failed_edit no_line find_alone
+    unreadable_alone no_rt_alone read_only_built quick lent no_cmp no_tail no_readlink one_edit)
 cases=("${edits[@]}" "${idle_edits[@]}" "${breakages[@]%%:*}" "${others[@]}")
 for name in "${cases[@]}"; do
     make "$name"
@@ -325,12 +325,14 @@ start sources
 check 'a checkout that cannot be written and has no program is refused' refused 'cannot be written'
 check 'by one line' [ "$(wc -l <"$at/stderr")" = 1 ]
 
-# Starts the launcher while another start's build is held, and lets it go on once the second says that it waits.
+# Starts the launcher while a build by the words here is held, and lets this one go on once the launcher says that it waits.
+# Keeps what the launcher writes as that of the second, and its status as `second_status`.
 start_two() {
-    local tries
+    local tries first second
     order hold
     : >"$at/second.stderr"
-    (start sources) &
+    ("$@" && exit "$status") &
+    first=$!
     for ((tries = 0; tries < 300; tries++)); do
         [ "$(calls build)" = 0 ] || break
         sleep 0.1
@@ -343,22 +345,32 @@ start_two() {
     done
     rm "$at/orders/hold"
     status=0
-    wait "$second" || status=$?
-    wait
+    second_status=0
+    wait "$second" || second_status=$?
+    wait "$first" || status=$?
+}
+
+# Goes on with the second of two as the one that was started.
+turn_to_second() {
+    mv "$at/second.stdout" "$at/stdout"
+    mv "$at/second.stderr" "$at/stderr"
+    status=$second_status
 }
 
 make both
-start_two
+start_two start sources
 check 'of two starts at once, one builds' [ "$(calls build)" = 1 ]
 check 'the one that builds runs the program' ran 1
-check 'the one that waits says so' grep -q '^pdb_cli: .*waiting' "$at/second.stderr"
-mv "$at/second.stdout" "$at/stdout"
+turn_to_second
+check 'the one that waits says so' said '^pdb_cli: .*waiting'
 check 'and runs it too' ran 1
 
 make both_fail
 order fail_at_last
-start_two
-check 'the one that waits for a build that fails runs nothing' [ "$status.$(wc -c <"$at/second.stdout")" = 125.0 ]
+start_two start sources
+check 'a build that fails is refused where another waits for it' refused 'not built'
+turn_to_second
+check 'the one that waits for a build that fails runs nothing' refused 'not built'
 
 #
 # What passes through.
@@ -418,6 +430,11 @@ check 'a CDPATH changes nothing' wrote 0 "$at/wanted"
 by=(bash ../pdb_cli)
 start place
 check 'it is started as a word of bash' wrote 0 "$at/wanted"
+ln -s "$checkout/tools" "$at/links/folder"
+place=$at/links/folder
+by=(../pdb_cli)
+start status 7
+check 'it is started from a folder that is a link, by a name relative to what this leads to' wrote 7 /dev/null
 check 'none of these builds' [ "$(calls build)" = 0 ]
 by=("$launcher")
 (cd "$place" && exec "${plain[@]}" "$env" "PATH=$path" "$launcher" status 7 <&- >&- 2>&-)
@@ -475,6 +492,13 @@ check 'by the kit of today' [ "$(calls version)" -ge 1 ]
 start sources
 check 'the list of times is then kept' [ "$(calls version)" = 0 ]
 
+built no_stamp_and_no_room
+rm "$checkout/out/stamp"
+# shellcheck disable=SC2016
+by=(bash -c 'ulimit -f 0 && exec "$@"' bash "$launcher")
+start status 7
+check 'where no file may be written, the list of times is not kept, and the program runs' wrote 7 /dev/null
+
 built lost_program
 rm "$checkout/out/pdb_cli"
 start sources
@@ -501,6 +525,12 @@ check 'and the last lines of its log are shown' said '^error: what is made is wr
 echo 'fn main' >"$checkout/crates/pdb_cli/src/main.rt"
 start sources
 check 'what was built before an edit that is taken back is run' ran 1
+
+built no_line
+sed -i '/^pdb_cli/d' "$checkout/crates.txt"
+order fail_at_once
+start sources
+check 'where the list of crates has no line of the program, none is run' refused 'not built'
 
 built find_alone
 take_away find
@@ -604,6 +634,13 @@ tested 'a source that changes is a failure' '10 passed, 1 failed' order edit_onc
 tested 'no rt is a failure' '2 passed, 1 failed' no_rt
 tested 'a script that is not there is a failure' '8 passed, 1 failed' no_checks
 tested 'no functions of the program are a failure' '0 passed, 1 failed' no_script
+make 'gate beside'
+start_two test_all
+check 'a gate beside a start passes' counted 0 '10 passed, 0 failed'
+turn_to_second
+check 'a start beside the gate waits for it' said '^pdb_cli: .*waiting'
+check "and runs the gate's program" ran 1
+
 make 'gate twice'
 test_all
 order fail_at_once

@@ -25,7 +25,7 @@ fi
 bare=${1+$program}
 bare=${bare:-$root/out/pdb_cli}
 
-work=$(mktemp -d)
+work=$(mktemp -d) || exit 2
 trap 'rm -r "$work"' EXIT
 mkdir "$work/files"
 cd "$work/files" || exit 2

@@ -21,7 +21,7 @@ if ! "$program" --help >/dev/null; then
     exit 2
 fi
 
-work=$(mktemp -d)
+work=$(mktemp -d) || exit 2
 trap 'rm -r "$work"' EXIT
 mkdir "$work/blocks" "$work/folder"
 ln -s "$program" "$work/folder/pdb_cli"

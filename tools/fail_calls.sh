@@ -9,8 +9,8 @@
 #     tools/fail_calls.sh table FILE --workers 4 </dev/null
 #
 # Its arguments are the program's words, and its standard input is the program's. Names are those of files in the folder that
-# it is called in, of which each run gets a copy, with what a stopped run has left beside them. It needs `strace` and `gdb`,
-# Debian's packages. The calls are those of the program's first thread, behind those by which the system starts it, and those
+# it is called in, of which each run gets a copy, with what a stopped run has left beside them. It needs `strace`, `gdb` and
+# `python3`, Debian's packages. The calls are those of the program's first thread, behind those by which the system starts it, and those
 # of its other threads, in the order in which these make them, whichever it is. A line is written for each kind of call, with
 # what was answered, and for each run that ends otherwise; last `N passed, M failed`. The status is 0 if all passed, and
 # otherwise not. The program is that of the variable PROGRAM, a path; without it, the launcher builds it where that is needed.
@@ -50,25 +50,29 @@ list_files() {
 run_by() {
     local status=0
     rm -rf "$work/files" && cp -a "$work/given" "$work/files"
-    (cd "$work/files" && exec "$@") 2>/dev/null || status=$?
+    (cd "$work/files" && exec "$@") || status=$?
     echo "status $status" >>"$work/output"
     list_files >"$work/left"
 }
 
-# Runs the program with the words behind $1. $1 says which call of the first thread fails, and is empty where none does.
+# Runs the program with the words behind $1. $1 says which call of the first thread fails, and is empty where none does: then
+# the calls of all threads are listed.
 run() {
-    run_by strace -f -q -o "$work/calls" ${1:+-e "inject=$1"} "$program" "${@:2}" \
+    local how=(-f)
+    [ -z "$1" ] || how=(-e "inject=$1")
+    run_by strace "${how[@]}" -q -o "$work/calls" "$program" "${@:2}" \
         <"$work/input" >"$work/output" 2>"$work/errors"
 }
 
 # Runs the program with the words behind $3, where the call $1 of another thread than the first fails by $2 that comes behind
 # $before others. The status is not 0 where there was none.
 run_thread() {
-    local call=$1 result=$2 words=
+    local call=$1 result=$2 words='' streams
     [ "$#" = 2 ] || printf -v words '%q ' "${@:3}"
+    printf -v streams '<%q >%q 2>%q' "$work/input" "$work/output" "$work/errors"
     [[ $result = retval=* ]] || result=$(python3 -c 'import errno, sys; print(-getattr(errno, sys.argv[1]))' "${result#*=}")
     SHELL=$BASH run_by gdb -batch -nx -q -ex "set \$before = $before" -ex "set \$result = ${result#*=}" \
-        -ex "catch syscall $call" -ex "set args $words <$work/input >$work/output 2>$work/errors" \
+        -ex "catch syscall $call" -ex "set args $words $streams" \
         -x "$root/tools/fail_thread_call.gdb" "$program" </dev/null >"$work/debugger" 2>&1
     grep -q '^a call has failed' "$work/debugger"
 }
@@ -160,7 +164,7 @@ fail_each() {
         run "$call:$fault:when=$number" "$@"
         count "$call" "$fault, call $number" "$@"
     done
-    if grep -v "^$first " "$work/own_calls" | grep -q "^[0-9]* *$call("; then
+    if [ "$(grep -v "^$first " "$work/own_calls" | grep -c "^[0-9]* *$call(")" != 0 ]; then
         while run_thread "$call" "$fault" "$@"; do
             before=$((before + 1))
             count "$call" "$fault, call $before of other threads" "$@"

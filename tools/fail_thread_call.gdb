@@ -5,18 +5,18 @@ set pagination off
 set confirm off
 unset environment LINES
 unset environment COLUMNS
-condition 1 $_thread != 1
-# A call stops where it begins and where it ends.
-ignore 1 2 * $before
+# A call stops where it begins and where it ends; until it ends, its result is -38, which is ENOSYS.
+condition 1 $_thread != 1 && $rax == -38
+ignore 1 $before
 run
 if $_isvoid($_exitcode) && $_isvoid($_exitsignal)
     eval "tbreak *$pc thread %d", $_thread
     # There is no call of this number, so nothing is done.
     set $orig_rax = -1
+    delete 1
     continue
     set $rax = $result
     echo a call has failed\n
-    delete
     continue
 end
 if $_isvoid($_exitcode)

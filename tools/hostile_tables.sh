@@ -21,14 +21,14 @@ fi
 PROGRAM=$(readlink -f "${2-$root/out/pdb_cli}")
 export PROGRAM
 
-work=$(mktemp -d)
+work=$(mktemp -d) || exit 2
 trap 'rm -r "$work"' EXIT
 mkdir "$work/files"
 cd "$work/files" || exit 2
 
 # The files: tables of the tiles 1, 2 and 3, of 1 and 2, and of four and six tiles of side 3, the logs and texts of the page,
 # and those of docs/TOUR.md.
-python3 - "$root" <<'END'
+python3 - "$root" <<'END' || exit 2
 import pathlib, sys
 sys.path.insert(0, sys.argv[1] + "/tools")
 from plain_answers import table_of
@@ -44,7 +44,7 @@ files |= {"board": b"3 2 1 0\n", "next": b"1 0 2 3\n", "sets": b"set 0\n", "puzz
 for name, data in files.items():
     pathlib.Path(name).write_bytes(data)
 END
-"$root/tools/tour_files.py" tour
+"$root/tools/tour_files.py" tour || exit 2
 
 passed=0
 failed=0

@@ -19,6 +19,7 @@ if [ -z "$program" ]; then
     "$root/pdb_cli" --help >/dev/null </dev/null
     program=$root/out/pdb_cli
 fi
+program=$(readlink -f -- "$program")
 work=$(mktemp -d)
 trap 'rm -r "$work"' EXIT
 
@@ -40,7 +41,7 @@ run() {
     rm -rf "$work/files" && cp -a "$work/given" "$work/files"
     (cd "$work/files" && REFUSE=$1 LD_PRELOAD=$work/refuse_memory.so exec "$program" "${@:2}") \
         <"$work/input" >"$work/output" 2>"$work/errors" 9>"$work/refused" || status=$?
-    list_end "$status" >>"$work/output"
+    { cat "$work/errors" && list_end "$status"; } >>"$work/output"
 }
 
 run 0 "$@"
@@ -67,4 +68,4 @@ while :; do
 done
 echo "no memory: $without, the run's own answer: $own"
 echo "$((without + own)) passed, $bad failed"
-[ "$bad" = 0 ]
+[ "$((without + own))" != 0 ] && [ "$bad" = 0 ]

@@ -69,17 +69,21 @@ def look(root, spent):
             spent[pid, began, work] = seconds
 
 
+def line(name, seconds):
+    """A line of the table, with the sum of these seconds behind them."""
+    return f"| {name} | " + " | ".join(f"{each:,.0f}" for each in [*seconds, sum(seconds)]) + " |"
+
+
 def table(spent):
     """The lines of the table, the dearest crate first."""
     sums = collections.defaultdict(lambda: dict.fromkeys(KINDS, 0))
     for (_, _, (crate, kind)), seconds in spent.items():
         sums[crate][kind] += seconds
-    yield "| crate | " + " | ".join(KINDS) + " |"
-    yield "|---|" + "---|" * len(KINDS)
+    yield "| crate | " + " | ".join(KINDS) + " | all |"
+    yield "|---|" + "---|" * len(KINDS) + "---|"
     for crate, row in sorted(sums.items(), key=lambda item: -sum(item[1].values())):
-        yield f"| `{crate}` | " + " | ".join(f"{row[kind]:.0f}" for kind in KINDS) + " |"
-    whole = [sum(row[kind] for row in sums.values()) for kind in KINDS]
-    yield "| all | " + " | ".join(f"{seconds:.0f}" for seconds in whole) + " |"
+        yield line(f"`{crate}`", [row[kind] for kind in KINDS])
+    yield line("all", [sum(row[kind] for row in sums.values()) for kind in KINDS])
 
 
 def main():
