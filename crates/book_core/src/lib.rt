@@ -5,8 +5,6 @@ mod cores;
 mod events;
 mod laws;
 mod passes;
-#[cfg(test)]
-mod tests;
 
 pub use cores::{Core, MOST_WORKERS, Memory};
 pub use events::{Answer, CoreFault, Event};

@@ -5,8 +5,6 @@ mod books;
 mod laws;
 mod passes;
 mod rules;
-#[cfg(test)]
-mod tests;
 mod views;
 
 pub use books::{Book, Memory};

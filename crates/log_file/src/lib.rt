@@ -8,8 +8,6 @@ mod faults;
 mod fronts;
 mod headers;
 pub mod laws;
-#[cfg(test)]
-mod tests;
 mod views;
 
 pub use faults::{FormFault, ViewFault};

@@ -1,16 +1,14 @@
 //! Worked logs over known tables of side 2, and lemmas that aren't good.
 
+use crate::bundles::bundle;
 use log_check::check_lemma;
 use log_file::LogView;
 use samples::files::{TILES_12, TILES_123, with_byte};
 use samples::logs::{BRANCHES, CITATION, LEAF, UNSOLVABLE};
-use set_sum::Bundle;
 use std::process::Abort;
 use std::sync::Wait;
 use std::test::Fail;
 use std::thread::Threads;
-use tab_check::check_table;
-use work_run::OpenGate;
 
 /// Whether a lemma of a log is good over one table.
 fn is_good<R: Threads + Wait + AllocGlobal + Abort>(
@@ -19,12 +17,7 @@ fn is_good<R: Threads + Wait + AllocGlobal + Abort>(
     log: &[u8],
     lemma: u32,
 ) -> Option<bool> {
-    let mut tables = Vec::new(rt.alloc());
-    match check_table(rt, rt.alloc(), table, 1, &OpenGate) {
-        Ok(table) => tables.push(table).expect(rt, "memory"),
-        Err(_) => panic!(rt; "an exact table"),
-    }
-    let bundle = Bundle::read(tables, b"set 0\n").ok()?;
+    let bundle = bundle(rt, &[table], b"set 0\n");
     let log = LogView::read(rt.alloc(), log).ok()?;
     if lemma < log.len() && log.side() == bundle.side() {
         Some(check_lemma(&log, &bundle, lemma))

@@ -1,5 +1,6 @@
 //! Logs checked whole, by several workers: worked ones, changed ones byte by byte, long ones, and gates that hold workers.
 
+use crate::bundles::{bundle, checked};
 use crate::plain_logs::{Cells, plain_answer};
 use log_check::{LogFault, LogRefusal, check_log};
 use log_file::FormFault;
@@ -13,7 +14,6 @@ use std::process::Abort;
 use std::sync::Wait;
 use std::test::Fail;
 use std::thread::Threads;
-use tab_check::{CheckedTable, check_table};
 use work_run::OpenGate;
 
 /// The goal board, bound 0, and a leaf.
@@ -25,33 +25,6 @@ const GOAL_OF_SIDE_3: [u8; 25] =
 
 /// The board of most logs here.
 const BOARD: Cells = [3, 2, 1, 0];
-
-/// The tables of files, checked by one worker.
-fn checked<'a, R: Threads + Wait + AllocGlobal + Abort>(
-    rt: &R,
-    files: &[&'a [u8]],
-) -> Vec<CheckedTable<'a>> {
-    let mut tables = Vec::new(rt.alloc());
-    for file in files {
-        match check_table(rt, rt.alloc(), *file, 1, &OpenGate) {
-            Ok(table) => tables.push(table).expect(rt, "memory"),
-            Err(_) => panic!(rt; "an exact table"),
-        }
-    }
-    tables
-}
-
-/// The bundle of table files and a set text.
-fn bundle<'a, R: Threads + Wait + AllocGlobal + Abort>(
-    rt: &R,
-    files: &[&'a [u8]],
-    text: &[u8],
-) -> Bundle<'a> {
-    match Bundle::read(checked(rt, files), text) {
-        Ok(bundle) => bundle,
-        Err(_) => panic!(rt; "a bundle"),
-    }
-}
 
 /// What a log is answered for a board over a bundle, which is the same by any number of workers.
 fn answer<R: Threads + Wait + AllocGlobal + Abort>(

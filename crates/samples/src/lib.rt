@@ -5,8 +5,6 @@ pub mod files;
 mod gates;
 pub mod logs;
 mod search;
-#[cfg(test)]
-mod tests;
 
 pub use gates::{HoldingGate, Log};
 pub use search::LeastCosts;

@@ -8,8 +8,6 @@ mod faults;
 pub mod laws;
 mod lines;
 mod tables;
-#[cfg(test)]
-mod tests;
 
 pub use bundles::{Bundle, MOST_TABLES};
 pub use faults::SetFault;

@@ -10,8 +10,6 @@ mod jobs;
 pub mod laws;
 mod neighbours;
 mod tables;
-#[cfg(test)]
-mod tests;
 
 pub use block_checks::{BlockCheck, EntryByEntry};
 pub use blocks::{BLOCK_RANKS, check_block};

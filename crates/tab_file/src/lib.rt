@@ -6,6 +6,3 @@ mod views;
 
 pub use headers::{HEADER_LEN, HeadFault, header_of};
 pub use views::{TableView, view};
-
-#[cfg(test)]
-mod tests;

@@ -7,8 +7,6 @@ mod columns;
 mod counts;
 mod floods;
 mod local_rule;
-#[cfg(test)]
-mod tests;
 
 pub use columns::min_into;
 pub use counts::{count_eq, greatest_count};

@@ -1,5 +1,0 @@
-use Rattle.std.proofs.Common.{◌≡◌, length}
-use Rattle.book_core.proofs.tests.want_of_memory_changes_nothing.Given as goal
-
-abbrev pub invariant-loop : goal.invariant-loop
-invariant-loop g l = (length l.core.passes ≡ 2) × (length l.twin.passes ≡ 2)

@@ -1,0 +1,268 @@
+//! Worked sets over known tables of side 2, and what is refused.
+
+use crate::bundles::checked;
+use puz_board::Board;
+use samples::files::{TILE_1, TILE_3, TILE_24, TILES_12, TILES_123};
+use set_sum::{Bundle, SetFault};
+use std::alloc::Global;
+use std::process::Abort;
+use std::sync::Wait;
+use std::test::Fail;
+use std::thread::Threads;
+use tab_check::Count;
+
+/// Why files and a set text make no bundle; `None` where they make one.
+fn fault<R: Threads + Wait + AllocGlobal + Abort>(
+    rt: &R,
+    files: &[&[u8]],
+    text: &[u8],
+) -> Option<SetFault> {
+    Bundle::read(checked(rt, files), text).err()
+}
+
+/// The sum of a set for a board.
+fn sum<R: Threads + Wait + AllocGlobal + Abort>(
+    rt: &R,
+    files: &[&[u8]],
+    text: &[u8],
+    set: u8,
+    numbers: &[u8; 4],
+) -> Option<Count> {
+    let bundle = Bundle::read(checked(rt, files), text).ok()?;
+    let board = Board::from_cells(numbers)?;
+    if set < bundle.sets() && board.side() == bundle.side() {
+        Some(bundle.sum(set, &board))
+    } else {
+        None
+    }
+}
+
+/// A bundle's files and its set text, a set and a board, and the sum.
+type Sum = (&'static [&'static [u8]], &'static [u8], u8, [u8; 4], Count);
+
+const SUMS: [Sum; 7] = [
+    (
+        &[&TILES_12, &TILE_3],
+        b"set 0 1\n",
+        0,
+        [3, 2, 1, 0],
+        Count::Finite(6),
+    ),
+    (
+        &[&TILES_12, &TILE_3],
+        b"set 0 1\n",
+        0,
+        [0, 1, 3, 2],
+        Count::Never,
+    ),
+    (
+        &[&TILES_12, &TILE_3],
+        b"set 0 1\n",
+        0,
+        [0, 1, 2, 3],
+        Count::Finite(0),
+    ),
+    (
+        &[&TILES_12, &TILE_3],
+        b"set 0\nset 1\n",
+        0,
+        [3, 2, 1, 0],
+        Count::Finite(4),
+    ),
+    (
+        &[&TILES_12, &TILE_3],
+        b"set 0\nset 1\n",
+        1,
+        [3, 2, 1, 0],
+        Count::Finite(2),
+    ),
+    (&[&TILES_123], b"set 0\n", 0, [3, 2, 1, 0], Count::Finite(6)),
+    (&[&TILES_123], b"set 0\n", 0, [0, 1, 3, 2], Count::Never),
+];
+
+#[test]
+fn tables_of_a_set_add_up(rt: HostRuntime) {
+    for (files, text, set, numbers, want) in SUMS {
+        assert_eq!(rt;
+            sum(&rt, files, text, set, &numbers),
+            Some(want),
+            "{text:?}, {numbers:?}"
+        );
+    }
+}
+
+/// The side, the tables and the sets of a bundle.
+fn sizes<R: Threads + Wait + AllocGlobal + Abort>(
+    rt: &R,
+    files: &[&[u8]],
+    text: &[u8],
+) -> Option<(u8, u8, u8)> {
+    let bundle = Bundle::read(checked(rt, files), text).ok()?;
+    Some((bundle.side().get(), bundle.tables(), bundle.sets()))
+}
+
+#[test]
+fn sides_tables_and_sets_are_counted(rt: HostRuntime) {
+    let bundles: [(&[&[u8]], &[u8], (u8, u8, u8)); 3] = [
+        (&[&TILES_12, &TILE_3], b"set 0 1\n", (2, 2, 1)),
+        (&[&TILE_24], b"set 0\nset 0\n", (5, 1, 2)),
+        (
+            &[TILE_1.as_slice(); 16],
+            b"set 9\nset 15\nset 10\n",
+            (2, 16, 3),
+        ),
+    ];
+    for (files, text, want) in bundles {
+        assert_eq!(rt; sizes(&rt, files, text), Some(want), "{text:?}");
+    }
+}
+
+/// The mask of the table of a bundle with a number.
+fn mask<R: Threads + Wait + AllocGlobal + Abort>(
+    rt: &R,
+    files: &[&[u8]],
+    text: &[u8],
+    number: u8,
+) -> Option<u32> {
+    let bundle = Bundle::read(checked(rt, files), text).ok()?;
+    if number < bundle.tables() {
+        Some(bundle.table(number).pattern().mask())
+    } else {
+        None
+    }
+}
+
+/// Whether these are the numbers of a set of a bundle.
+fn has_set<R: Threads + Wait + AllocGlobal + Abort>(
+    rt: &R,
+    files: &[&[u8]],
+    text: &[u8],
+    set: u8,
+    numbers: &[u8],
+) -> Option<bool> {
+    let bundle = Bundle::read(checked(rt, files), text).ok()?;
+    if set < bundle.sets() {
+        Some(bundle.set(set) == numbers)
+    } else {
+        None
+    }
+}
+
+#[test]
+fn tables_and_sets_are_those_that_were_read(rt: HostRuntime) {
+    let files: [&[u8]; 2] = [&TILES_12, &TILE_3];
+    let text = b"set 0 1\nset 1\n";
+    assert_eq!(rt; mask(&rt, &files, text, 0), Some(6));
+    assert_eq!(rt; mask(&rt, &files, text, 1), Some(8));
+    assert_eq!(rt; has_set(&rt, &files, text, 0, &[0, 1]), Some(true));
+    assert_eq!(rt; has_set(&rt, &files, text, 1, &[1]), Some(true));
+}
+
+/// Sixteen lines of the set of table 0, and what may follow them.
+const LINES: &[u8] =
+    b"set 0\nset 0\nset 0\nset 0\nset 0\nset 0\nset 0\nset 0\nset 0\nset 0\nset 0\nset 0\nset 0\nset 0\nset 0\nset 0\nset 0\nset 0";
+
+#[test]
+fn a_bundle_has_1_to_16_sets(rt: HostRuntime) {
+    let files: [&[u8]; 1] = [&TILE_1];
+    assert_eq!(rt; sizes(&rt, &files, &LINES[..96]), Some((2, 1, 16)));
+    assert_eq!(rt; fault(&rt, &files, &LINES[..102]), Some(SetFault::S5));
+    // A line that is cut short comes before too many lines.
+    assert_eq!(rt; fault(&rt, &files, LINES), Some(SetFault::S1(17)));
+    let bad =
+        b"set 0\nset 0\nset 0\nset\nset 0\nset 0\nset 0\nset 0\nset 0\nset 0\nset 0\nset 0\nset 0\nset 0\nset 0\nset 0\nset 0\n";
+    assert_eq!(rt; fault(&rt, &files, bad), Some(SetFault::S1(3)));
+}
+
+#[test]
+fn lines_of_another_form_are_refused(rt: HostRuntime) {
+    let files: [&[u8]; 1] = [&TILE_1];
+    let texts: [(&[u8], usize); 20] = [
+        (b"", 0),
+        (b"set 0", 0),
+        (b"set 00\n", 0),
+        (b"set  0\n", 0),
+        (b"set 0 \n", 0),
+        (b"set\n", 0),
+        (b"set \n", 0),
+        (b"sets 0\n", 0),
+        (b"Set 0\n", 0),
+        (b" set 0\n", 0),
+        (b"\n", 0),
+        (b"set 0\n\n", 1),
+        (b"set 0\r\n", 0),
+        (b"set 0\t1\n", 0),
+        (b"set 1 0\n", 0),
+        (b"set 0 0\n", 0),
+        (b"set 100\n", 0),
+        (b"set 0t\n", 0),
+        (b"set 0\nset 1 0\n", 1),
+        (b"set 0\nset 0\n ", 2),
+    ];
+    for (text, line) in texts {
+        assert_eq!(rt;
+            fault(&rt, &files, text),
+            Some(SetFault::S1(line)),
+            "{text:?}"
+        );
+    }
+}
+
+#[test]
+fn a_text_that_is_cut_is_refused_at_its_last_line(rt: HostRuntime) {
+    let text = b"set 0 1\nset 1\n";
+    for len in 0..14 {
+        let want = match len {
+            0..8 => Some(SetFault::S1(0)),
+            8 => None,
+            _ => Some(SetFault::S1(1)),
+        };
+        assert_eq!(rt;
+            fault(&rt, &[&TILES_12, &TILE_3], &text[..len]),
+            want,
+            "{len} bytes"
+        );
+    }
+}
+
+/// The tiles 1 and 2, and the tile 1 again.
+const OVERLAPPING: &[&[u8]] = &[&TILES_12, &TILE_1];
+
+#[test]
+fn missing_and_overlapping_tables_are_refused(rt: HostRuntime) {
+    // A table that isn't there comes before tables that share a tile, on whatever lines.
+    let texts: [(&[&[u8]], &[u8], SetFault); 5] = [
+        (OVERLAPPING, b"set 0 1\n", SetFault::S3(0)),
+        (OVERLAPPING, b"set 0\nset 1\nset 0 1\n", SetFault::S3(2)),
+        (OVERLAPPING, b"set 0 1\nset 0 2\n", SetFault::S2(1)),
+        (&[&TILE_1], b"set 0\nset 1\n", SetFault::S2(1)),
+        (&[&TILE_1], b"set 0 16 17 99\n", SetFault::S2(0)),
+    ];
+    for (files, text, want) in texts {
+        assert_eq!(rt; fault(&rt, files, text), Some(want), "{text:?}");
+    }
+}
+
+#[test]
+fn a_bundle_has_1_to_16_tables_of_one_side(rt: HostRuntime) {
+    let seventeen: [&[u8]; 17] = [&TILE_1; 17];
+    assert_eq!(rt; fault(&rt, &seventeen, b"set 0\n"), Some(SetFault::S5));
+    // Other sides come before lines of another form.
+    let texts: [(&[&[u8]], &[u8], SetFault); 3] = [
+        (&[], b"set 0\n", SetFault::S5),
+        (&[&TILE_1, &TILE_24], b"set 0 1\n", SetFault::S4(1)),
+        (
+            &[&TILE_1, &TILE_3, &TILE_24, &TILE_24],
+            b"",
+            SetFault::S4(2),
+        ),
+    ];
+    for (files, text, want) in texts {
+        assert_eq!(rt;
+            fault(&rt, files, text),
+            Some(want),
+            "{} tables",
+            files.len()
+        );
+    }
+}

@@ -1,6 +1,0 @@
-use Rattle.std.proofs.Common.{ℕ, ◌<◌, get_or}
-use Rattle.tab_lanes.specs.Floods.{MayGrow}
-use Rattle.tab_lanes.proofs.tests.may_all_grow.Given as goal
-
-abbrev pub invariant-loop-place : goal.invariant-loop-place
-invariant-loop-place l = (i : ℕ) → i < l.place → MayGrow l.fn.side (get_or l.free i 0) (get_or l.masks i 0)

@@ -1,0 +1,9 @@
+//! Tests of tables: their files, the check of them, and the search that known tables come from.
+#![tactic(auto)]
+
+#[cfg(test)]
+mod files;
+#[cfg(test)]
+mod searches;
+#[cfg(test)]
+mod tables;

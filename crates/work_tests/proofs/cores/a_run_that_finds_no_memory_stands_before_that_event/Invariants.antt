@@ -1,0 +1,5 @@
+use Rattle.std.proofs.Common.{◌≡◌, length}
+use Rattle.work_tests.proofs.cores.a_run_that_finds_no_memory_stands_before_that_event.Given as goal
+
+abbrev pub invariant-loop-event : goal.invariant-loop-event
+invariant-loop-event g l = length l.twin.passes ≡ 2

@@ -1,0 +1,5 @@
+use Rattle.std.proofs.Common.{◌≡◌, length}
+use Rattle.work_tests.proofs.cores.want_of_memory_changes_nothing.Given as goal
+
+abbrev pub invariant-loop : goal.invariant-loop
+invariant-loop g l = (length l.core.passes ≡ 2) × (length l.twin.passes ≡ 2)
