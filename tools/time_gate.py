@@ -2,9 +2,10 @@
 """Runs the gate and prints, as a Markdown table, the processor seconds that each crate cost in it: its check and its tests
 from nothing, and its edits that must fail.
 
-Usage: tools/time_gate.py [COMMAND WORD..]; without COMMAND it is `.ci/run`. By hand, on an idle machine. What the command
-writes goes through, the table comes behind it, and the status is the command's. The seconds are those of the checker's
-processes, read every half second, so each process may be half a second short.
+Usage: tools/time_gate.py [COMMAND WORD..]; without COMMAND it is `rt ci --anew`, which takes over nothing that an earlier
+run has proved. By hand, on an idle machine. What the command writes goes through, the table comes behind it, and the status
+is the command's. The seconds are those of the checker's processes, read every half second, so each process may be half a
+second short; those of edits have the check in them over which a crate's edits are tried.
 """
 
 import collections
@@ -89,7 +90,7 @@ def table(spent):
 def main():
     root = os.path.dirname(os.path.dirname(os.path.abspath(__file__)))
     began = time.monotonic()
-    command = subprocess.Popen(sys.argv[1:] or [".ci/run"], cwd=root)
+    command = subprocess.Popen(sys.argv[1:] or ["rt", "ci", "--anew"], cwd=root)
     spent = {}
     while command.poll() is None:
         look(command.pid, spent)
