@@ -5,24 +5,10 @@ use puz_board::masks::{
     without,
 };
 use puz_board::{Board, BoardFault, Move, MoveFault, Side, replay, split_puzzle, step};
+use samples::boards::RING;
 use std::process::Abort;
 
-/// The boards of side 2 that reach the goal board, each one move from the one before: R, D, L and U in turn.
-const RING: [[u8; 4]; 12] = [
-    [0, 1, 2, 3],
-    [1, 0, 2, 3],
-    [1, 3, 2, 0],
-    [1, 3, 0, 2],
-    [0, 3, 1, 2],
-    [3, 0, 1, 2],
-    [3, 2, 1, 0],
-    [3, 2, 0, 1],
-    [0, 2, 3, 1],
-    [2, 0, 3, 1],
-    [2, 1, 3, 0],
-    [2, 1, 0, 3],
-];
-
+/// The blank's moves round the ring of boards.
 const ROUND: [Move; 4] = [Move::Right, Move::Down, Move::Left, Move::Up];
 
 /// What a puzzle text is answered: its board's fault, or what its moves do.

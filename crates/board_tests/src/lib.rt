@@ -1,7 +1,9 @@
-//! Tests of boards and moves, and of kernels over columns.
+//! Tests of boards and moves, of placements, and of kernels over columns.
 #![tactic(auto)]
 
 #[cfg(test)]
 mod boards;
 #[cfg(test)]
 mod lanes;
+#[cfg(test)]
+mod placements;

@@ -1,6 +1,8 @@
+//! Patterns, placements and their ranks, regions and slots, and the slots that a table keeps.
+
 ghost use Rattle.std.specs.Prelude.{◌≡◌};
 
-use crate::{Pattern, Placement, SlotTable, next, rank, regions, slot_of, unrank};
+use pat_place::{Pattern, Placement, SlotTable, next, rank, regions, slot_of, unrank};
 use puz_board::{Board, Side, masks};
 use std::process::Abort;
 use std::test::Fail;
@@ -334,24 +336,20 @@ fn kept_slots_are_regions_by_least_cell(rt: HostRuntime) -> Result<(), Fail> {
     Ok(())
 }
 
-/// In the placements of a pattern's tiles, ascending, each free cell has the slot that a flood finds if the sets are kept,
-/// and none if they aren't.
+/// In each placement of a pattern's tiles each free cell has the slot that a flood finds if the sets are kept, and none if
+/// they aren't.
 fn check_sets(rt: &impl Abort, kept: &SlotTable, pattern: &Pattern, is_kept: bool)
     requires { pattern.now.side ≡ kept.now }
 {
-    let cells = pattern.side().cells();
-    let size = u32::from(pattern.size());
-    for set in 0..1u32 << cells {
-        if set.count_ones() == size {
-            let placement = Placement::of_set(pattern, set);
-            for cell in 0..cells {
-                let want = if is_kept {
-                    slot_at(&placement, cell)
-                } else {
-                    None
-                };
-                assert_eq!(rt; kept_slot_at(kept, &placement, cell), want, "{set} {cell}");
-            }
+    for r in 0..pattern.count() {
+        let placement = unrank(pattern, r);
+        for cell in 0..pattern.side().cells() {
+            let want = if is_kept {
+                slot_at(&placement, cell)
+            } else {
+                None
+            };
+            assert_eq!(rt; kept_slot_at(kept, &placement, cell), want, "{r} {cell}");
         }
     }
 }

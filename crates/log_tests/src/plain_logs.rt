@@ -3,26 +3,10 @@
 
 use log_check::LogRefusal;
 use log_file::FormFault;
+use samples::boards::RING;
 
 /// A board of side 2: the number in each of its cells.
 pub(crate) type Cells = [u8; 4];
-
-/// The boards that reach the goal board, which is the first. From each the next one is one move away, and so is the first
-/// from the last.
-const RING: [Cells; 12] = [
-    [0, 1, 2, 3],
-    [1, 0, 2, 3],
-    [1, 3, 2, 0],
-    [1, 3, 0, 2],
-    [0, 3, 1, 2],
-    [3, 0, 1, 2],
-    [3, 2, 1, 0],
-    [3, 2, 0, 1],
-    [0, 2, 3, 1],
-    [2, 0, 3, 1],
-    [2, 1, 3, 0],
-    [2, 1, 0, 3],
-];
 
 /// For each move in the order up, down, left, right, where it leads the blank from each cell.
 const TO: [[Option<usize>; 4]; 4] = [

@@ -11,8 +11,6 @@ mod ranks;
 mod set_numbers;
 mod slot_tables;
 mod slots;
-#[cfg(test)]
-mod tests;
 
 pub use mask_numbers::put_numbers;
 pub use patterns::Pattern;

@@ -171,7 +171,7 @@ impl Placement {
     }
 
     /// The pattern.
-    pub(crate) fn pattern(&self) -> Pattern
+    pub fn pattern(&self) -> Pattern
         ensures pattern { result ≡ self.now.pattern }
         ensures placement { IsPlacement self.now }
         ensures is_pattern { IsPattern self.now.pattern }

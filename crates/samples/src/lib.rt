@@ -1,6 +1,7 @@
-//! Sample tables and logs, and gates that watch and hold workers, for the tests of several crates.
+//! Sample boards, tables and logs, and gates that watch and hold workers, for the tests of several crates.
 #![tactic(auto)]
 
+pub mod boards;
 pub mod files;
 mod gates;
 pub mod logs;

@@ -10,12 +10,8 @@ mod near;
 mod rows;
 mod runs;
 mod set_rows;
-#[cfg(test)]
-mod table_tests;
 mod tables;
-#[cfg(test)]
-mod tests;
 
 pub use blocks::check_runs;
-pub use rows::RowTable;
+pub use rows::{KeptSet, RowTable};
 pub use tables::check_table;

@@ -2,7 +2,13 @@
 #![tactic(auto)]
 
 #[cfg(test)]
+mod censuses;
+#[cfg(test)]
 mod files;
+#[cfg(test)]
+mod large_tables;
+#[cfg(test)]
+mod runs;
 #[cfg(test)]
 mod searches;
 #[cfg(test)]

@@ -3,7 +3,6 @@
 ghost use Rattle.std.specs.Prelude.{◌≡◌};
 ghost use Rattle.tab_check.specs.Blocks.{block_count};
 
-use crate::{RowTable, check_runs};
 use pat_place::Pattern;
 use puz_board::Side;
 use samples::LeastCosts;
@@ -15,6 +14,7 @@ use std::process::Abort;
 use std::test::Fail;
 use tab_check::{BLOCK_RANKS, check_block};
 use tab_file::view;
+use tab_runs::{RowTable, check_runs};
 
 /// How many blocks a table of the pattern has.
 fn blocks_of(pattern: &Pattern) -> u64

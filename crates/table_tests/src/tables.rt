@@ -1,7 +1,6 @@
 //! Known tables, tables by a search of their own and changed ones, by several workers, and gates that watch and hold them.
 
-ghost use Rattle.work_run.specs.Workers.{AreWorkers};
-
+use crate::censuses::{BOTH, Check, bad_entry, census, census_by, head_fault};
 use puz_board::Board;
 use samples::files::{
     FOURTEEN_BLOCKS, TILE_1, TILE_1_NEVER, TILE_3, TILE_24, TILES_12, TILES_123, TWO_BLOCKS,
@@ -12,11 +11,9 @@ use std::process::Abort;
 use std::sync::Wait;
 use std::test::Fail;
 use std::thread::Threads;
-use tab_check::{
-    BLOCK_RANKS, Census, CheckedTable, Count, TableFault, TableRefusal, check_block, check_table,
-};
+use tab_check::{BLOCK_RANKS, Census, CheckedTable, Count, TableFault, check_block, check_table};
 use tab_file::{HeadFault, view};
-use work_run::{Gate, OpenGate};
+use work_run::OpenGate;
 
 /// The check of a file by one worker.
 fn checked<'a, R: Threads + Wait + AllocGlobal>(
@@ -24,42 +21,6 @@ fn checked<'a, R: Threads + Wait + AllocGlobal>(
     file: &'a [u8],
 ) -> Result<CheckedTable<'a>, TableFault> {
     check_table(rt, rt.alloc(), file, 1, &OpenGate)
-}
-
-/// The census of a table file, or its fault, by so many workers.
-fn census_by<R: Threads + Wait + AllocGlobal, G: Gate + Sync>(
-    rt: &R,
-    file: &[u8],
-    workers: u8,
-    gate: &G,
-) -> Result<Census, TableFault>
-    requires { AreWorkers workers }
-{
-    match check_table(rt, rt.alloc(), file, workers, gate) {
-        Ok(table) => Ok(table.census()),
-        Err(fault) => Err(fault),
-    }
-}
-
-/// The census of a table file, or its fault, which is the same by any number of workers.
-fn census<R: Threads + Wait + AllocGlobal + Abort>(
-    rt: &R,
-    file: &[u8],
-) -> Result<Census, TableFault> {
-    let alone = census_by(rt, file, 1, &OpenGate);
-    for workers in [2, 7, 64] {
-        assert_eq!(rt;
-            census_by(rt, file, workers, &OpenGate),
-            alone,
-            "{workers} workers"
-        );
-    }
-    alone
-}
-
-/// The refusal that names this entry.
-fn bad_entry(number: u64) -> TableFault {
-    TableFault::Refused(TableRefusal::T7(number))
 }
 
 /// What a table tells of the board with these numbers in its cells.
@@ -305,11 +266,6 @@ fn each_changed_byte_is_refused(rt: HostRuntime) {
     }
 }
 
-/// The answer that a fault of the header has.
-fn head_fault(fault: HeadFault) -> Result<Census, TableFault> {
-    Err(TableFault::Refused(TableRefusal::Head(fault)))
-}
-
 #[test]
 fn head_faults_are_handed_on(rt: HostRuntime) {
     let changes: [(usize, u8, HeadFault); 7] = [
@@ -326,7 +282,7 @@ fn head_faults_are_handed_on(rt: HostRuntime) {
         for file in [file.as_slice(), &file[..30]] {
             assert_eq!(rt;
                 census(&rt, file),
-                head_fault(want),
+                Err(head_fault(want)),
                 "byte {place} of {}",
                 file.len()
             );
@@ -344,7 +300,12 @@ fn files_of_another_length_are_refused(rt: HostRuntime) {
         (&with_one_more(&TILES_123), HeadFault::T6),
     ];
     for (file, want) in files {
-        assert_eq!(rt; census(&rt, file), head_fault(want), "{} bytes", file.len());
+        assert_eq!(rt;
+            census(&rt, file),
+            Err(head_fault(want)),
+            "{} bytes",
+            file.len()
+        );
     }
     for len in 0..44 {
         let want = if len < 20 {
@@ -352,8 +313,8 @@ fn files_of_another_length_are_refused(rt: HostRuntime) {
         } else {
             HeadFault::T6
         };
-        let cut = census_by(&rt, &TILES_123[..len], 1, &OpenGate);
-        assert_eq!(rt; cut, head_fault(want), "{len} bytes");
+        let cut = census_by(&rt, Check::Columns, &TILES_123[..len], 1, &OpenGate);
+        assert_eq!(rt; cut, Err(head_fault(want)), "{len} bytes");
     }
 }
 
@@ -437,50 +398,16 @@ fn the_eight_puzzle_is_exact(rt: HostRuntime) -> Result<(), Fail> {
 }
 
 #[test]
-fn the_last_entry_of_a_large_table_is_checked(rt: HostRuntime) -> Result<(), Fail> {
-    let costs = LeastCosts::new(rt.alloc(), &[1, 2, 3, 4, 5, 6, 7])?;
-    let mut file = costs.table(rt.alloc())?;
-    // The last placement leaves the cells 0 and 1: one region, and a slot without one.
-    assert_eq!(rt; file.pop(), Some(254));
-    file.push(0)?;
-    assert_eq!(rt; census(&rt, &file), Err(bad_entry(362_879)));
-    Ok(())
-}
-
-#[test]
-fn each_block_is_entered_once(rt: HostRuntime) -> Result<(), Fail> {
-    let costs = LeastCosts::new(rt.alloc(), &[1, 2, 3, 4, 5, 6, 7, 8])?;
-    let file = costs.table(rt.alloc())?;
-    for workers in [1, 2, 7, 64] {
-        let log = Log::new(rt.alloc(), 2000)?;
-        assert!(rt; check_table(&rt, rt.alloc(), &file, workers, &log).is_ok());
-        let mut blocks = log.notes(rt.alloc())?;
-        blocks.sort()?;
-        assert_eq!(rt; blocks.len(), 1418, "{workers} workers");
-        for (block, entered) in (0..).zip(&blocks) {
-            assert_eq!(rt; *entered, block);
-        }
-    }
-    Ok(())
-}
-
-#[test]
 fn blocks_above_a_bad_entry_are_not_entered(rt: HostRuntime) -> Result<(), Fail> {
     let mut file = [0xFE; 2036];
     file[..20].copy_from_slice(&TWO_BLOCKS);
-    let log = Log::new(rt.alloc(), 2)?;
-    assert_eq!(rt; census_by(&rt, &file, 1, &log), Err(bad_entry(0)));
-    assert_eq!(rt; log.notes(rt.alloc())?.as_slice(), [0].as_slice());
+    for check in BOTH {
+        let log = Log::new(rt.alloc(), 2)?;
+        let answer = census_by(&rt, check, &file, 1, &log);
+        assert_eq!(rt; answer, Err(bad_entry(0)));
+        assert_eq!(rt; log.notes(rt.alloc())?.as_slice(), [0].as_slice());
+    }
     Ok(())
-}
-
-#[test]
-fn two_workers_check_two_blocks_side_by_side(rt: HostRuntime) {
-    let mut file = [0xFF; 2036];
-    file[..20].copy_from_slice(&TWO_BLOCKS);
-    let gate = HoldingGate::new(&[0], &[1]);
-    assert_eq!(rt; census_by(&rt, &file, 2, &gate), Err(bad_entry(1)));
-    assert!(rt; gate.saw_all());
 }
 
 #[test]
@@ -488,7 +415,10 @@ fn four_workers_check_four_blocks_side_by_side(rt: HostRuntime) {
     let mut file = [0xFF; 13460];
     file[..20].copy_from_slice(&FOURTEEN_BLOCKS);
     let gate = HoldingGate::new(&[0, 1, 2, 3], &[0, 1, 2, 3]);
-    assert_eq!(rt; census_by(&rt, &file, 4, &gate), Err(bad_entry(1)));
+    assert_eq!(rt;
+        census_by(&rt, Check::Columns, &file, 4, &gate),
+        Err(bad_entry(1))
+    );
     assert!(rt; gate.saw_all());
 }
 
@@ -496,9 +426,9 @@ fn four_workers_check_four_blocks_side_by_side(rt: HostRuntime) {
 #[test]
 fn want_of_memory_is_answered_and_a_second_check_finds_the_fault(rt: HostRuntime) {
     let file = with_byte(&TILES_123, 34, 0x02);
-    let mut fault = census_by(&rt, &file, 7, &OpenGate);
+    let mut fault = census_by(&rt, Check::Columns, &file, 7, &OpenGate);
     if fault == Err(TableFault::Memory) {
-        fault = census_by(&rt, &file, 7, &OpenGate);
+        fault = census_by(&rt, Check::Columns, &file, 7, &OpenGate);
     }
     assert_eq!(rt; fault, Err(bad_entry(14)));
 }
