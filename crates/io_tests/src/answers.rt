@@ -36,12 +36,15 @@ fn an_answer_is_one_write(rt: HostRuntime) -> Result<(), Fail> {
         lines: lines(&["bound ", "6", "\n"]),
         is_yes: true,
     };
-    assert!(rt; say(&answer, &mut out).is_ok());
-    assert_eq!(rt; out.calls(), 1);
-    assert_eq!(rt; out.taken().len(), 17 * 72 + 8);
-    assert!(rt; out.taken().starts_with(sha256::OF_NOTHING));
-    assert!(rt; out.taken()[16 * 72..].starts_with(sha256::OF_ABC));
-    assert!(rt; out.taken().ends_with(b"\nbound 6\n"));
+    let said = say(&answer, &mut out);
+    assert!(rt; said.is_ok() && out.calls() == 1);
+    let taken = out.taken();
+    assert_eq!(rt; taken.len(), 17 * 72 + 8);
+    assert!(rt;
+        taken.starts_with(sha256::OF_NOTHING)
+            && taken[16 * 72..].starts_with(sha256::OF_ABC)
+            && taken.ends_with(b"\nbound 6\n")
+    );
     Ok(())
 }
 
@@ -50,47 +53,64 @@ fn more_than_a_page_is_written_whole(rt: HostRuntime) -> Result<(), Fail> {
     let alloc = rt.alloc();
     let files = empty_files(alloc, 120)?;
     let mut out = taking(alloc, 3);
-    assert!(rt; say_digests(files.as_slice(), None, &mut out).is_ok());
-    assert_eq!(rt; out.calls(), 3);
-    assert_eq!(rt; out.taken().len(), 120 * 72);
-    for line in out.taken().chunks(72) {
-        assert!(rt; line == sha256::OF_NOTHING);
-    }
+    let said = say_digests(files.as_slice(), None, &mut out);
+    assert!(rt; said.is_ok() && out.calls() == 3);
+    let taken = out.taken();
+    assert_eq!(rt; taken.len(), 120 * 72);
+    assert!(rt; taken.chunks(72).all(|line| line == sha256::OF_NOTHING));
+    Ok(())
+}
+
+#[test]
+fn pages_before_a_write_that_fails_are_taken(rt: HostRuntime) -> Result<(), Fail> {
+    let alloc = rt.alloc();
+    let files = empty_files(alloc, 120)?;
     let mut out = taking(alloc, 2);
-    assert!(rt; say_digests(files.as_slice(), None, &mut out) == Err(WriteFault::F3));
+    let said = say_digests(files.as_slice(), None, &mut out);
+    assert!(rt; said == Err(WriteFault::F3));
     assert_eq!(rt; out.taken().len(), 8_192);
     Ok(())
 }
 
-/// So many files, no two neighbours the same, and their digest lines.
-fn known_files(alloc: Global, count: usize) -> Result<(Vec<Vec<u8>>, Vec<u8>), AllocError> {
-    let known: [(&[u8], &[u8]); 3] = [
-        (b"abc", sha256::OF_ABC),
-        (sha256::LETTERS, sha256::OF_LETTERS),
-        (b"", sha256::OF_NOTHING),
-    ];
+/// Files, no two neighbours the same, and their digest lines.
+const KNOWN: [(&[u8], &[u8]); 3] = [
+    (b"abc", sha256::OF_ABC),
+    (sha256::LETTERS, sha256::OF_LETTERS),
+    (b"", sha256::OF_NOTHING),
+];
+
+/// So many of the known files, over and over.
+fn known_files(alloc: Global, count: usize) -> Result<Vec<Vec<u8>>, AllocError> {
     let mut files = Vec::new(alloc);
-    let mut digests = Vec::new(alloc);
-    for (file, line) in known.iter().cycle().take(count) {
+    for (file, _) in KNOWN.iter().cycle().take(count) {
         files.push(file.to_vec(alloc)?)?;
-        digests.extend_from_slice(line)?;
     }
-    Ok((files, digests))
+    Ok(files)
+}
+
+/// The digest lines of so many of the known files, and of no bytes.
+fn known_digests(alloc: Global, count: usize) -> Result<Vec<u8>, AllocError> {
+    let mut lines = Vec::new(alloc);
+    for (_, line) in KNOWN.iter().cycle().take(count) {
+        lines.extend_from_slice(line)?;
+    }
+    lines.extend_from_slice(sha256::OF_NOTHING)?;
+    Ok(lines)
 }
 
 #[test]
 fn digests_are_made_beside_a_check(rt: HostRuntime) -> Result<(), Fail> {
     let alloc = rt.alloc();
     for count in [0usize, 1, 2, 3, 5, 16, 17, 40] {
-        let (files, mut want) = known_files(alloc, count)?;
-        want.extend_from_slice(sha256::OF_NOTHING)?;
+        let files = known_files(alloc, count)?;
+        let want = known_digests(alloc, count)?;
         for workers in [1u8, 2, 3, 7, 64] {
             let (digests, answer) = beside(&rt, workers, files.as_slice(), Some(b""), || 6u8);
-            assert_eq!(rt; answer, 6);
-            match digests {
-                Some(digests) => assert!(rt; digests.as_slice() == want.as_slice()),
-                None => assert!(rt; workers == 1 || count > 16),
-            }
+            let are_right = match digests {
+                Some(digests) => digests.as_slice() == want.as_slice(),
+                None => workers == 1 || count > 16,
+            };
+            assert!(rt; are_right && answer == 6);
         }
     }
     Ok(())

@@ -1,10 +1,12 @@
 //! Shelves that keep: over memory, over a system whose calls fail, and over real files.
 
 use crate::bytes::sample_bytes;
+use crate::calls::were_calls;
 use pdb_io::disk::DiskShelf;
 use pdb_io::memory::MemShelf;
 use pdb_io::shelf::{KeepFault, Shelf};
 use sample_streams::{Call, SampleFiles};
+use std::alloc::Global;
 use std::fs;
 use std::io::Read;
 use std::test::Fail;
@@ -30,12 +32,23 @@ fn a_shelf_over_memory_has_what_it_kept(rt: HostRuntime) -> Result<(), Fail> {
     let mut shelf = MemShelf::of(alloc, &[("a", OLD), ("b", OLD)])?;
     for (name, bytes) in [("a", NEW), ("", OLD), ("-", b""), ("a", b"newest")] {
         shelf.keep(alloc, name, bytes)?;
-        assert!(rt; shelf.get(name) == Some(bytes));
+        assert!(rt; shelf.get(name) == Some(bytes) && shelf.get("b") == Some(OLD));
         assert!(rt; shelf.load(alloc, name, 9)?.as_slice() == bytes);
-        assert!(rt; shelf.get("b") == Some(OLD));
     }
     assert!(rt; !shelf.failed());
     Ok(())
+}
+
+/// Keeps the new bytes under a name of a system, and says whether the shelf failed then.
+fn keep_new(alloc: Global, files: &SampleFiles, name: &str) -> (Result<(), KeepFault>, bool) {
+    let mut shelf = DiskShelf::new(files);
+    let kept = shelf.keep(alloc, name, NEW);
+    (kept, shelf.failed())
+}
+
+/// Whether a system has just one name, and these bytes under it.
+fn has_alone(files: &SampleFiles, name: &str, bytes: &[u8]) -> bool {
+    files.count() == 1 && files.has(name, bytes)
 }
 
 #[test]
@@ -43,12 +56,11 @@ fn a_file_gets_its_name_when_it_is_whole(rt: HostRuntime) -> Result<(), Fail> {
     let alloc = rt.alloc();
     for (name, count) in [("a", 2), ("c", 3)] {
         let files = SampleFiles::new(alloc, &[("a", OLD), ("b", OLD)])?;
-        let mut shelf = DiskShelf::new(&files);
-        shelf.keep(alloc, name, NEW)?;
-        assert!(rt; files.calls()?.as_slice() == CALLS);
+        let (kept, failed) = keep_new(alloc, &files, name);
+        kept?;
+        assert!(rt; !failed && were_calls(&files, CALLS)?);
         assert!(rt; files.has(name, NEW) && files.has("b", OLD));
         assert_eq!(rt; files.count(), count);
-        assert!(rt; !shelf.failed());
     }
     Ok(())
 }
@@ -60,10 +72,11 @@ fn a_call_that_fails_leaves_what_was_there(rt: HostRuntime) -> Result<(), Fail> 
         for name in ["a", "c"] {
             let files = SampleFiles::new(alloc, &[("a", OLD)])?;
             files.fail(call, call.saturating_add(1));
-            let mut shelf = DiskShelf::new(&files);
-            assert_eq!(rt; shelf.keep(alloc, name, NEW), Err(KeepFault::F3));
-            assert!(rt; shelf.failed());
-            assert!(rt; files.has("a", OLD) && files.count() == 1, "call {call}");
+            let ended = keep_new(alloc, &files, name);
+            assert!(rt;
+                ended == (Err(KeepFault::F3), true) && has_alone(&files, "a", OLD),
+                "call {call}"
+            );
         }
     }
     Ok(())
@@ -75,7 +88,7 @@ fn a_file_is_kept_where_nothing_is_told_of_its_name(rt: HostRuntime) -> Result<(
     let files = SampleFiles::new(alloc, &[("a", OLD)])?;
     files.fail(0, 1);
     DiskShelf::new(&files).keep(alloc, "a", NEW)?;
-    assert!(rt; files.has("a", NEW) && files.count() == 1);
+    assert!(rt; has_alone(&files, "a", NEW));
     Ok(())
 }
 
@@ -85,40 +98,49 @@ fn a_system_that_stops_leaves_the_old_file_or_the_new_one(rt: HostRuntime) -> Re
     for call in 0..=CALLS.len() {
         let files = SampleFiles::new(alloc, &[("a", OLD)])?;
         files.fail(call as u64, u64::MAX);
-        let mut shelf = DiskShelf::new(&files);
+        let (kept, failed) = keep_new(alloc, &files, "a");
         let stopped = call < CALLS.len();
-        assert_eq!(rt; shelf.keep(alloc, "a", NEW).is_err(), stopped);
-        assert_eq!(rt; shelf.failed(), stopped);
+        assert_eq!(rt; (kept.is_err(), failed), (stopped, stopped));
         assert!(rt;
             files.has("a", if stopped { OLD } else { NEW }),
             "call {call}"
         );
         files.fail(0, 0);
         DiskShelf::new(&files).keep(alloc, "a", b"newest")?;
-        assert!(rt;
-            files.has("a", b"newest") && files.count() == 1,
-            "call {call}"
-        );
+        assert!(rt; has_alone(&files, "a", b"newest"), "call {call}");
     }
     Ok(())
 }
 
+/// A file, and what is left over of a keep that was stopped.
+const LEFT_OVER: &[(&str, &[u8])] = &[("a", OLD), ("a.unkept", b"ne")];
+
 #[test]
 fn a_file_that_was_left_over_is_replaced(rt: HostRuntime) -> Result<(), Fail> {
     let alloc = rt.alloc();
-    for (fails, count) in [(8, 1), (2, 2), (3, 1)] {
-        let files = SampleFiles::new(alloc, &[("a", OLD), ("a.unkept", b"ne")])?;
-        files.fail(fails, fails.saturating_add(1));
+    let files = SampleFiles::new(alloc, LEFT_OVER)?;
+    DiskShelf::new(&files).keep(alloc, "a", NEW)?;
+    let calls = files.calls()?;
+    assert!(rt;
+        calls.starts_with(&[Call::Look, Call::Create, Call::Remove, Call::Create])
+            && calls.ends_with(&CALLS[1..])
+    );
+    assert!(rt; has_alone(&files, "a", NEW));
+    Ok(())
+}
+
+#[test]
+fn a_call_that_fails_beside_a_file_left_over_leaves_the_old_bytes(
+    rt: HostRuntime,
+) -> Result<(), Fail> {
+    let alloc = rt.alloc();
+    for (call, count) in [(8u64, 1), (2, 2), (3, 1)] {
+        let files = SampleFiles::new(alloc, LEFT_OVER)?;
+        files.fail(call, call.saturating_add(1));
         let kept = DiskShelf::new(&files).keep(alloc, "a", NEW);
         assert!(rt; kept == Err(KeepFault::F3) && files.has("a", OLD));
         assert_eq!(rt; files.count(), count);
     }
-    let files = SampleFiles::new(alloc, &[("a", OLD), ("a.unkept", b"ne")])?;
-    DiskShelf::new(&files).keep(alloc, "a", NEW)?;
-    let calls = files.calls()?;
-    assert!(rt; calls.starts_with(&[Call::Look, Call::Create, Call::Remove, Call::Create]));
-    assert!(rt; calls.ends_with(&CALLS[1..]));
-    assert!(rt; files.has("a", NEW) && files.count() == 1);
     Ok(())
 }
 
@@ -128,7 +150,7 @@ fn what_is_no_plain_file_is_only_looked_at(rt: HostRuntime) -> Result<(), Fail> 
     let files = SampleFiles::new(alloc, &[("folder/", b"")])?;
     let kept = DiskShelf::new(&files).keep(alloc, "folder/", NEW);
     assert!(rt; kept == Err(KeepFault::F3));
-    assert!(rt; files.calls()?.as_slice() == [Call::Look].as_slice());
+    assert!(rt; were_calls(&files, &[Call::Look])?);
     Ok(())
 }
 
@@ -203,11 +225,8 @@ fn a_folder_and_a_name_without_its_folder_keep_nothing(rt: HostRuntime) -> Resul
         "a\0b",
     ] {
         let mut shelf = DiskShelf::new(&rt);
-        assert!(rt;
-            shelf.keep(rt.alloc(), name, NEW) == Err(KeepFault::F3),
-            "{name}"
-        );
-        assert!(rt; shelf.failed());
+        let kept = shelf.keep(rt.alloc(), name, NEW);
+        assert!(rt; kept == Err(KeepFault::F3) && shelf.failed(), "{name}");
     }
     for name in [
         "..unkept",

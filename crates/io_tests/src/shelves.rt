@@ -5,63 +5,73 @@ use pdb_io::disk::DiskShelf;
 use pdb_io::memory::MemShelf;
 use pdb_io::shelf::Shelf;
 use pdb_io::streams::ReadFault;
+use std::alloc::{AllocError, Global};
 use std::fs;
 use std::test::Fail;
+
+/// A shelf over memory with two names, of which one was given bytes twice.
+fn sample(alloc: Global) -> Result<MemShelf, AllocError> {
+    MemShelf::of(alloc, &[("a", b"first"), (" a", b""), ("a", b"last")])
+}
 
 #[test]
 fn a_shelf_over_memory_gives_what_it_was_given(rt: HostRuntime) -> Result<(), Fail> {
     let alloc = rt.alloc();
-    let mut shelf = MemShelf::of(
-        alloc,
-        &[
-            ("a", b"first".as_slice()),
-            (" a", b"".as_slice()),
-            ("a", b"last".as_slice()),
-        ],
-    )?;
-    assert!(rt; shelf.get("a") == Some(b"last".as_slice()));
-    assert!(rt; shelf.get(" a") == Some(b"".as_slice()));
-    assert!(rt; shelf.get("a ").is_none());
-    assert!(rt; shelf.load(alloc, "a", 4)?.as_slice() == b"last".as_slice());
-    assert!(rt; matches!(shelf.load(alloc, "a", 3), Err(ReadFault::F2)));
-    assert!(rt; !shelf.failed());
-    assert!(rt; matches!(shelf.load(alloc, "b", 3), Err(ReadFault::F1)));
-    assert!(rt; shelf.failed());
+    let mut shelf = sample(alloc)?;
+    let names: [(&str, Option<&[u8]>); 3] = [("a", Some(b"last")), (" a", Some(b"")), ("a ", None)];
+    for (name, bytes) in names {
+        assert!(rt; shelf.get(name) == bytes, "{name}");
+    }
+    let read = shelf.load(alloc, "a", 4)?;
+    assert!(rt; read.as_slice() == b"last".as_slice() && !shelf.failed());
     Ok(())
 }
 
 #[test]
+fn a_shelf_over_memory_fails_where_a_name_is_missing(rt: HostRuntime) -> Result<(), Fail> {
+    let alloc = rt.alloc();
+    let mut shelf = sample(alloc)?;
+    for (name, fault, failed) in [("a", ReadFault::F2, false), ("b", ReadFault::F1, true)] {
+        let read = shelf.load(alloc, name, 3);
+        assert!(rt;
+            read.err() == Some(fault) && shelf.failed() == failed,
+            "{name}"
+        );
+    }
+    Ok(())
+}
+
+/// The names of real files, and how many bytes each has.
+const FILES: [(&str, usize); 5] = [
+    ("shelf_test", 0),
+    (" shelf_test", 9),
+    ("shelf_test ", 65_536),
+    ("shelf test\t", 65_537),
+    ("-", 3_145_745),
+];
+
+#[test]
 fn a_file_is_read_whole_under_its_very_name(rt: HostRuntime) -> Result<(), Fail> {
     let alloc = rt.alloc();
-    let names = [
-        "shelf_test",
-        " shelf_test",
-        "shelf_test ",
-        "shelf test\t",
-        "-",
-    ];
-    let counts = [0usize, 9, 65_536, 65_537, 3_145_745];
-    for (name, count) in names.iter().zip(counts.iter()) {
-        let bytes = sample_bytes(alloc, *count)?;
-        fs::write(&rt, *name, bytes.as_slice())?;
+    for (name, count) in FILES {
+        let bytes = sample_bytes(alloc, count)?;
+        fs::write(&rt, name, bytes.as_slice())?;
     }
     let mut shelf = DiskShelf::new(&rt);
-    for (name, count) in names.iter().zip(counts.iter()) {
-        let bytes = sample_bytes(alloc, *count)?;
-        let limit = *count as u64;
-        assert!(rt;
-            shelf.load(alloc, name, limit)?.as_slice() == bytes.as_slice(),
-            "{count} bytes"
-        );
-        assert!(rt; shelf.load(alloc, name, u64::MAX)?.as_slice() == bytes.as_slice());
-        if limit > 0 {
-            let read = shelf.load(alloc, name, limit - 1);
+    for (name, count) in FILES {
+        let bytes = sample_bytes(alloc, count)?;
+        for limit in [count as u64, u64::MAX] {
+            let read = shelf.load(alloc, name, limit)?;
+            assert!(rt; read.as_slice() == bytes.as_slice(), "{count} bytes");
+        }
+        if count > 0 {
+            let read = shelf.load(alloc, name, count as u64 - 1);
             assert!(rt; matches!(read, Err(ReadFault::F2)), "{count} bytes");
         }
     }
     assert!(rt; !shelf.failed());
-    for name in names.iter() {
-        fs::remove_file(&rt, *name)?;
+    for (name, _) in FILES {
+        fs::remove_file(&rt, name)?;
     }
     Ok(())
 }
@@ -72,8 +82,8 @@ fn a_missing_file_and_a_folder_are_failures(rt: HostRuntime) {
         for limit in [0u64, 9, u64::MAX] {
             let mut shelf = DiskShelf::new(&rt);
             assert!(rt; !shelf.failed());
-            assert!(rt; matches!(shelf.load(rt.alloc(), name, limit), Err(ReadFault::F1)));
-            assert!(rt; shelf.failed());
+            let read = shelf.load(rt.alloc(), name, limit);
+            assert!(rt; matches!(read, Err(ReadFault::F1)) && shelf.failed());
         }
     }
 }

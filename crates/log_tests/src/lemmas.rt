@@ -17,8 +17,8 @@ fn is_good<R: Threads + Wait + AllocGlobal + Abort>(
     log: &[u8],
     lemma: u32,
 ) -> Option<bool> {
-    let bundle = bundle(rt, &[table], b"set 0\n");
     let log = LogView::read(rt.alloc(), log).ok()?;
+    let bundle = bundle(rt, &[table], b"set 0\n");
     if lemma < log.len() && log.side() == bundle.side() {
         Some(check_lemma(&log, &bundle, lemma))
     } else {
@@ -33,97 +33,114 @@ fn is_good_alone<R: Threads + Wait + AllocGlobal + Abort>(
     bound: u8,
     tree: &[u8],
 ) -> Result<Option<bool>, Fail> {
-    let mut log = Vec::new(rt.alloc());
-    log.extend_from_slice(b"PDBL\x01\x02\0\0\0\x01")?;
-    log.extend_from_slice(board)?;
-    log.push(bound)?;
     assert!(rt; tree.len() < 1000);
-    log.extend_from_slice(&(tree.len() as u32).to_be_bytes())?;
-    log.extend_from_slice(tree)?;
-    Ok(is_good(rt, &TILES_123, log.as_slice(), 0))
+    let length = (tree.len() as u32).to_be_bytes();
+    let parts: [&[u8]; 5] = [b"PDBL\x01\x02\0\0\0\x01", board, &[bound], &length, tree];
+    let log = parts.concat(rt.alloc())?;
+    Ok(is_good(rt, &TILES_123, &log, 0))
 }
 
 #[test]
 fn worked_lemmas_are_good(rt: HostRuntime) {
-    assert_eq!(rt; is_good(&rt, &TILES_123, &LEAF, 0), Some(true));
-    assert_eq!(rt; is_good(&rt, &TILES_12, &BRANCHES, 0), Some(true));
-    assert_eq!(rt; is_good(&rt, &TILES_12, &CITATION, 0), Some(true));
-    assert_eq!(rt; is_good(&rt, &TILES_12, &CITATION, 1), Some(true));
-    assert_eq!(rt; is_good(&rt, &TILES_123, &UNSOLVABLE, 0), Some(true));
+    let lemmas: [(&[u8], &[u8], u32); 5] = [
+        (&TILES_123, &LEAF, 0),
+        (&TILES_12, &BRANCHES, 0),
+        (&TILES_12, &CITATION, 0),
+        (&TILES_12, &CITATION, 1),
+        (&TILES_123, &UNSOLVABLE, 0),
+    ];
+    for (table, log, lemma) in lemmas {
+        assert_eq!(rt;
+            is_good(&rt, table, log, lemma),
+            Some(true),
+            "{log:?}, {lemma}"
+        );
+    }
 }
 
 #[test]
 fn a_leaf_reaches_its_bound(rt: HostRuntime) {
-    let seven = with_byte(&LEAF, 14, 7);
-    assert_eq!(rt; is_good(&rt, &TILES_123, &seven, 0), Some(false));
-    // The tiles 1 and 2 alone give 4.
-    assert_eq!(rt; is_good(&rt, &TILES_12, &LEAF, 0), Some(false));
-    let four = with_byte(&LEAF, 14, 4);
-    assert_eq!(rt; is_good(&rt, &TILES_12, &four, 0), Some(true));
-    let five = with_byte(&LEAF, 14, 5);
-    assert_eq!(rt; is_good(&rt, &TILES_12, &five, 0), Some(false));
+    let leaves: [(&[u8], u8, bool); 4] = [
+        (&TILES_123, 7, false),
+        // The tiles 1 and 2 alone give 4.
+        (&TILES_12, 6, false),
+        (&TILES_12, 4, true),
+        (&TILES_12, 5, false),
+    ];
+    for (table, bound, want) in leaves {
+        let log = with_byte(&LEAF, 14, bound);
+        assert_eq!(rt; is_good(&rt, table, &log, 0), Some(want), "bound {bound}");
+    }
 }
 
 #[test]
 fn bytes_spell_one_tree(rt: HostRuntime) -> Result<(), Fail> {
-    let board = [3, 2, 1, 0];
-    // The set says 6 of the board, and 5 of each of its two children.
-    assert_eq!(rt; is_good_alone(&rt, &board, 6, b"\x01")?, Some(true));
-    assert_eq!(rt; is_good_alone(&rt, &board, 6, b"\0\x01\x01")?, Some(true));
-    let others: [&[u8]; 15] = [
-        b"",
-        b"\0",
-        b"\0\x01",
-        b"\0\x01\x01\x01",
-        b"\x01\x01",
-        b"\x01\0",
-        b"\x02",
-        b"\x10",
-        b"\x11",
-        b"\x1F",
-        b"\x21",
-        b"\0\x41\x41",
-        b"\xFF",
-        b"\x20",
-        b"\x20\0\0\0",
+    let trees: [(&[u8], bool); 18] = [
+        // The set says 6 of the board, and 5 of each of its two children.
+        (b"\x01", true),
+        (b"\0\x01\x01", true),
+        (b"", false),
+        (b"\0", false),
+        (b"\0\x01", false),
+        (b"\0\x01\x01\x01", false),
+        (b"\x01\x01", false),
+        (b"\x01\0", false),
+        (b"\x02", false),
+        (b"\x10", false),
+        (b"\x11", false),
+        (b"\x1F", false),
+        (b"\x21", false),
+        (b"\0\x41\x41", false),
+        (b"\xFF", false),
+        (b"\x20", false),
+        (b"\x20\0\0\0", false),
+        // It cites itself.
+        (b"\x20\0\0\0\0", false),
     ];
-    for tree in others {
-        assert_eq!(rt;
-            is_good_alone(&rt, &board, 6, tree)?,
-            Some(false),
-            "{tree:?}"
-        );
+    for (tree, want) in trees {
+        let found = is_good_alone(&rt, &[3, 2, 1, 0], 6, tree)?;
+        assert_eq!(rt; found, Some(want), "{tree:?}");
     }
     Ok(())
 }
 
 #[test]
 fn the_goal_board_has_a_leaf_alone(rt: HostRuntime) -> Result<(), Fail> {
-    let goal = [0, 1, 2, 3];
-    assert_eq!(rt; is_good_alone(&rt, &goal, 0, b"\x01")?, Some(true));
-    assert_eq!(rt; is_good_alone(&rt, &goal, 1, b"\x01")?, Some(false));
-    // Its two children would have bound 0.
-    assert_eq!(rt; is_good_alone(&rt, &goal, 1, b"\0\x01\x01")?, Some(false));
+    let trees: [(u8, &[u8], bool); 3] = [
+        (0, b"\x01", true),
+        (1, b"\x01", false),
+        // Its two children would have bound 0.
+        (1, b"\0\x01\x01", false),
+    ];
+    for (bound, tree, want) in trees {
+        let found = is_good_alone(&rt, &[0, 1, 2, 3], bound, tree)?;
+        assert_eq!(rt; found, Some(want), "{bound}, {tree:?}");
+    }
     Ok(())
 }
 
 #[test]
-fn an_earlier_lemma_of_the_board_is_cited(rt: HostRuntime) -> Result<(), Fail> {
-    let smaller = with_byte(&CITATION, 14, 4);
-    assert_eq!(rt; is_good(&rt, &TILES_12, &smaller, 1), Some(false));
-    let greater = with_byte(&CITATION, 14, 6);
-    assert_eq!(rt; is_good(&rt, &TILES_12, &greater, 1), Some(true));
-    assert_eq!(rt; is_good(&rt, &TILES_12, &greater, 0), Some(false));
-    let itself = with_byte(&CITATION, 39, 1);
-    assert_eq!(rt; is_good(&rt, &TILES_12, &itself, 1), Some(false));
-    let missing = with_byte(&CITATION, 36, 1);
-    assert_eq!(rt; is_good(&rt, &TILES_12, &missing, 1), Some(false));
+fn an_earlier_lemma_of_the_board_is_cited(rt: HostRuntime) {
+    let changes: [(usize, u8, u32, bool); 5] = [
+        // The bound of the first lemma.
+        (14, 4, 1, false),
+        (14, 6, 1, true),
+        (14, 6, 0, false),
+        // The second lemma cites itself, and then one that is missing.
+        (39, 1, 1, false),
+        (36, 1, 1, false),
+    ];
+    for (place, byte, lemma, want) in changes {
+        let log = with_byte(&CITATION, place, byte);
+        assert_eq!(rt;
+            is_good(&rt, &TILES_12, &log, lemma),
+            Some(want),
+            "{log:?}, {lemma}"
+        );
+    }
     // The board `3 0 2 1`, of the same side, in place of `3 0 1 2`.
     let other = with_byte(&with_byte(&CITATION, 12, 2), 13, 1);
     assert_eq!(rt; is_good(&rt, &TILES_12, &other, 1), Some(false));
-    let alone = is_good_alone(&rt, &[3, 2, 1, 0], 6, b"\x20\0\0\0\0")?;
-    assert_eq!(rt; alone, Some(false), "it cites itself");
-    Ok(())
 }
 
 #[test]
@@ -148,25 +165,19 @@ fn deep<R: AllocGlobal>(rt: &R, levels: usize) -> Result<Vec<u8>, Fail> {
 
 #[test]
 fn a_tree_has_255_levels_of_branches(rt: HostRuntime) -> Result<(), Fail> {
-    let board = [0, 1, 3, 2];
-    for levels in [1, 2, 254, 255] {
+    let trees: [(usize, u8, bool); 7] = [
+        (1, 255, true),
+        (2, 255, true),
+        (254, 255, true),
+        (255, 255, true),
+        (256, 255, false),
+        (3, 3, true),
+        (3, 2, false),
+    ];
+    for (levels, bound, want) in trees {
         let tree = deep(&rt, levels)?;
-        assert_eq!(rt;
-            is_good_alone(&rt, &board, 255, tree.as_slice())?,
-            Some(true),
-            "{levels} levels"
-        );
+        let found = is_good_alone(&rt, &[0, 1, 3, 2], bound, &tree)?;
+        assert_eq!(rt; found, Some(want), "{levels} levels, bound {bound}");
     }
-    let tree = deep(&rt, 256)?;
-    assert_eq!(rt;
-        is_good_alone(&rt, &board, 255, tree.as_slice())?,
-        Some(false)
-    );
-    let tree = deep(&rt, 3)?;
-    assert_eq!(rt; is_good_alone(&rt, &board, 3, tree.as_slice())?, Some(true));
-    assert_eq!(rt;
-        is_good_alone(&rt, &board, 2, tree.as_slice())?,
-        Some(false)
-    );
     Ok(())
 }

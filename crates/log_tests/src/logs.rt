@@ -73,23 +73,30 @@ fn good_logs_prove_their_bounds(rt: HostRuntime) {
 #[test]
 fn bytes_of_another_form_are_refused(rt: HostRuntime) {
     let bundle = bundle(&rt, &[&TILES_12], b"set 0\n");
+    let changes: [(usize, u8, FormFault); 4] = [
+        (9, 0, FormFault::L1),
+        (9, 2, FormFault::L2(1)),
+        (5, 3, FormFault::L2(0)),
+        (10, 2, FormFault::L3(0)),
+    ];
+    for (place, byte, fault) in changes {
+        let log = with_byte(&LEAF, place, byte);
+        assert_eq!(rt; answer(&rt, &bundle, &log, &BOARD), misformed(fault));
+    }
+}
+
+#[test]
+fn logs_of_another_length_are_refused(rt: HostRuntime) {
+    let bundle = bundle(&rt, &[&TILES_12], b"set 0\n");
     let mut longer = [0; 31];
     longer[..30].copy_from_slice(&BRANCHES);
-    let logs: [(&[u8], FormFault); 7] = [
+    let logs: [(&[u8], FormFault); 3] = [
         (b"", FormFault::L1),
-        (&with_byte(&LEAF, 9, 0), FormFault::L1),
-        (&with_byte(&LEAF, 9, 2), FormFault::L2(1)),
-        (&with_byte(&LEAF, 5, 3), FormFault::L2(0)),
         (&BRANCHES[..29], FormFault::L2(0)),
         (&longer, FormFault::L2(1)),
-        (&with_byte(&LEAF, 10, 2), FormFault::L3(0)),
     ];
     for (log, fault) in logs {
-        assert_eq!(rt;
-            answer(&rt, &bundle, log, &BOARD),
-            misformed(fault),
-            "{log:?}"
-        );
+        assert_eq!(rt; answer(&rt, &bundle, log, &BOARD), misformed(fault));
     }
 }
 
@@ -129,10 +136,11 @@ fn great_numbers_of_lemmas_and_tree_bytes_are_refused(rt: HostRuntime) {
         (15, [0xFF, 0xFF, 0xFF, 0xFF], FormFault::L2(0)),
     ];
     for (place, bytes, want) in logs {
+        let log = with_bytes(place, &bytes);
         assert_eq!(rt;
-            answer(&rt, &bundle, &with_bytes(place, &bytes), &BOARD),
+            answer(&rt, &bundle, &log, &BOARD),
             misformed(want),
-            "{bytes:?} at {place}"
+            "{bytes:?}"
         );
     }
 }
@@ -154,65 +162,98 @@ fn the_deepest_tree_proves_the_greatest_bound(rt: HostRuntime) -> Result<(), Fai
 
 #[test]
 fn logs_bundles_and_boards_have_one_side(rt: HostRuntime) {
-    let two = bundle(&rt, &[&TILES_123], b"set 0\n");
-    let five = bundle(&rt, &[&TILE_24], b"set 0\n");
     let goal_of_side_3 = [0, 1, 2, 3, 4, 5, 6, 7, 8];
-    let want = refused(LogRefusal::L4);
-    assert_eq!(rt; answer(&rt, &five, &LEAF, &BOARD), want);
-    assert_eq!(rt; answer(&rt, &two, &GOAL, &goal_of_side_3), want);
-    assert_eq!(rt; answer(&rt, &two, &GOAL_OF_SIDE_3, &[0, 1, 2, 3]), want);
-    assert_eq!(rt; answer(&rt, &two, &GOAL_OF_SIDE_3, &goal_of_side_3), want);
-    // Bytes of another form come before it, and so does a board that isn't one.
-    let none = with_byte(&LEAF, 9, 0);
-    assert_eq!(rt; answer(&rt, &five, &none, &BOARD), misformed(FormFault::L1));
-    let repeated = with_byte(&LEAF, 10, 2);
-    assert_eq!(rt;
-        answer(&rt, &five, &repeated, &BOARD),
-        misformed(FormFault::L3(0))
-    );
+    let logs: [(&[u8], &[u8], &[u8], LogRefusal); 6] = [
+        (&TILE_24, &LEAF, &BOARD, LogRefusal::L4),
+        (&TILES_123, &GOAL, &goal_of_side_3, LogRefusal::L4),
+        (&TILES_123, &GOAL_OF_SIDE_3, &[0, 1, 2, 3], LogRefusal::L4),
+        (&TILES_123, &GOAL_OF_SIDE_3, &goal_of_side_3, LogRefusal::L4),
+        // Bytes of another form come before it, and so does a board that isn't one.
+        (
+            &TILE_24,
+            &with_byte(&LEAF, 9, 0),
+            &BOARD,
+            LogRefusal::Form(FormFault::L1),
+        ),
+        (
+            &TILE_24,
+            &with_byte(&LEAF, 10, 2),
+            &BOARD,
+            LogRefusal::Form(FormFault::L3(0)),
+        ),
+    ];
+    for (table, log, board, fault) in logs {
+        let bundle = bundle(&rt, &[table], b"set 0\n");
+        assert_eq!(rt;
+            answer(&rt, &bundle, log, board),
+            refused(fault),
+            "{log:?}, {board:?}"
+        );
+    }
 }
 
 #[test]
 fn the_last_lemma_is_of_the_board(rt: HostRuntime) {
     let bundle = bundle(&rt, &[&TILES_12], b"set 0\n");
-    let first = [3, 0, 1, 2];
-    assert_eq!(rt;
-        answer(&rt, &bundle, &LEAF, &first),
-        refused(LogRefusal::L5)
-    );
-    assert_eq!(rt;
-        answer(&rt, &bundle, &CITATION, &first),
-        refused(LogRefusal::L5)
-    );
-    // A board of the other kind differs in its last two cells alone.
-    assert_eq!(rt;
-        answer(&rt, &bundle, &LEAF, &[3, 2, 0, 1]),
-        refused(LogRefusal::L5)
-    );
+    let logs: [(&[u8], Cells); 3] = [
+        (&LEAF, [3, 0, 1, 2]),
+        (&CITATION, [3, 0, 1, 2]),
+        // A board of the other kind differs in its last two cells alone.
+        (&LEAF, [3, 2, 0, 1]),
+    ];
+    for (log, board) in logs {
+        assert_eq!(rt;
+            answer(&rt, &bundle, log, &board),
+            refused(LogRefusal::L5),
+            "{log:?}, {board:?}"
+        );
+    }
+}
+
+#[test]
+fn a_changed_leaf_is_bad(rt: HostRuntime) {
+    let bundle = bundle(&rt, &[&TILES_123], b"set 0\n");
+    for (place, byte) in [(14, 7), (19, 2), (19, 0x11), (19, 0)] {
+        let log = with_byte(&LEAF, place, byte);
+        assert_eq!(rt;
+            answer(&rt, &bundle, &log, &BOARD),
+            refused(LogRefusal::L6(0)),
+            "{log:?}"
+        );
+    }
 }
 
 #[test]
 fn the_first_bad_lemma_is_named(rt: HostRuntime) {
-    let three = bundle(&rt, &[&TILES_123], b"set 0\n");
-    let bad = refused(LogRefusal::L6(0));
-    for (place, byte) in [(14, 7), (19, 2), (19, 0x11), (19, 0)] {
-        let log = with_byte(&LEAF, place, byte);
-        assert_eq!(rt; answer(&rt, &three, &log, &BOARD), bad, "byte {place}");
-    }
-    let one = with_byte(&GOAL, 14, 1);
-    assert_eq!(rt; answer(&rt, &three, &one, &[0, 1, 2, 3]), bad);
-    let cites_itself = b"PDBL\x01\x02\0\0\0\x01\x03\x02\x01\0\x06\0\0\0\x05\x20\0\0\0\0";
-    assert_eq!(rt; answer(&rt, &three, cites_itself, &BOARD), bad);
-    let two = bundle(&rt, &[&TILES_12], b"set 0\n");
-    let cut_tree = b"PDBL\x01\x02\0\0\0\x01\x03\x02\x01\0\x06\0\0\0\x0A\0\0\0\0\0\x01\0\0\0\0";
-    assert_eq!(rt; answer(&rt, &two, cut_tree, &BOARD), bad);
     let cites_itself = with_byte(&CITATION, 39, 1);
-    assert_eq!(rt;
-        answer(&rt, &two, &cites_itself, &BOARD),
-        refused(LogRefusal::L6(1))
-    );
-    let both = with_byte(&cites_itself, 14, 6);
-    assert_eq!(rt; answer(&rt, &two, &both, &BOARD), bad);
+    let logs: [(&[u8], &[u8], Cells, u32); 5] = [
+        (&TILES_123, &with_byte(&GOAL, 14, 1), [0, 1, 2, 3], 0),
+        // It cites itself.
+        (
+            &TILES_123,
+            b"PDBL\x01\x02\0\0\0\x01\x03\x02\x01\0\x06\0\0\0\x05\x20\0\0\0\0",
+            BOARD,
+            0,
+        ),
+        // Its tree is cut.
+        (
+            &TILES_12,
+            b"PDBL\x01\x02\0\0\0\x01\x03\x02\x01\0\x06\0\0\0\x0A\0\0\0\0\0\x01\0\0\0\0",
+            BOARD,
+            0,
+        ),
+        (&TILES_12, &cites_itself, BOARD, 1),
+        // Both lemmas are bad.
+        (&TILES_12, &with_byte(&cites_itself, 14, 6), BOARD, 0),
+    ];
+    for (table, log, board, lemma) in logs {
+        let bundle = bundle(&rt, &[table], b"set 0\n");
+        assert_eq!(rt;
+            answer(&rt, &bundle, log, &board),
+            refused(LogRefusal::L6(lemma)),
+            "{log:?}"
+        );
+    }
 }
 
 #[test]
@@ -249,19 +290,24 @@ fn chain(alloc: Global, count: u32, spoilt: &[u32]) -> Result<Vec<u8>, AllocErro
 #[test]
 fn chains_of_citations_are_checked(rt: HostRuntime) -> Result<(), Fail> {
     let bundle = bundle(&rt, &[&TILES_123], b"set 0\n");
-    let chains: [(u32, &[u32], Result<u8, LogFault>); 9] = [
-        (1, &[], Ok(6)),
-        (2, &[], Ok(6)),
-        (300, &[], Ok(6)),
-        (1, &[0], refused(LogRefusal::L6(0))),
-        (2, &[1], refused(LogRefusal::L6(1))),
-        (2, &[0, 1], refused(LogRefusal::L6(0))),
-        (300, &[299], refused(LogRefusal::L6(299))),
-        (300, &[7, 100, 299], refused(LogRefusal::L6(7))),
-        (300, &[0, 299], refused(LogRefusal::L6(0))),
+    // The lemmas, those that are spoilt, and the one that is named.
+    let chains: [(u32, &[u32], Option<u32>); 9] = [
+        (1, &[], None),
+        (2, &[], None),
+        (300, &[], None),
+        (1, &[0], Some(0)),
+        (2, &[1], Some(1)),
+        (2, &[0, 1], Some(0)),
+        (300, &[299], Some(299)),
+        (300, &[7, 100, 299], Some(7)),
+        (300, &[0, 299], Some(0)),
     ];
-    for (count, spoilt, want) in chains {
+    for (count, spoilt, bad) in chains {
         let log = chain(rt.alloc(), count, spoilt)?;
+        let want = match bad {
+            Some(lemma) => refused(LogRefusal::L6(lemma)),
+            None => Ok(6),
+        };
         assert_eq!(rt;
             answer(&rt, &bundle, &log, &BOARD),
             want,
@@ -370,43 +416,43 @@ fn want_of_memory_is_answered_and_a_second_check_finds_the_bound(rt: HostRuntime
     assert_eq!(rt; bound, Ok(6));
 }
 
-/// Changes each byte of a log to each other, and compares what is answered with what a plain reading answers.
-fn compare_changed<R: Threads + Wait + AllocGlobal + Abort>(
+/// Compares what is answered of a log with what a plain reading answers.
+fn compare<R: Threads + Wait + AllocGlobal + Abort>(
     rt: &R,
-    table: &[u8],
+    bundle: &Bundle<'_>,
     tiles: &[u8],
     log: &[u8],
     numbers: &Cells,
-) -> Result<(), Fail> {
-    let bundle = bundle(rt, &[table], b"set 0\n");
+) {
     let board = Board::from_cells(numbers).expect(rt, "a board");
-    let mut changed = Vec::from_slice(rt.alloc(), log)?;
-    for (place, old) in log.iter().enumerate() {
+    assert_eq!(rt;
+        check_log(rt, rt.alloc(), bundle, log, &board, 1, &OpenGate),
+        plain_answer(log, numbers, tiles).or_else(refused),
+        "{log:?}"
+    );
+}
+
+/// Compares the answers of a log with each byte changed to each other.
+fn compare_changed<R: Threads + Wait + AllocGlobal + Abort, const N: usize>(
+    rt: &R,
+    table: &[u8],
+    tiles: &[u8],
+    log: &[u8; N],
+    numbers: &Cells,
+) {
+    let bundle = bundle(rt, &[table], b"set 0\n");
+    for place in 0..N {
         for byte in 0..=255 {
-            if let Some(here) = changed.get_mut(place) {
-                *here = byte;
-            }
-            let want = match plain_answer(&changed, numbers, tiles) {
-                Ok(bound) => Ok(bound),
-                Err(fault) => refused(fault),
-            };
-            assert_eq!(rt;
-                check_log(rt, rt.alloc(), &bundle, &changed, &board, 1, &OpenGate),
-                want,
-                "byte {place} is {byte}"
-            );
-        }
-        if let Some(here) = changed.get_mut(place) {
-            *here = *old;
+            let changed = with_byte(log, place, byte);
+            compare(rt, &bundle, tiles, &changed, numbers);
         }
     }
-    Ok(())
 }
 
 #[test]
-fn changed_logs_are_answered_as_read_plainly(rt: HostRuntime) -> Result<(), Fail> {
-    compare_changed(&rt, &TILES_123, &[1, 2, 3], &LEAF, &BOARD)?;
-    compare_changed(&rt, &TILES_12, &[1, 2], &BRANCHES, &BOARD)?;
-    compare_changed(&rt, &TILES_12, &[1, 2], &CITATION, &BOARD)?;
-    compare_changed(&rt, &TILES_123, &[1, 2, 3], &UNSOLVABLE, &[0, 1, 3, 2])
+fn changed_logs_are_answered_as_read_plainly(rt: HostRuntime) {
+    compare_changed(&rt, &TILES_123, &[1, 2, 3], &LEAF, &BOARD);
+    compare_changed(&rt, &TILES_12, &[1, 2], &BRANCHES, &BOARD);
+    compare_changed(&rt, &TILES_12, &[1, 2], &CITATION, &BOARD);
+    compare_changed(&rt, &TILES_123, &[1, 2, 3], &UNSOLVABLE, &[0, 1, 3, 2]);
 }

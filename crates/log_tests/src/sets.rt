@@ -152,10 +152,11 @@ fn has_set<R: Threads + Wait + AllocGlobal + Abort>(
 fn tables_and_sets_are_those_that_were_read(rt: HostRuntime) {
     let files: [&[u8]; 2] = [&TILES_12, &TILE_3];
     let text = b"set 0 1\nset 1\n";
-    assert_eq!(rt; mask(&rt, &files, text, 0), Some(6));
-    assert_eq!(rt; mask(&rt, &files, text, 1), Some(8));
-    assert_eq!(rt; has_set(&rt, &files, text, 0, &[0, 1]), Some(true));
-    assert_eq!(rt; has_set(&rt, &files, text, 1, &[1]), Some(true));
+    let tables: [(u8, u32, &[u8]); 2] = [(0, 6, &[0, 1]), (1, 8, &[1])];
+    for (number, tiles, set) in tables {
+        assert_eq!(rt; mask(&rt, &files, text, number), Some(tiles));
+        assert_eq!(rt; has_set(&rt, &files, text, number, set), Some(true));
+    }
 }
 
 /// Sixteen lines of the set of table 0, and what may follow them.
@@ -166,12 +167,17 @@ const LINES: &[u8] =
 fn a_bundle_has_1_to_16_sets(rt: HostRuntime) {
     let files: [&[u8]; 1] = [&TILE_1];
     assert_eq!(rt; sizes(&rt, &files, &LINES[..96]), Some((2, 1, 16)));
-    assert_eq!(rt; fault(&rt, &files, &LINES[..102]), Some(SetFault::S5));
-    // A line that is cut short comes before too many lines.
-    assert_eq!(rt; fault(&rt, &files, LINES), Some(SetFault::S1(17)));
     let bad =
         b"set 0\nset 0\nset 0\nset\nset 0\nset 0\nset 0\nset 0\nset 0\nset 0\nset 0\nset 0\nset 0\nset 0\nset 0\nset 0\nset 0\n";
-    assert_eq!(rt; fault(&rt, &files, bad), Some(SetFault::S1(3)));
+    let texts: [(&[u8], SetFault); 3] = [
+        (&LINES[..102], SetFault::S5),
+        // A line that is cut short comes before too many lines.
+        (LINES, SetFault::S1(17)),
+        (bad, SetFault::S1(3)),
+    ];
+    for (text, want) in texts {
+        assert_eq!(rt; fault(&rt, &files, text), Some(want));
+    }
 }
 
 #[test]

@@ -30,8 +30,7 @@ fn lemmas_are_read_in_their_order(rt: HostRuntime) {
     let log = LogView::read(rt.alloc(), &CITATION)
         .ok()
         .expect(&rt, "a log");
-    assert_eq!(rt; log.side().get(), 2);
-    assert_eq!(rt; log.len(), 2);
+    assert_eq!(rt; (log.side().get(), log.len()), (2, 2));
     let lemmas: [([u8; 4], u8, &[u8]); 2] = [
         ([3, 0, 1, 2], 5, b"\0\x01\0\0\0\x01"),
         ([3, 2, 1, 0], 6, b"\0\x20\0\0\0\0\0\0\0\0\x01"),
@@ -39,8 +38,7 @@ fn lemmas_are_read_in_their_order(rt: HostRuntime) {
     for (i, (cells, bound, tree)) in (0..log.len()).zip(lemmas) {
         assert!(rt; i < log.len());
         assert_eq!(rt; Some(log.board(i)), Board::from_cells(&cells));
-        assert_eq!(rt; log.bound(i), bound);
-        assert_eq!(rt; log.tree(i), tree);
+        assert_eq!(rt; (log.bound(i), log.tree(i)), (bound, tree));
     }
 }
 
@@ -52,18 +50,16 @@ fn headers_are_refused(rt: HostRuntime) {
         let file = with_byte(&LEAF, place, byte);
         assert_eq!(rt; refused(alloc, &file), Some(FormFault::L1), "byte {place}");
     }
-    let most = with_byte(&with_byte(&LEAF, 7, 0x10), 9, 0);
-    assert_eq!(rt;
-        refused(alloc, &most),
-        Some(FormFault::L2(1)),
-        "1,048,576 lemmas"
-    );
-    let above = with_byte(&most, 9, 1);
-    assert_eq!(rt;
-        refused(alloc, &above),
-        Some(FormFault::L1),
-        "1,048,577 lemmas"
-    );
+}
+
+#[test]
+fn a_header_says_at_most_1_048_576_lemmas(rt: HostRuntime) {
+    let counts: [(u32, FormFault); 2] = [(1_048_576, FormFault::L2(1)), (1_048_577, FormFault::L1)];
+    for (count, want) in counts {
+        let mut file = LEAF;
+        file[6..10].copy_from_slice(&count.to_be_bytes());
+        assert_eq!(rt; refused(rt.alloc(), &file), Some(want));
+    }
 }
 
 #[test]
@@ -77,46 +73,40 @@ fn lemmas_that_are_cut_short_are_refused(rt: HostRuntime) {
         };
         assert_eq!(rt; refused(alloc, &CITATION[..len]), Some(want), "{len} bytes");
     }
-    let two = with_byte(&LEAF, 9, 2);
-    assert_eq!(rt;
-        refused(alloc, &two),
-        Some(FormFault::L2(1)),
-        "one lemma of two"
-    );
-    let endless = with_byte(&LEAF, 15, 0xFF);
-    assert_eq!(rt;
-        refused(alloc, &endless),
-        Some(FormFault::L2(0)),
-        "a longer tree"
-    );
+}
+
+#[test]
+fn lengths_that_are_not_met_are_refused(rt: HostRuntime) {
     let mut longest = LEAF;
     longest[15..19].fill(0xFF);
-    assert_eq!(rt;
-        refused(alloc, &longest),
-        Some(FormFault::L2(0)),
-        "the longest tree"
-    );
-    let shorter = with_byte(&CITATION, 33, 0x0A);
-    assert_eq!(rt;
-        refused(alloc, &shorter),
-        Some(FormFault::L2(2)),
-        "a byte left over"
-    );
+    let files: [(&[u8], FormFault); 4] = [
+        // One lemma of two.
+        (&with_byte(&LEAF, 9, 2), FormFault::L2(1)),
+        // A longer tree, and the longest.
+        (&with_byte(&LEAF, 15, 0xFF), FormFault::L2(0)),
+        (&longest, FormFault::L2(0)),
+        // A byte left over.
+        (&with_byte(&CITATION, 33, 0x0A), FormFault::L2(2)),
+    ];
+    for (file, want) in files {
+        assert_eq!(rt; refused(rt.alloc(), file), Some(want), "{file:?}");
+    }
 }
 
 #[test]
 fn boards_are_refused_behind_all_lengths(rt: HostRuntime) {
-    let alloc = rt.alloc();
-    let repeated = with_byte(&LEAF, 10, 2);
-    assert_eq!(rt; refused(alloc, &repeated), Some(FormFault::L3(0)));
     let second = with_byte(&CITATION, 25, 4);
-    assert_eq!(rt; refused(alloc, &second), Some(FormFault::L3(1)));
     let both = with_byte(&second, 10, 4);
-    assert_eq!(rt; refused(alloc, &both), Some(FormFault::L3(0)));
-    let cut = with_byte(&both, 33, 0x0C);
-    assert_eq!(rt; refused(alloc, &cut), Some(FormFault::L2(1)));
-    let wider = with_byte(&LEAF, 5, 3);
-    assert_eq!(rt; refused(alloc, &wider), Some(FormFault::L2(0)));
+    let files: [(&[u8], FormFault); 5] = [
+        (&with_byte(&LEAF, 10, 2), FormFault::L3(0)),
+        (&second, FormFault::L3(1)),
+        (&both, FormFault::L3(0)),
+        (&with_byte(&both, 33, 0x0C), FormFault::L2(1)),
+        (&with_byte(&LEAF, 5, 3), FormFault::L2(0)),
+    ];
+    for (file, want) in files {
+        assert_eq!(rt; refused(rt.alloc(), file), Some(want), "{file:?}");
+    }
 }
 
 #[test]
