@@ -1,8 +1,7 @@
 //! Searches that their budget ends, or that find no solution.
 
-use crate::finding::{PLENTY, bundle, found};
+use crate::finding::{PLENTY, bundle, found, halves_of_side_3};
 use puz_make::MakeFault;
-use samples::LeastCosts;
 use samples::files::{TILE_1, TILES_12, TILES_123};
 use set_sum::Bundle;
 use std::process::Abort;
@@ -20,25 +19,26 @@ fn ends_below<R: Threads + Wait + AllocGlobal + Abort>(
 ) {
     for budget in 0..expanded {
         let fault = found(rt, bundle, numbers, budget).err();
-        assert_eq!(rt; fault, Some(MakeFault::K1), "{numbers:?} with {budget}");
+        assert_eq!(rt; fault, Some(MakeFault::K1), "with {budget}");
     }
-    match found(rt, bundle, numbers, expanded) {
-        Ok(found) => assert_eq!(rt; found.moves.as_slice(), moves),
-        Err(_) => panic!(rt; "a solution"),
-    }
+    let found = found(rt, bundle, numbers, expanded).ok();
+    assert!(rt; found.is_some_and(|found| found.moves.as_slice() == moves));
 }
 
 // How many boards are expanded was counted by another program: a search over counts that it finds breadth first.
 #[test]
-fn searches_end_below_the_budget_that_they_need(rt: HostRuntime) -> Result<(), Fail> {
+fn searches_of_side_2_end_below_the_budget_that_they_need(rt: HostRuntime) {
     let one = bundle(&rt, &[&TILE_1], b"set 0\n");
     let two = bundle(&rt, &[&TILES_12], b"set 0\n");
     let all = bundle(&rt, &[&TILES_123], b"set 0\n");
     for (bundle, expanded) in [(&one, 30), (&two, 18), (&all, 6)] {
         ends_below(&rt, bundle, &[3, 2, 1, 0], expanded, b"ULDRUL");
     }
-    let first = LeastCosts::new(rt.alloc(), &[1, 2, 3, 4])?.table(rt.alloc())?;
-    let second = LeastCosts::new(rt.alloc(), &[5, 6, 7, 8])?.table(rt.alloc())?;
+}
+
+#[test]
+fn a_search_of_side_3_ends_below_the_budget_that_it_needs(rt: HostRuntime) -> Result<(), Fail> {
+    let (first, second) = halves_of_side_3(rt.alloc())?;
     let parts = bundle(&rt, &[&first, &second], b"set 0 1\n");
     let numbers = [3, 2, 1, 7, 6, 0, 5, 8, 4];
     ends_below(&rt, &parts, &numbers, 33, b"DLUURDLLDRULURRDLUL");
@@ -47,16 +47,19 @@ fn searches_end_below_the_budget_that_they_need(rt: HostRuntime) -> Result<(), F
 
 #[test]
 fn searches_end(rt: HostRuntime) {
-    let all = bundle(&rt, &[&TILES_123], b"set 0\n");
-    let two = bundle(&rt, &[&TILES_12], b"set 0\n");
-    let fault = |bundle: &Bundle<'_>, numbers: &[u8], budget: u64| found(
-        &rt, bundle, numbers, budget,
-    ).err();
     let one = bundle(&rt, &[&TILE_1], b"set 0\n");
-    assert_eq!(rt; fault(&all, &[0, 1, 3, 2], PLENTY), Some(MakeFault::K2));
-    assert_eq!(rt; fault(&one, &[0, 1, 3, 2], PLENTY), Some(MakeFault::K2));
-    assert_eq!(rt; fault(&one, &[0, 1, 3, 2], 1000), Some(MakeFault::K1));
-    assert_eq!(rt; fault(&two, &[3, 2, 1, 0], 1), Some(MakeFault::K1));
-    assert_eq!(rt; fault(&all, &[1, 0, 2, 3], 0), Some(MakeFault::K1));
-    assert_eq!(rt; fault(&all, &[0, 1, 2, 3], 0), None);
+    let two = bundle(&rt, &[&TILES_12], b"set 0\n");
+    let all = bundle(&rt, &[&TILES_123], b"set 0\n");
+    let cases: [(&Bundle<'_>, [u8; 4], u64, Option<MakeFault>); 6] = [
+        (&all, [0, 1, 3, 2], PLENTY, Some(MakeFault::K2)),
+        (&one, [0, 1, 3, 2], PLENTY, Some(MakeFault::K2)),
+        (&one, [0, 1, 3, 2], 1000, Some(MakeFault::K1)),
+        (&two, [3, 2, 1, 0], 1, Some(MakeFault::K1)),
+        (&all, [1, 0, 2, 3], 0, Some(MakeFault::K1)),
+        (&all, [0, 1, 2, 3], 0, None),
+    ];
+    for (bundle, numbers, budget, fault) in cases {
+        let found = found(&rt, bundle, &numbers, budget);
+        assert_eq!(rt; found.err(), fault, "with {budget}");
+    }
 }

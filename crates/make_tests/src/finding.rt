@@ -2,7 +2,9 @@
 
 use puz_board::Board;
 use puz_make::{Found, MakeFault, solve};
+use samples::LeastCosts;
 use set_sum::Bundle;
+use std::alloc::{AllocError, Global};
 use std::process::Abort;
 use std::sync::Wait;
 use std::thread::Threads;
@@ -20,15 +22,17 @@ pub(crate) fn bundle<'a, R: Threads + Wait + AllocGlobal + Abort>(
 ) -> Bundle<'a> {
     let mut tables: Vec<CheckedTable<'a>> = Vec::new(rt.alloc());
     for file in files {
-        match check_table(rt, rt.alloc(), *file, 1, &OpenGate) {
-            Ok(table) => tables.push(table).expect(rt, "memory"),
-            Err(_) => panic!(rt; "an exact table"),
-        }
+        let table = check_table(rt, rt.alloc(), *file, 1, &OpenGate).expect(rt, "an exact table");
+        tables.push(table).expect(rt, "memory");
     }
-    match Bundle::read(tables, text) {
-        Ok(bundle) => bundle,
-        Err(_) => panic!(rt; "a bundle"),
-    }
+    Bundle::read(tables, text).expect(rt, "a bundle")
+}
+
+/// The tables of side 3 for its tiles to 4, and for those from 5, as a plain search makes them.
+pub(crate) fn halves_of_side_3(alloc: Global) -> Result<(Vec<u8>, Vec<u8>), AllocError> {
+    let first = LeastCosts::new(alloc, &[1, 2, 3, 4])?.table(alloc)?;
+    let second = LeastCosts::new(alloc, &[5, 6, 7, 8])?.table(alloc)?;
+    Ok((first, second))
 }
 
 /// The board of these numbers.

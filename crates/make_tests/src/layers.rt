@@ -6,25 +6,30 @@ use std::test::Fail;
 
 #[test]
 fn entries_hold_counts_to_253(rt: HostRuntime) {
-    assert_eq!(rt; entry_of(0), Some(0));
-    assert_eq!(rt; entry_of(253), Some(253));
-    assert_eq!(rt; entry_of(254), None);
-    assert_eq!(rt; entry_of(u32::MAX), None);
+    let cases = [
+        (0, Some(0)),
+        (253, Some(253)),
+        (254, None),
+        (u32::MAX, None),
+    ];
+    for (count, entry) in cases {
+        assert_eq!(rt; entry_of(count), entry, "{count}");
+    }
 }
 
 #[test]
 fn layers_are_ascending_numbers(rt: HostRuntime) -> Result<(), Fail> {
     let entries = &TILES_123[20..];
-    assert_eq!(rt;
-        layer(&rt, rt.alloc(), entries, 4)?.as_slice(),
-        [17, 21].as_slice()
-    );
-    assert_eq!(rt;
-        layer(&rt, rt.alloc(), entries, 0)?.as_slice(),
-        [9].as_slice()
-    );
-    assert!(rt; layer(&rt, rt.alloc(), entries, 7)?.is_empty());
-    assert!(rt; layer(&rt, rt.alloc(), b"", 0)?.is_empty());
+    let cases: [(&[u8], u8, &[u32]); 4] = [
+        (entries, 4, &[17, 21]),
+        (entries, 0, &[9]),
+        (entries, 7, &[]),
+        (b"", 0, &[]),
+    ];
+    for (entries, count, numbers) in cases {
+        let found = layer(&rt, rt.alloc(), entries, count)?;
+        assert_eq!(rt; found.as_slice(), numbers);
+    }
     Ok(())
 }
 

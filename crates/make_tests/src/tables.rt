@@ -23,16 +23,19 @@ fn built<R: Threads + Sync + AllocGlobal + Abort>(
     build(rt, rt.alloc(), &pattern)
 }
 
+/// Asserts that the table that is built for a side and a mask is this file.
+fn expect_built<R: Threads + Sync + AllocGlobal + Abort>(rt: &R, n: u8, mask: u32, file: &[u8]) {
+    let table = built(rt, n, mask).expect(rt, "a table");
+    assert!(rt; table.as_slice() == file, "{n} {mask}");
+}
+
 /// Asserts that 1, 2 and 7 workers find the table of a pattern exact, and that it is built byte by byte alike for each.
 fn accept<R: Threads + Wait + Sync + AllocGlobal + Abort>(rt: &R, n: u8, mask: u32) {
-    let first = built(rt, n, mask).expect(rt, "a table");
+    let file = built(rt, n, mask).expect(rt, "a table");
     for workers in [1, 2, 7] {
-        let file = built(rt, n, mask).expect(rt, "a table");
-        assert!(rt; file.as_slice() == first.as_slice(), "{n} {mask}");
-        match check_table(rt, rt.alloc(), &file, workers, &OpenGate) {
-            Ok(table) => assert_eq!(rt; table.pattern().mask(), mask),
-            Err(_) => panic!(rt; "an exact table"),
-        }
+        expect_built(rt, n, mask, &file);
+        let table = check_table(rt, rt.alloc(), &file, workers, &OpenGate);
+        assert_eq!(rt; table.map(|table| table.pattern().mask()), Ok(mask));
     }
 }
 
@@ -46,10 +49,7 @@ fn known_tables_are_built(rt: HostRuntime) {
         (5, 1 << 24, &TILE_24),
     ];
     for (n, mask, file) in tables {
-        match built(&rt, n, mask) {
-            Ok(table) => assert_eq!(rt; table.as_slice(), file, "{n} {mask}"),
-            Err(_) => panic!(rt; "a table"),
-        }
+        expect_built(&rt, n, mask, file);
     }
 }
 
@@ -57,10 +57,7 @@ fn known_tables_are_built(rt: HostRuntime) {
 fn all_tiles_of_side_3_are_as_a_search_finds_them(rt: HostRuntime) -> Result<(), Fail> {
     let search = LeastCosts::new(rt.alloc(), &[1, 2, 3, 4, 5, 6, 7, 8])?;
     let want = search.table(rt.alloc())?;
-    match built(&rt, 3, 510) {
-        Ok(table) => assert!(rt; table.as_slice() == want.as_slice()),
-        Err(_) => panic!(rt; "a table"),
-    }
+    expect_built(&rt, 3, 510, &want);
     Ok(())
 }
 

@@ -2,6 +2,7 @@
 
 use crate::readings::{behind, expect_request};
 use pdb_words::{LogCheck, Request, Search};
+use std::alloc::{AllocError, Global};
 use std::test::Fail;
 
 #[test]
@@ -40,6 +41,21 @@ fn words_ask_for_a_table(rt: HostRuntime) -> Result<(), Fail> {
     Ok(())
 }
 
+/// A check of the log `l`, with these tables.
+fn log_check<'a>(
+    alloc: Global,
+    tables: &[&'a str],
+    workers: u8,
+) -> Result<LogCheck<'a>, AllocError> {
+    Ok(LogCheck {
+        text: "c",
+        sets: "s",
+        log: "l",
+        tables: tables.to_vec(alloc)?,
+        workers,
+    })
+}
+
 #[test]
 fn words_name_the_files_of_a_log(rt: HostRuntime) -> Result<(), Fail> {
     let alloc = rt.alloc();
@@ -62,19 +78,10 @@ fn words_name_the_files_of_a_log(rt: HostRuntime) -> Result<(), Fail> {
         ),
     ];
     for (words, tables, workers) in cases {
-        let check = || -> Result<LogCheck<'_>, Fail> {
-            Ok(LogCheck {
-                text: "c",
-                sets: "s",
-                log: "l",
-                tables: tables.to_vec(alloc)?,
-                workers,
-            })
-        };
-        let bound = behind(alloc, "bound", words)?;
-        expect_request(alloc, bound.as_slice(), &Request::Bound(check()?))?;
-        let optimal = behind(alloc, "optimal", words)?;
-        expect_request(alloc, optimal.as_slice(), &Request::Optimal(check()?))?;
+        let bound = Request::Bound(log_check(alloc, tables, workers)?);
+        expect_request(alloc, behind(alloc, "bound", words)?.as_slice(), &bound)?;
+        let optimal = Request::Optimal(log_check(alloc, tables, workers)?);
+        expect_request(alloc, behind(alloc, "optimal", words)?.as_slice(), &optimal)?;
     }
     Ok(())
 }
