@@ -161,16 +161,18 @@ fn a_board_of_each_side_is_read(rt: HostRuntime) {
 #[test]
 fn numbers_and_cells_of_a_board(rt: HostRuntime) {
     let board = Board::from_cells(&[3, 0, 1, 2]).expect(&rt, "a board");
-    assert_eq!(rt; board.at(0), 3);
-    assert_eq!(rt; board.at(1), 0);
-    assert_eq!(rt; board.cell_of(3), 0);
-    assert_eq!(rt; board.cell_of(2), 3);
+    assert_eq!(rt; (board.at(0), board.at(1), board.blank()), (3, 0, 1));
+    assert_eq!(rt; (board.cell_of(3), board.cell_of(2)), (0, 3));
     let cells = board.cells_of_all();
     assert_eq!(rt; cells.get(..4), Some([1, 2, 3, 0].as_slice()));
-    assert_eq!(rt; board.blank(), 1);
-    assert_eq!(rt; Board::from_cells(&[0, 1, 2]), None);
-    assert_eq!(rt; Board::from_cells(&[0, 1, 2, 4]), None);
-    assert_eq!(rt; Board::from_cells(&[0, 1, 2, 1]), None);
+}
+
+#[test]
+fn numbers_that_are_no_permutation_are_no_board(rt: HostRuntime) {
+    let others: [&[u8]; 3] = [&[0, 1, 2], &[0, 1, 2, 4], &[0, 1, 2, 1]];
+    for numbers in others {
+        assert_eq!(rt; Board::from_cells(numbers), None, "{numbers:?}");
+    }
 }
 
 #[test]
@@ -200,14 +202,18 @@ fn masks_have_their_numbers(rt: HostRuntime) {
     // The numbers 1, 3 and 7.
     let mask = 0b1000_1010;
     assert!(rt; has_cell(mask, 3) && !has_cell(mask, 2));
-    assert_eq!(rt; with(mask, 0), 0b1000_1011);
-    assert_eq!(rt; without(mask, 3), 0b1000_0010);
-    assert_eq!(rt; above(mask, 3), 0b1000_0000);
-    assert_eq!(rt; all_below(3), 0b111);
-    assert_eq!(rt; first_of(mask), 1);
-    assert_eq!(rt; count_below(mask, 7), 2);
+    let masks = [
+        (with(mask, 0), 0b1000_1011),
+        (without(mask, 3), 0b1000_0010),
+        (above(mask, 3), 0b1000_0000),
+        (all_below(3), 0b111),
+    ];
+    for (found, want) in masks {
+        assert_eq!(rt; found, want);
+    }
     assert!(rt; mask.count_ones() > 2);
-    assert_eq!(rt; select(mask, 2), 7);
+    let numbers = (first_of(mask), count_below(mask, 7), select(mask, 2));
+    assert_eq!(rt; numbers, (1, 2, 7));
 }
 
 /// Where a step leads from a cell of side 3: up, down, left and right.

@@ -2,8 +2,10 @@
 
 ghost use Rattle.work_run.specs.Workers.{AreWorkers};
 
+use samples::Log;
 use std::process::Abort;
 use std::sync::Wait;
+use std::test::Fail;
 use std::thread::Threads;
 use tab_check::{Census, TableFault, TableRefusal};
 use tab_file::HeadFault;
@@ -55,6 +57,20 @@ pub(crate) fn census<R: Threads + Wait + AllocGlobal + Abort>(
         }
     }
     alone
+}
+
+/// Checks that both checks find entry 0 bad, and that one worker enters block 0 alone.
+pub(crate) fn expect_first_block_alone<R: Threads + Wait + AllocGlobal + Abort>(
+    rt: &R,
+    file: &[u8],
+) -> Result<(), Fail> {
+    for check in BOTH {
+        let log = Log::new(rt.alloc(), 2)?;
+        let answer = census_by(rt, check, file, 1, &log);
+        assert_eq!(rt; answer, Err(bad_entry(0)));
+        assert_eq!(rt; log.notes(rt.alloc())?.as_slice(), [0].as_slice());
+    }
+    Ok(())
 }
 
 /// The refusal that names this entry.

@@ -3,7 +3,7 @@
 
 ghost use Rattle.work_run.specs.Workers.{AreWorkers};
 
-use crate::censuses::{BOTH, Check, bad_entry, census, census_by};
+use crate::censuses::{BOTH, Check, bad_entry, census, census_by, expect_first_block_alone};
 use samples::{HoldingGate, LeastCosts, Log};
 use std::alloc::{AllocError, Global};
 use std::process::Abort;
@@ -119,14 +119,7 @@ fn each_block_is_entered_once(rt: HostRuntime) -> Result<(), Fail> {
 
 #[test]
 fn blocks_above_a_bad_entry_are_not_entered(rt: HostRuntime) -> Result<(), Fail> {
-    let file = of_one_byte(rt.alloc(), 0xFE)?;
-    for check in BOTH {
-        let log = Log::new(rt.alloc(), 2)?;
-        let answer = census_by(&rt, check, &file, 1, &log);
-        assert_eq!(rt; answer, Err(bad_entry(0)));
-        assert_eq!(rt; log.notes(rt.alloc())?.as_slice(), [0].as_slice());
-    }
-    Ok(())
+    expect_first_block_alone(&rt, &of_one_byte(rt.alloc(), 0xFE)?)
 }
 
 #[test]

@@ -1,12 +1,12 @@
 //! Known tables, tables by a search of their own and changed ones, by several workers, and gates that watch and hold them.
 
-use crate::censuses::{BOTH, Check, bad_entry, census, census_by, head_fault};
+use crate::censuses::{Check, bad_entry, census, census_by, expect_first_block_alone, head_fault};
 use puz_board::Board;
 use samples::files::{
     FOURTEEN_BLOCKS, TILE_1, TILE_1_NEVER, TILE_3, TILE_24, TILES_12, TILES_123, TWO_BLOCKS,
     with_byte, with_one_more,
 };
-use samples::{HoldingGate, LeastCosts, Log};
+use samples::{HoldingGate, LeastCosts};
 use std::process::Abort;
 use std::sync::Wait;
 use std::test::Fail;
@@ -401,13 +401,7 @@ fn the_eight_puzzle_is_exact(rt: HostRuntime) -> Result<(), Fail> {
 fn blocks_above_a_bad_entry_are_not_entered(rt: HostRuntime) -> Result<(), Fail> {
     let mut file = [0xFE; 2036];
     file[..20].copy_from_slice(&TWO_BLOCKS);
-    for check in BOTH {
-        let log = Log::new(rt.alloc(), 2)?;
-        let answer = census_by(&rt, check, &file, 1, &log);
-        assert_eq!(rt; answer, Err(bad_entry(0)));
-        assert_eq!(rt; log.notes(rt.alloc())?.as_slice(), [0].as_slice());
-    }
-    Ok(())
+    expect_first_block_alone(&rt, &file)
 }
 
 #[test]
