@@ -274,6 +274,39 @@ fn the_boards_of_side_two_lie_on_a_ring(rt: HostRuntime) {
 }
 
 #[test]
+fn boards_are_mirrored_at_their_diagonal(rt: HostRuntime) {
+    let boards: [(&[u8], &[u8]); 3] = [
+        (&[8, 0, 6, 5, 4, 7, 2, 3, 1], &[8, 7, 6, 0, 4, 1, 2, 5, 3]),
+        (
+            &[4, 3, 7, 11, 5, 6, 2, 0, 1, 13, 9, 15, 8, 12, 10, 14],
+            &[1, 5, 4, 2, 12, 9, 7, 3, 13, 8, 6, 10, 14, 0, 15, 11],
+        ),
+        (
+            &[
+                6, 10, 1, 3, 8, 11, 5, 7, 4, 9, 12, 13, 14, 2, 0, 15, 16, 17, 18, 19, 20, 21, 22,
+                23, 24,
+            ],
+            &[
+                6, 7, 12, 3, 4, 2, 1, 17, 8, 9, 5, 11, 22, 13, 14, 15, 20, 10, 18, 19, 16, 21, 0,
+                23, 24,
+            ],
+        ),
+    ];
+    for (numbers, want) in boards {
+        let board = Board::from_cells(numbers);
+        let mirrored = Board::from_cells(want);
+        assert_eq!(rt; board.map(|b| b.transposed()), mirrored, "{numbers:?}");
+        assert_eq!(rt; mirrored.map(|b| b.transposed()), board, "{want:?}");
+    }
+    // Rows and columns change places, so the ring of boards goes the other way round.
+    for (i, cells) in RING.iter().enumerate() {
+        let board = Board::from_cells(cells);
+        let opposite = Board::from_cells(&RING[(12 - i) % 12]);
+        assert_eq!(rt; board.map(|b| b.transposed()), opposite, "board {i}");
+    }
+}
+
+#[test]
 fn a_thousand_moves_are_the_most(rt: HostRuntime) {
     let mut text = [b'R'; 1001];
     for i in 0..500usize {

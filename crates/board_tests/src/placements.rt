@@ -118,6 +118,23 @@ fn tiles_ascend(rt: HostRuntime) {
 }
 
 #[test]
+fn patterns_are_mirrored_at_the_diagonal(rt: HostRuntime) {
+    let masks = [
+        (2, 2, 4),
+        (2, 8, 8),
+        (3, 14, 74),
+        (3, 510, 510),
+        (4, 14, 4368),
+        (5, 126, 1_082_466),
+    ];
+    for (n, mask, want) in masks {
+        let mirrored = pattern_with(&rt, n, mask).transposed();
+        assert_eq!(rt; (mirrored.side().get(), mirrored.mask()), (n, want));
+        assert_eq!(rt; mirrored.transposed().mask(), mask, "side {n}");
+    }
+}
+
+#[test]
 fn placements_are_the_cells_of_tiles(rt: HostRuntime) {
     let pattern = pattern_with(&rt, 3, 14);
     check_cells(&rt, &Placement::goal(&pattern), &[1, 2, 3], 64);

@@ -15,4 +15,5 @@ pub mod SlideLemmas
 pub mod SlotLemmas
 pub mod SlotSteps
 mod SlotTableLemmas
+pub mod TransposedLemmas
 pub mod WidthLemmas

@@ -1,67 +1,15 @@
 -- Lists of numbers, and the places of their elements.
-use Rattle.std.proofs.Common.{◌≡◌, ℕ, zero, suc, ◌+◌, ◌<◌, ◌≤◌, Bool, true, false, cond, eqb, not, ◌⊎◌, List, [], ◌∷◌, ◌++◌, length, Some, inl, inr, refl, sym, ◌∙◌, ap, ap₂, arith, filter, get_or}
-use Rattle.std.specs.Prelude.{slice_get, ◌&&◌, ◌||◌}
+use Rattle.std.proofs.Common.{◌≡◌, ℕ, zero, suc, ◌+◌, ◌<◌, ◌≤◌, Bool, true, false, cond, eqb, not, List, [], ◌∷◌, ◌++◌, length, Some, inl, inr, refl, sym, ◌∙◌, ap, ap₂, arith, filter, get_or}
+use Rattle.std.specs.Prelude.{◌&&◌}
 use Rattle.std.specs.List.{AllByRecursion, range_with_len}
-use Rattle.std.proofs.lemmas.Bool.{cases_eq, cases_Bool, both_ways, or_parts, or_from, or_left, or_right, or_cases, eqb-true, eq-eqb, ne_eqb, true≢false, cond-true, cond-false, and_right}
+use Rattle.std.proofs.lemmas.Bool.{both_ways, or_parts, or_from, eq-eqb, ne_eqb, true≢false, cond-true, cond-false, and_right}
+use Rattle.puz_board.proofs.HasLemmas.{has_cases, has-here, has-later}
 use Rattle.pat_place.specs.Patterns.{has, IsAscending}
 use Rattle.pat_place.specs.Placements.{IsApart}
 use Rattle.pat_place.specs.Ranks.{without}
 
 pub Some-one : {A : Type 0} (x y : A) → Some x ≡ Some y → x ≡ y
 Some-one x y e = cc
-
--- ---- whether a number stands in a list
-
-pub has_cases : (x d : ℕ) (cs : List ℕ) → has (d ∷ cs) x ≡ true → (d ≡ x) ⊎ (has cs x ≡ true)
-has_cases x d cs h = elim (or_cases (eqb d x) (has cs x) h) [ inl e ↦ inl (eqb-true d x e) | inr k ↦ inr k ]
-
-pub has-here : (x d : ℕ) (cs : List ℕ) → d ≡ x → has (d ∷ cs) x ≡ true
-has-here x d cs e = or_left (eqb d x) (has cs x) (eq-eqb d x e)
-
-pub has-later : (x d : ℕ) (cs : List ℕ) → has cs x ≡ true → has (d ∷ cs) x ≡ true
-has-later x d cs h = or_right (eqb d x) (has cs x) h
-
-pub has-get : (xs : List ℕ) (i x : ℕ) → slice_get xs i ≡ Some x → has xs x ≡ true
-has-get [] i x e = cc
-has-get (y ∷ xs) zero x e = has-here x y xs (Some-one y x e)
-has-get (y ∷ xs) (suc i) x e = has-later x y xs (has-get xs i x e)
-
-pub length-has : (x : ℕ) (xs : List ℕ) → has xs x ≡ true → 0 < length xs
-length-has x [] h = absurd (true≢false (sym h))
-length-has x (y ∷ xs) h = omega arith
-
--- a number that passes a test stands in the filtered list exactly where it stood in the list
-pub has-filter : (p : ℕ → Bool) (x : ℕ) (cs : List ℕ) → p x ≡ true → has (filter p cs) x ≡ has cs x
-has-filter p x [] h = refl
-has-filter p x (d ∷ cs) h = go (cases_Bool (p d)) (cases_eq d x) (has-filter p x cs h)
-  where
-    go : (p d ≡ true) ⊎ (p d ≡ false) → (d ≡ x) ⊎ (d ≡ x → ⊥) → has (filter p cs) x ≡ has cs x → has (cond (p d) (d ∷ filter p cs) (filter p cs)) x ≡ has (d ∷ cs) x
-    go (inl t) e ih = ap (λ l. has l x) (cond-true (p d) (d ∷ filter p cs) (filter p cs) t) ∙ ap (λ b. eqb d x || b) ih
-    go (inr f) (inl e) ih = absurd (both_ways (p d) f (ap p e ∙ h))
-    go (inr f) (inr ne) ih = ap (λ l. has l x) (cond-false (p d) (d ∷ filter p cs) (filter p cs) f) ∙ ih ∙ ap (λ b. b || has cs x) (sym (ne_eqb d x ne))
-
--- one that fails it isn't there
-pub has-filter_not : (p : ℕ → Bool) (x : ℕ) (cs : List ℕ) → p x ≡ false → has (filter p cs) x ≡ false
-has-filter_not p x [] h = refl
-has-filter_not p x (d ∷ cs) h = go (cases_Bool (p d)) (has-filter_not p x cs h)
-  where
-    go : (p d ≡ true) ⊎ (p d ≡ false) → has (filter p cs) x ≡ false → has (cond (p d) (d ∷ filter p cs) (filter p cs)) x ≡ false
-    go (inl t) ih = ap (λ l. has l x) (cond-true (p d) (d ∷ filter p cs) (filter p cs) t) ∙ or_from (eqb d x) (has (filter p cs) x) (ne_eqb d x (λ e. both_ways (p d) (ap p e ∙ h) t)) ih
-    go (inr f) ih = ap (λ l. has l x) (cond-false (p d) (d ∷ filter p cs) (filter p cs) f) ∙ ih
-
-pub has-range : (a n x : ℕ) → a ≤ x → x < a + n → has (range_with_len a n) x ≡ true
-has-range a zero x l k = absurd (omega arith)
-has-range a (suc n) x l k = elim (cases_eq a x) [
-  | inl e ↦ has-here x a (range_with_len (a + 1) n) e
-  | inr ne ↦ has-later x a (range_with_len (a + 1) n) (has-range (a + 1) n x (omega arith) (omega arith))
-]
-
-pub in_range : (a n x : ℕ) → has (range_with_len a n) x ≡ true → (a ≤ x) × (x < a + n)
-in_range a zero x h = absurd (true≢false (sym h))
-in_range a (suc n) x h = elim (has_cases x a (range_with_len (a + 1) n) h) [
-  | inl e ↦ (omega arith, omega arith)
-  | inr k ↦ let w = in_range (a + 1) n x k in let l : a + 1 ≤ x = w.0 in let m : x < a + 1 + n = w.1 in (omega arith, omega arith)
-]
 
 -- ---- ascending lists
 

@@ -9,10 +9,11 @@ use Rattle.std.proofs.lemmas.Nat.Bits.{bit_at-lt, bit_at_ones, bit_at_ones_above
 use Rattle.puz_board.specs.Masks.{has_bit, numbers_below, numbers_of, ones_below}
 use Rattle.puz_board.proofs.BitLemmas.{in_below, sub_le}
 use Rattle.puz_board.proofs.OnesLemmas.{ones_below-mono, ones_below-suc, ones_below-zero}
+use Rattle.puz_board.proofs.HasLemmas.{has-filter, has-filter_not, has-range, in_range}
 use Rattle.pat_place.specs.Patterns.{has, IsAscending}
 use Rattle.pat_place.specs.Placements.{IsApart}
 use Rattle.pat_place.specs.Ranks.{without}
-use Rattle.pat_place.proofs.ListLemmas.{Some-one, ascending-filter, ascending-range, filter-filter_below, has-filter, has-filter_not, has-range, in_range, without-first, apart_from_ascending, filter_all, filter_none, filter-append, range-append}
+use Rattle.pat_place.proofs.ListLemmas.{Some-one, ascending-filter, ascending-range, filter-filter_below, without-first, apart_from_ascending, filter_all, filter_none, filter-append, range-append}
 
 -- the place of a number in the list
 pub place-filter : (m c a n place : ℕ) → bit_at m c ≡ 1 → a ≤ c → c < a + n → place + ones_below m a ≡ ones_below m c → slice_get (filter (has_bit m) (range_with_len a n)) place ≡ Some c

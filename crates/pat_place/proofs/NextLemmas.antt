@@ -12,10 +12,11 @@ use Rattle.puz_board.specs.Masks.{IsMaskOf, numbers_of, ones_below}
 use Rattle.puz_board.proofs.CellLemmas.{few_cells}
 use Rattle.puz_board.proofs.BitLemmas.{in_below, in_or_out}
 use Rattle.puz_board.proofs.OnesLemmas.{ones_below-suc, ones_below-zero}
+use Rattle.puz_board.proofs.HasLemmas.{has_cases, has-here, has-get, has-range, in_range}
 use Rattle.pat_place.specs.Patterns.{has, IsAscending, IsPattern}
 use Rattle.pat_place.specs.Placements.{IsApart, IsFree, IsPlacement, PlacementView}
 use Rattle.pat_place.specs.Ranks.{IsRank, without, lists_of, falling_factorial, placements}
-use Rattle.pat_place.proofs.ListLemmas.{has_cases, has-here, has-get, has-at, has-range, in_range, all_at, apart_from_ascending, ascending-filter, ascending-range}
+use Rattle.pat_place.proofs.ListLemmas.{has-at, all_at, apart_from_ascending, ascending-filter, ascending-range}
 use Rattle.pat_place.proofs.MaskLemmas.{get-numbers_below, ascending-numbers_below, numbers_below-clear, has-numbers_below, in_numbers_below, length-numbers_below, numbers_below-zero}
 use Rattle.pat_place.proofs.RankLemmas.{rank_step, length-without, length_lists, still_in, has-without, has-without_same, has_from-without, above-has, in_all, placement_of_rank, inside_from, IsRank-from, IsRank-one, length-placements}
 use Rattle.pat_place.proofs.PlacementLemmas.{placed}

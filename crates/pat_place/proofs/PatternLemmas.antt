@@ -1,14 +1,14 @@
 -- Patterns: how many tiles they have, and how their masks look.
-use Rattle.std.proofs.Common.{◌≡◌, ℕ, zero, suc, ◌+◌, ◌-◌, ◌*◌, ◌/◌, ◌%◌, ◌^◌, ◌<◌, ◌≤◌, true, cond, eqb, List, [], ◌∷◌, length, inl, inr, refl, sym, ◌∙◌, ap, subst, arith}
+use Rattle.std.proofs.Common.{◌≡◌, ℕ, zero, suc, ◌+◌, ◌-◌, ◌*◌, ◌/◌, ◌%◌, ◌^◌, ◌<◌, ◌≤◌, cond, eqb, length, inl, inr, sym, ◌∙◌, ap, subst, arith}
 use Rattle.std.specs.Prelude.{count_ones}
 use Rattle.std.specs.Int.{bit_at}
 use Rattle.std.specs.List.{AllByRecursion}
-use Rattle.std.proofs.lemmas.Bool.{cases_eq, cases_lt, cond_both, true≢false}
+use Rattle.std.proofs.lemmas.Bool.{cases_eq, cases_lt, cond_both}
 use Rattle.std.proofs.lemmas.Nat.Bits.{bit_at-lt, same_from_bits, bit_at-zero, bit_at_above, bit_at_lowest}
 use Rattle.puz_board.specs.Masks.{numbers_of}
 use Rattle.puz_board.proofs.BitLemmas.{in_shr}
-use Rattle.pat_place.specs.Patterns.{PatternView, IsPattern, most_tiles, has}
-use Rattle.pat_place.proofs.ListLemmas.{has_cases, has-here, has-later}
+use Rattle.puz_board.proofs.HasLemmas.{all_from_has, has_from_all}
+use Rattle.pat_place.specs.Patterns.{PatternView, IsPattern, most_tiles}
 use Rattle.pat_place.proofs.MaskLemmas.{has-numbers_below, in_numbers_below, length-numbers_below, ascending-numbers_below}
 
 pub most_tiles-le : (n : ℕ) → most_tiles n ≤ 8
@@ -16,16 +16,6 @@ most_tiles-le n = cond_both (eqb n 2) 3 (cond (eqb n 5) 6 8) (λ k. k ≤ 8) (λ
 
 pub few_tiles : (p : PatternView) → IsPattern p → length p.tiles ≤ 8
 few_tiles p good = let a = most_tiles-le p.side in let b = good.most in omega arith
-
--- ---- what holds of each number of a list
-
-pub all_from_has : (P : ℕ → Type 0) (xs : List ℕ) → ((x : ℕ) → has xs x ≡ true → P x) → AllByRecursion P xs
-all_from_has P [] each = tt
-all_from_has P (x ∷ xs) each = (each x (has-here x x xs refl), all_from_has P xs (λ y h. each y (has-later y x xs h)))
-
-pub has_from_all : (P : ℕ → Type 0) (xs : List ℕ) (x : ℕ) → AllByRecursion P xs → has xs x ≡ true → P x
-has_from_all P [] x all h = absurd (true≢false (sym h))
-has_from_all P (y ∷ xs) x all h = elim (has_cases x y xs h) [ inl e ↦ subst P e all.0 | inr k ↦ has_from_all P xs x all.1 k ]
 
 -- ---- the test of a mask: no blank, and nothing from the count of cells on
 

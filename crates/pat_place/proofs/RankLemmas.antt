@@ -7,11 +7,12 @@ use Rattle.std.proofs.lemmas.List.{length-append, length-map}
 use Rattle.std.proofs.lemmas.List.FromFn.{length-range_with_len}
 use Rattle.std.proofs.lemmas.Nat.{mul-le}
 use Rattle.std.proofs.Math.Nat.{pow-suc, pow-le-pow_right}
+use Rattle.puz_board.proofs.HasLemmas.{has_cases, has-here, has-later, has-filter, has-filter_not, has-range, in_range}
 use Rattle.pat_place.specs.Patterns.{has, IsAscending, PatternView}
 use Rattle.pat_place.specs.Placements.{IsApart, IsPlacement}
 use Rattle.pat_place.specs.Laws.{IsBefore}
 use Rattle.pat_place.specs.Ranks.{without, lists_of, placements, falling_factorial, IsRank}
-use Rattle.pat_place.proofs.ListLemmas.{Some-one, has_cases, has-here, has-later, has-filter, has-filter_not, has-range, in_range, apart_from_ascending, ascending-range, ascending-filter}
+use Rattle.pat_place.proofs.ListLemmas.{Some-one, apart_from_ascending, ascending-range, ascending-filter}
 
 -- ---- get in a list that is made of others
 

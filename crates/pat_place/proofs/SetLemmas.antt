@@ -4,13 +4,14 @@ use Rattle.std.specs.Prelude.{count_ones}
 use Rattle.puz_board.specs.Masks.{IsMaskOf, numbers_of}
 use Rattle.puz_board.proofs.BitLemmas.{in_below}
 use Rattle.puz_board.proofs.GrownLemmas.{free_fits}
+use Rattle.puz_board.proofs.HasLemmas.{all_from_has}
 use Rattle.pat_place.specs.Patterns.{IsPattern, PatternView, has}
 use Rattle.pat_place.specs.Placements.{IsFree, IsPlacement}
 use Rattle.pat_place.specs.Regions.{Joins, IsLeader, IsCount, IsSlot}
 use Rattle.std.proofs.lemmas.Bool.{cases_Bool, both_ways}
 use Rattle.pat_place.proofs.ListLemmas.{apart_from_ascending}
 use Rattle.pat_place.proofs.MaskLemmas.{ascending-numbers_below, has-numbers_below, in_numbers_below, length-numbers_below}
-use Rattle.pat_place.proofs.PatternLemmas.{all_from_has, few_tiles}
+use Rattle.pat_place.proofs.PatternLemmas.{few_tiles}
 use Rattle.pat_place.proofs.SlotSteps.{same_paths}
 
 -- ---- the cells of a set, ascending

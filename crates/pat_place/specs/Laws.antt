@@ -1,6 +1,7 @@
 -- What holds of ranks, regions and slots at every placement.
 use Rattle.std.specs.Prelude.{◌≡◌, ℕ, ◌<◌, ◌↔◌, ◌⊎◌, List, [], ◌∷◌, length, slice_get, Some}
-use Rattle.pat_place.specs.Patterns.{IsPattern, width}
+use Rattle.puz_board.specs.Transposing.{transposed_tiles}
+use Rattle.pat_place.specs.Patterns.{IsPattern, PatternView, width}
 use Rattle.pat_place.specs.Placements.{PlacementView, IsPlacement, IsFree}
 use Rattle.pat_place.specs.Ranks.{IsRank, placements}
 use Rattle.pat_place.specs.Regions.{Joins, IsSlot}
@@ -48,3 +49,7 @@ abbrev pub SlotsAreBelowWidth : Type 0
 SlotsAreBelowWidth =
     (p : PlacementView) → IsPattern p.pattern → IsPlacement p → (c j : ℕ) → IsSlot p.pattern.side p.cells c j →
     j < width p.pattern.side (length p.cells)
+
+-- a pattern transposed is a pattern
+abbrev pub TransposedPatternsArePatterns : Type 0
+TransposedPatternsArePatterns = (p : PatternView) → IsPattern p → IsPattern (record { side = p.side; tiles = transposed_tiles p.side p.tiles })

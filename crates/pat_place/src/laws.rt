@@ -1,6 +1,6 @@
 //! Laws of ranks, regions and slots. Each function here says what holds of every placement, and does nothing.
 
-ghost use Rattle.pat_place.specs.Laws.{EachPlacementHasOneRank, RanksAreInOrder, RanksOfThreeCells, EachFreeCellHasOneSlot, OneSlotIsOneRegion, SlotsAreBelowWidth};
+ghost use Rattle.pat_place.specs.Laws.{EachPlacementHasOneRank, RanksAreInOrder, RanksOfThreeCells, EachFreeCellHasOneSlot, OneSlotIsOneRegion, SlotsAreBelowWidth, TransposedPatternsArePatterns};
 
 /// Each placement has one rank.
 pub fn each_placement_has_one_rank()
@@ -30,4 +30,9 @@ pub fn one_slot_is_one_region()
 /// No placement has more regions than its pattern's width.
 pub fn slots_are_below_width()
     ensures { SlotsAreBelowWidth }
+{}
+
+/// A pattern transposed is a pattern.
+pub fn transposed_patterns_are_patterns()
+    ensures { TransposedPatternsArePatterns }
 {}

@@ -3,12 +3,14 @@
 ghost use Rattle.std.specs.Prelude.{◌≡◌, ◌+◌, ◌*◌, ◌^◌, ◌<◌, ◌≤◌, ◌↔◌, length, IsSome, IfSome, IsTrue};
 ghost use Rattle.std.specs.List.{AllByRecursion};
 ghost use Rattle.puz_board.specs.Masks.{numbers_of};
+ghost use Rattle.puz_board.specs.Transposing.{transposed_tiles};
 ghost use Rattle.pat_place.specs.Patterns.{IsPattern, most_tiles, width};
 ghost use Rattle.pat_place.specs.Ranks.{falling_factorial, placements};
 
 use crate::mask_numbers::put_numbers;
 use arrayvec::ArrayVec;
-use puz_board::Side;
+use puz_board::masks::{has_cell, with};
+use puz_board::{Side, transposed_cell};
 use std::marker::Model;
 
 /// A pattern: a set of tiles of a board, within the limits of its side.
@@ -79,6 +81,20 @@ impl Pattern {
         let mut tiles = ArrayVec::new();
         put_numbers(self.mask, &mut tiles);
         tiles
+    }
+
+    /// The pattern of what the tiles become where rows and columns are exchanged.
+    pub fn transposed(&self) -> Pattern
+        ensures { result ≡ record { side = self.now.side; tiles = transposed_tiles self.now.side self.now.tiles } }
+    {
+        let side = self.side();
+        let mut mask = 0;
+        for tile in 0..side.cells() {
+            if has_cell(self.mask, transposed_cell(side, tile)) {
+                mask = with(mask, tile);
+            }
+        }
+        Pattern { side, mask }
     }
 
     /// How many slots a table has for each placement: no placement has more regions of free cells.

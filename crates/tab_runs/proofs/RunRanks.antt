@@ -5,10 +5,11 @@ use Rattle.std.specs.List.{AllByRecursion, range_with_len}
 use Rattle.std.proofs.lemmas.Bool.{cases_eq, cases_Bool, both_ways, ne_eqb, eq-eqb, cond-true, cond-false}
 use Rattle.std.proofs.lemmas.List.{length-append, length_push}
 use Rattle.std.proofs.lemmas.List.FromFn.{length-range_with_len}
+use Rattle.puz_board.proofs.HasLemmas.{has-filter, has-filter_not, has-get, in_range}
 use Rattle.pat_place.specs.Patterns.{has, IsAscending}
 use Rattle.pat_place.specs.Placements.{IsApart, IsFree}
 use Rattle.pat_place.specs.Ranks.{without, lists_of, falling_factorial, IsRank}
-use Rattle.pat_place.proofs.ListLemmas.{Some-one, has-filter, has-filter_not, has-get, in_range, apart_from_ascending, ascending-filter, ascending-range, filter-append, range-append}
+use Rattle.pat_place.proofs.ListLemmas.{Some-one, apart_from_ascending, ascending-filter, ascending-range, filter-append, range-append}
 use Rattle.pat_place.proofs.RankLemmas.{IsRank-from, falling_more, get-below, in_all, length-without, rank_step, still_in}
 use Rattle.pat_place.proofs.NextLemmas.{get-has}
 use Rattle.tab_runs.specs.Runs.{IsFirstRank, free_below, run_length, with_last}

@@ -1,8 +1,8 @@
 use Rattle.std.proofs.Common.{◌≡◌, ℕ, ◌+◌, ◌<◌, ◌≤◌, List, [], ◌∷◌, ◌++◌, length, sym, ◌∙◌, ap, arith, append_assoc, length-append, lit<, true}
 use Rattle.std.proofs.lemmas.List.{append-nil}
 use Rattle.puz_board.specs.Masks.{numbers_of}
+use Rattle.puz_board.proofs.HasLemmas.{length-has}
 use Rattle.pat_place.specs.Patterns.{has}
-use Rattle.pat_place.proofs.ListLemmas.{length-has}
 use Rattle.pat_place.proofs.MaskLemmas.{has-numbers_below, numbers_below-first, numbers_below-zero}
 use Rattle.pat_place.proofs.mask_numbers.put_numbers.Goals as goal
 

@@ -1,0 +1,5 @@
+use Rattle.pat_place.proofs.TransposedLemmas.{IsPattern-transposed}
+use Rattle.pat_place.proofs.laws.transposed_patterns_are_patterns.Goals as goal
+
+pub returns : goal.returns
+returns c p pat = IsPattern-transposed p pat

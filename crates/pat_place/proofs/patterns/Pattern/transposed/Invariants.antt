@@ -1,0 +1,5 @@
+use Rattle.pat_place.proofs.TransposedLemmas.{IsTurned}
+use Rattle.pat_place.proofs.patterns.Pattern.transposed.Given as goal
+
+abbrev pub invariant-loop-tile : goal.invariant-loop-tile
+invariant-loop-tile l = IsTurned l.side l.self-inside.mask l.tile l.mask

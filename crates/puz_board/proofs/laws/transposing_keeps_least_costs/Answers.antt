@@ -1,0 +1,5 @@
+use Rattle.puz_board.proofs.TransposeLemmas.{least_costs, nevers}
+use Rattle.puz_board.proofs.laws.transposing_keeps_least_costs.Goals as goal
+
+pub returns : goal.returns
+returns c n tiles b good all = (least_costs n tiles all b good, nevers n tiles all b good)
