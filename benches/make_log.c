@@ -1,16 +1,18 @@
-/* Makes and checks log files, in the format of docs/FORMATS.md, over one set of all tables that are given:
+/* Makes log files of version 2 and checks those of both versions, in the format of docs/FORMATS.md, over one set of all
+ * tables that are given:
  *
  *     cc -O2 -march=x86-64-v2 -o make_log benches/make_log.c
- *     ./make_log board SIDE SEED
+ *     ./make_log board SIDE SEED [STEPS]
  *     ./make_log log BOARD BOUND LEVELS OUT TABLES..
  *     ./make_log check LOG TABLES..
  *
- * `board` prints the board text at the end of a random walk from the goal board, the same for the same SEED.
+ * `board` prints the board text at the end of a random walk from the goal board, the same for the same SEED. The walk has
+ * 100,000 steps, of which some lead off the board and are left out, or STEPS that are moves and never take back the last.
  *
  * `log` writes a log that proves BOUND for BOARD, a board text as one word. Where BOUND is `-` it is the length of a
  * shortest solution, found by iterative deepening (Korf 1985): the tree is then that of the last threshold that failed.
  * With 0 LEVELS the log is one lemma. Otherwise what lies so many moves below the root is proved by lemmas of its own,
- * which the last lemma cites.
+ * which the last lemma cites. A leaf is a parity leaf where the sum alone says too little.
  *
  * `check` walks the trees of a log, and prints how long that took for each of their bytes.
  *
@@ -25,7 +27,8 @@
 
 enum { MOST_CELLS = 25, MOST_TILES = 8, MOST_TABLES = 16, TABLE_HEADER = 20, LOG_HEADER = 10, MOST_LEMMAS = 1 << 20 };
 enum { NEVER = 255, ENDLESS = 1 << 20, GREATEST_BOUND = 255, STEPS_OF_A_WALK = 100000 };
-enum { BRANCH = 0x00, LEAF = 0x01, CITATION = 0x20 };
+enum { BRANCH = 0x00, LEAF = 0x01, CITATION = 0x20, PARITY_LEAF = 0x41 };
+enum { VERSION_BYTE = 4, PLAIN_VERSION = 1, PARITY_VERSION = 2 };
 
 /* The blank's moves, in the order of a branch's children; a move and its reverse differ in their last bit. */
 enum { UP, DOWN, LEFT, RIGHT, MOVES, NO_MOVE = -2 };
@@ -48,6 +51,7 @@ struct puzzle {
     int side, cells;
     set all, with_left, with_right;
     int8_t beside[MOST_CELLS][MOVES]; /* where a move leads, or -1 */
+    uint8_t parity[MOST_CELLS];       /* of the distance from cell 0 */
     int tables;
     struct table table[MOST_TABLES];
     uint8_t owner[MOST_CELLS]; /* the table that a tile is in, MOST_TABLES where it is in none */
@@ -136,6 +140,7 @@ static void lay_out(struct puzzle *p, int side)
         p->beside[cell][DOWN] = row < side - 1 ? cell + side : -1;
         p->beside[cell][LEFT] = column > 0 ? cell - 1 : -1;
         p->beside[cell][RIGHT] = column < side - 1 ? cell + 1 : -1;
+        p->parity[cell] = (row + column) % 2;
         p->with_left |= column > 0 ? only(cell) : 0;
         p->with_right |= column < side - 1 ? only(cell) : 0;
     }
@@ -255,6 +260,12 @@ static int sum(const struct puzzle *p, const struct position *at)
     return sum;
 }
 
+/* The least number not below the sum that has the parity of each solution's length. */
+static int raised(const struct puzzle *p, const struct position *at, int sum)
+{
+    return sum + (sum + p->parity[at->cell[0]]) % 2;
+}
+
 /* What a move changes besides the two cells, for taking it back. */
 struct change {
     uint8_t blank, owner, told;
@@ -298,7 +309,7 @@ struct maker {
     struct position at;
     struct bytes lemmas;
     uint32_t count;
-    int spare; /* the least by which a leaf's sum is above what remains */
+    int spare; /* the least by which what a leaf says is above what remains */
 };
 
 static int add_lemma(struct maker *m, int bound, int levels);
@@ -318,10 +329,11 @@ static int cite(struct maker *m, struct bytes *tree, int remaining)
  * below it, where that isn't 0, a lemma is cited in place of each branch. */
 static int refute(struct maker *m, struct bytes *tree, int remaining, int arriving, int levels)
 {
-    int spare = sum(m->puzzle, &m->at) - remaining;
+    int said = sum(m->puzzle, &m->at);
+    int spare = raised(m->puzzle, &m->at, said) - remaining;
     if (spare >= 0) {
         m->spare = spare < m->spare ? spare : m->spare;
-        put_byte(tree, LEAF);
+        put_byte(tree, said >= remaining ? LEAF : PARITY_LEAF);
         return 1;
     }
     if (is_goal(m->puzzle, &m->at))
@@ -333,7 +345,7 @@ static int refute(struct maker *m, struct bytes *tree, int remaining, int arrivi
         if (to < 0)
             continue;
         struct change change = move(m->puzzle, &m->at, to);
-        int is_leaf = sum(m->puzzle, &m->at) >= remaining - 1;
+        int is_leaf = raised(m->puzzle, &m->at, sum(m->puzzle, &m->at)) >= remaining - 1;
         refuted = levels == 1 && !is_leaf ? cite(m, tree, remaining - 1)
                                           : refute(m, tree, remaining - 1, way, levels - 1);
         take_back(&m->at, change);
@@ -362,7 +374,7 @@ static int add_lemma(struct maker *m, int bound, int levels)
 /* Each tree proves as much more than it has to as its leaves have to spare. */
 static int shortest(struct maker *m)
 {
-    int bound = sum(m->puzzle, &m->at);
+    int bound = raised(m->puzzle, &m->at, sum(m->puzzle, &m->at));
     struct bytes tree = {0};
     while (bound < GREATEST_BOUND) {
         m->spare = ENDLESS;
@@ -378,7 +390,8 @@ static int shortest(struct maker *m)
 static void write_log(const struct maker *m, const char *name)
 {
     struct bytes header = {0};
-    put(&header, "PDBL\1", 5);
+    put(&header, "PDBL", VERSION_BYTE);
+    put_byte(&header, PARITY_VERSION);
     put_byte(&header, m->puzzle->side);
     put_number(&header, m->count);
     FILE *out = fopen(name, "wb");
@@ -441,6 +454,7 @@ struct lemma {
 struct checker {
     const struct puzzle *puzzle;
     struct position at;
+    int version;
     const struct lemma *lemmas;
     uint32_t number; /* of the lemma that is checked */
     const uint8_t *next, *end;
@@ -449,8 +463,10 @@ struct checker {
 /* The lemmas of a log file. */
 static struct lemma *read_lemmas(const struct puzzle *p, const struct bytes *file, uint32_t *count)
 {
-    if (file->length < LOG_HEADER || memcmp(file->at, "PDBL\1", 5) || file->at[5] != p->side)
+    if (file->length < LOG_HEADER || memcmp(file->at, "PDBL", VERSION_BYTE) || file->at[5] != p->side)
         fail("not a log of the tables' side", "");
+    if (file->at[VERSION_BYTE] != PLAIN_VERSION && file->at[VERSION_BYTE] != PARITY_VERSION)
+        fail("not a version of logs", "");
     *count = number_at(file->at + 6, 4);
     if (*count < 1 || *count > MOST_LEMMAS)
         fail("not a number of lemmas", "");
@@ -488,6 +504,8 @@ static int holds(struct checker *c, int remaining, int arriving)
     uint8_t node = *c->next++;
     if (node == LEAF)
         return sum(c->puzzle, &c->at) >= remaining;
+    if (node == PARITY_LEAF && c->version == PARITY_VERSION)
+        return raised(c->puzzle, &c->at, sum(c->puzzle, &c->at)) >= remaining;
     if (node == CITATION)
         return cites(c, remaining);
     if (node != BRANCH || remaining < 1 || is_goal(c->puzzle, &c->at))
@@ -526,6 +544,7 @@ static int check(char **words, int count)
     uint32_t lemmas;
     size_t bytes = 0;
     struct checker c = {.puzzle = &puzzle, .lemmas = read_lemmas(&puzzle, &file, &lemmas)};
+    c.version = file.at[VERSION_BYTE];
     double begin = seconds();
     for (; c.number < lemmas; c.number++) {
         bytes += c.lemmas[c.number].length;
@@ -551,7 +570,30 @@ static uint64_t next_random(uint64_t *state)
     return *state;
 }
 
-static int print_board(char **words)
+static void walk(const struct puzzle *p, struct position *at, uint64_t state)
+{
+    for (int step = 0; step < STEPS_OF_A_WALK; step++) {
+        int to = p->beside[at->cell[0]][next_random(&state) >> 62];
+        if (to >= 0)
+            move(p, at, to);
+    }
+}
+
+static void walk_on(const struct puzzle *p, struct position *at, uint64_t state, int steps)
+{
+    int last = NO_MOVE;
+    while (steps > 0) {
+        int way = next_random(&state) >> 62;
+        int to = p->beside[at->cell[0]][way];
+        if (to < 0 || (way ^ 1) == last)
+            continue;
+        move(p, at, to);
+        last = way;
+        steps--;
+    }
+}
+
+static int print_board(char **words, int count)
 {
     static struct puzzle p;
     struct position at;
@@ -564,11 +606,10 @@ static int print_board(char **words)
     for (int cell = 0; cell < p.cells; cell++)
         home[cell] = cell;
     place(&p, &at, home);
-    for (int step = 0; step < STEPS_OF_A_WALK; step++) {
-        int to = p.beside[at.cell[0]][next_random(&state) >> 62];
-        if (to >= 0)
-            move(&p, &at, to);
-    }
+    if (count == 3)
+        walk_on(&p, &at, state, number_in(words[2]));
+    else
+        walk(&p, &at, state);
     for (int cell = 0; cell < p.cells; cell++)
         printf("%d%c", at.number[cell], cell < p.cells - 1 ? ' ' : '\n');
     return 0;
@@ -576,11 +617,11 @@ static int print_board(char **words)
 
 int main(int count, char **words)
 {
-    if (count == 4 && strcmp(words[1], "board") == 0)
-        return print_board(words + 2);
+    if ((count == 4 || count == 5) && strcmp(words[1], "board") == 0)
+        return print_board(words + 2, count - 2);
     if (count > 6 && strcmp(words[1], "log") == 0)
         return make(words + 2, count - 2);
     if (count > 3 && strcmp(words[1], "check") == 0)
         return check(words + 2, count - 2);
-    fail("the words are `board SIDE SEED`, `log BOARD BOUND LEVELS OUT TABLES..` or `check LOG TABLES..`", "");
+    fail("the words are `board SIDE SEED [STEPS]`, `log BOARD BOUND LEVELS OUT TABLES..` or `check LOG TABLES..`", "");
 }

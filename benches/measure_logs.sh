@@ -1,5 +1,6 @@
 #!/usr/bin/env bash
-# Measures `pdb_cli bound` on two logs of one board of the 15-puzzle, over three tables of five tiles each.
+# Measures `pdb_cli bound` on two logs of one board of the 15-puzzle, over three tables of five tiles each, and on one of them
+# by the transposed members of three others.
 #
 #     benches/measure_logs.sh >measured.md
 #
@@ -20,6 +21,8 @@
 #   refused by the header (L1) after the tables were checked, and prints the digest all the same.
 # - "make_log" is the time that `make_log check` takes for the walk alone, as it tells it itself, taken in the same
 #   rounds. It is plain C, looks up one table at each move, and has one thread.
+# - The tables of the mirror images of the tiles, as transposed members, say the same as the tables themselves, so the log of
+#   one lemma is good over both. "transposed" is a run over those.
 # - "peak" is the most memory that was resident, in one further run.
 set -euo pipefail
 export LC_ALL=C
@@ -38,15 +41,28 @@ fail() {
     exit 1
 }
 
-# The files, all in the temporary folder, where the script stands from then on.
-make_files() {
-    local mask board
-    cc -O2 -march=x86-64-v2 -o make_log "$root/benches/make_log.c"
-    for mask in "${masks[@]}"; do
-        "$program" make-table "$side" "$mask" "table $mask" >/dev/null
+# The mask of the mirror images of a mask's tiles.
+mirrored() { # MASK
+    local tile image=0
+    for ((tile = 1; tile < side * side; tile++)); do
+        image=$((image | ($1 >> tile & 1) << (tile % side * side + tile / side)))
     done
-    tables=("${masks[@]/#/table }")
-    echo set "${!masks[@]}" >sets
+    echo "$image"
+}
+
+# The files, all in the temporary folder, where the script stands from then on. The tables and the set text of plain members
+# are in one folder, those of transposed members in another.
+make_files() {
+    local number board tables
+    cc -O2 -march=x86-64-v2 -o make_log "$root/benches/make_log.c"
+    mkdir plain transposed
+    for number in "${!masks[@]}"; do
+        "$program" make-table "$side" "${masks[number]}" "plain/table_$number" >/dev/null
+        "$program" make-table "$side" "$(mirrored "${masks[number]}")" "transposed/table_$number" >/dev/null
+    done
+    tables=(plain/table_*)
+    echo set "${!masks[@]}" >plain/sets
+    sed 's/[0-9]/&t/g' plain/sets >transposed/sets
     board=$(./make_log board "$side" "$seed")
     echo "$board" >board
     ./make_log log "$board" 0 0 leaf "${tables[@]}" >/dev/null
@@ -55,38 +71,40 @@ make_files() {
     local log
     for log in one many; do
         cp "$log" "$log refused"
-        printf '\2' | dd of="$log refused" bs=1 seek=4 conv=notrunc status=none
+        printf '\3' | dd of="$log refused" bs=1 seek=4 conv=notrunc status=none
         read -r _ bound _ "lemmas[$log]" _ _ "bytes[$log]" _ < <(./make_log check "$log" "${tables[@]}")
     done
 }
 
-# One run, under a name, with a log and so many workers, that has to answer this line.
-measure() { # NAME LINE LOG WORKERS
+# One run, under a name, by members of a kind, with a log and so many workers, that has to answer this line.
+measure() { # NAME LINE KIND LOG WORKERS
     local begin end
     begin=${EPOCHREALTIME/./}
-    "$program" bound board sets "$3" "${tables[@]}" --workers "$4" >output || true
+    "$program" bound board "$3/sets" "$4" "$3"/table_* --workers "$5" >output || true
     end=${EPOCHREALTIME/./}
-    grep -qx "$2" output || fail "no line '$2' for the log '$3': $(<output)"
+    grep -qx "$2" output || fail "no line '$2' for the log '$4': $(<output)"
     times[$1]+=$((end - begin))$'\n'
 }
 
 # The peer on the same log, in hundredths of a nanosecond a byte of the trees.
 measure_peer() { # LOG
     local told
-    told=$(./make_log check "$1" "${tables[@]}")
+    told=$(./make_log check "$1" plain/table_*)
     times[make_log $1]+=$(awk '{ printf "%d", 100 * $NF }' <<<"$told")$'\n'
 }
 
 measure_all() {
     local log workers
     for log in one many; do
-        measure "$log refused" 'refused L1' "$log refused" 1
+        measure "$log refused" 'refused L1' plain "$log refused" 1
         measure_peer "$log"
     done
-    measure 'one 1' "bound $bound" one 1
+    measure 'one 1' "bound $bound" plain one 1
+    measure 'transposed leaf' 'bound 0' transposed leaf 1
+    measure 'transposed one' "bound $bound" transposed one 1
     for workers in 1 2 4; do
-        measure "leaf $workers" 'bound 0' leaf "$workers"
-        measure "many $workers" "bound $bound" many "$workers"
+        measure "leaf $workers" 'bound 0' plain leaf "$workers"
+        measure "many $workers" "bound $bound" plain many "$workers"
     done
 }
 
@@ -111,7 +129,7 @@ median_beyond() {
 
 # The KiB that were resident in one run, with this log and so many workers.
 peak() {
-    local words=(bound board sets "$1" "${tables[@]}" --workers "$2")
+    local words=(bound board plain/sets "$1" plain/table_* --workers "$2")
     if [ -x /usr/bin/time ]; then
         /usr/bin/time -f %M "$program" "${words[@]}" 2>&1 >/dev/null | tail -n 1
     else
@@ -132,6 +150,14 @@ log_row() { # LOG
             tables / 1e3, some_tables / 1e3, log_time / 1e3, logs / 1e3
         printf "%.1f (%.1f) | %.1f (%.1f) | %.1f (%.1f) | %.2f | %.1f |\n", 1e3 * log_time / bytes, 1e3 * logs / bytes,
             1e3 * walk / bytes, 1e3 * walks / bytes, peer / 100, peers / 100, 1e5 * walk / bytes / peer, peak / 1024 }'
+}
+
+# The log of one lemma by members of a kind: the names of its runs and of those on a log of one leaf.
+members_row() { # KIND RUN LEAF
+    awk -v kind="$1" -v bytes="${bytes[one]}" -v run="$(least "$2")" -v runs="$(median "$2")" \
+        -v log_time="$(least_beyond "$2" "$3")" -v logs="$(median_beyond "$2" "$3")" 'BEGIN {
+        printf "| %s | %.1f (%.1f) | %.1f (%.1f) | %.1f (%.1f) |\n", kind, run / 1e3, runs / 1e3,
+            log_time / 1e3, logs / 1e3, 1e3 * log_time / bytes, 1e3 * logs / bytes }'
 }
 
 # The log of many lemmas, checked by so many workers.
@@ -167,6 +193,11 @@ echo '|---|---|---|---|---|---|---|---|---|---|'
 for log in one many; do
     log_row "$log"
 done
+echo
+echo '| members, one lemma | run, ms | log, ms | log, ns a tree byte |'
+echo '|---|---|---|---|'
+members_row plain 'one 1' 'leaf 1'
+members_row transposed 'transposed one' 'transposed leaf'
 echo
 echo "| workers, ${lemmas[many]} lemmas | run, ms | times as fast | tables, ms | log, ms | times as fast | peak, MiB |"
 echo '|---|---|---|---|---|---|---|'

@@ -196,7 +196,9 @@ for words in rplay 'replay a b' 'replay --workers 2' 'replay --workers 2 solved'
     optimal 'optimal p s l' 'optimal p s l t --workers x' make-table 'make-table 2' 'make-table 2 14' 'make-table x 2 o' \
     'make-table 2 x o' 'make-table -2 14 o' 'make-table 256 2 o' 'make-table 2 4294967296 o' 'make-table 2 14 o p' \
     'make-table 2 14 o --workers 0' 'make-table 2 14 o --budget 1' solve 'solve b s o' 'solve --budget 0 b s o t' \
-    'solve b s o t --budget 1000000000001' 'solve b s o t --budget x' 'solve b s o t --workers 65'; do
+    'solve b s o t --budget 1000000000001' 'solve b s o t --budget x' 'solve b s o t --workers 65' \
+    'table F1 --fold' 'replay solved --fold' 'make-table 2 14 o --fold' --fold 'bound b s l --fold' 'bound b s l t --fold=1' \
+    'optimal p s l t --fold --fold' 'solve b s o --fold'; do
     # shellcheck disable=SC2086
     run $words
     check "the mistake in $words" told_a_mistake
@@ -411,55 +413,162 @@ claim() {
     done
 }
 
-claim 0 'bound 6' F123 leaf : bound board one_set leaf F123
+# The same, over tables as they are and over folded ones.
+either_way() {
+    claim "$@"
+    claim "$@" --fold
+}
+
+either_way 0 'bound 6' F123 leaf : bound board one_set leaf F123
 changed leaf 14 07 leaf_of_7
-claim 1 'refused L6 at lemma 0' F123 leaf_of_7 : bound board one_set leaf_of_7 F123
-claim 0 'bound 6' F12 branches : bound board one_set branches F12
+either_way 1 'refused L6 at lemma 0' F123 leaf_of_7 : bound board one_set leaf_of_7 F123
+either_way 0 'bound 6' F12 branches : bound board one_set branches F12
 { head -c 18 branches && bytes 0A && head -c 29 branches | tail -c 10; } >branches_without_the_last
-claim 1 'refused L6 at lemma 0' F12 branches_without_the_last : bound board one_set branches_without_the_last F12
+either_way 1 'refused L6 at lemma 0' F12 branches_without_the_last : bound board one_set branches_without_the_last F12
 head -c 29 branches >branches_cut_short
-claim 1 'refused L2 at lemma 0' F12 branches_cut_short : bound board one_set branches_cut_short F12
+either_way 1 'refused L2 at lemma 0' F12 branches_cut_short : bound board one_set branches_cut_short F12
 { cat branches && bytes 00; } >branches_with_a_byte_more
-claim 1 'refused L2 at lemma 1' F12 branches_with_a_byte_more : bound board one_set branches_with_a_byte_more F12
-claim 0 'bound 6' F12 citation : bound board one_set citation F12
+either_way 1 'refused L2 at lemma 1' F12 branches_with_a_byte_more : bound board one_set branches_with_a_byte_more F12
+either_way 0 'bound 6' F12 citation : bound board one_set citation F12
 changed citation 39 01 citation_of_itself
-claim 1 'refused L6 at lemma 1' F12 citation_of_itself : bound board one_set citation_of_itself F12
-claim 1 'refused S3 at line 0' F12 F1 branches : bound board pair branches F12 F1
-claim 0 'bound 6' F12 F3 leaf : bound board pair leaf F12 F3
-claim 1 'refused S4 at table 1' F1 F24 leaf : bound board pair leaf F1 F24
+either_way 1 'refused L6 at lemma 1' F12 citation_of_itself : bound board one_set citation_of_itself F12
+either_way 1 'refused S3 at line 0' F12 F1 branches : bound board pair branches F12 F1
+either_way 0 'bound 6' F12 F3 leaf : bound board pair leaf F12 F3
+either_way 1 'refused S4 at table 1' F1 F24 leaf : bound board pair leaf F1 F24
 printf 'set 0\nset 1 0\n' >descending
-claim 1 'refused S1 at line 1' F12 F3 leaf : bound board descending leaf F12 F3
+either_way 1 'refused S1 at line 1' F12 F3 leaf : bound board descending leaf F12 F3
 echo '0 1 3 2' >unsolvable_board
-claim 0 'bound 255' F123 unsolvable : bound unsolvable_board one_set unsolvable F123
+either_way 0 'bound 255' F123 unsolvable : bound unsolvable_board one_set unsolvable F123
 echo '3 0 1 2' >another_board
 echo '1 0 2 3' >next_board
-claim 1 'refused L5' F123 leaf : bound another_board one_set leaf F123
-claim 0 'optimal 6' F12 branches : optimal six_moves one_set branches F12
+either_way 1 'refused L5' F123 leaf : bound another_board one_set leaf F123
+either_way 0 'optimal 6' F12 branches : optimal six_moves one_set branches F12
 echo '3 2 1 0 ; ULDRULRL' >eight_moves
-claim 1 'refused O1 solution 8 bound 6' F12 branches : optimal eight_moves one_set branches F12
-claim 1 'refused T7 at entry 14 of table 0' F123_with_02 leaf : bound board one_set leaf F123_with_02
-claim 1 'refused T7 at entry 0 of table 1' F123 F12_with_FE leaf : bound board one_set leaf F123 F12_with_FE
-claim 1 'refused T6 of table 1' F12 F123_with_a_byte_more leaf : bound board one_set leaf F12 F123_with_a_byte_more
+either_way 1 'refused O1 solution 8 bound 6' F12 branches : optimal eight_moves one_set branches F12
+either_way 1 'refused T7 at entry 14 of table 0' F123_with_02 leaf : bound board one_set leaf F123_with_02
+either_way 1 'refused T7 at entry 0 of table 1' F123 F12_with_FE leaf : bound board one_set leaf F123 F12_with_FE
+either_way 1 'refused T6 of table 1' F12 F123_with_a_byte_more leaf : bound board one_set leaf F12 F123_with_a_byte_more
 echo '0 1 2 2' >no_board
-claim 1 'refused B5 at number 3' F123 leaf : bound no_board one_set leaf F123
+either_way 1 'refused B5 at number 3' F123 leaf : bound no_board one_set leaf F123
 seventeen=$(printf 'F123 %.0s' {1..17})
 # shellcheck disable=SC2086
-claim 1 'refused S5' $seventeen leaf : bound board one_set leaf $seventeen
+either_way 1 'refused S5' $seventeen leaf : bound board one_set leaf $seventeen
 # shellcheck disable=SC2086
-claim 1 'refused T6 of table 17' $seventeen F123_with_a_byte_more leaf : bound board one_set leaf $seventeen F123_with_a_byte_more
+either_way 1 'refused T6 of table 17' $seventeen F123_with_a_byte_more leaf : bound board one_set leaf $seventeen F123_with_a_byte_more
 echo 'set 1' >table_1
-claim 1 'refused S2 at line 0' F12 branches : bound board table_1 branches F12
-claim 1 'refused L4' F24 leaf : bound board one_set leaf F24
-claim 1 'refused L1' F123 empty : bound board one_set empty F123
+either_way 1 'refused S2 at line 0' F12 branches : bound board table_1 branches F12
+either_way 1 'refused L4' F24 leaf : bound board one_set leaf F24
+either_way 1 'refused L1' F123 empty : bound board one_set empty F123
 changed leaf 10 02 leaf_of_no_board
-claim 1 'refused L3 at lemma 0' F123 leaf_of_no_board : bound board one_set leaf_of_no_board F123
-claim 1 'refused P1' F12 branches : optimal board one_set branches F12
+either_way 1 'refused L3 at lemma 0' F123 leaf_of_no_board : bound board one_set leaf_of_no_board F123
+either_way 1 'refused P1' F12 branches : optimal board one_set branches F12
 echo '3 2 1 0 ; U' >one_move
-claim 1 'refused M4' F12 branches : optimal one_move one_set branches F12
+either_way 1 'refused M4' F12 branches : optimal one_move one_set branches F12
 echo '3 2 1 0 ; R' >off_the_board
-claim 1 'refused M2 at step 0' F12 branches : optimal off_the_board one_set branches F12
-claim 1 'refused L6 at lemma 0' F12 leaf : optimal six_moves one_set leaf F12
-claim 1 'refused T7 at entry 0 of table 0' F12_with_FE branches : optimal six_moves one_set branches F12_with_FE
+either_way 1 'refused M2 at step 0' F12 branches : optimal off_the_board one_set branches F12
+either_way 1 'refused L6 at lemma 0' F12 leaf : optimal six_moves one_set leaf F12
+either_way 1 'refused T7 at entry 0 of table 0' F12_with_FE branches : optimal six_moves one_set branches F12_with_FE
+
+#
+# Transposed members.
+#
+
+bytes '50 44 42 54 01 02 01 00 00 00 00 04 00 00 00 00 00 00 00 08 01 FE 02 FE 00 FE 01 FE' >F2
+echo 'set 0 0t' >with_mirror
+echo 'set 0 0t 1' >with_mirror_and_1
+echo 'set 0t' >mirror
+echo 'set 0 1t' >with_mirror_of_1
+changed leaf 14 04 leaf_of_4
+changed leaf 14 05 leaf_of_5
+either_way 0 'bound 4' F1 leaf_of_4 : bound board with_mirror leaf_of_4 F1
+either_way 1 'refused L6 at lemma 0' F1 leaf_of_5 : bound board with_mirror leaf_of_5 F1
+either_way 0 'bound 6' F1 F3 leaf : bound board with_mirror_and_1 leaf F1 F3
+either_way 0 'optimal 6' F1 F3 leaf : optimal six_moves with_mirror_and_1 leaf F1 F3
+either_way 0 'bound 6' F12 branches : bound board mirror branches F12
+either_way 0 'bound 255' F123 unsolvable : bound unsolvable_board mirror unsolvable F123
+either_way 1 'refused S3 at line 0' F12 F1 branches : bound board with_mirror_of_1 branches F12 F1
+either_way 1 'refused S3 at line 0' F1 F1 leaf : bound board pair leaf F1 F1
+
+# The first refusal of a set text over these tables: refused_set REFUSAL TEXT TABLE..
+refused_set() {
+    local refusal=$1
+    printf '%b' "$2" >sets
+    shift 2
+    either_way 1 "refused $refusal" "$@" leaf : bound board sets leaf "$@"
+}
+
+refused_set 'S6 at line 0' 'set 0 0t\n' F12
+refused_set 'S6 at line 0' 'set 0 0t\n' F3
+refused_set 'S6 at line 0' 'set 0 1t\n' F1 F2
+refused_set 'S6 at line 0' 'set 0t 1t\n' F1 F1
+refused_set 'S6 at line 1' 'set 0 1\nset 0 0t\n' F12 F1
+refused_set 'S2 at line 1' 'set 0 0t\nset 1t\n' F12
+for line in 'set 0t 0' 'set 0T' 'set 0t 0t' 'set 0 t' 'set 0tt' 'set t0' 'set 00t' 'set 0t '; do
+    refused_set 'S1 at line 0' "$line\n" F1
+done
+refused_set 'S1 at line 0' 'set 0t' F1
+sixteen=$(printf 'set 0t\\n%.0s' {1..16})
+refused_set S5 "${sixteen}set 0t\n" F1
+refused_set 'S1 at line 16' "${sixteen}set 0t" F1
+refused_set 'S1 at line 16' "${sixteen}set 0t 0\n" F1
+printf '%b' "$sixteen" >sixteen_mirrors
+either_way 0 'bound 6' F12 branches : bound board sixteen_mirrors branches F12
+
+#
+# Logs of version 2, and parity leaves.
+#
+
+# Two branches on each side, and then a leaf that reaches by its parity alone.
+bytes '50 44 42 4C 02 02 00 00 00 01 03 02 01 00 06 00 00 00 05 00 00 41 00 41' >by_parity
+either_way 0 'bound 6' F12 by_parity : bound board one_set by_parity F12
+either_way 0 'optimal 6' F12 by_parity : optimal six_moves one_set by_parity F12
+either_way 0 'bound 6' F12 by_parity : bound board mirror by_parity F12
+changed by_parity 14 07 by_parity_7
+either_way 1 'refused L6 at lemma 0' F12 by_parity_7 : bound board one_set by_parity_7 F12
+changed by_parity 4 01 by_parity_1
+either_way 1 'refused L6 at lemma 0' F12 by_parity_1 : bound board one_set by_parity_1 F12
+for version in 00 03 04 41 FF; do
+    changed by_parity 4 "$version" another_version
+    either_way 1 'refused L1' F12 another_version : bound board one_set another_version F12
+done
+# A branch without its child, a leaf that says 3 where 4 remain, a citation without its number; the others are no nodes, or
+# leaves of a set that isn't there.
+for node in 00 01 02 10 11 20 40 42 43 50 51; do
+    changed by_parity 23 "$node" other_node
+    either_way 1 'refused L6 at lemma 0' F12 other_node : bound board one_set other_node F12
+done
+changed branches 4 02 branches_2
+either_way 0 'bound 6' F12 branches_2 : bound board one_set branches_2 F12
+changed citation 4 02 citation_2
+either_way 0 'bound 6' F12 citation_2 : bound board one_set citation_2 F12
+changed leaf 4 02 leaf_2
+either_way 0 'bound 6' F123 leaf_2 : bound board one_set leaf_2 F123
+changed leaf_2 19 41 parity_leaf
+either_way 0 'bound 6' F123 parity_leaf : bound board one_set parity_leaf F123
+changed parity_leaf 14 07 parity_leaf_of_7
+either_way 1 'refused L6 at lemma 0' F123 parity_leaf_of_7 : bound board one_set parity_leaf_of_7 F123
+changed parity_leaf 19 42 parity_leaf_of_set_1
+either_way 1 'refused L6 at lemma 0' F123 parity_leaf_of_set_1 : bound board one_set parity_leaf_of_set_1 F123
+changed unsolvable 4 02 unsolvable_2
+changed unsolvable_2 19 41 parity_leaf_of_never
+either_way 0 'bound 255' F123 parity_leaf_of_never : bound unsolvable_board one_set parity_leaf_of_never F123
+
+#
+# Folded tables.
+#
+
+# A board of which the table of 1 and 2 says never for the blank in cell 0, and 4 for the blank in cell 3.
+bytes '50 44 42 4C 01 02 00 00 00 01 00 02 01 03 05 00 00 00 01 01' >never_leaf
+echo '0 2 1 3' >folded_board
+claim 0 'bound 5' F12 never_leaf : bound folded_board one_set never_leaf F12
+claim 1 'refused L6 at lemma 0' F12 never_leaf : bound folded_board one_set never_leaf F12 --fold
+changed never_leaf 14 04 leaf_of_the_other_region
+either_way 0 'bound 4' F12 leaf_of_the_other_region : bound folded_board one_set leaf_of_the_other_region F12
+claim 0 'bound 6' F12 branches : bound --fold board one_set branches F12
+
+#
+# Inputs of a claim that are not there, or too long.
+#
 
 expect 'a log that is not there' 2 'fault read L' : bound board one_set L F123
 expect 'sets that are not there' 2 'fault read S' : bound board S L F123
@@ -511,8 +620,10 @@ refusals=0
 limit_memory replay solved
 limit_memory table all_of_side_3 --workers 64
 limit_memory optimal six_moves one_set branches F12 --workers 7
+limit_memory optimal six_moves one_set branches F12 --workers 7 --fold
 limit_memory make-table 3 126 made --workers 7
 limit_memory solve board one_set made F12 --workers 7
+limit_memory solve board one_set made F12 --fold
 rm -f made
 check 'memory was refused to some runs' [ "$refusals" -gt 0 ]
 
@@ -520,7 +631,10 @@ check 'memory was refused to some runs' [ "$refusals" -gt 0 ]
 for words in '' 'table F123' 'table F123 --workers 2' 'table F123_with_02' 'make-table 5 16777216 made' \
     'bound board one_set leaf F123' 'bound board one_set branches_without_the_last F12' \
     'bound board one_set citation F12' 'bound board one_set citation F12 --workers 2' \
-    'optimal six_moves one_set branches F12' 'solve next_board one_set made F123'; do
+    'bound board with_mirror_and_1 leaf F1 F3 --workers 2' 'bound board one_set by_parity F12' \
+    'bound board one_set citation F12 --fold' 'bound board pair leaf F12 F3 --fold --workers 2' \
+    'optimal six_moves one_set branches F12' 'optimal six_moves one_set branches F12 --fold' \
+    'solve next_board one_set made F123' 'solve board with_mirror_and_1 made F1 F3' 'solve board one_set made F12 --fold'; do
     status=0
     # shellcheck disable=SC2086
     PROGRAM=$bare "$root/tools/refuse_memory.sh" $words <solved >"$work/output" 2>"$work/errors" || status=$?
@@ -555,11 +669,15 @@ limit_stack table F123
 limit_stack table F12 --workers 7
 limit_stack table all_of_side_3 --workers 64
 limit_stack bound board one_set citation "${most_tables[@]}" --workers 64
+limit_stack bound board sixteen_mirrors citation "${most_tables[@]}" --workers 64
 limit_stack optimal six_moves one_set branches "${most_tables[@]}" --workers 64
+limit_stack optimal six_moves one_set branches "${most_tables[@]}" --workers 64 --fold
 limit_stack make-table 2 14 made
 limit_stack make-table 3 126 made --workers 64
 limit_stack solve next_board one_set made F123
 limit_stack solve board one_set made "${most_tables[@]}" --workers 64
+limit_stack solve board sixteen_mirrors made "${most_tables[@]}" --workers 64
+limit_stack solve board sixteen_mirrors made "${most_tables[@]}" --workers 64 --fold
 rm -f made
 
 #
@@ -625,33 +743,51 @@ check 'the file is replaced' cmp -s taken F12
 rm taken
 
 # What is found for a board must be told with its log's digest, and `optimal` must say the same of it:
-# solved BOARD MOVES TABLE WORD..
+# solved BOARD MOVES SETS FILES WORD..
 solved() {
-    local board=$1 moves=$2 file=$3 table log letters
-    shift 3
+    local board=$1 moves=$2 sets=$3 files=() lines=() file digest letters fold=
+    read -ra files <<<"$4"
+    shift 4
+    [[ $* != *--fold* ]] || fold=yes
     rm -f made
     names_before=$(names_of)
-    table=$(sha256sum <"$file")
-    run solve "$board" one_set made "$file" "$@"
-    log=$(sha256sum 2>/dev/null <made)
-    letters=$(sed -n '3s/^moves *//p' "$work/output")
-    check "solve $board $*" wrote 0 "sha256 ${table%% *}" "sha256 ${log%% *}" "moves${letters:+ $letters}" "optimal $moves"
-    check "solve $board $* tells as many letters" [ "${#letters}" = "$moves" ]
-    check "solve $board $* keeps nothing else" only_new made
+    run solve "$board" "$sets" made "${files[@]}" "$@"
+    for file in "${files[@]}" made; do
+        digest=$(sha256sum 2>/dev/null <"$file")
+        lines+=("sha256 ${digest%% *}")
+    done
+    letters=$(sed -n 's/^moves *//p' "$work/output")
+    check "solve $board $sets $*" wrote 0 "${lines[@]}" "moves${letters:+ $letters}" "optimal $moves"
+    check "solve $board $sets $* tells as many letters" [ "${#letters}" = "$moves" ]
+    check "solve $board $sets $* keeps nothing else" only_new made
+    check "solve $board $sets $* makes a log of version 2" [ "$(od -An -tu1 -j 4 -N 1 made)" -eq 2 ]
     { cat "$board" && echo "; $letters"; } >"$work/puzzle"
-    expect "optimal of what solve $board $* found" 0 "sha256 ${table%% *}" "sha256 ${log%% *}" "optimal $moves" : \
-        optimal "$work/puzzle" one_set made "$file"
+    expect "optimal of what solve $board $sets $* found" 0 "${lines[@]}" "optimal $moves" : \
+        optimal "$work/puzzle" "$sets" made "${files[@]}" ${fold:+--fold}
 }
 
 echo '0 1 2 3' >solved_board
-solved solved_board 0 F123
-solved next_board 1 F123
-solved board 6 F12
-solved board 6 F123 --workers 7
-solved board 6 F12 --workers 2 --budget 1000
+solved solved_board 0 one_set F123
+solved next_board 1 one_set F123
+solved board 6 one_set F12
+check 'the log with parity leaves that is made' cmp -s by_parity made
+solved board 6 one_set F123 --workers 7
+check 'the log of one leaf that is made' cmp -s leaf_2 made
+solved board 6 one_set F12 --workers 2 --budget 1000
+solved board 6 mirror F12
+solved board 6 with_mirror F1
+solved board 6 with_mirror_and_1 'F1 F3' --workers 2
+for workers in 1 2 7; do
+    solved next_board 1 one_set F123 --fold --workers "$workers"
+    solved board 6 one_set F12 --fold --workers "$workers"
+done
+check 'the same log over folded tables' cmp -s by_parity made
+solved board 6 pair 'F12 F3' --fold
+solved board 6 mirror F12 --fold
 rm -f made
 names_before=$(names_of)
-for words in 'unsolvable_board F123 K2' 'solved_board F24 L4' 'board F12 K1 --budget 1'; do
+for words in 'unsolvable_board F123 K2' 'solved_board F24 L4' 'board F12 K1 --budget 1' 'unsolvable_board F123 K2 --fold' \
+    'folded_board F12 K2' 'folded_board F12 K2 --fold' 'board F12 K1 --fold --budget 1'; do
     read -r board file refusal flags <<<"$words"
     digest=$(sha256sum <"$file")
     # shellcheck disable=SC2086

@@ -3,18 +3,21 @@ and searches."""
 
 import functools
 import itertools
+from dataclasses import dataclass
 
 from plain_answers import (
     BRANCH,
     CITATION,
     LETTERS,
     REVERSE,
+    Member,
     goal,
+    leaves_of,
     moved,
     read_sets,
     read_table,
+    read_tables,
     side_of,
-    sum_of,
     table_of,
     ways,
 )
@@ -73,30 +76,34 @@ def table(draw, side=None):
 
 
 def set_text(draw, tables):
-    """A set text over these table files. The tables of a line have no tile in common."""
-    masks = [read_table(file).pattern.mask for file in tables]
+    """A set text over these table files, with some members transposed. The members of a line have no tile in common."""
+    tables = [read_table(file) for file in tables]
     lines = b""
     for _ in range(draw.choice([1, 1, 1, 1, 2, 2, 3, 3, 16])):
-        taken, line = 0, []
-        for number in sorted(draw.sample(range(len(tables)), draw.randint(1, len(tables)))):
-            if not masks[number] & taken:
-                taken |= masks[number]
-                line.append(number)
-        lines += b"set " + b" ".join(b"%d" % number for number in line) + b"\n"
+        kinds = draw.choice([[False], [False], [True], [False, True]])
+        members = [(number, is_transposed) for number in range(len(tables)) for is_transposed in kinds]
+        taken, line = set(), []
+        for number, is_transposed in sorted(draw.sample(members, draw.randint(1, len(members)))):
+            tiles = Member(tables[number], is_transposed).tiles
+            if not tiles & taken:
+                taken |= tiles
+                line.append((b"%dt" if is_transposed else b"%d") % number)
+        lines += b"set " + b" ".join(line) + b"\n"
     return lines
 
 
 class Prover:
-    """Trees that refute, over sets and the lemmas that were proved before."""
+    """Trees that refute in a log of a version, over sets and the lemmas that were proved before."""
 
-    def __init__(self, draw, sets):
+    def __init__(self, draw, sets, version):
         self.draw, self.lemmas, self.nodes = draw, [], 0
-        self.sums = functools.cache(lambda board: [sum_of(tables, board) for tables in sets])
+        leaves = leaves_of(sets, version)
+        self.said = functools.cache(lambda board: {byte: says(board) for byte, says in leaves.items()})
 
     def leaves(self, board, remaining):
-        for number, says in enumerate(self.sums(board)):
+        for byte, says in self.said(board).items():
             if says is None or says >= remaining:
-                yield bytes([number + 1])
+                yield bytes([byte])
 
     def citations(self, board, remaining):
         for number, (claimed, bound, _) in enumerate(self.lemmas):
@@ -125,9 +132,9 @@ class Prover:
         return tree
 
     def prove(self, board, bound):
-        """Adds a lemma of the board with the greatest bound up to this one that is found at once. A leaf of any set proves
-        what that set says."""
-        told = min((bound if says is None else says for says in self.sums(board)), default=0)
+        """Adds a lemma of the board with the greatest bound up to this one that is found at once. Any leaf proves what it
+        says."""
+        told = min((bound if says is None else says for says in self.said(board).values()), default=0)
         for claimed in (bound, (bound + told) // 2, min(bound, told)):
             self.nodes = 0
             tree = self.tree(board, claimed)
@@ -136,9 +143,9 @@ class Prover:
                 return
 
 
-def log_of(lemmas):
+def log_of(version, lemmas):
     side = side_of(lemmas[0][0])
-    return b"PDBL" + bytes([1, side]) + len(lemmas).to_bytes(4, "big") + b"".join(
+    return b"PDBL" + bytes([version, side]) + len(lemmas).to_bytes(4, "big") + b"".join(
         bytes(board) + bytes([bound]) + len(tree).to_bytes(4, "big") + tree for board, bound, tree in lemmas
     )
 
@@ -149,12 +156,26 @@ def unsolvable(board):
     return tuple({one: other, other: one}.get(number, number) for number in board)
 
 
+@dataclass(frozen=True)
+class Claim:
+    """A board, the letters of a solution of it or None, a set text, the version and the lemmas of a log, table files, and
+    whether the log is over folded tables."""
+
+    board: tuple
+    letters: str | None
+    sets: bytes
+    version: int
+    lemmas: list
+    tables: list
+    fold: bool
+
+
 def claim(draw):
-    """A board, the letters of a solution of it or None, a set text, a log and tables."""
     side = draw.choice([2] * 5 + [3] * 3 + [4, 5])
     files = [table(draw, side) for _ in range(draw.choice([1, 1, 2, 2, 3, 16]))]
     sets_text = set_text(draw, files)
-    prover = Prover(draw, read_sets(sets_text, [read_table(file) for file in files]))
+    version, fold = draw.choice([1, 2]), draw.random() < 0.3
+    prover = Prover(draw, read_sets(sets_text, read_tables(files, fold)), version)
     board, letters = walk(draw, side, draw.randint(0, {2: 7, 3: 14, 4: 10, 5: 8}[side]))
     if draw.random() < 0.15:
         board, letters = unsolvable(board), None
@@ -165,7 +186,7 @@ def claim(draw):
         prover.prove(nearby, draw.randint(0, 10))
     steps = len(letters) if letters is not None else draw.choice([3, 8, 255])
     prover.prove(board, steps)
-    return board, letters, sets_text, prover.lemmas, files
+    return Claim(board, letters, sets_text, version, prover.lemmas, files, fold)
 
 
 def side_and_mask(draw):

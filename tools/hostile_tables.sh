@@ -26,21 +26,23 @@ trap 'rm -r "$work"' EXIT
 mkdir "$work/files"
 cd "$work/files" || exit 2
 
-# The files: tables of the tiles 1, 2 and 3, of 1 and 2, and of four and six tiles of side 3, the logs and texts of the page,
-# and those of docs/TOUR.md.
+# The files: tables of the tiles 1, 2 and 3, of 1 and 2, of 1, of 3, and of four and six tiles of side 3, the logs and texts of
+# the page, and those of docs/TOUR.md.
 python3 - "$root" <<'END' || exit 2
 import pathlib, sys
 sys.path.insert(0, sys.argv[1] + "/tools")
 from plain_answers import table_of
-tables = {"F123": (2, 14), "F12": (2, 6), "four_tiles": (3, 30), "six_tiles": (3, 126)}
+tables = {"F123": (2, 14), "F12": (2, 6), "F1": (2, 2), "F3": (2, 8), "four_tiles": (3, 30), "six_tiles": (3, 126)}
 files = {name: table_of(*pattern) for name, pattern in tables.items()}
 files["wrong"] = files["F123"][:34] + b"\2" + files["F123"][35:]
 head, board = b"PDBL\1\2\0\0\0", b"\3\2\1\0\6\0\0\0"
 files["G13"] = head + b"\1" + board + b"\1\1"
 files["G14"] = head + b"\1" + board + b"\x0b\0\0\0\0\0\1\0\0\0\0\1"
 files["G14_cut"] = head + b"\1" + board + b"\x0a\0\0\0\0\0\1\0\0\0\0"
+files["G16"] = b"PDBL\2\2\0\0\0\1" + board + b"\5\0\0\x41\0\x41"
 files["G15"] = head + b"\2\3\0\1\2\5\0\0\0\6\0\1\0\0\0\1" + board + b"\x0b\0\x20\0\0\0\0\0\0\0\0\1"
-files |= {"board": b"3 2 1 0\n", "next": b"1 0 2 3\n", "sets": b"set 0\n", "puzzle": b"3 2 1 0 ; ULDRUL\n"}
+files |= {"board": b"3 2 1 0\n", "next": b"1 0 2 3\n", "puzzle": b"3 2 1 0 ; ULDRUL\n"}
+files |= {"sets": b"set 0\n", "mirrors": b"set 0 0t 1\n"}
 for name, data in files.items():
     pathlib.Path(name).write_bytes(data)
 END
@@ -109,8 +111,12 @@ memory '`bound` of G14 with its last byte cut off its tree, F12' bound board set
 row '`bound board sets G15 F12`' bound board sets G15 F12
 row '`bound board sets G15 F12 --workers 2`' bound board sets G15 F12 --workers 2
 row '`bound board sets G15 F12 --workers 7`' bound board sets G15 F12 --workers 7
+row '`bound board sets G16 F12`' bound board sets G16 F12
+row '`bound board mirrors G13 F1 F3 --workers 2`' bound board mirrors G13 F1 F3 --workers 2
+row '`bound board sets G15 F12 --fold --workers 2`' bound board sets G15 F12 --fold --workers 2
 row '`optimal puzzle sets G14 F12`' optimal puzzle sets G14 F12
 row '`optimal puzzle sets G14 F12 --workers 7`' optimal puzzle sets G14 F12 --workers 7
+row '`optimal puzzle sets G14 F12 --fold`' optimal puzzle sets G14 F12 --fold
 tour='tour/sets tour/log tour/tiles_1_to_4 tour/tiles_5_to_8'
 # shellcheck disable=SC2086
 memory '`bound` on the files of [TOUR.md](TOUR.md) `--workers 7`' bound tour/board $tour --workers 7
@@ -129,6 +135,8 @@ calls '`solve board sets o F12`' solve board sets o F12
 calls 'the same beside an `o.unkept`' solve board sets left F12
 row '`solve board sets o F12 --workers 2`' solve board sets o F12 --workers 2
 row '`solve board sets o F12 --workers 7`' solve board sets o F12 --workers 7
+row '`solve board mirrors o F1 F3`' solve board mirrors o F1 F3
+row '`solve board sets o F12 --fold`' solve board sets o F12 --fold
 row '`--help`' --help
 echo "$passed passed, $failed failed"
 [ "$failed" = 0 ]

@@ -19,7 +19,7 @@ LETTERS = b"UDLR"
 REVERSE = {"U": "D", "D": "U", "L": "R", "R": "L"}
 MOST_TILES = {2: 3, 3: 8, 4: 8, 5: 6}
 NO_REGION, NEVER = 254, 255
-BRANCH, CITATION = 0x00, 0x20
+BRANCH, LEAF, CITATION, PARITY_LEAF = 0x00, 0x01, 0x20, 0x41
 TEXT_LIMIT, LOG_LIMIT, TABLE_LIMIT = 65_536, 2**30, 2**32
 MOST_LEMMAS = 1_048_576
 MANY_ENTRIES = 65_536
@@ -70,6 +70,18 @@ def moved(board, letter):
     cells = list(board)
     cells[blank], cells[to] = cells[to], 0
     return tuple(cells)
+
+
+def mirrored(side, cell):
+    """The cell across the diagonal from the upper left to the lower right."""
+    row, column = divmod(cell, side)
+    return column * side + row
+
+
+def transposed(board):
+    """The board with each cell and each number mirrored. The number 0 is its own mirror image, as cell 0 is."""
+    side = side_of(board)
+    return tuple(mirrored(side, board[mirrored(side, cell)]) for cell in range(side * side))
 
 
 # Texts.
@@ -175,8 +187,11 @@ class Pattern:
                     found.append(self.entry_of(after, cell))
         return found
 
+    def placement_on(self, board):
+        return tuple(board.index(tile) for tile in self.tiles)
+
     def entry_on(self, board):
-        return self.entry_of(tuple(board.index(tile) for tile in self.tiles), board.index(0))
+        return self.entry_of(self.placement_on(board), board.index(0))
 
     @functools.cached_property
     def exact(self):
@@ -264,6 +279,26 @@ class Table:
         return self.entries[self.pattern.entry_on(board)]
 
 
+@dataclass(frozen=True)
+class FoldedTable:
+    """A table with one entry for each placement."""
+
+    pattern: Pattern
+    entries: bytes
+
+    def says(self, board):
+        return self.entries[self.pattern.rank[self.pattern.placement_on(board)]]
+
+
+@functools.lru_cache(maxsize=40)
+def folded(table):
+    """The table with the least entry of the regions of each placement."""
+    entries, width = table.entries, table.pattern.width
+    places = range(0, len(entries), width)
+    least = bytes(min(entry for entry in entries[at : at + width] if entry != NO_REGION) for at in places)
+    return FoldedTable(table.pattern, least)
+
+
 def read_header(file):
     """The pattern's side and mask."""
     if len(file) < 20:
@@ -314,55 +349,80 @@ def exact_line(table):
     )
 
 
-def read_tables(files):
+def read_tables(files, fold):
+    """The tables of the files, each folded where that is asked for."""
     tables = []
     for number, file in enumerate(files):
         try:
-            tables.append(read_table(file))
+            table = read_table(file)
         except Refused as refused:
             raise Refused(f"{refused} of table {number}") from None
+        tables.append(folded(table) if fold else table)
     return tables
 
 
 # Sets.
 
 
+@dataclass(frozen=True)
+class Member:
+    """A table of a set, which may be asked of the transposed board."""
+
+    table: Table | FoldedTable
+    is_transposed: bool
+
+    @property
+    def tiles(self):
+        """The tiles whose moves it tells."""
+        pattern = self.table.pattern
+        return {mirrored(pattern.side, tile) if self.is_transposed else tile for tile in pattern.tiles}
+
+    def says(self, board):
+        return self.table.says(transposed(board) if self.is_transposed else board)
+
+
 def read_lines(text):
-    """The table numbers of each line."""
+    """The members of each line, as the number of a table and whether it is transposed."""
     *lines, rest = text.split(b"\n")
     sets = []
     for line in lines + ([rest] if rest or not lines else []):
-        numbers = [int(word) for word in line.split(b" ")[1:]] if re.fullmatch(rb"set( (0|[1-9][0-9]?))+", line) else []
+        words = line.split(b" ")[1:] if re.fullmatch(rb"set( (0|[1-9][0-9]?)t?)+", line) else []
+        members = [(int(word.removesuffix(b"t")), word.endswith(b"t")) for word in words]
         is_cut = len(sets) == len(lines)
-        if not numbers or is_cut or any(low >= high for low, high in itertools.pairwise(numbers)):
+        if not members or is_cut or any(low >= high for low, high in itertools.pairwise(members)):
             raise Refused(f"S1 at line {len(sets)}")
-        sets.append(numbers)
+        sets.append(members)
     return sets
 
 
 def read_sets(text, tables):
-    """The tables of each set."""
+    """The members of each set."""
     if not 1 <= len(tables) <= 16:
         raise Refused("S5")
     for number, table in enumerate(tables):
         if table.pattern.side != tables[0].pattern.side:
             raise Refused(f"S4 at table {number}")
-    sets = read_lines(text)
-    if len(sets) > 16:
+    lines = read_lines(text)
+    if len(lines) > 16:
         raise Refused("S5")
-    for line, numbers in enumerate(sets):
-        if max(numbers) >= len(tables):
+    for line, members in enumerate(lines):
+        if any(number >= len(tables) for number, _ in members):
             raise Refused(f"S2 at line {line}")
-    for line, numbers in enumerate(sets):
-        for one, other in itertools.combinations(numbers, 2):
-            if tables[one].pattern.mask & tables[other].pattern.mask:
+    sets = [[Member(tables[number], is_transposed) for number, is_transposed in members] for members in lines]
+    for line, members in enumerate(sets):
+        for one, other in itertools.combinations(members, 2):
+            if one.tiles == other.tiles and (one.is_transposed or other.is_transposed):
+                raise Refused(f"S6 at line {line}")
+    for line, members in enumerate(sets):
+        for one, other in itertools.combinations(members, 2):
+            if one.tiles & other.tiles:
                 raise Refused(f"S3 at line {line}")
-    return [[tables[number] for number in numbers] for numbers in sets]
+    return sets
 
 
-def sum_of(tables, board):
-    """The sum of what a set's tables tell, or None for never."""
-    told = [table.says(board) for table in tables]
+def sum_of(members, board):
+    """The sum of what a set's members tell, or None for never."""
+    told = [member.says(board) for member in members]
     return None if NEVER in told else sum(told)
 
 
@@ -377,7 +437,7 @@ class Lemma:
 
 
 def read_lemmas(log):
-    if len(log) < 10 or log[:5] != b"PDBL\x01" or not 2 <= log[5] <= 5:
+    if len(log) < 10 or log[:4] != b"PDBL" or log[4] not in (1, 2) or not 2 <= log[5] <= 5:
         raise Refused("L1")
     cells, count, at = log[5] ** 2, int.from_bytes(log[6:10], "big"), 10
     if not 1 <= count <= MOST_LEMMAS:
@@ -402,7 +462,24 @@ class NotGood(Exception):
     """Why a lemma isn't good."""
 
 
-def node(tree, at, board, arriving, remaining, sets, earlier):
+def raised(says, board):
+    """The least number that isn't below what is said and has the parity of the blank's distance from cell 0, as the length
+    of each solution has."""
+    if says is None:
+        return None
+    return says + (says + sum(divmod(board.index(0), side_of(board)))) % 2
+
+
+def leaves_of(sets, version):
+    """What each byte that is a leaf says of a board, or None for never."""
+    leaves = {LEAF + number: functools.partial(sum_of, members) for number, members in enumerate(sets)}
+    if version == 2:
+        for number, members in enumerate(sets):
+            leaves[PARITY_LEAF + number] = lambda board, members=members: raised(sum_of(members, board), board)
+    return leaves
+
+
+def node(tree, at, board, arriving, remaining, leaves, earlier):
     """The place behind the node that begins at this place, which holds."""
     if at >= len(tree):
         raise NotGood("a node is missing")
@@ -413,7 +490,7 @@ def node(tree, at, board, arriving, remaining, sets, earlier):
         at += 1
         for letter in ways(side_of(board), board.index(0)):
             if letter != REVERSE.get(arriving):
-                at = node(tree, at, moved(board, letter), letter, remaining - 1, sets, earlier)
+                at = node(tree, at, moved(board, letter), letter, remaining - 1, leaves, earlier)
         return at
     if first == CITATION:
         number = int.from_bytes(tree[at + 1 : at + 5], "big")
@@ -422,17 +499,17 @@ def node(tree, at, board, arriving, remaining, sets, earlier):
         if earlier[number].board != board or earlier[number].bound < remaining:
             raise NotGood("a citation of a lemma that says less")
         return at + 5
-    if not 1 <= first <= len(sets):
+    if first not in leaves:
         raise NotGood("a leaf of no set, or no node")
-    says = sum_of(sets[first - 1], board)
+    says = leaves[first](board)
     if says is not None and says < remaining:
         raise NotGood("a leaf whose set says less")
     return at + 1
 
 
-def is_good(lemma, sets, earlier):
+def is_good(lemma, leaves, earlier):
     try:
-        return node(lemma.tree, 0, lemma.board, None, lemma.bound, sets, earlier) == len(lemma.tree)
+        return node(lemma.tree, 0, lemma.board, None, lemma.bound, leaves, earlier) == len(lemma.tree)
     except NotGood:
         return False
 
@@ -444,8 +521,9 @@ def read_log(log, board, tables, sets):
         raise Refused("L4")
     if lemmas[-1].board != board:
         raise Refused("L5")
+    leaves = leaves_of(sets, log[4])
     for number, lemma in enumerate(lemmas):
-        if not is_good(lemma, sets, lemmas[:number]):
+        if not is_good(lemma, leaves, lemmas[:number]):
             raise Refused(f"L6 at lemma {number}")
     return lemmas[-1].bound
 
@@ -503,7 +581,7 @@ def most_expanded(board, moves):
 
 def gives_up(board, sets, budget):
     """With which refusals a search over these sets may end."""
-    if any(sum_of(tables, board) is None for tables in sets):
+    if any(sum_of(members, board) is None for members in sets):
         return ["K2"]
     if not has_solution(board):
         return ["K1", "K2"] if budget < most_expanded(board, 255) else ["K2"]
@@ -518,6 +596,8 @@ def solved(run, ended, board, sets, tables):
     letters, log = told.group(1) if told else b"", ended.files.get(run.out, b"")
     try:
         found = {replay(board, letters), read_log(log, board, tables, sets)}
+        if log[4] != 2:
+            raise Refused("as a log of another version than the one that is made")
     except Refused as refused:
         raise Refused(f"nothing: what was found is refused {refused}") from None
     least = least_moves(board)
@@ -534,7 +614,7 @@ def solved(run, ended, board, sets, tables):
 @dataclass(frozen=True)
 class Run:
     """A command, the names that it reads, the bytes that files have, the name that it keeps under, the numbers of a side and
-    a mask, the budget of a search, and how many workers are asked for."""
+    a mask, the budget of a search, how many workers are asked for, and whether tables are to be folded."""
 
     command: str
     names: tuple
@@ -543,11 +623,13 @@ class Run:
     numbers: tuple = ()
     budget: int = 1_000_000
     workers: int = 1
+    fold: bool = False
 
     def words(self):
         names = [name for name in self.names if name != STANDARD_INPUT]
         flags = ["--workers", str(self.workers)] if self.workers != 1 else []
         flags += ["--budget", str(self.budget)] if self.budget != 1_000_000 else []
+        flags += ["--fold"] if self.fold else []
         kept = [] if self.out is None else [self.out]
         return [self.command, *flags, *map(str, self.numbers), *names[:2], *kept, *names[2:]]
 
@@ -563,15 +645,15 @@ class Ended:
     errors: bytes = b""
 
 
-def verdict(command, inputs):
-    """The line of a yes, for the bytes of the inputs in their order."""
+def verdict(command, inputs, fold):
+    """The line of a yes, for the bytes of the inputs in their order, and whether tables are folded."""
     if command == "replay":
         return f"solution {read_puzzle(inputs[0])[1]}"
     if command == "table":
         return exact_line(read_table(inputs[0]))
     text, set_text, log, *files = inputs
     board, moves = (read_board(text), None) if command == "bound" else read_puzzle(text)
-    tables = read_tables(files)
+    tables = read_tables(files, fold)
     bound = read_log(log, board, tables, read_sets(set_text, tables))
     if moves not in (None, bound):
         raise Refused(f"O1 solution {moves} bound {bound}")
@@ -614,7 +696,7 @@ def made_log(run, ended, inputs):
     """The lines of a search behind the digests of its tables, and the log that it makes."""
     text, set_text, *files = inputs
     board = read_board(text)
-    tables = read_tables(files)
+    tables = read_tables(files, run.fold)
     sets = read_sets(set_text, tables)
     if tables[0].pattern.side != side_of(board):
         raise Refused("L4")
@@ -631,9 +713,10 @@ def can_be_kept(name):
 
 
 def is_mistaken(run):
-    """Whether a number among the words is none that they may have."""
+    """Whether a number among the words is none that they may have, or the command has nothing to fold."""
     within = [0 <= number < limit for number, limit in zip(run.numbers, [256, 2**32])]
-    return not (all(within) and 1 <= run.budget <= 10**12 and 1 <= run.workers <= 64)
+    can_fold = run.command in ("bound", "optimal", "solve")
+    return not (all(within) and 1 <= run.budget <= 10**12 and 1 <= run.workers <= 64 and can_fold >= run.fold)
 
 
 def answer(run, ended):
@@ -653,7 +736,7 @@ def answer(run, ended):
         elif run.command == "solve":
             told, made = made_log(run, ended, inputs)
         else:
-            told = verdict(run.command, inputs).encode() + b"\n"
+            told = verdict(run.command, inputs, run.fold).encode() + b"\n"
     except Refused as refused:
         return Ended(lines + f"refused {refused}\n".encode(), 1, run.files)
     if made is None:

@@ -3,9 +3,10 @@
 from nothing, and its edits that must fail.
 
 Usage: tools/time_gate.py [COMMAND WORD..]; without COMMAND it is `rt ci --anew`, which takes over nothing that an earlier
-run has proved. By hand, on an idle machine. What the command writes goes through, the table comes behind it, and the status
-is the command's. The seconds are those of the checker's processes, read every half second, so each process may be half a
-second short; those of edits have the check in them over which a crate's edits are tried.
+run has proved. A kit before rattle-kit-13f takes nothing over, and has no such word: there give `rt ci`. By hand, on an idle
+machine. What the command writes goes through, the table comes behind it, and the status is the command's. The seconds are
+those of the checker's processes, read every half second, so each process may be half a second short; those of edits have the
+check in them over which a crate's edits are tried.
 """
 
 import collections

@@ -5,7 +5,9 @@
 
 Into FOLDER go two tables of a pattern database (`tiles_1_to_4`, `tiles_5_to_8`), the set text that adds them up
 (`sets`), a board (`board`), the same with a shortest solution (`puzzle`), and a log which proves that no solution has
-fewer moves (`log`). Nothing of the program is used: what is written here is for the program to judge.
+fewer moves (`log`). A second set text adds them up twice, the second time for the transposed board (`both_sets`), and a
+log proves the same by both sets (`log_by_both`). Nothing of the program is used: what is written here is for the program to
+judge.
 """
 
 import itertools
@@ -88,7 +90,29 @@ def table_file(tiles, count):
     return header + entries
 
 
-# The search: iterative deepening, with the sum of both tables.
+# Sets. A set is a list of members: the number of a table, and whether it is asked of the transposed board.
+
+ONE_SET = [(0, False), (1, False)]
+TRANSPOSED_SET = [(0, True), (1, True)]
+
+
+def mirrored(cell):
+    """The cell across the diagonal from the upper left to the lower right. A tile is mirrored as its own cell is."""
+    row, column = divmod(cell, SIDE)
+    return column * SIDE + row
+
+
+def transposed(board):
+    """The board with each cell and each number mirrored."""
+    return tuple(mirrored(board[mirrored(cell)]) for cell in CELLS)
+
+
+def set_text(sets):
+    lines = (" ".join(f"{number}{'t' * is_transposed}" for number, is_transposed in members) for members in sets)
+    return "".join(f"set {line}\n" for line in lines)
+
+
+# The search: iterative deepening, with the greatest sum of the sets.
 
 
 def moved(board, to):
@@ -103,23 +127,32 @@ def lemma(board, bound, tree):
 
 
 class Search:
-    def __init__(self, patterns):
-        self.patterns = patterns  # the tiles of each, and its counts
+    def __init__(self, patterns, sets):
+        self.patterns = patterns  # the tiles of each table, and its counts
+        self.sets = sets
         self.proved = {}  # the number and the bound of the lemma of a board
         self.met = Counter()  # how often a board was a branch, with so much remaining
 
-    def sum(self, board):
-        """What the set says. The board can be solved, so that no table says never."""
-        blank, total = board.index(0), 0
-        for tiles, count in self.patterns:
-            placement = tuple(board.index(tile) for tile in tiles)
-            total += count[placement, slot(placement, blank)]
-        return total
+    def told(self, number, board):
+        """What a table tells of a board that can be solved, so that it doesn't tell never."""
+        tiles, count = self.patterns[number]
+        placement = tuple(board.index(tile) for tile in tiles)
+        return count[placement, slot(placement, board.index(0))]
+
+    def sum(self, members, board):
+        return sum(self.told(number, transposed(board) if is_transposed else board) for number, is_transposed in members)
+
+    def best_leaf(self, board):
+        """What the first set says that says the most, and the byte of a leaf by it."""
+        sums = [self.sum(members, board) for members in self.sets]
+        most = max(sums)
+        return most, bytes([LEAF + sums.index(most)])
 
     def refute(self, board, remaining, arriving=None):
         """A tree that refutes the board, or None, and the letters of a solution of fewer moves than remain, or None."""
-        if self.sum(board) >= remaining:
-            return bytes([LEAF]), None
+        most, leaf = self.best_leaf(board)
+        if most >= remaining:
+            return leaf, None
         if board == GOAL:
             return None, ""
         number, bound = self.proved.get(board, (None, -1))
@@ -137,7 +170,7 @@ class Search:
 
     def solve(self, board):
         """The letters of a shortest solution."""
-        for bound in itertools.count(self.sum(board)):
+        for bound in itertools.count(self.best_leaf(board)[0]):
             _, moves = self.refute(board, bound + 1)
             if moves is not None:
                 return moves
@@ -164,13 +197,13 @@ def main():
     patterns = [(tiles, counts(tiles)) for tiles in ((1, 2, 3, 4), (5, 6, 7, 8))]
     for tiles, count in patterns:
         (folder / f"tiles_{tiles[0]}_to_{tiles[-1]}").write_bytes(table_file(tiles, count))
-    search = Search(patterns)
-    moves = search.solve(BOARD)
+    moves = Search(patterns, [ONE_SET]).solve(BOARD)
     board = " ".join(str(number) for number in BOARD)
-    (folder / "sets").write_text("set 0 1\n")
     (folder / "board").write_text(f"{board}\n")
     (folder / "puzzle").write_text(f"{board} ; {moves}\n")
-    (folder / "log").write_bytes(search.log_file(BOARD, len(moves)))
+    for sets_name, log_name, sets in (("sets", "log", [ONE_SET]), ("both_sets", "log_by_both", [ONE_SET, TRANSPOSED_SET])):
+        (folder / sets_name).write_text(set_text(sets))
+        (folder / log_name).write_bytes(Search(patterns, sets).log_file(BOARD, len(moves)))
 
 
 if __name__ == "__main__":

@@ -27,7 +27,19 @@ import tempfile
 from dataclasses import replace
 
 import good_inputs
-from plain_answers import CITATION, LETTERS, MISTAKE, STANDARD_INPUT, TEXT_LIMIT, Ended, Run, answer, table_of
+from plain_answers import (
+    CITATION,
+    LEAF,
+    LETTERS,
+    MISTAKE,
+    PARITY_LEAF,
+    STANDARD_INPUT,
+    TEXT_LIMIT,
+    Ended,
+    Run,
+    answer,
+    table_of,
+)
 
 ROOT = pathlib.Path(__file__).resolve().parent.parent
 BATCH = 500
@@ -35,7 +47,7 @@ BATCH = 500
 SAME_LARGE = 10 * BATCH
 SECONDS = 60
 MOST_TRIES = 2000
-TELLING = bytes([0, 1, 2, 3, 4, 8, 16, 17, 32, 65, 128, 252, 253, 254, 255]) + b" \t\r\n;0129UDLRuset-+"
+TELLING = bytes([0, 1, 2, 3, 4, 8, 16, 17, 32, 65, 128, 252, 253, 254, 255]) + b" \t\r\n;0129UDLRusetT-+"
 # The names of what a run writes and reads by its standard streams, in its folder.
 STREAMS = [".in", ".out", ".err"]
 
@@ -180,8 +192,18 @@ LARGE_CHANGES = [with_far_entry] * 6 + [with_exchanged_marks, with_stretch] * 2
 LARGE_CHANGES += [with_changed_goal, with_header_byte, cut, with_more]
 
 
+def with_leaf(draw, tree):
+    """The tree with a leaf of one of the first sets or of any in one place."""
+    place = draw.randrange(len(tree))
+    leaf = draw.choice([LEAF, PARITY_LEAF]) + draw.choice([0, 0, 1, draw.randrange(16)])
+    return tree[:place] + bytes([leaf]) + tree[place + 1 :]
+
+
+TREE_CHANGES = CHANGES + [with_leaf] * 4
+
+
 def changed_tree(draw, tree):
-    tree = changed(draw, tree)
+    tree = changed(draw, tree, TREE_CHANGES)
     if draw.random() < 0.3:
         place = draw.randrange(len(tree) + 1)
         tree = tree[:place] + bytes([CITATION]) + draw.randrange(4).to_bytes(4, "big") + tree[place + 1 :]
@@ -198,8 +220,8 @@ def changed_lemma(draw, lemma):
     return board, bound, changed_tree(draw, tree)
 
 
-def changed_log(draw, lemmas):
-    """A log of lemmas one or two of which were changed, or of the same in another order."""
+def changed_log(draw, version, lemmas):
+    """A log of lemmas one or two of which were changed, or of the same in another order, or of another version."""
     lemmas = list(lemmas)
     for _ in range(draw.choice([0, 1, 1, 2])):
         place = draw.randrange(len(lemmas))
@@ -209,13 +231,19 @@ def changed_log(draw, lemmas):
         draw.shuffle(lemmas)
     elif how < 0.2:
         lemmas.insert(0, draw.choice(lemmas))
-    log = good_inputs.log_of(lemmas)
+    if draw.random() < 0.2:
+        version = draw.choice([3 - version, 3 - version, 0, 3])
+    log = good_inputs.log_of(version, lemmas)
     return changed(draw, log) if draw.random() < 0.3 else log
 
 
 def changed_set_text(draw, text):
+    """The text with other numbers, or other members transposed, or with changed bytes; or another text."""
     numbers = re.sub(rb"[0-9]+", lambda _: b"%d" % draw.choice([0, 1, 2, 3, 9, 15, 16, 99]), text)
-    return draw.choice([numbers, b"set 0 1\n", b"set 0\nset 1 2\n", changed(draw, text), changed(draw, numbers)])
+    members = re.sub(rb"([0-9]+)t?", lambda found: found[1] + draw.choice([b"", b"t"]), text)
+    twice = re.sub(rb"([0-9]+)t?", rb"\1 \1t", text)
+    others = [b"set 0 1\n", b"set 0\nset 1 2\n", b"set 0 0t\n", b"set 0t\n"]
+    return draw.choice([numbers, members, twice, draw.choice(others), changed(draw, text), changed(draw, numbers)])
 
 
 def long_text(draw, text):
@@ -240,7 +268,7 @@ def checked(draw, _number):
     file = good_inputs.table(draw)
     for _ in range(draw.choice([0, 1, 1, 1, 2])):
         file = changed(draw, file, TABLE_CHANGES)
-    return Run("table", ("table",), {"table": file}, workers=workers(draw))
+    return Run("table", ("table",), {"table": file}, workers=workers(draw), fold=draw.random() < 0.01)
 
 
 def large_table(number):
@@ -267,12 +295,13 @@ def named(tables):
 
 def claimed(draw, number):
     """A run of `bound` or `optimal`, most of whose inputs are good, so that all of them are reached."""
-    board, letters, sets, lemmas, tables = good_inputs.claim(draw)
-    command = "bound" if letters is None else draw.choice(["bound", "bound", "optimal"])
+    claim = good_inputs.claim(draw)
+    sets, tables = claim.sets, claim.tables
+    command = "bound" if claim.letters is None else draw.choice(["bound", "bound", "optimal"])
     if command == "bound":
-        text = good_inputs.board_text(draw, board)
+        text = good_inputs.board_text(draw, claim.board)
     else:
-        text = good_inputs.puzzle_text(draw, board, letters)
+        text = good_inputs.puzzle_text(draw, claim.board, claim.letters)
     which = draw.choice(["nothing", "text", "sets", "log", "log", "log", "log", "table"])
     if which == "text" or draw.random() < 0.05:
         text = long_text(draw, changed(draw, text, CHANGES if command == "bound" else PUZZLE_CHANGES))
@@ -280,13 +309,16 @@ def claimed(draw, number):
         sets = long_text(draw, changed_set_text(draw, sets))
     if which == "table":
         tables = changed_tables(draw, tables)
-    log = changed_log(draw, lemmas) if which == "log" or draw.random() < 0.05 else good_inputs.log_of(lemmas)
+    log = good_inputs.log_of(claim.version, claim.lemmas)
+    if which == "log" or draw.random() < 0.05:
+        log = changed_log(draw, claim.version, claim.lemmas)
     if draw.random() < 0.02:
         tables += [draw.choice(tables)] * 16
     if draw.random() < 0.01:
         tables += [draw.choice(LARGE_CHANGES)(draw, large_table(number))]
     files = {"text": text, "sets": sets, "log": log, **named(tables)}
-    return Run(command, ("text", "sets", "log", *named(tables)), files, workers=workers(draw))
+    fold = claim.fold if draw.random() < 0.9 else not claim.fold
+    return Run(command, ("text", "sets", "log", *named(tables)), files, workers=workers(draw), fold=fold)
 
 
 def kept_under(draw, files):
@@ -322,7 +354,8 @@ def solved(draw, number):
     if draw.random() < 0.02:
         budget = draw.choice([0, 10**12 + 1])
     out, files = kept_under(draw, {"text": text, "sets": sets, **named(tables)})
-    return Run("solve", ("text", "sets", *named(tables)), files, out, budget=budget, workers=workers(draw))
+    names, fold = ("text", "sets", *named(tables)), draw.random() < 0.3
+    return Run("solve", names, files, out, budget=budget, workers=workers(draw), fold=fold)
 
 
 KINDS = [replayed] * 20 + [checked] * 35 + [checked_large] * 3 + [claimed] * 30 + [made] * 5 + [solved] * 7
@@ -414,6 +447,8 @@ def shorter(run):
     """Runs that are a little shorter, those that lack most first."""
     if run.workers != 1:
         yield replace(run, workers=1)
+    if run.fold:
+        yield replace(run, fold=False)
     for name in run.names[4:]:
         yield without(run, name)
     for name, data in run.files.items():

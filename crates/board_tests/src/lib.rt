@@ -6,4 +6,6 @@ mod boards;
 #[cfg(test)]
 mod lanes;
 #[cfg(test)]
+mod parity;
+#[cfg(test)]
 mod placements;

@@ -2,7 +2,7 @@
 
 use crate::sha256;
 use pdb_io::streams::WriteFault;
-use pdb_run::{Answer, beside, lines, say, say_digests};
+use pdb_run::{Answer, Digested, beside, lines, say, say_digests};
 use sample_streams::{Failing, SampleWriter};
 use std::alloc::{AllocError, Global};
 use std::io::ErrorKind;
@@ -28,9 +28,7 @@ fn an_answer_is_one_write(rt: HostRuntime) -> Result<(), Fail> {
     let files = empty_files(alloc, 16)?;
     let mut out = taking(alloc, 1);
     let answer = Answer {
-        files: files.as_slice(),
-        last: Some(b"abc"),
-        digests: None,
+        digested: Digested::Files(files.as_slice(), Some(b"abc")),
         made: None,
         made_digest: None,
         lines: lines(&["bound ", "6", "\n"]),

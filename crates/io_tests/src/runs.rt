@@ -4,7 +4,9 @@ use crate::sha256;
 use pdb_io::memory::MemShelf;
 use pdb_io::shelf::Shelf;
 use pdb_io::streams::ReadFault;
-use pdb_run::{Answer, Command, Input, Status, keep_and_conclude, lines, load_all, read_inputs};
+use pdb_run::{
+    Answer, Command, Digested, Input, Status, keep_and_conclude, lines, load_all, read_inputs,
+};
 use sample_streams::{Failing, FailingShelf, SampleReader, SampleWriter, ShelfFault};
 use std::alloc::{AllocError, Global};
 use std::io::{ErrorKind, Write};
@@ -135,9 +137,7 @@ impl Command for Makes<'_> {
 /// Its answer where it made `abc`.
 fn makes_abc<'i>(alloc: Global, is_yes: bool) -> Result<Answer<'i>, AllocError> {
     Ok(Answer {
-        files: &[],
-        last: Some(b""),
-        digests: None,
+        digested: Digested::Files(&[], Some(b"")),
         made: Some(b"abc".to_vec(alloc)?),
         made_digest: None,
         lines: if is_yes {
@@ -158,7 +158,7 @@ fn conclude_making<S: Shelf, W: Write>(
     out: &mut W,
 ) -> Status {
     let command = Makes { out: out_name };
-    keep_and_conclude(alloc, &command, &[], answer, out_name, shelf, out)
+    keep_and_conclude(alloc, &command, answer, out_name, shelf, out)
 }
 
 /// Whether a run wrote the digest lines of its last input and of what it made, and then this one.

@@ -44,9 +44,9 @@ module _ (v : BundleView) (b : List ℕ) (log : Log) where
   Stands (Form fault) = ⊥
   Stands L4 = ¬ AreOfOneSide v log b
   Stands L5 = (last : Lemma) × AreOfOneSide v log b × IsLast log.lemmas last × (last.board ≢ b)
-  Stands (L6 i) = (last : Lemma) × IsLogFor v log b last × IsFirstBad v log.lemmas i
+  Stands (L6 i) = (last : Lemma) × IsLogFor v log b last × IsFirstBad v log i
 
-  first_bad_one : (i j : ℕ) → IsFirstBad v log.lemmas i → IsFirstBad v log.lemmas j → i ≡ j
+  first_bad_one : (i j : ℕ) → IsFirstBad v log i → IsFirstBad v log j → i ≡ j
   first_bad_one i j is also =
       let no_less : i < j → ⊥ = λ l. is.bad (also.before i l) in
       let no_more : j < i → ⊥ = λ l. also.bad (is.before j l) in

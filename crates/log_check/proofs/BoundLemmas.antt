@@ -9,7 +9,7 @@ use Rattle.puz_board.proofs.MovedLemmas.{IsBoardOf-moved}
 use Rattle.set_sum.specs.Bounds.{IsBounded}
 use Rattle.set_sum.specs.Bundles.{BundleView, IsBundle}
 use Rattle.set_sum.proofs.SayLemmas.{at_least_bounds}
-use Rattle.log_file.specs.Logs.{Lemma}
+use Rattle.log_file.specs.Logs.{Lemma, Log}
 use Rattle.log_check.specs.Refutations.{Cites, IsChild, Refutes, takes_back}
 use Rattle.log_check.specs.Trees.{Tree, absent, leaf, citation, branch}
 use Rattle.log_check.proofs.BranchLemmas.{Bounds, BoundsAfter, branch_bounds}
@@ -30,24 +30,24 @@ child_holds None back child Holds next is leads on = cc
 child_holds (Some b) true child Holds next is leads on = cc
 child_holds (Some b) false child Holds next is leads on = subst Holds (let e : b ≡ next = cc in e) is
 
-module _ (v : BundleView) (is_bundle : IsBundle v) (lemmas : List Lemma) (i : ℕ) (earlier : EarlierBound lemmas i) where
-  citation_bounds : (j : ℕ) (b : List ℕ) (r : ℕ) → Cites lemmas i j b r → IsBounded b r
+module _ (v : BundleView) (is_bundle : IsBundle v) (log : Log) (i : ℕ) (earlier : EarlierBound log.lemmas i) where
+  citation_bounds : (j : ℕ) (b : List ℕ) (r : ℕ) → Cites log.lemmas i j b r → IsBounded b r
   citation_bounds j b r cites = λ path solves.
       let low : cites.lemma.bound ≤ length path = earlier j cites.lemma cites.earlier cites.there path (subst (λ c. IsSolution c path) (sym cites.board) solves) in
       let enough : r ≤ cites.lemma.bound = cites.enough in
       omega arith
 
   child_bounds : (b : List ℕ) → IsBoardOf v.side b → (arriving : Option Move) (r : ℕ) (move : Move) (child : Tree)
-      → ((next : List ℕ) → IsBoardOf v.side next → Refutes v lemmas i child next (Some move) r → Bounds next (Some move) r)
-      → IsChild (moved b move) (takes_back arriving move) child (λ next. Refutes v lemmas i child next (Some move) r)
+      → ((next : List ℕ) → IsBoardOf v.side next → Refutes v log i child next (Some move) r → Bounds next (Some move) r)
+      → IsChild (moved b move) (takes_back arriving move) child (λ next. Refutes v log i child next (Some move) r)
       → BoundsAfter b arriving r move
   child_bounds b good arriving r move child bounds is = λ next leads on.
       bounds next (IsBoardOf-moved v.side b good move next leads)
-      (child_holds (moved b move) (takes_back arriving move) child (λ c. Refutes v lemmas i child c (Some move) r) next is leads on)
+      (child_holds (moved b move) (takes_back arriving move) child (λ c. Refutes v log i child c (Some move) r) next is leads on)
 
-  tree_bounds : (tree : Tree) (b : List ℕ) (arriving : Option Move) (r : ℕ) → IsBoardOf v.side b → Refutes v lemmas i tree b arriving r → Bounds b arriving r
+  tree_bounds : (tree : Tree) (b : List ℕ) (arriving : Option Move) (r : ℕ) → IsBoardOf v.side b → Refutes v log i tree b arriving r → Bounds b arriving r
   tree_bounds absent b arriving r good refutes = absurd refutes
-  tree_bounds (leaf set) b arriving r good refutes = λ path solves. inl (at_least_bounds v is_bundle set b r good refutes path solves)
+  tree_bounds (leaf by_parity set) b arriving r good refutes = λ path solves. inl (at_least_bounds v is_bundle by_parity set b r good refutes.1 path solves)
   tree_bounds (citation j) b arriving r good refutes = λ path solves. inl (citation_bounds j b r refutes path solves)
   tree_bounds (branch up down left right) b arriving r good refutes =
       branch_bounds v.side b good arriving r refutes.0 (by_move (BoundsAfter b arriving (r - 1))
@@ -57,5 +57,5 @@ module _ (v : BundleView) (is_bundle : IsBundle v) (lemmas : List Lemma) (i : �
       (child_bounds b good arriving (r - 1) Right right (λ next is h. tree_bounds right next (Some Right) (r - 1) is h) refutes.5))
 
   -- where no move led to the board
-  pub first_tree_bounds : (tree : Tree) (b : List ℕ) (r : ℕ) → IsBoardOf v.side b → Refutes v lemmas i tree b None r → IsBounded b r
+  pub first_tree_bounds : (tree : Tree) (b : List ℕ) (r : ℕ) → IsBoardOf v.side b → Refutes v log i tree b None r → IsBounded b r
   first_tree_bounds tree b r good refutes = λ path solves. elim (tree_bounds tree b None r good refutes path solves) [ inl enough ↦ enough | inr had ↦ absurd had ]

@@ -10,21 +10,21 @@ use Rattle.log_check.proofs.DecideLemmas.{good_decided}
 
 module _ (v : BundleView) (is : IsBundle v) (log : Log) (is_log : IsLog log) (side : log.side ≡ v.side) where
   abbrev IsBad : ℕ → Type 0
-  IsBad i = ¬ IsGood v log.lemmas i
+  IsBad i = ¬ IsGood v log i
 
   -- a lemma that isn't bad is good, since that can be told
-  good_unless_bad : (i : ℕ) → ¬ IsBad i → IsGood v log.lemmas i
+  good_unless_bad : (i : ℕ) → ¬ IsBad i → IsGood v log i
   good_unless_bad i not = elim (good_decided v is log is_log side i) [ inl good ↦ good | inr bad ↦ absurd (not bad) ]
 
-  pub good_whole : IsFault IsBad (length log.lemmas) None → AreGood v log.lemmas
+  pub good_whole : IsFault IsBad (length log.lemmas) None → AreGood v log
   good_whole none i low = good_unless_bad i (none i (omega arith) low)
 
-  pub first_bad_whole : (i : ℕ) → IsFault IsBad (length log.lemmas) (Some i) → IsFirstBad v log.lemmas i
+  pub first_bad_whole : (i : ℕ) → IsFault IsBad (length log.lemmas) (Some i) → IsFirstBad v log i
   first_bad_whole i least = record { there = least.1; bad = least.2; before = λ j low. good_unless_bad j (least.3 j (omega arith) low) }
 
   -- ---- there is one, or all are good
 
-  good_up_to : (m : ℕ) → m ≤ length log.lemmas → ((i : ℕ) → i < m → IsGood v log.lemmas i) ⊎ ((i : ℕ) × IsFirstBad v log.lemmas i)
+  good_up_to : (m : ℕ) → m ≤ length log.lemmas → ((i : ℕ) → i < m → IsGood v log i) ⊎ ((i : ℕ) × IsFirstBad v log i)
   good_up_to zero low = inl (λ i none. absurd (omega arith))
   good_up_to (suc m) low = elim (good_up_to m (omega arith)) [
     | inr first ↦ inr first
@@ -32,10 +32,10 @@ module _ (v : BundleView) (is : IsBundle v) (log : Log) (is_log : IsLog log) (si
       | inr bad ↦ inr (m, record { there = omega arith; bad = bad; before = before })
       | inl good ↦ inl (λ i l. elim (cases_lt i m) [
         | inl less ↦ before i less
-        | inr more ↦ let same : m ≡ i = omega arith in subst (IsGood v log.lemmas) same good
+        | inr more ↦ let same : m ≡ i = omega arith in subst (IsGood v log) same good
       ])
     ]
   ]
 
-  pub good_or_first_bad : AreGood v log.lemmas ⊎ ((i : ℕ) × IsFirstBad v log.lemmas i)
+  pub good_or_first_bad : AreGood v log ⊎ ((i : ℕ) × IsFirstBad v log i)
   good_or_first_bad = good_up_to (length log.lemmas) (omega arith)

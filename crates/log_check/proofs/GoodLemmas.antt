@@ -16,13 +16,13 @@ module _ (v : BundleView) (is_bundle : IsBundle v) (log : Log) (is_log : IsLog l
   board_of i lemma there = subst (λ n. IsBoardOf n lemma.board) side (all_get (λ l. IsBoardOf log.side l.board) log.lemmas i lemma there is_log.boards)
 
   -- by those before it
-  next_bounds : (i : ℕ) (lemma : Lemma) → slice_get log.lemmas i ≡ Some lemma → IsGood v log.lemmas i → EarlierBound log.lemmas i → IsBounded lemma.board lemma.bound
+  next_bounds : (i : ℕ) (lemma : Lemma) → slice_get log.lemmas i ≡ Some lemma → IsGood v log i → EarlierBound log.lemmas i → IsBounded lemma.board lemma.bound
   next_bounds i lemma there good earlier =
       let same : good.lemma ≡ lemma = cc (good.there, there) in
       subst (λ l. IsBounded l.board l.bound) same
-      (first_tree_bounds v is_bundle log.lemmas i earlier good.tree good.lemma.board good.lemma.bound (board_of i good.lemma good.there) good.refutes)
+      (first_tree_bounds v is_bundle log i earlier good.tree good.lemma.board good.lemma.bound (board_of i good.lemma good.there) good.refutes)
 
-  module _ (good : AreGood v log.lemmas) where
+  module _ (good : AreGood v log) where
     earlier_bound : (i : ℕ) → EarlierBound log.lemmas i
     earlier_bound zero j lemma low there = absurd (omega arith)
     earlier_bound (suc i) j lemma low there =

@@ -1,14 +1,11 @@
 -- What a node asks of its board.
-use Rattle.std.proofs.Common.{◌≡◌, ℕ, zero, suc, ◌-◌, ◌*◌, ◌<◌, ◌≤◌, ◌^◌, ◌↔◌, ◌&&◌, Bool, true, false, List, [], ◌∷◌, ◌++◌, Some, None, ap, arith, eqb, eqb-true, IsTrue, le-leb, leb, leb-true, length, refl, replicate, slice_get, subst, sym, take, take_at, ◌∙◌}
+use Rattle.std.proofs.Common.{◌≡◌, ℕ, zero, suc, ◌-◌, ◌*◌, ◌<◌, ◌≤◌, ◌^◌, ◌↔◌, ◌&&◌, Bool, true, false, List, [], ◌∷◌, ◌++◌, Some, None, ap, ap₂, arith, eqb, eqb-true, IsTrue, le-leb, leb, leb-true, length, refl, replicate, slice_get, subst, sym, take, take_at, ◌∙◌}
 use lib.Pointwise.{pointwise}
 use Rattle.std.specs.Cmp.Lexicographic.{same_text}
 use Rattle.std.specs.Prelude.{nat_eq}
 use Rattle.puz_board.specs.Boards.{IsBoardOf, IsGoal}
-use Rattle.set_sum.specs.Bundles.{BundleView, Says, SaysAtLeast}
-use Rattle.set_sum.specs.Bounds.{Reaches}
-use Rattle.set_sum.proofs.SumLemmas.{set_once}
-use Rattle.tab_check.specs.declared.tables.Count.{Count}
-use Rattle.log_file.specs.Logs.{Lemma}
+use Rattle.set_sum.specs.Bundles.{BundleView, SaysAtLeast}
+use Rattle.log_file.specs.Logs.{Lemma, Log}
 use Rattle.log_check.specs.GoodLogs.{IsGood}
 use Rattle.log_check.specs.Nodes.{BeginsWith, BeginsWithNone, IsNode, node_bytes}
 use Rattle.log_check.specs.Refutations.{Cites, Refutes}
@@ -20,12 +17,6 @@ use Rattle.log_check.specs.declared.walks.Waiting.{Waiting}
 use Rattle.log_check.proofs.DecideLemmas.{AreBoards, children_boards}
 use Rattle.log_check.proofs.Pending.{Pending}
 use Rattle.log_check.proofs.WalkLemmas.{branch_byte, citation_byte, good_is_pending, leaf_byte, lemma_waiting}
-
--- ---- leaves
-
--- what a set says of a board is all that it says of it
-pub SaysAtLeast-count : (v : BundleView) (set : ℕ) (b : List ℕ) (r : ℕ) (count : Count) → Says v set b count → SaysAtLeast v set b r → Reaches count r
-SaysAtLeast-count v set b r count says least = subst (λ k. Reaches k r) (set_once _ b least.count count least.says.says says.says) least.enough
 
 -- ---- citations
 
@@ -69,32 +60,37 @@ Cites-bound lemmas i j b r bound within earlier board_is bound_is = (
 
 -- ---- the node of the board that waits first
 
-module _ (v : BundleView) (few : length v.sets ≤ 16) (lemmas : List Lemma) (i : ℕ) (fits : i < 2 ^ 32) (w : Waiting) (ws : List Waiting) (bytes : List ℕ) where
+-- the bytes begin with a node, for one version and number of sets as for the same ones
+pub BeginsWith-same : {version sets also_version also_sets : ℕ} (node : Node) (behind bytes : List ℕ) → version ≡ also_version → sets ≡ also_sets
+    → BeginsWith version sets node behind bytes → BeginsWith also_version also_sets node behind bytes
+BeginsWith-same node behind bytes versions counts begins = subst (λ A. A) (ap₂ (λ version sets. BeginsWith version sets node behind bytes) versions counts) begins
+
+module _ (v : BundleView) (few : length v.sets ≤ 16) (log : Log) (i : ℕ) (fits : i < 2 ^ 32) (w : Waiting) (ws : List Waiting) (bytes : List ℕ) where
   -- it is a node that it may have, and the boards behind wait for the bytes behind
-  pub node_bytes-step : (node : Node) (behind : List ℕ) → BeginsWith (length v.sets) node behind bytes
-      → Pending v lemmas i (w ∷ ws) bytes ↔ (MayHave v lemmas i w node × Pending v lemmas i (with_node node w ws) behind)
+  pub node_bytes-step : (node : Node) (behind : List ℕ) → BeginsWith log.version (length v.sets) node behind bytes
+      → Pending v log i (w ∷ ws) bytes ↔ (MayHave v log i w node × Pending v log i (with_node node w ws) behind)
   node_bytes-step node behind begins = go node begins.is_node begins.are
     where
-      go : (node : Node) → IsNode (length v.sets) node → bytes ≡ node_bytes node ++ behind
-          → Pending v lemmas i (w ∷ ws) bytes ↔ (MayHave v lemmas i w node × Pending v lemmas i (with_node node w ws) behind)
+      go : (node : Node) → IsNode log.version (length v.sets) node → bytes ≡ node_bytes node ++ behind
+          → Pending v log i (w ∷ ws) bytes ↔ (MayHave v log i w node × Pending v log i (with_node node w ws) behind)
       go Branch is are =
-          let step = subst (λ bs. Pending v lemmas i (w ∷ ws) bs ↔ ((¬ IsGoal w.board) × (1 ≤ w.bound) × Pending v lemmas i (with_children w all_moves ws) behind))
-          (sym are) (branch_byte v few lemmas i fits w ws behind) in
+          let step = subst (λ bs. Pending v log i (w ∷ ws) bs ↔ ((¬ IsGoal w.board) × (1 ≤ w.bound) × Pending v log i (with_children w all_moves ws) behind))
+          (sym are) (branch_byte v few log i fits w ws behind) in
           (λ p. let q = step.0 p in ((q.0, q.1), q.2), λ p. step.1 (p.0.0, p.0.1, p.1))
-      go (Leaf set) is are =
-          subst (λ bs. Pending v lemmas i (w ∷ ws) bs ↔ (SaysAtLeast v set w.board w.bound × Pending v lemmas i ws behind)) (sym are)
-          (leaf_byte v few lemmas i fits w ws set behind (omega arith))
+      go (Leaf by_parity set) is are =
+          subst (λ bs. Pending v log i (w ∷ ws) bs ↔ (SaysAtLeast v by_parity set w.board w.bound × Pending v log i ws behind)) (sym are)
+          (leaf_byte v few log i fits w ws by_parity set behind is.0 (let there = is.1 in omega arith))
       go (Citation j) is are =
-          subst (λ bs. Pending v lemmas i (w ∷ ws) bs ↔ (Cites lemmas i j w.board w.bound × Pending v lemmas i ws behind)) (sym are)
-          (citation_byte v few lemmas i fits w ws j behind is)
+          subst (λ bs. Pending v log i (w ∷ ws) bs ↔ (Cites log.lemmas i j w.board w.bound × Pending v log i ws behind)) (sym are)
+          (citation_byte v few log i fits w ws j behind is)
 
   -- no board waits for bytes that begin with none
-  pub none-pending : BeginsWithNone (length v.sets) bytes → ¬ Pending v lemmas i (w ∷ ws) bytes
+  pub none-pending : BeginsWithNone log.version (length v.sets) bytes → ¬ Pending v log i (w ∷ ws) bytes
   none-pending none p = go p.0 p.1 p.2 p.3
     where
-      go : (tree : Tree) (rest : List ℕ) → bytes ≡ spelling tree ++ rest → Refutes v lemmas i tree w.board w.arriving w.bound → ⊥
+      go : (tree : Tree) (rest : List ℕ) → bytes ≡ spelling tree ++ rest → Refutes v log i tree w.board w.arriving w.bound → ⊥
       go absent rest e refutes = refutes
-      go (leaf set) rest e refutes = none (Leaf set) rest (record { is_node = refutes.says.there; are = e })
+      go (leaf by_parity set) rest e refutes = none (Leaf by_parity set) rest (record { is_node = (refutes.0, refutes.1.says.there); are = e })
       go (citation j) rest e refutes = none (Citation j) rest (record { is_node = let earlier = refutes.earlier in omega arith; are = e })
       go (branch up down left right) rest e refutes =
           none Branch ((spelling up ++ spelling down ++ spelling left ++ spelling right) ++ rest) (record { is_node = tt; are = e })
@@ -104,39 +100,39 @@ module _ (v : BundleView) (few : length v.sets ≤ 16) (lemmas : List Lemma) (i 
 -- a node that is no branch leaves the boards behind as they are
 pub with_node-other : (node : Node) (w : Waiting) (ws : List Waiting) → ¬ (node ≡ Branch) → with_node node w ws ≡ ws
 with_node-other Branch w ws other = absurd (other refl)
-with_node-other (Leaf set) w ws other = refl
+with_node-other (Leaf by_parity set) w ws other = refl
 with_node-other (Citation lemma) w ws other = refl
 
 pub AreBoards-node : (n : ℕ) (node : Node) (w : Waiting) (ws : List Waiting) → AreBoards n (w ∷ ws) → AreBoards n (with_node node w ws)
 AreBoards-node n Branch w ws boards = children_boards n w boards.0 all_moves ws boards.1
-AreBoards-node n (Leaf set) w ws boards = boards.1
+AreBoards-node n (Leaf by_parity set) w ws boards = boards.1
 AreBoards-node n (Citation lemma) w ws boards = boards.1
 
 -- a lemma's board waits at first, and no other
-pub root-pending : (v : BundleView) (lemmas : List Lemma) (i : ℕ) → i < length lemmas → (board : List ℕ) (bound : ℕ) (tree : List ℕ) (ws : List Waiting)
-    → ((lemma : Lemma) → slice_get lemmas i ≡ Some lemma → board ≡ lemma.board) → ((lemma : Lemma) → slice_get lemmas i ≡ Some lemma → bound ≡ lemma.bound)
-    → ((lemma : Lemma) → slice_get lemmas i ≡ Some lemma → tree ≡ lemma.tree) → ws ≡ []
-    → IsGood v lemmas i ↔ Pending v lemmas i (record { board = board; arriving = None; bound = bound } ∷ ws) tree
-root-pending v lemmas i within board bound tree ws board_is bound_is tree_is none =
-    let at = lemma_there lemmas i within in
+pub root-pending : (v : BundleView) (log : Log) (i : ℕ) → i < length log.lemmas → (board : List ℕ) (bound : ℕ) (tree : List ℕ) (ws : List Waiting)
+    → ((lemma : Lemma) → slice_get log.lemmas i ≡ Some lemma → board ≡ lemma.board) → ((lemma : Lemma) → slice_get log.lemmas i ≡ Some lemma → bound ≡ lemma.bound)
+    → ((lemma : Lemma) → slice_get log.lemmas i ≡ Some lemma → tree ≡ lemma.tree) → ws ≡ []
+    → IsGood v log i ↔ Pending v log i (record { board = board; arriving = None; bound = bound } ∷ ws) tree
+root-pending v log i within board bound tree ws board_is bound_is tree_is none =
+    let at = lemma_there log.lemmas i within in
     let waiting : record { board = board; arriving = None; bound = bound } ∷ ws ≡ lemma_waiting at.0 ∷ [] =
     λ t. record { board = board_is at.0 at.1 t; arriving = None; bound = bound_is at.0 at.1 t } ∷ none t in
-    subst (λ bytes. IsGood v lemmas i ↔ Pending v lemmas i (record { board = board; arriving = None; bound = bound } ∷ ws) bytes) (sym (tree_is at.0 at.1))
-    (subst (λ all. IsGood v lemmas i ↔ Pending v lemmas i all at.0.tree) (sym waiting) (
+    subst (λ bytes. IsGood v log i ↔ Pending v log i (record { board = board; arriving = None; bound = bound } ∷ ws) bytes) (sym (tree_is at.0 at.1))
+    (subst (λ all. IsGood v log i ↔ Pending v log i all at.0.tree) (sym waiting) (
       λ good.
-          let p = (good_is_pending v lemmas i).0 good in
+          let p = (good_is_pending v log i).0 good in
           let same : p.0 ≡ at.0 = (let there = p.1 in let also = at.1 in cc) in
-          subst (λ lemma. Pending v lemmas i (lemma_waiting lemma ∷ []) lemma.tree) same p.2,
-      λ pending. (good_is_pending v lemmas i).1 (at.0, at.1, pending),
+          subst (λ lemma. Pending v log i (lemma_waiting lemma ∷ []) lemma.tree) same p.2,
+      λ pending. (good_is_pending v log i).1 (at.0, at.1, pending),
     ))
 
 -- where the boards wait for the bytes whenever something holds, those behind the node wait for the bytes behind
-pub walked : (v : BundleView) → length v.sets ≤ 16 → (lemmas : List Lemma) (i : ℕ) → i < 2 ^ 32 → (w : Waiting) (ws : List Waiting) (bytes : List ℕ)
-    → IsGood v lemmas i ↔ Pending v lemmas i (w ∷ ws) bytes → (node : Node) (behind : List ℕ) → BeginsWith (length v.sets) node behind bytes
-    → MayHave v lemmas i w node → (now : List Waiting) → now ≡ with_node node w ws → IsGood v lemmas i ↔ Pending v lemmas i now behind
-walked v few lemmas i fits w ws bytes good node behind begins may now is =
-    let step = node_bytes-step v few lemmas i fits w ws bytes node behind begins in
-    subst (λ all. IsGood v lemmas i ↔ Pending v lemmas i all behind) (sym is)
+pub walked : (v : BundleView) → length v.sets ≤ 16 → (log : Log) (i : ℕ) → i < 2 ^ 32 → (w : Waiting) (ws : List Waiting) (bytes : List ℕ)
+    → IsGood v log i ↔ Pending v log i (w ∷ ws) bytes → (node : Node) (behind : List ℕ) → BeginsWith log.version (length v.sets) node behind bytes
+    → MayHave v log i w node → (now : List Waiting) → now ≡ with_node node w ws → IsGood v log i ↔ Pending v log i now behind
+walked v few log i fits w ws bytes good node behind begins may now is =
+    let step = node_bytes-step v few log i fits w ws bytes node behind begins in
+    subst (λ all. IsGood v log i ↔ Pending v log i all behind) (sym is)
     (λ g. (step.0 (good.0 g)).1, λ p. good.1 (step.1 (may, p)))
 
 -- no bytes are left over

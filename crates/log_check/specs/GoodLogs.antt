@@ -8,16 +8,16 @@ use Rattle.log_check.specs.Trees.{Tree, spelling}
 
 -- the lemma with this number is good: its bytes spell one tree and nothing more, and the tree refutes that the lemma's board
 -- has a solution of fewer moves than the lemma's bound; no move led to that board
-pub record IsGood (v : BundleView) (lemmas : List Lemma) (i : ℕ) : Type 0 where
+pub record IsGood (v : BundleView) (log : Log) (i : ℕ) : Type 0 where
   pub lemma : Lemma
-  pub there : slice_get lemmas i ≡ Some lemma
+  pub there : slice_get log.lemmas i ≡ Some lemma
   pub tree : Tree
   pub spelt : lemma.tree ≡ spelling tree
-  pub refutes : Refutes v lemmas i tree lemma.board None lemma.bound
+  pub refutes : Refutes v log i tree lemma.board None lemma.bound
 
 -- each lemma is good
-abbrev pub AreGood : BundleView → List Lemma → Type 0
-AreGood v lemmas = (i : ℕ) → i < length lemmas → IsGood v lemmas i
+abbrev pub AreGood : BundleView → Log → Type 0
+AreGood v log = (i : ℕ) → i < length log.lemmas → IsGood v log i
 
 -- the last lemma
 abbrev pub IsLast : List Lemma → Lemma → Type 0
@@ -34,7 +34,7 @@ pub record IsGoodLog (v : BundleView) (log : Log) (b : List ℕ) (bound : ℕ) :
   pub last : Lemma
   pub is_for : IsLogFor v log b last
   pub bound_is : last.bound ≡ bound
-  pub good : AreGood v log.lemmas
+  pub good : AreGood v log
 
 -- the bytes are the file of a good log for this board and bound
 pub record IsGoodFile (v : BundleView) (b file : List ℕ) (bound : ℕ) : Type 0 where

@@ -10,7 +10,7 @@ use Rattle.log_check.specs.declared.faults.LogRefusal.{LogRefusal}
 -- where each lemma of a log is good, each bounds the solutions of its board
 abbrev pub GoodLemmasBound : Type 0
 GoodLemmasBound =
-    (v : BundleView) → IsBundle v → (log : Log) → IsLog log → log.side ≡ v.side → AreGood v log.lemmas →
+    (v : BundleView) → IsBundle v → (log : Log) → IsLog log → log.side ≡ v.side → AreGood v log →
     (i : ℕ) (lemma : Lemma) → slice_get log.lemmas i ≡ Some lemma → IsBounded lemma.board lemma.bound
 
 -- no solution of the board of a good log has fewer moves than its bound
@@ -21,7 +21,7 @@ GoodLogsBound =
 -- a lemma is good or it isn't
 abbrev pub LemmasAreGoodOrNot : Type 0
 LemmasAreGoodOrNot =
-    (v : BundleView) → IsBundle v → (log : Log) → IsLog log → log.side ≡ v.side → (i : ℕ) → IsGood v log.lemmas i ⊎ (¬ IsGood v log.lemmas i)
+    (v : BundleView) → IsBundle v → (log : Log) → IsLog log → log.side ≡ v.side → (i : ℕ) → IsGood v log i ⊎ (¬ IsGood v log i)
 
 -- ---- one answer
 

@@ -6,8 +6,8 @@ use Rattle.puz_board.specs.Cells.{reverse_of}
 use Rattle.puz_board.specs.declared.moves.Move.{Move}
 use Rattle.puz_board.specs.declared.moves.Move.TheVariants.{Up, Down, Left, Right}
 use Rattle.set_sum.specs.Bundles.{BundleView, SaysAtLeast}
-use Rattle.log_file.specs.Logs.{Lemma}
-use Rattle.log_check.specs.Trees.{Tree, absent, leaf, citation, branch}
+use Rattle.log_file.specs.Logs.{Lemma, Log}
+use Rattle.log_check.specs.Trees.{HasLeaf, Tree, absent, leaf, citation, branch}
 
 -- ---- the moves of a branch
 
@@ -43,14 +43,15 @@ pub record Cites (lemmas : List Lemma) (i j : ℕ) (b : List ℕ) (r : ℕ) : Ty
 
 -- ---- refutations, in lemma i
 
-module _ (v : BundleView) (lemmas : List Lemma) (i : ℕ) where
+module _ (v : BundleView) (log : Log) (i : ℕ) where
   -- The tree refutes that the board, reached by the arriving move, has a solution of fewer than r moves that doesn't take
-  -- that move back. A leaf does where its set says never or at least r, and a citation where it may be made. A branch does
-  -- where the board isn't the goal board, r is 1 or more, and each child refutes the board after its move with one move less.
+  -- that move back. A leaf does where a log of this version may have it, and its set, taken by parity or not, says never or
+  -- at least r; a citation where it may be made. A branch does where the board isn't the goal board, r is 1 or more, and each
+  -- child refutes the board after its move with one move less.
   abbrev pub Refutes : Tree → List ℕ → Option Move → ℕ → Type 0
   Refutes absent b arriving r = ⊥
-  Refutes (leaf set) b arriving r = SaysAtLeast v set b r
-  Refutes (citation j) b arriving r = Cites lemmas i j b r
+  Refutes (leaf by_parity set) b arriving r = HasLeaf log.version by_parity × SaysAtLeast v by_parity set b r
+  Refutes (citation j) b arriving r = Cites log.lemmas i j b r
   Refutes (branch up down left right) b arriving r =
       (¬ IsGoal b) × (1 ≤ r) ×
       IsChild (moved b Up) (takes_back arriving Up) up (λ c. Refutes up c (Some Up) (r - 1)) ×

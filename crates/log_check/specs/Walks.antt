@@ -4,7 +4,7 @@ use Rattle.puz_board.specs.Boards.{IsGoal, moved}
 use Rattle.puz_board.specs.declared.moves.Move.{Move}
 use Rattle.puz_board.specs.declared.moves.Move.TheVariants.{Up, Down, Left, Right}
 use Rattle.set_sum.specs.Bundles.{BundleView, SaysAtLeast}
-use Rattle.log_file.specs.Logs.{Lemma}
+use Rattle.log_file.specs.Logs.{Log}
 use Rattle.log_check.specs.Refutations.{Cites, takes_back}
 use Rattle.log_check.specs.declared.nodes.Node.{Node}
 use Rattle.log_check.specs.declared.nodes.Node.TheVariants.{Branch, Leaf, Citation}
@@ -36,11 +36,11 @@ all_moves = Up ∷ Down ∷ Left ∷ Right ∷ []
 -- the boards that wait behind the node
 abbrev pub with_node : Node → Waiting → List Waiting → List Waiting
 with_node Branch w ws = with_children w all_moves ws
-with_node (Leaf set) w ws = ws
+with_node (Leaf by_parity set) w ws = ws
 with_node (Citation lemma) w ws = ws
 
 -- in lemma i the board may have this node
-abbrev pub MayHave : BundleView → List Lemma → ℕ → Waiting → Node → Type 0
-MayHave v lemmas i w Branch = (¬ IsGoal w.board) × (1 ≤ w.bound)
-MayHave v lemmas i w (Leaf set) = SaysAtLeast v set w.board w.bound
-MayHave v lemmas i w (Citation lemma) = Cites lemmas i lemma w.board w.bound
+abbrev pub MayHave : BundleView → Log → ℕ → Waiting → Node → Type 0
+MayHave v log i w Branch = (¬ IsGoal w.board) × (1 ≤ w.bound)
+MayHave v log i w (Leaf by_parity set) = SaysAtLeast v by_parity set w.board w.bound
+MayHave v log i w (Citation lemma) = Cites log.lemmas i lemma w.board w.bound

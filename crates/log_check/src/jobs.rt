@@ -25,7 +25,7 @@ impl<'a> Job for LogCheck<'a> {
 
     ghost begins = { λ check lemma. lemma };
 
-    ghost bad = { λ check lemma. ¬ IsGood check.bundle.now check.log.now.lemmas lemma };
+    ghost bad = { λ check lemma. ¬ IsGood check.bundle.now check.log.now lemma };
 
     ghost few = { λ check. check.few_lemmas };
 

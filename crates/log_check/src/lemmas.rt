@@ -3,6 +3,8 @@
 ghost use Rattle.std.specs.Prelude.{◌≡◌, ◌<◌, ◌↔◌, IsTrue, length};
 ghost use Rattle.puz_board.specs.Boards.{IsBoardOf};
 ghost use Rattle.set_sum.specs.Bundles.{SaysAtLeast};
+ghost use Rattle.set_sum.specs.Parity.{told_of};
+ghost use Rattle.tab_check.specs.declared.tables.Count.TheVariants.{Finite};
 ghost use Rattle.log_check.specs.GoodLogs.{IsGood};
 ghost use Rattle.log_check.specs.Nodes.{IsNode};
 ghost use Rattle.log_check.specs.Refutations.{Cites};
@@ -11,6 +13,7 @@ ghost use Rattle.log_check.specs.Walks.{MayHave};
 use crate::nodes::{Node, first_node};
 use crate::walks::{OpenBranches, Waiting};
 use log_file::LogView;
+use puz_board::Board;
 use set_sum::Bundle;
 use tab_check::Count;
 
@@ -21,8 +24,9 @@ use tab_check::Count;
 pub fn check_lemma(log: &LogView<'_>, bundle: &Bundle<'_>, i: u32) -> bool
     requires there { i < length log.now.lemmas }
     requires side { log.now.side ≡ bundle.now.side }
-    ensures { IsTrue result ↔ IsGood bundle.now log.now.lemmas i }
+    ensures { IsTrue result ↔ IsGood bundle.now log.now i }
 {
+    let version = log.version();
     let sets = bundle.sets();
     let mut rest = log.tree(i);
     let mut waiting = Waiting {
@@ -32,7 +36,7 @@ pub fn check_lemma(log: &LogView<'_>, bundle: &Bundle<'_>, i: u32) -> bool
     };
     let mut branches = OpenBranches::below(&waiting);
     loop {
-        let Some((node, behind)) = first_node(rest, sets) else {
+        let Some((node, behind)) = first_node(rest, version, sets) else {
             return false;
         };
         if !may_have(log, bundle, i, &waiting, node) {
@@ -54,25 +58,38 @@ fn may_have(log: &LogView<'_>, bundle: &Bundle<'_>, i: u32, waiting: &Waiting, n
     requires there { i < length log.now.lemmas }
     requires side { log.now.side ≡ bundle.now.side }
     requires board { IsBoardOf log.now.side waiting.now.board }
-    requires node { IsNode (length bundle.now.sets) node }
-    ensures { IsTrue result ↔ MayHave bundle.now log.now.lemmas i waiting.now node }
+    requires node { IsNode log.now.version (length bundle.now.sets) node }
+    ensures { IsTrue result ↔ MayHave bundle.now log.now i waiting.now node }
 {
     match node {
         Node::Branch => waiting.bound >= 1 && !waiting.board.is_goal(),
-        Node::Leaf(set) => says_at_least(bundle, set, waiting),
+        Node::Leaf { by_parity, set } => says_at_least(bundle, by_parity, set, waiting),
         Node::Citation(j) => cites(log, i, j, waiting),
     }
 }
 
-/// Whether what a set says of a board is never, or at least the board's bound.
-fn says_at_least(bundle: &Bundle<'_>, set: u8, waiting: &Waiting) -> bool
+/// Whether what a set says of a board, taken by parity or not, is never, or at least the board's bound.
+fn says_at_least(bundle: &Bundle<'_>, by_parity: bool, set: u8, waiting: &Waiting) -> bool
     requires set { set < length bundle.now.sets }
     requires board { IsBoardOf bundle.now.side waiting.now.board }
-    ensures { IsTrue result ↔ SaysAtLeast bundle.now set waiting.now.board waiting.now.bound }
+    ensures { IsTrue result ↔ SaysAtLeast bundle.now by_parity set waiting.now.board waiting.now.bound }
 {
     match bundle.sum(set, &waiting.board) {
-        Count::Finite(sum) => u16::from(waiting.bound) <= sum,
+        Count::Finite(sum) => u32::from(waiting.bound) <= told_of(by_parity, &waiting.board, sum),
         Count::Never => true,
+    }
+}
+
+/// What a finite sum tells of the solutions of a board: itself; or by parity, where it is raised to that of their numbers of
+/// moves.
+fn told_of(by_parity: bool, board: &Board, sum: u16) -> u32
+    ensures { Finite result ≡ told_of by_parity board.now (Finite sum) }
+{
+    let sum = u32::from(sum);
+    if by_parity && sum % 2 != u32::from(board.blank_parity()) {
+        sum + 1
+    } else {
+        sum
     }
 }
 

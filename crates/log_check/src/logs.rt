@@ -116,7 +116,7 @@ fn first_bad<R: Threads + Wait, G: Gate + Sync>(
     requires log { IsLog log.now }
     requires side { log.now.side ≡ bundle.now.side }
     requires workers { AreWorkers workers }
-    ensures { IfOk result (λ first. MatchOption first (AreGood bundle.now log.now.lemmas) (IsFirstBad bundle.now log.now.lemmas)) }
+    ensures { IfOk result (λ first. MatchOption first (AreGood bundle.now log.now) (IsFirstBad bundle.now log.now)) }
 {
     let check = LogCheck { log, bundle };
     match run_jobs(rt, alloc, &check, workers, gate) {

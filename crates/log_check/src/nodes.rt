@@ -9,17 +9,20 @@ ghost use Rattle.log_check.specs.Nodes.{BeginsWith, BeginsWithNone};
 pub(crate) enum Node {
     /// Its children follow.
     Branch,
-    /// It names the set with this number.
-    Leaf(u8),
+    /// It takes what the set with this number says of its board, by parity or not.
+    Leaf { by_parity: bool, set: u8 },
     /// It names the lemma with this number.
     Citation(u32),
 }
 
-/// The node at the front of the bytes, where there are so many sets, and the bytes behind it.
-pub(crate) fn first_node(bytes: &[u8], sets: u8) -> Option<(Node, &[u8])>
+/// The byte of a leaf by parity of set 0.
+const FIRST_BY_PARITY: u8 = 65;
+
+/// The node at the front of bytes of a log of this version, where there are so many sets, and the bytes behind it.
+pub(crate) fn first_node(bytes: &[u8], version: u8, sets: u8) -> Option<(Node, &[u8])>
     requires { sets ≤ most_sets }
-    ensures some { IfSome result (λ r. BeginsWith sets r.0 r.1.now bytes.now) }
-    ensures none { IfNone result (BeginsWithNone sets bytes.now) }
+    ensures some { IfSome result (λ r. BeginsWith version sets r.0 r.1.now bytes.now) }
+    ensures none { IfNone result (BeginsWithNone version sets bytes.now) }
 {
     match bytes {
         [0, behind @ ..] => Some((Node::Branch, behind)),
@@ -27,7 +30,17 @@ pub(crate) fn first_node(bytes: &[u8], sets: u8) -> Option<(Node, &[u8])>
             let lemma = u32::from_be_bytes([*a, *b, *c, *d]);
             Some((Node::Citation(lemma), behind))
         }
-        [byte, behind @ ..] if *byte <= sets => Some((Node::Leaf(*byte - 1), behind)),
+        [byte, behind @ ..] if *byte <= sets => {
+            let set = *byte - 1;
+            let by_parity = false;
+            Some((Node::Leaf { by_parity, set }, behind))
+        }
+        [byte, behind @ ..]
+            if version == 2 && FIRST_BY_PARITY <= *byte && *byte < FIRST_BY_PARITY + sets => {
+            let set = *byte - FIRST_BY_PARITY;
+            let by_parity = true;
+            Some((Node::Leaf { by_parity, set }, behind))
+        }
         _ => None,
     }
 }

@@ -1,9 +1,9 @@
 -- Each file is a log's or has a fault.
-use Rattle.std.proofs.Common.{◌≡◌, ◌≢◌, ℕ, zero, suc, ◌+◌, ◌*◌, ◌<◌, ◌≤◌, ◌^◌, ◌⊎◌, List, [], ◌∷◌, length, drop, take, inl, inr, refl, sym, subst, arith}
+use Rattle.std.proofs.Common.{◌≡◌, ◌≢◌, ℕ, zero, suc, ◌+◌, ◌*◌, ◌<◌, ◌≤◌, ◌⊎◌, List, [], ◌∷◌, length, drop, take, inl, inr, refl, sym, subst, arith}
 use Rattle.std.proofs.lemmas.Bool.{cases_eq, cases_lt}
 use Rattle.puz_board.specs.Boards.{IsBoardOf, at}
-use Rattle.log_file.specs.Logs.{IsSize, Log, most_lemmas}
-use Rattle.log_file.specs.LogFiles.{HasLemma, IsLogFile, count_in, front_lemma, head_length, header_length, side_in, signature, tree_length}
+use Rattle.log_file.specs.Logs.{IsSize, IsVersion, Log, most_lemmas}
+use Rattle.log_file.specs.LogFiles.{HasLemma, IsLogFile, count_in, front_lemma, head_length, header_length, side_in, signature, tree_length, version_in}
 use Rattle.log_file.specs.FormFaults.{AreFilled, HasHeader, IsFaultOf, behind_first, first_lemmas}
 use Rattle.log_file.specs.declared.faults.FormFault.{FormFault}
 use Rattle.log_file.specs.declared.faults.FormFault.TheVariants.{L1, L2, L3}
@@ -106,14 +106,23 @@ size_decided side count = elim (at_most_decided 2 side) [
   ]
 ]
 
+version_decided : (version : ℕ) → Decided (IsVersion version)
+version_decided version = elim (cases_eq version 1) [
+  | inl one ↦ inl (inl one)
+  | inr other ↦ elim (cases_eq version 2) [ inl two ↦ inl (inr two) | inr none ↦ inr (λ is. elim is [ inl one ↦ other one | inr two ↦ none two ]) ]
+]
+
 header_decided : (file : List ℕ) → Decided (HasHeader file)
 header_decided file = elim (at_most_decided header_length (length file)) [
   | inr not ↦ inr (λ has. not has.header.room)
-  | inl room ↦ elim (lists_decided (take 5 file) signature) [
+  | inl room ↦ elim (lists_decided (take 4 file) signature) [
     | inr not ↦ inr (λ has. not has.header.begins)
-    | inl begins ↦ elim (size_decided (side_in file) (count_in file)) [
-      | inr not ↦ inr (λ has. not has.size)
-      | inl size ↦ inl (record { header = record { room = room; begins = begins; is_side = refl; is_count = refl }; size = size })
+    | inl begins ↦ elim (version_decided (version_in file)) [
+      | inr not ↦ inr (λ has. not has.version)
+      | inl version ↦ elim (size_decided (side_in file) (count_in file)) [
+        | inr not ↦ inr (λ has. not has.size)
+        | inl size ↦ inl (record { header = record { room = room; begins = begins; is_version = refl; is_side = refl; is_count = refl }; version = version; size = size })
+      ]
     ]
   ]
 ]
@@ -139,7 +148,7 @@ module _ (file : List ℕ) (has : HasHeader file) where
 
   boards_answer : AreFilled n count bytes → ((log : Log) × IsLogFile log file) ⊎ ((fault : FormFault) × IsFaultOf fault file)
   boards_answer filled = elim (all_or_first (λ i. IsBoardOf n (front_lemma n (behind_first n i bytes)).board) (λ i. board_decided n _) count) [
-    | inl all ↦ inl (_, IsLogFile-first n count file has.header has.size (first_lemmas n count bytes) filled all refl)
+    | inl all ↦ inl (_, IsLogFile-first (version_in file) n count file has.header has.version has.size (first_lemmas n count bytes) filled all refl)
     | inr first ↦ inr (L3 first.0, (has, record { filled = filled; within = first.1; boards = first.2; no_board = first.3 }))
   ]
 

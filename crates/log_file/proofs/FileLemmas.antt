@@ -4,7 +4,7 @@ use Rattle.std.proofs.Math.Seq.{take-length}
 use Rattle.std.specs.Prelude.{IfOk}
 use Rattle.puz_board.specs.Boards.{IsBoardOf}
 use Rattle.std.specs.List.{AllByRecursion}
-use Rattle.log_file.specs.Logs.{IsSize, Lemma, Log}
+use Rattle.log_file.specs.Logs.{IsSize, IsVersion, Lemma, Log}
 use Rattle.log_file.specs.LogFiles.{AreLemmas, HasLemma, IsHeader, IsLogFile, count_in, front_lemma, header_length, side_in}
 use Rattle.log_file.specs.FormFaults.{AreBoards, AreFilled, HasHeader, IsFaultOf, IsFirstCut, IsFirstNoBoard, IsLeftOver, behind_first, first_lemmas}
 use Rattle.log_file.specs.declared.faults.FormFault.{FormFault}
@@ -18,7 +18,8 @@ use Rattle.log_file.proofs.RowLemmas.{AreFilled-lemmas, AreLemmas-first, boards-
 module _ (file : List ℕ) (log : Log) (is : IsLogFile log file) where
   pub HasHeader-log : HasHeader file
   HasHeader-log = record {
-    header = record { room = is.header.room; begins = is.header.begins; is_side = refl; is_count = refl };
+    header = record { room = is.header.room; begins = is.header.begins; is_version = refl; is_side = refl; is_count = refl };
+    version = subst IsVersion (sym is.header.is_version) is.is_log.version;
     size = subst (λ n. IsSize n (count_in file)) (sym is.header.is_side) (subst (IsSize log.side) (sym is.header.is_count) is.is_log.size);
   }
 
@@ -34,9 +35,10 @@ module _ (file : List ℕ) (log : Log) (is : IsLogFile log file) where
 
 pub one_log : (file : List ℕ) (a b : Log) → IsLogFile a file → IsLogFile b file → a ≡ b
 one_log file a b is_a is_b =
+    let versions : a.version ≡ b.version = sym is_a.header.is_version ∙ is_b.header.is_version in
     let sides : a.side ≡ b.side = sym is_a.header.is_side ∙ is_b.header.is_side in
     let lemmas : a.lemmas ≡ b.lemmas = lemmas_are file a is_a ∙ sym (lemmas_are file b is_b) in
-    λ i. record { side = sides i; lemmas = lemmas i }
+    λ i. record { version = versions i; side = sides i; lemmas = lemmas i }
 
 -- ---- one fault
 
@@ -93,23 +95,24 @@ no_fault file log (L3 i) is stands =
 behind_header : (file : List ℕ) → take (length file - header_length) (drop header_length file) ≡ drop header_length file
 behind_header file = ap (λ k. take k (drop header_length file)) (sym (length-drop header_length file)) ∙ take-length (drop header_length file)
 
-module _ (side count : ℕ) (file : List ℕ) (header : IsHeader side count file) (size : IsSize side count) where
+module _ (version side count : ℕ) (file : List ℕ) (header : IsHeader version side count file) (known : IsVersion version) (size : IsSize side count) where
   pub IsLogFile-first : (lemmas : List Lemma) → AreFilled side count (drop header_length file) → AreBoards side count (drop header_length file)
-      → lemmas ≡ first_lemmas side count (drop header_length file) → IsLogFile (record { side = side; lemmas = lemmas }) file
+      → lemmas ≡ first_lemmas side count (drop header_length file) → IsLogFile (record { version = version; side = side; lemmas = lemmas }) file
   IsLogFile-first lemmas filled boards are =
       let counted : length lemmas ≡ count = ap length are ∙ length-first_lemmas side count (drop header_length file) in
       record {
         is_log = record {
+          version = known;
           size = subst (IsSize side) (sym counted) size;
           boards = subst (AllByRecursion (λ lemma. IsBoardOf side lemma.board)) (sym are) (boards-first side count (drop header_length file) boards);
         };
-        header = subst (λ k. IsHeader side k file) (sym counted) header;
+        header = subst (λ k. IsHeader version side k file) (sym counted) header;
         lemmas = subst (λ ls. AreLemmas side ls (drop header_length file)) (sym are) (AreLemmas-first side count (drop header_length file) filled);
       }
 
   -- the same of the bytes behind the header, as they are taken
   pub IsLogFile-read : (lemmas : List Lemma) → let bytes = take (length file - header_length) (drop header_length file) in AreFilled side count bytes → AreBoards side count bytes
-      → lemmas ≡ first_lemmas side count bytes → IsLogFile (record { side = side; lemmas = lemmas }) file
+      → lemmas ≡ first_lemmas side count bytes → IsLogFile (record { version = version; side = side; lemmas = lemmas }) file
   IsLogFile-read lemmas filled boards are =
       IsLogFile-first lemmas (subst (AreFilled side count) (behind_header file) filled) (subst (AreBoards side count) (behind_header file) boards)
       (are ∙ ap (first_lemmas side count) (behind_header file))

@@ -1,14 +1,15 @@
 -- What keeps bytes from being a log file.
 use Rattle.std.specs.Prelude.{◌≡◌, ◌≢◌, ◌⊎◌, ℕ, zero, suc, ◌<◌, List, [], ◌∷◌, drop}
 use Rattle.puz_board.specs.Boards.{IsBoardOf}
-use Rattle.log_file.specs.Logs.{IsSize, Lemma}
-use Rattle.log_file.specs.LogFiles.{HasLemma, IsHeader, behind, count_in, front_lemma, header_length, side_in}
+use Rattle.log_file.specs.Logs.{IsSize, IsVersion, Lemma}
+use Rattle.log_file.specs.LogFiles.{HasLemma, IsHeader, behind, count_in, front_lemma, header_length, side_in, version_in}
 use Rattle.log_file.specs.declared.faults.FormFault.{FormFault}
 use Rattle.log_file.specs.declared.faults.FormFault.TheVariants.{L1, L2, L3}
 
--- the header is that of a log of some side and some number of lemmas
+-- the header is that of a log of some version, some side and some number of lemmas
 pub record HasHeader (file : List ℕ) : Type 0 where
-  pub header : IsHeader (side_in file) (count_in file) file
+  pub header : IsHeader (version_in file) (side_in file) (count_in file) file
+  pub version : IsVersion (version_in file)
   pub size : IsSize (side_in file) (count_in file)
 
 -- the bytes behind the first lemmas, so many of them

@@ -1,6 +1,6 @@
 -- Log files: a header, and behind it the lemmas, one after the other.
 -- The places of bytes are counted from 0, and a number of several bytes has its highest byte first.
-use Rattle.std.specs.Prelude.{◌≡◌, ℕ, ◌+◌, ◌*◌, ◌≤◌, List, [], ◌∷◌, ◌++◌, codes, drop, length, slice_index, take}
+use Rattle.std.specs.Prelude.{◌≡◌, ℕ, ◌+◌, ◌*◌, ◌≤◌, List, [], ◌∷◌, codes, drop, length, slice_index, take}
 use Rattle.byteorder.specs.Endian.{big_number}
 use Rattle.log_file.specs.Logs.{IsLog, Lemma, Log}
 
@@ -10,9 +10,13 @@ use Rattle.log_file.specs.Logs.{IsLog, Lemma, Log}
 abbrev pub header_length : ℕ
 header_length = 10
 
--- how it begins: the letters of the format, and the version
+-- how it begins: the letters of the format
 abbrev pub signature : List ℕ
-signature = codes "PDBL" ++ 1 ∷ []
+signature = codes "PDBL"
+
+-- the version of the format
+abbrev pub version_in : List ℕ → ℕ
+version_in file = slice_index file 4
 
 -- the side of the boards
 abbrev pub side_in : List ℕ → ℕ
@@ -22,10 +26,11 @@ side_in file = slice_index file 5
 abbrev pub count_in : List ℕ → ℕ
 count_in file = big_number 4 (drop 6 file)
 
--- the first bytes are the header of a log of this side and so many lemmas
-pub record IsHeader (side count : ℕ) (file : List ℕ) : Type 0 where
+-- the first bytes are the header of a log of this version and side and so many lemmas
+pub record IsHeader (version side count : ℕ) (file : List ℕ) : Type 0 where
   pub room : header_length ≤ length file
-  pub begins : take 5 file ≡ signature
+  pub begins : take 4 file ≡ signature
+  pub is_version : version_in file ≡ version
   pub is_side : side_in file ≡ side
   pub is_count : count_in file ≡ count
 
@@ -70,5 +75,5 @@ AreLemmas n (lemma ∷ more) bytes = HasLemma n bytes × (lemma ≡ front_lemma 
 -- the header of the log, and then its lemmas
 pub record IsLogFile (log : Log) (file : List ℕ) : Type 0 where
   pub is_log : IsLog log
-  pub header : IsHeader log.side (length log.lemmas) file
+  pub header : IsHeader log.version log.side (length log.lemmas) file
   pub lemmas : AreLemmas log.side log.lemmas (drop header_length file)

@@ -1,6 +1,6 @@
 -- Logs of lemmas. A lemma is a board, a bound, and the bytes of a tree: it claims that no solution of the board has fewer
 -- moves than the bound, and its tree is to prove that.
-use Rattle.std.specs.Prelude.{ℕ, ◌≤◌, ◌^◌, List, length}
+use Rattle.std.specs.Prelude.{◌≡◌, ◌⊎◌, ℕ, ◌≤◌, ◌^◌, List, length}
 use Rattle.std.specs.List.{AllByRecursion}
 use Rattle.puz_board.specs.Boards.{IsBoardOf}
 
@@ -10,10 +10,16 @@ pub record Lemma : Type 0 where
   pub bound : ℕ
   pub tree : List ℕ
 
--- what a contract sees of a log: the side of its boards, and its lemmas in their order, which are numbered from 0
+-- what a contract sees of a log: the version of its format, the side of its boards, and its lemmas in their order, which are
+-- numbered from 0
 pub record Log : Type 0 where
+  pub version : ℕ
   pub side : ℕ
   pub lemmas : List Lemma
+
+-- the versions of the format
+abbrev pub IsVersion : ℕ → Type 0
+IsVersion version = (version ≡ 1) ⊎ (version ≡ 2)
 
 -- a log has at most so many lemmas
 abbrev pub most_lemmas : ℕ
@@ -26,7 +32,8 @@ pub record IsSize (side count : ℕ) : Type 0 where
   pub some : 1 ≤ count
   pub few : count ≤ most_lemmas
 
--- a log of that size, each board of which has its side
+-- a log of a version and of that size, each board of which has its side
 pub record IsLog (log : Log) : Type 0 where
+  pub version : IsVersion log.version
   pub size : IsSize log.side (length log.lemmas)
   pub boards : AllByRecursion (λ lemma. IsBoardOf log.side lemma.board) log.lemmas

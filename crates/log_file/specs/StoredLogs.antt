@@ -8,6 +8,6 @@ use Rattle.log_file.specs.declared.views.LogView.TheInside.{Inside}
 abbrev pub lemma_viewed : LemmaView → Lemma
 lemma_viewed lemma = record { board = lemma.board; bound = lemma.bound; tree = lemma.tree.now }
 
--- the log with this side and these lemmas
+-- the log with this version, this side and these lemmas
 abbrev pub log_shown : Inside → Log
-log_shown view = record { side = view.side; lemmas = map lemma_viewed view.lemmas.items }
+log_shown view = record { version = view.version; side = view.side; lemmas = map lemma_viewed view.lemmas.items }

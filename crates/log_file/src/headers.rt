@@ -3,7 +3,7 @@
 ghost use Rattle.std.specs.Prelude.{IfNone, IfSome};
 ghost use Rattle.log_file.specs.FormFaults.{HasHeader};
 ghost use Rattle.log_file.specs.LogFiles.{IsHeader};
-ghost use Rattle.log_file.specs.Logs.{IsSize};
+ghost use Rattle.log_file.specs.Logs.{IsSize, IsVersion};
 
 use byteorder::{BigEndian, ByteOrder};
 use puz_board::Side;
@@ -11,8 +11,11 @@ use puz_board::Side;
 /// How many bytes a header has.
 pub const HEADER_LEN: usize = 10;
 
-/// How a header begins: the letters of the format, and its version.
-pub const SIGNATURE: &[u8; 5] = b"PDBL\x01";
+/// How a header begins: the letters of the format.
+pub const SIGNATURE: &[u8; 4] = b"PDBL";
+
+/// The newest version of the format. There are this one and version 1.
+pub const NEWEST_VERSION: u8 = 2;
 
 /// The most bytes of a log file.
 pub const MOST_BYTES: usize = 1 << 30;
@@ -23,6 +26,8 @@ const MOST_LEMMAS: u32 = 1 << 20;
 /// What a header says.
 #[derive(Clone, Copy)]
 pub(crate) struct Header {
+    /// The version of the format.
+    pub(crate) version: u8,
     /// The side of the boards.
     pub(crate) side: Side,
     /// How many lemmas there are.
@@ -31,16 +36,24 @@ pub(crate) struct Header {
 
 /// Reads the header of a log file.
 pub(crate) fn read_header(file: &[u8]) -> Option<Header>
-    ensures some { IfSome result (λ h. IsHeader h.side h.count file.now × IsSize h.side h.count) }
+    ensures some { IfSome result (λ h. IsHeader h.version h.side h.count file.now × IsVersion h.version × IsSize h.side h.count) }
     ensures none { IfNone result (¬ HasHeader file.now) }
 {
     if file.len() < HEADER_LEN || !file.starts_with(SIGNATURE) {
         return None;
     }
+    let version = file[4];
+    if version != 1 && version != NEWEST_VERSION {
+        return None;
+    }
     let side = Side::of(file[5])?;
     let count = BigEndian::read_u32(&file[6..]);
     if 1 <= count && count <= MOST_LEMMAS {
-        Some(Header { side, count })
+        Some(Header {
+            version,
+            side,
+            count,
+        })
     } else {
         None
     }

@@ -12,5 +12,5 @@ mod views;
 
 pub use faults::{FormFault, ViewFault};
 pub use fronts::BOUND_AND_LENGTH;
-pub use headers::{HEADER_LEN, MOST_BYTES, SIGNATURE};
+pub use headers::{HEADER_LEN, MOST_BYTES, NEWEST_VERSION, SIGNATURE};
 pub use views::{LemmaView, LogView};

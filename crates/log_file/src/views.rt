@@ -4,7 +4,7 @@ ghost use Rattle.std.specs.Prelude.{◌≡◌, ◌⊎◌, ◌<◌, ◌≤◌, �
 ghost use Rattle.puz_board.specs.Boards.{IsBoardOf};
 ghost use Rattle.log_file.specs.FormFaults.{AreBoards, AreFilled, IsFaultOf, first_lemmas};
 ghost use Rattle.log_file.specs.LogFiles.{IsLogFile};
-ghost use Rattle.log_file.specs.Logs.{IsLog, Lemma, Log, most_lemmas};
+ghost use Rattle.log_file.specs.Logs.{IsLog, IsVersion, Lemma, Log, most_lemmas};
 ghost use Rattle.log_file.specs.StoredLogs.{lemma_viewed};
 ghost use Rattle.log_file.specs.declared.faults.FormFault.{FormFault};
 ghost use Rattle.log_file.specs.declared.faults.ViewFault.TheVariants.{Memory, Refused};
@@ -31,6 +31,7 @@ pub struct LemmaView<'a> {
 /// The log in the bytes of its file. What its trees prove isn't looked at.
 #[derive(Drop)]
 pub struct LogView<'a> {
+    version: u8,
     side: Side,
     lemmas: Vec<LemmaView<'a>>,
 }
@@ -62,6 +63,14 @@ impl<'a> LogView<'a> {
         ensures memory { result ≡ Err Memory → (log : Log) × IsLogFile log file.now }
     {
         read_log(alloc, file)
+    }
+
+    /// The version of its format, byte 4 of its file: 1 or 2.
+    pub fn version(&self) -> u8
+        ensures version { result ≡ self.now.version }
+        ensures known { IsVersion result }
+    {
+        self.version
     }
 
     /// The side of its boards.
@@ -121,6 +130,7 @@ fn read_log(alloc: Global, file: &[u8]) -> Result<LogView<'_>, ViewFault>
     check_boards(&header, bytes).map_err(ViewFault::Refused)?;
     match lemmas_in(alloc, &header, bytes) {
         Ok(lemmas) => Ok(LogView {
+            version: header.version,
             side: header.side,
             lemmas,
         }),

@@ -4,9 +4,13 @@
 #[cfg(test)]
 mod bundles;
 #[cfg(test)]
+mod folds;
+#[cfg(test)]
 mod lemmas;
 #[cfg(test)]
 mod logs;
+#[cfg(test)]
+mod parity;
 #[cfg(test)]
 mod plain_logs;
 #[cfg(test)]

@@ -24,10 +24,10 @@ const GOAL_OF_SIDE_3: [u8; 25] =
     *b"PDBL\x01\x03\0\0\0\x01\0\x01\x02\x03\x04\x05\x06\x07\x08\0\0\0\0\x01\x01";
 
 /// The board of most logs here.
-const BOARD: Cells = [3, 2, 1, 0];
+pub(crate) const BOARD: Cells = [3, 2, 1, 0];
 
 /// What a log is answered for a board over a bundle, which is the same by any number of workers.
-fn answer<R: Threads + Wait + AllocGlobal + Abort>(
+pub(crate) fn answer<R: Threads + Wait + AllocGlobal + Abort>(
     rt: &R,
     bundle: &Bundle<'_>,
     log: &[u8],
@@ -45,22 +45,27 @@ fn answer<R: Threads + Wait + AllocGlobal + Abort>(
     alone
 }
 
-fn refused(fault: LogRefusal) -> Result<u8, LogFault> {
+pub(crate) fn refused(fault: LogRefusal) -> Result<u8, LogFault> {
     Err(LogFault::Refused(fault))
 }
 
-fn misformed(fault: FormFault) -> Result<u8, LogFault> {
+pub(crate) fn misformed(fault: FormFault) -> Result<u8, LogFault> {
     refused(LogRefusal::Form(fault))
 }
 
 #[test]
 fn good_logs_prove_their_bounds(rt: HostRuntime) {
-    let logs: [(&[&[u8]], &[u8], &[u8], Cells, u8); 6] = [
+    let leaf_of_4 = with_byte(&LEAF, 14, 4);
+    let logs: [(&[&[u8]], &[u8], &[u8], Cells, u8); 9] = [
         (&[&TILES_123], b"set 0\n", &LEAF, BOARD, 6),
         (&[&TILES_12], b"set 0\n", &BRANCHES, BOARD, 6),
         (&[&TILES_12], b"set 0\n", &CITATION, BOARD, 6),
         // The sum is 4 + 2.
         (&[&TILES_12, &TILE_3], b"set 0 1\n", &LEAF, BOARD, 6),
+        // The tile 1 gives 2, and so does the tile 2; the tile 3 gives 2 too.
+        (&[&TILE_1], b"set 0 0t\n", &leaf_of_4, BOARD, 4),
+        (&[&TILE_1, &TILE_3], b"set 0 0t 1\n", &LEAF, BOARD, 6),
+        (&[&TILES_12], b"set 0t\n", &BRANCHES, BOARD, 6),
         (&[&TILES_123], b"set 0\n", &UNSOLVABLE, [0, 1, 3, 2], 255),
         (&[&TILES_123], b"set 0\n", &GOAL, [0, 1, 2, 3], 0),
     ];
@@ -257,9 +262,20 @@ fn the_first_bad_lemma_is_named(rt: HostRuntime) {
 }
 
 #[test]
+fn a_transposed_member_adds_no_more_than_its_tiles_cost(rt: HostRuntime) {
+    let bundle = bundle(&rt, &[&TILE_1], b"set 0 0t\n");
+    assert_eq!(rt;
+        answer(&rt, &bundle, &with_byte(&LEAF, 14, 5), &BOARD),
+        refused(LogRefusal::L6(0))
+    );
+}
+
+#[test]
 fn no_bundle_comes_of_other_sets(rt: HostRuntime) {
-    let sets: [(&[&[u8]], &[u8], SetFault); 3] = [
+    let sets: [(&[&[u8]], &[u8], SetFault); 5] = [
         (&[&TILES_12, &TILE_1], b"set 0 1\n", SetFault::S3(0)),
+        (&[&TILES_12, &TILE_1], b"set 0 1t\n", SetFault::S3(0)),
+        (&[&TILES_12], b"set 0 0t\n", SetFault::S6(0)),
         (&[&TILE_1, &TILE_24], b"set 0 1\n", SetFault::S4(1)),
         (&[&TILES_12, &TILE_3], b"set 0\nset 1 0\n", SetFault::S1(1)),
     ];
@@ -417,7 +433,7 @@ fn want_of_memory_is_answered_and_a_second_check_finds_the_bound(rt: HostRuntime
 }
 
 /// Compares what is answered of a log with what a plain reading answers.
-fn compare<R: Threads + Wait + AllocGlobal + Abort>(
+pub(crate) fn compare<R: Threads + Wait + AllocGlobal + Abort>(
     rt: &R,
     bundle: &Bundle<'_>,
     tiles: &[u8],
@@ -433,7 +449,7 @@ fn compare<R: Threads + Wait + AllocGlobal + Abort>(
 }
 
 /// Compares the answers of a log with each byte changed to each other.
-fn compare_changed<R: Threads + Wait + AllocGlobal + Abort, const N: usize>(
+pub(crate) fn compare_changed<R: Threads + Wait + AllocGlobal + Abort, const N: usize>(
     rt: &R,
     table: &[u8],
     tiles: &[u8],

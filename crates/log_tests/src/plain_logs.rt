@@ -16,6 +16,9 @@ const TO: [[Option<usize>; 4]; 4] = [
     [Some(1), None, Some(3), None],
 ];
 
+/// How many rows and columns lie between each cell and cell 0.
+const FROM_CELL_0: [usize; 4] = [0, 1, 1, 2];
+
 /// A lemma, as it lies in the bytes.
 #[derive(Clone, Copy)]
 struct Lemma<'a> {
@@ -27,6 +30,7 @@ struct Lemma<'a> {
 /// The lemmas of a file.
 #[derive(Clone, Copy)]
 struct Lemmas<'a> {
+    version: u8,
     /// How many cells a board has.
     cells: usize,
     count: u32,
@@ -69,10 +73,13 @@ fn read(file: &[u8]) -> Result<Lemmas<'_>, FormFault> {
         _ => 0,
     };
     let count = u32::from_be_bytes([header[6], header[7], header[8], header[9]]);
-    if !header.starts_with(b"PDBL\x01") || cells == 0 || count == 0 || count > 1 << 20 {
+    let version = header[4];
+    let is_known = header.starts_with(b"PDBL") && matches!(version, 1 | 2);
+    if !is_known || cells == 0 || count == 0 || count > 1 << 20 {
         return Err(FormFault::L1);
     }
     let lemmas = Lemmas {
+        version,
         cells,
         count,
         bytes,
@@ -164,8 +171,8 @@ fn behind_tree<'a>(
     bound: u8,
 ) -> Option<&'a [u8]> {
     let (node, mut rest) = bytes.split_first()?;
-    if *node == 1 {
-        return if reaches(tiles, board, bound) {
+    if *node == 1 || (lemmas.version == 2 && *node == 0x41) {
+        return if reaches(tiles, board, *node == 0x41, bound) {
             Some(rest)
         } else {
             None
@@ -209,16 +216,34 @@ fn behind_citation<'a>(
     }
 }
 
-/// Whether no walk leads the tiles of a board home, or each such walk moves them so often.
-fn reaches(tiles: &[u8], board: &Cells, bound: u8) -> bool {
+/// Whether no walk leads the tiles of a board home, or each such walk moves them so often. By parity one move more is
+/// counted where their number and the blank's way to cell 0 aren't both even or both odd.
+fn reaches(tiles: &[u8], board: &Cells, by_parity: bool, bound: u8) -> bool {
     match RING.iter().position(|other| other == board) {
         Some(place) => {
             let ahead = tile_moves(tiles, &RING, place, 12);
             let back = tile_moves(tiles, &RING, 0, place);
-            usize::from(bound) <= ahead.min(back)
+            let count = ahead.min(back);
+            let more = by_parity && is_odd(count) != is_odd(way_of_blank(board));
+            usize::from(bound) <= count.saturating_add(usize::from(more))
         }
         None => true,
     }
+}
+
+fn is_odd(count: usize) -> bool {
+    count % 2 == 1
+}
+
+/// How many rows and columns lie between the blank and cell 0.
+fn way_of_blank(board: &Cells) -> usize {
+    let mut way = 0;
+    for (number, from_cell_0) in board.iter().zip(FROM_CELL_0) {
+        if *number == 0 {
+            way = from_cell_0;
+        }
+    }
+    way
 }
 
 /// How many of the moves round the ring, from one place to another, move one of the tiles.

@@ -3,7 +3,7 @@
 use crate::bundles::checked;
 use puz_board::Board;
 use samples::files::{TILE_1, TILE_3, TILE_24, TILES_12, TILES_123};
-use set_sum::{Bundle, SetFault};
+use set_sum::{Bundle, Member, SetFault};
 use std::alloc::Global;
 use std::process::Abort;
 use std::sync::Wait;
@@ -40,7 +40,7 @@ fn sum<R: Threads + Wait + AllocGlobal + Abort>(
 /// A bundle's files and its set text, a set and a board, and the sum.
 type Sum = (&'static [&'static [u8]], &'static [u8], u8, [u8; 4], Count);
 
-const SUMS: [Sum; 7] = [
+const SUMS: [Sum; 9] = [
     (
         &[&TILES_12, &TILE_3],
         b"set 0 1\n",
@@ -78,6 +78,8 @@ const SUMS: [Sum; 7] = [
     ),
     (&[&TILES_123], b"set 0\n", 0, [3, 2, 1, 0], Count::Finite(6)),
     (&[&TILES_123], b"set 0\n", 0, [0, 1, 3, 2], Count::Never),
+    (&[&TILE_1], b"set 0 0t\n", 0, [3, 2, 1, 0], Count::Finite(4)),
+    (&[&TILE_1], b"set 0t\n", 0, [1, 0, 2, 3], Count::Finite(0)),
 ];
 
 #[test]
@@ -126,23 +128,39 @@ fn mask<R: Threads + Wait + AllocGlobal + Abort>(
 ) -> Option<u32> {
     let bundle = Bundle::read(checked(rt, files), text).ok()?;
     if number < bundle.tables() {
-        Some(bundle.table(number).pattern().mask())
+        Some(bundle.part(number).pattern().mask())
     } else {
         None
     }
 }
 
-/// Whether these are the numbers of a set of a bundle.
+/// The member of a table for its own pattern.
+fn plain(table: u8) -> Member {
+    Member {
+        table,
+        is_transposed: false,
+    }
+}
+
+/// The member of a table for the transposed pattern.
+fn transposed(table: u8) -> Member {
+    Member {
+        table,
+        is_transposed: true,
+    }
+}
+
+/// Whether these are the members of a set of a bundle.
 fn has_set<R: Threads + Wait + AllocGlobal + Abort>(
     rt: &R,
     files: &[&[u8]],
     text: &[u8],
     set: u8,
-    numbers: &[u8],
+    members: &[Member],
 ) -> Option<bool> {
     let bundle = Bundle::read(checked(rt, files), text).ok()?;
     if set < bundle.sets() {
-        Some(bundle.set(set) == numbers)
+        Some(bundle.members(set) == members)
     } else {
         None
     }
@@ -151,11 +169,17 @@ fn has_set<R: Threads + Wait + AllocGlobal + Abort>(
 #[test]
 fn tables_and_sets_are_those_that_were_read(rt: HostRuntime) {
     let files: [&[u8]; 2] = [&TILES_12, &TILE_3];
-    let text = b"set 0 1\nset 1\n";
-    let tables: [(u8, u32, &[u8]); 2] = [(0, 6, &[0, 1]), (1, 8, &[1])];
-    for (number, tiles, set) in tables {
+    let text = b"set 0 1\nset 1\nset 0t 1\n";
+    for (number, tiles) in [(0, 6), (1, 8)] {
         assert_eq!(rt; mask(&rt, &files, text, number), Some(tiles));
-        assert_eq!(rt; has_set(&rt, &files, text, number, set), Some(true));
+    }
+    let sets: [(u8, &[Member]); 3] = [
+        (0, &[plain(0), plain(1)]),
+        (1, &[plain(1)]),
+        (2, &[transposed(0), plain(1)]),
+    ];
+    for (set, members) in sets {
+        assert_eq!(rt; has_set(&rt, &files, text, set, members), Some(true));
     }
 }
 
@@ -183,7 +207,7 @@ fn a_bundle_has_1_to_16_sets(rt: HostRuntime) {
 #[test]
 fn lines_of_another_form_are_refused(rt: HostRuntime) {
     let files: [&[u8]; 1] = [&TILE_1];
-    let texts: [(&[u8], usize); 20] = [
+    let texts: [(&[u8], usize); 27] = [
         (b"", 0),
         (b"set 0", 0),
         (b"set 00\n", 0),
@@ -201,7 +225,14 @@ fn lines_of_another_form_are_refused(rt: HostRuntime) {
         (b"set 1 0\n", 0),
         (b"set 0 0\n", 0),
         (b"set 100\n", 0),
-        (b"set 0t\n", 0),
+        (b"set 0t 0\n", 0),
+        (b"set 0t 0t\n", 0),
+        (b"set 0T\n", 0),
+        (b"set 0tt\n", 0),
+        (b"set 0 t\n", 0),
+        (b"set t\n", 0),
+        (b"set 00t\n", 0),
+        (b"set 1t 0\n", 0),
         (b"set 0\nset 1 0\n", 1),
         (b"set 0\nset 0\n ", 2),
     ];
@@ -247,6 +278,55 @@ fn missing_and_overlapping_tables_are_refused(rt: HostRuntime) {
     for (files, text, want) in texts {
         assert_eq!(rt; fault(&rt, files, text), Some(want), "{text:?}");
     }
+}
+
+#[test]
+fn transposed_members_of_one_pattern_are_refused(rt: HostRuntime) {
+    let faults: [(&[&[u8]], &[u8], SetFault); 13] = [
+        (&[&TILES_12], b"set 0 0t\n", SetFault::S6(0)),
+        (&[&TILE_3], b"set 0 0t\n", SetFault::S6(0)),
+        (&[&TILE_1, &TILE_1], b"set 0t 1t\n", SetFault::S6(0)),
+        (&[&TILES_12], b"set 0\nset 0t\nset 0 0t\n", SetFault::S6(2)),
+        // Two plain members of one pattern share their tiles.
+        (&[&TILE_1, &TILE_1], b"set 0 1\n", SetFault::S3(0)),
+        // Members that share some of their tiles alone do that too.
+        (&[&TILES_12, &TILE_1], b"set 0 1t\n", SetFault::S3(0)),
+        (&[&TILES_12, &TILE_1], b"set 0t 1\n", SetFault::S3(0)),
+        // A bad line comes before a missing table, this before one pattern, and this before shared tiles.
+        (&[&TILES_12], b"set 0 0t\nset 0T\n", SetFault::S1(1)),
+        (
+            &[&TILES_12],
+            b"set 0 0t\nset 1t\nset 0t 0\n",
+            SetFault::S1(2),
+        ),
+        (&[&TILES_12], b"set 0 0t 1\n", SetFault::S2(0)),
+        (&[&TILES_12], b"set 0 0t\nset 1t\n", SetFault::S2(1)),
+        (
+            &[&TILE_1, &TILES_12],
+            b"set 0 1\nset 1 1t\n",
+            SetFault::S6(1),
+        ),
+        (
+            &[&TILE_1, &TILE_1],
+            b"set 0 1\nset 0t 1t\n",
+            SetFault::S6(1),
+        ),
+    ];
+    for (files, text, want) in faults {
+        assert_eq!(rt; fault(&rt, files, text), Some(want), "{text:?}");
+    }
+}
+
+/// Both members of each of 16 tables.
+const ALL_MEMBERS: &[u8] =
+    b"set 0 0t 1 1t 2 2t 3 3t 4 4t 5 5t 6 6t 7 7t 8 8t 9 9t 10 10t 11 11t 12 12t 13 13t 14 14t 15 15t\n";
+
+#[test]
+fn a_line_names_each_table_twice_at_most(rt: HostRuntime) {
+    let sixteen: [&[u8]; 16] = [&TILE_1; 16];
+    let fifteen: [&[u8]; 15] = [&TILE_1; 15];
+    assert_eq!(rt; fault(&rt, &sixteen, ALL_MEMBERS), Some(SetFault::S6(0)));
+    assert_eq!(rt; fault(&rt, &fifteen, ALL_MEMBERS), Some(SetFault::S2(0)));
 }
 
 #[test]

@@ -30,7 +30,7 @@ fn lemmas_are_read_in_their_order(rt: HostRuntime) {
     let log = LogView::read(rt.alloc(), &CITATION)
         .ok()
         .expect(&rt, "a log");
-    assert_eq!(rt; (log.side().get(), log.len()), (2, 2));
+    assert_eq!(rt; (log.version(), log.side().get(), log.len()), (1, 2, 2));
     let lemmas: [([u8; 4], u8, &[u8]); 2] = [
         ([3, 0, 1, 2], 5, b"\0\x01\0\0\0\x01"),
         ([3, 2, 1, 0], 6, b"\0\x20\0\0\0\0\0\0\0\0\x01"),
@@ -45,7 +45,16 @@ fn lemmas_are_read_in_their_order(rt: HostRuntime) {
 #[test]
 fn headers_are_refused(rt: HostRuntime) {
     let alloc = rt.alloc();
-    let changes: [(usize, u8); 7] = [(0, 0x51), (3, 0x54), (4, 2), (5, 1), (5, 6), (9, 0), (6, 1)];
+    let changes: [(usize, u8); 8] = [
+        (0, 0x51),
+        (3, 0x54),
+        (4, 0),
+        (4, 3),
+        (5, 1),
+        (5, 6),
+        (9, 0),
+        (6, 1),
+    ];
     for (place, byte) in changes {
         let file = with_byte(&LEAF, place, byte);
         assert_eq!(rt; refused(alloc, &file), Some(FormFault::L1), "byte {place}");

@@ -31,17 +31,25 @@ fn searches_of_side_2_end_below_the_budget_that_they_need(rt: HostRuntime) {
     let one = bundle(&rt, &[&TILE_1], b"set 0\n");
     let two = bundle(&rt, &[&TILES_12], b"set 0\n");
     let all = bundle(&rt, &[&TILES_123], b"set 0\n");
-    for (bundle, expanded) in [(&one, 30), (&two, 18), (&all, 6)] {
+    let both = bundle(&rt, &[&TILE_1], b"set 0 0t\n");
+    for (bundle, expanded) in [(&one, 16), (&two, 9), (&all, 6), (&both, 9)] {
         ends_below(&rt, bundle, &[3, 2, 1, 0], expanded, b"ULDRUL");
     }
 }
 
 #[test]
-fn a_search_of_side_3_ends_below_the_budget_that_it_needs(rt: HostRuntime) -> Result<(), Fail> {
+fn searches_of_side_3_end_below_the_budget_that_they_need(rt: HostRuntime) -> Result<(), Fail> {
     let (first, second) = halves_of_side_3(rt.alloc())?;
-    let parts = bundle(&rt, &[&first, &second], b"set 0 1\n");
     let numbers = [3, 2, 1, 7, 6, 0, 5, 8, 4];
-    ends_below(&rt, &parts, &numbers, 33, b"DLUURDLLDRULURRDLUL");
+    let cases: [(&[u8], u64); 3] = [
+        (b"set 0 1\n", 33),
+        (b"set 0t 1t\n", 29),
+        (b"set 0 1\nset 0t 1t\n", 22),
+    ];
+    for (sets, expanded) in cases {
+        let bundle = bundle(&rt, &[&first, &second], sets);
+        ends_below(&rt, &bundle, &numbers, expanded, b"DLUURDLLDRULURRDLUL");
+    }
     Ok(())
 }
 

@@ -1,18 +1,31 @@
-//! Searches over tables and a set text.
+//! Tables, and searches over them and a set text.
 
-use puz_board::Board;
-use puz_make::{Found, MakeFault, solve};
+use log_check::{LogFault, check_log};
+use pat_place::Pattern;
+use puz_board::{Board, Side, replay};
+use puz_make::{Found, MakeFault, build, solve};
 use samples::LeastCosts;
-use set_sum::Bundle;
+use set_sum::{Bundle, Part};
 use std::alloc::{AllocError, Global};
 use std::process::Abort;
 use std::sync::Wait;
 use std::thread::Threads;
-use tab_check::{CheckedTable, check_table};
+use tab_check::{CheckedTable, check_table, fold};
 use work_run::OpenGate;
 
 /// More boards than any search here expands.
 pub(crate) const PLENTY: u64 = 1_000_000;
+
+/// The table that is built for a side and a mask.
+pub(crate) fn built<R: Threads + Sync + AllocGlobal + Abort>(
+    rt: &R,
+    n: u8,
+    mask: u32,
+) -> Result<Vec<u8>, MakeFault> {
+    let side = Side::of(n).expect(rt, "a side");
+    let pattern = Pattern::of_mask(side, mask).expect(rt, "a pattern");
+    build(rt, rt.alloc(), &pattern)
+}
 
 /// The bundle of table files and a set text.
 pub(crate) fn bundle<'a, R: Threads + Wait + AllocGlobal + Abort>(
@@ -20,12 +33,34 @@ pub(crate) fn bundle<'a, R: Threads + Wait + AllocGlobal + Abort>(
     files: &[&'a [u8]],
     text: &[u8],
 ) -> Bundle<'a> {
-    let mut tables: Vec<CheckedTable<'a>> = Vec::new(rt.alloc());
+    let mut parts: Vec<Part<'a>> = Vec::new(rt.alloc());
     for file in files {
-        let table = check_table(rt, rt.alloc(), *file, 1, &OpenGate).expect(rt, "an exact table");
-        tables.push(table).expect(rt, "memory");
+        let part = Part::Full(checked(rt, file));
+        parts.push(part).expect(rt, "memory");
     }
-    Bundle::read(tables, text).expect(rt, "a bundle")
+    Bundle::read(parts, text).expect(rt, "a bundle")
+}
+
+/// The bundle of folded tables and a set text.
+pub(crate) fn folded_bundle<R: Threads + Wait + AllocGlobal + Abort>(
+    rt: &R,
+    files: &[&[u8]],
+    text: &[u8],
+) -> Bundle<'static> {
+    let mut parts: Vec<Part<'static>> = Vec::new(rt.alloc());
+    for file in files {
+        let folded = fold(rt.alloc(), &checked(rt, file)).expect(rt, "memory");
+        parts.push(Part::Folded(folded)).expect(rt, "memory");
+    }
+    Bundle::read(parts, text).expect(rt, "a bundle")
+}
+
+/// The table of a file.
+fn checked<'a, R: Threads + Wait + AllocGlobal + Abort>(
+    rt: &R,
+    file: &'a [u8],
+) -> CheckedTable<'a> {
+    check_table(rt, rt.alloc(), file, 1, &OpenGate).expect(rt, "an exact table")
 }
 
 /// The tables of side 3 for its tiles to 4, and for those from 5, as a plain search makes them.
@@ -50,4 +85,29 @@ pub(crate) fn found<R: Threads + Wait + AllocGlobal + Abort>(
     let board = board_of(rt, numbers);
     assert!(rt; board.side() == bundle.side());
     solve(rt.alloc(), bundle, &board, budget)
+}
+
+/// How long the found solution is, where its moves solve the board and its log proves that none is shorter.
+pub(crate) fn certified<R: Threads + Wait + AllocGlobal + Abort>(
+    rt: &R,
+    bundle: &Bundle<'_>,
+    numbers: &[u8],
+) -> Result<u8, LogFault> {
+    let board = board_of(rt, numbers);
+    let found = found(rt, bundle, numbers, PLENTY).expect(rt, "a solution");
+    let bound = check_log(rt, rt.alloc(), bundle, &found.log, &board, 1, &OpenGate)?;
+    assert!(rt; replay(&board, &found.moves) == Ok(u16::from(bound)));
+    Ok(bound)
+}
+
+/// Checks that a search expands so many boards, and no fewer.
+pub(crate) fn expands<R: Threads + Wait + AllocGlobal + Abort>(
+    rt: &R,
+    bundle: &Bundle<'_>,
+    numbers: &[u8],
+    expanded: u64,
+) {
+    let below = found(rt, bundle, numbers, expanded - 1).err();
+    assert_eq!(rt; below, Some(MakeFault::K1), "{numbers:?}");
+    assert!(rt; found(rt, bundle, numbers, expanded).is_ok(), "{numbers:?}");
 }

@@ -4,12 +4,20 @@
 #[cfg(test)]
 mod boards;
 #[cfg(test)]
+mod both_sets;
+#[cfg(test)]
 mod budgets;
 #[cfg(test)]
 mod finding;
 #[cfg(test)]
+mod folded;
+#[cfg(test)]
 mod layers;
+#[cfg(test)]
+mod parity;
 #[cfg(test)]
 mod searches;
 #[cfg(test)]
 mod tables;
+#[cfg(test)]
+mod transposed;

@@ -1,30 +1,10 @@
 //! Searches whose moves solve the board, and whose logs the checker accepts.
 
 use crate::boards::BOARDS_OF_SIDE_3;
-use crate::finding::{PLENTY, board_of, bundle, found, halves_of_side_3};
-use log_check::{LogFault, check_log};
-use puz_board::replay;
+use crate::finding::{bundle, certified, halves_of_side_3};
 use samples::LeastCosts;
 use samples::files::{TILE_3, TILES_12, TILES_123};
-use set_sum::Bundle;
-use std::process::Abort;
-use std::sync::Wait;
 use std::test::Fail;
-use std::thread::Threads;
-use work_run::OpenGate;
-
-/// How long the found solution is, where its moves solve the board and its log proves that none is shorter.
-fn certified<R: Threads + Wait + AllocGlobal + Abort>(
-    rt: &R,
-    bundle: &Bundle<'_>,
-    numbers: &[u8],
-) -> Result<u8, LogFault> {
-    let board = board_of(rt, numbers);
-    let found = found(rt, bundle, numbers, PLENTY).expect(rt, "a solution");
-    let bound = check_log(rt, rt.alloc(), bundle, &found.log, &board, 1, &OpenGate)?;
-    assert!(rt; replay(&board, &found.moves) == Ok(u16::from(bound)));
-    Ok(bound)
-}
 
 #[test]
 fn solutions_are_proved_shortest(rt: HostRuntime) {

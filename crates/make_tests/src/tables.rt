@@ -1,8 +1,7 @@
 //! Tables that are built: known ones byte by byte, and others that the checker accepts. Want of memory is answered.
 
-use pat_place::Pattern;
-use puz_board::Side;
-use puz_make::{MakeFault, build};
+use crate::finding::built;
+use puz_make::MakeFault;
 use samples::LeastCosts;
 use samples::files::{TILE_1, TILE_3, TILE_24, TILES_12, TILES_123};
 use std::process::Abort;
@@ -11,17 +10,6 @@ use std::test::Fail;
 use std::thread::Threads;
 use tab_check::check_table;
 use work_run::OpenGate;
-
-/// The table that is built for a side and a mask.
-fn built<R: Threads + Sync + AllocGlobal + Abort>(
-    rt: &R,
-    n: u8,
-    mask: u32,
-) -> Result<Vec<u8>, MakeFault> {
-    let side = Side::of(n).expect(rt, "a side");
-    let pattern = Pattern::of_mask(side, mask).expect(rt, "a pattern");
-    build(rt, rt.alloc(), &pattern)
-}
 
 /// Asserts that the table that is built for a side and a mask is this file.
 fn expect_built<R: Threads + Sync + AllocGlobal + Abort>(rt: &R, n: u8, mask: u32, file: &[u8]) {

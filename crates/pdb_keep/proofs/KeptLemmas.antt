@@ -58,17 +58,17 @@ module _ (side mask : ℕ) (out : Bytes) (old new : World) where
 
 -- ---- logs
 
-module _ (text sets out : Bytes) (tables : List Bytes) (old new : World) where
+module _ (fold : Bool) (text sets out : Bytes) (tables : List Bytes) (old new : World) where
   good_kept : (board_text set_text : Bytes) (files : List Bytes) → AreRead old.files old.reader (solve_inputs text sets tables) (board_text ∷ set_text ∷ files)
-      → (outcome : Search) → IsSearchOf board_text set_text files outcome → (reply_to_search files outcome).is_yes ≡ true
+      → (outcome : Search) → IsSearchOf fold board_text set_text files outcome → (reply_to_search files outcome).is_yes ≡ true
       → new.files ≡ with_kept old.files (Some out) (kept (reply_to_search files outcome))
-      → Appends old.written new.written (reply_text (reply_to_search files outcome)) → IsLogKept text sets out tables old new
+      → Appends old.written new.written (reply_text (reply_to_search files outcome)) → IsLogKept fold text sets out tables old new
   good_kept board_text set_text files read (unmade refused) is says_yes kept_file lines = absurd (let clash : false ≡ true = says_yes in cc)
   good_kept board_text set_text files read (searched moves log (Err refused)) is says_yes kept_file lines = absurd (let clash : false ≡ true = says_yes in cc)
   good_kept board_text set_text files read (searched moves log (Ok found)) is says_yes kept_file lines =
-      let proved_yes = IsOptimumResult-yes (puzzle_of board_text moves) set_text log files found is.is_result in
+      let proved_yes = IsOptimumResult-yes fold (puzzle_of board_text moves) set_text log files found is.is_result in
       let n = proved_yes.0 in
-      let proved : IsProvedOptimum (puzzle_of board_text moves) set_text log files n = proved_yes.2 in
+      let proved : IsProvedOptimum fold (puzzle_of board_text moves) set_text log files n = proved_yes.2 in
       let parts = solved-moves board_text moves is.could.board n proved.solved is.could.spelt in
       record {
         moves = moves;
@@ -83,14 +83,14 @@ module _ (text sets out : Bytes) (tables : List Bytes) (old new : World) where
           spelt = subst (λ (t : Bytes). Spells t proved.solved.board) parts.0 proved.solved.spelt;
           solved = subst (λ (t : Bytes). Solves proved.solved.board t n) parts.1 proved.solved.solved;
           proved = proved.proved;
-          least = proved_least (puzzle_of board_text moves) set_text log files n proved;
+          least = proved_least fold (puzzle_of board_text moves) set_text log files n proved;
         };
         kept = kept_file;
         lines = subst (λ (v : Verdict). Appends old.written new.written (reply_text (reply_to_search files (searched moves log (Ok v))))) proved_yes.1 lines;
       }
 
-  by_inputs : (inputs : List Bytes) (reply : Reply) → AreRead old.files old.reader (solve_inputs text sets tables) inputs → IsSolveReply inputs reply → reply.is_yes ≡ true
-      → new.files ≡ with_kept old.files (Some out) (kept reply) → Appends old.written new.written (reply_text reply) → IsLogKept text sets out tables old new
+  by_inputs : (inputs : List Bytes) (reply : Reply) → AreRead old.files old.reader (solve_inputs text sets tables) inputs → IsSolveReply fold inputs reply → reply.is_yes ≡ true
+      → new.files ≡ with_kept old.files (Some out) (kept reply) → Appends old.written new.written (reply_text reply) → IsLogKept fold text sets out tables old new
   by_inputs [] reply read is says_yes files lines = absurd is
   by_inputs (board_text ∷ []) reply read is says_yes files lines = absurd is
   by_inputs (board_text ∷ set_text ∷ table_files) reply read is says_yes files lines =
@@ -99,7 +99,7 @@ module _ (text sets out : Bytes) (tables : List Bytes) (old new : World) where
       (subst (λ (r : Reply). new.files ≡ with_kept old.files (Some out) (kept r)) is.told files)
       (subst (λ (r : Reply). Appends old.written new.written (reply_text r)) is.told lines)
 
-  pub log_kept : Ends (solve_plan text sets out tables) old new Yes → IsLogKept text sets out tables old new
+  pub log_kept : Ends (solve_plan fold text sets out tables) old new Yes → IsLogKept fold text sets out tables old new
   log_kept ends =
-      let answered = IsAnswered-ends (solve_plan text sets out tables) old new Yes ends (inl refl) in
+      let answered = IsAnswered-ends (solve_plan fold text sets out tables) old new Yes ends (inl refl) in
       by_inputs answered.inputs answered.reply answered.right.0 answered.right.1 (no_is_no answered.reply.is_yes answered.is_status) answered.files answered.lines

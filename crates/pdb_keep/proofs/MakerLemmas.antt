@@ -1,6 +1,7 @@
 -- What comes of makers.
 use Rattle.std.proofs.Common.{◌≡◌, ◌≢◌, ◌∙◌, ℕ, suc, ◌+◌, ◌-◌, ◌<◌, ◌≤◌, Bool, true, false, List, [], ◌∷◌, ◌++◌, Option, Some, None, Result, Ok, Err, IfErr, IfOk, length, map, drop, get_or, take, not, ◌||◌, ap, append_assoc, arith, inl, inr, length-append, refl, subst, sym}
-use Rattle.std.specs.Prelude.{◌==◌, slice_range}
+use Rattle.std.specs.Prelude.{◌==◌, MatchResult, Vec, option_map, slice_get, slice_range}
+use Rattle.std.specs.declared.alloc.AllocError.{AllocError}
 use Rattle.std.specs.Char.{is_ascii_digit}
 use Rattle.std.specs.List.{cons_option}
 use Rattle.std.proofs.lemmas.Bool.{eqb-true}
@@ -18,6 +19,10 @@ use Rattle.puz_board.proofs.SpellingLemmas.{stray_byte-numerals}
 use Rattle.puz_board.proofs.FirstLemmas.{fails_each}
 use Rattle.set_sum.specs.Bundles.{BundleView}
 use Rattle.pdb_io.specs.Shelf.{Bytes}
+use Rattle.pdb_run.specs.Answers.{IsAnswerBy}
+use Rattle.pdb_run.specs.Writing.{digests_of}
+use Rattle.pdb_run.specs.declared.answers.Answer.{Answer}
+use Rattle.pdb_verdict.specs.Bound.{TakesMemoryForBound}
 use Rattle.pdb_verdict.specs.Bundles.{IsBundleOfFiles}
 use Rattle.pdb_verdict.specs.Inputs.{table_file}
 use Rattle.pdb_verdict.specs.Optimal.{IsResultOfPuzzle, of_halves, solved_parts}
@@ -34,8 +39,8 @@ use Rattle.pdb_verdict.proofs.BoundLemmas.{found_over}
 use Rattle.pdb_verdict.proofs.BundleLemmas.{bundle_taken}
 use Rattle.pdb_verdict.proofs.OptimumLemmas.{IsOptimumResult-yes}
 use Rattle.pdb_keep.specs.MakeTable.{IsOfAnother, SpeaksOf}
-use Rattle.pdb_keep.specs.Solve.{AreForBoard, IsMade, letter_of, letters_of, puzzle_of}
-use Rattle.pdb_keep.specs.Steps.{HasItsMoves, IsCauseForSearch, IsGivenUp, IsMadeOver}
+use Rattle.pdb_keep.specs.Solve.{AreForBoard, IsMade, IsSolveReply, SolveTakesMemory, TellsSearch, letter_of, letters_of, puzzle_of}
+use Rattle.pdb_keep.specs.Steps.{HasItsMoves, IsCauseForSearch, IsFoldedSearch, IsGivenUp, IsMadeOver, IsStartOfSearch}
 use Rattle.pdb_keep.specs.declared.solutions.TheConstants.{MOST_LETTERS}
 
 -- ---- tables
@@ -56,32 +61,32 @@ another_built side mask file answer is other = elim is [
 
 -- ---- searches over a bundle
 
-module _ (text sets : Bytes) (files : List Bytes) (bundle : BundleView) (is_bundle : IsBundleOfFiles files sets bundle) where
+module _ (fold : Bool) (text sets : Bytes) (files : List Bytes) (bundle : BundleView) (is_bundle : IsBundleOfFiles fold files sets bundle) where
   of_puzzle : (log : Bytes) (r : Result (List ℕ × ℕ) Fault) (answer : Result Verdict Fault) → IsOptimumOver bundle r log answer → answer ≢ Err fault.Memory
-      → IsResultOfPuzzle r sets log files answer
+      → IsResultOfPuzzle fold r sets log files answer
   of_puzzle log (Err refused) answer is no_want = is
-  of_puzzle log (Ok solved) answer is no_want = elim (found_over solved.0 sets log files bundle is_bundle is.0 is.1) [
+  of_puzzle log (Ok solved) answer is no_want = elim (found_over fold solved.0 sets log files bundle is_bundle is.0 is.1) [
     | inl found ↦ (is.0, found, is.2)
     | inr lacks ↦ absurd (no_want (is.2 ∙ ap (of_halves solved.1) lacks.1))
   ]
 
   module _ (board : List ℕ) (spelt : Spells text board) (one_side : side_of board ≡ bundle.side) where
-    searchable : AreForBoard board sets files
+    searchable : AreForBoard fold board sets files
     searchable = record { bundle = bundle; is_bundle = is_bundle; one_side = one_side }
 
     -- what is made over the bundle of files is made of them
-    pub made_over : (moves log : Bytes) (answer : Result Verdict Fault) → IsMadeOver bundle text moves log answer → IsMade text sets files moves log answer
+    pub made_over : (moves log : Bytes) (answer : Result Verdict Fault) → IsMadeOver bundle text moves log answer → IsMade fold text sets files moves log answer
     made_over moves log answer is = record {
       could = record { board = board; spelt = spelt; are_for = searchable };
       is_result = of_puzzle log (solved_parts (puzzle_parts (puzzle_of text moves))) answer is.is_result is.no_want;
     }
 
     -- so is what is given up
-    pub given_up : (cause : Fault) → IsGivenUp cause → IsCauseForSearch text sets files cause
+    pub given_up : (cause : Fault) → IsGivenUp cause → IsCauseForSearch fold text sets files cause
     given_up (fault.Make K1) is = inl (record { board = board; spelt = spelt; unmade = searchable })
     given_up (fault.Make K2) is = inl (record { board = board; spelt = spelt; unmade = searchable })
     given_up (fault.Make K3) is = absurd is
-    given_up fault.Memory is = inr (record { board = board; spelt = spelt; tables_take = bundle_taken files sets bundle is_bundle }, refl)
+    given_up fault.Memory is = inr (record { board = board; spelt = spelt; tables_take = bundle_taken fold files sets bundle is_bundle }, refl)
     given_up fault.P1 is = absurd is
     given_up (fault.Board refused) is = absurd is
     given_up (fault.Moves refused) is = absurd is
@@ -101,6 +106,11 @@ if_err (Err cause) P Q all is = all cause is
 pub if_ok : {A : Type 0} (r : Result A Fault) (P Q : A → Type 0) → ((x : A) → P x → Q x) → IfOk r P → IfOk r Q
 if_ok (Ok x) P Q all is = all x is
 if_ok (Err cause) P Q all is = tt
+
+-- what follows in each case follows in both
+pub both_cases : {A : Type 0} (r : Result A Fault) (P : A → Type 0) (Q : Fault → Type 0) → IfOk r P → IfErr r Q → MatchResult r P Q
+both_cases (Ok x) P Q is also = is
+both_cases (Err cause) P Q is also = also
 
 -- ---- the puzzle text of a search
 
@@ -148,18 +158,18 @@ letters-length text moves board n solved spelt =
     ∙ solved.solved.count
 
 -- an optimum is the number of the moves that were made
-optimum_length : (text sets moves log : Bytes) (tables : List Bytes) (n : ℕ) → IsMade text sets tables moves log (Ok (verdict.Optimal n)) → length (letters_of moves) ≡ n
-optimum_length text sets moves log tables n is =
-    let yes = IsOptimumResult-yes (puzzle_of text moves) sets log tables (verdict.Optimal n) is.is_result in
+optimum_length : (fold : Bool) (text sets moves log : Bytes) (tables : List Bytes) (n : ℕ) → IsMade fold text sets tables moves log (Ok (verdict.Optimal n)) → length (letters_of moves) ≡ n
+optimum_length fold text sets moves log tables n is =
+    let yes = IsOptimumResult-yes fold (puzzle_of text moves) sets log tables (verdict.Optimal n) is.is_result in
     let same : yes.0 ≡ n = let e : verdict.Optimal n ≡ verdict.Optimal yes.0 = yes.1 in cc in
     letters-length text moves is.could.board yes.0 yes.2.solved is.could.spelt ∙ same
 
-pub has_its_moves : (text sets moves log : Bytes) (tables : List Bytes) (answer : Result Verdict Fault) → IsMade text sets tables moves log answer → HasItsMoves moves answer
-has_its_moves text sets moves log tables (Ok (verdict.Optimal n)) is = optimum_length text sets moves log tables n is
-has_its_moves text sets moves log tables (Ok (verdict.Solution n)) is = tt
-has_its_moves text sets moves log tables (Ok (verdict.Exact side mask census)) is = tt
-has_its_moves text sets moves log tables (Ok (verdict.Bound n)) is = tt
-has_its_moves text sets moves log tables (Err refused) is = tt
+pub has_its_moves : (fold : Bool) (text sets moves log : Bytes) (tables : List Bytes) (answer : Result Verdict Fault) → IsMade fold text sets tables moves log answer → HasItsMoves moves answer
+has_its_moves fold text sets moves log tables (Ok (verdict.Optimal n)) is = optimum_length fold text sets moves log tables n is
+has_its_moves fold text sets moves log tables (Ok (verdict.Solution n)) is = tt
+has_its_moves fold text sets moves log tables (Ok (verdict.Exact side mask census)) is = tt
+has_its_moves fold text sets moves log tables (Ok (verdict.Bound n)) is = tt
+has_its_moves fold text sets moves log tables (Err refused) is = tt
 
 -- ---- inputs
 
@@ -174,6 +184,35 @@ inputs_order f (x ∷ y ∷ rest) a b some is_a is_b =
     let second = sym is_b in
     let behind = sym all in
     λ i. f (first i) ∷ f (second i) ∷ map f (behind i)
+
+-- the first of some inputs, of which two are left
+pub first_kept : {A : Type 0} (xs : List (Vec ℕ A)) (v : Vec ℕ A) → slice_get (take 2 xs) 0 ≡ Some v → slice_get (map (λ w. w.items) xs) 0 ≡ Some v.items
+first_kept [] v is = let e : _ = is in cc
+first_kept (x ∷ rest) v is = ap (option_map (λ w. w.items)) is
+
+-- what comes of a search whose tables were given up
+pub folded_search : (fold : Bool) → fold ≡ true → (digests text : Bytes) (start : Result (List ℕ × BundleView) Fault) (told : Result Answer AllocError)
+    → ((sets : Bytes) (tables : List Bytes) → digests ≡ digests_of tables → IsStartOfSearch text sets tables start → IsAnswerBy (TellsSearch true text sets tables) (TakesMemoryForBound text tables) told)
+    → (files : List Bytes) → slice_get files 0 ≡ Some text → IsFoldedSearch files digests start → IsAnswerBy (IsSolveReply fold files) (SolveTakesMemory files) told
+folded_search fold folds digests text start told tells [] first is = absurd is
+folded_search fold folds digests text start told tells (t ∷ []) first is = absurd is
+folded_search fold folds digests text start told tells (t ∷ sets ∷ tables) first is =
+    let same : t ≡ text = (let e : Some t ≡ Some text = first in cc) in
+    subst (λ (b : Bool). IsAnswerBy (IsSolveReply b (t ∷ sets ∷ tables)) (TakesMemoryForBound t tables) told) (sym folds)
+    (subst (λ (t : Bytes). IsAnswerBy (IsSolveReply true (t ∷ sets ∷ tables)) (TakesMemoryForBound t tables) told) (sym same)
+    (tells sets tables is.0 (subst (λ (t : Bytes). IsStartOfSearch t sets tables start) same is.1)))
+
+-- an optimum that it finds is the number of its moves
+pub folded_moves : {A : Type 0} (moves log : A → Bytes) (answer : A → Result Verdict Fault) (outcome : Result A Fault) (digests text : Bytes) (start : Result (List ℕ × BundleView) Fault)
+    → ((sets : Bytes) (tables : List Bytes) → IsStartOfSearch text sets tables start
+    → MatchResult outcome (λ made. IsMade true text sets tables (moves made) (log made) (answer made)) (IsCauseForSearch true text sets tables))
+    → (files : List Bytes) → slice_get files 0 ≡ Some text → IsFoldedSearch files digests start → IfOk outcome (λ made. HasItsMoves (moves made) (answer made))
+folded_moves moves log answer outcome digests text start comes [] first is = absurd is
+folded_moves moves log answer outcome digests text start comes (t ∷ []) first is = absurd is
+folded_moves moves log answer (Err cause) digests text start comes (t ∷ sets ∷ tables) first is = tt
+folded_moves moves log answer (Ok made) digests text start comes (t ∷ sets ∷ tables) first is =
+    let same : t ≡ text = (let e : Some t ≡ Some text = first in cc) in
+    has_its_moves true text sets (moves made) (log made) tables (answer made) (comes sets tables (subst (λ (t : Bytes). IsStartOfSearch t sets tables start) same is.1))
 
 -- ---- letters, byte by byte
 

@@ -1,5 +1,5 @@
 -- What holds of all runs of makers.
-use Rattle.std.specs.Prelude.{ℕ, List}
+use Rattle.std.specs.Prelude.{ℕ, Bool, List}
 use Rattle.pdb_io.specs.Shelf.{Bytes}
 use Rattle.pdb_run.specs.Runs.{Ends, World}
 use Rattle.pdb_run.specs.declared.statuses.Status.TheVariants.{Yes}
@@ -13,5 +13,5 @@ KeptTablesAreExact = (side mask : ℕ) (out : Bytes) (old new : World) → Ends 
 
 -- a run of `solve` that ends with a yes has kept a log that, with the moves, proves an optimum
 abbrev pub KeptLogsProveOptima : Type 0
-KeptLogsProveOptima = (text sets out : Bytes) (tables : List Bytes) (old new : World) → Ends (solve_plan text sets out tables) old new Yes
-    → IsLogKept text sets out tables old new
+KeptLogsProveOptima = (fold : Bool) (text sets out : Bytes) (tables : List Bytes) (old new : World) → Ends (solve_plan fold text sets out tables) old new Yes
+    → IsLogKept fold text sets out tables old new

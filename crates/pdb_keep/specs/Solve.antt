@@ -2,7 +2,7 @@
 --
 -- The maker is free: it may find any moves and any log, or give up. What is told of them, and whether the log is kept, is not
 -- free.
-use Rattle.std.specs.Prelude.{◌≡◌, ◌≢◌, ℕ, false, List, [], ◌∷◌, ◌++◌, Some, None, Result, Ok, Err, codes, is_ok, map}
+use Rattle.std.specs.Prelude.{◌≡◌, ◌≢◌, ℕ, Bool, false, List, [], ◌∷◌, ◌++◌, Some, None, Result, Ok, Err, codes, is_ok, map}
 use Rattle.puz_board.specs.BoardTexts.{Spells, board_of_text}
 use Rattle.puz_board.specs.Boards.{side_of}
 use Rattle.puz_board.specs.MovesTexts.{moves_of}
@@ -25,44 +25,44 @@ use Rattle.pdb_verdict.specs.declared.verdicts.Verdict.TheVariants as verdict
 
 -- ---- before a log is made
 
--- the table files and the set text make a bundle, whose side is that of the board
-pub record AreForBoard (board : List ℕ) (sets : Bytes) (tables : List Bytes) : Type 0 where
+-- the table files, folded or full, and the set text make a bundle, whose side is that of the board
+pub record AreForBoard (fold : Bool) (board : List ℕ) (sets : Bytes) (tables : List Bytes) : Type 0 where
   pub bundle : BundleView
-  pub is_bundle : IsBundleOfFiles tables sets bundle
+  pub is_bundle : IsBundleOfFiles fold tables sets bundle
   pub one_side : side_of board ≡ bundle.side
 
 -- the text spells a board for which they do, so that there is something to search over
-pub record IsSearchable (text sets : Bytes) (tables : List Bytes) : Type 0 where
+pub record IsSearchable (fold : Bool) (text sets : Bytes) (tables : List Bytes) : Type 0 where
   pub board : List ℕ
   pub spelt : Spells text board
-  pub are_for : AreForBoard board sets tables
+  pub are_for : AreForBoard fold board sets tables
 
 -- they make a bundle of another side
-pub record AreForAnotherSide (board : List ℕ) (sets : Bytes) (tables : List Bytes) : Type 0 where
+pub record AreForAnotherSide (fold : Bool) (board : List ℕ) (sets : Bytes) (tables : List Bytes) : Type 0 where
   pub bundle : BundleView
-  pub is_bundle : IsBundleOfFiles tables sets bundle
+  pub is_bundle : IsBundleOfFiles fold tables sets bundle
   pub another_side : side_of board ≢ bundle.side
 
 -- why no log is made for a board: each table file comes first, then the set text, then L4 for a bundle of another side;
 -- behind them the maker may give up on the search, with K1 or K2
-abbrev pub IsUnmadeFor : List ℕ → Bytes → List Bytes → Fault → Type 0
-IsUnmadeFor board sets tables (fault.TableOf number refused) = IsFirstRefused tables number refused
-IsUnmadeFor board sets tables (fault.Sets refused) = AreRefusedSets tables sets refused
-IsUnmadeFor board sets tables (fault.Log L4) = AreForAnotherSide board sets tables
-IsUnmadeFor board sets tables (fault.Make K1) = AreForBoard board sets tables
-IsUnmadeFor board sets tables (fault.Make K2) = AreForBoard board sets tables
-IsUnmadeFor board sets tables refused = ⊥
+abbrev pub IsUnmadeFor : Bool → List ℕ → Bytes → List Bytes → Fault → Type 0
+IsUnmadeFor fold board sets tables (fault.TableOf number refused) = IsFirstRefused tables number refused
+IsUnmadeFor fold board sets tables (fault.Sets refused) = AreRefusedSets fold tables sets refused
+IsUnmadeFor fold board sets tables (fault.Log L4) = AreForAnotherSide fold board sets tables
+IsUnmadeFor fold board sets tables (fault.Make K1) = AreForBoard fold board sets tables
+IsUnmadeFor fold board sets tables (fault.Make K2) = AreForBoard fold board sets tables
+IsUnmadeFor fold board sets tables refused = ⊥
 
 -- the text spells a board, for which no log is made
-pub record IsUnmadeForText (text sets : Bytes) (tables : List Bytes) (refused : Fault) : Type 0 where
+pub record IsUnmadeForText (fold : Bool) (text sets : Bytes) (tables : List Bytes) (refused : Fault) : Type 0 where
   pub board : List ℕ
   pub spelt : Spells text board
-  pub unmade : IsUnmadeFor board sets tables refused
+  pub unmade : IsUnmadeFor fold board sets tables refused
 
 -- why no log is made: the board text comes before all else
-abbrev pub IsUnmade : Bytes → Bytes → List Bytes → Fault → Type 0
-IsUnmade text sets tables (fault.Board refused) = board_of_text text ≡ Err refused
-IsUnmade text sets tables refused = IsUnmadeForText text sets tables refused
+abbrev pub IsUnmade : Bool → Bytes → Bytes → List Bytes → Fault → Type 0
+IsUnmade fold text sets tables (fault.Board refused) = board_of_text text ≡ Err refused
+IsUnmade fold text sets tables refused = IsUnmadeForText fold text sets tables refused
 
 -- ---- a log that is made
 
@@ -71,9 +71,9 @@ abbrev pub puzzle_of : Bytes → Bytes → Bytes
 puzzle_of text moves = text ++ 59 ∷ moves
 
 -- a search could begin, and the answer is the result on its moves and its log
-pub record IsMade (text sets : Bytes) (tables : List Bytes) (moves log : Bytes) (answer : Result Verdict Fault) : Type 0 where
-  pub could : IsSearchable text sets tables
-  pub is_result : IsOptimumResult (puzzle_of text moves) sets log tables answer
+pub record IsMade (fold : Bool) (text sets : Bytes) (tables : List Bytes) (moves log : Bytes) (answer : Result Verdict Fault) : Type 0 where
+  pub could : IsSearchable fold text sets tables
+  pub is_result : IsOptimumResult fold (puzzle_of text moves) sets log tables answer
 
 -- ---- what is told of it
 
@@ -104,9 +104,9 @@ pub data Search : Type 0 where
   searched : Bytes → Bytes → Result Verdict Fault → Search
 
 -- on this board text, this set text and these table files
-abbrev pub IsSearchOf : Bytes → Bytes → List Bytes → Search → Type 0
-IsSearchOf text sets tables (unmade refused) = IsUnmade text sets tables refused
-IsSearchOf text sets tables (searched moves log answer) = IsMade text sets tables moves log answer
+abbrev pub IsSearchOf : Bool → Bytes → Bytes → List Bytes → Search → Type 0
+IsSearchOf fold text sets tables (unmade refused) = IsUnmade fold text sets tables refused
+IsSearchOf fold text sets tables (searched moves log answer) = IsMade fold text sets tables moves log answer
 
 -- the digests of the tables, and of the log where one was made, and then the lines
 abbrev pub reply_to_search : List Bytes → Search → Reply
@@ -114,9 +114,9 @@ reply_to_search tables (unmade refused) = record { digested = tables; made = Non
 reply_to_search tables (searched moves log answer) = record { digested = tables; made = Some log; lines = lines_on moves answer; is_yes = is_ok answer }
 
 -- a reply tells what comes of a search
-pub record TellsSearch (text sets : Bytes) (tables : List Bytes) (reply : Reply) : Type 0 where
+pub record TellsSearch (fold : Bool) (text sets : Bytes) (tables : List Bytes) (reply : Reply) : Type 0 where
   pub outcome : Search
-  pub is_outcome : IsSearchOf text sets tables outcome
+  pub is_outcome : IsSearchOf fold text sets tables outcome
   pub told : reply ≡ reply_to_search tables outcome
 
 -- ---- the command
@@ -126,9 +126,9 @@ abbrev pub solve_inputs : Bytes → Bytes → List Bytes → List Wanted
 solve_inputs text sets tables = a_text (Some text) ∷ a_text (Some sets) ∷ map a_table tables
 
 -- what comes of a search on them is told
-abbrev pub IsSolveReply : List Bytes → Reply → Type 0
-IsSolveReply (text ∷ sets ∷ tables) reply = TellsSearch text sets tables reply
-IsSolveReply inputs reply = ⊥
+abbrev pub IsSolveReply : Bool → List Bytes → Reply → Type 0
+IsSolveReply fold (text ∷ sets ∷ tables) reply = TellsSearch fold text sets tables reply
+IsSolveReply fold inputs reply = ⊥
 
 -- it takes memory to check the tables of a board that is spelt, and so to search over them
 abbrev pub SolveTakesMemory : List Bytes → Type 0
@@ -136,5 +136,5 @@ SolveTakesMemory (text ∷ sets ∷ tables) = TakesMemoryForBound text tables
 SolveTakesMemory inputs = ⊥
 
 -- for any budget and any number of workers
-abbrev pub solve_plan : Bytes → Bytes → Bytes → List Bytes → Plan
-solve_plan text sets out tables = plan_under (Some out) (solve_inputs text sets tables) IsSolveReply SolveTakesMemory
+abbrev pub solve_plan : Bool → Bytes → Bytes → Bytes → List Bytes → Plan
+solve_plan fold text sets out tables = plan_under (Some out) (solve_inputs text sets tables) (IsSolveReply fold) SolveTakesMemory

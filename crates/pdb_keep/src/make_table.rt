@@ -1,15 +1,15 @@
 //! Makes a table, and keeps it once it is found exact for the pattern that was asked for.
 
-ghost use Rattle.std.specs.Prelude.{◌≡◌, ◌↔◌, ◌∷◌, [], IsSome, IsTrue, IfErr, IfOk, OnErr, Some, option_map};
+ghost use Rattle.std.specs.Prelude.{◌≡◌, ◌↔◌, ◌∷◌, [], IsSome, IsTrue, IfErr, IfOk, Some, option_map};
 ghost use Rattle.pdb_run.specs.Writing.{digests_of};
-ghost use Rattle.pdb_run.specs.Answers.{reply_of};
+ghost use Rattle.pdb_run.specs.Answers.{IsAnswerBy};
 ghost use Rattle.pdb_run.specs.Runs.{Ends, world};
 ghost use Rattle.pdb_keep.specs.MakeTable.{ArePattern, IsBuilt, SpeaksOf, TellsBuild, make_table_plan};
 ghost use Rattle.pdb_keep.specs.Steps.{IsCauseForBuild};
 
 use pat_place::Pattern;
 use pdb_io::shelf::Shelf;
-use pdb_run::{Answer, Command, Digests, Input, Status, keep_and_conclude, read_inputs};
+use pdb_run::{Answer, Command, Digested, Digests, Input, Status, keep_and_conclude, read_inputs};
 use pdb_verdict::{Fault, Inputs, MakeRefusal, Verdict, Workers, line_of, verify_beside};
 use puz_board::Side;
 use puz_make::{MakeFault, build};
@@ -59,17 +59,9 @@ pub fn run_make_table<H: Threads + Wait + Sync, G: Gate + Sync, S: Shelf, R: Rea
         (world (S.held shelf.new) (S.has_failed shelf.new) (R.remaining reader.new) (W.contents out.new)) result }
 {
     match read_inputs(alloc, &command, shelf, reader, out) {
-        Ok(inputs) => {
+        Ok(_inputs) => {
             let answer = answer_make_table(alloc, command.side, command.mask, workers);
-            keep_and_conclude(
-                alloc,
-                &command,
-                inputs.as_slice(),
-                &answer,
-                command.out,
-                shelf,
-                out,
-            )
+            keep_and_conclude(alloc, &command, &answer, command.out, shelf, out)
         }
         Err(status) => status,
     }
@@ -82,14 +74,11 @@ fn answer_make_table<H: Threads + Wait + Sync, G: Gate + Sync>(
     mask: u32,
     workers: &Workers<'_, H, G>,
 ) -> Result<Answer<'static>, AllocError>
-    ensures right { IfOk result (λ answer. TellsBuild side mask (reply_of answer)) }
-    ensures memory { OnErr result (ArePattern side mask) }
+    ensures { IsAnswerBy (TellsBuild side mask) (ArePattern side mask) result }
 {
     match build_table(alloc, side, mask, workers) {
         Ok(built) => Ok(Answer {
-            files: &[],
-            last: None,
-            digests: None,
+            digested: Digested::Files(&[], None),
             lines: line_of(&built.answer),
             is_yes: built.answer.is_ok(),
             made: Some(built.file),
@@ -97,9 +86,7 @@ fn answer_make_table<H: Threads + Wait + Sync, G: Gate + Sync>(
         }),
         Err(Fault::Memory) => Err(AllocError),
         Err(refused) => Ok(Answer {
-            files: &[],
-            last: None,
-            digests: None,
+            digested: Digested::Files(&[], None),
             made: None,
             made_digest: None,
             lines: line_of(&Err(refused)),

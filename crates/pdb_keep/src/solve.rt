@@ -1,22 +1,28 @@
 //! Searches for a shortest solution, and keeps the log that proves it shortest once both are checked.
 
-ghost use Rattle.std.specs.Prelude.{◌≡◌, ◌≤◌, ◌∷◌, [], Some, length, map, option_map, IfErr, IfOk, IfSome, OnErr};
+ghost use Rattle.std.specs.Prelude.{◌≡◌, ◌≤◌, ◌∷◌, ℕ, Bool, true, List, [], Some, length, map, option_map, IfErr, IfOk, IfSome, MatchResult};
 ghost use Rattle.puz_board.specs.Boards.{side_of};
 ghost use Rattle.puz_board.specs.PuzzleTexts.{puzzle_parts};
 ghost use Rattle.pdb_run.specs.Writing.{digests_of};
-ghost use Rattle.pdb_run.specs.Answers.{all_bytes, reply_of};
-ghost use Rattle.pdb_run.specs.Runs.{Ends, world};
+ghost use Rattle.pdb_run.specs.Answers.{IsAnswerBy, IsReplyOf, all_bytes, digest_lines};
+ghost use Rattle.pdb_run.specs.Inputs.{AreRead, IsAsTold, left_by_all};
+ghost use Rattle.pdb_run.specs.Runs.{Ends, World, world};
+ghost use Rattle.pdb_verdict.specs.Bound.{TakesMemoryForBound};
 ghost use Rattle.pdb_verdict.specs.Optimal.{solved_parts};
 ghost use Rattle.pdb_verdict.specs.Steps.{IsOptimumOver};
-ghost use Rattle.pdb_keep.specs.Solve.{IsMade, IsSolveReply, SolveTakesMemory, puzzle_of, reply_to_search, searched, solve_inputs, solve_plan, unmade};
-ghost use Rattle.pdb_keep.specs.Steps.{HasItsMoves, IsCauseForSearch, IsGivenUp, IsMadeOver};
+ghost use Rattle.pdb_keep.specs.Solve.{IsMade, IsSolveReply, SolveTakesMemory, TellsSearch, puzzle_of, reply_to_search, searched, solve_inputs, solve_plan, unmade};
+ghost use Rattle.pdb_keep.specs.Steps.{HasItsMoves, IsCauseForSearch, IsFoldedSearch, IsGivenUp, IsMadeOver, IsStartOfSearch};
 
 use crate::solutions::lines_on;
 use log_check::LogRefusal;
 use pdb_io::shelf::Shelf;
-use pdb_run::{Answer, Command, Digests, Input, Status, beside, keep_and_conclude, read_inputs};
+use pdb_run::{
+    Answer, Command, Digested, Digests, FILES_BESIDE, Input, Status, beside, keep_and_conclude,
+    read_inputs, with_digests,
+};
 use pdb_verdict::{
-    Fault, MakeRefusal, Verdict, Workers, a_text, line_of, optimum_over, push_tables, read_bundle,
+    Fault, MakeRefusal, Tables, Verdict, Workers, a_text, fold_bundle, line_of, optimum_over,
+    push_tables, read_bundle,
 };
 use puz_board::Board;
 use puz_make::{Found, MakeFault, solve};
@@ -27,7 +33,7 @@ use std::sync::Wait;
 use std::thread::Threads;
 use work_run::Gate;
 
-/// The names that a search speaks of.
+/// The names that a search speaks of, and how its tables are held.
 #[derive(Clone, Copy)]
 pub struct SearchNames<'t, 'n> {
     /// Of a board text.
@@ -38,6 +44,8 @@ pub struct SearchNames<'t, 'n> {
     pub out: &'n str,
     /// Of table files, which are numbered from 0.
     pub tables: &'t [&'n str],
+    /// Whether each table is folded once it is checked.
+    pub fold: bool,
 }
 
 /// The command `solve`: a shortest solution of the board under this name, and the log that proves it shortest.
@@ -51,7 +59,7 @@ impl Command for Solve<'_, '_> {
 
     ghost keeps_under = { λ command. Some command.names.out.now };
 
-    ghost MayReply = { λ _. IsSolveReply };
+    ghost MayReply = { λ command. IsSolveReply command.names.fold };
 
     ghost TakesMemory = { λ _. SolveTakesMemory };
 
@@ -76,58 +84,162 @@ pub fn run_solve<H: Threads + Wait + Sync, G: Gate + Sync, S: Shelf, R: Read, W:
     reader: &mut R,
     out: &mut W,
 ) -> Status
-    ensures { Ends (solve_plan names.entry.board.now names.entry.sets.now names.entry.out.now (map (λ name. name.now) names.entry.tables.now))
+    ensures { Ends (solve_plan names.entry.fold names.entry.board.now names.entry.sets.now names.entry.out.now (map (λ name. name.now) names.entry.tables.now))
         (world (S.held shelf.old) (S.has_failed shelf.old) (R.remaining reader.old) (W.contents out.old))
         (world (S.held shelf.new) (S.has_failed shelf.new) (R.remaining reader.new) (W.contents out.new)) result }
 {
     let command = Solve { names };
-    match read_inputs(alloc, &command, shelf, reader, out) {
-        Ok(inputs) => {
-            let answer = answer_solve(alloc, inputs.as_slice(), budget, workers);
-            keep_and_conclude(
-                alloc,
-                &command,
-                inputs.as_slice(),
-                &answer,
-                names.out,
-                shelf,
-                out,
-            )
-        }
-        Err(status) => status,
+    let inputs = match read_inputs(alloc, &command, shelf, reader, out) {
+        Ok(inputs) => inputs,
+        Err(status) => return status,
+    };
+    if names.fold {
+        return conclude_folded(alloc, &command, inputs, budget, workers, shelf, out);
     }
+    let answer = answer_solve(alloc, inputs.as_slice(), false, budget, workers);
+    keep_and_conclude(alloc, &command, &answer, names.out, shelf, out)
+}
+
+/// The end of a run with folded tables. Once all are folded and their digests are made, the bytes of the tables are given up,
+/// so that the search runs beside the folded tables alone.
+#[inline(never)] // so that a run with full tables hasn't its values on the stack
+fn conclude_folded<H: Threads + Wait + Sync, G: Gate + Sync, S: Shelf, W: Write>(
+    alloc: Global,
+    command: &Solve<'_, '_>,
+    inputs: Vec<Vec<u8>>,
+    budget: u64,
+    workers: &Workers<'_, H, G>,
+    shelf: &mut S,
+    out: &mut W,
+) -> Status
+    requires count { 2 ≤ length inputs.items }
+    requires folds { command.now.names.fold ≡ true }
+    ensures { let names = command.now.names in let wanted = solve_inputs names.board.now names.sets.now (map (λ name. name.now) names.tables.now) in
+        (old new : World) → AreRead old.files old.reader wanted (all_bytes inputs.items)
+        → IsAsTold (left_by_all old.reader wanted) new.reader
+        → S.held shelf.old ≡ old.files → S.held shelf.new ≡ new.files → S.has_failed shelf.new ≡ new.failed
+        → W.contents out.old ≡ old.written → W.contents out.new ≡ new.written
+        → Ends (solve_plan names.fold names.board.now names.sets.now names.out.now (map (λ name. name.now) names.tables.now)) old new result }
+{
+    let mut inputs = inputs;
+    let Some((digests, start)) = start_beside(alloc, inputs.as_slice(), workers) else {
+        let answer = answer_solve(alloc, inputs.as_slice(), true, budget, workers);
+        return keep_and_conclude(alloc, command, &answer, command.names.out, shelf, out);
+    };
+    inputs.truncate(2);
+    let outcome = outcome_of(alloc, start, inputs[0].as_slice(), budget, workers);
+    let answer = answer_of(Digested::Lines(digests), outcome);
+    keep_and_conclude(alloc, command, &answer, command.names.out, shelf, out)
+}
+
+/// The board and the bundle of folded tables that a search begins with, or why it can't begin; and the digest lines of the
+/// tables. There are none of more tables than a bundle has.
+fn start_beside<'x, H: Threads + Wait + Sync, G: Gate + Sync>(
+    alloc: Global,
+    inputs: &[Vec<u8>],
+    workers: &Workers<'_, H, G>,
+) -> Option<(Digests, Result<(Board, Bundle<'x>), Fault>)>
+    requires { 2 ≤ length inputs.now }
+    ensures { IfSome result (λ found. IsFoldedSearch (all_bytes inputs.now) found.0.items found.1) }
+{
+    let (text, sets, files) = (inputs[0].as_slice(), inputs[1].as_slice(), &inputs[2..]);
+    if files.len() > FILES_BESIDE {
+        return None;
+    }
+    let check = || -> Result<(Board, Bundle<'_>), Fault>
+        ensures { IsStartOfSearch text.entry.now sets.entry.now (all_bytes files.entry.now) result }
+    { start_of(alloc, text, sets, files, workers) };
+    let (digests, start) = with_digests(workers.rt, workers.count, files, None, check);
+    Some((digests?, start))
+}
+
+/// The board and the bundle of folded tables that a search begins with, or why it can't begin.
+fn start_of<'x, H: Threads + Wait, G: Gate + Sync>(
+    alloc: Global,
+    text: &[u8],
+    sets: &[u8],
+    files: &[Vec<u8>],
+    workers: &Workers<'_, H, G>,
+) -> Result<(Board, Bundle<'x>), Fault>
+    ensures { IsStartOfSearch text.now sets.now (all_bytes files.now) result }
+{
+    let board = Board::read(text).map_err(Fault::Board)?;
+    let bundle = fold_bundle(alloc, files, sets, workers)?;
+    Ok((board, bundle))
+}
+
+/// What comes of a search that begins so.
+#[inline(never)] // so that the stack hasn't its values while tables are checked
+fn outcome_of<H: Threads + Wait + Sync, G: Gate + Sync>(
+    alloc: Global,
+    start: Result<(Board, Bundle<'_>), Fault>,
+    text: &[u8],
+    budget: u64,
+    workers: &Workers<'_, H, G>,
+) -> Result<Made, Fault>
+    ensures { (sets : List ℕ) (tables : List (List ℕ)) → IsStartOfSearch text.now sets tables start.entry
+        → MatchResult result (λ made. IsMade true text.now sets tables made.moves.items made.log.items made.answer) (IsCauseForSearch true text.now sets tables) }
+{
+    let (board, bundle) = start?;
+    if board.side() != bundle.side() {
+        return Err(Fault::Log(LogRefusal::L4));
+    }
+    search_over(alloc, &bundle, &board, text, budget, workers)
 }
 
 /// The answer on the bytes of the inputs. Want of memory never comes of a board that is refused.
 fn answer_solve<'i, H: Threads + Wait + Sync, G: Gate + Sync>(
     alloc: Global,
     inputs: &'i [Vec<u8>],
+    fold: bool,
     budget: u64,
     workers: &Workers<'_, H, G>,
 ) -> Result<Answer<'i>, AllocError>
     requires { 2 ≤ length inputs.now }
-    ensures right { IfOk result (λ answer. IsSolveReply (all_bytes inputs.now) (reply_of answer)) }
-    ensures memory { OnErr result (SolveTakesMemory (all_bytes inputs.now)) }
+    ensures { IsAnswerBy (IsSolveReply fold (all_bytes inputs.now)) (SolveTakesMemory (all_bytes inputs.now)) result }
 {
-    let (text, sets, tables) = (inputs[0].as_slice(), inputs[1].as_slice(), &inputs[2..]);
+    let (text, sets, files) = (inputs[0].as_slice(), inputs[1].as_slice(), &inputs[2..]);
+    let tables = Tables { files, fold };
     let (digests, outcome) = search_beside(alloc, text, sets, tables, budget, workers);
+    answer_of(digested_by(files, digests), outcome)
+}
+
+/// The digest lines of tables: those that are made already, or else those of the files.
+fn digested_by(tables: &[Vec<u8>], digests: Option<Digests>) -> Digested<'_>
+    requires { IfSome digests (λ digests. digests.items ≡ digests_of (all_bytes tables.now)) }
+    ensures { digest_lines result ≡ digests_of (all_bytes tables.now) }
+{
+    match digests {
+        Some(lines) => Digested::Lines(lines),
+        None => Digested::Files(tables, None),
+    }
+}
+
+/// The answer on what comes of a search over tables with these digest lines.
+fn answer_of<'i>(
+    digested: Digested<'i>,
+    outcome: Result<Made, Fault>,
+) -> Result<Answer<'i>, AllocError>
+    requires { IfOk outcome (λ made. HasItsMoves made.moves.items made.answer) }
+    ensures { (fold : Bool) (text sets : List ℕ) (tables : List (List ℕ)) → digest_lines digested.entry ≡ digests_of tables
+        → MatchResult outcome (λ made. IsMade fold text sets tables made.moves.items made.log.items made.answer) (IsCauseForSearch fold text sets tables)
+        → IsAnswerBy (TellsSearch fold text sets tables) (TakesMemoryForBound text tables) result }
+{
     match outcome {
-        Ok(made) => Ok(answer_on(tables, digests, made)),
+        Ok(made) => Ok(answer_on(digested, made)),
         Err(Fault::Memory) => Err(AllocError),
-        Err(refused) => Ok(refusal_of(tables, digests, refused)),
+        Err(refused) => Ok(refusal_of(digested, refused)),
     }
 }
 
 /// The answer on what a search made.
-fn answer_on(tables: &[Vec<u8>], digests: Option<Digests>, made: Made) -> Answer<'_>
-    requires digests { IfSome digests (λ digests. digests.items ≡ digests_of (all_bytes tables.now)) }
-    requires count { HasItsMoves made.moves.items made.answer }
-    ensures { reply_of result ≡ reply_to_search (all_bytes tables.now) (searched made.moves.items made.log.items made.answer) }
+fn answer_on<'i>(digested: Digested<'i>, made: Made) -> Answer<'i>
+    requires { HasItsMoves made.moves.items made.answer }
+    ensures { (tables : List (List ℕ)) → digest_lines digested.entry ≡ digests_of tables
+        → IsReplyOf result (reply_to_search tables (searched made.moves.items made.log.items made.answer)) }
 {
     Answer {
-        files: tables,
-        last: None,
-        digests,
+        digested,
         lines: lines_on(made.moves.as_slice(), &made.answer),
         is_yes: made.answer.is_ok(),
         made: Some(made.log),
@@ -136,14 +248,11 @@ fn answer_on(tables: &[Vec<u8>], digests: Option<Digests>, made: Made) -> Answer
 }
 
 /// The answer where a search made nothing.
-fn refusal_of(tables: &[Vec<u8>], digests: Option<Digests>, refused: Fault) -> Answer<'_>
-    requires { IfSome digests (λ digests. digests.items ≡ digests_of (all_bytes tables.now)) }
-    ensures { reply_of result ≡ reply_to_search (all_bytes tables.now) (unmade refused) }
+fn refusal_of<'i>(digested: Digested<'i>, refused: Fault) -> Answer<'i>
+    ensures { (tables : List (List ℕ)) → digest_lines digested.entry ≡ digests_of tables → IsReplyOf result (reply_to_search tables (unmade refused)) }
 {
     Answer {
-        files: tables,
-        last: None,
-        digests,
+        digested,
         made: None,
         made_digest: None,
         lines: line_of(&Err(refused)),
@@ -166,19 +275,19 @@ fn search_beside<H: Threads + Wait + Sync, G: Gate + Sync>(
     alloc: Global,
     text: &[u8],
     sets: &[u8],
-    tables: &[Vec<u8>],
+    tables: Tables<'_>,
     budget: u64,
     workers: &Workers<'_, H, G>,
 ) -> (Option<Digests>, Result<Made, Fault>)
-    ensures digests { IfSome result.0 (λ digests. digests.items ≡ digests_of (all_bytes tables.now)) }
-    ensures made { IfOk result.1 (λ made. IsMade text.now sets.now (all_bytes tables.now) made.moves.items made.log.items made.answer) }
-    ensures unmade { IfErr result.1 (λ cause. IsCauseForSearch text.now sets.now (all_bytes tables.now) cause) }
+    ensures digests { IfSome result.0 (λ digests. digests.items ≡ digests_of (all_bytes tables.entry.files.now)) }
+    ensures made { IfOk result.1 (λ made. IsMade tables.entry.fold text.now sets.now (all_bytes tables.entry.files.now) made.moves.items made.log.items made.answer) }
+    ensures unmade { IfErr result.1 (λ cause. IsCauseForSearch tables.entry.fold text.now sets.now (all_bytes tables.entry.files.now) cause) }
 {
     let search = || -> Result<Made, Fault>
-        ensures made { IfOk result (λ made. IsMade text.entry.now sets.entry.now (all_bytes tables.entry.now) made.moves.items made.log.items made.answer) }
-        ensures unmade { IfErr result (λ cause. IsCauseForSearch text.entry.now sets.entry.now (all_bytes tables.entry.now) cause) }
+        ensures made { IfOk result (λ made. IsMade tables.entry.fold text.entry.now sets.entry.now (all_bytes tables.entry.files.now) made.moves.items made.log.items made.answer) }
+        ensures unmade { IfErr result (λ cause. IsCauseForSearch tables.entry.fold text.entry.now sets.entry.now (all_bytes tables.entry.files.now) cause) }
     { search(alloc, text, sets, tables, budget, workers) };
-    beside(workers.rt, workers.count, tables, None, search)
+    beside(workers.rt, workers.count, tables.files, None, search)
 }
 
 /// Searches for a shortest solution of the board of a text, and checks what is found. Or the first refusal that stands: the
@@ -188,12 +297,12 @@ fn search<H: Threads + Wait + Sync, G: Gate + Sync>(
     alloc: Global,
     text: &[u8],
     sets: &[u8],
-    tables: &[Vec<u8>],
+    tables: Tables<'_>,
     budget: u64,
     workers: &Workers<'_, H, G>,
 ) -> Result<Made, Fault>
-    ensures made { IfOk result (λ made. IsMade text.now sets.now (all_bytes tables.now) made.moves.items made.log.items made.answer) }
-    ensures unmade { IfErr result (λ cause. IsCauseForSearch text.now sets.now (all_bytes tables.now) cause) }
+    ensures made { IfOk result (λ made. IsMade tables.entry.fold text.now sets.now (all_bytes tables.entry.files.now) made.moves.items made.log.items made.answer) }
+    ensures unmade { IfErr result (λ cause. IsCauseForSearch tables.entry.fold text.now sets.now (all_bytes tables.entry.files.now) cause) }
 {
     let board = Board::read(text).map_err(Fault::Board)?;
     let bundle = read_bundle(alloc, tables, sets, workers)?;

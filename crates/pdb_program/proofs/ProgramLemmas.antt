@@ -1,5 +1,5 @@
 -- The numbers by which runs end.
-use Rattle.std.proofs.Common.{◌≡◌, ◌⊎◌, ◌∙◌, ◌≤◌, inl, inr, refl, sym, ap, subst, lit≤, arith, ℕ, List, [], Option, Some, None}
+use Rattle.std.proofs.Common.{◌≡◌, ◌⊎◌, ◌∙◌, ◌≤◌, inl, inr, refl, sym, ap, subst, lit≤, arith, ℕ, Bool, List, [], Option, Some, None}
 use Rattle.std.specs.Io.KnownBytes.{Keeps}
 use Rattle.pdb_io.specs.Shelf.{Bytes}
 use Rattle.pdb_run.specs.Commands.{Plan}
@@ -10,7 +10,7 @@ use Rattle.pdb_run.specs.declared.statuses.Status.TheVariants.{Yes, Refused, Fau
 use Rattle.pdb_run.proofs.AnswerLemmas.{IsAnswered-ends}
 use Rattle.pdb_keep.specs.MakeTable.{make_table_plan}
 use Rattle.pdb_keep.proofs.KeptLemmas.{log_kept, table_kept}
-use Rattle.pdb_words.specs.Asked.{Asked, bound, make_table, optimal, replay, solve, table}
+use Rattle.pdb_words.specs.Asked.{Asked, AsksCheck, bound, make_table, optimal, replay, solve, table}
 use Rattle.pdb_words.specs.CommandLine.{Parses, asked_of}
 use Rattle.pdb_words.specs.Faults.{IsMistaken}
 use Rattle.pdb_program.specs.Programs.{AskToKeepNothing, HasKept, IsNumberOf, RunsOn, plan_of, taking_memory}
@@ -41,10 +41,10 @@ runs_on words other old new old_err new_err number same ends refuses quiet kept 
 wants : (asked : Asked) (old : World) → WantsMemory (plan_of asked) old
 wants (replay name) old = inl (omega arith)
 wants (table name workers) old = inl (omega arith)
-wants (bound board sets log tables workers) old = inl (omega arith)
-wants (optimal puzzle sets log tables workers) old = inl (omega arith)
+wants (bound board sets log tables workers fold) old = inl (omega arith)
+wants (optimal puzzle sets log tables workers fold) old = inl (omega arith)
 wants (make_table side mask out workers) old = inr ([], tt, tt)
-wants (solve board sets out tables workers budget) old = inl (omega arith)
+wants (solve board sets out tables workers fold budget) old = inl (omega arith)
 
 -- what is said of a fault in words that parse is want of memory
 pub parsed_ends : (words : List Bytes) (old new : World) (old_err new_err : Option Bytes) (status : Status) → Parses words → new.files ≡ old.files
@@ -103,6 +103,19 @@ module _ (plan : Plan) (old new : World) (status : Status) where
     said = inl (answered.lines, answered.is_status);
   }
 
+-- what was asked for under other words for the same
+pub asked_ends : (asked other : Asked) (old new : World) (status : Status) → asked ≡ other → Ends (plan_of asked) old new status → Ends (plan_of other) old new status
+asked_ends asked other old new status is ends = subst (λ (a : Asked). Ends (plan_of a) old new status) is ends
+
+-- the check of a log under the same names
+pub same_check : (asks : AsksCheck) (text text' sets sets' log log' : Bytes) (tables tables' : List Bytes) (workers : ℕ) (fold fold' : Bool)
+    → text ≡ text' → sets ≡ sets' → log ≡ log' → tables ≡ tables' → fold ≡ fold'
+    → asks text sets log tables workers fold ≡ asks text' sets' log' tables' workers fold'
+same_check asks text text' sets sets' log log' tables tables' workers fold fold' t s l ts f =
+    ap (λ (x : Bytes). asks x sets log tables workers fold) t ∙ ap (λ (x : Bytes). asks text' x log tables workers fold) s ∙
+    ap (λ (x : Bytes). asks text' sets' x tables workers fold) l ∙ ap (λ (x : List Bytes). asks text' sets' log' x workers fold) ts ∙
+    ap (λ (x : Bool). asks text' sets' log' tables' workers x) f
+
 -- what was asked for is a table to be made
 pub made_ends : (side mask : ℕ) (out : Bytes) (workers : ℕ) (asked : Asked) (old new : World) (status : Status) → make_table side mask out workers ≡ asked
     → Ends (make_table_plan side mask out) old new status → Ends (plan_of asked) old new status
@@ -114,11 +127,11 @@ made_ends side mask out workers asked old new status is ends =
 yes_keeps : (asked : Asked) (old new : World) → Ends (plan_of asked) old new Yes → HasKept asked old new
 yes_keeps (replay name) old new ends = kept_nothing (plan_of (replay name)) old new Yes refl ends
 yes_keeps (table name workers) old new ends = kept_nothing (plan_of (table name workers)) old new Yes refl ends
-yes_keeps (bound board sets log tables workers) old new ends = kept_nothing (plan_of (bound board sets log tables workers)) old new Yes refl ends
-yes_keeps (optimal puzzle sets log tables workers) old new ends = kept_nothing (plan_of (optimal puzzle sets log tables workers)) old new Yes refl ends
+yes_keeps (bound board sets log tables workers fold) old new ends = kept_nothing (plan_of (bound board sets log tables workers fold)) old new Yes refl ends
+yes_keeps (optimal puzzle sets log tables workers fold) old new ends = kept_nothing (plan_of (optimal puzzle sets log tables workers fold)) old new Yes refl ends
 yes_keeps (make_table side mask out workers) old new ends =
     table_kept side mask out old new (answers (make_table_plan side mask out) old new Yes (IsAnswered-ends (plan_of (make_table side mask out workers)) old new Yes ends (inl refl)))
-yes_keeps (solve board sets out tables workers budget) old new ends = log_kept board sets out tables old new ends
+yes_keeps (solve board sets out tables workers fold budget) old new ends = log_kept fold board sets out tables old new ends
 
 not_both : (number : ℕ) → number ≡ 1 → number ≡ 0 → ⊥
 not_both number one zero = omega arith

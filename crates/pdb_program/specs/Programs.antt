@@ -27,10 +27,10 @@ taking_memory plan = record plan { TakesMemory = λ inputs. ⊤ }
 abbrev pub plan_of : Asked → Plan
 plan_of (replay name) = replay_plan name
 plan_of (table name workers) = table_plan name
-plan_of (bound board sets log tables workers) = bound_plan board sets log tables
-plan_of (optimal puzzle sets log tables workers) = optimum_plan puzzle sets log tables
+plan_of (bound board sets log tables workers fold) = bound_plan fold board sets log tables
+plan_of (optimal puzzle sets log tables workers fold) = optimum_plan fold puzzle sets log tables
 plan_of (make_table side mask out workers) = taking_memory (make_table_plan side mask out)
-plan_of (solve board sets out tables workers budget) = solve_plan board sets out tables
+plan_of (solve board sets out tables workers fold budget) = solve_plan fold board sets out tables
 
 -- the words ask for nothing under whose name a file is kept: only make-table and solve keep one
 abbrev pub AskToKeepNothing : List Bytes → Type 0
@@ -41,10 +41,10 @@ AskToKeepNothing words = Parses words → (plan_of (asked_of words)).keeps_under
 abbrev pub HasKept : Asked → World → World → Type 0
 HasKept (replay name) old new = new.files ≡ old.files
 HasKept (table name workers) old new = new.files ≡ old.files
-HasKept (bound board sets log tables workers) old new = new.files ≡ old.files
-HasKept (optimal puzzle sets log tables workers) old new = new.files ≡ old.files
+HasKept (bound board sets log tables workers fold) old new = new.files ≡ old.files
+HasKept (optimal puzzle sets log tables workers fold) old new = new.files ≡ old.files
 HasKept (make_table side mask out workers) old new = IsTableKept side mask out old new
-HasKept (solve board sets out tables workers budget) old new = IsLogKept board sets out tables old new
+HasKept (solve board sets out tables workers fold budget) old new = IsLogKept fold board sets out tables old new
 
 -- the number is that of a status of which this holds
 abbrev pub IsNumberOf : (Status → Type 0) → ℕ → Type 0

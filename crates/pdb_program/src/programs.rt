@@ -123,32 +123,36 @@ fn answer<H: Threads + Wait + Sync, S: Shelf, R: Read, W: Write, E: Write, G: Ga
     }
 }
 
-/// The names of the files that the check of a log reads.
+/// The names of the files that the check of a log reads, and whether its tables are folded.
 fn names_in<'t, 'n>(check: &'t LogCheck<'n>) -> ClaimNames<'t, 'n>
     ensures text { result.text.now ≡ check.now.text.now }
     ensures sets { result.sets.now ≡ check.now.sets.now }
     ensures log { result.log.now ≡ check.now.log.now }
     ensures tables { result.tables.now ≡ check.now.tables.items }
+    ensures fold { result.fold ≡ check.now.fold }
 {
     ClaimNames {
         text: check.text,
         sets: check.sets,
         log: check.log,
         tables: check.tables.as_slice(),
+        fold: check.fold,
     }
 }
 
-/// The names that a search speaks of.
+/// The names that a search speaks of, and whether its tables are folded.
 fn search_names_in<'t, 'n>(search: &'t Search<'n>) -> SearchNames<'t, 'n>
     ensures board { result.board.now ≡ search.now.board.now }
     ensures sets { result.sets.now ≡ search.now.sets.now }
     ensures out { result.out.now ≡ search.now.out.now }
     ensures tables { result.tables.now ≡ search.now.tables.items }
+    ensures fold { result.fold ≡ search.now.fold }
 {
     SearchNames {
         board: search.board,
         sets: search.sets,
         out: search.out,
         tables: search.tables.as_slice(),
+        fold: search.fold,
     }
 }

@@ -10,9 +10,10 @@ use Rattle.std.proofs.lemmas.List.Concat.{flat_map-cons}
 use Rattle.pdb_io.specs.Shelf.{Bytes}
 use Rattle.pdb_io.specs.Streams.{AppendsFront}
 use Rattle.pdb_io.proofs.Appending.{appends_more}
-use Rattle.pdb_run.specs.Writing.{all_bytes, digest_line, digests_of, joined, list_of, reply_text, shown_byte}
+use Rattle.pdb_run.specs.Answers.{answer_text, digest_lines, made_file}
+use Rattle.pdb_run.specs.Writing.{all_bytes, digest_line, digests_of, joined, list_of, shown_byte}
 use Rattle.pdb_run.specs.Pages.{Gathers}
-use Rattle.pdb_run.specs.Commands.{Reply}
+use Rattle.pdb_run.specs.declared.answers.Answer.{Answer}
 
 -- ---- one page
 
@@ -133,10 +134,10 @@ pub last_gathers : {T E : Type 0} (r : Result T E) (a b c : Option Bytes) (x y z
 last_gathers (Ok k) a b c x y z files last p q = gathers_digests a b c x y z files last p q
 last_gathers (Err e) a b c x y z files last p q = tt
 
--- the parts of a reply in a row, as they were added
-pub reply_parts : (reply : Reply) (lines : Bytes) → lines ≡ reply.lines → (digests_of reply.digested ++ digests_of (list_of reply.made)) ++ lines ≡ reply_text reply
-reply_parts reply lines is = append_assoc (digests_of reply.digested) (digests_of (list_of reply.made)) lines
-    ∙ ap (λ (t : Bytes). digests_of reply.digested ++ (digests_of (list_of reply.made) ++ t)) is
+-- the parts of an answer in a row, as they were added
+pub answer_parts : (answer : Answer) (lines : Bytes) → lines ≡ answer.lines.bytes → (digest_lines answer.digested ++ digests_of (list_of (made_file answer))) ++ lines ≡ answer_text answer
+answer_parts answer lines is = append_assoc (digest_lines answer.digested) (digests_of (list_of (made_file answer))) lines
+    ∙ ap (λ (t : Bytes). digest_lines answer.digested ++ (digests_of (list_of (made_file answer)) ++ t)) is
 
 module _ {A : Type 0} (a b c : Option Bytes) (x y : Bytes) (files : List (Vec ℕ A)) (i : ℕ) (d : Vec ℕ A) (line : Bytes) (lt : i < length files) (is : line ≡ digest_line (get_or files i d).items) where
   pub file_next : (z : Bytes) → Gathers a x b y (digests_of (all_bytes (take i files))) → Gathers b y c z line → Gathers a x c z (digests_of (all_bytes (take (i + 1) files)))

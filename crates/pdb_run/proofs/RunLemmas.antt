@@ -1,16 +1,18 @@
 -- How a run ends.
-use Rattle.std.proofs.Common.{◌≡◌, ◌∙◌, Bool, true, List, Option, Some, None, ap, codes, subst, sym}
+use Rattle.std.proofs.Common.{◌≡◌, ◌∙◌, ◌++◌, Bool, true, List, Option, Some, None, ap, codes, inr, subst, sym}
 use Rattle.pdb_io.specs.Shelf.{Bytes, Files, KeepsOthers}
 use Rattle.pdb_io.specs.declared.streams.ReadFault.{ReadFault}
 use Rattle.pdb_io.specs.declared.streams.ReadFault.TheVariants.{F1, F2}
 use Rattle.pdb_io.specs.declared.shelf.KeepFault.{KeepFault}
 use Rattle.pdb_io.specs.declared.shelf.KeepFault.TheVariants as keep
-use Rattle.pdb_run.specs.Writing.{named_line, reply_text, shown}
+use Rattle.pdb_run.specs.Answers.{IsReplyOf, answer_text, kept_of}
+use Rattle.pdb_run.specs.Writing.{digests_of, list_of, memory_line, named_line, reply_text, shown}
 use Rattle.pdb_run.specs.Commands.{Plan, Reply, Wanted}
 use Rattle.pdb_run.specs.Inputs.{AreRead, IsAsTold, IsFirstUnread, left_by_all}
-use Rattle.pdb_run.specs.Runs.{Ends, Says, World, kept, replied, status_of, status_of_reply, text_of, unkept, unread, with_kept}
+use Rattle.pdb_run.specs.Runs.{Ends, Says, World, kept, kept_after, no_memory, replied, status_of, status_of_reply, text_of, unkept, unread, with_kept}
+use Rattle.pdb_run.specs.declared.answers.Answer.{Answer}
 use Rattle.pdb_run.specs.declared.statuses.Status.{Status}
-use Rattle.pdb_run.specs.declared.statuses.Status.TheVariants.{Fault}
+use Rattle.pdb_run.specs.declared.statuses.Status.TheVariants.{Fault, NoMemory}
 
 -- ---- the line of an input that wasn't read
 
@@ -30,6 +32,24 @@ module _ (wanted : Wanted) (why : ReadFault) (name : Bytes) (old new : Option By
       → Says (text_of (unread wanted why)) (status_of (unread wanted why)) old new status
   said_oversize is shows said = as_why F2 is (as_shown (codes "fault size ") shows said)
 
+-- ---- an answer says a reply
+
+module _ (answer : Answer) (reply : Reply) (is : IsReplyOf answer reply) where
+  pub same_text : answer_text answer ≡ reply_text reply
+  same_text = λ i. is.digested i ++ (digests_of (list_of (is.made i)) ++ is.lines i)
+
+  pub same_kept : kept_of answer ≡ kept reply
+  same_kept = λ i. kept_after (is.is_yes i) (is.made i)
+
+  pub same_files : (held holds : Option Files) (name : Bytes) → holds ≡ with_kept held (Some name) (kept_of answer) → holds ≡ with_kept held (Some name) (kept reply)
+  same_files held holds name is_kept = is_kept ∙ ap (λ (file : Option Bytes). with_kept held (Some name) file) same_kept
+
+  pub same_said : (old new : Option Bytes) (status : Status) → Says (answer_text answer) (status_of_reply answer.is_yes) old new status
+      → Says (reply_text reply) (status_of_reply reply.is_yes) old new status
+  same_said old new status said =
+      subst (λ (b : Bool). Says (reply_text reply) (status_of_reply b) old new status) is.is_yes
+      (subst (λ (t : Bytes). Says t (status_of_reply answer.is_yes) old new status) same_text said)
+
 -- ---- the ends of a run
 
 module _ (plan : Plan) (old new : World) (status : Status) where
@@ -46,6 +66,17 @@ module _ (plan : Plan) (old new : World) (status : Status) where
   as_written : (text : Bytes) (with_text : Status) (was now : Option Bytes) → was ≡ old.written → now ≡ new.written → Says text with_text was now status → Says text with_text old.written new.written status
   as_written text with_text was now is_old is_new said =
       subst (λ (w : Option Bytes). Says text with_text old.written w status) is_new (subst (λ (w : Option Bytes). Says text with_text w now status) is_old said)
+
+  -- memory was wanted by the check of what was read
+  pub concluded_wanting : (inputs : List Bytes) (was now : Option Bytes) → AreRead old.files old.reader plan.inputs inputs → plan.TakesMemory inputs → new.files ≡ old.files
+      → was ≡ old.written → now ≡ new.written → Says memory_line NoMemory was now status → Ends plan old new status
+  concluded_wanting inputs was now are takes same is_old is_new said = record {
+    outcome = no_memory;
+    cause = inr (inputs, are, takes);
+    files = same;
+    reader = tt;
+    said = as_written memory_line NoMemory was now is_old is_new said;
+  }
 
   -- a reply that is right for the bytes that were read, with the file that was kept
   concluded : (inputs : List Bytes) (reply : Reply) (was now : Option Bytes) → AreRead old.files old.reader plan.inputs inputs → IsAsTold (left_by_all old.reader plan.inputs) new.reader → plan.MayReply inputs reply

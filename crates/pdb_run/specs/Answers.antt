@@ -1,15 +1,43 @@
--- A reply as the code has it.
-use Rattle.std.specs.Prelude.{option_map}
-use Rattle.pdb_run.specs.Writing.{all_files}
+-- An answer as the code has it.
+use Rattle.std.specs.Prelude.{◌≡◌, ◌++◌, Option, Result, MatchResult, option_map}
+use Rattle.std.specs.declared.alloc.AllocError.{AllocError}
+use Rattle.pdb_io.specs.Shelf.{Bytes}
+use Rattle.pdb_run.specs.Writing.{all_files, digests_of, list_of}
 pub use Rattle.pdb_run.specs.Writing.{all_bytes}
 use Rattle.pdb_run.specs.Commands.{Reply}
+use Rattle.pdb_run.specs.Runs.{kept_after}
 use Rattle.pdb_run.specs.declared.answers.Answer.{Answer}
+use Rattle.pdb_run.specs.declared.answers.Digested.{Digested}
+use Rattle.pdb_run.specs.declared.answers.Digested.TheVariants as digested
 
--- the files of an answer in a row, what was made, its lines, and whether it is a yes
-abbrev pub reply_of : Answer → Reply
-reply_of answer = record {
-  digested = all_files answer.files.now answer.last;
-  made = option_map (λ v. v.items) answer.made;
-  lines = answer.lines.bytes;
-  is_yes = answer.is_yes;
-}
+-- the digest lines of files and of a last one, or lines that are made already
+abbrev pub digest_lines : Digested → Bytes
+digest_lines (digested.Files files last) = digests_of (all_files files.now last)
+digest_lines (digested.Lines lines) = lines.items
+
+-- the file that was made, or no file
+abbrev pub made_file : Answer → Option Bytes
+made_file answer = option_map (λ v. v.items) answer.made
+
+-- all that is written of an answer
+abbrev pub answer_text : Answer → Bytes
+answer_text answer = digest_lines answer.digested ++ (digests_of (list_of (made_file answer)) ++ answer.lines.bytes)
+
+-- the file that is kept of it
+abbrev pub kept_of : Answer → Option Bytes
+kept_of answer = kept_after answer.is_yes (made_file answer)
+
+-- the answer says this reply: the digest lines are those of the reply's files
+pub record IsReplyOf (answer : Answer) (reply : Reply) : Type 0 where
+  pub digested : digest_lines answer.digested ≡ digests_of reply.digested
+  pub made : made_file answer ≡ reply.made
+  pub lines : answer.lines.bytes ≡ reply.lines
+  pub is_yes : answer.is_yes ≡ reply.is_yes
+
+-- the answer says a reply of which this holds
+abbrev pub SaysRight : (Reply → Type 0) → Answer → Type 0
+SaysRight Holds answer = (reply : Reply) × Holds reply × IsReplyOf answer reply
+
+-- an answer says a reply of which the one holds, or the other holds, and memory was wanted
+abbrev pub IsAnswerBy : (Reply → Type 0) → Type 0 → Result Answer AllocError → Type 0
+IsAnswerBy MayReply TakesMemory answer = MatchResult answer (SaysRight MayReply) (λ _. TakesMemory)

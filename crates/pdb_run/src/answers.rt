@@ -1,7 +1,7 @@
 //! An answer as a value.
 
 ghost use Rattle.std.specs.Prelude.{◌≡◌, ◌≤◌, length, option_map};
-ghost use Rattle.pdb_run.specs.Writing.{all_files, digests_of, joined, list_of};
+ghost use Rattle.pdb_run.specs.Writing.{digests_of, joined, list_of};
 
 use crate::digests::Digests;
 use arrayvec::ArrayString;
@@ -13,16 +13,20 @@ pub const LINES_LEN: usize = 320;
 /// Lines, as a value.
 pub type Lines = ArrayString<LINES_LEN>;
 
-/// An answer: the files that it speaks of, a file that was made, its lines, and whether it is a yes.
+/// The digest lines that come first in an answer.
+#[derive(Drop)]
+pub enum Digested<'a> {
+    /// Those of files, and of a last one, where there is one: they are still to be made.
+    Files(&'a [Vec<u8>], Option<&'a [u8]>),
+    /// These lines, which are made already.
+    Lines(Digests),
+}
+
+/// An answer: the digests of the files that it speaks of, a file that was made, its lines, and whether it is a yes.
 #[derive(Drop)]
 pub struct Answer<'a> {
-    /// The files whose digests come first.
-    pub files: &'a [Vec<u8>],
-    /// A file whose digest comes next.
-    pub last: Option<&'a [u8]>,
-    /// The lines of these digests, where they are made already.
-    pub digests: Option<Digests>,
-    /// A file that was made: its digest comes then, and after a yes it is kept, where the command keeps any.
+    pub digested: Digested<'a>,
+    /// A file that was made: its digest comes next, and after a yes it is kept, where the command keeps any.
     pub made: Option<Vec<u8>>,
     /// The line of this digest, where it is made already.
     pub made_digest: Option<Digests>,
@@ -30,7 +34,6 @@ pub struct Answer<'a> {
     pub lines: Lines,
     /// Whether it is a yes.
     pub is_yes: bool,
-    ghost ready: { option_map (λ d. d.items) digests ≡ option_map (λ _. digests_of (all_files files.now last)) digests },
     ghost made_ready: { option_map (λ d. d.items) made_digest ≡ option_map (λ _. digests_of (list_of (option_map (λ v. v.items) made))) made_digest },
 }
 

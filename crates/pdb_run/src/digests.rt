@@ -49,6 +49,26 @@ pub fn beside<R: Threads + Sync, T, F: FnOnce() -> T>(
     (digests.ok(), answer)
 }
 
+/// As `beside`, and the digest lines that aren't made beside the check are made behind it, where there is room for them.
+pub fn with_digests<R: Threads + Sync, T, F: FnOnce() -> T>(
+    rt: &R,
+    workers: u8,
+    files: &[Vec<u8>],
+    last: Option<&[u8]>,
+    check: F,
+) -> (Option<Digests>, T)
+    requires { F.pre check }
+    ensures digests { IfSome result.0 (λ digests. digests.items ≡ digests_of (all_files files.now last.entry)) }
+    ensures answer { F.post check result.1 }
+{
+    let (digests, answer) = beside(rt, workers, files, last, check);
+    let digests = match digests {
+        Some(digests) => Some(digests),
+        None => digests_in_order(files, last).ok(),
+    };
+    (digests, answer)
+}
+
 /// The digest lines of files, and of a last one, where there is one: by at most so many groups, each but the last one in a
 /// thread of its own. The groups are halved at each step, so the stack grows as the logarithm of their number.
 fn digests_in_groups<R: Threads + Sync>(

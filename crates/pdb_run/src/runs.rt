@@ -4,10 +4,10 @@ ghost use Rattle.std.specs.Prelude.{◌≡◌, ℕ, List, None, Some, length, ma
 ghost use Rattle.std.specs.Io.KnownBytes.{Appends};
 ghost use Rattle.pdb_io.specs.Shelf.{KeepsOthers};
 ghost use Rattle.pdb_io.specs.Streams.{AppendsFront};
-ghost use Rattle.pdb_run.specs.Writing.{memory_line, named_line, reply_text, shown, shown_byte};
+ghost use Rattle.pdb_run.specs.Writing.{memory_line, named_line, shown, shown_byte};
 ghost use Rattle.pdb_run.specs.Commands.{plan_under};
 ghost use Rattle.pdb_run.specs.Inputs.{AreRead, IsAsTold, left_by_all, wanted_of};
-ghost use Rattle.pdb_run.specs.Answers.{all_bytes, reply_of};
+ghost use Rattle.pdb_run.specs.Answers.{IsAnswerBy, all_bytes, answer_text, kept_of};
 ghost use Rattle.pdb_run.specs.Runs.{Ends, Says, World, kept, status_of, status_of_reply, text_of, unkept, unread, with_kept, world};
 
 use crate::answers::Answer;
@@ -50,18 +50,16 @@ pub fn read_inputs<C: Command, S: Shelf, R: Read, W: Write>(
     }
 }
 
-/// Says what a command answers on the bytes of its inputs, or that its check wants memory. So a run ends that has read them,
-/// of a command that keeps nothing.
+/// Says what a command answers, or that its check wants memory. So a run ends that has read the inputs on whose bytes that is
+/// the answer, of a command that keeps nothing.
 pub fn conclude<C: Command, W: Write>(
     command: &C,
-    inputs: &[Vec<u8>],
     answer: &Result<Answer<'_>, AllocError>,
     out: &mut W,
 ) -> Status
-    requires right { IfOk answer.now (λ a. C.MayReply command.now (all_bytes inputs.now) (reply_of a)) }
-    requires memory { OnErr answer.now (C.TakesMemory command.now (all_bytes inputs.now)) }
-    requires keeps_nothing { C.keeps_under command.now ≡ None }
-    ensures { (old new : World) → AreRead old.files old.reader (C.wanted command.now) (all_bytes inputs.now)
+    requires { C.keeps_under command.now ≡ None }
+    ensures { (inputs : List (List ℕ)) (old new : World) → IsAnswerBy (C.MayReply command.now inputs) (C.TakesMemory command.now inputs) answer.now
+        → AreRead old.files old.reader (C.wanted command.now) inputs
         → IsAsTold (left_by_all old.reader (C.wanted command.now)) new.reader → new.files ≡ old.files
         → W.contents out.old ≡ old.written → W.contents out.new ≡ new.written
         → Ends (plan_under (C.keeps_under command.now) (C.wanted command.now) (C.MayReply command.now) (C.TakesMemory command.now)) old new result }
@@ -77,16 +75,14 @@ pub fn conclude<C: Command, W: Write>(
 pub fn keep_and_conclude<C: Command, S: Shelf, W: Write>(
     alloc: Global,
     command: &C,
-    inputs: &[Vec<u8>],
     answer: &Result<Answer<'_>, AllocError>,
     name: &str,
     shelf: &mut S,
     out: &mut W,
 ) -> Status
-    requires right { IfOk answer.now (λ a. C.MayReply command.now (all_bytes inputs.now) (reply_of a)) }
-    requires memory { OnErr answer.now (C.TakesMemory command.now (all_bytes inputs.now)) }
-    requires under { C.keeps_under command.now ≡ Some name.now }
-    ensures { (old new : World) → AreRead old.files old.reader (C.wanted command.now) (all_bytes inputs.now)
+    requires { C.keeps_under command.now ≡ Some name.now }
+    ensures { (inputs : List (List ℕ)) (old new : World) → IsAnswerBy (C.MayReply command.now inputs) (C.TakesMemory command.now inputs) answer.now
+        → AreRead old.files old.reader (C.wanted command.now) inputs
         → IsAsTold (left_by_all old.reader (C.wanted command.now)) new.reader
         → S.held shelf.old ≡ old.files → S.held shelf.new ≡ new.files → S.has_failed shelf.new ≡ new.failed
         → W.contents out.old ≡ old.written → W.contents out.new ≡ new.written
@@ -108,8 +104,8 @@ fn keep_made<S: Shelf>(
     name: &str,
     shelf: &mut S,
 ) -> Result<(), KeepFault>
-    ensures kept { OnOk result (S.held shelf.new ≡ with_kept (S.held shelf.old) (Some name.now) (kept (reply_of answer.now))) }
-    ensures made { OnErr result ((file : List ℕ) × (kept (reply_of answer.now) ≡ Some file)) }
+    ensures kept { OnOk result (S.held shelf.new ≡ with_kept (S.held shelf.old) (Some name.now) (kept_of answer.now)) }
+    ensures made { OnErr result ((file : List ℕ) × (kept_of answer.now ≡ Some file)) }
     ensures others { OnErr result (KeepsOthers (S.held shelf.old) (S.held shelf.new) name.now) }
     ensures failed { IsErrOf result KeepFault.F3 → S.has_failed shelf.new ≡ true }
 {
@@ -121,7 +117,7 @@ fn keep_made<S: Shelf>(
 
 /// Writes an answer.
 fn say_answer<W: Write>(answer: &Answer<'_>, out: &mut W) -> Status
-    ensures { Says (reply_text (reply_of answer.now)) (status_of_reply answer.now.is_yes) (W.contents out.old) (W.contents out.new) result }
+    ensures { Says (answer_text answer.now) (status_of_reply answer.now.is_yes) (W.contents out.old) (W.contents out.new) result }
 {
     let written = say(answer, out);
     status_after(

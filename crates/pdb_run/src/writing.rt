@@ -3,19 +3,19 @@
 ghost use Rattle.std.specs.Prelude.{◌++◌, OnOk, OnErr};
 ghost use Rattle.std.specs.Io.KnownBytes.{Appends};
 ghost use Rattle.pdb_io.specs.Streams.{AppendsFront};
-ghost use Rattle.pdb_run.specs.Writing.{all_files, digests_of, list_of, reply_text};
+ghost use Rattle.pdb_run.specs.Writing.{all_files, digests_of, list_of};
 ghost use Rattle.pdb_run.specs.Pages.{Gathers};
-ghost use Rattle.pdb_run.specs.Answers.{reply_of};
+ghost use Rattle.pdb_run.specs.Answers.{answer_text, digest_lines, made_file};
 
-use crate::answers::Answer;
+use crate::answers::{Answer, Digested};
 use crate::pages::Page;
 use pdb_io::streams::WriteFault;
 use std::io::Write;
 
 /// Writes an answer: the digests, and then its lines. It is one write, where the writer takes all and a page holds all.
 pub fn say<W: Write>(answer: &Answer<'_>, out: &mut W) -> Result<(), WriteFault>
-    ensures whole { OnOk result (Appends (W.contents out.old) (W.contents out.new) (reply_text (reply_of answer.now))) }
-    ensures front { OnErr result (AppendsFront (W.contents out.old) (W.contents out.new) (reply_text (reply_of answer.now))) }
+    ensures whole { OnOk result (Appends (W.contents out.old) (W.contents out.new) (answer_text answer.now)) }
+    ensures front { OnErr result (AppendsFront (W.contents out.old) (W.contents out.new) (answer_text answer.now)) }
 {
     let mut page = Page::new();
     add_digests(&mut page, answer, out)?;
@@ -30,12 +30,12 @@ fn add_digests<W: Write>(
     answer: &Answer<'_>,
     out: &mut W,
 ) -> Result<(), WriteFault>
-    ensures whole { OnOk result (Gathers (W.contents out.old) page.old.text.items (W.contents out.new) page.new.text.items (digests_of (reply_of answer.now).digested)) }
-    ensures front { OnErr result (AppendsFront (W.contents out.old) (W.contents out.new) (page.old.text.items ++ digests_of (reply_of answer.now).digested)) }
+    ensures whole { OnOk result (Gathers (W.contents out.old) page.old.text.items (W.contents out.new) page.new.text.items (digest_lines answer.now.digested)) }
+    ensures front { OnErr result (AppendsFront (W.contents out.old) (W.contents out.new) (page.old.text.items ++ digest_lines answer.now.digested)) }
 {
-    match &answer.digests {
-        Some(digests) => page.add(digests.as_slice(), out),
-        None => page.add_digests(answer.files, answer.last, out),
+    match &answer.digested {
+        Digested::Files(files, last) => page.add_digests(files, *last, out),
+        Digested::Lines(lines) => page.add(lines.as_slice(), out),
     }
 }
 
@@ -46,8 +46,8 @@ fn add_made_digest<W: Write>(
     answer: &Answer<'_>,
     out: &mut W,
 ) -> Result<(), WriteFault>
-    ensures whole { OnOk result (Gathers (W.contents out.old) page.old.text.items (W.contents out.new) page.new.text.items (digests_of (list_of (reply_of answer.now).made))) }
-    ensures front { OnErr result (AppendsFront (W.contents out.old) (W.contents out.new) (page.old.text.items ++ digests_of (list_of (reply_of answer.now).made))) }
+    ensures whole { OnOk result (Gathers (W.contents out.old) page.old.text.items (W.contents out.new) page.new.text.items (digests_of (list_of (made_file answer.now)))) }
+    ensures front { OnErr result (AppendsFront (W.contents out.old) (W.contents out.new) (page.old.text.items ++ digests_of (list_of (made_file answer.now)))) }
 {
     match &answer.made_digest {
         Some(digest) => page.add(digest.as_slice(), out),

@@ -1,17 +1,22 @@
 -- Table files that are checked one after the other.
-use Rattle.std.proofs.Common.{◌≡◌, ◌∙◌, ℕ, zero, suc, ◌+◌, ◌<◌, List, [], ◌∷◌, ◌++◌, Some, length, map, take, get_or, add-one, ap, arith, refl, subst, sym}
+use Rattle.std.proofs.Common.{◌≡◌, ◌∙◌, ℕ, Bool, true, false, zero, suc, ◌+◌, ◌<◌, List, [], ◌∷◌, ◌++◌, Some, length, map, take, get_or, add-one, ap, ap₂, arith, refl, subst, sym}
 use Rattle.std.specs.Prelude.{slice_get}
 use Rattle.std.specs.List.{AllByRecursion}
-use Rattle.std.proofs.lemmas.List.{length-take-le}
+use Rattle.std.proofs.lemmas.List.{length-map, length-take-le, map-append}
 use Rattle.std.proofs.lemmas.Option.{slice_get-get_or, slice_get-map, slice_get_within}
 use Rattle.std.specs.Option.{option_map}
 use Rattle.tab_file.specs.TableFiles.{IsTableFile}
 use Rattle.tab_file.specs.Tables.{Table}
 use Rattle.tab_check.specs.ExactTables.{IsExactFile, IsExactTable}
 use Rattle.set_sum.specs.Bundles.{BundleView}
+use Rattle.set_sum.specs.Parts.{IsExactPart}
+use Rattle.set_sum.specs.Reading.{IsBundleOf, IsFaultOf}
+use Rattle.set_sum.specs.declared.faults.SetFault.{SetFault}
+use Rattle.set_sum.specs.declared.parts.Part.{Part}
 use Rattle.pdb_io.specs.Shelf.{Bytes}
-use Rattle.pdb_verdict.specs.Bundles.{AreExactFiles, IsBundleOfFiles, TakesMemoryForTables}
-use Rattle.pdb_verdict.specs.Steps.{IsCauseForFile, IsCauseForTables}
+use Rattle.pdb_verdict.proofs.FoldedLemmas.{has_folded}
+use Rattle.pdb_verdict.specs.Bundles.{AreExactFiles, AreRefusedSets, IsBundleOfFiles, TakesMemoryForTables, part_for, parts_for}
+use Rattle.pdb_verdict.specs.Steps.{ArePartsOf, IsCauseForFile, IsCauseForTables}
 use Rattle.pdb_verdict.specs.declared.verdicts.Fault.{Fault}
 use Rattle.pdb_verdict.specs.declared.verdicts.Fault.TheVariants as fault
 
@@ -40,6 +45,19 @@ pub exact-next : (tables : List Table) (files : List Bytes) (i : ℕ) (t : Table
     → slice_get files i ≡ Some file → IsExactFile t file → AreExactFiles (tables ++ t ∷ []) (take (i + 1) files)
 exact-next tables files i t file are there exact = subst (λ k. AreExactFiles (tables ++ t ∷ []) (take k files)) (sym (add-one i)) (more tables files i t file are there exact)
 
+-- the parts of one file more
+pub parts_next : (fold : Bool) (parts : List Part) (files : List Bytes) (i : ℕ) (table : Table) (part : Part) (file : Bytes) → ArePartsOf fold (take i files) parts
+    → slice_get files i ≡ Some file → IsExactFile table file → part ≡ part_for fold table → ArePartsOf fold (take (i + 1) files) (parts ++ part ∷ [])
+parts_next fold parts files i table part file are there exact is = record {
+  tables = are.tables ++ table ∷ [];
+  exact = exact-next are.tables files i table file are.exact there exact;
+  are = ap₂ (λ (xs : List Part) (x : Part). xs ++ x ∷ []) are.are is ∙ sym (map-append (part_for fold) are.tables (table ∷ []));
+}
+
+-- there are as many parts as tables
+pub parts_count : (fold : Bool) (files : List Bytes) (parts : List Part) → (are : ArePartsOf fold files parts) → length parts ≡ length are.tables
+parts_count fold files parts are = ap length are.are ∙ length-map are.tables (part_for fold)
+
 -- where those before a table file are of exact tables, the first is a table file
 pub first_taken : (tables : List Table) (files : List Bytes) (i : ℕ) (t : Table) (file : Bytes) → AreExactFiles tables (take i files)
     → slice_get files i ≡ Some file → IsTableFile t file → TakesMemoryForTables files
@@ -48,20 +66,43 @@ first_taken tables (f ∷ files) zero t file are there is = (t, subst (IsTableFi
 first_taken [] (f ∷ files) (suc i) t file are there is = absurd are
 first_taken (u ∷ tables) (f ∷ files) (suc i) t file are there is = (u, are.0.is_file)
 
+-- the table of an exact file is exact, folded too
+part_exact : (fold : Bool) (t : Table) (file : Bytes) → IsExactFile t file → IsExactPart (part_for fold t)
+part_exact false t file is = record { is_table = is.is_file.table; exact = is.exact }
+part_exact true t file is = has_folded t (record { is_table = is.is_file.table; exact = is.exact })
+
 -- tables of exact files are exact
-pub all_exact : (tables : List Table) (files : List Bytes) → AreExactFiles tables files → AllByRecursion IsExactTable tables
-all_exact [] files are = tt
-all_exact (t ∷ tables) [] are = absurd are
-all_exact (t ∷ tables) (file ∷ files) are = (record { is_table = are.0.is_file.table; exact = are.0.exact }, all_exact tables files are.1)
+pub all_exact : (fold : Bool) (tables : List Table) (files : List Bytes) → AreExactFiles tables files → AllByRecursion IsExactPart (parts_for fold tables)
+all_exact fold [] files are = tt
+all_exact fold (t ∷ tables) [] are = absurd are
+all_exact fold (t ∷ tables) (file ∷ files) are = (part_exact fold t file are.0, all_exact fold tables files are.1)
 
 exact_taken : (tables : List Table) (files : List Bytes) → 0 < length tables → AreExactFiles tables files → TakesMemoryForTables files
 exact_taken [] files some are = absurd (omega arith)
 exact_taken (t ∷ tables) [] some are = absurd are
 exact_taken (t ∷ tables) (file ∷ files) some are = (t, are.0.is_file)
 
+-- the parts of all files and a set text make the bundle of the files
+pub parts_bundle : (fold : Bool) (files : List Bytes) (sets : Bytes) (parts : List Part) (bundle : BundleView) → ArePartsOf fold files parts → IsBundleOf parts sets bundle
+    → IsBundleOfFiles fold files sets bundle
+parts_bundle fold files sets parts bundle are makes = record {
+  tables = are.tables;
+  exact = are.exact;
+  makes = subst (λ ps. IsBundleOf ps sets bundle) are.are makes;
+}
+
+pub parts_refused : (fold : Bool) (files : List Bytes) (sets : Bytes) (parts : List Part) (refused : SetFault) → ArePartsOf fold files parts → IsFaultOf refused parts sets
+    → AreRefusedSets fold files sets refused
+parts_refused fold files sets parts refused are stands = record {
+  tables = are.tables;
+  exact = are.exact;
+  fault = subst (λ ps. IsFaultOf refused ps sets) are.are stands;
+}
+
 -- what makes a bundle has a table file, so it takes memory to check it
-pub bundle_taken : (files : List Bytes) (sets : Bytes) (bundle : BundleView) → IsBundleOfFiles files sets bundle → TakesMemoryForTables files
-bundle_taken files sets bundle is = exact_taken is.tables files is.makes.alike.count.some is.exact
+pub bundle_taken : (fold : Bool) (files : List Bytes) (sets : Bytes) (bundle : BundleView) → IsBundleOfFiles fold files sets bundle → TakesMemoryForTables files
+bundle_taken fold files sets bundle is =
+    exact_taken is.tables files (subst (λ n. 0 < n) (length-map is.tables (part_for fold)) is.makes.alike.count.some) is.exact
 
 -- what keeps one file's table away keeps away those of all
 pub cause_for_tables : (tables : List Table) (files : List Bytes) (i expected : ℕ) (file : Bytes) (cause : Fault) → AreExactFiles tables (take i files)

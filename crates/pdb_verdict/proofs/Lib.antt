@@ -1,8 +1,10 @@
 pub mod BoundLemmas
 pub mod BundleLemmas
+mod FoldedLemmas
 mod LineLemmas
 pub mod OptimumLemmas
 mod ReplayLemmas
 mod ResultLemmas
+pub mod StartLemmas
 mod TableLemmas
 mod VerdictLemmas

@@ -76,17 +76,17 @@ least_by : (puzzle : List ℕ) (n : ℕ) (solved : IsSolvedPuzzle puzzle n) → 
 least_by puzzle n solved bounded = record { solved = solved; least = least_count puzzle n solved bounded }
 
 -- so is a solution whose number of moves is proved as a bound
-pub proved_optimum : (puzzle sets log : Bytes) (files : List Bytes) (n : ℕ) → IsProvedOptimum puzzle sets log files n → IsOptimum puzzle n
-proved_optimum puzzle sets log files n h = least_by puzzle n h.solved (proved_bounds h.solved.board sets log files n h.proved)
+pub proved_optimum : (fold : Bool) (puzzle sets log : Bytes) (files : List Bytes) (n : ℕ) → IsProvedOptimum fold puzzle sets log files n → IsOptimum puzzle n
+proved_optimum fold puzzle sets log files n h = least_by puzzle n h.solved (proved_bounds fold h.solved.board sets log files n h.proved)
 
-pub proved_least : (puzzle sets log : Bytes) (files : List Bytes) (n : ℕ) (h : IsProvedOptimum puzzle sets log files n) → IsLeastCount h.solved.board n
-proved_least puzzle sets log files n h = least_count puzzle n h.solved (proved_bounds h.solved.board sets log files n h.proved)
+pub proved_least : (fold : Bool) (puzzle sets log : Bytes) (files : List Bytes) (n : ℕ) (h : IsProvedOptimum fold puzzle sets log files n) → IsLeastCount h.solved.board n
+proved_least fold puzzle sets log files n h = least_count puzzle n h.solved (proved_bounds fold h.solved.board sets log files n h.proved)
 
 -- what is found for the board of a puzzle that is solved is the answer to the claim
-pub found_answers : (puzzle sets log : Bytes) (tables : List Bytes) (board : List ℕ) (n : ℕ) (found : Result ℕ Fault) → solved_parts (puzzle_parts puzzle) ≡ Ok (board, n)
-    → IsFoundFor board sets log tables found → IsAnswerTo (optimum_claim puzzle sets log tables) (of_halves n found)
-found_answers puzzle sets log tables board n found is found_for = elim found_for [
-  | inl bound ↦ inl (subst (λ solved. IsResultOfPuzzle solved sets log tables (of_halves n found)) (sym is) (found, bound, refl))
+pub found_answers : (fold : Bool) (puzzle sets log : Bytes) (tables : List Bytes) (board : List ℕ) (n : ℕ) (found : Result ℕ Fault) → solved_parts (puzzle_parts puzzle) ≡ Ok (board, n)
+    → IsFoundFor fold board sets log tables found → IsAnswerTo (optimum_claim fold puzzle sets log tables) (of_halves n found)
+found_answers fold puzzle sets log tables board n found is found_for = elim found_for [
+  | inl bound ↦ inl (subst (λ solved. IsResultOfPuzzle fold solved sets log tables (of_halves n found)) (sym is) (found, bound, refl))
   | inr lacks ↦ inr (record { moves = n; solved = (solved-parts puzzle board n is).0; tables_take = lacks.0 }, ap (of_halves n) lacks.1)
 ]
 
@@ -104,32 +104,32 @@ halves n (Ok m) v is = by_test (n == m) (eqb-true n m) is
 same_halves : (n : ℕ) → of_halves n (Ok n) ≡ Ok (verdict.Optimal n)
 same_halves n = ap (λ (b : Bool). if b then Ok (verdict.Optimal n) else Err (fault.O1 n n)) (eq-eqb n n refl)
 
-module _ (puzzle sets log : Bytes) (files : List Bytes) where
-  result_one : (r : Result (List ℕ × ℕ) Fault) (a b : Result Verdict Fault) → IsResultOfPuzzle r sets log files a → IsResultOfPuzzle r sets log files b → a ≡ b
+module _ (fold : Bool) (puzzle sets log : Bytes) (files : List Bytes) where
+  result_one : (r : Result (List ℕ × ℕ) Fault) (a b : Result Verdict Fault) → IsResultOfPuzzle fold r sets log files a → IsResultOfPuzzle fold r sets log files b → a ≡ b
   result_one (Err refused) a b is also = is ∙ sym also
-  result_one (Ok solved) a b is also = is.2 ∙ ap (of_halves solved.1) (found_one solved.0 sets log files is.0 also.0 is.1 also.1) ∙ sym also.2
+  result_one (Ok solved) a b is also = is.2 ∙ ap (of_halves solved.1) (found_one fold solved.0 sets log files is.0 also.0 is.1 also.1) ∙ sym also.2
 
-  pub IsOptimumResult-one : (a b : Result Verdict Fault) → IsOptimumResult puzzle sets log files a → IsOptimumResult puzzle sets log files b → a ≡ b
+  pub IsOptimumResult-one : (a b : Result Verdict Fault) → IsOptimumResult fold puzzle sets log files a → IsOptimumResult fold puzzle sets log files b → a ≡ b
   IsOptimumResult-one a b is also = result_one (solved_parts (puzzle_parts puzzle)) a b is also
 
   -- a yes is an optimum that is proved
   abbrev IsYes : Verdict → Type 0
-  IsYes v = (n : ℕ) × (v ≡ verdict.Optimal n) × IsProvedOptimum puzzle sets log files n
+  IsYes v = (n : ℕ) × (v ≡ verdict.Optimal n) × IsProvedOptimum fold puzzle sets log files n
 
-  yes_by : (r : Result (List ℕ × ℕ) Fault) (v : Verdict) → solved_parts (puzzle_parts puzzle) ≡ r → IsResultOfPuzzle r sets log files (Ok v) → IsYes v
+  yes_by : (r : Result (List ℕ × ℕ) Fault) (v : Verdict) → solved_parts (puzzle_parts puzzle) ≡ r → IsResultOfPuzzle fold r sets log files (Ok v) → IsYes v
   yes_by (Err refused) v parts is = absurd (no_yes _ _ (sym is))
   yes_by (Ok p) v parts is =
       let both = halves p.1 is.0 v is.2 in
       let solved_with = solved-parts puzzle p.0 p.1 parts in
-      let proved : IsProvedBound p.0 sets log files p.1 = subst (IsBoundFor p.0 sets log files) both.0 is.1 in
-      (p.1, both.1, record { solved = solved_with.0; proved = subst (λ b. IsProvedBound b sets log files p.1) (sym solved_with.1) proved })
+      let proved : IsProvedBound fold p.0 sets log files p.1 = subst (IsBoundFor fold p.0 sets log files) both.0 is.1 in
+      (p.1, both.1, record { solved = solved_with.0; proved = subst (λ b. IsProvedBound fold b sets log files p.1) (sym solved_with.1) proved })
 
-  pub IsOptimumResult-yes : (v : Verdict) → IsOptimumResult puzzle sets log files (Ok v) → IsYes v
+  pub IsOptimumResult-yes : (v : Verdict) → IsOptimumResult fold puzzle sets log files (Ok v) → IsYes v
   IsOptimumResult-yes v is = yes_by (solved_parts (puzzle_parts puzzle)) v refl is
 
   -- an optimum is the result exactly where it is proved
-  pub IsOptimumResult-proved : (n : ℕ) → IsOptimumResult puzzle sets log files (Ok (verdict.Optimal n)) ↔ IsProvedOptimum puzzle sets log files n
+  pub IsOptimumResult-proved : (n : ℕ) → IsOptimumResult fold puzzle sets log files (Ok (verdict.Optimal n)) ↔ IsProvedOptimum fold puzzle sets log files n
   IsOptimumResult-proved n = (
-    λ is. let yes = IsOptimumResult-yes (verdict.Optimal n) is in let same : yes.0 ≡ n = let e : verdict.Optimal n ≡ verdict.Optimal yes.0 = yes.1 in cc in subst (IsProvedOptimum puzzle sets log files) same yes.2,
-    λ h. subst (λ r. IsResultOfPuzzle r sets log files (Ok (verdict.Optimal n))) (sym (parts-solved puzzle n h.solved)) (Ok n, h.proved, sym (same_halves n)),
+    λ is. let yes = IsOptimumResult-yes (verdict.Optimal n) is in let same : yes.0 ≡ n = let e : verdict.Optimal n ≡ verdict.Optimal yes.0 = yes.1 in cc in subst (IsProvedOptimum fold puzzle sets log files) same yes.2,
+    λ h. subst (λ r. IsResultOfPuzzle fold r sets log files (Ok (verdict.Optimal n))) (sym (parts-solved puzzle n h.solved)) (Ok n, h.proved, sym (same_halves n)),
   )

@@ -1,5 +1,5 @@
 -- Inputs have a result.
-use Rattle.std.proofs.Common.{◌⊎◌, ℕ, suc, ◌+◌, ◌<◌, ◌^◌, List, [], ◌∷◌, drop, Result, Ok, Err, inl, inr, refl, sym, subst}
+use Rattle.std.proofs.Common.{◌⊎◌, ℕ, Bool, suc, ◌+◌, ◌<◌, ◌^◌, List, [], ◌∷◌, drop, Result, Ok, Err, inl, inr, refl, sym, subst}
 use Rattle.std.specs.Prelude.{slice_index}
 use Rattle.std.proofs.lemmas.List.{get_or-drop}
 use Rattle.byteorder.specs.Numbers.{big_from-lt}
@@ -15,7 +15,7 @@ use Rattle.puz_board.specs.BoardTexts.{board_of_text}
 use Rattle.puz_board.specs.PuzzleTexts.{puzzle_parts}
 use Rattle.puz_board.specs.declared.texts.BoardFault.{BoardFault}
 use Rattle.pdb_verdict.specs.Bound.{IsBoundFor, IsBoundResult, IsResultOfBoard, of_bound}
-use Rattle.pdb_verdict.specs.Bundles.{AreExactFiles, IsBundleOfFiles, IsFirstRefused}
+use Rattle.pdb_verdict.specs.Bundles.{AreExactFiles, IsBundleOfFiles, IsFirstRefused, parts_for}
 use Rattle.pdb_verdict.specs.Inputs.{Given, bytes_of, puzzle_text, table_file, bound_claim, optimum_claim}
 use Rattle.pdb_verdict.specs.Optimal.{IsOptimumResult, IsResultOfPuzzle, of_halves, solved_parts}
 use Rattle.pdb_verdict.specs.Replay.{of_parts}
@@ -44,33 +44,33 @@ tables_answer (file ∷ files) = elim (file_answer file) [
 ]
 
 -- a bound for a board, or why there is none
-found_some : (board : List ℕ) (sets log : Bytes) (files : List Bytes) → (found : Result ℕ Fault) × IsBoundFor board sets log files found
-found_some board sets log files = elim (tables_answer files) [
+found_some : (fold : Bool) (board : List ℕ) (sets log : Bytes) (files : List Bytes) → (found : Result ℕ Fault) × IsBoundFor fold board sets log files found
+found_some fold board sets log files = elim (tables_answer files) [
   | inr first ↦ (Err (fault.TableOf first.0 first.1), first.2)
-  | inl are ↦ elim (bundle_answer are.0 sets) [
+  | inl are ↦ elim (bundle_answer (parts_for fold are.0) sets) [
     | inr refused ↦ (Err (fault.Sets refused.0), record { tables = are.0; exact = are.1; fault = refused.1 })
     | inl bundle ↦
-        let of_files : IsBundleOfFiles files sets bundle.0 = record { tables = are.0; exact = are.1; makes = bundle.1 } in
-        elim (check_answer bundle.0 (is_bundle are.0 sets bundle.0 (all_exact are.0 files are.1) bundle.1) board log) [
+        let of_files : IsBundleOfFiles fold files sets bundle.0 = record { tables = are.0; exact = are.1; makes = bundle.1 } in
+        elim (check_answer bundle.0 (is_bundle (parts_for fold are.0) sets bundle.0 (all_exact fold are.0 files are.1) bundle.1) board log) [
           | inl good ↦ (Ok good.0, record { bundle = bundle.0; is_bundle = of_files; good = good.1 })
           | inr refused ↦ (Err (fault.Log refused.0), record { bundle = bundle.0; is_bundle = of_files; fault = refused.1 })
         ]
   ]
 ]
 
-bound_some : (text sets log : Bytes) (files : List Bytes) → (answer : Result Verdict Fault) × IsBoundResult text sets log files answer
-bound_some text sets log files = of_board (board_of_text text)
+bound_some : (fold : Bool) (text sets log : Bytes) (files : List Bytes) → (answer : Result Verdict Fault) × IsBoundResult fold text sets log files answer
+bound_some fold text sets log files = of_board (board_of_text text)
   where
-    of_board : (r : Result (List ℕ) BoardFault) → (answer : Result Verdict Fault) × IsResultOfBoard r sets log files answer
+    of_board : (r : Result (List ℕ) BoardFault) → (answer : Result Verdict Fault) × IsResultOfBoard fold r sets log files answer
     of_board (Err refused) = (Err (fault.Board refused), refl)
-    of_board (Ok board) = let found = found_some board sets log files in (of_bound found.0, (found.0, found.1, refl))
+    of_board (Ok board) = let found = found_some fold board sets log files in (of_bound found.0, (found.0, found.1, refl))
 
-optimum_some : (puzzle sets log : Bytes) (files : List Bytes) → (answer : Result Verdict Fault) × IsOptimumResult puzzle sets log files answer
-optimum_some puzzle sets log files = of_puzzle (solved_parts (puzzle_parts puzzle))
+optimum_some : (fold : Bool) (puzzle sets log : Bytes) (files : List Bytes) → (answer : Result Verdict Fault) × IsOptimumResult fold puzzle sets log files answer
+optimum_some fold puzzle sets log files = of_puzzle (solved_parts (puzzle_parts puzzle))
   where
-    of_puzzle : (r : Result (List ℕ × ℕ) Fault) → (answer : Result Verdict Fault) × IsResultOfPuzzle r sets log files answer
+    of_puzzle : (r : Result (List ℕ × ℕ) Fault) → (answer : Result Verdict Fault) × IsResultOfPuzzle fold r sets log files answer
     of_puzzle (Err refused) = (Err refused, refl)
-    of_puzzle (Ok solved) = let found = found_some solved.0 sets log files in (of_halves solved.1 found.0, (found.0, found.1, refl))
+    of_puzzle (Ok solved) = let found = found_some fold solved.0 sets log files in (of_halves solved.1 found.0, (found.0, found.1, refl))
 
 -- ---- all inputs
 
@@ -90,5 +90,5 @@ result_some (table_file file) small = elim (file_answer file) [
   )
   | inr refused ↦ (Err (fault.Table refused.0), refused.1)
 ]
-result_some (bound_claim board sets log tables) small = bound_some board sets log tables
-result_some (optimum_claim puzzle sets log tables) small = optimum_some puzzle sets log tables
+result_some (bound_claim fold board sets log tables) small = bound_some fold board sets log tables
+result_some (optimum_claim fold puzzle sets log tables) small = optimum_some fold puzzle sets log tables

@@ -21,37 +21,37 @@ IsResult-true (table_file table) (verdict.Solution n) = (λ is. is, λ h. h)
 IsResult-true (table_file table) (verdict.Exact side mask census) = (λ is. is, λ h. h)
 IsResult-true (table_file table) (verdict.Bound n) = (λ is. is, λ h. h)
 IsResult-true (table_file table) (verdict.Optimal n) = (λ is. is, λ h. h)
-IsResult-true (bound_claim board sets log tables) (verdict.Solution n) = (λ is. let e = (IsBoundResult-bound board sets log tables _ is).1 in cc, λ h. absurd h)
-IsResult-true (bound_claim board sets log tables) (verdict.Exact side mask census) =
-    (λ is. let e = (IsBoundResult-bound board sets log tables _ is).1 in cc, λ h. absurd h)
-IsResult-true (bound_claim board sets log tables) (verdict.Bound n) = IsBoundResult-proved board sets log tables n
-IsResult-true (bound_claim board sets log tables) (verdict.Optimal n) = (λ is. let e = (IsBoundResult-bound board sets log tables _ is).1 in cc, λ h. absurd h)
-IsResult-true (optimum_claim puzzle sets log tables) (verdict.Solution n) = (λ is. let e = (IsOptimumResult-yes puzzle sets log tables _ is).1 in cc, λ h. absurd h)
-IsResult-true (optimum_claim puzzle sets log tables) (verdict.Exact side mask census) =
-    (λ is. let e = (IsOptimumResult-yes puzzle sets log tables _ is).1 in cc, λ h. absurd h)
-IsResult-true (optimum_claim puzzle sets log tables) (verdict.Bound n) = (λ is. let e = (IsOptimumResult-yes puzzle sets log tables _ is).1 in cc, λ h. absurd h)
-IsResult-true (optimum_claim puzzle sets log tables) (verdict.Optimal n) = IsOptimumResult-proved puzzle sets log tables n
+IsResult-true (bound_claim fold board sets log tables) (verdict.Solution n) = (λ is. let e = (IsBoundResult-bound fold board sets log tables _ is).1 in cc, λ h. absurd h)
+IsResult-true (bound_claim fold board sets log tables) (verdict.Exact side mask census) =
+    (λ is. let e = (IsBoundResult-bound fold board sets log tables _ is).1 in cc, λ h. absurd h)
+IsResult-true (bound_claim fold board sets log tables) (verdict.Bound n) = IsBoundResult-proved fold board sets log tables n
+IsResult-true (bound_claim fold board sets log tables) (verdict.Optimal n) = (λ is. let e = (IsBoundResult-bound fold board sets log tables _ is).1 in cc, λ h. absurd h)
+IsResult-true (optimum_claim fold puzzle sets log tables) (verdict.Solution n) = (λ is. let e = (IsOptimumResult-yes fold puzzle sets log tables _ is).1 in cc, λ h. absurd h)
+IsResult-true (optimum_claim fold puzzle sets log tables) (verdict.Exact side mask census) =
+    (λ is. let e = (IsOptimumResult-yes fold puzzle sets log tables _ is).1 in cc, λ h. absurd h)
+IsResult-true (optimum_claim fold puzzle sets log tables) (verdict.Bound n) = (λ is. let e = (IsOptimumResult-yes fold puzzle sets log tables _ is).1 in cc, λ h. absurd h)
+IsResult-true (optimum_claim fold puzzle sets log tables) (verdict.Optimal n) = IsOptimumResult-proved fold puzzle sets log tables n
 
 -- a true verdict on a log holds of the solutions
 pub true_holds : (inputs : Given) (verdict : Verdict) → IsTrueOf inputs verdict → HoldsOfSolutions inputs verdict
 true_holds (puzzle_text puzzle) verdict h = tt
 true_holds (table_file table) verdict h = tt
-true_holds (bound_claim board sets log tables) (verdict.Solution n) h = tt
-true_holds (bound_claim board sets log tables) (verdict.Exact side mask census) h = tt
-true_holds (bound_claim board sets log tables) (verdict.Bound n) h =
-    record { board = h.board; spelt = h.spelt; bounded = proved_bounds h.board sets log tables n h.proved }
-true_holds (bound_claim board sets log tables) (verdict.Optimal n) h = tt
-true_holds (optimum_claim puzzle sets log tables) (verdict.Solution n) h = tt
-true_holds (optimum_claim puzzle sets log tables) (verdict.Exact side mask census) h = tt
-true_holds (optimum_claim puzzle sets log tables) (verdict.Bound n) h = tt
-true_holds (optimum_claim puzzle sets log tables) (verdict.Optimal n) h = proved_optimum puzzle sets log tables n h
+true_holds (bound_claim fold board sets log tables) (verdict.Solution n) h = tt
+true_holds (bound_claim fold board sets log tables) (verdict.Exact side mask census) h = tt
+true_holds (bound_claim fold board sets log tables) (verdict.Bound n) h =
+    record { board = h.board; spelt = h.spelt; bounded = proved_bounds fold h.board sets log tables n h.proved }
+true_holds (bound_claim fold board sets log tables) (verdict.Optimal n) h = tt
+true_holds (optimum_claim fold puzzle sets log tables) (verdict.Solution n) h = tt
+true_holds (optimum_claim fold puzzle sets log tables) (verdict.Exact side mask census) h = tt
+true_holds (optimum_claim fold puzzle sets log tables) (verdict.Bound n) h = tt
+true_holds (optimum_claim fold puzzle sets log tables) (verdict.Optimal n) h = proved_optimum fold puzzle sets log tables n h
 
 -- there is one result
 pub IsResult-one : (inputs : Given) (a b : Result Verdict Fault) → IsResult inputs a → IsResult inputs b → a ≡ b
 IsResult-one (puzzle_text puzzle) a b is other = IsReplayResult-one puzzle a b is other
 IsResult-one (table_file table) a b is other = IsTableResult-one table a b is other
-IsResult-one (bound_claim board sets log tables) a b is other = IsBoundResult-one board sets log tables a b is other
-IsResult-one (optimum_claim puzzle sets log tables) a b is other = IsOptimumResult-one puzzle sets log tables a b is other
+IsResult-one (bound_claim fold board sets log tables) a b is other = IsBoundResult-one fold board sets log tables a b is other
+IsResult-one (optimum_claim fold puzzle sets log tables) a b is other = IsOptimumResult-one fold puzzle sets log tables a b is other
 
 -- a yes is answered only where it is true
 pub yes_is_true : (inputs : Given) (answer : Result Verdict Fault) → IsAnswerTo inputs answer → (verdict : Verdict) → answer ≡ Ok verdict → IsTrueOf inputs verdict

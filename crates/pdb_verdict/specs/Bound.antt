@@ -1,5 +1,5 @@
 -- `bound BOARD SETS LOG TABLES..`: whether a log proves that no solution of a board has fewer moves than its bound.
-use Rattle.std.specs.Prelude.{◌≡◌, ℕ, List, ◌∷◌, Some, Result, Ok, Err, map}
+use Rattle.std.specs.Prelude.{◌≡◌, ℕ, Bool, List, ◌∷◌, Some, Result, Ok, Err, map}
 use Rattle.puz_board.specs.BoardTexts.{Spells, board_of_text}
 use Rattle.puz_board.specs.declared.texts.BoardFault.{BoardFault}
 use Rattle.set_sum.specs.Bounds.{IsBounded}
@@ -20,33 +20,34 @@ use Rattle.pdb_verdict.specs.declared.verdicts.Verdict.TheVariants as verdict
 
 -- ---- bounds that a log proves for a board
 
--- the table files and the set text make a bundle, and over it the log file is that of a good log for the board and the bound
-pub record IsProvedBound (board : List ℕ) (sets log : Bytes) (tables : List Bytes) (bound : ℕ) : Type 0 where
+-- the table files, folded or full, and the set text make a bundle, and over it the log file is that of a good log for the board
+-- and the bound
+pub record IsProvedBound (fold : Bool) (board : List ℕ) (sets log : Bytes) (tables : List Bytes) (bound : ℕ) : Type 0 where
   pub bundle : BundleView
-  pub is_bundle : IsBundleOfFiles tables sets bundle
+  pub is_bundle : IsBundleOfFiles fold tables sets bundle
   pub good : IsGoodFile bundle board log bound
 
 -- they make a bundle, and over it the log file is refused for this
-pub record IsRefusedLog (board : List ℕ) (sets log : Bytes) (tables : List Bytes) (refused : LogRefusal) : Type 0 where
+pub record IsRefusedLog (fold : Bool) (board : List ℕ) (sets log : Bytes) (tables : List Bytes) (refused : LogRefusal) : Type 0 where
   pub bundle : BundleView
-  pub is_bundle : IsBundleOfFiles tables sets bundle
+  pub is_bundle : IsBundleOfFiles fold tables sets bundle
   pub fault : IsFaultOf refused bundle board log
 
 -- the bound that is proved for the board, or why none is: each table file comes first, then the set text, then the log
-abbrev pub IsBoundFor : List ℕ → Bytes → Bytes → List Bytes → Result ℕ Fault → Type 0
-IsBoundFor board sets log tables (Ok bound) = IsProvedBound board sets log tables bound
-IsBoundFor board sets log tables (Err (fault.TableOf number refused)) = IsFirstRefused tables number refused
-IsBoundFor board sets log tables (Err (fault.Sets refused)) = AreRefusedSets tables sets refused
-IsBoundFor board sets log tables (Err (fault.Log refused)) = IsRefusedLog board sets log tables refused
-IsBoundFor board sets log tables found = ⊥
+abbrev pub IsBoundFor : Bool → List ℕ → Bytes → Bytes → List Bytes → Result ℕ Fault → Type 0
+IsBoundFor fold board sets log tables (Ok bound) = IsProvedBound fold board sets log tables bound
+IsBoundFor fold board sets log tables (Err (fault.TableOf number refused)) = IsFirstRefused tables number refused
+IsBoundFor fold board sets log tables (Err (fault.Sets refused)) = AreRefusedSets fold tables sets refused
+IsBoundFor fold board sets log tables (Err (fault.Log refused)) = IsRefusedLog fold board sets log tables refused
+IsBoundFor fold board sets log tables found = ⊥
 
 -- ---- what a yes means
 
 -- the text spells a board, for which the bound is proved
-pub record IsBoundOfText (text sets log : Bytes) (tables : List Bytes) (bound : ℕ) : Type 0 where
+pub record IsBoundOfText (fold : Bool) (text sets log : Bytes) (tables : List Bytes) (bound : ℕ) : Type 0 where
   pub board : List ℕ
   pub spelt : Spells text board
-  pub proved : IsProvedBound board sets log tables bound
+  pub proved : IsProvedBound fold board sets log tables bound
 
 -- so no solution of the board that the text spells has fewer moves
 pub record IsBoundedText (text : Bytes) (bound : ℕ) : Type 0 where
@@ -62,13 +63,13 @@ of_bound (Ok bound) = Ok (verdict.Bound bound)
 of_bound (Err refused) = Err refused
 
 -- of the board that was read, before all else
-abbrev pub IsResultOfBoard : Result (List ℕ) BoardFault → Bytes → Bytes → List Bytes → Result Verdict Fault → Type 0
-IsResultOfBoard (Err refused) sets log tables answer = answer ≡ Err (fault.Board refused)
-IsResultOfBoard (Ok board) sets log tables answer = (found : Result ℕ Fault) × IsBoundFor board sets log tables found × (answer ≡ of_bound found)
+abbrev pub IsResultOfBoard : Bool → Result (List ℕ) BoardFault → Bytes → Bytes → List Bytes → Result Verdict Fault → Type 0
+IsResultOfBoard fold (Err refused) sets log tables answer = answer ≡ Err (fault.Board refused)
+IsResultOfBoard fold (Ok board) sets log tables answer = (found : Result ℕ Fault) × IsBoundFor fold board sets log tables found × (answer ≡ of_bound found)
 
 -- the answer is the result on the board text, the set text, the log file and the table files
-abbrev pub IsBoundResult : Bytes → Bytes → Bytes → List Bytes → Result Verdict Fault → Type 0
-IsBoundResult text sets log tables answer = IsResultOfBoard (board_of_text text) sets log tables answer
+abbrev pub IsBoundResult : Bool → Bytes → Bytes → Bytes → List Bytes → Result Verdict Fault → Type 0
+IsBoundResult fold text sets log tables answer = IsResultOfBoard fold (board_of_text text) sets log tables answer
 
 -- ---- the command
 
@@ -77,9 +78,9 @@ abbrev pub bound_inputs : Bytes → Bytes → Bytes → List Bytes → List Want
 bound_inputs text sets log tables = a_text (Some text) ∷ a_text (Some sets) ∷ a_log log ∷ map a_table tables
 
 -- the result on them is told
-abbrev pub IsBoundReply : List Bytes → Reply → Type 0
-IsBoundReply (text ∷ sets ∷ log ∷ tables) reply = Tells (bound_claim text sets log tables) (IsBoundResult text sets log tables) reply
-IsBoundReply inputs reply = ⊥
+abbrev pub IsBoundReply : Bool → List Bytes → Reply → Type 0
+IsBoundReply fold (text ∷ sets ∷ log ∷ tables) reply = Tells (bound_claim fold text sets log tables) (IsBoundResult fold text sets log tables) reply
+IsBoundReply fold inputs reply = ⊥
 
 -- it takes memory to check the tables of a board that is spelt
 pub record TakesMemoryForBound (text : Bytes) (tables : List Bytes) : Type 0 where
@@ -93,5 +94,5 @@ BoundTakesMemory (text ∷ sets ∷ log ∷ tables) = TakesMemoryForBound text t
 BoundTakesMemory inputs = ⊥
 
 -- for any number of workers
-abbrev pub bound_plan : Bytes → Bytes → Bytes → List Bytes → Plan
-bound_plan text sets log tables = plan (bound_inputs text sets log tables) IsBoundReply BoundTakesMemory
+abbrev pub bound_plan : Bool → Bytes → Bytes → Bytes → List Bytes → Plan
+bound_plan fold text sets log tables = plan (bound_inputs text sets log tables) (IsBoundReply fold) BoundTakesMemory

@@ -1,5 +1,5 @@
 -- Bundles of table files and a set text.
-use Rattle.std.specs.Prelude.{◌≡◌, ⊤, ℕ, List, [], ◌∷◌, Some, slice_get, take}
+use Rattle.std.specs.Prelude.{◌≡◌, ⊤, ℕ, Bool, true, false, List, [], ◌∷◌, Some, map, slice_get, take}
 use Rattle.tab_file.specs.TableFiles.{IsTableFile}
 use Rattle.tab_file.specs.Tables.{Table}
 use Rattle.tab_check.specs.ExactTables.{IsExactFile}
@@ -8,6 +8,8 @@ use Rattle.tab_check.specs.declared.tables.TableRefusal.{TableRefusal}
 use Rattle.set_sum.specs.Bundles.{BundleView}
 use Rattle.set_sum.specs.Reading as reading
 use Rattle.set_sum.specs.declared.faults.SetFault.{SetFault}
+use Rattle.set_sum.specs.declared.parts.Part.{Part}
+use Rattle.set_sum.specs.declared.parts.Part.TheVariants.{Folded, Full}
 use Rattle.pdb_io.specs.Shelf.{Bytes}
 
 -- ---- what a bundle is
@@ -19,11 +21,20 @@ AreExactFiles [] (file ∷ files) = ⊥
 AreExactFiles (table ∷ tables) [] = ⊥
 AreExactFiles (table ∷ tables) (file ∷ files) = IsExactFile table file × AreExactFiles tables files
 
--- the files are those of exact tables, and these and the set text make this bundle
-pub record IsBundleOfFiles (files : List Bytes) (sets : Bytes) (bundle : BundleView) : Type 0 where
+-- a table as a part of a bundle: folded, or full
+abbrev pub part_for : Bool → Table → Part
+part_for true table = Folded table.pattern
+part_for false table = Full table
+
+-- the same of several
+abbrev pub parts_for : Bool → List Table → List Part
+parts_for fold tables = map (part_for fold) tables
+
+-- the files are those of exact tables, and these, folded or full, and the set text make this bundle
+pub record IsBundleOfFiles (fold : Bool) (files : List Bytes) (sets : Bytes) (bundle : BundleView) : Type 0 where
   pub tables : List Table
   pub exact : AreExactFiles tables files
-  pub makes : reading.IsBundleOf tables sets bundle
+  pub makes : reading.IsBundleOf (parts_for fold tables) sets bundle
 
 -- ---- why there is none: the first table file that is refused, and then what is wrong with the tables and the set text
 
@@ -35,11 +46,11 @@ pub record IsFirstRefused (files : List Bytes) (number : ℕ) (refused : TableRe
   pub tables : List Table
   pub before : AreExactFiles tables (take number files)
 
--- all files are of exact tables, and with these the set text is refused for this
-pub record AreRefusedSets (files : List Bytes) (sets : Bytes) (refused : SetFault) : Type 0 where
+-- all files are of exact tables, and with these, folded or full, the set text is refused for this
+pub record AreRefusedSets (fold : Bool) (files : List Bytes) (sets : Bytes) (refused : SetFault) : Type 0 where
   pub tables : List Table
   pub exact : AreExactFiles tables files
-  pub fault : reading.IsFaultOf refused tables sets
+  pub fault : reading.IsFaultOf refused (parts_for fold tables) sets
 
 -- ---- memory
 

@@ -10,7 +10,7 @@ use Rattle.tab_check.specs.declared.census.Census.{Census}
 use Rattle.tab_check.specs.declared.tables.TableRefusal.{TableRefusal}
 use Rattle.tab_check.specs.declared.tables.TableRefusal.TheVariants.{Head, T7}
 use Rattle.set_sum.specs.declared.faults.SetFault.{SetFault}
-use Rattle.set_sum.specs.declared.faults.SetFault.TheVariants.{S1, S2, S3, S4, S5}
+use Rattle.set_sum.specs.declared.faults.SetFault.TheVariants.{S1, S2, S3, S4, S5, S6}
 use Rattle.log_file.specs.declared.faults.FormFault.{FormFault}
 use Rattle.log_file.specs.declared.faults.FormFault.TheVariants.{L1, L2, L3}
 use Rattle.log_check.specs.declared.faults.LogRefusal.{LogRefusal}
@@ -84,6 +84,7 @@ line_of_set_fault (S2 line) = counted (codes "refused S2 at line ") line
 line_of_set_fault (S3 line) = counted (codes "refused S3 at line ") line
 line_of_set_fault (S4 table) = counted (codes "refused S4 at table ") table
 line_of_set_fault S5 = codes "refused S5\n"
+line_of_set_fault (S6 line) = counted (codes "refused S6 at line ") line
 
 -- of bytes that are no log file
 abbrev pub line_of_form_fault : FormFault → Bytes
@@ -142,8 +143,8 @@ line_of (Err refused) = line_of_fault refused
 abbrev pub digested_of : Given → List Bytes
 digested_of (puzzle_text puzzle) = []
 digested_of (table_file table) = table ∷ []
-digested_of (bound_claim board sets log tables) = tables ++ log ∷ []
-digested_of (optimum_claim puzzle sets log tables) = tables ++ log ∷ []
+digested_of (bound_claim fold board sets log tables) = tables ++ log ∷ []
+digested_of (optimum_claim fold puzzle sets log tables) = tables ++ log ∷ []
 
 -- an answer on inputs, as a run tells it; no file is made
 abbrev pub reply_to : Given → Result Verdict Fault → Reply

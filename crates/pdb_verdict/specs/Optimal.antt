@@ -1,6 +1,6 @@
 -- `optimal PUZZLE SETS LOG TABLES..`: whether the moves of a puzzle text solve its board, and a log proves that no solution
 -- has fewer moves.
-use Rattle.std.specs.Prelude.{◌≡◌, ℕ, ◌==◌, if◌then◌else◌, List, ◌∷◌, Option, Some, None, Result, Ok, Err, length}
+use Rattle.std.specs.Prelude.{◌≡◌, ℕ, Bool, ◌==◌, if◌then◌else◌, List, ◌∷◌, Option, Some, None, Result, Ok, Err, length}
 use Rattle.puz_board.specs.BoardTexts.{board_of_text}
 use Rattle.puz_board.specs.MovesTexts.{replay_of}
 use Rattle.puz_board.specs.Paths.{IsSolution}
@@ -23,9 +23,9 @@ use Rattle.pdb_verdict.specs.declared.verdicts.Verdict.TheVariants as verdict
 -- ---- what a yes means
 
 -- the moves of the puzzle text are n and solve its board, and the bound n is proved for that board
-pub record IsProvedOptimum (puzzle sets log : Bytes) (tables : List Bytes) (n : ℕ) : Type 0 where
+pub record IsProvedOptimum (fold : Bool) (puzzle sets log : Bytes) (tables : List Bytes) (n : ℕ) : Type 0 where
   pub solved : IsSolvedPuzzle puzzle n
-  pub proved : IsProvedBound solved.board sets log tables n
+  pub proved : IsProvedBound fold solved.board sets log tables n
 
 -- n is the least number of moves of any solution of the board: there is a solution of n moves, and none of fewer
 pub record IsLeastCount (board : List ℕ) (n : ℕ) : Type 0 where
@@ -62,14 +62,14 @@ of_halves n (Ok bound) = if n == bound then Ok (verdict.Optimal bound) else Err 
 of_halves n (Err refused) = Err refused
 
 -- of the puzzle that was read, before all else
-abbrev pub IsResultOfPuzzle : Result (List ℕ × ℕ) Fault → Bytes → Bytes → List Bytes → Result Verdict Fault → Type 0
-IsResultOfPuzzle (Err refused) sets log tables answer = answer ≡ Err refused
-IsResultOfPuzzle (Ok solved) sets log tables answer =
-    (found : Result ℕ Fault) × IsBoundFor solved.0 sets log tables found × (answer ≡ of_halves solved.1 found)
+abbrev pub IsResultOfPuzzle : Bool → Result (List ℕ × ℕ) Fault → Bytes → Bytes → List Bytes → Result Verdict Fault → Type 0
+IsResultOfPuzzle fold (Err refused) sets log tables answer = answer ≡ Err refused
+IsResultOfPuzzle fold (Ok solved) sets log tables answer =
+    (found : Result ℕ Fault) × IsBoundFor fold solved.0 sets log tables found × (answer ≡ of_halves solved.1 found)
 
 -- the answer is the result on the puzzle text, the set text, the log file and the table files
-abbrev pub IsOptimumResult : Bytes → Bytes → Bytes → List Bytes → Result Verdict Fault → Type 0
-IsOptimumResult puzzle sets log tables answer = IsResultOfPuzzle (solved_parts (puzzle_parts puzzle)) sets log tables answer
+abbrev pub IsOptimumResult : Bool → Bytes → Bytes → Bytes → List Bytes → Result Verdict Fault → Type 0
+IsOptimumResult fold puzzle sets log tables answer = IsResultOfPuzzle fold (solved_parts (puzzle_parts puzzle)) sets log tables answer
 
 -- ---- the command
 
@@ -78,9 +78,9 @@ abbrev pub optimum_inputs : Bytes → Bytes → Bytes → List Bytes → List Wa
 optimum_inputs puzzle sets log tables = bound_inputs puzzle sets log tables
 
 -- the result on them is told
-abbrev pub IsOptimumReply : List Bytes → Reply → Type 0
-IsOptimumReply (puzzle ∷ sets ∷ log ∷ tables) reply = Tells (optimum_claim puzzle sets log tables) (IsOptimumResult puzzle sets log tables) reply
-IsOptimumReply inputs reply = ⊥
+abbrev pub IsOptimumReply : Bool → List Bytes → Reply → Type 0
+IsOptimumReply fold (puzzle ∷ sets ∷ log ∷ tables) reply = Tells (optimum_claim fold puzzle sets log tables) (IsOptimumResult fold puzzle sets log tables) reply
+IsOptimumReply fold inputs reply = ⊥
 
 -- it takes memory to check the tables of a puzzle that is solved
 pub record TakesMemoryForOptimum (puzzle : Bytes) (tables : List Bytes) : Type 0 where
@@ -94,5 +94,5 @@ OptimumTakesMemory (puzzle ∷ sets ∷ log ∷ tables) = TakesMemoryForOptimum 
 OptimumTakesMemory inputs = ⊥
 
 -- for any number of workers
-abbrev pub optimum_plan : Bytes → Bytes → Bytes → List Bytes → Plan
-optimum_plan puzzle sets log tables = plan (optimum_inputs puzzle sets log tables) IsOptimumReply OptimumTakesMemory
+abbrev pub optimum_plan : Bool → Bytes → Bytes → Bytes → List Bytes → Plan
+optimum_plan fold puzzle sets log tables = plan (optimum_inputs puzzle sets log tables) (IsOptimumReply fold) OptimumTakesMemory

@@ -14,23 +14,23 @@ use Rattle.pdb_verdict.specs.declared.verdicts.Verdict.TheVariants as verdict
 abbrev pub IsTrueOf : Given → Verdict → Type 0
 IsTrueOf (puzzle_text puzzle) (verdict.Solution n) = IsSolvedPuzzle puzzle n
 IsTrueOf (table_file table) (verdict.Exact side mask census) = IsExactFor table side mask census
-IsTrueOf (bound_claim board sets log tables) (verdict.Bound n) = IsBoundOfText board sets log tables n
-IsTrueOf (optimum_claim puzzle sets log tables) (verdict.Optimal n) = IsProvedOptimum puzzle sets log tables n
+IsTrueOf (bound_claim fold board sets log tables) (verdict.Bound n) = IsBoundOfText fold board sets log tables n
+IsTrueOf (optimum_claim fold puzzle sets log tables) (verdict.Optimal n) = IsProvedOptimum fold puzzle sets log tables n
 IsTrueOf inputs verdict = ⊥
 
 -- what a verdict on a log says of the solutions of the board: a bound that none has fewer moves, and an optimum that it is
 -- the least number of moves
 abbrev pub HoldsOfSolutions : Given → Verdict → Type 0
-HoldsOfSolutions (bound_claim board sets log tables) (verdict.Bound n) = IsBoundedText board n
-HoldsOfSolutions (optimum_claim puzzle sets log tables) (verdict.Optimal n) = IsOptimum puzzle n
+HoldsOfSolutions (bound_claim fold board sets log tables) (verdict.Bound n) = IsBoundedText board n
+HoldsOfSolutions (optimum_claim fold puzzle sets log tables) (verdict.Optimal n) = IsOptimum puzzle n
 HoldsOfSolutions inputs verdict = ⊤
 
 -- the answer is the result on the inputs
 abbrev pub IsResult : Given → Result Verdict Fault → Type 0
 IsResult (puzzle_text puzzle) answer = IsReplayResult puzzle answer
 IsResult (table_file table) answer = IsTableResult table answer
-IsResult (bound_claim board sets log tables) answer = IsBoundResult board sets log tables answer
-IsResult (optimum_claim puzzle sets log tables) answer = IsOptimumResult puzzle sets log tables answer
+IsResult (bound_claim fold board sets log tables) answer = IsBoundResult fold board sets log tables answer
+IsResult (optimum_claim fold puzzle sets log tables) answer = IsOptimumResult fold puzzle sets log tables answer
 
 -- ---- want of memory in its place
 
@@ -39,8 +39,8 @@ IsResult (optimum_claim puzzle sets log tables) answer = IsOptimumResult puzzle 
 abbrev pub TakesMemory : Given → Type 0
 TakesMemory (puzzle_text puzzle) = ⊥
 TakesMemory (table_file table) = TakesMemoryForTable (table ∷ [])
-TakesMemory (bound_claim board sets log tables) = TakesMemoryForBound board tables
-TakesMemory (optimum_claim puzzle sets log tables) = TakesMemoryForOptimum puzzle tables
+TakesMemory (bound_claim fold board sets log tables) = TakesMemoryForBound board tables
+TakesMemory (optimum_claim fold puzzle sets log tables) = TakesMemoryForOptimum puzzle tables
 
 -- the answer is want of memory, where that is taken
 abbrev pub LacksMemory : Given → Result Verdict Fault → Type 0

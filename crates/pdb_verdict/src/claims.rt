@@ -9,7 +9,7 @@ use crate::limits::{a_log, a_table, a_text};
 use pdb_run::Input;
 use std::alloc::{AllocError, Global};
 
-/// The names of the inputs of a claim on a log, in the order in which they are read.
+/// The names of the inputs of a claim on a log, in the order in which they are read, and how its tables are held.
 #[derive(Clone, Copy)]
 pub struct ClaimNames<'t, 'n> {
     /// Of a board text for `bound`, and of a puzzle text for `optimal`.
@@ -20,6 +20,8 @@ pub struct ClaimNames<'t, 'n> {
     pub log: &'n str,
     /// Of table files, which are numbered from 0.
     pub tables: &'t [&'n str],
+    /// Whether each table is folded once it is checked.
+    pub fold: bool,
 }
 
 /// The inputs under these names.

@@ -17,6 +17,8 @@ pub enum Inputs<'a> {
         sets: &'a [u8],
         log: &'a [u8],
         tables: &'a [Vec<u8>],
+        /// Whether each table is folded once it is checked.
+        fold: bool,
     },
     /// Whether the moves of a puzzle text solve its board, and a log proves that no solution has fewer moves.
     Optimal {
@@ -24,5 +26,7 @@ pub enum Inputs<'a> {
         sets: &'a [u8],
         log: &'a [u8],
         tables: &'a [Vec<u8>],
+        /// Whether each table is folded once it is checked.
+        fold: bool,
     },
 }

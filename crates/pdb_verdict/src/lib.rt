@@ -17,7 +17,7 @@ mod verdicts;
 mod workers;
 
 pub use bound::run_bound;
-pub use bundles::read_bundle;
+pub use bundles::{Tables, fold_bundle, read_bundle};
 pub use claims::{ClaimNames, push_tables};
 pub use inputs::Inputs;
 pub use laws::{

@@ -160,6 +160,7 @@ fn sets_line(refused: SetFault) -> Lines
         SetFault::S3(line) => counted("refused S3 at line ", line as u64),
         SetFault::S4(table) => counted("refused S4 at table ", table as u64),
         SetFault::S5 => lines(&["refused S5\n"]),
+        SetFault::S6(line) => counted("refused S6 at line ", line as u64),
     }
 }
 

@@ -2,7 +2,7 @@
 
 ghost use Rattle.std.specs.Prelude.{◌≡◌, ◌↔◌, ℕ, Ok, length, option_map};
 ghost use Rattle.puz_board.specs.PuzzleTexts.{puzzle_parts};
-ghost use Rattle.pdb_run.specs.Answers.{all_bytes, reply_of};
+ghost use Rattle.pdb_run.specs.Answers.{SaysRight, all_bytes};
 ghost use Rattle.pdb_run.specs.Runs.{Ends, world};
 ghost use Rattle.pdb_verdict.specs.Optimal.{solved_parts};
 ghost use Rattle.pdb_verdict.specs.Replay.{IsReplayReply, IsReplayResult, IsSolvedPuzzle, replay_inputs, replay_plan};
@@ -10,7 +10,7 @@ ghost use Rattle.pdb_verdict.specs.declared.verdicts.Verdict.TheVariants.{Soluti
 
 use crate::inputs::Inputs;
 use crate::limits::a_text;
-use crate::reports::answer_on;
+use crate::reports::{digested_by, told};
 use crate::verdicts::{Fault, Verdict};
 use pdb_io::shelf::Shelf;
 use pdb_run::{Answer, Command, Input, Status, conclude, read_inputs};
@@ -55,7 +55,7 @@ pub fn run_replay<S: Shelf, R: Read, W: Write>(
     match read_inputs(alloc, &command, shelf, reader, out) {
         Ok(inputs) => {
             let answer = Ok(answer_replay(inputs.as_slice()));
-            conclude(&command, inputs.as_slice(), &answer, out)
+            conclude(&command, &answer, out)
         }
         Err(status) => status,
     }
@@ -64,10 +64,13 @@ pub fn run_replay<S: Shelf, R: Read, W: Write>(
 /// The answer on the bytes of the one input.
 fn answer_replay<'i>(inputs: &'i [Vec<u8>]) -> Answer<'i>
     requires { length inputs.now ≡ 1 }
-    ensures { IsReplayReply (all_bytes inputs.now) (reply_of result) }
+    ensures { SaysRight (IsReplayReply (all_bytes inputs.now)) result }
 {
     let puzzle = inputs[0].as_slice();
-    answer_on(&Inputs::Replay { puzzle }, None, &verify_puzzle(puzzle))
+    told(
+        digested_by(&Inputs::Replay { puzzle }, None),
+        &verify_puzzle(puzzle),
+    )
 }
 
 /// The verdict on a puzzle text: the moves behind its first `;` are a solution of the board before it. Or the first

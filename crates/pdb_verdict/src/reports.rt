@@ -1,21 +1,20 @@
 //! What is written of an answer.
 
-ghost use Rattle.std.specs.Prelude.{◌≡◌, ◌≢◌, ◌++◌, Err, option_map, IfOk, IfSome, OnOk, OnErr};
+ghost use Rattle.std.specs.Prelude.{◌≡◌, ◌++◌, option_map, IfSome, OnOk, OnErr};
 ghost use Rattle.std.specs.Io.KnownBytes.{Appends};
 ghost use Rattle.pdb_io.specs.Streams.{AppendsFront};
 ghost use Rattle.pdb_run.specs.Writing.{digests_of, list_of};
-ghost use Rattle.pdb_run.specs.Answers.{all_bytes, reply_of};
-ghost use Rattle.pdb_verdict.specs.Inputs.{given};
-ghost use Rattle.pdb_verdict.specs.Lines.{digested_of, line_of, lines_of, reply_to, stands_alone};
-ghost use Rattle.pdb_verdict.specs.Verdicts.{IsAnswerTo};
-ghost use Rattle.pdb_verdict.specs.declared.verdicts.Fault.TheVariants.{Memory};
+ghost use Rattle.pdb_run.specs.Answers.{IsAnswerBy, IsReplyOf, all_bytes, digest_lines};
+ghost use Rattle.pdb_verdict.specs.Inputs.{Given, given};
+ghost use Rattle.pdb_verdict.specs.Lines.{Tells, digested_of, line_of, lines_of, reply_to, stands_alone};
+ghost use Rattle.pdb_verdict.specs.Verdicts.{IsAnswerTo, IsResult, TakesMemory};
 
 use crate::inputs::Inputs;
 use crate::lines::line_of;
 use crate::verdicts::{Fault, Verdict, verify_by};
 use crate::workers::Workers;
 use pdb_io::streams::{WriteFault, put_text};
-use pdb_run::{Answer, Digests, FILES_BESIDE, beside, say, say_digests};
+use pdb_run::{Answer, Digested, Digests, FILES_BESIDE, beside, say, say_digests};
 use set_sum::MOST_TABLES;
 use std::alloc::{AllocError, Global};
 use std::io::Write;
@@ -38,7 +37,7 @@ pub fn report<W: Write>(
     if stands_alone(answer) {
         return line(answer, out);
     }
-    say(&answer_on(inputs, None, answer), out)
+    say(&told(digested_by(inputs, None), answer), out)
 }
 
 /// Writes the digest line of each file that is checked.
@@ -74,20 +73,26 @@ pub fn verify_beside<H: Threads + Wait + Sync, G: Gate + Sync>(
     beside(workers.rt, workers.count, files, last, check)
 }
 
-/// What is to be written of an answer on inputs, whose digest lines may be made already.
-pub(crate) fn answer_on<'i>(
-    inputs: &Inputs<'i>,
-    digests: Option<Digests>,
-    answer: &Result<Verdict, Fault>,
-) -> Answer<'i>
+/// The digest lines of inputs: those that are made already, or else those of the files.
+pub(crate) fn digested_by<'i>(inputs: &Inputs<'i>, digests: Option<Digests>) -> Digested<'i>
     requires { IfSome digests (λ digests. digests.items ≡ digests_of (digested_of (given inputs.now))) }
-    ensures { reply_of result ≡ reply_to (given inputs.now) answer.now }
+    ensures { digest_lines result ≡ digests_of (digested_of (given inputs.now)) }
 {
-    let (files, last) = checked_files(inputs);
+    match digests {
+        Some(lines) => Digested::Lines(lines),
+        None => {
+            let (files, last) = checked_files(inputs);
+            Digested::Files(files, last)
+        }
+    }
+}
+
+/// What is to be written of an answer on inputs with these digest lines.
+pub(crate) fn told<'i>(digested: Digested<'i>, answer: &Result<Verdict, Fault>) -> Answer<'i>
+    ensures { (inputs : Given) → digest_lines digested.entry ≡ digests_of (digested_of inputs) → IsReplyOf result (reply_to inputs answer.now) }
+{
     Answer {
-        files,
-        last,
-        digests,
+        digested,
         made: None,
         made_digest: None,
         lines: line_of(answer),
@@ -95,19 +100,17 @@ pub(crate) fn answer_on<'i>(
     }
 }
 
-/// What is to be written of an answer on inputs, but for want of memory.
-pub(crate) fn answer_or_memory<'i>(
-    inputs: &Inputs<'i>,
-    digests: Option<Digests>,
+/// The same, but for want of memory.
+pub(crate) fn told_or_memory<'i>(
+    digested: Digested<'i>,
     answer: Result<Verdict, Fault>,
 ) -> Result<Answer<'i>, AllocError>
-    requires { IfSome digests (λ digests. digests.items ≡ digests_of (digested_of (given inputs.now))) }
-    ensures told { IfOk result (λ told. (reply_of told ≡ reply_to (given inputs.now) answer) × (answer ≢ Err Memory)) }
-    ensures memory { OnErr result (answer ≡ Err Memory) }
+    ensures { (inputs : Given) → digest_lines digested.entry ≡ digests_of (digested_of inputs) → IsAnswerTo inputs answer
+        → IsAnswerBy (Tells inputs (IsResult inputs)) (TakesMemory inputs) result }
 {
     match answer {
         Err(Fault::Memory) => Err(AllocError),
-        answer => Ok(answer_on(inputs, digests, &answer)),
+        answer => Ok(told(digested, &answer)),
     }
 }
 

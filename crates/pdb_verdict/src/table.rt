@@ -1,7 +1,7 @@
 //! Whether the table of a table file is exact.
 
-ghost use Rattle.std.specs.Prelude.{◌≡◌, length, IfOk, OnErr};
-ghost use Rattle.pdb_run.specs.Answers.{all_bytes, reply_of};
+ghost use Rattle.std.specs.Prelude.{◌≡◌, length};
+ghost use Rattle.pdb_run.specs.Answers.{IsAnswerBy, all_bytes};
 ghost use Rattle.pdb_run.specs.Runs.{Ends, world};
 ghost use Rattle.pdb_verdict.specs.Inputs.{table_file};
 ghost use Rattle.pdb_verdict.specs.Table.{IsTableReply, TakesMemoryForTable, of_table, table_inputs, table_plan};
@@ -9,7 +9,7 @@ ghost use Rattle.pdb_verdict.specs.Verdicts.{IsAnswerTo};
 
 use crate::inputs::Inputs;
 use crate::limits::a_table;
-use crate::reports::{answer_or_memory, verify_beside};
+use crate::reports::{digested_by, told_or_memory, verify_beside};
 use crate::verdicts::{Fault, Verdict};
 use crate::workers::Workers;
 use pdb_io::shelf::Shelf;
@@ -60,7 +60,7 @@ pub fn run_table<H: Threads + Wait + Sync, G: Gate + Sync, S: Shelf, R: Read, W:
     match read_inputs(alloc, &command, shelf, reader, out) {
         Ok(inputs) => {
             let answer = answer_table(alloc, inputs.as_slice(), workers);
-            conclude(&command, inputs.as_slice(), &answer, out)
+            conclude(&command, &answer, out)
         }
         Err(status) => status,
     }
@@ -73,13 +73,12 @@ fn answer_table<'i, H: Threads + Wait + Sync, G: Gate + Sync>(
     workers: &Workers<'_, H, G>,
 ) -> Result<Answer<'i>, AllocError>
     requires { length inputs.now ≡ 1 }
-    ensures right { IfOk result (λ answer. IsTableReply (all_bytes inputs.now) (reply_of answer)) }
-    ensures memory { OnErr result (TakesMemoryForTable (all_bytes inputs.now)) }
+    ensures { IsAnswerBy (IsTableReply (all_bytes inputs.now)) (TakesMemoryForTable (all_bytes inputs.now)) result }
 {
     let table = inputs[0].as_slice();
     let inputs = Inputs::Table { table };
     let (digests, answer) = verify_beside(alloc, &inputs, workers);
-    answer_or_memory(&inputs, digests, answer)
+    told_or_memory(digested_by(&inputs, digests), answer)
 }
 
 /// The verdict on a table file: each of its entries is right. Or the first refusal that stands: its header's, then the

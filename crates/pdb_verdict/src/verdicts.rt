@@ -6,6 +6,7 @@ ghost use Rattle.pdb_verdict.specs.Inputs.{given};
 ghost use Rattle.pdb_verdict.specs.Verdicts.{HoldsOfSolutions, IsAnswerTo, IsTrueOf, LacksMemory};
 
 use crate::bound::verify_bound;
+use crate::bundles::Tables;
 use crate::inputs::Inputs;
 use crate::optimal::verify_optimal;
 use crate::replay::verify_puzzle;
@@ -86,7 +87,7 @@ pub enum Fault {
 
 /// The verdict on the inputs, or the first refusal that stands: of a puzzle text `P1`, then its board's, then its moves';
 /// of a table file its header's, then the least bad entry; of a log for a board the board's, each table file's in their order,
-/// the sets', then the log's; of moves and a log those of a puzzle text, then from the tables on as before, then `O1`.
+/// the sets', then the log's, where each table is folded before the next is checked, if that is asked for; of moves and a log those of a puzzle text, then from the tables on as before, then `O1`.
 /// Want of memory may be answered in place of a table's verdict and all behind it, but not of what stands before: the refusals
 /// of a text, and that of the first table's header.
 pub fn verify<H: Threads + Wait, G: Gate + Sync>(
@@ -123,13 +124,15 @@ pub(crate) fn verify_by<H: Threads + Wait, G: Gate + Sync>(
             board,
             sets,
             log,
-            tables,
-        } => verify_bound(alloc, board, sets, log, tables, workers),
+            tables: files,
+            fold,
+        } => verify_bound(alloc, board, sets, log, Tables { files, fold }, workers),
         Inputs::Optimal {
             puzzle,
             sets,
             log,
-            tables,
-        } => verify_optimal(alloc, puzzle, sets, log, tables, workers),
+            tables: files,
+            fold,
+        } => verify_optimal(alloc, puzzle, sets, log, Tables { files, fold }, workers),
     }
 }

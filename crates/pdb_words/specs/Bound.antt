@@ -1,4 +1,4 @@
--- The words of `bound [--workers N] BOARD SETS LOG TABLES..`.
+-- The words of `bound [--workers N] [--fold] BOARD SETS LOG TABLES..`.
 use Rattle.std.specs.Prelude.{List, codes}
 use Rattle.clap.specs.Walk.{Row}
 use Rattle.clap.specs.Simple.{App}

@@ -34,6 +34,10 @@ command_line = with_subcommand (with_subcommand checks make_table_command.top) s
 abbrev pub shared_commands : List Text
 shared_commands = codes "table" ∷ codes "bound" ∷ codes "optimal" ∷ codes "make-table" ∷ codes "solve" ∷ []
 
+-- the names of the commands that take `--fold`
+abbrev pub log_commands : List Text
+log_commands = codes "bound" ∷ codes "optimal" ∷ codes "solve" ∷ []
+
 -- the names of the commands
 abbrev pub commands : List Text
 commands = codes "replay" ∷ shared_commands
@@ -49,7 +53,8 @@ IsCommand name = IsOneOf commands name
 
 -- the command takes the flag of this name
 abbrev pub TakesFlag : Text → Text → Type 0
-TakesFlag command name = (IsOneOf shared_commands command × (name ≡ codes "workers")) ⊎ ((command ≡ codes "solve") × (name ≡ codes "budget"))
+TakesFlag command name = (IsOneOf shared_commands command × (name ≡ codes "workers"))
+    ⊎ ((IsOneOf log_commands command × (name ≡ codes "fold")) ⊎ ((command ≡ codes "solve") × (name ≡ codes "budget")))
 
 -- what the values found of the command of this name ask for
 abbrev pub asked_by : Text → List Row → Asked

@@ -3,6 +3,7 @@ use Rattle.std.specs.Prelude.{List, [], Some, codes, true, unwrap_or}
 use Rattle.clap.specs.Lexer.{usize_max}
 use Rattle.clap.specs.Walk.{Row, Rule, Text, all_of, first_of}
 use Rattle.clap.specs.Simple.{App, new_rule, with_rule}
+use Rattle.pdb_words.specs.Fold.{fold_flag}
 use Rattle.pdb_words.specs.Workers.{workers_flag}
 
 -- one file, which has to be named
@@ -23,7 +24,8 @@ needed_tables = record (needed_file (codes "TABLES")) {
 abbrev pub tables_in : List Row → List Text
 tables_in rows = unwrap_or (all_of (codes "TABLES") rows) []
 
--- the command with `SETS`, the file of a log and `TABLES..` behind its own file, and with the workers that check the tables
+-- the command with `SETS`, the file of a log and `TABLES..` behind its own file, and with the flags of how the tables are
+-- checked and kept
 abbrev pub with_log : App → Rule → App
-with_log command log = with_rule (with_rule (with_rule (with_rule command workers_flag)
+with_log command log = with_rule (with_rule (with_rule (with_rule (with_rule command workers_flag) fold_flag)
     (needed_file (codes "SETS"))) log) needed_tables

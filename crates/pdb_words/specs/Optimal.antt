@@ -1,4 +1,4 @@
--- The words of `optimal [--workers N] PUZZLE SETS LOG TABLES..`.
+-- The words of `optimal [--workers N] [--fold] PUZZLE SETS LOG TABLES..`.
 use Rattle.std.specs.Prelude.{List, codes}
 use Rattle.clap.specs.Walk.{Row}
 use Rattle.clap.specs.Simple.{App}

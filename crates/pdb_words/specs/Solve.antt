@@ -1,10 +1,11 @@
--- The words of `solve [--workers N] [--budget N] BOARD SETS OUT TABLES..`.
+-- The words of `solve [--workers N] [--fold] [--budget N] BOARD SETS OUT TABLES..`.
 use Rattle.std.specs.Prelude.{List, codes}
 use Rattle.clap.specs.Walk.{Row}
 use Rattle.clap.specs.Simple.{App, new_app, with_rule}
 use Rattle.pdb_words.specs.Asked.{Asked, solve}
 use Rattle.pdb_words.specs.Budget.{budget_flag, budget_in}
 use Rattle.pdb_words.specs.Files.{file_in, needed_file, tables_in, with_log}
+use Rattle.pdb_words.specs.Fold.{fold_in}
 use Rattle.pdb_words.specs.Workers.{workers_in}
 
 -- the command, as `clap` sees it
@@ -14,4 +15,4 @@ solve_command = with_rule (with_log (with_rule (new_app (codes "solve")) (needed
 -- what the values found of it ask for
 abbrev pub solve_in : List Row → Asked
 solve_in rows = solve (file_in (codes "BOARD") rows) (file_in (codes "SETS") rows) (file_in (codes "OUT") rows) (tables_in rows)
-    (workers_in rows) (budget_in rows)
+    (workers_in rows) (fold_in rows) (budget_in rows)

@@ -26,7 +26,8 @@ pub enum Request<'a> {
     Solve(Search<'a>),
 }
 
-/// The files that the check of a log reads, by their names, and how many workers check the tables and the log.
+/// The files that the check of a log reads, by their names, how many workers check the tables and the log, and whether
+/// the tables are folded.
 #[derive(Debug, PartialEq, Drop)]
 pub struct LogCheck<'a> {
     /// What the log is to prove something of: a board text or a puzzle text.
@@ -38,10 +39,12 @@ pub struct LogCheck<'a> {
     pub tables: Vec<&'a str>,
     /// 1 to 64.
     pub workers: u8,
+    /// Whether each table is folded once it is checked.
+    pub fold: bool,
 }
 
 /// The files that a search reads and the one that it keeps, by their names, how many workers check the tables and the
-/// log, and how far the search may go.
+/// log, whether the tables are folded, and how far the search may go.
 #[derive(Debug, PartialEq, Drop)]
 pub struct Search<'a> {
     /// The board text.
@@ -54,6 +57,8 @@ pub struct Search<'a> {
     pub tables: Vec<&'a str>,
     /// 1 to 64.
     pub workers: u8,
+    /// Whether each table is folded once it is checked.
+    pub fold: bool,
     /// How many boards the search may expand: 1 to 1,000,000,000,000.
     pub budget: u64,
 }

@@ -1,4 +1,4 @@
-//! The words of `bound [--workers N] BOARD SETS LOG TABLES..`.
+//! The words of `bound [--workers N] [--fold] BOARD SETS LOG TABLES..`.
 
 ghost use Rattle.std.specs.Prelude.{◌≡◌, IfOk, false};
 ghost use Rattle.clap.specs.Words.{app_of, found_of, rows_of};
@@ -21,7 +21,7 @@ pub(crate) fn bound_command<'a>(alloc: Global) -> Result<Command<'a>, AllocError
         alloc,
         "bound",
         "Says whether a log proves that no solution of a board has fewer moves than its bound",
-        "pdb_cli bound [--workers N] BOARD SETS LOG TABLES..",
+        "pdb_cli bound [--workers N] [--fold] BOARD SETS LOG TABLES..",
     );
     with_claim(alloc, command, "BOARD", "A board text")
 }

@@ -7,6 +7,7 @@ ghost use Rattle.pdb_words.specs.Asked.{file_names};
 ghost use Rattle.pdb_words.specs.Files.{file_in, needed_file, needed_tables, tables_in, with_log};
 
 use crate::commands::with_argument;
+use crate::fold::with_fold;
 use crate::workers::with_workers;
 use clap::{Arg, ArgMatches, Command};
 use std::alloc::{AllocError, Global};
@@ -43,7 +44,8 @@ pub(crate) fn with_file<'a>(
     with_argument(command, needed_file(alloc, id).help(help))
 }
 
-/// A command with `SETS`, the file of a log and `TABLES..` behind its own file, and with the flag `--workers`.
+/// A command with `SETS`, the file of a log and `TABLES..` behind its own file, and with the flags `--workers` and
+/// `--fold`.
 pub(crate) fn with_log<'a>(
     alloc: Global,
     command: Command<'a>,
@@ -54,6 +56,7 @@ pub(crate) fn with_log<'a>(
     ensures local { IfOk result (λ c. (out-Command c).has_globals ≡ (out-Command command.entry).has_globals) }
 {
     let command = with_workers(alloc, command)?;
+    let command = with_fold(alloc, command)?;
     let command = with_file(alloc, command, "SETS", "The sets of tables")?;
     let command = with_file(alloc, command, log, help)?;
     with_argument(command, needed_tables(alloc))

@@ -8,6 +8,7 @@ mod command_line;
 mod commands;
 mod faults;
 mod files;
+mod fold;
 mod log_checks;
 mod make_table;
 mod numbers;

@@ -10,11 +10,12 @@ ghost use Rattle.pdb_words.specs.LogChecks.{check_in};
 
 use crate::asked::LogCheck;
 use crate::files::{file_in, tables_in, with_file, with_log};
+use crate::fold::fold_in;
 use crate::workers::workers_in;
 use clap::{ArgMatches, Command};
 use std::alloc::{AllocError, Global};
 
-/// A command with the file of its claim, `SETS LOG TABLES..` and the flag `--workers`.
+/// A command with the file of its claim, `SETS LOG TABLES..` and the flags `--workers` and `--fold`.
 pub(crate) fn with_claim<'a>(
     alloc: Global,
     command: Command<'a>,
@@ -43,5 +44,6 @@ pub(crate) fn check_in<'a>(
         log: file_in(found, "LOG"),
         tables: tables_in(alloc, found)?,
         workers: workers_in(found),
+        fold: fold_in(found),
     })
 }

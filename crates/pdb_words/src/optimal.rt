@@ -1,4 +1,4 @@
-//! The words of `optimal [--workers N] PUZZLE SETS LOG TABLES..`.
+//! The words of `optimal [--workers N] [--fold] PUZZLE SETS LOG TABLES..`.
 
 ghost use Rattle.std.specs.Prelude.{◌≡◌, IfOk, false};
 ghost use Rattle.clap.specs.Words.{app_of, found_of, rows_of};
@@ -21,7 +21,7 @@ pub(crate) fn optimal_command<'a>(alloc: Global) -> Result<Command<'a>, AllocErr
         alloc,
         "optimal",
         "Says whether a log proves that the moves of a puzzle text are a shortest solution",
-        "pdb_cli optimal [--workers N] PUZZLE SETS LOG TABLES..",
+        "pdb_cli optimal [--workers N] [--fold] PUZZLE SETS LOG TABLES..",
     );
     with_claim(alloc, command, "PUZZLE", "A puzzle text")
 }

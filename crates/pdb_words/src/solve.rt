@@ -1,4 +1,4 @@
-//! The words of `solve [--workers N] [--budget N] BOARD SETS OUT TABLES..`.
+//! The words of `solve [--workers N] [--fold] [--budget N] BOARD SETS OUT TABLES..`.
 
 ghost use Rattle.std.specs.Prelude.{◌≡◌, IfOk, false};
 ghost use Rattle.clap.specs.Words.{app_of, found_of, rows_of};
@@ -10,6 +10,7 @@ use crate::asked::{Request, Search};
 use crate::budget::{budget_flag, budget_in};
 use crate::commands::{new_command, with_argument};
 use crate::files::{file_in, tables_in, with_file, with_log};
+use crate::fold::fold_in;
 use crate::workers::workers_in;
 use clap::{ArgMatches, Command};
 use std::alloc::{AllocError, Global};
@@ -23,7 +24,7 @@ pub(crate) fn solve_command<'a>(alloc: Global) -> Result<Command<'a>, AllocError
         alloc,
         "solve",
         "Searches for a shortest solution of a board, and keeps the log that proves it",
-        "pdb_cli solve [--workers N] [--budget N] BOARD SETS OUT TABLES..",
+        "pdb_cli solve [--workers N] [--fold] [--budget N] BOARD SETS OUT TABLES..",
     );
     let command = with_file(alloc, command, "BOARD", "A board text")?;
     let command = with_log(alloc, command, "OUT", "The file that is to hold the log")?;
@@ -42,6 +43,7 @@ pub(crate) fn solve_in<'a>(alloc: Global, found: &ArgMatches<'a>) -> Result<Requ
         out: file_in(found, "OUT"),
         tables: tables_in(alloc, found)?,
         workers: workers_in(found),
+        fold: fold_in(found),
         budget: budget_in(found),
     }))
 }

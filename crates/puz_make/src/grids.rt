@@ -31,17 +31,26 @@ pub(crate) struct Grid {
 impl Grid {
     /// The grid of a pattern.
     pub(crate) fn new(pattern: &Pattern) -> Grid {
+        Grid::of_width(pattern, pattern.width())
+    }
+
+    /// The grid of a pattern's folded table.
+    pub(crate) fn folded(pattern: &Pattern) -> Grid {
+        Grid::of_width(pattern, 1)
+    }
+
+    /// The grid of a pattern, where each placement has so many slots.
+    fn of_width(pattern: &Pattern, width: u8) -> Grid {
         let side = pattern.side();
         let all = all_below(side.cells());
         let run = usize::from(side.cells()) + 1 - usize::from(pattern.size());
-        let width = usize::from(pattern.width());
         Grid {
             side: side.get(),
             size: pattern.size(),
-            width,
-            run: run * width,
+            width: usize::from(width),
+            run: run * usize::from(width),
             all,
-            weights: weights(pattern),
+            weights: weights(pattern, width),
             right: all & !first_column(side),
             left: all & !last_column(side),
         }
@@ -109,11 +118,11 @@ pub(crate) fn cell_at(mask: u32, place: u32) -> u8 {
 }
 
 /// How many entries stand between two placements of which one has a tile in the next cell that is left for it.
-fn weights(pattern: &Pattern) -> [u32; MOST_TILES] {
+fn weights(pattern: &Pattern, width: u8) -> [u32; MOST_TILES] {
     let cells = u32::from(pattern.side().cells());
     let size = usize::from(pattern.size());
     let mut weights = [0; MOST_TILES];
-    let mut weight = u32::from(pattern.width());
+    let mut weight = u32::from(width);
     for index in (0..size).rev() {
         weights[index] = weight;
         weight = weight.wrapping_mul(cells.wrapping_sub(index as u32));

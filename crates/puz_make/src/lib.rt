@@ -15,6 +15,7 @@ mod sets;
 mod shapes;
 mod slots;
 mod steps;
+mod sums;
 mod tables;
 mod turns;
 mod walks;

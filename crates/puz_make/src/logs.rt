@@ -4,7 +4,7 @@ ghost use Rattle.std.specs.Prelude.{IfErr};
 ghost use Rattle.puz_make.specs.Faults.{IsSearchFault};
 
 use crate::faults::MakeFault;
-use log_file::SIGNATURE;
+use log_file::{NEWEST_VERSION, SIGNATURE};
 use puz_board::Board;
 use std::alloc::{AllocError, Global};
 
@@ -23,6 +23,7 @@ pub(crate) fn log_of(
     let side = board.side();
     let mut log = Vec::new(alloc);
     log.extend_from_slice(SIGNATURE)?;
+    put(&mut log, NEWEST_VERSION)?;
     put(&mut log, side.get())?;
     log.extend_from_slice(&1u32.to_be_bytes())?;
     for cell in 0..side.cells() {

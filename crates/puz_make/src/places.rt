@@ -4,12 +4,33 @@ use crate::entries::MOST_TILES;
 use crate::grids::{Grid, mask_of};
 use crate::slots::{CELLS, Slots};
 use puz_board::Board;
-use tab_check::CheckedTable;
+use set_sum::{Member, Part};
 use tab_lanes::{NO_REGION, NO_WAY_HOME};
 
-/// A table, and where its pattern's tiles are.
+/// A tile that goes from one cell to another, where the blank was.
+#[derive(Clone, Copy)]
+pub(crate) struct Slide {
+    pub(crate) tile: u8,
+    pub(crate) from: u8,
+    pub(crate) to: u8,
+}
+
+impl Slide {
+    /// How the tile goes on the transposed board, where these are the transposed cells.
+    #[inline]
+    pub(crate) fn mirrored(&self, mirror: &[u8; CELLS]) -> Slide {
+        Slide {
+            tile: mirror[usize::from(self.tile) % CELLS],
+            from: mirror[usize::from(self.from) % CELLS],
+            to: mirror[usize::from(self.to) % CELLS],
+        }
+    }
+}
+
+/// A member's table, and where its pattern's tiles are on the member's board.
 #[derive(Clone, Copy)]
 pub(crate) struct Place<'a> {
+    pub(crate) member: Member,
     grid: Grid,
     /// The entries of the table.
     entries: &'a [u8],
@@ -23,12 +44,16 @@ pub(crate) struct Place<'a> {
 
 impl<'a> Place<'a> {
     /// Where the tiles of a table's pattern are on a board.
-    pub(crate) fn new(table: &CheckedTable<'a>, board: &Board) -> Place<'a> {
+    pub(crate) fn new(table: &'a Part<'_>, member: Member, board: &Board) -> Place<'a> {
         let pattern = table.pattern();
-        let grid = Grid::new(&pattern);
+        let (grid, entries) = match table {
+            Part::Full(full) => (Grid::new(&pattern), full.entries()),
+            Part::Folded(folded) => (Grid::folded(&pattern), folded.entries()),
+        };
         let mut place = Place {
+            member,
             grid,
-            entries: table.entries(),
+            entries,
             indexes: [0; CELLS],
             cells: [0; MOST_TILES],
             free: grid.all,
@@ -43,20 +68,20 @@ impl<'a> Place<'a> {
         place
     }
 
-    /// Moves a tile of the pattern from one cell to another.
+    /// Moves a tile of the pattern.
     #[inline]
-    pub(crate) fn slide(&mut self, tile: u8, from: u8, to: u8) {
-        let index = self.indexes[usize::from(tile) % CELLS];
-        self.cells[usize::from(index) % MOST_TILES] = to;
-        self.free = self.free & !mask_of(to) | mask_of(from);
+    pub(crate) fn slide(&mut self, slide: &Slide) {
+        let index = self.indexes[usize::from(slide.tile) % CELLS];
+        self.cells[usize::from(index) % MOST_TILES] = slide.to;
+        self.free = self.free & !mask_of(slide.to) | mask_of(slide.from);
     }
 
-    /// The entry of the board whose blank is in this cell. The slot isn't looked for where the second one has no region, so
-    /// that all free cells are of the first.
+    /// The entry of the board whose blank is in this cell. The slot isn't looked for where there is one alone, as in a folded
+    /// table, nor where the second one has no region, so that all free cells are of the first.
     #[inline]
     pub(crate) fn entry(&self, slots: &mut Slots, blank: u8) -> u8 {
         let first = self.first_number();
-        let slot = if self.entry_at(first.wrapping_add(1)) == NO_REGION {
+        let slot = if self.grid.width == 1 || self.entry_at(first.wrapping_add(1)) == NO_REGION {
             0
         } else {
             slots.slot_of(&self.grid, self.free, blank)

@@ -1,93 +1,53 @@
-//! The board of a search, which is moved in place, and what the sets of a bundle say of it.
+//! The board of a search, which is moved in place.
 
-ghost use Rattle.std.specs.Prelude.{◌<◌, ◌*◌, length};
+ghost use Rattle.std.specs.Prelude.{◌≡◌, ◌<◌, ◌*◌};
+ghost use Rattle.puz_board.specs.Boards.{side_of};
 
-use crate::grids::{mask_of, take_least};
 use crate::moves::MOVES;
-use crate::places::Place;
-use crate::slots::{CELLS, Slots};
+use crate::places::Slide;
+use crate::slots::CELLS;
+use crate::sums::{Entries, Leaf, Sums};
 use puz_board::{Board, Side, step};
-use set_sum::{Bundle, MOST_TABLES};
+use set_sum::Bundle;
 use std::alloc::{AllocError, Global};
-use tab_check::CheckedTable;
-use tab_lanes::NO_WAY_HOME;
 
 /// No cell.
 pub(crate) const NOWHERE: u8 = u8::MAX;
 
-/// For each table of a bundle its entry of a board.
-pub(crate) type Entries = [u8; MOST_TABLES];
-
-/// What a set says of a board.
-#[derive(Clone, Copy)]
-pub(crate) struct Leaf {
-    set: u8,
-    /// A number of moves that no solution is below.
-    pub(crate) sum: u16,
-}
-
-impl Leaf {
-    /// The byte of the leaf in a tree.
-    pub(crate) fn byte(&self) -> u8 {
-        self.set.wrapping_add(1)
-    }
-}
-
-/// A board, and its entries in the tables of a bundle.
+/// A board, and what the sets of a bundle say of it.
 #[derive(Drop)]
-pub(crate) struct Position<'b, 'a> {
-    bundle: &'b Bundle<'a>,
+pub(crate) struct Position<'a> {
     /// The number in each cell.
     numbers: [u8; CELLS],
+    /// How many cells there are.
+    cells: u8,
     /// The cell of the blank.
     blank: u8,
+    /// The parity of the number of moves of each solution: 0 or 1.
+    parity: u16,
     /// Where the moves lead from each cell, in their order.
     steps: [[u8; 4]; CELLS],
-    /// For each table where its tiles are.
-    places: Vec<Place<'a>>,
-    slots: Slots,
-    /// The tables that have each tile, as the bits of a mask.
-    owners: [u32; CELLS],
-    entries: Entries,
+    /// What the sets say.
+    pub(crate) sums: Sums<'a>,
 }
 
-impl<'b, 'a> Position<'b, 'a> {
+impl<'a> Position<'a> {
     /// A board of the bundle's side.
     pub(crate) fn new(
         alloc: Global,
-        bundle: &'b Bundle<'a>,
+        bundle: &'a Bundle<'_>,
         board: &Board,
-    ) -> Result<Position<'b, 'a>, AllocError> {
-        let mut position = Position {
-            bundle,
+    ) -> Result<Position<'a>, AllocError>
+        requires { side_of board.now ≡ bundle.now.side }
+    {
+        Ok(Position {
             numbers: numbers_of(board),
+            cells: board.side().cells(),
             blank: board.blank(),
+            parity: u16::from(board.blank_parity()),
             steps: steps_of(board.side()),
-            places: Vec::new(alloc),
-            slots: Slots::new(alloc)?,
-            owners: [0; CELLS],
-            entries: [0; MOST_TABLES],
-        };
-        for number in 0..bundle.tables() {
-            position.add_table(number, bundle.table(number), board)?;
-        }
-        Ok(position)
-    }
-
-    /// Adds the table of the bundle with this number.
-    fn add_table(
-        &mut self,
-        number: u8,
-        table: &CheckedTable<'a>,
-        board: &Board,
-    ) -> Result<(), AllocError> {
-        let place = Place::new(table, board);
-        for tile in table.pattern().tiles().as_slice() {
-            self.owners[usize::from(*tile) % CELLS] |= mask_of(number);
-        }
-        self.entries[usize::from(number) % MOST_TABLES] = place.entry(&mut self.slots, self.blank);
-        self.places.push(place)?;
-        Ok(())
+            sums: Sums::new(alloc, bundle, board)?,
+        })
     }
 
     /// The cell of the blank.
@@ -102,88 +62,49 @@ impl<'b, 'a> Position<'b, 'a> {
         self.steps[usize::from(self.blank) % CELLS]
     }
 
-    /// Moves the blank to a cell beside it, and looks the board up in the tables that have the moved tile. Answers the
-    /// entries of the board before.
+    /// What the first set says that says the most.
+    #[inline]
+    pub(crate) fn best_leaf(&self) -> Leaf {
+        self.sums.best_leaf(self.parity)
+    }
+
+    /// Moves the blank to a cell beside it. Answers the entries of the board before.
     #[inline]
     pub(crate) fn slide(&mut self, to: u8) -> Entries {
-        let before = self.entries;
-        self.shift(to, true);
-        before
+        let slide = self.move_blank(to);
+        self.sums.slide(&slide)
     }
 
     /// Moves the blank back to the cell where it was, and the entries to what they were.
     #[inline]
     pub(crate) fn slide_back(&mut self, to: u8, before: &Entries) {
-        self.shift(to, false);
-        self.entries = *before;
+        let slide = self.move_blank(to);
+        self.sums.slide_back(&slide, before);
     }
 
-    /// Changes the places of the blank and of the tile in a cell, and may look the board up in the tables that have the tile.
+    /// Exchanges the blank and the tile in a cell. Answers how the tile went.
     #[inline]
-    fn shift(&mut self, to: u8, looks_up: bool) {
+    fn move_blank(&mut self, to: u8) -> Slide {
         let from = self.blank;
         let tile = self.numbers[usize::from(to) % CELLS];
         self.numbers[usize::from(from) % CELLS] = tile;
         self.numbers[usize::from(to) % CELLS] = 0;
         self.blank = to;
-        let mut owners = self.owners[usize::from(tile) % CELLS];
-        for _ in 0..owners.count_ones() {
-            let table = usize::from(take_least(&mut owners));
-            if let Some(place) = self.places.get_mut(table) {
-                place.slide(tile, to, from);
-                if looks_up {
-                    self.entries[table % MOST_TABLES] = place.entry(&mut self.slots, to);
-                }
-            }
+        self.parity ^= 1;
+        Slide {
+            tile,
+            from: to,
+            to: from,
         }
     }
 
     /// Whether each number is in the cell of its own number.
     pub(crate) fn is_goal(&self) -> bool {
-        let cells = usize::from(self.bundle.side().cells());
         self.numbers
             .iter()
-            .take(cells)
+            .take(usize::from(self.cells))
             .enumerate()
             .all(|(cell, number)| usize::from(*number) == cell)
-    }
-
-    /// Whether a set says that the board has no solution.
-    pub(crate) fn is_hopeless(&self) -> bool {
-        for set in 0..self.bundle.sets() {
-            for number in self.bundle.set(set) {
-                if self.entries[usize::from(*number) % MOST_TABLES] == NO_WAY_HOME {
-                    return true;
-                }
-            }
-        }
-        false
-    }
-
-    /// What the first set says that says the most.
-    #[inline]
-    pub(crate) fn best_leaf(&self) -> Leaf {
-        let mut best = Leaf { set: 0, sum: 0 };
-        for set in 0..self.bundle.sets() {
-            let sum = self.sum(set);
-            if sum > best.sum {
-                best = Leaf { set, sum };
-            }
-        }
-        best
-    }
-
-    /// The sum of what the tables of a set say.
-    #[inline]
-    fn sum(&self, set: u8) -> u16
-        requires { set < length self.now.bundle.now.sets }
-    {
-        let mut sum = 0u16;
-        for number in self.bundle.set(set) {
-            let entry = self.entries[usize::from(*number) % MOST_TABLES];
-            sum = sum.wrapping_add(u16::from(entry));
-        }
-        sum
     }
 }
 

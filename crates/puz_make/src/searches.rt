@@ -8,7 +8,8 @@ ghost use Rattle.puz_make.specs.Faults.{IsSearchFault};
 use crate::faults::MakeFault;
 use crate::logs::{log_of, put};
 use crate::moves::MOVES;
-use crate::positions::{Leaf, NOWHERE, Position};
+use crate::positions::{NOWHERE, Position};
+use crate::sums::Leaf;
 use log_file::{BOUND_AND_LENGTH, HEADER_LEN};
 use puz_board::Board;
 use set_sum::Bundle;
@@ -17,6 +18,9 @@ use std::mem;
 
 /// The byte of a branch.
 const BRANCH: u8 = 0;
+
+/// By how much a threshold is above the one before: all solutions of a board have one parity.
+const BETWEEN_THRESHOLDS: u16 = 2;
 
 /// The greatest bound that a lemma claims, and so the greatest threshold.
 const GREATEST_BOUND: u16 = 255;
@@ -39,7 +43,7 @@ pub struct Found {
 /// Searches for a shortest solution of a board, threshold by threshold, and expands at most `budget` boards.
 ///
 /// A board is expanded where its moves are tried. The log has one lemma: its tree is what the last threshold that failed
-/// looked at.
+/// looked at. Where the sum of a set hasn't the parity of the solutions, it may count for one more, as a leaf by parity.
 pub fn solve(
     alloc: Global,
     bundle: &Bundle<'_>,
@@ -50,17 +54,16 @@ pub fn solve(
     ensures fault { IfErr result IsSearchFault }
 {
     let position = Position::new(alloc, bundle, board)?;
-    if position.is_hopeless() {
+    if position.sums.is_hopeless() {
         return Err(MakeFault::K2);
     }
     let root = position.best_leaf();
-    let mut bound = root.sum;
+    let mut bound = root.raised;
     let mut proof = Vec::new(alloc);
-    put(&mut proof, root.byte())?;
+    put(&mut proof, root.byte(bound))?;
     let mut search = Search {
         position,
         budget,
-        spare: u16::MAX,
         tree: Vec::new(alloc),
         moves: Vec::new(alloc),
     };
@@ -68,14 +71,14 @@ pub fn solve(
         if threshold < bound {
             continue;
         }
-        if search.is_solved(NOWHERE, threshold + 1)? {
+        if search.is_solved(NOWHERE, threshold + BETWEEN_THRESHOLDS)? {
             search.moves.reverse();
             return Ok(Found {
                 moves: search.moves,
                 log: log_of(alloc, board, threshold as u8, &proof)?,
             });
         }
-        bound = threshold.saturating_add(search.spare).saturating_add(1);
+        bound = threshold + BETWEEN_THRESHOLDS;
         proof = search.begin_again(proof);
     }
     Err(MakeFault::K2)
@@ -83,23 +86,20 @@ pub fn solve(
 
 /// What a search keeps.
 #[derive(Drop)]
-struct Search<'b, 'a> {
-    position: Position<'b, 'a>,
+struct Search<'a> {
+    position: Position<'a>,
     /// How many more boards may be expanded.
     budget: u64,
-    /// The least by which the sum of a leaf of this threshold is above what remains.
-    spare: u16,
     /// The tree of this threshold, as far as it is written.
     tree: Vec<u8>,
     /// The letters of the moves of a solution, the last one first.
     moves: Vec<u8>,
 }
 
-impl Search<'_, '_> {
+impl Search<'_> {
     /// Begins the next threshold, in the memory of an older tree. Answers the tree of this one.
     fn begin_again(&mut self, mut older: Vec<u8>) -> Vec<u8> {
         older.clear();
-        self.spare = u16::MAX;
         mem::replace(&mut self.tree, older)
     }
 
@@ -130,11 +130,10 @@ impl Search<'_, '_> {
         ensures cut { IfOk result (λ cut. OnFalse cut (0 < remaining)) }
         ensures fault { IfErr result IsSearchFault }
     {
-        if leaf.sum < remaining {
+        if leaf.raised < remaining {
             return Ok(false);
         }
-        self.spare = self.spare.min(leaf.sum - remaining);
-        self.write(leaf.byte())?;
+        self.write(leaf.byte(remaining))?;
         Ok(true)
     }
 
@@ -147,7 +146,7 @@ impl Search<'_, '_> {
         if self.is_cut(&leaf, remaining)? {
             return Ok(false);
         }
-        if leaf.sum == 0 && self.position.is_goal() {
+        if leaf.raised == 0 && self.position.is_goal() {
             return Ok(true);
         }
         self.expand()?;

@@ -11,6 +11,12 @@ use std::test::Fail;
 use std::thread::Threads;
 use work_run::{Gate, OpenGate};
 
+/// `LEAF` with the bound 4.
+const LEAF_OF_4: [u8; 20] = *b"PDBL\x01\x02\0\0\0\x01\x03\x02\x01\0\x04\0\0\0\x01\x01";
+
+/// `LEAF` with the bound 5.
+const LEAF_OF_5: [u8; 20] = *b"PDBL\x01\x02\0\0\0\x01\x03\x02\x01\0\x05\0\0\0\x01\x01";
+
 /// `LEAF` with the bound 7.
 const LEAF_OF_7: [u8; 20] = *b"PDBL\x01\x02\0\0\0\x01\x03\x02\x01\0\x07\0\0\0\x01\x01";
 
@@ -26,6 +32,9 @@ const BRANCHES_AND_MORE: [u8; 31] =
 const CITES_ITSELF: [u8; 45] =
     *b"PDBL\x01\x02\0\0\0\x02\x03\0\x01\x02\x05\0\0\0\x06\0\x01\0\0\0\x01\x03\x02\x01\0\x06\0\0\0\x0B\0 \0\0\0\x01\0\0\0\0\x01";
 
+/// `LEAF` with the bound 5 and the board `0 2 1 3`, which no moves solve.
+const TURNED_LEAF: [u8; 20] = *b"PDBL\x01\x02\0\0\0\x01\0\x02\x01\x03\x05\0\0\0\x01\x01";
+
 /// `TILES_123` with 2 in the place of entry 14.
 const WRONG_123: [u8; 44] =
     *b"PDBT\x01\x02\x03\0\0\0\0\x0E\0\0\0\0\0\0\0\x18\xFF\xFF\x02\x01\x03\xFF\x02\x01\xFF\0\xFF\xFF\xFF\xFF\x02\xFF\x05\x04\xFF\x03\x05\x04\xFF\xFF";
@@ -38,6 +47,7 @@ fn shelf(alloc: Global) -> Result<MemShelf, AllocError> {
             ("board", b"3 2 1 0".as_slice()),
             ("unsolvable_board", b"0 1 3 2"),
             ("another_board", b"3 0 1 2"),
+            ("turned_board", b"0 2 1 3"),
             ("no_board", b"0 1 2 2"),
             ("six_moves", b"3 2 1 0 ; ULDRUL"),
             ("eight_moves", b"3 2 1 0 ; ULDRULRL"),
@@ -45,8 +55,17 @@ fn shelf(alloc: Global) -> Result<MemShelf, AllocError> {
             ("one_set", b"set 0\n"),
             ("pair", b"set 0 1\n"),
             ("descending", b"set 0\nset 1 0\n"),
+            ("transposed", b"set 0t\n"),
+            ("with_transposed", b"set 0 0t\n"),
+            ("with_transposed_and_1", b"set 0 0t 1\n"),
+            ("transposed_second", b"set 0 1t\n"),
+            ("transposed_first", b"set 0t 0\n"),
+            ("great_letter", b"set 0T\n"),
             ("leaf", &LEAF),
+            ("leaf_of_4", &LEAF_OF_4),
+            ("leaf_of_5", &LEAF_OF_5),
             ("leaf_of_7", &LEAF_OF_7),
+            ("turned_leaf", &TURNED_LEAF),
             ("branches", &BRANCHES),
             ("branches_cut", &BRANCHES[..29]),
             ("without_a_child", &WITHOUT_A_CHILD),
@@ -69,6 +88,9 @@ fn shelf(alloc: Global) -> Result<MemShelf, AllocError> {
 fn digest_of(name: &str) -> &'static str {
     match name {
         "leaf" => "637ed7557c031455a39a826a90aa07c9b77930b8072f58f7a02c0af00f445342",
+        "leaf_of_4" => "f1f1a66f71f3a4ed58d9dbcb7a7d7b2d9b024b8e76684a18a001d3d8f5bdee66",
+        "leaf_of_5" => "238f21cb316cdf840bd52f1880207450be031f4fbbcf150917ba4b43774f0606",
+        "turned_leaf" => "22fb235b4066c4a13f5cb2a27a8c653b2eecdd93e5ea5010797f9b97ee34c7a7",
         "leaf_of_7" => "37cab8da8b6e6a8f247a68ab2aeb455969af2005a0a48876b23b53c7a5821a49",
         "branches" => "e9e77cadd5844ced52b6de00a0ab5f92b680046686168f0e7823639b16b9505c",
         "branches_cut" => "6aa1d8d633739b783ea805f8e0cf0746b0f762d5ae6afe858ab75a9b411292bd",
@@ -88,20 +110,32 @@ fn digest_of(name: &str) -> &'static str {
     }
 }
 
-/// A run of these words, which one space parts, by so many workers, who pass a gate.
+/// Flags, by which 1, 2, 7 or 64 workers check, and the tables stay whole.
+const WHOLE: [&str; 4] = ["--workers=1", "--workers=2", "--workers=7", "--workers=64"];
+
+/// The same with folded tables.
+const FOLDED: [&str; 4] = [
+    "--fold --workers=1",
+    "--workers=2 --fold",
+    "--fold --workers=7",
+    "--workers=64 --fold",
+];
+
+/// A run of these words and these flags, which one space parts, whose workers pass a gate.
 fn checked_by<'w, H: Threads + Wait + Sync, G: Gate + Sync>(
     rt: &H,
     alloc: Global,
     words: &'w str,
-    workers: &'w str,
+    flags: &'w str,
     gate: &G,
 ) -> Result<Ended, AllocError> {
     let mut all = Vec::new(alloc);
     for word in words.split(' ') {
         all.push(word)?;
     }
-    all.push("--workers")?;
-    all.push(workers)?;
+    for flag in flags.split(' ') {
+        all.push(flag)?;
+    }
     let mut shelf = shelf(alloc)?;
     let mut reader = b"".as_slice();
     ran_by(rt, alloc, all.as_slice(), &mut shelf, &mut reader, gate)
@@ -119,7 +153,24 @@ fn lines(alloc: Global, words: &str, line: &str) -> Result<String, AllocError> {
     format!(in alloc; "{all}sha256 {}\n{line}\n", digest_of(log))
 }
 
-/// A run of these words says this line below the digests, with this status, whether 1, 2, 7 or 64 workers check.
+/// A run of these words says this line below the digests, with this status, whichever of these flags it has.
+fn expect_by<H: Threads + Wait + Sync>(
+    rt: &H,
+    alloc: Global,
+    words: &str,
+    flags: &[&str],
+    line: &str,
+    status: u8,
+) -> Result<(), Fail> {
+    let want = lines(alloc, words, line)?;
+    for flag in flags {
+        let ended = checked_by(rt, alloc, words, flag, &OpenGate)?;
+        ended.expect(want.as_bytes(), status)?;
+    }
+    Ok(())
+}
+
+/// The same, whoever checks, and whether the tables are folded or not.
 fn expect<H: Threads + Wait + Sync>(
     rt: &H,
     alloc: Global,
@@ -127,12 +178,8 @@ fn expect<H: Threads + Wait + Sync>(
     line: &str,
     status: u8,
 ) -> Result<(), Fail> {
-    let want = lines(alloc, words, line)?;
-    for workers in ["1", "2", "7", "64"] {
-        let ended = checked_by(rt, alloc, words, workers, &OpenGate)?;
-        ended.expect(want.as_bytes(), status)?;
-    }
-    Ok(())
+    expect_by(rt, alloc, words, &WHOLE, line, status)?;
+    expect_by(rt, alloc, words, &FOLDED, line, status)
 }
 
 #[test]
@@ -143,6 +190,10 @@ fn bounds_that_good_logs_prove_are_told(rt: HostRuntime) -> Result<(), Fail> {
         ("bound board one_set citation f12", "bound 6"),
         // The sum is 4 + 2.
         ("bound board pair leaf f12 f3", "bound 6"),
+        // The sums are 2 + 2 and 2 + 2 + 2.
+        ("bound board with_transposed leaf_of_4 f1", "bound 4"),
+        ("bound board with_transposed_and_1 leaf f1 f3", "bound 6"),
+        ("bound board transposed branches f12", "bound 6"),
         (
             "bound board one_set leaf f123 f1 f12 f3 f3 f12 f1 f123 f1 f1 f3 f123 f12 f12 f3 f1",
             "bound 6",
@@ -160,10 +211,66 @@ fn bounds_that_good_logs_prove_are_told(rt: HostRuntime) -> Result<(), Fail> {
 }
 
 #[test]
+fn a_folded_table_bounds_some_boards_less(rt: HostRuntime) -> Result<(), Fail> {
+    // The tiles 1 and 2 never come home from here; folded, their table has 4 for this and the board with the blank in cell 3.
+    let words = "bound turned_board one_set turned_leaf f12";
+    expect_by(&rt, rt.alloc(), words, &WHOLE, "bound 5", 0)?;
+    expect_by(&rt, rt.alloc(), words, &FOLDED, "refused L6 at lemma 0", 1)
+}
+
+// Run with each allocation refused in turn.
+#[test]
+fn want_of_memory_stands_alone_where_tables_are_folded(rt: HostRuntime) -> Result<(), Fail> {
+    let alloc = rt.alloc();
+    let cases = [
+        ("bound board one_set branches f12", "bound 6"),
+        ("bound board pair leaf f12 f3", "bound 6"),
+        ("optimal six_moves one_set branches f12", "optimal 6"),
+    ];
+    for (words, line) in cases {
+        for flags in ["--fold", "--fold --workers=2"] {
+            let run = || checked_by(&rt, alloc, words, flags, &OpenGate);
+            let want = lines(alloc, words, line).or_else(|_| lines(alloc, words, line))?;
+            let mut ended = run().or_else(|_| run())?;
+            if ended.status == 3 {
+                ended.expect(b"no memory\n", 3)?;
+                ended = run()?;
+            }
+            ended.expect(want.as_bytes(), 0)?;
+        }
+    }
+    Ok(())
+}
+
+#[test]
 fn the_first_refusal_that_stands_is_told(rt: HostRuntime) -> Result<(), Fail> {
     let cases = [
         ("bound no_board one_set leaf f123", "refused B5 at number 3"),
         ("bound board pair branches f12 f1", "refused S3 at line 0"),
+        (
+            "bound board transposed_second branches f12 f1",
+            "refused S3 at line 0",
+        ),
+        (
+            "bound board with_transposed branches f12",
+            "refused S6 at line 0",
+        ),
+        (
+            "bound board with_transposed leaf f3",
+            "refused S6 at line 0",
+        ),
+        (
+            "bound board transposed_first leaf_of_4 f1",
+            "refused S1 at line 0",
+        ),
+        (
+            "bound board great_letter leaf_of_4 f1",
+            "refused S1 at line 0",
+        ),
+        (
+            "bound board with_transposed leaf_of_5 f1",
+            "refused L6 at lemma 0",
+        ),
         ("bound board pair leaf f1 f24", "refused S4 at table 1"),
         ("bound board descending leaf f12 f3", "refused S1 at line 1"),
         ("bound another_board one_set leaf f123", "refused L5"),
@@ -251,8 +358,10 @@ fn inputs_that_can_not_be_read_are_named(rt: HostRuntime) -> Result<(), Fail> {
         ("optimal P one_set leaf f123", "fault read P\n"),
     ];
     for (words, line) in cases {
-        let ended = checked_by(&rt, rt.alloc(), words, "2", &OpenGate)?;
-        ended.expect(line.as_bytes(), 2)?;
+        for flags in ["--workers=2", "--fold"] {
+            let ended = checked_by(&rt, rt.alloc(), words, flags, &OpenGate)?;
+            ended.expect(line.as_bytes(), 2)?;
+        }
     }
     Ok(())
 }
@@ -267,7 +376,7 @@ fn two_workers_check_lemmas_side_by_side(rt: HostRuntime) -> Result<(), Fail> {
         // The first job of all is the table's.
         let gate = HoldingGate::new(&[0], &[1]).among(1..u64::MAX);
         let want = lines(rt.alloc(), words, line)?;
-        checked_by(&rt, rt.alloc(), words, "2", &gate)?.expect(want.as_bytes(), 0)?;
+        checked_by(&rt, rt.alloc(), words, "--workers=2", &gate)?.expect(want.as_bytes(), 0)?;
         assert!(rt; gate.saw_all(), "one worker alone: {words}");
     }
     Ok(())

@@ -14,6 +14,8 @@ mod limits;
 #[cfg(test)]
 mod makers;
 #[cfg(test)]
+mod parity;
+#[cfg(test)]
 mod replays;
 #[cfg(test)]
 mod runs;

@@ -209,7 +209,12 @@ fn expect_solved<H: Threads + Wait + Sync>(
     if shelf.keep(alloc, "puzzle", puzzle.as_bytes()).is_err() {
         return Err(Fail::new("the puzzle text is not kept"));
     }
-    let words = format!(in alloc; "optimal puzzle sets o {table}")?;
+    let fold = if flags.contains("--fold") {
+        " --fold"
+    } else {
+        ""
+    };
+    let words = format!(in alloc; "optimal puzzle sets o {table}{fold}")?;
     let checked = ran_on(rt, alloc, words.as_str(), &mut shelf)?;
     let said = std::str::from_utf8(checked.out.as_slice()).unwrap_or("");
     let digest_of_log = said.lines().nth(1).unwrap_or("");
@@ -241,9 +246,40 @@ fn shortest_solutions_are_found_and_their_logs_kept(rt: HostRuntime) -> Result<(
         ("six", "f12", "", 6),
         ("six", "f12", " --workers 7", 6),
         ("six", "f12", " --workers 2 --budget 1000", 6),
+        ("goal", "f123", " --fold", 0),
+        ("one", "f123", " --fold", 1),
+        ("six", "f123", " --fold", 6),
+        ("six", "f12", " --fold", 6),
+        ("six", "f12", " --workers 7 --fold", 6),
+        ("six", "f12", " --fold --workers 2 --budget 1000", 6),
     ];
     for (board, table, flags, moves) in cases {
         expect_solved(&rt, rt.alloc(), board, table, flags, moves)?;
+    }
+    Ok(())
+}
+
+// Run with each allocation refused in turn.
+#[test]
+fn want_of_memory_stands_alone_in_a_search_with_folded_tables(rt: HostRuntime) -> Result<(), Fail> {
+    let alloc = rt.alloc();
+    for words in [
+        "solve six sets o f12 --fold",
+        "solve six sets o f12 --fold --workers 2",
+    ] {
+        let mut files = shelf(alloc).or_else(|_| shelf(alloc))?;
+        let mut ended = ran_on(&rt, alloc, words, &mut files).or_else(|_| ran_on(
+            &rt, alloc, words, &mut files,
+        ))?;
+        if ended.status == 3 {
+            ended.expect(b"no memory\n", 3)?;
+            expect_held(&files, "o", None)?;
+            ended = ran_on(&rt, alloc, words, &mut files)?;
+        }
+        assert!(rt;
+            ended.status == 0 && ended.out.ends_with(b"\noptimal 6\n"),
+            "{words}"
+        );
     }
     Ok(())
 }
@@ -281,6 +317,13 @@ fn searches_that_find_nothing_keep_nothing(rt: HostRuntime) -> Result<(), Fail> 
     let alloc = rt.alloc();
     let cases = [
         ("unsolvable sets", "f123", DIGEST_OF_123, "refused K2"),
+        (
+            "unsolvable sets",
+            "f123 --fold",
+            DIGEST_OF_123,
+            "refused K2",
+        ),
+        ("goal sets", "f24 --fold", DIGEST_OF_24, "refused L4"),
         ("goal sets", "f24", DIGEST_OF_24, "refused L4"),
         ("six sets", "f12 --budget 1", DIGEST_OF_12, "refused K1"),
         (

@@ -7,91 +7,109 @@ use Rattle.std.specs.List.{AllByRecursion}
 use Rattle.arrayvec.specs.ArrayVec.{ArrayVec}
 use Rattle.puz_board.specs.Boards.{IsBoardOf}
 use Rattle.pat_place.specs.Patterns.{IsPattern}
-use Rattle.tab_file.specs.Tables.{Table}
-use Rattle.tab_check.specs.ExactTables.{IsExactTable}
-use Rattle.tab_check.proofs.LookLemmas.{count_some}
-use Rattle.set_sum.specs.Bundles.{BundleView, IsBundle, IsSetOf, TellsOfAll, members, most_tables}
+use Rattle.tab_check.specs.declared.tables.Count.{Count}
+use Rattle.set_sum.specs.Bundles.{BundleView, IsBundle, IsSetOf, TellsOfAll, most_tables}
+use Rattle.set_sum.specs.Members.{board_for, patterns_of_set, table_of}
 use Rattle.set_sum.specs.ReadLines.{AreSetsOf}
+use Rattle.set_sum.specs.Parts.{IsExactPart, PartSays, PartView, no_part, part_pattern, part_shown, parts_shown}
 use Rattle.set_sum.specs.SetTexts.{IsLine}
-use Rattle.set_sum.specs.Reading.{AreAlike, IsBundleOf, NamesNoTable, NamesOverlap, first_side, patterns_of}
-use Rattle.set_sum.specs.StoredBundles.{IsStoredBundle, bundle_shown, numbers_stored}
-use Rattle.set_sum.specs.Sums.{SetSays}
+use Rattle.set_sum.specs.Reading.{AreAlike, IsBundleOf, NamesNoTable, NamesOverlap, first_side}
+use Rattle.set_sum.specs.StoredBundles.{IsStoredBundle, bundle_shown, sets_stored}
+use Rattle.set_sum.specs.Sums.{AreDisjoint, SetSays}
 use Rattle.set_sum.specs.declared.bundles.Bundle.TheInside.{Inside}
+use Rattle.set_sum.specs.declared.members.Member.{Member}
+use Rattle.set_sum.specs.declared.parts.Part.{Part}
 use Rattle.set_sum.proofs.AnyLemmas.{Any-here, Any-later}
 use Rattle.set_sum.proofs.LinesReadLemmas.{all_there}
 use Rattle.set_sum.proofs.ListLemmas.{all_at, all_weaker, mapped_at}
-use Rattle.set_sum.proofs.SumLemmas.{IsOf, IsTold, set_told}
+use Rattle.set_sum.proofs.HomeLemmas.{IsOf}
+use Rattle.set_sum.proofs.MemberLemmas.{board_for-good}
+use Rattle.set_sum.proofs.PartLemmas.{part_told, pattern_exact, shown_tiles}
+use Rattle.set_sum.proofs.SumLemmas.{IsTold, set_told}
 
 -- what is stored of a set is what is shown of it
-module _ (v : Inside) (place : ℕ) (low : place < length (bundle_shown v).sets) (set : ArrayVec ℕ) (is : set ≡ get_or v.sets.items place set) where
+module _ (v : Inside) (place : ℕ) (low : place < length (bundle_shown v).sets) (set : ArrayVec Member) (is : set ≡ get_or v.sets.items place set) where
   pub stored_set : get_or (bundle_shown v).sets place [] ≡ set.items
   stored_set = mapped_at (λ s. s.items) v.sets.items place set [] (subst (λ n. place < n) (length-map v.sets.items (λ s. s.items)) low) is
 
--- the numbers of a set are those of tables
-pub set_there : (v : BundleView) → IsBundle v → (number : ℕ) → number < length v.sets → AllByRecursion (λ i. i < length v.tables) (get_or v.sets number [])
-set_there v is number low = all_at (AllByRecursion (λ i. i < length v.tables)) v.sets number [] low is.there
+-- the tables of a set's members are there
+pub set_there : (v : BundleView) → IsBundle v → (number : ℕ) → number < length v.sets → AllByRecursion (λ m. m.table < length v.tables) (get_or v.sets number [])
+set_there v is number low = all_at (AllByRecursion (λ m. m.table < length v.tables)) v.sets number [] low is.there
 
 -- ---- a bundle that is made
 
-all_patterns : (n : ℕ) (tables : List Table) → AllByRecursion (λ t. t.pattern.side ≡ n) tables → AllByRecursion (λ t. IsPattern t.pattern) tables → AllByRecursion (IsOf n) (patterns_of tables)
+-- the tiles that are shown are a pattern
+abbrev IsShownOf : ℕ → PartView → Type 0
+IsShownOf n part = IsOf n part.tiles
+
+all_patterns : (n : ℕ) (tables : List Part) → AllByRecursion (λ t. (part_pattern t).side ≡ n) tables → AllByRecursion (λ t. IsPattern (part_pattern t)) tables
+    → AllByRecursion (IsShownOf n) (parts_shown tables)
 all_patterns n [] sides patterns = tt
-all_patterns n (t ∷ tables) sides patterns = (subst (λ m. IsOf m t.pattern.tiles) sides.0 patterns.0, all_patterns n tables sides.1 patterns.1)
+all_patterns n (t ∷ tables) sides patterns =
+    (subst (IsOf n) (shown_tiles t) (subst (λ m. IsOf m (part_pattern t).tiles) sides.0 patterns.0), all_patterns n tables sides.1 patterns.1)
 
-all_told : (n : ℕ) (b : List ℕ) → IsBoardOf n b → (tables : List Table) → AllByRecursion (λ t. t.pattern.side ≡ n) tables → AllByRecursion IsExactTable tables → AllByRecursion (IsTold b) (patterns_of tables)
-all_told n b board [] sides exact = tt
-all_told n b board (t ∷ tables) sides exact = (count_some t exact.0 b (subst (λ m. IsBoardOf m b) (sym sides.0) board), all_told n b board tables sides.1 exact.1)
+-- an exact table tells something of each board
+abbrev TellsAll : ℕ → PartView → Type 0
+TellsAll n part = (b : List ℕ) → IsBoardOf n b → (count : Count) × PartSays part b count
 
--- what holds of each pattern holds of the members
-all_members : (P : List ℕ → Type 0) (tables : List Table) (numbers : List ℕ) → AllByRecursion P (patterns_of tables) → AllByRecursion (λ i. i < length tables) numbers → AllByRecursion P (members (patterns_of tables) numbers)
+all_told : (n : ℕ) (tables : List Part) → AllByRecursion (λ t. (part_pattern t).side ≡ n) tables → AllByRecursion IsExactPart tables → AllByRecursion (TellsAll n) (parts_shown tables)
+all_told n [] sides exact = tt
+all_told n (t ∷ tables) sides exact = (λ b board. part_told t exact.0 b (subst (λ m. IsBoardOf m b) (sym sides.0) board), all_told n tables sides.1 exact.1)
+
+-- what holds of each table holds of the members' tables
+all_members : (P : PartView → Type 0) (tables : List Part) (set : List Member) → AllByRecursion P (parts_shown tables) → AllByRecursion (λ m. m.table < length tables) set
+    → AllByRecursion (λ m. P (table_of (parts_shown tables) m)) set
 all_members P tables [] all there = tt
-all_members P tables (i ∷ numbers) all there =
-    (all_at P (patterns_of tables) i [] (subst (λ k. i < k) (sym (length-map tables (λ t. t.pattern.tiles))) there.0) all, all_members P tables numbers all there.1)
+all_members P tables (m ∷ set) all there =
+    (all_at P (parts_shown tables) m.table no_part (subst (λ k. m.table < k) (sym (length-map tables part_shown)) there.0) all, all_members P tables set all there.1)
 
-each_set : (n : ℕ) (tables : List Table) (sets : List (List ℕ)) → AllByRecursion (IsOf n) (patterns_of tables) → AllByRecursion IsLine sets → AllByRecursion (AllByRecursion (λ i. i < length tables)) sets
-    → AllByRecursion (λ numbers. ¬ NamesOverlap tables numbers) sets → AllByRecursion (λ numbers. IsSetOf n (members (patterns_of tables) numbers)) sets
-each_set n tables [] all lines there disjoint = tt
-each_set n tables (numbers ∷ sets) all lines there disjoint = (
+each_set : (n : ℕ) (tables : List Part) (sets : List (List Member)) → n ≡ first_side tables → AllByRecursion (IsShownOf n) (parts_shown tables) → AllByRecursion IsLine sets
+    → AllByRecursion (AllByRecursion (λ m. m.table < length tables)) sets → AllByRecursion (λ set. ¬ NamesOverlap tables set) sets → AllByRecursion (IsSetOf n (parts_shown tables)) sets
+each_set n tables [] side all lines there disjoint = tt
+each_set n tables (set ∷ sets) side all lines there disjoint = (
   record {
-    some = subst (λ k. 0 < k) (sym (length-map numbers (λ i. get_or (patterns_of tables) i []))) lines.0.some;
-    patterns = all_members (IsOf n) tables numbers all there.0;
-    disjoint = disjoint.0;
+    some = lines.0.some;
+    patterns = all_members (IsShownOf n) tables set all there.0;
+    disjoint = subst (λ k. AreDisjoint (patterns_of_set k (parts_shown tables) set)) (sym side) disjoint.0;
   },
-  each_set n tables sets all lines.1 there.1 disjoint.1,
+  each_set n tables sets side all lines.1 there.1 disjoint.1,
 )
 
-first_limits : (n : ℕ) (tables : List Table) → 0 < length tables → AllByRecursion (λ t. t.pattern.side ≡ n) tables → AllByRecursion (λ t. IsPattern t.pattern) tables → (2 ≤ n) × (n ≤ 5)
+first_limits : (n : ℕ) (tables : List Part) → 0 < length tables → AllByRecursion (λ t. (part_pattern t).side ≡ n) tables → AllByRecursion (λ t. IsPattern (part_pattern t)) tables → (2 ≤ n) × (n ≤ 5)
 first_limits n [] some sides patterns = absurd (omega arith)
 first_limits n (t ∷ tables) some sides patterns = (subst (λ m. 2 ≤ m) sides.0 patterns.0.low, subst (λ m. m ≤ 5) sides.0 patterns.0.high)
 
--- where no number is that of no table, each is that of a table
-none_missing : (tables : ℕ) (numbers : List ℕ) → ¬ Any (λ i. tables ≤ i) numbers → AllByRecursion (λ i. i < tables) numbers
+-- where no member's table is missing, each is there
+none_missing : (tables : ℕ) (set : List Member) → ¬ Any (λ m. tables ≤ m.table) set → AllByRecursion (λ m. m.table < tables) set
 none_missing tables [] none = tt
-none_missing tables (i ∷ numbers) none = elim (cases_lt i tables) [
-  | inl low ↦ (low, none_missing tables numbers (λ any. none (Any-later (λ k. tables ≤ k) i numbers any)))
-  | inr high ↦ absurd (none (Any-here (λ k. tables ≤ k) i numbers high))
+none_missing tables (m ∷ set) none = elim (cases_lt m.table tables) [
+  | inl low ↦ (low, none_missing tables set (λ any. none (Any-later (λ o. tables ≤ o.table) m set any)))
+  | inr high ↦ absurd (none (Any-here (λ o. tables ≤ o.table) m set high))
 ]
 
 -- what exact tables and a text make is a bundle
-module _ (tables : List Table) (text : List ℕ) (v : BundleView) (exact : AllByRecursion IsExactTable tables) (is : IsBundleOf tables text v) where
-  sides : AllByRecursion (λ t. t.pattern.side ≡ v.side) tables
-  sides = all_weaker (λ t. t.pattern.side ≡ first_side tables) (λ t. t.pattern.side ≡ v.side) (λ t same. same ∙ sym is.side) tables is.alike.one_side
+module _ (tables : List Part) (text : List ℕ) (v : BundleView) (exact : AllByRecursion IsExactPart tables) (is : IsBundleOf tables text v) where
+  sides : AllByRecursion (λ t. (part_pattern t).side ≡ v.side) tables
+  sides = all_weaker (λ t. (part_pattern t).side ≡ first_side tables) (λ t. (part_pattern t).side ≡ v.side) (λ t same. same ∙ sym is.side) tables is.alike.one_side
 
-  patterns : AllByRecursion (λ t. IsPattern t.pattern) tables
-  patterns = all_weaker IsExactTable (λ t. IsPattern t.pattern) (λ t exact_table. exact_table.is_table.pattern) tables exact
+  patterns : AllByRecursion (λ t. IsPattern (part_pattern t)) tables
+  patterns = all_weaker IsExactPart (λ t. IsPattern (part_pattern t)) pattern_exact tables exact
 
-  there : AllByRecursion (AllByRecursion (λ i. i < length tables)) v.sets
-  there = all_weaker (λ numbers. ¬ NamesNoTable tables numbers) (AllByRecursion (λ i. i < length tables)) (none_missing (length tables)) v.sets is.there
+  there : AllByRecursion (AllByRecursion (λ m. m.table < length tables)) v.sets
+  there = all_weaker (λ set. ¬ NamesNoTable tables set) (AllByRecursion (λ m. m.table < length tables)) (none_missing (length tables)) v.sets is.there
 
   counted : length tables ≡ length v.tables
-  counted = sym (ap length is.patterns ∙ length-map tables (λ t. t.pattern.tiles))
+  counted = sym (ap length is.shown ∙ length-map tables part_shown)
 
   told : TellsOfAll v
   told number low b board =
-      let numbers : List ℕ = get_or v.sets number [] in
-      let numbers_there = all_at (AllByRecursion (λ i. i < length tables)) v.sets number [] low there in
-      let all = all_told v.side b board tables sides exact in
-      let says = set_told (members (patterns_of tables) numbers) b (all_members (IsTold b) tables numbers all numbers_there) in
-      (says.0, record { there = low; says = subst (λ ps. SetSays (members ps numbers) b says.0) (sym is.patterns) says.1 })
+      let set : List Member = get_or v.sets number [] in
+      let parts : List PartView = parts_shown tables in
+      let set_is_there = all_at (AllByRecursion (λ m. m.table < length tables)) v.sets number [] low there in
+      let each = all_members (TellsAll v.side) tables set (all_told v.side tables sides exact) set_is_there in
+      let told = all_weaker (λ (m : Member). TellsAll v.side (table_of parts m)) (IsTold parts b) (λ m tells. tells (board_for m b) (board_for-good v.side m b board)) set each in
+      let says = set_told parts set b told in
+      (says.0, record { there = low; says = subst (λ ps. SetSays ps set b says.0) (sym is.shown) says.1 })
 
   pub is_bundle : IsBundle v
   is_bundle =
@@ -103,21 +121,22 @@ module _ (tables : List Table) (text : List ℕ) (v : BundleView) (exact : AllBy
         few_tables = subst (λ k. k ≤ most_tables) counted is.alike.count.few;
         some_sets = is.are_sets.lines.some;
         few_sets = is.are_sets.few;
-        there = subst (λ k. AllByRecursion (AllByRecursion (λ i. i < k)) v.sets) counted there;
-        each = subst (λ ps. AllByRecursion (λ numbers. IsSetOf v.side (members ps numbers)) v.sets) (sym is.patterns)
-            (each_set v.side tables v.sets (all_patterns v.side tables sides patterns) is.are_sets.lines.lines there is.disjoint);
+        there = subst (λ k. AllByRecursion (AllByRecursion (λ m. m.table < k)) v.sets) counted there;
+        each = subst (λ ps. AllByRecursion (IsSetOf v.side ps) v.sets) (sym is.shown)
+            (each_set v.side tables v.sets is.side (all_patterns v.side tables sides patterns) is.are_sets.lines.lines there is.disjoint);
         told = told;
       }
 
-module _ (v : Inside) (text : List ℕ) (first : v.side ≡ first_side v.tables.items) (alike : AreAlike v.tables.items) (exact : AllByRecursion IsExactTable v.tables.items)
-    (are : AreSetsOf v.tables.items text (numbers_stored v)) where
+module _ (v : Inside) (text : List ℕ) (first : v.side ≡ first_side v.tables.items) (alike : AreAlike v.tables.items) (exact : AllByRecursion IsExactPart v.tables.items)
+    (are : AreSetsOf v.tables.items text (sets_stored v)) where
   pub bundle_made : IsBundleOf v.tables.items text (bundle_shown v)
   bundle_made = record {
     alike = alike;
     side = first;
-    patterns = refl;
+    shown = refl;
     are_sets = are.are_sets;
-    there = all_weaker (AllByRecursion (λ i. i < length v.tables.items)) (λ numbers. ¬ NamesNoTable v.tables.items numbers) (all_there (length v.tables.items)) (numbers_stored v) are.numbers;
+    there = all_weaker (AllByRecursion (λ m. m.table < length v.tables.items)) (λ set. ¬ NamesNoTable v.tables.items set) (all_there (length v.tables.items)) (sets_stored v) are.there;
+    apart = are.apart;
     disjoint = are.disjoint;
   }
 

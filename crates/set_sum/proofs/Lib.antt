@@ -3,11 +3,19 @@ mod AnyLemmas
 pub mod BundleLemmas
 mod CostLemmas
 pub mod DecidedLemmas
+pub mod HomeLemmas
 mod LineLemmas
 mod LinesReadLemmas
 pub mod ListLemmas
+pub mod MemberLemmas
+mod MirrorLemmas
 pub mod NumeralLemmas
+pub mod OrderLemmas
+pub mod ParityLemmas
+pub mod PartLemmas
 mod ReadLemmas
 pub mod SayLemmas
 pub mod SumLemmas
 mod TakenLemmas
+pub mod TransposedFoldLemmas
+mod TwiceLemmas

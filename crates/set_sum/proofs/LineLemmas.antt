@@ -2,29 +2,30 @@
 use Rattle.std.proofs.Common.{◌≡◌, ℕ, ◌<◌, List, [], ◌∷◌, ◌++◌, length, inl, inr, refl, sym, ◌∙◌, ap, ap₂, append_assoc, arith}
 use Rattle.std.proofs.lemmas.List.{append-nil}
 use Rattle.std.specs.List.{AllByRecursion}
-use Rattle.set_sum.specs.SetTexts.{AreLines, BeginsWithNoLine, IsFirstBadLine, IsLine, numbers_text, set_line, set_lines}
-use Rattle.set_sum.proofs.NumeralLemmas.{numbers-once, tail_is}
+use Rattle.set_sum.specs.SetTexts.{AreLines, BeginsWithNoLine, IsFirstBadLine, IsLine, members_text, set_line, set_lines}
+use Rattle.set_sum.specs.declared.members.Member.{Member}
+use Rattle.set_sum.proofs.NumeralLemmas.{members-once, tail_is}
 
 -- ---- a line
 
 -- what follows the word `set`
-pub set_line-text : (numbers x : List ℕ) → set_line numbers ++ x ≡ 115 ∷ 101 ∷ 116 ∷ (numbers_text numbers ++ 10 ∷ x)
-set_line-text numbers x = ap (λ s. 115 ∷ 101 ∷ 116 ∷ s) (append_assoc (numbers_text numbers) (10 ∷ []) x)
+pub set_line-text : (members : List Member) (x : List ℕ) → set_line members ++ x ≡ 115 ∷ 101 ∷ 116 ∷ (members_text members ++ 10 ∷ x)
+set_line-text members x = ap (λ s. 115 ∷ 101 ∷ 116 ∷ s) (append_assoc (members_text members) (10 ∷ []) x)
 
-pub line-once : (ms ns x y : List ℕ) → IsLine ms → IsLine ns → set_line ms ++ x ≡ set_line ns ++ y → (ms ≡ ns) × (x ≡ y)
+pub line-once : (ms ns : List Member) (x y : List ℕ) → IsLine ms → IsLine ns → set_line ms ++ x ≡ set_line ns ++ y → (ms ≡ ns) × (x ≡ y)
 line-once ms ns x y one other same =
-    numbers-once ms ns x y one.short other.short (
-    let s : List ℕ = numbers_text ms ++ 10 ∷ x in
-    let t : List ℕ = numbers_text ns ++ 10 ∷ y in
+    members-once ms ns x y one.short other.short (
+    let s : List ℕ = members_text ms ++ 10 ∷ x in
+    let t : List ℕ = members_text ns ++ 10 ∷ y in
     let e : 115 ∷ 101 ∷ 116 ∷ s ≡ 115 ∷ 101 ∷ 116 ∷ t = sym (set_line-text ms x) ∙ same ∙ set_line-text ns y in
     tail_is 116 116 s t (tail_is 101 101 (116 ∷ s) (116 ∷ t) (tail_is 115 115 (101 ∷ 116 ∷ s) (101 ∷ 116 ∷ t) e)))
 
 -- ---- lines
 
-pub set_lines-cons : (ns : List ℕ) (lines : List (List ℕ)) (x : List ℕ) → set_lines (ns ∷ lines) ++ x ≡ set_line ns ++ (set_lines lines ++ x)
+pub set_lines-cons : (ns : List Member) (lines : List (List Member)) (x : List ℕ) → set_lines (ns ∷ lines) ++ x ≡ set_line ns ++ (set_lines lines ++ x)
 set_lines-cons ns lines x = append_assoc (set_line ns) (set_lines lines) x
 
-pub set_lines-push : (lines : List (List ℕ)) (ns x : List ℕ) → set_lines (lines ++ ns ∷ []) ++ x ≡ set_lines lines ++ (set_line ns ++ x)
+pub set_lines-push : (lines : List (List Member)) (ns : List Member) (x : List ℕ) → set_lines (lines ++ ns ∷ []) ++ x ≡ set_lines lines ++ (set_line ns ++ x)
 set_lines-push [] ns x = set_lines-cons ns [] x
 set_lines-push (ms ∷ lines) ns x =
     set_lines-cons ms (lines ++ ns ∷ []) x ∙
@@ -32,7 +33,7 @@ set_lines-push (ms ∷ lines) ns x =
     sym (set_lines-cons ms lines (set_line ns ++ x))
 
 -- a text is read as lines, as far as lines go, in one way
-pub lines-once : (ls ms : List (List ℕ)) (x y : List ℕ) → AllByRecursion IsLine ls → AllByRecursion IsLine ms → BeginsWithNoLine x → BeginsWithNoLine y → set_lines ls ++ x ≡ set_lines ms ++ y → (ls ≡ ms) × (x ≡ y)
+pub lines-once : (ls ms : List (List Member)) (x y : List ℕ) → AllByRecursion IsLine ls → AllByRecursion IsLine ms → BeginsWithNoLine x → BeginsWithNoLine y → set_lines ls ++ x ≡ set_lines ms ++ y → (ls ≡ ms) × (x ≡ y)
 lines-once [] [] x y one other bad also same = (refl, same)
 lines-once [] (m ∷ ms) x y one other bad also same = absurd (bad m (set_lines ms ++ y) other.0 (same ∙ set_lines-cons m ms y))
 lines-once (l ∷ ls) [] x y one other bad also same = absurd (also l (set_lines ls ++ x) one.0 (sym same ∙ set_lines-cons l ls x))
@@ -42,9 +43,9 @@ lines-once (l ∷ ls) (m ∷ ms) x y one other bad also same =
     (ap₂ (λ a b. a ∷ b) first.0 rest.0, rest.1)
 
 pub nothing_begins : BeginsWithNoLine []
-nothing_begins numbers behind is e = let f : [] ≡ 115 ∷ 101 ∷ 116 ∷ (numbers_text numbers ++ 10 ∷ behind) = e ∙ set_line-text numbers behind in cc
+nothing_begins members behind is e = let f : [] ≡ 115 ∷ 101 ∷ 116 ∷ (members_text members ++ 10 ∷ behind) = e ∙ set_line-text members behind in cc
 
-pub AreLines-once : (text : List ℕ) (ls ms : List (List ℕ)) → AreLines text ls → AreLines text ms → ls ≡ ms
+pub AreLines-once : (text : List ℕ) (ls ms : List (List Member)) → AreLines text ls → AreLines text ms → ls ≡ ms
 AreLines-once text ls ms one other =
     (lines-once ls ms [] [] one.lines other.lines nothing_begins nothing_begins (append-nil (set_lines ls) ∙ sym one.whole ∙ other.whole ∙ sym (append-nil (set_lines ms)))).0
 
@@ -54,7 +55,7 @@ bad_line-once text i j one other =
     sym one.number ∙ ap length same ∙ other.number
 
 -- a text of lines alone has no bad line
-pub no_bad_line : (text : List ℕ) (ls : List (List ℕ)) (i : ℕ) → AreLines text ls → ¬ IsFirstBadLine text i
+pub no_bad_line : (text : List ℕ) (ls : List (List Member)) (i : ℕ) → AreLines text ls → ¬ IsFirstBadLine text i
 no_bad_line text ls i are bad =
     let both = lines-once bad.before ls bad.rest [] bad.lines are.lines bad.bad nothing_begins (sym bad.whole ∙ are.whole ∙ sym (append-nil (set_lines ls))) in
     elim bad.more [

@@ -1,38 +1,48 @@
--- Lines as they are read, number by number.
-use Rattle.std.proofs.Common.{◌≡◌, ℕ, ◌+◌, ◌<◌, ◌≤◌, ◌⊎◌, Bool, true, false, List, [], ◌∷◌, ◌++◌, length, Option, Some, None, inl, inr, refl, sym, ◌∙◌, ap, subst, arith, get_or, length-append, take}
+-- Lines as they are read, member by member.
+use Rattle.std.proofs.Common.{◌≡◌, ℕ, ◌+◌, ◌*◌, ◌<◌, ◌≤◌, ◌⊎◌, Bool, true, false, List, [], ◌∷◌, ◌++◌, length, Option, Some, None, inl, inr, refl, sym, ◌∙◌, ap, subst, arith, get_or, length-append, take}
 use Rattle.std.specs.Prelude.{Any}
 use Rattle.std.specs.List.{AllByRecursion}
-use Rattle.pat_place.specs.Patterns.{IsAscending}
-use Rattle.set_sum.specs.ReadLines.{IsRead, IsReadLine}
-use Rattle.set_sum.specs.SetTexts.{IsLine, numbers_text, numeral, set_line}
+use Rattle.set_sum.specs.ReadLines.{IsNext, IsRead, IsReadLine}
+use Rattle.set_sum.specs.SetTexts.{IsLine, members_text, member_text, set_line}
+use Rattle.set_sum.specs.declared.members.Member.{Member}
 use Rattle.set_sum.proofs.AnyLemmas.{Any-here, Any-left, Any-right}
 use Rattle.set_sum.proofs.LineLemmas.{set_line-text}
 use Rattle.set_sum.proofs.ListLemmas.{all_at, all_push, all_weaker}
-use Rattle.set_sum.proofs.NumeralLemmas.{BeginsWithEnd, GoesOn, begins, goes_on, numbers_text-push, tail_is}
+use Rattle.set_sum.proofs.NumeralLemmas.{BeginsWithEnd, GoesOn, begins, goes_on, members_text-push, tail_is}
+use Rattle.set_sum.proofs.OrderLemmas.{AreAscending, ascending_from, ascending_push, ascending_to, before-place, place, place-before, place-table}
 
--- what is kept of the numbers of a line, and whether all of them are of tables
-abbrev pub IsKept : ℕ → List ℕ → List ℕ → Bool → Type 0
-IsKept tables numbers kept true = (kept ≡ numbers) × AllByRecursion (λ i. i < tables) numbers
-IsKept tables numbers kept false = Any (λ i. tables ≤ i) numbers
+-- the members that may come next begin at this place
+abbrev pub next_place : Option Member → ℕ
+next_place None = 0
+next_place (Some last) = place last + 1
 
--- the text begins with the word `set` and some numbers, which are below `least`; behind them is the rest
-pub record HasNumbers (tables : ℕ) (text rest kept : List ℕ) (is_there : Bool) (least : ℕ) : Type 0 where
-  pub numbers : List ℕ
-  pub whole : text ≡ 115 ∷ 101 ∷ 116 ∷ (numbers_text numbers ++ rest)
-  pub short : AllByRecursion (λ n. n < 100) numbers
-  pub ascending : IsAscending numbers
-  pub below : AllByRecursion (λ n. n < least) numbers
-  pub last : (least ≡ 0) ⊎ Any (λ n. n + 1 ≡ least) numbers
-  pub few : length kept ≤ least
-  pub is_kept : IsKept tables numbers kept is_there
+pub next-place : (last : Option Member) (m : Member) → IsNext last m → next_place last ≤ place m
+next-place None m next = omega arith
+next-place (Some last) m next = let low : place last < place m = before-place last m next in omega arith
 
-ascending_push : (xs : List ℕ) (x : ℕ) → IsAscending xs → AllByRecursion (λ y. y < x) xs → IsAscending (xs ++ x ∷ [])
-ascending_push [] x up below = (tt, tt)
-ascending_push (y ∷ xs) x up below = (all_push (λ z. y < z) xs x up.0 below.0, ascending_push xs x up.1 below.1)
+place-next : (last : Option Member) (m : Member) → next_place last ≤ place m → IsNext last m
+place-next None m low = tt
+place-next (Some last) m low = place-before last m (let l : place last + 1 ≤ place m = low in omega arith)
 
-pub no_numbers : (tables : ℕ) (text rest : List ℕ) → text ≡ 115 ∷ 101 ∷ 116 ∷ 32 ∷ rest → HasNumbers tables text (32 ∷ rest) [] true 0
-no_numbers tables text rest is = record {
-  numbers = [];
+-- what is kept of the members of a line, and whether the tables of all of them are there
+abbrev pub IsKept : ℕ → List Member → List Member → Bool → Type 0
+IsKept tables members kept true = (kept ≡ members) × AllByRecursion (λ m. m.table < tables) members
+IsKept tables members kept false = Any (λ m. tables ≤ m.table) members
+
+-- the text begins with the word `set` and some members, which are before `next`; behind them is the rest
+pub record HasMembers (tables : ℕ) (text rest : List ℕ) (kept : List Member) (is_there : Bool) (next : ℕ) : Type 0 where
+  pub members : List Member
+  pub whole : text ≡ 115 ∷ 101 ∷ 116 ∷ (members_text members ++ rest)
+  pub short : AllByRecursion (λ m. m.table < 100) members
+  pub ascending : AreAscending members
+  pub below : AllByRecursion (λ m. place m < next) members
+  pub last : (next ≡ 0) ⊎ Any (λ m. place m + 1 ≡ next) members
+  pub few : length kept ≤ next
+  pub is_kept : IsKept tables members kept is_there
+
+pub no_members : (tables : ℕ) (text rest : List ℕ) → text ≡ 115 ∷ 101 ∷ 116 ∷ 32 ∷ rest → HasMembers tables text (32 ∷ rest) [] true 0
+no_members tables text rest is = record {
+  members = [];
   whole = is;
   short = tt;
   ascending = tt;
@@ -42,125 +52,136 @@ no_numbers tables text rest is = record {
   is_kept = (refl, tt);
 }
 
-module _ (tables : ℕ) (text rest kept : List ℕ) (is_there : Bool) (least number : ℕ) (behind : List ℕ) (so_far : HasNumbers tables text (32 ∷ rest) kept is_there least)
-    (short : number < 100) (up : least ≤ number) (is : rest ≡ numeral number ++ behind) where
-  whole_more : text ≡ 115 ∷ 101 ∷ 116 ∷ (numbers_text (so_far.numbers ++ number ∷ []) ++ behind)
+module _ (tables : ℕ) (text rest : List ℕ) (kept : List Member) (is_there : Bool) (next : ℕ) (m : Member) (behind : List ℕ) (so_far : HasMembers tables text (32 ∷ rest) kept is_there next)
+    (short : m.table < 100) (up : next ≤ place m) (is : rest ≡ member_text m ++ behind) where
+  whole_more : text ≡ 115 ∷ 101 ∷ 116 ∷ (members_text (so_far.members ++ m ∷ []) ++ behind)
   whole_more =
       so_far.whole ∙
-      ap (λ s. 115 ∷ 101 ∷ 116 ∷ (numbers_text so_far.numbers ++ 32 ∷ s)) is ∙
-      ap (λ s. 115 ∷ 101 ∷ 116 ∷ s) (sym (numbers_text-push so_far.numbers number behind))
+      ap (λ s. 115 ∷ 101 ∷ 116 ∷ (members_text so_far.members ++ 32 ∷ s)) is ∙
+      ap (λ s. 115 ∷ 101 ∷ 116 ∷ s) (sym (members_text-push so_far.members m behind))
 
-  more : (next : List ℕ) (there : Bool) → length next ≤ number + 1 → IsKept tables (so_far.numbers ++ number ∷ []) next there → HasNumbers tables text behind next there (number + 1)
-  more next there few is_kept = record {
-    numbers = so_far.numbers ++ number ∷ [];
+  more : (keeps : List Member) (there : Bool) → length keeps ≤ place m + 1 → IsKept tables (so_far.members ++ m ∷ []) keeps there → HasMembers tables text behind keeps there (place m + 1)
+  more keeps there few is_kept = record {
+    members = so_far.members ++ m ∷ [];
     whole = whole_more;
-    short = all_push (λ n. n < 100) so_far.numbers number so_far.short short;
-    ascending = ascending_push so_far.numbers number so_far.ascending (all_weaker (λ n. n < least) (λ n. n < number) (λ n low. omega arith) so_far.numbers so_far.below);
-    below = all_push (λ n. n < number + 1) so_far.numbers number (all_weaker (λ n. n < least) (λ n. n < number + 1) (λ n low. omega arith) so_far.numbers so_far.below) (omega arith);
-    last = inr (Any-right (λ n. n + 1 ≡ number + 1) so_far.numbers (number ∷ []) (Any-here (λ n. n + 1 ≡ number + 1) number [] refl));
+    short = all_push (λ o. o.table < 100) so_far.members m so_far.short short;
+    ascending = ascending_push so_far.members m so_far.ascending (all_weaker (λ o. place o < next) (λ o. place o < place m) (λ o low. omega arith) so_far.members so_far.below);
+    below = all_push (λ o. place o < place m + 1) so_far.members m (all_weaker (λ o. place o < next) (λ o. place o < place m + 1) (λ o low. omega arith) so_far.members so_far.below) (omega arith);
+    last = inr (Any-right (λ o. place o + 1 ≡ place m + 1) so_far.members (m ∷ []) (Any-here (λ o. place o + 1 ≡ place m + 1) m [] refl));
     few = few;
     is_kept = is_kept;
   }
 
-  -- a number of a table is kept
-  pub more_there : number < tables → (next : List ℕ) → next ≡ kept ++ number ∷ [] → length next ≤ number + 1 → HasNumbers tables text behind next is_there (number + 1)
-  more_there low next pushed few = more next is_there few (go is_there so_far.is_kept)
+  -- a member is kept where its table is there
+  pub more_there : m.table < tables → (keeps : List Member) → keeps ≡ kept ++ m ∷ [] → length keeps ≤ place m + 1 → HasMembers tables text behind keeps is_there (place m + 1)
+  more_there low keeps pushed few = more keeps is_there few (go is_there so_far.is_kept)
     where
-      go : (there : Bool) → IsKept tables so_far.numbers kept there → IsKept tables (so_far.numbers ++ number ∷ []) next there
-      go true h = (pushed ∙ ap (λ s. s ++ number ∷ []) h.0, all_push (λ i. i < tables) so_far.numbers number h.1 low)
-      go false h = Any-left (λ i. tables ≤ i) so_far.numbers (number ∷ []) h
+      go : (there : Bool) → IsKept tables so_far.members kept there → IsKept tables (so_far.members ++ m ∷ []) keeps there
+      go true h = (pushed ∙ ap (λ s. s ++ m ∷ []) h.0, all_push (λ o. o.table < tables) so_far.members m h.1 low)
+      go false h = Any-left (λ o. tables ≤ o.table) so_far.members (m ∷ []) h
 
   -- any other is not
-  pub more_missing : tables ≤ number → HasNumbers tables text behind kept false (number + 1)
-  more_missing high = more kept false (let few = so_far.few in omega arith) (Any-right (λ i. tables ≤ i) so_far.numbers (number ∷ []) (Any-here (λ i. tables ≤ i) number [] high))
+  pub more_missing : tables ≤ m.table → HasMembers tables text behind kept false (place m + 1)
+  more_missing high = more kept false (let few = so_far.few in omega arith) (Any-right (λ o. tables ≤ o.table) so_far.members (m ∷ []) (Any-here (λ o. tables ≤ o.table) m [] high))
 
--- a number is kept where it is that of a table
-abbrev pub IsPushed : ℕ → ℕ → List ℕ → Bool → List ℕ → Bool → Type 0
-IsPushed tables number kept is_there next there =
-    ((number < tables) × (next ≡ kept ++ number ∷ []) × (there ≡ is_there)) ⊎ ((tables ≤ number) × (next ≡ kept) × (there ≡ false))
+-- a member is kept where its table is there
+abbrev pub IsPushed : ℕ → Member → List Member → Bool → List Member → Bool → Type 0
+IsPushed tables m kept is_there keeps there =
+    ((m.table < tables) × (keeps ≡ kept ++ m ∷ []) × (there ≡ is_there)) ⊎ ((tables ≤ m.table) × (keeps ≡ kept) × (there ≡ false))
 
-pub number_more : (tables : ℕ) (text rest kept : List ℕ) (is_there : Bool) (least number : ℕ) (behind : List ℕ) → HasNumbers tables text (32 ∷ rest) kept is_there least
-    → number < 100 → least ≤ number → rest ≡ numeral number ++ behind → (next : List ℕ) (there : Bool) → IsPushed tables number kept is_there next there → HasNumbers tables text behind next there (number + 1)
-number_more tables text rest kept is_there least number behind so_far short up is next there pushed = elim pushed [
+pub member_more : (tables : ℕ) (text rest : List ℕ) (kept : List Member) (is_there : Bool) (last : Option Member) (m : Member) (behind : List ℕ) → HasMembers tables text (32 ∷ rest) kept is_there (next_place last)
+    → m.table < 100 → IsNext last m → rest ≡ member_text m ++ behind → (keeps : List Member) (there : Bool) → IsPushed tables m kept is_there keeps there → HasMembers tables text behind keeps there (place m + 1)
+member_more tables text rest kept is_there last m behind so_far short next is keeps there pushed = elim pushed [
   | inl low ↦
-      let few : length kept ≤ least = so_far.few in
-      let count : length next ≡ length kept + 1 = ap length low.1 ∙ length-append kept (number ∷ []) in
-      subst (λ t. HasNumbers tables text behind next t (number + 1)) (sym low.2) (more_there tables text rest kept is_there least number behind so_far short up is low.0 next low.1 (omega arith))
+      let up = next-place last m next in
+      let few : length kept ≤ next_place last = so_far.few in
+      let count : length keeps ≡ length kept + 1 = ap length low.1 ∙ length-append kept (m ∷ []) in
+      subst (λ t. HasMembers tables text behind keeps t (place m + 1)) (sym low.2) (more_there tables text rest kept is_there (next_place last) m behind so_far short up is low.0 keeps low.1 (omega arith))
   | inr high ↦
-      subst (λ t. HasNumbers tables text behind next t (number + 1)) (sym high.2) (
-      subst (λ n. HasNumbers tables text behind n false (number + 1)) (sym high.1) (more_missing tables text rest kept is_there least number behind so_far short up is high.0))
+      let up = next-place last m next in
+      subst (λ t. HasMembers tables text behind keeps t (place m + 1)) (sym high.2) (
+      subst (λ k. HasMembers tables text behind k false (place m + 1)) (sym high.1) (more_missing tables text rest kept is_there (next_place last) m behind so_far short up is high.0))
 ]
 
+-- there is room for a member whose table is there, where there are few tables
+pub member_room : (tables : ℕ) (text rest : List ℕ) (kept : List Member) (is_there : Bool) (last : Option Member) (m : Member) → HasMembers tables text rest kept is_there (next_place last)
+    → IsNext last m → m.table < tables → length kept < 2 * tables
+member_room tables text rest kept is_there last m so_far next low =
+    let few : length kept ≤ next_place last = so_far.few in
+    let up = next-place last m next in
+    let high = (place-table m).1 in
+    omega arith
+
 -- LF ends the line
-pub line_read : (tables : ℕ) (text rest kept : List ℕ) (is_there : Bool) (least : ℕ) → HasNumbers tables text (10 ∷ rest) kept is_there (least + 1)
-    → (set : Option (List ℕ)) → ((is_there ≡ true) × (set ≡ Some kept)) ⊎ ((is_there ≡ false) × (set ≡ None)) → IsReadLine tables text set rest
-line_read tables text rest kept is_there least has set end = record {
-  numbers = has.numbers;
-  is_line = record { some = some_numbers has.numbers has.last; short = has.short; ascending = has.ascending };
-  whole = has.whole ∙ sym (set_line-text has.numbers rest);
+pub line_read : (tables : ℕ) (text rest : List ℕ) (kept : List Member) (is_there : Bool) (next : ℕ) → HasMembers tables text (10 ∷ rest) kept is_there (next + 1)
+    → (set : Option (List Member)) → ((is_there ≡ true) × (set ≡ Some kept)) ⊎ ((is_there ≡ false) × (set ≡ None)) → IsReadLine tables text set rest
+line_read tables text rest kept is_there next has set end = record {
+  members = has.members;
+  is_line = record { some = some_members has.members has.last; short = has.short; ascending = ascending_to has.members has.ascending };
+  whole = has.whole ∙ sym (set_line-text has.members rest);
   is_read = elim end [
-    | inl there ↦ subst (IsRead tables has.numbers) (sym there.1) (subst (IsKept tables has.numbers kept) there.0 has.is_kept)
-    | inr missing ↦ subst (IsRead tables has.numbers) (sym missing.1) (subst (IsKept tables has.numbers kept) missing.0 has.is_kept)
+    | inl there ↦ subst (IsRead tables has.members) (sym there.1) (subst (IsKept tables has.members kept) there.0 has.is_kept)
+    | inr missing ↦ subst (IsRead tables has.members) (sym missing.1) (subst (IsKept tables has.members kept) missing.0 has.is_kept)
   ];
 }
   where
-    some_numbers : (xs : List ℕ) → (least + 1 ≡ 0) ⊎ Any (λ n. n + 1 ≡ least + 1) xs → 0 < length xs
-    some_numbers xs h = elim h [ inl none ↦ omega arith | inr any ↦ let low : any.0 < length xs = any.2 in omega arith ]
+    some_members : (ms : List Member) → (next + 1 ≡ 0) ⊎ Any (λ m. place m + 1 ≡ next + 1) ms → 0 < length ms
+    some_members ms h = elim h [ inl none ↦ omega arith | inr any ↦ let low : any.0 < length ms = any.2 in omega arith ]
 
--- a line has a further number behind a space, and behind it a space or LF
-pub record NextNumber (rest : List ℕ) (least : ℕ) : Type 0 where
-  pub number : ℕ
+-- a line has a further member behind a space, and behind it a space or LF
+pub record NextMember (rest : List ℕ) (last : Option Member) : Type 0 where
+  pub member : Member
   pub end : ℕ
   pub behind : List ℕ
-  pub short : number < 100
-  pub up : least ≤ number
+  pub short : member.table < 100
+  pub next : IsNext last member
   pub is_end : (end ≡ 32) ⊎ (end ≡ 10)
-  pub text : rest ≡ numeral number ++ end ∷ behind
+  pub text : rest ≡ member_text member ++ end ∷ behind
 
-all_middle : (P : ℕ → Type 0) (xs : List ℕ) (x : ℕ) (ys : List ℕ) → AllByRecursion P (xs ++ x ∷ ys) → P x
+all_middle : (P : Member → Type 0) (xs : List Member) (x : Member) (ys : List Member) → AllByRecursion P (xs ++ x ∷ ys) → P x
 all_middle P [] x ys all = all.0
 all_middle P (y ∷ xs) x ys all = all_middle P xs x ys all.1
 
-ascending_middle : (xs : List ℕ) (x : ℕ) (ys : List ℕ) → IsAscending (xs ++ x ∷ ys) → AllByRecursion (λ y. y < x) xs
+ascending_middle : (xs : List Member) (x : Member) (ys : List Member) → AreAscending (xs ++ x ∷ ys) → AllByRecursion (λ y. place y < place x) xs
 ascending_middle [] x ys up = tt
-ascending_middle (y ∷ xs) x ys up = (all_middle (λ z. y < z) xs x ys up.0, ascending_middle xs x ys up.1)
+ascending_middle (y ∷ xs) x ys up = (all_middle (λ z. place y < place z) xs x ys up.0, ascending_middle xs x ys up.1)
 
-pub next_number : (tables : ℕ) (text rest kept : List ℕ) (is_there : Bool) (least : ℕ) → HasNumbers tables text (32 ∷ rest) kept is_there least
-    → (numbers behind : List ℕ) → IsLine numbers → text ≡ set_line numbers ++ behind → NextNumber rest least
-next_number tables text rest kept is_there least has numbers behind line is = record {
-  number = on.number;
+pub next_member : (tables : ℕ) (text rest : List ℕ) (kept : List Member) (is_there : Bool) (last : Option Member) → HasMembers tables text (32 ∷ rest) kept is_there (next_place last)
+    → (members : List Member) (behind : List ℕ) → IsLine members → text ≡ set_line members ++ behind → NextMember rest last
+next_member tables text rest kept is_there last has members behind line is = record {
+  member = on.member;
   end = first.byte;
   behind = first.rest;
-  short = all_middle (λ n. n < 100) has.numbers on.number on.others (subst (AllByRecursion (λ n. n < 100)) on.numbers_are line.short);
-  up = above;
+  short = all_middle (λ m. m.table < 100) has.members on.member on.others (subst (AllByRecursion (λ m. m.table < 100)) on.members_are line.short);
+  next = place-next last on.member above;
   is_end = first.end;
-  text = on.text ∙ ap (λ s. numeral on.number ++ s) first.is;
+  text = on.text ∙ ap (λ s. member_text on.member ++ s) first.is;
 }
   where
-    same : 115 ∷ 101 ∷ 116 ∷ (numbers_text has.numbers ++ 32 ∷ rest) ≡ 115 ∷ 101 ∷ 116 ∷ (numbers_text numbers ++ 10 ∷ behind)
-    same = sym has.whole ∙ is ∙ set_line-text numbers behind
+    same : 115 ∷ 101 ∷ 116 ∷ (members_text has.members ++ 32 ∷ rest) ≡ 115 ∷ 101 ∷ 116 ∷ (members_text members ++ 10 ∷ behind)
+    same = sym has.whole ∙ is ∙ set_line-text members behind
 
-    on : GoesOn has.numbers numbers rest behind
+    on : GoesOn has.members members rest behind
     on =
-        let s : List ℕ = numbers_text has.numbers ++ 32 ∷ rest in
-        let t : List ℕ = numbers_text numbers ++ 10 ∷ behind in
-        goes_on has.numbers numbers rest behind has.short line.short (tail_is 116 116 s t (tail_is 101 101 (116 ∷ s) (116 ∷ t) (tail_is 115 115 (101 ∷ 116 ∷ s) (101 ∷ 116 ∷ t) same)))
+        let s : List ℕ = members_text has.members ++ 32 ∷ rest in
+        let t : List ℕ = members_text members ++ 10 ∷ behind in
+        goes_on has.members members rest behind has.short line.short (tail_is 116 116 s t (tail_is 101 101 (116 ∷ s) (116 ∷ t) (tail_is 115 115 (101 ∷ 116 ∷ s) (101 ∷ 116 ∷ t) same)))
 
-    first : BeginsWithEnd (numbers_text on.others ++ 10 ∷ behind)
+    first : BeginsWithEnd (members_text on.others ++ 10 ∷ behind)
     first = begins on.others 10 behind (inr refl)
 
-    above : least ≤ on.number
+    above : next_place last ≤ place on.member
     above = elim has.last [
       | inl none ↦ omega arith
       | inr any ↦
-          let all = ascending_middle has.numbers on.number on.others (subst IsAscending on.numbers_are line.ascending) in
-          let low : get_or has.numbers any.0 any.1 < on.number = all_at (λ y. y < on.number) has.numbers any.0 any.1 any.2 all in
-          let e : get_or has.numbers any.0 any.1 ≡ any.1 = any.3 in
-          let f : any.1 + 1 ≡ least = any.4 in
+          let all = ascending_middle has.members on.member on.others (subst AreAscending on.members_are (ascending_from members line.ascending)) in
+          let low : place (get_or has.members any.0 any.1) < place on.member = all_at (λ m. place m < place on.member) has.members any.0 any.1 any.2 all in
+          let e : place (get_or has.members any.0 any.1) ≡ place any.1 = ap place any.3 in
+          let f : place any.1 + 1 ≡ next_place last = any.4 in
           omega arith
     ]
 
 -- the line of a set begins with the word `set` and a space
-pub begins_with_set : (text numbers behind : List ℕ) → IsLine numbers → text ≡ set_line numbers ++ behind → take 4 text ≡ 115 ∷ 101 ∷ 116 ∷ 32 ∷ []
+pub begins_with_set : (text : List ℕ) (members : List Member) (behind : List ℕ) → IsLine members → text ≡ set_line members ++ behind → take 4 text ≡ 115 ∷ 101 ∷ 116 ∷ 32 ∷ []
 begins_with_set text [] behind line is = absurd (let some : 0 < 0 = line.some in omega arith)
-begins_with_set text (n ∷ numbers) behind line is = ap (take 4) (is ∙ set_line-text (n ∷ numbers) behind)
+begins_with_set text (m ∷ members) behind line is = ap (take 4) (is ∙ set_line-text (m ∷ members) behind)

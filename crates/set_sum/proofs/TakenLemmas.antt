@@ -8,33 +8,34 @@ use Rattle.puz_board.specs.Costs.{has}
 use Rattle.puz_board.specs.Masks.{numbers_of}
 use Rattle.puz_board.proofs.BitLemmas.{both_in, either_in, in_below, in_both, in_left, in_right}
 use Rattle.pat_place.proofs.MaskLemmas.{has-numbers_below, in_numbers_below}
-use Rattle.set_sum.specs.Sums.{AreDisjoint, HaveOverlap, Overlap}
+use Rattle.set_sum.specs.Sums.{AreDisjoint, HaveOverlap, HaveTwo, Overlap}
 use Rattle.set_sum.proofs.AnyLemmas.{Any-cases, Any-either, Any-here, Any-later, Any-left, Any-none, Any-right, Any-weaker}
 
--- ---- one pattern more
+-- ---- one element more
 
-pub overlap_push : (ps : List (List ℕ)) (q : List ℕ) → HaveOverlap (ps ++ q ∷ []) → HaveOverlap ps ⊎ Any (λ p. Overlap p q) ps
-overlap_push [] q h = elim h [ inl some ↦ absurd (Any-none (Overlap q) some) | inr more ↦ absurd more ]
-overlap_push (p ∷ ps) q h = elim h [
-  | inl some ↦ elim (Any-either (Overlap p) ps (q ∷ []) some) [
-    | inl old ↦ inl (inl old)
-    | inr new ↦ elim (Any-cases (Overlap p) q [] new) [
-      | inl meets ↦ inr (Any-here (λ p. Overlap p q) p ps meets)
-      | inr none ↦ absurd (Any-none (Overlap p) none)
+module _ {X : Type 0} (R : X → X → Type 0) where
+  pub two_push : (ps : List X) (q : X) → HaveTwo R (ps ++ q ∷ []) → HaveTwo R ps ⊎ Any (λ p. R p q) ps
+  two_push [] q h = elim h [ inl some ↦ absurd (Any-none (R q) some) | inr more ↦ absurd more ]
+  two_push (p ∷ ps) q h = elim h [
+    | inl some ↦ elim (Any-either (R p) ps (q ∷ []) some) [
+      | inl old ↦ inl (inl old)
+      | inr new ↦ elim (Any-cases (R p) q [] new) [
+        | inl meets ↦ inr (Any-here (λ p. R p q) p ps meets)
+        | inr none ↦ absurd (Any-none (R p) none)
+      ]
+    ]
+    | inr more ↦ elim (two_push ps q more) [
+      | inl old ↦ inl (inr old)
+      | inr new ↦ inr (Any-later (λ p. R p q) p ps new)
     ]
   ]
-  | inr more ↦ elim (overlap_push ps q more) [
-    | inl old ↦ inl (inr old)
-    | inr new ↦ inr (Any-later (λ p. Overlap p q) p ps new)
-  ]
-]
 
-overlap_new : (ps : List (List ℕ)) (q : List ℕ) (rest : List (List ℕ)) → Any (λ p. Overlap p q) ps → HaveOverlap (ps ++ q ∷ rest)
-overlap_new [] q rest h = absurd (Any-none (λ p. Overlap p q) h)
-overlap_new (p ∷ ps) q rest h = elim (Any-cases (λ p. Overlap p q) p ps h) [
-  | inl meets ↦ inl (Any-right (Overlap p) ps (q ∷ rest) (Any-here (Overlap p) q rest meets))
-  | inr later ↦ inr (overlap_new ps q rest later)
-]
+  pub two_new : (ps : List X) (q : X) (rest : List X) → Any (λ p. R p q) ps → HaveTwo R (ps ++ q ∷ rest)
+  two_new [] q rest h = absurd (Any-none (λ p. R p q) h)
+  two_new (p ∷ ps) q rest h = elim (Any-cases (λ p. R p q) p ps h) [
+    | inl meets ↦ inl (Any-right (R p) ps (q ∷ rest) (Any-here (R p) q rest meets))
+    | inr later ↦ inr (two_new ps q rest later)
+  ]
 
 -- ---- the mask
 
@@ -63,7 +64,7 @@ module _ (ps : List (List ℕ)) (mask m : ℕ) (q : List ℕ) (taken : IsTaken p
 
   pub taken_more : bit_and mask m ≡ 0 → IsTaken (ps ++ q ∷ []) (bit_or mask m)
   taken_more none = record {
-    disjoint = λ h. elim (overlap_push ps q h) [
+    disjoint = λ h. elim (two_push Overlap ps q h) [
       | inl old ↦ taken.disjoint old
       | inr new ↦
           let t : ℕ = new.4.0 in
@@ -92,4 +93,4 @@ module _ (ps : List (List ℕ)) (mask m : ℕ) (q : List ℕ) (taken : IsTaken p
       let found = bit_at-trailing_zeros w32 (bit_and mask m) (omega arith) (omega arith) in
       let t : ℕ = trailing_zeros w32 (bit_and mask m) in
       let parts = both_in mask m t found.1 in
-      overlap_new ps q rest (Any-weaker (HasTile t) (λ p. Overlap p q) (λ p is_tile. (t, is_tile, of_bit t parts.1)) ps (taken.covers t parts.0))
+      two_new Overlap ps q rest (Any-weaker (HasTile t) (λ p. Overlap p q) (λ p is_tile. (t, is_tile, of_bit t parts.1)) ps (taken.covers t parts.0))

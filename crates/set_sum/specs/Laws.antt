@@ -1,41 +1,53 @@
 -- What holds of all sets of disjoint patterns, and of all set texts.
 use Rattle.std.specs.Prelude.{◌≡◌, ◌⊎◌, ℕ, ◌≤◌, List, length}
 use Rattle.puz_board.specs.Boards.{IsBoardOf}
-use Rattle.tab_file.specs.Tables.{Table}
+use Rattle.pat_place.specs.Patterns.{IsPattern}
 use Rattle.tab_check.specs.declared.tables.Count.{Count}
 use Rattle.set_sum.specs.Bounds.{BoundsSolutions}
 use Rattle.set_sum.specs.Bundles.{BundleView, IsSetOf}
+use Rattle.set_sum.specs.Members.{MemberSays, own_part, table_pattern}
+use Rattle.set_sum.specs.Parts.{PartSays, PartView}
 use Rattle.set_sum.specs.Reading.{IsBundleOf, IsFaultOf}
 use Rattle.set_sum.specs.Sums.{AreDisjoint, SetSays, total_cost}
 use Rattle.set_sum.specs.declared.faults.SetFault.{SetFault}
+use Rattle.set_sum.specs.declared.members.Member.{Member}
+use Rattle.set_sum.specs.declared.parts.Part.{Part}
 
 -- what a path costs disjoint patterns together is at most its number of steps, since each step moves one tile
 abbrev pub DisjointCostsAreWithinTheLength : Type 0
 DisjointCostsAreWithinTheLength = (patterns : List (List ℕ)) → AreDisjoint patterns → (b path : List ℕ) → total_cost patterns b path ≤ length path
 
--- what a set of disjoint patterns says of a board bounds the board's solutions
+-- what a set of members with disjoint patterns says of a board bounds the board's solutions
 abbrev pub SetsBoundSolutions : Type 0
 SetsBoundSolutions =
-    (n : ℕ) (set : List (List ℕ)) → IsSetOf n set → (b : List ℕ) → IsBoardOf n b → (count : Count) → SetSays set b count → BoundsSolutions b count
+    (n : ℕ) (tables : List PartView) (set : List Member) → IsSetOf n tables set → (b : List ℕ) → IsBoardOf n b → (count : Count) →
+    SetSays tables set b count → BoundsSolutions b count
+
+-- what a member says of a board is what a table of its own pattern says of it
+abbrev pub MembersSayTheirPatterns : Type 0
+MembersSayTheirPatterns =
+    (n : ℕ) (tables : List PartView) (m : Member) → IsPattern (record { side = n; tiles = table_pattern tables m }) → (b : List ℕ) → IsBoardOf n b →
+    (count : Count) → MemberSays tables m b count → PartSays (own_part n tables m) b count
 
 -- no set says two things of a board
 abbrev pub SetsSayOneThing : Type 0
-SetsSayOneThing = (set : List (List ℕ)) (b : List ℕ) (c d : Count) → SetSays set b c → SetSays set b d → c ≡ d
+SetsSayOneThing =
+    (tables : List PartView) (set : List Member) (b : List ℕ) (c d : Count) → SetSays tables set b c → SetSays tables set b d → c ≡ d
 
 -- ---- one answer
 
 -- no tables and text make two bundles
 abbrev pub TextsHaveOneBundle : Type 0
-TextsHaveOneBundle = (tables : List Table) (text : List ℕ) (v w : BundleView) → IsBundleOf tables text v → IsBundleOf tables text w → v ≡ w
+TextsHaveOneBundle = (tables : List Part) (text : List ℕ) (v w : BundleView) → IsBundleOf tables text v → IsBundleOf tables text w → v ≡ w
 
 -- none have two faults
 abbrev pub TextsHaveOneFault : Type 0
-TextsHaveOneFault = (tables : List Table) (text : List ℕ) (f g : SetFault) → IsFaultOf f tables text → IsFaultOf g tables text → f ≡ g
+TextsHaveOneFault = (tables : List Part) (text : List ℕ) (f g : SetFault) → IsFaultOf f tables text → IsFaultOf g tables text → f ≡ g
 
 -- none make a bundle and have a fault
 abbrev pub BundlesHaveNoFault : Type 0
-BundlesHaveNoFault = (tables : List Table) (text : List ℕ) (v : BundleView) (f : SetFault) → IsBundleOf tables text v → ¬ IsFaultOf f tables text
+BundlesHaveNoFault = (tables : List Part) (text : List ℕ) (v : BundleView) (f : SetFault) → IsBundleOf tables text v → ¬ IsFaultOf f tables text
 
 -- all tables and all texts make a bundle or have a fault
 abbrev pub TextsHaveAnAnswer : Type 0
-TextsHaveAnAnswer = (tables : List Table) (text : List ℕ) → ((v : BundleView) × IsBundleOf tables text v) ⊎ ((f : SetFault) × IsFaultOf f tables text)
+TextsHaveAnAnswer = (tables : List Part) (text : List ℕ) → ((v : BundleView) × IsBundleOf tables text v) ⊎ ((f : SetFault) × IsFaultOf f tables text)

@@ -1,6 +1,9 @@
 pub mod Bounds
 pub mod Bundles
 pub mod Laws
+pub mod Members
+pub mod Parity
+pub mod Parts
 pub mod Reading
 pub mod ReadLines
 pub mod SetTexts

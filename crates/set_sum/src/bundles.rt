@@ -4,36 +4,42 @@ ghost use Rattle.std.specs.Prelude.{◌≡◌, ◌<◌, ◌≤◌, Err, IfErr, I
 ghost use Rattle.std.specs.List.{AllByRecursion};
 ghost use Rattle.puz_board.specs.Boards.{side_of};
 ghost use Rattle.set_sum.specs.Bounds.{BoundsSolutions};
-ghost use Rattle.set_sum.specs.Bundles.{BundleView, IsBundle, Says, most_tables};
+ghost use Rattle.set_sum.specs.Bundles.{BundleView, IsBundle, Says, most_members};
+ghost use Rattle.set_sum.specs.Parts.{no_part, part_pattern, part_shown};
 ghost use Rattle.set_sum.specs.ReadLines.{AreSetsOf};
-ghost use Rattle.set_sum.specs.Reading.{AreAlike, IsBundleOf, IsFaultOf, IsFirstWith, NamesOverlap};
+ghost use Rattle.set_sum.specs.Reading.{AreAlike, IsBundleOf, IsFaultOf, IsFirstWith, NamesOverlap, NamesTwice};
 ghost use Rattle.set_sum.specs.declared.faults.SetFault.{SetFault};
 
 use crate::faults::SetFault;
 use crate::lines::read_lines;
-use crate::tables::{one_side, overlap, sum_of};
+use crate::members::Member;
+use crate::parts::Part;
+use crate::tables::{one_side, overlap, sum_of, twice};
 use arrayvec::ArrayVec;
 use puz_board::{Board, Side};
 use std::marker::Model;
-use tab_check::{CheckedTable, Count};
+use tab_check::Count;
 
 /// The most tables of a bundle.
 pub const MOST_TABLES: usize = 16;
 
+/// The most members of a set: two for each table.
+pub const MOST_MEMBERS: usize = 2 * MOST_TABLES;
+
 /// The most sets of a bundle.
 pub(crate) const MOST_SETS: usize = 16;
 
-/// The numbers of the tables of a set, ascending.
-pub(crate) type Set = ArrayVec<u8, MOST_TABLES>;
+/// The members of a set, each before the next.
+pub(crate) type Set = ArrayVec<Member, MOST_MEMBERS>;
 
-/// Checked tables of one side, and sets of disjoint ones among them: no tile is in two tables of a set.
+/// Checked tables of one side, full or folded, and sets of disjoint members: no tile is in the patterns of two members of a set.
 ///
-/// A move moves one tile, so the counts that the tables of a set tell of a board may be added, and the sum is at most the
+/// A move moves one tile, so the counts that the members of a set tell of a board may be added, and the sum is at most the
 /// number of moves of any solution (Korf and Felner 2002).
 #[derive(Drop)]
 pub struct Bundle<'a> {
     side: Side,
-    tables: Vec<CheckedTable<'a>>,
+    tables: Vec<Part<'a>>,
     sets: ArrayVec<Set, MOST_SETS>,
 }
 
@@ -50,11 +56,12 @@ impl<'a> Model for Bundle<'a> {
 }
 
 impl<'a> Bundle<'a> {
-    /// The bundle of tables and a set text: a line for each set, with the word `set` and the numbers of its tables.
+    /// The bundle of tables and a set text: a line for each set, with the word `set` and its members. A member is the number of
+    /// a table, and behind it a `t` where the member is transposed.
     ///
     /// There are 1 to 16 tables, which are numbered from 0 in the order in which they come, and 1 to 16 lines. No memory is
     /// taken. After a refusal the tables are dropped.
-    pub fn read(tables: Vec<CheckedTable<'a>>, text: &[u8]) -> Result<Bundle<'a>, SetFault>
+    pub fn read(tables: Vec<Part<'a>>, text: &[u8]) -> Result<Bundle<'a>, SetFault>
         // A bundle comes exactly of tables and a text that make it.
         ensures ok { IfOk result (λ bundle. IsBundleOf tables.entry.items text.now bundle) }
         ensures made { (bundle : BundleView) → IsBundleOf tables.entry.items text.now bundle → result ≡ Ok bundle }
@@ -82,11 +89,11 @@ impl<'a> Bundle<'a> {
         self.tables.len() as u8
     }
 
-    /// The table with a number: that of the pattern in this place.
-    pub fn table(&self, number: u8) -> &CheckedTable<'a>
+    /// The table with a number, full or folded.
+    pub fn part(&self, number: u8) -> &Part<'a>
         requires { number < length self.now.tables }
-        ensures side { result.now.pattern.side ≡ self.now.side }
-        ensures tiles { result.now.pattern.tiles ≡ slice_index_or self.now.tables number [] }
+        ensures side { (part_pattern result.now).side ≡ self.now.side }
+        ensures part { part_shown result.now ≡ slice_index_or self.now.tables number no_part }
     {
         &self.tables[usize::from(number)]
     }
@@ -99,17 +106,17 @@ impl<'a> Bundle<'a> {
         self.sets.len() as u8
     }
 
-    /// The numbers of the tables of a set, ascending.
-    pub fn set(&self, set: u8) -> &[u8]
+    /// The members of a set, each before the next: by the numbers of their tables, and of one table first the plain member.
+    pub fn members(&self, set: u8) -> &[Member]
         requires { set < length self.now.sets }
-        ensures numbers { result.now ≡ slice_index_or self.now.sets set [] }
-        ensures there { AllByRecursion (λ number. number < length self.now.tables) result.now }
-        ensures few { length result.now ≤ most_tables }
+        ensures members { result.now ≡ slice_index_or self.now.sets set [] }
+        ensures there { AllByRecursion (λ member. member.table < length self.now.tables) result.now }
+        ensures few { length result.now ≤ most_members }
     {
         self.sets[usize::from(set)].as_slice()
     }
 
-    /// The sum of what the tables of a set tell of a board, and `Never` where one of them does.
+    /// The sum of what the members of a set say of a board, and `Never` where one of them does.
     pub fn sum(&self, set: u8, board: &Board) -> Count
         requires set { set < length self.now.sets }
         requires side { side_of board.now ≡ self.now.side }
@@ -124,7 +131,7 @@ impl<'a> Bundle<'a> {
 }
 
 /// Makes the bundle of tables and a set text.
-fn make_bundle<'a>(tables: Vec<CheckedTable<'a>>, text: &[u8]) -> Result<Bundle<'a>, SetFault>
+fn make_bundle<'a>(tables: Vec<Part<'a>>, text: &[u8]) -> Result<Bundle<'a>, SetFault>
     ensures ok { IfOk result (λ bundle. IsBundleOf tables.entry.items text.now bundle) }
     ensures err { IfErr result (λ fault. IsFaultOf fault tables.entry.items text.now) }
 {
@@ -134,7 +141,7 @@ fn make_bundle<'a>(tables: Vec<CheckedTable<'a>>, text: &[u8]) -> Result<Bundle<
 }
 
 /// Reads the sets of a set text over tables of one side.
-fn read_sets(tables: &[CheckedTable<'_>], text: &[u8]) -> Result<ArrayVec<Set, MOST_SETS>, SetFault>
+fn read_sets(tables: &[Part<'_>], text: &[u8]) -> Result<ArrayVec<Set, MOST_SETS>, SetFault>
     requires { AreAlike tables.now }
     ensures ok { IfOk result (λ kept. AreSetsOf tables.now text.now (map (λ set. set.items) kept.items)) }
     ensures err { IfErr result (λ fault. IsFaultOf fault tables.now text.now) }
@@ -149,16 +156,37 @@ fn read_sets(tables: &[CheckedTable<'_>], text: &[u8]) -> Result<ArrayVec<Set, M
     if let Some(line) = lines.missing {
         return Err(SetFault::S2(line as u8));
     }
+    if let Some(line) = first_twice(tables, &lines.sets) {
+        return Err(SetFault::S6(line as u8));
+    }
     if let Some(line) = first_overlap(tables, &lines.sets) {
         return Err(SetFault::S3(line as u8));
     }
     Ok(lines.sets)
 }
 
-/// The first of some sets two of whose tables share a tile.
-fn first_overlap(tables: &[CheckedTable<'_>], sets: &[Set]) -> Option<usize>
-    requires { AllByRecursion (AllByRecursion (λ i. i < length tables.now)) (map (λ set. set.items) sets.now) }
-    ensures { MatchOption result (AllByRecursion (λ numbers. ¬ NamesOverlap tables.now numbers) (map (λ set. set.items) sets.now))
+/// The first of some sets two of whose members have one pattern where one of them is transposed.
+fn first_twice(tables: &[Part<'_>], sets: &[Set]) -> Option<usize>
+    requires side { AreAlike tables.now }
+    requires there { AllByRecursion (AllByRecursion (λ member. member.table < length tables.now))
+        (map (λ set. set.items) sets.now) }
+    ensures { MatchOption result (AllByRecursion (λ set. ¬ NamesTwice tables.now set) (map (λ set. set.items) sets.now))
+        (IsFirstWith (NamesTwice tables.now) (map (λ set. set.items) sets.now)) }
+{
+    for (line, set) in sets.iter().enumerate() {
+        if twice(tables, set) {
+            return Some(line);
+        }
+    }
+    None
+}
+
+/// The first of some sets two of whose members share a tile.
+fn first_overlap(tables: &[Part<'_>], sets: &[Set]) -> Option<usize>
+    requires side { AreAlike tables.now }
+    requires there { AllByRecursion (AllByRecursion (λ member. member.table < length tables.now))
+        (map (λ set. set.items) sets.now) }
+    ensures { MatchOption result (AllByRecursion (λ set. ¬ NamesOverlap tables.now set) (map (λ set. set.items) sets.now))
         (IsFirstWith (NamesOverlap tables.now) (map (λ set. set.items) sets.now)) }
 {
     for (line, set) in sets.iter().enumerate() {

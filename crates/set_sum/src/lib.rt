@@ -7,7 +7,11 @@ mod bundles;
 mod faults;
 pub mod laws;
 mod lines;
+mod members;
+mod parts;
 mod tables;
 
-pub use bundles::{Bundle, MOST_TABLES};
+pub use bundles::{Bundle, MOST_MEMBERS, MOST_TABLES};
 pub use faults::SetFault;
+pub use members::Member;
+pub use parts::Part;

@@ -1,17 +1,19 @@
-//! Set texts: a line for each set, with the numbers of its tables.
+//! Set texts: a line for each set, with its members.
 
-ghost use Rattle.std.specs.Prelude.{◌≡◌, ℕ, ◌+◌, ◌<◌, ◌≤◌, ◌∷◌, ◌++◌, ◌⊎◌, [], false, IfErr, IfOk, IfSome, IsSome, IsSomeAnd, List, map, option_map};
+ghost use Rattle.std.specs.Prelude.{◌≡◌, ℕ, ◌+◌, ◌<◌, ◌≤◌, ◌∷◌, ◌++◌, ◌⊎◌, [], Bool, codes, if◌then◌else◌, IfErr, IfOk, IfSome, IsSome, IsSomeAnd, List, map, option_map};
 ghost use Rattle.set_sum.specs.Bundles.{most_tables};
-ghost use Rattle.set_sum.specs.ReadLines.{AreRead, IsRead, IsReadLine, ending};
-ghost use Rattle.set_sum.specs.SetTexts.{AreLines, IsFirstBadLine, IsLine, numeral, set_line};
+ghost use Rattle.set_sum.specs.ReadLines.{AreRead, IsNext, IsRead, IsReadLine, ending};
+ghost use Rattle.set_sum.specs.SetTexts.{AreLines, IsFirstBadLine, IsLine, member_text, numeral, set_line};
+ghost use Rattle.set_sum.specs.declared.members.Member.{Member};
 
 use crate::bundles::{MOST_SETS, Set};
+use crate::members::Member;
 use arrayvec::ArrayVec;
 
 /// The number of one or two digits, without a leading zero, at the front of a text, and the text behind it.
 fn split_number(text: &[u8]) -> Option<(u8, &[u8])>
     ensures some { IfSome result (λ found. (found.0 < 100) × (text.now ≡ numeral found.0 ++ found.1.now)) }
-    ensures read { (n end : ℕ) (behind : List ℕ) → n < 100 → (end ≡ 32) ⊎ (end ≡ 10) → text.now ≡ numeral n ++ end ∷ behind
+    ensures read { (n end : ℕ) (behind : List ℕ) → n < 100 → (end < 48) ⊎ (57 < end) → text.now ≡ numeral n ++ end ∷ behind
         → IsSomeAnd result (λ found. (found.0 ≡ n) × (found.1.now ≡ end ∷ behind)) }
 {
     let (first, rest) = text.split_first()?;
@@ -27,31 +29,54 @@ fn split_number(text: &[u8]) -> Option<(u8, &[u8])>
     }
 }
 
-/// A number of a line, and the text behind it and the byte that ends it.
+/// Whether a text begins with the letter of a transposed member, and the text behind the letter.
+fn split_letter(text: &[u8]) -> (bool, &[u8])
+    ensures whole { text.now ≡ (if result.0 then codes "t" else []) ++ result.1.now }
+    ensures read { (is_transposed : Bool) (end : ℕ) (behind : List ℕ) → (end ≡ 32) ⊎ (end ≡ 10)
+        → text.now ≡ (if is_transposed then codes "t" else []) ++ end ∷ behind
+        → (result.0 ≡ is_transposed) × (result.1.now ≡ end ∷ behind) }
+{
+    match text.split_first() {
+        Some((first, behind)) if *first == b't' => (true, behind),
+        _ => (false, text),
+    }
+}
+
+/// A member of a line, and the text behind it and the byte that ends it.
 #[derive(Drop)]
-struct Member<'a> {
-    number: u8,
+struct Front<'a> {
+    member: Member,
     is_last: bool,
     rest: &'a [u8],
 }
 
-/// The number at the front of a text, which is at least `least`, and behind which a space or the line's end stands.
-fn split_member(text: &[u8], least: u8) -> Option<Member<'_>>
-    ensures some { IfSome result (λ member. (member.number < 100) × (least ≤ member.number)
-        × (text.now ≡ numeral member.number ++ ending member.is_last ∷ member.rest.now)) }
-    ensures read { (n end : ℕ) (behind : List ℕ) → n < 100 → least ≤ n → (end ≡ 32) ⊎ (end ≡ 10)
-        → text.now ≡ numeral n ++ end ∷ behind → IsSome result }
+/// The member at the front of a text, behind which a space or the line's end stands. It comes behind the last one of the
+/// line, if there is one.
+fn split_member(text: &[u8], last: Option<Member>) -> Option<Front<'_>>
+    ensures some { IfSome result (λ front. (front.member.table < 100) × IsNext last front.member
+        × (text.now ≡ member_text front.member ++ ending front.is_last ∷ front.rest.now)) }
+    ensures read { (m : Member) (end : ℕ) (behind : List ℕ) → m.table < 100 → IsNext last m → (end ≡ 32) ⊎ (end ≡ 10)
+        → text.now ≡ member_text m ++ end ∷ behind → IsSome result }
 {
-    let (number, rest) = split_number(text)?;
-    let (end, behind) = rest.split_first()?;
+    let (table, lettered) = split_number(text)?;
+    let (is_transposed, ended) = split_letter(lettered);
+    let (end, rest) = ended.split_first()?;
+    let member = Member {
+        table,
+        is_transposed,
+    };
+    let is_next = match last {
+        Some(last) => last.is_before(member),
+        None => true,
+    };
     let is_last = *end == b'\n';
-    if number < least || !is_last && *end != b' ' {
+    if !is_next || !is_last && *end != b' ' {
         return None;
     }
-    Some(Member {
-        number,
+    Some(Front {
+        member,
         is_last,
-        rest: behind,
+        rest,
     })
 }
 
@@ -67,31 +92,32 @@ struct Line<'a> {
 fn split_line(text: &[u8], tables: usize) -> Option<Line<'_>>
     requires { tables ≤ most_tables }
     ensures some { IfSome result (λ line. IsReadLine tables text.now (option_map (λ set. set.items) line.set) line.rest.now) }
-    ensures read { (numbers behind : List ℕ) → IsLine numbers → text.now ≡ set_line numbers ++ behind → IsSome result }
+    ensures read { (members : List Member) (behind : List ℕ) → IsLine members → text.now ≡ set_line members ++ behind
+        → IsSome result }
 {
     if !text.starts_with(b"set ") {
         return None;
     }
     let mut rest = &text[4..];
-    let mut numbers = ArrayVec::new();
+    let mut members = ArrayVec::new();
     let mut is_there = true;
-    let mut least = 0;
-    'numbers: loop {
-        let member = split_member(rest, least)?;
-        if usize::from(member.number) < tables {
-            numbers.push(member.number);
+    let mut last = None;
+    'members: loop {
+        let front = split_member(rest, last)?;
+        if usize::from(front.member.table) < tables {
+            members.push(front.member);
         } else {
             is_there = false;
         }
-        if member.is_last {
-            let set = if is_there { Some(numbers) } else { None };
+        if front.is_last {
+            let set = if is_there { Some(members) } else { None };
             return Some(Line {
                 set,
-                rest: member.rest,
+                rest: front.rest,
             });
         }
-        least = member.number + 1;
-        rest = member.rest;
+        last = Some(front.member);
+        rest = front.rest;
     }
 }
 
@@ -110,10 +136,10 @@ impl Lines {
     /// Counts one line more, and keeps its set where there is room.
     fn push(&mut self, set: Option<Set>)
         requires { self.old.count < usize.MAX }
-        ensures { (tables : ℕ) (lines : List (List ℕ)) (numbers : List ℕ)
+        ensures { (tables : ℕ) (lines : List (List Member)) (members : List Member)
             → AreRead tables lines self.old.count self.old.missing (map (λ kept. kept.items) self.old.sets.items)
-            → IsRead tables numbers (option_map (λ kept. kept.items) set)
-            → AreRead tables (lines ++ numbers ∷ []) self.new.count self.new.missing (map (λ kept. kept.items) self.new.sets.items) }
+            → IsRead tables members (option_map (λ kept. kept.items) set)
+            → AreRead tables (lines ++ members ∷ []) self.new.count self.new.missing (map (λ kept. kept.items) self.new.sets.items) }
     {
         match set {
             Some(set) => if !self.sets.is_full() {
@@ -130,7 +156,7 @@ impl Lines {
 /// Reads a set text, where there are so many tables. The first line that isn't of a set is the fault.
 pub(crate) fn read_lines(text: &[u8], tables: usize) -> Result<Lines, usize>
     requires { tables ≤ most_tables }
-    ensures ok { IfOk result (λ lines. (sets : List (List ℕ)) × AreLines text.now sets × AreRead tables sets lines.count lines.missing (map (λ set. set.items) lines.sets.items)) }
+    ensures ok { IfOk result (λ lines. (sets : List (List Member)) × AreLines text.now sets × AreRead tables sets lines.count lines.missing (map (λ set. set.items) lines.sets.items)) }
     ensures err { IfErr result (IsFirstBadLine text.now) }
 {
     let mut lines = Lines {

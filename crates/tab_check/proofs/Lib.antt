@@ -6,6 +6,7 @@ mod DecidedLemmas
 pub mod EntryLemmas
 mod ExactLemmas
 mod FloodLemmas
+pub mod FoldLemmas
 mod JobLemmas
 pub mod LookLemmas
 pub mod MoveLemmas

@@ -1,5 +1,6 @@
 -- What a table tells of a board, and how many of its entries tell what.
-use Rattle.std.specs.Prelude.{◌≡◌, ℕ, ◌==◌, count_by, List, length}
+use Rattle.std.specs.Prelude.{◌≡◌, ℕ, ◌<◌, ◌==◌, count_by, List, length, slice_index}
+use Rattle.puz_board.specs.Boards.{cell_of}
 use Rattle.puz_board.specs.Costs.{IsLeastCost, IsNeverHome}
 use Rattle.tab_lanes.specs.Counts.{IsGreatestCount}
 use Rattle.tab_check.specs.Entries.{no_way_home}
@@ -11,6 +12,10 @@ use Rattle.tab_check.specs.declared.tables.Count.TheVariants.{Finite, Never}
 abbrev pub IsCountOf : List ℕ → List ℕ → Count → Type 0
 IsCountOf tiles b (Finite d) = IsLeastCost tiles b d
 IsCountOf tiles b Never = IsNeverHome tiles b
+
+-- the list has the cell of each number of the board, in the order of the numbers; what follows these tells nothing
+abbrev pub AreCellsOf : List ℕ → List ℕ → Type 0
+AreCellsOf found b = (number : ℕ) → number < length b → slice_index found number ≡ cell_of number b
 
 -- the census of a table's entries: how many there are, how many say that no walk leads home, and the greatest count
 pub record IsCensusOf (entries : List ℕ) (census : Census) : Type 0 where

@@ -1,6 +1,6 @@
 -- What holds of every table, and of every file.
 use Rattle.std.specs.Prelude.{◌≡◌, ℕ, ◌≤◌, ◌⊎◌, ◌↔◌, false, true, List, [], ◌∷◌}
-use Rattle.puz_board.specs.Boards.{IsBoardOf, at, blank, slid}
+use Rattle.puz_board.specs.Boards.{IsBoard, IsBoardOf, at, blank, slid}
 use Rattle.puz_board.specs.Cells.{Adjacent}
 use Rattle.puz_board.specs.Costs.{LeadsHome, cost, has}
 use Rattle.pat_place.specs.Placements.{placement_of}
@@ -10,9 +10,12 @@ use Rattle.tab_check.specs.BadEntries.{AllKeepRule}
 use Rattle.tab_check.specs.Counts.{IsCensusOf}
 use Rattle.tab_check.specs.Entries.{IsEntryAt, greatest_count}
 use Rattle.tab_check.specs.ExactTables.{AreExact, IsExactFile}
+use Rattle.tab_check.specs.FoldedTables.{IsFoldedCountOf}
 use Rattle.tab_check.specs.LocalRule.{IsNearEntry}
 use Rattle.tab_check.specs.TableFaults.{IsFaultOf}
 use Rattle.tab_check.specs.declared.census.Census.{Census}
+use Rattle.tab_check.specs.declared.tables.Count.{Count}
+use Rattle.tab_check.specs.declared.tables.Count.TheVariants.{Finite}
 use Rattle.tab_check.specs.declared.tables.TableRefusal.{TableRefusal}
 
 -- e is the entry of the board's placement and of the region of its blank
@@ -56,6 +59,12 @@ CountsHavePaths =
 -- each entry keeps the local rule exactly where each entry is right
 abbrev pub FilesAreExactByRule : Type 0
 FilesAreExactByRule = (t : Table) → IsTable t → AllKeepRule t ↔ AreExact t
+
+-- where a path leads a board's tiles home, what a folded table tells of the board is a count that is at most its cost
+abbrev pub FoldedCountsBoundPaths : Type 0
+FoldedCountsBoundPaths =
+    (tiles b : List ℕ) → IsBoard b → (count : Count) → IsFoldedCountOf tiles b count → (path : List ℕ) → LeadsHome tiles b path →
+    (d : ℕ) × (count ≡ Finite d) × (d ≤ cost tiles b path)
 
 -- ---- one answer
 

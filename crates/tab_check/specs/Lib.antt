@@ -4,8 +4,11 @@ pub mod Columns
 pub mod Counts
 pub mod Entries
 pub mod ExactTables
+pub mod FoldedTables
 pub mod Laws
+pub mod LeastEntries
 pub mod LocalRule
 pub mod Moves
+pub mod StoredFolds
 pub mod StoredTables
 pub mod TableFaults

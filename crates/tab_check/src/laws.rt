@@ -1,6 +1,6 @@
 //! Laws of tables and their files. Each function here says what holds of all of them, and does nothing.
 
-ghost use Rattle.tab_check.specs.Laws.{CountsHavePaths, EntriesHaveACensus, EntriesHaveOneCensus, ExactFilesHaveNoFault, FilesAreExactByRule, FilesHaveAnAnswer, FilesHaveOneExactTable, FilesHaveOneFault, OtherStepsKeepTheEntry, PathsCostTheEntryAtLeast, TileStepsLeadToANearEntry};
+ghost use Rattle.tab_check.specs.Laws.{CountsHavePaths, EntriesHaveACensus, EntriesHaveOneCensus, ExactFilesHaveNoFault, FilesAreExactByRule, FilesHaveAnAnswer, FilesHaveOneExactTable, FilesHaveOneFault, FoldedCountsBoundPaths, OtherStepsKeepTheEntry, PathsCostTheEntryAtLeast, TileStepsLeadToANearEntry};
 
 /// A step that moves no tile of the pattern costs nothing and keeps the entry.
 pub fn other_steps_keep_the_entry()
@@ -25,6 +25,12 @@ pub fn counts_have_paths()
 /// Each entry keeps the local rule exactly where each entry is right.
 pub fn files_are_exact_by_rule()
     ensures { FilesAreExactByRule }
+{}
+
+/// What a folded table tells of a board is at most what any path costs that leads its tiles home, and never means that
+/// there is none.
+pub fn folded_counts_bound_paths()
+    ensures { FoldedCountsBoundPaths }
 {}
 
 /// A file is that of an exact table or has a fault, and of these one alone: its bytes settle all but want of memory.

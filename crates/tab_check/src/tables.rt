@@ -1,7 +1,7 @@
 //! Tables that are checked whole.
 
-ghost use Rattle.std.specs.Prelude.{◌≡◌, ◌<◌, ◌≤◌, ◌⊎◌, ◌==◌, if◌then◌else◌, ℕ, true, Err, IfErr, IfOk, IfSome, Ok, length, slice_index};
-ghost use Rattle.puz_board.specs.Boards.{cell_of, side_of};
+ghost use Rattle.std.specs.Prelude.{◌≡◌, ◌<◌, ◌≤◌, ◌⊎◌, ◌==◌, if◌then◌else◌, ℕ, true, Err, IfErr, IfOk, IfSome, List, Ok};
+ghost use Rattle.puz_board.specs.Boards.{IsBoardOf, side_of};
 ghost use Rattle.tab_file.specs.HeadFaults.{table_of_file};
 ghost use Rattle.tab_file.specs.TableFiles.{IsTableFile};
 ghost use Rattle.pat_place.specs.Placements.{IsFree, IsPlacement};
@@ -9,7 +9,7 @@ ghost use Rattle.pat_place.specs.Ranks.{IsRank};
 ghost use Rattle.pat_place.specs.Regions.{IsSlot};
 ghost use Rattle.tab_file.specs.Tables.{IsTable, Table, slot_count};
 ghost use Rattle.tab_check.specs.BadEntries.{IsLeastBad};
-ghost use Rattle.tab_check.specs.Counts.{IsCensusOf, IsCountOf};
+ghost use Rattle.tab_check.specs.Counts.{AreCellsOf, IsCensusOf, IsCountOf};
 ghost use Rattle.tab_check.specs.Entries.{greatest_count, no_way_home};
 ghost use Rattle.tab_check.specs.ExactTables.{IsExactFile, IsExactTable};
 ghost use Rattle.tab_check.specs.TableFaults.{IsCauseOf};
@@ -169,20 +169,21 @@ impl<'a> CheckedTable<'a> {
         ensures count { IsCountOf self.now.pattern.tiles board.now result }
         ensures few { (d : ℕ) → result ≡ Finite d → d ≤ greatest_count }
     {
-        self.look_in(board, &board.cells_of_all())
+        let _side = board.side();
+        self.look_in(&board.cells_of_all())
     }
 
-    /// As `look`, where the cell of each number was found before.
-    pub fn look_in(&self, board: &Board, found: &[u8; 25]) -> Count
-        requires side { side_of board.now ≡ self.now.pattern.side }
-        requires found { (number : ℕ) → number < length board.now → slice_index found.now number ≡ cell_of number board.now }
-        ensures count { IsCountOf self.now.pattern.tiles board.now result }
+    /// As `look`, of the board whose numbers were found in these cells.
+    pub fn look_in(&self, found: &[u8; 25]) -> Count
+        requires { (board : List ℕ) × IsBoardOf self.now.pattern.side board × AreCellsOf found.now board }
+        ensures count { (board : List ℕ) → IsBoardOf self.now.pattern.side board → AreCellsOf found.now board
+            → IsCountOf self.now.pattern.tiles board result }
         ensures few { (d : ℕ) → result ≡ Finite d → d ≤ greatest_count }
     {
-        let _side = board.side();
         let placement = Placement::of_cells(&self.pattern(), found);
         let rank = rank(&placement);
-        let slot = self.slot_in(&placement, rank, board.blank());
+        let blank = found[0];
+        let slot = self.slot_in(&placement, rank, blank);
         count_of(self.view.entry(rank, slot))
     }
 
@@ -236,7 +237,7 @@ impl<'a> CheckedTable<'a> {
 }
 
 /// What an entry of a region says.
-fn count_of(entry: u8) -> Count
+pub(crate) fn count_of(entry: u8) -> Count
     ensures { result ≡ (if entry == no_way_home then Never else Finite entry) }
 {
     if entry == NO_WAY_HOME {

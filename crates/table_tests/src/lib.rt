@@ -6,6 +6,8 @@ mod censuses;
 #[cfg(test)]
 mod files;
 #[cfg(test)]
+mod folds;
+#[cfg(test)]
 mod large_tables;
 #[cfg(test)]
 mod runs;

@@ -50,17 +50,34 @@ fn lines_of(alloc: Global, case: &Case<'_>) -> Result<Vec<u8>, AllocError> {
     Ok(lines)
 }
 
-/// Whether a claim on a log for a board is answered so.
+/// Whether a claim on a log for a board is answered so, with folded tables and with whole ones.
 fn bound_tells<H: Threads + Wait>(rt: &H, alloc: Global, case: &Case<'_>) -> Result<bool, Fail> {
     let tables = vectors(alloc, case.tables)?;
-    let inputs = Inputs::Bound {
-        board: case.text,
-        sets: case.sets,
-        log: LOG,
-        tables: tables.as_slice(),
-    };
-    tells(rt, alloc, &inputs, lines_of(alloc, case)?.as_slice())
+    let lines = lines_of(alloc, case)?;
+    for fold in [false, true] {
+        let inputs = Inputs::Bound {
+            board: case.text,
+            sets: case.sets,
+            log: LOG,
+            tables: tables.as_slice(),
+            fold,
+        };
+        if !tells(rt, alloc, &inputs, lines.as_slice())? {
+            return Ok(false);
+        }
+    }
+    Ok(true)
 }
+
+/// Whether tables are folded, and how many workers check.
+const WAYS: [(bool, u8); 6] = [
+    (false, 1),
+    (false, 2),
+    (false, 7),
+    (true, 1),
+    (true, 2),
+    (true, 7),
+];
 
 #[test]
 fn good_logs_prove_their_bounds(rt: HostRuntime) -> Result<(), Fail> {
@@ -75,15 +92,19 @@ fn good_logs_prove_their_bounds(rt: HostRuntime) -> Result<(), Fail> {
     ];
     for (board, sets, log, files, bound) in cases {
         let tables = vectors(alloc, files)?;
-        let inputs = Inputs::Bound {
-            board,
-            sets,
-            log,
-            tables: tables.as_slice(),
-        };
-        for workers in [1u8, 2, 7] {
+        for (fold, workers) in WAYS {
+            let inputs = Inputs::Bound {
+                board,
+                sets,
+                log,
+                tables: tables.as_slice(),
+                fold,
+            };
             let answer = verify(&rt, alloc, &inputs, workers, &OpenGate);
-            assert!(rt; answer == Ok(Verdict::Bound(bound)), "{log:?} by {workers}");
+            assert!(rt;
+                answer == Ok(Verdict::Bound(bound)),
+                "{log:?} by {workers}, {fold}"
+            );
         }
     }
     Ok(())
@@ -94,6 +115,7 @@ fn optimum<H: Threads + Wait>(
     rt: &H,
     alloc: Global,
     puzzle: &[u8],
+    fold: bool,
     workers: u8,
 ) -> Result<Result<Verdict, Fault>, Fail>
     requires { (0 < workers) × (workers ≤ 64) }
@@ -104,16 +126,17 @@ fn optimum<H: Threads + Wait>(
         sets: b"set 0\n",
         log: &BRANCHES,
         tables: tables.as_slice(),
+        fold,
     };
     Ok(verify(rt, alloc, &inputs, workers, &OpenGate))
 }
 
 #[test]
 fn as_many_moves_as_the_bound_are_the_fewest(rt: HostRuntime) -> Result<(), Fail> {
-    for workers in [1u8, 2, 7] {
-        let six = optimum(&rt, rt.alloc(), b"3 2 1 0 ; ULDRUL", workers)?;
+    for (fold, workers) in WAYS {
+        let six = optimum(&rt, rt.alloc(), b"3 2 1 0 ; ULDRUL", fold, workers)?;
         assert!(rt; six == Ok(Verdict::Optimal(6)));
-        let eight = optimum(&rt, rt.alloc(), b"3 2 1 0 ; ULDRULRL", workers)?;
+        let eight = optimum(&rt, rt.alloc(), b"3 2 1 0 ; ULDRULRL", fold, workers)?;
         let more = Fault::O1 {
             solution: 8,
             bound: 6,
@@ -132,6 +155,7 @@ fn two_workers_check_lemmas_side_by_side(rt: HostRuntime) -> Result<(), Fail> {
         sets: b"set 0\n",
         log: &CITATION,
         tables: tables.as_slice(),
+        fold: false,
     };
     // The first job of all is the table's.
     let gate = HoldingGate::new(&[0], &[1]).among(1..u64::MAX);
@@ -285,6 +309,7 @@ fn more_tables_than_16_are_checked_before_their_number(rt: HostRuntime) -> Resul
             sets: b"set 0\n",
             log: LOG,
             tables: all.as_slice(),
+            fold: true,
         };
         assert!(rt; tells(&rt, alloc, &inputs, told.as_slice())?);
     }
@@ -316,6 +341,7 @@ fn optima_are_refused_for_their_moves_before_their_tables(rt: HostRuntime) -> Re
             sets: case.sets,
             log: LOG,
             tables: tables.as_slice(),
+            fold: true,
         };
         assert!(rt; tells(&rt, alloc, &inputs, lines_of(alloc, &case)?.as_slice())?);
     }
@@ -328,6 +354,7 @@ const NAMES: ClaimNames<'static, 'static> = ClaimNames {
     sets: "sets",
     log: "log",
     tables: &["table", "table"],
+    fold: false,
 };
 
 /// The files of a claim.

@@ -17,6 +17,16 @@ use work_run::OpenGate;
 /// More boards than any search here expands.
 const PLENTY: u64 = 1_000_000;
 
+/// Whether tables are folded, and how many workers check.
+const WAYS: [(bool, u8); 6] = [
+    (false, 1),
+    (false, 2),
+    (false, 7),
+    (true, 1),
+    (true, 2),
+    (true, 7),
+];
+
 /// A search: the board text, the set text and the only table file.
 #[derive(Clone, Copy)]
 struct Task<'a> {
@@ -25,10 +35,11 @@ struct Task<'a> {
     table: &'a [u8],
 }
 
-/// How a search ends, what it writes, and its shelf, where `o` is the name to keep a log under.
+/// How a search with folded tables or whole ones ends, what it writes, and its shelf, where `o` is the name to keep a log under.
 fn solved<H: Threads + Wait + Sync>(
     alloc: Global,
     task: &Task<'_>,
+    fold: bool,
     budget: u64,
     workers: &Workers<'_, H, OpenGate>,
 ) -> Result<(Status, Vec<u8>, MemShelf), Fail> {
@@ -45,6 +56,7 @@ fn solved<H: Threads + Wait + Sync>(
         sets: "sets",
         out: "o",
         tables: &["table"],
+        fold,
     };
     let mut out = Vec::new(alloc);
     let mut reader = b"".as_slice();
@@ -83,6 +95,7 @@ fn claim_of<'x>(
 fn verdict_on<H: Threads + Wait + Sync>(
     alloc: Global,
     mut claim: MemShelf,
+    fold: bool,
     workers: &Workers<'_, H, OpenGate>,
 ) -> (Status, Vec<u8>) {
     let names = ClaimNames {
@@ -90,6 +103,7 @@ fn verdict_on<H: Threads + Wait + Sync>(
         sets: "sets",
         log: "log",
         tables: &["table"],
+        fold,
     };
     let mut told = Vec::new(alloc);
     let mut reader = b"".as_slice();
@@ -116,7 +130,8 @@ fn lines_of<'x>(
     }
 }
 
-/// Checks that a search finds these moves, and that `optimal` says of them, and of the log that was kept, what the search said.
+/// Checks that a search finds these moves, and that `optimal` says of them, and of the log that was kept, what the search said:
+/// with folded tables and with whole ones.
 fn check_solution<H: Threads + Wait + Sync + Abort>(
     rt: &H,
     alloc: Global,
@@ -124,14 +139,14 @@ fn check_solution<H: Threads + Wait + Sync + Abort>(
     moves: &[u8],
     line: &[u8],
 ) -> Result<(), Fail> {
-    for count in [1u8, 2, 7] {
+    for (fold, count) in WAYS {
         let workers = Workers::new(rt, count, &OpenGate);
-        let (status, out, shelf) = solved(alloc, task, PLENTY, &workers)?;
+        let (status, out, shelf) = solved(alloc, task, fold, PLENTY, &workers)?;
         assert!(rt; status == Status::Yes);
         let log = shelf.get("o").ok_or("a log is kept")?;
         let puzzle = puzzle_of(alloc, task.board, moves)?;
         let claim = claim_of(alloc, puzzle.as_slice(), task.sets, log, task.table)?;
-        let (agreed, told) = verdict_on(alloc, claim, &workers);
+        let (agreed, told) = verdict_on(alloc, claim, fold, &workers);
         assert!(rt; agreed == Status::Yes && told.ends_with(line));
         let digests = told.get(..144).ok_or("two digests")?;
         assert!(rt; out == lines_of(alloc, digests, moves, line)?);
@@ -166,7 +181,7 @@ fn six_letters_solve_a_board_of_six_moves(rt: HostRuntime) -> Result<(), Fail> {
         table: &TILES_12,
     };
     let workers = Workers::new(&rt, 1, &OpenGate);
-    let (_status, out, _shelf) = solved(alloc, &task, PLENTY, &workers)?;
+    let (_status, out, _shelf) = solved(alloc, &task, true, PLENTY, &workers)?;
     let moves = out.get(150..156).ok_or("six letters")?;
     check_solution(&rt, alloc, &task, moves, b"optimal 6\n")
 }
@@ -180,10 +195,12 @@ fn expect_refused<H: Threads + Wait + Sync + Abort>(
     told: [&[u8]; 2],
 ) -> Result<(), Fail> {
     let workers = Workers::new(rt, 2, &OpenGate);
-    let (status, out, shelf) = solved(alloc, task, budget, &workers)?;
-    assert!(rt; status == Status::Refused);
-    assert!(rt; out == joined(alloc, &told)?);
-    assert!(rt; shelf.get("o").is_none());
+    for fold in [false, true] {
+        let (status, out, shelf) = solved(alloc, task, fold, budget, &workers)?;
+        assert!(rt; status == Status::Refused);
+        assert!(rt; out == joined(alloc, &told)?);
+        assert!(rt; shelf.get("o").is_none());
+    }
     Ok(())
 }
 
@@ -271,6 +288,7 @@ const NAMES: SearchNames<'static, 'static> = SearchNames {
     sets: "sets",
     out: "o",
     tables: &["table", "table"],
+    fold: true,
 };
 
 /// The files of a search.

@@ -51,6 +51,7 @@ fn ended<H: Threads + Wait + Sync>(
         sets: "sets",
         log: "log",
         tables: &["f12", "f3"],
+        fold: false,
     };
     match command {
         Command::Replay => run_replay(alloc, Some("puzzle"), shelf, &mut reader, out),
@@ -69,6 +70,7 @@ fn ended<H: Threads + Wait + Sync>(
                 sets: "sets",
                 out: "o",
                 tables: &["f12", "f3"],
+                fold: false,
             };
             run_solve(alloc, names, 1_000, &workers, shelf, &mut reader, out)
         }

@@ -11,7 +11,7 @@ use Rattle.clap.specs.Walk.{Held, Outcome, Rule, Step, Text, Waiting, Walk, afte
 use Rattle.clap.proofs.SimpleLemmas.{is_false}
 use Rattle.clap.proofs.WalkLemmas.{both}
 use Rattle.clap.specs.declared.error.kind.ErrorKind.TheVariants as kind
-use Rattle.pdb_words.specs.CommandLine.{IsCommand, IsLongFlag, IsOneOf, Parses, TakesFlag, commands, shared_commands}
+use Rattle.pdb_words.specs.CommandLine.{IsCommand, IsLongFlag, IsOneOf, Parses, TakesFlag, commands, log_commands, shared_commands}
 use Rattle.pdb_words.proofs.CommandLemmas.{faults_behind, leaf}
 use Rattle.pdb_words.proofs.KindLemmas.{IsFault, first_fault, later_fault, one_fault, same_fault}
 use Rattle.pdb_words.proofs.TextLemmas.{differs, each_holds, same_text}
@@ -130,32 +130,45 @@ KnowsItsFlags command = (name : Text) → HasHelpAlone name (leaf command) ⊎ T
 takes_workers : (command name : Text) → IsOneOf shared_commands command → bytes_eq (codes "workers") name ≡ true → TakesFlag command name
 takes_workers command name shared e = inl (shared, sym (same_text (codes "workers") name e))
 
-shares_check : (command : Text) → IsOneOf shared_commands command → ((name : Text) → bytes_eq (codes "workers") name ≡ false → HasHelpAlone name (leaf command)) → KnowsItsFlags command
+takes_fold : (command name : Text) → IsOneOf log_commands command → bytes_eq (codes "fold") name ≡ true → TakesFlag command name
+takes_fold command name folds e = inr (inl (folds, sym (same_text (codes "fold") name e)))
+
+-- by whether the flag is `--workers`
+shares_check : (command : Text) → IsOneOf shared_commands command
+    → ((name : Text) → bytes_eq (codes "workers") name ≡ false → HasHelpAlone name (leaf command) ⊎ TakesFlag command name) → KnowsItsFlags command
 shares_check command shared others name = go (bytes_eq (codes "workers") name) refl
   where
     go : (is : Bool) → bytes_eq (codes "workers") name ≡ is → HasHelpAlone name (leaf command) ⊎ TakesFlag command name
     go true e = inr (takes_workers command name shared e)
-    go false e = inl (others name e)
+    go false e = others name e
+
+-- by whether it is `--workers` or `--fold`
+folds_tables : (command : Text) → IsOneOf shared_commands command → IsOneOf log_commands command
+    → ((name : Text) → bytes_eq (codes "workers") name ≡ false → bytes_eq (codes "fold") name ≡ false → HasHelpAlone name (leaf command) ⊎ TakesFlag command name) → KnowsItsFlags command
+folds_tables command shared folds others = shares_check command shared (λ name e. go name e (bytes_eq (codes "fold") name) refl)
+  where
+    go : (name : Text) → bytes_eq (codes "workers") name ≡ false → (is : Bool) → bytes_eq (codes "fold") name ≡ is → HasHelpAlone name (leaf command) ⊎ TakesFlag command name
+    go name e true f = inr (takes_fold command name folds f)
+    go name e false f = others name e f
 
 solve_knows : KnowsItsFlags (codes "solve")
-solve_knows name = go (bytes_eq (codes "workers") name) refl (bytes_eq (codes "budget") name) refl
+solve_knows = folds_tables (codes "solve") (inr (inr (inr (inr (inl refl))))) (inr (inr (inl refl))) (λ name e f. go name e f (bytes_eq (codes "budget") name) refl)
   where
-    go : (is : Bool) → bytes_eq (codes "workers") name ≡ is → (is_budget : Bool) → bytes_eq (codes "budget") name ≡ is_budget
+    go : (name : Text) → bytes_eq (codes "workers") name ≡ false → bytes_eq (codes "fold") name ≡ false → (is : Bool) → bytes_eq (codes "budget") name ≡ is
         → HasHelpAlone name (leaf (codes "solve")) ⊎ TakesFlag (codes "solve") name
-    go true e is_budget f = inr (takes_workers (codes "solve") name (inr (inr (inr (inr (inl refl))))) e)
-    go false e true f = inr (inr (refl, sym (same_text (codes "budget") name f)))
-    go false e false f = inl (rw (e, f) refl)
+    go name e f true b = inr (inr (inr (refl, sym (same_text (codes "budget") name b))))
+    go name e f false b = inl (rw (e, f, b) refl)
 
 all_know : AllByRecursion KnowsItsFlags commands
 all_know = (
   λ name. inl refl,
   (
-    shares_check (codes "table") (inl refl) (λ name e. rw e refl),
+    shares_check (codes "table") (inl refl) (λ name e. inl (rw e refl)),
     (
-      shares_check (codes "bound") (inr (inl refl)) (λ name e. rw e refl),
+      folds_tables (codes "bound") (inr (inl refl)) (inl refl) (λ name e f. inl (rw (e, f) refl)),
       (
-        shares_check (codes "optimal") (inr (inr (inl refl))) (λ name e. rw e refl),
-        (shares_check (codes "make-table") (inr (inr (inr (inl refl)))) (λ name e. rw e refl), (solve_knows, tt)),
+        folds_tables (codes "optimal") (inr (inr (inl refl))) (inr (inl refl)) (λ name e f. inl (rw (e, f) refl)),
+        (shares_check (codes "make-table") (inr (inr (inr (inl refl)))) (λ name e. inl (rw e refl)), (solve_knows, tt)),
       ),
     ),
   ),

@@ -33,7 +33,8 @@ pub fn what_table_asks()
 {}
 
 /// `bound` with the names of a board, the sets, a log and one table or more asks whether the log proves its bound of
-/// the board: the tables in their order, checked by one worker, or by as many as `--workers` says, first or last.
+/// the board: the tables in their order, checked by one worker, or by as many as `--workers` says, first or last, and
+/// folded then where `--fold` comes before all or behind all.
 pub fn what_bound_asks()
     ensures { NamesLog (codes "bound") bound }
 {}
@@ -45,7 +46,7 @@ pub fn what_optimal_asks()
 {}
 
 /// Words that parse begin with a command of the program, and give no flag but those that their command takes:
-/// `--workers`, which `replay` doesn't take, and behind `solve` `--budget`.
+/// `--workers`, which `replay` doesn't take, behind `bound`, `optimal` and `solve` `--fold`, and behind `solve` `--budget`.
 pub fn no_other_words_parse()
     ensures commands { (words : List (List ℕ)) → Parses words → BeginsWithCommand words }
     // Another first word, other than a wish for help, is a mistake, whatever follows.

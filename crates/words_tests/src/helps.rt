@@ -52,7 +52,7 @@ Options:
 const HELP_OF_BOUND: &str =
     "Says whether a log proves that no solution of a board has fewer moves than its bound
 
-Usage: pdb_cli bound [--workers N] BOARD SETS LOG TABLES..
+Usage: pdb_cli bound [--workers N] [--fold] BOARD SETS LOG TABLES..
 
 Arguments:
   <BOARD>      A board text
@@ -62,13 +62,14 @@ Arguments:
 
 Options:
       --workers <N>  How many workers share the check, 1 to 64 [default: 1]
+      --fold         Fold each table once it is checked: one byte a placement
   -h, --help         Print help
 ";
 
 const HELP_OF_OPTIMAL: &str =
     "Says whether a log proves that the moves of a puzzle text are a shortest solution
 
-Usage: pdb_cli optimal [--workers N] PUZZLE SETS LOG TABLES..
+Usage: pdb_cli optimal [--workers N] [--fold] PUZZLE SETS LOG TABLES..
 
 Arguments:
   <PUZZLE>     A puzzle text
@@ -78,6 +79,7 @@ Arguments:
 
 Options:
       --workers <N>  How many workers share the check, 1 to 64 [default: 1]
+      --fold         Fold each table once it is checked: one byte a placement
   -h, --help         Print help
 ";
 
@@ -98,7 +100,7 @@ Options:
 const HELP_OF_SOLVE: &str =
     "Searches for a shortest solution of a board, and keeps the log that proves it
 
-Usage: pdb_cli solve [--workers N] [--budget N] BOARD SETS OUT TABLES..
+Usage: pdb_cli solve [--workers N] [--fold] [--budget N] BOARD SETS OUT TABLES..
 
 Arguments:
   <BOARD>      A board text
@@ -108,6 +110,7 @@ Arguments:
 
 Options:
       --workers <N>  How many workers share the check, 1 to 64 [default: 1]
+      --fold         Fold each table once it is checked: one byte a placement
       --budget <N>   How many boards the search may expand, 1 to 1000000000000 [default: 1000000]
   -h, --help         Print help
 ";

@@ -44,6 +44,7 @@ fn words_of_replay(rt: HostRuntime) -> Result<(), Fail> {
                 &["replay", "--workers", "2"],
                 "unexpected argument '--workers'",
             ),
+            (&["replay", "--fold", "f"], "unexpected argument '--fold'"),
         ],
     )
 }
@@ -69,6 +70,8 @@ fn words_of_table(rt: HostRuntime) -> Result<(), Fail> {
                 &["table", "--workers", "2", "--workers", "3", "f"],
                 "cannot be used multiple times",
             ),
+            (&["table", "--fold", "f"], "unexpected argument '--fold'"),
+            (&["table", "f", "--fold"], "unexpected argument '--fold'"),
         ],
     )
 }
@@ -93,6 +96,19 @@ fn words_of_bound_and_of_optimal(rt: HostRuntime) -> Result<(), Fail> {
             (
                 &["optimal", "c", "s", "l", "t", "--tables", "u"],
                 "unexpected argument '--tables'",
+            ),
+            (&["bound", "--fold", "c", "s", "l"], "<TABLES>"),
+            (
+                &["bound", "--fold", "--fold", "c", "s", "l", "t"],
+                "cannot be used multiple times",
+            ),
+            (
+                &["optimal", "--fold", "c", "s", "l", "t", "--fold"],
+                "cannot be used multiple times",
+            ),
+            (
+                &["bound", "--fold=true", "c", "s", "l", "t"],
+                "unexpected value 'true'",
             ),
         ],
     )
@@ -119,6 +135,10 @@ fn words_of_make_table(rt: HostRuntime) -> Result<(), Fail> {
                 &["make-table", "2", "14", "o", "--budget", "5"],
                 "unexpected argument '--budget'",
             ),
+            (
+                &["make-table", "--fold", "2", "14", "o"],
+                "unexpected argument '--fold'",
+            ),
         ],
     )
 }
@@ -144,6 +164,10 @@ fn words_of_solve(rt: HostRuntime) -> Result<(), Fail> {
             (
                 &["solve", "--workers", "65", "b", "s", "o", "t"],
                 "65 is not in 1..=64",
+            ),
+            (
+                &["solve", "b", "s", "o", "t", "--fold", "--fold"],
+                "cannot be used multiple times",
             ),
         ],
     )

@@ -46,6 +46,7 @@ fn log_check<'a>(
     alloc: Global,
     tables: &[&'a str],
     workers: u8,
+    fold: bool,
 ) -> Result<LogCheck<'a>, AllocError> {
     Ok(LogCheck {
         text: "c",
@@ -53,6 +54,7 @@ fn log_check<'a>(
         log: "l",
         tables: tables.to_vec(alloc)?,
         workers,
+        fold,
     })
 }
 
@@ -78,9 +80,47 @@ fn words_name_the_files_of_a_log(rt: HostRuntime) -> Result<(), Fail> {
         ),
     ];
     for (words, tables, workers) in cases {
-        let bound = Request::Bound(log_check(alloc, tables, workers)?);
+        let bound = Request::Bound(log_check(alloc, tables, workers, false)?);
         expect_request(alloc, behind(alloc, "bound", words)?.as_slice(), &bound)?;
-        let optimal = Request::Optimal(log_check(alloc, tables, workers)?);
+        let optimal = Request::Optimal(log_check(alloc, tables, workers, false)?);
+        expect_request(alloc, behind(alloc, "optimal", words)?.as_slice(), &optimal)?;
+    }
+    Ok(())
+}
+
+#[test]
+fn words_ask_for_folded_tables(rt: HostRuntime) -> Result<(), Fail> {
+    let alloc = rt.alloc();
+    let cases: [(&[&str], &[&str], u8, bool); 9] = [
+        (&["--fold", "c", "s", "l", "t"], &["t"], 1, true),
+        (&["c", "s", "l", "t", "u", "--fold"], &["t", "u"], 1, true),
+        (&["c", "--fold", "s", "l", "t", "u"], &["t", "u"], 1, true),
+        (&["c", "s", "l", "t", "--fold", "u"], &["t", "u"], 1, true),
+        (
+            &["--fold", "--workers", "7", "c", "s", "l", "t"],
+            &["t"],
+            7,
+            true,
+        ),
+        (
+            &["--workers", "7", "--fold", "c", "s", "l", "t"],
+            &["t"],
+            7,
+            true,
+        ),
+        (
+            &["--workers=2", "c", "s", "l", "t", "--fold"],
+            &["t"],
+            2,
+            true,
+        ),
+        (&["c", "s", "l", "--", "--fold"], &["--fold"], 1, false),
+        (&["c", "s", "l", "fold"], &["fold"], 1, false),
+    ];
+    for (words, tables, workers, fold) in cases {
+        let bound = Request::Bound(log_check(alloc, tables, workers, fold)?);
+        expect_request(alloc, behind(alloc, "bound", words)?.as_slice(), &bound)?;
+        let optimal = Request::Optimal(log_check(alloc, tables, workers, fold)?);
         expect_request(alloc, behind(alloc, "optimal", words)?.as_slice(), &optimal)?;
     }
     Ok(())
@@ -117,37 +157,56 @@ fn words_ask_for_a_table_to_be_made(rt: HostRuntime) -> Result<(), Fail> {
 #[test]
 fn words_ask_for_a_search(rt: HostRuntime) -> Result<(), Fail> {
     let alloc = rt.alloc();
-    let cases: [(&[&str], &[&str], u8, u64); 7] = [
-        (&["b", "s", "o", "t"], &["t"], 1, 1_000_000),
-        (&["b", "s", "o", "t", "u"], &["t", "u"], 1, 1_000_000),
-        (&["--budget", "1", "b", "s", "o", "t"], &["t"], 1, 1),
+    let cases: [(&[&str], &[&str], u8, bool, u64); 10] = [
+        (&["b", "s", "o", "t"], &["t"], 1, false, 1_000_000),
+        (&["b", "s", "o", "t", "u"], &["t", "u"], 1, false, 1_000_000),
+        (&["--budget", "1", "b", "s", "o", "t"], &["t"], 1, false, 1),
         (
             &["b", "s", "o", "t", "--budget", "1000000000000"],
             &["t"],
             1,
+            false,
             1_000_000_000_000,
         ),
         (
             &["--workers", "7", "--budget", "5", "b", "s", "o", "t", "u"],
             &["t", "u"],
             7,
+            false,
             5,
         ),
         (
             &["--budget=9", "b", "s", "o", "t", "--workers=64"],
             &["t"],
             64,
+            false,
             9,
         ),
-        (&["--", "b", "s", "o", "-t"], &["-t"], 1, 1_000_000),
+        (&["--", "b", "s", "o", "-t"], &["-t"], 1, false, 1_000_000),
+        (&["--fold", "b", "s", "o", "t"], &["t"], 1, true, 1_000_000),
+        (
+            &["--budget", "5", "b", "s", "o", "t", "--fold"],
+            &["t"],
+            1,
+            true,
+            5,
+        ),
+        (
+            &["--workers=7", "--fold", "--budget=5", "b", "s", "o", "t"],
+            &["t"],
+            7,
+            true,
+            5,
+        ),
     ];
-    for (words, tables, workers, budget) in cases {
+    for (words, tables, workers, fold, budget) in cases {
         let wanted = Request::Solve(Search {
             board: "b",
             sets: "s",
             out: "o",
             tables: tables.to_vec(alloc)?,
             workers,
+            fold,
             budget,
         });
         expect_request(alloc, behind(alloc, "solve", words)?.as_slice(), &wanted)?;

@@ -7,7 +7,7 @@ use Rattle.log_check.proofs.lemmas.check_lemma.Given as goal
 
 abbrev pub invariant-loop-node : goal.invariant-loop-node
 invariant-loop-node l = record {
-  good : IsGood l.bundle l.log.lemmas l.i ↔ Pending l.bundle l.log.lemmas l.i (l.waiting ∷ waiting_in l.branches) l.rest;
+  good : IsGood l.bundle l.log l.i ↔ Pending l.bundle l.log l.i (l.waiting ∷ waiting_in l.branches) l.rest;
   bound : l.waiting.bound ≡ l.branches.bound;
   boards : AreBoards l.bundle.side (l.waiting ∷ waiting_in l.branches);
 }

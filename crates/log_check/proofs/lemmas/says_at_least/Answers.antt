@@ -1,7 +1,8 @@
 use Rattle.std.proofs.Common.{◌≤◌, le-leb, leb-true, subst, sym}
 use Rattle.puz_board.proofs.BoardLemmas.{side_of-board}
 use Rattle.tab_check.specs.declared.tables.Count.TheVariants.{Finite}
-use Rattle.log_check.proofs.NodeLemmas.{SaysAtLeast-count}
+use Rattle.set_sum.specs.Bounds.{Reaches}
+use Rattle.set_sum.proofs.SayLemmas.{reaches_from_sum}
 use Rattle.log_check.proofs.lemmas.says_at_least.Goals as goal
 
 pub returns-in-Finite : goal.returns-in-Finite
@@ -10,10 +11,10 @@ returns-in-Finite c =
       λ test. record {
         count = Finite c.in-Finite.sum;
         says = c.in-Finite.ensures.sum;
-        enough = subst (λ k. k ≤ c.in-Finite.sum) c.from.ensures (leb-true c.from.result c.in-Finite.sum test);
+        enough = subst (λ k. Reaches k w.bound) c.told_of.ensures (subst (λ k. k ≤ c.told_of.result) c.from.ensures (leb-true c.from.result c.told_of.result test));
       },
-      λ least. le-leb c.from.result c.in-Finite.sum (subst (λ k. k ≤ c.in-Finite.sum) (sym c.from.ensures)
-          (SaysAtLeast-count c.args.bundle.now c.args.set w.board w.bound (Finite c.in-Finite.sum) c.in-Finite.ensures.sum least)),
+      λ least. le-leb c.from.result c.told_of.result (subst (λ k. k ≤ c.told_of.result) (sym c.from.ensures)
+          (subst (λ k. Reaches k w.bound) (sym c.told_of.ensures) (reaches_from_sum c.args.bundle.now c.args.by_parity c.args.set w.board (Finite c.in-Finite.sum) w.bound c.in-Finite.ensures.sum least))),
     )
 
 pub sum-requires-clause-side : goal.sum-requires-clause-side

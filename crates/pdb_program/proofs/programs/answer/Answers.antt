@@ -1,7 +1,7 @@
-use Rattle.std.proofs.Common.{◌≡◌, refl, rules, map, string_bytes}
-use Rattle.pdb_words.specs.Asked.{make_table}
+use Rattle.std.proofs.Common.{◌≡◌, ◌∙◌, ap, refl, rules, map, string_bytes}
+use Rattle.pdb_words.specs.Asked.{bound, file_names, make_table, optimal}
 use Rattle.pdb_words.specs.CommandLine.{asked_of}
-use Rattle.pdb_program.proofs.ProgramLemmas.{made_ends, parsed_ends}
+use Rattle.pdb_program.proofs.ProgramLemmas.{asked_ends, made_ends, parsed_ends, same_check}
 use Rattle.pdb_program.proofs.programs.answer.Goals as goal
 
 pub returns-in-Ok-MakeTable-clause-ends : goal.returns-in-Ok-MakeTable-clause-ends
@@ -12,3 +12,25 @@ returns-in-Ok-MakeTable-clause-ends g c = λ parses.
 
 pub returns-in-Err-clause-ends : goal.returns-in-Err-clause-ends
 returns-in-Err-clause-ends g c = λ parses. parsed_ends _ _ _ _ _ c.explain.result parses refl (c.explain.ensures _ c.in-Err.ensures.cause)
+
+pub returns-in-Ok-Bound-clause-ends : goal.returns-in-Ok-Bound-clause-ends
+returns-in-Ok-Bound-clause-ends g c = λ parses.
+    let m = c.in-Ok-Bound.check in
+    let call = c.names_in in
+    let n = call.result in
+    let asked : bound m.text.now m.sets.now m.log.now (file_names m.tables.items) m.workers m.fold ≡ asked_of (map string_bytes c.args.words.now) = search rules in
+    let tables : file_names n.tables.now ≡ file_names m.tables.items = ap file_names call.ensures.tables in
+    let same = same_check bound n.text.now m.text.now n.sets.now m.sets.now n.log.now m.log.now (file_names n.tables.now) (file_names m.tables.items) m.workers n.fold m.fold
+    call.ensures.text call.ensures.sets call.ensures.log tables call.ensures.fold in
+    asked_ends (bound n.text.now n.sets.now n.log.now (file_names n.tables.now) m.workers n.fold) _ _ _ c.run_bound.result (same ∙ asked) c.run_bound.ensures
+
+pub returns-in-Ok-Optimal-clause-ends : goal.returns-in-Ok-Optimal-clause-ends
+returns-in-Ok-Optimal-clause-ends g c = λ parses.
+    let m = c.in-Ok-Optimal.check in
+    let call = c.names_in-in-Ok-Optimal in
+    let n = call.result in
+    let asked : optimal m.text.now m.sets.now m.log.now (file_names m.tables.items) m.workers m.fold ≡ asked_of (map string_bytes c.args.words.now) = search rules in
+    let tables : file_names n.tables.now ≡ file_names m.tables.items = ap file_names call.ensures.tables in
+    let same = same_check optimal n.text.now m.text.now n.sets.now m.sets.now n.log.now m.log.now (file_names n.tables.now) (file_names m.tables.items) m.workers n.fold m.fold
+    call.ensures.text call.ensures.sets call.ensures.log tables call.ensures.fold in
+    asked_ends (optimal n.text.now n.sets.now n.log.now (file_names n.tables.now) m.workers n.fold) _ _ _ c.run_optimal.result (same ∙ asked) c.run_optimal.ensures

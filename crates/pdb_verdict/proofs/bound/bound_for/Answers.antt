@@ -4,4 +4,4 @@ use Rattle.pdb_verdict.proofs.bound.bound_for.Goals as goal
 
 pub returns-clause-found : goal.returns-clause-found
 returns-clause-found g c =
-    found_over c.args.board.now c.args.sets.now c.args.log.now (all_bytes c.args.tables.now) c.in_ok-bundle.bundle c.in_ok-bundle.ensures.ok c.bound_over.result c.bound_over.ensures.found
+    found_over c.args.tables.fold c.args.board.now c.args.sets.now c.args.log.now (all_bytes c.args.tables.files.now) c.in_ok-bundle.bundle c.in_ok-bundle.ensures.ok c.bound_over.result c.bound_over.ensures.found

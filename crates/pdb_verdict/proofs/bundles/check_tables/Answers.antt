@@ -1,29 +1,33 @@
-use Rattle.std.proofs.Common.{◌≡◌, ◌∙◌, ap, rules, subst, sym, Some}
+use Rattle.std.proofs.Common.{◌≡◌, ◌∙◌, ap, rules, subst, sym, false, Some}
 use Rattle.std.specs.Prelude.{slice_get}
 use Rattle.tab_check.specs.ExactTables.{IsExactFile}
+use Rattle.set_sum.specs.declared.parts.Part.TheVariants.{Full}
 use Rattle.pdb_run.specs.Answers.{all_bytes}
 use Rattle.pdb_verdict.specs.Steps.{IsCauseForTables}
-use Rattle.pdb_verdict.proofs.BundleLemmas.{cause_for_tables, exact-next, first_taken, item_there}
+use Rattle.pdb_verdict.proofs.BundleLemmas.{cause_for_tables, first_taken, item_there, parts_count, parts_next}
 use Rattle.pdb_verdict.proofs.bundles.check_tables.Goals as goal
 
 pub returns-in_err-table-clause-err : goal.returns-in_err-table-clause-err
 returns-in_err-table-clause-err g c =
     let files = all_bytes c.args.files.now in
+    let so_far = c.loop-file.invariant in
     let there : slice_get files c.loop-file.file-index ≡ Some c.as_slice.result.now =
     item_there _ c.args.files.now c.loop-file.file-index c.file-item.result c.loop-file-test.true c.file-item.is ∙ ap Some (sym c.as_slice.ensures.value) in
     let cause : IsCauseForTables c.in_err-table.field-0.0 files =
-    cause_for_tables c.loop-file.tables.items files c.loop-file.file-index c.len.result c.as_slice.result.now c.in_err-table.field-0.0 c.loop-file.invariant there (search (rules, c.len.ensures, c.loop-file.tables.ok)) c.in_err-table.ensures.err in
+    cause_for_tables so_far.tables files c.loop-file.file-index c.len.result c.as_slice.result.now c.in_err-table.field-0.0 so_far.exact there
+    (search (rules, c.len.ensures, c.loop-file.parts.ok) ∙ parts_count false _ _ so_far) c.in_err-table.ensures.err in
     search (rules, cause)
 
 pub returns-then-is_err-clause-err : goal.returns-then-is_err-clause-err
 returns-then-is_err-clause-err g c =
     let there = item_there _ c.args.files.now c.loop-file.file-index c.file-item.result c.loop-file-test.true c.file-item.is in
     let exact = subst (IsExactFile c.in_ok-table.table) c.as_slice.ensures.value c.in_ok-table.ensures.ok in
-    first_taken c.loop-file.tables.items (all_bytes c.args.files.now) c.loop-file.file-index c.in_ok-table.table c.file-item.result.items c.loop-file.invariant there exact.is_file
+    first_taken c.loop-file.invariant.tables (all_bytes c.args.files.now) c.loop-file.file-index c.in_ok-table.table c.file-item.result.items c.loop-file.invariant.exact there exact.is_file
 
 pub loop-file-preserved : goal.loop-file-preserved
 loop-file-preserved g c =
     let there = item_there _ c.args.files.now c.loop-file.file-index c.file-item.result c.loop-file-test.true c.file-item.is in
     let exact = subst (IsExactFile c.in_ok-table.table) c.as_slice.ensures.value c.in_ok-table.ensures.ok in
-    let next = exact-next c.loop-file.tables.items (all_bytes c.args.files.now) c.loop-file.file-index c.in_ok-table.table c.file-item.result.items c.loop-file.invariant there exact in
+    let is : c.with_slots.result ≡ c.in_ok-table.table = search rules in
+    let next = parts_next false c.loop-file.parts.items (all_bytes c.args.files.now) c.loop-file.file-index c.in_ok-table.table (Full c.with_slots.result) c.file-item.result.items c.loop-file.invariant there exact (ap Full is) in
     rw c.push.ensures.items (rw c.if-is_err.ensures.negation next)

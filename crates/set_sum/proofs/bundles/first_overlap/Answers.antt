@@ -1,32 +1,33 @@
-use Rattle.std.proofs.Common.{◌≡◌, ◌<◌, ◌≤◌, ℕ, List, [], length, map, sym, ◌∙◌, subst}
+use Rattle.std.proofs.Common.{◌≡◌, ◌<◌, ◌≤◌, List, [], length, map, sym, ◌∙◌, subst}
 use Rattle.std.specs.List.{AllByRecursion}
 use Rattle.std.proofs.lemmas.Bool.{both_ways}
 use Rattle.std.proofs.lemmas.List.{length-map, take_all}
 use Rattle.set_sum.specs.Reading.{NamesOverlap}
+use Rattle.set_sum.specs.declared.members.Member.{Member}
 use Rattle.set_sum.proofs.ListLemmas.{all_at, all_more, first_with, mapped_at}
 use Rattle.set_sum.proofs.bundles.first_overlap.Goals as goal
 
-pub overlap-requires : goal.overlap-requires
-overlap-requires c =
+pub overlap-requires-clause-there : goal.overlap-requires-clause-there
+overlap-requires-clause-there c =
     let sets = c.args.sets.now in
-    let all : List (List ℕ) = map (λ set. set.items) sets in
+    let all : List (List Member) = map (λ set. set.items) sets in
     let size : length all ≡ length sets = length-map sets (λ set. set.items) in
     let at = mapped_at (λ set. set.items) sets c.loop-line.line c.index-sets-line.result [] c.loop-line-test.true c.index-sets-line.is ∙ sym c.deref.ensures.0 in
-    subst (AllByRecursion (λ i. i < length c.args.tables.now)) at (all_at (AllByRecursion (λ i. i < length c.args.tables.now)) all c.loop-line.line [] (subst (λ n. c.loop-line.line < n) (sym size) c.loop-line-test.true) c.requires)
+    subst (AllByRecursion (λ m. m.table < length c.args.tables.now)) at (all_at (AllByRecursion (λ m. m.table < length c.args.tables.now)) all c.loop-line.line [] (subst (λ n. c.loop-line.line < n) (sym size) c.loop-line-test.true) c.requires.there)
 
 pub loop-line-preserved : goal.loop-line-preserved
 loop-line-preserved c =
     let sets = c.args.sets.now in
-    let all : List (List ℕ) = map (λ set. set.items) sets in
+    let all : List (List Member) = map (λ set. set.items) sets in
     let size : length all ≡ length sets = length-map sets (λ set. set.items) in
     let at = mapped_at (λ set. set.items) sets c.loop-line.line c.index-sets-line.result [] c.loop-line-test.true c.index-sets-line.is ∙ sym c.deref.ensures.0 in
-    all_more (λ numbers. ¬ NamesOverlap c.args.tables.now numbers) all c.loop-line.line [] (subst (λ n. c.loop-line.line < n) (sym size) c.loop-line-test.true) c.loop-line.invariant (
-    subst (λ numbers. ¬ NamesOverlap c.args.tables.now numbers) (sym at) (λ h. both_ways c.overlap.result c.if-overlap.false (c.overlap.ensures.1 h)))
+    all_more (λ set. ¬ NamesOverlap c.args.tables.now set) all c.loop-line.line [] (subst (λ n. c.loop-line.line < n) (sym size) c.loop-line-test.true) c.loop-line.invariant (
+    subst (λ set. ¬ NamesOverlap c.args.tables.now set) (sym at) (λ h. both_ways c.overlap.result c.if-overlap.false (c.overlap.ensures.1 h)))
 
 pub returns-then-overlap : goal.returns-then-overlap
 returns-then-overlap c =
     let sets = c.args.sets.now in
-    let all : List (List ℕ) = map (λ set. set.items) sets in
+    let all : List (List Member) = map (λ set. set.items) sets in
     let size : length all ≡ length sets = length-map sets (λ set. set.items) in
     let at = mapped_at (λ set. set.items) sets c.loop-line.line c.index-sets-line.result [] c.loop-line-test.true c.index-sets-line.is ∙ sym c.deref.ensures.0 in
     first_with (NamesOverlap c.args.tables.now) all c.loop-line.line [] (subst (λ n. c.loop-line.line < n) (sym size) c.loop-line-test.true) (
@@ -35,6 +36,6 @@ returns-then-overlap c =
 pub returns : goal.returns
 returns c =
     let sets = c.args.sets.now in
-    let all : List (List ℕ) = map (λ set. set.items) sets in
+    let all : List (List Member) = map (λ set. set.items) sets in
     let size : length all ≡ length sets = length-map sets (λ set. set.items) in
-    subst (AllByRecursion (λ numbers. ¬ NamesOverlap c.args.tables.now numbers)) (take_all c.loop-line.line all (subst (λ n. n ≤ c.loop-line.line) (sym size) c.loop-line-test.false)) c.loop-line.invariant
+    subst (AllByRecursion (λ set. ¬ NamesOverlap c.args.tables.now set)) (take_all c.loop-line.line all (subst (λ n. n ≤ c.loop-line.line) (sym size) c.loop-line-test.false)) c.loop-line.invariant

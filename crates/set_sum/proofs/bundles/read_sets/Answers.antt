@@ -1,7 +1,7 @@
 use Rattle.std.proofs.Common.{◌≡◌, ◌<◌, length, map, sym, ◌∙◌, ap, subst, arith}
 use Rattle.std.specs.List.{AllByRecursion}
 use Rattle.set_sum.specs.ReadLines.{AreSetsOf}
-use Rattle.set_sum.specs.Reading.{IsFirstWith, NamesNoTable, NamesOverlap}
+use Rattle.set_sum.specs.Reading.{IsFirstWith, NamesNoTable, NamesOverlap, NamesTwice}
 use Rattle.set_sum.proofs.LinesReadLemmas.{all_kept, all_there, first-within, missing_line}
 use Rattle.set_sum.proofs.ListLemmas.{all_weaker}
 use Rattle.set_sum.proofs.bundles.read_sets.Goals as goal
@@ -16,8 +16,8 @@ overflow_cast-result c =
     let few = c.if-lines-gt-MOST_SETS.false in
     omega arith
 
-pub returns-in-Some-first_overlap-clause-err : goal.returns-in-Some-first_overlap-clause-err
-returns-in-Some-first_overlap-clause-err c =
+pub returns-in-Some-first_twice-clause-err : goal.returns-in-Some-first_twice-clause-err
+returns-in-Some-first_twice-clause-err c =
     let lines = c.in-Ok.lines in
     let ok = c.in-Ok.ensures.ok in
     let tables = c.args.tables.now in
@@ -26,8 +26,24 @@ returns-in-Some-first_overlap-clause-err c =
       c.requires,
       ok.0,
       record { lines = ok.1; few = let counted : lines.count ≡ length ok.0 = ok.2.counted in let few = c.if-lines-gt-MOST_SETS.false in omega arith },
-      all_weaker (AllByRecursion (λ i. i < length tables)) (λ numbers. ¬ NamesNoTable tables numbers) (all_there (length tables)) ok.0 kept.1,
-      subst (λ sets. IsFirstWith (NamesOverlap tables) sets c.in-Some-first_overlap.line) same c.in-Some-first_overlap.ensures,
+      all_weaker (AllByRecursion (λ m. m.table < length tables)) (λ set. ¬ NamesNoTable tables set) (all_there (length tables)) ok.0 kept.1,
+      subst (λ sets. IsFirstWith (NamesTwice tables) sets c.in-Some-first_twice.line) same c.in-Some-first_twice.ensures,
+    )
+
+pub returns-in-Some-first_overlap-clause-err : goal.returns-in-Some-first_overlap-clause-err
+returns-in-Some-first_overlap-clause-err c =
+    let lines = c.in-Ok.lines in
+    let ok = c.in-Ok.ensures.ok in
+    let tables = c.args.tables.now in
+    let kept = all_kept (length tables) ok.0 lines.count lines.missing (map (λ set. set.items) lines.sets.items) ok.2 c.in_default.is c.if-lines-gt-MOST_SETS.false in
+    let same : map (λ set. set.items) c.deref.result.now ≡ ok.0 = ap (map (λ set. set.items)) c.deref.ensures.0 ∙ kept.0 in
+    let also : map (λ set. set.items) c.deref-2.result.now ≡ ok.0 = ap (map (λ set. set.items)) c.deref-2.ensures.0 ∙ kept.0 in (
+      c.requires,
+      ok.0,
+      record { lines = ok.1; few = let counted : lines.count ≡ length ok.0 = ok.2.counted in let few = c.if-lines-gt-MOST_SETS.false in omega arith },
+      all_weaker (AllByRecursion (λ m. m.table < length tables)) (λ set. ¬ NamesNoTable tables set) (all_there (length tables)) ok.0 kept.1,
+      subst (AllByRecursion (λ set. ¬ NamesTwice tables set)) same c.in_default-first_twice.ensures,
+      subst (λ sets. IsFirstWith (NamesOverlap tables) sets c.in-Some-first_overlap.line) also c.in-Some-first_overlap.ensures,
     )
 
 pub returns-clause-ok : goal.returns-clause-ok
@@ -37,8 +53,10 @@ returns-clause-ok c =
     let tables = c.args.tables.now in
     let kept = all_kept (length tables) ok.0 lines.count lines.missing (map (λ set. set.items) lines.sets.items) ok.2 c.in_default.is c.if-lines-gt-MOST_SETS.false in
     let same : map (λ set. set.items) c.deref.result.now ≡ ok.0 = ap (map (λ set. set.items)) c.deref.ensures.0 ∙ kept.0 in
+    let also : map (λ set. set.items) c.deref-2.result.now ≡ ok.0 = ap (map (λ set. set.items)) c.deref-2.ensures.0 ∙ kept.0 in
     subst (AreSetsOf tables c.args.text.now) (sym kept.0) (record {
       are_sets = record { lines = ok.1; few = let counted : lines.count ≡ length ok.0 = ok.2.counted in let few = c.if-lines-gt-MOST_SETS.false in omega arith };
-      numbers = kept.1;
-      disjoint = subst (AllByRecursion (λ numbers. ¬ NamesOverlap tables numbers)) same c.in_default-first_overlap.ensures;
+      there = kept.1;
+      apart = subst (AllByRecursion (λ set. ¬ NamesTwice tables set)) same c.in_default-first_twice.ensures;
+      disjoint = subst (AllByRecursion (λ set. ¬ NamesOverlap tables set)) also c.in_default-first_overlap.ensures;
     })

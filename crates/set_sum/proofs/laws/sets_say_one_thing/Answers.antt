@@ -2,4 +2,4 @@ use Rattle.set_sum.proofs.SumLemmas.{set_once}
 use Rattle.set_sum.proofs.laws.sets_say_one_thing.Goals as goal
 
 pub returns : goal.returns
-returns c set b one other says also = set_once set b one other says also
+returns c tables set b one other says also = set_once tables set b one other says also

@@ -2,7 +2,7 @@ use Rattle.std.proofs.Common.{◌≡◌, ◌≢◌, ℕ, ◌<◌, false, true, e
 use Rattle.std.specs.List.{AllByRecursion}
 use Rattle.std.proofs.lemmas.Bool.{both_ways, cases_Bool, eq-eqb, eqb-true, eqb-false}
 use Rattle.std.proofs.lemmas.List.{take_all}
-use Rattle.tab_check.specs.ExactTables.{IsExactTable}
+use Rattle.set_sum.specs.Parts.{IsExactPart, part_pattern}
 use Rattle.set_sum.specs.Reading.{first_side}
 use Rattle.set_sum.proofs.ListLemmas.{all_more, all_weaker, first_side-read, first_with, read_at}
 use Rattle.set_sum.proofs.tables.one_side.Goals as goal
@@ -29,10 +29,10 @@ loop-i-preserved c =
     let i = c.loop-i.i in
     let t = c.index-tables-i.result in
     let at : get_or tables i t ≡ t = read_at tables i t t c.loop-i-test.true c.index-tables-i.is in
-    let side : t.pattern.side ≡ c.side-side.result = sym (c.side.ensures.side ∙ ap (λ p. p.side) c.pattern-in-loop-i.ensures.pattern) ∙ agree c.side.result c.side-side.result c.ne.result c.ne.ensures c.if-ne.false in
+    let side : (part_pattern t).side ≡ c.side-side.result = sym (c.side.ensures.side ∙ ap (λ p. p.side) c.pattern-in-loop-i.ensures.pattern) ∙ agree c.side.result c.side-side.result c.ne.result c.ne.ensures c.if-ne.false in
     record {
-      one_side = all_more (λ u. u.pattern.side ≡ c.side-side.result) tables i t c.loop-i-test.true c.loop-i.invariant.one_side (subst (λ u. u.pattern.side ≡ c.side-side.result) (sym at) side);
-      exact = all_more IsExactTable tables i t c.loop-i-test.true c.loop-i.invariant.exact (subst IsExactTable (sym at) c.pattern-in-loop-i.ensures.exact);
+      one_side = all_more (λ u. (part_pattern u).side ≡ c.side-side.result) tables i t c.loop-i-test.true c.loop-i.invariant.one_side (subst (λ u. (part_pattern u).side ≡ c.side-side.result) (sym at) side);
+      exact = all_more IsExactPart tables i t c.loop-i-test.true c.loop-i.invariant.exact (subst IsExactPart (sym at) c.pattern-in-loop-i.ensures.exact);
     }
 
 pub returns-then-ne-clause-err : goal.returns-then-ne-clause-err
@@ -43,11 +43,11 @@ returns-then-ne-clause-err c text =
     let any : 0 < length tables = some (length tables) c.is_empty.result c.is_empty.ensures c.if-is_empty.false in
     let first : c.side-side.result ≡ first_side tables = c.side-side.ensures.side ∙ ap (λ p. p.side) c.pattern.ensures.pattern ∙ sym (first_side-read tables c.index-tables-0.result any c.index-tables-0.is) in
     let at : get_or tables i t ≡ t = read_at tables i t t c.loop-i-test.true c.index-tables-i.is in
-    let side : c.side.result ≡ t.pattern.side = c.side.ensures.side ∙ ap (λ p. p.side) c.pattern-in-loop-i.ensures.pattern in
-    let other : t.pattern.side ≢ first_side tables = λ same. differ c.side.result c.side-side.result c.ne.result c.ne.ensures c.if-ne.true (side ∙ same ∙ sym first) in (
+    let side : c.side.result ≡ (part_pattern t).side = c.side.ensures.side ∙ ap (λ p. p.side) c.pattern-in-loop-i.ensures.pattern in
+    let other : (part_pattern t).side ≢ first_side tables = λ same. differ c.side.result c.side-side.result c.ne.result c.ne.ensures c.if-ne.true (side ∙ same ∙ sym first) in (
       record { some = any; few = c.if-tables-gt-MOST_TABLES.false },
-      first_with (λ u. u.pattern.side ≢ first_side tables) tables i t c.loop-i-test.true (subst (λ u. u.pattern.side ≢ first_side tables) (sym at) other) (
-          all_weaker (λ u. u.pattern.side ≡ c.side-side.result) (λ u. ¬ (u.pattern.side ≢ first_side tables)) (λ u same ne. ne (same ∙ first)) (take i tables) c.loop-i.invariant.one_side),
+      first_with (λ u. (part_pattern u).side ≢ first_side tables) tables i t c.loop-i-test.true (subst (λ u. (part_pattern u).side ≢ first_side tables) (sym at) other) (
+          all_weaker (λ u. (part_pattern u).side ≡ c.side-side.result) (λ u. ¬ ((part_pattern u).side ≢ first_side tables)) (λ u same ne. ne (same ∙ first)) (take i tables) c.loop-i.invariant.one_side),
     )
 
 pub returns-clause-ok : goal.returns-clause-ok
@@ -59,7 +59,7 @@ returns-clause-ok c =
       first,
       record {
         count = record { some = any; few = c.if-tables-gt-MOST_TABLES.false };
-        one_side = all_weaker (λ u. u.pattern.side ≡ c.side-side.result) (λ u. u.pattern.side ≡ first_side tables) (λ u same. same ∙ first) tables (subst (AllByRecursion (λ u. u.pattern.side ≡ c.side-side.result)) all c.loop-i.invariant.one_side);
+        one_side = all_weaker (λ u. (part_pattern u).side ≡ c.side-side.result) (λ u. (part_pattern u).side ≡ first_side tables) (λ u same. same ∙ first) tables (subst (AllByRecursion (λ u. (part_pattern u).side ≡ c.side-side.result)) all c.loop-i.invariant.one_side);
       },
-      subst (AllByRecursion IsExactTable) all c.loop-i.invariant.exact,
+      subst (AllByRecursion IsExactPart) all c.loop-i.invariant.exact,
     )

@@ -1,8 +1,9 @@
 use Rattle.std.proofs.Common.{take}
-use Rattle.set_sum.specs.Bundles.{members}
-use Rattle.set_sum.specs.Reading.{patterns_of}
+use Rattle.set_sum.specs.Members.{patterns_of_set}
+use Rattle.set_sum.specs.Parts.{parts_shown}
+use Rattle.set_sum.specs.Reading.{first_side}
 use Rattle.set_sum.proofs.TakenLemmas.{IsTaken}
 use Rattle.set_sum.proofs.tables.overlap.Given as goal
 
-abbrev pub invariant-loop-number : goal.invariant-loop-number
-invariant-loop-number l = IsTaken (members (patterns_of l.tables) (take l.number-index l.numbers)) l.taken
+abbrev pub invariant-loop-member : goal.invariant-loop-member
+invariant-loop-member l = IsTaken (patterns_of_set (first_side l.tables) (parts_shown l.tables) (take l.member-index l.set)) l.taken

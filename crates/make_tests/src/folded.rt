@@ -1,0 +1,51 @@
+//! Searches over folded tables.
+
+use crate::boards::BOARDS_OF_SIDE_3;
+use crate::finding::{PLENTY, certified, folded_bundle, found, halves_of_side_3};
+use puz_make::MakeFault;
+use samples::LeastCosts;
+use samples::boards::RING;
+use samples::files::{TILE_1, TILE_3, TILES_12};
+use std::test::Fail;
+
+#[test]
+fn solutions_of_side_2_are_proved_shortest(rt: HostRuntime) {
+    let one = folded_bundle(&rt, &[&TILE_1], b"set 0 0t\n");
+    let two = folded_bundle(&rt, &[&TILES_12], b"set 0\n");
+    let parts = folded_bundle(&rt, &[&TILES_12, &TILE_3], b"set 0t 1\nset 0\n");
+    for bundle in [&one, &two, &parts] {
+        for (step, numbers) in RING.iter().enumerate() {
+            let moves = step.min(12 - step);
+            let bound = certified(&rt, bundle, numbers);
+            assert_eq!(rt; bound, Ok(moves as u8), "{numbers:?}");
+        }
+    }
+}
+
+#[test]
+fn solutions_of_side_3_are_as_short_as_a_search_finds_them(rt: HostRuntime) -> Result<(), Fail> {
+    let (first, second) = halves_of_side_3(rt.alloc())?;
+    let search = LeastCosts::new(rt.alloc(), &[1, 2, 3, 4, 5, 6, 7, 8])?;
+    let both = folded_bundle(&rt, &[&first, &second], b"set 0 1\nset 0t 1t\n");
+    for numbers in &BOARDS_OF_SIDE_3 {
+        let bound = certified(&rt, &both, numbers);
+        assert_eq!(rt; bound, Ok(search.of(numbers)), "{numbers:?}");
+    }
+    Ok(())
+}
+
+// The tiles 1 and 2 are in cells that have a way home from the other region alone, and each move leads to cells that have
+// none. So each of the thresholds 3, 5 and so on to 255 expands the first board, and cuts the next two off.
+#[test]
+fn boards_that_only_fold_to_a_way_home_have_no_solution(rt: HostRuntime) {
+    let two = folded_bundle(&rt, &[&TILES_12], b"set 0\n");
+    let cases: [([u8; 4], u64, MakeFault); 3] = [
+        ([1, 0, 3, 2], 126, MakeFault::K1),
+        ([1, 0, 3, 2], 127, MakeFault::K2),
+        ([0, 1, 3, 2], PLENTY, MakeFault::K2),
+    ];
+    for (numbers, budget, fault) in cases {
+        let found = found(&rt, &two, &numbers, budget);
+        assert_eq!(rt; found.err(), Some(fault), "{numbers:?} {budget}");
+    }
+}

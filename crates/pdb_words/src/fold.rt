@@ -1,0 +1,37 @@
+//! The flag `--fold`.
+
+ghost use Rattle.std.specs.Prelude.{◌≡◌, IfOk, false};
+ghost use Rattle.clap.specs.Words.{app_of, found_of, rows_of, rule_of, with_rule};
+ghost use Rattle.clap.specs.declared.Command.TheViews.{out-Command};
+ghost use Rattle.pdb_words.specs.Fold.{fold_flag, fold_in};
+
+use crate::commands::with_argument;
+use clap::{Arg, ArgAction, ArgMatches, Command};
+use std::alloc::{AllocError, Global};
+
+/// The flag, for `clap`.
+fn fold_flag<'a>(alloc: Global) -> Arg<'a>
+    ensures rule { rule_of result ≡ fold_flag }
+    ensures local { result.global ≡ false }
+{
+    Arg::new(alloc, "fold")
+        .long("fold")
+        .action(ArgAction::SetTrue)
+        .help("Fold each table once it is checked: one byte a placement")
+}
+
+/// A command with the flag.
+pub(crate) fn with_fold<'a>(alloc: Global, command: Command<'a>) -> Result<Command<'a>, AllocError>
+    ensures app { IfOk result (λ c. app_of c ≡ with_rule (app_of command.entry) fold_flag) }
+    ensures local { IfOk result (λ c. (out-Command c).has_globals ≡ (out-Command command.entry).has_globals) }
+{
+    with_argument(command, fold_flag(alloc))
+}
+
+/// Whether these matches of a command ask that tables are folded.
+pub(crate) fn fold_in(found: &ArgMatches<'_>) -> bool
+    ensures { result ≡ fold_in (rows_of (found_of found.now)) }
+{
+    // `clap` gives a flag that stands in the words this text.
+    found.get_str("fold") == Some("true")
+}

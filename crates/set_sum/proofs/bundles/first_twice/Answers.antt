@@ -1,0 +1,41 @@
+use Rattle.std.proofs.Common.{◌≡◌, ◌<◌, ◌≤◌, List, [], length, map, sym, ◌∙◌, subst}
+use Rattle.std.specs.List.{AllByRecursion}
+use Rattle.std.proofs.lemmas.Bool.{both_ways}
+use Rattle.std.proofs.lemmas.List.{length-map, take_all}
+use Rattle.set_sum.specs.Reading.{NamesTwice}
+use Rattle.set_sum.specs.declared.members.Member.{Member}
+use Rattle.set_sum.proofs.ListLemmas.{all_at, all_more, first_with, mapped_at}
+use Rattle.set_sum.proofs.bundles.first_twice.Goals as goal
+
+pub twice-requires-clause-there : goal.twice-requires-clause-there
+twice-requires-clause-there c =
+    let sets = c.args.sets.now in
+    let all : List (List Member) = map (λ set. set.items) sets in
+    let size : length all ≡ length sets = length-map sets (λ set. set.items) in
+    let at = mapped_at (λ set. set.items) sets c.loop-line.line c.index-sets-line.result [] c.loop-line-test.true c.index-sets-line.is ∙ sym c.deref.ensures.0 in
+    subst (AllByRecursion (λ m. m.table < length c.args.tables.now)) at (all_at (AllByRecursion (λ m. m.table < length c.args.tables.now)) all c.loop-line.line [] (subst (λ n. c.loop-line.line < n) (sym size) c.loop-line-test.true) c.requires.there)
+
+pub loop-line-preserved : goal.loop-line-preserved
+loop-line-preserved c =
+    let sets = c.args.sets.now in
+    let all : List (List Member) = map (λ set. set.items) sets in
+    let size : length all ≡ length sets = length-map sets (λ set. set.items) in
+    let at = mapped_at (λ set. set.items) sets c.loop-line.line c.index-sets-line.result [] c.loop-line-test.true c.index-sets-line.is ∙ sym c.deref.ensures.0 in
+    all_more (λ set. ¬ NamesTwice c.args.tables.now set) all c.loop-line.line [] (subst (λ n. c.loop-line.line < n) (sym size) c.loop-line-test.true) c.loop-line.invariant (
+    subst (λ set. ¬ NamesTwice c.args.tables.now set) (sym at) (λ h. both_ways c.twice.result c.if-twice.false (c.twice.ensures.1 h)))
+
+pub returns-then-twice : goal.returns-then-twice
+returns-then-twice c =
+    let sets = c.args.sets.now in
+    let all : List (List Member) = map (λ set. set.items) sets in
+    let size : length all ≡ length sets = length-map sets (λ set. set.items) in
+    let at = mapped_at (λ set. set.items) sets c.loop-line.line c.index-sets-line.result [] c.loop-line-test.true c.index-sets-line.is ∙ sym c.deref.ensures.0 in
+    first_with (NamesTwice c.args.tables.now) all c.loop-line.line [] (subst (λ n. c.loop-line.line < n) (sym size) c.loop-line-test.true) (
+    subst (NamesTwice c.args.tables.now) (sym at) (c.twice.ensures.0 c.if-twice.true)) c.loop-line.invariant
+
+pub returns : goal.returns
+returns c =
+    let sets = c.args.sets.now in
+    let all : List (List Member) = map (λ set. set.items) sets in
+    let size : length all ≡ length sets = length-map sets (λ set. set.items) in
+    subst (AllByRecursion (λ set. ¬ NamesTwice c.args.tables.now set)) (take_all c.loop-line.line all (subst (λ n. n ≤ c.loop-line.line) (sym size) c.loop-line-test.false)) c.loop-line.invariant

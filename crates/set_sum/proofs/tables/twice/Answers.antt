@@ -1,0 +1,11 @@
+use Rattle.std.proofs.Common.{refl}
+use Rattle.std.proofs.lemmas.Bool.{both_ways}
+use Rattle.set_sum.proofs.ListLemmas.{no_member}
+use Rattle.set_sum.proofs.TwiceLemmas.{twice_here, twice_none}
+use Rattle.set_sum.proofs.tables.twice.Goals as goal
+
+pub returns-then-meets : goal.returns-then-meets
+returns-then-meets c = (λ _. twice_here c.args.tables.now c.args.set.now c.loop-i.i no_member c.loop-i-test.true (c.meets.ensures.0 c.if-meets.true), λ _. refl)
+
+pub loop-i-preserved : goal.loop-i-preserved
+loop-i-preserved c = twice_none c.args.tables.now c.args.set.now c.loop-i.i no_member c.loop-i-test.true c.loop-i.invariant (λ any. both_ways c.meets.result c.if-meets.false (c.meets.ensures.1 any))
