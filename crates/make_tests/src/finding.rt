@@ -107,7 +107,7 @@ pub(crate) fn expands<R: Threads + Wait + AllocGlobal + Abort>(
     numbers: &[u8],
     expanded: u64,
 ) {
-    let below = found(rt, bundle, numbers, expanded - 1).err();
+    let below = found(rt, bundle, numbers, expanded.saturating_sub(1)).err();
     assert_eq!(rt; below, Some(MakeFault::K1), "{numbers:?}");
     assert!(rt; found(rt, bundle, numbers, expanded).is_ok(), "{numbers:?}");
 }

@@ -6,20 +6,27 @@ use puz_make::MakeFault;
 use samples::LeastCosts;
 use samples::boards::RING;
 use samples::files::{TILE_1, TILE_3, TILES_12};
+use set_sum::Bundle;
+use std::process::Abort;
+use std::sync::Wait;
 use std::test::Fail;
+use std::thread::Threads;
+
+/// Checks that each board of the ring is solved in its fewest moves.
+fn check_ring<R: Threads + Wait + AllocGlobal + Abort>(rt: &R, bundle: &Bundle<'_>) {
+    for (step, numbers) in RING.iter().enumerate() {
+        let moves = step.min(12 - step);
+        let bound = certified(rt, bundle, numbers);
+        assert_eq!(rt; bound, Ok(moves as u8), "{numbers:?}");
+    }
+}
 
 #[test]
 fn solutions_of_side_2_are_proved_shortest(rt: HostRuntime) {
-    let one = folded_bundle(&rt, &[&TILE_1], b"set 0 0t\n");
-    let two = folded_bundle(&rt, &[&TILES_12], b"set 0\n");
+    check_ring(&rt, &folded_bundle(&rt, &[&TILE_1], b"set 0 0t\n"));
+    check_ring(&rt, &folded_bundle(&rt, &[&TILES_12], b"set 0\n"));
     let parts = folded_bundle(&rt, &[&TILES_12, &TILE_3], b"set 0t 1\nset 0\n");
-    for bundle in [&one, &two, &parts] {
-        for (step, numbers) in RING.iter().enumerate() {
-            let moves = step.min(12 - step);
-            let bound = certified(&rt, bundle, numbers);
-            assert_eq!(rt; bound, Ok(moves as u8), "{numbers:?}");
-        }
-    }
+    check_ring(&rt, &parts);
 }
 
 #[test]
