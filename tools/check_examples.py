@@ -1,0 +1,42 @@
+#!/usr/bin/env python3
+"""Looks for the example of each crate's README.md among the tests: its lines stand there one after the other.
+
+    tools/check_examples.py
+
+An example is a block that begins with ```rust. Spaces at the beginning of a line don't count. Each crate but those of
+tests, and `pdb_cli` and `word_laws`, which nobody calls, has one. The last line is `N passed, M failed`, and the status is
+0 if none failed.
+"""
+
+import pathlib
+import re
+import sys
+
+ROOT = pathlib.Path(__file__).resolve().parent.parent
+CALLED_BY_NOBODY = {"pdb_cli", "word_laws"}
+
+
+def bare(text):
+    """The lines of a text without the spaces round them, with an end of line before and behind each."""
+    return "\n" + "".join(line.strip() + "\n" for line in text.splitlines())
+
+
+def main():
+    tests = [bare(file.read_text()) for file in sorted(ROOT.glob("crates/*_tests/src/*.rt"))]
+    failures = passed = 0
+    for page in sorted(ROOT.glob("crates/*/README.md")):
+        crate = page.parent.name
+        examples = re.findall(r"^```rust\n(.*?)^```", page.read_text(), re.MULTILINE | re.DOTALL)
+        wrong = [it for it in examples if not any(bare(it) in test for test in tests)]
+        if wrong:
+            print(f"FAILED: no test has this example of {crate}:\n{wrong[0]}", end="")
+        elif not examples and not crate.endswith("_tests") and crate not in CALLED_BY_NOBODY:
+            wrong = [crate]
+            print(f"FAILED: {crate} has no example")
+        failures += bool(wrong)
+        passed += not wrong
+    print(f"{passed} passed, {failures} failed")
+    return failures != 0
+
+
+sys.exit(main())
