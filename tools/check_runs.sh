@@ -1,14 +1,14 @@
 #!/usr/bin/env bash
 # Runs the built program and checks what it writes, where it writes it and its status: words, streams, files and their
-# names, limits, tables, workers, want of memory, changed inputs, the tour, and runs at once. What is wanted follows from
-# docs/FORMATS.md.
+# names, limits, tables, workers, want of memory, changed inputs, the tour, sizes, budgets, and runs at once. What is wanted
+# follows from docs/FORMATS.md, and of tables and searches from a plain search that does.
 #
 #     tools/check_runs.sh [PROGRAM]
 #
 # PROGRAM is the program to run; without it, that is the launcher, which builds what is not built. A line is written for
 # each check that fails, with what was written, and last the line `N passed, M failed`. The status is 0 if all passed, 1 if
 # one failed, and 2 where there is no program to run. It needs python3, as rt does, and the C compiler cc, for requests that
-# are refused.
+# are refused and for a plain search.
 set -uo pipefail
 
 root=$(dirname "$(dirname "$(readlink -f "${BASH_SOURCE[0]}")")")
@@ -825,6 +825,98 @@ status=0
 check 'a made table on a full standard output' [ "$status" = 2 ]
 check 'what was made stays' cmp -s made F12
 rm made
+
+#
+# Sizes and budgets.
+#
+
+# The line of an exact table whose file this is.
+exact_line() {
+    python3 - "$1" <<'END'
+import sys
+file = open(sys.argv[1], "rb").read()
+mask, entries = int.from_bytes(file[8:12], "big"), file[20:]
+deepest = max(count for count in range(254) if count in entries)
+print(f"exact side {file[5]} mask {mask} entries {len(entries)} unreachable {entries.count(255)} deepest {deepest}")
+END
+}
+
+# The tables of a plain search. In the last one, of 36 mebibytes, a move passes up to four tiles.
+cc -O2 -o "$work/plain_table" "$root/tools/plain_table.c" || exit 2
+for numbers in '2 2' '2 10' '3 48' '3 126' '3 254' '4 30' '4 32802' '5 6' '5 16777248' '5 62'; do
+    read -r side mask <<<"$numbers"
+    "$work/plain_table" "$side" "$mask" >plain
+    line=$(exact_line plain)
+    made plain "$line" "$side" "$mask" --workers 4
+done
+rm -f made
+for workers in 1 2 7; do
+    table plain 0 "$line" --workers "$workers"
+done
+# The first and the last placement have their tiles in a row, and one region. So their other slots have none, and no entry
+# stands beside these.
+{ head -c 20 plain && head -c 38253600 /dev/zero | tr '\0' '\377'; } >never
+changed plain 38253619 FF plain_without_its_end
+for workers in 1 7; do
+    table never 1 'refused T7 at entry 1' --workers "$workers"
+    table plain_without_its_end 1 'refused T7 at entry 38253599' --workers "$workers"
+done
+rm plain never plain_without_its_end
+
+# As many lemmas as a log may have: each but the first cites the one halfway before it.
+python3 - >most_lemmas <<'END'
+import sys
+lemma = bytes([3, 2, 1, 0, 6])
+log = [b"PDBL\x01\x02" + (2**20).to_bytes(4, "big"), lemma + b"\x00\x00\x00\x01\x01"]
+log += [lemma + b"\x00\x00\x00\x05\x20" + (number // 2).to_bytes(4, "big") for number in range(1, 2**20)]
+sys.stdout.buffer.write(b"".join(log))
+END
+changed most_lemmas "$((14 * 1048575 + 10))" 07 last_lemma_of_7
+claim 0 'bound 6' F123 most_lemmas : bound board one_set most_lemmas F123
+claim 1 'refused L6 at lemma 1048575' F123 last_lemma_of_7 : bound board one_set last_lemma_of_7 F123
+rm most_lemmas last_lemma_of_7
+
+# A search that may expand as many boards as a plain search does must end well, and with one board fewer it must give up:
+# just_enough BOARD SETS FILES WORD..
+just_enough() {
+    local board=$1 sets=$2 files=() lines=() file digest moves
+    read -ra files <<<"$3"
+    shift 3
+    read -r moves expanded < <("$root/tools/plain_search.py" "$board" "$sets" "${files[@]}" "$@")
+    solved "$board" "$moves" "$sets" "${files[*]}" --budget "$expanded" "$@"
+    rm -f made
+    for file in "${files[@]}"; do
+        digest=$(sha256sum <"$file")
+        lines+=("sha256 ${digest%% *}")
+    done
+    expect "solve $board $sets with one board fewer than $expanded $*" 1 "${lines[@]}" 'refused K1' : \
+        solve "$board" "$sets" made "${files[@]}" --budget "$((expanded - 1))" "$@"
+}
+
+just_enough board one_set F12
+just_enough board one_set F12 --fold
+just_enough board with_mirror F1
+# On side 5 the blank is in the last corner, where the tiles 19 and 24 cut it off. The tables are those of the tiles 19 and
+# 24; 5 and 10; 15 and 20; 21 and 22; and 23. The sum of them all is exact.
+for mask in 17301504 1056 1081344 6291456 8388608; do
+    "$work/plain_table" 5 "$mask" >"mask_$mask"
+done
+corner_tables='mask_17301504 mask_1056 mask_1081344 mask_6291456 mask_8388608'
+echo '5 1 2 3 4 10 6 7 8 9 15 11 12 13 14 20 16 17 18 19 21 22 23 24 0' >corner
+echo 'set 0 1 2 3 4' >all_of_five
+just_enough corner all_of_five "$corner_tables"
+just_enough corner one_set "$corner_tables"
+just_enough corner mirror "$corner_tables"
+# More boards than a search may expand without --budget.
+echo '8 0 6 5 4 7 2 3 1' >far_board
+"$work/plain_table" 3 14 >three_of_side_3
+just_enough far_board one_set three_of_side_3
+check 'a search of more than 1,000,000 boards' [ "$expanded" -gt 1000000 ]
+digest=$(sha256sum <three_of_side_3)
+for words in '' '--budget 1000000'; do
+    # shellcheck disable=SC2086
+    expect "solve far_board $words" 1 "sha256 ${digest%% *}" 'refused K1' : solve far_board one_set made three_of_side_3 $words
+done
 
 #
 # Runs at once, and writes.

@@ -8,6 +8,8 @@ mod both_sets;
 #[cfg(test)]
 mod budgets;
 #[cfg(test)]
+mod corners;
+#[cfg(test)]
 mod finding;
 #[cfg(test)]
 mod folded;
