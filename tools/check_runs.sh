@@ -1,7 +1,8 @@
 #!/usr/bin/env bash
 # Runs the built program and checks what it writes, where it writes it and its status: words, streams, files and their
 # names, limits, tables, workers, want of memory, changed inputs, the tour, sizes, budgets, and runs at once. What is wanted
-# follows from docs/FORMATS.md, and of tables and searches from a plain search that does.
+# follows from docs/FORMATS.md, and of tables and searches from a plain search that does. It also has docs/BELIEVE.md
+# compared with what is proved.
 #
 #     tools/check_runs.sh [PROGRAM]
 #
@@ -696,6 +697,14 @@ check '2,000 changed inputs are answered as their plain answers say' \
 status=0
 "$root/tools/check_tour.sh" "$bare" >"$work/output" 2>"$work/errors" || status=$?
 check 'the commands of the tour write what its page says' [ "$status" = 0 ]
+
+#
+# What has to be believed.
+#
+
+status=0
+"$root/tools/check_believe.py" >"$work/output" 2>"$work/errors" || status=$?
+check 'the page of what has to be believed counts and quotes what is there' [ "$status" = 0 ]
 
 #
 # Tables and logs that are made.

@@ -7,4 +7,5 @@ mod ReplayLemmas
 mod ResultLemmas
 pub mod StartLemmas
 mod TableLemmas
+pub mod ToldLemmas
 mod VerdictLemmas
