@@ -189,6 +189,25 @@ for words in --help -h help 'help replay' 'help table' 'help bound' 'help optima
     run $words
     check "help by $words" told_help
 done
+# Whether the help says each of these.
+told() {
+    local text
+    for text in "$@"; do
+        grep -qF -- "$text" "$work/output" || return
+    done
+}
+for command in replay table bound optimal make-table solve; do
+    run "$command" --help
+    check "the help of $command says what is read, what is answered, and the statuses" \
+        told Reads Answers 'Status: 0 yes, 1 refused, 2 bad words or a read or write fault, 3 no memory.'
+done
+run make-table --help
+check 'the help of make-table speaks of its workers and of OUT' told 'Building uses all processors, whatever --workers says' \
+    'OUT is replaced'
+run solve --help
+check 'the help of solve speaks of its budget, its workers and OUT' told 'The budget is in boards expanded' \
+    'The usual 1000000 is enough for most' 'harder ones take' '2 to 10 million' 'whatever --workers says' \
+    'built by all processors' 'OUT is replaced'
 for words in rplay 'replay a b' 'replay --workers 2' 'replay --workers 2 solved' table 'table a b' --version --workers \
     '--workers 2 table F1' 'table --none F1' 'table F1 --workers' 'table F1 --workers 2 --workers 2' -x 'replay -x' \
     'table F1 --workers 0' 'table F1 --workers 65' 'table F1 --workers x' 'table F1 --workers -1' 'table F1 --workers 1.5' \
@@ -812,22 +831,86 @@ run optimal "$work/puzzle" one_set both F12
 check 'what stands there is the log' [ "$status.$(tail -n 1 "$work/output")" = '0.optimal 6' ]
 rm both
 
-# Files that can't be written.
-names_before=$(names_of)
-expect 'a folder that is not there' 2 'fault write no_folder/made' : make-table 2 6 no_folder/made
-expect 'a log in a folder that is not there' 2 'fault write no_folder/made' : solve board one_set no_folder/made F12
+# Names that nothing can be kept under are told at once, before work that would take much longer than the time that it has here.
+echo '0 15 14 13 12 11 10 9 8 7 6 5 4 3 1 2' >far_board
+run make-table 4 2 tile_1
 mkdir "$work/a_folder"
-expect 'a folder in the place of a file' 2 "fault write $work/a_folder" : make-table 2 6 "$work/a_folder"
-check 'nothing is left of files that can not be written' only_new
-expect 'an empty name' 2 'fault write ' : make-table 2 6 ''
-check 'nothing is left of an empty name' only_new
+mkfifo a_pipe
+too_long=$(printf 'n%.0s' {1..249})
+names_before=$(names_of)
+
+# A run with these words must tell so of OUT alone, within ten seconds: unwritable OUT WORD..
+unwritable() {
+    local out=$1
+    shift
+    status=0
+    timeout 10 "$program" "$@" </dev/null >"$work/output" 2>"$work/errors" || status=$?
+    check "'$out' can not be written by $1" wrote 2 "fault write $out"
+}
+for out in no_folder/made F12/made "$work/a_folder" "$work/a_folder/" . /dev/full /dev/null a_pipe /proc/made "$too_long" ''; do
+    unwritable "$out" make-table 5 126 "$out" --workers 4
+    unwritable "$out" solve far_board one_set "$out" tile_1 --budget 1000000000000
+    unwritable "$out" solve far_board one_set "$out" tile_1 --budget 1000000000000 --fold
+done
+unwritable no_folder/made make-table 2 1 no_folder/made
+unwritable no_folder/made solve one_set one_set no_folder/made F12
+expect 'an input that is not there comes before the trial' 2 'fault read none' : solve none one_set no_folder/made F12
+check 'nothing is left of names that can not be kept under' only_new
 if [ "$(id -u)" != 0 ]; then
     chmod a-w "$work/a_folder"
-    expect 'a folder that can not be written' 2 "fault write $work/a_folder/made" : make-table 2 6 "$work/a_folder/made"
+    unwritable "$work/a_folder/made" make-table 5 126 "$work/a_folder/made"
     chmod u+w "$work/a_folder"
 fi
 check 'the folder is as it was' [ -z "$(ls -A "$work/a_folder")" ]
-expect 'a device without room' 2 'fault write /dev/full' : make-table 2 6 /dev/full
+rm far_board tile_1 a_pipe
+
+# Files of a user's own under the names of temporary files stay.
+cp F12 made.unkept
+echo 'of a user' >made.1.unkept
+users_stay() {
+    cmp -s made.unkept F12 && [ "$(cat made.1.unkept)" = 'of a user' ] && only_new "$@"
+}
+names_before=$(names_of)
+run make-table 2 14 made
+check 'a table is kept beside files of a user' cmp -s made F123
+check 'they stay' users_stay made
+rm made
+run solve board one_set made made.unkept
+check 'a log is kept beside its own table' [ "$status.$(tail -n 1 "$work/output")" = '0.optimal 6' ]
+check 'it stays' users_stay made
+rm made
+for words in 'make-table 2 1 made' 'solve unsolvable_board one_set made made.unkept' 'make-table 2 6 no_folder/made'; do
+    # shellcheck disable=SC2086
+    run $words
+    check "they stay behind $words" users_stay
+done
+mkdir made
+names_before=$(names_of)
+unwritable made make-table 2 6 made
+check 'they stay beside a folder' users_stay
+rmdir made
+for seconds in 0.01 0.1 0.3 0.6; do
+    timeout -s KILL "$seconds" "$bare" make-table 3 510 made --workers 2 >"$work/output" 2>"$work/errors"
+    rm -f made
+    check 'they stay behind a run that is killed' [ "$(cmp made.unkept F12; cat made.1.unkept)" = 'of a user' ]
+done
+run make-table 2 6 made
+check 'a run behind it keeps its table' cmp -s made F12
+rm -f made made.*unkept
+
+# Two makers at once under one name.
+names_before=$(names_of)
+for pair in {1..20}; do
+    "$program" make-table 2 6 made >"$work/first" 2>"$work/errors" &
+    status=0
+    "$program" make-table 2 14 made >"$work/output" 2>>"$work/errors" || status=$?
+    wait $! || status=$?
+    check "pair $pair of makers ends well" [ "$status.$(tail -qn 1 "$work/first" "$work/output" | grep -c '^exact')" = 0.2 ]
+    check "pair $pair leaves the whole file of one of them" [ -n "$(cmp -s made F12 && echo F12 || cmp -s made F123 && echo F123)" ]
+    check "pair $pair leaves nothing beside it" only_new made
+done
+rm made
+
 status=0
 "$program" make-table 2 6 made >/dev/full 2>"$work/errors" || status=$?
 : >"$work/output"

@@ -18,7 +18,7 @@ use log_check::LogRefusal;
 use pdb_io::shelf::Shelf;
 use pdb_run::{
     Answer, Command, Digested, Digests, FILES_BESIDE, Input, Status, beside, keep_and_conclude,
-    read_inputs, with_digests,
+    read_inputs_and_try, with_digests,
 };
 use pdb_verdict::{
     Fault, MakeRefusal, Tables, Verdict, Workers, a_text, fold_bundle, line_of, optimum_over,
@@ -73,7 +73,7 @@ impl Command for Solve<'_, '_> {
 }
 
 /// A whole run of `solve`, whoever checks the tables and the log: at most `budget` boards are expanded, and the log is kept
-/// once it and the moves are found to prove an optimum.
+/// once it and the moves are found to prove an optimum. That something can be kept there is tried before anything is checked.
 #[inline(never)] // so that the stack has the values of one command alone
 pub fn run_solve<H: Threads + Wait + Sync, G: Gate + Sync, S: Shelf, R: Read, W: Write>(
     alloc: Global,
@@ -89,7 +89,7 @@ pub fn run_solve<H: Threads + Wait + Sync, G: Gate + Sync, S: Shelf, R: Read, W:
         (world (S.held shelf.new) (S.has_failed shelf.new) (R.remaining reader.new) (W.contents out.new)) result }
 {
     let command = Solve { names };
-    let inputs = match read_inputs(alloc, &command, shelf, reader, out) {
+    let inputs = match read_inputs_and_try(alloc, &command, names.out, shelf, reader, out) {
         Ok(inputs) => inputs,
         Err(status) => return status,
     };
@@ -117,7 +117,8 @@ fn conclude_folded<H: Threads + Wait + Sync, G: Gate + Sync, S: Shelf, W: Write>
     ensures { let names = command.now.names in let wanted = solve_inputs names.board.now names.sets.now (map (λ name. name.now) names.tables.now) in
         (old new : World) → AreRead old.files old.reader wanted (all_bytes inputs.items)
         → IsAsTold (left_by_all old.reader wanted) new.reader
-        → S.held shelf.old ≡ old.files → S.held shelf.new ≡ new.files → S.has_failed shelf.new ≡ new.failed
+        → S.held shelf.old ≡ old.files → S.held shelf.new ≡ new.files
+        → S.has_failed shelf.old ≡ old.failed → S.has_failed shelf.new ≡ new.failed
         → W.contents out.old ≡ old.written → W.contents out.new ≡ new.written
         → Ends (solve_plan names.fold names.board.now names.sets.now names.out.now (map (λ name. name.now) names.tables.now)) old new result }
 {

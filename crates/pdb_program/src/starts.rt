@@ -1,6 +1,6 @@
 //! A run of the program, from what the system gave as its arguments.
 
-ghost use Rattle.std.specs.Prelude.{◌≡◌, ◌≢◌, ◌++◌, Option, drop, map, string_bytes, IfErr, IfOk};
+ghost use Rattle.std.specs.Prelude.{◌≡◌, ◌≢◌, ◌++◌, Option, drop, map, string_bytes, IfErr, IfOk, OnErr};
 ghost use Rattle.std.specs.IoError.{error_kind};
 ghost use Rattle.std.specs.Io.KnownBytes.{Keeps};
 ghost use Rattle.std.specs.declared.io.ErrorKind.TheVariants.{OutOfMemory};
@@ -26,7 +26,7 @@ use std::thread::Threads;
 use work_run::Gate;
 
 /// A run on the arguments behind the first, which is the program's own name, or what is said where they can't be taken:
-/// for want of memory, or since one is no UTF-8 text.
+/// for want of memory, or since one is no UTF-8 text. Then the shelf and the reader stay as they are.
 pub fn start<H: Threads + Wait + Sync, S: Shelf, R: Read, W: Write, E: Write, G: Gate + Sync>(
     host: &Host<'_, H, G>,
     arguments: io::Result<Vec<String>>,
@@ -50,6 +50,7 @@ pub fn start<H: Threads + Wait + Sync, S: Shelf, R: Read, W: Write, E: Write, G:
         → IsNumberOf (Says memory_line Status.NoMemory (W.contents out.old) (W.contents out.new)) result × Keeps (E.contents err.old) (E.contents err.new)) }
     ensures unreadable { IfErr arguments (λ e. error_kind e ≢ OutOfMemory
         → Keeps (W.contents out.old) (W.contents out.new) × AppendsWholeOrFront unreadable_word (E.contents err.old) (E.contents err.new) × (result ≡ 2)) }
+    ensures untouched { OnErr arguments ((shelf.new ≡ shelf.old) × (reader.new ≡ reader.old)) }
 {
     match arguments {
         Ok(all) => run(
