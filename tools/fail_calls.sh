@@ -98,7 +98,7 @@ has_left() {
     cmp -s "$work/left" "$work/$2" && return
     local more
     mapfile -t more < <(comm -23 "$work/left" "$work/$2")
-    [ "$1" = unlink ] && [ -z "$(comm -13 "$work/left" "$work/$2")" ] && [ "${#more[@]}" = 1 ] && [[ $more == *.unkept ]]
+    [ "$1" = unlink ] && [ -z "$(comm -13 "$work/left" "$work/$2")" ] && [ "${#more[@]}" = 1 ] && [[ ${more[0]} == *.unkept ]]
 }
 
 # Sets `told` to what the run with the words behind $1 has answered, in which the call $1 failed; its status is not 0 where
