@@ -891,7 +891,7 @@ unwritable made make-table 2 6 made
 check 'they stay beside a folder' users_stay
 rmdir made
 for seconds in 0.01 0.1 0.3 0.6; do
-    timeout -s KILL "$seconds" "$bare" make-table 3 510 made --workers 2 >"$work/output" 2>"$work/errors"
+    (timeout -s KILL "$seconds" "$bare" make-table 3 510 made --workers 2) >"$work/output" 2>/dev/null
     rm -f made
     check 'they stay behind a run that is killed' [ "$(cmp made.unkept F12; cat made.1.unkept)" = 'of a user' ]
 done

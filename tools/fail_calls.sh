@@ -96,8 +96,9 @@ is_name() {
 # there, the temporary file that was not removed.
 has_left() {
     cmp -s "$work/left" "$work/$2" && return
-    [ "$1" = unlink ] && [ -z "$(comm -13 "$work/left" "$work/$2")" ] &&
-        [[ $(comm -23 "$work/left" "$work/$2") =~ ^[0-9a-f]{64}\ .*\.unkept$ ]]
+    local more
+    mapfile -t more < <(comm -23 "$work/left" "$work/$2")
+    [ "$1" = unlink ] && [ -z "$(comm -13 "$work/left" "$work/$2")" ] && [ "${#more[@]}" = 1 ] && [[ ${more[0]} == *.unkept ]]
 }
 
 # Sets `told` to what the run with the words behind $1 has answered, in which the call $1 failed; its status is not 0 where

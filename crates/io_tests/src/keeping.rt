@@ -6,11 +6,12 @@ use pdb_io::disk::DiskShelf;
 use pdb_io::memory::MemShelf;
 use pdb_io::shelf::{KeepFault, Shelf};
 use sample_streams::{Call, SampleFiles};
-use std::alloc::{AllocError, Global};
-use std::fs;
+use std::alloc::Global;
+use std::fs::OpenOptions;
 use std::io::Read;
 use std::test::Fail;
 use std::thread::join;
+use std::{fs, io};
 
 const OLD: &[u8] = b"old";
 
@@ -185,33 +186,30 @@ fn what_others_made_stays_where_the_system_stops(rt: HostRuntime) -> Result<(), 
     Ok(())
 }
 
-/// The names of `a`'s temporary file that are tried, but for the first of them.
-fn temporary_names(alloc: Global) -> Result<Vec<String>, AllocError> {
-    let mut names = Vec::new(alloc);
-    for number in 1..1000 {
-        names.push(format!(in alloc; "a.{number}.unkept")?)?;
-    }
-    Ok(names)
+/// Makes a file without bytes where nothing stands.
+fn make(files: &SampleFiles, name: &str) -> io::Result<()> {
+    let _file = OpenOptions::new()
+        .write(true)
+        .create_new(true)
+        .open(files, name)?;
+    Ok(())
 }
 
 #[test]
 fn a_thousand_names_are_tried(rt: HostRuntime) -> Result<(), Fail> {
     let alloc = rt.alloc();
-    let names = temporary_names(alloc)?;
-    let mut taken: Vec<(&str, &[u8])> = Vec::new(alloc);
-    taken.push(("a.unkept", b"a user's"))?;
-    for name in names.iter().take(998) {
-        taken.push((name.as_str(), b"left over"))?;
+    let files = SampleFiles::new(alloc, &[("a", OLD), ("a.unkept", b"a user's")])?;
+    for number in 1..999 {
+        let name = format!(in alloc; "a.{number}.unkept")?;
+        make(&files, name.as_str())?;
     }
-    let files = SampleFiles::new(alloc, taken.as_slice())?;
     DiskShelf::new(&files).keep(alloc, "a", NEW)?;
     assert!(rt; files.has("a", NEW));
     assert_eq!(rt; files.count(), 1000);
 
-    taken.push(("a.999.unkept", b"left over"))?;
-    let files = SampleFiles::new(alloc, taken.as_slice())?;
+    make(&files, "a.999.unkept")?;
     assert_eq!(rt; keep_new(alloc, &files, "a"), (Err(KeepFault::F3), true));
-    assert_eq!(rt; files.count(), 1000);
+    assert_eq!(rt; files.count(), 1001);
     Ok(())
 }
 
