@@ -468,11 +468,17 @@ either_way 1 'refused O1 solution 8 bound 6' F12 branches : optimal eight_moves 
 either_way 1 'refused T7 at entry 14 of table 0' F123_with_02 leaf : bound board one_set leaf F123_with_02
 either_way 1 'refused T7 at entry 0 of table 1' F123 F12_with_FE leaf : bound board one_set leaf F123 F12_with_FE
 either_way 1 'refused T6 of table 1' F12 F123_with_a_byte_more leaf : bound board one_set leaf F12 F123_with_a_byte_more
+# Behind a table that is refused, the digests of the others are told.
+either_way 1 'refused T7 at entry 0 of table 0' F12_with_FE F123 leaf : bound board one_set leaf F12_with_FE F123
+either_way 1 'refused T6 of table 1' F12 F123_with_a_byte_more F12_with_FE leaf : bound board one_set leaf F12 F123_with_a_byte_more F12_with_FE
 echo '0 1 2 2' >no_board
 either_way 1 'refused B5 at number 3' F123 leaf : bound no_board one_set leaf F123
 seventeen=$(printf 'F123 %.0s' {1..17})
 # shellcheck disable=SC2086
 either_way 1 'refused S5' $seventeen leaf : bound board one_set leaf $seventeen
+sixteen_files=$(printf 'F12 %.0s' {1..16})
+# shellcheck disable=SC2086
+either_way 0 'bound 6' $sixteen_files branches : bound board one_set branches $sixteen_files
 # shellcheck disable=SC2086
 either_way 1 'refused T6 of table 17' $seventeen F123_with_a_byte_more leaf : bound board one_set leaf $seventeen F123_with_a_byte_more
 echo 'set 1' >table_1
@@ -654,7 +660,9 @@ for words in '' 'table F123' 'table F123 --workers 2' 'table F123_with_02' 'make
     'bound board with_mirror_and_1 leaf F1 F3 --workers 2' 'bound board one_set by_parity F12' \
     'bound board one_set citation F12 --fold' 'bound board pair leaf F12 F3 --fold --workers 2' \
     'optimal six_moves one_set branches F12' 'optimal six_moves one_set branches F12 --fold' \
-    'solve next_board one_set made F123' 'solve board with_mirror_and_1 made F1 F3' 'solve board one_set made F12 --fold'; do
+    'optimal six_moves pair leaf F12 F3 --fold --workers 2' 'solve next_board one_set made F123' \
+    'solve board with_mirror_and_1 made F1 F3' 'solve board one_set made F12 --fold' \
+    'solve board pair made F12 F3 --fold --workers 2'; do
     status=0
     # shellcheck disable=SC2086
     PROGRAM=$bare "$root/tools/refuse_memory.sh" $words <solved >"$work/output" 2>"$work/errors" || status=$?
@@ -671,15 +679,15 @@ same_answer() {
     [ "$status" = "$own_status" ] && [ ! -s "$work/errors" ] && cmp -s "$work/output" "$work/own_answer"
 }
 
-# A run with these words on the stack that each process has from its start, in kilobytes. What a run needs beyond it the
-# system may refuse where memory is limited, and then ends the run by a signal.
+# A run with these words on a stack of 120 kilobytes. Each process has 128 from its start, so 8 are left; what a run needs
+# beyond it the system may refuse where memory is limited, and then ends the run by a signal.
 limit_stack() {
     run "$@"
     own_status=$status
     mv "$work/output" "$work/own_answer"
     status=0
-    (ulimit -s 128 && exec env -i "$bare" "$@") <"$input" >"$work/output" 2>"$work/errors" || status=$?
-    check "$* with the stack of a start" same_answer
+    (ulimit -s 120 && exec env -i "$bare" "$@") <"$input" >"$work/output" 2>"$work/errors" || status=$?
+    check "$* with less than the stack of a start" same_answer
 }
 
 most_tables=(F12 F12 F12 F12 F12 F12 F12 F12 F12 F12 F12 F12 F12 F12 F12 F12)
@@ -692,6 +700,7 @@ limit_stack bound board one_set citation "${most_tables[@]}" --workers 64
 limit_stack bound board sixteen_mirrors citation "${most_tables[@]}" --workers 64
 limit_stack optimal six_moves one_set branches "${most_tables[@]}" --workers 64
 limit_stack optimal six_moves one_set branches "${most_tables[@]}" --workers 64 --fold
+limit_stack bound board sixteen_mirrors citation "${most_tables[@]}" --workers 64 --fold
 limit_stack make-table 2 14 made
 limit_stack make-table 3 126 made --workers 64
 limit_stack solve next_board one_set made F123
@@ -807,6 +816,7 @@ solved board 6 with_mirror F1
 solved board 6 with_mirror_and_1 'F1 F3' --workers 2
 for workers in 1 2 7; do
     solved next_board 1 one_set F123 --workers "$workers"
+    solved board 6 one_set F12 --workers "$workers"
     solved next_board 1 one_set F123 --fold --workers "$workers"
     solved board 6 one_set F12 --fold --workers "$workers"
 done
@@ -815,14 +825,16 @@ solved board 6 pair 'F12 F3' --fold
 solved board 6 mirror F12 --fold
 rm -f made
 names_before=$(names_of)
-for words in 'unsolvable_board F123 K2' 'solved_board F24 L4' 'board F12 K1 --budget 1' 'unsolvable_board F123 K2 --fold' \
-    'folded_board F12 K2' 'folded_board F12 K2 --fold' 'board F12 K1 --fold --budget 1'; do
-    read -r board file refusal flags <<<"$words"
-    digest=$(sha256sum <"$file")
-    # shellcheck disable=SC2086
-    expect "solve $words" 1 "sha256 ${digest%% *}" "refused $refusal" : solve "$board" one_set made "$file" $flags
-    check "solve $words keeps nothing" only_new
-done
+either_way 1 'refused K2' F123 : solve unsolvable_board one_set made F123
+either_way 1 'refused L4' F24 : solve solved_board one_set made F24
+either_way 1 'refused K1' F12 : solve board one_set made F12 --budget 1
+either_way 1 'refused K2' F12 : solve folded_board one_set made F12
+either_way 1 'refused B5 at number 3' F123 F12 : solve no_board one_set made F123 F12
+either_way 1 'refused T7 at entry 0 of table 0' F12_with_FE F123 : solve board one_set made F12_with_FE F123
+either_way 1 'refused T6 of table 1' F12 F123_with_a_byte_more F12_with_FE : solve board one_set made F12 F123_with_a_byte_more F12_with_FE
+# shellcheck disable=SC2086
+either_way 1 'refused S5' $seventeen : solve board one_set made $seventeen
+check 'a search that is refused keeps nothing' only_new
 expect 'solve without a board' 2 'fault read none' : solve none one_set made F12
 cp board both
 run solve both one_set both F12

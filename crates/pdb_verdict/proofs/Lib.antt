@@ -1,6 +1,7 @@
 pub mod BoundLemmas
 pub mod BundleLemmas
 mod FoldedLemmas
+mod FoldingLemmas
 mod LineLemmas
 pub mod OptimumLemmas
 mod ReplayLemmas
