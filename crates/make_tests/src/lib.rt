@@ -16,6 +16,8 @@ mod folded;
 #[cfg(test)]
 mod layers;
 #[cfg(test)]
+mod many_lemmas;
+#[cfg(test)]
 mod parity;
 #[cfg(test)]
 mod searches;
