@@ -3,6 +3,5 @@ pub mod Laws
 pub mod LogFaults
 pub mod Nodes
 pub mod Refutations
-pub mod StoredBranches
 pub mod Trees
 pub mod Walks

@@ -10,8 +10,8 @@ ghost use Rattle.log_check.specs.Nodes.{IsNode};
 ghost use Rattle.log_check.specs.Refutations.{Cites};
 ghost use Rattle.log_check.specs.Walks.{MayHave};
 
-use crate::nodes::{Node, first_node};
-use crate::walks::{OpenBranches, Waiting};
+use crate::nodes::Node;
+use crate::walks::{Waiting, behind_tree};
 use log_file::LogView;
 use puz_board::Board;
 use set_sum::Bundle;
@@ -20,41 +20,31 @@ use tab_check::Count;
 /// Whether a lemma of a log is good: its bytes spell one tree, which refutes that the lemma's board has a solution of fewer
 /// moves than the lemma's bound (Korf 1985).
 ///
-/// It goes once over the bytes of the tree, and keeps at most 255 boards whose children are still to come.
+/// It goes once over the bytes of the tree, and is at any time in at most 255 branches, one inside the other.
 pub fn check_lemma(log: &LogView<'_>, bundle: &Bundle<'_>, i: u32) -> bool
     requires there { i < length log.now.lemmas }
     requires side { log.now.side ≡ bundle.now.side }
     ensures { IsTrue result ↔ IsGood bundle.now log.now i }
 {
-    let version = log.version();
-    let sets = bundle.sets();
-    let mut rest = log.tree(i);
-    let mut waiting = Waiting {
+    let waiting = Waiting {
         board: log.board(i),
         arriving: None,
         bound: log.bound(i),
     };
-    let mut branches = OpenBranches::below(&waiting);
-    loop {
-        let Some((node, behind)) = first_node(rest, version, sets) else {
-            return false;
-        };
-        if !may_have(log, bundle, i, &waiting, node) {
-            return false;
-        }
-        if let Node::Branch = node {
-            branches.open(&waiting);
-        }
-        let Some(next) = branches.next_child() else {
-            return behind.is_empty();
-        };
-        waiting = next;
-        rest = behind;
+    match behind_tree(log, bundle, i, &waiting, log.tree(i)) {
+        Some(behind) => behind.is_empty(),
+        None => false,
     }
 }
 
 /// Whether a board may have this node, in lemma `i`.
-fn may_have(log: &LogView<'_>, bundle: &Bundle<'_>, i: u32, waiting: &Waiting, node: Node) -> bool
+pub(crate) fn may_have(
+    log: &LogView<'_>,
+    bundle: &Bundle<'_>,
+    i: u32,
+    waiting: &Waiting,
+    node: Node,
+) -> bool
     requires there { i < length log.now.lemmas }
     requires side { log.now.side ≡ bundle.now.side }
     requires board { IsBoardOf log.now.side waiting.now.board }
