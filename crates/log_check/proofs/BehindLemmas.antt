@@ -1,9 +1,10 @@
 -- What the bytes behind some boards' trees tell of the bytes.
-use Rattle.std.proofs.Common.{◌≡◌, ℕ, ◌-◌, ◌<◌, ◌≤◌, ◌^◌, ◌↔◌, Bool, true, false, List, [], ◌∷◌, length, Option, Some, None, refl, sym, subst}
-use Rattle.std.specs.Prelude.{IfNone, IfSome}
+use Rattle.std.proofs.Common.{◌≡◌, ℕ, ◌-◌, ◌<◌, ◌≤◌, ◌^◌, ◌↔◌, Bool, true, false, List, [], ◌∷◌, length, Option, Some, None, refl, sym, ap, subst}
+use Rattle.std.specs.Prelude.{IfNone, IfSome, option_map}
 use Rattle.puz_board.specs.Boards.{moved}
 use Rattle.puz_board.specs.declared.moves.Move.{Move}
 use Rattle.set_sum.specs.Bundles.{BundleView}
+use Rattle.set_sum.specs.SumViews.{SumsView}
 use Rattle.log_file.specs.Logs.{Log}
 use Rattle.log_check.specs.Nodes.{BeginsWith, BeginsWithNone}
 use Rattle.log_check.specs.Refutations.{takes_back}
@@ -25,6 +26,13 @@ none_as P Q f (Some x) h = h
 pub none_so : {X : Type 0} (P : Type 0) → P → (o : Option X) → IfNone o P
 none_so P h None = h
 none_so P h (Some x) = tt
+
+-- the sums of a board after a move are of the same bundle
+pub after_is : (s t : SumsView) (o : Option (List ℕ)) → Some t ≡ option_map (λ b. record { bundle = s.bundle; board = b }) o → (t.bundle ≡ s.bundle) × (o ≡ Some t.board)
+after_is s t None e = cc
+after_is s t (Some b) e =
+    let same : t ≡ record { bundle = s.bundle; board = b } = cc in
+    (ap (λ w. w.bundle) same, ap (λ w. Some w.board) (sym same))
 
 -- ---- children
 

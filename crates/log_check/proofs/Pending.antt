@@ -1,3 +1,2 @@
 -- Boards that wait for the trees that refute them, one after the other, in the order of the bytes.
-pub use Rattle.log_check.specs.Walks.{Pending, all_moves, with_child, with_child_at, with_children}
-pub use Rattle.log_check.specs.declared.walks.Waiting.{Waiting}
+pub use Rattle.log_check.specs.Walks.{Pending, Waiting, all_moves, with_child, with_child_at, with_children}

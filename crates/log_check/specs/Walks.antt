@@ -9,7 +9,13 @@ use Rattle.log_check.specs.Refutations.{Cites, Refutes, takes_back}
 use Rattle.log_check.specs.Trees.{Tree, spelling}
 use Rattle.log_check.specs.declared.nodes.Node.{Node}
 use Rattle.log_check.specs.declared.nodes.Node.TheVariants.{Branch, Leaf, Citation}
-use Rattle.log_check.specs.declared.walks.Waiting.{Waiting}
+
+-- A board that waits for its node: the move by which it was reached, which may be none, and its bound, below which its tree is
+-- to refute solutions.
+pub record Waiting : Type 0 where
+  pub board : List ℕ
+  pub arriving : Option Move
+  pub bound : ℕ
 
 -- ---- the children of a branch
 

@@ -2,19 +2,21 @@
 
 ghost use Rattle.std.specs.Prelude.{◌≡◌, ◌∷◌, ◌<◌, ◌≤◌, IfNone, IfSome, length};
 ghost use Rattle.puz_board.specs.Boards.{IsBoardOf};
+ghost use Rattle.log_check.specs.Reached.{waiting_of};
 ghost use Rattle.log_check.specs.Walks.{AreRefused, AreWalked, all_moves, with_child, with_children};
 
 use crate::lemmas::may_have;
 use crate::nodes::{Node, first_node};
 use crate::order::takes_back;
 use log_file::LogView;
-use puz_board::{Board, Move};
-use set_sum::Bundle;
+use puz_board::Move;
+use set_sum::Sums;
 
-/// A board that waits for its node.
-#[derive(Clone, Copy)]
-pub(crate) struct Waiting {
-    pub(crate) board: Board,
+/// A board that was reached, and waits for its node.
+#[derive(Drop)]
+pub(crate) struct Reached<'a> {
+    /// The board, of which the sets of the bundle are asked.
+    pub(crate) sums: Sums<'a>,
     /// The move by which it was reached. None led to the board of a lemma.
     pub(crate) arriving: Option<Move>,
     /// Its tree is to refute solutions of fewer moves.
@@ -25,23 +27,25 @@ pub(crate) struct Waiting {
 #[cycle(walk)]
 pub(crate) fn behind_tree<'b>(
     log: &LogView<'_>,
-    bundle: &Bundle<'_>,
     i: u32,
-    waiting: &Waiting,
+    reached: &mut Reached<'_>,
     bytes: &'b [u8],
 ) -> Option<&'b [u8]>
     requires there { i < length log.now.lemmas }
-    requires side { log.now.side ≡ bundle.now.side }
-    requires board { IsBoardOf log.now.side waiting.now.board }
-    ensures some { IfSome result (λ behind. AreWalked bundle.now log.now i (λ ws. waiting.now ∷ ws) bytes.now behind.now) }
-    ensures none { IfNone result (AreRefused bundle.now log.now i (λ ws. waiting.now ∷ ws) bytes.now) }
+    requires side { log.now.side ≡ reached.old.sums.bundle.side }
+    requires board { IsBoardOf log.now.side reached.old.sums.board }
+    ensures some { IfSome result (λ behind.
+        AreWalked reached.old.sums.bundle log.now i (λ ws. waiting_of reached.old ∷ ws) bytes.now behind.now) }
+    ensures none { IfNone result (
+        AreRefused reached.old.sums.bundle log.now i (λ ws. waiting_of reached.old ∷ ws) bytes.now) }
+    ensures same { reached.new ≡ reached.old }
 {
-    let (node, behind) = first_node(bytes, log.version(), bundle.sets())?;
-    if !may_have(log, bundle, i, waiting, node) {
+    let (node, behind) = first_node(bytes, log.version(), reached.sums.sets())?;
+    if !may_have(log, i, reached, node) {
         return None;
     }
     if let Node::Branch = node {
-        behind_children(log, bundle, i, waiting, behind)
+        behind_children(log, i, reached, behind)
     } else {
         Some(behind)
     }
@@ -51,52 +55,59 @@ pub(crate) fn behind_tree<'b>(
 #[cycle(walk)]
 fn behind_children<'b>(
     log: &LogView<'_>,
-    bundle: &Bundle<'_>,
     i: u32,
-    waiting: &Waiting,
+    reached: &mut Reached<'_>,
     bytes: &'b [u8],
 ) -> Option<&'b [u8]>
     requires there { i < length log.now.lemmas }
-    requires side { log.now.side ≡ bundle.now.side }
-    requires board { IsBoardOf log.now.side waiting.now.board }
-    requires bound { 1 ≤ waiting.now.bound }
-    ensures some { IfSome result (λ behind. AreWalked bundle.now log.now i (with_children waiting.now all_moves) bytes.now behind.now) }
-    ensures none { IfNone result (AreRefused bundle.now log.now i (with_children waiting.now all_moves) bytes.now) }
+    requires side { log.now.side ≡ reached.old.sums.bundle.side }
+    requires board { IsBoardOf log.now.side reached.old.sums.board }
+    requires bound { 1 ≤ reached.old.bound }
+    ensures some { IfSome result (λ behind.
+        AreWalked reached.old.sums.bundle log.now i (with_children (waiting_of reached.old) all_moves) bytes.now behind.now) }
+    ensures none { IfNone result (
+        AreRefused reached.old.sums.bundle log.now i (with_children (waiting_of reached.old) all_moves) bytes.now) }
+    ensures same { reached.new ≡ reached.old }
 {
-    let behind_up = behind_child(log, bundle, i, waiting, Move::Up, bytes)?;
-    let behind_down = behind_child(log, bundle, i, waiting, Move::Down, behind_up)?;
-    let behind_left = behind_child(log, bundle, i, waiting, Move::Left, behind_down)?;
-    behind_child(log, bundle, i, waiting, Move::Right, behind_left)
+    let behind_up = behind_child(log, i, reached, Move::Up, bytes)?;
+    let behind_down = behind_child(log, i, reached, Move::Down, behind_up)?;
+    let behind_left = behind_child(log, i, reached, Move::Left, behind_down)?;
+    behind_child(log, i, reached, Move::Right, behind_left)
 }
 
-/// The bytes behind the tree of the child by a move, and all bytes where there is none.
+/// The bytes behind the tree of the child by a move, and all bytes where there is none. What was found out there and holds
+/// here too is kept.
 #[cycle(walk)]
 fn behind_child<'b>(
     log: &LogView<'_>,
-    bundle: &Bundle<'_>,
     i: u32,
-    waiting: &Waiting,
+    reached: &mut Reached<'_>,
     mv: Move,
     bytes: &'b [u8],
 ) -> Option<&'b [u8]>
     requires there { i < length log.now.lemmas }
-    requires side { log.now.side ≡ bundle.now.side }
-    requires board { IsBoardOf log.now.side waiting.now.board }
-    requires bound { 1 ≤ waiting.now.bound }
-    ensures some { IfSome result (λ behind. AreWalked bundle.now log.now i (with_child waiting.now mv) bytes.now behind.now) }
-    ensures none { IfNone result (AreRefused bundle.now log.now i (with_child waiting.now mv) bytes.now) }
+    requires side { log.now.side ≡ reached.old.sums.bundle.side }
+    requires board { IsBoardOf log.now.side reached.old.sums.board }
+    requires bound { 1 ≤ reached.old.bound }
+    ensures some { IfSome result (λ behind.
+        AreWalked reached.old.sums.bundle log.now i (with_child (waiting_of reached.old) mv) bytes.now behind.now) }
+    ensures none { IfNone result (
+        AreRefused reached.old.sums.bundle log.now i (with_child (waiting_of reached.old) mv) bytes.now) }
+    ensures same { reached.new ≡ reached.old }
 {
-    if takes_back(waiting.arriving, mv) {
+    if takes_back(reached.arriving, mv) {
         return Some(bytes);
     }
-    match waiting.board.apply(mv) {
-        Some(board) => {
-            let child = Waiting {
-                board,
+    match reached.sums.after(mv) {
+        Some(sums) => {
+            let mut child = Reached {
+                sums,
                 arriving: Some(mv),
-                bound: waiting.bound - 1,
+                bound: reached.bound - 1,
             };
-            behind_tree(log, bundle, i, &child, bytes)
+            let behind = behind_tree(log, i, &mut child, bytes);
+            reached.sums.learn(&child.sums, mv);
+            behind
         }
         None => Some(bytes),
     }
