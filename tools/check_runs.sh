@@ -778,6 +778,7 @@ solved board 6 mirror F12
 solved board 6 with_mirror F1
 solved board 6 with_mirror_and_1 'F1 F3' --workers 2
 for workers in 1 2 7; do
+    solved next_board 1 one_set F123 --workers "$workers"
     solved next_board 1 one_set F123 --fold --workers "$workers"
     solved board 6 one_set F12 --fold --workers "$workers"
 done
