@@ -92,9 +92,9 @@ take_lock() {
     return 1
 }
 
-# Copies the program that rt made to where `install_program` finds it.
+# Copies the program that rt made, below the checkout or below $1, to where `install_program` finds it.
 take_program() {
-    if ! cp -- "$root/crates/pdb_cli/out/pdb_cli" "$program.new" || ! [ -x "$program.new" ]; then
+    if ! cp -- "${1-$root}/crates/pdb_cli/out/pdb_cli" "$program.new" || ! [ -x "$program.new" ]; then
         say "the program that rt made cannot be copied to $kept"
         return 1
     fi
@@ -135,16 +135,155 @@ find_steps() {
     done
 }
 
-# Copies a build's lines to the log, its standard output, and says which crate is proved.
-follow() {
-    local line at
+# Makes of the folder $1 a repository of the crates of `steps` alone, with what a build reads of each.
+copy_steps() {
+    local line name
+    # rt proves side by side at the top of a repository alone, which it knows by this folder.
+    mkdir -- "$1/.git" "$1/crates" && cp -- "$root/HANDLES" "$1/" || return 1
     while IFS= read -r line || [ -n "$line" ]; do
-        printf '%s\n' "$line" || return 1
-        [[ $line =~ ^crate\ ([a-z0-9_]+): ]] || continue
-        for at in "${!steps[@]}"; do
-            [ "${steps[at]}" != "${BASH_REMATCH[1]}" ] || say "proved ${steps[at]}, crate $((at + 1)) of ${#steps[@]}"
-        done
+        name=${line%%[#: ]*}
+        [[ -n $name && " ${steps[*]} " != *" $name "* ]] || printf '%s\n' "$line" || return 1
+    done <"$root/crates.txt" >"$1/crates.txt"
+    for name in "${steps[@]}"; do
+        mkdir -- "$1/crates/$name" && cp -R -- "$root/crates/$name"/!(out|must-fail|*.md) "$1/crates/$name/" || return 1
     done
+}
+
+# Says how many crates are proved and how long that has taken, and which are at work: those that rt has begun in the copy, or
+# the one that it named last.
+tell() {
+    local name busy='' after=$((SECONDS - begun))
+    for name in "${steps[@]}"; do
+        if [ -z "${proved[$name]-}" ] && { [ "$name" = "$current" ] || [ -d "${copy:-/dev/null}/crates/$name/out" ]; }; then
+            busy+=${busy:+, }$name
+        fi
+    done
+    if [ "$after" -lt 60 ]; then after+=' s'; else after=$((after / 60))' min'; fi
+    say "${#proved[@]} of ${#steps[@]} crates proved after $after${busy:+ ($busy at work)}"
+    told=$SECONDS
+}
+
+# Notes that the crate $1 is proved, and tells it once.
+note_end() {
+    [[ -z ${proved[$1]-} && " ${steps[*]} " == *" $1 "* ]] || return 0
+    proved[$1]=yes
+    tell
+}
+
+# Notes what a line of `rt ci` says. Status 1 where a crate is not proved: its own lines are the last ones then, and `refused`
+# is its name if the checker found so.
+note_beside() {
+    case $1 in
+    '== '*) refused='' ;;
+    'logic=not-proved'*) refused=yes ;;
+    'rt: '*' NOT PROVED'*)
+        refused=${refused:+${1#rt: }}
+        refused=${refused%% *}
+        return 1
+        ;;
+    esac
+    [[ ! $1 =~ ^rt:\ ([a-z0-9_]+)\ (proved$|is\ kept:) ]] || note_end "${BASH_REMATCH[1]}"
+}
+
+# Notes what a line of `rt run` says.
+note_in_turn() {
+    [[ ! $1 =~ ^rt:\ chose\ --jobs\ [0-9]+\ for\ ([a-z0-9_]+) ]] || current=${BASH_REMATCH[1]}
+    [[ ! $1 =~ ^crate\ ([a-z0-9_]+): ]] || note_end "${BASH_REMATCH[1]}"
+}
+
+run_beside() {
+    cd -P -- "$copy" && exec "$rt" ci
+}
+
+run_in_turn() {
+    cd -P -- "$root/crates/pdb_cli" && exec "$rt" run <stdin
+}
+
+# Removes the copy, if there is one. What an rt that was ended had started may write there for a moment yet.
+remove_copy() {
+    local tries
+    for ((tries = 0; tries < 50; tries++)); do
+        [ -n "$copy" ] && ! rm -rf -- "$copy" 2>/dev/null || return 0
+        sleep 0.2
+    done
+}
+
+# Ends rt, whose process is `job`, and removes the copy, where the launcher ends before it has said so on this function's input.
+# A signal to all of them ends the launcher and rt, and not this.
+watch() {
+    trap '' INT TERM HUP QUIT
+    read -r || { kill "$job" 2>/dev/null; remove_copy; }
+}
+
+# Runs rt by the function $1, copies its lines to the log, hands each to the function $2, and tells once a minute how far it
+# is. Ends rt where $2 fails, and returns rt's status.
+follow() {
+    local lines line part='' status job alive watcher
+    exec {lines}< <("$1" 2>&1)
+    job=$!
+    exec {alive}> >(exec {lines}<&- && watch)
+    watcher=$!
+    while :; do
+        IFS= read -r -t "$((SECONDS - told < 59 ? told + 60 - SECONDS : 1))" -u "$lines" line
+        status=$?
+        part+=$line
+        if [ "$status" = 0 ]; then
+            if ! printf '%s\n' "$part" >>"$log" || ! "$2" "$part"; then
+                kill "$job"
+                break
+            fi
+            part=''
+        elif [ "$status" -le 128 ]; then
+            printf '%s' "$part" >>"$log"
+            break
+        fi
+        [ "$((SECONDS - told))" -lt 60 ] || tell
+    done
+    exec {lines}<&-
+    wait "$job"
+    status=$?
+    echo ended >&"$alive"
+    exec {alive}>&-
+    wait "$watcher"
+    return "$status"
+}
+
+# Proves and builds the program in a copy of its crates, where `rt ci` proves as many of them side by side as there are
+# processors and memory, those of the longest chain first, and takes over what it proved of the same files on this machine.
+build_beside() {
+    local copy status
+    copy=$(mktemp -d 2>>"$log") || return 1
+    copy_steps "$copy" 2>>"$log" && follow run_beside note_beside && take_program "$copy"
+    status=$?
+    remove_copy
+    return "$status"
+}
+
+# Says that there is no program for the reason $1, behind the last lines of the log.
+say_unbuilt() {
+    tail -n 20 -- "$log" >&2
+    say "the program is not built: $1, and $log has all that it said"
+}
+
+# Proves and builds the program, and takes it: side by side where no build in this checkout has left what `rt run` would begin
+# with, and else, or where that fails, one crate after the other.
+build_once() {
+    local refused='' current='' copy='' begun=$SECONDS told=$SECONDS
+    local -A proved=()
+    if [ ! -d "$root/crates/pdb_cli/out/incremental" ]; then
+        ! build_beside || return 0
+        if [ -n "$refused" ]; then
+            say_unbuilt "$refused is not proved"
+            return 1
+        fi
+        say "the crates are not proved side by side, and $log says why: one after the other now"
+        proved=()
+    fi
+    if ! follow run_in_turn note_in_turn; then
+        say_unbuilt 'rt run failed'
+        return 1
+    fi
+    take_program
 }
 
 # Proves and builds the program of the sources, whose digest is `now`, and keeps it. What an earlier build left in the crate
@@ -158,13 +297,8 @@ build() {
             return 1
         fi
         say "proving and building ${#steps[@]} crates, some minutes the first time; the log is $log"
-        if ! (cd -P -- "$crate" && exec "$rt" run <stdin) 2>&1 | follow >>"$log"; then
-            tail -n 20 -- "$log" >&2
-            say "the program is not built: rt run failed, and $log has all that it said"
-            return 1
-        fi
         before=$now
-        take_program && now=$(digest) || return 1
+        build_once && now=$(digest) || return 1
         if [ "$before" = "$now" ]; then
             install_program "$now"
             return

@@ -49,21 +49,49 @@ if [ "$*" = version ]; then
     [ ! -e "$orders/no_version" ] || exit 1
     exec cat "$here/../KIT-ID"
 fi
-[ "$*" != ci ] || cd crates/pdb_cli || exit 2
+echo "$$" >"$orders/process"
+is_copy=
+if [ "$*" = ci ]; then
+    if [ -e .git ]; then
+        is_copy=yes
+        find . -type f >"$orders/copy"
+    fi
+    cd crates/pdb_cli || exit 2
+fi
 [ "$*" = run ] || [ "$*" = ci ] && [ "${PWD##*/}" = pdb_cli ] || exit 2
 echo "build by rt $*" >>"$orders/calls"
 [ ! -e "$orders/fail_at_once" ] || { echo 'error: nothing is made' && exit 1; }
+mkdir -p ../low/out
 echo 'crate low: modules loaded=1 checked=0'
 shopt -s nullglob
-made=$(cat "$here/../KIT-ID" ../../crates.txt stdin ../*/src/*.rt ../*/src/*/*.rt ../*/specs/*.antt)
-[ ! -e "$orders/edit_once" ] || { rm "$orders/edit_once" && echo 'fn edited' >>../low/src/lib.rt; }
-[ ! -e "$orders/edit" ] || echo 'fn edited' >>../low/src/lib.rt
+lines=$(cat ../../crates.txt)
+made=$(cat "$here/../KIT-ID" <(echo "${lines/$'unused: low\n'/}") stdin ../{low,pdb_cli}/src/*.rt ../{low,pdb_cli}/src/*/*.rt \
+    ../*/specs/*.antt)
+edit() {
+    echo 'fn edited' >>"$(echo "$orders/../a "*)/crates/low/src/lib.rt"
+}
+[ ! -e "$orders/edit_once" ] || { rm "$orders/edit_once" && edit; }
+[ ! -e "$orders/edit" ] || edit
 [ ! -e "$orders/kill_the_launcher" ] || kill -KILL "$PPID"
-while [ -e "$orders/hold" ]; do
+# Says of a crate what rt ci says.
+refuse() {
+    printf '%s\n' '== low' "$@" 'rt: low NOT PROVED'
+    sleep 60
+    exit 1
+}
+if [ "$is_copy" ]; then
+    [ ! -e "$orders/refuse" ] || refuse 'fn low::f: not proved' 'logic=not-proved'
+    [ ! -e "$orders/refuse_layout" ] || refuse 'run rt fmt'
+    [ ! -e "$orders/fail_beside" ] || { echo 'rt: no room' && exit 1; }
+    [ ! -e "$orders/begin_both" ] && [ ! -e "$orders/keep_low" ] || mkdir -p out
+    [ ! -e "$orders/keep_low" ] || echo 'rt: low is kept: an earlier run proved the same'
+fi
+while [ -e "$orders/hold" ] || [ -e "$orders/hold_$*" ]; do
     sleep 0.05
 done
 [ ! -e "$orders/make_nothing" ] || exit 0
 mkdir -p out
+[ "$*" != ci ] || echo 'rt: low proved'
 {
     printf '#!/usr/bin/env bash\nmade=%q\n' "$made"
     cat <<'PROGRAM'
@@ -74,15 +102,18 @@ status) exit "$2" ;;
 kill) kill -TERM $$ ;;
 copy) cat && echo 'on standard error' >&2 ;;
 place) pwd ;;
+progress) echo "${PDB_PROGRESS-not set}" ;;
 '') echo "$# words" ;;
 esac
 PROGRAM
 } >out/pdb_cli
 chmod +x out/pdb_cli
 [ ! -e "$orders/make_none" ] || rm out/pdb_cli
+[ ! -e "$orders/make_none_beside" ] || [ -z "$is_copy" ] || rm out/pdb_cli
 echo 'crate pdb_cli: modules loaded=1 checked=0'
 [ ! -e "$orders/fail_at_last" ] || { echo 'error: what is made is wrong' && exit 1; }
-[ "$*" != ci ] || { cat "$orders/rt" && exit "$(cat "$orders/rt.status")"; }
+[ "$*" != ci ] || echo 'rt: pdb_cli proved'
+[ "$*" != ci ] || [ "$is_copy" ] || { cat "$orders/rt" && exit "$(cat "$orders/rt.status")"; }
 END
     chmod +x "$1/bin/rt"
 }
@@ -126,6 +157,10 @@ make() {
     answer check_runs.sh 0 '3 passed, 0 failed'
     answer check_launcher.sh 0 '2 passed, 0 failed'
     printf '# A library.\nlow:\nunused: low\npdb_cli: low hex\n' >"$checkout/crates.txt"
+    echo 'Handles allowed: none.' >"$checkout/HANDLES"
+    mkdir -p "$checkout/crates/unused/src" "$at/tmp"
+    echo 'fn unused' >"$checkout/crates/unused/src/lib.rt"
+    echo 'file: src/lib.rt' >"$checkout/crates/low/must-fail/other.edit"
     echo 'fn low' >"$checkout/crates/low/src/lib.rt"
     echo 'Low : ℕ' >"$checkout/crates/low/specs/Low.antt"
     echo 'A page' >"$checkout/crates/low/README.md"
@@ -145,10 +180,15 @@ answer() {
     echo "$2" >"$at/orders/$1.status"
 }
 
+# Becomes the launcher with these words.
+become() {
+    cd "$place" && exec "${plain[@]}" "$env" "PATH=$path" "TMPDIR=$at/tmp" "${by[@]}" "$@"
+}
+
 # Starts the launcher with these words, and keeps what it writes and its status.
 start() {
     status=0
-    (cd "$place" && exec "${plain[@]}" "$env" "PATH=$path" "${by[@]}" "$@") <"$input" >"$at/stdout" 2>"$at/stderr" || status=$?
+    (become "$@") <"$input" >"$at/stdout" 2>"$at/stderr" || status=$?
 }
 
 calls() {
@@ -178,7 +218,9 @@ check() {
 # What a program of the sources as they are shows.
 sources() {
     (shopt -s nullglob && cd "$checkout/crates/pdb_cli" &&
-        cat "$kit/KIT-ID" ../../crates.txt stdin ../*/src/*.rt ../*/src/*/*.rt ../*/specs/*.antt)
+        lines=$(cat ../../crates.txt) &&
+        cat "$kit/KIT-ID" <(echo "${lines/$'unused: low\n'/}") stdin ../{low,pdb_cli}/src/*.rt ../{low,pdb_cli}/src/*/*.rt \
+            ../*/specs/*.antt)
 }
 
 # Whether the program of the sources as they are was run, after $1 builds.
@@ -200,12 +242,37 @@ said() {
     grep -q "$1" "$at/stderr"
 }
 
+# eventually WORD..: whether the words succeed within half a minute.
+eventually() {
+    local tries
+    for ((tries = 0; tries < 300; tries++)); do
+        ! "$@" || return 0
+        sleep 0.1
+    done
+    return 1
+}
+
+# Whether a build by rt with the word $1 has begun.
+is_building() {
+    [ "$(calls "build by rt $1")" != 0 ]
+}
+
+# Whether the rt that was started last has ended.
+is_ended() {
+    ! kill -0 "$(cat "$at/orders/process")" 2>/dev/null
+}
+
+# Whether nothing of a start goes on, or is left but what the checkout keeps.
+is_alone() {
+    is_ended && [ -z "$(ls "$at/tmp")" ] && flock -n "$checkout/out/lock" true
+}
+
 #
 # Edits: each is made in the checkout's folder, and the program built before it is then out of date.
 #
 
 edits=(same_size same_size_and_time definition main_file added_file removed_file renamed_file older_file_moved_in
-    deeper_out_folder list_of_crates input_of_the_run kit_in_its_place command_of_the_kit launcher_itself)
+    deeper_out_folder list_of_crates list_of_handles input_of_the_run kit_in_its_place command_of_the_kit launcher_itself)
 same_size() { echo 'fn LOW' >crates/low/src/lib.rt; }
 same_size_and_time() {
     touch -r crates/low/src/lib.rt "$place/time" && echo 'fn LOW' >crates/low/src/lib.rt && touch -r "$place/time" crates/low/src/lib.rt
@@ -218,6 +285,7 @@ renamed_file() { mv crates/low/src/lib.rt crates/low/src/main.rt; }
 older_file_moved_in() { mv "$place/old.rt" crates/low/src/lib.rt; }
 deeper_out_folder() { mkdir crates/low/src/out && echo 'fn deep' >crates/low/src/out/deep.rt; }
 list_of_crates() { echo '# more' >>crates.txt; }
+list_of_handles() { echo 'Handles allowed: Wait.' >HANDLES; }
 input_of_the_run() { echo '0 1 2 3 ;' >crates/pdb_cli/stdin; }
 kit_in_its_place() { echo 'kit 2' >"$kit/KIT-ID"; }
 command_of_the_kit() { echo 'kit 3' >"$kit/KIT-ID" && cp "$kit/bin/rt" "$kit/bin/rt.new" && mv "$kit/bin/rt.new" "$kit/bin/rt"; }
@@ -286,6 +354,14 @@ done
 wait
 sleep 4
 
+# This start takes more than a minute, and is looked at last.
+make minute
+order begin_both
+order hold_ci
+minute=$SECONDS
+start sources &
+slow=$!
+
 #
 # The first start.
 #
@@ -293,8 +369,9 @@ sleep 4
 make first
 start sources
 check 'the first start builds the program and runs it' ran 1
-check 'it says which crate of how many is proved' said '^pdb_cli: proved low, crate 1 of 2$'
-check 'the last crate is the program' said '^pdb_cli: proved pdb_cli, crate 2 of 2$'
+check 'it says how many crates of how many are proved, and which is at work' said \
+    '^pdb_cli: 1 of 2 crates proved after [0-9]* s (pdb_cli at work)$'
+check 'the last crate is the program' said '^pdb_cli: 2 of 2 crates proved after [0-9]* s$'
 check 'what the build said is in the log' grep -q '^crate low: ' "$checkout/out/build.log"
 start sources
 check 'the second start builds nothing' ran 1
@@ -305,6 +382,113 @@ head -c 100000 /dev/urandom >"$at/bytes"
 input=$at/bytes
 start copy
 check 'the first build leaves standard input to the program' cmp -s "$at/stdout" "$at/bytes"
+
+# The files of the copy that rt ci was given, as they are wanted.
+wanted_copy() {
+    printf './%s\n' HANDLES crates.txt crates/{low/{specs/Low.antt,src/lib.rt},pdb_cli/{specs/Main.antt,src/main.rt,stdin}}
+}
+
+check 'the crates are proved side by side, by rt ci' grep -qx 'build by rt ci' "$at/orders/calls"
+check 'it gets the crates of the program alone, with no wrong body, page or work of rt' \
+    cmp -s <(wanted_copy) <(LC_ALL=C sort "$at/orders/copy")
+check 'nothing of its copy is left' [ -z "$(ls "$at/tmp")" ]
+
+make kept_before
+order keep_low
+start sources
+check 'a crate that is kept counts as proved' said '^pdb_cli: 1 of 2 crates proved after [0-9]* s (pdb_cli at work)$'
+check 'once' [ "$(grep -c ' 1 of 2 crates' "$at/stderr")" = 1 ]
+
+# Where the crates cannot be proved side by side, they are proved one after the other.
+fallbacks=(fail_beside refuse_layout make_none_beside no_mktemp copy_fails)
+no_mktemp() { take_away mktemp; }
+# Here cp copies no folder.
+copy_fails() {
+    take_away cp
+    # shellcheck disable=SC2016
+    printf '#!/usr/bin/env bash\n[ "$1" != -R ] || exit 1\nexec %q "$@"\n' "$(type -P cp)" >"$at/bin/cp"
+    chmod +x "$at/bin/cp"
+}
+for fallback in "${fallbacks[@]}"; do
+    make "$fallback"
+    if [ "$(type -t "$fallback")" = function ]; then
+        "$fallback"
+    else
+        order "$fallback"
+    fi
+    start sources
+    check "$fallback: the crates are proved one after the other" grep -qx 'build by rt run' "$at/orders/calls"
+    check "$fallback: and the program runs" ran "$(calls build)"
+    check "$fallback: it says so" said '^pdb_cli: .*one after the other'
+    check "$fallback: and how many are proved" said '^pdb_cli: 2 of 2 crates proved after [0-9]* s$'
+    check "$fallback: nothing of a copy is left" [ -z "$(ls "$at/tmp")" ]
+done
+
+make kept_work
+mkdir -p "$checkout/crates/pdb_cli/out/incremental"
+[ "${#plain[@]}" = 0 ] || chown -R 65534:65534 "$checkout"
+start sources
+check 'where a build has left work in the checkout, rt run begins with it' ran 1
+check 'at once' grep -qx 'build by rt run' "$at/orders/calls"
+
+make refused
+order refuse
+start sources
+check 'a crate that is not proved is refused' refused 'low is not proved'
+check 'what the checker says of it is shown' said '^fn low::f: not proved$'
+check 'and nothing more is tried' [ "$(calls build)" = 1 ]
+check 'rt is ended' eventually is_ended
+check 'nothing of its copy is left' [ -z "$(ls "$at/tmp")" ]
+rm "$at/orders/refuse"
+start sources
+check 'once it is mended the program runs' ran 2
+
+#
+# A start that is ended.
+#
+
+# Starts the launcher as a job of its own, waits for its rt with the word $1, sends the signal $2 to the launcher, or, with
+# `all` behind it, to each of its processes, as a terminal would, and keeps its status.
+interrupt() {
+    local job
+    order "hold_$1"
+    set -m
+    (become sources) <"$input" >"$at/stdout" 2>"$at/stderr" &
+    job=$!
+    set +m
+    eventually is_building "$1"
+    kill "-$2" -- "${3:+-}$job"
+    status=0
+    { wait "$job" || status=$?; } 2>/dev/null
+    rm "$at/orders/hold_$1"
+}
+
+ends=('INT:130' 'INT all:130' 'TERM:143' 'TERM all:143' 'HUP:129' 'KILL:137')
+for way in ci run; do
+    for end in "${ends[@]}"; do
+        make "ended $way ${end%:*}"
+        [ "$way" = ci ] || order fail_beside
+        # shellcheck disable=SC2086
+        interrupt "$way" ${end%:*}
+        check "rt $way, ${end%:*}: the launcher is ended by the signal, and runs nothing" [ "$status.$(wc -c <"$at/stdout")" = "${end#*:}.0" ]
+        check "rt $way, ${end%:*}: nothing goes on, and nothing is left" eventually is_alone
+        : >"$at/orders/calls"
+        rm -f "$at/orders/fail_beside"
+        start sources
+        check "rt $way, ${end%:*}: the next start builds the program" ran 1
+    done
+done
+
+make 'ended all'
+interrupt ci KILL all
+check 'where all are killed, nothing goes on' eventually is_ended
+start sources
+check 'and the next start builds' ran 2
+
+make 'ended and at once'
+interrupt ci KILL
+start sources
+check 'a start right after one that was killed builds' ran 2
 
 make no_terminal
 by=("$(type -P setsid)" -w "$launcher")
@@ -441,6 +625,24 @@ by=("$launcher")
 status=$?
 check 'closed streams change no status' [ "$status" = 7 ]
 
+# Starts the launcher at a terminal of its own, with these words for `env`, and writes what the program has in PDB_PROGRESS.
+at_terminal() {
+    local line
+    printf -v line '%q ' "$env" "PATH=$path" "$@" "$launcher" progress
+    (cd "$place" && "${plain[@]}" script -qec "$line >seen" /dev/null) </dev/null >"$at/stdout" 2>"$at/stderr"
+    cat "$place/seen"
+}
+
+place=$at/place
+check 'at a terminal the program is told to say how far it is' [ "$(at_terminal)" = 1 ]
+check 'but not where the caller has set how' [ "$(at_terminal PDB_PROGRESS=0)" = 0 ]
+check 'nor where the caller has set nothing' [ -z "$(at_terminal PDB_PROGRESS=)" ]
+start progress
+check 'where standard error is no terminal it is not told' grep -qx 'not set' "$at/stdout"
+by=("$env" PDB_PROGRESS=2 "$launcher")
+start progress
+check "and what the caller has set is the program's" grep -qx 2 "$at/stdout"
+
 #
 # What is built of other sources.
 #
@@ -524,7 +726,7 @@ check 'a build that fails is refused' refused 'not built'
 check 'and the last lines of its log are shown' said '^error: what is made is wrong$'
 echo 'fn main' >"$checkout/crates/pdb_cli/src/main.rt"
 start sources
-check 'what was built before an edit that is taken back is run' ran 1
+check 'what was built before an edit that is taken back is run' ran 2
 
 built no_line
 sed -i '/^pdb_cli/d' "$checkout/crates.txt"
@@ -647,6 +849,14 @@ order fail_at_once
 : >"$at/orders/calls"
 test_all
 check 'the program of an earlier gate is not run' counted 1 '2 passed, 2 failed'
+
+enter minute
+sleep "$((SECONDS - minute < 63 ? 63 + minute - SECONDS : 0))"
+rm "$at/orders/hold_ci"
+wait "$slow"
+status=0
+check 'once a minute it says which crates are at work' said '^pdb_cli: 0 of 2 crates proved after 1 min (low, pdb_cli at work)$'
+check 'and then runs the program' ran 1
 
 echo "$passed passed, $failed failed"
 [ "$failed" = 0 ]

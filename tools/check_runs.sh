@@ -1,14 +1,15 @@
 #!/usr/bin/env bash
 # Runs the built program and checks what it writes, where it writes it and its status: words, streams, files and their
-# names, limits, tables, workers, want of memory, changed inputs, the tour, and runs at once. What is wanted follows from
-# docs/FORMATS.md.
+# names, limits, tables, workers, want of memory, changed inputs, the tour, sizes, budgets, and runs at once. What is wanted
+# follows from docs/FORMATS.md, and of tables and searches from a plain search that does. It also has docs/BELIEVE.md
+# compared with what is proved.
 #
 #     tools/check_runs.sh [PROGRAM]
 #
 # PROGRAM is the program to run; without it, that is the launcher, which builds what is not built. A line is written for
 # each check that fails, with what was written, and last the line `N passed, M failed`. The status is 0 if all passed, 1 if
 # one failed, and 2 where there is no program to run. It needs python3, as rt does, and the C compiler cc, for requests that
-# are refused.
+# are refused and for a plain search.
 set -uo pipefail
 
 root=$(dirname "$(dirname "$(readlink -f "${BASH_SOURCE[0]}")")")
@@ -188,6 +189,25 @@ for words in --help -h help 'help replay' 'help table' 'help bound' 'help optima
     run $words
     check "help by $words" told_help
 done
+# Whether the help says each of these.
+told() {
+    local text
+    for text in "$@"; do
+        grep -qF -- "$text" "$work/output" || return
+    done
+}
+for command in replay table bound optimal make-table solve; do
+    run "$command" --help
+    check "the help of $command says what is read, what is answered, and the statuses" \
+        told Reads Answers 'Status: 0 yes, 1 refused, 2 bad words or a read or write fault, 3 no memory.'
+done
+run make-table --help
+check 'the help of make-table speaks of its workers and of OUT' told 'Building uses all processors, whatever --workers says' \
+    'OUT is replaced'
+run solve --help
+check 'the help of solve speaks of its budget, its workers and OUT' told 'The budget is in boards expanded' \
+    'The usual 1000000 is enough for most' 'harder ones take' '2 to 10 million' 'whatever --workers says' \
+    'built by all processors' 'OUT is replaced'
 for words in rplay 'replay a b' 'replay --workers 2' 'replay --workers 2 solved' table 'table a b' --version --workers \
     '--workers 2 table F1' 'table --none F1' 'table F1 --workers' 'table F1 --workers 2 --workers 2' -x 'replay -x' \
     'table F1 --workers 0' 'table F1 --workers 65' 'table F1 --workers x' 'table F1 --workers -1' 'table F1 --workers 1.5' \
@@ -448,11 +468,17 @@ either_way 1 'refused O1 solution 8 bound 6' F12 branches : optimal eight_moves 
 either_way 1 'refused T7 at entry 14 of table 0' F123_with_02 leaf : bound board one_set leaf F123_with_02
 either_way 1 'refused T7 at entry 0 of table 1' F123 F12_with_FE leaf : bound board one_set leaf F123 F12_with_FE
 either_way 1 'refused T6 of table 1' F12 F123_with_a_byte_more leaf : bound board one_set leaf F12 F123_with_a_byte_more
+# Behind a table that is refused, the digests of the others are told.
+either_way 1 'refused T7 at entry 0 of table 0' F12_with_FE F123 leaf : bound board one_set leaf F12_with_FE F123
+either_way 1 'refused T6 of table 1' F12 F123_with_a_byte_more F12_with_FE leaf : bound board one_set leaf F12 F123_with_a_byte_more F12_with_FE
 echo '0 1 2 2' >no_board
 either_way 1 'refused B5 at number 3' F123 leaf : bound no_board one_set leaf F123
 seventeen=$(printf 'F123 %.0s' {1..17})
 # shellcheck disable=SC2086
 either_way 1 'refused S5' $seventeen leaf : bound board one_set leaf $seventeen
+sixteen_files=$(printf 'F12 %.0s' {1..16})
+# shellcheck disable=SC2086
+either_way 0 'bound 6' $sixteen_files branches : bound board one_set branches $sixteen_files
 # shellcheck disable=SC2086
 either_way 1 'refused T6 of table 17' $seventeen F123_with_a_byte_more leaf : bound board one_set leaf $seventeen F123_with_a_byte_more
 echo 'set 1' >table_1
@@ -634,7 +660,9 @@ for words in '' 'table F123' 'table F123 --workers 2' 'table F123_with_02' 'make
     'bound board with_mirror_and_1 leaf F1 F3 --workers 2' 'bound board one_set by_parity F12' \
     'bound board one_set citation F12 --fold' 'bound board pair leaf F12 F3 --fold --workers 2' \
     'optimal six_moves one_set branches F12' 'optimal six_moves one_set branches F12 --fold' \
-    'solve next_board one_set made F123' 'solve board with_mirror_and_1 made F1 F3' 'solve board one_set made F12 --fold'; do
+    'optimal six_moves pair leaf F12 F3 --fold --workers 2' 'solve next_board one_set made F123' \
+    'solve board with_mirror_and_1 made F1 F3' 'solve board one_set made F12 --fold' \
+    'solve board pair made F12 F3 --fold --workers 2'; do
     status=0
     # shellcheck disable=SC2086
     PROGRAM=$bare "$root/tools/refuse_memory.sh" $words <solved >"$work/output" 2>"$work/errors" || status=$?
@@ -651,15 +679,15 @@ same_answer() {
     [ "$status" = "$own_status" ] && [ ! -s "$work/errors" ] && cmp -s "$work/output" "$work/own_answer"
 }
 
-# A run with these words on the stack that each process has from its start, in kilobytes. What a run needs beyond it the
-# system may refuse where memory is limited, and then ends the run by a signal.
+# A run with these words on a stack of 120 kilobytes. Each process has 128 from its start, so 8 are left; what a run needs
+# beyond it the system may refuse where memory is limited, and then ends the run by a signal.
 limit_stack() {
     run "$@"
     own_status=$status
     mv "$work/output" "$work/own_answer"
     status=0
-    (ulimit -s 128 && exec env -i "$bare" "$@") <"$input" >"$work/output" 2>"$work/errors" || status=$?
-    check "$* with the stack of a start" same_answer
+    (ulimit -s 120 && exec env -i "$bare" "$@") <"$input" >"$work/output" 2>"$work/errors" || status=$?
+    check "$* with less than the stack of a start" same_answer
 }
 
 most_tables=(F12 F12 F12 F12 F12 F12 F12 F12 F12 F12 F12 F12 F12 F12 F12 F12)
@@ -672,6 +700,7 @@ limit_stack bound board one_set citation "${most_tables[@]}" --workers 64
 limit_stack bound board sixteen_mirrors citation "${most_tables[@]}" --workers 64
 limit_stack optimal six_moves one_set branches "${most_tables[@]}" --workers 64
 limit_stack optimal six_moves one_set branches "${most_tables[@]}" --workers 64 --fold
+limit_stack bound board sixteen_mirrors citation "${most_tables[@]}" --workers 64 --fold
 limit_stack make-table 2 14 made
 limit_stack make-table 3 126 made --workers 64
 limit_stack solve next_board one_set made F123
@@ -696,6 +725,14 @@ check '2,000 changed inputs are answered as their plain answers say' \
 status=0
 "$root/tools/check_tour.sh" "$bare" >"$work/output" 2>"$work/errors" || status=$?
 check 'the commands of the tour write what its page says' [ "$status" = 0 ]
+
+#
+# What has to be believed.
+#
+
+status=0
+"$root/tools/check_believe.py" >"$work/output" 2>"$work/errors" || status=$?
+check 'the page of what has to be believed counts and quotes what is there' [ "$status" = 0 ]
 
 #
 # Tables and logs that are made.
@@ -778,6 +815,8 @@ solved board 6 mirror F12
 solved board 6 with_mirror F1
 solved board 6 with_mirror_and_1 'F1 F3' --workers 2
 for workers in 1 2 7; do
+    solved next_board 1 one_set F123 --workers "$workers"
+    solved board 6 one_set F12 --workers "$workers"
     solved next_board 1 one_set F123 --fold --workers "$workers"
     solved board 6 one_set F12 --fold --workers "$workers"
 done
@@ -786,14 +825,16 @@ solved board 6 pair 'F12 F3' --fold
 solved board 6 mirror F12 --fold
 rm -f made
 names_before=$(names_of)
-for words in 'unsolvable_board F123 K2' 'solved_board F24 L4' 'board F12 K1 --budget 1' 'unsolvable_board F123 K2 --fold' \
-    'folded_board F12 K2' 'folded_board F12 K2 --fold' 'board F12 K1 --fold --budget 1'; do
-    read -r board file refusal flags <<<"$words"
-    digest=$(sha256sum <"$file")
-    # shellcheck disable=SC2086
-    expect "solve $words" 1 "sha256 ${digest%% *}" "refused $refusal" : solve "$board" one_set made "$file" $flags
-    check "solve $words keeps nothing" only_new
-done
+either_way 1 'refused K2' F123 : solve unsolvable_board one_set made F123
+either_way 1 'refused L4' F24 : solve solved_board one_set made F24
+either_way 1 'refused K1' F12 : solve board one_set made F12 --budget 1
+either_way 1 'refused K2' F12 : solve folded_board one_set made F12
+either_way 1 'refused B5 at number 3' F123 F12 : solve no_board one_set made F123 F12
+either_way 1 'refused T7 at entry 0 of table 0' F12_with_FE F123 : solve board one_set made F12_with_FE F123
+either_way 1 'refused T6 of table 1' F12 F123_with_a_byte_more F12_with_FE : solve board one_set made F12 F123_with_a_byte_more F12_with_FE
+# shellcheck disable=SC2086
+either_way 1 'refused S5' $seventeen : solve board one_set made $seventeen
+check 'a search that is refused keeps nothing' only_new
 expect 'solve without a board' 2 'fault read none' : solve none one_set made F12
 cp board both
 run solve both one_set both F12
@@ -803,28 +844,184 @@ run optimal "$work/puzzle" one_set both F12
 check 'what stands there is the log' [ "$status.$(tail -n 1 "$work/output")" = '0.optimal 6' ]
 rm both
 
-# Files that can't be written.
-names_before=$(names_of)
-expect 'a folder that is not there' 2 'fault write no_folder/made' : make-table 2 6 no_folder/made
-expect 'a log in a folder that is not there' 2 'fault write no_folder/made' : solve board one_set no_folder/made F12
+# Names that nothing can be kept under are told at once, before work that would take much longer than the time that it has here.
+echo '0 15 14 13 12 11 10 9 8 7 6 5 4 3 1 2' >far_board
+run make-table 4 2 tile_1
 mkdir "$work/a_folder"
-expect 'a folder in the place of a file' 2 "fault write $work/a_folder" : make-table 2 6 "$work/a_folder"
-check 'nothing is left of files that can not be written' only_new
-expect 'an empty name' 2 'fault write ' : make-table 2 6 ''
-check 'nothing is left of an empty name' only_new
+mkfifo a_pipe
+too_long=$(printf 'n%.0s' {1..249})
+names_before=$(names_of)
+
+# A run with these words must tell so of OUT alone, within ten seconds: unwritable OUT WORD..
+unwritable() {
+    local out=$1
+    shift
+    status=0
+    timeout 10 "$program" "$@" </dev/null >"$work/output" 2>"$work/errors" || status=$?
+    check "'$out' can not be written by $1" wrote 2 "fault write $out"
+}
+for out in no_folder/made F12/made "$work/a_folder" "$work/a_folder/" . /dev/full /dev/null a_pipe /proc/made "$too_long" ''; do
+    unwritable "$out" make-table 5 126 "$out" --workers 4
+    unwritable "$out" solve far_board one_set "$out" tile_1 --budget 1000000000000
+    unwritable "$out" solve far_board one_set "$out" tile_1 --budget 1000000000000 --fold
+done
+unwritable no_folder/made make-table 2 1 no_folder/made
+unwritable no_folder/made solve one_set one_set no_folder/made F12
+expect 'an input that is not there comes before the trial' 2 'fault read none' : solve none one_set no_folder/made F12
+check 'nothing is left of names that can not be kept under' only_new
 if [ "$(id -u)" != 0 ]; then
     chmod a-w "$work/a_folder"
-    expect 'a folder that can not be written' 2 "fault write $work/a_folder/made" : make-table 2 6 "$work/a_folder/made"
+    unwritable "$work/a_folder/made" make-table 5 126 "$work/a_folder/made"
     chmod u+w "$work/a_folder"
 fi
 check 'the folder is as it was' [ -z "$(ls -A "$work/a_folder")" ]
-expect 'a device without room' 2 'fault write /dev/full' : make-table 2 6 /dev/full
+rm far_board tile_1 a_pipe
+
+# Files of a user's own under the names of temporary files stay.
+cp F12 made.unkept
+echo 'of a user' >made.1.unkept
+users_stay() {
+    cmp -s made.unkept F12 && [ "$(cat made.1.unkept)" = 'of a user' ] && only_new "$@"
+}
+names_before=$(names_of)
+run make-table 2 14 made
+check 'a table is kept beside files of a user' cmp -s made F123
+check 'they stay' users_stay made
+rm made
+run solve board one_set made made.unkept
+check 'a log is kept beside its own table' [ "$status.$(tail -n 1 "$work/output")" = '0.optimal 6' ]
+check 'it stays' users_stay made
+rm made
+for words in 'make-table 2 1 made' 'solve unsolvable_board one_set made made.unkept' 'make-table 2 6 no_folder/made'; do
+    # shellcheck disable=SC2086
+    run $words
+    check "they stay behind $words" users_stay
+done
+mkdir made
+names_before=$(names_of)
+unwritable made make-table 2 6 made
+check 'they stay beside a folder' users_stay
+rmdir made
+for seconds in 0.01 0.1 0.3 0.6; do
+    (timeout -s KILL "$seconds" "$bare" make-table 3 510 made --workers 2) >"$work/output" 2>/dev/null
+    rm -f made
+    check 'they stay behind a run that is killed' [ "$(cmp made.unkept F12; cat made.1.unkept)" = 'of a user' ]
+done
+run make-table 2 6 made
+check 'a run behind it keeps its table' cmp -s made F12
+rm -f made made.*unkept
+
+# Two makers at once under one name.
+names_before=$(names_of)
+for pair in {1..20}; do
+    "$program" make-table 2 6 made >"$work/first" 2>"$work/errors" &
+    status=0
+    "$program" make-table 2 14 made >"$work/output" 2>>"$work/errors" || status=$?
+    wait $! || status=$?
+    check "pair $pair of makers ends well" [ "$status.$(tail -qn 1 "$work/first" "$work/output" | grep -c '^exact')" = 0.2 ]
+    check "pair $pair leaves the whole file of one of them" [ -n "$(cmp -s made F12 && echo F12 || cmp -s made F123 && echo F123)" ]
+    check "pair $pair leaves nothing beside it" only_new made
+done
+rm made
+
 status=0
 "$program" make-table 2 6 made >/dev/full 2>"$work/errors" || status=$?
 : >"$work/output"
 check 'a made table on a full standard output' [ "$status" = 2 ]
 check 'what was made stays' cmp -s made F12
 rm made
+
+#
+# Sizes and budgets.
+#
+
+# The line of an exact table whose file this is.
+exact_line() {
+    python3 - "$1" <<'END'
+import sys
+file = open(sys.argv[1], "rb").read()
+mask, entries = int.from_bytes(file[8:12], "big"), file[20:]
+deepest = max(count for count in range(254) if count in entries)
+print(f"exact side {file[5]} mask {mask} entries {len(entries)} unreachable {entries.count(255)} deepest {deepest}")
+END
+}
+
+# The tables of a plain search. In the last one, of 36 mebibytes, a move passes up to four tiles.
+cc -O2 -o "$work/plain_table" "$root/tools/plain_table.c" || exit 2
+for numbers in '2 2' '2 10' '3 48' '3 126' '3 254' '4 30' '4 32802' '5 6' '5 16777248' '5 62'; do
+    read -r side mask <<<"$numbers"
+    "$work/plain_table" "$side" "$mask" >plain
+    line=$(exact_line plain)
+    made plain "$line" "$side" "$mask" --workers 4
+done
+rm -f made
+for workers in 1 2 7; do
+    table plain 0 "$line" --workers "$workers"
+done
+# The first and the last placement have their tiles in a row, and one region. So their other slots have none, and no entry
+# stands beside these.
+{ head -c 20 plain && head -c 38253600 /dev/zero | tr '\0' '\377'; } >never
+changed plain 38253619 FF plain_without_its_end
+for workers in 1 7; do
+    table never 1 'refused T7 at entry 1' --workers "$workers"
+    table plain_without_its_end 1 'refused T7 at entry 38253599' --workers "$workers"
+done
+rm plain never plain_without_its_end
+
+# As many lemmas as a log may have: each but the first cites the one halfway before it.
+python3 - >most_lemmas <<'END'
+import sys
+lemma = bytes([3, 2, 1, 0, 6])
+log = [b"PDBL\x01\x02" + (2**20).to_bytes(4, "big"), lemma + b"\x00\x00\x00\x01\x01"]
+log += [lemma + b"\x00\x00\x00\x05\x20" + (number // 2).to_bytes(4, "big") for number in range(1, 2**20)]
+sys.stdout.buffer.write(b"".join(log))
+END
+changed most_lemmas "$((14 * 1048575 + 10))" 07 last_lemma_of_7
+claim 0 'bound 6' F123 most_lemmas : bound board one_set most_lemmas F123
+claim 1 'refused L6 at lemma 1048575' F123 last_lemma_of_7 : bound board one_set last_lemma_of_7 F123
+rm most_lemmas last_lemma_of_7
+
+# A search that may expand as many boards as a plain search does must end well, and with one board fewer it must give up:
+# just_enough BOARD SETS FILES WORD..
+just_enough() {
+    local board=$1 sets=$2 files=() lines=() file digest moves
+    read -ra files <<<"$3"
+    shift 3
+    read -r moves expanded < <("$root/tools/plain_search.py" "$board" "$sets" "${files[@]}" "$@")
+    solved "$board" "$moves" "$sets" "${files[*]}" --budget "$expanded" "$@"
+    rm -f made
+    for file in "${files[@]}"; do
+        digest=$(sha256sum <"$file")
+        lines+=("sha256 ${digest%% *}")
+    done
+    expect "solve $board $sets with one board fewer than $expanded $*" 1 "${lines[@]}" 'refused K1' : \
+        solve "$board" "$sets" made "${files[@]}" --budget "$((expanded - 1))" "$@"
+}
+
+just_enough board one_set F12
+just_enough board one_set F12 --fold
+just_enough board with_mirror F1
+# On side 5 the blank is in the last corner, where the tiles 19 and 24 cut it off. The tables are those of the tiles 19 and
+# 24; 5 and 10; 15 and 20; 21 and 22; and 23. The sum of them all is exact.
+for mask in 17301504 1056 1081344 6291456 8388608; do
+    "$work/plain_table" 5 "$mask" >"mask_$mask"
+done
+corner_tables='mask_17301504 mask_1056 mask_1081344 mask_6291456 mask_8388608'
+echo '5 1 2 3 4 10 6 7 8 9 15 11 12 13 14 20 16 17 18 19 21 22 23 24 0' >corner
+echo 'set 0 1 2 3 4' >all_of_five
+just_enough corner all_of_five "$corner_tables"
+just_enough corner one_set "$corner_tables"
+just_enough corner mirror "$corner_tables"
+# More boards than a search may expand without --budget.
+echo '8 0 6 5 4 7 2 3 1' >far_board
+"$work/plain_table" 3 14 >three_of_side_3
+just_enough far_board one_set three_of_side_3
+check 'a search of more than 1,000,000 boards' [ "$expanded" -gt 1000000 ]
+digest=$(sha256sum <three_of_side_3)
+for words in '' '--budget 1000000'; do
+    # shellcheck disable=SC2086
+    expect "solve far_board $words" 1 "sha256 ${digest%% *}" 'refused K1' : solve far_board one_set made three_of_side_3 $words
+done
 
 #
 # Runs at once, and writes.

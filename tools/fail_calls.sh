@@ -2,18 +2,19 @@
 # Runs the program once for each of its system calls, with that one failing, for each way to fail below. Such a run must
 # answer as the run does in which nothing fails, or tell the fault: `fault read NAME` or `fault write NAME` with status 2, or
 # `no memory` with status 3, or nothing with status 2 where the lines can't be written. Where it tells a fault, it must leave
-# its files as they were, but for what a stopped run has left beside them, which may be gone; and otherwise as the run does in
-# which nothing fails.
+# its files as they were, those beside them with names that end in `.unkept` too, but for a temporary file that it could not
+# remove; and otherwise as the run does in which nothing fails.
 #
 #     echo '3 2 1 0 ; ULDRUL' | tools/fail_calls.sh
 #     tools/fail_calls.sh table FILE --workers 4 </dev/null
 #
 # Its arguments are the program's words, and its standard input is the program's. Names are those of files in the folder that
-# it is called in, of which each run gets a copy, with what a stopped run has left beside them. It needs `strace`, `gdb` and
-# `python3`, Debian's packages. The calls are those of the program's first thread, behind those by which the system starts it, and those
-# of its other threads, in the order in which these make them, whichever it is. A line is written for each kind of call, with
-# what was answered, and for each run that ends otherwise; last `N passed, M failed`. The status is 0 if all passed, and
-# otherwise not. The program is that of the variable PROGRAM, a path; without it, the launcher builds it where that is needed.
+# it is called in, of which each run gets a copy, with what stands under the first names of their temporary files. It needs
+# `strace`, `gdb` and `python3`, Debian's packages. The calls are those of the program's first thread, behind those by which the
+# system starts it, and those of its other threads, in the order in which these make them, whichever it is. A line is written
+# for each kind of call, with what was answered, and for each run that ends otherwise; last `N passed, M failed`. The status is 0
+# if all passed, and otherwise not. The program is that of the variable PROGRAM, a path; without it, the launcher builds it where
+# that is needed.
 set -uo pipefail
 
 # How each call may fail. Of `brk` the system tells no error, but that memory ends where it did. `munmap` is left out: glibc
@@ -36,7 +37,7 @@ trap 'rm -r "$work"' EXIT
 
 mkdir "$work/given" && cat >"$work/input"
 for word in "$@"; do
-    for file in "$word" "$word.unkept"; do
+    for file in "$word" "$word.unkept" "$word.1.unkept"; do
         [ ! -f "$file" ] || cp --parents -- "$file" "$work/given"
     done
 done
@@ -91,13 +92,13 @@ is_name() {
     return 1
 }
 
-# Whether the run has left the files as one of these lists has them.
+# Whether the run has left the files as this list has them. Where the call $1 is one that removes a file, one more may be
+# there, the temporary file that was not removed.
 has_left() {
-    local list
-    for list in "$@"; do
-        ! cmp -s "$work/left" "$work/$list" || return 0
-    done
-    return 1
+    cmp -s "$work/left" "$work/$2" && return
+    local more
+    mapfile -t more < <(comm -23 "$work/left" "$work/$2")
+    [ "$1" = unlink ] && [ -z "$(comm -13 "$work/left" "$work/$2")" ] && [ "${#more[@]}" = 1 ] && [[ ${more[0]} == *.unkept ]]
 }
 
 # Sets `told` to what the run with the words behind $1 has answered, in which the call $1 failed; its status is not 0 where
@@ -109,17 +110,17 @@ judge() {
     [ ! -s "$work/errors" ] || return
     if cmp -s "$work/output" "$work/own_answer"; then
         told='its own answer'
-        has_left after
+        has_left "$1" after
     elif [ "${lines[*]}" = 'no memory status 3' ]; then
         told='no memory'
-        has_left before cleared
+        has_left "$1" before
     elif [[ ${lines[0]} =~ ^(fault\ (read|write))\ (.*)$ && ${lines[*]:1} = 'status 2' ]] &&
         is_name "${BASH_REMATCH[3]}" "${@:2}"; then
         told=${BASH_REMATCH[1]}
-        has_left before cleared
+        has_left "$1" before
     elif [ "$1 ${lines[*]}" = 'write status 2' ]; then
         told='nothing, status 2'
-        has_left after
+        has_left "$1" after
     else
         return 1
     fi
@@ -134,7 +135,6 @@ mv "$work/output" "$work/own_answer"
 mv "$work/left" "$work/after"
 mv "$work/calls" "$work/own_calls"
 rm -rf "$work/files" && cp -a "$work/given" "$work/files" && list_files >"$work/before"
-grep -v '\.unkept$' "$work/before" >"$work/cleared"
 read -r first _ <"$work/own_calls"
 
 passed=0

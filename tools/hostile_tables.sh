@@ -124,7 +124,8 @@ memory '`bound` on the files of [TOUR.md](TOUR.md) `--workers 7`' bound tour/boa
 memory '`optimal` on the files of [TOUR.md](TOUR.md) `--workers 2`' optimal tour/puzzle $tour --workers 2
 row '`make-table 2 14 o`' make-table 2 14 o
 echo 'half a table' >left.unkept
-calls 'the same beside the `o.unkept` of a run that was killed' make-table 2 14 left
+echo 'a file of a user' >left.1.unkept
+calls 'the same beside an `o.unkept` and an `o.1.unkept`' make-table 2 14 left
 memory '`make-table 5 16777216 o`' make-table 5 16777216 o
 calls '`make-table 3 30 o --workers 2`' make-table 3 30 o --workers 2
 calls '`make-table 2 14 o --workers 7`' make-table 2 14 o --workers 7
@@ -132,7 +133,7 @@ memory '`make-table 3 30 o --workers 7`' make-table 3 30 o --workers 7
 memory '`solve board sets o F123`' solve board sets o F123
 memory 'the same for the board `1 0 2 3`' solve next sets o F123
 calls '`solve board sets o F12`' solve board sets o F12
-calls 'the same beside an `o.unkept`' solve board sets left F12
+calls 'the same beside an `o.unkept` and an `o.1.unkept`' solve board sets left F12
 row '`solve board sets o F12 --workers 2`' solve board sets o F12 --workers 2
 row '`solve board sets o F12 --workers 7`' solve board sets o F12 --workers 7
 row '`solve board mirrors o F1 F3`' solve board mirrors o F1 F3

@@ -704,12 +704,13 @@ def made_log(run, ended, inputs):
     told = [refusal for refusal in refusals if ended.written.endswith(b"refused %s\n" % refusal.encode())]
     if told or not has_solution(board):
         raise Refused([*refusals, *told][-1])
-    return solved(run, ended, board, sets, tables) if can_be_kept(run.out) else (b"", b"")
+    return solved(run, ended, board, sets, tables)
 
 
 def can_be_kept(name):
-    """Whether a file can stand under this name: not in a folder that isn't there, nor in the place of a folder or device."""
-    return "/" not in name and name not in ("", ".")
+    """Whether a file can be kept under this name: not in a folder that isn't there, nor in the place of a folder or device, nor
+    under a name that leaves no room for that of a temporary file."""
+    return "/" not in name and name not in ("", ".") and len(name.encode()) <= 248
 
 
 def is_mistaken(run):
@@ -728,6 +729,8 @@ def answer(run, ended):
             return Ended(b"fault read " + shown(name) + b"\n", 2, run.files)
         if len(run.files[name]) > limit:
             return Ended(b"fault size " + shown(name) + b"\n", 2, run.files)
+    if run.out is not None and not can_be_kept(run.out):
+        return Ended(b"fault write " + shown(run.out) + b"\n", 2, run.files)
     inputs = [run.files[name] for name in run.names]
     lines, made = digest_lines(run.command, inputs), None
     try:
@@ -739,8 +742,5 @@ def answer(run, ended):
             told = verdict(run.command, inputs, run.fold).encode() + b"\n"
     except Refused as refused:
         return Ended(lines + f"refused {refused}\n".encode(), 1, run.files)
-    if made is None:
-        return Ended(lines + told, 0, run.files)
-    if not can_be_kept(run.out):
-        return Ended(b"fault write " + shown(run.out) + b"\n", 2, run.files)
-    return Ended(lines + told, 0, {**run.files, run.out: made})
+    kept = {} if made is None else {run.out: made}
+    return Ended(lines + told, 0, {**run.files, **kept})

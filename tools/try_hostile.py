@@ -322,12 +322,12 @@ def claimed(draw, number):
 
 
 def kept_under(draw, files):
-    """A name to keep under, and the files with what may stand there already."""
-    unkept = ["no_folder/made", "no\x1bfolder/a", "/dev/full", ".", ""]
+    """A name to keep under, and the files with what may stand there already, or under the name of a temporary file."""
+    unkept = ["no_folder/made", "no\x1bfolder/a", "taken/made", "/dev/full", ".", "", "n" * 249]
     out = draw.choice(["made"] * 8 + ["taken"] * 3 + ["two words", "a\nb"] + unkept)
     if files and draw.random() < 0.1:
         out = draw.choice(list(files))
-    return out, {**files, "taken": b"what stood here"}
+    return out, {**files, "taken": b"what stood here", "made.unkept": b"a file of a user"}
 
 
 def made(draw, _number):

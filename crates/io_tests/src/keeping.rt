@@ -1,4 +1,4 @@
-//! Shelves that keep: over memory, over a system whose calls fail, and over real files.
+//! Shelves that keep files: over memory, over a system whose calls fail, and over real files.
 
 use crate::bytes::sample_bytes;
 use crate::calls::were_calls;
@@ -7,9 +7,11 @@ use pdb_io::memory::MemShelf;
 use pdb_io::shelf::{KeepFault, Shelf};
 use sample_streams::{Call, SampleFiles};
 use std::alloc::Global;
-use std::fs;
+use std::fs::OpenOptions;
 use std::io::Read;
 use std::test::Fail;
+use std::thread::join;
+use std::{fs, io};
 
 const OLD: &[u8] = b"old";
 
@@ -107,40 +109,107 @@ fn a_system_that_stops_leaves_the_old_file_or_the_new_one(rt: HostRuntime) -> Re
         );
         files.fail(0, 0);
         DiskShelf::new(&files).keep(alloc, "a", b"newest")?;
-        assert!(rt; has_alone(&files, "a", b"newest"), "call {call}");
-    }
-    Ok(())
-}
-
-/// A file, and what is left over of a keep that was stopped.
-const LEFT_OVER: &[(&str, &[u8])] = &[("a", OLD), ("a.unkept", b"ne")];
-
-#[test]
-fn a_file_that_was_left_over_is_replaced(rt: HostRuntime) -> Result<(), Fail> {
-    let alloc = rt.alloc();
-    let files = SampleFiles::new(alloc, LEFT_OVER)?;
-    DiskShelf::new(&files).keep(alloc, "a", NEW)?;
-    let calls = files.calls()?;
-    assert!(rt;
-        calls.starts_with(&[Call::Look, Call::Create, Call::Remove, Call::Create])
-            && calls.ends_with(&CALLS[1..])
-    );
-    assert!(rt; has_alone(&files, "a", NEW));
-    Ok(())
-}
-
-#[test]
-fn a_call_that_fails_beside_a_file_left_over_leaves_the_old_bytes(
-    rt: HostRuntime,
-) -> Result<(), Fail> {
-    let alloc = rt.alloc();
-    for (call, count) in [(8u64, 1), (2, 2), (3, 1)] {
-        let files = SampleFiles::new(alloc, LEFT_OVER)?;
-        files.fail(call, call.saturating_add(1));
-        let kept = DiskShelf::new(&files).keep(alloc, "a", NEW);
-        assert!(rt; kept == Err(KeepFault::F3) && files.has("a", OLD));
+        // What was made and not yet renamed is left over.
+        let count = if (2..CALLS.len()).contains(&call) {
+            2
+        } else {
+            1
+        };
+        assert!(rt; files.has("a", b"newest"), "call {call}");
         assert_eq!(rt; files.count(), count);
     }
+    Ok(())
+}
+
+/// A file, and files under the first names of its temporary file: a user's, and one that was left over.
+const BESIDE: &[(&str, &[u8])] = &[("a", OLD), ("a.unkept", b"a user's"), ("a.1.unkept", b"ne")];
+
+/// The calls that keep nine bytes beside them.
+const CALLS_BESIDE: &[Call] = &[
+    Call::Look,
+    Call::Create,
+    Call::Create,
+    Call::Create,
+    Call::Write,
+    Call::Write,
+    Call::Write,
+    Call::Sync,
+    Call::Rename,
+];
+
+/// Whether the files beside `a` have what they had.
+fn are_beside(files: &SampleFiles) -> bool {
+    BESIDE
+        .iter()
+        .skip(1)
+        .all(|(name, bytes)| files.has(name, bytes))
+}
+
+#[test]
+fn what_others_made_beside_a_file_stays(rt: HostRuntime) -> Result<(), Fail> {
+    let alloc = rt.alloc();
+    let files = SampleFiles::new(alloc, BESIDE)?;
+    DiskShelf::new(&files).keep(alloc, "a", NEW)?;
+    assert!(rt; were_calls(&files, CALLS_BESIDE)?);
+    assert!(rt; files.has("a", NEW) && are_beside(&files));
+    assert_eq!(rt; files.count(), BESIDE.len());
+    Ok(())
+}
+
+#[test]
+fn what_others_made_stays_where_a_call_fails(rt: HostRuntime) -> Result<(), Fail> {
+    let alloc = rt.alloc();
+    for call in 1..CALLS_BESIDE.len() as u64 {
+        let files = SampleFiles::new(alloc, BESIDE)?;
+        files.fail(call, call.saturating_add(1));
+        let ended = keep_new(alloc, &files, "a");
+        assert_eq!(rt; ended, (Err(KeepFault::F3), true));
+        assert!(rt; files.has("a", OLD) && are_beside(&files), "call {call}");
+        assert_eq!(rt; files.count(), BESIDE.len());
+    }
+    Ok(())
+}
+
+#[test]
+fn what_others_made_stays_where_the_system_stops(rt: HostRuntime) -> Result<(), Fail> {
+    let alloc = rt.alloc();
+    for call in 0..CALLS_BESIDE.len() as u64 {
+        let files = SampleFiles::new(alloc, BESIDE)?;
+        files.fail(call, u64::MAX);
+        let ended = keep_new(alloc, &files, "a");
+        assert_eq!(rt; ended, (Err(KeepFault::F3), true));
+        assert!(rt; files.has("a", OLD) && are_beside(&files), "call {call}");
+        files.fail(0, 0);
+        DiskShelf::new(&files).keep(alloc, "a", NEW)?;
+        assert!(rt; files.has("a", NEW) && are_beside(&files), "call {call}");
+    }
+    Ok(())
+}
+
+/// Makes a file without bytes where nothing stands.
+fn make(files: &SampleFiles, name: &str) -> io::Result<()> {
+    let _file = OpenOptions::new()
+        .write(true)
+        .create_new(true)
+        .open(files, name)?;
+    Ok(())
+}
+
+#[test]
+fn a_thousand_names_are_tried(rt: HostRuntime) -> Result<(), Fail> {
+    let alloc = rt.alloc();
+    let files = SampleFiles::new(alloc, &[("a", OLD), ("a.unkept", b"a user's")])?;
+    for number in 1..999 {
+        let name = format!(in alloc; "a.{number}.unkept")?;
+        make(&files, name.as_str())?;
+    }
+    DiskShelf::new(&files).keep(alloc, "a", NEW)?;
+    assert!(rt; files.has("a", NEW));
+    assert_eq!(rt; files.count(), 1000);
+
+    make(&files, "a.999.unkept")?;
+    assert_eq!(rt; keep_new(alloc, &files, "a"), (Err(KeepFault::F3), true));
+    assert_eq!(rt; files.count(), 1001);
     Ok(())
 }
 
@@ -197,6 +266,7 @@ fn a_real_file_is_kept_whole_under_its_very_name(rt: HostRuntime) -> Result<(), 
     let alloc = rt.alloc();
     let mut shelf = DiskShelf::new(&rt);
     fs::write(&rt, "keep_test.unkept", OLD)?;
+    fs::create_dir(&rt, "keep_test.1.unkept")?;
     for name in ["keep_test", " keep_test", "keep test\t", "./--"] {
         for count in [9usize, 3_145_745, 0] {
             let bytes = sample_bytes(alloc, count)?;
@@ -208,8 +278,34 @@ fn a_real_file_is_kept_whole_under_its_very_name(rt: HostRuntime) -> Result<(), 
         }
         fs::remove_file(&rt, name)?;
     }
-    assert!(rt; !fs::exists(&rt, "keep_test.unkept")?);
-    assert!(rt; !shelf.failed());
+    assert!(rt; fs::read(&rt, "keep_test.unkept")?.as_slice() == OLD);
+    fs::remove_file(&rt, "keep_test.unkept")?;
+    fs::remove_dir(&rt, "keep_test.1.unkept")?;
+    assert!(rt; !fs::exists(&rt, "keep_test.2.unkept")? && !shelf.failed());
+    Ok(())
+}
+
+#[test]
+fn two_that_keep_at_once_leave_a_whole_file(rt: HostRuntime) -> Result<(), Fail> {
+    let alloc = rt.alloc();
+    let (first, second) = (
+        sample_bytes(alloc, 20_000)?,
+        Vec::from_slice(alloc, &[7; 30_000])?,
+    );
+    for _ in 0..50 {
+        let (kept, too) = join(
+            &rt,
+            || DiskShelf::new(&rt).keep(alloc, "pair_test", first.as_slice()),
+            || DiskShelf::new(&rt).keep(alloc, "pair_test", second.as_slice()),
+        );
+        assert_eq!(rt; (kept, too), (Ok(()), Ok(())));
+        let bytes = fs::read(&rt, "pair_test")?;
+        assert!(rt; bytes.as_slice() == first.as_slice() || bytes.as_slice() == second.as_slice());
+        assert!(rt;
+            !fs::exists(&rt, "pair_test.unkept")? && !fs::exists(&rt, "pair_test.1.unkept")?
+        );
+    }
+    fs::remove_file(&rt, "pair_test")?;
     Ok(())
 }
 

@@ -20,3 +20,5 @@ mod sha256;
 mod shelves;
 #[cfg(test)]
 mod streams;
+#[cfg(test)]
+mod trials;

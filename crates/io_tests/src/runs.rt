@@ -6,6 +6,7 @@ use pdb_io::shelf::Shelf;
 use pdb_io::streams::ReadFault;
 use pdb_run::{
     Answer, Command, Digested, Input, Status, keep_and_conclude, lines, load_all, read_inputs,
+    read_inputs_and_try,
 };
 use sample_streams::{Failing, FailingShelf, SampleReader, SampleWriter, ShelfFault};
 use std::alloc::{AllocError, Global};
@@ -132,6 +133,59 @@ impl Command for Makes<'_> {
     fn inputs(&self, alloc: Global) -> Result<Vec<Input<'_>>, AllocError> {
         Ok(Vec::new(alloc))
     }
+}
+
+/// The beginning of its run.
+fn begin_making<S: Shelf, W: Write>(
+    alloc: Global,
+    out_name: &str,
+    shelf: &mut S,
+    out: &mut W,
+) -> Result<Vec<Vec<u8>>, Status> {
+    let command = Makes { out: out_name };
+    let mut reader = b"".as_slice();
+    read_inputs_and_try(alloc, &command, out_name, shelf, &mut reader, out)
+}
+
+#[test]
+fn a_name_that_can_be_kept_under_lets_a_run_begin(rt: HostRuntime) -> Result<(), Fail> {
+    let alloc = rt.alloc();
+    let mut shelf = MemShelf::of(alloc, &FILES)?;
+    let mut out = SampleWriter::new(alloc);
+    for name in ["a", "new"] {
+        let begun = begin_making(alloc, name, &mut shelf, &mut out);
+        assert!(rt; begun.is_ok_and(|inputs| inputs.is_empty()));
+    }
+    assert!(rt; shelf.get("a") == Some(FILES[0].1) && shelf.get("new").is_none());
+    assert_eq!(rt; (out.calls(), shelf.failed()), (0, false));
+    Ok(())
+}
+
+#[test]
+fn a_name_that_can_not_be_kept_under_ends_a_run(rt: HostRuntime) -> Result<(), Fail> {
+    let alloc = rt.alloc();
+    let cases: [(ShelfFault, &str, &[u8], Status); 3] = [
+        (ShelfFault::Device, "a", b"fault write a\n", Status::Fault),
+        (
+            ShelfFault::Device,
+            "a b\n",
+            b"fault write a b?\n",
+            Status::Fault,
+        ),
+        (ShelfFault::Memory, "a", b"no memory\n", Status::NoMemory),
+    ];
+    for (why, name, line, want) in cases {
+        let mut shelf = FailingShelf::new(MemShelf::of(alloc, &FILES)?, 0, why);
+        let mut out = SampleWriter::new(alloc);
+        let begun = begin_making(alloc, name, &mut shelf, &mut out);
+        assert!(rt; begun.err() == Some(want) && out.taken() == line);
+        assert!(rt; has_its_files(&shelf) && shelf.files().get("a b\n").is_none());
+        assert_eq!(rt;
+            (out.calls(), shelf.calls(), shelf.failed()),
+            (1, 1, want == Status::Fault)
+        );
+    }
+    Ok(())
 }
 
 /// Its answer where it made `abc`.

@@ -1,10 +1,10 @@
 pub mod AnswerLemmas
+mod BehindLemmas
 mod BoundLemmas
 mod BranchLemmas
 mod DecideLemmas
 mod FirstBadLemmas
 pub mod GoodLemmas
-mod OpenLemmas
 mod NodeLemmas
 mod Pending
 mod WalkLemmas

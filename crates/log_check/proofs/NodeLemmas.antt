@@ -10,10 +10,9 @@ use Rattle.log_check.specs.GoodLogs.{IsGood}
 use Rattle.log_check.specs.Nodes.{BeginsWith, BeginsWithNone, IsNode, node_bytes}
 use Rattle.log_check.specs.Refutations.{Cites, Refutes}
 use Rattle.log_check.specs.Trees.{Tree, absent, branch, citation, leaf, spelling}
-use Rattle.log_check.specs.Walks.{MayHave, all_moves, with_children, with_node}
+use Rattle.log_check.specs.Walks.{MayHave, Waiting, all_moves, with_children, with_node}
 use Rattle.log_check.specs.declared.nodes.Node.{Node}
 use Rattle.log_check.specs.declared.nodes.Node.TheVariants.{Branch, Citation, Leaf}
-use Rattle.log_check.specs.declared.walks.Waiting.{Waiting}
 use Rattle.log_check.proofs.DecideLemmas.{AreBoards, children_boards}
 use Rattle.log_check.proofs.Pending.{Pending}
 use Rattle.log_check.proofs.WalkLemmas.{branch_byte, citation_byte, good_is_pending, leaf_byte, lemma_waiting}

@@ -1,14 +1,21 @@
 -- Which boards of a tree wait for their nodes, in the order of its bytes.
-use Rattle.std.specs.Prelude.{ℕ, ◌-◌, ◌≤◌, List, [], ◌∷◌, Bool, true, false, Option, Some, None}
+use Rattle.std.specs.Prelude.{◌≡◌, ◌↔◌, ℕ, ◌-◌, ◌≤◌, List, [], ◌∷◌, ◌++◌, Bool, true, false, Option, Some, None}
 use Rattle.puz_board.specs.Boards.{IsGoal, moved}
 use Rattle.puz_board.specs.declared.moves.Move.{Move}
 use Rattle.puz_board.specs.declared.moves.Move.TheVariants.{Up, Down, Left, Right}
 use Rattle.set_sum.specs.Bundles.{BundleView, SaysAtLeast}
 use Rattle.log_file.specs.Logs.{Log}
-use Rattle.log_check.specs.Refutations.{Cites, takes_back}
+use Rattle.log_check.specs.Refutations.{Cites, Refutes, takes_back}
+use Rattle.log_check.specs.Trees.{Tree, spelling}
 use Rattle.log_check.specs.declared.nodes.Node.{Node}
 use Rattle.log_check.specs.declared.nodes.Node.TheVariants.{Branch, Leaf, Citation}
-use Rattle.log_check.specs.declared.walks.Waiting.{Waiting}
+
+-- A board that waits for its node: the move by which it was reached, which may be none, and its bound, below which its tree is
+-- to refute solutions.
+pub record Waiting : Type 0 where
+  pub board : List ℕ
+  pub arriving : Option Move
+  pub bound : ℕ
 
 -- ---- the children of a branch
 
@@ -44,3 +51,20 @@ abbrev pub MayHave : BundleView → Log → ℕ → Waiting → Node → Type 0
 MayHave v log i w Branch = (¬ IsGoal w.board) × (1 ≤ w.bound)
 MayHave v log i w (Leaf by_parity set) = SaysAtLeast v by_parity set w.board w.bound
 MayHave v log i w (Citation lemma) = Cites log.lemmas i lemma w.board w.bound
+
+-- ---- the bytes
+
+module _ (v : BundleView) (log : Log) (i : ℕ) where
+  -- they spell trees that refute these boards, one after the other, and nothing more
+  abbrev pub Pending : List Waiting → List ℕ → Type 0
+  Pending [] bytes = bytes ≡ []
+  Pending (w ∷ ws) bytes =
+      (tree : Tree) × (rest : List ℕ) × (bytes ≡ spelling tree ++ rest) × Refutes v log i tree w.board w.arriving w.bound × Pending ws rest
+
+  -- whatever boards wait behind some first ones, they wait for the bytes behind where all of them wait for the bytes
+  abbrev pub AreWalked : (List Waiting → List Waiting) → List ℕ → List ℕ → Type 0
+  AreWalked first bytes behind = (ws : List Waiting) → Pending (first ws) bytes ↔ Pending ws behind
+
+  -- whatever boards wait behind the first ones, all of them wait for other bytes
+  abbrev pub AreRefused : (List Waiting → List Waiting) → List ℕ → Type 0
+  AreRefused first bytes = (ws : List Waiting) → ¬ Pending (first ws) bytes

@@ -7,75 +7,65 @@ ghost use Rattle.set_sum.specs.Parity.{told_of};
 ghost use Rattle.tab_check.specs.declared.tables.Count.TheVariants.{Finite};
 ghost use Rattle.log_check.specs.GoodLogs.{IsGood};
 ghost use Rattle.log_check.specs.Nodes.{IsNode};
+ghost use Rattle.log_check.specs.Reached.{waiting_of};
 ghost use Rattle.log_check.specs.Refutations.{Cites};
 ghost use Rattle.log_check.specs.Walks.{MayHave};
 
-use crate::nodes::{Node, first_node};
-use crate::walks::{OpenBranches, Waiting};
+use crate::nodes::Node;
+use crate::walks::{Reached, behind_tree};
 use log_file::LogView;
 use puz_board::Board;
-use set_sum::Bundle;
+use set_sum::{Bundle, Sums};
 use tab_check::Count;
 
 /// Whether a lemma of a log is good: its bytes spell one tree, which refutes that the lemma's board has a solution of fewer
 /// moves than the lemma's bound (Korf 1985).
 ///
-/// It goes once over the bytes of the tree, and keeps at most 255 boards whose children are still to come.
+/// It goes once over the bytes of the tree, and is at any time in at most 255 branches, one inside the other.
 pub fn check_lemma(log: &LogView<'_>, bundle: &Bundle<'_>, i: u32) -> bool
     requires there { i < length log.now.lemmas }
     requires side { log.now.side ≡ bundle.now.side }
     ensures { IsTrue result ↔ IsGood bundle.now log.now i }
 {
-    let version = log.version();
-    let sets = bundle.sets();
-    let mut rest = log.tree(i);
-    let mut waiting = Waiting {
-        board: log.board(i),
+    let board = log.board(i);
+    let mut root = Reached {
+        sums: Sums::new(bundle, &board),
         arriving: None,
         bound: log.bound(i),
     };
-    let mut branches = OpenBranches::below(&waiting);
-    loop {
-        let Some((node, behind)) = first_node(rest, version, sets) else {
-            return false;
-        };
-        if !may_have(log, bundle, i, &waiting, node) {
-            return false;
-        }
-        if let Node::Branch = node {
-            branches.open(&waiting);
-        }
-        let Some(next) = branches.next_child() else {
-            return behind.is_empty();
-        };
-        waiting = next;
-        rest = behind;
+    match behind_tree(log, i, &mut root, log.tree(i)) {
+        Some(behind) => behind.is_empty(),
+        None => false,
     }
 }
 
 /// Whether a board may have this node, in lemma `i`.
-fn may_have(log: &LogView<'_>, bundle: &Bundle<'_>, i: u32, waiting: &Waiting, node: Node) -> bool
+pub(crate) fn may_have(log: &LogView<'_>, i: u32, reached: &mut Reached<'_>, node: Node) -> bool
     requires there { i < length log.now.lemmas }
-    requires side { log.now.side ≡ bundle.now.side }
-    requires board { IsBoardOf log.now.side waiting.now.board }
-    requires node { IsNode log.now.version (length bundle.now.sets) node }
-    ensures { IsTrue result ↔ MayHave bundle.now log.now i waiting.now node }
+    requires side { log.now.side ≡ reached.old.sums.bundle.side }
+    requires board { IsBoardOf log.now.side reached.old.sums.board }
+    requires node { IsNode log.now.version (length reached.old.sums.bundle.sets) node }
+    ensures may { IsTrue result ↔ MayHave reached.old.sums.bundle log.now i (waiting_of reached.old) node }
+    ensures same { reached.new ≡ reached.old }
 {
     match node {
-        Node::Branch => waiting.bound >= 1 && !waiting.board.is_goal(),
-        Node::Leaf { by_parity, set } => says_at_least(bundle, by_parity, set, waiting),
-        Node::Citation(j) => cites(log, i, j, waiting),
+        Node::Branch => reached.bound >= 1 && !reached.sums.board().is_goal(),
+        Node::Leaf { by_parity, set } => says_at_least(by_parity, set, reached),
+        Node::Citation(j) => cites(log, i, j, reached),
     }
 }
 
 /// Whether what a set says of a board, taken by parity or not, is never, or at least the board's bound.
-fn says_at_least(bundle: &Bundle<'_>, by_parity: bool, set: u8, waiting: &Waiting) -> bool
-    requires set { set < length bundle.now.sets }
-    requires board { IsBoardOf bundle.now.side waiting.now.board }
-    ensures { IsTrue result ↔ SaysAtLeast bundle.now by_parity set waiting.now.board waiting.now.bound }
+fn says_at_least(by_parity: bool, set: u8, reached: &mut Reached<'_>) -> bool
+    requires set { set < length reached.old.sums.bundle.sets }
+    ensures least { IsTrue result
+        ↔ SaysAtLeast reached.old.sums.bundle by_parity set reached.old.sums.board reached.old.bound }
+    ensures same { reached.new ≡ reached.old }
 {
-    match bundle.sum(set, &waiting.board) {
-        Count::Finite(sum) => u32::from(waiting.bound) <= told_of(by_parity, &waiting.board, sum),
+    match reached.sums.sum(set) {
+        Count::Finite(sum) => {
+            u32::from(reached.bound) <= told_of(by_parity, reached.sums.board(), sum)
+        }
         Count::Never => true,
     }
 }
@@ -94,10 +84,10 @@ fn told_of(by_parity: bool, board: &Board, sum: u16) -> u32
 }
 
 /// Whether lemma `i` may cite lemma `j` for a board.
-fn cites(log: &LogView<'_>, i: u32, j: u32, waiting: &Waiting) -> bool
+fn cites(log: &LogView<'_>, i: u32, j: u32, reached: &Reached<'_>) -> bool
     requires there { i < length log.now.lemmas }
-    requires board { IsBoardOf log.now.side waiting.now.board }
-    ensures { IsTrue result ↔ Cites log.now.lemmas i j waiting.now.board waiting.now.bound }
+    requires board { IsBoardOf log.now.side reached.now.sums.board }
+    ensures { IsTrue result ↔ Cites log.now.lemmas i j reached.now.sums.board reached.now.bound }
 {
-    j < i && log.board(j) == waiting.board && waiting.bound <= log.bound(j)
+    j < i && log.board(j) == *reached.sums.board() && reached.bound <= log.bound(j)
 }

@@ -10,6 +10,8 @@ mod lemmas;
 #[cfg(test)]
 mod logs;
 #[cfg(test)]
+mod many_lemmas;
+#[cfg(test)]
 mod parity;
 #[cfg(test)]
 mod plain_logs;

@@ -95,9 +95,20 @@ pub(crate) fn certified<R: Threads + Wait + AllocGlobal + Abort>(
 ) -> Result<u8, LogFault> {
     let board = board_of(rt, numbers);
     let found = found(rt, bundle, numbers, PLENTY).expect(rt, "a solution");
-    let bound = check_log(rt, rt.alloc(), bundle, &found.log, &board, 1, &OpenGate)?;
+    let bound = bound_of(rt, bundle, numbers, &found.log)?;
     assert!(rt; replay(&board, &found.moves) == Ok(u16::from(bound)));
     Ok(bound)
+}
+
+/// The bound that a log proves for a board.
+pub(crate) fn bound_of<R: Threads + Wait + AllocGlobal + Abort>(
+    rt: &R,
+    bundle: &Bundle<'_>,
+    numbers: &[u8],
+    log: &[u8],
+) -> Result<u8, LogFault> {
+    let board = board_of(rt, numbers);
+    check_log(rt, rt.alloc(), bundle, log, &board, 1, &OpenGate)
 }
 
 /// Checks that a search expands so many boards, and no fewer.

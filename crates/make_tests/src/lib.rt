@@ -8,11 +8,15 @@ mod both_sets;
 #[cfg(test)]
 mod budgets;
 #[cfg(test)]
+mod corners;
+#[cfg(test)]
 mod finding;
 #[cfg(test)]
 mod folded;
 #[cfg(test)]
 mod layers;
+#[cfg(test)]
+mod many_lemmas;
 #[cfg(test)]
 mod parity;
 #[cfg(test)]

@@ -4,14 +4,14 @@ ghost use Rattle.std.specs.Prelude.{◌≡◌, None, false};
 
 use crate::shelf::{KeepFault, Shelf};
 use crate::streams::{ReadFault, WriteFault, put_bytes, read_said};
-use std::alloc::Global;
+use std::alloc::{AllocError, Global};
 use std::fs::{File, OpenFile, OpenOptions};
 use std::io::ErrorKind;
 use std::rt::Files;
 use std::{fs, io};
 
-/// What the temporary file of a name has behind that name.
-const TEMPORARY: &str = ".unkept";
+/// How many names are tried for the temporary file of a name, until nothing stands under one.
+const TEMPORARY_NAMES: u16 = 1_000;
 
 /// The files of the system, by their paths. It tells no bytes: what is said of a file speaks of the bytes that were read.
 #[derive(Drop)]
@@ -51,14 +51,20 @@ impl<R: Files> Shelf for DiskShelf<'_, R> {
         result
     }
 
-    fn keep(&mut self, alloc: Global, name: &str, bytes: &[u8]) -> Result<(), KeepFault> {
-        let mut temporary = String::from_str(alloc, name)?;
-        temporary.push_str(TEMPORARY)?;
-        if replace(self.files, name, temporary.as_str(), bytes).is_err() {
+    fn try_keep(&mut self, alloc: Global, name: &str) -> Result<(), KeepFault> {
+        let tried = make_and_remove(alloc, self.files, name);
+        if tried == Err(KeepFault::F3) {
             self.has_failed = true;
-            return Err(KeepFault::F3);
         }
-        Ok(())
+        tried
+    }
+
+    fn keep(&mut self, alloc: Global, name: &str, bytes: &[u8]) -> Result<(), KeepFault> {
+        let kept = replace(alloc, self.files, name, bytes);
+        if kept == Err(KeepFault::F3) {
+            self.has_failed = true;
+        }
+        kept
     }
 
     fn failed(&self) -> bool {
@@ -75,23 +81,48 @@ fn said_size<F: OpenFile>(file: &F) -> u64 {
     }
 }
 
+/// Makes the temporary file of a name, and removes it.
+fn make_and_remove<R: Files>(alloc: Global, files: &R, name: &str) -> Result<(), KeepFault> {
+    let (_file, temporary) = make_temporary(alloc, files, name)?;
+    match fs::remove_file(files, temporary.as_str()) {
+        Ok(()) => Ok(()),
+        Err(_) => Err(KeepFault::F3),
+    }
+}
+
 /// Puts bytes in the place of a plain file, or where nothing stands. At each moment the name has what it had or all of
 /// these bytes, since a file gets it only when it is whole.
-fn replace<R: Files>(
+fn replace<R: Files>(alloc: Global, files: &R, name: &str, bytes: &[u8]) -> Result<(), KeepFault> {
+    let (file, temporary) = make_temporary(alloc, files, name)?;
+    match fill_and_rename(files, file, bytes, temporary.as_str(), name) {
+        Ok(()) => Ok(()),
+        Err(_) => {
+            let _ = fs::remove_file(files, temporary.as_str());
+            Err(KeepFault::F3)
+        }
+    }
+}
+
+/// Makes a temporary file for what is to stand under a name, beside it, and gives its own name. Nothing stood there, so the
+/// file is this run's: what others have made stays, be it a user's, another run's, or what was left over by one that was
+/// stopped.
+fn make_temporary<R: Files>(
+    alloc: Global,
     files: &R,
     name: &str,
-    temporary: &str,
-    bytes: &[u8],
-) -> Result<(), WriteFault> {
-    if is_no_file(files, name) {
-        return Err(WriteFault::F3);
+) -> Result<(R::File, String), KeepFault> {
+    if name.is_empty() || is_no_file(files, name) {
+        return Err(KeepFault::F3);
     }
-    let file = create(files, temporary)?;
-    let result = fill_and_rename(files, file, bytes, temporary, name);
-    if result.is_err() {
-        let _ = fs::remove_file(files, temporary);
+    for number in 0..TEMPORARY_NAMES {
+        let temporary = temporary_name(alloc, name, number)?;
+        match create_new(files, temporary.as_str()) {
+            Ok(file) => return Ok((file, temporary)),
+            Err(error) if error.kind() == ErrorKind::AlreadyExists => {}
+            Err(_) => return Err(KeepFault::F3),
+        }
     }
-    result
+    Err(KeepFault::F3)
 }
 
 /// Whether something else stands under a name than a plain file, as a folder, a pipe or a device.
@@ -99,14 +130,12 @@ fn is_no_file<R: Files>(files: &R, name: &str) -> bool {
     matches!(fs::metadata(files, name), Ok(data) if !data.is_file())
 }
 
-/// Makes a file. What stands under its name was left over by a run that was stopped.
-fn create<R: Files>(files: &R, name: &str) -> io::Result<R::File> {
-    match create_new(files, name) {
-        Err(error) if error.kind() == ErrorKind::AlreadyExists => {
-            fs::remove_file(files, name)?;
-            create_new(files, name)
-        }
-        created => created,
+/// The temporary file's name of this number: `NAME.unkept`, and then `NAME.1.unkept`, `NAME.2.unkept` and so on.
+fn temporary_name(alloc: Global, name: &str, number: u16) -> Result<String, AllocError> {
+    if number == 0 {
+        format!(in alloc; "{name}.unkept")
+    } else {
+        format!(in alloc; "{name}.{number}.unkept")
     }
 }
 

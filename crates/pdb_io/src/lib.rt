@@ -4,5 +4,6 @@
 pub mod disk;
 pub mod memory;
 pub mod shelf;
+pub mod sources;
 pub mod streams;
 pub mod watched;

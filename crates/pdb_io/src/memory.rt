@@ -1,6 +1,6 @@
 //! A shelf over memory.
 
-ghost use Rattle.std.specs.Prelude.{◌≡◌, ◌<◌, ◌≤◌, ℕ, List, Some, None, true, false, length, IfOk, OnOk, OnErr, IsErrOf, IsOkUnless, IsSomeAnd, option_map};
+ghost use Rattle.std.specs.Prelude.{◌≡◌, ◌<◌, ◌≤◌, ℕ, List, Some, None, true, false, length, IfOk, OnOk, OnErr, IsErrOf, IsOk, IsOkUnless, IsSomeAnd, option_map};
 ghost use Rattle.pdb_io.specs.Memory.{files_in};
 ghost use Rattle.pdb_io.specs.Shelf.{files_of, with_file};
 
@@ -77,6 +77,14 @@ impl Shelf for MemShelf {
             return Err(ReadFault::F2);
         }
         Ok(Vec::from_slice(alloc, bytes.as_slice())?)
+    }
+
+    fn try_keep(&mut self, _alloc: Global, _name: &str) -> Result<(), KeepFault>
+        ensures room { IsOk result }
+        ensures same { Some (files_in self.new) ≡ Some (files_in self.old) }
+        ensures calm { self.new.has_failed ≡ self.old.has_failed }
+    {
+        Ok(())
     }
 
     fn keep(&mut self, alloc: Global, name: &str, bytes: &[u8]) -> Result<(), KeepFault>

@@ -42,6 +42,13 @@ pub trait Shelf {
         ensures failed { IsErrOf result ReadFault.F1 → has_failed self.new ≡ true }
         ensures calm { (IsErrOf result ReadFault.F1 → ⊥) → has_failed self.new ≡ has_failed self.old };
 
+    /// Tries whether bytes can be kept under a name, and leaves all files as they are. That they can promises nothing of a
+    /// later `keep`.
+    fn try_keep(&mut self, alloc: Global, name: &str) -> Result<(), KeepFault>
+        ensures same { held self.new ≡ held self.old }
+        ensures failed { IsErrOf result KeepFault.F3 → has_failed self.new ≡ true }
+        ensures calm { (IsErrOf result KeepFault.F3 → ⊥) → has_failed self.new ≡ has_failed self.old };
+
     /// Puts these bytes under a name, in the place of what stood there. What the name holds after a fault is open.
     fn keep(&mut self, alloc: Global, name: &str, bytes: &[u8]) -> Result<(), KeepFault>
         ensures kept { OnOk result (held self.new ≡ told_with (held self.old) name.now bytes.now) }

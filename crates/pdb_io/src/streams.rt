@@ -4,10 +4,11 @@ ghost use Rattle.std.specs.Prelude.{◌≡◌, ◌≤◌, ◌<◌, ◌+◌, true
 ghost use Rattle.std.specs.Io.KnownBytes.{Appends, Consumes, IsAtEnd};
 ghost use Rattle.pdb_io.specs.Streams.{AppendsFront};
 
+use crate::sources::Source;
 use crate::watched::Watched;
 use std::alloc::{AllocError, Global};
 use std::io;
-use std::io::{Read, Write};
+use std::io::Write;
 
 /// Why an input was not read.
 #[derive(Clone, Copy, Debug, PartialEq, Eq)]
@@ -46,21 +47,22 @@ impl From<io::Error> for WriteFault {
 /// How many bytes of room are made at a time.
 const PIECE: usize = 65_536;
 
-/// Reads to the end of an input, of at most so many bytes, by at most so many reads and one more.
-/// Nothing past the limit is kept. A read's error ends it, whatever its kind.
-pub fn read_all<R: Read>(alloc: Global, reader: &mut R, limit: u64) -> Result<Vec<u8>, ReadFault>
+/// Reads to the end of an input, of at most so many bytes, by at most so many reads and one more, as a `Watched` reader
+/// tells. Nothing past the limit is kept. A read's error ends it, whatever its kind.
+pub fn read_all<R: Source>(alloc: Global, reader: &mut R, limit: u64) -> Result<Vec<u8>, ReadFault>
     ensures whole { IfOk result (λ bytes. IfSome (R.remaining reader.old) (λ told. told ≡ bytes.items)) }
     ensures end { OnOk result (IsAtEnd (R.remaining reader.new)) }
     ensures consumed { IfOk result (λ bytes. Consumes (R.remaining reader.old) (R.remaining reader.new) bytes.items) }
     ensures fits { IfOk result (λ bytes. length bytes.items ≤ limit) }
     ensures over { IsErrOf result ReadFault.F2 → IfSome (R.remaining reader.old) (λ told. limit < length told) }
+    ensures reads { R.reads reader.new ≤ R.reads reader.old + limit + 1 }
 {
     read_sized(alloc, reader, limit, 0)
 }
 
 /// The same, for an input that is said to have so many bytes: memory for these is taken at once, and no more where
 /// there are no more. Where nothing is said of it, the size is 0.
-pub fn read_sized<R: Read>(
+pub fn read_sized<R: Source>(
     alloc: Global,
     reader: &mut R,
     limit: u64,
@@ -71,13 +73,14 @@ pub fn read_sized<R: Read>(
     ensures consumed { IfOk result (λ bytes. Consumes (R.remaining reader.old) (R.remaining reader.new) bytes.items) }
     ensures fits { IfOk result (λ bytes. length bytes.items ≤ limit) }
     ensures over { IsErrOf result ReadFault.F2 → IfSome (R.remaining reader.old) (λ told. limit < length told) }
+    ensures reads { R.reads reader.new ≤ R.reads reader.old + limit + 1 }
 {
     read_watched(alloc, &mut Watched::new(reader), limit, size)
 }
 
 /// The same, for an input of which the system says that it has so many bytes: where these are over the limit, nothing
 /// is read.
-pub fn read_said<R: Read>(
+pub fn read_said<R: Source>(
     alloc: Global,
     reader: &mut R,
     limit: u64,
@@ -89,6 +92,7 @@ pub fn read_said<R: Read>(
     ensures fits { IfOk result (λ bytes. length bytes.items ≤ limit) }
     ensures over { IsErrOf result ReadFault.F2 → size ≤ limit → IfSome (R.remaining reader.old) (λ told. limit < length told) }
     ensures unread { limit < size → IsErrOf result ReadFault.F2 × (reader.new ≡ reader.old) }
+    ensures reads { R.reads reader.new ≤ R.reads reader.old + limit + 1 }
 {
     if limit < size {
         return Err(ReadFault::F2);
@@ -97,7 +101,7 @@ pub fn read_said<R: Read>(
 }
 
 /// The same, by a reader that notes its reads: they are at most one more than the limit, and `F1` says that one failed.
-pub fn read_watched<R: Read>(
+pub fn read_watched<R: Source>(
     alloc: Global,
     reader: &mut Watched<'_, R>,
     limit: u64,
@@ -110,6 +114,7 @@ pub fn read_watched<R: Read>(
     ensures fits { IfOk result (λ bytes. length bytes.items ≤ limit) }
     ensures over { IsErrOf result ReadFault.F2 → IfSome (R.remaining reader.old.stream.now) (λ told. limit < length told) }
     ensures reads { reader.new.calls ≤ reader.old.calls + limit + 1 }
+    ensures reads_inside { R.reads reader.new.stream.now ≤ R.reads reader.old.stream.now + limit + 1 }
     ensures failed { IsErrOf result ReadFault.F1 → reader.new.has_failed ≡ true }
     ensures calm { (IsErrOf result ReadFault.F1 → ⊥) → reader.new.has_failed ≡ reader.old.has_failed }
 {
@@ -156,7 +161,7 @@ fn make_room(bytes: &mut Vec<u8>, filled: usize) -> Result<(), AllocError>
 }
 
 /// One read into the room behind what is filled.
-fn read_behind<R: Read>(
+fn read_behind<R: Source>(
     reader: &mut Watched<'_, R>,
     bytes: &mut [u8],
     filled: usize,
@@ -168,10 +173,11 @@ fn read_behind<R: Read>(
     ensures bytes { IfOk result (λ count. Consumes (R.remaining reader.old.stream.now) (R.remaining reader.new.stream.now) (take count (drop filled bytes.new))) }
     ensures end { IfOk result (λ count. count ≡ 0 → IsAtEnd (R.remaining reader.new.stream.now)) }
     ensures noted { reader.new.calls ≤ reader.old.calls + 1 }
+    ensures noted_inside { R.reads reader.new.stream.now ≤ R.reads reader.old.stream.now + 1 }
     ensures calm { OnOk result (reader.new.has_failed ≡ reader.old.has_failed) }
     ensures failed { OnErr result (reader.new.has_failed ≡ true) }
 {
-    reader.read(&mut bytes[filled..])
+    reader.read_once(&mut bytes[filled..])
 }
 
 /// Writes a text.

@@ -1,11 +1,12 @@
 //! A stream whose calls are noted.
 
-ghost use Rattle.std.specs.Prelude.{◌≡◌, ◌<◌, ◌+◌, ◌-◌, ◌^◌, min, length, true, false, Ok, OnOk, OnErr, IfOk};
+ghost use Rattle.std.specs.Prelude.{◌≡◌, ◌<◌, ◌≤◌, ◌+◌, ◌-◌, ◌^◌, min, length, true, false, Ok, OnOk, OnErr, IfOk};
 ghost use Rattle.std.specs.Io.{ReadsAtMost, WritesAtMost};
 ghost use Rattle.std.specs.Io.KnownBytes.{Keeps, ReadConsumes, WriteAppends};
 
+use crate::sources::Source;
 use std::io;
-use std::io::{Read, Write};
+use std::io::Write;
 
 /// A reader or a writer that notes how often it was read or written, and whether it failed: by an error, or by a
 /// write that took nothing of some bytes.
@@ -46,19 +47,23 @@ impl<'a, S> Watched<'a, S> {
     }
 }
 
-impl<R: Read> Read for Watched<'_, R> {
+impl<R: Source> Source for Watched<'_, R> {
     ghost remaining = { λ watched. R.remaining watched.stream.now };
 
-    fn read(&mut self, buf: &mut [u8]) -> io::Result<usize>
+    ghost reads = { λ watched. watched.calls };
+
+    fn read_once(&mut self, buf: &mut [u8]) -> io::Result<usize>
         ensures bound { ReadsAtMost result buf.new }
         ensures bytes { ReadConsumes (R.remaining self.old.stream.now) (R.remaining self.new.stream.now) result buf.new }
         ensures same_stream { self.new.stream.ghost_name ≡ self.old.stream.ghost_name }
         ensures counted { self.new.calls ≡ min (self.old.calls + 1) (2 ^ 64 - 1) }
+        ensures at_most { self.new.calls ≤ self.old.calls + 1 }
+        ensures inside { R.reads self.new.stream.now ≤ R.reads self.old.stream.now + 1 }
         ensures calm { OnOk result (self.new.has_failed ≡ self.old.has_failed) }
         ensures failed { OnErr result (self.new.has_failed ≡ true) }
     {
         self.calls = self.calls.saturating_add(1);
-        let result = self.stream.read(buf);
+        let result = self.stream.read_once(buf);
         if result.is_err() {
             self.has_failed = true;
         }

@@ -1,3 +1,5 @@
 pub mod KeptLemmas
+pub mod LetterLemmas
 mod LineLemmas
 mod MakerLemmas
+mod TakenLemmas

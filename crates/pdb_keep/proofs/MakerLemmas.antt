@@ -1,7 +1,6 @@
 -- What comes of makers.
 use Rattle.std.proofs.Common.{◌≡◌, ◌≢◌, ◌∙◌, ℕ, suc, ◌+◌, ◌-◌, ◌<◌, ◌≤◌, Bool, true, false, List, [], ◌∷◌, ◌++◌, Option, Some, None, Result, Ok, Err, IfErr, IfOk, length, map, drop, get_or, take, not, ◌||◌, ap, append_assoc, arith, inl, inr, length-append, refl, subst, sym}
-use Rattle.std.specs.Prelude.{◌==◌, MatchResult, Vec, option_map, slice_get, slice_range}
-use Rattle.std.specs.declared.alloc.AllocError.{AllocError}
+use Rattle.std.specs.Prelude.{◌==◌, MatchResult, Vec, slice_get, slice_range}
 use Rattle.std.specs.Char.{is_ascii_digit}
 use Rattle.std.specs.List.{cons_option}
 use Rattle.std.proofs.lemmas.Bool.{eqb-true}
@@ -19,15 +18,12 @@ use Rattle.puz_board.proofs.SpellingLemmas.{stray_byte-numerals}
 use Rattle.puz_board.proofs.FirstLemmas.{fails_each}
 use Rattle.set_sum.specs.Bundles.{BundleView}
 use Rattle.pdb_io.specs.Shelf.{Bytes}
-use Rattle.pdb_run.specs.Answers.{IsAnswerBy}
-use Rattle.pdb_run.specs.Writing.{digests_of}
-use Rattle.pdb_run.specs.declared.answers.Answer.{Answer}
-use Rattle.pdb_verdict.specs.Bound.{TakesMemoryForBound}
+use Rattle.pdb_run.specs.Answers.{all_bytes}
 use Rattle.pdb_verdict.specs.Bundles.{IsBundleOfFiles}
 use Rattle.pdb_verdict.specs.Inputs.{table_file}
 use Rattle.pdb_verdict.specs.Optimal.{IsResultOfPuzzle, of_halves, solved_parts}
 use Rattle.pdb_verdict.specs.Replay.{IsSolvedPuzzle}
-use Rattle.pdb_verdict.specs.Steps.{IsOptimumOver}
+use Rattle.pdb_verdict.specs.Steps.{IsCauseForBundle, IsOptimumOver}
 use Rattle.pdb_verdict.specs.Table.{IsTableResult}
 use Rattle.pdb_verdict.specs.Verdicts.{IsAnswerTo}
 use Rattle.pdb_verdict.specs.declared.verdicts.Fault.{Fault}
@@ -39,8 +35,8 @@ use Rattle.pdb_verdict.proofs.BoundLemmas.{found_over}
 use Rattle.pdb_verdict.proofs.BundleLemmas.{bundle_taken}
 use Rattle.pdb_verdict.proofs.OptimumLemmas.{IsOptimumResult-yes}
 use Rattle.pdb_keep.specs.MakeTable.{IsOfAnother, SpeaksOf}
-use Rattle.pdb_keep.specs.Solve.{AreForBoard, IsMade, IsSolveReply, SolveTakesMemory, TellsSearch, letter_of, letters_of, puzzle_of}
-use Rattle.pdb_keep.specs.Steps.{HasItsMoves, IsCauseForSearch, IsFoldedSearch, IsGivenUp, IsMadeOver, IsStartOfSearch}
+use Rattle.pdb_keep.specs.Solve.{AreForBoard, IsMade, letter_of, letters_of, puzzle_of}
+use Rattle.pdb_keep.specs.Steps.{HasItsMoves, IsCauseForSearch, IsGivenUp, IsMadeOver}
 use Rattle.pdb_keep.specs.declared.solutions.TheConstants.{MOST_LETTERS}
 
 -- ---- tables
@@ -75,14 +71,14 @@ module _ (fold : Bool) (text sets : Bytes) (files : List Bytes) (bundle : Bundle
     searchable = record { bundle = bundle; is_bundle = is_bundle; one_side = one_side }
 
     -- what is made over the bundle of files is made of them
-    pub made_over : (moves log : Bytes) (answer : Result Verdict Fault) → IsMadeOver bundle text moves log answer → IsMade fold text sets files moves log answer
+    made_over : (moves log : Bytes) (answer : Result Verdict Fault) → IsMadeOver bundle text moves log answer → IsMade fold text sets files moves log answer
     made_over moves log answer is = record {
       could = record { board = board; spelt = spelt; are_for = searchable };
       is_result = of_puzzle log (solved_parts (puzzle_parts (puzzle_of text moves))) answer is.is_result is.no_want;
     }
 
     -- so is what is given up
-    pub given_up : (cause : Fault) → IsGivenUp cause → IsCauseForSearch fold text sets files cause
+    given_up : (cause : Fault) → IsGivenUp cause → IsCauseForSearch fold text sets files cause
     given_up (fault.Make K1) is = inl (record { board = board; spelt = spelt; unmade = searchable })
     given_up (fault.Make K2) is = inl (record { board = board; spelt = spelt; unmade = searchable })
     given_up (fault.Make K3) is = absurd is
@@ -97,20 +93,27 @@ module _ (fold : Bool) (text sets : Bytes) (files : List Bytes) (bundle : Bundle
     given_up (fault.O1 solution bound) is = absurd is
     given_up fault.K4 is = absurd is
 
--- what follows from each error follows from an error
-pub if_err : {A : Type 0} (r : Result A Fault) (P Q : Fault → Type 0) → ((cause : Fault) → P cause → Q cause) → IfErr r P → IfErr r Q
-if_err (Ok x) P Q all is = tt
-if_err (Err cause) P Q all is = all cause is
+  -- and so is what comes of a search over the bundle
+  pub search_over : {A : Type 0} (moves log : A → Bytes) (result : A → Result Verdict Fault) (board : List ℕ) → Spells text board → side_of board ≡ bundle.side → (r : Result A Fault)
+      → IfOk r (λ made. IsMadeOver bundle text (moves made) (log made) (result made)) → IfErr r IsGivenUp
+      → MatchResult r (λ made. IsMade fold text sets files (moves made) (log made) (result made)) (IsCauseForSearch fold text sets files)
+  search_over moves log result board spelt one_side (Ok made) ok err = made_over board spelt one_side (moves made) (log made) (result made) ok
+  search_over moves log result board spelt one_side (Err cause) ok err = given_up board spelt one_side cause err
 
--- what follows from each value follows from a value
-pub if_ok : {A : Type 0} (r : Result A Fault) (P Q : A → Type 0) → ((x : A) → P x → Q x) → IfOk r P → IfOk r Q
-if_ok (Ok x) P Q all is = all x is
-if_ok (Err cause) P Q all is = tt
-
--- what follows in each case follows in both
-pub both_cases : {A : Type 0} (r : Result A Fault) (P : A → Type 0) (Q : Fault → Type 0) → IfOk r P → IfErr r Q → MatchResult r P Q
-both_cases (Ok x) P Q is also = is
-both_cases (Err cause) P Q is also = also
+-- why there is no bundle is why no log is made
+pub no_bundle : (fold : Bool) (text sets : Bytes) (files : List Bytes) (board : List ℕ) → Spells text board → (cause : Fault) → IsCauseForBundle fold cause files sets
+    → IsCauseForSearch fold text sets files cause
+no_bundle fold text sets files board spelt (fault.TableOf number refused) is = inl (record { board = board; spelt = spelt; unmade = is })
+no_bundle fold text sets files board spelt (fault.Sets refused) is = inl (record { board = board; spelt = spelt; unmade = is })
+no_bundle fold text sets files board spelt fault.Memory is = inr (record { board = board; spelt = spelt; tables_take = is }, refl)
+no_bundle fold text sets files board spelt fault.P1 is = absurd is
+no_bundle fold text sets files board spelt (fault.Board refused) is = absurd is
+no_bundle fold text sets files board spelt (fault.Moves refused) is = absurd is
+no_bundle fold text sets files board spelt (fault.Table refused) is = absurd is
+no_bundle fold text sets files board spelt (fault.Log refused) is = absurd is
+no_bundle fold text sets files board spelt (fault.O1 solution bound) is = absurd is
+no_bundle fold text sets files board spelt (fault.Make unmade) is = absurd is
+no_bundle fold text sets files board spelt fault.K4 is = absurd is
 
 -- ---- the puzzle text of a search
 
@@ -164,12 +167,19 @@ optimum_length fold text sets moves log tables n is =
     let same : yes.0 ≡ n = let e : verdict.Optimal n ≡ verdict.Optimal yes.0 = yes.1 in cc in
     letters-length text moves is.could.board yes.0 yes.2.solved is.could.spelt ∙ same
 
-pub has_its_moves : (fold : Bool) (text sets moves log : Bytes) (tables : List Bytes) (answer : Result Verdict Fault) → IsMade fold text sets tables moves log answer → HasItsMoves moves answer
+has_its_moves : (fold : Bool) (text sets moves log : Bytes) (tables : List Bytes) (answer : Result Verdict Fault) → IsMade fold text sets tables moves log answer → HasItsMoves moves answer
 has_its_moves fold text sets moves log tables (Ok (verdict.Optimal n)) is = optimum_length fold text sets moves log tables n is
 has_its_moves fold text sets moves log tables (Ok (verdict.Solution n)) is = tt
 has_its_moves fold text sets moves log tables (Ok (verdict.Exact side mask census)) is = tt
 has_its_moves fold text sets moves log tables (Ok (verdict.Bound n)) is = tt
 has_its_moves fold text sets moves log tables (Err refused) is = tt
+
+-- an optimum that a search finds is the number of its moves
+pub made_moves : {A : Type 0} (moves log : A → Bytes) (result : A → Result Verdict Fault) (fold : Bool) (text sets : Bytes) (tables : List Bytes) (r : Result A Fault)
+    → MatchResult r (λ made. IsMade fold text sets tables (moves made) (log made) (result made)) (IsCauseForSearch fold text sets tables)
+    → IfOk r (λ made. HasItsMoves (moves made) (result made))
+made_moves moves log result fold text sets tables (Ok made) is = has_its_moves fold text sets (moves made) (log made) tables (result made) is
+made_moves moves log result fold text sets tables (Err cause) is = tt
 
 -- ---- inputs
 
@@ -185,34 +195,20 @@ inputs_order f (x ∷ y ∷ rest) a b some is_a is_b =
     let behind = sym all in
     λ i. f (first i) ∷ f (second i) ∷ map f (behind i)
 
--- the first of some inputs, of which two are left
-pub first_kept : {A : Type 0} (xs : List (Vec ℕ A)) (v : Vec ℕ A) → slice_get (take 2 xs) 0 ≡ Some v → slice_get (map (λ w. w.items) xs) 0 ≡ Some v.items
-first_kept [] v is = let e : _ = is in cc
-first_kept (x ∷ rest) v is = ap (option_map (λ w. w.items)) is
+-- the first two, where each was taken out in turn
+pub taken_order : {Z : Type 0} (xs ys rest : List (Vec ℕ Z)) (a b : Vec ℕ Z) (text sets : Bytes) → xs ≡ a ∷ ys → ys ≡ b ∷ rest → text ≡ a.items → sets ≡ b.items
+    → all_bytes xs ≡ text ∷ sets ∷ all_bytes rest
+taken_order xs ys rest a b text sets xs_are ys_are text_is sets_is =
+    let first = sym text_is in
+    let second = sym sets_is in
+    ap all_bytes (xs_are ∙ ap (λ r. a ∷ r) ys_are) ∙ (λ i. first i ∷ second i ∷ all_bytes rest)
 
--- what comes of a search whose tables were given up
-pub folded_search : (fold : Bool) → fold ≡ true → (digests text : Bytes) (start : Result (List ℕ × BundleView) Fault) (told : Result Answer AllocError)
-    → ((sets : Bytes) (tables : List Bytes) → digests ≡ digests_of tables → IsStartOfSearch text sets tables start → IsAnswerBy (TellsSearch true text sets tables) (TakesMemoryForBound text tables) told)
-    → (files : List Bytes) → slice_get files 0 ≡ Some text → IsFoldedSearch files digests start → IsAnswerBy (IsSolveReply fold files) (SolveTakesMemory files) told
-folded_search fold folds digests text start told tells [] first is = absurd is
-folded_search fold folds digests text start told tells (t ∷ []) first is = absurd is
-folded_search fold folds digests text start told tells (t ∷ sets ∷ tables) first is =
-    let same : t ≡ text = (let e : Some t ≡ Some text = first in cc) in
-    subst (λ (b : Bool). IsAnswerBy (IsSolveReply b (t ∷ sets ∷ tables)) (TakesMemoryForBound t tables) told) (sym folds)
-    (subst (λ (t : Bytes). IsAnswerBy (IsSolveReply true (t ∷ sets ∷ tables)) (TakesMemoryForBound t tables) told) (sym same)
-    (tells sets tables is.0 (subst (λ (t : Bytes). IsStartOfSearch t sets tables start) same is.1)))
-
--- an optimum that it finds is the number of its moves
-pub folded_moves : {A : Type 0} (moves log : A → Bytes) (answer : A → Result Verdict Fault) (outcome : Result A Fault) (digests text : Bytes) (start : Result (List ℕ × BundleView) Fault)
-    → ((sets : Bytes) (tables : List Bytes) → IsStartOfSearch text sets tables start
-    → MatchResult outcome (λ made. IsMade true text sets tables (moves made) (log made) (answer made)) (IsCauseForSearch true text sets tables))
-    → (files : List Bytes) → slice_get files 0 ≡ Some text → IsFoldedSearch files digests start → IfOk outcome (λ made. HasItsMoves (moves made) (answer made))
-folded_moves moves log answer outcome digests text start comes [] first is = absurd is
-folded_moves moves log answer outcome digests text start comes (t ∷ []) first is = absurd is
-folded_moves moves log answer (Err cause) digests text start comes (t ∷ sets ∷ tables) first is = tt
-folded_moves moves log answer (Ok made) digests text start comes (t ∷ sets ∷ tables) first is =
-    let same : t ≡ text = (let e : Some t ≡ Some text = first in cc) in
-    has_its_moves true text sets (moves made) (log made) tables (answer made) (comes sets tables (subst (λ (t : Bytes). IsStartOfSearch t sets tables start) same is.1))
+-- the first of them spells the board
+pub first_spelt : (inputs : List Bytes) (text sets : Bytes) (tables : List Bytes) (board : List ℕ) → inputs ≡ text ∷ sets ∷ tables
+    → (t : Bytes) × (slice_get inputs 0 ≡ Some t) × Spells t board → Spells text board
+first_spelt inputs text sets tables board order start =
+    let same : start.0 ≡ text = (let e : Some start.0 ≡ Some text = sym start.1 ∙ ap (λ files. slice_get files 0) order in cc) in
+    subst (λ t. Spells t board) same start.2
 
 -- ---- letters, byte by byte
 

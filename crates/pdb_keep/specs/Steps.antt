@@ -1,12 +1,9 @@
 -- What the steps of a maker's command answer: a result, or want of memory in its place.
-use Rattle.std.specs.Prelude.{◌≡◌, ◌≢◌, ◌⊎◌, ⊤, ℕ, Bool, true, ◌∷◌, List, Result, Ok, Err, length}
-use Rattle.puz_board.specs.BoardTexts.{Spells}
+use Rattle.std.specs.Prelude.{◌≡◌, ◌≢◌, ◌⊎◌, ⊤, ℕ, Bool, List, Result, Ok, Err, length}
 use Rattle.puz_board.specs.PuzzleTexts.{puzzle_parts}
 use Rattle.set_sum.specs.Bundles.{BundleView}
 use Rattle.pdb_io.specs.Shelf.{Bytes}
-use Rattle.pdb_run.specs.Writing.{digests_of}
 use Rattle.pdb_verdict.specs.Bound.{TakesMemoryForBound}
-use Rattle.pdb_verdict.specs.Bundles.{IsBundleOfFiles}
 use Rattle.pdb_verdict.specs.Optimal.{solved_parts}
 use Rattle.pdb_verdict.specs.Steps.{IsOptimumOver}
 use Rattle.pdb_verdict.specs.declared.verdicts.Fault.{Fault}
@@ -36,16 +33,6 @@ IsGivenUp cause = ⊥
 -- why a search makes no log, or want of memory, which comes where the check of the tables takes some
 abbrev pub IsCauseForSearch : Bool → Bytes → Bytes → List Bytes → Fault → Type 0
 IsCauseForSearch fold text sets tables cause = IsUnmade fold text sets tables cause ⊎ (TakesMemoryForBound text tables × (cause ≡ fault.Memory))
-
--- the board that the text spells and the bundle of folded tables, or why a search can't begin
-abbrev pub IsStartOfSearch : Bytes → Bytes → List Bytes → Result (List ℕ × BundleView) Fault → Type 0
-IsStartOfSearch text sets tables (Ok start) = Spells text start.0 × IsBundleOfFiles true tables sets start.1
-IsStartOfSearch text sets tables (Err cause) = IsCauseForSearch true text sets tables cause
-
--- of the inputs of a search in their order: such a start, and beside it the digest lines of the tables
-abbrev pub IsFoldedSearch : List Bytes → Bytes → Result (List ℕ × BundleView) Fault → Type 0
-IsFoldedSearch (text ∷ sets ∷ tables) digests start = (digests ≡ digests_of tables) × IsStartOfSearch text sets tables start
-IsFoldedSearch inputs digests start = ⊥
 
 -- an optimum is the number of these moves
 abbrev pub HasItsMoves : Bytes → Result Verdict Fault → Type 0

@@ -1,6 +1,6 @@
 //! What holds of all runs of makers. Each function here says it, and does nothing.
 
-ghost use Rattle.pdb_keep.specs.Laws.{KeptLogsProveOptima, KeptTablesAreExact};
+ghost use Rattle.pdb_keep.specs.Laws.{KeptLogsAreTaken, KeptLogsProveOptima, KeptTablesAreExact, ToldMovesSolve};
 
 /// With a yes `make-table` has kept the exact table of its pattern, and told its line.
 pub fn kept_tables_are_exact()
@@ -10,4 +10,14 @@ pub fn kept_tables_are_exact()
 /// With a yes `solve` has kept a log that proves its moves to be the fewest, and told the moves and their number.
 pub fn kept_logs_prove_optima()
     ensures { KeptLogsProveOptima }
+{}
+
+/// The moves that `solve` tells are a moves text that solves the board.
+pub fn told_moves_solve()
+    ensures { ToldMovesSolve }
+{}
+
+/// What `solve` keeps `bound` takes: over the same files it answers the number of the moves.
+pub fn kept_logs_are_taken()
+    ensures { KeptLogsAreTaken }
 {}

@@ -9,7 +9,9 @@ ghost use Rattle.pdb_keep.specs.Steps.{IsCauseForBuild};
 
 use pat_place::Pattern;
 use pdb_io::shelf::Shelf;
-use pdb_run::{Answer, Command, Digested, Digests, Input, Status, keep_and_conclude, read_inputs};
+use pdb_run::{
+    Answer, Command, Digested, Digests, Input, Status, keep_and_conclude, read_inputs_and_try,
+};
 use pdb_verdict::{Fault, Inputs, MakeRefusal, Verdict, Workers, line_of, verify_beside};
 use puz_board::Side;
 use puz_make::{MakeFault, build};
@@ -44,7 +46,8 @@ impl Command for MakeTable<'_> {
     }
 }
 
-/// A whole run of `make-table`: the table is kept under its name once it is found exact.
+/// A whole run of `make-table`: the table is kept under its name once it is found exact. That something can be kept there is
+/// tried before the table is made.
 #[inline(never)] // so that the stack has the values of one command alone
 pub fn run_make_table<H: Threads + Wait + Sync, G: Gate + Sync, S: Shelf, R: Read, W: Write>(
     alloc: Global,
@@ -58,7 +61,7 @@ pub fn run_make_table<H: Threads + Wait + Sync, G: Gate + Sync, S: Shelf, R: Rea
         (world (S.held shelf.old) (S.has_failed shelf.old) (R.remaining reader.old) (W.contents out.old))
         (world (S.held shelf.new) (S.has_failed shelf.new) (R.remaining reader.new) (W.contents out.new)) result }
 {
-    match read_inputs(alloc, &command, shelf, reader, out) {
+    match read_inputs_and_try(alloc, &command, command.out, shelf, reader, out) {
         Ok(_inputs) => {
             let answer = answer_make_table(alloc, command.side, command.mask, workers);
             keep_and_conclude(alloc, &command, &answer, command.out, shelf, out)

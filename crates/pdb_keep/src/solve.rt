@@ -1,6 +1,7 @@
 //! Searches for a shortest solution, and keeps the log that proves it shortest once both are checked.
 
-ghost use Rattle.std.specs.Prelude.{◌≡◌, ◌≤◌, ◌∷◌, ℕ, Bool, true, List, [], Some, length, map, option_map, IfErr, IfOk, IfSome, MatchResult};
+ghost use Rattle.std.specs.Prelude.{◌≡◌, ◌≤◌, ◌+◌, ◌∷◌, ℕ, Bool, true, List, [], Some, length, map, option_map, slice_get, IfErr, IfOk, IfSome, MatchResult};
+ghost use Rattle.puz_board.specs.BoardTexts.{Spells};
 ghost use Rattle.puz_board.specs.Boards.{side_of};
 ghost use Rattle.puz_board.specs.PuzzleTexts.{puzzle_parts};
 ghost use Rattle.pdb_run.specs.Writing.{digests_of};
@@ -8,21 +9,22 @@ ghost use Rattle.pdb_run.specs.Answers.{IsAnswerBy, IsReplyOf, all_bytes, digest
 ghost use Rattle.pdb_run.specs.Inputs.{AreRead, IsAsTold, left_by_all};
 ghost use Rattle.pdb_run.specs.Runs.{Ends, World, world};
 ghost use Rattle.pdb_verdict.specs.Bound.{TakesMemoryForBound};
+ghost use Rattle.pdb_verdict.specs.Bundles.{IsBundleOfFiles};
 ghost use Rattle.pdb_verdict.specs.Optimal.{solved_parts};
-ghost use Rattle.pdb_verdict.specs.Steps.{IsOptimumOver};
+ghost use Rattle.pdb_verdict.specs.Steps.{IsCauseForBundle, IsOptimumOver};
 ghost use Rattle.pdb_keep.specs.Solve.{IsMade, IsSolveReply, SolveTakesMemory, TellsSearch, puzzle_of, reply_to_search, searched, solve_inputs, solve_plan, unmade};
-ghost use Rattle.pdb_keep.specs.Steps.{HasItsMoves, IsCauseForSearch, IsFoldedSearch, IsGivenUp, IsMadeOver, IsStartOfSearch};
+ghost use Rattle.pdb_keep.specs.Steps.{HasItsMoves, IsCauseForSearch, IsGivenUp, IsMadeOver};
 
 use crate::solutions::lines_on;
 use log_check::LogRefusal;
 use pdb_io::shelf::Shelf;
 use pdb_run::{
     Answer, Command, Digested, Digests, FILES_BESIDE, Input, Status, beside, keep_and_conclude,
-    read_inputs, with_digests,
+    read_inputs_and_try,
 };
 use pdb_verdict::{
     Fault, MakeRefusal, Tables, Verdict, Workers, a_text, fold_bundle, line_of, optimum_over,
-    push_tables, read_bundle,
+    push_tables, read_bundle, take_first,
 };
 use puz_board::Board;
 use puz_make::{Found, MakeFault, solve};
@@ -32,6 +34,9 @@ use std::io::{Read, Write};
 use std::sync::Wait;
 use std::thread::Threads;
 use work_run::Gate;
+
+/// How many inputs of a search come before its tables: a board text and a set text.
+const BEFORE_TABLES: usize = 2;
 
 /// The names that a search speaks of, and how its tables are held.
 #[derive(Clone, Copy)]
@@ -73,7 +78,7 @@ impl Command for Solve<'_, '_> {
 }
 
 /// A whole run of `solve`, whoever checks the tables and the log: at most `budget` boards are expanded, and the log is kept
-/// once it and the moves are found to prove an optimum.
+/// once it and the moves are found to prove an optimum. That something can be kept there is tried before anything is checked.
 #[inline(never)] // so that the stack has the values of one command alone
 pub fn run_solve<H: Threads + Wait + Sync, G: Gate + Sync, S: Shelf, R: Read, W: Write>(
     alloc: Global,
@@ -89,7 +94,7 @@ pub fn run_solve<H: Threads + Wait + Sync, G: Gate + Sync, S: Shelf, R: Read, W:
         (world (S.held shelf.new) (S.has_failed shelf.new) (R.remaining reader.new) (W.contents out.new)) result }
 {
     let command = Solve { names };
-    let inputs = match read_inputs(alloc, &command, shelf, reader, out) {
+    let inputs = match read_inputs_and_try(alloc, &command, names.out, shelf, reader, out) {
         Ok(inputs) => inputs,
         Err(status) => return status,
     };
@@ -100,8 +105,8 @@ pub fn run_solve<H: Threads + Wait + Sync, G: Gate + Sync, S: Shelf, R: Read, W:
     keep_and_conclude(alloc, &command, &answer, names.out, shelf, out)
 }
 
-/// The end of a run with folded tables. Once all are folded and their digests are made, the bytes of the tables are given up,
-/// so that the search runs beside the folded tables alone.
+/// The end of a run with folded tables. The bytes of each table are given up in turn, so that the search runs beside the folded
+/// tables alone.
 #[inline(never)] // so that a run with full tables hasn't its values on the stack
 fn conclude_folded<H: Threads + Wait + Sync, G: Gate + Sync, S: Shelf, W: Write>(
     alloc: Global,
@@ -117,74 +122,35 @@ fn conclude_folded<H: Threads + Wait + Sync, G: Gate + Sync, S: Shelf, W: Write>
     ensures { let names = command.now.names in let wanted = solve_inputs names.board.now names.sets.now (map (λ name. name.now) names.tables.now) in
         (old new : World) → AreRead old.files old.reader wanted (all_bytes inputs.items)
         → IsAsTold (left_by_all old.reader wanted) new.reader
-        → S.held shelf.old ≡ old.files → S.held shelf.new ≡ new.files → S.has_failed shelf.new ≡ new.failed
+        → S.held shelf.old ≡ old.files → S.held shelf.new ≡ new.files
+        → S.has_failed shelf.old ≡ old.failed → S.has_failed shelf.new ≡ new.failed
         → W.contents out.old ≡ old.written → W.contents out.new ≡ new.written
         → Ends (solve_plan names.fold names.board.now names.sets.now names.out.now (map (λ name. name.now) names.tables.now)) old new result }
 {
     let mut inputs = inputs;
-    let Some((digests, start)) = start_beside(alloc, inputs.as_slice(), workers) else {
+    let Some(board) = board_of(inputs.as_slice()) else {
         let answer = answer_solve(alloc, inputs.as_slice(), true, budget, workers);
         return keep_and_conclude(alloc, command, &answer, command.names.out, shelf, out);
     };
-    inputs.truncate(2);
-    let outcome = outcome_of(alloc, start, inputs[0].as_slice(), budget, workers);
+    let text = take_first(&mut inputs);
+    let sets = take_first(&mut inputs);
+    let (text, sets) = (text.as_slice(), sets.as_slice());
+    let (digests, bundle) = fold_bundle(alloc, inputs, sets, workers);
+    let outcome = search_in(alloc, bundle, &board, text, budget, workers);
     let answer = answer_of(Digested::Lines(digests), outcome);
     keep_and_conclude(alloc, command, &answer, command.names.out, shelf, out)
 }
 
-/// The board and the bundle of folded tables that a search begins with, or why it can't begin; and the digest lines of the
-/// tables. There are none of more tables than a bundle has.
-fn start_beside<'x, H: Threads + Wait + Sync, G: Gate + Sync>(
-    alloc: Global,
-    inputs: &[Vec<u8>],
-    workers: &Workers<'_, H, G>,
-) -> Option<(Digests, Result<(Board, Bundle<'x>), Fault>)>
+/// The board of a search. There is none of a text that is refused, nor of more tables than a bundle has.
+fn board_of(inputs: &[Vec<u8>]) -> Option<Board>
     requires { 2 ≤ length inputs.now }
-    ensures { IfSome result (λ found. IsFoldedSearch (all_bytes inputs.now) found.0.items found.1) }
+    ensures few { IfSome result (λ _. length inputs.now ≤ BEFORE_TABLES + FILES_BESIDE) }
+    ensures board { IfSome result (λ board. (text : List ℕ) × (slice_get (all_bytes inputs.now) 0 ≡ Some text) × Spells text board) }
 {
-    let (text, sets, files) = (inputs[0].as_slice(), inputs[1].as_slice(), &inputs[2..]);
-    if files.len() > FILES_BESIDE {
+    if inputs.len() > BEFORE_TABLES + FILES_BESIDE {
         return None;
     }
-    let check = || -> Result<(Board, Bundle<'_>), Fault>
-        ensures { IsStartOfSearch text.entry.now sets.entry.now (all_bytes files.entry.now) result }
-    { start_of(alloc, text, sets, files, workers) };
-    let (digests, start) = with_digests(workers.rt, workers.count, files, None, check);
-    Some((digests?, start))
-}
-
-/// The board and the bundle of folded tables that a search begins with, or why it can't begin.
-fn start_of<'x, H: Threads + Wait, G: Gate + Sync>(
-    alloc: Global,
-    text: &[u8],
-    sets: &[u8],
-    files: &[Vec<u8>],
-    workers: &Workers<'_, H, G>,
-) -> Result<(Board, Bundle<'x>), Fault>
-    ensures { IsStartOfSearch text.now sets.now (all_bytes files.now) result }
-{
-    let board = Board::read(text).map_err(Fault::Board)?;
-    let bundle = fold_bundle(alloc, files, sets, workers)?;
-    Ok((board, bundle))
-}
-
-/// What comes of a search that begins so.
-#[inline(never)] // so that the stack hasn't its values while tables are checked
-fn outcome_of<H: Threads + Wait + Sync, G: Gate + Sync>(
-    alloc: Global,
-    start: Result<(Board, Bundle<'_>), Fault>,
-    text: &[u8],
-    budget: u64,
-    workers: &Workers<'_, H, G>,
-) -> Result<Made, Fault>
-    ensures { (sets : List ℕ) (tables : List (List ℕ)) → IsStartOfSearch text.now sets tables start.entry
-        → MatchResult result (λ made. IsMade true text.now sets tables made.moves.items made.log.items made.answer) (IsCauseForSearch true text.now sets tables) }
-{
-    let (board, bundle) = start?;
-    if board.side() != bundle.side() {
-        return Err(Fault::Log(LogRefusal::L4));
-    }
-    search_over(alloc, &bundle, &board, text, budget, workers)
+    Board::read(inputs[0].as_slice()).ok()
 }
 
 /// The answer on the bytes of the inputs. Want of memory never comes of a board that is refused.
@@ -280,12 +246,12 @@ fn search_beside<H: Threads + Wait + Sync, G: Gate + Sync>(
     workers: &Workers<'_, H, G>,
 ) -> (Option<Digests>, Result<Made, Fault>)
     ensures digests { IfSome result.0 (λ digests. digests.items ≡ digests_of (all_bytes tables.entry.files.now)) }
-    ensures made { IfOk result.1 (λ made. IsMade tables.entry.fold text.now sets.now (all_bytes tables.entry.files.now) made.moves.items made.log.items made.answer) }
-    ensures unmade { IfErr result.1 (λ cause. IsCauseForSearch tables.entry.fold text.now sets.now (all_bytes tables.entry.files.now) cause) }
+    ensures outcome { let files = all_bytes tables.entry.files.now in
+        MatchResult result.1 (λ made. IsMade tables.entry.fold text.now sets.now files made.moves.items made.log.items made.answer) (IsCauseForSearch tables.entry.fold text.now sets.now files) }
 {
     let search = || -> Result<Made, Fault>
-        ensures made { IfOk result (λ made. IsMade tables.entry.fold text.entry.now sets.entry.now (all_bytes tables.entry.files.now) made.moves.items made.log.items made.answer) }
-        ensures unmade { IfErr result (λ cause. IsCauseForSearch tables.entry.fold text.entry.now sets.entry.now (all_bytes tables.entry.files.now) cause) }
+        ensures { let files = all_bytes tables.entry.files.now in
+            MatchResult result (λ made. IsMade tables.entry.fold text.entry.now sets.entry.now files made.moves.items made.log.items made.answer) (IsCauseForSearch tables.entry.fold text.entry.now sets.entry.now files) }
     { search(alloc, text, sets, tables, budget, workers) };
     beside(workers.rt, workers.count, tables.files, None, search)
 }
@@ -301,15 +267,32 @@ fn search<H: Threads + Wait + Sync, G: Gate + Sync>(
     budget: u64,
     workers: &Workers<'_, H, G>,
 ) -> Result<Made, Fault>
-    ensures made { IfOk result (λ made. IsMade tables.entry.fold text.now sets.now (all_bytes tables.entry.files.now) made.moves.items made.log.items made.answer) }
-    ensures unmade { IfErr result (λ cause. IsCauseForSearch tables.entry.fold text.now sets.now (all_bytes tables.entry.files.now) cause) }
+    ensures { let files = all_bytes tables.entry.files.now in
+        MatchResult result (λ made. IsMade tables.entry.fold text.now sets.now files made.moves.items made.log.items made.answer) (IsCauseForSearch tables.entry.fold text.now sets.now files) }
 {
     let board = Board::read(text).map_err(Fault::Board)?;
-    let bundle = read_bundle(alloc, tables, sets, workers)?;
+    let bundle = read_bundle(alloc, tables, sets, workers);
+    search_in(alloc, bundle, &board, text, budget, workers)
+}
+
+/// The same for the board that a text spells, once the tables and the sets are checked.
+fn search_in<H: Threads + Wait + Sync, G: Gate + Sync>(
+    alloc: Global,
+    bundle: Result<Bundle<'_>, Fault>,
+    board: &Board,
+    text: &[u8],
+    budget: u64,
+    workers: &Workers<'_, H, G>,
+) -> Result<Made, Fault>
+    ensures { (fold : Bool) (sets : List ℕ) (tables : List (List ℕ)) → Spells text.now board.now
+        → IfOk bundle.entry (IsBundleOfFiles fold tables sets) → IfErr bundle.entry (λ cause. IsCauseForBundle fold cause tables sets)
+        → MatchResult result (λ made. IsMade fold text.now sets tables made.moves.items made.log.items made.answer) (IsCauseForSearch fold text.now sets tables) }
+{
+    let bundle = bundle?;
     if board.side() != bundle.side() {
         return Err(Fault::Log(LogRefusal::L4));
     }
-    search_over(alloc, &bundle, &board, text, budget, workers)
+    search_over(alloc, &bundle, board, text, budget, workers)
 }
 
 /// Searches for a shortest solution of the board that a text spells, over a bundle of its side, and checks what is found.

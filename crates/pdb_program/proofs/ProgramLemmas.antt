@@ -3,7 +3,7 @@ use Rattle.std.proofs.Common.{◌≡◌, ◌⊎◌, ◌∙◌, ◌≤◌, inl, i
 use Rattle.std.specs.Io.KnownBytes.{Keeps}
 use Rattle.pdb_io.specs.Shelf.{Bytes}
 use Rattle.pdb_run.specs.Commands.{Plan}
-use Rattle.pdb_run.specs.Runs.{Ends, HasCause, IsAnswered, LeavesFiles, LeavesReader, Outcome, WantsMemory, World, kept, no_memory, replied, unkept, unread, with_kept}
+use Rattle.pdb_run.specs.Runs.{Ends, HasCause, IsAnswered, LeavesFailure, LeavesFiles, LeavesReader, Outcome, WantsMemory, World, kept, no_memory, replied, unkept, unread, unwritable, with_kept}
 use Rattle.pdb_run.specs.Statuses.{status_number}
 use Rattle.pdb_run.specs.declared.statuses.Status.{Status}
 use Rattle.pdb_run.specs.declared.statuses.Status.TheVariants.{Yes, Refused, Fault, NoMemory}
@@ -50,7 +50,7 @@ wants (solve board sets out tables workers fold budget) old = inl (omega arith)
 pub parsed_ends : (words : List Bytes) (old new : World) (old_err new_err : Option Bytes) (status : Status) → Parses words → new.files ≡ old.files
     → Refuses words old.written new.written old_err new_err status → Ends (plan_of (asked_of words)) old new status
 parsed_ends words old new old_err new_err status parses files refuses = elim refuses [
-  | inl memory ↦ record { outcome = no_memory; cause = wants (asked_of words) old; files = files; reader = tt; said = memory.0 }
+  | inl memory ↦ record { outcome = no_memory; cause = wants (asked_of words) old; files = files; failure = tt; reader = tt; said = memory.0 }
   | inr others ↦ elim others [
     | inl mistake ↦ absurd (rw parses at mistake.0.among)
     | inr help ↦ absurd (rw parses at help.0)
@@ -63,6 +63,7 @@ module _ (plan : Plan) (old new : World) (status : Status) where
   left : (outcome : Outcome) → plan.keeps_under ≡ None → HasCause plan old new.failed outcome → LeavesFiles plan old.files new.files outcome → new.files ≡ old.files
   left (replied inputs reply) none cause files = files ∙ ap (λ (name : Option Bytes). with_kept old.files name (kept reply)) none
   left (unread wanted why) none cause files = files
+  left (unwritable name why) none cause files = files
   left (unkept name why) none cause files = let clash : None ≡ Some name = sym none ∙ cause.under in cc
   left no_memory none cause files = files
 
@@ -73,6 +74,7 @@ module _ (plan : Plan) (old new : World) (status : Status) where
   has_cause : (outcome : Outcome) → HasCause plan old new.failed outcome → HasCause (taking_memory plan) old new.failed outcome
   has_cause (replied inputs reply) cause = cause
   has_cause (unread wanted why) cause = cause
+  has_cause (unwritable name why) cause = record { under = cause.under; inputs = cause.inputs; read = cause.read; has_failed = cause.has_failed }
   has_cause (unkept name why) cause = record { under = cause.under; inputs = cause.inputs; reply = cause.reply; right = cause.right; file = cause.file; is_kept = cause.is_kept; has_failed = cause.has_failed }
   has_cause no_memory (inl listed) = inl listed
   has_cause no_memory (inr checked) = inr (checked.0, checked.1, tt)
@@ -80,18 +82,27 @@ module _ (plan : Plan) (old new : World) (status : Status) where
   leaves : (outcome : Outcome) → LeavesFiles plan old.files new.files outcome → LeavesFiles (taking_memory plan) old.files new.files outcome
   leaves (replied inputs reply) files = files
   leaves (unread wanted why) files = files
+  leaves (unwritable name why) files = files
   leaves (unkept name why) files = files
   leaves no_memory files = files
+
+  leaves_failure : (outcome : Outcome) → LeavesFailure plan old.failed new.failed outcome → LeavesFailure (taking_memory plan) old.failed new.failed outcome
+  leaves_failure (replied inputs reply) failure = failure
+  leaves_failure (unread wanted why) failure = failure
+  leaves_failure (unwritable name why) failure = failure
+  leaves_failure (unkept name why) failure = failure
+  leaves_failure no_memory failure = failure
 
   leaves_reader : (outcome : Outcome) → LeavesReader plan old.reader new.reader outcome → LeavesReader (taking_memory plan) old.reader new.reader outcome
   leaves_reader (replied inputs reply) reader = reader
   leaves_reader (unread wanted why) reader = reader
+  leaves_reader (unwritable name why) reader = reader
   leaves_reader (unkept name why) reader = reader
   leaves_reader no_memory reader = reader
 
   -- a run that ends by a plan ends by that which may want memory at any time
   ends_taking : Ends plan old new status → Ends (taking_memory plan) old new status
-  ends_taking ends = record { outcome = ends.outcome; cause = has_cause ends.outcome ends.cause; files = leaves ends.outcome ends.files; reader = leaves_reader ends.outcome ends.reader; said = ends.said }
+  ends_taking ends = record { outcome = ends.outcome; cause = has_cause ends.outcome ends.cause; files = leaves ends.outcome ends.files; failure = leaves_failure ends.outcome ends.failure; reader = leaves_reader ends.outcome ends.reader; said = ends.said }
 
   -- a yes or a no by that plan is one by the plan itself
   pub answers : IsAnswered (taking_memory plan) old new status → Ends plan old new status
@@ -99,6 +110,7 @@ module _ (plan : Plan) (old new : World) (status : Status) where
     outcome = replied answered.inputs answered.reply;
     cause = answered.right;
     files = answered.files;
+    failure = answered.failure;
     reader = answered.reader;
     said = inl (answered.lines, answered.is_status);
   }

@@ -1,2 +1,3 @@
+pub mod Headline
 pub mod Programs
 pub mod Refusals

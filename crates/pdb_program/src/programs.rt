@@ -1,10 +1,12 @@
 //! A run of the program on words.
 
-ghost use Rattle.std.specs.Prelude.{◌≡◌, ◌⊎◌, map, string_bytes};
+ghost use Rattle.std.specs.Prelude.{◌≡◌, ◌⊎◌, ◌++◌, Option, map, string_bytes};
 ghost use Rattle.std.specs.Io.KnownBytes.{Keeps};
+ghost use Rattle.pdb_io.specs.Shelf.{Bytes};
 ghost use Rattle.pdb_run.specs.Runs.{Ends, IsAnswered, world};
 ghost use Rattle.pdb_words.specs.CommandLine.{Parses, asked_of};
 ghost use Rattle.pdb_words.specs.Faults.{IsMistaken};
+ghost use Rattle.pdb_program.specs.Headline.{Headline};
 ghost use Rattle.pdb_program.specs.Programs.{AskToKeepNothing, HasKept, IsNumberOf, plan_of};
 ghost use Rattle.pdb_program.specs.Refusals.{Refuses};
 
@@ -35,6 +37,14 @@ pub fn run<H: Threads + Wait + Sync, S: Shelf, R: Read, W: Write, E: Write, G: G
     err: &mut E,
     gate: &G,
 ) -> u8
+    // What a yes means on each command, and a no to a table, in boards, paths and bytes: over a shelf, a reader and a writer that
+    // tell their bytes, for 1 to 64 workers and every order in which they take their work.
+    ensures headline { let words = map string_bytes words.items in
+        (before after : Bytes → Option Bytes) (input start lines : Bytes) → Parses words
+        → S.held shelf.old ≡ Some before → S.held shelf.new ≡ Some after → R.remaining reader.old ≡ Some input
+        → W.contents out.old ≡ Some start → W.contents out.new ≡ Some (start ++ lines)
+        → Headline (asked_of words) before after input lines result }
+
     // With a yes or a no the writer got exactly the lines on the inputs that the words ask for.
     ensures answered { let words = map string_bytes words.items in Parses words → (result ≡ 0) ⊎ (result ≡ 1)
         → IsNumberOf (IsAnswered (plan_of (asked_of words))

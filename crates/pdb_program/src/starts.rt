@@ -1,12 +1,15 @@
 //! A run of the program, from what the system gave as its arguments.
 
-ghost use Rattle.std.specs.Prelude.{◌≡◌, ◌≢◌, drop, map, string_bytes, IfErr, IfOk};
+ghost use Rattle.std.specs.Prelude.{◌≡◌, ◌≢◌, ◌++◌, Option, drop, map, string_bytes, IfErr, IfOk, OnErr};
 ghost use Rattle.std.specs.IoError.{error_kind};
 ghost use Rattle.std.specs.Io.KnownBytes.{Keeps};
 ghost use Rattle.std.specs.declared.io.ErrorKind.TheVariants.{OutOfMemory};
+ghost use Rattle.pdb_io.specs.Shelf.{Bytes};
 ghost use Rattle.pdb_run.specs.Writing.{memory_line};
 ghost use Rattle.pdb_run.specs.Runs.{Says, world};
+ghost use Rattle.pdb_words.specs.CommandLine.{Parses, asked_of};
 ghost use Rattle.pdb_words.specs.Faults.{unreadable_word};
+ghost use Rattle.pdb_program.specs.Headline.{Headline};
 ghost use Rattle.pdb_program.specs.Programs.{IsNumberOf, RunsOn};
 ghost use Rattle.pdb_program.specs.Refusals.{AppendsWholeOrFront};
 
@@ -23,7 +26,7 @@ use std::thread::Threads;
 use work_run::Gate;
 
 /// A run on the arguments behind the first, which is the program's own name, or what is said where they can't be taken:
-/// for want of memory, or since one is no UTF-8 text.
+/// for want of memory, or since one is no UTF-8 text. Then the shelf and the reader stay as they are.
 pub fn start<H: Threads + Wait + Sync, S: Shelf, R: Read, W: Write, E: Write, G: Gate + Sync>(
     host: &Host<'_, H, G>,
     arguments: io::Result<Vec<String>>,
@@ -32,6 +35,13 @@ pub fn start<H: Threads + Wait + Sync, S: Shelf, R: Read, W: Write, E: Write, G:
     out: &mut W,
     err: &mut E,
 ) -> u8
+    // What a yes means on each command, and a no to a table, in boards, paths and bytes, as on `run`.
+    ensures headline { IfOk arguments (λ all. let words = drop 1 (map string_bytes all.items) in
+        (before after : Bytes → Option Bytes) (input start lines : Bytes) → Parses words
+        → S.held shelf.old ≡ Some before → S.held shelf.new ≡ Some after → R.remaining reader.old ≡ Some input
+        → W.contents out.old ≡ Some start → W.contents out.new ≡ Some (start ++ lines)
+        → Headline (asked_of words) before after input lines result) }
+
     ensures runs { IfOk arguments (λ all. RunsOn (drop 1 (map string_bytes all.items))
         (world (S.held shelf.old) (S.has_failed shelf.old) (R.remaining reader.old) (W.contents out.old))
         (world (S.held shelf.new) (S.has_failed shelf.new) (R.remaining reader.new) (W.contents out.new))
@@ -40,6 +50,7 @@ pub fn start<H: Threads + Wait + Sync, S: Shelf, R: Read, W: Write, E: Write, G:
         → IsNumberOf (Says memory_line Status.NoMemory (W.contents out.old) (W.contents out.new)) result × Keeps (E.contents err.old) (E.contents err.new)) }
     ensures unreadable { IfErr arguments (λ e. error_kind e ≢ OutOfMemory
         → Keeps (W.contents out.old) (W.contents out.new) × AppendsWholeOrFront unreadable_word (E.contents err.old) (E.contents err.new) × (result ≡ 2)) }
+    ensures untouched { OnErr arguments ((shelf.new ≡ shelf.old) × (reader.new ≡ reader.old)) }
 {
     match arguments {
         Ok(all) => run(

@@ -9,7 +9,7 @@ use Rattle.pdb_run.specs.Answers.{IsReplyOf, answer_text, kept_of}
 use Rattle.pdb_run.specs.Writing.{digests_of, list_of, memory_line, named_line, reply_text, shown}
 use Rattle.pdb_run.specs.Commands.{Plan, Reply, Wanted}
 use Rattle.pdb_run.specs.Inputs.{AreRead, IsAsTold, IsFirstUnread, left_by_all}
-use Rattle.pdb_run.specs.Runs.{Ends, Says, World, kept, kept_after, no_memory, replied, status_of, status_of_reply, text_of, unkept, unread, with_kept}
+use Rattle.pdb_run.specs.Runs.{Ends, Says, StaysCalm, World, kept, kept_after, no_memory, replied, status_of, status_of_reply, text_of, unkept, unread, unwritable, with_kept}
 use Rattle.pdb_run.specs.declared.answers.Answer.{Answer}
 use Rattle.pdb_run.specs.declared.statuses.Status.{Status}
 use Rattle.pdb_run.specs.declared.statuses.Status.TheVariants.{Fault, NoMemory}
@@ -59,6 +59,7 @@ module _ (plan : Plan) (old new : World) (status : Status) where
     outcome = unread wanted why;
     cause = subst (λ (ws : List Wanted). IsFirstUnread old.files old.reader new.failed ws wanted why) all first;
     files = same;
+    failure = tt;
     reader = tt;
     said = said;
   }
@@ -67,6 +68,19 @@ module _ (plan : Plan) (old new : World) (status : Status) where
   as_written text with_text was now is_old is_new said =
       subst (λ (w : Option Bytes). Says text with_text old.written w status) is_new (subst (λ (w : Option Bytes). Says text with_text w now status) is_old said)
 
+  -- nothing can be kept under the name
+  pub ends_unwritable : (inputs : List Bytes) (name : Bytes) (why : KeepFault) (was now : Option Bytes) → AreRead old.files old.reader plan.inputs inputs → IsAsTold (left_by_all old.reader plan.inputs) new.reader
+      → plan.keeps_under ≡ Some name → new.files ≡ old.files → (why ≡ keep.F3 → new.failed ≡ true)
+      → was ≡ old.written → now ≡ new.written → Says (text_of (unwritable name why)) (status_of (unwritable name why)) was now status → Ends plan old new status
+  ends_unwritable inputs name why was now are behind under same has_failed is_old is_new said = record {
+    outcome = unwritable name why;
+    cause = record { under = under; inputs = inputs; read = are; has_failed = has_failed };
+    files = same;
+    failure = tt;
+    reader = behind;
+    said = as_written (text_of (unwritable name why)) (status_of (unwritable name why)) was now is_old is_new said;
+  }
+
   -- memory was wanted by the check of what was read
   pub concluded_wanting : (inputs : List Bytes) (was now : Option Bytes) → AreRead old.files old.reader plan.inputs inputs → plan.TakesMemory inputs → new.files ≡ old.files
       → was ≡ old.written → now ≡ new.written → Says memory_line NoMemory was now status → Ends plan old new status
@@ -74,18 +88,20 @@ module _ (plan : Plan) (old new : World) (status : Status) where
     outcome = no_memory;
     cause = inr (inputs, are, takes);
     files = same;
+    failure = tt;
     reader = tt;
     said = as_written memory_line NoMemory was now is_old is_new said;
   }
 
   -- a reply that is right for the bytes that were read, with the file that was kept
   concluded : (inputs : List Bytes) (reply : Reply) (was now : Option Bytes) → AreRead old.files old.reader plan.inputs inputs → IsAsTold (left_by_all old.reader plan.inputs) new.reader → plan.MayReply inputs reply
-      → new.files ≡ with_kept old.files plan.keeps_under (kept reply)
+      → new.files ≡ with_kept old.files plan.keeps_under (kept reply) → StaysCalm plan old.failed new.failed
       → was ≡ old.written → now ≡ new.written → Says (reply_text reply) (status_of_reply reply.is_yes) was now status → Ends plan old new status
-  concluded inputs reply was now are behind right files is_old is_new said = record {
+  concluded inputs reply was now are behind right files calm is_old is_new said = record {
     outcome = replied inputs reply;
     cause = (are, right);
     files = files;
+    failure = calm;
     reader = behind;
     said = as_written (reply_text reply) (status_of_reply reply.is_yes) was now is_old is_new said;
   }
@@ -93,14 +109,16 @@ module _ (plan : Plan) (old new : World) (status : Status) where
   pub concluded_replied : (inputs : List Bytes) (reply : Reply) (was now : Option Bytes) → AreRead old.files old.reader plan.inputs inputs → IsAsTold (left_by_all old.reader plan.inputs) new.reader → plan.MayReply inputs reply → plan.keeps_under ≡ None → new.files ≡ old.files
       → was ≡ old.written → now ≡ new.written → Says (reply_text reply) (status_of_reply reply.is_yes) was now status → Ends plan old new status
   concluded_replied inputs reply was now are behind right none same is_old is_new said =
-      concluded inputs reply was now are behind right (same ∙ ap (λ (n : Option Bytes). with_kept old.files n (kept reply)) (sym none)) is_old is_new said
+      let calm : StaysCalm plan old.failed new.failed = λ name under. (let clash : None ≡ Some name = sym none ∙ under in cc) in
+      concluded inputs reply was now are behind right (same ∙ ap (λ (n : Option Bytes). with_kept old.files n (kept reply)) (sym none)) calm is_old is_new said
 
-  pub concluded_kept : (inputs : List Bytes) (reply : Reply) (name : Bytes) (held holds : Option Files) (was now : Option Bytes) → AreRead old.files old.reader plan.inputs inputs → IsAsTold (left_by_all old.reader plan.inputs) new.reader → plan.MayReply inputs reply
+  pub concluded_kept : (inputs : List Bytes) (reply : Reply) (name : Bytes) (held holds : Option Files) (had has : Bool) (was now : Option Bytes) → AreRead old.files old.reader plan.inputs inputs → IsAsTold (left_by_all old.reader plan.inputs) new.reader → plan.MayReply inputs reply
       → plan.keeps_under ≡ Some name → held ≡ old.files → holds ≡ new.files → holds ≡ with_kept held (Some name) (kept reply)
+      → had ≡ old.failed → has ≡ new.failed → has ≡ had
       → was ≡ old.written → now ≡ new.written → Says (reply_text reply) (status_of_reply reply.is_yes) was now status → Ends plan old new status
-  concluded_kept inputs reply name held holds was now are behind right under was_held is_held with_file is_old is_new said =
+  concluded_kept inputs reply name held holds had has was now are behind right under was_held is_held with_file was_failed is_failed calm is_old is_new said =
       let files = sym is_held ∙ with_file ∙ ap (λ (f : Option Files). with_kept f (Some name) (kept reply)) was_held ∙ ap (λ (n : Option Bytes). with_kept old.files n (kept reply)) (sym under) in
-      concluded inputs reply was now are behind right files is_old is_new said
+      concluded inputs reply was now are behind right files (λ _ _. sym is_failed ∙ calm ∙ was_failed) is_old is_new said
 
   pub concluded_unkept : (inputs : List Bytes) (reply : Reply) (name : Bytes) (why : KeepFault) (held holds : Option Files) (failed : Bool) (was now : Option Bytes)
       → AreRead old.files old.reader plan.inputs inputs → IsAsTold (left_by_all old.reader plan.inputs) new.reader → plan.MayReply inputs reply → plan.keeps_under ≡ Some name → (file : Bytes) × (kept reply ≡ Some file)
@@ -117,6 +135,7 @@ module _ (plan : Plan) (old new : World) (status : Status) where
       is_kept = file.1;
       has_failed = λ is. sym is_failed ∙ has_failed is;
     };
+    failure = tt;
     files = subst (λ (f : Option Files). KeepsOthers old.files f name) is_held (subst (λ (f : Option Files). KeepsOthers f holds name) was_held others);
     reader = behind;
     said = as_written (text_of (unkept name why)) (status_of (unkept name why)) was now is_old is_new said;

@@ -1,6 +1,6 @@
 //! Digest lines, and how they are made beside a check.
 
-ghost use Rattle.std.specs.Prelude.{◌≡◌, ◌<◌, ◌++◌, None, IfOk, IfSome, IsOk, OnOk};
+ghost use Rattle.std.specs.Prelude.{◌≡◌, ◌<◌, ◌≤◌, ◌+◌, ◌++◌, None, IfOk, IfSome, IsOk, OnOk, length};
 ghost use Rattle.pdb_run.specs.Writing.{all_files, digest_line, digests_of};
 
 use arrayvec::{ArrayVec, CapacityError};
@@ -8,7 +8,7 @@ use sha2::{Digest, Sha256};
 use std::thread::{Threads, join};
 
 /// How many bytes a digest line has: `sha256 `, 64 digits and its end.
-pub(crate) const DIGEST_LEN: usize = 72;
+pub const DIGEST_LEN: usize = 72;
 
 /// Where its digits begin.
 const DIGITS: usize = 7;
@@ -49,24 +49,45 @@ pub fn beside<R: Threads + Sync, T, F: FnOnce() -> T>(
     (digests.ok(), answer)
 }
 
-/// As `beside`, and the digest lines that aren't made beside the check are made behind it, where there is room for them.
-pub fn with_digests<R: Threads + Sync, T, F: FnOnce() -> T>(
+/// What a check of a file answers, and behind the lines so far the file's digest line: made in a thread of its own beside the
+/// check, or behind it, where there is one worker or the thread can't be started.
+pub fn with_digest<R: Threads, T, F: FnOnce() -> T>(
     rt: &R,
     workers: u8,
-    files: &[Vec<u8>],
-    last: Option<&[u8]>,
+    digests: &mut Digests,
+    file: &[u8],
     check: F,
-) -> (Option<Digests>, T)
+) -> T
+    requires check { F.pre check }
+    requires room { length digests.old.items + DIGEST_LEN ≤ DIGESTS_LEN }
+    ensures line { digests.new.items ≡ digests.old.items ++ digest_line file.now }
+    ensures length { length digests.new.items ≡ length digests.old.items + DIGEST_LEN }
+    ensures answer { F.post check result }
+{
+    let (line, answer) = line_beside(rt, workers, file, check);
+    let _fits = digests.try_extend_from_slice(&line);
+    answer
+}
+
+/// A file's digest line, and what a check answers beside which it is made, where there is more than one worker.
+fn line_beside<R: Threads, T, F: FnOnce() -> T>(
+    rt: &R,
+    workers: u8,
+    file: &[u8],
+    check: F,
+) -> ([u8; DIGEST_LEN], T)
     requires { F.pre check }
-    ensures digests { IfSome result.0 (λ digests. digests.items ≡ digests_of (all_files files.now last.entry)) }
+    ensures line { result.0 ≡ digest_line file.now }
     ensures answer { F.post check result.1 }
 {
-    let (digests, answer) = beside(rt, workers, files, last, check);
-    let digests = match digests {
-        Some(digests) => Some(digests),
-        None => digests_in_order(files, last).ok(),
-    };
-    (digests, answer)
+    if workers < 2 {
+        let answer = check();
+        return (digest_line(file), answer);
+    }
+    let line = || -> [u8; DIGEST_LEN]
+        ensures { result ≡ digest_line file.entry.now }
+    { digest_line(file) };
+    join(rt, line, check)
 }
 
 /// The digest lines of files, and of a last one, where there is one: by at most so many groups, each but the last one in a

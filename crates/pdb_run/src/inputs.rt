@@ -32,6 +32,7 @@ pub fn load_all<'a, S: Shelf, R: Read>(
 ) -> Result<Vec<Vec<u8>>, Unread<'a>>
     ensures read { IfOk result (λ inputs. AreRead (S.held shelf.old) (R.remaining reader.old) (map wanted_of wanted.now) (all_bytes inputs.items)) }
     ensures behind { OnOk result (IsAsTold (left_by_all (R.remaining reader.old) (map wanted_of wanted.now)) (R.remaining reader.new)) }
+    ensures calm { OnOk result (S.has_failed shelf.new ≡ S.has_failed shelf.old) }
     ensures unread { IfErr result (λ e. IsFirstUnread (S.held shelf.old) (R.remaining reader.old) (S.has_failed shelf.new) (map wanted_of wanted.now) (wanted_of e.input) e.why) }
     ensures same { S.held shelf.new ≡ S.held shelf.old }
 {
@@ -53,6 +54,7 @@ fn load_next<S: Shelf, R: Read>(
     inputs: &mut Vec<Vec<u8>>,
 ) -> Result<(), ReadFault>
     ensures read { OnOk result (IsNext (S.held shelf.old) (R.remaining reader.old) (R.remaining reader.new) (wanted_of input.now) (all_bytes inputs.old.items) (all_bytes inputs.new.items)) }
+    ensures calm { OnOk result (S.has_failed shelf.new ≡ S.has_failed shelf.old) }
     ensures unread { IfErr result (λ why. IsUnread (S.held shelf.old) (R.remaining reader.old) (S.has_failed shelf.new) (wanted_of input.now) why) }
     ensures same { S.held shelf.new ≡ S.held shelf.old }
 {
@@ -72,6 +74,7 @@ fn load<S: Shelf, R: Read>(
 ) -> Result<Vec<u8>, ReadFault>
     ensures read { IfOk result (λ bytes. IsRead (S.held shelf.old) (R.remaining reader.old) (wanted_of input.now) bytes.items) }
     ensures behind { OnOk result (IsAsTold (left (R.remaining reader.old) (wanted_of input.now).name) (R.remaining reader.new)) }
+    ensures calm { OnOk result (S.has_failed shelf.new ≡ S.has_failed shelf.old) }
     ensures unread { IfErr result (λ why. IsUnread (S.held shelf.old) (R.remaining reader.old) (S.has_failed shelf.new) (wanted_of input.now) why) }
     ensures same { S.held shelf.new ≡ S.held shelf.old }
 {

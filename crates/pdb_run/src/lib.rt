@@ -12,8 +12,10 @@ mod writing;
 
 pub use answers::{Answer, Digested, LINES_LEN, Lines, lines};
 pub use commands::Command;
-pub use digests::{DIGESTS_LEN, Digests, FILES_BESIDE, beside, with_digests};
+pub use digests::{DIGEST_LEN, DIGESTS_LEN, Digests, FILES_BESIDE, beside, with_digest};
 pub use inputs::{Input, Unread, load_all};
-pub use runs::{NO_MEMORY, conclude, keep_and_conclude, read_inputs, say_no_memory};
+pub use runs::{
+    NO_MEMORY, conclude, keep_and_conclude, read_inputs, read_inputs_and_try, say_no_memory,
+};
 pub use statuses::Status;
 pub use writing::{say, say_digests};

@@ -8,7 +8,7 @@ ghost use Rattle.pdb_run.specs.Writing.{memory_line, named_line, shown, shown_by
 ghost use Rattle.pdb_run.specs.Commands.{plan_under};
 ghost use Rattle.pdb_run.specs.Inputs.{AreRead, IsAsTold, left_by_all, wanted_of};
 ghost use Rattle.pdb_run.specs.Answers.{IsAnswerBy, all_bytes, answer_text, kept_of};
-ghost use Rattle.pdb_run.specs.Runs.{Ends, Says, World, kept, status_of, status_of_reply, text_of, unkept, unread, with_kept, world};
+ghost use Rattle.pdb_run.specs.Runs.{Ends, Says, World, kept, status_of, status_of_reply, text_of, unkept_status, unkept_text, unread, with_kept, world};
 
 use crate::answers::Answer;
 use crate::commands::Command;
@@ -39,6 +39,7 @@ pub fn read_inputs<C: Command, S: Shelf, R: Read, W: Write>(
     ensures ends { IfErr result (λ status. Ends (plan_under (C.keeps_under command.now) (C.wanted command.now) (C.MayReply command.now) (C.TakesMemory command.now))
         (world (S.held shelf.old) (S.has_failed shelf.old) (R.remaining reader.old) (W.contents out.old))
         (world (S.held shelf.new) (S.has_failed shelf.new) (R.remaining reader.new) (W.contents out.new)) status) }
+    ensures calm { OnOk result (S.has_failed shelf.new ≡ S.has_failed shelf.old) }
     ensures same { S.held shelf.new ≡ S.held shelf.old }
 {
     let Ok(wanted) = command.inputs(alloc) else {
@@ -47,6 +48,34 @@ pub fn read_inputs<C: Command, S: Shelf, R: Read, W: Write>(
     match load_all(alloc, wanted.as_slice(), shelf, reader) {
         Ok(inputs) => Ok(inputs),
         Err(fault) => Err(say_unread(&fault, out)),
+    }
+}
+
+/// As `read_inputs`, of a command that keeps a file under a name: once its inputs are read it is tried whether one can be kept
+/// there. Where that fails, it is said, and the run has ended before anything is checked or made.
+pub fn read_inputs_and_try<C: Command, S: Shelf, R: Read, W: Write>(
+    alloc: Global,
+    command: &C,
+    name: &str,
+    shelf: &mut S,
+    reader: &mut R,
+    out: &mut W,
+) -> Result<Vec<Vec<u8>>, Status>
+    requires { C.keeps_under command.now ≡ Some name.now }
+    ensures read { IfOk result (λ inputs. AreRead (S.held shelf.old) (R.remaining reader.old) (C.wanted command.now) (all_bytes inputs.items)) }
+    ensures count { IfOk result (λ inputs. length inputs.items ≡ length (C.wanted command.now)) }
+    ensures behind { OnOk result (IsAsTold (left_by_all (R.remaining reader.old) (C.wanted command.now)) (R.remaining reader.new)) }
+    ensures silent { OnOk result (W.contents out.new ≡ W.contents out.old) }
+    ensures ends { IfErr result (λ status. Ends (plan_under (C.keeps_under command.now) (C.wanted command.now) (C.MayReply command.now) (C.TakesMemory command.now))
+        (world (S.held shelf.old) (S.has_failed shelf.old) (R.remaining reader.old) (W.contents out.old))
+        (world (S.held shelf.new) (S.has_failed shelf.new) (R.remaining reader.new) (W.contents out.new)) status) }
+    ensures calm { OnOk result (S.has_failed shelf.new ≡ S.has_failed shelf.old) }
+    ensures same { S.held shelf.new ≡ S.held shelf.old }
+{
+    let inputs = read_inputs(alloc, command, shelf, reader, out)?;
+    match shelf.try_keep(alloc, name) {
+        Ok(()) => Ok(inputs),
+        Err(why) => Err(say_unkept(name, why, out)),
     }
 }
 
@@ -84,7 +113,8 @@ pub fn keep_and_conclude<C: Command, S: Shelf, W: Write>(
     ensures { (inputs : List (List ℕ)) (old new : World) → IsAnswerBy (C.MayReply command.now inputs) (C.TakesMemory command.now inputs) answer.now
         → AreRead old.files old.reader (C.wanted command.now) inputs
         → IsAsTold (left_by_all old.reader (C.wanted command.now)) new.reader
-        → S.held shelf.old ≡ old.files → S.held shelf.new ≡ new.files → S.has_failed shelf.new ≡ new.failed
+        → S.held shelf.old ≡ old.files → S.held shelf.new ≡ new.files
+        → S.has_failed shelf.old ≡ old.failed → S.has_failed shelf.new ≡ new.failed
         → W.contents out.old ≡ old.written → W.contents out.new ≡ new.written
         → Ends (plan_under (C.keeps_under command.now) (C.wanted command.now) (C.MayReply command.now) (C.TakesMemory command.now)) old new result }
 {
@@ -108,6 +138,7 @@ fn keep_made<S: Shelf>(
     ensures made { OnErr result ((file : List ℕ) × (kept_of answer.now ≡ Some file)) }
     ensures others { OnErr result (KeepsOthers (S.held shelf.old) (S.held shelf.new) name.now) }
     ensures failed { IsErrOf result KeepFault.F3 → S.has_failed shelf.new ≡ true }
+    ensures calm { OnOk result (S.has_failed shelf.new ≡ S.has_failed shelf.old) }
 {
     match &answer.made {
         Some(made) if answer.is_yes => shelf.keep(alloc, name, made.as_slice()),
@@ -142,9 +173,9 @@ fn say_unread<W: Write>(fault: &Unread<'_>, out: &mut W) -> Status
     }
 }
 
-/// Says that a file was not kept under its name.
+/// Says that nothing is kept under a name.
 fn say_unkept<W: Write>(name: &str, why: KeepFault, out: &mut W) -> Status
-    ensures { let outcome = unkept name.now why in Says (text_of outcome) (status_of outcome) (W.contents out.old) (W.contents out.new) result }
+    ensures { Says (unkept_text name.now why) (unkept_status why) (W.contents out.old) (W.contents out.new) result }
 {
     match why {
         KeepFault::F3 => say_named("fault write ", name, out),

@@ -1,5 +1,5 @@
 -- An exact table has a folded one.
-use Rattle.std.proofs.Common.{◌≢◌, ◌+◌, ℕ, zero, suc, List, [], ◌∷◌, ◌++◌, add-one, append-nil, append_assoc, inl, inr, min, refl, subst, sym}
+use Rattle.std.proofs.Common.{ℕ, zero, suc, List, [], ◌∷◌, ◌++◌, add-one, append-nil, append_assoc, inl, inr, min, refl, subst, sym}
 use Rattle.std.proofs.lemmas.Bool.{cases_eq}
 use Rattle.tab_file.specs.Tables.{Table, placement_count}
 use Rattle.tab_check.specs.ExactTables.{IsExactTable}

@@ -1,6 +1,6 @@
--- Claims on logs, by what stands before the log.
-use Rattle.std.proofs.Common.{◌≡◌, ◌≢◌, ◌∙◌, ◌≤◌, ◌-◌, ℕ, Bool, true, false, List, [], ◌∷◌, ◌++◌, Option, Some, None, Vec, Result, Ok, Err, ap, arith, get_or, inl, inr, length, map, refl, subst, sym, take}
-use Rattle.std.specs.Prelude.{◌==◌, if◌then◌else◌, option_map, slice_get, slice_range}
+-- Claims on logs: what stands before the log, and what is told of them.
+use Rattle.std.proofs.Common.{◌≡◌, ◌≢◌, ◌∙◌, ◌≤◌, ◌-◌, ℕ, Bool, true, false, List, [], ◌∷◌, ◌++◌, Option, Some, None, Vec, Result, Ok, Err, ap, arith, get_or, inl, inr, length, map, refl, subst, sym}
+use Rattle.std.specs.Prelude.{◌==◌, if◌then◌else◌, slice_get, slice_range}
 use Rattle.std.specs.declared.alloc.AllocError.{AllocError}
 use Rattle.std.proofs.lemmas.List.{take_all}
 use Rattle.puz_board.specs.BoardTexts.{board_of_text}
@@ -9,23 +9,24 @@ use Rattle.puz_board.specs.PuzzleTexts.{puzzle_parts}
 use Rattle.puz_board.specs.declared.replays.MoveFault.{MoveFault}
 use Rattle.puz_board.specs.declared.texts.BoardFault.{BoardFault}
 use Rattle.puz_board.proofs.SpellingLemmas.{spelled-board_of_text}
-use Rattle.set_sum.specs.Bundles.{BundleView}
 use Rattle.pdb_io.specs.Shelf.{Bytes}
 use Rattle.pdb_run.specs.Answers.{IsAnswerBy, all_bytes}
 use Rattle.pdb_run.specs.Writing.{digests_of}
 use Rattle.pdb_run.specs.declared.answers.Answer.{Answer}
-use Rattle.pdb_verdict.specs.Bound.{BoundTakesMemory, IsBoundFor, IsBoundReply, IsResultOfBoard, TakesMemoryForBound, of_bound}
+use Rattle.pdb_verdict.specs.Bound.{IsBoundFor, IsResultOfBoard, of_bound}
+use Rattle.pdb_verdict.specs.Claims.{ClaimTakesMemory, IsClaimOn, IsClaimReply, IsStartOf, claim_of, verdict_on}
 use Rattle.pdb_verdict.specs.Inputs.{Given, puzzle_text, table_file, bound_claim, optimum_claim}
 use Rattle.pdb_verdict.specs.Lines.{Tells, digested_of}
-use Rattle.pdb_verdict.specs.Optimal.{IsOptimumReply, IsResultOfPuzzle, OptimumTakesMemory, TakesMemoryForOptimum, of_halves, solved_board, solved_by, solved_parts}
+use Rattle.pdb_verdict.specs.Optimal.{IsResultOfPuzzle, of_halves, solved_board, solved_by, solved_parts}
 use Rattle.pdb_verdict.specs.Replay.{of_board, of_moves, of_parts}
-use Rattle.pdb_verdict.specs.Steps.{IsCauseForBundle, IsFoundFor, IsFoldedBoard, IsFoldedPuzzle, IsFoundOver, IsStartOfBoard, IsStartOfPuzzle}
+use Rattle.pdb_verdict.specs.Steps.{IsCauseForBundle, IsFoundFor}
 use Rattle.pdb_verdict.specs.Verdicts.{IsAnswerTo, IsResult, TakesMemory}
+use Rattle.pdb_verdict.specs.declared.claims.Claimed.{Claimed}
+use Rattle.pdb_verdict.specs.declared.claims.Claimed.TheVariants.{Bound, Optimum}
 use Rattle.pdb_verdict.specs.declared.verdicts.Fault.{Fault}
 use Rattle.pdb_verdict.specs.declared.verdicts.Fault.TheVariants as fault
 use Rattle.pdb_verdict.specs.declared.verdicts.Verdict.{Verdict}
 use Rattle.pdb_verdict.specs.declared.verdicts.Verdict.TheVariants as verdict
-use Rattle.pdb_verdict.proofs.BoundLemmas.{found_over}
 use Rattle.pdb_verdict.proofs.OptimumLemmas.{found_answers}
 use Rattle.pdb_verdict.proofs.ReplayLemmas.{no_yes}
 
@@ -38,18 +39,25 @@ only_input f (x ∷ []) a one is = λ i. f (sym is i) ∷ []
 only_input f (x ∷ y ∷ rest) a one is = absurd (omega arith)
 
 -- the first three of a row, and what is behind them
-pub claim_order : {A : Type 0} (f : A → Bytes) (xs : List A) (a b c : A) → 3 ≤ length xs → a ≡ get_or xs 0 a → b ≡ get_or xs 1 b → c ≡ get_or xs 2 c
-    → map f xs ≡ f a ∷ f b ∷ f c ∷ map f (slice_range xs 3 (length xs))
-claim_order f [] a b c some is_a is_b is_c = absurd (omega arith)
-claim_order f (x ∷ []) a b c some is_a is_b is_c = absurd (omega arith)
-claim_order f (x ∷ y ∷ []) a b c some is_a is_b is_c = absurd (omega arith)
-claim_order f (x ∷ y ∷ z ∷ rest) a b c some is_a is_b is_c =
-    let all : take (length (x ∷ y ∷ z ∷ rest) - 3) rest ≡ rest = take_all (length (x ∷ y ∷ z ∷ rest) - 3) rest (omega arith) in
-    let first = sym is_a in
-    let second = sym is_b in
-    let third = sym is_c in
-    let behind = sym all in
-    λ i. f (first i) ∷ f (second i) ∷ f (third i) ∷ map f (behind i)
+pub claim_order : {A : Type 0} (f : A → Bytes) (xs : List A) (a b c : A) (text sets log : Bytes) → 3 ≤ length xs → a ≡ get_or xs 0 a → b ≡ get_or xs 1 b → c ≡ get_or xs 2 c
+    → text ≡ f a → sets ≡ f b → log ≡ f c → map f xs ≡ text ∷ sets ∷ log ∷ map f (slice_range xs 3 (length xs))
+claim_order f [] a b c text sets log some is_a is_b is_c text_is sets_is log_is = absurd (omega arith)
+claim_order f (x ∷ []) a b c text sets log some is_a is_b is_c text_is sets_is log_is = absurd (omega arith)
+claim_order f (x ∷ y ∷ []) a b c text sets log some is_a is_b is_c text_is sets_is log_is = absurd (omega arith)
+claim_order f (x ∷ y ∷ z ∷ rest) a b c text sets log some is_a is_b is_c text_is sets_is log_is =
+    let first = sym (text_is ∙ ap f is_a) in
+    let second = sym (sets_is ∙ ap f is_b) in
+    let third = sym (log_is ∙ ap f is_c) in
+    let behind = sym (take_all (length (x ∷ y ∷ z ∷ rest) - 3) rest (omega arith)) in
+    λ i. first i ∷ second i ∷ third i ∷ map f (behind i)
+
+-- the first three, where each was taken out in turn
+pub taken_order : {Z : Type 0} (xs ys zs rest : List (Vec ℕ Z)) (a b c : Vec ℕ Z) (sets log : Bytes) → xs ≡ a ∷ ys → ys ≡ b ∷ zs → zs ≡ c ∷ rest
+    → sets ≡ b.items → log ≡ c.items → all_bytes xs ≡ a.items ∷ sets ∷ log ∷ all_bytes rest
+taken_order xs ys zs rest a b c sets log xs_are ys_are zs_are sets_is log_is =
+    let second = sym sets_is in
+    let third = sym log_is in
+    ap all_bytes (xs_are ∙ ap (λ r. a ∷ r) (ys_are ∙ ap (λ r. b ∷ r) zs_are)) ∙ (λ i. a.items ∷ second i ∷ third i ∷ all_bytes rest)
 
 -- ---- want of memory is no result
 
@@ -146,61 +154,50 @@ board_answers fold text sets log tables board found spelt is = elim is [
   | inr lacks ↦ inr (record { board = board; spelt = spelled-board_of_text text board spelt; tables_take = lacks.0 }, ap of_bound lacks.1)
 ]
 
-module _ (text sets : Bytes) (tables : List Bytes) where
-  pub no_board : (refused : BoardFault) → board_of_text text ≡ Err refused → IsStartOfBoard text sets tables (Err (fault.Board refused))
-  no_board refused is = λ log. inl (subst (λ r. IsResultOfBoard true r sets log tables (Err (fault.Board refused))) (sym is) refl)
+-- ---- claims of both kinds
 
-  pub no_bundle : (board : List ℕ) (cause : Fault) → board_of_text text ≡ Ok board → IsCauseForBundle true cause tables sets → IsStartOfBoard text sets tables (Err cause)
-  no_bundle board cause spelt is = λ log. board_answers true text sets log tables board (Err cause) spelt (cause_found true board sets log tables cause is)
+-- what is found for the board of a claim makes the answer to it
+pub start_answers : (claimed : Claimed) (fold : Bool) (text sets log : Bytes) (tables : List Bytes) (board : List ℕ) (moves : Option ℕ) (found : Result ℕ Fault)
+    → IsStartOf claimed text board moves → IsFoundFor fold board sets log tables found → IsAnswerTo (claim_of claimed fold text sets log tables) (verdict_on moves found)
+start_answers Bound fold text sets log tables board None found is found_for = board_answers fold text sets log tables board found is found_for
+start_answers Bound fold text sets log tables board (Some n) found is found_for = absurd is
+start_answers Optimum fold text sets log tables board None found is found_for = absurd is
+start_answers Optimum fold text sets log tables board (Some n) found is found_for = found_answers fold text sets log tables board n found is found_for
 
-  pub start_answers : (board : List ℕ) (bundle : BundleView) (log : Bytes) (found : Result ℕ Fault) → IsStartOfBoard text sets tables (Ok (board, bundle))
-      → IsFoundOver bundle board log found → IsAnswerTo (bound_claim true text sets log tables) (of_bound found)
-  start_answers board bundle log found start is = board_answers true text sets log tables board found start.0 (found_over true board sets log tables bundle start.1 found is)
+claim_digests : (claimed : Claimed) (fold : Bool) (text sets log : Bytes) (tables : List Bytes) → digested_of (claim_of claimed fold text sets log tables) ≡ tables ++ log ∷ []
+claim_digests Bound fold text sets log tables = refl
+claim_digests Optimum fold text sets log tables = refl
 
-module _ (puzzle sets : Bytes) (tables : List Bytes) where
-  pub no_puzzle : (refused : Fault) → solved_parts (puzzle_parts puzzle) ≡ Err refused → IsStartOfPuzzle puzzle sets tables (Err refused)
-  no_puzzle refused is = λ log. inl (subst (λ r. IsResultOfPuzzle true r sets log tables (Err refused)) (sym is) refl)
+-- inputs in their order make the claim
+pub claim_on : (claimed own : Claimed) (fold : Bool) (inputs : List Bytes) (text sets log : Bytes) (tables : List Bytes) → claimed ≡ own → inputs ≡ text ∷ sets ∷ log ∷ tables
+    → IsClaimOn claimed fold inputs (claim_of own fold text sets log tables)
+claim_on claimed own fold inputs text sets log tables same order =
+    subst (λ k. IsClaimOn k fold inputs (claim_of own fold text sets log tables)) (sym same)
+    (subst (λ files. IsClaimOn own fold files (claim_of own fold text sets log tables)) (sym order) refl)
 
-  pub no_bundle_of_puzzle : (board : List ℕ) (n : ℕ) (cause : Fault) → solved_parts (puzzle_parts puzzle) ≡ Ok (board, n) → IsCauseForBundle true cause tables sets
-      → IsStartOfPuzzle puzzle sets tables (Err cause)
-  no_bundle_of_puzzle board n cause solved is = λ log. found_answers true puzzle sets log tables board n (Err cause) solved (cause_found true board sets log tables cause is)
+module _ (told : Result Answer AllocError) where
+  abbrev IsTold : Given → Type 0
+  IsTold claim = IsAnswerBy (Tells claim (IsResult claim)) (TakesMemory claim) told
 
-  pub puzzle_answers : (board : List ℕ) (n : ℕ) (bundle : BundleView) (log : Bytes) (found : Result ℕ Fault) → IsStartOfPuzzle puzzle sets tables (Ok ((board, n), bundle))
-      → IsFoundOver bundle board log found → IsAnswerTo (optimum_claim true puzzle sets log tables) (of_halves n found)
-  puzzle_answers board n bundle log found start is =
-      found_answers true puzzle sets log tables board n found start.0 (found_over true board sets log tables bundle start.1 found is)
+  -- what is told of a claim is told of its inputs
+  pub claim_told : (claimed : Claimed) (fold : Bool) (inputs : List Bytes) (claim : Given) → IsClaimOn claimed fold inputs claim
+      → IsAnswerBy (Tells claim (IsResult claim)) (TakesMemory claim) told → IsAnswerBy (IsClaimReply claimed fold inputs) (ClaimTakesMemory claimed inputs) told
+  claim_told claimed fold [] claim is tells = absurd is
+  claim_told claimed fold (text ∷ []) claim is tells = absurd is
+  claim_told claimed fold (text ∷ sets ∷ []) claim is tells = absurd is
+  claim_told Bound fold (text ∷ sets ∷ log ∷ tables) claim is tells = subst IsTold is tells
+  claim_told Optimum fold (text ∷ sets ∷ log ∷ tables) claim is tells = subst IsTold is tells
 
--- ---- of a claim whose tables were given up
-
--- the third of some inputs, of which three are left
-pub third_kept : {A : Type 0} (xs : List (Vec ℕ A)) (v : Vec ℕ A) → slice_get (take 3 xs) 2 ≡ Some v → slice_get (all_bytes xs) 2 ≡ Some v.items
-third_kept [] v is = let e : _ = is in cc
-third_kept (x ∷ []) v is = let e : _ = is in cc
-third_kept (x ∷ y ∷ []) v is = let e : _ = is in cc
-third_kept (x ∷ y ∷ z ∷ rest) v is = ap (option_map (λ w. w.items)) is
-
-module _ (fold : Bool) (folds : fold ≡ true) (digests log : Bytes) (answer : Result Verdict Fault) (told : Result Answer AllocError)
-    (tells : (inputs : Given) → digests ≡ digests_of (digested_of inputs) → IsAnswerTo inputs answer → IsAnswerBy (Tells inputs (IsResult inputs)) (TakesMemory inputs) told) where
-  pub folded_board : (start : Result (List ℕ × BundleView) Fault)
-      → ((text sets : Bytes) (tables : List Bytes) → IsStartOfBoard text sets tables start → IsAnswerTo (bound_claim true text sets log tables) answer)
-      → (files : List Bytes) → slice_get files 2 ≡ Some log → IsFoldedBoard files digests start → IsAnswerBy (IsBoundReply fold files) (BoundTakesMemory files) told
-  folded_board start answers [] third is = absurd is
-  folded_board start answers (text ∷ []) third is = absurd is
-  folded_board start answers (text ∷ sets ∷ []) third is = absurd is
-  folded_board start answers (text ∷ sets ∷ l ∷ tables) third is =
-      let same : log ≡ l = (let e : Some l ≡ Some log = third in cc) in
-      subst (λ (b : Bool). IsAnswerBy (IsBoundReply b (text ∷ sets ∷ l ∷ tables)) (TakesMemoryForBound text tables) told) (sym folds)
-      (subst (λ (l : Bytes). IsAnswerBy (IsBoundReply true (text ∷ sets ∷ l ∷ tables)) (TakesMemoryForBound text tables) told) same
-      (tells (bound_claim true text sets log tables) (is.0 ∙ ap (λ (l : Bytes). digests_of (tables ++ l ∷ [])) (sym same)) (answers text sets tables is.1)))
-
-  pub folded_puzzle : (start : Result ((List ℕ × ℕ) × BundleView) Fault)
-      → ((puzzle sets : Bytes) (tables : List Bytes) → IsStartOfPuzzle puzzle sets tables start → IsAnswerTo (optimum_claim true puzzle sets log tables) answer)
-      → (files : List Bytes) → slice_get files 2 ≡ Some log → IsFoldedPuzzle files digests start → IsAnswerBy (IsOptimumReply fold files) (OptimumTakesMemory files) told
-  folded_puzzle start answers [] third is = absurd is
-  folded_puzzle start answers (puzzle ∷ []) third is = absurd is
-  folded_puzzle start answers (puzzle ∷ sets ∷ []) third is = absurd is
-  folded_puzzle start answers (puzzle ∷ sets ∷ l ∷ tables) third is =
-      let same : log ≡ l = (let e : Some l ≡ Some log = third in cc) in
-      subst (λ (b : Bool). IsAnswerBy (IsOptimumReply b (puzzle ∷ sets ∷ l ∷ tables)) (TakesMemoryForOptimum puzzle tables) told) (sym folds)
-      (subst (λ (l : Bytes). IsAnswerBy (IsOptimumReply true (puzzle ∷ sets ∷ l ∷ tables)) (TakesMemoryForOptimum puzzle tables) told) same
-      (tells (optimum_claim true puzzle sets log tables) (is.0 ∙ ap (λ (l : Bytes). digests_of (tables ++ l ∷ [])) (sym same)) (answers puzzle sets tables is.1)))
+  -- so is what is told of it once its tables were given up
+  pub folded_told : (claimed : Claimed) (fold : Bool) (inputs : List Bytes) (text sets log digests : Bytes) (tables : List Bytes) (board : List ℕ) (moves : Option ℕ) (found : Result ℕ Fault)
+      → fold ≡ true → inputs ≡ text ∷ sets ∷ log ∷ tables → (t : Bytes) × (slice_get inputs 0 ≡ Some t) × IsStartOf claimed t board moves
+      → digests ≡ digests_of (tables ++ log ∷ []) → IsFoundFor true board sets log tables found
+      → ((claim : Given) → digests ≡ digests_of (digested_of claim) → IsAnswerTo claim (verdict_on moves found) → IsAnswerBy (Tells claim (IsResult claim)) (TakesMemory claim) told)
+      → IsAnswerBy (IsClaimReply claimed fold inputs) (ClaimTakesMemory claimed inputs) told
+  folded_told claimed fold inputs text sets log digests tables board moves found folds order start digested found_for tells =
+      let same : start.0 ≡ text = (let e : Some start.0 ≡ Some text = sym start.1 ∙ ap (λ files. slice_get files 0) order in cc) in
+      let is = subst (λ t. IsStartOf claimed t board moves) same start.2 in
+      let claim = claim_of claimed true text sets log tables in
+      subst (λ b. IsAnswerBy (IsClaimReply claimed b inputs) (ClaimTakesMemory claimed inputs) told) (sym folds)
+      (claim_told claimed true inputs claim (claim_on claimed claimed true inputs text sets log tables refl order)
+      (tells claim (digested ∙ ap digests_of (sym (claim_digests claimed true text sets log tables))) (start_answers claimed true text sets log tables board moves found is found_for)))

@@ -1,5 +1,6 @@
 pub mod Bound
 pub mod Bundles
+pub mod Claims
 pub mod Inputs
 pub mod Laws
 pub mod Limits

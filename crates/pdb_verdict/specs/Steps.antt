@@ -1,9 +1,8 @@
 -- What the steps of a check of a log answer: a result, or want of memory in its place.
 use Rattle.std.specs.Prelude.{◌≡◌, ◌⊎◌, ℕ, Bool, true, List, [], ◌∷◌, ◌++◌, Result, Ok, Err}
-use Rattle.puz_board.specs.BoardTexts.{board_of_text}
-use Rattle.puz_board.specs.PuzzleTexts.{puzzle_parts}
 use Rattle.tab_file.specs.TableFiles.{IsTableFile}
 use Rattle.tab_file.specs.Tables.{Table}
+use Rattle.tab_check.specs.ExactTables.{IsExactFile}
 use Rattle.tab_check.specs.TableFaults.{IsFaultOf}
 use Rattle.set_sum.specs.Bundles.{BundleView}
 use Rattle.set_sum.specs.declared.parts.Part.{Part}
@@ -12,15 +11,20 @@ use Rattle.log_file.specs.Logs.{Log}
 use Rattle.log_check.specs.GoodLogs.{IsGoodFile}
 use Rattle.log_check.specs.LogFaults as log_fault
 use Rattle.pdb_io.specs.Shelf.{Bytes}
-use Rattle.pdb_run.specs.Writing.{digests_of}
 use Rattle.pdb_verdict.specs.Bound.{IsBoundFor}
-use Rattle.pdb_verdict.specs.Bundles.{AreExactFiles, AreRefusedSets, IsBundleOfFiles, IsFirstRefused, TakesMemoryForTables, parts_for}
-use Rattle.pdb_verdict.specs.Inputs.{bound_claim, optimum_claim}
-use Rattle.pdb_verdict.specs.Optimal.{of_halves, solved_parts}
-use Rattle.pdb_verdict.specs.Verdicts.{IsAnswerTo}
+use Rattle.pdb_verdict.specs.Bundles.{AreExactFiles, AreRefusedSets, IsFirstRefused, TakesMemoryForTables, part_for, parts_for}
+use Rattle.pdb_verdict.specs.Optimal.{of_halves}
 use Rattle.pdb_verdict.specs.declared.verdicts.Fault.{Fault}
 use Rattle.pdb_verdict.specs.declared.verdicts.Fault.TheVariants as fault
 use Rattle.pdb_verdict.specs.declared.verdicts.Verdict.{Verdict}
+
+-- the part is the exact table of the file, folded or full
+abbrev pub IsPartOf : Bool → Bytes → Part → Type 0
+IsPartOf fold file part = (table : Table) × IsExactFile table file × (part ≡ part_for fold table)
+
+-- the parts after one file more, whose table is folded
+abbrev pub HasOneMore : List Part → Bytes → List Part → Type 0
+HasOneMore before file after = (part : Part) × IsPartOf true file part × (after ≡ before ++ part ∷ [])
 
 -- the parts are the exact tables of all files, folded or full
 pub record ArePartsOf (fold : Bool) (files : List Bytes) (parts : List Part) : Type 0 where
@@ -44,25 +48,6 @@ IsCauseForTables cause files = ⊥
 abbrev pub IsCauseForBundle : Bool → Fault → List Bytes → Bytes → Type 0
 IsCauseForBundle fold (fault.Sets refused) files sets = AreRefusedSets fold files sets refused
 IsCauseForBundle fold cause files sets = IsCauseForTables cause files
-
--- a board that the text spells and the bundle of folded tables, or the answer to the claim, whatever its log is
-abbrev pub IsStartOfBoard : Bytes → Bytes → List Bytes → Result (List ℕ × BundleView) Fault → Type 0
-IsStartOfBoard text sets tables (Ok start) = (board_of_text text ≡ Ok start.0) × IsBundleOfFiles true tables sets start.1
-IsStartOfBoard text sets tables (Err cause) = (log : Bytes) → IsAnswerTo (bound_claim true text sets log tables) (Err cause)
-
--- the same of a puzzle: a board, how many moves solve it, and the bundle
-abbrev pub IsStartOfPuzzle : Bytes → Bytes → List Bytes → Result ((List ℕ × ℕ) × BundleView) Fault → Type 0
-IsStartOfPuzzle puzzle sets tables (Ok start) = (solved_parts (puzzle_parts puzzle) ≡ Ok start.0) × IsBundleOfFiles true tables sets start.1
-IsStartOfPuzzle puzzle sets tables (Err cause) = (log : Bytes) → IsAnswerTo (optimum_claim true puzzle sets log tables) (Err cause)
-
--- of the inputs of a claim in their order: such a start, and beside it the digest lines of the tables and the log
-abbrev pub IsFoldedBoard : List Bytes → Bytes → Result (List ℕ × BundleView) Fault → Type 0
-IsFoldedBoard (text ∷ sets ∷ log ∷ tables) digests start = (digests ≡ digests_of (tables ++ log ∷ [])) × IsStartOfBoard text sets tables start
-IsFoldedBoard inputs digests start = ⊥
-
-abbrev pub IsFoldedPuzzle : List Bytes → Bytes → Result ((List ℕ × ℕ) × BundleView) Fault → Type 0
-IsFoldedPuzzle (puzzle ∷ sets ∷ log ∷ tables) digests start = (digests ≡ digests_of (tables ++ log ∷ [])) × IsStartOfPuzzle puzzle sets tables start
-IsFoldedPuzzle inputs digests start = ⊥
 
 -- the bound for a board over a bundle, or why there is none, or want of memory, which comes of log files alone
 abbrev pub IsFoundOver : BundleView → List ℕ → Bytes → Result ℕ Fault → Type 0

@@ -1,10 +1,11 @@
 //! Bundles of table files and a set text.
 
-ghost use Rattle.std.specs.Prelude.{false, true, IfErr, IfOk};
+ghost use Rattle.std.specs.Prelude.{true, IfErr, IfOk};
 ghost use Rattle.tab_check.specs.ExactTables.{IsExactFile};
+ghost use Rattle.set_sum.specs.declared.parts.Part.TheVariants.{Folded};
 ghost use Rattle.pdb_run.specs.Answers.{all_bytes};
 ghost use Rattle.pdb_verdict.specs.Bundles.{IsBundleOfFiles};
-ghost use Rattle.pdb_verdict.specs.Steps.{ArePartsOf, IsCauseForBundle, IsCauseForFile, IsCauseForTables};
+ghost use Rattle.pdb_verdict.specs.Steps.{ArePartsOf, IsCauseForBundle, IsCauseForFile, IsCauseForTables, IsPartOf};
 
 use crate::verdicts::Fault;
 use crate::workers::Workers;
@@ -12,7 +13,7 @@ use set_sum::{Bundle, Part};
 use std::alloc::Global;
 use std::sync::Wait;
 use std::thread::Threads;
-use tab_check::{CheckedTable, TableFault, fold};
+use tab_check::{CheckedTable, FoldedTable, TableFault, fold};
 use tab_runs::check_table;
 use work_run::Gate;
 
@@ -34,67 +35,64 @@ pub fn read_bundle<'a, H: Threads + Wait, G: Gate + Sync>(
     ensures ok { IfOk result (λ bundle. IsBundleOfFiles tables.entry.fold (all_bytes tables.entry.files.now) sets.now bundle) }
     ensures err { IfErr result (λ fault. IsCauseForBundle tables.entry.fold fault (all_bytes tables.entry.files.now) sets.now) }
 {
-    if tables.fold {
-        return fold_bundle(alloc, tables.files, sets, workers);
-    }
-    let parts = check_tables(alloc, tables.files, workers)?;
+    let parts = parts_of(alloc, tables, workers)?;
     Bundle::read(parts, sets).map_err(Fault::Sets)
 }
 
-/// The same with folded tables, which need the files no longer.
-pub fn fold_bundle<'x, H: Threads + Wait, G: Gate + Sync>(
+/// The part for each file, one after the other. No memory is taken before the first file's header stands.
+fn parts_of<'a, H: Threads + Wait, G: Gate + Sync>(
     alloc: Global,
-    files: &[Vec<u8>],
-    sets: &[u8],
-    workers: &Workers<'_, H, G>,
-) -> Result<Bundle<'x>, Fault>
-    ensures ok { IfOk result (λ bundle. IsBundleOfFiles true (all_bytes files.now) sets.now bundle) }
-    ensures err { IfErr result (λ fault. IsCauseForBundle true fault (all_bytes files.now) sets.now) }
-{
-    let parts = fold_tables(alloc, files, workers)?;
-    Bundle::read(parts, sets).map_err(Fault::Sets)
-}
-
-/// The table of each file, checked one after the other, with the slots of its placements, since many boards are looked up in
-/// it. No memory is taken before the first file's header stands.
-fn check_tables<'a, H: Threads + Wait, G: Gate + Sync>(
-    alloc: Global,
-    files: &'a [Vec<u8>],
+    tables: Tables<'a>,
     workers: &Workers<'_, H, G>,
 ) -> Result<Vec<Part<'a>>, Fault>
-    ensures ok { IfOk result (λ parts. ArePartsOf false (all_bytes files.now) parts.items) }
-    ensures err { IfErr result (λ fault. IsCauseForTables fault (all_bytes files.now)) }
+    ensures ok { IfOk result (λ parts. ArePartsOf tables.entry.fold (all_bytes tables.entry.files.now) parts.items) }
+    ensures err { IfErr result (λ fault. IsCauseForTables fault (all_bytes tables.entry.files.now)) }
 {
+    let Tables { files, fold } = tables;
     let mut parts = Vec::new(alloc);
     for file in files {
-        let table = check_file(alloc, parts.len(), file.as_slice(), workers)?;
-        if parts.push(Part::Full(table.with_slots(alloc))).is_err() {
+        let part = part_of(alloc, parts.len(), file.as_slice(), fold, workers)?;
+        if parts.push(part).is_err() {
             return Err(Fault::Memory);
         }
     }
     Ok(parts)
 }
 
-/// The same, each folded before the next is checked.
-fn fold_tables<'x, H: Threads + Wait, G: Gate + Sync>(
+/// The part for the file with this number: folded, or with the slots of its placements, since many boards are looked up in it.
+fn part_of<'a, H: Threads + Wait, G: Gate + Sync>(
     alloc: Global,
-    files: &[Vec<u8>],
+    number: usize,
+    file: &'a [u8],
+    fold: bool,
     workers: &Workers<'_, H, G>,
-) -> Result<Vec<Part<'x>>, Fault>
-    ensures ok { IfOk result (λ parts. ArePartsOf true (all_bytes files.now) parts.items) }
-    ensures err { IfErr result (λ fault. IsCauseForTables fault (all_bytes files.now)) }
+) -> Result<Part<'a>, Fault>
+    ensures ok { IfOk result (IsPartOf fold file.now) }
+    ensures err { IfErr result (λ cause. IsCauseForFile cause number file.now) }
 {
-    let mut parts = Vec::new(alloc);
-    for file in files {
-        let table = check_file(alloc, parts.len(), file.as_slice(), workers)?;
-        let Ok(folded) = fold(alloc, &table) else {
-            return Err(Fault::Memory);
-        };
-        if parts.push(Part::Folded(folded)).is_err() {
-            return Err(Fault::Memory);
-        }
+    if fold {
+        let folded = fold_file(alloc, number, file, workers)?;
+        return Ok(Part::Folded(folded));
     }
-    Ok(parts)
+    let table = check_file(alloc, number, file, workers)?;
+    Ok(Part::Full(table.with_slots(alloc)))
+}
+
+/// The folded table of the file with this number, which is needed no longer.
+pub(crate) fn fold_file<H: Threads + Wait, G: Gate + Sync>(
+    alloc: Global,
+    number: usize,
+    file: &[u8],
+    workers: &Workers<'_, H, G>,
+) -> Result<FoldedTable, Fault>
+    ensures ok { IfOk result (λ folded. IsPartOf true file.now (Folded folded)) }
+    ensures err { IfErr result (λ cause. IsCauseForFile cause number file.now) }
+{
+    let table = check_file(alloc, number, file, workers)?;
+    match fold(alloc, &table) {
+        Ok(folded) => Ok(folded),
+        Err(_) => Err(Fault::Memory),
+    }
 }
 
 /// The table of the file with this number.

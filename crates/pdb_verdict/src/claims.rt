@@ -1,13 +1,33 @@
-//! The inputs of a claim on a log.
+//! Claims on logs, of `bound` and of `optimal`, and the commands that check them.
 
-ghost use Rattle.std.specs.Prelude.{◌≡◌, ◌++◌, IfOk, OnOk, map};
-ghost use Rattle.pdb_run.specs.Inputs.{wanted_of};
+ghost use Rattle.std.specs.Prelude.{◌≡◌, ◌≤◌, ◌<◌, ◌∷◌, ◌++◌, ◌+◌, ℕ, List, Some, true, length, map, slice_get, IfSome, OnOk};
+ghost use Rattle.pdb_run.specs.Answers.{IsAnswerBy, all_bytes};
+ghost use Rattle.pdb_run.specs.Inputs.{AreRead, IsAsTold, left_by_all, wanted_of};
+ghost use Rattle.pdb_run.specs.Runs.{Ends, World, world};
 ghost use Rattle.pdb_verdict.specs.Bound.{bound_inputs};
+ghost use Rattle.pdb_verdict.specs.Claims.{ClaimTakesMemory, IsClaimOn, IsClaimReply, IsStartOf, claim_plan, verdict_on};
+ghost use Rattle.pdb_verdict.specs.Inputs.{given};
 ghost use Rattle.pdb_verdict.specs.Limits.{a_table};
 
+use crate::bound::bound_of_files;
+use crate::inputs::Inputs;
 use crate::limits::{a_log, a_table, a_text};
-use pdb_run::Input;
+use crate::optimal::compare;
+use crate::replay::solved_board;
+use crate::reports::{digested_by, told_or_memory, verify_beside};
+use crate::verdicts::{Fault, Verdict};
+use crate::workers::Workers;
+use pdb_io::shelf::Shelf;
+use pdb_run::{Answer, Command, Digested, FILES_BESIDE, Input, Status, conclude, read_inputs};
+use puz_board::Board;
 use std::alloc::{AllocError, Global};
+use std::io::{Read, Write};
+use std::sync::Wait;
+use std::thread::Threads;
+use work_run::Gate;
+
+/// How many inputs of a claim come before its tables: a text, a set text and a log.
+const BEFORE_TABLES: usize = 3;
 
 /// The names of the inputs of a claim on a log, in the order in which they are read, and how its tables are held.
 #[derive(Clone, Copy)]
@@ -24,20 +44,37 @@ pub struct ClaimNames<'t, 'n> {
     pub fold: bool,
 }
 
-/// The inputs under these names.
-pub(crate) fn claim_inputs<'t, 'n>(
-    alloc: Global,
-    names: &ClaimNames<'t, 'n>,
-) -> Result<Vec<Input<'n>>, AllocError>
-    ensures { IfOk result (λ inputs. map wanted_of inputs.items
-        ≡ bound_inputs names.now.text.now names.now.sets.now names.now.log.now (map (λ name. name.now) names.now.tables.now)) }
-{
-    let mut inputs = Vec::new(alloc);
-    inputs.push(a_text(Some(names.text)))?;
-    inputs.push(a_text(Some(names.sets)))?;
-    inputs.push(a_log(names.log))?;
-    push_tables(&mut inputs, names.tables)?;
-    Ok(inputs)
+/// What is claimed of a log.
+#[derive(Clone, Copy)]
+pub(crate) enum Claimed {
+    /// That it proves a bound for the board of a board text.
+    Bound,
+    /// That it proves the moves of a puzzle text to be the fewest.
+    Optimum,
+}
+
+/// A command that checks a claim on the log under these names.
+#[derive(Clone, Copy)]
+pub(crate) struct Claim<'t, 'n> {
+    pub(crate) claimed: Claimed,
+    pub(crate) names: ClaimNames<'t, 'n>,
+}
+
+impl Command for Claim<'_, '_> {
+    ghost wanted = { λ claim. bound_inputs claim.names.text.now claim.names.sets.now claim.names.log.now (map (λ name. name.now) claim.names.tables.now) };
+
+    ghost MayReply = { λ claim. IsClaimReply claim.claimed claim.names.fold };
+
+    ghost TakesMemory = { λ claim. ClaimTakesMemory claim.claimed };
+
+    fn inputs(&self, alloc: Global) -> Result<Vec<Input<'_>>, AllocError> {
+        let mut inputs = Vec::new(alloc);
+        inputs.push(a_text(Some(self.names.text)))?;
+        inputs.push(a_text(Some(self.names.sets)))?;
+        inputs.push(a_log(self.names.log))?;
+        push_tables(&mut inputs, self.names.tables)?;
+        Ok(inputs)
+    }
 }
 
 /// Adds the table files under these names.
@@ -48,4 +85,154 @@ pub fn push_tables<'n>(inputs: &mut Vec<Input<'n>>, names: &[&'n str]) -> Result
         inputs.push(a_table(name))?;
     }
     Ok(())
+}
+
+/// A whole run of such a command, whoever checks the tables and the log.
+pub(crate) fn run_claim<H: Threads + Wait + Sync, G: Gate + Sync, S: Shelf, R: Read, W: Write>(
+    alloc: Global,
+    claim: &Claim<'_, '_>,
+    workers: &Workers<'_, H, G>,
+    shelf: &mut S,
+    reader: &mut R,
+    out: &mut W,
+) -> Status
+    ensures { let names = claim.now.names in Ends (claim_plan claim.now.claimed names.fold names.text.now names.sets.now names.log.now (map (λ name. name.now) names.tables.now))
+        (world (S.held shelf.old) (S.has_failed shelf.old) (R.remaining reader.old) (W.contents out.old))
+        (world (S.held shelf.new) (S.has_failed shelf.new) (R.remaining reader.new) (W.contents out.new)) result }
+{
+    let inputs = match read_inputs(alloc, claim, shelf, reader, out) {
+        Ok(inputs) => inputs,
+        Err(status) => return status,
+    };
+    if claim.names.fold {
+        return conclude_folded(alloc, claim, inputs, workers, out);
+    }
+    let answer = answer_claim(alloc, claim, inputs.as_slice(), workers);
+    conclude(claim, &answer, out)
+}
+
+/// The answer on the bytes of the inputs. Want of memory never comes of a text that is refused.
+fn answer_claim<'i, H: Threads + Wait + Sync, G: Gate + Sync>(
+    alloc: Global,
+    claim: &Claim<'_, '_>,
+    inputs: &'i [Vec<u8>],
+    workers: &Workers<'_, H, G>,
+) -> Result<Answer<'i>, AllocError>
+    requires { 3 ≤ length inputs.now }
+    ensures { let files = all_bytes inputs.now in
+        IsAnswerBy (IsClaimReply claim.now.claimed claim.now.names.fold files) (ClaimTakesMemory claim.now.claimed files) result }
+{
+    let inputs = inputs_of(claim, inputs);
+    let (digests, answer) = verify_beside(alloc, &inputs, workers);
+    told_or_memory(digested_by(&inputs, digests), answer)
+}
+
+/// What is to be checked, of inputs in their order.
+fn inputs_of<'i>(claim: &Claim<'_, '_>, inputs: &'i [Vec<u8>]) -> Inputs<'i>
+    requires { 3 ≤ length inputs.now }
+    ensures { IsClaimOn claim.now.claimed claim.now.names.fold (all_bytes inputs.now) (given result) }
+{
+    let (text, sets) = (inputs[0].as_slice(), inputs[1].as_slice());
+    let (log, tables) = (inputs[2].as_slice(), &inputs[3..]);
+    let fold = claim.names.fold;
+    match claim.claimed {
+        Claimed::Bound => Inputs::Bound {
+            board: text,
+            sets,
+            log,
+            tables,
+            fold,
+        },
+        Claimed::Optimum => Inputs::Optimal {
+            puzzle: text,
+            sets,
+            log,
+            tables,
+            fold,
+        },
+    }
+}
+
+/// The end of a run with folded tables. The bytes of each table are given up in turn, so that the log is checked beside the
+/// folded tables alone.
+#[inline(never)] // so that a run with full tables hasn't its values on the stack
+fn conclude_folded<H: Threads + Wait + Sync, G: Gate + Sync, W: Write>(
+    alloc: Global,
+    claim: &Claim<'_, '_>,
+    inputs: Vec<Vec<u8>>,
+    workers: &Workers<'_, H, G>,
+    out: &mut W,
+) -> Status
+    requires count { 3 ≤ length inputs.items }
+    requires folds { claim.now.names.fold ≡ true }
+    ensures { let names = claim.now.names in let tables = map (λ name. name.now) names.tables.now in
+        let wanted = bound_inputs names.text.now names.sets.now names.log.now tables in
+        (old new : World) → AreRead old.files old.reader wanted (all_bytes inputs.items)
+        → IsAsTold (left_by_all old.reader wanted) new.reader → new.files ≡ old.files
+        → W.contents out.old ≡ old.written → W.contents out.new ≡ new.written
+        → Ends (claim_plan claim.now.claimed names.fold names.text.now names.sets.now names.log.now tables) old new result }
+{
+    let mut inputs = inputs;
+    let Some(start) = start_of(claim.claimed, inputs.as_slice()) else {
+        let answer = answer_claim(alloc, claim, inputs.as_slice(), workers);
+        return conclude(claim, &answer, out);
+    };
+    let _text = take_first(&mut inputs);
+    let sets = take_first(&mut inputs);
+    let log = take_first(&mut inputs);
+    let (sets, log) = (sets.as_slice(), log.as_slice());
+    let (digests, found) = bound_of_files(alloc, &start.board, sets, log, inputs, workers);
+    let answer = told_or_memory(Digested::Lines(digests), verdict_on(start.moves, found));
+    conclude(claim, &answer, out)
+}
+
+/// The board of a claim, and how many moves solve it, where its text says that.
+#[derive(Drop)]
+struct Start {
+    board: Board,
+    moves: Option<u16>,
+}
+
+/// The start of a claim. There is none of a text that is refused, nor of more tables than a bundle has.
+fn start_of(claimed: Claimed, inputs: &[Vec<u8>]) -> Option<Start>
+    requires { 3 ≤ length inputs.now }
+    ensures few { IfSome result (λ _. length inputs.now ≤ BEFORE_TABLES + FILES_BESIDE) }
+    ensures start { IfSome result (λ start. (text : List ℕ) × (slice_get (all_bytes inputs.now) 0 ≡ Some text) × IsStartOf claimed text start.board start.moves) }
+{
+    if inputs.len() > BEFORE_TABLES + FILES_BESIDE {
+        return None;
+    }
+    let text = inputs[0].as_slice();
+    match claimed {
+        Claimed::Bound => {
+            let board = Board::read(text).ok()?;
+            Some(Start { board, moves: None })
+        }
+        Claimed::Optimum => {
+            let (board, moves) = solved_board(text).ok()?;
+            Some(Start {
+                board,
+                moves: Some(moves),
+            })
+        }
+    }
+}
+
+/// Takes the first of some inputs out of them.
+pub fn take_first(inputs: &mut Vec<Vec<u8>>) -> Vec<u8>
+    requires { 0 < length inputs.old.items }
+    ensures items { inputs.old.items ≡ result ∷ inputs.new.items }
+    ensures count { length inputs.old.items ≡ length inputs.new.items + 1 }
+{
+    inputs.remove(0)
+}
+
+/// The verdict on what a log proves for a board, which so many moves solve, where that is told.
+fn verdict_on(moves: Option<u16>, found: Result<u8, Fault>) -> Result<Verdict, Fault>
+    ensures { result ≡ verdict_on moves found }
+{
+    match moves {
+        Some(moves) => compare(moves, found),
+        None => Ok(Verdict::Bound(found?)),
+    }
 }

@@ -5,6 +5,7 @@
 mod bound;
 mod bundles;
 mod claims;
+mod folding;
 mod inputs;
 mod laws;
 mod limits;
@@ -17,8 +18,9 @@ mod verdicts;
 mod workers;
 
 pub use bound::run_bound;
-pub use bundles::{Tables, fold_bundle, read_bundle};
-pub use claims::{ClaimNames, push_tables};
+pub use bundles::{Tables, read_bundle};
+pub use claims::{ClaimNames, push_tables, take_first};
+pub use folding::fold_bundle;
 pub use inputs::Inputs;
 pub use laws::{
     inputs_have_a_result, inputs_have_one_result, results_are_true_verdicts,

@@ -7,10 +7,17 @@ ghost use Rattle.pdb_words.specs.Asked.{HasBudget, HasWorkers, view};
 ghost use Rattle.pdb_words.specs.Bound.{bound_command, bound_in};
 
 use crate::asked::Request;
-use crate::commands::new_command;
+use crate::commands::{new_command, with_statuses};
 use crate::log_checks::{check_in, with_claim};
 use clap::{ArgMatches, Command};
 use std::alloc::{AllocError, Global};
+
+/// What stands at the end of its help.
+const AFTER_HELP: &str = with_statuses!(
+    "Reads all of these files. Answers the digests of the tables and the log, and `bound N`,
+or `refused ..` with what is wrong first.",
+    ""
+);
 
 /// The command, for `clap`.
 pub(crate) fn bound_command<'a>(alloc: Global) -> Result<Command<'a>, AllocError>
@@ -22,6 +29,7 @@ pub(crate) fn bound_command<'a>(alloc: Global) -> Result<Command<'a>, AllocError
         "bound",
         "Says whether a log proves that no solution of a board has fewer moves than its bound",
         "pdb_cli bound [--workers N] [--fold] BOARD SETS LOG TABLES..",
+        AFTER_HELP,
     );
     with_claim(alloc, command, "BOARD", "A board text")
 }

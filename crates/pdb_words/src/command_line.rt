@@ -9,6 +9,7 @@ ghost use Rattle.pdb_words.specs.Faults.{IsCauseOf};
 
 use crate::asked::Request;
 use crate::bound::{bound_command, bound_in};
+use crate::commands::with_statuses;
 use crate::faults::{WordFault, fault_by};
 use crate::make_table::{make_table_command, make_table_in};
 use crate::optimal::{optimal_command, optimal_in};
@@ -19,10 +20,10 @@ use clap::{ArgMatches, Command};
 use std::alloc::{AllocError, Global};
 
 /// What stands at the end of the help.
-const AFTER_HELP: &str = "Without a command it does `replay` on standard input.
-
-Status: 0 yes, 1 refused, 2 bad words or a read or write fault, 3 no memory.
-The formats of texts, files and output lines are in docs/FORMATS.md.";
+const AFTER_HELP: &str = with_statuses!(
+    "Without a command it does `replay` on standard input.",
+    "\nThe formats of texts, files and output lines are in docs/FORMATS.md."
+);
 
 /// Reads the words, which leave out the program's own name.
 #[inline(never)] // so that a run's stack hasn't the values of this

@@ -7,17 +7,34 @@ ghost use Rattle.clap.specs.declared.Command.TheViews.{out-Command};
 use clap::{Arg, Command};
 use std::alloc::{AllocError, Global};
 
-/// A command without arguments, with what it does and how it is used.
+/// What stands at the end of a help: these texts, with what the statuses mean between them.
+macro_rules! with_statuses {
+    ($before:literal, $behind:literal) => {
+        concat!(
+            $before,
+            "\n\nStatus: 0 yes, 1 refused, 2 bad words or a read or write fault, 3 no memory.",
+            $behind
+        )
+    };
+}
+
+pub(crate) use with_statuses;
+
+/// A command without arguments, with what it does, how it is used, and what stands at the end of its help.
 pub(crate) fn new_command<'a>(
     alloc: Global,
     name: &'a str,
     about: &'a str,
     usage: &'a str,
+    after_help: &'a str,
 ) -> Command<'a>
     ensures app { app_of result ≡ new_app name.entry.now }
     ensures local { (out-Command result).has_globals ≡ false }
 {
-    Command::new(alloc, name).about(about).override_usage(usage)
+    Command::new(alloc, name)
+        .about(about)
+        .override_usage(usage)
+        .after_help(after_help)
 }
 
 /// A command with one more argument.

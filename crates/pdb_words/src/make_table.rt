@@ -7,12 +7,21 @@ ghost use Rattle.pdb_words.specs.Asked.{HasBudget, HasWorkers, view};
 ghost use Rattle.pdb_words.specs.MakeTable.{make_table_command, make_table_in, mask_in, needed_mask, needed_side, side_in};
 
 use crate::asked::Request;
-use crate::commands::{new_command, with_argument};
+use crate::commands::{new_command, with_argument, with_statuses};
 use crate::files::{file_in, with_file};
 use crate::numbers::number_in;
 use crate::workers::{with_workers, workers_in};
 use clap::{Arg, ArgMatches, Command, value_parser};
 use std::alloc::{AllocError, Global};
+
+/// What stands at the end of its help.
+const AFTER_HELP: &str = with_statuses!(
+    "Building uses all processors, whatever --workers says: workers share the check behind it.
+OUT is replaced once the table is found exact; until then, and otherwise, it stays as it is.
+
+Reads no file. Answers the digest of the table and `exact ..`, or `refused ..` and why.",
+    ""
+);
 
 /// The command, for `clap`.
 pub(crate) fn make_table_command<'a>(alloc: Global) -> Result<Command<'a>, AllocError>
@@ -24,6 +33,7 @@ pub(crate) fn make_table_command<'a>(alloc: Global) -> Result<Command<'a>, Alloc
         "make-table",
         "Makes the table of a pattern, and keeps it if it is exact",
         "pdb_cli make-table [--workers N] SIDE MASK OUT",
+        AFTER_HELP,
     );
     let command = with_workers(alloc, command)?;
     let command = with_pattern(alloc, command)?;

@@ -7,10 +7,17 @@ ghost use Rattle.pdb_words.specs.Asked.{HasBudget, HasWorkers, view};
 ghost use Rattle.pdb_words.specs.Optimal.{optimal_command, optimal_in};
 
 use crate::asked::Request;
-use crate::commands::new_command;
+use crate::commands::{new_command, with_statuses};
 use crate::log_checks::{check_in, with_claim};
 use clap::{ArgMatches, Command};
 use std::alloc::{AllocError, Global};
+
+/// What stands at the end of its help.
+const AFTER_HELP: &str = with_statuses!(
+    "Reads all of these files. Answers the digests of the tables and the log, and `optimal N`,
+or `refused ..` with what is wrong first.",
+    ""
+);
 
 /// The command, for `clap`.
 pub(crate) fn optimal_command<'a>(alloc: Global) -> Result<Command<'a>, AllocError>
@@ -22,6 +29,7 @@ pub(crate) fn optimal_command<'a>(alloc: Global) -> Result<Command<'a>, AllocErr
         "optimal",
         "Says whether a log proves that the moves of a puzzle text are a shortest solution",
         "pdb_cli optimal [--workers N] [--fold] PUZZLE SETS LOG TABLES..",
+        AFTER_HELP,
     );
     with_claim(alloc, command, "PUZZLE", "A puzzle text")
 }

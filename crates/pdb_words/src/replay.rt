@@ -7,9 +7,16 @@ ghost use Rattle.pdb_words.specs.Asked.{HasBudget, HasWorkers, view};
 ghost use Rattle.pdb_words.specs.Replay.{replay_command, replay_in};
 
 use crate::asked::Request;
-use crate::commands::{new_command, with_argument};
+use crate::commands::{new_command, with_argument, with_statuses};
 use clap::{Arg, ArgMatches, Command};
 use std::alloc::{AllocError, Global};
+
+/// What stands at the end of its help.
+const AFTER_HELP: &str = with_statuses!(
+    "Reads a puzzle text: a board, `;`, and letters U, D, L, R that say where the blank goes.
+Answers `solution N`, or `refused ..` with what is wrong first.",
+    ""
+);
 
 /// The command, for `clap`.
 pub(crate) fn replay_command<'a>(alloc: Global) -> Result<Command<'a>, AllocError>
@@ -22,6 +29,7 @@ pub(crate) fn replay_command<'a>(alloc: Global) -> Result<Command<'a>, AllocErro
         "replay",
         "Plays the moves of a puzzle text, and says whether they solve its board",
         "pdb_cli replay [FILE]",
+        AFTER_HELP,
     );
     with_argument(command, file)
 }

@@ -8,12 +8,26 @@ ghost use Rattle.pdb_words.specs.Solve.{solve_command, solve_in};
 
 use crate::asked::{Request, Search};
 use crate::budget::{budget_flag, budget_in};
-use crate::commands::{new_command, with_argument};
+use crate::commands::{new_command, with_argument, with_statuses};
 use crate::files::{file_in, tables_in, with_file, with_log};
 use crate::fold::fold_in;
 use crate::workers::workers_in;
 use clap::{ArgMatches, Command};
 use std::alloc::{AllocError, Global};
+
+/// What stands at the end of its help.
+const AFTER_HELP: &str = with_statuses!(
+    "The budget is in boards expanded. The usual 1000000 is enough for most boards of side 4 over
+three tables of five tiles whose solutions have fewer than about 55 moves; harder ones take
+2 to 10 million. Where it is spent, the answer is `refused K1`.
+The search is one thread's work, whatever --workers says: workers share the checks. Tables
+that make-table builds are built by all processors.
+OUT is replaced once its log is found good; until then, and otherwise, it stays as it is.
+
+Reads BOARD, SETS and TABLES. Answers the digests of the tables and the log, `moves ..` and
+`optimal N`, or `refused ..` and why.",
+    ""
+);
 
 /// The command, for `clap`.
 pub(crate) fn solve_command<'a>(alloc: Global) -> Result<Command<'a>, AllocError>
@@ -25,6 +39,7 @@ pub(crate) fn solve_command<'a>(alloc: Global) -> Result<Command<'a>, AllocError
         "solve",
         "Searches for a shortest solution of a board, and keeps the log that proves it",
         "pdb_cli solve [--workers N] [--fold] [--budget N] BOARD SETS OUT TABLES..",
+        AFTER_HELP,
     );
     let command = with_file(alloc, command, "BOARD", "A board text")?;
     let command = with_log(alloc, command, "OUT", "The file that is to hold the log")?;

@@ -7,11 +7,18 @@ ghost use Rattle.pdb_words.specs.Asked.{HasBudget, HasWorkers, view};
 ghost use Rattle.pdb_words.specs.Table.{table_command, table_in};
 
 use crate::asked::Request;
-use crate::commands::new_command;
+use crate::commands::{new_command, with_statuses};
 use crate::files::{file_in, with_file};
 use crate::workers::{with_workers, workers_in};
 use clap::{ArgMatches, Command};
 use std::alloc::{AllocError, Global};
+
+/// What stands at the end of its help.
+const AFTER_HELP: &str = with_statuses!(
+    "Reads one table file. Answers its digest and `exact ..`, or `refused ..` with what is
+wrong first.",
+    ""
+);
 
 /// The command, for `clap`.
 pub(crate) fn table_command<'a>(alloc: Global) -> Result<Command<'a>, AllocError>
@@ -23,6 +30,7 @@ pub(crate) fn table_command<'a>(alloc: Global) -> Result<Command<'a>, AllocError
         "table",
         "Says whether a table file is exact",
         "pdb_cli table [--workers N] FILE",
+        AFTER_HELP,
     );
     let command = with_workers(alloc, command)?;
     with_file(alloc, command, "FILE", "A table file")

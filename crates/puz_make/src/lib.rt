@@ -1,15 +1,22 @@
 //! Makers of tables and of logs. Nothing here is trusted: what they make is for the checkers.
 #![tactic(auto)]
 
+mod board_table;
 mod counts;
 mod entries;
 mod faults;
 mod grids;
+mod keys;
 mod layers;
+mod lemmas;
+mod limits;
+mod log_bytes;
 mod logs;
 mod moves;
 mod places;
 mod positions;
+mod refuting;
+mod repeats;
 mod searches;
 mod sets;
 mod shapes;
@@ -17,11 +24,15 @@ mod slots;
 mod steps;
 mod sums;
 mod tables;
+mod trees;
 mod turns;
 mod walks;
+mod writing;
+mod written;
 
 pub use entries::entry_of;
 pub use faults::MakeFault;
 pub use layers::layer;
-pub use searches::{Found, solve};
+pub use limits::Limits;
+pub use searches::{Found, solve, solve_within};
 pub use tables::build;

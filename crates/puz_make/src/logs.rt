@@ -1,43 +1,85 @@
-//! Log files of one lemma.
+//! Logs of a refutation: of many lemmas, or of one.
 
 ghost use Rattle.std.specs.Prelude.{IfErr};
 ghost use Rattle.puz_make.specs.Faults.{IsSearchFault};
 
+use crate::board_table::BoardTable;
 use crate::faults::MakeFault;
-use log_file::{NEWEST_VERSION, SIGNATURE};
-use puz_board::Board;
-use std::alloc::{AllocError, Global};
+use crate::keys::Tiles;
+use crate::lemmas::Lemmas;
+use crate::limits::Limits;
+use crate::log_bytes::LogBytes;
+use crate::positions::Position;
+use crate::refuting::Refuter;
+use crate::repeats::{count_repeats, mark_branches};
+use crate::trees::{BRANCH, MARKED, Refutation};
+use crate::writing::Writer;
+use log_file::{BOUND_AND_LENGTH, HEADER_LEN};
+use std::alloc::Global;
 
-/// The log file whose one lemma is this board, bound and tree.
+/// The log of a refutation, whose board is that of the position. Where a log of many lemmas would be longer than that of one,
+/// or there isn't the memory to write it, it has one lemma.
 pub(crate) fn log_of(
     alloc: Global,
-    board: &Board,
-    bound: u8,
-    tree: &[u8],
+    position: Position<'_>,
+    mut refutation: Refutation,
+    limits: &Limits,
 ) -> Result<Vec<u8>, MakeFault>
     ensures { IfErr result IsSearchFault }
 {
-    let Ok(length) = u32::try_from(tree.len()) else {
-        return Err(MakeFault::Memory);
-    };
-    let side = board.side();
-    let mut log = Vec::new(alloc);
-    log.extend_from_slice(SIGNATURE)?;
-    put(&mut log, NEWEST_VERSION)?;
-    put(&mut log, side.get())?;
-    log.extend_from_slice(&1u32.to_be_bytes())?;
-    for cell in 0..side.cells() {
-        put(&mut log, board.at(cell))?;
+    if refutation.tree.len() >= limits.one_lemma_below && refutation.tree.first() == Some(&BRANCH) {
+        if let Ok(log) = log_of_many(alloc, position, &mut refutation, limits.lemmas) {
+            if log.len() <= length_of_one(&refutation) {
+                return Ok(log);
+            }
+        }
+        unmark(&mut refutation.tree);
     }
-    put(&mut log, bound)?;
-    log.extend_from_slice(&length.to_be_bytes())?;
-    log.extend_from_slice(tree)?;
-    Ok(log)
+    log_of_one(alloc, &refutation)
 }
 
-/// Adds a byte.
-#[inline]
-pub(crate) fn put(bytes: &mut Vec<u8>, byte: u8) -> Result<(), AllocError> {
-    bytes.push(byte)?;
-    Ok(())
+/// The log of a refutation in at most so many lemmas. The tree is marked afterwards.
+fn log_of_many(
+    alloc: Global,
+    position: Position<'_>,
+    refutation: &mut Refutation,
+    most: u32,
+) -> Result<Vec<u8>, MakeFault> {
+    let mut table = BoardTable::new(alloc, refutation.tree.len())?;
+    mark_branches(alloc, refutation, &mut table)?;
+    let size = count_repeats(alloc, refutation, &mut table)?;
+    let log = LogBytes::new(alloc, refutation.board.side())?;
+    let lemmas = Lemmas::new(log, most, table);
+    let refuter = Refuter::new(alloc, position, &refutation.board);
+    let writer = Writer::new(alloc, refutation, refuter, lemmas, size)?;
+    writer.write(&refutation.tree)
+}
+
+/// Takes the marks of branches back.
+fn unmark(tree: &mut Vec<u8>) {
+    for node in tree.iter_mut() {
+        if *node == MARKED {
+            *node = BRANCH;
+        }
+    }
+}
+
+/// How many bytes the log of one lemma has.
+fn length_of_one(refutation: &Refutation) -> usize {
+    let cells = usize::from(refutation.board.side().cells());
+    refutation
+        .tree
+        .len()
+        .saturating_add(HEADER_LEN + BOUND_AND_LENGTH + cells)
+}
+
+/// The log of a refutation in one lemma.
+fn log_of_one(alloc: Global, refutation: &Refutation) -> Result<Vec<u8>, MakeFault>
+    ensures { IfErr result IsSearchFault }
+{
+    let tiles = Tiles::new(&refutation.board);
+    let mut log = LogBytes::new(alloc, refutation.board.side())?;
+    log.begin(&tiles, refutation.bound, refutation.tree.len())?;
+    log.add(&refutation.tree)?;
+    log.finish()
 }

@@ -109,7 +109,7 @@ impl<'a> Position<'a> {
 }
 
 /// The number in each cell of a board.
-fn numbers_of(board: &Board) -> [u8; CELLS] {
+pub(crate) fn numbers_of(board: &Board) -> [u8; CELLS] {
     let mut numbers = [0; CELLS];
     for cell in 0..board.side().cells() {
         numbers[usize::from(cell) % CELLS] = board.at(cell);
@@ -118,7 +118,7 @@ fn numbers_of(board: &Board) -> [u8; CELLS] {
 }
 
 /// Where the moves lead from each cell, in their order.
-fn steps_of(side: Side) -> [[u8; 4]; CELLS] {
+pub(crate) fn steps_of(side: Side) -> [[u8; 4]; CELLS] {
     let mut steps = [[NOWHERE; 4]; CELLS];
     for cell in 0..side.cells() {
         steps[usize::from(cell) % CELLS] = steps_from(side, cell);

@@ -1,35 +1,28 @@
 //! Shortest solutions by iterative deepening (Korf 1985), and the logs that prove them shortest.
 
-ghost use Rattle.std.specs.Prelude.{◌≡◌, ◌<◌, IfErr, IfOk};
+ghost use Rattle.std.specs.Prelude.{◌≡◌, ◌<◌, IfErr};
 ghost use Rattle.std.specs.Bool.{OnFalse};
 ghost use Rattle.puz_board.specs.Boards.{side_of};
 ghost use Rattle.puz_make.specs.Faults.{IsSearchFault};
 
 use crate::faults::MakeFault;
-use crate::logs::{log_of, put};
+use crate::limits::Limits;
+use crate::logs::log_of;
 use crate::moves::MOVES;
 use crate::positions::{NOWHERE, Position};
 use crate::sums::Leaf;
-use log_file::{BOUND_AND_LENGTH, HEADER_LEN};
+use crate::trees::{BRANCH, Refutation};
+use crate::written::WrittenTree;
 use puz_board::Board;
 use set_sum::Bundle;
-use std::alloc::Global;
+use std::alloc::{AllocError, Global};
 use std::mem;
-
-/// The byte of a branch.
-const BRANCH: u8 = 0;
 
 /// By how much a threshold is above the one before: all solutions of a board have one parity.
 const BETWEEN_THRESHOLDS: u16 = 2;
 
 /// The greatest bound that a lemma claims, and so the greatest threshold.
 const GREATEST_BOUND: u16 = 255;
-
-/// The most bytes before the tree of a log of one lemma: boards of side 5 have 25 numbers.
-const MOST_BEFORE_TREE: usize = HEADER_LEN + 25 + BOUND_AND_LENGTH;
-
-/// The most bytes of a tree, beside those before it.
-const MOST_TREE_BYTES: usize = log_file::MOST_BYTES - MOST_BEFORE_TREE;
 
 /// A shortest solution, and the log that proves it shortest.
 #[derive(Drop)]
@@ -42,13 +35,29 @@ pub struct Found {
 
 /// Searches for a shortest solution of a board, threshold by threshold, and expands at most `budget` boards.
 ///
-/// A board is expanded where its moves are tried. The log has one lemma: its tree is what the last threshold that failed
-/// looked at. Where the sum of a set hasn't the parity of the solutions, it may count for one more, as a leaf by parity.
+/// A board is expanded where its moves are tried. The log proves that the last threshold that failed holds no solution, in many
+/// lemmas where its tree is large. Where that tree was too large to be kept while the next threshold was searched, its boards
+/// are expanded once more, which doesn't count. Where the sum of a set hasn't the parity of the solutions, it may count for one
+/// more, as a leaf by parity.
 pub fn solve(
     alloc: Global,
     bundle: &Bundle<'_>,
     board: &Board,
     budget: u64,
+) -> Result<Found, MakeFault>
+    requires { side_of board.now ≡ bundle.now.side }
+    ensures fault { IfErr result IsSearchFault }
+{
+    solve_within(alloc, bundle, board, budget, &Limits::USUAL)
+}
+
+/// Searches as `solve` does, within other limits.
+pub fn solve_within(
+    alloc: Global,
+    bundle: &Bundle<'_>,
+    board: &Board,
+    budget: u64,
+    limits: &Limits,
 ) -> Result<Found, MakeFault>
     requires { side_of board.now ≡ bundle.now.side }
     ensures fault { IfErr result IsSearchFault }
@@ -59,27 +68,17 @@ pub fn solve(
     }
     let root = position.best_leaf();
     let mut bound = root.raised;
-    let mut proof = Vec::new(alloc);
-    put(&mut proof, root.byte(bound))?;
-    let mut search = Search {
-        position,
-        budget,
-        tree: Vec::new(alloc),
-        moves: Vec::new(alloc),
-    };
+    let mut search = Search::new(alloc, position, budget, limits.early_tree);
+    search.failed.put(root.byte(bound));
     for threshold in 0..=GREATEST_BOUND {
         if threshold < bound {
             continue;
         }
         if search.is_solved(NOWHERE, threshold + BETWEEN_THRESHOLDS)? {
-            search.moves.reverse();
-            return Ok(Found {
-                moves: search.moves,
-                log: log_of(alloc, board, threshold as u8, &proof)?,
-            });
+            return search.found(alloc, board, threshold as u8, limits);
         }
         bound = threshold + BETWEEN_THRESHOLDS;
-        proof = search.begin_again(proof);
+        search.begin_again();
     }
     Err(MakeFault::K2)
 }
@@ -91,27 +90,72 @@ struct Search<'a> {
     /// How many more boards may be expanded.
     budget: u64,
     /// The tree of this threshold, as far as it is written.
-    tree: Vec<u8>,
+    tree: WrittenTree,
+    /// The tree of the last threshold that failed.
+    failed: WrittenTree,
     /// The letters of the moves of a solution, the last one first.
     moves: Vec<u8>,
 }
 
-impl Search<'_> {
-    /// Begins the next threshold, in the memory of an older tree. Answers the tree of this one.
-    fn begin_again(&mut self, mut older: Vec<u8>) -> Vec<u8> {
-        older.clear();
-        mem::replace(&mut self.tree, older)
+impl<'a> Search<'a> {
+    /// A search that may expand so many boards, and whose trees may have so many bytes.
+    fn new(alloc: Global, position: Position<'a>, budget: u64, most: usize) -> Search<'a> {
+        Search {
+            position,
+            budget,
+            tree: WrittenTree::new(alloc, most),
+            failed: WrittenTree::new(alloc, most),
+            moves: Vec::new(alloc),
+        }
     }
 
-    /// Writes a node of the tree.
-    fn write(&mut self, node: u8) -> Result<(), MakeFault>
+    /// Begins the next threshold.
+    fn begin_again(&mut self) {
+        mem::swap(&mut self.tree, &mut self.failed);
+        self.tree.clear();
+    }
+
+    /// What is found once a threshold holds a solution: the one before it proves this bound.
+    fn found(
+        mut self,
+        alloc: Global,
+        board: &Board,
+        bound: u8,
+        limits: &Limits,
+    ) -> Result<Found, MakeFault>
         ensures { IfErr result IsSearchFault }
     {
-        if self.tree.len() >= MOST_TREE_BYTES {
-            return Err(MakeFault::Memory);
+        self.moves.reverse();
+        if !self.failed.is_whole {
+            self.search_again(bound, limits.tree)?;
         }
-        put(&mut self.tree, node)?;
-        Ok(())
+        self.tree.drop_nodes();
+        let refutation = Refutation {
+            board: *board,
+            bound,
+            tree: self.failed.nodes,
+        };
+        Ok(Found {
+            moves: self.moves,
+            log: log_of(alloc, self.position, refutation, limits)?,
+        })
+    }
+
+    /// Searches a threshold that failed once more, for its tree, which may have so many bytes. The boards that are expanded don't
+    /// count.
+    fn search_again(&mut self, bound: u8, most: usize) -> Result<(), MakeFault>
+        ensures { IfErr result IsSearchFault }
+    {
+        self.budget = u64::MAX;
+        self.tree.clear();
+        self.tree.most = most;
+        let _ = self.is_solved(NOWHERE, u16::from(bound))?;
+        self.begin_again();
+        if self.failed.is_whole {
+            Ok(())
+        } else {
+            Err(MakeFault::Memory)
+        }
     }
 
     /// Writes a branch, and counts it.
@@ -122,19 +166,19 @@ impl Search<'_> {
             return Err(MakeFault::K1);
         }
         self.budget -= 1;
-        self.write(BRANCH)
+        self.tree.put(BRANCH);
+        Ok(())
     }
 
     /// Whether a leaf cuts a board off, from which so many moves are to be refuted. It is then written.
-    fn is_cut(&mut self, leaf: &Leaf, remaining: u16) -> Result<bool, MakeFault>
-        ensures cut { IfOk result (λ cut. OnFalse cut (0 < remaining)) }
-        ensures fault { IfErr result IsSearchFault }
+    fn is_cut(&mut self, leaf: &Leaf, remaining: u16) -> bool
+        ensures { OnFalse result (0 < remaining) }
     {
         if leaf.raised < remaining {
-            return Ok(false);
+            return false;
         }
-        self.write(leaf.byte(remaining))?;
-        Ok(true)
+        self.tree.put(leaf.byte(remaining));
+        true
     }
 
     /// Whether the board, to which the blank came from a cell, has a solution of fewer moves than remain. Where it has none,
@@ -143,7 +187,7 @@ impl Search<'_> {
         ensures { IfErr result IsSearchFault }
     {
         let leaf = self.position.best_leaf();
-        if self.is_cut(&leaf, remaining)? {
+        if self.is_cut(&leaf, remaining) {
             return Ok(false);
         }
         if leaf.raised == 0 && self.position.is_goal() {
@@ -157,12 +201,18 @@ impl Search<'_> {
                 continue;
             }
             let before = self.position.slide(*to);
-            if self.is_solved(blank, remaining - 1)? {
-                put(&mut self.moves, mv.letter())?;
+            let is_solved = self.is_solved(blank, remaining - 1)?;
+            self.position.slide_back(blank, &before);
+            if is_solved {
+                self.add_move(mv.letter())?;
                 return Ok(true);
             }
-            self.position.slide_back(blank, &before);
         }
         Ok(false)
+    }
+    /// Adds a move before those of the solution that there are.
+    fn add_move(&mut self, letter: u8) -> Result<(), AllocError> {
+        self.moves.push(letter)?;
+        Ok(())
     }
 }

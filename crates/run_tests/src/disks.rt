@@ -141,19 +141,21 @@ fn are_as_before(files: &SampleFiles) -> bool {
     FILES.iter().all(|(name, bytes)| files.has(name, bytes))
 }
 
-/// The run ended as the whole one, and kept what that kept, under no further name.
+/// The run ended as the whole one, and kept what that kept, under no further name than so many that were left over.
 fn expect_whole(
     task: &Task<'_>,
     whole: &Whole,
     ended: &Ended,
     files: &SampleFiles,
+    left_over: usize,
 ) -> Result<(), Fail> {
     ended.expect(whole.ended.out.as_slice(), 0)?;
     let (Some(name), Some(bytes)) = (task.keeps, &whole.kept) else {
         return Ok(());
     };
     let is_new = FILES.iter().all(|(other, _)| *other != name);
-    if files.has(name, bytes) && files.count() == FILES.len() + usize::from(is_new) {
+    let count = (FILES.len() + usize::from(is_new)).saturating_add(left_over);
+    if files.has(name, bytes) && files.count() == count {
         Ok(())
     } else {
         Err(Fail::new(format_args!("{name} has other bytes")))
@@ -170,14 +172,14 @@ fn a_call_that_fails_is_told_alone_and_leaves_the_files(rt: HostRuntime) -> Resu
             files.fail(at as u64, at as u64 + 1);
             let ended = ran_over(&rt, alloc, task.words, &files)?;
             let Some(fault) = fault_at(alloc, task, &whole.calls, at)? else {
-                expect_whole(task, &whole, &ended, &files)?;
+                expect_whole(task, &whole, &ended, &files, 0)?;
                 continue;
             };
             ended.expect(fault.as_bytes(), 2)?;
-            assert!(rt;
-                are_as_before(&files) && files.count() == FILES.len(),
-                "{fault}"
-            );
+            // What was made for the trial of the name stays where it can't be removed.
+            let is_left = whole.calls.get(at) == Some(&Call::Remove);
+            assert!(rt; are_as_before(&files), "{fault}");
+            assert_eq!(rt; files.count(), FILES.len() + usize::from(is_left));
         }
     }
     Ok(())
@@ -198,9 +200,11 @@ fn a_system_that_stops_leaves_the_files_and_the_next_run_ends_well(
             let fault = fault_at(alloc, task, &whole.calls, told.unwrap_or(at))?;
             ended.expect(fault.as_deref().unwrap_or("").as_bytes(), 2)?;
             assert!(rt; are_as_before(&files), "call {at}");
+            let left_over = files.count().saturating_sub(FILES.len());
+            assert!(rt; left_over <= 1, "call {at}");
             files.fail(0, 0);
             let ended = ran_over(&rt, alloc, task.words, &files)?;
-            expect_whole(task, &whole, &ended, &files)?;
+            expect_whole(task, &whole, &ended, &files, left_over)?;
         }
     }
     Ok(())

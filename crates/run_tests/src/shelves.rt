@@ -93,9 +93,14 @@ fn what_can_not_be_kept_is_told_alone(rt: HostRuntime) -> Result<(), Fail> {
             (ShelfFault::Size, fault.as_str()),
             (ShelfFault::Memory, "no memory"),
         ] {
-            expect_fault(&rt, alloc, &["make-table", "2", "6", name], 0, why, said)?;
-            let words = ["solve", "board", "sets", name, "f12"];
-            expect_fault(&rt, alloc, &words, 3, why, said)?;
+            // Of both commands first the trial of the name fails, and then the keeping.
+            for call in [0, 1] {
+                expect_fault(&rt, alloc, &["make-table", "2", "6", name], call, why, said)?;
+            }
+            for call in [3, 4] {
+                let words = ["solve", "board", "sets", name, "f12"];
+                expect_fault(&rt, alloc, &words, call, why, said)?;
+            }
         }
     }
     Ok(())
@@ -105,10 +110,32 @@ fn what_can_not_be_kept_is_told_alone(rt: HostRuntime) -> Result<(), Fail> {
 fn nothing_is_to_be_kept_after_a_no(rt: HostRuntime) -> Result<(), Fail> {
     let alloc = rt.alloc();
     let files = MemShelf::of(alloc, &FILES)?;
-    let mut shelf = FailingShelf::new(files, 0, ShelfFault::Device);
+    let mut shelf = FailingShelf::new(files, 1, ShelfFault::Device);
     let mut reader = b"".as_slice();
     let words = ["make-table", "2", "1", "made"];
     ran(&rt, alloc, &words, &mut shelf, &mut reader)?.expect(b"refused K4\n", 1)?;
-    assert_eq!(rt; shelf.calls(), 0);
+    assert_eq!(rt; shelf.calls(), 1);
+    Ok(())
+}
+
+#[test]
+fn a_name_is_tried_before_anything_is_checked(rt: HostRuntime) -> Result<(), Fail> {
+    let alloc = rt.alloc();
+    // No pattern, a text that is no board, and a file that is no table.
+    let cases: [(&[&str], u64); 3] = [
+        (&["make-table", "2", "1", "made"], 0),
+        (&["solve", "sets", "sets", "made", "f12"], 3),
+        (&["solve", "board", "sets", "made", "log"], 3),
+    ];
+    for (words, call) in cases {
+        expect_fault(
+            &rt,
+            alloc,
+            words,
+            call,
+            ShelfFault::Device,
+            "fault write made",
+        )?;
+    }
     Ok(())
 }

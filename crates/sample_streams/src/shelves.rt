@@ -12,13 +12,14 @@ use std::alloc::Global;
 pub enum ShelfFault {
     /// Its device fails.
     Device,
-    /// The file that is read is over its limit. What is kept has no limit: there the device fails.
+    /// The file that is read is over its limit. What is kept has no limit: there, and where keeping is tried, the device
+    /// fails.
     Size,
     /// Memory is refused.
     Memory,
 }
 
-/// A shelf over memory, one of whose calls fails and leaves all files as they are. Its loads and keeps are counted
+/// A shelf over memory, one of whose calls fails and leaves all files as they are. Its loads, trials and keeps are counted
 /// together, from 0. It tells contracts none of its files, since it may say of one within its limit that it is over it.
 #[derive(Drop)]
 pub struct FailingShelf {
@@ -53,7 +54,7 @@ impl FailingShelf {
         &self.files
     }
 
-    /// How many loads and keeps were called.
+    /// How many loads, trials and keeps were called.
     pub fn calls(&self) -> u64
         ensures { result ≡ self.now.calls }
     {
@@ -72,6 +73,18 @@ impl FailingShelf {
             Some(self.fault)
         } else {
             None
+        }
+    }
+
+    /// Counts a call that keeps or tries to, and answers why it fails, if it does.
+    fn count_keep(&mut self) -> Option<KeepFault>
+        ensures counted { self.new.calls ≡ min (self.old.calls + 1) (2 ^ 64 - 1) }
+        ensures files { self.new.files ≡ self.old.files }
+        ensures calm { self.new.has_failed ≡ self.old.has_failed }
+    {
+        match self.count()? {
+            ShelfFault::Device | ShelfFault::Size => Some(KeepFault::F3),
+            ShelfFault::Memory => Some(KeepFault::Memory),
         }
     }
 }
@@ -94,10 +107,20 @@ impl Shelf for FailingShelf {
         loaded
     }
 
+    fn try_keep(&mut self, alloc: Global, name: &str) -> Result<(), KeepFault> {
+        let tried = match self.count_keep() {
+            Some(fault) => Err(fault),
+            None => self.files.try_keep(alloc, name),
+        };
+        if tried == Err(KeepFault::F3) {
+            self.has_failed = true;
+        }
+        tried
+    }
+
     fn keep(&mut self, alloc: Global, name: &str, bytes: &[u8]) -> Result<(), KeepFault> {
-        let kept = match self.count() {
-            Some(ShelfFault::Device | ShelfFault::Size) => Err(KeepFault::F3),
-            Some(ShelfFault::Memory) => Err(KeepFault::Memory),
+        let kept = match self.count_keep() {
+            Some(fault) => Err(fault),
             None => self.files.keep(alloc, name, bytes),
         };
         if kept == Err(KeepFault::F3) {

@@ -6,6 +6,7 @@ pub mod DecidedLemmas
 pub mod HomeLemmas
 mod LineLemmas
 mod LinesReadLemmas
+mod KnownLemmas
 pub mod ListLemmas
 pub mod MemberLemmas
 mod MirrorLemmas
@@ -15,6 +16,7 @@ pub mod ParityLemmas
 pub mod PartLemmas
 mod ReadLemmas
 pub mod SayLemmas
+mod StillLemmas
 pub mod SumLemmas
 mod TakenLemmas
 pub mod TransposedFoldLemmas

@@ -8,4 +8,6 @@ pub mod Reading
 pub mod ReadLines
 pub mod SetTexts
 pub mod StoredBundles
+pub mod StoredSums
+pub mod SumViews
 pub mod Sums

@@ -9,9 +9,11 @@ pub mod laws;
 mod lines;
 mod members;
 mod parts;
+mod sums;
 mod tables;
 
 pub use bundles::{Bundle, MOST_MEMBERS, MOST_TABLES};
 pub use faults::SetFault;
 pub use members::Member;
 pub use parts::Part;
+pub use sums::Sums;

@@ -100,7 +100,7 @@ pub(crate) fn twice(tables: &[Part<'_>], set: &[Member]) -> bool
 }
 
 /// The cell of each number on the transposed board: the transposed cell of that of the transposed number.
-fn mirrored(side: Side, found: &[u8; 25]) -> [u8; 25]
+pub(crate) fn mirrored(side: Side, found: &[u8; 25]) -> [u8; 25]
     requires { (board : List ℕ) × IsBoardOf side board × AreCellsOf found.now board }
     ensures { (board : List ℕ) → IsBoardOf side board → AreCellsOf found.now board
         → AreCellsOf result (transposed board) }

@@ -8,6 +8,8 @@ mod files;
 #[cfg(test)]
 mod folds;
 #[cfg(test)]
+mod great_tables;
+#[cfg(test)]
 mod large_tables;
 #[cfg(test)]
 mod runs;

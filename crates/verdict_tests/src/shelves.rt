@@ -138,8 +138,13 @@ fn an_input_that_can_not_be_read_is_told_alone(rt: HostRuntime) -> Result<(), Fa
 
 #[test]
 fn what_can_not_be_kept_is_told_alone(rt: HostRuntime) -> Result<(), Fail> {
-    // A search reads four inputs before it keeps its log.
-    for (command, call) in [(Command::MakeTable, 0), (Command::Solve, 4)] {
+    // A search reads four inputs. Of both commands first the trial of the name fails, and then the keeping.
+    for (command, call) in [
+        (Command::MakeTable, 0),
+        (Command::MakeTable, 1),
+        (Command::Solve, 4),
+        (Command::Solve, 5),
+    ] {
         for (why, line) in [
             (ShelfFault::Device, b"fault write o\n".as_slice()),
             (ShelfFault::Memory, b"no memory\n"),

@@ -35,6 +35,11 @@ Arguments:
 
 Options:
   -h, --help  Print help
+
+Reads a puzzle text: a board, `;`, and letters U, D, L, R that say where the blank goes.
+Answers `solution N`, or `refused ..` with what is wrong first.
+
+Status: 0 yes, 1 refused, 2 bad words or a read or write fault, 3 no memory.
 ";
 
 const HELP_OF_TABLE: &str = "Says whether a table file is exact
@@ -47,6 +52,11 @@ Arguments:
 Options:
       --workers <N>  How many workers share the check, 1 to 64 [default: 1]
   -h, --help         Print help
+
+Reads one table file. Answers its digest and `exact ..`, or `refused ..` with what is
+wrong first.
+
+Status: 0 yes, 1 refused, 2 bad words or a read or write fault, 3 no memory.
 ";
 
 const HELP_OF_BOUND: &str =
@@ -64,6 +74,11 @@ Options:
       --workers <N>  How many workers share the check, 1 to 64 [default: 1]
       --fold         Fold each table once it is checked: one byte a placement
   -h, --help         Print help
+
+Reads all of these files. Answers the digests of the tables and the log, and `bound N`,
+or `refused ..` with what is wrong first.
+
+Status: 0 yes, 1 refused, 2 bad words or a read or write fault, 3 no memory.
 ";
 
 const HELP_OF_OPTIMAL: &str =
@@ -81,6 +96,11 @@ Options:
       --workers <N>  How many workers share the check, 1 to 64 [default: 1]
       --fold         Fold each table once it is checked: one byte a placement
   -h, --help         Print help
+
+Reads all of these files. Answers the digests of the tables and the log, and `optimal N`,
+or `refused ..` with what is wrong first.
+
+Status: 0 yes, 1 refused, 2 bad words or a read or write fault, 3 no memory.
 ";
 
 const HELP_OF_MAKE_TABLE: &str = "Makes the table of a pattern, and keeps it if it is exact
@@ -95,6 +115,13 @@ Arguments:
 Options:
       --workers <N>  How many workers share the check, 1 to 64 [default: 1]
   -h, --help         Print help
+
+Building uses all processors, whatever --workers says: workers share the check behind it.
+OUT is replaced once the table is found exact; until then, and otherwise, it stays as it is.
+
+Reads no file. Answers the digest of the table and `exact ..`, or `refused ..` and why.
+
+Status: 0 yes, 1 refused, 2 bad words or a read or write fault, 3 no memory.
 ";
 
 const HELP_OF_SOLVE: &str =
@@ -113,6 +140,18 @@ Options:
       --fold         Fold each table once it is checked: one byte a placement
       --budget <N>   How many boards the search may expand, 1 to 1000000000000 [default: 1000000]
   -h, --help         Print help
+
+The budget is in boards expanded. The usual 1000000 is enough for most boards of side 4 over
+three tables of five tiles whose solutions have fewer than about 55 moves; harder ones take
+2 to 10 million. Where it is spent, the answer is `refused K1`.
+The search is one thread's work, whatever --workers says: workers share the checks. Tables
+that make-table builds are built by all processors.
+OUT is replaced once its log is found good; until then, and otherwise, it stays as it is.
+
+Reads BOARD, SETS and TABLES. Answers the digests of the tables and the log, `moves ..` and
+`optimal N`, or `refused ..` and why.
+
+Status: 0 yes, 1 refused, 2 bad words or a read or write fault, 3 no memory.
 ";
 
 const HELP_OF_HELP: &str = "Print this message or the help of the given subcommand(s)

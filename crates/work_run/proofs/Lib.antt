@@ -1,2 +1,3 @@
 mod WorkLemmas
 mod RunLemmas
+mod LawLemmas

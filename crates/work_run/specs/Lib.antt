@@ -1,3 +1,4 @@
 pub mod Faults
 pub mod Work
 pub mod Workers
+pub mod Laws

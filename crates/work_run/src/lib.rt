@@ -3,6 +3,7 @@
 
 mod gates;
 mod jobs;
+pub mod laws;
 mod promises;
 mod runs;
 mod workers;

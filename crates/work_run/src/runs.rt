@@ -19,6 +19,7 @@ use std::thread::{Scope, Threads};
 /// The least bad place of all jobs, or none, by so many workers at once.
 ///
 /// The caller's thread is one of them, and each other worker has a thread of its own.
+/// The gate is told how many jobs there are before the first worker starts.
 /// Where a thread can't be started, those that run are joined first.
 pub fn run_jobs<R: Threads + Wait, J: Job + Sync, G: Gate + Sync>(
     rt: &R,
@@ -30,8 +31,10 @@ pub fn run_jobs<R: Threads + Wait, J: Job + Sync, G: Gate + Sync>(
     requires { AreWorkers workers }
     ensures { IfOk result (IsFault (J.bad job.now) (J.begins job.now (J.jobs job.now))) }
 {
-    let (book, passes) = Book::new(alloc, job.count(), workers)?;
+    let jobs = job.count();
+    let (book, passes) = Book::new(alloc, jobs, workers)?;
     let shared = &book;
+    gate.begins(jobs);
     let ended = thread::scope(
         thread::scope_env(),
         rt,

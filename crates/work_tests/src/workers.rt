@@ -64,8 +64,8 @@ impl Job for Spoilt {
 
 /// Jobs of one place each, all good.
 #[derive(Drop)]
-struct Good {
-    count: u64,
+pub(crate) struct Good {
+    pub(crate) count: u64,
     ghost few: { count ≤ 2 ^ 32 },
     ghost rises: { (job : ℕ) → job ≤ job + 1 },
 }

@@ -8,5 +8,5 @@ returns-clause-front g c = take_put _ _ c.args.bytes.now _ (omega (arith, c.requ
 
 pub returns-clause-bytes : goal.returns-clause-bytes
 returns-clause-bytes g c =
-    read_in_place _ _ c.read.result _ c.read.new.buf _ c.args.filled (length-take-le _ c.args.bytes.now (omega (arith, c.requires)))
-    c.read.ensures.bound (search rules)
+    read_in_place _ _ c.read_once.result _ c.read_once.new.buf _ c.args.filled (length-take-le _ c.args.bytes.now (omega (arith, c.requires)))
+    c.read_once.ensures.bound (search rules)

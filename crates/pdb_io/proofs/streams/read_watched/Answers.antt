@@ -14,6 +14,7 @@ reads-preserved g c =
       read.fits,
       search rules,
       grind arith,
+      grind arith,
       search rules,
       search rules,
     )

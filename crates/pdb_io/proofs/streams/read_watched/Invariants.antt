@@ -5,10 +5,11 @@ use Rattle.pdb_io.proofs.streams.read_watched.Given as goal
 -- what was read so far, within the limit, by at most one read a byte, none of which failed
 abbrev pub invariant-reads : goal.invariant-reads
 invariant-reads g l =
-    Consumes (g.R.Read.remaining l.fn.reader.stream.now) (g.R.Read.remaining l.reader.stream.now) (take l.filled l.bytes.items)
+    Consumes (g.R.Source.remaining l.fn.reader.stream.now) (g.R.Source.remaining l.reader.stream.now) (take l.filled l.bytes.items)
     × (l.filled ≤ length l.bytes.items)
     × (l.filled ≤ l.limit)
     × (l.reader.calls ≤ l.fn.reader.calls + l.filled)
+    × (g.R.Source.reads l.reader.stream.now ≤ g.R.Source.reads l.fn.reader.stream.now + l.filled)
     × (l.reader.has_failed ≡ l.fn.reader.has_failed)
     × (l.reader.stream.ghost_name ≡ l.fn.reader.stream.ghost_name)
 

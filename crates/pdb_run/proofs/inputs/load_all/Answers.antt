@@ -10,4 +10,5 @@ pub loop-input-preserved : goal.loop-input-preserved
 loop-input-preserved g c = (
   ReadSoFar-next _ _ _ _ _ c.args.wanted.now c.loop-input.input-index _ _ _ c.loop-input-test.true c.loop-input.invariant.1 c.loop-input.invariant.0 c.in_default.ensures.read,
   c.load_next.ensures.same ∙ c.loop-input.invariant.1,
+  c.in_default.ensures.calm ∙ c.loop-input.invariant.2,
 )

@@ -1,4 +1,4 @@
-use Rattle.std.proofs.Common.{MatchResult, subst}
+use Rattle.std.proofs.Common.{subst}
 use Rattle.pdb_run.specs.Answers.{IsAnswerBy}
 use Rattle.pdb_run.proofs.RunLemmas.{concluded_replied, concluded_wanting, same_said}
 use Rattle.pdb_run.proofs.runs.conclude.Goals as goal

@@ -8,7 +8,7 @@ abbrev globals : Command-F Command → Bool
 globals fields = fields.has_globals
 
 pub returns-clause-app : goal.returns-clause-app
-returns-clause-app c = ap app_of_fields c.override_usage.ensures ∙ ap app_of_fields c.about.ensures ∙ c.new.ensures.app
+returns-clause-app c = ap app_of_fields c.after_help.ensures ∙ ap app_of_fields c.override_usage.ensures ∙ ap app_of_fields c.about.ensures ∙ c.new.ensures.app
 
 pub returns-clause-local : goal.returns-clause-local
-returns-clause-local c = ap globals c.override_usage.ensures ∙ ap globals c.about.ensures ∙ c.new.ensures.local
+returns-clause-local c = ap globals c.after_help.ensures ∙ ap globals c.override_usage.ensures ∙ ap globals c.about.ensures ∙ c.new.ensures.local

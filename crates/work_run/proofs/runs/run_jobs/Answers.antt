@@ -18,7 +18,7 @@ returns g c =
     let jobs = g.J.Job.jobs c.args.job.now in
     let book = c.in_ok-book.book in
     let passes = c.in_ok-ended.ended.items in
-    let count : book.sizes.jobs ≡ jobs = c.in_ok-book.ensures.sizes.0 ∙ c.count.ensures in
+    let count : book.sizes.jobs ≡ jobs = c.in_ok-book.ensures.sizes.0 ∙ c.count-jobs.ensures in
     let worked = IsWorked-each bad begins jobs c.in_ok-book.passes.items passes c.in_ok-ended.ensures.1 in
     let fault = IsFault-least bad begins book passes ((g.met.J.Job g.world.𝓛 g.world.𝓜 g.world.𝓡 ((λ s x. x), (λ x. x), (λ x. x), (λ x. x))).from_zero c.args.job.now) (λ k p at. subst (λ n. IsWorked bad begins n p.deeds) (sym count) (worked k p at)) c.close.ensures.drawn c.close.result c.close.ensures.least c.close.ensures.seen in
     subst (λ n. IsFault bad (begins n) c.close.result) count fault

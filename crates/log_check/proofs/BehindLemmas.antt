@@ -1,0 +1,100 @@
+-- What the bytes behind some boards' trees tell of the bytes.
+use Rattle.std.proofs.Common.{◌≡◌, ℕ, ◌-◌, ◌<◌, ◌≤◌, ◌^◌, ◌↔◌, Bool, true, false, List, [], ◌∷◌, length, Option, Some, None, refl, sym, ap, subst}
+use Rattle.std.specs.Prelude.{IfNone, IfSome, option_map}
+use Rattle.puz_board.specs.Boards.{moved}
+use Rattle.puz_board.specs.declared.moves.Move.{Move}
+use Rattle.set_sum.specs.Bundles.{BundleView}
+use Rattle.set_sum.specs.SumViews.{SumsView}
+use Rattle.log_file.specs.Logs.{Log}
+use Rattle.log_check.specs.Nodes.{BeginsWith, BeginsWithNone}
+use Rattle.log_check.specs.Refutations.{takes_back}
+use Rattle.log_check.specs.Walks.{AreRefused, AreWalked, MayHave, with_node}
+use Rattle.log_check.specs.declared.nodes.Node.{Node}
+use Rattle.log_check.proofs.NodeLemmas.{node_bytes-step, none-pending}
+use Rattle.log_check.proofs.Pending.{Pending, Waiting, with_child, with_child_at}
+
+-- ---- where there is a value, or none
+
+pub some_as : {X : Type 0} (P Q : X → Type 0) → ((x : X) → P x → Q x) → (o : Option X) → IfSome o P → IfSome o Q
+some_as P Q f None h = h
+some_as P Q f (Some x) h = f x h
+
+pub none_as : {X : Type 0} (P Q : Type 0) → (P → Q) → (o : Option X) → IfNone o P → IfNone o Q
+none_as P Q f None h = f h
+none_as P Q f (Some x) h = h
+
+pub none_so : {X : Type 0} (P : Type 0) → P → (o : Option X) → IfNone o P
+none_so P h None = h
+none_so P h (Some x) = tt
+
+-- the sums of a board after a move are of the same bundle
+pub after_is : (s t : SumsView) (o : Option (List ℕ)) → Some t ≡ option_map (λ b. record { bundle = s.bundle; board = b }) o → (t.bundle ≡ s.bundle) × (o ≡ Some t.board)
+after_is s t None e = cc
+after_is s t (Some b) e =
+    let same : t ≡ record { bundle = s.bundle; board = b } = cc in
+    (ap (λ w. w.bundle) same, ap (λ w. Some w.board) (sym same))
+
+-- ---- children
+
+child_back : (w : Waiting) (move : Move) (o : Option (List ℕ)) (ws : List Waiting) → with_child_at w move o true ws ≡ ws
+child_back w move None ws = refl
+child_back w move (Some b) ws = refl
+
+module _ (w : Waiting) (move : Move) where
+  -- a move that takes back the arriving one leads to no child
+  pub with_child-back : takes_back w.arriving move ≡ true → (ws : List Waiting) → with_child w move ws ≡ ws
+  with_child-back back ws = subst (λ back. with_child_at w move (moved w.board move) back ws ≡ ws) (sym back) (child_back w move (moved w.board move) ws)
+
+  -- nor does one that would leave the board
+  pub with_child-off : moved w.board move ≡ None → (ws : List Waiting) → with_child w move ws ≡ ws
+  with_child-off off ws = subst (λ o. with_child_at w move o (takes_back w.arriving move) ws ≡ ws) (sym off) refl
+
+  -- each other move leads to one
+  pub with_child-there : takes_back w.arriving move ≡ false → (b : List ℕ) → moved w.board move ≡ Some b → (ws : List Waiting)
+      → with_child w move ws ≡ record { board = b; arriving = Some move; bound = w.bound - 1 } ∷ ws
+  with_child-there on b leads ws =
+      subst (λ back. with_child_at w move (moved w.board move) back ws ≡ record { board = b; arriving = Some move; bound = w.bound - 1 } ∷ ws) (sym on)
+      (subst (λ o. with_child_at w move o false ws ≡ record { board = b; arriving = Some move; bound = w.bound - 1 } ∷ ws) (sym leads) refl)
+
+module _ (v : BundleView) (log : Log) (i : ℕ) where
+  -- ---- one after the other
+
+  pub walked_none : (first : List Waiting → List Waiting) (bytes : List ℕ) → ((ws : List Waiting) → first ws ≡ ws) → AreWalked v log i first bytes bytes
+  walked_none first bytes none ws = subst (λ all. Pending v log i all bytes ↔ Pending v log i ws bytes) (sym (none ws)) (λ p. p, λ p. p)
+
+  pub walked_as : (first also : List Waiting → List Waiting) (bytes behind : List ℕ) → ((ws : List Waiting) → first ws ≡ also ws)
+      → AreWalked v log i also bytes behind → AreWalked v log i first bytes behind
+  walked_as first also bytes behind same walked ws = subst (λ all. Pending v log i all bytes ↔ Pending v log i ws behind) (sym (same ws)) (walked ws)
+
+  pub refused_as : (first also : List Waiting → List Waiting) (bytes : List ℕ) → ((ws : List Waiting) → first ws ≡ also ws)
+      → AreRefused v log i also bytes → AreRefused v log i first bytes
+  refused_as first also bytes same none ws = subst (λ all. ¬ Pending v log i all bytes) (sym (same ws)) (none ws)
+
+  pub walked_then : (first next : List Waiting → List Waiting) (bytes between behind : List ℕ)
+      → AreWalked v log i first bytes between → AreWalked v log i next between behind → AreWalked v log i (λ ws. first (next ws)) bytes behind
+  walked_then first next bytes between behind one two ws = (λ p. (two ws).0 ((one (next ws)).0 p), λ p. (one (next ws)).1 ((two ws).1 p))
+
+  pub refused_first : (first next : List Waiting → List Waiting) (bytes : List ℕ) → AreRefused v log i first bytes → AreRefused v log i (λ ws. first (next ws)) bytes
+  refused_first first next bytes none ws = none (next ws)
+
+  pub refused_then : (first next : List Waiting → List Waiting) (bytes between : List ℕ)
+      → AreWalked v log i first bytes between → AreRefused v log i next between → AreRefused v log i (λ ws. first (next ws)) bytes
+  refused_then first next bytes between one none ws p = none ws ((one (next ws)).0 p)
+
+  -- ---- a node
+
+  module _ (few : length v.sets ≤ 16) (fits : i < 2 ^ 32) (w : Waiting) (bytes : List ℕ) where
+    pub refused_none : BeginsWithNone log.version (length v.sets) bytes → AreRefused v log i (λ ws. w ∷ ws) bytes
+    refused_none none ws = none-pending v few log i fits w ws bytes none
+
+    module _ (node : Node) (between : List ℕ) (begins : BeginsWith log.version (length v.sets) node between bytes) where
+      pub refused_node : ¬ MayHave v log i w node → AreRefused v log i (λ ws. w ∷ ws) bytes
+      refused_node none ws p = none ((node_bytes-step v few log i fits w ws bytes node between begins).0 p).0
+
+      pub walked_node : MayHave v log i w node → (behind : List ℕ) → AreWalked v log i (with_node node w) between behind → AreWalked v log i (λ ws. w ∷ ws) bytes behind
+      walked_node may behind walked ws =
+          let step = node_bytes-step v few log i fits w ws bytes node between begins in
+          (λ p. (walked ws).0 (step.0 p).1, λ p. step.1 (may, (walked ws).1 p))
+
+      pub refused_children : AreRefused v log i (with_node node w) between → AreRefused v log i (λ ws. w ∷ ws) bytes
+      refused_children none ws p = none ws ((node_bytes-step v few log i fits w ws bytes node between begins).0 p).1

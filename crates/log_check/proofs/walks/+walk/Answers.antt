@@ -1,0 +1,121 @@
+use Rattle.std.proofs.Common.{◌≡◌, ◌∷◌, ◌^◌, ◌<◌, ◌-◌, Some, List, refl, sym, subst, ap, length, ◌∙◌, arith}
+use Rattle.std.specs.Prelude.{IfNone, IfSome}
+use Rattle.puz_board.specs.Boards.{IsBoardOf, moved}
+use Rattle.puz_board.proofs.MovedLemmas.{IsBoardOf-moved}
+use Rattle.log_check.specs.Nodes.{BeginsWith, BeginsWithNone}
+use Rattle.log_check.specs.Reached.{waiting_of}
+use Rattle.log_check.specs.Walks.{AreRefused, AreWalked, MayHave, Waiting, all_moves, with_child, with_children, with_node}
+use Rattle.log_check.specs.declared.nodes.Node.TheVariants.{Branch}
+use Rattle.log_check.proofs.BehindLemmas.{after_is, none_as, none_so, refused_as, refused_children, refused_node, refused_none, some_as, walked_as, walked_node, walked_none, with_child-there}
+use Rattle.log_check.proofs.NodeLemmas.{BeginsWith-same, with_node-other}
+use Rattle.log_check.proofs.walks.+walk.Goals as goal
+
+pub behind_child-behind_tree-behind-requires : goal.behind_child-behind_tree-behind-requires
+behind_child-behind_tree-behind-requires t c =
+    let s = c.args.reached.now.sums in
+    let child = c.in-Some.sums in
+    let is = after_is s child (moved s.board c.args.mv) c.in-Some.ensures in (
+      let measure = c.decreases in let some = c.requires.bound in omega arith,
+      (
+        c.requires.there,
+        (
+          c.requires.side ∙ ap (λ v. v.side) (sym is.0),
+          IsBoardOf-moved c.args.log.now.side s.board c.requires.board c.args.mv child.board is.1,
+        ),
+      ),
+    )
+
+pub behind_child-returns-in-Some-clause-some : goal.behind_child-returns-in-Some-clause-some
+behind_child-returns-in-Some-clause-some t c =
+    let s = c.args.reached.now.sums in
+    let log = c.args.log.now in
+    let w = waiting_of c.args.reached.now in
+    let is = after_is s c.in-Some.sums (moved s.board c.args.mv) c.in-Some.ensures in
+    let child : Waiting = record { board = c.in-Some.sums.board; arriving = Some c.args.mv; bound = w.bound - 1 } in
+    some_as (λ behind. AreWalked c.in-Some.sums.bundle log c.args.i (λ ws. child ∷ ws) c.args.bytes.now behind.now)
+    (λ behind. AreWalked s.bundle log c.args.i (with_child w c.args.mv) c.args.bytes.now behind.now)
+    (λ behind walked. walked_as s.bundle log c.args.i (with_child w c.args.mv) (λ ws. child ∷ ws) c.args.bytes.now behind.now
+    (with_child-there w c.args.mv (sym c.takes_back.ensures ∙ c.if-takes_back.false) c.in-Some.sums.board is.1)
+    (subst (λ v. AreWalked v log c.args.i (λ ws. child ∷ ws) c.args.bytes.now behind.now) is.0 walked))
+    c.behind_tree-behind.result c.behind_tree-behind.ensures.some
+
+pub behind_child-returns-in-Some-clause-none : goal.behind_child-returns-in-Some-clause-none
+behind_child-returns-in-Some-clause-none t c =
+    let s = c.args.reached.now.sums in
+    let log = c.args.log.now in
+    let w = waiting_of c.args.reached.now in
+    let is = after_is s c.in-Some.sums (moved s.board c.args.mv) c.in-Some.ensures in
+    let child : Waiting = record { board = c.in-Some.sums.board; arriving = Some c.args.mv; bound = w.bound - 1 } in
+    none_as (AreRefused c.in-Some.sums.bundle log c.args.i (λ ws. child ∷ ws) c.args.bytes.now) (AreRefused s.bundle log c.args.i (with_child w c.args.mv) c.args.bytes.now)
+    (λ none. refused_as s.bundle log c.args.i (with_child w c.args.mv) (λ ws. child ∷ ws) c.args.bytes.now
+    (with_child-there w c.args.mv (sym c.takes_back.ensures ∙ c.if-takes_back.false) c.in-Some.sums.board is.1)
+    (subst (λ v. AreRefused v log c.args.i (λ ws. child ∷ ws) c.args.bytes.now) is.0 none))
+    c.behind_tree-behind.result c.behind_tree-behind.ensures.none
+
+pub behind_tree-returns-in_err-node-clause-none : goal.behind_tree-returns-in_err-node-clause-none
+behind_tree-returns-in_err-node-clause-none t c =
+    let r = c.args.reached.now in
+    let v = r.sums.bundle in
+    let log = c.args.log.now in
+    let none : BeginsWithNone log.version (length v.sets) c.args.bytes.now =
+    λ node behind begins. c.in_err-node.ensures.none node behind
+    (BeginsWith-same node behind c.args.bytes.now (sym c.version.ensures.version) (sym c.sets.ensures.sets) begins) in
+    none_so (AreRefused v log c.args.i (λ ws. waiting_of r ∷ ws) c.args.bytes.now)
+    (refused_none v log c.args.i c.sets.ensures.bundle.few_sets c.ranges.i.fits (waiting_of r) c.args.bytes.now none)
+    c.from_residual.result
+
+pub behind_tree-returns-then-not-may_have-clause-none : goal.behind_tree-returns-then-not-may_have-clause-none
+behind_tree-returns-then-not-may_have-clause-none t c =
+    let r = c.args.reached.now in
+    let v = r.sums.bundle in
+    let begins : BeginsWith c.args.log.now.version (length v.sets) c.in_ok-node.node c.in_ok-node.behind.now c.args.bytes.now =
+    BeginsWith-same c.in_ok-node.node c.in_ok-node.behind.now c.args.bytes.now c.version.ensures.version c.sets.ensures.sets c.in_ok-node.ensures.some in
+    refused_node v c.args.log.now c.args.i c.sets.ensures.bundle.few_sets c.ranges.i.fits (waiting_of r) c.args.bytes.now
+    c.in_ok-node.node c.in_ok-node.behind.now begins
+    (λ may. let test = c.if-not-may_have.ensures.may.1 may in cc)
+
+pub behind_tree-returns-in-Branch-clause-some : goal.behind_tree-returns-in-Branch-clause-some
+behind_tree-returns-in-Branch-clause-some t c =
+    let r = c.args.reached.now in
+    let v = r.sums.bundle in
+    let log = c.args.log.now in
+    let w = waiting_of r in
+    let between : List _ = c.in_ok-node.behind.now in
+    let begins : BeginsWith log.version (length v.sets) Branch between c.args.bytes.now =
+    subst (λ node. BeginsWith log.version (length v.sets) node between c.args.bytes.now) c.in-Branch.is
+    (BeginsWith-same c.in_ok-node.node between c.args.bytes.now c.version.ensures.version c.sets.ensures.sets c.in_ok-node.ensures.some) in
+    let may : MayHave v log c.args.i w Branch = subst (MayHave v log c.args.i w) c.in-Branch.is (c.if-not-may_have.ensures.may.0 refl) in
+    some_as (λ behind. AreWalked v log c.args.i (with_children w all_moves) between behind.now) (λ behind. AreWalked v log c.args.i (λ ws. w ∷ ws) c.args.bytes.now behind.now)
+    (λ behind walked. walked_node v log c.args.i c.sets.ensures.bundle.few_sets c.ranges.i.fits w c.args.bytes.now Branch between begins may behind.now walked)
+    c.behind_children.result
+    (subst (λ x. IfSome c.behind_children.result (λ behind. AreWalked x.sums.bundle log c.args.i (with_children (waiting_of x) all_moves) between behind.now))
+    c.may_have.ensures.same c.behind_children.ensures.some)
+
+pub behind_tree-returns-in-Branch-clause-none : goal.behind_tree-returns-in-Branch-clause-none
+behind_tree-returns-in-Branch-clause-none t c =
+    let r = c.args.reached.now in
+    let v = r.sums.bundle in
+    let log = c.args.log.now in
+    let w = waiting_of r in
+    let between : List _ = c.in_ok-node.behind.now in
+    let begins : BeginsWith log.version (length v.sets) Branch between c.args.bytes.now =
+    subst (λ node. BeginsWith log.version (length v.sets) node between c.args.bytes.now) c.in-Branch.is
+    (BeginsWith-same c.in_ok-node.node between c.args.bytes.now c.version.ensures.version c.sets.ensures.sets c.in_ok-node.ensures.some) in
+    none_as (AreRefused v log c.args.i (with_children w all_moves) between) (AreRefused v log c.args.i (λ ws. w ∷ ws) c.args.bytes.now)
+    (refused_children v log c.args.i c.sets.ensures.bundle.few_sets c.ranges.i.fits w c.args.bytes.now Branch between begins)
+    c.behind_children.result
+    (subst (λ x. IfNone c.behind_children.result (AreRefused x.sums.bundle log c.args.i (with_children (waiting_of x) all_moves) between))
+    c.may_have.ensures.same c.behind_children.ensures.none)
+
+pub behind_tree-returns-in_default-clause-some : goal.behind_tree-returns-in_default-clause-some
+behind_tree-returns-in_default-clause-some t c =
+    let r = c.args.reached.now in
+    let v = r.sums.bundle in
+    let log = c.args.log.now in
+    let w = waiting_of r in
+    let node = c.in_ok-node.node in
+    let behind : List _ = c.in_ok-node.behind.now in
+    let begins : BeginsWith log.version (length v.sets) node behind c.args.bytes.now =
+    BeginsWith-same node behind c.args.bytes.now c.version.ensures.version c.sets.ensures.sets c.in_ok-node.ensures.some in
+    walked_node v log c.args.i c.sets.ensures.bundle.few_sets c.ranges.i.fits w c.args.bytes.now node behind begins (c.if-not-may_have.ensures.may.0 refl) behind
+    (walked_none v log c.args.i (with_node node w) behind (λ ws. with_node-other node w ws c.in_default.not-Branch))

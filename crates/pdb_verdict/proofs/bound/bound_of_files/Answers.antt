@@ -1,0 +1,28 @@
+use Rattle.std.proofs.Common.{◌∙◌, ◌++◌, IfErr, IfOk, ap, subst, sym, true}
+use Rattle.pdb_io.specs.Shelf.{Bytes}
+use Rattle.pdb_run.specs.Answers.{all_bytes}
+use Rattle.pdb_run.specs.Writing.{digest_line}
+use Rattle.pdb_verdict.specs.Bundles.{IsBundleOfFiles}
+use Rattle.pdb_verdict.specs.Steps.{IsCauseForBundle}
+use Rattle.pdb_verdict.proofs.BoundLemmas.{found_over}
+use Rattle.pdb_verdict.proofs.FoldingLemmas.{digests-snoc}
+use Rattle.pdb_verdict.proofs.StartLemmas.{cause_found}
+use Rattle.pdb_verdict.proofs.bound.bound_of_files.Goals as goal
+
+pub returns-in-Ok-clause-digests : goal.returns-in-Ok-clause-digests
+returns-in-Ok-clause-digests g c =
+    c.bound_beside-found.ensures.line ∙ ap (λ (ls : Bytes). ls ++ digest_line c.args.log.now) c.fold_bundle-digests.ensures.digests ∙ sym (digests-snoc (all_bytes c.args.files.items) c.args.log.now)
+
+pub returns-in-Ok-clause-found : goal.returns-in-Ok-clause-found
+returns-in-Ok-clause-found g c =
+    let is = subst (λ r. IfOk r (IsBundleOfFiles true (all_bytes c.args.files.items) c.args.sets.now)) c.in-Ok.is c.fold_bundle-digests.ensures.ok in
+    found_over true c.args.board.now c.args.sets.now c.args.log.now (all_bytes c.args.files.items) c.in-Ok.bundle is c.bound_beside-found.result c.bound_beside-found.ensures.found
+
+pub returns-in-Err-clause-digests : goal.returns-in-Err-clause-digests
+returns-in-Err-clause-digests g c =
+    c.with_digest.ensures.line ∙ ap (λ (ls : Bytes). ls ++ digest_line c.args.log.now) c.fold_bundle-digests.ensures.digests ∙ sym (digests-snoc (all_bytes c.args.files.items) c.args.log.now)
+
+pub returns-in-Err-clause-found : goal.returns-in-Err-clause-found
+returns-in-Err-clause-found g c =
+    let is = subst (λ r. IfErr r (λ cause. IsCauseForBundle true cause (all_bytes c.args.files.items) c.args.sets.now)) c.in-Err.is c.fold_bundle-digests.ensures.err in
+    cause_found true c.args.board.now c.args.sets.now c.args.log.now (all_bytes c.args.files.items) c.in-Err.fault is

@@ -1,8 +1,0 @@
-use Rattle.std.proofs.Common.{false, take}
-use Rattle.pdb_run.specs.Answers.{all_bytes}
-use Rattle.pdb_verdict.specs.Steps.{ArePartsOf}
-use Rattle.pdb_verdict.proofs.bundles.check_tables.Given as goal
-
--- the parts are those of the first files
-abbrev pub invariant-loop-file : goal.invariant-loop-file
-invariant-loop-file g l = ArePartsOf false (take l.file-index (all_bytes l.files)) l.parts.items

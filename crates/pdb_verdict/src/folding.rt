@@ -1,0 +1,111 @@
+//! Bundles of folded tables, where the bytes of each table are given up in turn.
+
+ghost use Rattle.std.specs.Prelude.{◌≡◌, ◌≤◌, ◌+◌, ◌++◌, true, length, IfErr, IfOk, MatchResult};
+ghost use Rattle.set_sum.specs.declared.parts.Part.TheVariants.{Folded};
+ghost use Rattle.pdb_run.specs.Answers.{all_bytes};
+ghost use Rattle.pdb_run.specs.Writing.{digest_line, digests_of};
+ghost use Rattle.pdb_verdict.specs.Bundles.{IsBundleOfFiles};
+ghost use Rattle.pdb_verdict.specs.Steps.{ArePartsOf, HasOneMore, IsCauseForBundle, IsCauseForFile, IsCauseForTables, IsPartOf};
+
+use crate::bundles::fold_file;
+use crate::verdicts::Fault;
+use crate::workers::Workers;
+use pdb_run::{DIGEST_LEN, DIGESTS_LEN, Digests, FILES_BESIDE, with_digest};
+use set_sum::{Bundle, Part};
+use std::alloc::Global;
+use std::sync::Wait;
+use std::thread::Threads;
+use tab_check::FoldedTable;
+use work_run::Gate;
+
+/// The bundle of the folded tables of files and a set text, and the digest lines of the files. The bytes of each file are
+/// given up once its table is folded and its digest line is made, before the next is looked at. Behind a file that is refused
+/// the others are digested alone.
+#[inline(never)] // so that the stack hasn't its values while a log is checked or made
+pub fn fold_bundle<'x, H: Threads + Wait + Sync, G: Gate + Sync>(
+    alloc: Global,
+    files: Vec<Vec<u8>>,
+    sets: &[u8],
+    workers: &Workers<'_, H, G>,
+) -> (Digests, Result<Bundle<'x>, Fault>)
+    requires { length files.items ≤ FILES_BESIDE }
+    ensures digests { result.0.items ≡ digests_of (all_bytes files.items) }
+    ensures room { length result.0.items + DIGEST_LEN ≤ DIGESTS_LEN }
+    ensures ok { IfOk result.1 (λ bundle. IsBundleOfFiles true (all_bytes files.items) sets.now bundle) }
+    ensures err { IfErr result.1 (λ fault. IsCauseForBundle true fault (all_bytes files.items) sets.now) }
+{
+    let (digests, parts) = fold_files(alloc, files, workers);
+    match parts {
+        Ok(parts) => (digests, Bundle::read(parts, sets).map_err(Fault::Sets)),
+        Err(fault) => (digests, Err(fault)),
+    }
+}
+
+/// The folded tables of files, and the digest lines of the files.
+fn fold_files<'x, H: Threads + Wait + Sync, G: Gate + Sync>(
+    alloc: Global,
+    files: Vec<Vec<u8>>,
+    workers: &Workers<'_, H, G>,
+) -> (Digests, Result<Vec<Part<'x>>, Fault>)
+    requires { length files.items ≤ FILES_BESIDE }
+    ensures digests { result.0.items ≡ digests_of (all_bytes files.items) }
+    ensures room { length result.0.items + DIGEST_LEN ≤ DIGESTS_LEN }
+    ensures ok { IfOk result.1 (λ parts. ArePartsOf true (all_bytes files.items) parts.items) }
+    ensures err { IfErr result.1 (λ fault. IsCauseForTables fault (all_bytes files.items)) }
+{
+    let mut digests = Digests::new();
+    let mut parts = Ok(Vec::new(alloc));
+    for file in files {
+        parts = fold_next(alloc, parts, file.as_slice(), &mut digests, workers);
+    }
+    (digests, parts)
+}
+
+/// The folded tables of one file more, where those before it are there. Its digest line is added behind the others.
+fn fold_next<'x, H: Threads + Wait + Sync, G: Gate + Sync>(
+    alloc: Global,
+    parts: Result<Vec<Part<'x>>, Fault>,
+    file: &[u8],
+    digests: &mut Digests,
+    workers: &Workers<'_, H, G>,
+) -> Result<Vec<Part<'x>>, Fault>
+    requires { length digests.old.items + DIGEST_LEN ≤ DIGESTS_LEN }
+    ensures line { digests.new.items ≡ digests.old.items ++ digest_line file.now }
+    ensures length { length digests.new.items ≡ length digests.old.items + DIGEST_LEN }
+    ensures ok { IfOk result (λ after. MatchResult parts.entry (λ before. HasOneMore before.items file.now after.items) (λ _. ⊥)) }
+    ensures err { IfErr result (λ cause. MatchResult parts.entry (λ before. IsCauseForFile cause (length before.items) file.now) (λ refused. cause ≡ refused)) }
+{
+    let mut folded = match parts {
+        Ok(parts) => parts,
+        Err(refused) => {
+            with_digest(workers.rt, 1, digests, file, || ());
+            return Err(refused);
+        }
+    };
+    let table = fold_beside(alloc, folded.len(), file, digests, workers)?;
+    if folded.push(Part::Folded(table)).is_err() {
+        return Err(Fault::Memory);
+    }
+    Ok(folded)
+}
+
+/// The folded table of the file with this number, whose digest line is made beside the check and added behind the others.
+fn fold_beside<H: Threads + Wait + Sync, G: Gate + Sync>(
+    alloc: Global,
+    number: usize,
+    file: &[u8],
+    digests: &mut Digests,
+    workers: &Workers<'_, H, G>,
+) -> Result<FoldedTable, Fault>
+    requires { length digests.old.items + DIGEST_LEN ≤ DIGESTS_LEN }
+    ensures line { digests.new.items ≡ digests.old.items ++ digest_line file.now }
+    ensures length { length digests.new.items ≡ length digests.old.items + DIGEST_LEN }
+    ensures ok { IfOk result (λ folded. IsPartOf true file.now (Folded folded)) }
+    ensures err { IfErr result (λ cause. IsCauseForFile cause number file.now) }
+{
+    let check = || -> Result<FoldedTable, Fault>
+        ensures ok { IfOk result (λ folded. IsPartOf true file.entry.now (Folded folded)) }
+        ensures err { IfErr result (λ cause. IsCauseForFile cause number file.entry.now) }
+    { fold_file(alloc, number, file, workers) };
+    with_digest(workers.rt, workers.count, digests, file, check)
+}

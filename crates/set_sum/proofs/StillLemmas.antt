@@ -1,0 +1,152 @@
+-- What a member says of a board it says after the move of a tile that its pattern hasn't: such a move costs the pattern nothing,
+-- and may be taken back.
+use Rattle.std.proofs.Common.{◌≡◌, ℕ, ◌+◌, ◌*◌, ◌<◌, ◌≤◌, Bool, true, false, cond, List, ◌∷◌, Option, Some, None, sym, ◌∙◌, ap, subst, arith, zero-add}
+use Rattle.std.specs.Prelude.{MatchBool, option_map}
+use Rattle.std.specs.List.{AllByRecursion}
+use Rattle.puz_board.specs.declared.moves.Move.{Move}
+use Rattle.puz_board.specs.Boards.{IsBoardOf, at, blank, moved, side_of, slid}
+use Rattle.puz_board.specs.Cells.{Adjacent, reverse_of, step_of}
+use Rattle.puz_board.specs.Costs.{IsHome, IsLeastCost, IsNeverHome, LeadsHome, cost, has}
+use Rattle.puz_board.specs.Paths.{IsPath, after}
+use Rattle.puz_board.specs.Transposing.{transposed, transposed_cell}
+use Rattle.puz_board.proofs.BoardLemmas.{IsBoardOf-slid, at-slid_back, blank-slid, cell_of-below, cells_least, side_of-board, side_of-slid}
+use Rattle.puz_board.proofs.BoardWays.{Adjacent-apart}
+use Rattle.puz_board.proofs.CellLemmas.{reverse_of-takes_back}
+use Rattle.puz_board.proofs.MovedLemmas.{moved-reverse_of}
+use Rattle.puz_board.proofs.TransposeLemmas.{Adjacent-transposed, IsBoardOf-transposed, at-transposed, blank-transposed, cell_below, cell_twice, slid-transposed}
+use Rattle.pat_place.specs.Placements.{placement_of}
+use Rattle.pat_place.proofs.SlideLemmas.{AreTiles, placement_of-slid_other}
+use Rattle.tab_check.specs.Counts.{IsCountOf}
+use Rattle.tab_check.specs.FoldedTables.{IsFoldedCost, IsFoldedCountOf, IsFoldedNever}
+use Rattle.tab_check.specs.declared.tables.Count.{Count}
+use Rattle.tab_check.specs.declared.tables.Count.TheVariants.{Finite, Never}
+use Rattle.set_sum.specs.Members.{MemberSays, table_of, table_pattern}
+use Rattle.set_sum.specs.Parts.{PartSays, PartView}
+use Rattle.set_sum.specs.StoredSums.{has_tile}
+use Rattle.set_sum.specs.declared.members.Member.{Member}
+
+-- ---- a step, and the step back
+
+module _ (n : ℕ) (b : List ℕ) (good : IsBoardOf n b) (c : ℕ) (near : Adjacent n (blank b) c) where
+  pub blank_inside : blank b < n * n
+  blank_inside = cell_of-below n b good 0 (let some = cells_least n b good in omega arith)
+
+  on : IsBoardOf n (slid b c)
+  on = IsBoardOf-slid n b good c near.0
+
+  on_side : side_of (slid b c) ≡ n
+  on_side = side_of-board n (slid b c) on
+
+  on_blank : blank (slid b c) ≡ c
+  on_blank = blank-slid n b good c near.0
+
+  step_back : step_of n c (reverse_of near.1) ≡ Some (blank b)
+  step_back = reverse_of-takes_back near.1 n (blank b) c good.low good.high blank_inside near.2
+
+  near_back : Adjacent n c (blank b)
+  near_back = (blank_inside, reverse_of near.1, step_back)
+
+  -- the step back is one of the board after the step
+  pub slid-near : Adjacent n (blank (slid b c)) (blank b)
+  slid-near = subst (λ z. Adjacent n z (blank b)) (sym on_blank) near_back
+
+  -- it leads back
+  pub slid-back : slid (slid b c) (blank b) ≡ b
+  slid-back =
+      let there : moved b near.1 ≡ Some (slid b c) =
+      ap (λ side. option_map (slid b) (step_of side (blank b) near.1)) (side_of-board n b good) ∙ ap (option_map (slid b)) near.2 in
+      let leads : moved (slid b c) (reverse_of near.1) ≡ Some b = moved-reverse_of n b good near.1 (slid b c) there in
+      let also : moved (slid b c) (reverse_of near.1) ≡ Some (slid (slid b c) (blank b)) =
+      ap (λ side. option_map (slid (slid b c)) (step_of side (blank (slid b c)) (reverse_of near.1))) on_side ∙
+      ap (λ z. option_map (slid (slid b c)) (step_of n z (reverse_of near.1))) on_blank ∙
+      ap (option_map (slid (slid b c))) step_back in
+      let same : Some (slid (slid b c) (blank b)) ≡ Some b = sym also ∙ leads in
+      cc
+
+  -- of the same tile
+  pub at-back : at (slid b c) (blank b) ≡ at b c
+  at-back = at-slid_back n b good c near.0 (Adjacent-apart n (blank b) c good.low near)
+
+  -- ---- paths home
+
+  module _ (tiles : List ℕ) (other : has tiles (at b c) ≡ false) where
+    lead_on : (path : List ℕ) → LeadsHome tiles (slid b c) path → LeadsHome tiles b (c ∷ path)
+    lead_on path leads =
+        let walk : IsPath n c path = subst (λ z. IsPath n z path) on_blank (subst (λ k. IsPath k (blank (slid b c)) path) on_side leads.walk) in
+        record { walk = subst (λ k. IsPath k (blank b) (c ∷ path)) (sym (side_of-board n b good)) (near, walk); ends = leads.ends }
+
+    lead_back : (path : List ℕ) → LeadsHome tiles b path → LeadsHome tiles (slid b c) (blank b ∷ path)
+    lead_back path leads =
+        let walk : IsPath n (blank b) path = subst (λ k. IsPath k (blank b) path) (side_of-board n b good) leads.walk in
+        record {
+          walk = subst (λ k. IsPath k (blank (slid b c)) (blank b ∷ path)) (sym on_side) (slid-near, walk);
+          ends = subst (λ x. IsHome tiles (after x path)) (sym slid-back) leads.ends;
+        }
+
+    cost_on : (path : List ℕ) → cost tiles b (c ∷ path) ≡ cost tiles (slid b c) path
+    cost_on path = ap (λ h. cond h 1 0 + cost tiles (slid b c) path) other ∙ zero-add (cost tiles (slid b c) path)
+
+    cost_back : (path : List ℕ) → cost tiles (slid b c) (blank b ∷ path) ≡ cost tiles b path
+    cost_back path =
+        ap (λ h. cond h 1 0 + cost tiles (slid (slid b c) (blank b)) path) (ap (has tiles) at-back ∙ other) ∙
+        zero-add (cost tiles (slid (slid b c) (blank b)) path) ∙ ap (λ x. cost tiles x path) slid-back
+
+    -- ---- what a table says
+
+    count_still : (count : Count) → IsCountOf tiles b count → IsCountOf tiles (slid b c) count
+    count_still (Finite d) is = record {
+      path = blank b ∷ is.path;
+      leads = lead_back is.path is.leads;
+      costs = cost_back is.path ∙ is.costs;
+      least = λ path leads. subst (λ k. d ≤ k) (cost_on path) (is.least (c ∷ path) (lead_on path leads));
+    }
+    count_still Never never = λ path leads. never (c ∷ path) (lead_on path leads)
+
+    folded_still : AreTiles n tiles → (count : Count) → IsFoldedCountOf tiles b count → IsFoldedCountOf tiles (slid b c) count
+    folded_still all (Finite d) is =
+        subst (λ k. IsFoldedCost k tiles (placement_of tiles (slid b c)) d) (sym (side_of-slid n b good c near.0))
+        (subst (λ cells. IsFoldedCost (side_of b) tiles cells d) (sym (placement_of-slid_other n b good c near.0 tiles all other)) is)
+    folded_still all Never is =
+        subst (λ k. IsFoldedNever k tiles (placement_of tiles (slid b c))) (sym (side_of-slid n b good c near.0))
+        (subst (λ cells. IsFoldedNever (side_of b) tiles cells) (sym (placement_of-slid_other n b good c near.0 tiles all other)) is)
+
+    tells_still : AreTiles n tiles → (is_folded : Bool) (count : Count) → MatchBool is_folded (IsFoldedCountOf tiles b count) (IsCountOf tiles b count)
+        → MatchBool is_folded (IsFoldedCountOf tiles (slid b c) count) (IsCountOf tiles (slid b c) count)
+    tells_still all true count is = folded_still all count is
+    tells_still all false count is = count_still count is
+
+-- ---- what a member says
+
+module _ (n : ℕ) (b : List ℕ) (good : IsBoardOf n b) (c : ℕ) (near : Adjacent n (blank b) c) where
+  turned : IsBoardOf n (transposed b)
+  turned = IsBoardOf-transposed n b good
+
+  near_turned : Adjacent n (blank (transposed b)) (transposed_cell n c)
+  near_turned =
+      subst (λ z. Adjacent n z (transposed_cell n c)) (sym (blank-transposed n b good))
+      (Adjacent-transposed n good.low good.high (blank b) c (blank_inside n b good c near) near)
+
+  tile_turned : at (transposed b) (transposed_cell n c) ≡ transposed_cell n (at b c)
+  tile_turned =
+      at-transposed n b good (transposed_cell n c) (cell_below n good.low good.high c near.0) ∙
+      ap (λ x. transposed_cell n (at b x)) (cell_twice n good.low good.high c near.0)
+
+  says_still : (part : PartView) → AreTiles n part.tiles → (is_transposed : Bool) → has part.tiles (cond is_transposed (transposed_cell n (at b c)) (at b c)) ≡ false
+      → (count : Count) → PartSays part (cond is_transposed (transposed b) b) count → PartSays part (cond is_transposed (transposed (slid b c)) (slid b c)) count
+  says_still part all true other count says =
+      subst (λ x. PartSays part x count) (slid-transposed n b good c near.0)
+      (tells_still n (transposed b) turned (transposed_cell n c) near_turned part.tiles (ap (has part.tiles) tile_turned ∙ other) all part.is_folded count says)
+  says_still part all false other count says = tells_still n b good c near part.tiles other all part.is_folded count says
+
+  -- it says the same of the board after the step
+  pub member_still : (tables : List PartView) (m : Member) → AreTiles n (table_pattern tables m) → has_tile n tables m (at b c) ≡ false
+      → (count : Count) → MemberSays tables m b count → MemberSays tables m (slid b c) count
+  member_still tables m all other count says = says_still (table_of tables m) all m.is_transposed other count says
+
+-- and of the board before it
+pub member_before : (n : ℕ) (b : List ℕ) (good : IsBoardOf n b) (c : ℕ) (near : Adjacent n (blank b) c) (tables : List PartView) (m : Member) → AreTiles n (table_pattern tables m)
+    → has_tile n tables m (at b c) ≡ false → (count : Count) → MemberSays tables m (slid b c) count → MemberSays tables m b count
+member_before n b good c near tables m all other count says =
+    subst (λ x. MemberSays tables m x count) (slid-back n b good c near)
+    (member_still n (slid b c) (IsBoardOf-slid n b good c near.0) (blank b) (slid-near n b good c near) tables m all
+    (ap (has_tile n tables m) (at-back n b good c near) ∙ other) count says)

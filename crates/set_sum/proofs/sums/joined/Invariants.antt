@@ -1,0 +1,13 @@
+use Rattle.std.proofs.Common.{◌≡◌, ℕ}
+use Rattle.std.specs.Int.{bit_at}
+use Rattle.set_sum.specs.StoredSums.{IsJoined}
+use Rattle.set_sum.proofs.sums.joined.Given as goal
+
+abbrev pub invariant-loop-fresh : goal.invariant-loop-fresh
+invariant-loop-fresh l = record {
+  joined : IsJoined l.places l.other l.known l.now;
+  fresh : (p : ℕ) → bit_at l.fresh p ≡ 1 → bit_at l.places p ≡ 1;
+}
+
+abbrev pub decreases-loop-fresh : goal.decreases-loop-fresh
+decreases-loop-fresh l = l.fresh
