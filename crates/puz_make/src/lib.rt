@@ -14,6 +14,7 @@ mod searches;
 mod sets;
 mod shapes;
 mod slots;
+mod solvable;
 mod steps;
 mod sums;
 mod tables;

@@ -1,14 +1,17 @@
 //! Shortest solutions by iterative deepening (Korf 1985), and the logs that prove them shortest.
 
-ghost use Rattle.std.specs.Prelude.{◌≡◌, ◌<◌, IfErr, IfOk};
+ghost use Rattle.std.specs.Prelude.{◌≡◌, ◌<◌, Err, IfErr, IfOk};
 ghost use Rattle.std.specs.Bool.{OnFalse};
 ghost use Rattle.puz_board.specs.Boards.{side_of};
 ghost use Rattle.puz_make.specs.Faults.{IsSearchFault};
+ghost use Rattle.puz_make.specs.Solvable.{HasTheBlanksParity};
+ghost use Rattle.puz_make.specs.declared.faults.MakeFault.TheVariants.{K2};
 
 use crate::faults::MakeFault;
 use crate::logs::{log_of, put};
 use crate::moves::MOVES;
 use crate::positions::{NOWHERE, Position};
+use crate::solvable::is_solvable;
 use crate::sums::Leaf;
 use log_file::{BOUND_AND_LENGTH, HEADER_LEN};
 use puz_board::Board;
@@ -44,6 +47,7 @@ pub struct Found {
 ///
 /// A board is expanded where its moves are tried. The log has one lemma: its tree is what the last threshold that failed
 /// looked at. Where the sum of a set hasn't the parity of the solutions, it may count for one more, as a leaf by parity.
+/// Of a board that has no solution, by the parity of its numbers, nothing is searched.
 pub fn solve(
     alloc: Global,
     bundle: &Bundle<'_>,
@@ -52,7 +56,11 @@ pub fn solve(
 ) -> Result<Found, MakeFault>
     requires { side_of board.now ≡ bundle.now.side }
     ensures fault { IfErr result IsSearchFault }
+    ensures unsolvable { (HasTheBlanksParity board.now → ⊥) → result ≡ Err K2 }
 {
+    if !is_solvable(board) {
+        return Err(MakeFault::K2);
+    }
     let position = Position::new(alloc, bundle, board)?;
     if position.sums.is_hopeless() {
         return Err(MakeFault::K2);
