@@ -679,6 +679,14 @@ same_answer() {
     [ "$status" = "$own_status" ] && [ ! -s "$work/errors" ] && cmp -s "$work/output" "$work/own_answer"
 }
 
+same_line_and_status() {
+    [ "$status" = "$own_status" ] && cmp -s "$work/output" "$work/own_answer"
+}
+
+told_shares_alone() {
+    [ -s "$work/errors" ] && ! grep -Evq '^pdb_cli: (100|[1-9]?[0-9]) percent of 1418 blocks or lemmas begun$' "$work/errors"
+}
+
 # A run with these words on a stack of 120 kilobytes. Each process has 128 from its start, so 8 are left; what a run needs
 # beyond it the system may refuse where memory is limited, and then ends the run by a signal.
 limit_stack() {
@@ -708,6 +716,44 @@ limit_stack solve board one_set made "${most_tables[@]}" --workers 64
 limit_stack solve board sixteen_mirrors made "${most_tables[@]}" --workers 64
 limit_stack solve board sixteen_mirrors made "${most_tables[@]}" --workers 64 --fold
 rm -f made
+
+#
+# Progress.
+#
+
+# A clock that moves by 300 milliseconds each time that it is read. One worker reads it at the start and then once a block,
+# so it is time to tell at each fourth block.
+cc -O1 -shared -fPIC -o "$work/step_clock.so" "$root/tools/step_clock.c"
+blocks=1418
+run table all_of_side_3
+own_status=$status
+mv "$work/output" "$work/own_answer"
+for ((block = 4; block <= blocks; block += 4)); do
+    echo "pdb_cli: $((100 * block / blocks)) percent of $blocks blocks or lemmas begun"
+done >"$work/progress"
+for workers in 1 4; do
+    status=0
+    (export PDB_PROGRESS=1 LD_PRELOAD=$work/step_clock.so && exec "$bare" table all_of_side_3 --workers "$workers") \
+        >"$work/output" 2>"$work/errors" || status=$?
+    check "progress of $workers workers leaves the answer" same_line_and_status
+    [ "$workers" != 1 ] || check 'all shares that one worker tells' cmp -s "$work/errors" "$work/progress"
+    check "$workers workers tell shares alone" told_shares_alone
+done
+for value in '' 0 11 yes; do
+    status=0
+    (export PDB_PROGRESS=$value LD_PRELOAD=$work/step_clock.so && exec "$bare" table all_of_side_3) \
+        >"$work/output" 2>"$work/errors" || status=$?
+    check "no progress with the value '$value'" same_answer
+done
+status=0
+(unset PDB_PROGRESS && export LD_PRELOAD=$work/step_clock.so && exec "$bare" table all_of_side_3) \
+    >"$work/output" 2>"$work/errors" || status=$?
+check 'no progress without the variable' same_answer
+status=0
+(export PDB_PROGRESS=1 LD_PRELOAD=$work/step_clock.so && exec "$bare" table all_of_side_3) \
+    >"$work/output" 2>/dev/full || status=$?
+: >"$work/errors"
+check 'progress on a full standard error leaves the answer' same_answer
 
 #
 # Changed inputs.

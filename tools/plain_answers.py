@@ -579,12 +579,10 @@ def most_expanded(board, moves):
     return 4 * sum(begun[board.index(0)] for begun in walks(side_of(board), moves))
 
 
-def gives_up(board, sets, budget):
-    """With which refusals a search over these sets may end."""
-    if any(sum_of(members, board) is None for members in sets):
-        return ["K2"]
+def gives_up(board, budget):
+    """With which refusals a search for the board may end."""
     if not has_solution(board):
-        return ["K1", "K2"] if budget < most_expanded(board, 255) else ["K2"]
+        return ["K2"]
     least = least_moves(board)
     return ["K1"] if least is None or budget < most_expanded(board, least) else []
 
@@ -700,7 +698,7 @@ def made_log(run, ended, inputs):
     sets = read_sets(set_text, tables)
     if tables[0].pattern.side != side_of(board):
         raise Refused("L4")
-    refusals = gives_up(board, sets, run.budget)
+    refusals = gives_up(board, run.budget)
     told = [refusal for refusal in refusals if ended.written.endswith(b"refused %s\n" % refusal.encode())]
     if told or not has_solution(board):
         raise Refused([*refusals, *told][-1])

@@ -61,7 +61,7 @@ fn searches_end(rt: HostRuntime) {
     let cases: [(&Bundle<'_>, [u8; 4], u64, Option<MakeFault>); 6] = [
         (&all, [0, 1, 3, 2], PLENTY, Some(MakeFault::K2)),
         (&one, [0, 1, 3, 2], PLENTY, Some(MakeFault::K2)),
-        (&one, [0, 1, 3, 2], 1000, Some(MakeFault::K1)),
+        (&one, [0, 1, 3, 2], 0, Some(MakeFault::K2)),
         (&two, [3, 2, 1, 0], 1, Some(MakeFault::K1)),
         (&all, [1, 0, 2, 3], 0, Some(MakeFault::K1)),
         (&all, [0, 1, 2, 3], 0, None),

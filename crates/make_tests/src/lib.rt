@@ -22,6 +22,8 @@ mod parity;
 #[cfg(test)]
 mod searches;
 #[cfg(test)]
+mod solvable;
+#[cfg(test)]
 mod tables;
 #[cfg(test)]
 mod transposed;

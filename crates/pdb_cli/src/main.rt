@@ -3,9 +3,9 @@
 
 use pdb_io::disk::DiskShelf;
 use pdb_program::{Host, start};
+use pdb_progress::Watch;
 use std::process::ExitCode;
 use std::{env, io};
-use work_run::OpenGate;
 
 /// All arguments, of which the first is the program's own name.
 fn arguments(rt: &HostRuntime) -> io::Result<Vec<String>> {
@@ -18,10 +18,11 @@ fn main(rt: HostRuntime) -> ExitCode {
     let mut reader = rt.stdin();
     let mut out = rt.stdout();
     let mut err = rt.stderr();
+    let gate = Watch::asked_for(&rt);
     let host = Host {
         rt: &rt,
         alloc: rt.alloc(),
-        gate: &OpenGate,
+        gate: &gate,
     };
     ExitCode::from(start(
         &host,

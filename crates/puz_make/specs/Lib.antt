@@ -1,3 +1,4 @@
 pub mod Faults
 pub mod Layers
 pub mod Pieces
+pub mod Solvable

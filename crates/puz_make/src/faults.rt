@@ -10,7 +10,7 @@ use std::alloc::AllocError;
 pub enum MakeFault {
     /// The search has expanded as many boards as it may.
     K1,
-    /// The next threshold would be above 255, or a set says of the board that it has no solution.
+    /// The board has no solution, by the parity of its numbers, or the next threshold would be above 255.
     K2,
     /// A count would be above 253.
     K3,

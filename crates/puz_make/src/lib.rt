@@ -21,6 +21,7 @@ mod searches;
 mod sets;
 mod shapes;
 mod slots;
+mod solvable;
 mod steps;
 mod sums;
 mod tables;

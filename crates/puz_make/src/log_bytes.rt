@@ -41,6 +41,11 @@ impl LogBytes {
         self.starts.len()
     }
 
+    /// How many bytes there are.
+    pub(crate) fn len(&self) -> usize {
+        self.bytes.len()
+    }
+
     /// How many bytes a lemma has before its tree.
     pub(crate) fn front_len(&self) -> usize {
         self.cells.saturating_add(BOUND_AND_LENGTH)

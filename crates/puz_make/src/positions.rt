@@ -1,6 +1,6 @@
 //! The board of a search, which is moved in place.
 
-ghost use Rattle.std.specs.Prelude.{◌≡◌, ◌<◌, ◌*◌};
+ghost use Rattle.std.specs.Prelude.{◌≡◌, ◌<◌, ◌*◌, length, take};
 ghost use Rattle.puz_board.specs.Boards.{side_of};
 
 use crate::moves::MOVES;
@@ -109,10 +109,13 @@ impl<'a> Position<'a> {
 }
 
 /// The number in each cell of a board.
-pub(crate) fn numbers_of(board: &Board) -> [u8; CELLS] {
+pub(crate) fn numbers_of(board: &Board) -> [u8; CELLS]
+    ensures { take (length board.now) result ≡ board.now }
+{
     let mut numbers = [0; CELLS];
-    for cell in 0..board.side().cells() {
-        numbers[usize::from(cell) % CELLS] = board.at(cell);
+    let side = board.side();
+    for cell in 0..side.cells() {
+        numbers[usize::from(cell)] = board.at(cell);
     }
     numbers
 }

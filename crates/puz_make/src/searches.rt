@@ -1,15 +1,18 @@
 //! Shortest solutions by iterative deepening (Korf 1985), and the logs that prove them shortest.
 
-ghost use Rattle.std.specs.Prelude.{◌≡◌, ◌<◌, IfErr};
+ghost use Rattle.std.specs.Prelude.{◌≡◌, ◌<◌, Err, IfErr, IfOk};
 ghost use Rattle.std.specs.Bool.{OnFalse};
 ghost use Rattle.puz_board.specs.Boards.{side_of};
 ghost use Rattle.puz_make.specs.Faults.{IsSearchFault};
+ghost use Rattle.puz_make.specs.Solvable.{HasTheBlanksParity};
+ghost use Rattle.puz_make.specs.declared.faults.MakeFault.TheVariants.{K2};
 
 use crate::faults::MakeFault;
 use crate::limits::Limits;
 use crate::logs::log_of;
 use crate::moves::MOVES;
 use crate::positions::{NOWHERE, Position};
+use crate::solvable::is_solvable;
 use crate::sums::Leaf;
 use crate::trees::{BRANCH, Refutation};
 use crate::written::WrittenTree;
@@ -39,6 +42,7 @@ pub struct Found {
 /// lemmas where its tree is large. Where that tree was too large to be kept while the next threshold was searched, its boards
 /// are expanded once more, which doesn't count. Where the sum of a set hasn't the parity of the solutions, it may count for one
 /// more, as a leaf by parity.
+/// Of a board that has no solution, by the parity of its numbers, nothing is searched.
 pub fn solve(
     alloc: Global,
     bundle: &Bundle<'_>,
@@ -47,7 +51,11 @@ pub fn solve(
 ) -> Result<Found, MakeFault>
     requires { side_of board.now ≡ bundle.now.side }
     ensures fault { IfErr result IsSearchFault }
+    ensures unsolvable { (HasTheBlanksParity board.now → ⊥) → result ≡ Err K2 }
 {
+    if !is_solvable(board) {
+        return Err(MakeFault::K2);
+    }
     solve_within(alloc, bundle, board, budget, &Limits::USUAL)
 }
 

@@ -62,6 +62,8 @@ pub(crate) struct Writer<'a> {
     bound: u8,
     /// The most bytes of a subtree that is cut off.
     most_cut: u32,
+    /// How many more bytes than the tree so far the log may have so far: half of what repeats are to save.
+    credit: usize,
     /// The bytes of the branches that the walk is in.
     bytes: Vec<u8>,
     /// These branches.
@@ -83,6 +85,7 @@ impl<'a> Writer<'a> {
             lemmas,
             bound: refutation.bound,
             most_cut: LEAST_CUT.max(size / CUTS),
+            credit: refutation.tree.len().saturating_sub(size as usize) / 2,
             bytes: Vec::new(alloc),
             open: Vec::new(alloc),
         };
@@ -210,11 +213,20 @@ impl<'a> Writer<'a> {
         } else {
             PARTS
         };
-        if self.refute_reverse((entry.size / parts) as usize)? {
+        let most = (entry.size / parts) as usize;
+        if self.can_afford(most) && self.refute_reverse(most)? {
             Ok(Plan::Cut)
         } else {
             Ok(Plan::Inline)
         }
+    }
+
+    /// Whether the log stays short enough with a lemma more, whose root has a node more of so many bytes.
+    fn can_afford(&self, node: usize) -> bool {
+        let written = self.lemmas.log.len().saturating_add(self.bytes.len());
+        let front = self.lemmas.log.front_len().saturating_add(CITATION_LEN);
+        let more = front.saturating_add(node);
+        written.saturating_add(more) <= self.walk.at.saturating_add(self.credit)
     }
 
     /// By how many bytes the log is shorter where a subtree of so many bytes is a lemma that is cited in place of each repeat,

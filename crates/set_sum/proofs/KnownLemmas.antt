@@ -9,7 +9,7 @@ use Rattle.puz_board.specs.Cells.{Adjacent, step_of}
 use Rattle.puz_board.specs.Costs.{has}
 use Rattle.puz_board.specs.Masks.{numbers_of}
 use Rattle.puz_board.specs.Transposing.{transposed_cell}
-use Rattle.puz_board.proofs.BitLemmas.{both_in, but_in, sub_le}
+use Rattle.puz_board.proofs.BitLemmas.{both_in, but_in, in_both, sub_le}
 use Rattle.puz_board.proofs.BoardLemmas.{IsBoardOf-slid, at-cell_of, at-slid_back, at-slid_other, blank-slid, cell_of-below, cell_of-is, cells_least, cells_most, side_of-board}
 use Rattle.puz_board.proofs.BoardWays.{Adjacent-apart}
 use Rattle.puz_board.proofs.CellLemmas.{step_of-inside}
@@ -56,6 +56,21 @@ joined_more places place entry other known now next joined noted one is = record
     ]
   ];
 }
+
+-- what is joined from some places is joined from more
+pub joined_within : (places more : ℕ) (other known now : Known) → ((p : ℕ) → bit_at places p ≡ 1 → bit_at more p ≡ 1) → IsJoined places other known now → IsJoined more other known now
+joined_within places more other known now within joined = record {
+  size = joined.size;
+  small = joined.small;
+  each = λ p set. elim (joined.each p set) [ inl kept ↦ inl kept | inr taken ↦ inr (within p taken.0, taken.1) ];
+}
+
+-- places of these that are no others' are such of all
+pub fresh_within : (all known owners : ℕ) → all < 2 ^ 32 → known < 2 ^ 32 → owners < 2 ^ 32 → (p : ℕ)
+    → bit_at (bit_and (bit_and all (2 ^ 32 - 1 - known)) (2 ^ 32 - 1 - owners)) p ≡ 1 → bit_at (bit_and all (2 ^ 32 - 1 - owners)) p ≡ 1
+fresh_within all known owners a k o p set =
+    let both = both_in (bit_and all (2 ^ 32 - 1 - known)) (2 ^ 32 - 1 - owners) p set in
+    in_both all (2 ^ 32 - 1 - owners) p (both_in all (2 ^ 32 - 1 - known) p both.0).0 both.1
 
 -- ---- the members whose pattern has a tile
 

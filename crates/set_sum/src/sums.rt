@@ -162,8 +162,12 @@ impl<'a> Sums<'a> {
         requires next { moved self.old.board mv ≡ Some next.now.board }
         ensures { self.new ≡ self.old }
     {
+        let fresh = next.known.places & !self.known.places;
+        if fresh == 0 {
+            return;
+        }
         let tile = self.board.at(next.board.blank());
-        let places = next.known.places & !owners(self.bundle, tile);
+        let places = fresh & !owners(self.bundle, tile);
         self.known = joined(&self.known, &next.known, places);
     }
 }

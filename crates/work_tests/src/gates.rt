@@ -70,7 +70,7 @@ fn a_gate_is_told_where_there_are_no_jobs(rt: HostRuntime) -> Result<(), Fail> {
         let none = Good { count: 0 };
         assert_eq!(rt; run_jobs(&rt, rt.alloc(), &none, workers, &gate)?, None);
         assert_eq!(rt; gate.told.into_inner(), 1, "{workers} workers");
-        assert_eq!(rt; gate.jobs.into_inner() + gate.came.into_inner(), 0);
+        assert_eq!(rt; (gate.jobs.into_inner(), gate.came.into_inner()), (0, 0));
     }
     Ok(())
 }

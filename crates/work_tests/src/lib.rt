@@ -1,5 +1,5 @@
-//! Tests of the book of jobs, as a machine and shared by threads, and of workers: that they run side by side, go by the book,
-//! skip, and pass a gate that is told how many jobs there are.
+//! Tests of the book of jobs, as a machine and shared by threads, of workers: that they run side by side, go by the book,
+//! and skip, and of what is told of their progress.
 #![tactic(auto)]
 
 #[cfg(test)]
@@ -8,5 +8,9 @@ mod books;
 mod cores;
 #[cfg(test)]
 mod gates;
+#[cfg(test)]
+mod progress;
+#[cfg(test)]
+mod stages;
 #[cfg(test)]
 mod workers;

@@ -1,7 +1,7 @@
-use Rattle.std.proofs.Common.{◌≡◌, ◌^◌, ◌<◌, Some, sym, ◌∙◌, ap, subst}
+use Rattle.std.proofs.Common.{◌≡◌, ◌-◌, ◌^◌, ◌<◌, bit_and, Some, sym, ◌∙◌, ap, subst}
 use Rattle.puz_board.specs.Boards.{IsBoardOf, at, blank, moved}
 use Rattle.set_sum.specs.StoredSums.{AreOwners, IsKnownOf}
-use Rattle.set_sum.proofs.KnownLemmas.{known_before, stepped}
+use Rattle.set_sum.proofs.KnownLemmas.{fresh_within, joined_within, known_before, stepped}
 use Rattle.set_sum.proofs.sums.Sums.learn.Goals as goal
 
 pub invariant_of-self : goal.invariant_of-self
@@ -23,5 +23,7 @@ invariant_of-self c =
       room = c.self.invariant.room;
       cells = c.self.invariant.cells;
       known = known_before v b good (blank n.board) step.0 c.owners.result own fits s.known n.known c.joined-self-inside.result c.self.invariant.known
-          (subst (λ d. IsKnownOf v d n.known) (sym step.1) (subst (λ w. IsKnownOf w n.board n.known) same c.next.invariant.known)) c.joined-self-inside.ensures;
+          (subst (λ d. IsKnownOf v d n.known) (sym step.1) (subst (λ w. IsKnownOf w n.board n.known) same c.next.invariant.known)) (
+          joined_within _ (bit_and n.known.places (2 ^ 32 - 1 - c.owners.result)) n.known s.known c.joined-self-inside.result
+          (fresh_within n.known.places s.known.places c.owners.result c.next.invariant.known.small c.self.invariant.known.small fits) c.joined-self-inside.ensures);
     }

@@ -1,0 +1,118 @@
+//! Gates that tell how far a check has come.
+
+use crate::shares::Share;
+use crate::times::is_time;
+use std::io;
+use std::rt::{Clock, Env};
+use std::sync::atomic::{AtomicU64, Ordering};
+use std::time::Instant;
+use work_run::Gate;
+
+/// The variable of the environment that asks for progress, by the value 1.
+const VARIABLE: &str = "PDB_PROGRESS";
+
+/// Tells on standard error, while workers run, what share of the jobs was begun: at most once a second, and not in the
+/// first second.
+///
+/// A job is a block of a table or a lemma of a log. Of several checks one after the other each has its own share.
+/// Where the clock or standard error fails nothing is told, and the check goes on.
+#[derive(Drop)]
+pub struct Progress<'a, R> {
+    rt: &'a R,
+    start: Instant,
+    /// The milliseconds from the start to the last telling, 0 before the first one.
+    told: AtomicU64,
+    jobs: AtomicU64,
+    begun: AtomicU64,
+}
+
+impl<'a, R: Clock + Eprint> Progress<'a, R> {
+    /// A gate whose first second begins now.
+    pub fn start(rt: &'a R) -> io::Result<Progress<'a, R>> {
+        Ok(Progress {
+            rt,
+            start: Instant::now(rt)?,
+            told: AtomicU64::new(0),
+            jobs: AtomicU64::new(0),
+            begun: AtomicU64::new(0),
+        })
+    }
+
+    /// The milliseconds since the start, where the clock tells them.
+    fn millis(&self) -> Option<u64> {
+        let elapsed = self.start.elapsed(self.rt).ok()?;
+        u64::try_from(elapsed.as_millis()).ok()
+    }
+
+    /// The share to tell now, where it is time to tell one and no other worker does.
+    fn due(&self, begun: u64) -> Option<Share> {
+        let now = self.millis()?;
+        let told = self.told.load(Ordering::SeqCst);
+        if !is_time(told, now) {
+            return None;
+        }
+        self.told
+            .compare_exchange(told, now, Ordering::SeqCst, Ordering::SeqCst)
+            .ok()?;
+        Share::of(begun, self.jobs.load(Ordering::SeqCst))
+    }
+}
+
+impl<R: Clock + Eprint> Gate for Progress<'_, R> {
+    fn begins(&self, jobs: u64) {
+        self.jobs.store(jobs, Ordering::SeqCst);
+        self.begun.store(0, Ordering::SeqCst);
+    }
+
+    fn before(&self, _job: u64) {
+        let begun_before = self.begun.fetch_add(1, Ordering::SeqCst);
+        if let Some(share) = self.due(begun_before.saturating_add(1)) {
+            let _ = self.rt.eprintln(share);
+        }
+    }
+}
+
+/// The gate of the program.
+#[derive(Drop)]
+pub enum Watch<'a, R> {
+    /// Tells nothing, and holds nobody.
+    Quiet,
+    /// Tells how far the check has come.
+    Telling(Progress<'a, R>),
+}
+
+impl<'a, R: Env + Clock + Eprint> Watch<'a, R> {
+    /// The gate that the environment asks for: one that tells where `PDB_PROGRESS` is 1, and otherwise a quiet one.
+    pub fn asked_for(rt: &'a R) -> Watch<'a, R> {
+        if !is_asked_for(rt) {
+            return Watch::Quiet;
+        }
+        match Progress::start(rt) {
+            Ok(progress) => Watch::Telling(progress),
+            Err(_) => Watch::Quiet,
+        }
+    }
+}
+
+impl<R: Clock + Eprint> Gate for Watch<'_, R> {
+    fn begins(&self, jobs: u64) {
+        if let Watch::Telling(progress) = self {
+            progress.begins(jobs);
+        }
+    }
+
+    fn before(&self, job: u64) {
+        if let Watch::Telling(progress) = self {
+            progress.before(job);
+        }
+    }
+}
+
+/// Whether the environment asks for progress.
+fn is_asked_for(rt: &impl Env) -> bool {
+    let mut value = [0; 2];
+    match rt.var(VARIABLE, &mut value) {
+        Ok(length) => value.get(..length) == Some(b"1".as_slice()),
+        Err(_) => false,
+    }
+}

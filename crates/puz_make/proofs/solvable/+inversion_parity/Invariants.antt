@@ -1,0 +1,5 @@
+use Rattle.std.proofs.Common.{length}
+use Rattle.puz_make.proofs.solvable.+inversion_parity.Given as goal
+
+abbrev pub decreases-inversion_parity : goal.decreases-inversion_parity
+decreases-inversion_parity l = length l.numbers.now

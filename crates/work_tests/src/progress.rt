@@ -1,0 +1,171 @@
+//! What is told of a check's progress, and when.
+
+use crate::stages::Stage;
+use crate::workers::Good;
+use pdb_progress::{Progress, Share, Watch, is_time};
+use std::test::Fail;
+use work_run::{Gate, run_jobs};
+
+#[test]
+fn it_is_time_after_each_second(rt: HostRuntime) {
+    let cases = [
+        (0, 0, false),
+        (0, 999, false),
+        (0, 1000, true),
+        (1000, 1999, false),
+        (1000, 2000, true),
+        (5000, 4000, false),
+        (u64::MAX, u64::MAX, false),
+    ];
+    for (told, now, is) in cases {
+        assert_eq!(rt; is_time(told, now), is, "{told} {now}");
+    }
+}
+
+#[test]
+fn shares_are_in_whole_percent(rt: HostRuntime) {
+    let cases = [
+        (0, 1, Some(0)),
+        (1, 3, Some(33)),
+        (2, 3, Some(66)),
+        (22_522, 22_523, Some(99)),
+        (22_523, 22_523, Some(100)),
+        (4_294_967_296, 4_294_967_296, Some(100)),
+        (0, 0, None),
+        (4, 3, None),
+        (0, 4_294_967_297, None),
+    ];
+    for (begun, jobs, percent) in cases {
+        let share = Share::of(begun, jobs);
+        assert_eq!(rt;
+            share.map(|share| share.percent()),
+            percent,
+            "{begun} of {jobs}"
+        );
+    }
+}
+
+#[test]
+fn shares_are_told_once_a_second_and_not_in_the_first(rt: HostRuntime) -> Result<(), Fail> {
+    let stage = Stage::new(rt.alloc())?;
+    let gate = Progress::start(&stage)?;
+    gate.begins(200);
+    // The clock at the first job, at the second and so on, and how many lines are then told.
+    let steps = [
+        (0, 0),
+        (999, 0),
+        (1000, 1),
+        (1001, 1),
+        (1999, 1),
+        (2000, 2),
+        (5500, 3),
+        (6499, 3),
+        (6500, 4),
+    ];
+    for (millis, told) in steps {
+        stage.set_clock(millis);
+        gate.before(0);
+        assert_eq!(rt; stage.told(), told, "at {millis}");
+    }
+    // The third, sixth, seventh and ninth of 200 jobs.
+    for (place, percent) in [(0, 1), (1, 3), (2, 3), (3, 4)] {
+        let line = format!(in rt.alloc();
+            "pdb_cli: {percent} percent of 200 blocks or lemmas begun"
+        )?;
+        assert_eq!(rt; stage.line(place), line.as_str());
+    }
+    Ok(())
+}
+
+#[test]
+fn each_check_has_a_share_of_its_own(rt: HostRuntime) -> Result<(), Fail> {
+    let stage = Stage::new(rt.alloc())?;
+    let gate = Progress::start(&stage)?;
+    gate.begins(3);
+    for second in 1..=3 {
+        stage.set_clock(1000 * second);
+        gate.before(second);
+    }
+    gate.begins(2);
+    stage.set_clock(3999);
+    gate.before(0);
+    stage.set_clock(4000);
+    gate.before(1);
+    assert_eq!(rt; stage.told(), 4);
+    assert_eq!(rt;
+        stage.line(0),
+        "pdb_cli: 33 percent of 3 blocks or lemmas begun"
+    );
+    assert_eq!(rt;
+        stage.line(1),
+        "pdb_cli: 66 percent of 3 blocks or lemmas begun"
+    );
+    assert_eq!(rt;
+        stage.line(2),
+        "pdb_cli: 100 percent of 3 blocks or lemmas begun"
+    );
+    assert_eq!(rt;
+        stage.line(3),
+        "pdb_cli: 100 percent of 2 blocks or lemmas begun"
+    );
+    Ok(())
+}
+
+#[test]
+fn the_environment_asks_by_the_value_1_alone(rt: HostRuntime) -> Result<(), Fail> {
+    let cases: [(Option<&'static [u8]>, u64); 7] = [
+        (Some(b"1"), 1),
+        (None, 0),
+        (Some(b""), 0),
+        (Some(b"0"), 0),
+        (Some(b"11"), 0),
+        (Some(b"1 "), 0),
+        (Some(b"yes"), 0),
+    ];
+    for (value, told) in cases {
+        let mut stage = Stage::new(rt.alloc())?;
+        stage.value = value;
+        let gate = Watch::asked_for(&stage);
+        stage.set_clock(1000);
+        let jobs = Good { count: 1 };
+        assert_eq!(rt; run_jobs(&rt, rt.alloc(), &jobs, 1, &gate)?, None);
+        assert_eq!(rt; stage.told(), told, "{value:?}");
+    }
+    Ok(())
+}
+
+#[test]
+fn workers_together_tell_once(rt: HostRuntime) -> Result<(), Fail> {
+    for workers in [1, 2, 7] {
+        let stage = Stage::new(rt.alloc())?;
+        let gate = Progress::start(&stage)?;
+        stage.set_clock(5000);
+        let jobs = Good { count: 5000 };
+        assert_eq!(rt; run_jobs(&rt, rt.alloc(), &jobs, workers, &gate)?, None);
+        assert_eq!(rt; stage.told(), 1, "{workers} workers");
+        let line = stage.line(0);
+        assert!(rt;
+            line.ends_with(" percent of 5000 blocks or lemmas begun"),
+            "{line}"
+        );
+    }
+    Ok(())
+}
+
+#[test]
+fn a_clock_or_a_standard_error_that_fails_stops_nothing(rt: HostRuntime) -> Result<(), Fail> {
+    let jobs = Good { count: 3 };
+    let mut closed = Stage::new(rt.alloc())?;
+    closed.is_open = false;
+    let gate = Progress::start(&closed)?;
+    closed.set_clock(1000);
+    assert_eq!(rt; run_jobs(&rt, rt.alloc(), &jobs, 1, &gate)?, None);
+    assert_eq!(rt; closed.told(), 1);
+    let mut timeless = Stage::new(rt.alloc())?;
+    timeless.value = Some(b"1");
+    timeless.has_clock = false;
+    let gate = Watch::asked_for(&timeless);
+    assert_eq!(rt; run_jobs(&rt, rt.alloc(), &jobs, 1, &gate)?, None);
+    assert_eq!(rt; timeless.told(), 0);
+    Ok(())
+}
