@@ -111,7 +111,7 @@ fn check_walks<R: Threads + Wait + AllocGlobal + Abort>(
         assert!(rt; board.side() == bundle.side());
         let fault = solve(rt.alloc(), bundle, &board, 1).err();
         assert_ne!(rt; fault, Some(MakeFault::K2), "{board:?}");
-        let tile = 1 + (random.next() % (goal.len().max(3) - 2)) as u8 % 23;
+        let tile = 1 + (random.next() % (goal.len().max(3) - 2) % 23) as u8;
         let exchanged = with_two_tiles_exchanged(rt.alloc(), &board, tile)?;
         let fault = found(rt, bundle, &exchanged, 1).err();
         assert_eq!(rt; fault, Some(MakeFault::K2), "{board:?} {tile}");
