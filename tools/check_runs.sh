@@ -687,15 +687,15 @@ told_shares_alone() {
     [ -s "$work/errors" ] && ! grep -Evq '^pdb_cli: (100|[1-9]?[0-9]) percent of 1418 blocks or lemmas begun$' "$work/errors"
 }
 
-# A run with these words on a stack of 120 kilobytes. Each process has 128 from its start, so 8 are left; what a run needs
-# beyond it the system may refuse where memory is limited, and then ends the run by a signal.
+# A run with these words on a stack of 128 kilobytes, which each process has from its start; what a run needs beyond it the
+# system may refuse where memory is limited, and then ends the run by a signal.
 limit_stack() {
     run "$@"
     own_status=$status
     mv "$work/output" "$work/own_answer"
     status=0
-    (ulimit -s 120 && exec env -i "$bare" "$@") <"$input" >"$work/output" 2>"$work/errors" || status=$?
-    check "$* with less than the stack of a start" same_answer
+    (ulimit -s 128 && exec env -i "$bare" "$@") <"$input" >"$work/output" 2>"$work/errors" || status=$?
+    check "$* with the stack of a start" same_answer
 }
 
 most_tables=(F12 F12 F12 F12 F12 F12 F12 F12 F12 F12 F12 F12 F12 F12 F12 F12)
@@ -770,7 +770,7 @@ check '2,000 changed inputs are answered as their plain answers say' \
 
 status=0
 "$root/tools/check_tour.sh" "$bare" >"$work/output" 2>"$work/errors" || status=$?
-check 'the commands of the tour write what its page says' [ "$status" = 0 ]
+check 'the commands of the pages write what these say' [ "$status" = 0 ]
 
 #
 # What has to be believed.
@@ -779,6 +779,14 @@ check 'the commands of the tour write what its page says' [ "$status" = 0 ]
 status=0
 "$root/tools/check_believe.py" >"$work/output" 2>"$work/errors" || status=$?
 check 'the page of what has to be believed counts and quotes what is there' [ "$status" = 0 ]
+
+#
+# The examples of the crates' pages.
+#
+
+status=0
+"$root/tools/check_examples.py" >"$work/output" 2>"$work/errors" || status=$?
+check 'each example of a page stands among the tests' [ "$status" = 0 ]
 
 #
 # Tables and logs that are made.
