@@ -1,5 +1,5 @@
 -- What comes of makers.
-use Rattle.std.proofs.Common.{◌≡◌, ◌≢◌, ◌∙◌, ℕ, suc, ◌+◌, ◌-◌, ◌<◌, ◌≤◌, Bool, true, false, List, [], ◌∷◌, ◌++◌, Option, Some, None, Result, Ok, Err, IfErr, IfOk, length, map, drop, get_or, take, not, ◌||◌, ap, append_assoc, arith, inl, inr, length-append, refl, subst, sym}
+use Rattle.std.proofs.Common.{◌≡◌, ◌∙◌, ℕ, suc, ◌+◌, ◌-◌, ◌<◌, ◌≤◌, Bool, true, false, List, [], ◌∷◌, ◌++◌, Option, Some, None, Result, Ok, Err, IfOk, length, map, drop, get_or, take, not, ◌||◌, ap, append_assoc, arith, inl, inr, length-append, refl, subst, sym}
 use Rattle.std.specs.Prelude.{◌==◌, MatchResult, Vec, slice_get, slice_range}
 use Rattle.std.specs.Char.{is_ascii_digit}
 use Rattle.std.specs.List.{cons_option}

@@ -24,7 +24,8 @@ use pdb_run::{
 };
 use pdb_verdict::{
     BundleRefusal, Failure, GivenUp, OptimalRefusal, SearchRefusal, Tables, UnmadeRefusal, Workers,
-    a_text, fault_of_search, fold_bundle, line_of, optimum_over, push_tables, read_bundle, take_first,
+    a_text, fault_of_search, fold_bundle, line_of, optimum_over, push_tables, read_bundle,
+    take_first,
 };
 use puz_board::Board;
 use puz_make::{Found, MakeFault, solve};

@@ -82,6 +82,6 @@ same_solution a b same = cc
 -- so an answer that tells it says a number of moves exactly where so many solve the board
 pub says_solution : (puzzle : List ℕ) (answer : Result Verdict Fault) (n : ℕ) → IsReplayTold puzzle answer → (answer ≡ Ok (verdict.Solution n)) ↔ (IsSolvedPuzzle puzzle n)
 says_solution puzzle answer n is = (
-    λ same. (told_exactly verdict.Solution fault_of_replay (IsReplayResult puzzle) same_solution n).0 (subst (λ (a : Result Verdict Fault). IsReplayTold puzzle a) same is),
-    λ h. told_one verdict.Solution fault_of_replay (IsReplayResult puzzle) (IsReplayResult-one puzzle) answer (Ok (verdict.Solution n)) is (Ok n, h, refl),
+  λ same. (told_exactly verdict.Solution fault_of_replay (IsReplayResult puzzle) same_solution n).0 (subst (λ (a : Result Verdict Fault). IsReplayTold puzzle a) same is),
+  λ h. told_one verdict.Solution fault_of_replay (IsReplayResult puzzle) (IsReplayResult-one puzzle) answer (Ok (verdict.Solution n)) is (Ok n, h, refl),
 )

@@ -1,5 +1,5 @@
 -- Claims on logs: what stands before the log, and what is told of them.
-use Rattle.std.proofs.Common.{◌≡◌, ◌≢◌, ◌∙◌, ◌≤◌, ◌-◌, ℕ, Bool, true, List, [], ◌∷◌, ◌++◌, Option, Some, None, Vec, Result, Ok, Err, ap, arith, get_or, inl, inr, length, map, refl, subst, sym}
+use Rattle.std.proofs.Common.{◌≡◌, ◌≢◌, ◌∙◌, ◌≤◌, ◌-◌, ℕ, Bool, true, List, [], ◌∷◌, ◌++◌, Option, Some, None, Vec, Result, Err, ap, arith, get_or, inl, inr, length, map, refl, subst, sym}
 use Rattle.std.specs.Prelude.{slice_get, slice_range}
 use Rattle.std.specs.declared.alloc.AllocError.{AllocError}
 use Rattle.std.proofs.lemmas.List.{take_all}

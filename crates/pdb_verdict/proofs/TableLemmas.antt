@@ -2,7 +2,7 @@
 use Rattle.std.proofs.Common.{◌≡◌, ◌∙◌, ℕ, List, Result, Ok, Err, ap, inl, inr, refl, sym, subst}
 use Rattle.pat_place.proofs.MaskLemmas.{numbers_of-one}
 use Rattle.tab_check.specs.Counts.{IsCensusOf}
-use Rattle.tab_check.specs.TableFaults.{IsCauseOf, IsFaultOf}
+use Rattle.tab_check.specs.TableFaults.{IsCauseOf}
 use Rattle.tab_check.specs.declared.census.Census.{Census}
 use Rattle.tab_check.specs.declared.tables.TableFault.{TableFault}
 use Rattle.tab_check.specs.declared.tables.TableFault.TheVariants.{Memory, Refused}

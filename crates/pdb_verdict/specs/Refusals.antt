@@ -1,5 +1,5 @@
 -- Why each command refuses, and the fault that each refusal is told as.
-use Rattle.std.specs.Prelude.{◌≡◌, Result, Ok, Err, MatchResult}
+use Rattle.std.specs.Prelude.{◌≡◌, Result, Ok, Err}
 use Rattle.log_check.specs.declared.faults.LogRefusal.TheVariants.{L4}
 use Rattle.pdb_verdict.specs.declared.refusals.BoundRefusal.{BoundRefusal}
 use Rattle.pdb_verdict.specs.declared.refusals.BoundRefusal.TheVariants as bound

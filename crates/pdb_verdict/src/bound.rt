@@ -76,7 +76,8 @@ fn bound_of_text<H: Threads + Wait, G: Gate + Sync>(
     workers: &Workers<'_, H, G>,
 ) -> Result<u8, Failure<BoundRefusal>>
     ensures { let files = all_bytes tables.entry.files.now in
-        IsFoundBy (IsBoundResult tables.entry.fold text.now sets.now log.now files) (TakesMemoryForBound text.now files) result }
+        IsFoundBy (IsBoundResult tables.entry.fold text.now sets.now log.now files)
+        (TakesMemoryForBound text.now files) result }
 {
     match Board::read(text) {
         Ok(board) => claimed(bound_for(alloc, &board, sets, log, tables, workers)),

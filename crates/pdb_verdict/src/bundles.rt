@@ -52,7 +52,9 @@ pub(crate) fn bundle_of<'a>(
 {
     let parts = match parts {
         Ok(parts) => parts,
-        Err(Failure::Refused(refused)) => return Err(Failure::Refused(BundleRefusal::File(refused))),
+        Err(Failure::Refused(refused)) => return Err(Failure::Refused(BundleRefusal::File(
+            refused,
+        ))),
         Err(Failure::Memory) => return Err(Failure::Memory),
     };
     match Bundle::read(parts, sets) {

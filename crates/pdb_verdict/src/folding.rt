@@ -71,7 +71,8 @@ fn fold_next<'x, H: Threads + Wait + Sync, G: Gate + Sync>(
     ensures line { digests.new.items ≡ digests.old.items ++ digest_line file.now }
     ensures length { length digests.new.items ≡ length digests.old.items + DIGEST_LEN }
     ensures ok { IfOk result (λ after. MatchResult parts.entry (λ before. HasOneMore before.items file.now after.items) (λ _. ⊥)) }
-    ensures err { IfErr result (λ cause. MatchResult parts.entry (λ before. IsCauseAt (length before.items) file.now cause) (λ refused. cause ≡ refused)) }
+    ensures err { IfErr result (λ cause. MatchResult parts.entry
+        (λ before. IsCauseAt (length before.items) file.now cause) (λ refused. cause ≡ refused)) }
 {
     let mut folded = match parts {
         Ok(parts) => parts,

@@ -76,7 +76,8 @@ fn optimum_of_text<H: Threads + Wait, G: Gate + Sync>(
     workers: &Workers<'_, H, G>,
 ) -> Result<u8, Failure<OptimalRefusal>>
     ensures { let files = all_bytes tables.entry.files.now in
-        IsFoundBy (IsOptimumResult tables.entry.fold puzzle.now sets.now log.now files) (TakesMemoryForOptimum puzzle.now files) result }
+        IsFoundBy (IsOptimumResult tables.entry.fold puzzle.now sets.now log.now files)
+        (TakesMemoryForOptimum puzzle.now files) result }
 {
     let (board, solution) = solved_board(puzzle)?;
     compare(

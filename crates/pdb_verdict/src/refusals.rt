@@ -212,7 +212,9 @@ pub(crate) fn answer_of_bound(found: Result<u8, Failure<BoundRefusal>>) -> Resul
 }
 
 /// What `verify` answers where `optimal` finds this.
-pub(crate) fn answer_of_optimal(found: Result<u8, Failure<OptimalRefusal>>) -> Result<Verdict, Fault>
+pub(crate) fn answer_of_optimal(
+    found: Result<u8, Failure<OptimalRefusal>>,
+) -> Result<Verdict, Fault>
     ensures { result ≡ answer_of verdict.Optimal fault_of_optimal found }
 {
     match found {

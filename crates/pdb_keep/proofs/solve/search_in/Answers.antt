@@ -1,4 +1,4 @@
-use Rattle.std.proofs.Common.{◌≡◌, ◌≢◌, Err, IfErr, IfOk, rules, subst, sym}
+use Rattle.std.proofs.Common.{◌≡◌, ◌≢◌, IfErr, IfOk, rules, subst, sym}
 use Rattle.puz_board.specs.Boards.{side_of}
 use Rattle.pdb_verdict.specs.Bundles.{IsBundleOfFiles}
 use Rattle.pdb_verdict.specs.Steps.{IsCauseForBundle}

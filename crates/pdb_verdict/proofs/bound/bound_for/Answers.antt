@@ -1,4 +1,4 @@
-use Rattle.std.proofs.Common.{Result, Err, IfErr, IfOk, subst, sym, ap}
+use Rattle.std.proofs.Common.{Err, subst, sym}
 use Rattle.pdb_run.specs.Answers.{all_bytes}
 use Rattle.pdb_verdict.specs.Steps.{IsFoundFor}
 use Rattle.pdb_verdict.proofs.BoundLemmas.{cause_found, found_over}

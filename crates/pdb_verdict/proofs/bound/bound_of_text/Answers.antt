@@ -1,7 +1,7 @@
-use Rattle.std.proofs.Common.{◌≡◌, Ok, Err, rules, subst, sym}
+use Rattle.std.proofs.Common.{◌≡◌, Ok, rules, subst, sym}
 use Rattle.puz_board.specs.BoardTexts.{board_of_text}
 use Rattle.pdb_run.specs.Answers.{all_bytes}
-use Rattle.pdb_verdict.specs.Bound.{IsBoundResult, IsResultOfBoard, TakesMemoryForBound}
+use Rattle.pdb_verdict.specs.Bound.{IsBoundResult, TakesMemoryForBound}
 use Rattle.pdb_verdict.specs.Refusals.{IsFoundBy}
 use Rattle.pdb_verdict.proofs.BoundLemmas.{board_found}
 use Rattle.pdb_verdict.proofs.bound.bound_of_text.Goals as goal

@@ -1,6 +1,6 @@
 use Rattle.std.proofs.Common.{◌∙◌, subst, sym}
 use Rattle.pdb_run.specs.Answers.{all_bytes}
-use Rattle.pdb_verdict.specs.Optimal.{IsOptimumResult, IsResultOfPuzzle, TakesMemoryForOptimum}
+use Rattle.pdb_verdict.specs.Optimal.{IsOptimumResult, TakesMemoryForOptimum}
 use Rattle.pdb_verdict.specs.Refusals.{IsFoundBy}
 use Rattle.pdb_verdict.proofs.OptimumLemmas.{puzzle_found}
 use Rattle.pdb_verdict.proofs.optimal.optimum_of_text.Goals as goal

@@ -1,4 +1,4 @@
-use Rattle.std.proofs.Common.{◌≡◌, ◌∙◌, List, ℕ, Result, ap, subst, sym}
+use Rattle.std.proofs.Common.{◌∙◌, List, ℕ, Result, ap, subst, sym}
 use Rattle.pdb_verdict.specs.Optimal.{of_halves}
 use Rattle.pdb_verdict.specs.Steps.{IsOptimumOver, or_failure}
 use Rattle.pdb_verdict.specs.declared.refusals.ReplayRefusal.{ReplayRefusal}

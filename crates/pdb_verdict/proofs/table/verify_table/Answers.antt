@@ -1,4 +1,4 @@
-use Rattle.std.proofs.Common.{Err, Ok, Result, inl, refl, rules, subst, sym, ap}
+use Rattle.std.proofs.Common.{Err, Ok, inl, refl, rules, subst, sym}
 use Rattle.pdb_verdict.specs.Inputs.{table_file}
 use Rattle.pdb_verdict.specs.Table.{IsExactFor}
 use Rattle.pdb_verdict.specs.Verdicts.{IsAnswerTo}
