@@ -11,12 +11,14 @@ use Rattle.pdb_run.specs.Runs.{Ends, World, kept, status_of_reply, with_kept}
 use Rattle.pdb_run.specs.declared.statuses.Status.TheVariants.{Yes, Refused}
 use Rattle.pdb_run.proofs.AnswerLemmas.{IsAnswered-ends}
 use Rattle.pdb_verdict.specs.Optimal.{IsProvedOptimum}
-use Rattle.pdb_verdict.specs.Table.{IsExactFor}
+use Rattle.pdb_verdict.specs.Table.{IsExactFor, IsTableResult, exact_verdict}
+use Rattle.pdb_verdict.specs.declared.verdicts.Fault.TheVariants as fault
 use Rattle.pdb_verdict.specs.declared.verdicts.Verdict.{Verdict}
 use Rattle.pdb_verdict.specs.declared.verdicts.Verdict.TheVariants as verdict
-use Rattle.pdb_verdict.proofs.OptimumLemmas.{IsOptimumResult-yes, proved_least}
+use Rattle.pdb_verdict.proofs.OptimumLemmas.{IsOptimumResult-proved, proved_least}
+use Rattle.pdb_verdict.proofs.RefusalLemmas.{told_yes}
 use Rattle.pdb_keep.specs.Kept.{IsLogKept, IsTableKept}
-use Rattle.pdb_keep.specs.MakeTable.{Build, IsBuildFor, built, make_table_plan, reply_to_build, unbuilt}
+use Rattle.pdb_keep.specs.MakeTable.{Build, IsBuildFor, SpeaksOf, built, make_table_plan, reply_to_build, unbuilt}
 use Rattle.pdb_keep.specs.Solve.{IsSearchOf, IsSolveReply, Search, puzzle_of, reply_to_search, searched, solve_inputs, solve_plan, unmade}
 use Rattle.pdb_keep.proofs.MakerLemmas.{solved-moves}
 
@@ -32,17 +34,17 @@ module _ (side mask : ℕ) (out : Bytes) (old new : World) where
       → Appends old.written new.written (reply_text (reply_to_build build)) → IsTableKept side mask out old new
   exact_kept (unbuilt refused) is says_yes files lines = absurd (let clash : false ≡ true = says_yes in cc)
   exact_kept (built file (Err refused)) is says_yes files lines = absurd (let clash : false ≡ true = says_yes in cc)
-  exact_kept (built file (Ok (verdict.Solution n))) is says_yes files lines = absurd is.is_result
-  exact_kept (built file (Ok (verdict.Bound n))) is says_yes files lines = absurd is.is_result
-  exact_kept (built file (Ok (verdict.Optimal n))) is says_yes files lines = absurd is.is_result
-  exact_kept (built file (Ok (verdict.Exact s m census))) is says_yes files lines =
-      let own : verdict.Exact s m census ≡ verdict.Exact side mask census = λ i. verdict.Exact (is.own.0 i) (is.own.1 i) census in
-      let told : reply_to_build (built file (Ok (verdict.Exact s m census))) ≡ reply_to_build (built file (Ok (verdict.Exact side mask census))) =
-      ap (λ (v : Verdict). reply_to_build (built file (Ok v))) own in
+  exact_kept (built file (Ok v)) is says_yes files lines =
+      let yes = told_yes exact_verdict fault.Table (IsTableResult file) v is.is_result in
+      let census = yes.0.2 in
+      let speaks : SpeaksOf side mask (Ok (exact_verdict yes.0)) = subst (λ (w : Verdict). SpeaksOf side mask (Ok w)) yes.2 is.own in
+      let own : v ≡ verdict.Exact side mask census = yes.2 ∙ (λ i. verdict.Exact (speaks.0 i) (speaks.1 i) census) in
+      let told : reply_to_build (built file (Ok v)) ≡ reply_to_build (built file (Ok (verdict.Exact side mask census))) =
+      ap (λ (w : Verdict). reply_to_build (built file (Ok w))) own in
       record {
         file = file;
         census = census;
-        exact = subst (λ (k : ℕ). IsExactFor file k mask census) is.own.0 (subst (λ (k : ℕ). IsExactFor file s k census) is.own.1 is.is_result);
+        exact = subst (λ (k : ℕ). IsExactFor file k mask census) speaks.0 (subst (λ (k : ℕ). IsExactFor file yes.0.0 k census) speaks.1 yes.1);
         kept = files;
         lines = subst (λ (r : Reply). Appends old.written new.written (reply_text r)) told lines;
       }
@@ -65,10 +67,9 @@ module _ (fold : Bool) (text sets out : Bytes) (tables : List Bytes) (old new : 
       → Appends old.written new.written (reply_text (reply_to_search files outcome)) → IsLogKept fold text sets out tables old new
   good_kept board_text set_text files read (unmade refused) is says_yes kept_file lines = absurd (let clash : false ≡ true = says_yes in cc)
   good_kept board_text set_text files read (searched moves log (Err refused)) is says_yes kept_file lines = absurd (let clash : false ≡ true = says_yes in cc)
-  good_kept board_text set_text files read (searched moves log (Ok found)) is says_yes kept_file lines =
-      let proved_yes = IsOptimumResult-yes fold (puzzle_of board_text moves) set_text log files found is.is_result in
-      let n = proved_yes.0 in
-      let proved : IsProvedOptimum fold (puzzle_of board_text moves) set_text log files n = proved_yes.2 in
+  good_kept board_text set_text files read (searched moves log (Ok n)) is says_yes kept_file lines =
+      let proved : IsProvedOptimum fold (puzzle_of board_text moves) set_text log files n =
+      (IsOptimumResult-proved fold (puzzle_of board_text moves) set_text log files n).0 is.is_result in
       let parts = solved-moves board_text moves is.could.board n proved.solved is.could.spelt in
       record {
         moves = moves;
@@ -86,7 +87,7 @@ module _ (fold : Bool) (text sets out : Bytes) (tables : List Bytes) (old new : 
           least = proved_least fold (puzzle_of board_text moves) set_text log files n proved;
         };
         kept = kept_file;
-        lines = subst (λ (v : Verdict). Appends old.written new.written (reply_text (reply_to_search files (searched moves log (Ok v))))) proved_yes.1 lines;
+        lines = lines;
       }
 
   by_inputs : (inputs : List Bytes) (reply : Reply) → AreRead old.files old.reader (solve_inputs text sets tables) inputs → IsSolveReply fold inputs reply → reply.is_yes ≡ true

@@ -1,5 +1,5 @@
 -- What comes of makers.
-use Rattle.std.proofs.Common.{◌≡◌, ◌≢◌, ◌∙◌, ℕ, suc, ◌+◌, ◌-◌, ◌<◌, ◌≤◌, Bool, true, false, List, [], ◌∷◌, ◌++◌, Option, Some, None, Result, Ok, Err, IfErr, IfOk, length, map, drop, get_or, take, not, ◌||◌, ap, append_assoc, arith, inl, inr, length-append, refl, subst, sym}
+use Rattle.std.proofs.Common.{◌≡◌, ◌∙◌, ℕ, suc, ◌+◌, ◌-◌, ◌<◌, ◌≤◌, Bool, true, false, List, [], ◌∷◌, ◌++◌, Option, Some, None, Result, Ok, Err, IfOk, length, map, drop, get_or, take, not, ◌||◌, ap, append_assoc, arith, inl, inr, length-append, refl, subst, sym}
 use Rattle.std.specs.Prelude.{◌==◌, MatchResult, Vec, slice_get, slice_range}
 use Rattle.std.specs.Char.{is_ascii_digit}
 use Rattle.std.specs.List.{cons_option}
@@ -19,34 +19,49 @@ use Rattle.puz_board.proofs.FirstLemmas.{fails_each}
 use Rattle.set_sum.specs.Bundles.{BundleView}
 use Rattle.pdb_io.specs.Shelf.{Bytes}
 use Rattle.pdb_run.specs.Answers.{all_bytes}
+use Rattle.log_check.specs.declared.faults.LogFault.{LogFault}
+use Rattle.log_check.specs.declared.faults.LogFault.TheVariants as log_failure
 use Rattle.pdb_verdict.specs.Bundles.{IsBundleOfFiles}
 use Rattle.pdb_verdict.specs.Inputs.{table_file}
-use Rattle.pdb_verdict.specs.Optimal.{IsResultOfPuzzle, of_halves, solved_parts}
-use Rattle.pdb_verdict.specs.Replay.{IsSolvedPuzzle}
-use Rattle.pdb_verdict.specs.Steps.{IsCauseForBundle, IsOptimumOver}
-use Rattle.pdb_verdict.specs.Table.{IsTableResult}
+use Rattle.pdb_verdict.specs.Optimal.{IsResultOfPuzzle, of_halves}
+use Rattle.pdb_verdict.specs.Replay.{IsSolvedPuzzle, solved_parts}
+use Rattle.pdb_verdict.specs.Steps.{IsCauseForBundle, IsFoundOver, IsOptimumOver, of_log, or_failure, or_memory}
+use Rattle.pdb_verdict.specs.Table.{IsTableResult, IsTableTold, exact_verdict}
 use Rattle.pdb_verdict.specs.Verdicts.{IsAnswerTo}
+use Rattle.pdb_verdict.specs.declared.refusals.BundleRefusal.{BundleRefusal}
+use Rattle.pdb_verdict.specs.declared.refusals.Failure.{Failure}
+use Rattle.pdb_verdict.specs.declared.refusals.Failure.TheVariants.{Memory, Refused}
+use Rattle.pdb_verdict.specs.declared.refusals.GivenUp.{GivenUp}
+use Rattle.pdb_verdict.specs.declared.refusals.OptimalRefusal.{OptimalRefusal}
+use Rattle.pdb_verdict.specs.declared.refusals.OptimalRefusal.TheVariants.{Replay}
+use Rattle.pdb_verdict.specs.declared.refusals.ProofRefusal.TheVariants.{Log}
+use Rattle.pdb_verdict.specs.declared.refusals.ReplayRefusal.{ReplayRefusal}
+use Rattle.pdb_verdict.specs.declared.refusals.SearchRefusal.{SearchRefusal}
+use Rattle.pdb_verdict.specs.declared.refusals.UnmadeRefusal.TheVariants as unmade_refusal
 use Rattle.pdb_verdict.specs.declared.verdicts.Fault.{Fault}
 use Rattle.pdb_verdict.specs.declared.verdicts.Fault.TheVariants as fault
-use Rattle.pdb_verdict.specs.declared.verdicts.MakeRefusal.TheVariants.{K1, K2, K3}
 use Rattle.pdb_verdict.specs.declared.verdicts.Verdict.{Verdict}
-use Rattle.pdb_verdict.specs.declared.verdicts.Verdict.TheVariants as verdict
-use Rattle.pdb_verdict.proofs.BoundLemmas.{found_over}
 use Rattle.pdb_verdict.proofs.BundleLemmas.{bundle_taken}
-use Rattle.pdb_verdict.proofs.OptimumLemmas.{IsOptimumResult-yes}
+use Rattle.pdb_verdict.proofs.OptimumLemmas.{IsOptimumResult-proved}
+use Rattle.pdb_verdict.proofs.RefusalLemmas.{no_yes, told_yes}
 use Rattle.pdb_keep.specs.MakeTable.{IsOfAnother, SpeaksOf}
 use Rattle.pdb_keep.specs.Solve.{AreForBoard, IsMade, letter_of, letters_of, puzzle_of}
-use Rattle.pdb_keep.specs.Steps.{HasItsMoves, IsCauseForSearch, IsGivenUp, IsMadeOver}
+use Rattle.pdb_keep.specs.Steps.{HasItsMoves, IsCauseForSearch, IsMadeOver, unmade_for}
 use Rattle.pdb_keep.specs.declared.solutions.TheConstants.{MOST_LETTERS}
 
 -- ---- tables
 
 -- a result that doesn't speak of the side and the mask is that on a table of another pattern
-another_table : (side mask : ℕ) (file : Bytes) (answer : Result Verdict Fault) → IsTableResult file answer → ¬ SpeaksOf side mask answer → IsOfAnother side mask file
-another_table side mask file (Ok (verdict.Exact s m census)) is other = record { other_side = s; other_mask = m; census = census; exact = is; other = other }
-another_table side mask file (Ok (verdict.Solution n)) is other = absurd is
-another_table side mask file (Ok (verdict.Bound n)) is other = absurd is
-another_table side mask file (Ok (verdict.Optimal n)) is other = absurd is
+another_table : (side mask : ℕ) (file : Bytes) (answer : Result Verdict Fault) → IsTableTold file answer → ¬ SpeaksOf side mask answer → IsOfAnother side mask file
+another_table side mask file (Ok v) is other =
+    let yes = told_yes exact_verdict fault.Table (IsTableResult file) v is in
+    record {
+      other_side = yes.0.0;
+      other_mask = yes.0.1;
+      census = yes.0.2;
+      exact = yes.1;
+      other = λ same. other (subst (λ (w : Verdict). SpeaksOf side mask (Ok w)) (sym yes.2) same);
+    }
 another_table side mask file (Err refused) is other = absurd (other tt)
 
 pub another_built : (side mask : ℕ) (file : Bytes) (answer : Result Verdict Fault) → IsAnswerTo (table_file file) answer → ¬ SpeaksOf side mask answer → IsOfAnother side mask file
@@ -57,63 +72,56 @@ another_built side mask file answer is other = elim is [
 
 -- ---- searches over a bundle
 
+-- what is told with want of memory apart is the same without
+or_memory-one : {A R : Type 0} (x y : Result A R) → or_memory x ≡ or_memory y → x ≡ y
+or_memory-one (Ok a) (Ok b) same = cc
+or_memory-one (Ok a) (Err r) same = absurd (no_yes _ _ (sym same))
+or_memory-one (Err r) (Ok b) same = absurd (no_yes _ _ same)
+or_memory-one {A = A} {R = R} (Err r) (Err q) same =
+    let e : ◌≡◌ {A = Result A (Failure R)} (Err (Refused r)) (Err (Refused q)) = same in
+    let refused : r ≡ q = cc in
+    ap (λ x. Err x) refused
+
+no_want : {A R : Type 0} (x : Result A R) → or_memory x ≡ Err Memory → ⊥
+no_want (Ok a) same = no_yes _ _ (sym same)
+no_want {A = A} {R = R} (Err r) same = let e : ◌≡◌ {A = Result A (Failure R)} (Err (Refused r)) (Err Memory) = same in cc
+
 module _ (fold : Bool) (text sets : Bytes) (files : List Bytes) (bundle : BundleView) (is_bundle : IsBundleOfFiles fold files sets bundle) where
-  of_puzzle : (log : Bytes) (r : Result (List ℕ × ℕ) Fault) (answer : Result Verdict Fault) → IsOptimumOver bundle r log answer → answer ≢ Err fault.Memory
+  -- the result over the bundle is that on its files
+  of_found : (log : Bytes) (board : List ℕ) (n : ℕ) (found : Result ℕ LogFault) (answer : Result ℕ OptimalRefusal) → IsFoundOver bundle board log found
+      → or_memory answer ≡ or_failure (of_halves n) (of_log found) → IsResultOfPuzzle fold (Ok (board, n)) sets log files answer
+  of_found log board n (Ok bound) answer is same =
+      (Ok bound, record { bundle = bundle; is_bundle = is_bundle; good = is }, or_memory-one answer (of_halves n (Ok bound)) same)
+  of_found log board n (Err (log_failure.Refused refused)) answer is same =
+      (Err (Log refused), record { bundle = bundle; is_bundle = is_bundle; fault = is }, or_memory-one answer (of_halves n (Err (Log refused))) same)
+  of_found log board n (Err log_failure.Memory) answer is same = absurd (no_want answer same)
+
+  of_puzzle : (log : Bytes) (r : Result (List ℕ × ℕ) ReplayRefusal) (answer : Result ℕ OptimalRefusal) → IsOptimumOver bundle r log (or_memory answer)
       → IsResultOfPuzzle fold r sets log files answer
-  of_puzzle log (Err refused) answer is no_want = is
-  of_puzzle log (Ok solved) answer is no_want = elim (found_over fold solved.0 sets log files bundle is_bundle is.0 is.1) [
-    | inl found ↦ (is.0, found, is.2)
-    | inr lacks ↦ absurd (no_want (is.2 ∙ ap (of_halves solved.1) lacks.1))
-  ]
+  of_puzzle log (Err refused) answer is = or_memory-one answer (Err (Replay refused)) is
+  of_puzzle log (Ok solved) answer is = of_found log solved.0 solved.1 is.0 answer is.1 is.2
 
   module _ (board : List ℕ) (spelt : Spells text board) (one_side : side_of board ≡ bundle.side) where
     searchable : AreForBoard fold board sets files
     searchable = record { bundle = bundle; is_bundle = is_bundle; one_side = one_side }
 
     -- what is made over the bundle of files is made of them
-    made_over : (moves log : Bytes) (answer : Result Verdict Fault) → IsMadeOver bundle text moves log answer → IsMade fold text sets files moves log answer
+    pub made_over : (moves log : Bytes) (answer : Result ℕ OptimalRefusal) → IsMadeOver bundle text moves log answer → IsMade fold text sets files moves log answer
     made_over moves log answer is = record {
       could = record { board = board; spelt = spelt; are_for = searchable };
-      is_result = of_puzzle log (solved_parts (puzzle_parts (puzzle_of text moves))) answer is.is_result is.no_want;
+      is_result = of_puzzle log (solved_parts (puzzle_parts (puzzle_of text moves))) answer is;
     }
 
     -- so is what is given up
-    given_up : (cause : Fault) → IsGivenUp cause → IsCauseForSearch fold text sets files cause
-    given_up (fault.Make K1) is = inl (record { board = board; spelt = spelt; unmade = searchable })
-    given_up (fault.Make K2) is = inl (record { board = board; spelt = spelt; unmade = searchable })
-    given_up (fault.Make K3) is = absurd is
-    given_up fault.Memory is = inr (record { board = board; spelt = spelt; tables_take = bundle_taken fold files sets bundle is_bundle }, refl)
-    given_up fault.P1 is = absurd is
-    given_up (fault.Board refused) is = absurd is
-    given_up (fault.Moves refused) is = absurd is
-    given_up (fault.Table refused) is = absurd is
-    given_up (fault.TableOf number refused) is = absurd is
-    given_up (fault.Sets refused) is = absurd is
-    given_up (fault.Log refused) is = absurd is
-    given_up (fault.O1 solution bound) is = absurd is
-    given_up fault.K4 is = absurd is
-
-  -- and so is what comes of a search over the bundle
-  pub search_over : {A : Type 0} (moves log : A → Bytes) (result : A → Result Verdict Fault) (board : List ℕ) → Spells text board → side_of board ≡ bundle.side → (r : Result A Fault)
-      → IfOk r (λ made. IsMadeOver bundle text (moves made) (log made) (result made)) → IfErr r IsGivenUp
-      → MatchResult r (λ made. IsMade fold text sets files (moves made) (log made) (result made)) (IsCauseForSearch fold text sets files)
-  search_over moves log result board spelt one_side (Ok made) ok err = made_over board spelt one_side (moves made) (log made) (result made) ok
-  search_over moves log result board spelt one_side (Err cause) ok err = given_up board spelt one_side cause err
+    pub given_up : (failure : Failure GivenUp) → IsCauseForSearch fold text sets files (unmade_for unmade_refusal.GivenUp failure)
+    given_up (Refused why) = record { board = board; spelt = spelt; unmade = searchable }
+    given_up Memory = record { board = board; spelt = spelt; tables_take = bundle_taken fold files sets bundle is_bundle }
 
 -- why there is no bundle is why no log is made
-pub no_bundle : (fold : Bool) (text sets : Bytes) (files : List Bytes) (board : List ℕ) → Spells text board → (cause : Fault) → IsCauseForBundle fold cause files sets
-    → IsCauseForSearch fold text sets files cause
-no_bundle fold text sets files board spelt (fault.TableOf number refused) is = inl (record { board = board; spelt = spelt; unmade = is })
-no_bundle fold text sets files board spelt (fault.Sets refused) is = inl (record { board = board; spelt = spelt; unmade = is })
-no_bundle fold text sets files board spelt fault.Memory is = inr (record { board = board; spelt = spelt; tables_take = is }, refl)
-no_bundle fold text sets files board spelt fault.P1 is = absurd is
-no_bundle fold text sets files board spelt (fault.Board refused) is = absurd is
-no_bundle fold text sets files board spelt (fault.Moves refused) is = absurd is
-no_bundle fold text sets files board spelt (fault.Table refused) is = absurd is
-no_bundle fold text sets files board spelt (fault.Log refused) is = absurd is
-no_bundle fold text sets files board spelt (fault.O1 solution bound) is = absurd is
-no_bundle fold text sets files board spelt (fault.Make unmade) is = absurd is
-no_bundle fold text sets files board spelt fault.K4 is = absurd is
+pub no_bundle : (fold : Bool) (text sets : Bytes) (files : List Bytes) (board : List ℕ) → Spells text board → (failure : Failure BundleRefusal) → IsCauseForBundle fold files sets failure
+    → IsCauseForSearch fold text sets files (unmade_for unmade_refusal.Bundle failure)
+no_bundle fold text sets files board spelt (Refused refused) is = record { board = board; spelt = spelt; unmade = is }
+no_bundle fold text sets files board spelt Memory is = record { board = board; spelt = spelt; tables_take = is }
 
 -- ---- the puzzle text of a search
 
@@ -161,21 +169,14 @@ letters-length text moves board n solved spelt =
     ∙ solved.solved.count
 
 -- an optimum is the number of the moves that were made
-optimum_length : (fold : Bool) (text sets moves log : Bytes) (tables : List Bytes) (n : ℕ) → IsMade fold text sets tables moves log (Ok (verdict.Optimal n)) → length (letters_of moves) ≡ n
-optimum_length fold text sets moves log tables n is =
-    let yes = IsOptimumResult-yes fold (puzzle_of text moves) sets log tables (verdict.Optimal n) is.is_result in
-    let same : yes.0 ≡ n = let e : verdict.Optimal n ≡ verdict.Optimal yes.0 = yes.1 in cc in
-    letters-length text moves is.could.board yes.0 yes.2.solved is.could.spelt ∙ same
-
-has_its_moves : (fold : Bool) (text sets moves log : Bytes) (tables : List Bytes) (answer : Result Verdict Fault) → IsMade fold text sets tables moves log answer → HasItsMoves moves answer
-has_its_moves fold text sets moves log tables (Ok (verdict.Optimal n)) is = optimum_length fold text sets moves log tables n is
-has_its_moves fold text sets moves log tables (Ok (verdict.Solution n)) is = tt
-has_its_moves fold text sets moves log tables (Ok (verdict.Exact side mask census)) is = tt
-has_its_moves fold text sets moves log tables (Ok (verdict.Bound n)) is = tt
+has_its_moves : (fold : Bool) (text sets moves log : Bytes) (tables : List Bytes) (answer : Result ℕ OptimalRefusal) → IsMade fold text sets tables moves log answer → HasItsMoves moves answer
+has_its_moves fold text sets moves log tables (Ok n) is =
+    let proved = (IsOptimumResult-proved fold (puzzle_of text moves) sets log tables n).0 is.is_result in
+    letters-length text moves is.could.board n proved.solved is.could.spelt
 has_its_moves fold text sets moves log tables (Err refused) is = tt
 
--- an optimum that a search finds is the number of its moves
-pub made_moves : {A : Type 0} (moves log : A → Bytes) (result : A → Result Verdict Fault) (fold : Bool) (text sets : Bytes) (tables : List Bytes) (r : Result A Fault)
+-- so it is where a search finds one
+pub made_moves : {A : Type 0} (moves log : A → Bytes) (result : A → Result ℕ OptimalRefusal) (fold : Bool) (text sets : Bytes) (tables : List Bytes) (r : Result A (Failure SearchRefusal))
     → MatchResult r (λ made. IsMade fold text sets tables (moves made) (log made) (result made)) (IsCauseForSearch fold text sets tables)
     → IfOk r (λ made. HasItsMoves (moves made) (result made))
 made_moves moves log result fold text sets tables (Ok made) is = has_its_moves fold text sets (moves made) (log made) tables (result made) is

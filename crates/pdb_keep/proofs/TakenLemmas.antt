@@ -13,12 +13,12 @@ use Rattle.pdb_run.specs.Runs.{Ends, World, status_of_reply}
 use Rattle.pdb_run.specs.declared.statuses.Status.{Status}
 use Rattle.pdb_run.specs.declared.statuses.Status.TheVariants.{Yes, Refused}
 use Rattle.pdb_run.proofs.AnswerLemmas.{IsAnswered-ends}
-use Rattle.pdb_verdict.specs.Bound.{IsBoundReply, IsBoundResult, bound_inputs, bound_plan}
+use Rattle.pdb_verdict.specs.Bound.{IsBoundReply, IsBoundTold, bound_inputs, bound_plan}
 use Rattle.pdb_verdict.specs.Inputs.{bound_claim}
 use Rattle.pdb_verdict.specs.Limits.{a_table}
 use Rattle.pdb_verdict.specs.Lines.{reply_to}
 use Rattle.pdb_verdict.specs.declared.verdicts.Verdict.TheVariants as verdict
-use Rattle.pdb_verdict.proofs.BoundLemmas.{IsBoundResult-one, IsBoundResult-proved}
+use Rattle.pdb_verdict.proofs.VerdictLemmas.{IsResult-one, IsResult-true}
 use Rattle.pdb_keep.specs.Kept.{IsLogKept}
 use Rattle.pdb_keep.specs.Laws.{IsTaken}
 use Rattle.pdb_keep.specs.Solve.{solve_plan}
@@ -73,10 +73,10 @@ module _ (fold : Bool) (text sets out : Bytes) (tables : List Bytes) (before : F
       → reply ≡ reply_to (bound_claim fold kept.found.board_text kept.found.set_text kept.log kept.files) (Ok (verdict.Bound kept.n))
   proved_reply reply is =
       let f = kept.found in
-      let proved : IsBoundResult fold f.board_text f.set_text kept.log kept.files (Ok (verdict.Bound kept.n)) =
-      (IsBoundResult-proved fold f.board_text f.set_text kept.log kept.files kept.n).1 (record { board = f.board; spelt = f.spelt; proved = f.proved }) in
-      is.told ∙ ap (reply_to (bound_claim fold f.board_text f.set_text kept.log kept.files))
-      (IsBoundResult-one fold f.board_text f.set_text kept.log kept.files is.answer (Ok (verdict.Bound kept.n)) is.is_answer proved)
+      let claim = bound_claim fold f.board_text f.set_text kept.log kept.files in
+      let proved : IsBoundTold fold f.board_text f.set_text kept.log kept.files (Ok (verdict.Bound kept.n)) =
+      (IsResult-true claim (verdict.Bound kept.n)).1 (record { board = f.board; spelt = f.spelt; proved = f.proved }) in
+      is.told ∙ ap (reply_to claim) (IsResult-one claim is.answer (Ok (verdict.Bound kept.n)) is.is_answer proved)
 
   by_inputs : (inputs : List Bytes) (reply : Reply) → AreRead later.files later.reader (bound_inputs text sets out tables) inputs → IsBoundReply fold inputs reply
       → reply ≡ reply_to (bound_claim fold kept.found.board_text kept.found.set_text kept.log kept.files) (Ok (verdict.Bound kept.n))

@@ -8,10 +8,11 @@ use Rattle.tab_check.specs.declared.census.Census.{Census}
 use Rattle.pdb_io.specs.Shelf.{Bytes}
 use Rattle.pdb_run.specs.Commands.{Plan, Reply, plan_under}
 use Rattle.pdb_verdict.specs.Lines.{line_of, line_of_fault}
-use Rattle.pdb_verdict.specs.Table.{IsExactFor, IsTableResult}
+use Rattle.pdb_verdict.specs.Refusals.{fault_of_build}
+use Rattle.pdb_verdict.specs.Table.{IsExactFor, IsTableTold}
+use Rattle.pdb_verdict.specs.declared.refusals.BuildRefusal.{BuildRefusal}
+use Rattle.pdb_verdict.specs.declared.refusals.BuildRefusal.TheVariants.{K3, K4}
 use Rattle.pdb_verdict.specs.declared.verdicts.Fault.{Fault}
-use Rattle.pdb_verdict.specs.declared.verdicts.Fault.TheVariants as fault
-use Rattle.pdb_verdict.specs.declared.verdicts.MakeRefusal.TheVariants.{K3}
 use Rattle.pdb_verdict.specs.declared.verdicts.Verdict.{Verdict}
 use Rattle.pdb_verdict.specs.declared.verdicts.Verdict.TheVariants as verdict
 
@@ -37,21 +38,20 @@ SpeaksOf side mask answer = ⊤
 -- they are a pattern, and the answer is the result on the file that was built for it; it is no table of another pattern
 pub record IsBuilt (side mask : ℕ) (file : Bytes) (answer : Result Verdict Fault) : Type 0 where
   pub pattern : ArePattern side mask
-  pub is_result : IsTableResult file answer
+  pub is_result : IsTableTold file answer
   pub own : SpeaksOf side mask answer
 
 -- why no file is told of: K4 where they are no pattern, or where they are one and a file is the exact table of another; K3
 -- where they are a pattern. What the maker built, or where it gave up, isn't seen here
-abbrev pub IsUnbuilt : ℕ → ℕ → Fault → Type 0
-IsUnbuilt side mask fault.K4 = (¬ ArePattern side mask) ⊎ (ArePattern side mask × (file : Bytes) × IsOfAnother side mask file)
-IsUnbuilt side mask (fault.Make K3) = ArePattern side mask
-IsUnbuilt side mask refused = ⊥
+abbrev pub IsUnbuilt : ℕ → ℕ → BuildRefusal → Type 0
+IsUnbuilt side mask K4 = (¬ ArePattern side mask) ⊎ (ArePattern side mask × (file : Bytes) × IsOfAnother side mask file)
+IsUnbuilt side mask K3 = ArePattern side mask
 
 -- ---- what is told of it
 
 -- what comes of the maker: a refusal, or a file, and the result on it
 pub data Build : Type 0 where
-  unbuilt : Fault → Build
+  unbuilt : BuildRefusal → Build
   built : Bytes → Result Verdict Fault → Build
 
 -- for this side and this mask
@@ -61,7 +61,7 @@ IsBuildFor side mask (built file answer) = IsBuilt side mask file answer
 
 -- a refusal stands alone; of a file its digest is told, and then the line of the result
 abbrev pub reply_to_build : Build → Reply
-reply_to_build (unbuilt refused) = record { digested = []; made = None; lines = line_of_fault refused; is_yes = false }
+reply_to_build (unbuilt refused) = record { digested = []; made = None; lines = line_of_fault (fault_of_build refused); is_yes = false }
 reply_to_build (built file answer) = record { digested = []; made = Some file; lines = line_of answer; is_yes = is_ok answer }
 
 -- a reply tells what comes of the maker for a side and a mask

@@ -9,19 +9,19 @@ use Rattle.puz_board.specs.MovesTexts.{moves_of}
 use Rattle.puz_board.specs.declared.moves.Move.{Move}
 use Rattle.puz_board.specs.declared.moves.Move.TheVariants.{Up, Down, Left, Right}
 use Rattle.set_sum.specs.Bundles.{BundleView}
-use Rattle.log_check.specs.declared.faults.LogRefusal.TheVariants.{L4}
 use Rattle.pdb_io.specs.Shelf.{Bytes}
 use Rattle.pdb_run.specs.Commands.{Plan, Reply, Wanted, plan_under}
 use Rattle.pdb_verdict.specs.Bound.{TakesMemoryForBound}
-use Rattle.pdb_verdict.specs.Bundles.{AreRefusedSets, IsBundleOfFiles, IsFirstRefused}
+use Rattle.pdb_verdict.specs.Bundles.{AreRefused, IsBundleOfFiles}
 use Rattle.pdb_verdict.specs.Limits.{a_table, a_text}
-use Rattle.pdb_verdict.specs.Lines.{counted, line_of, line_of_fault}
+use Rattle.pdb_verdict.specs.Lines.{counted, line_of_fault}
 use Rattle.pdb_verdict.specs.Optimal.{IsOptimumResult}
-use Rattle.pdb_verdict.specs.declared.verdicts.Fault.{Fault}
-use Rattle.pdb_verdict.specs.declared.verdicts.Fault.TheVariants as fault
-use Rattle.pdb_verdict.specs.declared.verdicts.MakeRefusal.TheVariants.{K1, K2}
-use Rattle.pdb_verdict.specs.declared.verdicts.Verdict.{Verdict}
-use Rattle.pdb_verdict.specs.declared.verdicts.Verdict.TheVariants as verdict
+use Rattle.pdb_verdict.specs.Refusals.{fault_of_optimal, fault_of_search}
+use Rattle.pdb_verdict.specs.declared.refusals.OptimalRefusal.{OptimalRefusal}
+use Rattle.pdb_verdict.specs.declared.refusals.SearchRefusal.{SearchRefusal}
+use Rattle.pdb_verdict.specs.declared.refusals.SearchRefusal.TheVariants.{Board, Unmade}
+use Rattle.pdb_verdict.specs.declared.refusals.UnmadeRefusal.{UnmadeRefusal}
+use Rattle.pdb_verdict.specs.declared.refusals.UnmadeRefusal.TheVariants.{Bundle, GivenUp, L4}
 
 -- ---- before a log is made
 
@@ -45,24 +45,21 @@ pub record AreForAnotherSide (fold : Bool) (board : List ℕ) (sets : Bytes) (ta
 
 -- why no log is made for a board: each table file comes first, then the set text, then L4 for a bundle of another side;
 -- behind them the maker may give up on the search, with K1 or K2
-abbrev pub IsUnmadeFor : Bool → List ℕ → Bytes → List Bytes → Fault → Type 0
-IsUnmadeFor fold board sets tables (fault.TableOf number refused) = IsFirstRefused tables number refused
-IsUnmadeFor fold board sets tables (fault.Sets refused) = AreRefusedSets fold tables sets refused
-IsUnmadeFor fold board sets tables (fault.Log L4) = AreForAnotherSide fold board sets tables
-IsUnmadeFor fold board sets tables (fault.Make K1) = AreForBoard fold board sets tables
-IsUnmadeFor fold board sets tables (fault.Make K2) = AreForBoard fold board sets tables
-IsUnmadeFor fold board sets tables refused = ⊥
+abbrev pub IsUnmadeFor : Bool → List ℕ → Bytes → List Bytes → UnmadeRefusal → Type 0
+IsUnmadeFor fold board sets tables (Bundle refused) = AreRefused fold tables sets refused
+IsUnmadeFor fold board sets tables L4 = AreForAnotherSide fold board sets tables
+IsUnmadeFor fold board sets tables (GivenUp why) = AreForBoard fold board sets tables
 
 -- the text spells a board, for which no log is made
-pub record IsUnmadeForText (fold : Bool) (text sets : Bytes) (tables : List Bytes) (refused : Fault) : Type 0 where
+pub record IsUnmadeForText (fold : Bool) (text sets : Bytes) (tables : List Bytes) (refused : UnmadeRefusal) : Type 0 where
   pub board : List ℕ
   pub spelt : Spells text board
   pub unmade : IsUnmadeFor fold board sets tables refused
 
 -- why no log is made: the board text comes before all else
-abbrev pub IsUnmade : Bool → Bytes → Bytes → List Bytes → Fault → Type 0
-IsUnmade fold text sets tables (fault.Board refused) = board_of_text text ≡ Err refused
-IsUnmade fold text sets tables refused = IsUnmadeForText fold text sets tables refused
+abbrev pub IsUnmade : Bool → Bytes → Bytes → List Bytes → SearchRefusal → Type 0
+IsUnmade fold text sets tables (Board refused) = board_of_text text ≡ Err refused
+IsUnmade fold text sets tables (Unmade refused) = IsUnmadeForText fold text sets tables refused
 
 -- ---- a log that is made
 
@@ -71,7 +68,7 @@ abbrev pub puzzle_of : Bytes → Bytes → Bytes
 puzzle_of text moves = text ++ 59 ∷ moves
 
 -- a search could begin, and the answer is the result on its moves and its log
-pub record IsMade (fold : Bool) (text sets : Bytes) (tables : List Bytes) (moves log : Bytes) (answer : Result Verdict Fault) : Type 0 where
+pub record IsMade (fold : Bool) (text sets : Bytes) (tables : List Bytes) (moves log : Bytes) (answer : Result ℕ OptimalRefusal) : Type 0 where
   pub could : IsSearchable fold text sets tables
   pub is_result : IsOptimumResult fold (puzzle_of text moves) sets log tables answer
 
@@ -94,14 +91,14 @@ moves_line [] = codes "moves\n"
 moves_line (letter ∷ letters) = codes "moves " ++ (letter ∷ letters ++ codes "\n")
 
 -- of an optimum the moves come before its line
-abbrev pub lines_on : Bytes → Result Verdict Fault → Bytes
-lines_on moves (Ok (verdict.Optimal n)) = moves_line (letters_of moves) ++ counted (codes "optimal ") n
-lines_on moves answer = line_of answer
+abbrev pub lines_on : Bytes → Result ℕ OptimalRefusal → Bytes
+lines_on moves (Ok n) = moves_line (letters_of moves) ++ counted (codes "optimal ") n
+lines_on moves (Err refused) = line_of_fault (fault_of_optimal refused)
 
 -- what comes of a search: a refusal, or moves, a log, and the result on them
 pub data Search : Type 0 where
-  unmade : Fault → Search
-  searched : Bytes → Bytes → Result Verdict Fault → Search
+  unmade : SearchRefusal → Search
+  searched : Bytes → Bytes → Result ℕ OptimalRefusal → Search
 
 -- on this board text, this set text and these table files
 abbrev pub IsSearchOf : Bool → Bytes → Bytes → List Bytes → Search → Type 0
@@ -110,7 +107,7 @@ IsSearchOf fold text sets tables (searched moves log answer) = IsMade fold text 
 
 -- the digests of the tables, and of the log where one was made, and then the lines
 abbrev pub reply_to_search : List Bytes → Search → Reply
-reply_to_search tables (unmade refused) = record { digested = tables; made = None; lines = line_of_fault refused; is_yes = false }
+reply_to_search tables (unmade refused) = record { digested = tables; made = None; lines = line_of_fault (fault_of_search refused); is_yes = false }
 reply_to_search tables (searched moves log answer) = record { digested = tables; made = Some log; lines = lines_on moves answer; is_yes = is_ok answer }
 
 -- a reply tells what comes of a search

@@ -12,7 +12,9 @@ use pdb_io::shelf::Shelf;
 use pdb_run::{
     Answer, Command, Digested, Digests, Input, Status, keep_and_conclude, read_inputs_and_try,
 };
-use pdb_verdict::{Fault, Inputs, MakeRefusal, Verdict, Workers, line_of, verify_beside};
+use pdb_verdict::{
+    BuildRefusal, Failure, Fault, Inputs, Verdict, Workers, fault_of_build, line_of, verify_beside,
+};
 use puz_board::Side;
 use puz_make::{MakeFault, build};
 use std::alloc::{AllocError, Global};
@@ -87,12 +89,12 @@ fn answer_make_table<H: Threads + Wait + Sync, G: Gate + Sync>(
             made: Some(built.file),
             made_digest: built.digest,
         }),
-        Err(Fault::Memory) => Err(AllocError),
-        Err(refused) => Ok(Answer {
+        Err(Failure::Memory) => Err(AllocError),
+        Err(Failure::Refused(refused)) => Ok(Answer {
             digested: Digested::Files(&[], None),
             made: None,
             made_digest: None,
-            lines: line_of(&Err(refused)),
+            lines: line_of(&Err(fault_of_build(refused))),
             is_yes: false,
         }),
     }
@@ -114,23 +116,23 @@ fn build_table<H: Threads + Wait + Sync, G: Gate + Sync>(
     side: u8,
     mask: u32,
     workers: &Workers<'_, H, G>,
-) -> Result<Built, Fault>
+) -> Result<Built, Failure<BuildRefusal>>
     ensures built { IfOk result (λ built. IsBuilt side mask built.file.items built.answer) }
-    ensures unbuilt { IfErr result (λ cause. IsCauseForBuild side mask cause) }
+    ensures unbuilt { IfErr result (IsCauseForBuild side mask) }
 {
     let Some(pattern) = pattern_of(side, mask) else {
-        return Err(Fault::K4);
+        return Err(Failure::Refused(BuildRefusal::K4));
     };
     let file = match build(workers.rt, alloc, &pattern) {
         Ok(file) => file,
-        Err(MakeFault::Memory) => return Err(Fault::Memory),
+        Err(MakeFault::Memory) => return Err(Failure::Memory),
         // K3 alone is left: no other refusal comes of building.
-        Err(_) => return Err(Fault::Make(MakeRefusal::K3)),
+        Err(_) => return Err(Failure::Refused(BuildRefusal::K3)),
     };
     let table = file.as_slice();
     let (digest, answer) = verify_beside(alloc, &Inputs::Table { table }, workers);
     match answer {
-        Err(Fault::Memory) => Err(Fault::Memory),
+        Err(Fault::Memory) => Err(Failure::Memory),
         _ => {
             if speaks_of(&answer, side, mask) {
                 Ok(Built {
@@ -139,7 +141,7 @@ fn build_table<H: Threads + Wait + Sync, G: Gate + Sync>(
                     answer,
                 })
             } else {
-                Err(Fault::K4)
+                Err(Failure::Refused(BuildRefusal::K4))
             }
         }
     }

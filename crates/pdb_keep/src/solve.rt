@@ -10,21 +10,22 @@ ghost use Rattle.pdb_run.specs.Inputs.{AreRead, IsAsTold, left_by_all};
 ghost use Rattle.pdb_run.specs.Runs.{Ends, World, world};
 ghost use Rattle.pdb_verdict.specs.Bound.{TakesMemoryForBound};
 ghost use Rattle.pdb_verdict.specs.Bundles.{IsBundleOfFiles};
-ghost use Rattle.pdb_verdict.specs.Optimal.{solved_parts};
+ghost use Rattle.pdb_verdict.specs.Replay.{solved_parts};
 ghost use Rattle.pdb_verdict.specs.Steps.{IsCauseForBundle, IsOptimumOver};
 ghost use Rattle.pdb_keep.specs.Solve.{IsMade, IsSolveReply, SolveTakesMemory, TellsSearch, puzzle_of, reply_to_search, searched, solve_inputs, solve_plan, unmade};
-ghost use Rattle.pdb_keep.specs.Steps.{HasItsMoves, IsCauseForSearch, IsGivenUp, IsMadeOver};
+ghost use Rattle.pdb_keep.specs.Steps.{HasItsMoves, IsCauseForSearch, IsMadeOver, unmade_for};
+ghost use Rattle.pdb_verdict.specs.declared.refusals.UnmadeRefusal.TheVariants as unmade_refusal;
 
 use crate::solutions::lines_on;
-use log_check::LogRefusal;
 use pdb_io::shelf::Shelf;
 use pdb_run::{
     Answer, Command, Digested, Digests, FILES_BESIDE, Input, Status, beside, keep_and_conclude,
     read_inputs_and_try,
 };
 use pdb_verdict::{
-    Fault, MakeRefusal, Tables, Verdict, Workers, a_text, fold_bundle, line_of, optimum_over,
-    push_tables, read_bundle, take_first,
+    BundleRefusal, Failure, GivenUp, OptimalRefusal, SearchRefusal, Tables, UnmadeRefusal, Workers,
+    a_text, fault_of_search, fold_bundle, line_of, optimum_over, push_tables, read_bundle,
+    take_first,
 };
 use puz_board::Board;
 use puz_make::{Found, MakeFault, solve};
@@ -184,7 +185,7 @@ fn digested_by(tables: &[Vec<u8>], digests: Option<Digests>) -> Digested<'_>
 /// The answer on what comes of a search over tables with these digest lines.
 fn answer_of<'i>(
     digested: Digested<'i>,
-    outcome: Result<Made, Fault>,
+    outcome: Result<Made, Failure<SearchRefusal>>,
 ) -> Result<Answer<'i>, AllocError>
     requires { IfOk outcome (λ made. HasItsMoves made.moves.items made.answer) }
     ensures { (fold : Bool) (text sets : List ℕ) (tables : List (List ℕ)) → digest_lines digested.entry ≡ digests_of tables
@@ -193,8 +194,8 @@ fn answer_of<'i>(
 {
     match outcome {
         Ok(made) => Ok(answer_on(digested, made)),
-        Err(Fault::Memory) => Err(AllocError),
-        Err(refused) => Ok(refusal_of(digested, refused)),
+        Err(Failure::Refused(refused)) => Ok(refusal_of(digested, refused)),
+        Err(Failure::Memory) => Err(AllocError),
     }
 }
 
@@ -214,14 +215,14 @@ fn answer_on<'i>(digested: Digested<'i>, made: Made) -> Answer<'i>
 }
 
 /// The answer where a search made nothing.
-fn refusal_of<'i>(digested: Digested<'i>, refused: Fault) -> Answer<'i>
+fn refusal_of<'i>(digested: Digested<'i>, refused: SearchRefusal) -> Answer<'i>
     ensures { (tables : List (List ℕ)) → digest_lines digested.entry ≡ digests_of tables → IsReplyOf result (reply_to_search tables (unmade refused)) }
 {
     Answer {
         digested,
         made: None,
         made_digest: None,
-        lines: line_of(&Err(refused)),
+        lines: line_of(&Err(fault_of_search(refused))),
         is_yes: false,
     }
 }
@@ -232,7 +233,7 @@ struct Made {
     moves: Vec<u8>,
     log: Vec<u8>,
     digest: Option<Digests>,
-    answer: Result<Verdict, Fault>,
+    answer: Result<u8, OptimalRefusal>,
     ghost digested: { option_map (λ d. d.items) digest ≡ option_map (λ _. digests_of (log.items ∷ [])) digest },
 }
 
@@ -244,12 +245,12 @@ fn search_beside<H: Threads + Wait + Sync, G: Gate + Sync>(
     tables: Tables<'_>,
     budget: u64,
     workers: &Workers<'_, H, G>,
-) -> (Option<Digests>, Result<Made, Fault>)
+) -> (Option<Digests>, Result<Made, Failure<SearchRefusal>>)
     ensures digests { IfSome result.0 (λ digests. digests.items ≡ digests_of (all_bytes tables.entry.files.now)) }
     ensures outcome { let files = all_bytes tables.entry.files.now in
         MatchResult result.1 (λ made. IsMade tables.entry.fold text.now sets.now files made.moves.items made.log.items made.answer) (IsCauseForSearch tables.entry.fold text.now sets.now files) }
 {
-    let search = || -> Result<Made, Fault>
+    let search = || -> Result<Made, Failure<SearchRefusal>>
         ensures { let files = all_bytes tables.entry.files.now in
             MatchResult result (λ made. IsMade tables.entry.fold text.entry.now sets.entry.now files made.moves.items made.log.items made.answer) (IsCauseForSearch tables.entry.fold text.entry.now sets.entry.now files) }
     { search(alloc, text, sets, tables, budget, workers) };
@@ -266,11 +267,14 @@ fn search<H: Threads + Wait + Sync, G: Gate + Sync>(
     tables: Tables<'_>,
     budget: u64,
     workers: &Workers<'_, H, G>,
-) -> Result<Made, Fault>
+) -> Result<Made, Failure<SearchRefusal>>
     ensures { let files = all_bytes tables.entry.files.now in
         MatchResult result (λ made. IsMade tables.entry.fold text.now sets.now files made.moves.items made.log.items made.answer) (IsCauseForSearch tables.entry.fold text.now sets.now files) }
 {
-    let board = Board::read(text).map_err(Fault::Board)?;
+    let board = match Board::read(text) {
+        Ok(board) => board,
+        Err(refused) => return Err(Failure::Refused(SearchRefusal::Board(refused))),
+    };
     let bundle = read_bundle(alloc, tables, sets, workers);
     search_in(alloc, bundle, &board, text, budget, workers)
 }
@@ -278,21 +282,51 @@ fn search<H: Threads + Wait + Sync, G: Gate + Sync>(
 /// The same for the board that a text spells, once the tables and the sets are checked.
 fn search_in<H: Threads + Wait + Sync, G: Gate + Sync>(
     alloc: Global,
-    bundle: Result<Bundle<'_>, Fault>,
+    bundle: Result<Bundle<'_>, Failure<BundleRefusal>>,
     board: &Board,
     text: &[u8],
     budget: u64,
     workers: &Workers<'_, H, G>,
-) -> Result<Made, Fault>
+) -> Result<Made, Failure<SearchRefusal>>
     ensures { (fold : Bool) (sets : List ℕ) (tables : List (List ℕ)) → Spells text.now board.now
-        → IfOk bundle.entry (IsBundleOfFiles fold tables sets) → IfErr bundle.entry (λ cause. IsCauseForBundle fold cause tables sets)
+        → IfOk bundle.entry (IsBundleOfFiles fold tables sets) → IfErr bundle.entry (IsCauseForBundle fold tables sets)
         → MatchResult result (λ made. IsMade fold text.now sets tables made.moves.items made.log.items made.answer) (IsCauseForSearch fold text.now sets tables) }
 {
-    let bundle = bundle?;
+    let bundle = match bundle {
+        Ok(bundle) => bundle,
+        Err(failure) => return Err(without_bundle(failure)),
+    };
     if board.side() != bundle.side() {
-        return Err(Fault::Log(LogRefusal::L4));
+        return Err(Failure::Refused(SearchRefusal::Unmade(UnmadeRefusal::L4)));
     }
-    search_over(alloc, &bundle, board, text, budget, workers)
+    match search_over(alloc, &bundle, board, text, budget, workers) {
+        Ok(made) => Ok(made),
+        Err(failure) => Err(given_up(failure)),
+    }
+}
+
+/// Why a search makes no log, where there is no bundle.
+fn without_bundle(failure: Failure<BundleRefusal>) -> Failure<SearchRefusal>
+    ensures { result ≡ unmade_for unmade_refusal.Bundle failure }
+{
+    match failure {
+        Failure::Refused(refused) => {
+            Failure::Refused(SearchRefusal::Unmade(UnmadeRefusal::Bundle(refused)))
+        }
+        Failure::Memory => Failure::Memory,
+    }
+}
+
+/// The same where the search gave up.
+fn given_up(failure: Failure<GivenUp>) -> Failure<SearchRefusal>
+    ensures { result ≡ unmade_for unmade_refusal.GivenUp failure }
+{
+    match failure {
+        Failure::Refused(why) => {
+            Failure::Refused(SearchRefusal::Unmade(UnmadeRefusal::GivenUp(why)))
+        }
+        Failure::Memory => Failure::Memory,
+    }
 }
 
 /// Searches for a shortest solution of the board that a text spells, over a bundle of its side, and checks what is found.
@@ -304,26 +338,27 @@ fn search_over<H: Threads + Wait + Sync, G: Gate + Sync>(
     text: &[u8],
     budget: u64,
     workers: &Workers<'_, H, G>,
-) -> Result<Made, Fault>
+) -> Result<Made, Failure<GivenUp>>
     requires { side_of board.now ≡ bundle.now.side }
-    ensures made { IfOk result (λ made. IsMadeOver bundle.now text.now made.moves.items made.log.items made.answer) }
-    ensures unmade { IfErr result IsGivenUp }
+    ensures { IfOk result (λ made. IsMadeOver bundle.now text.now made.moves.items made.log.items made.answer) }
 {
     let found = find(alloc, bundle, board, budget)?;
     let Ok(puzzle) = join(alloc, text, found.moves.as_slice()) else {
-        return Err(Fault::Memory);
+        return Err(Failure::Memory);
     };
     let (moves, log) = (found.moves, found.log);
     let (digest, answer) = log_beside(alloc, bundle, puzzle.as_slice(), log.as_slice(), workers);
-    match answer {
-        Err(Fault::Memory) => Err(Fault::Memory),
-        answer => Ok(Made {
-            moves,
-            log,
-            digest,
-            answer,
-        }),
-    }
+    let answer = match answer {
+        Ok(count) => Ok(count),
+        Err(Failure::Refused(refused)) => Err(refused),
+        Err(Failure::Memory) => return Err(Failure::Memory),
+    };
+    Ok(Made {
+        moves,
+        log,
+        digest,
+        answer,
+    })
 }
 
 /// The result on a puzzle text and a log over a bundle, and the log's digest line, where that is made beside the check.
@@ -333,27 +368,31 @@ fn log_beside<H: Threads + Wait + Sync, G: Gate + Sync>(
     puzzle: &[u8],
     log: &[u8],
     workers: &Workers<'_, H, G>,
-) -> (Option<Digests>, Result<Verdict, Fault>)
+) -> (Option<Digests>, Result<u8, Failure<OptimalRefusal>>)
     ensures digest { IfSome result.0 (λ digest. digest.items ≡ digests_of (log.now ∷ [])) }
     ensures answer { IsOptimumOver bundle.now (solved_parts (puzzle_parts puzzle.now)) log.now result.1 }
 {
-    let check = || -> Result<Verdict, Fault>
+    let check = || -> Result<u8, Failure<OptimalRefusal>>
         ensures { IsOptimumOver bundle.entry.now (solved_parts (puzzle_parts puzzle.entry.now)) log.entry.now result }
     { optimum_over(alloc, bundle, puzzle, log, workers) };
     beside(workers.rt, workers.count, &[], Some(log), check)
 }
 
 /// What a search finds, unchecked.
-fn find(alloc: Global, bundle: &Bundle<'_>, board: &Board, budget: u64) -> Result<Found, Fault>
+fn find(
+    alloc: Global,
+    bundle: &Bundle<'_>,
+    board: &Board,
+    budget: u64,
+) -> Result<Found, Failure<GivenUp>>
     requires { side_of board.now ≡ bundle.now.side }
-    ensures { IfErr result IsGivenUp }
 {
     match solve(alloc, bundle, board, budget) {
         Ok(found) => Ok(found),
-        Err(MakeFault::K1) => Err(Fault::Make(MakeRefusal::K1)),
-        Err(MakeFault::Memory) => Err(Fault::Memory),
+        Err(MakeFault::K1) => Err(Failure::Refused(GivenUp::K1)),
+        Err(MakeFault::Memory) => Err(Failure::Memory),
         // K2 alone is left: K3 never comes of searching.
-        Err(_) => Err(Fault::Make(MakeRefusal::K2)),
+        Err(_) => Err(Failure::Refused(GivenUp::K2)),
     }
 }
 

@@ -17,20 +17,27 @@ use Rattle.set_sum.specs.declared.faults.SetFault.{SetFault}
 use Rattle.set_sum.proofs.AnswerLemmas.{bundle-no_fault, bundle-once, fault-once}
 use Rattle.log_check.specs.GoodLogs.{IsGoodFile}
 use Rattle.log_check.specs.LogFaults as log_fault
+use Rattle.log_check.specs.declared.faults.LogFault.{LogFault}
+use Rattle.log_check.specs.declared.faults.LogFault.TheVariants as log_failure
 use Rattle.log_check.specs.declared.faults.LogRefusal.{LogRefusal}
 use Rattle.set_sum.proofs.BundleLemmas.{is_bundle}
 use Rattle.log_check.proofs.GoodLemmas.{good_log_bounds}
 use Rattle.log_check.proofs.AnswerLemmas.{good_or_fault, one_bound, one_fault}
 use Rattle.pdb_io.specs.Shelf.{Bytes}
-use Rattle.pdb_verdict.specs.Bound.{IsBoundFor, IsBoundOfText, IsBoundResult, IsProvedBound, IsRefusedLog, IsResultOfBoard, of_bound}
-use Rattle.pdb_verdict.specs.Bundles.{AreExactFiles, AreRefusedSets, IsBundleOfFiles, IsFirstRefused, parts_for}
-use Rattle.pdb_verdict.specs.Steps.{IsFoundFor, IsFoundOver}
-use Rattle.pdb_verdict.specs.declared.verdicts.Fault.{Fault}
-use Rattle.pdb_verdict.specs.declared.verdicts.Fault.TheVariants as fault
-use Rattle.pdb_verdict.specs.declared.verdicts.Verdict.{Verdict}
-use Rattle.pdb_verdict.specs.declared.verdicts.Verdict.TheVariants as verdict
+use Rattle.pdb_verdict.specs.Bound.{IsBoundFor, IsBoundOfText, IsBoundResult, IsProvedBound, IsRefusedLog, IsResultOfBoard, TakesMemoryForBound, of_proof}
+use Rattle.pdb_verdict.specs.Bundles.{AreExactFiles, AreRefused, AreRefusedSets, IsBundleOfFiles, IsFirstRefused, TakesMemoryForTables, parts_for}
+use Rattle.pdb_verdict.specs.Refusals.{IsFoundBy}
+use Rattle.pdb_verdict.specs.Steps.{IsCauseForBundle, IsFoundFor, IsFoundOver, of_bundle, of_log, or_failure}
+use Rattle.pdb_verdict.specs.declared.refusals.BoundRefusal.{BoundRefusal}
+use Rattle.pdb_verdict.specs.declared.refusals.BundleRefusal.{BundleRefusal}
+use Rattle.pdb_verdict.specs.declared.refusals.BundleRefusal.TheVariants as bundle
+use Rattle.pdb_verdict.specs.declared.refusals.Failure.{Failure}
+use Rattle.pdb_verdict.specs.declared.refusals.Failure.TheVariants.{Memory, Refused}
+use Rattle.pdb_verdict.specs.declared.refusals.FileRefusal.{FileRefusal}
+use Rattle.pdb_verdict.specs.declared.refusals.ProofRefusal.{ProofRefusal}
+use Rattle.pdb_verdict.specs.declared.refusals.ProofRefusal.TheVariants as proof
 use Rattle.pdb_verdict.proofs.BundleLemmas.{all_exact, bundle_taken}
-use Rattle.pdb_verdict.proofs.ReplayLemmas.{no_yes}
+use Rattle.pdb_verdict.proofs.RefusalLemmas.{found_next, no_yes}
 
 -- ---- tables
 
@@ -68,16 +75,16 @@ exact_before (f ∷ files) (t ∷ ts) (suc i) (suc j) file refused low are there
 -- ---- what is found for a board
 
 module _ (fold : Bool) (board : List ℕ) (sets log : Bytes) (files : List Bytes) where
-  first_refused_one : (i j : ℕ) (r s : TableRefusal) → IsFirstRefused files i r → IsFirstRefused files j s → ◌≡◌ {A = Fault} (fault.TableOf i r) (fault.TableOf j s)
-  first_refused_one i j r s is also = elim (cases_order i j) [
+  first_refused_one : (f g : FileRefusal) → IsFirstRefused files f.number f.refusal → IsFirstRefused files g.number g.refusal → f ≡ g
+  first_refused_one f g is also = elim (cases_order f.number g.number) [
     | inl same ↦
         let there : Some is.file ≡ Some also.file = sym is.there ∙ ap (slice_get files) same ∙ also.there in
         let file : is.file ≡ also.file = cc in
-        let why : r ≡ s = IsFaultOf-one also.file r s (subst (IsFaultOf r) file is.fault) also.fault in
-        λ k. fault.TableOf (same k) (why k)
+        let why : f.refusal ≡ g.refusal = IsFaultOf-one also.file f.refusal g.refusal (subst (IsFaultOf f.refusal) file is.fault) also.fault in
+        λ k. record { number = same k; refusal = why k }
     | inr rest ↦ elim rest [
-      | inl low ↦ absurd (exact_before files also.tables i j is.file r low also.before is.there is.fault)
-      | inr high ↦ absurd (exact_before files is.tables j i also.file s high is.before also.there also.fault)
+      | inl low ↦ absurd (exact_before files also.tables f.number g.number is.file f.refusal low also.before is.there is.fault)
+      | inr high ↦ absurd (exact_before files is.tables g.number f.number also.file g.refusal high is.before also.there also.fault)
     ]
   ]
 
@@ -108,138 +115,82 @@ module _ (fold : Bool) (board : List ℕ) (sets log : Bytes) (files : List Bytes
   log_taken n f is also =
       good_or_fault also.bundle board log n f (subst (λ v. IsGoodFile v board log n) (bundle_one is.bundle also.bundle is.is_bundle also.is_bundle) is.good) also.fault
 
-  -- ---- one for each kind of answer, and then for all
+  -- ---- one for each kind, and then for all
 
-  abbrev Is : Result ℕ Fault → Type 0
+  made_taken : (v : BundleView) (f : BundleRefusal) → IsBundleOfFiles fold files sets v → ¬ AreRefused fold files sets f
+  made_taken v (bundle.File f) is also = not_refused is.tables f.number f.refusal is.exact also
+  made_taken v (bundle.Sets f) is also = sets_taken v f is also
+
+  refused_one : (f g : BundleRefusal) → AreRefused fold files sets f → AreRefused fold files sets g → f ≡ g
+  refused_one (bundle.File f) (bundle.File g) is also = ap bundle.File (first_refused_one f g is also)
+  refused_one (bundle.File f) (bundle.Sets g) is also = absurd (not_refused also.tables f.number f.refusal also.exact is)
+  refused_one (bundle.Sets f) (bundle.File g) is also = absurd (not_refused is.tables g.number g.refusal is.exact also)
+  refused_one (bundle.Sets f) (bundle.Sets g) is also = ap bundle.Sets (sets_one f g is also)
+
+  abbrev Is : Result ℕ ProofRefusal → Type 0
   Is found = IsBoundFor fold board sets log files found
 
-  from_bound : (n : ℕ) (b : Result ℕ Fault) → IsProvedBound fold board sets log files n → Is b → Ok n ≡ b
-  from_bound n (Ok m) is also = ap Ok (bound_one n m is also)
-  from_bound n (Err (fault.TableOf j s)) is also = absurd (not_refused is.is_bundle.tables j s is.is_bundle.exact also)
-  from_bound n (Err (fault.Sets g)) is also = absurd (sets_taken is.bundle g is.is_bundle also)
-  from_bound n (Err (fault.Log g)) is also = absurd (log_taken n g is also)
-  from_bound n (Err fault.P1) is also = absurd also
-  from_bound n (Err (fault.Board g)) is also = absurd also
-  from_bound n (Err (fault.Moves g)) is also = absurd also
-  from_bound n (Err (fault.Table g)) is also = absurd also
-  from_bound n (Err (fault.O1 s b)) is also = absurd also
-  from_bound n (Err (fault.Make unmade)) is also = absurd also
-  from_bound n (Err fault.K4) is also = absurd also
-  from_bound n (Err fault.Memory) is also = absurd also
-
-  from_table : (i : ℕ) (r : TableRefusal) (b : Result ℕ Fault) → IsFirstRefused files i r → Is b → Err (fault.TableOf i r) ≡ b
-  from_table i r (Ok m) is also = absurd (not_refused also.is_bundle.tables i r also.is_bundle.exact is)
-  from_table i r (Err (fault.TableOf j s)) is also = ap Err (first_refused_one i j r s is also)
-  from_table i r (Err (fault.Sets g)) is also = absurd (not_refused also.tables i r also.exact is)
-  from_table i r (Err (fault.Log g)) is also = absurd (not_refused also.is_bundle.tables i r also.is_bundle.exact is)
-  from_table i r (Err fault.P1) is also = absurd also
-  from_table i r (Err (fault.Board g)) is also = absurd also
-  from_table i r (Err (fault.Moves g)) is also = absurd also
-  from_table i r (Err (fault.Table g)) is also = absurd also
-  from_table i r (Err (fault.O1 s b)) is also = absurd also
-  from_table i r (Err (fault.Make unmade)) is also = absurd also
-  from_table i r (Err fault.K4) is also = absurd also
-  from_table i r (Err fault.Memory) is also = absurd also
-
-  from_sets : (f : SetFault) (b : Result ℕ Fault) → AreRefusedSets fold files sets f → Is b → Err (fault.Sets f) ≡ b
-  from_sets f (Ok m) is also = absurd (sets_taken also.bundle f also.is_bundle is)
-  from_sets f (Err (fault.TableOf j s)) is also = absurd (not_refused is.tables j s is.exact also)
-  from_sets f (Err (fault.Sets g)) is also = ap (λ h. Err (fault.Sets h)) (sets_one f g is also)
-  from_sets f (Err (fault.Log g)) is also = absurd (sets_taken also.bundle f also.is_bundle is)
-  from_sets f (Err fault.P1) is also = absurd also
-  from_sets f (Err (fault.Board g)) is also = absurd also
-  from_sets f (Err (fault.Moves g)) is also = absurd also
-  from_sets f (Err (fault.Table g)) is also = absurd also
-  from_sets f (Err (fault.O1 s b)) is also = absurd also
-  from_sets f (Err (fault.Make unmade)) is also = absurd also
-  from_sets f (Err fault.K4) is also = absurd also
-  from_sets f (Err fault.Memory) is also = absurd also
-
-  from_log : (f : LogRefusal) (b : Result ℕ Fault) → IsRefusedLog fold board sets log files f → Is b → Err (fault.Log f) ≡ b
-  from_log f (Ok m) is also = absurd (log_taken m f also is)
-  from_log f (Err (fault.TableOf j s)) is also = absurd (not_refused is.is_bundle.tables j s is.is_bundle.exact also)
-  from_log f (Err (fault.Sets g)) is also = absurd (sets_taken is.bundle g is.is_bundle also)
-  from_log f (Err (fault.Log g)) is also = ap (λ h. Err (fault.Log h)) (log_one f g is also)
-  from_log f (Err fault.P1) is also = absurd also
-  from_log f (Err (fault.Board g)) is also = absurd also
-  from_log f (Err (fault.Moves g)) is also = absurd also
-  from_log f (Err (fault.Table g)) is also = absurd also
-  from_log f (Err (fault.O1 s b)) is also = absurd also
-  from_log f (Err (fault.Make unmade)) is also = absurd also
-  from_log f (Err fault.K4) is also = absurd also
-  from_log f (Err fault.Memory) is also = absurd also
-
   -- one thing is found
-  pub found_one : (a b : Result ℕ Fault) → Is a → Is b → a ≡ b
-  found_one (Ok n) b is also = from_bound n b is also
-  found_one (Err (fault.TableOf i r)) b is also = from_table i r b is also
-  found_one (Err (fault.Sets f)) b is also = from_sets f b is also
-  found_one (Err (fault.Log f)) b is also = from_log f b is also
-  found_one (Err fault.P1) b is also = absurd is
-  found_one (Err (fault.Board g)) b is also = absurd is
-  found_one (Err (fault.Moves g)) b is also = absurd is
-  found_one (Err (fault.Table g)) b is also = absurd is
-  found_one (Err (fault.O1 s c)) b is also = absurd is
-  found_one (Err (fault.Make unmade)) b is also = absurd is
-  found_one (Err fault.K4) b is also = absurd is
-  found_one (Err fault.Memory) b is also = absurd is
+  pub found_one : (a b : Result ℕ ProofRefusal) → Is a → Is b → a ≡ b
+  found_one (Ok m) (Ok n) is also = ap Ok (bound_one m n is also)
+  found_one (Ok m) (Err (proof.Bundle g)) is also = absurd (made_taken is.bundle g is.is_bundle also)
+  found_one (Ok m) (Err (proof.Log g)) is also = absurd (log_taken m g is also)
+  found_one (Err (proof.Bundle f)) (Ok n) is also = absurd (made_taken also.bundle f also.is_bundle is)
+  found_one (Err (proof.Bundle f)) (Err (proof.Bundle g)) is also = ap (λ h. Err (proof.Bundle h)) (refused_one f g is also)
+  found_one (Err (proof.Bundle f)) (Err (proof.Log g)) is also = absurd (made_taken also.bundle f also.is_bundle is)
+  found_one (Err (proof.Log f)) (Ok n) is also = absurd (log_taken n f also is)
+  found_one (Err (proof.Log f)) (Err (proof.Bundle g)) is also = absurd (made_taken is.bundle g is.is_bundle also)
+  found_one (Err (proof.Log f)) (Err (proof.Log g)) is also = ap (λ h. Err (proof.Log h)) (log_one f g is also)
 
 -- ---- over a bundle
 
-module _ (fold : Bool) (board : List ℕ) (sets log : Bytes) (files : List Bytes) (bundle : BundleView) (is_bundle : IsBundleOfFiles fold files sets bundle) where
+module _ (fold : Bool) (board : List ℕ) (sets log : Bytes) (files : List Bytes) where
   -- what is found over the bundle that files make is found for them
-  pub found_over : (found : Result ℕ Fault) → IsFoundOver bundle board log found → IsFoundFor fold board sets log files found
-  found_over (Ok n) is = inl (record { bundle = bundle; is_bundle = is_bundle; good = is })
-  found_over (Err (fault.Log refused)) is = inl (record { bundle = bundle; is_bundle = is_bundle; fault = is })
-  found_over (Err fault.Memory) is = inr (bundle_taken fold files sets bundle is_bundle, refl)
-  found_over (Err fault.P1) is = absurd is
-  found_over (Err (fault.Board refused)) is = absurd is
-  found_over (Err (fault.Moves refused)) is = absurd is
-  found_over (Err (fault.Table refused)) is = absurd is
-  found_over (Err (fault.TableOf number refused)) is = absurd is
-  found_over (Err (fault.Sets refused)) is = absurd is
-  found_over (Err (fault.O1 solution bound)) is = absurd is
-  found_over (Err (fault.Make unmade)) is = absurd is
-  found_over (Err fault.K4) is = absurd is
+  pub found_over : (v : BundleView) → IsBundleOfFiles fold files sets v → (found : Result ℕ LogFault) → IsFoundOver v board log found
+      → IsFoundFor fold board sets log files (of_log found)
+  found_over v is_bundle (Ok n) is = record { bundle = v; is_bundle = is_bundle; good = is }
+  found_over v is_bundle (Err (log_failure.Refused refused)) is = record { bundle = v; is_bundle = is_bundle; fault = is }
+  found_over v is_bundle (Err log_failure.Memory) is = bundle_taken fold files sets v is_bundle
+
+  -- where they make none, there is no bound
+  pub cause_found : (failure : Failure BundleRefusal) → IsCauseForBundle fold files sets failure → IsFoundFor fold board sets log files (Err (of_bundle failure))
+  cause_found (Refused refused) is = is
+  cause_found Memory is = is
 
 -- ---- the result of `bound`
 
 module _ (fold : Bool) (text sets log : Bytes) (files : List Bytes) where
-  result_one : (r : Result (List ℕ) BoardFault) (a b : Result Verdict Fault) → IsResultOfBoard fold r sets log files a → IsResultOfBoard fold r sets log files b → a ≡ b
+  result_one : (r : Result (List ℕ) BoardFault) (a b : Result ℕ BoundRefusal) → IsResultOfBoard fold r sets log files a → IsResultOfBoard fold r sets log files b → a ≡ b
   result_one (Err refused) a b is also = is ∙ sym also
-  result_one (Ok board) a b is also = is.2 ∙ ap of_bound (found_one fold board sets log files is.0 also.0 is.1 also.1) ∙ sym also.2
+  result_one (Ok board) a b is also = is.2 ∙ ap of_proof (found_one fold board sets log files is.0 also.0 is.1 also.1) ∙ sym also.2
 
-  pub IsBoundResult-one : (a b : Result Verdict Fault) → IsBoundResult fold text sets log files a → IsBoundResult fold text sets log files b → a ≡ b
+  pub IsBoundResult-one : (a b : Result ℕ BoundRefusal) → IsBoundResult fold text sets log files a → IsBoundResult fold text sets log files b → a ≡ b
   IsBoundResult-one a b is also = result_one (board_of_text text) a b is also
 
   -- a bound is the result exactly where it is proved for the board of the text
-  proved_by : (r : Result (List ℕ) BoardFault) (n : ℕ) → board_of_text text ≡ r → IsResultOfBoard fold r sets log files (Ok (verdict.Bound n)) → IsBoundOfText fold text sets log files n
+  proved_by : (r : Result (List ℕ) BoardFault) (n : ℕ) → board_of_text text ≡ r → IsResultOfBoard fold r sets log files (Ok n) → IsBoundOfText fold text sets log files n
   proved_by (Err refused) n spelt is = absurd (no_yes _ _ (sym is))
   proved_by (Ok board) n spelt is = of_found is.0 is.1 is.2
     where
-      of_found : (found : Result ℕ Fault) → IsBoundFor fold board sets log files found → Ok (verdict.Bound n) ≡ of_bound found → IsBoundOfText fold text sets log files n
+      of_found : (found : Result ℕ ProofRefusal) → IsBoundFor fold board sets log files found → Ok n ≡ of_proof found → IsBoundOfText fold text sets log files n
       of_found (Err refused) found_for same = absurd (no_yes _ _ (sym same))
       of_found (Ok m) found_for same =
           let same_bound : m ≡ n = cc in
           record { board = board; spelt = spelled-board_of_text text board spelt; proved = subst (IsProvedBound fold board sets log files) same_bound found_for }
 
-  pub IsBoundResult-proved : (n : ℕ) → IsBoundResult fold text sets log files (Ok (verdict.Bound n)) ↔ IsBoundOfText fold text sets log files n
+  pub IsBoundResult-proved : (n : ℕ) → IsBoundResult fold text sets log files (Ok n) ↔ IsBoundOfText fold text sets log files n
   IsBoundResult-proved n = (
     λ is. proved_by (board_of_text text) n refl is,
-    λ h. subst (λ r. IsResultOfBoard fold r sets log files (Ok (verdict.Bound n))) (sym (board_of_text-spelled text h.board h.spelt)) (Ok n, h.proved, refl),
+    λ h. subst (λ r. IsResultOfBoard fold r sets log files (Ok n)) (sym (board_of_text-spelled text h.board h.spelt)) (Ok n, h.proved, refl),
   )
 
-  -- and no other yes comes of it
-  counted_by : (r : Result (List ℕ) BoardFault) (v : Verdict) → IsResultOfBoard fold r sets log files (Ok v) → (n : ℕ) × (v ≡ verdict.Bound n)
-  counted_by (Err refused) v is = absurd (no_yes _ _ (sym is))
-  counted_by (Ok board) v is = of_found is.0 is.2
-    where
-      of_found : (found : Result ℕ Fault) → Ok v ≡ of_bound found → (n : ℕ) × (v ≡ verdict.Bound n)
-      of_found (Err refused) same = absurd (no_yes _ _ (sym same))
-      of_found (Ok m) same = (m, cc)
-
-  pub IsBoundResult-bound : (v : Verdict) → IsBoundResult fold text sets log files (Ok v) → (n : ℕ) × (v ≡ verdict.Bound n)
-  IsBoundResult-bound v is = counted_by (board_of_text text) v is
+  -- what is found for the board of the text makes the result
+  pub board_found : (board : List ℕ) (found : Result ℕ (Failure ProofRefusal)) → board_of_text text ≡ Ok board → IsFoundFor fold board sets log files found
+      → IsFoundBy (IsBoundResult fold text sets log files) (TakesMemoryForBound text files) (or_failure of_proof found)
+  board_found board found spelt is =
+      found_next of_proof (IsBoundFor fold board sets log files) (IsBoundResult fold text sets log files) (TakesMemoryForTables files) (TakesMemoryForBound text files)
+      (λ r found_for. subst (λ b. IsResultOfBoard fold b sets log files (of_proof r)) (sym spelt) (r, found_for, refl))
+      (λ takes. record { board = board; spelt = spelled-board_of_text text board spelt; tables_take = takes }) found is
 
 -- ---- what a bound says
 

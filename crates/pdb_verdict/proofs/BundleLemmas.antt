@@ -16,9 +16,10 @@ use Rattle.set_sum.specs.declared.parts.Part.{Part}
 use Rattle.pdb_io.specs.Shelf.{Bytes}
 use Rattle.pdb_verdict.proofs.FoldedLemmas.{has_folded}
 use Rattle.pdb_verdict.specs.Bundles.{AreExactFiles, AreRefusedSets, IsBundleOfFiles, TakesMemoryForTables, part_for, parts_for}
-use Rattle.pdb_verdict.specs.Steps.{ArePartsOf, IsCauseForFile, IsCauseForTables}
-use Rattle.pdb_verdict.specs.declared.verdicts.Fault.{Fault}
-use Rattle.pdb_verdict.specs.declared.verdicts.Fault.TheVariants as fault
+use Rattle.pdb_verdict.specs.Steps.{ArePartsOf, IsCauseAt, IsCauseForTables}
+use Rattle.pdb_verdict.specs.declared.refusals.Failure.{Failure}
+use Rattle.pdb_verdict.specs.declared.refusals.Failure.TheVariants.{Memory, Refused}
+use Rattle.pdb_verdict.specs.declared.refusals.FileRefusal.{FileRefusal}
 
 -- an element of a list that stands within it, seen through a function
 pub item_there : {A B : Type 0} (f : A → B) (xs : List A) (i : ℕ) (x : A) → i < length xs → x ≡ get_or xs i x → slice_get (map f xs) i ≡ Some (f x)
@@ -105,12 +106,12 @@ bundle_taken fold files sets bundle is =
     exact_taken is.tables files (subst (λ n. 0 < n) (length-map is.tables (part_for fold)) is.makes.alike.count.some) is.exact
 
 -- what keeps one file's table away keeps away those of all
-pub cause_for_tables : (tables : List Table) (files : List Bytes) (i expected : ℕ) (file : Bytes) (cause : Fault) → AreExactFiles tables (take i files)
-    → slice_get files i ≡ Some file → expected ≡ length tables → IsCauseForFile cause expected file → IsCauseForTables cause files
-cause_for_tables tables files i expected file (fault.TableOf number refused) are there counted is =
+pub cause_for_tables : (tables : List Table) (files : List Bytes) (i expected : ℕ) (file : Bytes) (cause : Failure FileRefusal) → AreExactFiles tables (take i files)
+    → slice_get files i ≡ Some file → expected ≡ length tables → IsCauseAt expected file cause → IsCauseForTables files cause
+cause_for_tables tables files i expected file (Refused refused) are there counted is =
     let low : i < length files = slice_get_within files i file there in
     let before : length tables ≡ i = exact-length tables (take i files) are ∙ length-take-le i files (omega arith) in
-    let same : number ≡ i = is.0 ∙ counted ∙ before in
+    let same : refused.number ≡ i = is.0 ∙ counted ∙ before in
     record {
       file = file;
       there = ap (slice_get files) same ∙ there;
@@ -118,13 +119,4 @@ cause_for_tables tables files i expected file (fault.TableOf number refused) are
       tables = tables;
       before = subst (λ k. AreExactFiles tables (take k files)) (sym same) are;
     }
-cause_for_tables tables files i expected file fault.Memory are there counted is = first_taken tables files i is.0 file are there is.1
-cause_for_tables tables files i expected file fault.P1 are there counted is = absurd is
-cause_for_tables tables files i expected file (fault.Board refused) are there counted is = absurd is
-cause_for_tables tables files i expected file (fault.Moves refused) are there counted is = absurd is
-cause_for_tables tables files i expected file (fault.Table refused) are there counted is = absurd is
-cause_for_tables tables files i expected file (fault.Sets refused) are there counted is = absurd is
-cause_for_tables tables files i expected file (fault.Log refused) are there counted is = absurd is
-cause_for_tables tables files i expected file (fault.O1 solution bound) are there counted is = absurd is
-cause_for_tables tables files i expected file (fault.Make unmade) are there counted is = absurd is
-cause_for_tables tables files i expected file fault.K4 are there counted is = absurd is
+cause_for_tables tables files i expected file Memory are there counted is = first_taken tables files i is.0 file are there is.1

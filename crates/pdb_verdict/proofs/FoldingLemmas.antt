@@ -8,8 +8,9 @@ use Rattle.set_sum.specs.declared.parts.Part.{Part}
 use Rattle.pdb_io.specs.Shelf.{Bytes}
 use Rattle.pdb_run.specs.Answers.{all_bytes}
 use Rattle.pdb_run.specs.Writing.{digest_line, digests_of}
-use Rattle.pdb_verdict.specs.Steps.{ArePartsOf, HasOneMore, IsCauseForFile, IsCauseForTables}
-use Rattle.pdb_verdict.specs.declared.verdicts.Fault.{Fault}
+use Rattle.pdb_verdict.specs.Steps.{ArePartsOf, HasOneMore, IsCauseAt, IsCauseForTables}
+use Rattle.pdb_verdict.specs.declared.refusals.Failure.{Failure}
+use Rattle.pdb_verdict.specs.declared.refusals.FileRefusal.{FileRefusal}
 use Rattle.pdb_verdict.proofs.BundleLemmas.{cause_for_tables, parts_count, parts_next}
 
 -- the digest line of one file more
@@ -48,11 +49,11 @@ module _ (files before rest : List Bytes) (file : Bytes) (whole : before ++ file
   further = ap (λ (fs : List Bytes). take (length before + 1) fs) (sym whole) ∙ past_seam before file rest
 
   -- the parts of one file more, or why there aren't the parts of all
-  fold_step : {Z : Type 0} (parts after : Result (Vec Part Z) Fault)
-      → MatchResult parts (λ ps. ArePartsOf true before ps.items) (λ cause. IsCauseForTables cause files)
+  fold_step : {Z : Type 0} (parts after : Result (Vec Part Z) (Failure FileRefusal))
+      → MatchResult parts (λ ps. ArePartsOf true before ps.items) (IsCauseForTables files)
       → IfOk after (λ more. MatchResult parts (λ ps. HasOneMore ps.items file more.items) (λ _. ⊥))
-      → IfErr after (λ cause. MatchResult parts (λ ps. IsCauseForFile cause (length ps.items) file) (λ refused. cause ≡ refused))
-      → MatchResult after (λ ps. ArePartsOf true (before ++ file ∷ []) ps.items) (λ cause. IsCauseForTables cause files)
+      → IfErr after (λ cause. MatchResult parts (λ ps. IsCauseAt (length ps.items) file cause) (λ refused. cause ≡ refused))
+      → MatchResult after (λ ps. ArePartsOf true (before ++ file ∷ []) ps.items) (IsCauseForTables files)
   fold_step (Ok ps) (Ok more) are ok err =
       let at : ArePartsOf true (take (length before) files) ps.items = subst (λ fs. ArePartsOf true fs ps.items) (sym front) are in
       let next = parts_next true ps.items files (length before) ok.1.0 ok.0 file at there ok.1.1 ok.1.2 in
@@ -61,18 +62,18 @@ module _ (files before rest : List Bytes) (file : Bytes) (whole : before ++ file
       let at : ArePartsOf true (take (length before) files) ps.items = subst (λ fs. ArePartsOf true fs ps.items) (sym front) are in
       cause_for_tables at.tables files (length before) (length ps.items) file cause at.exact there (parts_count true _ ps.items at) err
   fold_step (Err refused) (Ok more) are ok err = absurd ok
-  fold_step (Err refused) (Err cause) are ok err = subst (λ (c : Fault). IsCauseForTables c files) (sym err) are
+  fold_step (Err refused) (Err cause) are ok err = subst (IsCauseForTables files) (sym err) are
 
 -- the same of files that are there as vectors
 pub next_step : {Z Y : Type 0} (all before rest : List (Vec ℕ Z)) (file : Vec ℕ Z) (now : Bytes) → now ≡ file.items → before ++ file ∷ rest ≡ all
-    → (parts after : Result (Vec Part Y) Fault)
-    → MatchResult parts (λ ps. ArePartsOf true (all_bytes before) ps.items) (λ cause. IsCauseForTables cause (all_bytes all))
+    → (parts after : Result (Vec Part Y) (Failure FileRefusal))
+    → MatchResult parts (λ ps. ArePartsOf true (all_bytes before) ps.items) (IsCauseForTables (all_bytes all))
     → IfOk after (λ more. MatchResult parts (λ ps. HasOneMore ps.items now more.items) (λ _. ⊥))
-    → IfErr after (λ cause. MatchResult parts (λ ps. IsCauseForFile cause (length ps.items) now) (λ refused. cause ≡ refused))
-    → MatchResult after (λ ps. ArePartsOf true (all_bytes (before ++ file ∷ [])) ps.items) (λ cause. IsCauseForTables cause (all_bytes all))
+    → IfErr after (λ cause. MatchResult parts (λ ps. IsCauseAt (length ps.items) now cause) (λ refused. cause ≡ refused))
+    → MatchResult after (λ ps. ArePartsOf true (all_bytes (before ++ file ∷ [])) ps.items) (IsCauseForTables (all_bytes all))
 next_step all before rest file now is whole parts after are ok err =
     let bytes : all_bytes before ++ now ∷ all_bytes rest ≡ all_bytes all =
     ap (λ (b : Bytes). all_bytes before ++ b ∷ all_bytes rest) is ∙ sym (map-append (λ v. v.items) before (file ∷ rest)) ∙ ap all_bytes whole in
     let more : all_bytes before ++ now ∷ [] ≡ all_bytes (before ++ file ∷ []) = ap (λ (b : Bytes). all_bytes before ++ b ∷ []) is ∙ sym (bytes-snoc before file) in
-    subst (λ fs. MatchResult after (λ ps. ArePartsOf true fs ps.items) (λ cause. IsCauseForTables cause (all_bytes all))) more
+    subst (λ fs. MatchResult after (λ ps. ArePartsOf true fs ps.items) (IsCauseForTables (all_bytes all))) more
     (fold_step (all_bytes all) (all_bytes before) (all_bytes rest) now bytes parts after are ok err)

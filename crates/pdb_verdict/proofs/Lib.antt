@@ -4,9 +4,10 @@ mod FoldedLemmas
 mod FoldingLemmas
 mod LineLemmas
 pub mod OptimumLemmas
+pub mod RefusalLemmas
 mod ReplayLemmas
 mod ResultLemmas
 pub mod StartLemmas
 mod TableLemmas
 pub mod ToldLemmas
-mod VerdictLemmas
+pub mod VerdictLemmas

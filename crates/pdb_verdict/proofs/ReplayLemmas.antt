@@ -1,83 +1,87 @@
--- A puzzle text has one result, and it is a solution exactly where the moves solve the board.
-use Rattle.std.proofs.Common.{◌≡◌, ◌∙◌, ◌↔◌, ℕ, List, Option, Some, None, Result, Ok, Err, ap, refl, sym}
+-- A puzzle text has one result, and it is a number of moves exactly where so many solve the board.
+use Rattle.std.proofs.Common.{◌≡◌, ◌∙◌, ◌↔◌, ℕ, List, Option, Some, None, Result, Ok, Err, ap, refl, subst, sym}
 use Rattle.puz_board.specs.BoardTexts.{board_of_text}
 use Rattle.puz_board.specs.MovesTexts.{replay_of}
 use Rattle.puz_board.specs.PuzzleTexts.{puzzle_parts}
 use Rattle.puz_board.specs.declared.replays.MoveFault.{MoveFault}
 use Rattle.puz_board.specs.declared.texts.BoardFault.{BoardFault}
-use Rattle.puz_board.proofs.PuzzleLemmas.{puzzle-puzzle_parts, puzzle_parts-puzzle}
+use Rattle.puz_board.proofs.PuzzleLemmas.{puzzle_parts-puzzle, puzzle-parts}
 use Rattle.puz_board.proofs.SolutionLemmas.{replay_of-solved, solved-replay_of}
 use Rattle.puz_board.proofs.SpellingLemmas.{board_of_text-spelled, spelled-board_of_text}
-use Rattle.pdb_verdict.specs.Replay.{IsReplayResult, IsSolvedPuzzle, of_board, of_moves, of_parts}
+use Rattle.pdb_verdict.specs.Refusals.{fault_of_replay}
+use Rattle.pdb_verdict.specs.Replay.{IsReplayResult, IsReplayTold, IsSolvedPuzzle, solved_board, solved_by, solved_parts}
+use Rattle.pdb_verdict.specs.declared.refusals.ReplayRefusal.{ReplayRefusal}
 use Rattle.pdb_verdict.specs.declared.verdicts.Fault.{Fault}
 use Rattle.pdb_verdict.specs.declared.verdicts.Verdict.{Verdict}
 use Rattle.pdb_verdict.specs.declared.verdicts.Verdict.TheVariants as verdict
+use Rattle.pdb_verdict.proofs.RefusalLemmas.{no_yes, told_exactly, told_one}
 
-pub no_yes : {A E : Type 0} (e : E) (x : A) → ◌≡◌ {A = Result A E} (Err e) (Ok x) → ⊥
-no_yes e x same = cc
+-- ---- puzzles that are solved
 
--- ---- a yes is a number of moves
+-- so many moves solve the puzzle's board, which is this one
+abbrev pub IsSolvedWith : List ℕ → List ℕ → ℕ → Type 0
+IsSolvedWith puzzle board n = (solved : IsSolvedPuzzle puzzle n) × (solved.board ≡ board)
 
-abbrev IsCounted : Verdict → Type 0
-IsCounted v = (n : ℕ) × (v ≡ verdict.Solution n)
-
-yes_of_moves : (r : Result ℕ MoveFault) (v : Verdict) → of_moves r ≡ Ok v → IsCounted v
-yes_of_moves (Err refused) v e = absurd (no_yes _ _ e)
-yes_of_moves (Ok n) v e = (n, cc)
-
-yes_of_board : (r : Result (List ℕ) BoardFault) (moves : List ℕ) (v : Verdict) → of_board r moves ≡ Ok v → IsCounted v
-yes_of_board (Err refused) moves v e = absurd (no_yes _ _ e)
-yes_of_board (Ok board) moves v e = yes_of_moves (replay_of board moves) v e
-
-yes_of_parts : (parts : Option (List ℕ × List ℕ)) (v : Verdict) → of_parts parts ≡ Ok v → IsCounted v
-yes_of_parts None v e = absurd (no_yes _ _ e)
-yes_of_parts (Some parts) v e = yes_of_board (board_of_text parts.0) parts.1 v e
-
--- ---- so many moves solve the board
-
-of_parts-solved : (puzzle : List ℕ) (n : ℕ) → IsSolvedPuzzle puzzle n → of_parts (puzzle_parts puzzle) ≡ Ok (verdict.Solution n)
-of_parts-solved puzzle n h =
-    ap of_parts (puzzle_parts-puzzle puzzle h.board_text h.moves_text h.parts)
-    ∙ ap (λ (r : Result (List ℕ) BoardFault). of_board r h.moves_text) (board_of_text-spelled h.board_text h.board h.spelt)
-    ∙ ap of_moves (replay_of-solved h.board h.moves_text n h.spelt.board h.solved)
-
-solved_by_moves : (puzzle board_text moves_text board : List ℕ) (n : ℕ) (r : Result ℕ MoveFault) → puzzle_parts puzzle ≡ Some (board_text, moves_text)
-    → board_of_text board_text ≡ Ok board → replay_of board moves_text ≡ r → of_moves r ≡ Ok (verdict.Solution n) → IsSolvedPuzzle puzzle n
-solved_by_moves puzzle board_text moves_text board n (Err refused) parts spelt replayed is = absurd (no_yes _ _ is)
-solved_by_moves puzzle board_text moves_text board n (Ok m) parts spelt replayed is =
-    let spells = spelled-board_of_text board_text board spelt in
-    let same : m ≡ n = cc in
-    record {
-      board = board;
+by_moves : (puzzle board_text moves_text b board : List ℕ) (n : ℕ) (r : Result ℕ MoveFault) → puzzle_parts puzzle ≡ Some (board_text, moves_text)
+    → board_of_text board_text ≡ Ok b → replay_of b moves_text ≡ r → solved_by b r ≡ Ok (board, n) → IsSolvedWith puzzle board n
+by_moves puzzle board_text moves_text b board n (Err refused) parts spelt replayed is = absurd (no_yes _ _ is)
+by_moves puzzle board_text moves_text b board n (Ok m) parts spelt replayed is =
+    let spells = spelled-board_of_text board_text b spelt in
+    let both : ◌≡◌ {A = List ℕ × ℕ} (b, m) (board, n) = cc in
+    let same : m ≡ n = ap (λ (p : List ℕ × ℕ). p.1) both in
+    let same_board : b ≡ board = ap (λ (p : List ℕ × ℕ). p.0) both in
+    let solved : IsSolvedPuzzle puzzle n = record {
+      board = b;
       board_text = board_text;
       moves_text = moves_text;
-      parts = puzzle-puzzle_parts {A = List ℕ × List ℕ} puzzle (Some (board_text, moves_text)) (λ p. p.0) (λ p. p.1) (sym parts);
+      parts = puzzle-parts puzzle board_text moves_text parts;
       spelt = spells;
-      solved = solved-replay_of board moves_text n spells.board (replayed ∙ ap (λ (k : ℕ). Ok k) same);
-    }
+      solved = solved-replay_of b moves_text n spells.board (replayed ∙ ap (λ (k : ℕ). Ok k) same);
+    } in
+    (solved, same_board)
 
-solved_by_board : (puzzle board_text moves_text : List ℕ) (n : ℕ) (r : Result (List ℕ) BoardFault) → puzzle_parts puzzle ≡ Some (board_text, moves_text)
-    → board_of_text board_text ≡ r → of_board r moves_text ≡ Ok (verdict.Solution n) → IsSolvedPuzzle puzzle n
-solved_by_board puzzle board_text moves_text n (Err refused) parts spelt is = absurd (no_yes _ _ is)
-solved_by_board puzzle board_text moves_text n (Ok board) parts spelt is =
-    solved_by_moves puzzle board_text moves_text board n (replay_of board moves_text) parts spelt refl is
+by_board : (puzzle board_text moves_text board : List ℕ) (n : ℕ) (r : Result (List ℕ) BoardFault) → puzzle_parts puzzle ≡ Some (board_text, moves_text)
+    → board_of_text board_text ≡ r → solved_board r moves_text ≡ Ok (board, n) → IsSolvedWith puzzle board n
+by_board puzzle board_text moves_text board n (Err refused) parts spelt is = absurd (no_yes _ _ is)
+by_board puzzle board_text moves_text board n (Ok b) parts spelt is =
+    by_moves puzzle board_text moves_text b board n (replay_of b moves_text) parts spelt refl is
 
-solved_by_parts : (puzzle : List ℕ) (n : ℕ) (o : Option (List ℕ × List ℕ)) → puzzle_parts puzzle ≡ o → of_parts o ≡ Ok (verdict.Solution n) → IsSolvedPuzzle puzzle n
-solved_by_parts puzzle n None parts is = absurd (no_yes _ _ is)
-solved_by_parts puzzle n (Some p) parts is = solved_by_board puzzle p.0 p.1 n (board_of_text p.0) parts refl is
+by_parts : (puzzle board : List ℕ) (n : ℕ) (o : Option (List ℕ × List ℕ)) → puzzle_parts puzzle ≡ o → solved_parts o ≡ Ok (board, n) → IsSolvedWith puzzle board n
+by_parts puzzle board n None parts is = absurd (no_yes _ _ is)
+by_parts puzzle board n (Some p) parts is = by_board puzzle p.0 p.1 board n (board_of_text p.0) parts refl is
 
--- a number of moves is the result exactly where so many moves solve the puzzle
-pub IsReplayResult-solution : (puzzle : List ℕ) (n : ℕ) → IsReplayResult puzzle (Ok (verdict.Solution n)) ↔ (IsSolvedPuzzle puzzle n)
-IsReplayResult-solution puzzle n = (λ is. solved_by_parts puzzle n (puzzle_parts puzzle) refl (sym is), λ h. sym (of_parts-solved puzzle n h))
+-- a board and a number of moves come of a puzzle that is solved
+pub solved-parts : (puzzle board : List ℕ) (n : ℕ) → solved_parts (puzzle_parts puzzle) ≡ Ok (board, n) → IsSolvedWith puzzle board n
+solved-parts puzzle board n is = by_parts puzzle board n (puzzle_parts puzzle) refl is
 
--- so an answer that is the result says a number of moves exactly there
-pub says_solution : (puzzle : List ℕ) (answer : Result Verdict Fault) (n : ℕ) → IsReplayResult puzzle answer → (answer ≡ Ok (verdict.Solution n)) ↔ (IsSolvedPuzzle puzzle n)
-says_solution puzzle answer n is = (λ same. (IsReplayResult-solution puzzle n).0 (sym same ∙ is), λ h. is ∙ sym ((IsReplayResult-solution puzzle n).1 h))
+-- and of each
+pub parts-solved : (puzzle : List ℕ) (n : ℕ) (solved : IsSolvedPuzzle puzzle n) → solved_parts (puzzle_parts puzzle) ≡ Ok (solved.board, n)
+parts-solved puzzle n h =
+    ap solved_parts (puzzle_parts-puzzle puzzle h.board_text h.moves_text h.parts)
+    ∙ ap (λ (r : Result (List ℕ) BoardFault). solved_board r h.moves_text) (board_of_text-spelled h.board_text h.board h.spelt)
+    ∙ ap (solved_by h.board) (replay_of-solved h.board h.moves_text n h.spelt.board h.solved)
 
--- and no other yes comes of a puzzle text
-pub IsReplayResult-counted : (puzzle : List ℕ) (v : Verdict) → IsReplayResult puzzle (Ok v) → (n : ℕ) × (v ≡ verdict.Solution n)
-IsReplayResult-counted puzzle v is = yes_of_parts (puzzle_parts puzzle) v (sym is)
+-- ---- the result
 
--- there is one result
-pub IsReplayResult-one : (puzzle : List ℕ) (a b : Result Verdict Fault) → IsReplayResult puzzle a → IsReplayResult puzzle b → a ≡ b
-IsReplayResult-one puzzle a b is also = is ∙ sym also
+-- there is one
+pub IsReplayResult-one : (puzzle : List ℕ) (a b : Result ℕ ReplayRefusal) → IsReplayResult puzzle a → IsReplayResult puzzle b → a ≡ b
+IsReplayResult-one puzzle (Ok m) (Ok n) is also =
+    let both : ◌≡◌ {A = Result (List ℕ × ℕ) ReplayRefusal} (Ok (is.board, m)) (Ok (also.board, n)) = sym (parts-solved puzzle m is) ∙ parts-solved puzzle n also in
+    let pair : ◌≡◌ {A = List ℕ × ℕ} (is.board, m) (also.board, n) = cc in
+    ap (λ (p : List ℕ × ℕ). Ok p.1) pair
+IsReplayResult-one puzzle (Ok m) (Err refused) is also = absurd (no_yes _ _ (sym also ∙ parts-solved puzzle m is))
+IsReplayResult-one puzzle (Err refused) (Ok n) is also = absurd (no_yes _ _ (sym is ∙ parts-solved puzzle n also))
+IsReplayResult-one puzzle (Err refused) (Err other) is also =
+    let both : ◌≡◌ {A = Result (List ℕ × ℕ) ReplayRefusal} (Err refused) (Err other) = sym is ∙ also in
+    let same : refused ≡ other = cc in
+    ap (λ r. Err r) same
+
+pub same_solution : (a b : ℕ) → verdict.Solution a ≡ verdict.Solution b → a ≡ b
+same_solution a b same = cc
+
+-- so an answer that tells it says a number of moves exactly where so many solve the board
+pub says_solution : (puzzle : List ℕ) (answer : Result Verdict Fault) (n : ℕ) → IsReplayTold puzzle answer → (answer ≡ Ok (verdict.Solution n)) ↔ (IsSolvedPuzzle puzzle n)
+says_solution puzzle answer n is = (
+  λ same. (told_exactly verdict.Solution fault_of_replay (IsReplayResult puzzle) same_solution n).0 (subst (λ (a : Result Verdict Fault). IsReplayTold puzzle a) same is),
+  λ h. told_one verdict.Solution fault_of_replay (IsReplayResult puzzle) (IsReplayResult-one puzzle) answer (Ok (verdict.Solution n)) is (Ok n, h, refl),
+)

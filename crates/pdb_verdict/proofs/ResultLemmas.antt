@@ -1,10 +1,11 @@
 -- Inputs have a result.
-use Rattle.std.proofs.Common.{◌⊎◌, ℕ, Bool, suc, ◌+◌, ◌<◌, ◌^◌, List, [], ◌∷◌, drop, Result, Ok, Err, inl, inr, refl, sym, subst}
+use Rattle.std.proofs.Common.{◌≡◌, ◌⊎◌, ℕ, Bool, suc, ◌+◌, ◌<◌, ◌^◌, List, [], ◌∷◌, drop, Result, Ok, Err, inl, inr, refl, sym, subst}
 use Rattle.std.specs.Prelude.{slice_index}
 use Rattle.std.proofs.lemmas.List.{get_or-drop}
 use Rattle.byteorder.specs.Numbers.{big_from-lt}
 use Rattle.tab_file.specs.TableFiles.{mask_in}
 use Rattle.tab_file.specs.Tables.{Table}
+use Rattle.tab_check.specs.declared.census.Census.{Census}
 use Rattle.tab_check.specs.declared.tables.TableRefusal.{TableRefusal}
 use Rattle.tab_check.proofs.AnswerLemmas.{census_some, file_answer}
 use Rattle.set_sum.proofs.BundleLemmas.{is_bundle}
@@ -14,17 +15,28 @@ use Rattle.pdb_io.specs.Shelf.{Bytes}
 use Rattle.puz_board.specs.BoardTexts.{board_of_text}
 use Rattle.puz_board.specs.PuzzleTexts.{puzzle_parts}
 use Rattle.puz_board.specs.declared.texts.BoardFault.{BoardFault}
-use Rattle.pdb_verdict.specs.Bound.{IsBoundFor, IsBoundResult, IsResultOfBoard, of_bound}
+use Rattle.pdb_verdict.specs.Bound.{IsBoundFor, IsBoundResult, IsResultOfBoard, of_proof}
 use Rattle.pdb_verdict.specs.Bundles.{AreExactFiles, IsBundleOfFiles, IsFirstRefused, parts_for}
 use Rattle.pdb_verdict.specs.Inputs.{Given, bytes_of, puzzle_text, table_file, bound_claim, optimum_claim}
-use Rattle.pdb_verdict.specs.Optimal.{IsOptimumResult, IsResultOfPuzzle, of_halves, solved_parts}
-use Rattle.pdb_verdict.specs.Replay.{of_parts}
+use Rattle.pdb_verdict.specs.Optimal.{IsOptimumResult, IsResultOfPuzzle, of_halves}
+use Rattle.pdb_verdict.specs.Refusals.{IsTold, fault_of_bound, fault_of_optimal, fault_of_replay, told_as}
+use Rattle.pdb_verdict.specs.Replay.{IsReplayResult, solved_parts}
+use Rattle.pdb_verdict.specs.Table.{IsTableResult, exact_verdict}
 use Rattle.pdb_verdict.specs.Verdicts.{IsResult}
+use Rattle.pdb_verdict.specs.declared.refusals.BoundRefusal.{BoundRefusal}
+use Rattle.pdb_verdict.specs.declared.refusals.BoundRefusal.TheVariants.{Board}
+use Rattle.pdb_verdict.specs.declared.refusals.BundleRefusal.TheVariants.{File, Sets}
+use Rattle.pdb_verdict.specs.declared.refusals.OptimalRefusal.{OptimalRefusal}
+use Rattle.pdb_verdict.specs.declared.refusals.OptimalRefusal.TheVariants.{Replay}
+use Rattle.pdb_verdict.specs.declared.refusals.ProofRefusal.{ProofRefusal}
+use Rattle.pdb_verdict.specs.declared.refusals.ProofRefusal.TheVariants.{Bundle, Log}
+use Rattle.pdb_verdict.specs.declared.refusals.ReplayRefusal.{ReplayRefusal}
 use Rattle.pdb_verdict.specs.declared.verdicts.Fault.{Fault}
 use Rattle.pdb_verdict.specs.declared.verdicts.Fault.TheVariants as fault
 use Rattle.pdb_verdict.specs.declared.verdicts.Verdict.{Verdict}
 use Rattle.pdb_verdict.specs.declared.verdicts.Verdict.TheVariants as verdict
 use Rattle.pdb_verdict.proofs.BundleLemmas.{all_exact}
+use Rattle.pdb_verdict.proofs.ReplayLemmas.{solved-parts}
 
 -- a mask of four bytes fits 32 bits
 mask_low : (file : Bytes) → ((i : ℕ) → slice_index file i < 256) → mask_in file < 2 ^ 32
@@ -44,41 +56,45 @@ tables_answer (file ∷ files) = elim (file_answer file) [
 ]
 
 -- a bound for a board, or why there is none
-found_some : (fold : Bool) (board : List ℕ) (sets log : Bytes) (files : List Bytes) → (found : Result ℕ Fault) × IsBoundFor fold board sets log files found
+found_some : (fold : Bool) (board : List ℕ) (sets log : Bytes) (files : List Bytes) → (found : Result ℕ ProofRefusal) × IsBoundFor fold board sets log files found
 found_some fold board sets log files = elim (tables_answer files) [
-  | inr first ↦ (Err (fault.TableOf first.0 first.1), first.2)
+  | inr first ↦ (Err (Bundle (File (record { number = first.0; refusal = first.1 }))), first.2)
   | inl are ↦ elim (bundle_answer (parts_for fold are.0) sets) [
-    | inr refused ↦ (Err (fault.Sets refused.0), record { tables = are.0; exact = are.1; fault = refused.1 })
+    | inr refused ↦ (Err (Bundle (Sets refused.0)), record { tables = are.0; exact = are.1; fault = refused.1 })
     | inl bundle ↦
         let of_files : IsBundleOfFiles fold files sets bundle.0 = record { tables = are.0; exact = are.1; makes = bundle.1 } in
         elim (check_answer bundle.0 (is_bundle (parts_for fold are.0) sets bundle.0 (all_exact fold are.0 files are.1) bundle.1) board log) [
           | inl good ↦ (Ok good.0, record { bundle = bundle.0; is_bundle = of_files; good = good.1 })
-          | inr refused ↦ (Err (fault.Log refused.0), record { bundle = bundle.0; is_bundle = of_files; fault = refused.1 })
+          | inr refused ↦ (Err (Log refused.0), record { bundle = bundle.0; is_bundle = of_files; fault = refused.1 })
         ]
   ]
 ]
 
-bound_some : (fold : Bool) (text sets log : Bytes) (files : List Bytes) → (answer : Result Verdict Fault) × IsBoundResult fold text sets log files answer
+bound_some : (fold : Bool) (text sets log : Bytes) (files : List Bytes) → (found : Result ℕ BoundRefusal) × IsBoundResult fold text sets log files found
 bound_some fold text sets log files = of_board (board_of_text text)
   where
-    of_board : (r : Result (List ℕ) BoardFault) → (answer : Result Verdict Fault) × IsResultOfBoard fold r sets log files answer
-    of_board (Err refused) = (Err (fault.Board refused), refl)
-    of_board (Ok board) = let found = found_some fold board sets log files in (of_bound found.0, (found.0, found.1, refl))
+    of_board : (r : Result (List ℕ) BoardFault) → (found : Result ℕ BoundRefusal) × IsResultOfBoard fold r sets log files found
+    of_board (Err refused) = (Err (Board refused), refl)
+    of_board (Ok board) = let found = found_some fold board sets log files in (of_proof found.0, (found.0, found.1, refl))
 
-optimum_some : (fold : Bool) (puzzle sets log : Bytes) (files : List Bytes) → (answer : Result Verdict Fault) × IsOptimumResult fold puzzle sets log files answer
+optimum_some : (fold : Bool) (puzzle sets log : Bytes) (files : List Bytes) → (found : Result ℕ OptimalRefusal) × IsOptimumResult fold puzzle sets log files found
 optimum_some fold puzzle sets log files = of_puzzle (solved_parts (puzzle_parts puzzle))
   where
-    of_puzzle : (r : Result (List ℕ × ℕ) Fault) → (answer : Result Verdict Fault) × IsResultOfPuzzle fold r sets log files answer
-    of_puzzle (Err refused) = (Err refused, refl)
+    of_puzzle : (r : Result (List ℕ × ℕ) ReplayRefusal) → (found : Result ℕ OptimalRefusal) × IsResultOfPuzzle fold r sets log files found
+    of_puzzle (Err refused) = (Err (Replay refused), refl)
     of_puzzle (Ok solved) = let found = found_some fold solved.0 sets log files in (of_halves solved.1 found.0, (found.0, found.1, refl))
 
--- ---- all inputs
+replay_some : (puzzle : Bytes) → (found : Result ℕ ReplayRefusal) × IsReplayResult puzzle found
+replay_some puzzle = of_puzzle (solved_parts (puzzle_parts puzzle)) refl
+  where
+    of_puzzle : (r : Result (List ℕ × ℕ) ReplayRefusal) → solved_parts (puzzle_parts puzzle) ≡ r → (found : Result ℕ ReplayRefusal) × IsReplayResult puzzle found
+    of_puzzle (Err refused) is = (Err refused, is)
+    of_puzzle (Ok solved) is = (Ok solved.1, (solved-parts puzzle solved.0 solved.1 is).0)
 
-pub result_some : (inputs : Given) → ((i : ℕ) → slice_index (bytes_of inputs) i < 256) → (answer : Result Verdict Fault) × IsResult inputs answer
-result_some (puzzle_text puzzle) small = (of_parts (puzzle_parts puzzle), refl)
-result_some (table_file file) small = elim (file_answer file) [
+table_some : (file : Bytes) → ((i : ℕ) → slice_index file i < 256) → (found : Result (ℕ × ℕ × Census) TableRefusal) × IsTableResult file found
+table_some file small = elim (file_answer file) [
   | inl exact ↦ let census = census_some exact.0.entries in (
-    Ok (verdict.Exact exact.0.pattern.side (mask_in file) census.0),
+    Ok (exact.0.pattern.side, mask_in file, census.0),
     record {
       table = exact.0;
       exact = exact.1;
@@ -88,7 +104,19 @@ result_some (table_file file) small = elim (file_answer file) [
       counted = census.1;
     },
   )
-  | inr refused ↦ (Err (fault.Table refused.0), refused.1)
+  | inr refused ↦ (Err refused.0, refused.1)
 ]
-result_some (bound_claim fold board sets log tables) small = bound_some fold board sets log tables
-result_some (optimum_claim fold puzzle sets log tables) small = optimum_some fold puzzle sets log tables
+
+-- ---- all inputs
+
+told_some : {A R : Type 0} (verdict_of : A → Verdict) (fault_of : R → Fault) (IsFound : Result A R → Type 0) → (found : Result A R) × IsFound found
+    → (answer : Result Verdict Fault) × IsTold verdict_of fault_of IsFound answer
+told_some verdict_of fault_of IsFound found = (told_as verdict_of fault_of found.0, (found.0, found.1, refl))
+
+pub result_some : (inputs : Given) → ((i : ℕ) → slice_index (bytes_of inputs) i < 256) → (answer : Result Verdict Fault) × IsResult inputs answer
+result_some (puzzle_text puzzle) small = told_some verdict.Solution fault_of_replay (IsReplayResult puzzle) (replay_some puzzle)
+result_some (table_file file) small = told_some exact_verdict fault.Table (IsTableResult file) (table_some file small)
+result_some (bound_claim fold board sets log tables) small =
+    told_some verdict.Bound fault_of_bound (IsBoundResult fold board sets log tables) (bound_some fold board sets log tables)
+result_some (optimum_claim fold puzzle sets log tables) small =
+    told_some verdict.Optimal fault_of_optimal (IsOptimumResult fold puzzle sets log tables) (optimum_some fold puzzle sets log tables)

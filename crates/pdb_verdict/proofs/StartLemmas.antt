@@ -1,34 +1,33 @@
 -- Claims on logs: what stands before the log, and what is told of them.
-use Rattle.std.proofs.Common.{◌≡◌, ◌≢◌, ◌∙◌, ◌≤◌, ◌-◌, ℕ, Bool, true, false, List, [], ◌∷◌, ◌++◌, Option, Some, None, Vec, Result, Ok, Err, ap, arith, get_or, inl, inr, length, map, refl, subst, sym}
-use Rattle.std.specs.Prelude.{◌==◌, if◌then◌else◌, slice_get, slice_range}
+use Rattle.std.proofs.Common.{◌≡◌, ◌≢◌, ◌∙◌, ◌≤◌, ◌-◌, ℕ, Bool, true, List, [], ◌∷◌, ◌++◌, Option, Some, None, Vec, Result, Err, ap, arith, get_or, inl, inr, length, map, refl, subst, sym}
+use Rattle.std.specs.Prelude.{slice_get, slice_range}
 use Rattle.std.specs.declared.alloc.AllocError.{AllocError}
 use Rattle.std.proofs.lemmas.List.{take_all}
-use Rattle.puz_board.specs.BoardTexts.{board_of_text}
-use Rattle.puz_board.specs.MovesTexts.{replay_of}
-use Rattle.puz_board.specs.PuzzleTexts.{puzzle_parts}
-use Rattle.puz_board.specs.declared.replays.MoveFault.{MoveFault}
-use Rattle.puz_board.specs.declared.texts.BoardFault.{BoardFault}
-use Rattle.puz_board.proofs.SpellingLemmas.{spelled-board_of_text}
 use Rattle.pdb_io.specs.Shelf.{Bytes}
 use Rattle.pdb_run.specs.Answers.{IsAnswerBy, all_bytes}
 use Rattle.pdb_run.specs.Writing.{digests_of}
 use Rattle.pdb_run.specs.declared.answers.Answer.{Answer}
-use Rattle.pdb_verdict.specs.Bound.{IsBoundFor, IsResultOfBoard, of_bound}
+use Rattle.pdb_verdict.specs.Bound.{IsBoundResult, TakesMemoryForBound, of_proof}
 use Rattle.pdb_verdict.specs.Claims.{ClaimTakesMemory, IsClaimOn, IsClaimReply, IsStartOf, claim_of, verdict_on}
 use Rattle.pdb_verdict.specs.Inputs.{Given, puzzle_text, table_file, bound_claim, optimum_claim}
 use Rattle.pdb_verdict.specs.Lines.{Tells, digested_of}
-use Rattle.pdb_verdict.specs.Optimal.{IsResultOfPuzzle, of_halves, solved_board, solved_by, solved_parts}
-use Rattle.pdb_verdict.specs.Replay.{of_board, of_moves, of_parts}
-use Rattle.pdb_verdict.specs.Steps.{IsCauseForBundle, IsFoundFor}
+use Rattle.pdb_verdict.specs.Optimal.{IsOptimumResult, TakesMemoryForOptimum, of_halves}
+use Rattle.pdb_verdict.specs.Refusals.{fault_of_bound, fault_of_optimal, fault_of_replay}
+use Rattle.pdb_verdict.specs.Replay.{IsReplayResult}
+use Rattle.pdb_verdict.specs.Steps.{IsFoundFor, or_failure}
+use Rattle.pdb_verdict.specs.Table.{IsTableResult, exact_verdict}
 use Rattle.pdb_verdict.specs.Verdicts.{IsAnswerTo, IsResult, TakesMemory}
 use Rattle.pdb_verdict.specs.declared.claims.Claimed.{Claimed}
 use Rattle.pdb_verdict.specs.declared.claims.Claimed.TheVariants.{Bound, Optimum}
+use Rattle.pdb_verdict.specs.declared.refusals.Failure.{Failure}
+use Rattle.pdb_verdict.specs.declared.refusals.ProofRefusal.{ProofRefusal}
 use Rattle.pdb_verdict.specs.declared.verdicts.Fault.{Fault}
 use Rattle.pdb_verdict.specs.declared.verdicts.Fault.TheVariants as fault
 use Rattle.pdb_verdict.specs.declared.verdicts.Verdict.{Verdict}
 use Rattle.pdb_verdict.specs.declared.verdicts.Verdict.TheVariants as verdict
-use Rattle.pdb_verdict.proofs.OptimumLemmas.{found_answers}
-use Rattle.pdb_verdict.proofs.ReplayLemmas.{no_yes}
+use Rattle.pdb_verdict.proofs.BoundLemmas.{board_found}
+use Rattle.pdb_verdict.proofs.OptimumLemmas.{puzzle_found}
+use Rattle.pdb_verdict.proofs.RefusalLemmas.{bound_other, found_told, optimal_other, replay_other, told_memory}
 
 -- ---- the inputs of a claim
 
@@ -61,63 +60,14 @@ taken_order xs ys zs rest a b c sets log xs_are ys_are zs_are sets_is log_is =
 
 -- ---- want of memory is no result
 
-moves_memory : (r : Result ℕ MoveFault) → Err fault.Memory ≡ of_moves r → ⊥
-moves_memory (Ok n) same = no_yes _ _ same
-moves_memory (Err refused) same = let e : ◌≡◌ {A = Result Verdict Fault} (Err fault.Memory) (Err (fault.Moves refused)) = same in cc
-
-board_memory : (r : Result (List ℕ) BoardFault) (moves : Bytes) → Err fault.Memory ≡ of_board r moves → ⊥
-board_memory (Ok board) moves same = moves_memory (replay_of board moves) same
-board_memory (Err refused) moves same = let e : ◌≡◌ {A = Result Verdict Fault} (Err fault.Memory) (Err (fault.Board refused)) = same in cc
-
-parts_memory : (parts : Option (Bytes × Bytes)) → Err fault.Memory ≡ of_parts parts → ⊥
-parts_memory None same = let e : ◌≡◌ {A = Result Verdict Fault} (Err fault.Memory) (Err fault.P1) = same in cc
-parts_memory (Some parts) same = board_memory (board_of_text parts.0) parts.1 same
-
-abbrev Solved : Type 0
-Solved = Result (List ℕ × ℕ) Fault
-
-solved_by_memory : (board : List ℕ) (r : Result ℕ MoveFault) → ◌≡◌ {A = Solved} (solved_by board r) (Err fault.Memory) → ⊥
-solved_by_memory board (Ok n) same = let e : ◌≡◌ {A = Solved} (Ok (board, n)) (Err fault.Memory) = same in cc
-solved_by_memory board (Err refused) same = let e : ◌≡◌ {A = Solved} (Err (fault.Moves refused)) (Err fault.Memory) = same in cc
-
-solved_board_memory : (r : Result (List ℕ) BoardFault) (moves : Bytes) → ◌≡◌ {A = Solved} (solved_board r moves) (Err fault.Memory) → ⊥
-solved_board_memory (Ok board) moves same = solved_by_memory board (replay_of board moves) same
-solved_board_memory (Err refused) moves same = let e : ◌≡◌ {A = Solved} (Err (fault.Board refused)) (Err fault.Memory) = same in cc
-
-solved_memory : (parts : Option (Bytes × Bytes)) → ◌≡◌ {A = Solved} (solved_parts parts) (Err fault.Memory) → ⊥
-solved_memory None same = let e : ◌≡◌ {A = Solved} (Err fault.P1) (Err fault.Memory) = same in cc
-solved_memory (Some parts) same = solved_board_memory (board_of_text parts.0) parts.1 same
-
-module _ (fold : Bool) (board : List ℕ) (sets log : Bytes) (tables : List Bytes) where
-  found_memory : (cause : Fault) → cause ≡ fault.Memory → IsBoundFor fold board sets log tables (Err cause) → ⊥
-  found_memory cause same is = subst (λ c. IsBoundFor fold board sets log tables (Err c)) same is
-
-  bound_memory : (found : Result ℕ Fault) → IsBoundFor fold board sets log tables found → Err fault.Memory ≡ of_bound found → ⊥
-  bound_memory (Ok n) is same = no_yes _ _ same
-  bound_memory (Err cause) is same = found_memory cause (let e : ◌≡◌ {A = Result Verdict Fault} (Err fault.Memory) (Err cause) = same in cc) is
-
-  halves_memory : (n : ℕ) (found : Result ℕ Fault) → IsBoundFor fold board sets log tables found → Err fault.Memory ≡ of_halves n found → ⊥
-  halves_memory n (Ok bound) is same = by_test (n == bound) same
-    where
-      by_test : (b : Bool) → Err fault.Memory ≡ (if b then Ok (verdict.Optimal bound) else Err (fault.O1 n bound)) → ⊥
-      by_test true e = no_yes _ _ e
-      by_test false e = let clash : ◌≡◌ {A = Result Verdict Fault} (Err fault.Memory) (Err (fault.O1 n bound)) = e in cc
-  halves_memory n (Err cause) is same = found_memory cause (let e : ◌≡◌ {A = Result Verdict Fault} (Err fault.Memory) (Err cause) = same in cc) is
-
-bound_result : (fold : Bool) (r : Result (List ℕ) BoardFault) (sets log : Bytes) (tables : List Bytes) → IsResultOfBoard fold r sets log tables (Err fault.Memory) → ⊥
-bound_result fold (Ok board) sets log tables is = bound_memory fold board sets log tables is.0 is.1 is.2
-bound_result fold (Err refused) sets log tables is = let e : ◌≡◌ {A = Result Verdict Fault} (Err fault.Memory) (Err (fault.Board refused)) = is in cc
-
-optimum_result : (fold : Bool) (r : Solved) (sets log : Bytes) (tables : List Bytes) → (r ≡ Err fault.Memory → ⊥) → IsResultOfPuzzle fold r sets log tables (Err fault.Memory) → ⊥
-optimum_result fold (Ok solved) sets log tables none is = halves_memory fold solved.0 sets log tables solved.1 is.0 is.1 is.2
-optimum_result fold (Err refused) sets log tables none is =
-    none (let same : fault.Memory ≡ refused = (let e : ◌≡◌ {A = Result Verdict Fault} (Err fault.Memory) (Err refused) = is in cc) in ap (λ c. Err c) (sym same))
-
 no_result : (inputs : Given) → IsResult inputs (Err fault.Memory) → ⊥
-no_result (puzzle_text puzzle) is = parts_memory (puzzle_parts puzzle) is
-no_result (table_file table) is = is
-no_result (bound_claim fold board sets log tables) is = bound_result fold (board_of_text board) sets log tables is
-no_result (optimum_claim fold puzzle sets log tables) is = optimum_result fold (solved_parts (puzzle_parts puzzle)) sets log tables (solved_memory (puzzle_parts puzzle)) is
+no_result (puzzle_text puzzle) is = told_memory verdict.Solution fault_of_replay (IsReplayResult puzzle) replay_other is
+no_result (table_file table) is =
+    told_memory exact_verdict fault.Table (IsTableResult table) (λ refused same. let e : fault.Table refused ≡ fault.Memory = same in cc) is
+no_result (bound_claim fold board sets log tables) is =
+    told_memory verdict.Bound fault_of_bound (IsBoundResult fold board sets log tables) bound_other is
+no_result (optimum_claim fold puzzle sets log tables) is =
+    told_memory verdict.Optimal fault_of_optimal (IsOptimumResult fold puzzle sets log tables) optimal_other is
 
 -- so where it is answered, it is taken
 pub memory_taken : (inputs : Given) (answer : Result Verdict Fault) → answer ≡ Err fault.Memory → IsAnswerTo inputs answer → TakesMemory inputs
@@ -130,39 +80,19 @@ memory_taken inputs answer same is = elim is [
 pub other_result : (inputs : Given) (answer : Result Verdict Fault) → answer ≢ Err fault.Memory → IsAnswerTo inputs answer → IsResult inputs answer
 other_result inputs answer other is = elim is [ inl result ↦ result | inr lacks ↦ absurd (other lacks.1) ]
 
--- ---- a bundle that is there, or why there is none
-
-module _ (fold : Bool) (board : List ℕ) (sets log : Bytes) (tables : List Bytes) where
-  pub cause_found : (cause : Fault) → IsCauseForBundle fold cause tables sets → IsFoundFor fold board sets log tables (Err cause)
-  cause_found (fault.TableOf number refused) is = inl is
-  cause_found (fault.Sets refused) is = inl is
-  cause_found fault.Memory is = inr (is, refl)
-  cause_found fault.P1 is = absurd is
-  cause_found (fault.Board refused) is = absurd is
-  cause_found (fault.Moves refused) is = absurd is
-  cause_found (fault.Table refused) is = absurd is
-  cause_found (fault.Log refused) is = absurd is
-  cause_found (fault.O1 solution bound) is = absurd is
-  cause_found (fault.Make unmade) is = absurd is
-  cause_found fault.K4 is = absurd is
-
--- what is found for the board of a text is the answer to the claim
-pub board_answers : (fold : Bool) (text sets log : Bytes) (tables : List Bytes) (board : List ℕ) (found : Result ℕ Fault) → board_of_text text ≡ Ok board
-    → IsFoundFor fold board sets log tables found → IsAnswerTo (bound_claim fold text sets log tables) (of_bound found)
-board_answers fold text sets log tables board found spelt is = elim is [
-  | inl bound ↦ inl (subst (λ r. IsResultOfBoard fold r sets log tables (of_bound found)) (sym spelt) (found, bound, refl))
-  | inr lacks ↦ inr (record { board = board; spelt = spelled-board_of_text text board spelt; tables_take = lacks.0 }, ap of_bound lacks.1)
-]
-
 -- ---- claims of both kinds
 
 -- what is found for the board of a claim makes the answer to it
-pub start_answers : (claimed : Claimed) (fold : Bool) (text sets log : Bytes) (tables : List Bytes) (board : List ℕ) (moves : Option ℕ) (found : Result ℕ Fault)
+pub start_answers : (claimed : Claimed) (fold : Bool) (text sets log : Bytes) (tables : List Bytes) (board : List ℕ) (moves : Option ℕ) (found : Result ℕ (Failure ProofRefusal))
     → IsStartOf claimed text board moves → IsFoundFor fold board sets log tables found → IsAnswerTo (claim_of claimed fold text sets log tables) (verdict_on moves found)
-start_answers Bound fold text sets log tables board None found is found_for = board_answers fold text sets log tables board found is found_for
+start_answers Bound fold text sets log tables board None found is found_for =
+    found_told verdict.Bound fault_of_bound (IsBoundResult fold text sets log tables) (TakesMemoryForBound text tables) (or_failure of_proof found)
+    (board_found fold text sets log tables board found is found_for)
 start_answers Bound fold text sets log tables board (Some n) found is found_for = absurd is
 start_answers Optimum fold text sets log tables board None found is found_for = absurd is
-start_answers Optimum fold text sets log tables board (Some n) found is found_for = found_answers fold text sets log tables board n found is found_for
+start_answers Optimum fold text sets log tables board (Some n) found is found_for =
+    found_told verdict.Optimal fault_of_optimal (IsOptimumResult fold text sets log tables) (TakesMemoryForOptimum text tables) (or_failure (of_halves n) found)
+    (puzzle_found fold text sets log tables board n found is found_for)
 
 claim_digests : (claimed : Claimed) (fold : Bool) (text sets log : Bytes) (tables : List Bytes) → digested_of (claim_of claimed fold text sets log tables) ≡ tables ++ log ∷ []
 claim_digests Bound fold text sets log tables = refl
@@ -189,7 +119,7 @@ module _ (told : Result Answer AllocError) where
   claim_told Optimum fold (text ∷ sets ∷ log ∷ tables) claim is tells = subst IsTold is tells
 
   -- so is what is told of it once its tables were given up
-  pub folded_told : (claimed : Claimed) (fold : Bool) (inputs : List Bytes) (text sets log digests : Bytes) (tables : List Bytes) (board : List ℕ) (moves : Option ℕ) (found : Result ℕ Fault)
+  pub folded_told : (claimed : Claimed) (fold : Bool) (inputs : List Bytes) (text sets log digests : Bytes) (tables : List Bytes) (board : List ℕ) (moves : Option ℕ) (found : Result ℕ (Failure ProofRefusal))
       → fold ≡ true → inputs ≡ text ∷ sets ∷ log ∷ tables → (t : Bytes) × (slice_get inputs 0 ≡ Some t) × IsStartOf claimed t board moves
       → digests ≡ digests_of (tables ++ log ∷ []) → IsFoundFor true board sets log tables found
       → ((claim : Given) → digests ≡ digests_of (digested_of claim) → IsAnswerTo claim (verdict_on moves found) → IsAnswerBy (Tells claim (IsResult claim)) (TakesMemory claim) told)

@@ -1,15 +1,18 @@
 -- What a yes or a no that is told says of the inputs.
-use Rattle.std.proofs.Common.{◌≡◌, ◌∙◌, Bool, true, false, Result, Ok, Err, ap, sym}
+use Rattle.std.proofs.Common.{◌≡◌, ◌∙◌, ℕ, Bool, true, false, Result, Ok, Err, ap, sym}
 use Rattle.std.specs.Prelude.{is_ok}
 use Rattle.tab_file.specs.Tables.{Table}
 use Rattle.tab_check.specs.ExactTables.{IsExactFile}
+use Rattle.tab_check.specs.declared.census.Census.{Census}
+use Rattle.tab_check.specs.declared.tables.TableRefusal.{TableRefusal}
 use Rattle.tab_check.proofs.OneResultLemmas.{exact_or_fault}
 use Rattle.pdb_io.specs.Shelf.{Bytes}
 use Rattle.pdb_run.specs.Commands.{Reply}
 use Rattle.pdb_verdict.specs.Inputs.{Given, table_file}
 use Rattle.pdb_verdict.specs.Lines.{Tells, reply_to}
 use Rattle.pdb_verdict.specs.Laws.{IsToldYes}
-use Rattle.pdb_verdict.specs.Table.{IsTableResult}
+use Rattle.pdb_verdict.specs.Refusals.{told_as}
+use Rattle.pdb_verdict.specs.Table.{IsTableResult, IsTableTold, exact_verdict}
 use Rattle.pdb_verdict.specs.Verdicts.{IsResult}
 use Rattle.pdb_verdict.specs.declared.verdicts.Fault.{Fault}
 use Rattle.pdb_verdict.specs.declared.verdicts.Fault.TheVariants as fault
@@ -31,12 +34,13 @@ pub told_yes : (inputs : Given) (reply : Reply) → Tells inputs (IsResult input
 told_yes inputs reply tells is =
     by_answer inputs reply tells.answer tells.is_answer tells.told (told_ok inputs reply tells.answer true tells.told is)
 
-refused_result : (file : Bytes) (answer : Result Verdict Fault) → IsTableResult file answer → is_ok answer ≡ false → (t : Table) → ¬ IsExactFile t file
-refused_result file (Ok verdict) is says_no t exact = let clash : true ≡ false = says_no in cc
-refused_result file (Err (fault.Table refused)) is says_no t exact = exact_or_fault file t refused exact is
-refused_result file (Err other) is says_no t exact = is
+refused_result : (file : Bytes) (found : Result (ℕ × ℕ × Census) TableRefusal) → IsTableResult file found → is_ok (told_as exact_verdict fault.Table found) ≡ false
+    → (t : Table) → ¬ IsExactFile t file
+refused_result file (Ok found) is says_no t exact = let clash : true ≡ false = says_no in cc
+refused_result file (Err refused) is says_no t exact = exact_or_fault file t refused exact is
 
 -- a table file that is answered with a no is no exact file
-pub told_no : (file : Bytes) (reply : Reply) → Tells (table_file file) (IsTableResult file) reply → reply.is_yes ≡ false → (t : Table) → ¬ IsExactFile t file
+pub told_no : (file : Bytes) (reply : Reply) → Tells (table_file file) (IsTableTold file) reply → reply.is_yes ≡ false → (t : Table) → ¬ IsExactFile t file
 told_no file reply tells is =
-    refused_result file tells.answer tells.is_answer (told_ok (table_file file) reply tells.answer false tells.told is)
+    let told = tells.is_answer in
+    refused_result file told.0 told.1 (ap is_ok (sym told.2) ∙ told_ok (table_file file) reply tells.answer false tells.told is)

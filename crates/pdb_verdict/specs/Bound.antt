@@ -9,12 +9,16 @@ use Rattle.log_check.specs.LogFaults.{IsFaultOf}
 use Rattle.log_check.specs.declared.faults.LogRefusal.{LogRefusal}
 use Rattle.pdb_io.specs.Shelf.{Bytes}
 use Rattle.pdb_run.specs.Commands.{Plan, Reply, Wanted, plan}
-use Rattle.pdb_verdict.specs.Bundles.{AreRefusedSets, IsBundleOfFiles, IsFirstRefused, TakesMemoryForTables}
+use Rattle.pdb_verdict.specs.Bundles.{AreRefused, IsBundleOfFiles, TakesMemoryForTables}
 use Rattle.pdb_verdict.specs.Inputs.{bound_claim}
 use Rattle.pdb_verdict.specs.Limits.{a_log, a_table, a_text}
 use Rattle.pdb_verdict.specs.Lines.{Tells}
+use Rattle.pdb_verdict.specs.Refusals.{IsTold, fault_of_bound}
+use Rattle.pdb_verdict.specs.declared.refusals.BoundRefusal.{BoundRefusal}
+use Rattle.pdb_verdict.specs.declared.refusals.BoundRefusal.TheVariants.{Board, Proof}
+use Rattle.pdb_verdict.specs.declared.refusals.ProofRefusal.{ProofRefusal}
+use Rattle.pdb_verdict.specs.declared.refusals.ProofRefusal.TheVariants.{Bundle, Log}
 use Rattle.pdb_verdict.specs.declared.verdicts.Fault.{Fault}
-use Rattle.pdb_verdict.specs.declared.verdicts.Fault.TheVariants as fault
 use Rattle.pdb_verdict.specs.declared.verdicts.Verdict.{Verdict}
 use Rattle.pdb_verdict.specs.declared.verdicts.Verdict.TheVariants as verdict
 
@@ -34,12 +38,10 @@ pub record IsRefusedLog (fold : Bool) (board : List ℕ) (sets log : Bytes) (tab
   pub fault : IsFaultOf refused bundle board log
 
 -- the bound that is proved for the board, or why none is: each table file comes first, then the set text, then the log
-abbrev pub IsBoundFor : Bool → List ℕ → Bytes → Bytes → List Bytes → Result ℕ Fault → Type 0
+abbrev pub IsBoundFor : Bool → List ℕ → Bytes → Bytes → List Bytes → Result ℕ ProofRefusal → Type 0
 IsBoundFor fold board sets log tables (Ok bound) = IsProvedBound fold board sets log tables bound
-IsBoundFor fold board sets log tables (Err (fault.TableOf number refused)) = IsFirstRefused tables number refused
-IsBoundFor fold board sets log tables (Err (fault.Sets refused)) = AreRefusedSets fold tables sets refused
-IsBoundFor fold board sets log tables (Err (fault.Log refused)) = IsRefusedLog fold board sets log tables refused
-IsBoundFor fold board sets log tables found = ⊥
+IsBoundFor fold board sets log tables (Err (Bundle refused)) = AreRefused fold tables sets refused
+IsBoundFor fold board sets log tables (Err (Log refused)) = IsRefusedLog fold board sets log tables refused
 
 -- ---- what a yes means
 
@@ -57,19 +59,24 @@ pub record IsBoundedText (text : Bytes) (bound : ℕ) : Type 0 where
 
 -- ---- the result
 
--- the bound, as a verdict
-abbrev pub of_bound : Result ℕ Fault → Result Verdict Fault
-of_bound (Ok bound) = Ok (verdict.Bound bound)
-of_bound (Err refused) = Err refused
+-- what is found for the board, as the result
+abbrev pub of_proof : Result ℕ ProofRefusal → Result ℕ BoundRefusal
+of_proof (Ok bound) = Ok bound
+of_proof (Err refused) = Err (Proof refused)
 
 -- of the board that was read, before all else
-abbrev pub IsResultOfBoard : Bool → Result (List ℕ) BoardFault → Bytes → Bytes → List Bytes → Result Verdict Fault → Type 0
-IsResultOfBoard fold (Err refused) sets log tables answer = answer ≡ Err (fault.Board refused)
-IsResultOfBoard fold (Ok board) sets log tables answer = (found : Result ℕ Fault) × IsBoundFor fold board sets log tables found × (answer ≡ of_bound found)
+abbrev pub IsResultOfBoard : Bool → Result (List ℕ) BoardFault → Bytes → Bytes → List Bytes → Result ℕ BoundRefusal → Type 0
+IsResultOfBoard fold (Err refused) sets log tables result = result ≡ Err (Board refused)
+IsResultOfBoard fold (Ok board) sets log tables result =
+    (found : Result ℕ ProofRefusal) × IsBoundFor fold board sets log tables found × (result ≡ of_proof found)
 
--- the answer is the result on the board text, the set text, the log file and the table files
-abbrev pub IsBoundResult : Bool → Bytes → Bytes → Bytes → List Bytes → Result Verdict Fault → Type 0
-IsBoundResult fold text sets log tables answer = IsResultOfBoard fold (board_of_text text) sets log tables answer
+-- the result on the board text, the set text, the log file and the table files
+abbrev pub IsBoundResult : Bool → Bytes → Bytes → Bytes → List Bytes → Result ℕ BoundRefusal → Type 0
+IsBoundResult fold text sets log tables result = IsResultOfBoard fold (board_of_text text) sets log tables result
+
+-- the answer tells it
+abbrev pub IsBoundTold : Bool → Bytes → Bytes → Bytes → List Bytes → Result Verdict Fault → Type 0
+IsBoundTold fold text sets log tables answer = IsTold verdict.Bound fault_of_bound (IsBoundResult fold text sets log tables) answer
 
 -- ---- the command
 
@@ -79,7 +86,8 @@ bound_inputs text sets log tables = a_text (Some text) ∷ a_text (Some sets) �
 
 -- the result on them is told
 abbrev pub IsBoundReply : Bool → List Bytes → Reply → Type 0
-IsBoundReply fold (text ∷ sets ∷ log ∷ tables) reply = Tells (bound_claim fold text sets log tables) (IsBoundResult fold text sets log tables) reply
+IsBoundReply fold (text ∷ sets ∷ log ∷ tables) reply =
+    Tells (bound_claim fold text sets log tables) (IsBoundTold fold text sets log tables) reply
 IsBoundReply fold inputs reply = ⊥
 
 -- it takes memory to check the tables of a board that is spelt

@@ -11,6 +11,8 @@ use Rattle.set_sum.specs.declared.faults.SetFault.{SetFault}
 use Rattle.set_sum.specs.declared.parts.Part.{Part}
 use Rattle.set_sum.specs.declared.parts.Part.TheVariants.{Folded, Full}
 use Rattle.pdb_io.specs.Shelf.{Bytes}
+use Rattle.pdb_verdict.specs.declared.refusals.BundleRefusal.{BundleRefusal}
+use Rattle.pdb_verdict.specs.declared.refusals.BundleRefusal.TheVariants.{File, Sets}
 
 -- ---- what a bundle is
 
@@ -51,6 +53,11 @@ pub record AreRefusedSets (fold : Bool) (files : List Bytes) (sets : Bytes) (ref
   pub tables : List Table
   pub exact : AreExactFiles tables files
   pub fault : reading.IsFaultOf refused (parts_for fold tables) sets
+
+-- they make no bundle, and this is why
+abbrev pub AreRefused : Bool → List Bytes → Bytes → BundleRefusal → Type 0
+AreRefused fold files sets (File refused) = IsFirstRefused files refused.number refused.refusal
+AreRefused fold files sets (Sets refused) = AreRefusedSets fold files sets refused
 
 -- ---- memory
 

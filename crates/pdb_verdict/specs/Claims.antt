@@ -4,13 +4,19 @@ use Rattle.puz_board.specs.BoardTexts.{board_of_text}
 use Rattle.puz_board.specs.PuzzleTexts.{puzzle_parts}
 use Rattle.pdb_io.specs.Shelf.{Bytes}
 use Rattle.pdb_run.specs.Commands.{Plan, Reply, plan}
-use Rattle.pdb_verdict.specs.Bound.{BoundTakesMemory, IsBoundReply, bound_inputs, of_bound}
+use Rattle.pdb_verdict.specs.Bound.{BoundTakesMemory, IsBoundReply, bound_inputs, of_proof}
 use Rattle.pdb_verdict.specs.Inputs.{Given, bound_claim, optimum_claim}
-use Rattle.pdb_verdict.specs.Optimal.{IsOptimumReply, OptimumTakesMemory, of_halves, solved_parts}
+use Rattle.pdb_verdict.specs.Optimal.{IsOptimumReply, OptimumTakesMemory, of_halves}
+use Rattle.pdb_verdict.specs.Refusals.{answer_of, fault_of_bound, fault_of_optimal}
+use Rattle.pdb_verdict.specs.Replay.{solved_parts}
+use Rattle.pdb_verdict.specs.Steps.{or_failure}
 use Rattle.pdb_verdict.specs.declared.claims.Claimed.{Claimed}
 use Rattle.pdb_verdict.specs.declared.claims.Claimed.TheVariants.{Bound, Optimum}
+use Rattle.pdb_verdict.specs.declared.refusals.Failure.{Failure}
+use Rattle.pdb_verdict.specs.declared.refusals.ProofRefusal.{ProofRefusal}
 use Rattle.pdb_verdict.specs.declared.verdicts.Fault.{Fault}
 use Rattle.pdb_verdict.specs.declared.verdicts.Verdict.{Verdict}
+use Rattle.pdb_verdict.specs.declared.verdicts.Verdict.TheVariants as verdict
 
 -- what is claimed, of a text, a set text, a log file and table files
 abbrev pub claim_of : Claimed → Bool → Bytes → Bytes → Bytes → List Bytes → Given
@@ -43,6 +49,6 @@ IsStartOf Optimum text board (Some moves) = solved_parts (puzzle_parts text) ≡
 IsStartOf claimed text board moves = ⊥
 
 -- the verdict on what is found for the board
-abbrev pub verdict_on : Option ℕ → Result ℕ Fault → Result Verdict Fault
-verdict_on None found = of_bound found
-verdict_on (Some moves) found = of_halves moves found
+abbrev pub verdict_on : Option ℕ → Result ℕ (Failure ProofRefusal) → Result Verdict Fault
+verdict_on None found = answer_of verdict.Bound fault_of_bound (or_failure of_proof found)
+verdict_on (Some moves) found = answer_of verdict.Optimal fault_of_optimal (or_failure (of_halves moves) found)

@@ -6,7 +6,7 @@ use Rattle.pdb_io.specs.Shelf.{Bytes}
 use Rattle.pdb_run.specs.Commands.{Reply}
 use Rattle.pdb_verdict.specs.Inputs.{Given, bytes_of, table_file}
 use Rattle.pdb_verdict.specs.Lines.{Tells, reply_to}
-use Rattle.pdb_verdict.specs.Table.{IsTableResult}
+use Rattle.pdb_verdict.specs.Table.{IsTableTold}
 use Rattle.pdb_verdict.specs.Verdicts.{HoldsOfSolutions, IsResult, IsTrueOf}
 use Rattle.pdb_verdict.specs.declared.verdicts.Fault.{Fault}
 use Rattle.pdb_verdict.specs.declared.verdicts.Verdict.{Verdict}
@@ -43,5 +43,5 @@ ToldYesesAreTrue = (inputs : Given) (reply : Reply) → Tells inputs (IsResult i
 -- a table file is told a no only where it is no exact file, of whatever pattern
 abbrev pub TablesToldNoAreNotExact : Type 0
 TablesToldNoAreNotExact =
-    (file : Bytes) (reply : Reply) → Tells (table_file file) (IsTableResult file) reply → reply.is_yes ≡ false →
+    (file : Bytes) (reply : Reply) → Tells (table_file file) (IsTableTold file) reply → reply.is_yes ≡ false →
     (t : Table) → ¬ IsExactFile t file

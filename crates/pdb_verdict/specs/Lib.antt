@@ -6,6 +6,7 @@ pub mod Laws
 pub mod Limits
 pub mod Lines
 pub mod Optimal
+pub mod Refusals
 pub mod Replay
 pub mod Steps
 pub mod Table

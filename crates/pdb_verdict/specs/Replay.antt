@@ -10,8 +10,10 @@ use Rattle.pdb_run.specs.Commands.{Plan, Reply, Wanted, plan}
 use Rattle.pdb_verdict.specs.Inputs.{puzzle_text}
 use Rattle.pdb_verdict.specs.Limits.{a_text}
 use Rattle.pdb_verdict.specs.Lines.{Tells}
+use Rattle.pdb_verdict.specs.Refusals.{IsTold, fault_of_replay}
+use Rattle.pdb_verdict.specs.declared.refusals.ReplayRefusal.{ReplayRefusal}
+use Rattle.pdb_verdict.specs.declared.refusals.ReplayRefusal.TheVariants.{Board, Moves, P1}
 use Rattle.pdb_verdict.specs.declared.verdicts.Fault.{Fault}
-use Rattle.pdb_verdict.specs.declared.verdicts.Fault.TheVariants as fault
 use Rattle.pdb_verdict.specs.declared.verdicts.Verdict.{Verdict}
 use Rattle.pdb_verdict.specs.declared.verdicts.Verdict.TheVariants as verdict
 
@@ -28,24 +30,29 @@ pub record IsSolvedPuzzle (puzzle : Bytes) (n : ℕ) : Type 0 where
 
 -- ---- the result
 
--- of the replay of the moves
-abbrev pub of_moves : Result ℕ MoveFault → Result Verdict Fault
-of_moves (Err refused) = Err (fault.Moves refused)
-of_moves (Ok n) = Ok (verdict.Solution n)
+-- the board and the number of moves that solve it, or why the moves text is refused
+abbrev pub solved_by : List ℕ → Result ℕ MoveFault → Result (List ℕ × ℕ) ReplayRefusal
+solved_by board (Err refused) = Err (Moves refused)
+solved_by board (Ok n) = Ok (board, n)
 
--- of the board that was read, before the moves
-abbrev pub of_board : Result (List ℕ) BoardFault → Bytes → Result Verdict Fault
-of_board (Err refused) moves = Err (fault.Board refused)
-of_board (Ok board) moves = of_moves (replay_of board moves)
+-- the same of a board that was read, and otherwise why the board text is refused
+abbrev pub solved_board : Result (List ℕ) BoardFault → Bytes → Result (List ℕ × ℕ) ReplayRefusal
+solved_board (Err refused) moves = Err (Board refused)
+solved_board (Ok board) moves = solved_by board (replay_of board moves)
 
--- the board text before the first `;` comes first, then the moves text behind it
-abbrev pub of_parts : Option (Bytes × Bytes) → Result Verdict Fault
-of_parts None = Err fault.P1
-of_parts (Some parts) = of_board (board_of_text parts.0) parts.1
+-- the same of the texts before and behind the first `;`, and otherwise that there is none
+abbrev pub solved_parts : Option (Bytes × Bytes) → Result (List ℕ × ℕ) ReplayRefusal
+solved_parts None = Err P1
+solved_parts (Some parts) = solved_board (board_of_text parts.0) parts.1
 
--- the answer is the result on the puzzle text
-abbrev pub IsReplayResult : Bytes → Result Verdict Fault → Type 0
-IsReplayResult puzzle answer = answer ≡ of_parts (puzzle_parts puzzle)
+-- the result on the puzzle text
+abbrev pub IsReplayResult : Bytes → Result ℕ ReplayRefusal → Type 0
+IsReplayResult puzzle (Ok n) = IsSolvedPuzzle puzzle n
+IsReplayResult puzzle (Err refused) = solved_parts (puzzle_parts puzzle) ≡ Err refused
+
+-- the answer tells it
+abbrev pub IsReplayTold : Bytes → Result Verdict Fault → Type 0
+IsReplayTold puzzle answer = IsTold verdict.Solution fault_of_replay (IsReplayResult puzzle) answer
 
 -- ---- the command
 
@@ -55,7 +62,7 @@ replay_inputs name = a_text name ∷ []
 
 -- the result on that text is told
 abbrev pub IsReplayReply : List Bytes → Reply → Type 0
-IsReplayReply (puzzle ∷ []) reply = Tells (puzzle_text puzzle) (IsReplayResult puzzle) reply
+IsReplayReply (puzzle ∷ []) reply = Tells (puzzle_text puzzle) (IsReplayTold puzzle) reply
 IsReplayReply inputs reply = ⊥
 
 -- its check takes no memory

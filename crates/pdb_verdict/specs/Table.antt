@@ -9,11 +9,13 @@ use Rattle.tab_check.specs.TableFaults.{IsFaultOf}
 use Rattle.tab_check.specs.declared.census.Census.{Census}
 use Rattle.tab_check.specs.declared.tables.TableFault.{TableFault}
 use Rattle.tab_check.specs.declared.tables.TableFault.TheVariants.{Memory, Refused}
+use Rattle.tab_check.specs.declared.tables.TableRefusal.{TableRefusal}
 use Rattle.pdb_io.specs.Shelf.{Bytes}
 use Rattle.pdb_run.specs.Commands.{Plan, Reply, Wanted, plan}
 use Rattle.pdb_verdict.specs.Inputs.{table_file}
 use Rattle.pdb_verdict.specs.Limits.{a_table}
 use Rattle.pdb_verdict.specs.Lines.{Tells}
+use Rattle.pdb_verdict.specs.Refusals.{IsTold}
 use Rattle.pdb_verdict.specs.declared.verdicts.Fault.{Fault}
 use Rattle.pdb_verdict.specs.declared.verdicts.Fault.TheVariants as fault
 use Rattle.pdb_verdict.specs.declared.verdicts.Verdict.{Verdict}
@@ -32,11 +34,18 @@ pub record IsExactFor (file : Bytes) (side mask : ℕ) (census : Census) : Type 
 
 -- ---- the result
 
--- the answer is the result on the table file
-abbrev pub IsTableResult : Bytes → Result Verdict Fault → Type 0
-IsTableResult file (Ok (verdict.Exact side mask census)) = IsExactFor file side mask census
-IsTableResult file (Err (fault.Table refused)) = IsFaultOf refused file
-IsTableResult file answer = ⊥
+-- the result on the table file: a side, a mask and a census, or why it is refused
+abbrev pub IsTableResult : Bytes → Result (ℕ × ℕ × Census) TableRefusal → Type 0
+IsTableResult file (Ok found) = IsExactFor file found.0 found.1 found.2
+IsTableResult file (Err refused) = IsFaultOf refused file
+
+-- the three, as a verdict
+abbrev pub exact_verdict : ℕ × ℕ × Census → Verdict
+exact_verdict found = verdict.Exact found.0 found.1 found.2
+
+-- the answer tells it
+abbrev pub IsTableTold : Bytes → Result Verdict Fault → Type 0
+IsTableTold file answer = IsTold exact_verdict fault.Table (IsTableResult file) answer
 
 -- why a table file is refused, or want of memory
 abbrev pub of_table : TableFault → Fault
@@ -51,7 +60,7 @@ table_inputs name = a_table name ∷ []
 
 -- the result on that file is told
 abbrev pub IsTableReply : List Bytes → Reply → Type 0
-IsTableReply (file ∷ []) reply = Tells (table_file file) (IsTableResult file) reply
+IsTableReply (file ∷ []) reply = Tells (table_file file) (IsTableTold file) reply
 IsTableReply inputs reply = ⊥
 
 -- it takes memory to check a table file, and none where the header is refused

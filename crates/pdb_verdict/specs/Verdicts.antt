@@ -1,10 +1,10 @@
 -- The result on given inputs: a verdict, or the first refusal that stands.
 use Rattle.std.specs.Prelude.{◌≡◌, ◌⊎◌, ⊤, [], ◌∷◌, Result, Err}
-use Rattle.pdb_verdict.specs.Bound.{IsBoundOfText, IsBoundResult, IsBoundedText, TakesMemoryForBound}
+use Rattle.pdb_verdict.specs.Bound.{IsBoundOfText, IsBoundTold, IsBoundedText, TakesMemoryForBound}
 use Rattle.pdb_verdict.specs.Inputs.{Given, puzzle_text, table_file, bound_claim, optimum_claim}
-use Rattle.pdb_verdict.specs.Optimal.{IsOptimum, IsOptimumResult, IsProvedOptimum, TakesMemoryForOptimum}
-use Rattle.pdb_verdict.specs.Replay.{IsReplayResult, IsSolvedPuzzle}
-use Rattle.pdb_verdict.specs.Table.{IsExactFor, IsTableResult, TakesMemoryForTable}
+use Rattle.pdb_verdict.specs.Optimal.{IsOptimum, IsOptimumTold, IsProvedOptimum, TakesMemoryForOptimum}
+use Rattle.pdb_verdict.specs.Replay.{IsReplayTold, IsSolvedPuzzle}
+use Rattle.pdb_verdict.specs.Table.{IsExactFor, IsTableTold, TakesMemoryForTable}
 use Rattle.pdb_verdict.specs.declared.verdicts.Fault.{Fault}
 use Rattle.pdb_verdict.specs.declared.verdicts.Fault.TheVariants as fault
 use Rattle.pdb_verdict.specs.declared.verdicts.Verdict.{Verdict}
@@ -27,10 +27,10 @@ HoldsOfSolutions inputs verdict = ⊤
 
 -- the answer is the result on the inputs
 abbrev pub IsResult : Given → Result Verdict Fault → Type 0
-IsResult (puzzle_text puzzle) answer = IsReplayResult puzzle answer
-IsResult (table_file table) answer = IsTableResult table answer
-IsResult (bound_claim fold board sets log tables) answer = IsBoundResult fold board sets log tables answer
-IsResult (optimum_claim fold puzzle sets log tables) answer = IsOptimumResult fold puzzle sets log tables answer
+IsResult (puzzle_text puzzle) answer = IsReplayTold puzzle answer
+IsResult (table_file table) answer = IsTableTold table answer
+IsResult (bound_claim fold board sets log tables) answer = IsBoundTold fold board sets log tables answer
+IsResult (optimum_claim fold puzzle sets log tables) answer = IsOptimumTold fold puzzle sets log tables answer
 
 -- ---- want of memory in its place
 

@@ -1,18 +1,19 @@
 //! Whether a log proves that no solution of a board has fewer moves than its bound.
 
 ghost use Rattle.std.specs.Prelude.{◌≡◌, ◌≤◌, ◌+◌, ◌∷◌, ◌++◌, [], true, length, map, IfOk};
-ghost use Rattle.set_sum.specs.Bounds.{IsBounded};
 ghost use Rattle.pdb_run.specs.Answers.{all_bytes};
 ghost use Rattle.pdb_run.specs.Runs.{Ends, world};
 ghost use Rattle.pdb_run.specs.Writing.{digest_line, digests_of};
-ghost use Rattle.pdb_verdict.specs.Bound.{bound_plan};
+ghost use Rattle.pdb_verdict.specs.Bound.{IsBoundResult, TakesMemoryForBound, bound_plan, of_proof};
 ghost use Rattle.pdb_verdict.specs.Inputs.{bound_claim};
-ghost use Rattle.pdb_verdict.specs.Steps.{IsFoundFor, IsFoundOver};
+ghost use Rattle.pdb_verdict.specs.Refusals.{IsFoundBy};
+ghost use Rattle.pdb_verdict.specs.Steps.{IsFoundFor, IsFoundOver, of_log, or_failure};
 ghost use Rattle.pdb_verdict.specs.Verdicts.{HoldsOfSolutions, IsAnswerTo};
 
-use crate::bundles::{Tables, read_bundle};
+use crate::bundles::{Tables, read_bundle, without_bundle};
 use crate::claims::{Claim, ClaimNames, Claimed, run_claim};
 use crate::folding::fold_bundle;
+use crate::refusals::{BoundRefusal, Failure, ProofRefusal, answer_of_bound};
 use crate::verdicts::{Fault, Verdict};
 use crate::workers::Workers;
 use log_check::{LogFault, check_log};
@@ -62,9 +63,37 @@ pub(crate) fn verify_bound<H: Threads + Wait, G: Gate + Sync>(
     // No solution of the board has fewer moves.
     ensures holds { IfOk result (HoldsOfSolutions (bound_claim tables.entry.fold board.now sets.now log.now (all_bytes tables.entry.files.now))) }
 {
-    let board = Board::read(board).map_err(Fault::Board)?;
-    let bound = bound_for(alloc, &board, sets, log, tables, workers)?;
-    Ok(Verdict::Bound(bound))
+    answer_of_bound(bound_of_text(alloc, board, sets, log, tables, workers))
+}
+
+/// The bound that a log proves for the board of a text, over the bundle of table files and a set text.
+fn bound_of_text<H: Threads + Wait, G: Gate + Sync>(
+    alloc: Global,
+    text: &[u8],
+    sets: &[u8],
+    log: &[u8],
+    tables: Tables<'_>,
+    workers: &Workers<'_, H, G>,
+) -> Result<u8, Failure<BoundRefusal>>
+    ensures { let files = all_bytes tables.entry.files.now in
+        IsFoundBy (IsBoundResult tables.entry.fold text.now sets.now log.now files)
+        (TakesMemoryForBound text.now files) result }
+{
+    match Board::read(text) {
+        Ok(board) => claimed(bound_for(alloc, &board, sets, log, tables, workers)),
+        Err(refused) => Err(Failure::Refused(BoundRefusal::Board(refused))),
+    }
+}
+
+/// What `bound` finds where this is found for its board.
+pub(crate) fn claimed(found: Result<u8, Failure<ProofRefusal>>) -> Result<u8, Failure<BoundRefusal>>
+    ensures { result ≡ or_failure of_proof found }
+{
+    match found {
+        Ok(bound) => Ok(bound),
+        Err(Failure::Refused(refused)) => Err(Failure::Refused(BoundRefusal::Proof(refused))),
+        Err(Failure::Memory) => Err(Failure::Memory),
+    }
 }
 
 /// The bound that a log proves for a board, over the bundle of table files and a set text.
@@ -75,12 +104,13 @@ pub(crate) fn bound_for<H: Threads + Wait, G: Gate + Sync>(
     log: &[u8],
     tables: Tables<'_>,
     workers: &Workers<'_, H, G>,
-) -> Result<u8, Fault>
-    ensures found { IsFoundFor tables.entry.fold board.now sets.now log.now (all_bytes tables.entry.files.now) result }
-    ensures bounded { IfOk result (IsBounded board.now) }
+) -> Result<u8, Failure<ProofRefusal>>
+    ensures { IsFoundFor tables.entry.fold board.now sets.now log.now (all_bytes tables.entry.files.now) result }
 {
-    let bundle = read_bundle(alloc, tables, sets, workers)?;
-    bound_over(alloc, &bundle, board, log, workers)
+    match read_bundle(alloc, tables, sets, workers) {
+        Ok(bundle) => proved(bound_over(alloc, &bundle, board, log, workers)),
+        Err(failure) => Err(without_bundle(failure)),
+    }
 }
 
 /// As `bound_for`, with folded tables: the bytes of each table are given up in turn. Beside it the digest lines of the tables
@@ -92,7 +122,7 @@ pub(crate) fn bound_of_files<H: Threads + Wait + Sync, G: Gate + Sync>(
     log: &[u8],
     files: Vec<Vec<u8>>,
     workers: &Workers<'_, H, G>,
-) -> (Digests, Result<u8, Fault>)
+) -> (Digests, Result<u8, Failure<ProofRefusal>>)
     requires { length files.items ≤ FILES_BESIDE }
     ensures digests { result.0.items ≡ digests_of (all_bytes files.items ++ log.now ∷ []) }
     ensures found { IsFoundFor true board.now sets.now log.now (all_bytes files.items) result.1 }
@@ -101,11 +131,11 @@ pub(crate) fn bound_of_files<H: Threads + Wait + Sync, G: Gate + Sync>(
     match bundle {
         Ok(bundle) => {
             let found = bound_beside(alloc, &bundle, board, log, &mut digests, workers);
-            (digests, found)
+            (digests, proved(found))
         }
-        Err(fault) => {
+        Err(failure) => {
             with_digest(workers.rt, 1, &mut digests, log, || ());
-            (digests, Err(fault))
+            (digests, Err(without_bundle(failure)))
         }
     }
 }
@@ -119,12 +149,12 @@ fn bound_beside<H: Threads + Wait + Sync, G: Gate + Sync>(
     log: &[u8],
     digests: &mut Digests,
     workers: &Workers<'_, H, G>,
-) -> Result<u8, Fault>
+) -> Result<u8, LogFault>
     requires { length digests.old.items + DIGEST_LEN ≤ DIGESTS_LEN }
     ensures line { digests.new.items ≡ digests.old.items ++ digest_line log.now }
     ensures found { IsFoundOver bundle.now board.now log.now result }
 {
-    let check = || -> Result<u8, Fault>
+    let check = || -> Result<u8, LogFault>
         ensures { IsFoundOver bundle.entry.now board.entry.now log.entry.now result }
     { bound_over(alloc, bundle, board, log, workers) };
     with_digest(workers.rt, workers.count, digests, log, check)
@@ -137,11 +167,10 @@ pub(crate) fn bound_over<H: Threads + Wait, G: Gate + Sync>(
     board: &Board,
     log: &[u8],
     workers: &Workers<'_, H, G>,
-) -> Result<u8, Fault>
-    ensures found { IsFoundOver bundle.now board.now log.now result }
-    ensures bounded { IfOk result (IsBounded board.now) }
+) -> Result<u8, LogFault>
+    ensures { IsFoundOver bundle.now board.now log.now result }
 {
-    match check_log(
+    check_log(
         workers.rt,
         alloc,
         bundle,
@@ -149,9 +178,16 @@ pub(crate) fn bound_over<H: Threads + Wait, G: Gate + Sync>(
         board,
         workers.count,
         workers.gate,
-    ) {
+    )
+}
+
+/// What is found for a board where a log is found to be this over a bundle.
+pub(crate) fn proved(found: Result<u8, LogFault>) -> Result<u8, Failure<ProofRefusal>>
+    ensures { result ≡ of_log found }
+{
+    match found {
         Ok(bound) => Ok(bound),
-        Err(LogFault::Refused(refusal)) => Err(Fault::Log(refusal)),
-        Err(LogFault::Memory) => Err(Fault::Memory),
+        Err(LogFault::Refused(refused)) => Err(Failure::Refused(ProofRefusal::Log(refused))),
+        Err(LogFault::Memory) => Err(Failure::Memory),
     }
 }

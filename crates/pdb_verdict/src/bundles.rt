@@ -1,13 +1,15 @@
 //! Bundles of table files and a set text.
 
-ghost use Rattle.std.specs.Prelude.{true, IfErr, IfOk};
+ghost use Rattle.std.specs.Prelude.{◌≡◌, Bool, List, true, IfErr, IfOk};
 ghost use Rattle.tab_check.specs.ExactTables.{IsExactFile};
+ghost use Rattle.tab_check.specs.TableFaults.{IsCauseOf};
 ghost use Rattle.set_sum.specs.declared.parts.Part.TheVariants.{Folded};
+ghost use Rattle.pdb_io.specs.Shelf.{Bytes};
 ghost use Rattle.pdb_run.specs.Answers.{all_bytes};
 ghost use Rattle.pdb_verdict.specs.Bundles.{IsBundleOfFiles};
-ghost use Rattle.pdb_verdict.specs.Steps.{ArePartsOf, IsCauseForBundle, IsCauseForFile, IsCauseForTables, IsPartOf};
+ghost use Rattle.pdb_verdict.specs.Steps.{ArePartsOf, IsCauseAt, IsCauseForBundle, IsCauseForTables, IsPartOf, of_bundle};
 
-use crate::verdicts::Fault;
+use crate::refusals::{BundleRefusal, Failure, FileRefusal, ProofRefusal};
 use crate::workers::Workers;
 use set_sum::{Bundle, Part};
 use std::alloc::Global;
@@ -31,12 +33,34 @@ pub fn read_bundle<'a, H: Threads + Wait, G: Gate + Sync>(
     tables: Tables<'a>,
     sets: &[u8],
     workers: &Workers<'_, H, G>,
-) -> Result<Bundle<'a>, Fault>
+) -> Result<Bundle<'a>, Failure<BundleRefusal>>
     ensures ok { IfOk result (λ bundle. IsBundleOfFiles tables.entry.fold (all_bytes tables.entry.files.now) sets.now bundle) }
-    ensures err { IfErr result (λ fault. IsCauseForBundle tables.entry.fold fault (all_bytes tables.entry.files.now) sets.now) }
+    ensures err { IfErr result (IsCauseForBundle tables.entry.fold (all_bytes tables.entry.files.now) sets.now) }
 {
-    let parts = parts_of(alloc, tables, workers)?;
-    Bundle::read(parts, sets).map_err(Fault::Sets)
+    bundle_of(parts_of(alloc, tables, workers), sets)
+}
+
+/// The bundle of the parts for all files, where there are those, and a set text.
+pub(crate) fn bundle_of<'a>(
+    parts: Result<Vec<Part<'a>>, Failure<FileRefusal>>,
+    sets: &[u8],
+) -> Result<Bundle<'a>, Failure<BundleRefusal>>
+    ensures ok { (fold : Bool) (files : List Bytes) → IfOk parts.entry (λ parts. ArePartsOf fold files parts.items)
+        → IfOk result (IsBundleOfFiles fold files sets.now) }
+    ensures err { (fold : Bool) (files : List Bytes) → IfOk parts.entry (λ parts. ArePartsOf fold files parts.items)
+        → IfErr parts.entry (IsCauseForTables files) → IfErr result (IsCauseForBundle fold files sets.now) }
+{
+    let parts = match parts {
+        Ok(parts) => parts,
+        Err(Failure::Refused(refused)) => return Err(Failure::Refused(BundleRefusal::File(
+            refused,
+        ))),
+        Err(Failure::Memory) => return Err(Failure::Memory),
+    };
+    match Bundle::read(parts, sets) {
+        Ok(bundle) => Ok(bundle),
+        Err(refused) => Err(Failure::Refused(BundleRefusal::Sets(refused))),
+    }
 }
 
 /// The part for each file, one after the other. No memory is taken before the first file's header stands.
@@ -44,70 +68,86 @@ fn parts_of<'a, H: Threads + Wait, G: Gate + Sync>(
     alloc: Global,
     tables: Tables<'a>,
     workers: &Workers<'_, H, G>,
-) -> Result<Vec<Part<'a>>, Fault>
+) -> Result<Vec<Part<'a>>, Failure<FileRefusal>>
     ensures ok { IfOk result (λ parts. ArePartsOf tables.entry.fold (all_bytes tables.entry.files.now) parts.items) }
-    ensures err { IfErr result (λ fault. IsCauseForTables fault (all_bytes tables.entry.files.now)) }
+    ensures err { IfErr result (IsCauseForTables (all_bytes tables.entry.files.now)) }
 {
     let Tables { files, fold } = tables;
     let mut parts = Vec::new(alloc);
     for file in files {
-        let part = part_of(alloc, parts.len(), file.as_slice(), fold, workers)?;
+        let part = match part_of(alloc, file.as_slice(), fold, workers) {
+            Ok(part) => part,
+            Err(fault) => return Err(failure_at(parts.len(), fault)),
+        };
         if parts.push(part).is_err() {
-            return Err(Fault::Memory);
+            return Err(Failure::Memory);
         }
     }
     Ok(parts)
 }
 
-/// The part for the file with this number: folded, or with the slots of its placements, since many boards are looked up in it.
+/// The part for a file: folded, or with the slots of its placements, since many boards are looked up in it.
 fn part_of<'a, H: Threads + Wait, G: Gate + Sync>(
     alloc: Global,
-    number: usize,
     file: &'a [u8],
     fold: bool,
     workers: &Workers<'_, H, G>,
-) -> Result<Part<'a>, Fault>
+) -> Result<Part<'a>, TableFault>
     ensures ok { IfOk result (IsPartOf fold file.now) }
-    ensures err { IfErr result (λ cause. IsCauseForFile cause number file.now) }
+    ensures err { IfErr result (λ fault. IsCauseOf fault file.now) }
 {
     if fold {
-        let folded = fold_file(alloc, number, file, workers)?;
+        let folded = fold_file(alloc, file, workers)?;
         return Ok(Part::Folded(folded));
     }
-    let table = check_file(alloc, number, file, workers)?;
+    let table = check_file(alloc, file, workers)?;
     Ok(Part::Full(table.with_slots(alloc)))
 }
 
-/// The folded table of the file with this number, which is needed no longer.
+/// The folded table of a file, which is needed no longer.
 pub(crate) fn fold_file<H: Threads + Wait, G: Gate + Sync>(
     alloc: Global,
-    number: usize,
     file: &[u8],
     workers: &Workers<'_, H, G>,
-) -> Result<FoldedTable, Fault>
+) -> Result<FoldedTable, TableFault>
     ensures ok { IfOk result (λ folded. IsPartOf true file.now (Folded folded)) }
-    ensures err { IfErr result (λ cause. IsCauseForFile cause number file.now) }
+    ensures err { IfErr result (λ fault. IsCauseOf fault file.now) }
 {
-    let table = check_file(alloc, number, file, workers)?;
+    let table = check_file(alloc, file, workers)?;
     match fold(alloc, &table) {
         Ok(folded) => Ok(folded),
-        Err(_) => Err(Fault::Memory),
+        Err(_) => Err(TableFault::Memory),
     }
 }
 
-/// The table of the file with this number.
-fn check_file<'a, H: Threads + Wait, G: Gate + Sync>(
+/// The table of a file.
+pub(crate) fn check_file<'a, H: Threads + Wait, G: Gate + Sync>(
     alloc: Global,
-    number: usize,
     file: &'a [u8],
     workers: &Workers<'_, H, G>,
-) -> Result<CheckedTable<'a>, Fault>
+) -> Result<CheckedTable<'a>, TableFault>
     ensures ok { IfOk result (λ table. IsExactFile table file.now) }
-    ensures err { IfErr result (λ cause. IsCauseForFile cause number file.now) }
+    ensures err { IfErr result (λ fault. IsCauseOf fault file.now) }
 {
-    match check_table(workers.rt, alloc, file, workers.count, workers.gate) {
-        Ok(table) => Ok(table),
-        Err(TableFault::Refused(refusal)) => Err(Fault::TableOf(number, refusal)),
-        Err(TableFault::Memory) => Err(Fault::Memory),
+    check_table(workers.rt, alloc, file, workers.count, workers.gate)
+}
+
+/// Why there aren't the parts for all files, where there isn't that for the file with this number.
+pub(crate) fn failure_at(number: usize, fault: TableFault) -> Failure<FileRefusal>
+    ensures { (file : Bytes) → IsCauseOf fault file → IsCauseAt number file result }
+{
+    match fault {
+        TableFault::Refused(refusal) => Failure::Refused(FileRefusal { number, refusal }),
+        TableFault::Memory => Failure::Memory,
+    }
+}
+
+/// Why no bound is proved, where there is no bundle.
+pub(crate) fn without_bundle(failure: Failure<BundleRefusal>) -> Failure<ProofRefusal>
+    ensures { result ≡ of_bundle failure }
+{
+    match failure {
+        Failure::Refused(refused) => Failure::Refused(ProofRefusal::Bundle(refused)),
+        Failure::Memory => Failure::Memory,
     }
 }

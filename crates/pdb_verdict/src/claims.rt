@@ -9,10 +9,11 @@ ghost use Rattle.pdb_verdict.specs.Claims.{ClaimTakesMemory, IsClaimOn, IsClaimR
 ghost use Rattle.pdb_verdict.specs.Inputs.{given};
 ghost use Rattle.pdb_verdict.specs.Limits.{a_table};
 
-use crate::bound::bound_of_files;
+use crate::bound::{bound_of_files, claimed};
 use crate::inputs::Inputs;
 use crate::limits::{a_log, a_table, a_text};
 use crate::optimal::compare;
+use crate::refusals::{Failure, ProofRefusal, answer_of_bound, answer_of_optimal};
 use crate::replay::solved_board;
 use crate::reports::{digested_by, told_or_memory, verify_beside};
 use crate::verdicts::{Fault, Verdict};
@@ -228,11 +229,14 @@ pub fn take_first(inputs: &mut Vec<Vec<u8>>) -> Vec<u8>
 }
 
 /// The verdict on what a log proves for a board, which so many moves solve, where that is told.
-fn verdict_on(moves: Option<u16>, found: Result<u8, Fault>) -> Result<Verdict, Fault>
+fn verdict_on(
+    moves: Option<u16>,
+    found: Result<u8, Failure<ProofRefusal>>,
+) -> Result<Verdict, Fault>
     ensures { result ≡ verdict_on moves found }
 {
     match moves {
-        Some(moves) => compare(moves, found),
-        None => Ok(Verdict::Bound(found?)),
+        Some(moves) => answer_of_optimal(compare(moves, found)),
+        None => answer_of_bound(claimed(found)),
     }
 }

@@ -1,21 +1,22 @@
 //! Bundles of folded tables, where the bytes of each table are given up in turn.
 
 ghost use Rattle.std.specs.Prelude.{◌≡◌, ◌≤◌, ◌+◌, ◌++◌, true, length, IfErr, IfOk, MatchResult};
+ghost use Rattle.tab_check.specs.TableFaults.{IsCauseOf};
 ghost use Rattle.set_sum.specs.declared.parts.Part.TheVariants.{Folded};
 ghost use Rattle.pdb_run.specs.Answers.{all_bytes};
 ghost use Rattle.pdb_run.specs.Writing.{digest_line, digests_of};
 ghost use Rattle.pdb_verdict.specs.Bundles.{IsBundleOfFiles};
-ghost use Rattle.pdb_verdict.specs.Steps.{ArePartsOf, HasOneMore, IsCauseForBundle, IsCauseForFile, IsCauseForTables, IsPartOf};
+ghost use Rattle.pdb_verdict.specs.Steps.{ArePartsOf, HasOneMore, IsCauseAt, IsCauseForBundle, IsCauseForTables, IsPartOf};
 
-use crate::bundles::fold_file;
-use crate::verdicts::Fault;
+use crate::bundles::{bundle_of, failure_at, fold_file};
+use crate::refusals::{BundleRefusal, Failure, FileRefusal};
 use crate::workers::Workers;
 use pdb_run::{DIGEST_LEN, DIGESTS_LEN, Digests, FILES_BESIDE, with_digest};
 use set_sum::{Bundle, Part};
 use std::alloc::Global;
 use std::sync::Wait;
 use std::thread::Threads;
-use tab_check::FoldedTable;
+use tab_check::{FoldedTable, TableFault};
 use work_run::Gate;
 
 /// The bundle of the folded tables of files and a set text, and the digest lines of the files. The bytes of each file are
@@ -27,18 +28,15 @@ pub fn fold_bundle<'x, H: Threads + Wait + Sync, G: Gate + Sync>(
     files: Vec<Vec<u8>>,
     sets: &[u8],
     workers: &Workers<'_, H, G>,
-) -> (Digests, Result<Bundle<'x>, Fault>)
+) -> (Digests, Result<Bundle<'x>, Failure<BundleRefusal>>)
     requires { length files.items ≤ FILES_BESIDE }
     ensures digests { result.0.items ≡ digests_of (all_bytes files.items) }
     ensures room { length result.0.items + DIGEST_LEN ≤ DIGESTS_LEN }
     ensures ok { IfOk result.1 (λ bundle. IsBundleOfFiles true (all_bytes files.items) sets.now bundle) }
-    ensures err { IfErr result.1 (λ fault. IsCauseForBundle true fault (all_bytes files.items) sets.now) }
+    ensures err { IfErr result.1 (IsCauseForBundle true (all_bytes files.items) sets.now) }
 {
     let (digests, parts) = fold_files(alloc, files, workers);
-    match parts {
-        Ok(parts) => (digests, Bundle::read(parts, sets).map_err(Fault::Sets)),
-        Err(fault) => (digests, Err(fault)),
-    }
+    (digests, bundle_of(parts, sets))
 }
 
 /// The folded tables of files, and the digest lines of the files.
@@ -46,12 +44,12 @@ fn fold_files<'x, H: Threads + Wait + Sync, G: Gate + Sync>(
     alloc: Global,
     files: Vec<Vec<u8>>,
     workers: &Workers<'_, H, G>,
-) -> (Digests, Result<Vec<Part<'x>>, Fault>)
+) -> (Digests, Result<Vec<Part<'x>>, Failure<FileRefusal>>)
     requires { length files.items ≤ FILES_BESIDE }
     ensures digests { result.0.items ≡ digests_of (all_bytes files.items) }
     ensures room { length result.0.items + DIGEST_LEN ≤ DIGESTS_LEN }
     ensures ok { IfOk result.1 (λ parts. ArePartsOf true (all_bytes files.items) parts.items) }
-    ensures err { IfErr result.1 (λ fault. IsCauseForTables fault (all_bytes files.items)) }
+    ensures err { IfErr result.1 (IsCauseForTables (all_bytes files.items)) }
 {
     let mut digests = Digests::new();
     let mut parts = Ok(Vec::new(alloc));
@@ -64,16 +62,17 @@ fn fold_files<'x, H: Threads + Wait + Sync, G: Gate + Sync>(
 /// The folded tables of one file more, where those before it are there. Its digest line is added behind the others.
 fn fold_next<'x, H: Threads + Wait + Sync, G: Gate + Sync>(
     alloc: Global,
-    parts: Result<Vec<Part<'x>>, Fault>,
+    parts: Result<Vec<Part<'x>>, Failure<FileRefusal>>,
     file: &[u8],
     digests: &mut Digests,
     workers: &Workers<'_, H, G>,
-) -> Result<Vec<Part<'x>>, Fault>
+) -> Result<Vec<Part<'x>>, Failure<FileRefusal>>
     requires { length digests.old.items + DIGEST_LEN ≤ DIGESTS_LEN }
     ensures line { digests.new.items ≡ digests.old.items ++ digest_line file.now }
     ensures length { length digests.new.items ≡ length digests.old.items + DIGEST_LEN }
     ensures ok { IfOk result (λ after. MatchResult parts.entry (λ before. HasOneMore before.items file.now after.items) (λ _. ⊥)) }
-    ensures err { IfErr result (λ cause. MatchResult parts.entry (λ before. IsCauseForFile cause (length before.items) file.now) (λ refused. cause ≡ refused)) }
+    ensures err { IfErr result (λ cause. MatchResult parts.entry
+        (λ before. IsCauseAt (length before.items) file.now cause) (λ refused. cause ≡ refused)) }
 {
     let mut folded = match parts {
         Ok(parts) => parts,
@@ -82,30 +81,32 @@ fn fold_next<'x, H: Threads + Wait + Sync, G: Gate + Sync>(
             return Err(refused);
         }
     };
-    let table = fold_beside(alloc, folded.len(), file, digests, workers)?;
+    let table = match fold_beside(alloc, file, digests, workers) {
+        Ok(table) => table,
+        Err(fault) => return Err(failure_at(folded.len(), fault)),
+    };
     if folded.push(Part::Folded(table)).is_err() {
-        return Err(Fault::Memory);
+        return Err(Failure::Memory);
     }
     Ok(folded)
 }
 
-/// The folded table of the file with this number, whose digest line is made beside the check and added behind the others.
+/// The folded table of a file, whose digest line is made beside the check and added behind the others.
 fn fold_beside<H: Threads + Wait + Sync, G: Gate + Sync>(
     alloc: Global,
-    number: usize,
     file: &[u8],
     digests: &mut Digests,
     workers: &Workers<'_, H, G>,
-) -> Result<FoldedTable, Fault>
+) -> Result<FoldedTable, TableFault>
     requires { length digests.old.items + DIGEST_LEN ≤ DIGESTS_LEN }
     ensures line { digests.new.items ≡ digests.old.items ++ digest_line file.now }
     ensures length { length digests.new.items ≡ length digests.old.items + DIGEST_LEN }
     ensures ok { IfOk result (λ folded. IsPartOf true file.now (Folded folded)) }
-    ensures err { IfErr result (λ cause. IsCauseForFile cause number file.now) }
+    ensures err { IfErr result (λ fault. IsCauseOf fault file.now) }
 {
-    let check = || -> Result<FoldedTable, Fault>
+    let check = || -> Result<FoldedTable, TableFault>
         ensures ok { IfOk result (λ folded. IsPartOf true file.entry.now (Folded folded)) }
-        ensures err { IfErr result (λ cause. IsCauseForFile cause number file.entry.now) }
-    { fold_file(alloc, number, file, workers) };
+        ensures err { IfErr result (λ fault. IsCauseOf fault file.entry.now) }
+    { fold_file(alloc, file, workers) };
     with_digest(workers.rt, workers.count, digests, file, check)
 }

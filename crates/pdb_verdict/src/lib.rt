@@ -11,6 +11,7 @@ mod laws;
 mod limits;
 mod lines;
 mod optimal;
+mod refusals;
 mod replay;
 mod reports;
 mod table;
@@ -29,6 +30,11 @@ pub use laws::{
 pub use limits::a_text;
 pub use lines::line_of;
 pub use optimal::{optimum_over, run_optimal};
+pub use refusals::{
+    BoundRefusal, BuildRefusal, BundleRefusal, Failure, FileRefusal, GivenUp, OptimalRefusal,
+    ProofRefusal, ReplayRefusal, SearchRefusal, UnmadeRefusal, fault_of_build, fault_of_optimal,
+    fault_of_search,
+};
 pub use replay::{run_replay, verify_puzzle};
 pub use reports::{digests, line, report, verify_beside};
 pub use table::run_table;

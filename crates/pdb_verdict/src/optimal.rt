@@ -5,13 +5,16 @@ ghost use Rattle.puz_board.specs.PuzzleTexts.{puzzle_parts};
 ghost use Rattle.pdb_run.specs.Answers.{all_bytes};
 ghost use Rattle.pdb_run.specs.Runs.{Ends, world};
 ghost use Rattle.pdb_verdict.specs.Inputs.{optimum_claim};
-ghost use Rattle.pdb_verdict.specs.Optimal.{of_halves, optimum_plan, solved_parts};
-ghost use Rattle.pdb_verdict.specs.Steps.{IsOptimumOver};
+ghost use Rattle.pdb_verdict.specs.Optimal.{IsOptimumResult, TakesMemoryForOptimum, of_halves, optimum_plan};
+ghost use Rattle.pdb_verdict.specs.Refusals.{IsFoundBy};
+ghost use Rattle.pdb_verdict.specs.Replay.{solved_parts};
+ghost use Rattle.pdb_verdict.specs.Steps.{IsOptimumOver, or_failure};
 ghost use Rattle.pdb_verdict.specs.Verdicts.{HoldsOfSolutions, IsAnswerTo};
 
-use crate::bound::{bound_for, bound_over};
+use crate::bound::{bound_for, bound_over, proved};
 use crate::bundles::Tables;
 use crate::claims::{Claim, ClaimNames, Claimed, run_claim};
+use crate::refusals::{Failure, OptimalRefusal, ProofRefusal, answer_of_optimal};
 use crate::replay::solved_board;
 use crate::verdicts::{Fault, Verdict};
 use crate::workers::Workers;
@@ -60,6 +63,22 @@ pub(crate) fn verify_optimal<H: Threads + Wait, G: Gate + Sync>(
     // It is the least number of moves of any solution.
     ensures holds { IfOk result (HoldsOfSolutions (optimum_claim tables.entry.fold puzzle.now sets.now log.now (all_bytes tables.entry.files.now))) }
 {
+    answer_of_optimal(optimum_of_text(alloc, puzzle, sets, log, tables, workers))
+}
+
+/// The number of moves of a puzzle text that a log proves to be the fewest, over the bundle of table files and a set text.
+fn optimum_of_text<H: Threads + Wait, G: Gate + Sync>(
+    alloc: Global,
+    puzzle: &[u8],
+    sets: &[u8],
+    log: &[u8],
+    tables: Tables<'_>,
+    workers: &Workers<'_, H, G>,
+) -> Result<u8, Failure<OptimalRefusal>>
+    ensures { let files = all_bytes tables.entry.files.now in
+        IsFoundBy (IsOptimumResult tables.entry.fold puzzle.now sets.now log.now files)
+        (TakesMemoryForOptimum puzzle.now files) result }
+{
     let (board, solution) = solved_board(puzzle)?;
     compare(
         solution,
@@ -74,21 +93,32 @@ pub fn optimum_over<H: Threads + Wait, G: Gate + Sync>(
     puzzle: &[u8],
     log: &[u8],
     workers: &Workers<'_, H, G>,
-) -> Result<Verdict, Fault>
+) -> Result<u8, Failure<OptimalRefusal>>
     ensures { IsOptimumOver bundle.now (solved_parts (puzzle_parts puzzle.now)) log.now result }
 {
     let (board, solution) = solved_board(puzzle)?;
-    compare(solution, bound_over(alloc, bundle, &board, log, workers))
+    compare(
+        solution,
+        proved(bound_over(alloc, bundle, &board, log, workers)),
+    )
 }
 
-/// The verdict on how many moves solve a board, and on what a log proves for it.
-pub(crate) fn compare(solution: u16, found: Result<u8, Fault>) -> Result<Verdict, Fault>
-    ensures { result ≡ of_halves solution found }
+/// The optimum of a board that so many moves solve, and for which this is found.
+pub(crate) fn compare(
+    solution: u16,
+    found: Result<u8, Failure<ProofRefusal>>,
+) -> Result<u8, Failure<OptimalRefusal>>
+    ensures { result ≡ or_failure (of_halves solution) found }
 {
-    let bound = found?;
-    if solution == u16::from(bound) {
-        Ok(Verdict::Optimal(bound))
-    } else {
-        Err(Fault::O1 { solution, bound })
+    match found {
+        Ok(bound) => {
+            if solution == u16::from(bound) {
+                Ok(bound)
+            } else {
+                Err(Failure::Refused(OptimalRefusal::O1 { solution, bound }))
+            }
+        }
+        Err(Failure::Refused(refused)) => Err(Failure::Refused(OptimalRefusal::Proof(refused))),
+        Err(Failure::Memory) => Err(Failure::Memory),
     }
 }

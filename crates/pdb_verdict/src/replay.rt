@@ -4,12 +4,12 @@ ghost use Rattle.std.specs.Prelude.{◌≡◌, ◌↔◌, ℕ, Ok, length, optio
 ghost use Rattle.puz_board.specs.PuzzleTexts.{puzzle_parts};
 ghost use Rattle.pdb_run.specs.Answers.{SaysRight, all_bytes};
 ghost use Rattle.pdb_run.specs.Runs.{Ends, world};
-ghost use Rattle.pdb_verdict.specs.Optimal.{solved_parts};
-ghost use Rattle.pdb_verdict.specs.Replay.{IsReplayReply, IsReplayResult, IsSolvedPuzzle, replay_inputs, replay_plan};
+ghost use Rattle.pdb_verdict.specs.Replay.{IsReplayReply, IsReplayResult, IsReplayTold, IsSolvedPuzzle, replay_inputs, replay_plan, solved_parts};
 ghost use Rattle.pdb_verdict.specs.declared.verdicts.Verdict.TheVariants.{Solution};
 
 use crate::inputs::Inputs;
 use crate::limits::a_text;
+use crate::refusals::{ReplayRefusal, fault_of_replay};
 use crate::reports::{digested_by, told};
 use crate::verdicts::{Fault, Verdict};
 use pdb_io::shelf::Shelf;
@@ -80,25 +80,28 @@ pub fn verify_puzzle(puzzle: &[u8]) -> Result<Verdict, Fault>
     ensures solved { (n : ℕ) → (result ≡ Ok (Solution n)) ↔ (IsSolvedPuzzle puzzle.now n) }
 
     // Which refusal it is.
-    ensures exact { IsReplayResult puzzle.now result }
+    ensures exact { IsReplayTold puzzle.now result }
 {
-    replay_result(puzzle)
+    match replay_result(puzzle) {
+        Ok(count) => Ok(Verdict::Solution(count)),
+        Err(refused) => Err(fault_of_replay(refused)),
+    }
 }
 
-/// The result on a puzzle text.
-fn replay_result(puzzle: &[u8]) -> Result<Verdict, Fault>
+/// How many moves solve the board of a puzzle text.
+fn replay_result(puzzle: &[u8]) -> Result<u16, ReplayRefusal>
     ensures { IsReplayResult puzzle.now result }
 {
     let (_board, count) = solved_board(puzzle)?;
-    Ok(Verdict::Solution(count))
+    Ok(count)
 }
 
 /// The board of a puzzle text, and of how many moves the solution behind it is.
-pub(crate) fn solved_board(puzzle: &[u8]) -> Result<(Board, u16), Fault>
+pub(crate) fn solved_board(puzzle: &[u8]) -> Result<(Board, u16), ReplayRefusal>
     ensures { result ≡ solved_parts (puzzle_parts puzzle.now) }
 {
-    let (board, moves) = split_puzzle(puzzle).ok_or(Fault::P1)?;
-    let board = Board::read(board).map_err(Fault::Board)?;
-    let count = replay(&board, moves).map_err(Fault::Moves)?;
+    let (board, moves) = split_puzzle(puzzle).ok_or(ReplayRefusal::P1)?;
+    let board = Board::read(board).map_err(ReplayRefusal::Board)?;
+    let count = replay(&board, moves).map_err(ReplayRefusal::Moves)?;
     Ok((board, count))
 }

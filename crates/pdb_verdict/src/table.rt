@@ -7,6 +7,7 @@ ghost use Rattle.pdb_verdict.specs.Inputs.{table_file};
 ghost use Rattle.pdb_verdict.specs.Table.{IsTableReply, TakesMemoryForTable, of_table, table_inputs, table_plan};
 ghost use Rattle.pdb_verdict.specs.Verdicts.{IsAnswerTo};
 
+use crate::bundles::check_file;
 use crate::inputs::Inputs;
 use crate::limits::a_table;
 use crate::reports::{digested_by, told_or_memory, verify_beside};
@@ -19,7 +20,6 @@ use std::io::{Read, Write};
 use std::sync::Wait;
 use std::thread::Threads;
 use tab_check::TableFault;
-use tab_runs::check_table;
 use work_run::Gate;
 
 /// The command `table`: the verdict on the table file under this name.
@@ -90,7 +90,7 @@ pub(crate) fn verify_table<H: Threads + Wait, G: Gate + Sync>(
 ) -> Result<Verdict, Fault>
     ensures { IsAnswerTo (table_file table.now) result }
 {
-    match check_table(workers.rt, alloc, table, workers.count, workers.gate) {
+    match check_file(alloc, table, workers) {
         Ok(table) => {
             let pattern = table.pattern();
             Ok(Verdict::Exact(pattern.side(), pattern.mask(), table.census()))

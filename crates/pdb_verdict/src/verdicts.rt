@@ -41,7 +41,8 @@ pub enum Verdict {
 pub enum MakeRefusal {
     /// The search has expanded as many boards as it may.
     K1,
-    /// The next threshold of the search would be above 255, or a set says of the board that it has no solution.
+    /// The board has no solution, as the parity of its numbers or a set says, or the next threshold of the search would be
+    /// above 255.
     K2,
     /// A count of the table would be above 253.
     K3,

@@ -1,4 +1,4 @@
-use Rattle.std.proofs.Common.{inl, inr, rules, subst}
+use Rattle.std.proofs.Common.{inr, rules, subst}
 use Rattle.pdb_io.specs.Shelf.{Bytes}
 use Rattle.pdb_verdict.specs.Inputs.{table_file}
 use Rattle.pdb_verdict.specs.Verdicts.{IsAnswerTo}
@@ -13,4 +13,4 @@ returns-else-speaks_of-clause-unbuilt g c =
     let is : IsAnswerTo (table_file file) answer = subst (λ (f : Bytes). IsAnswerTo (table_file f) answer) c.as_slice-table.ensures.value c.verify_beside-digest.ensures.answer in
     let other : ¬ SpeaksOf c.args.side c.args.mask answer = λ own. let no : ⊥ = search (rules, c.if-speaks_of.ensures.1 own) in no in
     let pattern : ArePattern c.args.side c.args.mask = search rules in
-    inl (inr (pattern, file, another_built c.args.side c.args.mask file answer is other))
+    inr (pattern, file, another_built c.args.side c.args.mask file answer is other)

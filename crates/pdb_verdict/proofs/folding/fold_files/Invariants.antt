@@ -15,5 +15,5 @@ invariant-loop-file g l = record {
   whole : l.yielded ++ into_iter_items l.file-iterator ≡ l.fn.files.items;
   lines : l.digests.items ≡ digests_of (all_bytes l.yielded);
   count : length l.digests.items ≡ length l.yielded * DIGEST_LEN;
-  parts : MatchResult l.parts (λ parts. ArePartsOf true (all_bytes l.yielded) parts.items) (λ cause. IsCauseForTables cause (all_bytes l.fn.files.items));
+  parts : MatchResult l.parts (λ parts. ArePartsOf true (all_bytes l.yielded) parts.items) (IsCauseForTables (all_bytes l.fn.files.items));
 }
