@@ -14,7 +14,8 @@ use Rattle.clap.proofs.WalkLemmas.{walk_stopped}
 use Rattle.clap.specs.declared.parser.matches.ArgMatches.{ArgMatches}
 use Rattle.clap.specs.declared.error.Error.{Error}
 use Rattle.clap.specs.declared.error.kind.ErrorKind.TheVariants as kind
-use Rattle.pdb_words.specs.CommandLine.{BeginsWithCommand, IsCommand, IsPlain, Parses, asked_by, asked_of, command_line, commands, faults_of}
+use Rattle.pdb_words.specs.CommandLine.{Parses, asked_by, asked_of, command_line, faults_of}
+use Rattle.pdb_words.specs.Commands.{BeginsWithCommand, IsCommand, IsPlain, commands}
 use Rattle.pdb_words.specs.Faults.{IsMistaken}
 use Rattle.pdb_words.proofs.KindLemmas.{IsFault, first_fault, one_fault, same_fault}
 use Rattle.pdb_words.proofs.TextLemmas.{HasNoDash, each_holds, has_no_dash, labels, named, one_of_more, same_text}

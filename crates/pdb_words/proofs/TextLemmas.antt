@@ -6,7 +6,7 @@ use Rattle.std.specs.Str.{bytes_eq}
 use Rattle.std.proofs.lemmas.Slice.Eq.{bytes_eq-Decides}
 use Rattle.clap.specs.Lexer.{strip_byte}
 use Rattle.clap.specs.Walk.{Names, Text, answers_to}
-use Rattle.pdb_words.specs.CommandLine.{IsOneOf, IsPlain}
+use Rattle.pdb_words.specs.Commands.{IsOneOf, IsPlain}
 
 pub same_text : (a b : Text) → bytes_eq a b ≡ true → a ≡ b
 same_text a b = (bytes_eq-Decides a b).0

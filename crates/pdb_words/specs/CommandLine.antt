@@ -1,8 +1,6 @@
 -- The words of the command line, and what they ask for.
-use Rattle.std.specs.Prelude.{◌≡◌, ◌≢◌, ◌⊎◌, ◌≤◌, ⊤, List, [], ◌∷◌, Option, Some, None, codes, if◌then◌else◌, length, true}
-use Rattle.std.specs.List.{All}
+use Rattle.std.specs.Prelude.{◌≡◌, List, [], Option, Some, None, codes, if◌then◌else◌, true}
 use Rattle.std.specs.Str.{bytes_eq}
-use Rattle.clap.specs.Lexer.{long_of, usize_max}
 use Rattle.clap.specs.Walk.{Row, Text}
 use Rattle.clap.specs.Simple.{App, new_app, on_top, subcommand_of, with_subcommand}
 use Rattle.clap.specs.Faults.{fault_of}
@@ -29,32 +27,6 @@ abbrev pub command_line : App
 command_line = with_subcommand (with_subcommand checks make_table_command.top) solve_command.top
 
 -- ---- what words ask for
-
--- the names of the commands that take `--workers`
-abbrev pub shared_commands : List Text
-shared_commands = codes "table" ∷ codes "bound" ∷ codes "optimal" ∷ codes "make-table" ∷ codes "solve" ∷ []
-
--- the names of the commands that take `--fold`
-abbrev pub log_commands : List Text
-log_commands = codes "bound" ∷ codes "optimal" ∷ codes "solve" ∷ []
-
--- the names of the commands
-abbrev pub commands : List Text
-commands = codes "replay" ∷ shared_commands
-
--- the text is among these
-abbrev pub IsOneOf : List Text → Text → Type 0
-IsOneOf [] text = ⊥
-IsOneOf (first ∷ rest) text = (text ≡ first) ⊎ IsOneOf rest text
-
--- the text is the name of a command
-abbrev pub IsCommand : Text → Type 0
-IsCommand name = IsOneOf commands name
-
--- the command takes the flag of this name
-abbrev pub TakesFlag : Text → Text → Type 0
-TakesFlag command name = (IsOneOf shared_commands command × (name ≡ codes "workers"))
-    ⊎ ((IsOneOf log_commands command × (name ≡ codes "fold")) ⊎ ((command ≡ codes "solve") × (name ≡ codes "budget")))
 
 -- what the values found of the command of this name ask for
 abbrev pub asked_by : Text → List Row → Asked
@@ -84,25 +56,3 @@ faults_of words = fault_of command_line words
 -- nothing is wrong with the words, and they don't ask for help
 abbrev pub Parses : List Text → Type 0
 Parses words = faults_of words ≡ []
-
--- the words parse, and ask for this
-abbrev pub AsksFor : List Text → Asked → Type 0
-AsksFor words asked = Parses words × (asked_of words ≡ asked)
-
--- there is no word, a command's name comes first, or `--` stands alone
-abbrev pub BeginsWithCommand : List Text → Type 0
-BeginsWithCommand [] = ⊤
-BeginsWithCommand (first ∷ rest) = IsCommand first ⊎ ((first ≡ codes "--") × (rest ≡ []))
-
--- the word doesn't begin with `-`
-abbrev pub IsPlain : Text → Type 0
-IsPlain [] = ⊤
-IsPlain (first ∷ rest) = first ≢ 45
-
--- no word begins with `-`, and there are no more than a machine has room for
-abbrev pub AreNames : List Text → Type 0
-AreNames words = All IsPlain words × (length words ≤ usize_max)
-
--- the word is `--`, a name, and perhaps a value behind `=`
-abbrev pub IsLongFlag : Text → Text → Type 0
-IsLongFlag name word = (value : Option Text) × (long_of word ≡ Some (name, value))

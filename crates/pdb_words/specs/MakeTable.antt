@@ -1,11 +1,11 @@
 -- The words of `make-table [--workers N] SIDE MASK OUT`.
-use Rattle.std.specs.Prelude.{ℕ, Bool, List, Some, codes, pos, true}
-use Rattle.clap.specs.Walk.{Row, Rule, Text}
+use Rattle.std.specs.Prelude.{ℕ, List, Some, codes, pos, true}
+use Rattle.clap.specs.Walk.{Row, Rule}
 use Rattle.clap.specs.Simple.{App, new_app, new_rule, with_rule}
 use Rattle.clap.specs.declared.builder.value_parser.ValueParser.TheVariants as parser
 use Rattle.pdb_words.specs.Asked.{Asked, make_table}
 use Rattle.pdb_words.specs.Files.{file_in, needed_file}
-use Rattle.pdb_words.specs.Numbers.{number_in, writes_within}
+use Rattle.pdb_words.specs.Numbers.{number_in}
 use Rattle.pdb_words.specs.Workers.{workers_flag, workers_in}
 
 -- the greatest number that may be meant for a side: that of a byte
@@ -28,14 +28,6 @@ needed_mask = record (new_rule (codes "MASK")) { required = true; parser = Some 
 abbrev pub make_table_command : App
 make_table_command = with_rule (with_rule (with_rule (with_rule (new_app (codes "make-table")) workers_flag) needed_side) needed_mask)
     (needed_file (codes "OUT"))
-
--- the text writes a number that may be meant for a side
-abbrev pub writes_side : Text → Bool
-writes_side text = writes_within 0 most_side text
-
--- the text writes a number that may be meant for a tile mask
-abbrev pub writes_mask : Text → Bool
-writes_mask text = writes_within 0 most_mask text
 
 -- the side that the values found of it name
 abbrev pub side_in : List Row → ℕ

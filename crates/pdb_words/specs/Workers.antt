@@ -1,21 +1,13 @@
 -- The flag `--workers N`: how many workers share a check, from 1 to 64, and without it 1.
-use Rattle.std.specs.Prelude.{ℕ, Bool, List, codes, pos}
-use Rattle.clap.specs.Walk.{Row, Rule, Text}
+use Rattle.std.specs.Prelude.{ℕ, List, codes, pos}
+use Rattle.clap.specs.Walk.{Row, Rule}
 use Rattle.clap.specs.declared.builder.value_parser.ValueParser.TheVariants as parser
 use Rattle.book_core.specs.Books.{most_workers}
-use Rattle.pdb_words.specs.Numbers.{number_flag, number_in, number_within, writes_within}
+use Rattle.pdb_words.specs.Numbers.{number_flag, number_in}
 
 -- the flag, as `clap` sees it
 abbrev pub workers_flag : Rule
 workers_flag = number_flag (codes "workers") (parser.Signed (pos 1) (pos most_workers)) (codes "1")
-
--- the text writes a number of workers
-abbrev pub writes_workers : Text → Bool
-writes_workers text = writes_within 1 most_workers text
-
--- how many workers a text asks for: its number, or 1 where it writes no number of workers
-abbrev pub workers_of : Text → ℕ
-workers_of text = number_within 1 most_workers 1 text
 
 -- how many workers the values found of a command ask for
 abbrev pub workers_in : List Row → ℕ

@@ -4,7 +4,8 @@ ghost use Rattle.std.specs.Prelude.{◌≡◌, IfErr, IfOk, IfSome, false, map, 
 ghost use Rattle.clap.specs.Words.{App, FailsBy, app_of, subcommand_of, subcommand_rows_of, with_subcommand};
 ghost use Rattle.clap.specs.declared.Command.TheViews.{out-Command};
 ghost use Rattle.pdb_words.specs.Asked.{HasBudget, HasWorkers, view};
-ghost use Rattle.pdb_words.specs.CommandLine.{IsCommand, Parses, asked_in, asked_of, checks, command_line, faults_of, program};
+ghost use Rattle.pdb_words.specs.CommandLine.{Parses, asked_in, asked_of, checks, command_line, faults_of, program};
+ghost use Rattle.pdb_words.specs.Commands.{IsCommand};
 ghost use Rattle.pdb_words.specs.Faults.{IsCauseOf};
 
 use crate::asked::Request;

@@ -11,10 +11,12 @@ use Rattle.clap.specs.Walk.{Held, Outcome, Rule, Step, Text, Waiting, Walk, afte
 use Rattle.clap.proofs.SimpleLemmas.{is_false}
 use Rattle.clap.proofs.WalkLemmas.{both}
 use Rattle.clap.specs.declared.error.kind.ErrorKind.TheVariants as kind
-use Rattle.pdb_words.specs.CommandLine.{IsCommand, IsLongFlag, IsOneOf, Parses, TakesFlag, commands, log_commands, shared_commands}
+use Rattle.pdb_words.specs.CommandLine.{Parses}
+use Rattle.pdb_words.specs.Commands.{IsCommand, IsOneOf, commands, shared_commands}
 use Rattle.pdb_words.proofs.CommandLemmas.{faults_behind, leaf}
 use Rattle.pdb_words.proofs.KindLemmas.{IsFault, first_fault, later_fault, one_fault, same_fault}
 use Rattle.pdb_words.proofs.TextLemmas.{differs, each_holds, same_text}
+use Rattle.word_laws.specs.Flags.{IsLongFlag, TakesFlag, log_commands}
 
 -- ---- a walk goes on, behind each word but `--`
 

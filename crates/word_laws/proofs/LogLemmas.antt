@@ -14,18 +14,21 @@ use Rattle.clap.proofs.FaultLemmas.{past}
 use Rattle.clap.proofs.OnLiterals.{clap_on_literals}
 use Rattle.book_core.specs.Books.{most_workers}
 use Rattle.pdb_words.specs.Asked.{Asked, bound, most_budget, optimal, solve}
-use Rattle.pdb_words.specs.Budget.{budget_of, usual_budget, writes_budget}
-use Rattle.pdb_words.specs.CommandLine.{AreNames, AsksFor, IsCommand, IsPlain, Parses, asked_by, asked_of}
+use Rattle.pdb_words.specs.Budget.{usual_budget}
+use Rattle.pdb_words.specs.CommandLine.{Parses, asked_by, asked_of}
+use Rattle.pdb_words.specs.Commands.{IsCommand, IsPlain}
 use Rattle.pdb_words.specs.Faults.{IsMistaken}
 use Rattle.pdb_words.specs.Numbers.{number_of}
-use Rattle.pdb_words.specs.Workers.{workers_flag, workers_of, writes_workers}
+use Rattle.pdb_words.specs.Workers.{workers_flag}
 use Rattle.pdb_words.proofs.CommandLemmas.{asked_behind, faults_behind}
 use Rattle.pdb_words.proofs.KindLemmas.{mistaken}
 use Rattle.word_laws.proofs.LogWalkLemmas.{LogCommand, on_board, on_puzzle, on_search, Flags, none, workers, budget, both, IsTaken, IsTakenAs, at, claim_of, file_row, files, files_pass, files_walk, first_pass, first_steps, flags_before, fold_begins, fold_passes, fold_row, fold_rows, log_of, name_of, plain_claim, rows_before, shape_of, start_of}
-use Rattle.word_laws.proofs.NumberLemmas.{number_asked}
+use Rattle.word_laws.proofs.NumberLemmas.{budget_of, number_asked, workers_of}
 use Rattle.word_laws.proofs.TablesLemmas.{gathering, last_fault, level_ends, tables_pass, tables_row}
 use Rattle.pdb_words.proofs.TextLemmas.{HasNoDash, has_no_dash}
+use Rattle.word_laws.specs.Asking.{AreNames, AsksFor}
 use Rattle.word_laws.specs.LogWords.{NamesLog, with_fold}
+use Rattle.word_laws.specs.NumberTexts.{writes_budget, writes_workers}
 use Rattle.word_laws.proofs.WorkersLemmas.{accepted, accepted_budget, accepted_budget_is, accepted_is}
 
 -- what the words ask for, of so many workers, with folded tables or whole ones and with such a budget

@@ -9,14 +9,15 @@ use Rattle.clap.specs.Simple.{Shape, filled}
 use Rattle.clap.specs.Walk.{Row, Text, Walk, arg_by_index, idle, nothing_held, reading_by, walk, walk_from, walked}
 use Rattle.clap.specs.declared.parser.matches.ValueSource.TheVariants.{CommandLine}
 use Rattle.clap.proofs.OnLiterals.{clap_on_literals}
-use Rattle.pdb_words.specs.CommandLine.{AreNames, IsPlain}
 use Rattle.pdb_words.specs.Budget.{budget_flag}
+use Rattle.pdb_words.specs.Commands.{IsPlain}
 use Rattle.pdb_words.specs.Fold.{fold_flag}
 use Rattle.pdb_words.specs.Workers.{workers_flag}
 use Rattle.pdb_words.proofs.CommandLemmas.{leaf, start}
 use Rattle.word_laws.proofs.TablesLemmas.{gathering, more_pass, more_walk, tables_rule}
 use Rattle.pdb_words.proofs.TextLemmas.{HasNoDash, has_no_dash}
 use Rattle.word_laws.proofs.WorkersLemmas.{accepted, accepted_budget}
+use Rattle.word_laws.specs.Asking.{AreNames}
 use Rattle.word_laws.specs.LogWords.{with_fold}
 
 pub data LogCommand : Type 0 where

@@ -15,12 +15,13 @@ use Rattle.clap.specs.declared.error.kind.ErrorKind.{ErrorKind}
 use Rattle.clap.specs.declared.error.kind.ErrorKind.TheVariants as kind
 use Rattle.clap.specs.declared.parser.matches.ValueSource.TheVariants.{CommandLine}
 use Rattle.pdb_words.specs.Asked.{Asked, make_table}
-use Rattle.pdb_words.specs.CommandLine.{IsCommand, asked_by, asked_of, faults_of}
+use Rattle.pdb_words.specs.CommandLine.{asked_by, asked_of, faults_of}
+use Rattle.pdb_words.specs.Commands.{IsCommand}
 use Rattle.pdb_words.specs.MakeTable.{most_mask, most_side, needed_mask, needed_side}
 use Rattle.pdb_words.specs.Numbers.{number_within}
-use Rattle.pdb_words.specs.Workers.{workers_of}
 use Rattle.pdb_words.proofs.CommandLemmas.{asked_behind, faults_behind, leaf, start}
 use Rattle.word_laws.proofs.LogWalkLemmas.{at, file_row, workers_row}
+use Rattle.word_laws.proofs.NumberLemmas.{workers_of}
 use Rattle.word_laws.proofs.TablesLemmas.{last_fault, level_ends}
 use Rattle.pdb_words.proofs.TextLemmas.{HasNoDash}
 use Rattle.word_laws.proofs.WorkersLemmas.{accepted}

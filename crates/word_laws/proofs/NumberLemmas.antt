@@ -6,7 +6,10 @@ use Rattle.std.proofs.lemmas.Bool.Decides.{nat_tests}
 use Rattle.clap.specs.ValueTests.{accepts, is_numeral}
 use Rattle.clap.specs.Walk.{Text}
 use Rattle.clap.specs.declared.builder.value_parser.ValueParser.TheVariants as parser
-use Rattle.pdb_words.specs.CommandLine.{IsPlain}
+use Rattle.book_core.specs.Books.{most_workers}
+use Rattle.pdb_words.specs.Asked.{most_budget}
+use Rattle.pdb_words.specs.Budget.{usual_budget}
+use Rattle.pdb_words.specs.Commands.{IsPlain}
 use Rattle.pdb_words.specs.Numbers.{number_of, number_within, writes_within}
 
 in_range : (numeral : Bool) (n low high most : ℕ) → high < most → (numeral && (nat_lt n most && (nat_le low n && nat_le n high))) ≡ (numeral && (nat_le low n && nat_le n high))
@@ -22,3 +25,11 @@ unsigned_accepted low high number fits = in_range (is_numeral (without_leading_p
 
 pub number_asked : (low high other : ℕ) (number : Text) → writes_within low high number ≡ true → number_within low high other number ≡ number_of number
 number_asked low high other number e = rw e refl
+
+-- how many workers a text asks for: its number, or 1 where it writes no number of workers
+abbrev pub workers_of : Text → ℕ
+workers_of text = number_within 1 most_workers 1 text
+
+-- the budget that a text asks for: its number, or the usual one where it writes none
+abbrev pub budget_of : Text → ℕ
+budget_of text = number_within 1 most_budget usual_budget text

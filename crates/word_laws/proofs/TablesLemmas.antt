@@ -10,7 +10,7 @@ use Rattle.clap.specs.Simple.{Shape, filled, with_index}
 use Rattle.clap.specs.Walk.{Held, Row, Rule, Text, Walk, arg_by_index, finished, nothing_held, positional, reading_by, settled, walk, walked}
 use Rattle.clap.specs.declared.parser.matches.ValueSource.TheVariants.{CommandLine}
 use Rattle.clap.proofs.FaultLemmas.{past}
-use Rattle.pdb_words.specs.CommandLine.{IsPlain}
+use Rattle.pdb_words.specs.Commands.{IsPlain}
 use Rattle.pdb_words.specs.Files.{needed_tables}
 use Rattle.pdb_words.proofs.CommandLemmas.{start}
 use Rattle.pdb_words.proofs.TextLemmas.{HasNoDash, has_no_dash}

@@ -1,1 +1,5 @@
+-- What public contracts say.
+pub mod Asking
+pub mod Flags
 pub mod LogWords
+pub mod NumberTexts

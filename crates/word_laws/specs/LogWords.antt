@@ -2,10 +2,11 @@
 use Rattle.std.specs.Prelude.{◌≡◌, Bool, List, [], ◌∷◌, ◌++◌, codes, false, true}
 use Rattle.clap.specs.Walk.{Text}
 use Rattle.pdb_words.specs.Asked.{AsksCheck}
-use Rattle.pdb_words.specs.CommandLine.{AreNames, AsksFor, IsPlain}
+use Rattle.pdb_words.specs.Commands.{IsPlain}
 use Rattle.pdb_words.specs.Faults.{IsMistaken}
 use Rattle.pdb_words.specs.Numbers.{number_of}
-use Rattle.pdb_words.specs.Workers.{writes_workers}
+use Rattle.word_laws.specs.Asking.{AreNames, AsksFor}
+use Rattle.word_laws.specs.NumberTexts.{writes_workers}
 
 -- words with `--fold` before them, or without it
 abbrev pub with_fold : Bool → List Text → List Text

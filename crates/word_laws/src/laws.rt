@@ -3,11 +3,14 @@
 ghost use Rattle.std.specs.Prelude.{◌≡◌, ◌≢◌, ◌∷◌, ◌++◌, [], ℕ, List, None, Some, codes, false, true};
 ghost use Rattle.std.specs.List.{All};
 ghost use Rattle.pdb_words.specs.Asked.{bound, optimal, replay, table};
-ghost use Rattle.pdb_words.specs.CommandLine.{AsksFor, BeginsWithCommand, IsCommand, IsLongFlag, IsPlain, Parses, TakesFlag};
+ghost use Rattle.pdb_words.specs.CommandLine.{Parses};
+ghost use Rattle.pdb_words.specs.Commands.{BeginsWithCommand, IsCommand, IsPlain};
 ghost use Rattle.pdb_words.specs.Faults.{IsMistaken};
 ghost use Rattle.pdb_words.specs.Numbers.{number_of};
-ghost use Rattle.pdb_words.specs.Workers.{writes_workers};
+ghost use Rattle.word_laws.specs.Asking.{AsksFor};
+ghost use Rattle.word_laws.specs.Flags.{IsLongFlag, TakesFlag};
 ghost use Rattle.word_laws.specs.LogWords.{NamesLog};
+ghost use Rattle.word_laws.specs.NumberTexts.{writes_workers};
 
 /// No words, and `replay` alone, ask for standard input, and `replay` with a name for that file.
 pub fn what_replay_asks()

@@ -2,13 +2,13 @@
 
 ghost use Rattle.std.specs.Prelude.{◌≡◌, ◌∷◌, ◌++◌, [], ℕ, Bool, List, codes, false, true};
 ghost use Rattle.pdb_words.specs.Asked.{make_table, solve};
-ghost use Rattle.pdb_words.specs.Budget.{usual_budget, writes_budget};
-ghost use Rattle.pdb_words.specs.CommandLine.{AreNames, AsksFor, IsPlain};
+ghost use Rattle.pdb_words.specs.Budget.{usual_budget};
+ghost use Rattle.pdb_words.specs.Commands.{IsPlain};
 ghost use Rattle.pdb_words.specs.Faults.{IsMistaken};
-ghost use Rattle.pdb_words.specs.MakeTable.{writes_mask, writes_side};
 ghost use Rattle.pdb_words.specs.Numbers.{number_of};
-ghost use Rattle.pdb_words.specs.Workers.{writes_workers};
+ghost use Rattle.word_laws.specs.Asking.{AreNames, AsksFor};
 ghost use Rattle.word_laws.specs.LogWords.{NamesLog, with_fold};
+ghost use Rattle.word_laws.specs.NumberTexts.{writes_budget, writes_mask, writes_side, writes_workers};
 
 /// `make-table` with a side, a tile mask and a name asks for the table of that pattern under that name: a side from 0
 /// to 255, a mask from 0 to 4,294,967,295, and one worker, or as many as `--workers` says, first or last.

@@ -6,10 +6,9 @@ use Rattle.clap.specs.declared.error.kind.ErrorKind.TheVariants as kind
 use Rattle.book_core.specs.Books.{most_workers}
 use Rattle.pdb_words.specs.Asked.{table}
 use Rattle.pdb_words.specs.CommandLine.{asked_of, faults_of}
-use Rattle.pdb_words.specs.Workers.{workers_of}
 use Rattle.pdb_words.proofs.KindLemmas.{mistaken}
 use Rattle.pdb_words.proofs.TextLemmas.{HasNoDash, has_no_dash}
-use Rattle.word_laws.proofs.NumberLemmas.{number_asked}
+use Rattle.word_laws.proofs.NumberLemmas.{number_asked, workers_of}
 use Rattle.word_laws.proofs.WorkersLemmas.{accepted, accepted_is}
 use Rattle.word_laws.proofs.laws.what_table_asks.Goals as goal
 

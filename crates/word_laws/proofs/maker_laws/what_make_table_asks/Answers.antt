@@ -3,17 +3,18 @@ use Rattle.clap.specs.Walk.{Text}
 use Rattle.clap.specs.declared.error.kind.ErrorKind.TheVariants as kind
 use Rattle.book_core.specs.Books.{most_workers}
 use Rattle.pdb_words.specs.Asked.{make_table}
-use Rattle.pdb_words.specs.CommandLine.{AsksFor, IsPlain}
+use Rattle.pdb_words.specs.Commands.{IsPlain}
 use Rattle.pdb_words.specs.Faults.{IsMistaken}
-use Rattle.pdb_words.specs.MakeTable.{most_mask, most_side, writes_mask, writes_side}
+use Rattle.pdb_words.specs.MakeTable.{most_mask, most_side}
 use Rattle.pdb_words.specs.Numbers.{number_of, number_within}
-use Rattle.pdb_words.specs.Workers.{workers_of, writes_workers}
 use Rattle.pdb_words.proofs.KindLemmas.{mistaken}
 use Rattle.word_laws.proofs.MakeTableLemmas.{accepted_mask, accepted_side, faults_are, flag, last_asked, last_wrong, no_mask, no_name, no_side, no_workers, nothing, whole_asked, whole_wrong, wrong}
-use Rattle.word_laws.proofs.NumberLemmas.{number_asked, signed_accepted}
+use Rattle.word_laws.proofs.NumberLemmas.{number_asked, signed_accepted, workers_of}
 use Rattle.pdb_words.proofs.TextLemmas.{HasNoDash, has_no_dash}
 use Rattle.word_laws.proofs.WorkersLemmas.{accepted_is}
 use Rattle.word_laws.proofs.maker_laws.what_make_table_asks.Goals as goal
+use Rattle.word_laws.specs.Asking.{AsksFor}
+use Rattle.word_laws.specs.NumberTexts.{writes_mask, writes_side, writes_workers}
 
 is_mistaken : (words : List Text) → wrong words ≡ kind.ValueValidation ∷ [] → IsMistaken (codes "make-table" ∷ words)
 is_mistaken words e = mistaken _ kind.ValueValidation [] (faults_are words _ e) (λ e. cc)

@@ -1,0 +1,16 @@
+-- Which words ask for what.
+use Rattle.std.specs.Prelude.{◌≡◌, ◌≤◌, List, length}
+use Rattle.std.specs.List.{All}
+use Rattle.clap.specs.Lexer.{usize_max}
+use Rattle.clap.specs.Walk.{Text}
+use Rattle.pdb_words.specs.Asked.{Asked}
+use Rattle.pdb_words.specs.CommandLine.{Parses, asked_of}
+use Rattle.pdb_words.specs.Commands.{IsPlain}
+
+-- the words parse, and ask for this
+abbrev pub AsksFor : List Text → Asked → Type 0
+AsksFor words asked = Parses words × (asked_of words ≡ asked)
+
+-- no word begins with `-`, and there are no more than a machine has room for
+abbrev pub AreNames : List Text → Type 0
+AreNames words = All IsPlain words × (length words ≤ usize_max)

@@ -1,0 +1,18 @@
+-- Which flags a command takes.
+use Rattle.std.specs.Prelude.{◌≡◌, ◌⊎◌, List, [], ◌∷◌, Option, Some, codes}
+use Rattle.clap.specs.Lexer.{long_of}
+use Rattle.clap.specs.Walk.{Text}
+use Rattle.pdb_words.specs.Commands.{IsOneOf, shared_commands}
+
+-- the names of the commands that take `--fold`
+abbrev pub log_commands : List Text
+log_commands = codes "bound" ∷ codes "optimal" ∷ codes "solve" ∷ []
+
+-- the command takes the flag of this name
+abbrev pub TakesFlag : Text → Text → Type 0
+TakesFlag command name = (IsOneOf shared_commands command × (name ≡ codes "workers"))
+    ⊎ ((IsOneOf log_commands command × (name ≡ codes "fold")) ⊎ ((command ≡ codes "solve") × (name ≡ codes "budget")))
+
+-- the word is `--`, a name, and perhaps a value behind `=`
+abbrev pub IsLongFlag : Text → Text → Type 0
+IsLongFlag name word = (value : Option Text) × (long_of word ≡ Some (name, value))

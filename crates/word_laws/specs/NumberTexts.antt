@@ -1,0 +1,23 @@
+-- Which numbers texts write.
+use Rattle.std.specs.Prelude.{Bool}
+use Rattle.clap.specs.Walk.{Text}
+use Rattle.book_core.specs.Books.{most_workers}
+use Rattle.pdb_words.specs.Asked.{most_budget}
+use Rattle.pdb_words.specs.MakeTable.{most_mask, most_side}
+use Rattle.pdb_words.specs.Numbers.{writes_within}
+
+-- the text writes a number of workers
+abbrev pub writes_workers : Text → Bool
+writes_workers text = writes_within 1 most_workers text
+
+-- the text writes a budget
+abbrev pub writes_budget : Text → Bool
+writes_budget text = writes_within 1 most_budget text
+
+-- the text writes a number that may be meant for a side
+abbrev pub writes_side : Text → Bool
+writes_side text = writes_within 0 most_side text
+
+-- the text writes a number that may be meant for a tile mask
+abbrev pub writes_mask : Text → Bool
+writes_mask text = writes_within 0 most_mask text
