@@ -1,3 +1,4 @@
+mod ArgumentLemmas
 pub mod CommandLemmas
 pub mod KindLemmas
 mod NumberLemmas

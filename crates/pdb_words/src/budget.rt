@@ -1,6 +1,6 @@
 //! The flag `--budget N`.
 
-ghost use Rattle.std.specs.Prelude.{◌≡◌, false};
+ghost use Rattle.std.specs.Prelude.{◌≡◌};
 ghost use Rattle.clap.specs.Words.{found_of, rows_of, rule_of};
 ghost use Rattle.pdb_words.specs.Asked.{IsBudget};
 ghost use Rattle.pdb_words.specs.Budget.{budget_flag, budget_in};
@@ -17,8 +17,7 @@ const USUAL_BUDGET: u64 = 1_000_000;
 
 /// The flag, for `clap`.
 pub(crate) fn budget_flag<'a>(alloc: Global) -> Arg<'a>
-    ensures rule { rule_of result ≡ budget_flag }
-    ensures local { result.global ≡ false }
+    ensures { rule_of result ≡ budget_flag }
 {
     let parser = value_parser!(u64).range(1..=MOST_BUDGET as i64);
     number_flag(alloc, "budget", parser, "1000000").help(

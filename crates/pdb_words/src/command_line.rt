@@ -1,8 +1,7 @@
 //! The commands of the program, and the reading of words.
 
-ghost use Rattle.std.specs.Prelude.{◌≡◌, IfErr, IfOk, IfSome, false, map, string_bytes};
+ghost use Rattle.std.specs.Prelude.{◌≡◌, IfErr, IfOk, IfSome, map, string_bytes, true};
 ghost use Rattle.clap.specs.Words.{App, FailsBy, app_of, subcommand_of, subcommand_rows_of, with_subcommand};
-ghost use Rattle.clap.specs.declared.Command.TheViews.{out-Command};
 ghost use Rattle.pdb_words.specs.Asked.{HasBudget, HasWorkers, view};
 ghost use Rattle.pdb_words.specs.CommandLine.{Parses, asked_in, asked_of, checks, command_line, faults_of, program};
 ghost use Rattle.pdb_words.specs.Commands.{IsCommand};
@@ -43,8 +42,7 @@ pub fn read_words<'a>(alloc: Global, words: &'a [String]) -> Result<Request<'a>,
 
 /// The command line, for `clap`.
 fn command_line<'a>(alloc: Global) -> Result<Command<'a>, AllocError>
-    ensures app { IfOk result (λ c. app_of c ≡ command_line) }
-    ensures local { IfOk result (λ c. (out-Command c).has_globals ≡ false) }
+    ensures { IfOk result (λ c. app_of c ≡ command_line) }
 {
     let program = with_command(checks(alloc), make_table_command(alloc));
     with_command(program, solve_command(alloc))
@@ -52,8 +50,7 @@ fn command_line<'a>(alloc: Global) -> Result<Command<'a>, AllocError>
 
 /// The program with the commands that only check.
 fn checks<'a>(alloc: Global) -> Result<Command<'a>, AllocError>
-    ensures app { IfOk result (λ c. app_of c ≡ checks) }
-    ensures local { IfOk result (λ c. (out-Command c).has_globals ≡ false) }
+    ensures { IfOk result (λ c. app_of c ≡ checks) }
 {
     let program = with_command(program(alloc), replay_command(alloc));
     let program = with_command(program, table_command(alloc));
@@ -63,8 +60,7 @@ fn checks<'a>(alloc: Global) -> Result<Command<'a>, AllocError>
 
 /// The program without its commands.
 fn program<'a>(alloc: Global) -> Result<Command<'a>, AllocError>
-    ensures app { IfOk result (λ c. app_of c ≡ program) }
-    ensures local { IfOk result (λ c. (out-Command c).has_globals ≡ false) }
+    ensures { IfOk result (λ c. app_of c ≡ program) }
 {
     let program = Command::new(alloc, "pdb_cli").bin_name("pdb_cli")?;
     Ok(
@@ -80,10 +76,8 @@ fn with_command<'a>(
     program: Result<Command<'a>, AllocError>,
     command: Result<Command<'a>, AllocError>,
 ) -> Result<Command<'a>, AllocError>
-    requires { IfOk command (λ c. (out-Command c).has_globals ≡ false) }
-    ensures app { (above app : App) → IfOk program.entry (λ c. app_of c ≡ above) → IfOk command.entry (λ c. app_of c ≡ app)
-        → IfOk result (λ c. app_of c ≡ with_subcommand above app.top) }
-    ensures local { IfOk program.entry (λ c. (out-Command c).has_globals ≡ false) → IfOk result (λ c. (out-Command c).has_globals ≡ false) }
+    ensures { (above app : App) → app.top.is_plain ≡ true → IfOk program.entry (λ c. app_of c ≡ above)
+        → IfOk command.entry (λ c. app_of c ≡ app) → IfOk result (λ c. app_of c ≡ with_subcommand above app.top) }
 {
     let program = program?;
     let command = command?;

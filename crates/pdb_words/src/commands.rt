@@ -1,8 +1,8 @@
 //! What the commands are made of.
 
-ghost use Rattle.std.specs.Prelude.{◌≡◌, IfOk, false};
-ghost use Rattle.clap.specs.Words.{app_of, new_app, rule_of, with_rule};
-ghost use Rattle.clap.specs.declared.Command.TheViews.{out-Command};
+ghost use Rattle.std.specs.Prelude.{◌≡◌, IfOk};
+ghost use Rattle.clap.specs.Words.{app_of, new_app};
+ghost use Rattle.pdb_words.specs.Arguments.{HasArgument};
 
 use clap::{Arg, Command};
 use std::alloc::{AllocError, Global};
@@ -28,8 +28,7 @@ pub(crate) fn new_command<'a>(
     usage: &'a str,
     after_help: &'a str,
 ) -> Command<'a>
-    ensures app { app_of result ≡ new_app name.entry.now }
-    ensures local { (out-Command result).has_globals ≡ false }
+    ensures { app_of result ≡ new_app name.entry.now }
 {
     Command::new(alloc, name)
         .about(about)
@@ -42,9 +41,7 @@ pub(crate) fn with_argument<'a>(
     command: Command<'a>,
     arg: Arg<'a>,
 ) -> Result<Command<'a>, AllocError>
-    requires { arg.global ≡ false }
-    ensures app { IfOk result (λ c. app_of c ≡ with_rule (app_of command.entry) (rule_of arg.entry)) }
-    ensures local { IfOk result (λ c. (out-Command c).has_globals ≡ (out-Command command.entry).has_globals) }
+    ensures { IfOk result (HasArgument command.entry arg.entry) }
 {
     command.arg(arg)
 }

@@ -1,8 +1,7 @@
 //! The files that a command names.
 
-ghost use Rattle.std.specs.Prelude.{◌≡◌, IfOk, false};
+ghost use Rattle.std.specs.Prelude.{◌≡◌, IfOk};
 ghost use Rattle.clap.specs.Words.{app_of, found_of, rows_of, rule_of, with_rule};
-ghost use Rattle.clap.specs.declared.Command.TheViews.{out-Command};
 ghost use Rattle.pdb_words.specs.Asked.{file_names};
 ghost use Rattle.pdb_words.specs.Files.{file_in, needed_file, needed_tables, tables_in, with_log};
 
@@ -14,16 +13,14 @@ use std::alloc::{AllocError, Global};
 
 /// A file that has to be named.
 fn needed_file<'a>(alloc: Global, id: &'a str) -> Arg<'a>
-    ensures rule { rule_of result ≡ needed_file id.entry.now }
-    ensures local { result.global ≡ false }
+    ensures { rule_of result ≡ needed_file id.entry.now }
 {
     Arg::new(alloc, id).required(true)
 }
 
 /// The tables of a log: one or more.
 fn needed_tables<'a>(alloc: Global) -> Arg<'a>
-    ensures rule { rule_of result ≡ needed_tables }
-    ensures local { result.global ≡ false }
+    ensures { rule_of result ≡ needed_tables }
 {
     Arg::new(alloc, "TABLES")
         .help("The table files, in the order of their numbers")
@@ -38,8 +35,7 @@ pub(crate) fn with_file<'a>(
     id: &'a str,
     help: &'a str,
 ) -> Result<Command<'a>, AllocError>
-    ensures app { IfOk result (λ c. app_of c ≡ with_rule (app_of command.entry) (needed_file id.entry.now)) }
-    ensures local { IfOk result (λ c. (out-Command c).has_globals ≡ (out-Command command.entry).has_globals) }
+    ensures { IfOk result (λ c. app_of c ≡ with_rule (app_of command.entry) (needed_file id.entry.now)) }
 {
     with_argument(command, needed_file(alloc, id).help(help))
 }
@@ -52,8 +48,7 @@ pub(crate) fn with_log<'a>(
     log: &'a str,
     help: &'a str,
 ) -> Result<Command<'a>, AllocError>
-    ensures app { IfOk result (λ c. app_of c ≡ with_log (app_of command.entry) (needed_file log.entry.now)) }
-    ensures local { IfOk result (λ c. (out-Command c).has_globals ≡ (out-Command command.entry).has_globals) }
+    ensures { IfOk result (λ c. app_of c ≡ with_log (app_of command.entry) (needed_file log.entry.now)) }
 {
     let command = with_workers(alloc, command)?;
     let command = with_fold(alloc, command)?;

@@ -1,8 +1,7 @@
 //! The flag `--fold`.
 
-ghost use Rattle.std.specs.Prelude.{◌≡◌, IfOk, false};
+ghost use Rattle.std.specs.Prelude.{◌≡◌, IfOk};
 ghost use Rattle.clap.specs.Words.{app_of, found_of, rows_of, rule_of, with_rule};
-ghost use Rattle.clap.specs.declared.Command.TheViews.{out-Command};
 ghost use Rattle.pdb_words.specs.Fold.{fold_flag, fold_in};
 
 use crate::commands::with_argument;
@@ -11,8 +10,7 @@ use std::alloc::{AllocError, Global};
 
 /// The flag, for `clap`.
 fn fold_flag<'a>(alloc: Global) -> Arg<'a>
-    ensures rule { rule_of result ≡ fold_flag }
-    ensures local { result.global ≡ false }
+    ensures { rule_of result ≡ fold_flag }
 {
     Arg::new(alloc, "fold")
         .long("fold")
@@ -22,8 +20,7 @@ fn fold_flag<'a>(alloc: Global) -> Arg<'a>
 
 /// A command with the flag.
 pub(crate) fn with_fold<'a>(alloc: Global, command: Command<'a>) -> Result<Command<'a>, AllocError>
-    ensures app { IfOk result (λ c. app_of c ≡ with_rule (app_of command.entry) fold_flag) }
-    ensures local { IfOk result (λ c. (out-Command c).has_globals ≡ (out-Command command.entry).has_globals) }
+    ensures { IfOk result (λ c. app_of c ≡ with_rule (app_of command.entry) fold_flag) }
 {
     with_argument(command, fold_flag(alloc))
 }

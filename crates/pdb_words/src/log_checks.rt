@@ -2,7 +2,6 @@
 
 ghost use Rattle.std.specs.Prelude.{◌≡◌, IfOk, codes};
 ghost use Rattle.clap.specs.Words.{app_of, found_of, rows_of, with_rule};
-ghost use Rattle.clap.specs.declared.Command.TheViews.{out-Command};
 ghost use Rattle.book_core.specs.Books.{AreWorkers};
 ghost use Rattle.pdb_words.specs.Asked.{AsksCheck, asks_check};
 ghost use Rattle.pdb_words.specs.Files.{needed_file, with_log};
@@ -22,8 +21,7 @@ pub(crate) fn with_claim<'a>(
     claim: &'a str,
     help: &'a str,
 ) -> Result<Command<'a>, AllocError>
-    ensures app { IfOk result (λ c. app_of c ≡ with_log (with_rule (app_of command.entry) (needed_file claim.entry.now)) (needed_file (codes "LOG"))) }
-    ensures local { IfOk result (λ c. (out-Command c).has_globals ≡ (out-Command command.entry).has_globals) }
+    ensures { IfOk result (λ c. app_of c ≡ with_log (with_rule (app_of command.entry) (needed_file claim.entry.now)) (needed_file (codes "LOG"))) }
 {
     let command = with_file(alloc, command, claim, help)?;
     with_log(alloc, command, "LOG", "A log file")

@@ -1,8 +1,7 @@
 //! The words of `make-table [--workers N] SIDE MASK OUT`.
 
-ghost use Rattle.std.specs.Prelude.{◌≡◌, IfOk, false};
+ghost use Rattle.std.specs.Prelude.{◌≡◌, IfOk};
 ghost use Rattle.clap.specs.Words.{app_of, found_of, rows_of, rule_of, with_rule};
-ghost use Rattle.clap.specs.declared.Command.TheViews.{out-Command};
 ghost use Rattle.pdb_words.specs.Asked.{HasBudget, HasWorkers, view};
 ghost use Rattle.pdb_words.specs.MakeTable.{make_table_command, make_table_in, mask_in, needed_mask, needed_side, side_in};
 
@@ -25,8 +24,7 @@ Reads no file. Answers the digest of the table and `exact ..`, or `refused ..` a
 
 /// The command, for `clap`.
 pub(crate) fn make_table_command<'a>(alloc: Global) -> Result<Command<'a>, AllocError>
-    ensures app { IfOk result (λ c. app_of c ≡ make_table_command) }
-    ensures local { IfOk result (λ c. (out-Command c).has_globals ≡ false) }
+    ensures { IfOk result (λ c. app_of c ≡ make_table_command) }
 {
     let command = new_command(
         alloc,
@@ -42,8 +40,7 @@ pub(crate) fn make_table_command<'a>(alloc: Global) -> Result<Command<'a>, Alloc
 
 /// A command with `SIDE MASK` behind what it has.
 fn with_pattern<'a>(alloc: Global, command: Command<'a>) -> Result<Command<'a>, AllocError>
-    ensures app { IfOk result (λ c. app_of c ≡ with_rule (with_rule (app_of command.entry) needed_side) needed_mask) }
-    ensures local { IfOk result (λ c. (out-Command c).has_globals ≡ (out-Command command.entry).has_globals) }
+    ensures { IfOk result (λ c. app_of c ≡ with_rule (with_rule (app_of command.entry) needed_side) needed_mask) }
 {
     let command = with_argument(command, needed_side(alloc))?;
     with_argument(command, needed_mask(alloc))
@@ -51,8 +48,7 @@ fn with_pattern<'a>(alloc: Global, command: Command<'a>) -> Result<Command<'a>, 
 
 /// The side of a pattern.
 fn needed_side<'a>(alloc: Global) -> Arg<'a>
-    ensures rule { rule_of result ≡ needed_side }
-    ensures local { result.global ≡ false }
+    ensures { rule_of result ≡ needed_side }
 {
     Arg::new(alloc, "SIDE")
         .help("The side of the puzzle, 2 to 5")
@@ -62,8 +58,7 @@ fn needed_side<'a>(alloc: Global) -> Arg<'a>
 
 /// The tile mask of a pattern.
 fn needed_mask<'a>(alloc: Global) -> Arg<'a>
-    ensures rule { rule_of result ≡ needed_mask }
-    ensures local { result.global ≡ false }
+    ensures { rule_of result ≡ needed_mask }
 {
     Arg::new(alloc, "MASK")
         .help("The tiles of the pattern: the sum of 2^t over its tiles t")

@@ -1,6 +1,6 @@
 //! Numbers, as words write them.
 
-ghost use Rattle.std.specs.Prelude.{◌≡◌, ◌≤◌, false};
+ghost use Rattle.std.specs.Prelude.{◌≡◌, ◌≤◌};
 ghost use Rattle.clap.specs.Words.{found_of, rows_of, rule_of};
 ghost use Rattle.pdb_words.specs.Numbers.{number_flag, number_in};
 
@@ -15,8 +15,7 @@ pub(crate) fn number_flag<'a>(
     parser: ValueParser<'a>,
     usual: &'a str,
 ) -> Arg<'a>
-    ensures rule { rule_of result ≡ number_flag name.entry.now parser.entry usual.entry.now }
-    ensures local { result.global ≡ false }
+    ensures { rule_of result ≡ number_flag name.entry.now parser.entry usual.entry.now }
 {
     Arg::new(alloc, name)
         .long(name)

@@ -1,8 +1,7 @@
 //! The words of `optimal [--workers N] [--fold] PUZZLE SETS LOG TABLES..`.
 
-ghost use Rattle.std.specs.Prelude.{◌≡◌, IfOk, false};
+ghost use Rattle.std.specs.Prelude.{◌≡◌, IfOk};
 ghost use Rattle.clap.specs.Words.{app_of, found_of, rows_of};
-ghost use Rattle.clap.specs.declared.Command.TheViews.{out-Command};
 ghost use Rattle.pdb_words.specs.Asked.{HasBudget, HasWorkers, view};
 ghost use Rattle.pdb_words.specs.Optimal.{optimal_command, optimal_in};
 
@@ -21,8 +20,7 @@ or `refused ..` with what is wrong first.",
 
 /// The command, for `clap`.
 pub(crate) fn optimal_command<'a>(alloc: Global) -> Result<Command<'a>, AllocError>
-    ensures app { IfOk result (λ c. app_of c ≡ optimal_command) }
-    ensures local { IfOk result (λ c. (out-Command c).has_globals ≡ false) }
+    ensures { IfOk result (λ c. app_of c ≡ optimal_command) }
 {
     let command = new_command(
         alloc,

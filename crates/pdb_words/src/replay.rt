@@ -1,8 +1,7 @@
 //! The words of `replay [FILE]`.
 
-ghost use Rattle.std.specs.Prelude.{◌≡◌, IfOk, false};
+ghost use Rattle.std.specs.Prelude.{◌≡◌, IfOk};
 ghost use Rattle.clap.specs.Words.{app_of, found_of, rows_of};
-ghost use Rattle.clap.specs.declared.Command.TheViews.{out-Command};
 ghost use Rattle.pdb_words.specs.Asked.{HasBudget, HasWorkers, view};
 ghost use Rattle.pdb_words.specs.Replay.{replay_command, replay_in};
 
@@ -20,8 +19,7 @@ Answers `solution N`, or `refused ..` with what is wrong first.",
 
 /// The command, for `clap`.
 pub(crate) fn replay_command<'a>(alloc: Global) -> Result<Command<'a>, AllocError>
-    ensures app { IfOk result (λ c. app_of c ≡ replay_command) }
-    ensures local { IfOk result (λ c. (out-Command c).has_globals ≡ false) }
+    ensures { IfOk result (λ c. app_of c ≡ replay_command) }
 {
     let file = Arg::new(alloc, "FILE").help("A puzzle text; without it, standard input");
     let command = new_command(

@@ -1,8 +1,7 @@
 //! The words of `solve [--workers N] [--fold] [--budget N] BOARD SETS OUT TABLES..`.
 
-ghost use Rattle.std.specs.Prelude.{◌≡◌, IfOk, false};
+ghost use Rattle.std.specs.Prelude.{◌≡◌, IfOk};
 ghost use Rattle.clap.specs.Words.{app_of, found_of, rows_of};
-ghost use Rattle.clap.specs.declared.Command.TheViews.{out-Command};
 ghost use Rattle.pdb_words.specs.Asked.{HasBudget, HasWorkers, view};
 ghost use Rattle.pdb_words.specs.Solve.{solve_command, solve_in};
 
@@ -31,8 +30,7 @@ Reads BOARD, SETS and TABLES. Answers the digests of the tables and the log, `mo
 
 /// The command, for `clap`.
 pub(crate) fn solve_command<'a>(alloc: Global) -> Result<Command<'a>, AllocError>
-    ensures app { IfOk result (λ c. app_of c ≡ solve_command) }
-    ensures local { IfOk result (λ c. (out-Command c).has_globals ≡ false) }
+    ensures { IfOk result (λ c. app_of c ≡ solve_command) }
 {
     let command = new_command(
         alloc,

@@ -1,8 +1,7 @@
 //! The flag `--workers N`.
 
-ghost use Rattle.std.specs.Prelude.{◌≡◌, IfOk, false};
+ghost use Rattle.std.specs.Prelude.{◌≡◌, IfOk};
 ghost use Rattle.clap.specs.Words.{app_of, found_of, rows_of, rule_of, with_rule};
-ghost use Rattle.clap.specs.declared.Command.TheViews.{out-Command};
 ghost use Rattle.book_core.specs.Books.{AreWorkers};
 ghost use Rattle.pdb_words.specs.Workers.{workers_flag, workers_in};
 
@@ -14,8 +13,7 @@ use std::alloc::{AllocError, Global};
 
 /// The flag, for `clap`.
 fn workers_flag<'a>(alloc: Global) -> Arg<'a>
-    ensures rule { rule_of result ≡ workers_flag }
-    ensures local { result.global ≡ false }
+    ensures { rule_of result ≡ workers_flag }
 {
     let parser = value_parser!(u8).range(1..=i64::from(MOST_WORKERS));
     number_flag(alloc, "workers", parser, "1").help("How many workers share the check, 1 to 64")
@@ -26,8 +24,7 @@ pub(crate) fn with_workers<'a>(
     alloc: Global,
     command: Command<'a>,
 ) -> Result<Command<'a>, AllocError>
-    ensures app { IfOk result (λ c. app_of c ≡ with_rule (app_of command.entry) workers_flag) }
-    ensures local { IfOk result (λ c. (out-Command c).has_globals ≡ (out-Command command.entry).has_globals) }
+    ensures { IfOk result (λ c. app_of c ≡ with_rule (app_of command.entry) workers_flag) }
 {
     with_argument(command, workers_flag(alloc))
 }

@@ -8,13 +8,13 @@ use Rattle.pdb_words.proofs.command_line.matches_of.Goals as goal
 
 pub returns-clause-rows : goal.returns-clause-rows
 returns-clause-rows c =
-    let app_is : app_of c.in_ok-command_line.field-0 ≡ command_line = c.in_ok-command_line.ensures.app in
+    let app_is : app_of c.in_ok-command_line.field-0 ≡ command_line = c.in_ok-command_line.ensures in
     let words = map string_bytes c.args.words.now in
     IfOk-weaker _ _ _ (λ (m : ArgMatches) (h : HasMatchesOf (app_of c.in_ok-command_line.field-0) words m). (h (ap is_simple app_is)).1 ∙ ap (λ (a : App). subcommand_of a words) app_is) c.try_get_matches_from.ensures.matches
 
 pub returns-clause-kinds : goal.returns-clause-kinds
 returns-clause-kinds c =
-    let app_is : app_of c.in_ok-command_line.field-0 ≡ command_line = c.in_ok-command_line.ensures.app in
+    let app_is : app_of c.in_ok-command_line.field-0 ≡ command_line = c.in_ok-command_line.ensures in
     let words = map string_bytes c.args.words.now in
     subst (λ (a : App). FailsBy (fault_of a words) c.try_get_matches_from.result) app_is (c.try_get_matches_from.ensures.kinds (ap is_simple_and_free app_is))
 
