@@ -1,5 +1,6 @@
 #!/usr/bin/env python3
-"""Prints README's table of sizes and times: what it takes to make and to check tables of the 15- and the 24-puzzle.
+"""Prints README's table of sizes and times: what it takes to make and to check tables of the 15- and the 24-puzzle. Writes
+the numbers to benches/sizes.csv too, of which benches/plot_sizes.py draws docs/sizes.svg.
 
     benches/measure_sizes.py PROGRAM FOLDER [ROUNDS]
 
@@ -9,6 +10,7 @@ Runs are taken in turns, ROUNDS times (3 where nothing is said); given is the le
 start of the process to its end, with the file in the system's cache; memory is the most that was resident.
 """
 
+import csv
 import os
 import pathlib
 import subprocess
@@ -42,7 +44,7 @@ def least(runs):
 
 
 def measure(program, folder, side, mask, rounds):
-    """One line of the table."""
+    """What is measured of one table, by the names of the columns of sizes.csv, and the peaks of memory to check and to make."""
     file = folder / f"table_{side}_{mask}"
     check = [program, "table", str(file)]
     made, by_one, by_four, digests = [], [], [], []
@@ -55,12 +57,39 @@ def measure(program, folder, side, mask, rounds):
         set_byte(file, WRONG_PLACE, 0)
     size = file.stat().st_size
     file.unlink()
-    ratio = least(by_four) / least(digests)
+    found = {
+        "side": side,
+        "mask": mask,
+        "megabytes": size / 1e6,
+        "make": least(made),
+        "check_by_1": least(by_one),
+        "check_by_4": least(by_four),
+        "to_digest": least(by_four) / least(digests),
+    }
+    return found, max(peak for _, peak in by_four), max(peak for _, peak in made)
+
+
+def line(found, check_peak, make_peak):
+    """One line of the table."""
     return (
-        f"| {side * side - 1}-puzzle, {mask.bit_count()} tiles ({side}, {mask}) | {size / 1e6:,.0f} MB "
-        f"| {max(peak for _, peak in by_four) / 1e9:.2f} GB | {max(peak for _, peak in made) / 1e9:.2f} GB "
-        f"| {least(made):.1f} s | {least(by_one):.1f} s | {least(by_four):.1f} s | {ratio:.1f} |"
+        "| {puzzle}: {tiles} tiles ({side}, {mask}) | {megabytes:,.0f} MB | {check:.2f} GB | {build:.2f} GB "
+        "| {make:.1f} s | {check_by_1:.1f} s | {check_by_4:.1f} s | {to_digest:.1f} |"
+    ).format(
+        puzzle=found["side"] ** 2 - 1,
+        tiles=found["mask"].bit_count(),
+        check=check_peak / 1e9,
+        build=make_peak / 1e9,
+        **found,
     )
+
+
+def write_numbers(rows):
+    """Writes sizes.csv, with times to a hundredth of a second."""
+    with (pathlib.Path(__file__).resolve().parent / "sizes.csv").open("w", newline="") as file:
+        numbers = csv.DictWriter(file, rows[0].keys(), lineterminator="\n")
+        numbers.writeheader()
+        for row in rows:
+            numbers.writerow({name: f"{it:.2f}" if isinstance(it, float) else it for name, it in row.items()})
 
 
 def main():
@@ -68,8 +97,12 @@ def main():
     rounds = int(sys.argv[3]) if len(sys.argv) > 3 else 3
     print("| table | file | memory to check | memory to make | to make | to check, 1 worker | 4 workers | 4 workers to the digest |")
     print("|---|---|---|---|---|---|---|---|")
+    rows = []
     for side, mask in TABLES:
-        print(measure(program, folder, side, mask, rounds), flush=True)
+        found, check_peak, make_peak = measure(program, folder, side, mask, rounds)
+        print(line(found, check_peak, make_peak), flush=True)
+        rows.append(found)
+    write_numbers(rows)
 
 
 main()
