@@ -1,3 +1,4 @@
+-- What public contracts say.
 pub mod Passes
 pub mod Jobs
 pub mod Places

@@ -16,7 +16,8 @@ use Rattle.book_live.specs.declared.views.View.{View}
 use Rattle.book_live.specs.Views.{view, alone, opening, deeds_of, first_alone, without_first}
 use Rattle.book_live.specs.Shown.{IsInLimits, IsReached, Shows, place_of}
 use Rattle.book_live.specs.Steps.{opened, made}
-use Rattle.book_live.specs.Callers.{BookId, PassState, IsNewPass, all_deeds, IsEachDrawnOnce, IsOutcome, numbered_passes, ShowsEnd, HoldsAll, IsWhole}
+use Rattle.book_live.specs.Callers.{BookId, PassState, all_deeds, IsEachDrawnOnce, IsOutcome, numbered_passes, ShowsEnd}
+use Rattle.book_live.specs.Closing.{IsNewPass, HoldsAll, IsWhole}
 use Rattle.book_live.proofs.ReachLemmas.{BookLaw-reached, jobs-reached}
 use Rattle.book_live.proofs.SeatMoves.{Shows-opened, Shows-made}
 use Rattle.book_live.proofs.WordLemmas.{place_of-word_of}

@@ -12,7 +12,7 @@ use Rattle.book_live.specs.declared.views.View.{View}
 use Rattle.book_live.specs.Views.{shares, first_alone, without_first, together, spent}
 use Rattle.book_live.specs.Shown.{IsInLimits, Shows, Shown}
 use Rattle.book_live.specs.Steps.{opened, made, joined}
-use Rattle.book_live.specs.Callers.{HoldsAll, IsWhole}
+use Rattle.book_live.specs.Closing.{HoldsAll, IsWhole}
 use Rattle.book_live.proofs.ViewLemmas.{share-at, shares-set, shares-push}
 use Rattle.book_live.proofs.ReachLemmas.{IsReached-start, passes-reached}
 

@@ -22,7 +22,8 @@ use Rattle.book_live.specs.declared.views.Sizes.{Sizes}
 use Rattle.book_live.specs.declared.views.View.{View}
 use Rattle.book_live.specs.Views.{shares, alone}
 use Rattle.book_live.specs.Shown.{IsReached, word_of, place_of, Shows, Shown}
-use Rattle.book_live.specs.Steps.{MayTake, answer_to, deeds_after, found_by, state_after, Moves, ShowsEvent, IsOneStep, Claimed, Placed, Looked}
+use Rattle.book_live.specs.Steps.{MayTake, answer_to, deeds_after, found_by, state_after, Moves, ShowsEvent, IsOneStep}
+use Rattle.book_live.specs.SeatSteps.{Claimed, Placed, Looked}
 use Rattle.book_live.proofs.ViewLemmas.{share-at, shares-set}
 use Rattle.book_live.proofs.ReachLemmas.{IsReached-step, BookLaw-reached, jobs-reached, next-le}
 use Rattle.book_live.proofs.WordLemmas.{word_of-lesser, place_of-word_of}

@@ -4,14 +4,14 @@ use mathlib.Core.Option.{some}
 use lib.ListN.{get_elem?}
 use Rattle.atomic_table.specs.Seated.{TableId}
 use Rattle.atomic_table.specs.Table.{State}
-use Rattle.book_core.specs.Passes.{Deeds, fresh}
+use Rattle.book_core.specs.Passes.{Deeds}
 use Rattle.book_core.specs.Books.{Book, start}
 use Rattle.book_core.specs.Jobs.{times_drawn, once_below}
-use Rattle.book_core.specs.Shares.{NumberedPass, numbered_pass, IsCounted}
+use Rattle.book_core.specs.Shares.{NumberedPass, numbered_pass}
 use Rattle.book_live.specs.declared.views.Sizes.{Sizes}
 use Rattle.book_live.specs.declared.views.View.{View}
 use Rattle.book_live.specs.Views.{view, alone}
-use Rattle.book_live.specs.Shown.{word_of, IsReached, Shows}
+use Rattle.book_live.specs.Shown.{IsReached, Shows}
 
 -- which book it is, and how many jobs and passes it has
 pub record BookId : Type 0 where
@@ -28,10 +28,6 @@ pub record PassState : Type 0 where
 pub record ArePasses (b : BookId) (P : PassState → Type 0) (passes : List PassState) : Type 0 where
   pub count : length passes ≡ b.sizes.workers
   pub each : (k : ℕ) (p : PassState) → slice_get passes k ≡ Some p → (p.book ≡ b) × (p.number ≡ k) × P p
-
--- a pass of this book and number that has done nothing
-abbrev pub IsNewPass : BookId → ℕ → PassState → Type 0
-IsNewPass b number p = (p.book ≡ b) × (p.number ≡ number) × (p.deeds ≡ fresh)
 
 -- what each of the passes has done, in the same order
 abbrev pub all_deeds : List PassState → List Deeds
@@ -69,18 +65,3 @@ pub record ShowsEnd (b : BookId) (passes : List PassState) (place : Option ℕ) 
   pub least : book.least ≡ place
 
 -- ---- what the closing seat stands for
-
--- it has all passes, in the order of their numbers
-abbrev pub HoldsAll : Sizes → View → Type 0
-HoldsAll z v = (length v.held ≡ z.workers) × IsCounted 0 v.held
-
--- the machine can reach what the words and the views show, with all passes in this seat, and the least place of this word
-pub record IsWhole (z : Sizes) (v : View) (word : ℕ) : Type 0 where
-  pub state : State (Unit {0}) View
-  pub book : Book
-  pub reached : IsReached z book
-  pub shows : Shows z book state
-  pub seat : ℕ
-  pub own : get_elem? state.views seat ≡ some v
-  pub done : book.passes ≡ map (λ (h : NumberedPass). h.deeds) v.held
-  pub least : word_of book.least ≡ word

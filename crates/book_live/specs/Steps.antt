@@ -1,6 +1,5 @@
 -- The five kinds of step, what each makes of the words and the views, and what it tells the pass that takes it.
-use Rattle.std.specs.Prelude.{◌≡◌, ℕ, ◌+◌, ◌<◌, ◌≤◌, ◌^◌, [], ◌∷◌, ◌++◌, false, if◌then◌else◌, nat_lt, min, length, slice_index, slice_set, Option, Some, None, Ok, ⊤}
-use Rattle.std.specs.List.{Contains}
+use Rattle.std.specs.Prelude.{◌≡◌, ℕ, ◌+◌, ◌<◌, ◌^◌, [], ◌∷◌, ◌++◌, false, if◌then◌else◌, nat_lt, min, slice_index, slice_set, Option, Some, None, Ok, ⊤}
 use mathlib.Core.Option.{some}
 use lib.ListN.{get_elem?}
 use Rattle.atomic_table.specs.Table.{State}
@@ -12,10 +11,9 @@ use Rattle.book_core.specs.declared.events.Answer.TheVariants.{Drawn, Ended, Rep
 use Rattle.book_core.specs.Passes.{Deeds, with_drawn, with_end, with_report, with_seen}
 use Rattle.book_core.specs.Books.{Book}
 use Rattle.book_core.specs.Steps.{step, pass_of}
-use Rattle.book_core.specs.Places.{IsAtMost}
 use Rattle.book_live.specs.declared.views.Sizes.{Sizes}
 use Rattle.book_live.specs.declared.views.View.{View}
-use Rattle.book_live.specs.Views.{alone, opening, changed, deeds_of, number_of, first_alone, without_first, together, spent}
+use Rattle.book_live.specs.Views.{alone, opening, changed, first_alone, without_first, together, spent}
 use Rattle.book_live.specs.Shown.{place_of, IsReached, Shows}
 
 -- ---- the steps that are an event of the machine
@@ -83,26 +81,6 @@ pub record IsOneStep (z : Sizes) (e : Event) (before : Deeds) (a : Answer) (afte
 abbrev pub claim_answer : Option ℕ → Answer
 claim_answer (Some job) = Drawn job
 claim_answer None = Ended
-
--- A claim that finds the number of a job draws it, and any other ends the pass.
--- The pass has drawn no more jobs than there were claims.
-pub record Claimed (before : View) (found : ℕ) (after : View) : Type 0 where
-  pub drawn : found < before.sizes.jobs → after ≡ changed before (λ p. with_drawn p found)
-  pub ended : before.sizes.jobs ≤ found → after ≡ changed before with_end
-  pub few : length (deeds_of before).drawn ≤ found
-  pub event : IsOneStep before.sizes (Claim (number_of before)) (deeds_of before) (answer_to before.sizes (Claim (number_of before)) found) (deeds_of after)
-
--- A report adds its place to those of the pass.
-pub record Placed (before : View) (place : ℕ) (after : View) : Type 0 where
-  pub added : after ≡ changed before (λ p. with_report p place)
-  pub event : IsOneStep before.sizes (Report (number_of before) place) (deeds_of before) Reported (deeds_of after)
-
--- A look records what it finds, which is not above what the pass saw or reported.
-pub record Looked (before : View) (found : ℕ) (after : View) : Type 0 where
-  pub recorded : after ≡ changed before (λ p. with_seen p (place_of found))
-  pub own : (place : ℕ) → Contains (deeds_of before).reported place → IsAtMost (place_of found) (Some place)
-  pub falls : IsAtMost (place_of found) (deeds_of before).seen
-  pub event : IsOneStep before.sizes (Look (number_of before)) (deeds_of before) (Least (place_of found)) (deeds_of after)
 
 -- ---- the steps that are none: they change no word
 

@@ -8,8 +8,10 @@ ghost use Rattle.book_core.specs.Passes.{Deeds, fresh, with_drawn, with_end, wit
 ghost use Rattle.book_core.specs.Places.{IsLeast, IsAtMost};
 ghost use Rattle.book_live.specs.Views.{view, alone, opening, without_first, first_alone, together};
 ghost use Rattle.book_live.specs.Shown.{place_of};
-ghost use Rattle.book_live.specs.Steps.{IsOneStep, claim_answer, Claimed, Placed, Looked};
-ghost use Rattle.book_live.specs.Callers.{ArePasses, all_deeds, IsEachDrawnOnce, IsOutcome, ShowsStart, numbered_passes, ShowsEnd, HoldsAll, IsWhole};
+ghost use Rattle.book_live.specs.Steps.{IsOneStep, claim_answer};
+ghost use Rattle.book_live.specs.SeatSteps.{Claimed, Placed, Looked};
+ghost use Rattle.book_live.specs.Callers.{ArePasses, all_deeds, IsEachDrawnOnce, IsOutcome, ShowsStart, numbered_passes, ShowsEnd};
+ghost use Rattle.book_live.specs.Closing.{HoldsAll, IsWhole};
 
 use crate::passes::Pass;
 use crate::rules::{BookSeat, Claims, LEAST, Looks, NEXT, NONE, Reports, Rule, Shares};

@@ -32,7 +32,7 @@ pub struct Claims;
 
 impl Play<(), View> for Claims {
     ghost use Rattle.std.specs.Prelude.{◌≡◌};
-    ghost use Rattle.book_live.specs.Steps.{Claimed};
+    ghost use Rattle.book_live.specs.SeatSteps.{Claimed};
 
     ghost then = { λ _ before found after. Claimed before.0 found after.0 × (after.1 ≡ before.1) };
 }
@@ -42,7 +42,7 @@ pub struct Reports;
 
 impl Play<(), View> for Reports {
     ghost use Rattle.std.specs.Prelude.{◌≡◌};
-    ghost use Rattle.book_live.specs.Steps.{Placed};
+    ghost use Rattle.book_live.specs.SeatSteps.{Placed};
 
     ghost then = { λ step before _ after. Placed before.0 step.first after.0 × (after.1 ≡ before.1) };
 }
@@ -52,7 +52,7 @@ pub struct Looks;
 
 impl Play<(), View> for Looks {
     ghost use Rattle.std.specs.Prelude.{◌≡◌};
-    ghost use Rattle.book_live.specs.Steps.{Looked};
+    ghost use Rattle.book_live.specs.SeatSteps.{Looked};
 
     ghost then = { λ _ before found after. Looked before.0 found after.0 × (after.1 ≡ before.1) };
 }

@@ -4,7 +4,8 @@ use Rattle.std.proofs.lemmas.Bool.{cases_eq, cases_lt}
 use Rattle.puz_board.specs.Boards.{IsBoardOf, at}
 use Rattle.log_file.specs.Logs.{IsSize, IsVersion, Log, most_lemmas}
 use Rattle.log_file.specs.LogFiles.{HasLemma, IsLogFile, count_in, front_lemma, head_length, header_length, side_in, signature, tree_length, version_in}
-use Rattle.log_file.specs.FormFaults.{AreFilled, HasHeader, IsFaultOf, behind_first, first_lemmas}
+use Rattle.log_file.specs.FormFaults.{AreFilled, HasHeader, IsFaultOf, behind_first}
+use Rattle.log_file.specs.FirstLemmas.{first_lemmas}
 use Rattle.log_file.specs.declared.faults.FormFault.{FormFault}
 use Rattle.log_file.specs.declared.faults.FormFault.TheVariants.{L1, L2, L3}
 use Rattle.log_file.proofs.FileLemmas.{IsLogFile-first}

@@ -6,7 +6,8 @@ use Rattle.puz_board.specs.Boards.{IsBoardOf}
 use Rattle.std.specs.List.{AllByRecursion}
 use Rattle.log_file.specs.Logs.{IsSize, IsVersion, Lemma, Log}
 use Rattle.log_file.specs.LogFiles.{AreLemmas, HasLemma, IsHeader, IsLogFile, count_in, front_lemma, header_length, side_in}
-use Rattle.log_file.specs.FormFaults.{AreBoards, AreFilled, HasHeader, IsFaultOf, IsFirstCut, IsFirstNoBoard, IsLeftOver, behind_first, first_lemmas}
+use Rattle.log_file.specs.FormFaults.{AreBoards, AreFilled, HasHeader, IsFaultOf, IsFirstCut, IsFirstNoBoard, IsLeftOver, behind_first}
+use Rattle.log_file.specs.FirstLemmas.{first_lemmas}
 use Rattle.log_file.specs.declared.faults.FormFault.{FormFault}
 use Rattle.log_file.specs.declared.faults.FormFault.TheVariants.{L1, L2, L3}
 use Rattle.log_file.specs.declared.faults.ViewFault.{ViewFault}

@@ -4,7 +4,8 @@ use Rattle.std.specs.List.{AllByRecursion}
 use Rattle.puz_board.specs.Boards.{IsBoardOf}
 use Rattle.log_file.specs.Logs.{Lemma}
 use Rattle.log_file.specs.LogFiles.{AreLemmas, behind, front_lemma}
-use Rattle.log_file.specs.FormFaults.{AreBoards, AreFilled, AreWhole, behind_first, first_lemmas}
+use Rattle.log_file.specs.FormFaults.{AreBoards, AreFilled, AreWhole, behind_first}
+use Rattle.log_file.specs.FirstLemmas.{first_lemmas}
 
 module _ (n : ℕ) where
   -- ---- one lemma more

@@ -1,7 +1,7 @@
 -- What keeps bytes from being a log file.
-use Rattle.std.specs.Prelude.{◌≡◌, ◌≢◌, ◌⊎◌, ℕ, zero, suc, ◌<◌, List, [], ◌∷◌, drop}
+use Rattle.std.specs.Prelude.{◌≡◌, ◌≢◌, ◌⊎◌, ℕ, zero, suc, ◌<◌, List, [], drop}
 use Rattle.puz_board.specs.Boards.{IsBoardOf}
-use Rattle.log_file.specs.Logs.{IsSize, IsVersion, Lemma}
+use Rattle.log_file.specs.Logs.{IsSize, IsVersion}
 use Rattle.log_file.specs.LogFiles.{HasLemma, IsHeader, behind, count_in, front_lemma, header_length, side_in, version_in}
 use Rattle.log_file.specs.declared.faults.FormFault.{FormFault}
 use Rattle.log_file.specs.declared.faults.FormFault.TheVariants.{L1, L2, L3}
@@ -16,11 +16,6 @@ pub record HasHeader (file : List ℕ) : Type 0 where
 abbrev pub behind_first : ℕ → ℕ → List ℕ → List ℕ
 behind_first n zero bytes = bytes
 behind_first n (suc i) bytes = behind_first n i (behind n bytes)
-
--- the first lemmas, so many of them
-abbrev pub first_lemmas : ℕ → ℕ → List ℕ → List Lemma
-first_lemmas n zero bytes = []
-first_lemmas n (suc i) bytes = front_lemma n bytes ∷ first_lemmas n i (behind n bytes)
 
 -- they aren't cut short
 abbrev pub AreWhole : ℕ → ℕ → List ℕ → Type 0

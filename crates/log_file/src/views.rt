@@ -2,7 +2,8 @@
 
 ghost use Rattle.std.specs.Prelude.{◌≡◌, ◌⊎◌, ◌<◌, ◌≤◌, ◌^◌, Err, IfOk, Ok, Some, length, map, slice_get};
 ghost use Rattle.puz_board.specs.Boards.{IsBoardOf};
-ghost use Rattle.log_file.specs.FormFaults.{AreBoards, AreFilled, IsFaultOf, first_lemmas};
+ghost use Rattle.log_file.specs.FormFaults.{AreBoards, AreFilled, IsFaultOf};
+ghost use Rattle.log_file.specs.FirstLemmas.{first_lemmas};
 ghost use Rattle.log_file.specs.LogFiles.{IsLogFile};
 ghost use Rattle.log_file.specs.Logs.{IsLog, IsVersion, Lemma, Log, most_lemmas};
 ghost use Rattle.log_file.specs.StoredLogs.{lemma_viewed};

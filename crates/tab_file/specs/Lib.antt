@@ -1,4 +1,6 @@
+-- What public contracts say.
 pub mod Tables
 pub mod TableFiles
 pub mod HeadFaults
+-- How values are stored.
 pub mod StoredTables

@@ -6,7 +6,8 @@ use lib.Lanes.{Each1, zip2, chunk, put_chunk}
 use Rattle.puz_board.specs.Masks.{IsMaskOf}
 use Rattle.puz_board.proofs.GrownLemmas.{grown_is, outside_column}
 use Rattle.puz_board.proofs.BitLemmas.{IsIn}
-use Rattle.tab_lanes.specs.Floods.{AllMayGrow, AreEntered, AreGrown, AreGrownBetween, IsAStepAway}
+use Rattle.tab_lanes.specs.Floods.{AllMayGrow, AreGrown, IsAStepAway}
+use Rattle.tab_lanes.specs.FloodSteps.{AreEntered, AreGrownBetween}
 use Rattle.tab_lanes.proofs.FlagLemmas.{AreLanes, lanes_given, splat, lane_by_lane}
 
 -- ---- one step in vectors

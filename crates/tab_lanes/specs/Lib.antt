@@ -1,4 +1,7 @@
-pub mod Columns
+-- What public contracts say.
 pub mod Counts
 pub mod Floods
 pub mod LocalRule
+-- What proofs alone need.
+pub mod Columns
+pub mod FloodSteps

@@ -1,7 +1,8 @@
 //! Masks of cells that grow over free cells, a mask a lane.
 
 ghost use Rattle.std.specs.Prelude.{ℕ, ◌+◌, ◌<◌, ◌≤◌, length, slice_index};
-ghost use Rattle.tab_lanes.specs.Floods.{AllMayGrow, AreEntered, AreGrown, AreGrownBetween, IsAStepAway, IsReached, MayGrowFrom};
+ghost use Rattle.tab_lanes.specs.Floods.{AllMayGrow, AreGrown, IsAStepAway, IsReached, MayGrowFrom};
+ghost use Rattle.tab_lanes.specs.FloodSteps.{AreEntered, AreGrownBetween};
 
 use puz_board::Side;
 use puz_board::masks::{first_column, last_column};

@@ -12,7 +12,8 @@ use Rattle.book_core.specs.Places.{IsReported, IsLeast, IsAtMost}
 use Rattle.book_live.specs.Callers.{BookId, PassState, ArePasses, all_deeds, IsEachDrawnOnce}
 use Rattle.book_live.proofs.CallerLemmas.{slice_get-all_deeds}
 use Rattle.work_run.specs.Faults.{IsLeastBad, IsFault}
-use Rattle.work_run.specs.Work.{IsAbove, IsWorked, IsDone, AreDone}
+use Rattle.work_run.specs.Work.{IsAbove, IsWorked, IsDone}
+use Rattle.work_run.specs.PassesAtWork.{AreDone}
 use Rattle.work_run.proofs.WorkLemmas.{IsAbove-falls}
 
 -- ---- the passes that come back

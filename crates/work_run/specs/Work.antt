@@ -1,8 +1,8 @@
 -- What a worker has done of its jobs.
-use Rattle.std.specs.Prelude.{◌≡◌, ℕ, ◌+◌, ◌<◌, ◌⊎◌, true, List, slice_get, Option, Some, None}
-use Rattle.std.specs.List.{Contains, AllZip}
-use Rattle.book_core.specs.Passes.{Deeds, fresh}
-use Rattle.book_live.specs.Callers.{BookId, PassState}
+use Rattle.std.specs.Prelude.{◌≡◌, ℕ, ◌+◌, ◌<◌, ◌⊎◌, true, Option, Some, None}
+use Rattle.std.specs.List.{Contains}
+use Rattle.book_core.specs.Passes.{Deeds}
+use Rattle.book_live.specs.Callers.{PassState}
 use Rattle.work_run.specs.Faults.{IsLeastBad}
 
 -- no place lies above none
@@ -27,11 +27,3 @@ pub record IsDone (bad : ℕ → Type 0) (begins : ℕ → ℕ) (jobs : ℕ) (be
   pub number : after.number ≡ before.number
   pub ended : after.deeds.ended ≡ true
   pub worked : IsWorked bad begins jobs after.deeds
-
--- the passes are of this book, and have done nothing
-abbrev pub AreNew : BookId → List PassState → Type 0
-AreNew book passes = (k : ℕ) (p : PassState) → slice_get passes k ≡ Some p → (p.book ≡ book) × (p.deeds ≡ fresh)
-
--- as many passes as before, in their order, each done
-abbrev pub AreDone : (ℕ → Type 0) → (ℕ → ℕ) → ℕ → List PassState → List PassState → Type 0
-AreDone bad begins jobs before after = AllZip (IsDone bad begins jobs) before after

@@ -2,7 +2,7 @@
 
 ghost use Rattle.std.specs.Prelude.{◌≡◌, ◌≤◌, IfOk, vec_capacity};
 ghost use Rattle.work_run.specs.Faults.{IsFault};
-ghost use Rattle.work_run.specs.Work.{AreDone, AreNew};
+ghost use Rattle.work_run.specs.PassesAtWork.{AreDone, AreNew};
 ghost use Rattle.work_run.specs.Workers.{AreWorkers};
 
 use crate::gates::Gate;

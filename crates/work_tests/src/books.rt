@@ -3,7 +3,7 @@
 ghost use Rattle.std.specs.Prelude.{◌≡◌, ◌<◌, ◌≤◌, ◌^◌, true, IfOk, IfSome};
 ghost use Rattle.book_core.specs.Books.{AreWorkers};
 ghost use Rattle.book_core.specs.Passes.{fresh};
-ghost use Rattle.book_live.specs.Callers.{IsNewPass};
+ghost use Rattle.book_live.specs.Closing.{IsNewPass};
 
 use book_live::{Book, Pass};
 use std::alloc::{AllocError, Global};

@@ -1,5 +1,6 @@
 use Rattle.std.proofs.Common.{◌≡◌, ◌≤◌, map, vec_capacity, vec_len}
-use Rattle.log_file.specs.FormFaults.{behind_first, first_lemmas}
+use Rattle.log_file.specs.FormFaults.{behind_first}
+use Rattle.log_file.specs.FirstLemmas.{first_lemmas}
 use Rattle.log_file.specs.StoredLogs.{lemma_viewed}
 use Rattle.log_file.proofs.views.lemmas_in.Given as goal
 

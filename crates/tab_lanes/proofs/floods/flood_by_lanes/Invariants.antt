@@ -1,5 +1,6 @@
 use Rattle.std.proofs.Common.{◌-◌, ◌≤◌, length}
-use Rattle.tab_lanes.specs.Floods.{AreGrownBetween, IsReached}
+use Rattle.tab_lanes.specs.Floods.{IsReached}
+use Rattle.tab_lanes.specs.FloodSteps.{AreGrownBetween}
 use Rattle.tab_lanes.proofs.floods.flood_by_lanes.Given as goal
 
 abbrev pub invariant-lanes : goal.invariant-lanes

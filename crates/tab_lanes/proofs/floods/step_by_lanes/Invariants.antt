@@ -1,5 +1,6 @@
 use Rattle.std.proofs.Common.{◌-◌, ◌≤◌, length}
-use Rattle.tab_lanes.specs.Floods.{AreGrownBetween, IsAStepAway}
+use Rattle.tab_lanes.specs.Floods.{IsAStepAway}
+use Rattle.tab_lanes.specs.FloodSteps.{AreGrownBetween}
 use Rattle.tab_lanes.proofs.floods.step_by_lanes.Given as goal
 
 abbrev pub invariant-lanes : goal.invariant-lanes

@@ -1,6 +1,7 @@
 use Rattle.std.proofs.Common.{◌≡◌, ◌∙◌, ap, sym, subst}
 use Rattle.std.proofs.lemmas.List.Elements.{AllZip-push}
-use Rattle.work_run.specs.Work.{IsDone, AreDone}
+use Rattle.work_run.specs.Work.{IsDone}
+use Rattle.work_run.specs.PassesAtWork.{AreDone}
 use Rattle.work_run.proofs.runs.+work_all.Goals as goal
 
 pub returns-clause-done : goal.returns-clause-done

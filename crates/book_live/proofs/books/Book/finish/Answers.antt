@@ -1,7 +1,7 @@
 use Rattle.std.proofs.Common.{◌≡◌, ◌∙◌, ap, subst, slice_index}
 use Rattle.atomic_table.specs.Table.{Seen}
 use Rattle.book_live.specs.Shown.{Shown}
-use Rattle.book_live.specs.Callers.{IsWhole}
+use Rattle.book_live.specs.Closing.{IsWhole}
 use Rattle.book_live.proofs.SeatMoves.{IsWhole-seen, slice_index-at}
 use Rattle.book_live.proofs.books.Book.finish.Goals as goal
 
