@@ -1,3 +1,4 @@
+pub mod EntryBytes
 pub mod Tables
 pub mod TableFiles
 pub mod HeadFaults
