@@ -5,7 +5,7 @@ use Rattle.std.proofs.lemmas.Bool.{cases_eq}
 use Rattle.std.proofs.lemmas.Option.{slice_get-get_or}
 use Rattle.puz_board.specs.Boards.{IsBoardOf, side_of}
 use Rattle.puz_board.proofs.BoardLemmas.{side_of-board}
-use Rattle.tab_check.proofs.ValueLemmas.{same_list_decided}
+use Rattle.tab_rule.proofs.ValueLemmas.{same_list_decided}
 use Rattle.set_sum.specs.Bundles.{BundleView, IsBundle}
 use Rattle.set_sum.proofs.AnswerLemmas.{all_get}
 use Rattle.log_file.specs.FormFaults as form

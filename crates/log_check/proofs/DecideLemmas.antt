@@ -10,7 +10,7 @@ use Rattle.puz_board.specs.declared.moves.Move.{Move}
 use Rattle.puz_board.proofs.BoardLemmas.{goal-is_goal, is_goal-goal}
 use Rattle.puz_board.proofs.MovedLemmas.{IsBoardOf-moved}
 use Rattle.pat_place.proofs.JoinLemmas.{Decided, both}
-use Rattle.tab_check.proofs.ValueLemmas.{same_list_decided}
+use Rattle.tab_rule.proofs.ValueLemmas.{same_list_decided}
 use Rattle.set_sum.specs.Bundles.{BundleView, IsBundle}
 use Rattle.set_sum.proofs.SayLemmas.{at_least_decided}
 use Rattle.log_file.specs.Logs.{IsLog, Lemma, Log}

@@ -4,7 +4,7 @@ ghost use Rattle.std.specs.Prelude.{◌≡◌, ◌<◌, ◌↔◌, IsTrue, lengt
 ghost use Rattle.puz_board.specs.Boards.{IsBoardOf};
 ghost use Rattle.set_sum.specs.Bundles.{SaysAtLeast};
 ghost use Rattle.set_sum.specs.Parity.{told_of};
-ghost use Rattle.tab_check.specs.declared.tables.Count.TheVariants.{Finite};
+ghost use Rattle.tab_rule.specs.declared.tables.Count.TheVariants.{Finite};
 ghost use Rattle.log_check.specs.GoodLogs.{IsGood};
 ghost use Rattle.log_check.specs.Nodes.{IsNode};
 ghost use Rattle.log_check.specs.Reached.{waiting_of};
@@ -16,7 +16,7 @@ use crate::walks::{Reached, behind_tree};
 use log_file::LogView;
 use puz_board::Board;
 use set_sum::{Bundle, Sums};
-use tab_check::Count;
+use tab_rule::Count;
 
 /// Whether a lemma of a log is good: its bytes spell one tree, which refutes that the lemma's board has a solution of fewer
 /// moves than the lemma's bound (Korf 1985).

@@ -10,7 +10,7 @@ use samples::files::{TILE_1, TILE_3, TILE_24, TILES_12, TILES_123, with_byte};
 use samples::logs::{BRANCHES, BY_PARITY, CITATION, LEAF, UNSOLVABLE};
 use set_sum::{Bundle, SetFault};
 use std::test::Fail;
-use tab_check::Count;
+use tab_rule::Count;
 
 /// The board 0 2 1 3, bound 5: a leaf.
 const NEVER: [u8; 20] = *b"PDBL\x01\x02\0\0\0\x01\0\x02\x01\x03\x05\0\0\0\x01\x01";

@@ -9,7 +9,7 @@ use std::process::Abort;
 use std::sync::Wait;
 use std::test::Fail;
 use std::thread::Threads;
-use tab_check::Count;
+use tab_rule::Count;
 
 /// Why files and a set text make no bundle; `None` where they make one.
 fn fault<R: Threads + Wait + AllocGlobal + Abort>(

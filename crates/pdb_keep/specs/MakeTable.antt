@@ -4,7 +4,7 @@
 use Rattle.std.specs.Prelude.{◌≡◌, ◌⊎◌, ⊤, ℕ, false, [], Some, None, Result, Ok, is_ok}
 use Rattle.puz_board.specs.Masks.{numbers_of}
 use Rattle.pat_place.specs.Patterns.{IsPattern}
-use Rattle.tab_check.specs.declared.census.Census.{Census}
+use Rattle.tab_rule.specs.declared.census.Census.{Census}
 use Rattle.pdb_io.specs.Shelf.{Bytes}
 use Rattle.pdb_run.specs.Commands.{Plan, Reply, plan_under}
 use Rattle.pdb_verdict.specs.Lines.{line_of, line_of_fault}

@@ -8,8 +8,8 @@ use Rattle.puz_board.specs.BoardTexts.{Spells}
 use Rattle.puz_board.specs.Masks.{numbers_of}
 use Rattle.puz_board.specs.MovesTexts.{Solves}
 use Rattle.tab_file.specs.Tables.{Table}
-use Rattle.tab_check.specs.ExactTables.{IsExactFile}
-use Rattle.tab_check.specs.declared.census.Census.{Census}
+use Rattle.tab_rule.specs.ExactTables.{IsExactFile}
+use Rattle.tab_rule.specs.declared.census.Census.{Census}
 use Rattle.set_sum.specs.Bounds.{IsBounded}
 use Rattle.pdb_io.specs.Shelf.{Bytes}
 use Rattle.pdb_verdict.specs.Bound.{IsProvedBound}

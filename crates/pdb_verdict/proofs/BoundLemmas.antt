@@ -6,10 +6,10 @@ use Rattle.puz_board.specs.BoardTexts.{board_of_text}
 use Rattle.puz_board.specs.declared.texts.BoardFault.{BoardFault}
 use Rattle.puz_board.proofs.SpellingLemmas.{board_of_text-spelled, spelled-board_of_text}
 use Rattle.tab_file.specs.Tables.{Table}
-use Rattle.tab_check.specs.TableFaults.{IsFaultOf}
-use Rattle.tab_check.specs.ExactTables.{IsExactFile}
-use Rattle.tab_check.specs.declared.tables.TableRefusal.{TableRefusal}
-use Rattle.tab_check.proofs.OneResultLemmas.{IsFaultOf-one, exact_one, exact_or_fault}
+use Rattle.tab_rule.specs.TableFaults.{IsTableFaultOf}
+use Rattle.tab_rule.specs.ExactTables.{IsExactFile}
+use Rattle.tab_rule.specs.declared.tables.TableRefusal.{TableRefusal}
+use Rattle.tab_rule.proofs.OneResultLemmas.{IsTableFaultOf-one, exact_one, exact_or_fault}
 use Rattle.set_sum.specs.Bounds.{IsBounded}
 use Rattle.set_sum.specs.Bundles.{BundleView}
 use Rattle.set_sum.specs.Reading as reading
@@ -55,7 +55,7 @@ tables_one (file ∷ files) (t ∷ ts) (u ∷ us) are also =
 
 -- none of the files of exact tables is refused
 exact_at : (files : List Bytes) (ts : List Table) (i : ℕ) (file : Bytes) (refused : TableRefusal) → AreExactFiles ts files → slice_get files i ≡ Some file
-    → ¬ IsFaultOf refused file
+    → ¬ IsTableFaultOf refused file
 exact_at [] ts i file refused are there stands = let e : _ = there in cc
 exact_at (f ∷ files) [] i file refused are there stands = are
 exact_at (f ∷ files) (t ∷ ts) zero file refused are there stands =
@@ -64,7 +64,7 @@ exact_at (f ∷ files) (t ∷ ts) (suc i) file refused are there stands = exact_
 
 -- nor is one that stands before the first of the others
 exact_before : (files : List Bytes) (ts : List Table) (i j : ℕ) (file : Bytes) (refused : TableRefusal) → i < j → AreExactFiles ts (take j files)
-    → slice_get files i ≡ Some file → ¬ IsFaultOf refused file
+    → slice_get files i ≡ Some file → ¬ IsTableFaultOf refused file
 exact_before [] ts i j file refused low are there stands = let e : _ = there in cc
 exact_before (f ∷ files) ts i zero file refused low are there stands = omega arith
 exact_before (f ∷ files) [] i (suc j) file refused low are there stands = are
@@ -80,7 +80,7 @@ module _ (fold : Bool) (board : List ℕ) (sets log : Bytes) (files : List Bytes
     | inl same ↦
         let there : Some is.file ≡ Some also.file = sym is.there ∙ ap (slice_get files) same ∙ also.there in
         let file : is.file ≡ also.file = cc in
-        let why : f.refusal ≡ g.refusal = IsFaultOf-one also.file f.refusal g.refusal (subst (IsFaultOf f.refusal) file is.fault) also.fault in
+        let why : f.refusal ≡ g.refusal = IsTableFaultOf-one also.file f.refusal g.refusal (subst (IsTableFaultOf f.refusal) file is.fault) also.fault in
         λ k. record { number = same k; refusal = why k }
     | inr rest ↦ elim rest [
       | inl low ↦ absurd (exact_before files also.tables f.number g.number is.file f.refusal low also.before is.there is.fault)

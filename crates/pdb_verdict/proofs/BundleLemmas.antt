@@ -7,7 +7,7 @@ use Rattle.std.proofs.lemmas.Option.{slice_get-get_or, slice_get-map, slice_get_
 use Rattle.std.specs.Option.{option_map}
 use Rattle.tab_file.specs.TableFiles.{IsTableFile}
 use Rattle.tab_file.specs.Tables.{Table}
-use Rattle.tab_check.specs.ExactTables.{IsExactFile}
+use Rattle.tab_rule.specs.ExactTables.{IsExactFile}
 use Rattle.set_sum.specs.Bundles.{BundleView}
 use Rattle.set_sum.specs.Parts.{IsExactPart}
 use Rattle.set_sum.specs.Reading.{IsBundleOf, IsFaultOf}

@@ -2,10 +2,10 @@
 use Rattle.std.proofs.Common.{ℕ, zero, suc, List, [], ◌∷◌, ◌++◌, add-one, append-nil, append_assoc, inl, inr, min, refl, subst, sym}
 use Rattle.std.proofs.lemmas.Bool.{cases_eq}
 use Rattle.tab_file.specs.Tables.{Table, placement_count}
-use Rattle.tab_check.specs.ExactTables.{IsExactTable}
-use Rattle.tab_check.specs.FoldedTables.{HasFoldedTable}
-use Rattle.tab_check.specs.LeastEntries.{IsLeastEntry}
-use Rattle.tab_check.proofs.FoldLemmas.{AreFoldedBelow, folded_all, folded_more, folded_none, least_more, least_none, part_of}
+use Rattle.tab_rule.specs.ExactTables.{IsExactTable}
+use Rattle.tab_rule.specs.FoldedTables.{HasFoldedTable}
+use Rattle.tab_rule.specs.LeastEntries.{IsLeastEntry}
+use Rattle.tab_rule.proofs.FoldLemmas.{AreFoldedBelow, folded_all, folded_more, folded_none, least_more, least_none, part_of}
 
 -- some entries have a least one
 least_of : (seen rest : List ℕ) (least : ℕ) → IsLeastEntry seen least → (m : ℕ) × IsLeastEntry (seen ++ rest) m

@@ -1,7 +1,7 @@
 -- Lines of several parts.
 use Rattle.std.proofs.Common.{◌≡◌, ℕ, List, ◌++◌, append_assoc, codes}
 use Rattle.std.specs.Prelude.{decimal}
-use Rattle.tab_check.specs.declared.census.Census.{Census}
+use Rattle.tab_rule.specs.declared.census.Census.{Census}
 use Rattle.pdb_verdict.specs.Lines.{exact_line}
 
 -- the parts of the line of an exact table

@@ -5,9 +5,9 @@ use Rattle.std.proofs.lemmas.List.{get_or-drop}
 use Rattle.byteorder.specs.Numbers.{big_from-lt}
 use Rattle.tab_file.specs.TableFiles.{mask_in}
 use Rattle.tab_file.specs.Tables.{Table}
-use Rattle.tab_check.specs.declared.census.Census.{Census}
-use Rattle.tab_check.specs.declared.tables.TableRefusal.{TableRefusal}
-use Rattle.tab_check.proofs.AnswerLemmas.{census_some, file_answer}
+use Rattle.tab_rule.specs.declared.census.Census.{Census}
+use Rattle.tab_rule.specs.declared.tables.TableRefusal.{TableRefusal}
+use Rattle.tab_rule.proofs.AnswerLemmas.{census_some, file_answer}
 use Rattle.set_sum.proofs.BundleLemmas.{is_bundle}
 use Rattle.set_sum.proofs.DecidedLemmas.{bundle_answer}
 use Rattle.log_check.proofs.AnswerLemmas.{check_answer}

@@ -1,13 +1,13 @@
 -- A table file has one result.
 use Rattle.std.proofs.Common.{◌≡◌, ◌∙◌, ℕ, List, Result, Ok, Err, ap, inl, inr, refl, sym, subst}
 use Rattle.pat_place.proofs.MaskLemmas.{numbers_of-one}
-use Rattle.tab_check.specs.Counts.{IsCensusOf}
-use Rattle.tab_check.specs.TableFaults.{IsCauseOf}
-use Rattle.tab_check.specs.declared.census.Census.{Census}
-use Rattle.tab_check.specs.declared.tables.TableFault.{TableFault}
-use Rattle.tab_check.specs.declared.tables.TableFault.TheVariants.{Memory, Refused}
-use Rattle.tab_check.specs.declared.tables.TableRefusal.{TableRefusal}
-use Rattle.tab_check.proofs.OneResultLemmas.{IsCensusOf-one, IsFaultOf-one, exact_one, exact_or_fault}
+use Rattle.tab_rule.specs.Counts.{IsCensusOf}
+use Rattle.tab_rule.specs.TableFaults.{IsTableCauseOf}
+use Rattle.tab_rule.specs.declared.census.Census.{Census}
+use Rattle.tab_rule.specs.declared.tables.TableFault.{TableFault}
+use Rattle.tab_rule.specs.declared.tables.TableFault.TheVariants.{Memory, Refused}
+use Rattle.tab_rule.specs.declared.tables.TableRefusal.{TableRefusal}
+use Rattle.tab_rule.proofs.OneResultLemmas.{IsCensusOf-one, IsTableFaultOf-one, exact_one, exact_or_fault}
 use Rattle.pdb_io.specs.Shelf.{Bytes}
 use Rattle.pdb_verdict.specs.Inputs.{table_file}
 use Rattle.pdb_verdict.specs.Table.{IsExactFor, IsTableResult, of_table}
@@ -39,9 +39,9 @@ module _ (file : List ℕ) where
       λ i. Ok (side i, mask i, census i)
   IsTableResult-one (Ok e) (Err refused) is also = absurd (exact_or_fault file is.table refused is.exact also)
   IsTableResult-one (Err refused) (Ok f) is also = absurd (exact_or_fault file also.table refused also.exact is)
-  IsTableResult-one (Err refused) (Err other) is also = ap (λ r. Err r) (IsFaultOf-one file refused other is also)
+  IsTableResult-one (Err refused) (Err other) is also = ap (λ r. Err r) (IsTableFaultOf-one file refused other is also)
 
 -- a refusal is the result, and want of memory is taken
-pub table_refused : (file : Bytes) (cause : TableFault) → IsCauseOf cause file → IsAnswerTo (table_file file) (Err (of_table cause))
+pub table_refused : (file : Bytes) (cause : TableFault) → IsTableCauseOf cause file → IsAnswerTo (table_file file) (Err (of_table cause))
 table_refused file (Refused refused) is = inl (Err refused, is, refl)
 table_refused file Memory is = inr (is, refl)

@@ -2,10 +2,10 @@
 use Rattle.std.proofs.Common.{◌≡◌, ◌∙◌, ℕ, Bool, true, false, Result, Ok, Err, ap, sym}
 use Rattle.std.specs.Prelude.{is_ok}
 use Rattle.tab_file.specs.Tables.{Table}
-use Rattle.tab_check.specs.ExactTables.{IsExactFile}
-use Rattle.tab_check.specs.declared.census.Census.{Census}
-use Rattle.tab_check.specs.declared.tables.TableRefusal.{TableRefusal}
-use Rattle.tab_check.proofs.OneResultLemmas.{exact_or_fault}
+use Rattle.tab_rule.specs.ExactTables.{IsExactFile}
+use Rattle.tab_rule.specs.declared.census.Census.{Census}
+use Rattle.tab_rule.specs.declared.tables.TableRefusal.{TableRefusal}
+use Rattle.tab_rule.proofs.OneResultLemmas.{exact_or_fault}
 use Rattle.pdb_io.specs.Shelf.{Bytes}
 use Rattle.pdb_run.specs.Commands.{Reply}
 use Rattle.pdb_verdict.specs.Inputs.{Given, table_file}

@@ -2,9 +2,9 @@
 use Rattle.std.specs.Prelude.{◌≡◌, ⊤, ℕ, Bool, true, false, List, [], ◌∷◌, Some, map, slice_get, take}
 use Rattle.tab_file.specs.TableFiles.{IsTableFile}
 use Rattle.tab_file.specs.Tables.{Table}
-use Rattle.tab_check.specs.ExactTables.{IsExactFile}
-use Rattle.tab_check.specs.TableFaults as table_fault
-use Rattle.tab_check.specs.declared.tables.TableRefusal.{TableRefusal}
+use Rattle.tab_rule.specs.ExactTables.{IsExactFile}
+use Rattle.tab_rule.specs.TableFaults as table_fault
+use Rattle.tab_rule.specs.declared.tables.TableRefusal.{TableRefusal}
 use Rattle.set_sum.specs.Bundles.{BundleView}
 use Rattle.set_sum.specs.Reading as reading
 use Rattle.set_sum.specs.declared.faults.SetFault.{SetFault}
@@ -44,7 +44,7 @@ pub record IsBundleOfFiles (fold : Bool) (files : List Bytes) (sets : Bytes) (bu
 pub record IsFirstRefused (files : List Bytes) (number : ℕ) (refused : TableRefusal) : Type 0 where
   pub file : Bytes
   pub there : slice_get files number ≡ Some file
-  pub fault : table_fault.IsFaultOf refused file
+  pub fault : table_fault.IsTableFaultOf refused file
   pub tables : List Table
   pub before : AreExactFiles tables (take number files)
 

@@ -6,9 +6,9 @@ use Rattle.puz_board.specs.declared.texts.BoardFault.{BoardFault}
 use Rattle.puz_board.specs.declared.texts.BoardFault.TheVariants.{B1, B2, B3, B4, B5}
 use Rattle.tab_file.specs.declared.headers.HeadFault.{HeadFault}
 use Rattle.tab_file.specs.declared.headers.HeadFault.TheVariants.{T1, T2, T3, T4, T5, T6}
-use Rattle.tab_check.specs.declared.census.Census.{Census}
-use Rattle.tab_check.specs.declared.tables.TableRefusal.{TableRefusal}
-use Rattle.tab_check.specs.declared.tables.TableRefusal.TheVariants.{Head, T7}
+use Rattle.tab_rule.specs.declared.census.Census.{Census}
+use Rattle.tab_rule.specs.declared.tables.TableRefusal.{TableRefusal}
+use Rattle.tab_rule.specs.declared.tables.TableRefusal.TheVariants.{Head, T7}
 use Rattle.set_sum.specs.declared.faults.SetFault.{SetFault}
 use Rattle.set_sum.specs.declared.faults.SetFault.TheVariants.{S1, S2, S3, S4, S5, S6}
 use Rattle.log_file.specs.declared.faults.FormFault.{FormFault}

@@ -2,8 +2,8 @@
 use Rattle.std.specs.Prelude.{◌≡◌, ℕ, Bool, true, List, [], ◌∷◌, ◌++◌, Result, Ok, Err}
 use Rattle.tab_file.specs.TableFiles.{IsTableFile}
 use Rattle.tab_file.specs.Tables.{Table}
-use Rattle.tab_check.specs.ExactTables.{IsExactFile}
-use Rattle.tab_check.specs.TableFaults.{IsFaultOf}
+use Rattle.tab_rule.specs.ExactTables.{IsExactFile}
+use Rattle.tab_rule.specs.TableFaults.{IsTableFaultOf}
 use Rattle.set_sum.specs.Bundles.{BundleView}
 use Rattle.set_sum.specs.declared.parts.Part.{Part}
 use Rattle.log_check.specs.GoodLogs.{IsGoodFile}
@@ -43,7 +43,7 @@ pub record ArePartsOf (fold : Bool) (files : List Bytes) (parts : List Part) : T
 
 -- why there isn't the table of the file with this number: it is refused, or want of memory, which comes of table files alone
 abbrev pub IsCauseAt : ℕ → Bytes → Failure FileRefusal → Type 0
-IsCauseAt number file (Refused refused) = (refused.number ≡ number) × IsFaultOf refused.refusal file
+IsCauseAt number file (Refused refused) = (refused.number ≡ number) × IsTableFaultOf refused.refusal file
 IsCauseAt number file Memory = (table : Table) × IsTableFile table file
 
 -- why there aren't the tables of all files: the first that is refused, or want of memory

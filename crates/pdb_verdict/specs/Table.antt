@@ -3,13 +3,13 @@ use Rattle.std.specs.Prelude.{◌≡◌, ℕ, ◌<◌, ◌^◌, List, [], ◌∷
 use Rattle.puz_board.specs.Masks.{numbers_of}
 use Rattle.tab_file.specs.TableFiles.{IsTableFile}
 use Rattle.tab_file.specs.Tables.{Table}
-use Rattle.tab_check.specs.Counts.{IsCensusOf}
-use Rattle.tab_check.specs.ExactTables.{IsExactFile}
-use Rattle.tab_check.specs.TableFaults.{IsFaultOf}
-use Rattle.tab_check.specs.declared.census.Census.{Census}
-use Rattle.tab_check.specs.declared.tables.TableFault.{TableFault}
-use Rattle.tab_check.specs.declared.tables.TableFault.TheVariants.{Memory, Refused}
-use Rattle.tab_check.specs.declared.tables.TableRefusal.{TableRefusal}
+use Rattle.tab_rule.specs.Counts.{IsCensusOf}
+use Rattle.tab_rule.specs.ExactTables.{IsExactFile}
+use Rattle.tab_rule.specs.TableFaults.{IsTableFaultOf}
+use Rattle.tab_rule.specs.declared.census.Census.{Census}
+use Rattle.tab_rule.specs.declared.tables.TableFault.{TableFault}
+use Rattle.tab_rule.specs.declared.tables.TableFault.TheVariants.{Memory, Refused}
+use Rattle.tab_rule.specs.declared.tables.TableRefusal.{TableRefusal}
 use Rattle.pdb_io.specs.Shelf.{Bytes}
 use Rattle.pdb_run.specs.Commands.{Plan, Reply, Wanted, plan}
 use Rattle.pdb_verdict.specs.Inputs.{table_file}
@@ -37,7 +37,7 @@ pub record IsExactFor (file : Bytes) (side mask : ℕ) (census : Census) : Type 
 -- the result on the table file: a side, a mask and a census, or why it is refused
 abbrev pub IsTableResult : Bytes → Result (ℕ × ℕ × Census) TableRefusal → Type 0
 IsTableResult file (Ok found) = IsExactFor file found.0 found.1 found.2
-IsTableResult file (Err refused) = IsFaultOf refused file
+IsTableResult file (Err refused) = IsTableFaultOf refused file
 
 -- the three, as a verdict
 abbrev pub exact_verdict : ℕ × ℕ × Census → Verdict

@@ -1,8 +1,8 @@
 //! Bundles of table files and a set text.
 
 ghost use Rattle.std.specs.Prelude.{◌≡◌, Bool, List, true, IfErr, IfOk};
-ghost use Rattle.tab_check.specs.ExactTables.{IsExactFile};
-ghost use Rattle.tab_check.specs.TableFaults.{IsCauseOf};
+ghost use Rattle.tab_rule.specs.ExactTables.{IsExactFile};
+ghost use Rattle.tab_rule.specs.TableFaults.{IsTableCauseOf};
 ghost use Rattle.set_sum.specs.declared.parts.Part.TheVariants.{Folded};
 ghost use Rattle.pdb_io.specs.Shelf.{Bytes};
 ghost use Rattle.pdb_run.specs.Answers.{all_bytes};
@@ -15,8 +15,8 @@ use set_sum::{Bundle, Part};
 use std::alloc::Global;
 use std::sync::Wait;
 use std::thread::Threads;
-use tab_check::{CheckedTable, FoldedTable, TableFault, fold};
-use tab_runs::check_table;
+use tab_check::check_table;
+use tab_rule::{CheckedTable, FoldedTable, TableFault, fold};
 use work_run::Gate;
 
 /// The tables of a bundle: their files, and whether each is folded once it is checked.
@@ -94,7 +94,7 @@ fn part_of<'a, H: Threads + Wait, G: Gate + Sync>(
     workers: &Workers<'_, H, G>,
 ) -> Result<Part<'a>, TableFault>
     ensures ok { IfOk result (IsPartOf fold file.now) }
-    ensures err { IfErr result (λ fault. IsCauseOf fault file.now) }
+    ensures err { IfErr result (λ fault. IsTableCauseOf fault file.now) }
 {
     if fold {
         let folded = fold_file(alloc, file, workers)?;
@@ -111,7 +111,7 @@ pub(crate) fn fold_file<H: Threads + Wait, G: Gate + Sync>(
     workers: &Workers<'_, H, G>,
 ) -> Result<FoldedTable, TableFault>
     ensures ok { IfOk result (λ folded. IsPartOf true file.now (Folded folded)) }
-    ensures err { IfErr result (λ fault. IsCauseOf fault file.now) }
+    ensures err { IfErr result (λ fault. IsTableCauseOf fault file.now) }
 {
     let table = check_file(alloc, file, workers)?;
     match fold(alloc, &table) {
@@ -127,14 +127,14 @@ pub(crate) fn check_file<'a, H: Threads + Wait, G: Gate + Sync>(
     workers: &Workers<'_, H, G>,
 ) -> Result<CheckedTable<'a>, TableFault>
     ensures ok { IfOk result (λ table. IsExactFile table file.now) }
-    ensures err { IfErr result (λ fault. IsCauseOf fault file.now) }
+    ensures err { IfErr result (λ fault. IsTableCauseOf fault file.now) }
 {
     check_table(workers.rt, alloc, file, workers.count, workers.gate)
 }
 
 /// Why there aren't the parts for all files, where there isn't that for the file with this number.
 pub(crate) fn failure_at(number: usize, fault: TableFault) -> Failure<FileRefusal>
-    ensures { (file : Bytes) → IsCauseOf fault file → IsCauseAt number file result }
+    ensures { (file : Bytes) → IsTableCauseOf fault file → IsCauseAt number file result }
 {
     match fault {
         TableFault::Refused(refusal) => Failure::Refused(FileRefusal { number, refusal }),

@@ -1,7 +1,7 @@
 //! Bundles of folded tables, where the bytes of each table are given up in turn.
 
 ghost use Rattle.std.specs.Prelude.{◌≡◌, ◌≤◌, ◌+◌, ◌++◌, true, length, IfErr, IfOk, MatchResult};
-ghost use Rattle.tab_check.specs.TableFaults.{IsCauseOf};
+ghost use Rattle.tab_rule.specs.TableFaults.{IsTableCauseOf};
 ghost use Rattle.set_sum.specs.declared.parts.Part.TheVariants.{Folded};
 ghost use Rattle.pdb_run.specs.Answers.{all_bytes};
 ghost use Rattle.pdb_run.specs.Writing.{digest_line, digests_of};
@@ -16,7 +16,7 @@ use set_sum::{Bundle, Part};
 use std::alloc::Global;
 use std::sync::Wait;
 use std::thread::Threads;
-use tab_check::{FoldedTable, TableFault};
+use tab_rule::{FoldedTable, TableFault};
 use work_run::Gate;
 
 /// The bundle of the folded tables of files and a set text, and the digest lines of the files. The bytes of each file are
@@ -102,11 +102,11 @@ fn fold_beside<H: Threads + Wait + Sync, G: Gate + Sync>(
     ensures line { digests.new.items ≡ digests.old.items ++ digest_line file.now }
     ensures length { length digests.new.items ≡ length digests.old.items + DIGEST_LEN }
     ensures ok { IfOk result (λ folded. IsPartOf true file.now (Folded folded)) }
-    ensures err { IfErr result (λ fault. IsCauseOf fault file.now) }
+    ensures err { IfErr result (λ fault. IsTableCauseOf fault file.now) }
 {
     let check = || -> Result<FoldedTable, TableFault>
         ensures ok { IfOk result (λ folded. IsPartOf true file.entry.now (Folded folded)) }
-        ensures err { IfErr result (λ fault. IsCauseOf fault file.entry.now) }
+        ensures err { IfErr result (λ fault. IsTableCauseOf fault file.entry.now) }
     { fold_file(alloc, file, workers) };
     with_digest(workers.rt, workers.count, digests, file, check)
 }

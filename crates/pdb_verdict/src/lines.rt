@@ -10,8 +10,8 @@ use log_file::FormFault;
 use pdb_run::{Lines, NO_MEMORY, lines};
 use puz_board::{BoardFault, MoveFault, Side};
 use set_sum::SetFault;
-use tab_check::{Census, TableRefusal};
 use tab_file::HeadFault;
+use tab_rule::{Census, TableRefusal};
 
 /// The most bytes of a text before a number: two such texts with their numbers fit into lines.
 const MOST_TEXT: usize = 40;

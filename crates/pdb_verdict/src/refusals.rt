@@ -10,7 +10,7 @@ use crate::verdicts::{Fault, MakeRefusal, Verdict};
 use log_check::LogRefusal;
 use puz_board::{BoardFault, MoveFault};
 use set_sum::SetFault;
-use tab_check::TableRefusal;
+use tab_rule::TableRefusal;
 
 /// Why a check or a maker comes to nothing.
 #[derive(Clone, Copy, Debug, PartialEq, Eq)]

@@ -19,7 +19,7 @@ use std::alloc::{AllocError, Global};
 use std::io::{Read, Write};
 use std::sync::Wait;
 use std::thread::Threads;
-use tab_check::TableFault;
+use tab_rule::TableFault;
 use work_run::Gate;
 
 /// The command `table`: the verdict on the table file under this name.

@@ -18,7 +18,7 @@ use set_sum::SetFault;
 use std::alloc::Global;
 use std::sync::Wait;
 use std::thread::Threads;
-use tab_check::{Census, TableRefusal};
+use tab_rule::{Census, TableRefusal};
 use thiserror::Error;
 use work_run::Gate;
 

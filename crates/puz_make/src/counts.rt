@@ -13,7 +13,7 @@ use crate::turns::{ORDERS_OF_WORD, add, take_order};
 use rayon::prelude::*;
 use std::alloc::{AllocError, Global};
 use std::thread::Threads;
-use tab_lanes::{GREATEST_COUNT, NO_WAY_HOME};
+use tab_file::{GREATEST_COUNT, NO_WAY_HOME};
 
 /// How many orders the shapes of one piece of the work have together.
 const PIECE: usize = 32768;

@@ -1,9 +1,9 @@
 //! What the bytes of a table say, and where they stand.
 
 ghost use Rattle.std.specs.Prelude.{◌≡◌, ◌≤◌, ◌↔◌, IsSome, IfSome};
-ghost use Rattle.tab_lanes.specs.LocalRule.{greatest_count};
+ghost use Rattle.tab_file.specs.EntryBytes.{greatest_count};
 
-use tab_lanes::GREATEST_COUNT;
+use tab_file::GREATEST_COUNT;
 
 /// How many tiles a pattern has at most.
 pub(crate) const MOST_TILES: usize = 8;

@@ -5,7 +5,7 @@ use crate::grids::{Grid, mask_of};
 use crate::slots::{CELLS, Slots};
 use puz_board::Board;
 use set_sum::{Member, Part};
-use tab_lanes::{NO_REGION, NO_WAY_HOME};
+use tab_file::{NO_REGION, NO_WAY_HOME};
 
 /// A tile that goes from one cell to another, where the blank was.
 #[derive(Clone, Copy)]

@@ -9,7 +9,7 @@ use crate::slots::{CELLS, Slots};
 use puz_board::{Board, Side, transposed_cell};
 use set_sum::{Bundle, MOST_MEMBERS, Member};
 use std::alloc::{AllocError, Global};
-use tab_lanes::NO_WAY_HOME;
+use tab_file::NO_WAY_HOME;
 
 /// For each place its entry of a board.
 pub(crate) type Entries = [u8; MOST_MEMBERS];

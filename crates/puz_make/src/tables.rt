@@ -13,8 +13,7 @@ use pat_place::Pattern;
 use rayon::prelude::*;
 use std::alloc::{AllocError, Global};
 use std::thread::Threads;
-use tab_file::{HEADER_LEN, header_of};
-use tab_lanes::NO_REGION;
+use tab_file::{HEADER_LEN, NO_REGION, header_of};
 
 /// How many runs are filled in at once.
 const RUNS: usize = 512;

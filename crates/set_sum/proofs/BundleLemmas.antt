@@ -7,7 +7,7 @@ use Rattle.std.specs.List.{AllByRecursion}
 use Rattle.arrayvec.specs.ArrayVec.{ArrayVec}
 use Rattle.puz_board.specs.Boards.{IsBoardOf}
 use Rattle.pat_place.specs.Patterns.{IsPattern}
-use Rattle.tab_check.specs.declared.tables.Count.{Count}
+use Rattle.tab_rule.specs.declared.tables.Count.{Count}
 use Rattle.set_sum.specs.Bundles.{BundleView, IsBundle, IsSetOf, TellsOfAll, most_tables}
 use Rattle.set_sum.specs.Members.{board_for, patterns_of_set, table_of}
 use Rattle.set_sum.specs.ReadLines.{AreSetsOf}

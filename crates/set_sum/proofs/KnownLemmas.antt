@@ -15,7 +15,7 @@ use Rattle.puz_board.proofs.BoardWays.{Adjacent-apart}
 use Rattle.puz_board.proofs.CellLemmas.{step_of-inside}
 use Rattle.pat_place.specs.Patterns.{IsPattern}
 use Rattle.pat_place.proofs.MaskLemmas.{in_numbers_below}
-use Rattle.tab_check.specs.Counts.{AreCellsOf}
+use Rattle.tab_rule.specs.Counts.{AreCellsOf}
 use Rattle.set_sum.specs.Bundles.{BundleView}
 use Rattle.set_sum.specs.Members.{MemberSays, table_of, table_pattern}
 use Rattle.set_sum.specs.Parts.{PartView, no_part, part_pattern, part_shown}

@@ -9,8 +9,8 @@ use Rattle.puz_board.specs.Transposing.{transposed, transposed_tiles}
 use Rattle.puz_board.proofs.BoardLemmas.{side_of-board}
 use Rattle.puz_board.proofs.TransposeLemmas.{IsBoardOf-transposed}
 use Rattle.pat_place.proofs.TransposedLemmas.{IsPattern-transposed}
-use Rattle.tab_check.specs.declared.tables.Count.{Count}
-use Rattle.tab_check.specs.declared.tables.Count.TheVariants.{Finite, Never}
+use Rattle.tab_rule.specs.declared.tables.Count.{Count}
+use Rattle.tab_rule.specs.declared.tables.Count.TheVariants.{Finite, Never}
 use Rattle.set_sum.specs.Members.{MemberSays, board_for, own_part, pattern_of, table_of, table_pattern}
 use Rattle.set_sum.specs.Parts.{PartSays, PartView}
 use Rattle.set_sum.specs.declared.members.Member.{Member}

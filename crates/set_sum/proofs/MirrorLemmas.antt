@@ -5,7 +5,7 @@ use Rattle.puz_board.specs.Boards.{IsBoardOf, cell_of}
 use Rattle.puz_board.specs.Transposing.{transposed, transposed_cell}
 use Rattle.puz_board.proofs.BoardLemmas.{cell_of-below}
 use Rattle.puz_board.proofs.TransposeLemmas.{IsBoardOf-transposed, cell_below, cell_of-transposed, cell_twice}
-use Rattle.tab_check.specs.Counts.{AreCellsOf}
+use Rattle.tab_rule.specs.Counts.{AreCellsOf}
 use Rattle.set_sum.specs.Members.{board_for}
 use Rattle.set_sum.specs.declared.members.Member.{Member}
 

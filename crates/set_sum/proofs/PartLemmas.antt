@@ -7,12 +7,12 @@ use Rattle.puz_board.specs.Costs.{LeadsHome, cost}
 use Rattle.puz_board.specs.Transposing.{transposed, transposed_tiles}
 use Rattle.puz_board.proofs.TransposeLemmas.{least_costs, nevers}
 use Rattle.pat_place.specs.Patterns.{IsPattern}
-use Rattle.tab_check.specs.Counts.{IsCountOf}
-use Rattle.tab_check.specs.FoldedTables.{IsFoldedCountOf}
-use Rattle.tab_check.specs.declared.tables.Count.{Count}
-use Rattle.tab_check.specs.declared.tables.Count.TheVariants.{Finite, Never}
-use Rattle.tab_check.proofs.FoldLemmas.{folded_some}
-use Rattle.tab_check.proofs.LookLemmas.{count_some}
+use Rattle.tab_rule.specs.Counts.{IsCountOf}
+use Rattle.tab_rule.specs.FoldedTables.{IsFoldedCountOf}
+use Rattle.tab_rule.specs.declared.tables.Count.{Count}
+use Rattle.tab_rule.specs.declared.tables.Count.TheVariants.{Finite, Never}
+use Rattle.tab_rule.proofs.FoldLemmas.{folded_some}
+use Rattle.tab_rule.proofs.LookLemmas.{count_some}
 use Rattle.set_sum.specs.Parts.{IsExactPart, PartSays, PartView, part_pattern, part_shown}
 use Rattle.set_sum.specs.declared.parts.Part.{Part}
 use Rattle.set_sum.specs.declared.parts.Part.TheVariants.{Folded, Full}

@@ -2,8 +2,8 @@
 use Rattle.std.proofs.Common.{◌≡◌, Bool, ℕ, ◌<◌, ◌≤◌, ◌⊎◌, List, [], length, inl, inr, subst, arith}
 use Rattle.std.proofs.lemmas.Bool.{cases_lt}
 use Rattle.puz_board.specs.Boards.{IsBoardOf}
-use Rattle.tab_check.specs.declared.tables.Count.{Count}
-use Rattle.tab_check.specs.declared.tables.Count.TheVariants.{Finite, Never}
+use Rattle.tab_rule.specs.declared.tables.Count.{Count}
+use Rattle.tab_rule.specs.declared.tables.Count.TheVariants.{Finite, Never}
 use Rattle.set_sum.specs.Bounds.{BoundsSolutions, IsBounded, Reaches}
 use Rattle.set_sum.specs.Bundles.{BundleView, IsBundle, IsSetOf, Says, SaysAtLeast, set_of}
 use Rattle.set_sum.specs.Parity.{told_of}

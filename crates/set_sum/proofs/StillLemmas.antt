@@ -16,10 +16,10 @@ use Rattle.puz_board.proofs.MovedLemmas.{moved-reverse_of}
 use Rattle.puz_board.proofs.TransposeLemmas.{Adjacent-transposed, IsBoardOf-transposed, at-transposed, blank-transposed, cell_below, cell_twice, slid-transposed}
 use Rattle.pat_place.specs.Placements.{placement_of}
 use Rattle.pat_place.proofs.SlideLemmas.{AreTiles, placement_of-slid_other}
-use Rattle.tab_check.specs.Counts.{IsCountOf}
-use Rattle.tab_check.specs.FoldedTables.{IsFoldedCost, IsFoldedCountOf, IsFoldedNever}
-use Rattle.tab_check.specs.declared.tables.Count.{Count}
-use Rattle.tab_check.specs.declared.tables.Count.TheVariants.{Finite, Never}
+use Rattle.tab_rule.specs.Counts.{IsCountOf}
+use Rattle.tab_rule.specs.FoldedTables.{IsFoldedCost, IsFoldedCountOf, IsFoldedNever}
+use Rattle.tab_rule.specs.declared.tables.Count.{Count}
+use Rattle.tab_rule.specs.declared.tables.Count.TheVariants.{Finite, Never}
 use Rattle.set_sum.specs.Members.{MemberSays, table_of, table_pattern}
 use Rattle.set_sum.specs.Parts.{PartSays, PartView}
 use Rattle.set_sum.specs.StoredSums.{has_tile}

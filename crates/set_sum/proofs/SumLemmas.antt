@@ -5,8 +5,8 @@ use Rattle.std.specs.List.{AllByRecursion}
 use Rattle.puz_board.specs.Boards.{IsBoardOf}
 use Rattle.puz_board.specs.Costs.{cost}
 use Rattle.puz_board.specs.Paths.{IsSolution}
-use Rattle.tab_check.specs.declared.tables.Count.{Count}
-use Rattle.tab_check.specs.declared.tables.Count.TheVariants.{Finite, Never}
+use Rattle.tab_rule.specs.declared.tables.Count.{Count}
+use Rattle.tab_rule.specs.declared.tables.Count.TheVariants.{Finite, Never}
 use Rattle.set_sum.specs.Bounds.{BoundsSolutions}
 use Rattle.set_sum.specs.Bundles.{IsSetOf}
 use Rattle.set_sum.specs.Members.{MemberSays, pattern_of, patterns_of_set, table_pattern}

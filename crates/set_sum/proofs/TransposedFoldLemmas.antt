@@ -10,9 +10,9 @@ use Rattle.puz_board.proofs.BoardLemmas.{side_of-board}
 use Rattle.puz_board.proofs.HasLemmas.{has-here, has-later, has_cases, has_from_all}
 use Rattle.puz_board.proofs.TransposeLemmas.{AreInside, AreTransposed, IsBoardOf-transposed, cell_below, cell_of-transposed, cell_twice, cost-transposed, leads-transposed, least_costs, transposed-twice, transposed_tiles-are, transposed_tiles-inside}
 use Rattle.pat_place.specs.Placements.{placement_of}
-use Rattle.tab_check.specs.FoldedTables.{IsFoldedCost, IsFoldedCountOf, IsFoldedNever}
-use Rattle.tab_check.specs.declared.tables.Count.{Count}
-use Rattle.tab_check.specs.declared.tables.Count.TheVariants.{Finite, Never}
+use Rattle.tab_rule.specs.FoldedTables.{IsFoldedCost, IsFoldedCountOf, IsFoldedNever}
+use Rattle.tab_rule.specs.declared.tables.Count.{Count}
+use Rattle.tab_rule.specs.declared.tables.Count.TheVariants.{Finite, Never}
 use Rattle.set_sum.proofs.NumeralLemmas.{head_is, tail_is}
 
 -- ---- boards that have tiles in the same cells

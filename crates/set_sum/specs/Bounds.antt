@@ -1,8 +1,8 @@
 -- Lower bounds of solutions.
 use Rattle.std.specs.Prelude.{ℕ, ◌≤◌, List, length, ⊤}
 use Rattle.puz_board.specs.Paths.{IsSolution}
-use Rattle.tab_check.specs.declared.tables.Count.{Count}
-use Rattle.tab_check.specs.declared.tables.Count.TheVariants.{Finite, Never}
+use Rattle.tab_rule.specs.declared.tables.Count.{Count}
+use Rattle.tab_rule.specs.declared.tables.Count.TheVariants.{Finite, Never}
 
 -- no solution of the board has fewer than r steps
 abbrev pub IsBounded : List ℕ → ℕ → Type 0

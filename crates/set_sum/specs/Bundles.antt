@@ -3,7 +3,7 @@ use Rattle.std.specs.Prelude.{ℕ, ◌*◌, ◌<◌, ◌≤◌, Bool, List, [], 
 use Rattle.std.specs.List.{AllByRecursion}
 use Rattle.puz_board.specs.Boards.{IsBoardOf}
 use Rattle.pat_place.specs.Patterns.{IsPattern}
-use Rattle.tab_check.specs.declared.tables.Count.{Count}
+use Rattle.tab_rule.specs.declared.tables.Count.{Count}
 use Rattle.set_sum.specs.Bounds.{Reaches}
 use Rattle.set_sum.specs.Members.{patterns_of_set, table_pattern}
 use Rattle.set_sum.specs.Parity.{told_of}

@@ -1,7 +1,7 @@
 -- Members of sets: a table, for its own pattern or for the transposed one. A pattern is the list of its tiles.
 use Rattle.std.specs.Prelude.{◌≡◌, ◌⊎◌, ℕ, ◌<◌, true, false, if◌then◌else◌, List, map, slice_index_or}
 use Rattle.puz_board.specs.Transposing.{transposed, transposed_tiles}
-use Rattle.tab_check.specs.declared.tables.Count.{Count}
+use Rattle.tab_rule.specs.declared.tables.Count.{Count}
 use Rattle.set_sum.specs.Parts.{PartSays, PartView, no_part}
 use Rattle.set_sum.specs.declared.members.Member.{Member}
 

@@ -1,8 +1,8 @@
 -- What a count tells of the solutions of a board, of which all have one parity.
 use Rattle.std.specs.Prelude.{ℕ, ◌+◌, ◌%◌, ◌==◌, Bool, true, false, List, if◌then◌else◌}
 use Rattle.puz_board.specs.Parity.{blank_parity}
-use Rattle.tab_check.specs.declared.tables.Count.{Count}
-use Rattle.tab_check.specs.declared.tables.Count.TheVariants.{Finite, Never}
+use Rattle.tab_rule.specs.declared.tables.Count.{Count}
+use Rattle.tab_rule.specs.declared.tables.Count.TheVariants.{Finite, Never}
 
 -- the number where it has this parity, and otherwise the next one
 abbrev pub raised : ℕ → ℕ → ℕ

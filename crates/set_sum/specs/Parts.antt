@@ -1,10 +1,10 @@
 -- The tables of a bundle, each of them full or folded.
 use Rattle.std.specs.Prelude.{ℕ, Bool, true, false, List, [], MatchBool, map}
 use Rattle.pat_place.specs.Patterns.{PatternView}
-use Rattle.tab_check.specs.Counts.{IsCountOf}
-use Rattle.tab_check.specs.ExactTables.{IsExactTable}
-use Rattle.tab_check.specs.FoldedTables.{HasFoldedTable, IsFoldedCountOf}
-use Rattle.tab_check.specs.declared.tables.Count.{Count}
+use Rattle.tab_rule.specs.Counts.{IsCountOf}
+use Rattle.tab_rule.specs.ExactTables.{IsExactTable}
+use Rattle.tab_rule.specs.FoldedTables.{HasFoldedTable, IsFoldedCountOf}
+use Rattle.tab_rule.specs.declared.tables.Count.{Count}
 use Rattle.set_sum.specs.declared.parts.Part.{Part}
 use Rattle.set_sum.specs.declared.parts.Part.TheVariants.{Folded, Full}
 

@@ -5,10 +5,10 @@ use Rattle.puz_board.specs.Boards.{IsBoardOf}
 use Rattle.puz_board.specs.Costs.{has}
 use Rattle.puz_board.specs.Transposing.{transposed_cell}
 use Rattle.pat_place.specs.Patterns.{IsPattern}
-use Rattle.tab_check.specs.Counts.{AreCellsOf}
-use Rattle.tab_check.specs.Entries.{no_way_home}
-use Rattle.tab_check.specs.declared.tables.Count.{Count}
-use Rattle.tab_check.specs.declared.tables.Count.TheVariants.{Finite, Never}
+use Rattle.tab_rule.specs.Counts.{AreCellsOf}
+use Rattle.tab_file.specs.EntryBytes.{no_way_home}
+use Rattle.tab_rule.specs.declared.tables.Count.{Count}
+use Rattle.tab_rule.specs.declared.tables.Count.TheVariants.{Finite, Never}
 use Rattle.set_sum.specs.Bundles.{BundleView}
 use Rattle.set_sum.specs.Members.{MemberSays, table_pattern}
 use Rattle.set_sum.specs.Parts.{PartView}

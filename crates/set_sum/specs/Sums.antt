@@ -1,8 +1,8 @@
 -- What members say of a board together. A pattern is the list of its tiles.
 use Rattle.std.specs.Prelude.{◌≡◌, ℕ, ◌+◌, true, Any, List, [], ◌∷◌, ◌⊎◌}
 use Rattle.puz_board.specs.Costs.{cost, has}
-use Rattle.tab_check.specs.declared.tables.Count.{Count}
-use Rattle.tab_check.specs.declared.tables.Count.TheVariants.{Finite, Never}
+use Rattle.tab_rule.specs.declared.tables.Count.{Count}
+use Rattle.tab_rule.specs.declared.tables.Count.TheVariants.{Finite, Never}
 use Rattle.set_sum.specs.Members.{MemberSays}
 use Rattle.set_sum.specs.Parts.{PartView}
 use Rattle.set_sum.specs.declared.members.Member.{Member}

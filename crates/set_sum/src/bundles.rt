@@ -18,7 +18,7 @@ use crate::tables::{one_side, overlap, sum_of, twice};
 use arrayvec::ArrayVec;
 use puz_board::{Board, Side};
 use std::marker::Model;
-use tab_check::Count;
+use tab_rule::Count;
 
 /// The most tables of a bundle.
 pub const MOST_TABLES: usize = 16;

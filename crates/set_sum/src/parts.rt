@@ -2,13 +2,13 @@
 
 ghost use Rattle.std.specs.Prelude.{◌≡◌, ◌≤◌, ℕ, List};
 ghost use Rattle.puz_board.specs.Boards.{IsBoardOf};
-ghost use Rattle.tab_check.specs.Counts.{AreCellsOf};
-ghost use Rattle.tab_check.specs.Entries.{greatest_count};
-ghost use Rattle.tab_check.specs.declared.tables.Count.TheVariants.{Finite};
+ghost use Rattle.tab_rule.specs.Counts.{AreCellsOf};
+ghost use Rattle.tab_file.specs.EntryBytes.{greatest_count};
+ghost use Rattle.tab_rule.specs.declared.tables.Count.TheVariants.{Finite};
 ghost use Rattle.set_sum.specs.Parts.{IsExactPart, PartSays, part_pattern, part_shown};
 
 use pat_place::Pattern;
-use tab_check::{CheckedTable, Count, FoldedTable};
+use tab_rule::{CheckedTable, Count, FoldedTable};
 
 /// A table of a bundle.
 #[derive(Drop)]

@@ -3,7 +3,7 @@
 ghost use Rattle.std.specs.Prelude.{◌≡◌, ℕ, ◌*◌, ◌<◌, ◌≤◌, IsTrue, Some, length, option_map};
 ghost use Rattle.puz_board.specs.Boards.{IsBoardOf, moved, side_of};
 ghost use Rattle.std.specs.Int.{bit_at};
-ghost use Rattle.tab_check.specs.declared.tables.Count.TheVariants.{Finite};
+ghost use Rattle.tab_rule.specs.declared.tables.Count.TheVariants.{Finite};
 ghost use Rattle.set_sum.specs.Bundles.{IsBundle, Says};
 ghost use Rattle.set_sum.specs.Members.{MemberSays};
 ghost use Rattle.set_sum.specs.StoredSums.{AreOwners, IsJoined, IsNoted, place_of, said_by};
@@ -14,7 +14,7 @@ use crate::tables::mirrored;
 use puz_board::masks::{first_of, has_cell, with, without};
 use puz_board::{Board, Move, transposed_cell};
 use std::marker::Model;
-use tab_check::Count;
+use tab_rule::Count;
 
 /// The entry that stands for `Never`.
 const NEVER: u8 = 255;

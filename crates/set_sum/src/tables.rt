@@ -9,7 +9,7 @@ ghost use Rattle.set_sum.specs.Members.{AreOnePattern, pattern_of};
 ghost use Rattle.set_sum.specs.Parts.{IsExactPart, part_pattern, parts_shown};
 ghost use Rattle.set_sum.specs.Reading.{AreAlike, IsFaultOf, NamesOverlap, NamesTwice, first_side};
 ghost use Rattle.set_sum.specs.Sums.{SetSays};
-ghost use Rattle.tab_check.specs.Counts.{AreCellsOf};
+ghost use Rattle.tab_rule.specs.Counts.{AreCellsOf};
 
 use crate::bundles::MOST_TABLES;
 use crate::faults::SetFault;
@@ -17,7 +17,7 @@ use crate::members::Member;
 use crate::parts::Part;
 use pat_place::Pattern;
 use puz_board::{Board, Side, transposed_cell};
-use tab_check::Count;
+use tab_rule::Count;
 
 /// The one side of 1 to 16 tables.
 pub(crate) fn one_side(tables: &[Part<'_>]) -> Result<Side, SetFault>

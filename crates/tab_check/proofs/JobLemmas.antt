@@ -3,7 +3,8 @@ use Rattle.std.proofs.Common.{◌≡◌, ℕ, ◌+◌, ◌*◌, ◌≤◌, ◌^�
 use Rattle.std.proofs.Math.Nat.{mul-le-mul_right}
 use Rattle.pat_place.specs.Patterns.{PatternView}
 use Rattle.tab_file.specs.Tables.{entry_count, slot_count}
-use Rattle.tab_check.specs.Blocks.{block_begin, block_count}
+use Rattle.tab_check.specs.Jobs.{block_begin}
+use Rattle.tab_rule.specs.Blocks.{block_count}
 
 module _ (p : PatternView) where
   pub block_begin-zero : block_begin p 0 ≡ 0

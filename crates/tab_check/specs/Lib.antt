@@ -1,14 +1,2 @@
-pub mod BadEntries
-pub mod Blocks
-pub mod Columns
-pub mod Counts
-pub mod Entries
-pub mod ExactTables
-pub mod FoldedTables
-pub mod Laws
-pub mod LeastEntries
-pub mod LocalRule
-pub mod Moves
-pub mod StoredFolds
-pub mod StoredTables
-pub mod TableFaults
+-- what the contracts of inner functions and the proofs say: those of public ones are the meaning of a table
+pub mod Jobs

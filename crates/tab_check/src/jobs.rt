@@ -1,28 +1,34 @@
 //! The blocks of a table as jobs that workers share.
 
-ghost use Rattle.std.specs.Prelude.{◌≡◌, ℕ, ◌+◌, ◌≤◌, ◌^◌, true};
-ghost use Rattle.tab_check.specs.Blocks.{block_begin, block_count};
+ghost use Rattle.std.specs.Prelude.{◌≡◌, ℕ, ◌+◌, ◌<◌, ◌≤◌, ◌^◌, IfSome, MatchOption};
+ghost use Rattle.std.proofs.Props.{props};
+ghost use Rattle.tab_check.specs.Jobs.{block_begin};
+ghost use Rattle.tab_rule.specs.Blocks.{BlockKeepsRule, IsLeastBadIn, block_count};
+ghost use Rattle.tab_runs.specs.RowTables.{rows_for};
 
-use crate::block_checks::BlockCheck;
-use crate::blocks::{BLOCK_RANKS, block_count};
+use tab_columns::check_block;
 use tab_file::TableView;
+use tab_rule::{BLOCK_RANKS, block_count};
+use tab_runs::{RowTable, check_runs};
 use work_run::Job;
 
 /// The check of a table: a job for each block, whose places are the numbers of its entries.
 #[derive(Drop)]
-pub(crate) struct TableCheck<'a, 'c, C: BlockCheck> {
+pub(crate) struct TableCheck<'a> {
     pub(crate) view: TableView<'a>,
-    pub(crate) blocks: &'c C,
-    ghost serves: { C.serves blocks.now view.pattern ≡ true },
+    /// Where they are kept, the rows by which blocks are checked run by run.
+    pub(crate) rows: Option<RowTable>,
+    ghost serves: { IfSome rows (λ kept. kept ≡ rows_for view.pattern) } by { Prim.hlevel props },
     ghost few_blocks: { block_count view.pattern ≤ 2 ^ 32 },
     ghost from_zero: { block_begin view.pattern 0 ≡ 0 },
     ghost rises: { (block : ℕ) → block_begin view.pattern block ≤ block_begin view.pattern (block + 1) },
     ghost small: { block_begin view.pattern (block_count view.pattern) ≤ 2 ^ 32 },
 }
 
-impl<C: BlockCheck> Job for TableCheck<'_, '_, C> {
-    ghost use Rattle.tab_check.specs.BadEntries.{IsBad};
-    ghost use Rattle.tab_check.specs.Blocks.{block_begin, block_count};
+impl Job for TableCheck<'_> {
+    ghost use Rattle.tab_check.specs.Jobs.{block_begin};
+    ghost use Rattle.tab_rule.specs.BadEntries.{IsBad};
+    ghost use Rattle.tab_rule.specs.Blocks.{block_count};
 
     ghost jobs = { λ check. block_count check.view.pattern };
 
@@ -49,6 +55,18 @@ impl<C: BlockCheck> Job for TableCheck<'_, '_, C> {
     }
 
     fn run(&self, block: u64) -> Option<u64> {
-        self.blocks.check(&self.view, block)
+        bad_entry_in(&self.view, &self.rows, block)
+    }
+}
+
+/// The number of a block's least entry that breaks the local rule: by runs where rows are kept, and else by columns.
+fn bad_entry_in(table: &TableView<'_>, rows: &Option<RowTable>, block: u64) -> Option<u64>
+    requires block { block < block_count table.now.pattern }
+    requires rows { IfSome rows.now (λ kept. kept ≡ rows_for table.now.pattern) }
+    ensures { MatchOption result (BlockKeepsRule table.now block) (IsLeastBadIn table.now block) }
+{
+    match rows {
+        Some(rows) => check_runs(table, rows, block),
+        None => check_block(table, block),
     }
 }

@@ -1,87 +1,34 @@
-//! Tables that are checked whole.
+//! The check of a table file.
 
-ghost use Rattle.std.specs.Prelude.{◌≡◌, ◌<◌, ◌≤◌, ◌⊎◌, ◌==◌, if◌then◌else◌, ℕ, true, Err, IfErr, IfOk, IfSome, List, Ok};
-ghost use Rattle.puz_board.specs.Boards.{IsBoardOf, side_of};
+ghost use Rattle.std.specs.Prelude.{◌≡◌, ◌⊎◌, ℕ, Err, IfErr, IfOk, IfSome, Ok};
 ghost use Rattle.tab_file.specs.HeadFaults.{table_of_file};
 ghost use Rattle.tab_file.specs.TableFiles.{IsTableFile};
-ghost use Rattle.pat_place.specs.Placements.{IsFree, IsPlacement};
-ghost use Rattle.pat_place.specs.Ranks.{IsRank};
-ghost use Rattle.pat_place.specs.Regions.{IsSlot};
-ghost use Rattle.tab_file.specs.Tables.{IsTable, Table, slot_count};
-ghost use Rattle.tab_check.specs.BadEntries.{IsLeastBad};
-ghost use Rattle.tab_check.specs.Counts.{AreCellsOf, IsCensusOf, IsCountOf};
-ghost use Rattle.tab_check.specs.Entries.{greatest_count, no_way_home};
-ghost use Rattle.tab_check.specs.ExactTables.{IsExactFile, IsExactTable};
-ghost use Rattle.tab_check.specs.TableFaults.{IsCauseOf};
+ghost use Rattle.tab_file.specs.Tables.{Table};
 ghost use Rattle.tab_file.specs.declared.headers.HeadFault.{HeadFault};
+ghost use Rattle.tab_rule.specs.BadEntries.{IsLeastBadEntry};
+ghost use Rattle.tab_rule.specs.ExactTables.{IsExactFile};
+ghost use Rattle.tab_rule.specs.TableFaults.{IsTableCauseOf};
+ghost use Rattle.tab_rule.specs.declared.tables.TableFault.TheVariants.{Memory, Refused};
+ghost use Rattle.tab_rule.specs.declared.tables.TableRefusal.TheVariants.{Head, T7};
+ghost use Rattle.tab_runs.specs.RowTables.{rows_for};
 ghost use Rattle.work_run.specs.Workers.{AreWorkers};
-ghost use Rattle.tab_check.specs.declared.tables.TableFault.TheVariants.{Memory, Refused};
-ghost use Rattle.tab_check.specs.declared.tables.TableRefusal.TheVariants.{Head, T7};
-ghost use Rattle.tab_check.specs.declared.tables.Count.TheVariants.{Finite, Never};
 
-use crate::block_checks::{BlockCheck, EntryByEntry};
-use crate::census::{Census, census_of};
 use crate::jobs::TableCheck;
-use pat_place::{Pattern, Placement, SlotTable, rank, slot_of};
-use puz_board::Board;
 use std::alloc::Global;
-use std::marker::Model;
 use std::sync::Wait;
 use std::thread::Threads;
 use tab_file::{HeadFault, TableView, view};
-use tab_lanes::{NO_REGION, NO_WAY_HOME};
+use tab_rule::{CheckedTable, TableFault, TableRefusal};
+use tab_runs::RowTable;
 use work_run::{Gate, run_jobs};
 
-/// Why bytes are no exact table file.
-#[derive(Clone, Copy, Debug, PartialEq, Eq)]
-pub enum TableRefusal {
-    /// They are no table file.
-    Head(HeadFault),
-    /// They are a table file, and the entry with this number is the least that breaks the local rule.
-    T7(u64),
-}
-
-/// Why no checked table comes of bytes.
-#[derive(Clone, Copy, Debug, PartialEq, Eq)]
-pub enum TableFault {
-    /// They are no exact table file.
-    Refused(TableRefusal),
-    /// They are a table file, and there isn't the memory to check it.
-    Memory,
-}
-
-/// What a table tells of a board.
-#[derive(Clone, Copy, Debug, PartialEq, Eq)]
-pub enum Count {
-    /// The least number of moves of the pattern's tiles that bring them home.
-    Finite(u16),
-    /// No walk leads home.
-    Never,
-}
-
-/// A table that was checked: each entry is the least number of moves of the pattern's tiles that bring them home, or
-/// says that no walk does (Korf and Felner 2002).
-#[derive(Drop)]
-pub struct CheckedTable<'a> {
-    view: TableView<'a>,
-    /// The slots of all its placements, where they are kept.
-    slots: Option<SlotTable>,
-}
-
-impl<'a> Model for CheckedTable<'a> {
-    ghost use Rattle.tab_check.specs.StoredTables.{IsStoredTable};
-    ghost use Rattle.tab_file.specs.Tables.{Table};
-
-    ghost Value = { Table };
-
-    ghost view = { λ checked. checked.view };
-
-    ghost invariant = { IsStoredTable };
-}
+/// Below so many entries a table is checked sooner than its rows are made.
+const FEW_ENTRIES: usize = 1 << 16;
 
 /// Checks the bytes of a table file, block by block, by so many workers at once.
 ///
-/// The caller's thread is one of them. Each passes the gate once before each block that it checks.
+/// The caller's thread is one of them. Each passes the gate once before each block that it checks. The blocks of a large
+/// table are checked run by run; where the memory for that is refused, by columns, which is slower.
 pub fn check_table<'a, R: Threads + Wait, G: Gate + Sync>(
     rt: &R,
     alloc: Global,
@@ -96,153 +43,30 @@ pub fn check_table<'a, R: Threads + Wait, G: Gate + Sync>(
     ensures exact { (table : Table) → IsExactFile table file.now → (result ≡ Ok table) ⊎ (result ≡ Err Memory) }
 
     // Which fault it is.
-    ensures fault { IfErr result (λ fault. IsCauseOf fault file.now) }
+    ensures fault { IfErr result (λ fault. IsTableCauseOf fault file.now) }
     ensures head { (fault : HeadFault) → table_of_file file.now ≡ Err fault → result ≡ Err (Refused (Head fault)) }
-    ensures bad { (table : Table) (number : ℕ) → IsTableFile table file.now → IsLeastBad table number
-        → (result ≡ Err (Refused (T7 number))) ⊎ (result ≡ Err Memory) }
-{
-    check_table_by(rt, alloc, file, workers, gate, &EntryByEntry)
-}
-
-/// As `check_table`, with this way to check a block.
-pub fn check_table_by<'a, R: Threads + Wait, G: Gate + Sync, C: BlockCheck + Sync>(
-    rt: &R,
-    alloc: Global,
-    file: &'a [u8],
-    workers: u8,
-    gate: &G,
-    blocks: &C,
-) -> Result<CheckedTable<'a>, TableFault>
-    requires workers { AreWorkers workers }
-    requires serves { (table : Table) → IsTableFile table file.now → C.serves blocks.now table.pattern ≡ true }
-
-    // A table comes of an exact file alone, and is that file's. Only want of memory keeps it back.
-    ensures ok { IfOk result (λ table. IsExactFile table file.now) }
-    ensures exact { (table : Table) → IsExactFile table file.now → (result ≡ Ok table) ⊎ (result ≡ Err Memory) }
-
-    // Which fault it is.
-    ensures fault { IfErr result (λ fault. IsCauseOf fault file.now) }
-    ensures head { (fault : HeadFault) → table_of_file file.now ≡ Err fault → result ≡ Err (Refused (Head fault)) }
-    ensures bad { (table : Table) (number : ℕ) → IsTableFile table file.now → IsLeastBad table number
+    ensures bad { (table : Table) (number : ℕ) → IsTableFile table file.now → IsLeastBadEntry table number
         → (result ≡ Err (Refused (T7 number))) ⊎ (result ≡ Err Memory) }
 {
     let view = match view(file) {
         Ok(view) => view,
         Err(fault) => return Err(TableFault::Refused(TableRefusal::Head(fault))),
     };
-    let check = TableCheck { view, blocks };
+    let rows = rows_of(alloc, &view);
+    let check = TableCheck { view, rows };
     match run_jobs(rt, alloc, &check, workers, gate) {
-        Ok(None) => Ok(CheckedTable {
-            view: check.view,
-            slots: None,
-        }),
+        Ok(None) => Ok(CheckedTable::of_view(check.view)),
         Ok(Some(number)) => Err(TableFault::Refused(TableRefusal::T7(number))),
         Err(_) => Err(TableFault::Memory),
     }
 }
 
-impl<'a> CheckedTable<'a> {
-    /// The same table, which keeps the slots of all its placements where their memory is granted: looks are faster then.
-    /// It may keep none; only speed depends on it.
-    pub fn with_slots(self, alloc: Global) -> CheckedTable<'a>
-        ensures { result ≡ self.entry }
-    {
-        let slots = SlotTable::build(alloc, &self.pattern()).ok();
-        CheckedTable {
-            view: self.view,
-            slots,
-        }
-    }
-
-    /// The pattern of the table.
-    pub fn pattern(&self) -> Pattern
-        ensures pattern { result ≡ self.now.pattern }
-        ensures table { IsTable self.now }
-        ensures exact { IsExactTable self.now }
-    {
-        self.view.pattern()
-    }
-
-    /// The least number of moves of the pattern's tiles on this board that bring them home.
-    pub fn look(&self, board: &Board) -> Count
-        requires { side_of board.now ≡ self.now.pattern.side }
-        ensures count { IsCountOf self.now.pattern.tiles board.now result }
-        ensures few { (d : ℕ) → result ≡ Finite d → d ≤ greatest_count }
-    {
-        let _side = board.side();
-        self.look_in(&board.cells_of_all())
-    }
-
-    /// As `look`, of the board whose numbers were found in these cells.
-    pub fn look_in(&self, found: &[u8; 25]) -> Count
-        requires { (board : List ℕ) × IsBoardOf self.now.pattern.side board × AreCellsOf found.now board }
-        ensures count { (board : List ℕ) → IsBoardOf self.now.pattern.side board → AreCellsOf found.now board
-            → IsCountOf self.now.pattern.tiles board result }
-        ensures few { (d : ℕ) → result ≡ Finite d → d ≤ greatest_count }
-    {
-        let placement = Placement::of_cells(&self.pattern(), found);
-        let rank = rank(&placement);
-        let blank = found[0];
-        let slot = self.slot_in(&placement, rank, blank);
-        count_of(self.view.entry(rank, slot))
-    }
-
-    /// The slot of a free cell of a placement, whose rank is given. It takes no flood where the slots are kept, or where
-    /// there is a second slot that has no region, so that all free cells are of the first.
-    #[inline]
-    fn slot_in(&self, placement: &Placement, rank: u64, cell: u8) -> u8
-        requires placement { IsPlacement placement.now }
-        requires pattern { placement.now.pattern ≡ self.now.pattern }
-        requires rank { IsRank placement.now.pattern.side placement.now.cells rank }
-        requires free { IsFree placement.now.pattern.side placement.now.cells cell }
-        ensures slot { IsSlot placement.now.pattern.side placement.now.cells cell result }
-        ensures below { result < slot_count self.now.pattern }
-    {
-        if let Some(slot) = self.kept_slot(placement, cell) {
-            return slot;
-        }
-        if self.pattern().width() > 1 && self.view.entry(rank, 1) == NO_REGION {
-            return 0;
-        }
-        slot_of(placement, cell)
-    }
-
-    /// The entries, which are all bytes behind the header: rank by rank, and slot by slot for each rank.
-    pub fn entries(&self) -> &'a [u8]
-        ensures entries { result.now ≡ self.now.entries }
-        ensures exact { IsExactTable self.now }
-    {
-        self.view.entries()
-    }
-
-    /// The slot of a free cell of a placement, where it is kept.
-    #[inline]
-    fn kept_slot(&self, placement: &Placement, cell: u8) -> Option<u8>
-        requires placement { IsPlacement placement.now }
-        requires pattern { placement.now.pattern ≡ self.now.pattern }
-        requires free { IsFree placement.now.pattern.side placement.now.cells cell }
-        ensures slot { IfSome result (IsSlot placement.now.pattern.side placement.now.cells cell) }
-        ensures below { IfSome result (λ slot. slot < slot_count self.now.pattern) }
-    {
-        let _pattern = self.pattern();
-        self.slots.as_ref()?.slot(placement, cell)
-    }
-
-    /// How many entries there are, how many of them say that no walk leads home, and the greatest count.
-    pub fn census(&self) -> Census
-        ensures { IsCensusOf self.now.entries result }
-    {
-        census_of(self.view.entries())
-    }
-}
-
-/// What an entry of a region says.
-pub(crate) fn count_of(entry: u8) -> Count
-    ensures { result ≡ (if entry == no_way_home then Never else Finite entry) }
+/// The rows for a table, where it has enough entries and their memory is granted.
+fn rows_of(alloc: Global, table: &TableView<'_>) -> Option<RowTable>
+    ensures { IfSome result (λ rows. rows ≡ rows_for table.now.pattern) }
 {
-    if entry == NO_WAY_HOME {
-        Count::Never
-    } else {
-        Count::Finite(u16::from(entry))
+    if table.entries().len() < FEW_ENTRIES {
+        return None;
     }
+    RowTable::build(alloc, &table.pattern()).ok()
 }

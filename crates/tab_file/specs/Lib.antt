@@ -1,4 +1,5 @@
 -- What public contracts say.
+pub mod EntryBytes
 pub mod Tables
 pub mod TableFiles
 pub mod HeadFaults

@@ -1,10 +1,9 @@
 -- Bytes counted a vector at a time.
-use Rattle.std.proofs.Common.{◌≡◌, ℕ, ◌+◌, ◌%◌, ◌^◌, ◌≤◌, Bool, cond, eqb, List, map, length, take, replicate, count_ones, sym, ap, ap₂, ◌∙◌, arith, w8}
+use Rattle.std.proofs.Common.{◌≡◌, ℕ, ◌+◌, ◌%◌, ◌^◌, ◌≤◌, Bool, cond, eqb, List, map, length, take, replicate, count_ones, sym, ap, ap₂, ◌∙◌, arith, w8, take-add}
 use Rattle.std.specs.Prelude.{count_by}
 use Rattle.std.proofs.lemmas.List.Sums.{count_by-le-length, sum_by-append}
 use Rattle.std.proofs.lemmas.List.{length-take-le}
 use Rattle.std.proofs.lemmas.Simd.{bitmask_splat, ones-mask_l, length-chunk}
-use Rattle.std.proofs.Common.{take-add}
 use lib.Lanes.{zip2, mask_l, top, chunk}
 
 module _ (byte n : ℕ) (xs : List ℕ) (at : ℕ) (few : n ≤ 64) (room : at + n ≤ length xs) where

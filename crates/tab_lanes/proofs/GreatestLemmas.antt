@@ -3,7 +3,7 @@ use Rattle.std.proofs.Common.{◌≡◌, ℕ, ◌+◌, ◌-◌, ◌<◌, ◌≤�
 use Rattle.std.proofs.lemmas.Bool.{cases_lt}
 use Rattle.std.proofs.lemmas.Simd.{tops_compared, length-zip2, get_or-zip2, length-sel_l, get_or-sel_l, length-chunk, get_or-chunk, length-replicate, get_or-replicate}
 use lib.Lanes.{zip2, sel_l, top, chunk}
-use Rattle.tab_lanes.specs.LocalRule.{greatest_count}
+use Rattle.tab_file.specs.EntryBytes.{greatest_count}
 
 -- what n lanes say of the first bytes: no count is above all lanes, and each lane is one of them or 0
 pub record AreGreatest (bytes : List ℕ) (first n : ℕ) (lanes : List ℕ) : Type 0 where

@@ -1,6 +1,6 @@
 -- Counts among the bytes of a column.
 use Rattle.std.specs.Prelude.{◌≡◌, ℕ, ◌<◌, ◌≤◌, ◌⊎◌, List, slice_index}
-use Rattle.tab_lanes.specs.LocalRule.{greatest_count}
+use Rattle.tab_file.specs.EntryBytes.{greatest_count}
 
 -- the greatest count among the first bytes, and 0 where there is none
 pub record IsGreatestCount (bytes : List ℕ) (first m : ℕ) : Type 0 where

@@ -1,19 +1,6 @@
 -- The local rule by numbers: the entry of a slot, the kind of the slot, and the least entry one move away.
 use Rattle.std.specs.Prelude.{◌≡◌, ℕ, suc, ◌<◌, ◌≤◌, List, length, slice_index}
-
--- ---- what an entry says
-
--- the greatest count that an entry has; a count is itself
-abbrev pub greatest_count : ℕ
-greatest_count = 253
-
--- the slot has no region
-abbrev pub no_region_entry : ℕ
-no_region_entry = 254
-
--- no walk leads home
-abbrev pub no_way_home : ℕ
-no_way_home = 255
+use Rattle.tab_file.specs.EntryBytes.{greatest_count, no_region_entry, no_way_home}
 
 -- ---- kinds of slots, each as a byte
 
@@ -49,8 +36,8 @@ abbrev pub KeepRuleBetween : List ℕ → List ℕ → List ℕ → ℕ → ℕ 
 KeepRuleBetween entries mins kinds from to = (i : ℕ) → from ≤ i → i < to → KeepsRuleAt entries mins kinds i
 
 -- all keep it
-abbrev pub AllKeepRule : List ℕ → List ℕ → List ℕ → Type 0
-AllKeepRule entries mins kinds = KeepRuleBetween entries mins kinds 0 (length entries)
+abbrev pub AllPlacesKeepRule : List ℕ → List ℕ → List ℕ → Type 0
+AllPlacesKeepRule entries mins kinds = KeepRuleBetween entries mins kinds 0 (length entries)
 
 -- the entry at this place breaks the rule, and no entry before it does
 pub record IsFirstBad (entries mins kinds : List ℕ) (place : ℕ) : Type 0 where

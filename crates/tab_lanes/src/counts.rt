@@ -4,8 +4,8 @@ ghost use Rattle.std.specs.Prelude.{◌≡◌, ℕ, ◌+◌, ◌<◌, ◌≤◌,
 ghost use Rattle.tab_lanes.specs.Counts.{IsGreatestCount};
 
 use crate::LANES;
-use crate::local_rule::GREATEST_COUNT;
 use std::simd::prelude::*;
+use tab_file::GREATEST_COUNT;
 
 /// How many of the bytes are this one.
 pub fn count_eq(bytes: &[u8], byte: u8) -> u64

@@ -11,9 +11,7 @@ mod local_rule;
 pub use columns::min_into;
 pub use counts::{count_eq, greatest_count};
 pub use floods::{flood, flood_step};
-pub use local_rule::{
-    GOAL_SLOT, GREATEST_COUNT, NO_REGION, NO_WAY_HOME, OTHER_SLOT, WITHOUT_REGION, first_bad,
-};
+pub use local_rule::{GOAL_SLOT, OTHER_SLOT, WITHOUT_REGION, first_bad};
 
 /// How many bytes one vector has.
 pub(crate) const LANES: usize = 64;

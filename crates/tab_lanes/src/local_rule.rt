@@ -2,19 +2,11 @@
 
 ghost use Rattle.std.specs.Prelude.{◌≡◌, ℕ, ◌+◌, ◌^◌, ◌<◌, ◌≤◌, ◌⊎◌, MatchOption, length};
 ghost use Rattle.std.specs.Int.{bit_at};
-ghost use Rattle.tab_lanes.specs.LocalRule.{AllKeepRule, IsFirstBad, KeepRuleBetween, KeepsRuleAt};
+ghost use Rattle.tab_lanes.specs.LocalRule.{AllPlacesKeepRule, IsFirstBad, KeepRuleBetween, KeepsRuleAt};
 
 use crate::LANES;
 use std::simd::prelude::*;
-
-/// The greatest count that an entry has.
-pub const GREATEST_COUNT: u8 = 253;
-
-/// The entry of a slot without a region.
-pub const NO_REGION: u8 = 254;
-
-/// The entry from which no walk leads home.
-pub const NO_WAY_HOME: u8 = 255;
+use tab_file::{GREATEST_COUNT, NO_REGION, NO_WAY_HOME};
 
 /// How many bytes a short vector has.
 const FEW: usize = 16;
@@ -33,7 +25,7 @@ pub const OTHER_SLOT: u8 = 2;
 pub fn first_bad(entries: &[u8], mins: &[u8], kinds: &[u8]) -> Option<usize>
     requires mins { length mins.now ≡ length entries.now }
     requires kinds { length kinds.now ≡ length entries.now }
-    ensures { MatchOption result (AllKeepRule entries.now mins.now kinds.now) (IsFirstBad entries.now mins.now kinds.now) }
+    ensures { MatchOption result (AllPlacesKeepRule entries.now mins.now kinds.now) (IsFirstBad entries.now mins.now kinds.now) }
 {
     let place = kept_by_lanes::<LANES>(entries, mins, kinds, 0);
     let place = kept_by_lanes::<FEW>(entries, mins, kinds, place);

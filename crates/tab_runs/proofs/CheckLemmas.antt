@@ -9,15 +9,16 @@ use Rattle.pat_place.specs.Patterns.{IsPattern}
 use Rattle.pat_place.specs.Placements.{IsFree}
 use Rattle.pat_place.specs.Ranks.{IsRank}
 use Rattle.pat_place.proofs.RankLemmas.{IsRank-one}
-use Rattle.tab_check.specs.BadEntries.{IsBad, KeepsRule}
-use Rattle.tab_check.specs.Entries.{IsNumberOf}
-use Rattle.tab_check.specs.LocalRule.{IsKindOf, IsLeastNear, LocalRule}
-use Rattle.tab_check.proofs.BlockLemmas.{same_cells}
-use Rattle.tab_check.proofs.CaseLemmas.{rule_by_numbers}
+use Rattle.tab_rule.specs.BadEntries.{IsBad, KeepsRule}
+use Rattle.tab_rule.specs.Entries.{IsEntryNumber}
+use Rattle.tab_rule.specs.LocalRule.{IsKindOf, IsLeastNear, LocalRule}
+use Rattle.tab_rule.proofs.BlockLemmas.{same_cells}
+use Rattle.tab_rule.proofs.CaseLemmas.{rule_by_numbers}
 use Rattle.tab_file.specs.Tables.{Table, slot_count}
-use Rattle.tab_lanes.specs.LocalRule.{AllKeepRule, IsFirstBad, KeepsRuleAt, KeepsRuleOfKind}
+use Rattle.tab_lanes.specs.LocalRule.{AllPlacesKeepRule, IsFirstBad, KeepsRuleAt, KeepsRuleOfKind}
 use Rattle.tab_runs.specs.Checks.{AreKinds, IsFirstBadPlace, RunKeepsRule}
-use Rattle.tab_runs.specs.Runs.{AreRunEntries, IsFirstRank, IsRun, free_below, run_length, with_last}
+use Rattle.tab_runs.specs.RunPlaces.{AreRunEntries, IsFirstRank, IsRun, run_length}
+use Rattle.tab_runs.specs.Runs.{free_below, with_last}
 use Rattle.tab_runs.specs.Steps.{AreLeastNear}
 use Rattle.tab_runs.proofs.RowLemmas.{parts_one}
 use Rattle.tab_runs.proofs.RunLemmas.{placed_last}
@@ -59,7 +60,7 @@ module _ (t : Table) (pat : IsPattern t.pattern) (p : List ℕ) (run : IsRun t.p
         counted = split place (slot_count t.pattern) some ∙ ap (λ k. k * slot_count t.pattern + place % slot_count t.pattern) (sym c.2);
       }
 
-  number_is : (first : ℕ) → IsFirstRank t.pattern.side p first → (place : ℕ) → (a : IsAt place) → IsNumberOf t.pattern (with_last p a.cell) a.slot (first * slot_count t.pattern + place)
+  number_is : (first : ℕ) → IsFirstRank t.pattern.side p first → (place : ℕ) → (a : IsAt place) → IsEntryNumber t.pattern (with_last p a.cell) a.slot (first * slot_count t.pattern + place)
   number_is first is_first place a = record {
     placement = placed_last t.pattern p a.cell run a.free;
     rank = first + free_below p a.cell;
@@ -136,7 +137,7 @@ module _ (t : Table) (pat : IsPattern t.pattern) (p : List ℕ) (run : IsRun t.p
     from_at : (i : ℕ) → i < high - low → KeepsAt own mins kinds (low + i) → KeepsRuleAt part_own part_mins part_kinds i
     from_at i l h = same_rule (sym (part_at kinds (high - low) low i l)) (sym (at_one mins i l)) (sym (at_one own i l)) h
 
-    pub run_keeps : AllKeepRule (take (1 + high - (1 + low)) (drop (1 + low) own)) (take (1 + high - (1 + low)) (drop (1 + low) mins)) (take (high - low) (drop low kinds)) → RunKeepsRule t p low high
+    pub run_keeps : AllPlacesKeepRule (take (1 + high - (1 + low)) (drop (1 + low) own)) (take (1 + high - (1 + low)) (drop (1 + low) mins)) (take (high - low) (drop low kinds)) → RunKeepsRule t p low high
     run_keeps all first is_first place from to =
         let i : ℕ = place - low in
         let l : i < high - low = omega arith in

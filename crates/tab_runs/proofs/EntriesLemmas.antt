@@ -10,7 +10,8 @@ use Rattle.pat_place.proofs.CountLemmas.{few_slots}
 use Rattle.pat_place.proofs.RankLemmas.{IsRank-below, IsRank-from, IsRank-one, count_of_placements, falling_more}
 use Rattle.tab_file.specs.TableFiles.{IsTableFile}
 use Rattle.tab_file.specs.Tables.{Table, entry_count, placement_count, slot_count}
-use Rattle.tab_runs.specs.Runs.{AreRunEntries, IsRun, free_below, run_length}
+use Rattle.tab_runs.specs.RunPlaces.{AreRunEntries, IsRun, run_length}
+use Rattle.tab_runs.specs.Runs.{free_below}
 use Rattle.tab_runs.proofs.RowLemmas.{place_low}
 use Rattle.tab_runs.proofs.RunRanks.{first_some}
 

@@ -11,11 +11,11 @@ use Rattle.pat_place.specs.Patterns.{IsPattern, PatternView, has, most_tiles, wi
 use Rattle.pat_place.specs.Placements.{IsFree, IsPlacement, PlacementView}
 use Rattle.pat_place.specs.Ranks.{IsRank, lists_of, placements}
 use Rattle.pat_place.proofs.RankLemmas.{IsRank-from, IsRank-one}
-use Rattle.tab_check.proofs.BlockLemmas.{same_cells}
-use Rattle.tab_check.proofs.ColumnLemmas.{next_rank}
+use Rattle.tab_rule.proofs.BlockLemmas.{next_rank, same_cells}
 use Rattle.pat_place.specs.Regions.{AreRegions}
 use Rattle.tab_file.specs.Tables.{placement_count, slot_count}
-use Rattle.tab_runs.specs.Runs.{IsFirstRank, IsRun, free_below, run_length, with_last}
+use Rattle.tab_runs.specs.RunPlaces.{IsFirstRank, IsRun, run_length}
+use Rattle.tab_runs.specs.Runs.{free_below, with_last}
 use Rattle.tab_runs.proofs.EntriesLemmas.{run_few}
 use Rattle.tab_runs.proofs.RunRanks.{first_some, free_below-free, free_below-low, free_below-taken, free_below-zero}
 use Rattle.tab_runs.proofs.RowLemmas.{few_entries}

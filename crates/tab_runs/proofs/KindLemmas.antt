@@ -6,11 +6,13 @@ use Rattle.pat_place.specs.Patterns.{PatternView, has}
 use Rattle.pat_place.specs.Placements.{IsFree}
 use Rattle.pat_place.specs.Regions.{AreRegions}
 use Rattle.pat_place.proofs.SetLemmas.{SameCells, free_same, same_back, same_of_mask, slot_same}
-use Rattle.tab_check.proofs.OneEntryLemmas.{none_past, region_of_mask}
+use Rattle.tab_rule.proofs.RegionLemmas.{none_past, region_of_mask}
 use Rattle.tab_file.specs.Tables.{slot_count}
-use Rattle.tab_runs.specs.Kinds.{AreKindsUpTo, AreMarked, TellRegions, TellRegionsOf, TellsRegion}
-use Rattle.tab_runs.specs.Runs.{IsRun, free_below, run_length, with_last}
-use Rattle.tab_runs.specs.StoredRows.{entries_of_run}
+use Rattle.tab_runs.specs.SetRows.{AreKindsUpTo, AreMarked}
+use Rattle.tab_runs.specs.Kinds.{TellRegions, TellRegionsOf, TellsRegion}
+use Rattle.tab_runs.specs.RunPlaces.{IsRun, run_length}
+use Rattle.tab_runs.specs.Runs.{free_below, with_last}
+use Rattle.tab_runs.specs.RowTables.{entries_of_run}
 use Rattle.tab_runs.proofs.RowLemmas.{free_below-same, parts_one}
 use Rattle.tab_runs.proofs.RunLemmas.{same_with_last}
 use Rattle.tab_runs.proofs.RunRanks.{free_below-one}

@@ -12,7 +12,6 @@ mod RowLemmas
 mod RunAtLemmas
 mod RunLemmas
 mod RunRanks
-mod ServingLemmas
 mod SetRowLemmas
 mod StepLemmas
 mod TableLemmas

@@ -6,7 +6,8 @@ use Rattle.pat_place.specs.Patterns.{has}
 use Rattle.pat_place.specs.Placements.{IsFree}
 use Rattle.tab_runs.specs.Rows.{listed_below}
 use Rattle.tab_runs.specs.SetRows.{listed_of}
-use Rattle.tab_runs.specs.Runs.{AreFreeBelow, free_below, with_last}
+use Rattle.tab_runs.specs.RunPlaces.{AreFreeBelow}
+use Rattle.tab_runs.specs.Runs.{free_below, with_last}
 use Rattle.tab_runs.proofs.RunLemmas.{with_last-here, with_last-other}
 use Rattle.tab_runs.proofs.RunRanks.{free_below-alike, free_below-free, free_below-taken, free_below-zero}
 

@@ -12,9 +12,9 @@ use Rattle.puz_board.proofs.BitLemmas.{both_in, in_below, in_both, in_or_out}
 use Rattle.pat_place.proofs.ListLemmas.{all_at}
 use Rattle.puz_board.proofs.CellLemmas.{few_cells}
 use Rattle.tab_file.specs.Tables.{Table, slot_count}
-use Rattle.tab_runs.specs.Rows.{IsOpen, IsRow, listed_below, place_of}
-use Rattle.tab_runs.specs.Runs.{AreRunEntries, IsRun}
-use Rattle.tab_runs.specs.Steps.{AreLeastNear, IsBesideStep, IsDonePairStep, IsIndexStep, IsOneStep, IsPairStep, IsRunStep, IsSomeLastStep, IsStepAmong, IsTakenIn, IsTargetStep, IsTileStep}
+use Rattle.tab_runs.specs.Rows.{IsOpen, IsRow, listed_below, place_in_run}
+use Rattle.tab_runs.specs.RunPlaces.{AreRunEntries, IsRun}
+use Rattle.tab_runs.specs.Steps.{AreLeastNear, IsBesideStep, IsDonePairStep, IsIndexStep, IsSingleStep, IsPairStep, IsRunStep, IsSomeLastStep, IsStepAmong, IsTakenIn, IsTargetStep, IsTileStep}
 use Rattle.tab_runs.proofs.MaskLemmas.{adjacent_back}
 use Rattle.tab_runs.proofs.RowLemmas.{few_entries, open_low, place_low}
 use Rattle.tab_runs.proofs.StepLemmas.{last_from_one, least_near_of_run, one_from_last}
@@ -103,10 +103,10 @@ module _ (t : Table) (pat : IsPattern t.pattern) (p : List ℕ) (run : IsRun t.p
   own_low x c row is o = let low = open_low t.pattern pat p run x row is c o in let e = entries.size in omega arith
 
   pub pair_taken : (a b : ℕ) → IsFree t.pattern.side p a → IsFree t.pattern.side p b → b ≢ a → (row_a row_b : List ℕ) → IsRow t.pattern.side (length t.pattern.tiles) p a row_a → IsRow t.pattern.side (length t.pattern.tiles) p b row_b
-      → (old mid new : List ℕ) → IsTakenIn old mid (IsOneStep (get_or row_b (listed_below p b a) 0) (get_or own (get_or row_a (listed_below p a b) 0) 0)) → IsTakenIn mid new (IsOneStep (get_or row_a (listed_below p a b) 0) (get_or own (get_or row_b (listed_below p b a) 0) 0))
+      → (old mid new : List ℕ) → IsTakenIn old mid (IsSingleStep (get_or row_b (listed_below p b a) 0) (get_or own (get_or row_a (listed_below p a b) 0) 0)) → IsTakenIn mid new (IsSingleStep (get_or row_a (listed_below p a b) 0) (get_or own (get_or row_b (listed_below p b a) 0) 0))
       → IsTakenIn old new (IsPairStep t p a b)
   pair_taken a b free_a free_b apart row_a row_b is_a is_b old mid new first second = taken_then old mid new
-      (IsOneStep (get_or row_b (listed_below p b a) 0) (get_or own (get_or row_a (listed_below p a b) 0) 0)) (IsOneStep (get_or row_a (listed_below p a b) 0) (get_or own (get_or row_b (listed_below p b a) 0) 0)) (IsPairStep t p a b)
+      (IsSingleStep (get_or row_b (listed_below p b a) 0) (get_or own (get_or row_a (listed_below p a b) 0) 0)) (IsSingleStep (get_or row_a (listed_below p a b) 0) (get_or own (get_or row_b (listed_below p b a) 0) 0)) (IsPairStep t p a b)
       (λ place e some s. inl (last_from_one t pat p run own entries a b free_a free_b apart row_a row_b is_a is_b place e s))
       (λ place e some s. inr (last_from_one t pat p run own entries b a free_b free_a (λ q. apart (sym q)) row_b row_a is_b is_a place e s))
       (λ place e some s. elim s [
@@ -226,11 +226,11 @@ pub all_near : (t : Table) → IsPattern t.pattern → (p : List ℕ) → IsRun 
 all_near t pat p run mid new first second c j free low =
     let place = place_low t.pattern.side (slot_count t.pattern) p c j run.inside run.apart free low in
     let few = few_entries t.pattern pat p run in
-    let at : ℕ = place_of (slot_count t.pattern) p c j in
+    let at : ℕ = place_in_run (slot_count t.pattern) p c j in
     let all : IsTakenIn (replicate 256 255) new (IsRunStep t p) = taken_then (replicate 256 255) mid new (IsStepAmong t p (length p)) (IsSomeLastStep t p) (IsRunStep t p)
     (λ place e some s. inl s) (λ place e some s. inr s) (λ place e some s. s) first second in
     least_near_of_run t pat p run c j free low (get_or new at 0)
     (least_of_taken (replicate 256 255) new (IsRunStep t p) all at (omega arith) (get_replicate 256 at 255 (omega arith)))
 
-pub one_as : (old new : List ℕ) (at other value same : ℕ) → at ≡ other → value ≡ same → IsTakenIn old new (IsOneStep at value) → IsTakenIn old new (IsOneStep other same)
-one_as old new at other value same e f is = subst (λ v. IsTakenIn old new (IsOneStep other v)) f (subst (λ x. IsTakenIn old new (IsOneStep x value)) e is)
+pub one_as : (old new : List ℕ) (at other value same : ℕ) → at ≡ other → value ≡ same → IsTakenIn old new (IsSingleStep at value) → IsTakenIn old new (IsSingleStep other same)
+one_as old new at other value same e f is = subst (λ v. IsTakenIn old new (IsSingleStep other v)) f (subst (λ x. IsTakenIn old new (IsSingleStep x value)) e is)

@@ -9,7 +9,7 @@ use Rattle.pat_place.specs.Patterns.{IsPattern, PatternView, has}
 use Rattle.pat_place.proofs.ListLemmas.{apart_from_ascending}
 use Rattle.pat_place.proofs.MaskLemmas.{ascending-numbers_below, has-numbers_below, in_numbers_below, length-numbers_below}
 use Rattle.pat_place.proofs.PatternLemmas.{few_tiles}
-use Rattle.tab_runs.specs.Runs.{IsRun}
+use Rattle.tab_runs.specs.RunPlaces.{IsRun}
 
 module _ (p : PatternView) (pat : IsPattern p) (set : ℕ) (bits : set < 2 ^ (p.side * p.side)) (size : count_ones set + 1 ≡ length p.tiles) where
   fits : set < 2 ^ 32

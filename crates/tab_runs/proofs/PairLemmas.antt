@@ -4,10 +4,10 @@ use Rattle.pat_place.specs.Patterns.{IsPattern}
 use Rattle.pat_place.specs.Placements.{IsFree}
 use Rattle.tab_file.specs.Tables.{Table}
 use Rattle.tab_runs.specs.Rows.{IsOpen, IsRow, listed_below, row_length}
-use Rattle.tab_runs.specs.Runs.{AreFreeBelow}
+use Rattle.tab_runs.specs.RunPlaces.{AreFreeBelow}
 use Rattle.tab_runs.specs.RunsOfTables.{IsRunOf}
-use Rattle.tab_runs.specs.Steps.{IsOneStep, IsPairStep, IsTakenIn}
-use Rattle.tab_runs.specs.StoredRows.{RowsView, row_of, rows_for}
+use Rattle.tab_runs.specs.Steps.{IsSingleStep, IsPairStep, IsTakenIn}
+use Rattle.tab_runs.specs.RowTables.{RowsView, row_of, rows_for}
 use Rattle.tab_runs.specs.declared.runs.Run.{Run}
 use Rattle.tab_runs.proofs.ListedLemmas.{listed_both}
 use Rattle.tab_runs.proofs.LoopLemmas.{one_as, own_low, pair_taken}
@@ -60,7 +60,7 @@ module _ {t : Table} {v : RowsView} {r : Run} {below : List ℕ} {a b : ℕ} (ar
   -- each of the two entries is taken in at the other's place
   pub pair_met : {row_a row_b : List ℕ} {index_a index_b : ℕ} → IsInRow t r.cells.now r.own.now b a row_b index_a → IsInRow t r.cells.now r.own.now a b row_a index_b
       → (old mid new : List ℕ) {place_a place_b : ℕ} → place_a ≡ get_or row_b index_a 0 → place_b ≡ get_or row_a index_b 0
-      → IsTakenIn old mid (IsOneStep (get_or row_b index_a 0) (get_or r.own.now place_b 0)) → IsTakenIn mid new (IsOneStep (get_or row_a index_b 0) (get_or r.own.now place_a 0))
+      → IsTakenIn old mid (IsSingleStep (get_or row_b index_a 0) (get_or r.own.now place_b 0)) → IsTakenIn mid new (IsSingleStep (get_or row_a index_b 0) (get_or r.own.now place_a 0))
       → IsTakenIn old new (IsPairStep t r.cells.now a b)
   pair_met {row_a} {row_b} {index_a} {index_b} in_b in_a old mid new {place_a} {place_b} a_is b_is first second =
       let p = r.cells.now in

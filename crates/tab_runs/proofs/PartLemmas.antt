@@ -8,16 +8,17 @@ use Rattle.pat_place.specs.Ranks.{IsRank}
 use Rattle.pat_place.specs.Regions.{IsSlot}
 use Rattle.pat_place.proofs.RankLemmas.{IsRank-one}
 use Rattle.pat_place.proofs.SlotLemmas.{slot_one}
-use Rattle.tab_check.specs.BadEntries.{KeepsRule}
-use Rattle.tab_check.specs.Blocks.{IsLeastBadIn, first_of_block}
-use Rattle.tab_check.specs.Entries.{IsGoalNumber}
-use Rattle.tab_check.specs.LocalRule.{IsGoalSlot, no_region, goal as goal_kind, other as other_kind}
-use Rattle.tab_check.proofs.BlockLemmas.{same_cells}
+use Rattle.tab_rule.specs.BadEntries.{KeepsRule}
+use Rattle.tab_rule.specs.Blocks.{IsLeastBadIn, first_of_block}
+use Rattle.tab_rule.specs.Entries.{IsGoalNumber}
+use Rattle.tab_rule.specs.LocalRule.{IsGoalSlot, no_region, goal as goal_kind, other as other_kind}
+use Rattle.tab_rule.proofs.BlockLemmas.{same_cells}
 use Rattle.tab_file.specs.Tables.{Table, slot_count}
 use Rattle.tab_runs.specs.Checks.{AreKinds, IsFirstBadPlace, RunKeepsRule}
 use Rattle.tab_runs.specs.Kinds.{TellRegions}
 use Rattle.tab_runs.specs.Parts.{EntriesKeepRule, IsFirstBadEntry}
-use Rattle.tab_runs.specs.Runs.{IsFirstRank, IsRun, free_below, run_length, with_last}
+use Rattle.tab_runs.specs.RunPlaces.{IsFirstRank, IsRun, run_length}
+use Rattle.tab_runs.specs.Runs.{free_below, with_last}
 use Rattle.tab_runs.proofs.RowLemmas.{parts_one, place_low}
 use Rattle.tab_runs.proofs.RunLemmas.{placed_last}
 

@@ -12,8 +12,9 @@ use Rattle.pat_place.proofs.SetLemmas.{SameCells, free_same, same_back, slot_sam
 use Rattle.pat_place.proofs.SlotLemmas.{slot_some}
 use Rattle.pat_place.proofs.WidthLemmas.{slot_within}
 use Rattle.tab_file.specs.Tables.{slot_count}
-use Rattle.tab_runs.specs.Rows.{IsOpen, IsRow, listed_below, place_of, row_length}
-use Rattle.tab_runs.specs.Runs.{IsRun, free_below, most_run_entries, run_length, with_last}
+use Rattle.tab_runs.specs.Rows.{IsOpen, IsRow, listed_below, place_in_run, row_length}
+use Rattle.tab_runs.specs.RunPlaces.{IsRun, most_run_entries, run_length}
+use Rattle.tab_runs.specs.Runs.{free_below, with_last}
 use Rattle.tab_runs.proofs.RunLemmas.{free-with_last, open_free, placed_last, same_with_last, with_last-free}
 use Rattle.tab_runs.proofs.RunRanks.{free_at, free_below-low, free_below-one}
 
@@ -49,12 +50,12 @@ parts_one a b w j k l m e = elim (cases_eq a b) [
   ]
 ]
 
-pub place_one : (n w : ℕ) (p : List ℕ) (c d j k : ℕ) → j < w → k < w → IsFree n p c → IsFree n p d → place_of w p c j ≡ place_of w p d k → (c ≡ d) × (j ≡ k)
+pub place_one : (n w : ℕ) (p : List ℕ) (c d j k : ℕ) → j < w → k < w → IsFree n p c → IsFree n p d → place_in_run w p c j ≡ place_in_run w p d k → (c ≡ d) × (j ≡ k)
 place_one n w p c d j k l m free also e =
     let parts = parts_one (free_below p c) (free_below p d) w j k l m (omega arith) in
     (free_below-one n p c d free also parts.0, parts.1)
 
-pub place_low : (n w : ℕ) (p : List ℕ) (c j : ℕ) → AllByRecursion (λ x. x < n * n) p → IsApart p → IsFree n p c → j < w → place_of w p c j < 1 + run_length n p * w
+pub place_low : (n w : ℕ) (p : List ℕ) (c j : ℕ) → AllByRecursion (λ x. x < n * n) p → IsApart p → IsFree n p c → j < w → place_in_run w p c j < 1 + run_length n p * w
 place_low n w p c j inside apart free l =
     let low = free_below-low n p c inside apart free in
     let h : (free_below p c + 1) * w ≤ run_length n p * w = mul-le-mul_right w (let s : free_below p c + 1 ≤ run_length n p = omega arith in s) in

@@ -16,7 +16,8 @@ use Rattle.pat_place.proofs.ListLemmas.{all_at, at-has}
 use Rattle.pat_place.proofs.RankLemmas.{IsRank-one}
 use Rattle.tab_file.specs.Tables.{Table}
 use Rattle.tab_runs.specs.Outside.{IsLastOutside}
-use Rattle.tab_runs.specs.Runs.{IsFirstRank, IsRun, free_below, run_length, with_last}
+use Rattle.tab_runs.specs.RunPlaces.{IsFirstRank, IsRun, run_length}
+use Rattle.tab_runs.specs.Runs.{free_below, with_last}
 use Rattle.tab_runs.proofs.RowLemmas.{parts_one}
 use Rattle.tab_runs.proofs.RunLemmas.{has-with_last}
 use Rattle.tab_runs.proofs.RunRanks.{first_some, free_at, free_below-low, free_below-up}

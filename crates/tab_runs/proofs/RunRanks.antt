@@ -12,7 +12,8 @@ use Rattle.pat_place.specs.Ranks.{without, lists_of, falling_factorial, IsRank}
 use Rattle.pat_place.proofs.ListLemmas.{Some-one, apart_from_ascending, ascending-filter, ascending-range, filter-append, range-append}
 use Rattle.pat_place.proofs.RankLemmas.{IsRank-from, falling_more, get-below, in_all, length-without, rank_step, still_in}
 use Rattle.pat_place.proofs.NextLemmas.{get-has}
-use Rattle.tab_runs.specs.Runs.{IsFirstRank, free_below, run_length, with_last}
+use Rattle.tab_runs.specs.RunPlaces.{IsFirstRank, run_length}
+use Rattle.tab_runs.specs.Runs.{free_below, with_last}
 
 -- ---- places in a list
 

@@ -6,12 +6,12 @@ use Rattle.pat_place.specs.Patterns.{IsPattern, PatternView}
 use Rattle.pat_place.specs.Placements.{IsFree}
 use Rattle.pat_place.specs.Regions.{AreRegions, IsSlot}
 use Rattle.pat_place.proofs.SlotLemmas.{slot_one}
-use Rattle.tab_check.proofs.OneEntryLemmas.{none_past}
+use Rattle.tab_rule.proofs.RegionLemmas.{none_past}
 use Rattle.tab_file.specs.Tables.{slot_count}
-use Rattle.tab_runs.specs.Kinds.{AreMarked}
-use Rattle.tab_runs.specs.Rows.{IsOpen, listed_below, place_of, row_length}
-use Rattle.tab_runs.specs.SetRows.{AreRowsUpTo, IsColumn, IsInSome, IsNumbered, listed_of}
-use Rattle.tab_runs.specs.Runs.{IsRun, free_below, with_last}
+use Rattle.tab_runs.specs.SetRows.{AreMarked, AreRowsUpTo, IsColumn, IsInSome, IsNumbered, listed_of}
+use Rattle.tab_runs.specs.Rows.{IsOpen, listed_below, place_in_run, row_length}
+use Rattle.tab_runs.specs.RunPlaces.{IsRun}
+use Rattle.tab_runs.specs.Runs.{free_below, with_last}
 use Rattle.tab_runs.proofs.ListedLemmas.{listed_behind, listed_is}
 use Rattle.tab_runs.proofs.RunRanks.{free_below-one}
 use Rattle.tab_runs.proofs.RowLemmas.{listed_low, parts_one}
@@ -93,7 +93,7 @@ module _ (p : PatternView) (pat : IsPattern p) (cells : List ℕ) (run : IsRun p
     abbrev len : ℕ
     len = row_length p.side (length p.tiles)
 
-    at_column : (x j : ℕ) → IsOpen p.side cells x c → IsSlot p.side (with_last cells c) x j → get_or new (x * len + listed_below cells x c) 0 ≡ place_of (slot_count p) cells c j
+    at_column : (x j : ℕ) → IsOpen p.side cells x c → IsSlot p.side (with_last cells c) x j → get_or new (x * len + listed_below cells x c) 0 ≡ place_in_run (slot_count p) cells c j
     at_column x j o s =
         let some = is_in_some x j s in
         let f = column.filled x o.cell.0 some in
@@ -111,7 +111,7 @@ module _ (p : PatternView) (pat : IsPattern p) (cells : List ℕ) (run : IsRun p
     set_rows_more = record {
       size = size ∙ set_rows.size;
       filled = λ x d j l o s. elim (cases_eq d c) [
-        | inl e ↦ subst (λ q. get_or new (x * len + listed_below cells x q) 0 ≡ place_of (slot_count p) cells q j) (sym e)
+        | inl e ↦ subst (λ q. get_or new (x * len + listed_below cells x q) 0 ≡ place_in_run (slot_count p) cells q j) (sym e)
             (at_column x j (subst (IsOpen p.side cells x) e o) (subst (λ q. IsSlot p.side (with_last cells q) x j) e s))
         | inr ne ↦ kept x d o ne ∙ set_rows.filled x d j (omega arith) o s
       ];

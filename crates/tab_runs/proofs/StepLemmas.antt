@@ -8,13 +8,14 @@ use Rattle.pat_place.specs.Patterns.{IsPattern}
 use Rattle.pat_place.specs.Placements.{IsFree}
 use Rattle.pat_place.specs.Regions.{IsSlot}
 use Rattle.tab_file.specs.Tables.{Table, slot_count}
-use Rattle.tab_check.specs.Entries.{IsEntryAt}
-use Rattle.tab_check.specs.LocalRule.{IsLeastNear, IsLeastOf, IsNearEntry}
-use Rattle.tab_check.proofs.EntryLemmas.{entry_one}
-use Rattle.tab_check.proofs.MoveLemmas.{IsLeastOf-same}
-use Rattle.tab_runs.specs.Rows.{IsOpen, IsRow, listed_below, place_of}
-use Rattle.tab_runs.specs.Runs.{AreRunEntries, IsRun, free_below, with_last}
-use Rattle.tab_runs.specs.Steps.{IsLastStep, IsOneStep, IsRowStep, IsRunStep, IsSomeLastStep, IsStepAmong, IsTileStep}
+use Rattle.tab_rule.specs.Entries.{IsEntryAt}
+use Rattle.tab_rule.specs.LocalRule.{IsLeastNear, IsLeastOf, IsNearEntry}
+use Rattle.tab_rule.proofs.EntryLemmas.{entry_one}
+use Rattle.tab_rule.proofs.MoveLemmas.{IsLeastOf-same}
+use Rattle.tab_runs.specs.Rows.{IsOpen, IsRow, listed_below, place_in_run}
+use Rattle.tab_runs.specs.RunPlaces.{AreRunEntries, IsRun}
+use Rattle.tab_runs.specs.Runs.{free_below, with_last}
+use Rattle.tab_runs.specs.Steps.{IsLastStep, IsSingleStep, IsRowStep, IsRunStep, IsSomeLastStep, IsStepAmong, IsTileStep}
 use Rattle.tab_runs.proofs.RowLemmas.{free_below-same, listed_at, listed_low, place_one, slot_low, slot_of_open}
 use Rattle.tab_runs.proofs.RunLemmas.{open_moved, placed_last, run_moved, same_moved, with_last-free}
 
@@ -53,7 +54,7 @@ module _ (t : Table) (pat : IsPattern t.pattern) (p : List ℕ) (run : IsRun t.p
     open_a : IsOpen t.pattern.side p a b
     open_a = record { last = free_b; cell = free_a; other = λ e. apart (sym e) }
 
-    pub last_from_one : (place e : ℕ) → IsOneStep (get_or row_b (listed_below p b a) 0) (get_or own (get_or row_a (listed_below p a b) 0) 0) place e → IsLastStep t p a b place e
+    pub last_from_one : (place e : ℕ) → IsSingleStep (get_or row_b (listed_below p b a) 0) (get_or own (get_or row_a (listed_below p a b) 0) 0) place e → IsLastStep t p a b place e
     last_from_one place e s =
         let j = slot_of_open t.pattern pat p run b a open_b in
         record {
@@ -64,7 +65,7 @@ module _ (t : Table) (pat : IsPattern t.pattern) (p : List ℕ) (run : IsRun t.p
           entry = subst (IsEntryAt t (with_last p b) a) (sym s.is_entry) (row_entry own entries a row_a is_a b open_a);
         }
 
-    pub one_from_last : (place e : ℕ) → IsLastStep t p a b place e → IsOneStep (get_or row_b (listed_below p b a) 0) (get_or own (get_or row_a (listed_below p a b) 0) 0) place e
+    pub one_from_last : (place e : ℕ) → IsLastStep t p a b place e → IsSingleStep (get_or row_b (listed_below p b a) 0) (get_or own (get_or row_a (listed_below p a b) 0) 0) place e
     one_from_last place e s = record {
       is_place = s.is_place ∙ sym (is_b.place a s.slot s.opens s.in_slot);
       is_entry = entry_same a b e (get_or own (get_or row_a (listed_below p a b) 0) 0) open_a s.entry (row_entry own entries a row_a is_a b open_a);
@@ -114,10 +115,10 @@ module _ (t : Table) (pat : IsPattern t.pattern) (p : List ℕ) (run : IsRun t.p
   n : ℕ
   n = t.pattern.side
 
-  here : (d k e : ℕ) → IsFree t.pattern.side p d → (x : ℕ) → IsSlot t.pattern.side (with_last p d) x k → place_of (slot_count t.pattern) p c j ≡ place_of (slot_count t.pattern) p d k → (c ≡ d) × (j ≡ k)
+  here : (d k e : ℕ) → IsFree t.pattern.side p d → (x : ℕ) → IsSlot t.pattern.side (with_last p d) x k → place_in_run (slot_count t.pattern) p c j ≡ place_in_run (slot_count t.pattern) p d k → (c ≡ d) × (j ≡ k)
   here d k e was x is same = place_one t.pattern.side (slot_count t.pattern) p c d j k j_low (slot_low t.pattern pat p run d x k was is) free was same
 
-  near_from_among : (e : ℕ) → IsStepAmong t p (length p) (place_of (slot_count t.pattern) p c j) e → IsNearEntry t (with_last p c) j e
+  near_from_among : (e : ℕ) → IsStepAmong t p (length p) (place_in_run (slot_count t.pattern) p c j) e → IsNearEntry t (with_last p c) j e
   near_from_among e s =
       let step = s.step.step in
       let i : ℕ = s.index in
@@ -138,7 +139,7 @@ module _ (t : Table) (pat : IsPattern t.pattern) (p : List ℕ) (run : IsRun t.p
             (subst (λ d. IsEntryAt t (with_last (set p i f) d) (get_or p i 0) e) (sym one.0) step.entry));
       }
 
-  near_from_last : (e : ℕ) → IsSomeLastStep t p (place_of (slot_count t.pattern) p c j) e → IsNearEntry t (with_last p c) j e
+  near_from_last : (e : ℕ) → IsSomeLastStep t p (place_in_run (slot_count t.pattern) p c j) e → IsNearEntry t (with_last p c) j e
   near_from_last e s =
       let step = s.step in
       let b : ℕ = s.to in
@@ -156,10 +157,10 @@ module _ (t : Table) (pat : IsPattern t.pattern) (p : List ℕ) (run : IsRun t.p
         entry = subst (λ q. IsEntryAt t q (get_or (with_last p c) (length p) 0) e) same_set (subst (λ x. IsEntryAt t (with_last p b) x e) (sym one.0 ∙ same_get) step.entry);
       }
 
-  pub near_from_step : (e : ℕ) → IsRunStep t p (place_of (slot_count t.pattern) p c j) e → IsNearEntry t (with_last p c) j e
+  pub near_from_step : (e : ℕ) → IsRunStep t p (place_in_run (slot_count t.pattern) p c j) e → IsNearEntry t (with_last p c) j e
   near_from_step e s = elim s [ inl among ↦ near_from_among e among | inr last ↦ near_from_last e last ]
 
-  pub step_from_near : (e : ℕ) → IsNearEntry t (with_last p c) j e → IsRunStep t p (place_of (slot_count t.pattern) p c j) e
+  pub step_from_near : (e : ℕ) → IsNearEntry t (with_last p c) j e → IsRunStep t p (place_in_run (slot_count t.pattern) p c j) e
   step_from_near e near = elim (cases_lt near.index (length p)) [
     | inl low ↦ inl (inner low)
     | inr high ↦ inr (outer (let l : near.index < length (with_last p c) = near.moves.is_index in let k = length_push p c in omega arith))
@@ -171,7 +172,7 @@ module _ (t : Table) (pat : IsPattern t.pattern) (p : List ℕ) (run : IsRun t.p
       opens : IsOpen t.pattern.side p near.to c
       opens = let w = with_last-free t.pattern.side p c near.to near.moves.in_slot.free in record { last = free; cell = w.0; other = w.1 }
 
-      inner : near.index < length p → IsStepAmong t p (length p) (place_of (slot_count t.pattern) p c j) e
+      inner : near.index < length p → IsStepAmong t p (length p) (place_in_run (slot_count t.pattern) p c j) e
       inner low =
           let i : ℕ = near.index in
           let same_get : get_or (with_last p c) i 0 ≡ get_or p i 0 = get_or_append_left p (c ∷ []) 0 i low in
@@ -194,7 +195,7 @@ module _ (t : Table) (pat : IsPattern t.pattern) (p : List ℕ) (run : IsRun t.p
             };
           }
 
-      outer : near.index ≡ length p → IsSomeLastStep t p (place_of (slot_count t.pattern) p c j) e
+      outer : near.index ≡ length p → IsSomeLastStep t p (place_in_run (slot_count t.pattern) p c j) e
       outer last =
           let same_get : get_or (with_last p c) near.index 0 ≡ c = get_or_at p c [] 0 near.index (sym last) in
           let same_set : set (with_last p c) near.index near.to ≡ with_last p near.to = ap (λ i. set (with_last p c) i near.to) last ∙ set-append_seam p c [] near.to in
@@ -211,5 +212,5 @@ module _ (t : Table) (pat : IsPattern t.pattern) (p : List ℕ) (run : IsRun t.p
             };
           }
 
-  pub least_near_of_run : (m : ℕ) → IsLeastOf (IsRunStep t p (place_of (slot_count t.pattern) p c j)) m → IsLeastNear t (with_last p c) j m
-  least_near_of_run m is = IsLeastOf-same (IsRunStep t p (place_of (slot_count t.pattern) p c j)) (IsNearEntry t (with_last p c) j) near_from_step step_from_near m is
+  pub least_near_of_run : (m : ℕ) → IsLeastOf (IsRunStep t p (place_in_run (slot_count t.pattern) p c j)) m → IsLeastNear t (with_last p c) j m
+  least_near_of_run m is = IsLeastOf-same (IsRunStep t p (place_in_run (slot_count t.pattern) p c j)) (IsNearEntry t (with_last p c) j) near_from_step step_from_near m is

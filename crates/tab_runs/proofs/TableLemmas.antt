@@ -7,8 +7,8 @@ use Rattle.pat_place.specs.Patterns.{IsPattern, PatternView, has}
 use Rattle.pat_place.proofs.SetLemmas.{same_of_mask}
 use Rattle.tab_runs.specs.SetRows.{AreRowsUpTo}
 use Rattle.tab_runs.specs.Rows.{IsRow, listed_below, row_length}
-use Rattle.tab_runs.specs.Runs.{IsRun}
-use Rattle.tab_runs.specs.StoredRows.{AreRowsOf, row_of}
+use Rattle.tab_runs.specs.RunPlaces.{IsRun}
+use Rattle.tab_runs.specs.RowTables.{AreRowsOf, row_of}
 use Rattle.tab_runs.proofs.RowLemmas.{listed_low, row_same}
 
 module _ (p : PatternView) (pat : IsPattern p) (cells : List ℕ) (run : IsRun p cells) (block : List ℕ) (filled : AreRowsUpTo p.side (length p.tiles) cells (p.side * p.side) block) where

@@ -7,8 +7,8 @@ use Rattle.pat_place.specs.Placements.{IsFree}
 use Rattle.puz_board.proofs.CellLemmas.{few_cells}
 use Rattle.tab_file.specs.Tables.{Table}
 use Rattle.tab_runs.specs.Rows.{IsRow, row_length}
-use Rattle.tab_runs.specs.StoredRows.{AreRowsOf, RowsView, row_of, rows_for}
-use Rattle.tab_runs.specs.Runs.{AreRunEntries, IsRun}
+use Rattle.tab_runs.specs.RowTables.{AreRowsOf, RowsView, row_of, rows_for}
+use Rattle.tab_runs.specs.RunPlaces.{AreRunEntries, IsRun}
 use Rattle.tab_runs.specs.RunsOfTables.{IsRunOf}
 use Rattle.tab_runs.specs.declared.runs.Run.{Run}
 use Rattle.pat_place.proofs.ListLemmas.{all_at}

@@ -1,10 +1,11 @@
 -- Checks of a run: its entries against the least near entries, by the kinds of their slots.
 use Rattle.std.specs.Prelude.{ℕ, ◌+◌, ◌*◌, ◌<◌, ◌≤◌, List, slice_index}
 use Rattle.pat_place.specs.Placements.{IsFree}
-use Rattle.tab_check.specs.BadEntries.{IsBad, KeepsRule}
-use Rattle.tab_check.specs.LocalRule.{IsKindOf}
+use Rattle.tab_rule.specs.BadEntries.{IsBad, KeepsRule}
+use Rattle.tab_rule.specs.LocalRule.{IsKindOf}
 use Rattle.tab_file.specs.Tables.{Table, slot_count}
-use Rattle.tab_runs.specs.Runs.{IsFirstRank, free_below, run_length, with_last}
+use Rattle.tab_runs.specs.RunPlaces.{IsFirstRank, run_length}
+use Rattle.tab_runs.specs.Runs.{free_below, with_last}
 
 -- the kinds of the slots of a run's placements, side by side
 abbrev pub AreKinds : Table → List ℕ → List ℕ → Type 0

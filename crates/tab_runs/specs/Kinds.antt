@@ -1,9 +1,9 @@
 -- Which slots of a run's placements have a region, a byte for each entry of the run.
-use Rattle.std.specs.Prelude.{◌≡◌, ℕ, ◌+◌, ◌*◌, ◌<◌, ◌≤◌, ◌⊎◌, ◌↔◌, true, List, length, slice_index}
+use Rattle.std.specs.Prelude.{◌≡◌, ℕ, ◌+◌, ◌*◌, ◌<◌, ◌⊎◌, ◌↔◌, true, List, slice_index}
 use Rattle.std.specs.Int.{bit_at}
 use Rattle.pat_place.specs.Patterns.{has}
 use Rattle.pat_place.specs.Placements.{IsFree}
-use Rattle.tab_check.specs.Entries.{HasNoRegion, HasRegion}
+use Rattle.tab_rule.specs.Entries.{HasNoRegion, HasRegion}
 use Rattle.tab_lanes.specs.LocalRule.{other_slot, without_region}
 use Rattle.tab_runs.specs.Runs.{free_below, with_last}
 
@@ -18,14 +18,3 @@ TellRegions n w p kinds = (c j : ℕ) → IsFree n p c → j < w → TellsRegion
 -- the same for a set of cells as a mask: the order of the cells is all the same
 abbrev pub TellRegionsOf : ℕ → ℕ → ℕ → List ℕ → Type 0
 TellRegionsOf n w mask kinds = (p : List ℕ) → ((y : ℕ) → (bit_at mask y ≡ 1) ↔ (has p y ≡ true)) → TellRegions n w p kinds
-
--- the bytes from one place on are those of slots with a region, and the others are as they were
-pub record AreMarked (at count : ℕ) (old new : List ℕ) : Type 0 where
-  pub len : length new ≡ length old
-  pub inside : (i : ℕ) → at ≤ i → i < at + count → slice_index new i ≡ other_slot
-  pub outside : (i : ℕ) → (i < at) ⊎ (at + count ≤ i) → slice_index new i ≡ slice_index old i
-
--- the bytes of the placements with the last tile in one of the first `count` cells
-pub record AreKindsUpTo (n w : ℕ) (p : List ℕ) (count : ℕ) (kinds : List ℕ) : Type 0 where
-  pub filled : (c j : ℕ) → c < count → IsFree n p c → j < w → TellsRegion n (with_last p c) j (slice_index kinds (free_below p c * w + j))
-  pub empty : (c j : ℕ) → ¬ (c < count) → IsFree n p c → j < w → slice_index kinds (free_below p c * w + j) ≡ 0

@@ -1,8 +1,8 @@
 -- Parts of a table: the entries from one number up to another.
 use Rattle.std.specs.Prelude.{◌≡◌, ℕ, ◌*◌, ◌<◌, ◌≤◌, List}
-use Rattle.tab_check.specs.BadEntries.{IsBad, KeepsRule}
+use Rattle.tab_rule.specs.BadEntries.{IsBad, KeepsRule}
 use Rattle.tab_file.specs.Tables.{Table, slot_count}
-use Rattle.tab_runs.specs.Runs.{IsFirstRank}
+use Rattle.tab_runs.specs.RunPlaces.{IsFirstRank}
 
 -- each of them keeps the rule
 abbrev pub EntriesKeepRule : Table → ℕ → ℕ → Type 0

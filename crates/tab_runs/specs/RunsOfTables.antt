@@ -2,15 +2,15 @@
 use Rattle.std.specs.Prelude.{◌≡◌, ℕ, ◌+◌, ◌*◌, ◌<◌, ◌≤◌, ◌^◌, true, List, length}
 use Rattle.puz_board.specs.Masks.{IsMaskOf}
 use Rattle.pat_place.specs.Patterns.{has}
-use Rattle.tab_check.specs.Entries.{IsGoalNumber}
+use Rattle.tab_rule.specs.Entries.{IsGoalNumber}
 use Rattle.tab_file.specs.Tables.{Table, placement_count, slot_count}
 use Rattle.tab_runs.specs.declared.runs.Run.{Run}
 use Rattle.tab_runs.specs.declared.runs.RunCells.{RunCells}
 use Rattle.tab_runs.specs.declared.runs.RunKinds.{RunKinds}
 use Rattle.tab_runs.specs.Kinds.{TellRegions}
 use Rattle.tab_runs.specs.Parts.{IsBeforeRun}
-use Rattle.tab_runs.specs.Runs.{AreRunEntries, IsFirstRank, IsRun, run_length}
-use Rattle.tab_runs.specs.StoredRows.{AreRowsOf}
+use Rattle.tab_runs.specs.RunPlaces.{AreRunEntries, IsFirstRank, IsRun, run_length}
+use Rattle.tab_runs.specs.RowTables.{AreRowsOf}
 
 -- the run is one of the table, and what is kept with it is that of its cells
 pub record IsRunOf (t : Table) (r : Run) : Type 0 where
@@ -21,7 +21,7 @@ pub record IsRunOf (t : Table) (r : Run) : Type 0 where
   pub own : AreRunEntries t r.cells.now r.own.now
 
 -- the cells are those of a run of the table, with their set and the rank of the run's first placement
-pub record AreCellsOf (t : Table) (r : RunCells) : Type 0 where
+pub record AreCellsOfRun (t : Table) (r : RunCells) : Type 0 where
   pub run : IsRun t.pattern r.cells.now
   pub bits : r.set < 2 ^ 32
   pub set : IsMaskOf r.set (λ c. has r.cells.now c ≡ true)

@@ -1,10 +1,13 @@
--- Blocks of rows: the rows of all cells for one set of cells, one behind the other.
-use Rattle.std.specs.Prelude.{◌≡◌, ◌≢◌, ℕ, ◌+◌, ◌-◌, ◌*◌, ◌<◌, List, ltb, length, slice_index}
+-- How the rows of all cells for one set of cells are filled, and what is kept of its slots.
+use Rattle.std.specs.Prelude.{◌≡◌, ◌≢◌, ℕ, ◌+◌, ◌-◌, ◌*◌, ◌<◌, ◌≤◌, ◌⊎◌, List, ltb, length, slice_index}
 use Rattle.std.specs.Int.{bit_at, from_bool}
 use Rattle.pat_place.specs.Patterns.{width}
+use Rattle.pat_place.specs.Placements.{IsFree}
 use Rattle.pat_place.specs.Regions.{IsSlot}
-use Rattle.tab_runs.specs.Rows.{IsOpen, listed_below, place_of, row_length}
-use Rattle.tab_runs.specs.Runs.{with_last}
+use Rattle.tab_lanes.specs.LocalRule.{other_slot}
+use Rattle.tab_runs.specs.Kinds.{TellsRegion}
+use Rattle.tab_runs.specs.Rows.{IsOpen, listed_below, place_in_run, row_length}
+use Rattle.tab_runs.specs.Runs.{free_below, with_last}
 
 -- how many cells below c the row of x lists, where `free` cells below c are free
 abbrev pub listed_of : ℕ → ℕ → ℕ → ℕ
@@ -28,4 +31,17 @@ pub record IsColumn (m c free before : ℕ) (regions : List ℕ) (count : ℕ) (
 pub record AreRowsUpTo (n k : ℕ) (p : List ℕ) (count : ℕ) (block : List ℕ) : Type 0 where
   pub size : length block ≡ n * n * row_length n k
   pub filled : (x c j : ℕ) → c < count → IsOpen n p x c → IsSlot n (with_last p c) x j →
-      slice_index block (x * row_length n k + listed_below p x c) ≡ place_of (width n k) p c j
+      slice_index block (x * row_length n k + listed_below p x c) ≡ place_in_run (width n k) p c j
+
+-- ---- which slots have a region
+
+-- the bytes from one place on are those of slots with a region, and the others are as they were
+pub record AreMarked (at count : ℕ) (old new : List ℕ) : Type 0 where
+  pub len : length new ≡ length old
+  pub inside : (i : ℕ) → at ≤ i → i < at + count → slice_index new i ≡ other_slot
+  pub outside : (i : ℕ) → (i < at) ⊎ (at + count ≤ i) → slice_index new i ≡ slice_index old i
+
+-- the bytes of the placements with the last tile in one of the first `count` cells
+pub record AreKindsUpTo (n w : ℕ) (p : List ℕ) (count : ℕ) (kinds : List ℕ) : Type 0 where
+  pub filled : (c j : ℕ) → c < count → IsFree n p c → j < w → TellsRegion n (with_last p c) j (slice_index kinds (free_below p c * w + j))
+  pub empty : (c j : ℕ) → ¬ (c < count) → IsFree n p c → j < w → slice_index kinds (free_below p c * w + j) ≡ 0

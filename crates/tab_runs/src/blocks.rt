@@ -3,16 +3,16 @@
 ghost use Rattle.std.specs.Prelude.{◌≡◌, ◌≢◌, ℕ, ◌+◌, ◌-◌, ◌*◌, ◌%◌, ◌<◌, ◌≤◌, IfOk, MatchOption, length, slice_index};
 ghost use Rattle.pat_place.specs.Placements.{IsPlacement};
 ghost use Rattle.pat_place.specs.Ranks.{IsRank};
-ghost use Rattle.tab_check.specs.Blocks.{BlockKeepsRule, IsLeastBadIn, block_count};
-ghost use Rattle.tab_check.specs.Entries.{IsGoalNumber};
+ghost use Rattle.tab_rule.specs.Blocks.{BlockKeepsRule, IsLeastBadIn, block_count};
+ghost use Rattle.tab_rule.specs.Entries.{IsGoalNumber};
 ghost use Rattle.tab_file.specs.Tables.{placement_count, slot_count};
 ghost use Rattle.tab_lanes.specs.LocalRule.{goal_slot};
 ghost use Rattle.tab_runs.specs.Checks.{ArePlacesOf, IsFirstBadPlace, RunKeepsRule};
 ghost use Rattle.tab_runs.specs.Parts.{EntriesKeepRule, IsFirstBadEntry};
-ghost use Rattle.tab_runs.specs.Runs.{most_run_entries};
-ghost use Rattle.tab_runs.specs.RunsOfTables.{AreCellsOf, AreRanksOf, IsRunOf, TellKindsOf};
+ghost use Rattle.tab_runs.specs.RunPlaces.{most_run_entries};
+ghost use Rattle.tab_runs.specs.RunsOfTables.{AreCellsOfRun, AreRanksOf, IsRunOf, TellKindsOf};
 ghost use Rattle.tab_runs.specs.Steps.{AreLeastNear};
-ghost use Rattle.tab_runs.specs.StoredRows.{rows_for};
+ghost use Rattle.tab_runs.specs.RowTables.{rows_for};
 
 use crate::checks::first_bad;
 use crate::masks::last_outside;
@@ -22,15 +22,16 @@ use crate::runs::{BYTE_PLACES, Run, RunCells, RunKinds, run_entries};
 use pat_place::{Pattern, Placement, next, unrank};
 use puz_board::masks;
 use std::ops::Range;
-use tab_check::{BLOCK_RANKS, check_block, goal_number};
+use tab_columns::check_block;
 use tab_file::TableView;
 use tab_lanes::{GOAL_SLOT, WITHOUT_REGION};
+use tab_rule::{BLOCK_RANKS, goal_number};
 
 /// The table of rows doesn't have a set of cells.
 #[derive(Clone, Copy)]
 struct MissingRow;
 
-/// The number of a block's least entry that breaks the local rule, as `tab_check::check_block` answers it. The rows are
+/// The number of a block's least entry that breaks the local rule, as `check_block` of `tab_columns` answers it. The rows are
 /// those of the table's side and number of tiles; where they lack a set, the block is checked without them.
 pub fn check_runs(table: &TableView<'_>, rows: &RowTable, block: u64) -> Option<u64>
     requires block { block < block_count table.now.pattern }
@@ -125,7 +126,7 @@ fn check_part(
 ) -> Result<Option<u64>, MissingRow>
     requires rows { rows.now ≡ rows_for table.now.pattern }
     requires goal { IsGoalNumber table.now.pattern goal }
-    requires run_cells { AreCellsOf table.now run_cells.now }
+    requires run_cells { AreCellsOfRun table.now run_cells.now }
     requires ranks { AreRanksOf table.now run_cells.now ranks.start ranks.end }
     ensures { IfOk result (λ found. MatchOption found
         (EntriesKeepRule table.now (ranks.start * slot_count table.now.pattern) (ranks.end * slot_count table.now.pattern))

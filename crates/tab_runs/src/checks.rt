@@ -3,7 +3,7 @@
 ghost use Rattle.std.specs.Prelude.{◌+◌, ◌*◌, ◌≤◌, MatchOption, length};
 ghost use Rattle.tab_file.specs.Tables.{slot_count};
 ghost use Rattle.tab_runs.specs.Checks.{AreKinds, ArePlacesOf, IsFirstBadPlace, RunKeepsRule};
-ghost use Rattle.tab_runs.specs.Runs.{run_length};
+ghost use Rattle.tab_runs.specs.RunPlaces.{run_length};
 ghost use Rattle.tab_runs.specs.RunsOfTables.{IsRunOf};
 ghost use Rattle.tab_runs.specs.Steps.{AreLeastNear};
 

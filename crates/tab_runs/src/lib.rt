@@ -10,8 +10,6 @@ mod near;
 mod rows;
 mod runs;
 mod set_rows;
-mod tables;
 
 pub use blocks::check_runs;
 pub use rows::{KeptSet, RowTable};
-pub use tables::check_table;

@@ -6,17 +6,16 @@ ghost use Rattle.std.specs.Int.{bit_at};
 ghost use Rattle.puz_board.specs.Masks.{IsMaskOf};
 ghost use Rattle.pat_place.specs.Patterns.{has};
 ghost use Rattle.pat_place.specs.Placements.{IsFree};
-ghost use Rattle.tab_runs.specs.Runs.{AreFreeBelow};
+ghost use Rattle.tab_runs.specs.RunPlaces.{AreFreeBelow};
 ghost use Rattle.tab_runs.specs.RunsOfTables.{IsRunOf};
-ghost use Rattle.tab_runs.specs.StoredRows.{rows_for};
+ghost use Rattle.tab_runs.specs.RowTables.{rows_for};
 ghost use Rattle.tab_runs.specs.Steps.{AreLeastNear, IsBesideStep, IsIndexStep, IsPairStep, IsSomeLastStep, IsStepAmong, IsTakenIn, IsTileStep};
 
 use crate::kernels::{take_in, take_one};
 use crate::rows::RowTable;
 use crate::runs::{BYTE_PLACES, Run, run_entries};
 use puz_board::masks;
-use tab_file::TableView;
-use tab_lanes::NO_WAY_HOME;
+use tab_file::{NO_WAY_HOME, TableView};
 
 /// The cells with one of them changed. Zeros stand behind them.
 #[inline]

@@ -4,11 +4,11 @@ ghost use Rattle.std.specs.Prelude.{◌≡◌, ℕ, ◌+◌, ◌*◌, ◌^◌, �
 ghost use Rattle.puz_board.specs.Masks.{IsMaskOf};
 ghost use Rattle.pat_place.specs.Patterns.{has};
 ghost use Rattle.tab_file.specs.Tables.{slot_count};
-ghost use Rattle.tab_runs.specs.Kinds.{AreKindsUpTo, AreMarked};
-ghost use Rattle.tab_runs.specs.Runs.{IsRun, run_length};
+ghost use Rattle.tab_runs.specs.SetRows.{AreKindsUpTo, AreMarked, AreRowsUpTo, IsColumn, IsInSome, listed_of};
+ghost use Rattle.tab_runs.specs.RunPlaces.{IsRun, run_length};
 ghost use Rattle.tab_runs.specs.Rows.{row_length};
-ghost use Rattle.tab_runs.specs.SetRows.{AreRowsUpTo, IsColumn, IsInSome, listed_of};
-ghost use Rattle.tab_runs.specs.StoredRows.{AreAllKinds, AreAllRows, entries_of_run};
+ghost use Rattle.tab_runs.specs.StoredRows.{AreAllKinds, AreAllRows};
+ghost use Rattle.tab_runs.specs.RowTables.{entries_of_run};
 
 use arrayvec::ArrayVec;
 use pat_place::{Pattern, find_region, next, put_numbers, rank_among, regions, unrank};

@@ -3,14 +3,14 @@
 
 ghost use Rattle.work_run.specs.Workers.{AreWorkers};
 
-use crate::censuses::{BOTH, Check, bad_entry, census, census_by, expect_first_block_alone};
+use crate::censuses::{bad_entry, census, census_by, expect_first_block_alone};
 use samples::{HoldingGate, LeastCosts, Log};
 use std::alloc::{AllocError, Global};
 use std::process::Abort;
 use std::sync::Wait;
 use std::test::Fail;
 use std::thread::Threads;
-use tab_check::TableFault;
+use tab_rule::TableFault;
 use work_run::OpenGate;
 
 /// The header of all eight tiles on side 3: one slot, and 362,880 entries.
@@ -89,17 +89,16 @@ fn a_changed_entry_of_the_eight_puzzle_is_found_in_any_run(rt: HostRuntime) -> R
 /// Each of the blocks of the table of the 8-puzzle is entered once.
 fn check_entered<R: Threads + Wait + AllocGlobal + Abort>(
     rt: &R,
-    check: Check,
     file: &[u8],
     workers: u8,
 ) -> Result<(), Fail>
     requires { AreWorkers workers }
 {
     let log = Log::new(rt.alloc(), 2000)?;
-    assert!(rt; census_by(rt, check, file, workers, &log).is_ok());
+    assert!(rt; census_by(rt, file, workers, &log).is_ok());
     let mut blocks = log.notes(rt.alloc())?;
     blocks.sort()?;
-    assert_eq!(rt; blocks.len(), 1418, "{check:?} by {workers} workers");
+    assert_eq!(rt; blocks.len(), 1418, "{workers} workers");
     for (block, entered) in (0..).zip(&blocks) {
         assert_eq!(rt; *entered, block);
     }
@@ -109,10 +108,8 @@ fn check_entered<R: Threads + Wait + AllocGlobal + Abort>(
 #[test]
 fn each_block_is_entered_once(rt: HostRuntime) -> Result<(), Fail> {
     let file = exact_table(rt.alloc(), &[1, 2, 3, 4, 5, 6, 7, 8])?;
-    for check in BOTH {
-        for workers in [1, 2, 7, 64] {
-            check_entered(&rt, check, &file, workers)?;
-        }
+    for workers in [1, 2, 7, 64] {
+        check_entered(&rt, &file, workers)?;
     }
     Ok(())
 }
@@ -125,12 +122,10 @@ fn blocks_above_a_bad_entry_are_not_entered(rt: HostRuntime) -> Result<(), Fail>
 #[test]
 fn two_workers_check_two_blocks_side_by_side(rt: HostRuntime) -> Result<(), Fail> {
     let file = of_one_byte(rt.alloc(), 0xFF)?;
-    for check in BOTH {
-        let gate = HoldingGate::new(&[0], &[1]);
-        let answer = census_by(&rt, check, &file, 2, &gate);
-        assert_eq!(rt; answer, Err(bad_entry(46_233)));
-        assert!(rt; gate.saw_all());
-    }
+    let gate = HoldingGate::new(&[0], &[1]);
+    let answer = census_by(&rt, &file, 2, &gate);
+    assert_eq!(rt; answer, Err(bad_entry(46_233)));
+    assert!(rt; gate.saw_all());
     Ok(())
 }
 
@@ -141,9 +136,9 @@ fn want_of_memory_for_the_rows_changes_no_answer(rt: HostRuntime) -> Result<(), 
         Ok(file) => file,
         Err(_) => of_one_byte(rt.alloc(), 0xFF)?,
     };
-    let mut answer = census_by(&rt, Check::Runs, &file, 2, &OpenGate);
+    let mut answer = census_by(&rt, &file, 2, &OpenGate);
     if answer == Err(TableFault::Memory) {
-        answer = census_by(&rt, Check::Runs, &file, 2, &OpenGate);
+        answer = census_by(&rt, &file, 2, &OpenGate);
     }
     assert_eq!(rt; answer, Err(bad_entry(46_233)));
     Ok(())

@@ -1,7 +1,4 @@
-//! The check by runs on known tables and on changed ones, beside the plain one, and which sets have rows.
-
-ghost use Rattle.std.specs.Prelude.{◌≡◌};
-ghost use Rattle.tab_check.specs.Blocks.{block_count};
+//! The check by runs on known tables and on changed ones, beside that by columns, and which sets have rows.
 
 use pat_place::Pattern;
 use puz_board::Side;
@@ -12,23 +9,16 @@ use samples::files::{
 };
 use std::process::Abort;
 use std::test::Fail;
-use tab_check::{BLOCK_RANKS, check_block};
+use tab_check::{block_count, check_block};
 use tab_file::view;
 use tab_runs::{RowTable, check_runs};
 
-/// How many blocks a table of the pattern has.
-fn blocks_of(pattern: &Pattern) -> u64
-    ensures { result ≡ block_count pattern.now }
-{
-    pattern.count().div_ceil(BLOCK_RANKS)
-}
-
-/// The least bad entry of each block that has one, by runs. The plain check has the same answer for each block.
+/// The least bad entry of each block that has one, by runs. By columns each block has the same answer.
 fn bad_entries<R: AllocGlobal + Abort>(rt: &R, file: &[u8]) -> Result<Vec<u64>, Fail> {
     let table = view(file).ok().expect(rt, "a table file");
     let rows = RowTable::build(rt.alloc(), &table.pattern())?;
     let mut found = Vec::new(rt.alloc());
-    for block in 0..blocks_of(&table.pattern()) {
+    for block in 0..block_count(&table.pattern()) {
         let number = check_runs(&table, &rows, block);
         assert_eq!(rt; number, check_block(&table, block), "block {block}");
         if let Some(number) = number {

@@ -1,6 +1,6 @@
 //! Known tables, tables by a search of their own and changed ones, by several workers, and gates that watch and hold them.
 
-use crate::censuses::{Check, bad_entry, census, census_by, expect_first_block_alone, head_fault};
+use crate::censuses::{bad_entry, census, census_by, expect_first_block_alone, head_fault};
 use puz_board::Board;
 use samples::files::{
     FOURTEEN_BLOCKS, TILE_1, TILE_1_NEVER, TILE_3, TILE_24, TILES_12, TILES_123, TWO_BLOCKS,
@@ -313,7 +313,7 @@ fn files_of_another_length_are_refused(rt: HostRuntime) {
         } else {
             HeadFault::T6
         };
-        let cut = census_by(&rt, Check::Columns, &TILES_123[..len], 1, &OpenGate);
+        let cut = census_by(&rt, &TILES_123[..len], 1, &OpenGate);
         assert_eq!(rt; cut, Err(head_fault(want)), "{len} bytes");
     }
 }
@@ -409,10 +409,7 @@ fn four_workers_check_four_blocks_side_by_side(rt: HostRuntime) {
     let mut file = [0xFF; 13460];
     file[..20].copy_from_slice(&FOURTEEN_BLOCKS);
     let gate = HoldingGate::new(&[0, 1, 2, 3], &[0, 1, 2, 3]);
-    assert_eq!(rt;
-        census_by(&rt, Check::Columns, &file, 4, &gate),
-        Err(bad_entry(1))
-    );
+    assert_eq!(rt; census_by(&rt, &file, 4, &gate), Err(bad_entry(1)));
     assert!(rt; gate.saw_all());
 }
 
@@ -420,9 +417,9 @@ fn four_workers_check_four_blocks_side_by_side(rt: HostRuntime) {
 #[test]
 fn want_of_memory_is_answered_and_a_second_check_finds_the_fault(rt: HostRuntime) {
     let file = with_byte(&TILES_123, 34, 0x02);
-    let mut fault = census_by(&rt, Check::Columns, &file, 7, &OpenGate);
+    let mut fault = census_by(&rt, &file, 7, &OpenGate);
     if fault == Err(TableFault::Memory) {
-        fault = census_by(&rt, Check::Columns, &file, 7, &OpenGate);
+        fault = census_by(&rt, &file, 7, &OpenGate);
     }
     assert_eq!(rt; fault, Err(bad_entry(14)));
 }

@@ -1,5 +1,5 @@
 use Rattle.std.proofs.Common.{◌≡◌, ◌≤◌, ◌∙◌, ap, le-leb, leb-true, subst, sym}
-use Rattle.tab_check.specs.declared.tables.Count.TheVariants.{Finite}
+use Rattle.tab_rule.specs.declared.tables.Count.TheVariants.{Finite}
 use Rattle.set_sum.specs.Bounds.{Reaches}
 use Rattle.set_sum.specs.Parity.{told_of}
 use Rattle.set_sum.proofs.SayLemmas.{reaches_from_sum}

@@ -2,9 +2,9 @@ use Rattle.std.proofs.Common.{◌≡◌, ◌+◌, ◌<◌, ◌∷◌, true, drop
 use Rattle.std.specs.Prelude.{Any}
 use Rattle.std.proofs.lemmas.List.{take_more}
 use Rattle.puz_board.specs.Boards.{IsBoardOf, side_of}
-use Rattle.tab_check.specs.Counts.{AreCellsOf}
-use Rattle.tab_check.specs.declared.tables.Count.{Count}
-use Rattle.tab_check.specs.declared.tables.Count.TheVariants.{Finite, Never}
+use Rattle.tab_rule.specs.Counts.{AreCellsOf}
+use Rattle.tab_rule.specs.declared.tables.Count.{Count}
+use Rattle.tab_rule.specs.declared.tables.Count.TheVariants.{Finite, Never}
 use Rattle.set_sum.specs.Members.{MemberSays, board_for}
 use Rattle.set_sum.specs.Parts.{PartSays, part_pattern, part_shown, parts_shown}
 use Rattle.set_sum.specs.Sums.{AddUpTo}

@@ -1,7 +1,7 @@
 use Rattle.std.proofs.Common.{◌≡◌, ◌*◌, ◌≤◌, take, true}
 use Rattle.std.specs.Prelude.{Any}
 use Rattle.puz_board.specs.Transposing.{transposed}
-use Rattle.tab_check.specs.Counts.{AreCellsOf}
+use Rattle.tab_rule.specs.Counts.{AreCellsOf}
 use Rattle.set_sum.specs.Parts.{parts_shown}
 use Rattle.set_sum.specs.Sums.{AddUpTo}
 use Rattle.set_sum.proofs.tables.sum_of.Given as goal

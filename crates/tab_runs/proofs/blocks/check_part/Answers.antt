@@ -1,9 +1,9 @@
 use Rattle.std.proofs.Common.{◌≡◌, ◌-◌, ◌*◌, ◌<◌, sym, ◌∙◌, ap, subst, arith}
 use Rattle.pat_place.specs.Patterns.{width}
-use Rattle.tab_check.proofs.BlockLemmas.{number_fits}
+use Rattle.tab_rule.proofs.BlockLemmas.{number_fits}
 use Rattle.tab_file.specs.Tables.{slot_count}
 use Rattle.tab_runs.specs.Kinds.{TellRegionsOf}
-use Rattle.tab_runs.specs.StoredRows.{entries_of_run}
+use Rattle.tab_runs.specs.RowTables.{entries_of_run}
 use Rattle.tab_runs.proofs.KindLemmas.{entries_same}
 use Rattle.tab_runs.proofs.PartLemmas.{bad_between, keep_between, part_few, part_low}
 use Rattle.tab_runs.proofs.RowLemmas.{few_entries}

@@ -1,9 +1,8 @@
 use Rattle.std.proofs.Common.{◌≡◌, ◌+◌, ◌-◌, ◌*◌, ◌%◌, ◌<◌, length, sym, ◌∙◌, ap, subst, arith}
 use Rattle.pat_place.specs.Ranks.{IsRank}
-use Rattle.tab_check.proofs.ColumnLemmas.{next_rank}
+use Rattle.tab_rule.proofs.BlockLemmas.{first_fits, keeps_all, next_rank}
 use Rattle.std.specs.Prelude.{MatchOption}
-use Rattle.tab_check.specs.Blocks.{first_of_block}
-use Rattle.tab_check.proofs.BlockLemmas.{first_fits, keeps_all}
+use Rattle.tab_rule.specs.Blocks.{first_of_block}
 use Rattle.tab_file.specs.Tables.{placement_count, slot_count}
 use Rattle.tab_runs.specs.Parts.{EntriesKeepRule, IsFirstBadEntry}
 use Rattle.tab_runs.proofs.PartLemmas.{block_bad, entries_more}

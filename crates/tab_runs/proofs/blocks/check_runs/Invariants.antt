@@ -2,7 +2,7 @@ use Rattle.std.proofs.Common.{◌≡◌, ◌-◌, ◌*◌, ◌<◌, ◌≤◌}
 use Rattle.pat_place.specs.Placements.{IsPlacement}
 use Rattle.pat_place.specs.Ranks.{IsRank}
 use Rattle.tab_file.specs.Tables.{slot_count}
-use Rattle.tab_check.specs.Blocks.{first_of_block}
+use Rattle.tab_rule.specs.Blocks.{first_of_block}
 use Rattle.tab_runs.specs.Parts.{EntriesKeepRule}
 use Rattle.tab_runs.proofs.blocks.check_runs.Given as goal
 

@@ -2,7 +2,8 @@ use Rattle.std.proofs.Common.{◌≡◌, ℕ, ◌+◌, ◌<◌, true, false, len
 use Rattle.std.proofs.lemmas.Bool.{both_ways, false_from_ne_true}
 use Rattle.std.proofs.lemmas.List.{length-replicate}
 use Rattle.pat_place.specs.Patterns.{has}
-use Rattle.tab_runs.specs.Runs.{AreFreeBelow, free_below}
+use Rattle.tab_runs.specs.RunPlaces.{AreFreeBelow}
+use Rattle.tab_runs.specs.Runs.{free_below}
 use Rattle.tab_runs.proofs.ListedLemmas.{below_more}
 use Rattle.tab_runs.proofs.RunRanks.{free_below-free, free_below-taken, free_below-zero}
 use Rattle.tab_runs.proofs.near.free_below_each.Goals as goal

@@ -1,5 +1,6 @@
 use Rattle.std.proofs.Common.{◌≡◌, ◌≤◌, length}
-use Rattle.tab_runs.specs.Runs.{AreFreeBelow, free_below}
+use Rattle.tab_runs.specs.RunPlaces.{AreFreeBelow}
+use Rattle.tab_runs.specs.Runs.{free_below}
 use Rattle.tab_runs.proofs.near.free_below_each.Given as goal
 
 abbrev pub invariant-loop-cell : goal.invariant-loop-cell

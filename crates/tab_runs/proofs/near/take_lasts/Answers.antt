@@ -7,7 +7,7 @@ use Rattle.pat_place.specs.Placements.{IsFree}
 use Rattle.puz_board.proofs.BitLemmas.{in_below}
 use Rattle.puz_board.proofs.CellLemmas.{few_cells}
 use Rattle.pat_place.proofs.SlotSteps.{free_is}
-use Rattle.tab_runs.specs.Runs.{AreFreeBelow}
+use Rattle.tab_runs.specs.RunPlaces.{AreFreeBelow}
 use Rattle.tab_runs.proofs.LoopLemmas.{left_all, left_more, left_start, was_in}
 use Rattle.tab_runs.proofs.near.take_lasts.Goals as goal
 

@@ -4,8 +4,7 @@ use Rattle.puz_board.proofs.CellLemmas.{few_cells}
 use Rattle.pat_place.specs.Patterns.{has}
 use Rattle.pat_place.proofs.CountLemmas.{few_placements}
 use Rattle.tab_file.specs.Tables.{slot_count}
-use Rattle.tab_runs.specs.Kinds.{AreKindsUpTo}
-use Rattle.tab_runs.specs.SetRows.{AreRowsUpTo}
+use Rattle.tab_runs.specs.SetRows.{AreKindsUpTo, AreRowsUpTo}
 use Rattle.tab_runs.proofs.HeldLemmas.{IsAtLast, IsRunOfSet, at_last, held_as, held_more, held_skip, held_start, regions_are, regions_few, run_of_set}
 use Rattle.tab_runs.proofs.KindLemmas.{kinds_more, kinds_skip}
 use Rattle.tab_runs.proofs.RunRanks.{free_below-low}

@@ -1,7 +1,6 @@
 use Rattle.std.proofs.Common.{length}
 use Rattle.tab_file.specs.Tables.{slot_count}
-use Rattle.tab_runs.specs.Kinds.{AreKindsUpTo}
-use Rattle.tab_runs.specs.SetRows.{AreRowsUpTo}
+use Rattle.tab_runs.specs.SetRows.{AreKindsUpTo, AreRowsUpTo}
 use Rattle.tab_runs.proofs.HeldLemmas.{IsHeld, IsRunOfSet}
 use Rattle.tab_runs.proofs.set_rows.fill_rows.Given as goal
 

@@ -1,5 +1,5 @@
 use Rattle.std.proofs.Common.{◌-◌}
-use Rattle.tab_runs.specs.Kinds.{AreMarked}
+use Rattle.tab_runs.specs.SetRows.{AreMarked}
 use Rattle.tab_runs.proofs.set_rows.mark.Given as goal
 
 abbrev pub invariant-loop-place : goal.invariant-loop-place

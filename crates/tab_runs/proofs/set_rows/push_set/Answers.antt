@@ -3,9 +3,10 @@ use Rattle.puz_board.specs.Masks.{IsMaskOf}
 use Rattle.pat_place.specs.Patterns.{has}
 use Rattle.tab_file.specs.Tables.{slot_count}
 use Rattle.tab_runs.specs.Rows.{row_length}
-use Rattle.tab_runs.specs.Runs.{IsRun}
+use Rattle.tab_runs.specs.RunPlaces.{IsRun}
 use Rattle.tab_runs.specs.Kinds.{TellRegionsOf}
-use Rattle.tab_runs.specs.StoredRows.{AreAllKinds, AreAllRows, AreRowsOf, entries_of_run}
+use Rattle.tab_runs.specs.StoredRows.{AreAllKinds, AreAllRows}
+use Rattle.tab_runs.specs.RowTables.{AreRowsOf, entries_of_run}
 use Rattle.tab_runs.proofs.KindLemmas.{kinds_all, kinds_of_set}
 use Rattle.tab_runs.proofs.MaskRunLemmas.{few_numbers, mask_of_numbers, run_of_mask}
 use Rattle.tab_runs.proofs.TableLemmas.{rows_of_set}

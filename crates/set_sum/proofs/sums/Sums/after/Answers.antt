@@ -2,7 +2,7 @@ use Rattle.std.proofs.Common.{◌≡◌, ◌-◌, ◌^◌, ◌<◌, bit_and, Som
 use Rattle.puz_board.specs.Boards.{IsBoardOf, at, blank, slid}
 use Rattle.puz_board.specs.Cells.{Adjacent}
 use Rattle.puz_board.proofs.MovedLemmas.{IsBoardOf-moved}
-use Rattle.tab_check.specs.Counts.{AreCellsOf}
+use Rattle.tab_rule.specs.Counts.{AreCellsOf}
 use Rattle.set_sum.specs.StoredSums.{AreOwners, IsKnownOf}
 use Rattle.set_sum.specs.declared.sums.Known.{Known}
 use Rattle.set_sum.proofs.KnownLemmas.{cells_after, known_after, stepped}

@@ -2,7 +2,7 @@ use Rattle.std.proofs.Common.{◌≡◌, cond, List, sym, ◌∙◌, ap, subst}
 use Rattle.puz_board.specs.Boards.{IsBoardOf, side_of}
 use Rattle.puz_board.specs.Transposing.{transposed}
 use Rattle.puz_board.proofs.TransposeLemmas.{IsBoardOf-transposed}
-use Rattle.tab_check.specs.Counts.{AreCellsOf}
+use Rattle.tab_rule.specs.Counts.{AreCellsOf}
 use Rattle.set_sum.specs.Members.{MemberSays, table_of}
 use Rattle.set_sum.specs.Parts.{PartSays, part_pattern, part_shown}
 use Rattle.set_sum.proofs.sums.Sums.look.Goals.{After-mirrored}

@@ -1,6 +1,6 @@
 use Rattle.std.proofs.Common.{◌+◌, get_or, sym, ◌∙◌, subst, arith, take}
 use Rattle.std.proofs.lemmas.List.{take_more}
-use Rattle.tab_check.specs.declared.tables.Count.TheVariants.{Finite}
+use Rattle.tab_rule.specs.declared.tables.Count.TheVariants.{Finite}
 use Rattle.set_sum.specs.Members.{MemberSays}
 use Rattle.set_sum.specs.Sums.{AddUpTo}
 use Rattle.set_sum.specs.declared.members.Member.{Member}

@@ -1,6 +1,7 @@
 use Rattle.std.proofs.Common.{length}
 use Rattle.tab_file.specs.Tables.{slot_count}
-use Rattle.tab_runs.specs.StoredRows.{AreAllKinds, AreAllRows, entries_of_run}
+use Rattle.tab_runs.specs.StoredRows.{AreAllKinds, AreAllRows}
+use Rattle.tab_runs.specs.RowTables.{entries_of_run}
 use Rattle.tab_runs.proofs.rows.RowTable.build.Given as goal
 
 abbrev pub invariant-loop-set : goal.invariant-loop-set

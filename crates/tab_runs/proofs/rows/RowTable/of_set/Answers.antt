@@ -3,7 +3,7 @@ use Rattle.std.proofs.lemmas.List.{length-take-le}
 use Rattle.pat_place.specs.Patterns.{width}
 use Rattle.tab_runs.specs.Kinds.{TellRegionsOf}
 use Rattle.tab_runs.specs.Rows.{row_length}
-use Rattle.tab_runs.specs.StoredRows.{AreRowsOf, entries_of_run}
+use Rattle.tab_runs.specs.RowTables.{AreRowsOf, entries_of_run}
 use Rattle.tab_runs.proofs.TableRowLemmas.{part_end, part_says}
 use Rattle.tab_runs.proofs.rows.RowTable.of_set.Goals as goal
 

@@ -1,6 +1,0 @@
-use Rattle.std.proofs.Common.{take}
-use Rattle.tab_check.specs.LeastEntries.{IsLeastEntry}
-use Rattle.tab_check.proofs.folded.least_of.Given as goal
-
-abbrev pub invariant-loop-entry : goal.invariant-loop-entry
-invariant-loop-entry l = IsLeastEntry (take l.entry-index l.entries) l.least

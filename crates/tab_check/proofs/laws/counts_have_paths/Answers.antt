@@ -1,5 +1,0 @@
-use Rattle.tab_check.proofs.StepLemmas.{path_of_count}
-use Rattle.tab_check.proofs.laws.counts_have_paths.Goals as goal
-
-pub returns : goal.returns
-returns c t is keeps b good e entry small = path_of_count t is b good keeps e entry small

@@ -1,5 +1,0 @@
-use Rattle.tab_check.proofs.ExactLemmas.{files_exact}
-use Rattle.tab_check.proofs.laws.files_are_exact_by_rule.Goals as goal
-
-pub returns : goal.returns
-returns c = files_exact

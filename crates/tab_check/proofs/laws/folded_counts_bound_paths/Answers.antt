@@ -1,5 +1,0 @@
-use Rattle.tab_check.proofs.FoldLemmas.{folded_bound}
-use Rattle.tab_check.proofs.laws.folded_counts_bound_paths.Goals as goal
-
-pub returns : goal.returns
-returns c tiles b board count is path leads = folded_bound tiles b board count is path leads

@@ -1,5 +1,0 @@
-use Rattle.tab_check.proofs.StepLemmas.{other_step}
-use Rattle.tab_check.proofs.laws.other_steps_keep_the_entry.Goals as goal
-
-pub returns : goal.returns
-returns c t is b good cell adjacent other = other_step t is b good cell adjacent other

@@ -1,9 +1,0 @@
--- How a checked table is stored: its view, and the slots of all placements on boards of its side, where they are kept.
-use Rattle.std.specs.Prelude.{◌≡◌, IfSome}
-use Rattle.tab_check.specs.ExactTables.{IsExactTable}
-use Rattle.tab_check.specs.declared.tables.CheckedTable.TheInside.{Inside}
-
--- these are the fields of a table that is exact, and slots that are kept are for its side
-pub record IsStoredTable (t : Inside) : Type 0 where
-  pub exact : IsExactTable t.view
-  pub slots : IfSome t.slots (λ side. side ≡ t.view.pattern.side)

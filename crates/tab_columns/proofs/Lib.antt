@@ -1,0 +1,6 @@
+mod BlockLemmas
+mod ColumnLemmas
+mod FloodLemmas
+mod OneEntryLemmas
+mod PartLemmas
+mod TowardsLemmas

@@ -1,0 +1,5 @@
+use Rattle.tab_columns.specs.Columns.{AreFree}
+use Rattle.tab_columns.proofs.floods.free_column.Given as goal
+
+abbrev pub invariant-loop-row : goal.invariant-loop-row
+invariant-loop-row l = AreFree l.placements l.row l.free

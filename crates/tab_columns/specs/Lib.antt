@@ -1,0 +1,3 @@
+-- what the contracts of inner functions and the proofs say: those of public ones are the meaning of a table
+pub mod Columns
+pub mod Moves

@@ -1,0 +1,18 @@
+pub mod AnswerLemmas
+pub mod BlockLemmas
+pub mod CaseLemmas
+mod DecidedLemmas
+pub mod EntryLemmas
+mod ExactLemmas
+pub mod FoldLemmas
+pub mod LookLemmas
+pub mod MoveLemmas
+mod NearLemmas
+mod NearestLemmas
+pub mod OneResultLemmas
+pub mod RegionLemmas
+mod RuleLemmas
+mod StepLemmas
+pub mod TableLemmas
+pub mod ValueLemmas
+mod Values

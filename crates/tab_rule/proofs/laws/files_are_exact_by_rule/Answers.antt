@@ -1,0 +1,5 @@
+use Rattle.tab_rule.proofs.ExactLemmas.{files_exact}
+use Rattle.tab_rule.proofs.laws.files_are_exact_by_rule.Goals as goal
+
+pub returns : goal.returns
+returns c = files_exact

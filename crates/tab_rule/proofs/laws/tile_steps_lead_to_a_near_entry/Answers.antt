@@ -1,0 +1,5 @@
+use Rattle.tab_rule.proofs.StepLemmas.{tile_step}
+use Rattle.tab_rule.proofs.laws.tile_steps_lead_to_a_near_entry.Goals as goal
+
+pub returns : goal.returns
+returns c t is b good cell adjacent tile = tile_step t is b good cell adjacent tile

@@ -1,0 +1,183 @@
+//! Tables that are checked whole.
+
+ghost use Rattle.std.specs.Prelude.{◌≡◌, ◌<◌, ◌≤◌, ◌==◌, if◌then◌else◌, ℕ, IfSome, List};
+ghost use Rattle.puz_board.specs.Boards.{IsBoardOf, side_of};
+ghost use Rattle.pat_place.specs.Placements.{IsFree, IsPlacement};
+ghost use Rattle.pat_place.specs.Ranks.{IsRank};
+ghost use Rattle.pat_place.specs.Regions.{IsSlot};
+ghost use Rattle.tab_file.specs.EntryBytes.{greatest_count, no_way_home};
+ghost use Rattle.tab_file.specs.Tables.{IsTable, slot_count};
+ghost use Rattle.tab_rule.specs.Blocks.{AllBlocksKeepRule};
+ghost use Rattle.tab_rule.specs.Counts.{AreCellsOf, IsCensusOf, IsCountOf};
+ghost use Rattle.tab_rule.specs.ExactTables.{IsExactTable};
+ghost use Rattle.tab_rule.specs.declared.tables.Count.TheVariants.{Finite, Never};
+
+use crate::census::{Census, census_of};
+use pat_place::{Pattern, Placement, SlotTable, rank, slot_of};
+use puz_board::Board;
+use std::alloc::Global;
+use std::marker::Model;
+use tab_file::{HeadFault, NO_REGION, NO_WAY_HOME, TableView};
+
+/// Why bytes are no exact table file.
+#[derive(Clone, Copy, Debug, PartialEq, Eq)]
+pub enum TableRefusal {
+    /// They are no table file.
+    Head(HeadFault),
+    /// They are a table file, and the entry with this number is the least that breaks the local rule.
+    T7(u64),
+}
+
+/// Why no checked table comes of bytes.
+#[derive(Clone, Copy, Debug, PartialEq, Eq)]
+pub enum TableFault {
+    /// They are no exact table file.
+    Refused(TableRefusal),
+    /// They are a table file, and there isn't the memory to check it.
+    Memory,
+}
+
+/// What a table tells of a board.
+#[derive(Clone, Copy, Debug, PartialEq, Eq)]
+pub enum Count {
+    /// The least number of moves of the pattern's tiles that bring them home.
+    Finite(u16),
+    /// No walk leads home.
+    Never,
+}
+
+/// A table that was checked: each entry is the least number of moves of the pattern's tiles that bring them home, or
+/// says that no walk does (Korf and Felner 2002).
+#[derive(Drop)]
+pub struct CheckedTable<'a> {
+    view: TableView<'a>,
+    /// The slots of all its placements, where they are kept.
+    slots: Option<SlotTable>,
+}
+
+impl<'a> Model for CheckedTable<'a> {
+    ghost use Rattle.tab_rule.specs.StoredTables.{IsStoredCheckedTable};
+    ghost use Rattle.tab_file.specs.Tables.{Table};
+
+    ghost Value = { Table };
+
+    ghost view = { λ checked. checked.view };
+
+    ghost invariant = { IsStoredCheckedTable };
+}
+
+impl<'a> CheckedTable<'a> {
+    /// The table of a file in which each block was checked. There is no other way to make one.
+    pub fn of_view(view: TableView<'a>) -> CheckedTable<'a>
+        requires { AllBlocksKeepRule view }
+        ensures table { result ≡ view.entry }
+        ensures exact { IsExactTable result }
+    {
+        let _pattern = view.pattern();
+        CheckedTable { view, slots: None }
+    }
+
+    /// The same table, which keeps the slots of all its placements where their memory is granted: looks are faster then.
+    /// It may keep none; only speed depends on it.
+    pub fn with_slots(self, alloc: Global) -> CheckedTable<'a>
+        ensures { result ≡ self.entry }
+    {
+        let slots = SlotTable::build(alloc, &self.pattern()).ok();
+        CheckedTable {
+            view: self.view,
+            slots,
+        }
+    }
+
+    /// The pattern of the table.
+    pub fn pattern(&self) -> Pattern
+        ensures pattern { result ≡ self.now.pattern }
+        ensures table { IsTable self.now }
+        ensures exact { IsExactTable self.now }
+    {
+        self.view.pattern()
+    }
+
+    /// The least number of moves of the pattern's tiles on this board that bring them home.
+    pub fn look(&self, board: &Board) -> Count
+        requires { side_of board.now ≡ self.now.pattern.side }
+        ensures count { IsCountOf self.now.pattern.tiles board.now result }
+        ensures few { (d : ℕ) → result ≡ Finite d → d ≤ greatest_count }
+    {
+        let _side = board.side();
+        self.look_in(&board.cells_of_all())
+    }
+
+    /// As `look`, of the board whose numbers were found in these cells.
+    pub fn look_in(&self, found: &[u8; 25]) -> Count
+        requires { (board : List ℕ) × IsBoardOf self.now.pattern.side board × AreCellsOf found.now board }
+        ensures count { (board : List ℕ) → IsBoardOf self.now.pattern.side board → AreCellsOf found.now board
+            → IsCountOf self.now.pattern.tiles board result }
+        ensures few { (d : ℕ) → result ≡ Finite d → d ≤ greatest_count }
+    {
+        let placement = Placement::of_cells(&self.pattern(), found);
+        let rank = rank(&placement);
+        let blank = found[0];
+        let slot = self.slot_in(&placement, rank, blank);
+        count_of(self.view.entry(rank, slot))
+    }
+
+    /// The slot of a free cell of a placement, whose rank is given. It takes no flood where the slots are kept, or where
+    /// there is a second slot that has no region, so that all free cells are of the first.
+    #[inline]
+    fn slot_in(&self, placement: &Placement, rank: u64, cell: u8) -> u8
+        requires placement { IsPlacement placement.now }
+        requires pattern { placement.now.pattern ≡ self.now.pattern }
+        requires rank { IsRank placement.now.pattern.side placement.now.cells rank }
+        requires free { IsFree placement.now.pattern.side placement.now.cells cell }
+        ensures slot { IsSlot placement.now.pattern.side placement.now.cells cell result }
+        ensures below { result < slot_count self.now.pattern }
+    {
+        if let Some(slot) = self.kept_slot(placement, cell) {
+            return slot;
+        }
+        if self.pattern().width() > 1 && self.view.entry(rank, 1) == NO_REGION {
+            return 0;
+        }
+        slot_of(placement, cell)
+    }
+
+    /// The entries, which are all bytes behind the header: rank by rank, and slot by slot for each rank.
+    pub fn entries(&self) -> &'a [u8]
+        ensures entries { result.now ≡ self.now.entries }
+        ensures exact { IsExactTable self.now }
+    {
+        self.view.entries()
+    }
+
+    /// The slot of a free cell of a placement, where it is kept.
+    #[inline]
+    fn kept_slot(&self, placement: &Placement, cell: u8) -> Option<u8>
+        requires placement { IsPlacement placement.now }
+        requires pattern { placement.now.pattern ≡ self.now.pattern }
+        requires free { IsFree placement.now.pattern.side placement.now.cells cell }
+        ensures slot { IfSome result (IsSlot placement.now.pattern.side placement.now.cells cell) }
+        ensures below { IfSome result (λ slot. slot < slot_count self.now.pattern) }
+    {
+        let _pattern = self.pattern();
+        self.slots.as_ref()?.slot(placement, cell)
+    }
+
+    /// How many entries there are, how many of them say that no walk leads home, and the greatest count.
+    pub fn census(&self) -> Census
+        ensures { IsCensusOf self.now.entries result }
+    {
+        census_of(self.view.entries())
+    }
+}
+
+/// What an entry of a region says.
+pub(crate) fn count_of(entry: u8) -> Count
+    ensures { result ≡ (if entry == no_way_home then Never else Finite entry) }
+{
+    if entry == NO_WAY_HOME {
+        Count::Never
+    } else {
+        Count::Finite(u16::from(entry))
+    }
+}
