@@ -14,7 +14,6 @@ ghost use Rattle.log_check.specs.Walks.{MayHave};
 use crate::nodes::Node;
 use crate::walks::{Reached, behind_tree};
 use log_file::LogView;
-use puz_board::Board;
 use set_sum::{Bundle, Sums};
 use tab_rule::Count;
 
@@ -49,7 +48,7 @@ pub(crate) fn may_have(log: &LogView<'_>, i: u32, reached: &mut Reached<'_>, nod
     ensures same { reached.new ≡ reached.old }
 {
     match node {
-        Node::Branch => reached.bound >= 1 && !reached.sums.board().is_goal(),
+        Node::Branch => reached.bound >= 1 && !reached.sums.is_goal(),
         Node::Leaf { by_parity, set } => says_at_least(by_parity, set, reached),
         Node::Citation(j) => cites(log, i, j, reached),
     }
@@ -63,20 +62,18 @@ fn says_at_least(by_parity: bool, set: u8, reached: &mut Reached<'_>) -> bool
     ensures same { reached.new ≡ reached.old }
 {
     match reached.sums.sum(set) {
-        Count::Finite(sum) => {
-            u32::from(reached.bound) <= told_of(by_parity, reached.sums.board(), sum)
-        }
+        Count::Finite(sum) => { u32::from(reached.bound) <= told_of(by_parity, &reached.sums, sum) }
         Count::Never => true,
     }
 }
 
 /// What a finite sum tells of the solutions of a board: itself; or by parity, where it is raised to that of their numbers of
 /// moves.
-fn told_of(by_parity: bool, board: &Board, sum: u16) -> u32
-    ensures { Finite result ≡ told_of by_parity board.now (Finite sum) }
+fn told_of(by_parity: bool, sums: &Sums<'_>, sum: u16) -> u32
+    ensures { Finite result ≡ told_of by_parity sums.now.board (Finite sum) }
 {
     let sum = u32::from(sum);
-    if by_parity && sum % 2 != u32::from(board.blank_parity()) {
+    if by_parity && sum % 2 != u32::from(sums.blank_parity()) {
         sum + 1
     } else {
         sum
@@ -86,8 +83,8 @@ fn told_of(by_parity: bool, board: &Board, sum: u16) -> u32
 /// Whether lemma `i` may cite lemma `j` for a board.
 fn cites(log: &LogView<'_>, i: u32, j: u32, reached: &Reached<'_>) -> bool
     requires there { i < length log.now.lemmas }
-    requires board { IsBoardOf log.now.side reached.now.sums.board }
+    requires side { log.now.side ≡ reached.now.sums.bundle.side }
     ensures { IsTrue result ↔ Cites log.now.lemmas i j reached.now.sums.board reached.now.bound }
 {
-    j < i && log.board(j) == *reached.sums.board() && reached.bound <= log.bound(j)
+    j < i && reached.sums.is_board(&log.board(j)) && reached.bound <= log.bound(j)
 }

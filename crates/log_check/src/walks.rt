@@ -12,7 +12,7 @@ use log_file::LogView;
 use puz_board::Move;
 use set_sum::Sums;
 
-/// A board that was reached, and waits for its node.
+/// A board that was reached, and waits for its node. It is moved in place, and moved back.
 #[derive(Drop)]
 pub(crate) struct Reached<'a> {
     /// The board, of which the sets of the bundle are asked.
@@ -75,8 +75,7 @@ fn behind_children<'b>(
     behind_child(log, i, reached, Move::Right, behind_left)
 }
 
-/// The bytes behind the tree of the child by a move, and all bytes where there is none. What was found out there and holds
-/// here too is kept.
+/// The bytes behind the tree of the child by a move, and all bytes where there is none. The board is moved there and back.
 #[cycle(walk)]
 fn behind_child<'b>(
     log: &LogView<'_>,
@@ -98,15 +97,15 @@ fn behind_child<'b>(
     if takes_back(reached.arriving, mv) {
         return Some(bytes);
     }
-    match reached.sums.after(mv) {
-        Some(sums) => {
-            let mut child = Reached {
-                sums,
-                arriving: Some(mv),
-                bound: reached.bound - 1,
-            };
-            let behind = behind_tree(log, i, &mut child, bytes);
-            reached.sums.learn(&child.sums, mv);
+    match reached.sums.step(mv) {
+        Some(step) => {
+            let arriving = reached.arriving;
+            reached.arriving = Some(mv);
+            reached.bound -= 1;
+            let behind = behind_tree(log, i, reached, bytes);
+            reached.bound += 1;
+            reached.arriving = arriving;
+            reached.sums.take_back(&step);
             behind
         }
         None => Some(bytes),

@@ -15,5 +15,6 @@ pub mod SlideLemmas
 pub mod SlotLemmas
 pub mod SlotSteps
 mod SlotTableLemmas
+mod StandingLemmas
 pub mod TransposedLemmas
 pub mod WidthLemmas

@@ -15,7 +15,7 @@ mod slots;
 pub use mask_numbers::put_numbers;
 pub use patterns::Pattern;
 pub use placements::Placement;
-pub use ranks::{next, rank, rank_among, unrank};
+pub use ranks::{Standing, next, rank, rank_among, standing_of, unrank};
 pub use set_numbers::SetNumbers;
 pub use slot_tables::SlotTable;
 pub use slots::{find_region, free_cells, regions, slot_of};

@@ -1,10 +1,11 @@
 //! Ranks: the places of placements among all placements of a pattern, in lexicographic order.
 
-ghost use Rattle.std.specs.Prelude.{◌≡◌, ℕ, ◌+◌, ◌-◌, ◌<◌, ◌≤◌, count_ones, length, take, drop, replicate, slice_get, MatchBool};
+ghost use Rattle.std.specs.Prelude.{◌≡◌, ℕ, ◌+◌, ◌-◌, ◌<◌, ◌≤◌, true, count_ones, length, take, drop, replicate, slice_get, MatchBool};
 ghost use Rattle.std.specs.List.{AllByRecursion, range_with_len};
 ghost use Rattle.std.specs.Bool.{OnFalse};
-ghost use Rattle.puz_board.specs.Masks.{numbers_of};
-ghost use Rattle.pat_place.specs.Placements.{IsApart, IsPlacement};
+ghost use Rattle.puz_board.specs.Masks.{IsMaskOf, numbers_of};
+ghost use Rattle.pat_place.specs.Patterns.{has};
+ghost use Rattle.pat_place.specs.Placements.{IsApart, IsPlacement, cells_found};
 ghost use Rattle.pat_place.specs.Ranks.{IsRank, lists_of, placements};
 
 use crate::patterns::Pattern;
@@ -39,6 +40,42 @@ pub fn rank_among(cells: &[u8], count: u8) -> u64
         room -= 1;
     }
     rank
+}
+
+/// Where a placement stands.
+#[derive(Clone, Copy)]
+pub struct Standing {
+    /// Its rank.
+    pub rank: u64,
+    /// The cells of its tiles as a mask: bit c is set for cell c.
+    pub occupied: u32,
+}
+
+/// Where the placement stands that has each of the pattern's tiles in the cell that was found for its number.
+#[inline]
+pub fn standing_of(pattern: &Pattern, found: &[u8; 25]) -> Standing
+    requires { IsPlacement (record { pattern = pattern.now; cells = cells_found pattern.now.tiles found.now }) }
+    ensures rank { IsRank pattern.now.side (cells_found pattern.now.tiles found.now) result.rank }
+    ensures occupied { IsMaskOf result.occupied (λ c. has (cells_found pattern.now.tiles found.now) c ≡ true) }
+{
+    let count = pattern.side().cells();
+    let all = masks::all_below(count);
+    let mut rest = pattern.mask();
+    let mut free = all;
+    let mut room = u64::from(count);
+    let mut rank = 0;
+    while rest != 0 {
+        let tile = masks::first_of(rest);
+        rest = masks::without(rest, tile);
+        let at = found[usize::from(tile)];
+        rank = rank * room + u64::from(masks::count_below(free, at));
+        free = masks::without(free, at);
+        room -= 1;
+    }
+    Standing {
+        rank,
+        occupied: all & !free,
+    }
 }
 
 /// The placement of a rank.

@@ -1,6 +1,8 @@
 //! The slots of all placements of one size, by their sets of cells.
 
-ghost use Rattle.std.specs.Prelude.{◌≡◌, ◌*◌, ◌^◌, ◌<◌, IfOk, IfSome, OnOk, count_ones, length};
+ghost use Rattle.std.specs.Prelude.{◌≡◌, ℕ, ◌*◌, ◌^◌, ◌<◌, true, IfOk, IfSome, List, OnOk, count_ones, length};
+ghost use Rattle.puz_board.specs.Masks.{IsMaskOf};
+ghost use Rattle.pat_place.specs.Patterns.{has};
 ghost use Rattle.pat_place.specs.Placements.{IsFree};
 ghost use Rattle.pat_place.specs.Regions.{IsSlot};
 ghost use Rattle.pat_place.specs.StoredSlots.{AreAllSlots, AreSlots};
@@ -73,7 +75,16 @@ impl SlotTable {
         requires free { IsFree placement.now.pattern.side placement.now.cells cell }
         ensures { IfSome result (IsSlot placement.now.pattern.side placement.now.cells cell) }
     {
-        let set = placement.occupied();
+        self.slot_in(placement.occupied(), cell)
+    }
+
+    /// As `slot`, of a placement whose cells are those of a set.
+    #[inline]
+    pub fn slot_in(&self, set: u32, cell: u8) -> Option<u8>
+        requires { cell < self.now * self.now }
+        ensures { (cells : List ℕ) → IsMaskOf set (λ c. has cells c ≡ true) → IsFree self.now cells cell
+            → IfSome result (IsSlot self.now cells cell) }
+    {
         let number = self.numbers.number_of(set);
         let masks = self.masks.as_slice();
         let slots = self.slots.as_slice();

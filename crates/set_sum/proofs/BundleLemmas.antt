@@ -14,7 +14,7 @@ use Rattle.set_sum.specs.ReadLines.{AreSetsOf}
 use Rattle.set_sum.specs.Parts.{IsExactPart, PartSays, PartView, no_part, part_pattern, part_shown, parts_shown}
 use Rattle.set_sum.specs.SetTexts.{IsLine}
 use Rattle.set_sum.specs.Reading.{AreAlike, IsBundleOf, NamesNoTable, NamesOverlap, first_side}
-use Rattle.set_sum.specs.StoredBundles.{IsStoredBundle, bundle_shown, sets_stored}
+use Rattle.set_sum.specs.StoredBundles.{AreAllOwners, AreAllTransposed, IsStoredBundle, bundle_shown, sets_stored}
 use Rattle.set_sum.specs.Sums.{AreDisjoint, SetSays}
 use Rattle.set_sum.specs.declared.bundles.Bundle.TheInside.{Inside}
 use Rattle.set_sum.specs.declared.members.Member.{Member}
@@ -140,8 +140,10 @@ module _ (v : Inside) (text : List ℕ) (first : v.side ≡ first_side v.tables.
     disjoint = are.disjoint;
   }
 
-  pub stored_made : IsStoredBundle v
-  stored_made = record {
+  pub stored_made : AreAllOwners v.side (parts_shown v.tables.items) v.owners → AreAllTransposed v.side v.transposed → IsStoredBundle v
+  stored_made owners transposed = record {
     bundle = is_bundle v.tables.items text (bundle_shown v) exact bundle_made;
     tables = sides v.tables.items text (bundle_shown v) exact bundle_made;
+    owners = owners;
+    transposed = transposed;
   }

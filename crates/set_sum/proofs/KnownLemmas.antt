@@ -19,10 +19,11 @@ use Rattle.tab_rule.specs.Counts.{AreCellsOf}
 use Rattle.set_sum.specs.Bundles.{BundleView}
 use Rattle.set_sum.specs.Members.{MemberSays, table_of, table_pattern}
 use Rattle.set_sum.specs.Parts.{PartView, no_part, part_pattern, part_shown}
-use Rattle.set_sum.specs.StoredSums.{AreOwners, AreOwnersOf, IsJoined, IsKnownOf, IsNoted, IsOwner, has_tile, place_of, said_by}
+use Rattle.set_sum.specs.Owners.{AreOwners, IsOwner, has_tile, place_of}
+use Rattle.set_sum.specs.StoredSums.{IsJoined, IsKnownOf, IsNoted, said_by}
 use Rattle.set_sum.specs.declared.members.Member.{Member}
 use Rattle.set_sum.specs.declared.parts.Part.{Part}
-use Rattle.set_sum.specs.declared.sums.Known.{Known}
+use Rattle.set_sum.specs.declared.known.Known.{Known}
 use Rattle.set_sum.proofs.PartLemmas.{shown_tiles}
 use Rattle.set_sum.proofs.StillLemmas.{member_before, member_still}
 
@@ -119,7 +120,7 @@ known_noted v b known now m entry is noted says = record {
   ];
 }
 
-module _ (v : BundleView) (b : List ℕ) (good : IsBoardOf v.side b) (c : ℕ) (near : Adjacent v.side (blank b) c) (owners : ℕ) (own : AreOwners v (at b c) owners) (fits : owners < 2 ^ 32) where
+module _ (v : BundleView) (b : List ℕ) (good : IsBoardOf v.side b) (c : ℕ) (near : Adjacent v.side (blank b) c) (owners : ℕ) (own : AreOwners v.side v.tables (at b c) owners) (fits : owners < 2 ^ 32) where
   -- a member outside the owners' places has another pattern
   other_tile : (m : Member) → m.table < length v.tables → bit_at owners (place_of m) ≡ 0 → has_tile v.side v.tables m (at b c) ≡ false
   other_tile m there clear = elim (cases_Bool (has_tile v.side v.tables m (at b c))) [

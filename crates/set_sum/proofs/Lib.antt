@@ -16,6 +16,7 @@ pub mod ParityLemmas
 pub mod PartLemmas
 mod ReadLemmas
 pub mod SayLemmas
+mod SlideLemmas
 mod StillLemmas
 pub mod SumLemmas
 mod TakenLemmas

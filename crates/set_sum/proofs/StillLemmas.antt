@@ -22,7 +22,7 @@ use Rattle.tab_rule.specs.declared.tables.Count.{Count}
 use Rattle.tab_rule.specs.declared.tables.Count.TheVariants.{Finite, Never}
 use Rattle.set_sum.specs.Members.{MemberSays, table_of, table_pattern}
 use Rattle.set_sum.specs.Parts.{PartSays, PartView}
-use Rattle.set_sum.specs.StoredSums.{has_tile}
+use Rattle.set_sum.specs.Owners.{has_tile}
 use Rattle.set_sum.specs.declared.members.Member.{Member}
 
 -- ---- a step, and the step back
@@ -118,15 +118,15 @@ module _ (n : ℕ) (b : List ℕ) (good : IsBoardOf n b) (c : ℕ) (near : Adjac
 -- ---- what a member says
 
 module _ (n : ℕ) (b : List ℕ) (good : IsBoardOf n b) (c : ℕ) (near : Adjacent n (blank b) c) where
-  turned : IsBoardOf n (transposed b)
+  pub turned : IsBoardOf n (transposed b)
   turned = IsBoardOf-transposed n b good
 
-  near_turned : Adjacent n (blank (transposed b)) (transposed_cell n c)
+  pub near_turned : Adjacent n (blank (transposed b)) (transposed_cell n c)
   near_turned =
       subst (λ z. Adjacent n z (transposed_cell n c)) (sym (blank-transposed n b good))
       (Adjacent-transposed n good.low good.high (blank b) c (blank_inside n b good c near) near)
 
-  tile_turned : at (transposed b) (transposed_cell n c) ≡ transposed_cell n (at b c)
+  pub tile_turned : at (transposed b) (transposed_cell n c) ≡ transposed_cell n (at b c)
   tile_turned =
       at-transposed n b good (transposed_cell n c) (cell_below n good.low good.high c near.0) ∙
       ap (λ x. transposed_cell n (at b x)) (cell_twice n good.low good.high c near.0)

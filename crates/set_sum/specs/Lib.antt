@@ -2,11 +2,13 @@ pub mod Bounds
 pub mod Bundles
 pub mod Laws
 pub mod Members
+pub mod Owners
 pub mod Parity
 pub mod Parts
 pub mod Reading
 pub mod ReadLines
 pub mod SetTexts
+pub mod Steps
 pub mod StoredBundles
 pub mod StoredSums
 pub mod SumViews

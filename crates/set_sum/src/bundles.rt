@@ -1,10 +1,12 @@
 //! Bundles of tables, and the sums of their sets.
 
-ghost use Rattle.std.specs.Prelude.{◌≡◌, ◌<◌, ◌≤◌, Err, IfErr, IfOk, MatchOption, Ok, [], length, map, slice_index_or};
+ghost use Rattle.std.specs.Prelude.{◌≡◌, ◌*◌, ◌<◌, ◌≤◌, Err, IfErr, IfOk, MatchOption, Ok, [], length, map, slice_index_or};
 ghost use Rattle.std.specs.List.{AllByRecursion};
 ghost use Rattle.puz_board.specs.Boards.{side_of};
 ghost use Rattle.set_sum.specs.Bounds.{BoundsSolutions};
 ghost use Rattle.set_sum.specs.Bundles.{BundleView, IsBundle, Says, most_members};
+ghost use Rattle.puz_board.specs.Transposing.{transposed_cell};
+ghost use Rattle.set_sum.specs.Owners.{AreOwners};
 ghost use Rattle.set_sum.specs.Parts.{no_part, part_pattern, part_shown};
 ghost use Rattle.set_sum.specs.ReadLines.{AreSetsOf};
 ghost use Rattle.set_sum.specs.Reading.{AreAlike, IsBundleOf, IsFaultOf, IsFirstWith, NamesOverlap, NamesTwice};
@@ -13,6 +15,7 @@ ghost use Rattle.set_sum.specs.declared.faults.SetFault.{SetFault};
 use crate::faults::SetFault;
 use crate::lines::read_lines;
 use crate::members::Member;
+use crate::owners::{all_owners, all_transposed};
 use crate::parts::Part;
 use crate::tables::{one_side, overlap, sum_of, twice};
 use arrayvec::ArrayVec;
@@ -25,6 +28,9 @@ pub const MOST_TABLES: usize = 16;
 
 /// The most members of a set: two for each table.
 pub const MOST_MEMBERS: usize = 2 * MOST_TABLES;
+
+/// The most cells of a board.
+pub(crate) const MOST_CELLS: usize = 25;
 
 /// The most sets of a bundle.
 pub(crate) const MOST_SETS: usize = 16;
@@ -41,6 +47,10 @@ pub struct Bundle<'a> {
     side: Side,
     tables: Vec<Part<'a>>,
     sets: ArrayVec<Set, MOST_SETS>,
+    /// For each tile the places of the members whose pattern has it.
+    owners: [u32; MOST_CELLS],
+    /// The transposed cell of each cell.
+    transposed: [u8; MOST_CELLS],
 }
 
 impl<'a> Model for Bundle<'a> {
@@ -116,6 +126,24 @@ impl<'a> Bundle<'a> {
         self.sets[usize::from(set)].as_slice()
     }
 
+    /// The places of the members whose pattern has a tile.
+    #[inline]
+    pub(crate) fn owners(&self, tile: u8) -> u32
+        requires { tile < self.now.side * self.now.side }
+        ensures { AreOwners self.now.side self.now.tables tile result }
+    {
+        self.owners[usize::from(tile)]
+    }
+
+    /// The cell whose row is the column of this one, and whose column is its row.
+    #[inline]
+    pub(crate) fn transposed(&self, cell: u8) -> u8
+        requires { cell < self.now.side * self.now.side }
+        ensures { result ≡ transposed_cell self.now.side cell }
+    {
+        self.transposed[usize::from(cell)]
+    }
+
     /// The sum of what the members of a set say of a board, and `Never` where one of them does.
     pub fn sum(&self, set: u8, board: &Board) -> Count
         requires set { set < length self.now.sets }
@@ -137,7 +165,14 @@ fn make_bundle<'a>(tables: Vec<Part<'a>>, text: &[u8]) -> Result<Bundle<'a>, Set
 {
     let side = one_side(&tables)?;
     let sets = read_sets(&tables, text)?;
-    Ok(Bundle { side, tables, sets })
+    let owners = all_owners(side, &tables);
+    Ok(Bundle {
+        side,
+        tables,
+        sets,
+        owners,
+        transposed: all_transposed(side),
+    })
 }
 
 /// Reads the sets of a set text over tables of one side.

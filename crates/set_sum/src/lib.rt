@@ -4,16 +4,20 @@
 #![tactic(auto)]
 
 mod bundles;
+mod cells;
 mod faults;
+mod known;
 pub mod laws;
 mod lines;
 mod members;
+mod owners;
 mod parts;
 mod sums;
 mod tables;
 
 pub use bundles::{Bundle, MOST_MEMBERS, MOST_TABLES};
 pub use faults::SetFault;
+pub use known::Step;
 pub use members::Member;
 pub use parts::Part;
 pub use sums::Sums;

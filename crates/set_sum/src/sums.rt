@@ -1,41 +1,39 @@
 //! Sums for the boards of a walk, which keep what was looked up.
 
-ghost use Rattle.std.specs.Prelude.{◌≡◌, ℕ, ◌*◌, ◌<◌, ◌≤◌, IsTrue, Some, length, option_map};
-ghost use Rattle.puz_board.specs.Boards.{IsBoardOf, moved, side_of};
-ghost use Rattle.std.specs.Int.{bit_at};
+ghost use Rattle.std.specs.Prelude.{◌≡◌, ℕ, ◌*◌, ◌<◌, ◌≤◌, ◌↔◌, IfNone, IfSome, IsTrue, List, Some, None, length};
+ghost use Rattle.puz_board.specs.Boards.{IsBoardOf, IsGoal, blank, moved, side_of, slid};
+ghost use Rattle.puz_board.specs.Cells.{Adjacent};
+ghost use Rattle.puz_board.specs.Parity.{blank_parity};
+ghost use Rattle.puz_board.specs.Transposing.{transposed};
+ghost use Rattle.tab_rule.specs.Counts.{AreCellsOf};
 ghost use Rattle.tab_rule.specs.declared.tables.Count.TheVariants.{Finite};
 ghost use Rattle.set_sum.specs.Bundles.{IsBundle, Says};
-ghost use Rattle.set_sum.specs.Members.{MemberSays};
-ghost use Rattle.set_sum.specs.StoredSums.{AreOwners, IsJoined, IsNoted, place_of, said_by};
+ghost use Rattle.set_sum.specs.Members.{MemberSays, board_for};
+ghost use Rattle.set_sum.specs.Steps.{IsStepFrom};
 
-use crate::bundles::{Bundle, MOST_MEMBERS};
+use crate::bundles::{Bundle, MOST_CELLS, MOST_MEMBERS};
+use crate::cells::{cell_after, has_numbers, is_in_order, numbers_of, parity_of};
+use crate::known::{Known, Step, entry_of, joined, note, said_by};
 use crate::members::Member;
+use crate::owners::place_of;
 use crate::tables::mirrored;
-use puz_board::masks::{first_of, has_cell, with, without};
-use puz_board::{Board, Move, transposed_cell};
+use puz_board::masks::has_cell;
+use puz_board::{Board, Move};
 use std::marker::Model;
 use tab_rule::Count;
 
-/// The entry that stands for `Never`.
-const NEVER: u8 = 255;
-
-/// What members are known to say of a board. Each member has a place.
-#[derive(Clone, Copy)]
-pub(crate) struct Known {
-    /// The places of the members of which it is known: bit p for place p.
-    places: u32,
-    /// For each of these places what its member says, as a table's entry says it.
-    entries: [u8; MOST_MEMBERS],
-}
-
-/// A board of which the sets of a bundle are asked. What a member was found to say is kept, and still holds after the move
-/// of a tile that its pattern hasn't: such a move costs the pattern nothing, and may be taken back (Korf and Felner 2002).
+/// A board of which the sets of a bundle are asked, and which is moved in place. What a member was found to say is kept, and
+/// still holds after the move of a tile that its pattern hasn't: such a move costs the pattern nothing, and may be taken
+/// back (Korf and Felner 2002).
 #[derive(Drop)]
 pub struct Sums<'a> {
     bundle: &'a Bundle<'a>,
-    board: Board,
+    /// The number in each cell.
+    numbers: [u8; MOST_CELLS],
     /// The cell of each number.
-    cells: [u8; 25],
+    cells: [u8; MOST_CELLS],
+    /// The same on the transposed board.
+    transposed: [u8; MOST_CELLS],
     known: Known,
 }
 
@@ -57,24 +55,17 @@ impl<'a> Sums<'a> {
         requires { side_of board.now ≡ bundle.now.side }
         ensures { result ≡ record { bundle = bundle.now; board = board.now } }
     {
-        let _side = board.side();
+        let cells = board.cells_of_all();
         Sums {
             bundle,
-            board: *board,
-            cells: board.cells_of_all(),
+            numbers: numbers_of(board),
+            cells,
+            transposed: mirrored(board.side(), &cells),
             known: Known {
                 places: 0,
                 entries: [0; MOST_MEMBERS],
             },
         }
-    }
-
-    /// The board.
-    pub fn board(&self) -> &Board
-        ensures board { result.now ≡ self.now.board }
-        ensures side { IsBoardOf self.now.bundle.side self.now.board }
-    {
-        &self.board
     }
 
     /// How many sets there are to ask.
@@ -85,27 +76,84 @@ impl<'a> Sums<'a> {
         self.bundle.sets()
     }
 
-    /// The sums of the board after a move, where the blank stays on the board.
-    pub fn after(&self, mv: Move) -> Option<Sums<'a>>
-        ensures { result ≡ option_map (λ b. record { bundle = self.now.bundle; board = b }) (moved self.now.board mv) }
+    /// Whether the board is the goal board.
+    pub fn is_goal(&self) -> bool
+        ensures { IsTrue result ↔ IsGoal self.now.board }
     {
-        let next = self.board.apply(mv)?;
-        let from = self.board.blank();
-        let to = next.blank();
-        let tile = self.board.at(to);
-        let mut cells = self.cells;
-        cells[usize::from(tile)] = from;
-        cells[0] = to;
-        let owners = owners(self.bundle, tile);
-        Some(Sums {
-            bundle: self.bundle,
-            board: next,
-            cells,
-            known: Known {
-                places: self.known.places & !owners,
-                entries: self.known.entries,
-            },
-        })
+        is_in_order(self.numbers())
+    }
+
+    /// The parity of how many rows and columns lie between the blank's cell and cell 0: 0 or 1.
+    pub fn blank_parity(&self) -> u8
+        ensures parity { result ≡ blank_parity self.now.board }
+        ensures bit { result ≤ 1 }
+    {
+        parity_of(self.bundle.side(), self.cells[0])
+    }
+
+    /// Whether this is the board.
+    pub fn is_board(&self, board: &Board) -> bool
+        requires { IsBoardOf self.now.bundle.side board.now }
+        ensures { IsTrue result ↔ (board.now ≡ self.now.board) }
+    {
+        has_numbers(board, self.numbers())
+    }
+
+    /// The numbers in the cells, in the order of the cells.
+    fn numbers(&self) -> &[u8]
+        ensures numbers { result.now ≡ self.now.board }
+        ensures board { IsBoardOf self.now.bundle.side self.now.board }
+    {
+        &self.numbers[..usize::from(self.bundle.side().cells())]
+    }
+
+    /// Moves the board, where the blank stays on it. The answer is the step, by which the move is taken back.
+    #[inline]
+    pub fn step(&mut self, mv: Move) -> Option<Step>
+        ensures none { IfNone result ((moved self.old.board mv ≡ None) × (self.new ≡ self.old)) }
+        ensures some { IfSome result (λ step. (moved self.old.board mv ≡ Some self.new.board)
+            × (self.new.bundle ≡ self.old.bundle) × IsStepFrom self.old.bundle self.old.board self.new.board step) }
+    {
+        let from = self.cells[0];
+        let to = cell_after(self.bundle.side(), from, mv)?;
+        let step = Step {
+            from,
+            known: self.known,
+        };
+        self.slide(to);
+        Some(step)
+    }
+
+    /// Takes a step back. What was found out behind it and holds before it too is kept.
+    #[inline]
+    pub fn take_back(&mut self, step: &Step)
+        requires { (b : List ℕ) × IsStepFrom self.old.bundle b self.old.board step.now }
+        ensures { (b : List ℕ) → IsStepFrom self.old.bundle b self.old.board step.now
+            → self.new ≡ record { bundle = self.old.bundle; board = b } }
+    {
+        let tile = self.numbers[usize::from(step.from)];
+        let places = self.known.places & !self.bundle.owners(tile);
+        let known = joined(&step.known, &self.known, places);
+        self.slide(step.from);
+        self.known = known;
+    }
+
+    /// Moves the blank to a cell beside its own, and the tile there into its own. Of the tile's owners nothing is known then.
+    #[inline]
+    fn slide(&mut self, to: u8)
+        requires { Adjacent self.old.bundle.side (blank self.old.board) to }
+        ensures { self.new ≡ record { bundle = self.old.bundle; board = slid self.old.board to } }
+    {
+        let bundle = self.bundle;
+        let from = self.cells[0];
+        let tile = self.numbers[usize::from(to)];
+        self.known.places &= !bundle.owners(tile);
+        self.numbers[usize::from(from)] = tile;
+        self.numbers[usize::from(to)] = 0;
+        self.cells[usize::from(tile)] = from;
+        self.cells[0] = to;
+        self.transposed[usize::from(bundle.transposed(tile))] = bundle.transposed(from);
+        self.transposed[0] = bundle.transposed(to);
     }
 
     /// The sum of what the members of a set say of the board, and `Never` where one of them does.
@@ -126,6 +174,7 @@ impl<'a> Sums<'a> {
     }
 
     /// What a member says of the board.
+    #[inline]
     fn said(&mut self, member: Member) -> Count
         requires { member.table < length self.old.bundle.tables }
         ensures says { MemberSays self.old.bundle.tables member self.old.board result }
@@ -138,121 +187,22 @@ impl<'a> Sums<'a> {
             return said_by(self.known.entries[usize::from(place)]);
         }
         let count = self.look(member);
-        self.known = noted(&self.known, place, entry_of(count));
+        note(&mut self.known, place, entry_of(count));
         count
     }
 
     /// What the table of a member tells of the board.
+    #[inline]
     fn look(&self, member: Member) -> Count
         requires { member.table < length self.now.bundle.tables }
         ensures says { MemberSays self.now.bundle.tables member self.now.board result }
         ensures few { (d : ℕ) → result ≡ Finite d → d ≤ 253 }
     {
-        let part = self.bundle.part(member.table);
-        if member.is_transposed {
-            part.look_in(&mirrored(self.board.side(), &self.cells))
+        let cells = if member.is_transposed {
+            &self.transposed
         } else {
-            part.look_in(&self.cells)
-        }
+            &self.cells
+        };
+        self.bundle.part(member.table).look_in(cells)
     }
-
-    /// Takes over what is known of the board after a move, and holds of this one too.
-    pub fn learn(&mut self, next: &Sums<'_>, mv: Move)
-        requires bundle { next.now.bundle ≡ self.old.bundle }
-        requires next { moved self.old.board mv ≡ Some next.now.board }
-        ensures { self.new ≡ self.old }
-    {
-        let fresh = next.known.places & !self.known.places;
-        if fresh == 0 {
-            return;
-        }
-        let tile = self.board.at(next.board.blank());
-        let places = fresh & !owners(self.bundle, tile);
-        self.known = joined(&self.known, &next.known, places);
-    }
-}
-
-/// What is known, with an entry at one place more.
-fn noted(known: &Known, place: u8, entry: u8) -> Known
-    requires place { place < 32 }
-    requires room { length known.now.entries ≡ 32 }
-    ensures { IsNoted place entry known.now result }
-{
-    let mut entries = known.entries;
-    entries[usize::from(place)] = entry;
-    Known {
-        places: with(known.places, place),
-        entries,
-    }
-}
-
-/// What is known, and at these places what is known elsewhere.
-fn joined(known: &Known, other: &Known, places: u32) -> Known
-    requires room { length known.now.entries ≡ 32 }
-    requires other { length other.now.entries ≡ 32 }
-    ensures { IsJoined places other.now known.now result }
-{
-    let mut now = *known;
-    let mut fresh = places & !known.places;
-    while fresh != 0 {
-        let place = first_of(fresh);
-        now = noted(&now, place, other.entries[usize::from(place)]);
-        fresh = without(fresh, place);
-    }
-    now
-}
-
-/// The place of a member: two for each table, the first for the plain member.
-fn place_of(member: Member) -> u8
-    requires { member.table < 16 }
-    ensures place { result ≡ place_of member }
-    ensures below { result < 32 }
-{
-    2 * member.table + u8::from(member.is_transposed)
-}
-
-/// What an entry says.
-fn said_by(entry: u8) -> Count
-    ensures { result ≡ said_by entry }
-{
-    if entry == NEVER {
-        Count::Never
-    } else {
-        Count::Finite(u16::from(entry))
-    }
-}
-
-/// The entry that says this.
-fn entry_of(count: Count) -> u8
-    requires { (d : ℕ) → count ≡ Finite d → d ≤ 253 }
-    ensures { said_by result ≡ count }
-{
-    match count {
-        Count::Finite(count) => count as u8,
-        Count::Never => NEVER,
-    }
-}
-
-/// The places of the members whose pattern has a tile.
-fn owners(bundle: &Bundle<'_>, tile: u8) -> u32
-    requires { tile < bundle.now.side * bundle.now.side }
-    ensures { AreOwners bundle.now tile result }
-{
-    let turned = transposed_cell(bundle.side(), tile);
-    let mut owners = 0;
-    for table in 0..bundle.tables() {
-        let mask = bundle.part(table).pattern().mask();
-        owners = with_if(owners, 2 * table, has_cell(mask, tile));
-        owners = with_if(owners, 2 * table + 1, has_cell(mask, turned));
-    }
-    owners
-}
-
-/// The mask with one number more where this holds.
-fn with_if(mask: u32, number: u8, holds: bool) -> u32
-    requires { number < 32 }
-    ensures here { IsTrue holds → bit_at result number ≡ 1 }
-    ensures others { (x : ℕ) → bit_at mask x ≡ 1 → bit_at result x ≡ 1 }
-{
-    if holds { with(mask, number) } else { mask }
 }

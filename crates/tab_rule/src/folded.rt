@@ -10,7 +10,7 @@ ghost use Rattle.tab_rule.specs.LeastEntries.{IsLeastEntry};
 ghost use Rattle.tab_rule.specs.declared.tables.Count.TheVariants.{Finite};
 
 use crate::tables::{CheckedTable, Count, count_of};
-use pat_place::{Pattern, Placement, rank};
+use pat_place::{Pattern, standing_of};
 use puz_board::Board;
 use std::alloc::{AllocError, Global};
 use std::marker::Model;
@@ -116,7 +116,7 @@ impl FoldedTable {
             → IsFoldedCountOf self.now.tiles board result }
         ensures few { (d : ℕ) → result ≡ Finite d → d ≤ greatest_count }
     {
-        let placement = Placement::of_cells(&self.pattern(), found);
-        count_of(self.entries.as_slice()[rank(&placement) as usize])
+        let standing = standing_of(&self.pattern(), found);
+        count_of(self.entries.as_slice()[standing.rank as usize])
     }
 }

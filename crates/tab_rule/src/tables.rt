@@ -1,8 +1,10 @@
 //! Tables that are checked whole.
 
-ghost use Rattle.std.specs.Prelude.{◌≡◌, ◌<◌, ◌≤◌, ◌==◌, if◌then◌else◌, ℕ, IfSome, List};
+ghost use Rattle.std.specs.Prelude.{◌≡◌, ◌*◌, ◌<◌, ◌≤◌, ◌==◌, if◌then◌else◌, ℕ, true, IfSome, List, slice_index};
 ghost use Rattle.puz_board.specs.Boards.{IsBoardOf, side_of};
-ghost use Rattle.pat_place.specs.Placements.{IsFree, IsPlacement};
+ghost use Rattle.puz_board.specs.Masks.{IsMaskOf};
+ghost use Rattle.pat_place.specs.Patterns.{has};
+ghost use Rattle.pat_place.specs.Placements.{IsFree, IsPlacement, cells_found};
 ghost use Rattle.pat_place.specs.Ranks.{IsRank};
 ghost use Rattle.pat_place.specs.Regions.{IsSlot};
 ghost use Rattle.tab_file.specs.EntryBytes.{greatest_count, no_way_home};
@@ -13,7 +15,7 @@ ghost use Rattle.tab_rule.specs.ExactTables.{IsExactTable};
 ghost use Rattle.tab_rule.specs.declared.tables.Count.TheVariants.{Finite, Never};
 
 use crate::census::{Census, census_of};
-use pat_place::{Pattern, Placement, SlotTable, rank, slot_of};
+use pat_place::{Pattern, Placement, SlotTable, Standing, slot_of, standing_of};
 use puz_board::Board;
 use std::alloc::Global;
 use std::marker::Model;
@@ -115,15 +117,37 @@ impl<'a> CheckedTable<'a> {
             → IsCountOf self.now.pattern.tiles board result }
         ensures few { (d : ℕ) → result ≡ Finite d → d ≤ greatest_count }
     {
-        let placement = Placement::of_cells(&self.pattern(), found);
-        let rank = rank(&placement);
-        let blank = found[0];
-        let slot = self.slot_in(&placement, rank, blank);
-        count_of(self.view.entry(rank, slot))
+        let standing = standing_of(&self.pattern(), found);
+        let slot = self.slot_found(standing, found);
+        count_of(self.view.entry(standing.rank, slot))
     }
 
-    /// The slot of a free cell of a placement, whose rank is given. It takes no flood where the slots are kept, or where
-    /// there is a second slot that has no region, so that all free cells are of the first.
+    /// The slot of the blank in the cell that was found for it. It takes no flood where the slots are kept.
+    #[inline]
+    fn slot_found(&self, standing: Standing, found: &[u8; 25]) -> u8
+        requires placement { IsPlacement
+            (record { pattern = self.now.pattern; cells = cells_found self.now.pattern.tiles found.now }) }
+        requires rank { IsRank self.now.pattern.side (cells_found self.now.pattern.tiles found.now) standing.rank }
+        requires occupied { IsMaskOf standing.occupied
+            (λ c. has (cells_found self.now.pattern.tiles found.now) c ≡ true) }
+        requires free { IsFree self.now.pattern.side (cells_found self.now.pattern.tiles found.now)
+            (slice_index found.now 0) }
+        ensures slot { IsSlot self.now.pattern.side (cells_found self.now.pattern.tiles found.now)
+            (slice_index found.now 0) result }
+        ensures below { result < slot_count self.now.pattern }
+    {
+        let blank = found[0];
+        match self.kept_slot(standing.occupied, blank) {
+            Some(slot) => slot,
+            None => {
+                let placement = Placement::of_cells(&self.pattern(), found);
+                self.slot_in(&placement, standing.rank, blank)
+            }
+        }
+    }
+
+    /// The slot of a free cell of a placement, whose rank is given. It takes no flood where there is a second slot that has no
+    /// region, so that all free cells are of the first.
     #[inline]
     fn slot_in(&self, placement: &Placement, rank: u64, cell: u8) -> u8
         requires placement { IsPlacement placement.now }
@@ -133,9 +157,6 @@ impl<'a> CheckedTable<'a> {
         ensures slot { IsSlot placement.now.pattern.side placement.now.cells cell result }
         ensures below { result < slot_count self.now.pattern }
     {
-        if let Some(slot) = self.kept_slot(placement, cell) {
-            return slot;
-        }
         if self.pattern().width() > 1 && self.view.entry(rank, 1) == NO_REGION {
             return 0;
         }
@@ -150,17 +171,16 @@ impl<'a> CheckedTable<'a> {
         self.view.entries()
     }
 
-    /// The slot of a free cell of a placement, where it is kept.
+    /// The slot of a free cell of a placement whose cells are those of a set, where it is kept.
     #[inline]
-    fn kept_slot(&self, placement: &Placement, cell: u8) -> Option<u8>
-        requires placement { IsPlacement placement.now }
-        requires pattern { placement.now.pattern ≡ self.now.pattern }
-        requires free { IsFree placement.now.pattern.side placement.now.cells cell }
-        ensures slot { IfSome result (IsSlot placement.now.pattern.side placement.now.cells cell) }
-        ensures below { IfSome result (λ slot. slot < slot_count self.now.pattern) }
+    fn kept_slot(&self, occupied: u32, cell: u8) -> Option<u8>
+        requires { cell < self.now.pattern.side * self.now.pattern.side }
+        ensures { (cells : List ℕ) → IsPlacement (record { pattern = self.now.pattern; cells = cells })
+            → IsMaskOf occupied (λ c. has cells c ≡ true) → IsFree self.now.pattern.side cells cell
+            → IfSome result (λ slot. IsSlot self.now.pattern.side cells cell slot × (slot < slot_count self.now.pattern)) }
     {
         let _pattern = self.pattern();
-        self.slots.as_ref()?.slot(placement, cell)
+        self.slots.as_ref()?.slot_in(occupied, cell)
     }
 
     /// How many entries there are, how many of them say that no walk leads home, and the greatest count.

@@ -10,7 +10,7 @@ returns-in-Finite-clause-least c =
     let r = c.args.reached.now in
     let b = r.sums.board in
     let told : Finite c.told_of.result ≡ told_of c.args.by_parity b (Finite c.in-Finite.sum) =
-    c.told_of.ensures ∙ ap (λ x. told_of c.args.by_parity x (Finite c.in-Finite.sum)) (c.board.ensures.board ∙ ap (λ s. s.board) c.sum.ensures.same) in (
+    c.told_of.ensures ∙ ap (λ s. told_of c.args.by_parity s.board (Finite c.in-Finite.sum)) c.sum.ensures.same in (
       λ test. record {
         count = Finite c.in-Finite.sum;
         says = c.in-Finite.ensures.sum;

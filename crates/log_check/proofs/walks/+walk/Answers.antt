@@ -1,42 +1,52 @@
-use Rattle.std.proofs.Common.{◌≡◌, ◌∷◌, ◌^◌, ◌<◌, ◌-◌, Some, List, refl, sym, subst, ap, length, ◌∙◌, arith}
+use Rattle.std.proofs.Common.{◌≡◌, ◌+◌, ◌∷◌, ◌^◌, ◌<◌, ◌-◌, Some, List, refl, sym, subst, ap, length, ◌∙◌, arith}
 use Rattle.std.specs.Prelude.{IfNone, IfSome}
 use Rattle.puz_board.specs.Boards.{IsBoardOf, moved}
 use Rattle.puz_board.proofs.MovedLemmas.{IsBoardOf-moved}
+use Rattle.set_sum.specs.Steps.{IsStepFrom}
+use Rattle.set_sum.specs.SumViews.{SumsView}
 use Rattle.log_check.specs.Nodes.{BeginsWith, BeginsWithNone}
 use Rattle.log_check.specs.Reached.{waiting_of}
 use Rattle.log_check.specs.Walks.{AreRefused, AreWalked, MayHave, Waiting, all_moves, with_child, with_children, with_node}
 use Rattle.log_check.specs.declared.nodes.Node.TheVariants.{Branch}
-use Rattle.log_check.proofs.BehindLemmas.{after_is, none_as, none_so, refused_as, refused_children, refused_node, refused_none, some_as, walked_as, walked_node, walked_none, with_child-there}
+use Rattle.log_check.proofs.BehindLemmas.{none_as, none_so, refused_as, refused_children, refused_node, refused_none, some_as, walked_as, walked_node, walked_none, with_child-off, with_child-there}
 use Rattle.log_check.proofs.NodeLemmas.{BeginsWith-same, with_node-other}
 use Rattle.log_check.proofs.walks.+walk.Goals as goal
 
 pub behind_child-behind_tree-behind-requires : goal.behind_child-behind_tree-behind-requires
 behind_child-behind_tree-behind-requires t c =
     let s = c.args.reached.now.sums in
-    let child = c.in-Some.sums in
-    let is = after_is s child (moved s.board c.args.mv) c.in-Some.ensures in (
+    let child = c.step.new.self in
+    let is = c.in-Some.ensures.some in (
       let measure = c.decreases in let some = c.requires.bound in omega arith,
       (
         c.requires.there,
         (
-          c.requires.side ∙ ap (λ v. v.side) (sym is.0),
-          IsBoardOf-moved c.args.log.now.side s.board c.requires.board c.args.mv child.board is.1,
+          c.requires.side ∙ ap (λ v. v.side) (sym is.1),
+          IsBoardOf-moved c.args.log.now.side s.board c.requires.board c.args.mv child.board is.0,
         ),
       ),
     )
+
+pub behind_child-take_back-requires : goal.behind_child-take_back-requires
+behind_child-take_back-requires t c =
+    let s = c.args.reached.now.sums in
+    let is = c.in-Some.ensures.some in
+    let same = ap (λ r. r.sums) c.behind_tree-behind.ensures.same in
+    (s.board, subst (λ w. IsStepFrom w.bundle s.board w.board c.in-Some.step) (sym same) (subst (λ v. IsStepFrom v s.board c.step.new.self.board c.in-Some.step) (sym is.1) is.2))
 
 pub behind_child-returns-in-Some-clause-some : goal.behind_child-returns-in-Some-clause-some
 behind_child-returns-in-Some-clause-some t c =
     let s = c.args.reached.now.sums in
     let log = c.args.log.now in
     let w = waiting_of c.args.reached.now in
-    let is = after_is s c.in-Some.sums (moved s.board c.args.mv) c.in-Some.ensures in
-    let child : Waiting = record { board = c.in-Some.sums.board; arriving = Some c.args.mv; bound = w.bound - 1 } in
-    some_as (λ behind. AreWalked c.in-Some.sums.bundle log c.args.i (λ ws. child ∷ ws) c.args.bytes.now behind.now)
+    let next = c.step.new.self in
+    let is = c.in-Some.ensures.some in
+    let child : Waiting = record { board = next.board; arriving = Some c.args.mv; bound = w.bound - 1 } in
+    some_as (λ behind. AreWalked next.bundle log c.args.i (λ ws. child ∷ ws) c.args.bytes.now behind.now)
     (λ behind. AreWalked s.bundle log c.args.i (with_child w c.args.mv) c.args.bytes.now behind.now)
     (λ behind walked. walked_as s.bundle log c.args.i (with_child w c.args.mv) (λ ws. child ∷ ws) c.args.bytes.now behind.now
-    (with_child-there w c.args.mv (sym c.takes_back.ensures ∙ c.if-takes_back.false) c.in-Some.sums.board is.1)
-    (subst (λ v. AreWalked v log c.args.i (λ ws. child ∷ ws) c.args.bytes.now behind.now) is.0 walked))
+    (with_child-there w c.args.mv (sym c.takes_back.ensures ∙ c.if-takes_back.false) next.board is.0)
+    (subst (λ v. AreWalked v log c.args.i (λ ws. child ∷ ws) c.args.bytes.now behind.now) is.1 walked))
     c.behind_tree-behind.result c.behind_tree-behind.ensures.some
 
 pub behind_child-returns-in-Some-clause-none : goal.behind_child-returns-in-Some-clause-none
@@ -44,13 +54,38 @@ behind_child-returns-in-Some-clause-none t c =
     let s = c.args.reached.now.sums in
     let log = c.args.log.now in
     let w = waiting_of c.args.reached.now in
-    let is = after_is s c.in-Some.sums (moved s.board c.args.mv) c.in-Some.ensures in
-    let child : Waiting = record { board = c.in-Some.sums.board; arriving = Some c.args.mv; bound = w.bound - 1 } in
-    none_as (AreRefused c.in-Some.sums.bundle log c.args.i (λ ws. child ∷ ws) c.args.bytes.now) (AreRefused s.bundle log c.args.i (with_child w c.args.mv) c.args.bytes.now)
+    let next = c.step.new.self in
+    let is = c.in-Some.ensures.some in
+    let child : Waiting = record { board = next.board; arriving = Some c.args.mv; bound = w.bound - 1 } in
+    none_as (AreRefused next.bundle log c.args.i (λ ws. child ∷ ws) c.args.bytes.now) (AreRefused s.bundle log c.args.i (with_child w c.args.mv) c.args.bytes.now)
     (λ none. refused_as s.bundle log c.args.i (with_child w c.args.mv) (λ ws. child ∷ ws) c.args.bytes.now
-    (with_child-there w c.args.mv (sym c.takes_back.ensures ∙ c.if-takes_back.false) c.in-Some.sums.board is.1)
-    (subst (λ v. AreRefused v log c.args.i (λ ws. child ∷ ws) c.args.bytes.now) is.0 none))
+    (with_child-there w c.args.mv (sym c.takes_back.ensures ∙ c.if-takes_back.false) next.board is.0)
+    (subst (λ v. AreRefused v log c.args.i (λ ws. child ∷ ws) c.args.bytes.now) is.1 none))
     c.behind_tree-behind.result c.behind_tree-behind.ensures.none
+
+pub behind_child-returns-in-Some-clause-same : goal.behind_child-returns-in-Some-clause-same
+behind_child-returns-in-Some-clause-same t c =
+    let r = c.args.reached.now in
+    let s = r.sums in
+    let is = c.in-Some.ensures.some in
+    let after = c.behind_tree-behind.new.reached in
+    let same = c.behind_tree-behind.ensures.same in
+    let sums : after.sums ≡ c.step.new.self = ap (λ x. x.sums) same in
+    let from = subst (λ w. IsStepFrom w.bundle s.board w.board c.in-Some.step) (sym sums) (subst (λ v. IsStepFrom v s.board c.step.new.self.board c.in-Some.step) (sym is.1) is.2) in
+    let back : c.take_back.new.self ≡ s =
+    c.take_back.ensures s.board from ∙ ap {B = SumsView} (λ v. record { bundle = v; board = s.board }) (ap (λ w. w.bundle) sums ∙ is.1) in
+    let bound : after.bound + 1 ≡ r.bound = (let less : after.bound ≡ r.bound - 1 = ap (λ x. x.bound) same in let some = c.requires.bound in omega arith) in
+    λ i. record { sums = back i; arriving = r.arriving; bound = bound i }
+
+pub behind_child-returns-in-None-clause-some : goal.behind_child-returns-in-None-clause-some
+behind_child-returns-in-None-clause-some t c =
+    let w = waiting_of c.args.reached.now in
+    walked_none c.args.reached.now.sums.bundle c.args.log.now c.args.i (with_child w c.args.mv) c.args.bytes.now (with_child-off w c.args.mv c.in-None.ensures.none.0)
+
+pub behind_child-returns-in-None-clause-same : goal.behind_child-returns-in-None-clause-same
+behind_child-returns-in-None-clause-same t c =
+    let r = c.args.reached.now in
+    λ i. record { sums = c.in-None.ensures.none.1 i; arriving = r.arriving; bound = r.bound }
 
 pub behind_tree-returns-in_err-node-clause-none : goal.behind_tree-returns-in_err-node-clause-none
 behind_tree-returns-in_err-node-clause-none t c =

@@ -1,38 +1,15 @@
-use Rattle.std.proofs.Common.{◌≡◌, ◌+◌, ◌*◌, ◌<◌, true, length, get_or, sym, ◌∙◌, ap, ap₂, subst, arith}
-use Rattle.puz_board.specs.Masks.{IsMaskOf}
-use Rattle.pat_place.specs.Patterns.{has}
+use Rattle.std.proofs.Common.{◌*◌, ◌<◌, subst, sym}
+use Rattle.std.specs.Prelude.{IfSome}
 use Rattle.pat_place.specs.Placements.{IsFree}
 use Rattle.pat_place.specs.Regions.{IsSlot}
-use Rattle.pat_place.proofs.SlotLemmas.{slot_some}
-use Rattle.pat_place.proofs.SlotTableLemmas.{slot_room}
 use Rattle.pat_place.proofs.slot_tables.SlotTable.slot.Goals as goal
 
-pub bounds-slots-number : goal.bounds-slots-number
-bounds-slots-number c =
-    let r = c.self.inside in
-    let number = c.number_of-number.result in
-    let side : c.args.placement.now.pattern.side ≡ r.side = c.requires.side ∙ sym c.self.view_is in
-    let low : number < length r.masks.items = (let l = c.if-number-masks.false in let e = ap length c.as_slice-masks.ensures.value in omega arith) in
-    let inside : c.args.cell < r.side * r.side = subst (λ k. c.args.cell < k * k) side c.requires.free.0 in
-    let room = slot_room r.side (length r.masks.items) number c.args.cell low inside in
-    let size = c.self.invariant.slots.size in
-    let at : number * r.cells + c.from.result ≡ number * (r.side * r.side) + c.args.cell = ap₂ (λ k x. number * k + x) c.self.invariant.few c.from.ensures in
-    let same = ap length c.as_slice-slots.ensures.value in
-    omega arith
+pub slot_in-requires : goal.slot_in-requires
+slot_in-requires c = subst (λ n. c.args.cell < n * n) c.requires.side c.requires.free.0
 
 pub returns : goal.returns
 returns c =
-    let r = c.self.inside in
     let p = c.args.placement.now in
-    let cell = c.args.cell in
-    let number = c.number_of-number.result in
-    let side : p.pattern.side ≡ r.side = c.requires.side ∙ sym c.self.view_is in
-    let low : number < length r.masks.items = (let l = c.if-number-masks.false in let e = ap length c.as_slice-masks.ensures.value in omega arith) in
-    let at : number * r.cells + c.from.result ≡ number * (r.side * r.side) + cell = ap₂ (λ k x. number * k + x) c.self.invariant.few c.from.ensures in
-    let free : IsFree r.side p.cells cell = subst (λ k. IsFree k p.cells cell) side c.requires.free in
-    let some = slot_some r.side c.self.invariant.low c.self.invariant.high p.cells cell free in
-    let kept : get_or r.masks.items number 0 ≡ c.occupied-set.result = ap (λ xs. get_or xs number 0) (sym c.as_slice-masks.ensures.value) ∙ c.if-masks-number.false in
-    let mask : IsMaskOf (get_or r.masks.items number 0) (λ x. has p.cells x ≡ true) = subst (λ m. IsMaskOf m (λ x. has p.cells x ≡ true)) (sym kept) c.occupied-set.ensures in
-    let byte : get_or c.as_slice-slots.result.now (number * r.cells + c.from.result) 0 ≡ some.0 =
-    ap₂ (λ xs k. get_or xs k 0) c.as_slice-slots.ensures.value at ∙ c.self.invariant.slots.each number p.cells low mask cell some.0 some.1 in
-    subst (λ k. IsSlot k p.cells cell (get_or c.as_slice-slots.result.now (number * r.cells + c.from.result) 0)) (sym side) (subst (IsSlot r.side p.cells cell) (sym byte) some.1)
+    let free : IsFree c.args.self.now p.cells c.args.cell = subst (λ n. IsFree n p.cells c.args.cell) c.requires.side c.requires.free in
+    subst (λ n. IfSome c.slot_in.result (IsSlot n p.cells c.args.cell)) (sym c.requires.side)
+    (c.slot_in.ensures p.cells c.occupied.ensures free)

@@ -2,7 +2,7 @@ use Rattle.std.proofs.Common.{◌≡◌, ◌≢◌, ◌^◌, ◌<◌, sym, ◌�
 use Rattle.std.specs.Int.{bit_at}
 use Rattle.puz_board.proofs.BitLemmas.{both_in, in_below}
 use Rattle.set_sum.proofs.KnownLemmas.{joined_more, joined_none}
-use Rattle.set_sum.proofs.sums.joined.Goals as goal
+use Rattle.set_sum.proofs.known.joined.Goals as goal
 
 pub loop-fresh-init : goal.loop-fresh-init
 loop-fresh-init c = record {
@@ -16,7 +16,7 @@ loop-fresh-preserved c =
     let rest = c.without-fresh.result in
     let fits : rest < 2 ^ 32 = c.without-fresh.type_inv in
     record {
-      joined = joined_more c.args.places place _ c.args.other.now c.args.known.now c.loop-fresh.now c.noted-now.result c.loop-fresh.invariant.joined c.noted-now.ensures
+      joined = joined_more c.args.places place _ c.args.other.now c.args.known.now c.loop-fresh.now c.note.new.known c.loop-fresh.invariant.joined c.note.ensures
           (c.loop-fresh.invariant.fresh place c.first_of-place.ensures.here) (ap (slice_index c.args.other.now.entries) c.from.ensures);
       fresh = λ p set.
           let other : p ≢ place = λ e. let here : bit_at rest p ≡ 0 = ap (bit_at rest) e ∙ c.without-fresh.ensures.here in omega arith in

@@ -1,7 +1,7 @@
 use Rattle.std.proofs.Common.{◌≡◌, ℕ}
 use Rattle.std.specs.Int.{bit_at}
 use Rattle.set_sum.specs.StoredSums.{IsJoined}
-use Rattle.set_sum.proofs.sums.joined.Given as goal
+use Rattle.set_sum.proofs.known.joined.Given as goal
 
 abbrev pub invariant-loop-fresh : goal.invariant-loop-fresh
 invariant-loop-fresh l = record {

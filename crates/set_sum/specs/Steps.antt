@@ -1,0 +1,16 @@
+-- Steps of a walk over the boards of which a bundle is asked.
+use Rattle.std.specs.Prelude.{◌≡◌, ℕ, List}
+use Rattle.puz_board.specs.Boards.{IsBoardOf, blank, slid}
+use Rattle.puz_board.specs.Cells.{Adjacent}
+use Rattle.set_sum.specs.Bundles.{BundleView}
+use Rattle.set_sum.specs.StoredSums.{IsKnownOf}
+use Rattle.set_sum.specs.declared.known.Step.{Step}
+
+-- the step leads from board b to this one: it keeps the blank's cell on b, and what is known of b
+pub record IsStepFrom (v : BundleView) (b next : List ℕ) (step : Step) : Type 0 where
+  pub board : IsBoardOf v.side b
+  pub to : ℕ
+  pub near : Adjacent v.side (blank b) to
+  pub leads : slid b to ≡ next
+  pub from : step.from ≡ blank b
+  pub known : IsKnownOf v b step.known
