@@ -8,6 +8,8 @@
 
 # shellcheck source=tools/sources.sh disable=SC2154
 . "$root/tools/sources.sh" || return 1
+# shellcheck source=tools/beside.sh
+. "$root/tools/beside.sh" || return 1
 log=$kept/build.log
 
 say() {
@@ -110,53 +112,11 @@ install_program() {
     fi
 }
 
-# Sets `steps` to the crates that the program is made of, in the order of crates.txt.
-find_steps() {
-    local line name use order=() found=(pdb_cli) i
-    local -A uses=([pdb_cli]='') is_found=([pdb_cli]=yes)
-    while IFS= read -r line || [ -n "$line" ]; do
-        line=${line%%#*}
-        name=${line%%[: ]*}
-        [ -n "$name" ] || continue
-        order+=("$name")
-        uses[$name]=${line#*:}
-    done <"$root/crates.txt"
-    for ((i = 0; i < ${#found[@]}; i++)); do
-        for use in ${uses[${found[i]}]//,/ }; do
-            if [ -n "${uses[$use]+listed}" ] && [ -z "${is_found[$use]-}" ]; then
-                is_found[$use]=yes
-                found+=("$use")
-            fi
-        done
-    done
-    steps=()
-    for name in "${order[@]}"; do
-        [ -z "${is_found[$name]-}" ] || steps+=("$name")
-    done
-}
-
-# Makes of the folder $1 a repository of the crates of `steps` alone, with what a build reads of each.
-copy_steps() {
-    local line name
-    # rt proves side by side at the top of a repository alone, which it knows by this folder.
-    mkdir -- "$1/.git" "$1/crates" && cp -- "$root/HANDLES" "$1/" || return 1
-    while IFS= read -r line || [ -n "$line" ]; do
-        name=${line%%[#: ]*}
-        [[ -n $name && " ${steps[*]} " != *" $name "* ]] || printf '%s\n' "$line" || return 1
-    done <"$root/crates.txt" >"$1/crates.txt"
-    for name in "${steps[@]}"; do
-        mkdir -- "$1/crates/$name" && cp -R -- "$root/crates/$name"/!(out|must-fail|*.md) "$1/crates/$name/" || return 1
-    done
-}
-
-# Says how many crates are proved and how long that has taken, and which are at work: those that rt has begun in the copy, or
-# the one that it named last.
+# Says how many crates are proved and how long that has taken, and which are at work.
 tell() {
     local name busy='' after=$((SECONDS - begun))
     for name in "${steps[@]}"; do
-        if [ -z "${proved[$name]-}" ] && { [ "$name" = "$current" ] || [ -d "${copy:-/dev/null}/crates/$name/out" ]; }; then
-            busy+=${busy:+, }$name
-        fi
+        [ -z "${at_work[$name]-}" ] || busy+=${busy:+, }$name
     done
     if [ "$after" -lt 60 ]; then after+=' s'; else after=$((after / 60))' min'; fi
     say "${#proved[@]} of ${#steps[@]} crates proved after $after${busy:+ ($busy at work)}"
@@ -167,39 +127,31 @@ tell() {
 note_end() {
     [[ -z ${proved[$1]-} && " ${steps[*]} " == *" $1 "* ]] || return 0
     proved[$1]=yes
+    unset "at_work[$1]"
     tell
 }
 
-# Notes what a line of `rt ci` says. Status 1 where a crate is not proved: its own lines are the last ones then, and `refused`
-# is its name if the checker found so.
+# Notes what a line of `prove_all` says. `refused` is the name of the crate that the checker refuses, if there is one.
 note_beside() {
-    case $1 in
-    '== '*) refused='' ;;
-    'logic=not-proved'*) refused=yes ;;
-    'rt: '*' NOT PROVED'*)
-        refused=${refused:+${1#rt: }}
-        refused=${refused%% *}
-        return 1
-        ;;
+    [[ $1 =~ ^beside:\ ([a-z0-9_]+)\ (begins|proved|refused)$ ]] || return 0
+    case ${BASH_REMATCH[2]} in
+    begins) at_work[${BASH_REMATCH[1]}]=yes ;;
+    proved) note_end "${BASH_REMATCH[1]}" ;;
+    refused) refused=${BASH_REMATCH[1]} ;;
     esac
-    [[ ! $1 =~ ^rt:\ ([a-z0-9_]+)\ (proved$|is\ kept:) ]] || note_end "${BASH_REMATCH[1]}"
 }
 
 # Notes what a line of `rt run` says.
 note_in_turn() {
-    [[ ! $1 =~ ^rt:\ chose\ --jobs\ [0-9]+\ for\ ([a-z0-9_]+) ]] || current=${BASH_REMATCH[1]}
+    [[ ! $1 =~ ^rt:\ chose\ --jobs\ [0-9]+\ for\ ([a-z0-9_]+) ]] || at_work=(["${BASH_REMATCH[1]}"]=yes)
     [[ ! $1 =~ ^crate\ ([a-z0-9_]+): ]] || note_end "${BASH_REMATCH[1]}"
-}
-
-run_beside() {
-    cd -P -- "$copy" && exec "$rt" ci
 }
 
 run_in_turn() {
     cd -P -- "$root/crates/pdb_cli" && exec "$rt" run <stdin
 }
 
-# Removes the copy, if there is one. What an rt that was ended had started may write there for a moment yet.
+# Removes the copy, if there is one. What was at work there and is ended may write for a moment yet.
 remove_copy() {
     local tries
     for ((tries = 0; tries < 50; tries++)); do
@@ -208,15 +160,15 @@ remove_copy() {
     done
 }
 
-# Ends rt, whose process is `job`, and removes the copy, where the launcher ends before it has said so on this function's input.
-# A signal to all of them ends the launcher and rt, and not this.
+# Ends what is followed, whose process is `job`, and removes the copy, where the launcher ends before it has said so on this
+# function's input. A signal to all of them ends the others, and not this.
 watch() {
     trap '' INT TERM HUP QUIT
     read -r || { kill "$job" 2>/dev/null; remove_copy; }
 }
 
-# Runs rt by the function $1, copies its lines to the log, hands each to the function $2, and tells once a minute how far it
-# is. Ends rt where $2 fails, and returns rt's status.
+# Runs the function $1 as a process of its own, copies its lines to the log, hands each to the function $2, and tells once a
+# minute how far it is. Returns the status of $1.
 follow() {
     local lines line part='' status job alive watcher
     exec {lines}< <("$1" 2>&1)
@@ -228,10 +180,11 @@ follow() {
         status=$?
         part+=$line
         if [ "$status" = 0 ]; then
-            if ! printf '%s\n' "$part" >>"$log" || ! "$2" "$part"; then
+            if ! printf '%s\n' "$part" >>"$log"; then
                 kill "$job"
                 break
             fi
+            "$2" "$part"
             part=''
         elif [ "$status" -le 128 ]; then
             printf '%s' "$part" >>"$log"
@@ -248,12 +201,11 @@ follow() {
     return "$status"
 }
 
-# Proves and builds the program in a copy of its crates, where `rt ci` proves as many of them side by side as there are
-# processors and memory, those of the longest chain first, and takes over what it proved of the same files on this machine.
+# Proves and builds the program in a copy of its crates, side by side.
 build_beside() {
     local copy status
     copy=$(mktemp -d 2>>"$log") || return 1
-    copy_steps "$copy" 2>>"$log" && follow run_beside note_beside && take_program "$copy"
+    copy_steps 2>>"$log" && follow prove_all note_beside && take_program "$copy"
     status=$?
     remove_copy
     return "$status"
@@ -268,8 +220,8 @@ say_unbuilt() {
 # Proves and builds the program, and takes it: side by side where no build in this checkout has left what `rt run` would begin
 # with, and else, or where that fails, one crate after the other.
 build_once() {
-    local refused='' current='' copy='' begun=$SECONDS told=$SECONDS
-    local -A proved=()
+    local refused='' copy='' begun=$SECONDS told=$SECONDS
+    local -A proved=() at_work=()
     if [ ! -d "$root/crates/pdb_cli/out/incremental" ]; then
         ! build_beside || return 0
         if [ -n "$refused" ]; then
@@ -277,7 +229,7 @@ build_once() {
             return 1
         fi
         say "the crates are not proved side by side, and $log says why: one after the other now"
-        proved=()
+        proved=() at_work=()
     fi
     if ! follow run_in_turn note_in_turn; then
         say_unbuilt 'rt run failed'

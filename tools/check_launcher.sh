@@ -1,6 +1,6 @@
 #!/usr/bin/env bash
-# Checks the launcher `pdb_cli`, and the command `.ci/run`, in temporary checkouts, where another command stands in for
-# `rt`: it makes a script that shows which sources it was made of. So nothing is proved, and no kit is needed.
+# Checks the launcher `pdb_cli`, and the command `.ci/run`, in temporary checkouts, where other commands stand in for those of
+# the kit: they make a script that shows which sources it was made of. So nothing is proved, and no kit is needed.
 #
 #     tools/check_launcher.sh
 #
@@ -31,92 +31,13 @@ fi
 # The launcher finds these commands alone, so each can be taken away.
 env=$(type -P env)
 mkdir "$work/bin"
-for name in bash cat chmod cmp cp dirname env find flock mkdir mktemp mv readlink rm sha256sum sleep sort tail tee xargs; do
+for name in bash cat chmod cmp cp dirname env find flock grep mkdir mkfifo mktemp mv nice readlink rm sha256sum sleep sort tail tee \
+    wc xargs; do
     ln -s "$(type -P "$name")" "$work/bin/$name"
 done
 
-# Makes a kit whose rt does what the files of `orders` beside the kit say, and writes there what it was called for.
-make_kit() {
-    mkdir -p "$1/bin"
-    echo 'kit 1' >"$1/KIT-ID"
-    cat >"$1/bin/rt" <<'END'
-#!/usr/bin/env bash
-# Stands in for rt.
-here=${0%/*}
-orders=$here/../../orders
-if [ "$*" = version ]; then
-    echo version >>"$orders/calls"
-    [ ! -e "$orders/no_version" ] || exit 1
-    exec cat "$here/../KIT-ID"
-fi
-echo "$$" >"$orders/process"
-is_copy=
-if [ "$*" = ci ]; then
-    if [ -e .git ]; then
-        is_copy=yes
-        find . -type f >"$orders/copy"
-    fi
-    cd crates/pdb_cli || exit 2
-fi
-[ "$*" = run ] || [ "$*" = ci ] && [ "${PWD##*/}" = pdb_cli ] || exit 2
-echo "build by rt $*" >>"$orders/calls"
-[ ! -e "$orders/fail_at_once" ] || { echo 'error: nothing is made' && exit 1; }
-mkdir -p ../low/out
-echo 'crate low: modules loaded=1 checked=0'
-shopt -s nullglob
-lines=$(cat ../../crates.txt)
-made=$(cat "$here/../KIT-ID" <(echo "${lines/$'unused: low\n'/}") stdin ../{low,pdb_cli}/src/*.rt ../{low,pdb_cli}/src/*/*.rt \
-    ../*/specs/*.antt)
-edit() {
-    echo 'fn edited' >>"$(echo "$orders/../a "*)/crates/low/src/lib.rt"
-}
-[ ! -e "$orders/edit_once" ] || { rm "$orders/edit_once" && edit; }
-[ ! -e "$orders/edit" ] || edit
-[ ! -e "$orders/kill_the_launcher" ] || kill -KILL "$PPID"
-# Says of a crate what rt ci says.
-refuse() {
-    printf '%s\n' '== low' "$@" 'rt: low NOT PROVED'
-    sleep 60
-    exit 1
-}
-if [ "$is_copy" ]; then
-    [ ! -e "$orders/refuse" ] || refuse 'fn low::f: not proved' 'logic=not-proved'
-    [ ! -e "$orders/refuse_layout" ] || refuse 'run rt fmt'
-    [ ! -e "$orders/fail_beside" ] || { echo 'rt: no room' && exit 1; }
-    [ ! -e "$orders/begin_both" ] && [ ! -e "$orders/keep_low" ] || mkdir -p out
-    [ ! -e "$orders/keep_low" ] || echo 'rt: low is kept: an earlier run proved the same'
-fi
-while [ -e "$orders/hold" ] || [ -e "$orders/hold_$*" ]; do
-    sleep 0.05
-done
-[ ! -e "$orders/make_nothing" ] || exit 0
-mkdir -p out
-[ "$*" != ci ] || echo 'rt: low proved'
-{
-    printf '#!/usr/bin/env bash\nmade=%q\n' "$made"
-    cat <<'PROGRAM'
-case ${1-} in
-sources) printf '%s\n' "$made" ;;
-words) [ "$#" = 1 ] || printf '%s\0' "${@:2}" ;;
-status) exit "$2" ;;
-kill) kill -TERM $$ ;;
-copy) cat && echo 'on standard error' >&2 ;;
-place) pwd ;;
-progress) echo "${PDB_PROGRESS-not set}" ;;
-'') echo "$# words" ;;
-esac
-PROGRAM
-} >out/pdb_cli
-chmod +x out/pdb_cli
-[ ! -e "$orders/make_none" ] || rm out/pdb_cli
-[ ! -e "$orders/make_none_beside" ] || [ -z "$is_copy" ] || rm out/pdb_cli
-echo 'crate pdb_cli: modules loaded=1 checked=0'
-[ ! -e "$orders/fail_at_last" ] || { echo 'error: what is made is wrong' && exit 1; }
-[ "$*" != ci ] || echo 'rt: pdb_cli proved'
-[ "$*" != ci ] || [ "$is_copy" ] || { cat "$orders/rt" && exit "$(cat "$orders/rt.status")"; }
-END
-    chmod +x "$1/bin/rt"
-}
+# shellcheck source=tools/stand_in_kit.sh
+. "$root/tools/stand_in_kit.sh" || exit 1
 
 # Makes a script that stands in for one of those that .ci/run calls.
 make_script() {
@@ -149,7 +70,7 @@ make() {
     mkdir -p "$checkout/tools" "$checkout/crates/low/"{src,specs,must-fail} "$checkout/crates/pdb_cli/"{src,specs} \
         "$at/orders" "$place"
     cp "$root/pdb_cli" "$checkout"
-    cp "$root/tools/"{sources,build}.sh "$checkout/tools"
+    cp "$root/tools/"{sources,build,beside}.sh "$checkout/tools"
     cp -r "$root/.ci" "$checkout"
     make_script "$checkout/tools/check_runs.sh"
     make_script "$checkout/tools/check_launcher.sh"
@@ -171,7 +92,21 @@ make() {
     touch -d '2 hours ago' "$place/old.rt"
     make_kit "$kit"
     : >"$at/orders/calls"
+    : >"$at/orders/processes"
+    echo 4 >"$at/orders/processors"
     [ "${#plain[@]}" = 0 ] || chown -R 65534:65534 "$at"
+}
+
+# Adds to the checkout's crates `left` and `right`, which use `low`, and `top`, a long one that uses nothing; the program uses all.
+add_crates() {
+    local name
+    for name in left right top; do
+        mkdir -p "$checkout/crates/$name/src"
+        echo "fn $name" >"$checkout/crates/$name/src/lib.rt"
+    done
+    printf 'fn %s\n' {1..9} >"$checkout/crates/top/src/lib.rt"
+    printf '%s\n' low: 'unused: low' 'pdb_cli: left, right top hex' 'left: low' 'right: low' 'top:' >"$checkout/crates.txt"
+    [ "${#plain[@]}" = 0 ] || chown -R 65534:65534 "$checkout"
 }
 
 # Has the script $1, or `rt ci`, end with status $2 and write the line $3.
@@ -252,14 +187,25 @@ eventually() {
     return 1
 }
 
-# Whether a build by rt with the word $1 has begun.
+# Whether a build $1, `beside` or `by rt run`, has begun.
 is_building() {
-    [ "$(calls "build by rt $1")" != 0 ]
+    [ "$(calls "^build $1$")" != 0 ]
 }
 
-# Whether the rt that was started last has ended.
+# Whether all of these crates have begun.
+have_begun() {
+    local name
+    for name; do
+        [ "$(calls "^$name begins$")" != 0 ] || return 1
+    done
+}
+
+# Whether all commands of the kit that were started have ended.
 is_ended() {
-    ! kill -0 "$(cat "$at/orders/process")" 2>/dev/null
+    local process
+    while read -r process; do
+        ! kill -0 "$process" 2>/dev/null || return 1
+    done <"$at/orders/processes"
 }
 
 # Whether nothing of a start goes on, or is left but what the checkout keeps.
@@ -272,7 +218,8 @@ is_alone() {
 #
 
 edits=(same_size same_size_and_time definition main_file added_file removed_file renamed_file older_file_moved_in
-    deeper_out_folder list_of_crates list_of_handles input_of_the_run kit_in_its_place command_of_the_kit launcher_itself)
+    deeper_out_folder list_of_crates list_of_handles input_of_the_run kit_in_its_place command_of_the_kit launcher_itself
+    proofs_side_by_side)
 same_size() { echo 'fn LOW' >crates/low/src/lib.rt; }
 same_size_and_time() {
     touch -r crates/low/src/lib.rt "$place/time" && echo 'fn LOW' >crates/low/src/lib.rt && touch -r "$place/time" crates/low/src/lib.rt
@@ -290,6 +237,7 @@ input_of_the_run() { echo '0 1 2 3 ;' >crates/pdb_cli/stdin; }
 kit_in_its_place() { echo 'kit 2' >"$kit/KIT-ID"; }
 command_of_the_kit() { echo 'kit 3' >"$kit/KIT-ID" && cp "$kit/bin/rt" "$kit/bin/rt.new" && mv "$kit/bin/rt.new" "$kit/bin/rt"; }
 launcher_itself() { echo '# more' >>tools/build.sh; }
+proofs_side_by_side() { echo '# more' >>tools/beside.sh; }
 
 # These change nothing that a build reads.
 idle_edits=(touched_file page_of_a_crate wrong_body what_rt_made)
@@ -315,7 +263,7 @@ breakages=(
     'no_find:can be read and compared' 'no_sort:can be read and compared' 'no_xargs:can be read and compared' 'no_sha256sum:can be read and compared' 'no_flock:cannot be'
     'no_mkdir:cannot be' 'no_rm:cannot be' 'no_cp:cannot be' 'no_mv:cannot be'
     'folder_unreadable:can be read and compared' 'file_unreadable:can be read and compared' 'no_list_of_crates:can be read and compared' 'no_script:cannot be read'
-    'no_script_at_all:cannot be read'
+    'no_script_at_all:cannot be read' 'no_proofs_side_by_side:cannot be read'
 )
 log_is_a_folder() { rm -f "$checkout/out/build.log" && mkdir "$checkout/out/build.log"; }
 folder_is_read_only() { chmod a-w "$checkout/out" "$checkout/out/"*; }
@@ -333,6 +281,7 @@ file_unreadable() { chmod 0 "$checkout/crates/low/src/lib.rt"; }
 no_list_of_crates() { rm "$checkout/crates.txt"; }
 no_script() { rm "$checkout/tools/build.sh"; }
 no_script_at_all() { rm "$checkout/tools/sources.sh"; }
+no_proofs_side_by_side() { rm "$checkout/tools/beside.sh"; }
 no_checks() { rm "$checkout/tools/check_launcher.sh"; }
 for name in find sort xargs sha256sum flock mkdir rm cp mv; do
     eval "no_$name() { take_away $name; }"
@@ -356,8 +305,9 @@ sleep 4
 
 # This start takes more than a minute, and is looked at last.
 make minute
-order begin_both
-order hold_ci
+add_crates
+order hold_left
+order hold_right
 minute=$SECONDS
 start sources &
 slow=$!
@@ -372,7 +322,7 @@ check 'the first start builds the program and runs it' ran 1
 check 'it says how many crates of how many are proved, and which is at work' said \
     '^pdb_cli: 1 of 2 crates proved after [0-9]* s (pdb_cli at work)$'
 check 'the last crate is the program' said '^pdb_cli: 2 of 2 crates proved after [0-9]* s$'
-check 'what the build said is in the log' grep -q '^crate low: ' "$checkout/out/build.log"
+check 'what the build said is in the log' grep -q '^fn low::f: proved$' "$checkout/out/build.log"
 start sources
 check 'the second start builds nothing' ran 1
 check 'it says nothing' [ ! -s "$at/stderr" ]
@@ -383,25 +333,93 @@ input=$at/bytes
 start copy
 check 'the first build leaves standard input to the program' cmp -s "$at/stdout" "$at/bytes"
 
-# The files of the copy that rt ci was given, as they are wanted.
+# The files of the copy that rattle was given, as they are wanted.
 wanted_copy() {
-    printf './%s\n' HANDLES crates.txt crates/{low/{specs/Low.antt,src/lib.rt},pdb_cli/{specs/Main.antt,src/main.rt,stdin}}
+    printf '%s\n' crates/{low/{specs/Low.antt,src/lib.rt},pdb_cli/{specs/Main.antt,src/main.rt,stdin}}
 }
 
-check 'the crates are proved side by side, by rt ci' grep -qx 'build by rt ci' "$at/orders/calls"
-check 'it gets the crates of the program alone, with no wrong body, page or work of rt' \
+check 'the crates are proved side by side' [ "$(calls '^build beside$')" = 1 ]
+check 'in a copy of the crates of the program alone, with no wrong body, page or work of rt' \
     cmp -s <(wanted_copy) <(LC_ALL=C sort "$at/orders/copy")
-check 'nothing of its copy is left' [ -z "$(ls "$at/tmp")" ]
+check 'nothing of the copy is left' [ -z "$(ls "$at/tmp")" ]
 
-make kept_before
-order keep_low
+#
+# Crates side by side.
+#
+
+# Whether the calls tell that each of these crates begins and ends before the next.
+go_in_turn() {
+    local name
+    grep -E ' (begins|ends)$' "$at/orders/calls" | cmp -s - <(for name; do printf '%s\n' "$name begins" "$name ends"; done)
+}
+
+# Whether none of these crates begins within a second.
+wait_on() {
+    local name
+    sleep 1
+    for name; do
+        ! have_begun "$name" || return 1
+    done
+}
+
+# Lets the start that is under way go on, and waits for its end.
+finish() {
+    rm "$at/orders/hold_"*
+    status=0
+    wait "$going" || status=$?
+}
+
+make side_by_side
+add_crates
+order hold_left
+order hold_right
+start sources &
+going=$!
+check 'crates that do not use each other are proved at once' eventually have_begun top left right
+check 'the program waits for all that it uses' wait_on pdb_cli
+rm "$at/orders/hold_left"
+check 'also where one of these is proved' wait_on pdb_cli
+finish
+check 'and then runs' ran 1
+check 'it says which are at work' said '^pdb_cli: [1-3] of 5 crates proved after [0-9]* s (.*left, right.* at work)$'
+check 'each crate begins once' [ "$(calls ' begins$')" = 5 ]
+
+make one_processor
+add_crates
+echo 1 >"$at/orders/processors"
 start sources
-check 'a crate that is kept counts as proved' said '^pdb_cli: 1 of 2 crates proved after [0-9]* s (pdb_cli at work)$'
-check 'once' [ "$(grep -c ' 1 of 2 crates' "$at/stderr")" = 1 ]
+check 'on one processor one crate is proved at a time, and that with the longest chain first' go_in_turn top low left right pdb_cli
+check 'and the program runs' ran 1
+
+make two_processors
+add_crates
+echo 2 >"$at/orders/processors"
+order hold_top
+order hold_left
+start sources &
+going=$!
+check 'on two processors two are proved at once' eventually have_begun top low left
+check 'and no more' wait_on right
+finish
+check 'and then the program runs' ran 1
+
+make one_refused
+add_crates
+order refuse_left
+order hold_top
+order hold_right
+start sources
+check 'a crate that is not proved is refused beside others' refused 'left is not proved'
+check 'these are ended, and nothing is left' eventually is_alone
+check 'what the checker says of it is shown' said '^fn left::f: not proved$'
 
 # Where the crates cannot be proved side by side, they are proved one after the other.
-fallbacks=(fail_beside refuse_layout make_none_beside no_mktemp copy_fails)
+fallbacks=(fail_low die_low make_none_beside no_mktemp no_mkfifo no_nproc no_rattle copy_fails more_in_the_list)
 no_mktemp() { take_away mktemp; }
+no_mkfifo() { take_away mkfifo; }
+no_nproc() { rm "$kit/bin/nproc"; }
+no_rattle() { rm "$kit/bin/rattle"; }
+more_in_the_list() { sed -i 's/^low:/low jobs=1:/' "$checkout/crates.txt"; }
 # Here cp copies no folder.
 copy_fails() {
     take_away cp
@@ -424,6 +442,15 @@ for fallback in "${fallbacks[@]}"; do
     check "$fallback: nothing of a copy is left" [ -z "$(ls "$at/tmp")" ]
 done
 
+make one_dies
+add_crates
+order die_left
+order hold_top
+order hold_right
+start sources
+check 'where a check is killed, those beside it are ended' [ "$(calls 'right ends')" = 0 ]
+check 'and all are proved one after the other' ran 2
+
 make kept_work
 mkdir -p "$checkout/crates/pdb_cli/out/incremental"
 [ "${#plain[@]}" = 0 ] || chown -R 65534:65534 "$checkout"
@@ -432,14 +459,14 @@ check 'where a build has left work in the checkout, rt run begins with it' ran 1
 check 'at once' grep -qx 'build by rt run' "$at/orders/calls"
 
 make refused
-order refuse
+order refuse_low
 start sources
 check 'a crate that is not proved is refused' refused 'low is not proved'
 check 'what the checker says of it is shown' said '^fn low::f: not proved$'
 check 'and nothing more is tried' [ "$(calls build)" = 1 ]
-check 'rt is ended' eventually is_ended
+check 'rattle is ended' eventually is_ended
 check 'nothing of its copy is left' [ -z "$(ls "$at/tmp")" ]
-rm "$at/orders/refuse"
+rm "$at/orders/refuse_low"
 start sources
 check 'once it is mended the program runs' ran 2
 
@@ -447,11 +474,11 @@ check 'once it is mended the program runs' ran 2
 # A start that is ended.
 #
 
-# Starts the launcher as a job of its own, waits for its rt with the word $1, sends the signal $2 to the launcher, or, with
-# `all` behind it, to each of its processes, as a terminal would, and keeps its status.
+# Starts the launcher as a job of its own, waits for its build $1, `beside` or `by rt run`, sends the signal $2 to the launcher,
+# or, with `all` behind it, to each of its processes, as a terminal would, and keeps its status.
 interrupt() {
     local job
-    order "hold_$1"
+    order hold
     set -m
     (become sources) <"$input" >"$at/stdout" 2>"$at/stderr" &
     job=$!
@@ -460,33 +487,32 @@ interrupt() {
     kill "-$2" -- "${3:+-}$job"
     status=0
     { wait "$job" || status=$?; } 2>/dev/null
-    rm "$at/orders/hold_$1"
+    rm "$at/orders/hold"
 }
 
 ends=('INT:130' 'INT all:130' 'TERM:143' 'TERM all:143' 'HUP:129' 'KILL:137')
-for way in ci run; do
+for way in 'beside' 'by rt run'; do
     for end in "${ends[@]}"; do
         make "ended $way ${end%:*}"
-        [ "$way" = ci ] || order fail_beside
+        [ "$way" = beside ] || no_rattle
         # shellcheck disable=SC2086
         interrupt "$way" ${end%:*}
-        check "rt $way, ${end%:*}: the launcher is ended by the signal, and runs nothing" [ "$status.$(wc -c <"$at/stdout")" = "${end#*:}.0" ]
-        check "rt $way, ${end%:*}: nothing goes on, and nothing is left" eventually is_alone
+        check "$way, ${end%:*}: the launcher is ended by the signal, and runs nothing" [ "$status.$(wc -c <"$at/stdout")" = "${end#*:}.0" ]
+        check "$way, ${end%:*}: nothing goes on, and nothing is left" eventually is_alone
         : >"$at/orders/calls"
-        rm -f "$at/orders/fail_beside"
         start sources
-        check "rt $way, ${end%:*}: the next start builds the program" ran 1
+        check "$way, ${end%:*}: the next start builds the program" ran 1
     done
 done
 
 make 'ended all'
-interrupt ci KILL all
+interrupt beside KILL all
 check 'where all are killed, nothing goes on' eventually is_ended
 start sources
 check 'and the next start builds' ran 2
 
 make 'ended and at once'
-interrupt ci KILL
+interrupt beside KILL
 start sources
 check 'a start right after one that was killed builds' ran 2
 
@@ -852,10 +878,10 @@ check 'the program of an earlier gate is not run' counted 1 '2 passed, 2 failed'
 
 enter minute
 sleep "$((SECONDS - minute < 63 ? 63 + minute - SECONDS : 0))"
-rm "$at/orders/hold_ci"
+rm "$at/orders/hold_left" "$at/orders/hold_right"
 wait "$slow"
 status=0
-check 'once a minute it says which crates are at work' said '^pdb_cli: 0 of 2 crates proved after 1 min (low, pdb_cli at work)$'
+check 'once a minute it says which crates are at work' said '^pdb_cli: 2 of 5 crates proved after 1 min (left, right at work)$'
 check 'and then runs the program' ran 1
 
 echo "$passed passed, $failed failed"

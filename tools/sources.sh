@@ -27,7 +27,7 @@ find_rt() {
 # Sets `paths` to all that a build of the repository reads, with $1 in front: of a crate all but what rt makes in it, its
 # wrong bodies and its pages.
 find_paths() {
-    paths=("$1"{crates.txt,HANDLES,pdb_cli,tools/sources.sh,tools/build.sh} "$1"crates/*/!(out|must-fail|*.md))
+    paths=("$1"{crates.txt,HANDLES,pdb_cli,tools/{sources,build,beside}.sh} "$1"crates/*/!(out|must-fail|*.md))
 }
 
 # Sets `watched` to what may not change if a program is not to be built again.

@@ -1,4 +1,3 @@
+pub use Rattle.tab_make.specs.Layers
 pub mod Faults
-pub mod Layers
-pub mod Pieces
 pub mod Solvable

@@ -1,9 +1,9 @@
 //! The lemmas of a log, and the boards that they can be cited for.
 
 use crate::board_table::BoardTable;
-use crate::faults::MakeFault;
 use crate::keys::Tiles;
 use crate::log_bytes::LogBytes;
+use tab_make::MakeFault;
 
 /// The lemmas of a log, as far as they are written.
 #[derive(Drop)]

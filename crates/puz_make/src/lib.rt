@@ -2,12 +2,7 @@
 #![tactic(auto)]
 
 mod board_table;
-mod counts;
-mod entries;
-mod faults;
-mod grids;
 mod keys;
-mod layers;
 mod lemmas;
 mod limits;
 mod log_bytes;
@@ -18,22 +13,13 @@ mod positions;
 mod refuting;
 mod repeats;
 mod searches;
-mod sets;
-mod shapes;
 mod slots;
 mod solvable;
-mod steps;
 mod sums;
-mod tables;
 mod trees;
-mod turns;
-mod walks;
 mod writing;
 mod written;
 
-pub use entries::entry_of;
-pub use faults::MakeFault;
-pub use layers::layer;
 pub use limits::Limits;
 pub use searches::{Found, solve, solve_within};
-pub use tables::build;
+pub use tab_make::{MakeFault, build, entry_of, layer};

@@ -3,11 +3,11 @@
 ghost use Rattle.std.specs.Prelude.{IfErr};
 ghost use Rattle.puz_make.specs.Faults.{IsSearchFault};
 
-use crate::faults::MakeFault;
 use crate::keys::Tiles;
 use log_file::{BOUND_AND_LENGTH, NEWEST_VERSION, SIGNATURE};
 use puz_board::Side;
 use std::alloc::{AllocError, Global};
+use tab_make::MakeFault;
 
 /// The place of the number of lemmas in a header.
 const COUNT_AT: usize = 6;

@@ -4,7 +4,6 @@ ghost use Rattle.std.specs.Prelude.{IfErr};
 ghost use Rattle.puz_make.specs.Faults.{IsSearchFault};
 
 use crate::board_table::BoardTable;
-use crate::faults::MakeFault;
 use crate::keys::Tiles;
 use crate::lemmas::Lemmas;
 use crate::limits::Limits;
@@ -16,6 +15,7 @@ use crate::trees::{BRANCH, MARKED, Refutation};
 use crate::writing::Writer;
 use log_file::{BOUND_AND_LENGTH, HEADER_LEN};
 use std::alloc::Global;
+use tab_make::MakeFault;
 
 /// The log of a refutation, whose board is that of the position. Where a log of many lemmas would be longer than that of one,
 /// or there isn't the memory to write it, it has one lemma.

@@ -1,11 +1,11 @@
 //! Where the tiles of a table's pattern are on the board of a search, and what the table tells of it.
 
-use crate::entries::MOST_TILES;
-use crate::grids::{Grid, mask_of};
 use crate::slots::{CELLS, Slots};
 use puz_board::Board;
 use set_sum::{Member, Part};
 use tab_file::{NO_REGION, NO_WAY_HOME};
+use tab_make::MOST_TILES;
+use tab_make::grids::{Grid, mask_of};
 
 /// A tile that goes from one cell to another, where the blank was.
 #[derive(Clone, Copy)]

@@ -5,9 +5,8 @@ ghost use Rattle.std.specs.Bool.{OnFalse};
 ghost use Rattle.puz_board.specs.Boards.{side_of};
 ghost use Rattle.puz_make.specs.Faults.{IsSearchFault};
 ghost use Rattle.puz_make.specs.Solvable.{HasTheBlanksParity};
-ghost use Rattle.puz_make.specs.declared.faults.MakeFault.TheVariants.{K2};
+ghost use Rattle.tab_make.specs.declared.faults.MakeFault.TheVariants.{K2};
 
-use crate::faults::MakeFault;
 use crate::limits::Limits;
 use crate::logs::log_of;
 use crate::moves::MOVES;
@@ -20,6 +19,7 @@ use puz_board::Board;
 use set_sum::Bundle;
 use std::alloc::{AllocError, Global};
 use std::mem;
+use tab_make::MakeFault;
 
 /// By how much a threshold is above the one before: all solutions of a board have one parity.
 const BETWEEN_THRESHOLDS: u16 = 2;

@@ -1,7 +1,7 @@
 //! The slots of free cells, which are kept for many sets of cells: a search comes back to the same ones again and again.
 
-use crate::grids::{Grid, mask_of};
 use std::alloc::{AllocError, Global};
+use tab_make::grids::{Grid, mask_of};
 
 /// How many sets of free cells are kept.
 const KEPT: usize = 4096;

@@ -3,13 +3,13 @@
 
 ghost use Rattle.std.specs.Prelude.{◌<◌, length};
 
-use crate::grids::{mask_of, take_least};
 use crate::places::{Place, Slide};
 use crate::slots::{CELLS, Slots};
 use puz_board::{Board, Side, transposed_cell};
 use set_sum::{Bundle, MOST_MEMBERS, Member};
 use std::alloc::{AllocError, Global};
 use tab_file::NO_WAY_HOME;
+use tab_make::grids::{mask_of, take_least};
 
 /// For each place its entry of a board.
 pub(crate) type Entries = [u8; MOST_MEMBERS];

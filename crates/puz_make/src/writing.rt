@@ -5,13 +5,13 @@
 //! reverse of the arriving move, which is searched for.
 
 use crate::board_table::Entry;
-use crate::faults::MakeFault;
 use crate::lemmas::Lemmas;
 use crate::log_bytes::LogBytes;
 use crate::refuting::Refuter;
 use crate::trees::{BRANCH, CITATION, CITATION_LEN, Refutation, Step, Walk, most_steps};
 use std::alloc::{AllocError, Global};
 use std::ops::Range;
+use tab_make::MakeFault;
 
 /// How many lemmas a tree is cut into where nothing comes again.
 const CUTS: u32 = 250;

@@ -2,10 +2,10 @@ use Rattle.std.proofs.Common.{◌+◌, ◌/◌, ◌%◌, min, subst, ◌≡◌, 
 use Rattle.rayon.proofs.ListFacts.{IfOk-then}
 use Rattle.std.proofs.lemmas.List.FromFn.{length-range_with_len, get_or-range_with_len}
 use Rattle.std.specs.List.{range_with_len}
-use Rattle.puz_make.specs.Layers.{layer_from}
-use Rattle.puz_make.specs.Pieces.{all_items}
-use Rattle.puz_make.proofs.LayerLemmas.{all_oks, pieces-joined}
-use Rattle.puz_make.proofs.layers.layer.Goals as goal
+use Rattle.tab_make.specs.Layers.{layer_from}
+use Rattle.tab_make.specs.Pieces.{all_items}
+use Rattle.tab_make.proofs.LayerLemmas.{all_oks, pieces-joined}
+use Rattle.tab_make.proofs.layers.layer.Goals as goal
 
 pub collect-requires-clause-ready : goal.collect-requires-clause-ready
 collect-requires-clause-ready g c κs within =

@@ -6,7 +6,7 @@ ghost use Rattle.tab_file.specs.EntryBytes.{greatest_count};
 use tab_file::GREATEST_COUNT;
 
 /// How many tiles a pattern has at most.
-pub(crate) const MOST_TILES: usize = 8;
+pub const MOST_TILES: usize = 8;
 
 /// The entry that holds a count, where the count is at most 253.
 pub fn entry_of(count: u32) -> Option<u8>

@@ -1,6 +1,6 @@
 use Rattle.std.proofs.Common.{◌≡◌, take}
-use Rattle.puz_make.specs.Pieces.{all_items}
-use Rattle.puz_make.proofs.layers.joined.Given as goal
+use Rattle.tab_make.specs.Pieces.{all_items}
+use Rattle.tab_make.proofs.layers.joined.Given as goal
 
 abbrev pub invariant-loop-list : goal.invariant-loop-list
 invariant-loop-list l = l.all.items ≡ all_items (take l.list-index l.lists)

@@ -2,7 +2,7 @@
 
 ghost use Rattle.std.specs.Prelude.{◌≡◌, ◌+◌, ◌<◌, IfErr, IfOk, length};
 ghost use Rattle.tab_file.specs.Tables.{entry_count};
-ghost use Rattle.puz_make.specs.Faults.{IsBuildFault};
+ghost use Rattle.tab_make.specs.Faults.{IsBuildFault};
 
 use crate::counts::Counts;
 use crate::faults::MakeFault;

@@ -1,8 +1,8 @@
 use Rattle.std.proofs.Common.{◌-◌, ◌++◌, ap, sym, ◌∙◌, arith}
 use Rattle.std.proofs.lemmas.List.{append-nil}
-use Rattle.puz_make.specs.Layers.{layer_from}
-use Rattle.puz_make.proofs.LayerLemmas.{layer-none, layer-between}
-use Rattle.puz_make.proofs.layers.layer_of_piece.Goals as goal
+use Rattle.tab_make.specs.Layers.{layer_from}
+use Rattle.tab_make.proofs.LayerLemmas.{layer-none, layer-between}
+use Rattle.tab_make.proofs.layers.layer_of_piece.Goals as goal
 
 pub blocks-2-preserved-in_ok-add_layer : goal.blocks-2-preserved-in_ok-add_layer
 blocks-2-preserved-in_ok-add_layer c =

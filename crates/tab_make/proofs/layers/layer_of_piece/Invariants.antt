@@ -1,6 +1,6 @@
 use Rattle.std.proofs.Common.{◌≡◌, ◌-◌, ◌≤◌}
-use Rattle.puz_make.specs.Layers.{layer_from}
-use Rattle.puz_make.proofs.layers.layer_of_piece.Given as goal
+use Rattle.tab_make.specs.Layers.{layer_from}
+use Rattle.tab_make.proofs.layers.layer_of_piece.Given as goal
 
 abbrev pub invariant-blocks-2 : goal.invariant-blocks-2
 invariant-blocks-2 l = (l.numbers.items ≡ layer_from l.d l.entries l.from (l.at - l.from)) × (l.from ≤ l.at) × (l.at ≤ l.end)

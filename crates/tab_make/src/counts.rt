@@ -1,7 +1,7 @@
 //! How few moves lead to the tiles at home, found layer by layer.
 
 ghost use Rattle.std.specs.Prelude.{◌<◌, ◌^◌, IfErr, length};
-ghost use Rattle.puz_make.specs.Faults.{IsBuildFault};
+ghost use Rattle.tab_make.specs.Faults.{IsBuildFault};
 
 use crate::entries::entry_of;
 use crate::faults::MakeFault;

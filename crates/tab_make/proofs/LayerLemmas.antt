@@ -9,8 +9,8 @@ use Rattle.std.proofs.lemmas.Bool.{cases_lt, false_from_ne_true}
 use Rattle.std.proofs.lemmas.List.Sums.{sum_by-cons}
 use Rattle.pat_place.proofs.ListLemmas.{range-append}
 use lib.Seq.{drop-cons}
-use Rattle.puz_make.specs.Layers.{layer_from}
-use Rattle.puz_make.specs.Pieces.{all_items}
+use Rattle.tab_make.specs.Layers.{layer_from}
+use Rattle.tab_make.specs.Pieces.{all_items}
 
 abbrev weight : Bool → ℕ
 weight b = cond b 1 0

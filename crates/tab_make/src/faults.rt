@@ -1,7 +1,7 @@
 //! Why nothing is made.
 
 ghost use Rattle.std.specs.Prelude.{◌≡◌};
-ghost use Rattle.puz_make.specs.declared.faults.MakeFault.TheVariants.{Memory};
+ghost use Rattle.tab_make.specs.declared.faults.MakeFault.TheVariants.{Memory};
 
 use std::alloc::AllocError;
 

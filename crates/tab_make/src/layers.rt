@@ -1,8 +1,8 @@
 //! Layers of a table.
 
 ghost use Rattle.std.specs.Prelude.{◌≡◌, ◌+◌, ◌-◌, ◌*◌, ◌<◌, ◌≤◌, ◌^◌, ◌++◌, IfOk, length, min};
-ghost use Rattle.puz_make.specs.Layers.{layer_from, layer_of};
-ghost use Rattle.puz_make.specs.Pieces.{all_items};
+ghost use Rattle.tab_make.specs.Layers.{layer_from, layer_of};
+ghost use Rattle.tab_make.specs.Pieces.{all_items};
 
 use rayon::prelude::*;
 use std::alloc::{AllocError, Global};

@@ -1,7 +1,7 @@
 use Rattle.std.proofs.Common.{◌++◌, take, ap, sym, ◌∙◌}
-use Rattle.puz_make.specs.Pieces.{all_items}
-use Rattle.puz_make.proofs.LayerLemmas.{all_items-more}
-use Rattle.puz_make.proofs.layers.joined.Goals as goal
+use Rattle.tab_make.specs.Pieces.{all_items}
+use Rattle.tab_make.proofs.LayerLemmas.{all_items-more}
+use Rattle.tab_make.proofs.layers.joined.Goals as goal
 
 pub loop-list-preserved : goal.loop-list-preserved
 loop-list-preserved c =

@@ -1,8 +1,8 @@
 use Rattle.std.proofs.Common.{◌++◌, [], ◌∷◌, ap, sym, ◌∙◌, arith}
 use Rattle.std.proofs.lemmas.List.{append_assoc}
-use Rattle.puz_make.proofs.LayerLemmas.{layer-yes, layer-no}
-use Rattle.puz_make.proofs.layers.add_layer.Goals as goal
-use Rattle.puz_make.proofs.layers.add_layer.Goals.{then-entries-number+in_ok-push, else-entries-number}
+use Rattle.tab_make.proofs.LayerLemmas.{layer-yes, layer-no}
+use Rattle.tab_make.proofs.layers.add_layer.Goals as goal
+use Rattle.tab_make.proofs.layers.add_layer.Goals.{then-entries-number+in_ok-push, else-entries-number}
 
 pub loop-number-preserved : goal.loop-number-preserved
 loop-number-preserved c =
