@@ -2,12 +2,15 @@
 #![tactic(auto)]
 
 mod board_table;
+mod cells;
+mod children;
 mod counts;
 mod entries;
 mod faults;
 mod grids;
 mod keys;
 mod layers;
+mod leaves;
 mod lemmas;
 mod limits;
 mod log_bytes;
@@ -28,6 +31,7 @@ mod tables;
 mod trees;
 mod turns;
 mod walks;
+mod ways;
 mod writing;
 mod written;
 
