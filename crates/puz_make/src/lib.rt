@@ -2,7 +2,10 @@
 #![tactic(auto)]
 
 mod board_table;
+mod cells;
+mod children;
 mod keys;
+mod leaves;
 mod lemmas;
 mod limits;
 mod log_bytes;
@@ -17,6 +20,7 @@ mod slots;
 mod solvable;
 mod sums;
 mod trees;
+mod ways;
 mod writing;
 mod written;
 

@@ -1,114 +1,179 @@
 //! Where the tiles of a table's pattern are on the board of a search, and what the table tells of it.
 
-use crate::slots::{CELLS, Slots};
-use puz_board::Board;
-use set_sum::{Member, Part};
-use tab_file::{NO_REGION, NO_WAY_HOME};
-use tab_make::MOST_TILES;
-use tab_make::grids::{Grid, mask_of};
+ghost use Rattle.std.specs.Prelude.{◌<◌};
 
-/// A tile that goes from one cell to another, where the blank was.
+use crate::cells::{CELLS, mask_of, place_of};
+use crate::slots::Slots;
+use crate::ways::{Passage, seen};
+use pat_place::Pattern;
+use puz_board::masks::all_below;
+use puz_board::{Board, Side};
+use set_sum::{Member, Part};
+
+/// What is told of a board whose entry a table hasn't: nothing.
+const NOTHING: u8 = 0;
+
+/// Numbers of entries, of which a table has fewer than 2^32, and by how much one is greater than another.
+type Number = u32;
+
+/// Where the tiles of a pattern are.
 #[derive(Clone, Copy)]
-pub(crate) struct Slide {
-    pub(crate) tile: u8,
-    pub(crate) from: u8,
-    pub(crate) to: u8,
+pub(crate) struct Stand {
+    /// The number of the first entry of these cells.
+    first: Number,
+    /// The cells that no tile is in.
+    free: u32,
+    /// The entry of the board.
+    pub(crate) entry: u8,
 }
 
-impl Slide {
-    /// How the tile goes on the transposed board, where these are the transposed cells.
-    #[inline]
-    pub(crate) fn mirrored(&self, mirror: &[u8; CELLS]) -> Slide {
-        Slide {
-            tile: mirror[usize::from(self.tile) % CELLS],
-            from: mirror[usize::from(self.from) % CELLS],
-            to: mirror[usize::from(self.to) % CELLS],
+impl Stand {
+    /// One that stands for no tiles.
+    pub(crate) fn none() -> Stand {
+        Stand {
+            first: 0,
+            free: 0,
+            entry: NOTHING,
         }
     }
 }
 
 /// A member's table, and where its pattern's tiles are on the member's board.
-#[derive(Clone, Copy)]
+#[derive(Drop)]
 pub(crate) struct Place<'a> {
     pub(crate) member: Member,
-    grid: Grid,
+    /// Where the tiles are.
+    pub(crate) stand: Stand,
+    /// Whether a placement has more than one slot.
+    has_slots: bool,
     /// The entries of the table.
     entries: &'a [u8],
-    /// The index of each tile of the pattern among its tiles.
-    indexes: [u8; CELLS],
-    /// The cell of each tile, by its index.
-    cells: [u8; MOST_TILES],
-    /// The cells that no tile is in.
-    free: u32,
+    /// By how much the number of an entry grows where a tile goes to the next cell.
+    weights: [Number; CELLS],
+    /// By how much it grows where a tile passes another number.
+    passes: [[Number; CELLS]; CELLS],
 }
 
 impl<'a> Place<'a> {
-    /// Where the tiles of a table's pattern are on a board.
-    pub(crate) fn new(table: &'a Part<'_>, member: Member, board: &Board) -> Place<'a> {
+    /// Where the tiles of a table's pattern are on a board, as the member sees it.
+    pub(crate) fn new(
+        table: &'a Part<'_>,
+        member: Member,
+        board: &Board,
+        slots: &mut Slots,
+    ) -> Place<'a> {
         let pattern = table.pattern();
-        let (grid, entries) = match table {
-            Part::Full(full) => (Grid::new(&pattern), full.entries()),
-            Part::Folded(folded) => (Grid::folded(&pattern), folded.entries()),
+        let (entries, width) = match table {
+            Part::Full(full) => (full.entries(), pattern.width()),
+            Part::Folded(folded) => (folded.entries(), 1),
         };
         let mut place = Place {
             member,
-            grid,
+            stand: Stand::none(),
+            has_slots: width > 1,
             entries,
-            indexes: [0; CELLS],
-            cells: [0; MOST_TILES],
-            free: grid.all,
+            weights: [0; CELLS],
+            passes: [[0; CELLS]; CELLS],
         };
-        let found = board.cells_of_all();
-        for (index, tile) in pattern.tiles().as_slice().iter().enumerate() {
-            let cell = found.get(usize::from(*tile)).copied().unwrap_or(0);
-            place.indexes[usize::from(*tile) % CELLS] = index as u8;
-            place.cells[index % MOST_TILES] = cell;
-            place.free &= !mask_of(cell);
-        }
+        place.weigh(board.side(), &pattern, width);
+        place.stand = place.stand_on(board, &pattern, slots);
         place
     }
 
-    /// Moves a tile of the pattern.
-    #[inline]
-    pub(crate) fn slide(&mut self, slide: &Slide) {
-        let index = self.indexes[usize::from(slide.tile) % CELLS];
-        self.cells[usize::from(index) % MOST_TILES] = slide.to;
-        self.free = self.free & !mask_of(slide.to) | mask_of(slide.from);
-    }
-
-    /// The entry of the board whose blank is in this cell. The slot isn't looked for where there is one alone, as in a folded
-    /// table, nor where the second one has no region, so that all free cells are of the first.
-    #[inline]
-    pub(crate) fn entry(&self, slots: &mut Slots, blank: u8) -> u8 {
-        let first = self.first_number();
-        let slot = if self.grid.width == 1 || self.entry_at(first.wrapping_add(1)) == NO_REGION {
-            0
-        } else {
-            slots.slot_of(&self.grid, self.free, blank)
-        };
-        self.entry_at(first.wrapping_add(u32::from(slot)))
-    }
-
-    /// The number of the first entry of these cells.
-    #[inline]
-    fn first_number(&self) -> u32 {
-        let mut left = self.grid.all;
-        let mut number = 0u32;
-        for index in 0..usize::from(self.grid.size).min(MOST_TILES) {
-            let here = mask_of(self.cells[index]);
-            let before = (left & here.wrapping_sub(1)).count_ones();
-            number = number.wrapping_add(self.grid.weights[index].wrapping_mul(before));
-            left &= !here;
+    /// Notes by how much the number of an entry grows where a tile of the pattern goes on or passes another number. Each
+    /// placement has so many slots.
+    fn weigh(&mut self, side: Side, pattern: &Pattern, width: u8) {
+        let cells = u32::from(side.cells());
+        let mut weight = u32::from(width);
+        let tiles = pattern.tiles();
+        let tiles = tiles.as_slice();
+        for index in (0..tiles.len()).rev() {
+            let tile = self.tile(side, tiles[index]);
+            self.weights[tile] = weight;
+            for other in 1..CELLS {
+                self.passes[tile][other] = weight.wrapping_add(self.weights[other]);
+            }
+            for earlier in &tiles[..index] {
+                let earlier = self.tile(side, *earlier);
+                self.passes[tile][earlier] = 0;
+            }
+            weight = weight.wrapping_mul(cells.wrapping_sub(index as u32));
         }
-        number
     }
 
-    /// The entry with a number.
+    /// The place of the tile of the board that the member sees as this one.
+    fn tile(&self, side: Side, tile: u8) -> usize
+        ensures { result < 32 }
+    {
+        if tile < side.cells() {
+            place_of(seen(side, tile, self.member.is_transposed))
+        } else {
+            0
+        }
+    }
+
+    /// Where the tiles are on a board.
+    fn stand_on(&self, board: &Board, pattern: &Pattern, slots: &mut Slots) -> Stand {
+        let seen = if self.member.is_transposed {
+            board.transposed()
+        } else {
+            *board
+        };
+        let found = seen.cells_of_all();
+        let mut first = 0u32;
+        let mut free = all_below(board.side().cells());
+        for tile in pattern.tiles().as_slice() {
+            let cell = found.get(usize::from(*tile)).copied().unwrap_or(0);
+            let before = (free & mask_of(cell).saturating_sub(1)).count_ones();
+            let weight = self.weights[self.tile(board.side(), *tile)];
+            first = first.wrapping_add(weight.wrapping_mul(before));
+            free &= !mask_of(cell);
+        }
+        let entry = self.entry(slots, first, free, seen.blank());
+        Stand { first, free, entry }
+    }
+
+    /// Where the tiles are after one of them moves.
     #[inline]
-    fn entry_at(&self, number: u32) -> u8 {
-        self.entries
-            .get(number as usize)
-            .copied()
-            .unwrap_or(NO_WAY_HOME)
+    pub(crate) fn after(
+        &self,
+        slots: &mut Slots,
+        tile: u8,
+        passage: &Passage,
+        numbers: &[u8; CELLS],
+    ) -> Stand {
+        let first = self.first_after(tile, passage, numbers);
+        let free = self.stand.free ^ passage.ends;
+        let entry = self.entry(slots, first, free, passage.blank);
+        Stand { first, free, entry }
+    }
+
+    /// The number of the first entry of the cells after a tile moves.
+    #[inline]
+    fn first_after(&self, tile: u8, passage: &Passage, numbers: &[u8; CELLS]) -> Number {
+        let tile = place_of(tile);
+        let mut growth = self.weights[tile];
+        let passed = passage.passed;
+        for cell in passed {
+            let number = numbers[place_of(cell)];
+            growth = growth.wrapping_add(self.passes[tile][place_of(number)]);
+        }
+        if passage.is_up {
+            self.stand.first.wrapping_add(growth)
+        } else {
+            self.stand.first.wrapping_sub(growth)
+        }
+    }
+
+    /// The entry of the board whose tiles have this first entry and leave these cells free, and whose blank is in this cell.
+    #[inline]
+    fn entry(&self, slots: &mut Slots, first: Number, free: u32, blank: u8) -> u8 {
+        let slot = if self.has_slots {
+            slots.slot_of(free, blank)
+        } else {
+            0
+        };
+        let number = first as usize + slot;
+        self.entries.get(number).copied().unwrap_or(NOTHING)
     }
 }

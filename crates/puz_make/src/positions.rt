@@ -3,13 +3,16 @@
 ghost use Rattle.std.specs.Prelude.{◌≡◌, ◌<◌, ◌*◌, length, take};
 ghost use Rattle.puz_board.specs.Boards.{side_of};
 
+use crate::cells::{CELLS, place_of};
+use crate::children::{Child, Children};
+use crate::leaves::Leaf;
 use crate::moves::MOVES;
-use crate::places::Slide;
-use crate::slots::CELLS;
-use crate::sums::{Entries, Leaf, Sums};
+use crate::sums::{Entries, Sums};
+use crate::ways::{Way, ways_of};
 use puz_board::{Board, Side, step};
 use set_sum::Bundle;
 use std::alloc::{AllocError, Global};
+use std::mem;
 
 /// No cell.
 pub(crate) const NOWHERE: u8 = u8::MAX;
@@ -25,8 +28,8 @@ pub(crate) struct Position<'a> {
     blank: u8,
     /// The parity of the number of moves of each solution: 0 or 1.
     parity: u16,
-    /// Where the moves lead from each cell, in their order.
-    steps: [[u8; 4]; CELLS],
+    /// The moves from each cell, four for each.
+    ways: Vec<Option<Way>>,
     /// What the sets say.
     pub(crate) sums: Sums<'a>,
 }
@@ -45,7 +48,7 @@ impl<'a> Position<'a> {
             cells: board.side().cells(),
             blank: board.blank(),
             parity: u16::from(board.blank_parity()),
-            steps: steps_of(board.side()),
+            ways: ways_of(alloc, board.side())?,
             sums: Sums::new(alloc, bundle, board)?,
         })
     }
@@ -59,7 +62,20 @@ impl<'a> Position<'a> {
     /// Where the moves lead, in their order.
     #[inline]
     pub(crate) fn steps(&self) -> [u8; 4] {
-        self.steps[usize::from(self.blank) % CELLS]
+        let mut steps = [NOWHERE; 4];
+        for (to, way) in steps.iter_mut().zip(self.ways_from(self.blank)) {
+            if let Some(way) = way {
+                *to = way.to;
+            }
+        }
+        steps
+    }
+
+    /// The moves from a cell.
+    #[inline]
+    fn ways_from(&self, cell: u8) -> &[Option<Way>] {
+        let first = 4 * usize::from(cell);
+        self.ways.get(first..first + 4).unwrap_or(&[])
     }
 
     /// What the first set says that says the most.
@@ -68,33 +84,55 @@ impl<'a> Position<'a> {
         self.sums.best_leaf(self.parity)
     }
 
-    /// Moves the blank to a cell beside it. Answers the entries of the board before.
+    /// Looks up the boards that the moves lead to, but for that of the cell which the blank came from.
     #[inline]
-    pub(crate) fn slide(&mut self, to: u8) -> Entries {
-        let slide = self.move_blank(to);
-        self.sums.slide(&slide)
+    pub(crate) fn look_around(&mut self, came_from: u8, children: &mut Children) {
+        let first = 4 * usize::from(self.blank);
+        let ways = self.ways.get(first..first + 4).unwrap_or(&[]);
+        for (way, child) in ways.iter().zip(children.iter_mut()) {
+            child.is_there = false;
+            if let Some(way) = way {
+                if way.to != came_from {
+                    child.is_there = true;
+                    child.blank = way.to;
+                    child.tile = self.numbers[place_of(way.to)];
+                    self.sums.look(way, &self.numbers, self.parity ^ 1, child);
+                }
+            }
+        }
     }
 
-    /// Moves the blank back to the cell where it was, and the entries to what they were.
+    /// Goes to a board that was looked up, and leaves in its place the one where it was.
     #[inline]
-    pub(crate) fn slide_back(&mut self, to: u8, before: &Entries) {
-        let slide = self.move_blank(to);
-        self.sums.slide_back(&slide, before);
-    }
-
-    /// Exchanges the blank and the tile in a cell. Answers how the tile went.
-    #[inline]
-    fn move_blank(&mut self, to: u8) -> Slide {
-        let from = self.blank;
-        let tile = self.numbers[usize::from(to) % CELLS];
-        self.numbers[usize::from(from) % CELLS] = tile;
-        self.numbers[usize::from(to) % CELLS] = 0;
-        self.blank = to;
+    pub(crate) fn exchange(&mut self, child: &mut Child) {
+        mem::swap(&mut self.blank, &mut child.blank);
+        self.numbers[place_of(child.blank)] = child.tile;
+        self.numbers[place_of(self.blank)] = 0;
         self.parity ^= 1;
-        Slide {
-            tile,
-            from: to,
-            to: from,
+        self.sums.exchange(child);
+    }
+
+    /// Moves the blank to a cell beside it. Answers what there was.
+    pub(crate) fn slide(&mut self, to: u8) -> Entries {
+        let mut child = Child::none();
+        let mut children = [child; 4];
+        self.look_around(NOWHERE, &mut children);
+        for beside in &children {
+            if beside.is_there && beside.blank == to {
+                child = *beside;
+            }
+        }
+        if child.is_there {
+            self.exchange(&mut child);
+        }
+        child
+    }
+
+    /// Moves the blank back to the cell where it was.
+    pub(crate) fn slide_back(&mut self, _: u8, before: &Entries) {
+        let mut before = *before;
+        if before.is_there {
+            self.exchange(&mut before);
         }
     }
 

@@ -7,12 +7,13 @@ ghost use Rattle.puz_make.specs.Faults.{IsSearchFault};
 ghost use Rattle.puz_make.specs.Solvable.{HasTheBlanksParity};
 ghost use Rattle.tab_make.specs.declared.faults.MakeFault.TheVariants.{K2};
 
+use crate::children::{Child, Children};
+use crate::leaves::Leaf;
 use crate::limits::Limits;
 use crate::logs::log_of;
 use crate::moves::MOVES;
 use crate::positions::{NOWHERE, Position};
 use crate::solvable::is_solvable;
-use crate::sums::Leaf;
 use crate::trees::{BRANCH, Refutation};
 use crate::written::WrittenTree;
 use puz_board::Board;
@@ -26,6 +27,9 @@ const BETWEEN_THRESHOLDS: u16 = 2;
 
 /// The greatest bound that a lemma claims, and so the greatest threshold.
 const GREATEST_BOUND: u16 = 255;
+
+/// How many branches a search is in at most, each one move below the one before.
+const LEVELS: usize = GREATEST_BOUND as usize + BETWEEN_THRESHOLDS as usize;
 
 /// A shortest solution, and the log that proves it shortest.
 #[derive(Drop)]
@@ -76,14 +80,15 @@ pub fn solve_within(
     }
     let root = position.best_leaf();
     let mut bound = root.raised;
-    let mut search = Search::new(alloc, position, budget, limits.early_tree);
+    let mut levels = vec![in alloc; [Child::none(); 4]; LEVELS]?;
+    let mut search = Search::new(alloc, position, budget, limits);
     search.failed.put(root.byte(bound));
     for threshold in 0..=GREATEST_BOUND {
         if threshold < bound {
             continue;
         }
-        if search.is_solved(NOWHERE, threshold + BETWEEN_THRESHOLDS)? {
-            return search.found(alloc, board, threshold as u8, limits);
+        if search.is_solved(&mut levels, threshold + BETWEEN_THRESHOLDS)? {
+            return search.found(alloc, board, threshold as u8, &mut levels);
         }
         bound = threshold + BETWEEN_THRESHOLDS;
         search.begin_again();
@@ -97,6 +102,7 @@ struct Search<'a> {
     position: Position<'a>,
     /// How many more boards may be expanded.
     budget: u64,
+    limits: Limits,
     /// The tree of this threshold, as far as it is written.
     tree: WrittenTree,
     /// The tree of the last threshold that failed.
@@ -106,13 +112,14 @@ struct Search<'a> {
 }
 
 impl<'a> Search<'a> {
-    /// A search that may expand so many boards, and whose trees may have so many bytes.
-    fn new(alloc: Global, position: Position<'a>, budget: u64, most: usize) -> Search<'a> {
+    /// A search that may expand so many boards.
+    fn new(alloc: Global, position: Position<'a>, budget: u64, limits: &Limits) -> Search<'a> {
         Search {
             position,
             budget,
-            tree: WrittenTree::new(alloc, most),
-            failed: WrittenTree::new(alloc, most),
+            limits: *limits,
+            tree: WrittenTree::new(alloc, limits.early_tree),
+            failed: WrittenTree::new(alloc, limits.early_tree),
             moves: Vec::new(alloc),
         }
     }
@@ -129,13 +136,13 @@ impl<'a> Search<'a> {
         alloc: Global,
         board: &Board,
         bound: u8,
-        limits: &Limits,
+        levels: &mut [Children],
     ) -> Result<Found, MakeFault>
         ensures { IfErr result IsSearchFault }
     {
         self.moves.reverse();
         if !self.failed.is_whole {
-            self.search_again(bound, limits.tree)?;
+            self.search_again(bound, levels)?;
         }
         self.tree.drop_nodes();
         let refutation = Refutation {
@@ -145,19 +152,18 @@ impl<'a> Search<'a> {
         };
         Ok(Found {
             moves: self.moves,
-            log: log_of(alloc, self.position, refutation, limits)?,
+            log: log_of(alloc, self.position, refutation, &self.limits)?,
         })
     }
 
-    /// Searches a threshold that failed once more, for its tree, which may have so many bytes. The boards that are expanded don't
-    /// count.
-    fn search_again(&mut self, bound: u8, most: usize) -> Result<(), MakeFault>
+    /// Searches a threshold that failed once more, for its tree. The boards that are expanded don't count.
+    fn search_again(&mut self, bound: u8, levels: &mut [Children]) -> Result<(), MakeFault>
         ensures { IfErr result IsSearchFault }
     {
         self.budget = u64::MAX;
         self.tree.clear();
-        self.tree.most = most;
-        let _ = self.is_solved(NOWHERE, u16::from(bound))?;
+        self.tree.most = self.limits.tree;
+        let _ = self.is_solved(levels, u16::from(bound))?;
         self.begin_again();
         if self.failed.is_whole {
             Ok(())
@@ -166,8 +172,24 @@ impl<'a> Search<'a> {
         }
     }
 
+    /// Whether the first board has a solution of fewer moves than remain. Where it has none, the tree that refutes it is
+    /// written, and otherwise the letters of its moves.
+    fn is_solved(&mut self, levels: &mut [Children], remaining: u16) -> Result<bool, MakeFault>
+        ensures { IfErr result IsSearchFault }
+    {
+        let leaf = self.position.best_leaf();
+        if self.is_cut(&leaf, remaining) {
+            return Ok(false);
+        }
+        if leaf.raised == 0 && self.position.is_goal() {
+            return Ok(true);
+        }
+        self.expand(levels, NOWHERE, remaining)
+    }
+
     /// Writes a branch, and counts it.
-    fn expand(&mut self) -> Result<(), MakeFault>
+    #[inline]
+    fn count(&mut self) -> Result<(), MakeFault>
         ensures { IfErr result IsSearchFault }
     {
         if self.budget == 0 {
@@ -179,6 +201,7 @@ impl<'a> Search<'a> {
     }
 
     /// Whether a leaf cuts a board off, from which so many moves are to be refuted. It is then written.
+    #[inline]
     fn is_cut(&mut self, leaf: &Leaf, remaining: u16) -> bool
         ensures { OnFalse result (0 < remaining) }
     {
@@ -189,28 +212,31 @@ impl<'a> Search<'a> {
         true
     }
 
-    /// Whether the board, to which the blank came from a cell, has a solution of fewer moves than remain. Where it has none,
-    /// the tree that refutes it is written, and otherwise the letters of its moves.
-    fn is_solved(&mut self, came_from: u8, remaining: u16) -> Result<bool, MakeFault>
+    /// Tries the moves of the board, to which the blank came from a cell. Answers whether it has a solution of fewer moves than
+    /// remain. There is a level for each of these moves.
+    fn expand(
+        &mut self,
+        levels: &mut [Children],
+        came_from: u8,
+        remaining: u16,
+    ) -> Result<bool, MakeFault>
+        requires { 0 < remaining }
         ensures { IfErr result IsSearchFault }
     {
-        let leaf = self.position.best_leaf();
-        if self.is_cut(&leaf, remaining) {
-            return Ok(false);
-        }
-        if leaf.raised == 0 && self.position.is_goal() {
-            return Ok(true);
-        }
-        self.expand()?;
+        self.count()?;
+        let Some((children, below)) = levels.split_first_mut() else {
+            return Err(MakeFault::Memory);
+        };
+        self.position.look_around(came_from, children);
         let blank = self.position.blank();
-        let steps = self.position.steps();
-        for (mv, to) in MOVES.iter().zip(&steps) {
-            if *to == NOWHERE || *to == came_from {
+        for (mv, child) in MOVES.iter().zip(children.iter_mut()) {
+            if !child.is_there || self.is_cut(&child.leaf, remaining - 1) {
                 continue;
             }
-            let before = self.position.slide(*to);
-            let is_solved = self.is_solved(blank, remaining - 1)?;
-            self.position.slide_back(blank, &before);
+            self.position.exchange(child);
+            let is_goal = child.leaf.raised == 0 && self.position.is_goal();
+            let is_solved = is_goal || self.expand(below, blank, remaining - 1)?;
+            self.position.exchange(child);
             if is_solved {
                 self.add_move(mv.letter())?;
                 return Ok(true);
@@ -218,7 +244,9 @@ impl<'a> Search<'a> {
         }
         Ok(false)
     }
+
     /// Adds a move before those of the solution that there are.
+    #[cold]
     fn add_move(&mut self, letter: u8) -> Result<(), AllocError> {
         self.moves.push(letter)?;
         Ok(())

@@ -1,80 +1,138 @@
 //! The slots of free cells, which are kept for many sets of cells: a search comes back to the same ones again and again.
 
+ghost use Rattle.std.specs.Prelude.{◌<◌};
+
+pub(crate) use crate::cells::CELLS;
+use crate::cells::mask_of;
+use puz_board::Side;
+use puz_board::masks::{first_column, last_column};
 use std::alloc::{AllocError, Global};
-use tab_make::grids::{Grid, mask_of};
 
-/// How many sets of free cells are kept.
-const KEPT: usize = 4096;
+/// How many sets of free cells are kept, as a power of two.
+const KEPT_LOG: u32 = 15;
 
-/// More than there are cells, and so numbers, on any board.
-pub(crate) const CELLS: usize = 32;
+/// The most slots of a placement.
+const MOST_SLOTS: u8 = 8;
 
-/// A set of free cells, and for each of them the slot of its region.
+/// How many steps lead from one cell of a board to each cell of its region at most.
+const MOST_STEPS: u8 = 25;
+
+/// A set of free cells, and the slots of their regions: for each binary digit the cells whose slots have it.
 #[derive(Clone, Copy)]
 struct Around {
     free: u32,
-    slots: [u8; CELLS],
+    ones: u32,
+    twos: u32,
+    fours: u32,
+}
+
+impl Around {
+    /// Gives the cells of a region their slot.
+    fn mark(&mut self, region: u32, slot: u8) {
+        if slot & 1 != 0 {
+            self.ones |= region;
+        }
+        if slot & 2 != 0 {
+            self.twos |= region;
+        }
+        if slot & 4 != 0 {
+            self.fours |= region;
+        }
+    }
+
+    /// The slot of a cell.
+    #[inline]
+    fn slot(&self, cell: u8) -> usize
+        ensures { result < 8 }
+    {
+        let cell = mask_of(cell);
+        let ones = usize::from(self.ones & cell != 0);
+        let twos = usize::from(self.twos & cell != 0);
+        let fours = usize::from(self.fours & cell != 0);
+        4 * fours + 2 * twos + ones
+    }
 }
 
 /// Sets of free cells on the boards of a side. Each has one place, where it is kept until another one takes it.
 #[derive(Drop)]
 pub(crate) struct Slots {
+    side: Side,
     kept: Vec<Around>,
 }
 
 impl Slots {
     /// No sets as yet.
-    pub(crate) fn new(alloc: Global) -> Result<Slots, AllocError> {
+    pub(crate) fn new(alloc: Global, side: Side) -> Result<Slots, AllocError> {
         let none = Around {
             free: 0,
-            slots: [0; CELLS],
+            ones: 0,
+            twos: 0,
+            fours: 0,
         };
-        let mut kept = Vec::new(alloc);
-        kept.resize(KEPT, none)?;
-        Ok(Slots { kept })
+        Ok(Slots {
+            side,
+            kept: vec![in alloc; none; 1 << KEPT_LOG]?,
+        })
     }
 
     /// The slot of a free cell among these ones, on the grid of any pattern of the side.
     #[inline]
-    pub(crate) fn slot_of(&mut self, grid: &Grid, free: u32, cell: u8) -> u8 {
-        let Some(around) = self.kept.get_mut(place_of(free)) else {
-            return 0;
-        };
-        if around.free != free {
-            *around = around_all(grid, free);
+    pub(crate) fn slot_of(&mut self, free: u32, cell: u8) -> usize
+        ensures { result < 8 }
+    {
+        let side = self.side;
+        match self.kept.get_mut(kept_place(free)) {
+            Some(around) => {
+                if around.free != free {
+                    *around = around_all(side, free);
+                }
+                around.slot(cell)
+            }
+            None => around_all(side, free).slot(cell),
         }
-        around.slots[usize::from(cell) % CELLS]
     }
 }
 
 /// The place of a set of free cells, by Fibonacci hashing (Knuth 1973).
 #[inline]
-fn place_of(free: u32) -> usize {
-    (free.wrapping_mul(0x9E37_79B1) >> 20) as usize
+fn kept_place(free: u32) -> usize {
+    (free.wrapping_mul(0x9E37_79B1) >> (32 - KEPT_LOG)) as usize
 }
 
 /// The slots of some free cells.
-fn around_all(grid: &Grid, free: u32) -> Around {
+#[cold]
+fn around_all(side: Side, free: u32) -> Around {
     let mut around = Around {
         free,
-        slots: [0; CELLS],
+        ones: 0,
+        twos: 0,
+        fours: 0,
     };
     let mut rest = free;
-    for slot in 0..CELLS as u8 {
+    for slot in 0..MOST_SLOTS {
         if rest == 0 {
             break;
         }
-        let region = grid.take_region(&mut rest);
-        mark(&mut around.slots, region, slot);
+        let region = first_region(side, rest);
+        around.mark(region, slot);
+        rest &= !region;
     }
     around
 }
 
-/// Marks the cells of a region with its slot.
-fn mark(slots: &mut [u8; CELLS], region: u32, slot: u8) {
-    for cell in 0..CELLS {
-        if region & mask_of(cell as u8) != 0 {
-            slots[cell] = slot;
+/// The region of the least of some whole regions' cells.
+fn first_region(side: Side, free: u32) -> u32 {
+    let n = side.get();
+    let right = free & !first_column(side);
+    let left = free & !last_column(side);
+    let mut region = free & !(free & free.saturating_sub(1));
+    for _ in 0..MOST_STEPS {
+        let vertical = (region << n | region >> n) & free;
+        let more = region | vertical | region << 1 & right | region >> 1 & left;
+        if more == region {
+            break;
         }
+        region = more;
     }
+    region
 }

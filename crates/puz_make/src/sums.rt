@@ -3,55 +3,29 @@
 
 ghost use Rattle.std.specs.Prelude.{◌<◌, length};
 
-use crate::places::{Place, Slide};
-use crate::slots::{CELLS, Slots};
-use puz_board::{Board, Side, transposed_cell};
-use set_sum::{Bundle, MOST_MEMBERS, Member};
+use crate::cells::{CELLS, place_of};
+pub(crate) use crate::children::Child as Entries;
+use crate::children::{Child, NO_PLACE};
+use crate::leaves::{Leaf, Sum};
+use crate::places::Place;
+use crate::slots::Slots;
+use crate::ways::{Way, seen};
+use pat_place::Pattern;
+use puz_board::{Board, Side};
+use set_sum::{Bundle, Member};
 use std::alloc::{AllocError, Global};
+use std::mem;
 use tab_file::NO_WAY_HOME;
-use tab_make::grids::{mask_of, take_least};
 
-/// For each place its entry of a board.
-pub(crate) type Entries = [u8; MOST_MEMBERS];
-
-/// The byte of a leaf by set 0.
-const LEAF: u8 = 0x01;
-
-/// The byte of a leaf by set 0 and by parity.
-const PARITY_LEAF: u8 = 0x41;
-
-/// The sum of a set that says that there is no way home: more than ever remains.
-const NEVER: u16 = 1 << 15;
-
-/// What a set says of a board.
-#[derive(Clone, Copy)]
-pub(crate) struct Leaf {
-    set: u8,
-    /// A number of moves that no solution is below.
-    sum: u16,
-    /// The least number from the sum on that has the parity of all solutions.
-    pub(crate) raised: u16,
-}
-
-impl Leaf {
-    /// The byte of the leaf in a tree, where it cuts off a board from which so many moves are to be refuted.
-    pub(crate) fn byte(&self, remaining: u16) -> u8 {
-        let first = if self.sum < remaining {
-            PARITY_LEAF
-        } else {
-            LEAF
-        };
-        self.set.wrapping_add(first)
-    }
-}
-
-/// The places that a move of a tile changes, as the bits of masks.
-#[derive(Clone, Copy)]
-struct Owners {
-    /// Those of plain members, whose tables have the tile.
-    plain: u32,
-    /// Those of transposed members, whose tables have the transposed tile.
-    transposed: u32,
+/// A set of members.
+#[derive(Drop)]
+struct Set {
+    /// The sum of the entries of its members.
+    sum: Sum,
+    /// For each tile the place of the member that has it, or no place.
+    owners: [u8; CELLS],
+    /// The same, without places that an earlier set has too.
+    kept: [u8; CELLS],
 }
 
 /// The entries of a board for all members that sets name. Each member has one place, however many sets name it.
@@ -59,14 +33,8 @@ struct Owners {
 pub(crate) struct Sums<'a> {
     /// Where the tiles of each member's table are, on the board or on the transposed one.
     places: Vec<Place<'a>>,
-    /// For each set the numbers of its members' places.
-    sets: Vec<Vec<u8>>,
-    /// For each tile the places that its moves change.
-    owners: [Owners; CELLS],
-    /// The transposed cell of each cell, and so the transposed tile of each tile.
-    mirror: [u8; CELLS],
+    sets: Vec<Set>,
     slots: Slots,
-    entries: Entries,
 }
 
 impl<'a> Sums<'a> {
@@ -76,171 +44,148 @@ impl<'a> Sums<'a> {
         bundle: &'a Bundle<'_>,
         board: &Board,
     ) -> Result<Sums<'a>, AllocError> {
-        let none = Owners {
-            plain: 0,
-            transposed: 0,
-        };
         let mut sums = Sums {
             places: Vec::new(alloc),
             sets: Vec::new(alloc),
-            owners: [none; CELLS],
-            mirror: mirror_of(board.side()),
-            slots: Slots::new(alloc)?,
-            entries: [0; MOST_MEMBERS],
+            slots: Slots::new(alloc, board.side())?,
         };
         for set in 0..bundle.sets() {
-            let numbers = sums.add_set(alloc, bundle, set, board)?;
-            sums.sets.push(numbers)?;
+            sums.add_set(bundle, set, board)?;
         }
         Ok(sums)
     }
 
-    /// Adds those members of a set that have no place yet. Answers the numbers of the places of all.
+    /// Adds a set, and places for those of its members that have none yet.
     fn add_set(
         &mut self,
-        alloc: Global,
         bundle: &'a Bundle<'_>,
-        set: u8,
+        number: u8,
         board: &Board,
-    ) -> Result<Vec<u8>, AllocError>
-        requires { set < length bundle.now.sets }
+    ) -> Result<(), AllocError>
+        requires { number < length bundle.now.sets }
     {
-        let mut numbers = Vec::new(alloc);
-        for member in bundle.members(set) {
-            let number = self.places.iter().position(|place| place.member == *member);
-            let number = match number {
-                Some(number) => number,
-                None => self.add_member(bundle, *member, board)?,
-            };
-            numbers.push((number % MOST_MEMBERS) as u8)?;
+        let mut set = Set {
+            sum: Sum::none(),
+            owners: [NO_PLACE; CELLS],
+            kept: [NO_PLACE; CELLS],
+        };
+        for member in bundle.members(number) {
+            let place = self.places.iter().position(|place| place.member == *member);
+            let is_new = place.is_none();
+            let place = place.unwrap_or(self.places.len());
+            if is_new {
+                self.add_place(bundle, *member, board)?;
+            }
+            if let Some(place) = self.places.get(place) {
+                set.sum = set.sum.with(place.stand.entry, 0);
+            }
+            let tiles = tiles_of(board.side(), &bundle.part(member.table).pattern(), *member);
+            set.add_owner(&tiles, u8::try_from(place).unwrap_or(NO_PLACE), is_new);
         }
-        Ok(numbers)
+        self.sets.push(set)?;
+        Ok(())
     }
 
-    /// Adds a place for a member. Answers its number.
-    fn add_member(
+    /// Adds a place for a member.
+    fn add_place(
         &mut self,
         bundle: &'a Bundle<'_>,
         member: Member,
         board: &Board,
-    ) -> Result<usize, AllocError>
+    ) -> Result<(), AllocError>
         requires { member.table < length bundle.now.tables }
     {
-        let number = self.places.len() % MOST_MEMBERS;
-        let seen = if member.is_transposed {
-            board.transposed()
-        } else {
-            *board
-        };
         let table = bundle.part(member.table);
-        let place = Place::new(table, member, &seen);
-        self.entries[number] = place.entry(&mut self.slots, seen.blank());
+        let place = Place::new(table, member, board, &mut self.slots);
         self.places.push(place)?;
-        let bit = mask_of(number as u8);
-        for tile in table.pattern().tiles().as_slice() {
-            self.add_owners(*tile, member.is_transposed, bit);
+        Ok(())
+    }
+
+    /// Looks up the board to which a tile moves.
+    #[inline]
+    pub(crate) fn look(
+        &mut self,
+        way: &Way,
+        numbers: &[u8; CELLS],
+        parity: u16,
+        child: &mut Child,
+    ) {
+        let mut best = Leaf::none();
+        let tile = child.tile;
+        for ((number, set), looked) in (0..u8::MAX).zip(&self.sets).zip(&mut child.looked) {
+            looked.sum = set.sum;
+            looked.place = set.kept[place_of(tile)];
+            if let Some(place) = self.places.get(usize::from(set.owners[place_of(tile)])) {
+                let passage = if place.member.is_transposed {
+                    &way.transposed
+                } else {
+                    &way.plain
+                };
+                looked.stand = place.after(&mut self.slots, tile, passage, numbers);
+                looked.sum = set.sum.with(looked.stand.entry, place.stand.entry);
+            }
+            let leaf = Leaf::new(number, looked.sum, parity);
+            if leaf.raised > best.raised {
+                best = leaf;
+            }
         }
-        Ok(number)
+        child.leaf = best;
     }
 
-    /// Notes that the tables of these places, of plain or of transposed members, have a tile.
-    fn add_owners(&mut self, tile: u8, is_transposed: bool, places: u32) {
-        let tile = usize::from(tile) % CELLS;
-        if is_transposed {
-            let tile = usize::from(self.mirror[tile]) % CELLS;
-            self.owners[tile].transposed |= places;
-        } else {
-            self.owners[tile].plain |= places;
-        }
-    }
-
-    /// Moves a tile, and looks the board up for the members that have it. Answers the entries of the board before.
+    /// Goes to a board that was looked up, and leaves in its place what there was.
     #[inline]
-    pub(crate) fn slide(&mut self, slide: &Slide) -> Entries {
-        let before = self.entries;
-        self.shift(slide, true);
-        before
-    }
-
-    /// Moves a tile back to where it was, and the entries to what they were.
-    #[inline]
-    pub(crate) fn slide_back(&mut self, slide: &Slide, before: &Entries) {
-        self.shift(slide, false);
-        self.entries = *before;
-    }
-
-    /// Moves a tile in all places that have it, and may look the board up there.
-    #[inline]
-    fn shift(&mut self, slide: &Slide, looks_up: bool) {
-        let owners = self.owners[usize::from(slide.tile) % CELLS];
-        self.shift_in(owners.plain, slide, looks_up);
-        if owners.transposed != 0 {
-            let slide = slide.mirrored(&self.mirror);
-            self.shift_in(owners.transposed, &slide, looks_up);
-        }
-    }
-
-    /// Moves a tile in these places, and may look the board up there.
-    #[inline]
-    fn shift_in(&mut self, mut owners: u32, slide: &Slide, looks_up: bool) {
-        for _ in 0..owners.count_ones() {
-            let number = usize::from(take_least(&mut owners));
-            if let Some(place) = self.places.get_mut(number) {
-                place.slide(slide);
-                if looks_up {
-                    self.entries[number % MOST_MEMBERS] = place.entry(&mut self.slots, slide.from);
-                }
+    pub(crate) fn exchange(&mut self, child: &mut Child) {
+        for (set, looked) in self.sets.iter_mut().zip(&mut child.looked) {
+            mem::swap(&mut set.sum, &mut looked.sum);
+            if let Some(place) = self.places.get_mut(usize::from(looked.place)) {
+                mem::swap(&mut place.stand, &mut looked.stand);
             }
         }
     }
 
     /// Whether a set says that the board has no solution.
     pub(crate) fn is_hopeless(&self) -> bool {
-        self.entries
+        self.places
             .iter()
-            .take(self.places.len())
-            .any(|entry| *entry == NO_WAY_HOME)
+            .any(|place| place.stand.entry == NO_WAY_HOME)
     }
 
     /// What the first set says that says the most of a board whose solutions have this parity.
     #[inline]
     pub(crate) fn best_leaf(&self, parity: u16) -> Leaf {
-        let mut best = Leaf {
-            set: 0,
-            sum: 0,
-            raised: 0,
-        };
-        for (set, numbers) in (0..u8::MAX).zip(&self.sets) {
-            let sum = self.sum(numbers);
-            let raised = sum.wrapping_add((sum ^ parity) & 1);
-            if raised > best.raised {
-                best = Leaf { set, sum, raised };
+        let mut best = Leaf::none();
+        for (number, set) in (0..u8::MAX).zip(&self.sets) {
+            let leaf = Leaf::new(number, set.sum, parity);
+            if leaf.raised > best.raised {
+                best = leaf;
             }
         }
         best
     }
+}
 
-    /// The sum of the entries of these places, and `NEVER` where one of them says that there is no way home. A folded table
-    /// may say so of a board that moves lead to, although it didn't of the first.
-    #[inline]
-    fn sum(&self, numbers: &[u8]) -> u16 {
-        let mut sum = 0u16;
-        for number in numbers {
-            let entry = self.entries[usize::from(*number) % MOST_MEMBERS];
-            if entry == NO_WAY_HOME {
-                return NEVER;
+impl Set {
+    /// Notes that a place has some tiles, and whether no earlier set has it.
+    fn add_owner(&mut self, tiles: &[bool; CELLS], place: u8, is_new: bool) {
+        for tile in 0..CELLS {
+            if tiles[tile] {
+                self.owners[tile] = place;
+                self.kept[tile] = if is_new { place } else { NO_PLACE };
             }
-            sum = sum.wrapping_add(u16::from(entry));
         }
-        sum
     }
 }
 
-/// The transposed cell of each cell.
-fn mirror_of(side: Side) -> [u8; CELLS] {
-    let mut mirror = [0; CELLS];
-    for cell in 0..side.cells() {
-        mirror[usize::from(cell) % CELLS] = transposed_cell(side, cell);
+/// Which tiles of the board a member sees as those of its table's pattern.
+fn tiles_of(side: Side, pattern: &Pattern, member: Member) -> [bool; CELLS] {
+    let mut tiles = [false; CELLS];
+    for tile in pattern.tiles().as_slice() {
+        if *tile < side.cells() {
+            let tile = seen(side, *tile, member.is_transposed);
+            if let Some(is_there) = tiles.get_mut(usize::from(tile)) {
+                *is_there = true;
+            }
+        }
     }
-    mirror
+    tiles
 }

@@ -1,0 +1,82 @@
+//! What sets say of a board: sums of entries, and the leaves of trees.
+
+use tab_file::NO_WAY_HOME;
+
+/// The sum of a set that says that there is no way home: more than ever remains.
+const NEVER: u16 = 1 << 15;
+
+/// The byte of a leaf by set 0.
+const LEAF: u8 = 0x01;
+
+/// The byte of a leaf by set 0 and by parity.
+const PARITY_LEAF: u8 = 0x41;
+
+/// The sum of the entries of a set's members.
+#[derive(Clone, Copy)]
+pub(crate) struct Sum {
+    moves: u16,
+}
+
+impl Sum {
+    /// That of no entries.
+    pub(crate) fn none() -> Sum {
+        Sum { moves: 0 }
+    }
+
+    /// The sum with an entry in place of one that it has. Where the new one says that there is no way home, the sum says so
+    /// too. A folded table may say so of a board that moves lead to, although it didn't of the first.
+    #[inline]
+    pub(crate) fn with(self, entry: u8, before: u8) -> Sum {
+        if entry == NO_WAY_HOME {
+            return Sum { moves: NEVER };
+        }
+        let sum = (u32::from(self.moves) + u32::from(entry)).saturating_sub(u32::from(before));
+        Sum {
+            moves: sum.min(u32::from(NEVER)) as u16,
+        }
+    }
+}
+
+/// What a set says of a board.
+#[derive(Clone, Copy)]
+pub(crate) struct Leaf {
+    set: u8,
+    /// A number of moves that no solution is below.
+    sum: u16,
+    /// The least number from the sum on that has the parity of all solutions.
+    pub(crate) raised: u16,
+}
+
+impl Leaf {
+    /// One that says nothing.
+    #[inline]
+    pub(crate) fn none() -> Leaf {
+        Leaf {
+            set: 0,
+            sum: 0,
+            raised: 0,
+        }
+    }
+
+    /// What a set says by its sum of a board whose solutions have this parity: 0 or 1.
+    #[inline]
+    pub(crate) fn new(set: u8, sum: Sum, parity: u16) -> Leaf {
+        let is_odd = sum.moves % 2 != parity % 2;
+        Leaf {
+            set,
+            sum: sum.moves,
+            raised: sum.moves.saturating_add(u16::from(is_odd)),
+        }
+    }
+
+    /// The byte of the leaf in a tree, where it cuts off a board from which so many moves are to be refuted.
+    #[inline]
+    pub(crate) fn byte(&self, remaining: u16) -> u8 {
+        let first = if self.sum < remaining {
+            PARITY_LEAF
+        } else {
+            LEAF
+        };
+        first.saturating_add(self.set)
+    }
+}
