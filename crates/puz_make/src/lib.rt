@@ -2,7 +2,9 @@
 #![tactic(auto)]
 
 mod board_table;
+mod cells;
 mod counts;
+mod cuts;
 mod entries;
 mod faults;
 mod grids;
