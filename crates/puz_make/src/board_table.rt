@@ -1,149 +1,107 @@
-//! A table of the boards that a tree may come to again, with open addressing and linear probing (Knuth 1973).
+//! A table of boards, each with a number, with open addressing and linear probing (Knuth 1973).
 
+ghost use Rattle.std.specs.Prelude.{◌≡◌, ◌<◌, IfSome, vec_len};
+
+use crate::keys::Key;
 use std::alloc::{AllocError, Global};
 
-/// The number of no lemma.
-const NO_LEMMA: u32 = u32::MAX;
+/// One of so many places is free at the least.
+const PLACES_OF_FREE: usize = 8;
 
-/// How many bytes of a tree there are for each place of the table, so that the table is smaller than the tree.
-const TREE_BYTES_OF_PLACE: usize = 32;
-
-/// What is known of a board.
+/// A place of the table.
 #[derive(Clone, Copy)]
-pub(crate) struct Entry {
-    /// The board's key. No board has the key 0.
-    key: u64,
-    /// How often a subtree of the board can be left out for one that comes before it.
-    pub(crate) repeats: u32,
-    /// How many bytes its subtree has without what is left out.
-    pub(crate) size: u32,
-    /// The number of its last lemma.
-    lemma: u32,
-    /// The bound of that lemma.
+struct Entry {
+    key: Key,
+    number: u32,
+    /// How many moves are refuted from the board: none where the place is free.
     bound: u8,
-    /// The greatest number of moves that a subtree of it has refuted.
-    met: u8,
 }
 
 impl Entry {
-    /// What is known of a board at first.
-    fn new(key: u64) -> Entry {
-        Entry {
-            key,
-            repeats: 0,
-            size: 0,
-            lemma: NO_LEMMA,
-            bound: 0,
-            met: 0,
-        }
-    }
+    /// A free place.
+    const FREE: Entry = Entry {
+        key: Key::NONE,
+        number: 0,
+        bound: 0,
+    };
 
-    /// The number of a lemma that shows that the board has no solution of fewer moves than this.
-    pub(crate) fn lemma_of(&self, bound: u8) -> Option<u32> {
-        if self.lemma == NO_LEMMA || self.bound < bound {
-            return None;
-        }
-        Some(self.lemma)
+    /// Whether the place is free.
+    #[inline]
+    fn is_free(&self) -> bool {
+        self.bound == 0
     }
 }
 
-/// The table.
+/// The table. Each board in it has a number, and a number of moves that are refuted from it.
 #[derive(Drop)]
 pub(crate) struct BoardTable {
-    places: Vec<Entry>,
+    entries: Vec<Entry>,
     /// How many more boards it takes.
     room: usize,
 }
 
 impl BoardTable {
-    /// A table for the boards of a tree of so many bytes.
-    pub(crate) fn new(alloc: Global, tree_len: usize) -> Result<BoardTable, AllocError> {
-        let count = tree_len / TREE_BYTES_OF_PLACE + 1;
+    /// A table for so many boards.
+    pub(crate) fn new(alloc: Global, boards: usize) -> Result<BoardTable, AllocError> {
+        let free = boards / (PLACES_OF_FREE - 1) + 1;
         Ok(BoardTable {
-            places: vec![in alloc; Entry::new(0); count]?,
-            room: count - count / 8,
+            entries: vec![in alloc; Entry::FREE; boards.saturating_add(free)]?,
+            room: boards,
         })
     }
 
-    /// Adds the board of a key. Answers whether it is there.
-    pub(crate) fn add(&mut self, key: u64) -> bool {
-        let place = self.place_of(key);
-        let Some(entry) = self.places.get_mut(place) else {
-            return false;
+    /// The number of the board of a key, if the table has it with so many moves or more.
+    pub(crate) fn number_of(&self, key: Key, bound: u8) -> Option<u32> {
+        let place = self.place_of(key)?;
+        let entry = self.entries[place];
+        if entry.is_free() || entry.bound < bound {
+            None
+        } else {
+            Some(entry.number)
+        }
+    }
+
+    /// Notes the number of the board of a key, and how many moves are refuted from it. A full table takes no new board.
+    pub(crate) fn put(&mut self, key: Key, number: u32, bound: u8) {
+        let Some(place) = self.place_of(key) else {
+            return;
         };
-        if entry.key == key {
-            return key != 0;
+        if self.entries[place].is_free() {
+            if self.room == 0 {
+                return;
+            }
+            self.room -= 1;
         }
-        if self.room == 0 {
-            return false;
-        }
-        self.room -= 1;
-        *entry = Entry::new(key);
-        true
+        self.entries[place] = Entry { key, number, bound };
     }
 
-    /// What is known of the board of a key.
-    pub(crate) fn entry(&self, key: u64) -> Option<Entry> {
-        let entry = self.places.get(self.place_of(key))?;
-        if entry.key == key { Some(*entry) } else { None }
-    }
-
-    /// Notes that a subtree refutes so many moves from the board. Answers whether one before it did; then this one can be
-    /// left out.
-    pub(crate) fn meet(&mut self, key: u64, remaining: u8) -> bool {
-        let place = self.place_of(key);
-        let Some(entry) = self.places.get_mut(place) else {
-            return false;
-        };
-        if entry.key != key {
-            return false;
-        }
-        if entry.met >= remaining {
-            entry.repeats = entry.repeats.saturating_add(1);
-            return true;
-        }
-        entry.met = remaining;
-        false
-    }
-
-    /// Notes how many bytes the board's subtree has.
-    pub(crate) fn set_size(&mut self, key: u64, size: u32) {
-        let place = self.place_of(key);
-        if let Some(entry) = self.places.get_mut(place) {
-            if entry.key == key {
-                entry.size = size;
+    /// The place of the key, or else a free one.
+    fn place_of(&self, key: Key) -> Option<usize>
+        ensures { IfSome result (λ place. place < vec_len self.now.entries) }
+    {
+        let count = self.entries.len();
+        for steps in 0..count {
+            let place = place_after(key.home(count), steps, count);
+            let entry = &self.entries[place];
+            if entry.is_free() || entry.key == key {
+                return Some(place);
             }
         }
-    }
-
-    /// Notes the board's last lemma.
-    pub(crate) fn set_lemma(&mut self, key: u64, lemma: u32, bound: u8) {
-        let place = self.place_of(key);
-        if let Some(entry) = self.places.get_mut(place) {
-            if entry.key == key {
-                entry.lemma = lemma;
-                entry.bound = bound;
-            }
-        }
-    }
-
-    /// The place of the key, or else a free one; none of the table's where it is full of others.
-    fn place_of(&self, key: u64) -> usize {
-        let count = self.places.len();
-        let mut place = home_of(key, count);
-        for _ in 0..count {
-            match self.places.get(place) {
-                Some(entry) if entry.key != key && entry.key != 0 => place = place.wrapping_add(1),
-                Some(_) => return place,
-                None => place = 0,
-            }
-        }
-        count
+        None
     }
 }
 
-/// The first of so many places that is looked at for a key.
-fn home_of(key: u64, count: usize) -> usize {
-    let high = (key >> 32) as usize;
-    high.wrapping_mul(count) >> 32
+/// The place so many steps after another, round all so many places.
+#[inline]
+fn place_after(place: usize, steps: usize, count: usize) -> usize
+    requires place { place < count }
+    requires steps { steps < count }
+    ensures { result < count }
+{
+    let left = count - place;
+    if steps < left {
+        place + steps
+    } else {
+        steps - left
+    }
 }

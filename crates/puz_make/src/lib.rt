@@ -4,6 +4,7 @@
 mod board_table;
 mod cells;
 mod children;
+mod cuts;
 mod keys;
 mod leaves;
 mod lemmas;

@@ -17,20 +17,23 @@ const COUNT_AT: usize = 6;
 pub(crate) struct LogBytes {
     /// How many cells a board has.
     cells: usize,
+    /// How many bytes the log may have. It has the memory for them from the start.
+    most: usize,
     bytes: Vec<u8>,
     /// The place of each lemma.
     starts: Vec<usize>,
 }
 
 impl LogBytes {
-    /// A log without lemmas.
-    pub(crate) fn new(alloc: Global, side: Side) -> Result<LogBytes, AllocError> {
-        let mut bytes = Vec::new(alloc);
+    /// A log without lemmas, of at most so many bytes.
+    pub(crate) fn new(alloc: Global, side: Side, most: usize) -> Result<LogBytes, AllocError> {
+        let mut bytes = Vec::with_capacity(alloc, most)?;
         bytes.extend_from_slice(SIGNATURE)?;
         bytes.extend_from_slice(&[NEWEST_VERSION, side.get()])?;
         bytes.extend_from_slice(&0u32.to_be_bytes())?;
         Ok(LogBytes {
             cells: usize::from(side.cells()),
+            most,
             bytes,
             starts: Vec::new(alloc),
         })
@@ -39,11 +42,6 @@ impl LogBytes {
     /// How many lemmas there are.
     pub(crate) fn count(&self) -> usize {
         self.starts.len()
-    }
-
-    /// How many bytes there are.
-    pub(crate) fn len(&self) -> usize {
-        self.bytes.len()
     }
 
     /// How many bytes a lemma has before its tree.
@@ -57,7 +55,7 @@ impl LogBytes {
             return false;
         };
         let end = start.saturating_add(self.cells);
-        self.bytes.get(*start..end) == tiles.numbers.get(..self.cells)
+        self.bytes.get(*start..end) == Some(tiles.numbers())
     }
 
     /// Begins a lemma, up to its tree, which has so many bytes. Answers its number.
@@ -72,8 +70,7 @@ impl LogBytes {
         let number = number_of(self.starts.len())?;
         let length = number_of(length)?;
         self.note_start()?;
-        let board = tiles.numbers.get(..self.cells).unwrap_or(&[]);
-        self.add(board)?;
+        self.add(tiles.numbers())?;
         self.add(&[bound])?;
         self.add(&length.to_be_bytes())?;
         Ok(number)
@@ -85,9 +82,15 @@ impl LogBytes {
         Ok(())
     }
 
-    /// Adds bytes to the lemma.
-    pub(crate) fn add(&mut self, bytes: &[u8]) -> Result<(), AllocError> {
-        self.bytes.extend_from_slice(bytes)
+    /// Adds bytes to the lemma, if the log may have so many.
+    pub(crate) fn add(&mut self, bytes: &[u8]) -> Result<(), MakeFault>
+        ensures { IfErr result IsSearchFault }
+    {
+        if self.bytes.len().saturating_add(bytes.len()) > self.most {
+            return Err(MakeFault::Memory);
+        }
+        self.bytes.extend_from_slice(bytes)?;
+        Ok(())
     }
 
     /// The log.

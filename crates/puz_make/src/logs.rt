@@ -10,12 +10,15 @@ use crate::limits::Limits;
 use crate::log_bytes::LogBytes;
 use crate::positions::Position;
 use crate::refuting::Refuter;
-use crate::repeats::{count_repeats, mark_branches};
-use crate::trees::{BRANCH, MARKED, Refutation};
+use crate::repeats::find_repeats;
+use crate::trees::{BRANCH, Refutation, unmark};
 use crate::writing::Writer;
 use log_file::{BOUND_AND_LENGTH, HEADER_LEN};
 use std::alloc::Global;
 use tab_make::MakeFault;
+
+/// A tree has mostly more than so many bytes for each lemma of its log. Of more lemmas the last ones aren't cited.
+const BYTES_OF_LEMMA: usize = 128;
 
 /// The log of a refutation, whose board is that of the position. Where a log of many lemmas would be longer than that of one,
 /// or there isn't the memory to write it, it has one lemma.
@@ -29,9 +32,7 @@ pub(crate) fn log_of(
 {
     if refutation.tree.len() >= limits.one_lemma_below && refutation.tree.first() == Some(&BRANCH) {
         if let Ok(log) = log_of_many(alloc, position, &mut refutation, limits.lemmas) {
-            if log.len() <= length_of_one(&refutation) {
-                return Ok(log);
-            }
+            return Ok(log);
         }
         unmark(&mut refutation.tree);
     }
@@ -45,23 +46,16 @@ fn log_of_many(
     refutation: &mut Refutation,
     most: u32,
 ) -> Result<Vec<u8>, MakeFault> {
-    let mut table = BoardTable::new(alloc, refutation.tree.len())?;
-    mark_branches(alloc, refutation, &mut table)?;
-    let size = count_repeats(alloc, refutation, &mut table)?;
-    let log = LogBytes::new(alloc, refutation.board.side())?;
-    let lemmas = Lemmas::new(log, most, table);
+    let repeats = find_repeats(alloc, refutation)?;
+    let boards = (refutation.tree.len() / BYTES_OF_LEMMA).min(most as usize);
+    let lemmas = Lemmas::new(
+        LogBytes::new(alloc, refutation.board.side(), length_of_one(refutation))?,
+        most,
+        BoardTable::new(alloc, boards)?,
+    );
     let refuter = Refuter::new(alloc, position, &refutation.board);
-    let writer = Writer::new(alloc, refutation, refuter, lemmas, size)?;
+    let writer = Writer::new(alloc, refutation, refuter, lemmas, repeats)?;
     writer.write(&refutation.tree)
-}
-
-/// Takes the marks of branches back.
-fn unmark(tree: &mut Vec<u8>) {
-    for node in tree.iter_mut() {
-        if *node == MARKED {
-            *node = BRANCH;
-        }
-    }
 }
 
 /// How many bytes the log of one lemma has.
@@ -78,7 +72,8 @@ fn log_of_one(alloc: Global, refutation: &Refutation) -> Result<Vec<u8>, MakeFau
     ensures { IfErr result IsSearchFault }
 {
     let tiles = Tiles::new(&refutation.board);
-    let mut log = LogBytes::new(alloc, refutation.board.side())?;
+    let length = length_of_one(refutation);
+    let mut log = LogBytes::new(alloc, refutation.board.side(), length)?;
     log.begin(&tiles, refutation.bound, refutation.tree.len())?;
     log.add(&refutation.tree)?;
     log.finish()

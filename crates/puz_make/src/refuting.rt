@@ -1,8 +1,9 @@
 //! Small trees that are searched for, with citations of lemmas that there are.
 
+use crate::cells::Cell;
 use crate::keys::Tiles;
 use crate::lemmas::Lemmas;
-use crate::positions::{NOWHERE, Position};
+use crate::positions::Position;
 use crate::sums::Entries;
 use crate::trees::{BRANCH, Branch, CITATION};
 use puz_board::Board;
@@ -12,9 +13,9 @@ use std::alloc::{AllocError, Global};
 #[derive(Clone, Copy)]
 struct Passed {
     /// The cell that it left.
-    from: u8,
+    from: Cell,
     /// The cell that it came to.
-    to: u8,
+    to: Cell,
     /// What the sets said before.
     before: Entries,
 }
@@ -56,10 +57,13 @@ impl<'a> Refuter<'a> {
         let Some(branch) = branches.last() else {
             return Ok(false);
         };
+        let Some(came_from) = branch.came_from else {
+            return Ok(false);
+        };
         self.follow(branches)?;
         let start = self.trees.len();
         self.most = start.saturating_add(most);
-        let before = self.slide(branch.came_from);
+        let before = self.slide(came_from);
         let is_refuted = self.refute(lemmas, branch.blank, u16::from(remaining))?;
         self.slide_back(branch.blank, &before);
         if !is_refuted {
@@ -103,7 +107,7 @@ impl<'a> Refuter<'a> {
     fn refute(
         &mut self,
         lemmas: &Lemmas,
-        came_from: u8,
+        came_from: Cell,
         remaining: u16,
     ) -> Result<bool, AllocError> {
         let leaf = self.position.best_leaf();
@@ -119,11 +123,14 @@ impl<'a> Refuter<'a> {
         }
         let blank = self.tiles.blank;
         let steps = self.position.steps();
-        for to in &steps {
-            if *to == NOWHERE || *to == came_from {
+        for step in &steps {
+            let Some(to) = Cell::of(*step) else {
+                continue;
+            };
+            if to == came_from {
                 continue;
             }
-            let before = self.slide(*to);
+            let before = self.slide(to);
             let is_refuted = self.refute(lemmas, blank, remaining - 1)?;
             self.slide_back(blank, &before);
             if !is_refuted {
@@ -143,14 +150,14 @@ impl<'a> Refuter<'a> {
     }
 
     /// Moves the blank. Answers what the sets said before.
-    fn slide(&mut self, to: u8) -> Entries {
+    fn slide(&mut self, to: Cell) -> Entries {
         self.tiles.slide(to);
-        self.position.slide(to)
+        self.position.slide(to.number())
     }
 
     /// Takes a move of the blank from this cell back.
-    fn slide_back(&mut self, from: u8, before: &Entries) {
+    fn slide_back(&mut self, from: Cell, before: &Entries) {
         self.tiles.slide(from);
-        self.position.slide_back(from, before);
+        self.position.slide_back(from.number(), before);
     }
 }

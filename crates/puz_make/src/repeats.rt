@@ -1,120 +1,221 @@
-//! Which boards a tree comes to again, and how long their subtrees are.
+//! Which boards a tree comes to again, and how many bytes it saves to cite them.
+//!
+//! A branch is the first of its board where no branch of the board that ended before refutes as many moves from it. Another one
+//! comes again: a citation can stand for it, if the first is a lemma.
 
 use crate::board_table::BoardTable;
-use crate::trees::{CITATION_LEN, MARKED, Refutation, Step, Walk, most_steps};
+use crate::trees::{CITATION_LEN, Refutation, Step, Walk, most_steps};
 use std::alloc::{AllocError, Global};
 
-/// The least bytes of a subtree whose board is looked for elsewhere in the tree.
-const LEAST_SUBTREE: usize = 64;
+/// The least bytes of a branch whose board is looked for elsewhere in the tree.
+const LEAST_LONG: usize = 64;
 
-/// A tree has at most this many times as many bytes as a subtree whose board is looked for, as a power of two.
-const MOST_SUBTREES_LOG: u32 = 22;
+/// A tree has at most this many times as many bytes as a branch whose board is looked for, as a power of two.
+const MOST_LONG_LOG: u32 = 22;
 
-/// Marks the branches of a tree with long subtrees, and adds their boards to the table.
-pub(crate) fn mark_branches(
+/// The tree has so many bytes at least for each board that is kept, so that their table is smaller than the tree.
+const BYTES_OF_BOARD: usize = 40;
+
+/// A branch that is the first of its board, with numbers of bytes.
+#[derive(Clone, Copy)]
+pub(crate) struct First {
+    /// Those that it has in the tree.
+    whole: u32,
+    /// Those that it has with a citation for each branch inside it that comes again.
+    pub(crate) size: u32,
+    /// Those that the tree has less where each branch of its board that comes again is a citation.
+    pub(crate) again: u32,
+}
+
+impl First {
+    /// How many bytes those citations save, about, where it has so many in a log: without them, the branches that come again
+    /// would have as great a part of theirs.
+    pub(crate) fn saved(&self, size: usize) -> usize {
+        let again = self.again as usize;
+        let part = again.saturating_mul(size).checked_div(self.whole as usize);
+        part.unwrap_or(0)
+    }
+}
+
+/// What comes again in a tree.
+#[derive(Drop)]
+pub(crate) struct Repeats {
+    /// The first branches of boards, in the order in which a walk comes to them. They are marked.
+    pub(crate) firsts: Vec<First>,
+    /// How many bytes the tree has, with a citation for each branch that comes again.
+    pub(crate) size: usize,
+}
+
+/// Marks the long branches of a tree, and then those that are the first of their boards. Answers what comes again.
+pub(crate) fn find_repeats(
     alloc: Global,
     refutation: &mut Refutation,
-    table: &mut BoardTable,
-) -> Result<(), AllocError> {
+) -> Result<Repeats, AllocError> {
+    let long = mark_long(alloc, refutation)?;
+    let boards = long.min(refutation.tree.len() / BYTES_OF_BOARD);
+    let counter = Counter::new(alloc, refutation.bound, boards)?;
+    count_repeats(alloc, refutation, counter)
+}
+
+/// Marks the long branches of a tree, but the root. Answers how many there are.
+fn mark_long(alloc: Global, refutation: &mut Refutation) -> Result<usize, AllocError> {
     let mut walk = Walk::new(alloc, &refutation.board)?;
     let tree = refutation.tree.as_mut_slice();
-    let least = LEAST_SUBTREE.max(tree.len() >> MOST_SUBTREES_LOG);
+    let least = LEAST_LONG.max(tree.len() >> MOST_LONG_LOG);
+    let mut count = 0usize;
     for _ in 0..most_steps(tree) {
         match walk.next(tree)? {
             Step::Done => {
-                mark_branch(&walk, tree, least, table);
+                if walk.is_inside() && walk.passed() >= least {
+                    walk.mark_long(tree);
+                    count = count.saturating_add(1);
+                }
                 walk.leave();
             }
             Step::End => break,
             _ => {}
         }
     }
-    Ok(())
+    Ok(count)
 }
 
-/// Marks the branch whose end a walk has come to, if its subtree has at least so many bytes.
-fn mark_branch(walk: &Walk, tree: &mut [u8], least: usize, table: &mut BoardTable) {
-    let Some(branch) = walk.inner_branch() else {
-        return;
-    };
-    if walk.at.saturating_sub(branch.at) < least || !table.add(walk.tiles.key) {
-        return;
-    }
-    if let Some(node) = tree.get_mut(branch.at) {
-        *node = MARKED;
-    }
-}
-
-/// Counts for each marked board how often a subtree of it can be left out, and how long its subtree is then. Answers how long
-/// the tree is without what can be left out.
-pub(crate) fn count_repeats(
+/// Marks the first branches of boards among the long ones, and counts what comes again.
+fn count_repeats(
     alloc: Global,
-    refutation: &Refutation,
-    table: &mut BoardTable,
-) -> Result<u32, AllocError> {
+    refutation: &mut Refutation,
+    mut counter: Counter,
+) -> Result<Repeats, AllocError> {
     let mut walk = Walk::new(alloc, &refutation.board)?;
-    let tree = &refutation.tree;
-    let mut sizes = Sizes::new(alloc)?;
+    let tree = refutation.tree.as_mut_slice();
     for _ in 0..most_steps(tree) {
         match walk.next(tree)? {
-            Step::Leaf(_) => sizes.add(1),
-            Step::Branch => sizes.open()?,
-            Step::Marked => {
-                if table.meet(walk.tiles.key, walk.remaining(refutation.bound)) {
-                    walk.skip(tree)?;
-                    sizes.add(CITATION_LEN as u32);
-                } else {
-                    sizes.open()?;
-                }
-            }
+            Step::Leaf(_) => counter.add(1),
+            Step::Branch | Step::First(_) => counter.open(None)?,
+            Step::Long => counter.enter_long(&mut walk, tree)?,
             Step::Done => {
-                let size = sizes.close();
-                table.set_size(walk.tiles.key, size);
+                counter.close(&walk);
                 walk.leave();
             }
             Step::End => break,
             Step::Edge | Step::Reverse => {}
         }
     }
-    Ok(sizes.whole)
+    Ok(Repeats {
+        firsts: counter.firsts,
+        size: counter.size,
+    })
 }
 
-/// How many bytes the branches that a walk is in have so far.
+/// A branch that is counted.
+#[derive(Clone, Copy)]
+struct Counted {
+    /// The number of the first branch of a board that it is, if it is one.
+    first: Option<u32>,
+    /// How many bytes it has so far, with a citation for each branch inside it that comes again.
+    size: usize,
+}
+
+/// A count of what comes again.
 #[derive(Drop)]
-struct Sizes {
-    open: Vec<u32>,
-    /// How many bytes the last branch has that was left.
-    whole: u32,
+struct Counter {
+    /// The number of moves that the tree refutes.
+    bound: u8,
+    /// The boards of first branches that have ended, with the numbers of these.
+    boards: BoardTable,
+    firsts: Vec<First>,
+    /// The branches that the walk is in.
+    open: Vec<Counted>,
+    /// How many bytes the branch has that ended last.
+    size: usize,
 }
 
-impl Sizes {
-    /// Those of a walk that is in the root.
-    fn new(alloc: Global) -> Result<Sizes, AllocError> {
-        let mut sizes = Sizes {
+impl Counter {
+    /// The count of a walk that is in the root, with memory for so many boards.
+    fn new(alloc: Global, bound: u8, boards: usize) -> Result<Counter, AllocError> {
+        let mut counter = Counter {
+            bound,
+            boards: BoardTable::new(alloc, boards)?,
+            firsts: Vec::with_capacity(alloc, boards)?,
             open: Vec::new(alloc),
-            whole: 0,
+            size: 0,
         };
-        sizes.open()?;
-        Ok(sizes)
+        counter.open(None)?;
+        Ok(counter)
     }
 
     /// Enters a branch.
-    fn open(&mut self) -> Result<(), AllocError> {
-        self.open.push(1)?;
+    fn open(&mut self, first: Option<u32>) -> Result<(), AllocError> {
+        self.open.push(Counted { first, size: 1 })?;
         Ok(())
     }
 
-    /// Adds bytes to the innermost branch.
-    fn add(&mut self, bytes: u32) {
-        if let Some(size) = self.open.last_mut() {
-            *size = size.saturating_add(bytes);
+    /// Enters the long branch that the walk is in, or passes it by where it comes again.
+    fn enter_long(&mut self, walk: &mut Walk, tree: &mut [u8]) -> Result<(), AllocError> {
+        let remaining = walk.remaining(self.bound);
+        match self.boards.number_of(walk.tiles.key, remaining) {
+            Some(number) => {
+                let len = walk.skip(tree)?;
+                self.note_again(number, len);
+                self.add(CITATION_LEN);
+            }
+            None => {
+                walk.mark_first(tree);
+                self.open_first()?;
+            }
+        }
+        Ok(())
+    }
+
+    /// Notes that a branch of a board comes again, of so many bytes.
+    fn note_again(&mut self, number: u32, len: usize) {
+        if let Some(first) = self.firsts.get_mut(number as usize) {
+            let saved = short(len.saturating_sub(CITATION_LEN));
+            first.again = first.again.saturating_add(saved);
         }
     }
 
-    /// Leaves a branch. Answers how many bytes it has.
-    fn close(&mut self) -> u32 {
-        self.whole = self.open.pop().unwrap_or(0);
-        self.add(self.whole);
-        self.whole
+    /// Enters the first branch of a board.
+    fn open_first(&mut self) -> Result<(), AllocError> {
+        let number = short(self.firsts.len());
+        self.firsts.push(First {
+            whole: 0,
+            size: 0,
+            again: 0,
+        })?;
+        self.open(Some(number))
     }
+
+    /// Leaves the branch that the walk is at the end of.
+    fn close(&mut self, walk: &Walk) {
+        let Some(counted) = self.open.pop() else {
+            return;
+        };
+        self.size = counted.size;
+        if let Some(number) = counted.first {
+            self.end_first(number, walk);
+        }
+        self.add(counted.size);
+    }
+
+    /// Ends the first branch of a board, whose size is known.
+    fn end_first(&mut self, number: u32, walk: &Walk) {
+        if let Some(first) = self.firsts.get_mut(number as usize) {
+            first.whole = short(walk.passed());
+            first.size = short(self.size);
+        }
+        let remaining = walk.remaining(self.bound);
+        self.boards.put(walk.tiles.key, number, remaining);
+    }
+
+    /// Adds bytes to the innermost branch.
+    fn add(&mut self, bytes: usize) {
+        if let Some(counted) = self.open.last_mut() {
+            counted.size = counted.size.saturating_add(bytes);
+        }
+    }
+}
+
+/// A number of bytes, which no tree has more of than fit.
+fn short(count: usize) -> u32 {
+    u32::try_from(count).unwrap_or(u32::MAX)
 }

@@ -1,7 +1,8 @@
 //! Walks over the tree that a search wrote, from its first byte to its last.
 
+use crate::cells::Cell;
 use crate::keys::Tiles;
-use crate::positions::{NOWHERE, steps_of};
+use crate::positions::steps_of;
 use crate::slots::CELLS;
 use puz_board::Board;
 use std::alloc::{AllocError, Global};
@@ -9,8 +10,12 @@ use std::alloc::{AllocError, Global};
 /// The byte of a branch.
 pub(crate) const BRANCH: u8 = 0;
 
-/// The byte of a branch whose board is in the table of boards. No log has it.
-pub(crate) const MARKED: u8 = 0xFF;
+/// The byte of a branch with a long subtree. No log has it.
+const LONG: u8 = 0xFF;
+
+/// The byte of a branch with a long subtree whose board comes here for the first time, or from here on refutes more than
+/// before. No log has it.
+const FIRST: u8 = 0xFE;
 
 /// The byte of a citation.
 pub(crate) const CITATION: u8 = 0x20;
@@ -18,8 +23,8 @@ pub(crate) const CITATION: u8 = 0x20;
 /// How many bytes a citation has: its own, and four for the number of a lemma.
 pub(crate) const CITATION_LEN: usize = 5;
 
-/// How many moves a branch has at most, also those that leave the board.
-const MOVES: u8 = 4;
+/// How many moves a branch has, with those that leave the board.
+const MOVES: usize = 4;
 
 /// A tree that refutes so many moves from a board: no solution has fewer.
 #[derive(Drop)]
@@ -36,11 +41,11 @@ pub(crate) struct Branch {
     /// The place of its byte in the tree.
     pub(crate) at: usize,
     /// The cell of the blank.
-    pub(crate) blank: u8,
-    /// The cell that the blank came from.
-    pub(crate) came_from: u8,
+    pub(crate) blank: Cell,
+    /// The cell that the blank came from, if the branch isn't the root.
+    pub(crate) came_from: Option<Cell>,
     /// How many of its moves the walk has looked at.
-    tried: u8,
+    tried: usize,
 }
 
 /// What a walk comes to.
@@ -54,8 +59,10 @@ pub(crate) enum Step {
     Leaf(u8),
     /// A branch, which the walk is in from now on.
     Branch,
-    /// A branch as above, which is marked.
-    Marked,
+    /// A branch as above, which is marked as long.
+    Long,
+    /// A branch as above, which is marked as the first of its board, with its number among these.
+    First(usize),
     /// The end of the branch that the walk is in. It stays there until it leaves.
     Done,
     /// The end of the tree.
@@ -73,23 +80,27 @@ pub(crate) struct Walk {
     pub(crate) branches: Vec<Branch>,
     /// The place of the next node.
     pub(crate) at: usize,
+    /// How many branches it has passed that are the first of their boards.
+    firsts: usize,
 }
 
 impl Walk {
     /// A walk that is in the root, which has this board.
     pub(crate) fn new(alloc: Global, board: &Board) -> Result<Walk, AllocError> {
+        let tiles = Tiles::new(board);
         let mut branches = Vec::new(alloc);
         branches.push(Branch {
             at: 0,
-            blank: board.blank(),
-            came_from: NOWHERE,
+            blank: tiles.blank,
+            came_from: None,
             tried: 0,
         })?;
         Ok(Walk {
             steps: steps_of(board.side()),
-            tiles: Tiles::new(board),
+            tiles,
             branches,
             at: 1,
+            firsts: 0,
         })
     }
 
@@ -102,12 +113,12 @@ impl Walk {
         if branch.tried >= MOVES {
             return Ok(Step::Done);
         }
-        let to = self.steps[usize::from(branch.blank) % CELLS][usize::from(branch.tried) % 4];
+        let to = self.steps[branch.blank.place()][branch.tried];
         branch.tried += 1;
-        if to == NOWHERE {
+        let Some(to) = Cell::of(to) else {
             return Ok(Step::Edge);
-        }
-        if to == branch.came_from {
+        };
+        if branch.came_from == Some(to) {
             return Ok(Step::Reverse);
         }
         self.enter(tree, to)
@@ -115,53 +126,58 @@ impl Walk {
 
     /// Goes to the node to which the blank comes by a move to this cell.
     #[inline]
-    fn enter(&mut self, tree: &[u8], to: u8) -> Result<Step, AllocError> {
-        let Some(node) = tree.get(self.at) else {
-            return Ok(Step::End);
-        };
+    fn enter(&mut self, tree: &[u8], to: Cell) -> Result<Step, AllocError> {
         let at = self.at;
-        self.at = at.wrapping_add(1);
-        if *node != BRANCH && *node != MARKED {
-            return Ok(Step::Leaf(*node));
+        if at >= tree.len() {
+            return Ok(Step::End);
         }
+        let node = tree[at];
+        self.at = at + 1;
+        let step = match node {
+            BRANCH => Step::Branch,
+            LONG => Step::Long,
+            FIRST => {
+                let number = self.firsts;
+                self.firsts = number.saturating_add(1);
+                Step::First(number)
+            }
+            leaf => return Ok(Step::Leaf(leaf)),
+        };
         self.branches.push(Branch {
             at,
             blank: to,
-            came_from: self.tiles.blank,
+            came_from: Some(self.tiles.blank),
             tried: 0,
         })?;
         self.tiles.slide(to);
-        if *node == MARKED {
-            Ok(Step::Marked)
-        } else {
-            Ok(Step::Branch)
-        }
+        Ok(step)
     }
 
     /// Leaves the branch that it is in.
     #[inline]
     pub(crate) fn leave(&mut self) {
         if let Some(branch) = self.branches.pop() {
-            if branch.came_from != NOWHERE {
-                self.tiles.slide(branch.came_from);
+            if let Some(came_from) = branch.came_from {
+                self.tiles.slide(came_from);
             }
         }
     }
 
-    /// Goes on to the end of the branch that it is in, and leaves it.
-    pub(crate) fn skip(&mut self, tree: &[u8]) -> Result<(), AllocError> {
+    /// Goes on to the end of the branch that it is in, and leaves it. Answers how many bytes the branch has.
+    pub(crate) fn skip(&mut self, tree: &[u8]) -> Result<usize, AllocError> {
+        let start = self.start();
         let depth = self.branches.len();
         for _ in 0..most_steps(tree) {
             match self.next(tree)? {
                 Step::Done => self.leave(),
-                Step::End => return Ok(()),
+                Step::End => break,
                 _ => {}
             }
             if self.branches.len() < depth {
-                return Ok(());
+                break;
             }
         }
-        Ok(())
+        Ok(self.at.saturating_sub(start))
     }
 
     /// How many moves are to be refuted from the branch that it is in, where they are so many from the root.
@@ -171,13 +187,48 @@ impl Walk {
         bound.saturating_sub(u8::try_from(moved).unwrap_or(u8::MAX))
     }
 
-    /// The branch that it is in, if it is in one that isn't the root.
+    /// How many bytes it has passed of the branch that it is in.
     #[inline]
-    pub(crate) fn inner_branch(&self) -> Option<Branch> {
-        if self.branches.len() < 2 {
-            return None;
+    pub(crate) fn passed(&self) -> usize {
+        self.at.saturating_sub(self.start())
+    }
+
+    /// The place of the byte of the branch that it is in.
+    #[inline]
+    fn start(&self) -> usize {
+        self.branches.last().map_or(0, |branch| branch.at)
+    }
+
+    /// Whether it is in a branch that isn't the root.
+    #[inline]
+    pub(crate) fn is_inside(&self) -> bool {
+        self.branches.len() > 1
+    }
+
+    /// Marks the branch that it is in as long.
+    pub(crate) fn mark_long(&self, tree: &mut [u8]) {
+        self.mark(tree, LONG);
+    }
+
+    /// Marks the branch that it is in as the first of its board. The walk doesn't number it.
+    pub(crate) fn mark_first(&self, tree: &mut [u8]) {
+        self.mark(tree, FIRST);
+    }
+
+    /// Marks the branch that it is in by this byte.
+    fn mark(&self, tree: &mut [u8], mark: u8) {
+        if let Some(node) = tree.get_mut(self.start()) {
+            *node = mark;
         }
-        self.branches.last().copied()
+    }
+}
+
+/// Takes the marks of branches back.
+pub(crate) fn unmark(tree: &mut [u8]) {
+    for node in tree.iter_mut() {
+        if *node == LONG || *node == FIRST {
+            *node = BRANCH;
+        }
     }
 }
 

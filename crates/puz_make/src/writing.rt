@@ -1,39 +1,26 @@
 //! Logs of many lemmas, made of one tree.
 //!
-//! A board that the tree comes to again is a lemma where that makes the log shorter, and is cited from then on. Other subtrees
-//! are lemmas so that workers can share the log. The root of a lemma has one node more than the subtree had: that of the
-//! reverse of the arriving move, which is searched for.
+//! The first branch of a board is a lemma where that makes the log shorter, and is cited from then on. Others are lemmas so that
+//! workers can share the log: most of what citations save is spent on them. The root of a lemma has one node more than the
+//! branch had: that of the reverse of the arriving move, which is searched for.
 
-use crate::board_table::Entry;
+use crate::cuts::Cuts;
 use crate::lemmas::Lemmas;
 use crate::log_bytes::LogBytes;
 use crate::refuting::Refuter;
-use crate::trees::{BRANCH, CITATION, CITATION_LEN, Refutation, Step, Walk, most_steps};
+use crate::repeats::{First, Repeats};
+use crate::trees::{BRANCH, CITATION, Refutation, Step, Walk, most_steps};
 use std::alloc::{AllocError, Global};
 use std::ops::Range;
 use tab_make::MakeFault;
-
-/// How many lemmas a tree is cut into where nothing comes again.
-const CUTS: u32 = 250;
-
-/// The least of the most bytes of a subtree that is cut off.
-const LEAST_CUT: u32 = 2000;
-
-/// A small subtree that is cut off has at most one of so many parts of the most bytes.
-const SMALL_CUTS: u32 = 8;
-
-/// The node that a cut adds has at most one of so many parts of the subtree's bytes, and more where the subtree is small.
-const PARTS: u32 = 10;
-
-const PARTS_OF_SMALL: u32 = 2;
 
 /// What becomes of a branch.
 #[derive(Clone, Copy)]
 enum Plan {
     /// It stays where it is.
     Inline,
-    /// It is a lemma if that makes the log shorter.
-    Shared(Entry),
+    /// It is a lemma, if that makes the log shorter.
+    Shared(First),
     /// It is a lemma, for whose reverse move there is a tree.
     Cut,
 }
@@ -48,7 +35,7 @@ struct Open {
     /// Where the trees of reverse moves begin that are kept for it and those inside it.
     trees: usize,
     plan: Plan,
-    /// Whether subtrees inside it may be cut off.
+    /// Whether branches inside it may be cut off.
     is_open: bool,
 }
 
@@ -58,12 +45,10 @@ pub(crate) struct Writer<'a> {
     walk: Walk,
     refuter: Refuter<'a>,
     lemmas: Lemmas,
+    firsts: Vec<First>,
+    cuts: Cuts,
     /// The number of moves that the tree refutes.
     bound: u8,
-    /// The most bytes of a subtree that is cut off.
-    most_cut: u32,
-    /// How many more bytes than the tree so far the log may have so far: half of what repeats are to save.
-    credit: usize,
     /// The bytes of the branches that the walk is in.
     bytes: Vec<u8>,
     /// These branches.
@@ -71,21 +56,21 @@ pub(crate) struct Writer<'a> {
 }
 
 impl<'a> Writer<'a> {
-    /// A writer of a tree that has so many bytes without what can be left out.
+    /// A writer of a tree in which this comes again.
     pub(crate) fn new(
         alloc: Global,
         refutation: &Refutation,
         refuter: Refuter<'a>,
         lemmas: Lemmas,
-        size: u32,
+        repeats: Repeats,
     ) -> Result<Writer<'a>, MakeFault> {
         let mut writer = Writer {
             walk: Walk::new(alloc, &refutation.board)?,
             refuter,
             lemmas,
+            cuts: Cuts::new(repeats.size),
+            firsts: repeats.firsts,
             bound: refutation.bound,
-            most_cut: LEAST_CUT.max(size / CUTS),
-            credit: refutation.tree.len().saturating_sub(size as usize) / 2,
             bytes: Vec::new(alloc),
             open: Vec::new(alloc),
         };
@@ -100,11 +85,9 @@ impl<'a> Writer<'a> {
                 Step::Edge => {}
                 Step::Reverse => self.note_reverse(),
                 Step::Leaf(leaf) => self.put(leaf)?,
-                Step::Branch => {
-                    let is_open = self.is_open();
-                    self.open(Plan::Inline, is_open)?;
-                }
-                Step::Marked => self.enter_marked(tree)?,
+                Step::Branch => self.open_inline()?,
+                Step::Long => self.enter_long(tree)?,
+                Step::First(number) => self.enter_first(number)?,
                 Step::Done => {
                     self.close()?;
                     self.walk.leave();
@@ -149,7 +132,13 @@ impl<'a> Writer<'a> {
         Ok(())
     }
 
-    /// Whether subtrees may be cut off here.
+    /// Begins a branch that stays where it is.
+    fn open_inline(&mut self) -> Result<(), AllocError> {
+        let is_open = self.is_open();
+        self.open(Plan::Inline, is_open)
+    }
+
+    /// Whether branches may be cut off here.
     fn is_open(&self) -> bool {
         self.open.last().is_some_and(|open| open.is_open)
     }
@@ -166,23 +155,15 @@ impl<'a> Writer<'a> {
         self.walk.remaining(self.bound)
     }
 
-    /// Cites a lemma in place of a marked branch, or begins the branch.
-    fn enter_marked(&mut self, tree: &[u8]) -> Result<(), MakeFault> {
-        if let Some(number) = self.lemmas.citable(&self.walk.tiles, self.remaining()) {
-            self.cite(number)?;
-            self.walk.skip(tree)?;
-            return Ok(());
-        }
-        let trees = self.refuter.trees.len();
-        let plan = self.plan()?;
-        let is_open = match plan {
-            Plan::Inline => self.is_open(),
-            Plan::Shared(entry) => entry.size > self.most_cut,
-            Plan::Cut => false,
-        };
-        self.open(plan, is_open)?;
-        if let Some(open) = self.open.last_mut() {
-            open.trees = trees;
+    /// Cites a lemma in place of a long branch, or begins the branch.
+    fn enter_long(&mut self, tree: &[u8]) -> Result<(), MakeFault> {
+        let remaining = self.remaining();
+        match self.lemmas.citable(&self.walk.tiles, remaining) {
+            Some(number) => {
+                self.cite(number)?;
+                self.walk.skip(tree)?;
+            }
+            None => self.open_inline()?,
         }
         Ok(())
     }
@@ -194,50 +175,48 @@ impl<'a> Writer<'a> {
         Ok(())
     }
 
-    /// What is to become of the marked branch that the walk is in.
-    fn plan(&mut self) -> Result<Plan, MakeFault> {
+    /// Begins the first branch of a board, which has this number.
+    fn enter_first(&mut self, number: usize) -> Result<(), MakeFault> {
         if self.lemmas.is_full() {
-            return Ok(Plan::Inline);
+            return Ok(self.open_inline()?);
         }
-        let Some(entry) = self.lemmas.table.entry(self.walk.tiles.key) else {
-            return Ok(Plan::Inline);
+        let Some(first) = self.firsts.get(number).copied() else {
+            return Ok(self.open_inline()?);
         };
-        if self.saved(&entry, entry.size as usize) > 0 {
-            return Ok(Plan::Shared(entry));
+        let cost = self.lemmas.cost();
+        if first.saved(first.size as usize) > cost {
+            let is_open = self.cuts.is_too_long(&first);
+            self.open(Plan::Shared(first), is_open)?;
+            return Ok(());
         }
-        if !self.is_open() || entry.size > self.most_cut {
-            return Ok(Plan::Inline);
+        if self.is_open() && self.is_cut(&first, cost)? {
+            return Ok(());
         }
-        let parts = if entry.size < self.most_cut / SMALL_CUTS {
-            PARTS_OF_SMALL
-        } else {
-            PARTS
-        };
-        let most = (entry.size / parts) as usize;
-        if self.can_afford(most) && self.refute_reverse(most)? {
-            Ok(Plan::Cut)
-        } else {
-            Ok(Plan::Inline)
-        }
+        Ok(self.open_inline()?)
     }
 
-    /// Whether the log stays short enough with a lemma more, whose root has a node more of so many bytes.
-    fn can_afford(&self, node: usize) -> bool {
-        let written = self.lemmas.log.len().saturating_add(self.bytes.len());
-        let front = self.lemmas.log.front_len().saturating_add(CITATION_LEN);
-        let more = front.saturating_add(node);
-        written.saturating_add(more) <= self.walk.at.saturating_add(self.credit)
+    /// Cuts the first branch of a board off, where that doesn't add too much to the log. Answers whether it does. The branch
+    /// then begins.
+    fn is_cut(&mut self, first: &First, cost: usize) -> Result<bool, MakeFault> {
+        let Some(most) = self.cuts.most_node(first, cost) else {
+            return Ok(false);
+        };
+        let trees = self.refuter.trees.len();
+        if !self.refute_reverse(most)? {
+            return Ok(false);
+        }
+        let node = self.added_since(trees);
+        self.cuts.cut(first, node, cost);
+        self.open(Plan::Cut, false)?;
+        if let Some(open) = self.open.last_mut() {
+            open.trees = trees;
+        }
+        Ok(true)
     }
 
-    /// By how many bytes the log is shorter where a subtree of so many bytes is a lemma that is cited in place of each repeat,
-    /// not counting what its root has more than the subtree.
-    fn saved(&self, entry: &Entry, size: usize) -> usize {
-        let repeats = entry.repeats as usize;
-        let citations = repeats.saturating_add(1).saturating_mul(CITATION_LEN);
-        repeats
-            .saturating_mul(size)
-            .saturating_sub(citations)
-            .saturating_sub(self.lemmas.log.front_len())
+    /// How many bytes the trees of reverse moves have from this place on.
+    fn added_since(&self, trees: usize) -> usize {
+        self.refuter.trees.len().saturating_sub(trees)
     }
 
     /// Looks for a tree of at most so many bytes for the reverse of the move that led to the branch that the walk is in.
@@ -255,24 +234,30 @@ impl<'a> Writer<'a> {
         let Some(open) = self.open.pop() else {
             return Ok(());
         };
-        if self.is_lemma(&open)? && !self.lemmas.is_full() {
+        let is_lemma = !self.lemmas.is_full()
+            && match open.plan {
+                Plan::Inline => false,
+                Plan::Cut => true,
+                Plan::Shared(first) => self.is_shared(&open, &first)?,
+            };
+        if is_lemma {
             self.make_lemma(&open)?;
         }
         self.refuter.trees.truncate(open.trees);
         Ok(())
     }
 
-    /// Whether the branch is to be a lemma; there is then a tree for the reverse move.
-    fn is_lemma(&mut self, open: &Open) -> Result<bool, MakeFault> {
-        match open.plan {
-            Plan::Inline => Ok(false),
-            Plan::Cut => Ok(true),
-            Plan::Shared(entry) => {
-                let size = self.bytes.len().saturating_sub(open.start);
-                let saved = self.saved(&entry, size);
-                Ok(saved > 0 && self.refute_reverse(saved)?)
-            }
+    /// Whether a lemma of the branch makes the log shorter. There is then a tree for the reverse move.
+    fn is_shared(&mut self, open: &Open, first: &First) -> Result<bool, MakeFault> {
+        let size = self.bytes.len().saturating_sub(open.start);
+        let saved = first.saved(size);
+        let cost = self.lemmas.cost();
+        if saved <= cost || !self.refute_reverse(saved - cost)? {
+            return Ok(false);
         }
+        let node = self.added_since(open.trees);
+        self.cuts.save(first, node, cost);
+        Ok(true)
     }
 
     /// Makes a lemma of the branch, and cites it in its place.
@@ -281,7 +266,7 @@ impl<'a> Writer<'a> {
         let tiles = self.walk.tiles;
         let end = self.bytes.len();
         let trees_end = self.refuter.trees.len();
-        let added = trees_end.saturating_sub(open.trees);
+        let added = self.added_since(open.trees);
         let length = end.saturating_sub(open.start).saturating_add(added);
         let number = self.lemmas.begin(&tiles, remaining, length)?;
         let log = &mut self.lemmas.log;
@@ -295,6 +280,9 @@ impl<'a> Writer<'a> {
 }
 
 /// Adds a part of some bytes to a lemma.
-fn add_part(log: &mut LogBytes, bytes: &[u8], part: Range<usize>) -> Result<(), AllocError> {
-    log.add(bytes.get(part).unwrap_or(&[]))
+fn add_part(log: &mut LogBytes, bytes: &[u8], part: Range<usize>) -> Result<(), MakeFault> {
+    match bytes.get(part) {
+        Some(part) => log.add(part),
+        None => Err(MakeFault::Memory),
+    }
 }
