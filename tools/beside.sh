@@ -134,6 +134,8 @@ begin() {
     # Each job that is started under -m has a group of its own.
     set -m
     (
+        # (what a rattle that is killed leaves goes with the copy)
+        export TMPDIR=$copy
         exec {held}>&-
         { read -r -u "$release"; kill -KILL 0; } 2>/dev/null &
         prove "$1"

@@ -105,6 +105,7 @@ made=${all##* -o }
 echo "$$" >>"$orders/processes"
 [ "$name" != low ] || echo 'build beside' >>"$orders/calls"
 echo "$name begins" >>"$orders/calls"
+: >"$TMPDIR/rattle.$$"
 for word; do
     case $word in
     std=* | hex=*) [ "${word#*=}" = "${here%/*}/rlibs/${word##*/}" ] || exit 2 ;;
