@@ -5,8 +5,8 @@ use pdb_io::memory::MemShelf;
 use pdb_io::shelf::Shelf;
 use pdb_io::streams::ReadFault;
 use pdb_run::{
-    Answer, Command, Digested, Input, Status, keep_and_conclude, lines, load_all, read_inputs,
-    read_inputs_and_try,
+    Answer, BorrowedIo, Command, Digested, Input, Status, keep_and_conclude, lines, load_all,
+    read_inputs, read_inputs_and_try,
 };
 use sample_streams::{Failing, FailingShelf, SampleReader, SampleWriter, ShelfFault};
 use std::alloc::{AllocError, Global};
@@ -20,13 +20,11 @@ struct WantsOne<'a> {
 }
 
 impl Command for WantsOne<'_> {
-    ghost use Rattle.std.specs.Prelude.{[], ◌∷◌, option_map};
+    ghost use Rattle.std.specs.Prelude.{[], ◌∷◌, None, option_map};
+    ghost use Rattle.pdb_run.specs.Commands.{plan_under};
 
-    ghost wanted = { λ command. record { name = option_map (λ s. s.now) command.name; limit = 4 } ∷ [] };
-
-    ghost MayReply = { λ _ _ _. ⊥ };
-
-    ghost TakesMemory = { λ _ _. ⊥ };
+    ghost plan = { λ command. plan_under None
+        (record { name = option_map (λ s. s.now) command.name; limit = 4 } ∷ []) (λ _ _. ⊥) (λ _. ⊥) };
 
     fn inputs(&self, alloc: Global) -> Result<Vec<Input<'_>>, AllocError> {
         let mut inputs = Vec::new(alloc);
@@ -52,7 +50,12 @@ fn a_name_is_shown_without_its_control_characters(rt: HostRuntime) -> Result<(),
     for (name, line) in cases {
         let mut reader = SampleReader::new(b"").failing(0, u64::MAX, ErrorKind::Other);
         let mut out = SampleWriter::new(alloc);
-        let ended = read_inputs(alloc, &WantsOne { name }, &mut shelf, &mut reader, &mut out);
+        let mut io = BorrowedIo {
+            shelf: &mut shelf,
+            reader: &mut reader,
+            out: &mut out,
+        };
+        let ended = read_inputs(alloc, &WantsOne { name }, &mut io);
         assert!(rt; ended.err() == Some(Status::Fault) && out.calls() == 1);
         assert!(rt; out.taken() == line);
     }
@@ -66,7 +69,12 @@ fn an_input_is_read_whole(rt: HostRuntime) -> Result<(), Fail> {
     let mut reader = b"abc".as_slice();
     for (name, bytes) in [(Some("four"), b"1234".as_slice()), (None, b"abc")] {
         let mut out = SampleWriter::new(alloc);
-        let inputs = read_inputs(alloc, &WantsOne { name }, &mut shelf, &mut reader, &mut out);
+        let mut io = BorrowedIo {
+            shelf: &mut shelf,
+            reader: &mut reader,
+            out: &mut out,
+        };
+        let inputs = read_inputs(alloc, &WantsOne { name }, &mut io);
         let inputs = inputs.ok().unwrap_or(Vec::new(alloc));
         assert_eq!(rt; inputs.len(), 1);
         assert!(rt; inputs[0].as_slice() == bytes);
@@ -100,7 +108,13 @@ fn the_first_input_that_is_not_read_is_named(rt: HostRuntime) -> Result<(), Fail
         ] {
             let mut shelf = FailingShelf::new(MemShelf::of(alloc, &FILES)?, call, fault);
             let mut reader = b"".as_slice();
-            let loaded = load_all(alloc, &wanted, &mut shelf, &mut reader);
+            let mut out = SampleWriter::new(alloc);
+            let mut io = BorrowedIo {
+                shelf: &mut shelf,
+                reader: &mut reader,
+                out: &mut out,
+            };
+            let loaded = load_all(alloc, &wanted, &mut io);
             let unread = loaded.err().ok_or("an input is not read")?;
             assert!(rt; unread.input.name == Some(name) && unread.why == why);
             assert_eq!(rt;
@@ -121,14 +135,9 @@ struct Makes<'a> {
 
 impl Command for Makes<'_> {
     ghost use Rattle.std.specs.Prelude.{⊤, [], Some};
+    ghost use Rattle.pdb_run.specs.Commands.{plan_under};
 
-    ghost wanted = { λ _. [] };
-
-    ghost keeps_under = { λ command. Some command.out.now };
-
-    ghost MayReply = { λ _ _ _. ⊤ };
-
-    ghost TakesMemory = { λ _ _. ⊤ };
+    ghost plan = { λ command. plan_under (Some command.out.now) [] (λ _ _. ⊤) (λ _. ⊤) };
 
     fn inputs(&self, alloc: Global) -> Result<Vec<Input<'_>>, AllocError> {
         Ok(Vec::new(alloc))
@@ -144,7 +153,12 @@ fn begin_making<S: Shelf, W: Write>(
 ) -> Result<Vec<Vec<u8>>, Status> {
     let command = Makes { out: out_name };
     let mut reader = b"".as_slice();
-    read_inputs_and_try(alloc, &command, out_name, shelf, &mut reader, out)
+    let mut io = BorrowedIo {
+        shelf,
+        reader: &mut reader,
+        out,
+    };
+    read_inputs_and_try(alloc, &command, out_name, &mut io)
 }
 
 #[test]
@@ -212,7 +226,13 @@ fn conclude_making<S: Shelf, W: Write>(
     out: &mut W,
 ) -> Status {
     let command = Makes { out: out_name };
-    keep_and_conclude(alloc, &command, answer, out_name, shelf, out)
+    let mut reader = b"".as_slice();
+    let mut io = BorrowedIo {
+        shelf,
+        reader: &mut reader,
+        out,
+    };
+    keep_and_conclude(alloc, &command, answer, out_name, &mut io)
 }
 
 /// Whether a run wrote the digest lines of its last input and of what it made, and then this one.

@@ -21,11 +21,12 @@ use Rattle.pdb_io.specs.Shelf.{Bytes}
 use Rattle.pdb_run.specs.Answers.{all_bytes}
 use Rattle.log_check.specs.declared.faults.LogFault.{LogFault}
 use Rattle.log_check.specs.declared.faults.LogFault.TheVariants as log_failure
-use Rattle.pdb_verdict.specs.Bundles.{IsBundleOfFiles}
+use Rattle.pdb_verdict.specs.Bound.{IsFoundOver, of_log}
+use Rattle.pdb_verdict.specs.Bundles.{IsBundleOfFiles, IsCauseForBundle}
 use Rattle.pdb_verdict.specs.Inputs.{table_file}
-use Rattle.pdb_verdict.specs.Optimal.{IsResultOfPuzzle, of_halves}
+use Rattle.pdb_verdict.specs.Optimal.{IsOptimumOver, IsResultOfPuzzle, of_halves}
+use Rattle.pdb_verdict.specs.Refusals.{or_failure, or_memory}
 use Rattle.pdb_verdict.specs.Replay.{IsSolvedPuzzle, solved_parts}
-use Rattle.pdb_verdict.specs.Steps.{IsCauseForBundle, IsFoundOver, IsOptimumOver, of_log, or_failure, or_memory}
 use Rattle.pdb_verdict.specs.Table.{IsTableResult, IsTableTold, exact_verdict}
 use Rattle.pdb_verdict.specs.Verdicts.{IsAnswerTo}
 use Rattle.pdb_verdict.specs.declared.refusals.BundleRefusal.{BundleRefusal}

@@ -1,5 +1,7 @@
+-- What public contracts say.
 pub mod Kept
 pub mod Laws
 pub mod MakeTable
 pub mod Solve
+-- What proofs alone need.
 pub mod Steps

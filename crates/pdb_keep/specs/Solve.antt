@@ -22,6 +22,7 @@ use Rattle.pdb_verdict.specs.declared.refusals.SearchRefusal.{SearchRefusal}
 use Rattle.pdb_verdict.specs.declared.refusals.SearchRefusal.TheVariants.{Board, Unmade}
 use Rattle.pdb_verdict.specs.declared.refusals.UnmadeRefusal.{UnmadeRefusal}
 use Rattle.pdb_verdict.specs.declared.refusals.UnmadeRefusal.TheVariants.{Bundle, GivenUp, L4}
+use Rattle.pdb_keep.specs.declared.solve.SearchNames.{SearchNames}
 
 -- ---- before a log is made
 
@@ -135,3 +136,7 @@ SolveTakesMemory inputs = ⊥
 -- for any budget and any number of workers
 abbrev pub solve_plan : Bool → Bytes → Bytes → Bytes → List Bytes → Plan
 solve_plan fold text sets out tables = plan_under (Some out) (solve_inputs text sets tables) (IsSolveReply fold) SolveTakesMemory
+
+-- the same under the names that the code has
+abbrev pub search_plan : SearchNames → Plan
+search_plan names = solve_plan names.fold names.board.now names.sets.now names.out.now (map (λ name. name.now) names.tables.now)

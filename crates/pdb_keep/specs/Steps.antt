@@ -4,9 +4,9 @@ use Rattle.puz_board.specs.PuzzleTexts.{puzzle_parts}
 use Rattle.set_sum.specs.Bundles.{BundleView}
 use Rattle.pdb_io.specs.Shelf.{Bytes}
 use Rattle.pdb_verdict.specs.Bound.{TakesMemoryForBound}
-use Rattle.pdb_verdict.specs.Refusals.{IsCauseBy}
+use Rattle.pdb_verdict.specs.Optimal.{IsOptimumOver}
+use Rattle.pdb_verdict.specs.Refusals.{IsCauseBy, or_memory}
 use Rattle.pdb_verdict.specs.Replay.{solved_parts}
-use Rattle.pdb_verdict.specs.Steps.{IsOptimumOver, or_memory}
 use Rattle.pdb_verdict.specs.declared.refusals.BuildRefusal.{BuildRefusal}
 use Rattle.pdb_verdict.specs.declared.refusals.Failure.{Failure}
 use Rattle.pdb_verdict.specs.declared.refusals.Failure.TheVariants.{Memory, Refused}

@@ -1,16 +1,15 @@
 //! Makes a table, and keeps it once it is found exact for the pattern that was asked for.
 
-ghost use Rattle.std.specs.Prelude.{◌≡◌, ◌↔◌, ◌∷◌, [], IsSome, IsTrue, IfErr, IfOk, Some, option_map};
+ghost use Rattle.std.specs.Prelude.{◌≡◌, ◌↔◌, ◌∷◌, [], IsSome, IsTrue, IfErr, IfOk, option_map};
 ghost use Rattle.pdb_run.specs.Writing.{digests_of};
 ghost use Rattle.pdb_run.specs.Answers.{IsAnswerBy};
-ghost use Rattle.pdb_run.specs.Runs.{Ends, world};
+ghost use Rattle.pdb_run.specs.Runs.{Ends};
 ghost use Rattle.pdb_keep.specs.MakeTable.{ArePattern, IsBuilt, SpeaksOf, TellsBuild, make_table_plan};
 ghost use Rattle.pdb_keep.specs.Steps.{IsCauseForBuild};
 
 use pat_place::Pattern;
-use pdb_io::shelf::Shelf;
 use pdb_run::{
-    Answer, Command, Digested, Digests, Input, Status, keep_and_conclude, read_inputs_and_try,
+    Answer, Command, Digested, Digests, Input, Io, Status, keep_and_conclude, read_inputs_and_try,
 };
 use pdb_verdict::{
     BuildRefusal, Failure, Fault, Inputs, Verdict, Workers, fault_of_build, line_of, verify_beside,
@@ -18,7 +17,6 @@ use pdb_verdict::{
 use puz_board::Side;
 use puz_make::{MakeFault, build};
 use std::alloc::{AllocError, Global};
-use std::io::{Read, Write};
 use std::sync::Wait;
 use std::thread::Threads;
 use work_run::Gate;
@@ -35,13 +33,7 @@ pub struct MakeTable<'n> {
 }
 
 impl Command for MakeTable<'_> {
-    ghost wanted = { λ _. [] };
-
-    ghost keeps_under = { λ command. Some command.out.now };
-
-    ghost MayReply = { λ command inputs. TellsBuild command.side command.mask };
-
-    ghost TakesMemory = { λ command inputs. ArePattern command.side command.mask };
+    ghost plan = { λ command. make_table_plan command.side command.mask command.out.now };
 
     fn inputs(&self, alloc: Global) -> Result<Vec<Input<'_>>, AllocError> {
         Ok(Vec::new(alloc))
@@ -51,22 +43,20 @@ impl Command for MakeTable<'_> {
 /// A whole run of `make-table`: the table is kept under its name once it is found exact. That something can be kept there is
 /// tried before the table is made.
 #[inline(never)] // so that the stack has the values of one command alone
-pub fn run_make_table<H: Threads + Wait + Sync, G: Gate + Sync, S: Shelf, R: Read, W: Write>(
-    alloc: Global,
+pub fn run_make_table<H: Threads + Wait + Sync, G: Gate + Sync, I: Io>(
     command: MakeTable<'_>,
     workers: &Workers<'_, H, G>,
-    shelf: &mut S,
-    reader: &mut R,
-    out: &mut W,
+    io: &mut I,
 ) -> Status
-    ensures { Ends (make_table_plan command.entry.side command.entry.mask command.entry.out.now)
-        (world (S.held shelf.old) (S.has_failed shelf.old) (R.remaining reader.old) (W.contents out.old))
-        (world (S.held shelf.new) (S.has_failed shelf.new) (R.remaining reader.new) (W.contents out.new)) result }
+    ensures same_streams { I.streams io.new ≡ I.streams io.old }
+    ensures ends { let asked = command.entry in
+        let plan = make_table_plan asked.side asked.mask asked.out.now in
+        Ends plan (I.world io.old) (I.world io.new) result }
 {
-    match read_inputs_and_try(alloc, &command, command.out, shelf, reader, out) {
+    match read_inputs_and_try(workers.alloc, &command, command.out, io) {
         Ok(_inputs) => {
-            let answer = answer_make_table(alloc, command.side, command.mask, workers);
-            keep_and_conclude(alloc, &command, &answer, command.out, shelf, out)
+            let answer = answer_make_table(command.side, command.mask, workers);
+            keep_and_conclude(workers.alloc, &command, &answer, command.out, io)
         }
         Err(status) => status,
     }
@@ -74,14 +64,13 @@ pub fn run_make_table<H: Threads + Wait + Sync, G: Gate + Sync, S: Shelf, R: Rea
 
 /// The answer on a side and a mask. Want of memory never comes of what is no pattern.
 fn answer_make_table<H: Threads + Wait + Sync, G: Gate + Sync>(
-    alloc: Global,
     side: u8,
     mask: u32,
     workers: &Workers<'_, H, G>,
 ) -> Result<Answer<'static>, AllocError>
     ensures { IsAnswerBy (TellsBuild side mask) (ArePattern side mask) result }
 {
-    match build_table(alloc, side, mask, workers) {
+    match build_table(side, mask, workers) {
         Ok(built) => Ok(Answer {
             digested: Digested::Files(&[], None),
             lines: line_of(&built.answer),
@@ -106,13 +95,13 @@ struct Built {
     file: Vec<u8>,
     digest: Option<Digests>,
     answer: Result<Verdict, Fault>,
-    ghost digested: { option_map (λ d. d.items) digest ≡ option_map (λ _. digests_of (file.items ∷ [])) digest },
+    ghost digested: { option_map (λ d. d.items) digest
+        ≡ option_map (λ _. digests_of (file.items ∷ [])) digest },
 }
 
 /// The file that is built for a side and a mask, checked. Or why there is none to tell of: they are no pattern, the maker
 /// gave up, or it built the table of another pattern.
 fn build_table<H: Threads + Wait + Sync, G: Gate + Sync>(
-    alloc: Global,
     side: u8,
     mask: u32,
     workers: &Workers<'_, H, G>,
@@ -123,14 +112,14 @@ fn build_table<H: Threads + Wait + Sync, G: Gate + Sync>(
     let Some(pattern) = pattern_of(side, mask) else {
         return Err(Failure::Refused(BuildRefusal::K4));
     };
-    let file = match build(workers.rt, alloc, &pattern) {
+    let file = match build(workers.rt, workers.alloc, &pattern) {
         Ok(file) => file,
         Err(MakeFault::Memory) => return Err(Failure::Memory),
         // K3 alone is left: no other refusal comes of building.
         Err(_) => return Err(Failure::Refused(BuildRefusal::K3)),
     };
     let table = file.as_slice();
-    let (digest, answer) = verify_beside(alloc, &Inputs::Table { table }, workers);
+    let (digest, answer) = verify_beside(&Inputs::Table { table }, workers);
     match answer {
         Err(Fault::Memory) => Err(Failure::Memory),
         _ => {

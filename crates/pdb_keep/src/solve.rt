@@ -1,25 +1,24 @@
 //! Searches for a shortest solution, and keeps the log that proves it shortest once both are checked.
 
-ghost use Rattle.std.specs.Prelude.{◌≡◌, ◌≤◌, ◌+◌, ◌∷◌, ℕ, Bool, true, List, [], Some, length, map, option_map, slice_get, IfErr, IfOk, IfSome, MatchResult};
+ghost use Rattle.std.specs.Prelude.{◌≡◌, ◌≤◌, ◌+◌, ◌∷◌, ℕ, Bool, true, List, [], Some, length, option_map, slice_get, IfErr, IfOk, IfSome, MatchResult};
 ghost use Rattle.puz_board.specs.BoardTexts.{Spells};
 ghost use Rattle.puz_board.specs.Boards.{side_of};
 ghost use Rattle.puz_board.specs.PuzzleTexts.{puzzle_parts};
 ghost use Rattle.pdb_run.specs.Writing.{digests_of};
 ghost use Rattle.pdb_run.specs.Answers.{IsAnswerBy, IsReplyOf, all_bytes, digest_lines};
-ghost use Rattle.pdb_run.specs.Inputs.{AreRead, IsAsTold, left_by_all};
-ghost use Rattle.pdb_run.specs.Runs.{Ends, World, world};
+ghost use Rattle.pdb_run.specs.Io.{HasRead};
+ghost use Rattle.pdb_run.specs.Runs.{Ends, World};
 ghost use Rattle.pdb_verdict.specs.Bound.{TakesMemoryForBound};
-ghost use Rattle.pdb_verdict.specs.Bundles.{IsBundleOfFiles};
+ghost use Rattle.pdb_verdict.specs.Bundles.{IsBundleOfFiles, IsCauseForBundle};
+ghost use Rattle.pdb_verdict.specs.Optimal.{IsOptimumOver};
 ghost use Rattle.pdb_verdict.specs.Replay.{solved_parts};
-ghost use Rattle.pdb_verdict.specs.Steps.{IsCauseForBundle, IsOptimumOver};
-ghost use Rattle.pdb_keep.specs.Solve.{IsMade, IsSolveReply, SolveTakesMemory, TellsSearch, puzzle_of, reply_to_search, searched, solve_inputs, solve_plan, unmade};
+ghost use Rattle.pdb_keep.specs.Solve.{IsMade, IsSolveReply, SolveTakesMemory, TellsSearch, puzzle_of, reply_to_search, search_plan, searched, unmade};
 ghost use Rattle.pdb_keep.specs.Steps.{HasItsMoves, IsCauseForSearch, IsMadeOver, unmade_for};
 ghost use Rattle.pdb_verdict.specs.declared.refusals.UnmadeRefusal.TheVariants as unmade_refusal;
 
 use crate::solutions::lines_on;
-use pdb_io::shelf::Shelf;
 use pdb_run::{
-    Answer, Command, Digested, Digests, FILES_BESIDE, Input, Status, beside, keep_and_conclude,
+    Answer, Command, Digested, Digests, FILES_BESIDE, Input, Io, Status, beside, keep_and_conclude,
     read_inputs_and_try,
 };
 use pdb_verdict::{
@@ -31,7 +30,6 @@ use puz_board::Board;
 use puz_make::{Found, MakeFault, solve};
 use set_sum::Bundle;
 use std::alloc::{AllocError, Global};
-use std::io::{Read, Write};
 use std::sync::Wait;
 use std::thread::Threads;
 use work_run::Gate;
@@ -61,13 +59,7 @@ struct Solve<'t, 'n> {
 }
 
 impl Command for Solve<'_, '_> {
-    ghost wanted = { λ command. solve_inputs command.names.board.now command.names.sets.now (map (λ name. name.now) command.names.tables.now) };
-
-    ghost keeps_under = { λ command. Some command.names.out.now };
-
-    ghost MayReply = { λ command. IsSolveReply command.names.fold };
-
-    ghost TakesMemory = { λ _. SolveTakesMemory };
+    ghost plan = { λ command. search_plan command.names };
 
     fn inputs(&self, alloc: Global) -> Result<Vec<Input<'_>>, AllocError> {
         let mut inputs = Vec::new(alloc);
@@ -81,72 +73,64 @@ impl Command for Solve<'_, '_> {
 /// A whole run of `solve`, whoever checks the tables and the log: at most `budget` boards are expanded, and the log is kept
 /// once it and the moves are found to prove an optimum. That something can be kept there is tried before anything is checked.
 #[inline(never)] // so that the stack has the values of one command alone
-pub fn run_solve<H: Threads + Wait + Sync, G: Gate + Sync, S: Shelf, R: Read, W: Write>(
-    alloc: Global,
+pub fn run_solve<H: Threads + Wait + Sync, G: Gate + Sync, I: Io>(
     names: SearchNames<'_, '_>,
     budget: u64,
     workers: &Workers<'_, H, G>,
-    shelf: &mut S,
-    reader: &mut R,
-    out: &mut W,
+    io: &mut I,
 ) -> Status
-    ensures { Ends (solve_plan names.entry.fold names.entry.board.now names.entry.sets.now names.entry.out.now (map (λ name. name.now) names.entry.tables.now))
-        (world (S.held shelf.old) (S.has_failed shelf.old) (R.remaining reader.old) (W.contents out.old))
-        (world (S.held shelf.new) (S.has_failed shelf.new) (R.remaining reader.new) (W.contents out.new)) result }
+    ensures same_streams { I.streams io.new ≡ I.streams io.old }
+    ensures ends { Ends (search_plan names.entry) (I.world io.old) (I.world io.new) result }
 {
     let command = Solve { names };
-    let inputs = match read_inputs_and_try(alloc, &command, names.out, shelf, reader, out) {
+    let inputs = match read_inputs_and_try(workers.alloc, &command, names.out, io) {
         Ok(inputs) => inputs,
         Err(status) => return status,
     };
     if names.fold {
-        return conclude_folded(alloc, &command, inputs, budget, workers, shelf, out);
+        return conclude_folded(&command, inputs, budget, workers, io);
     }
-    let answer = answer_solve(alloc, inputs.as_slice(), false, budget, workers);
-    keep_and_conclude(alloc, &command, &answer, names.out, shelf, out)
+    let answer = answer_solve(inputs.as_slice(), false, budget, workers);
+    keep_and_conclude(workers.alloc, &command, &answer, names.out, io)
 }
 
 /// The end of a run with folded tables. The bytes of each table are given up in turn, so that the search runs beside the folded
 /// tables alone.
 #[inline(never)] // so that a run with full tables hasn't its values on the stack
-fn conclude_folded<H: Threads + Wait + Sync, G: Gate + Sync, S: Shelf, W: Write>(
-    alloc: Global,
+fn conclude_folded<H: Threads + Wait + Sync, G: Gate + Sync, I: Io>(
     command: &Solve<'_, '_>,
     inputs: Vec<Vec<u8>>,
     budget: u64,
     workers: &Workers<'_, H, G>,
-    shelf: &mut S,
-    out: &mut W,
+    io: &mut I,
 ) -> Status
     requires count { 2 ≤ length inputs.items }
     requires folds { command.now.names.fold ≡ true }
-    ensures { let names = command.now.names in let wanted = solve_inputs names.board.now names.sets.now (map (λ name. name.now) names.tables.now) in
-        (old new : World) → AreRead old.files old.reader wanted (all_bytes inputs.items)
-        → IsAsTold (left_by_all old.reader wanted) new.reader
-        → S.held shelf.old ≡ old.files → S.held shelf.new ≡ new.files
-        → S.has_failed shelf.old ≡ old.failed → S.has_failed shelf.new ≡ new.failed
-        → W.contents out.old ≡ old.written → W.contents out.new ≡ new.written
-        → Ends (solve_plan names.fold names.board.now names.sets.now names.out.now (map (λ name. name.now) names.tables.now)) old new result }
+    ensures same_streams { I.streams io.new ≡ I.streams io.old }
+    ensures ends { let plan = search_plan command.now.names in
+        (old : World) → HasRead plan.inputs old (I.world io.old) (all_bytes inputs.items)
+        → Ends plan old (I.world io.new) result }
 {
     let mut inputs = inputs;
     let Some(board) = board_of(inputs.as_slice()) else {
-        let answer = answer_solve(alloc, inputs.as_slice(), true, budget, workers);
-        return keep_and_conclude(alloc, command, &answer, command.names.out, shelf, out);
+        let answer = answer_solve(inputs.as_slice(), true, budget, workers);
+        return keep_and_conclude(workers.alloc, command, &answer, command.names.out, io);
     };
     let text = take_first(&mut inputs);
     let sets = take_first(&mut inputs);
     let (text, sets) = (text.as_slice(), sets.as_slice());
-    let (digests, bundle) = fold_bundle(alloc, inputs, sets, workers);
-    let outcome = search_in(alloc, bundle, &board, text, budget, workers);
+    let (digests, bundle) = fold_bundle(inputs, sets, workers);
+    let outcome = search_in(bundle, &board, text, budget, workers);
     let answer = answer_of(Digested::Lines(digests), outcome);
-    keep_and_conclude(alloc, command, &answer, command.names.out, shelf, out)
+    keep_and_conclude(workers.alloc, command, &answer, command.names.out, io)
 }
 
 /// The board of a search. There is none of a text that is refused, nor of more tables than a bundle has.
 fn board_of(inputs: &[Vec<u8>]) -> Option<Board>
     requires { 2 ≤ length inputs.now }
     ensures few { IfSome result (λ _. length inputs.now ≤ BEFORE_TABLES + FILES_BESIDE) }
-    ensures board { IfSome result (λ board. (text : List ℕ) × (slice_get (all_bytes inputs.now) 0 ≡ Some text) × Spells text board) }
+    ensures board { IfSome result (λ board.
+        (text : List ℕ) × (slice_get (all_bytes inputs.now) 0 ≡ Some text) × Spells text board) }
 {
     if inputs.len() > BEFORE_TABLES + FILES_BESIDE {
         return None;
@@ -156,18 +140,18 @@ fn board_of(inputs: &[Vec<u8>]) -> Option<Board>
 
 /// The answer on the bytes of the inputs. Want of memory never comes of a board that is refused.
 fn answer_solve<'i, H: Threads + Wait + Sync, G: Gate + Sync>(
-    alloc: Global,
     inputs: &'i [Vec<u8>],
     fold: bool,
     budget: u64,
     workers: &Workers<'_, H, G>,
 ) -> Result<Answer<'i>, AllocError>
     requires { 2 ≤ length inputs.now }
-    ensures { IsAnswerBy (IsSolveReply fold (all_bytes inputs.now)) (SolveTakesMemory (all_bytes inputs.now)) result }
+    ensures { let files = all_bytes inputs.now in
+        IsAnswerBy (IsSolveReply fold files) (SolveTakesMemory files) result }
 {
     let (text, sets, files) = (inputs[0].as_slice(), inputs[1].as_slice(), &inputs[2..]);
     let tables = Tables { files, fold };
-    let (digests, outcome) = search_beside(alloc, text, sets, tables, budget, workers);
+    let (digests, outcome) = search_beside(text, sets, tables, budget, workers);
     answer_of(digested_by(files, digests), outcome)
 }
 
@@ -188,8 +172,11 @@ fn answer_of<'i>(
     outcome: Result<Made, Failure<SearchRefusal>>,
 ) -> Result<Answer<'i>, AllocError>
     requires { IfOk outcome (λ made. HasItsMoves made.moves.items made.answer) }
-    ensures { (fold : Bool) (text sets : List ℕ) (tables : List (List ℕ)) → digest_lines digested.entry ≡ digests_of tables
-        → MatchResult outcome (λ made. IsMade fold text sets tables made.moves.items made.log.items made.answer) (IsCauseForSearch fold text sets tables)
+    ensures { (fold : Bool) (text sets : List ℕ) (tables : List (List ℕ))
+        → digest_lines digested.entry ≡ digests_of tables
+        → MatchResult outcome
+        (λ made. IsMade fold text sets tables made.moves.items made.log.items made.answer)
+        (IsCauseForSearch fold text sets tables)
         → IsAnswerBy (TellsSearch fold text sets tables) (TakesMemoryForBound text tables) result }
 {
     match outcome {
@@ -203,7 +190,8 @@ fn answer_of<'i>(
 fn answer_on<'i>(digested: Digested<'i>, made: Made) -> Answer<'i>
     requires { HasItsMoves made.moves.items made.answer }
     ensures { (tables : List (List ℕ)) → digest_lines digested.entry ≡ digests_of tables
-        → IsReplyOf result (reply_to_search tables (searched made.moves.items made.log.items made.answer)) }
+        → IsReplyOf result
+        (reply_to_search tables (searched made.moves.items made.log.items made.answer)) }
 {
     Answer {
         digested,
@@ -216,7 +204,8 @@ fn answer_on<'i>(digested: Digested<'i>, made: Made) -> Answer<'i>
 
 /// The answer where a search made nothing.
 fn refusal_of<'i>(digested: Digested<'i>, refused: SearchRefusal) -> Answer<'i>
-    ensures { (tables : List (List ℕ)) → digest_lines digested.entry ≡ digests_of tables → IsReplyOf result (reply_to_search tables (unmade refused)) }
+    ensures { (tables : List (List ℕ)) → digest_lines digested.entry ≡ digests_of tables
+        → IsReplyOf result (reply_to_search tables (unmade refused)) }
 {
     Answer {
         digested,
@@ -234,26 +223,32 @@ struct Made {
     log: Vec<u8>,
     digest: Option<Digests>,
     answer: Result<u8, OptimalRefusal>,
-    ghost digested: { option_map (λ d. d.items) digest ≡ option_map (λ _. digests_of (log.items ∷ [])) digest },
+    ghost digested: { option_map (λ d. d.items) digest
+        ≡ option_map (λ _. digests_of (log.items ∷ [])) digest },
 }
 
 /// What comes of a search, and the digest lines of the tables, where they are made beside it.
 fn search_beside<H: Threads + Wait + Sync, G: Gate + Sync>(
-    alloc: Global,
     text: &[u8],
     sets: &[u8],
     tables: Tables<'_>,
     budget: u64,
     workers: &Workers<'_, H, G>,
 ) -> (Option<Digests>, Result<Made, Failure<SearchRefusal>>)
-    ensures digests { IfSome result.0 (λ digests. digests.items ≡ digests_of (all_bytes tables.entry.files.now)) }
-    ensures outcome { let files = all_bytes tables.entry.files.now in
-        MatchResult result.1 (λ made. IsMade tables.entry.fold text.now sets.now files made.moves.items made.log.items made.answer) (IsCauseForSearch tables.entry.fold text.now sets.now files) }
+    ensures digests { let files = all_bytes tables.entry.files.now in
+        IfSome result.0 (λ digests. digests.items ≡ digests_of files) }
+    ensures outcome { let of = all_bytes tables.entry.files.now in let fold = tables.entry.fold in
+        MatchResult result.1
+        (λ made. IsMade fold text.now sets.now of made.moves.items made.log.items made.answer)
+        (IsCauseForSearch fold text.now sets.now of) }
 {
     let search = || -> Result<Made, Failure<SearchRefusal>>
-        ensures { let files = all_bytes tables.entry.files.now in
-            MatchResult result (λ made. IsMade tables.entry.fold text.entry.now sets.entry.now files made.moves.items made.log.items made.answer) (IsCauseForSearch tables.entry.fold text.entry.now sets.entry.now files) }
-    { search(alloc, text, sets, tables, budget, workers) };
+        ensures { let of = all_bytes tables.entry.files.now in let fold = tables.entry.fold in
+            let b = text.entry.now in let s = sets.entry.now in
+            MatchResult result
+            (λ made. IsMade fold b s of made.moves.items made.log.items made.answer)
+            (IsCauseForSearch fold b s of) }
+    { search(text, sets, tables, budget, workers) };
     beside(workers.rt, workers.count, tables.files, None, search)
 }
 
@@ -261,27 +256,27 @@ fn search_beside<H: Threads + Wait + Sync, G: Gate + Sync>(
 /// board text's, that of the first table file that is refused, the set text's, `L4` where the bundle has another side than
 /// the board, and then the maker's.
 fn search<H: Threads + Wait + Sync, G: Gate + Sync>(
-    alloc: Global,
     text: &[u8],
     sets: &[u8],
     tables: Tables<'_>,
     budget: u64,
     workers: &Workers<'_, H, G>,
 ) -> Result<Made, Failure<SearchRefusal>>
-    ensures { let files = all_bytes tables.entry.files.now in
-        MatchResult result (λ made. IsMade tables.entry.fold text.now sets.now files made.moves.items made.log.items made.answer) (IsCauseForSearch tables.entry.fold text.now sets.now files) }
+    ensures { let of = all_bytes tables.entry.files.now in let fold = tables.entry.fold in
+        MatchResult result
+        (λ made. IsMade fold text.now sets.now of made.moves.items made.log.items made.answer)
+        (IsCauseForSearch fold text.now sets.now of) }
 {
     let board = match Board::read(text) {
         Ok(board) => board,
         Err(refused) => return Err(Failure::Refused(SearchRefusal::Board(refused))),
     };
-    let bundle = read_bundle(alloc, tables, sets, workers);
-    search_in(alloc, bundle, &board, text, budget, workers)
+    let bundle = read_bundle(tables, sets, workers);
+    search_in(bundle, &board, text, budget, workers)
 }
 
 /// The same for the board that a text spells, once the tables and the sets are checked.
 fn search_in<H: Threads + Wait + Sync, G: Gate + Sync>(
-    alloc: Global,
     bundle: Result<Bundle<'_>, Failure<BundleRefusal>>,
     board: &Board,
     text: &[u8],
@@ -289,8 +284,11 @@ fn search_in<H: Threads + Wait + Sync, G: Gate + Sync>(
     workers: &Workers<'_, H, G>,
 ) -> Result<Made, Failure<SearchRefusal>>
     ensures { (fold : Bool) (sets : List ℕ) (tables : List (List ℕ)) → Spells text.now board.now
-        → IfOk bundle.entry (IsBundleOfFiles fold tables sets) → IfErr bundle.entry (IsCauseForBundle fold tables sets)
-        → MatchResult result (λ made. IsMade fold text.now sets tables made.moves.items made.log.items made.answer) (IsCauseForSearch fold text.now sets tables) }
+        → IfOk bundle.entry (IsBundleOfFiles fold tables sets)
+        → IfErr bundle.entry (IsCauseForBundle fold tables sets)
+        → MatchResult result
+        (λ made. IsMade fold text.now sets tables made.moves.items made.log.items made.answer)
+        (IsCauseForSearch fold text.now sets tables) }
 {
     let bundle = match bundle {
         Ok(bundle) => bundle,
@@ -299,7 +297,7 @@ fn search_in<H: Threads + Wait + Sync, G: Gate + Sync>(
     if board.side() != bundle.side() {
         return Err(Failure::Refused(SearchRefusal::Unmade(UnmadeRefusal::L4)));
     }
-    match search_over(alloc, &bundle, board, text, budget, workers) {
+    match search_over(&bundle, board, text, budget, workers) {
         Ok(made) => Ok(made),
         Err(failure) => Err(given_up(failure)),
     }
@@ -332,7 +330,6 @@ fn given_up(failure: Failure<GivenUp>) -> Failure<SearchRefusal>
 /// Searches for a shortest solution of the board that a text spells, over a bundle of its side, and checks what is found.
 #[inline(never)] // so that the stack hasn't its values while tables are checked
 fn search_over<H: Threads + Wait + Sync, G: Gate + Sync>(
-    alloc: Global,
     bundle: &Bundle<'_>,
     board: &Board,
     text: &[u8],
@@ -340,14 +337,15 @@ fn search_over<H: Threads + Wait + Sync, G: Gate + Sync>(
     workers: &Workers<'_, H, G>,
 ) -> Result<Made, Failure<GivenUp>>
     requires { side_of board.now ≡ bundle.now.side }
-    ensures { IfOk result (λ made. IsMadeOver bundle.now text.now made.moves.items made.log.items made.answer) }
+    ensures { IfOk result
+        (λ made. IsMadeOver bundle.now text.now made.moves.items made.log.items made.answer) }
 {
-    let found = find(alloc, bundle, board, budget)?;
-    let Ok(puzzle) = join(alloc, text, found.moves.as_slice()) else {
+    let found = find(workers.alloc, bundle, board, budget)?;
+    let Ok(puzzle) = join(workers.alloc, text, found.moves.as_slice()) else {
         return Err(Failure::Memory);
     };
     let (moves, log) = (found.moves, found.log);
-    let (digest, answer) = log_beside(alloc, bundle, puzzle.as_slice(), log.as_slice(), workers);
+    let (digest, answer) = log_beside(bundle, puzzle.as_slice(), log.as_slice(), workers);
     let answer = match answer {
         Ok(count) => Ok(count),
         Err(Failure::Refused(refused)) => Err(refused),
@@ -363,18 +361,19 @@ fn search_over<H: Threads + Wait + Sync, G: Gate + Sync>(
 
 /// The result on a puzzle text and a log over a bundle, and the log's digest line, where that is made beside the check.
 fn log_beside<H: Threads + Wait + Sync, G: Gate + Sync>(
-    alloc: Global,
     bundle: &Bundle<'_>,
     puzzle: &[u8],
     log: &[u8],
     workers: &Workers<'_, H, G>,
 ) -> (Option<Digests>, Result<u8, Failure<OptimalRefusal>>)
     ensures digest { IfSome result.0 (λ digest. digest.items ≡ digests_of (log.now ∷ [])) }
-    ensures answer { IsOptimumOver bundle.now (solved_parts (puzzle_parts puzzle.now)) log.now result.1 }
+    ensures answer { let parts = solved_parts (puzzle_parts puzzle.now) in
+        IsOptimumOver bundle.now parts log.now result.1 }
 {
     let check = || -> Result<u8, Failure<OptimalRefusal>>
-        ensures { IsOptimumOver bundle.entry.now (solved_parts (puzzle_parts puzzle.entry.now)) log.entry.now result }
-    { optimum_over(alloc, bundle, puzzle, log, workers) };
+        ensures { let parts = solved_parts (puzzle_parts puzzle.entry.now) in
+            IsOptimumOver bundle.entry.now parts log.entry.now result }
+    { optimum_over(bundle, puzzle, log, workers) };
     beside(workers.rt, workers.count, &[], Some(log), check)
 }
 

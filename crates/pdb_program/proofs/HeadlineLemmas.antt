@@ -275,13 +275,13 @@ number_known number NoMemory e = omega arith
 
 -- ---- a run on words, over what tells its bytes
 
-abbrev pub SaysHeadline : List Bytes → (old_files new_files : Option Files) → (reader old_written new_written : Option Bytes) → ℕ → Type 0
-SaysHeadline words old_files new_files reader old_written new_written number =
+abbrev Says : List Bytes → (old_files new_files : Option Files) → (reader old_written new_written : Option Bytes) → ℕ → Type 0
+Says words old_files new_files reader old_written new_written number =
     (before after : Bytes → Option Bytes) (input start lines : Bytes) → Parses words → old_files ≡ Some before → new_files ≡ Some after
     → reader ≡ Some input → old_written ≡ Some start → new_written ≡ Some (start ++ lines) → Headline (asked_of words) before after input lines number
 
 -- a run on words is one on the same words
 pub headline_on : (words other : List Bytes) (old_files new_files : Option Files) (reader old_written new_written : Option Bytes) (number : ℕ) → words ≡ other
-    → SaysHeadline words old_files new_files reader old_written new_written number → SaysHeadline other old_files new_files reader old_written new_written number
+    → Says words old_files new_files reader old_written new_written number → Says other old_files new_files reader old_written new_written number
 headline_on words other old_files new_files reader old_written new_written number same says =
-    subst (λ (all : List Bytes). SaysHeadline all old_files new_files reader old_written new_written number) same says
+    subst (λ (all : List Bytes). Says all old_files new_files reader old_written new_written number) same says

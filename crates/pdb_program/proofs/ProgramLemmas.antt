@@ -26,15 +26,6 @@ answered_by plan old new number Refused e ends is = (Refused, e, IsAnswered-ends
 answered_by plan old new number Fault e ends is = absurd (other 2 number (lit≤ tt) e is)
 answered_by plan old new number NoMemory e ends is = absurd (other 3 number (lit≤ tt) e is)
 
--- a run on words is one on the same words
-pub runs_on : (words other : List Bytes) (old new : World) (old_err new_err : Option Bytes) (number : ℕ) → words ≡ other
-    → (Parses words → IsNumberOf (Ends (plan_of (asked_of words)) old new) number)
-    → ((Parses words → ⊥) → IsNumberOf (Refuses words old.written new.written old_err new_err) number)
-    → Keeps old_err new_err ⊎ IsMistaken words → (Parses words → number ≡ 0 → HasKept (asked_of words) old new) → (AskToKeepNothing words → new.files ≡ old.files)
-    → RunsOn other old new old_err new_err number
-runs_on words other old new old_err new_err number same ends refuses quiet kept files =
-    subst (λ (all : List Bytes). RunsOn all old new old_err new_err number) same (record { ends = ends; refuses = refuses; quiet = quiet; kept = kept; same = files })
-
 -- ---- words that parse, where memory was refused
 
 -- whatever is asked for, memory may be wanted: to list what is read, or for a table that is to be made
@@ -154,3 +145,19 @@ kept_by asked old new number Yes e ends is = yes_keeps asked old new ends
 kept_by asked old new number Refused e ends is = absurd (not_both number e is)
 kept_by asked old new number Fault e ends is = absurd (other 2 number (lit≤ tt) e (inl is))
 kept_by asked old new number NoMemory e ends is = absurd (other 3 number (lit≤ tt) e (inl is))
+
+-- ---- a run on words
+
+pub runs_on : (words : List Bytes) (old new : World) (old_err new_err : Option Bytes) (number : ℕ) (status : Status) → number ≡ status_number status
+    → (Parses words → Ends (plan_of (asked_of words)) old new status)
+    → ((Parses words → ⊥) → Refuses words old.written new.written old_err new_err status)
+    → Keeps old_err new_err ⊎ IsMistaken words → (AskToKeepNothing words → new.files ≡ old.files)
+    → RunsOn words old new old_err new_err number
+runs_on words old new old_err new_err number status is ends refuses quiet same = record {
+  answered = λ parses. answered_by (plan_of (asked_of words)) old new number status is (ends parses);
+  ends = λ parses. (status, is, ends parses);
+  refuses = λ fails. (status, is, refuses fails);
+  quiet = quiet;
+  kept = λ parses. kept_by (asked_of words) old new number status is (ends parses);
+  same = same;
+}

@@ -1,9 +1,9 @@
 -- What the words of the program do, and how a run on words ends.
-use Rattle.std.specs.Prelude.{◌≡◌, ◌⊎◌, ⊤, ℕ, List, Option, None}
+use Rattle.std.specs.Prelude.{◌≡◌, ◌⊎◌, ⊤, ℕ, List, ◌++◌, Option, Some, None}
 use Rattle.std.specs.Io.KnownBytes.{Keeps}
 use Rattle.pdb_io.specs.Shelf.{Bytes}
 use Rattle.pdb_run.specs.Commands.{Plan}
-use Rattle.pdb_run.specs.Runs.{Ends, World}
+use Rattle.pdb_run.specs.Runs.{Ends, IsAnswered, World}
 use Rattle.pdb_run.specs.Statuses.{status_number}
 use Rattle.pdb_run.specs.declared.statuses.Status.{Status}
 use Rattle.pdb_verdict.specs.Bound.{bound_plan}
@@ -16,6 +16,7 @@ use Rattle.pdb_keep.specs.Solve.{solve_plan}
 use Rattle.pdb_words.specs.Asked.{Asked, bound, make_table, optimal, replay, solve, table}
 use Rattle.pdb_words.specs.CommandLine.{Parses, asked_of}
 use Rattle.pdb_words.specs.Faults.{IsMistaken}
+use Rattle.pdb_program.specs.Headline.{Headline}
 use Rattle.pdb_program.specs.Refusals.{Refuses}
 
 -- the plan, where memory may be wanted whatever is asked for
@@ -52,8 +53,16 @@ IsNumberOf Holds number = (status : Status) × (number ≡ status_number status)
 
 -- a run on these words, from the one world to the other; what stood on the errors before and after it; and its number
 pub record RunsOn (words : List Bytes) (old new : World) (old_err new_err : Option Bytes) (number : ℕ) : Type 0 where
+  pub answered : Parses words → (number ≡ 0) ⊎ (number ≡ 1) → IsNumberOf (IsAnswered (plan_of (asked_of words)) old new) number
   pub ends : Parses words → IsNumberOf (Ends (plan_of (asked_of words)) old new) number
   pub refuses : (Parses words → ⊥) → IsNumberOf (Refuses words old.written new.written old_err new_err) number
   pub quiet : Keeps old_err new_err ⊎ IsMistaken words
   pub kept : Parses words → number ≡ 0 → HasKept (asked_of words) old new
   pub same : AskToKeepNothing words → new.files ≡ old.files
+
+-- the headline on these words, from the one world to the other, where they tell their bytes
+abbrev pub SaysHeadline : List Bytes → World → World → ℕ → Type 0
+SaysHeadline words old new number =
+    (before after : Bytes → Option Bytes) (input start lines : Bytes) → Parses words → old.files ≡ Some before → new.files ≡ Some after
+    → old.reader ≡ Some input → old.written ≡ Some start → new.written ≡ Some (start ++ lines)
+    → Headline (asked_of words) before after input lines number

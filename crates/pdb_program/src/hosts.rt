@@ -23,6 +23,6 @@ impl<'h, H, G> Host<'h, H, G> {
         requires { AreWorkers count }
         ensures { result ≡ count }
     {
-        Workers::new(self.rt, count, self.gate)
+        Workers::new(self.rt, self.alloc, count, self.gate)
     }
 }

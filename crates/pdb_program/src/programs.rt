@@ -3,18 +3,18 @@
 ghost use Rattle.std.specs.Prelude.{◌≡◌, ◌⊎◌, ◌++◌, Option, map, string_bytes};
 ghost use Rattle.std.specs.Io.KnownBytes.{Keeps};
 ghost use Rattle.pdb_io.specs.Shelf.{Bytes};
-ghost use Rattle.pdb_run.specs.Runs.{Ends, IsAnswered, world};
+ghost use Rattle.pdb_run.specs.Runs.{Ends, world};
 ghost use Rattle.pdb_words.specs.CommandLine.{Parses, asked_of};
 ghost use Rattle.pdb_words.specs.Faults.{IsMistaken};
 ghost use Rattle.pdb_program.specs.Headline.{Headline};
-ghost use Rattle.pdb_program.specs.Programs.{AskToKeepNothing, HasKept, IsNumberOf, plan_of};
+ghost use Rattle.pdb_program.specs.Programs.{AskToKeepNothing, RunsOn, SaysHeadline, plan_of};
 ghost use Rattle.pdb_program.specs.Refusals.{Refuses};
 
 use crate::hosts::Host;
 use crate::refusals::explain;
 use pdb_io::shelf::Shelf;
 use pdb_keep::{MakeTable, SearchNames, run_make_table, run_solve};
-use pdb_run::Status;
+use pdb_run::{BorrowedIo, Io, Status};
 use pdb_verdict::{ClaimNames, run_bound, run_optimal, run_replay, run_table};
 use pdb_words::{LogCheck, Request, Search, read_words};
 use std::alloc::Global;
@@ -45,68 +45,64 @@ pub fn run<H: Threads + Wait + Sync, S: Shelf, R: Read, W: Write, E: Write, G: G
         → W.contents out.old ≡ Some start → W.contents out.new ≡ Some (start ++ lines)
         → Headline (asked_of words) before after input lines result }
 
-    // With a yes or a no the writer got exactly the lines on the inputs that the words ask for.
-    ensures answered { let words = map string_bytes words.items in Parses words → (result ≡ 0) ⊎ (result ≡ 1)
-        → IsNumberOf (IsAnswered (plan_of (asked_of words))
-        (world (S.held shelf.old) (S.has_failed shelf.old) (R.remaining reader.old) (W.contents out.old))
-        (world (S.held shelf.new) (S.has_failed shelf.new) (R.remaining reader.new) (W.contents out.new))) result }
-
-    // In any case it is one thing that the run has cause to say, or a proper front of it where the writer failed.
-    ensures ends { let words = map string_bytes words.items in Parses words
-        → IsNumberOf (Ends (plan_of (asked_of words))
-        (world (S.held shelf.old) (S.has_failed shelf.old) (R.remaining reader.old) (W.contents out.old))
-        (world (S.held shelf.new) (S.has_failed shelf.new) (R.remaining reader.new) (W.contents out.new))) result }
-
-    // Words that don't parse.
-    ensures refuses { let words = map string_bytes words.items in (Parses words → ⊥)
-        → IsNumberOf (Refuses words (W.contents out.old) (W.contents out.new) (E.contents err.old) (E.contents err.new)) result }
-    ensures quiet { Keeps (E.contents err.old) (E.contents err.new) ⊎ IsMistaken (map string_bytes words.items) }
-
-    // With a yes what was made and checked stands under its name, and nothing else has changed.
-    ensures kept { let words = map string_bytes words.items in Parses words → result ≡ 0
-        → HasKept (asked_of words)
-        (world (S.held shelf.old) (S.has_failed shelf.old) (R.remaining reader.old) (W.contents out.old))
-        (world (S.held shelf.new) (S.has_failed shelf.new) (R.remaining reader.new) (W.contents out.new)) }
-
-    // The shelf keeps its bytes, unless the words ask for something to keep.
-    ensures same { AskToKeepNothing (map string_bytes words.items) → S.held shelf.new ≡ S.held shelf.old }
+    // With a yes or a no the writer got exactly the lines on the inputs that the words ask for, and with a yes what was made
+    // and checked stands under its name. In any case the run says one thing that it has cause to say, or a proper front of it
+    // where the writer failed; so it does of words that don't parse.
+    ensures runs { RunsOn (map string_bytes words.items)
+        (world (S.held shelf.old) (S.has_failed shelf.old)
+        (R.remaining reader.old) (W.contents out.old))
+        (world (S.held shelf.new) (S.has_failed shelf.new)
+        (R.remaining reader.new) (W.contents out.new))
+        (E.contents err.old) (E.contents err.new) result }
 {
     let host = Host { rt, alloc, gate };
-    answer(&host, words.as_slice(), shelf, reader, out, err).code()
+    let mut io = BorrowedIo { shelf, reader, out };
+    run_on(&host, words, &mut io, err)
+}
+
+/// The same on any shelf, reader and output.
+fn run_on<H: Threads + Wait + Sync, I: Io, E: Write, G: Gate + Sync>(
+    host: &Host<'_, H, G>,
+    words: Vec<String>,
+    io: &mut I,
+    err: &mut E,
+) -> u8
+    ensures same_streams { I.streams io.new ≡ I.streams io.old }
+    ensures headline { let words = map string_bytes words.items in
+        SaysHeadline words (I.world io.old) (I.world io.new) result }
+    ensures runs { let words = map string_bytes words.items in let old = I.world io.old in
+        RunsOn words old (I.world io.new) (E.contents err.old) (E.contents err.new) result }
+{
+    answer(host, words.as_slice(), io, err).code()
 }
 
 /// Does what the words ask for.
-fn answer<H: Threads + Wait + Sync, S: Shelf, R: Read, W: Write, E: Write, G: Gate + Sync>(
+fn answer<H: Threads + Wait + Sync, I: Io, E: Write, G: Gate + Sync>(
     host: &Host<'_, H, G>,
     words: &[String],
-    shelf: &mut S,
-    reader: &mut R,
-    out: &mut W,
+    io: &mut I,
     err: &mut E,
 ) -> Status
+    ensures same_streams { I.streams io.new ≡ I.streams io.old }
     ensures ends { let words = map string_bytes words.now in Parses words
-        → Ends (plan_of (asked_of words))
-        (world (S.held shelf.old) (S.has_failed shelf.old) (R.remaining reader.old) (W.contents out.old))
-        (world (S.held shelf.new) (S.has_failed shelf.new) (R.remaining reader.new) (W.contents out.new)) result }
-    ensures refuses { let words = map string_bytes words.now in (Parses words → ⊥)
-        → Refuses words (W.contents out.old) (W.contents out.new) (E.contents err.old) (E.contents err.new) result }
-    ensures quiet { Keeps (E.contents err.old) (E.contents err.new) ⊎ IsMistaken (map string_bytes words.now) }
-    ensures same { AskToKeepNothing (map string_bytes words.now) → S.held shelf.new ≡ S.held shelf.old }
+        → Ends (plan_of (asked_of words)) (I.world io.old) (I.world io.new) result }
+    ensures refuses { let words = map string_bytes words.now in
+        let old = I.world io.old in let new = I.world io.new in (Parses words → ⊥)
+        → Refuses words old.written new.written (E.contents err.old) (E.contents err.new) result }
+    ensures quiet { Keeps (E.contents err.old) (E.contents err.new)
+        ⊎ IsMistaken (map string_bytes words.now) }
+    ensures same { AskToKeepNothing (map string_bytes words.now)
+        → (I.world io.new).files ≡ (I.world io.old).files }
 {
     let alloc = host.alloc;
     match read_words(alloc, words) {
-        Ok(Request::Replay(name)) => run_replay(alloc, name, shelf, reader, out),
-        Ok(Request::Table { file, workers }) => {
-            let workers = host.workers(workers);
-            run_table(alloc, file, &workers, shelf, reader, out)
-        }
+        Ok(Request::Replay(name)) => run_replay(alloc, name, io),
+        Ok(Request::Table { file, workers }) => run_table(file, &host.workers(workers), io),
         Ok(Request::Bound(check)) => {
-            let workers = host.workers(check.workers);
-            run_bound(alloc, names_in(&check), &workers, shelf, reader, out)
+            run_bound(names_in(&check), &host.workers(check.workers), io)
         }
         Ok(Request::Optimal(check)) => {
-            let workers = host.workers(check.workers);
-            run_optimal(alloc, names_in(&check), &workers, shelf, reader, out)
+            run_optimal(names_in(&check), &host.workers(check.workers), io)
         }
         Ok(
             Request::MakeTable {
@@ -116,20 +112,18 @@ fn answer<H: Threads + Wait + Sync, S: Shelf, R: Read, W: Write, E: Write, G: Ga
                 workers,
             },
         ) => {
-            let workers = host.workers(workers);
             let command = MakeTable {
                 side,
                 mask,
                 out: name,
             };
-            run_make_table(alloc, command, &workers, shelf, reader, out)
+            run_make_table(command, &host.workers(workers), io)
         }
         Ok(Request::Solve(search)) => {
-            let workers = host.workers(search.workers);
             let names = search_names_in(&search);
-            run_solve(alloc, names, search.budget, &workers, shelf, reader, out)
+            run_solve(names, search.budget, &host.workers(search.workers), io)
         }
-        Err(fault) => explain(fault, out, err),
+        Err(fault) => explain(fault, io, err),
     }
 }
 

@@ -17,7 +17,8 @@ use crate::hosts::Host;
 use crate::programs::run;
 use crate::refusals::tell;
 use pdb_io::shelf::Shelf;
-use pdb_run::{Status, say_no_memory};
+use pdb_io::streams::put_text;
+use pdb_run::{NO_MEMORY, Status};
 use pdb_words::unreadable_word;
 use std::io;
 use std::io::{Read, Write};
@@ -43,13 +44,19 @@ pub fn start<H: Threads + Wait + Sync, S: Shelf, R: Read, W: Write, E: Write, G:
         → Headline (asked_of words) before after input lines result) }
 
     ensures runs { IfOk arguments (λ all. RunsOn (drop 1 (map string_bytes all.items))
-        (world (S.held shelf.old) (S.has_failed shelf.old) (R.remaining reader.old) (W.contents out.old))
-        (world (S.held shelf.new) (S.has_failed shelf.new) (R.remaining reader.new) (W.contents out.new))
+        (world (S.held shelf.old) (S.has_failed shelf.old)
+        (R.remaining reader.old) (W.contents out.old))
+        (world (S.held shelf.new) (S.has_failed shelf.new)
+        (R.remaining reader.new) (W.contents out.new))
         (E.contents err.old) (E.contents err.new) result) }
     ensures memory { IfErr arguments (λ e. error_kind e ≡ OutOfMemory
-        → IsNumberOf (Says memory_line Status.NoMemory (W.contents out.old) (W.contents out.new)) result × Keeps (E.contents err.old) (E.contents err.new)) }
+        → IsNumberOf
+        (Says memory_line Status.NoMemory (W.contents out.old) (W.contents out.new)) result
+        × Keeps (E.contents err.old) (E.contents err.new)) }
     ensures unreadable { IfErr arguments (λ e. error_kind e ≢ OutOfMemory
-        → Keeps (W.contents out.old) (W.contents out.new) × AppendsWholeOrFront unreadable_word (E.contents err.old) (E.contents err.new) × (result ≡ 2)) }
+        → Keeps (W.contents out.old) (W.contents out.new)
+        × AppendsWholeOrFront unreadable_word (E.contents err.old) (E.contents err.new)
+        × (result ≡ 2)) }
     ensures untouched { OnErr arguments ((shelf.new ≡ shelf.old) × (reader.new ≡ reader.old)) }
 {
     match arguments {
@@ -80,12 +87,25 @@ fn words_in(mut arguments: Vec<String>) -> Vec<String>
 /// Says why there are no words.
 fn without_words<W: Write, E: Write>(error: &io::Error, out: &mut W, err: &mut E) -> Status
     ensures memory { error_kind error.now ≡ OutOfMemory
-        → Says memory_line Status.NoMemory (W.contents out.old) (W.contents out.new) result × Keeps (E.contents err.old) (E.contents err.new) }
+        → Says memory_line Status.NoMemory (W.contents out.old) (W.contents out.new) result
+        × Keeps (E.contents err.old) (E.contents err.new) }
     ensures unreadable { error_kind error.now ≢ OutOfMemory
-        → Keeps (W.contents out.old) (W.contents out.new) × AppendsWholeOrFront unreadable_word (E.contents err.old) (E.contents err.new) × (result ≡ Status.Fault) }
+        → Keeps (W.contents out.old) (W.contents out.new)
+        × AppendsWholeOrFront unreadable_word (E.contents err.old) (E.contents err.new)
+        × (result ≡ Status.Fault) }
 {
     match error.kind() {
-        io::ErrorKind::OutOfMemory => say_no_memory(out),
+        io::ErrorKind::OutOfMemory => say_on(out, NO_MEMORY, Status::NoMemory),
         _ => tell(unreadable_word(), err),
+    }
+}
+
+/// Says a text on the output, which ends a run with this status.
+fn say_on<W: Write>(out: &mut W, text: &str, status: Status) -> Status
+    ensures { Says text.now status (W.contents out.old) (W.contents out.new) result }
+{
+    match put_text(out, text) {
+        Ok(()) => status,
+        Err(_) => Status::Fault,
     }
 }

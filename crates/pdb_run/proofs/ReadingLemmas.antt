@@ -6,7 +6,10 @@ use Rattle.std.proofs.lemmas.List.{drop_more, map-append, take_more, take-append
 use Rattle.pdb_io.specs.Shelf.{Bytes, Files}
 use Rattle.pdb_io.specs.declared.streams.ReadFault.{ReadFault}
 use Rattle.pdb_run.specs.Commands.{Wanted}
-use Rattle.pdb_run.specs.Inputs.{AreRead, IsAsTold, IsFirstUnread, IsNext, IsOverLimit, IsRead, IsReadFrom, IsUnread, left, left_by_all, wanted_of}
+use Rattle.pdb_run.specs.Inputs.{AreRead, IsAsTold, IsFirstUnread, IsOverLimit, IsRead, IsReadFrom, IsUnread, left, left_by_all, wanted_of}
+use Rattle.pdb_run.specs.Io.{HasRead, HasStopped, IsNotLoaded}
+use Rattle.pdb_run.specs.Runs.{World}
+use Rattle.pdb_run.specs.Steps.{IsNext}
 use Rattle.pdb_run.specs.declared.inputs.Input.{Input}
 use Rattle.pdb_io.specs.declared.streams.ReadFault.TheVariants.{F1, F2, Memory}
 
@@ -65,40 +68,53 @@ module _ (told actual : Option Bytes) where
 
 -- ---- the loop over inputs
 
--- the inputs up to here were read, and the reader has what they left
-pub record ReadSoFar (files : Option Files) (reader now : Option Bytes) (wanted : List Wanted) (bytes : List Bytes) : Type 0 where
-  pub read : AreRead files reader wanted bytes
-  pub tells : IsAsTold (left_by_all reader wanted) now
-
-pub ReadSoFar-next : (files actual : Option Files) (reader old new : Option Bytes) (all : List Input) (i : ℕ) (d : Input) (before after : List Bytes) → i < length all → actual ≡ files
-    → ReadSoFar files reader old (map wanted_of (take i all)) before → IsNext actual old new (wanted_of (get_or all i d)) before after
-    → ReadSoFar files reader new (map wanted_of (take (i + 1) all)) after
-ReadSoFar-next files actual reader old new all i d before after lt same so_far next_actual =
-    let next : IsNext files old new (wanted_of (get_or all i d)) before after = subst (λ (f : Option Files). IsNext f old new (wanted_of (get_or all i d)) before after) same next_actual in
+-- the next input was read behind those before it
+pub read_next : (old now new : World) (all : List Input) (i : ℕ) (d : Input) (before after : List Bytes) → i < length all → HasRead (map wanted_of (take i all)) old now before
+    → IsNext (wanted_of (get_or all i d)) now new before after → HasRead (map wanted_of (take (i + 1) all)) old new after
+read_next old now new all i d before after lt so_far next =
     let wanted = wanted_of (get_or all i d) in
-    let told = left_by_all reader (map wanted_of (take i all)) in
-    let is = read_as_told told old files wanted.name next.bytes so_far.tells next.read.0 in
+    let loaded = next.loaded in
+    let told = left_by_all old.reader (map wanted_of (take i all)) in
+    let is : IsReadFrom old.files now.reader wanted.name next.bytes = subst (λ (f : Option Files). IsReadFrom f now.reader wanted.name next.bytes) so_far.files loaded.read.0 in
+    let from = read_as_told told now.reader old.files wanted.name next.bytes so_far.behind is in
     let row : map wanted_of (take (i + 1) all) ≡ map wanted_of (take i all) ++ wanted ∷ [] = ap (map wanted_of) (take_more all i d lt) ∙ map-append wanted_of (take i all) (get_or all i d ∷ []) in
-    let are = AreRead-snoc files reader (map wanted_of (take i all)) before wanted next.bytes so_far.read (is, next.read.1) in
-    let behind = left_as_told told old new wanted.name so_far.tells next.behind in
-    let tells = subst (λ (r : Option Bytes). IsAsTold r new) (sym (left_by_all-snoc reader (map wanted_of (take i all)) wanted)) behind in
-    subst (λ (ws : List Wanted). ReadSoFar files reader new ws after) (sym row)
-    (subst (λ (bs : List Bytes). ReadSoFar files reader new (map wanted_of (take i all) ++ wanted ∷ []) bs) (sym next.added) (record { read = are; tells = tells }))
+    let are = AreRead-snoc old.files old.reader (map wanted_of (take i all)) before wanted next.bytes so_far.read (from, loaded.read.1) in
+    let behind = left_as_told told now.reader new.reader wanted.name so_far.behind loaded.behind in
+    let tells = subst (λ (r : Option Bytes). IsAsTold r new.reader) (sym (left_by_all-snoc old.reader (map wanted_of (take i all)) wanted)) behind in
+    subst (λ (ws : List Wanted). HasRead ws old new after) (sym row)
+    (subst (λ (bs : List Bytes). HasRead (map wanted_of (take i all) ++ wanted ∷ []) old new bs) (sym next.added) (record {
+      read = are;
+      behind = tells;
+      files = loaded.files ∙ so_far.files;
+      failed = loaded.failed ∙ so_far.failed;
+      written = loaded.written ∙ so_far.written;
+    }))
 
-pub first_unread : (files actual : Option Files) (reader now : Option Bytes) (failed : Bool) (all : List Input) (i : ℕ) (d : Input) (bytes : List Bytes) (why : ReadFault) → i < length all → actual ≡ files
-    → ReadSoFar files reader now (map wanted_of (take i all)) bytes → IsUnread actual now failed (wanted_of (get_or all i d)) why
-    → IsFirstUnread files reader failed (map wanted_of all) (wanted_of (get_or all i d)) why
-first_unread files actual reader now failed all i d bytes why lt same so_far is_actual =
-    let is : IsUnread files now failed (wanted_of (get_or all i d)) why = subst (λ (f : Option Files). IsUnread f now failed (wanted_of (get_or all i d)) why) same is_actual in
+-- the next input was not read
+pub stopped : (old now new : World) (all : List Input) (i : ℕ) (d : Input) (bytes : List Bytes) (why : ReadFault) → i < length all
+    → HasRead (map wanted_of (take i all)) old now bytes → IsNotLoaded (wanted_of (get_or all i d)) now new why
+    → HasStopped (map wanted_of all) old new (wanted_of (get_or all i d)) why
+stopped old now new all i d bytes why lt so_far failed =
+    let wanted = wanted_of (get_or all i d) in
+    let before = map wanted_of (take i all) in
+    let is : IsUnread old.files now.reader new.failed wanted why = subst (λ (f : Option Files). IsUnread f now.reader new.failed wanted why) so_far.files failed.cause in
     record {
-      before = map wanted_of (take i all);
-      behind = map wanted_of (drop (i + 1) all);
-      order = ap (map wanted_of) (sym (take-append-drop i all)) ∙ map-append wanted_of (take i all) (drop i all)
-          ∙ ap (λ (ws : List Input). map wanted_of (take i all) ++ map wanted_of ws) (drop_more all i d lt);
-      bytes = bytes;
-      read = so_far.read;
-      cause = unread_as_told (left_by_all reader (map wanted_of (take i all))) now files failed (wanted_of (get_or all i d)) why so_far.tells is;
+      first = record {
+        before = before;
+        behind = map wanted_of (drop (i + 1) all);
+        order = ap (map wanted_of) (sym (take-append-drop i all)) ∙ map-append wanted_of (take i all) (drop i all)
+            ∙ ap (λ (ws : List Input). before ++ map wanted_of ws) (drop_more all i d lt);
+        bytes = bytes;
+        read = so_far.read;
+        cause = unread_as_told (left_by_all old.reader before) now.reader old.files new.failed wanted why so_far.behind is;
+      };
+      files = failed.files ∙ so_far.files;
+      written = failed.written ∙ so_far.written;
     }
+
+-- the inputs are these
+pub read_of : (all wanted : List Wanted) (old new : World) (bytes : List Bytes) → all ≡ wanted → HasRead all old new bytes → HasRead wanted old new bytes
+read_of all wanted old new bytes same has = subst (λ (ws : List Wanted). HasRead ws old new bytes) same has
 
 -- there are as many bytes as inputs
 pub inputs_match : {A : Type 0} (files : Option Files) (reader : Option Bytes) (all : List Input) (wanted : List Wanted) (inputs : List (Vec ℕ A))

@@ -5,7 +5,6 @@ use Rattle.pdb_io.specs.Shelf.{Bytes}
 use Rattle.pdb_run.specs.Writing.{all_files, digests_of, list_of}
 pub use Rattle.pdb_run.specs.Writing.{all_bytes}
 use Rattle.pdb_run.specs.Commands.{Reply}
-use Rattle.pdb_run.specs.Runs.{kept_after}
 use Rattle.pdb_run.specs.declared.answers.Answer.{Answer}
 use Rattle.pdb_run.specs.declared.answers.Digested.{Digested}
 use Rattle.pdb_run.specs.declared.answers.Digested.TheVariants as digested
@@ -22,10 +21,6 @@ made_file answer = option_map (λ v. v.items) answer.made
 -- all that is written of an answer
 abbrev pub answer_text : Answer → Bytes
 answer_text answer = digest_lines answer.digested ++ (digests_of (list_of (made_file answer)) ++ answer.lines.bytes)
-
--- the file that is kept of it
-abbrev pub kept_of : Answer → Option Bytes
-kept_of answer = kept_after answer.is_yes (made_file answer)
 
 -- the answer says this reply: the digest lines are those of the reply's files
 pub record IsReplyOf (answer : Answer) (reply : Reply) : Type 0 where

@@ -61,18 +61,9 @@ pub record IsFirstUnread (files : Option Files) (reader : Option Bytes) (failed 
   pub read : AreRead files reader before bytes
   pub cause : IsUnread files (left_by_all reader before) failed wanted why
 
--- ---- steps of reading
-
 -- where it is told what the reader has, it has that
 abbrev pub IsAsTold : Option Bytes → Option Bytes → Type 0
 IsAsTold told reader = IfSome told (λ bytes. reader ≡ Some bytes)
-
--- this input was read behind those before it
-pub record IsNext (files : Option Files) (old_reader new_reader : Option Bytes) (wanted : Wanted) (old new : List Bytes) : Type 0 where
-  pub bytes : Bytes
-  pub read : IsRead files old_reader wanted bytes
-  pub added : new ≡ old ++ bytes ∷ []
-  pub behind : IsAsTold (left old_reader wanted.name) new_reader
 
 -- ---- an input as the code has it
 

@@ -1,7 +1,11 @@
+-- What public contracts say.
 pub mod Answers
 pub mod Commands
 pub mod Inputs
-pub mod Pages
+pub mod Io
 pub mod Runs
 pub mod Statuses
 pub mod Writing
+-- What proofs alone need.
+pub mod Pages
+pub mod Steps

@@ -34,7 +34,8 @@ pub struct Answer<'a> {
     pub lines: Lines,
     /// Whether it is a yes.
     pub is_yes: bool,
-    ghost made_ready: { option_map (λ d. d.items) made_digest ≡ option_map (λ _. digests_of (list_of (option_map (λ v. v.items) made))) made_digest },
+    ghost made_ready: { option_map (λ d. d.items) made_digest
+        ≡ option_map (λ _. digests_of (list_of (option_map (λ v. v.items) made))) made_digest },
 }
 
 /// Pieces of text in one.

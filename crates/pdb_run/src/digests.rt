@@ -43,7 +43,8 @@ pub fn beside<R: Threads + Sync, T, F: FnOnce() -> T>(
         return (None, check());
     }
     let digests = || -> Made
-        ensures { IfOk result (λ digests. digests.items ≡ digests_of (all_files files.entry.now last.entry)) }
+        ensures { IfOk result
+            (λ digests. digests.items ≡ digests_of (all_files files.entry.now last.entry)) }
     { digests_in_groups(rt, workers, files, last) };
     let (digests, answer) = join(rt, digests, check);
     (digests.ok(), answer)
@@ -110,7 +111,8 @@ fn digests_in_groups<R: Threads + Sync>(
     { digests_in_groups(rt, groups / 2, front, None) };
     let digests_behind = || -> Made
         requires { 1 < groups }
-        ensures { IfOk result (λ digests. digests.items ≡ digests_of (all_files behind.entry.now last.entry)) }
+        ensures { IfOk result
+            (λ digests. digests.items ≡ digests_of (all_files behind.entry.now last.entry)) }
     { digests_in_groups(rt, groups - groups / 2, behind, last) };
     let (front, behind) = join(rt, front_digests, digests_behind);
     in_order(front, behind)

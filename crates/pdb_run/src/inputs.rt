@@ -1,13 +1,14 @@
 //! The inputs of a command.
 
-ghost use Rattle.std.specs.Prelude.{◌≡◌, map, IfOk, IfErr, OnOk};
-ghost use Rattle.pdb_run.specs.Inputs.{AreRead, IsAsTold, IsFirstUnread, IsNext, IsRead, IsUnread, left, left_by_all, wanted_of};
+ghost use Rattle.std.specs.Prelude.{◌≡◌, map, IfErr, IfOk, OnOk};
 ghost use Rattle.pdb_run.specs.Answers.{all_bytes};
+ghost use Rattle.pdb_run.specs.Inputs.{wanted_of};
+ghost use Rattle.pdb_run.specs.Io.{HasRead, HasStopped, IsNotLoaded};
+ghost use Rattle.pdb_run.specs.Steps.{IsNext};
 
-use pdb_io::shelf::Shelf;
-use pdb_io::streams::{ReadFault, read_all};
+use crate::io::Io;
+use pdb_io::streams::ReadFault;
 use std::alloc::Global;
-use std::io::Read;
 
 /// An input: its name, or none for the reader, and the most bytes that it may have.
 #[derive(Clone, Copy)]
@@ -24,21 +25,20 @@ pub struct Unread<'a> {
 }
 
 /// The bytes of the inputs, read in their order. The first that fails ends it.
-pub fn load_all<'a, S: Shelf, R: Read>(
+pub fn load_all<'a, I: Io>(
     alloc: Global,
     wanted: &[Input<'a>],
-    shelf: &mut S,
-    reader: &mut R,
+    io: &mut I,
 ) -> Result<Vec<Vec<u8>>, Unread<'a>>
-    ensures read { IfOk result (λ inputs. AreRead (S.held shelf.old) (R.remaining reader.old) (map wanted_of wanted.now) (all_bytes inputs.items)) }
-    ensures behind { OnOk result (IsAsTold (left_by_all (R.remaining reader.old) (map wanted_of wanted.now)) (R.remaining reader.new)) }
-    ensures calm { OnOk result (S.has_failed shelf.new ≡ S.has_failed shelf.old) }
-    ensures unread { IfErr result (λ e. IsFirstUnread (S.held shelf.old) (R.remaining reader.old) (S.has_failed shelf.new) (map wanted_of wanted.now) (wanted_of e.input) e.why) }
-    ensures same { S.held shelf.new ≡ S.held shelf.old }
+    ensures same_streams { I.streams io.new ≡ I.streams io.old }
+    ensures read { let all = map wanted_of wanted.now in IfOk result
+        (λ inputs. HasRead all (I.world io.old) (I.world io.new) (all_bytes inputs.items)) }
+    ensures unread { let all = map wanted_of wanted.now in IfErr result
+        (λ e. HasStopped all (I.world io.old) (I.world io.new) (wanted_of e.input) e.why) }
 {
     let mut inputs = Vec::new(alloc);
     for input in wanted {
-        if let Err(why) = load_next(alloc, input, shelf, reader, &mut inputs) {
+        if let Err(why) = load_next(alloc, input, io, &mut inputs) {
             return Err(Unread { input: *input, why });
         }
     }
@@ -46,40 +46,20 @@ pub fn load_all<'a, S: Shelf, R: Read>(
 }
 
 /// Reads one input, and adds its bytes to those before it.
-fn load_next<S: Shelf, R: Read>(
+fn load_next<I: Io>(
     alloc: Global,
     input: &Input<'_>,
-    shelf: &mut S,
-    reader: &mut R,
+    io: &mut I,
     inputs: &mut Vec<Vec<u8>>,
 ) -> Result<(), ReadFault>
-    ensures read { OnOk result (IsNext (S.held shelf.old) (R.remaining reader.old) (R.remaining reader.new) (wanted_of input.now) (all_bytes inputs.old.items) (all_bytes inputs.new.items)) }
-    ensures calm { OnOk result (S.has_failed shelf.new ≡ S.has_failed shelf.old) }
-    ensures unread { IfErr result (λ why. IsUnread (S.held shelf.old) (R.remaining reader.old) (S.has_failed shelf.new) (wanted_of input.now) why) }
-    ensures same { S.held shelf.new ≡ S.held shelf.old }
+    ensures same_streams { I.streams io.new ≡ I.streams io.old }
+    ensures read { let before = all_bytes inputs.old.items in let after = all_bytes inputs.new.items in
+        OnOk result (IsNext (wanted_of input.now) (I.world io.old) (I.world io.new) before after) }
+    ensures unread { IfErr result (IsNotLoaded (wanted_of input.now) (I.world io.old) (I.world io.new)) }
 {
-    let bytes = load(alloc, input, shelf, reader)?;
+    let bytes = io.load(alloc, input)?;
     match inputs.push(bytes) {
         Ok(()) => Ok(()),
         Err(_) => Err(ReadFault::Memory),
-    }
-}
-
-/// The bytes of an input.
-fn load<S: Shelf, R: Read>(
-    alloc: Global,
-    input: &Input<'_>,
-    shelf: &mut S,
-    reader: &mut R,
-) -> Result<Vec<u8>, ReadFault>
-    ensures read { IfOk result (λ bytes. IsRead (S.held shelf.old) (R.remaining reader.old) (wanted_of input.now) bytes.items) }
-    ensures behind { OnOk result (IsAsTold (left (R.remaining reader.old) (wanted_of input.now).name) (R.remaining reader.new)) }
-    ensures calm { OnOk result (S.has_failed shelf.new ≡ S.has_failed shelf.old) }
-    ensures unread { IfErr result (λ why. IsUnread (S.held shelf.old) (R.remaining reader.old) (S.has_failed shelf.new) (wanted_of input.now) why) }
-    ensures same { S.held shelf.new ≡ S.held shelf.old }
-{
-    match input.name {
-        Some(name) => shelf.load(alloc, name, input.limit),
-        None => read_all(alloc, reader, input.limit),
     }
 }

@@ -5,6 +5,7 @@ mod answers;
 mod commands;
 mod digests;
 mod inputs;
+mod io;
 mod pages;
 mod runs;
 mod statuses;
@@ -14,8 +15,10 @@ pub use answers::{Answer, Digested, LINES_LEN, Lines, lines};
 pub use commands::Command;
 pub use digests::{DIGEST_LEN, DIGESTS_LEN, Digests, FILES_BESIDE, beside, with_digest};
 pub use inputs::{Input, Unread, load_all};
+pub use io::{BorrowedIo, Io};
 pub use runs::{
     NO_MEMORY, conclude, keep_and_conclude, read_inputs, read_inputs_and_try, say_no_memory,
+    say_text,
 };
 pub use statuses::Status;
 pub use writing::{say, say_digests};

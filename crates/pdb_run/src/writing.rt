@@ -1,9 +1,9 @@
 //! What is written of an answer.
 
-ghost use Rattle.std.specs.Prelude.{◌++◌, OnOk, OnErr};
+ghost use Rattle.std.specs.Prelude.{◌++◌, map, OnOk, OnErr};
 ghost use Rattle.std.specs.Io.KnownBytes.{Appends};
 ghost use Rattle.pdb_io.specs.Streams.{AppendsFront};
-ghost use Rattle.pdb_run.specs.Writing.{all_files, digests_of, list_of};
+ghost use Rattle.pdb_run.specs.Writing.{all_files, digests_of, list_of, named_line, shown_byte};
 ghost use Rattle.pdb_run.specs.Pages.{Gathers};
 ghost use Rattle.pdb_run.specs.Answers.{answer_text, digest_lines, made_file};
 
@@ -66,5 +66,19 @@ pub fn say_digests<W: Write>(
 {
     let mut page = Page::new();
     page.add_digests(files, last, out)?;
+    page.write(out)
+}
+
+/// Writes a text, a name as a line shows it, and the line's end.
+pub(crate) fn put_named<W: Write>(text: &str, name: &str, out: &mut W) -> Result<(), WriteFault>
+    ensures whole { let line = named_line text.now (map shown_byte name.now) in
+        OnOk result (Appends (W.contents out.old) (W.contents out.new) line) }
+    ensures front { let line = named_line text.now (map shown_byte name.now) in
+        OnErr result (AppendsFront (W.contents out.old) (W.contents out.new) line) }
+{
+    let mut page = Page::new();
+    page.add(text.as_bytes(), out)?;
+    page.add_name(name, out)?;
+    page.add(b"\n", out)?;
     page.write(out)
 }

@@ -24,10 +24,10 @@ use Rattle.set_sum.proofs.BundleLemmas.{is_bundle}
 use Rattle.log_check.proofs.GoodLemmas.{good_log_bounds}
 use Rattle.log_check.proofs.AnswerLemmas.{good_or_fault, one_bound, one_fault}
 use Rattle.pdb_io.specs.Shelf.{Bytes}
-use Rattle.pdb_verdict.specs.Bound.{IsBoundFor, IsBoundOfText, IsBoundResult, IsProvedBound, IsRefusedLog, IsResultOfBoard, TakesMemoryForBound, of_proof}
-use Rattle.pdb_verdict.specs.Bundles.{AreExactFiles, AreRefused, AreRefusedSets, IsBundleOfFiles, IsFirstRefused, TakesMemoryForTables, parts_for}
-use Rattle.pdb_verdict.specs.Refusals.{IsFoundBy}
-use Rattle.pdb_verdict.specs.Steps.{IsCauseForBundle, IsFoundFor, IsFoundOver, of_bundle, of_log, or_failure}
+use Rattle.pdb_verdict.specs.Bound.{IsBoundFor, IsBoundOfText, IsBoundResult, IsFoundOver, IsProvedBound, IsRefusedLog, IsResultOfBoard, TakesMemoryForBound, of_log, of_proof}
+use Rattle.pdb_verdict.specs.Bundles.{AreExactFiles, AreRefused, AreRefusedSets, IsBundleOfFiles, IsCauseForBundle, IsFirstRefused, TakesMemoryForTables, parts_for}
+use Rattle.pdb_verdict.specs.Refusals.{IsFoundBy, or_failure}
+use Rattle.pdb_verdict.specs.Steps.{IsFoundFor, of_bundle}
 use Rattle.pdb_verdict.specs.declared.refusals.BoundRefusal.{BoundRefusal}
 use Rattle.pdb_verdict.specs.declared.refusals.BundleRefusal.{BundleRefusal}
 use Rattle.pdb_verdict.specs.declared.refusals.BundleRefusal.TheVariants as bundle

@@ -8,9 +8,9 @@ use Rattle.pdb_io.specs.Shelf.{Bytes}
 use Rattle.pdb_verdict.specs.Bound.{IsBoundFor, IsProvedBound}
 use Rattle.pdb_verdict.specs.Bundles.{TakesMemoryForTables}
 use Rattle.pdb_verdict.specs.Optimal.{IsLeastCount, IsOptimum, IsOptimumResult, IsProvedOptimum, IsResultOfPuzzle, TakesMemoryForOptimum, of_halves}
-use Rattle.pdb_verdict.specs.Refusals.{IsFoundBy}
+use Rattle.pdb_verdict.specs.Refusals.{IsFoundBy, or_failure}
 use Rattle.pdb_verdict.specs.Replay.{IsSolvedPuzzle, solved_parts}
-use Rattle.pdb_verdict.specs.Steps.{IsFoundFor, or_failure}
+use Rattle.pdb_verdict.specs.Steps.{IsFoundFor}
 use Rattle.pdb_verdict.specs.declared.refusals.Failure.{Failure}
 use Rattle.pdb_verdict.specs.declared.refusals.OptimalRefusal.{OptimalRefusal}
 use Rattle.pdb_verdict.specs.declared.refusals.OptimalRefusal.TheVariants.{O1}

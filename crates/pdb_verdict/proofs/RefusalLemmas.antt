@@ -1,7 +1,6 @@
 -- What is told of a result is one answer, and a yes exactly where something is found.
 use Rattle.std.proofs.Common.{◌≡◌, ◌≢◌, ◌∙◌, ◌↔◌, ◌⊎◌, Result, Ok, Err, ap, inl, inr, refl, subst, sym}
-use Rattle.pdb_verdict.specs.Refusals.{IsFoundBy, IsTold, answer_of, fault_of_bound, fault_of_bundle, fault_of_optimal, fault_of_proof, fault_of_replay, told_as}
-use Rattle.pdb_verdict.specs.Steps.{or_failure, or_memory}
+use Rattle.pdb_verdict.specs.Refusals.{IsFoundBy, IsTold, answer_of, fault_of_bound, fault_of_bundle, fault_of_optimal, fault_of_proof, fault_of_replay, or_failure, or_memory, told_as}
 use Rattle.pdb_verdict.specs.declared.refusals.BoundRefusal.{BoundRefusal}
 use Rattle.pdb_verdict.specs.declared.refusals.BoundRefusal.TheVariants as bound
 use Rattle.pdb_verdict.specs.declared.refusals.BundleRefusal.{BundleRefusal}

@@ -12,9 +12,9 @@ use Rattle.pdb_verdict.specs.Claims.{ClaimTakesMemory, IsClaimOn, IsClaimReply, 
 use Rattle.pdb_verdict.specs.Inputs.{Given, puzzle_text, table_file, bound_claim, optimum_claim}
 use Rattle.pdb_verdict.specs.Lines.{Tells, digested_of}
 use Rattle.pdb_verdict.specs.Optimal.{IsOptimumResult, TakesMemoryForOptimum, of_halves}
-use Rattle.pdb_verdict.specs.Refusals.{fault_of_bound, fault_of_optimal, fault_of_replay}
+use Rattle.pdb_verdict.specs.Refusals.{fault_of_bound, fault_of_optimal, fault_of_replay, or_failure}
 use Rattle.pdb_verdict.specs.Replay.{IsReplayResult}
-use Rattle.pdb_verdict.specs.Steps.{IsFoundFor, or_failure}
+use Rattle.pdb_verdict.specs.Steps.{IsFoundFor}
 use Rattle.pdb_verdict.specs.Table.{IsTableResult, exact_verdict}
 use Rattle.pdb_verdict.specs.Verdicts.{IsAnswerTo, IsResult, TakesMemory}
 use Rattle.pdb_verdict.specs.declared.claims.Claimed.{Claimed}

@@ -10,7 +10,8 @@ use Rattle.tab_rule.specs.declared.tables.TableRefusal.{TableRefusal}
 use Rattle.tab_rule.proofs.OneResultLemmas.{IsCensusOf-one, IsTableFaultOf-one, exact_one, exact_or_fault}
 use Rattle.pdb_io.specs.Shelf.{Bytes}
 use Rattle.pdb_verdict.specs.Inputs.{table_file}
-use Rattle.pdb_verdict.specs.Table.{IsExactFor, IsTableResult, of_table}
+use Rattle.pdb_verdict.specs.Steps.{of_table}
+use Rattle.pdb_verdict.specs.Table.{IsExactFor, IsTableResult}
 use Rattle.pdb_verdict.specs.Verdicts.{IsAnswerTo}
 
 module _ (file : List ℕ) where

@@ -5,7 +5,9 @@ use Rattle.puz_board.specs.declared.texts.BoardFault.{BoardFault}
 use Rattle.set_sum.specs.Bounds.{IsBounded}
 use Rattle.set_sum.specs.Bundles.{BundleView}
 use Rattle.log_check.specs.GoodLogs.{IsGoodFile}
-use Rattle.log_check.specs.LogFaults.{IsFaultOf}
+use Rattle.log_check.specs.LogFaults.{IsCauseOf, IsFaultOf}
+use Rattle.log_check.specs.declared.faults.LogFault.{LogFault}
+use Rattle.log_check.specs.declared.faults.LogFault.TheVariants as log_failure
 use Rattle.log_check.specs.declared.faults.LogRefusal.{LogRefusal}
 use Rattle.pdb_io.specs.Shelf.{Bytes}
 use Rattle.pdb_run.specs.Commands.{Plan, Reply, Wanted, plan}
@@ -14,8 +16,11 @@ use Rattle.pdb_verdict.specs.Inputs.{bound_claim}
 use Rattle.pdb_verdict.specs.Limits.{a_log, a_table, a_text}
 use Rattle.pdb_verdict.specs.Lines.{Tells}
 use Rattle.pdb_verdict.specs.Refusals.{IsTold, fault_of_bound}
+use Rattle.pdb_verdict.specs.declared.claims.ClaimNames.{ClaimNames}
 use Rattle.pdb_verdict.specs.declared.refusals.BoundRefusal.{BoundRefusal}
 use Rattle.pdb_verdict.specs.declared.refusals.BoundRefusal.TheVariants.{Board, Proof}
+use Rattle.pdb_verdict.specs.declared.refusals.Failure.{Failure}
+use Rattle.pdb_verdict.specs.declared.refusals.Failure.TheVariants.{Memory, Refused}
 use Rattle.pdb_verdict.specs.declared.refusals.ProofRefusal.{ProofRefusal}
 use Rattle.pdb_verdict.specs.declared.refusals.ProofRefusal.TheVariants.{Bundle, Log}
 use Rattle.pdb_verdict.specs.declared.verdicts.Fault.{Fault}
@@ -78,6 +83,19 @@ IsBoundResult fold text sets log tables result = IsResultOfBoard fold (board_of_
 abbrev pub IsBoundTold : Bool → Bytes → Bytes → Bytes → List Bytes → Result Verdict Fault → Type 0
 IsBoundTold fold text sets log tables answer = IsTold verdict.Bound fault_of_bound (IsBoundResult fold text sets log tables) answer
 
+-- ---- over a bundle
+
+-- what is found of a log over a bundle, as what is found for the files
+abbrev pub of_log : Result ℕ LogFault → Result ℕ (Failure ProofRefusal)
+of_log (Ok bound) = Ok bound
+of_log (Err (log_failure.Refused refused)) = Err (Refused (Log refused))
+of_log (Err log_failure.Memory) = Err Memory
+
+-- the bound for a board over a bundle, or why there is none, or want of memory
+abbrev pub IsFoundOver : BundleView → List ℕ → Bytes → Result ℕ LogFault → Type 0
+IsFoundOver bundle board log (Ok bound) = IsGoodFile bundle board log bound
+IsFoundOver bundle board log (Err cause) = IsCauseOf cause bundle board log
+
 -- ---- the command
 
 -- the board text, the set text, the log file and the table files, in this order
@@ -104,3 +122,8 @@ BoundTakesMemory inputs = ⊥
 -- for any number of workers
 abbrev pub bound_plan : Bool → Bytes → Bytes → Bytes → List Bytes → Plan
 bound_plan fold text sets log tables = plan (bound_inputs text sets log tables) (IsBoundReply fold) BoundTakesMemory
+
+-- a plan of a check of a log, under the names that the code has
+abbrev pub over_names : (Bool → Bytes → Bytes → Bytes → List Bytes → Plan) → ClaimNames → Plan
+over_names plan_for names =
+    plan_for names.fold names.text.now names.sets.now names.log.now (map (λ name. name.now) names.tables.now)

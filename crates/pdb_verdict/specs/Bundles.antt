@@ -11,8 +11,10 @@ use Rattle.set_sum.specs.declared.faults.SetFault.{SetFault}
 use Rattle.set_sum.specs.declared.parts.Part.{Part}
 use Rattle.set_sum.specs.declared.parts.Part.TheVariants.{Folded, Full}
 use Rattle.pdb_io.specs.Shelf.{Bytes}
+use Rattle.pdb_verdict.specs.Refusals.{IsCauseBy}
 use Rattle.pdb_verdict.specs.declared.refusals.BundleRefusal.{BundleRefusal}
 use Rattle.pdb_verdict.specs.declared.refusals.BundleRefusal.TheVariants.{File, Sets}
+use Rattle.pdb_verdict.specs.declared.refusals.Failure.{Failure}
 
 -- ---- what a bundle is
 
@@ -65,3 +67,7 @@ AreRefused fold files sets (Sets refused) = AreRefusedSets fold files sets refus
 abbrev pub TakesMemoryForTables : List Bytes → Type 0
 TakesMemoryForTables [] = ⊥
 TakesMemoryForTables (file ∷ files) = (table : Table) × IsTableFile table file
+
+-- why there isn't a bundle of the files and the set text: they are refused, or want of memory
+abbrev pub IsCauseForBundle : Bool → List Bytes → Bytes → Failure BundleRefusal → Type 0
+IsCauseForBundle fold files sets cause = IsCauseBy (AreRefused fold files sets) (TakesMemoryForTables files) cause

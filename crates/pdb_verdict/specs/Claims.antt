@@ -7,9 +7,8 @@ use Rattle.pdb_run.specs.Commands.{Plan, Reply, plan}
 use Rattle.pdb_verdict.specs.Bound.{BoundTakesMemory, IsBoundReply, bound_inputs, of_proof}
 use Rattle.pdb_verdict.specs.Inputs.{Given, bound_claim, optimum_claim}
 use Rattle.pdb_verdict.specs.Optimal.{IsOptimumReply, OptimumTakesMemory, of_halves}
-use Rattle.pdb_verdict.specs.Refusals.{answer_of, fault_of_bound, fault_of_optimal}
+use Rattle.pdb_verdict.specs.Refusals.{answer_of, fault_of_bound, fault_of_optimal, or_failure}
 use Rattle.pdb_verdict.specs.Replay.{solved_parts}
-use Rattle.pdb_verdict.specs.Steps.{or_failure}
 use Rattle.pdb_verdict.specs.declared.claims.Claimed.{Claimed}
 use Rattle.pdb_verdict.specs.declared.claims.Claimed.TheVariants.{Bound, Optimum}
 use Rattle.pdb_verdict.specs.declared.refusals.Failure.{Failure}

@@ -1,6 +1,6 @@
+-- What public contracts say.
 pub mod Bound
 pub mod Bundles
-pub mod Claims
 pub mod Inputs
 pub mod Laws
 pub mod Limits
@@ -8,6 +8,8 @@ pub mod Lines
 pub mod Optimal
 pub mod Refusals
 pub mod Replay
-pub mod Steps
 pub mod Table
 pub mod Verdicts
+-- What proofs alone need, here and of the commands that make.
+pub mod Claims
+pub mod Steps

@@ -4,14 +4,18 @@ use Rattle.std.specs.Prelude.{◌≡◌, ℕ, Bool, ◌==◌, if◌then◌else�
 use Rattle.puz_board.specs.Paths.{IsSolution}
 use Rattle.puz_board.specs.PuzzleTexts.{puzzle_parts}
 use Rattle.set_sum.specs.Bounds.{IsBounded}
+use Rattle.set_sum.specs.Bundles.{BundleView}
+use Rattle.log_check.specs.declared.faults.LogFault.{LogFault}
 use Rattle.pdb_io.specs.Shelf.{Bytes}
 use Rattle.pdb_run.specs.Commands.{Plan, Reply, Wanted, plan}
-use Rattle.pdb_verdict.specs.Bound.{IsBoundFor, IsProvedBound, bound_inputs}
+use Rattle.pdb_verdict.specs.Bound.{IsBoundFor, IsFoundOver, IsProvedBound, bound_inputs, of_log}
 use Rattle.pdb_verdict.specs.Bundles.{TakesMemoryForTables}
 use Rattle.pdb_verdict.specs.Inputs.{optimum_claim}
 use Rattle.pdb_verdict.specs.Lines.{Tells}
-use Rattle.pdb_verdict.specs.Refusals.{IsTold, fault_of_optimal}
+use Rattle.pdb_verdict.specs.Refusals.{IsTold, fault_of_optimal, or_failure}
 use Rattle.pdb_verdict.specs.Replay.{IsSolvedPuzzle, solved_parts}
+use Rattle.pdb_verdict.specs.declared.refusals.Failure.{Failure}
+use Rattle.pdb_verdict.specs.declared.refusals.Failure.TheVariants.{Refused}
 use Rattle.pdb_verdict.specs.declared.refusals.OptimalRefusal.{OptimalRefusal}
 use Rattle.pdb_verdict.specs.declared.refusals.OptimalRefusal.TheVariants.{O1, Proof, Replay}
 use Rattle.pdb_verdict.specs.declared.refusals.ProofRefusal.{ProofRefusal}
@@ -60,6 +64,12 @@ IsOptimumResult fold puzzle sets log tables result = IsResultOfPuzzle fold (solv
 abbrev pub IsOptimumTold : Bool → Bytes → Bytes → Bytes → List Bytes → Result Verdict Fault → Type 0
 IsOptimumTold fold puzzle sets log tables answer =
     IsTold verdict.Optimal fault_of_optimal (IsOptimumResult fold puzzle sets log tables) answer
+
+-- the result on a puzzle text and a log over a bundle, or want of memory
+abbrev pub IsOptimumOver : BundleView → Result (List ℕ × ℕ) ReplayRefusal → Bytes → Result ℕ (Failure OptimalRefusal) → Type 0
+IsOptimumOver bundle (Err refused) log result = result ≡ Err (Refused (Replay refused))
+IsOptimumOver bundle (Ok solved) log result =
+    (found : Result ℕ LogFault) × IsFoundOver bundle solved.0 log found × (result ≡ or_failure (of_halves solved.1) (of_log found))
 
 -- ---- the command
 

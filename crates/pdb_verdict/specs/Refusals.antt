@@ -99,3 +99,14 @@ module _ {A R : Type 0} where
 abbrev pub IsCauseBy : {R : Type 0} → (R → Type 0) → Type 0 → Failure R → Type 0
 IsCauseBy IsRefused TakesMemory (Refused refused) = IsRefused refused
 IsCauseBy IsRefused TakesMemory Memory = TakesMemory
+
+-- a result without want of memory, as one that might have it
+abbrev pub or_memory : {A R : Type 0} → Result A R → Result A (Failure R)
+or_memory (Ok found) = Ok found
+or_memory (Err refused) = Err (Refused refused)
+
+-- a step behind another, whose want of memory stays
+abbrev pub or_failure : {A B R Q : Type 0} → (Result A R → Result B Q) → Result A (Failure R) → Result B (Failure Q)
+or_failure step (Ok found) = or_memory (step (Ok found))
+or_failure step (Err (Refused refused)) = or_memory (step (Err refused))
+or_failure step (Err Memory) = Err Memory

@@ -7,8 +7,6 @@ use Rattle.tab_rule.specs.Counts.{IsCensusOf}
 use Rattle.tab_rule.specs.ExactTables.{IsExactFile}
 use Rattle.tab_rule.specs.TableFaults.{IsTableFaultOf}
 use Rattle.tab_rule.specs.declared.census.Census.{Census}
-use Rattle.tab_rule.specs.declared.tables.TableFault.{TableFault}
-use Rattle.tab_rule.specs.declared.tables.TableFault.TheVariants.{Memory, Refused}
 use Rattle.tab_rule.specs.declared.tables.TableRefusal.{TableRefusal}
 use Rattle.pdb_io.specs.Shelf.{Bytes}
 use Rattle.pdb_run.specs.Commands.{Plan, Reply, Wanted, plan}
@@ -46,11 +44,6 @@ exact_verdict found = verdict.Exact found.0 found.1 found.2
 -- the answer tells it
 abbrev pub IsTableTold : Bytes → Result Verdict Fault → Type 0
 IsTableTold file answer = IsTold exact_verdict fault.Table (IsTableResult file) answer
-
--- why a table file is refused, or want of memory
-abbrev pub of_table : TableFault → Fault
-of_table (Refused refused) = fault.Table refused
-of_table Memory = fault.Memory
 
 -- ---- the command
 

@@ -1,74 +1,49 @@
 //! Whether a log proves that no solution of a board has fewer moves than its bound.
 
-ghost use Rattle.std.specs.Prelude.{◌≡◌, ◌≤◌, ◌+◌, ◌∷◌, ◌++◌, [], true, length, map, IfOk};
+ghost use Rattle.std.specs.Prelude.{◌≡◌, ◌≤◌, ◌+◌, ◌∷◌, ◌++◌, [], true, length, IfOk};
 ghost use Rattle.pdb_run.specs.Answers.{all_bytes};
-ghost use Rattle.pdb_run.specs.Runs.{Ends, world};
 ghost use Rattle.pdb_run.specs.Writing.{digest_line, digests_of};
-ghost use Rattle.pdb_verdict.specs.Bound.{IsBoundResult, TakesMemoryForBound, bound_plan, of_proof};
+ghost use Rattle.pdb_verdict.specs.Bound.{IsBoundResult, IsFoundOver, TakesMemoryForBound, of_log, of_proof};
 ghost use Rattle.pdb_verdict.specs.Inputs.{bound_claim};
-ghost use Rattle.pdb_verdict.specs.Refusals.{IsFoundBy};
-ghost use Rattle.pdb_verdict.specs.Steps.{IsFoundFor, IsFoundOver, of_log, or_failure};
+ghost use Rattle.pdb_verdict.specs.Refusals.{IsFoundBy, or_failure};
+ghost use Rattle.pdb_verdict.specs.Steps.{IsFoundFor};
 ghost use Rattle.pdb_verdict.specs.Verdicts.{HoldsOfSolutions, IsAnswerTo};
 
 use crate::bundles::{Tables, read_bundle, without_bundle};
-use crate::claims::{Claim, ClaimNames, Claimed, run_claim};
 use crate::folding::fold_bundle;
 use crate::refusals::{BoundRefusal, Failure, ProofRefusal, answer_of_bound};
 use crate::verdicts::{Fault, Verdict};
 use crate::workers::Workers;
 use log_check::{LogFault, check_log};
-use pdb_io::shelf::Shelf;
-use pdb_run::{DIGEST_LEN, DIGESTS_LEN, Digests, FILES_BESIDE, Status, with_digest};
+use pdb_run::{DIGEST_LEN, DIGESTS_LEN, Digests, FILES_BESIDE, with_digest};
 use puz_board::Board;
 use set_sum::Bundle;
-use std::alloc::Global;
-use std::io::{Read, Write};
 use std::sync::Wait;
 use std::thread::Threads;
 use work_run::Gate;
 
-/// A whole run of `bound`, whoever checks the tables and the log.
-#[inline(never)] // so that the stack has the values of one command alone
-pub fn run_bound<H: Threads + Wait + Sync, G: Gate + Sync, S: Shelf, R: Read, W: Write>(
-    alloc: Global,
-    names: ClaimNames<'_, '_>,
-    workers: &Workers<'_, H, G>,
-    shelf: &mut S,
-    reader: &mut R,
-    out: &mut W,
-) -> Status
-    ensures { Ends (bound_plan names.entry.fold names.entry.text.now names.entry.sets.now names.entry.log.now (map (λ name. name.now) names.entry.tables.now))
-        (world (S.held shelf.old) (S.has_failed shelf.old) (R.remaining reader.old) (W.contents out.old))
-        (world (S.held shelf.new) (S.has_failed shelf.new) (R.remaining reader.new) (W.contents out.new)) result }
-{
-    let claim = Claim {
-        claimed: Claimed::Bound,
-        names,
-    };
-    run_claim(alloc, &claim, workers, shelf, reader, out)
-}
-
 /// The verdict on a log for a board. Or the first refusal that stands: the board text's, that of the first table file that is
 /// refused, the set text's, the log's. Want of memory may be answered in place of all behind the first table's header.
 pub(crate) fn verify_bound<H: Threads + Wait, G: Gate + Sync>(
-    alloc: Global,
     board: &[u8],
     sets: &[u8],
     log: &[u8],
     tables: Tables<'_>,
     workers: &Workers<'_, H, G>,
 ) -> Result<Verdict, Fault>
-    ensures answer { IsAnswerTo (bound_claim tables.entry.fold board.now sets.now log.now (all_bytes tables.entry.files.now)) result }
+    ensures answer { let files = all_bytes tables.entry.files.now in
+        IsAnswerTo (bound_claim tables.entry.fold board.now sets.now log.now files) result }
 
     // No solution of the board has fewer moves.
-    ensures holds { IfOk result (HoldsOfSolutions (bound_claim tables.entry.fold board.now sets.now log.now (all_bytes tables.entry.files.now))) }
+    ensures holds { let files = all_bytes tables.entry.files.now in
+        let claim = bound_claim tables.entry.fold board.now sets.now log.now files in
+        IfOk result (HoldsOfSolutions claim) }
 {
-    answer_of_bound(bound_of_text(alloc, board, sets, log, tables, workers))
+    answer_of_bound(bound_of_text(board, sets, log, tables, workers))
 }
 
 /// The bound that a log proves for the board of a text, over the bundle of table files and a set text.
 fn bound_of_text<H: Threads + Wait, G: Gate + Sync>(
-    alloc: Global,
     text: &[u8],
     sets: &[u8],
     log: &[u8],
@@ -80,7 +55,7 @@ fn bound_of_text<H: Threads + Wait, G: Gate + Sync>(
         (TakesMemoryForBound text.now files) result }
 {
     match Board::read(text) {
-        Ok(board) => claimed(bound_for(alloc, &board, sets, log, tables, workers)),
+        Ok(board) => claimed(bound_for(&board, sets, log, tables, workers)),
         Err(refused) => Err(Failure::Refused(BoundRefusal::Board(refused))),
     }
 }
@@ -98,17 +73,17 @@ pub(crate) fn claimed(found: Result<u8, Failure<ProofRefusal>>) -> Result<u8, Fa
 
 /// The bound that a log proves for a board, over the bundle of table files and a set text.
 pub(crate) fn bound_for<H: Threads + Wait, G: Gate + Sync>(
-    alloc: Global,
     board: &Board,
     sets: &[u8],
     log: &[u8],
     tables: Tables<'_>,
     workers: &Workers<'_, H, G>,
 ) -> Result<u8, Failure<ProofRefusal>>
-    ensures { IsFoundFor tables.entry.fold board.now sets.now log.now (all_bytes tables.entry.files.now) result }
+    ensures { let files = all_bytes tables.entry.files.now in
+        IsFoundFor tables.entry.fold board.now sets.now log.now files result }
 {
-    match read_bundle(alloc, tables, sets, workers) {
-        Ok(bundle) => proved(bound_over(alloc, &bundle, board, log, workers)),
+    match read_bundle(tables, sets, workers) {
+        Ok(bundle) => proved(bound_over(&bundle, board, log, workers)),
         Err(failure) => Err(without_bundle(failure)),
     }
 }
@@ -116,7 +91,6 @@ pub(crate) fn bound_for<H: Threads + Wait, G: Gate + Sync>(
 /// As `bound_for`, with folded tables: the bytes of each table are given up in turn. Beside it the digest lines of the tables
 /// and the log.
 pub(crate) fn bound_of_files<H: Threads + Wait + Sync, G: Gate + Sync>(
-    alloc: Global,
     board: &Board,
     sets: &[u8],
     log: &[u8],
@@ -127,10 +101,10 @@ pub(crate) fn bound_of_files<H: Threads + Wait + Sync, G: Gate + Sync>(
     ensures digests { result.0.items ≡ digests_of (all_bytes files.items ++ log.now ∷ []) }
     ensures found { IsFoundFor true board.now sets.now log.now (all_bytes files.items) result.1 }
 {
-    let (mut digests, bundle) = fold_bundle(alloc, files, sets, workers);
+    let (mut digests, bundle) = fold_bundle(files, sets, workers);
     match bundle {
         Ok(bundle) => {
-            let found = bound_beside(alloc, &bundle, board, log, &mut digests, workers);
+            let found = bound_beside(&bundle, board, log, &mut digests, workers);
             (digests, proved(found))
         }
         Err(failure) => {
@@ -143,7 +117,6 @@ pub(crate) fn bound_of_files<H: Threads + Wait + Sync, G: Gate + Sync>(
 /// The bound that a log proves for a board, over a bundle. The log's digest line is made beside the check, and added behind
 /// the others.
 fn bound_beside<H: Threads + Wait + Sync, G: Gate + Sync>(
-    alloc: Global,
     bundle: &Bundle<'_>,
     board: &Board,
     log: &[u8],
@@ -156,13 +129,12 @@ fn bound_beside<H: Threads + Wait + Sync, G: Gate + Sync>(
 {
     let check = || -> Result<u8, LogFault>
         ensures { IsFoundOver bundle.entry.now board.entry.now log.entry.now result }
-    { bound_over(alloc, bundle, board, log, workers) };
+    { bound_over(bundle, board, log, workers) };
     with_digest(workers.rt, workers.count, digests, log, check)
 }
 
 /// The bound that a log proves for a board, over a bundle.
 pub(crate) fn bound_over<H: Threads + Wait, G: Gate + Sync>(
-    alloc: Global,
     bundle: &Bundle<'_>,
     board: &Board,
     log: &[u8],
@@ -172,7 +144,7 @@ pub(crate) fn bound_over<H: Threads + Wait, G: Gate + Sync>(
 {
     check_log(
         workers.rt,
-        alloc,
+        workers.alloc,
         bundle,
         log,
         board,

@@ -6,13 +6,12 @@ ghost use Rattle.tab_rule.specs.TableFaults.{IsTableCauseOf};
 ghost use Rattle.set_sum.specs.declared.parts.Part.TheVariants.{Folded};
 ghost use Rattle.pdb_io.specs.Shelf.{Bytes};
 ghost use Rattle.pdb_run.specs.Answers.{all_bytes};
-ghost use Rattle.pdb_verdict.specs.Bundles.{IsBundleOfFiles};
-ghost use Rattle.pdb_verdict.specs.Steps.{ArePartsOf, IsCauseAt, IsCauseForBundle, IsCauseForTables, IsPartOf, of_bundle};
+ghost use Rattle.pdb_verdict.specs.Bundles.{IsBundleOfFiles, IsCauseForBundle};
+ghost use Rattle.pdb_verdict.specs.Steps.{ArePartsOf, IsCauseAt, IsCauseForTables, IsPartOf, of_bundle};
 
 use crate::refusals::{BundleRefusal, Failure, FileRefusal, ProofRefusal};
 use crate::workers::Workers;
 use set_sum::{Bundle, Part};
-use std::alloc::Global;
 use std::sync::Wait;
 use std::thread::Threads;
 use tab_check::check_table;
@@ -29,15 +28,16 @@ pub struct Tables<'a> {
 /// The bundle of table files and a set text: each table is checked, and folded where that is asked for, and then the text is
 /// read.
 pub fn read_bundle<'a, H: Threads + Wait, G: Gate + Sync>(
-    alloc: Global,
     tables: Tables<'a>,
     sets: &[u8],
     workers: &Workers<'_, H, G>,
 ) -> Result<Bundle<'a>, Failure<BundleRefusal>>
-    ensures ok { IfOk result (λ bundle. IsBundleOfFiles tables.entry.fold (all_bytes tables.entry.files.now) sets.now bundle) }
-    ensures err { IfErr result (IsCauseForBundle tables.entry.fold (all_bytes tables.entry.files.now) sets.now) }
+    ensures ok { IfOk result (λ bundle.
+        IsBundleOfFiles tables.entry.fold (all_bytes tables.entry.files.now) sets.now bundle) }
+    ensures err { IfErr result
+        (IsCauseForBundle tables.entry.fold (all_bytes tables.entry.files.now) sets.now) }
 {
-    bundle_of(parts_of(alloc, tables, workers), sets)
+    bundle_of(parts_of(tables, workers), sets)
 }
 
 /// The bundle of the parts for all files, where there are those, and a set text.
@@ -45,10 +45,13 @@ pub(crate) fn bundle_of<'a>(
     parts: Result<Vec<Part<'a>>, Failure<FileRefusal>>,
     sets: &[u8],
 ) -> Result<Bundle<'a>, Failure<BundleRefusal>>
-    ensures ok { (fold : Bool) (files : List Bytes) → IfOk parts.entry (λ parts. ArePartsOf fold files parts.items)
+    ensures ok { (fold : Bool) (files : List Bytes)
+        → IfOk parts.entry (λ parts. ArePartsOf fold files parts.items)
         → IfOk result (IsBundleOfFiles fold files sets.now) }
-    ensures err { (fold : Bool) (files : List Bytes) → IfOk parts.entry (λ parts. ArePartsOf fold files parts.items)
-        → IfErr parts.entry (IsCauseForTables files) → IfErr result (IsCauseForBundle fold files sets.now) }
+    ensures err { (fold : Bool) (files : List Bytes)
+        → IfOk parts.entry (λ parts. ArePartsOf fold files parts.items)
+        → IfErr parts.entry (IsCauseForTables files)
+        → IfErr result (IsCauseForBundle fold files sets.now) }
 {
     let parts = match parts {
         Ok(parts) => parts,
@@ -65,17 +68,17 @@ pub(crate) fn bundle_of<'a>(
 
 /// The part for each file, one after the other. No memory is taken before the first file's header stands.
 fn parts_of<'a, H: Threads + Wait, G: Gate + Sync>(
-    alloc: Global,
     tables: Tables<'a>,
     workers: &Workers<'_, H, G>,
 ) -> Result<Vec<Part<'a>>, Failure<FileRefusal>>
-    ensures ok { IfOk result (λ parts. ArePartsOf tables.entry.fold (all_bytes tables.entry.files.now) parts.items) }
+    ensures ok { IfOk result
+        (λ parts. ArePartsOf tables.entry.fold (all_bytes tables.entry.files.now) parts.items) }
     ensures err { IfErr result (IsCauseForTables (all_bytes tables.entry.files.now)) }
 {
     let Tables { files, fold } = tables;
-    let mut parts = Vec::new(alloc);
+    let mut parts = Vec::new(workers.alloc);
     for file in files {
-        let part = match part_of(alloc, file.as_slice(), fold, workers) {
+        let part = match part_of(file.as_slice(), fold, workers) {
             Ok(part) => part,
             Err(fault) => return Err(failure_at(parts.len(), fault)),
         };
@@ -88,7 +91,6 @@ fn parts_of<'a, H: Threads + Wait, G: Gate + Sync>(
 
 /// The part for a file: folded, or with the slots of its placements, since many boards are looked up in it.
 fn part_of<'a, H: Threads + Wait, G: Gate + Sync>(
-    alloc: Global,
     file: &'a [u8],
     fold: bool,
     workers: &Workers<'_, H, G>,
@@ -97,24 +99,23 @@ fn part_of<'a, H: Threads + Wait, G: Gate + Sync>(
     ensures err { IfErr result (λ fault. IsTableCauseOf fault file.now) }
 {
     if fold {
-        let folded = fold_file(alloc, file, workers)?;
+        let folded = fold_file(file, workers)?;
         return Ok(Part::Folded(folded));
     }
-    let table = check_file(alloc, file, workers)?;
-    Ok(Part::Full(table.with_slots(alloc)))
+    let table = check_file(file, workers)?;
+    Ok(Part::Full(table.with_slots(workers.alloc)))
 }
 
 /// The folded table of a file, which is needed no longer.
 pub(crate) fn fold_file<H: Threads + Wait, G: Gate + Sync>(
-    alloc: Global,
     file: &[u8],
     workers: &Workers<'_, H, G>,
 ) -> Result<FoldedTable, TableFault>
     ensures ok { IfOk result (λ folded. IsPartOf true file.now (Folded folded)) }
     ensures err { IfErr result (λ fault. IsTableCauseOf fault file.now) }
 {
-    let table = check_file(alloc, file, workers)?;
-    match fold(alloc, &table) {
+    let table = check_file(file, workers)?;
+    match fold(workers.alloc, &table) {
         Ok(folded) => Ok(folded),
         Err(_) => Err(TableFault::Memory),
     }
@@ -122,14 +123,13 @@ pub(crate) fn fold_file<H: Threads + Wait, G: Gate + Sync>(
 
 /// The table of a file.
 pub(crate) fn check_file<'a, H: Threads + Wait, G: Gate + Sync>(
-    alloc: Global,
     file: &'a [u8],
     workers: &Workers<'_, H, G>,
 ) -> Result<CheckedTable<'a>, TableFault>
     ensures ok { IfOk result (λ table. IsExactFile table file.now) }
     ensures err { IfErr result (λ fault. IsTableCauseOf fault file.now) }
 {
-    check_table(workers.rt, alloc, file, workers.count, workers.gate)
+    check_table(workers.rt, workers.alloc, file, workers.count, workers.gate)
 }
 
 /// Why there aren't the parts for all files, where there isn't that for the file with this number.

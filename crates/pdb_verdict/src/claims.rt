@@ -2,12 +2,14 @@
 
 ghost use Rattle.std.specs.Prelude.{◌≡◌, ◌≤◌, ◌<◌, ◌∷◌, ◌++◌, ◌+◌, ℕ, List, Some, true, length, map, slice_get, IfSome, OnOk};
 ghost use Rattle.pdb_run.specs.Answers.{IsAnswerBy, all_bytes};
-ghost use Rattle.pdb_run.specs.Inputs.{AreRead, IsAsTold, left_by_all, wanted_of};
-ghost use Rattle.pdb_run.specs.Runs.{Ends, World, world};
-ghost use Rattle.pdb_verdict.specs.Bound.{bound_inputs};
+ghost use Rattle.pdb_run.specs.Inputs.{wanted_of};
+ghost use Rattle.pdb_run.specs.Io.{HasRead};
+ghost use Rattle.pdb_run.specs.Runs.{Ends, World};
+ghost use Rattle.pdb_verdict.specs.Bound.{bound_plan, over_names};
 ghost use Rattle.pdb_verdict.specs.Claims.{ClaimTakesMemory, IsClaimOn, IsClaimReply, IsStartOf, claim_plan, verdict_on};
 ghost use Rattle.pdb_verdict.specs.Inputs.{given};
 ghost use Rattle.pdb_verdict.specs.Limits.{a_table};
+ghost use Rattle.pdb_verdict.specs.Optimal.{optimum_plan};
 
 use crate::bound::{bound_of_files, claimed};
 use crate::inputs::Inputs;
@@ -18,11 +20,9 @@ use crate::replay::solved_board;
 use crate::reports::{digested_by, told_or_memory, verify_beside};
 use crate::verdicts::{Fault, Verdict};
 use crate::workers::Workers;
-use pdb_io::shelf::Shelf;
-use pdb_run::{Answer, Command, Digested, FILES_BESIDE, Input, Status, conclude, read_inputs};
+use pdb_run::{Answer, Command, Digested, FILES_BESIDE, Input, Io, Status, conclude, read_inputs};
 use puz_board::Board;
 use std::alloc::{AllocError, Global};
-use std::io::{Read, Write};
 use std::sync::Wait;
 use std::thread::Threads;
 use work_run::Gate;
@@ -62,11 +62,7 @@ pub(crate) struct Claim<'t, 'n> {
 }
 
 impl Command for Claim<'_, '_> {
-    ghost wanted = { λ claim. bound_inputs claim.names.text.now claim.names.sets.now claim.names.log.now (map (λ name. name.now) claim.names.tables.now) };
-
-    ghost MayReply = { λ claim. IsClaimReply claim.claimed claim.names.fold };
-
-    ghost TakesMemory = { λ claim. ClaimTakesMemory claim.claimed };
+    ghost plan = { λ claim. over_names (claim_plan claim.claimed) claim.names };
 
     fn inputs(&self, alloc: Global) -> Result<Vec<Input<'_>>, AllocError> {
         let mut inputs = Vec::new(alloc);
@@ -80,7 +76,8 @@ impl Command for Claim<'_, '_> {
 
 /// Adds the table files under these names.
 pub fn push_tables<'n>(inputs: &mut Vec<Input<'n>>, names: &[&'n str]) -> Result<(), AllocError>
-    ensures { OnOk result (map wanted_of inputs.new.items ≡ map wanted_of inputs.old.items ++ map a_table (map (λ name. name.now) names.now)) }
+    ensures { let tables = map a_table (map (λ name. name.now) names.now) in
+        OnOk result (map wanted_of inputs.new.items ≡ map wanted_of inputs.old.items ++ tables) }
 {
     for name in names {
         inputs.push(a_table(name))?;
@@ -88,43 +85,74 @@ pub fn push_tables<'n>(inputs: &mut Vec<Input<'n>>, names: &[&'n str]) -> Result
     Ok(())
 }
 
+/// A whole run of `bound`, whoever checks the tables and the log.
+#[inline(never)] // so that the stack has the values of one command alone
+pub fn run_bound<H: Threads + Wait + Sync, G: Gate + Sync, I: Io>(
+    names: ClaimNames<'_, '_>,
+    workers: &Workers<'_, H, G>,
+    io: &mut I,
+) -> Status
+    ensures same_streams { I.streams io.new ≡ I.streams io.old }
+    ensures ends { Ends (over_names bound_plan names.entry) (I.world io.old) (I.world io.new) result }
+{
+    let claim = Claim {
+        claimed: Claimed::Bound,
+        names,
+    };
+    run_claim(&claim, workers, io)
+}
+
+/// A whole run of `optimal`, whoever checks the tables and the log.
+#[inline(never)] // so that the stack has the values of one command alone
+pub fn run_optimal<H: Threads + Wait + Sync, G: Gate + Sync, I: Io>(
+    names: ClaimNames<'_, '_>,
+    workers: &Workers<'_, H, G>,
+    io: &mut I,
+) -> Status
+    ensures same_streams { I.streams io.new ≡ I.streams io.old }
+    ensures ends { Ends (over_names optimum_plan names.entry) (I.world io.old) (I.world io.new) result }
+{
+    let claim = Claim {
+        claimed: Claimed::Optimum,
+        names,
+    };
+    run_claim(&claim, workers, io)
+}
+
 /// A whole run of such a command, whoever checks the tables and the log.
-pub(crate) fn run_claim<H: Threads + Wait + Sync, G: Gate + Sync, S: Shelf, R: Read, W: Write>(
-    alloc: Global,
+fn run_claim<H: Threads + Wait + Sync, G: Gate + Sync, I: Io>(
     claim: &Claim<'_, '_>,
     workers: &Workers<'_, H, G>,
-    shelf: &mut S,
-    reader: &mut R,
-    out: &mut W,
+    io: &mut I,
 ) -> Status
-    ensures { let names = claim.now.names in Ends (claim_plan claim.now.claimed names.fold names.text.now names.sets.now names.log.now (map (λ name. name.now) names.tables.now))
-        (world (S.held shelf.old) (S.has_failed shelf.old) (R.remaining reader.old) (W.contents out.old))
-        (world (S.held shelf.new) (S.has_failed shelf.new) (R.remaining reader.new) (W.contents out.new)) result }
+    ensures same_streams { I.streams io.new ≡ I.streams io.old }
+    ensures ends { let plan = over_names (claim_plan claim.now.claimed) claim.now.names in
+        Ends plan (I.world io.old) (I.world io.new) result }
 {
-    let inputs = match read_inputs(alloc, claim, shelf, reader, out) {
+    let inputs = match read_inputs(workers.alloc, claim, io) {
         Ok(inputs) => inputs,
         Err(status) => return status,
     };
     if claim.names.fold {
-        return conclude_folded(alloc, claim, inputs, workers, out);
+        return conclude_folded(claim, inputs, workers, io);
     }
-    let answer = answer_claim(alloc, claim, inputs.as_slice(), workers);
-    conclude(claim, &answer, out)
+    let answer = answer_claim(claim, inputs.as_slice(), workers);
+    conclude(claim, &answer, io)
 }
 
 /// The answer on the bytes of the inputs. Want of memory never comes of a text that is refused.
 fn answer_claim<'i, H: Threads + Wait + Sync, G: Gate + Sync>(
-    alloc: Global,
     claim: &Claim<'_, '_>,
     inputs: &'i [Vec<u8>],
     workers: &Workers<'_, H, G>,
 ) -> Result<Answer<'i>, AllocError>
     requires { 3 ≤ length inputs.now }
-    ensures { let files = all_bytes inputs.now in
-        IsAnswerBy (IsClaimReply claim.now.claimed claim.now.names.fold files) (ClaimTakesMemory claim.now.claimed files) result }
+    ensures { let files = all_bytes inputs.now in let claimed = claim.now.claimed in
+        let IsRight = IsClaimReply claimed claim.now.names.fold files in
+        IsAnswerBy IsRight (ClaimTakesMemory claimed files) result }
 {
     let inputs = inputs_of(claim, inputs);
-    let (digests, answer) = verify_beside(alloc, &inputs, workers);
+    let (digests, answer) = verify_beside(&inputs, workers);
     told_or_memory(digested_by(&inputs, digests), answer)
 }
 
@@ -157,34 +185,31 @@ fn inputs_of<'i>(claim: &Claim<'_, '_>, inputs: &'i [Vec<u8>]) -> Inputs<'i>
 /// The end of a run with folded tables. The bytes of each table are given up in turn, so that the log is checked beside the
 /// folded tables alone.
 #[inline(never)] // so that a run with full tables hasn't its values on the stack
-fn conclude_folded<H: Threads + Wait + Sync, G: Gate + Sync, W: Write>(
-    alloc: Global,
+fn conclude_folded<H: Threads + Wait + Sync, G: Gate + Sync, I: Io>(
     claim: &Claim<'_, '_>,
     inputs: Vec<Vec<u8>>,
     workers: &Workers<'_, H, G>,
-    out: &mut W,
+    io: &mut I,
 ) -> Status
     requires count { 3 ≤ length inputs.items }
     requires folds { claim.now.names.fold ≡ true }
-    ensures { let names = claim.now.names in let tables = map (λ name. name.now) names.tables.now in
-        let wanted = bound_inputs names.text.now names.sets.now names.log.now tables in
-        (old new : World) → AreRead old.files old.reader wanted (all_bytes inputs.items)
-        → IsAsTold (left_by_all old.reader wanted) new.reader → new.files ≡ old.files
-        → W.contents out.old ≡ old.written → W.contents out.new ≡ new.written
-        → Ends (claim_plan claim.now.claimed names.fold names.text.now names.sets.now names.log.now tables) old new result }
+    ensures same_streams { I.streams io.new ≡ I.streams io.old }
+    ensures ends { let plan = over_names (claim_plan claim.now.claimed) claim.now.names in
+        (old : World) → HasRead plan.inputs old (I.world io.old) (all_bytes inputs.items)
+        → Ends plan old (I.world io.new) result }
 {
     let mut inputs = inputs;
     let Some(start) = start_of(claim.claimed, inputs.as_slice()) else {
-        let answer = answer_claim(alloc, claim, inputs.as_slice(), workers);
-        return conclude(claim, &answer, out);
+        let answer = answer_claim(claim, inputs.as_slice(), workers);
+        return conclude(claim, &answer, io);
     };
     let _text = take_first(&mut inputs);
     let sets = take_first(&mut inputs);
     let log = take_first(&mut inputs);
     let (sets, log) = (sets.as_slice(), log.as_slice());
-    let (digests, found) = bound_of_files(alloc, &start.board, sets, log, inputs, workers);
+    let (digests, found) = bound_of_files(&start.board, sets, log, inputs, workers);
     let answer = told_or_memory(Digested::Lines(digests), verdict_on(start.moves, found));
-    conclude(claim, &answer, out)
+    conclude(claim, &answer, io)
 }
 
 /// The board of a claim, and how many moves solve it, where its text says that.
@@ -198,7 +223,9 @@ struct Start {
 fn start_of(claimed: Claimed, inputs: &[Vec<u8>]) -> Option<Start>
     requires { 3 ≤ length inputs.now }
     ensures few { IfSome result (λ _. length inputs.now ≤ BEFORE_TABLES + FILES_BESIDE) }
-    ensures start { IfSome result (λ start. (text : List ℕ) × (slice_get (all_bytes inputs.now) 0 ≡ Some text) × IsStartOf claimed text start.board start.moves) }
+    ensures start { IfSome result (λ start. (text : List ℕ)
+        × (slice_get (all_bytes inputs.now) 0 ≡ Some text)
+        × IsStartOf claimed text start.board start.moves) }
 {
     if inputs.len() > BEFORE_TABLES + FILES_BESIDE {
         return None;

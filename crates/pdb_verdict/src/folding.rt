@@ -5,15 +5,14 @@ ghost use Rattle.tab_rule.specs.TableFaults.{IsTableCauseOf};
 ghost use Rattle.set_sum.specs.declared.parts.Part.TheVariants.{Folded};
 ghost use Rattle.pdb_run.specs.Answers.{all_bytes};
 ghost use Rattle.pdb_run.specs.Writing.{digest_line, digests_of};
-ghost use Rattle.pdb_verdict.specs.Bundles.{IsBundleOfFiles};
-ghost use Rattle.pdb_verdict.specs.Steps.{ArePartsOf, HasOneMore, IsCauseAt, IsCauseForBundle, IsCauseForTables, IsPartOf};
+ghost use Rattle.pdb_verdict.specs.Bundles.{IsBundleOfFiles, IsCauseForBundle};
+ghost use Rattle.pdb_verdict.specs.Steps.{ArePartsOf, HasOneMore, IsCauseAt, IsCauseForTables, IsPartOf};
 
 use crate::bundles::{bundle_of, failure_at, fold_file};
 use crate::refusals::{BundleRefusal, Failure, FileRefusal};
 use crate::workers::Workers;
 use pdb_run::{DIGEST_LEN, DIGESTS_LEN, Digests, FILES_BESIDE, with_digest};
 use set_sum::{Bundle, Part};
-use std::alloc::Global;
 use std::sync::Wait;
 use std::thread::Threads;
 use tab_rule::{FoldedTable, TableFault};
@@ -24,7 +23,6 @@ use work_run::Gate;
 /// the others are digested alone.
 #[inline(never)] // so that the stack hasn't its values while a log is checked or made
 pub fn fold_bundle<'x, H: Threads + Wait + Sync, G: Gate + Sync>(
-    alloc: Global,
     files: Vec<Vec<u8>>,
     sets: &[u8],
     workers: &Workers<'_, H, G>,
@@ -35,13 +33,12 @@ pub fn fold_bundle<'x, H: Threads + Wait + Sync, G: Gate + Sync>(
     ensures ok { IfOk result.1 (λ bundle. IsBundleOfFiles true (all_bytes files.items) sets.now bundle) }
     ensures err { IfErr result.1 (IsCauseForBundle true (all_bytes files.items) sets.now) }
 {
-    let (digests, parts) = fold_files(alloc, files, workers);
+    let (digests, parts) = fold_files(files, workers);
     (digests, bundle_of(parts, sets))
 }
 
 /// The folded tables of files, and the digest lines of the files.
 fn fold_files<'x, H: Threads + Wait + Sync, G: Gate + Sync>(
-    alloc: Global,
     files: Vec<Vec<u8>>,
     workers: &Workers<'_, H, G>,
 ) -> (Digests, Result<Vec<Part<'x>>, Failure<FileRefusal>>)
@@ -52,16 +49,15 @@ fn fold_files<'x, H: Threads + Wait + Sync, G: Gate + Sync>(
     ensures err { IfErr result.1 (IsCauseForTables (all_bytes files.items)) }
 {
     let mut digests = Digests::new();
-    let mut parts = Ok(Vec::new(alloc));
+    let mut parts = Ok(Vec::new(workers.alloc));
     for file in files {
-        parts = fold_next(alloc, parts, file.as_slice(), &mut digests, workers);
+        parts = fold_next(parts, file.as_slice(), &mut digests, workers);
     }
     (digests, parts)
 }
 
 /// The folded tables of one file more, where those before it are there. Its digest line is added behind the others.
 fn fold_next<'x, H: Threads + Wait + Sync, G: Gate + Sync>(
-    alloc: Global,
     parts: Result<Vec<Part<'x>>, Failure<FileRefusal>>,
     file: &[u8],
     digests: &mut Digests,
@@ -70,7 +66,8 @@ fn fold_next<'x, H: Threads + Wait + Sync, G: Gate + Sync>(
     requires { length digests.old.items + DIGEST_LEN ≤ DIGESTS_LEN }
     ensures line { digests.new.items ≡ digests.old.items ++ digest_line file.now }
     ensures length { length digests.new.items ≡ length digests.old.items + DIGEST_LEN }
-    ensures ok { IfOk result (λ after. MatchResult parts.entry (λ before. HasOneMore before.items file.now after.items) (λ _. ⊥)) }
+    ensures ok { IfOk result (λ after.
+        MatchResult parts.entry (λ before. HasOneMore before.items file.now after.items) (λ _. ⊥)) }
     ensures err { IfErr result (λ cause. MatchResult parts.entry
         (λ before. IsCauseAt (length before.items) file.now cause) (λ refused. cause ≡ refused)) }
 {
@@ -81,7 +78,7 @@ fn fold_next<'x, H: Threads + Wait + Sync, G: Gate + Sync>(
             return Err(refused);
         }
     };
-    let table = match fold_beside(alloc, file, digests, workers) {
+    let table = match fold_beside(file, digests, workers) {
         Ok(table) => table,
         Err(fault) => return Err(failure_at(folded.len(), fault)),
     };
@@ -93,7 +90,6 @@ fn fold_next<'x, H: Threads + Wait + Sync, G: Gate + Sync>(
 
 /// The folded table of a file, whose digest line is made beside the check and added behind the others.
 fn fold_beside<H: Threads + Wait + Sync, G: Gate + Sync>(
-    alloc: Global,
     file: &[u8],
     digests: &mut Digests,
     workers: &Workers<'_, H, G>,
@@ -107,6 +103,6 @@ fn fold_beside<H: Threads + Wait + Sync, G: Gate + Sync>(
     let check = || -> Result<FoldedTable, TableFault>
         ensures ok { IfOk result (λ folded. IsPartOf true file.entry.now (Folded folded)) }
         ensures err { IfErr result (λ fault. IsTableCauseOf fault file.entry.now) }
-    { fold_file(alloc, file, workers) };
+    { fold_file(file, workers) };
     with_digest(workers.rt, workers.count, digests, file, check)
 }

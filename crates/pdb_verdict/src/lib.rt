@@ -4,6 +4,7 @@
 
 mod bound;
 mod bundles;
+mod checks;
 mod claims;
 mod folding;
 mod inputs;
@@ -13,14 +14,16 @@ mod lines;
 mod optimal;
 mod refusals;
 mod replay;
+mod replay_command;
 mod reports;
 mod table;
+mod table_command;
 mod verdicts;
 mod workers;
 
-pub use bound::run_bound;
 pub use bundles::{Tables, read_bundle};
-pub use claims::{ClaimNames, push_tables, take_first};
+pub use checks::verify;
+pub use claims::{ClaimNames, push_tables, run_bound, run_optimal, take_first};
 pub use folding::fold_bundle;
 pub use inputs::Inputs;
 pub use laws::{
@@ -29,14 +32,15 @@ pub use laws::{
 };
 pub use limits::a_text;
 pub use lines::line_of;
-pub use optimal::{optimum_over, run_optimal};
+pub use optimal::optimum_over;
 pub use refusals::{
     BoundRefusal, BuildRefusal, BundleRefusal, Failure, FileRefusal, GivenUp, OptimalRefusal,
     ProofRefusal, ReplayRefusal, SearchRefusal, UnmadeRefusal, fault_of_build, fault_of_optimal,
     fault_of_search,
 };
-pub use replay::{run_replay, verify_puzzle};
+pub use replay::verify_puzzle;
+pub use replay_command::run_replay;
 pub use reports::{digests, line, report, verify_beside};
-pub use table::run_table;
-pub use verdicts::{Fault, MakeRefusal, Verdict, verify};
+pub use table_command::run_table;
+pub use verdicts::{Fault, MakeRefusal, Verdict};
 pub use workers::Workers;

@@ -1,74 +1,47 @@
 //! Whether the moves of a puzzle text are a solution, and a log proves that none has fewer.
 
-ghost use Rattle.std.specs.Prelude.{◌≡◌, map, IfOk};
+ghost use Rattle.std.specs.Prelude.{◌≡◌, IfOk};
 ghost use Rattle.puz_board.specs.PuzzleTexts.{puzzle_parts};
 ghost use Rattle.pdb_run.specs.Answers.{all_bytes};
-ghost use Rattle.pdb_run.specs.Runs.{Ends, world};
 ghost use Rattle.pdb_verdict.specs.Inputs.{optimum_claim};
-ghost use Rattle.pdb_verdict.specs.Optimal.{IsOptimumResult, TakesMemoryForOptimum, of_halves, optimum_plan};
-ghost use Rattle.pdb_verdict.specs.Refusals.{IsFoundBy};
+ghost use Rattle.pdb_verdict.specs.Optimal.{IsOptimumOver, IsOptimumResult, TakesMemoryForOptimum, of_halves};
+ghost use Rattle.pdb_verdict.specs.Refusals.{IsFoundBy, or_failure};
 ghost use Rattle.pdb_verdict.specs.Replay.{solved_parts};
-ghost use Rattle.pdb_verdict.specs.Steps.{IsOptimumOver, or_failure};
 ghost use Rattle.pdb_verdict.specs.Verdicts.{HoldsOfSolutions, IsAnswerTo};
 
 use crate::bound::{bound_for, bound_over, proved};
 use crate::bundles::Tables;
-use crate::claims::{Claim, ClaimNames, Claimed, run_claim};
 use crate::refusals::{Failure, OptimalRefusal, ProofRefusal, answer_of_optimal};
 use crate::replay::solved_board;
 use crate::verdicts::{Fault, Verdict};
 use crate::workers::Workers;
-use pdb_io::shelf::Shelf;
-use pdb_run::Status;
 use set_sum::Bundle;
-use std::alloc::Global;
-use std::io::{Read, Write};
 use std::sync::Wait;
 use std::thread::Threads;
 use work_run::Gate;
 
-/// A whole run of `optimal`, whoever checks the tables and the log.
-#[inline(never)] // so that the stack has the values of one command alone
-pub fn run_optimal<H: Threads + Wait + Sync, G: Gate + Sync, S: Shelf, R: Read, W: Write>(
-    alloc: Global,
-    names: ClaimNames<'_, '_>,
-    workers: &Workers<'_, H, G>,
-    shelf: &mut S,
-    reader: &mut R,
-    out: &mut W,
-) -> Status
-    ensures { Ends (optimum_plan names.entry.fold names.entry.text.now names.entry.sets.now names.entry.log.now (map (λ name. name.now) names.entry.tables.now))
-        (world (S.held shelf.old) (S.has_failed shelf.old) (R.remaining reader.old) (W.contents out.old))
-        (world (S.held shelf.new) (S.has_failed shelf.new) (R.remaining reader.new) (W.contents out.new)) result }
-{
-    let claim = Claim {
-        claimed: Claimed::Optimum,
-        names,
-    };
-    run_claim(alloc, &claim, workers, shelf, reader, out)
-}
-
 /// The verdict on a puzzle text and a log: the moves are a solution of the board, and the log proves that none has fewer. Or the
 /// first refusal that stands: `P1`, the board's, the moves', those of `bound` from the tables on, and then `O1`.
 pub(crate) fn verify_optimal<H: Threads + Wait, G: Gate + Sync>(
-    alloc: Global,
     puzzle: &[u8],
     sets: &[u8],
     log: &[u8],
     tables: Tables<'_>,
     workers: &Workers<'_, H, G>,
 ) -> Result<Verdict, Fault>
-    ensures answer { IsAnswerTo (optimum_claim tables.entry.fold puzzle.now sets.now log.now (all_bytes tables.entry.files.now)) result }
+    ensures answer { let files = all_bytes tables.entry.files.now in
+        IsAnswerTo (optimum_claim tables.entry.fold puzzle.now sets.now log.now files) result }
 
     // It is the least number of moves of any solution.
-    ensures holds { IfOk result (HoldsOfSolutions (optimum_claim tables.entry.fold puzzle.now sets.now log.now (all_bytes tables.entry.files.now))) }
+    ensures holds { let files = all_bytes tables.entry.files.now in
+        let claim = optimum_claim tables.entry.fold puzzle.now sets.now log.now files in
+        IfOk result (HoldsOfSolutions claim) }
 {
-    answer_of_optimal(optimum_of_text(alloc, puzzle, sets, log, tables, workers))
+    answer_of_optimal(optimum_of_text(puzzle, sets, log, tables, workers))
 }
 
 /// The number of moves of a puzzle text that a log proves to be the fewest, over the bundle of table files and a set text.
 fn optimum_of_text<H: Threads + Wait, G: Gate + Sync>(
-    alloc: Global,
     puzzle: &[u8],
     sets: &[u8],
     log: &[u8],
@@ -80,15 +53,11 @@ fn optimum_of_text<H: Threads + Wait, G: Gate + Sync>(
         (TakesMemoryForOptimum puzzle.now files) result }
 {
     let (board, solution) = solved_board(puzzle)?;
-    compare(
-        solution,
-        bound_for(alloc, &board, sets, log, tables, workers),
-    )
+    compare(solution, bound_for(&board, sets, log, tables, workers))
 }
 
 /// As `verify_optimal`, over a bundle that is there.
 pub fn optimum_over<H: Threads + Wait, G: Gate + Sync>(
-    alloc: Global,
     bundle: &Bundle<'_>,
     puzzle: &[u8],
     log: &[u8],
@@ -97,10 +66,7 @@ pub fn optimum_over<H: Threads + Wait, G: Gate + Sync>(
     ensures { IsOptimumOver bundle.now (solved_parts (puzzle_parts puzzle.now)) log.now result }
 {
     let (board, solution) = solved_board(puzzle)?;
-    compare(
-        solution,
-        proved(bound_over(alloc, bundle, &board, log, workers)),
-    )
+    compare(solution, proved(bound_over(bundle, &board, log, workers)))
 }
 
 /// The optimum of a board that so many moves solve, and for which this is found.

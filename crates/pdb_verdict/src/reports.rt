@@ -9,14 +9,15 @@ ghost use Rattle.pdb_verdict.specs.Inputs.{Given, given};
 ghost use Rattle.pdb_verdict.specs.Lines.{Tells, digested_of, line_of, lines_of, reply_to, stands_alone};
 ghost use Rattle.pdb_verdict.specs.Verdicts.{IsAnswerTo, IsResult, TakesMemory};
 
+use crate::checks::verify_by;
 use crate::inputs::Inputs;
 use crate::lines::line_of;
-use crate::verdicts::{Fault, Verdict, verify_by};
+use crate::verdicts::{Fault, Verdict};
 use crate::workers::Workers;
 use pdb_io::streams::{WriteFault, put_text};
 use pdb_run::{Answer, Digested, Digests, FILES_BESIDE, beside, say, say_digests};
 use set_sum::MOST_TABLES;
-use std::alloc::{AllocError, Global};
+use std::alloc::AllocError;
 use std::io::Write;
 use std::sync::Wait;
 use std::thread::Threads;
@@ -31,8 +32,10 @@ pub fn report<W: Write>(
     answer: &Result<Verdict, Fault>,
     out: &mut W,
 ) -> Result<(), WriteFault>
-    ensures whole { OnOk result (Appends (W.contents out.old) (W.contents out.new) (lines_of (given inputs.now) answer.now)) }
-    ensures front { OnErr result (AppendsFront (W.contents out.old) (W.contents out.new) (lines_of (given inputs.now) answer.now)) }
+    ensures whole { let lines = lines_of (given inputs.now) answer.now in
+        OnOk result (Appends (W.contents out.old) (W.contents out.new) lines) }
+    ensures front { let lines = lines_of (given inputs.now) answer.now in
+        OnErr result (AppendsFront (W.contents out.old) (W.contents out.new) lines) }
 {
     if stands_alone(answer) {
         return line(answer, out);
@@ -42,8 +45,10 @@ pub fn report<W: Write>(
 
 /// Writes the digest line of each file that is checked.
 pub fn digests<W: Write>(inputs: &Inputs<'_>, out: &mut W) -> Result<(), WriteFault>
-    ensures whole { OnOk result (Appends (W.contents out.old) (W.contents out.new) (digests_of (digested_of (given inputs.now)))) }
-    ensures front { OnErr result (AppendsFront (W.contents out.old) (W.contents out.new) (digests_of (digested_of (given inputs.now)))) }
+    ensures whole { let lines = digests_of (digested_of (given inputs.now)) in
+        OnOk result (Appends (W.contents out.old) (W.contents out.new) lines) }
+    ensures front { let lines = digests_of (digested_of (given inputs.now)) in
+        OnErr result (AppendsFront (W.contents out.old) (W.contents out.new) lines) }
 {
     let (files, last) = checked_files(inputs);
     say_digests(files, last, out)
@@ -59,7 +64,6 @@ pub fn line<W: Write>(answer: &Result<Verdict, Fault>, out: &mut W) -> Result<()
 
 /// What these workers answer to inputs, and the digest lines that are made beside their check, where there are some.
 pub fn verify_beside<H: Threads + Wait + Sync, G: Gate + Sync>(
-    alloc: Global,
     inputs: &Inputs<'_>,
     workers: &Workers<'_, H, G>,
 ) -> (Option<Digests>, Result<Verdict, Fault>)
@@ -69,7 +73,7 @@ pub fn verify_beside<H: Threads + Wait + Sync, G: Gate + Sync>(
     let (files, last) = checked_files(inputs);
     let check = || -> Result<Verdict, Fault>
         ensures { IsAnswerTo (given inputs.entry.now) result }
-    { verify_by(alloc, inputs, workers) };
+    { verify_by(inputs, workers) };
     beside(workers.rt, workers.count, files, last, check)
 }
 
@@ -89,7 +93,8 @@ pub(crate) fn digested_by<'i>(inputs: &Inputs<'i>, digests: Option<Digests>) -> 
 
 /// What is to be written of an answer on inputs with these digest lines.
 pub(crate) fn told<'i>(digested: Digested<'i>, answer: &Result<Verdict, Fault>) -> Answer<'i>
-    ensures { (inputs : Given) → digest_lines digested.entry ≡ digests_of (digested_of inputs) → IsReplyOf result (reply_to inputs answer.now) }
+    ensures { (inputs : Given) → digest_lines digested.entry ≡ digests_of (digested_of inputs)
+        → IsReplyOf result (reply_to inputs answer.now) }
 {
     Answer {
         digested,
@@ -105,7 +110,8 @@ pub(crate) fn told_or_memory<'i>(
     digested: Digested<'i>,
     answer: Result<Verdict, Fault>,
 ) -> Result<Answer<'i>, AllocError>
-    ensures { (inputs : Given) → digest_lines digested.entry ≡ digests_of (digested_of inputs) → IsAnswerTo inputs answer
+    ensures { (inputs : Given) → digest_lines digested.entry ≡ digests_of (digested_of inputs)
+        → IsAnswerTo inputs answer
         → IsAnswerBy (Tells inputs (IsResult inputs)) (TakesMemory inputs) result }
 {
     match answer {
@@ -116,7 +122,8 @@ pub(crate) fn told_or_memory<'i>(
 
 /// The files whose digests are told: several, and one behind them.
 fn checked_files<'i>(inputs: &Inputs<'i>) -> (&'i [Vec<u8>], Option<&'i [u8]>)
-    ensures { all_bytes result.0.now ++ list_of (option_map (λ file. file.now) result.1) ≡ digested_of (given inputs.now) }
+    ensures { all_bytes result.0.now ++ list_of (option_map (λ file. file.now) result.1)
+        ≡ digested_of (given inputs.now) }
 {
     match *inputs {
         Inputs::Replay { puzzle: _ } => (&[], None),

@@ -1,26 +1,10 @@
 //! Verdicts on claims.
 
-ghost use Rattle.std.specs.Prelude.{◌≡◌, ◌⊎◌, Ok};
-ghost use Rattle.work_run.specs.Workers.{AreWorkers};
-ghost use Rattle.pdb_verdict.specs.Inputs.{given};
-ghost use Rattle.pdb_verdict.specs.Verdicts.{HoldsOfSolutions, IsAnswerTo, IsTrueOf, LacksMemory};
-
-use crate::bound::verify_bound;
-use crate::bundles::Tables;
-use crate::inputs::Inputs;
-use crate::optimal::verify_optimal;
-use crate::replay::verify_puzzle;
-use crate::table::verify_table;
-use crate::workers::Workers;
 use log_check::LogRefusal;
 use puz_board::{BoardFault, MoveFault, Side};
 use set_sum::SetFault;
-use std::alloc::Global;
-use std::sync::Wait;
-use std::thread::Threads;
 use tab_rule::{Census, TableRefusal};
 use thiserror::Error;
-use work_run::Gate;
 
 /// A yes.
 #[derive(Clone, Copy, Debug, PartialEq, Eq)]
@@ -84,56 +68,4 @@ pub enum Fault {
     /// Memory was refused.
     #[error("no memory")]
     Memory,
-}
-
-/// The verdict on the inputs, or the first refusal that stands: of a puzzle text `P1`, then its board's, then its moves';
-/// of a table file its header's, then the least bad entry; of a log for a board the board's, each table file's in their order,
-/// the sets', then the log's, where each table is folded before the next is checked, if that is asked for; of moves and a log those of a puzzle text, then from the tables on as before, then `O1`.
-/// Want of memory may be answered in place of a table's verdict and all behind it, but not of what stands before: the refusals
-/// of a text, and that of the first table's header.
-pub fn verify<H: Threads + Wait, G: Gate + Sync>(
-    rt: &H,
-    alloc: Global,
-    inputs: &Inputs<'_>,
-    workers: u8,
-    gate: &G,
-) -> Result<Verdict, Fault>
-    requires { AreWorkers workers }
-    // A yes comes only where it is true, and always then where memory is there.
-    ensures yes { (verdict : Verdict) → result ≡ Ok verdict → IsTrueOf (given inputs.now) verdict }
-    ensures always { (verdict : Verdict) → IsTrueOf (given inputs.now) verdict → (result ≡ Ok verdict) ⊎ LacksMemory (given inputs.now) result }
-    // No solution has fewer moves than a bound, and an optimum is the least number of moves of any.
-    ensures holds { (verdict : Verdict) → result ≡ Ok verdict → HoldsOfSolutions (given inputs.now) verdict }
-    // Which refusal it is.
-    ensures exact { IsAnswerTo (given inputs.now) result }
-{
-    verify_by(alloc, inputs, &Workers::new(rt, workers, gate))
-}
-
-/// What these workers answer to inputs.
-pub(crate) fn verify_by<H: Threads + Wait, G: Gate + Sync>(
-    alloc: Global,
-    inputs: &Inputs<'_>,
-    workers: &Workers<'_, H, G>,
-) -> Result<Verdict, Fault>
-    ensures { IsAnswerTo (given inputs.now) result }
-{
-    match *inputs {
-        Inputs::Replay { puzzle } => verify_puzzle(puzzle),
-        Inputs::Table { table } => verify_table(alloc, table, workers),
-        Inputs::Bound {
-            board,
-            sets,
-            log,
-            tables: files,
-            fold,
-        } => verify_bound(alloc, board, sets, log, Tables { files, fold }, workers),
-        Inputs::Optimal {
-            puzzle,
-            sets,
-            log,
-            tables: files,
-            fold,
-        } => verify_optimal(alloc, puzzle, sets, log, Tables { files, fold }, workers),
-    }
 }

@@ -3,12 +3,15 @@
 ghost use Rattle.std.specs.Prelude.{◌≡◌, ℕ};
 ghost use Rattle.work_run.specs.Workers.{AreWorkers};
 
+use std::alloc::Global;
 use std::marker::Model;
 
-/// Workers: what starts their threads, how many they are, from 1 to 64, and the gate that each passes before a block.
+/// Workers: what starts their threads, the memory that they and their caller take, how many they are, from 1 to 64, and the gate
+/// that each passes before a block.
 #[derive(Drop)]
 pub struct Workers<'a, H, G> {
     pub rt: &'a H,
+    pub alloc: Global,
     pub count: u8,
     pub(crate) gate: &'a G,
 }
@@ -23,10 +26,15 @@ impl<'a, H, G> Model for Workers<'a, H, G> {
 
 impl<'a, H, G> Workers<'a, H, G> {
     /// So many workers.
-    pub fn new(rt: &'a H, count: u8, gate: &'a G) -> Workers<'a, H, G>
+    pub fn new(rt: &'a H, alloc: Global, count: u8, gate: &'a G) -> Workers<'a, H, G>
         requires { AreWorkers count }
         ensures { result ≡ count }
     {
-        Workers { rt, count, gate }
+        Workers {
+            rt,
+            alloc,
+            count,
+            gate,
+        }
     }
 }

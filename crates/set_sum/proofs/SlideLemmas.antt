@@ -12,7 +12,7 @@ use Rattle.puz_board.specs.Transposing.{transposed, transposed_cell}
 use Rattle.puz_board.proofs.BoardLemmas.{cell_of-below, cells_least, cells_most, side_of-board}
 use Rattle.puz_board.proofs.CellLemmas.{step_of-inside}
 use Rattle.puz_board.proofs.TransposeLemmas.{blank-transposed, slid-transposed}
-use Rattle.tab_check.specs.Counts.{AreCellsOf}
+use Rattle.tab_rule.specs.Counts.{AreCellsOf}
 use Rattle.set_sum.specs.Bundles.{BundleView}
 use Rattle.set_sum.specs.Owners.{AreOwners, place_of}
 use Rattle.set_sum.specs.Steps.{IsStepFrom}

@@ -1,12 +1,12 @@
 //! What members are known to say of a board of a walk.
 
 ghost use Rattle.std.specs.Prelude.{◌≡◌, ℕ, ◌<◌, ◌≤◌, length};
-ghost use Rattle.tab_check.specs.declared.tables.Count.TheVariants.{Finite};
+ghost use Rattle.tab_rule.specs.declared.tables.Count.TheVariants.{Finite};
 ghost use Rattle.set_sum.specs.StoredSums.{IsJoined, IsNoted, said_by};
 
 use crate::bundles::MOST_MEMBERS;
 use puz_board::masks::{first_of, with, without};
-use tab_check::Count;
+use tab_rule::Count;
 
 /// The entry that stands for `Never`.
 const NEVER: u8 = 255;

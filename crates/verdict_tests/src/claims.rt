@@ -5,7 +5,7 @@ ghost use Rattle.std.specs.Prelude.{◌<◌, ◌≤◌};
 use crate::sha256;
 use crate::telling::{joined, tells};
 use pdb_io::memory::MemShelf;
-use pdb_run::Status;
+use pdb_run::{BorrowedIo, Status};
 use pdb_verdict::{ClaimNames, Fault, Inputs, Verdict, Workers, run_bound, run_optimal, verify};
 use samples::HoldingGate;
 use samples::files::{TILE_1, TILE_3, TILE_24, TILES_12, TILES_123, with_byte};
@@ -374,11 +374,16 @@ fn shelf(alloc: Global) -> Result<MemShelf, AllocError> {
 fn claims_are_told_behind_the_digests_of_their_tables(rt: HostRuntime) -> Result<(), Fail> {
     let alloc = rt.alloc();
     let mut shelf = shelf(alloc)?;
-    let workers = Workers::new(&rt, 2, &OpenGate);
+    let workers = Workers::new(&rt, alloc, 2, &OpenGate);
     let mut out = Vec::new(alloc);
     let mut reader = b"".as_slice();
-    let bound = run_bound(alloc, NAMES, &workers, &mut shelf, &mut reader, &mut out);
-    let optimal = run_optimal(alloc, NAMES, &workers, &mut shelf, &mut reader, &mut out);
+    let mut io = BorrowedIo {
+        shelf: &mut shelf,
+        reader: &mut reader,
+        out: &mut out,
+    };
+    let bound = run_bound(NAMES, &workers, &mut io);
+    let optimal = run_optimal(NAMES, &workers, &mut io);
     assert!(rt; bound == Status::Refused && optimal == Status::Refused);
     let told = [
         sha256::OF_123,
@@ -398,7 +403,7 @@ fn claims_are_told_behind_the_digests_of_their_tables(rt: HostRuntime) -> Result
 fn claims_are_read_in_the_order_of_their_names(rt: HostRuntime) -> Result<(), Fail> {
     let alloc = rt.alloc();
     let mut shelf = shelf(alloc)?;
-    let workers = Workers::new(&rt, 2, &OpenGate);
+    let workers = Workers::new(&rt, alloc, 2, &OpenGate);
     let no_sets = ClaimNames {
         sets: "none",
         log: "no log",
@@ -410,8 +415,13 @@ fn claims_are_read_in_the_order_of_their_names(rt: HostRuntime) -> Result<(), Fa
     };
     let mut out = Vec::new(alloc);
     let mut reader = b"".as_slice();
+    let mut io = BorrowedIo {
+        shelf: &mut shelf,
+        reader: &mut reader,
+        out: &mut out,
+    };
     for names in [no_sets, no_table] {
-        let status = run_bound(alloc, names, &workers, &mut shelf, &mut reader, &mut out);
+        let status = run_bound(names, &workers, &mut io);
         assert!(rt; status == Status::Fault);
     }
     assert!(rt; out.as_slice() == b"fault read none\nfault read no table\n".as_slice());

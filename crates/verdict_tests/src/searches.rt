@@ -4,7 +4,7 @@ use crate::sha256;
 use crate::telling::joined;
 use pdb_io::memory::MemShelf;
 use pdb_keep::{SearchNames, run_solve};
-use pdb_run::Status;
+use pdb_run::{BorrowedIo, Status};
 use pdb_verdict::{ClaimNames, Workers, run_optimal};
 use samples::files::{TILE_24, TILES_12, TILES_123, with_byte};
 use std::alloc::{AllocError, Global};
@@ -60,15 +60,12 @@ fn solved<H: Threads + Wait + Sync>(
     };
     let mut out = Vec::new(alloc);
     let mut reader = b"".as_slice();
-    let status = run_solve(
-        alloc,
-        names,
-        budget,
-        workers,
-        &mut shelf,
-        &mut reader,
-        &mut out,
-    );
+    let mut io = BorrowedIo {
+        shelf: &mut shelf,
+        reader: &mut reader,
+        out: &mut out,
+    };
+    let status = run_solve(names, budget, workers, &mut io);
     Ok((status, out, shelf))
 }
 
@@ -107,7 +104,12 @@ fn verdict_on<H: Threads + Wait + Sync>(
     };
     let mut told = Vec::new(alloc);
     let mut reader = b"".as_slice();
-    let status = run_optimal(alloc, names, workers, &mut claim, &mut reader, &mut told);
+    let mut io = BorrowedIo {
+        shelf: &mut claim,
+        reader: &mut reader,
+        out: &mut told,
+    };
+    let status = run_optimal(names, workers, &mut io);
     (status, told)
 }
 
@@ -140,7 +142,7 @@ fn check_solution<H: Threads + Wait + Sync + Abort>(
     line: &[u8],
 ) -> Result<(), Fail> {
     for (fold, count) in WAYS {
-        let workers = Workers::new(rt, count, &OpenGate);
+        let workers = Workers::new(rt, alloc, count, &OpenGate);
         let (status, out, shelf) = solved(alloc, task, fold, PLENTY, &workers)?;
         assert!(rt; status == Status::Yes);
         let log = shelf.get("o").ok_or("a log is kept")?;
@@ -180,7 +182,7 @@ fn six_letters_solve_a_board_of_six_moves(rt: HostRuntime) -> Result<(), Fail> {
         sets: b"set 0\n",
         table: &TILES_12,
     };
-    let workers = Workers::new(&rt, 1, &OpenGate);
+    let workers = Workers::new(&rt, alloc, 1, &OpenGate);
     let (_status, out, _shelf) = solved(alloc, &task, true, PLENTY, &workers)?;
     let moves = out.get(150..156).ok_or("six letters")?;
     check_solution(&rt, alloc, &task, moves, b"optimal 6\n")
@@ -194,7 +196,7 @@ fn expect_refused<H: Threads + Wait + Sync + Abort>(
     budget: u64,
     told: [&[u8]; 2],
 ) -> Result<(), Fail> {
-    let workers = Workers::new(rt, 2, &OpenGate);
+    let workers = Workers::new(rt, alloc, 2, &OpenGate);
     for fold in [false, true] {
         let (status, out, shelf) = solved(alloc, task, fold, budget, &workers)?;
         assert!(rt; status == Status::Refused);
@@ -309,19 +311,16 @@ fn ended_under<H: Threads + Wait + Sync>(
     alloc: Global,
     names: SearchNames<'_, '_>,
 ) -> Result<(Status, Vec<u8>), Fail> {
-    let workers = Workers::new(rt, 2, &OpenGate);
+    let workers = Workers::new(rt, alloc, 2, &OpenGate);
     let mut shelf = shelf(alloc)?;
     let mut out = Vec::new(alloc);
     let mut reader = b"".as_slice();
-    let status = run_solve(
-        alloc,
-        names,
-        PLENTY,
-        &workers,
-        &mut shelf,
-        &mut reader,
-        &mut out,
-    );
+    let mut io = BorrowedIo {
+        shelf: &mut shelf,
+        reader: &mut reader,
+        out: &mut out,
+    };
+    let status = run_solve(names, PLENTY, &workers, &mut io);
     Ok((status, out))
 }
 

@@ -2,7 +2,7 @@
 
 use pdb_io::memory::MemShelf;
 use pdb_keep::{MakeTable, SearchNames, run_make_table, run_solve};
-use pdb_run::Status;
+use pdb_run::{BorrowedIo, Status};
 use pdb_verdict::{ClaimNames, Workers, run_bound, run_optimal, run_replay, run_table};
 use sample_streams::{FailingShelf, ShelfFault};
 use samples::files::{TILE_3, TILES_12};
@@ -44,8 +44,13 @@ fn ended<H: Threads + Wait + Sync>(
     shelf: &mut FailingShelf,
     out: &mut Vec<u8>,
 ) -> Status {
-    let workers = Workers::new(rt, 1, &OpenGate);
+    let workers = Workers::new(rt, alloc, 1, &OpenGate);
     let mut reader = b"".as_slice();
+    let io = &mut BorrowedIo {
+        shelf,
+        reader: &mut reader,
+        out,
+    };
     let claim = ClaimNames {
         text: "board",
         sets: "sets",
@@ -54,15 +59,15 @@ fn ended<H: Threads + Wait + Sync>(
         fold: false,
     };
     match command {
-        Command::Replay => run_replay(alloc, Some("puzzle"), shelf, &mut reader, out),
-        Command::Table => run_table(alloc, "f12", &workers, shelf, &mut reader, out),
-        Command::Bound => run_bound(alloc, claim, &workers, shelf, &mut reader, out),
+        Command::Replay => run_replay(alloc, Some("puzzle"), io),
+        Command::Table => run_table("f12", &workers, io),
+        Command::Bound => run_bound(claim, &workers, io),
         Command::Optimal => {
             let names = ClaimNames {
                 text: "puzzle",
                 ..claim
             };
-            run_optimal(alloc, names, &workers, shelf, &mut reader, out)
+            run_optimal(names, &workers, io)
         }
         Command::Solve => {
             let names = SearchNames {
@@ -72,7 +77,7 @@ fn ended<H: Threads + Wait + Sync>(
                 tables: &["f12", "f3"],
                 fold: false,
             };
-            run_solve(alloc, names, 1_000, &workers, shelf, &mut reader, out)
+            run_solve(names, 1_000, &workers, io)
         }
         Command::MakeTable => {
             let pattern = MakeTable {
@@ -80,7 +85,7 @@ fn ended<H: Threads + Wait + Sync>(
                 mask: 6,
                 out: "o",
             };
-            run_make_table(alloc, pattern, &workers, shelf, &mut reader, out)
+            run_make_table(pattern, &workers, io)
         }
     }
 }

@@ -4,7 +4,7 @@ use crate::sha256;
 use crate::telling::joined;
 use pdb_io::memory::MemShelf;
 use pdb_keep::{MakeTable, run_make_table};
-use pdb_run::Status;
+use pdb_run::{BorrowedIo, Status};
 use pdb_verdict::Workers;
 use samples::files::{TILE_24, TILES_12, TILES_123};
 use std::alloc::Global;
@@ -24,7 +24,7 @@ fn makes<H: Threads + Wait + Sync>(
 ) -> Result<bool, Fail> {
     for count in [1u8, 2, 7] {
         let mut shelf = MemShelf::of(alloc, &[("o", b"old".as_slice())])?;
-        let workers = Workers::new(rt, count, &OpenGate);
+        let workers = Workers::new(rt, alloc, count, &OpenGate);
         let mut out = Vec::new(alloc);
         let mut reader = b"".as_slice();
         let command = MakeTable {
@@ -32,7 +32,12 @@ fn makes<H: Threads + Wait + Sync>(
             mask,
             out: "o",
         };
-        let status = run_make_table(alloc, command, &workers, &mut shelf, &mut reader, &mut out);
+        let mut io = BorrowedIo {
+            shelf: &mut shelf,
+            reader: &mut reader,
+            out: &mut out,
+        };
+        let status = run_make_table(command, &workers, &mut io);
         let is_kept = shelf.get("o") == Some(file);
         if status != Status::Yes || out.as_slice() != told || !is_kept {
             return Ok(false);
@@ -77,7 +82,7 @@ fn tables_are_made_told_and_kept(rt: HostRuntime) -> Result<(), Fail> {
 #[test]
 fn nothing_is_made_of_what_is_no_pattern(rt: HostRuntime) -> Result<(), Fail> {
     let alloc = rt.alloc();
-    let workers = Workers::new(&rt, 1, &OpenGate);
+    let workers = Workers::new(&rt, alloc, 1, &OpenGate);
     let cases: [(u8, u32); 6] = [(2, 1), (6, 2), (2, 0), (2, 16), (0, 2), (5, 254)];
     for (side, mask) in cases {
         let mut shelf = MemShelf::of(alloc, &[("p", b"other".as_slice())])?;
@@ -88,7 +93,12 @@ fn nothing_is_made_of_what_is_no_pattern(rt: HostRuntime) -> Result<(), Fail> {
             mask,
             out: "o",
         };
-        let status = run_make_table(alloc, command, &workers, &mut shelf, &mut reader, &mut out);
+        let mut io = BorrowedIo {
+            shelf: &mut shelf,
+            reader: &mut reader,
+            out: &mut out,
+        };
+        let status = run_make_table(command, &workers, &mut io);
         assert!(rt; status == Status::Refused);
         assert!(rt; out.as_slice() == b"refused K4\n".as_slice());
         assert!(rt; shelf.get("o").is_none());

@@ -3,7 +3,7 @@
 use crate::sha256;
 use crate::telling::{joined, tells};
 use pdb_io::memory::MemShelf;
-use pdb_run::Status;
+use pdb_run::{BorrowedIo, Status};
 use pdb_verdict::{
     Fault, Inputs, MakeRefusal, digests, line, report, run_replay, verify, verify_puzzle,
 };
@@ -227,8 +227,13 @@ fn a_replay_runs_without_threads(rt: HostRuntime) -> Result<(), Fail> {
     let mut shelf = MemShelf::of(alloc, &[("one", b"1 0 2 3 ; L".as_slice())])?;
     let mut reader = b"1 0 2 3 ; U".as_slice();
     let mut out = Vec::new(alloc);
-    let named = run_replay(alloc, Some("one"), &mut shelf, &mut reader, &mut out);
-    let unnamed = run_replay(alloc, None, &mut shelf, &mut reader, &mut out);
+    let mut io = BorrowedIo {
+        shelf: &mut shelf,
+        reader: &mut reader,
+        out: &mut out,
+    };
+    let named = run_replay(alloc, Some("one"), &mut io);
+    let unnamed = run_replay(alloc, None, &mut io);
     assert!(rt; named == Status::Yes && unnamed == Status::Refused);
     assert!(rt; out.as_slice() == b"solution 1\nrefused M2 at step 0\n".as_slice());
     Ok(())

@@ -19,15 +19,15 @@ answer_of-answer-requires g c =
     made_moves (λ made. made.moves.items) (λ made. made.log.items) (λ made. made.answer) true text sets (all_bytes files) c.search_in-outcome.result
     (c.search_in-outcome.ensures true sets (all_bytes files) spelt c.fold_bundle-digests.ensures.ok c.fold_bundle-digests.ensures.err)
 
-pub returns-in_default : goal.returns-in_default
-returns-in_default g c = λ old new are behind was_held is_held was_failed is_failed is_old is_new.
+pub returns-in_default-clause-ends : goal.returns-in_default-clause-ends
+returns-in_default-clause-ends g c = λ old are.
     let files = all_bytes c.args.inputs.items in
     let by = subst (λ (b : Bool). IsAnswerBy (IsSolveReply b files) (SolveTakesMemory files) c.answer_solve-answer.result) (sym c.requires.folds)
     (subst (λ xs. IsAnswerBy (IsSolveReply true (all_bytes xs)) (SolveTakesMemory (all_bytes xs)) c.answer_solve-answer.result) c.as_slice-in_default.ensures.value c.answer_solve-answer.ensures) in
-    c.keep_and_conclude.ensures files old new by are behind was_held is_held was_failed is_failed is_old is_new
+    c.keep_and_conclude.ensures.ends files old are by
 
-pub returns : goal.returns
-returns g c = λ old new are behind was_held is_held was_failed is_failed is_old is_new.
+pub returns-clause-ends : goal.returns-clause-ends
+returns-clause-ends g c = λ old are.
     let inputs = all_bytes c.args.inputs.items in
     let text = c.as_slice-text.result.now in
     let sets = c.as_slice-sets.result.now in
@@ -40,4 +40,4 @@ returns g c = λ old new are behind was_held is_held was_failed is_failed is_old
     let by = subst (λ (b : Bool). IsAnswerBy (IsSolveReply b inputs) (SolveTakesMemory inputs) c.answer_of-answer.result) (sym c.requires.folds)
     (subst (λ (xs : List Bytes). IsAnswerBy (IsSolveReply true xs) (SolveTakesMemory xs) c.answer_of-answer.result) (sym order)
     (c.answer_of-answer.ensures true text sets (all_bytes files) c.fold_bundle-digests.ensures.digests comes)) in
-    c.keep_and_conclude-2.ensures inputs old new by are behind was_held is_held was_failed is_failed is_old is_new
+    c.keep_and_conclude-2.ensures.ends inputs old are by

@@ -1,7 +1,6 @@
 use Rattle.std.proofs.Common.{◌≡◌, ◌≢◌, IfErr, IfOk, rules, subst, sym}
 use Rattle.puz_board.specs.Boards.{side_of}
-use Rattle.pdb_verdict.specs.Bundles.{IsBundleOfFiles}
-use Rattle.pdb_verdict.specs.Steps.{IsCauseForBundle}
+use Rattle.pdb_verdict.specs.Bundles.{IsBundleOfFiles, IsCauseForBundle}
 use Rattle.pdb_keep.specs.Steps.{IsCauseForSearch}
 use Rattle.pdb_keep.proofs.MakerLemmas.{given_up, made_over, no_bundle}
 use Rattle.pdb_keep.proofs.solve.search_in.Goals as goal

@@ -1,12 +1,10 @@
 use Rattle.std.proofs.Common.{◌∙◌, ap}
 use Rattle.pdb_run.specs.Statuses.{status_number}
 use Rattle.pdb_program.proofs.HeadlineLemmas.{headline_on}
-use Rattle.pdb_program.proofs.ProgramLemmas.{runs_on}
 use Rattle.pdb_program.proofs.starts.start.Goals as goal
 
 pub returns-in-Ok-clause-runs : goal.returns-in-Ok-clause-runs
-returns-in-Ok-clause-runs g c =
-    rw c.in-Ok.is (runs_on _ _ _ _ _ _ _ c.words_in.ensures c.run.ensures.ends c.run.ensures.refuses c.run.ensures.quiet c.run.ensures.kept c.run.ensures.same)
+returns-in-Ok-clause-runs g c = rw (c.in-Ok.is, ← c.words_in.ensures) c.run.ensures.runs
 
 pub returns-in-Err-clause-unreadable : goal.returns-in-Err-clause-unreadable
 returns-in-Err-clause-unreadable g c = rw c.in-Err.is (λ no.

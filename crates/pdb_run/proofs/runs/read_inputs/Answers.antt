@@ -1,25 +1,18 @@
-use Rattle.std.proofs.Common.{◌∙◌, ap, map, List, subst}
-use Rattle.pdb_run.specs.Commands.{Wanted}
-use Rattle.pdb_run.specs.Inputs.{AreRead, IsAsTold, left_by_all, wanted_of}
+use Rattle.std.proofs.Common.{◌∙◌, ap, map}
 use Rattle.pdb_run.specs.Answers.{all_bytes}
-use Rattle.pdb_run.proofs.ReadingLemmas.{inputs_match}
-use Rattle.pdb_run.proofs.RunLemmas.{ends_unread}
+use Rattle.pdb_run.specs.Inputs.{wanted_of}
+use Rattle.pdb_run.proofs.ReadingLemmas.{inputs_match, read_of}
+use Rattle.pdb_run.proofs.RunLemmas.{ends_unlisted, ends_unread}
 use Rattle.pdb_run.proofs.runs.read_inputs.Goals as goal
 
 pub returns-in-Ok-load_all-clause-read : goal.returns-in-Ok-load_all-clause-read
 returns-in-Ok-load_all-clause-read g c =
-    subst (λ (ws : List Wanted). AreRead (g.S.Shelf.held c.args.shelf.now) (g.R.Read.remaining c.args.reader.now) ws (all_bytes c.in-Ok-load_all.inputs.items))
-    (ap (map wanted_of) c.as_slice.ensures.value ∙ c.in-Ok.ensures.all) c.in-Ok-load_all.ensures.read
-
-pub returns-in-Ok-load_all-clause-behind : goal.returns-in-Ok-load_all-clause-behind
-returns-in-Ok-load_all-clause-behind g c =
-    subst (λ (ws : List Wanted). IsAsTold (left_by_all (g.R.Read.remaining c.args.reader.now) ws) (g.R.Read.remaining c.load_all.new.reader))
-    (ap (map wanted_of) c.as_slice.ensures.value ∙ c.in-Ok.ensures.all) c.in-Ok-load_all.ensures.behind
+    read_of _ _ _ _ (all_bytes c.in-Ok-load_all.inputs.items) (ap (map wanted_of) c.as_slice.ensures.value ∙ c.in-Ok.ensures.all) c.in-Ok-load_all.ensures.read
 
 pub returns-in-Ok-load_all-clause-count : goal.returns-in-Ok-load_all-clause-count
 returns-in-Ok-load_all-clause-count g c =
-    inputs_match _ _ c.as_slice.result.now _ c.in-Ok-load_all.inputs.items c.in-Ok-load_all.ensures.read (ap (map wanted_of) c.as_slice.ensures.value ∙ c.in-Ok.ensures.all)
+    inputs_match _ _ c.as_slice.result.now _ c.in-Ok-load_all.inputs.items c.in-Ok-load_all.ensures.read.read (ap (map wanted_of) c.as_slice.ensures.value ∙ c.in-Ok.ensures.all)
 
 pub returns-clause-ends : goal.returns-clause-ends
 returns-clause-ends g c =
-    ends_unread _ _ _ _ _ (wanted_of c.in-Err.fault.input) c.in-Err.fault.why (ap (map wanted_of) c.as_slice.ensures.value ∙ c.in-Ok.ensures.all) c.in-Err.ensures.unread c.load_all.ensures.same c.say_unread.ensures
+    ends_unread _ _ _ _ _ _ (wanted_of c.in-Err.fault.input) c.in-Err.fault.why (ap (map wanted_of) c.as_slice.ensures.value ∙ c.in-Ok.ensures.all) c.in-Err.ensures.unread c.say_unread.ensures.said

@@ -2,8 +2,8 @@ use Rattle.std.proofs.Common.{◌∙◌, ◌++◌, Err, IfErr, IfOk, ap, subst, 
 use Rattle.pdb_io.specs.Shelf.{Bytes}
 use Rattle.pdb_run.specs.Answers.{all_bytes}
 use Rattle.pdb_run.specs.Writing.{digest_line}
-use Rattle.pdb_verdict.specs.Bundles.{IsBundleOfFiles}
-use Rattle.pdb_verdict.specs.Steps.{IsCauseForBundle, IsFoundFor}
+use Rattle.pdb_verdict.specs.Bundles.{IsBundleOfFiles, IsCauseForBundle}
+use Rattle.pdb_verdict.specs.Steps.{IsFoundFor}
 use Rattle.pdb_verdict.proofs.BoundLemmas.{cause_found, found_over}
 use Rattle.pdb_verdict.proofs.FoldingLemmas.{digests-snoc}
 use Rattle.pdb_verdict.proofs.bound.bound_of_files.Goals as goal

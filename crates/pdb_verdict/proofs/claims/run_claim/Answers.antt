@@ -1,19 +1,14 @@
-use Rattle.std.proofs.Common.{refl, subst}
+use Rattle.std.proofs.Common.{subst}
 use Rattle.pdb_run.specs.Answers.{IsAnswerBy, all_bytes}
-use Rattle.pdb_run.specs.Runs.{world}
 use Rattle.pdb_verdict.specs.Claims.{ClaimTakesMemory, IsClaimReply}
 use Rattle.pdb_verdict.proofs.claims.run_claim.Goals as goal
 
-pub returns-then-claim : goal.returns-then-claim
-returns-then-claim g c =
-    let was = world (g.S.Shelf.held c.args.shelf.now) (g.S.Shelf.has_failed c.args.shelf.now) (g.R.Read.remaining c.args.reader.now) (g.W.Write.contents c.args.out.now) in
-    let is = world (g.S.Shelf.held c.read_inputs.new.shelf) (g.S.Shelf.has_failed c.read_inputs.new.shelf) (g.R.Read.remaining c.read_inputs.new.reader) (g.W.Write.contents c.conclude_folded.new.out) in
-    c.conclude_folded.ensures was is c.in-Ok.ensures.read c.in-Ok.ensures.behind c.in-Ok.ensures.same c.in-Ok.ensures.silent refl
+pub returns-then-claim-clause-ends : goal.returns-then-claim-clause-ends
+returns-then-claim-clause-ends g c = c.conclude_folded.ensures.ends _ c.in-Ok.ensures.read
 
-pub returns : goal.returns
-returns g c =
-    let was = world (g.S.Shelf.held c.args.shelf.now) (g.S.Shelf.has_failed c.args.shelf.now) (g.R.Read.remaining c.args.reader.now) (g.W.Write.contents c.args.out.now) in
-    let is = world (g.S.Shelf.held c.read_inputs.new.shelf) (g.S.Shelf.has_failed c.read_inputs.new.shelf) (g.R.Read.remaining c.read_inputs.new.reader) (g.W.Write.contents c.conclude.new.out) in
-    let by = subst (λ xs. IsAnswerBy (IsClaimReply c.args.claim.now.claimed c.args.claim.now.names.fold (all_bytes xs)) (ClaimTakesMemory c.args.claim.now.claimed (all_bytes xs)) c.answer_claim-answer.result)
+pub returns-clause-ends : goal.returns-clause-ends
+returns-clause-ends g c =
+    let claim = c.args.claim.now in
+    let by = subst (λ xs. IsAnswerBy (IsClaimReply claim.claimed claim.names.fold (all_bytes xs)) (ClaimTakesMemory claim.claimed (all_bytes xs)) c.answer_claim-answer.result)
     c.as_slice.ensures.value c.answer_claim-answer.ensures in
-    c.conclude.ensures (all_bytes c.in-Ok.inputs.items) was is by c.in-Ok.ensures.read c.in-Ok.ensures.behind c.in-Ok.ensures.same c.in-Ok.ensures.silent refl
+    c.conclude.ensures.ends (all_bytes c.in-Ok.inputs.items) _ c.in-Ok.ensures.read by

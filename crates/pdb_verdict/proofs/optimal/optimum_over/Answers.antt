@@ -1,6 +1,6 @@
 use Rattle.std.proofs.Common.{◌∙◌, List, ℕ, Result, ap, subst, sym}
-use Rattle.pdb_verdict.specs.Optimal.{of_halves}
-use Rattle.pdb_verdict.specs.Steps.{IsOptimumOver, or_failure}
+use Rattle.pdb_verdict.specs.Optimal.{IsOptimumOver, of_halves}
+use Rattle.pdb_verdict.specs.Refusals.{or_failure}
 use Rattle.pdb_verdict.specs.declared.refusals.ReplayRefusal.{ReplayRefusal}
 use Rattle.pdb_verdict.proofs.optimal.optimum_over.Goals as goal
 

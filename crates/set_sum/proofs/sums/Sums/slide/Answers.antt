@@ -4,7 +4,7 @@ use Rattle.puz_board.specs.Cells.{Adjacent}
 use Rattle.puz_board.specs.Transposing.{transposed, transposed_cell}
 use Rattle.puz_board.proofs.BoardLemmas.{IsBoardOf-slid, cells_most}
 use Rattle.puz_board.proofs.TransposeLemmas.{cell_below}
-use Rattle.tab_check.specs.Counts.{AreCellsOf}
+use Rattle.tab_rule.specs.Counts.{AreCellsOf}
 use Rattle.set_sum.specs.Owners.{AreOwners}
 use Rattle.set_sum.specs.StoredSums.{IsKnownOf, numbers_shown}
 use Rattle.set_sum.specs.SumViews.{SumsView}

@@ -1,7 +1,7 @@
 use Rattle.std.proofs.Common.{[], ap, append_assoc, codes, map, ◌++◌, ◌∙◌}
 use Rattle.pdb_run.specs.Writing.{shown_byte}
 use Rattle.pdb_run.proofs.PageLemmas.{gathers_more, on_err, said_front, said_stopped, said_whole}
-use Rattle.pdb_run.proofs.runs.put_named.Goals as goal
+use Rattle.pdb_run.proofs.writing.put_named.Goals as goal
 
 pub returns-in_err-add_name-clause-front : goal.returns-in_err-add_name-clause-front
 returns-in_err-add_name-clause-front g c =

@@ -1,6 +1,6 @@
 use Rattle.pdb_verdict.specs.Inputs.{given}
 use Rattle.pdb_verdict.proofs.VerdictLemmas.{true_holds, true_is_yes, yes_is_true}
-use Rattle.pdb_verdict.proofs.verdicts.verify.Goals as goal
+use Rattle.pdb_verdict.proofs.checks.verify.Goals as goal
 
 pub returns-clause-yes : goal.returns-clause-yes
 returns-clause-yes g c = yes_is_true (given c.args.inputs.now) c.verify_by.result c.verify_by.ensures

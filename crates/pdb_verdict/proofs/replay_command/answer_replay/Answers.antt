@@ -6,7 +6,7 @@ use Rattle.pdb_verdict.specs.Lines.{reply_to}
 use Rattle.pdb_verdict.specs.Replay.{IsReplayReply}
 use Rattle.std.proofs.Common.{refl}
 use Rattle.pdb_verdict.proofs.StartLemmas.{only_input}
-use Rattle.pdb_verdict.proofs.replay.answer_replay.Goals as goal
+use Rattle.pdb_verdict.proofs.replay_command.answer_replay.Goals as goal
 
 pub returns : goal.returns
 returns c =

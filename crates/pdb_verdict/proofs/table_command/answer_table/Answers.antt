@@ -4,7 +4,7 @@ use Rattle.pdb_run.specs.Answers.{IsAnswerBy, all_bytes}
 use Rattle.pdb_verdict.specs.Inputs.{table_file}
 use Rattle.pdb_verdict.specs.Table.{IsTableReply, TakesMemoryForTable}
 use Rattle.pdb_verdict.proofs.StartLemmas.{only_input}
-use Rattle.pdb_verdict.proofs.table.answer_table.Goals as goal
+use Rattle.pdb_verdict.proofs.table_command.answer_table.Goals as goal
 
 pub returns : goal.returns
 returns g c =

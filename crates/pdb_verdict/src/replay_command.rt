@@ -1,0 +1,58 @@
+//! The command `replay`.
+
+ghost use Rattle.std.specs.Prelude.{◌≡◌, length, option_map};
+ghost use Rattle.pdb_run.specs.Answers.{SaysRight, all_bytes};
+ghost use Rattle.pdb_run.specs.Runs.{Ends};
+ghost use Rattle.pdb_verdict.specs.Replay.{IsReplayReply, replay_plan};
+
+use crate::inputs::Inputs;
+use crate::limits::a_text;
+use crate::replay::verify_puzzle;
+use crate::reports::{digested_by, told};
+use pdb_run::{Answer, Command, Input, Io, Status, conclude, read_inputs};
+use std::alloc::{AllocError, Global};
+
+/// The command `replay`: the verdict on the puzzle text under this name, or of the reader.
+#[derive(Clone, Copy)]
+struct Replay<'a> {
+    name: Option<&'a str>,
+}
+
+impl Command for Replay<'_> {
+    ghost plan = { λ command. replay_plan (option_map (λ s. s.now) command.name) };
+
+    fn inputs(&self, alloc: Global) -> Result<Vec<Input<'_>>, AllocError> {
+        let mut inputs = Vec::new(alloc);
+        inputs.push(a_text(self.name))?;
+        Ok(inputs)
+    }
+}
+
+/// A whole run of `replay`, without threads: it returns where its shelf, its reader and its writer do.
+#[inline(never)] // so that the stack has the values of one command alone
+pub fn run_replay<I: Io>(alloc: Global, name: Option<&str>, io: &mut I) -> Status
+    ensures same_streams { I.streams io.new ≡ I.streams io.old }
+    ensures ends { let plan = replay_plan (option_map (λ s. s.now) name.entry) in
+        Ends plan (I.world io.old) (I.world io.new) result }
+{
+    let command = Replay { name };
+    match read_inputs(alloc, &command, io) {
+        Ok(inputs) => {
+            let answer = Ok(answer_replay(inputs.as_slice()));
+            conclude(&command, &answer, io)
+        }
+        Err(status) => status,
+    }
+}
+
+/// The answer on the bytes of the one input.
+fn answer_replay<'i>(inputs: &'i [Vec<u8>]) -> Answer<'i>
+    requires { length inputs.now ≡ 1 }
+    ensures { SaysRight (IsReplayReply (all_bytes inputs.now)) result }
+{
+    let puzzle = inputs[0].as_slice();
+    told(
+        digested_by(&Inputs::Replay { puzzle }, None),
+        &verify_puzzle(puzzle),
+    )
+}
