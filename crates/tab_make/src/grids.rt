@@ -1,5 +1,4 @@
-//! The board of a pattern as masks of cells, and how far apart its placements stand in a table. The search for logs looks its
-//! entries up by the same numbers. No clause speaks of them.
+//! The board of a pattern as masks of cells, and how far apart its placements are in a table.
 
 use crate::entries::MOST_TILES;
 use pat_place::Pattern;
@@ -10,19 +9,19 @@ const MOST_STEPS: u8 = 25;
 
 /// What is the same for all placements of a pattern.
 #[derive(Clone, Copy)]
-pub struct Grid {
+pub(crate) struct Grid {
     /// How many cells a row has.
     pub(crate) side: u8,
     /// How many tiles the pattern has.
-    pub size: u8,
+    pub(crate) size: u8,
     /// How many slots each placement has.
-    pub width: usize,
+    pub(crate) width: usize,
     /// How many entries a run has: the placements that differ in the last tile alone.
     pub(crate) run: usize,
     /// All cells.
-    pub all: u32,
+    pub(crate) all: u32,
     /// By how much the number of an entry grows where a tile goes to the next cell that the tiles before it leave.
-    pub weights: [u32; MOST_TILES],
+    pub(crate) weights: [u32; MOST_TILES],
     /// The cells outside the first column: those that a step to the right enters.
     right: u32,
     /// The cells outside the last column: those that a step to the left enters.
@@ -31,18 +30,9 @@ pub struct Grid {
 
 impl Grid {
     /// The grid of a pattern.
-    pub fn new(pattern: &Pattern) -> Grid {
-        Grid::of_width(pattern, pattern.width())
-    }
-
-    /// The grid of a pattern's folded table.
-    pub fn folded(pattern: &Pattern) -> Grid {
-        Grid::of_width(pattern, 1)
-    }
-
-    /// The grid of a pattern, where each placement has so many slots.
-    fn of_width(pattern: &Pattern, width: u8) -> Grid {
+    pub(crate) fn new(pattern: &Pattern) -> Grid {
         let side = pattern.side();
+        let width = pattern.width();
         let all = all_below(side.cells());
         let run = usize::from(side.cells()) + 1 - usize::from(pattern.size());
         Grid {
@@ -65,7 +55,7 @@ impl Grid {
 
     /// The region of the least of some whole regions' cells, which is taken out of them.
     #[inline]
-    pub fn take_region(&self, free: &mut u32) -> u32 {
+    pub(crate) fn take_region(&self, free: &mut u32) -> u32 {
         let mut region = *free & free.wrapping_neg();
         for _ in 0..MOST_STEPS {
             let more = self.grown(region, *free);
@@ -90,13 +80,13 @@ impl Grid {
 
 /// The mask of one cell.
 #[inline]
-pub fn mask_of(cell: u8) -> u32 {
+pub(crate) fn mask_of(cell: u8) -> u32 {
     1u32.wrapping_shl(u32::from(cell))
 }
 
 /// The least number of a mask, which is taken out of it.
 #[inline]
-pub fn take_least(mask: &mut u32) -> u8 {
+pub(crate) fn take_least(mask: &mut u32) -> u8 {
     let least = mask.trailing_zeros() as u8;
     *mask &= mask.wrapping_sub(1);
     least

@@ -4,7 +4,7 @@
 mod counts;
 mod entries;
 mod faults;
-pub mod grids;
+mod grids;
 mod layers;
 mod sets;
 mod shapes;
@@ -13,7 +13,7 @@ mod tables;
 mod turns;
 mod walks;
 
-pub use entries::{MOST_TILES, entry_of};
+pub use entries::entry_of;
 pub use faults::MakeFault;
 pub use layers::layer;
 pub use tables::build;
