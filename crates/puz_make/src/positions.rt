@@ -87,12 +87,19 @@ impl<'a> Position<'a> {
     /// Looks up the boards that the moves lead to, but for that of the cell which the blank came from.
     #[inline]
     pub(crate) fn look_around(&mut self, came_from: u8, children: &mut Children) {
+        self.look(came_from, NOWHERE, children);
+    }
+
+    /// Looks up the boards that the moves lead to, but for that of a cell to leave out, and that of one cell alone if there is
+    /// such a cell.
+    #[inline]
+    fn look(&mut self, left_out: u8, alone: u8, children: &mut Children) {
         let first = 4 * usize::from(self.blank);
         let ways = self.ways.get(first..first + 4).unwrap_or(&[]);
         for (way, child) in ways.iter().zip(children.iter_mut()) {
             child.is_there = false;
             if let Some(way) = way {
-                if way.to != came_from {
+                if way.to != left_out && (alone == NOWHERE || way.to == alone) {
                     child.is_there = true;
                     child.blank = way.to;
                     child.tile = self.numbers[place_of(way.to)];
@@ -114,11 +121,11 @@ impl<'a> Position<'a> {
 
     /// Moves the blank to a cell beside it. Answers what there was.
     pub(crate) fn slide(&mut self, to: u8) -> Entries {
+        let mut children = [Child::none(); 4];
+        self.look(NOWHERE, to, &mut children);
         let mut child = Child::none();
-        let mut children = [child; 4];
-        self.look_around(NOWHERE, &mut children);
         for beside in &children {
-            if beside.is_there && beside.blank == to {
+            if beside.is_there {
                 child = *beside;
             }
         }
