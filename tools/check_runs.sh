@@ -1078,6 +1078,71 @@ for words in '' '--budget 1000000'; do
 done
 
 #
+# Logs of many lemmas.
+#
+
+cc -O1 -shared -fPIC -o "$work/refuse_memory.so" "$root/tools/refuse_memory.c" || exit 2
+
+# With each request for memory or a thread refused in turn, `solve` must end for want of memory and keep nothing, or find these
+# moves and keep a log that proves them shortest: refuse_each BOARD MOVES SETS FILES
+refuse_each() {
+    local board=$1 moves=$2 sets=$3 files=() request=0 told=0
+    read -ra files <<<"$4"
+    while [ "$request" -lt 1000 ]; do
+        request=$((request + 1))
+        rm -f made
+        status=0
+        (export REFUSE=$request LD_PRELOAD=$work/refuse_memory.so && exec "$bare" solve "$board" "$sets" made "${files[@]}") \
+            >"$work/output" 2>"$work/errors" 9>"$work/refused" || status=$?
+        [ -s "$work/refused" ] || break
+        case $status in
+        3)
+            check "request $request of a search for $board is refused" wrote 3 'no memory'
+            check "request $request of a search for $board keeps nothing" [ ! -e made ]
+            ;;
+        *)
+            told=$((told + 1))
+            check "request $request of a search for $board leaves its answer" \
+                [ "$status.$(tail -n 1 "$work/output")" = "0.optimal $moves" ]
+            run bound "$board" "$sets" made "${files[@]}"
+            check "request $request of a search for $board leaves a good log" \
+                [ "$status.$(tail -n 1 "$work/output")" = "0.bound $moves" ]
+            ;;
+        esac
+    done
+    check "some requests of a search for $board are done without" [ "$told" -gt 0 ]
+    check "a search for $board asks fewer than 1000 times" [ "$request" -lt 1000 ]
+}
+
+# Of a board whose tree has more than 64 KiB, `solve` must keep a log of more than one lemma, which the plain checker accepts, and
+# which proves what a plain search finds: many_lemmas BOARD SETS FILES WORD..
+many_lemmas() {
+    local board=$1 sets=$2 files=() moves bound lemmas
+    read -ra files <<<"$3"
+    shift 3
+    read -r moves _ < <("$root/tools/plain_search.py" "$board" "$sets" "${files[@]}" "$@")
+    solved "$board" "$moves" "$sets" "${files[*]}" "$@"
+    read -r bound lemmas < <("$root/tools/plain_log.py" "$board" "$sets" made "${files[@]}" "$@")
+    check "the plain checker accepts the log of $board $sets $*" [ "$bound" = "$moves" ]
+    check "the log of $board $sets $* has many lemmas" [ "$lemmas" -gt 1 ]
+}
+
+# A board of side 3, and one of side 4 over tables of nine of its tiles.
+echo '3 6 4 2 5 0 8 1 7' >large_3
+echo '5 2 3 7 1 4 6 10 8 15 11 14 9 13 12 0' >large_4
+for mask in 14 224 35840; do
+    "$work/plain_table" 4 "$mask" >"mask_$mask"
+done
+tables_of_4='mask_14 mask_224 mask_35840'
+echo 'set 0 1 2' >all_of_three
+many_lemmas large_3 one_set three_of_side_3
+many_lemmas large_3 one_set three_of_side_3 --fold
+many_lemmas large_4 all_of_three "$tables_of_4"
+rm -f made
+refuse_each large_4 28 all_of_three "$tables_of_4"
+rm -f made
+
+#
 # Runs at once, and writes.
 #
 
