@@ -1,8 +1,10 @@
+-- What public contracts say.
 pub mod GoodLogs
 pub mod Laws
 pub mod LogFaults
+pub mod Trees
+-- What proofs alone need.
 pub mod Nodes
 pub mod Reached
 pub mod Refutations
-pub mod Trees
 pub mod Walks

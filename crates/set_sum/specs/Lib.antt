@@ -1,15 +1,18 @@
+-- What public contracts say.
 pub mod Bounds
 pub mod Bundles
 pub mod Laws
 pub mod Members
-pub mod Owners
-pub mod Parity
 pub mod Parts
 pub mod Reading
-pub mod ReadLines
 pub mod SetTexts
 pub mod Steps
+pub mod Sums
+-- How values are stored.
+pub mod Owners
 pub mod StoredBundles
 pub mod StoredSums
 pub mod SumViews
-pub mod Sums
+-- What proofs alone need.
+pub mod Parity
+pub mod ReadLines

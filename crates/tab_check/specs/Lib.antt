@@ -1,2 +1,2 @@
--- what the contracts of inner functions and the proofs say: those of public ones are the meaning of a table
+-- What proofs alone need.
 pub mod Jobs

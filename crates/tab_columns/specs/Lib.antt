@@ -1,3 +1,3 @@
--- what the contracts of inner functions and the proofs say: those of public ones are the meaning of a table
+-- What proofs alone need.
 pub mod Columns
 pub mod Moves

@@ -1,3 +1,5 @@
+-- What public contracts say.
 pub mod Faults
 pub mod Layers
+-- What proofs alone need.
 pub mod Pieces

@@ -1,4 +1,4 @@
--- what public contracts say
+-- What public contracts say.
 pub mod BadEntries
 pub mod Blocks
 pub mod Counts
@@ -8,7 +8,8 @@ pub mod FoldedTables
 pub mod Laws
 pub mod LocalRule
 pub mod TableFaults
--- what the contracts of inner functions and the proofs say besides
-pub mod LeastEntries
+-- How values are stored.
 pub mod StoredFolds
 pub mod StoredTables
+-- What proofs alone need.
+pub mod LeastEntries

@@ -1,10 +1,12 @@
--- what public contracts say
+-- What public contracts say.
 pub mod Kinds
 pub mod Rows
 pub mod RowTables
 pub mod Runs
--- what the contracts of inner functions and the proofs say besides
+-- How values are stored.
 pub mod Beside
+pub mod StoredRows
+-- What proofs alone need.
 pub mod Checks
 pub mod Outside
 pub mod Parts
@@ -12,4 +14,3 @@ pub mod RunPlaces
 pub mod RunsOfTables
 pub mod SetRows
 pub mod Steps
-pub mod StoredRows
