@@ -12,7 +12,7 @@ use Rattle.book_core.specs.declared.events.Event.TheVariants.{Claim, Report, Loo
 use Rattle.book_core.specs.declared.events.Answer.{Answer}
 use Rattle.book_core.specs.Passes.{Deeds, fresh, with_drawn, with_end, with_report, with_seen}
 use Rattle.book_core.specs.Books.{Book, start}
-use Rattle.book_core.specs.Steps.{drawn_by, ended_by, reported_by, looked_by, Outcome, claims, reports, by_pass, step}
+use Rattle.book_core.specs.Steps.{drawn_by, ended_by, reported_by, looked_by, StepOutcome, claims, reports, by_pass, step}
 use Rattle.book_core.specs.Laws.{BookLaw, IsAllDrawn}
 use Rattle.book_core.specs.Jobs.{times, once_below}
 use Rattle.book_core.specs.Places.{lesser, IsReported, IsLeast, IsAtMost}
@@ -186,7 +186,7 @@ module _ (b : Book) (law : BookLaw b) (w : ℕ) (p : Deeds) (at : slice_get b.pa
 
 -- ---- every step
 
-abbrev pub Keeps : Outcome → Type 0
+abbrev pub Keeps : StepOutcome → Type 0
 Keeps (Ok r) = BookLaw r.0
 Keeps (Err f) = Unit {0}
 
@@ -205,7 +205,7 @@ reports-keeps b law w place p at = go (ltb place (2 ^ 32)) refl
     go true e = BookLaw-reported_by b law w p at place (ltb-true place (2 ^ 32) e)
     go false e = tt
 
-by_pass-keeps : (o : Option Deeds) (act : Deeds → Outcome) → ((p : Deeds) → o ≡ Some p → Keeps (act p)) → Keeps (by_pass o act)
+by_pass-keeps : (o : Option Deeds) (act : Deeds → StepOutcome) → ((p : Deeds) → o ≡ Some p → Keeps (act p)) → Keeps (by_pass o act)
 by_pass-keeps None act each = tt
 by_pass-keeps (Some p) act each = each p refl
 

@@ -9,15 +9,15 @@ use Rattle.book_core.specs.declared.events.CoreFault.{CoreFault}
 use Rattle.book_core.specs.declared.events.CoreFault.TheVariants.{C1, C2, C3, Memory}
 use Rattle.book_core.specs.Passes.{Deeds, fresh}
 use Rattle.book_core.specs.Books.{Book, start, SameSizes}
-use Rattle.book_core.specs.Steps.{Outcome, claims, reports, looks, by_pass, step, IsRefusal}
-use Rattle.book_core.specs.Runs.{Run, after_step, unless_ended, run_on, going, run_from, after, StopsAt}
+use Rattle.book_core.specs.Steps.{StepOutcome, claims, reports, looks, by_pass, step, IsRefusal}
+use Rattle.book_core.specs.Runs.{Run, after_step, unless_ended, run_on, going, run_from, run_after, StopsAt}
 use Rattle.book_core.specs.Laws.{BookLaw}
 use Rattle.book_core.proofs.StepLemmas.{claimed, placed}
 use Rattle.book_core.proofs.LawLemmas.{Keeps, step-keeps, BookLaw-start}
 
 -- ---- the law
 
-after_step-keeps : (r : Run) → BookLaw r.book → (o : Outcome) → Keeps o → BookLaw (after_step r o).book
+after_step-keeps : (r : Run) → BookLaw r.book → (o : StepOutcome) → Keeps o → BookLaw (after_step r o).book
 after_step-keeps r law (Ok t) k = k
 after_step-keeps r law (Err f) k = law
 
@@ -37,16 +37,16 @@ pub BookLaw-going : (b c : Book) (es : List Event) (told : List Answer) → run_
 BookLaw-going b c es told is law = subst (λ (r : Run). BookLaw r.book) is (BookLaw-run_from b law es)
 
 -- after every list of events the law holds
-pub BookLaw-after : (jobs workers : ℕ) (es : List Event) → BookLaw (after jobs workers es).book
+pub BookLaw-after : (jobs workers : ℕ) (es : List Event) → BookLaw (run_after jobs workers es).book
 BookLaw-after jobs workers es = BookLaw-run_from (start jobs workers) (BookLaw-start jobs workers) es
 
 -- ---- one more event
 
 -- which is no fault
-pub after-snoc : (jobs workers : ℕ) (es : List Event) (e : Event) (b : Book) (a : Answer) → (after jobs workers es).fault ≡ None → step (after jobs workers es).book e ≡ Ok (b, a)
-    → after jobs workers (es ++ e ∷ []) ≡ going b ((after jobs workers es).answers ++ a ∷ [])
+pub after-snoc : (jobs workers : ℕ) (es : List Event) (e : Event) (b : Book) (a : Answer) → (run_after jobs workers es).fault ≡ None → step (run_after jobs workers es).book e ≡ Ok (b, a)
+    → run_after jobs workers (es ++ e ∷ []) ≡ going b ((run_after jobs workers es).answers ++ a ∷ [])
 after-snoc jobs workers es e b a sound is =
-    let r = after jobs workers es in
+    let r = run_after jobs workers es in
     fold-append run_on (going (start jobs workers) []) es (e ∷ [])
     ∙ ap (λ f. unless_ended f r e) sound
     ∙ ap (after_step r) is
@@ -81,13 +81,13 @@ module _ (b : Book) (es : List Event) (i : ℕ) (c : Book) (told : List Answer) 
   stops_at d C3 fault = faulty d C3 fault
   stops_at d Memory ok = (ap (λ (r : Run). r.fault) (run_from-more d) ∙ go (step c (get_or es i d)) ok, within)
     where
-      go : (o : Outcome) → IsOk o → (after_step (going c told) o).fault ≡ None
+      go : (o : StepOutcome) → IsOk o → (after_step (going c told) o).fault ≡ None
       go (Ok t) k = refl
       go (Err f) k = cc
 
 -- ---- a run keeps the counts of jobs and of passes
 
-abbrev KeepsSizes : Book → Outcome → Type 0
+abbrev KeepsSizes : Book → StepOutcome → Type 0
 KeepsSizes b (Ok r) = SameSizes b r.0
 KeepsSizes b (Err f) = Unit {0}
 
@@ -106,7 +106,7 @@ reports-sizes b w place p = go (ltb place (2 ^ 32))
     go true = (refl, length-set b.passes w _)
     go false = tt
 
-by_pass-sizes : (b : Book) (o : Option Deeds) (act : Deeds → Outcome) → ((p : Deeds) → KeepsSizes b (act p)) → KeepsSizes b (by_pass o act)
+by_pass-sizes : (b : Book) (o : Option Deeds) (act : Deeds → StepOutcome) → ((p : Deeds) → KeepsSizes b (act p)) → KeepsSizes b (by_pass o act)
 by_pass-sizes b None act each = tt
 by_pass-sizes b (Some p) act each = each p
 
@@ -118,7 +118,7 @@ step-sizes b (Look w) = by_pass-sizes b (slice_get b.passes w) (looks b w) (λ p
 pub SameSizes-step : (b c : Book) (e : Event) (a : Answer) → step b e ≡ Ok (c, a) → SameSizes b c
 SameSizes-step b c e a is = let k : KeepsSizes b (Ok (c, a)) = subst (KeepsSizes b) is (step-sizes b e) in k
 
-after_step-sizes : (r : Run) (o : Outcome) → KeepsSizes r.book o → SameSizes r.book (after_step r o).book
+after_step-sizes : (r : Run) (o : StepOutcome) → KeepsSizes r.book o → SameSizes r.book (after_step r o).book
 after_step-sizes r (Ok t) k = k
 after_step-sizes r (Err f) k = (refl, refl)
 
@@ -133,5 +133,5 @@ fold-sizes r (e ∷ es) = let one = unless_ended-sizes r.fault r e in let more =
 pub SameSizes-going : (b c : Book) (es : List Event) (told : List Answer) → run_from b es ≡ going c told → SameSizes b c
 SameSizes-going b c es told is = subst (λ (r : Run). SameSizes b r.book) is (fold-sizes (going b []) es)
 
-pub sizes-after : (jobs workers : ℕ) (es : List Event) → ((after jobs workers es).book.jobs ≡ jobs) × (length (after jobs workers es).book.passes ≡ workers)
+pub sizes-after : (jobs workers : ℕ) (es : List Event) → ((run_after jobs workers es).book.jobs ≡ jobs) × (length (run_after jobs workers es).book.passes ≡ workers)
 sizes-after jobs workers es = let s = fold-sizes (going (start jobs workers) []) es in (s.0, s.1 ∙ length-replicate workers fresh)

@@ -8,15 +8,15 @@ use Rattle.book_core.specs.declared.events.Answer.TheVariants.{Drawn, Ended, Rep
 use Rattle.book_core.specs.declared.events.CoreFault.TheVariants.{C2, C3}
 use Rattle.book_core.specs.Passes.{Deeds, with_end}
 use Rattle.book_core.specs.Books.{Book, IsInRange}
-use Rattle.book_core.specs.Steps.{drawn_by, ended_by, reported_by, looked_by, Outcome, claims, reports, looks, by_pass, step}
+use Rattle.book_core.specs.Steps.{drawn_by, ended_by, reported_by, looked_by, StepOutcome, claims, reports, looks, by_pass, step}
 use Rattle.book_core.proofs.ListLemmas.{sum_by-changed}
 
 -- a claim, by whether the pass has ended and whether a job is left
-abbrev pub claimed : Book → ℕ → Deeds → Bool → Bool → Outcome
+abbrev pub claimed : Book → ℕ → Deeds → Bool → Bool → StepOutcome
 claimed b w p done room = cond done (Err C2) (cond room (Ok (drawn_by b w p, Drawn b.next)) (Ok (ended_by b w p, Ended)))
 
 -- a report, by whether its place is small enough
-abbrev pub placed : Book → ℕ → ℕ → Deeds → Bool → Outcome
+abbrev pub placed : Book → ℕ → ℕ → Deeds → Bool → StepOutcome
 placed b w place p fits = cond fits (Ok (reported_by b w place p, Reported)) (Err C3)
 
 module _ (b : Book) (w : ℕ) (p : Deeds) (at : slice_get b.passes w ≡ Some p) where
@@ -53,7 +53,7 @@ module _ (b : Book) (w : ℕ) (p : Deeds) (at : slice_get b.passes w ≡ Some p)
 -- ---- an event that is answered
 
 -- is of a pass that is there
-answered-within : (b : Book) (w : ℕ) (act : Deeds → Outcome) → IsOk (by_pass (slice_get b.passes w) act) → w < length b.passes
+answered-within : (b : Book) (w : ℕ) (act : Deeds → StepOutcome) → IsOk (by_pass (slice_get b.passes w) act) → w < length b.passes
 answered-within b w act ok = go (slice_get b.passes w) refl ok
   where
     go : (o : Option Deeds) → slice_get b.passes w ≡ o → IsOk (by_pass o act) → w < length b.passes

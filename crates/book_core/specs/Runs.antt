@@ -5,7 +5,7 @@ use Rattle.book_core.specs.declared.events.Answer.{Answer}
 use Rattle.book_core.specs.declared.events.CoreFault.{CoreFault}
 use Rattle.book_core.specs.declared.events.CoreFault.TheVariants.{C1, C2, C3, Memory}
 use Rattle.book_core.specs.Books.{Book, start}
-use Rattle.book_core.specs.Steps.{Outcome, step}
+use Rattle.book_core.specs.Steps.{StepOutcome, step}
 
 -- the book, the answers so far, and the fault that ended the run, if one did
 pub record Run : Type 0 where
@@ -14,7 +14,7 @@ pub record Run : Type 0 where
   pub fault : Option CoreFault
 
 -- the run after a step with this outcome
-abbrev pub after_step : Run → Outcome → Run
+abbrev pub after_step : Run → StepOutcome → Run
 after_step r (Ok (b, a)) = record { book = b; answers = r.answers ++ a ∷ []; fault = None }
 after_step r (Err f) = record r { fault = Some f }
 
@@ -36,8 +36,8 @@ abbrev pub run_from : Book → List Event → Run
 run_from b events = fold run_on (going b []) events
 
 -- the run of these events from the start
-abbrev pub after : ℕ → ℕ → List Event → Run
-after jobs workers events = run_from (start jobs workers) events
+abbrev pub run_after : ℕ → ℕ → List Event → Run
+run_after jobs workers events = run_from (start jobs workers) events
 
 -- the run stops at event number i: its fault is the first, and i events were answered before it.
 -- For want of memory the events go on without a fault up to that one.

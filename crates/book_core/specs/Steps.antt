@@ -33,30 +33,30 @@ abbrev pub looked_by : Book → ℕ → Deeds → Book
 looked_by b w p = record b { passes = slice_set b.passes w (with_seen p b.least) }
 
 -- what a step comes to: the book after it and the answer, or why it is refused
-abbrev pub Outcome : Type 0
-Outcome = Result (Book × Answer) CoreFault
+abbrev pub StepOutcome : Type 0
+StepOutcome = Result (Book × Answer) CoreFault
 
 -- a claim draws the job next where there is one, and ends the pass where there is none
-abbrev pub claims : Book → ℕ → Deeds → Outcome
+abbrev pub claims : Book → ℕ → Deeds → StepOutcome
 claims b w p =
     if p.ended then Err C2 else
     (if nat_lt b.next b.jobs then Ok (drawn_by b w p, Drawn b.next) else Ok (ended_by b w p, Ended))
 
 -- a report takes a place below 2 ^ 32
-abbrev pub reports : Book → ℕ → ℕ → Deeds → Outcome
+abbrev pub reports : Book → ℕ → ℕ → Deeds → StepOutcome
 reports b w place p = if nat_lt place (2 ^ 32) then Ok (reported_by b w place p, Reported) else Err C3
 
 -- a look shows the least place reported so far
-abbrev pub looks : Book → ℕ → Deeds → Outcome
+abbrev pub looks : Book → ℕ → Deeds → StepOutcome
 looks b w p = Ok (looked_by b w p, Least b.least)
 
 -- what the pass asks, where there is such a pass
-abbrev pub by_pass : Option Deeds → (Deeds → Outcome) → Outcome
+abbrev pub by_pass : Option Deeds → (Deeds → StepOutcome) → StepOutcome
 by_pass None act = Err C1
 by_pass (Some p) act = act p
 
 -- what an event comes to in a book
-abbrev pub step : Book → Event → Outcome
+abbrev pub step : Book → Event → StepOutcome
 step b (Claim w) = by_pass (slice_get b.passes w) (claims b w)
 step b (Report w place) = by_pass (slice_get b.passes w) (reports b w place)
 step b (Look w) = by_pass (slice_get b.passes w) (looks b w)

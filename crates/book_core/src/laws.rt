@@ -4,20 +4,20 @@ ghost use Rattle.std.specs.Prelude.{◌≡◌, ◌≢◌, ℕ, List, [], ◌∷�
 ghost use Rattle.book_core.specs.declared.events.Event.{Event};
 ghost use Rattle.book_core.specs.Passes.{Deeds};
 ghost use Rattle.book_core.specs.Books.{Book, start};
-ghost use Rattle.book_core.specs.Runs.{after};
+ghost use Rattle.book_core.specs.Runs.{run_after};
 ghost use Rattle.book_core.specs.Laws.{BookLaw, IsAllDrawn};
 ghost use Rattle.book_core.specs.Shares.{NumberedPass, numbered_pass, IsDealt, all_fresh, first, others, IsCounted};
 
 /// The law of a book, after every list of events from its start.
 pub fn book_law()
-    ensures law { (jobs workers : ℕ) (events : List Event) → BookLaw (after jobs workers events).book }
+    ensures law { (jobs workers : ℕ) (events : List Event) → BookLaw (run_after jobs workers events).book }
     // Once any pass has ended, each job was drawn.
     ensures all_drawn { (jobs workers : ℕ) (events : List Event) (w : ℕ) (p : Deeds) →
-        slice_get (after jobs workers events).book.passes w ≡ Some p → p.ended ≡ true →
-        IsAllDrawn (after jobs workers events).book }
+        slice_get (run_after jobs workers events).book.passes w ≡ Some p → p.ended ≡ true →
+        IsAllDrawn (run_after jobs workers events).book }
     // The jobs and the passes stay as many as they were.
     ensures sizes { (jobs workers : ℕ) (events : List Event) →
-        ((after jobs workers events).book.jobs ≡ jobs) × (length (after jobs workers events).book.passes ≡ workers) }
+        ((run_after jobs workers events).book.jobs ≡ jobs) × (length (run_after jobs workers events).book.passes ≡ workers) }
 {}
 
 /// The passes of a book stay shared out, each in one share, where one of them takes a step,

@@ -14,7 +14,7 @@ use Rattle.book_core.proofs.LawLemmas.{BookLaw-all_drawn}
 use Rattle.book_live.specs.declared.views.Sizes.{Sizes}
 use Rattle.book_live.specs.declared.views.View.{View}
 use Rattle.book_live.specs.Views.{view, alone, opening, deeds_of, first_alone, without_first}
-use Rattle.book_live.specs.Shown.{IsInLimits, IsReached, Shows, place_of}
+use Rattle.book_live.specs.Shown.{IsInLimits, IsReachedBook, Shows, place_in_word}
 use Rattle.book_live.specs.Steps.{opened, made}
 use Rattle.book_live.specs.Callers.{BookId, PassState, all_deeds, IsEachDrawnOnce, IsOutcome, numbered_passes, ShowsEnd}
 use Rattle.book_live.specs.Closing.{IsNewPass, HoldsAll, IsWhole}
@@ -106,7 +106,7 @@ pub HoldsAll-numbered_passes : (z : Sizes) (passes : List PassState) (v : View) 
 HoldsAll-numbered_passes z passes v is count each =
     (ap (λ (u : View). length u.held) is ∙ length-numbered_passes passes ∙ count, subst (λ (u : View). IsCounted 0 u.held) (sym is) (IsCounted-numbered_passes 0 passes (λ k p e. omega (arith, each k p e))))
 
-pub ShowsEnd-whole : (b : BookId) (passes : List PassState) (v : View) (word : ℕ) → v ≡ view b.sizes (numbered_passes passes) → IsWhole b.sizes v word → ShowsEnd b passes (place_of word)
+pub ShowsEnd-whole : (b : BookId) (passes : List PassState) (v : View) (word : ℕ) → v ≡ view b.sizes (numbered_passes passes) → IsWhole b.sizes v word → ShowsEnd b passes (place_in_word word)
 ShowsEnd-whole b passes v word is whole = record {
   state = whole.state;
   book = whole.book;
@@ -115,7 +115,7 @@ ShowsEnd-whole b passes v word is whole = record {
   seat = whole.seat;
   own = whole.own ∙ ap some is;
   done = whole.done ∙ ap (λ (u : View). map (λ (h : NumberedPass). h.deeds) u.held) is ∙ map-numbered_passes passes;
-  least = sym (place_of-word_of whole.book (BookLaw-reached b.sizes whole.book whole.reached)) ∙ ap place_of whole.least;
+  least = sym (place_of-word_of whole.book (BookLaw-reached b.sizes whole.book whole.reached)) ∙ ap place_in_word whole.least;
 }
 
 pub IsOutcome-end : (b : BookId) (passes : List PassState) (least : Option ℕ) → ShowsEnd b passes least → IsOutcome b passes least
@@ -123,7 +123,7 @@ IsOutcome-end b passes least end =
     let c = end.book in
     let jobs = jobs-reached b.sizes c end.reached in
     let same : c ≡ record { jobs = b.sizes.jobs; next = c.next; least = least; passes = all_deeds passes } = λ i. record { jobs = jobs i; next = c.next; least = end.least i; passes = end.done i } in
-    (c.next, subst (IsReached b.sizes) same end.reached)
+    (c.next, subst (IsReachedBook b.sizes) same end.reached)
 
 pub slice_get-all_deeds : (passes : List PassState) (k : ℕ) (p : PassState) → slice_get passes k ≡ Some p → slice_get (all_deeds passes) k ≡ Some p.deeds
 slice_get-all_deeds [] k p e = cc

@@ -9,17 +9,17 @@ use Rattle.book_core.specs.Laws.{BookLaw}
 use Rattle.book_core.proofs.LawLemmas.{BookLaw-next_le}
 use Rattle.book_core.proofs.RunLemmas.{BookLaw-after, after-snoc, sizes-after}
 use Rattle.book_live.specs.declared.views.Sizes.{Sizes}
-use Rattle.book_live.specs.Shown.{IsReached}
+use Rattle.book_live.specs.Shown.{IsReachedBook}
 
-pub IsReached-start : (z : Sizes) → IsReached z (start z.jobs z.workers)
+pub IsReached-start : (z : Sizes) → IsReachedBook z (start z.jobs z.workers)
 IsReached-start z = ([], [], refl)
 
 -- one more event leads to the book after its step
-pub IsReached-step : (z : Sizes) (b c : Book) (e : Event) (a : Answer) → IsReached z b → step b e ≡ Ok (c, a) → IsReached z c
+pub IsReached-step : (z : Sizes) (b c : Book) (e : Event) (a : Answer) → IsReachedBook z b → step b e ≡ Ok (c, a) → IsReachedBook z c
 IsReached-step z b c e a r is =
     (r.0 ++ e ∷ [], _, after-snoc z.jobs z.workers r.0 e c a (ap (λ (x : Run). x.fault) r.2) (ap (λ (x : Run). step x.book e) r.2 ∙ is))
 
-module _ (z : Sizes) (b : Book) (r : IsReached z b) where
+module _ (z : Sizes) (b : Book) (r : IsReachedBook z b) where
   pub BookLaw-reached : BookLaw b
   BookLaw-reached = subst (λ (x : Run). BookLaw x.book) r.2 (BookLaw-after z.jobs z.workers r.0)
 

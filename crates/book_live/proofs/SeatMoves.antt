@@ -11,7 +11,7 @@ use Rattle.book_live.specs.declared.views.Sizes.{Sizes}
 use Rattle.book_live.specs.declared.views.View.{View}
 use Rattle.book_live.specs.Views.{shares, first_alone, without_first, together, spent}
 use Rattle.book_live.specs.Shown.{IsInLimits, Shows, Shown}
-use Rattle.book_live.specs.Steps.{opened, made, joined}
+use Rattle.book_live.specs.Steps.{opened, made, taken_in}
 use Rattle.book_live.specs.Closing.{HoldsAll, IsWhole}
 use Rattle.book_live.proofs.ViewLemmas.{share-at, shares-set, shares-push}
 use Rattle.book_live.proofs.ReachLemmas.{IsReached-start, passes-reached}
@@ -38,7 +38,7 @@ module _ {S : Type 0} (z : Sizes) (b : Book) (s : State S View) (shows : Shows z
         dealt = subst (IsDealt b) (sym is) (IsDealt-cut b (shares s.views) shows.dealt id v.held (share-at s.views id v at));
       }
 
-  pub Shows-joined : (other : ℕ) (u : View) → other ≢ id → get_elem? s.views other ≡ some u → Shows z b (joined s id v other u)
+  pub Shows-joined : (other : ℕ) (u : View) → other ≢ id → get_elem? s.views other ≡ some u → Shows z b (taken_in s id v other u)
   Shows-joined other u apart there =
       let w = together v u in
       let vs = set s.views id w in

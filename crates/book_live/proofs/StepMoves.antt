@@ -21,7 +21,7 @@ use Rattle.book_core.proofs.StepLemmas.{step-drawn, step-ended, step-reported, s
 use Rattle.book_live.specs.declared.views.Sizes.{Sizes}
 use Rattle.book_live.specs.declared.views.View.{View}
 use Rattle.book_live.specs.Views.{shares, alone}
-use Rattle.book_live.specs.Shown.{IsReached, word_of, place_of, Shows, Shown}
+use Rattle.book_live.specs.Shown.{IsReachedBook, word_of, place_in_word, Shows, Shown}
 use Rattle.book_live.specs.Steps.{MayTake, answer_to, deeds_after, found_by, state_after, Moves, ShowsEvent, IsOneStep}
 use Rattle.book_live.specs.SeatSteps.{Claimed, Placed, Looked}
 use Rattle.book_live.proofs.ViewLemmas.{share-at, shares-set}
@@ -36,7 +36,7 @@ least s = slice_index s.words 1
 
 -- ---- the seat of one pass and one word change
 
-module _ {S : Type 0} (z : Sizes) (b : Book) (s : State S View) (reached : IsReached z b) (shows : Shows z b s) (id w : ℕ) (p : Deeds) (at : get_elem? s.views id ≡ some (alone z w p)) where
+module _ {S : Type 0} (z : Sizes) (b : Book) (s : State S View) (reached : IsReachedBook z b) (shows : Shows z b s) (id w : ℕ) (p : Deeds) (at : get_elem? s.views id ≡ some (alone z w p)) where
   pass-shown : slice_get b.passes w ≡ Some p
   pass-shown = IsDealt-alone b (shares s.views) shows.dealt id w p (share-at s.views id (alone z w p) at)
 
@@ -106,8 +106,8 @@ module _ {S : Type 0} (z : Sizes) (b : Book) (s : State S View) (reached : IsRea
       let word0 : slice_index (set s.words 1 (least s)) 0 ≡ next s = ap (λ ws. slice_index ws 0) same in
       Shows-after (with_seen p b.least) (looked_by b w p) 1 (least s) refl (word0 ∙ shows.next) (word1 ∙ shows.least)
 
-  place-shown : place_of (least s) ≡ b.least
-  place-shown = ap place_of shows.least ∙ place_of-word_of b (BookLaw-reached z b reached)
+  place-shown : place_in_word (least s) ≡ b.least
+  place-shown = ap place_in_word shows.least ∙ place_of-word_of b (BookLaw-reached z b reached)
 
   ShowsEvent-look : ShowsEvent z b s id (Look w) p
   ShowsEvent-look =
@@ -116,14 +116,14 @@ module _ {S : Type 0} (z : Sizes) (b : Book) (s : State S View) (reached : IsRea
 
 -- ---- the three events
 
-module _ {S : Type 0} (z : Sizes) (b : Book) (s : State S View) (reached : IsReached z b) (shows : Shows z b s) (id : ℕ) (p : Deeds) where
+module _ {S : Type 0} (z : Sizes) (b : Book) (s : State S View) (reached : IsReachedBook z b) (shows : Shows z b s) (id : ℕ) (p : Deeds) where
   -- each event that the pass of a seat may take moves what is shown
   pub ShowsEvent-taken : (e : Event) → get_elem? s.views id ≡ some (alone z (pass_of e) p) → MayTake p e → ShowsEvent z b s id e p
   ShowsEvent-taken (Claim w) at going = ShowsEvent-claim z b s reached shows id w p at going
   ShowsEvent-taken (Report w place) at small = ShowsEvent-report z b s reached shows id w p at place small
   ShowsEvent-taken (Look w) at may = ShowsEvent-look z b s reached shows id w p at
 
-IsOneStep-taken : (z : Sizes) (b : Book) (s : State (Unit {0}) View) (reached : IsReached z b) (shows : Shows z b s) (id : ℕ) (p : Deeds) (e : Event)
+IsOneStep-taken : (z : Sizes) (b : Book) (s : State (Unit {0}) View) (reached : IsReachedBook z b) (shows : Shows z b s) (id : ℕ) (p : Deeds) (e : Event)
     → get_elem? s.views id ≡ some (alone z (pass_of e) p) → MayTake p e → IsOneStep z e p (answer_to z e (found_by e s)) (deeds_after z e (found_by e s) p)
 IsOneStep-taken z b s reached shows id p e at may = record {
   state = s;
@@ -180,9 +180,9 @@ allows-look z slots id w p c s h _ at fits =
     let shows = h.2 in
     let law = BookLaw-reached z b h.1 in
     let here = pass-shown z b s h.1 shows id w p at in
-    let told : place_of (least s) ≡ b.least = place-shown z b s h.1 shows id w p at in
+    let told : place_in_word (least s) ≡ b.least = place-shown z b s h.1 shows id w p at in
     let m = ShowsEvent-taken z b s h.1 shows id p (Look w) at tt in (
-      alone z w (with_seen p (place_of (least s))),
+      alone z w (with_seen p (place_in_word (least s))),
       keeps,
       tt,
       (m.0, IsReached-step z b m.0 (Look w) (answer_to z (Look w) (least s)) h.1 m.1, m.2),

@@ -11,7 +11,7 @@ use Rattle.book_core.specs.Shares.{NumberedPass, numbered_pass}
 use Rattle.book_live.specs.declared.views.Sizes.{Sizes}
 use Rattle.book_live.specs.declared.views.View.{View}
 use Rattle.book_live.specs.Views.{view, alone}
-use Rattle.book_live.specs.Shown.{IsReached, Shows}
+use Rattle.book_live.specs.Shown.{IsReachedBook, Shows}
 
 -- which book it is, and how many jobs and passes it has
 pub record BookId : Type 0 where
@@ -39,7 +39,7 @@ IsEachDrawnOnce b passes = (job : ℕ) → times_drawn job (all_deeds passes) �
 
 -- some list of events leads the machine to what the passes have done, with this least place
 abbrev pub IsOutcome : BookId → List PassState → Option ℕ → Type 0
-IsOutcome b passes least = (next : ℕ) × IsReached b.sizes (record { jobs = b.sizes.jobs; next = next; least = least; passes = all_deeds passes })
+IsOutcome b passes least = (next : ℕ) × IsReachedBook b.sizes (record { jobs = b.sizes.jobs; next = next; least = least; passes = all_deeds passes })
 
 -- The words and the views of a new book show the start of the machine, and each of these passes has a seat of its own.
 -- The seat 0, from which theirs were cut, is left with no pass.
@@ -57,7 +57,7 @@ numbered_passes passes = map (λ p. numbered_pass p.number p.deeds) passes
 pub record ShowsEnd (b : BookId) (passes : List PassState) (place : Option ℕ) : Type 0 where
   pub state : State (Unit {0}) View
   pub book : Book
-  pub reached : IsReached b.sizes book
+  pub reached : IsReachedBook b.sizes book
   pub shows : Shows b.sizes book state
   pub seat : ℕ
   pub own : get_elem? state.views seat ≡ some (view b.sizes (numbered_passes passes))

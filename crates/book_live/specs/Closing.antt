@@ -8,7 +8,7 @@ use Rattle.book_core.specs.Books.{Book}
 use Rattle.book_core.specs.Shares.{NumberedPass, IsCounted}
 use Rattle.book_live.specs.declared.views.Sizes.{Sizes}
 use Rattle.book_live.specs.declared.views.View.{View}
-use Rattle.book_live.specs.Shown.{word_of, IsReached, Shows}
+use Rattle.book_live.specs.Shown.{word_of, IsReachedBook, Shows}
 use Rattle.book_live.specs.Callers.{BookId, PassState}
 
 -- a pass of this book and number that has done nothing
@@ -23,7 +23,7 @@ HoldsAll z v = (length v.held ≡ z.workers) × IsCounted 0 v.held
 pub record IsWhole (z : Sizes) (v : View) (word : ℕ) : Type 0 where
   pub state : State (Unit {0}) View
   pub book : Book
-  pub reached : IsReached z book
+  pub reached : IsReachedBook z book
   pub shows : Shows z book state
   pub seat : ℕ
   pub own : get_elem? state.views seat ≡ some v

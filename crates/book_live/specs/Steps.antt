@@ -14,7 +14,7 @@ use Rattle.book_core.specs.Steps.{step, pass_of}
 use Rattle.book_live.specs.declared.views.Sizes.{Sizes}
 use Rattle.book_live.specs.declared.views.View.{View}
 use Rattle.book_live.specs.Views.{alone, opening, changed, first_alone, without_first, together, spent}
-use Rattle.book_live.specs.Shown.{place_of, IsReached, Shows}
+use Rattle.book_live.specs.Shown.{place_in_word, IsReachedBook, Shows}
 
 -- ---- the steps that are an event of the machine
 
@@ -40,13 +40,13 @@ MayTake p (Look w) = ⊤
 abbrev pub answer_to : Sizes → Event → ℕ → Answer
 answer_to z (Claim w) n = (if nat_lt n z.jobs then Drawn n else Ended)
 answer_to z (Report w place) n = Reported
-answer_to z (Look w) n = Least (place_of n)
+answer_to z (Look w) n = Least (place_in_word n)
 
 -- what a pass that did p has done after the event, by the number that was found in the word
 abbrev pub deeds_after : Sizes → Event → ℕ → Deeds → Deeds
 deeds_after z (Claim w) n p = (if nat_lt n z.jobs then with_drawn p n else with_end p)
 deeds_after z (Report w place) n p = with_report p place
-deeds_after z (Look w) n p = with_seen p (place_of n)
+deeds_after z (Look w) n p = with_seen p (place_in_word n)
 
 -- the word of an event in a state of the table
 abbrev pub found_by : {S : Type 0} → Event → State S View → ℕ
@@ -70,7 +70,7 @@ pub record IsOneStep (z : Sizes) (e : Event) (before : Deeds) (a : Answer) (afte
   -- the words and the views when the step was taken, and the book that they showed
   pub state : State (Unit {0}) View
   pub book : Book
-  pub reached : IsReached z book
+  pub reached : IsReachedBook z book
   pub shows : Shows z book state
   -- the seat of the pass
   pub seat : ℕ
@@ -93,5 +93,5 @@ abbrev pub made : {S : Type 0} → State S View → ℕ → View → State S Vie
 made s seat v = record { words = s.words; homes = s.homes; views = slice_set s.views seat (without_first v) ++ first_alone v ∷ [] }
 
 -- a seat with the view v takes in the passes of another with the view u
-abbrev pub joined : {S : Type 0} → State S View → ℕ → View → ℕ → View → State S View
-joined s seat v other u = record { words = s.words; homes = s.homes; views = slice_set (slice_set s.views seat (together v u)) other spent }
+abbrev pub taken_in : {S : Type 0} → State S View → ℕ → View → ℕ → View → State S View
+taken_in s seat v other u = record { words = s.words; homes = s.homes; views = slice_set (slice_set s.views seat (together v u)) other spent }

@@ -36,8 +36,8 @@ first_number [] = 0
 first_number (h ∷ hs) = h.number
 
 -- the number of the pass of a seat
-abbrev pub number_of : View → ℕ
-number_of v = first_number v.held
+abbrev pub pass_number_of : View → ℕ
+pass_number_of v = first_number v.held
 
 -- the share, once its first pass has taken a step, where it has a pass
 abbrev pub first_changed : (Deeds → Deeds) → List NumberedPass → List NumberedPass

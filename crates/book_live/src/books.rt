@@ -7,7 +7,7 @@ ghost use Rattle.book_core.specs.declared.events.Answer.{Answer};
 ghost use Rattle.book_core.specs.Passes.{Deeds, fresh, with_drawn, with_end, with_report, with_seen};
 ghost use Rattle.book_core.specs.Places.{IsLeast, IsAtMost};
 ghost use Rattle.book_live.specs.Views.{view, alone, opening, without_first, first_alone, together};
-ghost use Rattle.book_live.specs.Shown.{place_of};
+ghost use Rattle.book_live.specs.Shown.{place_in_word};
 ghost use Rattle.book_live.specs.Steps.{IsOneStep, claim_answer};
 ghost use Rattle.book_live.specs.SeatSteps.{Claimed, Placed, Looked};
 ghost use Rattle.book_live.specs.Callers.{ArePasses, all_deeds, IsEachDrawnOnce, IsOutcome, ShowsStart, numbered_passes, ShowsEnd};
@@ -223,7 +223,7 @@ impl Book {
 
 /// The place that the word holds, if it holds one.
 fn place_in(word: u64) -> Option<u64>
-    ensures { result ≡ place_of word }
+    ensures { result ≡ place_in_word word }
 {
     (word < NONE).then_some(word)
 }

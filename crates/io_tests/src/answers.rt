@@ -1,7 +1,7 @@
 //! What a run says: how often it writes, and that digests come at all.
 
 use crate::sha256;
-use pdb_io::streams::WriteFault;
+use byte_io::streams::WriteFault;
 use pdb_run::{Answer, Digested, beside, lines, say, say_digests};
 use sample_streams::{Failing, SampleWriter};
 use std::alloc::{AllocError, Global};

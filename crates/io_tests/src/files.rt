@@ -1,9 +1,9 @@
 //! A shelf over a system that may say a wrong size of its file, and whose calls may fail.
 
 use crate::calls::were_calls;
-use pdb_io::disk::DiskShelf;
-use pdb_io::shelf::Shelf;
-use pdb_io::streams::ReadFault;
+use byte_io::disk::DiskShelf;
+use byte_io::shelf::Shelf;
+use byte_io::streams::ReadFault;
 use sample_streams::{Call, SampleFiles};
 use std::alloc::{AllocError, Global};
 use std::test::Fail;

@@ -2,9 +2,9 @@
 
 use crate::bytes::sample_bytes;
 use crate::calls::were_calls;
-use pdb_io::disk::DiskShelf;
-use pdb_io::memory::MemShelf;
-use pdb_io::shelf::{KeepFault, Shelf};
+use byte_io::disk::DiskShelf;
+use byte_io::memory::MemShelf;
+use byte_io::shelf::{KeepFault, Shelf};
 use sample_streams::{Call, SampleFiles};
 use std::alloc::Global;
 use std::fs::OpenOptions;

@@ -1,9 +1,9 @@
 //! A run's beginning and its end: that inputs are read, what is said where one isn't, and what is kept.
 
 use crate::sha256;
-use pdb_io::memory::MemShelf;
-use pdb_io::shelf::Shelf;
-use pdb_io::streams::ReadFault;
+use byte_io::memory::MemShelf;
+use byte_io::shelf::Shelf;
+use byte_io::streams::ReadFault;
 use pdb_run::{
     Answer, BorrowedIo, Command, Digested, Input, Status, keep_and_conclude, lines, load_all,
     read_inputs, read_inputs_and_try,

@@ -1,10 +1,10 @@
 //! Shelves over memory, and over real files.
 
 use crate::bytes::sample_bytes;
-use pdb_io::disk::DiskShelf;
-use pdb_io::memory::MemShelf;
-use pdb_io::shelf::Shelf;
-use pdb_io::streams::ReadFault;
+use byte_io::disk::DiskShelf;
+use byte_io::memory::MemShelf;
+use byte_io::shelf::Shelf;
+use byte_io::streams::ReadFault;
 use std::alloc::{AllocError, Global};
 use std::fs;
 use std::test::Fail;

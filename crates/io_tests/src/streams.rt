@@ -1,10 +1,10 @@
 //! Streams that fail, end early or late, or go byte by byte.
 
 use crate::bytes::sample_bytes;
-use pdb_io::streams::{
+use byte_io::streams::{
     ReadFault, WriteFault, put_bytes, put_text, read_all, read_said, read_sized, read_watched,
 };
-use pdb_io::watched::Watched;
+use byte_io::watched::Watched;
 use sample_streams::{EndlessReader, Failing, SampleReader, SampleWriter};
 use std::io::ErrorKind;
 use std::test::Fail;

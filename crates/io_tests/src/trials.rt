@@ -1,9 +1,9 @@
 //! Shelves on which keeping is tried: over memory, over a system whose calls fail, and over real files.
 
 use crate::calls::were_calls;
-use pdb_io::disk::DiskShelf;
-use pdb_io::memory::MemShelf;
-use pdb_io::shelf::{KeepFault, Shelf};
+use byte_io::disk::DiskShelf;
+use byte_io::memory::MemShelf;
+use byte_io::shelf::{KeepFault, Shelf};
 use sample_streams::{Call, FailingShelf, SampleFiles, ShelfFault};
 use std::alloc::Global;
 use std::fs;

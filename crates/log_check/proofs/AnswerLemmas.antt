@@ -15,7 +15,7 @@ use Rattle.log_file.specs.declared.faults.FormFault.{FormFault}
 use Rattle.log_file.proofs.AnswerLemmas.{file_answer}
 use Rattle.log_file.proofs.FileLemmas.{no_fault, one_log, one_fault as one_form_fault}
 use Rattle.log_check.specs.GoodLogs.{IsGoodFile, IsGoodLog, IsLast, IsLogFor}
-use Rattle.log_check.specs.LogFaults.{AreOfOneSide, IsCauseOf, IsFaultOf, IsFirstBad}
+use Rattle.log_check.specs.LogFaults.{AreOfOneSide, IsCauseOfLogFault, IsLogRefusalOf, IsFirstBadLemma}
 use Rattle.log_check.specs.declared.faults.LogFault.{LogFault}
 use Rattle.log_check.specs.declared.faults.LogFault.TheVariants.{Memory, Refused}
 use Rattle.log_check.specs.declared.faults.LogRefusal.{LogRefusal}
@@ -44,9 +44,9 @@ module _ (v : BundleView) (b : List ℕ) (log : Log) where
   Stands (Form fault) = ⊥
   Stands L4 = ¬ AreOfOneSide v log b
   Stands L5 = (last : Lemma) × AreOfOneSide v log b × IsLast log.lemmas last × (last.board ≢ b)
-  Stands (L6 i) = (last : Lemma) × IsLogFor v log b last × IsFirstBad v log i
+  Stands (L6 i) = (last : Lemma) × IsLogFor v log b last × IsFirstBadLemma v log i
 
-  first_bad_one : (i j : ℕ) → IsFirstBad v log i → IsFirstBad v log j → i ≡ j
+  first_bad_one : (i j : ℕ) → IsFirstBadLemma v log i → IsFirstBadLemma v log j → i ≡ j
   first_bad_one i j is also =
       let no_less : i < j → ⊥ = λ l. is.bad (also.before i l) in
       let no_more : j < i → ⊥ = λ l. also.bad (is.before j l) in
@@ -80,8 +80,8 @@ module _ (v : BundleView) (b : List ℕ) (log : Log) where
 
 module _ (v : BundleView) (b file : List ℕ) where
   -- a fault is one of the form, or stands of the file's log
-  fault_of : (f : LogRefusal) → IsFaultOf f v b file
-      → ((fault : FormFault) × (f ≡ Form fault) × form.IsFaultOf fault file) ⊎ ((log : Log) × IsLogFile log file × Stands v b log f)
+  fault_of : (f : LogRefusal) → IsLogRefusalOf f v b file
+      → ((fault : FormFault) × (f ≡ Form fault) × form.IsFormFaultOf fault file) ⊎ ((log : Log) × IsLogFile log file × Stands v b log f)
   fault_of (Form fault) is = inl (fault, refl, is)
   fault_of L4 is = inr is
   fault_of L5 is = inr (is.0, is.2, (is.1, is.3, is.4, is.5))
@@ -93,7 +93,7 @@ module _ (v : BundleView) (b file : List ℕ) where
       let last = last_one is.log.lemmas is.good.last also.good.last is.good.is_for.is_last (subst (λ log. IsLast log.lemmas also.good.last) same also.good.is_for.is_last) in
       sym is.good.bound_is ∙ ap (λ lemma. lemma.bound) last ∙ also.good.bound_is
 
-  pub one_fault : (f g : LogRefusal) → IsFaultOf f v b file → IsFaultOf g v b file → f ≡ g
+  pub one_fault : (f g : LogRefusal) → IsLogRefusalOf f v b file → IsLogRefusalOf g v b file → f ≡ g
   one_fault f g is also = elim (fault_of f is) [
     | inl a ↦ elim (fault_of g also) [
       | inl c ↦ a.1 ∙ ap Form (one_form_fault file a.0 c.0 a.2 c.2) ∙ sym c.1
@@ -105,7 +105,7 @@ module _ (v : BundleView) (b file : List ℕ) where
     ]
   ]
 
-  pub good_or_fault : (bound : ℕ) (f : LogRefusal) → IsGoodFile v b file bound → ¬ IsFaultOf f v b file
+  pub good_or_fault : (bound : ℕ) (f : LogRefusal) → IsGoodFile v b file bound → ¬ IsLogRefusalOf f v b file
   good_or_fault bound f good is = elim (fault_of f is) [
     | inl a ↦ no_fault file good.log a.0 good.is_file a.2
     | inr a ↦ none_stands v b good.log good.is_file.is_log bound good.good f (subst (λ log. Stands v b log f) (one_log file a.0 good.log a.1 good.is_file) a.2)
@@ -113,20 +113,20 @@ module _ (v : BundleView) (b file : List ℕ) where
 
   -- ---- what is answered
 
-  pub good_answered : (r : Result ℕ LogFault) → IfOk r (IsGoodFile v b file) → IfErr r (λ fault. IsCauseOf fault v b file)
+  pub good_answered : (r : Result ℕ LogFault) → IfOk r (IsGoodFile v b file) → IfErr r (λ fault. IsCauseOfLogFault fault v b file)
       → (bound : ℕ) → IsGoodFile v b file bound → (r ≡ Ok bound) ⊎ (r ≡ Err Memory)
   good_answered (Ok found) ok err bound good = inl (ap Ok (one_bound found bound ok good))
   good_answered (Err Memory) ok err bound good = inr refl
   good_answered (Err (Refused fault)) ok err bound good = absurd (good_or_fault bound fault good err)
 
-  pub form_answered : (r : Result ℕ LogFault) → IfOk r (IsGoodFile v b file) → IfErr r (λ fault. IsCauseOf fault v b file)
-      → (fault : FormFault) → form.IsFaultOf fault file → r ≡ Err (Refused (Form fault))
+  pub form_answered : (r : Result ℕ LogFault) → IfOk r (IsGoodFile v b file) → IfErr r (λ fault. IsCauseOfLogFault fault v b file)
+      → (fault : FormFault) → form.IsFormFaultOf fault file → r ≡ Err (Refused (Form fault))
   form_answered (Ok found) ok err fault is = absurd (good_or_fault found (Form fault) ok is)
   form_answered (Err Memory) ok err fault is = absurd (no_fault file err.0 fault err.1 is)
   form_answered (Err (Refused other)) ok err fault is = ap (λ f. Err (Refused f)) (one_fault other (Form fault) err is)
 
-  pub fault_answered : (r : Result ℕ LogFault) → IfOk r (IsGoodFile v b file) → IfErr r (λ fault. IsCauseOf fault v b file)
-      → (fault : LogRefusal) → IsFaultOf fault v b file → (r ≡ Err (Refused fault)) ⊎ (r ≡ Err Memory)
+  pub fault_answered : (r : Result ℕ LogFault) → IfOk r (IsGoodFile v b file) → IfErr r (λ fault. IsCauseOfLogFault fault v b file)
+      → (fault : LogRefusal) → IsLogRefusalOf fault v b file → (r ≡ Err (Refused fault)) ⊎ (r ≡ Err Memory)
   fault_answered (Ok found) ok err fault is = absurd (good_or_fault found fault ok is)
   fault_answered (Err Memory) ok err fault is = inr refl
   fault_answered (Err (Refused other)) ok err fault is = inl (ap (λ f. Err (Refused f)) (one_fault other fault err is))
@@ -135,7 +135,7 @@ module _ (v : BundleView) (b file : List ℕ) where
 
 module _ (v : BundleView) (is : IsBundle v) (b file : List ℕ) where
   abbrev Answer : Type 0
-  Answer = ((bound : ℕ) × IsGoodFile v b file bound) ⊎ ((f : LogRefusal) × IsFaultOf f v b file)
+  Answer = ((bound : ℕ) × IsGoodFile v b file bound) ⊎ ((f : LogRefusal) × IsLogRefusalOf f v b file)
 
   module _ (log : Log) (is_file : IsLogFile log file) where
     lemmas_answer : (last : Lemma) → IsLogFor v log b last → Answer

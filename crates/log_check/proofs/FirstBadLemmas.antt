@@ -5,7 +5,7 @@ use Rattle.set_sum.specs.Bundles.{BundleView, IsBundle}
 use Rattle.log_file.specs.Logs.{IsLog, Log}
 use Rattle.work_run.specs.Faults.{IsFault}
 use Rattle.log_check.specs.GoodLogs.{AreGood, IsGood}
-use Rattle.log_check.specs.LogFaults.{IsFirstBad}
+use Rattle.log_check.specs.LogFaults.{IsFirstBadLemma}
 use Rattle.log_check.proofs.DecideLemmas.{good_decided}
 
 module _ (v : BundleView) (is : IsBundle v) (log : Log) (is_log : IsLog log) (side : log.side ≡ v.side) where
@@ -19,12 +19,12 @@ module _ (v : BundleView) (is : IsBundle v) (log : Log) (is_log : IsLog log) (si
   pub good_whole : IsFault IsBad (length log.lemmas) None → AreGood v log
   good_whole none i low = good_unless_bad i (none i (omega arith) low)
 
-  pub first_bad_whole : (i : ℕ) → IsFault IsBad (length log.lemmas) (Some i) → IsFirstBad v log i
+  pub first_bad_whole : (i : ℕ) → IsFault IsBad (length log.lemmas) (Some i) → IsFirstBadLemma v log i
   first_bad_whole i least = record { there = least.1; bad = least.2; before = λ j low. good_unless_bad j (least.3 j (omega arith) low) }
 
   -- ---- there is one, or all are good
 
-  good_up_to : (m : ℕ) → m ≤ length log.lemmas → ((i : ℕ) → i < m → IsGood v log i) ⊎ ((i : ℕ) × IsFirstBad v log i)
+  good_up_to : (m : ℕ) → m ≤ length log.lemmas → ((i : ℕ) → i < m → IsGood v log i) ⊎ ((i : ℕ) × IsFirstBadLemma v log i)
   good_up_to zero low = inl (λ i none. absurd (omega arith))
   good_up_to (suc m) low = elim (good_up_to m (omega arith)) [
     | inr first ↦ inr first
@@ -37,5 +37,5 @@ module _ (v : BundleView) (is : IsBundle v) (log : Log) (is_log : IsLog log) (si
     ]
   ]
 
-  pub good_or_first_bad : AreGood v log ⊎ ((i : ℕ) × IsFirstBad v log i)
+  pub good_or_first_bad : AreGood v log ⊎ ((i : ℕ) × IsFirstBadLemma v log i)
   good_or_first_bad = good_up_to (length log.lemmas) (omega arith)

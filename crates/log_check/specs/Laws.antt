@@ -4,7 +4,7 @@ use Rattle.set_sum.specs.Bounds.{IsBounded}
 use Rattle.set_sum.specs.Bundles.{BundleView, IsBundle}
 use Rattle.log_file.specs.Logs.{IsLog, Lemma, Log}
 use Rattle.log_check.specs.GoodLogs.{AreGood, IsGood, IsGoodFile, IsGoodLog}
-use Rattle.log_check.specs.LogFaults.{IsFaultOf}
+use Rattle.log_check.specs.LogFaults.{IsLogRefusalOf}
 use Rattle.log_check.specs.declared.faults.LogRefusal.{LogRefusal}
 
 -- where each lemma of a log is good, each bounds the solutions of its board
@@ -30,14 +30,14 @@ abbrev pub FilesHaveOneBound : Type 0
 FilesHaveOneBound = (v : BundleView) (b file : List ℕ) (m n : ℕ) → IsGoodFile v b file m → IsGoodFile v b file n → m ≡ n
 
 -- none have two faults
-abbrev pub FilesHaveOneFault : Type 0
-FilesHaveOneFault = (v : BundleView) (b file : List ℕ) (f g : LogRefusal) → IsFaultOf f v b file → IsFaultOf g v b file → f ≡ g
+abbrev pub LogFilesHaveOneFault : Type 0
+LogFilesHaveOneFault = (v : BundleView) (b file : List ℕ) (f g : LogRefusal) → IsLogRefusalOf f v b file → IsLogRefusalOf g v b file → f ≡ g
 
 -- the file of a good log has none
 abbrev pub GoodFilesHaveNoFault : Type 0
-GoodFilesHaveNoFault = (v : BundleView) (b file : List ℕ) (bound : ℕ) (f : LogRefusal) → IsGoodFile v b file bound → ¬ IsFaultOf f v b file
+GoodFilesHaveNoFault = (v : BundleView) (b file : List ℕ) (bound : ℕ) (f : LogRefusal) → IsGoodFile v b file bound → ¬ IsLogRefusalOf f v b file
 
 -- for a bundle all bytes are such a file or have a fault
-abbrev pub FilesHaveAnAnswer : Type 0
-FilesHaveAnAnswer =
-    (v : BundleView) → IsBundle v → (b file : List ℕ) → ((bound : ℕ) × IsGoodFile v b file bound) ⊎ ((f : LogRefusal) × IsFaultOf f v b file)
+abbrev pub LogFilesHaveAnAnswer : Type 0
+LogFilesHaveAnAnswer =
+    (v : BundleView) → IsBundle v → (b file : List ℕ) → ((bound : ℕ) × IsGoodFile v b file bound) ⊎ ((f : LogRefusal) × IsLogRefusalOf f v b file)

@@ -17,19 +17,19 @@ pub record AreOfOneSide (v : BundleView) (log : Log) (b : List ℕ) : Type 0 whe
   pub board_side : side_of b ≡ v.side
 
 -- the lemma with this number isn't good, and each one with a smaller number is
-pub record IsFirstBad (v : BundleView) (log : Log) (i : ℕ) : Type 0 where
+pub record IsFirstBadLemma (v : BundleView) (log : Log) (i : ℕ) : Type 0 where
   pub there : i < length log.lemmas
   pub bad : ¬ IsGood v log i
   pub before : (j : ℕ) → j < i → IsGood v log j
 
 -- the fault stands, and none of those before it
-abbrev pub IsFaultOf : LogRefusal → BundleView → List ℕ → List ℕ → Type 0
-IsFaultOf (Form fault) v b file = form.IsFaultOf fault file
-IsFaultOf L4 v b file = (log : Log) × IsLogFile log file × ¬ AreOfOneSide v log b
-IsFaultOf L5 v b file = (log : Log) × (last : Lemma) × IsLogFile log file × AreOfOneSide v log b × IsLast log.lemmas last × (last.board ≢ b)
-IsFaultOf (L6 i) v b file = (log : Log) × (last : Lemma) × IsLogFile log file × IsLogFor v log b last × IsFirstBad v log i
+abbrev pub IsLogRefusalOf : LogRefusal → BundleView → List ℕ → List ℕ → Type 0
+IsLogRefusalOf (Form fault) v b file = form.IsFormFaultOf fault file
+IsLogRefusalOf L4 v b file = (log : Log) × IsLogFile log file × ¬ AreOfOneSide v log b
+IsLogRefusalOf L5 v b file = (log : Log) × (last : Lemma) × IsLogFile log file × AreOfOneSide v log b × IsLast log.lemmas last × (last.board ≢ b)
+IsLogRefusalOf (L6 i) v b file = (log : Log) × (last : Lemma) × IsLogFile log file × IsLogFor v log b last × IsFirstBadLemma v log i
 
 -- why no bound comes of the bytes: a fault of theirs, or want of memory, which comes of any log file and of no other bytes
-abbrev pub IsCauseOf : LogFault → BundleView → List ℕ → List ℕ → Type 0
-IsCauseOf (Refused fault) v b file = IsFaultOf fault v b file
-IsCauseOf Memory v b file = (log : Log) × IsLogFile log file
+abbrev pub IsCauseOfLogFault : LogFault → BundleView → List ℕ → List ℕ → Type 0
+IsCauseOfLogFault (Refused fault) v b file = IsLogRefusalOf fault v b file
+IsCauseOfLogFault Memory v b file = (log : Log) × IsLogFile log file

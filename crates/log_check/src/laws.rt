@@ -1,6 +1,6 @@
 //! Laws of logs. Each function here says what holds of all of them, and does nothing.
 
-ghost use Rattle.log_check.specs.Laws.{FilesHaveAnAnswer, FilesHaveOneBound, FilesHaveOneFault, GoodFilesHaveNoFault, GoodLemmasBound, GoodLogsBound, LemmasAreGoodOrNot};
+ghost use Rattle.log_check.specs.Laws.{LogFilesHaveAnAnswer, FilesHaveOneBound, LogFilesHaveOneFault, GoodFilesHaveNoFault, GoodLemmasBound, GoodLogsBound, LemmasAreGoodOrNot};
 
 /// Where each lemma of a log is good, no solution of a lemma's board has fewer moves than the lemma's bound.
 pub fn good_lemmas_bound()
@@ -20,8 +20,8 @@ pub fn lemmas_are_good_or_not()
 /// For a bundle and a board a file is that of a good log or has a fault, and of these one alone: they settle all but want
 /// of memory.
 pub fn files_have_one_answer()
-    ensures some { FilesHaveAnAnswer }
+    ensures some { LogFilesHaveAnAnswer }
     ensures bound { FilesHaveOneBound }
-    ensures fault { FilesHaveOneFault }
+    ensures fault { LogFilesHaveOneFault }
     ensures either { GoodFilesHaveNoFault }
 {}

@@ -9,7 +9,7 @@ ghost use Rattle.log_file.specs.LogFiles.{IsLogFile};
 ghost use Rattle.log_file.specs.Logs.{IsLog, Lemma};
 ghost use Rattle.log_file.specs.declared.faults.FormFault.{FormFault};
 ghost use Rattle.log_check.specs.GoodLogs.{AreGood, IsGoodFile, IsLogFor};
-ghost use Rattle.log_check.specs.LogFaults.{IsCauseOf, IsFaultOf, IsFirstBad};
+ghost use Rattle.log_check.specs.LogFaults.{IsCauseOfLogFault, IsLogRefusalOf, IsFirstBadLemma};
 ghost use Rattle.log_check.specs.declared.faults.LogFault.TheVariants.{Memory, Refused};
 ghost use Rattle.log_check.specs.declared.faults.LogRefusal.{LogRefusal};
 ghost use Rattle.log_check.specs.declared.faults.LogRefusal.TheVariants.{Form};
@@ -47,9 +47,9 @@ pub fn check_log<R: Threads + Wait, G: Gate + Sync>(
     ensures bounds { IfOk result (IsBounded board.now) }
 
     // Which fault it is, before any memory is taken where the bytes are no log file.
-    ensures fault { IfErr result (λ fault. IsCauseOf fault bundle.now board.now file.now) }
-    ensures form { (fault : FormFault) → form.IsFaultOf fault file.now → result ≡ Err (Refused (Form fault)) }
-    ensures refused { (fault : LogRefusal) → IsFaultOf fault bundle.now board.now file.now
+    ensures fault { IfErr result (λ fault. IsCauseOfLogFault fault bundle.now board.now file.now) }
+    ensures form { (fault : FormFault) → form.IsFormFaultOf fault file.now → result ≡ Err (Refused (Form fault)) }
+    ensures refused { (fault : LogRefusal) → IsLogRefusalOf fault bundle.now board.now file.now
         → (result ≡ Err (Refused fault)) ⊎ (result ≡ Err Memory) }
 {
     proven_bound(rt, alloc, bundle, file, board, workers, gate)
@@ -68,7 +68,7 @@ fn proven_bound<R: Threads + Wait, G: Gate + Sync>(
     requires { AreWorkers workers }
     ensures ok { IfOk result (IsGoodFile bundle.now board.now file.now) }
     ensures bounds { IfOk result (IsBounded board.now) }
-    ensures fault { IfErr result (λ fault. IsCauseOf fault bundle.now board.now file.now) }
+    ensures fault { IfErr result (λ fault. IsCauseOfLogFault fault bundle.now board.now file.now) }
 {
     let log = match LogView::read(alloc, file) {
         Ok(log) => log,
@@ -89,7 +89,7 @@ fn proven_bound<R: Threads + Wait, G: Gate + Sync>(
 /// The bound of the last lemma of a log, which is to be one of the given board.
 fn claimed_bound(log: &LogView<'_>, bundle: &Bundle<'_>, board: &Board) -> Result<u8, LogRefusal>
     ensures ok { IfOk result (λ bound. (last : Lemma) × IsLogFor bundle.now log.now board.now last × (last.bound ≡ bound)) }
-    ensures err { IfErr result (λ fault. (file : List ℕ) → IsLogFile log.now file → IsFaultOf fault bundle.now board.now file) }
+    ensures err { IfErr result (λ fault. (file : List ℕ) → IsLogFile log.now file → IsLogRefusalOf fault bundle.now board.now file) }
     ensures bundle { IsBundle bundle.now }
     ensures log { IsLog log.now }
 {
@@ -116,7 +116,7 @@ fn first_bad<R: Threads + Wait, G: Gate + Sync>(
     requires log { IsLog log.now }
     requires side { log.now.side ≡ bundle.now.side }
     requires workers { AreWorkers workers }
-    ensures { IfOk result (λ first. MatchOption first (AreGood bundle.now log.now) (IsFirstBad bundle.now log.now)) }
+    ensures { IfOk result (λ first. MatchOption first (AreGood bundle.now log.now) (IsFirstBadLemma bundle.now log.now)) }
 {
     let check = LogCheck { log, bundle };
     match run_jobs(rt, alloc, &check, workers, gate) {

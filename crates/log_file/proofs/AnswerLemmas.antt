@@ -3,8 +3,8 @@ use Rattle.std.proofs.Common.{◌≡◌, ◌≢◌, ℕ, zero, suc, ◌+◌, ◌
 use Rattle.std.proofs.lemmas.Bool.{cases_eq, cases_lt}
 use Rattle.puz_board.specs.Boards.{IsBoardOf, at}
 use Rattle.log_file.specs.Logs.{IsSize, IsVersion, Log, most_lemmas}
-use Rattle.log_file.specs.LogFiles.{HasLemma, IsLogFile, count_in, front_lemma, head_length, header_length, side_in, signature, tree_length, version_in}
-use Rattle.log_file.specs.FormFaults.{AreFilled, HasHeader, IsFaultOf, behind_first}
+use Rattle.log_file.specs.LogFiles.{HasLemma, IsLogFile, lemma_count_in, front_lemma, head_length, header_length, log_side_in, log_signature, tree_length, version_in}
+use Rattle.log_file.specs.FormFaults.{AreFilled, HasHeader, IsFormFaultOf, behind_first}
 use Rattle.log_file.specs.FirstLemmas.{first_lemmas}
 use Rattle.log_file.specs.declared.faults.FormFault.{FormFault}
 use Rattle.log_file.specs.declared.faults.FormFault.TheVariants.{L1, L2, L3}
@@ -116,11 +116,11 @@ version_decided version = elim (cases_eq version 1) [
 header_decided : (file : List ℕ) → Decided (HasHeader file)
 header_decided file = elim (at_most_decided header_length (length file)) [
   | inr not ↦ inr (λ has. not has.header.room)
-  | inl room ↦ elim (lists_decided (take 4 file) signature) [
+  | inl room ↦ elim (lists_decided (take 4 file) log_signature) [
     | inr not ↦ inr (λ has. not has.header.begins)
     | inl begins ↦ elim (version_decided (version_in file)) [
       | inr not ↦ inr (λ has. not has.version)
-      | inl version ↦ elim (size_decided (side_in file) (count_in file)) [
+      | inl version ↦ elim (size_decided (log_side_in file) (lemma_count_in file)) [
         | inr not ↦ inr (λ has. not has.size)
         | inl size ↦ inl (record { header = record { room = room; begins = begins; is_version = refl; is_side = refl; is_count = refl }; version = version; size = size })
       ]
@@ -139,21 +139,21 @@ lemma_decided n bytes = elim (at_most_decided (head_length n) (length bytes)) [
 
 module _ (file : List ℕ) (has : HasHeader file) where
   abbrev n : ℕ
-  n = side_in file
+  n = log_side_in file
 
   abbrev count : ℕ
-  count = count_in file
+  count = lemma_count_in file
 
   abbrev bytes : List ℕ
   bytes = drop header_length file
 
-  boards_answer : AreFilled n count bytes → ((log : Log) × IsLogFile log file) ⊎ ((fault : FormFault) × IsFaultOf fault file)
+  boards_answer : AreFilled n count bytes → ((log : Log) × IsLogFile log file) ⊎ ((fault : FormFault) × IsFormFaultOf fault file)
   boards_answer filled = elim (all_or_first (λ i. IsBoardOf n (front_lemma n (behind_first n i bytes)).board) (λ i. board_decided n _) count) [
     | inl all ↦ inl (_, IsLogFile-first (version_in file) n count file has.header has.version has.size (first_lemmas n count bytes) filled all refl)
     | inr first ↦ inr (L3 first.0, (has, record { filled = filled; within = first.1; boards = first.2; no_board = first.3 }))
   ]
 
-  lemmas_answer : ((log : Log) × IsLogFile log file) ⊎ ((fault : FormFault) × IsFaultOf fault file)
+  lemmas_answer : ((log : Log) × IsLogFile log file) ⊎ ((fault : FormFault) × IsFormFaultOf fault file)
   lemmas_answer = elim (all_or_first (λ i. HasLemma n (behind_first n i bytes)) (λ i. lemma_decided n (behind_first n i bytes)) count) [
     | inr first ↦ inr (L2 first.0, (has, inl (record { within = first.1; whole = first.2; cut = first.3 })))
     | inl whole ↦ elim (lists_decided (behind_first n count bytes) []) [
@@ -162,5 +162,5 @@ module _ (file : List ℕ) (has : HasHeader file) where
     ]
   ]
 
-pub file_answer : (file : List ℕ) → ((log : Log) × IsLogFile log file) ⊎ ((fault : FormFault) × IsFaultOf fault file)
+pub file_answer : (file : List ℕ) → ((log : Log) × IsLogFile log file) ⊎ ((fault : FormFault) × IsFormFaultOf fault file)
 file_answer file = elim (header_decided file) [ inl has ↦ lemmas_answer file has | inr none ↦ inr (L1, none) ]

@@ -5,8 +5,8 @@ use Rattle.std.specs.Prelude.{IfOk}
 use Rattle.puz_board.specs.Boards.{IsBoardOf}
 use Rattle.std.specs.List.{AllByRecursion}
 use Rattle.log_file.specs.Logs.{IsSize, IsVersion, Lemma, Log}
-use Rattle.log_file.specs.LogFiles.{AreLemmas, HasLemma, IsHeader, IsLogFile, count_in, front_lemma, header_length, side_in}
-use Rattle.log_file.specs.FormFaults.{AreBoards, AreFilled, HasHeader, IsFaultOf, IsFirstCut, IsFirstNoBoard, IsLeftOver, behind_first}
+use Rattle.log_file.specs.LogFiles.{AreLemmas, HasLemma, IsLogHeader, IsLogFile, lemma_count_in, front_lemma, header_length, log_side_in}
+use Rattle.log_file.specs.FormFaults.{AreBoards, AreFilled, HasHeader, IsFormFaultOf, IsFirstCut, IsFirstNoBoard, IsLeftOver, behind_first}
 use Rattle.log_file.specs.FirstLemmas.{first_lemmas}
 use Rattle.log_file.specs.declared.faults.FormFault.{FormFault}
 use Rattle.log_file.specs.declared.faults.FormFault.TheVariants.{L1, L2, L3}
@@ -21,17 +21,17 @@ module _ (file : List ℕ) (log : Log) (is : IsLogFile log file) where
   HasHeader-log = record {
     header = record { room = is.header.room; begins = is.header.begins; is_version = refl; is_side = refl; is_count = refl };
     version = subst IsVersion (sym is.header.is_version) is.is_log.version;
-    size = subst (λ n. IsSize n (count_in file)) (sym is.header.is_side) (subst (IsSize log.side) (sym is.header.is_count) is.is_log.size);
+    size = subst (λ n. IsSize n (lemma_count_in file)) (sym is.header.is_side) (subst (IsSize log.side) (sym is.header.is_count) is.is_log.size);
   }
 
-  lemmas_are : log.lemmas ≡ first_lemmas (side_in file) (count_in file) (drop header_length file)
+  lemmas_are : log.lemmas ≡ first_lemmas (log_side_in file) (lemma_count_in file) (drop header_length file)
   lemmas_are =
       first-lemmas log.side log.lemmas (drop header_length file) is.lemmas ∙
       ap₂ (λ n count. first_lemmas n count (drop header_length file)) (sym is.header.is_side) (sym is.header.is_count)
 
-  filled : AreFilled (side_in file) (count_in file) (drop header_length file)
+  filled : AreFilled (log_side_in file) (lemma_count_in file) (drop header_length file)
   filled =
-      subst (λ n. AreFilled n (count_in file) (drop header_length file)) (sym is.header.is_side)
+      subst (λ n. AreFilled n (lemma_count_in file) (drop header_length file)) (sym is.header.is_side)
       (subst (λ count. AreFilled log.side count (drop header_length file)) (sym is.header.is_count) (AreFilled-lemmas log.side log.lemmas (drop header_length file) is.lemmas))
 
 pub one_log : (file : List ℕ) (a b : Log) → IsLogFile a file → IsLogFile b file → a ≡ b
@@ -66,7 +66,7 @@ module _ (n count : ℕ) (bytes : List ℕ) where
   one_no_board : (i j : ℕ) → IsFirstNoBoard n count bytes i → IsFirstNoBoard n count bytes j → i ≡ j
   one_no_board i j a b = same_first (λ k. IsBoardOf n (front_lemma n (behind_first n k bytes)).board) i j a.boards a.no_board b.boards b.no_board
 
-pub one_fault : (file : List ℕ) (a b : FormFault) → IsFaultOf a file → IsFaultOf b file → a ≡ b
+pub one_fault : (file : List ℕ) (a b : FormFault) → IsFormFaultOf a file → IsFormFaultOf b file → a ≡ b
 one_fault file L1 L1 a b = refl
 one_fault file L1 (L2 j) a b = absurd (a b.0)
 one_fault file L1 (L3 j) a b = absurd (a b.0)
@@ -79,15 +79,15 @@ one_fault file (L3 i) (L3 j) a b = ap L3 (one_no_board _ _ _ i j a.1 b.1)
 
 -- ---- not both
 
-pub no_fault : (file : List ℕ) (log : Log) (fault : FormFault) → IsLogFile log file → ¬ IsFaultOf fault file
+pub no_fault : (file : List ℕ) (log : Log) (fault : FormFault) → IsLogFile log file → ¬ IsFormFaultOf fault file
 no_fault file log L1 is stands = stands (HasHeader-log file log is)
 no_fault file log (L2 i) is stands = filled_or_cut _ _ _ i (filled file log is) stands.1
 no_fault file log (L3 i) is stands =
-    stands.1.no_board (first-boards (side_in file) (count_in file) (drop header_length file) boards i stands.1.within)
+    stands.1.no_board (first-boards (log_side_in file) (lemma_count_in file) (drop header_length file) boards i stands.1.within)
   where
-    boards : AllByRecursion (λ lemma. IsBoardOf (side_in file) lemma.board) (first_lemmas (side_in file) (count_in file) (drop header_length file))
+    boards : AllByRecursion (λ lemma. IsBoardOf (log_side_in file) lemma.board) (first_lemmas (log_side_in file) (lemma_count_in file) (drop header_length file))
     boards =
-        subst (AllByRecursion (λ lemma. IsBoardOf (side_in file) lemma.board)) (lemmas_are file log is)
+        subst (AllByRecursion (λ lemma. IsBoardOf (log_side_in file) lemma.board)) (lemmas_are file log is)
         (subst (λ n. AllByRecursion (λ lemma. IsBoardOf n lemma.board) log.lemmas) (sym is.header.is_side) is.is_log.boards)
 
 -- ---- what is answered of bytes
@@ -96,7 +96,7 @@ no_fault file log (L3 i) is stands =
 behind_header : (file : List ℕ) → take (length file - header_length) (drop header_length file) ≡ drop header_length file
 behind_header file = ap (λ k. take k (drop header_length file)) (sym (length-drop header_length file)) ∙ take-length (drop header_length file)
 
-module _ (version side count : ℕ) (file : List ℕ) (header : IsHeader version side count file) (known : IsVersion version) (size : IsSize side count) where
+module _ (version side count : ℕ) (file : List ℕ) (header : IsLogHeader version side count file) (known : IsVersion version) (size : IsSize side count) where
   pub IsLogFile-first : (lemmas : List Lemma) → AreFilled side count (drop header_length file) → AreBoards side count (drop header_length file)
       → lemmas ≡ first_lemmas side count (drop header_length file) → IsLogFile (record { version = version; side = side; lemmas = lemmas }) file
   IsLogFile-first lemmas filled boards are =
@@ -107,7 +107,7 @@ module _ (version side count : ℕ) (file : List ℕ) (header : IsHeader version
           size = subst (IsSize side) (sym counted) size;
           boards = subst (AllByRecursion (λ lemma. IsBoardOf side lemma.board)) (sym are) (boards-first side count (drop header_length file) boards);
         };
-        header = subst (λ k. IsHeader version side k file) (sym counted) header;
+        header = subst (λ k. IsLogHeader version side k file) (sym counted) header;
         lemmas = subst (λ ls. AreLemmas side ls (drop header_length file)) (sym are) (AreLemmas-first side count (drop header_length file) filled);
       }
 
@@ -119,20 +119,20 @@ module _ (version side count : ℕ) (file : List ℕ) (header : IsHeader version
       (are ∙ ap (first_lemmas side count) (behind_header file))
 
 module _ (file : List ℕ) (r : Result Log ViewFault) (ok : IfOk r (λ log. IsLogFile log file))
-    (refused : (fault : FormFault) → r ≡ Err (Refused fault) → IsFaultOf fault file) where
+    (refused : (fault : FormFault) → r ≡ Err (Refused fault) → IsFormFaultOf fault file) where
   pub log_viewed : (log : Log) → IsLogFile log file → (r ≡ Ok log) ⊎ (r ≡ Err Memory)
   log_viewed log is = go r ok refused
     where
-      go : (r : Result Log ViewFault) → IfOk r (λ log. IsLogFile log file) → ((fault : FormFault) → r ≡ Err (Refused fault) → IsFaultOf fault file)
+      go : (r : Result Log ViewFault) → IfOk r (λ log. IsLogFile log file) → ((fault : FormFault) → r ≡ Err (Refused fault) → IsFormFaultOf fault file)
           → (r ≡ Ok log) ⊎ (r ≡ Err Memory)
       go (Ok found) ok refused = inl (ap Ok (one_log file found log ok is))
       go (Err Memory) ok refused = inr refl
       go (Err (Refused fault)) ok refused = absurd (no_fault file log fault is (refused fault refl))
 
-  pub fault_named : (r ≡ Err Memory → (log : Log) × IsLogFile log file) → (fault : FormFault) → IsFaultOf fault file → r ≡ Err (Refused fault)
+  pub fault_named : (r ≡ Err Memory → (log : Log) × IsLogFile log file) → (fault : FormFault) → IsFormFaultOf fault file → r ≡ Err (Refused fault)
   fault_named memory fault stands = go r ok refused memory
     where
-      go : (r : Result Log ViewFault) → IfOk r (λ log. IsLogFile log file) → ((fault : FormFault) → r ≡ Err (Refused fault) → IsFaultOf fault file)
+      go : (r : Result Log ViewFault) → IfOk r (λ log. IsLogFile log file) → ((fault : FormFault) → r ≡ Err (Refused fault) → IsFormFaultOf fault file)
           → (r ≡ Err Memory → (log : Log) × IsLogFile log file) → r ≡ Err (Refused fault)
       go (Ok found) ok refused memory = absurd (no_fault file found fault ok stands)
       go (Err Memory) ok refused memory = let log = memory refl in absurd (no_fault file log.0 fault log.1 stands)

@@ -2,15 +2,15 @@
 use Rattle.std.specs.Prelude.{◌≡◌, ◌≢◌, ◌⊎◌, ℕ, zero, suc, ◌<◌, List, [], drop}
 use Rattle.puz_board.specs.Boards.{IsBoardOf}
 use Rattle.log_file.specs.Logs.{IsSize, IsVersion}
-use Rattle.log_file.specs.LogFiles.{HasLemma, IsHeader, behind, count_in, front_lemma, header_length, side_in, version_in}
+use Rattle.log_file.specs.LogFiles.{HasLemma, IsLogHeader, behind, lemma_count_in, front_lemma, header_length, log_side_in, version_in}
 use Rattle.log_file.specs.declared.faults.FormFault.{FormFault}
 use Rattle.log_file.specs.declared.faults.FormFault.TheVariants.{L1, L2, L3}
 
 -- the header is that of a log of some version, some side and some number of lemmas
 pub record HasHeader (file : List ℕ) : Type 0 where
-  pub header : IsHeader (version_in file) (side_in file) (count_in file) file
+  pub header : IsLogHeader (version_in file) (log_side_in file) (lemma_count_in file) file
   pub version : IsVersion (version_in file)
-  pub size : IsSize (side_in file) (count_in file)
+  pub size : IsSize (log_side_in file) (lemma_count_in file)
 
 -- the bytes behind the first lemmas, so many of them
 abbrev pub behind_first : ℕ → ℕ → List ℕ → List ℕ
@@ -49,9 +49,9 @@ pub record IsFirstNoBoard (n count : ℕ) (bytes : List ℕ) (i : ℕ) : Type 0 
   pub no_board : ¬ IsBoardOf n (front_lemma n (behind_first n i bytes)).board
 
 -- the fault stands, and none of those before it
-abbrev pub IsFaultOf : FormFault → List ℕ → Type 0
-IsFaultOf L1 file = ¬ HasHeader file
-IsFaultOf (L2 i) file = HasHeader file
-    × (IsFirstCut (side_in file) (count_in file) (drop header_length file) i
-    ⊎ ((i ≡ count_in file) × IsLeftOver (side_in file) (count_in file) (drop header_length file)))
-IsFaultOf (L3 i) file = HasHeader file × IsFirstNoBoard (side_in file) (count_in file) (drop header_length file) i
+abbrev pub IsFormFaultOf : FormFault → List ℕ → Type 0
+IsFormFaultOf L1 file = ¬ HasHeader file
+IsFormFaultOf (L2 i) file = HasHeader file
+    × (IsFirstCut (log_side_in file) (lemma_count_in file) (drop header_length file) i
+    ⊎ ((i ≡ lemma_count_in file) × IsLeftOver (log_side_in file) (lemma_count_in file) (drop header_length file)))
+IsFormFaultOf (L3 i) file = HasHeader file × IsFirstNoBoard (log_side_in file) (lemma_count_in file) (drop header_length file) i

@@ -11,28 +11,28 @@ abbrev pub header_length : ℕ
 header_length = 10
 
 -- how it begins: the letters of the format
-abbrev pub signature : List ℕ
-signature = codes "PDBL"
+abbrev pub log_signature : List ℕ
+log_signature = codes "PDBL"
 
 -- the version of the format
 abbrev pub version_in : List ℕ → ℕ
 version_in file = slice_index file 4
 
 -- the side of the boards
-abbrev pub side_in : List ℕ → ℕ
-side_in file = slice_index file 5
+abbrev pub log_side_in : List ℕ → ℕ
+log_side_in file = slice_index file 5
 
 -- how many lemmas there are
-abbrev pub count_in : List ℕ → ℕ
-count_in file = big_number 4 (drop 6 file)
+abbrev pub lemma_count_in : List ℕ → ℕ
+lemma_count_in file = big_number 4 (drop 6 file)
 
 -- the first bytes are the header of a log of this version and side and so many lemmas
-pub record IsHeader (version side count : ℕ) (file : List ℕ) : Type 0 where
+pub record IsLogHeader (version side count : ℕ) (file : List ℕ) : Type 0 where
   pub room : header_length ≤ length file
-  pub begins : take 4 file ≡ signature
+  pub begins : take 4 file ≡ log_signature
   pub is_version : version_in file ≡ version
-  pub is_side : side_in file ≡ side
-  pub is_count : count_in file ≡ count
+  pub is_side : log_side_in file ≡ side
+  pub is_count : lemma_count_in file ≡ count
 
 -- ---- the lemma at the front of bytes, for boards of side n
 
@@ -75,5 +75,5 @@ AreLemmas n (lemma ∷ more) bytes = HasLemma n bytes × (lemma ≡ front_lemma 
 -- the header of the log, and then its lemmas
 pub record IsLogFile (log : Log) (file : List ℕ) : Type 0 where
   pub is_log : IsLog log
-  pub header : IsHeader log.version log.side (length log.lemmas) file
+  pub header : IsLogHeader log.version log.side (length log.lemmas) file
   pub lemmas : AreLemmas log.side log.lemmas (drop header_length file)

@@ -2,7 +2,7 @@
 
 ghost use Rattle.std.specs.Prelude.{IfNone, IfSome};
 ghost use Rattle.log_file.specs.FormFaults.{HasHeader};
-ghost use Rattle.log_file.specs.LogFiles.{IsHeader};
+ghost use Rattle.log_file.specs.LogFiles.{IsLogHeader};
 ghost use Rattle.log_file.specs.Logs.{IsSize, IsVersion};
 
 use byteorder::{BigEndian, ByteOrder};
@@ -36,7 +36,7 @@ pub(crate) struct Header {
 
 /// Reads the header of a log file.
 pub(crate) fn read_header(file: &[u8]) -> Option<Header>
-    ensures some { IfSome result (λ h. IsHeader h.version h.side h.count file.now × IsVersion h.version × IsSize h.side h.count) }
+    ensures some { IfSome result (λ h. IsLogHeader h.version h.side h.count file.now × IsVersion h.version × IsSize h.side h.count) }
     ensures none { IfNone result (¬ HasHeader file.now) }
 {
     if file.len() < HEADER_LEN || !file.starts_with(SIGNATURE) {

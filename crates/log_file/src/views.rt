@@ -2,7 +2,7 @@
 
 ghost use Rattle.std.specs.Prelude.{◌≡◌, ◌⊎◌, ◌<◌, ◌≤◌, ◌^◌, Err, IfOk, Ok, Some, length, map, slice_get};
 ghost use Rattle.puz_board.specs.Boards.{IsBoardOf};
-ghost use Rattle.log_file.specs.FormFaults.{AreBoards, AreFilled, IsFaultOf};
+ghost use Rattle.log_file.specs.FormFaults.{AreBoards, AreFilled, IsFormFaultOf};
 ghost use Rattle.log_file.specs.FirstLemmas.{first_lemmas};
 ghost use Rattle.log_file.specs.LogFiles.{IsLogFile};
 ghost use Rattle.log_file.specs.Logs.{IsLog, IsVersion, Lemma, Log, most_lemmas};
@@ -57,8 +57,8 @@ impl<'a> LogView<'a> {
         ensures viewed { (log : Log) → IsLogFile log file.now → (result ≡ Ok log) ⊎ (result ≡ Err Memory) }
 
         // Which fault it is, before any memory is taken.
-        ensures fault { (fault : FormFault) → result ≡ Err (Refused fault) → IsFaultOf fault file.now }
-        ensures exact { (fault : FormFault) → IsFaultOf fault file.now → result ≡ Err (Refused fault) }
+        ensures fault { (fault : FormFault) → result ≡ Err (Refused fault) → IsFormFaultOf fault file.now }
+        ensures exact { (fault : FormFault) → IsFormFaultOf fault file.now → result ≡ Err (Refused fault) }
 
         // Memory is wanted for a log file alone.
         ensures memory { result ≡ Err Memory → (log : Log) × IsLogFile log file.now }
@@ -120,7 +120,7 @@ impl<'a> LogView<'a> {
 /// Views the bytes, or says why they are no log file.
 fn read_log(alloc: Global, file: &[u8]) -> Result<LogView<'_>, ViewFault>
     ensures ok { IfOk result (λ log. IsLogFile log file.now) }
-    ensures fault { (fault : FormFault) → result ≡ Err (Refused fault) → IsFaultOf fault file.now }
+    ensures fault { (fault : FormFault) → result ≡ Err (Refused fault) → IsFormFaultOf fault file.now }
     ensures memory { result ≡ Err Memory → (log : Log) × IsLogFile log file.now }
 {
     let Some(header) = read_header(file) else {

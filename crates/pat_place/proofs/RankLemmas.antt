@@ -10,7 +10,7 @@ use Rattle.std.proofs.Math.Nat.{pow-suc, pow-le-pow_right}
 use Rattle.puz_board.proofs.HasLemmas.{has_cases, has-here, has-later, has-filter, has-filter_not, has-range, in_range}
 use Rattle.pat_place.specs.Patterns.{has, IsAscending, PatternView}
 use Rattle.pat_place.specs.Placements.{IsApart, IsPlacement}
-use Rattle.pat_place.specs.Laws.{IsBefore}
+use Rattle.pat_place.specs.Laws.{IsLexicographicallyBefore}
 use Rattle.pat_place.specs.Ranks.{without, lists_of, placements, falling_factorial, IsRank}
 use Rattle.pat_place.proofs.ListLemmas.{Some-one, apart_from_ascending, ascending-range, ascending-filter}
 
@@ -291,8 +291,8 @@ pub above-has : (d c : ℕ) (cs : List ℕ) → AllByRecursion (λ y. d < y) cs 
 above-has d c [] all h = absurd (true≢false (sym h))
 above-has d c (x ∷ cs) all h = elim (has_cases c x cs h) [ inl e ↦ subst (λ y. d < y) e all.0 | inr k ↦ above-has d c cs all.1 k ]
 
-flat_in_order : (L : ℕ → List (List ℕ)) → ((c i j : ℕ) (y z : List ℕ) → slice_get (L c) i ≡ Some y → slice_get (L c) j ≡ Some z → i < j → IsBefore y z) → (cs : List ℕ) → IsAscending cs → (i j : ℕ) (y z : List ℕ)
-    → slice_get (flat_map (λ d. map (λ q. d ∷ q) (L d)) cs) i ≡ Some y → slice_get (flat_map (λ d. map (λ q. d ∷ q) (L d)) cs) j ≡ Some z → i < j → IsBefore y z
+flat_in_order : (L : ℕ → List (List ℕ)) → ((c i j : ℕ) (y z : List ℕ) → slice_get (L c) i ≡ Some y → slice_get (L c) j ≡ Some z → i < j → IsLexicographicallyBefore y z) → (cs : List ℕ) → IsAscending cs → (i j : ℕ) (y z : List ℕ)
+    → slice_get (flat_map (λ d. map (λ q. d ∷ q) (L d)) cs) i ≡ Some y → slice_get (flat_map (λ d. map (λ q. d ∷ q) (L d)) cs) j ≡ Some z → i < j → IsLexicographicallyBefore y z
 flat_in_order L inner [] up i j y z a b l = cc
 flat_in_order L inner (d ∷ cs) up i j y z a b l =
     elim (get-append_cases block rest i y a) [
@@ -312,25 +312,25 @@ flat_in_order L inner (d ∷ cs) up i j y z a b l =
     rest : List (List ℕ)
     rest = flat_map (λ d. map (λ q. d ∷ q) (L d)) cs
 
-    both_here : slice_get block i ≡ Some y → slice_get block j ≡ Some z → IsBefore y z
+    both_here : slice_get block i ≡ Some y → slice_get block j ≡ Some z → IsLexicographicallyBefore y z
     both_here h k =
         let u = get-map_back (λ q. d ∷ q) (L d) i y h in
         let v = get-map_back (λ q. d ∷ q) (L d) j z k in
-        let P : List ℕ → List ℕ → Type 0 = λ a b. IsBefore a b in
-        subst (λ a. IsBefore a z) u.2 (subst (λ b. IsBefore (d ∷ u.0) b) v.2 (inr (refl, inner d i j u.0 v.0 u.1 v.1 l)))
+        let P : List ℕ → List ℕ → Type 0 = λ a b. IsLexicographicallyBefore a b in
+        subst (λ a. IsLexicographicallyBefore a z) u.2 (subst (λ b. IsLexicographicallyBefore (d ∷ u.0) b) v.2 (inr (refl, inner d i j u.0 v.0 u.1 v.1 l)))
 
-    here_and_later : slice_get block i ≡ Some y → (s : ℕ) → slice_get rest s ≡ Some z → IsBefore y z
+    here_and_later : slice_get block i ≡ Some y → (s : ℕ) → slice_get rest s ≡ Some z → IsLexicographicallyBefore y z
     here_and_later h s k =
         let u = get-map_back (λ q. d ∷ q) (L d) i y h in
         let v = head_in L cs s z k in
-        subst (λ a. IsBefore a z) u.2 (subst (λ b. IsBefore (d ∷ u.0) b) (sym v.3) (inl (above-has d v.0 cs up.0 v.2)))
+        subst (λ a. IsLexicographicallyBefore a z) u.2 (subst (λ b. IsLexicographicallyBefore (d ∷ u.0) b) (sym v.3) (inl (above-has d v.0 cs up.0 v.2)))
 
-lists_in_order : (k : ℕ) (cs : List ℕ) → IsAscending cs → (i j : ℕ) (y z : List ℕ) → slice_get (lists_of k cs) i ≡ Some y → slice_get (lists_of k cs) j ≡ Some z → i < j → IsBefore y z
+lists_in_order : (k : ℕ) (cs : List ℕ) → IsAscending cs → (i j : ℕ) (y z : List ℕ) → slice_get (lists_of k cs) i ≡ Some y → slice_get (lists_of k cs) j ≡ Some z → i < j → IsLexicographicallyBefore y z
 lists_in_order zero cs up i zero y z a b l = absurd (omega arith)
 lists_in_order zero cs up i (suc j) y z a b l = cc
 lists_in_order (suc k) cs up i j y z a b l = flat_in_order (λ c. lists_of k (without c cs)) (λ c. lists_in_order k (without c cs) (ascending-filter (λ d. not (eqb d c)) cs up)) cs up i j y z a b l
 
-pub placements_in_order : (n k r s : ℕ) (p q : List ℕ) → slice_get (placements n k) r ≡ Some p → slice_get (placements n k) s ≡ Some q → r < s → IsBefore p q
+pub placements_in_order : (n k r s : ℕ) (p q : List ℕ) → slice_get (placements n k) r ≡ Some p → slice_get (placements n k) s ≡ Some q → r < s → IsLexicographicallyBefore p q
 unfolding placements
 placements_in_order n k r s p q a b l = lists_in_order k (range_with_len 0 (n * n)) (ascending-range 0 (n * n)) r s p q a b l
 

@@ -15,16 +15,16 @@ EachPlacementHasOneRank =
     (r : ℕ) × IsRank p.pattern.side p.cells r × ((s : ℕ) → IsRank p.pattern.side p.cells s → s ≡ r)
 
 -- the first number in which two lists differ is the smaller one of the first list
-abbrev pub IsBefore : List ℕ → List ℕ → Type 0
-IsBefore [] q = ⊥
-IsBefore (x ∷ p) [] = ⊥
-IsBefore (x ∷ p) (y ∷ q) = (x < y) ⊎ ((x ≡ y) × IsBefore p q)
+abbrev pub IsLexicographicallyBefore : List ℕ → List ℕ → Type 0
+IsLexicographicallyBefore [] q = ⊥
+IsLexicographicallyBefore (x ∷ p) [] = ⊥
+IsLexicographicallyBefore (x ∷ p) (y ∷ q) = (x < y) ⊎ ((x ≡ y) × IsLexicographicallyBefore p q)
 
 -- ranks go up as the lists of cells do
 abbrev pub RanksAreInOrder : Type 0
 RanksAreInOrder =
     (n k r s : ℕ) (p q : List ℕ) → slice_get (placements n k) r ≡ Some p → slice_get (placements n k) s ≡ Some q →
-    r < s → IsBefore p q
+    r < s → IsLexicographicallyBefore p q
 
 -- on side 3, the cells 1, 2, 3 have rank 64, and the last of all, 8, 7, 6, have rank 503
 abbrev pub RanksOfThreeCells : Type 0

@@ -31,7 +31,7 @@ pub record AreRegions (n : ℕ) (cells masks : List ℕ) : Type 0 where
   pub all : IsCount (IsLeader n cells) (n * n) (length masks)
 
 -- mask number j is the first of these that has the cell
-pub record IsFirstWith (masks : List ℕ) (cell j : ℕ) : Type 0 where
+pub record IsFirstMaskWith (masks : List ℕ) (cell j : ℕ) : Type 0 where
   pub low : j < length masks
   pub here : bit_at (slice_index masks j) cell ≡ 1
   pub before : (i : ℕ) → i < j → bit_at (slice_index masks i) cell ≢ 1

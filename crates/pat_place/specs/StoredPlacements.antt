@@ -21,12 +21,12 @@ pub record IsStoredPlacement (p : Inside) : Type 0 where
 abbrev pub stored_placement_of : PlacementView → Inside
 stored_placement_of p = record { pattern = p.pattern; cells = p.cells ++ replicate (8 - length p.cells) 0 }
 
-refilled : (p : Inside) → IsStoredPlacement p → (stored_placement_of (placement_shown p)).cells ≡ p.cells
-refilled p kept =
+refilled_cells : (p : Inside) → IsStoredPlacement p → (stored_placement_of (placement_shown p)).cells ≡ p.cells
+refilled_cells p kept =
     ap (λ k. take (length p.pattern.tiles) p.cells ++ replicate (8 - k) 0) kept.placement.size ∙
     ap (λ zs. take (length p.pattern.tiles) p.cells ++ zs) (sym kept.rest) ∙
     take-append-drop (length p.pattern.tiles) p.cells
 
 -- the cells that count give the fields back
 pub stored_placement_of-shown : (p : Inside) → IsStoredPlacement p → stored_placement_of (placement_shown p) ≡ p
-stored_placement_of-shown p kept = λ i. record { pattern = p.pattern; cells = refilled p kept i }
+stored_placement_of-shown p kept = λ i. record { pattern = p.pattern; cells = refilled_cells p kept i }

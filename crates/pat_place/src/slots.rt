@@ -6,7 +6,7 @@ ghost use Rattle.arrayvec.specs.ArrayVec.{array_vec_len};
 ghost use Rattle.puz_board.specs.Masks.{IsMaskOf};
 ghost use Rattle.pat_place.specs.Patterns.{width};
 ghost use Rattle.pat_place.specs.Placements.{IsFree};
-ghost use Rattle.pat_place.specs.Regions.{IsSlot, AreRegions, IsFirstWith};
+ghost use Rattle.pat_place.specs.Regions.{IsSlot, AreRegions, IsFirstMaskWith};
 
 use crate::flood::{region_of, region_until};
 use crate::placements::Placement;
@@ -36,7 +36,7 @@ pub fn find_region(regions: &[u32], cell: u8) -> Option<usize>
     requires { cell < 32 }
     ensures { MatchOption result
         ((i : ℕ) → i < length regions.now → bit_at (slice_index regions.now i) cell ≢ 1)
-        (IsFirstWith regions.now cell) }
+        (IsFirstMaskWith regions.now cell) }
 {
     for (j, region) in regions.iter().enumerate() {
         if masks::has_cell(*region, cell) {

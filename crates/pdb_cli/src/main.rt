@@ -1,7 +1,7 @@
 //! Checks claims about sliding-tile puzzles.
 #![tactic(auto)]
 
-use pdb_io::disk::DiskShelf;
+use byte_io::disk::DiskShelf;
 use pdb_program::{Host, start};
 use pdb_progress::Watch;
 use std::process::ExitCode;

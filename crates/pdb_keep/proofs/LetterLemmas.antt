@@ -8,7 +8,7 @@ use Rattle.puz_board.specs.MovesTexts.{Solves, is_letter, moves_of}
 use Rattle.puz_board.specs.Paths.{Leads}
 use Rattle.puz_board.specs.declared.moves.Move.{Move}
 use Rattle.puz_board.specs.declared.moves.Move.TheVariants.{Up, Down, Left, Right}
-use Rattle.pdb_io.specs.Shelf.{Bytes}
+use Rattle.byte_io.specs.Shelf.{Bytes}
 use Rattle.pdb_keep.specs.Solve.{letter_of, letters_of, moves_line}
 use Rattle.pdb_keep.specs.Laws.{IsToldSolution, told_moves}
 

@@ -17,7 +17,7 @@ use Rattle.puz_board.proofs.PuzzleLemmas.{puzzle_parts-puzzle}
 use Rattle.puz_board.proofs.SpellingLemmas.{stray_byte-numerals}
 use Rattle.puz_board.proofs.FirstLemmas.{fails_each}
 use Rattle.set_sum.specs.Bundles.{BundleView}
-use Rattle.pdb_io.specs.Shelf.{Bytes}
+use Rattle.byte_io.specs.Shelf.{Bytes}
 use Rattle.pdb_run.specs.Answers.{all_bytes}
 use Rattle.log_check.specs.declared.faults.LogFault.{LogFault}
 use Rattle.log_check.specs.declared.faults.LogFault.TheVariants as log_failure

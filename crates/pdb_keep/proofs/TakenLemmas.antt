@@ -5,7 +5,7 @@ use Rattle.std.specs.List.{AllByRecursion}
 use Rattle.std.specs.Io.KnownBytes.{Appends}
 use Rattle.std.specs.Str.{bytes_eq}
 use Rattle.std.proofs.lemmas.Slice.Eq.{bytes_eq-Decides}
-use Rattle.pdb_io.specs.Shelf.{Bytes, Files, told_with, with_file}
+use Rattle.byte_io.specs.Shelf.{Bytes, Files, told_with, with_file}
 use Rattle.pdb_run.specs.Writing.{reply_text}
 use Rattle.pdb_run.specs.Commands.{Reply}
 use Rattle.pdb_run.specs.Inputs.{AreRead, IsReadFrom}

@@ -4,7 +4,7 @@ use Rattle.std.specs.Io.KnownBytes.{Appends}
 use Rattle.puz_board.specs.BoardTexts.{Spells}
 use Rattle.puz_board.specs.MovesTexts.{Solves}
 use Rattle.tab_rule.specs.declared.census.Census.{Census}
-use Rattle.pdb_io.specs.Shelf.{Bytes, told_with}
+use Rattle.byte_io.specs.Shelf.{Bytes, told_with}
 use Rattle.pdb_run.specs.Writing.{digests_of}
 use Rattle.pdb_run.specs.Inputs.{AreRead}
 use Rattle.pdb_run.specs.Runs.{World}

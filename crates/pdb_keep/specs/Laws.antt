@@ -3,7 +3,7 @@ use Rattle.std.specs.Prelude.{◌≡◌, ◌≢◌, ◌⊎◌, ℕ, Bool, List, 
 use Rattle.std.specs.Io.KnownBytes.{Appends}
 use Rattle.std.specs.List.{AllByRecursion}
 use Rattle.puz_board.specs.MovesTexts.{Solves}
-use Rattle.pdb_io.specs.Shelf.{Bytes, Files}
+use Rattle.byte_io.specs.Shelf.{Bytes, Files}
 use Rattle.pdb_run.specs.Writing.{digests_of}
 use Rattle.pdb_run.specs.Runs.{Ends, World}
 use Rattle.pdb_run.specs.declared.statuses.Status.{Status}

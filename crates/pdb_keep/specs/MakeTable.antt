@@ -5,7 +5,7 @@ use Rattle.std.specs.Prelude.{◌≡◌, ◌⊎◌, ⊤, ℕ, false, [], Some, N
 use Rattle.puz_board.specs.Masks.{numbers_of}
 use Rattle.pat_place.specs.Patterns.{IsPattern}
 use Rattle.tab_rule.specs.declared.census.Census.{Census}
-use Rattle.pdb_io.specs.Shelf.{Bytes}
+use Rattle.byte_io.specs.Shelf.{Bytes}
 use Rattle.pdb_run.specs.Commands.{Plan, Reply, plan_under}
 use Rattle.pdb_verdict.specs.Lines.{line_of, line_of_fault}
 use Rattle.pdb_verdict.specs.Refusals.{fault_of_build}

@@ -2,7 +2,7 @@
 use Rattle.std.specs.Prelude.{◌≡◌, ℕ, Bool, List, Result, IfOk, length}
 use Rattle.puz_board.specs.PuzzleTexts.{puzzle_parts}
 use Rattle.set_sum.specs.Bundles.{BundleView}
-use Rattle.pdb_io.specs.Shelf.{Bytes}
+use Rattle.byte_io.specs.Shelf.{Bytes}
 use Rattle.pdb_verdict.specs.Bound.{TakesMemoryForBound}
 use Rattle.pdb_verdict.specs.Optimal.{IsOptimumOver}
 use Rattle.pdb_verdict.specs.Refusals.{IsCauseBy, or_memory}

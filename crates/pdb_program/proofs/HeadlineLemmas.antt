@@ -5,7 +5,7 @@ use Rattle.std.specs.Io.KnownBytes.{Appends}
 use Rattle.std.specs.Option.{option_map_or}
 use Rattle.std.proofs.lemmas.List.{append-nil, append_cancel_left}
 use Rattle.std.proofs.lemmas.Slice.Eq.{bytes_eq-Decides}
-use Rattle.pdb_io.specs.Shelf.{Bytes, Files, told_with, with_file}
+use Rattle.byte_io.specs.Shelf.{Bytes, Files, told_with, with_file}
 use Rattle.pdb_run.specs.Writing.{digest_line, digests_of, reply_text}
 use Rattle.pdb_run.specs.Commands.{Reply}
 use Rattle.pdb_run.specs.Inputs.{AreRead, IsReadFrom}
@@ -31,7 +31,7 @@ use Rattle.pdb_keep.proofs.LetterLemmas.{told_solution}
 use Rattle.pdb_words.specs.Asked.{Asked, bound, make_table, optimal, replay, solve, table}
 use Rattle.pdb_words.specs.CommandLine.{Parses, asked_of}
 use Rattle.pdb_program.specs.Headline.{EndWith, Headline, HoldsOfNo, HoldsOfYes}
-use Rattle.pdb_program.specs.Programs.{HasKept, IsNumberOf, plan_of}
+use Rattle.pdb_program.specs.Programs.{HasKept, IsNumberOfStatus, plan_of}
 
 -- ---- digest lines are whole lines
 
@@ -245,20 +245,20 @@ module _ (old new : World) (before after : Bytes → Option Bytes) (input start 
   no_by (solve board sets out tables workers fold budget) a = tt
 
   module _ (asked : Asked) (number : ℕ) where
-    yes_of : IsNumberOf (IsAnswered (plan_of asked) old new) number → number ≡ 0 → HasKept asked old new → HoldsOfYes asked before after input lines
+    yes_of : IsNumberOfStatus (IsAnswered (plan_of asked) old new) number → number ≡ 0 → HasKept asked old new → HoldsOfYes asked before after input lines
     yes_of (Yes, e, answered) zero kept = yes_by asked answered kept
     yes_of (Refused, e, answered) zero kept = absurd (omega arith)
     yes_of (Fault, e, answered) zero kept = absurd (omega arith)
     yes_of (NoMemory, e, answered) zero kept = absurd (omega arith)
 
-    no_of : IsNumberOf (IsAnswered (plan_of asked) old new) number → number ≡ 1 → HoldsOfNo asked before
+    no_of : IsNumberOfStatus (IsAnswered (plan_of asked) old new) number → number ≡ 1 → HoldsOfNo asked before
     no_of (Yes, e, answered) one = absurd (omega arith)
     no_of (Refused, e, answered) one = no_by asked answered
     no_of (Fault, e, answered) one = absurd (omega arith)
     no_of (NoMemory, e, answered) one = absurd (omega arith)
 
     -- the sentence follows from what is answered with 0 or 1, from what is kept with 0, and from what the numbers are
-    pub headline_from : ((number ≡ 0) ⊎ (number ≡ 1) → IsNumberOf (IsAnswered (plan_of asked) old new) number) → (number ≡ 0 → HasKept asked old new) → number ≤ 3
+    pub headline_from : ((number ≡ 0) ⊎ (number ≡ 1) → IsNumberOfStatus (IsAnswered (plan_of asked) old new) number) → (number ≡ 0 → HasKept asked old new) → number ≤ 3
         → Headline asked before after input lines number
     headline_from answered kept known = record {
       yes = λ zero. yes_of (answered (inl zero)) zero (kept zero);

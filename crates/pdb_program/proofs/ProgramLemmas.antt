@@ -1,7 +1,7 @@
 -- The numbers by which runs end.
 use Rattle.std.proofs.Common.{◌≡◌, ◌⊎◌, ◌∙◌, ◌≤◌, inl, inr, refl, sym, ap, subst, lit≤, arith, ℕ, Bool, List, [], Option, Some, None}
 use Rattle.std.specs.Io.KnownBytes.{Keeps}
-use Rattle.pdb_io.specs.Shelf.{Bytes}
+use Rattle.byte_io.specs.Shelf.{Bytes}
 use Rattle.pdb_run.specs.Commands.{Plan}
 use Rattle.pdb_run.specs.Runs.{Ends, HasCause, IsAnswered, LeavesFailure, LeavesFiles, LeavesReader, Outcome, WantsMemory, World, kept, no_memory, replied, unkept, unread, unwritable, with_kept}
 use Rattle.pdb_run.specs.Statuses.{status_number}
@@ -13,14 +13,14 @@ use Rattle.pdb_keep.proofs.KeptLemmas.{log_kept, table_kept}
 use Rattle.pdb_words.specs.Asked.{Asked, AsksCheck, bound, make_table, optimal, replay, solve, table}
 use Rattle.pdb_words.specs.CommandLine.{Parses, asked_of}
 use Rattle.pdb_words.specs.Faults.{IsMistaken}
-use Rattle.pdb_program.specs.Programs.{AskToKeepNothing, HasKept, IsNumberOf, RunsOn, plan_of, taking_memory}
+use Rattle.pdb_program.specs.Programs.{AskToKeepNothing, HasKept, IsNumberOfStatus, RunsOn, plan_of, taking_memory}
 use Rattle.pdb_program.specs.Refusals.{Refuses}
 
 other : (n number : ℕ) → 2 ≤ n → number ≡ n → (number ≡ 0) ⊎ (number ≡ 1) → ⊥
 other n number big e is = elim is [ inl zero ↦ omega arith | inr one ↦ omega arith ]
 
 -- a run whose number is 0 or 1 is answered
-pub answered_by : (plan : Plan) (old new : World) (number : ℕ) (status : Status) → number ≡ status_number status → Ends plan old new status → (number ≡ 0) ⊎ (number ≡ 1) → IsNumberOf (IsAnswered plan old new) number
+pub answered_by : (plan : Plan) (old new : World) (number : ℕ) (status : Status) → number ≡ status_number status → Ends plan old new status → (number ≡ 0) ⊎ (number ≡ 1) → IsNumberOfStatus (IsAnswered plan old new) number
 answered_by plan old new number Yes e ends is = (Yes, e, IsAnswered-ends plan old new Yes ends (inl refl))
 answered_by plan old new number Refused e ends is = (Refused, e, IsAnswered-ends plan old new Refused ends (inr refl))
 answered_by plan old new number Fault e ends is = absurd (other 2 number (lit≤ tt) e is)

@@ -11,7 +11,7 @@ use Rattle.tab_file.specs.Tables.{Table}
 use Rattle.tab_rule.specs.ExactTables.{IsExactFile}
 use Rattle.tab_rule.specs.declared.census.Census.{Census}
 use Rattle.set_sum.specs.Bounds.{IsBounded}
-use Rattle.pdb_io.specs.Shelf.{Bytes}
+use Rattle.byte_io.specs.Shelf.{Bytes}
 use Rattle.pdb_verdict.specs.Bound.{IsProvedBound}
 use Rattle.pdb_verdict.specs.Lines.{counted, exact_line}
 use Rattle.pdb_verdict.specs.Replay.{IsSolvedPuzzle}

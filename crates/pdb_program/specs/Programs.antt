@@ -1,7 +1,7 @@
 -- What the words of the program do, and how a run on words ends.
 use Rattle.std.specs.Prelude.{◌≡◌, ◌⊎◌, ⊤, ℕ, List, ◌++◌, Option, Some, None}
 use Rattle.std.specs.Io.KnownBytes.{Keeps}
-use Rattle.pdb_io.specs.Shelf.{Bytes}
+use Rattle.byte_io.specs.Shelf.{Bytes}
 use Rattle.pdb_run.specs.Commands.{Plan}
 use Rattle.pdb_run.specs.Runs.{Ends, IsAnswered, World}
 use Rattle.pdb_run.specs.Statuses.{status_number}
@@ -48,14 +48,14 @@ HasKept (make_table side mask out workers) old new = IsTableKept side mask out o
 HasKept (solve board sets out tables workers fold budget) old new = IsLogKept fold board sets out tables old new
 
 -- the number is that of a status of which this holds
-abbrev pub IsNumberOf : (Status → Type 0) → ℕ → Type 0
-IsNumberOf Holds number = (status : Status) × (number ≡ status_number status) × Holds status
+abbrev pub IsNumberOfStatus : (Status → Type 0) → ℕ → Type 0
+IsNumberOfStatus Holds number = (status : Status) × (number ≡ status_number status) × Holds status
 
 -- a run on these words, from the one world to the other; what stood on the errors before and after it; and its number
 pub record RunsOn (words : List Bytes) (old new : World) (old_err new_err : Option Bytes) (number : ℕ) : Type 0 where
-  pub answered : Parses words → (number ≡ 0) ⊎ (number ≡ 1) → IsNumberOf (IsAnswered (plan_of (asked_of words)) old new) number
-  pub ends : Parses words → IsNumberOf (Ends (plan_of (asked_of words)) old new) number
-  pub refuses : (Parses words → ⊥) → IsNumberOf (Refuses words old.written new.written old_err new_err) number
+  pub answered : Parses words → (number ≡ 0) ⊎ (number ≡ 1) → IsNumberOfStatus (IsAnswered (plan_of (asked_of words)) old new) number
+  pub ends : Parses words → IsNumberOfStatus (Ends (plan_of (asked_of words)) old new) number
+  pub refuses : (Parses words → ⊥) → IsNumberOfStatus (Refuses words old.written new.written old_err new_err) number
   pub quiet : Keeps old_err new_err ⊎ IsMistaken words
   pub kept : Parses words → number ≡ 0 → HasKept (asked_of words) old new
   pub same : AskToKeepNothing words → new.files ≡ old.files

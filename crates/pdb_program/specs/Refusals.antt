@@ -1,8 +1,8 @@
 -- What a run says of words that don't parse.
 use Rattle.std.specs.Prelude.{◌≡◌, ◌⊎◌, List, Option}
 use Rattle.std.specs.Io.KnownBytes.{Appends, Keeps}
-use Rattle.pdb_io.specs.Shelf.{Bytes}
-use Rattle.pdb_io.specs.Streams.{AppendsFront}
+use Rattle.byte_io.specs.Shelf.{Bytes}
+use Rattle.byte_io.specs.Streams.{AppendsFront}
 use Rattle.pdb_run.specs.Writing.{memory_line}
 use Rattle.pdb_run.specs.Runs.{Says}
 use Rattle.pdb_run.specs.declared.statuses.Status.{Status}

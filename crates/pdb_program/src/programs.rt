@@ -2,7 +2,7 @@
 
 ghost use Rattle.std.specs.Prelude.{◌≡◌, ◌⊎◌, ◌++◌, Option, map, string_bytes};
 ghost use Rattle.std.specs.Io.KnownBytes.{Keeps};
-ghost use Rattle.pdb_io.specs.Shelf.{Bytes};
+ghost use Rattle.byte_io.specs.Shelf.{Bytes};
 ghost use Rattle.pdb_run.specs.Runs.{Ends, world};
 ghost use Rattle.pdb_words.specs.CommandLine.{Parses, asked_of};
 ghost use Rattle.pdb_words.specs.Faults.{IsMistaken};
@@ -12,7 +12,7 @@ ghost use Rattle.pdb_program.specs.Refusals.{Refuses};
 
 use crate::hosts::Host;
 use crate::refusals::explain;
-use pdb_io::shelf::Shelf;
+use byte_io::shelf::Shelf;
 use pdb_keep::{MakeTable, SearchNames, run_make_table, run_solve};
 use pdb_run::{BorrowedIo, Io, Status};
 use pdb_verdict::{ClaimNames, run_bound, run_optimal, run_replay, run_table};

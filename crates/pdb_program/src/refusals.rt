@@ -1,10 +1,10 @@
 //! What is said of words that ask for nothing.
 
 ghost use Rattle.std.specs.Prelude.{◌≡◌, ℕ, List};
-ghost use Rattle.pdb_words.specs.Faults.{IsCauseOf};
+ghost use Rattle.pdb_words.specs.Faults.{IsCauseOfWordFault};
 ghost use Rattle.pdb_program.specs.Refusals.{AppendsWholeOrFront, Refuses};
 
-use pdb_io::streams::put_text;
+use byte_io::streams::put_text;
 use pdb_run::{Io, Status, say_no_memory, say_text};
 use pdb_words::WordFault;
 use std::io::Write;
@@ -13,7 +13,7 @@ use std::io::Write;
 pub(crate) fn explain<I: Io, E: Write>(fault: WordFault, io: &mut I, err: &mut E) -> Status
     ensures same_streams { I.streams io.new ≡ I.streams io.old }
     ensures refuses { let old = I.world io.old in let new = I.world io.new in
-        (words : List (List ℕ)) → IsCauseOf words fault
+        (words : List (List ℕ)) → IsCauseOfWordFault words fault
         → Refuses words old.written new.written (E.contents err.old) (E.contents err.new) result }
     ensures same { (I.world io.new).files ≡ (I.world io.old).files }
 {

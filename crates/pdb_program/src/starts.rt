@@ -4,20 +4,20 @@ ghost use Rattle.std.specs.Prelude.{◌≡◌, ◌≢◌, ◌++◌, Option, drop
 ghost use Rattle.std.specs.IoError.{error_kind};
 ghost use Rattle.std.specs.Io.KnownBytes.{Keeps};
 ghost use Rattle.std.specs.declared.io.ErrorKind.TheVariants.{OutOfMemory};
-ghost use Rattle.pdb_io.specs.Shelf.{Bytes};
+ghost use Rattle.byte_io.specs.Shelf.{Bytes};
 ghost use Rattle.pdb_run.specs.Writing.{memory_line};
 ghost use Rattle.pdb_run.specs.Runs.{Says, world};
 ghost use Rattle.pdb_words.specs.CommandLine.{Parses, asked_of};
 ghost use Rattle.pdb_words.specs.Faults.{unreadable_word};
 ghost use Rattle.pdb_program.specs.Headline.{Headline};
-ghost use Rattle.pdb_program.specs.Programs.{IsNumberOf, RunsOn};
+ghost use Rattle.pdb_program.specs.Programs.{IsNumberOfStatus, RunsOn};
 ghost use Rattle.pdb_program.specs.Refusals.{AppendsWholeOrFront};
 
 use crate::hosts::Host;
 use crate::programs::run;
 use crate::refusals::tell;
-use pdb_io::shelf::Shelf;
-use pdb_io::streams::put_text;
+use byte_io::shelf::Shelf;
+use byte_io::streams::put_text;
 use pdb_run::{NO_MEMORY, Status};
 use pdb_words::unreadable_word;
 use std::io;
@@ -50,7 +50,7 @@ pub fn start<H: Threads + Wait + Sync, S: Shelf, R: Read, W: Write, E: Write, G:
         (R.remaining reader.new) (W.contents out.new))
         (E.contents err.old) (E.contents err.new) result) }
     ensures memory { IfErr arguments (λ e. error_kind e ≡ OutOfMemory
-        → IsNumberOf
+        → IsNumberOfStatus
         (Says memory_line Status.NoMemory (W.contents out.old) (W.contents out.new)) result
         × Keeps (E.contents err.old) (E.contents err.new)) }
     ensures unreadable { IfErr arguments (λ e. error_kind e ≢ OutOfMemory

@@ -1,8 +1,8 @@
 -- A run that ends with a yes or a no has answered.
 use Rattle.std.proofs.Common.{◌≡◌, ◌∙◌, ◌⊎◌, inl, inr, Bool, true, false, ap, refl, sym}
 use Rattle.std.specs.Io.KnownBytes.{Appends}
-use Rattle.pdb_io.specs.declared.streams.ReadFault.TheVariants as read
-use Rattle.pdb_io.specs.declared.shelf.KeepFault.TheVariants as keep
+use Rattle.byte_io.specs.declared.streams.ReadFault.TheVariants as read
+use Rattle.byte_io.specs.declared.shelf.KeepFault.TheVariants as keep
 use Rattle.pdb_run.specs.Commands.{Plan}
 use Rattle.pdb_run.specs.Runs.{Ends, HasCause, IsAnswered, LeavesFailure, LeavesFiles, LeavesReader, Outcome, World, no_memory, replied, status_of, text_of, unkept, unread, unwritable}
 use Rattle.pdb_run.specs.declared.statuses.Status.{Status}

@@ -7,9 +7,9 @@ use Rattle.std.proofs.Math.Seq.{take-append-add}
 use Rattle.std.proofs.lemmas.Grind.{flat_map-append}
 use Rattle.std.proofs.lemmas.List.{append-nil, drop_more, map-append, take-append-drop, take-append-le, take_more}
 use Rattle.std.proofs.lemmas.List.Concat.{flat_map-cons}
-use Rattle.pdb_io.specs.Shelf.{Bytes}
-use Rattle.pdb_io.specs.Streams.{AppendsFront}
-use Rattle.pdb_io.proofs.Appending.{appends_more}
+use Rattle.byte_io.specs.Shelf.{Bytes}
+use Rattle.byte_io.specs.Streams.{AppendsFront}
+use Rattle.byte_io.proofs.Appending.{appends_more}
 use Rattle.pdb_run.specs.Answers.{answer_text, digest_lines, made_file}
 use Rattle.pdb_run.specs.Writing.{all_bytes, digest_line, digests_of, joined, list_of, shown_byte}
 use Rattle.pdb_run.specs.Pages.{Gathers}

@@ -3,15 +3,15 @@ use Rattle.std.proofs.Common.{◌≡◌, ◌∙◌, ◌<◌, ◌+◌, ℕ, List,
 use Rattle.std.proofs.lemmas.List.{length-map}
 use Rattle.pdb_run.specs.Answers.{all_bytes}
 use Rattle.std.proofs.lemmas.List.{drop_more, map-append, take_more, take-append-drop}
-use Rattle.pdb_io.specs.Shelf.{Bytes, Files}
-use Rattle.pdb_io.specs.declared.streams.ReadFault.{ReadFault}
+use Rattle.byte_io.specs.Shelf.{Bytes, Files}
+use Rattle.byte_io.specs.declared.streams.ReadFault.{ReadFault}
 use Rattle.pdb_run.specs.Commands.{Wanted}
 use Rattle.pdb_run.specs.Inputs.{AreRead, IsAsTold, IsFirstUnread, IsOverLimit, IsRead, IsReadFrom, IsUnread, left, left_by_all, wanted_of}
 use Rattle.pdb_run.specs.Io.{HasRead, HasStopped, IsNotLoaded}
 use Rattle.pdb_run.specs.Runs.{World}
 use Rattle.pdb_run.specs.Steps.{IsNext}
 use Rattle.pdb_run.specs.declared.inputs.Input.{Input}
-use Rattle.pdb_io.specs.declared.streams.ReadFault.TheVariants.{F1, F2, Memory}
+use Rattle.byte_io.specs.declared.streams.ReadFault.TheVariants.{F1, F2, Memory}
 
 pub left_by_all-snoc : (reader : Option Bytes) (before : List Wanted) (wanted : Wanted) → left_by_all reader (before ++ wanted ∷ []) ≡ left (left_by_all reader before) wanted.name
 left_by_all-snoc reader [] wanted = refl

@@ -1,11 +1,11 @@
 -- How a run ends.
 use Rattle.std.proofs.Common.{◌≡◌, ◌∙◌, ◌<◌, ◌++◌, Bool, true, List, Option, Some, None, ap, codes, inl, inr, length, refl, subst, sym}
 use Rattle.std.specs.Io.KnownBytes.{Appends}
-use Rattle.pdb_io.specs.Shelf.{Bytes, Files, KeepsOthers}
-use Rattle.pdb_io.specs.declared.streams.ReadFault.{ReadFault}
-use Rattle.pdb_io.specs.declared.streams.ReadFault.TheVariants.{F1, F2}
-use Rattle.pdb_io.specs.declared.shelf.KeepFault.{KeepFault}
-use Rattle.pdb_io.specs.declared.shelf.KeepFault.TheVariants as keep
+use Rattle.byte_io.specs.Shelf.{Bytes, Files, KeepsOthers}
+use Rattle.byte_io.specs.declared.streams.ReadFault.{ReadFault}
+use Rattle.byte_io.specs.declared.streams.ReadFault.TheVariants.{F1, F2}
+use Rattle.byte_io.specs.declared.shelf.KeepFault.{KeepFault}
+use Rattle.byte_io.specs.declared.shelf.KeepFault.TheVariants as keep
 use Rattle.pdb_run.specs.Answers.{IsReplyOf, answer_text}
 use Rattle.pdb_run.specs.Commands.{Plan, Reply, Wanted}
 use Rattle.pdb_run.specs.Inputs.{IsAsTold, IsFirstUnread, left_by_all}

@@ -1,7 +1,7 @@
 -- An answer as the code has it.
 use Rattle.std.specs.Prelude.{◌≡◌, ◌++◌, Option, Result, MatchResult, option_map}
 use Rattle.std.specs.declared.alloc.AllocError.{AllocError}
-use Rattle.pdb_io.specs.Shelf.{Bytes}
+use Rattle.byte_io.specs.Shelf.{Bytes}
 use Rattle.pdb_run.specs.Writing.{all_files, digests_of, list_of}
 pub use Rattle.pdb_run.specs.Writing.{all_bytes}
 use Rattle.pdb_run.specs.Commands.{Reply}

@@ -1,6 +1,6 @@
 -- What a command does, as far as the outside sees it.
 use Rattle.std.specs.Prelude.{ℕ, Bool, List, Option, None}
-use Rattle.pdb_io.specs.Shelf.{Bytes}
+use Rattle.byte_io.specs.Shelf.{Bytes}
 
 -- an input: its name, or none for the reader, and the most bytes that it may have
 pub record Wanted : Type 0 where

@@ -1,8 +1,8 @@
 -- What inputs give; shelf and reader may tell their bytes or not.
 use Rattle.std.specs.Prelude.{◌≡◌, ⊤, ℕ, ◌<◌, ◌≤◌, List, [], ◌∷◌, ◌++◌, Bool, true, Option, Some, None, IfSome, IsSomeAnd, length, option_map}
-use Rattle.pdb_io.specs.Shelf.{Bytes, Files}
-use Rattle.pdb_io.specs.declared.streams.ReadFault.{ReadFault}
-use Rattle.pdb_io.specs.declared.streams.ReadFault.TheVariants.{F1, F2, Memory}
+use Rattle.byte_io.specs.Shelf.{Bytes, Files}
+use Rattle.byte_io.specs.declared.streams.ReadFault.{ReadFault}
+use Rattle.byte_io.specs.declared.streams.ReadFault.TheVariants.{F1, F2, Memory}
 use Rattle.pdb_run.specs.Commands.{Wanted}
 use Rattle.pdb_run.specs.declared.inputs.Input.{Input}
 

@@ -1,12 +1,12 @@
 -- What one call on a run's shelf, its reader and its output does to the world, and what several do.
 use Rattle.std.specs.Prelude.{◌≡◌, ⊤, ℕ, List, ◌∷◌, [], ◌++◌, Option, Some, Result, MatchResult, true}
 use Rattle.std.specs.Io.KnownBytes.{Appends}
-use Rattle.pdb_io.specs.Shelf.{Bytes, KeepsOthers}
-use Rattle.pdb_io.specs.Streams.{AppendsFront}
-use Rattle.pdb_io.specs.declared.shelf.KeepFault.{KeepFault}
-use Rattle.pdb_io.specs.declared.shelf.KeepFault.TheVariants as keep
-use Rattle.pdb_io.specs.declared.streams.ReadFault.{ReadFault}
-use Rattle.pdb_io.specs.declared.streams.WriteFault.{WriteFault}
+use Rattle.byte_io.specs.Shelf.{Bytes, KeepsOthers}
+use Rattle.byte_io.specs.Streams.{AppendsFront}
+use Rattle.byte_io.specs.declared.shelf.KeepFault.{KeepFault}
+use Rattle.byte_io.specs.declared.shelf.KeepFault.TheVariants as keep
+use Rattle.byte_io.specs.declared.streams.ReadFault.{ReadFault}
+use Rattle.byte_io.specs.declared.streams.WriteFault.{WriteFault}
 use Rattle.pdb_run.specs.Commands.{Wanted}
 use Rattle.pdb_run.specs.Inputs.{AreRead, IsAsTold, IsFirstUnread, IsRead, IsUnread, left, left_by_all}
 use Rattle.pdb_run.specs.Runs.{Says, World, with_kept}

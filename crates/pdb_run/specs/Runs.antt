@@ -1,12 +1,12 @@
 -- How a run of a command ends.
 use Rattle.std.specs.Prelude.{◌≡◌, ◌⊎◌, ⊤, ◌<◌, Bool, true, false, List, Option, Some, None, codes, length}
 use Rattle.std.specs.Io.KnownBytes.{Appends}
-use Rattle.pdb_io.specs.Shelf.{Bytes, Files, KeepsOthers, told_with}
-use Rattle.pdb_io.specs.Streams.{AppendsFront}
-use Rattle.pdb_io.specs.declared.streams.ReadFault.{ReadFault}
-use Rattle.pdb_io.specs.declared.streams.ReadFault.TheVariants as read
-use Rattle.pdb_io.specs.declared.shelf.KeepFault.{KeepFault}
-use Rattle.pdb_io.specs.declared.shelf.KeepFault.TheVariants as keep
+use Rattle.byte_io.specs.Shelf.{Bytes, Files, KeepsOthers, told_with}
+use Rattle.byte_io.specs.Streams.{AppendsFront}
+use Rattle.byte_io.specs.declared.streams.ReadFault.{ReadFault}
+use Rattle.byte_io.specs.declared.streams.ReadFault.TheVariants as read
+use Rattle.byte_io.specs.declared.shelf.KeepFault.{KeepFault}
+use Rattle.byte_io.specs.declared.shelf.KeepFault.TheVariants as keep
 use Rattle.pdb_run.specs.Writing.{memory_line, named_line, reply_text, shown}
 use Rattle.pdb_run.specs.Commands.{Plan, Reply, Wanted}
 use Rattle.pdb_run.specs.Inputs.{AreRead, IsAsTold, IsFirstUnread, left_by_all}

@@ -7,7 +7,7 @@ ghost use Rattle.pdb_run.specs.Io.{HasRead, HasStopped, IsNotLoaded};
 ghost use Rattle.pdb_run.specs.Steps.{IsNext};
 
 use crate::io::Io;
-use pdb_io::streams::ReadFault;
+use byte_io::streams::ReadFault;
 use std::alloc::Global;
 
 /// An input: its name, or none for the reader, and the most bytes that it may have.

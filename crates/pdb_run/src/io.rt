@@ -10,8 +10,8 @@ ghost use Rattle.pdb_run.specs.Writing.{named_line, shown_byte};
 use crate::answers::Answer;
 use crate::inputs::Input;
 use crate::writing::{put_named, say};
-use pdb_io::shelf::{KeepFault, Shelf};
-use pdb_io::streams::{ReadFault, WriteFault, put_text, read_all};
+use byte_io::shelf::{KeepFault, Shelf};
+use byte_io::streams::{ReadFault, WriteFault, put_text, read_all};
 use std::alloc::Global;
 use std::io::{Read, Write};
 

@@ -2,14 +2,14 @@
 
 ghost use Rattle.std.specs.Prelude.{◌≡◌, ◌++◌, ◌∷◌, [], map, option_map, OnOk, OnErr};
 ghost use Rattle.std.specs.Io.KnownBytes.{Appends};
-ghost use Rattle.pdb_io.specs.Streams.{AppendsFront};
+ghost use Rattle.byte_io.specs.Streams.{AppendsFront};
 ghost use Rattle.pdb_run.specs.Writing.{all_bytes, all_files, digests_of, list_of, shown_byte};
 ghost use Rattle.pdb_run.specs.Pages.{Gathers};
 
 use crate::answers::LINES_LEN;
 use crate::digests::{DIGEST_LEN, DIGESTS_LEN, digest_line};
 use arrayvec::ArrayVec;
-use pdb_io::streams::{WriteFault, put_bytes};
+use byte_io::streams::{WriteFault, put_bytes};
 use std::io::Write;
 
 /// How many bytes a page holds.

@@ -1,7 +1,7 @@
 //! A run of a command: its beginning and its end. Between them the command checks.
 
 ghost use Rattle.std.specs.Prelude.{◌≡◌, List, None, Some, length, map, MatchResult, IfErr, IfOk, OnErr, OnOk};
-ghost use Rattle.pdb_io.specs.Shelf.{Bytes};
+ghost use Rattle.byte_io.specs.Shelf.{Bytes};
 ghost use Rattle.pdb_run.specs.Answers.{IsAnswerBy, all_bytes, answer_text};
 ghost use Rattle.pdb_run.specs.Inputs.{wanted_of};
 ghost use Rattle.pdb_run.specs.Io.{HasRead, IsKept, IsNotKept, IsSaid};
@@ -14,8 +14,8 @@ use crate::commands::Command;
 use crate::inputs::{Input, Unread, load_all};
 use crate::io::Io;
 use crate::statuses::Status;
-use pdb_io::shelf::KeepFault;
-use pdb_io::streams::{ReadFault, WriteFault};
+use byte_io::shelf::KeepFault;
+use byte_io::streams::{ReadFault, WriteFault};
 use std::alloc::{AllocError, Global};
 
 /// The line of want of memory.

@@ -2,14 +2,14 @@
 
 ghost use Rattle.std.specs.Prelude.{◌++◌, map, OnOk, OnErr};
 ghost use Rattle.std.specs.Io.KnownBytes.{Appends};
-ghost use Rattle.pdb_io.specs.Streams.{AppendsFront};
+ghost use Rattle.byte_io.specs.Streams.{AppendsFront};
 ghost use Rattle.pdb_run.specs.Writing.{all_files, digests_of, list_of, named_line, shown_byte};
 ghost use Rattle.pdb_run.specs.Pages.{Gathers};
 ghost use Rattle.pdb_run.specs.Answers.{answer_text, digest_lines, made_file};
 
 use crate::answers::{Answer, Digested};
 use crate::pages::Page;
-use pdb_io::streams::WriteFault;
+use byte_io::streams::WriteFault;
 use std::io::Write;
 
 /// Writes an answer: the digests, and then its lines. It is one write, where the writer takes all and a page holds all.

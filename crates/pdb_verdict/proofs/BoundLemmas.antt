@@ -23,7 +23,7 @@ use Rattle.log_check.specs.declared.faults.LogRefusal.{LogRefusal}
 use Rattle.set_sum.proofs.BundleLemmas.{is_bundle}
 use Rattle.log_check.proofs.GoodLemmas.{good_log_bounds}
 use Rattle.log_check.proofs.AnswerLemmas.{good_or_fault, one_bound, one_fault}
-use Rattle.pdb_io.specs.Shelf.{Bytes}
+use Rattle.byte_io.specs.Shelf.{Bytes}
 use Rattle.pdb_verdict.specs.Bound.{IsBoundFor, IsBoundOfText, IsBoundResult, IsFoundOver, IsProvedBound, IsRefusedLog, IsResultOfBoard, TakesMemoryForBound, of_log, of_proof}
 use Rattle.pdb_verdict.specs.Bundles.{AreExactFiles, AreRefused, AreRefusedSets, IsBundleOfFiles, IsCauseForBundle, IsFirstRefused, TakesMemoryForTables, parts_for}
 use Rattle.pdb_verdict.specs.Refusals.{IsFoundBy, or_failure}
@@ -97,7 +97,7 @@ module _ (fold : Bool) (board : List ℕ) (sets log : Bytes) (files : List Bytes
 
   sets_one : (f g : SetFault) → AreRefusedSets fold files sets f → AreRefusedSets fold files sets g → f ≡ g
   sets_one f g is also =
-      fault-once (parts_for fold also.tables) sets f g (subst (λ ts. reading.IsFaultOf f (parts_for fold ts) sets) (tables_one files is.tables also.tables is.exact also.exact) is.fault) also.fault
+      fault-once (parts_for fold also.tables) sets f g (subst (λ ts. reading.IsSetFaultOf f (parts_for fold ts) sets) (tables_one files is.tables also.tables is.exact also.exact) is.fault) also.fault
 
   sets_taken : (v : BundleView) (f : SetFault) → IsBundleOfFiles fold files sets v → ¬ AreRefusedSets fold files sets f
   sets_taken v f is also =
@@ -109,7 +109,7 @@ module _ (fold : Bool) (board : List ℕ) (sets log : Bytes) (files : List Bytes
 
   log_one : (f g : LogRefusal) → IsRefusedLog fold board sets log files f → IsRefusedLog fold board sets log files g → f ≡ g
   log_one f g is also =
-      one_fault also.bundle board log f g (subst (λ v. log_fault.IsFaultOf f v board log) (bundle_one is.bundle also.bundle is.is_bundle also.is_bundle) is.fault) also.fault
+      one_fault also.bundle board log f g (subst (λ v. log_fault.IsLogRefusalOf f v board log) (bundle_one is.bundle also.bundle is.is_bundle also.is_bundle) is.fault) also.fault
 
   log_taken : (n : ℕ) (f : LogRefusal) → IsProvedBound fold board sets log files n → ¬ IsRefusedLog fold board sets log files f
   log_taken n f is also =

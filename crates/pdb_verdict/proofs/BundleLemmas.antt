@@ -10,10 +10,10 @@ use Rattle.tab_file.specs.Tables.{Table}
 use Rattle.tab_rule.specs.ExactTables.{IsExactFile}
 use Rattle.set_sum.specs.Bundles.{BundleView}
 use Rattle.set_sum.specs.Parts.{IsExactPart}
-use Rattle.set_sum.specs.Reading.{IsBundleOf, IsFaultOf}
+use Rattle.set_sum.specs.Reading.{IsBundleOf, IsSetFaultOf}
 use Rattle.set_sum.specs.declared.faults.SetFault.{SetFault}
 use Rattle.set_sum.specs.declared.parts.Part.{Part}
-use Rattle.pdb_io.specs.Shelf.{Bytes}
+use Rattle.byte_io.specs.Shelf.{Bytes}
 use Rattle.pdb_verdict.proofs.FoldedLemmas.{has_folded}
 use Rattle.pdb_verdict.specs.Bundles.{AreExactFiles, AreRefusedSets, IsBundleOfFiles, TakesMemoryForTables, part_for, parts_for}
 use Rattle.pdb_verdict.specs.Steps.{ArePartsOf, IsCauseAt, IsCauseForTables}
@@ -92,12 +92,12 @@ parts_bundle fold files sets parts bundle are makes = record {
   makes = subst (λ ps. IsBundleOf ps sets bundle) are.are makes;
 }
 
-pub parts_refused : (fold : Bool) (files : List Bytes) (sets : Bytes) (parts : List Part) (refused : SetFault) → ArePartsOf fold files parts → IsFaultOf refused parts sets
+pub parts_refused : (fold : Bool) (files : List Bytes) (sets : Bytes) (parts : List Part) (refused : SetFault) → ArePartsOf fold files parts → IsSetFaultOf refused parts sets
     → AreRefusedSets fold files sets refused
 parts_refused fold files sets parts refused are stands = record {
   tables = are.tables;
   exact = are.exact;
-  fault = subst (λ ps. IsFaultOf refused ps sets) are.are stands;
+  fault = subst (λ ps. IsSetFaultOf refused ps sets) are.are stands;
 }
 
 -- what makes a bundle has a table file, so it takes memory to check it

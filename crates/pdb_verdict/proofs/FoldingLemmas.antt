@@ -5,7 +5,7 @@ use Rattle.std.proofs.Math.Seq.{take-append_seam}
 use Rattle.std.proofs.lemmas.Grind.{flat_map-append}
 use Rattle.std.proofs.lemmas.List.{map-append}
 use Rattle.set_sum.specs.declared.parts.Part.{Part}
-use Rattle.pdb_io.specs.Shelf.{Bytes}
+use Rattle.byte_io.specs.Shelf.{Bytes}
 use Rattle.pdb_run.specs.Answers.{all_bytes}
 use Rattle.pdb_run.specs.Writing.{digest_line, digests_of}
 use Rattle.pdb_verdict.specs.Steps.{ArePartsOf, HasOneMore, IsCauseAt, IsCauseForTables}

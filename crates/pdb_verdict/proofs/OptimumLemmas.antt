@@ -4,7 +4,7 @@ use Rattle.std.specs.Prelude.{◌==◌, if◌then◌else◌}
 use Rattle.std.proofs.lemmas.Bool.{eq-eqb, eqb-true}
 use Rattle.puz_board.specs.PuzzleTexts.{puzzle_parts}
 use Rattle.set_sum.specs.Bounds.{IsBounded}
-use Rattle.pdb_io.specs.Shelf.{Bytes}
+use Rattle.byte_io.specs.Shelf.{Bytes}
 use Rattle.pdb_verdict.specs.Bound.{IsBoundFor, IsProvedBound}
 use Rattle.pdb_verdict.specs.Bundles.{TakesMemoryForTables}
 use Rattle.pdb_verdict.specs.Optimal.{IsLeastCount, IsOptimum, IsOptimumResult, IsProvedOptimum, IsResultOfPuzzle, TakesMemoryForOptimum, of_halves}

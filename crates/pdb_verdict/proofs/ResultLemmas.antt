@@ -11,7 +11,7 @@ use Rattle.tab_rule.proofs.AnswerLemmas.{census_some, file_answer}
 use Rattle.set_sum.proofs.BundleLemmas.{is_bundle}
 use Rattle.set_sum.proofs.DecidedLemmas.{bundle_answer}
 use Rattle.log_check.proofs.AnswerLemmas.{check_answer}
-use Rattle.pdb_io.specs.Shelf.{Bytes}
+use Rattle.byte_io.specs.Shelf.{Bytes}
 use Rattle.puz_board.specs.BoardTexts.{board_of_text}
 use Rattle.puz_board.specs.PuzzleTexts.{puzzle_parts}
 use Rattle.puz_board.specs.declared.texts.BoardFault.{BoardFault}

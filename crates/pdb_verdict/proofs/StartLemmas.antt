@@ -3,7 +3,7 @@ use Rattle.std.proofs.Common.{◌≡◌, ◌≢◌, ◌∙◌, ◌≤◌, ◌-�
 use Rattle.std.specs.Prelude.{slice_get, slice_range}
 use Rattle.std.specs.declared.alloc.AllocError.{AllocError}
 use Rattle.std.proofs.lemmas.List.{take_all}
-use Rattle.pdb_io.specs.Shelf.{Bytes}
+use Rattle.byte_io.specs.Shelf.{Bytes}
 use Rattle.pdb_run.specs.Answers.{IsAnswerBy, all_bytes}
 use Rattle.pdb_run.specs.Writing.{digests_of}
 use Rattle.pdb_run.specs.declared.answers.Answer.{Answer}

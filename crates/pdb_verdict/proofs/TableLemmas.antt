@@ -8,7 +8,7 @@ use Rattle.tab_rule.specs.declared.tables.TableFault.{TableFault}
 use Rattle.tab_rule.specs.declared.tables.TableFault.TheVariants.{Memory, Refused}
 use Rattle.tab_rule.specs.declared.tables.TableRefusal.{TableRefusal}
 use Rattle.tab_rule.proofs.OneResultLemmas.{IsCensusOf-one, IsTableFaultOf-one, exact_one, exact_or_fault}
-use Rattle.pdb_io.specs.Shelf.{Bytes}
+use Rattle.byte_io.specs.Shelf.{Bytes}
 use Rattle.pdb_verdict.specs.Inputs.{table_file}
 use Rattle.pdb_verdict.specs.Steps.{of_table}
 use Rattle.pdb_verdict.specs.Table.{IsExactFor, IsTableResult}

@@ -6,7 +6,7 @@ use Rattle.tab_rule.specs.ExactTables.{IsExactFile}
 use Rattle.tab_rule.specs.declared.census.Census.{Census}
 use Rattle.tab_rule.specs.declared.tables.TableRefusal.{TableRefusal}
 use Rattle.tab_rule.proofs.OneResultLemmas.{exact_or_fault}
-use Rattle.pdb_io.specs.Shelf.{Bytes}
+use Rattle.byte_io.specs.Shelf.{Bytes}
 use Rattle.pdb_run.specs.Commands.{Reply}
 use Rattle.pdb_verdict.specs.Inputs.{Given, table_file}
 use Rattle.pdb_verdict.specs.Lines.{Tells, reply_to}

@@ -5,11 +5,11 @@ use Rattle.puz_board.specs.declared.texts.BoardFault.{BoardFault}
 use Rattle.set_sum.specs.Bounds.{IsBounded}
 use Rattle.set_sum.specs.Bundles.{BundleView}
 use Rattle.log_check.specs.GoodLogs.{IsGoodFile}
-use Rattle.log_check.specs.LogFaults.{IsCauseOf, IsFaultOf}
+use Rattle.log_check.specs.LogFaults.{IsCauseOfLogFault, IsLogRefusalOf}
 use Rattle.log_check.specs.declared.faults.LogFault.{LogFault}
 use Rattle.log_check.specs.declared.faults.LogFault.TheVariants as log_failure
 use Rattle.log_check.specs.declared.faults.LogRefusal.{LogRefusal}
-use Rattle.pdb_io.specs.Shelf.{Bytes}
+use Rattle.byte_io.specs.Shelf.{Bytes}
 use Rattle.pdb_run.specs.Commands.{Plan, Reply, Wanted, plan}
 use Rattle.pdb_verdict.specs.Bundles.{AreRefused, IsBundleOfFiles, TakesMemoryForTables}
 use Rattle.pdb_verdict.specs.Inputs.{bound_claim}
@@ -40,7 +40,7 @@ pub record IsProvedBound (fold : Bool) (board : List ℕ) (sets log : Bytes) (ta
 pub record IsRefusedLog (fold : Bool) (board : List ℕ) (sets log : Bytes) (tables : List Bytes) (refused : LogRefusal) : Type 0 where
   pub bundle : BundleView
   pub is_bundle : IsBundleOfFiles fold tables sets bundle
-  pub fault : IsFaultOf refused bundle board log
+  pub fault : IsLogRefusalOf refused bundle board log
 
 -- the bound that is proved for the board, or why none is: each table file comes first, then the set text, then the log
 abbrev pub IsBoundFor : Bool → List ℕ → Bytes → Bytes → List Bytes → Result ℕ ProofRefusal → Type 0
@@ -94,7 +94,7 @@ of_log (Err log_failure.Memory) = Err Memory
 -- the bound for a board over a bundle, or why there is none, or want of memory
 abbrev pub IsFoundOver : BundleView → List ℕ → Bytes → Result ℕ LogFault → Type 0
 IsFoundOver bundle board log (Ok bound) = IsGoodFile bundle board log bound
-IsFoundOver bundle board log (Err cause) = IsCauseOf cause bundle board log
+IsFoundOver bundle board log (Err cause) = IsCauseOfLogFault cause bundle board log
 
 -- ---- the command
 

@@ -10,7 +10,7 @@ use Rattle.set_sum.specs.Reading as reading
 use Rattle.set_sum.specs.declared.faults.SetFault.{SetFault}
 use Rattle.set_sum.specs.declared.parts.Part.{Part}
 use Rattle.set_sum.specs.declared.parts.Part.TheVariants.{Folded, Full}
-use Rattle.pdb_io.specs.Shelf.{Bytes}
+use Rattle.byte_io.specs.Shelf.{Bytes}
 use Rattle.pdb_verdict.specs.Refusals.{IsCauseBy}
 use Rattle.pdb_verdict.specs.declared.refusals.BundleRefusal.{BundleRefusal}
 use Rattle.pdb_verdict.specs.declared.refusals.BundleRefusal.TheVariants.{File, Sets}
@@ -54,7 +54,7 @@ pub record IsFirstRefused (files : List Bytes) (number : ℕ) (refused : TableRe
 pub record AreRefusedSets (fold : Bool) (files : List Bytes) (sets : Bytes) (refused : SetFault) : Type 0 where
   pub tables : List Table
   pub exact : AreExactFiles tables files
-  pub fault : reading.IsFaultOf refused (parts_for fold tables) sets
+  pub fault : reading.IsSetFaultOf refused (parts_for fold tables) sets
 
 -- they make no bundle, and this is why
 abbrev pub AreRefused : Bool → List Bytes → Bytes → BundleRefusal → Type 0

@@ -2,7 +2,7 @@
 use Rattle.std.specs.Prelude.{◌≡◌, ℕ, Bool, List, ◌∷◌, Option, Some, None, Result, Ok}
 use Rattle.puz_board.specs.BoardTexts.{board_of_text}
 use Rattle.puz_board.specs.PuzzleTexts.{puzzle_parts}
-use Rattle.pdb_io.specs.Shelf.{Bytes}
+use Rattle.byte_io.specs.Shelf.{Bytes}
 use Rattle.pdb_run.specs.Commands.{Plan, Reply, plan}
 use Rattle.pdb_verdict.specs.Bound.{BoundTakesMemory, IsBoundReply, bound_inputs, of_proof}
 use Rattle.pdb_verdict.specs.Inputs.{Given, bound_claim, optimum_claim}

@@ -1,6 +1,6 @@
 -- What is to be checked, as its bytes.
 use Rattle.std.specs.Prelude.{Bool, List, ◌++◌, flat_map}
-use Rattle.pdb_io.specs.Shelf.{Bytes}
+use Rattle.byte_io.specs.Shelf.{Bytes}
 use Rattle.pdb_run.specs.Answers.{all_bytes}
 use Rattle.pdb_verdict.specs.declared.inputs.Inputs.{Inputs}
 use Rattle.pdb_verdict.specs.declared.inputs.Inputs.TheVariants as inputs

@@ -1,6 +1,6 @@
 -- The most bytes of each kind of input.
 use Rattle.std.specs.Prelude.{ℕ, ◌^◌, Option, Some}
-use Rattle.pdb_io.specs.Shelf.{Bytes}
+use Rattle.byte_io.specs.Shelf.{Bytes}
 use Rattle.pdb_run.specs.Commands.{Wanted}
 
 -- of a board text, a puzzle text or a set text

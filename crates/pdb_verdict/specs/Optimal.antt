@@ -6,7 +6,7 @@ use Rattle.puz_board.specs.PuzzleTexts.{puzzle_parts}
 use Rattle.set_sum.specs.Bounds.{IsBounded}
 use Rattle.set_sum.specs.Bundles.{BundleView}
 use Rattle.log_check.specs.declared.faults.LogFault.{LogFault}
-use Rattle.pdb_io.specs.Shelf.{Bytes}
+use Rattle.byte_io.specs.Shelf.{Bytes}
 use Rattle.pdb_run.specs.Commands.{Plan, Reply, Wanted, plan}
 use Rattle.pdb_verdict.specs.Bound.{IsBoundFor, IsFoundOver, IsProvedBound, bound_inputs, of_log}
 use Rattle.pdb_verdict.specs.Bundles.{TakesMemoryForTables}

@@ -5,7 +5,7 @@ use Rattle.puz_board.specs.MovesTexts.{Solves, replay_of}
 use Rattle.puz_board.specs.PuzzleTexts.{IsPuzzle, puzzle_parts}
 use Rattle.puz_board.specs.declared.replays.MoveFault.{MoveFault}
 use Rattle.puz_board.specs.declared.texts.BoardFault.{BoardFault}
-use Rattle.pdb_io.specs.Shelf.{Bytes}
+use Rattle.byte_io.specs.Shelf.{Bytes}
 use Rattle.pdb_run.specs.Commands.{Plan, Reply, Wanted, plan}
 use Rattle.pdb_verdict.specs.Inputs.{puzzle_text}
 use Rattle.pdb_verdict.specs.Limits.{a_text}

@@ -7,7 +7,7 @@ use Rattle.tab_rule.specs.TableFaults.{IsTableFaultOf}
 use Rattle.tab_rule.specs.declared.tables.TableFault.{TableFault}
 use Rattle.tab_rule.specs.declared.tables.TableFault.TheVariants as table_fault
 use Rattle.set_sum.specs.declared.parts.Part.{Part}
-use Rattle.pdb_io.specs.Shelf.{Bytes}
+use Rattle.byte_io.specs.Shelf.{Bytes}
 use Rattle.pdb_verdict.specs.Bound.{IsBoundFor}
 use Rattle.pdb_verdict.specs.Bundles.{AreExactFiles, IsFirstRefused, TakesMemoryForTables, part_for, parts_for}
 use Rattle.pdb_verdict.specs.Refusals.{IsCauseBy, IsFoundBy}

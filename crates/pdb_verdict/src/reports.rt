@@ -2,7 +2,7 @@
 
 ghost use Rattle.std.specs.Prelude.{◌≡◌, ◌++◌, option_map, IfSome, OnOk, OnErr};
 ghost use Rattle.std.specs.Io.KnownBytes.{Appends};
-ghost use Rattle.pdb_io.specs.Streams.{AppendsFront};
+ghost use Rattle.byte_io.specs.Streams.{AppendsFront};
 ghost use Rattle.pdb_run.specs.Writing.{digests_of, list_of};
 ghost use Rattle.pdb_run.specs.Answers.{IsAnswerBy, IsReplyOf, all_bytes, digest_lines};
 ghost use Rattle.pdb_verdict.specs.Inputs.{Given, given};
@@ -14,7 +14,7 @@ use crate::inputs::Inputs;
 use crate::lines::line_of;
 use crate::verdicts::{Fault, Verdict};
 use crate::workers::Workers;
-use pdb_io::streams::{WriteFault, put_text};
+use byte_io::streams::{WriteFault, put_text};
 use pdb_run::{Answer, Digested, Digests, FILES_BESIDE, beside, say, say_digests};
 use set_sum::MOST_TABLES;
 use std::alloc::AllocError;

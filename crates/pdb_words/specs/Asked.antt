@@ -37,13 +37,13 @@ abbrev pub asks_check : AsksCheck → LogCheck → Asked
 asks_check asks check = asks check.text.now check.sets.now check.log.now (file_names check.tables.items) check.workers check.fold
 
 -- a request, as its bytes
-abbrev pub view : Request → Asked
-view (request.Replay name) = replay (option_map (λ s. s.now) name)
-view (request.Table file workers) = table file.now workers
-view (request.Bound check) = asks_check bound check
-view (request.Optimal check) = asks_check optimal check
-view (request.MakeTable side mask out workers) = make_table side mask out.now workers
-view (request.Solve search) = solve search.board.now search.sets.now search.out.now (file_names search.tables.items) search.workers search.fold search.budget
+abbrev pub request_shown : Request → Asked
+request_shown (request.Replay name) = replay (option_map (λ s. s.now) name)
+request_shown (request.Table file workers) = table file.now workers
+request_shown (request.Bound check) = asks_check bound check
+request_shown (request.Optimal check) = asks_check optimal check
+request_shown (request.MakeTable side mask out workers) = make_table side mask out.now workers
+request_shown (request.Solve search) = solve search.board.now search.sets.now search.out.now (file_names search.tables.items) search.workers search.fold search.budget
 
 -- there are as many workers as may share a check, where any are asked for
 abbrev pub HasWorkers : Request → Type 0

@@ -19,10 +19,10 @@ pub record IsMistaken (words : List Text) : Type 0 where
   pub no_help : kind ≢ DisplayHelp
 
 -- the words give cause for the fault
-abbrev pub IsCauseOf : List Text → WordFault → Type 0
-IsCauseOf words (fault.Help text) = AsksForHelp words
-IsCauseOf words (fault.Mistake text) = IsMistaken words
-IsCauseOf words fault.Memory = ⊤
+abbrev pub IsCauseOfWordFault : List Text → WordFault → Type 0
+IsCauseOfWordFault words (fault.Help text) = AsksForHelp words
+IsCauseOfWordFault words (fault.Mistake text) = IsMistaken words
+IsCauseOfWordFault words fault.Memory = ⊤
 
 -- what is said of a word that is no UTF-8 text
 abbrev pub unreadable_word : List ℕ

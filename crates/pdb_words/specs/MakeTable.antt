@@ -30,13 +30,13 @@ make_table_command = with_rule (with_rule (with_rule (with_rule (new_app (codes 
     (needed_file (codes "OUT"))
 
 -- the side that the values found of it name
-abbrev pub side_in : List Row → ℕ
-side_in rows = number_in 0 most_side 0 (codes "SIDE") rows
+abbrev pub side_number_in : List Row → ℕ
+side_number_in rows = number_in 0 most_side 0 (codes "SIDE") rows
 
 -- the tile mask that they name
-abbrev pub mask_in : List Row → ℕ
-mask_in rows = number_in 0 most_mask 0 (codes "MASK") rows
+abbrev pub mask_number_in : List Row → ℕ
+mask_number_in rows = number_in 0 most_mask 0 (codes "MASK") rows
 
 -- what the values found of it ask for
 abbrev pub make_table_in : List Row → Asked
-make_table_in rows = make_table (side_in rows) (mask_in rows) (file_in (codes "OUT") rows) (workers_in rows)
+make_table_in rows = make_table (side_number_in rows) (mask_number_in rows) (file_in (codes "OUT") rows) (workers_in rows)

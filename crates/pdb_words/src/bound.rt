@@ -2,7 +2,7 @@
 
 ghost use Rattle.std.specs.Prelude.{◌≡◌, IfOk};
 ghost use Rattle.clap.specs.Words.{app_of, found_of, rows_of};
-ghost use Rattle.pdb_words.specs.Asked.{HasBudget, HasWorkers, view};
+ghost use Rattle.pdb_words.specs.Asked.{HasBudget, HasWorkers, request_shown};
 ghost use Rattle.pdb_words.specs.Bound.{bound_command, bound_in};
 
 use crate::asked::Request;
@@ -34,7 +34,7 @@ pub(crate) fn bound_command<'a>(alloc: Global) -> Result<Command<'a>, AllocError
 
 /// What these matches of the command ask for.
 pub(crate) fn bound_in<'a>(alloc: Global, found: &ArgMatches<'a>) -> Result<Request<'a>, AllocError>
-    ensures asked { IfOk result (λ request. view request ≡ bound_in (rows_of (found_of found.now))) }
+    ensures asked { IfOk result (λ request. request_shown request ≡ bound_in (rows_of (found_of found.now))) }
     ensures workers { IfOk result (λ request. HasWorkers request) }
     ensures budget { IfOk result (λ request. HasBudget request) }
 {

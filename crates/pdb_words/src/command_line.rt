@@ -2,10 +2,10 @@
 
 ghost use Rattle.std.specs.Prelude.{◌≡◌, IfErr, IfOk, IfSome, map, string_bytes, true};
 ghost use Rattle.clap.specs.Words.{App, FailsBy, app_of, subcommand_of, subcommand_rows_of, with_subcommand};
-ghost use Rattle.pdb_words.specs.Asked.{HasBudget, HasWorkers, view};
+ghost use Rattle.pdb_words.specs.Asked.{HasBudget, HasWorkers, request_shown};
 ghost use Rattle.pdb_words.specs.CommandLine.{Parses, asked_in, asked_of, checks, command_line, faults_of, program};
 ghost use Rattle.pdb_words.specs.Commands.{IsCommand};
-ghost use Rattle.pdb_words.specs.Faults.{IsCauseOf};
+ghost use Rattle.pdb_words.specs.Faults.{IsCauseOfWordFault};
 
 use crate::asked::Request;
 use crate::bound::{bound_command, bound_in};
@@ -29,10 +29,10 @@ const AFTER_HELP: &str = with_statuses!(
 #[inline(never)] // so that a run's stack hasn't the values of this
 pub fn read_words<'a>(alloc: Global, words: &'a [String]) -> Result<Request<'a>, WordFault>
     ensures parses { IfOk result (λ _. Parses (map string_bytes words.now)) }
-    ensures asked { IfOk result (λ request. view request ≡ asked_of (map string_bytes words.now)) }
+    ensures asked { IfOk result (λ request. request_shown request ≡ asked_of (map string_bytes words.now)) }
     ensures workers { IfOk result (λ request. HasWorkers request) }
     ensures budget { IfOk result (λ request. HasBudget request) }
-    ensures cause { IfErr result (λ fault. IsCauseOf (map string_bytes words.now) fault) }
+    ensures cause { IfErr result (λ fault. IsCauseOfWordFault (map string_bytes words.now) fault) }
 {
     match matches_of(alloc, words) {
         Ok(matches) => request_in(alloc, &matches).map_err(|_| WordFault::Memory),
@@ -96,7 +96,7 @@ fn matches_of<'a>(alloc: Global, words: &'a [String]) -> Result<ArgMatches<'a>, 
 /// What the words ask for, in which these matches were found.
 fn request_in<'a>(alloc: Global, matches: &ArgMatches<'a>) -> Result<Request<'a>, AllocError>
     requires { IfSome (subcommand_rows_of matches.now) (λ found. IsCommand found.0) }
-    ensures asked { IfOk result (λ request. view request ≡ asked_in (subcommand_rows_of matches.now)) }
+    ensures asked { IfOk result (λ request. request_shown request ≡ asked_in (subcommand_rows_of matches.now)) }
     ensures workers { IfOk result (λ request. HasWorkers request) }
     ensures budget { IfOk result (λ request. HasBudget request) }
 {

@@ -3,7 +3,7 @@
 ghost use Rattle.std.specs.Prelude.{◌≡◌, ℕ, List};
 ghost use Rattle.clap.specs.Words.{HasKind};
 ghost use Rattle.pdb_words.specs.CommandLine.{faults_of};
-ghost use Rattle.pdb_words.specs.Faults.{IsCauseOf, unreadable_word};
+ghost use Rattle.pdb_words.specs.Faults.{IsCauseOfWordFault, unreadable_word};
 
 use clap::error::ErrorKind;
 use std::alloc::Global;
@@ -32,7 +32,7 @@ pub fn unreadable_word() -> &'static str
 
 /// The fault that `clap` found, with its text.
 pub(crate) fn fault_by(alloc: Global, error: clap::Error) -> WordFault
-    ensures { (words : List (List ℕ)) → HasKind (faults_of words) error → IsCauseOf words result }
+    ensures { (words : List (List ℕ)) → HasKind (faults_of words) error → IsCauseOfWordFault words result }
 {
     let Ok(text) = format!(in alloc; "{error}") else {
         return WordFault::Memory;

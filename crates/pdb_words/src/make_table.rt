@@ -2,8 +2,8 @@
 
 ghost use Rattle.std.specs.Prelude.{◌≡◌, IfOk};
 ghost use Rattle.clap.specs.Words.{app_of, found_of, rows_of, rule_of, with_rule};
-ghost use Rattle.pdb_words.specs.Asked.{HasBudget, HasWorkers, view};
-ghost use Rattle.pdb_words.specs.MakeTable.{make_table_command, make_table_in, mask_in, needed_mask, needed_side, side_in};
+ghost use Rattle.pdb_words.specs.Asked.{HasBudget, HasWorkers, request_shown};
+ghost use Rattle.pdb_words.specs.MakeTable.{make_table_command, make_table_in, mask_number_in, needed_mask, needed_side, side_number_in};
 
 use crate::asked::Request;
 use crate::commands::{new_command, with_argument, with_statuses};
@@ -67,28 +67,28 @@ fn needed_mask<'a>(alloc: Global) -> Arg<'a>
 }
 
 /// The side that these matches of the command name.
-fn side_in(found: &ArgMatches<'_>) -> u8
-    ensures { result ≡ side_in (rows_of (found_of found.now)) }
+fn side_number_in(found: &ArgMatches<'_>) -> u8
+    ensures { result ≡ side_number_in (rows_of (found_of found.now)) }
 {
     number_in(found, "SIDE", 0, u64::from(u8::MAX), 0) as u8
 }
 
 /// The tile mask that these matches of the command name.
-fn mask_in(found: &ArgMatches<'_>) -> u32
-    ensures { result ≡ mask_in (rows_of (found_of found.now)) }
+fn mask_number_in(found: &ArgMatches<'_>) -> u32
+    ensures { result ≡ mask_number_in (rows_of (found_of found.now)) }
 {
     number_in(found, "MASK", 0, u64::from(u32::MAX), 0) as u32
 }
 
 /// What these matches of the command ask for.
 pub(crate) fn make_table_in<'a>(found: &ArgMatches<'a>) -> Request<'a>
-    ensures asked { view result ≡ make_table_in (rows_of (found_of found.now)) }
+    ensures asked { request_shown result ≡ make_table_in (rows_of (found_of found.now)) }
     ensures workers { HasWorkers result }
     ensures budget { HasBudget result }
 {
     Request::MakeTable {
-        side: side_in(found),
-        mask: mask_in(found),
+        side: side_number_in(found),
+        mask: mask_number_in(found),
         out: file_in(found, "OUT"),
         workers: workers_in(found),
     }

@@ -2,7 +2,7 @@
 
 ghost use Rattle.std.specs.Prelude.{◌≡◌, IfOk};
 ghost use Rattle.clap.specs.Words.{app_of, found_of, rows_of};
-ghost use Rattle.pdb_words.specs.Asked.{HasBudget, HasWorkers, view};
+ghost use Rattle.pdb_words.specs.Asked.{HasBudget, HasWorkers, request_shown};
 ghost use Rattle.pdb_words.specs.Replay.{replay_command, replay_in};
 
 use crate::asked::Request;
@@ -34,7 +34,7 @@ pub(crate) fn replay_command<'a>(alloc: Global) -> Result<Command<'a>, AllocErro
 
 /// What these matches of the command ask for.
 pub(crate) fn replay_in<'a>(found: &ArgMatches<'a>) -> Request<'a>
-    ensures asked { view result ≡ replay_in (rows_of (found_of found.now)) }
+    ensures asked { request_shown result ≡ replay_in (rows_of (found_of found.now)) }
     ensures workers { HasWorkers result }
     ensures budget { HasBudget result }
 {

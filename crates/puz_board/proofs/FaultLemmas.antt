@@ -6,7 +6,7 @@ use Rattle.std.proofs.lemmas.Grind.{get_or_default_zero}
 use Rattle.std.specs.Prelude.{All}
 use Rattle.puz_board.specs.declared.texts.BoardFault.TheVariants.{B1, B2, B3, B4, B5}
 use Rattle.puz_board.specs.Boards.{IsBoard, at, side_of, side_of_count}
-use Rattle.puz_board.specs.BoardTexts.{board_of_numbers, board_of_text, long_run, numbers_of, refuse, repeated, repeated_at, stray_byte, too_large}
+use Rattle.puz_board.specs.BoardTexts.{board_of_numbers, board_of_text, long_run, numbers_in, refuse, repeated, repeated_at, stray_byte, too_large}
 use Rattle.puz_board.proofs.FirstLemmas.{fails_below, fails_each, first_below-none, position-none}
 
 pub board_of_numbers-no_side : (xs : List ℕ) → side_of xs ≡ 0 → board_of_numbers xs ≡ Err (B3 (length xs))
@@ -74,9 +74,9 @@ module _ (xs : List ℕ) (good : IsBoard xs) where
 
 -- ---- texts
 
-pub board_of_text-is : (text : List ℕ) (o p : Option ℕ) → o ≡ stray_byte text → p ≡ long_run text → board_of_text text ≡ refuse B1 o (refuse B2 p (board_of_numbers (numbers_of text)))
+pub board_of_text-is : (text : List ℕ) (o p : Option ℕ) → o ≡ stray_byte text → p ≡ long_run text → board_of_text text ≡ refuse B1 o (refuse B2 p (board_of_numbers (numbers_in text)))
 unfolding board_of_text
-board_of_text-is text o p e f = ap₂ (λ u v. refuse B1 u (refuse B2 v (board_of_numbers (numbers_of text)))) (sym e) (sym f)
+board_of_text-is text o p e f = ap₂ (λ u v. refuse B1 u (refuse B2 v (board_of_numbers (numbers_in text)))) (sym e) (sym f)
 
 -- no board has more than 25 cells
 pub side_of_many : (count : ℕ) → 25 < count → side_of_count count ≡ 0

@@ -10,7 +10,7 @@ use Rattle.std.specs.Char.{is_ascii_digit}
 use Rattle.std.specs.List.{AllPass, onto_first, slice_split}
 use Rattle.puz_board.specs.declared.texts.BoardFault.TheVariants.{B1, B2, B3, B4, B5}
 use Rattle.puz_board.specs.Boards.{IsBoard, side_of}
-use Rattle.puz_board.specs.BoardTexts.{IsShortNumeral, Spells, board_of_numbers, board_of_text, is_separator, long_run, numbers_of, parts, repeated, stray_byte, three_digits_at, too_large}
+use Rattle.puz_board.specs.BoardTexts.{IsShortNumeral, Spells, board_of_numbers, board_of_text, is_separator, long_run, numbers_in, parts, repeated, stray_byte, three_digits_at, too_large}
 use Rattle.puz_board.proofs.BoardLemmas.{side_of_count-sized}
 use Rattle.puz_board.proofs.FaultLemmas.{IsBoard-from_tests, board_of_numbers-board, board_of_text-is}
 use Rattle.puz_board.proofs.FirstLemmas.{first_below-none, position-AllPass}
@@ -163,7 +163,7 @@ unfolding board_of_text
 spelled-board_of_text text b e =
     let clean = refuse_ok B1 (stray_byte text) _ b e in
     let short = refuse_ok B2 (long_run text) _ b clean.1 in
-    let taken = taken-board_of_numbers (numbers_of text) b short.1 in
+    let taken = taken-board_of_numbers (numbers_in text) b short.1 in
     record {
       numerals = numerals-from_tests text clean.0 short.0;
       numbers = taken.0;

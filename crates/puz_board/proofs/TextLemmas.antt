@@ -9,7 +9,7 @@ use Rattle.std.specs.Prelude.{nat_lt, filter, slice_index, ⊤}
 use Rattle.std.specs.Char.{digit_value, is_ascii_digit}
 use Rattle.std.specs.List.{onto_first}
 use Rattle.std.specs.Str.Parse.{digits_value}
-use Rattle.puz_board.specs.BoardTexts.{is_separator, long_run, numbers_of, parts, stray_byte, three_digits_at}
+use Rattle.puz_board.specs.BoardTexts.{is_separator, long_run, numbers_in, parts, stray_byte, three_digits_at}
 use Rattle.puz_board.proofs.FirstLemmas.{fails_below, fails_each}
 
 -- nothing follows, or a separator does
@@ -105,26 +105,26 @@ module _ (text : List ℕ) (clean : stray_byte text ≡ None) (short : long_run 
 
   -- ---- the numbers that the parts spell
 
-  pub numbers_of-at_separator : (i : ℕ) → i < length text → is_ascii_digit (slice_index text i) ≡ false → numbers_of (drop i text) ≡ numbers_of (drop (i + 1) text)
-  unfolding numbers_of
+  pub numbers_of-at_separator : (i : ℕ) → i < length text → is_ascii_digit (slice_index text i) ≡ false → numbers_in (drop i text) ≡ numbers_in (drop (i + 1) text)
+  unfolding numbers_in
   numbers_of-at_separator i l e = ap (map (digits_value 10)) (parts-at_separator i l e)
 
   pub numbers_of-at_one : (i : ℕ) → i < length text → is_ascii_digit (slice_index text i) ≡ true → (i + 1 < length text → is_ascii_digit (slice_index text (i + 1)) ≡ false)
-      → numbers_of (drop i text) ≡ (slice_index text i - 48) ∷ numbers_of (drop (i + 1) text)
-  unfolding numbers_of
+      → numbers_in (drop i text) ≡ (slice_index text i - 48) ∷ numbers_in (drop (i + 1) text)
+  unfolding numbers_in
   numbers_of-at_one i l e f =
       let first = digit_value-digit (slice_index text i) e in
       let one : 0 * 10 + digit_value (slice_index text i) ≡ slice_index text i - 48 = omega arith in
-      ap (map (digits_value 10)) (parts-at_one i l e f) ∙ ap (λ n. n ∷ numbers_of (drop (i + 1) text)) one
+      ap (map (digits_value 10)) (parts-at_one i l e f) ∙ ap (λ n. n ∷ numbers_in (drop (i + 1) text)) one
 
   pub numbers_of-at_two : (i : ℕ) → i + 1 < length text → is_ascii_digit (slice_index text i) ≡ true → is_ascii_digit (slice_index text (i + 1)) ≡ true
-      → numbers_of (drop i text) ≡ (10 * (slice_index text i - 48) + (slice_index text (i + 1) - 48)) ∷ numbers_of (drop (i + 1 + 1) text)
-  unfolding numbers_of
+      → numbers_in (drop i text) ≡ (10 * (slice_index text i - 48) + (slice_index text (i + 1) - 48)) ∷ numbers_in (drop (i + 1 + 1) text)
+  unfolding numbers_in
   numbers_of-at_two i l e f =
       let first = digit_value-digit (slice_index text i) e in
       let second = digit_value-digit (slice_index text (i + 1)) f in
       let two : (0 * 10 + digit_value (slice_index text i)) * 10 + digit_value (slice_index text (i + 1)) ≡ 10 * (slice_index text i - 48) + (slice_index text (i + 1) - 48) = omega arith in
-      ap (map (digits_value 10)) (parts-at_two i l e f) ∙ ap (λ n. n ∷ numbers_of (drop (i + 1 + 1) text)) two
+      ap (map (digits_value 10)) (parts-at_two i l e f) ∙ ap (λ n. n ∷ numbers_in (drop (i + 1 + 1) text)) two
 
 -- ---- the next number
 
@@ -145,6 +145,6 @@ kept_more kept ns n v room e before k l m = elim (cases_eq k n) [
   | inr q ↦ get_or-set_other kept n k v 0 q ∙ before k (omega arith) m
 ]
 
-pub numbers_of-nothing : numbers_of [] ≡ []
-unfolding numbers_of
+pub numbers_of-nothing : numbers_in [] ≡ []
+unfolding numbers_in
 numbers_of-nothing = refl

@@ -19,8 +19,8 @@ abbrev pub parts : List ℕ → List (List ℕ)
 parts text = filter (λ part. nat_lt 0 (length part)) (slice_split is_separator text)
 
 -- the numbers that the parts spell in decimal
-unfoldable pub numbers_of : List ℕ → List ℕ
-numbers_of text = map (digits_value 10) (parts text)
+unfoldable pub numbers_in : List ℕ → List ℕ
+numbers_in text = map (digits_value 10) (parts text)
 
 -- digits alone, and at most two of them
 pub record IsShortNumeral (part : List ℕ) : Type 0 where
@@ -30,7 +30,7 @@ pub record IsShortNumeral (part : List ℕ) : Type 0 where
 -- between separators the text has numbers of one or two digits, and they are this board
 pub record Spells (text b : List ℕ) : Type 0 where
   pub numerals : All IsShortNumeral (parts text)
-  pub numbers : numbers_of text ≡ b
+  pub numbers : numbers_in text ≡ b
   pub board : IsBoard b
 
 -- ---- the faults, in their order
@@ -72,4 +72,4 @@ board_of_numbers numbers =
 
 -- the board that a text spells, or the first of its faults
 unfoldable pub board_of_text : List ℕ → Result (List ℕ) BoardFault
-board_of_text text = refuse B1 (stray_byte text) (refuse B2 (long_run text) (board_of_numbers (numbers_of text)))
+board_of_text text = refuse B1 (stray_byte text) (refuse B2 (long_run text) (board_of_numbers (numbers_in text)))

@@ -2,7 +2,7 @@
 
 ghost use Rattle.std.specs.Prelude.{◌≡◌, ◌+◌, ◌<◌, ◌≤◌, ◌∷◌, length, take, drop, None, slice_index, slice_set, IsTrue};
 ghost use Rattle.std.specs.Char.{is_ascii_digit};
-ghost use Rattle.puz_board.specs.BoardTexts.{long_run, numbers_of, stray_byte};
+ghost use Rattle.puz_board.specs.BoardTexts.{long_run, numbers_in, stray_byte};
 
 /// How many numbers a text has, and the first 25 of them.
 #[derive(Drop)]
@@ -40,7 +40,7 @@ fn number_at(text: &[u8], start: usize) -> Number
     requires short { long_run text.now ≡ None }
     ensures end { result.end ≤ length text.now }
     ensures onward { start < result.end }
-    ensures number { numbers_of (drop start text.now) ≡ result.value ∷ numbers_of (drop result.end text.now) }
+    ensures number { numbers_in (drop start text.now) ≡ result.value ∷ numbers_in (drop result.end text.now) }
 {
     let first = text[start] - b'0';
     let next = start + 1;
@@ -61,8 +61,8 @@ fn number_at(text: &[u8], start: usize) -> Number
 pub(crate) fn read_numbers(text: &[u8]) -> Numbers
     requires clean { stray_byte text.now ≡ None }
     requires short { long_run text.now ≡ None }
-    ensures count { result.count ≡ length (numbers_of text.now) }
-    ensures kept { result.count ≤ 25 → take result.count result.kept ≡ numbers_of text.now }
+    ensures count { result.count ≡ length (numbers_in text.now) }
+    ensures kept { result.count ≤ 25 → take result.count result.kept ≡ numbers_in text.now }
 {
     let mut numbers = Numbers {
         count: 0,

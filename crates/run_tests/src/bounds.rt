@@ -1,7 +1,7 @@
 //! `bound` and `optimal` over a shelf of known files.
 
 use crate::runs::{Ended, ran_by};
-use pdb_io::memory::MemShelf;
+use byte_io::memory::MemShelf;
 use samples::HoldingGate;
 use samples::files::{TILE_1, TILE_3, TILE_24, TILES_12, TILES_123};
 use samples::logs::{BRANCHES, CITATION, LEAF, UNSOLVABLE};

@@ -1,7 +1,7 @@
 //! Files that are cut, files with one bit turned, and logs that claim as much as a log can.
 
 use crate::runs::{Ended, checked_by, ran};
-use pdb_io::memory::MemShelf;
+use byte_io::memory::MemShelf;
 use samples::files::{TILE_1, TILES_12, TILES_123, with_byte};
 use samples::logs::{CITATION, LEAF, deepest, too_deep};
 use std::alloc::{AllocError, Global};

@@ -1,8 +1,8 @@
 //! Runs over the shelf of the system's files, whose calls fail or stop, one after the other.
 
 use crate::runs::{Ended, ran};
-use pdb_io::disk::DiskShelf;
-use pdb_io::shelf::Shelf;
+use byte_io::disk::DiskShelf;
+use byte_io::shelf::Shelf;
 use sample_streams::{Call, SampleFiles};
 use samples::files::{TILE_3, TILES_12};
 use samples::logs::BRANCHES;

@@ -1,7 +1,7 @@
 //! Streams that fail, and what a run over them leaves.
 
 use crate::runs::{owned, ran};
-use pdb_io::memory::MemShelf;
+use byte_io::memory::MemShelf;
 use pdb_program::run;
 use sample_streams::{Failing, SampleReader, SampleWriter};
 use samples::files::{TILE_1, TILES_123};

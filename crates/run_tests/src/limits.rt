@@ -1,8 +1,8 @@
 //! Inputs at their limits, and large ones.
 
 use crate::runs::{expect_line, ran, replayed};
-use pdb_io::memory::MemShelf;
-use pdb_io::shelf::Shelf;
+use byte_io::memory::MemShelf;
+use byte_io::shelf::Shelf;
 use sample_streams::EndlessReader;
 use samples::files::TWO_BLOCKS;
 use std::io;

@@ -1,8 +1,8 @@
 //! `make-table` and `solve`: what they say, and what the shelf then holds.
 
 use crate::runs::{Ended, ran, ran_by};
-use pdb_io::memory::MemShelf;
-use pdb_io::shelf::Shelf;
+use byte_io::memory::MemShelf;
+use byte_io::shelf::Shelf;
 use samples::files::{TILE_24, TILES_12, TILES_123};
 use samples::{HoldingGate, LeastCosts};
 use std::alloc::{AllocError, Global};

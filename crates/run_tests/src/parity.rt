@@ -1,7 +1,7 @@
 //! `bound` and `optimal` on logs of both versions.
 
 use crate::runs::ran;
-use pdb_io::memory::MemShelf;
+use byte_io::memory::MemShelf;
 use samples::files::{TILES_12, TILES_123, with_byte};
 use samples::logs::{BRANCHES, BY_PARITY, LEAF};
 use std::alloc::{AllocError, Global};

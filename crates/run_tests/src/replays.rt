@@ -1,7 +1,7 @@
 //! `replay` on puzzle texts.
 
 use crate::runs::{ran, replayed};
-use pdb_io::memory::MemShelf;
+use byte_io::memory::MemShelf;
 use std::test::Fail;
 
 #[test]

@@ -1,7 +1,7 @@
 //! Runs over memory, and what they left.
 
-use pdb_io::memory::MemShelf;
-use pdb_io::shelf::Shelf;
+use byte_io::memory::MemShelf;
+use byte_io::shelf::Shelf;
 use pdb_program::run;
 use std::alloc::{AllocError, Global};
 use std::io::Read;

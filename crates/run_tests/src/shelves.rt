@@ -1,7 +1,7 @@
 //! Runs over a shelf that fails.
 
 use crate::runs::ran;
-use pdb_io::memory::MemShelf;
+use byte_io::memory::MemShelf;
 use sample_streams::{FailingShelf, ShelfFault};
 use samples::files::{TILE_3, TILES_12};
 use samples::logs::BRANCHES;

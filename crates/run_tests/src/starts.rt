@@ -1,7 +1,7 @@
 //! Arguments as the system gives them, and words that ask for nothing.
 
 use crate::runs::{Ended, owned};
-use pdb_io::memory::MemShelf;
+use byte_io::memory::MemShelf;
 use pdb_program::{Host, start};
 use pdb_words::unreadable_word;
 use std::alloc::Global;

@@ -1,7 +1,7 @@
 //! `table` on table files.
 
 use crate::runs::{expect_line, ran};
-use pdb_io::memory::MemShelf;
+use byte_io::memory::MemShelf;
 use samples::files::{
     TILE_1, TILE_1_NEVER, TILE_3, TILE_24, TILES_12, TILES_123, with_byte, with_one_more,
 };

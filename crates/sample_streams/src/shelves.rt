@@ -2,9 +2,9 @@
 
 ghost use Rattle.std.specs.Prelude.{◌≡◌, ◌+◌, ◌-◌, ◌^◌, None, false, min};
 
-use pdb_io::memory::MemShelf;
-use pdb_io::shelf::{KeepFault, Shelf};
-use pdb_io::streams::ReadFault;
+use byte_io::memory::MemShelf;
+use byte_io::shelf::{KeepFault, Shelf};
+use byte_io::streams::ReadFault;
 use std::alloc::Global;
 
 /// Why a call of a shelf fails.

@@ -7,7 +7,7 @@ use Rattle.std.specs.List.{AllByRecursion}
 use Rattle.pat_place.proofs.RankLemmas.{get-append_left, get-below}
 use Rattle.set_sum.specs.Bundles.{most_sets}
 use Rattle.set_sum.specs.Reading.{IsFirstWith}
-use Rattle.set_sum.specs.ReadLines.{AreKept, AreRead, IsRead, IsReadLine}
+use Rattle.set_sum.specs.ReadLines.{AreKept, AreRead, IsReadAsSet, IsReadLine}
 use Rattle.set_sum.specs.SetTexts.{AreLines, IsLine, members_text, set_line, set_lines}
 use Rattle.set_sum.specs.declared.members.Member.{Member}
 use Rattle.set_sum.proofs.LineLemmas.{set_lines-push}
@@ -84,7 +84,7 @@ module _ (tables : ℕ) (lines : List (List Member)) (members : List Member) whe
   counted_more count is = let longer : length (lines ++ members ∷ []) ≡ length lines + 1 = length-append lines (members ∷ []) in omega arith
 
   -- a line all of whose tables are there
-  pub read_there : (count : ℕ) (missing : Option ℕ) (kept next : List (List Member)) → AreRead tables lines count missing kept → (set : List Member) → IsRead tables members (Some set)
+  pub read_there : (count : ℕ) (missing : Option ℕ) (kept next : List (List Member)) → AreRead tables lines count missing kept → (set : List Member) → IsReadAsSet tables members (Some set)
       → ((length kept < most_sets) × (next ≡ kept ++ set ∷ [])) ⊎ ((most_sets ≤ length kept) × (next ≡ kept)) → AreRead tables (lines ++ members ∷ []) (count + 1) missing next
   read_there count missing kept next are set is pushed = record { counted = counted_more count are.counted; are_kept = go missing are.are_kept }
     where
@@ -93,7 +93,7 @@ module _ (tables : ℕ) (lines : List (List Member)) (members : List Member) whe
       go (Some line) h = missing_before kept line h next
 
   -- a line one of whose tables isn't
-  pub read_missing : (count : ℕ) (missing after : Option ℕ) (kept : List (List Member)) → AreRead tables lines count missing kept → IsRead tables members None
+  pub read_missing : (count : ℕ) (missing after : Option ℕ) (kept : List (List Member)) → AreRead tables lines count missing kept → IsReadAsSet tables members None
       → ((missing ≡ None) × (after ≡ Some count)) ⊎ ((line : ℕ) × (missing ≡ Some line) × (after ≡ missing)) → AreRead tables (lines ++ members ∷ []) (count + 1) after kept
   read_missing count missing after kept are is changed = record {
     counted = counted_more count are.counted;

@@ -2,7 +2,7 @@
 use Rattle.std.proofs.Common.{◌≡◌, ℕ, ◌+◌, ◌*◌, ◌<◌, ◌≤◌, ◌⊎◌, Bool, true, false, List, [], ◌∷◌, ◌++◌, length, Option, Some, None, inl, inr, refl, sym, ◌∙◌, ap, subst, arith, get_or, length-append, take}
 use Rattle.std.specs.Prelude.{Any}
 use Rattle.std.specs.List.{AllByRecursion}
-use Rattle.set_sum.specs.ReadLines.{IsNext, IsRead, IsReadLine}
+use Rattle.set_sum.specs.ReadLines.{MayFollow, IsReadAsSet, IsReadLine}
 use Rattle.set_sum.specs.SetTexts.{IsLine, members_text, member_text, set_line}
 use Rattle.set_sum.specs.declared.members.Member.{Member}
 use Rattle.set_sum.proofs.AnyLemmas.{Any-here, Any-left, Any-right}
@@ -16,11 +16,11 @@ abbrev pub next_place : Option Member → ℕ
 next_place None = 0
 next_place (Some last) = place last + 1
 
-pub next-place : (last : Option Member) (m : Member) → IsNext last m → next_place last ≤ place m
+pub next-place : (last : Option Member) (m : Member) → MayFollow last m → next_place last ≤ place m
 next-place None m next = omega arith
 next-place (Some last) m next = let low : place last < place m = before-place last m next in omega arith
 
-place-next : (last : Option Member) (m : Member) → next_place last ≤ place m → IsNext last m
+place-next : (last : Option Member) (m : Member) → next_place last ≤ place m → MayFollow last m
 place-next None m low = tt
 place-next (Some last) m low = place-before last m (let l : place last + 1 ≤ place m = low in omega arith)
 
@@ -90,7 +90,7 @@ IsPushed tables m kept is_there keeps there =
     ((m.table < tables) × (keeps ≡ kept ++ m ∷ []) × (there ≡ is_there)) ⊎ ((tables ≤ m.table) × (keeps ≡ kept) × (there ≡ false))
 
 pub member_more : (tables : ℕ) (text rest : List ℕ) (kept : List Member) (is_there : Bool) (last : Option Member) (m : Member) (behind : List ℕ) → HasMembers tables text (32 ∷ rest) kept is_there (next_place last)
-    → m.table < 100 → IsNext last m → rest ≡ member_text m ++ behind → (keeps : List Member) (there : Bool) → IsPushed tables m kept is_there keeps there → HasMembers tables text behind keeps there (place m + 1)
+    → m.table < 100 → MayFollow last m → rest ≡ member_text m ++ behind → (keeps : List Member) (there : Bool) → IsPushed tables m kept is_there keeps there → HasMembers tables text behind keeps there (place m + 1)
 member_more tables text rest kept is_there last m behind so_far short next is keeps there pushed = elim pushed [
   | inl low ↦
       let up = next-place last m next in
@@ -105,7 +105,7 @@ member_more tables text rest kept is_there last m behind so_far short next is ke
 
 -- there is room for a member whose table is there, where there are few tables
 pub member_room : (tables : ℕ) (text rest : List ℕ) (kept : List Member) (is_there : Bool) (last : Option Member) (m : Member) → HasMembers tables text rest kept is_there (next_place last)
-    → IsNext last m → m.table < tables → length kept < 2 * tables
+    → MayFollow last m → m.table < tables → length kept < 2 * tables
 member_room tables text rest kept is_there last m so_far next low =
     let few : length kept ≤ next_place last = so_far.few in
     let up = next-place last m next in
@@ -120,8 +120,8 @@ line_read tables text rest kept is_there next has set end = record {
   is_line = record { some = some_members has.members has.last; short = has.short; ascending = ascending_to has.members has.ascending };
   whole = has.whole ∙ sym (set_line-text has.members rest);
   is_read = elim end [
-    | inl there ↦ subst (IsRead tables has.members) (sym there.1) (subst (IsKept tables has.members kept) there.0 has.is_kept)
-    | inr missing ↦ subst (IsRead tables has.members) (sym missing.1) (subst (IsKept tables has.members kept) missing.0 has.is_kept)
+    | inl there ↦ subst (IsReadAsSet tables has.members) (sym there.1) (subst (IsKept tables has.members kept) there.0 has.is_kept)
+    | inr missing ↦ subst (IsReadAsSet tables has.members) (sym missing.1) (subst (IsKept tables has.members kept) missing.0 has.is_kept)
   ];
 }
   where
@@ -134,7 +134,7 @@ pub record NextMember (rest : List ℕ) (last : Option Member) : Type 0 where
   pub end : ℕ
   pub behind : List ℕ
   pub short : member.table < 100
-  pub next : IsNext last member
+  pub next : MayFollow last member
   pub is_end : (end ≡ 32) ⊎ (end ≡ 10)
   pub text : rest ≡ member_text member ++ end ∷ behind
 

@@ -4,24 +4,24 @@ use Rattle.std.proofs.lemmas.Bool.{cases_lt}
 use Rattle.puz_board.specs.Boards.{IsBoardOf}
 use Rattle.tab_rule.specs.declared.tables.Count.{Count}
 use Rattle.tab_rule.specs.declared.tables.Count.TheVariants.{Finite, Never}
-use Rattle.set_sum.specs.Bounds.{BoundsSolutions, IsBounded, Reaches}
-use Rattle.set_sum.specs.Bundles.{BundleView, IsBundle, IsSetOf, Says, SaysAtLeast, set_of}
+use Rattle.set_sum.specs.Bounds.{BoundsSolutions, IsBounded, CountReaches}
+use Rattle.set_sum.specs.Bundles.{BundleView, IsBundle, IsSetOf, BundleSays, SaysAtLeast, set_of}
 use Rattle.set_sum.specs.Parity.{told_of}
 use Rattle.set_sum.proofs.ListLemmas.{all_at}
 use Rattle.set_sum.proofs.ParityLemmas.{told_bounds}
 use Rattle.set_sum.proofs.SumLemmas.{set_bounds, set_once}
 
 -- no set of a bundle says two things of a board
-pub says_once : (v : BundleView) (number : ℕ) (b : List ℕ) (c d : Count) → Says v number b c → Says v number b d → c ≡ d
+pub says_once : (v : BundleView) (number : ℕ) (b : List ℕ) (c d : Count) → BundleSays v number b c → BundleSays v number b d → c ≡ d
 says_once v number b c d one other = set_once v.tables (set_of v number) b c d one.says other.says
 
 pub set_is : (v : BundleView) → IsBundle v → (number : ℕ) → number < length v.sets → IsSetOf v.side v.tables (set_of v number)
 set_is v is number there = all_at (IsSetOf v.side v.tables) v.sets number [] there is.each
 
-pub says_bounds : (v : BundleView) → IsBundle v → (number : ℕ) (b : List ℕ) (count : Count) → IsBoardOf v.side b → Says v number b count → BoundsSolutions b count
+pub says_bounds : (v : BundleView) → IsBundle v → (number : ℕ) (b : List ℕ) (count : Count) → IsBoardOf v.side b → BundleSays v number b count → BoundsSolutions b count
 says_bounds v is number b count good says = set_bounds v.side v.tables (set_of v number) (set_is v is number says.there) b good count says.says
 
-reaches_bounds : (b : List ℕ) (r : ℕ) (count : Count) → Reaches count r → BoundsSolutions b count → IsBounded b r
+reaches_bounds : (b : List ℕ) (r : ℕ) (count : Count) → CountReaches count r → BoundsSolutions b count → IsBounded b r
 reaches_bounds b r (Finite d) enough bounds = λ path solves. let low : r ≤ d = enough in let high : d ≤ length path = bounds path solves in omega arith
 reaches_bounds b r Never enough none = λ path solves. absurd (none path solves)
 
@@ -33,11 +33,11 @@ at_least_bounds v is by_parity number b r good at_least =
 
 -- where a set says at least r, what it says, taken so, is never or at least r
 pub reaches_from_sum : (v : BundleView) (by_parity : Bool) (number : ℕ) (b : List ℕ) (count : Count) (r : ℕ)
-    → Says v number b count → SaysAtLeast v by_parity number b r → Reaches (told_of by_parity b count) r
+    → BundleSays v number b count → SaysAtLeast v by_parity number b r → CountReaches (told_of by_parity b count) r
 reaches_from_sum v by_parity number b count r says at_least =
-    subst (λ c. Reaches (told_of by_parity b c) r) (says_once v number b at_least.count count at_least.says says) at_least.enough
+    subst (λ c. CountReaches (told_of by_parity b c) r) (says_once v number b at_least.count count at_least.says says) at_least.enough
 
-reaches_decided : (count : Count) (r : ℕ) → Reaches count r ⊎ (¬ Reaches count r)
+reaches_decided : (count : Count) (r : ℕ) → CountReaches count r ⊎ (¬ CountReaches count r)
 reaches_decided (Finite d) r = elim (cases_lt d r) [ inl few ↦ inr (λ enough. let l : r ≤ d = enough in omega arith) | inr enough ↦ inl enough ]
 reaches_decided Never r = inl tt
 

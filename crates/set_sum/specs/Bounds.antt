@@ -18,6 +18,6 @@ BoundsSolutions b (Finite d) = IsBounded b d
 BoundsSolutions b Never = IsUnsolvable b
 
 -- the count is never, or at least r
-abbrev pub Reaches : Count → ℕ → Type 0
-Reaches (Finite d) r = r ≤ d
-Reaches Never r = ⊤
+abbrev pub CountReaches : Count → ℕ → Type 0
+CountReaches (Finite d) r = r ≤ d
+CountReaches Never r = ⊤

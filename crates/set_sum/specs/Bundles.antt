@@ -4,7 +4,7 @@ use Rattle.std.specs.List.{AllByRecursion}
 use Rattle.puz_board.specs.Boards.{IsBoardOf}
 use Rattle.pat_place.specs.Patterns.{IsPattern}
 use Rattle.tab_rule.specs.declared.tables.Count.{Count}
-use Rattle.set_sum.specs.Bounds.{Reaches}
+use Rattle.set_sum.specs.Bounds.{CountReaches}
 use Rattle.set_sum.specs.Members.{patterns_of_set, table_pattern}
 use Rattle.set_sum.specs.Parity.{told_of}
 use Rattle.set_sum.specs.Parts.{PartView}
@@ -46,19 +46,19 @@ abbrev pub set_of : BundleView → ℕ → List Member
 set_of v number = slice_index_or v.sets number []
 
 -- the set with this number is there, and says this of the board
-pub record Says (v : BundleView) (number : ℕ) (b : List ℕ) (count : Count) : Type 0 where
+pub record BundleSays (v : BundleView) (number : ℕ) (b : List ℕ) (count : Count) : Type 0 where
   pub there : number < length v.sets
   pub says : SetSays v.tables (set_of v number) b count
 
 -- each set says something of each board of the side
 abbrev pub TellsOfAll : BundleView → Type 0
-TellsOfAll v = (number : ℕ) → number < length v.sets → (b : List ℕ) → IsBoardOf v.side b → (count : Count) × Says v number b count
+TellsOfAll v = (number : ℕ) → number < length v.sets → (b : List ℕ) → IsBoardOf v.side b → (count : Count) × BundleSays v number b count
 
 -- the set with this number is there, and what it says of the board, taken by parity or not, is never or at least r
 pub record SaysAtLeast (v : BundleView) (by_parity : Bool) (number : ℕ) (b : List ℕ) (r : ℕ) : Type 0 where
   pub count : Count
-  pub says : Says v number b count
-  pub enough : Reaches (told_of by_parity b count) r
+  pub says : BundleSays v number b count
+  pub enough : CountReaches (told_of by_parity b count) r
 
 -- ---- bundles
 

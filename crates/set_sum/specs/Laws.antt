@@ -7,7 +7,7 @@ use Rattle.set_sum.specs.Bounds.{BoundsSolutions}
 use Rattle.set_sum.specs.Bundles.{BundleView, IsSetOf}
 use Rattle.set_sum.specs.Members.{MemberSays, own_part, table_pattern}
 use Rattle.set_sum.specs.Parts.{PartSays, PartView}
-use Rattle.set_sum.specs.Reading.{IsBundleOf, IsFaultOf}
+use Rattle.set_sum.specs.Reading.{IsBundleOf, IsSetFaultOf}
 use Rattle.set_sum.specs.Sums.{AreDisjoint, SetSays, total_cost}
 use Rattle.set_sum.specs.declared.faults.SetFault.{SetFault}
 use Rattle.set_sum.specs.declared.members.Member.{Member}
@@ -42,12 +42,12 @@ TextsHaveOneBundle = (tables : List Part) (text : List ℕ) (v w : BundleView) �
 
 -- none have two faults
 abbrev pub TextsHaveOneFault : Type 0
-TextsHaveOneFault = (tables : List Part) (text : List ℕ) (f g : SetFault) → IsFaultOf f tables text → IsFaultOf g tables text → f ≡ g
+TextsHaveOneFault = (tables : List Part) (text : List ℕ) (f g : SetFault) → IsSetFaultOf f tables text → IsSetFaultOf g tables text → f ≡ g
 
 -- none make a bundle and have a fault
 abbrev pub BundlesHaveNoFault : Type 0
-BundlesHaveNoFault = (tables : List Part) (text : List ℕ) (v : BundleView) (f : SetFault) → IsBundleOf tables text v → ¬ IsFaultOf f tables text
+BundlesHaveNoFault = (tables : List Part) (text : List ℕ) (v : BundleView) (f : SetFault) → IsBundleOf tables text v → ¬ IsSetFaultOf f tables text
 
 -- all tables and all texts make a bundle or have a fault
 abbrev pub TextsHaveAnAnswer : Type 0
-TextsHaveAnAnswer = (tables : List Part) (text : List ℕ) → ((v : BundleView) × IsBundleOf tables text v) ⊎ ((f : SetFault) × IsFaultOf f tables text)
+TextsHaveAnAnswer = (tables : List Part) (text : List ℕ) → ((v : BundleView) × IsBundleOf tables text v) ⊎ ((f : SetFault) × IsSetFaultOf f tables text)

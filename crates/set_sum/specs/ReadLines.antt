@@ -14,21 +14,21 @@ ending true = 10
 ending false = 32
 
 -- the member may stand behind the last one of a line, if there is one
-abbrev pub IsNext : Option Member → Member → Type 0
-IsNext None m = ⊤
-IsNext (Some last) m = IsBefore last m
+abbrev pub MayFollow : Option Member → Member → Type 0
+MayFollow None m = ⊤
+MayFollow (Some last) m = IsBefore last m
 
 -- the members are read as a set where the tables of all of them are there
-abbrev pub IsRead : ℕ → List Member → Option (List Member) → Type 0
-IsRead tables members (Some set) = (set ≡ members) × AllByRecursion (λ m. m.table < tables) members
-IsRead tables members None = Any (λ m. tables ≤ m.table) members
+abbrev pub IsReadAsSet : ℕ → List Member → Option (List Member) → Type 0
+IsReadAsSet tables members (Some set) = (set ≡ members) × AllByRecursion (λ m. m.table < tables) members
+IsReadAsSet tables members None = Any (λ m. tables ≤ m.table) members
 
 -- the text begins with a line, which is read as this set, and behind it is the rest
 pub record IsReadLine (tables : ℕ) (text : List ℕ) (set : Option (List Member)) (rest : List ℕ) : Type 0 where
   pub members : List Member
   pub is_line : IsLine members
   pub whole : text ≡ set_line members ++ rest
-  pub is_read : IsRead tables members set
+  pub is_read : IsReadAsSet tables members set
 
 -- as many lines as a bundle may have sets are kept, the first of them, where all lines are read as sets; otherwise the first that isn't is known
 abbrev pub AreKept : ℕ → List (List Member) → Option ℕ → List (List Member) → Type 0

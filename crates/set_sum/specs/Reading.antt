@@ -72,16 +72,16 @@ abbrev pub AreNotFew : List Part → Type 0
 AreNotFew tables = (length tables ≡ 0) ⊎ (most_tables < length tables)
 
 -- the fault stands, and none before it in the order does
-abbrev pub IsFaultOf : SetFault → List Part → List ℕ → Type 0
-IsFaultOf (S1 line) tables text = AreAlike tables × IsFirstBadLine text line
-IsFaultOf (S2 line) tables text =
+abbrev pub IsSetFaultOf : SetFault → List Part → List ℕ → Type 0
+IsSetFaultOf (S1 line) tables text = AreAlike tables × IsFirstBadLine text line
+IsSetFaultOf (S2 line) tables text =
     AreAlike tables × (sets : List (List Member)) × AreSets text sets × IsFirstWith (NamesNoTable tables) sets line
-IsFaultOf (S3 line) tables text =
+IsSetFaultOf (S3 line) tables text =
     AreAlike tables × (sets : List (List Member)) × AreSets text sets × AllByRecursion (λ set. ¬ NamesNoTable tables set) sets ×
     AllByRecursion (λ set. ¬ NamesTwice tables set) sets × IsFirstWith (NamesOverlap tables) sets line
-IsFaultOf (S4 place) tables text = AreFew tables × IsFirstWith (λ t. (part_pattern t).side ≢ first_side tables) tables place
-IsFaultOf (S6 line) tables text =
+IsSetFaultOf (S4 place) tables text = AreFew tables × IsFirstWith (λ t. (part_pattern t).side ≢ first_side tables) tables place
+IsSetFaultOf (S6 line) tables text =
     AreAlike tables × (sets : List (List Member)) × AreSets text sets × AllByRecursion (λ set. ¬ NamesNoTable tables set) sets ×
     IsFirstWith (NamesTwice tables) sets line
-IsFaultOf S5 tables text =
+IsSetFaultOf S5 tables text =
     AreNotFew tables ⊎ (AreAlike tables × (sets : List (List Member)) × AreLines text sets × (most_sets < length sets))

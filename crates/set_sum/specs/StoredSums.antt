@@ -43,19 +43,19 @@ pub record IsJoined (places : ℕ) (other known now : Known) : Type 0 where
       ((bit_at places p ≡ 1) × (slice_index now.entries p ≡ slice_index other.entries p))
 
 -- the numbers of the board
-abbrev pub numbers_shown : Inside → List ℕ
-numbers_shown s = take (s.bundle.now.side * s.bundle.now.side) s.numbers
+abbrev pub sums_numbers_shown : Inside → List ℕ
+sums_numbers_shown s = take (s.bundle.now.side * s.bundle.now.side) s.numbers
 
 -- the bundle and the board
 abbrev pub sums_shown : Inside → SumsView
-sums_shown s = record { bundle = s.bundle.now; board = numbers_shown s }
+sums_shown s = record { bundle = s.bundle.now; board = sums_numbers_shown s }
 
 -- these are the fields of sums
 pub record IsStoredSums (s : Inside) : Type 0 where
   pub space : length s.numbers ≡ 25
-  pub board : IsBoardOf s.bundle.now.side (numbers_shown s)
+  pub board : IsBoardOf s.bundle.now.side (sums_numbers_shown s)
   pub room : length s.cells ≡ 25
-  pub cells : AreCellsOf s.cells (numbers_shown s)
+  pub cells : AreCellsOf s.cells (sums_numbers_shown s)
   pub room_transposed : length s.transposed ≡ 25
-  pub transposed : AreCellsOf s.transposed (transposed (numbers_shown s))
-  pub known : IsKnownOf s.bundle.now (numbers_shown s) s.known
+  pub transposed : AreCellsOf s.transposed (transposed (sums_numbers_shown s))
+  pub known : IsKnownOf s.bundle.now (sums_numbers_shown s) s.known

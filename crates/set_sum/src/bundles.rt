@@ -4,12 +4,12 @@ ghost use Rattle.std.specs.Prelude.{◌≡◌, ◌*◌, ◌<◌, ◌≤◌, Err,
 ghost use Rattle.std.specs.List.{AllByRecursion};
 ghost use Rattle.puz_board.specs.Boards.{side_of};
 ghost use Rattle.set_sum.specs.Bounds.{BoundsSolutions};
-ghost use Rattle.set_sum.specs.Bundles.{BundleView, IsBundle, Says, most_members};
+ghost use Rattle.set_sum.specs.Bundles.{BundleView, IsBundle, BundleSays, most_members};
 ghost use Rattle.puz_board.specs.Transposing.{transposed_cell};
 ghost use Rattle.set_sum.specs.Owners.{AreOwners};
 ghost use Rattle.set_sum.specs.Parts.{no_part, part_pattern, part_shown};
 ghost use Rattle.set_sum.specs.ReadLines.{AreSetsOf};
-ghost use Rattle.set_sum.specs.Reading.{AreAlike, IsBundleOf, IsFaultOf, IsFirstWith, NamesOverlap, NamesTwice};
+ghost use Rattle.set_sum.specs.Reading.{AreAlike, IsBundleOf, IsSetFaultOf, IsFirstWith, NamesOverlap, NamesTwice};
 ghost use Rattle.set_sum.specs.declared.faults.SetFault.{SetFault};
 
 use crate::faults::SetFault;
@@ -77,8 +77,8 @@ impl<'a> Bundle<'a> {
         ensures made { (bundle : BundleView) → IsBundleOf tables.entry.items text.now bundle → result ≡ Ok bundle }
 
         // A fault is answered exactly where it is the first that stands.
-        ensures fault { IfErr result (λ fault. IsFaultOf fault tables.entry.items text.now) }
-        ensures refused { (fault : SetFault) → IsFaultOf fault tables.entry.items text.now → result ≡ Err fault }
+        ensures fault { IfErr result (λ fault. IsSetFaultOf fault tables.entry.items text.now) }
+        ensures refused { (fault : SetFault) → IsSetFaultOf fault tables.entry.items text.now → result ≡ Err fault }
     {
         make_bundle(tables, text)
     }
@@ -148,7 +148,7 @@ impl<'a> Bundle<'a> {
     pub fn sum(&self, set: u8, board: &Board) -> Count
         requires set { set < length self.now.sets }
         requires side { side_of board.now ≡ self.now.side }
-        ensures sum { Says self.now set board.now result }
+        ensures sum { BundleSays self.now set board.now result }
 
         // It is at most the number of steps of any solution of the board. `Never` means that there is none.
         ensures bounds { BoundsSolutions board.now result }
@@ -161,7 +161,7 @@ impl<'a> Bundle<'a> {
 /// Makes the bundle of tables and a set text.
 fn make_bundle<'a>(tables: Vec<Part<'a>>, text: &[u8]) -> Result<Bundle<'a>, SetFault>
     ensures ok { IfOk result (λ bundle. IsBundleOf tables.entry.items text.now bundle) }
-    ensures err { IfErr result (λ fault. IsFaultOf fault tables.entry.items text.now) }
+    ensures err { IfErr result (λ fault. IsSetFaultOf fault tables.entry.items text.now) }
 {
     let side = one_side(&tables)?;
     let sets = read_sets(&tables, text)?;
@@ -179,7 +179,7 @@ fn make_bundle<'a>(tables: Vec<Part<'a>>, text: &[u8]) -> Result<Bundle<'a>, Set
 fn read_sets(tables: &[Part<'_>], text: &[u8]) -> Result<ArrayVec<Set, MOST_SETS>, SetFault>
     requires { AreAlike tables.now }
     ensures ok { IfOk result (λ kept. AreSetsOf tables.now text.now (map (λ set. set.items) kept.items)) }
-    ensures err { IfErr result (λ fault. IsFaultOf fault tables.now text.now) }
+    ensures err { IfErr result (λ fault. IsSetFaultOf fault tables.now text.now) }
 {
     let lines = match read_lines(text, tables.len()) {
         Ok(lines) => lines,

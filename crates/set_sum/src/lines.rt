@@ -2,7 +2,7 @@
 
 ghost use Rattle.std.specs.Prelude.{◌≡◌, ℕ, ◌+◌, ◌<◌, ◌≤◌, ◌∷◌, ◌++◌, ◌⊎◌, [], Bool, codes, if◌then◌else◌, IfErr, IfOk, IfSome, IsSome, IsSomeAnd, List, map, option_map};
 ghost use Rattle.set_sum.specs.Bundles.{most_tables};
-ghost use Rattle.set_sum.specs.ReadLines.{AreRead, IsNext, IsRead, IsReadLine, ending};
+ghost use Rattle.set_sum.specs.ReadLines.{AreRead, MayFollow, IsReadAsSet, IsReadLine, ending};
 ghost use Rattle.set_sum.specs.SetTexts.{AreLines, IsFirstBadLine, IsLine, member_text, numeral, set_line};
 ghost use Rattle.set_sum.specs.declared.members.Member.{Member};
 
@@ -53,9 +53,9 @@ struct Front<'a> {
 /// The member at the front of a text, behind which a space or the line's end stands. It comes behind the last one of the
 /// line, if there is one.
 fn split_member(text: &[u8], last: Option<Member>) -> Option<Front<'_>>
-    ensures some { IfSome result (λ front. (front.member.table < 100) × IsNext last front.member
+    ensures some { IfSome result (λ front. (front.member.table < 100) × MayFollow last front.member
         × (text.now ≡ member_text front.member ++ ending front.is_last ∷ front.rest.now)) }
-    ensures read { (m : Member) (end : ℕ) (behind : List ℕ) → m.table < 100 → IsNext last m → (end ≡ 32) ⊎ (end ≡ 10)
+    ensures read { (m : Member) (end : ℕ) (behind : List ℕ) → m.table < 100 → MayFollow last m → (end ≡ 32) ⊎ (end ≡ 10)
         → text.now ≡ member_text m ++ end ∷ behind → IsSome result }
 {
     let (table, lettered) = split_number(text)?;
@@ -138,7 +138,7 @@ impl Lines {
         requires { self.old.count < usize.MAX }
         ensures { (tables : ℕ) (lines : List (List Member)) (members : List Member)
             → AreRead tables lines self.old.count self.old.missing (map (λ kept. kept.items) self.old.sets.items)
-            → IsRead tables members (option_map (λ kept. kept.items) set)
+            → IsReadAsSet tables members (option_map (λ kept. kept.items) set)
             → AreRead tables (lines ++ members ∷ []) self.new.count self.new.missing (map (λ kept. kept.items) self.new.sets.items) }
     {
         match set {

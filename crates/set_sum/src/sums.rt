@@ -7,7 +7,7 @@ ghost use Rattle.puz_board.specs.Parity.{blank_parity};
 ghost use Rattle.puz_board.specs.Transposing.{transposed};
 ghost use Rattle.tab_rule.specs.Counts.{AreCellsOf};
 ghost use Rattle.tab_rule.specs.declared.tables.Count.TheVariants.{Finite};
-ghost use Rattle.set_sum.specs.Bundles.{IsBundle, Says};
+ghost use Rattle.set_sum.specs.Bundles.{IsBundle, BundleSays};
 ghost use Rattle.set_sum.specs.Members.{MemberSays, board_for};
 ghost use Rattle.set_sum.specs.Steps.{IsStepFrom};
 
@@ -159,7 +159,7 @@ impl<'a> Sums<'a> {
     /// The sum of what the members of a set say of the board, and `Never` where one of them does.
     pub fn sum(&mut self, set: u8) -> Count
         requires { set < length self.old.bundle.sets }
-        ensures sum { Says self.old.bundle set self.old.board result }
+        ensures sum { BundleSays self.old.bundle set self.old.board result }
         ensures same { self.new ≡ self.old }
     {
         let bundle = self.bundle;

@@ -7,7 +7,7 @@ ghost use Rattle.puz_board.specs.Transposing.{transposed};
 ghost use Rattle.set_sum.specs.Bundles.{most_members};
 ghost use Rattle.set_sum.specs.Members.{AreOnePattern, pattern_of};
 ghost use Rattle.set_sum.specs.Parts.{IsExactPart, part_pattern, parts_shown};
-ghost use Rattle.set_sum.specs.Reading.{AreAlike, IsFaultOf, NamesOverlap, NamesTwice, first_side};
+ghost use Rattle.set_sum.specs.Reading.{AreAlike, IsSetFaultOf, NamesOverlap, NamesTwice, first_side};
 ghost use Rattle.set_sum.specs.Sums.{SetSays};
 ghost use Rattle.tab_rule.specs.Counts.{AreCellsOf};
 
@@ -22,7 +22,7 @@ use tab_rule::Count;
 /// The one side of 1 to 16 tables.
 pub(crate) fn one_side(tables: &[Part<'_>]) -> Result<Side, SetFault>
     ensures ok { IfOk result (λ side. (side ≡ first_side tables.now) × AreAlike tables.now × AllByRecursion IsExactPart tables.now) }
-    ensures err { IfErr result (λ fault. (text : List ℕ) → IsFaultOf fault tables.now text) }
+    ensures err { IfErr result (λ fault. (text : List ℕ) → IsSetFaultOf fault tables.now text) }
 {
     if tables.is_empty() || tables.len() > MOST_TABLES {
         return Err(SetFault::S5);

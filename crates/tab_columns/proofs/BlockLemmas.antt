@@ -11,7 +11,7 @@ use Rattle.pat_place.specs.Ranks.{IsRank, placements}
 use Rattle.pat_place.proofs.RankLemmas.{IsRank-below, IsRank-one}
 use Rattle.pat_place.specs.Regions.{IsSlot}
 use Rattle.pat_place.proofs.SlotLemmas.{slot_one}
-use Rattle.tab_lanes.specs.LocalRule.{AllPlacesKeepRule, IsFirstBad, KeepsRuleAt, KeepsRuleOfKind}
+use Rattle.tab_lanes.specs.LocalRule.{AllPlacesKeepRule, IsFirstBreach, KeepsRuleAt, KeepsRuleOfKind}
 use Rattle.tab_file.specs.Tables.{Table, IsTable, placement_count, slot_count}
 use Rattle.tab_rule.specs.BadEntries.{KeepsRule}
 use Rattle.tab_rule.specs.Blocks.{BlockKeepsRule, IsInBlock, IsLeastBadIn}
@@ -99,7 +99,7 @@ module _ (t : Table) (table : IsTable t) (block count : ℕ) (ps : List Placemen
         let i : ℕ = number - block * 256 * slot_count t.pattern in
         kept i number (omega arith) inside (λ l. all i (omega arith) l)
 
-    pub block_least_bad : (place : ℕ) → IsFirstBad entries least kinds place → IsLeastBadIn t block (block * 256 * slot_count t.pattern + place)
+    pub block_least_bad : (place : ℕ) → IsFirstBreach entries least kinds place → IsLeastBadIn t block (block * 256 * slot_count t.pattern + place)
     block_least_bad place is =
         let low : place < length entries = is.there in
         let some : 0 < slot_count t.pattern = elim (cases_lt 0 (slot_count t.pattern)) [ inl l ↦ l | inr l ↦ absurd (let none : count * slot_count t.pattern ≡ count * 0 = ap (λ w. count * w) (let z : slot_count t.pattern ≡ 0 = omega arith in z) in omega arith) ] in

@@ -6,7 +6,7 @@ use Rattle.std.proofs.lemmas.List.{get_or-drop, get_or-take, length-take-le}
 use Rattle.std.proofs.Math.Nat.{mul-le-mul_right}
 use Rattle.pat_place.specs.Patterns.{PatternView}
 use Rattle.pat_place.specs.Placements.{PlacementView}
-use Rattle.tab_lanes.specs.LocalRule.{AllPlacesKeepRule, IsFirstBad, KeepsRuleAt, KeepsRuleOfKind}
+use Rattle.tab_lanes.specs.LocalRule.{AllPlacesKeepRule, IsFirstBreach, KeepsRuleAt, KeepsRuleOfKind}
 use Rattle.tab_file.specs.Tables.{Table, IsTable, placement_count, slot_count}
 use Rattle.tab_rule.specs.Blocks.{BlockKeepsRule, IsLeastBadIn}
 use Rattle.tab_columns.specs.Columns.{EachSlot, HaveRanks, IsKindByMask}
@@ -47,7 +47,7 @@ module _ {t : Table} {block count w : ℕ} (is : IsBlock t block count w) where
 -- the numbers in these parts tell whether the block keeps the rule, and which entry is the least bad one
 pub record TellOf (t : Table) (block w : ℕ) (own mins marks : List ℕ) : Type 0 where
   pub keep : AllPlacesKeepRule own mins marks → BlockKeepsRule t block
-  pub bad : (place : ℕ) → IsFirstBad own mins marks place → IsLeastBadIn t block (block * 256 * w + place)
+  pub bad : (place : ℕ) → IsFirstBreach own mins marks place → IsLeastBadIn t block (block * 256 * w + place)
 
 module _ (t : Table) (block count : ℕ) (is : IsBlock t block count (slot_count t.pattern)) (ps : List PlacementView) (ranks : HaveRanks t.pattern (block * 256) ps) (long : length ps ≡ count)
     (goal : ℕ) (home : IsGoalNumber t.pattern goal) (masks kinds least : List ℕ)

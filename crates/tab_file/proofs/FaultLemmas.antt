@@ -11,7 +11,7 @@ use Rattle.pat_place.specs.Patterns.{PatternView, IsAscending, IsPattern, most_t
 use Rattle.pat_place.proofs.MaskLemmas.{ascending-numbers_below}
 use Rattle.byteorder.specs.Endian.{big_number}
 use Rattle.tab_file.specs.Tables.{Table, entry_count}
-use Rattle.tab_file.specs.TableFiles.{signature, side_in, size_in, spare_in, mask_in, count_in}
+use Rattle.tab_file.specs.TableFiles.{table_signature, side_in, size_in, spare_in, mask_in, entry_count_in}
 use Rattle.tab_file.specs.HeadFaults.{Stands, IsFirstFault, earlier, first_fault, is_pattern, is_standing, pattern_in, table_of_file}
 use Rattle.tab_file.specs.declared.headers.HeadFault.{HeadFault}
 use Rattle.tab_file.specs.declared.headers.HeadFault.TheVariants.{T1, T2, T3, T4, T5, T6}
@@ -20,11 +20,11 @@ use Rattle.tab_file.specs.declared.headers.HeadFault.TheVariants.{T1, T2, T3, T4
 
 abbrev pub Passes : HeadFault → List ℕ → Type 0
 Passes T1 file = 20 ≤ length file
-Passes T2 file = take 5 file ≡ signature
+Passes T2 file = take 5 file ≡ table_signature
 Passes T3 file = (2 ≤ side_in file) × (side_in file ≤ 5)
 Passes T4 file = IsPattern (pattern_in file) × (size_in file ≡ length (pattern_in file).tiles) × (spare_in file ≡ 0)
-Passes T5 file = count_in file ≡ entry_count (pattern_in file)
-Passes T6 file = length file ≡ 20 + count_in file
+Passes T5 file = entry_count_in file ≡ entry_count (pattern_in file)
+Passes T6 file = length file ≡ 20 + entry_count_in file
 
 -- ---- the test of a pattern
 
@@ -68,15 +68,15 @@ is_pattern-from p up e =
 
 passes-test : (f : HeadFault) (file : List ℕ) → Passes f file → is_standing f file ≡ false
 passes-test T1 file p = le-ltb (length file) 20 p
-passes-test T2 file p = not_from_true _ ((bytes_eq-Decides signature (take 5 file)).1 (sym p))
+passes-test T2 file p = not_from_true _ ((bytes_eq-Decides table_signature (take 5 file)).1 (sym p))
 passes-test T3 file p = not_from_true _ (and_from _ _ (le-leb 2 (side_in file) p.0) (le-leb (side_in file) 5 p.1))
 passes-test T4 file p = not_from_true _ (and_from _ _ (and_from _ _ (is_pattern-true (pattern_in file) p.0) (eq-eqb (size_in file) (length (pattern_in file).tiles) p.1)) (eq-eqb (spare_in file) 0 p.2))
-passes-test T5 file p = not_from_true _ (eq-eqb (count_in file) (entry_count (pattern_in file)) p)
-passes-test T6 file p = not_from_true _ (eq-eqb (length file) (20 + count_in file) p)
+passes-test T5 file p = not_from_true _ (eq-eqb (entry_count_in file) (entry_count (pattern_in file)) p)
+passes-test T6 file p = not_from_true _ (eq-eqb (length file) (20 + entry_count_in file) p)
 
 passes-from : (f : HeadFault) (file : List ℕ) → is_standing f file ≡ false → Passes f file
 passes-from T1 file e = ltb-false (length file) 20 e
-passes-from T2 file e = sym ((bytes_eq-Decides signature (take 5 file)).0 (not-false _ e))
+passes-from T2 file e = sym ((bytes_eq-Decides table_signature (take 5 file)).0 (not-false _ e))
 passes-from T3 file e =
     let both = and_parts (nat_le 2 (side_in file)) (nat_le (side_in file) 5) (not-false _ e) in
     (leb-true 2 (side_in file) both.0, leb-true (side_in file) 5 both.1)
@@ -84,8 +84,8 @@ passes-from T4 file e =
     let spare = and_parts (is_pattern (pattern_in file) && nat_eq (size_in file) (length (pattern_in file).tiles)) (nat_eq (spare_in file) 0) (not-false _ e) in
     let size = and_parts (is_pattern (pattern_in file)) (nat_eq (size_in file) (length (pattern_in file).tiles)) spare.0 in
     (is_pattern-from (pattern_in file) (ascending-numbers_below 32 (mask_in file)) size.0, eqb-true (size_in file) (length (pattern_in file).tiles) size.1, eqb-true (spare_in file) 0 spare.1)
-passes-from T5 file e = eqb-true (count_in file) (entry_count (pattern_in file)) (not-false _ e)
-passes-from T6 file e = eqb-true (length file) (20 + count_in file) (not-false _ e)
+passes-from T5 file e = eqb-true (entry_count_in file) (entry_count (pattern_in file)) (not-false _ e)
+passes-from T6 file e = eqb-true (length file) (20 + entry_count_in file) (not-false _ e)
 
 Stands-from : (f : HeadFault) (file : List ℕ) → is_standing f file ≡ true → Stands f file
 Stands-from T1 file e = ltb-true (length file) 20 e
@@ -211,11 +211,11 @@ module _ (file : List ℕ) where
 
 -- ---- what the calls of the standard library and of the patterns say
 
-pub begins-from : (file : List ℕ) (r : Bool) → r ≡ starts_with nat_eq file signature → r ≡ true → Passes T2 file
-begins-from file r e is_so = sym ((bytes_eq-Decides signature (take 5 file)).0 (sym e ∙ is_so))
+pub begins-from : (file : List ℕ) (r : Bool) → r ≡ starts_with nat_eq file table_signature → r ≡ true → Passes T2 file
+begins-from file r e is_so = sym ((bytes_eq-Decides table_signature (take 5 file)).0 (sym e ∙ is_so))
 
-pub begins-test : (file : List ℕ) (r : Bool) → r ≡ starts_with nat_eq file signature → Passes T2 file → r ≡ true
-begins-test file r e begins = e ∙ (bytes_eq-Decides signature (take 5 file)).1 (sym begins)
+pub begins-test : (file : List ℕ) (r : Bool) → r ≡ starts_with nat_eq file table_signature → Passes T2 file → r ≡ true
+begins-test file r e begins = e ∙ (bytes_eq-Decides table_signature (take 5 file)).1 (sym begins)
 
 -- the bytes from a place on
 pub drop-rest : (i : ℕ) (file : List ℕ) → take (length file - i) (drop i file) ≡ drop i file

@@ -4,7 +4,7 @@ use Rattle.std.specs.Prelude.{IfErr, IfOk, slice_index}
 use Rattle.std.proofs.lemmas.List.{get_or-drop}
 use Rattle.pat_place.specs.Patterns.{IsPattern}
 use Rattle.tab_file.specs.Tables.{Table, entry_count}
-use Rattle.tab_file.specs.TableFiles.{IsTableFile, count_in}
+use Rattle.tab_file.specs.TableFiles.{IsTableFile, entry_count_in}
 use Rattle.tab_file.specs.HeadFaults.{IsFirstFault, pattern_in, table_of_file}
 use Rattle.tab_file.specs.declared.headers.HeadFault.{HeadFault}
 use Rattle.tab_file.specs.declared.headers.HeadFault.TheVariants.{T1, T2, T4, T5, T6}
@@ -41,14 +41,14 @@ module _ (t : Table) (file : List ℕ) (good : IsTableFile t file) where
       pattern : IsPattern (pattern_in file)
       pattern = let same = sym pattern_is in subst IsPattern same good.table.pattern
 
-      count : count_in file ≡ entry_count (pattern_in file)
+      count : entry_count_in file ≡ entry_count (pattern_in file)
       count = good.header.count ∙ ap entry_count (sym pattern_is)
 
-      whole : length file ≡ 20 + count_in file
+      whole : length file ≡ 20 + entry_count_in file
       whole =
           let room = good.header.room in
           let rest : length (drop 20 file) ≡ length file - 20 = length-drop 20 file in
-          let entries : length (drop 20 file) ≡ count_in file = ap length good.entries ∙ good.table.entries ∙ sym good.header.count in
+          let entries : length (drop 20 file) ≡ entry_count_in file = ap length good.entries ∙ good.table.entries ∙ sym good.header.count in
           omega arith
 
 -- a file that passes is one of the table in it
@@ -56,7 +56,7 @@ IsTableFile-passes : (file : List ℕ) → Passes T1 file → Passes T2 file →
 IsTableFile-passes file room begins pattern count whole = record {
   table = record {
     pattern = pattern.0;
-    entries = (let rest : length (drop 20 file) ≡ length file - 20 = length-drop 20 file in let more : length file - 20 ≡ count_in file = omega arith in rest ∙ more ∙ count);
+    entries = (let rest : length (drop 20 file) ≡ length file - 20 = length-drop 20 file in let more : length file - 20 ≡ entry_count_in file = omega arith in rest ∙ more ∙ count);
   };
   header = record { room = room; begins = begins; side = refl; size = pattern.1; spare = pattern.2; mask = refl; count = count };
   entries = refl;

@@ -5,7 +5,7 @@ use Rattle.std.specs.Option.{option_map_or}
 use Rattle.puz_board.specs.Masks.{numbers_of}
 use Rattle.pat_place.specs.Patterns.{PatternView, IsPattern, most_tiles}
 use Rattle.tab_file.specs.Tables.{Table, entry_count}
-use Rattle.tab_file.specs.TableFiles.{signature, side_in, size_in, spare_in, mask_in, count_in}
+use Rattle.tab_file.specs.TableFiles.{table_signature, side_in, size_in, spare_in, mask_in, entry_count_in}
 use Rattle.tab_file.specs.declared.headers.HeadFault.{HeadFault}
 use Rattle.tab_file.specs.declared.headers.HeadFault.TheVariants.{T1, T2, T3, T4, T5, T6}
 
@@ -18,11 +18,11 @@ pattern_in file = record { side = side_in file; tiles = numbers_of (mask_in file
 -- what each fault says of a file
 abbrev pub Stands : HeadFault → List ℕ → Type 0
 Stands T1 file = length file < 20
-Stands T2 file = take 5 file ≢ signature
+Stands T2 file = take 5 file ≢ table_signature
 Stands T3 file = ¬ ((2 ≤ side_in file) × (side_in file ≤ 5))
 Stands T4 file = ¬ (IsPattern (pattern_in file) × (size_in file ≡ length (pattern_in file).tiles) × (spare_in file ≡ 0))
-Stands T5 file = count_in file ≢ entry_count (pattern_in file)
-Stands T6 file = length file ≢ 20 + count_in file
+Stands T5 file = entry_count_in file ≢ entry_count (pattern_in file)
+Stands T6 file = length file ≢ 20 + entry_count_in file
 
 -- the faults before this one
 abbrev pub earlier : HeadFault → List HeadFault
@@ -49,11 +49,11 @@ is_pattern p =
 -- whether the fault stands
 abbrev pub is_standing : HeadFault → List ℕ → Bool
 is_standing T1 file = nat_lt (length file) 20
-is_standing T2 file = not (starts_with nat_eq file signature)
+is_standing T2 file = not (starts_with nat_eq file table_signature)
 is_standing T3 file = not (nat_le 2 (side_in file) && nat_le (side_in file) 5)
 is_standing T4 file = not (is_pattern (pattern_in file) && size_in file == length (pattern_in file).tiles && spare_in file == 0)
-is_standing T5 file = not (count_in file == entry_count (pattern_in file))
-is_standing T6 file = not (length file == 20 + count_in file)
+is_standing T5 file = not (entry_count_in file == entry_count (pattern_in file))
+is_standing T6 file = not (length file == 20 + entry_count_in file)
 
 -- the first fault that stands
 unfoldable pub first_fault : List ℕ → Option HeadFault

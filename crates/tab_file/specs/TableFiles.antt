@@ -9,8 +9,8 @@ use Rattle.tab_file.specs.Tables.{Table, IsTable, entry_count}
 -- ---- the fields of a header
 
 -- how it begins: the letters of the format, and the version
-abbrev pub signature : List ℕ
-signature = codes "PDBT" ++ 1 ∷ []
+abbrev pub table_signature : List ℕ
+table_signature = codes "PDBT" ++ 1 ∷ []
 
 -- the side of the board
 abbrev pub side_in : List ℕ → ℕ
@@ -29,23 +29,23 @@ abbrev pub mask_in : List ℕ → ℕ
 mask_in file = big_number 4 (drop 8 file)
 
 -- how many entries there are
-abbrev pub count_in : List ℕ → ℕ
-count_in file = big_number 8 (drop 12 file)
+abbrev pub entry_count_in : List ℕ → ℕ
+entry_count_in file = big_number 8 (drop 12 file)
 
 -- ---- table files
 
 -- the first 20 bytes are the header of the pattern
-pub record IsHeader (p : PatternView) (file : List ℕ) : Type 0 where
+pub record IsTableHeader (p : PatternView) (file : List ℕ) : Type 0 where
   pub room : 20 ≤ length file
-  pub begins : take 5 file ≡ signature
+  pub begins : take 5 file ≡ table_signature
   pub side : side_in file ≡ p.side
   pub size : size_in file ≡ length p.tiles
   pub spare : spare_in file ≡ 0
   pub mask : numbers_of (mask_in file) ≡ p.tiles
-  pub count : count_in file ≡ entry_count p
+  pub count : entry_count_in file ≡ entry_count p
 
 -- the header of the table's pattern, and then the table's entries
 pub record IsTableFile (t : Table) (file : List ℕ) : Type 0 where
   pub table : IsTable t
-  pub header : IsHeader t.pattern file
+  pub header : IsTableHeader t.pattern file
   pub entries : drop 20 file ≡ t.entries

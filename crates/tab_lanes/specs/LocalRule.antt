@@ -40,7 +40,7 @@ abbrev pub AllPlacesKeepRule : List ℕ → List ℕ → List ℕ → Type 0
 AllPlacesKeepRule entries mins kinds = KeepRuleBetween entries mins kinds 0 (length entries)
 
 -- the entry at this place breaks the rule, and no entry before it does
-pub record IsFirstBad (entries mins kinds : List ℕ) (place : ℕ) : Type 0 where
+pub record IsFirstBreach (entries mins kinds : List ℕ) (place : ℕ) : Type 0 where
   pub there : place < length entries
   pub bad : ¬ KeepsRuleAt entries mins kinds place
   pub before : KeepRuleBetween entries mins kinds 0 place

@@ -2,7 +2,7 @@
 
 ghost use Rattle.std.specs.Prelude.{◌≡◌, ℕ, ◌+◌, ◌^◌, ◌<◌, ◌≤◌, ◌⊎◌, MatchOption, length};
 ghost use Rattle.std.specs.Int.{bit_at};
-ghost use Rattle.tab_lanes.specs.LocalRule.{AllPlacesKeepRule, IsFirstBad, KeepRuleBetween, KeepsRuleAt};
+ghost use Rattle.tab_lanes.specs.LocalRule.{AllPlacesKeepRule, IsFirstBreach, KeepRuleBetween, KeepsRuleAt};
 
 use crate::LANES;
 use std::simd::prelude::*;
@@ -25,7 +25,7 @@ pub const OTHER_SLOT: u8 = 2;
 pub fn first_bad(entries: &[u8], mins: &[u8], kinds: &[u8]) -> Option<usize>
     requires mins { length mins.now ≡ length entries.now }
     requires kinds { length kinds.now ≡ length entries.now }
-    ensures { MatchOption result (AllPlacesKeepRule entries.now mins.now kinds.now) (IsFirstBad entries.now mins.now kinds.now) }
+    ensures { MatchOption result (AllPlacesKeepRule entries.now mins.now kinds.now) (IsFirstBreach entries.now mins.now kinds.now) }
 {
     let place = kept_by_lanes::<LANES>(entries, mins, kinds, 0);
     let place = kept_by_lanes::<FEW>(entries, mins, kinds, place);

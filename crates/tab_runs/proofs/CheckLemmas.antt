@@ -15,7 +15,7 @@ use Rattle.tab_rule.specs.LocalRule.{IsKindOf, IsLeastNear, LocalRule}
 use Rattle.tab_rule.proofs.BlockLemmas.{same_cells}
 use Rattle.tab_rule.proofs.CaseLemmas.{rule_by_numbers}
 use Rattle.tab_file.specs.Tables.{Table, slot_count}
-use Rattle.tab_lanes.specs.LocalRule.{AllPlacesKeepRule, IsFirstBad, KeepsRuleAt, KeepsRuleOfKind}
+use Rattle.tab_lanes.specs.LocalRule.{AllPlacesKeepRule, IsFirstBreach, KeepsRuleAt, KeepsRuleOfKind}
 use Rattle.tab_runs.specs.Checks.{AreKinds, IsFirstBadPlace, RunKeepsRule}
 use Rattle.tab_runs.specs.RunPlaces.{AreRunEntries, IsFirstRank, IsRun, run_length}
 use Rattle.tab_runs.specs.Runs.{free_below, with_last}
@@ -145,7 +145,7 @@ module _ (t : Table) (pat : IsPattern t.pattern) (p : List ℕ) (run : IsRun t.p
         let here : KeepsAt own mins kinds (low + i) = to_at i l (all i (omega arith) (let s = part_size in omega arith)) in
         subst (λ k. KeepsRule t (first * slot_count t.pattern + k)) at (keeps_at (low + i) (omega arith) here first is_first)
 
-    pub run_bad : (i : ℕ) → IsFirstBad (take (1 + high - (1 + low)) (drop (1 + low) own)) (take (1 + high - (1 + low)) (drop (1 + low) mins)) (take (high - low) (drop low kinds)) i → IsFirstBadPlace t p low high (low + i)
+    pub run_bad : (i : ℕ) → IsFirstBreach (take (1 + high - (1 + low)) (drop (1 + low) own)) (take (1 + high - (1 + low)) (drop (1 + low) mins)) (take (high - low) (drop low kinds)) i → IsFirstBadPlace t p low high (low + i)
     run_bad i is =
         let l : i < high - low = (let s = part_size in let k = is.there in omega arith) in
         record {

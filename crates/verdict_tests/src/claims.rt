@@ -4,7 +4,7 @@ ghost use Rattle.std.specs.Prelude.{◌<◌, ◌≤◌};
 
 use crate::sha256;
 use crate::telling::{joined, tells};
-use pdb_io::memory::MemShelf;
+use byte_io::memory::MemShelf;
 use pdb_run::{BorrowedIo, Status};
 use pdb_verdict::{ClaimNames, Fault, Inputs, Verdict, Workers, run_bound, run_optimal, verify};
 use samples::HoldingGate;

@@ -1,6 +1,6 @@
 //! Runs of each command over a shelf that fails.
 
-use pdb_io::memory::MemShelf;
+use byte_io::memory::MemShelf;
 use pdb_keep::{MakeTable, SearchNames, run_make_table, run_solve};
 use pdb_run::{BorrowedIo, Status};
 use pdb_verdict::{ClaimNames, Workers, run_bound, run_optimal, run_replay, run_table};

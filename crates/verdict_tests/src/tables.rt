@@ -2,7 +2,7 @@
 
 use crate::sha256;
 use crate::telling::joined;
-use pdb_io::memory::MemShelf;
+use byte_io::memory::MemShelf;
 use pdb_keep::{MakeTable, run_make_table};
 use pdb_run::{BorrowedIo, Status};
 use pdb_verdict::Workers;

@@ -2,7 +2,7 @@
 
 use crate::sha256;
 use crate::telling::{joined, tells};
-use pdb_io::memory::MemShelf;
+use byte_io::memory::MemShelf;
 use pdb_run::{BorrowedIo, Status};
 use pdb_verdict::{
     Fault, Inputs, MakeRefusal, digests, line, report, run_replay, verify, verify_puzzle,

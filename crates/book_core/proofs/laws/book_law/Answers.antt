@@ -1,11 +1,11 @@
 use Rattle.book_core.proofs.LawLemmas.{BookLaw-all_drawn}
 use Rattle.book_core.proofs.RunLemmas.{BookLaw-after, sizes-after}
-use Rattle.book_core.specs.Runs.{after}
+use Rattle.book_core.specs.Runs.{run_after}
 use Rattle.book_core.proofs.laws.book_law.Goals as goal
 
 pub returns : goal.returns
 returns c = record {
   law = BookLaw-after;
-  all_drawn = λ jobs workers events. BookLaw-all_drawn (after jobs workers events).book (BookLaw-after jobs workers events);
+  all_drawn = λ jobs workers events. BookLaw-all_drawn (run_after jobs workers events).book (BookLaw-after jobs workers events);
   sizes = sizes-after;
 }

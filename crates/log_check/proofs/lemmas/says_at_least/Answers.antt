@@ -1,6 +1,6 @@
 use Rattle.std.proofs.Common.{◌≡◌, ◌≤◌, ◌∙◌, ap, le-leb, leb-true, subst, sym}
 use Rattle.tab_rule.specs.declared.tables.Count.TheVariants.{Finite}
-use Rattle.set_sum.specs.Bounds.{Reaches}
+use Rattle.set_sum.specs.Bounds.{CountReaches}
 use Rattle.set_sum.specs.Parity.{told_of}
 use Rattle.set_sum.proofs.SayLemmas.{reaches_from_sum}
 use Rattle.log_check.proofs.lemmas.says_at_least.Goals as goal
@@ -14,8 +14,8 @@ returns-in-Finite-clause-least c =
       λ test. record {
         count = Finite c.in-Finite.sum;
         says = c.in-Finite.ensures.sum;
-        enough = subst (λ k. Reaches k r.bound) told (subst (λ k. k ≤ c.told_of.result) c.from.ensures (leb-true c.from.result c.told_of.result test));
+        enough = subst (λ k. CountReaches k r.bound) told (subst (λ k. k ≤ c.told_of.result) c.from.ensures (leb-true c.from.result c.told_of.result test));
       },
       λ least. le-leb c.from.result c.told_of.result (subst (λ k. k ≤ c.told_of.result) (sym c.from.ensures)
-          (subst (λ k. Reaches k r.bound) (sym told) (reaches_from_sum r.sums.bundle c.args.by_parity c.args.set b (Finite c.in-Finite.sum) r.bound c.in-Finite.ensures.sum least))),
+          (subst (λ k. CountReaches k r.bound) (sym told) (reaches_from_sum r.sums.bundle c.args.by_parity c.args.set b (Finite c.in-Finite.sum) r.bound c.in-Finite.ensures.sum least))),
     )

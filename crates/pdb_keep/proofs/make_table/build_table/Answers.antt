@@ -1,5 +1,5 @@
 use Rattle.std.proofs.Common.{inr, rules, subst}
-use Rattle.pdb_io.specs.Shelf.{Bytes}
+use Rattle.byte_io.specs.Shelf.{Bytes}
 use Rattle.pdb_verdict.specs.Inputs.{table_file}
 use Rattle.pdb_verdict.specs.Verdicts.{IsAnswerTo}
 use Rattle.pdb_keep.specs.MakeTable.{ArePattern, SpeaksOf}

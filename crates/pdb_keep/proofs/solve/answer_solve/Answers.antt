@@ -1,6 +1,6 @@
 use Rattle.std.proofs.Common.{◌≡◌, ◌∙◌, List, ◌∷◌, length, subst, sym}
 use Rattle.std.specs.Prelude.{slice_range}
-use Rattle.pdb_io.specs.Shelf.{Bytes}
+use Rattle.byte_io.specs.Shelf.{Bytes}
 use Rattle.pdb_run.specs.Answers.{IsAnswerBy, all_bytes}
 use Rattle.pdb_keep.specs.Solve.{IsSolveReply, SolveTakesMemory}
 use Rattle.pdb_keep.proofs.MakerLemmas.{inputs_order, made_moves}

@@ -1,7 +1,7 @@
 use Rattle.std.proofs.Common.{◌≡◌, Bool, List, Some, subst, sym, true}
 use Rattle.std.specs.Prelude.{slice_get}
 use Rattle.puz_board.specs.BoardTexts.{Spells}
-use Rattle.pdb_io.specs.Shelf.{Bytes}
+use Rattle.byte_io.specs.Shelf.{Bytes}
 use Rattle.pdb_run.specs.Answers.{IsAnswerBy, all_bytes}
 use Rattle.pdb_keep.specs.Solve.{IsSolveReply, SolveTakesMemory}
 use Rattle.pdb_keep.proofs.MakerLemmas.{first_spelt, made_moves, taken_order}

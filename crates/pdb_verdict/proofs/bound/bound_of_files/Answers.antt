@@ -1,5 +1,5 @@
 use Rattle.std.proofs.Common.{◌∙◌, ◌++◌, Err, IfErr, IfOk, ap, subst, sym, true}
-use Rattle.pdb_io.specs.Shelf.{Bytes}
+use Rattle.byte_io.specs.Shelf.{Bytes}
 use Rattle.pdb_run.specs.Answers.{all_bytes}
 use Rattle.pdb_run.specs.Writing.{digest_line}
 use Rattle.pdb_verdict.specs.Bundles.{IsBundleOfFiles, IsCauseForBundle}

@@ -1,6 +1,6 @@
 use Rattle.std.proofs.Common.{◌≡◌, Some, subst, sym}
 use Rattle.std.specs.Prelude.{slice_get}
-use Rattle.pdb_io.specs.Shelf.{Bytes}
+use Rattle.byte_io.specs.Shelf.{Bytes}
 use Rattle.pdb_run.specs.Answers.{IsAnswerBy, all_bytes}
 use Rattle.pdb_verdict.specs.Claims.{ClaimTakesMemory, IsClaimReply, IsStartOf}
 use Rattle.pdb_verdict.specs.Verdicts.{IsAnswerTo}

@@ -1,5 +1,5 @@
 use Rattle.std.proofs.Common.{◌≡◌, ◌∙◌, List, ◌∷◌, [], ap, subst, sym}
-use Rattle.pdb_io.specs.Shelf.{Bytes}
+use Rattle.byte_io.specs.Shelf.{Bytes}
 use Rattle.pdb_run.specs.Answers.{SaysRight, all_bytes}
 use Rattle.pdb_verdict.specs.Inputs.{puzzle_text}
 use Rattle.pdb_verdict.specs.Lines.{reply_to}

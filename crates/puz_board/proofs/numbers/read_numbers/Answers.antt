@@ -1,7 +1,7 @@
 use Rattle.std.proofs.Common.{◌≡◌, ◌<◌, length, drop, get_or, sym, ◌∙◌, ap, arith, length-set, length-drop, length-take, get_or-take, take}
 use Rattle.std.proofs.lemmas.Grind.{same_number_lists}
 use Rattle.std.proofs.lemmas.List.{drop_all}
-use Rattle.puz_board.specs.BoardTexts.{numbers_of}
+use Rattle.puz_board.specs.BoardTexts.{numbers_in}
 use Rattle.puz_board.proofs.TextLemmas.{kept_more, next_number, numbers_of-at_separator, numbers_of-nothing}
 use Rattle.puz_board.proofs.numbers.read_numbers.Goals as goal
 
@@ -11,13 +11,13 @@ loop-i-preserved-then-is_ascii_digit c =
     let before = c.loop-i.invariant in
     let number = c.number_at-number in
     let pushed = c.push.ensures in
-    let next = next_number (numbers_of text) (numbers_of (drop number.result.end text)) c.loop-i.numbers.count number.result.value (sym number.ensures.number ∙ before.rest) in
+    let next = next_number (numbers_in text) (numbers_in (drop number.result.end text)) c.loop-i.numbers.count number.result.value (sym number.ensures.number ∙ before.rest) in
     record {
       few = omega arith;
       within = let w = next.0 in omega arith;
       room = ap length pushed.kept ∙ length-set _ _ _ ∙ before.room;
-      rest = next.2 ∙ ap (λ n. drop n (numbers_of text)) (sym pushed.count);
-      kept = λ k l m. ap (λ xs. get_or xs k 0) pushed.kept ∙ kept_more c.loop-i.numbers.kept (numbers_of text) c.loop-i.numbers.count number.result.value before.room next.1 before.kept k (omega arith) m;
+      rest = next.2 ∙ ap (λ n. drop n (numbers_in text)) (sym pushed.count);
+      kept = λ k l m. ap (λ xs. get_or xs k 0) pushed.kept ∙ kept_more c.loop-i.numbers.kept (numbers_in text) c.loop-i.numbers.count number.result.value before.room next.1 before.kept k (omega arith) m;
     }
 
 pub loop-i-preserved : goal.loop-i-preserved
@@ -32,13 +32,13 @@ loop-i-preserved c =
       kept = before.kept;
     }
 
-counted : (c : goal.After-loop-i) → c.loop-i.numbers.count ≡ length (numbers_of c.args.text.now)
+counted : (c : goal.After-loop-i) → c.loop-i.numbers.count ≡ length (numbers_in c.args.text.now)
 counted c =
     let text = c.args.text.now in
     let before = c.loop-i.invariant in
-    let none = sym numbers_of-nothing ∙ ap numbers_of (sym (drop_all c.loop-i.i text c.loop-i-test.false)) ∙ before.rest in
-    let left : 0 ≡ length (drop c.loop-i.numbers.count (numbers_of text)) = ap length none in
-    let cut = length-drop c.loop-i.numbers.count (numbers_of text) in
+    let none = sym numbers_of-nothing ∙ ap numbers_in (sym (drop_all c.loop-i.i text c.loop-i-test.false)) ∙ before.rest in
+    let left : 0 ≡ length (drop c.loop-i.numbers.count (numbers_in text)) = ap length none in
+    let cut = length-drop c.loop-i.numbers.count (numbers_in text) in
     let within = before.within in
     omega arith
 
@@ -47,7 +47,7 @@ returns-clause-count c = counted c
 
 pub returns-clause-kept : goal.returns-clause-kept
 returns-clause-kept c few =
-    let ns = numbers_of c.args.text.now in
+    let ns = numbers_in c.args.text.now in
     let kept = c.loop-i.numbers.kept in
     let count = c.loop-i.numbers.count in
     let all = counted c in

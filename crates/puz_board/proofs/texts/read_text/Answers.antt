@@ -1,6 +1,6 @@
 use Rattle.std.proofs.Common.{◌<◌, length, refl, sym, ◌∙◌, ap, subst, Some, None, Err}
 use Rattle.puz_board.specs.declared.texts.BoardFault.TheVariants.{B3}
-use Rattle.puz_board.specs.BoardTexts.{board_of_numbers, long_run, numbers_of}
+use Rattle.puz_board.specs.BoardTexts.{board_of_numbers, long_run, numbers_in}
 use Rattle.puz_board.proofs.FaultLemmas.{board_of_numbers-no_side, board_of_text-is, side_of_many}
 use Rattle.puz_board.proofs.texts.read_text.Goals as goal
 
@@ -13,9 +13,9 @@ returns-in-Some-first_long_run c = sym (board_of_text-is c.args.text.now None (S
 pub returns-then-numbers-gt25 : goal.returns-then-numbers-gt25
 returns-then-numbers-gt25 c =
     let count = c.read_numbers-numbers.ensures.count in
-    let none = side_of_many (length (numbers_of c.args.text.now)) (subst (λ n. 25 < n) count c.if-numbers-gt25.true) in
+    let none = side_of_many (length (numbers_in c.args.text.now)) (subst (λ n. 25 < n) count c.if-numbers-gt25.true) in
     ap (λ n. Err (B3 n)) count ∙
-    sym (board_of_text-is c.args.text.now None None c.in_default.ensures c.in_default-first_long_run.ensures ∙ board_of_numbers-no_side (numbers_of c.args.text.now) none)
+    sym (board_of_text-is c.args.text.now None None c.in_default.ensures c.in_default-first_long_run.ensures ∙ board_of_numbers-no_side (numbers_in c.args.text.now) none)
 
 pub returns : goal.returns
 returns c =

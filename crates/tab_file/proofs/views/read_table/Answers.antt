@@ -4,7 +4,7 @@ use Rattle.pat_place.specs.Patterns.{IsPattern}
 use Rattle.std.specs.List.{AllByRecursion}
 use Rattle.byteorder.specs.Endian.{big_number}
 use Rattle.tab_file.specs.Tables.{entry_count}
-use Rattle.tab_file.specs.TableFiles.{count_in}
+use Rattle.tab_file.specs.TableFiles.{entry_count_in}
 use Rattle.tab_file.specs.declared.headers.HeadFault.TheVariants.{T1, T2, T3, T4, T5, T6}
 use Rattle.tab_file.proofs.FaultLemmas.{begins-from, begins-test, drop-rest, pattern_named, refused, accepted, table_named, Passes, all_faults}
 use Rattle.tab_file.proofs.views.read_table.Goals as goal
@@ -49,23 +49,23 @@ pub returns-then-entries-count : goal.returns-then-entries-count
 returns-then-entries-count c =
     let named = c.in-Some-of_mask.ensures.value ∙ pattern_named c.args.file.now c.in-Some.side c.read_u32.result c.in-Some.ensures.1 c.read_u32.ensures in
     let pattern : Passes T4 c.args.file.now = (subst IsPattern named c.size.ensures.pattern, c.if-file-size.false ∙ c.size.ensures.size ∙ ap (λ p. length p.tiles) named, c.if-file-ne0.false) in
-    let read : c.read_u64.result ≡ count_in c.args.file.now = c.read_u64.ensures ∙ ap (big_number 8) (drop-rest 12 c.args.file.now) in
+    let read : c.read_u64.result ≡ entry_count_in c.args.file.now = c.read_u64.ensures ∙ ap (big_number 8) (drop-rest 12 c.args.file.now) in
     let count = sym read ∙ c.if-read_u64-count.false ∙ c.entry_count-count.ensures.count ∙ ap entry_count named in
     refused c.args.file.now T6 (c.if-file-lt-HEADER_LEN.false, (begins-from c.args.file.now c.starts_with.result c.starts_with.ensures.value c.if-not-starts_with.false, (c.in-Some.ensures.0, (pattern, (count, tt)))))
     (λ whole. c.if-entries-count.true (
     let rest : length (take (length c.args.file.now - 20) (drop 20 c.args.file.now)) ≡ length c.args.file.now - 20 = ap length (drop-rest 20 c.args.file.now) ∙ length-drop 20 c.args.file.now in
-    let behind : length c.args.file.now - 20 ≡ count_in c.args.file.now = omega arith in
+    let behind : length c.args.file.now - 20 ≡ entry_count_in c.args.file.now = omega arith in
     rest ∙ behind ∙ sym read ∙ c.if-read_u64-count.false))
 
 pub returns : goal.returns
 returns c =
     let named = c.in-Some-of_mask.ensures.value ∙ pattern_named c.args.file.now c.in-Some.side c.read_u32.result c.in-Some.ensures.1 c.read_u32.ensures in
     let pattern : Passes T4 c.args.file.now = (subst IsPattern named c.size.ensures.pattern, c.if-file-size.false ∙ c.size.ensures.size ∙ ap (λ p. length p.tiles) named, c.if-file-ne0.false) in
-    let read : c.read_u64.result ≡ count_in c.args.file.now = c.read_u64.ensures ∙ ap (big_number 8) (drop-rest 12 c.args.file.now) in
+    let read : c.read_u64.result ≡ entry_count_in c.args.file.now = c.read_u64.ensures ∙ ap (big_number 8) (drop-rest 12 c.args.file.now) in
     let count = sym read ∙ c.if-read_u64-count.false ∙ c.entry_count-count.ensures.count ∙ ap entry_count named in
-    let whole : length c.args.file.now ≡ 20 + count_in c.args.file.now =
+    let whole : length c.args.file.now ≡ 20 + entry_count_in c.args.file.now =
     (let rest : length (take (length c.args.file.now - 20) (drop 20 c.args.file.now)) ≡ length c.args.file.now - 20 = ap length (drop-rest 20 c.args.file.now) ∙ length-drop 20 c.args.file.now in
-    let behind : length c.args.file.now - 20 ≡ count_in c.args.file.now = sym rest ∙ c.if-entries-count.false ∙ sym c.if-read_u64-count.false ∙ read in
+    let behind : length c.args.file.now - 20 ≡ entry_count_in c.args.file.now = sym rest ∙ c.if-entries-count.false ∙ sym c.if-read_u64-count.false ∙ read in
     let room = c.if-file-lt-HEADER_LEN.false in
     omega arith) in
     let all : AllByRecursion (λ f. Passes f c.args.file.now) all_faults = (c.if-file-lt-HEADER_LEN.false, (begins-from c.args.file.now c.starts_with.result c.starts_with.ensures.value c.if-not-starts_with.false, (c.in-Some.ensures.0, (pattern, (count, (whole, tt)))))) in

@@ -1,5 +1,5 @@
 use Rattle.std.proofs.Common.{map, ◌++◌, List, ℕ, subst}
-use Rattle.pdb_io.specs.Streams.{AppendsFront}
+use Rattle.byte_io.specs.Streams.{AppendsFront}
 use Rattle.pdb_run.specs.Writing.{shown_byte}
 use Rattle.pdb_run.proofs.PageLemmas.{on_err, shown_next, shown_stopped}
 use Rattle.pdb_run.proofs.pages.Page.add_name.Goals as goal

@@ -2,7 +2,7 @@ use Rattle.std.proofs.Common.{◌≡◌, ◌<◌, [], length, get_or, sym, ◌�
 use Rattle.std.proofs.lemmas.List.{length-map}
 use Rattle.std.specs.List.{AllByRecursion}
 use Rattle.puz_board.specs.Boards.{IsBoardOf, side_of}
-use Rattle.set_sum.specs.Bundles.{IsBundle, Says, set_of}
+use Rattle.set_sum.specs.Bundles.{IsBundle, BundleSays, set_of}
 use Rattle.set_sum.specs.Parts.{part_pattern, part_shown, parts_shown}
 use Rattle.set_sum.specs.StoredBundles.{bundle_shown}
 use Rattle.set_sum.specs.Sums.{SetSays}
@@ -38,7 +38,7 @@ returns c =
     let b = c.args.board.now in
     let set : set_of c.args.self.now c.args.set ≡ c.deref-3.result.now = ap (λ w. set_of w c.args.set) (sym c.self.view_is) ∙ sym (members_are (goal.at.returns c).After-deref-3) in
     let tables : c.args.self.now.tables ≡ parts_shown c.deref.result.now = ap (λ w. w.tables) (sym c.self.view_is) ∙ ap parts_shown (sym c.deref.ensures.value) in
-    let says : Says c.args.self.now c.args.set b c.sum_of.result = record {
+    let says : BundleSays c.args.self.now c.args.set b c.sum_of.result = record {
       there = c.requires.set;
       says = subst (λ s. SetSays c.args.self.now.tables s b c.sum_of.result) (sym set) (subst (λ ts. SetSays ts c.deref-3.result.now b c.sum_of.result) (sym tables) c.sum_of.ensures);
     } in

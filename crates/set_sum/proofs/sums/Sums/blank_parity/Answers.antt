@@ -2,7 +2,7 @@ use Rattle.std.proofs.Common.{◌≡◌, ◌*◌, ◌%◌, ◌<◌, slice_index,
 use Rattle.puz_board.specs.Boards.{blank, side_of}
 use Rattle.puz_board.specs.Parity.{blank_parity, taxicab}
 use Rattle.puz_board.proofs.BoardLemmas.{side_of-board}
-use Rattle.set_sum.specs.StoredSums.{numbers_shown}
+use Rattle.set_sum.specs.StoredSums.{sums_numbers_shown}
 use Rattle.set_sum.proofs.SlideLemmas.{blank_below, blank_first}
 use Rattle.set_sum.proofs.sums.Sums.blank_parity.Goals as goal
 
@@ -11,14 +11,14 @@ parity_of-requires c =
     let s = c.self.inside in
     let n = s.bundle.now.side in
     subst (λ m. slice_index s.cells 0 < m * m) (sym c.side.ensures.side)
-    (subst (λ z. z < n * n) (sym (blank_first n (numbers_shown s) s.cells c.self.invariant.board c.self.invariant.cells)) (blank_below n (numbers_shown s) c.self.invariant.board))
+    (subst (λ z. z < n * n) (sym (blank_first n (sums_numbers_shown s) s.cells c.self.invariant.board c.self.invariant.cells)) (blank_below n (sums_numbers_shown s) c.self.invariant.board))
 
 pub returns-clause-parity : goal.returns-clause-parity
 unfolding blank_parity
 returns-clause-parity c =
     let s = c.self.inside in
     let n = s.bundle.now.side in
-    let b = numbers_shown s in
+    let b = sums_numbers_shown s in
     c.parity_of.ensures.parity ∙
     ap (λ m. taxicab m (slice_index s.cells 0) % 2) (c.side.ensures.side ∙ sym (side_of-board n b c.self.invariant.board)) ∙
     ap (λ z. taxicab (side_of b) z % 2) (blank_first n b s.cells c.self.invariant.board c.self.invariant.cells) ∙

@@ -1,6 +1,6 @@
 use Rattle.std.proofs.Common.{sym, subst}
 use Rattle.set_sum.specs.Members.{MemberSays}
-use Rattle.set_sum.specs.StoredSums.{IsNoted, numbers_shown}
+use Rattle.set_sum.specs.StoredSums.{IsNoted, sums_numbers_shown}
 use Rattle.set_sum.proofs.KnownLemmas.{known_noted}
 use Rattle.set_sum.proofs.sums.Sums.said.Goals as goal
 
@@ -18,6 +18,6 @@ invariant_of-self c =
       cells = c.self.invariant.cells;
       room_transposed = c.self.invariant.room_transposed;
       transposed = c.self.invariant.transposed;
-      known = known_noted s.bundle.now (numbers_shown s) s.known c.note.new.known m entry c.self.invariant.known noted
-          (subst (MemberSays s.bundle.now.tables m (numbers_shown s)) (sym c.entry_of.ensures) says);
+      known = known_noted s.bundle.now (sums_numbers_shown s) s.known c.note.new.known m entry c.self.invariant.known noted
+          (subst (MemberSays s.bundle.now.tables m (sums_numbers_shown s)) (sym c.entry_of.ensures) says);
     }

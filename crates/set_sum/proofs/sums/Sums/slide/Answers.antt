@@ -6,7 +6,7 @@ use Rattle.puz_board.proofs.BoardLemmas.{IsBoardOf-slid, cells_most}
 use Rattle.puz_board.proofs.TransposeLemmas.{cell_below}
 use Rattle.tab_rule.specs.Counts.{AreCellsOf}
 use Rattle.set_sum.specs.Owners.{AreOwners}
-use Rattle.set_sum.specs.StoredSums.{IsKnownOf, numbers_shown}
+use Rattle.set_sum.specs.StoredSums.{IsKnownOf, sums_numbers_shown}
 use Rattle.set_sum.specs.SumViews.{SumsView}
 use Rattle.set_sum.specs.declared.known.Known.{Known}
 use Rattle.set_sum.proofs.KnownLemmas.{cells_after, known_after}
@@ -17,9 +17,9 @@ pub bounds-self-inside-from-2 : goal.bounds-self-inside-from-2
 bounds-self-inside-from-2 c =
     let s = c.self.inside in
     let n = s.bundle.now.side in
-    let first = blank_first n (numbers_shown s) s.cells c.self.invariant.board c.self.invariant.cells in
-    let low = blank_below n (numbers_shown s) c.self.invariant.board in
-    let most = cells_most n (numbers_shown s) c.self.invariant.board in
+    let first = blank_first n (sums_numbers_shown s) s.cells c.self.invariant.board c.self.invariant.cells in
+    let low = blank_below n (sums_numbers_shown s) c.self.invariant.board in
+    let most = cells_most n (sums_numbers_shown s) c.self.invariant.board in
     let same = c.from-2.ensures in
     omega arith
 
@@ -27,33 +27,33 @@ pub transposed-requires : goal.transposed-requires
 transposed-requires c =
     let s = c.self.inside in
     let n = s.bundle.now.side in
-    subst (λ z. z < n * n) (sym (blank_first n (numbers_shown s) s.cells c.self.invariant.board c.self.invariant.cells)) (blank_below n (numbers_shown s) c.self.invariant.board)
+    subst (λ z. z < n * n) (sym (blank_first n (sums_numbers_shown s) s.cells c.self.invariant.board c.self.invariant.cells)) (blank_below n (sums_numbers_shown s) c.self.invariant.board)
 
 pub bounds-self-inside-from-5 : goal.bounds-self-inside-from-5
 bounds-self-inside-from-5 c =
     let s = c.self.inside in
     let n = s.bundle.now.side in
     let good = c.self.invariant.board in
-    let near : Adjacent n (blank (numbers_shown s)) c.args.to = subst (λ w. Adjacent w.bundle.side (blank w.board) c.args.to) (sym c.self.view_is) c.requires in
-    let tile_is : slice_index s.numbers c.from.result ≡ at (numbers_shown s) c.args.to = ap (slice_index s.numbers) c.from.ensures ∙ number_at n c.args.to s.numbers near.0 in
+    let near : Adjacent n (blank (sums_numbers_shown s)) c.args.to = subst (λ w. Adjacent w.bundle.side (blank w.board) c.args.to) (sym c.self.view_is) c.requires in
+    let tile_is : slice_index s.numbers c.from.result ≡ at (sums_numbers_shown s) c.args.to = ap (slice_index s.numbers) c.from.ensures ∙ number_at n c.args.to s.numbers near.0 in
     let tile : slice_index s.numbers c.from.result < n * n = subst (λ t. t < n * n) (sym tile_is) (good.below c.args.to near.0) in
     let low = cell_below n good.low good.high (slice_index s.numbers c.from.result) tile in
-    let most = cells_most n (numbers_shown s) good in
+    let most = cells_most n (sums_numbers_shown s) good in
     let same = c.from-5.ensures ∙ c.transposed-2.ensures in
     omega arith
 
 -- the board after the slide
 shown : (c : goal.After-transposed-3)
-    → numbers_shown (record c.self.inside {
+    → sums_numbers_shown (record c.self.inside {
       numbers = slice_set (slice_set c.self.inside.numbers c.from-2.result (slice_index c.self.inside.numbers c.from.result)) c.from-3.result 0;
-    }) ≡ slid (numbers_shown c.self.inside) c.args.to
+    }) ≡ slid (sums_numbers_shown c.self.inside) c.args.to
 shown c =
     let s = c.self.inside in
     let n = s.bundle.now.side in
     let good = c.self.invariant.board in
-    let near : Adjacent n (blank (numbers_shown s)) c.args.to = subst (λ w. Adjacent w.bundle.side (blank w.board) c.args.to) (sym c.self.view_is) c.requires in
+    let near : Adjacent n (blank (sums_numbers_shown s)) c.args.to = subst (λ w. Adjacent w.bundle.side (blank w.board) c.args.to) (sym c.self.view_is) c.requires in
     numbers_slid n s.numbers good c.args.to near.0 c.from-2.result (slice_index s.numbers c.from.result) c.from-3.result
-    (c.from-2.ensures ∙ blank_first n (numbers_shown s) s.cells good c.self.invariant.cells)
+    (c.from-2.ensures ∙ blank_first n (sums_numbers_shown s) s.cells good c.self.invariant.cells)
     (ap (slice_index s.numbers) c.from.ensures ∙ number_at n c.args.to s.numbers near.0) c.from-3.ensures
 
 pub invariant_of-self : goal.invariant_of-self
@@ -61,7 +61,7 @@ invariant_of-self c =
     let s = c.self.inside in
     let v = s.bundle.now in
     let n = v.side in
-    let b : List ℕ = numbers_shown s in
+    let b : List ℕ = sums_numbers_shown s in
     let good = c.self.invariant.board in
     let to = c.args.to in
     let near : Adjacent n (blank b) to = subst (λ w. Adjacent w.bundle.side (blank w.board) to) (sym c.self.view_is) c.requires in

@@ -2,7 +2,7 @@ use Rattle.std.proofs.Common.{◌≡◌, ℕ, ◌*◌, ◌<◌, Option, Some, No
 use Rattle.std.specs.Prelude.{IfNone}
 use Rattle.puz_board.specs.Boards.{IsBoardOf, blank, moved, slid}
 use Rattle.puz_board.specs.Cells.{Adjacent}
-use Rattle.set_sum.specs.StoredSums.{IsKnownOf, numbers_shown}
+use Rattle.set_sum.specs.StoredSums.{IsKnownOf, sums_numbers_shown}
 use Rattle.set_sum.proofs.SlideLemmas.{blank_below, blank_first, moved_by, step_adjacent, step_leads}
 use Rattle.set_sum.proofs.sums.Sums.step.Goals as goal
 
@@ -15,13 +15,13 @@ cell_after-requires c =
     let s = c.self.inside in
     let n = s.bundle.now.side in
     subst (λ m. slice_index s.cells 0 < m * m) (sym c.side.ensures.side)
-    (subst (λ z. z < n * n) (sym (blank_first n (numbers_shown s) s.cells c.self.invariant.board c.self.invariant.cells)) (blank_below n (numbers_shown s) c.self.invariant.board))
+    (subst (λ z. z < n * n) (sym (blank_first n (sums_numbers_shown s) s.cells c.self.invariant.board c.self.invariant.cells)) (blank_below n (sums_numbers_shown s) c.self.invariant.board))
 
 pub returns-in_err-to-clause-none : goal.returns-in_err-to-clause-none
 returns-in_err-to-clause-none c =
     let s = c.self.inside in
     let n = s.bundle.now.side in
-    let b = numbers_shown s in
+    let b = sums_numbers_shown s in
     let leads = step_leads n b s.cells c.self.invariant.board c.self.invariant.cells c.args.mv c.side.result c.side.ensures.side None c.in_err-to.ensures in
     none_so _ (ap (λ w. moved w.board c.args.mv) (sym c.self.view_is) ∙ moved_by n b c.self.invariant.board c.args.mv None leads, refl) c.from_residual.result
 
@@ -29,7 +29,7 @@ pub slide-requires : goal.slide-requires
 slide-requires c =
     let s = c.self.inside in
     let n = s.bundle.now.side in
-    let b = numbers_shown s in
+    let b = sums_numbers_shown s in
     let to = c.in_ok-to.to in
     let leads = step_leads n b s.cells c.self.invariant.board c.self.invariant.cells c.args.mv c.side.result c.side.ensures.side (Some to) c.in_ok-to.ensures in
     subst (λ w. Adjacent w.bundle.side (blank w.board) to) c.self.view_is (step_adjacent n b c.self.invariant.board c.args.mv to leads)
@@ -38,7 +38,7 @@ pub returns-clause-some : goal.returns-clause-some
 returns-clause-some c =
     let s = c.self.inside in
     let n = s.bundle.now.side in
-    let b = numbers_shown s in
+    let b = sums_numbers_shown s in
     let to = c.in_ok-to.to in
     let leads = step_leads n b s.cells c.self.invariant.board c.self.invariant.cells c.args.mv c.side.result c.side.ensures.side (Some to) c.in_ok-to.ensures in (
       ap (λ w. moved w.board c.args.mv) (sym c.self.view_is) ∙ moved_by n b c.self.invariant.board c.args.mv (Some to) leads ∙

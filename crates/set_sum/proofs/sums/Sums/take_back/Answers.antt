@@ -3,7 +3,7 @@ use Rattle.puz_board.specs.Boards.{at, blank, slid}
 use Rattle.puz_board.specs.Cells.{Adjacent}
 use Rattle.puz_board.proofs.BoardLemmas.{cells_most}
 use Rattle.set_sum.specs.Owners.{AreOwners}
-use Rattle.set_sum.specs.StoredSums.{IsKnownOf, numbers_shown}
+use Rattle.set_sum.specs.StoredSums.{IsKnownOf, sums_numbers_shown}
 use Rattle.set_sum.specs.SumViews.{SumsView}
 use Rattle.set_sum.proofs.SlideLemmas.{number_at, step_back, step_known, step_near}
 use Rattle.set_sum.proofs.sums.Sums.take_back.Goals as goal
@@ -23,7 +23,7 @@ owners-requires c =
     let n = s.bundle.now.side in
     let now = c.args.self.now in
     let near = subst (λ w. Adjacent w.bundle.side (blank w.board) c.args.step.now.from) (sym c.self.view_is) (step_near now.bundle c.requires.0 now.board c.args.step.now c.requires.1) in
-    let tile_is : slice_index s.numbers c.from.result ≡ at (numbers_shown s) c.args.step.now.from = ap (slice_index s.numbers) c.from.ensures ∙ number_at n c.args.step.now.from s.numbers near.0 in
+    let tile_is : slice_index s.numbers c.from.result ≡ at (sums_numbers_shown s) c.args.step.now.from = ap (slice_index s.numbers) c.from.ensures ∙ number_at n c.args.step.now.from s.numbers near.0 in
     subst (λ t. t < n * n) (sym tile_is) (c.self.invariant.board.below c.args.step.now.from near.0)
 
 pub slide-requires : goal.slide-requires
@@ -38,7 +38,7 @@ invariant_of-self c =
     let step = c.args.step.now in
     let is = c.requires.1 in
     let near = subst (λ w. Adjacent w.bundle.side (blank w.board) step.from) (sym c.self.view_is) (step_near now.bundle b now.board step is) in
-    let tile_is : slice_index s.numbers c.from.result ≡ at (numbers_shown s) step.from = ap (slice_index s.numbers) c.from.ensures ∙ number_at n step.from s.numbers near.0 in
+    let tile_is : slice_index s.numbers c.from.result ≡ at (sums_numbers_shown s) step.from = ap (slice_index s.numbers) c.from.ensures ∙ number_at n step.from s.numbers near.0 in
     let own : AreOwners now.bundle.side now.bundle.tables (at now.board step.from) c.owners.result =
     subst (λ w. AreOwners w.bundle.side w.bundle.tables (at w.board step.from) c.owners.result) c.self.view_is
     (subst (λ t. AreOwners n s.bundle.now.tables t c.owners.result) tile_is c.owners.ensures) in

@@ -1,8 +1,8 @@
 //! A shelf over memory.
 
 ghost use Rattle.std.specs.Prelude.{◌≡◌, ◌<◌, ◌≤◌, ℕ, List, Some, None, true, false, length, IfOk, OnOk, OnErr, IsErrOf, IsOk, IsOkUnless, IsSomeAnd, option_map};
-ghost use Rattle.pdb_io.specs.Memory.{files_in};
-ghost use Rattle.pdb_io.specs.Shelf.{files_of, with_file};
+ghost use Rattle.byte_io.specs.Memory.{files_in};
+ghost use Rattle.byte_io.specs.Shelf.{files_of, with_file};
 
 use crate::shelf::{KeepFault, Shelf};
 use crate::streams::ReadFault;

@@ -2,7 +2,7 @@
 
 ghost use Rattle.std.specs.Prelude.{◌≡◌, ◌≤◌, ◌<◌, ◌+◌, true, length, take, drop, IfOk, OnOk, OnErr, IfSome, IsErrOf};
 ghost use Rattle.std.specs.Io.KnownBytes.{Appends, Consumes, IsAtEnd};
-ghost use Rattle.pdb_io.specs.Streams.{AppendsFront};
+ghost use Rattle.byte_io.specs.Streams.{AppendsFront};
 
 use crate::sources::Source;
 use crate::watched::Watched;
@@ -22,7 +22,7 @@ pub enum ReadFault {
 }
 
 impl From<AllocError> for ReadFault {
-    ghost use Rattle.pdb_io.specs.declared.streams.ReadFault.{ReadFault};
+    ghost use Rattle.byte_io.specs.declared.streams.ReadFault.{ReadFault};
 
     ghost from_gives = { λ _ fault. fault ≡ ReadFault.Memory };
 

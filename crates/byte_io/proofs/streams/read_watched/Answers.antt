@@ -1,7 +1,7 @@
 use Rattle.std.proofs.Common.{◌∙◌, arith, ap, rules, take}
 use Rattle.std.proofs.lemmas.List.{with_items_is, places}
-use Rattle.pdb_io.proofs.Reading.{read_more}
-use Rattle.pdb_io.proofs.streams.read_watched.Goals as goal
+use Rattle.byte_io.proofs.Reading.{read_more}
+use Rattle.byte_io.proofs.streams.read_watched.Goals as goal
 
 pub reads-preserved : goal.reads-preserved
 reads-preserved g c =

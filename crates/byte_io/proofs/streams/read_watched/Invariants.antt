@@ -1,6 +1,6 @@
 use Rattle.std.proofs.Common.{◌≡◌, ◌+◌, ◌-◌, ◌≤◌, length, take}
 use Rattle.std.specs.Io.KnownBytes.{Consumes}
-use Rattle.pdb_io.proofs.streams.read_watched.Given as goal
+use Rattle.byte_io.proofs.streams.read_watched.Given as goal
 
 -- what was read so far, within the limit, by at most one read a byte, none of which failed
 abbrev pub invariant-reads : goal.invariant-reads

@@ -1,7 +1,7 @@
 //! Named bytes.
 
 ghost use Rattle.std.specs.Prelude.{◌≡◌, ◌<◌, ◌≤◌, Option, Bool, Some, true, length, IfOk, OnOk, OnErr, IfSome, IsErrOf, IsSomeAnd};
-ghost use Rattle.pdb_io.specs.Shelf.{Files, KeepsOthers, told_with};
+ghost use Rattle.byte_io.specs.Shelf.{Files, KeepsOthers, told_with};
 
 use crate::streams::ReadFault;
 use std::alloc::{AllocError, Global};
@@ -16,7 +16,7 @@ pub enum KeepFault {
 }
 
 impl From<AllocError> for KeepFault {
-    ghost use Rattle.pdb_io.specs.declared.shelf.KeepFault.{KeepFault};
+    ghost use Rattle.byte_io.specs.declared.shelf.KeepFault.{KeepFault};
 
     ghost from_gives = { λ _ fault. fault ≡ KeepFault.Memory };
 

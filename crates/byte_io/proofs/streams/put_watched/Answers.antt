@@ -1,6 +1,6 @@
 use Rattle.std.proofs.Common.{◌≤◌, ◌+◌, length, arith, rules}
-use Rattle.pdb_io.proofs.Appending.{put_step}
-use Rattle.pdb_io.proofs.streams.put_watched.Goals as goal
+use Rattle.byte_io.proofs.Appending.{put_step}
+use Rattle.byte_io.proofs.streams.put_watched.Goals as goal
 
 pub loop-done-preserved : goal.loop-done-preserved
 loop-done-preserved g c =

@@ -1,6 +1,6 @@
 use Rattle.std.proofs.Common.{◌≡◌, ◌≤◌, ◌+◌, ◌-◌, length, take}
 use Rattle.std.specs.Io.KnownBytes.{Appends}
-use Rattle.pdb_io.proofs.streams.put_watched.Given as goal
+use Rattle.byte_io.proofs.streams.put_watched.Given as goal
 
 -- the bytes up to `done` were appended, by at most one write a byte, none of which failed
 abbrev pub invariant-loop-done : goal.invariant-loop-done

@@ -1,7 +1,7 @@
 use Rattle.std.proofs.Common.{arith, length-take-le, rules}
 use borrow.Rule.Slice.PartMut.{take_put}
-use Rattle.pdb_io.proofs.Reading.{read_in_place}
-use Rattle.pdb_io.proofs.streams.read_behind.Goals as goal
+use Rattle.byte_io.proofs.Reading.{read_in_place}
+use Rattle.byte_io.proofs.streams.read_behind.Goals as goal
 
 pub returns-clause-front : goal.returns-clause-front
 returns-clause-front g c = take_put _ _ c.args.bytes.now _ (omega (arith, c.requires))

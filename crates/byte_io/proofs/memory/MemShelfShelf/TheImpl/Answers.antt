@@ -1,6 +1,6 @@
 use Rattle.std.proofs.Common.{◌≡◌, Option, Result, Ok, Err, OnErr, option_map, ap, arith, rules}
-use Rattle.pdb_io.specs.Shelf.{Bytes, Files, KeepsOthers}
-use Rattle.pdb_io.proofs.memory.MemShelfShelf.TheImpl.Goals as goal
+use Rattle.byte_io.specs.Shelf.{Bytes, Files, KeepsOthers}
+use Rattle.byte_io.proofs.memory.MemShelfShelf.TheImpl.Goals as goal
 
 -- files that are the same keep the others
 others_kept : {T E : Type 0} (r : Result T E) (old new : Option Files) (name : Bytes) → OnErr r (new ≡ old) → OnErr r (KeepsOthers old new name)
