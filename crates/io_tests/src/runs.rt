@@ -5,12 +5,12 @@ use byte_io::memory::MemShelf;
 use byte_io::shelf::Shelf;
 use byte_io::streams::ReadFault;
 use pdb_run::{
-    Answer, BorrowedIo, Command, Digested, Input, Status, keep_and_conclude, lines, load_all,
+    Answer, BorrowedIo, Command, Digested, Input, Io, Status, keep_and_conclude, lines, load_all,
     read_inputs, read_inputs_and_try,
 };
 use sample_streams::{Failing, FailingShelf, SampleReader, SampleWriter, ShelfFault};
 use std::alloc::{AllocError, Global};
-use std::io::{ErrorKind, Write};
+use std::io::ErrorKind;
 use std::test::Fail;
 
 /// A command that wants one input of at most four bytes.
@@ -145,20 +145,9 @@ impl Command for Makes<'_> {
 }
 
 /// The beginning of its run.
-fn begin_making<S: Shelf, W: Write>(
-    alloc: Global,
-    out_name: &str,
-    shelf: &mut S,
-    out: &mut W,
-) -> Result<Vec<Vec<u8>>, Status> {
+fn begin_making<I: Io>(alloc: Global, out_name: &str, io: &mut I) -> Result<Vec<Vec<u8>>, Status> {
     let command = Makes { out: out_name };
-    let mut reader = b"".as_slice();
-    let mut io = BorrowedIo {
-        shelf,
-        reader: &mut reader,
-        out,
-    };
-    read_inputs_and_try(alloc, &command, out_name, &mut io)
+    read_inputs_and_try(alloc, &command, out_name, io)
 }
 
 #[test]
@@ -167,7 +156,13 @@ fn a_name_that_can_be_kept_under_lets_a_run_begin(rt: HostRuntime) -> Result<(),
     let mut shelf = MemShelf::of(alloc, &FILES)?;
     let mut out = SampleWriter::new(alloc);
     for name in ["a", "new"] {
-        let begun = begin_making(alloc, name, &mut shelf, &mut out);
+        let mut reader = b"".as_slice();
+        let mut io = BorrowedIo {
+            shelf: &mut shelf,
+            reader: &mut reader,
+            out: &mut out,
+        };
+        let begun = begin_making(alloc, name, &mut io);
         assert!(rt; begun.is_ok_and(|inputs| inputs.is_empty()));
     }
     assert!(rt; shelf.get("a") == Some(FILES[0].1) && shelf.get("new").is_none());
@@ -191,7 +186,13 @@ fn a_name_that_can_not_be_kept_under_ends_a_run(rt: HostRuntime) -> Result<(), F
     for (why, name, line, want) in cases {
         let mut shelf = FailingShelf::new(MemShelf::of(alloc, &FILES)?, 0, why);
         let mut out = SampleWriter::new(alloc);
-        let begun = begin_making(alloc, name, &mut shelf, &mut out);
+        let mut reader = b"".as_slice();
+        let mut io = BorrowedIo {
+            shelf: &mut shelf,
+            reader: &mut reader,
+            out: &mut out,
+        };
+        let begun = begin_making(alloc, name, &mut io);
         assert!(rt; begun.err() == Some(want) && out.taken() == line);
         assert!(rt; has_its_files(&shelf) && shelf.files().get("a b\n").is_none());
         assert_eq!(rt;
@@ -218,21 +219,14 @@ fn makes_abc<'i>(alloc: Global, is_yes: bool) -> Result<Answer<'i>, AllocError> 
 }
 
 /// The end of its run.
-fn conclude_making<S: Shelf, W: Write>(
+fn conclude_making<I: Io>(
     alloc: Global,
     out_name: &str,
     answer: &Result<Answer<'_>, AllocError>,
-    shelf: &mut S,
-    out: &mut W,
+    io: &mut I,
 ) -> Status {
     let command = Makes { out: out_name };
-    let mut reader = b"".as_slice();
-    let mut io = BorrowedIo {
-        shelf,
-        reader: &mut reader,
-        out,
-    };
-    keep_and_conclude(alloc, &command, answer, out_name, &mut io)
+    keep_and_conclude(alloc, &command, answer, out_name, io)
 }
 
 /// Whether a run wrote the digest lines of its last input and of what it made, and then this one.
@@ -248,7 +242,13 @@ fn a_file_that_was_made_is_kept_after_a_yes(rt: HostRuntime) -> Result<(), Fail>
     let alloc = rt.alloc();
     let mut shelf = MemShelf::of(alloc, &[("o", b"old"), ("p", b"other")])?;
     let mut out = SampleWriter::new(alloc);
-    let status = conclude_making(alloc, "o", &makes_abc(alloc, true), &mut shelf, &mut out);
+    let mut reader = b"".as_slice();
+    let mut io = BorrowedIo {
+        shelf: &mut shelf,
+        reader: &mut reader,
+        out: &mut out,
+    };
+    let status = conclude_making(alloc, "o", &makes_abc(alloc, true), &mut io);
     assert_eq!(rt; (status, out.calls()), (Status::Yes, 1));
     for (name, bytes) in [("o", b"abc".as_slice()), ("p", b"other")] {
         assert!(rt; shelf.get(name) == Some(bytes), "{name}");
@@ -262,7 +262,13 @@ fn a_file_is_kept_before_any_line(rt: HostRuntime) -> Result<(), Fail> {
     let alloc = rt.alloc();
     let mut shelf = MemShelf::of(alloc, &[])?;
     let mut out = SampleWriter::new(alloc).failing(0, u64::MAX, Failing::ByTakingNothing);
-    let status = conclude_making(alloc, "o", &makes_abc(alloc, true), &mut shelf, &mut out);
+    let mut reader = b"".as_slice();
+    let mut io = BorrowedIo {
+        shelf: &mut shelf,
+        reader: &mut reader,
+        out: &mut out,
+    };
+    let status = conclude_making(alloc, "o", &makes_abc(alloc, true), &mut io);
     assert_eq!(rt; status, Status::Fault);
     assert!(rt; out.taken().is_empty());
     assert!(rt; shelf.get("o") == Some(b"abc".as_slice()));
@@ -274,7 +280,13 @@ fn nothing_is_kept_after_a_no(rt: HostRuntime) -> Result<(), Fail> {
     let alloc = rt.alloc();
     let mut shelf = MemShelf::of(alloc, &[("o", b"old")])?;
     let mut out = SampleWriter::new(alloc);
-    let status = conclude_making(alloc, "o", &makes_abc(alloc, false), &mut shelf, &mut out);
+    let mut reader = b"".as_slice();
+    let mut io = BorrowedIo {
+        shelf: &mut shelf,
+        reader: &mut reader,
+        out: &mut out,
+    };
+    let status = conclude_making(alloc, "o", &makes_abc(alloc, false), &mut io);
     assert_eq!(rt; status, Status::Refused);
     assert!(rt; has_digests_and(out.taken(), b"refused T7\n"));
     assert!(rt; shelf.get("o") == Some(b"old".as_slice()));
@@ -286,7 +298,13 @@ fn nothing_is_kept_without_memory(rt: HostRuntime) -> Result<(), Fail> {
     let alloc = rt.alloc();
     let mut shelf = MemShelf::of(alloc, &[("o", b"old")])?;
     let mut out = SampleWriter::new(alloc);
-    let status = conclude_making(alloc, "o", &Err(AllocError), &mut shelf, &mut out);
+    let mut reader = b"".as_slice();
+    let mut io = BorrowedIo {
+        shelf: &mut shelf,
+        reader: &mut reader,
+        out: &mut out,
+    };
+    let status = conclude_making(alloc, "o", &Err(AllocError), &mut io);
     assert_eq!(rt; status, Status::NoMemory);
     assert!(rt; out.taken() == b"no memory\n".as_slice());
     assert!(rt; shelf.get("o") == Some(b"old".as_slice()));
@@ -309,7 +327,13 @@ fn a_keep_that_fails_is_said_alone(rt: HostRuntime) -> Result<(), Fail> {
     for (why, name, line, want) in cases {
         let mut shelf = FailingShelf::new(MemShelf::of(alloc, &FILES)?, 0, why);
         let mut out = SampleWriter::new(alloc);
-        let status = conclude_making(alloc, name, &makes_abc(alloc, true), &mut shelf, &mut out);
+        let mut reader = b"".as_slice();
+        let mut io = BorrowedIo {
+            shelf: &mut shelf,
+            reader: &mut reader,
+            out: &mut out,
+        };
+        let status = conclude_making(alloc, name, &makes_abc(alloc, true), &mut io);
         assert_eq!(rt; (status, out.calls()), (want, 1));
         assert!(rt; out.taken() == line);
         assert!(rt; has_its_files(&shelf) && shelf.files().get("a b\n").is_none());

@@ -2,7 +2,7 @@
 
 use byte_io::memory::MemShelf;
 use pdb_keep::{MakeTable, SearchNames, run_make_table, run_solve};
-use pdb_run::{BorrowedIo, Status};
+use pdb_run::{BorrowedIo, Io, Status};
 use pdb_verdict::{ClaimNames, Workers, run_bound, run_optimal, run_replay, run_table};
 use sample_streams::{FailingShelf, ShelfFault};
 use samples::files::{TILE_3, TILES_12};
@@ -37,20 +37,11 @@ enum Command {
 }
 
 /// The end of its run over a shelf, by one worker. What it makes is to be kept as `o`.
-fn ended<H: Threads + Wait + Sync>(
-    rt: &H,
-    alloc: Global,
+fn ended<H: Threads + Wait + Sync, I: Io>(
+    workers: &Workers<'_, H, OpenGate>,
     command: Command,
-    shelf: &mut FailingShelf,
-    out: &mut Vec<u8>,
+    io: &mut I,
 ) -> Status {
-    let workers = Workers::new(rt, alloc, 1, &OpenGate);
-    let mut reader = b"".as_slice();
-    let io = &mut BorrowedIo {
-        shelf,
-        reader: &mut reader,
-        out,
-    };
     let claim = ClaimNames {
         text: "board",
         sets: "sets",
@@ -59,15 +50,15 @@ fn ended<H: Threads + Wait + Sync>(
         fold: false,
     };
     match command {
-        Command::Replay => run_replay(alloc, Some("puzzle"), io),
-        Command::Table => run_table("f12", &workers, io),
-        Command::Bound => run_bound(claim, &workers, io),
+        Command::Replay => run_replay(workers.alloc, Some("puzzle"), io),
+        Command::Table => run_table("f12", workers, io),
+        Command::Bound => run_bound(claim, workers, io),
         Command::Optimal => {
             let names = ClaimNames {
                 text: "puzzle",
                 ..claim
             };
-            run_optimal(names, &workers, io)
+            run_optimal(names, workers, io)
         }
         Command::Solve => {
             let names = SearchNames {
@@ -77,7 +68,7 @@ fn ended<H: Threads + Wait + Sync>(
                 tables: &["f12", "f3"],
                 fold: false,
             };
-            run_solve(names, 1_000, &workers, io)
+            run_solve(names, 1_000, workers, io)
         }
         Command::MakeTable => {
             let pattern = MakeTable {
@@ -85,7 +76,7 @@ fn ended<H: Threads + Wait + Sync>(
                 mask: 6,
                 out: "o",
             };
-            run_make_table(pattern, &workers, io)
+            run_make_table(pattern, workers, io)
         }
     }
 }
@@ -100,8 +91,14 @@ fn expect_fault<H: Threads + Wait + Sync + Abort>(
     line: &[u8],
 ) -> Result<(), Fail> {
     let mut shelf = FailingShelf::new(MemShelf::of(alloc, &FILES)?, call, why);
+    let mut reader = b"".as_slice();
     let mut out = Vec::new(alloc);
-    let status = ended(rt, alloc, command, &mut shelf, &mut out);
+    let mut io = BorrowedIo {
+        shelf: &mut shelf,
+        reader: &mut reader,
+        out: &mut out,
+    };
+    let status = ended(&Workers::new(rt, alloc, 1, &OpenGate), command, &mut io);
     let want = match why {
         ShelfFault::Memory => Status::NoMemory,
         _ => Status::Fault,
