@@ -1,0 +1,6 @@
+//! What the words of the command line ask for: a type for each command, as plain data.
+#![tactic(auto)]
+
+mod requests;
+
+pub use requests::{Claim, LogCheck, MakeTable, Replay, Request, Search, TableCheck};

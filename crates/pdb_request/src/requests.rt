@@ -1,0 +1,90 @@
+//! What words ask for.
+
+/// What words ask for.
+#[derive(Debug, PartialEq, Drop)]
+pub enum Request<'a> {
+    /// `replay`.
+    Replay(Replay<'a>),
+    /// `table`.
+    TableCheck(TableCheck<'a>),
+    /// `bound` and `optimal`.
+    LogCheck(LogCheck<'a>),
+    /// `make-table`.
+    MakeTable(MakeTable<'a>),
+    /// `solve`.
+    Search(Search<'a>),
+}
+
+/// Whether the moves of a puzzle text solve its board.
+#[derive(Clone, Copy, Debug, PartialEq)]
+pub struct Replay<'a> {
+    /// The file of the puzzle text, or none for standard input.
+    pub puzzle: Option<&'a str>,
+}
+
+/// Whether a table file is exact.
+#[derive(Clone, Copy, Debug, PartialEq)]
+pub struct TableCheck<'a> {
+    pub file: &'a str,
+    /// How many workers check it: 1 to 64.
+    pub workers: u8,
+}
+
+/// What is claimed of a log.
+#[derive(Clone, Copy, Debug, PartialEq, Eq)]
+pub enum Claim {
+    /// That it proves a bound for the board of a board text.
+    Bound,
+    /// That it proves the moves of a puzzle text to be the fewest.
+    Optimum,
+}
+
+/// Whether a log proves what is claimed of it: the files that are read, by their names and in the order in which they are read.
+#[derive(Debug, PartialEq, Drop)]
+pub struct LogCheck<'a> {
+    pub claim: Claim,
+    /// What the log is to prove something of: a board text for a bound, a puzzle text for an optimum.
+    pub text: &'a str,
+    /// The sets of tables that the log sums over.
+    pub sets: &'a str,
+    pub log: &'a str,
+    /// The tables, in the order of their numbers: one or more.
+    pub tables: Vec<&'a str>,
+    /// How many workers check the tables and the log: 1 to 64.
+    pub workers: u8,
+    /// Whether each table is folded once it is checked.
+    pub fold: bool,
+}
+
+/// The table of a pattern, kept once it is found exact. Not every side and mask are a pattern.
+#[derive(Clone, Copy, Debug, PartialEq)]
+pub struct MakeTable<'a> {
+    /// Of the pattern's boards.
+    pub side: u8,
+    /// The pattern's tiles: bit t for tile t.
+    pub mask: u32,
+    /// The name under which the table is kept.
+    pub out: &'a str,
+    /// How many workers check it: 1 to 64.
+    pub workers: u8,
+}
+
+/// A shortest solution of a board, and the log that proves it shortest: the files that are read, by their names and in the order in
+/// which they are read, and the one that is kept.
+#[derive(Debug, PartialEq, Drop)]
+pub struct Search<'a> {
+    /// The board text.
+    pub board: &'a str,
+    /// The sets of tables that the log sums over.
+    pub sets: &'a str,
+    /// The name under which the log is kept.
+    pub out: &'a str,
+    /// The tables, in the order of their numbers: one or more.
+    pub tables: Vec<&'a str>,
+    /// How many workers check the tables and the log: 1 to 64.
+    pub workers: u8,
+    /// Whether each table is folded once it is checked.
+    pub fold: bool,
+    /// How many boards the search may expand: 1 to 1,000,000,000,000.
+    pub budget: u64,
+}
