@@ -2,7 +2,7 @@
 #![tactic(auto)]
 
 use byte_io::disk::DiskShelf;
-use pdb_program::{Host, start};
+use pdb_program::{Call, Host, start};
 use pdb_progress::Watch;
 use std::process::ExitCode;
 use std::{env, io};
@@ -19,17 +19,13 @@ fn main(rt: HostRuntime) -> ExitCode {
     let mut out = rt.stdout();
     let mut err = rt.stderr();
     let gate = Watch::asked_for(&rt);
-    let host = Host {
-        rt: &rt,
-        alloc: rt.alloc(),
-        gate: &gate,
+    let call = Call {
+        host: Host {
+            rt: &rt,
+            alloc: rt.alloc(),
+            gate: &gate,
+        },
+        arguments: arguments(&rt),
     };
-    ExitCode::from(start(
-        &host,
-        arguments(&rt),
-        &mut shelf,
-        &mut reader,
-        &mut out,
-        &mut err,
-    ))
+    ExitCode::from(start(call, &mut shelf, &mut reader, &mut out, &mut err))
 }

@@ -4,22 +4,24 @@ use Rattle.std.specs.Io.KnownBytes.{Appends}
 use Rattle.puz_board.specs.BoardTexts.{Spells}
 use Rattle.puz_board.specs.MovesTexts.{Solves}
 use Rattle.byte_io.specs.Shelf.{Bytes}
+use Rattle.pdb_request.specs.declared.requests.Claim.TheVariants.{Optimum}
 use Rattle.pdb_run.specs.Writing.{reply_text}
 use Rattle.pdb_run.specs.Commands.{Reply}
 use Rattle.pdb_run.specs.Inputs.{AreRead}
 use Rattle.pdb_run.specs.Runs.{Ends, World, kept, status_of_reply, with_kept}
 use Rattle.pdb_run.specs.declared.statuses.Status.TheVariants.{Yes, Refused}
 use Rattle.pdb_run.proofs.AnswerLemmas.{IsAnswered-ends}
+use Rattle.pdb_verdict.specs.Inputs.{log_files}
 use Rattle.pdb_verdict.specs.Optimal.{IsProvedOptimum}
 use Rattle.pdb_verdict.specs.Table.{IsExactFor, IsTableResult, exact_verdict}
 use Rattle.pdb_verdict.specs.declared.verdicts.Fault.TheVariants as fault
 use Rattle.pdb_verdict.specs.declared.verdicts.Verdict.{Verdict}
 use Rattle.pdb_verdict.specs.declared.verdicts.Verdict.TheVariants as verdict
-use Rattle.pdb_verdict.proofs.OptimumLemmas.{IsOptimumResult-proved, proved_least}
+use Rattle.pdb_verdict.proofs.ClaimLemmas.{IsClaimResult-proved, proved_least}
 use Rattle.pdb_verdict.proofs.RefusalLemmas.{told_yes}
 use Rattle.pdb_keep.specs.Kept.{IsLogKept, IsTableKept}
 use Rattle.pdb_keep.specs.MakeTable.{Build, IsBuildFor, SpeaksOf, built, make_table_plan, reply_to_build, unbuilt}
-use Rattle.pdb_keep.specs.Solve.{IsSearchOf, IsSolveReply, Search, puzzle_of, reply_to_search, searched, solve_inputs, solve_plan, unmade}
+use Rattle.pdb_keep.specs.Solve.{IsSearchOf, IsSolveReply, SearchOutcome, puzzle_of, reply_to_search, searched, solve_inputs, solve_plan, unmade}
 use Rattle.pdb_keep.proofs.MakerLemmas.{solved-moves}
 
 -- a no is no yes
@@ -62,14 +64,14 @@ module _ (side mask : ℕ) (out : Bytes) (old new : World) where
 
 module _ (fold : Bool) (text sets out : Bytes) (tables : List Bytes) (old new : World) where
   good_kept : (board_text set_text : Bytes) (files : List Bytes) → AreRead old.files old.reader (solve_inputs text sets tables) (board_text ∷ set_text ∷ files)
-      → (outcome : Search) → IsSearchOf fold board_text set_text files outcome → (reply_to_search files outcome).is_yes ≡ true
+      → (outcome : SearchOutcome) → IsSearchOf fold board_text set_text files outcome → (reply_to_search files outcome).is_yes ≡ true
       → new.files ≡ with_kept old.files (Some out) (kept (reply_to_search files outcome))
       → Appends old.written new.written (reply_text (reply_to_search files outcome)) → IsLogKept fold text sets out tables old new
   good_kept board_text set_text files read (unmade refused) is says_yes kept_file lines = absurd (let clash : false ≡ true = says_yes in cc)
   good_kept board_text set_text files read (searched moves log (Err refused)) is says_yes kept_file lines = absurd (let clash : false ≡ true = says_yes in cc)
   good_kept board_text set_text files read (searched moves log (Ok n)) is says_yes kept_file lines =
-      let proved : IsProvedOptimum fold (puzzle_of board_text moves) set_text log files n =
-      (IsOptimumResult-proved fold (puzzle_of board_text moves) set_text log files n).0 is.is_result in
+      let proved : IsProvedOptimum fold (log_files (puzzle_of board_text moves) set_text log files) n =
+      (IsClaimResult-proved Optimum fold (log_files (puzzle_of board_text moves) set_text log files) n).0 is.is_result in
       let parts = solved-moves board_text moves is.could.board n proved.solved is.could.spelt in
       record {
         moves = moves;
@@ -84,23 +86,22 @@ module _ (fold : Bool) (text sets out : Bytes) (tables : List Bytes) (old new : 
           spelt = subst (λ (t : Bytes). Spells t proved.solved.board) parts.0 proved.solved.spelt;
           solved = subst (λ (t : Bytes). Solves proved.solved.board t n) parts.1 proved.solved.solved;
           proved = proved.proved;
-          least = proved_least fold (puzzle_of board_text moves) set_text log files n proved;
+          least = proved_least fold (log_files (puzzle_of board_text moves) set_text log files) n proved;
         };
         kept = kept_file;
         lines = lines;
       }
 
-  by_inputs : (inputs : List Bytes) (reply : Reply) → AreRead old.files old.reader (solve_inputs text sets tables) inputs → IsSolveReply fold inputs reply → reply.is_yes ≡ true
+  by_reply : (inputs : List Bytes) (reply : Reply) → AreRead old.files old.reader (solve_inputs text sets tables) inputs → IsSolveReply fold inputs reply → reply.is_yes ≡ true
       → new.files ≡ with_kept old.files (Some out) (kept reply) → Appends old.written new.written (reply_text reply) → IsLogKept fold text sets out tables old new
-  by_inputs [] reply read is says_yes files lines = absurd is
-  by_inputs (board_text ∷ []) reply read is says_yes files lines = absurd is
-  by_inputs (board_text ∷ set_text ∷ table_files) reply read is says_yes files lines =
-      good_kept board_text set_text table_files read is.outcome is.is_outcome
-      (ap (λ (r : Reply). r.is_yes) (sym is.told) ∙ says_yes)
-      (subst (λ (r : Reply). new.files ≡ with_kept old.files (Some out) (kept r)) is.told files)
-      (subst (λ (r : Reply). Appends old.written new.written (reply_text r)) is.told lines)
+  by_reply inputs reply read is says_yes files lines =
+      let tells = is.4 in
+      good_kept is.0 is.1 is.2 (subst (AreRead old.files old.reader (solve_inputs text sets tables)) is.3 read) tells.outcome tells.is_outcome
+      (ap (λ (r : Reply). r.is_yes) (sym tells.told) ∙ says_yes)
+      (subst (λ (r : Reply). new.files ≡ with_kept old.files (Some out) (kept r)) tells.told files)
+      (subst (λ (r : Reply). Appends old.written new.written (reply_text r)) tells.told lines)
 
   pub log_kept : Ends (solve_plan fold text sets out tables) old new Yes → IsLogKept fold text sets out tables old new
   log_kept ends =
       let answered = IsAnswered-ends (solve_plan fold text sets out tables) old new Yes ends (inl refl) in
-      by_inputs answered.inputs answered.reply answered.right.0 answered.right.1 (no_is_no answered.reply.is_yes answered.is_status) answered.files answered.lines
+      by_reply answered.inputs answered.reply answered.right.0 answered.right.1 (no_is_no answered.reply.is_yes answered.is_status) answered.files answered.lines

@@ -1,11 +1,12 @@
 -- What comes of makers.
-use Rattle.std.proofs.Common.{◌≡◌, ◌∙◌, ℕ, suc, ◌+◌, ◌-◌, ◌<◌, ◌≤◌, Bool, true, false, List, [], ◌∷◌, ◌++◌, Option, Some, None, Result, Ok, Err, IfOk, length, map, drop, get_or, take, not, ◌||◌, ap, append_assoc, arith, inl, inr, length-append, refl, subst, sym}
-use Rattle.std.specs.Prelude.{◌==◌, MatchResult, Vec, slice_get, slice_range}
+use Rattle.std.proofs.Common.{◌≡◌, ◌∙◌, ℕ, suc, ◌+◌, ◌<◌, ◌≤◌, Bool, true, false, List, [], ◌∷◌, ◌++◌, Option, Some, None, Result, Ok, Err, IfOk, length, map, drop, get_or, not, ◌||◌, ap, append_assoc, arith, inl, inr, length-append, refl, subst, sym}
+use Rattle.std.specs.Prelude.{◌==◌, MatchResult}
 use Rattle.std.specs.Char.{is_ascii_digit}
+use Rattle.std.specs.declared.alloc.AllocError.{AllocError}
 use Rattle.std.specs.List.{cons_option}
 use Rattle.std.proofs.lemmas.Bool.{eqb-true}
 use Rattle.std.proofs.lemmas.Grind.{get_or_default_zero}
-use Rattle.std.proofs.lemmas.List.{drop_more, length-map, take_all}
+use Rattle.std.proofs.lemmas.List.{drop_more, length-map}
 use Rattle.puz_board.specs.BoardTexts.{Spells, is_separator, stray_byte}
 use Rattle.puz_board.specs.Boards.{side_of}
 use Rattle.puz_board.specs.Cells.{move_of_letter}
@@ -18,23 +19,25 @@ use Rattle.puz_board.proofs.SpellingLemmas.{stray_byte-numerals}
 use Rattle.puz_board.proofs.FirstLemmas.{fails_each}
 use Rattle.set_sum.specs.Bundles.{BundleView}
 use Rattle.byte_io.specs.Shelf.{Bytes}
-use Rattle.pdb_run.specs.Answers.{all_bytes}
+use Rattle.pdb_request.specs.declared.requests.Claim.TheVariants.{Bound, Optimum}
+use Rattle.pdb_run.specs.Answers.{IsAnswerBy}
+use Rattle.pdb_run.specs.declared.answers.Answer.{Answer}
 use Rattle.log_check.specs.declared.faults.LogFault.{LogFault}
 use Rattle.log_check.specs.declared.faults.LogFault.TheVariants as log_failure
 use Rattle.pdb_verdict.specs.Bound.{IsFoundOver, of_log}
 use Rattle.pdb_verdict.specs.Bundles.{IsBundleOfFiles, IsCauseForBundle}
-use Rattle.pdb_verdict.specs.Inputs.{table_file}
-use Rattle.pdb_verdict.specs.Optimal.{IsOptimumOver, IsResultOfPuzzle, of_halves}
+use Rattle.pdb_verdict.specs.Claims.{IsClaimOver, IsResultFrom, TakesMemoryForClaim, compared, start_of}
+use Rattle.pdb_verdict.specs.Inputs.{log_files, table_file}
 use Rattle.pdb_verdict.specs.Refusals.{or_failure, or_memory}
-use Rattle.pdb_verdict.specs.Replay.{IsSolvedPuzzle, solved_parts}
+use Rattle.pdb_verdict.specs.Replay.{IsSolvedPuzzle}
 use Rattle.pdb_verdict.specs.Table.{IsTableResult, IsTableTold, exact_verdict}
 use Rattle.pdb_verdict.specs.Verdicts.{IsAnswerTo}
 use Rattle.pdb_verdict.specs.declared.refusals.BundleRefusal.{BundleRefusal}
 use Rattle.pdb_verdict.specs.declared.refusals.Failure.{Failure}
 use Rattle.pdb_verdict.specs.declared.refusals.Failure.TheVariants.{Memory, Refused}
 use Rattle.pdb_verdict.specs.declared.refusals.GivenUp.{GivenUp}
-use Rattle.pdb_verdict.specs.declared.refusals.OptimalRefusal.{OptimalRefusal}
-use Rattle.pdb_verdict.specs.declared.refusals.OptimalRefusal.TheVariants.{Replay}
+use Rattle.pdb_verdict.specs.declared.refusals.ClaimRefusal.{ClaimRefusal}
+use Rattle.pdb_verdict.specs.declared.refusals.ClaimRefusal.TheVariants.{Text}
 use Rattle.pdb_verdict.specs.declared.refusals.ProofRefusal.TheVariants.{Log}
 use Rattle.pdb_verdict.specs.declared.refusals.ReplayRefusal.{ReplayRefusal}
 use Rattle.pdb_verdict.specs.declared.refusals.SearchRefusal.{SearchRefusal}
@@ -43,10 +46,10 @@ use Rattle.pdb_verdict.specs.declared.verdicts.Fault.{Fault}
 use Rattle.pdb_verdict.specs.declared.verdicts.Fault.TheVariants as fault
 use Rattle.pdb_verdict.specs.declared.verdicts.Verdict.{Verdict}
 use Rattle.pdb_verdict.proofs.BundleLemmas.{bundle_taken}
-use Rattle.pdb_verdict.proofs.OptimumLemmas.{IsOptimumResult-proved}
+use Rattle.pdb_verdict.proofs.ClaimLemmas.{IsClaimResult-proved, spelt_start}
 use Rattle.pdb_verdict.proofs.RefusalLemmas.{no_yes, told_yes}
 use Rattle.pdb_keep.specs.MakeTable.{IsOfAnother, SpeaksOf}
-use Rattle.pdb_keep.specs.Solve.{AreForBoard, IsMade, letter_of, letters_of, puzzle_of}
+use Rattle.pdb_keep.specs.Solve.{AreForBoard, IsMade, IsSolveReply, SolveTakesMemory, TellsSearch, letter_of, letters_of, puzzle_of}
 use Rattle.pdb_keep.specs.Steps.{HasItsMoves, IsCauseForSearch, IsMadeOver, unmade_for}
 use Rattle.pdb_keep.specs.declared.solutions.TheConstants.{MOST_LETTERS}
 
@@ -89,40 +92,40 @@ no_want {A = A} {R = R} (Err r) same = let e : ◌≡◌ {A = Result A (Failure 
 
 module _ (fold : Bool) (text sets : Bytes) (files : List Bytes) (bundle : BundleView) (is_bundle : IsBundleOfFiles fold files sets bundle) where
   -- the result over the bundle is that on its files
-  of_found : (log : Bytes) (board : List ℕ) (n : ℕ) (found : Result ℕ LogFault) (answer : Result ℕ OptimalRefusal) → IsFoundOver bundle board log found
-      → or_memory answer ≡ or_failure (of_halves n) (of_log found) → IsResultOfPuzzle fold (Ok (board, n)) sets log files answer
-  of_found log board n (Ok bound) answer is same =
-      (Ok bound, record { bundle = bundle; is_bundle = is_bundle; good = is }, or_memory-one answer (of_halves n (Ok bound)) same)
-  of_found log board n (Err (log_failure.Refused refused)) answer is same =
-      (Err (Log refused), record { bundle = bundle; is_bundle = is_bundle; fault = is }, or_memory-one answer (of_halves n (Err (Log refused))) same)
-  of_found log board n (Err log_failure.Memory) answer is same = absurd (no_want answer same)
+  of_found : (log : Bytes) (start : List ℕ × Option ℕ) (found : Result ℕ LogFault) (answer : Result ℕ ClaimRefusal) → IsFoundOver bundle start.0 log found
+      → or_memory answer ≡ or_failure (compared start.1) (of_log found) → IsResultFrom fold (Ok start) sets log files answer
+  of_found log start (Ok bound) answer is same =
+      (Ok bound, record { bundle = bundle; is_bundle = is_bundle; good = is }, or_memory-one answer (compared start.1 (Ok bound)) same)
+  of_found log start (Err (log_failure.Refused refused)) answer is same =
+      (Err (Log refused), record { bundle = bundle; is_bundle = is_bundle; fault = is }, or_memory-one answer (compared start.1 (Err (Log refused))) same)
+  of_found log start (Err log_failure.Memory) answer is same = absurd (no_want answer same)
 
-  of_puzzle : (log : Bytes) (r : Result (List ℕ × ℕ) ReplayRefusal) (answer : Result ℕ OptimalRefusal) → IsOptimumOver bundle r log (or_memory answer)
-      → IsResultOfPuzzle fold r sets log files answer
-  of_puzzle log (Err refused) answer is = or_memory-one answer (Err (Replay refused)) is
-  of_puzzle log (Ok solved) answer is = of_found log solved.0 solved.1 is.0 answer is.1 is.2
+  of_start : (log : Bytes) (r : Result (List ℕ × Option ℕ) ReplayRefusal) (answer : Result ℕ ClaimRefusal) → IsClaimOver bundle r log (or_memory answer)
+      → IsResultFrom fold r sets log files answer
+  of_start log (Err refused) answer is = or_memory-one answer (Err (Text refused)) is
+  of_start log (Ok start) answer is = of_found log start is.0 answer is.1 is.2
 
   module _ (board : List ℕ) (spelt : Spells text board) (one_side : side_of board ≡ bundle.side) where
     searchable : AreForBoard fold board sets files
     searchable = record { bundle = bundle; is_bundle = is_bundle; one_side = one_side }
 
     -- what is made over the bundle of files is made of them
-    pub made_over : (moves log : Bytes) (answer : Result ℕ OptimalRefusal) → IsMadeOver bundle text moves log answer → IsMade fold text sets files moves log answer
+    pub made_over : (moves log : Bytes) (answer : Result ℕ ClaimRefusal) → IsMadeOver bundle text moves log answer → IsMade fold text sets files moves log answer
     made_over moves log answer is = record {
       could = record { board = board; spelt = spelt; are_for = searchable };
-      is_result = of_puzzle log (solved_parts (puzzle_parts (puzzle_of text moves))) answer is;
+      is_result = of_start log (start_of Optimum (puzzle_of text moves)) answer is;
     }
 
     -- so is what is given up
     pub given_up : (failure : Failure GivenUp) → IsCauseForSearch fold text sets files (unmade_for unmade_refusal.GivenUp failure)
     given_up (Refused why) = record { board = board; spelt = spelt; unmade = searchable }
-    given_up Memory = record { board = board; spelt = spelt; tables_take = bundle_taken fold files sets bundle is_bundle }
+    given_up Memory = record { start = (board, None); is_start = spelt_start text board spelt; tables_take = bundle_taken fold files sets bundle is_bundle }
 
 -- why there is no bundle is why no log is made
 pub no_bundle : (fold : Bool) (text sets : Bytes) (files : List Bytes) (board : List ℕ) → Spells text board → (failure : Failure BundleRefusal) → IsCauseForBundle fold files sets failure
     → IsCauseForSearch fold text sets files (unmade_for unmade_refusal.Bundle failure)
 no_bundle fold text sets files board spelt (Refused refused) is = record { board = board; spelt = spelt; unmade = is }
-no_bundle fold text sets files board spelt Memory is = record { board = board; spelt = spelt; tables_take = is }
+no_bundle fold text sets files board spelt Memory is = record { start = (board, None); is_start = spelt_start text board spelt; tables_take = is }
 
 -- ---- the puzzle text of a search
 
@@ -170,47 +173,33 @@ letters-length text moves board n solved spelt =
     ∙ solved.solved.count
 
 -- an optimum is the number of the moves that were made
-has_its_moves : (fold : Bool) (text sets moves log : Bytes) (tables : List Bytes) (answer : Result ℕ OptimalRefusal) → IsMade fold text sets tables moves log answer → HasItsMoves moves answer
+has_its_moves : (fold : Bool) (text sets moves log : Bytes) (tables : List Bytes) (answer : Result ℕ ClaimRefusal) → IsMade fold text sets tables moves log answer → HasItsMoves moves answer
 has_its_moves fold text sets moves log tables (Ok n) is =
-    let proved = (IsOptimumResult-proved fold (puzzle_of text moves) sets log tables n).0 is.is_result in
+    let proved = (IsClaimResult-proved Optimum fold (log_files (puzzle_of text moves) sets log tables) n).0 is.is_result in
     letters-length text moves is.could.board n proved.solved is.could.spelt
 has_its_moves fold text sets moves log tables (Err refused) is = tt
 
 -- so it is where a search finds one
-pub made_moves : {A : Type 0} (moves log : A → Bytes) (result : A → Result ℕ OptimalRefusal) (fold : Bool) (text sets : Bytes) (tables : List Bytes) (r : Result A (Failure SearchRefusal))
+pub made_moves : {A : Type 0} (moves log : A → Bytes) (result : A → Result ℕ ClaimRefusal) (fold : Bool) (text sets : Bytes) (tables : List Bytes) (r : Result A (Failure SearchRefusal))
     → MatchResult r (λ made. IsMade fold text sets tables (moves made) (log made) (result made)) (IsCauseForSearch fold text sets tables)
     → IfOk r (λ made. HasItsMoves (moves made) (result made))
 made_moves moves log result fold text sets tables (Ok made) is = has_its_moves fold text sets (moves made) (log made) tables (result made) is
 made_moves moves log result fold text sets tables (Err cause) is = tt
 
--- ---- inputs
+-- ---- what is told of a search
 
--- the first two of a row, and what is behind them
-pub inputs_order : {A : Type 0} (f : A → Bytes) (xs : List A) (a b : A) → 2 ≤ length xs → a ≡ get_or xs 0 a → b ≡ get_or xs 1 b
-    → map f xs ≡ f a ∷ f b ∷ map f (slice_range xs 2 (length xs))
-inputs_order f [] a b some is_a is_b = absurd (omega arith)
-inputs_order f (x ∷ []) a b some is_a is_b = absurd (omega arith)
-inputs_order f (x ∷ y ∷ rest) a b some is_a is_b =
-    let all : take (length (x ∷ y ∷ rest) - 2) rest ≡ rest = take_all (length (x ∷ y ∷ rest) - 2) rest (omega arith) in
-    let first = sym is_a in
-    let second = sym is_b in
-    let behind = sym all in
-    λ i. f (first i) ∷ f (second i) ∷ map f (behind i)
+-- the same text, sets and tables
+pub same_search : (fold : Bool) (text text' sets sets' : Bytes) (tables tables' : List Bytes) (told : Result Answer AllocError) → text ≡ text' → sets ≡ sets' → tables ≡ tables'
+    → IsAnswerBy (TellsSearch fold text sets tables) (TakesMemoryForClaim Bound text tables) told
+    → IsAnswerBy (TellsSearch fold text' sets' tables') (TakesMemoryForClaim Bound text' tables') told
+same_search fold text text' sets sets' tables tables' told t s ts says =
+    subst (λ (of : Bytes × Bytes × List Bytes). IsAnswerBy (TellsSearch fold of.0 of.1 of.2) (TakesMemoryForClaim Bound of.0 of.2) told) (λ i. (t i, s i, ts i)) says
 
--- the first two, where each was taken out in turn
-pub taken_order : {Z : Type 0} (xs ys rest : List (Vec ℕ Z)) (a b : Vec ℕ Z) (text sets : Bytes) → xs ≡ a ∷ ys → ys ≡ b ∷ rest → text ≡ a.items → sets ≡ b.items
-    → all_bytes xs ≡ text ∷ sets ∷ all_bytes rest
-taken_order xs ys rest a b text sets xs_are ys_are text_is sets_is =
-    let first = sym text_is in
-    let second = sym sets_is in
-    ap all_bytes (xs_are ∙ ap (λ r. a ∷ r) ys_are) ∙ (λ i. first i ∷ second i ∷ all_bytes rest)
-
--- the first of them spells the board
-pub first_spelt : (inputs : List Bytes) (text sets : Bytes) (tables : List Bytes) (board : List ℕ) → inputs ≡ text ∷ sets ∷ tables
-    → (t : Bytes) × (slice_get inputs 0 ≡ Some t) × Spells t board → Spells text board
-first_spelt inputs text sets tables board order start =
-    let same : start.0 ≡ text = (let e : Some start.0 ≡ Some text = sym start.1 ∙ ap (λ files. slice_get files 0) order in cc) in
-    subst (λ t. Spells t board) same start.2
+-- an answer on what was read is one on the inputs
+pub search_answered : (fold : Bool) (inputs : List Bytes) (text sets : Bytes) (tables : List Bytes) (told : Result Answer AllocError) → inputs ≡ text ∷ sets ∷ tables
+    → IsAnswerBy (TellsSearch fold text sets tables) (TakesMemoryForClaim Bound text tables) told → IsAnswerBy (IsSolveReply fold inputs) (SolveTakesMemory inputs) told
+search_answered fold inputs text sets tables (Ok answer) are says = (says.0, (text, sets, tables, are, says.1), says.2)
+search_answered fold inputs text sets tables (Err refused) are takes = (text, sets, tables, are, takes)
 
 -- ---- letters, byte by byte
 

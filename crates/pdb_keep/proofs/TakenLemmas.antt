@@ -6,6 +6,7 @@ use Rattle.std.specs.Io.KnownBytes.{Appends}
 use Rattle.std.specs.Str.{bytes_eq}
 use Rattle.std.proofs.lemmas.Slice.Eq.{bytes_eq-Decides}
 use Rattle.byte_io.specs.Shelf.{Bytes, Files, told_with, with_file}
+use Rattle.pdb_request.specs.declared.requests.Claim.TheVariants.{Bound}
 use Rattle.pdb_run.specs.Writing.{reply_text}
 use Rattle.pdb_run.specs.Commands.{Reply}
 use Rattle.pdb_run.specs.Inputs.{AreRead, IsReadFrom}
@@ -13,10 +14,12 @@ use Rattle.pdb_run.specs.Runs.{Ends, World, status_of_reply}
 use Rattle.pdb_run.specs.declared.statuses.Status.{Status}
 use Rattle.pdb_run.specs.declared.statuses.Status.TheVariants.{Yes, Refused}
 use Rattle.pdb_run.proofs.AnswerLemmas.{IsAnswered-ends}
-use Rattle.pdb_verdict.specs.Bound.{IsBoundReply, IsBoundTold, bound_inputs, bound_plan}
-use Rattle.pdb_verdict.specs.Inputs.{bound_claim}
+use Rattle.pdb_verdict.specs.Bound.{IsBoundOfText}
+use Rattle.pdb_verdict.specs.Inputs.{LogFiles, files_of, log_claim, log_files}
 use Rattle.pdb_verdict.specs.Limits.{a_table}
 use Rattle.pdb_verdict.specs.Lines.{reply_to}
+use Rattle.pdb_verdict.specs.Plans.{IsCheckReply, log_check_inputs, log_check_plan}
+use Rattle.pdb_verdict.specs.Verdicts.{TellsResult}
 use Rattle.pdb_verdict.specs.declared.verdicts.Verdict.TheVariants as verdict
 use Rattle.pdb_verdict.proofs.VerdictLemmas.{IsResult-one, IsResult-true}
 use Rattle.pdb_keep.specs.Kept.{IsLogKept}
@@ -69,33 +72,33 @@ module _ (fold : Bool) (text sets out : Bytes) (tables : List Bytes) (before : F
   has : later.files ≡ Some (with_file before out kept.log)
   has = same ∙ kept.kept ∙ ap (λ (files : Option Files). told_with files out kept.log) had
 
-  proved_reply : (reply : Reply) → IsBoundReply fold (kept.found.board_text ∷ kept.found.set_text ∷ kept.log ∷ kept.files) reply
-      → reply ≡ reply_to (bound_claim fold kept.found.board_text kept.found.set_text kept.log kept.files) (Ok (verdict.Bound kept.n))
-  proved_reply reply is =
+  -- the files that are read are those of the log that was kept
+  same_files : (files : LogFiles) → AreRead later.files later.reader (log_check_inputs text sets out tables) (files_of (log_claim Bound fold files))
+      → files ≡ log_files kept.found.board_text kept.found.set_text kept.log kept.files
+  same_files files read =
       let f = kept.found in
-      let claim = bound_claim fold f.board_text f.set_text kept.log kept.files in
-      let proved : IsBoundTold fold f.board_text f.set_text kept.log kept.files (Ok (verdict.Bound kept.n)) =
-      (IsResult-true claim (verdict.Bound kept.n)).1 (record { board = f.board; spelt = f.spelt; proved = f.proved }) in
-      is.told ∙ ap (reply_to claim) (IsResult-one claim is.answer (Ok (verdict.Bound kept.n)) is.is_answer proved)
+      let same_text = other_read out before old.files later.files kept.log had has old.reader later.reader text f.board_text files.text not_text f.read.0.0 read.0.0 in
+      let same_sets = other_read out before old.files later.files kept.log had has old.reader later.reader sets f.set_text files.sets not_sets f.read.1.0.0 read.1.0.0 in
+      let same_log = log_read out before old.files later.files kept.log had has later.reader files.log read.1.1.0.0 in
+      let same_tables = tables_read out before old.files later.files kept.log had has old.reader later.reader tables kept.files files.tables not_tables f.read.1.1 read.1.1.1 in
+      λ i. log_files (same_text i) (same_sets i) (same_log i) (same_tables i)
 
-  by_inputs : (inputs : List Bytes) (reply : Reply) → AreRead later.files later.reader (bound_inputs text sets out tables) inputs → IsBoundReply fold inputs reply
-      → reply ≡ reply_to (bound_claim fold kept.found.board_text kept.found.set_text kept.log kept.files) (Ok (verdict.Bound kept.n))
-  by_inputs [] reply read is = absurd is
-  by_inputs (t ∷ []) reply read is = absurd is
-  by_inputs (t ∷ s ∷ []) reply read is = absurd is
-  by_inputs (t ∷ s ∷ l ∷ ts) reply read is =
+  proved_reply : (inputs : List Bytes) (reply : Reply) → AreRead later.files later.reader (log_check_inputs text sets out tables) inputs → IsCheckReply (log_claim Bound fold) inputs reply
+      → reply ≡ reply_to (log_claim Bound fold (log_files kept.found.board_text kept.found.set_text kept.log kept.files)) (Ok (verdict.Bound kept.n))
+  proved_reply inputs reply read is =
       let f = kept.found in
-      let same_text = other_read out before old.files later.files kept.log had has old.reader later.reader text f.board_text t not_text f.read.0.0 read.0.0 in
-      let same_sets = other_read out before old.files later.files kept.log had has old.reader later.reader sets f.set_text s not_sets f.read.1.0.0 read.1.0.0 in
-      let same_log = log_read out before old.files later.files kept.log had has later.reader l read.1.1.0.0 in
-      let same_tables = tables_read out before old.files later.files kept.log had has old.reader later.reader tables kept.files ts not_tables f.read.1.1 read.1.1.1 in
-      let all : (t ∷ s ∷ l ∷ ts) ≡ (f.board_text ∷ f.set_text ∷ kept.log ∷ kept.files) = λ i. same_text i ∷ same_sets i ∷ same_log i ∷ same_tables i in
-      proved_reply reply (subst (λ (inputs : List Bytes). IsBoundReply fold inputs reply) all is)
+      let files = log_files f.board_text f.set_text kept.log kept.files in
+      let claim = log_claim Bound fold files in
+      let same = same_files is.0 (subst (AreRead later.files later.reader (log_check_inputs text sets out tables)) is.1 read) in
+      let tells : TellsResult claim reply = subst (λ (read : LogFiles). TellsResult (log_claim Bound fold read) reply) same is.2 in
+      let is_bound : IsBoundOfText fold files kept.n = record { board = f.board; spelt = f.spelt; proved = f.proved } in
+      let proved = (IsResult-true claim (verdict.Bound kept.n)).1 (kept.n, is_bound, refl) in
+      tells.told ∙ ap (reply_to claim) (IsResult-one claim tells.answer (Ok (verdict.Bound kept.n)) tells.is_result proved)
 
-  taken_by : Ends (bound_plan fold text sets out tables) later new status → (status ≡ Yes) ⊎ (status ≡ Refused) → IsTaken fold text sets out tables old mid later new status
+  taken_by : Ends (log_check_plan Bound fold text sets out tables) later new status → (status ≡ Yes) ⊎ (status ≡ Refused) → IsTaken fold text sets out tables old mid later new status
   taken_by ends how =
-      let a = IsAnswered-ends (bound_plan fold text sets out tables) later new status ends how in
-      let reply = by_inputs a.inputs a.reply a.right.0 a.right.1 in
+      let a = IsAnswered-ends (log_check_plan Bound fold text sets out tables) later new status ends how in
+      let reply = proved_reply a.inputs a.reply a.right.0 a.right.1 in
       record {
         kept = kept;
         is_yes = a.is_status ∙ ap (λ (r : Reply). status_of_reply r.is_yes) reply;
@@ -105,7 +108,7 @@ module _ (fold : Bool) (text sets out : Bytes) (tables : List Bytes) (before : F
 -- a check of what a search has kept says yes, and the number that the search said
 pub log_taken : (fold : Bool) (text sets out : Bytes) (tables : List Bytes) (before : Files) (old mid later new : World) (status : Status)
     → out ≢ text → out ≢ sets → AllByRecursion (λ name. out ≢ name) tables → old.files ≡ Some before → Ends (solve_plan fold text sets out tables) old mid Yes
-    → later.files ≡ mid.files → Ends (bound_plan fold text sets out tables) later new status → (status ≡ Yes) ⊎ (status ≡ Refused)
+    → later.files ≡ mid.files → Ends (log_check_plan Bound fold text sets out tables) later new status → (status ≡ Yes) ⊎ (status ≡ Refused)
     → IsTaken fold text sets out tables old mid later new status
 log_taken fold text sets out tables before old mid later new status not_text not_sets not_tables had solved same ends how =
     taken_by fold text sets out tables before old mid later new status not_text not_sets not_tables had same (log_kept fold text sets out tables old mid solved) ends how

@@ -4,12 +4,13 @@ use Rattle.std.specs.Io.KnownBytes.{Appends}
 use Rattle.std.specs.List.{AllByRecursion}
 use Rattle.puz_board.specs.MovesTexts.{Solves}
 use Rattle.byte_io.specs.Shelf.{Bytes, Files}
+use Rattle.pdb_request.specs.declared.requests.Claim.TheVariants.{Bound}
 use Rattle.pdb_run.specs.Writing.{digests_of}
 use Rattle.pdb_run.specs.Runs.{Ends, World}
 use Rattle.pdb_run.specs.declared.statuses.Status.{Status}
 use Rattle.pdb_run.specs.declared.statuses.Status.TheVariants.{Yes, Refused}
-use Rattle.pdb_verdict.specs.Bound.{bound_plan}
 use Rattle.pdb_verdict.specs.Lines.{counted}
+use Rattle.pdb_verdict.specs.Plans.{log_check_plan}
 use Rattle.pdb_keep.specs.Kept.{IsLogKept, IsTableKept}
 use Rattle.pdb_keep.specs.MakeTable.{make_table_plan}
 use Rattle.pdb_keep.specs.Solve.{letters_of, moves_line, solve_plan}
@@ -54,5 +55,5 @@ KeptLogsAreTaken =
     (fold : Bool) (text sets out : Bytes) (tables : List Bytes) (before : Files) (old mid later new : World) (status : Status) →
     out ≢ text → out ≢ sets → AllByRecursion (λ name. out ≢ name) tables →
     old.files ≡ Some before → Ends (solve_plan fold text sets out tables) old mid Yes →
-    later.files ≡ mid.files → Ends (bound_plan fold text sets out tables) later new status → (status ≡ Yes) ⊎ (status ≡ Refused) →
+    later.files ≡ mid.files → Ends (log_check_plan Bound fold text sets out tables) later new status → (status ≡ Yes) ⊎ (status ≡ Refused) →
     IsTaken fold text sets out tables old mid later new status

@@ -10,19 +10,21 @@ use Rattle.puz_board.specs.declared.moves.Move.{Move}
 use Rattle.puz_board.specs.declared.moves.Move.TheVariants.{Up, Down, Left, Right}
 use Rattle.set_sum.specs.Bundles.{BundleView}
 use Rattle.byte_io.specs.Shelf.{Bytes}
+use Rattle.pdb_request.specs.Asked.{file_names}
+use Rattle.pdb_request.specs.declared.requests.Claim.TheVariants.{Bound, Optimum}
+use Rattle.pdb_request.specs.declared.requests.Search.{Search}
 use Rattle.pdb_run.specs.Commands.{Plan, Reply, Wanted, plan_under}
-use Rattle.pdb_verdict.specs.Bound.{TakesMemoryForBound}
 use Rattle.pdb_verdict.specs.Bundles.{AreRefused, IsBundleOfFiles}
+use Rattle.pdb_verdict.specs.Claims.{IsClaimResult, TakesMemoryForClaim}
+use Rattle.pdb_verdict.specs.Inputs.{log_files}
 use Rattle.pdb_verdict.specs.Limits.{a_table, a_text}
 use Rattle.pdb_verdict.specs.Lines.{counted, line_of_fault}
-use Rattle.pdb_verdict.specs.Optimal.{IsOptimumResult}
-use Rattle.pdb_verdict.specs.Refusals.{fault_of_optimal, fault_of_search}
-use Rattle.pdb_verdict.specs.declared.refusals.OptimalRefusal.{OptimalRefusal}
+use Rattle.pdb_verdict.specs.Refusals.{fault_of_claim, fault_of_search}
+use Rattle.pdb_verdict.specs.declared.refusals.ClaimRefusal.{ClaimRefusal}
 use Rattle.pdb_verdict.specs.declared.refusals.SearchRefusal.{SearchRefusal}
 use Rattle.pdb_verdict.specs.declared.refusals.SearchRefusal.TheVariants.{Board, Unmade}
 use Rattle.pdb_verdict.specs.declared.refusals.UnmadeRefusal.{UnmadeRefusal}
 use Rattle.pdb_verdict.specs.declared.refusals.UnmadeRefusal.TheVariants.{Bundle, GivenUp, L4}
-use Rattle.pdb_keep.specs.declared.solve.SearchNames.{SearchNames}
 
 -- ---- before a log is made
 
@@ -69,9 +71,9 @@ abbrev pub puzzle_of : Bytes → Bytes → Bytes
 puzzle_of text moves = text ++ 59 ∷ moves
 
 -- a search could begin, and the answer is the result on its moves and its log
-pub record IsMade (fold : Bool) (text sets : Bytes) (tables : List Bytes) (moves log : Bytes) (answer : Result ℕ OptimalRefusal) : Type 0 where
+pub record IsMade (fold : Bool) (text sets : Bytes) (tables : List Bytes) (moves log : Bytes) (answer : Result ℕ ClaimRefusal) : Type 0 where
   pub could : IsSearchable fold text sets tables
-  pub is_result : IsOptimumResult fold (puzzle_of text moves) sets log tables answer
+  pub is_result : IsClaimResult Optimum fold (log_files (puzzle_of text moves) sets log tables) answer
 
 -- ---- what is told of it
 
@@ -92,28 +94,28 @@ moves_line [] = codes "moves\n"
 moves_line (letter ∷ letters) = codes "moves " ++ (letter ∷ letters ++ codes "\n")
 
 -- of an optimum the moves come before its line
-abbrev pub lines_on : Bytes → Result ℕ OptimalRefusal → Bytes
+abbrev pub lines_on : Bytes → Result ℕ ClaimRefusal → Bytes
 lines_on moves (Ok n) = moves_line (letters_of moves) ++ counted (codes "optimal ") n
-lines_on moves (Err refused) = line_of_fault (fault_of_optimal refused)
+lines_on moves (Err refused) = line_of_fault (fault_of_claim refused)
 
 -- what comes of a search: a refusal, or moves, a log, and the result on them
-pub data Search : Type 0 where
-  unmade : SearchRefusal → Search
-  searched : Bytes → Bytes → Result ℕ OptimalRefusal → Search
+pub data SearchOutcome : Type 0 where
+  unmade : SearchRefusal → SearchOutcome
+  searched : Bytes → Bytes → Result ℕ ClaimRefusal → SearchOutcome
 
 -- on this board text, this set text and these table files
-abbrev pub IsSearchOf : Bool → Bytes → Bytes → List Bytes → Search → Type 0
+abbrev pub IsSearchOf : Bool → Bytes → Bytes → List Bytes → SearchOutcome → Type 0
 IsSearchOf fold text sets tables (unmade refused) = IsUnmade fold text sets tables refused
 IsSearchOf fold text sets tables (searched moves log answer) = IsMade fold text sets tables moves log answer
 
 -- the digests of the tables, and of the log where one was made, and then the lines
-abbrev pub reply_to_search : List Bytes → Search → Reply
+abbrev pub reply_to_search : List Bytes → SearchOutcome → Reply
 reply_to_search tables (unmade refused) = record { digested = tables; made = None; lines = line_of_fault (fault_of_search refused); is_yes = false }
 reply_to_search tables (searched moves log answer) = record { digested = tables; made = Some log; lines = lines_on moves answer; is_yes = is_ok answer }
 
 -- a reply tells what comes of a search
 pub record TellsSearch (fold : Bool) (text sets : Bytes) (tables : List Bytes) (reply : Reply) : Type 0 where
-  pub outcome : Search
+  pub outcome : SearchOutcome
   pub is_outcome : IsSearchOf fold text sets tables outcome
   pub told : reply ≡ reply_to_search tables outcome
 
@@ -125,18 +127,18 @@ solve_inputs text sets tables = a_text (Some text) ∷ a_text (Some sets) ∷ ma
 
 -- what comes of a search on them is told
 abbrev pub IsSolveReply : Bool → List Bytes → Reply → Type 0
-IsSolveReply fold (text ∷ sets ∷ tables) reply = TellsSearch fold text sets tables reply
-IsSolveReply fold inputs reply = ⊥
+IsSolveReply fold inputs reply =
+    (text : Bytes) × (sets : Bytes) × (tables : List Bytes) × (inputs ≡ text ∷ sets ∷ tables) × TellsSearch fold text sets tables reply
 
 -- it takes memory to check the tables of a board that is spelt, and so to search over them
 abbrev pub SolveTakesMemory : List Bytes → Type 0
-SolveTakesMemory (text ∷ sets ∷ tables) = TakesMemoryForBound text tables
-SolveTakesMemory inputs = ⊥
+SolveTakesMemory inputs =
+    (text : Bytes) × (sets : Bytes) × (tables : List Bytes) × (inputs ≡ text ∷ sets ∷ tables) × TakesMemoryForClaim Bound text tables
 
 -- for any budget and any number of workers
 abbrev pub solve_plan : Bool → Bytes → Bytes → Bytes → List Bytes → Plan
 solve_plan fold text sets out tables = plan_under (Some out) (solve_inputs text sets tables) (IsSolveReply fold) SolveTakesMemory
 
--- the same under the names that the code has
-abbrev pub search_plan : SearchNames → Plan
-search_plan names = solve_plan names.fold names.board.now names.sets.now names.out.now (map (λ name. name.now) names.tables.now)
+-- the same of a search as the code has it
+abbrev pub plan_of_search : Search → Plan
+plan_of_search search = solve_plan search.fold search.board.now search.sets.now search.out.now (file_names search.tables.items)

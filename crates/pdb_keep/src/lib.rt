@@ -4,9 +4,10 @@
 
 mod laws;
 mod make_table;
+mod search_inputs;
 mod solutions;
 mod solve;
 
 pub use laws::{kept_logs_prove_optima, kept_tables_are_exact};
-pub use make_table::{MakeTable, run_make_table};
-pub use solve::{SearchNames, run_solve};
+pub use make_table::run_make_table;
+pub use solve::run_solve;

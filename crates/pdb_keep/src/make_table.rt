@@ -8,6 +8,7 @@ ghost use Rattle.pdb_keep.specs.MakeTable.{ArePattern, IsBuilt, SpeaksOf, TellsB
 ghost use Rattle.pdb_keep.specs.Steps.{IsCauseForBuild};
 
 use pat_place::Pattern;
+use pdb_request::MakeTable;
 use pdb_run::{
     Answer, Command, Digested, Digests, Input, Io, Status, keep_and_conclude, read_inputs_and_try,
 };
@@ -21,19 +22,12 @@ use std::sync::Wait;
 use std::thread::Threads;
 use work_run::Gate;
 
-/// The command `make-table`: the table of this side and this mask, under this name.
+/// The making of a table, as a command.
 #[derive(Clone, Copy)]
-pub struct MakeTable<'n> {
-    /// Of the pattern's boards.
-    pub side: u8,
-    /// The pattern's tiles: bit t for tile t.
-    pub mask: u32,
-    /// Under which the table is kept.
-    pub out: &'n str,
-}
+struct Making<'n>(MakeTable<'n>);
 
-impl Command for MakeTable<'_> {
-    ghost plan = { λ command. make_table_plan command.side command.mask command.out.now };
+impl Command for Making<'_> {
+    ghost plan = { λ command. make_table_plan command.0.side command.0.mask command.0.out.now };
 
     fn inputs(&self, alloc: Global) -> Result<Vec<Input<'_>>, AllocError> {
         Ok(Vec::new(alloc))
@@ -44,19 +38,19 @@ impl Command for MakeTable<'_> {
 /// tried before the table is made.
 #[inline(never)] // so that the stack has the values of one command alone
 pub fn run_make_table<H: Threads + Wait + Sync, G: Gate + Sync, I: Io>(
-    command: MakeTable<'_>,
+    asked: &MakeTable<'_>,
     workers: &Workers<'_, H, G>,
     io: &mut I,
 ) -> Status
     ensures same_streams { I.streams io.new ≡ I.streams io.old }
-    ensures ends { let asked = command.entry in
-        let plan = make_table_plan asked.side asked.mask asked.out.now in
+    ensures ends { let plan = make_table_plan asked.now.side asked.now.mask asked.now.out.now in
         Ends plan (I.world io.old) (I.world io.new) result }
 {
-    match read_inputs_and_try(workers.alloc, &command, command.out, io) {
+    let command = Making(*asked);
+    match read_inputs_and_try(workers.alloc, &command, asked.out, io) {
         Ok(_inputs) => {
-            let answer = answer_make_table(command.side, command.mask, workers);
-            keep_and_conclude(workers.alloc, &command, &answer, command.out, io)
+            let answer = answer_make_table(asked.side, asked.mask, workers);
+            keep_and_conclude(workers.alloc, &command, &answer, asked.out, io)
         }
         Err(status) => status,
     }

@@ -1,30 +1,28 @@
 //! Searches for a shortest solution, and keeps the log that proves it shortest once both are checked.
 
-ghost use Rattle.std.specs.Prelude.{◌≡◌, ◌≤◌, ◌+◌, ◌∷◌, ℕ, Bool, true, List, [], Some, length, option_map, slice_get, IfErr, IfOk, IfSome, MatchResult};
+ghost use Rattle.std.specs.Prelude.{◌≡◌, ◌≤◌, ◌∷◌, Bool, true, List, ℕ, [], length, option_map, IfErr, IfOk, IfSome, MatchResult};
 ghost use Rattle.puz_board.specs.BoardTexts.{Spells};
 ghost use Rattle.puz_board.specs.Boards.{side_of};
-ghost use Rattle.puz_board.specs.PuzzleTexts.{puzzle_parts};
+ghost use Rattle.pdb_request.specs.declared.requests.Claim.TheVariants.{Bound, Optimum};
 ghost use Rattle.pdb_run.specs.Writing.{digests_of};
 ghost use Rattle.pdb_run.specs.Answers.{IsAnswerBy, IsReplyOf, all_bytes, digest_lines};
-ghost use Rattle.pdb_run.specs.Io.{HasRead};
-ghost use Rattle.pdb_run.specs.Runs.{Ends, World};
-ghost use Rattle.pdb_verdict.specs.Bound.{TakesMemoryForBound};
+ghost use Rattle.pdb_run.specs.Runs.{Ends};
 ghost use Rattle.pdb_verdict.specs.Bundles.{IsBundleOfFiles, IsCauseForBundle};
-ghost use Rattle.pdb_verdict.specs.Optimal.{IsOptimumOver};
-ghost use Rattle.pdb_verdict.specs.Replay.{solved_parts};
-ghost use Rattle.pdb_keep.specs.Solve.{IsMade, IsSolveReply, SolveTakesMemory, TellsSearch, puzzle_of, reply_to_search, search_plan, searched, unmade};
-ghost use Rattle.pdb_keep.specs.Steps.{HasItsMoves, IsCauseForSearch, IsMadeOver, unmade_for};
+ghost use Rattle.pdb_verdict.specs.Claims.{IsClaimOver, TakesMemoryForClaim, start_of};
+ghost use Rattle.pdb_keep.specs.Solve.{IsMade, TellsSearch, plan_of_search, puzzle_of, reply_to_search, searched, unmade};
+ghost use Rattle.pdb_keep.specs.Steps.{HasItsMoves, IsCauseForSearch, IsMadeOver, IsSearchAnswer, unmade_for};
 ghost use Rattle.pdb_verdict.specs.declared.refusals.UnmadeRefusal.TheVariants as unmade_refusal;
 
+use crate::search_inputs::{SearchInputs, Searching};
 use crate::solutions::lines_on;
+use pdb_request::Search;
 use pdb_run::{
-    Answer, Command, Digested, Digests, FILES_BESIDE, Input, Io, Status, beside, keep_and_conclude,
+    Answer, Digested, Digests, FILES_BESIDE, Io, Status, beside, keep_and_conclude,
     read_inputs_and_try,
 };
 use pdb_verdict::{
-    BundleRefusal, Failure, GivenUp, OptimalRefusal, SearchRefusal, Tables, UnmadeRefusal, Workers,
-    a_text, fault_of_search, fold_bundle, line_of, optimum_over, push_tables, read_bundle,
-    take_first,
+    BundleRefusal, ClaimRefusal, Failure, GivenUp, SearchRefusal, Tables, UnmadeRefusal, Workers,
+    fault_of_search, fold_bundle, line_of, optimum_over, read_bundle,
 };
 use puz_board::Board;
 use puz_make::{Found, MakeFault, solve};
@@ -34,122 +32,80 @@ use std::sync::Wait;
 use std::thread::Threads;
 use work_run::Gate;
 
-/// How many inputs of a search come before its tables: a board text and a set text.
-const BEFORE_TABLES: usize = 2;
-
-/// The names that a search speaks of, and how its tables are held.
-#[derive(Clone, Copy)]
-pub struct SearchNames<'t, 'n> {
-    /// Of a board text.
-    pub board: &'n str,
-    /// Of a set text.
-    pub sets: &'n str,
-    /// Under which the log is kept.
-    pub out: &'n str,
-    /// Of table files, which are numbered from 0.
-    pub tables: &'t [&'n str],
-    /// Whether each table is folded once it is checked.
-    pub fold: bool,
-}
-
-/// The command `solve`: a shortest solution of the board under this name, and the log that proves it shortest.
-#[derive(Clone, Copy)]
-struct Solve<'t, 'n> {
-    names: SearchNames<'t, 'n>,
-}
-
-impl Command for Solve<'_, '_> {
-    ghost plan = { λ command. search_plan command.names };
-
-    fn inputs(&self, alloc: Global) -> Result<Vec<Input<'_>>, AllocError> {
-        let mut inputs = Vec::new(alloc);
-        inputs.push(a_text(Some(self.names.board)))?;
-        inputs.push(a_text(Some(self.names.sets)))?;
-        push_tables(&mut inputs, self.names.tables)?;
-        Ok(inputs)
-    }
-}
-
-/// A whole run of `solve`, whoever checks the tables and the log: at most `budget` boards are expanded, and the log is kept
+/// A whole run of `solve`, whoever checks the tables and the log: at most its budget of boards is expanded, and the log is kept
 /// once it and the moves are found to prove an optimum. That something can be kept there is tried before anything is checked.
 #[inline(never)] // so that the stack has the values of one command alone
 pub fn run_solve<H: Threads + Wait + Sync, G: Gate + Sync, I: Io>(
-    names: SearchNames<'_, '_>,
-    budget: u64,
+    search: &Search<'_>,
     workers: &Workers<'_, H, G>,
     io: &mut I,
 ) -> Status
     ensures same_streams { I.streams io.new ≡ I.streams io.old }
-    ensures ends { Ends (search_plan names.entry) (I.world io.old) (I.world io.new) result }
+    ensures ends { Ends (plan_of_search search.now) (I.world io.old) (I.world io.new) result }
 {
-    let command = Solve { names };
-    let inputs = match read_inputs_and_try(workers.alloc, &command, names.out, io) {
-        Ok(inputs) => inputs,
+    let command = Searching(search);
+    let files = match read_inputs_and_try(workers.alloc, &command, search.out, io) {
+        Ok(inputs) => SearchInputs::of(inputs),
         Err(status) => return status,
     };
-    if names.fold {
-        return conclude_folded(&command, inputs, budget, workers, io);
+    match board_to_fold(search, &files) {
+        Some(board) => {
+            let answer = answer_folded(&board, files, search.budget, workers);
+            keep_and_conclude(workers.alloc, &command, &answer, search.out, io)
+        }
+        None => {
+            let answer = answer_solve(&files, search.fold, search.budget, workers);
+            keep_and_conclude(workers.alloc, &command, &answer, search.out, io)
+        }
     }
-    let answer = answer_solve(inputs.as_slice(), false, budget, workers);
-    keep_and_conclude(workers.alloc, &command, &answer, names.out, io)
 }
 
-/// The end of a run with folded tables. The bytes of each table are given up in turn, so that the search runs beside the folded
-/// tables alone.
-#[inline(never)] // so that a run with full tables hasn't its values on the stack
-fn conclude_folded<H: Threads + Wait + Sync, G: Gate + Sync, I: Io>(
-    command: &Solve<'_, '_>,
-    inputs: Vec<Vec<u8>>,
-    budget: u64,
-    workers: &Workers<'_, H, G>,
-    io: &mut I,
-) -> Status
-    requires count { 2 ≤ length inputs.items }
-    requires folds { command.now.names.fold ≡ true }
-    ensures same_streams { I.streams io.new ≡ I.streams io.old }
-    ensures ends { let plan = search_plan command.now.names in
-        (old : World) → HasRead plan.inputs old (I.world io.old) (all_bytes inputs.items)
-        → Ends plan old (I.world io.new) result }
+/// The board of a search with folded tables. There is none of a text that is refused, nor of more tables than a bundle has.
+fn board_to_fold(search: &Search<'_>, files: &SearchInputs) -> Option<Board>
+    ensures folds { IfSome result (λ _. search.now.fold ≡ true) }
+    ensures few { IfSome result (λ _. length files.now.tables.items ≤ FILES_BESIDE) }
+    ensures board { IfSome result (λ board. Spells files.now.text.items board) }
 {
-    let mut inputs = inputs;
-    let Some(board) = board_of(inputs.as_slice()) else {
-        let answer = answer_solve(inputs.as_slice(), true, budget, workers);
-        return keep_and_conclude(workers.alloc, command, &answer, command.names.out, io);
-    };
-    let text = take_first(&mut inputs);
-    let sets = take_first(&mut inputs);
-    let (text, sets) = (text.as_slice(), sets.as_slice());
-    let (digests, bundle) = fold_bundle(inputs, sets, workers);
-    let outcome = search_in(bundle, &board, text, budget, workers);
-    let answer = answer_of(Digested::Lines(digests), outcome);
-    keep_and_conclude(workers.alloc, command, &answer, command.names.out, io)
-}
-
-/// The board of a search. There is none of a text that is refused, nor of more tables than a bundle has.
-fn board_of(inputs: &[Vec<u8>]) -> Option<Board>
-    requires { 2 ≤ length inputs.now }
-    ensures few { IfSome result (λ _. length inputs.now ≤ BEFORE_TABLES + FILES_BESIDE) }
-    ensures board { IfSome result (λ board.
-        (text : List ℕ) × (slice_get (all_bytes inputs.now) 0 ≡ Some text) × Spells text board) }
-{
-    if inputs.len() > BEFORE_TABLES + FILES_BESIDE {
+    if !search.fold || files.tables.len() > FILES_BESIDE {
         return None;
     }
-    Board::read(inputs[0].as_slice()).ok()
+    match Board::read(files.text.as_slice()) {
+        Ok(board) => Some(board),
+        Err(_) => None,
+    }
 }
 
-/// The answer on the bytes of the inputs. Want of memory never comes of a board that is refused.
+/// The answer of a search over folded tables. The bytes of each table are given up in turn, so that the search runs beside the
+/// folded tables alone.
+#[inline(never)] // so that a run with full tables hasn't its values on the stack
+fn answer_folded<'i, H: Threads + Wait + Sync, G: Gate + Sync>(
+    board: &Board,
+    files: SearchInputs,
+    budget: u64,
+    workers: &Workers<'_, H, G>,
+) -> Result<Answer<'i>, AllocError>
+    requires few { length files.tables.items ≤ FILES_BESIDE }
+    requires spelt { Spells files.text.items board.now }
+    ensures { IsSearchAnswer true files result }
+{
+    let SearchInputs { text, sets, tables } = files;
+    let (text, sets) = (text.as_slice(), sets.as_slice());
+    let (digests, bundle) = fold_bundle(tables, sets, workers);
+    let outcome = search_in(bundle, board, text, budget, workers);
+    answer_of(Digested::Lines(digests), outcome)
+}
+
+/// The answer of a search over the tables as they were read. Want of memory never comes of a board that is refused.
 fn answer_solve<'i, H: Threads + Wait + Sync, G: Gate + Sync>(
-    inputs: &'i [Vec<u8>],
+    files: &'i SearchInputs,
     fold: bool,
     budget: u64,
     workers: &Workers<'_, H, G>,
 ) -> Result<Answer<'i>, AllocError>
-    requires { 2 ≤ length inputs.now }
-    ensures { let files = all_bytes inputs.now in
-        IsAnswerBy (IsSolveReply fold files) (SolveTakesMemory files) result }
+    ensures { IsSearchAnswer fold files.now result }
 {
-    let (text, sets, files) = (inputs[0].as_slice(), inputs[1].as_slice(), &inputs[2..]);
+    let (text, sets) = (files.text.as_slice(), files.sets.as_slice());
+    let files = files.tables.as_slice();
     let tables = Tables { files, fold };
     let (digests, outcome) = search_beside(text, sets, tables, budget, workers);
     answer_of(digested_by(files, digests), outcome)
@@ -177,7 +133,8 @@ fn answer_of<'i>(
         → MatchResult outcome
         (λ made. IsMade fold text sets tables made.moves.items made.log.items made.answer)
         (IsCauseForSearch fold text sets tables)
-        → IsAnswerBy (TellsSearch fold text sets tables) (TakesMemoryForBound text tables) result }
+        → IsAnswerBy (TellsSearch fold text sets tables)
+        (TakesMemoryForClaim Bound text tables) result }
 {
     match outcome {
         Ok(made) => Ok(answer_on(digested, made)),
@@ -222,7 +179,7 @@ struct Made {
     moves: Vec<u8>,
     log: Vec<u8>,
     digest: Option<Digests>,
-    answer: Result<u8, OptimalRefusal>,
+    answer: Result<u8, ClaimRefusal>,
     ghost digested: { option_map (λ d. d.items) digest
         ≡ option_map (λ _. digests_of (log.items ∷ [])) digest },
 }
@@ -365,14 +322,14 @@ fn log_beside<H: Threads + Wait + Sync, G: Gate + Sync>(
     puzzle: &[u8],
     log: &[u8],
     workers: &Workers<'_, H, G>,
-) -> (Option<Digests>, Result<u8, Failure<OptimalRefusal>>)
+) -> (Option<Digests>, Result<u8, Failure<ClaimRefusal>>)
     ensures digest { IfSome result.0 (λ digest. digest.items ≡ digests_of (log.now ∷ [])) }
-    ensures answer { let parts = solved_parts (puzzle_parts puzzle.now) in
-        IsOptimumOver bundle.now parts log.now result.1 }
+    ensures answer { let start = start_of Optimum puzzle.now in
+        IsClaimOver bundle.now start log.now result.1 }
 {
-    let check = || -> Result<u8, Failure<OptimalRefusal>>
-        ensures { let parts = solved_parts (puzzle_parts puzzle.entry.now) in
-            IsOptimumOver bundle.entry.now parts log.entry.now result }
+    let check = || -> Result<u8, Failure<ClaimRefusal>>
+        ensures { let start = start_of Optimum puzzle.entry.now in
+            IsClaimOver bundle.entry.now start log.entry.now result }
     { optimum_over(bundle, puzzle, log, workers) };
     beside(workers.rt, workers.count, &[], Some(log), check)
 }

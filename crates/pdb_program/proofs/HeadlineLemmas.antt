@@ -5,32 +5,31 @@ use Rattle.std.specs.Io.KnownBytes.{Appends}
 use Rattle.std.specs.Option.{option_map_or}
 use Rattle.std.proofs.lemmas.List.{append-nil, append_cancel_left}
 use Rattle.std.proofs.lemmas.Slice.Eq.{bytes_eq-Decides}
+use Rattle.tab_file.specs.Tables.{Table}
+use Rattle.tab_rule.specs.ExactTables.{IsExactFile}
 use Rattle.byte_io.specs.Shelf.{Bytes, Files, told_with, with_file}
+use Rattle.pdb_request.specs.Asked.{Asked, log_check, make_table, replay, solve, table}
+use Rattle.pdb_request.specs.declared.requests.Claim.TheVariants.{Bound, Optimum}
 use Rattle.pdb_run.specs.Writing.{digest_line, digests_of, reply_text}
-use Rattle.pdb_run.specs.Commands.{Reply}
+use Rattle.pdb_run.specs.Commands.{Reply, Wanted}
 use Rattle.pdb_run.specs.Inputs.{AreRead, IsReadFrom}
 use Rattle.pdb_run.specs.Runs.{IsAnswered, World, status_of_reply}
 use Rattle.pdb_run.specs.Statuses.{status_number}
 use Rattle.pdb_run.specs.declared.statuses.Status.{Status}
 use Rattle.pdb_run.specs.declared.statuses.Status.TheVariants.{Yes, Refused, Fault, NoMemory}
-use Rattle.pdb_verdict.specs.Bound.{IsBoundReply, bound_inputs}
-use Rattle.pdb_verdict.specs.Inputs.{Given, bound_claim, optimum_claim, puzzle_text, table_file}
-use Rattle.pdb_verdict.specs.Limits.{a_table}
+use Rattle.pdb_verdict.specs.Inputs.{Given, files_of, log_claim, puzzle_text, table_file}
+use Rattle.pdb_verdict.specs.Limits.{a_table, a_text}
 use Rattle.pdb_verdict.specs.Lines.{counted, digested_of, exact_line, line_of_verdict, reply_to}
-use Rattle.pdb_verdict.specs.Optimal.{IsOptimumReply, optimum_inputs}
-use Rattle.pdb_verdict.specs.Replay.{IsReplayReply, replay_inputs}
-use Rattle.pdb_verdict.specs.Table.{IsTableReply, table_inputs}
+use Rattle.pdb_verdict.specs.Plans.{IsCheckReply, log_check_inputs}
 use Rattle.pdb_verdict.specs.Verdicts.{HoldsOfSolutions, IsTrueOf}
 use Rattle.pdb_verdict.specs.declared.verdicts.Verdict.{Verdict}
-use Rattle.pdb_verdict.specs.declared.verdicts.Verdict.TheVariants as verdict
 use Rattle.pdb_verdict.proofs.ToldLemmas.{told_no, told_yes}
 use Rattle.pdb_keep.specs.Kept.{IsLogKept, IsTableKept}
 use Rattle.pdb_keep.specs.Laws.{told_moves}
 use Rattle.pdb_keep.specs.Solve.{letters_of, moves_line}
 use Rattle.pdb_keep.proofs.LetterLemmas.{told_solution}
-use Rattle.pdb_words.specs.Asked.{Asked, bound, make_table, optimal, replay, solve, table}
 use Rattle.pdb_words.specs.CommandLine.{Parses, asked_of}
-use Rattle.pdb_program.specs.Headline.{EndWith, Headline, HoldsOfNo, HoldsOfYes}
+use Rattle.pdb_program.specs.Headline.{EndWith, Headline, HoldsOfYes}
 use Rattle.pdb_program.specs.Programs.{HasKept, IsNumberOfStatus, plan_of}
 
 -- ---- digest lines are whole lines
@@ -105,81 +104,21 @@ module _ (old new : World) (before after : Bytes → Option Bytes) (input start 
     last : (inputs : Given) (v : Verdict) → reply ≡ reply_to inputs (Ok v) → EndWith (line_of_verdict v) lines
     last inputs v is = (digests_of (digested_of inputs), whole-digests (digested_of inputs), is_told ∙ ap reply_text is)
 
-    module _ (is_yes : reply.is_yes ≡ true) where
-      solution : (name : Option Bytes) (puzzle : Bytes) → IsReadFrom old.files old.reader name puzzle → (v : Verdict) → IsTrueOf (puzzle_text puzzle) v
-          → EndWith (line_of_verdict v) lines → HoldsOfYes (replay name) before after input lines
-      solution name puzzle read (verdict.Solution n) is ends = (puzzle, n, given name puzzle read, ends, is)
-      solution name puzzle read (verdict.Exact side mask census) is ends = absurd is
-      solution name puzzle read (verdict.Bound n) is ends = absurd is
-      solution name puzzle read (verdict.Optimal n) is ends = absurd is
-
-      replayed : (name : Option Bytes) (inputs : List Bytes) → AreRead old.files old.reader (replay_inputs name) inputs → IsReplayReply inputs reply
-          → HoldsOfYes (replay name) before after input lines
-      replayed name [] read is = absurd is
-      replayed name (puzzle ∷ []) read is =
-          let yes = told_yes (puzzle_text puzzle) reply is is_yes in
-          solution name puzzle read.0.0 yes.verdict yes.is_true (last (puzzle_text puzzle) yes.verdict yes.told)
-      replayed name (puzzle ∷ more ∷ rest) read is = absurd is
-
-      exact : (name : Bytes) (workers : ℕ) (file : Bytes) → before name ≡ Some file → (v : Verdict) → IsTrueOf (table_file file) v
-          → EndWith (line_of_verdict v) lines → HoldsOfYes (table name workers) before after input lines
-      exact name workers file there (verdict.Solution n) is ends = absurd is
-      exact name workers file there (verdict.Exact side mask census) is ends =
-          (file, is.table, mask, census, there, subst (λ (n : ℕ). EndWith (exact_line n mask census) lines) is.is_side ends, is.mask_low, sym is.is_mask, is.exact)
-      exact name workers file there (verdict.Bound n) is ends = absurd is
-      exact name workers file there (verdict.Optimal n) is ends = absurd is
-
-      checked : (name : Bytes) (workers : ℕ) (inputs : List Bytes) → AreRead old.files old.reader (table_inputs name) inputs → IsTableReply inputs reply
-          → HoldsOfYes (table name workers) before after input lines
-      checked name workers [] read is = absurd is
-      checked name workers (file ∷ []) read is =
-          let yes = told_yes (table_file file) reply is is_yes in
-          exact name workers file (under name file read.0.0) yes.verdict yes.is_true (last (table_file file) yes.verdict yes.told)
-      checked name workers (file ∷ more ∷ rest) read is = absurd is
-
-      module _ (name sets log : Bytes) (tables : List Bytes) (workers : ℕ) (fold : Bool) where
-        bounded : (text set_text log_file : Bytes) (files : List Bytes) → before name ≡ Some text → (v : Verdict)
-            → IsTrueOf (bound_claim fold text set_text log_file files) v → HoldsOfSolutions (bound_claim fold text set_text log_file files) v
-            → EndWith (line_of_verdict v) lines → HoldsOfYes (bound name sets log tables workers fold) before after input lines
-        bounded text set_text log_file files there (verdict.Solution n) is holds ends = absurd is
-        bounded text set_text log_file files there (verdict.Exact side mask census) is holds ends = absurd is
-        bounded text set_text log_file files there (verdict.Bound n) is holds ends = (text, holds.board, n, there, holds.spelt, ends, holds.bounded)
-        bounded text set_text log_file files there (verdict.Optimal n) is holds ends = absurd is
-
-        bound_told : (inputs : List Bytes) → AreRead old.files old.reader (bound_inputs name sets log tables) inputs → IsBoundReply fold inputs reply
-            → HoldsOfYes (bound name sets log tables workers fold) before after input lines
-        bound_told [] read is = absurd is
-        bound_told (text ∷ []) read is = absurd is
-        bound_told (text ∷ set_text ∷ []) read is = absurd is
-        bound_told (text ∷ set_text ∷ log_file ∷ files) read is =
-            let claim = bound_claim fold text set_text log_file files in
-            let yes = told_yes claim reply is is_yes in
-            bounded text set_text log_file files (under name text read.0.0) yes.verdict yes.is_true yes.holds (last claim yes.verdict yes.told)
-
-        least : (puzzle set_text log_file : Bytes) (files : List Bytes) → before name ≡ Some puzzle → (v : Verdict)
-            → IsTrueOf (optimum_claim fold puzzle set_text log_file files) v → HoldsOfSolutions (optimum_claim fold puzzle set_text log_file files) v
-            → EndWith (line_of_verdict v) lines → HoldsOfYes (optimal name sets log tables workers fold) before after input lines
-        least puzzle set_text log_file files there (verdict.Solution n) is holds ends = absurd is
-        least puzzle set_text log_file files there (verdict.Exact side mask census) is holds ends = absurd is
-        least puzzle set_text log_file files there (verdict.Bound n) is holds ends = absurd is
-        least puzzle set_text log_file files there (verdict.Optimal n) is holds ends = (puzzle, n, holds.solved, there, ends, holds.least.bounded)
-
-        optimum_told : (inputs : List Bytes) → AreRead old.files old.reader (optimum_inputs name sets log tables) inputs → IsOptimumReply fold inputs reply
-            → HoldsOfYes (optimal name sets log tables workers fold) before after input lines
-        optimum_told [] read is = absurd is
-        optimum_told (puzzle ∷ []) read is = absurd is
-        optimum_told (puzzle ∷ set_text ∷ []) read is = absurd is
-        optimum_told (puzzle ∷ set_text ∷ log_file ∷ files) read is =
-            let claim = optimum_claim fold puzzle set_text log_file files in
-            let yes = told_yes claim reply is is_yes in
-            least puzzle set_text log_file files (under name puzzle read.0.0) yes.verdict yes.is_true yes.holds (last claim yes.verdict yes.told)
+    -- a yes on inputs that were read
+    checked : {A : Type 0} (wanted : List Wanted) (given_of : A → Given) (inputs : List Bytes) → AreRead old.files old.reader wanted inputs
+        → (is : IsCheckReply given_of inputs reply) → reply.is_yes ≡ true
+        → (v : Verdict) × AreRead old.files old.reader wanted (files_of (given_of is.0)) × IsTrueOf (given_of is.0) v × HoldsOfSolutions (given_of is.0) v
+        × EndWith (line_of_verdict v) lines
+    checked wanted given_of inputs read is is_yes =
+        let yes = told_yes (given_of is.0) reply is.2 is_yes in
+        (yes.verdict, subst (AreRead old.files old.reader wanted) is.1 read, yes.is_true, yes.holds, last (given_of is.0) yes.verdict yes.told)
 
     -- a table that is told a no is not exact
-    not_exact : (name : Bytes) (workers : ℕ) (inputs : List Bytes) → AreRead old.files old.reader (table_inputs name) inputs → IsTableReply inputs reply → reply.is_yes ≡ false
-        → HoldsOfNo (table name workers) before
-    not_exact name workers [] read is is_no = absurd is
-    not_exact name workers (file ∷ []) read is is_no = (file, under name file read.0.0, told_no file reply is is_no)
-    not_exact name workers (file ∷ more ∷ rest) read is is_no = absurd is
+    not_exact : (name : Bytes) (inputs : List Bytes) → AreRead old.files old.reader (a_table name ∷ []) inputs → IsCheckReply table_file inputs reply → reply.is_yes ≡ false
+        → (file : Bytes) × (before name ≡ Some file) × ((t : Table) → ¬ IsExactFile t file)
+    not_exact name inputs read is is_no =
+        let there = subst (AreRead old.files old.reader (a_table name ∷ [])) is.1 read in
+        (is.0, under name is.0 there.0.0, told_no is.0 reply is.2 is_no)
 
   -- ---- commands that make
 
@@ -226,23 +165,38 @@ module _ (old new : World) (before after : Bytes → Option Bytes) (input start 
 
   -- ---- all commands
 
+  -- a verdict's line under another name
+  ended : (v w : Verdict) → v ≡ w → EndWith (line_of_verdict v) lines → EndWith (line_of_verdict w) lines
+  ended v w same = subst (λ (x : Verdict). EndWith (line_of_verdict x) lines) same
+
   yes_by : (asked : Asked) → IsAnswered (plan_of asked) old new Yes → HasKept asked old new → HoldsOfYes asked before after input lines
-  yes_by (replay name) a kept = replayed a.reply (told _ a.lines) (says_yes a.reply.is_yes a.is_status) name a.inputs a.right.0 a.right.1
-  yes_by (table name workers) a kept = checked a.reply (told _ a.lines) (says_yes a.reply.is_yes a.is_status) name workers a.inputs a.right.0 a.right.1
-  yes_by (bound board sets log tables workers fold) a kept =
-      bound_told a.reply (told _ a.lines) (says_yes a.reply.is_yes a.is_status) board sets log tables workers fold a.inputs a.right.0 a.right.1
-  yes_by (optimal puzzle sets log tables workers fold) a kept =
-      optimum_told a.reply (told _ a.lines) (says_yes a.reply.is_yes a.is_status) puzzle sets log tables workers fold a.inputs a.right.0 a.right.1
+  yes_by (replay name) a kept =
+      let puzzle = a.right.1.0 in
+      let all = checked a.reply (told _ a.lines) (a_text name ∷ []) puzzle_text a.inputs a.right.0 a.right.1 (says_yes a.reply.is_yes a.is_status) in
+      (puzzle, all.2.0, given name puzzle all.1.0.0, ended all.0 _ all.2.2 all.4, all.2.1)
+  yes_by (table name workers) a kept =
+      let file = a.right.1.0 in
+      let all = checked a.reply (told _ a.lines) (a_table name ∷ []) table_file a.inputs a.right.0 a.right.1 (says_yes a.reply.is_yes a.is_status) in
+      let is = all.2.1 in
+      let mask = all.2.0.1 in
+      let census = all.2.0.2 in
+      let ends = subst (λ (n : ℕ). EndWith (exact_line n mask census) lines) is.is_side (ended all.0 _ all.2.2 all.4) in
+      (file, is.table, mask, census, under name file all.1.0.0, ends, is.mask_low, sym is.is_mask, is.exact)
+  yes_by (log_check Bound name sets log tables workers fold) a kept =
+      let text = a.right.1.0.text in
+      let all = checked a.reply (told _ a.lines) (log_check_inputs name sets log tables) (log_claim Bound fold) a.inputs a.right.0 a.right.1 (says_yes a.reply.is_yes a.is_status) in
+      let holds = all.3.1 in
+      (text, holds.board, all.3.0, under name text all.1.0.0, holds.spelt, ended all.0 _ all.3.2 all.4, holds.bounded)
+  yes_by (log_check Optimum name sets log tables workers fold) a kept =
+      let puzzle = a.right.1.0.text in
+      let all = checked a.reply (told _ a.lines) (log_check_inputs name sets log tables) (log_claim Optimum fold) a.inputs a.right.0 a.right.1 (says_yes a.reply.is_yes a.is_status) in
+      let holds = all.3.1 in
+      (puzzle, all.3.0, holds.solved, under name puzzle all.1.0.0, ended all.0 _ all.3.2 all.4, holds.least.bounded)
   yes_by (make_table side mask out workers) a kept = made side mask out workers kept
   yes_by (solve board sets out tables workers fold budget) a kept = found board sets out tables workers fold budget kept
 
-  no_by : (asked : Asked) → IsAnswered (plan_of asked) old new Refused → HoldsOfNo asked before
-  no_by (replay name) a = tt
-  no_by (table name workers) a = not_exact a.reply (told _ a.lines) name workers a.inputs a.right.0 a.right.1 (says_no a.reply.is_yes a.is_status)
-  no_by (bound board sets log tables workers fold) a = tt
-  no_by (optimal puzzle sets log tables workers fold) a = tt
-  no_by (make_table side mask out workers) a = tt
-  no_by (solve board sets out tables workers fold budget) a = tt
+  no_by : (name : Bytes) (workers : ℕ) → IsAnswered (plan_of (table name workers)) old new Refused → (file : Bytes) × (before name ≡ Some file) × ((t : Table) → ¬ IsExactFile t file)
+  no_by name workers a = not_exact a.reply (told _ a.lines) name a.inputs a.right.0 a.right.1 (says_no a.reply.is_yes a.is_status)
 
   module _ (asked : Asked) (number : ℕ) where
     yes_of : IsNumberOfStatus (IsAnswered (plan_of asked) old new) number → number ≡ 0 → HasKept asked old new → HoldsOfYes asked before after input lines
@@ -251,9 +205,9 @@ module _ (old new : World) (before after : Bytes → Option Bytes) (input start 
     yes_of (Fault, e, answered) zero kept = absurd (omega arith)
     yes_of (NoMemory, e, answered) zero kept = absurd (omega arith)
 
-    no_of : IsNumberOfStatus (IsAnswered (plan_of asked) old new) number → number ≡ 1 → HoldsOfNo asked before
+    no_of : IsNumberOfStatus (IsAnswered (plan_of asked) old new) number → number ≡ 1 → IsAnswered (plan_of asked) old new Refused
     no_of (Yes, e, answered) one = absurd (omega arith)
-    no_of (Refused, e, answered) one = no_by asked answered
+    no_of (Refused, e, answered) one = answered
     no_of (Fault, e, answered) one = absurd (omega arith)
     no_of (NoMemory, e, answered) one = absurd (omega arith)
 
@@ -262,7 +216,7 @@ module _ (old new : World) (before after : Bytes → Option Bytes) (input start 
         → Headline asked before after input lines number
     headline_from answered kept known = record {
       yes = λ zero. yes_of (answered (inl zero)) zero (kept zero);
-      no = λ one. no_of (answered (inr one)) one;
+      no = λ name workers same one. no_by name workers (subst (λ (k : Asked). IsAnswered (plan_of k) old new Refused) same (no_of (answered (inr one)) one));
       known = known;
     }
 

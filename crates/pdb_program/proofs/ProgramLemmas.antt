@@ -1,16 +1,16 @@
 -- The numbers by which runs end.
-use Rattle.std.proofs.Common.{◌≡◌, ◌⊎◌, ◌∙◌, ◌≤◌, inl, inr, refl, sym, ap, subst, lit≤, arith, ℕ, Bool, List, [], Option, Some, None}
+use Rattle.std.proofs.Common.{◌≡◌, ◌⊎◌, ◌∙◌, ◌≤◌, inl, inr, refl, sym, ap, subst, lit≤, arith, ℕ, List, [], Option, Some, None}
 use Rattle.std.specs.Io.KnownBytes.{Keeps}
 use Rattle.byte_io.specs.Shelf.{Bytes}
+use Rattle.pdb_request.specs.Asked.{Asked, log_check, make_table, replay, solve, table}
 use Rattle.pdb_run.specs.Commands.{Plan}
-use Rattle.pdb_run.specs.Runs.{Ends, HasCause, IsAnswered, LeavesFailure, LeavesFiles, LeavesReader, Outcome, WantsMemory, World, kept, no_memory, replied, unkept, unread, unwritable, with_kept}
+use Rattle.pdb_run.specs.Runs.{Ends, HasCause, IsAnswered, LeavesFailure, LeavesFiles, LeavesReader, Outcome, Says, WantsMemory, World, kept, no_memory, replied, status_of, text_of, unkept, unread, unwritable, with_kept}
 use Rattle.pdb_run.specs.Statuses.{status_number}
 use Rattle.pdb_run.specs.declared.statuses.Status.{Status}
 use Rattle.pdb_run.specs.declared.statuses.Status.TheVariants.{Yes, Refused, Fault, NoMemory}
 use Rattle.pdb_run.proofs.AnswerLemmas.{IsAnswered-ends}
 use Rattle.pdb_keep.specs.MakeTable.{make_table_plan}
 use Rattle.pdb_keep.proofs.KeptLemmas.{log_kept, table_kept}
-use Rattle.pdb_words.specs.Asked.{Asked, AsksCheck, bound, make_table, optimal, replay, solve, table}
 use Rattle.pdb_words.specs.CommandLine.{Parses, asked_of}
 use Rattle.pdb_words.specs.Faults.{IsMistaken}
 use Rattle.pdb_program.specs.Programs.{AskToKeepNothing, HasKept, IsNumberOfStatus, RunsOn, plan_of, taking_memory}
@@ -32,8 +32,7 @@ answered_by plan old new number NoMemory e ends is = absurd (other 3 number (lit
 wants : (asked : Asked) (old : World) → WantsMemory (plan_of asked) old
 wants (replay name) old = inl (omega arith)
 wants (table name workers) old = inl (omega arith)
-wants (bound board sets log tables workers fold) old = inl (omega arith)
-wants (optimal puzzle sets log tables workers fold) old = inl (omega arith)
+wants (log_check claim text sets log tables workers fold) old = inl (omega arith)
 wants (make_table side mask out workers) old = inr ([], tt, tt)
 wants (solve board sets out tables workers fold budget) old = inl (omega arith)
 
@@ -62,38 +61,38 @@ module _ (plan : Plan) (old new : World) (status : Status) where
   pub kept_nothing : plan.keeps_under ≡ None → Ends plan old new status → new.files ≡ old.files
   kept_nothing none ends = left ends.outcome none ends.cause ends.files
 
-  has_cause : (outcome : Outcome) → HasCause plan old new.failed outcome → HasCause (taking_memory plan) old new.failed outcome
-  has_cause (replied inputs reply) cause = cause
-  has_cause (unread wanted why) cause = cause
-  has_cause (unwritable name why) cause = record { under = cause.under; inputs = cause.inputs; read = cause.read; has_failed = cause.has_failed }
-  has_cause (unkept name why) cause = record { under = cause.under; inputs = cause.inputs; reply = cause.reply; right = cause.right; file = cause.file; is_kept = cause.is_kept; has_failed = cause.has_failed }
-  has_cause no_memory (inl listed) = inl listed
-  has_cause no_memory (inr checked) = inr (checked.0, checked.1, tt)
-
-  leaves : (outcome : Outcome) → LeavesFiles plan old.files new.files outcome → LeavesFiles (taking_memory plan) old.files new.files outcome
-  leaves (replied inputs reply) files = files
-  leaves (unread wanted why) files = files
-  leaves (unwritable name why) files = files
-  leaves (unkept name why) files = files
-  leaves no_memory files = files
-
-  leaves_failure : (outcome : Outcome) → LeavesFailure plan old.failed new.failed outcome → LeavesFailure (taking_memory plan) old.failed new.failed outcome
-  leaves_failure (replied inputs reply) failure = failure
-  leaves_failure (unread wanted why) failure = failure
-  leaves_failure (unwritable name why) failure = failure
-  leaves_failure (unkept name why) failure = failure
-  leaves_failure no_memory failure = failure
-
-  leaves_reader : (outcome : Outcome) → LeavesReader plan old.reader new.reader outcome → LeavesReader (taking_memory plan) old.reader new.reader outcome
-  leaves_reader (replied inputs reply) reader = reader
-  leaves_reader (unread wanted why) reader = reader
-  leaves_reader (unwritable name why) reader = reader
-  leaves_reader (unkept name why) reader = reader
-  leaves_reader no_memory reader = reader
+  by_outcome : (outcome : Outcome) → HasCause plan old new.failed outcome → LeavesFiles plan old.files new.files outcome → LeavesFailure plan old.failed new.failed outcome
+      → LeavesReader plan old.reader new.reader outcome → Says (text_of outcome) (status_of outcome) old.written new.written status → Ends (taking_memory plan) old new status
+  by_outcome (replied inputs reply) cause files failure reader said =
+      record { outcome = replied inputs reply; cause = cause; files = files; failure = failure; reader = reader; said = said }
+  by_outcome (unread wanted why) cause files failure reader said =
+      record { outcome = unread wanted why; cause = cause; files = files; failure = failure; reader = reader; said = said }
+  by_outcome (unwritable name why) cause files failure reader said =
+      record {
+        outcome = unwritable name why;
+        cause = record { under = cause.under; inputs = cause.inputs; read = cause.read; has_failed = cause.has_failed };
+        files = files;
+        failure = failure;
+        reader = reader;
+        said = said;
+      }
+  by_outcome (unkept name why) cause files failure reader said =
+      record {
+        outcome = unkept name why;
+        cause = record { under = cause.under; inputs = cause.inputs; reply = cause.reply; right = cause.right; file = cause.file; is_kept = cause.is_kept; has_failed = cause.has_failed };
+        files = files;
+        failure = failure;
+        reader = reader;
+        said = said;
+      }
+  by_outcome no_memory (inl listed) files failure reader said =
+      record { outcome = no_memory; cause = inl listed; files = files; failure = failure; reader = reader; said = said }
+  by_outcome no_memory (inr checked) files failure reader said =
+      record { outcome = no_memory; cause = inr (checked.0, checked.1, tt); files = files; failure = failure; reader = reader; said = said }
 
   -- a run that ends by a plan ends by that which may want memory at any time
   ends_taking : Ends plan old new status → Ends (taking_memory plan) old new status
-  ends_taking ends = record { outcome = ends.outcome; cause = has_cause ends.outcome ends.cause; files = leaves ends.outcome ends.files; failure = leaves_failure ends.outcome ends.failure; reader = leaves_reader ends.outcome ends.reader; said = ends.said }
+  ends_taking ends = by_outcome ends.outcome ends.cause ends.files ends.failure ends.reader ends.said
 
   -- a yes or a no by that plan is one by the plan itself
   pub answers : IsAnswered (taking_memory plan) old new status → Ends plan old new status
@@ -110,15 +109,6 @@ module _ (plan : Plan) (old new : World) (status : Status) where
 pub asked_ends : (asked other : Asked) (old new : World) (status : Status) → asked ≡ other → Ends (plan_of asked) old new status → Ends (plan_of other) old new status
 asked_ends asked other old new status is ends = subst (λ (a : Asked). Ends (plan_of a) old new status) is ends
 
--- the check of a log under the same names
-pub same_check : (asks : AsksCheck) (text text' sets sets' log log' : Bytes) (tables tables' : List Bytes) (workers : ℕ) (fold fold' : Bool)
-    → text ≡ text' → sets ≡ sets' → log ≡ log' → tables ≡ tables' → fold ≡ fold'
-    → asks text sets log tables workers fold ≡ asks text' sets' log' tables' workers fold'
-same_check asks text text' sets sets' log log' tables tables' workers fold fold' t s l ts f =
-    ap (λ (x : Bytes). asks x sets log tables workers fold) t ∙ ap (λ (x : Bytes). asks text' x log tables workers fold) s ∙
-    ap (λ (x : Bytes). asks text' sets' x tables workers fold) l ∙ ap (λ (x : List Bytes). asks text' sets' log' x workers fold) ts ∙
-    ap (λ (x : Bool). asks text' sets' log' tables' workers x) f
-
 -- what was asked for is a table to be made
 pub made_ends : (side mask : ℕ) (out : Bytes) (workers : ℕ) (asked : Asked) (old new : World) (status : Status) → make_table side mask out workers ≡ asked
     → Ends (make_table_plan side mask out) old new status → Ends (plan_of asked) old new status
@@ -130,8 +120,8 @@ made_ends side mask out workers asked old new status is ends =
 yes_keeps : (asked : Asked) (old new : World) → Ends (plan_of asked) old new Yes → HasKept asked old new
 yes_keeps (replay name) old new ends = kept_nothing (plan_of (replay name)) old new Yes refl ends
 yes_keeps (table name workers) old new ends = kept_nothing (plan_of (table name workers)) old new Yes refl ends
-yes_keeps (bound board sets log tables workers fold) old new ends = kept_nothing (plan_of (bound board sets log tables workers fold)) old new Yes refl ends
-yes_keeps (optimal puzzle sets log tables workers fold) old new ends = kept_nothing (plan_of (optimal puzzle sets log tables workers fold)) old new Yes refl ends
+yes_keeps (log_check claim text sets log tables workers fold) old new ends =
+    kept_nothing (plan_of (log_check claim text sets log tables workers fold)) old new Yes refl ends
 yes_keeps (make_table side mask out workers) old new ends =
     table_kept side mask out old new (answers (make_table_plan side mask out) old new Yes (IsAnswered-ends (plan_of (make_table side mask out workers)) old new Yes ends (inl refl)))
 yes_keeps (solve board sets out tables workers fold budget) old new ends = log_kept fold board sets out tables old new ends

@@ -2,7 +2,7 @@
 --
 -- `before` and `after` have the bytes under each name when the run begins and when it ends, `input` what its reader has left
 -- when it begins, and `lines` all that it wrote.
-use Rattle.std.specs.Prelude.{◌≡◌, ◌⊎◌, ⊤, ℕ, ◌<◌, ◌≤◌, ◌^◌, List, [], ◌++◌, Option, Some, codes, map}
+use Rattle.std.specs.Prelude.{◌≡◌, ◌⊎◌, ℕ, ◌<◌, ◌≤◌, ◌^◌, List, [], ◌++◌, Option, Some, codes, map}
 use Rattle.std.specs.Option.{option_map_or}
 use Rattle.puz_board.specs.BoardTexts.{Spells}
 use Rattle.puz_board.specs.Masks.{numbers_of}
@@ -12,10 +12,11 @@ use Rattle.tab_rule.specs.ExactTables.{IsExactFile}
 use Rattle.tab_rule.specs.declared.census.Census.{Census}
 use Rattle.set_sum.specs.Bounds.{IsBounded}
 use Rattle.byte_io.specs.Shelf.{Bytes}
+use Rattle.pdb_request.specs.Asked.{Asked, log_check, make_table, replay, solve, table}
+use Rattle.pdb_request.specs.declared.requests.Claim.TheVariants.{Bound, Optimum}
 use Rattle.pdb_verdict.specs.Bound.{IsProvedBound}
 use Rattle.pdb_verdict.specs.Lines.{counted, exact_line}
 use Rattle.pdb_verdict.specs.Replay.{IsSolvedPuzzle}
-use Rattle.pdb_words.specs.Asked.{Asked, bound, make_table, optimal, replay, solve, table}
 
 -- the last of the lines is this one, or these; before it stand whole lines or none
 abbrev pub EndWith : Bytes → Bytes → Type 0
@@ -33,11 +34,11 @@ HoldsOfYes (table name workers) before after input lines =
     × EndWith (exact_line t.pattern.side mask census) lines
     × (mask < 2 ^ 32) × (t.pattern.tiles ≡ numbers_of mask) × IsExactFile t file
 -- the last line is `bound n`, and no solution of the board in the text has fewer than n moves
-HoldsOfYes (bound board sets log tables workers fold) before after input lines =
+HoldsOfYes (log_check Bound board sets log tables workers fold) before after input lines =
     (text : Bytes) × (b : List ℕ) × (n : ℕ) × (before board ≡ Some text) × Spells text b
     × EndWith (counted (codes "bound ") n) lines × IsBounded b n
 -- the last line is `optimal n`; the moves of the puzzle text, n of them, solve its board, and no solution has fewer
-HoldsOfYes (optimal name sets log tables workers fold) before after input lines =
+HoldsOfYes (log_check Optimum name sets log tables workers fold) before after input lines =
     (puzzle : Bytes) × (n : ℕ) × (solved : IsSolvedPuzzle puzzle n) × (before name ≡ Some puzzle)
     × EndWith (counted (codes "optimal ") n) lines × IsBounded solved.board n
 -- the bytes that stand under OUT afterwards are the exact file of the pattern of this side and this mask, and the last line is
@@ -53,14 +54,11 @@ HoldsOfYes (solve board sets out tables workers fold budget) before after input 
     × (set_text : Bytes) × (files : List Bytes) × (log : Bytes) × (before sets ≡ Some set_text) × (map before tables ≡ map Some files)
     × (after out ≡ Some log) × IsProvedBound fold b set_text log files n
 
--- what a no means of `table`: the bytes under the name are no exact file, of whatever pattern
-abbrev pub HoldsOfNo : Asked → (Bytes → Option Bytes) → Type 0
-HoldsOfNo (table name workers) before = (file : Bytes) × (before name ≡ Some file) × ((t : Table) → ¬ IsExactFile t file)
-HoldsOfNo asked before = ⊤
-
 -- A run that was asked for this and ends with this status: 0 for a yes, 1 for a no, 2 for a fault of a read or a write, and 3
--- for want of memory. So an exact file is answered with 0, or by 2 or 3, but never with 1.
+-- for want of memory. What a no means of `table`: the bytes under the name are no exact file, of whatever pattern. So an exact
+-- file is answered with 0, or by 2 or 3, but never with 1.
 pub record Headline (asked : Asked) (before after : Bytes → Option Bytes) (input lines : Bytes) (status : ℕ) : Type 0 where
   pub yes : status ≡ 0 → HoldsOfYes asked before after input lines
-  pub no : status ≡ 1 → HoldsOfNo asked before
+  pub no : (name : Bytes) (workers : ℕ) → asked ≡ table name workers → status ≡ 1
+      → (file : Bytes) × (before name ≡ Some file) × ((t : Table) → ¬ IsExactFile t file)
   pub known : status ≤ 3

@@ -2,18 +2,15 @@
 use Rattle.std.specs.Prelude.{◌≡◌, ◌⊎◌, ⊤, ℕ, List, ◌++◌, Option, Some, None}
 use Rattle.std.specs.Io.KnownBytes.{Keeps}
 use Rattle.byte_io.specs.Shelf.{Bytes}
+use Rattle.pdb_request.specs.Asked.{Asked, log_check, make_table, replay, solve, table}
 use Rattle.pdb_run.specs.Commands.{Plan}
 use Rattle.pdb_run.specs.Runs.{Ends, IsAnswered, World}
 use Rattle.pdb_run.specs.Statuses.{status_number}
 use Rattle.pdb_run.specs.declared.statuses.Status.{Status}
-use Rattle.pdb_verdict.specs.Bound.{bound_plan}
-use Rattle.pdb_verdict.specs.Optimal.{optimum_plan}
-use Rattle.pdb_verdict.specs.Replay.{replay_plan}
-use Rattle.pdb_verdict.specs.Table.{table_plan}
+use Rattle.pdb_verdict.specs.Plans.{log_check_plan, replay_plan, table_plan}
 use Rattle.pdb_keep.specs.Kept.{IsLogKept, IsTableKept}
 use Rattle.pdb_keep.specs.MakeTable.{make_table_plan}
 use Rattle.pdb_keep.specs.Solve.{solve_plan}
-use Rattle.pdb_words.specs.Asked.{Asked, bound, make_table, optimal, replay, solve, table}
 use Rattle.pdb_words.specs.CommandLine.{Parses, asked_of}
 use Rattle.pdb_words.specs.Faults.{IsMistaken}
 use Rattle.pdb_program.specs.Headline.{Headline}
@@ -28,8 +25,7 @@ taking_memory plan = record plan { TakesMemory = λ inputs. ⊤ }
 abbrev pub plan_of : Asked → Plan
 plan_of (replay name) = replay_plan name
 plan_of (table name workers) = table_plan name
-plan_of (bound board sets log tables workers fold) = bound_plan fold board sets log tables
-plan_of (optimal puzzle sets log tables workers fold) = optimum_plan fold puzzle sets log tables
+plan_of (log_check claim text sets log tables workers fold) = log_check_plan claim fold text sets log tables
 plan_of (make_table side mask out workers) = taking_memory (make_table_plan side mask out)
 plan_of (solve board sets out tables workers fold budget) = solve_plan fold board sets out tables
 
@@ -42,8 +38,7 @@ AskToKeepNothing words = Parses words → (plan_of (asked_of words)).keeps_under
 abbrev pub HasKept : Asked → World → World → Type 0
 HasKept (replay name) old new = new.files ≡ old.files
 HasKept (table name workers) old new = new.files ≡ old.files
-HasKept (bound board sets log tables workers fold) old new = new.files ≡ old.files
-HasKept (optimal puzzle sets log tables workers fold) old new = new.files ≡ old.files
+HasKept (log_check claim text sets log tables workers fold) old new = new.files ≡ old.files
 HasKept (make_table side mask out workers) old new = IsTableKept side mask out old new
 HasKept (solve board sets out tables workers fold budget) old new = IsLogKept fold board sets out tables old new
 

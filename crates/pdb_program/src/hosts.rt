@@ -1,10 +1,11 @@
-//! What a run has of its host: what starts threads, memory, and the gate that workers pass.
+//! What a run has of its host: what starts threads, memory, the gate that workers pass, and its arguments.
 
 ghost use Rattle.std.specs.Prelude.{◌≡◌};
 ghost use Rattle.work_run.specs.Workers.{AreWorkers};
 
 use pdb_verdict::Workers;
 use std::alloc::Global;
+use std::io;
 
 /// What a run has of its host.
 #[derive(Drop)]
@@ -25,4 +26,11 @@ impl<'h, H, G> Host<'h, H, G> {
     {
         Workers::new(self.rt, self.alloc, count, self.gate)
     }
+}
+
+/// How the program is called: its host, and its arguments, of which the first is its own name.
+#[derive(Drop)]
+pub struct Call<'h, H, G> {
+    pub host: Host<'h, H, G>,
+    pub arguments: io::Result<Vec<String>>,
 }

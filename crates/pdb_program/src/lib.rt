@@ -6,6 +6,6 @@ mod programs;
 mod refusals;
 mod starts;
 
-pub use hosts::Host;
+pub use hosts::{Call, Host};
 pub use programs::run;
 pub use starts::start;

@@ -13,10 +13,11 @@ ghost use Rattle.pdb_program.specs.Refusals.{Refuses};
 use crate::hosts::Host;
 use crate::refusals::explain;
 use byte_io::shelf::Shelf;
-use pdb_keep::{MakeTable, SearchNames, run_make_table, run_solve};
+use pdb_keep::{run_make_table, run_solve};
+use pdb_request::Request;
 use pdb_run::{BorrowedIo, Io, Status};
-use pdb_verdict::{ClaimNames, run_bound, run_optimal, run_replay, run_table};
-use pdb_words::{LogCheck, Request, Search, read_words};
+use pdb_verdict::{run_log_check, run_replay, run_table};
+use pdb_words::read_words;
 use std::alloc::Global;
 use std::io::{Read, Write};
 use std::sync::Wait;
@@ -41,7 +42,8 @@ pub fn run<H: Threads + Wait + Sync, S: Shelf, R: Read, W: Write, E: Write, G: G
     // tell their bytes, for 1 to 64 workers and every order in which they take their work.
     ensures headline { let words = map string_bytes words.items in
         (before after : Bytes → Option Bytes) (input start lines : Bytes) → Parses words
-        → S.held shelf.old ≡ Some before → S.held shelf.new ≡ Some after → R.remaining reader.old ≡ Some input
+        → S.held shelf.old ≡ Some before → S.held shelf.new ≡ Some after
+        → R.remaining reader.old ≡ Some input
         → W.contents out.old ≡ Some start → W.contents out.new ≡ Some (start ++ lines)
         → Headline (asked_of words) before after input lines result }
 
@@ -94,69 +96,12 @@ fn answer<H: Threads + Wait + Sync, I: Io, E: Write, G: Gate + Sync>(
     ensures same { AskToKeepNothing (map string_bytes words.now)
         → (I.world io.new).files ≡ (I.world io.old).files }
 {
-    let alloc = host.alloc;
-    match read_words(alloc, words) {
-        Ok(Request::Replay(name)) => run_replay(alloc, name, io),
-        Ok(Request::Table { file, workers }) => run_table(file, &host.workers(workers), io),
-        Ok(Request::Bound(check)) => {
-            run_bound(names_in(&check), &host.workers(check.workers), io)
-        }
-        Ok(Request::Optimal(check)) => {
-            run_optimal(names_in(&check), &host.workers(check.workers), io)
-        }
-        Ok(
-            Request::MakeTable {
-                side,
-                mask,
-                out: name,
-                workers,
-            },
-        ) => {
-            let command = MakeTable {
-                side,
-                mask,
-                out: name,
-            };
-            run_make_table(command, &host.workers(workers), io)
-        }
-        Ok(Request::Solve(search)) => {
-            let names = search_names_in(&search);
-            run_solve(names, search.budget, &host.workers(search.workers), io)
-        }
+    match read_words(host.alloc, words) {
+        Ok(Request::Replay(asked)) => run_replay(host.alloc, asked, io),
+        Ok(Request::TableCheck(check)) => run_table(&check, &host.workers(check.workers), io),
+        Ok(Request::LogCheck(check)) => run_log_check(&check, &host.workers(check.workers), io),
+        Ok(Request::MakeTable(asked)) => run_make_table(&asked, &host.workers(asked.workers), io),
+        Ok(Request::Search(search)) => run_solve(&search, &host.workers(search.workers), io),
         Err(fault) => explain(fault, io, err),
-    }
-}
-
-/// The names of the files that the check of a log reads, and whether its tables are folded.
-fn names_in<'t, 'n>(check: &'t LogCheck<'n>) -> ClaimNames<'t, 'n>
-    ensures text { result.text.now ≡ check.now.text.now }
-    ensures sets { result.sets.now ≡ check.now.sets.now }
-    ensures log { result.log.now ≡ check.now.log.now }
-    ensures tables { result.tables.now ≡ check.now.tables.items }
-    ensures fold { result.fold ≡ check.now.fold }
-{
-    ClaimNames {
-        text: check.text,
-        sets: check.sets,
-        log: check.log,
-        tables: check.tables.as_slice(),
-        fold: check.fold,
-    }
-}
-
-/// The names that a search speaks of, and whether its tables are folded.
-fn search_names_in<'t, 'n>(search: &'t Search<'n>) -> SearchNames<'t, 'n>
-    ensures board { result.board.now ≡ search.now.board.now }
-    ensures sets { result.sets.now ≡ search.now.sets.now }
-    ensures out { result.out.now ≡ search.now.out.now }
-    ensures tables { result.tables.now ≡ search.now.tables.items }
-    ensures fold { result.fold ≡ search.now.fold }
-{
-    SearchNames {
-        board: search.board,
-        sets: search.sets,
-        out: search.out,
-        tables: search.tables.as_slice(),
-        fold: search.fold,
     }
 }

@@ -13,7 +13,7 @@ ghost use Rattle.pdb_program.specs.Headline.{Headline};
 ghost use Rattle.pdb_program.specs.Programs.{IsNumberOfStatus, RunsOn};
 ghost use Rattle.pdb_program.specs.Refusals.{AppendsWholeOrFront};
 
-use crate::hosts::Host;
+use crate::hosts::Call;
 use crate::programs::run;
 use crate::refusals::tell;
 use byte_io::shelf::Shelf;
@@ -29,36 +29,39 @@ use work_run::Gate;
 /// A run on the arguments behind the first, which is the program's own name, or what is said where they can't be taken:
 /// for want of memory, or since one is no UTF-8 text. Then the shelf and the reader stay as they are.
 pub fn start<H: Threads + Wait + Sync, S: Shelf, R: Read, W: Write, E: Write, G: Gate + Sync>(
-    host: &Host<'_, H, G>,
-    arguments: io::Result<Vec<String>>,
+    call: Call<'_, H, G>,
     shelf: &mut S,
     reader: &mut R,
     out: &mut W,
     err: &mut E,
 ) -> u8
     // What a yes means on each command, and a no to a table, in boards, paths and bytes, as on `run`.
-    ensures headline { IfOk arguments (λ all. let words = drop 1 (map string_bytes all.items) in
+    ensures headline { IfOk call.entry.arguments (λ all.
+        let words = drop 1 (map string_bytes all.items) in
         (before after : Bytes → Option Bytes) (input start lines : Bytes) → Parses words
-        → S.held shelf.old ≡ Some before → S.held shelf.new ≡ Some after → R.remaining reader.old ≡ Some input
+        → S.held shelf.old ≡ Some before → S.held shelf.new ≡ Some after
+        → R.remaining reader.old ≡ Some input
         → W.contents out.old ≡ Some start → W.contents out.new ≡ Some (start ++ lines)
         → Headline (asked_of words) before after input lines result) }
 
-    ensures runs { IfOk arguments (λ all. RunsOn (drop 1 (map string_bytes all.items))
+    ensures runs { IfOk call.entry.arguments (λ all. RunsOn (drop 1 (map string_bytes all.items))
         (world (S.held shelf.old) (S.has_failed shelf.old)
         (R.remaining reader.old) (W.contents out.old))
         (world (S.held shelf.new) (S.has_failed shelf.new)
         (R.remaining reader.new) (W.contents out.new))
         (E.contents err.old) (E.contents err.new) result) }
-    ensures memory { IfErr arguments (λ e. error_kind e ≡ OutOfMemory
+    ensures memory { IfErr call.entry.arguments (λ e. error_kind e ≡ OutOfMemory
         → IsNumberOfStatus
         (Says memory_line Status.NoMemory (W.contents out.old) (W.contents out.new)) result
         × Keeps (E.contents err.old) (E.contents err.new)) }
-    ensures unreadable { IfErr arguments (λ e. error_kind e ≢ OutOfMemory
+    ensures unreadable { IfErr call.entry.arguments (λ e. error_kind e ≢ OutOfMemory
         → Keeps (W.contents out.old) (W.contents out.new)
         × AppendsWholeOrFront unreadable_word (E.contents err.old) (E.contents err.new)
         × (result ≡ 2)) }
-    ensures untouched { OnErr arguments ((shelf.new ≡ shelf.old) × (reader.new ≡ reader.old)) }
+    ensures untouched { OnErr call.entry.arguments
+        ((shelf.new ≡ shelf.old) × (reader.new ≡ reader.old)) }
 {
+    let Call { host, arguments } = call;
     match arguments {
         Ok(all) => run(
             host.rt,

@@ -53,9 +53,11 @@ fn load_next<I: Io>(
     inputs: &mut Vec<Vec<u8>>,
 ) -> Result<(), ReadFault>
     ensures same_streams { I.streams io.new ≡ I.streams io.old }
-    ensures read { let before = all_bytes inputs.old.items in let after = all_bytes inputs.new.items in
+    ensures read { let before = all_bytes inputs.old.items in
+        let after = all_bytes inputs.new.items in
         OnOk result (IsNext (wanted_of input.now) (I.world io.old) (I.world io.new) before after) }
-    ensures unread { IfErr result (IsNotLoaded (wanted_of input.now) (I.world io.old) (I.world io.new)) }
+    ensures unread { let wanted = wanted_of input.now in
+        IfErr result (IsNotLoaded wanted (I.world io.old) (I.world io.new)) }
 {
     let bytes = io.load(alloc, input)?;
     match inputs.push(bytes) {

@@ -30,7 +30,8 @@ pub fn read_inputs<C: Command, I: Io>(
     ensures same_streams { I.streams io.new ≡ I.streams io.old }
     ensures read { let wanted = (C.plan command.now).inputs in IfOk result
         (λ inputs. HasRead wanted (I.world io.old) (I.world io.new) (all_bytes inputs.items)) }
-    ensures count { IfOk result (λ inputs. length inputs.items ≡ length (C.plan command.now).inputs) }
+    ensures count { let wanted = (C.plan command.now).inputs in
+        IfOk result (λ inputs. length inputs.items ≡ length wanted) }
     ensures ends { IfErr result (Ends (C.plan command.now) (I.world io.old) (I.world io.new)) }
 {
     let Ok(wanted) = command.inputs(alloc) else {
@@ -54,7 +55,8 @@ pub fn read_inputs_and_try<C: Command, I: Io>(
     ensures same_streams { I.streams io.new ≡ I.streams io.old }
     ensures read { let wanted = (C.plan command.now).inputs in IfOk result
         (λ inputs. HasRead wanted (I.world io.old) (I.world io.new) (all_bytes inputs.items)) }
-    ensures count { IfOk result (λ inputs. length inputs.items ≡ length (C.plan command.now).inputs) }
+    ensures count { let wanted = (C.plan command.now).inputs in
+        IfOk result (λ inputs. length inputs.items ≡ length wanted) }
     ensures ends { IfErr result (Ends (C.plan command.now) (I.world io.old) (I.world io.new)) }
 {
     let inputs = read_inputs(alloc, command, io)?;
@@ -117,7 +119,8 @@ fn keep_made<I: Io>(
     io: &mut I,
 ) -> Result<(), KeepFault>
     ensures same_streams { I.streams io.new ≡ I.streams io.old }
-    ensures kept { OnOk result (IsKept name.now (kept_of answer.now) (I.world io.old) (I.world io.new)) }
+    ensures kept { let file = kept_of answer.now in
+        OnOk result (IsKept name.now file (I.world io.old) (I.world io.new)) }
     ensures made { OnErr result ((file : Bytes) × (kept_of answer.now ≡ Some file)) }
     ensures failed { IfErr result (IsNotKept name.now (I.world io.old) (I.world io.new)) }
 {

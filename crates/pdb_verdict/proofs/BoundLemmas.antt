@@ -1,10 +1,7 @@
--- Table files, a set text and a log file have one result for a board, and it is a bound exactly where that is proved.
-use Rattle.std.proofs.Common.{◌≡◌, ◌∙◌, ◌↔◌, ℕ, Bool, zero, suc, ◌<◌, List, [], ◌∷◌, Some, Result, Ok, Err, ap, arith, inl, inr, refl, subst, sym, take}
+-- Table files, a set text and a log file have one result for a board, and a bound that they prove holds.
+use Rattle.std.proofs.Common.{◌≡◌, ◌∙◌, ℕ, Bool, zero, suc, ◌<◌, List, [], ◌∷◌, Some, Result, Ok, Err, ap, arith, inl, inr, refl, subst, sym, take}
 use Rattle.std.specs.Prelude.{slice_get}
 use Rattle.std.proofs.lemmas.Bool.{cases_order}
-use Rattle.puz_board.specs.BoardTexts.{board_of_text}
-use Rattle.puz_board.specs.declared.texts.BoardFault.{BoardFault}
-use Rattle.puz_board.proofs.SpellingLemmas.{board_of_text-spelled, spelled-board_of_text}
 use Rattle.tab_file.specs.Tables.{Table}
 use Rattle.tab_rule.specs.TableFaults.{IsTableFaultOf}
 use Rattle.tab_rule.specs.ExactTables.{IsExactFile}
@@ -24,11 +21,9 @@ use Rattle.set_sum.proofs.BundleLemmas.{is_bundle}
 use Rattle.log_check.proofs.GoodLemmas.{good_log_bounds}
 use Rattle.log_check.proofs.AnswerLemmas.{good_or_fault, one_bound, one_fault}
 use Rattle.byte_io.specs.Shelf.{Bytes}
-use Rattle.pdb_verdict.specs.Bound.{IsBoundFor, IsBoundOfText, IsBoundResult, IsFoundOver, IsProvedBound, IsRefusedLog, IsResultOfBoard, TakesMemoryForBound, of_log, of_proof}
-use Rattle.pdb_verdict.specs.Bundles.{AreExactFiles, AreRefused, AreRefusedSets, IsBundleOfFiles, IsCauseForBundle, IsFirstRefused, TakesMemoryForTables, parts_for}
-use Rattle.pdb_verdict.specs.Refusals.{IsFoundBy, or_failure}
+use Rattle.pdb_verdict.specs.Bound.{IsBoundFor, IsFoundOver, IsProvedBound, IsRefusedLog, of_log}
+use Rattle.pdb_verdict.specs.Bundles.{AreExactFiles, AreRefused, AreRefusedSets, IsBundleOfFiles, IsCauseForBundle, IsFirstRefused, parts_for}
 use Rattle.pdb_verdict.specs.Steps.{IsFoundFor, of_bundle}
-use Rattle.pdb_verdict.specs.declared.refusals.BoundRefusal.{BoundRefusal}
 use Rattle.pdb_verdict.specs.declared.refusals.BundleRefusal.{BundleRefusal}
 use Rattle.pdb_verdict.specs.declared.refusals.BundleRefusal.TheVariants as bundle
 use Rattle.pdb_verdict.specs.declared.refusals.Failure.{Failure}
@@ -37,7 +32,6 @@ use Rattle.pdb_verdict.specs.declared.refusals.FileRefusal.{FileRefusal}
 use Rattle.pdb_verdict.specs.declared.refusals.ProofRefusal.{ProofRefusal}
 use Rattle.pdb_verdict.specs.declared.refusals.ProofRefusal.TheVariants as proof
 use Rattle.pdb_verdict.proofs.BundleLemmas.{all_exact, bundle_taken}
-use Rattle.pdb_verdict.proofs.RefusalLemmas.{found_next, no_yes}
 
 -- ---- tables
 
@@ -156,41 +150,6 @@ module _ (fold : Bool) (board : List ℕ) (sets log : Bytes) (files : List Bytes
   pub cause_found : (failure : Failure BundleRefusal) → IsCauseForBundle fold files sets failure → IsFoundFor fold board sets log files (Err (of_bundle failure))
   cause_found (Refused refused) is = is
   cause_found Memory is = is
-
--- ---- the result of `bound`
-
-module _ (fold : Bool) (text sets log : Bytes) (files : List Bytes) where
-  result_one : (r : Result (List ℕ) BoardFault) (a b : Result ℕ BoundRefusal) → IsResultOfBoard fold r sets log files a → IsResultOfBoard fold r sets log files b → a ≡ b
-  result_one (Err refused) a b is also = is ∙ sym also
-  result_one (Ok board) a b is also = is.2 ∙ ap of_proof (found_one fold board sets log files is.0 also.0 is.1 also.1) ∙ sym also.2
-
-  pub IsBoundResult-one : (a b : Result ℕ BoundRefusal) → IsBoundResult fold text sets log files a → IsBoundResult fold text sets log files b → a ≡ b
-  IsBoundResult-one a b is also = result_one (board_of_text text) a b is also
-
-  -- a bound is the result exactly where it is proved for the board of the text
-  proved_by : (r : Result (List ℕ) BoardFault) (n : ℕ) → board_of_text text ≡ r → IsResultOfBoard fold r sets log files (Ok n) → IsBoundOfText fold text sets log files n
-  proved_by (Err refused) n spelt is = absurd (no_yes _ _ (sym is))
-  proved_by (Ok board) n spelt is = of_found is.0 is.1 is.2
-    where
-      of_found : (found : Result ℕ ProofRefusal) → IsBoundFor fold board sets log files found → Ok n ≡ of_proof found → IsBoundOfText fold text sets log files n
-      of_found (Err refused) found_for same = absurd (no_yes _ _ (sym same))
-      of_found (Ok m) found_for same =
-          let same_bound : m ≡ n = cc in
-          record { board = board; spelt = spelled-board_of_text text board spelt; proved = subst (IsProvedBound fold board sets log files) same_bound found_for }
-
-  pub IsBoundResult-proved : (n : ℕ) → IsBoundResult fold text sets log files (Ok n) ↔ IsBoundOfText fold text sets log files n
-  IsBoundResult-proved n = (
-    λ is. proved_by (board_of_text text) n refl is,
-    λ h. subst (λ r. IsResultOfBoard fold r sets log files (Ok n)) (sym (board_of_text-spelled text h.board h.spelt)) (Ok n, h.proved, refl),
-  )
-
-  -- what is found for the board of the text makes the result
-  pub board_found : (board : List ℕ) (found : Result ℕ (Failure ProofRefusal)) → board_of_text text ≡ Ok board → IsFoundFor fold board sets log files found
-      → IsFoundBy (IsBoundResult fold text sets log files) (TakesMemoryForBound text files) (or_failure of_proof found)
-  board_found board found spelt is =
-      found_next of_proof (IsBoundFor fold board sets log files) (IsBoundResult fold text sets log files) (TakesMemoryForTables files) (TakesMemoryForBound text files)
-      (λ r found_for. subst (λ b. IsResultOfBoard fold b sets log files (of_proof r)) (sym spelt) (r, found_for, refl))
-      (λ takes. record { board = board; spelt = spelled-board_of_text text board spelt; tables_take = takes }) found is
 
 -- ---- what a bound says
 

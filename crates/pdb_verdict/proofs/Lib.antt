@@ -1,13 +1,13 @@
 pub mod BoundLemmas
 pub mod BundleLemmas
+mod CheckLemmas
+pub mod ClaimLemmas
 mod FoldedLemmas
 mod FoldingLemmas
 mod LineLemmas
-pub mod OptimumLemmas
 pub mod RefusalLemmas
 mod ReplayLemmas
 mod ResultLemmas
-pub mod StartLemmas
 mod TableLemmas
 pub mod ToldLemmas
 pub mod VerdictLemmas

@@ -1,14 +1,12 @@
 -- What is told of a result is one answer, and a yes exactly where something is found.
-use Rattle.std.proofs.Common.{◌≡◌, ◌≢◌, ◌∙◌, ◌↔◌, ◌⊎◌, Result, Ok, Err, ap, inl, inr, refl, subst, sym}
-use Rattle.pdb_verdict.specs.Refusals.{IsFoundBy, IsTold, answer_of, fault_of_bound, fault_of_bundle, fault_of_optimal, fault_of_proof, fault_of_replay, or_failure, or_memory, told_as}
-use Rattle.pdb_verdict.specs.declared.refusals.BoundRefusal.{BoundRefusal}
-use Rattle.pdb_verdict.specs.declared.refusals.BoundRefusal.TheVariants as bound
+use Rattle.std.proofs.Common.{◌≡◌, ◌≢◌, ◌∙◌, ◌⊎◌, Result, Ok, Err, ap, inl, inr, refl, sym}
+use Rattle.pdb_verdict.specs.Refusals.{IsFoundBy, IsTold, answer_of, fault_of_bundle, fault_of_claim, fault_of_proof, fault_of_replay, or_failure, or_memory, told_as}
 use Rattle.pdb_verdict.specs.declared.refusals.BundleRefusal.{BundleRefusal}
 use Rattle.pdb_verdict.specs.declared.refusals.BundleRefusal.TheVariants as bundle
+use Rattle.pdb_verdict.specs.declared.refusals.ClaimRefusal.{ClaimRefusal}
+use Rattle.pdb_verdict.specs.declared.refusals.ClaimRefusal.TheVariants as claim
 use Rattle.pdb_verdict.specs.declared.refusals.Failure.{Failure}
 use Rattle.pdb_verdict.specs.declared.refusals.Failure.TheVariants.{Memory, Refused}
-use Rattle.pdb_verdict.specs.declared.refusals.OptimalRefusal.{OptimalRefusal}
-use Rattle.pdb_verdict.specs.declared.refusals.OptimalRefusal.TheVariants as optimal
 use Rattle.pdb_verdict.specs.declared.refusals.ProofRefusal.{ProofRefusal}
 use Rattle.pdb_verdict.specs.declared.refusals.ProofRefusal.TheVariants as proof
 use Rattle.pdb_verdict.specs.declared.refusals.ReplayRefusal.{ReplayRefusal}
@@ -33,13 +31,6 @@ module _ {A R : Type 0} (verdict_of : A → Verdict) (fault_of : R → Fault) (I
       by_found : (found : Result A R) → IsFound found → Ok v ≡ told_as verdict_of fault_of found → (a : A) × IsFound (Ok a) × (v ≡ verdict_of a)
       by_found (Ok a) is_found same = (a, is_found, cc)
       by_found (Err refused) is_found same = absurd (no_yes _ _ (sym same))
-
-  -- so it is told exactly where it is found
-  pub told_exactly : ((a b : A) → verdict_of a ≡ verdict_of b → a ≡ b) → (a : A) → IsTold verdict_of fault_of IsFound (Ok (verdict_of a)) ↔ IsFound (Ok a)
-  told_exactly same a = (
-    λ is. let yes = told_yes (verdict_of a) is in subst (λ b. IsFound (Ok b)) (sym (same a yes.0 yes.2)) yes.1,
-    λ found. (Ok a, found, refl),
-  )
 
   -- want of memory is never told of a result
   pub told_memory : ((refused : R) → fault_of refused ≢ fault.Memory) → IsTold verdict_of fault_of IsFound (Err fault.Memory) → ⊥
@@ -88,11 +79,7 @@ proof_other : (refused : ProofRefusal) → fault_of_proof refused ≢ fault.Memo
 proof_other (proof.Bundle refused) same = bundle_other refused same
 proof_other (proof.Log refused) same = let e : fault.Log refused ≡ fault.Memory = same in cc
 
-pub bound_other : (refused : BoundRefusal) → fault_of_bound refused ≢ fault.Memory
-bound_other (bound.Board refused) same = let e : fault.Board refused ≡ fault.Memory = same in cc
-bound_other (bound.Proof refused) same = proof_other refused same
-
-pub optimal_other : (refused : OptimalRefusal) → fault_of_optimal refused ≢ fault.Memory
-optimal_other (optimal.Replay refused) same = replay_other refused same
-optimal_other (optimal.Proof refused) same = proof_other refused same
-optimal_other (optimal.O1 solution bound) same = let e : fault.O1 solution bound ≡ fault.Memory = same in cc
+pub claim_other : (refused : ClaimRefusal) → fault_of_claim refused ≢ fault.Memory
+claim_other (claim.Text refused) same = replay_other refused same
+claim_other (claim.Proof refused) same = proof_other refused same
+claim_other (claim.O1 solution bound) same = let e : fault.O1 solution bound ≡ fault.Memory = same in cc

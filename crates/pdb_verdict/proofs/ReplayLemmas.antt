@@ -14,7 +14,7 @@ use Rattle.pdb_verdict.specs.declared.refusals.ReplayRefusal.{ReplayRefusal}
 use Rattle.pdb_verdict.specs.declared.verdicts.Fault.{Fault}
 use Rattle.pdb_verdict.specs.declared.verdicts.Verdict.{Verdict}
 use Rattle.pdb_verdict.specs.declared.verdicts.Verdict.TheVariants as verdict
-use Rattle.pdb_verdict.proofs.RefusalLemmas.{no_yes, told_exactly, told_one}
+use Rattle.pdb_verdict.proofs.RefusalLemmas.{no_yes, told_one, told_yes}
 
 -- ---- puzzles that are solved
 
@@ -76,12 +76,14 @@ IsReplayResult-one puzzle (Err refused) (Err other) is also =
     let same : refused ≡ other = cc in
     ap (λ r. Err r) same
 
-pub same_solution : (a b : ℕ) → verdict.Solution a ≡ verdict.Solution b → a ≡ b
+same_solution : (a b : ℕ) → verdict.Solution a ≡ verdict.Solution b → a ≡ b
 same_solution a b same = cc
 
 -- so an answer that tells it says a number of moves exactly where so many solve the board
 pub says_solution : (puzzle : List ℕ) (answer : Result Verdict Fault) (n : ℕ) → IsReplayTold puzzle answer → (answer ≡ Ok (verdict.Solution n)) ↔ (IsSolvedPuzzle puzzle n)
 says_solution puzzle answer n is = (
-  λ same. (told_exactly verdict.Solution fault_of_replay (IsReplayResult puzzle) same_solution n).0 (subst (λ (a : Result Verdict Fault). IsReplayTold puzzle a) same is),
+  λ same.
+    let yes = told_yes verdict.Solution fault_of_replay (IsReplayResult puzzle) (verdict.Solution n) (subst (λ (a : Result Verdict Fault). IsReplayTold puzzle a) same is) in
+    subst (IsSolvedPuzzle puzzle) (sym (same_solution n yes.0 yes.2)) yes.1,
   λ h. told_one verdict.Solution fault_of_replay (IsReplayResult puzzle) (IsReplayResult-one puzzle) answer (Ok (verdict.Solution n)) is (Ok n, h, refl),
 )

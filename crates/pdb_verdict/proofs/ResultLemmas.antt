@@ -1,5 +1,5 @@
 -- Inputs have a result.
-use Rattle.std.proofs.Common.{◌≡◌, ◌⊎◌, ℕ, Bool, suc, ◌+◌, ◌<◌, ◌^◌, List, [], ◌∷◌, drop, Result, Ok, Err, inl, inr, refl, sym, subst}
+use Rattle.std.proofs.Common.{◌≡◌, ◌⊎◌, ℕ, Bool, suc, ◌+◌, ◌<◌, ◌^◌, List, [], ◌∷◌, drop, Option, Result, Ok, Err, append-nil, inl, inr, refl, sym, subst}
 use Rattle.std.specs.Prelude.{slice_index}
 use Rattle.std.proofs.lemmas.List.{get_or-drop}
 use Rattle.byteorder.specs.Numbers.{big_from-lt}
@@ -12,22 +12,19 @@ use Rattle.set_sum.proofs.BundleLemmas.{is_bundle}
 use Rattle.set_sum.proofs.DecidedLemmas.{bundle_answer}
 use Rattle.log_check.proofs.AnswerLemmas.{check_answer}
 use Rattle.byte_io.specs.Shelf.{Bytes}
-use Rattle.puz_board.specs.BoardTexts.{board_of_text}
 use Rattle.puz_board.specs.PuzzleTexts.{puzzle_parts}
-use Rattle.puz_board.specs.declared.texts.BoardFault.{BoardFault}
-use Rattle.pdb_verdict.specs.Bound.{IsBoundFor, IsBoundResult, IsResultOfBoard, of_proof}
+use Rattle.pdb_request.specs.declared.requests.Claim.{Claim}
+use Rattle.pdb_verdict.specs.Bound.{IsBoundFor}
 use Rattle.pdb_verdict.specs.Bundles.{AreExactFiles, IsBundleOfFiles, IsFirstRefused, parts_for}
-use Rattle.pdb_verdict.specs.Inputs.{Given, bytes_of, puzzle_text, table_file, bound_claim, optimum_claim}
-use Rattle.pdb_verdict.specs.Optimal.{IsOptimumResult, IsResultOfPuzzle, of_halves}
-use Rattle.pdb_verdict.specs.Refusals.{IsTold, fault_of_bound, fault_of_optimal, fault_of_replay, told_as}
+use Rattle.pdb_verdict.specs.Claims.{IsClaimResult, IsResultFrom, claim_verdict, compared, start_of}
+use Rattle.pdb_verdict.specs.Inputs.{Given, LogFiles, bytes_of, log_claim, puzzle_text, table_file}
+use Rattle.pdb_verdict.specs.Refusals.{IsTold, fault_of_claim, fault_of_replay, told_as}
 use Rattle.pdb_verdict.specs.Replay.{IsReplayResult, solved_parts}
 use Rattle.pdb_verdict.specs.Table.{IsTableResult, exact_verdict}
 use Rattle.pdb_verdict.specs.Verdicts.{IsResult}
-use Rattle.pdb_verdict.specs.declared.refusals.BoundRefusal.{BoundRefusal}
-use Rattle.pdb_verdict.specs.declared.refusals.BoundRefusal.TheVariants.{Board}
 use Rattle.pdb_verdict.specs.declared.refusals.BundleRefusal.TheVariants.{File, Sets}
-use Rattle.pdb_verdict.specs.declared.refusals.OptimalRefusal.{OptimalRefusal}
-use Rattle.pdb_verdict.specs.declared.refusals.OptimalRefusal.TheVariants.{Replay}
+use Rattle.pdb_verdict.specs.declared.refusals.ClaimRefusal.{ClaimRefusal}
+use Rattle.pdb_verdict.specs.declared.refusals.ClaimRefusal.TheVariants.{Text}
 use Rattle.pdb_verdict.specs.declared.refusals.ProofRefusal.{ProofRefusal}
 use Rattle.pdb_verdict.specs.declared.refusals.ProofRefusal.TheVariants.{Bundle, Log}
 use Rattle.pdb_verdict.specs.declared.refusals.ReplayRefusal.{ReplayRefusal}
@@ -70,19 +67,12 @@ found_some fold board sets log files = elim (tables_answer files) [
   ]
 ]
 
-bound_some : (fold : Bool) (text sets log : Bytes) (files : List Bytes) → (found : Result ℕ BoundRefusal) × IsBoundResult fold text sets log files found
-bound_some fold text sets log files = of_board (board_of_text text)
+claim_some : (claim : Claim) (fold : Bool) (files : LogFiles) → (found : Result ℕ ClaimRefusal) × IsClaimResult claim fold files found
+claim_some claim fold files = from (start_of claim files.text)
   where
-    of_board : (r : Result (List ℕ) BoardFault) → (found : Result ℕ BoundRefusal) × IsResultOfBoard fold r sets log files found
-    of_board (Err refused) = (Err (Board refused), refl)
-    of_board (Ok board) = let found = found_some fold board sets log files in (of_proof found.0, (found.0, found.1, refl))
-
-optimum_some : (fold : Bool) (puzzle sets log : Bytes) (files : List Bytes) → (found : Result ℕ OptimalRefusal) × IsOptimumResult fold puzzle sets log files found
-optimum_some fold puzzle sets log files = of_puzzle (solved_parts (puzzle_parts puzzle))
-  where
-    of_puzzle : (r : Result (List ℕ × ℕ) ReplayRefusal) → (found : Result ℕ OptimalRefusal) × IsResultOfPuzzle fold r sets log files found
-    of_puzzle (Err refused) = (Err (Replay refused), refl)
-    of_puzzle (Ok solved) = let found = found_some fold solved.0 sets log files in (of_halves solved.1 found.0, (found.0, found.1, refl))
+    from : (r : Result (List ℕ × Option ℕ) ReplayRefusal) → (found : Result ℕ ClaimRefusal) × IsResultFrom fold r files.sets files.log files.tables found
+    from (Err refused) = (Err (Text refused), refl)
+    from (Ok start) = let found = found_some fold start.0 files.sets files.log files.tables in (compared start.1 found.0, (found.0, found.1, refl))
 
 replay_some : (puzzle : Bytes) → (found : Result ℕ ReplayRefusal) × IsReplayResult puzzle found
 replay_some puzzle = of_puzzle (solved_parts (puzzle_parts puzzle)) refl
@@ -115,8 +105,6 @@ told_some verdict_of fault_of IsFound found = (told_as verdict_of fault_of found
 
 pub result_some : (inputs : Given) → ((i : ℕ) → slice_index (bytes_of inputs) i < 256) → (answer : Result Verdict Fault) × IsResult inputs answer
 result_some (puzzle_text puzzle) small = told_some verdict.Solution fault_of_replay (IsReplayResult puzzle) (replay_some puzzle)
-result_some (table_file file) small = told_some exact_verdict fault.Table (IsTableResult file) (table_some file small)
-result_some (bound_claim fold board sets log tables) small =
-    told_some verdict.Bound fault_of_bound (IsBoundResult fold board sets log tables) (bound_some fold board sets log tables)
-result_some (optimum_claim fold puzzle sets log tables) small =
-    told_some verdict.Optimal fault_of_optimal (IsOptimumResult fold puzzle sets log tables) (optimum_some fold puzzle sets log tables)
+result_some (table_file file) small =
+    told_some exact_verdict fault.Table (IsTableResult file) (table_some file (subst (λ bytes. (i : ℕ) → slice_index bytes i < 256) (append-nil file) small))
+result_some (log_claim claim fold files) small = told_some (claim_verdict claim) fault_of_claim (IsClaimResult claim fold files) (claim_some claim fold files)

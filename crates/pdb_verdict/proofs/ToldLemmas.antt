@@ -9,11 +9,11 @@ use Rattle.tab_rule.proofs.OneResultLemmas.{exact_or_fault}
 use Rattle.byte_io.specs.Shelf.{Bytes}
 use Rattle.pdb_run.specs.Commands.{Reply}
 use Rattle.pdb_verdict.specs.Inputs.{Given, table_file}
-use Rattle.pdb_verdict.specs.Lines.{Tells, reply_to}
+use Rattle.pdb_verdict.specs.Lines.{reply_to}
 use Rattle.pdb_verdict.specs.Laws.{IsToldYes}
 use Rattle.pdb_verdict.specs.Refusals.{told_as}
-use Rattle.pdb_verdict.specs.Table.{IsTableResult, IsTableTold, exact_verdict}
-use Rattle.pdb_verdict.specs.Verdicts.{IsResult}
+use Rattle.pdb_verdict.specs.Table.{IsTableResult, exact_verdict}
+use Rattle.pdb_verdict.specs.Verdicts.{IsResult, TellsResult}
 use Rattle.pdb_verdict.specs.declared.verdicts.Fault.{Fault}
 use Rattle.pdb_verdict.specs.declared.verdicts.Fault.TheVariants as fault
 use Rattle.pdb_verdict.specs.declared.verdicts.Verdict.{Verdict}
@@ -30,9 +30,9 @@ by_answer inputs reply (Ok verdict) is told says_yes =
 by_answer inputs reply (Err refused) is told says_yes = absurd (let clash : false ≡ true = says_yes in cc)
 
 -- the verdict of a yes is true of the inputs, and holds of the solutions
-pub told_yes : (inputs : Given) (reply : Reply) → Tells inputs (IsResult inputs) reply → reply.is_yes ≡ true → IsToldYes inputs reply
+pub told_yes : (inputs : Given) (reply : Reply) → TellsResult inputs reply → reply.is_yes ≡ true → IsToldYes inputs reply
 told_yes inputs reply tells is =
-    by_answer inputs reply tells.answer tells.is_answer tells.told (told_ok inputs reply tells.answer true tells.told is)
+    by_answer inputs reply tells.answer tells.is_result tells.told (told_ok inputs reply tells.answer true tells.told is)
 
 refused_result : (file : Bytes) (found : Result (ℕ × ℕ × Census) TableRefusal) → IsTableResult file found → is_ok (told_as exact_verdict fault.Table found) ≡ false
     → (t : Table) → ¬ IsExactFile t file
@@ -40,7 +40,7 @@ refused_result file (Ok found) is says_no t exact = let clash : true ≡ false =
 refused_result file (Err refused) is says_no t exact = exact_or_fault file t refused exact is
 
 -- a table file that is answered with a no is no exact file
-pub told_no : (file : Bytes) (reply : Reply) → Tells (table_file file) (IsTableTold file) reply → reply.is_yes ≡ false → (t : Table) → ¬ IsExactFile t file
+pub told_no : (file : Bytes) (reply : Reply) → TellsResult (table_file file) reply → reply.is_yes ≡ false → (t : Table) → ¬ IsExactFile t file
 told_no file reply tells is =
-    let told = tells.is_answer in
+    let told = tells.is_result in
     refused_result file told.0 told.1 (ap is_ok (sym told.2) ∙ told_ok (table_file file) reply tells.answer false tells.told is)

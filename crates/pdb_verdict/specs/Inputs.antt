@@ -1,9 +1,23 @@
 -- What is to be checked, as its bytes.
-use Rattle.std.specs.Prelude.{Bool, List, ◌++◌, flat_map}
+use Rattle.std.specs.Prelude.{Bool, List, [], ◌∷◌, flat_map}
 use Rattle.byte_io.specs.Shelf.{Bytes}
+use Rattle.pdb_request.specs.declared.requests.Claim.{Claim}
+use Rattle.pdb_request.specs.declared.requests.Claim.TheVariants.{Bound, Optimum}
 use Rattle.pdb_run.specs.Answers.{all_bytes}
 use Rattle.pdb_verdict.specs.declared.inputs.Inputs.{Inputs}
 use Rattle.pdb_verdict.specs.declared.inputs.Inputs.TheVariants as inputs
+
+-- the files of a check of a log: a text, which is a board text for a bound and a puzzle text for an optimum, a set text, a log file
+-- and table files
+pub record LogFiles : Type 0 where
+  pub text : Bytes
+  pub sets : Bytes
+  pub log : Bytes
+  pub tables : List Bytes
+
+-- these four
+abbrev pub log_files : Bytes → Bytes → Bytes → List Bytes → LogFiles
+log_files text sets log tables = record { text = text; sets = sets; log = log; tables = tables }
 
 -- what a command is to check: the bytes of each of its inputs
 pub data Given : Type 0 where
@@ -11,21 +25,22 @@ pub data Given : Type 0 where
   puzzle_text : Bytes → Given
   -- of `table`: a table file
   table_file : Bytes → Given
-  -- of `bound`: whether the tables are folded; a board text, a set text, a log file and table files
-  bound_claim : Bool → Bytes → Bytes → Bytes → List Bytes → Given
-  -- of `optimal`: whether the tables are folded; a puzzle text, a set text, a log file and table files
-  optimum_claim : Bool → Bytes → Bytes → Bytes → List Bytes → Given
+  -- of `bound` and `optimal`: what is claimed of a log, whether the tables are folded, and the files
+  log_claim : Claim → Bool → LogFiles → Given
 
 -- inputs as the code has them
 abbrev pub given : Inputs → Given
 given (inputs.Replay puzzle) = puzzle_text puzzle.now
 given (inputs.Table table) = table_file table.now
-given (inputs.Bound board sets log tables fold) = bound_claim fold board.now sets.now log.now (all_bytes tables.now)
-given (inputs.Optimal puzzle sets log tables fold) = optimum_claim fold puzzle.now sets.now log.now (all_bytes tables.now)
+given (inputs.Bound board sets log tables fold) = log_claim Bound fold (log_files board.now sets.now log.now (all_bytes tables.now))
+given (inputs.Optimal puzzle sets log tables fold) = log_claim Optimum fold (log_files puzzle.now sets.now log.now (all_bytes tables.now))
 
--- the bytes of inputs, one after the other
+-- the files, in the order in which they are read
+abbrev pub files_of : Given → List Bytes
+files_of (puzzle_text puzzle) = puzzle ∷ []
+files_of (table_file table) = table ∷ []
+files_of (log_claim claim fold files) = files.text ∷ files.sets ∷ files.log ∷ files.tables
+
+-- their bytes, one after the other
 abbrev pub bytes_of : Given → Bytes
-bytes_of (puzzle_text puzzle) = puzzle
-bytes_of (table_file table) = table
-bytes_of (bound_claim fold board sets log tables) = board ++ sets ++ log ++ flat_map (λ table. table) tables
-bytes_of (optimum_claim fold puzzle sets log tables) = puzzle ++ sets ++ log ++ flat_map (λ table. table) tables
+bytes_of inputs = flat_map (λ file. file) (files_of inputs)

@@ -5,9 +5,8 @@ use Rattle.tab_rule.specs.ExactTables.{IsExactFile}
 use Rattle.byte_io.specs.Shelf.{Bytes}
 use Rattle.pdb_run.specs.Commands.{Reply}
 use Rattle.pdb_verdict.specs.Inputs.{Given, bytes_of, table_file}
-use Rattle.pdb_verdict.specs.Lines.{Tells, reply_to}
-use Rattle.pdb_verdict.specs.Table.{IsTableTold}
-use Rattle.pdb_verdict.specs.Verdicts.{HoldsOfSolutions, IsResult, IsTrueOf}
+use Rattle.pdb_verdict.specs.Lines.{reply_to}
+use Rattle.pdb_verdict.specs.Verdicts.{HoldsOfSolutions, IsResult, IsTrueOf, TellsResult}
 use Rattle.pdb_verdict.specs.declared.verdicts.Fault.{Fault}
 use Rattle.pdb_verdict.specs.declared.verdicts.Verdict.{Verdict}
 
@@ -38,10 +37,10 @@ pub record IsToldYes (inputs : Given) (reply : Reply) : Type 0 where
 
 -- each yes that tells the result on inputs does so
 abbrev pub ToldYesesAreTrue : Type 0
-ToldYesesAreTrue = (inputs : Given) (reply : Reply) → Tells inputs (IsResult inputs) reply → reply.is_yes ≡ true → IsToldYes inputs reply
+ToldYesesAreTrue = (inputs : Given) (reply : Reply) → TellsResult inputs reply → reply.is_yes ≡ true → IsToldYes inputs reply
 
 -- a table file is told a no only where it is no exact file, of whatever pattern
 abbrev pub TablesToldNoAreNotExact : Type 0
 TablesToldNoAreNotExact =
-    (file : Bytes) (reply : Reply) → Tells (table_file file) (IsTableTold file) reply → reply.is_yes ≡ false →
+    (file : Bytes) (reply : Reply) → TellsResult (table_file file) reply → reply.is_yes ≡ false →
     (t : Table) → ¬ IsExactFile t file

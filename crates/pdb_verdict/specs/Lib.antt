@@ -1,15 +1,16 @@
 -- What public contracts say.
 pub mod Bound
 pub mod Bundles
+pub mod Claims
 pub mod Inputs
 pub mod Laws
 pub mod Limits
 pub mod Lines
 pub mod Optimal
+pub mod Plans
 pub mod Refusals
 pub mod Replay
 pub mod Table
 pub mod Verdicts
 -- What proofs alone need, here and of the commands that make.
-pub mod Claims
 pub mod Steps

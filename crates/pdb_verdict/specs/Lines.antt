@@ -1,5 +1,5 @@
 -- The lines that a verdict or a refusal is told in.
-use Rattle.std.specs.Prelude.{◌≡◌, ℕ, Bool, true, false, if◌then◌else◌, is_ok, List, [], ◌∷◌, ◌++◌, None, Result, Ok, Err, codes, decimal}
+use Rattle.std.specs.Prelude.{ℕ, Bool, true, false, if◌then◌else◌, is_ok, List, [], ◌∷◌, ◌++◌, None, Result, Ok, Err, codes, decimal}
 use Rattle.puz_board.specs.declared.replays.MoveFault.{MoveFault}
 use Rattle.puz_board.specs.declared.replays.MoveFault.TheVariants.{M1, M2, M3, M4}
 use Rattle.puz_board.specs.declared.texts.BoardFault.{BoardFault}
@@ -18,7 +18,7 @@ use Rattle.log_check.specs.declared.faults.LogRefusal.TheVariants.{Form, L4, L5,
 use Rattle.byte_io.specs.Shelf.{Bytes}
 use Rattle.pdb_run.specs.Writing.{memory_line, reply_text}
 use Rattle.pdb_run.specs.Commands.{Reply}
-use Rattle.pdb_verdict.specs.Inputs.{Given, puzzle_text, table_file, bound_claim, optimum_claim}
+use Rattle.pdb_verdict.specs.Inputs.{Given, log_claim, puzzle_text, table_file}
 use Rattle.pdb_verdict.specs.declared.verdicts.Fault.{Fault}
 use Rattle.pdb_verdict.specs.declared.verdicts.Fault.TheVariants as fault
 use Rattle.pdb_verdict.specs.declared.verdicts.MakeRefusal.{MakeRefusal}
@@ -143,8 +143,7 @@ line_of (Err refused) = line_of_fault refused
 abbrev pub digested_of : Given → List Bytes
 digested_of (puzzle_text puzzle) = []
 digested_of (table_file table) = table ∷ []
-digested_of (bound_claim fold board sets log tables) = tables ++ log ∷ []
-digested_of (optimum_claim fold puzzle sets log tables) = tables ++ log ∷ []
+digested_of (log_claim claim fold files) = files.tables ++ files.log ∷ []
 
 -- an answer on inputs, as a run tells it; no file is made
 abbrev pub reply_to : Given → Result Verdict Fault → Reply
@@ -158,9 +157,3 @@ stands_alone answer = false
 -- all lines on the inputs: the digests, and then the answer's line
 abbrev pub lines_of : Given → Result Verdict Fault → Bytes
 lines_of inputs answer = if stands_alone answer then line_of answer else reply_text (reply_to inputs answer)
-
--- a reply on inputs tells an answer of which this holds
-pub record Tells (inputs : Given) (IsAnswer : Result Verdict Fault → Type 0) (reply : Reply) : Type 0 where
-  pub answer : Result Verdict Fault
-  pub is_answer : IsAnswer answer
-  pub told : reply ≡ reply_to inputs answer

@@ -1,17 +1,15 @@
 -- Why each command refuses, and the fault that each refusal is told as.
 use Rattle.std.specs.Prelude.{◌≡◌, Result, Ok, Err}
 use Rattle.log_check.specs.declared.faults.LogRefusal.TheVariants.{L4}
-use Rattle.pdb_verdict.specs.declared.refusals.BoundRefusal.{BoundRefusal}
-use Rattle.pdb_verdict.specs.declared.refusals.BoundRefusal.TheVariants as bound
 use Rattle.pdb_verdict.specs.declared.refusals.BuildRefusal.{BuildRefusal}
 use Rattle.pdb_verdict.specs.declared.refusals.BuildRefusal.TheVariants as build
 use Rattle.pdb_verdict.specs.declared.refusals.BundleRefusal.{BundleRefusal}
 use Rattle.pdb_verdict.specs.declared.refusals.BundleRefusal.TheVariants as bundle
+use Rattle.pdb_verdict.specs.declared.refusals.ClaimRefusal.{ClaimRefusal}
+use Rattle.pdb_verdict.specs.declared.refusals.ClaimRefusal.TheVariants as claim
 use Rattle.pdb_verdict.specs.declared.refusals.Failure.{Failure}
 use Rattle.pdb_verdict.specs.declared.refusals.Failure.TheVariants.{Memory, Refused}
 use Rattle.pdb_verdict.specs.declared.refusals.GivenUp.TheVariants as given_up
-use Rattle.pdb_verdict.specs.declared.refusals.OptimalRefusal.{OptimalRefusal}
-use Rattle.pdb_verdict.specs.declared.refusals.OptimalRefusal.TheVariants as optimal
 use Rattle.pdb_verdict.specs.declared.refusals.ProofRefusal.{ProofRefusal}
 use Rattle.pdb_verdict.specs.declared.refusals.ProofRefusal.TheVariants as proof
 use Rattle.pdb_verdict.specs.declared.refusals.ReplayRefusal.{ReplayRefusal}
@@ -27,7 +25,7 @@ use Rattle.pdb_verdict.specs.declared.verdicts.Verdict.{Verdict}
 
 -- ---- the fault of each refusal
 
--- of a puzzle text
+-- of a puzzle text, or of its board text alone
 abbrev pub fault_of_replay : ReplayRefusal → Fault
 fault_of_replay replay.P1 = fault.P1
 fault_of_replay (replay.Board refused) = fault.Board refused
@@ -43,16 +41,11 @@ abbrev pub fault_of_proof : ProofRefusal → Fault
 fault_of_proof (proof.Bundle refused) = fault_of_bundle refused
 fault_of_proof (proof.Log refused) = fault.Log refused
 
--- of `bound`
-abbrev pub fault_of_bound : BoundRefusal → Fault
-fault_of_bound (bound.Board refused) = fault.Board refused
-fault_of_bound (bound.Proof refused) = fault_of_proof refused
-
--- of `optimal`
-abbrev pub fault_of_optimal : OptimalRefusal → Fault
-fault_of_optimal (optimal.Replay refused) = fault_of_replay refused
-fault_of_optimal (optimal.Proof refused) = fault_of_proof refused
-fault_of_optimal (optimal.O1 solution bound) = fault.O1 solution bound
+-- of `bound` and `optimal`
+abbrev pub fault_of_claim : ClaimRefusal → Fault
+fault_of_claim (claim.Text refused) = fault_of_replay refused
+fault_of_claim (claim.Proof refused) = fault_of_proof refused
+fault_of_claim (claim.O1 solution bound) = fault.O1 solution bound
 
 -- of `make-table`
 abbrev pub fault_of_build : BuildRefusal → Fault

@@ -1,15 +1,11 @@
 -- `replay [FILE]`: whether the moves of a puzzle text solve its board.
-use Rattle.std.specs.Prelude.{◌≡◌, ℕ, List, [], ◌∷◌, Option, Some, None, Result, Ok, Err}
+use Rattle.std.specs.Prelude.{◌≡◌, ℕ, List, Option, Some, None, Result, Ok, Err}
 use Rattle.puz_board.specs.BoardTexts.{Spells, board_of_text}
 use Rattle.puz_board.specs.MovesTexts.{Solves, replay_of}
 use Rattle.puz_board.specs.PuzzleTexts.{IsPuzzle, puzzle_parts}
 use Rattle.puz_board.specs.declared.replays.MoveFault.{MoveFault}
 use Rattle.puz_board.specs.declared.texts.BoardFault.{BoardFault}
 use Rattle.byte_io.specs.Shelf.{Bytes}
-use Rattle.pdb_run.specs.Commands.{Plan, Reply, Wanted, plan}
-use Rattle.pdb_verdict.specs.Inputs.{puzzle_text}
-use Rattle.pdb_verdict.specs.Limits.{a_text}
-use Rattle.pdb_verdict.specs.Lines.{Tells}
 use Rattle.pdb_verdict.specs.Refusals.{IsTold, fault_of_replay}
 use Rattle.pdb_verdict.specs.declared.refusals.ReplayRefusal.{ReplayRefusal}
 use Rattle.pdb_verdict.specs.declared.refusals.ReplayRefusal.TheVariants.{Board, Moves, P1}
@@ -53,18 +49,3 @@ IsReplayResult puzzle (Err refused) = solved_parts (puzzle_parts puzzle) ≡ Err
 -- the answer tells it
 abbrev pub IsReplayTold : Bytes → Result Verdict Fault → Type 0
 IsReplayTold puzzle answer = IsTold verdict.Solution fault_of_replay (IsReplayResult puzzle) answer
-
--- ---- the command
-
--- one text, of the file or of the reader
-abbrev pub replay_inputs : Option Bytes → List Wanted
-replay_inputs name = a_text name ∷ []
-
--- the result on that text is told
-abbrev pub IsReplayReply : List Bytes → Reply → Type 0
-IsReplayReply (puzzle ∷ []) reply = Tells (puzzle_text puzzle) (IsReplayTold puzzle) reply
-IsReplayReply inputs reply = ⊥
-
--- its check takes no memory
-abbrev pub replay_plan : Option Bytes → Plan
-replay_plan name = plan (replay_inputs name) IsReplayReply (λ inputs. ⊥)

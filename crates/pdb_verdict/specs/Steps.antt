@@ -8,9 +8,13 @@ use Rattle.tab_rule.specs.declared.tables.TableFault.{TableFault}
 use Rattle.tab_rule.specs.declared.tables.TableFault.TheVariants as table_fault
 use Rattle.set_sum.specs.declared.parts.Part.{Part}
 use Rattle.byte_io.specs.Shelf.{Bytes}
+use Rattle.pdb_run.specs.Answers.{all_bytes}
 use Rattle.pdb_verdict.specs.Bound.{IsBoundFor}
 use Rattle.pdb_verdict.specs.Bundles.{AreExactFiles, IsFirstRefused, TakesMemoryForTables, part_for, parts_for}
+use Rattle.pdb_verdict.specs.Inputs.{LogFiles, log_files}
 use Rattle.pdb_verdict.specs.Refusals.{IsCauseBy, IsFoundBy}
+use Rattle.pdb_verdict.specs.declared.evidence.Evidence.{Evidence}
+use Rattle.pdb_verdict.specs.declared.log_inputs.LogInputs.{LogInputs}
 use Rattle.pdb_verdict.specs.declared.refusals.BundleRefusal.{BundleRefusal}
 use Rattle.pdb_verdict.specs.declared.refusals.Failure.{Failure}
 use Rattle.pdb_verdict.specs.declared.refusals.Failure.TheVariants.{Memory, Refused}
@@ -45,6 +49,16 @@ IsCauseAt number file Memory = (table : Table) × IsTableFile table file
 abbrev pub IsCauseForTables : List Bytes → Failure FileRefusal → Type 0
 IsCauseForTables files cause = IsCauseBy (λ (refused : FileRefusal). IsFirstRefused files refused.number refused.refusal) (TakesMemoryForTables files) cause
 
+-- ---- files
+
+-- the files that were read for a check of a log
+abbrev pub files_read : LogInputs → LogFiles
+files_read files = log_files files.text.items files.sets.items files.log.items (all_bytes files.tables.items)
+
+-- those that a log is checked with, and a text
+abbrev pub files_with : Bytes → Evidence → LogFiles
+files_with text evidence = log_files text evidence.sets.now evidence.log.now (all_bytes evidence.tables.files.now)
+
 -- ---- bounds
 
 -- no bundle, as no bound
@@ -55,6 +69,11 @@ of_bundle Memory = Memory
 -- the bound for a board, or why there is none, or want of memory
 abbrev pub IsFoundFor : Bool → List ℕ → Bytes → Bytes → List Bytes → Result ℕ (Failure ProofRefusal) → Type 0
 IsFoundFor fold board sets log tables found = IsFoundBy (IsBoundFor fold board sets log tables) (TakesMemoryForTables tables) found
+
+-- the same over evidence
+abbrev pub IsFoundBehind : List ℕ → Evidence → Result ℕ (Failure ProofRefusal) → Type 0
+IsFoundBehind board evidence found =
+    IsFoundFor evidence.tables.fold board evidence.sets.now evidence.log.now (all_bytes evidence.tables.files.now) found
 
 -- ---- a table file alone
 

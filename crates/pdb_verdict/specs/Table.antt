@@ -1,5 +1,5 @@
 -- `table FILE`: whether the table of a table file is exact.
-use Rattle.std.specs.Prelude.{◌≡◌, ℕ, ◌<◌, ◌^◌, List, [], ◌∷◌, Result, Ok, Err}
+use Rattle.std.specs.Prelude.{◌≡◌, ℕ, ◌<◌, ◌^◌, Result, Ok, Err}
 use Rattle.puz_board.specs.Masks.{numbers_of}
 use Rattle.tab_file.specs.TableFiles.{IsTableFile}
 use Rattle.tab_file.specs.Tables.{Table}
@@ -9,10 +9,6 @@ use Rattle.tab_rule.specs.TableFaults.{IsTableFaultOf}
 use Rattle.tab_rule.specs.declared.census.Census.{Census}
 use Rattle.tab_rule.specs.declared.tables.TableRefusal.{TableRefusal}
 use Rattle.byte_io.specs.Shelf.{Bytes}
-use Rattle.pdb_run.specs.Commands.{Plan, Reply, Wanted, plan}
-use Rattle.pdb_verdict.specs.Inputs.{table_file}
-use Rattle.pdb_verdict.specs.Limits.{a_table}
-use Rattle.pdb_verdict.specs.Lines.{Tells}
 use Rattle.pdb_verdict.specs.Refusals.{IsTold}
 use Rattle.pdb_verdict.specs.declared.verdicts.Fault.{Fault}
 use Rattle.pdb_verdict.specs.declared.verdicts.Fault.TheVariants as fault
@@ -45,22 +41,6 @@ exact_verdict found = verdict.Exact found.0 found.1 found.2
 abbrev pub IsTableTold : Bytes → Result Verdict Fault → Type 0
 IsTableTold file answer = IsTold exact_verdict fault.Table (IsTableResult file) answer
 
--- ---- the command
-
--- one table file
-abbrev pub table_inputs : Bytes → List Wanted
-table_inputs name = a_table name ∷ []
-
--- the result on that file is told
-abbrev pub IsTableReply : List Bytes → Reply → Type 0
-IsTableReply (file ∷ []) reply = Tells (table_file file) (IsTableTold file) reply
-IsTableReply inputs reply = ⊥
-
 -- it takes memory to check a table file, and none where the header is refused
-abbrev pub TakesMemoryForTable : List Bytes → Type 0
-TakesMemoryForTable (file ∷ []) = (t : Table) × IsTableFile t file
-TakesMemoryForTable inputs = ⊥
-
--- for any number of workers
-abbrev pub table_plan : Bytes → Plan
-table_plan name = plan (table_inputs name) IsTableReply TakesMemoryForTable
+abbrev pub TakesMemoryForTable : Bytes → Type 0
+TakesMemoryForTable file = (t : Table) × IsTableFile t file

@@ -1,36 +1,40 @@
 -- The result on given inputs: a verdict, or the first refusal that stands.
-use Rattle.std.specs.Prelude.{◌≡◌, ◌⊎◌, ⊤, [], ◌∷◌, Result, Err}
-use Rattle.pdb_verdict.specs.Bound.{IsBoundOfText, IsBoundTold, IsBoundedText, TakesMemoryForBound}
-use Rattle.pdb_verdict.specs.Inputs.{Given, puzzle_text, table_file, bound_claim, optimum_claim}
-use Rattle.pdb_verdict.specs.Optimal.{IsOptimum, IsOptimumTold, IsProvedOptimum, TakesMemoryForOptimum}
+use Rattle.std.specs.Prelude.{◌≡◌, ◌⊎◌, ⊤, ℕ, Result, Err}
+use Rattle.tab_rule.specs.declared.census.Census.{Census}
+use Rattle.pdb_run.specs.Commands.{Reply}
+use Rattle.pdb_verdict.specs.Claims.{HoldsOfBoard, IsClaimTold, IsProvedClaim, TakesMemoryForClaim, claim_verdict}
+use Rattle.pdb_verdict.specs.Inputs.{Given, log_claim, puzzle_text, table_file}
+use Rattle.pdb_verdict.specs.Lines.{reply_to}
 use Rattle.pdb_verdict.specs.Replay.{IsReplayTold, IsSolvedPuzzle}
-use Rattle.pdb_verdict.specs.Table.{IsExactFor, IsTableTold, TakesMemoryForTable}
+use Rattle.pdb_verdict.specs.Table.{IsExactFor, IsTableTold, TakesMemoryForTable, exact_verdict}
 use Rattle.pdb_verdict.specs.declared.verdicts.Fault.{Fault}
 use Rattle.pdb_verdict.specs.declared.verdicts.Fault.TheVariants as fault
 use Rattle.pdb_verdict.specs.declared.verdicts.Verdict.{Verdict}
 use Rattle.pdb_verdict.specs.declared.verdicts.Verdict.TheVariants as verdict
 
--- the verdict is true of the inputs
+-- the verdict is of the kind that is given on the inputs, and true of them
 abbrev pub IsTrueOf : Given → Verdict → Type 0
-IsTrueOf (puzzle_text puzzle) (verdict.Solution n) = IsSolvedPuzzle puzzle n
-IsTrueOf (table_file table) (verdict.Exact side mask census) = IsExactFor table side mask census
-IsTrueOf (bound_claim fold board sets log tables) (verdict.Bound n) = IsBoundOfText fold board sets log tables n
-IsTrueOf (optimum_claim fold puzzle sets log tables) (verdict.Optimal n) = IsProvedOptimum fold puzzle sets log tables n
-IsTrueOf inputs verdict = ⊥
+IsTrueOf (puzzle_text puzzle) said = (n : ℕ) × IsSolvedPuzzle puzzle n × (said ≡ verdict.Solution n)
+IsTrueOf (table_file table) said = (exact : ℕ × ℕ × Census) × IsExactFor table exact.0 exact.1 exact.2 × (said ≡ exact_verdict exact)
+IsTrueOf (log_claim claim fold files) said = (n : ℕ) × IsProvedClaim claim fold files n × (said ≡ claim_verdict claim n)
 
--- what a verdict on a log says of the solutions of the board: a bound that none has fewer moves, and an optimum that it is
--- the least number of moves
+-- what a verdict on a log says of the solutions of the board
 abbrev pub HoldsOfSolutions : Given → Verdict → Type 0
-HoldsOfSolutions (bound_claim fold board sets log tables) (verdict.Bound n) = IsBoundedText board n
-HoldsOfSolutions (optimum_claim fold puzzle sets log tables) (verdict.Optimal n) = IsOptimum puzzle n
-HoldsOfSolutions inputs verdict = ⊤
+HoldsOfSolutions (puzzle_text puzzle) said = ⊤
+HoldsOfSolutions (table_file table) said = ⊤
+HoldsOfSolutions (log_claim claim fold files) said = (n : ℕ) × HoldsOfBoard claim files.text n × (said ≡ claim_verdict claim n)
 
 -- the answer is the result on the inputs
 abbrev pub IsResult : Given → Result Verdict Fault → Type 0
 IsResult (puzzle_text puzzle) answer = IsReplayTold puzzle answer
 IsResult (table_file table) answer = IsTableTold table answer
-IsResult (bound_claim fold board sets log tables) answer = IsBoundTold fold board sets log tables answer
-IsResult (optimum_claim fold puzzle sets log tables) answer = IsOptimumTold fold puzzle sets log tables answer
+IsResult (log_claim claim fold files) answer = IsClaimTold claim fold files answer
+
+-- the reply tells it
+pub record TellsResult (inputs : Given) (reply : Reply) : Type 0 where
+  pub answer : Result Verdict Fault
+  pub is_result : IsResult inputs answer
+  pub told : reply ≡ reply_to inputs answer
 
 -- ---- want of memory in its place
 
@@ -38,9 +42,8 @@ IsResult (optimum_claim fold puzzle sets log tables) answer = IsOptimumTold fold
 -- the first table file whose header stands, does a claim on a log
 abbrev pub TakesMemory : Given → Type 0
 TakesMemory (puzzle_text puzzle) = ⊥
-TakesMemory (table_file table) = TakesMemoryForTable (table ∷ [])
-TakesMemory (bound_claim fold board sets log tables) = TakesMemoryForBound board tables
-TakesMemory (optimum_claim fold puzzle sets log tables) = TakesMemoryForOptimum puzzle tables
+TakesMemory (table_file table) = TakesMemoryForTable table
+TakesMemory (log_claim claim fold files) = TakesMemoryForClaim claim files.text files.tables
 
 -- the answer is want of memory, where that is taken
 abbrev pub LacksMemory : Given → Result Verdict Fault → Type 0

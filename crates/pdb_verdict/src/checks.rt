@@ -5,14 +5,15 @@ ghost use Rattle.work_run.specs.Workers.{AreWorkers};
 ghost use Rattle.pdb_verdict.specs.Inputs.{given};
 ghost use Rattle.pdb_verdict.specs.Verdicts.{HoldsOfSolutions, IsAnswerTo, IsTrueOf, LacksMemory};
 
-use crate::bound::verify_bound;
 use crate::bundles::Tables;
+use crate::claims::verify_claim;
+use crate::evidence::Evidence;
 use crate::inputs::Inputs;
-use crate::optimal::verify_optimal;
 use crate::replay::verify_puzzle;
 use crate::table::verify_table;
 use crate::verdicts::{Fault, Verdict};
 use crate::workers::Workers;
+use pdb_request::Claim;
 use std::alloc::Global;
 use std::sync::Wait;
 use std::thread::Threads;
@@ -36,7 +37,8 @@ pub fn verify<H: Threads + Wait, G: Gate + Sync>(
     ensures always { (verdict : Verdict) → IsTrueOf (given inputs.now) verdict
         → (result ≡ Ok verdict) ⊎ LacksMemory (given inputs.now) result }
     // No solution has fewer moves than a bound, and an optimum is the least number of moves of any.
-    ensures holds { (verdict : Verdict) → result ≡ Ok verdict → HoldsOfSolutions (given inputs.now) verdict }
+    ensures holds { (verdict : Verdict) → result ≡ Ok verdict
+        → HoldsOfSolutions (given inputs.now) verdict }
     // Which refusal it is.
     ensures exact { IsAnswerTo (given inputs.now) result }
 {
@@ -59,13 +61,21 @@ pub(crate) fn verify_by<H: Threads + Wait, G: Gate + Sync>(
             log,
             tables: files,
             fold,
-        } => verify_bound(board, sets, log, Tables { files, fold }, workers),
+        } => {
+            let tables = Tables { files, fold };
+            let evidence = Evidence { sets, log, tables };
+            verify_claim(Claim::Bound, board, &evidence, workers)
+        }
         Inputs::Optimal {
             puzzle,
             sets,
             log,
             tables: files,
             fold,
-        } => verify_optimal(puzzle, sets, log, Tables { files, fold }, workers),
+        } => {
+            let tables = Tables { files, fold };
+            let evidence = Evidence { sets, log, tables };
+            verify_claim(Claim::Optimum, puzzle, &evidence, workers)
+        }
     }
 }

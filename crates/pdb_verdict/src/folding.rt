@@ -30,7 +30,8 @@ pub fn fold_bundle<'x, H: Threads + Wait + Sync, G: Gate + Sync>(
     requires { length files.items ≤ FILES_BESIDE }
     ensures digests { result.0.items ≡ digests_of (all_bytes files.items) }
     ensures room { length result.0.items + DIGEST_LEN ≤ DIGESTS_LEN }
-    ensures ok { IfOk result.1 (λ bundle. IsBundleOfFiles true (all_bytes files.items) sets.now bundle) }
+    ensures ok { IfOk result.1
+        (λ bundle. IsBundleOfFiles true (all_bytes files.items) sets.now bundle) }
     ensures err { IfErr result.1 (IsCauseForBundle true (all_bytes files.items) sets.now) }
 {
     let (digests, parts) = fold_files(files, workers);

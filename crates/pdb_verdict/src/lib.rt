@@ -2,16 +2,17 @@
 //! them.
 #![tactic(auto)]
 
-mod bound;
 mod bundles;
 mod checks;
 mod claims;
+mod evidence;
 mod folding;
 mod inputs;
 mod laws;
 mod limits;
 mod lines;
-mod optimal;
+mod log_command;
+mod log_inputs;
 mod refusals;
 mod replay;
 mod replay_command;
@@ -23,7 +24,7 @@ mod workers;
 
 pub use bundles::{Tables, read_bundle};
 pub use checks::verify;
-pub use claims::{ClaimNames, push_tables, run_bound, run_optimal, take_first};
+pub use claims::optimum_over;
 pub use folding::fold_bundle;
 pub use inputs::Inputs;
 pub use laws::{
@@ -32,11 +33,11 @@ pub use laws::{
 };
 pub use limits::a_text;
 pub use lines::line_of;
-pub use optimal::optimum_over;
+pub use log_command::run_log_check;
+pub use log_inputs::{push_tables, take_first};
 pub use refusals::{
-    BoundRefusal, BuildRefusal, BundleRefusal, Failure, FileRefusal, GivenUp, OptimalRefusal,
-    ProofRefusal, ReplayRefusal, SearchRefusal, UnmadeRefusal, fault_of_build, fault_of_optimal,
-    fault_of_search,
+    BuildRefusal, BundleRefusal, ClaimRefusal, Failure, FileRefusal, GivenUp, ProofRefusal,
+    ReplayRefusal, SearchRefusal, UnmadeRefusal, fault_of_build, fault_of_claim, fault_of_search,
 };
 pub use replay::verify_puzzle;
 pub use replay_command::run_replay;

@@ -137,7 +137,8 @@ fn numbered_table_line(number: usize, refused: TableRefusal) -> Lines
 
 /// What comes before the number of a table file whose header is refused.
 fn numbered_head_text(refused: HeadFault) -> &'static str
-    ensures text { (number : ℕ) → counted result.now number ≡ line_of_numbered_head_fault number refused }
+    ensures text { (number : ℕ)
+        → counted result.now number ≡ line_of_numbered_head_fault number refused }
     ensures short { length result.now ≤ MOST_TEXT }
 {
     match refused {

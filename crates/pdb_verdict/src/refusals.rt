@@ -1,13 +1,14 @@
 //! Why each command refuses: a type for each, and the fault that each refusal is told as.
 
 ghost use Rattle.std.specs.Prelude.{◌≡◌, ℕ};
-ghost use Rattle.pdb_verdict.specs.Refusals.{answer_of, fault_of_bound, fault_of_build, fault_of_bundle, fault_of_optimal, fault_of_proof, fault_of_replay, fault_of_search};
+ghost use Rattle.pdb_verdict.specs.Claims.{claim_verdict};
+ghost use Rattle.pdb_verdict.specs.Refusals.{answer_of, fault_of_build, fault_of_bundle, fault_of_claim, fault_of_proof, fault_of_replay, fault_of_search};
+ghost use Rattle.pdb_verdict.specs.declared.refusals.ClaimRefusal.TheVariants as claim_refusal;
 ghost use Rattle.pdb_verdict.specs.declared.refusals.Failure.TheVariants.{Refused};
-ghost use Rattle.pdb_verdict.specs.declared.refusals.OptimalRefusal.TheVariants as optimal;
-ghost use Rattle.pdb_verdict.specs.declared.verdicts.Verdict.TheVariants as verdict;
 
 use crate::verdicts::{Fault, MakeRefusal, Verdict};
 use log_check::LogRefusal;
+use pdb_request::Claim;
 use puz_board::{BoardFault, MoveFault};
 use set_sum::SetFault;
 use tab_rule::TableRefusal;
@@ -21,7 +22,7 @@ pub enum Failure<R> {
     Memory,
 }
 
-/// Why a puzzle text is none that is solved.
+/// Why a puzzle text is none that is solved, or a board text is refused.
 #[derive(Clone, Copy, Debug, PartialEq, Eq)]
 pub enum ReplayRefusal {
     /// It has no `;`.
@@ -59,31 +60,22 @@ pub enum ProofRefusal {
     Log(LogRefusal),
 }
 
-/// Why `bound` says no.
+/// Why `bound` or `optimal` says no.
 #[derive(Clone, Copy, Debug, PartialEq, Eq)]
-pub enum BoundRefusal {
-    /// The board text is refused.
-    Board(BoardFault),
-    /// No bound is proved for the board.
-    Proof(ProofRefusal),
-}
-
-/// Why `optimal` says no.
-#[derive(Clone, Copy, Debug, PartialEq, Eq)]
-pub enum OptimalRefusal {
-    /// The puzzle text is refused.
-    Replay(ReplayRefusal),
+pub enum ClaimRefusal {
+    /// The text is refused: for a bound, the board text that it is.
+    Text(ReplayRefusal),
     /// No bound is proved for its board.
     Proof(ProofRefusal),
     /// The moves are a solution, and more than the bound that is proved.
     O1 { solution: u16, bound: u8 },
 }
 
-impl From<ReplayRefusal> for Failure<OptimalRefusal> {
-    ghost from_gives = { λ refused failure. failure ≡ Refused (optimal.Replay refused) };
+impl From<ReplayRefusal> for Failure<ClaimRefusal> {
+    ghost from_gives = { λ refused failure. failure ≡ Refused (claim_refusal.Text refused) };
 
-    fn from(refused: ReplayRefusal) -> Failure<OptimalRefusal> {
-        Failure::Refused(OptimalRefusal::Replay(refused))
+    fn from(refused: ReplayRefusal) -> Failure<ClaimRefusal> {
+        Failure::Refused(ClaimRefusal::Text(refused))
     }
 }
 
@@ -156,24 +148,14 @@ pub fn fault_of_proof(refused: ProofRefusal) -> Fault
     }
 }
 
-/// The fault that a refusal of `bound` is.
-pub fn fault_of_bound(refused: BoundRefusal) -> Fault
-    ensures { result ≡ fault_of_bound refused }
+/// The fault that a refusal of `bound` or of `optimal` is.
+pub fn fault_of_claim(refused: ClaimRefusal) -> Fault
+    ensures { result ≡ fault_of_claim refused }
 {
     match refused {
-        BoundRefusal::Board(refused) => Fault::Board(refused),
-        BoundRefusal::Proof(refused) => fault_of_proof(refused),
-    }
-}
-
-/// The fault that a refusal of `optimal` is.
-pub fn fault_of_optimal(refused: OptimalRefusal) -> Fault
-    ensures { result ≡ fault_of_optimal refused }
-{
-    match refused {
-        OptimalRefusal::Replay(refused) => fault_of_replay(refused),
-        OptimalRefusal::Proof(refused) => fault_of_proof(refused),
-        OptimalRefusal::O1 { solution, bound } => Fault::O1 { solution, bound },
+        ClaimRefusal::Text(refused) => fault_of_replay(refused),
+        ClaimRefusal::Proof(refused) => fault_of_proof(refused),
+        ClaimRefusal::O1 { solution, bound } => Fault::O1 { solution, bound },
     }
 }
 
@@ -200,26 +182,26 @@ pub fn fault_of_search(refused: SearchRefusal) -> Fault
     }
 }
 
-/// What `verify` answers where `bound` finds this.
-pub(crate) fn answer_of_bound(found: Result<u8, Failure<BoundRefusal>>) -> Result<Verdict, Fault>
-    ensures { result ≡ answer_of verdict.Bound fault_of_bound found }
+/// The verdict that is given on a claim, with a number.
+fn claim_verdict(claim: Claim, number: u8) -> Verdict
+    ensures { result ≡ claim_verdict claim number }
 {
-    match found {
-        Ok(bound) => Ok(Verdict::Bound(bound)),
-        Err(Failure::Refused(refused)) => Err(fault_of_bound(refused)),
-        Err(Failure::Memory) => Err(Fault::Memory),
+    match claim {
+        Claim::Bound => Verdict::Bound(number),
+        Claim::Optimum => Verdict::Optimal(number),
     }
 }
 
-/// What `verify` answers where `optimal` finds this.
-pub(crate) fn answer_of_optimal(
-    found: Result<u8, Failure<OptimalRefusal>>,
+/// What `verify` answers where a check of a log finds this.
+pub(crate) fn answer_of_claim(
+    claim: Claim,
+    found: Result<u8, Failure<ClaimRefusal>>,
 ) -> Result<Verdict, Fault>
-    ensures { result ≡ answer_of verdict.Optimal fault_of_optimal found }
+    ensures { result ≡ answer_of (claim_verdict claim) fault_of_claim found }
 {
     match found {
-        Ok(moves) => Ok(Verdict::Optimal(moves)),
-        Err(Failure::Refused(refused)) => Err(fault_of_optimal(refused)),
+        Ok(number) => Ok(claim_verdict(claim, number)),
+        Err(Failure::Refused(refused)) => Err(fault_of_claim(refused)),
         Err(Failure::Memory) => Err(Fault::Memory),
     }
 }

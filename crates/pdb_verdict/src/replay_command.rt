@@ -3,39 +3,39 @@
 ghost use Rattle.std.specs.Prelude.{◌≡◌, length, option_map};
 ghost use Rattle.pdb_run.specs.Answers.{SaysRight, all_bytes};
 ghost use Rattle.pdb_run.specs.Runs.{Ends};
-ghost use Rattle.pdb_verdict.specs.Replay.{IsReplayReply, replay_plan};
+ghost use Rattle.pdb_verdict.specs.Inputs.{puzzle_text};
+ghost use Rattle.pdb_verdict.specs.Plans.{IsCheckReply, replay_plan};
 
 use crate::inputs::Inputs;
 use crate::limits::a_text;
 use crate::replay::verify_puzzle;
 use crate::reports::{digested_by, told};
+use pdb_request::Replay;
 use pdb_run::{Answer, Command, Input, Io, Status, conclude, read_inputs};
 use std::alloc::{AllocError, Global};
 
-/// The command `replay`: the verdict on the puzzle text under this name, or of the reader.
+/// A replay, as a command.
 #[derive(Clone, Copy)]
-struct Replay<'a> {
-    name: Option<&'a str>,
-}
+struct Replaying<'a>(Replay<'a>);
 
-impl Command for Replay<'_> {
-    ghost plan = { λ command. replay_plan (option_map (λ s. s.now) command.name) };
+impl Command for Replaying<'_> {
+    ghost plan = { λ command. replay_plan (option_map (λ s. s.now) command.0.puzzle) };
 
     fn inputs(&self, alloc: Global) -> Result<Vec<Input<'_>>, AllocError> {
         let mut inputs = Vec::new(alloc);
-        inputs.push(a_text(self.name))?;
+        inputs.push(a_text(self.0.puzzle))?;
         Ok(inputs)
     }
 }
 
 /// A whole run of `replay`, without threads: it returns where its shelf, its reader and its writer do.
 #[inline(never)] // so that the stack has the values of one command alone
-pub fn run_replay<I: Io>(alloc: Global, name: Option<&str>, io: &mut I) -> Status
+pub fn run_replay<I: Io>(alloc: Global, asked: Replay<'_>, io: &mut I) -> Status
     ensures same_streams { I.streams io.new ≡ I.streams io.old }
-    ensures ends { let plan = replay_plan (option_map (λ s. s.now) name.entry) in
+    ensures ends { let plan = replay_plan (option_map (λ s. s.now) asked.entry.puzzle) in
         Ends plan (I.world io.old) (I.world io.new) result }
 {
-    let command = Replay { name };
+    let command = Replaying(asked);
     match read_inputs(alloc, &command, io) {
         Ok(inputs) => {
             let answer = Ok(answer_replay(inputs.as_slice()));
@@ -48,7 +48,7 @@ pub fn run_replay<I: Io>(alloc: Global, name: Option<&str>, io: &mut I) -> Statu
 /// The answer on the bytes of the one input.
 fn answer_replay<'i>(inputs: &'i [Vec<u8>]) -> Answer<'i>
     requires { length inputs.now ≡ 1 }
-    ensures { SaysRight (IsReplayReply (all_bytes inputs.now)) result }
+    ensures { SaysRight (IsCheckReply puzzle_text (all_bytes inputs.now)) result }
 {
     let puzzle = inputs[0].as_slice();
     told(

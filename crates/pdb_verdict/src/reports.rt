@@ -6,8 +6,8 @@ ghost use Rattle.byte_io.specs.Streams.{AppendsFront};
 ghost use Rattle.pdb_run.specs.Writing.{digests_of, list_of};
 ghost use Rattle.pdb_run.specs.Answers.{IsAnswerBy, IsReplyOf, all_bytes, digest_lines};
 ghost use Rattle.pdb_verdict.specs.Inputs.{Given, given};
-ghost use Rattle.pdb_verdict.specs.Lines.{Tells, digested_of, line_of, lines_of, reply_to, stands_alone};
-ghost use Rattle.pdb_verdict.specs.Verdicts.{IsAnswerTo, IsResult, TakesMemory};
+ghost use Rattle.pdb_verdict.specs.Lines.{digested_of, line_of, lines_of, reply_to, stands_alone};
+ghost use Rattle.pdb_verdict.specs.Verdicts.{IsAnswerTo, TakesMemory, TellsResult};
 
 use crate::checks::verify_by;
 use crate::inputs::Inputs;
@@ -56,10 +56,24 @@ pub fn digests<W: Write>(inputs: &Inputs<'_>, out: &mut W) -> Result<(), WriteFa
 
 /// Writes the line of a verdict, a refusal or want of memory.
 pub fn line<W: Write>(answer: &Result<Verdict, Fault>, out: &mut W) -> Result<(), WriteFault>
-    ensures whole { OnOk result (Appends (W.contents out.old) (W.contents out.new) (line_of answer.now)) }
-    ensures front { OnErr result (AppendsFront (W.contents out.old) (W.contents out.new) (line_of answer.now)) }
+    ensures whole { let line = line_of answer.now in
+        OnOk result (Appends (W.contents out.old) (W.contents out.new) line) }
+    ensures front { let line = line_of answer.now in
+        OnErr result (AppendsFront (W.contents out.old) (W.contents out.new) line) }
 {
     put_text(out, line_of(answer).as_str())
+}
+
+/// The answer on inputs, whose digest lines are made beside their check, where there are workers for both.
+pub(crate) fn answer_by<'i, H: Threads + Wait + Sync, G: Gate + Sync>(
+    inputs: &Inputs<'i>,
+    workers: &Workers<'_, H, G>,
+) -> Result<Answer<'i>, AllocError>
+    ensures { let inputs = given inputs.now in
+        IsAnswerBy (TellsResult inputs) (TakesMemory inputs) result }
+{
+    let (digests, answer) = verify_beside(inputs, workers);
+    told_or_memory(digested_by(inputs, digests), answer)
 }
 
 /// What these workers answer to inputs, and the digest lines that are made beside their check, where there are some.
@@ -67,7 +81,8 @@ pub fn verify_beside<H: Threads + Wait + Sync, G: Gate + Sync>(
     inputs: &Inputs<'_>,
     workers: &Workers<'_, H, G>,
 ) -> (Option<Digests>, Result<Verdict, Fault>)
-    ensures digests { IfSome result.0 (λ digests. digests.items ≡ digests_of (digested_of (given inputs.now))) }
+    ensures digests { let lines = digests_of (digested_of (given inputs.now)) in
+        IfSome result.0 (λ digests. digests.items ≡ lines) }
     ensures answer { IsAnswerTo (given inputs.now) result.1 }
 {
     let (files, last) = checked_files(inputs);
@@ -79,7 +94,8 @@ pub fn verify_beside<H: Threads + Wait + Sync, G: Gate + Sync>(
 
 /// The digest lines of inputs: those that are made already, or else those of the files.
 pub(crate) fn digested_by<'i>(inputs: &Inputs<'i>, digests: Option<Digests>) -> Digested<'i>
-    requires { IfSome digests (λ digests. digests.items ≡ digests_of (digested_of (given inputs.now))) }
+    requires { let lines = digests_of (digested_of (given inputs.now)) in
+        IfSome digests (λ digests. digests.items ≡ lines) }
     ensures { digest_lines result ≡ digests_of (digested_of (given inputs.now)) }
 {
     match digests {
@@ -112,7 +128,7 @@ pub(crate) fn told_or_memory<'i>(
 ) -> Result<Answer<'i>, AllocError>
     ensures { (inputs : Given) → digest_lines digested.entry ≡ digests_of (digested_of inputs)
         → IsAnswerTo inputs answer
-        → IsAnswerBy (Tells inputs (IsResult inputs)) (TakesMemory inputs) result }
+        → IsAnswerBy (TellsResult inputs) (TakesMemory inputs) result }
 {
     match answer {
         Err(Fault::Memory) => Err(AllocError),

@@ -3,30 +3,30 @@
 ghost use Rattle.std.specs.Prelude.{◌≡◌, length};
 ghost use Rattle.pdb_run.specs.Answers.{IsAnswerBy, all_bytes};
 ghost use Rattle.pdb_run.specs.Runs.{Ends};
-ghost use Rattle.pdb_verdict.specs.Table.{IsTableReply, TakesMemoryForTable, table_plan};
+ghost use Rattle.pdb_verdict.specs.Inputs.{table_file};
+ghost use Rattle.pdb_verdict.specs.Plans.{CheckTakesMemory, IsCheckReply, table_plan};
 
 use crate::inputs::Inputs;
 use crate::limits::a_table;
-use crate::reports::{digested_by, told_or_memory, verify_beside};
+use crate::reports::answer_by;
 use crate::workers::Workers;
+use pdb_request::TableCheck;
 use pdb_run::{Answer, Command, Input, Io, Status, conclude, read_inputs};
 use std::alloc::{AllocError, Global};
 use std::sync::Wait;
 use std::thread::Threads;
 use work_run::Gate;
 
-/// The command `table`: the verdict on the table file under this name.
+/// A check of a table, as a command.
 #[derive(Clone, Copy)]
-struct Table<'a> {
-    name: &'a str,
-}
+struct Checking<'a>(TableCheck<'a>);
 
-impl Command for Table<'_> {
-    ghost plan = { λ command. table_plan command.name.now };
+impl Command for Checking<'_> {
+    ghost plan = { λ command. table_plan command.0.file.now };
 
     fn inputs(&self, alloc: Global) -> Result<Vec<Input<'_>>, AllocError> {
         let mut inputs = Vec::new(alloc);
-        inputs.push(a_table(self.name))?;
+        inputs.push(a_table(self.0.file))?;
         Ok(inputs)
     }
 }
@@ -34,14 +34,15 @@ impl Command for Table<'_> {
 /// A whole run of `table`, whoever checks the table.
 #[inline(never)] // so that the stack has the values of one command alone
 pub fn run_table<H: Threads + Wait + Sync, G: Gate + Sync, I: Io>(
-    name: &str,
+    check: &TableCheck<'_>,
     workers: &Workers<'_, H, G>,
     io: &mut I,
 ) -> Status
     ensures same_streams { I.streams io.new ≡ I.streams io.old }
-    ensures ends { Ends (table_plan name.now) (I.world io.old) (I.world io.new) result }
+    ensures ends { let plan = table_plan check.now.file.now in
+        Ends plan (I.world io.old) (I.world io.new) result }
 {
-    let command = Table { name };
+    let command = Checking(*check);
     match read_inputs(workers.alloc, &command, io) {
         Ok(inputs) => {
             let answer = answer_table(inputs.as_slice(), workers);
@@ -58,10 +59,8 @@ fn answer_table<'i, H: Threads + Wait + Sync, G: Gate + Sync>(
 ) -> Result<Answer<'i>, AllocError>
     requires { length inputs.now ≡ 1 }
     ensures { let files = all_bytes inputs.now in
-        IsAnswerBy (IsTableReply files) (TakesMemoryForTable files) result }
+        IsAnswerBy (IsCheckReply table_file files) (CheckTakesMemory table_file files) result }
 {
     let table = inputs[0].as_slice();
-    let inputs = Inputs::Table { table };
-    let (digests, answer) = verify_beside(&inputs, workers);
-    told_or_memory(digested_by(&inputs, digests), answer)
+    answer_by(&Inputs::Table { table }, workers)
 }

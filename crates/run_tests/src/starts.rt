@@ -2,7 +2,7 @@
 
 use crate::runs::{Ended, owned};
 use byte_io::memory::MemShelf;
-use pdb_program::{Host, start};
+use pdb_program::{Call, Host, start};
 use pdb_words::unreadable_word;
 use std::alloc::Global;
 use std::io;
@@ -21,19 +21,15 @@ fn started<H: Threads + Wait + Sync>(
     let mut reader = b"1 0 2 3 ; L".as_slice();
     let mut out = b"before\n".to_vec(alloc)?;
     let mut err = Vec::new(alloc);
-    let host = Host {
-        rt,
-        alloc,
-        gate: &OpenGate,
-    };
-    let status = start(
-        &host,
+    let call = Call {
+        host: Host {
+            rt,
+            alloc,
+            gate: &OpenGate,
+        },
         arguments,
-        &mut shelf,
-        &mut reader,
-        &mut out,
-        &mut err,
-    );
+    };
+    let status = start(call, &mut shelf, &mut reader, &mut out, &mut err);
     Ok(Ended { status, out, err })
 }
 

@@ -5,8 +5,9 @@ ghost use Rattle.std.specs.Prelude.{◌<◌, ◌≤◌};
 use crate::sha256;
 use crate::telling::{joined, tells};
 use byte_io::memory::MemShelf;
+use pdb_request::{Claim, LogCheck};
 use pdb_run::{BorrowedIo, Status};
-use pdb_verdict::{ClaimNames, Fault, Inputs, Verdict, Workers, run_bound, run_optimal, verify};
+use pdb_verdict::{Fault, Inputs, Verdict, Workers, run_log_check, verify};
 use samples::HoldingGate;
 use samples::files::{TILE_1, TILE_3, TILE_24, TILES_12, TILES_123, with_byte};
 use samples::logs::{BRANCHES, CITATION, LEAF, UNSOLVABLE};
@@ -348,14 +349,24 @@ fn optima_are_refused_for_their_moves_before_their_tables(rt: HostRuntime) -> Re
     Ok(())
 }
 
-/// Names on `shelf`.
-const NAMES: ClaimNames<'static, 'static> = ClaimNames {
-    text: "text",
-    sets: "sets",
-    log: "log",
-    tables: &["table", "table"],
-    fold: false,
-};
+/// A check of these files on `shelf`, by two workers.
+fn check_of(
+    alloc: Global,
+    claim: Claim,
+    sets: &'static str,
+    log: &'static str,
+    second: &'static str,
+) -> Result<LogCheck<'static>, AllocError> {
+    Ok(LogCheck {
+        claim,
+        text: "text",
+        sets,
+        log,
+        tables: vec![in alloc; "table", second]?,
+        workers: 2,
+        fold: false,
+    })
+}
 
 /// The files of a claim.
 fn shelf(alloc: Global) -> Result<MemShelf, AllocError> {
@@ -382,8 +393,10 @@ fn claims_are_told_behind_the_digests_of_their_tables(rt: HostRuntime) -> Result
         reader: &mut reader,
         out: &mut out,
     };
-    let bound = run_bound(NAMES, &workers, &mut io);
-    let optimal = run_optimal(NAMES, &workers, &mut io);
+    let check = check_of(alloc, Claim::Bound, "sets", "log", "table")?;
+    let bound = run_log_check(&check, &workers, &mut io);
+    let check = check_of(alloc, Claim::Optimum, "sets", "log", "table")?;
+    let optimal = run_log_check(&check, &workers, &mut io);
     assert!(rt; bound == Status::Refused && optimal == Status::Refused);
     let told = [
         sha256::OF_123,
@@ -404,15 +417,8 @@ fn claims_are_read_in_the_order_of_their_names(rt: HostRuntime) -> Result<(), Fa
     let alloc = rt.alloc();
     let mut shelf = shelf(alloc)?;
     let workers = Workers::new(&rt, alloc, 2, &OpenGate);
-    let no_sets = ClaimNames {
-        sets: "none",
-        log: "no log",
-        ..NAMES
-    };
-    let no_table = ClaimNames {
-        tables: &["table", "no table"],
-        ..NAMES
-    };
+    let no_sets = check_of(alloc, Claim::Bound, "none", "no log", "table")?;
+    let no_table = check_of(alloc, Claim::Bound, "sets", "log", "no table")?;
     let mut out = Vec::new(alloc);
     let mut reader = b"".as_slice();
     let mut io = BorrowedIo {
@@ -420,8 +426,8 @@ fn claims_are_read_in_the_order_of_their_names(rt: HostRuntime) -> Result<(), Fa
         reader: &mut reader,
         out: &mut out,
     };
-    for names in [no_sets, no_table] {
-        let status = run_bound(names, &workers, &mut io);
+    for check in [&no_sets, &no_table] {
+        let status = run_log_check(check, &workers, &mut io);
         assert!(rt; status == Status::Fault);
     }
     assert!(rt; out.as_slice() == b"fault read none\nfault read no table\n".as_slice());

@@ -3,9 +3,10 @@
 use crate::sha256;
 use crate::telling::joined;
 use byte_io::memory::MemShelf;
-use pdb_keep::{SearchNames, run_solve};
+use pdb_keep::run_solve;
+use pdb_request::{Claim, LogCheck, Search};
 use pdb_run::{BorrowedIo, Status};
-use pdb_verdict::{ClaimNames, Workers, run_optimal};
+use pdb_verdict::{Workers, run_log_check};
 use samples::files::{TILE_24, TILES_12, TILES_123, with_byte};
 use std::alloc::{AllocError, Global};
 use std::process::Abort;
@@ -51,12 +52,14 @@ fn solved<H: Threads + Wait + Sync>(
             ("table", task.table),
         ],
     )?;
-    let names = SearchNames {
+    let search = Search {
         board: "board",
         sets: "sets",
         out: "o",
-        tables: &["table"],
+        tables: vec![in alloc; "table"]?,
+        workers: workers.count,
         fold,
+        budget,
     };
     let mut out = Vec::new(alloc);
     let mut reader = b"".as_slice();
@@ -65,7 +68,7 @@ fn solved<H: Threads + Wait + Sync>(
         reader: &mut reader,
         out: &mut out,
     };
-    let status = run_solve(names, budget, workers, &mut io);
+    let status = run_solve(&search, workers, &mut io);
     Ok((status, out, shelf))
 }
 
@@ -94,12 +97,14 @@ fn verdict_on<H: Threads + Wait + Sync>(
     mut claim: MemShelf,
     fold: bool,
     workers: &Workers<'_, H, OpenGate>,
-) -> (Status, Vec<u8>) {
-    let names = ClaimNames {
+) -> Result<(Status, Vec<u8>), AllocError> {
+    let check = LogCheck {
+        claim: Claim::Optimum,
         text: "puzzle",
         sets: "sets",
         log: "log",
-        tables: &["table"],
+        tables: vec![in alloc; "table"]?,
+        workers: workers.count,
         fold,
     };
     let mut told = Vec::new(alloc);
@@ -109,8 +114,8 @@ fn verdict_on<H: Threads + Wait + Sync>(
         reader: &mut reader,
         out: &mut told,
     };
-    let status = run_optimal(names, workers, &mut io);
-    (status, told)
+    let status = run_log_check(&check, workers, &mut io);
+    Ok((status, told))
 }
 
 /// A board text, `;` and moves.
@@ -148,7 +153,7 @@ fn check_solution<H: Threads + Wait + Sync + Abort>(
         let log = shelf.get("o").ok_or("a log is kept")?;
         let puzzle = puzzle_of(alloc, task.board, moves)?;
         let claim = claim_of(alloc, puzzle.as_slice(), task.sets, log, task.table)?;
-        let (agreed, told) = verdict_on(alloc, claim, fold, &workers);
+        let (agreed, told) = verdict_on(alloc, claim, fold, &workers)?;
         assert!(rt; agreed == Status::Yes && told.ends_with(line));
         let digests = told.get(..144).ok_or("two digests")?;
         assert!(rt; out == lines_of(alloc, digests, moves, line)?);
@@ -284,14 +289,23 @@ fn sets_are_refused_before_a_table_of_another_side(rt: HostRuntime) -> Result<()
     Ok(())
 }
 
-/// Names on `shelf`, and `o` for the log.
-const NAMES: SearchNames<'static, 'static> = SearchNames {
-    board: "board",
-    sets: "sets",
-    out: "o",
-    tables: &["table", "table"],
-    fold: true,
-};
+/// A search over these files on `shelf` by two workers, with `o` for the log.
+fn search_of(
+    alloc: Global,
+    board: &'static str,
+    sets: &'static str,
+    second: &'static str,
+) -> Result<Search<'static>, AllocError> {
+    Ok(Search {
+        board,
+        sets,
+        out: "o",
+        tables: vec![in alloc; "table", second]?,
+        workers: 2,
+        fold: true,
+        budget: PLENTY,
+    })
+}
 
 /// The files of a search.
 fn shelf(alloc: Global) -> Result<MemShelf, AllocError> {
@@ -305,11 +319,11 @@ fn shelf(alloc: Global) -> Result<MemShelf, AllocError> {
     )
 }
 
-/// How a search under these names ends, and what it writes.
-fn ended_under<H: Threads + Wait + Sync>(
+/// How a search ends, and what it writes.
+fn ended_by<H: Threads + Wait + Sync>(
     rt: &H,
     alloc: Global,
-    names: SearchNames<'_, '_>,
+    search: &Search<'_>,
 ) -> Result<(Status, Vec<u8>), Fail> {
     let workers = Workers::new(rt, alloc, 2, &OpenGate);
     let mut shelf = shelf(alloc)?;
@@ -320,14 +334,15 @@ fn ended_under<H: Threads + Wait + Sync>(
         reader: &mut reader,
         out: &mut out,
     };
-    let status = run_solve(names, PLENTY, &workers, &mut io);
+    let status = run_solve(search, &workers, &mut io);
     Ok((status, out))
 }
 
 #[test]
 fn a_search_is_told_behind_the_digests_of_its_tables(rt: HostRuntime) -> Result<(), Fail> {
     let alloc = rt.alloc();
-    let (status, out) = ended_under(&rt, alloc, NAMES)?;
+    let search = search_of(alloc, "board", "sets", "table")?;
+    let (status, out) = ended_by(&rt, alloc, &search)?;
     assert!(rt; status == Status::Yes);
     assert!(rt; out.starts_with(joined(alloc, &[sha256::OF_123, sha256::OF_123])?.as_slice()));
     assert!(rt; out.ends_with(b"\nmoves\noptimal 0\n"));
@@ -336,21 +351,15 @@ fn a_search_is_told_behind_the_digests_of_its_tables(rt: HostRuntime) -> Result<
 
 #[test]
 fn inputs_of_a_search_are_read_in_the_order_of_their_names(rt: HostRuntime) -> Result<(), Fail> {
-    let no_board = SearchNames {
-        board: "no board",
-        sets: "none",
-        ..NAMES
-    };
-    let no_table = SearchNames {
-        tables: &["table", "no table"],
-        ..NAMES
-    };
-    let cases: [(SearchNames<'_, '_>, &[u8]); 2] = [
-        (no_board, b"fault read no board\n"),
-        (no_table, b"fault read no table\n"),
+    let alloc = rt.alloc();
+    let no_board = search_of(alloc, "no board", "none", "table")?;
+    let no_table = search_of(alloc, "board", "sets", "no table")?;
+    let cases: [(&Search<'_>, &[u8]); 2] = [
+        (&no_board, b"fault read no board\n"),
+        (&no_table, b"fault read no table\n"),
     ];
-    for (names, line) in cases {
-        let (status, out) = ended_under(&rt, rt.alloc(), names)?;
+    for (search, line) in cases {
+        let (status, out) = ended_by(&rt, alloc, search)?;
         assert!(rt; status == Status::Fault && out.as_slice() == line);
     }
     Ok(())

@@ -1,13 +1,14 @@
 //! Runs of each command over a shelf that fails.
 
 use byte_io::memory::MemShelf;
-use pdb_keep::{MakeTable, SearchNames, run_make_table, run_solve};
+use pdb_keep::{run_make_table, run_solve};
+use pdb_request::{Claim, LogCheck, MakeTable, Replay, Search, TableCheck};
 use pdb_run::{BorrowedIo, Io, Status};
-use pdb_verdict::{ClaimNames, Workers, run_bound, run_optimal, run_replay, run_table};
+use pdb_verdict::{Workers, run_log_check, run_replay, run_table};
 use sample_streams::{FailingShelf, ShelfFault};
 use samples::files::{TILE_3, TILES_12};
 use samples::logs::BRANCHES;
-use std::alloc::Global;
+use std::alloc::{AllocError, Global};
 use std::process::Abort;
 use std::sync::Wait;
 use std::test::Fail;
@@ -36,49 +37,63 @@ enum Command {
     MakeTable,
 }
 
+/// The check of the log, of what is claimed of a text of this name.
+fn check_of(alloc: Global, claim: Claim, text: &'static str) -> Result<LogCheck<'static>, AllocError> {
+    Ok(LogCheck {
+        claim,
+        text,
+        sets: "sets",
+        log: "log",
+        tables: vec![in alloc; "f12", "f3"]?,
+        workers: 1,
+        fold: false,
+    })
+}
+
 /// The end of its run over a shelf, by one worker. What it makes is to be kept as `o`.
 fn ended<H: Threads + Wait + Sync, I: Io>(
     workers: &Workers<'_, H, OpenGate>,
     command: Command,
     io: &mut I,
-) -> Status {
-    let claim = ClaimNames {
-        text: "board",
-        sets: "sets",
-        log: "log",
-        tables: &["f12", "f3"],
-        fold: false,
-    };
-    match command {
-        Command::Replay => run_replay(workers.alloc, Some("puzzle"), io),
-        Command::Table => run_table("f12", workers, io),
-        Command::Bound => run_bound(claim, workers, io),
-        Command::Optimal => {
-            let names = ClaimNames {
-                text: "puzzle",
-                ..claim
-            };
-            run_optimal(names, workers, io)
+) -> Result<Status, AllocError> {
+    let alloc = workers.alloc;
+    let status = match command {
+        Command::Replay => {
+            let puzzle = Some("puzzle");
+            run_replay(alloc, Replay { puzzle }, io)
         }
+        Command::Table => {
+            let check = TableCheck {
+                file: "f12",
+                workers: 1,
+            };
+            run_table(&check, workers, io)
+        }
+        Command::Bound => run_log_check(&check_of(alloc, Claim::Bound, "board")?, workers, io),
+        Command::Optimal => run_log_check(&check_of(alloc, Claim::Optimum, "puzzle")?, workers, io),
         Command::Solve => {
-            let names = SearchNames {
+            let search = Search {
                 board: "board",
                 sets: "sets",
                 out: "o",
-                tables: &["f12", "f3"],
+                tables: vec![in alloc; "f12", "f3"]?,
+                workers: 1,
                 fold: false,
+                budget: 1_000,
             };
-            run_solve(names, 1_000, workers, io)
+            run_solve(&search, workers, io)
         }
         Command::MakeTable => {
             let pattern = MakeTable {
                 side: 2,
                 mask: 6,
                 out: "o",
+                workers: 1,
             };
-            run_make_table(pattern, workers, io)
+            run_make_table(&pattern, workers, io)
         }
-    }
+    };
+    Ok(status)
 }
 
 /// A command's run, whose call of the shelf with this number fails, ends there, says this line alone and leaves all files.
@@ -98,7 +113,7 @@ fn expect_fault<H: Threads + Wait + Sync + Abort>(
         reader: &mut reader,
         out: &mut out,
     };
-    let status = ended(&Workers::new(rt, alloc, 1, &OpenGate), command, &mut io);
+    let status = ended(&Workers::new(rt, alloc, 1, &OpenGate), command, &mut io)?;
     let want = match why {
         ShelfFault::Memory => Status::NoMemory,
         _ => Status::Fault,

@@ -3,7 +3,8 @@
 use crate::sha256;
 use crate::telling::joined;
 use byte_io::memory::MemShelf;
-use pdb_keep::{MakeTable, run_make_table};
+use pdb_keep::run_make_table;
+use pdb_request::MakeTable;
 use pdb_run::{BorrowedIo, Status};
 use pdb_verdict::Workers;
 use samples::files::{TILE_24, TILES_12, TILES_123};
@@ -31,13 +32,14 @@ fn makes<H: Threads + Wait + Sync>(
             side,
             mask,
             out: "o",
+            workers: count,
         };
         let mut io = BorrowedIo {
             shelf: &mut shelf,
             reader: &mut reader,
             out: &mut out,
         };
-        let status = run_make_table(command, &workers, &mut io);
+        let status = run_make_table(&command, &workers, &mut io);
         let is_kept = shelf.get("o") == Some(file);
         if status != Status::Yes || out.as_slice() != told || !is_kept {
             return Ok(false);
@@ -92,13 +94,14 @@ fn nothing_is_made_of_what_is_no_pattern(rt: HostRuntime) -> Result<(), Fail> {
             side,
             mask,
             out: "o",
+            workers: 1,
         };
         let mut io = BorrowedIo {
             shelf: &mut shelf,
             reader: &mut reader,
             out: &mut out,
         };
-        let status = run_make_table(command, &workers, &mut io);
+        let status = run_make_table(&command, &workers, &mut io);
         assert!(rt; status == Status::Refused);
         assert!(rt; out.as_slice() == b"refused K4\n".as_slice());
         assert!(rt; shelf.get("o").is_none());

@@ -3,6 +3,7 @@
 use crate::sha256;
 use crate::telling::{joined, tells};
 use byte_io::memory::MemShelf;
+use pdb_request::Replay;
 use pdb_run::{BorrowedIo, Status};
 use pdb_verdict::{
     Fault, Inputs, MakeRefusal, digests, line, report, run_replay, verify, verify_puzzle,
@@ -232,8 +233,8 @@ fn a_replay_runs_without_threads(rt: HostRuntime) -> Result<(), Fail> {
         reader: &mut reader,
         out: &mut out,
     };
-    let named = run_replay(alloc, Some("one"), &mut io);
-    let unnamed = run_replay(alloc, None, &mut io);
+    let named = run_replay(alloc, Replay { puzzle: Some("one") }, &mut io);
+    let unnamed = run_replay(alloc, Replay { puzzle: None }, &mut io);
     assert!(rt; named == Status::Yes && unnamed == Status::Refused);
     assert!(rt; out.as_slice() == b"solution 1\nrefused M2 at step 0\n".as_slice());
     Ok(())

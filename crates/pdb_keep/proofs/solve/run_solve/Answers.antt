@@ -1,15 +1,19 @@
-use Rattle.std.proofs.Common.{◌≡◌, Bool, false, rules, subst, sym}
-use Rattle.pdb_run.specs.Answers.{IsAnswerBy, all_bytes}
-use Rattle.pdb_keep.specs.Solve.{IsSolveReply, SolveTakesMemory}
+use Rattle.std.proofs.Common.{Bool, subst, sym}
+use Rattle.pdb_run.specs.Answers.{all_bytes}
+use Rattle.pdb_keep.specs.Steps.{IsSearchAnswer}
+use Rattle.pdb_keep.proofs.MakerLemmas.{search_answered}
 use Rattle.pdb_keep.proofs.solve.run_solve.Goals as goal
 
-pub returns-then-names-clause-ends : goal.returns-then-names-clause-ends
-returns-then-names-clause-ends g c = c.conclude_folded.ensures.ends _ c.in-Ok.ensures.read
+pub returns-in-Some-clause-ends : goal.returns-in-Some-clause-ends
+returns-in-Some-clause-ends g c =
+    let files = c.of-files.result in
+    let told = c.answer_folded-answer.result in
+    let says = subst (λ (fold : Bool). IsSearchAnswer fold files told) (sym c.in-Some.ensures.folds) c.answer_folded-answer.ensures in
+    c.keep_and_conclude.ensures.ends (all_bytes c.in-Ok.inputs.items) _ c.in-Ok.ensures.read
+    (search_answered c.args.search.now.fold _ files.text.items files.sets.items (all_bytes files.tables.items) told c.of-files.ensures says)
 
-pub returns-clause-ends : goal.returns-clause-ends
-returns-clause-ends g c =
-    let folds : c.args.names.fold ≡ false = search rules in
-    let files = all_bytes c.in-Ok.inputs.items in
-    let by = subst (λ (b : Bool). IsAnswerBy (IsSolveReply b files) (SolveTakesMemory files) c.answer_solve-answer.result) (sym folds)
-    (subst (λ xs. IsAnswerBy (IsSolveReply false (all_bytes xs)) (SolveTakesMemory (all_bytes xs)) c.answer_solve-answer.result) c.as_slice.ensures.value c.answer_solve-answer.ensures) in
-    c.keep_and_conclude.ensures.ends files _ c.in-Ok.ensures.read by
+pub returns-in-None-clause-ends : goal.returns-in-None-clause-ends
+returns-in-None-clause-ends g c =
+    let files = c.of-files.result in
+    c.keep_and_conclude-in-None.ensures.ends (all_bytes c.in-Ok.inputs.items) _ c.in-Ok.ensures.read
+    (search_answered c.args.search.now.fold _ files.text.items files.sets.items (all_bytes files.tables.items) c.answer_solve-answer.result c.of-files.ensures c.answer_solve-answer.ensures)

@@ -1,0 +1,93 @@
+//! The commands `bound` and `optimal`: checks of a log.
+
+ghost use Rattle.std.specs.Prelude.{◌≡◌, ◌≤◌, Ok, Some, true, length, IfSome};
+ghost use Rattle.pdb_run.specs.Answers.{IsAnswerBy};
+ghost use Rattle.pdb_run.specs.Runs.{Ends};
+ghost use Rattle.pdb_verdict.specs.Claims.{start_of};
+ghost use Rattle.pdb_verdict.specs.Inputs.{log_claim};
+ghost use Rattle.pdb_verdict.specs.Plans.{plan_of_check};
+ghost use Rattle.pdb_verdict.specs.Steps.{files_read};
+ghost use Rattle.pdb_verdict.specs.Verdicts.{TakesMemory, TellsResult};
+
+use crate::claims::{start_of, verdict_on};
+use crate::evidence::bound_of_files;
+use crate::log_inputs::{Checking, LogInputs};
+use crate::reports::{answer_by, told_or_memory};
+use crate::workers::Workers;
+use pdb_request::{Claim, LogCheck};
+use pdb_run::{Answer, Digested, FILES_BESIDE, Io, Status, conclude, read_inputs};
+use puz_board::Board;
+use std::alloc::AllocError;
+use std::sync::Wait;
+use std::thread::Threads;
+use work_run::Gate;
+
+/// A whole run of `bound` or of `optimal`, whoever checks the tables and the log.
+#[inline(never)] // so that the stack has the values of one command alone
+pub fn run_log_check<H: Threads + Wait + Sync, G: Gate + Sync, I: Io>(
+    check: &LogCheck<'_>,
+    workers: &Workers<'_, H, G>,
+    io: &mut I,
+) -> Status
+    ensures same_streams { I.streams io.new ≡ I.streams io.old }
+    ensures ends { Ends (plan_of_check check.now) (I.world io.old) (I.world io.new) result }
+{
+    let command = Checking(check);
+    let files = match read_inputs(workers.alloc, &command, io) {
+        Ok(inputs) => LogInputs::of(inputs),
+        Err(status) => return status,
+    };
+    match start_to_fold(check, &files) {
+        Some((board, moves)) => {
+            let answer = answer_folded(check.claim, &board, moves, files, workers);
+            conclude(&command, &answer, io)
+        }
+        None => {
+            let answer = answer_by(&files.inputs(check.claim, check.fold), workers);
+            conclude(&command, &answer, io)
+        }
+    }
+}
+
+/// The board of a check with folded tables, and of a puzzle text how many moves solve it. There is none of a text that is
+/// refused, nor of more tables than a bundle has.
+fn start_to_fold(check: &LogCheck<'_>, files: &LogInputs) -> Option<(Board, Option<u16>)>
+    ensures folds { IfSome result (λ _. check.now.fold ≡ true) }
+    ensures few { IfSome result (λ _. length files.now.tables.items ≤ FILES_BESIDE) }
+    ensures start { IfSome result
+        (λ start. start_of check.now.claim files.now.text.items ≡ Ok start) }
+{
+    if !check.fold || files.tables.len() > FILES_BESIDE {
+        return None;
+    }
+    match start_of(check.claim, files.text.as_slice()) {
+        Ok(start) => Some(start),
+        Err(_) => None,
+    }
+}
+
+/// The answer of a check with folded tables. The bytes of each table are given up in turn, so that the log is checked beside the
+/// folded tables alone.
+#[inline(never)] // so that a run with full tables hasn't its values on the stack
+fn answer_folded<'i, H: Threads + Wait + Sync, G: Gate + Sync>(
+    claim: Claim,
+    board: &Board,
+    moves: Option<u16>,
+    files: LogInputs,
+    workers: &Workers<'_, H, G>,
+) -> Result<Answer<'i>, AllocError>
+    requires few { length files.tables.items ≤ FILES_BESIDE }
+    requires start { start_of claim files.text.items ≡ Ok (board.now, moves) }
+    ensures { let claimed = log_claim claim true (files_read files) in
+        IsAnswerBy (TellsResult claimed) (TakesMemory claimed) result }
+{
+    let LogInputs {
+        text: _,
+        sets,
+        log,
+        tables,
+    } = files;
+    let (sets, log) = (sets.as_slice(), log.as_slice());
+    let (digests, found) = bound_of_files(board, sets, log, tables, workers);
+    told_or_memory(Digested::Lines(digests), verdict_on(claim, moves, found))
+}
