@@ -2,7 +2,7 @@
 use Rattle.std.specs.Prelude.{ℕ, List, codes}
 use Rattle.clap.specs.Walk.{Row, Rule}
 use Rattle.clap.specs.declared.builder.value_parser.ValueParser.TheVariants as parser
-use Rattle.pdb_words.specs.Asked.{most_budget}
+use Rattle.pdb_request.specs.Asked.{most_budget}
 use Rattle.pdb_words.specs.Numbers.{number_flag, number_in}
 
 -- so many boards may be expanded where the words don't say how many

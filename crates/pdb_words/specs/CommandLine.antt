@@ -5,10 +5,10 @@ use Rattle.clap.specs.Walk.{Row, Text}
 use Rattle.clap.specs.Simple.{App, new_app, on_top, subcommand_of, with_subcommand}
 use Rattle.clap.specs.Faults.{fault_of}
 use Rattle.clap.specs.Kinds.{Kinds}
-use Rattle.pdb_words.specs.Asked.{Asked, replay}
-use Rattle.pdb_words.specs.Bound.{bound_command, bound_in}
+use Rattle.pdb_request.specs.Asked.{Asked, replay}
+use Rattle.pdb_request.specs.declared.requests.Claim.TheVariants.{Bound, Optimum}
+use Rattle.pdb_words.specs.LogChecks.{check_command, check_in}
 use Rattle.pdb_words.specs.MakeTable.{make_table_command, make_table_in}
-use Rattle.pdb_words.specs.Optimal.{optimal_command, optimal_in}
 use Rattle.pdb_words.specs.Replay.{replay_command, replay_in}
 use Rattle.pdb_words.specs.Solve.{solve_command, solve_in}
 use Rattle.pdb_words.specs.Table.{table_command, table_in}
@@ -20,7 +20,7 @@ program = on_top (λ s. record s { no_binary_name = true }) (new_app (codes "pdb
 -- the program with the commands that only check
 abbrev pub checks : App
 checks = with_subcommand (with_subcommand (with_subcommand (with_subcommand program
-    replay_command.top) table_command.top) bound_command.top) optimal_command.top
+    replay_command.top) table_command.top) (check_command Bound).top) (check_command Optimum).top
 
 -- the program with all its commands
 abbrev pub command_line : App
@@ -32,8 +32,8 @@ command_line = with_subcommand (with_subcommand checks make_table_command.top) s
 abbrev pub asked_by : Text → List Row → Asked
 asked_by name rows = if bytes_eq name (codes "replay") then replay_in rows
     else if bytes_eq name (codes "table") then table_in rows
-    else if bytes_eq name (codes "bound") then bound_in rows
-    else if bytes_eq name (codes "optimal") then optimal_in rows
+    else if bytes_eq name (codes "bound") then check_in Bound rows
+    else if bytes_eq name (codes "optimal") then check_in Optimum rows
     else if bytes_eq name (codes "make-table") then make_table_in rows
     else if bytes_eq name (codes "solve") then solve_in rows
     else replay None

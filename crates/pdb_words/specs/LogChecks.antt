@@ -1,17 +1,30 @@
--- What `bound` and `optimal` share: the words that name a claim and its log.
+-- The words of `bound [--workers N] [--fold] BOARD SETS LOG TABLES..`, and of `optimal`, which has PUZZLE in place of BOARD.
 use Rattle.std.specs.Prelude.{List, codes}
 use Rattle.clap.specs.Walk.{Row, Text}
 use Rattle.clap.specs.Simple.{App, new_app, with_rule}
-use Rattle.pdb_words.specs.Asked.{Asked, AsksCheck}
+use Rattle.pdb_request.specs.Asked.{Asked, log_check}
+use Rattle.pdb_request.specs.declared.requests.Claim.{Claim}
+use Rattle.pdb_request.specs.declared.requests.Claim.TheVariants.{Bound, Optimum}
 use Rattle.pdb_words.specs.Files.{file_in, needed_file, tables_in, with_log}
 use Rattle.pdb_words.specs.Fold.{fold_in}
 use Rattle.pdb_words.specs.Workers.{workers_in}
 
--- the command of this name, whose claim stands under this id, as `clap` sees it
-abbrev pub check_command : Text → Text → App
-check_command name claim = with_log (with_rule (new_app name) (needed_file claim)) (needed_file (codes "LOG"))
+-- the name of the command that asks for a log's check
+abbrev pub check_name : Claim → Text
+check_name Bound = codes "bound"
+check_name Optimum = codes "optimal"
+
+-- the id of the text that the claim is about
+abbrev pub text_id : Claim → Text
+text_id Bound = codes "BOARD"
+text_id Optimum = codes "PUZZLE"
+
+-- the command, as `clap` sees it
+abbrev pub check_command : Claim → App
+check_command claim =
+    with_log (with_rule (new_app (check_name claim)) (needed_file (text_id claim))) (needed_file (codes "LOG"))
 
 -- what the values found of it ask for
-abbrev pub check_in : AsksCheck → Text → List Row → Asked
-check_in asks claim rows = asks (file_in claim rows) (file_in (codes "SETS") rows) (file_in (codes "LOG") rows)
-    (tables_in rows) (workers_in rows) (fold_in rows)
+abbrev pub check_in : Claim → List Row → Asked
+check_in claim rows = log_check claim (file_in (text_id claim) rows) (file_in (codes "SETS") rows)
+    (file_in (codes "LOG") rows) (tables_in rows) (workers_in rows) (fold_in rows)

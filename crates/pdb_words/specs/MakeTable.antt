@@ -3,7 +3,7 @@ use Rattle.std.specs.Prelude.{ℕ, List, Some, codes, pos, true}
 use Rattle.clap.specs.Walk.{Row, Rule}
 use Rattle.clap.specs.Simple.{App, new_app, new_rule, with_rule}
 use Rattle.clap.specs.declared.builder.value_parser.ValueParser.TheVariants as parser
-use Rattle.pdb_words.specs.Asked.{Asked, make_table}
+use Rattle.pdb_request.specs.Asked.{Asked, make_table}
 use Rattle.pdb_words.specs.Files.{file_in, needed_file}
 use Rattle.pdb_words.specs.Numbers.{number_in}
 use Rattle.pdb_words.specs.Workers.{workers_flag, workers_in}

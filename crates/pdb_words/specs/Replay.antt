@@ -2,7 +2,7 @@
 use Rattle.std.specs.Prelude.{List, codes}
 use Rattle.clap.specs.Walk.{Row, first_of}
 use Rattle.clap.specs.Simple.{App, new_app, new_rule, with_rule}
-use Rattle.pdb_words.specs.Asked.{Asked, replay}
+use Rattle.pdb_request.specs.Asked.{Asked, replay}
 
 -- the command, as `clap` sees it
 abbrev pub replay_command : App

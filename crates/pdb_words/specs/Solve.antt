@@ -2,7 +2,7 @@
 use Rattle.std.specs.Prelude.{List, codes}
 use Rattle.clap.specs.Walk.{Row}
 use Rattle.clap.specs.Simple.{App, new_app, with_rule}
-use Rattle.pdb_words.specs.Asked.{Asked, solve}
+use Rattle.pdb_request.specs.Asked.{Asked, solve}
 use Rattle.pdb_words.specs.Budget.{budget_flag, budget_in}
 use Rattle.pdb_words.specs.Files.{file_in, needed_file, tables_in, with_log}
 use Rattle.pdb_words.specs.Fold.{fold_in}

@@ -2,7 +2,7 @@
 use Rattle.std.specs.Prelude.{List, codes}
 use Rattle.clap.specs.Walk.{Row}
 use Rattle.clap.specs.Simple.{App, new_app, with_rule}
-use Rattle.pdb_words.specs.Asked.{Asked, table}
+use Rattle.pdb_request.specs.Asked.{Asked, table}
 use Rattle.pdb_words.specs.Files.{file_in, needed_file}
 use Rattle.pdb_words.specs.Workers.{workers_flag, workers_in}
 

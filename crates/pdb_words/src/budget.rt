@@ -1,8 +1,9 @@
 //! The flag `--budget N`.
 
 ghost use Rattle.std.specs.Prelude.{◌≡◌};
-ghost use Rattle.clap.specs.Words.{found_of, rows_of, rule_of};
-ghost use Rattle.pdb_words.specs.Asked.{IsBudget};
+ghost use Rattle.clap.specs.Words.{rule_of};
+ghost use Rattle.pdb_request.specs.Asked.{IsBudget};
+ghost use Rattle.pdb_words.specs.Arguments.{rows_found};
 ghost use Rattle.pdb_words.specs.Budget.{budget_flag, budget_in};
 
 use crate::numbers::{number_flag, number_in};
@@ -27,7 +28,7 @@ pub(crate) fn budget_flag<'a>(alloc: Global) -> Arg<'a>
 
 /// How many boards these matches of a command let a search expand.
 pub(crate) fn budget_in(found: &ArgMatches<'_>) -> u64
-    ensures asked { result ≡ budget_in (rows_of (found_of found.now)) }
+    ensures asked { result ≡ budget_in (rows_found found.now) }
     ensures within { IsBudget result }
 {
     number_in(found, "budget", 1, MOST_BUDGET, USUAL_BUDGET)

@@ -2,21 +2,20 @@
 
 ghost use Rattle.std.specs.Prelude.{◌≡◌, IfErr, IfOk, IfSome, map, string_bytes, true};
 ghost use Rattle.clap.specs.Words.{App, FailsBy, app_of, subcommand_of, subcommand_rows_of, with_subcommand};
-ghost use Rattle.pdb_words.specs.Asked.{HasBudget, HasWorkers, request_shown};
+ghost use Rattle.pdb_request.specs.Asked.{HasBudget, HasWorkers, request_shown};
 ghost use Rattle.pdb_words.specs.CommandLine.{Parses, asked_in, asked_of, checks, command_line, faults_of, program};
 ghost use Rattle.pdb_words.specs.Commands.{IsCommand};
 ghost use Rattle.pdb_words.specs.Faults.{IsCauseOfWordFault};
 
-use crate::asked::Request;
-use crate::bound::{bound_command, bound_in};
 use crate::commands::with_statuses;
 use crate::faults::{WordFault, fault_by};
+use crate::log_checks::{bound_command, check_in, optimal_command};
 use crate::make_table::{make_table_command, make_table_in};
-use crate::optimal::{optimal_command, optimal_in};
 use crate::replay::{replay_command, replay_in};
 use crate::solve::{solve_command, solve_in};
 use crate::table::{table_command, table_in};
 use clap::{ArgMatches, Command};
+use pdb_request::{Claim, Replay, Request};
 use std::alloc::{AllocError, Global};
 
 /// What stands at the end of the help.
@@ -29,9 +28,10 @@ const AFTER_HELP: &str = with_statuses!(
 #[inline(never)] // so that a run's stack hasn't the values of this
 pub fn read_words<'a>(alloc: Global, words: &'a [String]) -> Result<Request<'a>, WordFault>
     ensures parses { IfOk result (λ _. Parses (map string_bytes words.now)) }
-    ensures asked { IfOk result (λ request. request_shown request ≡ asked_of (map string_bytes words.now)) }
-    ensures workers { IfOk result (λ request. HasWorkers request) }
-    ensures budget { IfOk result (λ request. HasBudget request) }
+    ensures asked { IfOk result (λ asked.
+        request_shown asked ≡ asked_of (map string_bytes words.now)) }
+    ensures workers { IfOk result HasWorkers }
+    ensures budget { IfOk result HasBudget }
     ensures cause { IfErr result (λ fault. IsCauseOfWordFault (map string_bytes words.now) fault) }
 {
     match matches_of(alloc, words) {
@@ -76,8 +76,9 @@ fn with_command<'a>(
     program: Result<Command<'a>, AllocError>,
     command: Result<Command<'a>, AllocError>,
 ) -> Result<Command<'a>, AllocError>
-    ensures { (above app : App) → app.top.is_plain ≡ true → IfOk program.entry (λ c. app_of c ≡ above)
-        → IfOk command.entry (λ c. app_of c ≡ app) → IfOk result (λ c. app_of c ≡ with_subcommand above app.top) }
+    ensures { (above app : App) → app.top.is_plain ≡ true
+        → IfOk program.entry (λ c. app_of c ≡ above) → IfOk command.entry (λ c. app_of c ≡ app)
+        → IfOk result (λ c. app_of c ≡ with_subcommand above app.top) }
 {
     let program = program?;
     let command = command?;
@@ -86,9 +87,11 @@ fn with_command<'a>(
 
 /// What `clap` finds in the words.
 fn matches_of<'a>(alloc: Global, words: &'a [String]) -> Result<ArgMatches<'a>, clap::Error>
-    ensures rows { IfOk result (λ m. subcommand_rows_of m ≡ subcommand_of command_line (map string_bytes words.now)) }
+    ensures rows { let texts = map string_bytes words.now in
+        IfOk result (λ m. subcommand_rows_of m ≡ subcommand_of command_line texts) }
     ensures kinds { FailsBy (faults_of (map string_bytes words.now)) result }
-    ensures command { IfOk result (λ m. IfSome (subcommand_rows_of m) (λ found. IsCommand found.0)) }
+    ensures command { IfOk result (λ m.
+        IfSome (subcommand_rows_of m) (λ found. IsCommand found.0)) }
 {
     command_line(alloc)?.try_get_matches_from(words)
 }
@@ -96,16 +99,17 @@ fn matches_of<'a>(alloc: Global, words: &'a [String]) -> Result<ArgMatches<'a>, 
 /// What the words ask for, in which these matches were found.
 fn request_in<'a>(alloc: Global, matches: &ArgMatches<'a>) -> Result<Request<'a>, AllocError>
     requires { IfSome (subcommand_rows_of matches.now) (λ found. IsCommand found.0) }
-    ensures asked { IfOk result (λ request. request_shown request ≡ asked_in (subcommand_rows_of matches.now)) }
-    ensures workers { IfOk result (λ request. HasWorkers request) }
-    ensures budget { IfOk result (λ request. HasBudget request) }
+    ensures asked { IfOk result (λ asked.
+        request_shown asked ≡ asked_in (subcommand_rows_of matches.now)) }
+    ensures workers { IfOk result HasWorkers }
+    ensures budget { IfOk result HasBudget }
 {
     match matches.subcommand() {
-        None => Ok(Request::Replay(None)),
+        None => Ok(Request::Replay(Replay { puzzle: None })),
         Some(("replay", found)) => Ok(replay_in(found)),
         Some(("table", found)) => Ok(table_in(found)),
-        Some(("bound", found)) => bound_in(alloc, found),
-        Some(("optimal", found)) => optimal_in(alloc, found),
+        Some(("bound", found)) => check_in(alloc, found, Claim::Bound),
+        Some(("optimal", found)) => check_in(alloc, found, Claim::Optimum),
         Some(("make-table", found)) => Ok(make_table_in(found)),
         Some(("solve", found)) => solve_in(alloc, found),
         Some(_) => unreachable!(),

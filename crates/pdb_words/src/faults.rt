@@ -32,7 +32,8 @@ pub fn unreadable_word() -> &'static str
 
 /// The fault that `clap` found, with its text.
 pub(crate) fn fault_by(alloc: Global, error: clap::Error) -> WordFault
-    ensures { (words : List (List ℕ)) → HasKind (faults_of words) error → IsCauseOfWordFault words result }
+    ensures { (words : List (List ℕ)) → HasKind (faults_of words) error
+        → IsCauseOfWordFault words result }
 {
     let Ok(text) = format!(in alloc; "{error}") else {
         return WordFault::Memory;

@@ -1,8 +1,9 @@
 //! The files that a command names.
 
 ghost use Rattle.std.specs.Prelude.{◌≡◌, IfOk};
-ghost use Rattle.clap.specs.Words.{app_of, found_of, rows_of, rule_of, with_rule};
-ghost use Rattle.pdb_words.specs.Asked.{file_names};
+ghost use Rattle.clap.specs.Words.{app_of, rule_of, with_rule};
+ghost use Rattle.pdb_request.specs.Asked.{file_names};
+ghost use Rattle.pdb_words.specs.Arguments.{rows_found};
 ghost use Rattle.pdb_words.specs.Files.{file_in, needed_file, needed_tables, tables_in, with_log};
 
 use crate::commands::with_argument;
@@ -35,7 +36,8 @@ pub(crate) fn with_file<'a>(
     id: &'a str,
     help: &'a str,
 ) -> Result<Command<'a>, AllocError>
-    ensures { IfOk result (λ c. app_of c ≡ with_rule (app_of command.entry) (needed_file id.entry.now)) }
+    ensures { let file = needed_file id.entry.now in
+        IfOk result (λ c. app_of c ≡ with_rule (app_of command.entry) file) }
 {
     with_argument(command, needed_file(alloc, id).help(help))
 }
@@ -48,7 +50,8 @@ pub(crate) fn with_log<'a>(
     log: &'a str,
     help: &'a str,
 ) -> Result<Command<'a>, AllocError>
-    ensures { IfOk result (λ c. app_of c ≡ with_log (app_of command.entry) (needed_file log.entry.now)) }
+    ensures { let file = needed_file log.entry.now in
+        IfOk result (λ c. app_of c ≡ with_log (app_of command.entry) file) }
 {
     let command = with_workers(alloc, command)?;
     let command = with_fold(alloc, command)?;
@@ -59,7 +62,7 @@ pub(crate) fn with_log<'a>(
 
 /// The name that these matches of a command have for a file.
 pub(crate) fn file_in<'a>(found: &ArgMatches<'a>, id: &str) -> &'a str
-    ensures { result.now ≡ file_in id.now (rows_of (found_of found.now)) }
+    ensures { result.now ≡ file_in id.now (rows_found found.now) }
 {
     found.get_str(id).unwrap_or("")
 }
@@ -69,7 +72,7 @@ pub(crate) fn tables_in<'a>(
     alloc: Global,
     found: &ArgMatches<'a>,
 ) -> Result<Vec<&'a str>, AllocError>
-    ensures { IfOk result (λ tables. file_names tables.items ≡ tables_in (rows_of (found_of found.now))) }
+    ensures { IfOk result (λ tables. file_names tables.items ≡ tables_in (rows_found found.now)) }
 {
     found.get_strs("TABLES").unwrap_or(&[]).to_vec(alloc)
 }

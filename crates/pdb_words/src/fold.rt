@@ -1,7 +1,8 @@
 //! The flag `--fold`.
 
 ghost use Rattle.std.specs.Prelude.{◌≡◌, IfOk};
-ghost use Rattle.clap.specs.Words.{app_of, found_of, rows_of, rule_of, with_rule};
+ghost use Rattle.clap.specs.Words.{app_of, rule_of, with_rule};
+ghost use Rattle.pdb_words.specs.Arguments.{rows_found};
 ghost use Rattle.pdb_words.specs.Fold.{fold_flag, fold_in};
 
 use crate::commands::with_argument;
@@ -27,7 +28,7 @@ pub(crate) fn with_fold<'a>(alloc: Global, command: Command<'a>) -> Result<Comma
 
 /// Whether these matches of a command ask that tables are folded.
 pub(crate) fn fold_in(found: &ArgMatches<'_>) -> bool
-    ensures { result ≡ fold_in (rows_of (found_of found.now)) }
+    ensures { result ≡ fold_in (rows_found found.now) }
 {
     // `clap` gives a flag that stands in the words this text.
     found.get_str("fold") == Some("true")

@@ -1,16 +1,17 @@
 //! The words of `make-table [--workers N] SIDE MASK OUT`.
 
 ghost use Rattle.std.specs.Prelude.{◌≡◌, IfOk};
-ghost use Rattle.clap.specs.Words.{app_of, found_of, rows_of, rule_of, with_rule};
-ghost use Rattle.pdb_words.specs.Asked.{HasBudget, HasWorkers, request_shown};
+ghost use Rattle.clap.specs.Words.{app_of, rule_of, with_rule};
+ghost use Rattle.pdb_request.specs.Asked.{HasBudget, HasWorkers, request_shown};
+ghost use Rattle.pdb_words.specs.Arguments.{rows_found};
 ghost use Rattle.pdb_words.specs.MakeTable.{make_table_command, make_table_in, mask_number_in, needed_mask, needed_side, side_number_in};
 
-use crate::asked::Request;
 use crate::commands::{new_command, with_argument, with_statuses};
 use crate::files::{file_in, with_file};
 use crate::numbers::number_in;
 use crate::workers::{with_workers, workers_in};
 use clap::{Arg, ArgMatches, Command, value_parser};
+use pdb_request::{MakeTable, Request};
 use std::alloc::{AllocError, Global};
 
 /// What stands at the end of its help.
@@ -40,7 +41,8 @@ pub(crate) fn make_table_command<'a>(alloc: Global) -> Result<Command<'a>, Alloc
 
 /// A command with `SIDE MASK` behind what it has.
 fn with_pattern<'a>(alloc: Global, command: Command<'a>) -> Result<Command<'a>, AllocError>
-    ensures { IfOk result (λ c. app_of c ≡ with_rule (with_rule (app_of command.entry) needed_side) needed_mask) }
+    ensures { IfOk result (λ c.
+        app_of c ≡ with_rule (with_rule (app_of command.entry) needed_side) needed_mask) }
 {
     let command = with_argument(command, needed_side(alloc))?;
     with_argument(command, needed_mask(alloc))
@@ -68,28 +70,28 @@ fn needed_mask<'a>(alloc: Global) -> Arg<'a>
 
 /// The side that these matches of the command name.
 fn side_number_in(found: &ArgMatches<'_>) -> u8
-    ensures { result ≡ side_number_in (rows_of (found_of found.now)) }
+    ensures { result ≡ side_number_in (rows_found found.now) }
 {
     number_in(found, "SIDE", 0, u64::from(u8::MAX), 0) as u8
 }
 
 /// The tile mask that these matches of the command name.
 fn mask_number_in(found: &ArgMatches<'_>) -> u32
-    ensures { result ≡ mask_number_in (rows_of (found_of found.now)) }
+    ensures { result ≡ mask_number_in (rows_found found.now) }
 {
     number_in(found, "MASK", 0, u64::from(u32::MAX), 0) as u32
 }
 
 /// What these matches of the command ask for.
 pub(crate) fn make_table_in<'a>(found: &ArgMatches<'a>) -> Request<'a>
-    ensures asked { request_shown result ≡ make_table_in (rows_of (found_of found.now)) }
+    ensures asked { request_shown result ≡ make_table_in (rows_found found.now) }
     ensures workers { HasWorkers result }
     ensures budget { HasBudget result }
 {
-    Request::MakeTable {
+    Request::MakeTable(MakeTable {
         side: side_number_in(found),
         mask: mask_number_in(found),
         out: file_in(found, "OUT"),
         workers: workers_in(found),
-    }
+    })
 }

@@ -1,7 +1,8 @@
 //! Numbers, as words write them.
 
 ghost use Rattle.std.specs.Prelude.{◌≡◌, ◌≤◌};
-ghost use Rattle.clap.specs.Words.{found_of, rows_of, rule_of};
+ghost use Rattle.clap.specs.Words.{rule_of};
+ghost use Rattle.pdb_words.specs.Arguments.{rows_found};
 ghost use Rattle.pdb_words.specs.Numbers.{number_flag, number_in};
 
 use clap::builder::ValueParser;
@@ -27,7 +28,7 @@ pub(crate) fn number_flag<'a>(
 /// The number that these matches of a command have under an id, or the usual one where they have none from low to high.
 pub(crate) fn number_in(found: &ArgMatches<'_>, id: &str, low: u64, high: u64, usual: u64) -> u64
     requires { (low ≤ usual) × (usual ≤ high) }
-    ensures asked { result ≡ number_in low high usual id.now (rows_of (found_of found.now)) }
+    ensures asked { result ≡ number_in low high usual id.now (rows_found found.now) }
     ensures within { (low ≤ result) × (result ≤ high) }
 {
     match found.get_one::<u64>(id) {

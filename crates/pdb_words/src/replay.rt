@@ -1,13 +1,14 @@
 //! The words of `replay [FILE]`.
 
 ghost use Rattle.std.specs.Prelude.{◌≡◌, IfOk};
-ghost use Rattle.clap.specs.Words.{app_of, found_of, rows_of};
-ghost use Rattle.pdb_words.specs.Asked.{HasBudget, HasWorkers, request_shown};
+ghost use Rattle.clap.specs.Words.{app_of};
+ghost use Rattle.pdb_request.specs.Asked.{HasBudget, HasWorkers, request_shown};
+ghost use Rattle.pdb_words.specs.Arguments.{rows_found};
 ghost use Rattle.pdb_words.specs.Replay.{replay_command, replay_in};
 
-use crate::asked::Request;
 use crate::commands::{new_command, with_argument, with_statuses};
 use clap::{Arg, ArgMatches, Command};
+use pdb_request::{Replay, Request};
 use std::alloc::{AllocError, Global};
 
 /// What stands at the end of its help.
@@ -34,9 +35,11 @@ pub(crate) fn replay_command<'a>(alloc: Global) -> Result<Command<'a>, AllocErro
 
 /// What these matches of the command ask for.
 pub(crate) fn replay_in<'a>(found: &ArgMatches<'a>) -> Request<'a>
-    ensures asked { request_shown result ≡ replay_in (rows_of (found_of found.now)) }
+    ensures asked { request_shown result ≡ replay_in (rows_found found.now) }
     ensures workers { HasWorkers result }
     ensures budget { HasBudget result }
 {
-    Request::Replay(found.get_str("FILE"))
+    Request::Replay(Replay {
+        puzzle: found.get_str("FILE"),
+    })
 }

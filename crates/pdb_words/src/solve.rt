@@ -1,17 +1,18 @@
 //! The words of `solve [--workers N] [--fold] [--budget N] BOARD SETS OUT TABLES..`.
 
 ghost use Rattle.std.specs.Prelude.{◌≡◌, IfOk};
-ghost use Rattle.clap.specs.Words.{app_of, found_of, rows_of};
-ghost use Rattle.pdb_words.specs.Asked.{HasBudget, HasWorkers, request_shown};
+ghost use Rattle.clap.specs.Words.{app_of};
+ghost use Rattle.pdb_request.specs.Asked.{HasBudget, HasWorkers, request_shown};
+ghost use Rattle.pdb_words.specs.Arguments.{rows_found};
 ghost use Rattle.pdb_words.specs.Solve.{solve_command, solve_in};
 
-use crate::asked::{Request, Search};
 use crate::budget::{budget_flag, budget_in};
 use crate::commands::{new_command, with_argument, with_statuses};
 use crate::files::{file_in, tables_in, with_file, with_log};
 use crate::fold::fold_in;
 use crate::workers::workers_in;
 use clap::{ArgMatches, Command};
+use pdb_request::{Request, Search};
 use std::alloc::{AllocError, Global};
 
 /// What stands at the end of its help.
@@ -46,11 +47,11 @@ pub(crate) fn solve_command<'a>(alloc: Global) -> Result<Command<'a>, AllocError
 
 /// What these matches of the command ask for.
 pub(crate) fn solve_in<'a>(alloc: Global, found: &ArgMatches<'a>) -> Result<Request<'a>, AllocError>
-    ensures asked { IfOk result (λ request. request_shown request ≡ solve_in (rows_of (found_of found.now))) }
-    ensures workers { IfOk result (λ request. HasWorkers request) }
-    ensures budget { IfOk result (λ request. HasBudget request) }
+    ensures asked { IfOk result (λ asked. request_shown asked ≡ solve_in (rows_found found.now)) }
+    ensures workers { IfOk result HasWorkers }
+    ensures budget { IfOk result HasBudget }
 {
-    Ok(Request::Solve(Search {
+    Ok(Request::Search(Search {
         board: file_in(found, "BOARD"),
         sets: file_in(found, "SETS"),
         out: file_in(found, "OUT"),

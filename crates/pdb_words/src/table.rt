@@ -1,15 +1,16 @@
 //! The words of `table [--workers N] FILE`.
 
 ghost use Rattle.std.specs.Prelude.{◌≡◌, IfOk};
-ghost use Rattle.clap.specs.Words.{app_of, found_of, rows_of};
-ghost use Rattle.pdb_words.specs.Asked.{HasBudget, HasWorkers, request_shown};
+ghost use Rattle.clap.specs.Words.{app_of};
+ghost use Rattle.pdb_request.specs.Asked.{HasBudget, HasWorkers, request_shown};
+ghost use Rattle.pdb_words.specs.Arguments.{rows_found};
 ghost use Rattle.pdb_words.specs.Table.{table_command, table_in};
 
-use crate::asked::Request;
 use crate::commands::{new_command, with_statuses};
 use crate::files::{file_in, with_file};
 use crate::workers::{with_workers, workers_in};
 use clap::{ArgMatches, Command};
+use pdb_request::{Request, TableCheck};
 use std::alloc::{AllocError, Global};
 
 /// What stands at the end of its help.
@@ -36,12 +37,12 @@ pub(crate) fn table_command<'a>(alloc: Global) -> Result<Command<'a>, AllocError
 
 /// What these matches of the command ask for.
 pub(crate) fn table_in<'a>(found: &ArgMatches<'a>) -> Request<'a>
-    ensures asked { request_shown result ≡ table_in (rows_of (found_of found.now)) }
+    ensures asked { request_shown result ≡ table_in (rows_found found.now) }
     ensures workers { HasWorkers result }
     ensures budget { HasBudget result }
 {
-    Request::Table {
+    Request::TableCheck(TableCheck {
         file: file_in(found, "FILE"),
         workers: workers_in(found),
-    }
+    })
 }

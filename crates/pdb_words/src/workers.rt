@@ -1,8 +1,9 @@
 //! The flag `--workers N`.
 
 ghost use Rattle.std.specs.Prelude.{◌≡◌, IfOk};
-ghost use Rattle.clap.specs.Words.{app_of, found_of, rows_of, rule_of, with_rule};
+ghost use Rattle.clap.specs.Words.{app_of, rule_of, with_rule};
 ghost use Rattle.book_core.specs.Books.{AreWorkers};
+ghost use Rattle.pdb_words.specs.Arguments.{rows_found};
 ghost use Rattle.pdb_words.specs.Workers.{workers_flag, workers_in};
 
 use crate::commands::with_argument;
@@ -31,7 +32,7 @@ pub(crate) fn with_workers<'a>(
 
 /// How many workers these matches of a command ask for.
 pub(crate) fn workers_in(found: &ArgMatches<'_>) -> u8
-    ensures asked { result ≡ workers_in (rows_of (found_of found.now)) }
+    ensures asked { result ≡ workers_in (rows_found found.now) }
     ensures within { AreWorkers result }
 {
     number_in(found, "workers", 1, u64::from(MOST_WORKERS), 1) as u8

@@ -4,4 +4,5 @@ mod LogWalkLemmas
 mod MakeTableLemmas
 mod NumberLemmas
 mod TablesLemmas
+mod WalkLemmas
 mod WorkersLemmas

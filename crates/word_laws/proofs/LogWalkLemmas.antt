@@ -1,12 +1,10 @@
--- The words behind `bound`, `optimal` and `solve`: a board or a puzzle, the sets, the log, and the tables.
-use Rattle.std.proofs.Common.{◌≡◌, ◌∙◌, ◌≤◌, arith, refl, ap, ℕ, Bool, false, true, List, [], ◌∷◌, ◌++◌, Some, None, codes, length}
+-- The words behind `bound`, `optimal` and `solve`: flags, a text, the sets, the log, and the tables.
+use Rattle.std.proofs.Common.{◌≡◌, refl, Bool, false, true, ℕ, List, [], ◌∷◌, ◌++◌, Option, Some, None, append-nil, codes, subst}
 use Rattle.std.specs.Bool.{⊤}
-use Rattle.std.specs.List.{All, fold}
-use Rattle.std.proofs.lemmas.List.Elements.{All-head, All-tail}
-use Rattle.clap.specs.Faults.{walk_fault}
-use Rattle.clap.specs.Lexer.{usize_max}
+use Rattle.std.specs.List.{AllByRecursion}
+use Rattle.std.proofs.lemmas.List.Elements.{recursion_from_All}
 use Rattle.clap.specs.Simple.{Shape, filled}
-use Rattle.clap.specs.Walk.{Row, Text, Walk, arg_by_index, idle, nothing_held, reading_by, walk, walk_from, walked}
+use Rattle.clap.specs.Walk.{Row, Rule, Text, Walk, arg_by_index, idle, nothing_held, reading_by, walk_from}
 use Rattle.clap.specs.declared.parser.matches.ValueSource.TheVariants.{CommandLine}
 use Rattle.clap.proofs.OnLiterals.{clap_on_literals}
 use Rattle.pdb_words.specs.Budget.{budget_flag}
@@ -14,303 +12,239 @@ use Rattle.pdb_words.specs.Commands.{IsPlain}
 use Rattle.pdb_words.specs.Fold.{fold_flag}
 use Rattle.pdb_words.specs.Workers.{workers_flag}
 use Rattle.pdb_words.proofs.CommandLemmas.{leaf, start}
-use Rattle.word_laws.proofs.TablesLemmas.{gathering, more_pass, more_walk, tables_rule}
 use Rattle.pdb_words.proofs.TextLemmas.{HasNoDash, has_no_dash}
+use Rattle.word_laws.proofs.TablesLemmas.{gathering, tables_lead, tables_rule}
+use Rattle.word_laws.proofs.WalkLemmas.{Leads, dashless, leads_on}
 use Rattle.word_laws.proofs.WorkersLemmas.{accepted, accepted_budget}
-use Rattle.word_laws.specs.Asking.{AreNames}
-use Rattle.word_laws.specs.LogWords.{with_fold}
+use Rattle.word_laws.specs.LogWords.{LogNames, log_words, tables_named, with_fold}
 
+-- a command that names a log; of a search with the number of `--budget`, where that comes before the names
 pub data LogCommand : Type 0 where
   on_board : LogCommand
   on_puzzle : LogCommand
-  on_search : LogCommand
+  on_search : Option Text → LogCommand
 
 abbrev pub name_of : LogCommand → Text
 name_of on_board = codes "bound"
 name_of on_puzzle = codes "optimal"
-name_of on_search = codes "solve"
+name_of (on_search budget) = codes "solve"
 
 abbrev pub claim_of : LogCommand → Text
 claim_of on_board = codes "BOARD"
 claim_of on_puzzle = codes "PUZZLE"
-claim_of on_search = codes "BOARD"
+claim_of (on_search budget) = codes "BOARD"
 
 abbrev pub log_of : LogCommand → Text
 log_of on_board = codes "LOG"
 log_of on_puzzle = codes "LOG"
-log_of on_search = codes "OUT"
+log_of (on_search budget) = codes "OUT"
+
+abbrev pub budget_before : LogCommand → Option Text
+budget_before (on_search budget) = budget
+budget_before on_board = None
+budget_before on_puzzle = None
 
 -- the command, as it is built
 abbrev pub shape_of : LogCommand → Shape
 shape_of command = leaf (name_of command)
 
+-- no budget comes before the names
+abbrev pub IsBare : LogCommand → Type 0
+IsBare (on_search (Some budget)) = ⊥
+IsBare (on_search None) = ⊤
+IsBare on_board = ⊤
+IsBare on_puzzle = ⊤
+
+-- a flag with a number before words, where there is one
+abbrev pub number_before : Text → Option Text → List Text → List Text
+number_before flag None words = words
+number_before flag (Some number) words = flag ∷ number ∷ words
+
 -- the flags with a number that come first
-pub data Flags : Type 0 where
-  none : Flags
-  workers : Text → Flags
-  budget : Text → Flags
-  both : Text → Text → Flags
+abbrev pub flags_before : LogCommand → Option Text → List Text → List Text
+flags_before command workers words = number_before (codes "--workers") workers (number_before (codes "--budget") (budget_before command) words)
 
-abbrev pub flags_before : Flags → List Text → List Text
-flags_before none words = words
-flags_before (workers number) words = codes "--workers" ∷ number ∷ words
-flags_before (budget number) words = codes "--budget" ∷ number ∷ words
-flags_before (both number other) words = codes "--workers" ∷ number ∷ codes "--budget" ∷ other ∷ words
+-- a number is taken, where there is one
+abbrev pub IsTaken : (Text → Bool) → Option Text → Type 0
+IsTaken accepts None = ⊤
+IsTaken accepts (Some number) = HasNoDash number × (accepts number ≡ true)
 
-abbrev pub IsTakenAs : (Text → Bool) → Text → Type 0
-IsTakenAs accepts number = HasNoDash number × (accepts number ≡ true)
+abbrev pub AreTaken : LogCommand → Option Text → Type 0
+AreTaken command workers = IsTaken accepted workers × IsTaken accepted_budget (budget_before command)
 
-abbrev pub IsTaken : LogCommand → Flags → Type 0
-IsTaken command none = ⊤
-IsTaken command (workers number) = IsTakenAs accepted number
-IsTaken on_search (budget number) = IsTakenAs accepted_budget number
-IsTaken on_search (both number other) = IsTakenAs accepted number × IsTakenAs accepted_budget other
-IsTaken on_board other = ⊥
-IsTaken on_puzzle other = ⊥
+-- what is found of an argument with one value
+abbrev pub found_row : Text → Rule → Text → Row
+found_row id rule value = record { id = id; values = value ∷ []; count = None; source = Some CommandLine; reading = reading_by rule }
 
 -- what is found of a file
 abbrev pub file_row : Text → Text → Row
-file_row id name = record { id = id; values = name ∷ []; count = None; source = Some CommandLine; reading = reading_by tables_rule }
+file_row id name = found_row id tables_rule name
 
 -- what is found of `--workers N`
 abbrev pub workers_row : Text → Row
-workers_row number = record { id = codes "workers"; values = number ∷ []; count = None; source = Some CommandLine; reading = reading_by workers_flag }
+workers_row number = found_row (codes "workers") workers_flag number
 
 -- what is found of `--budget N`
 abbrev pub budget_row : Text → Row
-budget_row number = record { id = codes "budget"; values = number ∷ []; count = None; source = Some CommandLine; reading = reading_by budget_flag }
+budget_row number = found_row (codes "budget") budget_flag number
 
 -- what is found of `--fold`
 abbrev pub fold_row : Row
-fold_row = record { id = codes "fold"; values = codes "true" ∷ []; count = None; source = Some CommandLine; reading = reading_by (filled fold_flag) }
+fold_row = found_row (codes "fold") (filled fold_flag) (codes "true")
 
 abbrev pub fold_rows : Bool → List Row
 fold_rows true = fold_row ∷ []
 fold_rows false = []
 
--- what is found of the flags that have a number
-abbrev pub number_rows : Flags → List Row → List Row
-number_rows none rows = rows
-number_rows (workers number) rows = workers_row number ∷ rows
-number_rows (budget number) rows = budget_row number ∷ rows
-number_rows (both number other) rows = workers_row number ∷ budget_row other ∷ rows
+-- what is found of a flag with a number, where there is one
+abbrev pub row_before : (Text → Row) → Option Text → List Row → List Row
+row_before row None rows = rows
+row_before row (Some number) rows = row number ∷ rows
 
 -- what is found before the tables
-abbrev pub rows_before : Bool → Flags → List Row → List Row
-rows_before folds flags rows = fold_rows folds ++ number_rows flags rows
+abbrev pub rows_before : Bool → LogCommand → Option Text → List Row → List Row
+rows_before folds command workers rows = fold_rows folds ++ row_before workers_row workers (row_before budget_row (budget_before command) rows)
 
 -- the walk behind `--fold`, where it comes first
 abbrev pub start_of : Bool → Walk
 start_of folds = walk_from (record nothing_held { rows = fold_rows folds })
 
-abbrev pub files : LogCommand → Text → Text → Text → List Row
-files command claim sets log = file_row (claim_of command) claim ∷ file_row (codes "SETS") sets ∷ file_row (log_of command) log ∷ []
-
--- the walk behind a file that takes one name
+-- the walk behind a word that is one value
 abbrev pub at : ℕ → List Row → Text → Text → Walk
-at position rows id name = record {
-  held = record { rows = rows; pending = Some (id, name ∷ []); skip = 0 };
+at position rows id value = record {
+  held = record { rows = rows; pending = Some (id, value ∷ []); skip = 0 };
   waiting = idle;
   position = position;
   is_trailing = false;
   stopped = None;
 }
 
--- ---- `--fold` before all else
+-- the walk behind the flags and the text of a claim
+abbrev pub at_text : Bool → LogCommand → Option Text → Text → Walk
+at_text folds command workers text = at 2 (rows_before folds command workers []) (claim_of command) text
 
-pub fold_begins : (command : LogCommand) (words : List Text) (folds : Bool)
-    → walk (shape_of command).rules [] nothing_held (with_fold folds words) ≡ fold (walked (shape_of command).rules []) (start_of folds) words
+-- `--fold` before all else
+pub fold_leads : (command : LogCommand) (folds : Bool) (words : List Text) → Leads (shape_of command) start (with_fold folds words) (start_of folds) words
 unfolding clap_on_literals
-fold_begins on_board words true = refl
-fold_begins on_puzzle words true = refl
-fold_begins on_search words true = refl
-fold_begins command words false = refl
+fold_leads (on_search budget) true words = record { steps = refl; passes = refl }
+fold_leads command true words = record { steps = refl; passes = refl }
+fold_leads command false words = record { steps = refl; passes = refl }
 
-pub fold_passes : (command : LogCommand) (words : List Text) (folds : Bool)
-    → walk_fault (shape_of command) [] start (with_fold folds words) ≡ walk_fault (shape_of command) [] (start_of folds) words
-unfolding clap_on_literals
-fold_passes on_board words true = refl
-fold_passes on_puzzle words true = refl
-fold_passes on_search words true = refl
-fold_passes command words false = refl
-
--- ---- the walk over the files
-
-module _ (claim : Text) (f : HasNoDash claim) where
-  pub first_steps : (command : LogCommand) (flags : Flags) → IsTaken command flags → (folds : Bool)
-      → fold (walked (shape_of command).rules []) (start_of folds) (flags_before flags (claim ∷ [])) ≡ at 2 (rows_before folds flags []) (claim_of command) claim
+-- both flags of a search, one after the other, and then the board
+module _ (number other : Text) (n : IsTaken accepted (Some number)) (m : IsTaken accepted_budget (Some other)) (rest : List Text) where
+  workers_lead : (folds : Bool) → Leads (leaf (codes "solve")) (start_of folds) (codes "--workers" ∷ number ∷ rest) (at 1 (fold_rows folds) (codes "workers") number) rest
   unfolding clap_on_literals
-  first_steps on_board none taken true = simp (f.no_dash, f.no_dashes)
-  first_steps on_board none taken false = simp (f.no_dash, f.no_dashes)
-  first_steps on_board (workers number) taken true = simp (taken.0.no_dash, taken.0.no_dashes, f.no_dash, f.no_dashes)
-  first_steps on_board (workers number) taken false = simp (taken.0.no_dash, taken.0.no_dashes, f.no_dash, f.no_dashes)
-  first_steps on_board (budget number) taken folds = absurd taken
-  first_steps on_board (both number other) taken folds = absurd taken
-  first_steps on_puzzle none taken true = simp (f.no_dash, f.no_dashes)
-  first_steps on_puzzle none taken false = simp (f.no_dash, f.no_dashes)
-  first_steps on_puzzle (workers number) taken true = simp (taken.0.no_dash, taken.0.no_dashes, f.no_dash, f.no_dashes)
-  first_steps on_puzzle (workers number) taken false = simp (taken.0.no_dash, taken.0.no_dashes, f.no_dash, f.no_dashes)
-  first_steps on_puzzle (budget number) taken folds = absurd taken
-  first_steps on_puzzle (both number other) taken folds = absurd taken
-  first_steps on_search none taken true = simp (f.no_dash, f.no_dashes)
-  first_steps on_search none taken false = simp (f.no_dash, f.no_dashes)
-  first_steps on_search (workers number) taken true = simp (taken.0.no_dash, taken.0.no_dashes, f.no_dash, f.no_dashes)
-  first_steps on_search (workers number) taken false = simp (taken.0.no_dash, taken.0.no_dashes, f.no_dash, f.no_dashes)
-  first_steps on_search (budget number) taken true = simp (taken.0.no_dash, taken.0.no_dashes, f.no_dash, f.no_dashes)
-  first_steps on_search (budget number) taken false = simp (taken.0.no_dash, taken.0.no_dashes, f.no_dash, f.no_dashes)
-  first_steps on_search (both number other) taken true = simp (taken.0.0.no_dash, taken.0.0.no_dashes, taken.1.0.no_dash, taken.1.0.no_dashes, f.no_dash, f.no_dashes)
-  first_steps on_search (both number other) taken false = simp (taken.0.0.no_dash, taken.0.0.no_dashes, taken.1.0.no_dash, taken.1.0.no_dashes, f.no_dash, f.no_dashes)
+  workers_lead true = record { steps = simp (n.0.no_dash, n.0.no_dashes); passes = simp (n.0.no_dash, n.0.no_dashes) }
+  workers_lead false = record { steps = simp (n.0.no_dash, n.0.no_dashes); passes = simp (n.0.no_dash, n.0.no_dashes) }
 
-  -- both flags of a search, one after the other
-  workers_pass : (number : Text) → IsTakenAs accepted number → (rest : List Text) (folds : Bool)
-      → walk_fault (shape_of on_search) [] (start_of folds) (codes "--workers" ∷ number ∷ rest) ≡ walk_fault (shape_of on_search) [] (at 1 (fold_rows folds) (codes "workers") number) rest
+  budget_leads : (folds : Bool) → Leads (leaf (codes "solve")) (at 1 (fold_rows folds) (codes "workers") number) (codes "--budget" ∷ other ∷ rest)
+      (at 1 (rows_before folds (on_search None) (Some number) []) (codes "budget") other) rest
   unfolding clap_on_literals
-  workers_pass number n rest true = simp (n.0.no_dash, n.0.no_dashes)
-  workers_pass number n rest false = simp (n.0.no_dash, n.0.no_dashes)
+  budget_leads true = record { steps = simp (m.0.no_dash, m.0.no_dashes); passes = simp (m.0.no_dash, m.0.no_dashes, n.1) }
+  budget_leads false = record { steps = simp (m.0.no_dash, m.0.no_dashes); passes = simp (m.0.no_dash, m.0.no_dashes, n.1) }
 
-  budget_pass : (number other : Text) → IsTakenAs accepted number → IsTakenAs accepted_budget other → (rest : List Text) (folds : Bool)
-      → walk_fault (shape_of on_search) [] (at 1 (fold_rows folds) (codes "workers") number) (codes "--budget" ∷ other ∷ rest)
-      ≡ walk_fault (shape_of on_search) [] (at 1 (rows_before folds (workers number) []) (codes "budget") other) rest
+  board_leads : (board : Text) → HasNoDash board → (folds : Bool)
+      → Leads (leaf (codes "solve")) (at 1 (rows_before folds (on_search None) (Some number) []) (codes "budget") other) (board ∷ rest)
+      (at_text folds (on_search (Some other)) (Some number) board) rest
   unfolding clap_on_literals
-  budget_pass number other n m rest true = simp (m.0.no_dash, m.0.no_dashes, n.1)
-  budget_pass number other n m rest false = simp (m.0.no_dash, m.0.no_dashes, n.1)
+  board_leads board f true = record { steps = simp (f.no_dash, f.no_dashes); passes = simp (m.1, f.no_dash, f.no_dashes) }
+  board_leads board f false = record { steps = simp (f.no_dash, f.no_dashes); passes = simp (m.1, f.no_dash, f.no_dashes) }
 
-  claim_pass : (number other : Text) → IsTakenAs accepted_budget other → (behind : List Text) (folds : Bool)
-      → walk_fault (shape_of on_search) [] (at 1 (rows_before folds (workers number) []) (codes "budget") other) (claim ∷ behind)
-      ≡ walk_fault (shape_of on_search) [] (at 2 (rows_before folds (both number other) []) (codes "BOARD") claim) behind
+-- the flags with a number, and the text of a claim
+module _ (text : Text) (f : HasNoDash text) (rest : List Text) where
+  pub text_leads : (command : LogCommand) (workers : Option Text) → AreTaken command workers → (folds : Bool)
+      → Leads (shape_of command) (start_of folds) (flags_before command workers (text ∷ rest)) (at_text folds command workers text) rest
   unfolding clap_on_literals
-  claim_pass number other m behind true = simp (m.1, f.no_dash, f.no_dashes)
-  claim_pass number other m behind false = simp (m.1, f.no_dash, f.no_dashes)
+  text_leads (on_search (Some other)) (Some number) taken folds =
+      leads_on (workers_lead number other taken.0 taken.1 (codes "--budget" ∷ other ∷ text ∷ rest) folds)
+      (leads_on (budget_leads number other taken.0 taken.1 (text ∷ rest) folds) (board_leads number other taken.0 taken.1 rest text f folds))
+  text_leads (on_search (Some other)) None taken true = record {
+    steps = simp (taken.1.0.no_dash, taken.1.0.no_dashes, f.no_dash, f.no_dashes);
+    passes = simp (taken.1.0.no_dash, taken.1.0.no_dashes, taken.1.1, f.no_dash, f.no_dashes);
+  }
+  text_leads (on_search (Some other)) None taken false = record {
+    steps = simp (taken.1.0.no_dash, taken.1.0.no_dashes, f.no_dash, f.no_dashes);
+    passes = simp (taken.1.0.no_dash, taken.1.0.no_dashes, taken.1.1, f.no_dash, f.no_dashes);
+  }
+  text_leads command None taken true = record { steps = simp (f.no_dash, f.no_dashes); passes = simp (f.no_dash, f.no_dashes) }
+  text_leads command None taken false = record { steps = simp (f.no_dash, f.no_dashes); passes = simp (f.no_dash, f.no_dashes) }
+  text_leads command (Some number) taken true = record {
+    steps = simp (taken.0.0.no_dash, taken.0.0.no_dashes, f.no_dash, f.no_dashes);
+    passes = simp (taken.0.0.no_dash, taken.0.0.no_dashes, taken.0.1, f.no_dash, f.no_dashes);
+  }
+  text_leads command (Some number) taken false = record {
+    steps = simp (taken.0.0.no_dash, taken.0.0.no_dashes, f.no_dash, f.no_dashes);
+    passes = simp (taken.0.0.no_dash, taken.0.0.no_dashes, taken.0.1, f.no_dash, f.no_dashes);
+  }
 
-  pub first_pass : (behind : List Text) (command : LogCommand) (flags : Flags) → IsTaken command flags → (folds : Bool)
-      → walk_fault (shape_of command) [] (start_of folds) (flags_before flags (claim ∷ behind)) ≡ walk_fault (shape_of command) [] (at 2 (rows_before folds flags []) (claim_of command) claim) behind
+  -- the text alone
+  pub bare_text : (command : LogCommand) → IsBare command → (folds : Bool)
+      → Leads (shape_of command) (start_of folds) (text ∷ rest) (at_text folds command None text) rest
+  bare_text (on_search (Some budget)) bare folds = absurd bare
+  bare_text command bare folds = text_leads command None (tt, tt) folds
+
+-- what is found of the text, the sets and the log
+abbrev pub files : LogCommand → LogNames → List Row
+files command names = file_row (claim_of command) names.text ∷ file_row (codes "SETS") names.sets ∷ file_row (log_of command) names.log ∷ []
+
+-- the walk behind the flags, the text, the sets, the log and the tables
+abbrev pub gathered : Bool → LogCommand → Option Text → LogNames → Walk
+gathered folds command workers names = gathering (rows_before folds command workers (files command names)) (tables_named names)
+
+-- the sets, the log and the first table
+module _ (names : LogNames) (t : HasNoDash names.sets) (l : HasNoDash names.log) (f : HasNoDash names.table) (rest : List Text) where
+  sets_lead : (command : LogCommand) (workers : Option Text) (folds : Bool)
+      → Leads (shape_of command) (at_text folds command workers names.text) (names.sets ∷ names.log ∷ names.table ∷ rest)
+      (gathering (rows_before folds command workers (files command names)) (names.table ∷ [])) rest
   unfolding clap_on_literals
-  first_pass behind on_board none taken true = simp (f.no_dash, f.no_dashes)
-  first_pass behind on_board none taken false = simp (f.no_dash, f.no_dashes)
-  first_pass behind on_board (workers number) taken true = simp (taken.0.no_dash, taken.0.no_dashes, taken.1, f.no_dash, f.no_dashes)
-  first_pass behind on_board (workers number) taken false = simp (taken.0.no_dash, taken.0.no_dashes, taken.1, f.no_dash, f.no_dashes)
-  first_pass behind on_board (budget number) taken folds = absurd taken
-  first_pass behind on_board (both number other) taken folds = absurd taken
-  first_pass behind on_puzzle none taken true = simp (f.no_dash, f.no_dashes)
-  first_pass behind on_puzzle none taken false = simp (f.no_dash, f.no_dashes)
-  first_pass behind on_puzzle (workers number) taken true = simp (taken.0.no_dash, taken.0.no_dashes, taken.1, f.no_dash, f.no_dashes)
-  first_pass behind on_puzzle (workers number) taken false = simp (taken.0.no_dash, taken.0.no_dashes, taken.1, f.no_dash, f.no_dashes)
-  first_pass behind on_puzzle (budget number) taken folds = absurd taken
-  first_pass behind on_puzzle (both number other) taken folds = absurd taken
-  first_pass behind on_search none taken true = simp (f.no_dash, f.no_dashes)
-  first_pass behind on_search none taken false = simp (f.no_dash, f.no_dashes)
-  first_pass behind on_search (workers number) taken true = simp (taken.0.no_dash, taken.0.no_dashes, taken.1, f.no_dash, f.no_dashes)
-  first_pass behind on_search (workers number) taken false = simp (taken.0.no_dash, taken.0.no_dashes, taken.1, f.no_dash, f.no_dashes)
-  first_pass behind on_search (budget number) taken true = simp (taken.0.no_dash, taken.0.no_dashes, taken.1, f.no_dash, f.no_dashes)
-  first_pass behind on_search (budget number) taken false = simp (taken.0.no_dash, taken.0.no_dashes, taken.1, f.no_dash, f.no_dashes)
-  first_pass behind on_search (both number other) taken folds = workers_pass number taken.0 (codes "--budget" ∷ other ∷ claim ∷ behind) folds ∙ budget_pass number other taken.0 taken.1 (claim ∷ behind) folds
-      ∙ claim_pass number other taken.1 behind folds
+  sets_lead (on_search (Some budget)) None true = record { steps = simp (dashless, t, l, f); passes = simp (dashless, t, l, f) }
+  sets_lead (on_search (Some budget)) None false = record { steps = simp (dashless, t, l, f); passes = simp (dashless, t, l, f) }
+  sets_lead (on_search (Some budget)) (Some number) true = record { steps = simp (dashless, t, l, f); passes = simp (dashless, t, l, f) }
+  sets_lead (on_search (Some budget)) (Some number) false = record { steps = simp (dashless, t, l, f); passes = simp (dashless, t, l, f) }
+  sets_lead command None true = record { steps = simp (dashless, t, l, f); passes = simp (dashless, t, l, f) }
+  sets_lead command None false = record { steps = simp (dashless, t, l, f); passes = simp (dashless, t, l, f) }
+  sets_lead command (Some number) true = record { steps = simp (dashless, t, l, f); passes = simp (dashless, t, l, f) }
+  sets_lead command (Some number) false = record { steps = simp (dashless, t, l, f); passes = simp (dashless, t, l, f) }
 
-module _ (claim sets log table : Text) (t : HasNoDash sets) (l : HasNoDash log) (f : HasNoDash table) where
-  more_steps : (command : LogCommand) (flags : Flags) → IsTaken command flags → (folds : Bool)
-      → fold (walked (shape_of command).rules []) (at 2 (rows_before folds flags []) (claim_of command) claim) (sets ∷ log ∷ table ∷ [])
-      ≡ gathering (rows_before folds flags (files command claim sets log)) (table ∷ [])
-  unfolding clap_on_literals
-  more_steps on_board none taken true = simp (t.no_dash, t.no_dashes, l.no_dash, l.no_dashes, f.no_dash, f.no_dashes)
-  more_steps on_board none taken false = simp (t.no_dash, t.no_dashes, l.no_dash, l.no_dashes, f.no_dash, f.no_dashes)
-  more_steps on_board (workers number) taken true = simp (t.no_dash, t.no_dashes, l.no_dash, l.no_dashes, f.no_dash, f.no_dashes)
-  more_steps on_board (workers number) taken false = simp (t.no_dash, t.no_dashes, l.no_dash, l.no_dashes, f.no_dash, f.no_dashes)
-  more_steps on_board (budget number) taken folds = absurd taken
-  more_steps on_board (both number other) taken folds = absurd taken
-  more_steps on_puzzle none taken true = simp (t.no_dash, t.no_dashes, l.no_dash, l.no_dashes, f.no_dash, f.no_dashes)
-  more_steps on_puzzle none taken false = simp (t.no_dash, t.no_dashes, l.no_dash, l.no_dashes, f.no_dash, f.no_dashes)
-  more_steps on_puzzle (workers number) taken true = simp (t.no_dash, t.no_dashes, l.no_dash, l.no_dashes, f.no_dash, f.no_dashes)
-  more_steps on_puzzle (workers number) taken false = simp (t.no_dash, t.no_dashes, l.no_dash, l.no_dashes, f.no_dash, f.no_dashes)
-  more_steps on_puzzle (budget number) taken folds = absurd taken
-  more_steps on_puzzle (both number other) taken folds = absurd taken
-  more_steps on_search none taken true = simp (t.no_dash, t.no_dashes, l.no_dash, l.no_dashes, f.no_dash, f.no_dashes)
-  more_steps on_search none taken false = simp (t.no_dash, t.no_dashes, l.no_dash, l.no_dashes, f.no_dash, f.no_dashes)
-  more_steps on_search (workers number) taken true = simp (t.no_dash, t.no_dashes, l.no_dash, l.no_dashes, f.no_dash, f.no_dashes)
-  more_steps on_search (workers number) taken false = simp (t.no_dash, t.no_dashes, l.no_dash, l.no_dashes, f.no_dash, f.no_dashes)
-  more_steps on_search (budget number) taken true = simp (t.no_dash, t.no_dashes, l.no_dash, l.no_dashes, f.no_dash, f.no_dashes)
-  more_steps on_search (budget number) taken false = simp (t.no_dash, t.no_dashes, l.no_dash, l.no_dashes, f.no_dash, f.no_dashes)
-  more_steps on_search (both number other) taken true = simp (t.no_dash, t.no_dashes, l.no_dash, l.no_dashes, f.no_dash, f.no_dashes)
-  more_steps on_search (both number other) taken false = simp (t.no_dash, t.no_dashes, l.no_dash, l.no_dashes, f.no_dash, f.no_dashes)
+module _ (names : LogNames) where
+  all_plain : AllByRecursion IsPlain (log_words names)
+  all_plain = recursion_from_All IsPlain (log_words names) names.are_names.0
 
-  more_files_pass : (behind : List Text) (command : LogCommand) (flags : Flags) → IsTaken command flags → (folds : Bool)
-      → walk_fault (shape_of command) [] (at 2 (rows_before folds flags []) (claim_of command) claim) (sets ∷ log ∷ table ∷ behind)
-      ≡ walk_fault (shape_of command) [] (gathering (rows_before folds flags (files command claim sets log)) (table ∷ [])) behind
-  unfolding clap_on_literals
-  more_files_pass behind on_board none taken true = simp (t.no_dash, t.no_dashes, l.no_dash, l.no_dashes, f.no_dash, f.no_dashes)
-  more_files_pass behind on_board none taken false = simp (t.no_dash, t.no_dashes, l.no_dash, l.no_dashes, f.no_dash, f.no_dashes)
-  more_files_pass behind on_board (workers number) taken true = simp (t.no_dash, t.no_dashes, l.no_dash, l.no_dashes, f.no_dash, f.no_dashes)
-  more_files_pass behind on_board (workers number) taken false = simp (t.no_dash, t.no_dashes, l.no_dash, l.no_dashes, f.no_dash, f.no_dashes)
-  more_files_pass behind on_board (budget number) taken folds = absurd taken
-  more_files_pass behind on_board (both number other) taken folds = absurd taken
-  more_files_pass behind on_puzzle none taken true = simp (t.no_dash, t.no_dashes, l.no_dash, l.no_dashes, f.no_dash, f.no_dashes)
-  more_files_pass behind on_puzzle none taken false = simp (t.no_dash, t.no_dashes, l.no_dash, l.no_dashes, f.no_dash, f.no_dashes)
-  more_files_pass behind on_puzzle (workers number) taken true = simp (t.no_dash, t.no_dashes, l.no_dash, l.no_dashes, f.no_dash, f.no_dashes)
-  more_files_pass behind on_puzzle (workers number) taken false = simp (t.no_dash, t.no_dashes, l.no_dash, l.no_dashes, f.no_dash, f.no_dashes)
-  more_files_pass behind on_puzzle (budget number) taken folds = absurd taken
-  more_files_pass behind on_puzzle (both number other) taken folds = absurd taken
-  more_files_pass behind on_search none taken true = simp (t.no_dash, t.no_dashes, l.no_dash, l.no_dashes, f.no_dash, f.no_dashes)
-  more_files_pass behind on_search none taken false = simp (t.no_dash, t.no_dashes, l.no_dash, l.no_dashes, f.no_dash, f.no_dashes)
-  more_files_pass behind on_search (workers number) taken true = simp (t.no_dash, t.no_dashes, l.no_dash, l.no_dashes, f.no_dash, f.no_dashes)
-  more_files_pass behind on_search (workers number) taken false = simp (t.no_dash, t.no_dashes, l.no_dash, l.no_dashes, f.no_dash, f.no_dashes)
-  more_files_pass behind on_search (budget number) taken true = simp (t.no_dash, t.no_dashes, l.no_dash, l.no_dashes, f.no_dash, f.no_dashes)
-  more_files_pass behind on_search (budget number) taken false = simp (t.no_dash, t.no_dashes, l.no_dash, l.no_dashes, f.no_dash, f.no_dashes)
-  more_files_pass behind on_search (both number other) taken true = simp (t.no_dash, t.no_dashes, l.no_dash, l.no_dashes, f.no_dash, f.no_dashes)
-  more_files_pass behind on_search (both number other) taken false = simp (t.no_dash, t.no_dashes, l.no_dash, l.no_dashes, f.no_dash, f.no_dashes)
+  pub dashless_text : HasNoDash names.text
+  dashless_text = has_no_dash names.text all_plain.0
 
-module _ (command : LogCommand) (claim sets log table : Text) (tables : List Text) (names : AreNames (claim ∷ sets ∷ log ∷ table ∷ tables)) where
-  behind_claim : All IsPlain (sets ∷ log ∷ table ∷ tables)
-  behind_claim = All-tail IsPlain claim (sets ∷ log ∷ table ∷ tables) names.0
+  dashless_sets : HasNoDash names.sets
+  dashless_sets = has_no_dash names.sets all_plain.1.0
 
-  behind_sets : All IsPlain (log ∷ table ∷ tables)
-  behind_sets = All-tail IsPlain sets (log ∷ table ∷ tables) behind_claim
+  dashless_log : HasNoDash names.log
+  dashless_log = has_no_dash names.log all_plain.1.1.0
 
-  behind_log : All IsPlain (table ∷ tables)
-  behind_log = All-tail IsPlain log (table ∷ tables) behind_sets
-
-  pub plain_claim : HasNoDash claim
-  plain_claim = has_no_dash claim (All-head IsPlain claim (sets ∷ log ∷ table ∷ tables) names.0)
-
-  plain_sets : HasNoDash sets
-  plain_sets = has_no_dash sets (All-head IsPlain sets (log ∷ table ∷ tables) behind_claim)
-
-  plain_log : HasNoDash log
-  plain_log = has_no_dash log (All-head IsPlain log (table ∷ tables) behind_sets)
-
-  plain_table : HasNoDash table
-  plain_table = has_no_dash table (All-head IsPlain table tables behind_log)
-
-  others : All IsPlain tables
-  others = All-tail IsPlain table tables behind_log
-
-  many : length (table ∷ tables) ≤ usize_max
-  many = omega (arith, names.1)
+  dashless_table : HasNoDash names.table
+  dashless_table = has_no_dash names.table all_plain.1.1.1.0
 
   fourth : (command : LogCommand) → arg_by_index (shape_of command).rules 4 ≡ Some tables_rule
   fourth on_board = refl
   fourth on_puzzle = refl
-  fourth on_search = refl
+  fourth (on_search budget) = refl
 
-  pub files_walk : (folds : Bool) (flags : Flags) → IsTaken command flags → (behind : List Text)
-      → walk (shape_of command).rules [] nothing_held (with_fold folds (flags_before flags (claim ∷ sets ∷ log ∷ table ∷ tables ++ behind)))
-      ≡ fold (walked (shape_of command).rules []) (gathering (rows_before folds flags (files command claim sets log)) (table ∷ tables)) behind
-  files_walk folds flags taken behind =
-      fold_begins command (flags_before flags (claim ∷ sets ∷ log ∷ table ∷ tables ++ behind)) folds ∙ begins flags
-      ∙ ap (λ (w : Walk). fold (walked (shape_of command).rules []) w (sets ∷ log ∷ table ∷ tables ++ behind)) (first_steps claim plain_claim command flags taken folds)
-      ∙ ap (λ (w : Walk). fold (walked (shape_of command).rules []) w (tables ++ behind)) (more_steps claim sets log table plain_sets plain_log plain_table command flags taken folds)
-      ∙ more_walk (shape_of command) (fourth command) (rows_before folds flags (files command claim sets log)) (table ∷ []) tables behind others
-    where
-      begins : (flags : Flags) → fold (walked (shape_of command).rules []) (start_of folds) (flags_before flags (claim ∷ sets ∷ log ∷ table ∷ tables ++ behind))
-          ≡ fold (walked (shape_of command).rules []) (fold (walked (shape_of command).rules []) (start_of folds) (flags_before flags (claim ∷ []))) (sets ∷ log ∷ table ∷ tables ++ behind)
-      begins none = refl
-      begins (workers number) = refl
-      begins (budget number) = refl
-      begins (both number other) = refl
+  -- all names
+  pub names_lead : (command : LogCommand) (folds : Bool) (workers : Option Text) → AreTaken command workers → (rest : List Text)
+      → Leads (shape_of command) start (with_fold folds (flags_before command workers (log_words names ++ rest))) (gathered folds command workers names) rest
+  names_lead command folds workers taken rest =
+      leads_on (fold_leads command folds (flags_before command workers (log_words names ++ rest)))
+      (leads_on (text_leads names.text dashless_text (names.sets ∷ names.log ∷ tables_named names ++ rest) command workers taken folds)
+      (leads_on (sets_lead names dashless_sets dashless_log dashless_table (names.more_tables ++ rest) command workers folds)
+      (tables_lead (shape_of command) (fourth command) (rows_before folds command workers (files command names)) (names.table ∷ []) names.more_tables rest all_plain.1.1.1.1)))
 
-  pub files_pass : (folds : Bool) (flags : Flags) → IsTaken command flags → (behind : List Text)
-      → walk_fault (shape_of command) [] start (with_fold folds (flags_before flags (claim ∷ sets ∷ log ∷ table ∷ tables ++ behind)))
-      ≡ walk_fault (shape_of command) [] (gathering (rows_before folds flags (files command claim sets log)) (table ∷ tables)) behind
-  files_pass folds flags taken behind =
-      fold_passes command (flags_before flags (claim ∷ sets ∷ log ∷ table ∷ tables ++ behind)) folds
-      ∙ first_pass claim plain_claim (sets ∷ log ∷ table ∷ tables ++ behind) command flags taken folds
-      ∙ more_files_pass claim sets log table plain_sets plain_log plain_table (tables ++ behind) command flags taken folds
-      ∙ more_pass (shape_of command) (fourth command) (rows_before folds flags (files command claim sets log)) (table ∷ []) tables behind others
+  -- all names and nothing behind them
+  pub whole_lead : (command : LogCommand) (folds : Bool) (workers : Option Text) → AreTaken command workers
+      → Leads (shape_of command) start (with_fold folds (flags_before command workers (log_words names))) (gathered folds command workers names) []
+  whole_lead command folds workers taken =
+      subst (λ (words : List Text). Leads (shape_of command) start (with_fold folds (flags_before command workers words)) (gathered folds command workers names) [])
+      (append-nil (log_words names)) (names_lead command folds workers taken [])
+
+  -- all names, with no flag before them but `--fold`
+  pub bare_lead : (command : LogCommand) → IsBare command → (folds : Bool) (rest : List Text)
+      → Leads (shape_of command) start (with_fold folds (log_words names ++ rest)) (gathered folds command None names) rest
+  bare_lead (on_search (Some budget)) bare folds rest = absurd bare
+  bare_lead command bare folds rest = names_lead command folds None (tt, tt) rest

@@ -1,213 +1,158 @@
 -- What the words of `make-table` ask for, and what is wrong with them, word by word.
-use Rattle.std.proofs.Common.{◌≡◌, ◌∙◌, refl, inl, inr, ap, ℕ, Bool, false, true, List, [], ◌∷◌, None, Some, codes}
+use Rattle.std.proofs.Common.{◌≡◌, ◌≢◌, ◌∙◌, arith, refl, inl, inr, ap, sym, ℕ, Bool, false, true, List, [], ◌∷◌, ◌++◌, Option, None, Some, codes}
 use Rattle.std.specs.Bool.{⊤}
-use Rattle.std.specs.List.{fold}
+use Rattle.std.specs.Option.{option_map_or}
 use Rattle.std.specs.Prelude.{if◌then◌else◌, pos}
-use Rattle.clap.proofs.FaultLemmas.{past}
 use Rattle.clap.proofs.OnLiterals.{clap_on_literals}
-use Rattle.clap.specs.Faults.{level_fault, turn_fault, walk_fault}
-use Rattle.clap.specs.Kinds.{Kinds, or_else}
+use Rattle.clap.specs.Faults.{turn_fault, walk_fault}
 use Rattle.clap.specs.Simple.{Shape}
 use Rattle.clap.specs.ValueTests.{accepts}
-use Rattle.clap.specs.Walk.{Row, Rule, Text, Walk, finished, nothing_held, reading_by, walk, walked}
+use Rattle.clap.specs.Walk.{Row, Text, Walk, finished, walked}
 use Rattle.clap.specs.declared.builder.value_parser.ValueParser.TheVariants as parser
 use Rattle.clap.specs.declared.error.kind.ErrorKind.{ErrorKind}
 use Rattle.clap.specs.declared.error.kind.ErrorKind.TheVariants as kind
-use Rattle.clap.specs.declared.parser.matches.ValueSource.TheVariants.{CommandLine}
-use Rattle.pdb_words.specs.Asked.{Asked, make_table}
-use Rattle.pdb_words.specs.CommandLine.{asked_by, asked_of, faults_of}
-use Rattle.pdb_words.specs.Commands.{IsCommand}
+use Rattle.book_core.specs.Books.{most_workers}
+use Rattle.pdb_request.specs.Asked.{Asked, make_table}
+use Rattle.pdb_words.specs.CommandLine.{asked_by}
+use Rattle.pdb_words.specs.Commands.{IsCommand, IsPlain}
+use Rattle.pdb_words.specs.Faults.{IsMistaken}
 use Rattle.pdb_words.specs.MakeTable.{most_mask, most_side, needed_mask, needed_side}
-use Rattle.pdb_words.specs.Numbers.{number_within}
-use Rattle.pdb_words.proofs.CommandLemmas.{asked_behind, faults_behind, leaf, start}
-use Rattle.word_laws.proofs.LogWalkLemmas.{at, file_row, workers_row}
-use Rattle.word_laws.proofs.NumberLemmas.{workers_of}
-use Rattle.word_laws.proofs.TablesLemmas.{last_fault, level_ends}
-use Rattle.pdb_words.proofs.TextLemmas.{HasNoDash}
-use Rattle.word_laws.proofs.WorkersLemmas.{accepted}
+use Rattle.pdb_words.specs.Numbers.{number_of, number_within}
+use Rattle.pdb_words.proofs.CommandLemmas.{leaf, start}
+use Rattle.pdb_words.proofs.TextLemmas.{HasNoDash, has_no_dash}
+use Rattle.word_laws.proofs.LogWalkLemmas.{at, file_row, found_row, number_before, row_before, workers_row}
+use Rattle.word_laws.proofs.NumberLemmas.{number_asked, signed_accepted, workers_of}
+use Rattle.word_laws.proofs.WalkLemmas.{Leads, asks_behind, last_fault, leads_on, level_ends, level_stops, mistaken_behind, one_word, unless_taken, wrong}
+use Rattle.word_laws.proofs.WorkersLemmas.{accepted, accepted_is}
+use Rattle.word_laws.specs.Asking.{AsksFor}
+use Rattle.word_laws.specs.MakeTableWords.{PatternWords, WritesPattern, asks_for_table, pattern_words}
+use Rattle.word_laws.specs.NumberTexts.{writes_mask, writes_side, writes_workers}
 
 -- the command, as it is built
-abbrev pub shape : Shape
+abbrev shape : Shape
 shape = leaf (codes "make-table")
 
 is_command : IsCommand (codes "make-table")
 is_command = inr (inr (inr (inr (inl refl))))
 
 -- `clap` takes the text as a side, or as a tile mask
-abbrev pub accepted_side : Text → Bool
+abbrev accepted_side : Text → Bool
 accepted_side text = accepts false (parser.Signed (pos 0) (pos most_side)) text
 
-abbrev pub accepted_mask : Text → Bool
+abbrev accepted_mask : Text → Bool
 accepted_mask text = accepts false (parser.Signed (pos 0) (pos most_mask)) text
 
--- what is wrong with the words behind the command's name
-abbrev pub wrong : List Text → Kinds
-wrong words = level_fault shape [] nothing_held words false []
-
-pub faults_are : (words : List Text) (kinds : Kinds) → wrong words ≡ kinds → faults_of (codes "make-table" ∷ words) ≡ or_else kinds []
-faults_are words kinds e = faults_behind (codes "make-table") is_command words ∙ ap (λ (ks : Kinds). or_else ks []) e
-
--- what they ask for
-asked_is : (words : List Text) (w : Walk) (asked : Asked) → walk shape.rules [] nothing_held words ≡ w → asked_by (codes "make-table") (finished shape.rules w.held) ≡ asked
-    → asked_of (codes "make-table" ∷ words) ≡ asked
-asked_is words w asked is e =
-    asked_behind (codes "make-table") is_command words ∙ ap (λ (w : Walk). asked_by (codes "make-table") (finished shape.rules w.held)) is ∙ e
-
--- ---- one word more
-
-one_word : (w after : Walk) (word : Text) (rest : List Text) → turn_fault shape [] w word ≡ [] → walked shape.rules [] w word ≡ after
-    → walk_fault shape [] w (word ∷ rest) ≡ walk_fault shape [] after rest
-unfolding walk_fault
-one_word w after word rest passes is = past _ _ passes ∙ ap (λ (w : Walk). walk_fault shape [] w rest) is
-
-stops : (w : Walk) (word : Text) (rest : List Text) (k : ErrorKind) → turn_fault shape [] w word ≡ k ∷ [] → walk_fault shape [] w (word ∷ rest) ≡ k ∷ []
-unfolding walk_fault
-stops w word rest k e = rw e refl
-
--- nothing, where a number is taken
-abbrev unless_taken : Bool → Kinds
-unless_taken true = []
-unless_taken false = kind.ValueValidation ∷ []
+is_mistaken : (words : List Text) → wrong shape words ≡ kind.ValueValidation ∷ [] → IsMistaken (codes "make-table" ∷ words)
+is_mistaken words e = mistaken_behind (codes "make-table") is_command words kind.ValueValidation e (λ e. cc)
 
 -- ---- `--workers N`, where it comes first
 
-pub data First : Type 0 where
-  nothing : First
-  flag : Text → First
-
-abbrev pub words_of : First → List Text → List Text
-words_of nothing words = words
-words_of (flag number) words = codes "--workers" ∷ number ∷ words
-
-abbrev pub IsRead : First → Type 0
-IsRead nothing = ⊤
-IsRead (flag number) = HasNoDash number
-
--- what `clap` has taken up to there
-abbrev walk_at : First → Walk
-walk_at nothing = start
-walk_at (flag number) = at 1 [] (codes "workers") number
-
-abbrev rows_at : First → List Row → List Row
-rows_at nothing rows = rows
-rows_at (flag number) rows = workers_row number ∷ rows
-
-abbrev pub workers_at : First → ℕ
-workers_at nothing = 1
-workers_at (flag number) = workers_of number
+abbrev IsRead : Option Text → Type 0
+IsRead None = ⊤
+IsRead (Some number) = HasNoDash number
 
 -- the number is taken, or not
-abbrev pub Takes : Bool → First → Type 0
-Takes takes nothing = takes ≡ true
-Takes takes (flag number) = accepted number ≡ takes
+abbrev Takes : Bool → Option Text → Type 0
+Takes takes None = takes ≡ true
+Takes takes (Some number) = accepted number ≡ takes
 
-flag_steps : (number : Text) → HasNoDash number → fold (walked shape.rules []) start (codes "--workers" ∷ number ∷ []) ≡ at 1 [] (codes "workers") number
+-- what `clap` has taken up to there
+abbrev walk_at : Option Text → Walk
+walk_at None = start
+walk_at (Some number) = at 1 [] (codes "workers") number
+
+flag_leads : (number : Text) → HasNoDash number → (rest : List Text) → Leads shape start (codes "--workers" ∷ number ∷ rest) (at 1 [] (codes "workers") number) rest
 unfolding clap_on_literals
-flag_steps number n = simp (n.no_dash, n.no_dashes)
+flag_leads number n rest = record { steps = simp (n.no_dash, n.no_dashes); passes = simp (n.no_dash, n.no_dashes) }
 
-flag_passes : (number : Text) (behind : List Text) → HasNoDash number → walk_fault shape [] start (codes "--workers" ∷ number ∷ behind) ≡ walk_fault shape [] (at 1 [] (codes "workers") number) behind
-unfolding clap_on_literals
-flag_passes number behind n = simp (n.no_dash, n.no_dashes)
-
-first_walk : (first : First) → IsRead first → (behind : List Text) → walk shape.rules [] nothing_held (words_of first behind) ≡ fold (walked shape.rules []) (walk_at first) behind
-first_walk nothing read behind = refl
-first_walk (flag number) read behind = ap (λ (w : Walk). fold (walked shape.rules []) w behind) (flag_steps number read)
-
-first_passes : (first : First) → IsRead first → (behind : List Text) → walk_fault shape [] start (words_of first behind) ≡ walk_fault shape [] (walk_at first) behind
-first_passes nothing read behind = refl
-first_passes (flag number) read behind = flag_passes number behind read
+workers_lead : (workers : Option Text) → IsRead workers → (rest : List Text) → Leads shape start (number_before (codes "--workers") workers rest) (walk_at workers) rest
+workers_lead None read rest = record { steps = refl; passes = refl }
+workers_lead (Some number) read rest = flag_leads number read rest
 
 -- ---- the numbers and the name
 
--- what is found of a number
-abbrev number_row : Text → Rule → Text → Row
-number_row id rule number = record { id = id; values = number ∷ []; count = None; source = Some CommandLine; reading = reading_by rule }
-
 abbrev side_row : Text → Row
-side_row side = number_row (codes "SIDE") needed_side side
+side_row side = found_row (codes "SIDE") needed_side side
 
 abbrev mask_row : Text → Row
-mask_row mask = number_row (codes "MASK") needed_mask mask
+mask_row mask = found_row (codes "MASK") needed_mask mask
 
-abbrev at_side : First → Text → Walk
-at_side first side = at 2 (rows_at first []) (codes "SIDE") side
+abbrev at_side : Option Text → Text → Walk
+at_side workers side = at 2 (row_before workers_row workers []) (codes "SIDE") side
 
-abbrev at_mask : First → Text → Text → Walk
-at_mask first side mask = at 3 (rows_at first (side_row side ∷ [])) (codes "MASK") mask
+abbrev at_mask : Option Text → Text → Text → Walk
+at_mask workers side mask = at 3 (row_before workers_row workers (side_row side ∷ [])) (codes "MASK") mask
 
-abbrev at_out : First → Text → Text → Text → Walk
-at_out first side mask out = at 4 (rows_at first (side_row side ∷ mask_row mask ∷ [])) (codes "OUT") out
+abbrev at_out : Option Text → Text → Text → Text → Walk
+at_out workers side mask out = at 4 (row_before workers_row workers (side_row side ∷ mask_row mask ∷ [])) (codes "OUT") out
 
 module _ (side : Text) (s : HasNoDash side) where
-  side_step : (first : First) → walked shape.rules [] (walk_at first) side ≡ at_side first side
+  side_step : (workers : Option Text) → walked shape.rules [] (walk_at workers) side ≡ at_side workers side
   unfolding clap_on_literals
-  side_step nothing = simp (s.no_dash, s.no_dashes)
-  side_step (flag number) = simp (s.no_dash, s.no_dashes)
+  side_step None = simp (s.no_dash, s.no_dashes)
+  side_step (Some number) = simp (s.no_dash, s.no_dashes)
 
-  side_turn : (first : First) (takes : Bool) → Takes takes first → turn_fault shape [] (walk_at first) side ≡ unless_taken takes
+  side_turn : (workers : Option Text) (takes : Bool) → Takes takes workers → turn_fault shape [] (walk_at workers) side ≡ unless_taken takes
   unfolding clap_on_literals
-  side_turn nothing true e = simp (s.no_dash, s.no_dashes)
-  side_turn nothing false e = cc
-  side_turn (flag number) true e = simp (s.no_dash, s.no_dashes, e)
-  side_turn (flag number) false e = simp (s.no_dash, s.no_dashes, e)
+  side_turn None true e = simp (s.no_dash, s.no_dashes)
+  side_turn None false e = cc
+  side_turn (Some number) true e = simp (s.no_dash, s.no_dashes, e)
+  side_turn (Some number) false e = simp (s.no_dash, s.no_dashes, e)
 
 module _ (side mask : Text) (m : HasNoDash mask) where
-  mask_step : (first : First) → walked shape.rules [] (at_side first side) mask ≡ at_mask first side mask
+  mask_step : (workers : Option Text) → walked shape.rules [] (at_side workers side) mask ≡ at_mask workers side mask
   unfolding clap_on_literals
-  mask_step nothing = simp (m.no_dash, m.no_dashes)
-  mask_step (flag number) = simp (m.no_dash, m.no_dashes)
+  mask_step None = simp (m.no_dash, m.no_dashes)
+  mask_step (Some number) = simp (m.no_dash, m.no_dashes)
 
-  mask_turn : (first : First) (takes : Bool) → accepted_side side ≡ takes → turn_fault shape [] (at_side first side) mask ≡ unless_taken takes
+  mask_turn : (workers : Option Text) (takes : Bool) → accepted_side side ≡ takes → turn_fault shape [] (at_side workers side) mask ≡ unless_taken takes
   unfolding clap_on_literals
-  mask_turn nothing true e = simp (m.no_dash, m.no_dashes, e)
-  mask_turn nothing false e = simp (m.no_dash, m.no_dashes, e)
-  mask_turn (flag number) true e = simp (m.no_dash, m.no_dashes, e)
-  mask_turn (flag number) false e = simp (m.no_dash, m.no_dashes, e)
+  mask_turn None true e = simp (m.no_dash, m.no_dashes, e)
+  mask_turn None false e = simp (m.no_dash, m.no_dashes, e)
+  mask_turn (Some number) true e = simp (m.no_dash, m.no_dashes, e)
+  mask_turn (Some number) false e = simp (m.no_dash, m.no_dashes, e)
 
   no_name_ends : (takes : Bool) → accepted_mask mask ≡ takes
-      → last_fault shape (at_mask nothing side mask).held ≡ (if takes then kind.MissingRequiredArgument ∷ [] else kind.ValueValidation ∷ [])
+      → last_fault shape (at_mask None side mask).held ≡ (if takes then kind.MissingRequiredArgument ∷ [] else kind.ValueValidation ∷ [])
   unfolding clap_on_literals
   no_name_ends true e = simp e
   no_name_ends false e = simp e
 
 module _ (side mask out : Text) (o : HasNoDash out) where
-  out_step : (first : First) → walked shape.rules [] (at_mask first side mask) out ≡ at_out first side mask out
+  out_step : (workers : Option Text) → walked shape.rules [] (at_mask workers side mask) out ≡ at_out workers side mask out
   unfolding clap_on_literals
-  out_step nothing = simp (o.no_dash, o.no_dashes)
-  out_step (flag number) = simp (o.no_dash, o.no_dashes)
+  out_step None = simp (o.no_dash, o.no_dashes)
+  out_step (Some number) = simp (o.no_dash, o.no_dashes)
 
-  out_turn : (first : First) (takes : Bool) → accepted_mask mask ≡ takes → turn_fault shape [] (at_mask first side mask) out ≡ unless_taken takes
+  out_turn : (workers : Option Text) (takes : Bool) → accepted_mask mask ≡ takes → turn_fault shape [] (at_mask workers side mask) out ≡ unless_taken takes
   unfolding clap_on_literals
-  out_turn nothing true e = simp (o.no_dash, o.no_dashes, e)
-  out_turn nothing false e = simp (o.no_dash, o.no_dashes, e)
-  out_turn (flag number) true e = simp (o.no_dash, o.no_dashes, e)
-  out_turn (flag number) false e = simp (o.no_dash, o.no_dashes, e)
+  out_turn None true e = simp (o.no_dash, o.no_dashes, e)
+  out_turn None false e = simp (o.no_dash, o.no_dashes, e)
+  out_turn (Some number) true e = simp (o.no_dash, o.no_dashes, e)
+  out_turn (Some number) false e = simp (o.no_dash, o.no_dashes, e)
 
 module _ (side mask out : Text) where
-  out_ends : (first : First) → last_fault shape (at_out first side mask out).held ≡ []
+  out_ends : (workers : Option Text) → last_fault shape (at_out workers side mask out).held ≡ []
   unfolding clap_on_literals
-  out_ends nothing = refl
-  out_ends (flag number) = refl
+  out_ends None = refl
+  out_ends (Some number) = refl
 
   abbrev made : ℕ → Asked
   made workers = make_table (number_within 0 most_side 0 side) (number_within 0 most_mask 0 mask) out workers
 
-  out_asks : HasNoDash side → HasNoDash mask → (first : First) → IsRead first → asked_by (codes "make-table") (finished shape.rules (at_out first side mask out).held) ≡ made (workers_at first)
-  out_asks s m nothing read = simp (s.no_dash, m.no_dash)
-  out_asks s m (flag number) read = simp (s.no_dash, m.no_dash, read.no_dash)
+  out_asks : HasNoDash side → HasNoDash mask → (workers : Option Text) → IsRead workers
+      → asked_by (codes "make-table") (finished shape.rules (at_out workers side mask out).held) ≡ made (option_map_or workers_of workers 1)
+  out_asks s m None read = simp (s.no_dash, m.no_dash)
+  out_asks s m (Some number) read = simp (s.no_dash, m.no_dash, read.no_dash)
 
   -- `--workers N` behind the name
   module _ (number : Text) (n : HasNoDash number) where
     abbrev at_last : Walk
     at_last = at 4 (side_row side ∷ mask_row mask ∷ file_row (codes "OUT") out ∷ []) (codes "workers") number
 
-    last_steps : fold (walked shape.rules []) (at_out nothing side mask out) (codes "--workers" ∷ number ∷ []) ≡ at_last
+    last_leads : Leads shape (at_out None side mask out) (codes "--workers" ∷ number ∷ []) at_last []
     unfolding clap_on_literals
-    last_steps = simp (n.no_dash, n.no_dashes)
-
-    last_passes : walk_fault shape [] (at_out nothing side mask out) (codes "--workers" ∷ number ∷ []) ≡ []
-    unfolding clap_on_literals
-    last_passes = simp (n.no_dash, n.no_dashes)
+    last_leads = record { steps = simp (n.no_dash, n.no_dashes); passes = simp (n.no_dash, n.no_dashes) }
 
     last_ends : (takes : Bool) → accepted number ≡ takes → last_fault shape at_last.held ≡ unless_taken takes
     unfolding clap_on_literals
@@ -219,65 +164,110 @@ module _ (side mask out : Text) where
 
 -- ---- all words
 
+-- a number that isn't taken, and the word behind it
 module _ (side mask : Text) (s : HasNoDash side) (m : HasNoDash mask) where
-  numbers_walk : (first : First) → IsRead first → (behind : List Text) → walk shape.rules [] nothing_held (words_of first (side ∷ mask ∷ behind)) ≡ fold (walked shape.rules []) (at_mask first side mask) behind
-  numbers_walk first read behind =
-      first_walk first read (side ∷ mask ∷ behind)
-      ∙ ap (λ (w : Walk). fold (walked shape.rules []) w (mask ∷ behind)) (side_step side s first)
-      ∙ ap (λ (w : Walk). fold (walked shape.rules []) w behind) (mask_step side mask m first)
+  side_leads : (rest : List Text) → Leads shape start (side ∷ rest) (at_side None side) rest
+  side_leads rest = one_word shape start (at_side None side) side rest (side_turn side s None true refl) (side_step side s None)
 
-  numbers_pass : (first : First) → IsRead first → Takes true first → accepted_side side ≡ true → (behind : List Text)
-      → walk_fault shape [] start (words_of first (side ∷ mask ∷ behind)) ≡ walk_fault shape [] (at_mask first side mask) behind
-  numbers_pass first read takes e behind =
-      first_passes first read (side ∷ mask ∷ behind)
-      ∙ one_word (walk_at first) (at_side first side) side (mask ∷ behind) (side_turn side s first true takes) (side_step side s first)
-      ∙ one_word (at_side first side) (at_mask first side mask) mask behind (mask_turn side mask m first true e) (mask_step side mask m first)
+  numbers_lead : (workers : Option Text) → IsRead workers → Takes true workers → accepted_side side ≡ true → (rest : List Text)
+      → Leads shape start (number_before (codes "--workers") workers (side ∷ mask ∷ rest)) (at_mask workers side mask) rest
+  numbers_lead workers read takes e rest =
+      leads_on (workers_lead workers read (side ∷ mask ∷ rest))
+      (leads_on (one_word shape (walk_at workers) (at_side workers side) side (mask ∷ rest) (side_turn side s workers true takes) (side_step side s workers))
+      (one_word shape (at_side workers side) (at_mask workers side mask) mask rest (mask_turn side mask m workers true e) (mask_step side mask m workers)))
 
-  -- a number of workers that isn't taken, and a side that isn't
-  pub no_workers : (first : First) → IsRead first → Takes false first → (behind : List Text) → wrong (words_of first (side ∷ mask ∷ behind)) ≡ kind.ValueValidation ∷ []
-  no_workers first read takes behind =
-      rw (first_passes first read (side ∷ mask ∷ behind) ∙ stops (walk_at first) side (mask ∷ behind) kind.ValueValidation (side_turn side s first false takes)) refl
+  no_side : accepted_side side ≡ false → (rest : List Text) → wrong shape (side ∷ mask ∷ rest) ≡ kind.ValueValidation ∷ []
+  no_side e rest = level_stops shape _ (at_side None side) mask rest kind.ValueValidation (side_leads (mask ∷ rest)) (mask_turn side mask m None false e)
 
-  pub no_side : accepted_side side ≡ false → (behind : List Text) → wrong (side ∷ mask ∷ behind) ≡ kind.ValueValidation ∷ []
-  no_side e behind =
-      rw (one_word start (at_side nothing side) side (mask ∷ behind) (side_turn side s nothing true refl) (side_step side s nothing)
-      ∙ stops (at_side nothing side) mask behind kind.ValueValidation (mask_turn side mask m nothing false e)) refl
+  pub nameless : IsMistaken (codes "make-table" ∷ side ∷ mask ∷ [])
+  nameless = go (accepted_side side) refl (accepted_mask mask) refl
+    where
+      ends : accepted_side side ≡ true → (takes : Bool) → accepted_mask mask ≡ takes
+          → wrong shape (side ∷ mask ∷ []) ≡ (if takes then kind.MissingRequiredArgument ∷ [] else kind.ValueValidation ∷ [])
+      ends e takes f = level_ends shape _ (at_mask None side mask) _ (numbers_lead None tt refl e []) (no_name_ends side mask m takes f)
 
-  pub no_name : accepted_side side ≡ true → (takes : Bool) → accepted_mask mask ≡ takes → wrong (side ∷ mask ∷ []) ≡ (if takes then kind.MissingRequiredArgument ∷ [] else kind.ValueValidation ∷ [])
-  unfolding walk_fault
-  no_name e takes f = level_ends shape (side ∷ mask ∷ []) (at_mask nothing side mask) (numbers_pass nothing tt refl e []) (numbers_walk nothing tt []) (no_name_ends side mask m takes f)
+      go : (takes : Bool) → accepted_side side ≡ takes → (takes_mask : Bool) → accepted_mask mask ≡ takes_mask → IsMistaken (codes "make-table" ∷ side ∷ mask ∷ [])
+      go false e takes f = is_mistaken (side ∷ mask ∷ []) (no_side e [])
+      go true e false f = is_mistaken (side ∷ mask ∷ []) (ends e false f)
+      go true e true f = mistaken_behind (codes "make-table") is_command (side ∷ mask ∷ []) kind.MissingRequiredArgument (ends e true f) (λ e. cc)
 
-  module _ (out : Text) (o : HasNoDash out) where
-    pub no_mask : accepted_side side ≡ true → accepted_mask mask ≡ false → (behind : List Text) → wrong (side ∷ mask ∷ out ∷ behind) ≡ kind.ValueValidation ∷ []
-    no_mask e f behind =
-        rw (numbers_pass nothing tt refl e (out ∷ behind) ∙ stops (at_mask nothing side mask) out behind kind.ValueValidation (out_turn side mask out o nothing false f)) refl
+module _ (words : PatternWords) where
+  dashless_side : HasNoDash words.side
+  dashless_side = has_no_dash words.side words.plain_side
 
-    out_walk : (first : First) → IsRead first → (behind : List Text) → walk shape.rules [] nothing_held (words_of first (side ∷ mask ∷ out ∷ behind)) ≡ fold (walked shape.rules []) (at_out first side mask out) behind
-    out_walk first read behind = numbers_walk first read (out ∷ behind) ∙ ap (λ (w : Walk). fold (walked shape.rules []) w behind) (out_step side mask out o first)
+  dashless_mask : HasNoDash words.mask
+  dashless_mask = has_no_dash words.mask words.plain_mask
 
-    out_passes : (first : First) → IsRead first → Takes true first → accepted_side side ≡ true → accepted_mask mask ≡ true → (behind : List Text)
-        → walk_fault shape [] start (words_of first (side ∷ mask ∷ out ∷ behind)) ≡ walk_fault shape [] (at_out first side mask out) behind
-    out_passes first read takes e f behind =
-        numbers_pass first read takes e (out ∷ behind)
-        ∙ one_word (at_mask first side mask) (at_out first side mask out) out behind (out_turn side mask out o first true f) (out_step side mask out o first)
+  dashless_out : HasNoDash words.out
+  dashless_out = has_no_dash words.out words.plain_out
 
-    pub whole_wrong : (first : First) → IsRead first → Takes true first → accepted_side side ≡ true → accepted_mask mask ≡ true → wrong (words_of first (side ∷ mask ∷ out ∷ [])) ≡ []
-    unfolding walk_fault
-    whole_wrong first read takes e f =
-        level_ends shape (words_of first (side ∷ mask ∷ out ∷ [])) (at_out first side mask out) (out_passes first read takes e f []) (out_walk first read []) (out_ends side mask out first)
+  side_is : accepted_side words.side ≡ writes_side words.side
+  side_is = signed_accepted 0 most_side words.side (omega arith) words.plain_side
 
-    pub whole_asked : (first : First) → IsRead first → asked_of (codes "make-table" ∷ words_of first (side ∷ mask ∷ out ∷ [])) ≡ made side mask out (workers_at first)
-    whole_asked first read = asked_is (words_of first (side ∷ mask ∷ out ∷ [])) (at_out first side mask out) _ (out_walk first read []) (out_asks side mask out s m first read)
+  mask_is : accepted_mask words.mask ≡ writes_mask words.mask
+  mask_is = signed_accepted 0 most_mask words.mask (omega arith) words.plain_mask
 
-    module _ (number : Text) (n : HasNoDash number) where
-      pub last_wrong : accepted_side side ≡ true → accepted_mask mask ≡ true → (takes : Bool) → accepted number ≡ takes
-          → wrong (side ∷ mask ∷ out ∷ codes "--workers" ∷ number ∷ []) ≡ unless_taken takes
-      last_wrong e f takes d =
-          level_ends shape (side ∷ mask ∷ out ∷ codes "--workers" ∷ number ∷ []) (at_last side mask out number n)
-          (out_passes nothing tt refl e f (codes "--workers" ∷ number ∷ []) ∙ last_passes side mask out number n)
-          (out_walk nothing tt (codes "--workers" ∷ number ∷ []) ∙ last_steps side mask out number n)
-          (last_ends side mask out number n takes d)
+  -- numbers that are taken, for what they write
+  made_is : WritesPattern words → (workers : ℕ) → made words.side words.mask words.out workers ≡ asks_for_table words workers
+  made_is writes workers = rw (number_asked 0 most_side 0 words.side writes.0, number_asked 0 most_mask 0 words.mask writes.1) refl
 
-      pub last_asked : asked_of (codes "make-table" ∷ side ∷ mask ∷ out ∷ codes "--workers" ∷ number ∷ []) ≡ made side mask out (workers_of number)
-      last_asked = asked_is (side ∷ mask ∷ out ∷ codes "--workers" ∷ number ∷ []) (at_last side mask out number n) _
-          (out_walk nothing tt (codes "--workers" ∷ number ∷ []) ∙ last_steps side mask out number n) (last_asks side mask out number n s m)
+  words_lead : (workers : Option Text) → IsRead workers → Takes true workers → accepted_side words.side ≡ true → accepted_mask words.mask ≡ true → (rest : List Text)
+      → Leads shape start (number_before (codes "--workers") workers (pattern_words words ++ rest)) (at_out workers words.side words.mask words.out) rest
+  words_lead workers read takes e f rest =
+      leads_on (numbers_lead words.side words.mask dashless_side dashless_mask workers read takes e (words.out ∷ rest))
+      (one_word shape _ _ words.out rest (out_turn words.side words.mask words.out dashless_out workers true f) (out_step words.side words.mask words.out dashless_out workers))
+
+  pub whole_asked : (workers : Option Text) → IsRead workers → Takes true workers → WritesPattern words
+      → AsksFor (codes "make-table" ∷ number_before (codes "--workers") workers (pattern_words words)) (asks_for_table words (option_map_or workers_of workers 1))
+  whole_asked workers read takes writes =
+      asks_behind (codes "make-table") is_command _ (at_out workers words.side words.mask words.out) _
+      (words_lead workers read takes (side_is ∙ writes.0) (mask_is ∙ writes.1) []) (out_ends words.side words.mask words.out workers)
+      (out_asks words.side words.mask words.out dashless_side dashless_mask workers read ∙ made_is writes (option_map_or workers_of workers 1))
+
+  pub other_side : writes_side words.side ≡ false → IsMistaken (codes "make-table" ∷ pattern_words words)
+  other_side e = is_mistaken _ (no_side words.side words.mask dashless_side dashless_mask (side_is ∙ e) (words.out ∷ []))
+
+  -- a number that isn't taken, whatever follows
+  number_wrong : (rest : List Text) → (accepted_side words.side ≡ true → accepted_mask words.mask ≡ true → wrong shape (pattern_words words ++ rest) ≡ kind.ValueValidation ∷ [])
+      → IsMistaken (codes "make-table" ∷ pattern_words words ++ rest)
+  number_wrong rest others = is_mistaken (pattern_words words ++ rest) (go (accepted_side words.side) refl (accepted_mask words.mask) refl)
+    where
+      go : (takes : Bool) → accepted_side words.side ≡ takes → (takes_mask : Bool) → accepted_mask words.mask ≡ takes_mask
+          → wrong shape (pattern_words words ++ rest) ≡ kind.ValueValidation ∷ []
+      go false e takes f = no_side words.side words.mask dashless_side dashless_mask e (words.out ∷ rest)
+      go true e false f = level_stops shape _ (at_mask None words.side words.mask) words.out rest kind.ValueValidation
+          (numbers_lead words.side words.mask dashless_side dashless_mask None tt refl e (words.out ∷ rest)) (out_turn words.side words.mask words.out dashless_out None false f)
+      go true e true f = others e f
+
+  pub other_mask : writes_mask words.mask ≡ false → IsMistaken (codes "make-table" ∷ pattern_words words)
+  other_mask f = number_wrong [] (λ e taken. let clash : true ≡ false = sym taken ∙ mask_is ∙ f in cc)
+
+  module _ (number : Text) (n : IsPlain number) where
+    dashless_number : HasNoDash number
+    dashless_number = has_no_dash number n
+
+    pub first_asked : writes_workers number ≡ true → WritesPattern words
+        → AsksFor (codes "make-table" ∷ codes "--workers" ∷ number ∷ pattern_words words) (asks_for_table words (number_of number))
+    first_asked g writes =
+        let whole = whole_asked (Some number) dashless_number (accepted_is number n ∙ g) writes in
+        (whole.0, whole.1 ∙ ap (asks_for_table words) (number_asked 1 most_workers 1 number g))
+
+    pub other_first : writes_workers number ≡ false → IsMistaken (codes "make-table" ∷ codes "--workers" ∷ number ∷ pattern_words words)
+    other_first g = is_mistaken _ (level_stops shape _ (walk_at (Some number)) words.side (words.mask ∷ words.out ∷ []) kind.ValueValidation
+        (workers_lead (Some number) dashless_number (pattern_words words)) (side_turn words.side dashless_side (Some number) false (accepted_is number n ∙ g)))
+
+    last_lead : accepted_side words.side ≡ true → accepted_mask words.mask ≡ true
+        → Leads shape start (pattern_words words ++ codes "--workers" ∷ number ∷ []) (at_last words.side words.mask words.out number dashless_number) []
+    last_lead e f = leads_on (words_lead None tt refl e f (codes "--workers" ∷ number ∷ [])) (last_leads words.side words.mask words.out number dashless_number)
+
+    pub last_asked : writes_workers number ≡ true → WritesPattern words
+        → AsksFor (codes "make-table" ∷ pattern_words words ++ codes "--workers" ∷ number ∷ []) (asks_for_table words (number_of number))
+    last_asked g writes =
+        asks_behind (codes "make-table") is_command _ (at_last words.side words.mask words.out number dashless_number) _
+        (last_lead (side_is ∙ writes.0) (mask_is ∙ writes.1)) (last_ends words.side words.mask words.out number dashless_number true (accepted_is number n ∙ g))
+        (last_asks words.side words.mask words.out number dashless_number dashless_side dashless_mask ∙ made_is writes (workers_of number) ∙ ap (asks_for_table words) (number_asked 1 most_workers 1 number g))
+
+    pub other_last : writes_workers number ≡ false → IsMistaken (codes "make-table" ∷ pattern_words words ++ codes "--workers" ∷ number ∷ [])
+    other_last g = number_wrong (codes "--workers" ∷ number ∷ [])
+        (λ e f. level_ends shape _ (at_last words.side words.mask words.out number dashless_number) _ (last_lead e f)
+        (last_ends words.side words.mask words.out number dashless_number false (accepted_is number n ∙ g)))

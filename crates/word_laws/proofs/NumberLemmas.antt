@@ -7,7 +7,7 @@ use Rattle.clap.specs.ValueTests.{accepts, is_numeral}
 use Rattle.clap.specs.Walk.{Text}
 use Rattle.clap.specs.declared.builder.value_parser.ValueParser.TheVariants as parser
 use Rattle.book_core.specs.Books.{most_workers}
-use Rattle.pdb_words.specs.Asked.{most_budget}
+use Rattle.pdb_request.specs.Asked.{most_budget}
 use Rattle.pdb_words.specs.Budget.{usual_budget}
 use Rattle.pdb_words.specs.Commands.{IsPlain}
 use Rattle.pdb_words.specs.Numbers.{number_of, number_within, writes_within}

@@ -5,7 +5,7 @@ use Rattle.clap.specs.ValueTests.{accepts}
 use Rattle.clap.specs.Walk.{Text}
 use Rattle.clap.specs.declared.builder.value_parser.ValueParser.TheVariants as parser
 use Rattle.book_core.specs.Books.{most_workers}
-use Rattle.pdb_words.specs.Asked.{most_budget}
+use Rattle.pdb_request.specs.Asked.{most_budget}
 use Rattle.pdb_words.specs.Commands.{IsPlain}
 use Rattle.word_laws.proofs.NumberLemmas.{signed_accepted, unsigned_accepted}
 use Rattle.word_laws.specs.NumberTexts.{writes_budget, writes_workers}

@@ -2,4 +2,5 @@
 pub mod Asking
 pub mod Flags
 pub mod LogWords
+pub mod MakeTableWords
 pub mod NumberTexts

@@ -1,39 +1,70 @@
 -- What the words of a command that names a log ask for.
-use Rattle.std.specs.Prelude.{◌≡◌, Bool, List, [], ◌∷◌, ◌++◌, codes, false, true}
+use Rattle.std.specs.Prelude.{◌≡◌, ℕ, Bool, List, [], ◌∷◌, ◌++◌, codes, false, true}
 use Rattle.clap.specs.Walk.{Text}
-use Rattle.pdb_words.specs.Asked.{AsksCheck}
+use Rattle.pdb_request.specs.Asked.{Asked, solve}
 use Rattle.pdb_words.specs.Commands.{IsPlain}
 use Rattle.pdb_words.specs.Faults.{IsMistaken}
 use Rattle.pdb_words.specs.Numbers.{number_of}
 use Rattle.word_laws.specs.Asking.{AreNames, AsksFor}
 use Rattle.word_laws.specs.NumberTexts.{writes_workers}
 
+-- the names of the text of a claim, the sets, a log, and one table or more
+pub record LogNames : Type 0 where
+  pub text : Text
+  pub sets : Text
+  pub log : Text
+  pub table : Text
+  pub more_tables : List Text
+  pub are_names : AreNames (text ∷ sets ∷ log ∷ table ∷ more_tables)
+
+-- the tables, in their order
+abbrev pub tables_named : LogNames → List Text
+tables_named names = names.table ∷ names.more_tables
+
+-- all names
+abbrev pub log_words : LogNames → List Text
+log_words names = names.text ∷ names.sets ∷ names.log ∷ tables_named names
+
 -- words with `--fold` before them, or without it
 abbrev pub with_fold : Bool → List Text → List Text
 with_fold true words = codes "--fold" ∷ words
 with_fold false words = words
 
--- the command of this name, with the names of a claim, the sets, a log and one table or more, asks for this: the tables in
--- their order, by one worker, or by as many as `--workers` says, first or last; and folded where `--fold` comes first or last
-pub record NamesLog (command : Text) (asks : AsksCheck) : Type 0 where
-  pub files : (folds : Bool) (claim sets log table : Text) (tables : List Text) → AreNames (claim ∷ sets ∷ log ∷ table ∷ tables)
-      → AsksFor (command ∷ with_fold folds (claim ∷ sets ∷ log ∷ table ∷ tables)) (asks claim sets log (table ∷ tables) 1 folds)
-  pub no_tables : (folds : Bool) (claim sets log : Text) → IsPlain claim → IsPlain sets → IsPlain log
-      → IsMistaken (command ∷ with_fold folds (claim ∷ sets ∷ log ∷ []))
-  pub workers : (folds : Bool) (number claim sets log table : Text) (tables : List Text) → IsPlain number → AreNames (claim ∷ sets ∷ log ∷ table ∷ tables)
-      → writes_workers number ≡ true
-      → AsksFor (command ∷ with_fold folds (codes "--workers" ∷ number ∷ claim ∷ sets ∷ log ∷ table ∷ tables))
-      (asks claim sets log (table ∷ tables) (number_of number) folds)
-  pub other_workers : (folds : Bool) (number claim sets log table : Text) (tables : List Text) → IsPlain number → AreNames (claim ∷ sets ∷ log ∷ table ∷ tables)
-      → writes_workers number ≡ false
-      → IsMistaken (command ∷ with_fold folds (codes "--workers" ∷ number ∷ claim ∷ sets ∷ log ∷ table ∷ tables))
-  pub workers_last : (folds : Bool) (number claim sets log table : Text) (tables : List Text) → IsPlain number → AreNames (claim ∷ sets ∷ log ∷ table ∷ tables)
-      → writes_workers number ≡ true
-      → AsksFor (command ∷ with_fold folds (claim ∷ sets ∷ log ∷ table ∷ tables ++ codes "--workers" ∷ number ∷ []))
-      (asks claim sets log (table ∷ tables) (number_of number) folds)
-  pub other_workers_last : (folds : Bool) (number claim sets log table : Text) (tables : List Text) → IsPlain number → AreNames (claim ∷ sets ∷ log ∷ table ∷ tables)
-      → writes_workers number ≡ false
-      → IsMistaken (command ∷ with_fold folds (claim ∷ sets ∷ log ∷ table ∷ tables ++ codes "--workers" ∷ number ∷ []))
-  pub fold_last : (claim sets log table : Text) (tables : List Text) → AreNames (claim ∷ sets ∷ log ∷ table ∷ tables)
-      → AsksFor (command ∷ claim ∷ sets ∷ log ∷ table ∷ tables ++ codes "--fold" ∷ []) (asks claim sets log (table ∷ tables) 1 true)
-  pub fold_twice : (words : List Text) → IsMistaken (command ∷ codes "--fold" ∷ codes "--fold" ∷ words)
+-- what is asked of a text, the sets, a log and its tables, of so many workers, with the tables folded or whole
+abbrev pub AsksOfLog : Type 0
+AsksOfLog = Text → Text → Text → List Text → ℕ → Bool → Asked
+
+-- the same, of the files of these names
+abbrev pub of_names : AsksOfLog → LogNames → ℕ → Bool → Asked
+of_names asks names workers folds =
+    asks names.text names.sets names.log (tables_named names) workers folds
+
+-- a search that may expand so many boards
+abbrev pub search_within : ℕ → AsksOfLog
+search_within budget = λ board sets out tables workers folds. solve board sets out tables workers folds budget
+
+-- the command of this name, with the names of a text, the sets, a log and one table or more, asks for this: of one worker, or
+-- of as many as `--workers` says, first or last; and with folded tables where `--fold` comes first or last
+pub record NamesLog (command : Text) (asks : AsksOfLog) : Type 0 where
+  pub files : (names : LogNames) (folds : Bool)
+      → AsksFor (command ∷ with_fold folds (log_words names)) (of_names asks names 1 folds)
+  pub no_tables : (text sets log : Text) (folds : Bool) → IsPlain text → IsPlain sets → IsPlain log
+      → IsMistaken (command ∷ with_fold folds (text ∷ sets ∷ log ∷ []))
+  pub workers : (names : LogNames) (folds : Bool) (number : Text)
+      → IsPlain number → writes_workers number ≡ true
+      → AsksFor (command ∷ with_fold folds (codes "--workers" ∷ number ∷ log_words names))
+      (of_names asks names (number_of number) folds)
+  pub other_workers : (names : LogNames) (folds : Bool) (number : Text)
+      → IsPlain number → writes_workers number ≡ false
+      → IsMistaken (command ∷ with_fold folds (codes "--workers" ∷ number ∷ log_words names))
+  pub workers_last : (names : LogNames) (folds : Bool) (number : Text)
+      → IsPlain number → writes_workers number ≡ true
+      → AsksFor (command ∷ with_fold folds (log_words names ++ codes "--workers" ∷ number ∷ []))
+      (of_names asks names (number_of number) folds)
+  pub other_workers_last : (names : LogNames) (folds : Bool) (number : Text)
+      → IsPlain number → writes_workers number ≡ false
+      → IsMistaken (command ∷ with_fold folds (log_words names ++ codes "--workers" ∷ number ∷ []))
+  pub fold_last : (names : LogNames)
+      → AsksFor (command ∷ log_words names ++ codes "--fold" ∷ []) (of_names asks names 1 true)
+  pub fold_twice : (words : List Text)
+      → IsMistaken (command ∷ codes "--fold" ∷ codes "--fold" ∷ words)

@@ -2,7 +2,7 @@
 use Rattle.std.specs.Prelude.{Bool}
 use Rattle.clap.specs.Walk.{Text}
 use Rattle.book_core.specs.Books.{most_workers}
-use Rattle.pdb_words.specs.Asked.{most_budget}
+use Rattle.pdb_request.specs.Asked.{most_budget}
 use Rattle.pdb_words.specs.MakeTable.{most_mask, most_side}
 use Rattle.pdb_words.specs.Numbers.{writes_within}
 

@@ -2,7 +2,8 @@
 
 ghost use Rattle.std.specs.Prelude.{◌≡◌, ◌≢◌, ◌∷◌, ◌++◌, [], ℕ, List, None, Some, codes, false, true};
 ghost use Rattle.std.specs.List.{All};
-ghost use Rattle.pdb_words.specs.Asked.{bound, optimal, replay, table};
+ghost use Rattle.pdb_request.specs.Asked.{log_check, replay, table};
+ghost use Rattle.pdb_request.specs.declared.requests.Claim.TheVariants.{Bound, Optimum};
 ghost use Rattle.pdb_words.specs.CommandLine.{Parses};
 ghost use Rattle.pdb_words.specs.Commands.{BeginsWithCommand, IsCommand, IsPlain};
 ghost use Rattle.pdb_words.specs.Faults.{IsMistaken};
@@ -16,22 +17,31 @@ ghost use Rattle.word_laws.specs.NumberTexts.{writes_workers};
 pub fn what_replay_asks()
     ensures nothing { AsksFor [] (replay None) }
     ensures alone { AsksFor (codes "replay" ∷ []) (replay None) }
-    ensures file { (name : List ℕ) → IsPlain name → AsksFor (codes "replay" ∷ name ∷ []) (replay (Some name)) }
-    ensures workers { (number : List ℕ) → IsMistaken (codes "replay" ∷ codes "--workers" ∷ number ∷ []) }
+    ensures file { (name : List ℕ) → IsPlain name
+        → AsksFor (codes "replay" ∷ name ∷ []) (replay (Some name)) }
+    ensures workers { (number : List ℕ)
+        → IsMistaken (codes "replay" ∷ codes "--workers" ∷ number ∷ []) }
 {}
 
 /// `table` with a name asks for that table, checked by one worker, or by as many as `--workers` says, before the name
 /// or behind it.
 pub fn what_table_asks()
-    ensures file { (name : List ℕ) → IsPlain name → AsksFor (codes "table" ∷ name ∷ []) (table name 1) }
+    ensures file { (name : List ℕ) → IsPlain name
+        → AsksFor (codes "table" ∷ name ∷ []) (table name 1) }
     ensures alone { IsMistaken (codes "table" ∷ []) }
-    ensures workers { (number name : List ℕ) → IsPlain number → IsPlain name → writes_workers number ≡ true
-        → AsksFor (codes "table" ∷ codes "--workers" ∷ number ∷ name ∷ []) (table name (number_of number)) }
-    ensures other_workers { (number name : List ℕ) → IsPlain number → IsPlain name → writes_workers number ≡ false
+    ensures workers { (number name : List ℕ) → IsPlain number → IsPlain name
+        → writes_workers number ≡ true
+        → AsksFor (codes "table" ∷ codes "--workers" ∷ number ∷ name ∷ [])
+        (table name (number_of number)) }
+    ensures other_workers { (number name : List ℕ) → IsPlain number → IsPlain name
+        → writes_workers number ≡ false
         → IsMistaken (codes "table" ∷ codes "--workers" ∷ number ∷ name ∷ []) }
-    ensures workers_last { (number name : List ℕ) → IsPlain number → IsPlain name → writes_workers number ≡ true
-        → AsksFor (codes "table" ∷ name ∷ codes "--workers" ∷ number ∷ []) (table name (number_of number)) }
-    ensures other_workers_last { (number name : List ℕ) → IsPlain number → IsPlain name → writes_workers number ≡ false
+    ensures workers_last { (number name : List ℕ) → IsPlain number → IsPlain name
+        → writes_workers number ≡ true
+        → AsksFor (codes "table" ∷ name ∷ codes "--workers" ∷ number ∷ [])
+        (table name (number_of number)) }
+    ensures other_workers_last { (number name : List ℕ) → IsPlain number → IsPlain name
+        → writes_workers number ≡ false
         → IsMistaken (codes "table" ∷ name ∷ codes "--workers" ∷ number ∷ []) }
 {}
 
@@ -39,13 +49,13 @@ pub fn what_table_asks()
 /// the board: the tables in their order, checked by one worker, or by as many as `--workers` says, first or last, and
 /// folded then where `--fold` comes before all or behind all.
 pub fn what_bound_asks()
-    ensures { NamesLog (codes "bound") bound }
+    ensures { NamesLog (codes "bound") (log_check Bound) }
 {}
 
 /// `optimal` asks in the same words, with a puzzle text first, whether the log proves that its moves are a shortest
 /// solution.
 pub fn what_optimal_asks()
-    ensures { NamesLog (codes "optimal") optimal }
+    ensures { NamesLog (codes "optimal") (log_check Optimum) }
 {}
 
 /// Words that parse begin with a command of the program, and give no flag but those that their command takes:
@@ -53,10 +63,10 @@ pub fn what_optimal_asks()
 pub fn no_other_words_parse()
     ensures commands { (words : List (List ℕ)) → Parses words → BeginsWithCommand words }
     // Another first word, other than a wish for help, is a mistake, whatever follows.
-    ensures other_command { (first : List ℕ) (rest : List (List ℕ)) → IsPlain first → (IsCommand first → ⊥) → first ≢ codes "help"
-        → IsMistaken (first ∷ rest) }
+    ensures other_command { (first : List ℕ) (rest : List (List ℕ)) → IsPlain first
+        → (IsCommand first → ⊥) → first ≢ codes "help" → IsMistaken (first ∷ rest) }
     // Behind a word `--` no word is a flag.
-    ensures flags { (command name flag : List ℕ) (before after : List (List ℕ)) → IsCommand command
-        → All (λ word. word ≢ codes "--") before → IsLongFlag name flag
+    ensures flags { (command name flag : List ℕ) (before after : List (List ℕ))
+        → IsCommand command → All (λ word. word ≢ codes "--") before → IsLongFlag name flag
         → Parses (command ∷ before ++ flag ∷ after) → TakesFlag command name }
 {}

@@ -1,6 +1,7 @@
 //! What is read of words, and what a test wants of it.
 
-use pdb_words::{Request, WordFault, read_words};
+use pdb_request::Request;
+use pdb_words::{WordFault, read_words};
 use std::alloc::{AllocError, Global};
 use std::test::Fail;
 

@@ -1,7 +1,7 @@
 //! What words ask for.
 
 use crate::readings::{behind, expect_request};
-use pdb_words::{LogCheck, Request, Search};
+use pdb_request::{Claim, LogCheck, MakeTable, Replay, Request, Search, TableCheck};
 use std::alloc::{AllocError, Global};
 use std::test::Fail;
 
@@ -16,8 +16,8 @@ fn words_ask_for_a_replay(rt: HostRuntime) -> Result<(), Fail> {
         (&["replay", "--", "-x"], Some("-x")),
         (&["replay", "table"], Some("table")),
     ];
-    for (words, name) in cases {
-        expect_request(rt.alloc(), words, &Request::Replay(name))?;
+    for (words, puzzle) in cases {
+        expect_request(rt.alloc(), words, &Request::Replay(Replay { puzzle }))?;
     }
     Ok(())
 }
@@ -36,7 +36,8 @@ fn words_ask_for_a_table(rt: HostRuntime) -> Result<(), Fail> {
         (&["table", "--workers", "064", "--", "f"], 64),
     ];
     for (words, workers) in cases {
-        expect_request(rt.alloc(), words, &Request::Table { file, workers })?;
+        let check = TableCheck { file, workers };
+        expect_request(rt.alloc(), words, &Request::TableCheck(check))?;
     }
     Ok(())
 }
@@ -44,18 +45,20 @@ fn words_ask_for_a_table(rt: HostRuntime) -> Result<(), Fail> {
 /// A check of the log `l`, with these tables.
 fn log_check<'a>(
     alloc: Global,
+    claim: Claim,
     tables: &[&'a str],
     workers: u8,
     fold: bool,
-) -> Result<LogCheck<'a>, AllocError> {
-    Ok(LogCheck {
+) -> Result<Request<'a>, AllocError> {
+    Ok(Request::LogCheck(LogCheck {
+        claim,
         text: "c",
         sets: "s",
         log: "l",
         tables: tables.to_vec(alloc)?,
         workers,
         fold,
-    })
+    }))
 }
 
 #[test]
@@ -80,9 +83,9 @@ fn words_name_the_files_of_a_log(rt: HostRuntime) -> Result<(), Fail> {
         ),
     ];
     for (words, tables, workers) in cases {
-        let bound = Request::Bound(log_check(alloc, tables, workers, false)?);
+        let bound = log_check(alloc, Claim::Bound, tables, workers, false)?;
         expect_request(alloc, behind(alloc, "bound", words)?.as_slice(), &bound)?;
-        let optimal = Request::Optimal(log_check(alloc, tables, workers, false)?);
+        let optimal = log_check(alloc, Claim::Optimum, tables, workers, false)?;
         expect_request(alloc, behind(alloc, "optimal", words)?.as_slice(), &optimal)?;
     }
     Ok(())
@@ -118,9 +121,9 @@ fn words_ask_for_folded_tables(rt: HostRuntime) -> Result<(), Fail> {
         (&["c", "s", "l", "fold"], &["fold"], 1, false),
     ];
     for (words, tables, workers, fold) in cases {
-        let bound = Request::Bound(log_check(alloc, tables, workers, fold)?);
+        let bound = log_check(alloc, Claim::Bound, tables, workers, fold)?;
         expect_request(alloc, behind(alloc, "bound", words)?.as_slice(), &bound)?;
-        let optimal = Request::Optimal(log_check(alloc, tables, workers, fold)?);
+        let optimal = log_check(alloc, Claim::Optimum, tables, workers, fold)?;
         expect_request(alloc, behind(alloc, "optimal", words)?.as_slice(), &optimal)?;
     }
     Ok(())
@@ -139,12 +142,12 @@ fn words_ask_for_a_table_to_be_made(rt: HostRuntime) -> Result<(), Fail> {
         (&["+2", "006", "--workers=2", "o"], 2, 6, 2),
     ];
     for (words, side, mask, workers) in cases {
-        let wanted = Request::MakeTable {
+        let wanted = Request::MakeTable(MakeTable {
             side,
             mask,
             out,
             workers,
-        };
+        });
         expect_request(
             alloc,
             behind(alloc, "make-table", words)?.as_slice(),
@@ -200,7 +203,7 @@ fn words_ask_for_a_search(rt: HostRuntime) -> Result<(), Fail> {
         ),
     ];
     for (words, tables, workers, fold, budget) in cases {
-        let wanted = Request::Solve(Search {
+        let wanted = Request::Search(Search {
             board: "b",
             sets: "s",
             out: "o",

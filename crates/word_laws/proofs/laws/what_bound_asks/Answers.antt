@@ -3,4 +3,4 @@ use Rattle.word_laws.proofs.LogWalkLemmas.{on_board}
 use Rattle.word_laws.proofs.laws.what_bound_asks.Goals as goal
 
 pub returns : goal.returns
-returns c = names_log on_board
+returns c = names_log on_board tt

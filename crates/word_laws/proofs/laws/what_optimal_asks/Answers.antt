@@ -3,4 +3,4 @@ use Rattle.word_laws.proofs.LogWalkLemmas.{on_puzzle}
 use Rattle.word_laws.proofs.laws.what_optimal_asks.Goals as goal
 
 pub returns : goal.returns
-returns c = names_log on_puzzle
+returns c = names_log on_puzzle tt

@@ -2,7 +2,7 @@ use Rattle.std.proofs.Common.{refl, ◌≡◌, ◌∷◌, [], Some, None, codes}
 use Rattle.clap.proofs.OnLiterals.{clap_on_literals}
 use Rattle.clap.specs.Walk.{Text}
 use Rattle.clap.specs.declared.error.kind.ErrorKind.TheVariants as kind
-use Rattle.pdb_words.specs.Asked.{replay}
+use Rattle.pdb_request.specs.Asked.{replay}
 use Rattle.pdb_words.specs.CommandLine.{asked_of, faults_of}
 use Rattle.pdb_words.proofs.KindLemmas.{mistaken}
 use Rattle.pdb_words.proofs.TextLemmas.{HasNoDash, has_no_dash}
