@@ -35,9 +35,19 @@ impl Model for Core {
 
     ghost Value = { Book };
 
-    ghost view = { λ c. record { jobs = c.jobs; next = c.next; least = c.least; passes = c.passes.items } };
+    ghost view = { λ c. record {
+      jobs = c.jobs;
+      next = c.next;
+      least = c.least;
+      passes = c.passes.items;
+    } };
 
-    ghost invariant = { λ c. IsInRange record { jobs = c.jobs; next = c.next; least = c.least; passes = c.passes.items } };
+    ghost invariant = { λ c. IsInRange record {
+      jobs = c.jobs;
+      next = c.next;
+      least = c.least;
+      passes = c.passes.items;
+    } };
 }
 
 impl Core {
@@ -66,7 +76,8 @@ impl Core {
         ensures ok { IfOk result (λ answer. step self.old event ≡ Ok (self.new, answer)) }
         ensures fault { IfErr result (IsRefusal self.old event) }
         // Want of memory comes only where a list of a pass has to grow.
-        ensures memory { IsErrOf result CoreFault.Memory → IsOkAnd (step self.old event) (λ r. TakesRoom r.1) }
+        ensures memory { IsErrOf result CoreFault.Memory
+            → IsOkAnd (step self.old event) (λ r. TakesRoom r.1) }
         ensures err { OnErr result (self.new ≡ self.old) }
         ensures law { BookLaw self.old → BookLaw self.new }
         ensures sizes { SameSizes self.old self.new }
@@ -84,9 +95,11 @@ impl Core {
     /// Takes events one after another, and answers each of them.
     /// At `Err((i, fault))` event number i met the fault, and the core stands after the first i events.
     pub fn run(&mut self, events: &[Event]) -> Result<Vec<Answer>, (u64, CoreFault)>
-        ensures ok { IfOk result (λ answers. run_from self.old events.now ≡ going self.new answers.items) }
+        ensures ok { IfOk result (λ answers.
+            run_from self.old events.now ≡ going self.new answers.items) }
         ensures fault { IfErr result (λ e. StopsAt self.old events.now e.0 e.1) }
-        ensures stands { IfErr result (λ e. self.new ≡ (run_from self.old (take e.0 events.now)).book) }
+        ensures stands { IfErr result (λ e.
+            self.new ≡ (run_from self.old (take e.0 events.now)).book) }
         ensures law { BookLaw self.old → BookLaw self.new }
         ensures sizes { SameSizes self.old self.new }
     {
@@ -101,7 +114,8 @@ impl Core {
 
     /// Takes one event and adds its answer. A fault changes nothing.
     fn step_into(&mut self, event: Event, answers: &mut Vec<Answer>) -> Result<(), CoreFault>
-        ensures ok { OnOk result (run_on (going self.old answers.old.items) event ≡ going self.new answers.new.items) }
+        ensures ok { OnOk result (
+            run_on (going self.old answers.old.items) event ≡ going self.new answers.new.items) }
         ensures fault { IfErr result (IsRefusal self.old event) }
         ensures err { OnErr result (self.new ≡ self.old) }
     {
@@ -178,8 +192,10 @@ impl Core {
     /// Draws the next job, or ends the pass where none is left.
     fn claim(&mut self, pass: u8) -> Result<Answer, AllocError>
         requires { IsOk (step self.old (Event.Claim pass)) }
-        ensures ok { IfOk result (λ answer. step self.old (Event.Claim pass) ≡ Ok (self.new, answer)) }
-        ensures memory { OnErr result (IsOkAnd (step self.old (Event.Claim pass)) (λ r. TakesRoom r.1)) }
+        ensures ok { IfOk result (λ answer.
+            step self.old (Event.Claim pass) ≡ Ok (self.new, answer)) }
+        ensures memory { OnErr result (
+            IsOkAnd (step self.old (Event.Claim pass)) (λ r. TakesRoom r.1)) }
         ensures err { OnErr result (self.new ≡ self.old) }
     {
         let job = self.next;
@@ -198,8 +214,10 @@ impl Core {
     /// Keeps a reported place, and the least of all.
     fn report(&mut self, pass: u8, place: u64) -> Result<Answer, AllocError>
         requires { IsOk (step self.old (Event.Report pass place)) }
-        ensures ok { IfOk result (λ answer. step self.old (Event.Report pass place) ≡ Ok (self.new, answer)) }
-        ensures memory { OnErr result (IsOkAnd (step self.old (Event.Report pass place)) (λ r. TakesRoom r.1)) }
+        ensures ok { IfOk result (λ answer.
+            step self.old (Event.Report pass place) ≡ Ok (self.new, answer)) }
+        ensures memory { OnErr result (
+            IsOkAnd (step self.old (Event.Report pass place)) (λ r. TakesRoom r.1)) }
         ensures err { OnErr result (self.new ≡ self.old) }
     {
         self.passes[usize::from(pass)].report(place)?;

@@ -20,7 +20,12 @@ impl Model for Deeds {
 
     ghost Value = { Deeds };
 
-    ghost view = { λ p. record { drawn = p.drawn.items; reported = p.reported.items; seen = p.seen; ended = p.ended } };
+    ghost view = { λ p. record {
+      drawn = p.drawn.items;
+      reported = p.reported.items;
+      seen = p.seen;
+      ended = p.ended;
+    } };
 }
 
 impl Deeds {

@@ -40,9 +40,15 @@ impl Model for Book {
 
     ghost use Rattle.std.specs.Prelude.{◌≡◌, ◌<◌, ◌≤◌, ◌^◌};
 
-    ghost view = { λ b. record { table = b.table.shared.table_id; sizes = record { jobs = b.jobs; workers = b.workers } } };
+    ghost view = { λ b. record {
+      table = b.table.shared.table_id;
+      sizes = record { jobs = b.jobs; workers = b.workers };
+    } };
 
-    ghost invariant = { λ b. (b.table.shared.key ≡ record { jobs = b.jobs; workers = b.workers }) × (b.table.shared.table_id.words ≡ 2) × (b.table.shared.table_id.slots ≡ 0) × (0 < b.workers) };
+    ghost invariant = { λ b.
+        (b.table.shared.key ≡ record { jobs = b.jobs; workers = b.workers })
+        × (b.table.shared.table_id.words ≡ 2) × (b.table.shared.table_id.slots ≡ 0)
+        × (0 < b.workers) };
 }
 
 impl Book {
@@ -70,9 +76,12 @@ impl Book {
     pub fn claim(&self, pass: &mut Pass) -> Option<u64>
         requires book { pass.old.book ≡ self.now }
         requires open { pass.old.deeds.ended ≡ false }
-        ensures event { IsOneStep self.now.sizes (Event.Claim pass.old.number) pass.old.deeds (claim_answer result) pass.new.deeds }
-        ensures drawn { IfSome result (λ job. pass.new ≡ record pass.old { deeds = with_drawn pass.old.deeds job }) }
-        ensures ended { IfNone result (pass.new ≡ record pass.old { deeds = with_end pass.old.deeds }) }
+        ensures event { IsOneStep self.now.sizes (Event.Claim pass.old.number) pass.old.deeds
+            (claim_answer result) pass.new.deeds }
+        ensures drawn { IfSome result (λ job.
+            pass.new ≡ record pass.old { deeds = with_drawn pass.old.deeds job }) }
+        ensures ended { IfNone result (
+            pass.new ≡ record pass.old { deeds = with_end pass.old.deeds }) }
         ensures job { IfSome result (λ job. job < self.now.sizes.jobs) }
         // The jobs that this pass drew before are below it, so they are no more than this.
         ensures few { IfSome result (λ job. length pass.old.deeds.drawn ≤ job) }
@@ -90,7 +99,8 @@ impl Book {
     pub fn report(&self, pass: &mut Pass, place: u64)
         requires book { pass.old.book ≡ self.now }
         requires place { place < 2 ^ 32 }
-        ensures event { IsOneStep self.now.sizes (Event.Report pass.old.number place) pass.old.deeds Answer.Reported pass.new.deeds }
+        ensures event { IsOneStep self.now.sizes (Event.Report pass.old.number place) pass.old.deeds
+            Answer.Reported pass.new.deeds }
         ensures reported { pass.new ≡ record pass.old { deeds = with_report pass.old.deeds place } }
     {
         self.report_at(&mut pass.seat, place);
@@ -99,7 +109,8 @@ impl Book {
     /// Shows the least place that any pass has reported so far, or none, and records it as seen.
     pub fn look(&self, pass: &mut Pass) -> Option<u64>
         requires book { pass.old.book ≡ self.now }
-        ensures event { IsOneStep self.now.sizes (Event.Look pass.old.number) pass.old.deeds (Answer.Least result) pass.new.deeds }
+        ensures event { IsOneStep self.now.sizes (Event.Look pass.old.number) pass.old.deeds
+            (Answer.Least result) pass.new.deeds }
         ensures seen { pass.new ≡ record pass.old { deeds = with_seen pass.old.deeds result } }
         ensures place { IfSome result (λ place. place < 2 ^ 32) }
         ensures own { All (λ place. IsAtMost result (Some place)) pass.old.deeds.reported }
@@ -130,7 +141,8 @@ impl Book {
         requires jobs { jobs ≤ 2 ^ 32 }
         requires workers { AreWorkers workers }
         ensures sizes { IfOk result (λ r. (r.0.sizes.jobs ≡ jobs) × (r.0.sizes.workers ≡ workers)) }
-        ensures seat { IfOk result (λ r. (r.1.table_id ≡ r.0.table) × (r.1.me ≡ (opening r.0.sizes, []))) }
+        ensures seat { IfOk result (λ r.
+            (r.1.table_id ≡ r.0.table) × (r.1.me ≡ (opening r.0.sizes, []))) }
     {
         let about = Sizes { jobs, workers };
         let (table, seat) = Table::of_words(alloc, &[0, NONE], &about)?;
@@ -149,7 +161,8 @@ impl Book {
     /// One step that adds a claim to the first word, and answers how many there were before.
     fn claim_at(&self, seat: &mut BookSeat) -> u64
         requires table { seat.old.table_id ≡ self.now.table }
-        requires open { (number : ℕ) × (p : Deeds) × (seat.old.me.0 ≡ alone self.now.sizes number p) × (p.ended ≡ false) }
+        requires open { (number : ℕ) × (p : Deeds)
+            × (seat.old.me.0 ≡ alone self.now.sizes number p) × (p.ended ≡ false) }
         ensures table { (seat.new.table_id ≡ seat.old.table_id) × (seat.new.me.1 ≡ seat.old.me.1) }
         ensures claim { Claimed seat.old.me.0 result seat.new.me.0 }
     {
@@ -159,7 +172,8 @@ impl Book {
     /// One step that lowers the second word to the place.
     fn report_at(&self, seat: &mut BookSeat, place: u64)
         requires table { seat.old.table_id ≡ self.now.table }
-        requires alone { (number : ℕ) × (p : Deeds) × (seat.old.me.0 ≡ alone self.now.sizes number p) }
+        requires alone { (number : ℕ) × (p : Deeds)
+            × (seat.old.me.0 ≡ alone self.now.sizes number p) }
         requires place { place < 2 ^ 32 }
         ensures table { (seat.new.table_id ≡ seat.old.table_id) × (seat.new.me.1 ≡ seat.old.me.1) }
         ensures report { Placed seat.old.me.0 place seat.new.me.0 }
@@ -170,7 +184,8 @@ impl Book {
     /// One step that reads the second word.
     fn look_at(&self, seat: &mut BookSeat) -> u64
         requires table { seat.old.table_id ≡ self.now.table }
-        requires alone { (number : ℕ) × (p : Deeds) × (seat.old.me.0 ≡ alone self.now.sizes number p) }
+        requires alone { (number : ℕ) × (p : Deeds)
+            × (seat.old.me.0 ≡ alone self.now.sizes number p) }
         ensures table { (seat.new.table_id ≡ seat.old.table_id) × (seat.new.me.1 ≡ seat.old.me.1) }
         ensures look { Looked seat.old.me.0 result seat.new.me.0 }
     {
@@ -180,8 +195,10 @@ impl Book {
     /// A seat for the first of the passes.
     fn split(&self, seat: &mut BookSeat) -> BookSeat
         requires { seat.old.table_id ≡ self.now.table }
-        ensures others { (seat.new.table_id ≡ seat.old.table_id) × (seat.new.me ≡ (without_first seat.old.me.0, seat.old.me.1)) }
-        ensures first { (result.table_id ≡ seat.old.table_id) × (result.me ≡ (first_alone seat.old.me.0, [])) }
+        ensures others { (seat.new.table_id ≡ seat.old.table_id)
+            × (seat.new.me ≡ (without_first seat.old.me.0, seat.old.me.1)) }
+        ensures first { (result.table_id ≡ seat.old.table_id)
+            × (result.me ≡ (first_alone seat.old.me.0, [])) }
     {
         self.table.shared.split_seat::<Shares>(seat)
     }
@@ -190,7 +207,8 @@ impl Book {
     fn join(&self, seat: &mut BookSeat, other: BookSeat)
         requires seat { seat.old.table_id ≡ self.now.table }
         requires other { (other.table_id ≡ self.now.table) × (other.me.1 ≡ []) }
-        ensures { (seat.new.table_id ≡ seat.old.table_id) × (seat.new.me ≡ (together seat.old.me.0 other.me.0, seat.old.me.1)) }
+        ensures { (seat.new.table_id ≡ seat.old.table_id)
+            × (seat.new.me ≡ (together seat.old.me.0 other.me.0, seat.old.me.1)) }
     {
         self.table.shared.join_seat::<Shares>(seat, other);
     }
@@ -200,7 +218,10 @@ impl Book {
         requires seat { seat.old.table_id ≡ self.now.table }
         requires passes { All (λ p. p.book ≡ self.now) passes.items }
         ensures table { seat.new.table_id ≡ seat.old.table_id }
-        ensures all { seat.new.me ≡ (view seat.old.me.0.sizes (seat.old.me.0.held ++ numbered_passes passes.items), seat.old.me.1) }
+        ensures all { seat.new.me ≡ (
+          view seat.old.me.0.sizes (seat.old.me.0.held ++ numbered_passes passes.items),
+          seat.old.me.1,
+        ) }
     {
         for pass in passes {
             self.join(seat, pass.seat);

@@ -21,10 +21,16 @@ impl Model for Pass {
     ghost use Rattle.std.specs.Prelude.{◌≡◌, []};
     ghost use Rattle.book_live.specs.Views.{alone, deeds_of};
 
-    ghost view = { λ p. record { book = record { table = p.seat.table_id; sizes = p.seat.me.0.sizes }; number = p.number; deeds = deeds_of p.seat.me.0 } };
+    ghost view = { λ p. record {
+      book = record { table = p.seat.table_id; sizes = p.seat.me.0.sizes };
+      number = p.number;
+      deeds = deeds_of p.seat.me.0;
+    } };
 
     // The seat stands for this pass alone and holds no slot.
-    ghost invariant = { λ p. (p.seat.me ≡ (alone p.seat.me.0.sizes p.number (deeds_of p.seat.me.0), [])) × ((deeds_of p.seat.me.0).ended ≡ p.ended) };
+    ghost invariant = { λ p.
+        (p.seat.me ≡ (alone p.seat.me.0.sizes p.number (deeds_of p.seat.me.0), []))
+        × ((deeds_of p.seat.me.0).ended ≡ p.ended) };
 }
 
 impl Pass {

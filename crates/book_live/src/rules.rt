@@ -44,7 +44,8 @@ impl Play<(), View> for Reports {
     ghost use Rattle.std.specs.Prelude.{◌≡◌};
     ghost use Rattle.book_live.specs.SeatSteps.{Placed};
 
-    ghost then = { λ step before _ after. Placed before.0 step.first after.0 × (after.1 ≡ before.1) };
+    ghost then = { λ step before _ after.
+        Placed before.0 step.first after.0 × (after.1 ≡ before.1) };
 }
 
 /// A look: a load.

@@ -44,7 +44,8 @@ pub(crate) fn may_have(log: &LogView<'_>, i: u32, reached: &mut Reached<'_>, nod
     requires side { log.now.side ≡ reached.old.sums.bundle.side }
     requires board { IsBoardOf log.now.side reached.old.sums.board }
     requires node { IsNode log.now.version (length reached.old.sums.bundle.sets) node }
-    ensures may { IsTrue result ↔ MayHave reached.old.sums.bundle log.now i (waiting_of reached.old) node }
+    ensures may { IsTrue result
+        ↔ MayHave reached.old.sums.bundle log.now i (waiting_of reached.old) node }
     ensures same { reached.new ≡ reached.old }
 {
     match node {
@@ -57,8 +58,8 @@ pub(crate) fn may_have(log: &LogView<'_>, i: u32, reached: &mut Reached<'_>, nod
 /// Whether what a set says of a board, taken by parity or not, is never, or at least the board's bound.
 fn says_at_least(by_parity: bool, set: u8, reached: &mut Reached<'_>) -> bool
     requires set { set < length reached.old.sums.bundle.sets }
-    ensures least { IsTrue result
-        ↔ SaysAtLeast reached.old.sums.bundle by_parity set reached.old.sums.board reached.old.bound }
+    ensures least { let sums = reached.old.sums in
+        IsTrue result ↔ SaysAtLeast sums.bundle by_parity set sums.board reached.old.bound }
     ensures same { reached.new ≡ reached.old }
 {
     match reached.sums.sum(set) {

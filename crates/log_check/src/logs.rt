@@ -22,7 +22,7 @@ use set_sum::Bundle;
 use std::alloc::{AllocError, Global};
 use std::sync::Wait;
 use std::thread::Threads;
-use work_run::{Gate, run_jobs};
+use work_run::{Gate, Workers, run_jobs_by};
 
 /// The bound that a log proves for a board over a bundle, checked lemma by lemma, by so many workers at once.
 ///
@@ -41,36 +41,34 @@ pub fn check_log<R: Threads + Wait, G: Gate + Sync>(
 
     // A bound comes of the file of a good log alone, and is that log's. Only want of memory keeps it back.
     ensures ok { IfOk result (IsGoodFile bundle.now board.now file.now) }
-    ensures good { (bound : ℕ) → IsGoodFile bundle.now board.now file.now bound → (result ≡ Ok bound) ⊎ (result ≡ Err Memory) }
+    ensures good { (bound : ℕ) → IsGoodFile bundle.now board.now file.now bound
+        → (result ≡ Ok bound) ⊎ (result ≡ Err Memory) }
 
     // No solution of the board has fewer moves.
     ensures bounds { IfOk result (IsBounded board.now) }
 
     // Which fault it is, before any memory is taken where the bytes are no log file.
     ensures fault { IfErr result (λ fault. IsCauseOfLogFault fault bundle.now board.now file.now) }
-    ensures form { (fault : FormFault) → form.IsFormFaultOf fault file.now → result ≡ Err (Refused (Form fault)) }
+    ensures form { (fault : FormFault) → form.IsFormFaultOf fault file.now
+        → result ≡ Err (Refused (Form fault)) }
     ensures refused { (fault : LogRefusal) → IsLogRefusalOf fault bundle.now board.now file.now
         → (result ≡ Err (Refused fault)) ⊎ (result ≡ Err Memory) }
 {
-    proven_bound(rt, alloc, bundle, file, board, workers, gate)
+    proven_bound(bundle, file, board, &Workers::new(rt, alloc, workers, gate))
 }
 
 /// The bound that a log proves for a board, or why it proves none.
 fn proven_bound<R: Threads + Wait, G: Gate + Sync>(
-    rt: &R,
-    alloc: Global,
     bundle: &Bundle<'_>,
     file: &[u8],
     board: &Board,
-    workers: u8,
-    gate: &G,
+    workers: &Workers<'_, R, G>,
 ) -> Result<u8, LogFault>
-    requires { AreWorkers workers }
     ensures ok { IfOk result (IsGoodFile bundle.now board.now file.now) }
     ensures bounds { IfOk result (IsBounded board.now) }
     ensures fault { IfErr result (λ fault. IsCauseOfLogFault fault bundle.now board.now file.now) }
 {
-    let log = match LogView::read(alloc, file) {
+    let log = match LogView::read(workers.alloc, file) {
         Ok(log) => log,
         Err(ViewFault::Refused(fault)) => return Err(LogFault::Refused(LogRefusal::Form(fault))),
         Err(ViewFault::Memory) => return Err(LogFault::Memory),
@@ -79,7 +77,7 @@ fn proven_bound<R: Threads + Wait, G: Gate + Sync>(
         Ok(bound) => bound,
         Err(fault) => return Err(LogFault::Refused(fault)),
     };
-    match first_bad(rt, alloc, &log, bundle, workers, gate) {
+    match first_bad(&log, bundle, workers) {
         Ok(None) => Ok(bound),
         Ok(Some(number)) => Err(LogFault::Refused(LogRefusal::L6(number))),
         Err(_) => Err(LogFault::Memory),
@@ -88,8 +86,10 @@ fn proven_bound<R: Threads + Wait, G: Gate + Sync>(
 
 /// The bound of the last lemma of a log, which is to be one of the given board.
 fn claimed_bound(log: &LogView<'_>, bundle: &Bundle<'_>, board: &Board) -> Result<u8, LogRefusal>
-    ensures ok { IfOk result (λ bound. (last : Lemma) × IsLogFor bundle.now log.now board.now last × (last.bound ≡ bound)) }
-    ensures err { IfErr result (λ fault. (file : List ℕ) → IsLogFile log.now file → IsLogRefusalOf fault bundle.now board.now file) }
+    ensures ok { IfOk result (λ bound. (last : Lemma)
+        × IsLogFor bundle.now log.now board.now last × (last.bound ≡ bound)) }
+    ensures err { IfErr result (λ fault. (file : List ℕ) → IsLogFile log.now file
+        → IsLogRefusalOf fault bundle.now board.now file) }
     ensures bundle { IsBundle bundle.now }
     ensures log { IsLog log.now }
 {
@@ -103,23 +103,20 @@ fn claimed_bound(log: &LogView<'_>, bundle: &Bundle<'_>, board: &Board) -> Resul
     Ok(log.bound(last))
 }
 
-/// The number of the first lemma that isn't good, by so many workers at once.
+/// The number of the first lemma that isn't good, by these workers at once.
 fn first_bad<R: Threads + Wait, G: Gate + Sync>(
-    rt: &R,
-    alloc: Global,
     log: &LogView<'_>,
     bundle: &Bundle<'_>,
-    workers: u8,
-    gate: &G,
+    workers: &Workers<'_, R, G>,
 ) -> Result<Option<u32>, AllocError>
     requires bundle { IsBundle bundle.now }
     requires log { IsLog log.now }
     requires side { log.now.side ≡ bundle.now.side }
-    requires workers { AreWorkers workers }
-    ensures { IfOk result (λ first. MatchOption first (AreGood bundle.now log.now) (IsFirstBadLemma bundle.now log.now)) }
+    ensures { IfOk result (λ first.
+        MatchOption first (AreGood bundle.now log.now) (IsFirstBadLemma bundle.now log.now)) }
 {
     let check = LogCheck { log, bundle };
-    match run_jobs(rt, alloc, &check, workers, gate) {
+    match run_jobs_by(&check, workers) {
         Ok(Some(number)) => Ok(Some(number as u32)),
         Ok(None) => Ok(None),
         Err(fault) => Err(fault),

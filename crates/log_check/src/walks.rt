@@ -35,9 +35,11 @@ pub(crate) fn behind_tree<'b>(
     requires side { log.now.side ≡ reached.old.sums.bundle.side }
     requires board { IsBoardOf log.now.side reached.old.sums.board }
     ensures some { IfSome result (λ behind.
-        AreWalked reached.old.sums.bundle log.now i (λ ws. waiting_of reached.old ∷ ws) bytes.now behind.now) }
+        AreWalked reached.old.sums.bundle log.now i (λ ws. waiting_of reached.old ∷ ws)
+        bytes.now behind.now) }
     ensures none { IfNone result (
-        AreRefused reached.old.sums.bundle log.now i (λ ws. waiting_of reached.old ∷ ws) bytes.now) }
+        AreRefused reached.old.sums.bundle log.now i (λ ws. waiting_of reached.old ∷ ws)
+        bytes.now) }
     ensures same { reached.new ≡ reached.old }
 {
     let (node, behind) = first_node(bytes, log.version(), reached.sums.sets())?;
@@ -64,9 +66,11 @@ fn behind_children<'b>(
     requires board { IsBoardOf log.now.side reached.old.sums.board }
     requires bound { 1 ≤ reached.old.bound }
     ensures some { IfSome result (λ behind.
-        AreWalked reached.old.sums.bundle log.now i (with_children (waiting_of reached.old) all_moves) bytes.now behind.now) }
+        AreWalked reached.old.sums.bundle log.now i
+        (with_children (waiting_of reached.old) all_moves) bytes.now behind.now) }
     ensures none { IfNone result (
-        AreRefused reached.old.sums.bundle log.now i (with_children (waiting_of reached.old) all_moves) bytes.now) }
+        AreRefused reached.old.sums.bundle log.now i
+        (with_children (waiting_of reached.old) all_moves) bytes.now) }
     ensures same { reached.new ≡ reached.old }
 {
     let behind_up = behind_child(log, i, reached, Move::Up, bytes)?;
@@ -89,9 +93,11 @@ fn behind_child<'b>(
     requires board { IsBoardOf log.now.side reached.old.sums.board }
     requires bound { 1 ≤ reached.old.bound }
     ensures some { IfSome result (λ behind.
-        AreWalked reached.old.sums.bundle log.now i (with_child (waiting_of reached.old) mv) bytes.now behind.now) }
+        AreWalked reached.old.sums.bundle log.now i (with_child (waiting_of reached.old) mv)
+        bytes.now behind.now) }
     ensures none { IfNone result (
-        AreRefused reached.old.sums.bundle log.now i (with_child (waiting_of reached.old) mv) bytes.now) }
+        AreRefused reached.old.sums.bundle log.now i (with_child (waiting_of reached.old) mv)
+        bytes.now) }
     ensures same { reached.new ≡ reached.old }
 {
     if takes_back(reached.arriving, mv) {

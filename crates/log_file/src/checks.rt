@@ -13,7 +13,8 @@ use puz_board::Board;
 /// Whether the bytes are as many lemmas as the header says, and nothing more.
 pub(crate) fn check_lengths(header: &Header, bytes: &[u8]) -> Result<(), FormFault>
     ensures ok { OnOk result (AreFilled header.now.side header.now.count bytes.now) }
-    ensures err { IfErr result (λ fault. (i : ℕ) × (fault ≡ L2 i) × (IsFirstCut header.now.side header.now.count bytes.now i
+    ensures err { IfErr result (λ fault. (i : ℕ) × (fault ≡ L2 i)
+        × (IsFirstCut header.now.side header.now.count bytes.now i
         ⊎ ((i ≡ header.now.count) × IsLeftOver header.now.side header.now.count bytes.now))) }
 {
     let mut rest = bytes;
@@ -35,7 +36,8 @@ pub(crate) fn check_boards(header: &Header, bytes: &[u8]) -> Result<(), FormFaul
     requires size { IsSize header.now.side header.now.count }
     requires filled { AreFilled header.now.side header.now.count bytes.now }
     ensures ok { OnOk result (AreBoards header.now.side header.now.count bytes.now) }
-    ensures err { IfErr result (λ fault. (i : ℕ) × (fault ≡ L3 i) × IsFirstNoBoard header.now.side header.now.count bytes.now i) }
+    ensures err { IfErr result (λ fault. (i : ℕ) × (fault ≡ L3 i)
+        × IsFirstNoBoard header.now.side header.now.count bytes.now i) }
 {
     let mut rest = bytes;
     for i in 0..header.count {

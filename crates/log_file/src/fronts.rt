@@ -23,7 +23,8 @@ pub(crate) struct Parts<'a> {
 
 /// The lemma at the front of the bytes, for boards of this side, and the bytes behind it; none where it is cut short.
 pub(crate) fn front(side: Side, bytes: &[u8]) -> Option<(Parts<'_>, &[u8])>
-    ensures some { IfSome result (λ r. HasLemma side bytes.now × (lemma_shown r.0 ≡ front_lemma side bytes.now) × (r.1.now ≡ behind side bytes.now)) }
+    ensures some { IfSome result (λ r. HasLemma side bytes.now
+        × (lemma_shown r.0 ≡ front_lemma side bytes.now) × (r.1.now ≡ behind side bytes.now)) }
     ensures none { IfNone result (¬ HasLemma side bytes.now) }
 {
     let cells = usize::from(side.cells());

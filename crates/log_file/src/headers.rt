@@ -36,7 +36,8 @@ pub(crate) struct Header {
 
 /// Reads the header of a log file.
 pub(crate) fn read_header(file: &[u8]) -> Option<Header>
-    ensures some { IfSome result (λ h. IsLogHeader h.version h.side h.count file.now × IsVersion h.version × IsSize h.side h.count) }
+    ensures some { IfSome result (λ h. IsLogHeader h.version h.side h.count file.now
+        × IsVersion h.version × IsSize h.side h.count) }
     ensures none { IfNone result (¬ HasHeader file.now) }
 {
     if file.len() < HEADER_LEN || !file.starts_with(SIGNATURE) {

@@ -54,11 +54,14 @@ impl<'a> LogView<'a> {
     pub fn read(alloc: Global, file: &'a [u8]) -> Result<LogView<'a>, ViewFault>
         // A view comes of a log file alone, and is that of its log. Only want of memory keeps it back.
         ensures ok { IfOk result (λ log. IsLogFile log file.now) }
-        ensures viewed { (log : Log) → IsLogFile log file.now → (result ≡ Ok log) ⊎ (result ≡ Err Memory) }
+        ensures viewed { (log : Log) → IsLogFile log file.now
+            → (result ≡ Ok log) ⊎ (result ≡ Err Memory) }
 
         // Which fault it is, before any memory is taken.
-        ensures fault { (fault : FormFault) → result ≡ Err (Refused fault) → IsFormFaultOf fault file.now }
-        ensures exact { (fault : FormFault) → IsFormFaultOf fault file.now → result ≡ Err (Refused fault) }
+        ensures fault { (fault : FormFault) → result ≡ Err (Refused fault)
+            → IsFormFaultOf fault file.now }
+        ensures exact { (fault : FormFault) → IsFormFaultOf fault file.now
+            → result ≡ Err (Refused fault) }
 
         // Memory is wanted for a log file alone.
         ensures memory { result ≡ Err Memory → (log : Log) × IsLogFile log file.now }
@@ -94,7 +97,8 @@ impl<'a> LogView<'a> {
     /// The board of a lemma.
     pub fn board(&self, i: u32) -> Board
         requires { i < length self.now.lemmas }
-        ensures value { (lemma : Lemma) → slice_get self.now.lemmas i ≡ Some lemma → result ≡ lemma.board }
+        ensures value { (lemma : Lemma) → slice_get self.now.lemmas i ≡ Some lemma
+            → result ≡ lemma.board }
         ensures board { IsBoardOf self.now.side result }
     {
         self.lemmas[i as usize].board
@@ -103,7 +107,8 @@ impl<'a> LogView<'a> {
     /// The bound of a lemma.
     pub fn bound(&self, i: u32) -> u8
         requires { i < length self.now.lemmas }
-        ensures { (lemma : Lemma) → slice_get self.now.lemmas i ≡ Some lemma → result ≡ lemma.bound }
+        ensures { (lemma : Lemma) → slice_get self.now.lemmas i ≡ Some lemma
+            → result ≡ lemma.bound }
     {
         self.lemmas[i as usize].bound
     }
@@ -111,7 +116,8 @@ impl<'a> LogView<'a> {
     /// The bytes of a lemma's tree.
     pub fn tree(&self, i: u32) -> &'a [u8]
         requires { i < length self.now.lemmas }
-        ensures { (lemma : Lemma) → slice_get self.now.lemmas i ≡ Some lemma → result.now ≡ lemma.tree }
+        ensures { (lemma : Lemma) → slice_get self.now.lemmas i ≡ Some lemma
+            → result.now ≡ lemma.tree }
     {
         self.lemmas[i as usize].tree
     }
@@ -120,7 +126,8 @@ impl<'a> LogView<'a> {
 /// Views the bytes, or says why they are no log file.
 fn read_log(alloc: Global, file: &[u8]) -> Result<LogView<'_>, ViewFault>
     ensures ok { IfOk result (λ log. IsLogFile log file.now) }
-    ensures fault { (fault : FormFault) → result ≡ Err (Refused fault) → IsFormFaultOf fault file.now }
+    ensures fault { (fault : FormFault) → result ≡ Err (Refused fault)
+        → IsFormFaultOf fault file.now }
     ensures memory { result ≡ Err Memory → (log : Log) × IsLogFile log file.now }
 {
     let Some(header) = read_header(file) else {
@@ -147,7 +154,8 @@ fn lemmas_in<'a>(
 ) -> Result<Vec<LemmaView<'a>>, AllocError>
     requires filled { AreFilled header.now.side header.now.count bytes.now }
     requires boards { AreBoards header.now.side header.now.count bytes.now }
-    ensures lemmas { IfOk result (λ lemmas. map lemma_viewed lemmas.items ≡ first_lemmas header.now.side header.now.count bytes.now) }
+    ensures lemmas { IfOk result (λ lemmas. map lemma_viewed lemmas.items
+        ≡ first_lemmas header.now.side header.now.count bytes.now) }
 {
     let mut lemmas = Vec::with_capacity(alloc, header.count as usize)?;
     let mut rest = bytes;

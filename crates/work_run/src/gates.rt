@@ -2,7 +2,7 @@
 
 /// A place where workers are watched, or held for a while.
 pub trait Gate {
-    /// Is called once by `run_jobs`, before any worker starts, with the number of jobs, and returns.
+    /// Is called once by `run_jobs` or `run_jobs_by`, before any worker starts, with the number of jobs, and returns.
     ///
     /// So a gate can tell what share of the jobs was run. It does nothing unless an implementation says otherwise.
     fn begins(&self, _jobs: u64) {}

@@ -26,7 +26,8 @@ pub trait Job {
     /// The least bad place of a job, or none where all its places are good.
     fn run(&self, job: u64) -> Option<u64>
         requires { job < jobs self.now }
-        ensures { IsLeastBad (bad self.now) (begins self.now job) (begins self.now (job + 1)) result };
+        ensures { IsLeastBad (bad self.now)
+            (begins self.now job) (begins self.now (job + 1)) result };
 
     ghost few: { (x : Self) → jobs x ≤ 2 ^ 32 };
 

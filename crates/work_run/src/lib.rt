@@ -6,9 +6,11 @@ mod jobs;
 pub mod laws;
 mod promises;
 mod runs;
+mod worker;
 mod workers;
 
 pub use gates::{Gate, OpenGate};
 pub use jobs::Job;
-pub use runs::run_jobs;
-pub use workers::work;
+pub use runs::{run_jobs, run_jobs_by};
+pub use worker::work;
+pub use workers::Workers;

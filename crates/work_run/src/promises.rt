@@ -15,5 +15,7 @@ pub struct Worked<J> {
 impl<J: Job> Promise<Pass> for Worked<J> {
     ghost use Rattle.work_run.specs.Work.{IsDone};
 
-    ghost kept_by = { λ promise after. IsDone (J.bad promise.job.value) (J.begins promise.job.value) (J.jobs promise.job.value) promise.pass.value after };
+    ghost kept_by = { λ promise after.
+        IsDone (J.bad promise.job.value) (J.begins promise.job.value) (J.jobs promise.job.value)
+        promise.pass.value after };
 }

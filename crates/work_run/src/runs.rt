@@ -8,7 +8,8 @@ ghost use Rattle.work_run.specs.Workers.{AreWorkers};
 use crate::gates::Gate;
 use crate::jobs::Job;
 use crate::promises::Worked;
-use crate::workers::work;
+use crate::worker::work;
+use crate::workers::Workers;
 use book_live::{Book, Memory, Pass};
 use std::alloc::Global;
 use std::snapshot::Snapshot;
@@ -31,8 +32,19 @@ pub fn run_jobs<R: Threads + Wait, J: Job + Sync, G: Gate + Sync>(
     requires { AreWorkers workers }
     ensures { IfOk result (IsFault (J.bad job.now) (J.begins job.now (J.jobs job.now))) }
 {
+    run_jobs_by(job, &Workers::new(rt, alloc, workers, gate))
+}
+
+/// The least bad place of all jobs, or none, by these workers at once. It is what `run_jobs` answers.
+pub fn run_jobs_by<R: Threads + Wait, J: Job + Sync, G: Gate + Sync>(
+    job: &J,
+    workers: &Workers<'_, R, G>,
+) -> Result<Option<u64>, Memory>
+    ensures { IfOk result (IsFault (J.bad job.now) (J.begins job.now (J.jobs job.now))) }
+{
+    let (rt, gate) = (workers.rt, workers.gate);
     let jobs = job.count();
-    let (book, passes) = Book::new(alloc, jobs, workers)?;
+    let (book, passes) = Book::new(workers.alloc, jobs, workers.count)?;
     let shared = &book;
     gate.begins(jobs);
     let ended = thread::scope(
@@ -40,10 +52,27 @@ pub fn run_jobs<R: Threads + Wait, J: Job + Sync, G: Gate + Sync>(
         rt,
         |scope| -> Result<Vec<Pass>, Memory>
             requires { (shared.now.sizes.jobs ≡ J.jobs job.now) × AreNew shared.now passes.items }
-            ensures { IfOk result (λ done. AreDone (J.bad job.entry.now) (J.begins job.entry.now) (J.jobs job.entry.now) passes.items done.items) }
-        { work_all(rt, scope, job, shared, gate, passes) },
+            ensures { IfOk result (λ done.
+                AreDone (J.bad job.entry.now) (J.begins job.entry.now) (J.jobs job.entry.now)
+                passes.items done.items) }
+        {
+            let task = Task {
+                job,
+                book: shared,
+                gate,
+            };
+            work_all(rt, scope, &task, passes)
+        },
     )?;
     Ok(book.close(ended))
+}
+
+/// What workers share: their jobs, the book from which these are drawn, and the gate.
+#[derive(Drop)]
+struct Task<'s, J, G> {
+    job: &'s J,
+    book: &'s Book,
+    gate: &'s G,
 }
 
 /// Works through the passes at once: the first on the caller's thread, each other on a thread of its own.
@@ -51,16 +80,16 @@ pub fn run_jobs<R: Threads + Wait, J: Job + Sync, G: Gate + Sync>(
 fn work_all<'s, E, R: Threads, J: Job + Sync, G: Gate + Sync>(
     rt: &R,
     scope: &Scope<'s, E>,
-    job: &'s J,
-    book: &'s Book,
-    gate: &'s G,
+    task: &Task<'s, J, G>,
     mut passes: Vec<Pass>,
 ) -> Result<Vec<Pass>, Memory>
-    requires jobs { book.now.sizes.jobs ≡ J.jobs job.now }
-    requires new { AreNew book.now passes.items }
-    ensures done { IfOk result (λ done. AreDone (J.bad job.now) (J.begins job.now) (J.jobs job.now) passes.items done.items) }
+    requires jobs { task.now.book.now.sizes.jobs ≡ J.jobs task.now.job.now }
+    requires new { AreNew task.now.book.now passes.items }
+    ensures done { let job = task.now.job.now in IfOk result (λ done.
+        AreDone (J.bad job) (J.begins job) (J.jobs job) passes.items done.items) }
     ensures capacity { IfOk result (λ done. vec_capacity passes ≤ vec_capacity done) }
 {
+    let (job, book, gate) = (task.job, task.book, task.gate);
     let Some(pass) = passes.pop() else {
         return Ok(passes);
     };
@@ -73,7 +102,7 @@ fn work_all<'s, E, R: Threads, J: Job + Sync, G: Gate + Sync>(
         pass: Snapshot::of(&pass),
     };
     let worker = scope.spawn_with(promise, move || work(job, book, pass, gate))?;
-    let others = work_all(rt, scope, job, book, gate, passes);
+    let others = work_all(rt, scope, task, passes);
     let pass = worker.join(rt);
     let mut passes = others?;
     passes.push_reserved(pass);

@@ -1,37 +1,44 @@
-//! One worker.
+//! Who runs the jobs of a check.
 
-ghost use Rattle.std.specs.Prelude.{◌≡◌, ◌↔◌, IsTrue};
-ghost use Rattle.book_core.specs.Passes.{fresh};
-ghost use Rattle.work_run.specs.Work.{IsAbove, IsDone};
+ghost use Rattle.std.specs.Prelude.{◌≡◌, ℕ};
+ghost use Rattle.work_run.specs.Workers.{AreWorkers};
 
-use crate::gates::Gate;
-use crate::jobs::Job;
-use book_live::{Book, Pass};
+use std::alloc::Global;
+use std::marker::Model;
 
-/// Claims jobs, runs them and reports their least bad places, until no job is left.
-///
-/// Before it runs a job it looks once at the least place reported so far, and skips a job that begins above that:
-/// no bad place there can be the least. It answers its pass, ended. The pass is a new one of the book.
-pub fn work<J: Job, G: Gate>(job: &J, book: &Book, mut pass: Pass, gate: &G) -> Pass
-    requires jobs { book.now.sizes.jobs ≡ J.jobs job.now }
-    requires pass { (pass.book ≡ book.now) × (pass.deeds ≡ fresh) }
-    ensures { IsDone (J.bad job.now) (J.begins job.now) (J.jobs job.now) pass result }
-{
-    while let Some(number) = book.claim(&mut pass) {
-        if is_above(job.first(number), book.look(&mut pass)) {
-            continue;
-        }
-        gate.before(number);
-        if let Some(place) = job.run(number) {
-            book.report(&mut pass, place);
-        }
-    }
-    pass
+/// Workers: what starts their threads, the memory that they and their caller take, how many they are, from 1 to 64, and the gate
+/// that each passes before a job.
+#[derive(Drop)]
+pub struct Workers<'a, R, G> {
+    /// What starts their threads.
+    pub rt: &'a R,
+    /// Memory.
+    pub alloc: Global,
+    /// How many they are: 1 to 64.
+    pub count: u8,
+    /// The gate that each passes before a job.
+    pub gate: &'a G,
 }
 
-/// Whether a place lies above the least that was seen. Where none was seen, no place does.
-fn is_above(place: u64, seen: Option<u64>) -> bool
-    ensures { IsTrue result ↔ IsAbove place seen }
-{
-    seen.is_some_and(|least| least < place)
+impl<'a, R, G> Model for Workers<'a, R, G> {
+    ghost Value = { ℕ };
+
+    ghost view = { λ workers. workers.count };
+
+    ghost invariant = { λ workers. AreWorkers workers.count };
+}
+
+impl<'a, R, G> Workers<'a, R, G> {
+    /// So many workers.
+    pub fn new(rt: &'a R, alloc: Global, count: u8, gate: &'a G) -> Workers<'a, R, G>
+        requires { AreWorkers count }
+        ensures { result ≡ count }
+    {
+        Workers {
+            rt,
+            alloc,
+            count,
+            gate,
+        }
+    }
 }

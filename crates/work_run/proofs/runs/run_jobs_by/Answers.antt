@@ -2,7 +2,7 @@ use Rattle.std.proofs.Common.{◌≡◌, ◌∙◌, subst, sym}
 use Rattle.work_run.specs.Faults.{IsFault}
 use Rattle.work_run.specs.Work.{IsWorked}
 use Rattle.work_run.proofs.RunLemmas.{ArePasses-done, IsWorked-each, IsFault-least}
-use Rattle.work_run.proofs.runs.run_jobs.Goals as goal
+use Rattle.work_run.proofs.runs.run_jobs_by.Goals as goal
 
 pub close-requires : goal.close-requires
 close-requires g c =

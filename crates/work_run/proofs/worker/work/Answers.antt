@@ -3,7 +3,7 @@ use Rattle.book_core.specs.Passes.{Deeds, with_end}
 use Rattle.book_live.specs.Callers.{PassState}
 use Rattle.work_run.specs.Work.{IsAbove, IsWorked}
 use Rattle.work_run.proofs.WorkLemmas.{below-end, IsWorked-ended, IsAtWork-skipped, IsAtWork-good, IsAtWork-bad}
-use Rattle.work_run.proofs.workers.work.Goals as goal
+use Rattle.work_run.proofs.worker.work.Goals as goal
 
 pub report-requires-clause-place : goal.report-requires-clause-place
 report-requires-clause-place g c =

@@ -1,6 +1,6 @@
 use Rattle.std.proofs.Common.{◌-◌, length}
 use Rattle.work_run.proofs.WorkLemmas.{IsAtWork}
-use Rattle.work_run.proofs.workers.work.Given as goal
+use Rattle.work_run.proofs.worker.work.Given as goal
 
 abbrev pub invariant-loop-number : goal.invariant-loop-number
 invariant-loop-number g l = IsAtWork (g.J.Job.bad l.job) (g.J.Job.begins l.job) (g.J.Job.jobs l.job) l.book l.initial.pass.number l.pass
