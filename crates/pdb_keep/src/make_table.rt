@@ -13,14 +13,14 @@ use pdb_run::{
     Answer, Command, Digested, Digests, Input, Io, Status, keep_and_conclude, read_inputs_and_try,
 };
 use pdb_verdict::{
-    BuildRefusal, Failure, Fault, Inputs, Verdict, Workers, fault_of_build, line_of, verify_beside,
+    BuildRefusal, Failure, Fault, Inputs, Verdict, fault_of_build, line_of, verify_beside,
 };
 use puz_board::Side;
 use puz_make::{MakeFault, build};
 use std::alloc::{AllocError, Global};
 use std::sync::Wait;
 use std::thread::Threads;
-use work_run::Gate;
+use work_run::{Gate, Workers};
 
 /// The making of a table, as a command.
 #[derive(Clone, Copy)]

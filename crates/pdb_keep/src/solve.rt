@@ -21,7 +21,7 @@ use pdb_run::{
     read_inputs_and_try,
 };
 use pdb_verdict::{
-    BundleRefusal, ClaimRefusal, Failure, GivenUp, SearchRefusal, Tables, UnmadeRefusal, Workers,
+    BundleRefusal, ClaimRefusal, Failure, GivenUp, SearchRefusal, Tables, UnmadeRefusal,
     fault_of_search, fold_bundle, line_of, optimum_over, read_bundle,
 };
 use puz_board::Board;
@@ -30,7 +30,7 @@ use set_sum::Bundle;
 use std::alloc::{AllocError, Global};
 use std::sync::Wait;
 use std::thread::Threads;
-use work_run::Gate;
+use work_run::{Gate, Workers};
 
 /// A whole run of `solve`, whoever checks the tables and the log: at most its budget of boards is expanded, and the log is kept
 /// once it and the moves are found to prove an optimum. That something can be kept there is tried before anything is checked.

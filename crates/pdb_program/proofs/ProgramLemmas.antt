@@ -105,10 +105,6 @@ module _ (plan : Plan) (old new : World) (status : Status) where
     said = inl (answered.lines, answered.is_status);
   }
 
--- what was asked for under other words for the same
-pub asked_ends : (asked other : Asked) (old new : World) (status : Status) → asked ≡ other → Ends (plan_of asked) old new status → Ends (plan_of other) old new status
-asked_ends asked other old new status is ends = subst (λ (a : Asked). Ends (plan_of a) old new status) is ends
-
 -- what was asked for is a table to be made
 pub made_ends : (side mask : ℕ) (out : Bytes) (workers : ℕ) (asked : Asked) (old new : World) (status : Status) → make_table side mask out workers ≡ asked
     → Ends (make_table_plan side mask out) old new status → Ends (plan_of asked) old new status

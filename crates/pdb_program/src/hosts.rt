@@ -3,9 +3,9 @@
 ghost use Rattle.std.specs.Prelude.{◌≡◌};
 ghost use Rattle.work_run.specs.Workers.{AreWorkers};
 
-use pdb_verdict::Workers;
 use std::alloc::Global;
 use std::io;
+use work_run::Workers;
 
 /// What a run has of its host.
 #[derive(Drop)]

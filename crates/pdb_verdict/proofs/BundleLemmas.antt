@@ -10,12 +10,10 @@ use Rattle.tab_file.specs.Tables.{Table}
 use Rattle.tab_rule.specs.ExactTables.{IsExactFile}
 use Rattle.set_sum.specs.Bundles.{BundleView}
 use Rattle.set_sum.specs.Parts.{IsExactPart}
-use Rattle.set_sum.specs.Reading.{IsBundleOf, IsSetFaultOf}
-use Rattle.set_sum.specs.declared.faults.SetFault.{SetFault}
 use Rattle.set_sum.specs.declared.parts.Part.{Part}
 use Rattle.byte_io.specs.Shelf.{Bytes}
 use Rattle.pdb_verdict.proofs.FoldedLemmas.{has_folded}
-use Rattle.pdb_verdict.specs.Bundles.{AreExactFiles, AreRefusedSets, IsBundleOfFiles, TakesMemoryForTables, part_for, parts_for}
+use Rattle.pdb_verdict.specs.Bundles.{AreExactFiles, IsBundleOfFiles, TakesMemoryForTables, part_for, parts_for}
 use Rattle.pdb_verdict.specs.Steps.{ArePartsOf, IsCauseAt, IsCauseForTables}
 use Rattle.pdb_verdict.specs.declared.refusals.Failure.{Failure}
 use Rattle.pdb_verdict.specs.declared.refusals.Failure.TheVariants.{Memory, Refused}
@@ -82,23 +80,6 @@ exact_taken : (tables : List Table) (files : List Bytes) → 0 < length tables �
 exact_taken [] files some are = absurd (omega arith)
 exact_taken (t ∷ tables) [] some are = absurd are
 exact_taken (t ∷ tables) (file ∷ files) some are = (t, are.0.is_file)
-
--- the parts of all files and a set text make the bundle of the files
-pub parts_bundle : (fold : Bool) (files : List Bytes) (sets : Bytes) (parts : List Part) (bundle : BundleView) → ArePartsOf fold files parts → IsBundleOf parts sets bundle
-    → IsBundleOfFiles fold files sets bundle
-parts_bundle fold files sets parts bundle are makes = record {
-  tables = are.tables;
-  exact = are.exact;
-  makes = subst (λ ps. IsBundleOf ps sets bundle) are.are makes;
-}
-
-pub parts_refused : (fold : Bool) (files : List Bytes) (sets : Bytes) (parts : List Part) (refused : SetFault) → ArePartsOf fold files parts → IsSetFaultOf refused parts sets
-    → AreRefusedSets fold files sets refused
-parts_refused fold files sets parts refused are stands = record {
-  tables = are.tables;
-  exact = are.exact;
-  fault = subst (λ ps. IsSetFaultOf refused ps sets) are.are stands;
-}
 
 -- what makes a bundle has a table file, so it takes memory to check it
 pub bundle_taken : (fold : Bool) (files : List Bytes) (sets : Bytes) (bundle : BundleView) → IsBundleOfFiles fold files sets bundle → TakesMemoryForTables files

@@ -10,13 +10,12 @@ ghost use Rattle.pdb_verdict.specs.Bundles.{IsBundleOfFiles, IsCauseForBundle};
 ghost use Rattle.pdb_verdict.specs.Steps.{ArePartsOf, IsCauseAt, IsCauseForTables, IsPartOf, of_bundle};
 
 use crate::refusals::{BundleRefusal, Failure, FileRefusal, ProofRefusal};
-use crate::workers::Workers;
 use set_sum::{Bundle, Part};
 use std::sync::Wait;
 use std::thread::Threads;
 use tab_check::check_table;
 use tab_rule::{CheckedTable, FoldedTable, TableFault, fold};
-use work_run::Gate;
+use work_run::{Gate, Workers};
 
 /// The tables of a bundle: their files, and whether each is folded once it is checked.
 #[derive(Clone, Copy)]

@@ -12,12 +12,11 @@ use crate::inputs::Inputs;
 use crate::replay::verify_puzzle;
 use crate::table::verify_table;
 use crate::verdicts::{Fault, Verdict};
-use crate::workers::Workers;
 use pdb_request::Claim;
 use std::alloc::Global;
 use std::sync::Wait;
 use std::thread::Threads;
-use work_run::Gate;
+use work_run::{Gate, Workers};
 
 /// The verdict on the inputs, or the first refusal that stands: of a puzzle text `P1`, then its board's, then its moves';
 /// of a table file its header's, then the least bad entry; of a log for a board the board's, each table file's in their order,

@@ -14,13 +14,12 @@ use crate::evidence::{Evidence, bound_for, bound_over, proved};
 use crate::refusals::{ClaimRefusal, Failure, ProofRefusal, ReplayRefusal, answer_of_claim};
 use crate::replay::solved_board;
 use crate::verdicts::{Fault, Verdict};
-use crate::workers::Workers;
 use pdb_request::Claim;
 use puz_board::Board;
 use set_sum::Bundle;
 use std::sync::Wait;
 use std::thread::Threads;
-use work_run::Gate;
+use work_run::{Gate, Workers};
 
 /// The verdict on a text and a log. Or the first refusal that stands: the text's, those of the evidence, and then `O1`.
 pub(crate) fn verify_claim<H: Threads + Wait, G: Gate + Sync>(

@@ -9,14 +9,13 @@ ghost use Rattle.pdb_verdict.specs.Steps.{IsFoundBehind, IsFoundFor};
 use crate::bundles::{Tables, read_bundle, without_bundle};
 use crate::folding::fold_bundle;
 use crate::refusals::{Failure, ProofRefusal};
-use crate::workers::Workers;
 use log_check::{LogFault, check_log};
 use pdb_run::{DIGEST_LEN, DIGESTS_LEN, Digests, FILES_BESIDE, with_digest};
 use puz_board::Board;
 use set_sum::Bundle;
 use std::sync::Wait;
 use std::thread::Threads;
-use work_run::Gate;
+use work_run::{Gate, Workers};
 
 /// What a bound is proved by.
 #[derive(Clone, Copy)]

@@ -10,13 +10,12 @@ ghost use Rattle.pdb_verdict.specs.Steps.{ArePartsOf, HasOneMore, IsCauseAt, IsC
 
 use crate::bundles::{bundle_of, failure_at, fold_file};
 use crate::refusals::{BundleRefusal, Failure, FileRefusal};
-use crate::workers::Workers;
 use pdb_run::{DIGEST_LEN, DIGESTS_LEN, Digests, FILES_BESIDE, with_digest};
 use set_sum::{Bundle, Part};
 use std::sync::Wait;
 use std::thread::Threads;
 use tab_rule::{FoldedTable, TableFault};
-use work_run::Gate;
+use work_run::{Gate, Workers};
 
 /// The bundle of the folded tables of files and a set text, and the digest lines of the files. The bytes of each file are
 /// given up once its table is folded and its digest line is made, before the next is looked at. Behind a file that is refused

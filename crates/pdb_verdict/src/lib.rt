@@ -20,7 +20,6 @@ mod reports;
 mod table;
 mod table_command;
 mod verdicts;
-mod workers;
 
 pub use bundles::{Tables, read_bundle};
 pub use checks::verify;
@@ -44,4 +43,3 @@ pub use replay_command::run_replay;
 pub use reports::{digests, line, report, verify_beside};
 pub use table_command::run_table;
 pub use verdicts::{Fault, MakeRefusal, Verdict};
-pub use workers::Workers;

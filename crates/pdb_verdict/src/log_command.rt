@@ -13,14 +13,13 @@ use crate::claims::{start_of, verdict_on};
 use crate::evidence::bound_of_files;
 use crate::log_inputs::{Checking, LogInputs};
 use crate::reports::{answer_by, told_or_memory};
-use crate::workers::Workers;
 use pdb_request::{Claim, LogCheck};
 use pdb_run::{Answer, Digested, FILES_BESIDE, Io, Status, conclude, read_inputs};
 use puz_board::Board;
 use std::alloc::AllocError;
 use std::sync::Wait;
 use std::thread::Threads;
-use work_run::Gate;
+use work_run::{Gate, Workers};
 
 /// A whole run of `bound` or of `optimal`, whoever checks the tables and the log.
 #[inline(never)] // so that the stack has the values of one command alone

@@ -13,7 +13,6 @@ use crate::checks::verify_by;
 use crate::inputs::Inputs;
 use crate::lines::line_of;
 use crate::verdicts::{Fault, Verdict};
-use crate::workers::Workers;
 use byte_io::streams::{WriteFault, put_text};
 use pdb_run::{Answer, Digested, Digests, FILES_BESIDE, beside, say, say_digests};
 use set_sum::MOST_TABLES;
@@ -21,7 +20,7 @@ use std::alloc::AllocError;
 use std::io::Write;
 use std::sync::Wait;
 use std::thread::Threads;
-use work_run::Gate;
+use work_run::{Gate, Workers};
 
 // The digests of all tables of a bundle may be made beside its check.
 const _: () = prove!(FILES_BESIDE == MOST_TABLES);

@@ -7,11 +7,10 @@ ghost use Rattle.pdb_verdict.specs.Verdicts.{IsAnswerTo};
 
 use crate::bundles::check_file;
 use crate::verdicts::{Fault, Verdict};
-use crate::workers::Workers;
 use std::sync::Wait;
 use std::thread::Threads;
 use tab_rule::TableFault;
-use work_run::Gate;
+use work_run::{Gate, Workers};
 
 /// The verdict on a table file: each of its entries is right. Or the first refusal that stands: its header's, then the
 /// least bad entry's. Want of memory may be answered in place of all but the header's.

@@ -9,13 +9,12 @@ ghost use Rattle.pdb_verdict.specs.Plans.{CheckTakesMemory, IsCheckReply, table_
 use crate::inputs::Inputs;
 use crate::limits::a_table;
 use crate::reports::answer_by;
-use crate::workers::Workers;
 use pdb_request::TableCheck;
 use pdb_run::{Answer, Command, Input, Io, Status, conclude, read_inputs};
 use std::alloc::{AllocError, Global};
 use std::sync::Wait;
 use std::thread::Threads;
-use work_run::Gate;
+use work_run::{Gate, Workers};
 
 /// A check of a table, as a command.
 #[derive(Clone, Copy)]

@@ -7,7 +7,7 @@ use crate::telling::{joined, tells};
 use byte_io::memory::MemShelf;
 use pdb_request::{Claim, LogCheck};
 use pdb_run::{BorrowedIo, Status};
-use pdb_verdict::{Fault, Inputs, Verdict, Workers, run_log_check, verify};
+use pdb_verdict::{Fault, Inputs, Verdict, run_log_check, verify};
 use samples::HoldingGate;
 use samples::files::{TILE_1, TILE_3, TILE_24, TILES_12, TILES_123, with_byte};
 use samples::logs::{BRANCHES, CITATION, LEAF, UNSOLVABLE};
@@ -16,7 +16,7 @@ use std::process::Abort;
 use std::sync::Wait;
 use std::test::Fail;
 use std::thread::Threads;
-use work_run::OpenGate;
+use work_run::{OpenGate, Workers};
 
 /// No log file.
 const LOG: &[u8] = b"abc";

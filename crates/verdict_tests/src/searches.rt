@@ -6,14 +6,14 @@ use byte_io::memory::MemShelf;
 use pdb_keep::run_solve;
 use pdb_request::{Claim, LogCheck, Search};
 use pdb_run::{BorrowedIo, Status};
-use pdb_verdict::{Workers, run_log_check};
+use pdb_verdict::run_log_check;
 use samples::files::{TILE_24, TILES_12, TILES_123, with_byte};
 use std::alloc::{AllocError, Global};
 use std::process::Abort;
 use std::sync::Wait;
 use std::test::Fail;
 use std::thread::Threads;
-use work_run::OpenGate;
+use work_run::{OpenGate, Workers};
 
 /// More boards than any search here expands.
 const PLENTY: u64 = 1_000_000;

@@ -4,7 +4,7 @@ use byte_io::memory::MemShelf;
 use pdb_keep::{run_make_table, run_solve};
 use pdb_request::{Claim, LogCheck, MakeTable, Replay, Search, TableCheck};
 use pdb_run::{BorrowedIo, Io, Status};
-use pdb_verdict::{Workers, run_log_check, run_replay, run_table};
+use pdb_verdict::{run_log_check, run_replay, run_table};
 use sample_streams::{FailingShelf, ShelfFault};
 use samples::files::{TILE_3, TILES_12};
 use samples::logs::BRANCHES;
@@ -13,7 +13,7 @@ use std::process::Abort;
 use std::sync::Wait;
 use std::test::Fail;
 use std::thread::Threads;
-use work_run::OpenGate;
+use work_run::{OpenGate, Workers};
 
 /// The names of the files here and their bytes.
 const FILES: [(&str, &[u8]); 7] = [

@@ -6,13 +6,12 @@ use byte_io::memory::MemShelf;
 use pdb_keep::run_make_table;
 use pdb_request::MakeTable;
 use pdb_run::{BorrowedIo, Status};
-use pdb_verdict::Workers;
 use samples::files::{TILE_24, TILES_12, TILES_123};
 use std::alloc::Global;
 use std::sync::Wait;
 use std::test::Fail;
 use std::thread::Threads;
-use work_run::OpenGate;
+use work_run::{OpenGate, Workers};
 
 /// Whether a table that is made, by some workers, is kept as this file and told so.
 fn makes<H: Threads + Wait + Sync>(
