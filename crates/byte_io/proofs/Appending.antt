@@ -8,14 +8,12 @@ use Rattle.std.specs.Io.KnownBytes.{Appends}
 use Rattle.byte_io.specs.Shelf.{Bytes}
 use Rattle.byte_io.specs.Streams.{AppendsFront, Writes}
 
-same_take : (bytes : Bytes) (done n : ℕ) → done + n ≤ length bytes → take n (take (length bytes - done) (drop done bytes)) ≡ take n (drop done bytes)
-same_take bytes done n fits = grind (arith, common_steps)
-
 -- a write of n bytes of what is left
 pub put_step : (bytes : Bytes) (done n : ℕ) (a b c : Option Bytes) → done + n ≤ length bytes → Appends a b (take done bytes)
     → Appends b c (take n (take (length bytes - done) (drop done bytes))) → Appends a c (take (done + n) bytes)
-put_step bytes done n a b c fits p q = subst (λ (xs : Bytes). Appends a c xs)
-    (ap (λ (xs : Bytes). take done bytes ++ xs) (same_take bytes done n fits) ∙ sym (take-add done n bytes)) (Appends-trans a b c _ _ p q)
+put_step bytes done n a b c fits p q =
+    let same : take n (take (length bytes - done) (drop done bytes)) ≡ take n (drop done bytes) = grind (arith, common_steps) in
+    rw (take-add done n bytes, ← same) (Appends-trans a b c _ _ p q)
 
 -- bytes that were appended, and a write behind them
 pub writes_behind : {E : Type 0} (a b c : Option Bytes) (xs ys : Bytes) (r : Result (Unit {0}) E) → Appends a b xs → Writes b c ys r → Writes a c (xs ++ ys) r
