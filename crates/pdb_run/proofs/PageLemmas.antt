@@ -1,6 +1,5 @@
 -- Text that is gathered on a page.
-use Rattle.std.proofs.Common.{◌≡◌, [], ◌++◌, Option, Result, Ok, Err, IsErr, append_assoc, subst, sym}
-use Rattle.std.proofs.lemmas.List.{append-nil}
+use Rattle.std.proofs.Common.{◌≡◌, [], ◌++◌, Option, Result, Ok, Err, IsErr, append_assoc, subst}
 use Rattle.std.proofs.lemmas.Result.{MatchResult-from_err}
 use Rattle.byte_io.specs.Shelf.{Bytes}
 use Rattle.byte_io.specs.Streams.{AppendsFront, Writes}
@@ -13,10 +12,6 @@ abbrev Done : Type 0
 Done = Result (Unit {0}) WriteFault
 
 module _ {W : Type 0} {contents : W → Option Bytes} where
-  -- nothing is added
-  pub adds_nothing : (a : Page W) (v : Unit {0}) → Adds contents a a [] (Ok v)
-  adds_nothing a v = record { gathers = λ start text page. subst (Gathered contents start a) (sym (append-nil text)) page }
-
   -- bytes are added, and then others
   pub adds_then : {a b c : Page W} {xs ys : Bytes} {v : Unit {0}} {r : Done} → Adds contents a b xs (Ok v) → Adds contents b c ys r → Adds contents a c (xs ++ ys) r
   adds_then {a} {b} {c} {xs} {ys} {v} {r} p q = record {
@@ -46,8 +41,8 @@ pub record Leaves {W : Type 0} (contents : W → Option Bytes) (old new : Page W
 module _ {W : Type 0} {contents : W → Option Bytes} {a b c : Page W} {next rest all : Bytes} (behind : Bytes) (same : rest ≡ next ++ behind) (leaves : Leaves contents a b rest all) where
   -- the next ones are added
   pub leaves_next : {v : Unit {0}} → Adds contents b c next (Ok v) → Leaves contents a c behind all
-  leaves_next p = record { completes = λ page r q. leaves.completes page r (subst (λ (t : Bytes). Adds contents b page t r) (sym same) (adds_then p q)) }
+  leaves_next p = record { completes = λ page r q. leaves.completes page r (rw same (adds_then p q)) }
 
   -- a write fails before the end of the next ones
   pub leaves_failed : {e : WriteFault} (r : Done) → IsErr r → Adds contents b c next (Err e) → Adds contents a c all r
-  leaves_failed r is p = leaves.completes c r (subst (λ (t : Bytes). Adds contents b c t r) (sym same) (adds_failed r is (adds_short behind p)))
+  leaves_failed r is p = leaves.completes c r (rw same (adds_failed r is (adds_short behind p)))

@@ -6,8 +6,7 @@ use Rattle.byte_io.specs.Streams.{AppendsFront, Writes}
 use Rattle.byte_io.specs.declared.streams.WriteFault.{WriteFault}
 use Rattle.pdb_run.specs.declared.pages.Page.{Page}
 
--- a page has gathered this text since its writer had the bytes at the start: a front of it was written, and the rest stands
--- on the page
+-- a page has gathered this text since its writer had these bytes: a front of it was written, and the rest stands on the page
 pub record Gathered {W : Type 0} (contents : W → Option Bytes) (start : Option Bytes) (page : Page W) (text : Bytes) : Type 0 where
   pub front : Bytes
   pub written : Appends start (contents page.out.now) front
