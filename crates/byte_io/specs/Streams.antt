@@ -1,7 +1,27 @@
--- What a write leaves that failed on the way.
-use Rattle.std.specs.Prelude.{ℕ, ◌<◌, List, Option, length, take}
-use Rattle.std.specs.Io.KnownBytes.{Appends}
+-- What a write appends, and what a reading to the end gives; the bytes of a stream may be told or not.
+use Rattle.std.specs.Prelude.{◌≡◌, ⊤, ℕ, ◌<◌, ◌≤◌, Option, Result, IfSome, MatchResult, length, take}
+use Rattle.std.specs.Io.KnownBytes.{Appends, Consumes, IsAtEnd}
+use Rattle.byte_io.specs.Shelf.{Bytes}
+
+-- ---- bytes out
 
 -- a proper front of the bytes was appended, and no more: at least one byte was left to write
-abbrev pub AppendsFront : Option (List ℕ) → Option (List ℕ) → List ℕ → Type 0
+abbrev pub AppendsFront : Option Bytes → Option Bytes → Bytes → Type 0
 AppendsFront old new bytes = (n : ℕ) × (n < length bytes) × Appends old new (take n bytes)
+
+-- all of the bytes were appended, or where a write failed a proper front of them
+abbrev pub Writes : {E : Type 0} → Option Bytes → Option Bytes → Bytes → Result ⊤ E → Type 0
+Writes old new bytes result = MatchResult result (λ _. Appends old new bytes) (λ _. AppendsFront old new bytes)
+
+-- ---- bytes in
+
+-- these are all the bytes that were left, no more than the limit, and none is left now
+pub record IsReadWhole (old new : Option Bytes) (limit : ℕ) (bytes : Bytes) : Type 0 where
+  pub whole : IfSome old (λ told. told ≡ bytes)
+  pub consumed : Consumes old new bytes
+  pub end : IsAtEnd new
+  pub fits : length bytes ≤ limit
+
+-- more bytes than the limit were left
+abbrev pub HasMore : Option Bytes → ℕ → Type 0
+HasMore old limit = IfSome old (λ told. limit < length told)

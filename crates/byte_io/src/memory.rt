@@ -19,7 +19,8 @@ pub struct MemShelf {
 impl MemShelf {
     /// The shelf of these names and bytes, where the last of a name counts.
     pub fn of(alloc: Global, files: &[(&str, &[u8])]) -> Result<MemShelf, AllocError>
-        ensures files { IfOk result (λ shelf. (name : List ℕ) → files_in shelf name ≡ files_of files.now name) }
+        ensures files { IfOk result
+            (λ shelf. (name : List ℕ) → files_in shelf name ≡ files_of files.now name) }
         ensures calm { IfOk result (λ shelf. shelf.has_failed ≡ false) }
     {
         let mut shelf = MemShelf {
@@ -44,8 +45,10 @@ impl MemShelf {
 
     /// Holds these bytes under this name.
     fn hold(&mut self, alloc: Global, name: &str, bytes: &[u8]) -> Result<(), AllocError>
-        ensures held { OnOk result ((other : List ℕ) → files_in self.new other ≡ with_file (files_in self.old) name.now bytes.now other) }
-        ensures unheld { OnErr result ((other : List ℕ) → files_in self.new other ≡ files_in self.old other) }
+        ensures held { let kept = with_file (files_in self.old) name.now bytes.now in
+            OnOk result ((other : List ℕ) → files_in self.new other ≡ kept other) }
+        ensures unheld { OnErr result
+            ((other : List ℕ) → files_in self.new other ≡ files_in self.old other) }
         ensures calm { self.new.has_failed ≡ self.old.has_failed }
     {
         let key = String::from_str(alloc, name)?;
@@ -63,10 +66,12 @@ impl Shelf for MemShelf {
     fn load(&mut self, alloc: Global, name: &str, limit: u64) -> Result<Vec<u8>, ReadFault>
         ensures found { IfOk result (λ bytes. files_in self.old name.now ≡ Some bytes.items) }
         ensures fits { IfOk result (λ bytes. length bytes.items ≤ limit) }
-        ensures over { IsErrOf result ReadFault.F2 → IsSomeAnd (files_in self.old name.now) (λ bytes. limit < length bytes) }
+        ensures over { IsErrOf result ReadFault.F2
+            → IsSomeAnd (files_in self.old name.now) (λ bytes. limit < length bytes) }
         ensures same { Some (files_in self.new) ≡ Some (files_in self.old) }
         ensures failed { IsErrOf result ReadFault.F1 → self.new.has_failed ≡ true }
-        ensures calm { (IsErrOf result ReadFault.F1 → ⊥) → self.new.has_failed ≡ self.old.has_failed }
+        ensures calm { (IsErrOf result ReadFault.F1 → ⊥)
+            → self.new.has_failed ≡ self.old.has_failed }
         ensures missing { IsErrOf result ReadFault.F1 → files_in self.old name.now ≡ None }
     {
         let Some(bytes) = self.files.get(name) else {
@@ -88,7 +93,8 @@ impl Shelf for MemShelf {
     }
 
     fn keep(&mut self, alloc: Global, name: &str, bytes: &[u8]) -> Result<(), KeepFault>
-        ensures kept { OnOk result (Some (files_in self.new) ≡ Some (with_file (files_in self.old) name.now bytes.now)) }
+        ensures kept { let kept = with_file (files_in self.old) name.now bytes.now in
+            OnOk result (Some (files_in self.new) ≡ Some kept) }
         ensures unchanged { OnErr result (Some (files_in self.new) ≡ Some (files_in self.old)) }
         ensures memory { IsOkUnless result KeepFault.Memory }
         ensures calm { self.new.has_failed ≡ self.old.has_failed }

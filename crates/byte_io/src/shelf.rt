@@ -35,26 +35,31 @@ pub trait Shelf {
 
     /// The bytes under a name, which are at most so many. A name that isn't there is a failure of the device too.
     fn load(&mut self, alloc: Global, name: &str, limit: u64) -> Result<Vec<u8>, ReadFault>
-        ensures found { IfOk result (λ bytes. IfSome (held self.old) (λ told. told name.now ≡ Some bytes.items)) }
+        ensures found { IfOk result
+            (λ bytes. IfSome (held self.old) (λ told. told name.now ≡ Some bytes.items)) }
         ensures fits { IfOk result (λ bytes. length bytes.items ≤ limit) }
-        ensures over { IsErrOf result ReadFault.F2 → IfSome (held self.old) (λ told. IsSomeAnd (told name.now) (λ bytes. limit < length bytes)) }
+        ensures over { IsErrOf result ReadFault.F2 → IfSome (held self.old)
+            (λ told. IsSomeAnd (told name.now) (λ bytes. limit < length bytes)) }
         ensures same { held self.new ≡ held self.old }
         ensures failed { IsErrOf result ReadFault.F1 → has_failed self.new ≡ true }
-        ensures calm { (IsErrOf result ReadFault.F1 → ⊥) → has_failed self.new ≡ has_failed self.old };
+        ensures calm { (IsErrOf result ReadFault.F1 → ⊥)
+            → has_failed self.new ≡ has_failed self.old };
 
     /// Tries whether bytes can be kept under a name, and leaves all files as they are. That they can promises nothing of a
     /// later `keep`.
     fn try_keep(&mut self, alloc: Global, name: &str) -> Result<(), KeepFault>
         ensures same { held self.new ≡ held self.old }
         ensures failed { IsErrOf result KeepFault.F3 → has_failed self.new ≡ true }
-        ensures calm { (IsErrOf result KeepFault.F3 → ⊥) → has_failed self.new ≡ has_failed self.old };
+        ensures calm { (IsErrOf result KeepFault.F3 → ⊥)
+            → has_failed self.new ≡ has_failed self.old };
 
     /// Puts these bytes under a name, in the place of what stood there. What the name holds after a fault is open.
     fn keep(&mut self, alloc: Global, name: &str, bytes: &[u8]) -> Result<(), KeepFault>
         ensures kept { OnOk result (held self.new ≡ told_with (held self.old) name.now bytes.now) }
         ensures others { OnErr result (KeepsOthers (held self.old) (held self.new) name.now) }
         ensures failed { IsErrOf result KeepFault.F3 → has_failed self.new ≡ true }
-        ensures calm { (IsErrOf result KeepFault.F3 → ⊥) → has_failed self.new ≡ has_failed self.old };
+        ensures calm { (IsErrOf result KeepFault.F3 → ⊥)
+            → has_failed self.new ≡ has_failed self.old };
 
     /// Whether its device has failed.
     fn failed(&self) -> bool

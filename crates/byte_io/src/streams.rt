@@ -1,8 +1,8 @@
 //! Bytes in and bytes out.
 
-ghost use Rattle.std.specs.Prelude.{◌≡◌, ◌≤◌, ◌<◌, ◌+◌, true, length, take, drop, IfOk, OnOk, OnErr, IfSome, IsErrOf};
-ghost use Rattle.std.specs.Io.KnownBytes.{Appends, Consumes, IsAtEnd};
-ghost use Rattle.byte_io.specs.Streams.{AppendsFront};
+ghost use Rattle.std.specs.Prelude.{◌≡◌, ◌≤◌, ◌<◌, ◌+◌, true, length, take, drop, IfOk, OnOk, OnErr, IsErrOf};
+ghost use Rattle.std.specs.Io.KnownBytes.{Consumes, IsAtEnd};
+ghost use Rattle.byte_io.specs.Streams.{HasMore, IsReadWhole, Writes};
 
 use crate::sources::Source;
 use crate::watched::Watched;
@@ -50,11 +50,9 @@ const PIECE: usize = 65_536;
 /// Reads to the end of an input, of at most so many bytes, by at most so many reads and one more, as a `Watched` reader
 /// tells. Nothing past the limit is kept. A read's error ends it, whatever its kind.
 pub fn read_all<R: Source>(alloc: Global, reader: &mut R, limit: u64) -> Result<Vec<u8>, ReadFault>
-    ensures whole { IfOk result (λ bytes. IfSome (R.remaining reader.old) (λ told. told ≡ bytes.items)) }
-    ensures end { OnOk result (IsAtEnd (R.remaining reader.new)) }
-    ensures consumed { IfOk result (λ bytes. Consumes (R.remaining reader.old) (R.remaining reader.new) bytes.items) }
-    ensures fits { IfOk result (λ bytes. length bytes.items ≤ limit) }
-    ensures over { IsErrOf result ReadFault.F2 → IfSome (R.remaining reader.old) (λ told. limit < length told) }
+    ensures read { let old = R.remaining reader.old in let new = R.remaining reader.new in
+        IfOk result (λ bytes. IsReadWhole old new limit bytes.items) }
+    ensures over { IsErrOf result ReadFault.F2 → HasMore (R.remaining reader.old) limit }
     ensures reads { R.reads reader.new ≤ R.reads reader.old + limit + 1 }
 {
     read_sized(alloc, reader, limit, 0)
@@ -68,11 +66,9 @@ pub fn read_sized<R: Source>(
     limit: u64,
     size: u64,
 ) -> Result<Vec<u8>, ReadFault>
-    ensures whole { IfOk result (λ bytes. IfSome (R.remaining reader.old) (λ told. told ≡ bytes.items)) }
-    ensures end { OnOk result (IsAtEnd (R.remaining reader.new)) }
-    ensures consumed { IfOk result (λ bytes. Consumes (R.remaining reader.old) (R.remaining reader.new) bytes.items) }
-    ensures fits { IfOk result (λ bytes. length bytes.items ≤ limit) }
-    ensures over { IsErrOf result ReadFault.F2 → IfSome (R.remaining reader.old) (λ told. limit < length told) }
+    ensures read { let old = R.remaining reader.old in let new = R.remaining reader.new in
+        IfOk result (λ bytes. IsReadWhole old new limit bytes.items) }
+    ensures over { IsErrOf result ReadFault.F2 → HasMore (R.remaining reader.old) limit }
     ensures reads { R.reads reader.new ≤ R.reads reader.old + limit + 1 }
 {
     read_watched(alloc, &mut Watched::new(reader), limit, size)
@@ -86,11 +82,10 @@ pub fn read_said<R: Source>(
     limit: u64,
     size: u64,
 ) -> Result<Vec<u8>, ReadFault>
-    ensures whole { IfOk result (λ bytes. IfSome (R.remaining reader.old) (λ told. told ≡ bytes.items)) }
-    ensures end { OnOk result (IsAtEnd (R.remaining reader.new)) }
-    ensures consumed { IfOk result (λ bytes. Consumes (R.remaining reader.old) (R.remaining reader.new) bytes.items) }
-    ensures fits { IfOk result (λ bytes. length bytes.items ≤ limit) }
-    ensures over { IsErrOf result ReadFault.F2 → size ≤ limit → IfSome (R.remaining reader.old) (λ told. limit < length told) }
+    ensures read { let old = R.remaining reader.old in let new = R.remaining reader.new in
+        IfOk result (λ bytes. IsReadWhole old new limit bytes.items) }
+    ensures over { IsErrOf result ReadFault.F2 → size ≤ limit
+        → HasMore (R.remaining reader.old) limit }
     ensures unread { limit < size → IsErrOf result ReadFault.F2 × (reader.new ≡ reader.old) }
     ensures reads { R.reads reader.new ≤ R.reads reader.old + limit + 1 }
 {
@@ -108,15 +103,16 @@ pub fn read_watched<R: Source>(
     size: u64,
 ) -> Result<Vec<u8>, ReadFault>
     ensures same_stream { reader.new.stream.ghost_name ≡ reader.old.stream.ghost_name }
-    ensures whole { IfOk result (λ bytes. IfSome (R.remaining reader.old.stream.now) (λ told. told ≡ bytes.items)) }
-    ensures end { OnOk result (IsAtEnd (R.remaining reader.new.stream.now)) }
-    ensures consumed { IfOk result (λ bytes. Consumes (R.remaining reader.old.stream.now) (R.remaining reader.new.stream.now) bytes.items) }
-    ensures fits { IfOk result (λ bytes. length bytes.items ≤ limit) }
-    ensures over { IsErrOf result ReadFault.F2 → IfSome (R.remaining reader.old.stream.now) (λ told. limit < length told) }
+    ensures read { let old = R.remaining reader.old.stream.now in
+        let new = R.remaining reader.new.stream.now in
+        IfOk result (λ bytes. IsReadWhole old new limit bytes.items) }
+    ensures over { IsErrOf result ReadFault.F2 → HasMore (R.remaining reader.old.stream.now) limit }
     ensures reads { reader.new.calls ≤ reader.old.calls + limit + 1 }
-    ensures reads_inside { R.reads reader.new.stream.now ≤ R.reads reader.old.stream.now + limit + 1 }
+    ensures reads_inside { let before = R.reads reader.old.stream.now in
+        R.reads reader.new.stream.now ≤ before + limit + 1 }
     ensures failed { IsErrOf result ReadFault.F1 → reader.new.has_failed ≡ true }
-    ensures calm { (IsErrOf result ReadFault.F1 → ⊥) → reader.new.has_failed ≡ reader.old.has_failed }
+    ensures calm { (IsErrOf result ReadFault.F1 → ⊥)
+        → reader.new.has_failed ≡ reader.old.has_failed }
 {
     // One byte more shows the end without more memory.
     let room = if size == 0 {
@@ -170,7 +166,9 @@ fn read_behind<R: Source>(
     ensures same_stream { reader.new.stream.ghost_name ≡ reader.old.stream.ghost_name }
     ensures front { take filled bytes.new ≡ take filled bytes.old }
     ensures fits { IfOk result (λ count. filled + count ≤ length bytes.new) }
-    ensures bytes { IfOk result (λ count. Consumes (R.remaining reader.old.stream.now) (R.remaining reader.new.stream.now) (take count (drop filled bytes.new))) }
+    ensures bytes { let old = R.remaining reader.old.stream.now in
+        let new = R.remaining reader.new.stream.now in
+        IfOk result (λ count. Consumes old new (take count (drop filled bytes.new))) }
     ensures end { IfOk result (λ count. count ≡ 0 → IsAtEnd (R.remaining reader.new.stream.now)) }
     ensures noted { reader.new.calls ≤ reader.old.calls + 1 }
     ensures noted_inside { R.reads reader.new.stream.now ≤ R.reads reader.old.stream.now + 1 }
@@ -182,16 +180,14 @@ fn read_behind<R: Source>(
 
 /// Writes a text.
 pub fn put_text<W: Write>(out: &mut W, text: &str) -> Result<(), WriteFault>
-    ensures whole { OnOk result (Appends (W.contents out.old) (W.contents out.new) text.now) }
-    ensures front { OnErr result (AppendsFront (W.contents out.old) (W.contents out.new) text.now) }
+    ensures { Writes (W.contents out.old) (W.contents out.new) text.now result }
 {
     put_bytes(out, text.as_bytes())
 }
 
 /// Writes bytes.
 pub fn put_bytes<W: Write>(out: &mut W, bytes: &[u8]) -> Result<(), WriteFault>
-    ensures whole { OnOk result (Appends (W.contents out.old) (W.contents out.new) bytes.now) }
-    ensures front { OnErr result (AppendsFront (W.contents out.old) (W.contents out.new) bytes.now) }
+    ensures { Writes (W.contents out.old) (W.contents out.new) bytes.now result }
 {
     put_watched(&mut Watched::new(out), bytes)
 }
@@ -199,8 +195,8 @@ pub fn put_bytes<W: Write>(out: &mut W, bytes: &[u8]) -> Result<(), WriteFault>
 /// The same, by a writer that notes its writes: `F3` says that one failed, and each of them was of some bytes.
 pub fn put_watched<W: Write>(out: &mut Watched<'_, W>, bytes: &[u8]) -> Result<(), WriteFault>
     ensures same_stream { out.new.stream.ghost_name ≡ out.old.stream.ghost_name }
-    ensures whole { OnOk result (Appends (W.contents out.old.stream.now) (W.contents out.new.stream.now) bytes.now) }
-    ensures front { OnErr result (AppendsFront (W.contents out.old.stream.now) (W.contents out.new.stream.now) bytes.now) }
+    ensures written { let old = W.contents out.old.stream.now in
+        Writes old (W.contents out.new.stream.now) bytes.now result }
     ensures writes { out.new.calls ≤ out.old.calls + length bytes.now }
     ensures failed { OnErr result (out.new.has_failed ≡ true) }
     ensures calm { OnOk result (out.new.has_failed ≡ out.old.has_failed) }

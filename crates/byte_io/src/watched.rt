@@ -54,7 +54,8 @@ impl<R: Source> Source for Watched<'_, R> {
 
     fn read_once(&mut self, buf: &mut [u8]) -> io::Result<usize>
         ensures bound { ReadsAtMost result buf.new }
-        ensures bytes { ReadConsumes (R.remaining self.old.stream.now) (R.remaining self.new.stream.now) result buf.new }
+        ensures bytes { let old = R.remaining self.old.stream.now in
+            ReadConsumes old (R.remaining self.new.stream.now) result buf.new }
         ensures same_stream { self.new.stream.ghost_name ≡ self.old.stream.ghost_name }
         ensures counted { self.new.calls ≡ min (self.old.calls + 1) (2 ^ 64 - 1) }
         ensures at_most { self.new.calls ≤ self.old.calls + 1 }
@@ -76,11 +77,14 @@ impl<W: Write> Write for Watched<'_, W> {
 
     fn write(&mut self, buf: &[u8]) -> io::Result<usize>
         ensures bound { WritesAtMost result buf.now }
-        ensures bytes { WriteAppends (W.contents self.old.stream.now) (W.contents self.new.stream.now) result buf.now }
+        ensures bytes { let old = W.contents self.old.stream.now in
+            WriteAppends old (W.contents self.new.stream.now) result buf.now }
         ensures same_stream { self.new.stream.ghost_name ≡ self.old.stream.ghost_name }
         ensures counted { self.new.calls ≡ min (self.old.calls + 1) (2 ^ 64 - 1) }
-        ensures calm { IfOk result (λ count. 0 < count → self.new.has_failed ≡ self.old.has_failed) }
-        ensures stuck { IfOk result (λ count. count ≡ 0 → 0 < length buf.now → self.new.has_failed ≡ true) }
+        ensures calm { IfOk result
+            (λ count. 0 < count → self.new.has_failed ≡ self.old.has_failed) }
+        ensures stuck { IfOk result
+            (λ count. count ≡ 0 → 0 < length buf.now → self.new.has_failed ≡ true) }
         ensures failed { OnErr result (self.new.has_failed ≡ true) }
     {
         self.calls = self.calls.saturating_add(1);

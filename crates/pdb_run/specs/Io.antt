@@ -1,8 +1,7 @@
 -- What one call on a run's shelf, its reader and its output does to the world, and what several do.
-use Rattle.std.specs.Prelude.{◌≡◌, ⊤, ℕ, List, ◌∷◌, [], ◌++◌, Option, Some, Result, MatchResult, true}
-use Rattle.std.specs.Io.KnownBytes.{Appends}
+use Rattle.std.specs.Prelude.{◌≡◌, ⊤, ℕ, List, Option, Some, Result, true}
 use Rattle.byte_io.specs.Shelf.{Bytes, KeepsOthers}
-use Rattle.byte_io.specs.Streams.{AppendsFront}
+use Rattle.byte_io.specs.Streams.{Writes}
 use Rattle.byte_io.specs.declared.shelf.KeepFault.{KeepFault}
 use Rattle.byte_io.specs.declared.shelf.KeepFault.TheVariants as keep
 use Rattle.byte_io.specs.declared.streams.ReadFault.{ReadFault}
@@ -57,7 +56,7 @@ pub record CanNotKeep (old new : World) (why : KeepFault) : Type 0 where
 
 -- the text was written whole, or where a write failed a proper front of it, and nothing else has changed
 pub record IsWritten (text : Bytes) (old new : World) (result : Result ⊤ WriteFault) : Type 0 where
-  pub written : MatchResult result (λ _. Appends old.written new.written text) (λ _. AppendsFront old.written new.written text)
+  pub written : Writes old.written new.written text result
   pub files : new.files ≡ old.files
   pub failed : new.failed ≡ old.failed
   pub reader : new.reader ≡ old.reader

@@ -36,7 +36,8 @@ pub fn beside<R: Threads + Sync, T, F: FnOnce() -> T>(
     check: F,
 ) -> (Option<Digests>, T)
     requires { F.pre check }
-    ensures digests { IfSome result.0 (λ digests. digests.items ≡ digests_of (all_files files.now last.entry)) }
+    ensures digests { IfSome result.0
+        (λ digests. digests.items ≡ digests_of (all_files files.now last.entry)) }
     ensures answer { F.post check result.1 }
 {
     if workers < 2 || files.len() > FILES_BESIDE {
@@ -99,7 +100,8 @@ fn digests_in_groups<R: Threads + Sync>(
     files: &[Vec<u8>],
     last: Option<&[u8]>,
 ) -> Made
-    ensures { IfOk result (λ digests. digests.items ≡ digests_of (all_files files.now last.entry)) }
+    ensures { IfOk result
+        (λ digests. digests.items ≡ digests_of (all_files files.now last.entry)) }
 {
     if groups < 2 || files.len() + usize::from(last.is_some()) < 2 {
         return digests_in_order(files, last);
@@ -107,7 +109,8 @@ fn digests_in_groups<R: Threads + Sync>(
     let (front, behind) = files.split_at(files.len().div_ceil(2));
     let front_digests = || -> Made
         requires { 1 < groups }
-        ensures { IfOk result (λ digests. digests.items ≡ digests_of (all_files front.entry.now None)) }
+        ensures { IfOk result
+            (λ digests. digests.items ≡ digests_of (all_files front.entry.now None)) }
     { digests_in_groups(rt, groups / 2, front, None) };
     let digests_behind = || -> Made
         requires { 1 < groups }
@@ -120,7 +123,8 @@ fn digests_in_groups<R: Threads + Sync>(
 
 /// The digest lines of files, and of the last one, where there is one.
 fn digests_in_order(files: &[Vec<u8>], last: Option<&[u8]>) -> Made
-    ensures { IfOk result (λ digests. digests.items ≡ digests_of (all_files files.now last.entry)) }
+    ensures { IfOk result
+        (λ digests. digests.items ≡ digests_of (all_files files.now last.entry)) }
 {
     let mut digests = Digests::new();
     for file in files {
@@ -134,7 +138,8 @@ fn digests_in_order(files: &[Vec<u8>], last: Option<&[u8]>) -> Made
 
 /// Lines, and the lines behind them.
 fn in_order(front: Made, behind: Made) -> Made
-    ensures lines { IfOk result (λ all. IfOk front (λ f. IfOk behind (λ b. all.items ≡ f.items ++ b.items))) }
+    ensures lines { IfOk result
+        (λ all. IfOk front (λ f. IfOk behind (λ b. all.items ≡ f.items ++ b.items))) }
     ensures both { OnOk result (IsOk front × IsOk behind) }
 {
     let mut all = front?;

@@ -28,7 +28,8 @@ pub trait Io {
         ensures same_streams { streams self.new ≡ streams self.old }
         ensures read { let wanted = wanted_of input.now in
             IfOk result (λ bytes. IsLoaded wanted (world self.old) (world self.new) bytes.items) }
-        ensures unread { IfErr result (IsNotLoaded (wanted_of input.now) (world self.old) (world self.new)) };
+        ensures unread { let wanted = wanted_of input.now in
+            IfErr result (IsNotLoaded wanted (world self.old) (world self.new)) };
 
     /// Tries whether bytes can be kept under a name.
     fn try_keep(&mut self, alloc: Global, name: &str) -> Result<(), KeepFault>
@@ -39,13 +40,15 @@ pub trait Io {
     /// Keeps bytes under a name.
     fn keep(&mut self, alloc: Global, name: &str, bytes: &[u8]) -> Result<(), KeepFault>
         ensures same_streams { streams self.new ≡ streams self.old }
-        ensures kept { OnOk result (IsKept name.now (Some bytes.now) (world self.old) (world self.new)) }
+        ensures kept { let file = Some bytes.now in
+            OnOk result (IsKept name.now file (world self.old) (world self.new)) }
         ensures failed { IfErr result (IsNotKept name.now (world self.old) (world self.new)) };
 
     /// Writes an answer.
     fn write_answer(&mut self, answer: &Answer<'_>) -> Result<(), WriteFault>
         ensures same_streams { streams self.new ≡ streams self.old }
-        ensures written { IsWritten (answer_text answer.now) (world self.old) (world self.new) result };
+        ensures written { let text = answer_text answer.now in
+            IsWritten text (world self.old) (world self.new) result };
 
     /// Writes a text, a name as a line shows it, and the line's end.
     fn write_named(&mut self, text: &str, name: &str) -> Result<(), WriteFault>

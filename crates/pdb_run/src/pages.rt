@@ -1,10 +1,8 @@
 //! A page of text: gathered, and written at once.
 
-ghost use Rattle.std.specs.Prelude.{◌≡◌, ◌++◌, ◌∷◌, [], map, option_map, OnOk, OnErr};
-ghost use Rattle.std.specs.Io.KnownBytes.{Appends};
-ghost use Rattle.byte_io.specs.Streams.{AppendsFront};
+ghost use Rattle.std.specs.Prelude.{◌≡◌, ◌∷◌, [], map, option_map};
 ghost use Rattle.pdb_run.specs.Writing.{all_bytes, all_files, digests_of, list_of, shown_byte};
-ghost use Rattle.pdb_run.specs.Pages.{Gathers};
+ghost use Rattle.pdb_run.specs.Pages.{Adds, Finishes, Gathered};
 
 use crate::answers::LINES_LEN;
 use crate::digests::{DIGEST_LEN, DIGESTS_LEN, digest_line};
@@ -20,101 +18,113 @@ const _: () = prove!(DIGESTS_LEN + DIGEST_LEN + LINES_LEN <= PAGE_LEN);
 
 /// Text on its way to a writer: written where the page is full, and at its end.
 #[derive(Drop)]
-pub(crate) struct Page {
+pub(crate) struct Page<'o, W> {
     text: ArrayVec<u8, PAGE_LEN>,
+    out: &'o mut W,
 }
 
-impl Page {
-    /// An empty page.
-    pub(crate) fn new() -> Page
-        ensures { result.text.items ≡ [] }
+impl<'o, W: Write> Page<'o, W> {
+    /// An empty page for a writer.
+    pub(crate) fn on(out: &'o mut W) -> Page<'o, W>
+        ensures same_out { result.out.ghost_name ≡ out.entry.ghost_name }
+        ensures empty { Gathered W.contents (W.contents out.old) result [] }
     {
         Page {
             text: ArrayVec::new(),
+            out,
         }
     }
 
-    /// Adds a byte. Where the page is full, that is written first.
-    fn add_byte<W: Write>(&mut self, byte: u8, out: &mut W) -> Result<(), WriteFault>
-        ensures whole { OnOk result (Gathers (W.contents out.old) self.old.text.items (W.contents out.new) self.new.text.items (byte ∷ [])) }
-        ensures front { OnErr result (AppendsFront (W.contents out.old) (W.contents out.new) (self.old.text.items ++ byte ∷ [])) }
+    /// Writes what stands on the page, which is empty then.
+    pub(crate) fn write(&mut self) -> Result<(), WriteFault>
+        ensures same_out { self.new.out.ghost_name ≡ self.old.out.ghost_name }
+        ensures finished { Finishes W.contents self.old self.new result }
+        ensures emptied { self.new.text.items ≡ [] }
     {
-        if self.text.is_full() {
-            put_bytes(out, self.text.as_slice())?;
-            self.text.clear();
+        let written = put_bytes(self.out, self.text.as_slice());
+        self.text.clear();
+        written
+    }
+
+    /// Adds a byte. Where the page is full, that is written first.
+    fn add_byte(&mut self, byte: u8) -> Result<(), WriteFault>
+        ensures same_out { self.new.out.ghost_name ≡ self.old.out.ghost_name }
+        ensures added { Adds W.contents self.old self.new (byte ∷ []) result }
+    {
+        if self.text.try_push(byte).is_ok() {
+            return Ok(());
         }
+        self.write()?;
         self.text.push(byte);
         Ok(())
     }
 
     /// Adds bytes.
-    pub(crate) fn add<W: Write>(&mut self, bytes: &[u8], out: &mut W) -> Result<(), WriteFault>
-        ensures whole { OnOk result (Gathers (W.contents out.old) self.old.text.items (W.contents out.new) self.new.text.items bytes.now) }
-        ensures front { OnErr result (AppendsFront (W.contents out.old) (W.contents out.new) (self.old.text.items ++ bytes.now)) }
+    pub(crate) fn add(&mut self, bytes: &[u8]) -> Result<(), WriteFault>
+        ensures same_out { self.new.out.ghost_name ≡ self.old.out.ghost_name }
+        ensures added { Adds W.contents self.old self.new bytes.now result }
     {
         for byte in bytes {
-            self.add_byte(*byte, out)?;
+            self.add_byte(*byte)?;
         }
         Ok(())
     }
 
+    /// Adds a text.
+    pub(crate) fn add_text(&mut self, text: &str) -> Result<(), WriteFault>
+        ensures same_out { self.new.out.ghost_name ≡ self.old.out.ghost_name }
+        ensures added { Adds W.contents self.old self.new text.now result }
+    {
+        self.add(text.as_bytes())
+    }
+
     /// Adds a name, as a line shows it.
-    pub(crate) fn add_name<W: Write>(&mut self, name: &str, out: &mut W) -> Result<(), WriteFault>
-        ensures whole { OnOk result (Gathers (W.contents out.old) self.old.text.items (W.contents out.new) self.new.text.items (map shown_byte name.now)) }
-        ensures front { OnErr result (AppendsFront (W.contents out.old) (W.contents out.new) (self.old.text.items ++ map shown_byte name.now)) }
+    pub(crate) fn add_name(&mut self, name: &str) -> Result<(), WriteFault>
+        ensures same_out { self.new.out.ghost_name ≡ self.old.out.ghost_name }
+        ensures added { Adds W.contents self.old self.new (map shown_byte name.now) result }
     {
         for byte in name.as_bytes() {
-            self.add_byte(shown_byte(*byte), out)?;
+            self.add_byte(shown_byte(*byte))?;
         }
         Ok(())
     }
 
     /// Adds the digest line of each file, and of the last one, where there is one.
-    pub(crate) fn add_digests<W: Write>(
+    pub(crate) fn add_digests(
         &mut self,
         files: &[Vec<u8>],
         last: Option<&[u8]>,
-        out: &mut W,
     ) -> Result<(), WriteFault>
-        ensures whole { OnOk result (Gathers (W.contents out.old) self.old.text.items (W.contents out.new) self.new.text.items (digests_of (all_files files.now last.entry))) }
-        ensures front { OnErr result (AppendsFront (W.contents out.old) (W.contents out.new) (self.old.text.items ++ digests_of (all_files files.now last.entry))) }
+        ensures same_out { self.new.out.ghost_name ≡ self.old.out.ghost_name }
+        ensures added { let digests = digests_of (all_files files.now last.entry) in
+            Adds W.contents self.old self.new digests result }
     {
-        self.add_files(files, out)?;
-        self.add_digest(last, out)
+        self.add_files(files)?;
+        self.add_digest(last)
     }
 
     /// Adds the digest line of each file.
-    fn add_files<W: Write>(&mut self, files: &[Vec<u8>], out: &mut W) -> Result<(), WriteFault>
-        ensures whole { OnOk result (Gathers (W.contents out.old) self.old.text.items (W.contents out.new) self.new.text.items (digests_of (all_bytes files.now))) }
-        ensures front { OnErr result (AppendsFront (W.contents out.old) (W.contents out.new) (self.old.text.items ++ digests_of (all_bytes files.now))) }
+    fn add_files(&mut self, files: &[Vec<u8>]) -> Result<(), WriteFault>
+        ensures same_out { self.new.out.ghost_name ≡ self.old.out.ghost_name }
+        ensures added { let digests = digests_of (all_bytes files.now) in
+            Adds W.contents self.old self.new digests result }
     {
         for file in files {
-            self.add(&digest_line(file.as_slice()), out)?;
+            self.add(&digest_line(file.as_slice()))?;
         }
         Ok(())
     }
 
     /// Adds the digest line of a file, where there is one.
-    pub(crate) fn add_digest<W: Write>(
-        &mut self,
-        file: Option<&[u8]>,
-        out: &mut W,
-    ) -> Result<(), WriteFault>
-        ensures whole { OnOk result (Gathers (W.contents out.old) self.old.text.items (W.contents out.new) self.new.text.items (digests_of (list_of (option_map (λ f. f.now) file.entry)))) }
-        ensures front { OnErr result (AppendsFront (W.contents out.old) (W.contents out.new) (self.old.text.items ++ digests_of (list_of (option_map (λ f. f.now) file.entry)))) }
+    pub(crate) fn add_digest(&mut self, file: Option<&[u8]>) -> Result<(), WriteFault>
+        ensures same_out { self.new.out.ghost_name ≡ self.old.out.ghost_name }
+        ensures added { let digest = digests_of (list_of (option_map (λ f. f.now) file.entry)) in
+            Adds W.contents self.old self.new digest result }
     {
         match file {
-            Some(file) => self.add(&digest_line(file), out),
+            Some(file) => self.add(&digest_line(file)),
             None => Ok(()),
         }
-    }
-
-    /// Writes what is still on the page.
-    pub(crate) fn write<W: Write>(&self, out: &mut W) -> Result<(), WriteFault>
-        ensures whole { OnOk result (Appends (W.contents out.old) (W.contents out.new) self.now.text.items) }
-        ensures front { OnErr result (AppendsFront (W.contents out.old) (W.contents out.new) self.now.text.items) }
-    {
-        put_bytes(out, self.text.as_slice())
     }
 }
 

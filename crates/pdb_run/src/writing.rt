@@ -1,11 +1,10 @@
 //! What is written of an answer.
 
-ghost use Rattle.std.specs.Prelude.{◌++◌, map, OnOk, OnErr};
-ghost use Rattle.std.specs.Io.KnownBytes.{Appends};
-ghost use Rattle.byte_io.specs.Streams.{AppendsFront};
-ghost use Rattle.pdb_run.specs.Writing.{all_files, digests_of, list_of, named_line, shown_byte};
-ghost use Rattle.pdb_run.specs.Pages.{Gathers};
+ghost use Rattle.std.specs.Prelude.{◌≡◌, map};
+ghost use Rattle.byte_io.specs.Streams.{Writes};
 ghost use Rattle.pdb_run.specs.Answers.{answer_text, digest_lines, made_file};
+ghost use Rattle.pdb_run.specs.Pages.{Adds};
+ghost use Rattle.pdb_run.specs.Writing.{all_files, digests_of, list_of, named_line, shown_byte};
 
 use crate::answers::{Answer, Digested};
 use crate::pages::Page;
@@ -14,44 +13,36 @@ use std::io::Write;
 
 /// Writes an answer: the digests, and then its lines. It is one write, where the writer takes all and a page holds all.
 pub fn say<W: Write>(answer: &Answer<'_>, out: &mut W) -> Result<(), WriteFault>
-    ensures whole { OnOk result (Appends (W.contents out.old) (W.contents out.new) (answer_text answer.now)) }
-    ensures front { OnErr result (AppendsFront (W.contents out.old) (W.contents out.new) (answer_text answer.now)) }
+    ensures { Writes (W.contents out.old) (W.contents out.new) (answer_text answer.now) result }
 {
-    let mut page = Page::new();
-    add_digests(&mut page, answer, out)?;
-    add_made_digest(&mut page, answer, out)?;
-    page.add(answer.lines.as_str().as_bytes(), out)?;
-    page.write(out)
+    let mut page = Page::on(out);
+    add_digests(&mut page, answer)?;
+    add_made_digest(&mut page, answer)?;
+    page.add_text(answer.lines.as_str())?;
+    page.write()
 }
 
 /// Adds the digests to a page: the lines that are made already, or else those of the files.
-fn add_digests<W: Write>(
-    page: &mut Page,
-    answer: &Answer<'_>,
-    out: &mut W,
-) -> Result<(), WriteFault>
-    ensures whole { OnOk result (Gathers (W.contents out.old) page.old.text.items (W.contents out.new) page.new.text.items (digest_lines answer.now.digested)) }
-    ensures front { OnErr result (AppendsFront (W.contents out.old) (W.contents out.new) (page.old.text.items ++ digest_lines answer.now.digested)) }
+fn add_digests<W: Write>(page: &mut Page<'_, W>, answer: &Answer<'_>) -> Result<(), WriteFault>
+    ensures same_out { page.new.out.ghost_name ≡ page.old.out.ghost_name }
+    ensures added { Adds W.contents page.old page.new (digest_lines answer.now.digested) result }
 {
     match &answer.digested {
-        Digested::Files(files, last) => page.add_digests(files, *last, out),
-        Digested::Lines(lines) => page.add(lines.as_slice(), out),
+        Digested::Files(files, last) => page.add_digests(files, *last),
+        Digested::Lines(lines) => page.add(lines.as_slice()),
     }
 }
 
 /// Adds the digest of the file that was made to a page, where there is one: the line that is made already, or else that of the
 /// file.
-fn add_made_digest<W: Write>(
-    page: &mut Page,
-    answer: &Answer<'_>,
-    out: &mut W,
-) -> Result<(), WriteFault>
-    ensures whole { OnOk result (Gathers (W.contents out.old) page.old.text.items (W.contents out.new) page.new.text.items (digests_of (list_of (made_file answer.now)))) }
-    ensures front { OnErr result (AppendsFront (W.contents out.old) (W.contents out.new) (page.old.text.items ++ digests_of (list_of (made_file answer.now)))) }
+fn add_made_digest<W: Write>(page: &mut Page<'_, W>, answer: &Answer<'_>) -> Result<(), WriteFault>
+    ensures same_out { page.new.out.ghost_name ≡ page.old.out.ghost_name }
+    ensures added { let digest = digests_of (list_of (made_file answer.now)) in
+        Adds W.contents page.old page.new digest result }
 {
     match &answer.made_digest {
-        Some(digest) => page.add(digest.as_slice(), out),
-        None => page.add_digest(answer.made.as_deref(), out),
+        Some(digest) => page.add(digest.as_slice()),
+        None => page.add_digest(answer.made.as_deref()),
     }
 }
 
@@ -61,24 +52,22 @@ pub fn say_digests<W: Write>(
     last: Option<&[u8]>,
     out: &mut W,
 ) -> Result<(), WriteFault>
-    ensures whole { OnOk result (Appends (W.contents out.old) (W.contents out.new) (digests_of (all_files files.now last.entry))) }
-    ensures front { OnErr result (AppendsFront (W.contents out.old) (W.contents out.new) (digests_of (all_files files.now last.entry))) }
+    ensures { let digests = digests_of (all_files files.now last.entry) in
+        Writes (W.contents out.old) (W.contents out.new) digests result }
 {
-    let mut page = Page::new();
-    page.add_digests(files, last, out)?;
-    page.write(out)
+    let mut page = Page::on(out);
+    page.add_digests(files, last)?;
+    page.write()
 }
 
 /// Writes a text, a name as a line shows it, and the line's end.
 pub(crate) fn put_named<W: Write>(text: &str, name: &str, out: &mut W) -> Result<(), WriteFault>
-    ensures whole { let line = named_line text.now (map shown_byte name.now) in
-        OnOk result (Appends (W.contents out.old) (W.contents out.new) line) }
-    ensures front { let line = named_line text.now (map shown_byte name.now) in
-        OnErr result (AppendsFront (W.contents out.old) (W.contents out.new) line) }
+    ensures { let line = named_line text.now (map shown_byte name.now) in
+        Writes (W.contents out.old) (W.contents out.new) line result }
 {
-    let mut page = Page::new();
-    page.add(text.as_bytes(), out)?;
-    page.add_name(name, out)?;
-    page.add(b"\n", out)?;
-    page.write(out)
+    let mut page = Page::on(out);
+    page.add_text(text)?;
+    page.add_name(name)?;
+    page.add_text("\n")?;
+    page.write()
 }

@@ -1,27 +1,24 @@
-use Rattle.std.proofs.Common.{[], ap, append_assoc, codes, map, ◌++◌, ◌∙◌}
+use Rattle.std.proofs.Common.{codes, map, ◌++◌, rules}
 use Rattle.pdb_run.specs.Writing.{shown_byte}
-use Rattle.pdb_run.proofs.PageLemmas.{gathers_more, on_err, said_front, said_stopped, said_whole}
+use Rattle.pdb_run.proofs.PageLemmas.{adds_short, adds_then, writes_failed}
 use Rattle.pdb_run.proofs.writing.put_named.Goals as goal
 
-pub returns-in_err-add_name-clause-front : goal.returns-in_err-add_name-clause-front
-returns-in_err-add_name-clause-front g c =
-    on_err _ _ (said_stopped _ _ _ _ _ c.new-page.ensures _ (map shown_byte c.args.name.now) (codes "\n") _ (ap (λ t. t ++ (map shown_byte c.args.name.now ++ codes "\n")) c.as_bytes.ensures.value)
-    c.in_ok-add.ensures.whole c.in_err-add_name.ensures.front)
+pub returns-in_err-add_text : goal.returns-in_err-add_text
+returns-in_err-add_text g c =
+    let added = adds_short (map shown_byte c.args.name.now ++ codes "\n") c.in_err-add_text.ensures.added in
+    search (rules, writes_failed _ c.from_residual.ensures.0 c.on-page.ensures.empty added)
 
-pub returns-in_err-add-2-clause-front : goal.returns-in_err-add-2-clause-front
-returns-in_err-add-2-clause-front g c =
-    let same = append_assoc c.as_bytes.result.now (map shown_byte c.args.name.now) (codes "\n") ∙ ap (λ t. t ++ (map shown_byte c.args.name.now ++ codes "\n")) c.as_bytes.ensures.value in
-    on_err _ _ (said_stopped _ _ _ _ _ c.new-page.ensures _ (codes "\n") [] _ same
-    (gathers_more _ _ _ _ _ _ _ _ c.in_ok-add.ensures.whole c.in_ok-add_name.ensures.whole) c.in_err-add-2.ensures.front)
+pub returns-in_err-add_name : goal.returns-in_err-add_name
+returns-in_err-add_name g c =
+    let added = adds_then c.in_ok-add_text.ensures.added (adds_short (codes "\n") c.in_err-add_name.ensures.added) in
+    search (rules, writes_failed _ c.from_residual-in_err-add_name.ensures.0 c.on-page.ensures.empty added)
 
-pub returns-clause-whole : goal.returns-clause-whole
-returns-clause-whole g c =
-    let same = append_assoc c.as_bytes.result.now (map shown_byte c.args.name.now) (codes "\n") ∙ ap (λ t. t ++ (map shown_byte c.args.name.now ++ codes "\n")) c.as_bytes.ensures.value in
-    said_whole _ _ _ _ _ c.new-page.ensures c.write.result _ _ same
-    (gathers_more _ _ _ _ _ _ _ _ (gathers_more _ _ _ _ _ _ _ _ c.in_ok-add.ensures.whole c.in_ok-add_name.ensures.whole) c.in_ok-add-2.ensures.whole) c.write.ensures.whole
+pub returns-in_err-add_text-2 : goal.returns-in_err-add_text-2
+returns-in_err-add_text-2 g c =
+    let added = adds_then c.in_ok-add_text.ensures.added (adds_then c.in_ok-add_name.ensures.added c.in_err-add_text-2.ensures.added) in
+    search (rules, writes_failed _ c.from_residual-in_err-add_text-2.ensures.0 c.on-page.ensures.empty added)
 
-pub returns-clause-front : goal.returns-clause-front
-returns-clause-front g c =
-    let same = append_assoc c.as_bytes.result.now (map shown_byte c.args.name.now) (codes "\n") ∙ ap (λ t. t ++ (map shown_byte c.args.name.now ++ codes "\n")) c.as_bytes.ensures.value in
-    said_front _ _ _ _ _ c.new-page.ensures c.write.result _ _ same
-    (gathers_more _ _ _ _ _ _ _ _ (gathers_more _ _ _ _ _ _ _ _ c.in_ok-add.ensures.whole c.in_ok-add_name.ensures.whole) c.in_ok-add-2.ensures.whole) c.write.ensures.front
+pub returns : goal.returns
+returns g c =
+    let added = adds_then c.in_ok-add_text.ensures.added (adds_then c.in_ok-add_name.ensures.added c.in_ok-add_text-2.ensures.added) in
+    search (rules, c.write.ensures.finished _ _ (added.gathers _ _ c.on-page.ensures.empty))

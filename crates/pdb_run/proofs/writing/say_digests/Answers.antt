@@ -1,6 +1,7 @@
-use Rattle.std.proofs.Common.{refl}
-use Rattle.pdb_run.proofs.PageLemmas.{said_front}
+use Rattle.std.proofs.Common.{rules}
+use Rattle.pdb_run.proofs.PageLemmas.{writes_failed}
 use Rattle.pdb_run.proofs.writing.say_digests.Goals as goal
 
-pub returns-clause-front : goal.returns-clause-front
-returns-clause-front g c = said_front _ _ _ _ _ c.new-page.ensures c.write.result _ _ refl c.in_ok-add_digests.ensures.whole c.write.ensures.front
+pub returns-in_err-add_digests : goal.returns-in_err-add_digests
+returns-in_err-add_digests g c =
+    let failed = writes_failed _ c.from_residual.ensures.0 c.on-page.ensures.empty c.in_err-add_digests.ensures.added in search (rules, failed)
