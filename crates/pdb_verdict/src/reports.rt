@@ -1,8 +1,7 @@
 //! What is written of an answer.
 
-ghost use Rattle.std.specs.Prelude.{◌≡◌, ◌++◌, option_map, IfSome, OnOk, OnErr};
-ghost use Rattle.std.specs.Io.KnownBytes.{Appends};
-ghost use Rattle.byte_io.specs.Streams.{AppendsFront};
+ghost use Rattle.std.specs.Prelude.{◌≡◌, ◌++◌, option_map, IfSome};
+ghost use Rattle.byte_io.specs.Streams.{Writes};
 ghost use Rattle.pdb_run.specs.Writing.{digests_of, list_of};
 ghost use Rattle.pdb_run.specs.Answers.{IsAnswerBy, IsReplyOf, all_bytes, digest_lines};
 ghost use Rattle.pdb_verdict.specs.Inputs.{Given, given};
@@ -31,10 +30,8 @@ pub fn report<W: Write>(
     answer: &Result<Verdict, Fault>,
     out: &mut W,
 ) -> Result<(), WriteFault>
-    ensures whole { let lines = lines_of (given inputs.now) answer.now in
-        OnOk result (Appends (W.contents out.old) (W.contents out.new) lines) }
-    ensures front { let lines = lines_of (given inputs.now) answer.now in
-        OnErr result (AppendsFront (W.contents out.old) (W.contents out.new) lines) }
+    ensures { let lines = lines_of (given inputs.now) answer.now in
+        Writes (W.contents out.old) (W.contents out.new) lines result }
 {
     if stands_alone(answer) {
         return line(answer, out);
@@ -44,10 +41,8 @@ pub fn report<W: Write>(
 
 /// Writes the digest line of each file that is checked.
 pub fn digests<W: Write>(inputs: &Inputs<'_>, out: &mut W) -> Result<(), WriteFault>
-    ensures whole { let lines = digests_of (digested_of (given inputs.now)) in
-        OnOk result (Appends (W.contents out.old) (W.contents out.new) lines) }
-    ensures front { let lines = digests_of (digested_of (given inputs.now)) in
-        OnErr result (AppendsFront (W.contents out.old) (W.contents out.new) lines) }
+    ensures { let lines = digests_of (digested_of (given inputs.now)) in
+        Writes (W.contents out.old) (W.contents out.new) lines result }
 {
     let (files, last) = checked_files(inputs);
     say_digests(files, last, out)
@@ -55,10 +50,7 @@ pub fn digests<W: Write>(inputs: &Inputs<'_>, out: &mut W) -> Result<(), WriteFa
 
 /// Writes the line of a verdict, a refusal or want of memory.
 pub fn line<W: Write>(answer: &Result<Verdict, Fault>, out: &mut W) -> Result<(), WriteFault>
-    ensures whole { let line = line_of answer.now in
-        OnOk result (Appends (W.contents out.old) (W.contents out.new) line) }
-    ensures front { let line = line_of answer.now in
-        OnErr result (AppendsFront (W.contents out.old) (W.contents out.new) line) }
+    ensures { Writes (W.contents out.old) (W.contents out.new) (line_of answer.now) result }
 {
     put_text(out, line_of(answer).as_str())
 }
