@@ -83,7 +83,7 @@ same_solution a b same = cc
 pub says_solution : (puzzle : List ℕ) (answer : Result Verdict Fault) (n : ℕ) → IsReplayTold puzzle answer → (answer ≡ Ok (verdict.Solution n)) ↔ (IsSolvedPuzzle puzzle n)
 says_solution puzzle answer n is = (
   λ same.
-    let yes = told_yes verdict.Solution fault_of_replay (IsReplayResult puzzle) (verdict.Solution n) (subst (λ (a : Result Verdict Fault). IsReplayTold puzzle a) same is) in
-    subst (IsSolvedPuzzle puzzle) (sym (same_solution n yes.0 yes.2)) yes.1,
+      let yes = told_yes verdict.Solution fault_of_replay (IsReplayResult puzzle) (verdict.Solution n) (subst (λ (a : Result Verdict Fault). IsReplayTold puzzle a) same is) in
+      subst (IsSolvedPuzzle puzzle) (sym (same_solution n yes.0 yes.2)) yes.1,
   λ h. told_one verdict.Solution fault_of_replay (IsReplayResult puzzle) (IsReplayResult-one puzzle) answer (Ok (verdict.Solution n)) is (Ok n, h, refl),
 )

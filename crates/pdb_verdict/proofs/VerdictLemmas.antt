@@ -1,5 +1,5 @@
 -- Inputs have one result, and it is a verdict exactly where that is true.
-use Rattle.std.proofs.Common.{◌≡◌, ◌∙◌, ◌↔◌, ◌⊎◌, inl, inr, Result, Ok, Err, ap, subst, sym}
+use Rattle.std.proofs.Common.{◌≡◌, ◌∙◌, ◌↔◌, ◌⊎◌, inl, inr, Result, Ok, ap, subst, sym}
 use Rattle.pdb_verdict.proofs.ClaimLemmas.{IsClaimResult-one, IsClaimResult-proved, proved_holds}
 use Rattle.pdb_verdict.proofs.RefusalLemmas.{no_yes, told_one, told_yes}
 use Rattle.pdb_verdict.proofs.ReplayLemmas.{IsReplayResult-one}

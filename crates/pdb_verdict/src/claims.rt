@@ -2,7 +2,6 @@
 //! puzzle text are a solution, and none has fewer.
 
 ghost use Rattle.std.specs.Prelude.{◌≡◌};
-ghost use Rattle.pdb_run.specs.Answers.{all_bytes};
 ghost use Rattle.pdb_verdict.specs.Claims.{IsClaimOver, IsClaimResult, TakesMemoryForClaim, claim_verdict, compared, start_of};
 ghost use Rattle.pdb_verdict.specs.Inputs.{log_claim};
 ghost use Rattle.pdb_verdict.specs.Refusals.{IsFoundBy, answer_of, fault_of_claim, or_failure};
@@ -63,10 +62,7 @@ pub fn optimum_over<H: Threads + Wait, G: Gate + Sync>(
 }
 
 /// The board of a text, and of a puzzle text how many moves solve it.
-pub(crate) fn start_of(
-    claim: Claim,
-    text: &[u8],
-) -> Result<(Board, Option<u16>), ReplayRefusal>
+pub(crate) fn start_of(claim: Claim, text: &[u8]) -> Result<(Board, Option<u16>), ReplayRefusal>
     ensures { result ≡ start_of claim text.now }
 {
     match claim {

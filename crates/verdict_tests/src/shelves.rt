@@ -38,7 +38,11 @@ enum Command {
 }
 
 /// The check of the log, of what is claimed of a text of this name.
-fn check_of(alloc: Global, claim: Claim, text: &'static str) -> Result<LogCheck<'static>, AllocError> {
+fn check_of(
+    alloc: Global,
+    claim: Claim,
+    text: &'static str,
+) -> Result<LogCheck<'static>, AllocError> {
     Ok(LogCheck {
         claim,
         text,

@@ -233,7 +233,13 @@ fn a_replay_runs_without_threads(rt: HostRuntime) -> Result<(), Fail> {
         reader: &mut reader,
         out: &mut out,
     };
-    let named = run_replay(alloc, Replay { puzzle: Some("one") }, &mut io);
+    let named = run_replay(
+        alloc,
+        Replay {
+            puzzle: Some("one"),
+        },
+        &mut io,
+    );
     let unnamed = run_replay(alloc, Replay { puzzle: None }, &mut io);
     assert!(rt; named == Status::Yes && unnamed == Status::Refused);
     assert!(rt; out.as_slice() == b"solution 1\nrefused M2 at step 0\n".as_slice());

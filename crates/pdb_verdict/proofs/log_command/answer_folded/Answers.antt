@@ -1,6 +1,5 @@
 use Rattle.std.proofs.Common.{◌∙◌, ◌++◌, ◌∷◌, [], List, Option, ℕ, Result, ap, subst, sym, true}
 use Rattle.byte_io.specs.Shelf.{Bytes}
-use Rattle.pdb_run.specs.Answers.{all_bytes}
 use Rattle.pdb_run.specs.Writing.{digests_of}
 use Rattle.pdb_verdict.specs.Inputs.{log_claim}
 use Rattle.pdb_verdict.specs.Steps.{IsFoundFor, files_read}
