@@ -24,8 +24,8 @@ pub record IsRunOf (t : Table) (r : Run) : Type 0 where
 
 -- the last tile of such a run, and how many free cells are below each cell
 pub record IsLastTileOf (t : Table) (l : LastTile) : Type 0 where
-  pub run : IsRunOf t l.run.now
-  pub below : AreFreeBelow l.run.now.cells.now (t.pattern.side * t.pattern.side) l.below
+  pub run : IsRunOf t l.run
+  pub below : AreFreeBelow l.run.cells.now (t.pattern.side * t.pattern.side) l.below
 
 -- the cells are those of a run of the table, with their set and the rank of the run's first placement
 pub record AreCellsOfRun (t : Table) (r : RunCells) : Type 0 where

@@ -118,10 +118,10 @@ fn free_below_each(run: &Run<'_>, count: u8) -> [u8; 25]
 #[inline]
 fn take_pair(table: &TableView<'_>, last: &LastTile<'_>, a: u8, b: u8, mins: &mut [u8; BYTE_PLACES])
     requires last { IsLastTileOf table.now last.now }
-    requires free_a { IsFree table.now.pattern.side last.now.run.now.cells.now a }
-    requires free_b { IsFree table.now.pattern.side last.now.run.now.cells.now b }
+    requires free_a { IsFree table.now.pattern.side last.now.run.cells.now a }
+    requires free_b { IsFree table.now.pattern.side last.now.run.cells.now b }
     requires order { a < b }
-    ensures { IsTakenIn mins.old mins.new (IsPairStep table.now last.now.run.now.cells.now a b) }
+    ensures { IsTakenIn mins.old mins.new (IsPairStep table.now last.now.run.cells.now a b) }
 {
     let _pattern = table.pattern();
     let run = last.run;
@@ -146,10 +146,10 @@ fn take_beside(
     mins: &mut [u8; BYTE_PLACES],
 )
     requires last { IsLastTileOf table.now last.now }
-    requires free_a { IsFree table.now.pattern.side last.now.run.now.cells.now a }
+    requires free_a { IsFree table.now.pattern.side last.now.run.cells.now a }
     requires others { (x : ℕ) → bit_at mask x ≡ 1
-        → IsFree table.now.pattern.side last.now.run.now.cells.now x × (a < x) }
-    ensures { let cells = last.now.run.now.cells.now in
+        → IsFree table.now.pattern.side last.now.run.cells.now x × (a < x) }
+    ensures { let cells = last.now.run.cells.now in
         IsTakenIn mins.old mins.new (IsBesideStep table.now cells a mask 0) }
 {
     let _pattern = table.pattern();
@@ -168,7 +168,7 @@ fn take_lasts(table: &TableView<'_>, run: &Run<'_>, mins: &mut [u8; BYTE_PLACES]
 {
     let count = table.pattern().side().cells();
     let below = free_below_each(run, count);
-    let last = LastTile { run, below };
+    let last = LastTile { run: *run, below };
     let mut left = masks::all_below(count) & !run.set;
     'left: while left != 0 {
         let a = masks::first_of(left);
