@@ -22,7 +22,8 @@ pub(crate) fn region_until(side: Side, free: u32, cell: u8, goal: u32) -> u32
     requires free { bit_at free cell ≡ 1 }
     requires within { free < 2 ^ (side * side) }
     ensures reached { (x : ℕ) → bit_at result x ≡ 1 → Reaches side (λ c. bit_at free c ≡ 1) cell x }
-    ensures whole { bit_and result goal ≡ 0 → IsMaskOf result (Reaches side (λ c. bit_at free c ≡ 1) cell) }
+    ensures whole { bit_and result goal ≡ 0
+        → IsMaskOf result (Reaches side (λ c. bit_at free c ≡ 1) cell) }
 {
     let n = side.get();
     let right = free & !masks::first_column(side);

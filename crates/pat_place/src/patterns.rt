@@ -39,7 +39,8 @@ impl Model for Pattern {
 impl Pattern {
     /// The pattern whose tiles are the numbers of the set bits, where that is a pattern.
     pub fn of_mask(side: Side, mask: u32) -> Option<Pattern>
-        ensures pattern { IsSome result ↔ IsPattern (record { side = side; tiles = numbers_of mask }) }
+        ensures pattern { IsSome result
+            ↔ IsPattern (record { side = side; tiles = numbers_of mask }) }
         ensures value { IfSome result (λ p. p ≡ record { side = side; tiles = numbers_of mask }) }
     {
         let n = side.get();
@@ -85,7 +86,8 @@ impl Pattern {
 
     /// The pattern of what the tiles become where rows and columns are exchanged.
     pub fn transposed(&self) -> Pattern
-        ensures { result ≡ record { side = self.now.side; tiles = transposed_tiles self.now.side self.now.tiles } }
+        ensures { let tiles = transposed_tiles self.now.side self.now.tiles in
+            result ≡ record { side = self.now.side; tiles = tiles } }
     {
         let side = self.side();
         let mut mask = 0;
@@ -108,7 +110,8 @@ impl Pattern {
     /// How many placements there are: n²·(n² - 1) ··· (n² - k + 1) for k tiles of side n. With `width` slots for each,
     /// there are fewer than 2^32 slots.
     pub fn count(&self) -> u64
-        ensures product { result ≡ falling_factorial (self.now.side * self.now.side) (length self.now.tiles) }
+        ensures product { result
+            ≡ falling_factorial (self.now.side * self.now.side) (length self.now.tiles) }
         ensures count { result ≡ length (placements self.now.side (length self.now.tiles)) }
         ensures small { result * width self.now.side (length self.now.tiles) < 2 ^ 32 }
         ensures fits { result < 2 ^ 32 }

@@ -48,7 +48,8 @@ impl Placement {
     /// Where the pattern's tiles are on a board.
     pub fn of_board(pattern: &Pattern, board: &Board) -> Placement
         requires { side_of board.now ≡ pattern.now.side }
-        ensures { result ≡ record { pattern = pattern.now; cells = placement_of pattern.now.tiles board.now } }
+        ensures { result
+            ≡ record { pattern = pattern.now; cells = placement_of pattern.now.tiles board.now } }
     {
         let _side = pattern.side();
         Placement::of_cells(pattern, &board.cells_of_all())
@@ -56,8 +57,10 @@ impl Placement {
 
     /// The placement with each of the pattern's tiles in the cell that was found for its number.
     pub fn of_cells(pattern: &Pattern, found: &[u8; 25]) -> Placement
-        requires { IsPlacement (record { pattern = pattern.now; cells = cells_found pattern.now.tiles found.now }) }
-        ensures { result ≡ record { pattern = pattern.now; cells = cells_found pattern.now.tiles found.now } }
+        requires { let cells = cells_found pattern.now.tiles found.now in
+            IsPlacement (record { pattern = pattern.now; cells = cells }) }
+        ensures { result
+            ≡ record { pattern = pattern.now; cells = cells_found pattern.now.tiles found.now } }
     {
         let mut cells = [0; 8];
         let tiles = pattern.tiles();
@@ -150,9 +153,12 @@ impl Placement {
 
     /// The placement with these cells, which have zeros behind them.
     pub(crate) fn with_cells(pattern: &Pattern, cells: [u8; 8]) -> Placement
-        requires placement { IsPlacement (record { pattern = pattern.now; cells = take (length pattern.now.tiles) cells }) }
-        requires rest { drop (length pattern.now.tiles) cells ≡ replicate (8 - length pattern.now.tiles) 0 }
-        ensures { result ≡ record { pattern = pattern.now; cells = take (length pattern.now.tiles) cells } }
+        requires placement { let placed = take (length pattern.now.tiles) cells in
+            IsPlacement (record { pattern = pattern.now; cells = placed }) }
+        requires rest { drop (length pattern.now.tiles) cells
+            ≡ replicate (8 - length pattern.now.tiles) 0 }
+        ensures { result
+            ≡ record { pattern = pattern.now; cells = take (length pattern.now.tiles) cells } }
     {
         let _side = pattern.side();
         Placement {
@@ -165,7 +171,8 @@ impl Placement {
     pub(crate) fn padded(&self) -> [u8; 8]
         ensures len { length result ≡ 8 }
         ensures cells { take (length self.now.pattern.tiles) result ≡ self.now.cells }
-        ensures rest { drop (length self.now.pattern.tiles) result ≡ replicate (8 - length self.now.pattern.tiles) 0 }
+        ensures rest { drop (length self.now.pattern.tiles) result
+            ≡ replicate (8 - length self.now.pattern.tiles) 0 }
     {
         self.cells
     }

@@ -17,7 +17,8 @@ use puz_board::masks;
 pub fn rank(placement: &Placement) -> u64
     ensures rank { IsRank placement.now.pattern.side placement.now.cells result }
     ensures only { (r : ℕ) → IsRank placement.now.pattern.side placement.now.cells r → r ≡ result }
-    ensures below { result < length (placements placement.now.pattern.side (length placement.now.cells)) }
+    ensures below { result
+        < length (placements placement.now.pattern.side (length placement.now.cells)) }
 {
     rank_among(placement.as_slice(), placement.pattern().side().cells())
 }
@@ -29,7 +30,8 @@ pub fn rank_among(cells: &[u8], count: u8) -> u64
     requires few { length cells.now ≤ 8 }
     requires inside { AllByRecursion (λ c. c < count) cells.now }
     requires apart { IsApart cells.now }
-    ensures { slice_get (lists_of (length cells.now) (range_with_len 0 count)) result ≡ Some cells.now }
+    ensures { slice_get (lists_of (length cells.now) (range_with_len 0 count)) result
+        ≡ Some cells.now }
 {
     let mut free = masks::all_below(count);
     let mut room = u64::from(count);
@@ -54,9 +56,11 @@ pub struct Standing {
 /// Where the placement stands that has each of the pattern's tiles in the cell that was found for its number.
 #[inline]
 pub fn standing_of(pattern: &Pattern, found: &[u8; 25]) -> Standing
-    requires { IsPlacement (record { pattern = pattern.now; cells = cells_found pattern.now.tiles found.now }) }
+    requires { let cells = cells_found pattern.now.tiles found.now in
+        IsPlacement (record { pattern = pattern.now; cells = cells }) }
     ensures rank { IsRank pattern.now.side (cells_found pattern.now.tiles found.now) result.rank }
-    ensures occupied { IsMaskOf result.occupied (λ c. has (cells_found pattern.now.tiles found.now) c ≡ true) }
+    ensures occupied { IsMaskOf result.occupied
+        (λ c. has (cells_found pattern.now.tiles found.now) c ≡ true) }
 {
     let count = pattern.side().cells();
     let all = masks::all_below(count);
@@ -97,7 +101,8 @@ fn cells_at(rank: u32, ranks: u32, count: u8, size: u8) -> [u8; 8]
     requires room { size ≤ count }
     requires ranks { ranks ≡ length (lists_of size (range_with_len 0 count)) }
     requires below { rank < ranks }
-    ensures cells { slice_get (lists_of size (range_with_len 0 count)) rank ≡ Some (take size result) }
+    ensures cells { slice_get (lists_of size (range_with_len 0 count)) rank
+        ≡ Some (take size result) }
     ensures zeros { drop size result ≡ replicate (8 - size) 0 }
 {
     let mut free = masks::all_below(count);
@@ -120,7 +125,8 @@ fn cells_at(rank: u32, ranks: u32, count: u8, size: u8) -> [u8; 8]
 /// least cells that are left.
 pub fn next(placement: &mut Placement) -> bool
     ensures pattern { placement.new.pattern ≡ placement.old.pattern }
-    ensures step { (r : ℕ) → IsRank placement.old.pattern.side placement.old.cells r → MatchBool result
+    ensures step { (r : ℕ) → IsRank placement.old.pattern.side placement.old.cells r
+        → MatchBool result
         (IsRank placement.old.pattern.side placement.new.cells (r + 1))
         (r + 1 ≡ length (placements placement.old.pattern.side (length placement.old.cells))) }
     ensures last { OnFalse result (placement.new ≡ placement.old) }

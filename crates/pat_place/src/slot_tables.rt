@@ -82,7 +82,8 @@ impl SlotTable {
     #[inline]
     pub fn slot_in(&self, set: u32, cell: u8) -> Option<u8>
         requires { cell < self.now * self.now }
-        ensures { (cells : List ℕ) → IsMaskOf set (λ c. has cells c ≡ true) → IsFree self.now cells cell
+        ensures { (cells : List ℕ) → IsMaskOf set (λ c. has cells c ≡ true)
+            → IsFree self.now cells cell
             → IfSome result (IsSlot self.now cells cell) }
     {
         let number = self.numbers.number_of(set);

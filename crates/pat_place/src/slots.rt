@@ -16,7 +16,8 @@ use puz_board::masks;
 /// The regions of free cells as masks, in the order of their least cells.
 pub fn regions(placement: &Placement) -> ArrayVec<u32, 8>
     ensures regions { AreRegions placement.now.pattern.side placement.now.cells result.items }
-    ensures few { array_vec_len result ≤ width placement.now.pattern.side (length placement.now.cells) }
+    ensures few { array_vec_len result
+        ≤ width placement.now.pattern.side (length placement.now.cells) }
 {
     let side = placement.pattern().side();
     let free = free_cells(placement);

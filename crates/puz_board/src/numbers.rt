@@ -40,7 +40,8 @@ fn number_at(text: &[u8], start: usize) -> Number
     requires short { long_run text.now ≡ None }
     ensures end { result.end ≤ length text.now }
     ensures onward { start < result.end }
-    ensures number { numbers_in (drop start text.now) ≡ result.value ∷ numbers_in (drop result.end text.now) }
+    ensures number { numbers_in (drop start text.now)
+        ≡ result.value ∷ numbers_in (drop result.end text.now) }
 {
     let first = text[start] - b'0';
     let next = start + 1;

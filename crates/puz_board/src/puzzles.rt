@@ -8,10 +8,13 @@ pub fn split_puzzle(text: &[u8]) -> Option<(&[u8], &[u8])>
     // Two texts come exactly where they make up the text, with its first `;` between them; none where it has no `;`.
     ensures some { IfSome result (λ parts. IsPuzzle text.now parts.0.now parts.1.now) }
     ensures none { IfNone result (HasNoSemicolon text.now) }
-    ensures parted { (board moves : List ℕ) → IsPuzzle text.now board moves → option_map {U = List ℕ × List ℕ} (λ parts. (parts.0.now, parts.1.now)) result ≡ Some (board, moves) }
+    ensures parted { (board moves : List ℕ) → IsPuzzle text.now board moves
+        → option_map {U = List ℕ × List ℕ} (λ parts. (parts.0.now, parts.1.now)) result
+        ≡ Some (board, moves) }
 
     // Which they are, and when there are none.
-    ensures exact { option_map (λ parts. (parts.0.now, parts.1.now)) result ≡ puzzle_parts text.now }
+    ensures exact { option_map (λ parts. (parts.0.now, parts.1.now)) result
+        ≡ puzzle_parts text.now }
 {
     split_at_semicolon(text)
 }

@@ -37,7 +37,9 @@ impl Side {
     /// The side of a board of so many cells.
     #[tactic(auto, unfolding(crate::specs::Boards::side_of_count))]
     pub(crate) fn of_count(count: usize) -> Option<Side>
-        ensures { MatchOption result (side_of_count count ≡ 0) (λ n. (n ≡ side_of_count count) × (2 ≤ n) × (n ≤ 5) × (count ≡ n * n)) }
+        ensures { MatchOption result
+            (side_of_count count ≡ 0)
+            (λ n. (n ≡ side_of_count count) × (2 ≤ n) × (n ≤ 5) × (count ≡ n * n)) }
     {
         match count {
             4 => Some(Side { n: 2 }),

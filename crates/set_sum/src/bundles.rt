@@ -74,11 +74,13 @@ impl<'a> Bundle<'a> {
     pub fn read(tables: Vec<Part<'a>>, text: &[u8]) -> Result<Bundle<'a>, SetFault>
         // A bundle comes exactly of tables and a text that make it.
         ensures ok { IfOk result (λ bundle. IsBundleOf tables.entry.items text.now bundle) }
-        ensures made { (bundle : BundleView) → IsBundleOf tables.entry.items text.now bundle → result ≡ Ok bundle }
+        ensures made { (bundle : BundleView) → IsBundleOf tables.entry.items text.now bundle
+            → result ≡ Ok bundle }
 
         // A fault is answered exactly where it is the first that stands.
         ensures fault { IfErr result (λ fault. IsSetFaultOf fault tables.entry.items text.now) }
-        ensures refused { (fault : SetFault) → IsSetFaultOf fault tables.entry.items text.now → result ≡ Err fault }
+        ensures refused { (fault : SetFault) → IsSetFaultOf fault tables.entry.items text.now
+            → result ≡ Err fault }
     {
         make_bundle(tables, text)
     }
@@ -120,7 +122,8 @@ impl<'a> Bundle<'a> {
     pub fn members(&self, set: u8) -> &[Member]
         requires { set < length self.now.sets }
         ensures members { result.now ≡ slice_index_or self.now.sets set [] }
-        ensures there { AllByRecursion (λ member. member.table < length self.now.tables) result.now }
+        ensures there { AllByRecursion (λ member. member.table < length self.now.tables)
+            result.now }
         ensures few { length result.now ≤ most_members }
     {
         self.sets[usize::from(set)].as_slice()
@@ -178,7 +181,8 @@ fn make_bundle<'a>(tables: Vec<Part<'a>>, text: &[u8]) -> Result<Bundle<'a>, Set
 /// Reads the sets of a set text over tables of one side.
 fn read_sets(tables: &[Part<'_>], text: &[u8]) -> Result<ArrayVec<Set, MOST_SETS>, SetFault>
     requires { AreAlike tables.now }
-    ensures ok { IfOk result (λ kept. AreSetsOf tables.now text.now (map (λ set. set.items) kept.items)) }
+    ensures ok { IfOk result (λ kept.
+        AreSetsOf tables.now text.now (map (λ set. set.items) kept.items)) }
     ensures err { IfErr result (λ fault. IsSetFaultOf fault tables.now text.now) }
 {
     let lines = match read_lines(text, tables.len()) {
@@ -205,7 +209,8 @@ fn first_twice(tables: &[Part<'_>], sets: &[Set]) -> Option<usize>
     requires side { AreAlike tables.now }
     requires there { AllByRecursion (AllByRecursion (λ member. member.table < length tables.now))
         (map (λ set. set.items) sets.now) }
-    ensures { MatchOption result (AllByRecursion (λ set. ¬ NamesTwice tables.now set) (map (λ set. set.items) sets.now))
+    ensures { MatchOption result
+        (AllByRecursion (λ set. ¬ NamesTwice tables.now set) (map (λ set. set.items) sets.now))
         (IsFirstWith (NamesTwice tables.now) (map (λ set. set.items) sets.now)) }
 {
     for (line, set) in sets.iter().enumerate() {
@@ -221,7 +226,8 @@ fn first_overlap(tables: &[Part<'_>], sets: &[Set]) -> Option<usize>
     requires side { AreAlike tables.now }
     requires there { AllByRecursion (AllByRecursion (λ member. member.table < length tables.now))
         (map (λ set. set.items) sets.now) }
-    ensures { MatchOption result (AllByRecursion (λ set. ¬ NamesOverlap tables.now set) (map (λ set. set.items) sets.now))
+    ensures { MatchOption result
+        (AllByRecursion (λ set. ¬ NamesOverlap tables.now set) (map (λ set. set.items) sets.now))
         (IsFirstWith (NamesOverlap tables.now) (map (λ set. set.items) sets.now)) }
 {
     for (line, set) in sets.iter().enumerate() {

@@ -63,7 +63,8 @@ pub(crate) fn is_in_order(numbers: &[u8]) -> bool
 /// The numbers of a board. Zeros stand behind them.
 pub(crate) fn numbers_of(board: &Board) -> [u8; MOST_CELLS]
     ensures room { length result ≡ 25 }
-    ensures numbers { (cell : ℕ) → cell < length board.now → slice_index result cell ≡ at board.now cell }
+    ensures numbers { (cell : ℕ) → cell < length board.now
+        → slice_index result cell ≡ at board.now cell }
 {
     let mut numbers = [0; MOST_CELLS];
     for cell in 0..board.side().cells() {

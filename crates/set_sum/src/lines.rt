@@ -12,8 +12,10 @@ use arrayvec::ArrayVec;
 
 /// The number of one or two digits, without a leading zero, at the front of a text, and the text behind it.
 fn split_number(text: &[u8]) -> Option<(u8, &[u8])>
-    ensures some { IfSome result (λ found. (found.0 < 100) × (text.now ≡ numeral found.0 ++ found.1.now)) }
-    ensures read { (n end : ℕ) (behind : List ℕ) → n < 100 → (end < 48) ⊎ (57 < end) → text.now ≡ numeral n ++ end ∷ behind
+    ensures some { IfSome result (λ found. (found.0 < 100)
+        × (text.now ≡ numeral found.0 ++ found.1.now)) }
+    ensures read { (n end : ℕ) (behind : List ℕ) → n < 100 → (end < 48) ⊎ (57 < end)
+        → text.now ≡ numeral n ++ end ∷ behind
         → IsSomeAnd result (λ found. (found.0 ≡ n) × (found.1.now ≡ end ∷ behind)) }
 {
     let (first, rest) = text.split_first()?;
@@ -55,7 +57,8 @@ struct Front<'a> {
 fn split_member(text: &[u8], last: Option<Member>) -> Option<Front<'_>>
     ensures some { IfSome result (λ front. (front.member.table < 100) × MayFollow last front.member
         × (text.now ≡ member_text front.member ++ ending front.is_last ∷ front.rest.now)) }
-    ensures read { (m : Member) (end : ℕ) (behind : List ℕ) → m.table < 100 → MayFollow last m → (end ≡ 32) ⊎ (end ≡ 10)
+    ensures read { (m : Member) (end : ℕ) (behind : List ℕ) → m.table < 100 → MayFollow last m
+        → (end ≡ 32) ⊎ (end ≡ 10)
         → text.now ≡ member_text m ++ end ∷ behind → IsSome result }
 {
     let (table, lettered) = split_number(text)?;
@@ -91,8 +94,10 @@ struct Line<'a> {
 /// The line of a set at the front of a text, where there are so many tables.
 fn split_line(text: &[u8], tables: usize) -> Option<Line<'_>>
     requires { tables ≤ most_tables }
-    ensures some { IfSome result (λ line. IsReadLine tables text.now (option_map (λ set. set.items) line.set) line.rest.now) }
-    ensures read { (members : List Member) (behind : List ℕ) → IsLine members → text.now ≡ set_line members ++ behind
+    ensures some { IfSome result (λ line.
+        IsReadLine tables text.now (option_map (λ set. set.items) line.set) line.rest.now) }
+    ensures read { (members : List Member) (behind : List ℕ) → IsLine members
+        → text.now ≡ set_line members ++ behind
         → IsSome result }
 {
     if !text.starts_with(b"set ") {
@@ -137,9 +142,11 @@ impl Lines {
     fn push(&mut self, set: Option<Set>)
         requires { self.old.count < usize.MAX }
         ensures { (tables : ℕ) (lines : List (List Member)) (members : List Member)
-            → AreRead tables lines self.old.count self.old.missing (map (λ kept. kept.items) self.old.sets.items)
+            → AreRead tables lines self.old.count self.old.missing
+            (map (λ kept. kept.items) self.old.sets.items)
             → IsReadAsSet tables members (option_map (λ kept. kept.items) set)
-            → AreRead tables (lines ++ members ∷ []) self.new.count self.new.missing (map (λ kept. kept.items) self.new.sets.items) }
+            → AreRead tables (lines ++ members ∷ []) self.new.count self.new.missing
+            (map (λ kept. kept.items) self.new.sets.items) }
     {
         match set {
             Some(set) => if !self.sets.is_full() {
@@ -156,7 +163,9 @@ impl Lines {
 /// Reads a set text, where there are so many tables. The first line that isn't of a set is the fault.
 pub(crate) fn read_lines(text: &[u8], tables: usize) -> Result<Lines, usize>
     requires { tables ≤ most_tables }
-    ensures ok { IfOk result (λ lines. (sets : List (List Member)) × AreLines text.now sets × AreRead tables sets lines.count lines.missing (map (λ set. set.items) lines.sets.items)) }
+    ensures ok { IfOk result (λ lines. (sets : List (List Member)) × AreLines text.now sets
+        × AreRead tables sets lines.count lines.missing
+        (map (λ set. set.items) lines.sets.items)) }
     ensures err { IfErr result (IsFirstBadLine text.now) }
 {
     let mut lines = Lines {

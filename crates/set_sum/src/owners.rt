@@ -69,7 +69,8 @@ fn with_if(mask: u32, number: u8, holds: bool) -> u32
 /// The transposed cell of each cell of a board of a side.
 pub(crate) fn all_transposed(side: Side) -> [u8; MOST_CELLS]
     ensures room { length result ≡ 25 }
-    ensures cells { (cell : ℕ) → cell < side * side → slice_index result cell ≡ transposed_cell side cell }
+    ensures cells { (cell : ℕ) → cell < side * side
+        → slice_index result cell ≡ transposed_cell side cell }
 {
     let mut cells = [0; MOST_CELLS];
     for cell in 0..side.cells() {

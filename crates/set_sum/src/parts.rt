@@ -33,8 +33,10 @@ impl Part<'_> {
 
     /// What the table tells of the board whose numbers were found in these cells.
     pub(crate) fn look_in(&self, found: &[u8; 25]) -> Count
-        requires { (board : List ℕ) × IsBoardOf (part_pattern self.now).side board × AreCellsOf found.now board }
-        ensures count { (board : List ℕ) → IsBoardOf (part_pattern self.now).side board → AreCellsOf found.now board
+        requires { (board : List ℕ)
+            × IsBoardOf (part_pattern self.now).side board × AreCellsOf found.now board }
+        ensures count { (board : List ℕ) → IsBoardOf (part_pattern self.now).side board
+            → AreCellsOf found.now board
             → PartSays (part_shown self.now) board result }
         ensures few { (d : ℕ) → result ≡ Finite d → d ≤ greatest_count }
     {

@@ -112,7 +112,8 @@ impl<'a> Sums<'a> {
     pub fn step(&mut self, mv: Move) -> Option<Step>
         ensures none { IfNone result ((moved self.old.board mv ≡ None) × (self.new ≡ self.old)) }
         ensures some { IfSome result (λ step. (moved self.old.board mv ≡ Some self.new.board)
-            × (self.new.bundle ≡ self.old.bundle) × IsStepFrom self.old.bundle self.old.board self.new.board step) }
+            × (self.new.bundle ≡ self.old.bundle)
+            × IsStepFrom self.old.bundle self.old.board self.new.board step) }
     {
         let from = self.cells[0];
         let to = cell_after(self.bundle.side(), from, mv)?;

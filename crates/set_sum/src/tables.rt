@@ -21,7 +21,8 @@ use tab_rule::Count;
 
 /// The one side of 1 to 16 tables.
 pub(crate) fn one_side(tables: &[Part<'_>]) -> Result<Side, SetFault>
-    ensures ok { IfOk result (λ side. (side ≡ first_side tables.now) × AreAlike tables.now × AllByRecursion IsExactPart tables.now) }
+    ensures ok { IfOk result (λ side. (side ≡ first_side tables.now)
+        × AreAlike tables.now × AllByRecursion IsExactPart tables.now) }
     ensures err { IfErr result (λ fault. (text : List ℕ) → IsSetFaultOf fault tables.now text) }
 {
     if tables.is_empty() || tables.len() > MOST_TABLES {
@@ -73,7 +74,8 @@ fn meets(tables: &[Part<'_>], set: &[Member], other: Member) -> bool
     requires there { AllByRecursion (λ member. member.table < length tables.now) set.now }
     requires other { other.table < length tables.now }
     ensures { IsTrue result
-        ↔ Any (λ m. AreOnePattern (first_side tables.now) (parts_shown tables.now) m other) set.now }
+        ↔ Any (λ m. AreOnePattern (first_side tables.now) (parts_shown tables.now) m other)
+        set.now }
 {
     let mask = pattern_for(tables, other).mask();
     for member in set {

@@ -21,7 +21,8 @@ pub(crate) struct TableCheck<'a> {
     ghost serves: { IfSome rows (λ kept. kept ≡ rows_for view.pattern) } by { Prim.hlevel props },
     ghost few_blocks: { block_count view.pattern ≤ 2 ^ 32 },
     ghost from_zero: { block_begin view.pattern 0 ≡ 0 },
-    ghost rises: { (block : ℕ) → block_begin view.pattern block ≤ block_begin view.pattern (block + 1) },
+    ghost rises: { (block : ℕ)
+        → block_begin view.pattern block ≤ block_begin view.pattern (block + 1) },
     ghost small: { block_begin view.pattern (block_count view.pattern) ≤ 2 ^ 32 },
 }
 

@@ -40,12 +40,15 @@ pub fn check_table<'a, R: Threads + Wait, G: Gate + Sync>(
 
     // A table comes of an exact file alone, and is that file's. Only want of memory keeps it back.
     ensures ok { IfOk result (λ table. IsExactFile table file.now) }
-    ensures exact { (table : Table) → IsExactFile table file.now → (result ≡ Ok table) ⊎ (result ≡ Err Memory) }
+    ensures exact { (table : Table) → IsExactFile table file.now
+        → (result ≡ Ok table) ⊎ (result ≡ Err Memory) }
 
     // Which fault it is.
     ensures fault { IfErr result (λ fault. IsTableCauseOf fault file.now) }
-    ensures head { (fault : HeadFault) → table_of_file file.now ≡ Err fault → result ≡ Err (Refused (Head fault)) }
-    ensures bad { (table : Table) (number : ℕ) → IsTableFile table file.now → IsLeastBadEntry table number
+    ensures head { (fault : HeadFault) → table_of_file file.now ≡ Err fault
+        → result ≡ Err (Refused (Head fault)) }
+    ensures bad { (table : Table) (number : ℕ) → IsTableFile table file.now
+        → IsLeastBadEntry table number
         → (result ≡ Err (Refused (T7 number))) ⊎ (result ≡ Err Memory) }
 {
     let view = match view(file) {

@@ -1,8 +1,8 @@
 -- Columns of a block, row by row.
-use Rattle.std.proofs.Common.{◌≡◌, ℕ, ◌+◌, ◌*◌, ◌<◌, ◌≤◌, ◌⊎◌, List, length, take, Option, Some, None, get_or, set, min, inl, inr, refl, sym, ◌∙◌, ap, subst, arith, get_or-set_same, get_or-set_other, length-set}
+use Rattle.std.proofs.Common.{◌≡◌, ℕ, ◌+◌, ◌-◌, ◌*◌, ◌<◌, ◌≤◌, ◌⊎◌, List, length, take, drop, Option, Some, None, get_or, set, min, inl, inr, refl, sym, ◌∙◌, ap, subst, arith, get_or-set_same, get_or-set_other, length-drop, length-set}
 use Rattle.std.specs.Prelude.{IfSome, MatchOption, slice_get}
 use Rattle.std.proofs.lemmas.Bool.{cases_eq}
-use Rattle.std.proofs.lemmas.List.{get_or-take, length-take}
+use Rattle.std.proofs.lemmas.List.{get_or-drop, get_or-take, length-take, length-take-le}
 use Rattle.std.proofs.lemmas.Option.{get_or_from_slice_get, slice_get-get_or, slice_get_read, slice_get_within}
 use Rattle.std.proofs.lemmas.Simd.{get_or-zip2, length-zip2}
 use Rattle.std.proofs.Math.Nat.{mul-le-mul_right}
@@ -76,6 +76,7 @@ module _ (p : PatternView) (placements : List PlacementView) (Says : List ℕ �
 pub record IsColumnRow (t : Table) (ps : List PlacementView) (row w : ℕ) (v : PlacementView) : Type 0 where
   pub get : slice_get ps row ≡ Some v
   pub of : (v.pattern ≡ t.pattern) × IsPlacement v
+  pub wide : w ≡ slot_count t.pattern
   pub at : row * w ≡ row * slot_count t.pattern
   pub fits : row * slot_count t.pattern + slot_count t.pattern ≤ 2048
 
@@ -83,7 +84,18 @@ pub row_is : {t : Table} {p : PatternView} {ps : List PlacementView} {row w : �
     → IsColumnRow t ps row w v
 row_is {t = t} {ps = ps} {row = row} {v = v} table of few same width low read =
     let get = slice_get_read ps (length ps) row v refl low read in
-    record { get = get; of = of row v get; at = ap (λ x. row * x) (width ∙ ap slot_count same); fits = row_fits t.pattern table.pattern row (omega arith) }
+    record { get = get; of = of row v get; wide = width ∙ ap slot_count same; at = ap (λ x. row * x) (width ∙ ap slot_count same); fits = row_fits t.pattern table.pattern row (omega arith) }
+
+-- the part of the column that the row's slots have
+module _ {t : Table} {ps : List PlacementView} {row w : ℕ} {v : PlacementView} (is : IsColumnRow t ps row w v) (column : List ℕ) where
+  pub part_size : length column ≡ 2048 → length (take (row * w + w - row * w) (drop (row * w) column)) ≡ slot_count t.pattern
+  part_size long =
+      length-take-le (row * w + w - row * w) (drop (row * w) column) (let d = length-drop (row * w) column in let at = is.at in let fits = is.fits in let e = is.wide in omega arith) ∙
+      (let e : row * w + w - row * w ≡ w = omega arith in e) ∙ is.wide
+
+  pub part_at : (j : ℕ) → j < slot_count t.pattern → get_or (take (row * w + w - row * w) (drop (row * w) column)) j 0 ≡ get_or column (row * slot_count t.pattern + j) 0
+  part_at j l =
+      get_or-take (row * w + w - row * w) (drop (row * w) column) j 0 (let e = is.wide in omega arith) ∙ get_or-drop (row * w) column j 0 ∙ ap (λ b. get_or column (b + j) 0) is.at
 
 module _ {t : Table} {ps : List PlacementView} {row w : ℕ} {v : PlacementView} (is : IsColumnRow t ps row w v) (index : ℕ) (mv : Move) where
   abbrev SaysTowards : List ℕ → ℕ → ℕ → Type 0

@@ -41,7 +41,8 @@ pub(crate) fn placements_from(
 pub(crate) fn kinds_of(masks: &[u32; MOST_ENTRIES], begin: u64, goal: u64) -> [u8; MOST_ENTRIES]
     requires { begin < 2 ^ 32 }
     ensures len { length result ≡ most_entries }
-    ensures each { (i : ℕ) → i < most_entries → IsKindByMask (slice_index masks.now i) (begin + i ≡ goal) (slice_index result i) }
+    ensures each { (i : ℕ) → i < most_entries
+        → IsKindByMask (slice_index masks.now i) (begin + i ≡ goal) (slice_index result i) }
 {
     let mut kinds = [WITHOUT_REGION; MOST_ENTRIES];
     for (i, mask) in masks.iter().enumerate() {

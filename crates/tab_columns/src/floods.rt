@@ -18,7 +18,9 @@ use tab_lanes::flood;
 pub(crate) fn masks_of(table: &TableView<'_>, placements: &[Placement]) -> [u32; MOST_ENTRIES]
     requires few { length placements.now ≤ block_ranks }
     requires placements { AreOf table.now.pattern placements.now }
-    ensures { EachSlot table.now.pattern placements.now (IsRegion table.now.pattern.side) (length placements.now) result }
+    ensures { EachSlot table.now.pattern placements.now
+        (IsRegion table.now.pattern.side)
+        (length placements.now) result }
 {
     let pattern = table.pattern();
     let width = usize::from(pattern.width());
@@ -54,7 +56,8 @@ fn first_regions(
     requires { AllMayGrow side rest.now free.now }
     ensures len { length result ≡ block_ranks }
     ensures each { (row : ℕ) → row < block_ranks
-        → IsFirstRegion side (slice_index free.now row) (slice_index rest.now row) (slice_index result row) }
+        → IsFirstRegion side
+        (slice_index free.now row) (slice_index rest.now row) (slice_index result row) }
 {
     let mut regions = [0; MOST_PLACEMENTS];
     for (row, mask) in rest.iter().enumerate() {
@@ -85,8 +88,10 @@ fn put_slot(
 )
     requires width { width ≤ 8 }
     requires slot { slot < width }
-    ensures here { (row : ℕ) → row < block_ranks → slice_index masks.new (row * width + slot) ≡ slice_index regions.now row }
-    ensures others { (row j : ℕ) → j < width → j ≢ slot → slice_index masks.new (row * width + j) ≡ slice_index masks.old (row * width + j) }
+    ensures here { (row : ℕ) → row < block_ranks
+        → slice_index masks.new (row * width + slot) ≡ slice_index regions.now row }
+    ensures others { (row j : ℕ) → j < width → j ≢ slot
+        → slice_index masks.new (row * width + j) ≡ slice_index masks.old (row * width + j) }
 {
     for (row, region) in regions.iter().enumerate() {
         masks[row * width + slot] = *region;
@@ -96,7 +101,8 @@ fn put_slot(
 /// Takes the cells of a region out of those that are left, for each placement.
 fn take_out(rest: &mut [u32; MOST_PLACEMENTS], regions: &[u32; MOST_PLACEMENTS])
     ensures { (row : ℕ) → row < block_ranks
-        → slice_index rest.new row ≡ bit_and (slice_index rest.old row) (2 ^ 32 - 1 - slice_index regions.now row) }
+        → slice_index rest.new row
+        ≡ bit_and (slice_index rest.old row) (2 ^ 32 - 1 - slice_index regions.now row) }
 {
     for (row, region) in regions.iter().enumerate() {
         rest[row] &= !*region;

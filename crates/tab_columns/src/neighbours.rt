@@ -1,7 +1,6 @@
 //! The entries one move of a pattern's tile away.
 
-ghost use Rattle.std.specs.Prelude.{◌≡◌, ℕ, ◌+◌, ◌*◌, ◌<◌, ◌≤◌, ◌≢◌, IfSome, MatchOption, length, slice_get, slice_index, slice_set, Some};
-ghost use Rattle.std.specs.Int.{bit_at};
+ghost use Rattle.std.specs.Prelude.{◌≡◌, ℕ, ◌+◌, ◌*◌, ◌<◌, ◌≤◌, IfSome, MatchOption, length, slice_get, slice_index, slice_set, Some};
 ghost use Rattle.puz_board.specs.Cells.{step_of};
 ghost use Rattle.puz_board.specs.declared.moves.Move.{Move};
 ghost use Rattle.pat_place.specs.Placements.{IsFree, IsPlacement};
@@ -12,8 +11,7 @@ ghost use Rattle.tab_rule.specs.LocalRule.{IsLeastNear, IsLeastOf};
 ghost use Rattle.tab_columns.specs.Moves.{IsEntryTowards, IsFoundTowards, IsRegion, IsTileIn, NoneTowards};
 
 use crate::columns::MOST_ENTRIES;
-use pat_place::{Placement, rank, slot_of};
-use puz_board::masks::has_cell;
+use pat_place::{Placement, find_region, rank, slot_of};
 use puz_board::{Move, Side, step};
 use tab_file::{NO_WAY_HOME, TableView};
 use tab_lanes::min_into;
@@ -30,7 +28,9 @@ pub(crate) fn least_near(
 ) -> [u8; MOST_ENTRIES]
     requires { AreColumnsOf table.now placements.now masks.now }
     ensures len { length result ≡ most_entries }
-    ensures each { EachSlot table.now.pattern placements.now (IsLeastNear table.now) (length placements.now) result }
+    ensures each { EachSlot table.now.pattern placements.now
+        (IsLeastNear table.now)
+        (length placements.now) result }
 {
     let mut least = [NO_WAY_HOME; MOST_ENTRIES];
     for index in 0..usize::from(table.pattern().size()) {
@@ -58,7 +58,9 @@ fn entries_towards(
     requires columns { AreColumnsOf table.now placements.now masks.now }
     requires index { index < length table.now.pattern.tiles }
     ensures len { length result ≡ most_entries }
-    ensures each { EachSlot table.now.pattern placements.now (λ cells j. IsLeastOf (IsEntryTowards table.now cells j index mv)) (length placements.now) result }
+    ensures each { EachSlot table.now.pattern placements.now
+        (λ cells j. IsLeastOf (IsEntryTowards table.now cells j index mv))
+        (length placements.now) result }
 {
     let pattern = table.pattern();
     let width = usize::from(pattern.width());
@@ -67,7 +69,8 @@ fn entries_towards(
     for (row, placement) in placements.iter().enumerate() {
         let begin = row * width;
         let to = beside[usize::from(placement.cell(index))];
-        let found = entry_after_step(table, placement, masks, begin, index, to);
+        let regions = &masks[begin..begin + width];
+        let found = entry_after_step(table, placement, regions, index, to);
         put_found(&mut entries, begin, found);
     }
     entries
@@ -88,7 +91,9 @@ fn cells_towards(side: Side, mv: Move) -> [Option<u8>; MOST_CELLS]
 #[inline]
 fn put_found(entries: &mut [u8; MOST_ENTRIES], begin: usize, found: Option<(usize, u8)>)
     requires { IfSome found (λ f. begin + f.0 < most_entries) }
-    ensures { MatchOption found (entries.new ≡ entries.old) (λ f. entries.new ≡ slice_set entries.old (begin + f.0) f.1) }
+    ensures { MatchOption found
+        (entries.new ≡ entries.old)
+        (λ f. entries.new ≡ slice_set entries.old (begin + f.0) f.1) }
 {
     if let Some((slot, entry)) = found {
         entries[begin + slot] = entry;
@@ -96,13 +101,12 @@ fn put_found(entries: &mut [u8; MOST_ENTRIES], begin: usize, found: Option<(usiz
 }
 
 /// The entry after a tile's move to the cell beside it in some direction, where the tile can move there, and the slot
-/// whose region it moves into. The masks of the placement's regions stand in the column from `begin` on.
+/// whose region it moves into. The regions are those of the placement's slots.
 #[inline]
 fn entry_after_step(
     table: &TableView<'_>,
     placement: &Placement,
-    masks: &[u32; MOST_ENTRIES],
-    begin: usize,
+    regions: &[u32],
     index: usize,
     to: Option<u8>,
 ) -> Option<(usize, u8)>
@@ -110,42 +114,29 @@ fn entry_after_step(
     requires pattern { placement.now.pattern ≡ table.now.pattern }
     requires placement { IsPlacement placement.now }
     requires index { index < length table.now.pattern.tiles }
-    requires within { begin + slot_count table.now.pattern ≤ most_entries }
-    requires masks { (j : ℕ) → j < slot_count table.now.pattern → IsRegion table.now.pattern.side placement.now.cells j (slice_index masks.now (begin + j)) }
+    requires size { length regions.now ≡ slot_count table.now.pattern }
+    requires regions { (j : ℕ) → j < slot_count table.now.pattern
+        → IsRegion table.now.pattern.side placement.now.cells j (slice_index regions.now j) }
     requires to { IfSome to (λ c. c < 32) }
-    ensures { (mv : Move) → to ≡ step_of table.now.pattern.side (slice_index placement.now.cells index) mv → MatchOption result
+    ensures { (mv : Move)
+        → to ≡ step_of table.now.pattern.side (slice_index placement.now.cells index) mv
+        → MatchOption result
         (NoneTowards table.now placement.now.cells index mv)
         (λ found. IsFoundTowards table.now placement.now.cells index mv found.0 found.1) }
 {
-    let width = usize::from(table.pattern().width());
     let cell = placement.cell(index);
     let to = to?;
-    let slot = slot_with(masks, begin, width, to)?;
+    let slot = find_region(regions, to)?;
     Some((slot, entry_after(table, placement, index, cell, to)))
-}
-
-/// The first of so many slots whose region has the cell. The masks of the regions stand in the column from `begin` on.
-#[inline]
-fn slot_with(masks: &[u32; MOST_ENTRIES], begin: usize, width: usize, cell: u8) -> Option<usize>
-    requires within { begin + width ≤ most_entries }
-    requires cell { cell < 32 }
-    ensures { MatchOption result
-        ((j : ℕ) → j < width → bit_at (slice_index masks.now (begin + j)) cell ≢ 1)
-        (λ slot. (slot < width) × (bit_at (slice_index masks.now (begin + slot)) cell ≡ 1)) }
-{
-    for slot in 0..width {
-        if has_cell(masks[begin + slot], cell) {
-            return Some(slot);
-        }
-    }
-    None
 }
 
 /// The entry of the placement with a tile moved to a free cell, and of the region that has the cell which the tile left.
 fn entry_after(table: &TableView<'_>, placement: &Placement, index: usize, cell: u8, to: u8) -> u8
     requires tile { IsTileIn table.now placement.now index cell }
     requires free { IsFree placement.now.pattern.side placement.now.cells to }
-    ensures { IsEntryAt table.now (slice_set placement.now.cells index to) (slice_index placement.now.cells index) result }
+    ensures { IsEntryAt table.now
+        (slice_set placement.now.cells index to)
+        (slice_index placement.now.cells index) result }
 {
     let moved = placement.moved(index, to);
     let slot = slot_of(&moved, cell);

@@ -40,7 +40,8 @@ pub fn header_of(pattern: &Pattern) -> [u8; HEADER_LEN]
     ensures file { (entries : List ℕ) → length entries ≡ entry_count pattern.now
         → IsTableFile (record { pattern = pattern.now; entries = entries }) (result ++ entries) }
     ensures viewed { (entries : List ℕ) → length entries ≡ entry_count pattern.now
-        → table_of_file (result ++ entries) ≡ Ok (record { pattern = pattern.now; entries = entries }) }
+        → table_of_file (result ++ entries)
+        ≡ Ok (record { pattern = pattern.now; entries = entries }) }
 {
     let mut header = [0; HEADER_LEN];
     header[..5].copy_from_slice(SIGNATURE);

@@ -71,7 +71,8 @@ fn greatest_by_lanes<const N: usize>(bytes: &[u8], from: usize, before: u8) -> (
 /// The greatest of the bytes, and 0 of none.
 fn greatest_of(bytes: &[u8]) -> u8
     ensures bound { (i : ℕ) → i < length bytes.now → slice_index bytes.now i ≤ result }
-    ensures reached { (result ≡ 0) ⊎ ((i : ℕ) × (i < length bytes.now) × (slice_index bytes.now i ≡ result)) }
+    ensures reached { (result ≡ 0)
+        ⊎ ((i : ℕ) × (i < length bytes.now) × (slice_index bytes.now i ≡ result)) }
 {
     let mut greatest = 0;
     for byte in bytes {

@@ -120,7 +120,8 @@ fn grown<const N: usize>(
 ) -> Simd<u32, N>
     requires few { N ≤ 64 }
     requires masks { AllMayGrow side masks free }
-    requires entered { (i : ℕ) → i < N → AreEntered side (slice_index free i) (slice_index right i) (slice_index left i) }
+    requires entered { (i : ℕ) → i < N
+        → AreEntered side (slice_index free i) (slice_index right i) (slice_index left i) }
     ensures { AreGrown (IsAStepAway side) masks.entry free.entry result }
 {
     let row = Simd::splat(u32::from(side.get()));

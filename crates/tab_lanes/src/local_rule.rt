@@ -25,7 +25,9 @@ pub const OTHER_SLOT: u8 = 2;
 pub fn first_bad(entries: &[u8], mins: &[u8], kinds: &[u8]) -> Option<usize>
     requires mins { length mins.now ≡ length entries.now }
     requires kinds { length kinds.now ≡ length entries.now }
-    ensures { MatchOption result (AllPlacesKeepRule entries.now mins.now kinds.now) (IsFirstBreach entries.now mins.now kinds.now) }
+    ensures { MatchOption result
+        (AllPlacesKeepRule entries.now mins.now kinds.now)
+        (IsFirstBreach entries.now mins.now kinds.now) }
 {
     let place = kept_by_lanes::<LANES>(entries, mins, kinds, 0);
     let place = kept_by_lanes::<FEW>(entries, mins, kinds, place);
@@ -46,7 +48,9 @@ fn kept_by_lanes<const N: usize>(entries: &[u8], mins: &[u8], kinds: &[u8], from
     requires from { from ≤ length entries.now }
     ensures kept { KeepRuleBetween entries.now mins.now kinds.now from result }
     ensures most { result ≤ length entries.now }
-    ensures stopped { ((result < length entries.now) × ¬ KeepsRuleAt entries.now mins.now kinds.now result) ⊎ (length entries.now < result + N) }
+    ensures stopped { ((result < length entries.now)
+        × ¬ KeepsRuleAt entries.now mins.now kinds.now result)
+        ⊎ (length entries.now < result + N) }
 {
     let mut at = from;
     'lanes: while entries.len() - at >= N {
@@ -68,8 +72,10 @@ fn kept_by_lanes<const N: usize>(entries: &[u8], mins: &[u8], kinds: &[u8], from
 fn bad_lanes<const N: usize>(entries: Simd<u8, N>, mins: Simd<u8, N>, kinds: Simd<u8, N>) -> u64
     requires few { N ≤ 64 }
     ensures fits { result < 2 ^ N }
-    ensures kept { (i : ℕ) → i < N → bit_at result i ≡ 0 → KeepsRuleAt entries.entry mins.entry kinds.entry i }
-    ensures broken { (i : ℕ) → i < N → bit_at result i ≡ 1 → ¬ KeepsRuleAt entries.entry mins.entry kinds.entry i }
+    ensures kept { (i : ℕ) → i < N → bit_at result i ≡ 0
+        → KeepsRuleAt entries.entry mins.entry kinds.entry i }
+    ensures broken { (i : ℕ) → i < N → bit_at result i ≡ 1
+        → ¬ KeepsRuleAt entries.entry mins.entry kinds.entry i }
 {
     let no_region = kinds.simd_eq(Simd::splat(WITHOUT_REGION))
         & entries.simd_eq(Simd::splat(NO_REGION));

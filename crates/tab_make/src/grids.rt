@@ -1,5 +1,7 @@
 //! The board of a pattern as masks of cells, and how far apart its placements are in a table.
 
+ghost use Rattle.std.specs.Prelude.{◌<◌};
+
 use crate::entries::MOST_TILES;
 use pat_place::Pattern;
 use puz_board::masks::{all_below, first_column, last_column};
@@ -26,6 +28,7 @@ pub(crate) struct Grid {
     right: u32,
     /// The cells outside the last column: those that a step to the left enters.
     left: u32,
+    ghost some: { 0 < run },
 }
 
 impl Grid {
@@ -39,7 +42,7 @@ impl Grid {
             side: side.get(),
             size: pattern.size(),
             width: usize::from(width),
-            run: run * usize::from(width),
+            run: (run * usize::from(width)).max(1),
             all,
             weights: weights(pattern, width),
             right: all & !first_column(side),

@@ -33,7 +33,8 @@ pub fn layer(
             |piece: usize| -> Result<Vec<u32>, AllocError>
                 requires { (length entries.now < 2 ^ 32) × (piece * PIECE ≤ length entries.now) }
                 ensures { IfOk result (λ numbers. numbers.items
-                    ≡ layer_from d entries.entry.now (piece * PIECE) (min PIECE (length entries.entry.now - piece * PIECE))) }
+                    ≡ layer_from d entries.entry.now (piece * PIECE)
+                    (min PIECE (length entries.entry.now - piece * PIECE))) }
             { layer_of_piece(alloc, entries, d, piece * PIECE) },
         )
         .collect::<Result<Vec<Vec<u32>>, AllocError>>(rt, alloc)??;
@@ -55,7 +56,8 @@ fn joined(alloc: Global, lists: &[Vec<u32>]) -> Result<Vec<u32>, AllocError>
 fn layer_of_piece(alloc: Global, entries: &[u8], d: u8, from: usize) -> Result<Vec<u32>, AllocError>
     requires few { length entries.now < 2 ^ 32 }
     requires from { from ≤ length entries.now }
-    ensures { IfOk result (λ numbers. numbers.items ≡ layer_from d entries.now from (min PIECE (length entries.now - from))) }
+    ensures { IfOk result (λ numbers. numbers.items
+        ≡ layer_from d entries.now from (min PIECE (length entries.now - from))) }
 {
     let end = entries.len().min(from + PIECE);
     let mut numbers = Vec::new(alloc);
@@ -81,7 +83,8 @@ fn add_layer(
     requires few { length entries.now < 2 ^ 32 }
     requires from { from ≤ end }
     requires end { end ≤ length entries.now }
-    ensures { IfOk result (λ _. numbers.new.items ≡ numbers.old.items ++ layer_from d entries.now from (end - from)) }
+    ensures { IfOk result (λ _. numbers.new.items
+        ≡ numbers.old.items ++ layer_from d entries.now from (end - from)) }
 {
     for number in from..end {
         if entries[number] == d {

@@ -56,26 +56,16 @@ fn fill_entries<R: Threads + Sync>(
     counts: &Counts,
     entries: &mut [u8],
 ) {
-    let run = grid.run.max(1);
-    par_chunks_mut_for_each(rt, entries, run.saturating_mul(RUNS), |start, runs| {
-        fill_runs(grid, shapes, counts, start, run, runs)
+    par_chunks_mut_for_each(rt, entries, grid.run.saturating_mul(RUNS), |start, runs| {
+        fill_runs(grid, shapes, counts, start, runs)
     });
 }
 
 /// Fills in the entries of the runs from an entry on.
-fn fill_runs(
-    grid: &Grid,
-    shapes: &Shapes,
-    counts: &Counts,
-    start: usize,
-    run: usize,
-    runs: &mut [u8],
-)
-    requires { 0 < run }
-{
+fn fill_runs(grid: &Grid, shapes: &Shapes, counts: &Counts, start: usize, runs: &mut [u8]) {
     let mut walk = Walk::new(grid);
-    for (index, entries) in runs.chunks_mut(run).enumerate() {
-        let Ok(number) = u32::try_from(start.wrapping_add(index.wrapping_mul(run))) else {
+    for (index, entries) in runs.chunks_mut(grid.run).enumerate() {
+        let Ok(number) = u32::try_from(start.wrapping_add(index.wrapping_mul(grid.run))) else {
             return;
         };
         walk.go_to(number);

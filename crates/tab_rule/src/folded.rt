@@ -112,7 +112,8 @@ impl FoldedTable {
     /// As `look`, of the board whose numbers were found in these cells.
     pub fn look_in(&self, found: &[u8; 25]) -> Count
         requires { (board : List ℕ) × IsBoardOf self.now.side board × AreCellsOf found.now board }
-        ensures count { (board : List ℕ) → IsBoardOf self.now.side board → AreCellsOf found.now board
+        ensures count { (board : List ℕ) → IsBoardOf self.now.side board
+            → AreCellsOf found.now board
             → IsFoldedCountOf self.now.tiles board result }
         ensures few { (d : ℕ) → result ≡ Finite d → d ≤ greatest_count }
     {

@@ -112,8 +112,10 @@ impl<'a> CheckedTable<'a> {
 
     /// As `look`, of the board whose numbers were found in these cells.
     pub fn look_in(&self, found: &[u8; 25]) -> Count
-        requires { (board : List ℕ) × IsBoardOf self.now.pattern.side board × AreCellsOf found.now board }
-        ensures count { (board : List ℕ) → IsBoardOf self.now.pattern.side board → AreCellsOf found.now board
+        requires { (board : List ℕ)
+            × IsBoardOf self.now.pattern.side board × AreCellsOf found.now board }
+        ensures count { (board : List ℕ) → IsBoardOf self.now.pattern.side board
+            → AreCellsOf found.now board
             → IsCountOf self.now.pattern.tiles board result }
         ensures few { (d : ℕ) → result ≡ Finite d → d ≤ greatest_count }
     {
@@ -125,9 +127,10 @@ impl<'a> CheckedTable<'a> {
     /// The slot of the blank in the cell that was found for it. It takes no flood where the slots are kept.
     #[inline]
     fn slot_found(&self, standing: Standing, found: &[u8; 25]) -> u8
-        requires placement { IsPlacement
-            (record { pattern = self.now.pattern; cells = cells_found self.now.pattern.tiles found.now }) }
-        requires rank { IsRank self.now.pattern.side (cells_found self.now.pattern.tiles found.now) standing.rank }
+        requires placement { let cells = cells_found self.now.pattern.tiles found.now in
+            IsPlacement (record { pattern = self.now.pattern; cells = cells }) }
+        requires rank { let cells = cells_found self.now.pattern.tiles found.now in
+            IsRank self.now.pattern.side cells standing.rank }
         requires occupied { IsMaskOf standing.occupied
             (λ c. has (cells_found self.now.pattern.tiles found.now) c ≡ true) }
         requires free { IsFree self.now.pattern.side (cells_found self.now.pattern.tiles found.now)
@@ -175,9 +178,11 @@ impl<'a> CheckedTable<'a> {
     #[inline]
     fn kept_slot(&self, occupied: u32, cell: u8) -> Option<u8>
         requires { cell < self.now.pattern.side * self.now.pattern.side }
-        ensures { (cells : List ℕ) → IsPlacement (record { pattern = self.now.pattern; cells = cells })
+        ensures { (cells : List ℕ)
+            → IsPlacement (record { pattern = self.now.pattern; cells = cells })
             → IsMaskOf occupied (λ c. has cells c ≡ true) → IsFree self.now.pattern.side cells cell
-            → IfSome result (λ slot. IsSlot self.now.pattern.side cells cell slot × (slot < slot_count self.now.pattern)) }
+            → IfSome result (λ slot. IsSlot self.now.pattern.side cells cell slot
+            × (slot < slot_count self.now.pattern)) }
     {
         let _pattern = self.pattern();
         self.slots.as_ref()?.slot_in(occupied, cell)

@@ -4,21 +4,28 @@ use Rattle.puz_board.specs.Masks.{IsMaskOf}
 use Rattle.pat_place.specs.Patterns.{has}
 use Rattle.tab_rule.specs.Entries.{IsGoalNumber}
 use Rattle.tab_file.specs.Tables.{Table, placement_count, slot_count}
+use Rattle.tab_runs.specs.declared.runs.LastTile.{LastTile}
 use Rattle.tab_runs.specs.declared.runs.Run.{Run}
 use Rattle.tab_runs.specs.declared.runs.RunCells.{RunCells}
 use Rattle.tab_runs.specs.declared.runs.RunKinds.{RunKinds}
 use Rattle.tab_runs.specs.Kinds.{TellRegions}
 use Rattle.tab_runs.specs.Parts.{IsBeforeRun}
-use Rattle.tab_runs.specs.RunPlaces.{AreRunEntries, IsFirstRank, IsRun, run_length}
-use Rattle.tab_runs.specs.RowTables.{AreRowsOf}
+use Rattle.tab_runs.specs.RunPlaces.{AreFreeBelow, AreRunEntries, IsFirstRank, IsRun, run_length}
+use Rattle.tab_runs.specs.RowTables.{AreRowsOf, rows_for}
 
 -- the run is one of the table, and what is kept with it is that of its cells
 pub record IsRunOf (t : Table) (r : Run) : Type 0 where
   pub run : IsRun t.pattern r.cells.now
   pub bits : r.set < 2 ^ 32
   pub set : IsMaskOf r.set (λ c. has r.cells.now c ≡ true)
+  pub row_table : r.row_table.now ≡ rows_for t.pattern
   pub rows : AreRowsOf t.pattern.side (length t.pattern.tiles) r.set r.rows.now
   pub own : AreRunEntries t r.cells.now r.own.now
+
+-- the last tile of such a run, and how many free cells are below each cell
+pub record IsLastTileOf (t : Table) (l : LastTile) : Type 0 where
+  pub run : IsRunOf t l.run
+  pub below : AreFreeBelow l.run.cells.now (t.pattern.side * t.pattern.side) l.below
 
 -- the cells are those of a run of the table, with their set and the rank of the run's first placement
 pub record AreCellsOfRun (t : Table) (r : RunCells) : Type 0 where

@@ -1,9 +1,10 @@
 -- How the rows of all cells for one set of cells are filled, and what is kept of its slots.
 use Rattle.std.specs.Prelude.{◌≡◌, ◌≢◌, ℕ, ◌+◌, ◌-◌, ◌*◌, ◌<◌, ◌≤◌, ◌⊎◌, List, ltb, length, slice_index}
 use Rattle.std.specs.Int.{bit_at, from_bool}
-use Rattle.pat_place.specs.Patterns.{width}
+use Rattle.pat_place.specs.Patterns.{PatternView, width}
 use Rattle.pat_place.specs.Placements.{IsFree}
 use Rattle.pat_place.specs.Regions.{IsSlot}
+use Rattle.tab_file.specs.Tables.{slot_count}
 use Rattle.tab_lanes.specs.LocalRule.{other_slot}
 use Rattle.tab_runs.specs.Kinds.{TellsRegion}
 use Rattle.tab_runs.specs.Rows.{IsOpen, listed_below, place_in_run, row_length}
@@ -33,6 +34,10 @@ pub record AreRowsUpTo (n k : ℕ) (p : List ℕ) (count : ℕ) (block : List �
   pub filled : (x c j : ℕ) → c < count → IsOpen n p x c → IsSlot n (with_last p c) x j →
       slice_index block (x * row_length n k + listed_below p x c) ≡ place_in_run (width n k) p c j
 
+-- the same for all cells, of a run of the pattern
+abbrev pub AreRowsOfRun : PatternView → List ℕ → List ℕ → Type 0
+AreRowsOfRun p cells block = AreRowsUpTo p.side (length p.tiles) cells (p.side * p.side) block
+
 -- ---- which slots have a region
 
 -- the bytes from one place on are those of slots with a region, and the others are as they were
@@ -45,3 +50,7 @@ pub record AreMarked (at count : ℕ) (old new : List ℕ) : Type 0 where
 pub record AreKindsUpTo (n w : ℕ) (p : List ℕ) (count : ℕ) (kinds : List ℕ) : Type 0 where
   pub filled : (c j : ℕ) → c < count → IsFree n p c → j < w → TellsRegion n (with_last p c) j (slice_index kinds (free_below p c * w + j))
   pub empty : (c j : ℕ) → ¬ (c < count) → IsFree n p c → j < w → slice_index kinds (free_below p c * w + j) ≡ 0
+
+-- the same for all cells, of a run of the pattern
+abbrev pub AreKindsOfRun : PatternView → List ℕ → List ℕ → Type 0
+AreKindsOfRun p cells kinds = AreKindsUpTo p.side (slot_count p) cells (p.side * p.side) kinds

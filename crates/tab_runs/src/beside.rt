@@ -12,7 +12,8 @@ use puz_board::{Move, Side, masks, step};
 #[inline]
 fn with_step(mask: u32, side: Side, cell: u8, mv: Move) -> u32
     requires { cell < side * side }
-    ensures { (x : ℕ) → (bit_at result x ≡ 1) ↔ ((bit_at mask x ≡ 1) ⊎ (step_of side cell mv ≡ Some x)) }
+    ensures { (x : ℕ) → (bit_at result x ≡ 1)
+        ↔ ((bit_at mask x ≡ 1) ⊎ (step_of side cell mv ≡ Some x)) }
 {
     match step(side, cell, mv) {
         Some(to) => masks::with(mask, to),

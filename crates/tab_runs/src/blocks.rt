@@ -66,8 +66,9 @@ fn last_of_run(pattern: &Pattern, placement: &Placement) -> Placement
     requires placement { IsPlacement placement.now }
     ensures pattern { result.pattern ≡ pattern.now }
     ensures placement { IsPlacement result }
-    ensures rank { (r : ℕ) → IsRank pattern.now.side placement.now.cells r → IsRank pattern.now.side result.cells
-        (r - r % (pattern.now.side * pattern.now.side + 1 - length pattern.now.tiles) + (pattern.now.side * pattern.now.side - length pattern.now.tiles)) }
+    ensures rank { let p = pattern.now in (r : ℕ) → IsRank p.side placement.now.cells r
+        → IsRank p.side result.cells
+        (r - r % (p.side * p.side + 1 - length p.tiles) + (p.side * p.side - length p.tiles)) }
 {
     let count = pattern.side().cells();
     let index = usize::from(pattern.size()) - 1;
@@ -96,11 +97,13 @@ fn check_run(
     requires rank { IsRank table.now.pattern.side placement.now.cells ranks.start }
     requires some { ranks.start < ranks.end }
     requires count { ranks.end ≤ placement_count table.now.pattern }
-    requires run { ranks.end ≤ ranks.start - ranks.start % (table.now.pattern.side * table.now.pattern.side + 1 - length table.now.pattern.tiles)
-        + (table.now.pattern.side * table.now.pattern.side + 1 - length table.now.pattern.tiles) }
-    ensures { IfOk result (λ found. MatchOption found
-        (EntriesKeepRule table.now (ranks.start * slot_count table.now.pattern) (ranks.end * slot_count table.now.pattern))
-        (IsFirstBadEntry table.now (ranks.start * slot_count table.now.pattern) (ranks.end * slot_count table.now.pattern))) }
+    requires run { let p = table.now.pattern in let count = p.side * p.side + 1 - length p.tiles in
+        ranks.end ≤ ranks.start - ranks.start % count + count }
+    ensures { let low = ranks.start * slot_count table.now.pattern in
+        let high = ranks.end * slot_count table.now.pattern in
+        IfOk result (λ found. MatchOption found
+        (EntriesKeepRule table.now low high)
+        (IsFirstBadEntry table.now low high)) }
 {
     let pattern = table.pattern();
     let placed = placement.cells();
@@ -128,9 +131,11 @@ fn check_part(
     requires goal { IsGoalNumber table.now.pattern goal }
     requires run_cells { AreCellsOfRun table.now run_cells.now }
     requires ranks { AreRanksOf table.now run_cells.now ranks.start ranks.end }
-    ensures { IfOk result (λ found. MatchOption found
-        (EntriesKeepRule table.now (ranks.start * slot_count table.now.pattern) (ranks.end * slot_count table.now.pattern))
-        (IsFirstBadEntry table.now (ranks.start * slot_count table.now.pattern) (ranks.end * slot_count table.now.pattern))) }
+    ensures { let low = ranks.start * slot_count table.now.pattern in
+        let high = ranks.end * slot_count table.now.pattern in
+        IfOk result (λ found. MatchOption found
+        (EntriesKeepRule table.now low high)
+        (IsFirstBadEntry table.now low high)) }
 {
     let RunCells { cells, set, first } = *run_cells;
     let Some(kept) = rows.of_set(set) else {
@@ -139,10 +144,11 @@ fn check_part(
     let run = Run {
         cells,
         set,
+        row_table: rows,
         rows: kept.rows,
         own: run_entries(table, cells),
     };
-    let Some(mins) = least_near(table, rows, &run) else {
+    let Some(mins) = least_near(table, &run) else {
         return Err(MissingRow);
     };
     let width = u64::from(table.pattern().width());
@@ -190,7 +196,8 @@ fn with_goal(told: &[u8], goal: usize) -> [u8; BYTE_PLACES]
     requires few { length told.now ≤ most_run_entries }
     requires goal { goal < length told.now }
     ensures goal { slice_index result goal ≡ goal_slot }
-    ensures others { (place : ℕ) → place < length told.now → place ≢ goal → slice_index result place ≡ slice_index told.now place }
+    ensures others { (place : ℕ) → place < length told.now → place ≢ goal
+        → slice_index result place ≡ slice_index told.now place }
 {
     let mut kinds = [WITHOUT_REGION; BYTE_PLACES];
     for (place, kind) in told.iter().enumerate() {

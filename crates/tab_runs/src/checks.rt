@@ -23,7 +23,8 @@ pub(crate) fn first_bad(
     requires run { IsRunOf table.now run.now }
     requires mins { AreLeastNear table.now run.now.cells.now mins.now }
     requires kinds { AreKinds table.now run.now.cells.now kinds.now }
-    requires room { run_length table.now.pattern.side run.now.cells.now * slot_count table.now.pattern ≤ length kinds.now }
+    requires room { run_length table.now.pattern.side run.now.cells.now
+        * slot_count table.now.pattern ≤ length kinds.now }
     requires places { ArePlacesOf table.now run.now.cells.now places.start places.end }
     ensures { MatchOption result
         (RunKeepsRule table.now run.now.cells.now places.start places.end)

@@ -7,13 +7,11 @@ ghost use Rattle.puz_board.specs.Masks.{IsMaskOf};
 ghost use Rattle.pat_place.specs.Patterns.{has};
 ghost use Rattle.pat_place.specs.Placements.{IsFree};
 ghost use Rattle.tab_runs.specs.RunPlaces.{AreFreeBelow};
-ghost use Rattle.tab_runs.specs.RunsOfTables.{IsRunOf};
-ghost use Rattle.tab_runs.specs.RowTables.{rows_for};
+ghost use Rattle.tab_runs.specs.RunsOfTables.{IsLastTileOf, IsRunOf};
 ghost use Rattle.tab_runs.specs.Steps.{AreLeastNear, IsBesideStep, IsIndexStep, IsPairStep, IsSomeLastStep, IsStepAmong, IsTakenIn, IsTileStep};
 
 use crate::kernels::{take_in, take_one};
-use crate::rows::RowTable;
-use crate::runs::{BYTE_PLACES, Run, run_entries};
+use crate::runs::{BYTE_PLACES, LastTile, Run, run_entries};
 use puz_board::masks;
 use tab_file::{NO_WAY_HOME, TableView};
 
@@ -36,19 +34,19 @@ fn with_moved(cells: &[u8], index: usize, to: u8) -> [u8; 8]
 #[inline]
 fn take_tile(
     table: &TableView<'_>,
-    rows: &RowTable,
     run: &Run<'_>,
     index: usize,
     to: u8,
     mins: &mut [u8; BYTE_PLACES],
 ) -> bool
-    requires rows { rows.now ≡ rows_for table.now.pattern }
     requires run { IsRunOf table.now run.now }
     requires index { index < length run.now.cells.now }
     requires free { IsFree table.now.pattern.side run.now.cells.now to }
-    ensures { OnTrue result (IsTakenIn mins.old mins.new (IsTileStep table.now run.now.cells.now index to)) }
+    ensures { OnTrue result
+        (IsTakenIn mins.old mins.new (IsTileStep table.now run.now.cells.now index to)) }
 {
     let _pattern = table.pattern();
+    let rows = run.row_table;
     let from = run.cells[index];
     let Some(kept) = rows.of_set(masks::with(masks::without(run.set, from), to)) else {
         return false;
@@ -64,21 +62,20 @@ fn take_tile(
 /// Takes in all moves of one tile. Where a set is not kept it answers false.
 fn take_index(
     table: &TableView<'_>,
-    rows: &RowTable,
     run: &Run<'_>,
     index: usize,
     mins: &mut [u8; BYTE_PLACES],
 ) -> bool
-    requires rows { rows.now ≡ rows_for table.now.pattern }
     requires run { IsRunOf table.now run.now }
     requires index { index < length run.now.cells.now }
-    ensures { OnTrue result (IsTakenIn mins.old mins.new (IsIndexStep table.now run.now.cells.now index)) }
+    ensures { OnTrue result
+        (IsTakenIn mins.old mins.new (IsIndexStep table.now run.now.cells.now index)) }
 {
     let _pattern = table.pattern();
-    let mut targets = rows.beside(run.cells[index]) & !run.set;
+    let mut targets = run.row_table.beside(run.cells[index]) & !run.set;
     'targets: while targets != 0 {
         let to = masks::first_of(targets);
-        if !take_tile(table, rows, run, index, to, mins) {
+        if !take_tile(table, run, index, to, mins) {
             return false;
         }
         targets = masks::without(targets, to);
@@ -87,18 +84,13 @@ fn take_index(
 }
 
 /// Takes in all moves of all tiles but the last. Where a set is not kept it answers false.
-fn take_tiles(
-    table: &TableView<'_>,
-    rows: &RowTable,
-    run: &Run<'_>,
-    mins: &mut [u8; BYTE_PLACES],
-) -> bool
-    requires rows { rows.now ≡ rows_for table.now.pattern }
+fn take_tiles(table: &TableView<'_>, run: &Run<'_>, mins: &mut [u8; BYTE_PLACES]) -> bool
     requires run { IsRunOf table.now run.now }
-    ensures { OnTrue result (IsTakenIn mins.old mins.new (IsStepAmong table.now run.now.cells.now (length run.now.cells.now))) }
+    ensures { let cells = run.now.cells.now in OnTrue result
+        (IsTakenIn mins.old mins.new (IsStepAmong table.now cells (length cells))) }
 {
     for index in 0..run.cells.len() {
-        if !take_index(table, rows, run, index, mins) {
+        if !take_index(table, run, index, mins) {
             return false;
         }
     }
@@ -124,29 +116,20 @@ fn free_below_each(run: &Run<'_>, count: u8) -> [u8; 25]
 
 /// Takes in the last tile's moves between two free cells, the lower one first.
 #[inline]
-fn take_pair(
-    table: &TableView<'_>,
-    rows: &RowTable,
-    run: &Run<'_>,
-    below: &[u8; 25],
-    a: u8,
-    b: u8,
-    mins: &mut [u8; BYTE_PLACES],
-)
-    requires rows { rows.now ≡ rows_for table.now.pattern }
-    requires run { IsRunOf table.now run.now }
-    requires below { AreFreeBelow run.now.cells.now (table.now.pattern.side * table.now.pattern.side) below.now }
-    requires free_a { IsFree table.now.pattern.side run.now.cells.now a }
-    requires free_b { IsFree table.now.pattern.side run.now.cells.now b }
+fn take_pair(table: &TableView<'_>, last: &LastTile<'_>, a: u8, b: u8, mins: &mut [u8; BYTE_PLACES])
+    requires last { IsLastTileOf table.now last.now }
+    requires free_a { IsFree table.now.pattern.side last.now.run.cells.now a }
+    requires free_b { IsFree table.now.pattern.side last.now.run.cells.now b }
     requires order { a < b }
-    ensures { IsTakenIn mins.old mins.new (IsPairStep table.now run.now.cells.now a b) }
+    ensures { IsTakenIn mins.old mins.new (IsPairStep table.now last.now.run.cells.now a b) }
 {
     let _pattern = table.pattern();
+    let run = last.run;
     let own = run.own;
-    let row_a = rows.row_in(run.rows, a);
-    let row_b = rows.row_in(run.rows, b);
-    let index_a = below[usize::from(a)];
-    let index_b = below[usize::from(b)] - 1;
+    let row_a = run.row_table.row_in(run.rows, a);
+    let row_b = run.row_table.row_in(run.rows, b);
+    let index_a = last.below[usize::from(a)];
+    let index_b = last.below[usize::from(b)] - 1;
     let in_a = row_b[usize::from(index_a)];
     let in_b = row_a[usize::from(index_b)];
     take_one(mins, in_a, own[usize::from(in_b)]);
@@ -157,61 +140,54 @@ fn take_pair(
 #[inline]
 fn take_beside(
     table: &TableView<'_>,
-    rows: &RowTable,
-    run: &Run<'_>,
-    below: &[u8; 25],
+    last: &LastTile<'_>,
     a: u8,
     mask: u32,
     mins: &mut [u8; BYTE_PLACES],
 )
-    requires rows { rows.now ≡ rows_for table.now.pattern }
-    requires run { IsRunOf table.now run.now }
-    requires below { AreFreeBelow run.now.cells.now (table.now.pattern.side * table.now.pattern.side) below.now }
-    requires free_a { IsFree table.now.pattern.side run.now.cells.now a }
-    requires others { (x : ℕ) → bit_at mask x ≡ 1 → IsFree table.now.pattern.side run.now.cells.now x × (a < x) }
-    ensures { IsTakenIn mins.old mins.new (IsBesideStep table.now run.now.cells.now a mask 0) }
+    requires last { IsLastTileOf table.now last.now }
+    requires free_a { IsFree table.now.pattern.side last.now.run.cells.now a }
+    requires others { (x : ℕ) → bit_at mask x ≡ 1
+        → IsFree table.now.pattern.side last.now.run.cells.now x × (a < x) }
+    ensures { let cells = last.now.run.cells.now in
+        IsTakenIn mins.old mins.new (IsBesideStep table.now cells a mask 0) }
 {
     let _pattern = table.pattern();
-    let mut targets = rows.beside(a) & mask;
+    let mut targets = last.run.row_table.beside(a) & mask;
     'targets: while targets != 0 {
         let b = masks::first_of(targets);
-        take_pair(table, rows, run, below, a, b, mins);
+        take_pair(table, last, a, b, mins);
         targets = masks::without(targets, b);
     }
 }
 
 /// Takes in all moves of the last tile.
-fn take_lasts(table: &TableView<'_>, rows: &RowTable, run: &Run<'_>, mins: &mut [u8; BYTE_PLACES])
-    requires rows { rows.now ≡ rows_for table.now.pattern }
+fn take_lasts(table: &TableView<'_>, run: &Run<'_>, mins: &mut [u8; BYTE_PLACES])
     requires run { IsRunOf table.now run.now }
     ensures { IsTakenIn mins.old mins.new (IsSomeLastStep table.now run.now.cells.now) }
 {
     let count = table.pattern().side().cells();
     let below = free_below_each(run, count);
+    let last = LastTile { run: *run, below };
     let mut left = masks::all_below(count) & !run.set;
     'left: while left != 0 {
         let a = masks::first_of(left);
         left = masks::without(left, a);
-        take_beside(table, rows, run, &below, a, left, mins);
+        take_beside(table, &last, a, left, mins);
     }
 }
 
 /// The least entries one move away from the placements of a run, at the places of their slots. Where a set is not kept
 /// there is no answer.
-pub(crate) fn least_near(
-    table: &TableView<'_>,
-    rows: &RowTable,
-    run: &Run<'_>,
-) -> Option<[u8; BYTE_PLACES]>
-    requires rows { rows.now ≡ rows_for table.now.pattern }
+pub(crate) fn least_near(table: &TableView<'_>, run: &Run<'_>) -> Option<[u8; BYTE_PLACES]>
     requires run { IsRunOf table.now run.now }
     ensures { IfSome result (λ mins. AreLeastNear table.now run.now.cells.now mins) }
 {
     let _pattern = table.pattern();
     let mut mins = [NO_WAY_HOME; BYTE_PLACES];
-    if !take_tiles(table, rows, run, &mut mins) {
+    if !take_tiles(table, run, &mut mins) {
         return None;
     }
-    take_lasts(table, rows, run, &mut mins);
+    take_lasts(table, run, &mut mins);
     Some(mins)
 }

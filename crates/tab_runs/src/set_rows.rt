@@ -4,11 +4,11 @@ ghost use Rattle.std.specs.Prelude.{◌≡◌, ℕ, ◌+◌, ◌*◌, ◌^◌, �
 ghost use Rattle.puz_board.specs.Masks.{IsMaskOf};
 ghost use Rattle.pat_place.specs.Patterns.{has};
 ghost use Rattle.tab_file.specs.Tables.{slot_count};
-ghost use Rattle.tab_runs.specs.SetRows.{AreKindsUpTo, AreMarked, AreRowsUpTo, IsColumn, IsInSome, listed_of};
+ghost use Rattle.tab_runs.specs.SetRows.{AreKindsOfRun, AreKindsUpTo, AreMarked, AreRowsOfRun, IsColumn, IsInSome, listed_of};
 ghost use Rattle.tab_runs.specs.RunPlaces.{IsRun, run_length};
 ghost use Rattle.tab_runs.specs.Rows.{row_length};
-ghost use Rattle.tab_runs.specs.StoredRows.{AreAllKinds, AreAllRows};
-ghost use Rattle.tab_runs.specs.RowTables.{entries_of_run};
+ghost use Rattle.tab_runs.specs.StoredRows.{AreKeptSets};
+ghost use Rattle.tab_runs.specs.RowTables.{entries_of_run, rows_for};
 
 use arrayvec::ArrayVec;
 use pat_place::{Pattern, find_region, next, put_numbers, rank_among, regions, unrank};
@@ -16,29 +16,33 @@ use puz_board::masks;
 use std::alloc::{AllocError, Global};
 use tab_lanes::OTHER_SLOT;
 
-/// Fills in where the regions of one placement stand, with the last tile in cell `last` and `free` free cells below it:
-/// `before`, and the number of the region.
-fn fill_column(
-    set_rows: &mut [u8],
-    cells: u8,
-    listed: usize,
+/// A placement of a run, as a column of the rows.
+#[derive(Clone, Copy)]
+struct Column {
+    /// The last tile's cell.
     last: u8,
+    /// How many free cells are below it.
     free: u8,
-    before: u8,
-    regions: &[u32],
-)
+    /// The place of the first slot.
+    first_place: u8,
+}
+
+/// Fills in where the regions of one placement stand in `cells` rows of `listed` bytes.
+fn fill_column(set_rows: &mut [u8], cells: u8, listed: usize, column: Column, regions: &[u32])
     requires small { cells ≤ 25 }
     requires short { listed ≤ 25 }
     requires size { length set_rows.old ≡ cells * listed }
-    requires below { (x : ℕ) → IsInSome regions.now x → x < last → 0 < free }
-    requires within { (x : ℕ) → IsInSome regions.now x → listed_of last free x < listed }
-    requires fits { before + length regions.now ≤ 255 }
-    ensures { IsColumn listed last free before regions.now cells set_rows.old set_rows.new }
+    requires below { (x : ℕ) → IsInSome regions.now x → x < column.last → 0 < column.free }
+    requires within { (x : ℕ) → IsInSome regions.now x
+        → listed_of column.last column.free x < listed }
+    requires fits { column.first_place + length regions.now ≤ 255 }
+    ensures { IsColumn listed column.last column.free column.first_place regions.now cells
+        set_rows.old set_rows.new }
 {
     for x in 0..cells {
         if let Some(j) = find_region(regions, x) {
-            let index = free - u8::from(x < last);
-            set_rows[usize::from(x) * listed + usize::from(index)] = before + j as u8;
+            let index = column.free - u8::from(x < column.last);
+            set_rows[usize::from(x) * listed + usize::from(index)] = column.first_place + j as u8;
         }
     }
 }
@@ -72,11 +76,13 @@ pub(crate) fn cells_of_row(pattern: &Pattern) -> usize
 fn fill_rows(pattern: &Pattern, cells: &[u8], set: u32, set_rows: &mut [u8], kinds: &mut [u8])
     requires run { IsRun pattern.now cells.now }
     requires set { IsMaskOf set (λ c. has cells.now c ≡ true) }
-    requires size { length set_rows.old ≡ pattern.now.side * pattern.now.side * row_length pattern.now.side (length pattern.now.tiles) }
+    requires size { let p = pattern.now in
+        length set_rows.old ≡ p.side * p.side * row_length p.side (length p.tiles) }
     requires kinds { AreKindsUpTo pattern.now.side (slot_count pattern.now) cells.now 0 kinds.old }
-    requires room { length kinds.old ≡ run_length pattern.now.side cells.now * slot_count pattern.now }
-    ensures rows { AreRowsUpTo pattern.now.side (length pattern.now.tiles) cells.now (pattern.now.side * pattern.now.side) set_rows.new }
-    ensures kinds { AreKindsUpTo pattern.now.side (slot_count pattern.now) cells.now (pattern.now.side * pattern.now.side) kinds.new }
+    requires room { length kinds.old
+        ≡ run_length pattern.now.side cells.now * slot_count pattern.now }
+    ensures rows { AreRowsOfRun pattern.now cells.now set_rows.new }
+    ensures kinds { AreKindsOfRun pattern.now cells.now kinds.new }
 {
     let count = pattern.side().cells();
     let width = pattern.width();
@@ -89,15 +95,12 @@ fn fill_rows(pattern: &Pattern, cells: &[u8], set: u32, set_rows: &mut [u8], kin
         if !masks::has_cell(set, last) {
             let regions = regions(&placement);
             let before = free * width;
-            fill_column(
-                set_rows,
-                count,
-                listed,
+            let column = Column {
                 last,
                 free,
-                1 + before,
-                regions.as_slice(),
-            );
+                first_place: 1 + before,
+            };
+            fill_column(set_rows, count, listed, column, regions.as_slice());
             mark(kinds, usize::from(before), regions.len());
             next(&mut placement);
             free += 1;
@@ -116,9 +119,10 @@ struct SetRows {
 fn rows_of(alloc: Global, pattern: &Pattern, cells: &[u8], set: u32) -> Result<SetRows, AllocError>
     requires run { IsRun pattern.now cells.now }
     requires set { IsMaskOf set (λ c. has cells.now c ≡ true) }
-    ensures rows { IfOk result (λ made. AreRowsUpTo pattern.now.side (length pattern.now.tiles) cells.now (pattern.now.side * pattern.now.side) made.rows.items) }
-    ensures kinds { IfOk result (λ made. AreKindsUpTo pattern.now.side (slot_count pattern.now) cells.now (pattern.now.side * pattern.now.side) made.kinds.items) }
-    ensures size { IfOk result (λ made. length made.kinds.items ≡ entries_of_run pattern.now.side (length pattern.now.tiles)) }
+    ensures rows { IfOk result (λ made. AreRowsOfRun pattern.now cells.now made.rows.items) }
+    ensures kinds { IfOk result (λ made. AreKindsOfRun pattern.now cells.now made.kinds.items) }
+    ensures size { IfOk result (λ made. length made.kinds.items
+        ≡ entries_of_run pattern.now.side (length pattern.now.tiles)) }
 {
     let count = usize::from(pattern.side().cells());
     let mut rows = vec![in alloc; 0; count * cells_of_row(pattern)]?;
@@ -133,28 +137,35 @@ fn rows_of(alloc: Global, pattern: &Pattern, cells: &[u8], set: u32) -> Result<S
     Ok(SetRows { rows, kinds })
 }
 
+/// What is kept for some sets of cells, one behind the other.
+#[derive(Drop)]
+pub(crate) struct KeptSets {
+    /// The sets.
+    pub(crate) masks: Vec<u32>,
+    /// For each set and cell the row.
+    pub(crate) rows: Vec<u8>,
+    /// For each set which slots have a region.
+    pub(crate) kinds: Vec<u8>,
+}
+
 /// Puts a set of cells, its rows and its kinds behind those that are there. Without them only speed is lost.
 pub(crate) fn push_set(
     alloc: Global,
     pattern: &Pattern,
     set: u32,
-    masks: &mut Vec<u32>,
-    rows: &mut Vec<u8>,
-    kinds: &mut Vec<u8>,
+    kept: &mut KeptSets,
 ) -> Result<(), AllocError>
     requires bits { set < 2 ^ (pattern.now.side * pattern.now.side) }
     requires size { count_ones set + 1 ≡ length pattern.now.tiles }
-    requires rows { AreAllRows pattern.now.side (length pattern.now.tiles) masks.old.items rows.old.items }
-    requires kinds { AreAllKinds pattern.now.side (slot_count pattern.now) (entries_of_run pattern.now.side (length pattern.now.tiles)) masks.old.items kinds.old.items }
-    ensures rows { OnOk result (AreAllRows pattern.now.side (length pattern.now.tiles) masks.new.items rows.new.items) }
-    ensures kinds { OnOk result (AreAllKinds pattern.now.side (slot_count pattern.now) (entries_of_run pattern.now.side (length pattern.now.tiles)) masks.new.items kinds.new.items) }
+    requires kept { AreKeptSets (rows_for pattern.now) kept.old }
+    ensures { OnOk result (AreKeptSets (rows_for pattern.now) kept.new) }
 {
     let _pattern = pattern.side();
     let mut cells = ArrayVec::new();
     put_numbers(set, &mut cells);
     let made = rows_of(alloc, pattern, cells.as_slice(), set)?;
-    rows.extend_from_slice(made.rows.as_slice())?;
-    kinds.extend_from_slice(made.kinds.as_slice())?;
-    masks.push(set)?;
+    kept.rows.extend_from_slice(made.rows.as_slice())?;
+    kept.kinds.extend_from_slice(made.kinds.as_slice())?;
+    kept.masks.push(set)?;
     Ok(())
 }

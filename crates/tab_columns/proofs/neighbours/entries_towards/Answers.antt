@@ -1,8 +1,8 @@
-use Rattle.std.proofs.Common.{ℕ, ◌+◌, None, get_or, replicate, sym, ◌∙◌, subst, arith}
+use Rattle.std.proofs.Common.{ℕ, None, get_or, replicate, sym, ◌∙◌, subst, arith}
 use Rattle.std.proofs.lemmas.List.{get_or-replicate, length-replicate}
 use Rattle.tab_rule.specs.LocalRule.{IsLeastOf}
 use Rattle.tab_columns.specs.Moves.{IsEntryTowards, IsRegion}
-use Rattle.tab_columns.proofs.ColumnLemmas.{cell_step, each_all, each_none, entries_more, found_fits, row_is, step_fits}
+use Rattle.tab_columns.proofs.ColumnLemmas.{cell_step, each_all, each_none, entries_more, found_fits, part_at, part_size, row_is, step_fits}
 use Rattle.tab_columns.proofs.neighbours.entries_towards.Goals as goal
 
 pub loop-row-init : goal.loop-row-init
@@ -18,18 +18,23 @@ entry_after_step-found-requires-clause-pattern c = (row_is c.requires.columns.ta
 pub entry_after_step-found-requires-clause-placement : goal.entry_after_step-found-requires-clause-placement
 entry_after_step-found-requires-clause-placement c = (row_is c.requires.columns.table c.requires.columns.placements c.requires.columns.few c.pattern-pattern.ensures.pattern (c.from-width.ensures ∙ c.width.ensures) c.loop-row-test.true c.index-placements-row.is).of.1
 
-pub entry_after_step-found-requires-clause-masks : goal.entry_after_step-found-requires-clause-masks
-entry_after_step-found-requires-clause-masks c j l =
-    let v = c.index-placements-row.result in
-    let is = row_is c.requires.columns.table c.requires.columns.placements c.requires.columns.few c.pattern-pattern.ensures.pattern (c.from-width.ensures ∙ c.width.ensures) c.loop-row-test.true c.index-placements-row.is in
-    subst (λ at. IsRegion c.args.table.now.pattern.side v.cells j (get_or c.args.masks.now (at + j) 0)) (sym is.at) (c.requires.columns.regions c.loop-row.row j v c.loop-row-test.true is.get l)
-
-pub entry_after_step-found-requires-clause-within : goal.entry_after_step-found-requires-clause-within
-entry_after_step-found-requires-clause-within c =
+pub slice_bounds-regions-end : goal.slice_bounds-regions-end
+slice_bounds-regions-end c =
     let is = row_is c.requires.columns.table c.requires.columns.placements c.requires.columns.few c.pattern-pattern.ensures.pattern (c.from-width.ensures ∙ c.width.ensures) c.loop-row-test.true c.index-placements-row.is in
     let at = is.at in
     let fits = is.fits in
     omega arith
+
+pub entry_after_step-found-requires-clause-size : goal.entry_after_step-found-requires-clause-size
+entry_after_step-found-requires-clause-size c =
+    part_size (row_is c.requires.columns.table c.requires.columns.placements c.requires.columns.few c.pattern-pattern.ensures.pattern (c.from-width.ensures ∙ c.width.ensures) c.loop-row-test.true c.index-placements-row.is)
+    c.args.masks.now c.told-masks
+
+pub entry_after_step-found-requires-clause-regions : goal.entry_after_step-found-requires-clause-regions
+entry_after_step-found-requires-clause-regions c j l =
+    let v = c.index-placements-row.result in
+    let is = row_is c.requires.columns.table c.requires.columns.placements c.requires.columns.few c.pattern-pattern.ensures.pattern (c.from-width.ensures ∙ c.width.ensures) c.loop-row-test.true c.index-placements-row.is in
+    subst (IsRegion c.args.table.now.pattern.side v.cells j) (sym (part_at is c.args.masks.now j l)) (c.requires.columns.regions c.loop-row.row j v c.loop-row-test.true is.get l)
 
 pub entry_after_step-found-requires-clause-to : goal.entry_after_step-found-requires-clause-to
 entry_after_step-found-requires-clause-to c =

@@ -1,6 +1,5 @@
-use Rattle.std.proofs.Common.{◌≡◌, ◌+◌, ◌<◌, length, Some, get_or, refl, sym, ◌∙◌, ap, subst, arith}
+use Rattle.std.proofs.Common.{◌≡◌, ◌<◌, length, Some, get_or, refl, sym, ◌∙◌, ap, subst, arith}
 use Rattle.puz_board.specs.Cells.{step_of}
-use Rattle.tab_file.specs.Tables.{slot_count}
 use Rattle.tab_columns.specs.Moves.{IsTileIn}
 use Rattle.tab_columns.proofs.TowardsLemmas.{found_one, none_found, none_off}
 use Rattle.tab_columns.proofs.neighbours.entry_after_step.Goals as goal
@@ -17,18 +16,16 @@ returns-in_err-slot c mv is =
     let t = c.args.table.now in
     let p = c.args.placement.now in
     let tile : IsTileIn t p c.args.index (get_or p.cells c.args.index 0) = (c.requires.table, c.requires.pattern, c.requires.placement, (let size : length p.cells ≡ length t.pattern.tiles = c.requires.placement.size ∙ ap (λ q. length q.tiles) c.requires.pattern in let l = c.requires.index in omega arith), refl) in
-    let width : c.from-width.result ≡ slot_count t.pattern = c.from-width.ensures ∙ c.width.ensures ∙ ap slot_count c.pattern.ensures.pattern in
     let steps : step_of t.pattern.side (get_or p.cells c.args.index 0) mv ≡ Some c.in_ok-to.to = sym is ∙ c.in_ok-to.was in
     rw c.from_residual-in_err-slot.ensures (
-    none_found t p c.args.index (get_or p.cells c.args.index 0) tile mv (λ j. get_or c.args.masks.now (c.args.begin + j) 0) c.requires.masks c.in_ok-to.to steps
-    (λ j l. c.in_err-slot.ensures j (subst (λ w. j < w) (sym width) l)))
+    none_found t p c.args.index (get_or p.cells c.args.index 0) tile mv (λ j. get_or c.args.regions.now j 0) c.requires.regions c.in_ok-to.to steps
+    (λ j l. c.in_err-slot.ensures j (subst (λ w. j < w) (sym c.requires.size) l)))
 
 pub returns : goal.returns
 returns c mv is =
     let t = c.args.table.now in
     let p = c.args.placement.now in
     let tile : IsTileIn t p c.args.index (get_or p.cells c.args.index 0) = (c.requires.table, c.requires.pattern, c.requires.placement, (let size : length p.cells ≡ length t.pattern.tiles = c.requires.placement.size ∙ ap (λ q. length q.tiles) c.requires.pattern in let l = c.requires.index in omega arith), refl) in
-    let width : c.from-width.result ≡ slot_count t.pattern = c.from-width.ensures ∙ c.width.ensures ∙ ap slot_count c.pattern.ensures.pattern in
     let steps : step_of t.pattern.side (get_or p.cells c.args.index 0) mv ≡ Some c.in_ok-to.to = sym is ∙ c.in_ok-to.was in
-    found_one t p c.args.index (get_or p.cells c.args.index 0) tile mv (λ j. get_or c.args.masks.now (c.args.begin + j) 0) c.requires.masks c.in_ok-to.to steps
-    c.in_ok-slot.slot c.entry_after.result (subst (λ w. c.in_ok-slot.slot < w) width c.in_ok-slot.ensures.0) c.in_ok-slot.ensures.1 c.entry_after.type_inv c.entry_after.ensures
+    found_one t p c.args.index (get_or p.cells c.args.index 0) tile mv (λ j. get_or c.args.regions.now j 0) c.requires.regions c.in_ok-to.to steps
+    c.in_ok-slot.slot c.entry_after.result (subst (λ w. c.in_ok-slot.slot < w) c.requires.size c.in_ok-slot.ensures.low) c.in_ok-slot.ensures.here c.entry_after.type_inv c.entry_after.ensures

@@ -10,13 +10,16 @@ use Rattle.tab_runs.proofs.RowLemmas.{few_entries}
 use Rattle.tab_runs.proofs.TileLemmas.{kept_rows}
 use Rattle.tab_runs.proofs.blocks.check_part.Goals as goal
 
-pub least_near-requires-clause-run : goal.least_near-requires-clause-run
-least_near-requires-clause-run c = record {
-  run = c.requires.run_cells.run;
-  bits = c.requires.run_cells.bits;
-  set = c.requires.run_cells.set;
-  rows = kept_rows c.args.table.now c.args.rows.now c.args.run_cells.now.set c.in-Some.kept.rows.now c.requires.rows c.in-Some.ensures.rows;
-  own = c.run_entries.ensures;
+pub least_near-requires : goal.least_near-requires
+least_near-requires c = record {
+  run = record {
+    run = c.requires.run_cells.run;
+    bits = c.requires.run_cells.bits;
+    set = c.requires.run_cells.set;
+    row_table = c.requires.rows;
+    rows = kept_rows c.args.table.now c.args.rows.now c.args.run_cells.now.set c.in-Some.kept.rows.now c.requires.rows c.in-Some.ensures.rows;
+    own = c.run_entries.ensures;
+  };
 }
 
 pub overflow_mul-low : goal.overflow_mul-low
@@ -47,6 +50,7 @@ first_bad_of_kinds-requires c =
         run = c.requires.run_cells.run;
         bits = c.requires.run_cells.bits;
         set = c.requires.run_cells.set;
+        row_table = c.requires.rows;
         rows = kept_rows c.args.table.now c.args.rows.now c.args.run_cells.now.set c.in-Some.kept.rows.now c.requires.rows c.in-Some.ensures.rows;
         own = c.run_entries.ensures;
       };

@@ -9,7 +9,7 @@ pub targets-init : goal.targets-init
 targets-init c =
     let t = c.args.table.now in
     let cells = c.args.run.now.cells.now in
-    let side = ap (λ v. v.side) c.requires.rows in
+    let side = ap (λ v. v.side) c.requires.run.row_table in
     targets_start t c.pattern-pattern.ensures.table.pattern cells c.requires.run.run c.args.index c.requires.index c.args.mins.now _
     (targets_are t.pattern.side cells (get_or cells c.args.index 0) c.beside.result c.args.run.now.set c.beside.type_inv c.requires.run.bits
     (subst (λ n. IsMaskOf c.beside.result (Adjacent n (get_or cells c.args.index 0))) side c.beside.ensures) c.requires.run.set)

@@ -31,12 +31,15 @@ left-init c =
     (subst (λ all. IsMaskOf (bit_and all (2 ^ 32 - 1 - c.args.run.now.set)) (IsFree t.pattern.side c.args.run.now.cells.now)) (sym c.all_below.ensures)
     (free_is t.pattern.side c.args.run.now.set c.args.run.now.cells.now c.cells-count.result cells (omega arith) c.requires.run.bits c.requires.run.set))
 
-pub take_beside-requires-clause-below : goal.take_beside-requires-clause-below
-take_beside-requires-clause-below c =
+pub take_beside-requires-clause-last : goal.take_beside-requires-clause-last
+take_beside-requires-clause-last c =
     let t = c.args.table.now in
     let side : c.side.result ≡ t.pattern.side = c.side.ensures.side ∙ ap (λ q. q.side) c.pattern.ensures.pattern in
     let cells : c.cells-count.result ≡ t.pattern.side * t.pattern.side = c.cells-count.ensures.value ∙ ap₂ (λ m n. m * n) side side in
-    subst (λ k. AreFreeBelow c.args.run.now.cells.now k c.free_below_each-below.result) cells c.free_below_each-below.ensures
+    record {
+      run = c.requires.run;
+      below = subst (λ k. AreFreeBelow c.args.run.now.cells.now k c.free_below_each-below.result) cells c.free_below_each-below.ensures;
+    }
 
 pub take_beside-requires-clause-others : goal.take_beside-requires-clause-others
 take_beside-requires-clause-others c x h =

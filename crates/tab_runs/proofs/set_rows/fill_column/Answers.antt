@@ -10,7 +10,7 @@ use Rattle.tab_runs.proofs.set_rows.fill_column.Goals.{in-Some, in_default}
 pub overflow_sub-index : goal.overflow_sub-index
 overflow_sub-index c =
     let x = c.loop-x.x in
-    let last = c.args.last in
+    let last = c.args.column.last in
     let e = c.from.ensures in
     elim (cases_lt x last) [
       | inl l ↦
@@ -26,9 +26,9 @@ pub loop-x-preserved : goal.loop-x-preserved
 loop-x-preserved c =
     let x = c.loop-x.x in
     let m = c.args.listed in
-    let last = c.args.last in
-    let free = c.args.free in
-    let before = c.args.before in
+    let last = c.args.column.last in
+    let free = c.args.column.free in
+    let before = c.args.column.first_place in
     let regions = c.args.regions.now in
     let row : (x + 1) * m ≤ c.args.cells * m = mul-le-mul_right m (let l = c.loop-x-test.true in omega arith) in
     elim c.match-find_region.branch [

@@ -40,9 +40,9 @@ overflow_mul-before c =
     let low = (at_free (goal.at.overflow_mul-before c).After-regions-regions).before_low in
     omega arith
 
-pub overflow_add-before : goal.overflow_add-before
-overflow_add-before c =
-    let low = (at_free (goal.at.overflow_add-before c).After-regions-regions).before_low in
+pub overflow_add-column : goal.overflow_add-column
+overflow_add-column c =
+    let low = (at_free (goal.at.overflow_add-column c).After-regions-regions).before_low in
     omega arith
 
 pub fill_column-requires-clause-fits : goal.fill_column-requires-clause-fits
