@@ -5,7 +5,7 @@ use Rattle.clap.specs.declared.error.kind.ErrorKind.TheVariants as kind
 use Rattle.pdb_request.specs.Asked.{replay}
 use Rattle.pdb_words.specs.CommandLine.{asked_of, faults_of}
 use Rattle.pdb_words.proofs.KindLemmas.{mistaken}
-use Rattle.pdb_words.proofs.TextLemmas.{HasNoDash, has_no_dash}
+use Rattle.pdb_words.proofs.TextLemmas.{HasNoDash, dashless, has_no_dash}
 use Rattle.word_laws.proofs.laws.what_replay_asks.Goals as goal
 
 nothing_faults : faults_of [] ≡ []
@@ -26,11 +26,11 @@ alone_asked = refl
 
 file_faults : (name : Text) → HasNoDash name → faults_of (codes "replay" ∷ name ∷ []) ≡ []
 unfolding clap_on_literals
-file_faults name f = simp (f.no_dash, f.no_dashes)
+file_faults name f = simp dashless
 
 file_asked : (name : Text) → HasNoDash name → asked_of (codes "replay" ∷ name ∷ []) ≡ replay (Some name)
 unfolding clap_on_literals
-file_asked name f = simp (f.no_dash, f.no_dashes)
+file_asked name f = simp dashless
 
 workers_faults : (number : Text) → faults_of (codes "replay" ∷ codes "--workers" ∷ number ∷ []) ≡ kind.UnknownArgument ∷ []
 unfolding clap_on_literals
