@@ -27,13 +27,9 @@ numbered true number name = codes "table" ∷ codes "--workers" ∷ number ∷ n
 numbered false number name = codes "table" ∷ name ∷ codes "--workers" ∷ number ∷ []
 
 module _ (name : Text) (f : HasNoDash name) where
-  file_faults : faults_of (codes "table" ∷ name ∷ []) ≡ []
+  file : AsksFor (codes "table" ∷ name ∷ []) (table name 1)
   unfolding clap_on_literals
-  file_faults = simp dashless
-
-  file_asked : asked_of (codes "table" ∷ name ∷ []) ≡ table name 1
-  unfolding clap_on_literals
-  file_asked = simp dashless
+  file = (simp dashless, simp dashless)
 
   module _ (number : Text) (n : HasNoDash number) where
     numbered_asked : (first : Bool) → asked_of (numbered first number name) ≡ table name (workers_of number)
@@ -61,7 +57,7 @@ number_refused first number name n f writes =
 
 pub returns : goal.returns
 returns c = record {
-  file = λ name f. (file_faults name (has_no_dash name f), file_asked name (has_no_dash name f));
+  file = λ name plain. file name (has_no_dash name plain);
   alone = mistaken _ kind.MissingRequiredArgument [] alone_faults (λ e. cc);
   workers = number_taken true;
   other_workers = number_refused true;
