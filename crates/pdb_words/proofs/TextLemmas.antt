@@ -67,3 +67,12 @@ pub record HasNoDash (text : Text) : Type 0 where
 pub has_no_dash : (text : Text) → IsPlain text → HasNoDash text
 has_no_dash [] plain = record { no_dash = refl; no_dashes = refl }
 has_no_dash (b ∷ rest) plain = record { no_dash = rw (ne_eqb b 45 plain) refl; no_dashes = rw (ne_eqb b 45 plain) refl }
+
+-- a text that doesn't begin with `-` is no flag, and not `--`
+pub strip_dash : (text : Text) → HasNoDash text → strip_byte 45 text ≡ None
+strip_dash text plain = plain.no_dash
+
+pub not_dashes : (text : Text) → HasNoDash text → bytes_eq text (45 ∷ 45 ∷ []) ≡ false
+not_dashes text plain = plain.no_dashes
+
+pub ruleset dashless = (strip_dash, not_dashes)

@@ -129,49 +129,38 @@ help_wrong again c name v h = go (bytes_eq (codes "help") name) refl v
 abbrev KnowsItsFlags : Text → Type 0
 KnowsItsFlags command = (name : Text) → HasHelpAlone name (leaf command) ⊎ TakesFlag command name
 
-takes_workers : (command name : Text) → IsOneOf shared_commands command → bytes_eq (codes "workers") name ≡ true → TakesFlag command name
-takes_workers command name shared e = inl (shared, sym (same_text (codes "workers") name e))
-
-takes_fold : (command name : Text) → IsOneOf log_commands command → bytes_eq (codes "fold") name ≡ true → TakesFlag command name
-takes_fold command name folds e = inr (inl (folds, sym (same_text (codes "fold") name e)))
-
--- by whether the flag is `--workers`
-shares_check : (command : Text) → IsOneOf shared_commands command
-    → ((name : Text) → bytes_eq (codes "workers") name ≡ false → HasHelpAlone name (leaf command) ⊎ TakesFlag command name) → KnowsItsFlags command
-shares_check command shared others name = go (bytes_eq (codes "workers") name) refl
+-- by whether a flag has this name
+by_name : (P : Type 0) (known name : Text) → (name ≡ known → P) → (bytes_eq known name ≡ false → P) → P
+by_name P known name same other = go (bytes_eq known name) refl
   where
-    go : (is : Bool) → bytes_eq (codes "workers") name ≡ is → HasHelpAlone name (leaf command) ⊎ TakesFlag command name
-    go true e = inr (takes_workers command name shared e)
-    go false e = others name e
+    go : (is : Bool) → bytes_eq known name ≡ is → P
+    go true e = same (sym (same_text known name e))
+    go false e = other e
 
 -- by whether it is `--workers` or `--fold`
 folds_tables : (command : Text) → IsOneOf shared_commands command → IsOneOf log_commands command
     → ((name : Text) → bytes_eq (codes "workers") name ≡ false → bytes_eq (codes "fold") name ≡ false → HasHelpAlone name (leaf command) ⊎ TakesFlag command name) → KnowsItsFlags command
-folds_tables command shared folds others = shares_check command shared (λ name e. go name e (bytes_eq (codes "fold") name) refl)
-  where
-    go : (name : Text) → bytes_eq (codes "workers") name ≡ false → (is : Bool) → bytes_eq (codes "fold") name ≡ is → HasHelpAlone name (leaf command) ⊎ TakesFlag command name
-    go name e true f = inr (takes_fold command name folds f)
-    go name e false f = others name e f
+folds_tables command shared folds others name =
+    by_name _ (codes "workers") name (λ same. inr (inl (shared, same))) (λ e. by_name _ (codes "fold") name (λ same. inr (inr (inl (folds, same)))) (others name e))
+
+table_knows : KnowsItsFlags (codes "table")
+table_knows name = by_name _ (codes "workers") name (λ same. inr (inl (inl refl, same))) (λ e. inl (rw e refl))
+
+make_table_knows : KnowsItsFlags (codes "make-table")
+make_table_knows name = by_name _ (codes "workers") name (λ same. inr (inl (inr (inr (inr (inl refl))), same))) (λ e. inl (rw e refl))
 
 solve_knows : KnowsItsFlags (codes "solve")
-solve_knows = folds_tables (codes "solve") (inr (inr (inr (inr (inl refl))))) (inr (inr (inl refl))) (λ name e f. go name e f (bytes_eq (codes "budget") name) refl)
-  where
-    go : (name : Text) → bytes_eq (codes "workers") name ≡ false → bytes_eq (codes "fold") name ≡ false → (is : Bool) → bytes_eq (codes "budget") name ≡ is
-        → HasHelpAlone name (leaf (codes "solve")) ⊎ TakesFlag (codes "solve") name
-    go name e f true b = inr (inr (inr (refl, sym (same_text (codes "budget") name b))))
-    go name e f false b = inl (rw (e, f, b) refl)
+solve_knows = folds_tables (codes "solve") (inr (inr (inr (inr (inl refl))))) (inr (inr (inl refl)))
+    (λ name e f. by_name _ (codes "budget") name (λ same. inr (inr (inr (refl, same)))) (λ b. inl (rw (e, f, b) refl)))
 
 all_know : AllByRecursion KnowsItsFlags commands
 all_know = (
   λ name. inl refl,
   (
-    shares_check (codes "table") (inl refl) (λ name e. inl (rw e refl)),
+    table_knows,
     (
       folds_tables (codes "bound") (inr (inl refl)) (inl refl) (λ name e f. inl (rw (e, f) refl)),
-      (
-        folds_tables (codes "optimal") (inr (inr (inl refl))) (inr (inl refl)) (λ name e f. inl (rw (e, f) refl)),
-        (shares_check (codes "make-table") (inr (inr (inr (inl refl)))) (λ name e. inl (rw e refl)), (solve_knows, tt)),
-      ),
+      (folds_tables (codes "optimal") (inr (inr (inl refl))) (inr (inl refl)) (λ name e f. inl (rw (e, f) refl)), (make_table_knows, (solve_knows, tt))),
     ),
   ),
 )

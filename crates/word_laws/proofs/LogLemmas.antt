@@ -1,6 +1,5 @@
 -- What the words of `bound`, `optimal` and `solve` ask for, and what is wrong with them.
-use Rattle.std.proofs.Common.{◌≡◌, ◌∙◌, ◌≤◌, arith, inl, inr, refl, sym, ap, ap₂, subst, ℕ, Bool, false, true, List, [], ◌∷◌, ◌++◌, Option, Some, None, codes, append-nil, length}
-use Rattle.std.specs.Bool.{⊤}
+use Rattle.std.proofs.Common.{◌≡◌, ◌∙◌, ◌≤◌, arith, inl, inr, refl, ap, ap₂, ℕ, Bool, false, true, List, [], ◌∷◌, ◌++◌, Option, Some, None, codes, length}
 use Rattle.std.specs.Option.{option_map_or}
 use Rattle.clap.specs.Faults.{settle_fault, turn_fault, walk_fault}
 use Rattle.clap.specs.Kinds.{Kinds, or_else}
@@ -20,8 +19,8 @@ use Rattle.pdb_words.specs.Faults.{IsMistaken}
 use Rattle.pdb_words.specs.Numbers.{number_of}
 use Rattle.pdb_words.specs.Workers.{workers_flag}
 use Rattle.pdb_words.proofs.CommandLemmas.{start}
-use Rattle.pdb_words.proofs.TextLemmas.{HasNoDash, has_no_dash}
-use Rattle.word_laws.proofs.LogWalkLemmas.{LogCommand, on_board, on_puzzle, on_search, AreTaken, IsBare, at, at_text, bare_lead, bare_text, budget_before, claim_of, file_row, files, flags_before, fold_leads, fold_row, fold_rows, gathered, log_of, name_of, names_lead, number_before, dashless_text, rows_before, shape_of, start_of, whole_lead}
+use Rattle.pdb_words.proofs.TextLemmas.{HasNoDash, dashless, has_no_dash}
+use Rattle.word_laws.proofs.LogWalkLemmas.{LogCommand, on_board, on_puzzle, on_search, AreTaken, IsBare, at, at_text, bare_lead, bare_text, budget_before, claim_of, file_row, files, flags_before, fold_leads, fold_row, gathered, log_of, name_of, dashless_text, rows_before, shape_of, start_of, whole_lead}
 use Rattle.word_laws.proofs.NumberLemmas.{budget_of, number_asked, workers_of}
 use Rattle.word_laws.proofs.TablesLemmas.{tables_pass, tables_row}
 use Rattle.word_laws.proofs.WalkLemmas.{Leads, asks_behind, last_fault, leads_on, level_ends, level_fails, mistaken_behind, one_word, unless_taken, wrong}
@@ -49,7 +48,7 @@ budget_given budget = option_map_or budget_of budget usual_budget
 
 -- a number of workers is read as it is written
 workers_read : (number : Text) → HasNoDash number → read_as (reading_by workers_flag) number ≡ number
-workers_read number n = simp (n.no_dash)
+workers_read number n = simp dashless
 
 -- ---- a flag with a number, behind the tables
 
@@ -99,12 +98,12 @@ flag_counts of_budget number writes = number_asked 1 most_budget usual_budget nu
 refused_first : (flag : Flag) (number text : Text) (rest : List Text) → HasNoDash number → HasNoDash text → accepted_as flag number ≡ false → (folds : Bool)
     → walk_fault (shape_of (command_of flag)) [] (start_of folds) (word_of flag ∷ number ∷ text ∷ rest) ≡ kind.ValueValidation ∷ []
 unfolding clap_on_literals
-refused_first (of_workers (on_search budget)) number text rest n f e true = simp (n.no_dash, n.no_dashes, f.no_dash, f.no_dashes, e)
-refused_first (of_workers (on_search budget)) number text rest n f e false = simp (n.no_dash, n.no_dashes, f.no_dash, f.no_dashes, e)
-refused_first (of_workers command) number text rest n f e true = simp (n.no_dash, n.no_dashes, f.no_dash, f.no_dashes, e)
-refused_first (of_workers command) number text rest n f e false = simp (n.no_dash, n.no_dashes, f.no_dash, f.no_dashes, e)
-refused_first of_budget number text rest n f e true = simp (n.no_dash, n.no_dashes, f.no_dash, f.no_dashes, e)
-refused_first of_budget number text rest n f e false = simp (n.no_dash, n.no_dashes, f.no_dash, f.no_dashes, e)
+refused_first (of_workers (on_search budget)) number text rest n f e true = simp (dashless, e)
+refused_first (of_workers (on_search budget)) number text rest n f e false = simp (dashless, e)
+refused_first (of_workers command) number text rest n f e true = simp (dashless, e)
+refused_first (of_workers command) number text rest n f e false = simp (dashless, e)
+refused_first of_budget number text rest n f e true = simp (dashless, e)
+refused_first of_budget number text rest n f e false = simp (dashless, e)
 
 module _ (names : LogNames) where
   room : length (tables_named names) ≤ usize_max
@@ -155,10 +154,10 @@ module _ (names : LogNames) where
       (at_number flag folds number) []
   unfolding clap_on_literals
   number_leads (of_workers (on_search (Some budget))) bare number n folds = absurd bare
-  number_leads (of_workers command) bare number n true = record { steps = simp (n.no_dash, n.no_dashes); passes = simp (n.no_dash, n.no_dashes) }
-  number_leads (of_workers command) bare number n false = record { steps = simp (n.no_dash, n.no_dashes); passes = simp (n.no_dash, n.no_dashes) }
-  number_leads of_budget bare number n true = record { steps = simp (n.no_dash, n.no_dashes); passes = simp (n.no_dash, n.no_dashes) }
-  number_leads of_budget bare number n false = record { steps = simp (n.no_dash, n.no_dashes); passes = simp (n.no_dash, n.no_dashes) }
+  number_leads (of_workers command) bare number n true = record { steps = simp dashless; passes = simp dashless }
+  number_leads (of_workers command) bare number n false = record { steps = simp dashless; passes = simp dashless }
+  number_leads of_budget bare number n true = record { steps = simp dashless; passes = simp dashless }
+  number_leads of_budget bare number n false = record { steps = simp dashless; passes = simp dashless }
 
   -- all words, with the flag behind the names
   last_leads : (flag : Flag) → IsBare (command_of flag) → (number : Text) → HasNoDash number → (folds : Bool)
@@ -271,8 +270,8 @@ module _ (names : LogNames) where
       (fold_ends command bare) (fold_asks command bare)
 
   module _ (flag : Flag) (bare : IsBare (command_of flag)) (folds : Bool) (number : Text) (n : IsPlain number) where
-    dashless : HasNoDash number
-    dashless = has_no_dash number n
+    dashless_number : HasNoDash number
+    dashless_number = has_no_dash number n
 
     pub flag_first : writes_as flag number ≡ true
         → AsksFor (name_of (command_of flag) ∷ with_fold folds (word_of flag ∷ number ∷ log_words names)) (asks_flag flag names (number_of number) folds)
@@ -283,26 +282,26 @@ module _ (names : LogNames) where
         first : (flag : Flag) → IsBare (command_of flag) → accepted_as flag number ≡ true
             → AsksFor (name_of (command_of flag) ∷ with_fold folds (word_of flag ∷ number ∷ log_words names)) (asks_flag flag names (number_as flag number) folds)
         first (of_workers (on_search (Some budget))) bare e = absurd bare
-        first (of_workers command) bare e = asked_first command folds (Some number) ((dashless, e), tt)
-        first of_budget bare e = asked_first (on_search (Some number)) folds None (tt, (dashless, e))
+        first (of_workers command) bare e = asked_first command folds (Some number) ((dashless_number, e), tt)
+        first of_budget bare e = asked_first (on_search (Some number)) folds None (tt, (dashless_number, e))
 
     pub other_first : writes_as flag number ≡ false → IsMistaken (name_of (command_of flag) ∷ with_fold folds (word_of flag ∷ number ∷ log_words names))
     other_first writes =
-        let fails = refused_first flag number names.text (names.sets ∷ names.log ∷ tables_named names) dashless (dashless_text names) (accepted_as_is flag number n ∙ writes) folds in
+        let fails = refused_first flag number names.text (names.sets ∷ names.log ∷ tables_named names) dashless_number (dashless_text names) (accepted_as_is flag number n ∙ writes) folds in
         mistaken_behind (name_of (command_of flag)) (is_command (command_of flag)) _ kind.ValueValidation
         (level_fails (shape_of (command_of flag)) _ kind.ValueValidation ((fold_leads (command_of flag) folds (word_of flag ∷ number ∷ log_words names)).passes ∙ fails)) (λ e. cc)
 
     pub flag_last : writes_as flag number ≡ true
         → AsksFor (name_of (command_of flag) ∷ with_fold folds (log_words names ++ word_of flag ∷ number ∷ [])) (asks_flag flag names (number_of number) folds)
     flag_last writes =
-        asks_behind (name_of (command_of flag)) (is_command (command_of flag)) _ (at_number flag folds number) _ (last_leads flag bare number dashless folds)
+        asks_behind (name_of (command_of flag)) (is_command (command_of flag)) _ (at_number flag folds number) _ (last_leads flag bare number dashless_number folds)
         (last_ends flag bare number true (accepted_as_is flag number n ∙ writes) folds)
-        (last_asks flag bare number dashless folds ∙ ap (λ (k : ℕ). asks_flag flag names k folds) (flag_counts flag number writes))
+        (last_asks flag bare number dashless_number folds ∙ ap (λ (k : ℕ). asks_flag flag names k folds) (flag_counts flag number writes))
 
     pub other_last : writes_as flag number ≡ false → IsMistaken (name_of (command_of flag) ∷ with_fold folds (log_words names ++ word_of flag ∷ number ∷ []))
     other_last writes =
         mistaken_behind (name_of (command_of flag)) (is_command (command_of flag)) _ kind.ValueValidation
-        (level_ends (shape_of (command_of flag)) _ (at_number flag folds number) _ (last_leads flag bare number dashless folds)
+        (level_ends (shape_of (command_of flag)) _ (at_number flag folds number) _ (last_leads flag bare number dashless_number folds)
         (last_ends flag bare number false (accepted_as_is flag number n ∙ writes) folds)) (λ e. cc)
 
 -- no table
@@ -314,8 +313,8 @@ module _ (text sets log : Text) (f : HasNoDash text) (t : HasNoDash sets) (l : H
       → Leads (shape_of command) (at_text folds command None text) (sets ∷ log ∷ []) (without_tables folds command) []
   unfolding clap_on_literals
   two_lead (on_search (Some budget)) bare folds = absurd bare
-  two_lead command bare true = record { steps = simp (t.no_dash, t.no_dashes, l.no_dash, l.no_dashes); passes = simp (t.no_dash, t.no_dashes, l.no_dash, l.no_dashes) }
-  two_lead command bare false = record { steps = simp (t.no_dash, t.no_dashes, l.no_dash, l.no_dashes); passes = simp (t.no_dash, t.no_dashes, l.no_dash, l.no_dashes) }
+  two_lead command bare true = record { steps = simp dashless; passes = simp dashless }
+  two_lead command bare false = record { steps = simp dashless; passes = simp dashless }
 
   tables_missing : (command : LogCommand) → IsBare command → (folds : Bool) → last_fault (shape_of command) (without_tables folds command).held ≡ kind.MissingRequiredArgument ∷ []
   unfolding clap_on_literals

@@ -12,9 +12,9 @@ use Rattle.pdb_words.specs.Commands.{IsPlain}
 use Rattle.pdb_words.specs.Fold.{fold_flag}
 use Rattle.pdb_words.specs.Workers.{workers_flag}
 use Rattle.pdb_words.proofs.CommandLemmas.{leaf, start}
-use Rattle.pdb_words.proofs.TextLemmas.{HasNoDash, has_no_dash}
+use Rattle.pdb_words.proofs.TextLemmas.{HasNoDash, dashless, has_no_dash}
 use Rattle.word_laws.proofs.TablesLemmas.{gathering, tables_lead, tables_rule}
-use Rattle.word_laws.proofs.WalkLemmas.{Leads, dashless, leads_on}
+use Rattle.word_laws.proofs.WalkLemmas.{Leads, leads_on}
 use Rattle.word_laws.proofs.WorkersLemmas.{accepted, accepted_budget}
 use Rattle.word_laws.specs.LogWords.{LogNames, log_words, tables_named, with_fold}
 
@@ -134,21 +134,21 @@ fold_leads command false words = record { steps = refl; passes = refl }
 module _ (number other : Text) (n : IsTaken accepted (Some number)) (m : IsTaken accepted_budget (Some other)) (rest : List Text) where
   workers_lead : (folds : Bool) → Leads (leaf (codes "solve")) (start_of folds) (codes "--workers" ∷ number ∷ rest) (at 1 (fold_rows folds) (codes "workers") number) rest
   unfolding clap_on_literals
-  workers_lead true = record { steps = simp (n.0.no_dash, n.0.no_dashes); passes = simp (n.0.no_dash, n.0.no_dashes) }
-  workers_lead false = record { steps = simp (n.0.no_dash, n.0.no_dashes); passes = simp (n.0.no_dash, n.0.no_dashes) }
+  workers_lead true = record { steps = simp (dashless, n.0); passes = simp (dashless, n.0) }
+  workers_lead false = record { steps = simp (dashless, n.0); passes = simp (dashless, n.0) }
 
   budget_leads : (folds : Bool) → Leads (leaf (codes "solve")) (at 1 (fold_rows folds) (codes "workers") number) (codes "--budget" ∷ other ∷ rest)
       (at 1 (rows_before folds (on_search None) (Some number) []) (codes "budget") other) rest
   unfolding clap_on_literals
-  budget_leads true = record { steps = simp (m.0.no_dash, m.0.no_dashes); passes = simp (m.0.no_dash, m.0.no_dashes, n.1) }
-  budget_leads false = record { steps = simp (m.0.no_dash, m.0.no_dashes); passes = simp (m.0.no_dash, m.0.no_dashes, n.1) }
+  budget_leads true = record { steps = simp (dashless, m.0); passes = simp (dashless, m.0, n.1) }
+  budget_leads false = record { steps = simp (dashless, m.0); passes = simp (dashless, m.0, n.1) }
 
   board_leads : (board : Text) → HasNoDash board → (folds : Bool)
       → Leads (leaf (codes "solve")) (at 1 (rows_before folds (on_search None) (Some number) []) (codes "budget") other) (board ∷ rest)
       (at_text folds (on_search (Some other)) (Some number) board) rest
   unfolding clap_on_literals
-  board_leads board f true = record { steps = simp (f.no_dash, f.no_dashes); passes = simp (m.1, f.no_dash, f.no_dashes) }
-  board_leads board f false = record { steps = simp (f.no_dash, f.no_dashes); passes = simp (m.1, f.no_dash, f.no_dashes) }
+  board_leads board f true = record { steps = simp dashless; passes = simp (dashless, m.1) }
+  board_leads board f false = record { steps = simp dashless; passes = simp (dashless, m.1) }
 
 -- the flags with a number, and the text of a claim
 module _ (text : Text) (f : HasNoDash text) (rest : List Text) where
@@ -166,8 +166,8 @@ module _ (text : Text) (f : HasNoDash text) (rest : List Text) where
     steps = simp (taken.1.0.no_dash, taken.1.0.no_dashes, f.no_dash, f.no_dashes);
     passes = simp (taken.1.0.no_dash, taken.1.0.no_dashes, taken.1.1, f.no_dash, f.no_dashes);
   }
-  text_leads command None taken true = record { steps = simp (f.no_dash, f.no_dashes); passes = simp (f.no_dash, f.no_dashes) }
-  text_leads command None taken false = record { steps = simp (f.no_dash, f.no_dashes); passes = simp (f.no_dash, f.no_dashes) }
+  text_leads command None taken true = record { steps = simp dashless; passes = simp dashless }
+  text_leads command None taken false = record { steps = simp dashless; passes = simp dashless }
   text_leads command (Some number) taken true = record {
     steps = simp (taken.0.0.no_dash, taken.0.0.no_dashes, f.no_dash, f.no_dashes);
     passes = simp (taken.0.0.no_dash, taken.0.0.no_dashes, taken.0.1, f.no_dash, f.no_dashes);
@@ -197,14 +197,14 @@ module _ (names : LogNames) (t : HasNoDash names.sets) (l : HasNoDash names.log)
       → Leads (shape_of command) (at_text folds command workers names.text) (names.sets ∷ names.log ∷ names.table ∷ rest)
       (gathering (rows_before folds command workers (files command names)) (names.table ∷ [])) rest
   unfolding clap_on_literals
-  sets_lead (on_search (Some budget)) None true = record { steps = simp (dashless, t, l, f); passes = simp (dashless, t, l, f) }
-  sets_lead (on_search (Some budget)) None false = record { steps = simp (dashless, t, l, f); passes = simp (dashless, t, l, f) }
-  sets_lead (on_search (Some budget)) (Some number) true = record { steps = simp (dashless, t, l, f); passes = simp (dashless, t, l, f) }
-  sets_lead (on_search (Some budget)) (Some number) false = record { steps = simp (dashless, t, l, f); passes = simp (dashless, t, l, f) }
-  sets_lead command None true = record { steps = simp (dashless, t, l, f); passes = simp (dashless, t, l, f) }
-  sets_lead command None false = record { steps = simp (dashless, t, l, f); passes = simp (dashless, t, l, f) }
-  sets_lead command (Some number) true = record { steps = simp (dashless, t, l, f); passes = simp (dashless, t, l, f) }
-  sets_lead command (Some number) false = record { steps = simp (dashless, t, l, f); passes = simp (dashless, t, l, f) }
+  sets_lead (on_search (Some budget)) None true = record { steps = simp dashless; passes = simp dashless }
+  sets_lead (on_search (Some budget)) None false = record { steps = simp dashless; passes = simp dashless }
+  sets_lead (on_search (Some budget)) (Some number) true = record { steps = simp dashless; passes = simp dashless }
+  sets_lead (on_search (Some budget)) (Some number) false = record { steps = simp dashless; passes = simp dashless }
+  sets_lead command None true = record { steps = simp dashless; passes = simp dashless }
+  sets_lead command None false = record { steps = simp dashless; passes = simp dashless }
+  sets_lead command (Some number) true = record { steps = simp dashless; passes = simp dashless }
+  sets_lead command (Some number) false = record { steps = simp dashless; passes = simp dashless }
 
 module _ (names : LogNames) where
   all_plain : AllByRecursion IsPlain (log_words names)

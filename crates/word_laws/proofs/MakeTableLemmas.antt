@@ -1,15 +1,14 @@
 -- What the words of `make-table` ask for, and what is wrong with them, word by word.
-use Rattle.std.proofs.Common.{◌≡◌, ◌≢◌, ◌∙◌, arith, refl, inl, inr, ap, sym, ℕ, Bool, false, true, List, [], ◌∷◌, ◌++◌, Option, None, Some, codes}
+use Rattle.std.proofs.Common.{◌≡◌, ◌∙◌, arith, refl, inl, inr, ap, sym, ℕ, Bool, false, true, List, [], ◌∷◌, ◌++◌, Option, None, Some, codes}
 use Rattle.std.specs.Bool.{⊤}
 use Rattle.std.specs.Option.{option_map_or}
 use Rattle.std.specs.Prelude.{if◌then◌else◌, pos}
 use Rattle.clap.proofs.OnLiterals.{clap_on_literals}
-use Rattle.clap.specs.Faults.{turn_fault, walk_fault}
+use Rattle.clap.specs.Faults.{turn_fault}
 use Rattle.clap.specs.Simple.{Shape}
 use Rattle.clap.specs.ValueTests.{accepts}
 use Rattle.clap.specs.Walk.{Row, Text, Walk, finished, walked}
 use Rattle.clap.specs.declared.builder.value_parser.ValueParser.TheVariants as parser
-use Rattle.clap.specs.declared.error.kind.ErrorKind.{ErrorKind}
 use Rattle.clap.specs.declared.error.kind.ErrorKind.TheVariants as kind
 use Rattle.book_core.specs.Books.{most_workers}
 use Rattle.pdb_request.specs.Asked.{Asked, make_table}
@@ -19,7 +18,7 @@ use Rattle.pdb_words.specs.Faults.{IsMistaken}
 use Rattle.pdb_words.specs.MakeTable.{most_mask, most_side, needed_mask, needed_side}
 use Rattle.pdb_words.specs.Numbers.{number_of, number_within}
 use Rattle.pdb_words.proofs.CommandLemmas.{leaf, start}
-use Rattle.pdb_words.proofs.TextLemmas.{HasNoDash, has_no_dash}
+use Rattle.pdb_words.proofs.TextLemmas.{HasNoDash, dashless, has_no_dash}
 use Rattle.word_laws.proofs.LogWalkLemmas.{at, file_row, found_row, number_before, row_before, workers_row}
 use Rattle.word_laws.proofs.NumberLemmas.{number_asked, signed_accepted, workers_of}
 use Rattle.word_laws.proofs.WalkLemmas.{Leads, asks_behind, last_fault, leads_on, level_ends, level_stops, mistaken_behind, one_word, unless_taken, wrong}
@@ -63,7 +62,7 @@ walk_at (Some number) = at 1 [] (codes "workers") number
 
 flag_leads : (number : Text) → HasNoDash number → (rest : List Text) → Leads shape start (codes "--workers" ∷ number ∷ rest) (at 1 [] (codes "workers") number) rest
 unfolding clap_on_literals
-flag_leads number n rest = record { steps = simp (n.no_dash, n.no_dashes); passes = simp (n.no_dash, n.no_dashes) }
+flag_leads number n rest = record { steps = simp dashless; passes = simp dashless }
 
 workers_lead : (workers : Option Text) → IsRead workers → (rest : List Text) → Leads shape start (number_before (codes "--workers") workers rest) (walk_at workers) rest
 workers_lead None read rest = record { steps = refl; passes = refl }
@@ -89,28 +88,28 @@ at_out workers side mask out = at 4 (row_before workers_row workers (side_row si
 module _ (side : Text) (s : HasNoDash side) where
   side_step : (workers : Option Text) → walked shape.rules [] (walk_at workers) side ≡ at_side workers side
   unfolding clap_on_literals
-  side_step None = simp (s.no_dash, s.no_dashes)
-  side_step (Some number) = simp (s.no_dash, s.no_dashes)
+  side_step None = simp dashless
+  side_step (Some number) = simp dashless
 
   side_turn : (workers : Option Text) (takes : Bool) → Takes takes workers → turn_fault shape [] (walk_at workers) side ≡ unless_taken takes
   unfolding clap_on_literals
-  side_turn None true e = simp (s.no_dash, s.no_dashes)
+  side_turn None true e = simp dashless
   side_turn None false e = cc
-  side_turn (Some number) true e = simp (s.no_dash, s.no_dashes, e)
-  side_turn (Some number) false e = simp (s.no_dash, s.no_dashes, e)
+  side_turn (Some number) true e = simp (dashless, e)
+  side_turn (Some number) false e = simp (dashless, e)
 
 module _ (side mask : Text) (m : HasNoDash mask) where
   mask_step : (workers : Option Text) → walked shape.rules [] (at_side workers side) mask ≡ at_mask workers side mask
   unfolding clap_on_literals
-  mask_step None = simp (m.no_dash, m.no_dashes)
-  mask_step (Some number) = simp (m.no_dash, m.no_dashes)
+  mask_step None = simp dashless
+  mask_step (Some number) = simp dashless
 
   mask_turn : (workers : Option Text) (takes : Bool) → accepted_side side ≡ takes → turn_fault shape [] (at_side workers side) mask ≡ unless_taken takes
   unfolding clap_on_literals
-  mask_turn None true e = simp (m.no_dash, m.no_dashes, e)
-  mask_turn None false e = simp (m.no_dash, m.no_dashes, e)
-  mask_turn (Some number) true e = simp (m.no_dash, m.no_dashes, e)
-  mask_turn (Some number) false e = simp (m.no_dash, m.no_dashes, e)
+  mask_turn None true e = simp (dashless, e)
+  mask_turn None false e = simp (dashless, e)
+  mask_turn (Some number) true e = simp (dashless, e)
+  mask_turn (Some number) false e = simp (dashless, e)
 
   no_name_ends : (takes : Bool) → accepted_mask mask ≡ takes
       → last_fault shape (at_mask None side mask).held ≡ (if takes then kind.MissingRequiredArgument ∷ [] else kind.ValueValidation ∷ [])
@@ -121,15 +120,15 @@ module _ (side mask : Text) (m : HasNoDash mask) where
 module _ (side mask out : Text) (o : HasNoDash out) where
   out_step : (workers : Option Text) → walked shape.rules [] (at_mask workers side mask) out ≡ at_out workers side mask out
   unfolding clap_on_literals
-  out_step None = simp (o.no_dash, o.no_dashes)
-  out_step (Some number) = simp (o.no_dash, o.no_dashes)
+  out_step None = simp dashless
+  out_step (Some number) = simp dashless
 
   out_turn : (workers : Option Text) (takes : Bool) → accepted_mask mask ≡ takes → turn_fault shape [] (at_mask workers side mask) out ≡ unless_taken takes
   unfolding clap_on_literals
-  out_turn None true e = simp (o.no_dash, o.no_dashes, e)
-  out_turn None false e = simp (o.no_dash, o.no_dashes, e)
-  out_turn (Some number) true e = simp (o.no_dash, o.no_dashes, e)
-  out_turn (Some number) false e = simp (o.no_dash, o.no_dashes, e)
+  out_turn None true e = simp (dashless, e)
+  out_turn None false e = simp (dashless, e)
+  out_turn (Some number) true e = simp (dashless, e)
+  out_turn (Some number) false e = simp (dashless, e)
 
 module _ (side mask out : Text) where
   out_ends : (workers : Option Text) → last_fault shape (at_out workers side mask out).held ≡ []
@@ -142,8 +141,8 @@ module _ (side mask out : Text) where
 
   out_asks : HasNoDash side → HasNoDash mask → (workers : Option Text) → IsRead workers
       → asked_by (codes "make-table") (finished shape.rules (at_out workers side mask out).held) ≡ made (option_map_or workers_of workers 1)
-  out_asks s m None read = simp (s.no_dash, m.no_dash)
-  out_asks s m (Some number) read = simp (s.no_dash, m.no_dash, read.no_dash)
+  out_asks s m None read = simp dashless
+  out_asks s m (Some number) read = simp dashless
 
   -- `--workers N` behind the name
   module _ (number : Text) (n : HasNoDash number) where
@@ -152,7 +151,7 @@ module _ (side mask out : Text) where
 
     last_leads : Leads shape (at_out None side mask out) (codes "--workers" ∷ number ∷ []) at_last []
     unfolding clap_on_literals
-    last_leads = record { steps = simp (n.no_dash, n.no_dashes); passes = simp (n.no_dash, n.no_dashes) }
+    last_leads = record { steps = simp dashless; passes = simp dashless }
 
     last_ends : (takes : Bool) → accepted number ≡ takes → last_fault shape at_last.held ≡ unless_taken takes
     unfolding clap_on_literals
@@ -160,7 +159,7 @@ module _ (side mask out : Text) where
     last_ends false e = simp e
 
     last_asks : HasNoDash side → HasNoDash mask → asked_by (codes "make-table") (finished shape.rules at_last.held) ≡ made (workers_of number)
-    last_asks s m = simp (s.no_dash, m.no_dash, n.no_dash)
+    last_asks s m = simp dashless
 
 -- ---- all words
 

@@ -11,7 +11,7 @@ use Rattle.clap.specs.declared.parser.matches.ValueSource.TheVariants.{CommandLi
 use Rattle.clap.proofs.FaultLemmas.{past}
 use Rattle.pdb_words.specs.Commands.{IsPlain}
 use Rattle.pdb_words.specs.Files.{needed_tables}
-use Rattle.pdb_words.proofs.TextLemmas.{HasNoDash, has_no_dash}
+use Rattle.pdb_words.proofs.TextLemmas.{HasNoDash, dashless, has_no_dash}
 use Rattle.word_laws.proofs.WalkLemmas.{Leads, leads_on, one_word}
 
 -- the tables, as they are built: in the fourth place
@@ -35,10 +35,10 @@ gathering rows tables = record {
 module _ (s : Shape) (fourth : arg_by_index s.rules 4 ≡ Some tables_rule) (rows : List Row) where
   one_more : (tables : List Text) (word : Text) → HasNoDash word → walked s.rules [] (gathering rows tables) word ≡ gathering rows (tables ++ word ∷ [])
   unfolding walked
-  one_more tables word plain = simp (fourth, plain.no_dash, plain.no_dashes)
+  one_more tables word plain = simp (fourth, dashless)
 
   one_passes : (tables : List Text) (word : Text) → HasNoDash word → turn_fault s [] (gathering rows tables) word ≡ []
-  one_passes tables word plain = simp (fourth, plain.no_dash, plain.no_dashes)
+  one_passes tables word plain = simp (fourth, dashless)
 
   -- more tables
   pub tables_lead : (tables more behind : List Text) → AllByRecursion IsPlain more

@@ -1,10 +1,8 @@
 -- Where a walk over words leads, and what a command's words come to in the end.
-use Rattle.std.proofs.Common.{◌≡◌, ◌≢◌, ◌∙◌, refl, ap, Bool, false, true, List, [], ◌∷◌, None}
+use Rattle.std.proofs.Common.{◌≡◌, ◌≢◌, ◌∙◌, refl, ap, Bool, false, true, List, [], ◌∷◌}
 use Rattle.std.specs.List.{fold}
-use Rattle.std.specs.Str.{bytes_eq}
 use Rattle.clap.specs.Faults.{check_fault, defaults_fault, level_fault, settle_fault, turn_fault, walk_fault}
 use Rattle.clap.specs.Kinds.{Kinds, or_else}
-use Rattle.clap.specs.Lexer.{strip_byte}
 use Rattle.clap.specs.Simple.{Shape}
 use Rattle.clap.specs.Walk.{Held, Text, Walk, finished, nothing_held, settled, walk, walked}
 use Rattle.clap.specs.declared.error.kind.ErrorKind.{ErrorKind}
@@ -16,17 +14,7 @@ use Rattle.pdb_words.specs.Commands.{IsCommand}
 use Rattle.pdb_words.specs.Faults.{IsMistaken}
 use Rattle.pdb_words.proofs.CommandLemmas.{asked_behind, faults_behind, leaf, start}
 use Rattle.pdb_words.proofs.KindLemmas.{mistaken}
-use Rattle.pdb_words.proofs.TextLemmas.{HasNoDash}
 use Rattle.word_laws.specs.Asking.{AsksFor}
-
--- a text that doesn't begin with `-` is no flag, and not `--`
-pub strip_dash : (text : Text) → HasNoDash text → strip_byte 45 text ≡ None
-strip_dash text plain = plain.no_dash
-
-pub not_dashes : (text : Text) → HasNoDash text → bytes_eq text (45 ∷ 45 ∷ []) ≡ false
-not_dashes text plain = plain.no_dashes
-
-pub ruleset dashless = (strip_dash, not_dashes)
 
 -- the walk over some words leads to a place before others, and nothing is wrong up to there
 pub record Leads (s : Shape) (w : Walk) (words : List Text) (after : Walk) (behind : List Text) : Type 0 where

@@ -3,34 +3,23 @@ use Rattle.clap.proofs.OnLiterals.{clap_on_literals}
 use Rattle.clap.specs.Walk.{Text}
 use Rattle.clap.specs.declared.error.kind.ErrorKind.TheVariants as kind
 use Rattle.pdb_request.specs.Asked.{replay}
-use Rattle.pdb_words.specs.CommandLine.{asked_of, faults_of}
+use Rattle.pdb_words.specs.CommandLine.{faults_of}
 use Rattle.pdb_words.proofs.KindLemmas.{mistaken}
-use Rattle.pdb_words.proofs.TextLemmas.{HasNoDash, has_no_dash}
+use Rattle.pdb_words.proofs.TextLemmas.{HasNoDash, dashless, has_no_dash}
 use Rattle.word_laws.proofs.laws.what_replay_asks.Goals as goal
+use Rattle.word_laws.specs.Asking.{AsksFor}
 
-nothing_faults : faults_of [] ≡ []
+nothing : AsksFor [] (replay None)
 unfolding clap_on_literals
-nothing_faults = refl
+nothing = (refl, refl)
 
-nothing_asked : asked_of [] ≡ replay None
+alone : AsksFor (codes "replay" ∷ []) (replay None)
 unfolding clap_on_literals
-nothing_asked = refl
+alone = (refl, refl)
 
-alone_faults : faults_of (codes "replay" ∷ []) ≡ []
+file : (name : Text) → HasNoDash name → AsksFor (codes "replay" ∷ name ∷ []) (replay (Some name))
 unfolding clap_on_literals
-alone_faults = refl
-
-alone_asked : asked_of (codes "replay" ∷ []) ≡ replay None
-unfolding clap_on_literals
-alone_asked = refl
-
-file_faults : (name : Text) → HasNoDash name → faults_of (codes "replay" ∷ name ∷ []) ≡ []
-unfolding clap_on_literals
-file_faults name f = simp (f.no_dash, f.no_dashes)
-
-file_asked : (name : Text) → HasNoDash name → asked_of (codes "replay" ∷ name ∷ []) ≡ replay (Some name)
-unfolding clap_on_literals
-file_asked name f = simp (f.no_dash, f.no_dashes)
+file name f = (simp dashless, simp dashless)
 
 workers_faults : (number : Text) → faults_of (codes "replay" ∷ codes "--workers" ∷ number ∷ []) ≡ kind.UnknownArgument ∷ []
 unfolding clap_on_literals
@@ -38,8 +27,8 @@ workers_faults number = refl
 
 pub returns : goal.returns
 returns c = record {
-  nothing = (nothing_faults, nothing_asked);
-  alone = (alone_faults, alone_asked);
-  file = λ name plain. (file_faults name (has_no_dash name plain), file_asked name (has_no_dash name plain));
+  nothing = nothing;
+  alone = alone;
+  file = λ name plain. file name (has_no_dash name plain);
   workers = λ number. mistaken _ kind.UnknownArgument [] (workers_faults number) (λ e. cc);
 }

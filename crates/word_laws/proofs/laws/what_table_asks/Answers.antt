@@ -9,7 +9,7 @@ use Rattle.pdb_words.specs.Commands.{IsPlain}
 use Rattle.pdb_words.specs.Faults.{IsMistaken}
 use Rattle.pdb_words.specs.Numbers.{number_of}
 use Rattle.pdb_words.proofs.KindLemmas.{mistaken}
-use Rattle.pdb_words.proofs.TextLemmas.{HasNoDash, has_no_dash}
+use Rattle.pdb_words.proofs.TextLemmas.{HasNoDash, dashless, has_no_dash}
 use Rattle.word_laws.proofs.NumberLemmas.{number_asked, workers_of}
 use Rattle.word_laws.proofs.WalkLemmas.{unless_taken}
 use Rattle.word_laws.proofs.WorkersLemmas.{accepted, accepted_is}
@@ -27,26 +27,22 @@ numbered true number name = codes "table" ∷ codes "--workers" ∷ number ∷ n
 numbered false number name = codes "table" ∷ name ∷ codes "--workers" ∷ number ∷ []
 
 module _ (name : Text) (f : HasNoDash name) where
-  file_faults : faults_of (codes "table" ∷ name ∷ []) ≡ []
+  file : AsksFor (codes "table" ∷ name ∷ []) (table name 1)
   unfolding clap_on_literals
-  file_faults = simp (f.no_dash, f.no_dashes)
-
-  file_asked : asked_of (codes "table" ∷ name ∷ []) ≡ table name 1
-  unfolding clap_on_literals
-  file_asked = simp (f.no_dash, f.no_dashes)
+  file = (simp dashless, simp dashless)
 
   module _ (number : Text) (n : HasNoDash number) where
     numbered_asked : (first : Bool) → asked_of (numbered first number name) ≡ table name (workers_of number)
     unfolding clap_on_literals
-    numbered_asked true = simp (n.no_dash, n.no_dashes, f.no_dash, f.no_dashes)
-    numbered_asked false = simp (n.no_dash, n.no_dashes, f.no_dash, f.no_dashes)
+    numbered_asked true = simp dashless
+    numbered_asked false = simp dashless
 
     numbered_faults : (first takes : Bool) → accepted number ≡ takes → faults_of (numbered first number name) ≡ unless_taken takes
     unfolding clap_on_literals
-    numbered_faults true true e = simp (n.no_dash, n.no_dashes, f.no_dash, f.no_dashes, e)
-    numbered_faults true false e = simp (n.no_dash, n.no_dashes, f.no_dash, f.no_dashes, e)
-    numbered_faults false true e = simp (n.no_dash, n.no_dashes, f.no_dash, f.no_dashes, e)
-    numbered_faults false false e = simp (n.no_dash, n.no_dashes, f.no_dash, f.no_dashes, e)
+    numbered_faults true true e = simp (dashless, e)
+    numbered_faults true false e = simp (dashless, e)
+    numbered_faults false true e = simp (dashless, e)
+    numbered_faults false false e = simp (dashless, e)
 
 number_taken : (first : Bool) (number name : Text) → IsPlain number → IsPlain name → writes_workers number ≡ true
     → AsksFor (numbered first number name) (table name (number_of number))
@@ -61,7 +57,7 @@ number_refused first number name n f writes =
 
 pub returns : goal.returns
 returns c = record {
-  file = λ name f. (file_faults name (has_no_dash name f), file_asked name (has_no_dash name f));
+  file = λ name plain. file name (has_no_dash name plain);
   alone = mistaken _ kind.MissingRequiredArgument [] alone_faults (λ e. cc);
   workers = number_taken true;
   other_workers = number_refused true;
