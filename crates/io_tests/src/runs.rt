@@ -5,13 +5,22 @@ use byte_io::memory::MemShelf;
 use byte_io::shelf::Shelf;
 use byte_io::streams::ReadFault;
 use pdb_run::{
-    Answer, BorrowedIo, Command, Digested, Input, Io, Status, keep_and_conclude, lines, load_all,
+    Answer, BorrowedIo, Command, Digested, Input, Status, keep_and_conclude, lines, load_all,
     read_inputs, read_inputs_and_try,
 };
 use sample_streams::{Failing, FailingShelf, SampleReader, SampleWriter, ShelfFault};
 use std::alloc::{AllocError, Global};
 use std::io::ErrorKind;
 use std::test::Fail;
+
+/// A run's shelf, its reader and its output, as one.
+fn io_over<'s, 'r, 'o, S, R, W>(
+    shelf: &'s mut S,
+    reader: &'r mut R,
+    out: &'o mut W,
+) -> BorrowedIo<'s, 'r, 'o, S, R, W> {
+    BorrowedIo { shelf, reader, out }
+}
 
 /// A command that wants one input of at most four bytes.
 #[derive(Clone, Copy)]
@@ -50,11 +59,7 @@ fn a_name_is_shown_without_its_control_characters(rt: HostRuntime) -> Result<(),
     for (name, line) in cases {
         let mut reader = SampleReader::new(b"").failing(0, u64::MAX, ErrorKind::Other);
         let mut out = SampleWriter::new(alloc);
-        let mut io = BorrowedIo {
-            shelf: &mut shelf,
-            reader: &mut reader,
-            out: &mut out,
-        };
+        let mut io = io_over(&mut shelf, &mut reader, &mut out);
         let ended = read_inputs(alloc, &WantsOne { name }, &mut io);
         assert!(rt; ended.err() == Some(Status::Fault) && out.calls() == 1);
         assert!(rt; out.taken() == line);
@@ -69,11 +74,7 @@ fn an_input_is_read_whole(rt: HostRuntime) -> Result<(), Fail> {
     let mut reader = b"abc".as_slice();
     for (name, bytes) in [(Some("four"), b"1234".as_slice()), (None, b"abc")] {
         let mut out = SampleWriter::new(alloc);
-        let mut io = BorrowedIo {
-            shelf: &mut shelf,
-            reader: &mut reader,
-            out: &mut out,
-        };
+        let mut io = io_over(&mut shelf, &mut reader, &mut out);
         let inputs = read_inputs(alloc, &WantsOne { name }, &mut io);
         let inputs = inputs.ok().unwrap_or(Vec::new(alloc));
         assert_eq!(rt; inputs.len(), 1);
@@ -109,11 +110,7 @@ fn the_first_input_that_is_not_read_is_named(rt: HostRuntime) -> Result<(), Fail
             let mut shelf = FailingShelf::new(MemShelf::of(alloc, &FILES)?, call, fault);
             let mut reader = b"".as_slice();
             let mut out = SampleWriter::new(alloc);
-            let mut io = BorrowedIo {
-                shelf: &mut shelf,
-                reader: &mut reader,
-                out: &mut out,
-            };
+            let mut io = io_over(&mut shelf, &mut reader, &mut out);
             let loaded = load_all(alloc, &wanted, &mut io);
             let unread = loaded.err().ok_or("an input is not read")?;
             assert!(rt; unread.input.name == Some(name) && unread.why == why);
@@ -144,10 +141,21 @@ impl Command for Makes<'_> {
     }
 }
 
-/// The beginning of its run.
-fn begin_making<I: Io>(alloc: Global, out_name: &str, io: &mut I) -> Result<Vec<Vec<u8>>, Status> {
+/// The beginning of its run, over an empty reader.
+fn begin_making<S: Shelf>(
+    alloc: Global,
+    out_name: &str,
+    shelf: &mut S,
+    out: &mut SampleWriter,
+) -> Result<Vec<Vec<u8>>, Status> {
     let command = Makes { out: out_name };
-    read_inputs_and_try(alloc, &command, out_name, io)
+    let mut reader = b"".as_slice();
+    read_inputs_and_try(
+        alloc,
+        &command,
+        out_name,
+        &mut io_over(shelf, &mut reader, out),
+    )
 }
 
 #[test]
@@ -156,13 +164,7 @@ fn a_name_that_can_be_kept_under_lets_a_run_begin(rt: HostRuntime) -> Result<(),
     let mut shelf = MemShelf::of(alloc, &FILES)?;
     let mut out = SampleWriter::new(alloc);
     for name in ["a", "new"] {
-        let mut reader = b"".as_slice();
-        let mut io = BorrowedIo {
-            shelf: &mut shelf,
-            reader: &mut reader,
-            out: &mut out,
-        };
-        let begun = begin_making(alloc, name, &mut io);
+        let begun = begin_making(alloc, name, &mut shelf, &mut out);
         assert!(rt; begun.is_ok_and(|inputs| inputs.is_empty()));
     }
     assert!(rt; shelf.get("a") == Some(FILES[0].1) && shelf.get("new").is_none());
@@ -186,13 +188,7 @@ fn a_name_that_can_not_be_kept_under_ends_a_run(rt: HostRuntime) -> Result<(), F
     for (why, name, line, want) in cases {
         let mut shelf = FailingShelf::new(MemShelf::of(alloc, &FILES)?, 0, why);
         let mut out = SampleWriter::new(alloc);
-        let mut reader = b"".as_slice();
-        let mut io = BorrowedIo {
-            shelf: &mut shelf,
-            reader: &mut reader,
-            out: &mut out,
-        };
-        let begun = begin_making(alloc, name, &mut io);
+        let begun = begin_making(alloc, name, &mut shelf, &mut out);
         assert!(rt; begun.err() == Some(want) && out.taken() == line);
         assert!(rt; has_its_files(&shelf) && shelf.files().get("a b\n").is_none());
         assert_eq!(rt;
@@ -218,15 +214,23 @@ fn makes_abc<'i>(alloc: Global, is_yes: bool) -> Result<Answer<'i>, AllocError> 
     })
 }
 
-/// The end of its run.
-fn conclude_making<I: Io>(
+/// The end of its run, over an empty reader.
+fn conclude_making<S: Shelf>(
     alloc: Global,
     out_name: &str,
     answer: &Result<Answer<'_>, AllocError>,
-    io: &mut I,
+    shelf: &mut S,
+    out: &mut SampleWriter,
 ) -> Status {
     let command = Makes { out: out_name };
-    keep_and_conclude(alloc, &command, answer, out_name, io)
+    let mut reader = b"".as_slice();
+    keep_and_conclude(
+        alloc,
+        &command,
+        answer,
+        out_name,
+        &mut io_over(shelf, &mut reader, out),
+    )
 }
 
 /// Whether a run wrote the digest lines of its last input and of what it made, and then this one.
@@ -242,13 +246,7 @@ fn a_file_that_was_made_is_kept_after_a_yes(rt: HostRuntime) -> Result<(), Fail>
     let alloc = rt.alloc();
     let mut shelf = MemShelf::of(alloc, &[("o", b"old"), ("p", b"other")])?;
     let mut out = SampleWriter::new(alloc);
-    let mut reader = b"".as_slice();
-    let mut io = BorrowedIo {
-        shelf: &mut shelf,
-        reader: &mut reader,
-        out: &mut out,
-    };
-    let status = conclude_making(alloc, "o", &makes_abc(alloc, true), &mut io);
+    let status = conclude_making(alloc, "o", &makes_abc(alloc, true), &mut shelf, &mut out);
     assert_eq!(rt; (status, out.calls()), (Status::Yes, 1));
     for (name, bytes) in [("o", b"abc".as_slice()), ("p", b"other")] {
         assert!(rt; shelf.get(name) == Some(bytes), "{name}");
@@ -262,13 +260,7 @@ fn a_file_is_kept_before_any_line(rt: HostRuntime) -> Result<(), Fail> {
     let alloc = rt.alloc();
     let mut shelf = MemShelf::of(alloc, &[])?;
     let mut out = SampleWriter::new(alloc).failing(0, u64::MAX, Failing::ByTakingNothing);
-    let mut reader = b"".as_slice();
-    let mut io = BorrowedIo {
-        shelf: &mut shelf,
-        reader: &mut reader,
-        out: &mut out,
-    };
-    let status = conclude_making(alloc, "o", &makes_abc(alloc, true), &mut io);
+    let status = conclude_making(alloc, "o", &makes_abc(alloc, true), &mut shelf, &mut out);
     assert_eq!(rt; status, Status::Fault);
     assert!(rt; out.taken().is_empty());
     assert!(rt; shelf.get("o") == Some(b"abc".as_slice()));
@@ -280,13 +272,7 @@ fn nothing_is_kept_after_a_no(rt: HostRuntime) -> Result<(), Fail> {
     let alloc = rt.alloc();
     let mut shelf = MemShelf::of(alloc, &[("o", b"old")])?;
     let mut out = SampleWriter::new(alloc);
-    let mut reader = b"".as_slice();
-    let mut io = BorrowedIo {
-        shelf: &mut shelf,
-        reader: &mut reader,
-        out: &mut out,
-    };
-    let status = conclude_making(alloc, "o", &makes_abc(alloc, false), &mut io);
+    let status = conclude_making(alloc, "o", &makes_abc(alloc, false), &mut shelf, &mut out);
     assert_eq!(rt; status, Status::Refused);
     assert!(rt; has_digests_and(out.taken(), b"refused T7\n"));
     assert!(rt; shelf.get("o") == Some(b"old".as_slice()));
@@ -298,13 +284,7 @@ fn nothing_is_kept_without_memory(rt: HostRuntime) -> Result<(), Fail> {
     let alloc = rt.alloc();
     let mut shelf = MemShelf::of(alloc, &[("o", b"old")])?;
     let mut out = SampleWriter::new(alloc);
-    let mut reader = b"".as_slice();
-    let mut io = BorrowedIo {
-        shelf: &mut shelf,
-        reader: &mut reader,
-        out: &mut out,
-    };
-    let status = conclude_making(alloc, "o", &Err(AllocError), &mut io);
+    let status = conclude_making(alloc, "o", &Err(AllocError), &mut shelf, &mut out);
     assert_eq!(rt; status, Status::NoMemory);
     assert!(rt; out.taken() == b"no memory\n".as_slice());
     assert!(rt; shelf.get("o") == Some(b"old".as_slice()));
@@ -327,13 +307,7 @@ fn a_keep_that_fails_is_said_alone(rt: HostRuntime) -> Result<(), Fail> {
     for (why, name, line, want) in cases {
         let mut shelf = FailingShelf::new(MemShelf::of(alloc, &FILES)?, 0, why);
         let mut out = SampleWriter::new(alloc);
-        let mut reader = b"".as_slice();
-        let mut io = BorrowedIo {
-            shelf: &mut shelf,
-            reader: &mut reader,
-            out: &mut out,
-        };
-        let status = conclude_making(alloc, name, &makes_abc(alloc, true), &mut io);
+        let status = conclude_making(alloc, name, &makes_abc(alloc, true), &mut shelf, &mut out);
         assert_eq!(rt; (status, out.calls()), (want, 1));
         assert!(rt; out.taken() == line);
         assert!(rt; has_its_files(&shelf) && shelf.files().get("a b\n").is_none());
