@@ -19,7 +19,7 @@
 #include <string.h>
 #include <time.h>
 
-enum { MOST_CELLS = 25, MOST_TILES = 8, MOST_TABLES = 16, MOST_SETS = 16, MOST_PLACES = 2 * MOST_TABLES };
+enum { MOST_CELLS = 25, MOST_TILES = 8, MOST_TABLES = 16, MOST_SETS = 16, MOST_PLACES = MOST_SETS * MOST_CELLS };
 enum { HEADER = 20, NO_REGION = 254, NO_WAY_HOME = 255, NEVER = 1 << 15, GREATEST_BOUND = 255, KEPT_BITS = 16 };
 enum { UP, DOWN, LEFT, RIGHT, MOVES, NOWHERE = -1 };
 enum { FAILED, SOLVED, ENDED };
@@ -33,17 +33,14 @@ struct table {
     const uint8_t *entries;
 };
 
-/* Where the tiles of a table are on the board, or on the transposed one. */
+/* A member of a set: where the tiles of its table are on the board, or on the transposed one. */
 struct place {
     const struct table *table;
     const uint8_t *seen;        /* each cell as this place sees it */
     uint8_t index[MOST_CELLS];  /* of each tile of the board among those of the table */
     uint8_t cell[MOST_TILES];   /* of each tile of the table, as seen */
     uint32_t weight[MOST_TILES];
-    set free;
     int told;
-    int sets;
-    uint8_t in[MOST_SETS]; /* the sets that have this member */
 };
 
 /* The slot of each free cell. */
@@ -58,8 +55,7 @@ static int8_t beside[MOST_CELLS][MOVES];
 static uint8_t same[MOST_CELLS], mirror[MOST_CELLS], parity[MOST_CELLS], number[MOST_CELLS];
 static struct table table[MOST_TABLES];
 static struct place place[MOST_PLACES];
-static int owners[MOST_CELLS];                      /* how many places a tile is in */
-static struct place *owner[MOST_CELLS][MOST_PLACES]; /* these places */
+static struct place *owner[MOST_SETS][MOST_CELLS]; /* of each tile, where a set has one */
 static int sum[MOST_SETS];
 static struct slots kept[1 << KEPT_BITS];
 static uint64_t boards, budget;
@@ -190,13 +186,10 @@ static int look(const struct place *p, int blank)
 
 /* Sets */
 
-static struct place *add_place(const struct table *t, const uint8_t *seen)
+static int add_place(const struct table *t, const uint8_t *seen)
 {
-    for (int i = 0; i < places; i++)
-        if (place[i].table == t && place[i].seen == seen)
-            return &place[i];
     struct place *p = &place[places++];
-    *p = (struct place){.table = t, .seen = seen, .free = all};
+    *p = (struct place){.table = t, .seen = seen};
     uint32_t weight = t->width;
     for (int i = t->size - 1; i >= 0; i--) {
         p->weight[i] = weight;
@@ -211,12 +204,11 @@ static struct place *add_place(const struct table *t, const uint8_t *seen)
             if (tile && t->tile[i] == seen[tile]) {
                 p->index[tile] = i;
                 p->cell[i] = seen[cell];
-                p->free &= ~only(seen[cell]);
-                owner[tile][owners[tile]++] = p;
+                owner[sets][tile] = p;
             }
     }
     p->told = look(p, seen[blank]);
-    return p;
+    return p->told;
 }
 
 static void add_set(const char *line)
@@ -229,9 +221,7 @@ static void add_set(const char *line)
         unsigned long which = strtoul(line, &end, 10);
         if (end == line || which >= (unsigned long)tables)
             fail("no member: ", line);
-        struct place *p = add_place(&table[which], *end == 't' ? mirror : same);
-        p->in[p->sets++] = sets;
-        sum[sets] += p->told;
+        sum[sets] += add_place(&table[which], *end == 't' ? mirror : same);
         line = end + (*end == 't');
         line += *line == ' ';
     }
@@ -251,14 +241,27 @@ static void read_sets(const char *name)
 
 /* Searching */
 
-/* The greatest of what the sets say, raised to the parity of all solutions. */
+/* What a set says, raised to the parity of all solutions. */
+static int raised(int which, int blank)
+{
+    return sum[which] + ((sum[which] ^ parity[blank]) & 1);
+}
+
+/* The first set that says the most. */
+static int greatest(void)
+{
+    int best = 0;
+    for (int i = 1; i < sets; i++)
+        best = sum[i] > sum[best] ? i : best;
+    return best;
+}
+
+/* The greatest of what the sets say. */
 static int bound_at(int blank)
 {
     int best = 0;
-    for (int i = 0; i < sets; i++) {
-        int raised = sum[i] + ((sum[i] ^ parity[blank]) & 1);
-        best = raised > best ? raised : best;
-    }
+    for (int i = 0; i < sets; i++)
+        best = raised(i, blank) > best ? raised(i, blank) : best;
     return best;
 }
 
@@ -270,42 +273,56 @@ static int is_goal(void)
     return cell == cells;
 }
 
-static void tell(struct place *p, int told)
+/* Looks up a board to which a tile has moved in a set. Answers what the set's member told before. */
+static int look_after(int which, int tile, int blank, int to)
 {
-    for (int i = 0; i < p->sets; i++)
-        sum[p->in[i]] += told - p->told;
+    struct place *p = owner[which][tile];
+    if (!p)
+        return 0;
+    int told = p->told;
+    p->cell[p->index[tile]] = p->seen[blank];
+    p->told = look(p, p->seen[to]);
+    sum[which] += p->told - told;
+    return told;
+}
+
+static void look_back(int which, int tile, int to, int told)
+{
+    struct place *p = owner[which][tile];
+    if (!p)
+        return;
+    p->cell[p->index[tile]] = p->seen[to];
+    sum[which] += told - p->told;
     p->told = told;
 }
 
-/* Expands the board. It has a solution of fewer moves than remain if this answers SOLVED. */
+/* Expands the board. It has a solution of fewer moves than remain if this answers SOLVED. A board beside it is first looked up
+ * in the set that says the most of this one, and in another one where no earlier one cuts it off. */
 static int expand(int blank, int came_from, int remaining)
 {
     if (boards == budget)
         return ENDED;
     boards++;
+    int first = greatest();
     for (int way = 0; way < MOVES; way++) {
         int to = beside[blank][way];
         if (to == NOWHERE || to == came_from)
             continue;
-        int tile = number[to], before[MOST_PLACES], outcome = FAILED;
+        int tile = number[to], told[MOST_SETS], order[MOST_SETS], looked = 0, is_cut = 0, outcome = FAILED;
         number[blank] = tile;
         number[to] = 0;
-        for (int i = 0; i < owners[tile]; i++) {
-            struct place *p = owner[tile][i];
-            before[i] = p->told;
-            p->cell[p->index[tile]] = p->seen[blank];
-            tell(p, look(p, p->seen[to]));
+        while (looked < sets && !is_cut) {
+            int which = looked == 0 ? first : looked <= first ? looked - 1 : looked;
+            order[looked] = which;
+            told[looked++] = look_after(which, tile, blank, to);
+            is_cut = raised(which, to) >= remaining - 1;
         }
-        int bound = bound_at(to);
-        if (bound < remaining - 1)
-            outcome = bound == 0 && is_goal() ? SOLVED : expand(to, blank, remaining - 1);
+        if (!is_cut)
+            outcome = is_goal() ? SOLVED : expand(to, blank, remaining - 1);
         number[to] = tile;
         number[blank] = 0;
-        for (int i = 0; i < owners[tile]; i++) {
-            struct place *p = owner[tile][i];
-            p->cell[p->index[tile]] = p->seen[to];
-            tell(p, before[i]);
-        }
+        while (looked-- > 0)
+            look_back(order[looked], tile, to, told[looked]);
         if (outcome != FAILED)
             return outcome;
     }

@@ -14,7 +14,7 @@ pub struct Limits {
     pub one_lemma_below: usize,
     /// The most bytes of the tree of a log.
     pub tree: usize,
-    /// The most bytes of a tree that is written before it is known whether a log needs it.
+    /// The most bytes that a tree may have in a log, where it is written before it is known whether a log needs it.
     pub early_tree: usize,
 }
 
@@ -24,6 +24,6 @@ impl Limits {
         lemmas: 1 << 20,
         one_lemma_below: 1 << 16,
         tree: MOST_BYTES - MOST_BEFORE_TREE,
-        early_tree: 1 << 24,
+        early_tree: 1 << 28,
     };
 }

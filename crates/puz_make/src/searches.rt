@@ -114,12 +114,13 @@ struct Search<'a> {
 impl<'a> Search<'a> {
     /// A search that may expand so many boards.
     fn new(alloc: Global, position: Position<'a>, budget: u64, limits: &Limits) -> Search<'a> {
+        let sets = position.sums.count();
         Search {
             position,
             budget,
             limits: *limits,
-            tree: WrittenTree::new(alloc, limits.early_tree),
-            failed: WrittenTree::new(alloc, limits.early_tree),
+            tree: WrittenTree::new(alloc, sets, limits.early_tree),
+            failed: WrittenTree::new(alloc, sets, limits.early_tree),
             moves: Vec::new(alloc),
         }
     }
@@ -148,7 +149,7 @@ impl<'a> Search<'a> {
         let refutation = Refutation {
             board: *board,
             bound,
-            tree: self.failed.nodes,
+            tree: self.failed.into_bytes()?,
         };
         Ok(Found {
             moves: self.moves,
@@ -161,8 +162,8 @@ impl<'a> Search<'a> {
         ensures { IfErr result IsSearchFault }
     {
         self.budget = u64::MAX;
-        self.tree.clear();
         self.tree.most = self.limits.tree;
+        self.tree.clear();
         let _ = self.is_solved(levels, u16::from(bound))?;
         self.begin_again();
         if self.failed.is_whole {

@@ -101,6 +101,11 @@ impl<'a> Sums<'a> {
         Ok(())
     }
 
+    /// How many sets there are.
+    pub(crate) fn count(&self) -> u8 {
+        u8::try_from(self.sets.len()).unwrap_or(u8::MAX)
+    }
+
     /// Looks up the board to which a tile moves.
     #[inline]
     pub(crate) fn look(

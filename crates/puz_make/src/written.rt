@@ -1,12 +1,40 @@
 //! The tree of a threshold, as it is written while the search goes on.
+//!
+//! A node takes few binary digits: a branch one, and a leaf as many as tell its set and its kind. So the tree of the last threshold
+//! and that of the next take less memory together than one of them has bytes in a log.
 
-use std::alloc::Global;
+use crate::trees::BRANCH;
+use std::alloc::{AllocError, Global};
 
-/// A tree that is written, node after node. It is dropped where it has too many bytes or memory for it is refused, and the
+/// How many words a block has.
+const WORDS_OF_BLOCK: usize = 1 << 12;
+
+/// How many digits a word has.
+const DIGITS_OF_WORD: u32 = u64::BITS;
+
+/// The most digits of a node.
+const MOST_DIGITS: u32 = 6;
+
+/// How many of a leaf's digits say that it is a leaf, and of which kind.
+const DIGITS_OF_KIND: u32 = 2;
+
+/// The binary digit of a leaf's byte that a leaf by parity has.
+const PARITY: u8 = 0x40;
+
+/// A tree that is written, node after node. It is dropped where it has too many nodes or memory for it is refused, and the
 /// search goes on without it.
 #[derive(Drop)]
 pub(crate) struct WrittenTree {
-    pub(crate) nodes: Vec<u8>,
+    /// The words that are full, in blocks that are, but for the last one.
+    blocks: Vec<Vec<u64>>,
+    /// The nodes after these, from the last digit on.
+    word: u64,
+    /// How many digits they have.
+    digits: u32,
+    /// How many digits a leaf has.
+    leaf_digits: u32,
+    /// How many more nodes it may have.
+    room: usize,
     /// Whether no node is missing.
     pub(crate) is_whole: bool,
     /// The most nodes that it may have.
@@ -14,10 +42,16 @@ pub(crate) struct WrittenTree {
 }
 
 impl WrittenTree {
-    /// A tree without nodes.
-    pub(crate) fn new(alloc: Global, most: usize) -> WrittenTree {
+    /// A tree without nodes, whose leaves are by so many sets.
+    pub(crate) fn new(alloc: Global, sets: u8, most: usize) -> WrittenTree {
+        let greatest = sets.saturating_sub(1);
+        let set_digits = u8::BITS.saturating_sub(greatest.leading_zeros());
         WrittenTree {
-            nodes: Vec::new(alloc),
+            blocks: Vec::new(alloc),
+            word: 0,
+            digits: 0,
+            leaf_digits: MOST_DIGITS.min(set_digits.saturating_add(DIGITS_OF_KIND)),
+            room: most,
             is_whole: true,
             most,
         }
@@ -26,22 +60,131 @@ impl WrittenTree {
     /// Writes a node.
     #[inline]
     pub(crate) fn put(&mut self, node: u8) {
-        if self.is_whole && (self.nodes.len() >= self.most || self.nodes.push(node).is_err()) {
+        if self.room == 0 {
+            self.drop_nodes();
+            return;
+        }
+        self.room -= 1;
+        self.word |= code_of(node) << (self.digits % DIGITS_OF_WORD);
+        let digits = if node == BRANCH { 1 } else { self.leaf_digits };
+        self.digits = self.digits.wrapping_add(digits);
+        if self.digits > DIGITS_OF_WORD - MOST_DIGITS {
+            self.end_word();
+        }
+    }
+
+    /// Ends a word.
+    #[inline(never)]
+    fn end_word(&mut self) {
+        if self.add_word().is_err() {
             self.drop_nodes();
         }
+        self.word = 0;
+        self.digits = 0;
+    }
+
+    /// Adds a word to the last block, or to a new one.
+    fn add_word(&mut self) -> Result<(), AllocError> {
+        if let Some(block) = self.blocks.last_mut() {
+            if block.len() < WORDS_OF_BLOCK {
+                block.push(self.word)?;
+                return Ok(());
+            }
+        }
+        let alloc = *self.blocks.allocator();
+        let mut block = Vec::with_capacity(alloc, WORDS_OF_BLOCK)?;
+        block.push(self.word)?;
+        self.blocks.push(block)?;
+        Ok(())
     }
 
     /// Gives the nodes up, and their memory.
     #[cold]
     pub(crate) fn drop_nodes(&mut self) {
-        let alloc = *self.nodes.allocator();
-        self.nodes = Vec::new(alloc);
-        self.is_whole = false;
+        if self.is_whole {
+            let alloc = *self.blocks.allocator();
+            self.blocks = Vec::new(alloc);
+            self.room = 0;
+            self.is_whole = false;
+        }
     }
 
-    /// Begins again, in the same memory.
+    /// Begins again.
     pub(crate) fn clear(&mut self) {
-        self.nodes.clear();
+        self.blocks.clear();
+        self.word = 0;
+        self.digits = 0;
+        self.room = self.most;
         self.is_whole = true;
     }
+
+    /// The nodes, a byte each, as a log has them.
+    pub(crate) fn into_bytes(self) -> Result<Vec<u8>, AllocError> {
+        let alloc = *self.blocks.allocator();
+        let WrittenTree {
+            blocks,
+            word,
+            leaf_digits,
+            room,
+            most,
+            ..
+        } = self;
+        let nodes = most.saturating_sub(room);
+        let mut bytes = Vec::with_capacity(alloc, nodes)?;
+        for block in blocks {
+            for word in &block {
+                add_nodes(&mut bytes, *word, leaf_digits, nodes)?;
+            }
+        }
+        add_nodes(&mut bytes, word, leaf_digits, nodes)?;
+        Ok(bytes)
+    }
+}
+
+/// The digits of a node, the first one last.
+#[inline]
+fn code_of(node: u8) -> u64 {
+    if node == BRANCH {
+        return 0;
+    }
+    let is_by_parity = node & PARITY != 0;
+    let set = (node & !PARITY).saturating_sub(1);
+    u64::from(set) << DIGITS_OF_KIND | u64::from(is_by_parity) << 1 | 1
+}
+
+/// Adds the nodes of a word, up to so many bytes.
+fn add_nodes(
+    bytes: &mut Vec<u8>,
+    word: u64,
+    leaf_digits: u32,
+    most: usize,
+) -> Result<(), AllocError> {
+    let mut rest = word;
+    let mut passed = 0u32;
+    for _ in 0..DIGITS_OF_WORD {
+        if passed > DIGITS_OF_WORD - MOST_DIGITS || bytes.len() >= most {
+            break;
+        }
+        let is_leaf = rest & 1 != 0;
+        let digits = if is_leaf { leaf_digits } else { 1 };
+        let node = if is_leaf {
+            leaf_of(rest, leaf_digits)
+        } else {
+            BRANCH
+        };
+        bytes.push(node)?;
+        rest >>= digits % DIGITS_OF_WORD;
+        passed = passed.wrapping_add(digits);
+    }
+    Ok(())
+}
+
+/// The byte of a leaf whose digits these begin with.
+#[inline]
+fn leaf_of(rest: u64, leaf_digits: u32) -> u8 {
+    let end = 1u64 << (leaf_digits % DIGITS_OF_WORD);
+    let code = rest & end.saturating_sub(1);
+    let set = u8::try_from(code >> DIGITS_OF_KIND).unwrap_or(0);
+    let kind = if code & 2 != 0 { PARITY } else { 0 };
+    set.saturating_add(1) | kind
 }
