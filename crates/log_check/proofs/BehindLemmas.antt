@@ -8,7 +8,7 @@ use Rattle.set_sum.specs.SumViews.{SumsView}
 use Rattle.log_file.specs.Logs.{Log}
 use Rattle.log_check.specs.Nodes.{BeginsWith, BeginsWithNone}
 use Rattle.log_check.specs.Refutations.{takes_back}
-use Rattle.log_check.specs.Walks.{AreRefused, AreWalked, MayHave, with_node}
+use Rattle.log_check.specs.Walks.{AreNeverPending, AreWalked, MayHave, with_node}
 use Rattle.log_check.specs.declared.nodes.Node.{Node}
 use Rattle.log_check.proofs.NodeLemmas.{node_bytes-step, none-pending}
 use Rattle.log_check.proofs.Pending.{Pending, Waiting, with_child, with_child_at}
@@ -67,28 +67,28 @@ module _ (v : BundleView) (log : Log) (i : ℕ) where
   walked_as first also bytes behind same walked ws = subst (λ all. Pending v log i all bytes ↔ Pending v log i ws behind) (sym (same ws)) (walked ws)
 
   pub refused_as : (first also : List Waiting → List Waiting) (bytes : List ℕ) → ((ws : List Waiting) → first ws ≡ also ws)
-      → AreRefused v log i also bytes → AreRefused v log i first bytes
+      → AreNeverPending v log i also bytes → AreNeverPending v log i first bytes
   refused_as first also bytes same none ws = subst (λ all. ¬ Pending v log i all bytes) (sym (same ws)) (none ws)
 
   pub walked_then : (first next : List Waiting → List Waiting) (bytes between behind : List ℕ)
       → AreWalked v log i first bytes between → AreWalked v log i next between behind → AreWalked v log i (λ ws. first (next ws)) bytes behind
   walked_then first next bytes between behind one two ws = (λ p. (two ws).0 ((one (next ws)).0 p), λ p. (one (next ws)).1 ((two ws).1 p))
 
-  pub refused_first : (first next : List Waiting → List Waiting) (bytes : List ℕ) → AreRefused v log i first bytes → AreRefused v log i (λ ws. first (next ws)) bytes
+  pub refused_first : (first next : List Waiting → List Waiting) (bytes : List ℕ) → AreNeverPending v log i first bytes → AreNeverPending v log i (λ ws. first (next ws)) bytes
   refused_first first next bytes none ws = none (next ws)
 
   pub refused_then : (first next : List Waiting → List Waiting) (bytes between : List ℕ)
-      → AreWalked v log i first bytes between → AreRefused v log i next between → AreRefused v log i (λ ws. first (next ws)) bytes
+      → AreWalked v log i first bytes between → AreNeverPending v log i next between → AreNeverPending v log i (λ ws. first (next ws)) bytes
   refused_then first next bytes between one none ws p = none ws ((one (next ws)).0 p)
 
   -- ---- a node
 
   module _ (few : length v.sets ≤ 16) (fits : i < 2 ^ 32) (w : Waiting) (bytes : List ℕ) where
-    pub refused_none : BeginsWithNone log.version (length v.sets) bytes → AreRefused v log i (λ ws. w ∷ ws) bytes
+    pub refused_none : BeginsWithNone log.version (length v.sets) bytes → AreNeverPending v log i (λ ws. w ∷ ws) bytes
     refused_none none ws = none-pending v few log i fits w ws bytes none
 
     module _ (node : Node) (between : List ℕ) (begins : BeginsWith log.version (length v.sets) node between bytes) where
-      pub refused_node : ¬ MayHave v log i w node → AreRefused v log i (λ ws. w ∷ ws) bytes
+      pub refused_node : ¬ MayHave v log i w node → AreNeverPending v log i (λ ws. w ∷ ws) bytes
       refused_node none ws p = none ((node_bytes-step v few log i fits w ws bytes node between begins).0 p).0
 
       pub walked_node : MayHave v log i w node → (behind : List ℕ) → AreWalked v log i (with_node node w) between behind → AreWalked v log i (λ ws. w ∷ ws) bytes behind
@@ -96,5 +96,5 @@ module _ (v : BundleView) (log : Log) (i : ℕ) where
           let step = node_bytes-step v few log i fits w ws bytes node between begins in
           (λ p. (walked ws).0 (step.0 p).1, λ p. step.1 (may, (walked ws).1 p))
 
-      pub refused_children : AreRefused v log i (with_node node w) between → AreRefused v log i (λ ws. w ∷ ws) bytes
+      pub refused_children : AreNeverPending v log i (with_node node w) between → AreNeverPending v log i (λ ws. w ∷ ws) bytes
       refused_children none ws p = none ws ((node_bytes-step v few log i fits w ws bytes node between begins).0 p).1

@@ -66,5 +66,5 @@ module _ (v : BundleView) (log : Log) (i : ℕ) where
   AreWalked first bytes behind = (ws : List Waiting) → Pending (first ws) bytes ↔ Pending ws behind
 
   -- whatever boards wait behind the first ones, all of them wait for other bytes
-  abbrev pub AreRefused : (List Waiting → List Waiting) → List ℕ → Type 0
-  AreRefused first bytes = (ws : List Waiting) → ¬ Pending (first ws) bytes
+  abbrev pub AreNeverPending : (List Waiting → List Waiting) → List ℕ → Type 0
+  AreNeverPending first bytes = (ws : List Waiting) → ¬ Pending (first ws) bytes

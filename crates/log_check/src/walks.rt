@@ -3,7 +3,7 @@
 ghost use Rattle.std.specs.Prelude.{◌≡◌, ◌∷◌, ◌<◌, ◌≤◌, IfNone, IfSome, length};
 ghost use Rattle.puz_board.specs.Boards.{IsBoardOf};
 ghost use Rattle.log_check.specs.Reached.{waiting_of};
-ghost use Rattle.log_check.specs.Walks.{AreRefused, AreWalked, all_moves, with_child, with_children};
+ghost use Rattle.log_check.specs.Walks.{AreNeverPending, AreWalked, all_moves, with_child, with_children};
 
 use crate::lemmas::may_have;
 use crate::nodes::{Node, first_node};
@@ -38,7 +38,7 @@ pub(crate) fn behind_tree<'b>(
         AreWalked reached.old.sums.bundle log.now i (λ ws. waiting_of reached.old ∷ ws)
         bytes.now behind.now) }
     ensures none { IfNone result (
-        AreRefused reached.old.sums.bundle log.now i (λ ws. waiting_of reached.old ∷ ws)
+        AreNeverPending reached.old.sums.bundle log.now i (λ ws. waiting_of reached.old ∷ ws)
         bytes.now) }
     ensures same { reached.new ≡ reached.old }
 {
@@ -69,7 +69,7 @@ fn behind_children<'b>(
         AreWalked reached.old.sums.bundle log.now i
         (with_children (waiting_of reached.old) all_moves) bytes.now behind.now) }
     ensures none { IfNone result (
-        AreRefused reached.old.sums.bundle log.now i
+        AreNeverPending reached.old.sums.bundle log.now i
         (with_children (waiting_of reached.old) all_moves) bytes.now) }
     ensures same { reached.new ≡ reached.old }
 {
@@ -96,7 +96,7 @@ fn behind_child<'b>(
         AreWalked reached.old.sums.bundle log.now i (with_child (waiting_of reached.old) mv)
         bytes.now behind.now) }
     ensures none { IfNone result (
-        AreRefused reached.old.sums.bundle log.now i (with_child (waiting_of reached.old) mv)
+        AreNeverPending reached.old.sums.bundle log.now i (with_child (waiting_of reached.old) mv)
         bytes.now) }
     ensures same { reached.new ≡ reached.old }
 {

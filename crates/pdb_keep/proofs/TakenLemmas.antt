@@ -15,7 +15,7 @@ use Rattle.pdb_run.specs.declared.statuses.Status.{Status}
 use Rattle.pdb_run.specs.declared.statuses.Status.TheVariants.{Yes, Refused}
 use Rattle.pdb_run.proofs.AnswerLemmas.{IsAnswered-ends}
 use Rattle.pdb_verdict.specs.Bound.{IsBoundOfText}
-use Rattle.pdb_verdict.specs.Inputs.{LogFiles, files_of, log_claim, log_files}
+use Rattle.pdb_verdict.specs.Inputs.{LogFiles, files_in_order, log_claim, log_files}
 use Rattle.pdb_verdict.specs.Limits.{a_table}
 use Rattle.pdb_verdict.specs.Lines.{reply_to}
 use Rattle.pdb_verdict.specs.Plans.{IsCheckReply, log_check_inputs, log_check_plan}
@@ -73,7 +73,7 @@ module _ (fold : Bool) (text sets out : Bytes) (tables : List Bytes) (before : F
   has = same ∙ kept.kept ∙ ap (λ (files : Option Files). told_with files out kept.log) had
 
   -- the files that are read are those of the log that was kept
-  same_files : (files : LogFiles) → AreRead later.files later.reader (log_check_inputs text sets out tables) (files_of (log_claim Bound fold files))
+  same_files : (files : LogFiles) → AreRead later.files later.reader (log_check_inputs text sets out tables) (files_in_order (log_claim Bound fold files))
       → files ≡ log_files kept.found.board_text kept.found.set_text kept.log kept.files
   same_files files read =
       let f = kept.found in

@@ -17,7 +17,7 @@ use Rattle.pdb_run.specs.Runs.{IsAnswered, World, status_of_reply}
 use Rattle.pdb_run.specs.Statuses.{status_number}
 use Rattle.pdb_run.specs.declared.statuses.Status.{Status}
 use Rattle.pdb_run.specs.declared.statuses.Status.TheVariants.{Yes, Refused, Fault, NoMemory}
-use Rattle.pdb_verdict.specs.Inputs.{Given, files_of, log_claim, puzzle_text, table_file}
+use Rattle.pdb_verdict.specs.Inputs.{Given, files_in_order, log_claim, puzzle_text, table_file}
 use Rattle.pdb_verdict.specs.Limits.{a_table, a_text}
 use Rattle.pdb_verdict.specs.Lines.{counted, digested_of, exact_line, line_of_verdict, reply_to}
 use Rattle.pdb_verdict.specs.Plans.{IsCheckReply, log_check_inputs}
@@ -107,7 +107,7 @@ module _ (old new : World) (before after : Bytes → Option Bytes) (input start 
     -- a yes on inputs that were read
     checked : {A : Type 0} (wanted : List Wanted) (given_of : A → Given) (inputs : List Bytes) → AreRead old.files old.reader wanted inputs
         → (is : IsCheckReply given_of inputs reply) → reply.is_yes ≡ true
-        → (v : Verdict) × AreRead old.files old.reader wanted (files_of (given_of is.0)) × IsTrueOf (given_of is.0) v × HoldsOfSolutions (given_of is.0) v
+        → (v : Verdict) × AreRead old.files old.reader wanted (files_in_order (given_of is.0)) × IsTrueOf (given_of is.0) v × HoldsOfSolutions (given_of is.0) v
         × EndWith (line_of_verdict v) lines
     checked wanted given_of inputs read is is_yes =
         let yes = told_yes (given_of is.0) reply is.2 is_yes in

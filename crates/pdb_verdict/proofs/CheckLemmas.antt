@@ -5,7 +5,7 @@ use Rattle.byte_io.specs.Shelf.{Bytes}
 use Rattle.pdb_run.specs.Answers.{IsAnswerBy}
 use Rattle.pdb_run.specs.declared.answers.Answer.{Answer}
 use Rattle.pdb_verdict.specs.Claims.{IsClaimResult, claim_verdict}
-use Rattle.pdb_verdict.specs.Inputs.{Given, files_of, log_claim, puzzle_text, table_file}
+use Rattle.pdb_verdict.specs.Inputs.{Given, files_in_order, log_claim, puzzle_text, table_file}
 use Rattle.pdb_verdict.specs.Plans.{CheckTakesMemory, IsCheckReply}
 use Rattle.pdb_verdict.specs.Refusals.{fault_of_claim, fault_of_replay}
 use Rattle.pdb_verdict.specs.Replay.{IsReplayResult}
@@ -26,7 +26,7 @@ only_input f (x ∷ []) a one is = λ i. f (sym is i) ∷ []
 only_input f (x ∷ y ∷ rest) a one is = absurd (omega arith)
 
 -- an answer on what was read is one on the inputs
-pub check_answered : {A : Type 0} (given_of : A → Given) (a : A) (inputs : List Bytes) (told : Result Answer AllocError) → inputs ≡ files_of (given_of a)
+pub check_answered : {A : Type 0} (given_of : A → Given) (a : A) (inputs : List Bytes) (told : Result Answer AllocError) → inputs ≡ files_in_order (given_of a)
     → IsAnswerBy (TellsResult (given_of a)) (TakesMemory (given_of a)) told → IsAnswerBy (IsCheckReply given_of inputs) (CheckTakesMemory given_of inputs) told
 check_answered given_of a inputs (Ok answer) are says = (says.0, (a, are, says.1), says.2)
 check_answered given_of a inputs (Err refused) are takes = (a, are, takes)

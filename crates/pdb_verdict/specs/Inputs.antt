@@ -36,11 +36,11 @@ given (inputs.Bound board sets log tables fold) = log_claim Bound fold (log_file
 given (inputs.Optimal puzzle sets log tables fold) = log_claim Optimum fold (log_files puzzle.now sets.now log.now (all_bytes tables.now))
 
 -- the files, in the order in which they are read
-abbrev pub files_of : Given → List Bytes
-files_of (puzzle_text puzzle) = puzzle ∷ []
-files_of (table_file table) = table ∷ []
-files_of (log_claim claim fold files) = files.text ∷ files.sets ∷ files.log ∷ files.tables
+abbrev pub files_in_order : Given → List Bytes
+files_in_order (puzzle_text puzzle) = puzzle ∷ []
+files_in_order (table_file table) = table ∷ []
+files_in_order (log_claim claim fold files) = files.text ∷ files.sets ∷ files.log ∷ files.tables
 
 -- their bytes, one after the other
 abbrev pub bytes_of : Given → Bytes
-bytes_of inputs = flat_map (λ file. file) (files_of inputs)
+bytes_of inputs = flat_map (λ file. file) (files_in_order inputs)

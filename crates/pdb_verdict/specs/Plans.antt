@@ -5,18 +5,18 @@ use Rattle.pdb_request.specs.Asked.{file_names}
 use Rattle.pdb_request.specs.declared.requests.Claim.{Claim}
 use Rattle.pdb_request.specs.declared.requests.LogCheck.{LogCheck}
 use Rattle.pdb_run.specs.Commands.{Plan, Reply, Wanted, plan}
-use Rattle.pdb_verdict.specs.Inputs.{Given, files_of, log_claim, puzzle_text, table_file}
+use Rattle.pdb_verdict.specs.Inputs.{Given, files_in_order, log_claim, puzzle_text, table_file}
 use Rattle.pdb_verdict.specs.Limits.{a_log, a_table, a_text}
 use Rattle.pdb_verdict.specs.Verdicts.{TakesMemory, TellsResult}
 
 module _ {A : Type 0} where
   -- the bytes of inputs are something that is to be checked, and the result on that is told
   abbrev pub IsCheckReply : (A → Given) → List Bytes → Reply → Type 0
-  IsCheckReply given_of inputs reply = (a : A) × (inputs ≡ files_of (given_of a)) × TellsResult (given_of a) reply
+  IsCheckReply given_of inputs reply = (a : A) × (inputs ≡ files_in_order (given_of a)) × TellsResult (given_of a) reply
 
   -- it takes memory to check it
   abbrev pub CheckTakesMemory : (A → Given) → List Bytes → Type 0
-  CheckTakesMemory given_of inputs = (a : A) × (inputs ≡ files_of (given_of a)) × TakesMemory (given_of a)
+  CheckTakesMemory given_of inputs = (a : A) × (inputs ≡ files_in_order (given_of a)) × TakesMemory (given_of a)
 
   -- the plan of such a check, for any number of workers
   abbrev pub check_plan : List Wanted → (A → Given) → Plan

@@ -3,7 +3,7 @@
 ghost use Rattle.std.specs.Prelude.{◌≡◌, ◌≤◌, ◌<◌, ◌+◌, ◌∷◌, ◌++◌, Bool, length, map, OnOk};
 ghost use Rattle.pdb_run.specs.Answers.{all_bytes};
 ghost use Rattle.pdb_run.specs.Inputs.{wanted_of};
-ghost use Rattle.pdb_verdict.specs.Inputs.{files_of, given, log_claim};
+ghost use Rattle.pdb_verdict.specs.Inputs.{files_in_order, given, log_claim};
 ghost use Rattle.pdb_verdict.specs.Limits.{a_table};
 ghost use Rattle.pdb_verdict.specs.Plans.{plan_of_check};
 ghost use Rattle.pdb_verdict.specs.Steps.{files_read};
@@ -66,7 +66,7 @@ impl LogInputs {
     pub(crate) fn of(inputs: Vec<Vec<u8>>) -> LogInputs
         requires { 3 ≤ length inputs.items }
         ensures { (claim : Claim) (fold : Bool) →
-            all_bytes inputs.items ≡ files_of (log_claim claim fold (files_read result)) }
+            all_bytes inputs.items ≡ files_in_order (log_claim claim fold (files_read result)) }
     {
         let mut tables = inputs;
         let text = take_first(&mut tables);

@@ -7,7 +7,7 @@ use Rattle.std.specs.List.{AllByRecursion}
 use Rattle.pat_place.proofs.RankLemmas.{get-append_left, get-below}
 use Rattle.set_sum.specs.Bundles.{most_sets}
 use Rattle.set_sum.specs.Reading.{IsFirstWith}
-use Rattle.set_sum.specs.ReadLines.{AreKept, AreRead, IsReadAsSet, IsReadLine}
+use Rattle.set_sum.specs.ReadLines.{AreKept, AreReadLines, IsReadAsSet, IsReadLine}
 use Rattle.set_sum.specs.SetTexts.{AreLines, IsLine, members_text, set_line, set_lines}
 use Rattle.set_sum.specs.declared.members.Member.{Member}
 use Rattle.set_sum.proofs.LineLemmas.{set_lines-push}
@@ -84,8 +84,8 @@ module _ (tables : ℕ) (lines : List (List Member)) (members : List Member) whe
   counted_more count is = let longer : length (lines ++ members ∷ []) ≡ length lines + 1 = length-append lines (members ∷ []) in omega arith
 
   -- a line all of whose tables are there
-  pub read_there : (count : ℕ) (missing : Option ℕ) (kept next : List (List Member)) → AreRead tables lines count missing kept → (set : List Member) → IsReadAsSet tables members (Some set)
-      → ((length kept < most_sets) × (next ≡ kept ++ set ∷ [])) ⊎ ((most_sets ≤ length kept) × (next ≡ kept)) → AreRead tables (lines ++ members ∷ []) (count + 1) missing next
+  pub read_there : (count : ℕ) (missing : Option ℕ) (kept next : List (List Member)) → AreReadLines tables lines count missing kept → (set : List Member) → IsReadAsSet tables members (Some set)
+      → ((length kept < most_sets) × (next ≡ kept ++ set ∷ [])) ⊎ ((most_sets ≤ length kept) × (next ≡ kept)) → AreReadLines tables (lines ++ members ∷ []) (count + 1) missing next
   read_there count missing kept next are set is pushed = record { counted = counted_more count are.counted; are_kept = go missing are.are_kept }
     where
       go : (missing : Option ℕ) → AreKept tables lines missing kept → AreKept tables (lines ++ members ∷ []) missing next
@@ -93,8 +93,8 @@ module _ (tables : ℕ) (lines : List (List Member)) (members : List Member) whe
       go (Some line) h = missing_before kept line h next
 
   -- a line one of whose tables isn't
-  pub read_missing : (count : ℕ) (missing after : Option ℕ) (kept : List (List Member)) → AreRead tables lines count missing kept → IsReadAsSet tables members None
-      → ((missing ≡ None) × (after ≡ Some count)) ⊎ ((line : ℕ) × (missing ≡ Some line) × (after ≡ missing)) → AreRead tables (lines ++ members ∷ []) (count + 1) after kept
+  pub read_missing : (count : ℕ) (missing after : Option ℕ) (kept : List (List Member)) → AreReadLines tables lines count missing kept → IsReadAsSet tables members None
+      → ((missing ≡ None) × (after ≡ Some count)) ⊎ ((line : ℕ) × (missing ≡ Some line) × (after ≡ missing)) → AreReadLines tables (lines ++ members ∷ []) (count + 1) after kept
   read_missing count missing after kept are is changed = record {
     counted = counted_more count are.counted;
     are_kept = elim changed [
@@ -112,7 +112,7 @@ pub record HasLines (tables : ℕ) (text rest : List ℕ) (count : ℕ) (missing
   pub lines : List (List Member)
   pub are_lines : AllByRecursion IsLine lines
   pub whole : text ≡ set_lines lines ++ rest
-  pub are_read : AreRead tables lines count missing kept
+  pub are_read : AreReadLines tables lines count missing kept
   pub more : (count ≡ 0) ⊎ (rest ≢ [])
 
 pub no_lines : (tables : ℕ) (text : List ℕ) → HasLines tables text text 0 None []
@@ -130,7 +130,7 @@ module _ (tables : ℕ) (text rest : List ℕ) (count : ℕ) (missing : Option �
   size_more : length longer ≡ length has.lines + 1
   size_more = length-append has.lines (read.members ∷ [])
 
-  module _ (next : ℕ) (after : Option ℕ) (keeps : List (List Member)) (are : AreRead tables longer next after keeps) where
+  module _ (next : ℕ) (after : Option ℕ) (keeps : List (List Member)) (are : AreReadLines tables longer next after keeps) where
     -- the text goes on behind it
     pub lines_next : behind ≢ [] → HasLines tables text behind next after keeps
     lines_next more = record {
@@ -142,7 +142,7 @@ module _ (tables : ℕ) (text rest : List ℕ) (count : ℕ) (missing : Option �
     }
 
     -- or it is the last
-    pub lines_end : behind ≡ [] → (lines : List (List Member)) × AreLines text lines × AreRead tables lines next after keeps
+    pub lines_end : behind ≡ [] → (lines : List (List Member)) × AreLines text lines × AreReadLines tables lines next after keeps
     lines_end end = (
       longer,
       record {
@@ -187,14 +187,14 @@ pub something_left : (xs : List ℕ) (r : Bool) → r ≡ eqb (length xs) 0 → 
 something_left xs r is e none = eqb-false (length xs) 0 (sym is ∙ e) (ap length none)
 
 -- lines that are all read are kept, where a bundle may have so many
-pub all_kept : (tables : ℕ) (lines : List (List Member)) (count : ℕ) (missing : Option ℕ) (kept : List (List Member)) → AreRead tables lines count missing kept → missing ≡ None → count ≤ most_sets
+pub all_kept : (tables : ℕ) (lines : List (List Member)) (count : ℕ) (missing : Option ℕ) (kept : List (List Member)) → AreReadLines tables lines count missing kept → missing ≡ None → count ≤ most_sets
     → (kept ≡ lines) × AllByRecursion (AllByRecursion (λ m. m.table < tables)) lines
 all_kept tables lines count missing kept are none few =
     let h = subst (λ m. AreKept tables lines m kept) none are.are_kept in
     let c : count ≡ length lines = are.counted in
     (h.0 ∙ take_all most_sets lines (omega arith), h.1)
 
-pub missing_line : (tables : ℕ) (lines : List (List Member)) (count : ℕ) (missing : Option ℕ) (kept : List (List Member)) (line : ℕ) → AreRead tables lines count missing kept → missing ≡ Some line
+pub missing_line : (tables : ℕ) (lines : List (List Member)) (count : ℕ) (missing : Option ℕ) (kept : List (List Member)) (line : ℕ) → AreReadLines tables lines count missing kept → missing ≡ Some line
     → IsFirstWith (λ members. Any (λ m. tables ≤ m.table) members) lines line
 missing_line tables lines count missing kept line are some = subst (λ m. AreKept tables lines m kept) some are.are_kept
 

@@ -36,7 +36,7 @@ AreKept tables lines None kept = (kept ≡ take most_sets lines) × AllByRecursi
 AreKept tables lines (Some first) kept = IsFirstWith (λ set. Any (λ m. tables ≤ m.table) set) lines first
 
 -- the lines are counted and kept
-pub record AreRead (tables : ℕ) (lines : List (List Member)) (count : ℕ) (missing : Option ℕ) (kept : List (List Member)) : Type 0 where
+pub record AreReadLines (tables : ℕ) (lines : List (List Member)) (count : ℕ) (missing : Option ℕ) (kept : List (List Member)) : Type 0 where
   pub counted : count ≡ length lines
   pub are_kept : AreKept tables lines missing kept
 

@@ -2,7 +2,7 @@
 
 ghost use Rattle.std.specs.Prelude.{◌≡◌, ℕ, ◌+◌, ◌<◌, ◌≤◌, ◌∷◌, ◌++◌, ◌⊎◌, [], Bool, codes, if◌then◌else◌, IfErr, IfOk, IfSome, IsSome, IsSomeAnd, List, map, option_map};
 ghost use Rattle.set_sum.specs.Bundles.{most_tables};
-ghost use Rattle.set_sum.specs.ReadLines.{AreRead, MayFollow, IsReadAsSet, IsReadLine, ending};
+ghost use Rattle.set_sum.specs.ReadLines.{AreReadLines, MayFollow, IsReadAsSet, IsReadLine, ending};
 ghost use Rattle.set_sum.specs.SetTexts.{AreLines, IsFirstBadLine, IsLine, member_text, numeral, set_line};
 ghost use Rattle.set_sum.specs.declared.members.Member.{Member};
 
@@ -142,10 +142,10 @@ impl Lines {
     fn push(&mut self, set: Option<Set>)
         requires { self.old.count < usize.MAX }
         ensures { (tables : ℕ) (lines : List (List Member)) (members : List Member)
-            → AreRead tables lines self.old.count self.old.missing
+            → AreReadLines tables lines self.old.count self.old.missing
             (map (λ kept. kept.items) self.old.sets.items)
             → IsReadAsSet tables members (option_map (λ kept. kept.items) set)
-            → AreRead tables (lines ++ members ∷ []) self.new.count self.new.missing
+            → AreReadLines tables (lines ++ members ∷ []) self.new.count self.new.missing
             (map (λ kept. kept.items) self.new.sets.items) }
     {
         match set {
@@ -164,7 +164,7 @@ impl Lines {
 pub(crate) fn read_lines(text: &[u8], tables: usize) -> Result<Lines, usize>
     requires { tables ≤ most_tables }
     ensures ok { IfOk result (λ lines. (sets : List (List Member)) × AreLines text.now sets
-        × AreRead tables sets lines.count lines.missing
+        × AreReadLines tables sets lines.count lines.missing
         (map (λ set. set.items) lines.sets.items)) }
     ensures err { IfErr result (IsFirstBadLine text.now) }
 {

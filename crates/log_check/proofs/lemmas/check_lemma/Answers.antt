@@ -1,6 +1,6 @@
 use Rattle.std.proofs.Common.{[], ◌∷◌, None, refl, subst}
 use Rattle.log_check.specs.GoodLogs.{IsGood}
-use Rattle.log_check.specs.Walks.{AreRefused, AreWalked}
+use Rattle.log_check.specs.Walks.{AreNeverPending, AreWalked}
 use Rattle.log_check.proofs.NodeLemmas.{none_left, refused, root-pending}
 use Rattle.log_check.proofs.lemmas.check_lemma.Goals as goal
 
@@ -21,6 +21,6 @@ returns-in-None c =
     let log = c.args.log.now in
     let good = root-pending v log c.args.i c.requires.there c.board-board.result c.bound.result c.tree.result.now []
     c.board-board.ensures.value c.bound.ensures c.tree.ensures refl in
-    let none = subst (λ s. AreRefused s.bundle log c.args.i (λ ws. record { board = s.board; arriving = None; bound = c.bound.result } ∷ ws) c.tree.result.now)
+    let none = subst (λ s. AreNeverPending s.bundle log c.args.i (λ ws. record { board = s.board; arriving = None; bound = c.bound.result } ∷ ws) c.tree.result.now)
     c.new.ensures c.in-None.ensures.none in
     refused (IsGood v log c.args.i) (λ g. none [] (good.0 g))

@@ -6,7 +6,7 @@ use Rattle.set_sum.specs.Steps.{IsStepFrom}
 use Rattle.set_sum.specs.SumViews.{SumsView}
 use Rattle.log_check.specs.Nodes.{BeginsWith, BeginsWithNone}
 use Rattle.log_check.specs.Reached.{waiting_of}
-use Rattle.log_check.specs.Walks.{AreRefused, AreWalked, MayHave, Waiting, all_moves, with_child, with_children, with_node}
+use Rattle.log_check.specs.Walks.{AreNeverPending, AreWalked, MayHave, Waiting, all_moves, with_child, with_children, with_node}
 use Rattle.log_check.specs.declared.nodes.Node.TheVariants.{Branch}
 use Rattle.log_check.proofs.BehindLemmas.{none_as, none_so, refused_as, refused_children, refused_node, refused_none, some_as, walked_as, walked_node, walked_none, with_child-off, with_child-there}
 use Rattle.log_check.proofs.NodeLemmas.{BeginsWith-same, with_node-other}
@@ -57,10 +57,10 @@ behind_child-returns-in-Some-clause-none t c =
     let next = c.step.new.self in
     let is = c.in-Some.ensures.some in
     let child : Waiting = record { board = next.board; arriving = Some c.args.mv; bound = w.bound - 1 } in
-    none_as (AreRefused next.bundle log c.args.i (λ ws. child ∷ ws) c.args.bytes.now) (AreRefused s.bundle log c.args.i (with_child w c.args.mv) c.args.bytes.now)
+    none_as (AreNeverPending next.bundle log c.args.i (λ ws. child ∷ ws) c.args.bytes.now) (AreNeverPending s.bundle log c.args.i (with_child w c.args.mv) c.args.bytes.now)
     (λ none. refused_as s.bundle log c.args.i (with_child w c.args.mv) (λ ws. child ∷ ws) c.args.bytes.now
     (with_child-there w c.args.mv (sym c.takes_back.ensures ∙ c.if-takes_back.false) next.board is.0)
-    (subst (λ v. AreRefused v log c.args.i (λ ws. child ∷ ws) c.args.bytes.now) is.1 none))
+    (subst (λ v. AreNeverPending v log c.args.i (λ ws. child ∷ ws) c.args.bytes.now) is.1 none))
     c.behind_tree-behind.result c.behind_tree-behind.ensures.none
 
 pub behind_child-returns-in-Some-clause-same : goal.behind_child-returns-in-Some-clause-same
@@ -95,7 +95,7 @@ behind_tree-returns-in_err-node-clause-none t c =
     let none : BeginsWithNone log.version (length v.sets) c.args.bytes.now =
     λ node behind begins. c.in_err-node.ensures.none node behind
     (BeginsWith-same node behind c.args.bytes.now (sym c.version.ensures.version) (sym c.sets.ensures.sets) begins) in
-    none_so (AreRefused v log c.args.i (λ ws. waiting_of r ∷ ws) c.args.bytes.now)
+    none_so (AreNeverPending v log c.args.i (λ ws. waiting_of r ∷ ws) c.args.bytes.now)
     (refused_none v log c.args.i c.sets.ensures.bundle.few_sets c.ranges.i.fits (waiting_of r) c.args.bytes.now none)
     c.from_residual.result
 
@@ -136,10 +136,10 @@ behind_tree-returns-in-Branch-clause-none t c =
     let begins : BeginsWith log.version (length v.sets) Branch between c.args.bytes.now =
     subst (λ node. BeginsWith log.version (length v.sets) node between c.args.bytes.now) c.in-Branch.is
     (BeginsWith-same c.in_ok-node.node between c.args.bytes.now c.version.ensures.version c.sets.ensures.sets c.in_ok-node.ensures.some) in
-    none_as (AreRefused v log c.args.i (with_children w all_moves) between) (AreRefused v log c.args.i (λ ws. w ∷ ws) c.args.bytes.now)
+    none_as (AreNeverPending v log c.args.i (with_children w all_moves) between) (AreNeverPending v log c.args.i (λ ws. w ∷ ws) c.args.bytes.now)
     (refused_children v log c.args.i c.sets.ensures.bundle.few_sets c.ranges.i.fits w c.args.bytes.now Branch between begins)
     c.behind_children.result
-    (subst (λ x. IfNone c.behind_children.result (AreRefused x.sums.bundle log c.args.i (with_children (waiting_of x) all_moves) between))
+    (subst (λ x. IfNone c.behind_children.result (AreNeverPending x.sums.bundle log c.args.i (with_children (waiting_of x) all_moves) between))
     c.may_have.ensures.same c.behind_children.ensures.none)
 
 pub behind_tree-returns-in_default-clause-some : goal.behind_tree-returns-in_default-clause-some
