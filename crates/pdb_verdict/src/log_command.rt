@@ -11,7 +11,7 @@ ghost use Rattle.pdb_verdict.specs.Verdicts.{TakesMemory, TellsResult};
 
 use crate::claims::{start_of, verdict_on};
 use crate::evidence::bound_of_files;
-use crate::log_inputs::{Checking, LogInputs};
+use crate::log_inputs::{CheckingLog, LogInputs};
 use crate::reports::{answer_by, told_or_memory};
 use pdb_request::{Claim, LogCheck};
 use pdb_run::{Answer, Digested, FILES_BESIDE, Io, Status, conclude, read_inputs};
@@ -31,7 +31,7 @@ pub fn run_log_check<H: Threads + Wait + Sync, G: Gate + Sync, I: Io>(
     ensures same_streams { I.streams io.new ≡ I.streams io.old }
     ensures ends { Ends (plan_of_check check.now) (I.world io.old) (I.world io.new) result }
 {
-    let command = Checking(check);
+    let command = CheckingLog(check);
     let files = match read_inputs(workers.alloc, &command, io) {
         Ok(inputs) => LogInputs::of(inputs),
         Err(status) => return status,

@@ -16,9 +16,9 @@ use std::alloc::{AllocError, Global};
 
 /// A check of a log, as a command.
 #[derive(Clone, Copy)]
-pub(crate) struct Checking<'c, 'n>(pub(crate) &'c LogCheck<'n>);
+pub(crate) struct CheckingLog<'c, 'n>(pub(crate) &'c LogCheck<'n>);
 
-impl Command for Checking<'_, '_> {
+impl Command for CheckingLog<'_, '_> {
     ghost plan = { λ command. plan_of_check command.0.now };
 
     fn inputs(&self, alloc: Global) -> Result<Vec<Input<'_>>, AllocError> {

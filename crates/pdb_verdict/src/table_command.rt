@@ -18,9 +18,9 @@ use work_run::{Gate, Workers};
 
 /// A check of a table, as a command.
 #[derive(Clone, Copy)]
-struct Checking<'a>(TableCheck<'a>);
+struct CheckingTable<'a>(TableCheck<'a>);
 
-impl Command for Checking<'_> {
+impl Command for CheckingTable<'_> {
     ghost plan = { λ command. table_plan command.0.file.now };
 
     fn inputs(&self, alloc: Global) -> Result<Vec<Input<'_>>, AllocError> {
@@ -41,7 +41,7 @@ pub fn run_table<H: Threads + Wait + Sync, G: Gate + Sync, I: Io>(
     ensures ends { let plan = table_plan check.now.file.now in
         Ends plan (I.world io.old) (I.world io.new) result }
 {
-    let command = Checking(*check);
+    let command = CheckingTable(*check);
     match read_inputs(workers.alloc, &command, io) {
         Ok(inputs) => {
             let answer = answer_table(inputs.as_slice(), workers);
