@@ -3,7 +3,7 @@
 ghost use Rattle.std.specs.Prelude.{◌≡◌};
 ghost use Rattle.tab_make.specs.declared.faults.MakeFault.TheVariants.{Memory};
 
-use std::alloc::AllocError;
+use std::alloc::{AllocError, AllocFailed};
 
 /// Why no table or no log is made.
 #[derive(Clone, Copy, Debug, PartialEq, Eq)]
@@ -22,6 +22,36 @@ impl From<AllocError> for MakeFault {
     ghost from_gives = { λ _ fault. fault ≡ Memory };
 
     fn from(_: AllocError) -> MakeFault {
+        MakeFault::Memory
+    }
+}
+
+/// Why a table is not made to its end.
+#[derive(Clone, Copy, Debug, PartialEq, Eq)]
+pub(crate) enum Stop {
+    /// There isn't the memory.
+    NoMemory,
+    /// A number is not one of those that there are of its kind.
+    WrongNumber,
+}
+
+impl From<AllocError> for Stop {
+    fn from(_: AllocError) -> Stop {
+        Stop::NoMemory
+    }
+}
+
+impl<T: Drop> From<AllocFailed<T>> for Stop {
+    fn from(_: AllocFailed<T>) -> Stop {
+        Stop::NoMemory
+    }
+}
+
+/// Numbers are wrong only where memory has lost what was kept in it.
+impl From<Stop> for MakeFault {
+    ghost from_gives = { λ _ fault. fault ≡ Memory };
+
+    fn from(_: Stop) -> MakeFault {
         MakeFault::Memory
     }
 }

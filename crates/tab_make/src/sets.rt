@@ -1,26 +1,33 @@
 //! The sets of as many cells as a pattern has tiles.
 
+ghost use Rattle.std.specs.Prelude.{◌<◌, ◌≤◌, ◌^◌};
+
+use crate::faults::Stop;
 use crate::grids::Grid;
+use puz_board::masks::{all_below, first_of};
 use std::alloc::{AllocError, Global};
 
 /// All sets of as many cells as a pattern has tiles, in ascending order of their masks.
 pub(crate) fn all_sets(alloc: Global, grid: &Grid) -> Result<Vec<u32>, AllocError> {
     let mut sets = Vec::new(alloc);
-    let mut set = 1u32.wrapping_shl(u32::from(grid.size)).wrapping_sub(1);
+    let mut next = u64::from(all_below(grid.size));
     for _ in 0..=grid.all {
-        if set > grid.all {
+        if next == 0 || next > u64::from(grid.all) {
             break;
         }
+        let set = next as u32;
         sets.push(set)?;
-        set = next_set(set);
+        next = next_set(set);
     }
     Ok(sets)
 }
 
-/// The next set of as many cells.
-fn next_set(set: u32) -> u32 {
-    let least = set & set.wrapping_neg();
-    let carried = set.wrapping_add(least);
-    let moved = (carried ^ set).checked_div(least).unwrap_or(0) >> 2;
-    carried | moved
+/// The next set of as many cells: the least cell that can goes to the next one, and those below it go to the first cells.
+fn next_set(set: u32) -> u64
+    requires { 0 < set }
+{
+    let least = first_of(set);
+    let set = u64::from(set);
+    let carried = set + (1 << least);
+    carried | (carried ^ set) >> least >> 2
 }

@@ -1,9 +1,10 @@
 //! Shapes: what is left of a placement and a region where nothing is said of which tile is which.
 
+use crate::faults::Stop;
 use crate::grids::Grid;
 use crate::sets::all_sets;
 use pat_place::SetNumbers;
-use std::alloc::{AllocError, Global};
+use std::alloc::Global;
 use std::ops::Range;
 
 /// How many regions there are at most: eight tiles leave no more than nine.
@@ -28,17 +29,16 @@ pub(crate) struct Shape {
 
 impl Shapes {
     /// The shapes of a grid's pattern.
-    pub(crate) fn new(alloc: Global, grid: &Grid) -> Result<Shapes, AllocError> {
+    pub(crate) fn new(alloc: Global, grid: &Grid) -> Result<Shapes, Stop> {
         let sets = all_sets(alloc, grid)?;
-        let numbers = SetNumbers::of_sets(alloc, sets.as_slice())?;
+        let numbers = numbers_of(alloc, sets.as_slice())?;
         let mut firsts = Vec::new(alloc);
         let mut shapes = Vec::new(alloc);
-        let mut first = 0u32;
         for set in &sets {
-            firsts.push(first)?;
-            first = first.wrapping_add(push_shapes(grid, *set, &mut shapes)?);
+            firsts.push(number_of_next(&shapes)?)?;
+            push_shapes(grid, *set, &mut shapes)?;
         }
-        firsts.push(first)?;
+        firsts.push(number_of_next(&shapes)?)?;
         Ok(Shapes {
             numbers,
             firsts,
@@ -53,41 +53,55 @@ impl Shapes {
 
     /// The numbers of a set's shapes.
     #[inline]
-    pub(crate) fn of_set(&self, set: u32) -> Range<u32> {
-        let number = self.numbers.number_of(set);
-        let first = self.firsts.get(number).copied().unwrap_or(0);
-        let end = self
-            .firsts
-            .get(number.wrapping_add(1))
-            .copied()
-            .unwrap_or(0);
-        first..end
+    pub(crate) fn of_set(&self, set: u32) -> Result<Range<u32>, Stop> {
+        match self.firsts.get(self.numbers.number_of(set)..) {
+            Some([first, end, ..]) => Ok(*first..*end),
+            _ => Err(Stop::WrongNumber),
+        }
     }
 
     /// The number of a set's shape whose region has one of these cells.
-    pub(crate) fn with_cells(&self, set: u32, cells: u32) -> u32 {
-        let numbers = self.of_set(set);
-        let first = numbers.start;
-        for number in numbers {
-            if let Some(shape) = self.shapes.get(number as usize) {
-                if shape.region & cells != 0 {
-                    return number;
-                }
+    pub(crate) fn with_cells(&self, set: u32, cells: u32) -> Result<u32, Stop> {
+        for number in self.of_set(set)? {
+            let shape = self.shapes.get(number as usize).ok_or(Stop::WrongNumber)?;
+            if shape.region & cells != 0 {
+                return Ok(number);
             }
         }
-        first
+        Err(Stop::WrongNumber)
     }
 }
 
-/// Adds the shapes of a set, and answers how many there are.
-fn push_shapes(grid: &Grid, set: u32, shapes: &mut Vec<Shape>) -> Result<u32, AllocError> {
-    let mut rest = grid.all & !set;
-    for count in 0..MOST_REGIONS {
-        if rest == 0 {
-            return Ok(count);
+/// The numbers of these sets, which are their places in the list.
+fn numbers_of(alloc: Global, sets: &[u32]) -> Result<SetNumbers, Stop> {
+    let numbers = SetNumbers::of_sets(alloc, sets)?;
+    for (number, set) in sets.iter().enumerate() {
+        if numbers.number_of(*set) != number {
+            return Err(Stop::WrongNumber);
         }
-        let region = grid.take_region(&mut rest);
-        shapes.push(Shape { set, region })?;
     }
-    Ok(MOST_REGIONS)
+    Ok(numbers)
+}
+
+/// The number that the next shape has.
+fn number_of_next(shapes: &Vec<Shape>) -> Result<u32, Stop> {
+    u32::try_from(shapes.len()).ok().ok_or(Stop::WrongNumber)
+}
+
+/// Adds the shapes of a set.
+fn push_shapes(grid: &Grid, set: u32, shapes: &mut Vec<Shape>) -> Result<(), Stop> {
+    let mut rest = grid.all & !set;
+    for _ in 0..MOST_REGIONS {
+        if rest == 0 {
+            break;
+        }
+        let region = grid.first_region(rest);
+        shapes.push(Shape { set, region })?;
+        rest &= !region;
+    }
+    if rest == 0 {
+        Ok(())
+    } else {
+        Err(Stop::WrongNumber)
+    }
 }

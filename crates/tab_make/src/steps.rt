@@ -1,16 +1,20 @@
 //! The moves of tiles between shapes.
 
-use crate::grids::{Grid, mask_of, place_of, take_least};
+ghost use Rattle.std.specs.Prelude.{◌<◌};
+
+use crate::faults::Stop;
+use crate::grids::Grid;
 use crate::shapes::{Shape, Shapes};
-use crate::turns::{Turns, turn_of};
-use std::alloc::{AllocError, Global};
+use crate::turns::Turns;
+use puz_board::masks::{count_below, has_cell, with, without};
+use std::alloc::Global;
 
 /// For each shape the moves of tiles that lead to it. Each such move can be taken back, so they also tell to which shapes
 /// one leads.
 #[derive(Drop)]
 pub(crate) struct Steps {
-    /// Where the steps of each shape end.
-    ends: Vec<usize>,
+    /// Where the steps of each shape begin, and at last how many steps there are.
+    starts: Vec<usize>,
     steps: Vec<Step>,
     /// How they turn the orders.
     pub(crate) turns: Turns,
@@ -27,61 +31,56 @@ pub(crate) struct Step {
 
 impl Steps {
     /// The steps between shapes.
-    pub(crate) fn new(alloc: Global, grid: &Grid, shapes: &Shapes) -> Result<Steps, AllocError> {
-        let turns = Turns::new(alloc, grid)?;
-        let mut ends = Vec::new(alloc);
-        let mut steps = Vec::new(alloc);
+    pub(crate) fn new(alloc: Global, grid: &Grid, shapes: &Shapes) -> Result<Steps, Stop> {
+        let mut steps = Steps {
+            starts: Vec::new(alloc),
+            steps: Vec::new(alloc),
+            turns: Turns::new(alloc, grid)?,
+        };
         for shape in shapes.as_slice() {
-            push_steps(grid, shapes, shape, &mut steps)?;
-            ends.push(steps.len())?;
+            steps.starts.push(steps.steps.len())?;
+            steps.push_all(grid, shapes, shape)?;
         }
-        Ok(Steps { ends, steps, turns })
+        steps.starts.push(steps.steps.len())?;
+        Ok(steps)
     }
 
     /// The steps to a shape.
     #[inline]
-    pub(crate) fn to(&self, shape: u32) -> &[Step] {
-        let before = (shape as usize).wrapping_sub(1);
-        let first = self.ends.get(before).copied().unwrap_or(0);
-        let end = self.ends.get(shape as usize).copied().unwrap_or(0);
-        self.steps.get(first..end).unwrap_or(&[])
-    }
-}
-
-/// Adds the steps to a shape.
-fn push_steps(
-    grid: &Grid,
-    shapes: &Shapes,
-    shape: &Shape,
-    steps: &mut Vec<Step>,
-) -> Result<(), AllocError> {
-    let mut rest = shape.set;
-    for _ in 0..grid.size {
-        let tile = take_least(&mut rest);
-        push_steps_of(grid, shapes, shape, tile, steps)?;
-    }
-    Ok(())
-}
-
-/// Adds the steps to a shape by a move to one cell.
-fn push_steps_of(
-    grid: &Grid,
-    shapes: &Shapes,
-    shape: &Shape,
-    to: u8,
-    steps: &mut Vec<Step>,
-) -> Result<(), AllocError> {
-    let mut rest = grid.beside(to) & shape.region;
-    for _ in 0..4 {
-        if rest == 0 {
-            break;
+    pub(crate) fn to(&self, shape: u32) -> Result<&[Step], Stop> {
+        match self.starts.get(shape as usize..) {
+            Some([start, end, ..]) => self.steps.get(*start..*end).ok_or(Stop::WrongNumber),
+            _ => Err(Stop::WrongNumber),
         }
-        let from = take_least(&mut rest);
-        let set = shape.set & !mask_of(to) | mask_of(from);
-        steps.push(Step {
-            shape: shapes.with_cells(set, mask_of(to)),
-            turn: turn_of(place_of(set, from), place_of(shape.set, to)),
-        })?;
     }
-    Ok(())
+
+    /// Adds the steps to a shape.
+    fn push_all(&mut self, grid: &Grid, shapes: &Shapes, shape: &Shape) -> Result<(), Stop> {
+        for to in 0..grid.cells {
+            if has_cell(shape.set, to) {
+                self.push_to(grid, shapes, shape, to)?;
+            }
+        }
+        Ok(())
+    }
+
+    /// Adds the steps to a shape by a move to one cell.
+    fn push_to(&mut self, grid: &Grid, shapes: &Shapes, shape: &Shape, to: u8) -> Result<(), Stop>
+        requires { to < 32 }
+    {
+        let beside = grid.beside(to) & shape.region;
+        for from in 0..grid.cells {
+            if has_cell(beside, from) {
+                let set = with(without(shape.set, to), from);
+                let step = Step {
+                    shape: shapes.with_cells(set, with(0, to))?,
+                    turn: self
+                        .turns
+                        .turn(count_below(set, from), count_below(shape.set, to))?,
+                };
+                self.steps.push(step)?;
+            }
+        }
+        Ok(())
+    }
 }

@@ -5,13 +5,15 @@ ghost use Rattle.tab_file.specs.Tables.{entry_count};
 ghost use Rattle.tab_make.specs.Faults.{IsBuildFault};
 
 use crate::counts::Counts;
-use crate::faults::MakeFault;
-use crate::grids::{Grid, mask_of, place_of, take_least};
+use crate::faults::{MakeFault, Stop};
+use crate::grids::Grid;
 use crate::shapes::Shapes;
-use crate::walks::{Walk, next_order};
+use crate::walks::{Placed, Walk};
 use pat_place::Pattern;
+use puz_board::masks::{first_of, with, without};
 use rayon::prelude::*;
 use std::alloc::{AllocError, Global};
+use std::sync::atomic::{AtomicBool, Ordering};
 use std::thread::Threads;
 use tab_file::{HEADER_LEN, NO_REGION, header_of};
 
@@ -26,12 +28,12 @@ pub fn build<R: Threads + Sync>(
 ) -> Result<Vec<u8>, MakeFault>
     ensures fault { IfErr result IsBuildFault }
 {
-    let grid = Grid::new(pattern);
+    let grid = Grid::new(pattern)?;
     let shapes = Shapes::new(alloc, &grid)?;
     let counts = Counts::new(rt, alloc, &grid, &shapes, pattern.mask())?;
     let mut file = unfilled_file(alloc, pattern)?;
     let (_header, entries) = file.split_at_mut(HEADER_LEN);
-    fill_entries(rt, &grid, &shapes, &counts, entries);
+    fill_entries(rt, &grid, &shapes, &counts, entries)?;
     Ok(file)
 }
 
@@ -55,34 +57,60 @@ fn fill_entries<R: Threads + Sync>(
     shapes: &Shapes,
     counts: &Counts,
     entries: &mut [u8],
-) {
-    par_chunks_mut_for_each(rt, entries, grid.run.saturating_mul(RUNS), |start, runs| {
-        fill_runs(grid, shapes, counts, start, runs)
+) -> Result<(), Stop> {
+    let is_filled = AtomicBool::new(true);
+    par_chunks_mut_for_each(rt, entries, usize::from(grid.run) * RUNS, |start, runs| {
+        if fill_runs(grid, shapes, counts, start, runs).is_err() {
+            is_filled.store(false, Ordering::SeqCst);
+        }
     });
+    if is_filled.load(Ordering::SeqCst) {
+        Ok(())
+    } else {
+        Err(Stop::WrongNumber)
+    }
 }
 
 /// Fills in the entries of the runs from an entry on.
-fn fill_runs(grid: &Grid, shapes: &Shapes, counts: &Counts, start: usize, runs: &mut [u8]) {
-    let mut walk = Walk::new(grid);
-    for (index, entries) in runs.chunks_mut(grid.run).enumerate() {
-        let Ok(number) = u32::try_from(start.wrapping_add(index.wrapping_mul(grid.run))) else {
-            return;
-        };
-        walk.go_to(number);
-        fill_run(grid, shapes, counts, &walk, entries);
+fn fill_runs(
+    grid: &Grid,
+    shapes: &Shapes,
+    counts: &Counts,
+    start: usize,
+    runs: &mut [u8],
+) -> Result<(), Stop> {
+    let mut number = u32::try_from(start).ok().ok_or(Stop::WrongNumber)?;
+    let mut walk = Walk::new(grid)?;
+    for entries in runs.chunks_mut(usize::from(grid.run)) {
+        walk.go_to(number)?;
+        fill_run(grid, shapes, counts, &walk.placed(), entries)?;
+        number = number
+            .checked_add(u32::from(grid.run))
+            .ok_or(Stop::WrongNumber)?;
     }
+    Ok(())
 }
 
 /// Fills in the entries of a run.
-fn fill_run(grid: &Grid, shapes: &Shapes, counts: &Counts, walk: &Walk<'_>, entries: &mut [u8]) {
-    let mut free = grid.all & !walk.set;
-    for slots in entries.chunks_mut(grid.width.max(1)) {
-        let cell = take_least(&mut free);
-        let last = u32::from(grid.size).wrapping_sub(1);
-        let order = next_order(walk.order, last, place_of(walk.set, cell));
-        let shapes = shapes.of_set(walk.set | mask_of(cell));
+fn fill_run(
+    grid: &Grid,
+    shapes: &Shapes,
+    counts: &Counts,
+    placed: &Placed,
+    entries: &mut [u8],
+) -> Result<(), Stop> {
+    let mut free = grid.all & !placed.set;
+    for slots in entries.chunks_mut(grid.width) {
+        if free == 0 {
+            return Err(Stop::WrongNumber);
+        }
+        let cell = first_of(free);
+        free = without(free, cell);
+        let order = placed.next_order(grid.size - 1, cell);
+        let shapes = shapes.of_set(with(placed.set, cell))?;
         for (slot, shape) in slots.iter_mut().zip(shapes) {
-            *slot = counts.entry(shape, order);
+            *slot = counts.entry(shape, order)?;
         }
     }
+    Ok(())
 }

@@ -1,76 +1,98 @@
 //! The placements of a pattern's tiles but the last, in the order of their entries.
 
+ghost use Rattle.std.specs.Prelude.{◌+◌, ◌<◌, ◌≤◌, ◌^◌};
+
 use crate::entries::MOST_TILES;
-use crate::grids::{Grid, cell_at, mask_of, place_of};
+use crate::faults::Stop;
+use crate::grids::{Grid, cell_at};
+use puz_board::masks::{count_below, with};
+
+/// The first tiles of a pattern in their cells.
+#[derive(Clone, Copy)]
+pub(crate) struct Placed {
+    /// The number of the first entry with these cells.
+    first: u32,
+    /// The cells.
+    pub(crate) set: u32,
+    /// The number of the order in which the tiles stand on them.
+    pub(crate) order: u16,
+}
 
 /// A placement of all tiles but the last among those of a pattern, from which later ones are found at little cost: where
 /// only the last of these tiles change their cells, nothing is done for the others.
 #[derive(Clone, Copy)]
 pub(crate) struct Walk<'a> {
     grid: &'a Grid,
-    /// The number of the first entry with these cells of each tile and those before it.
-    firsts: [u32; MOST_TILES],
-    /// The cells of each tile and those before it.
-    sets: [u32; MOST_TILES],
-    /// The number of the order in which each tile and those before it stand.
-    orders: [u32; MOST_TILES],
-    /// The cells of all these tiles.
-    pub(crate) set: u32,
-    /// The number of their order.
-    pub(crate) order: u32,
+    /// Each tile and those before it, and at first no tile.
+    placed: [Placed; MOST_TILES],
 }
 
 impl<'a> Walk<'a> {
     /// The first placement.
-    pub(crate) fn new(grid: &'a Grid) -> Walk<'a> {
-        let mut walk = Walk {
-            grid,
-            firsts: [0; MOST_TILES],
-            sets: [0; MOST_TILES],
-            orders: [0; MOST_TILES],
+    pub(crate) fn new(grid: &'a Grid) -> Result<Walk<'a>, Stop> {
+        let none = Placed {
+            first: 0,
             set: 0,
             order: 0,
         };
-        walk.place_from(0, 0);
-        walk
+        let mut walk = Walk {
+            grid,
+            placed: [none; MOST_TILES],
+        };
+        walk.place_from(0, 0)?;
+        Ok(walk)
+    }
+
+    /// All tiles but the last.
+    #[inline]
+    pub(crate) fn placed(&self) -> Placed {
+        self.placed[usize::from(self.grid.size) - 1]
     }
 
     /// Goes to the placement that has the entry.
-    pub(crate) fn go_to(&mut self, number: u32) {
-        for index in 0..MOST_TILES {
-            if number.wrapping_sub(self.firsts[index]) >= self.grid.weights[index] {
-                self.place_from(index, number);
-                break;
+    pub(crate) fn go_to(&mut self, number: u32) -> Result<(), Stop> {
+        for index in 0..self.grid.size - 1 {
+            let first = self.placed[usize::from(index) + 1].first;
+            let on = number.checked_sub(first).ok_or(Stop::WrongNumber)?;
+            if on >= self.grid.weights[usize::from(index)] {
+                return self.place_from(index, number);
             }
         }
+        Ok(())
     }
 
     /// Places the tiles from this one on for an entry.
-    fn place_from(&mut self, index: usize, number: u32) {
-        let tiles = usize::from(self.grid.size).saturating_sub(1);
-        for index in index..tiles.min(MOST_TILES) {
-            let (first, set, order) = if index == 0 {
-                (0, 0, 0)
-            } else {
-                let before = index - 1;
-                (self.firsts[before], self.sets[before], self.orders[before])
-            };
-            let weight = self.grid.weights[index];
-            let place = number.wrapping_sub(first).checked_div(weight).unwrap_or(0);
-            let cell = cell_at(self.grid.all & !set, place);
-            self.firsts[index] = first.wrapping_add(place.wrapping_mul(weight));
-            self.set = set | mask_of(cell);
-            self.order = next_order(order, index as u32, place_of(set, cell));
-            self.sets[index] = self.set;
-            self.orders[index] = self.order;
+    fn place_from(&mut self, index: u8, number: u32) -> Result<(), Stop> {
+        for index in index..self.grid.size - 1 {
+            let before = self.placed[usize::from(index)];
+            let weight = self.grid.weights[usize::from(index)];
+            self.placed[usize::from(index) + 1] = before.and_next(
+                self.grid, index, weight, number,
+            )?;
         }
+        Ok(())
     }
 }
 
-/// The number of the order in which the tile of an index stands behind so many of those before it, which have an order.
-#[inline]
-pub(crate) fn next_order(order: u32, index: u32, place: u32) -> u32 {
-    order
-        .wrapping_mul(index.wrapping_add(1))
-        .wrapping_add(place)
+impl Placed {
+    /// These tiles, and the next one where it stands for an entry.
+    fn and_next(&self, grid: &Grid, index: u8, weight: u32, number: u32) -> Result<Placed, Stop> {
+        let on = number.checked_sub(self.first).ok_or(Stop::WrongNumber)?;
+        let place = on.checked_div(weight).ok_or(Stop::WrongNumber)?;
+        let cell = cell_at(grid.all & !self.set, place)?;
+        let order = self.next_order(index, cell);
+        Ok(Placed {
+            first: number - on % weight,
+            set: with(self.set, cell),
+            order: u16::try_from(order).ok().ok_or(Stop::WrongNumber)?,
+        })
+    }
+
+    /// The number of the order in which the tile of an index stands in a cell behind these tiles.
+    #[inline]
+    pub(crate) fn next_order(&self, index: u8, cell: u8) -> u32
+        requires { cell < 32 }
+    {
+        u32::from(self.order) * (u32::from(index) + 1) + u32::from(count_below(self.set, cell))
+    }
 }
