@@ -55,19 +55,19 @@ impl Counts {
         Err(MakeFault::K3)
     }
 
+    /// Whether there is an order of this number.
+    #[inline]
+    pub(crate) fn has_order(&self, order: u32) -> bool {
+        order < u32::from(self.orders)
+    }
+
     /// The count of an order of a shape, as an entry.
     #[inline]
     pub(crate) fn entry(&self, shape: u32, order: u32) -> Result<u8, Stop> {
         let orders = usize::from(self.orders);
         let first = shape as usize * orders;
-        let entries = self
-            .entries
-            .get(first..first + orders)
-            .ok_or(Stop::WrongNumber)?;
-        entries
-            .get(order as usize)
-            .copied()
-            .ok_or(Stop::WrongNumber)
+        let place = first + order as usize;
+        self.entries.get(place).copied().ok_or(Stop::WrongNumber)
     }
 
     /// Writes an entry for each order of a set, at a shape.

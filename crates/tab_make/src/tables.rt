@@ -107,6 +107,9 @@ fn fill_run(
         let cell = first_of(free);
         free = without(free, cell);
         let order = placed.next_order(grid.size - 1, cell);
+        if !counts.has_order(order) {
+            return Err(Stop::WrongNumber);
+        }
         let shapes = shapes.of_set(with(placed.set, cell))?;
         for (slot, shape) in slots.iter_mut().zip(shapes) {
             *slot = counts.entry(shape, order)?;
