@@ -9,7 +9,7 @@ ghost use Rattle.pat_place.specs.Regions.{Reaches};
 use puz_board::{Side, masks};
 
 /// The region of a free cell: the free cells that a path of free cells reaches from it.
-pub(crate) fn region_of(side: Side, free: u32, cell: u8) -> u32
+pub fn region_of(side: Side, free: u32, cell: u8) -> u32
     requires free { bit_at free cell ≡ 1 }
     requires within { free < 2 ^ (side * side) }
     ensures { IsMaskOf result (Reaches side (λ c. bit_at free c ≡ 1) cell) }

@@ -12,6 +12,7 @@ mod set_numbers;
 mod slot_tables;
 mod slots;
 
+pub use flood::region_of;
 pub use mask_numbers::put_numbers;
 pub use patterns::Pattern;
 pub use placements::Placement;

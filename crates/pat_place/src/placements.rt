@@ -123,7 +123,7 @@ impl Placement {
     }
 
     /// The placement with the pattern's tiles, in their order, in the cells of a set, ascending.
-    pub(crate) fn of_set(pattern: &Pattern, set: u32) -> Placement
+    pub fn of_set(pattern: &Pattern, set: u32) -> Placement
         requires bits { set < 2 ^ (pattern.now.side * pattern.now.side) }
         requires size { count_ones set ≡ length pattern.now.tiles }
         ensures pattern { result.pattern ≡ pattern.now }

@@ -42,13 +42,11 @@ impl SetNumbers {
         })
     }
 
-    /// The number of a set, if it is one of them. No clause speaks of it.
+    /// The number of a set, if it is one of them. Of another set it is any number, or none. No clause speaks of it.
     #[inline]
-    pub fn number_of(&self, set: u32) -> usize {
-        let low = self.low.get((set % (1 << LOW)) as usize);
-        let high = self.high.get((set >> LOW) as usize);
-        let low = low.copied().unwrap_or(0);
-        let high = high.copied().unwrap_or(0);
-        low.wrapping_add(high) as usize
+    pub fn number_of(&self, set: u32) -> Option<usize> {
+        let low = self.low.get((set % (1 << LOW)) as usize)?;
+        let high = self.high.get((set >> LOW) as usize)?;
+        Some(low.wrapping_add(*high) as usize)
     }
 }

@@ -86,7 +86,7 @@ impl SlotTable {
             → IsFree self.now cells cell
             → IfSome result (IsSlot self.now cells cell) }
     {
-        let number = self.numbers.number_of(set);
+        let number = self.numbers.number_of(set)?;
         let masks = self.masks.as_slice();
         let slots = self.slots.as_slice();
         if number >= masks.len() || masks[number] != set {

@@ -11,7 +11,6 @@ mod lemmas;
 mod limits;
 mod log_bytes;
 mod logs;
-mod moves;
 mod places;
 mod positions;
 mod refuting;

@@ -3,8 +3,7 @@
 ghost use Rattle.std.specs.Prelude.{◌*◌, ◌<◌};
 
 use crate::cells::{CELLS, mask_of};
-use crate::moves::MOVES;
-use puz_board::{Side, step, transposed_cell};
+use puz_board::{MOVES, Side, step, transposed_cell};
 use std::alloc::{AllocError, Global};
 
 /// How many cells there are at most between two that are above each other.

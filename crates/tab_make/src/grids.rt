@@ -1,22 +1,18 @@
 //! The board of a pattern as masks of cells, and how far apart its placements are in a table.
 
-ghost use Rattle.std.specs.Prelude.{◌≡◌, ◌<◌, ◌≤◌, IfOk};
+ghost use Rattle.std.specs.Prelude.{◌≡◌, ◌*◌, ◌<◌, ◌≤◌, IfOk};
 
 use crate::entries::MOST_TILES;
 use crate::faults::Stop;
 use pat_place::Pattern;
-use puz_board::masks::{all_below, first_column, first_of, last_column, select, with};
-
-/// How many steps lead from one cell of a board to each cell of its region at most.
-const MOST_STEPS: u8 = 25;
+use puz_board::Side;
+use puz_board::masks::{all_below, select};
 
 /// What is the same for all placements of a pattern.
 #[derive(Clone, Copy)]
 pub(crate) struct Grid {
-    /// How many cells a row has.
-    pub(crate) side: u8,
-    /// How many cells the board has.
-    pub(crate) cells: u8,
+    /// The side of the board.
+    pub(crate) side: Side,
     /// How many tiles the pattern has.
     pub(crate) size: u8,
     /// How many slots each placement has.
@@ -27,12 +23,7 @@ pub(crate) struct Grid {
     pub(crate) all: u32,
     /// By how much the number of an entry grows where a tile goes to the next cell that the tiles before it leave.
     pub(crate) weights: [u32; MOST_TILES],
-    /// The cells outside the first column: those that a step to the right enters.
-    right: u32,
-    /// The cells outside the last column: those that a step to the left enters.
-    left: u32,
-    ghost short_rows: { side ≤ 5 },
-    ghost few_cells: { cells ≤ 25 },
+    ghost few_cells: { side * side ≤ 25 },
     ghost some_tiles: { 0 < size },
     ghost few_tiles: { size ≤ 8 },
     ghost wide: { 0 < width },
@@ -47,49 +38,13 @@ impl Grid {
         let width = pattern.width();
         let run = side.cells() + 1 - pattern.size();
         Ok(Grid {
-            side: side.get(),
-            cells: side.cells(),
+            side,
             size: pattern.size(),
             width: usize::from(width),
             run: u16::from(run) * u16::from(width),
             all,
             weights: weights(pattern)?,
-            right: all & !first_column(side),
-            left: all & !last_column(side),
         })
-    }
-
-    /// The cells beside one.
-    #[inline]
-    pub(crate) fn beside(&self, cell: u8) -> u32
-        requires { cell < 32 }
-    {
-        let mask = with(0, cell);
-        self.grown(mask, self.all) & !mask
-    }
-
-    /// The region of the least of some whole regions' cells.
-    #[inline]
-    pub(crate) fn first_region(&self, free: u32) -> u32
-        requires { 0 < free }
-    {
-        let mut region = with(0, first_of(free));
-        for _ in 0..MOST_STEPS {
-            let more = self.grown(region, free);
-            if more == region {
-                break;
-            }
-            region = more;
-        }
-        region
-    }
-
-    /// The mask, and the free cells beside its cells.
-    #[inline]
-    fn grown(&self, mask: u32, free: u32) -> u32 {
-        let vertical = mask << self.side | mask >> self.side;
-        let horizontal = mask << 1 & self.right | mask >> 1 & self.left;
-        mask | (vertical | horizontal) & free
     }
 }
 

@@ -2,17 +2,17 @@
 
 ghost use Rattle.std.specs.Prelude.{◌<◌, ◌≤◌, ◌^◌};
 
-use crate::faults::Stop;
-use crate::grids::Grid;
+use pat_place::Pattern;
 use puz_board::masks::{all_below, first_of};
 use std::alloc::{AllocError, Global};
 
 /// All sets of as many cells as a pattern has tiles, in ascending order of their masks.
-pub(crate) fn all_sets(alloc: Global, grid: &Grid) -> Result<Vec<u32>, AllocError> {
+pub(crate) fn all_sets(alloc: Global, pattern: &Pattern) -> Result<Vec<u32>, AllocError> {
+    let all = all_below(pattern.side().cells());
     let mut sets = Vec::new(alloc);
-    let mut next = u64::from(all_below(grid.size));
-    for _ in 0..=grid.all {
-        if next == 0 || next > u64::from(grid.all) {
+    let mut next = u64::from(all_below(pattern.size()));
+    for _ in 0..=all {
+        if next == 0 || next > u64::from(all) {
             break;
         }
         let set = next as u32;

@@ -1,14 +1,10 @@
 //! Shapes: what is left of a placement and a region where nothing is said of which tile is which.
 
 use crate::faults::Stop;
-use crate::grids::Grid;
 use crate::sets::all_sets;
-use pat_place::SetNumbers;
+use pat_place::{Pattern, Placement, SetNumbers, regions};
 use std::alloc::Global;
 use std::ops::Range;
-
-/// How many regions there are at most: eight tiles leave no more than nine.
-const MOST_REGIONS: u32 = 9;
 
 /// All shapes of a pattern: the cells of its tiles, and one region of the others. They stand in the order of the sets of
 /// cells, and those of one set in the order of their slots.
@@ -28,15 +24,15 @@ pub(crate) struct Shape {
 }
 
 impl Shapes {
-    /// The shapes of a grid's pattern.
-    pub(crate) fn new(alloc: Global, grid: &Grid) -> Result<Shapes, Stop> {
-        let sets = all_sets(alloc, grid)?;
+    /// The shapes of a pattern.
+    pub(crate) fn new(alloc: Global, pattern: &Pattern) -> Result<Shapes, Stop> {
+        let sets = all_sets(alloc, pattern)?;
         let numbers = numbers_of(alloc, sets.as_slice())?;
         let mut firsts = Vec::new(alloc);
         let mut shapes = Vec::new(alloc);
         for set in &sets {
             firsts.push(number_of_next(&shapes)?)?;
-            push_shapes(grid, *set, &mut shapes)?;
+            push_shapes(pattern, *set, &mut shapes)?;
         }
         firsts.push(number_of_next(&shapes)?)?;
         Ok(Shapes {
@@ -54,7 +50,8 @@ impl Shapes {
     /// The numbers of a set's shapes.
     #[inline]
     pub(crate) fn of_set(&self, set: u32) -> Result<Range<u32>, Stop> {
-        match self.firsts.get(self.numbers.number_of(set)..) {
+        let number = self.numbers.number_of(set).ok_or(Stop::WrongNumber)?;
+        match self.firsts.get(number..) {
             Some([first, end, ..]) => Ok(*first..*end),
             _ => Err(Stop::WrongNumber),
         }
@@ -76,7 +73,7 @@ impl Shapes {
 fn numbers_of(alloc: Global, sets: &[u32]) -> Result<SetNumbers, Stop> {
     let numbers = SetNumbers::of_sets(alloc, sets)?;
     for (number, set) in sets.iter().enumerate() {
-        if numbers.number_of(*set) != number {
+        if numbers.number_of(*set) != Some(number) {
             return Err(Stop::WrongNumber);
         }
     }
@@ -89,19 +86,15 @@ fn number_of_next(shapes: &Vec<Shape>) -> Result<u32, Stop> {
 }
 
 /// Adds the shapes of a set.
-fn push_shapes(grid: &Grid, set: u32, shapes: &mut Vec<Shape>) -> Result<(), Stop> {
-    let mut rest = grid.all & !set;
-    for _ in 0..MOST_REGIONS {
-        if rest == 0 {
-            break;
-        }
-        let region = grid.first_region(rest);
-        shapes.push(Shape { set, region })?;
-        rest &= !region;
+fn push_shapes(pattern: &Pattern, set: u32, shapes: &mut Vec<Shape>) -> Result<(), Stop> {
+    if set >= 1 << pattern.side().cells() || set.count_ones() != u32::from(pattern.size()) {
+        return Err(Stop::WrongNumber);
     }
-    if rest == 0 {
-        Ok(())
-    } else {
-        Err(Stop::WrongNumber)
+    for region in regions(&Placement::of_set(pattern, set)).as_slice() {
+        shapes.push(Shape {
+            set,
+            region: *region,
+        })?;
     }
+    Ok(())
 }

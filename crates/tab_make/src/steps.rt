@@ -1,12 +1,13 @@
 //! The moves of tiles between shapes.
 
-ghost use Rattle.std.specs.Prelude.{◌<◌};
+ghost use Rattle.std.specs.Prelude.{◌<◌, ◌*◌};
 
 use crate::faults::Stop;
 use crate::grids::Grid;
 use crate::shapes::{Shape, Shapes};
 use crate::turns::Turns;
 use puz_board::masks::{count_below, has_cell, with, without};
+use puz_board::{MOVES, step};
 use std::alloc::Global;
 
 /// For each shape the moves of tiles that lead to it. Each such move can be taken back, so they also tell to which shapes
@@ -56,7 +57,7 @@ impl Steps {
 
     /// Adds the steps to a shape.
     fn push_all(&mut self, grid: &Grid, shapes: &Shapes, shape: &Shape) -> Result<(), Stop> {
-        for to in 0..grid.cells {
+        for to in 0..grid.side.cells() {
             if has_cell(shape.set, to) {
                 self.push_to(grid, shapes, shape, to)?;
             }
@@ -66,21 +67,31 @@ impl Steps {
 
     /// Adds the steps to a shape by a move to one cell.
     fn push_to(&mut self, grid: &Grid, shapes: &Shapes, shape: &Shape, to: u8) -> Result<(), Stop>
-        requires { to < 32 }
+        requires { to < grid.now.side * grid.now.side }
     {
-        let beside = grid.beside(to) & shape.region;
-        for from in 0..grid.cells {
-            if has_cell(beside, from) {
-                let set = with(without(shape.set, to), from);
-                let step = Step {
-                    shape: shapes.with_cells(set, with(0, to))?,
-                    turn: self
-                        .turns
-                        .turn(count_below(set, from), count_below(shape.set, to))?,
-                };
-                self.steps.push(step)?;
+        for mv in &MOVES {
+            if let Some(from) = step(grid.side, to, *mv) {
+                if has_cell(shape.region, from) {
+                    self.push(shapes, shape.set, from, to)?;
+                }
             }
         }
+        Ok(())
+    }
+
+    /// Adds the step to a shape by the move of a tile to a cell from one of the shape's region.
+    fn push(&mut self, shapes: &Shapes, to_set: u32, from: u8, to: u8) -> Result<(), Stop>
+        requires from { from < 32 }
+        requires to { to < 32 }
+    {
+        let from_set = with(without(to_set, to), from);
+        let step = Step {
+            shape: shapes.with_cells(from_set, with(0, to))?,
+            turn: self
+                .turns
+                .turn(count_below(from_set, from), count_below(to_set, to))?,
+        };
+        self.steps.push(step)?;
         Ok(())
     }
 }

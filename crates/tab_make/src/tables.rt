@@ -29,7 +29,7 @@ pub fn build<R: Threads + Sync>(
     ensures fault { IfErr result IsBuildFault }
 {
     let grid = Grid::new(pattern)?;
-    let shapes = Shapes::new(alloc, &grid)?;
+    let shapes = Shapes::new(alloc, pattern)?;
     let counts = Counts::new(rt, alloc, &grid, &shapes, pattern.mask())?;
     let mut file = unfilled_file(alloc, pattern)?;
     let (_header, entries) = file.split_at_mut(HEADER_LEN);

@@ -48,7 +48,7 @@ impl Turns {
             let (from, to) = ((turn / MOST_TILES) as u8, (turn % MOST_TILES) as u8);
             if from == to {
                 turns.starts[turn] = KEEPS;
-            } else if from.max(to) < grid.size && from.abs_diff(to) < grid.side {
+            } else if from.max(to) < grid.size && from.abs_diff(to) < grid.side.get() {
                 turns.starts[turn] = turns.push_row(&swaps, from, to)?;
             }
         }

@@ -10,7 +10,7 @@ use Rattle.pat_place.proofs.slot_tables.SlotTable.slot_in.Goals as goal
 pub bounds-slots-number : goal.bounds-slots-number
 bounds-slots-number c =
     let r = c.self.inside in
-    let number = c.number_of-number.result in
+    let number = c.in_ok-number.number in
     let low : number < length r.masks.items = (let l = c.if-number-masks.false in let e = ap length c.as_slice-masks.ensures.value in omega arith) in
     let inside : c.args.cell < r.side * r.side = subst (λ k. c.args.cell < k * k) (sym c.self.view_is) c.requires in
     let room = slot_room r.side (length r.masks.items) number c.args.cell low inside in
@@ -23,7 +23,7 @@ pub returns : goal.returns
 returns c cells mask_is is_free =
     let r = c.self.inside in
     let cell = c.args.cell in
-    let number = c.number_of-number.result in
+    let number = c.in_ok-number.number in
     let side : c.args.self.now ≡ r.side = sym c.self.view_is in
     let low : number < length r.masks.items = (let l = c.if-number-masks.false in let e = ap length c.as_slice-masks.ensures.value in omega arith) in
     let at : number * r.cells + c.from.result ≡ number * (r.side * r.side) + cell = ap₂ (λ k x. number * k + x) c.self.invariant.few c.from.ensures in

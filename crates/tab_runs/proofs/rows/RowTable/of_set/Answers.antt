@@ -10,7 +10,7 @@ use Rattle.tab_runs.proofs.rows.RowTable.of_set.Goals as goal
 pub part-requires : goal.part-requires
 part-requires c =
     let r = c.self.inside in
-    let number = c.number_of-number.result in
+    let number = c.in_ok-number.number in
     let low : number < length r.kept.masks.items = (let l = c.if-number-masks.false in let e = ap length c.as_slice-masks.ensures.value in omega arith) in
     let end = part_end (r.side * r.side * row_length r.side r.tiles) (length r.kept.masks.items) number low in
     let board : r.cells * r.listed ≡ r.side * r.side * row_length r.side r.tiles = ap₂ (λ a b. a * b) c.self.invariant.few c.self.invariant.short in
@@ -19,7 +19,7 @@ part-requires c =
 pub part-requires-2 : goal.part-requires-2
 part-requires-2 c =
     let r = c.self.inside in
-    let number = c.number_of-number.result in
+    let number = c.in_ok-number.number in
     let low : number < length r.kept.masks.items = (let l = c.if-number-masks.false in let e = ap length c.as_slice-masks.ensures.value in omega arith) in
     let end = part_end (entries_of_run r.side r.tiles) (length r.kept.masks.items) number low in
     subst (λ k. number * k + k ≤ length c.as_slice-2.result.now) (sym c.self.invariant.long) (let s = c.self.invariant.kept.kinds.size in let e = ap length c.as_slice-2.ensures.value in omega arith)
@@ -27,7 +27,7 @@ part-requires-2 c =
 pub returns-clause-rows : goal.returns-clause-rows
 returns-clause-rows c =
     let r = c.self.inside in
-    let number = c.number_of-number.result in
+    let number = c.in_ok-number.number in
     let low : number < length r.kept.masks.items = (let l = c.if-number-masks.false in let e = ap length c.as_slice-masks.ensures.value in omega arith) in
     let mask : get_or r.kept.masks.items number 0 ≡ c.args.set = ap (λ xs. get_or xs number 0) (sym c.as_slice-masks.ensures.value) ∙ c.if-masks-number.false in
     let board : r.cells * r.listed ≡ r.side * r.side * row_length r.side r.tiles = ap₂ (λ a b. a * b) c.self.invariant.few c.self.invariant.short in
@@ -38,7 +38,7 @@ returns-clause-rows c =
 pub returns-clause-told : goal.returns-clause-told
 returns-clause-told c =
     let r = c.self.inside in
-    let number = c.number_of-number.result in
+    let number = c.in_ok-number.number in
     let low : number < length r.kept.masks.items = (let l = c.if-number-masks.false in let e = ap length c.as_slice-masks.ensures.value in omega arith) in
     let mask : get_or r.kept.masks.items number 0 ≡ c.args.set = ap (λ xs. get_or xs number 0) (sym c.as_slice-masks.ensures.value) ∙ c.if-masks-number.false in
     subst (λ v. TellRegionsOf v.side (width v.side v.tiles) c.args.set c.part-2.result.now) c.self.view_is
@@ -48,7 +48,7 @@ returns-clause-told c =
 pub returns-clause-size : goal.returns-clause-size
 returns-clause-size c =
     let r = c.self.inside in
-    let number = c.number_of-number.result in
+    let number = c.in_ok-number.number in
     let low : number < length r.kept.masks.items = (let l = c.if-number-masks.false in let e = ap length c.as_slice-masks.ensures.value in omega arith) in
     let end = part_end (entries_of_run r.side r.tiles) (length r.kept.masks.items) number low in
     let fits : number * r.entries + r.entries ≤ length c.as_slice-2.result.now =
