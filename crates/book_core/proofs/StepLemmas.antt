@@ -7,7 +7,8 @@ use Rattle.book_core.specs.declared.events.Event.TheVariants.{Claim, Report, Loo
 use Rattle.book_core.specs.declared.events.Answer.TheVariants.{Drawn, Ended, Reported, Least}
 use Rattle.book_core.specs.declared.events.CoreFault.TheVariants.{C2, C3}
 use Rattle.book_core.specs.Passes.{Deeds, with_end}
-use Rattle.book_core.specs.Books.{Book, IsInRange}
+use Rattle.book_core.specs.Books.{Book}
+use Rattle.book_core.specs.StoredBooks.{IsInRange}
 use Rattle.book_core.specs.Steps.{drawn_by, ended_by, reported_by, looked_by, StepOutcome, claims, reports, looks, by_pass, step}
 use Rattle.book_core.proofs.ListLemmas.{sum_by-changed}
 

@@ -1,5 +1,5 @@
 -- The state of a book: how many jobs there are and were claimed, the least place, and what each pass has done.
-use Rattle.std.specs.Prelude.{◌≡◌, ℕ, ◌+◌, ◌<◌, ◌≤◌, ◌^◌, List, length, replicate, Option, None}
+use Rattle.std.specs.Prelude.{◌≡◌, ℕ, ◌<◌, ◌≤◌, List, length, replicate, Option, None}
 use Rattle.std.specs.List.{count_by}
 use Rattle.book_core.specs.Passes.{Deeds, fresh}
 
@@ -33,9 +33,3 @@ most_workers = 64
 -- so many workers may share a book, each with a pass of its own
 abbrev pub AreWorkers : ℕ → Type 0
 AreWorkers count = (0 < count) × (count ≤ most_workers)
-
--- next stays far below 2 ^ 64, as each claim draws a job or ends a pass
-pub record IsInRange (b : Book) : Type 0 where
-  pub jobs : b.jobs ≤ 2 ^ 32
-  pub passes : length b.passes ≤ most_workers
-  pub next : b.next ≤ b.jobs + ended_count b.passes

@@ -7,3 +7,5 @@ pub mod Steps
 pub mod Runs
 pub mod Laws
 pub mod Shares
+-- How values are stored.
+pub mod StoredBooks

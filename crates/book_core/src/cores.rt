@@ -31,7 +31,8 @@ pub struct Core {
 }
 
 impl Model for Core {
-    ghost use Rattle.book_core.specs.Books.{Book, IsInRange};
+    ghost use Rattle.book_core.specs.Books.{Book};
+    ghost use Rattle.book_core.specs.StoredBooks.{IsInRange};
 
     ghost Value = { Book };
 

@@ -13,7 +13,8 @@ use Rattle.book_core.proofs.ListLemmas.{slice_get-push_cases}
 use Rattle.book_core.proofs.LawLemmas.{BookLaw-all_drawn}
 use Rattle.book_live.specs.declared.views.Sizes.{Sizes}
 use Rattle.book_live.specs.declared.views.View.{View}
-use Rattle.book_live.specs.Views.{view, alone, opening, deeds_of, first_alone, without_first}
+use Rattle.book_live.specs.Views.{view, alone, opening, first_alone, without_first}
+use Rattle.book_live.specs.StoredPasses.{deeds_of}
 use Rattle.book_live.specs.Shown.{IsInLimits, IsReachedBook, Shows, place_in_word}
 use Rattle.book_live.specs.Steps.{opened, made}
 use Rattle.book_live.specs.Callers.{BookId, PassState, all_deeds, IsEachDrawnOnce, IsOutcome, numbered_passes, ShowsEnd}

@@ -63,5 +63,3 @@ pub record ShowsEnd (b : BookId) (passes : List PassState) (place : Option ℕ) 
   pub own : get_elem? state.views seat ≡ some (view b.sizes (numbered_passes passes))
   pub done : book.passes ≡ all_deeds passes
   pub least : book.least ≡ place
-
--- ---- what the closing seat stands for

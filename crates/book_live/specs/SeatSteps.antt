@@ -1,14 +1,38 @@
 -- What a claim, a report and a look make of the seat that takes them.
-use Rattle.std.specs.Prelude.{◌≡◌, ℕ, ◌<◌, ◌≤◌, length, Some}
+use Rattle.std.specs.Prelude.{◌≡◌, ℕ, ◌<◌, ◌≤◌, List, [], ◌∷◌, length, Some}
 use Rattle.std.specs.List.{Contains}
 use Rattle.book_core.specs.declared.events.Event.TheVariants.{Claim, Report, Look}
 use Rattle.book_core.specs.declared.events.Answer.TheVariants.{Reported, Least}
-use Rattle.book_core.specs.Passes.{with_drawn, with_end, with_report, with_seen}
+use Rattle.book_core.specs.Passes.{Deeds, with_drawn, with_end, with_report, with_seen}
 use Rattle.book_core.specs.Places.{IsAtMost}
+use Rattle.book_core.specs.Shares.{NumberedPass, numbered_pass}
 use Rattle.book_live.specs.declared.views.View.{View}
-use Rattle.book_live.specs.Views.{changed, deeds_of, pass_number_of}
+use Rattle.book_live.specs.StoredPasses.{deeds_of}
+use Rattle.book_live.specs.Views.{view}
 use Rattle.book_live.specs.Shown.{place_in_word}
 use Rattle.book_live.specs.Steps.{IsOneStep, answer_to}
+
+-- ---- the pass of a seat
+
+-- the number of the first pass of a share: 0, where the share has no pass
+abbrev pub first_number : List NumberedPass → ℕ
+first_number [] = 0
+first_number (h ∷ hs) = h.number
+
+-- the number of the pass of a seat
+abbrev pub pass_number_of : View → ℕ
+pass_number_of v = first_number v.held
+
+-- the share, once its first pass has taken a step, where it has a pass
+abbrev pub first_changed : (Deeds → Deeds) → List NumberedPass → List NumberedPass
+first_changed f [] = []
+first_changed f (h ∷ hs) = numbered_pass h.number (f h.deeds) ∷ hs
+
+-- the seat of a pass, once that pass has taken a step
+abbrev pub changed : View → (Deeds → Deeds) → View
+changed v f = view v.sizes (first_changed f v.held)
+
+-- ---- its steps
 
 -- A claim that finds the number of a job draws it, and any other ends the pass.
 -- The pass has drawn no more jobs than there were claims.

@@ -13,7 +13,7 @@ use Rattle.book_core.specs.Books.{Book}
 use Rattle.book_core.specs.Steps.{step, pass_of}
 use Rattle.book_live.specs.declared.views.Sizes.{Sizes}
 use Rattle.book_live.specs.declared.views.View.{View}
-use Rattle.book_live.specs.Views.{alone, opening, changed, first_alone, without_first, together, spent}
+use Rattle.book_live.specs.Views.{alone, opening, first_alone, without_first, together, spent}
 use Rattle.book_live.specs.Shown.{place_in_word, IsReachedBook, Shows}
 
 -- ---- the steps that are an event of the machine

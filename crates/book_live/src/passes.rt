@@ -19,7 +19,8 @@ impl Model for Pass {
     ghost Value = { PassState };
 
     ghost use Rattle.std.specs.Prelude.{◌≡◌, []};
-    ghost use Rattle.book_live.specs.Views.{alone, deeds_of};
+    ghost use Rattle.book_live.specs.Views.{alone};
+    ghost use Rattle.book_live.specs.StoredPasses.{deeds_of};
 
     ghost view = { λ p. record {
       book = record { table = p.seat.table_id; sizes = p.seat.me.0.sizes };

@@ -1,3 +1,4 @@
+-- What public contracts say.
 pub mod Memory
 pub mod Shelf
 pub mod Streams

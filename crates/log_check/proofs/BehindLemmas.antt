@@ -1,5 +1,5 @@
 -- What the bytes behind some boards' trees tell of the bytes.
-use Rattle.std.proofs.Common.{◌≡◌, ℕ, ◌-◌, ◌<◌, ◌≤◌, ◌^◌, ◌↔◌, Bool, true, false, List, [], ◌∷◌, length, Option, Some, None, refl, sym, ap, subst}
+use Rattle.std.proofs.Common.{◌≡◌, ℕ, ◌-◌, ◌<◌, ◌≤◌, ◌^◌, ◌↔◌, true, false, List, ◌∷◌, length, Option, Some, None, refl, sym, ap, subst}
 use Rattle.std.specs.Prelude.{IfNone, IfSome, option_map}
 use Rattle.puz_board.specs.Boards.{moved}
 use Rattle.puz_board.specs.declared.moves.Move.{Move}

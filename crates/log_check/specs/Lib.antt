@@ -2,9 +2,9 @@
 pub mod GoodLogs
 pub mod Laws
 pub mod LogFaults
+pub mod Refutations
 pub mod Trees
 -- What proofs alone need.
 pub mod Nodes
 pub mod Reached
-pub mod Refutations
 pub mod Walks

@@ -6,7 +6,8 @@ use Rattle.std.proofs.Common.{zero, cond, inl, inr, sym, ◌∙◌, ap, arith, z
 use Rattle.std.proofs.lemmas.Bool.{cases_eq, cond-true, cond-false, eq-eqb, ne_eqb}
 use Rattle.std.proofs.lemmas.Nat.{mod-pow-add, shr-shr, pow-add}
 use Rattle.std.proofs.lemmas.Nat.Bits.{bit_at-lt}
-use Rattle.puz_board.specs.Masks.{has_bit, mask_of, numbers_below}
+use Rattle.puz_board.specs.Masks.{has_bit, numbers_below}
+use Rattle.pat_place.specs.StoredPatterns.{mask_of}
 
 doubled : (p q : ℕ) → p + q * (p * 2) ≡ (q * 2 + 1) * p
 doubled p q = omega arith

@@ -1,8 +1,13 @@
 -- How a pattern is stored: bit t of its mask is set for tile t.
-use Rattle.std.specs.Prelude.{◌≡◌, ◌^◌, ◌<◌}
+use Rattle.std.specs.Prelude.{◌≡◌, ℕ, ◌+◌, ◌^◌, ◌<◌, List, [], ◌∷◌}
 use Rattle.pat_place.specs.declared.patterns.Pattern.TheInside.{Inside}
-use Rattle.puz_board.specs.Masks.{mask_of, numbers_of}
+use Rattle.puz_board.specs.Masks.{numbers_of}
 use Rattle.pat_place.specs.Patterns.{PatternView, IsPattern}
+
+-- the mask of different numbers
+abbrev pub mask_of : List ℕ → ℕ
+mask_of [] = 0
+mask_of (x ∷ xs) = 2 ^ x + mask_of xs
 
 -- the pattern with this side and the tiles of this mask
 abbrev pub pattern_shown : Inside → PatternView

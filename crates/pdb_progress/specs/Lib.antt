@@ -1,1 +1,2 @@
+-- What public contracts say.
 pub mod Shares

@@ -1,5 +1,5 @@
 -- Masks: bit x stands for the number x.
-use Rattle.std.specs.Prelude.{◌≡◌, ℕ, ◌+◌, ◌%◌, ◌^◌, ◌==◌, ◌↔◌, Bool, List, [], ◌∷◌, filter, count_ones}
+use Rattle.std.specs.Prelude.{◌≡◌, ℕ, ◌%◌, ◌^◌, ◌==◌, ◌↔◌, Bool, List, filter, count_ones}
 use Rattle.std.specs.Int.{bit_at}
 use Rattle.std.specs.List.{range_with_len}
 
@@ -14,11 +14,6 @@ numbers_below n mask = filter (has_bit mask) (range_with_len 0 n)
 -- those of a mask of 32 bits
 abbrev pub numbers_of : ℕ → List ℕ
 numbers_of mask = numbers_below 32 mask
-
--- the mask of different numbers
-abbrev pub mask_of : List ℕ → ℕ
-mask_of [] = 0
-mask_of (x ∷ xs) = 2 ^ x + mask_of xs
 
 -- the bits that are set are those of the numbers with the property
 abbrev pub IsMaskOf : ℕ → (ℕ → Type 0) → Type 0

@@ -1,3 +1,4 @@
+-- What public contracts say.
 pub use Rattle.tab_make.specs.Layers
 pub mod Faults
 pub mod Solvable

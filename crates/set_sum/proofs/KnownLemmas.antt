@@ -1,5 +1,5 @@
 -- What is known of members, place by place, and which of it a move leaves.
-use Rattle.std.proofs.Common.{◌≡◌, ◌≢◌, ℕ, ◌+◌, ◌-◌, ◌*◌, ◌^◌, ◌<◌, ◌⊎◌, Bool, true, false, cond, List, length, inl, inr, refl, sym, ◌∙◌, ap, subst, arith, slice_index, slice_set, bit_and, get_or-set_same, get_or-set_other, length-set, Option, Some, None}
+use Rattle.std.proofs.Common.{◌≡◌, ◌≢◌, ℕ, ◌+◌, ◌-◌, ◌*◌, ◌^◌, ◌<◌, Bool, true, false, cond, List, length, inl, inr, refl, sym, ◌∙◌, ap, subst, arith, slice_index, slice_set, bit_and, get_or-set_same, get_or-set_other, length-set, Option, Some, None}
 use Rattle.std.specs.Prelude.{option_map, slice_index_or}
 use Rattle.std.specs.Int.{bit_at}
 use Rattle.std.proofs.lemmas.Bool.{cases_Bool, cases_eq}
@@ -17,10 +17,11 @@ use Rattle.pat_place.specs.Patterns.{IsPattern}
 use Rattle.pat_place.proofs.MaskLemmas.{in_numbers_below}
 use Rattle.tab_rule.specs.Counts.{AreCellsOf}
 use Rattle.set_sum.specs.Bundles.{BundleView}
-use Rattle.set_sum.specs.Members.{MemberSays, table_of, table_pattern}
+use Rattle.set_sum.specs.Members.{MemberSays}
 use Rattle.set_sum.specs.Parts.{PartView, no_part, part_pattern, part_shown}
-use Rattle.set_sum.specs.Owners.{AreOwners, IsOwner, has_tile, place_of}
-use Rattle.set_sum.specs.StoredSums.{IsJoined, IsKnownOf, IsNoted, said_by}
+use Rattle.set_sum.specs.Owners.{AreOwners, IsOwner, has_tile}
+use Rattle.set_sum.specs.Known.{place_of, IsKnownOf, said_by}
+use Rattle.set_sum.specs.Noting.{IsJoined, IsNoted}
 use Rattle.set_sum.specs.declared.members.Member.{Member}
 use Rattle.set_sum.specs.declared.parts.Part.{Part}
 use Rattle.set_sum.specs.declared.known.Known.{Known}

@@ -1,12 +1,12 @@
 -- A board that is moved in place and moved back: the numbers, their cells, and what is known.
-use Rattle.std.proofs.Common.{◌≡◌, ℕ, ◌+◌, ◌-◌, ◌*◌, ◌^◌, ◌<◌, ◌≤◌, bit_and, List, length, take, Option, Some, None, sym, ◌∙◌, ap, subst, arith, lit<, slice_index, slice_set}
+use Rattle.std.proofs.Common.{◌≡◌, ℕ, ◌-◌, ◌*◌, ◌^◌, ◌<◌, bit_and, List, length, take, Option, Some, sym, ◌∙◌, ap, subst, arith, lit<, slice_index, slice_set}
 use Rattle.std.specs.Int.{bit_at}
 use Rattle.std.specs.Prelude.{option_map}
 use Rattle.std.proofs.lemmas.Nat.Bits.{bit_at-zero}
 use Rattle.std.proofs.Math.Seq.{take-set-lt}
 use Rattle.std.proofs.lemmas.List.{ext_get_or, get_or-take, length-take-le}
 use Rattle.puz_board.specs.declared.moves.Move.{Move}
-use Rattle.puz_board.specs.Boards.{IsBoardOf, at, blank, moved, side_of, slid}
+use Rattle.puz_board.specs.Boards.{IsBoardOf, at, blank, moved, slid}
 use Rattle.puz_board.specs.Cells.{Adjacent, step_of}
 use Rattle.puz_board.specs.Transposing.{transposed, transposed_cell}
 use Rattle.puz_board.proofs.BoardLemmas.{cell_of-below, cells_least, cells_most, side_of-board}
@@ -14,9 +14,10 @@ use Rattle.puz_board.proofs.CellLemmas.{step_of-inside}
 use Rattle.puz_board.proofs.TransposeLemmas.{blank-transposed, slid-transposed}
 use Rattle.tab_rule.specs.Counts.{AreCellsOf}
 use Rattle.set_sum.specs.Bundles.{BundleView}
-use Rattle.set_sum.specs.Owners.{AreOwners, place_of}
+use Rattle.set_sum.specs.Owners.{AreOwners}
+use Rattle.set_sum.specs.Known.{place_of, IsKnownOf}
 use Rattle.set_sum.specs.Steps.{IsStepFrom}
-use Rattle.set_sum.specs.StoredSums.{IsJoined, IsKnownOf}
+use Rattle.set_sum.specs.Noting.{IsJoined}
 use Rattle.set_sum.specs.declared.known.Known.{Known}
 use Rattle.set_sum.specs.declared.known.Step.{Step}
 use Rattle.set_sum.proofs.KnownLemmas.{cells_after, known_before}

@@ -1,12 +1,10 @@
 -- What a member says of a board it says after the move of a tile that its pattern hasn't: such a move costs the pattern nothing,
 -- and may be taken back.
-use Rattle.std.proofs.Common.{◌≡◌, ℕ, ◌+◌, ◌*◌, ◌<◌, ◌≤◌, Bool, true, false, cond, List, ◌∷◌, Option, Some, None, sym, ◌∙◌, ap, subst, arith, zero-add}
+use Rattle.std.proofs.Common.{◌≡◌, ℕ, ◌+◌, ◌*◌, ◌<◌, ◌≤◌, Bool, true, false, cond, List, ◌∷◌, Some, sym, ◌∙◌, ap, subst, arith, zero-add}
 use Rattle.std.specs.Prelude.{MatchBool, option_map}
-use Rattle.std.specs.List.{AllByRecursion}
-use Rattle.puz_board.specs.declared.moves.Move.{Move}
 use Rattle.puz_board.specs.Boards.{IsBoardOf, at, blank, moved, side_of, slid}
 use Rattle.puz_board.specs.Cells.{Adjacent, reverse_of, step_of}
-use Rattle.puz_board.specs.Costs.{IsHome, IsLeastCost, IsNeverHome, LeadsHome, cost, has}
+use Rattle.puz_board.specs.Costs.{IsHome, LeadsHome, cost, has}
 use Rattle.puz_board.specs.Paths.{IsPath, after}
 use Rattle.puz_board.specs.Transposing.{transposed, transposed_cell}
 use Rattle.puz_board.proofs.BoardLemmas.{IsBoardOf-slid, at-slid_back, blank-slid, cell_of-below, cells_least, side_of-board, side_of-slid}

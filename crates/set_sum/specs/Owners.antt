@@ -1,16 +1,13 @@
 -- The members whose pattern has a tile, by their places.
-use Rattle.std.specs.Prelude.{◌≡◌, ℕ, ◌+◌, ◌*◌, ◌<◌, if◌then◌else◌, Bool, true, List, length}
+use Rattle.std.specs.Prelude.{◌≡◌, ℕ, ◌<◌, if◌then◌else◌, Bool, true, List, length}
 use Rattle.std.specs.Int.{bit_at}
 use Rattle.puz_board.specs.Costs.{has}
 use Rattle.puz_board.specs.Transposing.{transposed_cell}
 use Rattle.pat_place.specs.Patterns.{IsPattern}
+use Rattle.set_sum.specs.Known.{place_of}
 use Rattle.set_sum.specs.Members.{table_pattern}
 use Rattle.set_sum.specs.Parts.{PartView}
 use Rattle.set_sum.specs.declared.members.Member.{Member}
-
--- the place of a member: two for each table, the first for the plain member
-abbrev pub place_of : Member → ℕ
-place_of m = 2 * m.table + (if m.is_transposed then 1 else 0)
 
 -- whether a member's pattern has a tile: a transposed member's does where its table's pattern has the transposed tile
 abbrev pub has_tile : ℕ → List PartView → Member → ℕ → Bool

@@ -3,7 +3,7 @@ use Rattle.std.specs.Prelude.{◌≡◌, ℕ, List}
 use Rattle.puz_board.specs.Boards.{IsBoardOf, blank, slid}
 use Rattle.puz_board.specs.Cells.{Adjacent}
 use Rattle.set_sum.specs.Bundles.{BundleView}
-use Rattle.set_sum.specs.StoredSums.{IsKnownOf}
+use Rattle.set_sum.specs.Known.{IsKnownOf}
 use Rattle.set_sum.specs.declared.known.Step.{Step}
 
 -- the step leads from board b to this one: it keeps the blank's cell on b, and what is known of b

@@ -2,7 +2,8 @@
 
 ghost use Rattle.std.specs.Prelude.{◌≡◌, ℕ, ◌<◌, ◌≤◌, length};
 ghost use Rattle.tab_rule.specs.declared.tables.Count.TheVariants.{Finite};
-ghost use Rattle.set_sum.specs.StoredSums.{IsJoined, IsNoted, said_by};
+ghost use Rattle.set_sum.specs.Noting.{IsJoined, IsNoted};
+ghost use Rattle.set_sum.specs.Known.{said_by};
 
 use crate::bundles::MOST_MEMBERS;
 use puz_board::masks::{first_of, with, without};

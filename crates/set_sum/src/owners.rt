@@ -5,7 +5,8 @@ ghost use Rattle.std.specs.Int.{bit_at};
 ghost use Rattle.std.specs.List.{AllByRecursion};
 ghost use Rattle.puz_board.specs.Transposing.{transposed_cell};
 ghost use Rattle.set_sum.specs.Bundles.{most_tables};
-ghost use Rattle.set_sum.specs.Owners.{AreOwners, place_of};
+ghost use Rattle.set_sum.specs.Owners.{AreOwners};
+ghost use Rattle.set_sum.specs.Known.{place_of};
 ghost use Rattle.set_sum.specs.Parts.{part_pattern, parts_shown};
 
 use crate::bundles::MOST_CELLS;

@@ -1,6 +1,5 @@
-use Rattle.std.proofs.Common.{◌≡◌, ◌+◌, ◌∷◌, ◌^◌, ◌<◌, ◌-◌, Some, List, refl, sym, subst, ap, length, ◌∙◌, arith}
+use Rattle.std.proofs.Common.{◌≡◌, ◌+◌, ◌∷◌, ◌-◌, Some, List, refl, sym, subst, ap, length, ◌∙◌, arith}
 use Rattle.std.specs.Prelude.{IfNone, IfSome}
-use Rattle.puz_board.specs.Boards.{IsBoardOf, moved}
 use Rattle.puz_board.proofs.MovedLemmas.{IsBoardOf-moved}
 use Rattle.set_sum.specs.Steps.{IsStepFrom}
 use Rattle.set_sum.specs.SumViews.{SumsView}

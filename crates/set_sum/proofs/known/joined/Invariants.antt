@@ -1,6 +1,6 @@
 use Rattle.std.proofs.Common.{◌≡◌, ℕ}
 use Rattle.std.specs.Int.{bit_at}
-use Rattle.set_sum.specs.StoredSums.{IsJoined}
+use Rattle.set_sum.specs.Noting.{IsJoined}
 use Rattle.set_sum.proofs.known.joined.Given as goal
 
 abbrev pub invariant-loop-fresh : goal.invariant-loop-fresh

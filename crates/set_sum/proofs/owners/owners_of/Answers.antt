@@ -1,8 +1,6 @@
-use Rattle.std.proofs.Common.{◌≡◌, ◌+◌, ◌*◌, ◌<◌, inl, inr, length, sym, ◌∙◌, ap, subst, arith}
+use Rattle.std.proofs.Common.{◌≡◌, inl, inr, sym, ◌∙◌, ap, subst, arith}
 use Rattle.std.specs.Int.{bit_at}
 use Rattle.std.proofs.lemmas.Bool.{cases_eq}
-use Rattle.std.proofs.lemmas.List.{length-map}
-use Rattle.puz_board.specs.Transposing.{transposed_cell}
 use Rattle.set_sum.specs.Parts.{no_part, part_pattern, part_shown, parts_shown}
 use Rattle.set_sum.proofs.KnownLemmas.{owner_at, owner_kept}
 use Rattle.set_sum.proofs.ListLemmas.{all_at, mapped_at, read_at}

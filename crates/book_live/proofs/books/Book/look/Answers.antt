@@ -1,5 +1,5 @@
 use Rattle.std.proofs.Common.{◌∙◌, ap}
-use Rattle.book_live.specs.Views.{deeds_of}
+use Rattle.book_live.specs.StoredPasses.{deeds_of}
 use Rattle.book_live.proofs.CallerLemmas.{seat-alone}
 use Rattle.book_live.proofs.books.Book.look.Goals as goal
 

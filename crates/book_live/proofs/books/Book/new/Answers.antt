@@ -1,6 +1,7 @@
 use Rattle.std.proofs.Common.{◌≡◌, ◌∙◌, ℕ, suc, ◌+◌, ◌-◌, ◌<◌, [], false, refl, sym, ap, subst, arith, rules}
 use Rattle.book_core.specs.Shares.{all_fresh}
-use Rattle.book_live.specs.Views.{view, alone, deeds_of}
+use Rattle.book_live.specs.Views.{view, alone}
+use Rattle.book_live.specs.StoredPasses.{deeds_of}
 use Rattle.book_live.specs.Shown.{IsInLimits}
 use Rattle.book_live.proofs.CallerLemmas.{first-seat, other-seats, AreFirstPasses-push, ShowsFirst, ShowsFirst-opened, ShowsFirst-push}
 use Rattle.book_live.proofs.books.Book.new.Goals as goal

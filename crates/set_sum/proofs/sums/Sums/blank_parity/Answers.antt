@@ -1,4 +1,4 @@
-use Rattle.std.proofs.Common.{◌≡◌, ◌*◌, ◌%◌, ◌<◌, slice_index, sym, ◌∙◌, ap, subst}
+use Rattle.std.proofs.Common.{◌*◌, ◌%◌, ◌<◌, slice_index, sym, ◌∙◌, ap, subst}
 use Rattle.puz_board.specs.Boards.{blank, side_of}
 use Rattle.puz_board.specs.Parity.{blank_parity, taxicab}
 use Rattle.puz_board.proofs.BoardLemmas.{side_of-board}

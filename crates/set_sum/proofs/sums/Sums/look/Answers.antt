@@ -1,4 +1,4 @@
-use Rattle.std.proofs.Common.{◌≡◌, cond, sym, ◌∙◌, ap, subst}
+use Rattle.std.proofs.Common.{◌≡◌, cond, sym, ap, subst}
 use Rattle.puz_board.specs.Boards.{IsBoardOf}
 use Rattle.puz_board.specs.Transposing.{transposed}
 use Rattle.tab_rule.specs.Counts.{AreCellsOf}

@@ -1,9 +1,8 @@
-use Rattle.std.proofs.Common.{◌≡◌, ◌*◌, ◌<◌, length, refl, slice_index, sym, ◌∙◌, ap, subst, take, rules}
+use Rattle.std.proofs.Common.{◌≡◌, ◌*◌, refl, sym, ap, subst, take, rules}
 use Rattle.puz_board.specs.Boards.{IsBoardOf}
 use Rattle.puz_board.specs.Transposing.{transposed}
 use Rattle.tab_rule.specs.Counts.{AreCellsOf}
 use Rattle.set_sum.specs.SumViews.{SumsView}
-use Rattle.set_sum.specs.StoredSums.{IsKnownOf}
 use Rattle.set_sum.proofs.SlideLemmas.{known_none, shown_board}
 use Rattle.set_sum.proofs.sums.Sums.new.Goals as goal
 

@@ -1,6 +1,7 @@
 use Rattle.std.proofs.Common.{sym, subst}
 use Rattle.set_sum.specs.Members.{MemberSays}
-use Rattle.set_sum.specs.StoredSums.{IsNoted, sums_numbers_shown}
+use Rattle.set_sum.specs.StoredSums.{sums_numbers_shown}
+use Rattle.set_sum.specs.Noting.{IsNoted}
 use Rattle.set_sum.proofs.KnownLemmas.{known_noted}
 use Rattle.set_sum.proofs.sums.Sums.said.Goals as goal
 

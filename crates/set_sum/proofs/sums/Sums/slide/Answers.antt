@@ -6,7 +6,8 @@ use Rattle.puz_board.proofs.BoardLemmas.{IsBoardOf-slid, cells_most}
 use Rattle.puz_board.proofs.TransposeLemmas.{cell_below}
 use Rattle.tab_rule.specs.Counts.{AreCellsOf}
 use Rattle.set_sum.specs.Owners.{AreOwners}
-use Rattle.set_sum.specs.StoredSums.{IsKnownOf, sums_numbers_shown}
+use Rattle.set_sum.specs.StoredSums.{sums_numbers_shown}
+use Rattle.set_sum.specs.Known.{IsKnownOf}
 use Rattle.set_sum.specs.SumViews.{SumsView}
 use Rattle.set_sum.specs.declared.known.Known.{Known}
 use Rattle.set_sum.proofs.KnownLemmas.{cells_after, known_after}

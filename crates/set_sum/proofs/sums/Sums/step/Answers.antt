@@ -1,8 +1,9 @@
-use Rattle.std.proofs.Common.{◌≡◌, ℕ, ◌*◌, ◌<◌, Option, Some, None, refl, slice_index, sym, ◌∙◌, ap, subst}
+use Rattle.std.proofs.Common.{◌*◌, ◌<◌, Option, Some, None, refl, slice_index, sym, ◌∙◌, ap, subst}
 use Rattle.std.specs.Prelude.{IfNone}
 use Rattle.puz_board.specs.Boards.{IsBoardOf, blank, moved, slid}
 use Rattle.puz_board.specs.Cells.{Adjacent}
-use Rattle.set_sum.specs.StoredSums.{IsKnownOf, sums_numbers_shown}
+use Rattle.set_sum.specs.StoredSums.{sums_numbers_shown}
+use Rattle.set_sum.specs.Known.{IsKnownOf}
 use Rattle.set_sum.proofs.SlideLemmas.{blank_below, blank_first, moved_by, step_adjacent, step_leads}
 use Rattle.set_sum.proofs.sums.Sums.step.Goals as goal
 

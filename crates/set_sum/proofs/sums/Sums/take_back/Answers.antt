@@ -1,9 +1,10 @@
-use Rattle.std.proofs.Common.{◌≡◌, ◌*◌, ◌^◌, ◌<◌, slice_index, sym, ◌∙◌, ap, subst, arith}
-use Rattle.puz_board.specs.Boards.{at, blank, slid}
+use Rattle.std.proofs.Common.{◌≡◌, ◌*◌, ◌<◌, slice_index, sym, ◌∙◌, ap, subst, arith}
+use Rattle.puz_board.specs.Boards.{at, blank}
 use Rattle.puz_board.specs.Cells.{Adjacent}
 use Rattle.puz_board.proofs.BoardLemmas.{cells_most}
 use Rattle.set_sum.specs.Owners.{AreOwners}
-use Rattle.set_sum.specs.StoredSums.{IsKnownOf, sums_numbers_shown}
+use Rattle.set_sum.specs.StoredSums.{sums_numbers_shown}
+use Rattle.set_sum.specs.Known.{IsKnownOf}
 use Rattle.set_sum.specs.SumViews.{SumsView}
 use Rattle.set_sum.proofs.SlideLemmas.{number_at, step_back, step_known, step_near}
 use Rattle.set_sum.proofs.sums.Sums.take_back.Goals as goal
