@@ -237,8 +237,8 @@ impl<'a> Search<'a> {
         self.is_cut(&children.boards[at].leaf, remaining)
     }
 
-    /// Tries the moves of a list, whose boards are looked up in one set first. Answers whether the board has a solution of fewer
-    /// moves than remain. There is a level for each of these moves.
+    /// Tries the moves of a list, whose boards are looked up in one set first. Answers whether the board has a solution of
+    /// fewer moves than remain. There is a level for each of these moves.
     fn expand(
         &mut self,
         levels: &mut [Children],
