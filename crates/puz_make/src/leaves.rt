@@ -27,12 +27,12 @@ impl Sum {
     /// too. A folded table may say so of a board that moves lead to, although it didn't of the first.
     #[inline]
     pub(crate) fn with(self, entry: u8, before: u8) -> Sum {
-        if entry == NO_WAY_HOME {
-            return Sum { moves: NEVER };
-        }
-        let sum = (u32::from(self.moves) + u32::from(entry)).saturating_sub(u32::from(before));
+        let moves = self
+            .moves
+            .wrapping_add(u16::from(entry))
+            .wrapping_sub(u16::from(before));
         Sum {
-            moves: sum.min(u32::from(NEVER)) as u16,
+            moves: if entry == NO_WAY_HOME { NEVER } else { moves },
         }
     }
 }
@@ -40,7 +40,7 @@ impl Sum {
 /// What a set says of a board.
 #[derive(Clone, Copy)]
 pub(crate) struct Leaf {
-    set: u8,
+    pub(crate) set: u8,
     /// A number of moves that no solution is below.
     sum: u16,
     /// The least number from the sum on that has the parity of all solutions.
@@ -61,18 +61,23 @@ impl Leaf {
     /// What a set says by its sum of a board whose solutions have this parity: 0 or 1.
     #[inline]
     pub(crate) fn new(set: u8, sum: Sum, parity: u16) -> Leaf {
-        let is_odd = sum.moves % 2 != parity % 2;
+        let odd = (sum.moves ^ parity) & 1;
         Leaf {
             set,
             sum: sum.moves,
-            raised: sum.moves.saturating_add(u16::from(is_odd)),
+            raised: sum.moves.wrapping_add(odd),
         }
     }
 
-    /// The byte of the leaf in a tree, where it cuts off a board from which so many moves are to be refuted.
+    /// Whether it is a leaf by parity, where it cuts off a board from which so many moves are to be refuted.
     #[inline]
+    pub(crate) fn is_by_parity(&self, remaining: u16) -> bool {
+        self.sum < remaining
+    }
+
+    /// The byte of the leaf in a tree, where it cuts off a board from which so many moves are to be refuted.
     pub(crate) fn byte(&self, remaining: u16) -> u8 {
-        let first = if self.sum < remaining {
+        let first = if self.is_by_parity(remaining) {
             PARITY_LEAF
         } else {
             LEAF

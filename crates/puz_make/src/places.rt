@@ -3,8 +3,9 @@
 ghost use Rattle.std.specs.Prelude.{◌<◌};
 
 use crate::cells::{CELLS, mask_of, place_of};
+use crate::children::NO_PLACE;
 use crate::slots::Slots;
-use crate::ways::{Passage, seen};
+use crate::ways::{Passage, Way, seen};
 use pat_place::Pattern;
 use puz_board::masks::all_below;
 use puz_board::{Board, Side};
@@ -38,20 +39,132 @@ impl Stand {
     }
 }
 
+/// By how much the number of an entry of a member's table grows where a tile moves. The tiles are those of the board.
+#[derive(Drop)]
+pub(crate) struct Weights {
+    /// Where the tile goes to the next cell.
+    nexts: [Number; CELLS],
+    /// Where it passes another number.
+    passes: [[Number; CELLS]; CELLS],
+}
+
+impl Weights {
+    /// Those of a member.
+    pub(crate) fn new(side: Side, table: &Part<'_>, member: Member) -> Weights {
+        let mut weights = Weights {
+            nexts: [0; CELLS],
+            passes: [[0; CELLS]; CELLS],
+        };
+        let width = match table {
+            Part::Full(_) => table.pattern().width(),
+            Part::Folded(_) => 1,
+        };
+        weights.weigh(side, &table.pattern(), width, member.is_transposed);
+        weights
+    }
+
+    /// Weighs the tiles of a pattern whose placements have so many slots each.
+    fn weigh(&mut self, side: Side, pattern: &Pattern, width: u8, is_transposed: bool) {
+        let cells = u32::from(side.cells());
+        let mut weight = u32::from(width);
+        let tiles = pattern.tiles();
+        let tiles = tiles.as_slice();
+        for index in (0..tiles.len()).rev() {
+            let tile = tile_of(side, tiles[index], is_transposed);
+            self.nexts[tile] = weight;
+            for other in 1..CELLS {
+                self.passes[tile][other] = weight.wrapping_add(self.nexts[other]);
+            }
+            for earlier in &tiles[..index] {
+                let earlier = tile_of(side, *earlier, is_transposed);
+                self.passes[tile][earlier] = 0;
+            }
+            weight = weight.wrapping_mul(cells.wrapping_sub(index as u32));
+        }
+    }
+
+    /// How a tile moves, in the place of this number, which is kept by this number.
+    pub(crate) fn mover(&self, tile: usize, place: u8, kept: u8) -> Mover
+        requires { tile < 32 }
+    {
+        Mover {
+            passes: self.passes[tile],
+            next: self.nexts[tile],
+            place,
+            kept,
+        }
+    }
+}
+
+/// How a tile moves in the place of a member that has it.
+#[derive(Clone, Copy)]
+pub(crate) struct Mover {
+    /// By how much the number of an entry grows where the tile passes each number.
+    passes: [Number; CELLS],
+    /// By how much it grows where the tile goes to the next cell.
+    next: Number,
+    /// The number of the place, or that of none.
+    pub(crate) place: u8,
+    /// The same, or that of none where an earlier set has the place too.
+    pub(crate) kept: u8,
+}
+
+impl Mover {
+    /// One of a tile that no member has.
+    pub(crate) fn none() -> Mover {
+        Mover {
+            passes: [0; CELLS],
+            next: 0,
+            place: NO_PLACE,
+            kept: NO_PLACE,
+        }
+    }
+
+    /// The number of the first entry of the cells after the tile moves, where it is this one before.
+    #[inline]
+    fn first_after(&self, first: Number, passage: &Passage, numbers: &[u8; CELLS]) -> Number {
+        let mut growth = self.next;
+        let passed = passage.passed;
+        for cell in passed {
+            let number = numbers[place_of(cell)];
+            growth = growth.wrapping_add(self.passes[place_of(number)]);
+        }
+        if passage.is_up {
+            first.wrapping_add(growth)
+        } else {
+            first.wrapping_sub(growth)
+        }
+    }
+}
+
+/// A move of the blank on a board.
+#[derive(Clone, Copy)]
+pub(crate) struct Moved<'b> {
+    pub(crate) way: &'b Way,
+    /// The number in each cell before the move.
+    pub(crate) numbers: &'b [u8; CELLS],
+    /// The parity of the number of moves of each solution after it: 0 or 1.
+    pub(crate) parity: u16,
+}
+
+impl<'b> Moved<'b> {
+    /// The tile that moves.
+    #[inline]
+    pub(crate) fn tile(&self) -> u8 {
+        self.numbers[place_of(self.way.to)]
+    }
+}
+
 /// A member's table, and where its pattern's tiles are on the member's board.
 #[derive(Drop)]
 pub(crate) struct Place<'a> {
     pub(crate) member: Member,
-    /// Where the tiles are.
-    pub(crate) stand: Stand,
     /// Whether a placement has more than one slot.
     has_slots: bool,
+    /// Where the tiles are.
+    pub(crate) stand: Stand,
     /// The entries of the table.
     entries: &'a [u8],
-    /// By how much the number of an entry grows where a tile goes to the next cell.
-    weights: [Number; CELLS],
-    /// By how much it grows where a tile passes another number.
-    passes: [[Number; CELLS]; CELLS],
 }
 
 impl<'a> Place<'a> {
@@ -60,61 +173,33 @@ impl<'a> Place<'a> {
         table: &'a Part<'_>,
         member: Member,
         board: &Board,
+        weights: &Weights,
         slots: &mut Slots,
     ) -> Place<'a> {
-        let pattern = table.pattern();
         let (entries, width) = match table {
-            Part::Full(full) => (full.entries(), pattern.width()),
+            Part::Full(full) => (full.entries(), table.pattern().width()),
             Part::Folded(folded) => (folded.entries(), 1),
         };
         let mut place = Place {
             member,
-            stand: Stand::none(),
             has_slots: width > 1,
+            stand: Stand::none(),
             entries,
-            weights: [0; CELLS],
-            passes: [[0; CELLS]; CELLS],
         };
-        place.weigh(board.side(), &pattern, width);
-        place.stand = place.stand_on(board, &pattern, slots);
+        place.stand = place.stand_on(board, &table.pattern(), weights, slots);
         place
     }
 
-    /// Notes by how much the number of an entry grows where a tile of the pattern goes on or passes another number. Each
-    /// placement has so many slots.
-    fn weigh(&mut self, side: Side, pattern: &Pattern, width: u8) {
-        let cells = u32::from(side.cells());
-        let mut weight = u32::from(width);
-        let tiles = pattern.tiles();
-        let tiles = tiles.as_slice();
-        for index in (0..tiles.len()).rev() {
-            let tile = self.tile(side, tiles[index]);
-            self.weights[tile] = weight;
-            for other in 1..CELLS {
-                self.passes[tile][other] = weight.wrapping_add(self.weights[other]);
-            }
-            for earlier in &tiles[..index] {
-                let earlier = self.tile(side, *earlier);
-                self.passes[tile][earlier] = 0;
-            }
-            weight = weight.wrapping_mul(cells.wrapping_sub(index as u32));
-        }
-    }
-
-    /// The place of the tile of the board that the member sees as this one.
-    fn tile(&self, side: Side, tile: u8) -> usize
-        ensures { result < 32 }
-    {
-        if tile < side.cells() {
-            place_of(seen(side, tile, self.member.is_transposed))
-        } else {
-            0
-        }
-    }
-
     /// Where the tiles are on a board.
-    fn stand_on(&self, board: &Board, pattern: &Pattern, slots: &mut Slots) -> Stand {
-        let seen = if self.member.is_transposed {
+    fn stand_on(
+        &self,
+        board: &Board,
+        pattern: &Pattern,
+        weights: &Weights,
+        slots: &mut Slots,
+    ) -> Stand {
+        let is_transposed = self.member.is_transposed;
+        let seen = if is_transposed {
             board.transposed()
         } else {
             *board
@@ -125,7 +210,7 @@ impl<'a> Place<'a> {
         for tile in pattern.tiles().as_slice() {
             let cell = found.get(usize::from(*tile)).copied().unwrap_or(0);
             let before = (free & mask_of(cell).saturating_sub(1)).count_ones();
-            let weight = self.weights[self.tile(board.side(), *tile)];
+            let weight = weights.nexts[tile_of(board.side(), *tile, is_transposed)];
             first = first.wrapping_add(weight.wrapping_mul(before));
             free &= !mask_of(cell);
         }
@@ -135,34 +220,16 @@ impl<'a> Place<'a> {
 
     /// Where the tiles are after one of them moves.
     #[inline]
-    pub(crate) fn after(
-        &self,
-        slots: &mut Slots,
-        tile: u8,
-        passage: &Passage,
-        numbers: &[u8; CELLS],
-    ) -> Stand {
-        let first = self.first_after(tile, passage, numbers);
+    pub(crate) fn after(&self, slots: &mut Slots, mover: &Mover, moved: &Moved<'_>) -> Stand {
+        let passage = if self.member.is_transposed {
+            &moved.way.transposed
+        } else {
+            &moved.way.plain
+        };
+        let first = mover.first_after(self.stand.first, passage, moved.numbers);
         let free = self.stand.free ^ passage.ends;
         let entry = self.entry(slots, first, free, passage.blank);
         Stand { first, free, entry }
-    }
-
-    /// The number of the first entry of the cells after a tile moves.
-    #[inline]
-    fn first_after(&self, tile: u8, passage: &Passage, numbers: &[u8; CELLS]) -> Number {
-        let tile = place_of(tile);
-        let mut growth = self.weights[tile];
-        let passed = passage.passed;
-        for cell in passed {
-            let number = numbers[place_of(cell)];
-            growth = growth.wrapping_add(self.passes[tile][place_of(number)]);
-        }
-        if passage.is_up {
-            self.stand.first.wrapping_add(growth)
-        } else {
-            self.stand.first.wrapping_sub(growth)
-        }
     }
 
     /// The entry of the board whose tiles have this first entry and leave these cells free, and whose blank is in this cell.
@@ -175,5 +242,16 @@ impl<'a> Place<'a> {
         };
         let number = first as usize + slot;
         self.entries.get(number).copied().unwrap_or(NOTHING)
+    }
+}
+
+/// The place of the tile of the board that a member sees as this one.
+fn tile_of(side: Side, tile: u8, is_transposed: bool) -> usize
+    ensures { result < 32 }
+{
+    if tile < side.cells() {
+        place_of(seen(side, tile, is_transposed))
+    } else {
+        0
     }
 }

@@ -4,10 +4,11 @@ ghost use Rattle.std.specs.Prelude.{◌≡◌, ◌<◌, ◌*◌, length, take};
 ghost use Rattle.puz_board.specs.Boards.{side_of};
 
 use crate::cells::{CELLS, place_of};
-use crate::children::{Child, Children};
+use crate::children::{Child, Children, Entries};
 use crate::leaves::Leaf;
-use crate::sums::{Entries, Sums};
-use crate::ways::{Way, ways_of};
+use crate::places::Moved;
+use crate::sums::{Moves, Sums};
+use crate::ways::{Way, Ways, all_from};
 use puz_board::{Board, MOVES, Side, step};
 use set_sum::Bundle;
 use std::alloc::{AllocError, Global};
@@ -27,8 +28,8 @@ pub(crate) struct Position<'a> {
     blank: u8,
     /// The parity of the number of moves of each solution: 0 or 1.
     parity: u16,
-    /// The moves from each cell, four for each.
-    ways: Vec<Option<Way>>,
+    /// The moves from each cell.
+    ways: Ways,
     /// What the sets say.
     pub(crate) sums: Sums<'a>,
 }
@@ -47,34 +48,29 @@ impl<'a> Position<'a> {
             cells: board.side().cells(),
             blank: board.blank(),
             parity: u16::from(board.blank_parity()),
-            ways: ways_of(alloc, board.side())?,
+            ways: Ways::new(alloc, board.side())?,
             sums: Sums::new(alloc, bundle, board)?,
         })
     }
 
-    /// The cell of the blank.
-    #[inline]
-    pub(crate) fn blank(&self) -> u8 {
-        self.blank
+    /// The list of all moves.
+    pub(crate) fn all_moves(&self) -> u8 {
+        all_from(self.blank)
     }
 
     /// Where the moves lead, in their order.
-    #[inline]
     pub(crate) fn steps(&self) -> [u8; 4] {
         let mut steps = [NOWHERE; 4];
-        for (to, way) in steps.iter_mut().zip(self.ways_from(self.blank)) {
-            if let Some(way) = way {
-                *to = way.to;
-            }
+        for (to, way) in steps.iter_mut().zip(self.ways.list(self.all_moves())) {
+            *to = way.to;
         }
         steps
     }
 
-    /// The moves from a cell.
+    /// A move of a list.
     #[inline]
-    fn ways_from(&self, cell: u8) -> &[Option<Way>] {
-        let first = 4 * usize::from(cell);
-        self.ways.get(first..first + 4).unwrap_or(&[])
+    pub(crate) fn way(&self, list: u8, at: usize) -> Option<&Way> {
+        self.ways.list(list).get(at)
     }
 
     /// What the first set says that says the most.
@@ -83,63 +79,84 @@ impl<'a> Position<'a> {
         self.sums.best_leaf(self.parity)
     }
 
-    /// Looks up the boards that the moves lead to, but for that of the cell which the blank came from.
+    /// Looks up in one set the boards that the moves of a list lead to. Answers how many they are.
     #[inline]
-    pub(crate) fn look_around(&mut self, came_from: u8, children: &mut Children) {
-        self.look(came_from, NOWHERE, children);
+    pub(crate) fn look_around(&mut self, list: u8, set: u8, children: &mut Children) -> usize {
+        let moves = Moves {
+            ways: self.ways.list(list),
+            numbers: &self.numbers,
+            parity: self.parity ^ 1,
+        };
+        self.sums.look_around(set, &moves, children);
+        moves.ways.len()
     }
 
-    /// Looks up the boards that the moves lead to, but for that of a cell to leave out, and that of one cell alone if there is
-    /// such a cell.
+    /// Looks up in the other sets the board that a move of a list leads to, as long as none cuts it off, where so many moves
+    /// remain.
     #[inline]
-    fn look(&mut self, left_out: u8, alone: u8, children: &mut Children) {
-        let first = 4 * usize::from(self.blank);
-        let ways = self.ways.get(first..first + 4).unwrap_or(&[]);
-        for (way, child) in ways.iter().zip(children.iter_mut()) {
-            child.is_there = false;
-            if let Some(way) = way {
-                if way.to != left_out && (alone == NOWHERE || way.to == alone) {
-                    child.is_there = true;
-                    child.blank = way.to;
-                    child.tile = self.numbers[place_of(way.to)];
-                    self.sums.look(way, &self.numbers, self.parity ^ 1, child);
-                }
-            }
+    pub(crate) fn look_further(
+        &mut self,
+        list: u8,
+        at: usize,
+        remaining: u16,
+        children: &mut Children,
+    )
+        requires { at < 4 }
+    {
+        if let Some(way) = self.ways.list(list).get(at) {
+            let moved = Moved {
+                way,
+                numbers: &self.numbers,
+                parity: self.parity ^ 1,
+            };
+            self.sums.look_further(&moved, at, remaining, children);
         }
     }
 
-    /// Goes to a board that was looked up, and leaves in its place the one where it was.
+    /// Goes to one of some boards that were looked up in all sets, and leaves in its place the one where it was.
     #[inline]
-    pub(crate) fn exchange(&mut self, child: &mut Child) {
+    pub(crate) fn exchange(&mut self, at: usize, children: &mut Children)
+        requires { at < 4 }
+    {
+        self.move_to(&mut children.boards[at]);
+        self.sums.exchange(at, children);
+    }
+
+    /// Moves a tile to where the blank is, and leaves in its place the move back.
+    #[inline]
+    fn move_to(&mut self, child: &mut Child) {
         mem::swap(&mut self.blank, &mut child.blank);
         self.numbers[place_of(child.blank)] = child.tile;
         self.numbers[place_of(self.blank)] = 0;
         self.parity ^= 1;
-        self.sums.exchange(child);
     }
 
     /// Moves the blank to a cell beside it. Answers what there was.
-    pub(crate) fn slide(&mut self, to: u8) -> Entries {
-        let mut children = [Child::none(); 4];
-        self.look(NOWHERE, to, &mut children);
-        let mut child = Child::none();
-        for beside in &children {
-            if beside.is_there {
-                child = *beside;
-            }
-        }
-        if child.is_there {
-            self.exchange(&mut child);
-        }
-        child
+    pub(crate) fn slide(&mut self, to: u8) -> Option<Entries> {
+        let list = self.ways.list(self.all_moves());
+        let way = list.iter().find(|way| way.to == to).copied()?;
+        let moved = Moved {
+            way: &way,
+            numbers: &self.numbers,
+            parity: self.parity ^ 1,
+        };
+        let mut entries = self.sums.look(&moved);
+        self.swap(&mut entries);
+        Some(entries)
     }
 
     /// Moves the blank back to the cell where it was.
-    pub(crate) fn slide_back(&mut self, _: u8, before: &Entries) {
-        let mut before = *before;
-        if before.is_there {
-            self.exchange(&mut before);
+    pub(crate) fn slide_back(&mut self, before: &Option<Entries>) {
+        if let Some(before) = before {
+            let mut before = *before;
+            self.swap(&mut before);
         }
+    }
+
+    /// Goes to a board that was looked up, and leaves in its place the one where it was.
+    fn swap(&mut self, entries: &mut Entries) {
+        self.move_to(&mut entries.board);
+        self.sums.exchange_entries(entries);
     }
 
     /// Whether each number is in the cell of its own number.

@@ -1,10 +1,10 @@
 //! Small trees that are searched for, with citations of lemmas that there are.
 
 use crate::cells::Cell;
+use crate::children::Entries;
 use crate::keys::Tiles;
 use crate::lemmas::Lemmas;
 use crate::positions::Position;
-use crate::sums::Entries;
 use crate::trees::{BRANCH, Branch, CITATION};
 use puz_board::Board;
 use std::alloc::{AllocError, Global};
@@ -17,7 +17,7 @@ struct Passed {
     /// The cell that it came to.
     to: Cell,
     /// What the sets said before.
-    before: Entries,
+    before: Option<Entries>,
 }
 
 /// A board that follows a walk, and trees that refute boards beside it.
@@ -150,14 +150,14 @@ impl<'a> Refuter<'a> {
     }
 
     /// Moves the blank. Answers what the sets said before.
-    fn slide(&mut self, to: Cell) -> Entries {
+    fn slide(&mut self, to: Cell) -> Option<Entries> {
         self.tiles.slide(to);
         self.position.slide(to.number())
     }
 
     /// Takes a move of the blank from this cell back.
-    fn slide_back(&mut self, from: Cell, before: &Entries) {
+    fn slide_back(&mut self, from: Cell, before: &Option<Entries>) {
         self.tiles.slide(from);
-        self.position.slide_back(from.number(), before);
+        self.position.slide_back(before);
     }
 }

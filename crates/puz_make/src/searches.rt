@@ -7,13 +7,13 @@ ghost use Rattle.puz_make.specs.Faults.{IsSearchFault};
 ghost use Rattle.puz_make.specs.Solvable.{HasTheBlanksParity};
 ghost use Rattle.tab_make.specs.declared.faults.MakeFault.TheVariants.{K2};
 
-use crate::children::{Child, Children};
+use crate::children::Children;
 use crate::leaves::Leaf;
 use crate::limits::Limits;
 use crate::logs::log_of;
-use crate::positions::{NOWHERE, Position};
+use crate::positions::Position;
 use crate::solvable::is_solvable;
-use crate::trees::{BRANCH, Refutation};
+use crate::trees::Refutation;
 use crate::written::WrittenTree;
 use puz_board::{Board, MOVES};
 use set_sum::Bundle;
@@ -79,9 +79,9 @@ pub fn solve_within(
     }
     let root = position.best_leaf();
     let mut bound = root.raised;
-    let mut levels = vec![in alloc; [Child::none(); 4]; LEVELS]?;
+    let mut levels = vec![in alloc; Children::none(); LEVELS]?;
     let mut search = Search::new(alloc, position, budget, limits);
-    search.failed.put(root.byte(bound));
+    search.failed.put_leaf(&root, bound);
     for threshold in 0..=GREATEST_BOUND {
         if threshold < bound {
             continue;
@@ -184,7 +184,8 @@ impl<'a> Search<'a> {
         if leaf.raised == 0 && self.position.is_goal() {
             return Ok(true);
         }
-        self.expand(levels, NOWHERE, remaining)
+        let list = self.position.all_moves();
+        self.expand(levels, list, leaf.set, remaining)
     }
 
     /// Writes a branch, and counts it.
@@ -196,7 +197,7 @@ impl<'a> Search<'a> {
             return Err(MakeFault::K1);
         }
         self.budget -= 1;
-        self.tree.put(BRANCH);
+        self.tree.put_branch();
         Ok(())
     }
 
@@ -208,16 +209,40 @@ impl<'a> Search<'a> {
         if leaf.raised < remaining {
             return false;
         }
-        self.tree.put(leaf.byte(remaining));
+        self.tree.put_leaf(leaf, remaining);
         true
     }
 
-    /// Tries the moves of the board, to which the blank came from a cell. Answers whether it has a solution of fewer moves than
-    /// remain. There is a level for each of these moves.
+    /// Whether a set cuts off the board that a move of a list leads to, from which so many moves are to be refuted: the set in
+    /// which it was looked up, or another one. The leaf is then written.
+    #[inline]
+    fn is_cut_by_any(
+        &mut self,
+        list: u8,
+        at: usize,
+        remaining: u16,
+        children: &mut Children,
+    ) -> bool
+        requires { at < 4 }
+        ensures { OnFalse result (0 < remaining) }
+    {
+        if self.is_cut(&children.boards[at].leaf, remaining) {
+            return true;
+        }
+        if self.position.sums.is_single() {
+            return false;
+        }
+        self.position.look_further(list, at, remaining, children);
+        self.is_cut(&children.boards[at].leaf, remaining)
+    }
+
+    /// Tries the moves of a list, whose boards are looked up in one set first. Answers whether the board has a solution of
+    /// fewer moves than remain. There is a level for each of these moves.
     fn expand(
         &mut self,
         levels: &mut [Children],
-        came_from: u8,
+        list: u8,
+        first: u8,
         remaining: u16,
     ) -> Result<bool, MakeFault>
         requires { 0 < remaining }
@@ -227,28 +252,37 @@ impl<'a> Search<'a> {
         let Some((children, below)) = levels.split_first_mut() else {
             return Err(MakeFault::Memory);
         };
-        self.position.look_around(came_from, children);
-        let blank = self.position.blank();
-        for (mv, child) in MOVES.iter().zip(children.iter_mut()) {
-            if !child.is_there || self.is_cut(&child.leaf, remaining - 1) {
+        let count = self.position.look_around(list, first, children);
+        for at in 0..4 {
+            if at >= count {
+                break;
+            }
+            if self.is_cut_by_any(list, at, remaining - 1, children) {
                 continue;
             }
-            self.position.exchange(child);
-            let is_goal = child.leaf.raised == 0 && self.position.is_goal();
-            let is_solved = is_goal || self.expand(below, blank, remaining - 1)?;
-            self.position.exchange(child);
+            let Some(way) = self.position.way(list, at) else {
+                break;
+            };
+            let (number, next) = (way.number, way.next());
+            let leaf = children.boards[at].leaf;
+            self.position.exchange(at, children);
+            let is_goal = leaf.raised == 0 && self.position.is_goal();
+            let is_solved = is_goal || self.expand(below, next, leaf.set, remaining - 1)?;
+            self.position.exchange(at, children);
             if is_solved {
-                self.add_move(mv.letter())?;
+                self.add_move(number)?;
                 return Ok(true);
             }
         }
         Ok(false)
     }
 
-    /// Adds a move before those of the solution that there are.
+    /// Adds the move of a number before those of the solution that there are.
     #[cold]
-    fn add_move(&mut self, letter: u8) -> Result<(), AllocError> {
-        self.moves.push(letter)?;
+    fn add_move(&mut self, number: u8) -> Result<(), AllocError> {
+        if let Some(mv) = MOVES.get(usize::from(number)) {
+            self.moves.push(mv.letter())?;
+        }
         Ok(())
     }
 }

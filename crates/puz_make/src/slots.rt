@@ -4,8 +4,9 @@ ghost use Rattle.std.specs.Prelude.{◌<◌};
 
 pub(crate) use crate::cells::CELLS;
 use crate::cells::mask_of;
+use pat_place::region_of;
 use puz_board::Side;
-use puz_board::masks::{first_column, last_column};
+use puz_board::masks::first_of;
 use std::alloc::{AllocError, Global};
 
 /// How many sets of free cells are kept, as a power of two.
@@ -13,9 +14,6 @@ const KEPT_LOG: u32 = 15;
 
 /// The most slots of a placement.
 const MOST_SLOTS: u8 = 8;
-
-/// How many steps lead from one cell of a board to each cell of its region at most.
-const MOST_STEPS: u8 = 25;
 
 /// A set of free cells, and the slots of their regions: for each binary digit the cells whose slots have it.
 #[derive(Clone, Copy)]
@@ -110,29 +108,12 @@ fn around_all(side: Side, free: u32) -> Around {
     };
     let mut rest = free;
     for slot in 0..MOST_SLOTS {
-        if rest == 0 {
+        if rest == 0 || rest >= 1 << side.cells() {
             break;
         }
-        let region = first_region(side, rest);
+        let region = region_of(side, rest, first_of(rest));
         around.mark(region, slot);
         rest &= !region;
     }
     around
-}
-
-/// The region of the least of some whole regions' cells.
-fn first_region(side: Side, free: u32) -> u32 {
-    let n = side.get();
-    let right = free & !first_column(side);
-    let left = free & !last_column(side);
-    let mut region = free & !(free & free.saturating_sub(1));
-    for _ in 0..MOST_STEPS {
-        let vertical = (region << n | region >> n) & free;
-        let more = region | vertical | region << 1 & right | region >> 1 & left;
-        if more == region {
-            break;
-        }
-        region = more;
-    }
-    region
 }

@@ -4,10 +4,9 @@
 ghost use Rattle.std.specs.Prelude.{◌<◌, length};
 
 use crate::cells::{CELLS, place_of};
-pub(crate) use crate::children::Child as Entries;
-use crate::children::{Child, NO_PLACE};
+use crate::children::{Child, Children, Entries, Looked, MOST_SETS, NO_PLACE};
 use crate::leaves::{Leaf, Sum};
-use crate::places::Place;
+use crate::places::{Moved, Mover, Place, Weights};
 use crate::slots::Slots;
 use crate::ways::{Way, seen};
 use pat_place::Pattern;
@@ -20,12 +19,11 @@ use tab_file::NO_WAY_HOME;
 /// A set of members.
 #[derive(Drop)]
 struct Set {
+    number: u8,
     /// The sum of the entries of its members.
     sum: Sum,
-    /// For each tile the place of the member that has it, or no place.
-    owners: [u8; CELLS],
-    /// The same, without places that an earlier set has too.
-    kept: [u8; CELLS],
+    /// How each tile moves in the place of the member that has it.
+    movers: [Mover; CELLS],
 }
 
 /// The entries of a board for all members that sets name. Each member has one place, however many sets name it.
@@ -65,39 +63,28 @@ impl<'a> Sums<'a> {
         requires { number < length bundle.now.sets }
     {
         let mut set = Set {
+            number,
             sum: Sum::none(),
-            owners: [NO_PLACE; CELLS],
-            kept: [NO_PLACE; CELLS],
+            movers: [Mover::none(); CELLS],
         };
         for member in bundle.members(number) {
             let place = self.places.iter().position(|place| place.member == *member);
             let is_new = place.is_none();
             let place = place.unwrap_or(self.places.len());
+            let table = bundle.part(member.table);
+            let weights = Weights::new(board.side(), table, *member);
             if is_new {
-                self.add_place(bundle, *member, board)?;
+                let place = Place::new(table, *member, board, &weights, &mut self.slots);
+                self.places.push(place)?;
             }
             if let Some(place) = self.places.get(place) {
                 set.sum = set.sum.with(place.stand.entry, 0);
             }
-            let tiles = tiles_of(board.side(), &bundle.part(member.table).pattern(), *member);
-            set.add_owner(&tiles, u8::try_from(place).unwrap_or(NO_PLACE), is_new);
+            let tiles = tiles_of(board.side(), &table.pattern(), *member);
+            let place = u8::try_from(place).unwrap_or(NO_PLACE);
+            set.add_movers(&tiles, &weights, place, is_new);
         }
         self.sets.push(set)?;
-        Ok(())
-    }
-
-    /// Adds a place for a member.
-    fn add_place(
-        &mut self,
-        bundle: &'a Bundle<'_>,
-        member: Member,
-        board: &Board,
-    ) -> Result<(), AllocError>
-        requires { member.table < length bundle.now.tables }
-    {
-        let table = bundle.part(member.table);
-        let place = Place::new(table, member, board, &mut self.slots);
-        self.places.push(place)?;
         Ok(())
     }
 
@@ -106,45 +93,84 @@ impl<'a> Sums<'a> {
         u8::try_from(self.sets.len()).unwrap_or(u8::MAX)
     }
 
-    /// Looks up the board to which a tile moves.
+    /// Whether there is no other set than one.
     #[inline]
-    pub(crate) fn look(
+    pub(crate) fn is_single(&self) -> bool {
+        self.sets.len() <= 1
+    }
+
+    /// Looks up in one set the boards that moves lead to.
+    #[inline]
+    pub(crate) fn look_around(&mut self, set: u8, moves: &Moves<'_>, children: &mut Children) {
+        let looks = &mut children.looked[usize::from(set) % MOST_SETS];
+        let Some(set) = self.sets.get(usize::from(set)) else {
+            return;
+        };
+        for at in 0..4 {
+            let Some(way) = moves.ways.get(at) else {
+                break;
+            };
+            let moved = moves.along(way);
+            let child = &mut children.boards[at];
+            child.tile = moved.tile();
+            child.blank = way.to;
+            child.leaf = set.look(&self.places, &mut self.slots, &moved, &mut looks[at]);
+        }
+    }
+
+    /// Looks up in all sets but one a board that a move leads to, as long as none cuts it off, where so many moves remain.
+    #[inline]
+    pub(crate) fn look_further(
         &mut self,
-        way: &Way,
-        numbers: &[u8; CELLS],
-        parity: u16,
-        child: &mut Child,
-    ) {
-        let mut best = Leaf::none();
-        let tile = child.tile;
-        for ((number, set), looked) in (0..u8::MAX).zip(&self.sets).zip(&mut child.looked) {
-            looked.sum = set.sum;
-            looked.place = set.kept[place_of(tile)];
-            if let Some(place) = self.places.get(usize::from(set.owners[place_of(tile)])) {
-                let passage = if place.member.is_transposed {
-                    &way.transposed
-                } else {
-                    &way.plain
-                };
-                looked.stand = place.after(&mut self.slots, tile, passage, numbers);
-                looked.sum = set.sum.with(looked.stand.entry, place.stand.entry);
+        moved: &Moved<'_>,
+        at: usize,
+        remaining: u16,
+        children: &mut Children,
+    )
+        requires { at < 4 }
+    {
+        let child = &mut children.boards[at];
+        let first = child.leaf.set;
+        for (set, looks) in self.sets.iter().zip(&mut children.looked) {
+            if set.number == first {
+                continue;
             }
-            let leaf = Leaf::new(number, looked.sum, parity);
-            if leaf.raised > best.raised {
-                best = leaf;
+            let leaf = set.look(&self.places, &mut self.slots, moved, &mut looks[at]);
+            if leaf.raised > child.leaf.raised {
+                child.leaf = leaf;
+            }
+            if leaf.raised >= remaining {
+                break;
             }
         }
-        child.leaf = best;
+    }
+
+    /// Looks up in all sets the board that a move leads to.
+    pub(crate) fn look(&mut self, moved: &Moved<'_>) -> Entries {
+        let mut board = Child::none();
+        board.tile = moved.tile();
+        board.blank = moved.way.to;
+        let mut looked = [Looked::none(); MOST_SETS];
+        for (set, looked) in self.sets.iter().zip(&mut looked) {
+            let _ = set.look(&self.places, &mut self.slots, moved, looked);
+        }
+        Entries { board, looked }
+    }
+
+    /// Goes to one of some boards that were looked up in all sets, and leaves in its place what there was.
+    #[inline]
+    pub(crate) fn exchange(&mut self, at: usize, children: &mut Children)
+        requires { at < 4 }
+    {
+        for (set, looks) in self.sets.iter_mut().zip(&mut children.looked) {
+            set.exchange(&mut self.places, &mut looks[at]);
+        }
     }
 
     /// Goes to a board that was looked up, and leaves in its place what there was.
-    #[inline]
-    pub(crate) fn exchange(&mut self, child: &mut Child) {
-        for (set, looked) in self.sets.iter_mut().zip(&mut child.looked) {
-            mem::swap(&mut set.sum, &mut looked.sum);
-            if let Some(place) = self.places.get_mut(usize::from(looked.place)) {
-                mem::swap(&mut place.stand, &mut looked.stand);
-            }
+    pub(crate) fn exchange_entries(&mut self, entries: &mut Entries) {
+        for (set, looked) in self.sets.iter_mut().zip(&mut entries.looked) {
+            set.exchange(&mut self.places, looked);
         }
     }
 
@@ -159,8 +185,8 @@ impl<'a> Sums<'a> {
     #[inline]
     pub(crate) fn best_leaf(&self, parity: u16) -> Leaf {
         let mut best = Leaf::none();
-        for (number, set) in (0..u8::MAX).zip(&self.sets) {
-            let leaf = Leaf::new(number, set.sum, parity);
+        for set in &self.sets {
+            let leaf = Leaf::new(set.number, set.sum, parity);
             if leaf.raised > best.raised {
                 best = leaf;
             }
@@ -170,13 +196,65 @@ impl<'a> Sums<'a> {
 }
 
 impl Set {
-    /// Notes that a place has some tiles, and whether no earlier set has it.
-    fn add_owner(&mut self, tiles: &[bool; CELLS], place: u8, is_new: bool) {
+    /// Notes how some tiles move in a place, and whether no earlier set has it.
+    fn add_movers(&mut self, tiles: &[bool; CELLS], weights: &Weights, place: u8, is_new: bool) {
+        let kept = if is_new { place } else { NO_PLACE };
         for tile in 0..CELLS {
             if tiles[tile] {
-                self.owners[tile] = place;
-                self.kept[tile] = if is_new { place } else { NO_PLACE };
+                self.movers[tile] = weights.mover(tile, place, kept);
             }
+        }
+    }
+
+    /// Looks up the board that a move leads to. Answers what the set says of it.
+    #[inline]
+    fn look(
+        &self,
+        places: &[Place<'_>],
+        slots: &mut Slots,
+        moved: &Moved<'_>,
+        looked: &mut Looked,
+    ) -> Leaf {
+        let mover = &self.movers[place_of(moved.tile())];
+        let mut sum = self.sum;
+        looked.place = mover.kept;
+        if let Some(place) = places.get(usize::from(mover.place)) {
+            let stand = place.after(slots, mover, moved);
+            sum = sum.with(stand.entry, place.stand.entry);
+            looked.stand = stand;
+        }
+        looked.sum = sum;
+        Leaf::new(self.number, sum, moved.parity)
+    }
+
+    /// Goes to a board that was looked up, and leaves in its place what there was.
+    #[inline]
+    fn exchange(&mut self, places: &mut [Place<'_>], looked: &mut Looked) {
+        mem::swap(&mut self.sum, &mut looked.sum);
+        if let Some(place) = places.get_mut(usize::from(looked.place)) {
+            mem::swap(&mut place.stand, &mut looked.stand);
+        }
+    }
+}
+
+/// The moves from a board.
+#[derive(Clone, Copy)]
+pub(crate) struct Moves<'b> {
+    pub(crate) ways: &'b [Way],
+    /// The number in each cell.
+    pub(crate) numbers: &'b [u8; CELLS],
+    /// The parity of the number of moves of each solution after one move: 0 or 1.
+    pub(crate) parity: u16,
+}
+
+impl<'b> Moves<'b> {
+    /// One of the moves.
+    #[inline]
+    fn along(&self, way: &'b Way) -> Moved<'b> {
+        Moved {
+            way,
+            numbers: self.numbers,
+            parity: self.parity,
         }
     }
 }

@@ -3,7 +3,7 @@
 ghost use Rattle.std.specs.Prelude.{◌*◌, ◌<◌};
 
 use crate::cells::{CELLS, mask_of};
-use puz_board::{MOVES, Side, step, transposed_cell};
+use puz_board::{MOVES, Move, Side, step, transposed_cell};
 use std::alloc::{AllocError, Global};
 
 /// How many cells there are at most between two that are above each other.
@@ -29,35 +29,114 @@ pub(crate) struct Passage {
 /// A move of the blank.
 #[derive(Clone, Copy)]
 pub(crate) struct Way {
-    /// The cell to which it leads.
-    pub(crate) to: u8,
     /// What a plain member sees.
     pub(crate) plain: Passage,
     /// What a transposed member sees.
     pub(crate) transposed: Passage,
+    /// The cell to which it leads.
+    pub(crate) to: u8,
+    /// Its number among the moves.
+    pub(crate) number: u8,
 }
 
-/// The moves from each cell, in their order, where they stay on the board.
-pub(crate) fn ways_of(alloc: Global, side: Side) -> Result<Vec<Option<Way>>, AllocError> {
-    let mut ways = Vec::new(alloc);
-    for cell in 0..side.cells() {
-        for mv in &MOVES {
-            let to = step(side, cell, *mv);
-            ways.push(to.map(|to| way_of(side, cell, to)))?;
+impl Way {
+    /// The list of the moves that are tried after this one: all but its reverse.
+    #[inline]
+    pub(crate) fn next(&self) -> u8 {
+        list_of(self.to, self.number)
+    }
+}
+
+/// The moves from one cell, but for the reverse of one move.
+#[derive(Clone, Copy)]
+struct List {
+    start: usize,
+    end: usize,
+}
+
+/// The moves from each cell, where they stay on the board, in lists that have them in their order.
+#[derive(Drop)]
+pub(crate) struct Ways {
+    ways: Vec<Way>,
+    /// For each cell a list for each move that leads there, and one of all moves from there.
+    lists: Vec<List>,
+}
+
+impl Ways {
+    /// The moves on the boards of a side.
+    pub(crate) fn new(alloc: Global, side: Side) -> Result<Ways, AllocError> {
+        let mut ways = Ways {
+            ways: Vec::new(alloc),
+            lists: Vec::new(alloc),
+        };
+        for cell in 0..side.cells() {
+            for arriving in &MOVES {
+                ways.add_list(side, cell, Some(*arriving))?;
+            }
+            ways.add_list(side, cell, None)?;
+        }
+        Ok(ways)
+    }
+
+    /// Adds the list of the moves from a cell, but for the reverse of the one that led there.
+    fn add_list(&mut self, side: Side, cell: u8, arriving: Option<Move>) -> Result<(), AllocError>
+        requires { cell < side * side }
+    {
+        let start = self.ways.len();
+        for (number, mv) in (0..u8::MAX).zip(&MOVES) {
+            if let Some(to) = step(side, cell, *mv) {
+                if !leads(side, to, arriving, cell) {
+                    self.ways.push(way_of(side, cell, to, number))?;
+                }
+            }
+        }
+        let end = self.ways.len();
+        self.lists.push(List { start, end })?;
+        Ok(())
+    }
+
+    /// The moves of a list.
+    #[inline]
+    pub(crate) fn list(&self, list: u8) -> &[Way] {
+        match self.lists.get(usize::from(list)) {
+            Some(list) => self.ways.get(list.start..list.end).unwrap_or(&[]),
+            None => &[],
         }
     }
-    Ok(ways)
 }
 
-/// The move of the blank from a cell to one beside it.
-fn way_of(side: Side, cell: u8, to: u8) -> Way
+/// The list of all moves from a cell.
+pub(crate) fn all_from(cell: u8) -> u8 {
+    list_of(cell, MOVES.len() as u8)
+}
+
+/// The list of the moves from a cell but for the reverse of the move of this number, or of all if no move has it.
+#[inline]
+fn list_of(cell: u8, arriving: u8) -> u8 {
+    cell.wrapping_mul(MOVES.len() as u8 + 1)
+        .wrapping_add(arriving)
+}
+
+/// Whether a move, if there is one, leads from one cell to another.
+fn leads(side: Side, from: u8, mv: Option<Move>, to: u8) -> bool
+    requires { from < side * side }
+{
+    match mv {
+        Some(mv) => step(side, from, mv) == Some(to),
+        None => false,
+    }
+}
+
+/// The move of the blank from a cell to one beside it, with its number among the moves.
+fn way_of(side: Side, cell: u8, to: u8, number: u8) -> Way
     requires cell { cell < side * side }
     requires to { to < side * side }
 {
     Way {
-        to,
         plain: passage_of(side, to, cell, false),
         transposed: passage_of(side, to, cell, true),
+        to,
+        number,
     }
 }
 

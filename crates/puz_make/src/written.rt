@@ -3,6 +3,7 @@
 //! A node takes few binary digits: a branch one, and a leaf as many as tell its set and its kind. So the tree of the last threshold
 //! and that of the next take less memory together than one of them has bytes in a log.
 
+use crate::leaves::Leaf;
 use crate::trees::BRANCH;
 use std::alloc::{AllocError, Global};
 
@@ -57,16 +58,29 @@ impl WrittenTree {
         }
     }
 
-    /// Writes a node.
+    /// Writes a branch.
     #[inline]
-    pub(crate) fn put(&mut self, node: u8) {
+    pub(crate) fn put_branch(&mut self) {
+        self.put(0, 1);
+    }
+
+    /// Writes a leaf, which cuts off a board from which so many moves are to be refuted.
+    #[inline]
+    pub(crate) fn put_leaf(&mut self, leaf: &Leaf, remaining: u16) {
+        let kind = u64::from(leaf.is_by_parity(remaining)) << 1 | 1;
+        let code = u64::from(leaf.set) << DIGITS_OF_KIND | kind;
+        self.put(code, self.leaf_digits);
+    }
+
+    /// Writes the digits of a node, the first one last.
+    #[inline]
+    fn put(&mut self, code: u64, digits: u32) {
         if self.room == 0 {
             self.drop_nodes();
             return;
         }
         self.room -= 1;
-        self.word |= code_of(node) << (self.digits % DIGITS_OF_WORD);
-        let digits = if node == BRANCH { 1 } else { self.leaf_digits };
+        self.word |= code << (self.digits % DIGITS_OF_WORD);
         self.digits = self.digits.wrapping_add(digits);
         if self.digits > DIGITS_OF_WORD - MOST_DIGITS {
             self.end_word();
@@ -139,17 +153,6 @@ impl WrittenTree {
         add_nodes(&mut bytes, word, leaf_digits, nodes)?;
         Ok(bytes)
     }
-}
-
-/// The digits of a node, the first one last.
-#[inline]
-fn code_of(node: u8) -> u64 {
-    if node == BRANCH {
-        return 0;
-    }
-    let is_by_parity = node & PARITY != 0;
-    let set = (node & !PARITY).saturating_sub(1);
-    u64::from(set) << DIGITS_OF_KIND | u64::from(is_by_parity) << 1 | 1
 }
 
 /// Adds the nodes of a word, up to so many bytes.
