@@ -8,7 +8,7 @@ use crate::children::{Child, Children, Entries};
 use crate::leaves::Leaf;
 use crate::places::Moved;
 use crate::sums::{Moves, Sums};
-use crate::ways::{Way, Ways, all_from};
+use crate::ways::{ListNumber, Way, Ways};
 use puz_board::{Board, MOVES, Side, step};
 use set_sum::Bundle;
 use std::alloc::{AllocError, Global};
@@ -54,8 +54,8 @@ impl<'a> Position<'a> {
     }
 
     /// The list of all moves.
-    pub(crate) fn all_moves(&self) -> u8 {
-        all_from(self.blank)
+    pub(crate) fn all_moves(&self) -> ListNumber {
+        ListNumber::all_from(self.blank)
     }
 
     /// Where the moves lead, in their order.
@@ -69,7 +69,7 @@ impl<'a> Position<'a> {
 
     /// A move of a list.
     #[inline]
-    pub(crate) fn way(&self, list: u8, at: usize) -> Option<&Way> {
+    pub(crate) fn way(&self, list: ListNumber, at: usize) -> Option<&Way> {
         self.ways.list(list).get(at)
     }
 
@@ -81,7 +81,12 @@ impl<'a> Position<'a> {
 
     /// Looks up in one set the boards that the moves of a list lead to. Answers how many they are.
     #[inline]
-    pub(crate) fn look_around(&mut self, list: u8, set: u8, children: &mut Children) -> usize {
+    pub(crate) fn look_around(
+        &mut self,
+        list: ListNumber,
+        set: u8,
+        children: &mut Children,
+    ) -> usize {
         let moves = Moves {
             ways: self.ways.list(list),
             numbers: &self.numbers,
@@ -96,7 +101,7 @@ impl<'a> Position<'a> {
     #[inline]
     pub(crate) fn look_further(
         &mut self,
-        list: u8,
+        list: ListNumber,
         at: usize,
         remaining: u16,
         children: &mut Children,

@@ -14,6 +14,7 @@ use crate::logs::log_of;
 use crate::positions::Position;
 use crate::solvable::is_solvable;
 use crate::trees::Refutation;
+use crate::ways::ListNumber;
 use crate::written::WrittenTree;
 use puz_board::{Board, MOVES};
 use set_sum::Bundle;
@@ -218,7 +219,7 @@ impl<'a> Search<'a> {
     #[inline]
     fn is_cut_by_any(
         &mut self,
-        list: u8,
+        list: ListNumber,
         at: usize,
         remaining: u16,
         children: &mut Children,
@@ -241,7 +242,7 @@ impl<'a> Search<'a> {
     fn expand(
         &mut self,
         levels: &mut [Children],
-        list: u8,
+        list: ListNumber,
         first: u8,
         remaining: u16,
     ) -> Result<bool, MakeFault>

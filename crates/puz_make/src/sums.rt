@@ -102,8 +102,8 @@ impl<'a> Sums<'a> {
     /// Looks up in one set the boards that moves lead to.
     #[inline]
     pub(crate) fn look_around(&mut self, set: u8, moves: &Moves<'_>, children: &mut Children) {
-        let looks = &mut children.looked[usize::from(set) % MOST_SETS];
-        let Some(set) = self.sets.get(usize::from(set)) else {
+        let set = usize::from(set);
+        let (Some(set), Some(looks)) = (self.sets.get(set), children.looked.get_mut(set)) else {
             return;
         };
         for at in 0..4 {

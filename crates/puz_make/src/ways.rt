@@ -42,8 +42,8 @@ pub(crate) struct Way {
 impl Way {
     /// The list of the moves that are tried after this one: all but its reverse.
     #[inline]
-    pub(crate) fn next(&self) -> u8 {
-        list_of(self.to, self.number)
+    pub(crate) fn next(&self) -> ListNumber {
+        ListNumber::of(self.to, self.number)
     }
 }
 
@@ -97,24 +97,33 @@ impl Ways {
 
     /// The moves of a list.
     #[inline]
-    pub(crate) fn list(&self, list: u8) -> &[Way] {
-        match self.lists.get(usize::from(list)) {
+    pub(crate) fn list(&self, list: ListNumber) -> &[Way] {
+        match self.lists.get(usize::from(list.number)) {
             Some(list) => self.ways.get(list.start..list.end).unwrap_or(&[]),
             None => &[],
         }
     }
 }
 
-/// The list of all moves from a cell.
-pub(crate) fn all_from(cell: u8) -> u8 {
-    list_of(cell, MOVES.len() as u8)
+/// The number of a list of moves.
+#[derive(Clone, Copy)]
+pub(crate) struct ListNumber {
+    number: u16,
 }
 
-/// The list of the moves from a cell but for the reverse of the move of this number, or of all if no move has it.
-#[inline]
-fn list_of(cell: u8, arriving: u8) -> u8 {
-    cell.wrapping_mul(MOVES.len() as u8 + 1)
-        .wrapping_add(arriving)
+impl ListNumber {
+    /// That of the list of all moves from a cell.
+    pub(crate) fn all_from(cell: u8) -> ListNumber {
+        ListNumber::of(cell, MOVES.len() as u8)
+    }
+
+    /// That of the moves from a cell but for the reverse of the move of this number, or of all if no move has it.
+    #[inline]
+    fn of(cell: u8, arriving: u8) -> ListNumber {
+        ListNumber {
+            number: u16::from(cell) * (MOVES.len() as u16 + 1) + u16::from(arriving),
+        }
+    }
 }
 
 /// Whether a move, if there is one, leads from one cell to another.
