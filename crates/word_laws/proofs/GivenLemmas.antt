@@ -1,16 +1,19 @@
 -- Numbers that words give: by a flag before the names of a command or behind them, and which of them are mistakes.
-use Rattle.std.proofs.Common.{◌≡◌, ◌∙◌, refl, ℕ, Bool, false, true, List, [], ◌∷◌, ◌++◌}
+use Rattle.std.proofs.Common.{◌≡◌, ◌∙◌, refl, ap, ℕ, Bool, false, true, List, [], ◌∷◌, ◌++◌}
 use Rattle.std.specs.Bool.{⊤}
 use Rattle.std.specs.Prelude.{if◌then◌else◌}
 use Rattle.clap.specs.Kinds.{Kinds, or_else}
 use Rattle.clap.specs.Walk.{Text}
 use Rattle.clap.specs.declared.error.kind.ErrorKind.TheVariants as kind
+use Rattle.pdb_request.specs.Asked.{Asked}
 use Rattle.pdb_words.specs.CommandLine.{faults_of}
 use Rattle.pdb_words.specs.Commands.{IsPlain}
 use Rattle.pdb_words.specs.Faults.{IsMistaken}
 use Rattle.pdb_words.specs.Numbers.{number_of}
 use Rattle.pdb_words.proofs.KindLemmas.{mistaken}
 use Rattle.pdb_words.proofs.TextLemmas.{HasNoDash, has_no_dash}
+use Rattle.word_laws.proofs.WalkLemmas.{Comes}
+use Rattle.word_laws.specs.Asking.{AsksFor}
 
 -- where a flag stands, and the number behind it
 pub data Given : Type 0 where
@@ -35,7 +38,7 @@ IsGiven writes wanted none = wanted ≡ true
 IsGiven writes wanted (first number) = IsPlain number × (writes number ≡ wanted)
 IsGiven writes wanted (last number) = IsPlain number × (writes number ≡ wanted)
 
-pub is_read : (writes : Text → Bool) (wanted : Bool) (given : Given) → IsGiven writes wanted given → HasDashless given
+is_read : (writes : Text → Bool) (wanted : Bool) (given : Given) → IsGiven writes wanted given → HasDashless given
 is_read writes wanted none is = tt
 is_read writes wanted (first number) is = has_no_dash number is.0
 is_read writes wanted (last number) is = has_no_dash number is.0
@@ -45,12 +48,6 @@ abbrev pub count_given : (Text → ℕ) → ℕ → Given → ℕ
 count_given reads usual none = usual
 count_given reads usual (first number) = reads number
 count_given reads usual (last number) = reads number
-
-pub count_is : (writes : Text → Bool) (reads : Text → ℕ) → ((number : Text) → IsPlain number → writes number ≡ true → reads number ≡ number_of number)
-    → (usual : ℕ) (given : Given) → IsGiven writes true given → count_given reads usual given ≡ count_given number_of usual given
-count_is writes reads same usual none is = refl
-count_is writes reads same usual (first number) is = same number is.0 is.1
-count_is writes reads same usual (last number) is = same number is.0 is.1
 
 -- ---- which numbers are mistakes
 
@@ -92,16 +89,41 @@ in_order accepts none tests = tests
 in_order accepts (first number) tests = accepts number ∷ tests
 in_order accepts (last number) tests = tests ++ accepts number ∷ []
 
-module _ (accepts writes : Text → Bool) (same : (number : Text) → IsPlain number → accepts number ≡ writes number) where
-  pub passes : (given : Given) → IsGiven writes true given → (tests : List Bool) → unless_all tests ≡ [] → unless_all (in_order accepts given tests) ≡ []
-  passes none is tests pass = pass
-  passes (first number) is tests pass = rw (same number is.0 ∙ is.1) pass
-  passes (last number) is tests pass = rw (same number is.0 ∙ is.1) (one_more tests pass)
-
-  pub fails : (given : Given) → IsGiven writes false given → (tests : List Bool) → unless_all (in_order accepts given tests) ≡ kind.ValueValidation ∷ []
-  fails none is tests = cc
-  fails (first number) is tests = rw (same number is.0 ∙ is.1) refl
-  fails (last number) is tests = rw (same number is.0 ∙ is.1) (some_wrong tests [])
-
 pub number_mistaken : (words : List Text) → faults_of words ≡ kind.ValueValidation ∷ [] → IsMistaken words
 number_mistaken words is = mistaken words kind.ValueValidation [] is (λ e. cc)
+
+-- ---- the laws of a flag with a number
+
+-- which numbers of a flag `clap` takes, and what is read of them
+pub record IsNumberOf (accepts writes : Text → Bool) (reads : Text → ℕ) : Type 0 where
+  pub accepted : (number : Text) → IsPlain number → accepts number ≡ writes number
+  pub read : (number : Text) → IsPlain number → writes number ≡ true → reads number ≡ number_of number
+
+module _ {accepts writes : Text → Bool} {reads : Text → ℕ} (numbers : IsNumberOf accepts writes reads) where
+  count_is : (usual : ℕ) (given : Given) → IsGiven writes true given → count_given reads usual given ≡ count_given number_of usual given
+  count_is usual none is = refl
+  count_is usual (first number) is = numbers.read number is.0 is.1
+  count_is usual (last number) is = numbers.read number is.0 is.1
+
+  passes : (given : Given) → IsGiven writes true given → (tests : List Bool) → unless_all tests ≡ [] → unless_all (in_order accepts given tests) ≡ []
+  passes none is tests pass = pass
+  passes (first number) is tests pass = rw (numbers.accepted number is.0 ∙ is.1) pass
+  passes (last number) is tests pass = rw (numbers.accepted number is.0 ∙ is.1) (one_more tests pass)
+
+  fails : (given : Given) → IsGiven writes false given → (tests : List Bool) → unless_all (in_order accepts given tests) ≡ kind.ValueValidation ∷ []
+  fails none is tests = cc
+  fails (first number) is tests = rw (numbers.accepted number is.0 ∙ is.1) refl
+  fails (last number) is tests = rw (numbers.accepted number is.0 ∙ is.1) (some_wrong tests [])
+
+  -- of words that come to what the number asks for
+  module _ (usual : ℕ) (name : Text) (words : Given → List Text) (tests : List Bool) (asks : ℕ → Asked)
+      (come : (given : Given) → HasDashless given → Comes name (words given) (unless_all (in_order accepts given tests)) (asks (count_given reads usual given))) where
+    -- a number that is taken is asked for, if all others are taken
+    pub number_asked : unless_all tests ≡ [] → (given : Given) → IsGiven writes true given → AsksFor (name ∷ words given) (asks (count_given number_of usual given))
+    number_asked pass given is =
+        let whole = come given (is_read _ _ given is) in
+        (whole.faults ∙ passes given is tests pass, whole.asks ∙ ap asks (count_is usual given is))
+
+    -- any other is a mistake
+    pub number_refused : (given : Given) → IsGiven writes false given → IsMistaken (name ∷ words given)
+    number_refused given is = number_mistaken _ ((come given (is_read _ _ given is)).faults ∙ fails given is tests)

@@ -1,5 +1,5 @@
 -- What the words of `bound`, `optimal` and `solve` ask for, and what is wrong with them.
-use Rattle.std.proofs.Common.{◌≡◌, ◌∙◌, ◌≤◌, arith, inl, inr, refl, sym, ap, subst, ℕ, Bool, false, true, List, [], ◌∷◌, ◌++◌, Some, append-nil, codes, length, map}
+use Rattle.std.proofs.Common.{◌≡◌, ◌∙◌, ◌≤◌, arith, inl, inr, refl, sym, ap, subst, Bool, false, true, List, [], ◌∷◌, ◌++◌, Some, append-nil, codes, length, map}
 use Rattle.std.specs.List.{AllByRecursion}
 use Rattle.std.proofs.lemmas.List.Elements.{recursion_from_All}
 use Rattle.clap.specs.Kinds.{Kinds, or_else}
@@ -18,8 +18,8 @@ use Rattle.pdb_words.specs.Numbers.{number_of}
 use Rattle.pdb_words.proofs.CommandLemmas.{faults_behind, leaf, start}
 use Rattle.pdb_words.proofs.KindLemmas.{mistaken}
 use Rattle.pdb_words.proofs.TextLemmas.{HasNoDash, has_no_dash}
-use Rattle.word_laws.proofs.GivenLemmas.{Given, none, first, last, HasDashless, IsGiven, as_tested, count_given, count_is, fails, in_order, is_read, nested, number_mistaken, passes, unless_all, unless_taken, with_number}
-use Rattle.word_laws.proofs.NumberLemmas.{accepted_budget, accepted_workers, budget_accepted, budget_of, budget_read, workers_accepted, workers_of, workers_read}
+use Rattle.word_laws.proofs.GivenLemmas.{Given, none, first, last, HasDashless, IsGiven, as_tested, count_given, in_order, nested, number_asked, number_refused, unless_all, unless_taken, with_number}
+use Rattle.word_laws.proofs.NumberLemmas.{accepted_budget, accepted_workers, budget_numbers, budget_of, workers_numbers, workers_of}
 use Rattle.word_laws.proofs.TablesLemmas.{gathering, tables_fault, tables_lead, tables_pass, tables_rule}
 use Rattle.word_laws.proofs.WalkLemmas.{Comes, IsRead, Leads, Word, comes, faults_at, flag, last_fault, leads_on, leads_past, or_nothing, past_words, plain, text_of, words_lead}
 use Rattle.word_laws.specs.Asking.{AsksFor}
@@ -138,32 +138,32 @@ module _ (names : LogNames) where
           (leads_on (names_lead (map text_of behind ++ [])) (words_lead (shape_of command) gathered behind [] read_behind))
           (ends ∙ flag_behind _ (nested tests) tables_passed ∙ as_tested [] tests) found
 
-  log_comes : (command : LogCommand) (workers : Given) (folds : Bool) → HasDashless workers
+  log_comes : (command : LogCommand) (folds : Bool) (workers : Given) → HasDashless workers
       → Comes (name_of command) (with_fold folds (with_number (codes "--workers") workers (log_words names))) (unless_all (in_order accepted_workers workers []))
       (of_names (asks command) names (count_given workers_of 1 workers) folds)
   unfolding clap_on_literals
-  log_comes on_search none true n = first_comes on_search true [] tt refl [] refl refl
-  log_comes command none true n = first_comes command true [] tt refl [] refl refl
-  log_comes on_search none false n = first_comes on_search false [] tt refl [] refl refl
-  log_comes command none false n = first_comes command false [] tt refl [] refl refl
-  log_comes on_search (first number) true n = first_comes on_search true (numbered (codes "--workers") number) (tt, (n, tt)) refl (accepted_workers number ∷ []) refl refl
-  log_comes command (first number) true n = first_comes command true (numbered (codes "--workers") number) (tt, (n, tt)) refl (accepted_workers number ∷ []) refl refl
-  log_comes on_search (first number) false n = first_comes on_search false (numbered (codes "--workers") number) (tt, (n, tt)) refl (accepted_workers number ∷ []) refl refl
-  log_comes command (first number) false n = first_comes command false (numbered (codes "--workers") number) (tt, (n, tt)) refl (accepted_workers number ∷ []) refl refl
-  log_comes on_search (last number) true n = last_comes on_search true [] tt refl (numbered (codes "--workers") number) (tt, (n, tt)) (accepted_workers number ∷ []) refl refl
-  log_comes command (last number) true n = last_comes command true [] tt refl (numbered (codes "--workers") number) (tt, (n, tt)) (accepted_workers number ∷ []) refl refl
-  log_comes on_search (last number) false n = last_comes on_search false [] tt refl (numbered (codes "--workers") number) (tt, (n, tt)) (accepted_workers number ∷ []) refl refl
-  log_comes command (last number) false n = last_comes command false [] tt refl (numbered (codes "--workers") number) (tt, (n, tt)) (accepted_workers number ∷ []) refl refl
+  log_comes on_search true none n = first_comes on_search true [] tt refl [] refl refl
+  log_comes command true none n = first_comes command true [] tt refl [] refl refl
+  log_comes on_search false none n = first_comes on_search false [] tt refl [] refl refl
+  log_comes command false none n = first_comes command false [] tt refl [] refl refl
+  log_comes on_search true (first number) n = first_comes on_search true (numbered (codes "--workers") number) (tt, (n, tt)) refl (accepted_workers number ∷ []) refl refl
+  log_comes command true (first number) n = first_comes command true (numbered (codes "--workers") number) (tt, (n, tt)) refl (accepted_workers number ∷ []) refl refl
+  log_comes on_search false (first number) n = first_comes on_search false (numbered (codes "--workers") number) (tt, (n, tt)) refl (accepted_workers number ∷ []) refl refl
+  log_comes command false (first number) n = first_comes command false (numbered (codes "--workers") number) (tt, (n, tt)) refl (accepted_workers number ∷ []) refl refl
+  log_comes on_search true (last number) n = last_comes on_search true [] tt refl (numbered (codes "--workers") number) (tt, (n, tt)) (accepted_workers number ∷ []) refl refl
+  log_comes command true (last number) n = last_comes command true [] tt refl (numbered (codes "--workers") number) (tt, (n, tt)) (accepted_workers number ∷ []) refl refl
+  log_comes on_search false (last number) n = last_comes on_search false [] tt refl (numbered (codes "--workers") number) (tt, (n, tt)) (accepted_workers number ∷ []) refl refl
+  log_comes command false (last number) n = last_comes command false [] tt refl (numbered (codes "--workers") number) (tt, (n, tt)) (accepted_workers number ∷ []) refl refl
 
-  budget_comes : (budget : Given) (folds : Bool) → HasDashless budget
+  budget_comes : (folds : Bool) (budget : Given) → HasDashless budget
       → Comes (codes "solve") (with_fold folds (with_number (codes "--budget") budget (log_words names))) (unless_all (in_order accepted_budget budget []))
       (of_names (search_within (count_given budget_of usual_budget budget)) names 1 folds)
   unfolding clap_on_literals
-  budget_comes none folds n = log_comes on_search none folds tt
-  budget_comes (first number) true n = first_comes on_search true (numbered (codes "--budget") number) (tt, (n, tt)) refl (accepted_budget number ∷ []) refl refl
-  budget_comes (first number) false n = first_comes on_search false (numbered (codes "--budget") number) (tt, (n, tt)) refl (accepted_budget number ∷ []) refl refl
-  budget_comes (last number) true n = last_comes on_search true [] tt refl (numbered (codes "--budget") number) (tt, (n, tt)) (accepted_budget number ∷ []) refl refl
-  budget_comes (last number) false n = last_comes on_search false [] tt refl (numbered (codes "--budget") number) (tt, (n, tt)) (accepted_budget number ∷ []) refl refl
+  budget_comes folds none n = log_comes on_search folds none tt
+  budget_comes true (first number) n = first_comes on_search true (numbered (codes "--budget") number) (tt, (n, tt)) refl (accepted_budget number ∷ []) refl refl
+  budget_comes false (first number) n = first_comes on_search false (numbered (codes "--budget") number) (tt, (n, tt)) refl (accepted_budget number ∷ []) refl refl
+  budget_comes true (last number) n = last_comes on_search true [] tt refl (numbered (codes "--budget") number) (tt, (n, tt)) (accepted_budget number ∷ []) refl refl
+  budget_comes false (last number) n = last_comes on_search false [] tt refl (numbered (codes "--budget") number) (tt, (n, tt)) (accepted_budget number ∷ []) refl refl
 
   -- both flags with a number, the workers first
   both_come : (number budget : Text) → HasNoDash number → HasNoDash budget → (folds : Bool)
@@ -186,37 +186,31 @@ module _ (names : LogNames) where
 
   asked : (command : LogCommand) (folds : Bool) (workers : Given) → IsGiven writes_workers true workers
       → AsksFor (name_of command ∷ with_fold folds (with_number (codes "--workers") workers (log_words names))) (of_names (asks command) names (count_given number_of 1 workers) folds)
-  asked command folds workers is =
-      let come = log_comes command workers folds (is_read _ _ workers is) in (
-        come.faults ∙ passes accepted_workers writes_workers workers_accepted workers is [] refl,
-        come.asks ∙ ap (λ (n : ℕ). of_names (asks command) names n folds) (count_is writes_workers workers_of workers_read 1 workers is),
-      )
+  asked command folds = number_asked workers_numbers 1 (name_of command) (λ workers. with_fold folds (with_number (codes "--workers") workers (log_words names))) []
+      (λ n. of_names (asks command) names n folds) (log_comes command folds) refl
 
   refused : (command : LogCommand) (folds : Bool) (workers : Given) → IsGiven writes_workers false workers
       → IsMistaken (name_of command ∷ with_fold folds (with_number (codes "--workers") workers (log_words names)))
-  refused command folds workers is = number_mistaken _
-      ((log_comes command workers folds (is_read _ _ workers is)).faults ∙ fails accepted_workers writes_workers workers_accepted workers is [])
+  refused command folds = number_refused workers_numbers 1 (name_of command) (λ workers. with_fold folds (with_number (codes "--workers") workers (log_words names))) []
+      (λ n. of_names (asks command) names n folds) (log_comes command folds)
 
   pub budget_asked : (folds : Bool) (budget : Given) → IsGiven writes_budget true budget
       → AsksFor (codes "solve" ∷ with_fold folds (with_number (codes "--budget") budget (log_words names))) (of_names (search_within (count_given number_of usual_budget budget)) names 1 folds)
-  budget_asked folds budget is =
-      let come = budget_comes budget folds (is_read _ _ budget is) in (
-        come.faults ∙ passes accepted_budget writes_budget budget_accepted budget is [] refl,
-        come.asks ∙ ap (λ (boards : ℕ). of_names (search_within boards) names 1 folds) (count_is writes_budget budget_of budget_read usual_budget budget is),
-      )
+  budget_asked folds = number_asked budget_numbers usual_budget (codes "solve") (λ budget. with_fold folds (with_number (codes "--budget") budget (log_words names))) []
+      (λ boards. of_names (search_within boards) names 1 folds) (budget_comes folds) refl
 
   pub budget_refused : (folds : Bool) (budget : Given) → IsGiven writes_budget false budget
       → IsMistaken (codes "solve" ∷ with_fold folds (with_number (codes "--budget") budget (log_words names)))
-  budget_refused folds budget is = number_mistaken _
-      ((budget_comes budget folds (is_read _ _ budget is)).faults ∙ fails accepted_budget writes_budget budget_accepted budget is [])
+  budget_refused folds = number_refused budget_numbers usual_budget (codes "solve") (λ budget. with_fold folds (with_number (codes "--budget") budget (log_words names))) []
+      (λ boards. of_names (search_within boards) names 1 folds) (budget_comes folds)
 
   pub both_asked : (folds : Bool) (number budget : Text) → IsPlain number → IsPlain budget → writes_workers number ≡ true → writes_budget budget ≡ true
       → AsksFor (codes "solve" ∷ with_fold folds (codes "--workers" ∷ number ∷ codes "--budget" ∷ budget ∷ log_words names))
       (of_names (search_within (number_of budget)) names (number_of number) folds)
   both_asked folds number budget n b writes writes_budget =
       let come = both_come number budget (has_no_dash number n) (has_no_dash budget b) folds in (
-        come.faults ∙ rw (workers_accepted number n ∙ writes, budget_accepted budget b ∙ writes_budget) refl,
-        come.asks ∙ (λ i. of_names (search_within (budget_read budget b writes_budget i)) names (workers_read number n writes i) folds),
+        come.faults ∙ rw (workers_numbers.accepted number n ∙ writes, budget_numbers.accepted budget b ∙ writes_budget) refl,
+        come.asks ∙ (λ i. of_names (search_within (budget_numbers.read budget b writes_budget i)) names (workers_numbers.read number n writes i) folds),
       )
 
 -- no table

@@ -12,6 +12,7 @@ use Rattle.pdb_request.specs.Asked.{most_budget}
 use Rattle.pdb_words.specs.Budget.{usual_budget}
 use Rattle.pdb_words.specs.Commands.{IsPlain}
 use Rattle.pdb_words.specs.Numbers.{number_of, number_within, writes_within}
+use Rattle.word_laws.proofs.GivenLemmas.{IsNumberOf}
 use Rattle.word_laws.specs.NumberTexts.{writes_budget, writes_workers}
 
 in_range : (numeral : Bool) (n low high most : ℕ) → high < most → (numeral && (nat_lt n most && (nat_le low n && nat_le n high))) ≡ (numeral && (nat_le low n && nat_le n high))
@@ -41,12 +42,6 @@ accepted_workers text = accepted_within 1 most_workers text
 abbrev pub accepted_budget : Text → Bool
 accepted_budget text = accepts false (parser.Unsigned 1 most_budget) text
 
-pub workers_accepted : (number : Text) → IsPlain number → accepted_workers number ≡ writes_workers number
-workers_accepted = signed_accepted 1 most_workers (omega arith)
-
-pub budget_accepted : (number : Text) → IsPlain number → accepted_budget number ≡ writes_budget number
-budget_accepted number plain = in_range (is_numeral (without_leading_plus number)) (number_of number) 1 most_budget (2 ^ 64) (omega arith)
-
 -- the number of workers, or the budget, that is read of a text
 abbrev pub workers_of : Text → ℕ
 workers_of text = read_within 1 most_workers 1 text
@@ -54,8 +49,11 @@ workers_of text = read_within 1 most_workers 1 text
 abbrev pub budget_of : Text → ℕ
 budget_of text = number_within 1 most_budget usual_budget text
 
-pub workers_read : (number : Text) → IsPlain number → writes_workers number ≡ true → workers_of number ≡ number_of number
-workers_read = number_read 1 most_workers 1
+pub workers_numbers : IsNumberOf accepted_workers writes_workers workers_of
+workers_numbers = record { accepted = signed_accepted 1 most_workers (omega arith); read = number_read 1 most_workers 1 }
 
-pub budget_read : (number : Text) → IsPlain number → writes_budget number ≡ true → budget_of number ≡ number_of number
-budget_read number plain writes = rw writes refl
+pub budget_numbers : IsNumberOf accepted_budget writes_budget budget_of
+budget_numbers = record {
+  accepted = λ number plain. in_range (is_numeral (without_leading_plus number)) (number_of number) 1 most_budget (2 ^ 64) (omega arith);
+  read = λ number plain writes. rw writes refl;
+}

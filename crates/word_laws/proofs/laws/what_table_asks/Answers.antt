@@ -1,4 +1,4 @@
-use Rattle.std.proofs.Common.{refl, ap, inl, inr, ◌≡◌, ◌∷◌, ◌∙◌, [], ℕ, List, codes, false, true}
+use Rattle.std.proofs.Common.{refl, inl, inr, ◌≡◌, ◌∷◌, [], ℕ, List, codes, false, true}
 use Rattle.clap.proofs.OnLiterals.{clap_on_literals}
 use Rattle.clap.specs.declared.error.kind.ErrorKind.TheVariants as kind
 use Rattle.pdb_request.specs.Asked.{table}
@@ -9,8 +9,8 @@ use Rattle.pdb_words.specs.Numbers.{number_of}
 use Rattle.pdb_words.proofs.CommandLemmas.{leaf, start}
 use Rattle.pdb_words.proofs.KindLemmas.{mistaken}
 use Rattle.pdb_words.proofs.TextLemmas.{HasNoDash, has_no_dash}
-use Rattle.word_laws.proofs.GivenLemmas.{Given, none, first, last, HasDashless, IsGiven, as_tested, count_given, count_is, fails, in_order, is_read, number_mistaken, passes, unless_all, with_number}
-use Rattle.word_laws.proofs.NumberLemmas.{accepted_workers, workers_accepted, workers_of, workers_read}
+use Rattle.word_laws.proofs.GivenLemmas.{Given, none, first, last, HasDashless, IsGiven, as_tested, count_given, in_order, number_asked, number_refused, unless_all, with_number}
+use Rattle.word_laws.proofs.NumberLemmas.{accepted_workers, workers_numbers, workers_of}
 use Rattle.word_laws.proofs.WalkLemmas.{Comes, comes, flag, plain, words_lead}
 use Rattle.word_laws.proofs.laws.what_table_asks.Goals as goal
 use Rattle.word_laws.specs.Asking.{AsksFor}
@@ -36,17 +36,12 @@ whole_comes name f (first number) n = comes is_command (words_lead (leaf (codes 
 whole_comes name f (last number) n = comes is_command (words_lead (leaf (codes "table")) start (plain name ∷ flag (codes "--workers") ∷ plain number ∷ []) [] (f, (tt, (n, tt))))
     (as_tested [] (accepted_workers number ∷ [])) refl
 
-module _ (name : List ℕ) (f : IsPlain name) (workers : Given) where
-  asked : IsGiven writes_workers true workers → AsksFor (codes "table" ∷ whole workers name) (table name (count_given number_of 1 workers))
-  asked is =
-      let come = whole_comes name (has_no_dash name f) workers (is_read _ _ workers is) in (
-        come.faults ∙ passes accepted_workers writes_workers workers_accepted workers is [] refl,
-        come.asks ∙ ap (table name) (count_is writes_workers workers_of workers_read 1 workers is),
-      )
+module _ (name : List ℕ) (f : IsPlain name) where
+  asked : (workers : Given) → IsGiven writes_workers true workers → AsksFor (codes "table" ∷ whole workers name) (table name (count_given number_of 1 workers))
+  asked = number_asked workers_numbers 1 (codes "table") (λ workers. whole workers name) [] (table name) (whole_comes name (has_no_dash name f)) refl
 
-  refused : IsGiven writes_workers false workers → IsMistaken (codes "table" ∷ whole workers name)
-  refused is = number_mistaken _
-      ((whole_comes name (has_no_dash name f) workers (is_read _ _ workers is)).faults ∙ fails accepted_workers writes_workers workers_accepted workers is [])
+  refused : (workers : Given) → IsGiven writes_workers false workers → IsMistaken (codes "table" ∷ whole workers name)
+  refused = number_refused workers_numbers 1 (codes "table") (λ workers. whole workers name) [] (table name) (whole_comes name (has_no_dash name f))
 
 pub returns : goal.returns
 returns c = record {

@@ -8,9 +8,9 @@ use Rattle.pdb_words.specs.MakeTable.{most_mask, most_side}
 use Rattle.pdb_words.specs.Numbers.{number_of}
 use Rattle.pdb_words.proofs.KindLemmas.{mistaken}
 use Rattle.pdb_words.proofs.TextLemmas.{has_no_dash}
-use Rattle.word_laws.proofs.GivenLemmas.{Given, none, first, last, IsGiven, HasDashless, count_given, count_is, fails, in_order, is_read, number_mistaken, passes, some_wrong, nested, unless_all, unless_taken, with_number}
+use Rattle.word_laws.proofs.GivenLemmas.{Given, none, first, last, IsGiven, HasDashless, count_given, in_order, number_asked, number_mistaken, number_refused, some_wrong, nested, unless_all, unless_taken, with_number}
 use Rattle.word_laws.proofs.MakeTableLemmas.{accepted_mask, accepted_side, made, nameless_comes, whole_comes}
-use Rattle.word_laws.proofs.NumberLemmas.{accepted_workers, number_read, signed_accepted, workers_accepted, workers_of, workers_read}
+use Rattle.word_laws.proofs.NumberLemmas.{accepted_workers, number_read, signed_accepted, workers_numbers, workers_of}
 use Rattle.word_laws.proofs.WalkLemmas.{Comes}
 use Rattle.word_laws.proofs.maker_laws.what_make_table_asks.Goals as goal
 use Rattle.word_laws.specs.Asking.{AsksFor}
@@ -37,14 +37,15 @@ module _ (words : PatternWords) where
   asked : (workers : Given) → IsGiven writes_workers true workers → WritesPattern words
       → AsksFor (codes "make-table" ∷ whole workers) (asks_for_table words (count_given number_of 1 workers))
   asked workers is writes =
-      let come = whole_is workers (is_read _ _ workers is) in (
-        come.faults ∙ passes accepted_workers writes_workers workers_accepted workers is tests (rw (side_is ∙ writes.0, mask_is ∙ writes.1) refl),
-        come.asks ∙ (λ i. make_table (number_read 0 most_side 0 words.side words.plain_side writes.0 i)
-            (number_read 0 most_mask 0 words.mask words.plain_mask writes.1 i) words.out (count_is writes_workers workers_of workers_read 1 workers is i)),
+      let read = number_asked workers_numbers 1 (codes "make-table") whole tests (made words.side words.mask words.out) whole_is
+      (rw (side_is ∙ writes.0, mask_is ∙ writes.1) refl) workers is in (
+        read.0,
+        read.1 ∙ (λ i. make_table (number_read 0 most_side 0 words.side words.plain_side writes.0 i)
+            (number_read 0 most_mask 0 words.mask words.plain_mask writes.1 i) words.out (count_given number_of 1 workers)),
       )
 
   refused : (workers : Given) → IsGiven writes_workers false workers → IsMistaken (codes "make-table" ∷ whole workers)
-  refused workers is = number_mistaken _ ((whole_is workers (is_read _ _ workers is)).faults ∙ fails accepted_workers writes_workers workers_accepted workers is tests)
+  refused = number_refused workers_numbers 1 (codes "make-table") whole tests (made words.side words.mask words.out) whole_is
 
 -- of a side, a mask and no name, what isn't taken first is the mistake
 nameless : (words : List (List ℕ)) (side mask : Bool) → faults_of words ≡ or_else (nested (side ∷ [])) (or_else (or_else (unless_taken mask) []) (kind.MissingRequiredArgument ∷ [])) → IsMistaken words
