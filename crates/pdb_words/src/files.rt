@@ -30,6 +30,7 @@ fn needed_tables<'a>(alloc: Global) -> Arg<'a>
 }
 
 /// A command with one more file that has to be named.
+#[tactic(auto, using(crate::proofs::ArgumentLemmas::has_rule))]
 pub(crate) fn with_file<'a>(
     alloc: Global,
     command: Command<'a>,

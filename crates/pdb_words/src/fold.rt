@@ -20,6 +20,7 @@ fn fold_flag<'a>(alloc: Global) -> Arg<'a>
 }
 
 /// A command with the flag.
+#[tactic(auto, using(crate::proofs::ArgumentLemmas::has_rule))]
 pub(crate) fn with_fold<'a>(alloc: Global, command: Command<'a>) -> Result<Command<'a>, AllocError>
     ensures { IfOk result (λ c. app_of c ≡ with_rule (app_of command.entry) fold_flag) }
 {
