@@ -1,7 +1,7 @@
 -- Which flags stand in words that parse.
 use Rattle.std.proofs.Common.{◌≡◌, ◌≢◌, ◌⊎◌, ◌∙◌, inl, inr, refl, sym, subst, ℕ, Bool, not, true, false, List, [], ◌∷◌, ◌++◌, Option, Some, None, codes}
 use Rattle.std.specs.Bool.{⊤}
-use Rattle.std.specs.List.{All, AllByRecursion, find, list_all}
+use Rattle.std.specs.List.{All, find, list_all}
 use Rattle.std.specs.Str.{bytes_eq}
 use Rattle.std.proofs.lemmas.List.Elements.{All-head, All-tail}
 use Rattle.clap.specs.Faults.{level_fault, long_fault, turn_fault, walk_fault, word_fault}
@@ -12,10 +12,10 @@ use Rattle.clap.proofs.SimpleLemmas.{is_false}
 use Rattle.clap.proofs.WalkLemmas.{both}
 use Rattle.clap.specs.declared.error.kind.ErrorKind.TheVariants as kind
 use Rattle.pdb_words.specs.CommandLine.{Parses}
-use Rattle.pdb_words.specs.Commands.{IsCommand, IsOneOf, commands, shared_commands}
-use Rattle.pdb_words.proofs.CommandLemmas.{faults_behind, leaf}
+use Rattle.pdb_words.specs.Commands.{IsCommand, IsOneOf, shared_commands}
+use Rattle.pdb_words.proofs.CommandLemmas.{each_command, faults_behind, leaf}
 use Rattle.pdb_words.proofs.KindLemmas.{IsFault, first_fault, later_fault, one_fault, same_fault}
-use Rattle.pdb_words.proofs.TextLemmas.{differs, each_holds, same_text}
+use Rattle.pdb_words.proofs.TextLemmas.{differs, same_text}
 use Rattle.word_laws.specs.Flags.{IsLongFlag, TakesFlag, log_commands}
 
 -- ---- a walk goes on, behind each word but `--`
@@ -28,15 +28,13 @@ GoesOn value = ⊤
 
 module _ (c : List Rule) (word : Text) where
   plain_goes_on : (waiting : Waiting) (h : Held) → GoesOn (plain_word c waiting word h).1
-  plain_goes_on idle h = tt
   plain_goes_on (option id) h = tt
-  plain_goes_on positional h = tt
+  plain_goes_on waiting h = tt
 
   flag_goes_on : (waiting : Waiting) (h : Held) (outcome : Outcome) → GoesOn (after_flag c waiting word h outcome).1
   flag_goes_on waiting h done = tt
   flag_goes_on waiting h (waits id) = tt
-  flag_goes_on waiting h plain = plain_goes_on waiting h
-  flag_goes_on waiting h refused = plain_goes_on waiting h
+  flag_goes_on waiting h outcome = plain_goes_on waiting h
 
   short_goes_on : (waiting : Waiting) (flags : Option Text) (h : Held) → GoesOn (short_or_plain c waiting word flags h).1
   short_goes_on waiting (Some flags) h = flag_goes_on waiting _ _
@@ -48,8 +46,7 @@ module _ (c : List Rule) (word : Text) where
 
   no_subcommand : (waiting : Waiting) → subcommand_met [] waiting word ≡ None
   no_subcommand idle = refl
-  no_subcommand (option id) = refl
-  no_subcommand positional = refl
+  no_subcommand waiting = refl
 
   word_goes_on : (waiting : Waiting) (place : ℕ) (h : Held) → bytes_eq word (codes "--") ≡ false → GoesOn (word_met c [] false waiting place word h).1
   word_goes_on waiting place h apart = rw (no_subcommand waiting, apart) (long_goes_on waiting (long_of word) h)
@@ -153,30 +150,23 @@ solve_knows : KnowsItsFlags (codes "solve")
 solve_knows = folds_tables (codes "solve") (inr (inr (inr (inr (inl refl))))) (inr (inr (inl refl)))
     (λ name e f. by_name _ (codes "budget") name (λ same. inr (inr (inr (refl, same)))) (λ b. inl (rw (e, f, b) refl)))
 
-all_know : AllByRecursion KnowsItsFlags commands
-all_know = (
-  λ name. inl refl,
-  (
-    table_knows,
-    (
-      folds_tables (codes "bound") (inr (inl refl)) (inl refl) (λ name e f. inl (rw (e, f) refl)),
-      (folds_tables (codes "optimal") (inr (inr (inl refl))) (inr (inl refl)) (λ name e f. inl (rw (e, f) refl)), (make_table_knows, (solve_knows, tt))),
-    ),
-  ),
-)
+all_know : (command : Text) → IsCommand command → KnowsItsFlags command
+all_know = each_command KnowsItsFlags (λ name. inl refl) table_knows
+    (folds_tables (codes "bound") (inr (inl refl)) (inl refl) (λ name e f. inl (rw (e, f) refl)))
+    (folds_tables (codes "optimal") (inr (inr (inl refl))) (inr (inl refl)) (λ name e f. inl (rw (e, f) refl)))
+    make_table_knows solve_knows
 
-all_without_trailing : AllByRecursion (λ command. HasNoTrailing (leaf command).rules) commands
-all_without_trailing = (refl, (refl, (refl, (refl, (refl, (refl, tt))))))
+none_trailing : (command : Text) → IsCommand command → HasNoTrailing (leaf command).rules
+none_trailing = each_command (λ command. HasNoTrailing (leaf command).rules) refl refl refl refl refl refl
 
 -- behind a command's name, and no `--`, there are no flags but these
 pub flags_known : (command name flag : Text) (before after : List Text) → IsCommand command → All (λ word. word ≢ codes "--") before → IsLongFlag name flag
     → Parses (command ∷ before ++ flag ∷ after) → TakesFlag command name
-flags_known command name flag before after is all is_flag parses = elim (each_holds KnowsItsFlags commands all_know command is name) [
+flags_known command name flag before after is all is_flag parses = elim (all_know command is name) [
   | inr taken ↦ taken
   | inl help ↦
       let s = leaf command in
       let wrong : (h : Held) → IsFault (long_fault s.rules s.args_override_self (arg_by_long s.rules name) is_flag.0 h) =
       λ h. subst (λ (found : Option Rule). IsFault (long_fault s.rules s.args_override_self found is_flag.0 h)) (sym help) (help_wrong s.args_override_self s.rules name is_flag.0 h) in
-      let no_trailing = each_holds (λ command. HasNoTrailing (leaf command).rules) commands all_without_trailing command is in
-      absurd (same_fault _ _ (faults_behind command is (before ++ flag ∷ after)) (first_fault _ [] (level_wrong s no_trailing before flag name is_flag.0 after all is_flag.1 wrong)) parses)
+      absurd (same_fault _ _ (faults_behind command is (before ++ flag ∷ after)) (first_fault _ [] (level_wrong s (none_trailing command is) before flag name is_flag.0 after all is_flag.1 wrong)) parses)
 ]

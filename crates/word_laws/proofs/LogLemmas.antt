@@ -17,8 +17,7 @@ use Rattle.pdb_words.specs.Faults.{IsMistaken}
 use Rattle.pdb_words.specs.Numbers.{number_of}
 use Rattle.pdb_words.proofs.CommandLemmas.{faults_behind, leaf, start}
 use Rattle.pdb_words.proofs.KindLemmas.{mistaken}
-use Rattle.pdb_words.proofs.TextLemmas.{HasNoDash, has_no_dash}
-use Rattle.word_laws.proofs.GivenLemmas.{Given, none, first, last, HasDashless, IsGiven, as_tested, count_given, in_order, nested, number_asked, number_refused, unless_all, unless_taken, with_number}
+use Rattle.word_laws.proofs.GivenLemmas.{Given, none, first, last, IsGiven, as_tested, count_given, in_order, number_asked, number_refused, unless_all, unless_taken, with_number}
 use Rattle.word_laws.proofs.NumberLemmas.{accepted_budget, accepted_workers, budget_numbers, budget_of, workers_numbers, workers_of}
 use Rattle.word_laws.proofs.TablesLemmas.{gathering, tables_fault, tables_lead, tables_pass, tables_rule}
 use Rattle.word_laws.proofs.WalkLemmas.{Comes, IsRead, Leads, Word, comes, faults_at, flag, last_fault, leads_on, leads_past, or_nothing, past_words, plain, text_of, words_lead}
@@ -62,17 +61,14 @@ flag_behind : (tables rest : Kinds) → tables ≡ [] → or_else (or_else (or_e
 flag_behind tables rest e = ap (λ (ks : Kinds). or_else (or_else (or_else ks []) []) rest) e
 
 -- a flag behind a number tests that
-flag_between : (a b : Bool) (rest : Kinds) → or_else (or_else (nested (a ∷ [])) (nested (b ∷ []))) rest ≡ or_else (nested (a ∷ b ∷ [])) rest
-flag_between a b rest = ap (λ (ks : Kinds). or_else (or_else ks (nested (b ∷ []))) rest) (or_nothing (or_else (unless_taken a) []))
+flag_between : (a b : Bool) (rest : Kinds) → or_else (or_else (unless_all (a ∷ [])) (unless_all (b ∷ []))) rest ≡ or_else (unless_all (a ∷ b ∷ [])) rest
+flag_between a b rest = ap (λ (ks : Kinds). or_else (or_else ks (unless_all (b ∷ []))) rest) (or_nothing (or_else (unless_taken a) []))
 
 -- a flag with a number
 abbrev numbered : Text → Text → List Word
 numbered word number = flag word ∷ plain number ∷ []
 
 module _ (names : LogNames) where
-  room : length (tables_named names) ≤ usize_max
-  room = omega (arith, names.are_names.1)
-
   are_plain : AllByRecursion IsPlain (log_words names)
   are_plain = recursion_from_All IsPlain (log_words names) names.are_names.0
 
@@ -81,13 +77,10 @@ module _ (names : LogNames) where
   leading = plain names.text ∷ plain names.sets ∷ plain names.log ∷ plain names.table ∷ []
 
   are_read : AllByRecursion IsRead leading
-  are_read = (
-    has_no_dash names.text are_plain.0,
-    (has_no_dash names.sets are_plain.1.0, (has_no_dash names.log are_plain.1.1.0, (has_no_dash names.table are_plain.1.1.1.0, tt))),
-  )
+  are_read = (are_plain.0, (are_plain.1.0, (are_plain.1.1.0, (are_plain.1.1.1.0, tt))))
 
   tables_passed : tables_fault (tables_named names) ≡ []
-  tables_passed = tables_pass names.table names.more_tables room
+  tables_passed = tables_pass names.table names.more_tables (omega (arith, names.are_names.1))
 
   -- flags, and the names as far as the first table
   abbrev before_tables : Bool → List Word → List Word
@@ -122,51 +115,52 @@ module _ (names : LogNames) where
 
       -- nothing comes behind them
       first_comes : (tests : List Bool) {asked : Asked}
-          → or_else (faults_at (shape_of command) start words) (last_fault (shape_of command) gathered.held) ≡ or_else (nested tests) (or_else (tables_fault (tables_named names)) [])
+          → or_else (faults_at (shape_of command) start words) (last_fault (shape_of command) gathered.held) ≡ or_else (unless_all tests) (or_else (tables_fault (tables_named names)) [])
           → asked_by (name_of command) (finished (shape_of command).rules gathered.held) ≡ asked → Comes (name_of command) (map text_of words ++ names.more_tables) (unless_all (tests ++ [])) asked
       first_comes tests ends found = comes (is_command command)
           (subst (λ (tables : List Text). Leads (shape_of command) start (map text_of words ++ tables) (faults_at (shape_of command) start words) gathered []) (append-nil names.more_tables) (names_lead []))
-          (ends ∙ ap (λ (ks : Kinds). or_else (nested tests) (or_else ks [])) tables_passed ∙ as_tested tests []) found
+          (ends ∙ ap (λ (ks : Kinds). or_else (unless_all tests) (or_else ks [])) tables_passed ∙ as_tested tests []) found
 
       -- a flag comes behind them, perhaps with a number
       last_comes : (behind : List Word) → AllByRecursion IsRead behind → (tests : List Bool) {asked : Asked}
           → or_else (or_else (faults_at (shape_of command) start words) (faults_at (shape_of command) gathered behind)) (last_fault (shape_of command) (past_words (shape_of command) gathered behind).held)
-          ≡ or_else (or_else (or_else (tables_fault (tables_named names)) []) []) (nested tests)
+          ≡ or_else (or_else (or_else (tables_fault (tables_named names)) []) []) (unless_all tests)
           → asked_by (name_of command) (finished (shape_of command).rules (past_words (shape_of command) gathered behind).held) ≡ asked
           → Comes (name_of command) (map text_of words ++ (names.more_tables ++ (map text_of behind ++ []))) (unless_all tests) asked
       last_comes behind read_behind tests ends found = comes (is_command command)
           (leads_on (names_lead (map text_of behind ++ [])) (words_lead (shape_of command) gathered behind [] read_behind))
-          (ends ∙ flag_behind _ (nested tests) tables_passed ∙ as_tested [] tests) found
+          (ends ∙ flag_behind _ (unless_all tests) tables_passed ∙ as_tested [] tests) found
 
-  log_comes : (command : LogCommand) (folds : Bool) (workers : Given) → HasDashless workers
+  -- all words, with `--workers N` or with `--budget N` where it is given
+  log_comes : (command : LogCommand) (folds : Bool) (workers : Given)
       → Comes (name_of command) (with_fold folds (with_number (codes "--workers") workers (log_words names))) (unless_all (in_order accepted_workers workers []))
       (of_names (asks command) names (count_given workers_of 1 workers) folds)
   unfolding clap_on_literals
-  log_comes on_search true none n = first_comes on_search true [] tt refl [] refl refl
-  log_comes command true none n = first_comes command true [] tt refl [] refl refl
-  log_comes on_search false none n = first_comes on_search false [] tt refl [] refl refl
-  log_comes command false none n = first_comes command false [] tt refl [] refl refl
-  log_comes on_search true (first number) n = first_comes on_search true (numbered (codes "--workers") number) (tt, (n, tt)) refl (accepted_workers number ∷ []) refl refl
-  log_comes command true (first number) n = first_comes command true (numbered (codes "--workers") number) (tt, (n, tt)) refl (accepted_workers number ∷ []) refl refl
-  log_comes on_search false (first number) n = first_comes on_search false (numbered (codes "--workers") number) (tt, (n, tt)) refl (accepted_workers number ∷ []) refl refl
-  log_comes command false (first number) n = first_comes command false (numbered (codes "--workers") number) (tt, (n, tt)) refl (accepted_workers number ∷ []) refl refl
-  log_comes on_search true (last number) n = last_comes on_search true [] tt refl (numbered (codes "--workers") number) (tt, (n, tt)) (accepted_workers number ∷ []) refl refl
-  log_comes command true (last number) n = last_comes command true [] tt refl (numbered (codes "--workers") number) (tt, (n, tt)) (accepted_workers number ∷ []) refl refl
-  log_comes on_search false (last number) n = last_comes on_search false [] tt refl (numbered (codes "--workers") number) (tt, (n, tt)) (accepted_workers number ∷ []) refl refl
-  log_comes command false (last number) n = last_comes command false [] tt refl (numbered (codes "--workers") number) (tt, (n, tt)) (accepted_workers number ∷ []) refl refl
+  log_comes on_search true none = first_comes on_search true [] tt refl [] refl refl
+  log_comes command true none = first_comes command true [] tt refl [] refl refl
+  log_comes on_search false none = first_comes on_search false [] tt refl [] refl refl
+  log_comes command false none = first_comes command false [] tt refl [] refl refl
+  log_comes on_search true (first number n) = first_comes on_search true (numbered (codes "--workers") number) (tt, (n, tt)) refl (accepted_workers number ∷ []) refl refl
+  log_comes command true (first number n) = first_comes command true (numbered (codes "--workers") number) (tt, (n, tt)) refl (accepted_workers number ∷ []) refl refl
+  log_comes on_search false (first number n) = first_comes on_search false (numbered (codes "--workers") number) (tt, (n, tt)) refl (accepted_workers number ∷ []) refl refl
+  log_comes command false (first number n) = first_comes command false (numbered (codes "--workers") number) (tt, (n, tt)) refl (accepted_workers number ∷ []) refl refl
+  log_comes on_search true (last number n) = last_comes on_search true [] tt refl (numbered (codes "--workers") number) (tt, (n, tt)) (accepted_workers number ∷ []) refl refl
+  log_comes command true (last number n) = last_comes command true [] tt refl (numbered (codes "--workers") number) (tt, (n, tt)) (accepted_workers number ∷ []) refl refl
+  log_comes on_search false (last number n) = last_comes on_search false [] tt refl (numbered (codes "--workers") number) (tt, (n, tt)) (accepted_workers number ∷ []) refl refl
+  log_comes command false (last number n) = last_comes command false [] tt refl (numbered (codes "--workers") number) (tt, (n, tt)) (accepted_workers number ∷ []) refl refl
 
-  budget_comes : (folds : Bool) (budget : Given) → HasDashless budget
+  budget_comes : (folds : Bool) (budget : Given)
       → Comes (codes "solve") (with_fold folds (with_number (codes "--budget") budget (log_words names))) (unless_all (in_order accepted_budget budget []))
       (of_names (search_within (count_given budget_of usual_budget budget)) names 1 folds)
   unfolding clap_on_literals
-  budget_comes folds none n = log_comes on_search folds none tt
-  budget_comes true (first number) n = first_comes on_search true (numbered (codes "--budget") number) (tt, (n, tt)) refl (accepted_budget number ∷ []) refl refl
-  budget_comes false (first number) n = first_comes on_search false (numbered (codes "--budget") number) (tt, (n, tt)) refl (accepted_budget number ∷ []) refl refl
-  budget_comes true (last number) n = last_comes on_search true [] tt refl (numbered (codes "--budget") number) (tt, (n, tt)) (accepted_budget number ∷ []) refl refl
-  budget_comes false (last number) n = last_comes on_search false [] tt refl (numbered (codes "--budget") number) (tt, (n, tt)) (accepted_budget number ∷ []) refl refl
+  budget_comes folds none = log_comes on_search folds none
+  budget_comes true (first number n) = first_comes on_search true (numbered (codes "--budget") number) (tt, (n, tt)) refl (accepted_budget number ∷ []) refl refl
+  budget_comes false (first number n) = first_comes on_search false (numbered (codes "--budget") number) (tt, (n, tt)) refl (accepted_budget number ∷ []) refl refl
+  budget_comes true (last number n) = last_comes on_search true [] tt refl (numbered (codes "--budget") number) (tt, (n, tt)) (accepted_budget number ∷ []) refl refl
+  budget_comes false (last number n) = last_comes on_search false [] tt refl (numbered (codes "--budget") number) (tt, (n, tt)) (accepted_budget number ∷ []) refl refl
 
   -- both flags with a number, the workers first
-  both_come : (number budget : Text) → HasNoDash number → HasNoDash budget → (folds : Bool)
+  both_come : (number budget : Text) → IsPlain number → IsPlain budget → (folds : Bool)
       → Comes (codes "solve") (with_fold folds (codes "--workers" ∷ number ∷ codes "--budget" ∷ budget ∷ log_words names))
       (unless_all (accepted_workers number ∷ accepted_budget budget ∷ [])) (of_names (search_within (budget_of budget)) names (workers_of number) folds)
   unfolding clap_on_literals
@@ -194,27 +188,30 @@ module _ (names : LogNames) where
   refused command folds = number_refused workers_numbers 1 (name_of command) (λ workers. with_fold folds (with_number (codes "--workers") workers (log_words names))) []
       (λ n. of_names (asks command) names n folds) (log_comes command folds)
 
+  -- the same with a budget
   pub budget_asked : (folds : Bool) (budget : Given) → IsGiven writes_budget true budget
       → AsksFor (codes "solve" ∷ with_fold folds (with_number (codes "--budget") budget (log_words names))) (of_names (search_within (count_given number_of usual_budget budget)) names 1 folds)
   budget_asked folds = number_asked budget_numbers usual_budget (codes "solve") (λ budget. with_fold folds (with_number (codes "--budget") budget (log_words names))) []
       (λ boards. of_names (search_within boards) names 1 folds) (budget_comes folds) refl
 
+  -- a budget that is none
   pub budget_refused : (folds : Bool) (budget : Given) → IsGiven writes_budget false budget
       → IsMistaken (codes "solve" ∷ with_fold folds (with_number (codes "--budget") budget (log_words names)))
   budget_refused folds = number_refused budget_numbers usual_budget (codes "solve") (λ budget. with_fold folds (with_number (codes "--budget") budget (log_words names))) []
       (λ boards. of_names (search_within boards) names 1 folds) (budget_comes folds)
 
+  -- both flags with a number
   pub both_asked : (folds : Bool) (number budget : Text) → IsPlain number → IsPlain budget → writes_workers number ≡ true → writes_budget budget ≡ true
       → AsksFor (codes "solve" ∷ with_fold folds (codes "--workers" ∷ number ∷ codes "--budget" ∷ budget ∷ log_words names))
       (of_names (search_within (number_of budget)) names (number_of number) folds)
   both_asked folds number budget n b writes writes_budget =
-      let come = both_come number budget (has_no_dash number n) (has_no_dash budget b) folds in (
+      let come = both_come number budget n b folds in (
         come.faults ∙ rw (workers_numbers.accepted number n ∙ writes, budget_numbers.accepted budget b ∙ writes_budget) refl,
         come.asks ∙ (λ i. of_names (search_within (budget_numbers.read budget b writes_budget i)) names (workers_numbers.read number n writes i) folds),
       )
 
 -- no table
-none_comes : (command : LogCommand) (folds : Bool) (text sets log : Text) → HasNoDash text → HasNoDash sets → HasNoDash log
+none_comes : (command : LogCommand) (folds : Bool) (text sets log : Text) → IsPlain text → IsPlain sets → IsPlain log
     → Comes (name_of command) (with_fold folds (text ∷ sets ∷ log ∷ [])) (kind.MissingRequiredArgument ∷ []) (asks command text sets log [] 1 folds)
 unfolding clap_on_literals
 none_comes on_search true text sets log t s l =
@@ -232,15 +229,16 @@ unfolding clap_on_literals
 folded_twice on_search words = faults_behind (codes "solve") (is_command on_search) (codes "--fold" ∷ codes "--fold" ∷ words)
 folded_twice command words = faults_behind (name_of command) (is_command command) (codes "--fold" ∷ codes "--fold" ∷ words)
 
+-- what these commands share
 pub names_log : (command : LogCommand) → NamesLog (name_of command) (asks command)
 names_log command = record {
   files = λ names folds. asked names command folds none refl;
   no_tables = λ text sets log folds t s l. mistaken _ kind.MissingRequiredArgument []
-      (none_comes command folds text sets log (has_no_dash text t) (has_no_dash sets s) (has_no_dash log l)).faults (λ e. cc);
-  workers = λ names folds number n writes. asked names command folds (first number) (n, writes);
-  other_workers = λ names folds number n writes. refused names command folds (first number) (n, writes);
-  workers_last = λ names folds number n writes. asked names command folds (last number) (n, writes);
-  other_workers_last = λ names folds number n writes. refused names command folds (last number) (n, writes);
+      (none_comes command folds text sets log t s l).faults (λ e. cc);
+  workers = λ names folds number n writes. asked names command folds (first number n) writes;
+  other_workers = λ names folds number n writes. refused names command folds (first number n) writes;
+  workers_last = λ names folds number n writes. asked names command folds (last number n) writes;
+  other_workers_last = λ names folds number n writes. refused names command folds (last number n) writes;
   fold_last = λ names. ((fold_comes names command).faults, (fold_comes names command).asks);
   fold_twice = λ words. mistaken _ kind.ArgumentConflict [] (folded_twice command words) (λ e. cc);
 }

@@ -22,6 +22,7 @@ in_range numeral n low high most fits = grind (arith, nat_tests)
 abbrev pub accepted_within : ℕ → ℕ → Text → Bool
 accepted_within low high text = accepts false (parser.Signed (pos low) (pos high)) text
 
+-- a text without `-` is taken if it writes such a number
 pub signed_accepted : (low high : ℕ) → high < 2 ^ 63 → (number : Text) → IsPlain number → accepted_within low high number ≡ writes_within low high number
 signed_accepted low high fits [] plain = refl
 signed_accepted low high fits (d ∷ number) plain =
@@ -31,6 +32,7 @@ signed_accepted low high fits (d ∷ number) plain =
 abbrev pub read_within : ℕ → ℕ → ℕ → Text → ℕ
 read_within low high other text = number_within low high other (without_minus text)
 
+-- of a text that writes such a number, that number is read
 pub number_read : (low high other : ℕ) (number : Text) → IsPlain number → writes_within low high number ≡ true → read_within low high other number ≡ number_of number
 number_read low high other [] plain writes = cc
 number_read low high other (d ∷ number) plain writes = rw (ne_eqb d 45 plain, writes) refl
@@ -49,6 +51,7 @@ workers_of text = read_within 1 most_workers 1 text
 abbrev pub budget_of : Text → ℕ
 budget_of text = number_within 1 most_budget usual_budget text
 
+-- numbers of workers, and budgets
 pub workers_numbers : IsNumberOf accepted_workers writes_workers workers_of
 workers_numbers = record { accepted = signed_accepted 1 most_workers (omega arith); read = number_read 1 most_workers 1 }
 

@@ -8,14 +8,16 @@ use Rattle.clap.specs.Simple.{Shape}
 use Rattle.clap.specs.Walk.{Held, Text, Waiting, Walk, after_step, finished, idle, option, plain_word, positional, settled, walked}
 use Rattle.pdb_request.specs.Asked.{Asked}
 use Rattle.pdb_words.specs.CommandLine.{asked_by, asked_of, faults_of}
-use Rattle.pdb_words.specs.Commands.{IsCommand}
+use Rattle.pdb_words.specs.Commands.{IsCommand, IsPlain}
 use Rattle.pdb_words.proofs.CommandLemmas.{asked_behind, faults_behind, leaf, start}
-use Rattle.pdb_words.proofs.TextLemmas.{HasNoDash, dashless}
+use Rattle.pdb_words.proofs.TextLemmas.{HasNoDash, dashless, has_no_dash}
 
+-- nothing wrong behind what is wrong
 pub or_nothing : (kinds : Kinds) → or_else kinds [] ≡ kinds
 or_nothing [] = refl
 or_nothing (k ∷ ks) = refl
 
+-- three places in a row
 pub or_assoc : (a b c : Kinds) → or_else (or_else a b) c ≡ or_else a (or_else b c)
 or_assoc [] b c = refl
 or_assoc (k ∷ ks) b c = refl
@@ -31,7 +33,7 @@ text_of (plain word) = word
 
 abbrev pub IsRead : Word → Type 0
 IsRead (flag word) = ⊤
-IsRead (plain word) = HasNoDash word
+IsRead (plain word) = IsPlain word
 
 -- the walk behind a word, and what is wrong there; a plain word is none of `clap`'s flags
 abbrev plain_walk : Shape → Bool → Option (Text × List Text) → Walk → Text → Walk
@@ -65,7 +67,7 @@ plain_passes s word n h position positional false None = record { step = simp da
 
 passes : (s : Shape) (w : Walk) (word : Word) → IsRead word → Passes s w word
 passes s w (flag word) read = record { step = refl; fault = refl }
-passes s w (plain word) read = plain_passes s word read w.held w.position w.waiting w.is_trailing w.stopped
+passes s w (plain word) read = plain_passes s word (has_no_dash word read) w.held w.position w.waiting w.is_trailing w.stopped
 
 -- ---- words in a row
 
@@ -81,6 +83,7 @@ leads_on {a = a} {b = b} first later = record {
   faults = first.faults ∙ ap (or_else a) later.faults ∙ sym (or_assoc a b _);
 }
 
+-- the same, where nothing is wrong with the later one
 pub leads_past : {s : Shape} {u v w : Walk} {xs ys zs : List Text} {a : Kinds} → Leads s u xs a v ys → Leads s v ys [] w zs → Leads s u xs a w zs
 leads_past {a = a} first later = record { steps = first.steps ∙ later.steps; faults = first.faults ∙ ap (or_else a) later.faults }
 
@@ -101,6 +104,7 @@ abbrev pub faults_at : Shape → Walk → List Word → Kinds
 faults_at s w [] = []
 faults_at s w (word ∷ rest) = or_else (fault_at s w word) (faults_at s (past_word s w word) rest)
 
+-- each word leads past itself
 pub words_lead : (s : Shape) (w : Walk) (words : List Word) (behind : List Text) → AllByRecursion IsRead words
     → Leads s w (map text_of words ++ behind) (faults_at s w words) (past_words s w words) behind
 words_lead s w [] behind read = record { steps = refl; faults = refl }

@@ -7,8 +7,7 @@ use Rattle.pdb_words.specs.Faults.{IsMistaken}
 use Rattle.pdb_words.specs.MakeTable.{most_mask, most_side}
 use Rattle.pdb_words.specs.Numbers.{number_of}
 use Rattle.pdb_words.proofs.KindLemmas.{mistaken}
-use Rattle.pdb_words.proofs.TextLemmas.{has_no_dash}
-use Rattle.word_laws.proofs.GivenLemmas.{Given, none, first, last, IsGiven, HasDashless, count_given, in_order, number_asked, number_mistaken, number_refused, some_wrong, nested, unless_all, unless_taken, with_number}
+use Rattle.word_laws.proofs.GivenLemmas.{Given, none, first, last, IsGiven, count_given, in_order, number_asked, number_mistaken, number_refused, some_wrong, unless_all, unless_taken, with_number}
 use Rattle.word_laws.proofs.MakeTableLemmas.{accepted_mask, accepted_side, made, nameless_comes, whole_comes}
 use Rattle.word_laws.proofs.NumberLemmas.{accepted_workers, number_read, signed_accepted, workers_numbers, workers_of}
 use Rattle.word_laws.proofs.WalkLemmas.{Comes}
@@ -30,9 +29,9 @@ module _ (words : PatternWords) where
   abbrev whole : Given → List (List ℕ)
   whole workers = with_number (codes "--workers") workers (pattern_words words)
 
-  whole_is : (workers : Given) → HasDashless workers → Comes (codes "make-table") (whole workers) (unless_all (in_order accepted_workers workers tests))
+  whole_is : (workers : Given) → Comes (codes "make-table") (whole workers) (unless_all (in_order accepted_workers workers tests))
       (made words.side words.mask words.out (count_given workers_of 1 workers))
-  whole_is = whole_comes words.side words.mask (has_no_dash _ words.plain_side) (has_no_dash _ words.plain_mask) words.out (has_no_dash _ words.plain_out)
+  whole_is = whole_comes words.side words.mask words.plain_side words.plain_mask words.out words.plain_out
 
   asked : (workers : Given) → IsGiven writes_workers true workers → WritesPattern words
       → AsksFor (codes "make-table" ∷ whole workers) (asks_for_table words (count_given number_of 1 workers))
@@ -48,7 +47,7 @@ module _ (words : PatternWords) where
   refused = number_refused workers_numbers 1 (codes "make-table") whole tests (made words.side words.mask words.out) whole_is
 
 -- of a side, a mask and no name, what isn't taken first is the mistake
-nameless : (words : List (List ℕ)) (side mask : Bool) → faults_of words ≡ or_else (nested (side ∷ [])) (or_else (or_else (unless_taken mask) []) (kind.MissingRequiredArgument ∷ [])) → IsMistaken words
+nameless : (words : List (List ℕ)) (side mask : Bool) → faults_of words ≡ or_else (unless_all (side ∷ [])) (or_else (or_else (unless_taken mask) []) (kind.MissingRequiredArgument ∷ [])) → IsMistaken words
 nameless words true true e = mistaken words kind.MissingRequiredArgument [] e (λ e. cc)
 nameless words true false e = number_mistaken words e
 nameless words false mask e = number_mistaken words e
@@ -56,11 +55,11 @@ nameless words false mask e = number_mistaken words e
 pub returns : goal.returns
 returns c = record {
   numbers = λ words. asked words none refl;
-  other_side = λ words e. number_mistaken _ ((whole_is words none tt).faults ∙ rw (side_is words ∙ e) refl);
-  other_mask = λ words e. number_mistaken _ ((whole_is words none tt).faults ∙ rw (mask_is words ∙ e) (some_wrong (accepted_side words.side ∷ []) []));
-  no_name = λ side mask s m. nameless _ _ _ (nameless_comes side mask (has_no_dash side s) (has_no_dash mask m)).faults;
-  workers = λ words number plain writes. asked words (first number) (plain, writes);
-  other_workers = λ words number plain writes. refused words (first number) (plain, writes);
-  workers_last = λ words number plain writes. asked words (last number) (plain, writes);
-  other_workers_last = λ words number plain writes. refused words (last number) (plain, writes);
+  other_side = λ words e. number_mistaken _ ((whole_is words none).faults ∙ rw (side_is words ∙ e) refl);
+  other_mask = λ words e. number_mistaken _ ((whole_is words none).faults ∙ rw (mask_is words ∙ e) (some_wrong (accepted_side words.side ∷ []) []));
+  no_name = λ side mask s m. nameless _ _ _ (nameless_comes side mask s m).faults;
+  workers = λ words number plain writes. asked words (first number plain) writes;
+  other_workers = λ words number plain writes. refused words (first number plain) writes;
+  workers_last = λ words number plain writes. asked words (last number plain) writes;
+  other_workers_last = λ words number plain writes. refused words (last number plain) writes;
 }
