@@ -93,24 +93,17 @@ module _ (word : Text) (apart : bytes_eq word (codes "--") ≡ false) where
       go None is = short_wrong is (short_of word) refl
       go (Some p) is = long_wrong p is
 
-help_wrong : turn (codes "help") ≡ kind.DisplayHelp ∷ kind.InvalidSubcommand ∷ []
-unfolding clap_on_literals
-help_wrong = refl
-
 -- ---- so words that parse begin with a command
 
 first_wrong : (word : Text) (rest : List Text) → IsFault (turn word) → IsFault (faults_of (word ∷ rest))
 unfolding walk_fault
 first_wrong word rest is = first_fault _ _ (first_fault (turn word) _ is)
 
--- a word behind a first `--`
-behind_dashes : (word : Text) (rest : List Text) → IsFault (faults_of (codes "--" ∷ word ∷ rest))
-unfolding clap_on_literals
-behind_dashes word rest = same_fault _ stray refl (one_fault _ _)
-
+-- behind a first `--` comes no word
 by_dashes : (rest : List Text) → Parses (codes "--" ∷ rest) → rest ≡ []
+unfolding clap_on_literals
 by_dashes [] parses = refl
-by_dashes (word ∷ rest) parses = absurd (behind_dashes word rest parses)
+by_dashes (word ∷ rest) parses = absurd (one_fault kind.UnknownArgument (kind.InvalidSubcommand ∷ []) parses)
 
 by_other : (word : Text) (rest : List Text) → IsOther word → Parses (word ∷ rest) → (word ≡ codes "--") × (rest ≡ [])
 by_other word rest other parses = go (bytes_eq word (codes "--")) refl
@@ -123,8 +116,9 @@ by_other word rest other parses = go (bytes_eq word (codes "--")) refl
 
 by_first : (word : Text) (rest : List Text) → (IsCommand word ⊎ (word ≡ codes "help")) ⊎ IsOther word → Parses (word ∷ rest)
     → IsCommand word ⊎ ((word ≡ codes "--") × (rest ≡ []))
+unfolding clap_on_literals
 by_first word rest (inl (inl command)) parses = inl command
-by_first word rest (inl (inr help)) parses = absurd (first_wrong word rest (same_fault _ _ (ap turn help ∙ help_wrong) (one_fault _ _)) parses)
+by_first word rest (inl (inr help)) parses = absurd (first_wrong word rest (same_fault _ (kind.DisplayHelp ∷ kind.InvalidSubcommand ∷ []) (ap turn help) (one_fault _ _)) parses)
 by_first word rest (inr other) parses = inr (by_other word rest other parses)
 
 -- words that parse are none, `--` alone, or begin with a command's name
@@ -212,21 +206,14 @@ module _ (name : Text) (is : IsCommand name) (words : List Text) where
 
 -- ---- of words that parse `clap` finds a command of the program, or none
 
-nothing_met : subcommand_of command_line [] ≡ None
-unfolding clap_on_literals
-nothing_met = refl
-
-dashes_met : subcommand_of command_line (codes "--" ∷ []) ≡ None
-unfolding clap_on_literals
-dashes_met = refl
-
 abbrev HasCommand : Option (Text × List Row) → Type 0
 HasCommand found = IfSome found (λ p. IsCommand p.0)
 
 command_met : (words : List Text) → BeginsWithCommand words → HasCommand (subcommand_of command_line words)
-command_met [] begins = subst HasCommand (sym nothing_met) tt
+unfolding clap_on_literals
+command_met [] begins = tt
 command_met (word ∷ rest) (inl command) = subst HasCommand (sym (met word command rest)) command
-command_met (word ∷ rest) (inr dashes) = subst (λ (ws : List Text). HasCommand (subcommand_of command_line ws)) (λ i. sym dashes.0 i ∷ sym dashes.1 i) (subst HasCommand (sym dashes_met) tt)
+command_met (word ∷ rest) (inr dashes) = subst (λ (ws : List Text). HasCommand (subcommand_of command_line ws)) (λ i. sym dashes.0 i ∷ sym dashes.1 i) tt
 
 pub command_found : (words : List Text) (r : Result ArgMatches Error) → FailsBy (faults_of words) r → IfOk r (λ m. subcommand_rows_of m ≡ subcommand_of command_line words)
     → IfOk r (λ m. HasCommand (subcommand_rows_of m))
