@@ -4,10 +4,10 @@ use Rattle.std.specs.Bool.{⊤}
 use Rattle.std.specs.List.{All, find, list_all}
 use Rattle.std.specs.Str.{bytes_eq}
 use Rattle.std.proofs.lemmas.List.Elements.{All-head, All-tail}
-use Rattle.clap.specs.Faults.{level_fault, long_fault, turn_fault, walk_fault, word_fault}
+use Rattle.clap.specs.Faults.{long_fault, turn_fault, walk_fault, word_fault}
 use Rattle.clap.specs.Lexer.{long_of, short_of}
 use Rattle.clap.specs.Simple.{Shape, filled, help_rule}
-use Rattle.clap.specs.Walk.{Held, Outcome, Rule, Step, Text, Waiting, Walk, after_flag, after_step, arg_by_index, arg_by_long, done, idle, long_or_other, next, nothing_held, option, plain, plain_word, positional, refused, short_or_plain, subcommand, subcommand_met, to_positional, trailing, value, waits, walk_from, walked, walked_from, word_met}
+use Rattle.clap.specs.Walk.{Held, Outcome, Rule, Step, Text, Waiting, Walk, after_flag, after_step, arg_by_index, arg_by_long, done, idle, long_or_other, next, nothing_held, option, plain_word, short_or_plain, subcommand, subcommand_met, to_positional, trailing, value, waits, walk_from, walked, walked_from, word_met}
 use Rattle.clap.proofs.SimpleLemmas.{is_false}
 use Rattle.clap.proofs.WalkLemmas.{both}
 use Rattle.clap.specs.declared.error.kind.ErrorKind.TheVariants as kind
@@ -100,10 +100,6 @@ module _ (s : Shape) (no_trailing : HasNoTrailing s.rules) where
   walk_wrong w (word ∷ before) flag name v after going all is faults =
       later_fault _ _ (walk_wrong (walked s.rules [] w word) before flag name v after (walked_going w word going (All-head (λ word. word ≢ codes "--") word before all)) (All-tail (λ word. word ≢ codes "--") word before all) is faults)
 
-  level_wrong : (before : List Text) (flag name : Text) (v : Option Text) (after : List Text) → All (λ word. word ≢ codes "--") before → long_of flag ≡ Some (name, v)
-      → ((h : Held) → IsFault (long_fault s.rules s.args_override_self (arg_by_long s.rules name) v h)) → IsFault (level_fault s [] nothing_held (before ++ flag ∷ after) false [])
-  level_wrong before flag name v after all is faults = first_fault _ _ (walk_wrong (walk_from nothing_held) before flag name v after (record { flags = refl; going = refl }) all is faults)
-
 -- ---- the commands of the program
 
 -- the flag `--help`, as it is built
@@ -168,5 +164,5 @@ flags_known command name flag before after is all is_flag parses = elim (all_kno
       let s = leaf command in
       let wrong : (h : Held) → IsFault (long_fault s.rules s.args_override_self (arg_by_long s.rules name) is_flag.0 h) =
       λ h. subst (λ (found : Option Rule). IsFault (long_fault s.rules s.args_override_self found is_flag.0 h)) (sym help) (help_wrong s.args_override_self s.rules name is_flag.0 h) in
-      absurd (same_fault _ _ (faults_behind command is (before ++ flag ∷ after)) (first_fault _ [] (level_wrong s (none_trailing command is) before flag name is_flag.0 after all is_flag.1 wrong)) parses)
+      absurd (same_fault _ _ (faults_behind command is (before ++ flag ∷ after)) (first_fault _ [] (first_fault _ _ (walk_wrong s (none_trailing command is) (walk_from nothing_held) before flag name is_flag.0 after (record { flags = refl; going = refl }) all is_flag.1 wrong))) parses)
 ]

@@ -1,9 +1,8 @@
 -- What the words of `bound`, `optimal` and `solve` ask for, and what is wrong with them.
-use Rattle.std.proofs.Common.{◌≡◌, ◌∙◌, ◌≤◌, arith, inl, inr, refl, sym, ap, subst, Bool, false, true, List, [], ◌∷◌, ◌++◌, Some, append-nil, codes, length, map}
+use Rattle.std.proofs.Common.{◌≡◌, ◌∙◌, arith, inl, inr, refl, sym, ap, subst, Bool, false, true, List, [], ◌∷◌, ◌++◌, Some, append-nil, codes, map}
 use Rattle.std.specs.List.{AllByRecursion}
 use Rattle.std.proofs.lemmas.List.Elements.{recursion_from_All}
 use Rattle.clap.specs.Kinds.{Kinds, or_else}
-use Rattle.clap.specs.Lexer.{usize_max}
 use Rattle.clap.specs.Simple.{Shape}
 use Rattle.clap.specs.Walk.{Text, Walk, arg_by_index, finished}
 use Rattle.clap.specs.declared.error.kind.ErrorKind.TheVariants as kind

@@ -1,4 +1,4 @@
-use Rattle.std.proofs.Common.{refl, inl, inr, ◌≡◌, ◌∷◌, [], ℕ, List, codes, false, true}
+use Rattle.std.proofs.Common.{refl, inl, inr, ◌∷◌, [], ℕ, List, codes, false, true}
 use Rattle.clap.proofs.OnLiterals.{clap_on_literals}
 use Rattle.clap.specs.declared.error.kind.ErrorKind.TheVariants as kind
 use Rattle.pdb_request.specs.Asked.{table}
