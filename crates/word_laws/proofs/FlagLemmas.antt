@@ -164,5 +164,7 @@ flags_known command name flag before after is all is_flag parses = elim (all_kno
       let s = leaf command in
       let wrong : (h : Held) → IsFault (long_fault s.rules s.args_override_self (arg_by_long s.rules name) is_flag.0 h) =
       λ h. subst (λ (found : Option Rule). IsFault (long_fault s.rules s.args_override_self found is_flag.0 h)) (sym help) (help_wrong s.args_override_self s.rules name is_flag.0 h) in
-      absurd (same_fault _ _ (faults_behind command is (before ++ flag ∷ after)) (first_fault _ [] (first_fault _ _ (walk_wrong s (none_trailing command is) (walk_from nothing_held) before flag name is_flag.0 after (record { flags = refl; going = refl }) all is_flag.1 wrong))) parses)
+      let behind : IsFault (walk_fault s [] (walk_from nothing_held) (before ++ flag ∷ after)) =
+      walk_wrong s (none_trailing command is) (walk_from nothing_held) before flag name is_flag.0 after (record { flags = refl; going = refl }) all is_flag.1 wrong in
+      absurd (same_fault _ _ (faults_behind command is (before ++ flag ∷ after)) (first_fault _ [] (first_fault _ _ behind)) parses)
 ]

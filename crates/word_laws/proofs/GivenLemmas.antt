@@ -66,7 +66,7 @@ in_order accepts none tests = tests
 in_order accepts (first number plain) tests = accepts number ∷ tests
 in_order accepts (last number plain) tests = tests ++ accepts number ∷ []
 
--- so is a number that is the first thing wrong
+-- a number that is not taken is a mistake, where nothing is wrong before it
 pub number_mistaken : (words : List Text) → faults_of words ≡ kind.ValueValidation ∷ [] → IsMistaken words
 number_mistaken words is = mistaken words kind.ValueValidation [] is (λ e. cc)
 

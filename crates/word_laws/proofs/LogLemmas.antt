@@ -95,11 +95,14 @@ module _ (names : LogNames) where
   before_read false flags read = flags_read flags read
 
   module _ (command : LogCommand) (folds : Bool) (flags : List Word) (read : AllByRecursion IsRead flags) where
+    abbrev shape : Shape
+    shape = shape_of command
+
     abbrev words : List Word
     words = before_tables folds flags
 
     abbrev at_first : Walk
-    at_first = past_words (shape_of command) start words
+    at_first = past_words shape start words
 
     -- the walk behind all tables
     abbrev gathered : Walk
@@ -107,27 +110,29 @@ module _ (names : LogNames) where
 
     module _ (is_first : at_first ≡ gathering at_first.held.rows (names.table ∷ [])) where
       names_lead : (behind : List Text)
-          → Leads (shape_of command) start (map text_of words ++ (names.more_tables ++ behind)) (faults_at (shape_of command) start words) gathered behind
-      names_lead behind = leads_past (words_lead (shape_of command) start words (names.more_tables ++ behind) (before_read folds flags read))
-          (subst (λ (w : Walk). Leads (shape_of command) w (names.more_tables ++ behind) [] gathered behind) (sym is_first)
-          (tables_lead (shape_of command) (fourth command) at_first.held.rows (names.table ∷ []) names.more_tables behind are_plain.1.1.1.1))
+          → Leads shape start (map text_of words ++ (names.more_tables ++ behind)) (faults_at shape start words) gathered behind
+      names_lead behind = leads_past (words_lead shape start words (names.more_tables ++ behind) (before_read folds flags read))
+          (subst (λ (w : Walk). Leads shape w (names.more_tables ++ behind) [] gathered behind) (sym is_first)
+          (tables_lead shape (fourth command) at_first.held.rows (names.table ∷ []) names.more_tables behind are_plain.1.1.1.1))
 
       -- nothing comes behind them
       first_comes : (tests : List Bool) {asked : Asked}
-          → or_else (faults_at (shape_of command) start words) (last_fault (shape_of command) gathered.held) ≡ or_else (unless_all tests) (or_else (tables_fault (tables_named names)) [])
-          → asked_by (name_of command) (finished (shape_of command).rules gathered.held) ≡ asked → Comes (name_of command) (map text_of words ++ names.more_tables) (unless_all (tests ++ [])) asked
+          → or_else (faults_at shape start words) (last_fault shape gathered.held) ≡ or_else (unless_all tests) (or_else (tables_fault (tables_named names)) [])
+          → asked_by (name_of command) (finished shape.rules gathered.held) ≡ asked
+          → Comes (name_of command) (map text_of words ++ names.more_tables) (unless_all (tests ++ [])) asked
       first_comes tests ends found = comes (is_command command)
-          (subst (λ (tables : List Text). Leads (shape_of command) start (map text_of words ++ tables) (faults_at (shape_of command) start words) gathered []) (append-nil names.more_tables) (names_lead []))
+          (subst (λ (tables : List Text). Leads shape start (map text_of words ++ tables) (faults_at shape start words) gathered [])
+          (append-nil names.more_tables) (names_lead []))
           (ends ∙ ap (λ (ks : Kinds). or_else (unless_all tests) (or_else ks [])) tables_passed ∙ as_tested tests []) found
 
       -- a flag comes behind them, perhaps with a number
       last_comes : (behind : List Word) → AllByRecursion IsRead behind → (tests : List Bool) {asked : Asked}
-          → or_else (or_else (faults_at (shape_of command) start words) (faults_at (shape_of command) gathered behind)) (last_fault (shape_of command) (past_words (shape_of command) gathered behind).held)
+          → or_else (or_else (faults_at shape start words) (faults_at shape gathered behind)) (last_fault shape (past_words shape gathered behind).held)
           ≡ or_else (or_else (or_else (tables_fault (tables_named names)) []) []) (unless_all tests)
-          → asked_by (name_of command) (finished (shape_of command).rules (past_words (shape_of command) gathered behind).held) ≡ asked
+          → asked_by (name_of command) (finished shape.rules (past_words shape gathered behind).held) ≡ asked
           → Comes (name_of command) (map text_of words ++ (names.more_tables ++ (map text_of behind ++ []))) (unless_all tests) asked
       last_comes behind read_behind tests ends found = comes (is_command command)
-          (leads_on (names_lead (map text_of behind ++ [])) (words_lead (shape_of command) gathered behind [] read_behind))
+          (leads_on (names_lead (map text_of behind ++ [])) (words_lead shape gathered behind [] read_behind))
           (ends ∙ flag_behind _ (unless_all tests) tables_passed ∙ as_tested [] tests) found
 
   -- all words, with `--workers N` or with `--budget N` where it is given

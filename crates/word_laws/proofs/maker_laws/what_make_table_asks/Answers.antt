@@ -47,7 +47,8 @@ module _ (words : PatternWords) where
   refused = number_refused workers_numbers 1 (codes "make-table") whole tests (made words.side words.mask words.out) whole_is
 
 -- of a side, a mask and no name, what isn't taken first is the mistake
-nameless : (words : List (List ℕ)) (side mask : Bool) → faults_of words ≡ or_else (unless_all (side ∷ [])) (or_else (or_else (unless_taken mask) []) (kind.MissingRequiredArgument ∷ [])) → IsMistaken words
+nameless : (words : List (List ℕ)) (side mask : Bool)
+    → faults_of words ≡ or_else (unless_all (side ∷ [])) (or_else (or_else (unless_taken mask) []) (kind.MissingRequiredArgument ∷ [])) → IsMistaken words
 nameless words true true e = mistaken words kind.MissingRequiredArgument [] e (λ e. cc)
 nameless words true false e = number_mistaken words e
 nameless words false mask e = number_mistaken words e
