@@ -34,7 +34,7 @@ plain_is_local c plain =
     is_false _ (both (not fields.has_globals) _ d.1).0
 
 -- a command of which it is known what it is, with one more argument of which it is known
-pub with_argument-is : (made : Result Command AllocError) (other : Command) (arg : Arg) (app : App) (rule : Rule) → IfOk made (HasArgument other arg)
+pub has_rule : (made : Result Command AllocError) (other : Command) (arg : Arg) (app : App) (rule : Rule) → IfOk made (HasArgument other arg)
     → app_of other ≡ app → rule_of arg ≡ rule → rule.is_simple ≡ true → IfOk made (λ c. app_of c ≡ with_rule app rule)
-with_argument-is (Ok c) other arg app rule has is known simple = has rule known simple ∙ ap (λ (a : App). with_rule a rule) is
-with_argument-is (Err e) other arg app rule has is known simple = tt
+has_rule (Ok c) other arg app rule has is known simple = has rule known simple ∙ ap (λ (a : App). with_rule a rule) is
+has_rule (Err e) other arg app rule has is known simple = tt

@@ -1,11 +1,11 @@
 -- What the first word makes of all words.
-use Rattle.std.proofs.Common.{◌≡◌, ◌≢◌, ◌⊎◌, ◌∙◌, inl, inr, refl, sym, ap, subst, ℕ, Bool, true, false, List, [], ◌∷◌, ◌++◌, Option, Some, None, codes, eqb-true, nat_eq}
-use Rattle.std.specs.List.{AllByRecursion, find, fold}
+use Rattle.std.proofs.Common.{◌≡◌, ◌≢◌, ◌⊎◌, ◌∙◌, inl, inr, refl, sym, ap, subst, ℕ, Bool, true, false, List, [], ◌∷◌, ◌++◌, Option, Some, None, codes, nat_eq}
+use Rattle.std.specs.List.{find, fold}
 use Rattle.std.specs.Str.{bytes_eq, chars}
 use Rattle.std.specs.Prelude.{IfOk, IfSome, Ok, Err, Result, is_some, slice_get, unwrap_or}
 use Rattle.clap.specs.Faults.{check_fault, defaults_fault, entered_fault, flags_fault, level_fault, settle_fault, turn_fault, walk_fault}
 use Rattle.clap.specs.Kinds.{FailsBy, Kinds, or_else}
-use Rattle.clap.specs.Lexer.{long_of, name_and_value}
+use Rattle.clap.specs.Lexer.{long_of, short_of}
 use Rattle.clap.specs.Simple.{Shape, built, entered, label_of, names_of, subcommand_of, subcommand_rows_of}
 use Rattle.clap.specs.Walk.{Names, Row, Text, Walk, answers_to, bundle_met, finished, nothing_held, rows_after, settled, walk, walk_from, walked}
 use Rattle.clap.proofs.FaultLemmas.{past}
@@ -15,9 +15,9 @@ use Rattle.clap.specs.declared.parser.matches.ArgMatches.{ArgMatches}
 use Rattle.clap.specs.declared.error.Error.{Error}
 use Rattle.clap.specs.declared.error.kind.ErrorKind.TheVariants as kind
 use Rattle.pdb_words.specs.CommandLine.{Parses, asked_by, asked_of, command_line, faults_of}
-use Rattle.pdb_words.specs.Commands.{BeginsWithCommand, IsCommand, IsPlain, commands}
+use Rattle.pdb_words.specs.Commands.{BeginsWithCommand, IsCommand, IsOneOf, IsPlain, commands}
 use Rattle.pdb_words.specs.Faults.{IsMistaken}
-use Rattle.pdb_words.proofs.KindLemmas.{IsFault, first_fault, one_fault, same_fault}
+use Rattle.pdb_words.proofs.KindLemmas.{IsFault, first_fault, mistaken, one_fault, same_fault}
 use Rattle.pdb_words.proofs.TextLemmas.{HasNoDash, each_holds, has_no_dash, labels, named, one_of_more, same_text}
 
 abbrev pub top : Shape
@@ -46,15 +46,14 @@ IsOther word = find (answers_to word) names ≡ None
 same_turn : (s : Shape) (known : Names) (word : Text) → find (answers_to word) known ≡ None → turn_fault s known start word ≡ turn_fault s [] start word
 same_turn s known word none = rw none refl
 
-names_are : names ≡ labels (commands ++ codes "help" ∷ [])
-names_are = refl
-
 -- a word is a command's name, `help`, or neither
 known_or_other : (word : Text) → (IsCommand word ⊎ (word ≡ codes "help")) ⊎ IsOther word
-known_or_other word = elim (named word (commands ++ codes "help" ∷ [])) [
-  | inl known ↦ inl (one_of_more commands (codes "help") word known)
-  | inr none ↦ inr (subst (λ (known : Names). find (answers_to word) known ≡ None) (sym names_are) none)
-]
+known_or_other word = go (named word (commands ++ codes "help" ∷ []))
+  where
+    go : IsOneOf (commands ++ codes "help" ∷ []) word ⊎ (find (answers_to word) (labels (commands ++ codes "help" ∷ [])) ≡ None)
+        → (IsCommand word ⊎ (word ≡ codes "help")) ⊎ IsOther word
+    go (inl known) = inl (one_of_more commands (codes "help") word known)
+    go (inr none) = inr none
 
 abbrev stray : Kinds
 stray = kind.UnknownArgument ∷ kind.InvalidSubcommand ∷ []
@@ -63,64 +62,36 @@ plain_wrong : (word : Text) → HasNoDash word → bare_turn word ≡ stray
 unfolding clap_on_literals
 plain_wrong word plain = simp (plain.no_dash, plain.no_dashes)
 
-dash_wrong : bare_turn (45 ∷ []) ≡ stray
-unfolding clap_on_literals
-dash_wrong = refl
+-- a word but `--` is wrong, whether `clap` reads it as a long flag, as short flags or as none
+module _ (word : Text) (apart : bytes_eq word (codes "--") ≡ false) where
+  long_wrong : (p : Text × Option Text) → long_of word ≡ Some p → IsFault (bare_turn word)
+  unfolding clap_on_literals
+  long_wrong p is = go p.1 refl (bytes_eq (codes "help") p.0) refl
+    where
+      go : (value : Option Text) → p.1 ≡ value → (is_help : Bool) → bytes_eq (codes "help") p.0 ≡ is_help → IsFault (bare_turn word)
+      go value v false h = same_fault _ (kind.UnknownArgument ∷ []) (simp (apart, is, h)) (one_fault _ _)
+      go None v true h = same_fault _ (kind.DisplayHelp ∷ []) (simp (apart, is, h, v)) (one_fault _ _)
+      go (Some text) v true h = same_fault _ (kind.TooManyValues ∷ []) (simp (apart, is, h, v)) (one_fault _ _)
 
--- a word that begins with one `-` and more
-short_wrong : (c : ℕ) (rest : Text) → nat_eq c 45 ≡ false → IsFault (bare_turn (45 ∷ c ∷ rest))
-unfolding flags_fault bundle_met
-short_wrong c rest e = go (slice_get (chars (c ∷ rest)) 0) refl
-  where
-    none : slice_get (chars (c ∷ rest)) 0 ≡ None → bare_turn (45 ∷ c ∷ rest) ≡ stray
-    none is = simp (e, is)
+  short_wrong : long_of word ≡ None → (flags : Option Text) → short_of word ≡ flags → IsFault (bare_turn word)
+  unfolding flags_fault bundle_met
+  short_wrong no_long (Some (c ∷ rest)) is = go (slice_get (chars (c ∷ rest)) 0) refl
+    where
+      short : (x : ℕ) → slice_get (chars (c ∷ rest)) 0 ≡ Some x → (is_h : Bool) → nat_eq 104 x ≡ is_h → IsFault (bare_turn word)
+      short x first true h = same_fault _ (kind.DisplayHelp ∷ []) (simp (apart, no_long, is, first, h)) (one_fault _ _)
+      short x first false h = same_fault _ (kind.UnknownArgument ∷ []) (simp (apart, no_long, is, first, h)) (one_fault _ _)
 
-    short : (x : ℕ) → slice_get (chars (c ∷ rest)) 0 ≡ Some x → (is_h : Bool) → nat_eq 104 x ≡ is_h → IsFault (bare_turn (45 ∷ c ∷ rest))
-    short x is true h = same_fault _ (kind.DisplayHelp ∷ []) (simp (e, is, h)) (one_fault _ _)
-    short x is false h = same_fault _ (kind.UnknownArgument ∷ []) (simp (e, is, h)) (one_fault _ _)
+      go : (o : Option ℕ) → slice_get (chars (c ∷ rest)) 0 ≡ o → IsFault (bare_turn word)
+      go None first = same_fault _ stray (simp (apart, no_long, is, first)) (one_fault _ _)
+      go (Some x) first = short x first (nat_eq 104 x) refl
+  short_wrong no_long flags is = same_fault _ stray (simp (apart, no_long, is)) (one_fault _ _)
 
-    go : (o : Option ℕ) → slice_get (chars (c ∷ rest)) 0 ≡ o → IsFault (bare_turn (45 ∷ c ∷ rest))
-    go None is = same_fault _ _ (none is) (one_fault _ _)
-    go (Some x) is = short x is (nat_eq 104 x) refl
-
--- a word that is a long flag
-long_wrong : (word : Text) (p : Text × Option Text) → bytes_eq word (codes "--") ≡ false → long_of word ≡ Some p → IsFault (bare_turn word)
-unfolding clap_on_literals
-long_wrong word p no_dashes is = go p.1 refl (bytes_eq (codes "help") p.0) refl
-  where
-    go : (value : Option Text) → p.1 ≡ value → (is_help : Bool) → bytes_eq (codes "help") p.0 ≡ is_help → IsFault (bare_turn word)
-    go value v false h = same_fault _ (kind.UnknownArgument ∷ []) (simp (no_dashes, is, h)) (one_fault _ _)
-    go None v true h = same_fault _ (kind.DisplayHelp ∷ []) (simp (no_dashes, is, h, v)) (one_fault _ _)
-    go (Some text) v true h = same_fault _ (kind.TooManyValues ∷ []) (simp (no_dashes, is, h, v)) (one_fault _ _)
-
-dashes_wrong : (more : Text) → 45 ∷ 45 ∷ more ≢ codes "--" → IsFault (bare_turn (45 ∷ 45 ∷ more))
-dashes_wrong [] apart = absurd (apart refl)
-dashes_wrong (d ∷ more) apart = long_wrong (45 ∷ 45 ∷ d ∷ more) (name_and_value (d ∷ more)) refl refl
-
-dashed_wrong : (rest : Text) → 45 ∷ rest ≢ codes "--" → IsFault (bare_turn (45 ∷ rest))
-dashed_wrong [] apart = same_fault _ _ dash_wrong (one_fault _ _)
-dashed_wrong (c ∷ more) apart = go (nat_eq c 45) refl
-  where
-    go : (is : Bool) → nat_eq c 45 ≡ is → IsFault (bare_turn (45 ∷ c ∷ more))
-    go false e = short_wrong c more e
-    go true e = subst (λ (x : ℕ). IsFault (bare_turn (45 ∷ x ∷ more))) (sym (eqb-true c 45 e))
-        (dashes_wrong more (subst (λ (x : ℕ). 45 ∷ x ∷ more ≢ codes "--") (eqb-true c 45 e) apart))
-
-bare_wrong : (word : Text) → word ≢ codes "--" → IsFault (bare_turn word)
-bare_wrong [] apart = same_fault _ _ (plain_wrong [] (has_no_dash [] tt)) (one_fault _ _)
-bare_wrong (b ∷ rest) apart = go (nat_eq b 45) refl
-  where
-    go : (is : Bool) → nat_eq b 45 ≡ is → IsFault (bare_turn (b ∷ rest))
-    go false e = same_fault _ _ (plain_wrong (b ∷ rest) (record { no_dash = rw e refl; no_dashes = rw e refl })) (one_fault _ _)
-    go true e = subst (λ (x : ℕ). IsFault (bare_turn (x ∷ rest))) (sym (eqb-true b 45 e))
-        (dashed_wrong rest (subst (λ (x : ℕ). x ∷ rest ≢ codes "--") (eqb-true b 45 e) apart))
-
-other_wrong : (word : Text) → IsOther word → word ≢ codes "--" → IsFault (turn word)
-other_wrong word other apart = same_fault _ _ (same_turn top names word other) (bare_wrong word apart)
-
-help_wrong : turn (codes "help") ≡ kind.DisplayHelp ∷ kind.InvalidSubcommand ∷ []
-unfolding clap_on_literals
-help_wrong = refl
+  bare_wrong : IsFault (bare_turn word)
+  bare_wrong = go (long_of word) refl
+    where
+      go : (o : Option (Text × Option Text)) → long_of word ≡ o → IsFault (bare_turn word)
+      go None is = short_wrong is (short_of word) refl
+      go (Some p) is = long_wrong p is
 
 -- ---- so words that parse begin with a command
 
@@ -128,14 +99,11 @@ first_wrong : (word : Text) (rest : List Text) → IsFault (turn word) → IsFau
 unfolding walk_fault
 first_wrong word rest is = first_fault _ _ (first_fault (turn word) _ is)
 
--- a word behind a first `--`
-behind_dashes : (word : Text) (rest : List Text) → IsFault (faults_of (codes "--" ∷ word ∷ rest))
-unfolding clap_on_literals
-behind_dashes word rest = same_fault _ stray refl (one_fault _ _)
-
+-- behind a first `--` comes no word
 by_dashes : (rest : List Text) → Parses (codes "--" ∷ rest) → rest ≡ []
+unfolding clap_on_literals
 by_dashes [] parses = refl
-by_dashes (word ∷ rest) parses = absurd (behind_dashes word rest parses)
+by_dashes (word ∷ rest) parses = absurd (one_fault kind.UnknownArgument (kind.InvalidSubcommand ∷ []) parses)
 
 by_other : (word : Text) (rest : List Text) → IsOther word → Parses (word ∷ rest) → (word ≡ codes "--") × (rest ≡ [])
 by_other word rest other parses = go (bytes_eq word (codes "--")) refl
@@ -144,17 +112,19 @@ by_other word rest other parses = go (bytes_eq word (codes "--")) refl
     go true e =
         let same = same_text word (codes "--") e in
         (same, by_dashes rest (subst (λ (w : Text). Parses (w ∷ rest)) same parses))
-    go false e = absurd (first_wrong word rest (other_wrong word other (λ same. let bad : true ≡ false = ap (λ (w : Text). bytes_eq w (codes "--")) (sym same) ∙ e in cc)) parses)
+    go false e = absurd (first_wrong word rest (same_fault _ _ (same_turn top names word other) (bare_wrong word e)) parses)
 
+by_first : (word : Text) (rest : List Text) → (IsCommand word ⊎ (word ≡ codes "help")) ⊎ IsOther word → Parses (word ∷ rest)
+    → IsCommand word ⊎ ((word ≡ codes "--") × (rest ≡ []))
+unfolding clap_on_literals
+by_first word rest (inl (inl command)) parses = inl command
+by_first word rest (inl (inr help)) parses = absurd (first_wrong word rest (same_fault _ (kind.DisplayHelp ∷ kind.InvalidSubcommand ∷ []) (ap turn help) (one_fault _ _)) parses)
+by_first word rest (inr other) parses = inr (by_other word rest other parses)
+
+-- words that parse are none, `--` alone, or begin with a command's name
 pub begins_with_command : (words : List Text) → Parses words → BeginsWithCommand words
 begins_with_command [] parses = tt
-begins_with_command (word ∷ rest) parses = elim (known_or_other word) [
-  | inl known ↦ elim known [
-    | inl command ↦ inl command
-    | inr help ↦ absurd (first_wrong word rest (same_fault _ _ (ap turn help ∙ help_wrong) (one_fault _ _)) parses)
-  ]
-  | inr other ↦ inr (by_other word rest other parses)
-]
+begins_with_command (word ∷ rest) parses = by_first word rest (known_or_other word) parses
 
 -- ---- another first word is a mistake
 
@@ -163,14 +133,12 @@ unfolding walk_fault
 first_is word rest e = rw e refl
 
 pub other_command : (first : Text) (rest : List Text) → IsPlain first → (IsCommand first → ⊥) → first ≢ codes "help" → IsMistaken (first ∷ rest)
-other_command first rest plain no_command no_help = elim (known_or_other first) [
-  | inl known ↦ elim known [
-    | inl command ↦ absurd (no_command command)
-    | inr help ↦ absurd (no_help help)
-  ]
-  | inr other ↦ let is = first_is first rest (same_turn top names first other ∙ plain_wrong first (has_no_dash first plain)) in
-      record { kind = kind.UnknownArgument; among = rw is (inl refl); no_help = λ same. cc }
-]
+other_command first rest plain no_command no_help = go (known_or_other first)
+  where
+    go : (IsCommand first ⊎ (first ≡ codes "help")) ⊎ IsOther first → IsMistaken (first ∷ rest)
+    go (inl (inl command)) = absurd (no_command command)
+    go (inl (inr help)) = absurd (no_help help)
+    go (inr other) = mistaken _ _ _ (first_is first rest (same_turn top names first other ∙ plain_wrong first (has_no_dash first plain))) (λ e. cc)
 
 -- ---- a command's name leaves the words behind it to the command
 
@@ -184,27 +152,20 @@ record IsEntered (name : Text) : Type 0 where
   found : find (λ s. answers_to name (label_of s)) (built command_line).subs ≡ Some (leaf name)
   label : (leaf name).name ≡ name
 
-all_entered : AllByRecursion IsEntered commands
-unfolding clap_on_literals
-all_entered = (
-  record { passes = refl; stops = refl; found = refl; label = refl },
-  (
-    record { passes = refl; stops = refl; found = refl; label = refl },
-    (
-      record { passes = refl; stops = refl; found = refl; label = refl },
-      (
-        record { passes = refl; stops = refl; found = refl; label = refl },
-        (
-          record { passes = refl; stops = refl; found = refl; label = refl },
-          (record { passes = refl; stops = refl; found = refl; label = refl }, tt),
-        ),
-      ),
-    ),
-  ),
-)
+-- what holds of each command holds of one that is named
+pub each_command : (P : Text → Type 0) → P (codes "replay") → P (codes "table") → P (codes "bound") → P (codes "optimal") → P (codes "make-table") → P (codes "solve")
+    → (name : Text) → IsCommand name → P name
+each_command P replay table bound optimal make_table solve = each_holds P commands (replay, (table, (bound, (optimal, (make_table, (solve, tt))))))
 
 is_entered : (name : Text) → IsCommand name → IsEntered name
-is_entered = each_holds IsEntered commands all_entered
+unfolding clap_on_literals
+is_entered = each_command IsEntered
+    (record { passes = refl; stops = refl; found = refl; label = refl })
+    (record { passes = refl; stops = refl; found = refl; label = refl })
+    (record { passes = refl; stops = refl; found = refl; label = refl })
+    (record { passes = refl; stops = refl; found = refl; label = refl })
+    (record { passes = refl; stops = refl; found = refl; label = refl })
+    (record { passes = refl; stops = refl; found = refl; label = refl })
 
 -- nothing is wrong with words behind a subcommand
 stopped_passes : (s : Shape) (known : Names) (w : Walk) (name : Text) (seen words : List Text) → walk_fault s known (record w { stopped = Some (name, seen) }) words ≡ []
@@ -245,24 +206,14 @@ module _ (name : Text) (is : IsCommand name) (words : List Text) where
 
 -- ---- of words that parse `clap` finds a command of the program, or none
 
-nothing_met : subcommand_of command_line [] ≡ None
-unfolding clap_on_literals
-nothing_met = refl
-
-dashes_met : subcommand_of command_line (codes "--" ∷ []) ≡ None
-unfolding clap_on_literals
-dashes_met = refl
-
 abbrev HasCommand : Option (Text × List Row) → Type 0
 HasCommand found = IfSome found (λ p. IsCommand p.0)
 
 command_met : (words : List Text) → BeginsWithCommand words → HasCommand (subcommand_of command_line words)
-command_met [] begins = subst HasCommand (sym nothing_met) tt
-command_met (word ∷ rest) begins = elim begins [
-  | inl command ↦ subst HasCommand (sym (met word command rest)) command
-  | inr dashes ↦ subst (λ (w : Text). HasCommand (subcommand_of command_line (w ∷ rest))) (sym dashes.0)
-      (subst (λ (ws : List Text). HasCommand (subcommand_of command_line (codes "--" ∷ ws))) (sym dashes.1) (subst HasCommand (sym dashes_met) tt))
-]
+unfolding clap_on_literals
+command_met [] begins = tt
+command_met (word ∷ rest) (inl command) = subst HasCommand (sym (met word command rest)) command
+command_met (word ∷ rest) (inr dashes) = subst (λ (ws : List Text). HasCommand (subcommand_of command_line ws)) (λ i. sym dashes.0 i ∷ sym dashes.1 i) tt
 
 pub command_found : (words : List Text) (r : Result ArgMatches Error) → FailsBy (faults_of words) r → IfOk r (λ m. subcommand_rows_of m ≡ subcommand_of command_line words)
     → IfOk r (λ m. HasCommand (subcommand_rows_of m))

@@ -1,5 +1,6 @@
 mod ArgumentLemmas
 pub mod CommandLemmas
+mod FoundLemmas
 pub mod KindLemmas
 mod NumberLemmas
 pub mod TextLemmas

@@ -1,5 +1,5 @@
 -- Texts: which are the same, which are among others, and which don't begin with `-`.
-use Rattle.std.proofs.Common.{◌≡◌, ◌≢◌, ◌⊎◌, inl, inr, refl, sym, subst, Bool, true, false, List, [], ◌∷◌, ◌++◌, None, ne_eqb}
+use Rattle.std.proofs.Common.{◌≡◌, ◌≢◌, ◌⊎◌, ⊎_elim, inl, inr, refl, sym, subst, Bool, true, false, List, [], ◌∷◌, ◌++◌, None, ne_eqb}
 use Rattle.std.specs.List.{AllByRecursion, find}
 use Rattle.std.specs.Prelude.{map}
 use Rattle.std.specs.Str.{bytes_eq}
@@ -23,23 +23,14 @@ differs a b apart = go (bytes_eq a b) refl
 -- what holds of each text holds of one of them
 pub each_holds : (P : Text → Type 0) (texts : List Text) → AllByRecursion P texts → (text : Text) → IsOneOf texts text → P text
 each_holds P [] all text is = absurd is
-each_holds P (first ∷ rest) all text is = elim is [
-  | inl same ↦ subst P (sym same) all.0
-  | inr later ↦ each_holds P rest all.1 text later
-]
+each_holds P (first ∷ rest) all text (inl same) = subst P (sym same) all.0
+each_holds P (first ∷ rest) all text (inr later) = each_holds P rest all.1 text later
 
 pub one_of_more : (texts : List Text) (last text : Text) → IsOneOf (texts ++ last ∷ []) text → IsOneOf texts text ⊎ (text ≡ last)
-one_of_more [] last text is = elim is [
-  | inl same ↦ inr same
-  | inr never ↦ absurd never
-]
-one_of_more (first ∷ rest) last text is = elim is [
-  | inl same ↦ inl (inl same)
-  | inr later ↦ elim (one_of_more rest last text later) [
-    | inl among ↦ inl (inr among)
-    | inr same ↦ inr same
-  ]
-]
+one_of_more [] last text (inl same) = inr same
+one_of_more [] last text (inr never) = absurd never
+one_of_more (first ∷ rest) last text (inl same) = inl (inl same)
+one_of_more (first ∷ rest) last text (inr later) = ⊎_elim (λ among. inl (inr among)) (λ same. inr same) (one_of_more rest last text later)
 
 -- names without aliases
 abbrev pub labels : List Text → Names
@@ -53,10 +44,8 @@ named word (name ∷ rest) = go (bytes_eq name word) refl (named word rest)
     go : (is : Bool) → bytes_eq name word ≡ is → IsOneOf rest word ⊎ (find (answers_to word) (labels rest) ≡ None)
         → IsOneOf (name ∷ rest) word ⊎ (find (answers_to word) (labels (name ∷ rest)) ≡ None)
     go true e later = inl (inl (sym (same_text name word e)))
-    go false e later = elim later [
-      | inl among ↦ inl (inr among)
-      | inr none ↦ inr (rw e none)
-    ]
+    go false e (inl among) = inl (inr among)
+    go false e (inr none) = inr (rw e none)
 
 -- ---- texts that don't begin with `-`
 

@@ -72,6 +72,7 @@ fn program<'a>(alloc: Global) -> Result<Command<'a>, AllocError>
 }
 
 /// The program with one more command, where memory was there for both.
+#[tactic(auto, using(crate::proofs::ArgumentLemmas::plain_is_local))]
 fn with_command<'a>(
     program: Result<Command<'a>, AllocError>,
     command: Result<Command<'a>, AllocError>,

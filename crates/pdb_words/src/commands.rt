@@ -37,6 +37,7 @@ pub(crate) fn new_command<'a>(
 }
 
 /// A command with one more argument.
+#[tactic(auto, using(crate::proofs::ArgumentLemmas::simple_is_local))]
 pub(crate) fn with_argument<'a>(
     command: Command<'a>,
     arg: Arg<'a>,

@@ -20,6 +20,7 @@ fn fold_flag<'a>(alloc: Global) -> Arg<'a>
 }
 
 /// A command with the flag.
+#[tactic(auto, using(crate::proofs::ArgumentLemmas::has_rule))]
 pub(crate) fn with_fold<'a>(alloc: Global, command: Command<'a>) -> Result<Command<'a>, AllocError>
     ensures { IfOk result (λ c. app_of c ≡ with_rule (app_of command.entry) fold_flag) }
 {
@@ -27,6 +28,7 @@ pub(crate) fn with_fold<'a>(alloc: Global, command: Command<'a>) -> Result<Comma
 }
 
 /// Whether these matches of a command ask that tables are folded.
+#[tactic(auto, using(crate::proofs::FoundLemmas::found_rows))]
 pub(crate) fn fold_in(found: &ArgMatches<'_>) -> bool
     ensures { result ≡ fold_in (rows_found found.now) }
 {

@@ -40,6 +40,7 @@ pub(crate) fn make_table_command<'a>(alloc: Global) -> Result<Command<'a>, Alloc
 }
 
 /// A command with `SIDE MASK` behind what it has.
+#[tactic(auto, using(crate::proofs::ArgumentLemmas::has_rule))]
 fn with_pattern<'a>(alloc: Global, command: Command<'a>) -> Result<Command<'a>, AllocError>
     ensures { IfOk result (λ c.
         app_of c ≡ with_rule (with_rule (app_of command.entry) needed_side) needed_mask) }

@@ -21,6 +21,7 @@ fn workers_flag<'a>(alloc: Global) -> Arg<'a>
 }
 
 /// A command with the flag.
+#[tactic(auto, using(crate::proofs::ArgumentLemmas::has_rule))]
 pub(crate) fn with_workers<'a>(
     alloc: Global,
     command: Command<'a>,

@@ -1,21 +1,21 @@
 -- Which flags stand in words that parse.
 use Rattle.std.proofs.Common.{◌≡◌, ◌≢◌, ◌⊎◌, ◌∙◌, inl, inr, refl, sym, subst, ℕ, Bool, not, true, false, List, [], ◌∷◌, ◌++◌, Option, Some, None, codes}
 use Rattle.std.specs.Bool.{⊤}
-use Rattle.std.specs.List.{All, AllByRecursion, find, list_all}
+use Rattle.std.specs.List.{All, find, list_all}
 use Rattle.std.specs.Str.{bytes_eq}
 use Rattle.std.proofs.lemmas.List.Elements.{All-head, All-tail}
-use Rattle.clap.specs.Faults.{level_fault, long_fault, turn_fault, walk_fault, word_fault}
+use Rattle.clap.specs.Faults.{long_fault, turn_fault, walk_fault, word_fault}
 use Rattle.clap.specs.Lexer.{long_of, short_of}
 use Rattle.clap.specs.Simple.{Shape, filled, help_rule}
-use Rattle.clap.specs.Walk.{Held, Outcome, Rule, Step, Text, Waiting, Walk, after_flag, after_step, arg_by_index, arg_by_long, done, idle, long_or_other, next, nothing_held, option, plain, plain_word, positional, refused, short_or_plain, subcommand, subcommand_met, to_positional, trailing, value, waits, walk_from, walked, walked_from, word_met}
+use Rattle.clap.specs.Walk.{Held, Outcome, Rule, Step, Text, Waiting, Walk, after_flag, after_step, arg_by_index, arg_by_long, done, idle, long_or_other, next, nothing_held, option, plain_word, short_or_plain, subcommand, subcommand_met, to_positional, trailing, value, waits, walk_from, walked, walked_from, word_met}
 use Rattle.clap.proofs.SimpleLemmas.{is_false}
 use Rattle.clap.proofs.WalkLemmas.{both}
 use Rattle.clap.specs.declared.error.kind.ErrorKind.TheVariants as kind
 use Rattle.pdb_words.specs.CommandLine.{Parses}
-use Rattle.pdb_words.specs.Commands.{IsCommand, IsOneOf, commands, shared_commands}
-use Rattle.pdb_words.proofs.CommandLemmas.{faults_behind, leaf}
+use Rattle.pdb_words.specs.Commands.{IsCommand, IsOneOf, shared_commands}
+use Rattle.pdb_words.proofs.CommandLemmas.{each_command, faults_behind, leaf}
 use Rattle.pdb_words.proofs.KindLemmas.{IsFault, first_fault, later_fault, one_fault, same_fault}
-use Rattle.pdb_words.proofs.TextLemmas.{differs, each_holds, same_text}
+use Rattle.pdb_words.proofs.TextLemmas.{differs, same_text}
 use Rattle.word_laws.specs.Flags.{IsLongFlag, TakesFlag, log_commands}
 
 -- ---- a walk goes on, behind each word but `--`
@@ -28,15 +28,13 @@ GoesOn value = ⊤
 
 module _ (c : List Rule) (word : Text) where
   plain_goes_on : (waiting : Waiting) (h : Held) → GoesOn (plain_word c waiting word h).1
-  plain_goes_on idle h = tt
   plain_goes_on (option id) h = tt
-  plain_goes_on positional h = tt
+  plain_goes_on waiting h = tt
 
   flag_goes_on : (waiting : Waiting) (h : Held) (outcome : Outcome) → GoesOn (after_flag c waiting word h outcome).1
   flag_goes_on waiting h done = tt
   flag_goes_on waiting h (waits id) = tt
-  flag_goes_on waiting h plain = plain_goes_on waiting h
-  flag_goes_on waiting h refused = plain_goes_on waiting h
+  flag_goes_on waiting h outcome = plain_goes_on waiting h
 
   short_goes_on : (waiting : Waiting) (flags : Option Text) (h : Held) → GoesOn (short_or_plain c waiting word flags h).1
   short_goes_on waiting (Some flags) h = flag_goes_on waiting _ _
@@ -48,8 +46,7 @@ module _ (c : List Rule) (word : Text) where
 
   no_subcommand : (waiting : Waiting) → subcommand_met [] waiting word ≡ None
   no_subcommand idle = refl
-  no_subcommand (option id) = refl
-  no_subcommand positional = refl
+  no_subcommand waiting = refl
 
   word_goes_on : (waiting : Waiting) (place : ℕ) (h : Held) → bytes_eq word (codes "--") ≡ false → GoesOn (word_met c [] false waiting place word h).1
   word_goes_on waiting place h apart = rw (no_subcommand waiting, apart) (long_goes_on waiting (long_of word) h)
@@ -103,10 +100,6 @@ module _ (s : Shape) (no_trailing : HasNoTrailing s.rules) where
   walk_wrong w (word ∷ before) flag name v after going all is faults =
       later_fault _ _ (walk_wrong (walked s.rules [] w word) before flag name v after (walked_going w word going (All-head (λ word. word ≢ codes "--") word before all)) (All-tail (λ word. word ≢ codes "--") word before all) is faults)
 
-  level_wrong : (before : List Text) (flag name : Text) (v : Option Text) (after : List Text) → All (λ word. word ≢ codes "--") before → long_of flag ≡ Some (name, v)
-      → ((h : Held) → IsFault (long_fault s.rules s.args_override_self (arg_by_long s.rules name) v h)) → IsFault (level_fault s [] nothing_held (before ++ flag ∷ after) false [])
-  level_wrong before flag name v after all is faults = first_fault _ _ (walk_wrong (walk_from nothing_held) before flag name v after (record { flags = refl; going = refl }) all is faults)
-
 -- ---- the commands of the program
 
 -- the flag `--help`, as it is built
@@ -153,30 +146,25 @@ solve_knows : KnowsItsFlags (codes "solve")
 solve_knows = folds_tables (codes "solve") (inr (inr (inr (inr (inl refl))))) (inr (inr (inl refl)))
     (λ name e f. by_name _ (codes "budget") name (λ same. inr (inr (inr (refl, same)))) (λ b. inl (rw (e, f, b) refl)))
 
-all_know : AllByRecursion KnowsItsFlags commands
-all_know = (
-  λ name. inl refl,
-  (
-    table_knows,
-    (
-      folds_tables (codes "bound") (inr (inl refl)) (inl refl) (λ name e f. inl (rw (e, f) refl)),
-      (folds_tables (codes "optimal") (inr (inr (inl refl))) (inr (inl refl)) (λ name e f. inl (rw (e, f) refl)), (make_table_knows, (solve_knows, tt))),
-    ),
-  ),
-)
+all_know : (command : Text) → IsCommand command → KnowsItsFlags command
+all_know = each_command KnowsItsFlags (λ name. inl refl) table_knows
+    (folds_tables (codes "bound") (inr (inl refl)) (inl refl) (λ name e f. inl (rw (e, f) refl)))
+    (folds_tables (codes "optimal") (inr (inr (inl refl))) (inr (inl refl)) (λ name e f. inl (rw (e, f) refl)))
+    make_table_knows solve_knows
 
-all_without_trailing : AllByRecursion (λ command. HasNoTrailing (leaf command).rules) commands
-all_without_trailing = (refl, (refl, (refl, (refl, (refl, (refl, tt))))))
+none_trailing : (command : Text) → IsCommand command → HasNoTrailing (leaf command).rules
+none_trailing = each_command (λ command. HasNoTrailing (leaf command).rules) refl refl refl refl refl refl
 
 -- behind a command's name, and no `--`, there are no flags but these
 pub flags_known : (command name flag : Text) (before after : List Text) → IsCommand command → All (λ word. word ≢ codes "--") before → IsLongFlag name flag
     → Parses (command ∷ before ++ flag ∷ after) → TakesFlag command name
-flags_known command name flag before after is all is_flag parses = elim (each_holds KnowsItsFlags commands all_know command is name) [
+flags_known command name flag before after is all is_flag parses = elim (all_know command is name) [
   | inr taken ↦ taken
   | inl help ↦
       let s = leaf command in
       let wrong : (h : Held) → IsFault (long_fault s.rules s.args_override_self (arg_by_long s.rules name) is_flag.0 h) =
       λ h. subst (λ (found : Option Rule). IsFault (long_fault s.rules s.args_override_self found is_flag.0 h)) (sym help) (help_wrong s.args_override_self s.rules name is_flag.0 h) in
-      let no_trailing = each_holds (λ command. HasNoTrailing (leaf command).rules) commands all_without_trailing command is in
-      absurd (same_fault _ _ (faults_behind command is (before ++ flag ∷ after)) (first_fault _ [] (level_wrong s no_trailing before flag name is_flag.0 after all is_flag.1 wrong)) parses)
+      let behind : IsFault (walk_fault s [] (walk_from nothing_held) (before ++ flag ∷ after)) =
+      walk_wrong s (none_trailing command is) (walk_from nothing_held) before flag name is_flag.0 after (record { flags = refl; going = refl }) all is_flag.1 wrong in
+      absurd (same_fault _ _ (faults_behind command is (before ++ flag ∷ after)) (first_fault _ [] (first_fault _ _ behind)) parses)
 ]

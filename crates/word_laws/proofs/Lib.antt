@@ -1,8 +1,7 @@
 mod FlagLemmas
+mod GivenLemmas
 mod LogLemmas
-mod LogWalkLemmas
 mod MakeTableLemmas
 mod NumberLemmas
 mod TablesLemmas
 mod WalkLemmas
-mod WorkersLemmas
