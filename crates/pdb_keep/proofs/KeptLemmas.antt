@@ -4,7 +4,6 @@ use Rattle.std.specs.Io.KnownBytes.{Appends}
 use Rattle.puz_board.specs.BoardTexts.{Spells}
 use Rattle.puz_board.specs.MovesTexts.{Solves}
 use Rattle.byte_io.specs.Shelf.{Bytes}
-use Rattle.pdb_request.specs.declared.requests.Claim.TheVariants.{Optimum}
 use Rattle.pdb_run.specs.Writing.{reply_text}
 use Rattle.pdb_run.specs.Commands.{Reply}
 use Rattle.pdb_run.specs.Inputs.{AreRead}
@@ -12,12 +11,11 @@ use Rattle.pdb_run.specs.Runs.{Ends, World, kept, status_of_reply, with_kept}
 use Rattle.pdb_run.specs.declared.statuses.Status.TheVariants.{Yes, Refused}
 use Rattle.pdb_run.proofs.AnswerLemmas.{IsAnswered-ends}
 use Rattle.pdb_verdict.specs.Inputs.{log_files}
-use Rattle.pdb_verdict.specs.Optimal.{IsProvedOptimum}
 use Rattle.pdb_verdict.specs.Table.{IsExactFor, IsTableResult, exact_verdict}
 use Rattle.pdb_verdict.specs.declared.verdicts.Fault.TheVariants as fault
 use Rattle.pdb_verdict.specs.declared.verdicts.Verdict.{Verdict}
 use Rattle.pdb_verdict.specs.declared.verdicts.Verdict.TheVariants as verdict
-use Rattle.pdb_verdict.proofs.ClaimLemmas.{IsClaimResult-proved, proved_least}
+use Rattle.pdb_verdict.proofs.ClaimLemmas.{proved_least}
 use Rattle.pdb_verdict.proofs.RefusalLemmas.{told_yes}
 use Rattle.pdb_keep.specs.Kept.{IsLogKept, IsTableKept}
 use Rattle.pdb_keep.specs.MakeTable.{Build, IsBuildFor, SpeaksOf, built, make_table_plan, reply_to_build, unbuilt}
@@ -37,7 +35,7 @@ module _ (side mask : ℕ) (out : Bytes) (old new : World) where
   exact_kept (unbuilt refused) is says_yes files lines = absurd (let clash : false ≡ true = says_yes in cc)
   exact_kept (built file (Err refused)) is says_yes files lines = absurd (let clash : false ≡ true = says_yes in cc)
   exact_kept (built file (Ok v)) is says_yes files lines =
-      let yes = told_yes exact_verdict fault.Table (IsTableResult file) v is.is_result in
+      let yes = (told_yes exact_verdict fault.Table (IsTableResult file) v).0 is.is_result in
       let census = yes.0.2 in
       let speaks : SpeaksOf side mask (Ok (exact_verdict yes.0)) = subst (λ (w : Verdict). SpeaksOf side mask (Ok w)) yes.2 is.own in
       let own : v ≡ verdict.Exact side mask census = yes.2 ∙ (λ i. verdict.Exact (speaks.0 i) (speaks.1 i) census) in
@@ -70,8 +68,7 @@ module _ (fold : Bool) (text sets out : Bytes) (tables : List Bytes) (old new : 
   good_kept board_text set_text files read (unmade refused) is says_yes kept_file lines = absurd (let clash : false ≡ true = says_yes in cc)
   good_kept board_text set_text files read (searched moves log (Err refused)) is says_yes kept_file lines = absurd (let clash : false ≡ true = says_yes in cc)
   good_kept board_text set_text files read (searched moves log (Ok n)) is says_yes kept_file lines =
-      let proved : IsProvedOptimum fold (log_files (puzzle_of board_text moves) set_text log files) n =
-      (IsClaimResult-proved Optimum fold (log_files (puzzle_of board_text moves) set_text log files) n).0 is.is_result in
+      let proved = is.is_result in
       let parts = solved-moves board_text moves is.could.board n proved.solved is.could.spelt in
       record {
         moves = moves;
@@ -85,7 +82,7 @@ module _ (fold : Bool) (text sets out : Bytes) (tables : List Bytes) (old new : 
           board = proved.solved.board;
           spelt = subst (λ (t : Bytes). Spells t proved.solved.board) parts.0 proved.solved.spelt;
           solved = subst (λ (t : Bytes). Solves proved.solved.board t n) parts.1 proved.solved.solved;
-          proved = proved.proved;
+          proved = proved.found_for;
           least = proved_least fold (log_files (puzzle_of board_text moves) set_text log files) n proved;
         };
         kept = kept_file;

@@ -14,7 +14,7 @@ use Rattle.pdb_run.specs.Runs.{Ends, World, status_of_reply}
 use Rattle.pdb_run.specs.declared.statuses.Status.{Status}
 use Rattle.pdb_run.specs.declared.statuses.Status.TheVariants.{Yes, Refused}
 use Rattle.pdb_run.proofs.AnswerLemmas.{IsAnswered-ends}
-use Rattle.pdb_verdict.specs.Bound.{IsBoundOfText}
+use Rattle.pdb_verdict.specs.Bound.{IsFoundForText}
 use Rattle.pdb_verdict.specs.Inputs.{LogFiles, files_in_order, log_claim, log_files}
 use Rattle.pdb_verdict.specs.Limits.{a_table}
 use Rattle.pdb_verdict.specs.Lines.{reply_to}
@@ -91,7 +91,7 @@ module _ (fold : Bool) (text sets out : Bytes) (tables : List Bytes) (before : F
       let claim = log_claim Bound fold files in
       let same = same_files is.0 (subst (AreRead later.files later.reader (log_check_inputs text sets out tables)) is.1 read) in
       let tells : TellsResult claim reply = subst (λ (read : LogFiles). TellsResult (log_claim Bound fold read) reply) same is.2 in
-      let is_bound : IsBoundOfText fold files kept.n = record { board = f.board; spelt = f.spelt; proved = f.proved } in
+      let is_bound : IsFoundForText fold files (Ok kept.n) = record { board = f.board; spelt = f.spelt; found_for = f.proved } in
       let proved = (IsResult-true claim (verdict.Bound kept.n)).1 (kept.n, is_bound, refl) in
       tells.told ∙ ap (reply_to claim) (IsResult-one claim tells.answer (Ok (verdict.Bound kept.n)) tells.is_result proved)
 

@@ -11,16 +11,16 @@ use Rattle.puz_board.specs.declared.moves.Move.TheVariants.{Up, Down, Left, Righ
 use Rattle.set_sum.specs.Bundles.{BundleView}
 use Rattle.byte_io.specs.Shelf.{Bytes}
 use Rattle.pdb_request.specs.Asked.{file_names}
-use Rattle.pdb_request.specs.declared.requests.Claim.TheVariants.{Bound, Optimum}
 use Rattle.pdb_request.specs.declared.requests.Search.{Search}
 use Rattle.pdb_run.specs.Commands.{Plan, Reply, Wanted, plan_under}
+use Rattle.pdb_verdict.specs.Bound.{TakesMemoryForBound}
 use Rattle.pdb_verdict.specs.Bundles.{AreRefused, IsBundleOfFiles}
-use Rattle.pdb_verdict.specs.Claims.{IsClaimResult, TakesMemoryForClaim}
 use Rattle.pdb_verdict.specs.Inputs.{log_files}
 use Rattle.pdb_verdict.specs.Limits.{a_table, a_text}
 use Rattle.pdb_verdict.specs.Lines.{counted, line_of_fault}
-use Rattle.pdb_verdict.specs.Refusals.{fault_of_claim, fault_of_search}
-use Rattle.pdb_verdict.specs.declared.refusals.ClaimRefusal.{ClaimRefusal}
+use Rattle.pdb_verdict.specs.Optimal.{IsOptimumResult}
+use Rattle.pdb_verdict.specs.Refusals.{fault_of_optimum, fault_of_search}
+use Rattle.pdb_verdict.specs.declared.refusals.OptimumRefusal.{OptimumRefusal}
 use Rattle.pdb_verdict.specs.declared.refusals.SearchRefusal.{SearchRefusal}
 use Rattle.pdb_verdict.specs.declared.refusals.SearchRefusal.TheVariants.{Board, Unmade}
 use Rattle.pdb_verdict.specs.declared.refusals.UnmadeRefusal.{UnmadeRefusal}
@@ -71,9 +71,9 @@ abbrev pub puzzle_of : Bytes → Bytes → Bytes
 puzzle_of text moves = text ++ 59 ∷ moves
 
 -- a search could begin, and the answer is the result on its moves and its log
-pub record IsMade (fold : Bool) (text sets : Bytes) (tables : List Bytes) (moves log : Bytes) (answer : Result ℕ ClaimRefusal) : Type 0 where
+pub record IsMade (fold : Bool) (text sets : Bytes) (tables : List Bytes) (moves log : Bytes) (answer : Result ℕ OptimumRefusal) : Type 0 where
   pub could : IsSearchable fold text sets tables
-  pub is_result : IsClaimResult Optimum fold (log_files (puzzle_of text moves) sets log tables) answer
+  pub is_result : IsOptimumResult fold (log_files (puzzle_of text moves) sets log tables) answer
 
 -- ---- what is told of it
 
@@ -94,14 +94,14 @@ moves_line [] = codes "moves\n"
 moves_line (letter ∷ letters) = codes "moves " ++ (letter ∷ letters ++ codes "\n")
 
 -- of an optimum the moves come before its line
-abbrev pub lines_on : Bytes → Result ℕ ClaimRefusal → Bytes
+abbrev pub lines_on : Bytes → Result ℕ OptimumRefusal → Bytes
 lines_on moves (Ok n) = moves_line (letters_of moves) ++ counted (codes "optimal ") n
-lines_on moves (Err refused) = line_of_fault (fault_of_claim refused)
+lines_on moves (Err refused) = line_of_fault (fault_of_optimum refused)
 
 -- what comes of a search: a refusal, or moves, a log, and the result on them
 pub data SearchOutcome : Type 0 where
   unmade : SearchRefusal → SearchOutcome
-  searched : Bytes → Bytes → Result ℕ ClaimRefusal → SearchOutcome
+  searched : Bytes → Bytes → Result ℕ OptimumRefusal → SearchOutcome
 
 -- on this board text, this set text and these table files
 abbrev pub IsSearchOf : Bool → Bytes → Bytes → List Bytes → SearchOutcome → Type 0
@@ -133,7 +133,7 @@ IsSolveReply fold inputs reply =
 -- it takes memory to check the tables of a board that is spelt, and so to search over them
 abbrev pub SolveTakesMemory : List Bytes → Type 0
 SolveTakesMemory inputs =
-    (text : Bytes) × (sets : Bytes) × (tables : List Bytes) × (inputs ≡ text ∷ sets ∷ tables) × TakesMemoryForClaim Bound text tables
+    (text : Bytes) × (sets : Bytes) × (tables : List Bytes) × (inputs ≡ text ∷ sets ∷ tables) × TakesMemoryForBound text tables
 
 -- for any budget and any number of workers
 abbrev pub solve_plan : Bool → Bytes → Bytes → Bytes → List Bytes → Plan

@@ -1,35 +1,29 @@
 -- What the steps of a maker's command answer: a result, or want of memory in its place.
 use Rattle.std.specs.Prelude.{◌≡◌, ℕ, Bool, List, ◌∷◌, Result, IfOk, length}
 use Rattle.std.specs.declared.alloc.AllocError.{AllocError}
-use Rattle.set_sum.specs.Bundles.{BundleView}
 use Rattle.byte_io.specs.Shelf.{Bytes}
-use Rattle.pdb_request.specs.declared.requests.Claim.TheVariants.{Bound, Optimum}
 use Rattle.pdb_run.specs.Answers.{IsAnswerBy, all_bytes}
 use Rattle.pdb_run.specs.declared.answers.Answer.{Answer}
-use Rattle.pdb_verdict.specs.Claims.{IsClaimOver, TakesMemoryForClaim, start_of}
-use Rattle.pdb_verdict.specs.Refusals.{IsCauseBy, or_memory}
+use Rattle.pdb_verdict.specs.Bound.{TakesMemoryForBound}
+use Rattle.pdb_verdict.specs.Refusals.{IsCauseBy}
 use Rattle.pdb_verdict.specs.declared.refusals.BuildRefusal.{BuildRefusal}
-use Rattle.pdb_verdict.specs.declared.refusals.ClaimRefusal.{ClaimRefusal}
 use Rattle.pdb_verdict.specs.declared.refusals.Failure.{Failure}
 use Rattle.pdb_verdict.specs.declared.refusals.Failure.TheVariants.{Memory, Refused}
+use Rattle.pdb_verdict.specs.declared.refusals.OptimumRefusal.{OptimumRefusal}
 use Rattle.pdb_verdict.specs.declared.refusals.SearchRefusal.{SearchRefusal}
 use Rattle.pdb_verdict.specs.declared.refusals.SearchRefusal.TheVariants.{Unmade}
 use Rattle.pdb_verdict.specs.declared.refusals.UnmadeRefusal.{UnmadeRefusal}
 use Rattle.pdb_keep.specs.MakeTable.{ArePattern, IsUnbuilt}
-use Rattle.pdb_keep.specs.Solve.{IsUnmade, TellsSearch, letters_of, puzzle_of}
+use Rattle.pdb_keep.specs.Solve.{IsUnmade, TellsSearch, letters_of}
 use Rattle.pdb_keep.specs.declared.search_inputs.SearchInputs.{SearchInputs}
 
 -- why a maker of a table builds none, or want of memory, which comes of patterns alone
 abbrev pub IsCauseForBuild : ℕ → ℕ → Failure BuildRefusal → Type 0
 IsCauseForBuild side mask cause = IsCauseBy (IsUnbuilt side mask) (ArePattern side mask) cause
 
--- the result on the moves and the log of a search over a bundle
-abbrev pub IsMadeOver : BundleView → Bytes → Bytes → Bytes → Result ℕ ClaimRefusal → Type 0
-IsMadeOver bundle text moves log answer = IsClaimOver bundle (start_of Optimum (puzzle_of text moves)) log (or_memory answer)
-
 -- why a search makes no log, or want of memory, which comes where the check of the tables takes some
 abbrev pub IsCauseForSearch : Bool → Bytes → Bytes → List Bytes → Failure SearchRefusal → Type 0
-IsCauseForSearch fold text sets tables cause = IsCauseBy (IsUnmade fold text sets tables) (TakesMemoryForClaim Bound text tables) cause
+IsCauseForSearch fold text sets tables cause = IsCauseBy (IsUnmade fold text sets tables) (TakesMemoryForBound text tables) cause
 
 -- no log for a board, as what comes of a search
 abbrev pub unmade_for : {R : Type 0} → (R → UnmadeRefusal) → Failure R → Failure SearchRefusal
@@ -37,7 +31,7 @@ unmade_for why (Refused refused) = Refused (Unmade (why refused))
 unmade_for why Memory = Memory
 
 -- an optimum is the number of these moves
-abbrev pub HasItsMoves : Bytes → Result ℕ ClaimRefusal → Type 0
+abbrev pub HasItsMoves : Bytes → Result ℕ OptimumRefusal → Type 0
 HasItsMoves moves answer = IfOk answer (λ n. length (letters_of moves) ≡ n)
 
 -- the files that were read for a search, in order
@@ -49,4 +43,4 @@ abbrev pub IsSearchAnswer : Bool → SearchInputs → Result Answer AllocError �
 IsSearchAnswer fold files answer =
     let text = files.text.items in
     let tables = all_bytes files.tables.items in
-    IsAnswerBy (TellsSearch fold text files.sets.items tables) (TakesMemoryForClaim Bound text tables) answer
+    IsAnswerBy (TellsSearch fold text files.sets.items tables) (TakesMemoryForBound text tables) answer

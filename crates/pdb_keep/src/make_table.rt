@@ -13,7 +13,7 @@ use pdb_run::{
     Answer, Command, Digested, Digests, Input, Io, Status, keep_and_conclude, read_inputs_and_try,
 };
 use pdb_verdict::{
-    BuildRefusal, Failure, Fault, Inputs, Verdict, fault_of_build, line_of, verify_beside,
+    BuildRefusal, Failure, Fault, Inputs, Verdict, fault_of_build, line_of, settled, verify_beside,
 };
 use puz_board::Side;
 use puz_make::{MakeFault, build};
@@ -114,19 +114,17 @@ fn build_table<H: Threads + Wait + Sync, G: Gate + Sync>(
     };
     let table = file.as_slice();
     let (digest, answer) = verify_beside(&Inputs::Table { table }, workers);
-    match answer {
-        Err(Fault::Memory) => Err(Failure::Memory),
-        _ => {
-            if speaks_of(&answer, side, mask) {
-                Ok(Built {
-                    file,
-                    digest,
-                    answer,
-                })
-            } else {
-                Err(Failure::Refused(BuildRefusal::K4))
-            }
-        }
+    let Ok(answer) = settled(answer) else {
+        return Err(Failure::Memory);
+    };
+    if speaks_of(&answer, side, mask) {
+        Ok(Built {
+            file,
+            digest,
+            answer,
+        })
+    } else {
+        Err(Failure::Refused(BuildRefusal::K4))
     }
 }
 

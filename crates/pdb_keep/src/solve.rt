@@ -3,14 +3,16 @@
 ghost use Rattle.std.specs.Prelude.{◌≡◌, ◌≤◌, ◌∷◌, Bool, true, List, ℕ, [], length, option_map, IfErr, IfOk, IfSome, MatchResult};
 ghost use Rattle.puz_board.specs.BoardTexts.{Spells};
 ghost use Rattle.puz_board.specs.Boards.{side_of};
-ghost use Rattle.pdb_request.specs.declared.requests.Claim.TheVariants.{Bound, Optimum};
 ghost use Rattle.pdb_run.specs.Writing.{digests_of};
 ghost use Rattle.pdb_run.specs.Answers.{IsAnswerBy, IsReplyOf, all_bytes, digest_lines};
 ghost use Rattle.pdb_run.specs.Runs.{Ends};
+ghost use Rattle.pdb_verdict.specs.Bound.{TakesMemoryForBound};
 ghost use Rattle.pdb_verdict.specs.Bundles.{IsBundleOfFiles, IsCauseForBundle};
-ghost use Rattle.pdb_verdict.specs.Claims.{IsClaimOver, TakesMemoryForClaim, start_of};
+ghost use Rattle.pdb_verdict.specs.Inputs.{log_files};
+ghost use Rattle.pdb_verdict.specs.Optimal.{IsOptimumResult, TakesMemoryForOptimum};
+ghost use Rattle.pdb_verdict.specs.Refusals.{IsFoundBy};
 ghost use Rattle.pdb_keep.specs.Solve.{IsMade, TellsSearch, plan_of_search, puzzle_of, reply_to_search, searched, unmade};
-ghost use Rattle.pdb_keep.specs.Steps.{HasItsMoves, IsCauseForSearch, IsMadeOver, IsSearchAnswer, unmade_for};
+ghost use Rattle.pdb_keep.specs.Steps.{HasItsMoves, IsCauseForSearch, IsSearchAnswer, unmade_for};
 ghost use Rattle.pdb_verdict.specs.declared.refusals.UnmadeRefusal.TheVariants as unmade_refusal;
 
 use crate::search_inputs::{SearchInputs, Searching};
@@ -21,8 +23,8 @@ use pdb_run::{
     read_inputs_and_try,
 };
 use pdb_verdict::{
-    BundleRefusal, ClaimRefusal, Failure, GivenUp, SearchRefusal, Tables, UnmadeRefusal,
-    fault_of_search, fold_bundle, line_of, optimum_over, read_bundle,
+    BundleRefusal, Failure, GivenUp, OptimumRefusal, SearchRefusal, Tables, UnmadeRefusal,
+    fault_of_search, fold_bundle, line_of, optimum_over, read_bundle, settled,
 };
 use puz_board::Board;
 use puz_make::{Found, MakeFault, solve};
@@ -134,7 +136,7 @@ fn answer_of<'i>(
         (λ made. IsMade fold text sets tables made.moves.items made.log.items made.answer)
         (IsCauseForSearch fold text sets tables)
         → IsAnswerBy (TellsSearch fold text sets tables)
-        (TakesMemoryForClaim Bound text tables) result }
+        (TakesMemoryForBound text tables) result }
 {
     match outcome {
         Ok(made) => Ok(answer_on(digested, made)),
@@ -179,7 +181,7 @@ struct Made {
     moves: Vec<u8>,
     log: Vec<u8>,
     digest: Option<Digests>,
-    answer: Result<u8, ClaimRefusal>,
+    answer: Result<u8, OptimumRefusal>,
     ghost digested: { option_map (λ d. d.items) digest
         ≡ option_map (λ _. digests_of (log.items ∷ [])) digest },
 }
@@ -294,8 +296,10 @@ fn search_over<H: Threads + Wait + Sync, G: Gate + Sync>(
     workers: &Workers<'_, H, G>,
 ) -> Result<Made, Failure<GivenUp>>
     requires { side_of board.now ≡ bundle.now.side }
-    ensures { IfOk result
-        (λ made. IsMadeOver bundle.now text.now made.moves.items made.log.items made.answer) }
+    ensures { (fold : Bool) (sets : List ℕ) (tables : List (List ℕ))
+        → IsBundleOfFiles fold tables sets bundle.now → IfOk result (λ made.
+        let puzzle = puzzle_of text.now made.moves.items in
+        IsOptimumResult fold (log_files puzzle sets made.log.items tables) made.answer) }
 {
     let found = find(workers.alloc, bundle, board, budget)?;
     let Ok(puzzle) = join(workers.alloc, text, found.moves.as_slice()) else {
@@ -303,10 +307,8 @@ fn search_over<H: Threads + Wait + Sync, G: Gate + Sync>(
     };
     let (moves, log) = (found.moves, found.log);
     let (digest, answer) = log_beside(bundle, puzzle.as_slice(), log.as_slice(), workers);
-    let answer = match answer {
-        Ok(count) => Ok(count),
-        Err(Failure::Refused(refused)) => Err(refused),
-        Err(Failure::Memory) => return Err(Failure::Memory),
+    let Ok(answer) = settled(answer) else {
+        return Err(Failure::Memory);
     };
     Ok(Made {
         moves,
@@ -322,14 +324,18 @@ fn log_beside<H: Threads + Wait + Sync, G: Gate + Sync>(
     puzzle: &[u8],
     log: &[u8],
     workers: &Workers<'_, H, G>,
-) -> (Option<Digests>, Result<u8, Failure<ClaimRefusal>>)
+) -> (Option<Digests>, Result<u8, Failure<OptimumRefusal>>)
     ensures digest { IfSome result.0 (λ digest. digest.items ≡ digests_of (log.now ∷ [])) }
-    ensures answer { let start = start_of Optimum puzzle.now in
-        IsClaimOver bundle.now start log.now result.1 }
+    ensures answer { (fold : Bool) (sets : List ℕ) (tables : List (List ℕ))
+        → IsBundleOfFiles fold tables sets bundle.now
+        → IsFoundBy (IsOptimumResult fold (log_files puzzle.now sets log.now tables))
+        (TakesMemoryForOptimum puzzle.now tables) result.1 }
 {
-    let check = || -> Result<u8, Failure<ClaimRefusal>>
-        ensures { let start = start_of Optimum puzzle.entry.now in
-            IsClaimOver bundle.entry.now start log.entry.now result }
+    let check = || -> Result<u8, Failure<OptimumRefusal>>
+        ensures { (fold : Bool) (sets : List ℕ) (tables : List (List ℕ))
+            → IsBundleOfFiles fold tables sets bundle.entry.now → let p = puzzle.entry.now in
+            IsFoundBy (IsOptimumResult fold (log_files p sets log.entry.now tables))
+            (TakesMemoryForOptimum p tables) result }
     { optimum_over(bundle, puzzle, log, workers) };
     beside(workers.rt, workers.count, &[], Some(log), check)
 }

@@ -23,7 +23,7 @@ use Rattle.pdb_verdict.specs.Lines.{counted, digested_of, exact_line, line_of_ve
 use Rattle.pdb_verdict.specs.Plans.{IsCheckReply, log_check_inputs}
 use Rattle.pdb_verdict.specs.Verdicts.{HoldsOfSolutions, IsTrueOf}
 use Rattle.pdb_verdict.specs.declared.verdicts.Verdict.{Verdict}
-use Rattle.pdb_verdict.proofs.ToldLemmas.{told_no, told_yes}
+use Rattle.pdb_verdict.proofs.VerdictLemmas.{no_told, yes_told}
 use Rattle.pdb_keep.specs.Kept.{IsLogKept, IsTableKept}
 use Rattle.pdb_keep.specs.Laws.{told_moves}
 use Rattle.pdb_keep.specs.Solve.{letters_of, moves_line}
@@ -110,7 +110,7 @@ module _ (old new : World) (before after : Bytes → Option Bytes) (input start 
         → (v : Verdict) × AreRead old.files old.reader wanted (files_in_order (given_of is.0)) × IsTrueOf (given_of is.0) v × HoldsOfSolutions (given_of is.0) v
         × EndWith (line_of_verdict v) lines
     checked wanted given_of inputs read is is_yes =
-        let yes = told_yes (given_of is.0) reply is.2 is_yes in
+        let yes = yes_told (given_of is.0) reply is.2 is_yes in
         (yes.verdict, subst (AreRead old.files old.reader wanted) is.1 read, yes.is_true, yes.holds, last (given_of is.0) yes.verdict yes.told)
 
     -- a table that is told a no is not exact
@@ -118,7 +118,7 @@ module _ (old new : World) (before after : Bytes → Option Bytes) (input start 
         → (file : Bytes) × (before name ≡ Some file) × ((t : Table) → ¬ IsExactFile t file)
     not_exact name inputs read is is_no =
         let there = subst (AreRead old.files old.reader (a_table name ∷ [])) is.1 read in
-        (is.0, under name is.0 there.0.0, told_no is.0 reply is.2 is_no)
+        (is.0, under name is.0 there.0.0, no_told is.0 reply is.2 is_no)
 
   -- ---- commands that make
 
@@ -201,15 +201,11 @@ module _ (old new : World) (before after : Bytes → Option Bytes) (input start 
   module _ (asked : Asked) (number : ℕ) where
     yes_of : IsNumberOfStatus (IsAnswered (plan_of asked) old new) number → number ≡ 0 → HasKept asked old new → HoldsOfYes asked before after input lines
     yes_of (Yes, e, answered) zero kept = yes_by asked answered kept
-    yes_of (Refused, e, answered) zero kept = absurd (omega arith)
-    yes_of (Fault, e, answered) zero kept = absurd (omega arith)
-    yes_of (NoMemory, e, answered) zero kept = absurd (omega arith)
+    yes_of (_, e, answered) zero kept = absurd (omega arith)
 
     no_of : IsNumberOfStatus (IsAnswered (plan_of asked) old new) number → number ≡ 1 → IsAnswered (plan_of asked) old new Refused
-    no_of (Yes, e, answered) one = absurd (omega arith)
     no_of (Refused, e, answered) one = answered
-    no_of (Fault, e, answered) one = absurd (omega arith)
-    no_of (NoMemory, e, answered) one = absurd (omega arith)
+    no_of (_, e, answered) one = absurd (omega arith)
 
     -- the sentence follows from what is answered with 0 or 1, from what is kept with 0, and from what the numbers are
     pub headline_from : ((number ≡ 0) ⊎ (number ≡ 1) → IsNumberOfStatus (IsAnswered (plan_of asked) old new) number) → (number ≡ 0 → HasKept asked old new) → number ≤ 3
@@ -223,9 +219,7 @@ module _ (old new : World) (before after : Bytes → Option Bytes) (input start 
 -- a run ends with a number up to 3
 pub number_known : (number : ℕ) (status : Status) → number ≡ status_number status → number ≤ 3
 number_known number Yes e = omega arith
-number_known number Refused e = omega arith
-number_known number Fault e = omega arith
-number_known number NoMemory e = omega arith
+number_known number _ e = omega arith
 
 -- ---- a run on words, over what tells its bytes
 

@@ -1,10 +1,10 @@
 -- The numbers by which runs end.
-use Rattle.std.proofs.Common.{◌≡◌, ◌⊎◌, ◌∙◌, ◌≤◌, inl, inr, refl, sym, ap, subst, lit≤, arith, ℕ, List, [], Option, Some, None}
+use Rattle.std.proofs.Common.{◌≡◌, ◌⊎◌, ◌∙◌, ◌≤◌, inl, inr, refl, sym, ap, subst, arith, ℕ, List, [], Option, Some, None}
 use Rattle.std.specs.Io.KnownBytes.{Keeps}
 use Rattle.byte_io.specs.Shelf.{Bytes}
 use Rattle.pdb_request.specs.Asked.{Asked, log_check, make_table, replay, solve, table}
 use Rattle.pdb_run.specs.Commands.{Plan}
-use Rattle.pdb_run.specs.Runs.{Ends, HasCause, IsAnswered, LeavesFailure, LeavesFiles, LeavesReader, Outcome, Says, WantsMemory, World, kept, no_memory, replied, status_of, text_of, unkept, unread, unwritable, with_kept}
+use Rattle.pdb_run.specs.Runs.{Ends, HasCause, IsAnswered, LeavesFiles, Outcome, WantsMemory, World, kept, no_memory, replied, unkept, unread, unwritable, with_kept}
 use Rattle.pdb_run.specs.Statuses.{status_number}
 use Rattle.pdb_run.specs.declared.statuses.Status.{Status}
 use Rattle.pdb_run.specs.declared.statuses.Status.TheVariants.{Yes, Refused, Fault, NoMemory}
@@ -16,15 +16,12 @@ use Rattle.pdb_words.specs.Faults.{IsMistaken}
 use Rattle.pdb_program.specs.Programs.{AskToKeepNothing, HasKept, IsNumberOfStatus, RunsOn, plan_of, taking_memory}
 use Rattle.pdb_program.specs.Refusals.{Refuses}
 
-other : (n number : ℕ) → 2 ≤ n → number ≡ n → (number ≡ 0) ⊎ (number ≡ 1) → ⊥
-other n number big e is = elim is [ inl zero ↦ omega arith | inr one ↦ omega arith ]
-
 -- a run whose number is 0 or 1 is answered
 pub answered_by : (plan : Plan) (old new : World) (number : ℕ) (status : Status) → number ≡ status_number status → Ends plan old new status → (number ≡ 0) ⊎ (number ≡ 1) → IsNumberOfStatus (IsAnswered plan old new) number
 answered_by plan old new number Yes e ends is = (Yes, e, IsAnswered-ends plan old new Yes ends (inl refl))
 answered_by plan old new number Refused e ends is = (Refused, e, IsAnswered-ends plan old new Refused ends (inr refl))
-answered_by plan old new number Fault e ends is = absurd (other 2 number (lit≤ tt) e is)
-answered_by plan old new number NoMemory e ends is = absurd (other 3 number (lit≤ tt) e is)
+answered_by plan old new number _ e ends (inl zero) = absurd (omega arith)
+answered_by plan old new number _ e ends (inr one) = absurd (omega arith)
 
 -- ---- words that parse, where memory was refused
 
@@ -61,38 +58,33 @@ module _ (plan : Plan) (old new : World) (status : Status) where
   pub kept_nothing : plan.keeps_under ≡ None → Ends plan old new status → new.files ≡ old.files
   kept_nothing none ends = left ends.outcome none ends.cause ends.files
 
-  by_outcome : (outcome : Outcome) → HasCause plan old new.failed outcome → LeavesFiles plan old.files new.files outcome → LeavesFailure plan old.failed new.failed outcome
-      → LeavesReader plan old.reader new.reader outcome → Says (text_of outcome) (status_of outcome) old.written new.written status → Ends (taking_memory plan) old new status
-  by_outcome (replied inputs reply) cause files failure reader said =
-      record { outcome = replied inputs reply; cause = cause; files = files; failure = failure; reader = reader; said = said }
-  by_outcome (unread wanted why) cause files failure reader said =
-      record { outcome = unread wanted why; cause = cause; files = files; failure = failure; reader = reader; said = said }
-  by_outcome (unwritable name why) cause files failure reader said =
+  taking : (outcome : Outcome) → HasCause plan old new.failed outcome → HasCause (taking_memory plan) old new.failed outcome
+  taking (replied inputs reply) cause = cause
+  taking (unread wanted why) cause = cause
+  taking (unwritable name why) cause = record { under = cause.under; inputs = cause.inputs; read = cause.read; has_failed = cause.has_failed }
+  taking (unkept name why) cause =
       record {
-        outcome = unwritable name why;
-        cause = record { under = cause.under; inputs = cause.inputs; read = cause.read; has_failed = cause.has_failed };
-        files = files;
-        failure = failure;
-        reader = reader;
-        said = said;
+        under = cause.under;
+        inputs = cause.inputs;
+        reply = cause.reply;
+        right = cause.right;
+        file = cause.file;
+        is_kept = cause.is_kept;
+        has_failed = cause.has_failed;
       }
-  by_outcome (unkept name why) cause files failure reader said =
-      record {
-        outcome = unkept name why;
-        cause = record { under = cause.under; inputs = cause.inputs; reply = cause.reply; right = cause.right; file = cause.file; is_kept = cause.is_kept; has_failed = cause.has_failed };
-        files = files;
-        failure = failure;
-        reader = reader;
-        said = said;
-      }
-  by_outcome no_memory (inl listed) files failure reader said =
-      record { outcome = no_memory; cause = inl listed; files = files; failure = failure; reader = reader; said = said }
-  by_outcome no_memory (inr checked) files failure reader said =
-      record { outcome = no_memory; cause = inr (checked.0, checked.1, tt); files = files; failure = failure; reader = reader; said = said }
+  taking no_memory (inl listed) = inl listed
+  taking no_memory (inr checked) = inr (checked.0, checked.1, tt)
 
   -- a run that ends by a plan ends by that which may want memory at any time
   ends_taking : Ends plan old new status → Ends (taking_memory plan) old new status
-  ends_taking ends = by_outcome ends.outcome ends.cause ends.files ends.failure ends.reader ends.said
+  ends_taking ends = record {
+    outcome = ends.outcome;
+    cause = taking ends.outcome ends.cause;
+    files = ends.files;
+    failure = ends.failure;
+    reader = ends.reader;
+    said = ends.said;
+  }
 
   -- a yes or a no by that plan is one by the plan itself
   pub answers : IsAnswered (taking_memory plan) old new status → Ends plan old new status
@@ -122,15 +114,10 @@ yes_keeps (make_table side mask out workers) old new ends =
     table_kept side mask out old new (answers (make_table_plan side mask out) old new Yes (IsAnswered-ends (plan_of (make_table side mask out workers)) old new Yes ends (inl refl)))
 yes_keeps (solve board sets out tables workers fold budget) old new ends = log_kept fold board sets out tables old new ends
 
-not_both : (number : ℕ) → number ≡ 1 → number ≡ 0 → ⊥
-not_both number one zero = omega arith
-
 -- so a run whose number is 0 has kept what was asked for
 pub kept_by : (asked : Asked) (old new : World) (number : ℕ) (status : Status) → number ≡ status_number status → Ends (plan_of asked) old new status → number ≡ 0 → HasKept asked old new
 kept_by asked old new number Yes e ends is = yes_keeps asked old new ends
-kept_by asked old new number Refused e ends is = absurd (not_both number e is)
-kept_by asked old new number Fault e ends is = absurd (other 2 number (lit≤ tt) e (inl is))
-kept_by asked old new number NoMemory e ends is = absurd (other 3 number (lit≤ tt) e (inl is))
+kept_by asked old new number _ e ends is = absurd (omega arith)
 
 -- ---- a run on words
 

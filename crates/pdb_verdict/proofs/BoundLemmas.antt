@@ -1,29 +1,25 @@
 -- Table files, a set text and a log file have one result for a board, and a bound that they prove holds.
-use Rattle.std.proofs.Common.{◌≡◌, ◌∙◌, ℕ, Bool, zero, suc, ◌<◌, List, [], ◌∷◌, Some, Result, Ok, Err, ap, arith, inl, inr, refl, subst, sym, take}
-use Rattle.std.specs.Prelude.{slice_get}
-use Rattle.std.proofs.lemmas.Bool.{cases_order}
+use Rattle.std.proofs.Common.{◌≡◌, ◌∙◌, ℕ, Bool, List, Result, Ok, Err, inl, inr, refl, sym}
+use Rattle.std.specs.Prelude.{MatchResult}
 use Rattle.tab_file.specs.Tables.{Table}
-use Rattle.tab_rule.specs.TableFaults.{IsTableFaultOf}
-use Rattle.tab_rule.specs.ExactTables.{IsExactFile}
-use Rattle.tab_rule.specs.declared.tables.TableRefusal.{TableRefusal}
-use Rattle.tab_rule.proofs.OneResultLemmas.{IsTableFaultOf-one, exact_one, exact_or_fault}
 use Rattle.set_sum.specs.Bounds.{IsBounded}
 use Rattle.set_sum.specs.Bundles.{BundleView}
 use Rattle.set_sum.specs.Reading as reading
 use Rattle.set_sum.specs.declared.faults.SetFault.{SetFault}
 use Rattle.set_sum.proofs.AnswerLemmas.{bundle-no_fault, bundle-once, fault-once}
+use Rattle.set_sum.proofs.BundleLemmas.{is_bundle}
+use Rattle.set_sum.proofs.DecidedLemmas.{bundle_answer}
 use Rattle.log_check.specs.GoodLogs.{IsGoodFile}
 use Rattle.log_check.specs.LogFaults as log_fault
 use Rattle.log_check.specs.declared.faults.LogFault.{LogFault}
 use Rattle.log_check.specs.declared.faults.LogFault.TheVariants as log_failure
 use Rattle.log_check.specs.declared.faults.LogRefusal.{LogRefusal}
-use Rattle.set_sum.proofs.BundleLemmas.{is_bundle}
 use Rattle.log_check.proofs.GoodLemmas.{good_log_bounds}
-use Rattle.log_check.proofs.AnswerLemmas.{good_or_fault, one_bound, one_fault}
+use Rattle.log_check.proofs.AnswerLemmas.{check_answer, good_or_fault, one_bound, one_fault}
 use Rattle.byte_io.specs.Shelf.{Bytes}
-use Rattle.pdb_verdict.specs.Bound.{IsBoundFor, IsFoundOver, IsProvedBound, IsRefusedLog, of_log}
-use Rattle.pdb_verdict.specs.Bundles.{AreExactFiles, AreRefused, AreRefusedSets, IsBundleOfFiles, IsCauseForBundle, IsFirstRefused, parts_for}
-use Rattle.pdb_verdict.specs.Steps.{IsFoundFor, of_bundle}
+use Rattle.pdb_verdict.specs.Bound.{IsBoundFor, IsProvedBound}
+use Rattle.pdb_verdict.specs.Bundles.{IsBundleOfFiles, IsCauseForBundle, parts_for}
+use Rattle.pdb_verdict.specs.Steps.{IsFoundFor, IsFoundOver, of_bundle, of_log}
 use Rattle.pdb_verdict.specs.declared.refusals.BundleRefusal.{BundleRefusal}
 use Rattle.pdb_verdict.specs.declared.refusals.BundleRefusal.TheVariants as bundle
 use Rattle.pdb_verdict.specs.declared.refusals.Failure.{Failure}
@@ -31,114 +27,70 @@ use Rattle.pdb_verdict.specs.declared.refusals.Failure.TheVariants.{Memory, Refu
 use Rattle.pdb_verdict.specs.declared.refusals.FileRefusal.{FileRefusal}
 use Rattle.pdb_verdict.specs.declared.refusals.ProofRefusal.{ProofRefusal}
 use Rattle.pdb_verdict.specs.declared.refusals.ProofRefusal.TheVariants as proof
-use Rattle.pdb_verdict.proofs.BundleLemmas.{all_exact, bundle_taken}
+use Rattle.pdb_verdict.proofs.BundleLemmas.{AreTablesOf, AreTablesOf-one, all_exact, bundle_taken, tables_answer}
+use Rattle.pdb_verdict.proofs.RefusalLemmas.{Behind, IsOne, one_behind, one_result}
 
--- ---- tables
+-- ---- there is a result
 
--- files are those of one list of tables
-tables_one : (files : List Bytes) (ts us : List Table) → AreExactFiles ts files → AreExactFiles us files → ts ≡ us
-tables_one [] [] [] are also = refl
-tables_one [] [] (u ∷ us) are also = absurd also
-tables_one [] (t ∷ ts) us are also = absurd are
-tables_one (file ∷ files) [] us are also = absurd are
-tables_one (file ∷ files) (t ∷ ts) [] are also = absurd also
-tables_one (file ∷ files) (t ∷ ts) (u ∷ us) are also =
-    let first : t ≡ u = exact_one file t u are.0 also.0 in
-    let rest : ts ≡ us = tables_one files ts us are.1 also.1 in
-    λ i. first i ∷ rest i
-
--- none of the files of exact tables is refused
-exact_at : (files : List Bytes) (ts : List Table) (i : ℕ) (file : Bytes) (refused : TableRefusal) → AreExactFiles ts files → slice_get files i ≡ Some file
-    → ¬ IsTableFaultOf refused file
-exact_at [] ts i file refused are there stands = let e : _ = there in cc
-exact_at (f ∷ files) [] i file refused are there stands = are
-exact_at (f ∷ files) (t ∷ ts) zero file refused are there stands =
-    exact_or_fault file t refused (subst (IsExactFile t) (let e : Some f ≡ Some file = there in cc) are.0) stands
-exact_at (f ∷ files) (t ∷ ts) (suc i) file refused are there stands = exact_at files ts i file refused are.1 there stands
-
--- nor is one that stands before the first of the others
-exact_before : (files : List Bytes) (ts : List Table) (i j : ℕ) (file : Bytes) (refused : TableRefusal) → i < j → AreExactFiles ts (take j files)
-    → slice_get files i ≡ Some file → ¬ IsTableFaultOf refused file
-exact_before [] ts i j file refused low are there stands = let e : _ = there in cc
-exact_before (f ∷ files) ts i zero file refused low are there stands = omega arith
-exact_before (f ∷ files) [] i (suc j) file refused low are there stands = are
-exact_before (f ∷ files) (t ∷ ts) zero (suc j) file refused low are there stands =
-    exact_or_fault file t refused (subst (IsExactFile t) (let e : Some f ≡ Some file = there in cc) are.0) stands
-exact_before (f ∷ files) (t ∷ ts) (suc i) (suc j) file refused low are there stands = exact_before files ts i j file refused (omega arith) are.1 there stands
-
--- ---- what is found for a board
+-- a bound for a board, or why there is none
+pub found_some : (fold : Bool) (board : List ℕ) (sets log : Bytes) (files : List Bytes) → (found : Result ℕ ProofRefusal) × IsBoundFor fold board sets log files found
+found_some fold board sets log files = elim (tables_answer files) [
+  | inr first ↦ (Err (proof.Bundle (bundle.File (record { number = first.0; refusal = first.1 }))), first.2)
+  | inl are ↦ elim (bundle_answer (parts_for fold are.0) sets) [
+    | inr refused ↦ (Err (proof.Bundle (bundle.Sets refused.0)), record { tables = are.0; exact = are.1; fault = refused.1 })
+    | inl bundle ↦
+        let of_files : IsBundleOfFiles fold files sets bundle.0 = record { tables = are.0; exact = are.1; makes = bundle.1 } in
+        elim (check_answer bundle.0 (is_bundle (parts_for fold are.0) sets bundle.0 (all_exact fold are.0 files are.1) bundle.1) board log) [
+          | inl good ↦ (Ok good.0, record { bundle = bundle.0; is_bundle = of_files; good = good.1 })
+          | inr refused ↦ (Err (proof.Log refused.0), record { bundle = bundle.0; is_bundle = of_files; fault = refused.1 })
+        ]
+  ]
+]
 
 module _ (fold : Bool) (board : List ℕ) (sets log : Bytes) (files : List Bytes) where
-  first_refused_one : (f g : FileRefusal) → IsFirstRefused files f.number f.refusal → IsFirstRefused files g.number g.refusal → f ≡ g
-  first_refused_one f g is also = elim (cases_order f.number g.number) [
-    | inl same ↦
-        let there : Some is.file ≡ Some also.file = sym is.there ∙ ap (slice_get files) same ∙ also.there in
-        let file : is.file ≡ also.file = cc in
-        let why : f.refusal ≡ g.refusal = IsTableFaultOf-one also.file f.refusal g.refusal (subst (IsTableFaultOf f.refusal) file is.fault) also.fault in
-        λ k. record { number = same k; refusal = why k }
-    | inr rest ↦ elim rest [
-      | inl low ↦ absurd (exact_before files also.tables f.number g.number is.file f.refusal low also.before is.there is.fault)
-      | inr high ↦ absurd (exact_before files is.tables g.number f.number also.file g.refusal high is.before also.there also.fault)
-    ]
-  ]
+  -- ---- one result, since it comes of steps that each have one
 
-  not_refused : (ts : List Table) (i : ℕ) (r : TableRefusal) → AreExactFiles ts files → ¬ IsFirstRefused files i r
-  not_refused ts i r are is = exact_at files ts i is.file r are is.there is.fault
+  abbrev IsSetsOf : List Table → Result BundleView SetFault → Type 0
+  IsSetsOf ts found = MatchResult found (reading.IsBundleOf (parts_for fold ts) sets) (λ f. reading.IsSetFaultOf f (parts_for fold ts) sets)
 
-  bundle_one : (v w : BundleView) → IsBundleOfFiles fold files sets v → IsBundleOfFiles fold files sets w → v ≡ w
-  bundle_one v w is also =
-      bundle-once (parts_for fold also.tables) sets v w (subst (λ ts. reading.IsBundleOf (parts_for fold ts) sets v) (tables_one files is.tables also.tables is.exact also.exact) is.makes) also.makes
+  abbrev IsLogOf : BundleView → Result ℕ LogRefusal → Type 0
+  IsLogOf v found = MatchResult found (IsGoodFile v board log) (λ f. log_fault.IsLogRefusalOf f v board log)
 
-  sets_one : (f g : SetFault) → AreRefusedSets fold files sets f → AreRefusedSets fold files sets g → f ≡ g
-  sets_one f g is also =
-      fault-once (parts_for fold also.tables) sets f g (subst (λ ts. reading.IsSetFaultOf f (parts_for fold ts) sets) (tables_one files is.tables also.tables is.exact also.exact) is.fault) also.fault
+  abbrev ByLog : BundleView → Result ℕ ProofRefusal → Type 0
+  ByLog v = Behind (IsLogOf v) (λ f. Err (proof.Log f)) (λ n found. found ≡ Ok n)
 
-  sets_taken : (v : BundleView) (f : SetFault) → IsBundleOfFiles fold files sets v → ¬ AreRefusedSets fold files sets f
-  sets_taken v f is also =
-      bundle-no_fault (parts_for fold also.tables) sets v f (subst (λ ts. reading.IsBundleOf (parts_for fold ts) sets v) (tables_one files is.tables also.tables is.exact also.exact) is.makes) also.fault
+  abbrev BySets : List Table → Result ℕ ProofRefusal → Type 0
+  BySets ts = Behind (IsSetsOf ts) (λ f. Err (proof.Bundle (bundle.Sets f))) ByLog
 
-  bound_one : (m n : ℕ) → IsProvedBound fold board sets log files m → IsProvedBound fold board sets log files n → m ≡ n
-  bound_one m n is also =
-      one_bound also.bundle board log m n (subst (λ v. IsGoodFile v board log m) (bundle_one is.bundle also.bundle is.is_bundle also.is_bundle) is.good) also.good
+  abbrev ByTables : Result ℕ ProofRefusal → Type 0
+  ByTables = Behind (AreTablesOf files) (λ f. Err (proof.Bundle (bundle.File f))) BySets
 
-  log_one : (f g : LogRefusal) → IsRefusedLog fold board sets log files f → IsRefusedLog fold board sets log files g → f ≡ g
-  log_one f g is also =
-      one_fault also.bundle board log f g (subst (λ v. log_fault.IsLogRefusalOf f v board log) (bundle_one is.bundle also.bundle is.is_bundle also.is_bundle) is.fault) also.fault
+  by_tables : (found : Result ℕ ProofRefusal) → IsBoundFor fold board sets log files found → ByTables found
+  by_tables (Ok n) is = (Ok is.is_bundle.tables, is.is_bundle.exact, (Ok is.bundle, is.is_bundle.makes, (Ok n, is.good, refl)))
+  by_tables (Err (proof.Bundle (bundle.File f))) is = (Err f, is, refl)
+  by_tables (Err (proof.Bundle (bundle.Sets f))) is = (Ok is.tables, is.exact, (Err f, is.fault, refl))
+  by_tables (Err (proof.Log f)) is = (Ok is.is_bundle.tables, is.is_bundle.exact, (Ok is.bundle, is.is_bundle.makes, (Err f, is.fault, refl)))
 
-  log_taken : (n : ℕ) (f : LogRefusal) → IsProvedBound fold board sets log files n → ¬ IsRefusedLog fold board sets log files f
-  log_taken n f is also =
-      good_or_fault also.bundle board log n f (subst (λ v. IsGoodFile v board log n) (bundle_one is.bundle also.bundle is.is_bundle also.is_bundle) is.good) also.fault
+  by_log-one : (v : BundleView) → IsOne (ByLog v)
+  by_log-one v =
+      one_behind (IsLogOf v) (λ f. Err (proof.Log f)) (λ n found. found ≡ Ok n)
+      (one_result (IsGoodFile v board log) (λ f. log_fault.IsLogRefusalOf f v board log) (one_bound v board log) (one_fault v board log) (good_or_fault v board log))
+      (λ n a b is also. is ∙ sym also)
 
-  -- ---- one for each kind, and then for all
-
-  made_taken : (v : BundleView) (f : BundleRefusal) → IsBundleOfFiles fold files sets v → ¬ AreRefused fold files sets f
-  made_taken v (bundle.File f) is also = not_refused is.tables f.number f.refusal is.exact also
-  made_taken v (bundle.Sets f) is also = sets_taken v f is also
-
-  refused_one : (f g : BundleRefusal) → AreRefused fold files sets f → AreRefused fold files sets g → f ≡ g
-  refused_one (bundle.File f) (bundle.File g) is also = ap bundle.File (first_refused_one f g is also)
-  refused_one (bundle.File f) (bundle.Sets g) is also = absurd (not_refused also.tables f.number f.refusal also.exact is)
-  refused_one (bundle.Sets f) (bundle.File g) is also = absurd (not_refused is.tables g.number g.refusal is.exact also)
-  refused_one (bundle.Sets f) (bundle.Sets g) is also = ap bundle.Sets (sets_one f g is also)
-
-  abbrev Is : Result ℕ ProofRefusal → Type 0
-  Is found = IsBoundFor fold board sets log files found
+  by_sets-one : (ts : List Table) → IsOne (BySets ts)
+  by_sets-one ts =
+      let parts = parts_for fold ts in
+      one_behind (IsSetsOf ts) (λ f. Err (proof.Bundle (bundle.Sets f))) ByLog
+      (one_result (reading.IsBundleOf parts sets) (λ f. reading.IsSetFaultOf f parts sets) (bundle-once parts sets) (fault-once parts sets) (bundle-no_fault parts sets))
+      by_log-one
 
   -- one thing is found
-  pub found_one : (a b : Result ℕ ProofRefusal) → Is a → Is b → a ≡ b
-  found_one (Ok m) (Ok n) is also = ap Ok (bound_one m n is also)
-  found_one (Ok m) (Err (proof.Bundle g)) is also = absurd (made_taken is.bundle g is.is_bundle also)
-  found_one (Ok m) (Err (proof.Log g)) is also = absurd (log_taken m g is also)
-  found_one (Err (proof.Bundle f)) (Ok n) is also = absurd (made_taken also.bundle f also.is_bundle is)
-  found_one (Err (proof.Bundle f)) (Err (proof.Bundle g)) is also = ap (λ h. Err (proof.Bundle h)) (refused_one f g is also)
-  found_one (Err (proof.Bundle f)) (Err (proof.Log g)) is also = absurd (made_taken also.bundle f also.is_bundle is)
-  found_one (Err (proof.Log f)) (Ok n) is also = absurd (log_taken n f also is)
-  found_one (Err (proof.Log f)) (Err (proof.Bundle g)) is also = absurd (made_taken is.bundle g is.is_bundle also)
-  found_one (Err (proof.Log f)) (Err (proof.Log g)) is also = ap (λ h. Err (proof.Log h)) (log_one f g is also)
+  pub found_one : IsOne (IsBoundFor fold board sets log files)
+  found_one a b is also =
+      one_behind (AreTablesOf files) (λ f. Err (proof.Bundle (bundle.File f))) BySets (AreTablesOf-one files) by_sets-one a b (by_tables a is) (by_tables b also)
 
--- ---- over a bundle
+  -- ---- over a bundle
 
-module _ (fold : Bool) (board : List ℕ) (sets log : Bytes) (files : List Bytes) where
   -- what is found over the bundle that files make is found for them
   pub found_over : (v : BundleView) → IsBundleOfFiles fold files sets v → (found : Result ℕ LogFault) → IsFoundOver v board log found
       → IsFoundFor fold board sets log files (of_log found)
@@ -151,11 +103,11 @@ module _ (fold : Bool) (board : List ℕ) (sets log : Bytes) (files : List Bytes
   cause_found (Refused refused) is = is
   cause_found Memory is = is
 
--- ---- what a bound says
+  -- ---- what a bound says
 
--- no solution has fewer moves
-pub proved_bounds : (fold : Bool) (board : List ℕ) (sets log : Bytes) (files : List Bytes) (n : ℕ) → IsProvedBound fold board sets log files n → IsBounded board n
-proved_bounds fold board sets log files n h =
-    let of_files = h.is_bundle in
-    let bundle = is_bundle (parts_for fold of_files.tables) sets h.bundle (all_exact fold of_files.tables files of_files.exact) of_files.makes in
-    good_log_bounds h.bundle bundle h.good.log log h.good.is_file board n h.good.good
+  -- no solution has fewer moves
+  pub proved_bounds : (n : ℕ) → IsProvedBound fold board sets log files n → IsBounded board n
+  proved_bounds n h =
+      let of_files = h.is_bundle in
+      let bundle = is_bundle (parts_for fold of_files.tables) sets h.bundle (all_exact fold of_files.tables files of_files.exact) of_files.makes in
+      good_log_bounds h.bundle bundle h.good.log log h.good.is_file board n h.good.good

@@ -1,143 +1,159 @@
--- The files of a check of a log have one result, and it is a number exactly where that is proved of the text.
-use Rattle.std.proofs.Common.{◌≡◌, ◌∙◌, ◌↔◌, ℕ, Bool, true, false, List, Option, Some, None, Result, Ok, Err, IfSome, ap, refl, subst, sym}
+-- The files of a check of a log have one result, and what an optimum says.
+use Rattle.std.proofs.Common.{◌≡◌, ◌≢◌, ◌∙◌, ℕ, Bool, true, false, List, Option, Some, None, Result, Ok, Err, ap, refl, subst, sym}
 use Rattle.std.specs.Prelude.{◌==◌, if◌then◌else◌}
-use Rattle.std.proofs.lemmas.Bool.{eq-eqb, eqb-true}
+use Rattle.std.proofs.lemmas.Bool.{eq-eqb, eqb-false, eqb-true}
 use Rattle.puz_board.specs.BoardTexts.{Spells, board_of_text}
 use Rattle.puz_board.specs.PuzzleTexts.{puzzle_parts}
 use Rattle.puz_board.specs.declared.texts.BoardFault.{BoardFault}
 use Rattle.puz_board.proofs.SpellingLemmas.{board_of_text-spelled, spelled-board_of_text}
-use Rattle.byte_io.specs.Shelf.{Bytes}
-use Rattle.pdb_request.specs.declared.requests.Claim.{Claim}
-use Rattle.pdb_request.specs.declared.requests.Claim.TheVariants.{Bound, Optimum}
-use Rattle.pdb_verdict.specs.Bound.{IsBoundFor, IsProvedBound}
+use Rattle.pdb_verdict.specs.Bound.{IsBoundFor, IsBoundResult, IsFoundForText, TakesMemoryForBound}
 use Rattle.pdb_verdict.specs.Bundles.{TakesMemoryForTables}
-use Rattle.pdb_verdict.specs.Claims.{HoldsOfBoard, IsClaimResult, IsProvedClaim, IsResultFrom, TakesMemoryForClaim, claim_verdict, compared, start_of, with_moves, without_moves}
 use Rattle.pdb_verdict.specs.Inputs.{LogFiles, log_claim}
-use Rattle.pdb_verdict.specs.Optimal.{IsLeastCount, IsProvedOptimum}
-use Rattle.pdb_verdict.specs.Refusals.{IsFoundBy, answer_of, fault_of_claim, or_failure}
+use Rattle.pdb_verdict.specs.Optimal.{IsFoundForPuzzle, IsLeastCount, IsOptimumResult, TakesMemoryForOptimum}
+use Rattle.pdb_verdict.specs.Refusals.{IsFoundBy, fault_of_bound, fault_of_optimum, or_failure}
 use Rattle.pdb_verdict.specs.Replay.{solved_parts}
-use Rattle.pdb_verdict.specs.Steps.{IsFoundFor}
+use Rattle.pdb_verdict.specs.Steps.{Begins, IsFoundFor, answer_with, as_bound, as_optimum, claim_with}
 use Rattle.pdb_verdict.specs.Verdicts.{IsAnswerTo}
-use Rattle.pdb_verdict.specs.declared.refusals.ClaimRefusal.{ClaimRefusal}
-use Rattle.pdb_verdict.specs.declared.refusals.ClaimRefusal.TheVariants.{O1}
+use Rattle.pdb_verdict.specs.declared.refusals.BoundRefusal.{BoundRefusal}
+use Rattle.pdb_verdict.specs.declared.refusals.BoundRefusal.TheVariants as bound_refusal
 use Rattle.pdb_verdict.specs.declared.refusals.Failure.{Failure}
+use Rattle.pdb_verdict.specs.declared.refusals.OptimumRefusal.{OptimumRefusal}
+use Rattle.pdb_verdict.specs.declared.refusals.OptimumRefusal.TheVariants.{O1, Proof, Replay}
 use Rattle.pdb_verdict.specs.declared.refusals.ProofRefusal.{ProofRefusal}
 use Rattle.pdb_verdict.specs.declared.refusals.ReplayRefusal.{ReplayRefusal}
-use Rattle.pdb_verdict.proofs.BoundLemmas.{found_one, proved_bounds}
-use Rattle.pdb_verdict.proofs.RefusalLemmas.{found_next, found_told, no_yes}
+use Rattle.pdb_verdict.specs.declared.verdicts.Verdict.TheVariants as verdict
+use Rattle.pdb_verdict.proofs.BoundLemmas.{found_one, found_some, proved_bounds}
+use Rattle.pdb_verdict.proofs.RefusalLemmas.{Behind, IsOne, found_next, found_told, one_behind}
 use Rattle.pdb_verdict.proofs.ReplayLemmas.{parts-solved, solved-parts}
 
--- ---- what stands before the log
+-- ---- a bound that is no number of moves
 
-of_board : (r : Result (List ℕ) BoardFault) (start : List ℕ × Option ℕ) → without_moves r ≡ Ok start → r ≡ Ok start.0
-of_board (Err refused) start is = absurd (no_yes _ _ is)
-of_board (Ok board) start is =
-    let both : ◌≡◌ {A = List ℕ × Option ℕ} (board, None) start = cc in
-    ap (λ (p : List ℕ × Option ℕ). Ok p.0) both
+as_many : (n : ℕ) → as_optimum n (Ok n) ≡ Ok n
+as_many n = ap (λ (b : Bool). if b then Ok n else Err (O1 n n)) (eq-eqb n n refl)
 
-of_puzzle : (r : Result (List ℕ × ℕ) ReplayRefusal) (start : List ℕ × Option ℕ) → with_moves r ≡ Ok start → (n : ℕ) × (r ≡ Ok (start.0, n)) × (start.1 ≡ Some n)
-of_puzzle (Err refused) start is = absurd (no_yes _ _ is)
-of_puzzle (Ok solved) start is =
-    let both : ◌≡◌ {A = List ℕ × Option ℕ} (solved.0, Some solved.1) start = cc in
-    (solved.1, ap (λ (p : List ℕ × Option ℕ). Ok (p.0, solved.1)) both, sym (ap (λ (p : List ℕ × Option ℕ). p.1) both))
-
--- a board that is spelt is the start of a bound
-pub spelt_start : (text board : List ℕ) → Spells text board → start_of Bound text ≡ Ok (board, None)
-spelt_start text board spelt = ap without_moves (board_of_text-spelled text board spelt)
-
--- ---- bounds and moves
-
--- a number that comes of a bound is the bound, and that of the moves, where there are some
-agreed : (moves : Option ℕ) (n : ℕ) (found : Result ℕ ProofRefusal) → Ok n ≡ compared moves found → (found ≡ Ok n) × IfSome moves (λ m. m ≡ n)
-agreed moves n (Err refused) is = absurd (no_yes _ _ (sym is))
-agreed None n (Ok bound) is = let same : n ≡ bound = cc in (ap Ok (sym same), tt)
-agreed (Some m) n (Ok bound) is = by_test (m == bound) (eqb-true m bound) is
+other_bound : (n bound : ℕ) → n ≢ bound → as_optimum n (Ok bound) ≡ Err (O1 n bound)
+other_bound n bound other = by_test (n == bound) refl
   where
-    by_test : (b : Bool) → (b ≡ true → m ≡ bound) → Ok n ≡ (if b then Ok bound else Err (O1 m bound)) → (◌≡◌ {A = Result ℕ ProofRefusal} (Ok bound) (Ok n)) × (m ≡ n)
-    by_test true same e = let found : n ≡ bound = cc in (ap Ok (sym found), same refl ∙ sym found)
-    by_test false same e = absurd (no_yes _ _ (sym e))
+    by_test : (b : Bool) → (n == bound) ≡ b → (if b then Ok bound else Err (O1 n bound)) ≡ Err (O1 n bound)
+    by_test true is = absurd (other (eqb-true n bound is))
+    by_test false is = refl
 
-as_many : (moves : Option ℕ) (n : ℕ) → IfSome moves (λ m. m ≡ n) → compared moves (Ok n) ≡ Ok n
-as_many None n is = refl
-as_many (Some m) n is = ap (λ (b : Bool). if b then Ok n else Err (O1 m n)) (eq-eqb m n is)
+module _ (fold : Bool) (files : LogFiles) where
+  abbrev For : List ℕ → Result ℕ ProofRefusal → Type 0
+  For board found = IsBoundFor fold board files.sets files.log files.tables found
 
--- ---- the result
+  -- ---- what is found for the board makes the result
 
-module _ (fold : Bool) (sets log : Bytes) (tables : List Bytes) where
-  result_one : (r : Result (List ℕ × Option ℕ) ReplayRefusal) (a b : Result ℕ ClaimRefusal) → IsResultFrom fold r sets log tables a → IsResultFrom fold r sets log tables b → a ≡ b
-  result_one (Err refused) a b is also = is ∙ sym also
-  result_one (Ok start) a b is also = is.2 ∙ ap (compared start.1) (found_one fold start.0 sets log tables is.0 also.0 is.1 also.1) ∙ sym also.2
+  -- of a text
+  pub bound_found : (found : Result ℕ ProofRefusal) → IsFoundForText fold files found → IsBoundResult fold files (as_bound found)
+  bound_found (Ok bound) is = is
+  bound_found (Err refused) is = is
 
-  from_start : (r : Result (List ℕ × Option ℕ) ReplayRefusal) (n : ℕ) → IsResultFrom fold r sets log tables (Ok n)
-      → (start : List ℕ × Option ℕ) × (r ≡ Ok start) × IsProvedBound fold start.0 sets log tables n × IfSome start.1 (λ m. m ≡ n)
-  from_start (Err refused) n is = absurd (no_yes _ _ (sym is))
-  from_start (Ok start) n is =
-      let both = agreed start.1 n is.0 is.2 in
-      (start, refl, subst (IsBoundFor fold start.0 sets log tables) both.0 is.1, both.1)
+  -- of a puzzle text
+  pub optimum_found : (n : ℕ) (found : Result ℕ ProofRefusal) → IsFoundForPuzzle fold files n found → IsOptimumResult fold files (as_optimum n found)
+  optimum_found n (Err refused) is = (n, is)
+  optimum_found n (Ok bound) is = by_test (n == bound) refl
+    where
+      by_test : (b : Bool) → (n == bound) ≡ b → IsOptimumResult fold files (if b then Ok bound else Err (O1 n bound))
+      by_test true same = subst (λ m. IsFoundForPuzzle fold files m (Ok bound)) (eqb-true n bound same) is
+      by_test false other = (is, eqb-false n bound other)
 
-  to_result : (r : Result (List ℕ × Option ℕ) ReplayRefusal) (start : List ℕ × Option ℕ) (n : ℕ) → r ≡ Ok start → IsProvedBound fold start.0 sets log tables n
-      → IfSome start.1 (λ m. m ≡ n) → IsResultFrom fold r sets log tables (Ok n)
-  to_result r start n is proved same = subst (λ s. IsResultFrom fold s sets log tables (Ok n)) (sym is) (Ok n, proved, sym (as_many start.1 n same))
+  -- where memory may be wanted
+  pub bound_by : (board : List ℕ) (found : Result ℕ (Failure ProofRefusal)) → Spells files.text board → IsFoundFor fold board files.sets files.log files.tables found
+      → IsFoundBy (IsBoundResult fold files) (TakesMemoryForBound files.text files.tables) (or_failure as_bound found)
+  bound_by board found spelt is =
+      found_next as_bound (For board) (IsBoundResult fold files) (TakesMemoryForTables files.tables) (TakesMemoryForBound files.text files.tables)
+      (λ r found_for. bound_found r (record { board = board; spelt = spelt; found_for = found_for })) (λ takes. (board, spelt, takes)) found is
 
--- there is one
-pub IsClaimResult-one : (claim : Claim) (fold : Bool) (files : LogFiles) (a b : Result ℕ ClaimRefusal) → IsClaimResult claim fold files a → IsClaimResult claim fold files b → a ≡ b
-IsClaimResult-one claim fold files a b is also = result_one fold files.sets files.log files.tables (start_of claim files.text) a b is also
+  -- the same of a puzzle text
+  pub optimum_by : (board : List ℕ) (n : ℕ) (found : Result ℕ (Failure ProofRefusal)) → solved_parts (puzzle_parts files.text) ≡ Ok (board, n)
+      → IsFoundFor fold board files.sets files.log files.tables found
+      → IsFoundBy (IsOptimumResult fold files) (TakesMemoryForOptimum files.text files.tables) (or_failure (as_optimum n) found)
+  optimum_by board n found parts is =
+      let solved = solved-parts files.text board n parts in
+      found_next (as_optimum n) (For board) (IsOptimumResult fold files) (TakesMemoryForTables files.tables) (TakesMemoryForOptimum files.text files.tables)
+      (λ r found_for. optimum_found n r (record { solved = solved.0; found_for = subst (λ b. For b r) (sym solved.1) found_for })) (λ takes. (n, solved.0, takes)) found is
 
-proved_claim : (claim : Claim) (fold : Bool) (files : LogFiles) (n : ℕ) → IsClaimResult claim fold files (Ok n) → IsProvedClaim claim fold files n
-proved_claim Bound fold files n is =
-    let from = from_start fold files.sets files.log files.tables (start_of Bound files.text) n is in
-    let board = of_board (board_of_text files.text) from.0 from.1 in
-    record { board = from.0.0; spelt = spelled-board_of_text files.text from.0.0 board; proved = from.2 }
-proved_claim Optimum fold files n is =
-    let from = from_start fold files.sets files.log files.tables (start_of Optimum files.text) n is in
-    let puzzle = of_puzzle (solved_parts (puzzle_parts files.text)) from.0 from.1 in
-    let same : puzzle.0 ≡ n = subst (λ (o : Option ℕ). IfSome o (λ m. m ≡ n)) puzzle.2 from.3 in
-    let solved = solved-parts files.text from.0.0 puzzle.0 puzzle.1 in
-    let proved = subst (λ k. IsProvedBound fold from.0.0 files.sets files.log files.tables k) (sym same) from.2 in
-    let optimum : IsProvedOptimum fold files puzzle.0 =
-    record { solved = solved.0; proved = subst (λ b. IsProvedBound fold b files.sets files.log files.tables puzzle.0) (sym solved.1) proved } in
-    subst (IsProvedOptimum fold files) same optimum
+  -- so it makes the answer
+  pub claim_answered : (board : List ℕ) (moves : Option ℕ) (found : Result ℕ (Failure ProofRefusal)) → Begins files.text board moves
+      → IsFoundFor fold board files.sets files.log files.tables found → IsAnswerTo (log_claim (claim_with moves) fold files) (answer_with moves found)
+  claim_answered board None found spelt is =
+      found_told verdict.Bound fault_of_bound (IsBoundResult fold files) (TakesMemoryForBound files.text files.tables) (or_failure as_bound found) (bound_by board found spelt is)
+  claim_answered board (Some n) found parts is =
+      found_told verdict.Optimal fault_of_optimum (IsOptimumResult fold files) (TakesMemoryForOptimum files.text files.tables) (or_failure (as_optimum n) found) (optimum_by board n found parts is)
 
-claim_proved : (claim : Claim) (fold : Bool) (files : LogFiles) (n : ℕ) → IsProvedClaim claim fold files n → IsClaimResult claim fold files (Ok n)
-claim_proved Bound fold files n h =
-    to_result fold files.sets files.log files.tables (start_of Bound files.text) (h.board, None) n (spelt_start files.text h.board h.spelt) h.proved tt
-claim_proved Optimum fold files n h =
-    to_result fold files.sets files.log files.tables (start_of Optimum files.text) (h.solved.board, Some n) n (ap with_moves (parts-solved files.text n h.solved)) h.proved refl
+  -- ---- there is a result
 
--- a number is the result exactly where it is proved
-pub IsClaimResult-proved : (claim : Claim) (fold : Bool) (files : LogFiles) (n : ℕ) → IsClaimResult claim fold files (Ok n) ↔ IsProvedClaim claim fold files n
-IsClaimResult-proved claim fold files n = (proved_claim claim fold files n, claim_proved claim fold files n)
+  -- of a bound
+  pub bound_some : (found : Result ℕ BoundRefusal) × IsBoundResult fold files found
+  bound_some = of_text (board_of_text files.text) refl
+    where
+      of_text : (r : Result (List ℕ) BoardFault) → board_of_text files.text ≡ r → (found : Result ℕ BoundRefusal) × IsBoundResult fold files found
+      of_text (Err refused) is = (Err (bound_refusal.Board refused), is)
+      of_text (Ok board) is =
+          let found = found_some fold board files.sets files.log files.tables in
+          (as_bound found.0, bound_found found.0 (record { board = board; spelt = spelled-board_of_text files.text board is; found_for = found.1 }))
 
--- what is found for the board of the text makes the result
-pub claim_found : (claim : Claim) (fold : Bool) (files : LogFiles) (start : List ℕ × Option ℕ) (found : Result ℕ (Failure ProofRefusal)) → start_of claim files.text ≡ Ok start
-    → IsFoundFor fold start.0 files.sets files.log files.tables found
-    → IsFoundBy (IsClaimResult claim fold files) (TakesMemoryForClaim claim files.text files.tables) (or_failure (compared start.1) found)
-claim_found claim fold files start found is found_for =
-    found_next (compared start.1) (IsBoundFor fold start.0 files.sets files.log files.tables) (IsClaimResult claim fold files)
-    (TakesMemoryForTables files.tables) (TakesMemoryForClaim claim files.text files.tables)
-    (λ r is_bound. subst (λ s. IsResultFrom fold s files.sets files.log files.tables (compared start.1 r)) (sym is) (r, is_bound, refl))
-    (λ takes. record { start = start; is_start = is; tables_take = takes }) found found_for
+  -- of an optimum
+  pub optimum_some : (found : Result ℕ OptimumRefusal) × IsOptimumResult fold files found
+  optimum_some = of_puzzle (solved_parts (puzzle_parts files.text)) refl
+    where
+      of_puzzle : (r : Result (List ℕ × ℕ) ReplayRefusal) → solved_parts (puzzle_parts files.text) ≡ r → (found : Result ℕ OptimumRefusal) × IsOptimumResult fold files found
+      of_puzzle (Err refused) is = (Err (Replay refused), is)
+      of_puzzle (Ok read) is =
+          let solved = (solved-parts files.text read.0 read.1 is).0 in
+          let found = found_some fold solved.board files.sets files.log files.tables in
+          (as_optimum read.1 found.0, optimum_found read.1 found.0 (record { solved = solved; found_for = found.1 }))
 
--- so it makes the answer
-pub claim_answered : (claim : Claim) (fold : Bool) (files : LogFiles) (start : List ℕ × Option ℕ) (found : Result ℕ (Failure ProofRefusal)) → start_of claim files.text ≡ Ok start
-    → IsFoundFor fold start.0 files.sets files.log files.tables found
-    → IsAnswerTo (log_claim claim fold files) (answer_of (claim_verdict claim) fault_of_claim (or_failure (compared start.1) found))
-claim_answered claim fold files start found is found_for =
-    found_told (claim_verdict claim) fault_of_claim (IsClaimResult claim fold files) (TakesMemoryForClaim claim files.text files.tables) (or_failure (compared start.1) found)
-    (claim_found claim fold files start found is found_for)
+  -- ---- one result
 
--- ---- what a number says of the solutions
+  abbrev FoundAs : {R : Type 0} → (Result ℕ ProofRefusal → Result ℕ R) → List ℕ → Result ℕ R → Type 0
+  FoundAs result_of board result = (found : Result ℕ ProofRefusal) × For board found × (result ≡ result_of found)
 
--- no solution of fewer moves than this one makes it a shortest
-pub proved_least : (fold : Bool) (files : LogFiles) (n : ℕ) (h : IsProvedOptimum fold files n) → IsLeastCount h.solved.board n
-proved_least fold files n h = record {
-  path = h.solved.solved.path;
-  solution = h.solved.solved.solution;
-  count = h.solved.solved.count;
-  bounded = proved_bounds fold h.solved.board files.sets files.log files.tables n h.proved;
-}
+  found_as-one : {R : Type 0} (result_of : Result ℕ ProofRefusal → Result ℕ R) (board : List ℕ) → IsOne (FoundAs result_of board)
+  found_as-one result_of board a b is also =
+      is.2 ∙ ap result_of (found_one fold board files.sets files.log files.tables is.0 also.0 is.1 also.1) ∙ sym also.2
 
-pub proved_holds : (claim : Claim) (fold : Bool) (files : LogFiles) (n : ℕ) → IsProvedClaim claim fold files n → HoldsOfBoard claim files.text n
-proved_holds Bound fold files n h =
-    record { board = h.board; spelt = h.spelt; bounded = proved_bounds fold h.board files.sets files.log files.tables n h.proved }
-proved_holds Optimum fold files n h = record { solved = h.solved; least = proved_least fold files n h }
+  abbrev ByText : Result ℕ BoundRefusal → Type 0
+  ByText = Behind (λ r. board_of_text files.text ≡ r) (λ f. Err (bound_refusal.Board f)) (FoundAs as_bound)
+
+  by_text : (result : Result ℕ BoundRefusal) → IsBoundResult fold files result → ByText result
+  by_text (Ok bound) is = (Ok is.board, board_of_text-spelled files.text is.board is.spelt, (Ok bound, is.found_for, refl))
+  by_text (Err (bound_refusal.Board f)) is = (Err f, is, refl)
+  by_text (Err (bound_refusal.Proof f)) is = (Ok is.board, board_of_text-spelled files.text is.board is.spelt, (Err f, is.found_for, refl))
+
+  -- of a bound there is one
+  pub IsBoundResult-one : IsOne (IsBoundResult fold files)
+  IsBoundResult-one a b is also =
+      one_behind (λ r. board_of_text files.text ≡ r) (λ f. Err (bound_refusal.Board f)) (FoundAs as_bound)
+      (λ r q is also. sym is ∙ also) (found_as-one as_bound) a b (by_text a is) (by_text b also)
+
+  abbrev BySolution : List ℕ × ℕ → Result ℕ OptimumRefusal → Type 0
+  BySolution solved = FoundAs (as_optimum solved.1) solved.0
+
+  abbrev ByPuzzle : Result ℕ OptimumRefusal → Type 0
+  ByPuzzle = Behind (λ r. solved_parts (puzzle_parts files.text) ≡ r) (λ f. Err (Replay f)) BySolution
+
+  by_puzzle : (result : Result ℕ OptimumRefusal) → IsOptimumResult fold files result → ByPuzzle result
+  by_puzzle (Ok n) is = (Ok (is.solved.board, n), parts-solved files.text n is.solved, (Ok n, is.found_for, sym (as_many n)))
+  by_puzzle (Err (Replay f)) is = (Err f, is, refl)
+  by_puzzle (Err (Proof f)) is = (Ok (is.1.solved.board, is.0), parts-solved files.text is.0 is.1.solved, (Err f, is.1.found_for, refl))
+  by_puzzle (Err (O1 n bound)) is =
+      (Ok (is.0.solved.board, n), parts-solved files.text n is.0.solved, (Ok bound, is.0.found_for, sym (other_bound n bound is.1)))
+
+  -- of an optimum there is one
+  pub IsOptimumResult-one : IsOne (IsOptimumResult fold files)
+  IsOptimumResult-one a b is also =
+      one_behind (λ r. solved_parts (puzzle_parts files.text) ≡ r) (λ f. Err (Replay f)) BySolution
+      (λ r q is also. sym is ∙ also) (λ solved. found_as-one (as_optimum solved.1) solved.0) a b (by_puzzle a is) (by_puzzle b also)
+
+  -- ---- what an optimum says
+
+  -- no solution of fewer moves than this one makes it a shortest
+  pub proved_least : (n : ℕ) (h : IsFoundForPuzzle fold files n (Ok n)) → IsLeastCount h.solved.board n
+  proved_least n h = record {
+    path = h.solved.solved.path;
+    solution = h.solved.solved.solution;
+    count = h.solved.solved.count;
+    bounded = proved_bounds fold h.solved.board files.sets files.log files.tables n h.found_for;
+  }

@@ -7,7 +7,5 @@ mod FoldingLemmas
 mod LineLemmas
 pub mod RefusalLemmas
 mod ReplayLemmas
-mod ResultLemmas
 mod TableLemmas
-pub mod ToldLemmas
 pub mod VerdictLemmas

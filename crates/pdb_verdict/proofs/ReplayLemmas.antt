@@ -14,7 +14,7 @@ use Rattle.pdb_verdict.specs.declared.refusals.ReplayRefusal.{ReplayRefusal}
 use Rattle.pdb_verdict.specs.declared.verdicts.Fault.{Fault}
 use Rattle.pdb_verdict.specs.declared.verdicts.Verdict.{Verdict}
 use Rattle.pdb_verdict.specs.declared.verdicts.Verdict.TheVariants as verdict
-use Rattle.pdb_verdict.proofs.RefusalLemmas.{no_yes, told_one, told_yes}
+use Rattle.pdb_verdict.proofs.RefusalLemmas.{IsOne, one_told, told_yes}
 
 -- ---- puzzles that are solved
 
@@ -22,37 +22,35 @@ use Rattle.pdb_verdict.proofs.RefusalLemmas.{no_yes, told_one, told_yes}
 abbrev pub IsSolvedWith : List ℕ → List ℕ → ℕ → Type 0
 IsSolvedWith puzzle board n = (solved : IsSolvedPuzzle puzzle n) × (solved.board ≡ board)
 
-by_moves : (puzzle board_text moves_text b board : List ℕ) (n : ℕ) (r : Result ℕ MoveFault) → puzzle_parts puzzle ≡ Some (board_text, moves_text)
-    → board_of_text board_text ≡ Ok b → replay_of b moves_text ≡ r → solved_by b r ≡ Ok (board, n) → IsSolvedWith puzzle board n
-by_moves puzzle board_text moves_text b board n (Err refused) parts spelt replayed is = absurd (no_yes _ _ is)
-by_moves puzzle board_text moves_text b board n (Ok m) parts spelt replayed is =
-    let spells = spelled-board_of_text board_text b spelt in
-    let both : ◌≡◌ {A = List ℕ × ℕ} (b, m) (board, n) = cc in
-    let same : m ≡ n = ap (λ (p : List ℕ × ℕ). p.1) both in
-    let same_board : b ≡ board = ap (λ (p : List ℕ × ℕ). p.0) both in
-    let solved : IsSolvedPuzzle puzzle n = record {
-      board = b;
-      board_text = board_text;
-      moves_text = moves_text;
-      parts = puzzle-parts puzzle board_text moves_text parts;
-      spelt = spells;
-      solved = solved-replay_of b moves_text n spells.board (replayed ∙ ap (λ (k : ℕ). Ok k) same);
-    } in
-    (solved, same_board)
+module _ (puzzle board : List ℕ) (n : ℕ) where
+  by_moves : (texts : List ℕ × List ℕ) (b : List ℕ) (r : Result ℕ MoveFault) → puzzle_parts puzzle ≡ Some texts
+      → board_of_text texts.0 ≡ Ok b → replay_of b texts.1 ≡ r → solved_by b r ≡ Ok (board, n) → IsSolvedWith puzzle board n
+  by_moves texts b (Err refused) parts spelt replayed is = let clash : _ = is in cc
+  by_moves texts b (Ok m) parts spelt replayed is =
+      let spells = spelled-board_of_text texts.0 b spelt in
+      let both : ◌≡◌ {A = List ℕ × ℕ} (b, m) (board, n) = cc in
+      let solved : IsSolvedPuzzle puzzle m = record {
+        board = b;
+        board_text = texts.0;
+        moves_text = texts.1;
+        parts = puzzle-parts puzzle texts.0 texts.1 parts;
+        spelt = spells;
+        solved = solved-replay_of b texts.1 m spells.board replayed;
+      } in
+      subst (λ (p : List ℕ × ℕ). IsSolvedWith puzzle p.0 p.1) both (solved, refl)
 
-by_board : (puzzle board_text moves_text board : List ℕ) (n : ℕ) (r : Result (List ℕ) BoardFault) → puzzle_parts puzzle ≡ Some (board_text, moves_text)
-    → board_of_text board_text ≡ r → solved_board r moves_text ≡ Ok (board, n) → IsSolvedWith puzzle board n
-by_board puzzle board_text moves_text board n (Err refused) parts spelt is = absurd (no_yes _ _ is)
-by_board puzzle board_text moves_text board n (Ok b) parts spelt is =
-    by_moves puzzle board_text moves_text b board n (replay_of b moves_text) parts spelt refl is
+  by_board : (texts : List ℕ × List ℕ) (r : Result (List ℕ) BoardFault) → puzzle_parts puzzle ≡ Some texts → board_of_text texts.0 ≡ r
+      → solved_board r texts.1 ≡ Ok (board, n) → IsSolvedWith puzzle board n
+  by_board texts (Err refused) parts spelt is = let clash : _ = is in cc
+  by_board texts (Ok b) parts spelt is = by_moves texts b (replay_of b texts.1) parts spelt refl is
 
-by_parts : (puzzle board : List ℕ) (n : ℕ) (o : Option (List ℕ × List ℕ)) → puzzle_parts puzzle ≡ o → solved_parts o ≡ Ok (board, n) → IsSolvedWith puzzle board n
-by_parts puzzle board n None parts is = absurd (no_yes _ _ is)
-by_parts puzzle board n (Some p) parts is = by_board puzzle p.0 p.1 board n (board_of_text p.0) parts refl is
+  by_parts : (o : Option (List ℕ × List ℕ)) → puzzle_parts puzzle ≡ o → solved_parts o ≡ Ok (board, n) → IsSolvedWith puzzle board n
+  by_parts None parts is = let clash : _ = is in cc
+  by_parts (Some texts) parts is = by_board texts (board_of_text texts.0) parts refl is
 
--- a board and a number of moves come of a puzzle that is solved
-pub solved-parts : (puzzle board : List ℕ) (n : ℕ) → solved_parts (puzzle_parts puzzle) ≡ Ok (board, n) → IsSolvedWith puzzle board n
-solved-parts puzzle board n is = by_parts puzzle board n (puzzle_parts puzzle) refl is
+  -- a board and a number of moves come of a puzzle that is solved
+  pub solved-parts : solved_parts (puzzle_parts puzzle) ≡ Ok (board, n) → IsSolvedWith puzzle board n
+  solved-parts is = by_parts (puzzle_parts puzzle) refl is
 
 -- and of each
 pub parts-solved : (puzzle : List ℕ) (n : ℕ) (solved : IsSolvedPuzzle puzzle n) → solved_parts (puzzle_parts puzzle) ≡ Ok (solved.board, n)
@@ -63,18 +61,25 @@ parts-solved puzzle n h =
 
 -- ---- the result
 
+abbrev count_of : Result (List ℕ × ℕ) ReplayRefusal → Result ℕ ReplayRefusal
+count_of (Ok solved) = Ok solved.1
+count_of (Err refused) = Err refused
+
+result-parts : (puzzle : List ℕ) (found : Result ℕ ReplayRefusal) → IsReplayResult puzzle found → count_of (solved_parts (puzzle_parts puzzle)) ≡ found
+result-parts puzzle (Ok n) is = ap count_of (parts-solved puzzle n is)
+result-parts puzzle (Err refused) is = ap count_of is
+
 -- there is one
-pub IsReplayResult-one : (puzzle : List ℕ) (a b : Result ℕ ReplayRefusal) → IsReplayResult puzzle a → IsReplayResult puzzle b → a ≡ b
-IsReplayResult-one puzzle (Ok m) (Ok n) is also =
-    let both : ◌≡◌ {A = Result (List ℕ × ℕ) ReplayRefusal} (Ok (is.board, m)) (Ok (also.board, n)) = sym (parts-solved puzzle m is) ∙ parts-solved puzzle n also in
-    let pair : ◌≡◌ {A = List ℕ × ℕ} (is.board, m) (also.board, n) = cc in
-    ap (λ (p : List ℕ × ℕ). Ok p.1) pair
-IsReplayResult-one puzzle (Ok m) (Err refused) is also = absurd (no_yes _ _ (sym also ∙ parts-solved puzzle m is))
-IsReplayResult-one puzzle (Err refused) (Ok n) is also = absurd (no_yes _ _ (sym is ∙ parts-solved puzzle n also))
-IsReplayResult-one puzzle (Err refused) (Err other) is also =
-    let both : ◌≡◌ {A = Result (List ℕ × ℕ) ReplayRefusal} (Err refused) (Err other) = sym is ∙ also in
-    let same : refused ≡ other = cc in
-    ap (λ r. Err r) same
+pub IsReplayResult-one : (puzzle : List ℕ) → IsOne (IsReplayResult puzzle)
+IsReplayResult-one puzzle a b is also = sym (result-parts puzzle a is) ∙ result-parts puzzle b also
+
+-- a puzzle text has a result
+pub replay_some : (puzzle : List ℕ) → (found : Result ℕ ReplayRefusal) × IsReplayResult puzzle found
+replay_some puzzle = of_puzzle (solved_parts (puzzle_parts puzzle)) refl
+  where
+    of_puzzle : (r : Result (List ℕ × ℕ) ReplayRefusal) → solved_parts (puzzle_parts puzzle) ≡ r → (found : Result ℕ ReplayRefusal) × IsReplayResult puzzle found
+    of_puzzle (Err refused) is = (Err refused, is)
+    of_puzzle (Ok solved) is = (Ok solved.1, (solved-parts puzzle solved.0 solved.1 is).0)
 
 same_solution : (a b : ℕ) → verdict.Solution a ≡ verdict.Solution b → a ≡ b
 same_solution a b same = cc
@@ -83,7 +88,7 @@ same_solution a b same = cc
 pub says_solution : (puzzle : List ℕ) (answer : Result Verdict Fault) (n : ℕ) → IsReplayTold puzzle answer → (answer ≡ Ok (verdict.Solution n)) ↔ (IsSolvedPuzzle puzzle n)
 says_solution puzzle answer n is = (
   λ same.
-      let yes = told_yes verdict.Solution fault_of_replay (IsReplayResult puzzle) (verdict.Solution n) (subst (λ (a : Result Verdict Fault). IsReplayTold puzzle a) same is) in
+      let yes = (told_yes verdict.Solution fault_of_replay (IsReplayResult puzzle) (verdict.Solution n)).0 (subst (IsReplayTold puzzle) same is) in
       subst (IsSolvedPuzzle puzzle) (sym (same_solution n yes.0 yes.2)) yes.1,
-  λ h. told_one verdict.Solution fault_of_replay (IsReplayResult puzzle) (IsReplayResult-one puzzle) answer (Ok (verdict.Solution n)) is (Ok n, h, refl),
+  λ h. one_told verdict.Solution fault_of_replay (IsReplayResult puzzle) (IsReplayResult-one puzzle) answer (Ok (verdict.Solution n)) is (Ok n, h, refl),
 )

@@ -1,18 +1,16 @@
 -- Bounds that a log proves: what `bound BOARD SETS LOG TABLES..` and `optimal PUZZLE SETS LOG TABLES..` share.
-use Rattle.std.specs.Prelude.{ℕ, Bool, List, Result, Ok, Err}
-use Rattle.puz_board.specs.BoardTexts.{Spells}
+use Rattle.std.specs.Prelude.{◌≡◌, ℕ, Bool, List, Result, Ok, Err}
+use Rattle.puz_board.specs.BoardTexts.{Spells, board_of_text}
 use Rattle.set_sum.specs.Bounds.{IsBounded}
 use Rattle.set_sum.specs.Bundles.{BundleView}
 use Rattle.log_check.specs.GoodLogs.{IsGoodFile}
-use Rattle.log_check.specs.LogFaults.{IsCauseOfLogFault, IsLogRefusalOf}
-use Rattle.log_check.specs.declared.faults.LogFault.{LogFault}
-use Rattle.log_check.specs.declared.faults.LogFault.TheVariants as log_failure
+use Rattle.log_check.specs.LogFaults.{IsLogRefusalOf}
 use Rattle.log_check.specs.declared.faults.LogRefusal.{LogRefusal}
 use Rattle.byte_io.specs.Shelf.{Bytes}
-use Rattle.pdb_verdict.specs.Bundles.{AreRefused, IsBundleOfFiles}
+use Rattle.pdb_verdict.specs.Bundles.{AreRefused, IsBundleOfFiles, TakesMemoryForTables}
 use Rattle.pdb_verdict.specs.Inputs.{LogFiles}
-use Rattle.pdb_verdict.specs.declared.refusals.Failure.{Failure}
-use Rattle.pdb_verdict.specs.declared.refusals.Failure.TheVariants.{Memory, Refused}
+use Rattle.pdb_verdict.specs.declared.refusals.BoundRefusal.{BoundRefusal}
+use Rattle.pdb_verdict.specs.declared.refusals.BoundRefusal.TheVariants.{Board, Proof}
 use Rattle.pdb_verdict.specs.declared.refusals.ProofRefusal.{ProofRefusal}
 use Rattle.pdb_verdict.specs.declared.refusals.ProofRefusal.TheVariants.{Bundle, Log}
 
@@ -37,29 +35,26 @@ IsBoundFor fold board sets log tables (Ok bound) = IsProvedBound fold board sets
 IsBoundFor fold board sets log tables (Err (Bundle refused)) = AreRefused fold tables sets refused
 IsBoundFor fold board sets log tables (Err (Log refused)) = IsRefusedLog fold board sets log tables refused
 
--- ---- what a yes of `bound` means
+-- ---- `bound`
 
--- the text spells a board, for which the bound is proved
-pub record IsBoundOfText (fold : Bool) (files : LogFiles) (bound : ℕ) : Type 0 where
+-- the text spells a board, for which this is found
+pub record IsFoundForText (fold : Bool) (files : LogFiles) (found : Result ℕ ProofRefusal) : Type 0 where
   pub board : List ℕ
   pub spelt : Spells files.text board
-  pub proved : IsProvedBound fold board files.sets files.log files.tables bound
+  pub found_for : IsBoundFor fold board files.sets files.log files.tables found
 
--- so no solution of the board that the text spells has fewer moves
+-- the result: the bound that is proved for the board of the text, or why none is; the board text comes before all else
+abbrev pub IsBoundResult : Bool → LogFiles → Result ℕ BoundRefusal → Type 0
+IsBoundResult fold files (Ok bound) = IsFoundForText fold files (Ok bound)
+IsBoundResult fold files (Err (Board refused)) = board_of_text files.text ≡ Err refused
+IsBoundResult fold files (Err (Proof refused)) = IsFoundForText fold files (Err refused)
+
+-- it takes memory to check the tables, once the text spells a board
+abbrev pub TakesMemoryForBound : Bytes → List Bytes → Type 0
+TakesMemoryForBound text tables = (board : List ℕ) × Spells text board × TakesMemoryForTables tables
+
+-- what a bound says: no solution of the board that the text spells has fewer moves
 pub record IsBoundedText (text : Bytes) (bound : ℕ) : Type 0 where
   pub board : List ℕ
   pub spelt : Spells text board
   pub bounded : IsBounded board bound
-
--- ---- over a bundle
-
--- what is found of a log over a bundle, as what is found for the files
-abbrev pub of_log : Result ℕ LogFault → Result ℕ (Failure ProofRefusal)
-of_log (Ok bound) = Ok bound
-of_log (Err (log_failure.Refused refused)) = Err (Refused (Log refused))
-of_log (Err log_failure.Memory) = Err Memory
-
--- the bound for a board over a bundle, or why there is none, or want of memory
-abbrev pub IsFoundOver : BundleView → List ℕ → Bytes → Result ℕ LogFault → Type 0
-IsFoundOver bundle board log (Ok bound) = IsGoodFile bundle board log bound
-IsFoundOver bundle board log (Err cause) = IsCauseOfLogFault cause bundle board log

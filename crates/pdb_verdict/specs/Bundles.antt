@@ -1,5 +1,5 @@
 -- Bundles of table files and a set text.
-use Rattle.std.specs.Prelude.{◌≡◌, ⊤, ℕ, Bool, true, false, List, [], ◌∷◌, Some, map, slice_get, take}
+use Rattle.std.specs.Prelude.{⊤, ℕ, zero, suc, Bool, true, false, List, [], ◌∷◌, map}
 use Rattle.tab_file.specs.TableFiles.{IsTableFile}
 use Rattle.tab_file.specs.Tables.{Table}
 use Rattle.tab_rule.specs.ExactTables.{IsExactFile}
@@ -43,12 +43,10 @@ pub record IsBundleOfFiles (fold : Bool) (files : List Bytes) (sets : Bytes) (bu
 -- ---- why there is none: the first table file that is refused, and then what is wrong with the tables and the set text
 
 -- the file with this number, from 0, is refused for this, and those before it are of exact tables
-pub record IsFirstRefused (files : List Bytes) (number : ℕ) (refused : TableRefusal) : Type 0 where
-  pub file : Bytes
-  pub there : slice_get files number ≡ Some file
-  pub fault : table_fault.IsTableFaultOf refused file
-  pub tables : List Table
-  pub before : AreExactFiles tables (take number files)
+abbrev pub IsFirstRefused : List Bytes → ℕ → TableRefusal → Type 0
+IsFirstRefused [] number refused = ⊥
+IsFirstRefused (file ∷ files) zero refused = table_fault.IsTableFaultOf refused file
+IsFirstRefused (file ∷ files) (suc number) refused = (table : Table) × IsExactFile table file × IsFirstRefused files number refused
 
 -- all files are of exact tables, and with these, folded or full, the set text is refused for this
 pub record AreRefusedSets (fold : Bool) (files : List Bytes) (sets : Bytes) (refused : SetFault) : Type 0 where

@@ -1,16 +1,34 @@
--- What a yes of `optimal` means: the moves of a puzzle text solve its board, and no solution has fewer moves.
-use Rattle.std.specs.Prelude.{◌≡◌, ℕ, Bool, List, length}
+-- `optimal PUZZLE SETS LOG TABLES..`: whether the moves of a puzzle text solve its board, and a log proves that none are fewer.
+use Rattle.std.specs.Prelude.{◌≡◌, ◌≢◌, ℕ, Bool, List, Result, Ok, Err, length}
 use Rattle.puz_board.specs.Paths.{IsSolution}
 use Rattle.set_sum.specs.Bounds.{IsBounded}
 use Rattle.byte_io.specs.Shelf.{Bytes}
-use Rattle.pdb_verdict.specs.Bound.{IsProvedBound}
+use Rattle.pdb_verdict.specs.Bound.{IsBoundFor}
+use Rattle.pdb_verdict.specs.Bundles.{TakesMemoryForTables}
 use Rattle.pdb_verdict.specs.Inputs.{LogFiles}
-use Rattle.pdb_verdict.specs.Replay.{IsSolvedPuzzle}
+use Rattle.pdb_verdict.specs.Replay.{IsReplayResult, IsSolvedPuzzle}
+use Rattle.pdb_verdict.specs.declared.refusals.OptimumRefusal.{OptimumRefusal}
+use Rattle.pdb_verdict.specs.declared.refusals.OptimumRefusal.TheVariants.{O1, Proof, Replay}
+use Rattle.pdb_verdict.specs.declared.refusals.ProofRefusal.{ProofRefusal}
 
--- the moves of the puzzle text are n and solve its board, and the bound n is proved for that board
-pub record IsProvedOptimum (fold : Bool) (files : LogFiles) (n : ℕ) : Type 0 where
+-- the moves of the puzzle text are n and solve its board, for which this is found
+pub record IsFoundForPuzzle (fold : Bool) (files : LogFiles) (n : ℕ) (found : Result ℕ ProofRefusal) : Type 0 where
   pub solved : IsSolvedPuzzle files.text n
-  pub proved : IsProvedBound fold solved.board files.sets files.log files.tables n
+  pub found_for : IsBoundFor fold solved.board files.sets files.log files.tables found
+
+-- the result: the number of the moves where it is the bound that is proved for the board, or why not; the puzzle text comes
+-- before all else, and last that the bound is another number
+abbrev pub IsOptimumResult : Bool → LogFiles → Result ℕ OptimumRefusal → Type 0
+IsOptimumResult fold files (Ok n) = IsFoundForPuzzle fold files n (Ok n)
+IsOptimumResult fold files (Err (Replay refused)) = IsReplayResult files.text (Err refused)
+IsOptimumResult fold files (Err (Proof refused)) = (n : ℕ) × IsFoundForPuzzle fold files n (Err refused)
+IsOptimumResult fold files (Err (O1 n bound)) = IsFoundForPuzzle fold files n (Ok bound) × (n ≢ bound)
+
+-- it takes memory to check the tables, once the moves solve the board
+abbrev pub TakesMemoryForOptimum : Bytes → List Bytes → Type 0
+TakesMemoryForOptimum text tables = (n : ℕ) × IsSolvedPuzzle text n × TakesMemoryForTables tables
+
+-- ---- what an optimum says
 
 -- n is the least number of moves of any solution of the board: there is a solution of n moves, and none of fewer
 pub record IsLeastCount (board : List ℕ) (n : ℕ) : Type 0 where
@@ -19,7 +37,7 @@ pub record IsLeastCount (board : List ℕ) (n : ℕ) : Type 0 where
   pub count : length path ≡ n
   pub bounded : IsBounded board n
 
--- so n is the least number of moves of any solution of the puzzle's board
+-- the moves of the puzzle text are n, and solve its board, and no solution has fewer
 pub record IsOptimum (puzzle : Bytes) (n : ℕ) : Type 0 where
   pub solved : IsSolvedPuzzle puzzle n
   pub least : IsLeastCount solved.board n

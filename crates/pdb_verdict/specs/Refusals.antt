@@ -1,15 +1,17 @@
 -- Why each command refuses, and the fault that each refusal is told as.
 use Rattle.std.specs.Prelude.{◌≡◌, Result, Ok, Err}
 use Rattle.log_check.specs.declared.faults.LogRefusal.TheVariants.{L4}
+use Rattle.pdb_verdict.specs.declared.refusals.BoundRefusal.{BoundRefusal}
+use Rattle.pdb_verdict.specs.declared.refusals.BoundRefusal.TheVariants as bound
 use Rattle.pdb_verdict.specs.declared.refusals.BuildRefusal.{BuildRefusal}
 use Rattle.pdb_verdict.specs.declared.refusals.BuildRefusal.TheVariants as build
 use Rattle.pdb_verdict.specs.declared.refusals.BundleRefusal.{BundleRefusal}
 use Rattle.pdb_verdict.specs.declared.refusals.BundleRefusal.TheVariants as bundle
-use Rattle.pdb_verdict.specs.declared.refusals.ClaimRefusal.{ClaimRefusal}
-use Rattle.pdb_verdict.specs.declared.refusals.ClaimRefusal.TheVariants as claim
 use Rattle.pdb_verdict.specs.declared.refusals.Failure.{Failure}
 use Rattle.pdb_verdict.specs.declared.refusals.Failure.TheVariants.{Memory, Refused}
 use Rattle.pdb_verdict.specs.declared.refusals.GivenUp.TheVariants as given_up
+use Rattle.pdb_verdict.specs.declared.refusals.OptimumRefusal.{OptimumRefusal}
+use Rattle.pdb_verdict.specs.declared.refusals.OptimumRefusal.TheVariants as optimum
 use Rattle.pdb_verdict.specs.declared.refusals.ProofRefusal.{ProofRefusal}
 use Rattle.pdb_verdict.specs.declared.refusals.ProofRefusal.TheVariants as proof
 use Rattle.pdb_verdict.specs.declared.refusals.ReplayRefusal.{ReplayRefusal}
@@ -25,7 +27,7 @@ use Rattle.pdb_verdict.specs.declared.verdicts.Verdict.{Verdict}
 
 -- ---- the fault of each refusal
 
--- of a puzzle text, or of its board text alone
+-- of `replay`
 abbrev pub fault_of_replay : ReplayRefusal → Fault
 fault_of_replay replay.P1 = fault.P1
 fault_of_replay (replay.Board refused) = fault.Board refused
@@ -41,11 +43,16 @@ abbrev pub fault_of_proof : ProofRefusal → Fault
 fault_of_proof (proof.Bundle refused) = fault_of_bundle refused
 fault_of_proof (proof.Log refused) = fault.Log refused
 
--- of `bound` and `optimal`
-abbrev pub fault_of_claim : ClaimRefusal → Fault
-fault_of_claim (claim.Text refused) = fault_of_replay refused
-fault_of_claim (claim.Proof refused) = fault_of_proof refused
-fault_of_claim (claim.O1 solution bound) = fault.O1 solution bound
+-- of `bound`
+abbrev pub fault_of_bound : BoundRefusal → Fault
+fault_of_bound (bound.Board refused) = fault.Board refused
+fault_of_bound (bound.Proof refused) = fault_of_proof refused
+
+-- of `optimal`
+abbrev pub fault_of_optimum : OptimumRefusal → Fault
+fault_of_optimum (optimum.Replay refused) = fault_of_replay refused
+fault_of_optimum (optimum.Proof refused) = fault_of_proof refused
+fault_of_optimum (optimum.O1 solution bound) = fault.O1 solution bound
 
 -- of `make-table`
 abbrev pub fault_of_build : BuildRefusal → Fault
@@ -75,12 +82,6 @@ module _ {A R : Type 0} where
   -- the answer tells what is found, and this holds of what is found
   abbrev pub IsTold : (A → Verdict) → (R → Fault) → (Result A R → Type 0) → Result Verdict Fault → Type 0
   IsTold verdict_of fault_of IsFound answer = (found : Result A R) × IsFound found × (answer ≡ told_as verdict_of fault_of found)
-
-  -- the same where memory may be wanted
-  abbrev pub answer_of : (A → Verdict) → (R → Fault) → Result A (Failure R) → Result Verdict Fault
-  answer_of verdict_of fault_of (Ok found) = Ok (verdict_of found)
-  answer_of verdict_of fault_of (Err (Refused refused)) = Err (fault_of refused)
-  answer_of verdict_of fault_of (Err Memory) = Err fault.Memory
 
   -- this holds of what is found, or memory is wanted, where it is taken
   abbrev pub IsFoundBy : (Result A R → Type 0) → Type 0 → Result A (Failure R) → Type 0

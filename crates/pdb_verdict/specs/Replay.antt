@@ -1,5 +1,5 @@
 -- `replay [FILE]`: whether the moves of a puzzle text solve its board.
-use Rattle.std.specs.Prelude.{◌≡◌, ℕ, List, Option, Some, None, Result, Ok, Err}
+use Rattle.std.specs.Prelude.{◌≡◌, ℕ, List, Option, Some, None, Result, Ok, Err, MatchResult}
 use Rattle.puz_board.specs.BoardTexts.{Spells, board_of_text}
 use Rattle.puz_board.specs.MovesTexts.{Solves, replay_of}
 use Rattle.puz_board.specs.PuzzleTexts.{IsPuzzle, puzzle_parts}
@@ -43,8 +43,7 @@ solved_parts (Some parts) = solved_board (board_of_text parts.0) parts.1
 
 -- the result on the puzzle text
 abbrev pub IsReplayResult : Bytes → Result ℕ ReplayRefusal → Type 0
-IsReplayResult puzzle (Ok n) = IsSolvedPuzzle puzzle n
-IsReplayResult puzzle (Err refused) = solved_parts (puzzle_parts puzzle) ≡ Err refused
+IsReplayResult puzzle found = MatchResult found (IsSolvedPuzzle puzzle) (λ refused. solved_parts (puzzle_parts puzzle) ≡ Err refused)
 
 -- the answer tells it
 abbrev pub IsReplayTold : Bytes → Result Verdict Fault → Type 0

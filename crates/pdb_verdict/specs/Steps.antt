@@ -1,28 +1,44 @@
 -- What the steps of a check answer: a part of the result, or want of memory in its place.
-use Rattle.std.specs.Prelude.{◌≡◌, ℕ, Bool, true, List, [], ◌∷◌, ◌++◌, Result}
+use Rattle.std.specs.Prelude.{◌≡◌, ℕ, Bool, true, ◌==◌, if◌then◌else◌, List, [], ◌∷◌, ◌++◌, Option, Some, None, Result, Ok, Err, MatchResult}
+use Rattle.puz_board.specs.BoardTexts.{Spells}
+use Rattle.puz_board.specs.PuzzleTexts.{puzzle_parts}
 use Rattle.tab_file.specs.TableFiles.{IsTableFile}
 use Rattle.tab_file.specs.Tables.{Table}
 use Rattle.tab_rule.specs.ExactTables.{IsExactFile}
 use Rattle.tab_rule.specs.TableFaults.{IsTableFaultOf}
 use Rattle.tab_rule.specs.declared.tables.TableFault.{TableFault}
 use Rattle.tab_rule.specs.declared.tables.TableFault.TheVariants as table_fault
+use Rattle.set_sum.specs.Bundles.{BundleView}
 use Rattle.set_sum.specs.declared.parts.Part.{Part}
+use Rattle.log_check.specs.GoodLogs.{IsGoodFile}
+use Rattle.log_check.specs.LogFaults.{IsCauseOfLogFault}
+use Rattle.log_check.specs.declared.faults.LogFault.{LogFault}
+use Rattle.log_check.specs.declared.faults.LogFault.TheVariants as log_failure
 use Rattle.byte_io.specs.Shelf.{Bytes}
+use Rattle.pdb_request.specs.declared.requests.Claim.{Claim}
+use Rattle.pdb_request.specs.declared.requests.Claim.TheVariants.{Bound, Optimum}
 use Rattle.pdb_run.specs.Answers.{all_bytes}
 use Rattle.pdb_verdict.specs.Bound.{IsBoundFor}
 use Rattle.pdb_verdict.specs.Bundles.{AreExactFiles, IsFirstRefused, TakesMemoryForTables, part_for, parts_for}
 use Rattle.pdb_verdict.specs.Inputs.{LogFiles, log_files}
-use Rattle.pdb_verdict.specs.Refusals.{IsCauseBy, IsFoundBy}
+use Rattle.pdb_verdict.specs.Refusals.{IsCauseBy, IsFoundBy, fault_of_bound, fault_of_optimum, or_failure, told_as}
+use Rattle.pdb_verdict.specs.Replay.{solved_parts}
 use Rattle.pdb_verdict.specs.declared.evidence.Evidence.{Evidence}
 use Rattle.pdb_verdict.specs.declared.log_inputs.LogInputs.{LogInputs}
+use Rattle.pdb_verdict.specs.declared.refusals.BoundRefusal.{BoundRefusal}
+use Rattle.pdb_verdict.specs.declared.refusals.BoundRefusal.TheVariants as bound_refusal
 use Rattle.pdb_verdict.specs.declared.refusals.BundleRefusal.{BundleRefusal}
 use Rattle.pdb_verdict.specs.declared.refusals.Failure.{Failure}
 use Rattle.pdb_verdict.specs.declared.refusals.Failure.TheVariants.{Memory, Refused}
 use Rattle.pdb_verdict.specs.declared.refusals.FileRefusal.{FileRefusal}
+use Rattle.pdb_verdict.specs.declared.refusals.OptimumRefusal.{OptimumRefusal}
+use Rattle.pdb_verdict.specs.declared.refusals.OptimumRefusal.TheVariants as optimum_refusal
 use Rattle.pdb_verdict.specs.declared.refusals.ProofRefusal.{ProofRefusal}
-use Rattle.pdb_verdict.specs.declared.refusals.ProofRefusal.TheVariants.{Bundle}
+use Rattle.pdb_verdict.specs.declared.refusals.ProofRefusal.TheVariants.{Bundle, Log}
 use Rattle.pdb_verdict.specs.declared.verdicts.Fault.{Fault}
 use Rattle.pdb_verdict.specs.declared.verdicts.Fault.TheVariants as fault
+use Rattle.pdb_verdict.specs.declared.verdicts.Verdict.{Verdict}
+use Rattle.pdb_verdict.specs.declared.verdicts.Verdict.TheVariants as verdict
 
 -- ---- tables
 
@@ -61,6 +77,16 @@ files_with text evidence = log_files text evidence.sets.now evidence.log.now (al
 
 -- ---- bounds
 
+-- the bound for a board over a bundle, or why there is none, or want of memory
+abbrev pub IsFoundOver : BundleView → List ℕ → Bytes → Result ℕ LogFault → Type 0
+IsFoundOver bundle board log found = MatchResult found (IsGoodFile bundle board log) (λ cause. IsCauseOfLogFault cause bundle board log)
+
+-- what is found of a log over a bundle, as what is found for the files
+abbrev pub of_log : Result ℕ LogFault → Result ℕ (Failure ProofRefusal)
+of_log (Ok bound) = Ok bound
+of_log (Err (log_failure.Refused refused)) = Err (Refused (Log refused))
+of_log (Err log_failure.Memory) = Err Memory
+
 -- no bundle, as no bound
 abbrev pub of_bundle : Failure BundleRefusal → Failure ProofRefusal
 of_bundle (Refused refused) = Refused (Bundle refused)
@@ -75,9 +101,36 @@ abbrev pub IsFoundBehind : List ℕ → Evidence → Result ℕ (Failure ProofRe
 IsFoundBehind board evidence found =
     IsFoundFor evidence.tables.fold board evidence.sets.now evidence.log.now (all_bytes evidence.tables.files.now) found
 
+-- ---- claims on a log
+
+-- what is found for the board of a text, as the result of `bound`
+abbrev pub as_bound : Result ℕ ProofRefusal → Result ℕ BoundRefusal
+as_bound (Ok bound) = Ok bound
+as_bound (Err refused) = Err (bound_refusal.Proof refused)
+
+-- what is found for the board of a puzzle text with so many moves, as the result of `optimal`
+abbrev pub as_optimum : ℕ → Result ℕ ProofRefusal → Result ℕ OptimumRefusal
+as_optimum n (Ok bound) = if n == bound then Ok bound else Err (optimum_refusal.O1 n bound)
+as_optimum n (Err refused) = Err (optimum_refusal.Proof refused)
+
+-- what is claimed where moves are told, and where they aren't
+abbrev pub claim_with : Option ℕ → Claim
+claim_with None = Bound
+claim_with (Some n) = Optimum
+
+-- the text begins a check of what is claimed: it spells the board, or so many moves behind the board solve it
+abbrev pub Begins : Bytes → List ℕ → Option ℕ → Type 0
+Begins text board None = Spells text board
+Begins text board (Some n) = solved_parts (puzzle_parts text) ≡ Ok (board, n)
+
+-- the answer on what is found for the board
+abbrev pub answer_with : Option ℕ → Result ℕ (Failure ProofRefusal) → Result Verdict (Failure Fault)
+answer_with None found = or_failure (told_as verdict.Bound fault_of_bound) (or_failure as_bound found)
+answer_with (Some n) found = or_failure (told_as verdict.Optimal fault_of_optimum) (or_failure (as_optimum n) found)
+
 -- ---- a table file alone
 
 -- why a table file is refused, or want of memory
-abbrev pub of_table : TableFault → Fault
-of_table (table_fault.Refused refused) = fault.Table refused
-of_table table_fault.Memory = fault.Memory
+abbrev pub of_table : TableFault → Failure Fault
+of_table (table_fault.Refused refused) = Refused (fault.Table refused)
+of_table table_fault.Memory = Memory

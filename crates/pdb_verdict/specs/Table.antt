@@ -1,5 +1,5 @@
 -- `table FILE`: whether the table of a table file is exact.
-use Rattle.std.specs.Prelude.{◌≡◌, ℕ, ◌<◌, ◌^◌, Result, Ok, Err}
+use Rattle.std.specs.Prelude.{◌≡◌, ℕ, ◌<◌, ◌^◌, Result, MatchResult}
 use Rattle.puz_board.specs.Masks.{numbers_of}
 use Rattle.tab_file.specs.TableFiles.{IsTableFile}
 use Rattle.tab_file.specs.Tables.{Table}
@@ -30,8 +30,7 @@ pub record IsExactFor (file : Bytes) (side mask : ℕ) (census : Census) : Type 
 
 -- the result on the table file: a side, a mask and a census, or why it is refused
 abbrev pub IsTableResult : Bytes → Result (ℕ × ℕ × Census) TableRefusal → Type 0
-IsTableResult file (Ok found) = IsExactFor file found.0 found.1 found.2
-IsTableResult file (Err refused) = IsTableFaultOf refused file
+IsTableResult file found = MatchResult found (λ exact. IsExactFor file exact.0 exact.1 exact.2) (λ refused. IsTableFaultOf refused file)
 
 -- the three, as a verdict
 abbrev pub exact_verdict : ℕ × ℕ × Census → Verdict

@@ -1,14 +1,18 @@
 -- The result on given inputs: a verdict, or the first refusal that stands.
-use Rattle.std.specs.Prelude.{◌≡◌, ◌⊎◌, ⊤, ℕ, Result, Err}
+use Rattle.std.specs.Prelude.{◌≡◌, ⊤, ℕ, Result, Ok, Err}
 use Rattle.tab_rule.specs.declared.census.Census.{Census}
+use Rattle.pdb_request.specs.declared.requests.Claim.TheVariants.{Bound, Optimum}
 use Rattle.pdb_run.specs.Commands.{Reply}
-use Rattle.pdb_verdict.specs.Claims.{HoldsOfBoard, IsClaimTold, IsProvedClaim, TakesMemoryForClaim, claim_verdict}
+use Rattle.pdb_verdict.specs.Bound.{IsBoundResult, IsBoundedText, IsFoundForText, TakesMemoryForBound}
 use Rattle.pdb_verdict.specs.Inputs.{Given, log_claim, puzzle_text, table_file}
 use Rattle.pdb_verdict.specs.Lines.{reply_to}
+use Rattle.pdb_verdict.specs.Optimal.{IsFoundForPuzzle, IsOptimum, IsOptimumResult, TakesMemoryForOptimum}
+use Rattle.pdb_verdict.specs.Refusals.{IsFoundBy, IsTold, fault_of_bound, fault_of_optimum}
 use Rattle.pdb_verdict.specs.Replay.{IsReplayTold, IsSolvedPuzzle}
 use Rattle.pdb_verdict.specs.Table.{IsExactFor, IsTableTold, TakesMemoryForTable, exact_verdict}
+use Rattle.pdb_verdict.specs.declared.refusals.Failure.{Failure}
+use Rattle.pdb_verdict.specs.declared.refusals.Failure.TheVariants.{Memory}
 use Rattle.pdb_verdict.specs.declared.verdicts.Fault.{Fault}
-use Rattle.pdb_verdict.specs.declared.verdicts.Fault.TheVariants as fault
 use Rattle.pdb_verdict.specs.declared.verdicts.Verdict.{Verdict}
 use Rattle.pdb_verdict.specs.declared.verdicts.Verdict.TheVariants as verdict
 
@@ -16,19 +20,23 @@ use Rattle.pdb_verdict.specs.declared.verdicts.Verdict.TheVariants as verdict
 abbrev pub IsTrueOf : Given → Verdict → Type 0
 IsTrueOf (puzzle_text puzzle) said = (n : ℕ) × IsSolvedPuzzle puzzle n × (said ≡ verdict.Solution n)
 IsTrueOf (table_file table) said = (exact : ℕ × ℕ × Census) × IsExactFor table exact.0 exact.1 exact.2 × (said ≡ exact_verdict exact)
-IsTrueOf (log_claim claim fold files) said = (n : ℕ) × IsProvedClaim claim fold files n × (said ≡ claim_verdict claim n)
+IsTrueOf (log_claim Bound fold files) said = (n : ℕ) × IsFoundForText fold files (Ok n) × (said ≡ verdict.Bound n)
+IsTrueOf (log_claim Optimum fold files) said = (n : ℕ) × IsFoundForPuzzle fold files n (Ok n) × (said ≡ verdict.Optimal n)
 
--- what a verdict on a log says of the solutions of the board
+-- what a verdict on a log says of the solutions of the board: that none has fewer moves than a bound, and that an optimum is their
+-- least number of moves
 abbrev pub HoldsOfSolutions : Given → Verdict → Type 0
 HoldsOfSolutions (puzzle_text puzzle) said = ⊤
 HoldsOfSolutions (table_file table) said = ⊤
-HoldsOfSolutions (log_claim claim fold files) said = (n : ℕ) × HoldsOfBoard claim files.text n × (said ≡ claim_verdict claim n)
+HoldsOfSolutions (log_claim Bound fold files) said = (n : ℕ) × IsBoundedText files.text n × (said ≡ verdict.Bound n)
+HoldsOfSolutions (log_claim Optimum fold files) said = (n : ℕ) × IsOptimum files.text n × (said ≡ verdict.Optimal n)
 
 -- the answer is the result on the inputs
 abbrev pub IsResult : Given → Result Verdict Fault → Type 0
 IsResult (puzzle_text puzzle) answer = IsReplayTold puzzle answer
 IsResult (table_file table) answer = IsTableTold table answer
-IsResult (log_claim claim fold files) answer = IsClaimTold claim fold files answer
+IsResult (log_claim Bound fold files) answer = IsTold verdict.Bound fault_of_bound (IsBoundResult fold files) answer
+IsResult (log_claim Optimum fold files) answer = IsTold verdict.Optimal fault_of_optimum (IsOptimumResult fold files) answer
 
 -- the reply tells it
 pub record TellsResult (inputs : Given) (reply : Reply) : Type 0 where
@@ -43,12 +51,13 @@ pub record TellsResult (inputs : Given) (reply : Reply) : Type 0 where
 abbrev pub TakesMemory : Given → Type 0
 TakesMemory (puzzle_text puzzle) = ⊥
 TakesMemory (table_file table) = TakesMemoryForTable table
-TakesMemory (log_claim claim fold files) = TakesMemoryForClaim claim files.text files.tables
+TakesMemory (log_claim Bound fold files) = TakesMemoryForBound files.text files.tables
+TakesMemory (log_claim Optimum fold files) = TakesMemoryForOptimum files.text files.tables
 
 -- the answer is want of memory, where that is taken
-abbrev pub LacksMemory : Given → Result Verdict Fault → Type 0
-LacksMemory inputs answer = TakesMemory inputs × (answer ≡ Err fault.Memory)
+abbrev pub LacksMemory : Given → Result Verdict (Failure Fault) → Type 0
+LacksMemory inputs answer = TakesMemory inputs × (answer ≡ Err Memory)
 
 -- the answer is the result, or want of memory where that is taken
-abbrev pub IsAnswerTo : Given → Result Verdict Fault → Type 0
-IsAnswerTo inputs answer = IsResult inputs answer ⊎ LacksMemory inputs answer
+abbrev pub IsAnswerTo : Given → Result Verdict (Failure Fault) → Type 0
+IsAnswerTo inputs answer = IsFoundBy (IsResult inputs) (TakesMemory inputs) answer

@@ -6,13 +6,13 @@ ghost use Rattle.pdb_verdict.specs.Inputs.{given};
 ghost use Rattle.pdb_verdict.specs.Verdicts.{HoldsOfSolutions, IsAnswerTo, IsTrueOf, LacksMemory};
 
 use crate::bundles::Tables;
-use crate::claims::verify_claim;
+use crate::claims::{answer_of_bound, answer_of_optimum, bound_of_text, optimum_of_puzzle};
 use crate::evidence::Evidence;
 use crate::inputs::Inputs;
+use crate::refusals::Failure;
 use crate::replay::verify_puzzle;
 use crate::table::verify_table;
 use crate::verdicts::{Fault, Verdict};
-use pdb_request::Claim;
 use std::alloc::Global;
 use std::sync::Wait;
 use std::thread::Threads;
@@ -29,7 +29,7 @@ pub fn verify<H: Threads + Wait, G: Gate + Sync>(
     inputs: &Inputs<'_>,
     workers: u8,
     gate: &G,
-) -> Result<Verdict, Fault>
+) -> Result<Verdict, Failure<Fault>>
     requires { AreWorkers workers }
     // A yes comes only where it is true, and always then where memory is there.
     ensures yes { (verdict : Verdict) → result ≡ Ok verdict → IsTrueOf (given inputs.now) verdict }
@@ -48,11 +48,14 @@ pub fn verify<H: Threads + Wait, G: Gate + Sync>(
 pub(crate) fn verify_by<H: Threads + Wait, G: Gate + Sync>(
     inputs: &Inputs<'_>,
     workers: &Workers<'_, H, G>,
-) -> Result<Verdict, Fault>
+) -> Result<Verdict, Failure<Fault>>
     ensures { IsAnswerTo (given inputs.now) result }
 {
     match *inputs {
-        Inputs::Replay { puzzle } => verify_puzzle(puzzle),
+        Inputs::Replay { puzzle } => match verify_puzzle(puzzle) {
+            Ok(verdict) => Ok(verdict),
+            Err(fault) => Err(Failure::Refused(fault)),
+        },
         Inputs::Table { table } => verify_table(table, workers),
         Inputs::Bound {
             board,
@@ -63,7 +66,7 @@ pub(crate) fn verify_by<H: Threads + Wait, G: Gate + Sync>(
         } => {
             let tables = Tables { files, fold };
             let evidence = Evidence { sets, log, tables };
-            verify_claim(Claim::Bound, board, &evidence, workers)
+            answer_of_bound(bound_of_text(board, &evidence, workers))
         }
         Inputs::Optimal {
             puzzle,
@@ -74,7 +77,7 @@ pub(crate) fn verify_by<H: Threads + Wait, G: Gate + Sync>(
         } => {
             let tables = Tables { files, fold };
             let evidence = Evidence { sets, log, tables };
-            verify_claim(Claim::Optimum, puzzle, &evidence, workers)
+            answer_of_optimum(optimum_of_puzzle(puzzle, &evidence, workers))
         }
     }
 }

@@ -1,113 +1,141 @@
 //! Whether a log proves what is claimed of it: that no solution of a board has fewer moves than its bound, or that the moves of a
 //! puzzle text are a solution, and none has fewer.
 
-ghost use Rattle.std.specs.Prelude.{◌≡◌};
-ghost use Rattle.pdb_verdict.specs.Claims.{IsClaimOver, IsClaimResult, TakesMemoryForClaim, claim_verdict, compared, start_of};
-ghost use Rattle.pdb_verdict.specs.Inputs.{log_claim};
-ghost use Rattle.pdb_verdict.specs.Refusals.{IsFoundBy, answer_of, fault_of_claim, or_failure};
-ghost use Rattle.pdb_verdict.specs.Steps.{files_with};
-ghost use Rattle.pdb_verdict.specs.Verdicts.{IsAnswerTo};
-ghost use Rattle.pdb_request.specs.declared.requests.Claim.TheVariants.{Optimum};
+ghost use Rattle.std.specs.Prelude.{◌≡◌, Bool, List, ℕ};
+ghost use Rattle.pdb_verdict.specs.Bound.{IsBoundResult, TakesMemoryForBound};
+ghost use Rattle.pdb_verdict.specs.Bundles.{IsBundleOfFiles};
+ghost use Rattle.pdb_verdict.specs.Inputs.{log_files};
+ghost use Rattle.pdb_verdict.specs.Optimal.{IsOptimumResult, TakesMemoryForOptimum};
+ghost use Rattle.pdb_verdict.specs.Refusals.{IsFoundBy, fault_of_bound, fault_of_optimum, or_failure, told_as};
+ghost use Rattle.pdb_verdict.specs.Steps.{answer_with, as_bound, as_optimum, files_with};
+ghost use Rattle.pdb_verdict.specs.declared.verdicts.Verdict.TheVariants as verdict;
 
 use crate::evidence::{Evidence, bound_for, bound_over, proved};
-use crate::refusals::{ClaimRefusal, Failure, ProofRefusal, ReplayRefusal, answer_of_claim};
+use crate::refusals::{
+    BoundRefusal, Failure, OptimumRefusal, ProofRefusal, fault_of_bound, fault_of_optimum,
+};
 use crate::replay::solved_board;
 use crate::verdicts::{Fault, Verdict};
-use pdb_request::Claim;
 use puz_board::Board;
 use set_sum::Bundle;
 use std::sync::Wait;
 use std::thread::Threads;
 use work_run::{Gate, Workers};
 
-/// The verdict on a text and a log. Or the first refusal that stands: the text's, those of the evidence, and then `O1`.
-pub(crate) fn verify_claim<H: Threads + Wait, G: Gate + Sync>(
-    claim: Claim,
+/// The bound that is proved for the board of a text. Or the first refusal that stands: the board text's, then those of the
+/// evidence.
+pub(crate) fn bound_of_text<H: Threads + Wait, G: Gate + Sync>(
     text: &[u8],
     evidence: &Evidence<'_>,
     workers: &Workers<'_, H, G>,
-) -> Result<Verdict, Fault>
+) -> Result<u8, Failure<BoundRefusal>>
     ensures { let files = files_with text.now evidence.now in
-        IsAnswerTo (log_claim claim evidence.now.tables.fold files) result }
+        let IsFound = IsBoundResult evidence.now.tables.fold files in
+        IsFoundBy IsFound (TakesMemoryForBound files.text files.tables) result }
 {
-    answer_of_claim(claim, claim_result(claim, text, evidence, workers))
+    match Board::read(text) {
+        Ok(board) => bound_of(bound_for(&board, evidence, workers)),
+        Err(refused) => Err(Failure::Refused(BoundRefusal::Board(refused))),
+    }
 }
 
-/// The number that is proved for a text.
-fn claim_result<H: Threads + Wait, G: Gate + Sync>(
-    claim: Claim,
-    text: &[u8],
+/// The optimum that is proved for a puzzle text. Or the first refusal that stands: the puzzle text's, those of the evidence, and
+/// then `O1`.
+pub(crate) fn optimum_of_puzzle<H: Threads + Wait, G: Gate + Sync>(
+    puzzle: &[u8],
     evidence: &Evidence<'_>,
     workers: &Workers<'_, H, G>,
-) -> Result<u8, Failure<ClaimRefusal>>
-    ensures { let files = files_with text.now evidence.now in
-        let IsFound = IsClaimResult claim evidence.now.tables.fold files in
-        IsFoundBy IsFound (TakesMemoryForClaim claim files.text files.tables) result }
+) -> Result<u8, Failure<OptimumRefusal>>
+    ensures { let files = files_with puzzle.now evidence.now in
+        let IsFound = IsOptimumResult evidence.now.tables.fold files in
+        IsFoundBy IsFound (TakesMemoryForOptimum files.text files.tables) result }
 {
-    let (board, moves) = start_of(claim, text)?;
-    compare(moves, bound_for(&board, evidence, workers))
+    let (board, moves) = solved_board(puzzle)?;
+    optimum_of(moves, bound_for(&board, evidence, workers))
 }
 
-/// The optimum that a log proves for a puzzle text, over a bundle that is there.
+/// The same for files that made a bundle.
 pub fn optimum_over<H: Threads + Wait, G: Gate + Sync>(
     bundle: &Bundle<'_>,
     puzzle: &[u8],
     log: &[u8],
     workers: &Workers<'_, H, G>,
-) -> Result<u8, Failure<ClaimRefusal>>
-    ensures { IsClaimOver bundle.now (start_of Optimum puzzle.now) log.now result }
+) -> Result<u8, Failure<OptimumRefusal>>
+    ensures { (fold : Bool) (sets : List ℕ) (tables : List (List ℕ))
+        → IsBundleOfFiles fold tables sets bundle.now
+        → IsFoundBy (IsOptimumResult fold (log_files puzzle.now sets log.now tables))
+        (TakesMemoryForOptimum puzzle.now tables) result }
 {
-    let (board, moves) = start_of(Claim::Optimum, puzzle)?;
-    compare(moves, proved(bound_over(bundle, &board, log, workers)))
+    let (board, moves) = solved_board(puzzle)?;
+    optimum_of(moves, proved(bound_over(bundle, &board, log, workers)))
 }
 
-/// The board of a text, and of a puzzle text how many moves solve it.
-pub(crate) fn start_of(claim: Claim, text: &[u8]) -> Result<(Board, Option<u16>), ReplayRefusal>
-    ensures { result ≡ start_of claim text.now }
+/// What `bound` finds where this is found for the board of its text.
+fn bound_of(found: Result<u8, Failure<ProofRefusal>>) -> Result<u8, Failure<BoundRefusal>>
+    ensures { result ≡ or_failure as_bound found }
 {
-    match claim {
-        Claim::Bound => {
-            let board = Board::read(text).map_err(ReplayRefusal::Board)?;
-            Ok((board, None))
-        }
-        Claim::Optimum => {
-            let (board, moves) = solved_board(text)?;
-            Ok((board, Some(moves)))
-        }
+    match found {
+        Ok(bound) => Ok(bound),
+        Err(Failure::Refused(refused)) => Err(Failure::Refused(BoundRefusal::Proof(refused))),
+        Err(Failure::Memory) => Err(Failure::Memory),
     }
 }
 
-/// The verdict on what is found for the board of a claim, which so many moves solve, where that is told.
-pub(crate) fn verdict_on(
-    claim: Claim,
-    moves: Option<u16>,
+/// What `optimal` finds where this is found for the board of its text, which so many moves solve.
+fn optimum_of(
+    solution: u16,
     found: Result<u8, Failure<ProofRefusal>>,
-) -> Result<Verdict, Fault>
-    ensures { let compared = or_failure (compared moves) found in
-        result ≡ answer_of (claim_verdict claim) fault_of_claim compared }
-{
-    answer_of_claim(claim, compare(moves, found))
-}
-
-/// The number that is proved, where this is found for a board, and the moves that solve it are as many, where there are some.
-fn compare(
-    moves: Option<u16>,
-    found: Result<u8, Failure<ProofRefusal>>,
-) -> Result<u8, Failure<ClaimRefusal>>
-    ensures { result ≡ or_failure (compared moves) found }
+) -> Result<u8, Failure<OptimumRefusal>>
+    ensures { result ≡ or_failure (as_optimum solution) found }
 {
     match found {
-        Ok(bound) => match moves {
-            None => Ok(bound),
-            Some(solution) => {
-                if solution == u16::from(bound) {
-                    Ok(bound)
-                } else {
-                    Err(Failure::Refused(ClaimRefusal::O1 { solution, bound }))
-                }
+        Ok(bound) => {
+            if solution == u16::from(bound) {
+                Ok(bound)
+            } else {
+                Err(Failure::Refused(OptimumRefusal::O1 { solution, bound }))
             }
-        },
-        Err(Failure::Refused(refused)) => Err(Failure::Refused(ClaimRefusal::Proof(refused))),
+        }
+        Err(Failure::Refused(refused)) => Err(Failure::Refused(OptimumRefusal::Proof(refused))),
         Err(Failure::Memory) => Err(Failure::Memory),
+    }
+}
+
+/// The answer where `bound` finds this.
+pub(crate) fn answer_of_bound(
+    found: Result<u8, Failure<BoundRefusal>>,
+) -> Result<Verdict, Failure<Fault>>
+    ensures { result ≡ or_failure (told_as verdict.Bound fault_of_bound) found }
+{
+    match found {
+        Ok(bound) => Ok(Verdict::Bound(bound)),
+        Err(Failure::Refused(refused)) => Err(Failure::Refused(fault_of_bound(refused))),
+        Err(Failure::Memory) => Err(Failure::Memory),
+    }
+}
+
+/// The answer where `optimal` finds this.
+pub(crate) fn answer_of_optimum(
+    found: Result<u8, Failure<OptimumRefusal>>,
+) -> Result<Verdict, Failure<Fault>>
+    ensures { result ≡ or_failure (told_as verdict.Optimal fault_of_optimum) found }
+{
+    match found {
+        Ok(moves) => Ok(Verdict::Optimal(moves)),
+        Err(Failure::Refused(refused)) => Err(Failure::Refused(fault_of_optimum(refused))),
+        Err(Failure::Memory) => Err(Failure::Memory),
+    }
+}
+
+/// The answer where this is found for the board of a text, which so many moves solve, where that is claimed.
+pub(crate) fn answer_with(
+    moves: Option<u16>,
+    found: Result<u8, Failure<ProofRefusal>>,
+) -> Result<Verdict, Failure<Fault>>
+    ensures { result ≡ answer_with moves found }
+{
+    match moves {
+        None => answer_of_bound(bound_of(found)),
+        Some(moves) => answer_of_optimum(optimum_of(moves, found)),
     }
 }

@@ -3,8 +3,7 @@
 ghost use Rattle.std.specs.Prelude.{◌≡◌, ◌≤◌, ◌+◌, ◌∷◌, ◌++◌, [], true, length};
 ghost use Rattle.pdb_run.specs.Answers.{all_bytes};
 ghost use Rattle.pdb_run.specs.Writing.{digest_line, digests_of};
-ghost use Rattle.pdb_verdict.specs.Bound.{IsFoundOver, of_log};
-ghost use Rattle.pdb_verdict.specs.Steps.{IsFoundBehind, IsFoundFor};
+ghost use Rattle.pdb_verdict.specs.Steps.{IsFoundBehind, IsFoundFor, IsFoundOver, of_log};
 
 use crate::bundles::{Tables, read_bundle, without_bundle};
 use crate::folding::fold_bundle;

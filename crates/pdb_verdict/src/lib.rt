@@ -35,8 +35,9 @@ pub use lines::line_of;
 pub use log_command::run_log_check;
 pub use log_inputs::{push_tables, take_first};
 pub use refusals::{
-    BuildRefusal, BundleRefusal, ClaimRefusal, Failure, FileRefusal, GivenUp, ProofRefusal,
-    ReplayRefusal, SearchRefusal, UnmadeRefusal, fault_of_build, fault_of_claim, fault_of_search,
+    BoundRefusal, BuildRefusal, BundleRefusal, Failure, FileRefusal, GivenUp, OptimumRefusal,
+    ProofRefusal, ReplayRefusal, SearchRefusal, UnmadeRefusal, fault_of_build, fault_of_optimum,
+    fault_of_search, settled,
 };
 pub use replay::verify_puzzle;
 pub use replay_command::run_replay;

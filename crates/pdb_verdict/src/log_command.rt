@@ -1,17 +1,17 @@
 //! The commands `bound` and `optimal`: checks of a log.
 
-ghost use Rattle.std.specs.Prelude.{◌≡◌, ◌≤◌, Ok, Some, true, length, IfSome};
+ghost use Rattle.std.specs.Prelude.{◌≡◌, ◌≤◌, Some, true, length, IfSome};
 ghost use Rattle.pdb_run.specs.Answers.{IsAnswerBy};
 ghost use Rattle.pdb_run.specs.Runs.{Ends};
-ghost use Rattle.pdb_verdict.specs.Claims.{start_of};
 ghost use Rattle.pdb_verdict.specs.Inputs.{log_claim};
 ghost use Rattle.pdb_verdict.specs.Plans.{plan_of_check};
-ghost use Rattle.pdb_verdict.specs.Steps.{files_read};
+ghost use Rattle.pdb_verdict.specs.Steps.{Begins, claim_with, files_read};
 ghost use Rattle.pdb_verdict.specs.Verdicts.{TakesMemory, TellsResult};
 
-use crate::claims::{start_of, verdict_on};
+use crate::claims::answer_with;
 use crate::evidence::bound_of_files;
 use crate::log_inputs::{CheckingLog, LogInputs};
+use crate::replay::solved_board;
 use crate::reports::{answer_by, told_or_memory};
 use pdb_request::{Claim, LogCheck};
 use pdb_run::{Answer, Digested, FILES_BESIDE, Io, Status, conclude, read_inputs};
@@ -38,7 +38,7 @@ pub fn run_log_check<H: Threads + Wait + Sync, G: Gate + Sync, I: Io>(
     };
     match start_to_fold(check, &files) {
         Some((board, moves)) => {
-            let answer = answer_folded(check.claim, &board, moves, files, workers);
+            let answer = answer_folded(&board, moves, files, workers);
             conclude(&command, &answer, io)
         }
         None => {
@@ -53,15 +53,22 @@ pub fn run_log_check<H: Threads + Wait + Sync, G: Gate + Sync, I: Io>(
 fn start_to_fold(check: &LogCheck<'_>, files: &LogInputs) -> Option<(Board, Option<u16>)>
     ensures folds { IfSome result (λ _. check.now.fold ≡ true) }
     ensures few { IfSome result (λ _. length files.now.tables.items ≤ FILES_BESIDE) }
-    ensures start { IfSome result
-        (λ start. start_of check.now.claim files.now.text.items ≡ Ok start) }
+    ensures claim { IfSome result (λ start. claim_with start.1 ≡ check.now.claim) }
+    ensures begins { IfSome result (λ start. Begins files.now.text.items start.0 start.1) }
 {
     if !check.fold || files.tables.len() > FILES_BESIDE {
         return None;
     }
-    match start_of(check.claim, files.text.as_slice()) {
-        Ok(start) => Some(start),
-        Err(_) => None,
+    let text = files.text.as_slice();
+    match check.claim {
+        Claim::Bound => {
+            let board = Board::read(text).ok()?;
+            Some((board, None))
+        }
+        Claim::Optimum => {
+            let (board, moves) = solved_board(text).ok()?;
+            Some((board, Some(moves)))
+        }
     }
 }
 
@@ -69,15 +76,14 @@ fn start_to_fold(check: &LogCheck<'_>, files: &LogInputs) -> Option<(Board, Opti
 /// folded tables alone.
 #[inline(never)] // so that a run with full tables hasn't its values on the stack
 fn answer_folded<'i, H: Threads + Wait + Sync, G: Gate + Sync>(
-    claim: Claim,
     board: &Board,
     moves: Option<u16>,
     files: LogInputs,
     workers: &Workers<'_, H, G>,
 ) -> Result<Answer<'i>, AllocError>
     requires few { length files.tables.items ≤ FILES_BESIDE }
-    requires start { start_of claim files.text.items ≡ Ok (board.now, moves) }
-    ensures { let claimed = log_claim claim true (files_read files) in
+    requires begins { Begins files.text.items board.now moves }
+    ensures { let claimed = log_claim (claim_with moves) true (files_read files) in
         IsAnswerBy (TellsResult claimed) (TakesMemory claimed) result }
 {
     let LogInputs {
@@ -88,5 +94,5 @@ fn answer_folded<'i, H: Threads + Wait + Sync, G: Gate + Sync>(
     } = files;
     let (sets, log) = (sets.as_slice(), log.as_slice());
     let (digests, found) = bound_of_files(board, sets, log, tables, workers);
-    told_or_memory(Digested::Lines(digests), verdict_on(claim, moves, found))
+    told_or_memory(Digested::Lines(digests), answer_with(moves, found))
 }

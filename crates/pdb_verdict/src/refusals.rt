@@ -1,16 +1,15 @@
 //! Why each command refuses: a type for each, and the fault that each refusal is told as.
 
-ghost use Rattle.std.specs.Prelude.{◌≡◌, ℕ};
-ghost use Rattle.pdb_verdict.specs.Claims.{claim_verdict};
-ghost use Rattle.pdb_verdict.specs.Refusals.{answer_of, fault_of_build, fault_of_bundle, fault_of_claim, fault_of_proof, fault_of_replay, fault_of_search};
-ghost use Rattle.pdb_verdict.specs.declared.refusals.ClaimRefusal.TheVariants as claim_refusal;
-ghost use Rattle.pdb_verdict.specs.declared.refusals.Failure.TheVariants.{Refused};
+ghost use Rattle.std.specs.Prelude.{◌≡◌, IfErr, IfOk};
+ghost use Rattle.pdb_verdict.specs.Refusals.{fault_of_bound, fault_of_build, fault_of_bundle, fault_of_optimum, fault_of_proof, fault_of_replay, fault_of_search, or_memory};
+ghost use Rattle.pdb_verdict.specs.declared.refusals.Failure.TheVariants.{Memory, Refused};
+ghost use Rattle.pdb_verdict.specs.declared.refusals.OptimumRefusal.TheVariants as optimum_refusal;
 
-use crate::verdicts::{Fault, MakeRefusal, Verdict};
+use crate::verdicts::{Fault, MakeRefusal};
 use log_check::LogRefusal;
-use pdb_request::Claim;
 use puz_board::{BoardFault, MoveFault};
 use set_sum::SetFault;
+use std::alloc::AllocError;
 use tab_rule::TableRefusal;
 
 /// Why a check or a maker comes to nothing.
@@ -22,7 +21,7 @@ pub enum Failure<R> {
     Memory,
 }
 
-/// Why a puzzle text is none that is solved, or a board text is refused.
+/// Why a puzzle text is none that is solved.
 #[derive(Clone, Copy, Debug, PartialEq, Eq)]
 pub enum ReplayRefusal {
     /// It has no `;`.
@@ -60,22 +59,31 @@ pub enum ProofRefusal {
     Log(LogRefusal),
 }
 
-/// Why `bound` or `optimal` says no.
+/// Why `bound` says no.
 #[derive(Clone, Copy, Debug, PartialEq, Eq)]
-pub enum ClaimRefusal {
-    /// The text is refused: for a bound, the board text that it is.
-    Text(ReplayRefusal),
+pub enum BoundRefusal {
+    /// The board text is refused.
+    Board(BoardFault),
     /// No bound is proved for its board.
+    Proof(ProofRefusal),
+}
+
+/// Why `optimal` says no.
+#[derive(Clone, Copy, Debug, PartialEq, Eq)]
+pub enum OptimumRefusal {
+    /// The puzzle text is refused, as by `replay`.
+    Replay(ReplayRefusal),
+    /// No bound is proved for its board, as by `bound`.
     Proof(ProofRefusal),
     /// The moves are a solution, and more than the bound that is proved.
     O1 { solution: u16, bound: u8 },
 }
 
-impl From<ReplayRefusal> for Failure<ClaimRefusal> {
-    ghost from_gives = { λ refused failure. failure ≡ Refused (claim_refusal.Text refused) };
+impl From<ReplayRefusal> for Failure<OptimumRefusal> {
+    ghost from_gives = { λ refused failure. failure ≡ Refused (optimum_refusal.Replay refused) };
 
-    fn from(refused: ReplayRefusal) -> Failure<ClaimRefusal> {
-        Failure::Refused(ClaimRefusal::Text(refused))
+    fn from(refused: ReplayRefusal) -> Failure<OptimumRefusal> {
+        Failure::Refused(OptimumRefusal::Replay(refused))
     }
 }
 
@@ -148,14 +156,24 @@ pub fn fault_of_proof(refused: ProofRefusal) -> Fault
     }
 }
 
-/// The fault that a refusal of `bound` or of `optimal` is.
-pub fn fault_of_claim(refused: ClaimRefusal) -> Fault
-    ensures { result ≡ fault_of_claim refused }
+/// The fault that a refusal of `bound` is.
+pub(crate) fn fault_of_bound(refused: BoundRefusal) -> Fault
+    ensures { result ≡ fault_of_bound refused }
 {
     match refused {
-        ClaimRefusal::Text(refused) => fault_of_replay(refused),
-        ClaimRefusal::Proof(refused) => fault_of_proof(refused),
-        ClaimRefusal::O1 { solution, bound } => Fault::O1 { solution, bound },
+        BoundRefusal::Board(refused) => Fault::Board(refused),
+        BoundRefusal::Proof(refused) => fault_of_proof(refused),
+    }
+}
+
+/// The fault that a refusal of `optimal` is.
+pub fn fault_of_optimum(refused: OptimumRefusal) -> Fault
+    ensures { result ≡ fault_of_optimum refused }
+{
+    match refused {
+        OptimumRefusal::Replay(refused) => fault_of_replay(refused),
+        OptimumRefusal::Proof(refused) => fault_of_proof(refused),
+        OptimumRefusal::O1 { solution, bound } => Fault::O1 { solution, bound },
     }
 }
 
@@ -182,26 +200,14 @@ pub fn fault_of_search(refused: SearchRefusal) -> Fault
     }
 }
 
-/// The verdict that is given on a claim, with a number.
-fn claim_verdict(claim: Claim, number: u8) -> Verdict
-    ensures { result ≡ claim_verdict claim number }
-{
-    match claim {
-        Claim::Bound => Verdict::Bound(number),
-        Claim::Optimum => Verdict::Optimal(number),
-    }
-}
-
-/// What `verify` answers where a check of a log finds this.
-pub(crate) fn answer_of_claim(
-    claim: Claim,
-    found: Result<u8, Failure<ClaimRefusal>>,
-) -> Result<Verdict, Fault>
-    ensures { result ≡ answer_of (claim_verdict claim) fault_of_claim found }
+/// What is found, where memory isn't wanted.
+pub fn settled<A: Copy, R: Copy>(found: Result<A, Failure<R>>) -> Result<Result<A, R>, AllocError>
+    ensures ok { IfOk result (λ settled. found ≡ or_memory settled) }
+    ensures err { IfErr result (λ _. found ≡ Err Memory) }
 {
     match found {
-        Ok(number) => Ok(claim_verdict(claim, number)),
-        Err(Failure::Refused(refused)) => Err(fault_of_claim(refused)),
-        Err(Failure::Memory) => Err(Fault::Memory),
+        Ok(found) => Ok(Ok(found)),
+        Err(Failure::Refused(refused)) => Ok(Err(refused)),
+        Err(Failure::Memory) => Err(AllocError),
     }
 }

@@ -5,15 +5,16 @@ ghost use Rattle.byte_io.specs.Streams.{Writes};
 ghost use Rattle.pdb_run.specs.Writing.{digests_of, list_of};
 ghost use Rattle.pdb_run.specs.Answers.{IsAnswerBy, IsReplyOf, all_bytes, digest_lines};
 ghost use Rattle.pdb_verdict.specs.Inputs.{Given, given};
-ghost use Rattle.pdb_verdict.specs.Lines.{digested_of, line_of, lines_of, reply_to, stands_alone};
+ghost use Rattle.pdb_verdict.specs.Lines.{digested_of, line_of, lines_of, reply_to};
 ghost use Rattle.pdb_verdict.specs.Verdicts.{IsAnswerTo, TakesMemory, TellsResult};
 
 use crate::checks::verify_by;
 use crate::inputs::Inputs;
 use crate::lines::line_of;
+use crate::refusals::{Failure, settled};
 use crate::verdicts::{Fault, Verdict};
 use byte_io::streams::{WriteFault, put_text};
-use pdb_run::{Answer, Digested, Digests, FILES_BESIDE, beside, say, say_digests};
+use pdb_run::{Answer, Digested, Digests, FILES_BESIDE, NO_MEMORY, beside, say, say_digests};
 use set_sum::MOST_TABLES;
 use std::alloc::AllocError;
 use std::io::Write;
@@ -24,19 +25,19 @@ use work_run::{Gate, Workers};
 // The digests of all tables of a bundle may be made beside its check.
 const _: () = prove!(FILES_BESIDE == MOST_TABLES);
 
-/// Writes all lines on the inputs: the digests and then the answer's line, which stands alone for want of memory.
+/// Writes all lines on the inputs: the digests and then the answer's line, or want of memory alone.
 pub fn report<W: Write>(
     inputs: &Inputs<'_>,
-    answer: &Result<Verdict, Fault>,
+    answer: &Result<Verdict, Failure<Fault>>,
     out: &mut W,
 ) -> Result<(), WriteFault>
     ensures { let lines = lines_of (given inputs.now) answer.now in
         Writes (W.contents out.old) (W.contents out.new) lines result }
 {
-    if stands_alone(answer) {
-        return line(answer, out);
+    match settled(*answer) {
+        Ok(answer) => say(&told(digested_by(inputs, None), &answer), out),
+        Err(_) => put_text(out, NO_MEMORY),
     }
-    say(&told(digested_by(inputs, None), answer), out)
 }
 
 /// Writes the digest line of each file that is checked.
@@ -48,7 +49,7 @@ pub fn digests<W: Write>(inputs: &Inputs<'_>, out: &mut W) -> Result<(), WriteFa
     say_digests(files, last, out)
 }
 
-/// Writes the line of a verdict, a refusal or want of memory.
+/// Writes the line of a verdict or a refusal.
 pub fn line<W: Write>(answer: &Result<Verdict, Fault>, out: &mut W) -> Result<(), WriteFault>
     ensures { Writes (W.contents out.old) (W.contents out.new) (line_of answer.now) result }
 {
@@ -71,13 +72,13 @@ pub(crate) fn answer_by<'i, H: Threads + Wait + Sync, G: Gate + Sync>(
 pub fn verify_beside<H: Threads + Wait + Sync, G: Gate + Sync>(
     inputs: &Inputs<'_>,
     workers: &Workers<'_, H, G>,
-) -> (Option<Digests>, Result<Verdict, Fault>)
+) -> (Option<Digests>, Result<Verdict, Failure<Fault>>)
     ensures digests { let lines = digests_of (digested_of (given inputs.now)) in
         IfSome result.0 (λ digests. digests.items ≡ lines) }
     ensures answer { IsAnswerTo (given inputs.now) result.1 }
 {
     let (files, last) = checked_files(inputs);
-    let check = || -> Result<Verdict, Fault>
+    let check = || -> Result<Verdict, Failure<Fault>>
         ensures { IsAnswerTo (given inputs.entry.now) result }
     { verify_by(inputs, workers) };
     beside(workers.rt, workers.count, files, last, check)
@@ -115,16 +116,14 @@ pub(crate) fn told<'i>(digested: Digested<'i>, answer: &Result<Verdict, Fault>) 
 /// The same, but for want of memory.
 pub(crate) fn told_or_memory<'i>(
     digested: Digested<'i>,
-    answer: Result<Verdict, Fault>,
+    answer: Result<Verdict, Failure<Fault>>,
 ) -> Result<Answer<'i>, AllocError>
     ensures { (inputs : Given) → digest_lines digested.entry ≡ digests_of (digested_of inputs)
         → IsAnswerTo inputs answer
         → IsAnswerBy (TellsResult inputs) (TakesMemory inputs) result }
 {
-    match answer {
-        Err(Fault::Memory) => Err(AllocError),
-        answer => Ok(told(digested, &answer)),
-    }
+    let answer = settled(answer)?;
+    Ok(told(digested, &answer))
 }
 
 /// The files whose digests are told: several, and one behind them.
@@ -139,11 +138,4 @@ fn checked_files<'i>(inputs: &Inputs<'i>) -> (&'i [Vec<u8>], Option<&'i [u8]>)
             (tables, Some(log))
         }
     }
-}
-
-/// Whether an answer is written without digests, as want of memory is.
-fn stands_alone(answer: &Result<Verdict, Fault>) -> bool
-    ensures { result ≡ stands_alone answer.now }
-{
-    matches!(answer, Err(Fault::Memory))
 }

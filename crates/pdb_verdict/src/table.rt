@@ -6,6 +6,7 @@ ghost use Rattle.pdb_verdict.specs.Steps.{of_table};
 ghost use Rattle.pdb_verdict.specs.Verdicts.{IsAnswerTo};
 
 use crate::bundles::check_file;
+use crate::refusals::Failure;
 use crate::verdicts::{Fault, Verdict};
 use std::sync::Wait;
 use std::thread::Threads;
@@ -17,7 +18,7 @@ use work_run::{Gate, Workers};
 pub(crate) fn verify_table<H: Threads + Wait, G: Gate + Sync>(
     table: &[u8],
     workers: &Workers<'_, H, G>,
-) -> Result<Verdict, Fault>
+) -> Result<Verdict, Failure<Fault>>
     ensures { IsAnswerTo (table_file table.now) result }
 {
     match check_file(table, workers) {
@@ -30,11 +31,11 @@ pub(crate) fn verify_table<H: Threads + Wait, G: Gate + Sync>(
 }
 
 /// A refusal of a table file, or want of memory.
-fn table_fault(fault: TableFault) -> Fault
+fn table_fault(fault: TableFault) -> Failure<Fault>
     ensures { result ≡ of_table fault }
 {
     match fault {
-        TableFault::Refused(refusal) => Fault::Table(refusal),
-        TableFault::Memory => Fault::Memory,
+        TableFault::Refused(refusal) => Failure::Refused(Fault::Table(refusal)),
+        TableFault::Memory => Failure::Memory,
     }
 }

@@ -1,6 +1,4 @@
-use Rattle.std.proofs.Common.{[], rules}
 use Rattle.pdb_run.specs.Answers.{all_bytes}
-use Rattle.pdb_run.specs.Io.{HasRead}
 use Rattle.pdb_keep.proofs.make_table.run_make_table.Goals as goal
 
 pub returns-in-Ok-clause-ends : goal.returns-in-Ok-clause-ends

@@ -1,8 +1,9 @@
 use Rattle.std.proofs.Common.{◌≡◌, ◌≢◌, IfErr, IfOk, rules, subst, sym}
 use Rattle.puz_board.specs.Boards.{side_of}
 use Rattle.pdb_verdict.specs.Bundles.{IsBundleOfFiles, IsCauseForBundle}
+use Rattle.pdb_keep.specs.Solve.{AreForBoard}
 use Rattle.pdb_keep.specs.Steps.{IsCauseForSearch}
-use Rattle.pdb_keep.proofs.MakerLemmas.{given_up, made_over, no_bundle}
+use Rattle.pdb_keep.proofs.MakerLemmas.{given_up, no_bundle}
 use Rattle.pdb_keep.proofs.solve.search_in.Goals as goal
 
 pub returns-in-Err : goal.returns-in-Err
@@ -19,16 +20,14 @@ returns-then-ne g c = λ fold sets tables spelt ok err.
 
 pub returns-in-Ok-search_over : goal.returns-in-Ok-search_over
 returns-in-Ok-search_over g c = λ fold sets tables spelt ok err.
-    let bundle = c.in-Ok.bundle in
     let is_bundle = subst (λ r. IfOk r (IsBundleOfFiles fold tables sets)) c.in-Ok.is ok in
-    let one_side : side_of c.args.board.now ≡ bundle.side = search rules in
-    let made = c.in-Ok-search_over.made in
-    made_over fold c.args.text.now sets tables bundle is_bundle c.args.board.now spelt one_side made.moves.items made.log.items made.answer c.in-Ok-search_over.ensures
+    let one_side : side_of c.args.board.now ≡ c.in-Ok.bundle.side = search rules in
+    let are_for : AreForBoard fold c.args.board.now sets tables = record { bundle = c.in-Ok.bundle; is_bundle = is_bundle; one_side = one_side } in
+    record { could = record { board = c.args.board.now; spelt = spelt; are_for = are_for }; is_result = c.in-Ok-search_over.ensures fold sets tables is_bundle }
 
 pub returns : goal.returns
 returns g c = λ fold sets tables spelt ok err.
-    let bundle = c.in-Ok.bundle in
     let is_bundle = subst (λ r. IfOk r (IsBundleOfFiles fold tables sets)) c.in-Ok.is ok in
-    let one_side : side_of c.args.board.now ≡ bundle.side = search rules in
+    let one_side : side_of c.args.board.now ≡ c.in-Ok.bundle.side = search rules in
     subst (IsCauseForSearch fold c.args.text.now sets tables) (sym c.given_up.ensures)
-    (given_up fold c.args.text.now sets tables bundle is_bundle c.args.board.now spelt one_side c.in-Err-search_over.failure)
+    (given_up fold c.args.text.now sets tables c.args.board.now spelt (record { bundle = c.in-Ok.bundle; is_bundle = is_bundle; one_side = one_side }) c.in-Err-search_over.failure)

@@ -5,4 +5,4 @@ use Rattle.pdb_verdict.proofs.bundles.parts_of.Given as goal
 
 -- the parts are those of the first files
 abbrev pub invariant-loop-file : goal.invariant-loop-file
-invariant-loop-file g l = ArePartsOf l.fold (take l.file-index (all_bytes l.files)) l.parts.items
+invariant-loop-file g l = ArePartsOf l.fold (all_bytes (take l.file-index l.files)) l.parts.items

@@ -1,4 +1,4 @@
-use Rattle.pdb_verdict.proofs.ResultLemmas.{result_some}
+use Rattle.pdb_verdict.proofs.VerdictLemmas.{result_some}
 use Rattle.pdb_verdict.proofs.laws.inputs_have_a_result.Goals as goal
 
 pub returns : goal.returns

@@ -1,13 +1,11 @@
-use Rattle.std.proofs.Common.{◌≢◌, Err, refl, rules}
+use Rattle.std.proofs.Common.{refl, subst}
 use Rattle.pdb_verdict.specs.Lines.{reply_to}
-use Rattle.pdb_verdict.specs.declared.verdicts.Fault.TheVariants as fault
-use Rattle.pdb_verdict.proofs.CheckLemmas.{memory_taken, other_result}
+use Rattle.pdb_verdict.specs.Verdicts.{IsAnswerTo, IsResult, TakesMemory}
+use Rattle.pdb_verdict.proofs.RefusalLemmas.{found_settled}
 use Rattle.pdb_verdict.proofs.reports.told_or_memory.Goals as goal
 
-pub returns-in-Err-Memory : goal.returns-in-Err-Memory
-returns-in-Err-Memory c = λ inputs same is. memory_taken inputs c.args.answer (search rules) is
-
-pub returns-in_default : goal.returns-in_default
-returns-in_default c = λ inputs same is.
-    let other : c.args.answer ≢ Err fault.Memory = search rules in
-    (reply_to inputs c.args.answer, record { answer = c.args.answer; is_result = other_result inputs c.args.answer other is; told = refl }, c.told.ensures inputs same)
+pub returns : goal.returns
+returns c = λ inputs same is.
+    let answer = c.in_ok-answer.answer in
+    let result = found_settled (IsResult inputs) (TakesMemory inputs) answer (subst (IsAnswerTo inputs) c.in_ok-answer.ensures.ok is) in
+    (reply_to inputs answer, record { answer = answer; is_result = result; told = refl }, c.told.ensures inputs same)
