@@ -1,7 +1,12 @@
-use Rattle.pdb_run.specs.Answers.{all_bytes}
-use Rattle.pdb_run.proofs.RunLemmas.{ends_unwritable}
+use Rattle.std.proofs.Common.{◌∙◌}
+use Rattle.pdb_run.specs.Runs.{unwritable}
+use Rattle.pdb_run.proofs.RunLemmas.{ends_so}
 use Rattle.pdb_run.proofs.runs.read_inputs_and_try.Goals as goal
 
 pub returns-in-Err-clause-ends : goal.returns-in-Err-clause-ends
 returns-in-Err-clause-ends g c =
-    ends_unwritable _ _ _ _ _ _ (all_bytes c.in_ok-inputs.inputs.items) c.args.name.now c.in-Err.why c.requires c.in_ok-inputs.ensures.read c.in-Err.ensures.failed c.say_unkept.ensures.said
+    let are = c.in_ok-inputs.ensures.read in
+    let failed = c.in-Err.ensures.failed in
+    ends_so (unwritable _ _) c.say_unkept.ensures.said
+    record { under = c.requires; inputs = _; read = are.read; has_failed = failed.has_failed }
+    (failed.files ∙ are.files) tt (rw failed.reader are.behind) (failed.written ∙ are.written)
