@@ -25,7 +25,7 @@ use Rattle.pdb_verdict.specs.Inputs.{table_file}
 use Rattle.pdb_verdict.specs.Refusals.{or_memory}
 use Rattle.pdb_verdict.specs.Replay.{IsSolvedPuzzle}
 use Rattle.pdb_verdict.specs.Table.{IsTableResult, IsTableTold, exact_verdict}
-use Rattle.pdb_verdict.specs.Verdicts.{IsAnswerTo, IsResult, TakesMemory}
+use Rattle.pdb_verdict.specs.Verdicts.{IsFoundOf, IsResult, TakesMemory}
 use Rattle.pdb_verdict.specs.declared.refusals.BundleRefusal.{BundleRefusal}
 use Rattle.pdb_verdict.specs.declared.refusals.Failure.{Failure}
 use Rattle.pdb_verdict.specs.declared.refusals.Failure.TheVariants.{Memory, Refused}
@@ -60,10 +60,10 @@ another_table side mask file (Err refused) is other = absurd (other tt)
 
 -- the answer on a file that was read tells the result, where memory isn't wanted
 pub table_told : (file now : Bytes) (answer : Result Verdict (Failure Fault)) (settled : Result Verdict Fault) → now ≡ file → answer ≡ or_memory settled
-    → IsAnswerTo (table_file now) answer → IsTableTold file settled
+    → IsFoundOf (table_file now) answer → IsTableTold file settled
 table_told file now answer settled same is says =
     found_settled (IsResult (table_file file)) (TakesMemory (table_file file)) settled
-    (subst (IsAnswerTo (table_file file)) is (subst (λ (read : Bytes). IsAnswerTo (table_file read) answer) same says))
+    (subst (IsFoundOf (table_file file)) is (subst (λ (read : Bytes). IsFoundOf (table_file read) answer) same says))
 
 -- ---- searches over a bundle
 

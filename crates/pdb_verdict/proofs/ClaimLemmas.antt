@@ -13,7 +13,7 @@ use Rattle.pdb_verdict.specs.Optimal.{IsFoundForPuzzle, IsLeastCount, IsOptimumR
 use Rattle.pdb_verdict.specs.Refusals.{IsFoundBy, fault_of_bound, fault_of_optimum, or_failure}
 use Rattle.pdb_verdict.specs.Replay.{solved_parts}
 use Rattle.pdb_verdict.specs.Steps.{Begins, IsFoundFor, answer_with, as_bound, as_optimum, claim_with}
-use Rattle.pdb_verdict.specs.Verdicts.{IsAnswerTo}
+use Rattle.pdb_verdict.specs.Verdicts.{IsFoundOf}
 use Rattle.pdb_verdict.specs.declared.refusals.BoundRefusal.{BoundRefusal}
 use Rattle.pdb_verdict.specs.declared.refusals.BoundRefusal.TheVariants as bound_refusal
 use Rattle.pdb_verdict.specs.declared.refusals.Failure.{Failure}
@@ -76,7 +76,7 @@ module _ (fold : Bool) (files : LogFiles) where
 
   -- so it makes the answer
   pub claim_answered : (board : List ℕ) (moves : Option ℕ) (found : Result ℕ (Failure ProofRefusal)) → Begins files.text board moves
-      → IsFoundFor fold board files.sets files.log files.tables found → IsAnswerTo (log_claim (claim_with moves) fold files) (answer_with moves found)
+      → IsFoundFor fold board files.sets files.log files.tables found → IsFoundOf (log_claim (claim_with moves) fold files) (answer_with moves found)
   claim_answered board None found spelt is =
       found_told verdict.Bound fault_of_bound (IsBoundResult fold files) (TakesMemoryForBound files.text files.tables) (or_failure as_bound found) (bound_by board found spelt is)
   claim_answered board (Some n) found parts is =

@@ -17,7 +17,7 @@ use Rattle.byte_io.specs.Shelf.{Bytes}
 use Rattle.pdb_verdict.specs.Inputs.{table_file}
 use Rattle.pdb_verdict.specs.Steps.{of_table}
 use Rattle.pdb_verdict.specs.Table.{IsExactFor, IsTableResult}
-use Rattle.pdb_verdict.specs.Verdicts.{IsAnswerTo}
+use Rattle.pdb_verdict.specs.Verdicts.{IsFoundOf}
 use Rattle.pdb_verdict.proofs.RefusalLemmas.{IsOne, one_result}
 
 -- a mask of four bytes fits 32 bits
@@ -59,6 +59,6 @@ module _ (file : Bytes) where
       (IsTableFaultOf-one file) (λ e r is. exact_or_fault file is.table r is.exact)
 
   -- a refusal is the result, and want of memory is taken
-  pub table_refused : (cause : TableFault) → IsTableCauseOf cause file → IsAnswerTo (table_file file) (Err (of_table cause))
+  pub table_refused : (cause : TableFault) → IsTableCauseOf cause file → IsFoundOf (table_file file) (Err (of_table cause))
   table_refused (Refused refused) is = (Err refused, is, refl)
   table_refused Memory is = is

@@ -14,10 +14,10 @@ use Rattle.pdb_verdict.specs.Inputs.{Given, bytes_of, log_claim, puzzle_text, ta
 use Rattle.pdb_verdict.specs.Laws.{IsToldYes}
 use Rattle.pdb_verdict.specs.Lines.{reply_to}
 use Rattle.pdb_verdict.specs.Optimal.{IsOptimumResult}
-use Rattle.pdb_verdict.specs.Refusals.{fault_of_bound, fault_of_optimum, fault_of_replay, or_memory, told_as}
+use Rattle.pdb_verdict.specs.Refusals.{fault_of_bound, fault_of_optimum, fault_of_replay, told_as, with_memory}
 use Rattle.pdb_verdict.specs.Replay.{IsReplayResult}
 use Rattle.pdb_verdict.specs.Table.{IsTableResult, exact_verdict}
-use Rattle.pdb_verdict.specs.Verdicts.{HoldsOfSolutions, IsAnswerTo, IsResult, IsTrueOf, LacksMemory, TellsResult}
+use Rattle.pdb_verdict.specs.Verdicts.{HoldsOfSolutions, IsAnswerTo, IsFoundOf, IsResult, IsTrueOf, LacksMemory, TellsResult}
 use Rattle.pdb_verdict.specs.declared.refusals.Failure.{Failure}
 use Rattle.pdb_verdict.specs.declared.refusals.Failure.TheVariants.{Memory, Refused}
 use Rattle.pdb_verdict.specs.declared.verdicts.Fault.{Fault}
@@ -64,16 +64,22 @@ result_some (log_claim Optimum fold files) small = told_some verdict.Optimal fau
 
 -- ---- answers
 
+-- what is found is the answer, of which want of memory is one
+pub found_answers : (inputs : Given) (found : Result Verdict (Failure Fault)) → IsFoundOf inputs found → IsAnswerTo inputs (with_memory found)
+found_answers inputs (Ok verdict) is = inl is
+found_answers inputs (Err (Refused refused)) is = inl is
+found_answers inputs (Err Memory) is = inr (is, refl)
+
 -- a yes is answered only where it is true
-pub yes_is_true : (inputs : Given) (answer : Result Verdict (Failure Fault)) → IsAnswerTo inputs answer → (v : Verdict) → answer ≡ Ok v → IsTrueOf inputs v
-yes_is_true inputs answer is v same = (IsResult-true inputs v).0 (subst (IsAnswerTo inputs) same is)
+pub yes_is_true : (inputs : Given) (answer : Result Verdict Fault) → IsAnswerTo inputs answer → (v : Verdict) → answer ≡ Ok v → IsTrueOf inputs v
+yes_is_true inputs answer (inl is) v same = (IsResult-true inputs v).0 (subst (IsResult inputs) same is)
+yes_is_true inputs answer (inr lacks) v same = let clash : Err fault.Memory ≡ Ok v = sym lacks.1 ∙ same in cc
 
 -- and always then, where memory is there
-pub true_is_yes : (inputs : Given) (answer : Result Verdict (Failure Fault)) → IsAnswerTo inputs answer → (v : Verdict) → IsTrueOf inputs v
+pub true_is_yes : (inputs : Given) (answer : Result Verdict Fault) → IsAnswerTo inputs answer → (v : Verdict) → IsTrueOf inputs v
     → (answer ≡ Ok v) ⊎ LacksMemory inputs answer
-true_is_yes inputs (Ok w) is v holds = inl (ap or_memory (IsResult-one inputs (Ok w) (Ok v) is ((IsResult-true inputs v).1 holds)))
-true_is_yes inputs (Err (Refused r)) is v holds = inl (ap or_memory (IsResult-one inputs (Err r) (Ok v) is ((IsResult-true inputs v).1 holds)))
-true_is_yes inputs (Err Memory) is v holds = inr (is, refl)
+true_is_yes inputs answer (inl is) v holds = inl (IsResult-one inputs answer (Ok v) is ((IsResult-true inputs v).1 holds))
+true_is_yes inputs answer (inr lacks) v holds = inr lacks
 
 -- ---- what is told
 

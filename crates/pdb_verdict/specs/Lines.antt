@@ -1,5 +1,5 @@
 -- The lines that a verdict or a refusal is told in.
-use Rattle.std.specs.Prelude.{ℕ, is_ok, List, [], ◌∷◌, ◌++◌, None, Result, Ok, Err, codes, decimal}
+use Rattle.std.specs.Prelude.{ℕ, Bool, true, false, if◌then◌else◌, is_ok, List, [], ◌∷◌, ◌++◌, None, Result, Ok, Err, codes, decimal}
 use Rattle.puz_board.specs.declared.replays.MoveFault.{MoveFault}
 use Rattle.puz_board.specs.declared.replays.MoveFault.TheVariants.{M1, M2, M3, M4}
 use Rattle.puz_board.specs.declared.texts.BoardFault.{BoardFault}
@@ -19,8 +19,6 @@ use Rattle.byte_io.specs.Shelf.{Bytes}
 use Rattle.pdb_run.specs.Writing.{memory_line, reply_text}
 use Rattle.pdb_run.specs.Commands.{Reply}
 use Rattle.pdb_verdict.specs.Inputs.{Given, log_claim, puzzle_text, table_file}
-use Rattle.pdb_verdict.specs.declared.refusals.Failure.{Failure}
-use Rattle.pdb_verdict.specs.declared.refusals.Failure.TheVariants.{Memory, Refused}
 use Rattle.pdb_verdict.specs.declared.verdicts.Fault.{Fault}
 use Rattle.pdb_verdict.specs.declared.verdicts.Fault.TheVariants as fault
 use Rattle.pdb_verdict.specs.declared.verdicts.MakeRefusal.{MakeRefusal}
@@ -107,7 +105,7 @@ line_of_make_refusal K1 = codes "refused K1\n"
 line_of_make_refusal K2 = codes "refused K2\n"
 line_of_make_refusal K3 = codes "refused K3\n"
 
--- of a refusal
+-- of a refusal or want of memory
 abbrev pub line_of_fault : Fault → Bytes
 line_of_fault fault.P1 = codes "refused P1\n"
 line_of_fault (fault.Board refused) = line_of_board_fault refused
@@ -119,6 +117,7 @@ line_of_fault (fault.Log refused) = line_of_log_refusal refused
 line_of_fault (fault.O1 solution bound) = counted_twice (codes "refused O1 solution ") solution (codes " bound ") bound
 line_of_fault (fault.Make refused) = line_of_make_refusal refused
 line_of_fault fault.K4 = codes "refused K4\n"
+line_of_fault fault.Memory = memory_line
 
 -- the side and the mask of a table's pattern, and its census
 abbrev pub exact_line : ℕ → ℕ → Census → Bytes
@@ -150,8 +149,11 @@ digested_of (log_claim claim fold files) = files.tables ++ files.log ∷ []
 abbrev pub reply_to : Given → Result Verdict Fault → Reply
 reply_to inputs answer = record { digested = digested_of inputs; made = None; lines = line_of answer; is_yes = is_ok answer }
 
--- all lines on the inputs: the digests, and then the answer's line; want of memory is said without digests
-abbrev pub lines_of : Given → Result Verdict (Failure Fault) → Bytes
-lines_of inputs (Ok taken) = reply_text (reply_to inputs (Ok taken))
-lines_of inputs (Err (Refused refused)) = reply_text (reply_to inputs (Err refused))
-lines_of inputs (Err Memory) = memory_line
+-- want of memory is said without digests
+abbrev pub stands_alone : Result Verdict Fault → Bool
+stands_alone (Err fault.Memory) = true
+stands_alone answer = false
+
+-- all lines on the inputs: the digests, and then the answer's line
+abbrev pub lines_of : Given → Result Verdict Fault → Bytes
+lines_of inputs answer = if stands_alone answer then line_of answer else reply_text (reply_to inputs answer)

@@ -1,5 +1,5 @@
 -- The result on given inputs: a verdict, or the first refusal that stands.
-use Rattle.std.specs.Prelude.{◌≡◌, ⊤, ℕ, Result, Ok, Err}
+use Rattle.std.specs.Prelude.{◌≡◌, ◌⊎◌, ⊤, ℕ, Result, Ok, Err}
 use Rattle.tab_rule.specs.declared.census.Census.{Census}
 use Rattle.pdb_request.specs.declared.requests.Claim.TheVariants.{Bound, Optimum}
 use Rattle.pdb_run.specs.Commands.{Reply}
@@ -11,8 +11,8 @@ use Rattle.pdb_verdict.specs.Refusals.{IsFoundBy, IsTold, fault_of_bound, fault_
 use Rattle.pdb_verdict.specs.Replay.{IsReplayTold, IsSolvedPuzzle}
 use Rattle.pdb_verdict.specs.Table.{IsExactFor, IsTableTold, TakesMemoryForTable, exact_verdict}
 use Rattle.pdb_verdict.specs.declared.refusals.Failure.{Failure}
-use Rattle.pdb_verdict.specs.declared.refusals.Failure.TheVariants.{Memory}
 use Rattle.pdb_verdict.specs.declared.verdicts.Fault.{Fault}
+use Rattle.pdb_verdict.specs.declared.verdicts.Fault.TheVariants as fault
 use Rattle.pdb_verdict.specs.declared.verdicts.Verdict.{Verdict}
 use Rattle.pdb_verdict.specs.declared.verdicts.Verdict.TheVariants as verdict
 
@@ -55,9 +55,13 @@ TakesMemory (log_claim Bound fold files) = TakesMemoryForBound files.text files.
 TakesMemory (log_claim Optimum fold files) = TakesMemoryForOptimum files.text files.tables
 
 -- the answer is want of memory, where that is taken
-abbrev pub LacksMemory : Given → Result Verdict (Failure Fault) → Type 0
-LacksMemory inputs answer = TakesMemory inputs × (answer ≡ Err Memory)
+abbrev pub LacksMemory : Given → Result Verdict Fault → Type 0
+LacksMemory inputs answer = TakesMemory inputs × (answer ≡ Err fault.Memory)
 
 -- the answer is the result, or want of memory where that is taken
-abbrev pub IsAnswerTo : Given → Result Verdict (Failure Fault) → Type 0
-IsAnswerTo inputs answer = IsFoundBy (IsResult inputs) (TakesMemory inputs) answer
+abbrev pub IsAnswerTo : Given → Result Verdict Fault → Type 0
+IsAnswerTo inputs answer = IsResult inputs answer ⊎ LacksMemory inputs answer
+
+-- the same, where want of memory is told from all faults
+abbrev pub IsFoundOf : Given → Result Verdict (Failure Fault) → Type 0
+IsFoundOf inputs found = IsFoundBy (IsResult inputs) (TakesMemory inputs) found

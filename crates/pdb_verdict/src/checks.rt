@@ -3,13 +3,13 @@
 ghost use Rattle.std.specs.Prelude.{◌≡◌, ◌⊎◌, Ok};
 ghost use Rattle.work_run.specs.Workers.{AreWorkers};
 ghost use Rattle.pdb_verdict.specs.Inputs.{given};
-ghost use Rattle.pdb_verdict.specs.Verdicts.{HoldsOfSolutions, IsAnswerTo, IsTrueOf, LacksMemory};
+ghost use Rattle.pdb_verdict.specs.Verdicts.{HoldsOfSolutions, IsAnswerTo, IsFoundOf, IsTrueOf, LacksMemory};
 
 use crate::bundles::Tables;
 use crate::claims::{answer_of_bound, answer_of_optimum, bound_of_text, optimum_of_puzzle};
 use crate::evidence::Evidence;
 use crate::inputs::Inputs;
-use crate::refusals::Failure;
+use crate::refusals::{Failure, with_memory};
 use crate::replay::verify_puzzle;
 use crate::table::verify_table;
 use crate::verdicts::{Fault, Verdict};
@@ -29,7 +29,7 @@ pub fn verify<H: Threads + Wait, G: Gate + Sync>(
     inputs: &Inputs<'_>,
     workers: u8,
     gate: &G,
-) -> Result<Verdict, Failure<Fault>>
+) -> Result<Verdict, Fault>
     requires { AreWorkers workers }
     // A yes comes only where it is true, and always then where memory is there.
     ensures yes { (verdict : Verdict) → result ≡ Ok verdict → IsTrueOf (given inputs.now) verdict }
@@ -41,15 +41,15 @@ pub fn verify<H: Threads + Wait, G: Gate + Sync>(
     // Which refusal it is.
     ensures exact { IsAnswerTo (given inputs.now) result }
 {
-    verify_by(inputs, &Workers::new(rt, alloc, workers, gate))
+    with_memory(verify_by(inputs, &Workers::new(rt, alloc, workers, gate)))
 }
 
-/// What these workers answer to inputs.
+/// What these workers find of inputs.
 pub(crate) fn verify_by<H: Threads + Wait, G: Gate + Sync>(
     inputs: &Inputs<'_>,
     workers: &Workers<'_, H, G>,
 ) -> Result<Verdict, Failure<Fault>>
-    ensures { IsAnswerTo (given inputs.now) result }
+    ensures { IsFoundOf (given inputs.now) result }
 {
     match *inputs {
         Inputs::Replay { puzzle } => match verify_puzzle(puzzle) {

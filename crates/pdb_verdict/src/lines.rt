@@ -7,7 +7,7 @@ use crate::verdicts::{Fault, MakeRefusal, Verdict};
 use itoa::Buffer;
 use log_check::LogRefusal;
 use log_file::FormFault;
-use pdb_run::{Lines, lines};
+use pdb_run::{Lines, NO_MEMORY, lines};
 use puz_board::{BoardFault, MoveFault, Side};
 use set_sum::SetFault;
 use tab_file::HeadFault;
@@ -16,7 +16,7 @@ use tab_rule::{Census, TableRefusal};
 /// The most bytes of a text before a number: two such texts with their numbers fit into lines.
 const MOST_TEXT: usize = 40;
 
-/// The line of a verdict or a refusal.
+/// The line of a verdict, a refusal or want of memory.
 pub fn line_of(answer: &Result<Verdict, Fault>) -> Lines
     ensures { result.bytes ≡ line_of answer.now }
 {
@@ -48,7 +48,7 @@ fn exact_line(side: Side, mask: u32, census: Census) -> Lines
     ])
 }
 
-/// The line of a refusal.
+/// The line of a refusal or want of memory.
 fn fault_line(fault: &Fault) -> Lines
     ensures { result.bytes ≡ line_of_fault fault.now }
 {
@@ -70,6 +70,7 @@ fn fault_line(fault: &Fault) -> Lines
         }
         Fault::Make(refused) => make_line(*refused),
         Fault::K4 => lines(&["refused K4\n"]),
+        Fault::Memory => lines(&[NO_MEMORY]),
     }
 }
 

@@ -1,11 +1,11 @@
 //! Why each command refuses: a type for each, and the fault that each refusal is told as.
 
 ghost use Rattle.std.specs.Prelude.{◌≡◌, IfErr, IfOk};
-ghost use Rattle.pdb_verdict.specs.Refusals.{fault_of_bound, fault_of_build, fault_of_bundle, fault_of_optimum, fault_of_proof, fault_of_replay, fault_of_search, or_memory};
+ghost use Rattle.pdb_verdict.specs.Refusals.{fault_of_bound, fault_of_build, fault_of_bundle, fault_of_optimum, fault_of_proof, fault_of_replay, fault_of_search, or_memory, with_memory};
 ghost use Rattle.pdb_verdict.specs.declared.refusals.Failure.TheVariants.{Memory, Refused};
 ghost use Rattle.pdb_verdict.specs.declared.refusals.OptimumRefusal.TheVariants as optimum_refusal;
 
-use crate::verdicts::{Fault, MakeRefusal};
+use crate::verdicts::{Fault, MakeRefusal, Verdict};
 use log_check::LogRefusal;
 use puz_board::{BoardFault, MoveFault};
 use set_sum::SetFault;
@@ -197,6 +197,17 @@ pub fn fault_of_search(refused: SearchRefusal) -> Fault
         SearchRefusal::Unmade(UnmadeRefusal::L4) => Fault::Log(LogRefusal::L4),
         SearchRefusal::Unmade(UnmadeRefusal::GivenUp(GivenUp::K1)) => Fault::Make(MakeRefusal::K1),
         SearchRefusal::Unmade(UnmadeRefusal::GivenUp(GivenUp::K2)) => Fault::Make(MakeRefusal::K2),
+    }
+}
+
+/// A verdict or a fault, of which want of memory is one.
+pub(crate) fn with_memory(found: Result<Verdict, Failure<Fault>>) -> Result<Verdict, Fault>
+    ensures { result ≡ with_memory found }
+{
+    match found {
+        Ok(verdict) => Ok(verdict),
+        Err(Failure::Refused(refused)) => Err(refused),
+        Err(Failure::Memory) => Err(Fault::Memory),
     }
 }
 

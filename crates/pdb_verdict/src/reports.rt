@@ -5,8 +5,8 @@ ghost use Rattle.byte_io.specs.Streams.{Writes};
 ghost use Rattle.pdb_run.specs.Writing.{digests_of, list_of};
 ghost use Rattle.pdb_run.specs.Answers.{IsAnswerBy, IsReplyOf, all_bytes, digest_lines};
 ghost use Rattle.pdb_verdict.specs.Inputs.{Given, given};
-ghost use Rattle.pdb_verdict.specs.Lines.{digested_of, line_of, lines_of, reply_to};
-ghost use Rattle.pdb_verdict.specs.Verdicts.{IsAnswerTo, TakesMemory, TellsResult};
+ghost use Rattle.pdb_verdict.specs.Lines.{digested_of, line_of, lines_of, reply_to, stands_alone};
+ghost use Rattle.pdb_verdict.specs.Verdicts.{IsFoundOf, TakesMemory, TellsResult};
 
 use crate::checks::verify_by;
 use crate::inputs::Inputs;
@@ -14,7 +14,7 @@ use crate::lines::line_of;
 use crate::refusals::{Failure, settled};
 use crate::verdicts::{Fault, Verdict};
 use byte_io::streams::{WriteFault, put_text};
-use pdb_run::{Answer, Digested, Digests, FILES_BESIDE, NO_MEMORY, beside, say, say_digests};
+use pdb_run::{Answer, Digested, Digests, FILES_BESIDE, beside, say, say_digests};
 use set_sum::MOST_TABLES;
 use std::alloc::AllocError;
 use std::io::Write;
@@ -25,19 +25,19 @@ use work_run::{Gate, Workers};
 // The digests of all tables of a bundle may be made beside its check.
 const _: () = prove!(FILES_BESIDE == MOST_TABLES);
 
-/// Writes all lines on the inputs: the digests and then the answer's line, or want of memory alone.
+/// Writes all lines on the inputs: the digests and then the answer's line, which stands alone for want of memory.
 pub fn report<W: Write>(
     inputs: &Inputs<'_>,
-    answer: &Result<Verdict, Failure<Fault>>,
+    answer: &Result<Verdict, Fault>,
     out: &mut W,
 ) -> Result<(), WriteFault>
     ensures { let lines = lines_of (given inputs.now) answer.now in
         Writes (W.contents out.old) (W.contents out.new) lines result }
 {
-    match settled(*answer) {
-        Ok(answer) => say(&told(digested_by(inputs, None), &answer), out),
-        Err(_) => put_text(out, NO_MEMORY),
+    if stands_alone(answer) {
+        return line(answer, out);
     }
+    say(&told(digested_by(inputs, None), answer), out)
 }
 
 /// Writes the digest line of each file that is checked.
@@ -49,7 +49,7 @@ pub fn digests<W: Write>(inputs: &Inputs<'_>, out: &mut W) -> Result<(), WriteFa
     say_digests(files, last, out)
 }
 
-/// Writes the line of a verdict or a refusal.
+/// Writes the line of a verdict, a refusal or want of memory.
 pub fn line<W: Write>(answer: &Result<Verdict, Fault>, out: &mut W) -> Result<(), WriteFault>
     ensures { Writes (W.contents out.old) (W.contents out.new) (line_of answer.now) result }
 {
@@ -75,11 +75,11 @@ pub fn verify_beside<H: Threads + Wait + Sync, G: Gate + Sync>(
 ) -> (Option<Digests>, Result<Verdict, Failure<Fault>>)
     ensures digests { let lines = digests_of (digested_of (given inputs.now)) in
         IfSome result.0 (λ digests. digests.items ≡ lines) }
-    ensures answer { IsAnswerTo (given inputs.now) result.1 }
+    ensures answer { IsFoundOf (given inputs.now) result.1 }
 {
     let (files, last) = checked_files(inputs);
     let check = || -> Result<Verdict, Failure<Fault>>
-        ensures { IsAnswerTo (given inputs.entry.now) result }
+        ensures { IsFoundOf (given inputs.entry.now) result }
     { verify_by(inputs, workers) };
     beside(workers.rt, workers.count, files, last, check)
 }
@@ -119,7 +119,7 @@ pub(crate) fn told_or_memory<'i>(
     answer: Result<Verdict, Failure<Fault>>,
 ) -> Result<Answer<'i>, AllocError>
     ensures { (inputs : Given) → digest_lines digested.entry ≡ digests_of (digested_of inputs)
-        → IsAnswerTo inputs answer
+        → IsFoundOf inputs answer
         → IsAnswerBy (TellsResult inputs) (TakesMemory inputs) result }
 {
     let answer = settled(answer)?;
@@ -138,4 +138,11 @@ fn checked_files<'i>(inputs: &Inputs<'i>) -> (&'i [Vec<u8>], Option<&'i [u8]>)
             (tables, Some(log))
         }
     }
+}
+
+/// Whether an answer is written without digests, as want of memory is.
+fn stands_alone(answer: &Result<Verdict, Fault>) -> bool
+    ensures { result ≡ stands_alone answer.now }
+{
+    matches!(answer, Err(Fault::Memory))
 }

@@ -3,7 +3,7 @@
 ghost use Rattle.std.specs.Prelude.{◌≡◌};
 ghost use Rattle.pdb_verdict.specs.Inputs.{table_file};
 ghost use Rattle.pdb_verdict.specs.Steps.{of_table};
-ghost use Rattle.pdb_verdict.specs.Verdicts.{IsAnswerTo};
+ghost use Rattle.pdb_verdict.specs.Verdicts.{IsFoundOf};
 
 use crate::bundles::check_file;
 use crate::refusals::Failure;
@@ -19,7 +19,7 @@ pub(crate) fn verify_table<H: Threads + Wait, G: Gate + Sync>(
     table: &[u8],
     workers: &Workers<'_, H, G>,
 ) -> Result<Verdict, Failure<Fault>>
-    ensures { IsAnswerTo (table_file table.now) result }
+    ensures { IsFoundOf (table_file table.now) result }
 {
     match check_file(table, workers) {
         Ok(table) => {

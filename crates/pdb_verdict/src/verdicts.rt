@@ -32,7 +32,7 @@ pub enum MakeRefusal {
     K3,
 }
 
-/// A no.
+/// A no, or want of memory.
 #[derive(Clone, Copy, Debug, PartialEq, Eq, Error)]
 pub enum Fault {
     /// A puzzle text has no `;`.
@@ -65,4 +65,7 @@ pub enum Fault {
     /// A side and a mask are no pattern, or the table that was built for them is exact for another pattern.
     #[error("this is no pattern, or the table that was built is that of another one")]
     K4,
+    /// Memory was refused.
+    #[error("no memory")]
+    Memory,
 }

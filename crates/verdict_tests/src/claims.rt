@@ -7,7 +7,7 @@ use crate::telling::{joined, tells};
 use byte_io::memory::MemShelf;
 use pdb_request::{Claim, LogCheck};
 use pdb_run::{BorrowedIo, Status};
-use pdb_verdict::{Failure, Fault, Inputs, Verdict, run_log_check, verify};
+use pdb_verdict::{Fault, Inputs, Verdict, run_log_check, verify};
 use samples::HoldingGate;
 use samples::files::{TILE_1, TILE_3, TILE_24, TILES_12, TILES_123, with_byte};
 use samples::logs::{BRANCHES, CITATION, LEAF, UNSOLVABLE};
@@ -118,7 +118,7 @@ fn optimum<H: Threads + Wait>(
     puzzle: &[u8],
     fold: bool,
     workers: u8,
-) -> Result<Result<Verdict, Failure<Fault>>, Fail>
+) -> Result<Result<Verdict, Fault>, Fail>
     requires { (0 < workers) × (workers ≤ 64) }
 {
     let tables = vectors(alloc, &[&TILES_12])?;
@@ -142,7 +142,7 @@ fn as_many_moves_as_the_bound_are_the_fewest(rt: HostRuntime) -> Result<(), Fail
             solution: 8,
             bound: 6,
         };
-        assert!(rt; eight == Err(Failure::Refused(more)));
+        assert!(rt; eight == Err(more));
     }
     Ok(())
 }

@@ -6,8 +6,7 @@ use byte_io::memory::MemShelf;
 use pdb_request::Replay;
 use pdb_run::{BorrowedIo, Status};
 use pdb_verdict::{
-    Failure, Fault, Inputs, MakeRefusal, digests, line, report, run_replay, settled, verify,
-    verify_puzzle,
+    Fault, Inputs, MakeRefusal, digests, line, report, run_replay, verify, verify_puzzle,
 };
 use sample_streams::{Failing, SampleWriter};
 use samples::HoldingGate;
@@ -189,7 +188,7 @@ fn two_workers_check_two_blocks_side_by_side(rt: HostRuntime) -> Result<(), Fail
         table: file.as_slice(),
     };
     let gate = HoldingGate::new(&[0], &[1]);
-    let answer = settled(verify(&rt, alloc, &inputs, 2, &gate))?;
+    let answer = verify(&rt, alloc, &inputs, 2, &gate);
     let mut out = Vec::new(alloc);
     assert!(rt; line(&answer, &mut out).is_ok() && gate.saw_all());
     assert!(rt; out.as_slice() == b"refused T7 at entry 1\n".as_slice());
@@ -218,7 +217,7 @@ fn want_of_memory_stands_alone(rt: HostRuntime) -> Result<(), Fail> {
     let alloc = rt.alloc();
     let mut out = Vec::new(alloc);
     let inputs = Inputs::Table { table: b"abc" };
-    assert!(rt; report(&inputs, &Err(Failure::Memory), &mut out).is_ok());
+    assert!(rt; report(&inputs, &Err(Fault::Memory), &mut out).is_ok());
     assert!(rt; out.as_slice() == b"no memory\n".as_slice());
     Ok(())
 }

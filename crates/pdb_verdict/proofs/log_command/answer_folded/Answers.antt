@@ -3,7 +3,7 @@ use Rattle.byte_io.specs.Shelf.{Bytes}
 use Rattle.pdb_run.specs.Writing.{digests_of}
 use Rattle.pdb_verdict.specs.Inputs.{log_claim}
 use Rattle.pdb_verdict.specs.Steps.{IsFoundFor, claim_with, files_read}
-use Rattle.pdb_verdict.specs.Verdicts.{IsAnswerTo}
+use Rattle.pdb_verdict.specs.Verdicts.{IsFoundOf}
 use Rattle.pdb_verdict.proofs.ClaimLemmas.{claim_answered}
 use Rattle.pdb_verdict.proofs.log_command.answer_folded.Goals as goal
 
@@ -17,4 +17,4 @@ returns g c =
     let by_log = subst (λ log. IsFoundFor true board c.as_slice-sets.result.now log files.tables found) c.as_slice-log.ensures.value c.bound_of_files-digests.ensures.found in
     let found_for = subst (λ sets. IsFoundFor true board sets files.log files.tables found) c.as_slice-sets.ensures.value by_log in
     let answered = claim_answered true files board c.args.moves found c.requires.begins found_for in
-    c.told_or_memory.ensures claimed digested (subst (IsAnswerTo claimed) (sym c.answer_with.ensures) answered)
+    c.told_or_memory.ensures claimed digested (subst (IsFoundOf claimed) (sym c.answer_with.ensures) answered)

@@ -1,7 +1,7 @@
 use Rattle.std.proofs.Common.{Err, Ok, refl, rules, subst, sym}
 use Rattle.pdb_verdict.specs.Inputs.{table_file}
 use Rattle.pdb_verdict.specs.Table.{IsExactFor}
-use Rattle.pdb_verdict.specs.Verdicts.{IsAnswerTo}
+use Rattle.pdb_verdict.specs.Verdicts.{IsFoundOf}
 use Rattle.pdb_verdict.specs.declared.refusals.Failure.{Failure}
 use Rattle.pdb_verdict.specs.declared.verdicts.Fault.{Fault}
 use Rattle.pdb_verdict.proofs.TableLemmas.{table_refused}
@@ -14,4 +14,4 @@ returns-in-Ok g c =
 
 pub returns-in-Err : goal.returns-in-Err
 returns-in-Err g c =
-    subst (λ (f : Failure Fault). IsAnswerTo (table_file c.args.table.now) (Err f)) (sym c.table_fault.ensures) (table_refused c.args.table.now c.in-Err.fault c.in-Err.ensures.err)
+    subst (λ (f : Failure Fault). IsFoundOf (table_file c.args.table.now) (Err f)) (sym c.table_fault.ensures) (table_refused c.args.table.now c.in-Err.fault c.in-Err.ensures.err)
