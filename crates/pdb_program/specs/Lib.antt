@@ -1,3 +1,6 @@
+-- What public contracts say.
 pub mod Headline
 pub mod Programs
 pub mod Refusals
+-- What proofs alone need.
+pub mod Steps

@@ -1,5 +1,5 @@
 -- What the words of the program do, and how a run on words ends.
-use Rattle.std.specs.Prelude.{◌≡◌, ◌⊎◌, ⊤, ℕ, List, ◌++◌, Option, Some, None}
+use Rattle.std.specs.Prelude.{◌≡◌, ◌⊎◌, ⊤, ℕ, List, Option, None}
 use Rattle.std.specs.Io.KnownBytes.{Keeps}
 use Rattle.byte_io.specs.Shelf.{Bytes}
 use Rattle.pdb_request.specs.Asked.{Asked, log_check, make_table, replay, solve, table}
@@ -13,7 +13,6 @@ use Rattle.pdb_keep.specs.MakeTable.{make_table_plan}
 use Rattle.pdb_keep.specs.Solve.{solve_plan}
 use Rattle.pdb_words.specs.CommandLine.{Parses, asked_of}
 use Rattle.pdb_words.specs.Faults.{IsMistaken}
-use Rattle.pdb_program.specs.Headline.{Headline}
 use Rattle.pdb_program.specs.Refusals.{Refuses}
 
 -- the plan, where memory may be wanted whatever is asked for
@@ -54,10 +53,3 @@ pub record RunsOn (words : List Bytes) (old new : World) (old_err new_err : Opti
   pub quiet : Keeps old_err new_err ⊎ IsMistaken words
   pub kept : Parses words → number ≡ 0 → HasKept (asked_of words) old new
   pub same : AskToKeepNothing words → new.files ≡ old.files
-
--- the headline on these words, from the one world to the other, where they tell their bytes
-abbrev pub SaysHeadline : List Bytes → World → World → ℕ → Type 0
-SaysHeadline words old new number =
-    (before after : Bytes → Option Bytes) (input start lines : Bytes) → Parses words → old.files ≡ Some before → new.files ≡ Some after
-    → old.reader ≡ Some input → old.written ≡ Some start → new.written ≡ Some (start ++ lines)
-    → Headline (asked_of words) before after input lines number

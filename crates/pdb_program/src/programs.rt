@@ -7,7 +7,8 @@ ghost use Rattle.pdb_run.specs.Runs.{Ends, world};
 ghost use Rattle.pdb_words.specs.CommandLine.{Parses, asked_of};
 ghost use Rattle.pdb_words.specs.Faults.{IsMistaken};
 ghost use Rattle.pdb_program.specs.Headline.{Headline};
-ghost use Rattle.pdb_program.specs.Programs.{AskToKeepNothing, RunsOn, SaysHeadline, plan_of};
+ghost use Rattle.pdb_program.specs.Programs.{AskToKeepNothing, RunsOn, plan_of};
+ghost use Rattle.pdb_program.specs.Steps.{SaysHeadline};
 ghost use Rattle.pdb_program.specs.Refusals.{Refuses};
 
 use crate::hosts::Host;

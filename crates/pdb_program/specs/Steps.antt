@@ -1,0 +1,13 @@
+-- What the steps of a run say.
+use Rattle.std.specs.Prelude.{◌≡◌, ℕ, List, ◌++◌, Option, Some}
+use Rattle.byte_io.specs.Shelf.{Bytes}
+use Rattle.pdb_run.specs.Runs.{World}
+use Rattle.pdb_words.specs.CommandLine.{Parses, asked_of}
+use Rattle.pdb_program.specs.Headline.{Headline}
+
+-- the headline on these words, from the one world to the other, where they tell their bytes
+abbrev pub SaysHeadline : List Bytes → World → World → ℕ → Type 0
+SaysHeadline words old new number =
+    (before after : Bytes → Option Bytes) (input start lines : Bytes) → Parses words → old.files ≡ Some before → new.files ≡ Some after
+    → old.reader ≡ Some input → old.written ≡ Some start → new.written ≡ Some (start ++ lines)
+    → Headline (asked_of words) before after input lines number
