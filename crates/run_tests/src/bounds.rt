@@ -243,7 +243,7 @@ fn want_of_memory_stands_alone_where_tables_are_folded(rt: HostRuntime) -> Resul
 }
 
 #[test]
-fn the_first_refusal_that_stands_is_told(rt: HostRuntime) -> Result<(), Fail> {
+fn the_first_refusal_of_a_bound_is_told(rt: HostRuntime) -> Result<(), Fail> {
     let cases = [
         ("bound no_board one_set leaf f123", "refused B5 at number 3"),
         ("bound board pair branches f12 f1", "refused S3 at line 0"),
@@ -275,6 +275,16 @@ fn the_first_refusal_that_stands_is_told(rt: HostRuntime) -> Result<(), Fail> {
         ("bound board descending leaf f12 f3", "refused S1 at line 1"),
         ("bound another_board one_set leaf f123", "refused L5"),
         ("bound board one_set leaf f24", "refused L4"),
+    ];
+    for (words, line) in cases {
+        expect(&rt, rt.alloc(), words, line, 1)?;
+    }
+    Ok(())
+}
+
+#[test]
+fn the_first_refusal_of_an_optimum_is_told(rt: HostRuntime) -> Result<(), Fail> {
+    let cases = [
         ("optimal board one_set branches f12", "refused P1"),
         ("optimal one_move one_set branches f12", "refused M4"),
         (

@@ -53,71 +53,37 @@ fn digest_of(name: &str) -> &'static str {
     }
 }
 
+/// What is said of a log whose first lemma's tree proves nothing.
+const NO_PROOF: &str = "refused L6 at lemma 0";
+
+/// A run of these words, the command, its board, its sets, a log and a table, says this line below the digests, with this status.
+fn expect(rt: &HostRuntime, words: &[&str; 5], line: &str, status: u8) -> Result<(), Fail> {
+    let mut shelf = shelf(rt.alloc())?;
+    let mut reader = b"".as_slice();
+    let ended = ran(rt, rt.alloc(), words, &mut shelf, &mut reader)?;
+    let of_table = digest_of(words[4]);
+    let of_log = digest_of(words[3]);
+    let want = format!(in rt.alloc(); "sha256 {of_table}\nsha256 {of_log}\n{line}\n")?;
+    ended.expect(want.as_bytes(), status)
+}
+
 #[test]
 fn leaves_by_parity_are_of_version_2(rt: HostRuntime) -> Result<(), Fail> {
-    // The command and its board, the log, the table, and what is said below the digests.
-    let runs = [
-        ("bound", "board", "by_parity", "f12", "bound 6", 0),
-        ("optimal", "six_moves", "by_parity", "f12", "optimal 6", 0),
-        (
-            "bound",
-            "board",
-            "by_parity_of_7",
-            "f12",
-            "refused L6 at lemma 0",
-            1,
-        ),
-        (
-            "bound",
-            "board",
-            "by_parity_in_version_1",
-            "f12",
-            "refused L6 at lemma 0",
-            1,
-        ),
-        (
-            "bound",
-            "board",
-            "by_parity_in_version_3",
-            "f12",
-            "refused L1",
-            1,
-        ),
-        (
-            "bound",
-            "board",
-            "branches_in_version_2",
-            "f12",
-            "bound 6",
-            0,
-        ),
-        ("bound", "board", "leaf_by_parity", "f123", "bound 6", 0),
-        (
-            "bound",
-            "board",
-            "leaf_by_parity_of_7",
-            "f123",
-            "refused L6 at lemma 0",
-            1,
-        ),
-        (
-            "bound",
-            "board",
-            "leaf_of_no_set",
-            "f123",
-            "refused L6 at lemma 0",
-            1,
-        ),
+    // The log, the table, and what is said below the digests.
+    let bounds = [
+        ("by_parity", "f12", "bound 6", 0),
+        ("by_parity_of_7", "f12", NO_PROOF, 1),
+        ("by_parity_in_version_1", "f12", NO_PROOF, 1),
+        ("by_parity_in_version_3", "f12", "refused L1", 1),
+        ("branches_in_version_2", "f12", "bound 6", 0),
+        ("leaf_by_parity", "f123", "bound 6", 0),
+        ("leaf_by_parity_of_7", "f123", NO_PROOF, 1),
+        ("leaf_of_no_set", "f123", NO_PROOF, 1),
     ];
-    for (command, board, log, table, line, status) in runs {
-        let mut shelf = shelf(rt.alloc())?;
-        let mut reader = b"".as_slice();
-        let words = [command, board, "one_set", log, table];
-        let ended = ran(&rt, rt.alloc(), &words, &mut shelf, &mut reader)?;
-        let of_table = digest_of(table);
-        let of_log = digest_of(log);
-        let want = format!(in rt.alloc(); "sha256 {of_table}\nsha256 {of_log}\n{line}\n")?;
-        ended.expect(want.as_bytes(), status)?;
+    for (log, table, line, status) in bounds {
+        let words = ["bound", "board", "one_set", log, table];
+        expect(&rt, &words, line, status)?;
     }
-    Ok(())
+    let words = ["optimal", "six_moves", "one_set", "by_parity", "f12"];
+    expect(&rt, &words, "optimal 6", 0)
 }

@@ -157,62 +157,57 @@ fn words_ask_for_a_table_to_be_made(rt: HostRuntime) -> Result<(), Fail> {
     Ok(())
 }
 
+/// What a search is asked to do besides: by how many workers, whether over folded tables, and within which budget.
+type Asked = (u8, bool, u64);
+
+/// What it is asked to do without flags.
+const USUAL: Asked = (1, false, 1_000_000);
+
 #[test]
 fn words_ask_for_a_search(rt: HostRuntime) -> Result<(), Fail> {
-    let alloc = rt.alloc();
-    let cases: [(&[&str], &[&str], u8, bool, u64); 10] = [
-        (&["b", "s", "o", "t"], &["t"], 1, false, 1_000_000),
-        (&["b", "s", "o", "t", "u"], &["t", "u"], 1, false, 1_000_000),
-        (&["--budget", "1", "b", "s", "o", "t"], &["t"], 1, false, 1),
+    // The words behind the command, and the tables.
+    let cases = [
+        ("b s o t", "t", USUAL),
+        ("b s o t u", "t u", USUAL),
+        ("-- b s o -t", "-t", USUAL),
+        ("--budget 1 b s o t", "t", (1, false, 1)),
         (
-            &["b", "s", "o", "t", "--budget", "1000000000000"],
-            &["t"],
-            1,
-            false,
-            1_000_000_000_000,
+            "b s o t --budget 1000000000000",
+            "t",
+            (1, false, 1_000_000_000_000),
         ),
-        (
-            &["--workers", "7", "--budget", "5", "b", "s", "o", "t", "u"],
-            &["t", "u"],
-            7,
-            false,
-            5,
-        ),
-        (
-            &["--budget=9", "b", "s", "o", "t", "--workers=64"],
-            &["t"],
-            64,
-            false,
-            9,
-        ),
-        (&["--", "b", "s", "o", "-t"], &["-t"], 1, false, 1_000_000),
-        (&["--fold", "b", "s", "o", "t"], &["t"], 1, true, 1_000_000),
-        (
-            &["--budget", "5", "b", "s", "o", "t", "--fold"],
-            &["t"],
-            1,
-            true,
-            5,
-        ),
-        (
-            &["--workers=7", "--fold", "--budget=5", "b", "s", "o", "t"],
-            &["t"],
-            7,
-            true,
-            5,
-        ),
+        ("--workers 7 --budget 5 b s o t u", "t u", (7, false, 5)),
+        ("--budget=9 b s o t --workers=64", "t", (64, false, 9)),
+        ("--fold b s o t", "t", (1, true, 1_000_000)),
+        ("--budget 5 b s o t --fold", "t", (1, true, 5)),
+        ("--workers=7 --fold --budget=5 b s o t", "t", (7, true, 5)),
     ];
-    for (words, tables, workers, fold, budget) in cases {
+    for (words, tables, (workers, fold, budget)) in cases {
+        let alloc = rt.alloc();
         let wanted = Request::Search(Search {
             board: "b",
             sets: "s",
             out: "o",
-            tables: tables.to_vec(alloc)?,
+            tables: words_of(alloc, tables)?,
             workers,
             fold,
             budget,
         });
-        expect_request(alloc, behind(alloc, "solve", words)?.as_slice(), &wanted)?;
+        let words = words_of(alloc, words)?;
+        expect_request(
+            alloc,
+            behind(alloc, "solve", words.as_slice())?.as_slice(),
+            &wanted,
+        )?;
     }
     Ok(())
+}
+
+/// The words that one space parts.
+fn words_of(alloc: Global, text: &str) -> Result<Vec<&str>, AllocError> {
+    let mut words = Vec::new(alloc);
+    for word in text.split(' ') {
+        words.push(word)?;
+    }
+    Ok(words)
 }
