@@ -1,9 +1,7 @@
 -- Arguments that are added to commands. A simple argument isn't global, and a plain command has no global argument.
-use Rattle.std.proofs.Common.{◌≡◌, ◌∙◌, ap, false, true}
-use Rattle.std.specs.Prelude.{IfOk, Ok, Err, Result, is_some, not}
+use Rattle.std.proofs.Common.{◌≡◌, ◌∙◌, ◌&&◌, Bool, arith, ap, false, true}
+use Rattle.std.specs.Prelude.{IfOk, Ok, Err, Result}
 use Rattle.std.specs.declared.alloc.AllocError.{AllocError}
-use Rattle.clap.specs.Simple.{has_plain_fields}
-use Rattle.clap.specs.Walk.{is_empty, is_simple_arg}
 use Rattle.clap.specs.Words.{App, Rule, app_of, rule_of, with_rule}
 use Rattle.clap.specs.declared.Arg.{Arg}
 use Rattle.clap.specs.declared.Command.{Command}
@@ -12,26 +10,14 @@ use Rattle.clap.proofs.SimpleLemmas.{is_false}
 use Rattle.clap.proofs.WalkLemmas.{both}
 use Rattle.pdb_words.specs.Arguments.{HasArgument}
 
+second : (a b : Bool) → (a && b) ≡ true → b ≡ true
+second a b all = (both a b all).1
+
 pub simple_is_local : (a : Arg) → (rule_of a).is_simple ≡ true → a.global ≡ false
-simple_is_local a simple =
-    let all : is_simple_arg a ≡ true = simple in
-    let b = both (is_empty a.overrides.items) _ all in
-    let c = both (is_empty a.default_vals_ifs.items) _ b.1 in
-    let d = both (is_empty a.groups.items) _ c.1 in
-    let e = both (not (is_some a.val_delim)) _ d.1 in
-    let f = both (not (is_some a.terminator)) _ e.1 in
-    let g = both (not a.allow_hyphen_values) _ f.1 in
-    let h = both (not a.allow_negative_numbers) _ g.1 in
-    let i = both (not a.require_equals) _ h.1 in
-    is_false _ (both (not a.last) (not a.global) i.1).1
+simple_is_local a simple = search (second, is_false) depth 14
 
 pub plain_is_local : (c : Command) → (app_of c).top.is_plain ≡ true → (out-Command c).has_globals ≡ false
-plain_is_local c plain =
-    let fields = out-Command c in
-    let all : has_plain_fields fields ≡ true = plain in
-    let b = both (is_empty fields.groups.items) _ all in
-    let d = both (not fields.allow_external_subcommands) _ b.1 in
-    is_false _ (both (not fields.has_globals) _ d.1).0
+plain_is_local c plain = grind arith
 
 -- a command of which it is known what it is, with one more argument of which it is known
 pub has_rule : (made : Result Command AllocError) (other : Command) (arg : Arg) (app : App) (rule : Rule) → IfOk made (HasArgument other arg)
