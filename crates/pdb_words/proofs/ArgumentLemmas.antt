@@ -1,6 +1,6 @@
 -- Arguments that are added to commands. A simple argument isn't global, and a plain command has no global argument.
-use Rattle.std.proofs.Common.{◌≡◌, ◌∙◌, ◌&&◌, Bool, arith, ap, false, true}
-use Rattle.std.specs.Prelude.{IfOk, Ok, Err, Result}
+use Rattle.std.proofs.Common.{◌≡◌, ◌&&◌, Bool, arith, false, true}
+use Rattle.std.specs.Prelude.{IfOk, Result}
 use Rattle.std.specs.declared.alloc.AllocError.{AllocError}
 use Rattle.clap.specs.Words.{App, Rule, app_of, rule_of, with_rule}
 use Rattle.clap.specs.declared.Arg.{Arg}
@@ -22,5 +22,4 @@ plain_is_local c plain = grind arith
 -- a command of which it is known what it is, with one more argument of which it is known
 pub has_rule : (made : Result Command AllocError) (other : Command) (arg : Arg) (app : App) (rule : Rule) → IfOk made (HasArgument other arg)
     → app_of other ≡ app → rule_of arg ≡ rule → rule.is_simple ≡ true → IfOk made (λ c. app_of c ≡ with_rule app rule)
-has_rule (Ok c) other arg app rule has is known simple = has rule known simple ∙ ap (λ (a : App). with_rule a rule) is
-has_rule (Err e) other arg app rule has is known simple = tt
+has_rule made other arg app rule has is known simple = grind arith

@@ -1,11 +1,11 @@
 -- What the first word makes of all words.
-use Rattle.std.proofs.Common.{◌≡◌, ◌≢◌, ◌⊎◌, ◌∙◌, arith, inl, inr, refl, sym, ap, false, List, [], ◌∷◌, ◌++◌, Option, Some, codes}
-use Rattle.std.specs.List.{find, fold}
-use Rattle.std.specs.Prelude.{IfOk, IfSome, Ok, Err, None, Result, is_some, unwrap_or}
-use Rattle.clap.specs.Faults.{check_fault, defaults_fault, entered_fault, level_fault, settle_fault, turn_fault, walk_fault}
+use Rattle.std.proofs.Common.{◌≡◌, ◌≢◌, ◌⊎◌, ◌∙◌, arith, inl, inr, refl, sym, false, List, [], ◌∷◌, ◌++◌, Option, Some, codes}
+use Rattle.std.specs.List.{find}
+use Rattle.std.specs.Prelude.{IfOk, IfSome, Ok, Err, None, Result, unwrap_or}
+use Rattle.clap.specs.Faults.{defaults_fault, level_fault, turn_fault, walk_fault}
 use Rattle.clap.specs.Kinds.{FailsBy, Kinds, or_else}
-use Rattle.clap.specs.Simple.{Shape, built, entered, label_of, names_of, subcommand_of, subcommand_rows_of}
-use Rattle.clap.specs.Walk.{Names, Row, Text, Walk, answers_to, finished, nothing_held, rows_after, settled, walk, walk_from, walked}
+use Rattle.clap.specs.Simple.{Shape, built, label_of, names_of, subcommand_of, subcommand_rows_of}
+use Rattle.clap.specs.Walk.{Names, Row, Text, Walk, answers_to, nothing_held, rows_after, walk_from, walked}
 use Rattle.clap.proofs.FaultLemmas.{stopped_fault}
 use Rattle.clap.proofs.OnLiterals.{clap_on_literals}
 use Rattle.clap.proofs.WalkLemmas.{walk_stopped}
@@ -45,10 +45,7 @@ same_turn s known word none = rw none refl
 known_or_other : (word : Text) → IsCommand word ⊎ ((word ≡ codes "help") ⊎ (turn word ≡ bare_turn word))
 known_or_other word = elim (named word (commands ++ codes "help" ∷ [])) [ inl known ↦ grind arith | inr none ↦ inr (inr (same_turn top names word none)) ]
 
-abbrev stray : Kinds
-stray = kind.UnknownArgument ∷ kind.InvalidSubcommand ∷ []
-
-plain_wrong : (word : Text) → IsPlain word → bare_turn word ≡ stray
+plain_wrong : (word : Text) → IsPlain word → bare_turn word ≡ kind.UnknownArgument ∷ kind.InvalidSubcommand ∷ []
 unfolding clap_on_literals
 plain_wrong word plain = simp dashless
 
@@ -83,15 +80,12 @@ begins_with_command (word ∷ rest) parses = elim (known_or_other word) [
 
 -- ---- another first word is a mistake
 
-first_is : (word : Text) (rest : List Text) → turn word ≡ stray → faults_of (word ∷ rest) ≡ stray
-unfolding walk_fault
-first_is word rest e = rw e refl
-
 pub other_command : (first : Text) (rest : List Text) → IsPlain first → (IsCommand first → ⊥) → first ≢ codes "help" → IsMistaken (first ∷ rest)
+unfolding walk_fault
 other_command first rest plain no_command no_help = elim (known_or_other first) [
   | inl command ↦ absurd (no_command command)
   | inr (inl help) ↦ absurd (no_help help)
-  | inr (inr other) ↦ mistaken _ _ _ (first_is first rest (other ∙ plain_wrong first plain)) (λ e. cc)
+  | inr (inr other) ↦ mistaken _ kind.UnknownArgument (kind.InvalidSubcommand ∷ []) (rw (other ∙ plain_wrong first plain)) (λ e. cc)
 ]
 
 -- ---- a command's name leaves the words behind it to the command
@@ -110,28 +104,16 @@ is_entered : (name : Text) → IsCommand name → IsEntered name
 unfolding clap_on_literals
 is_entered = each_holds IsEntered commands assumption
 
--- what the end of the walk over all words has wrong
-abbrev pub end_fault : Walk → Kinds
-end_fault w = or_else (entered_fault (built command_line) w.stopped)
-    (or_else (settle_fault top.rules top.args_override_self w.held)
-    (or_else (defaults_fault (settled top.rules w.held).rows top.rules)
-    (check_fault top (finished top.rules w.held) (is_some (entered (built command_line) w.stopped)))))
-
 module _ (name : Text) (is : IsCommand name) (words : List Text) where
-  walk_stops : walk top.rules names nothing_held (name ∷ words) ≡ record start { stopped = Some (name, words) }
-  walk_stops = ap (λ (w : Walk). fold (walked top.rules names) w words) (is_entered name is).stops ∙ sym (walk_stopped top.rules names start name [] words)
-
   -- what is wrong with the words is what is wrong with those behind the name
   pub faults_behind : faults_of (name ∷ words) ≡ or_else (level_fault (leaf name) [] nothing_held words false []) []
   unfolding walk_fault defaults_fault
   faults_behind =
       let e = is_entered name is in
-      (λ i. or_else (or_else (e.passes i) (walk_fault top names (e.stops i) words)) (end_fault (walk_stops i)))
-      ∙ rw (stopped_fault top names start (name, []) words, e.found) refl
+      rw (e.passes, e.stops, stopped_fault top names start (name, []) words, ← walk_stopped top.rules names start name [] words, e.found)
 
   pub met : subcommand_of command_line (name ∷ words) ≡ Some (name, rows_after (leaf name).rules [] words)
-  met = ap (λ (w : Walk). entered (built command_line) w.stopped) walk_stops
-      ∙ rw (is_entered name is).found (ap (λ (label : Text). Some (label, rows_after (leaf name).rules [] words)) (is_entered name is).label)
+  met = let e = is_entered name is in rw (e.stops, ← walk_stopped top.rules names start name [] words, e.found, e.label)
 
   pub asked_behind : asked_of (name ∷ words) ≡ asked_by name (rows_after (leaf name).rules [] words)
   asked_behind = rw met refl

@@ -1,11 +1,10 @@
 -- What the words of `bound`, `optimal` and `solve` ask for, and what is wrong with them.
-use Rattle.std.proofs.Common.{◌≡◌, ◌∙◌, arith, inl, inr, refl, ap, Bool, false, true, List, [], ◌∷◌, ◌++◌, Some, append-nil, append_assoc, codes, map}
+use Rattle.std.proofs.Common.{◌≡◌, ◌∙◌, arith, inl, inr, refl, ap, Bool, false, true, List, [], ◌∷◌, ◌++◌, Option, Some, append-nil, append_assoc, codes, map}
 use Rattle.std.specs.List.{AllByRecursion}
 use Rattle.std.proofs.lemmas.List.{map-append}
 use Rattle.std.proofs.lemmas.List.Elements.{recursion_from_All}
 use Rattle.clap.specs.Kinds.{Kinds, or_else}
-use Rattle.clap.specs.Simple.{Shape}
-use Rattle.clap.specs.Walk.{Text, Walk, arg_by_index, finished}
+use Rattle.clap.specs.Walk.{Rule, Text, Walk, arg_by_index, finished}
 use Rattle.clap.specs.declared.error.kind.ErrorKind.TheVariants as kind
 use Rattle.clap.proofs.OnLiterals.{clap_on_literals}
 use Rattle.pdb_request.specs.Asked.{Asked, log_check}
@@ -46,11 +45,6 @@ asks on_board = log_check Bound
 asks on_puzzle = log_check Optimum
 asks on_search = search_within usual_budget
 
--- flags, and `--fold` before them where tables are folded
-abbrev folded : Bool → List Word → List Word
-folded true flags = flag (codes "--fold") ∷ flags
-folded false flags = flags
-
 -- a flag with a number
 abbrev numbered : Text → (number : Text) → IsPlain number → List Word
 numbered name number is = flag name ∷ plain number is ∷ []
@@ -66,35 +60,27 @@ module _ (names : LogNames) where
   abbrev more : List Word
   more = plains names.more_tables all_plain.1.1.1.1
 
-  -- the walk as far as the first table, behind all tables, and behind the flags that follow them
-  abbrev at_first : Shape → List Word → Walk × Kinds
-  at_first s before = turns s start (before ++ leading)
-
-  abbrev gathered : Shape → List Word → Walk
-  gathered s before = gathering (at_first s before).0.held.rows (tables_named names)
-
-  abbrev at_end : Shape → List Word → List Word → Walk × Kinds
-  at_end s before behind = turns s (gathered s before) behind
-
-  -- a command with flags before all names and flags behind them has this wrong, by what is with the tables, and asks for this
-  record Fits (command : LogCommand) (before behind : List Word) (kinds : Kinds → Kinds) (asked : Asked) : Type 0 where
-    fourth : arg_by_index (leaf (name_of command)).rules 4 ≡ Some tables_rule
-    first : (at_first (leaf (name_of command)) before).0 ≡ gathering (at_first (leaf (name_of command)) before).0.held.rows (names.table ∷ [])
-    ends : or_else (or_else (at_first (leaf (name_of command)) before).1 (at_end (leaf (name_of command)) before behind).1)
-        (last_fault (leaf (name_of command)) (at_end (leaf (name_of command)) before behind).0.held) ≡ kinds (tables_fault (tables_named names))
-    found : asked_by (name_of command) (finished (leaf (name_of command)).rules (at_end (leaf (name_of command)) before behind).0.held) ≡ asked
+  -- the walk of a command over flags, the names as far as the first table, and the flags behind all tables has this wrong, by what
+  -- is with the tables, and asks for this
+  abbrev Fits : LogCommand → List Word → List Word → (Kinds → Kinds) → Asked → Type 0
+  Fits command before behind kinds asked =
+      let s = leaf (name_of command) in
+      let first = turns s start (before ++ leading) in
+      let end = turns s (gathering first.0.held.rows (tables_named names)) behind in
+      ◌≡◌ {A = Option Rule × Walk × Kinds × Asked}
+      (arg_by_index s.rules 4, first.0, or_else (or_else first.1 end.1) (last_fault s end.0.held), asked_by (name_of command) (finished s.rules end.0.held))
+      (Some tables_rule, gathering first.0.held.rows (names.table ∷ []), kinds (tables_fault (tables_named names)), asked)
 
   all_come : (command : LogCommand) (before behind : List Word) (kinds : Kinds → Kinds) (asked : Asked) → Fits command before behind kinds asked
       → Comes (name_of command) (map text_of before ++ (log_words names ++ map text_of behind)) (kinds []) asked
   all_come command before behind kinds asked fits =
       let s = leaf (name_of command) in
-      let first = at_first s before in
-      let words = (before ++ leading) ++ (more ++ behind) in
-      let rest : turns s first.0 (more ++ behind) ≡ at_end s before behind =
-      ap (λ (w : Walk). turns s w (more ++ behind)) fits.first ∙ turns-plains s fits.fourth first.0.held.rows (names.table ∷ []) names.more_tables all_plain.1.1.1.1 behind in
-      let come : Comes (name_of command) (map text_of words) (kinds []) asked = comes (is_command command) words
+      let first = turns s start (before ++ leading) in
+      let rest = ap (λ (w : Walk). turns s w (more ++ behind)) (λ i. (fits i).1)
+      ∙ turns-plains s (λ i. (fits i).0) first.0.held.rows (names.table ∷ []) names.more_tables all_plain.1.1.1.1 behind in
+      let come = comes (is_command command) ((before ++ leading) ++ (more ++ behind))
       (turns-append s start (before ++ leading) (more ++ behind) ∙ ap (λ (t : Walk × Kinds). (t.0, or_else first.1 t.1)) rest)
-      (fits.ends ∙ ap kinds (tables_pass names.table names.more_tables (omega (arith, names.are_names.1)))) fits.found in
+      ((λ i. (fits i).2) ∙ ap kinds (tables_pass names.table names.more_tables (omega (arith, names.are_names.1)))) (λ i. (fits i).3) in
       simp (map-append, map-plains, append_assoc) at come
 
   -- the same whether `--fold` comes first or not
@@ -203,3 +189,10 @@ names_log command = record {
   fold_last = λ names. fold_asked names command;
   fold_twice = λ words. mistaken _ kind.ArgumentConflict [] (folded_twice command words) (λ e. cc);
 }
+
+-- the same of a board, and of a puzzle
+pub board_names : NamesLog (codes "bound") (log_check Bound)
+board_names = names_log on_board
+
+pub puzzle_names : NamesLog (codes "optimal") (log_check Optimum)
+puzzle_names = names_log on_puzzle

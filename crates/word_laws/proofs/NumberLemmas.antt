@@ -1,5 +1,5 @@
 -- Numbers that words give: which texts `clap` takes as numbers, and what is read of them.
-use Rattle.std.proofs.Common.{◌≡◌, ◌∙◌, ◌<◌, ◌^◌, ◌&&◌, arith, ap, refl, ℕ, Bool, false, true, List, [], ◌∷◌, nat_le, nat_lt, ne_eqb}
+use Rattle.std.proofs.Common.{◌≡◌, ◌∙◌, ◌<◌, ◌^◌, arith, ap, refl, ℕ, Bool, false, true, List, [], ◌∷◌, ne_eqb}
 use Rattle.std.specs.Prelude.{if◌then◌else◌, pos}
 use Rattle.std.proofs.lemmas.Bool.Decides.{nat_tests}
 use Rattle.clap.specs.Kinds.{Kinds, or_else}
@@ -35,12 +35,9 @@ takes_within low high text = accepts false (parser.Signed (pos low) (pos high)) 
 abbrev pub read_within : ℕ → ℕ → ℕ → Text → ℕ
 read_within low high other text = number_within low high other (without_minus text)
 
-in_range : (numeral : Bool) (n low high most : ℕ) → high < most → (numeral && (nat_lt n most && (nat_le low n && nat_le n high))) ≡ (numeral && (nat_le low n && nat_le n high))
-in_range numeral n low high most fits = grind (arith, nat_tests)
-
 signed_taken : (low high : ℕ) → high < 2 ^ 63 → (number : Text) → IsPlain number → takes_within low high number ≡ writes_within low high number
 signed_taken low high fits [] plain = refl
-signed_taken low high fits (d ∷ number) plain = rw (ne_eqb d 45 plain) (in_range _ (number_of (d ∷ number)) low high (2 ^ 63) fits)
+signed_taken low high fits (d ∷ number) plain = rw (ne_eqb d 45 plain) (grind (arith, nat_tests))
 
 signed_numbers : (low high other : ℕ) → high < 2 ^ 63 → IsNumberOf (takes_within low high) (writes_within low high) (read_within low high other)
 signed_numbers low high other fits = record { taken = signed_taken low high fits; read = λ number plain writes. rw (strip_dash number plain, writes) }

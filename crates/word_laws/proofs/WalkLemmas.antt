@@ -1,13 +1,12 @@
 -- What the words behind a command come to, word by word: a word that doesn't begin with `-` is no flag.
-use Rattle.std.proofs.Common.{◌≡◌, ◌∙◌, ◌≤◌, arith, refl, ap, sym, ℕ, Bool, false, List, [], ◌∷◌, ◌++◌, Option, Some, None, append-nil, append_assoc, codes, length, map}
+use Rattle.std.proofs.Common.{◌≡◌, ◌∙◌, ◌≤◌, arith, refl, ap, Bool, false, List, [], ◌∷◌, ◌++◌, Option, Some, None, append-nil, append_assoc, codes, length, map}
 use Rattle.std.specs.List.{AllByRecursion, fold}
 use Rattle.std.proofs.lemmas.Bool.Decides.{nat_tests}
 use Rattle.clap.specs.Faults.{check_fault, defaults_fault, settle_fault, step_fault, turn_fault, use_fault, values_fault, walk_fault}
-use Rattle.clap.specs.Kinds.{Kinds, or_else, range_kinds}
+use Rattle.clap.specs.Kinds.{Kinds, or_else}
 use Rattle.clap.specs.Lexer.{usize_max}
 use Rattle.clap.specs.Simple.{Shape, filled, with_index}
 use Rattle.clap.specs.Walk.{Held, Row, Rule, Text, Walk, after_step, arg_by_index, finished, plain_word, positional, settled, walked}
-use Rattle.clap.proofs.FaultLemmas.{past}
 use Rattle.pdb_request.specs.Asked.{Asked}
 use Rattle.pdb_words.specs.CommandLine.{asked_by, asked_of, faults_of}
 use Rattle.pdb_words.specs.Commands.{IsCommand, IsPlain}
@@ -72,20 +71,12 @@ turns s w (word ∷ rest) =
 words_read : (s : Shape) (w : Walk) (words : List Word) → (fold (walked s.rules []) w (map text_of words), walk_fault s [] w (map text_of words)) ≡ turns s w words
 unfolding walk_fault
 words_read s w [] = refl
-words_read s w (word ∷ rest) =
-    let texts = map text_of rest in
-    let here = turn_of s w word in
-    (λ i. let t = turn_is s w word i in (fold (walked s.rules []) t.0 texts, or_else t.1 (walk_fault s [] t.0 texts)))
-    ∙ ap (λ (t : Walk × Kinds). (t.0, or_else here.1 t.1)) (words_read s here.0 rest)
+words_read s w (word ∷ rest) = grind (arith, turn_is s w word, words_read s (turn_of s w word).0 rest)
 
 pub turns-append : (s : Shape) (w : Walk) (xs ys : List Word)
     → turns s w (xs ++ ys) ≡ ((turns s (turns s w xs).0 ys).0, or_else (turns s w xs).1 (turns s (turns s w xs).0 ys).1)
 turns-append s w [] ys = refl
-turns-append s w (x ∷ xs) ys =
-    let here = turn_of s w x in
-    let mid = turns s here.0 xs in
-    let end = turns s mid.0 ys in
-    ap (λ (t : Walk × Kinds). (t.0, or_else here.1 t.1)) (turns-append s here.0 xs ys) ∙ (λ i. (end.0, sym (or_assoc here.1 mid.1 end.1) i))
+turns-append s w (x ∷ xs) ys = grind (arith, or_assoc, turns-append s (turn_of s w x).0 xs ys)
 
 -- ---- one table or more, as the last names of a command
 
@@ -107,17 +98,11 @@ gathering rows tables = record {
 pub turns-plains : (s : Shape) → arg_by_index s.rules 4 ≡ Some tables_rule → (rows : List Row) (tables more : List Text) (all : AllByRecursion IsPlain more) (behind : List Word)
     → turns s (gathering rows tables) (plains more all ++ behind) ≡ turns s (gathering rows (tables ++ more)) behind
 turns-plains s fourth rows tables [] all behind = rw append-nil refl
-turns-plains s fourth rows tables (word ∷ more) all behind =
-    let one : turn_of s (gathering rows tables) (plain word all.0) ≡ (gathering rows (tables ++ word ∷ []), []) = rw fourth refl in
-    (λ i. let later = turns s (one i).0 (plains more all.1 ++ behind) in (later.0, or_else (one i).1 later.1))
-    ∙ turns-plains s fourth rows (tables ++ word ∷ []) more all.1 behind ∙ rw append_assoc refl
+turns-plains s fourth rows tables (word ∷ more) all behind = grind (arith, append_assoc, turns-plains s fourth rows (tables ++ word ∷ []) more all.1 behind)
 
 texts_pass : (texts : List Text) → values_fault tables_rule texts ≡ []
 texts_pass [] = refl
 texts_pass (text ∷ texts) = texts_pass texts
-
-in_range : (n : ℕ) → 1 ≤ n → n ≤ usize_max → range_kinds 1 usize_max n ≡ []
-in_range n low high = grind (arith, nat_tests)
 
 -- what is wrong with the tables at the end
 abbrev pub tables_fault : List Text → Kinds
@@ -125,7 +110,7 @@ tables_fault tables = use_fault false tables_rule tables []
 
 -- as many tables as a machine can name pass
 pub tables_pass : (table : Text) (tables : List Text) → length (table ∷ tables) ≤ usize_max → tables_fault (table ∷ tables) ≡ []
-tables_pass table tables many = past _ _ (in_range (length (table ∷ tables)) (omega arith) many) ∙ texts_pass (table ∷ tables)
+tables_pass table tables many = grind (arith, nat_tests, texts_pass tables)
 
 -- ---- all words
 
