@@ -11,12 +11,20 @@ use Rattle.clap.proofs.OnLiterals.{clap_on_literals}
 use Rattle.clap.proofs.WalkLemmas.{walk_stopped}
 use Rattle.clap.specs.declared.parser.matches.ArgMatches.{ArgMatches}
 use Rattle.clap.specs.declared.error.Error.{Error}
+use Rattle.clap.specs.declared.error.kind.ErrorKind.{ErrorKind}
 use Rattle.clap.specs.declared.error.kind.ErrorKind.TheVariants as kind
 use Rattle.pdb_words.specs.CommandLine.{Parses, asked_by, asked_of, command_line, faults_of}
 use Rattle.pdb_words.specs.Commands.{BeginsWithCommand, IsCommand, IsPlain, commands}
 use Rattle.pdb_words.specs.Faults.{IsMistaken}
-use Rattle.pdb_words.proofs.KindLemmas.{mistaken, none_wrong}
 use Rattle.pdb_words.proofs.TextLemmas.{dashless, each_holds, named, same_text}
+
+-- nothing is wrong with steps in a row only if nothing is with each
+pub none_wrong : (a b : Kinds) → or_else a b ≡ [] → (a ≡ []) × (b ≡ [])
+none_wrong a b none = grind arith
+
+-- a fault that is no wish for help
+pub mistaken : (words : List Text) (k : ErrorKind) (ks : Kinds) → faults_of words ≡ k ∷ ks → k ≢ kind.DisplayHelp → IsMistaken words
+mistaken words k ks is no_help = record { kind = k; among = rw is (inl refl); no_help = no_help }
 
 abbrev pub top : Shape
 top = (built command_line).top

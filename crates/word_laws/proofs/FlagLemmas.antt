@@ -12,8 +12,7 @@ use Rattle.clap.specs.Simple.{Shape, filled, help_rule}
 use Rattle.clap.specs.Walk.{Held, Rule, Text, Walk, arg_by_index, arg_by_long, nothing_held, walk_from, walked}
 use Rattle.pdb_words.specs.CommandLine.{Parses}
 use Rattle.pdb_words.specs.Commands.{IsCommand, commands}
-use Rattle.pdb_words.proofs.CommandLemmas.{faults_behind, leaf}
-use Rattle.pdb_words.proofs.KindLemmas.{none_wrong}
+use Rattle.pdb_words.proofs.CommandLemmas.{faults_behind, leaf, none_wrong}
 use Rattle.pdb_words.proofs.TextLemmas.{each_holds, same_text}
 use Rattle.word_laws.specs.Flags.{IsLongFlag, TakesFlag}
 

@@ -1,4 +1,3 @@
 mod FlagLemmas
 mod LogLemmas
-mod NumberLemmas
 mod WalkLemmas

@@ -14,10 +14,8 @@ use Rattle.pdb_words.specs.CommandLine.{asked_by, faults_of}
 use Rattle.pdb_words.specs.Commands.{IsCommand, IsPlain}
 use Rattle.pdb_words.specs.Faults.{IsMistaken}
 use Rattle.pdb_words.specs.Numbers.{number_of}
-use Rattle.pdb_words.proofs.CommandLemmas.{faults_behind, leaf, start}
-use Rattle.pdb_words.proofs.KindLemmas.{mistaken}
-use Rattle.word_laws.proofs.NumberLemmas.{AsksIf, asks_if, budget_numbers, read_budget, read_workers, takes_budget, takes_workers, unless, workers_numbers}
-use Rattle.word_laws.proofs.WalkLemmas.{Comes, Word, comes, flag, gathering, last_fault, map-plains, plain, plains, tables_fault, tables_pass, tables_rule, text_of, turns, turns-append, turns-plains}
+use Rattle.pdb_words.proofs.CommandLemmas.{faults_behind, leaf, mistaken, start}
+use Rattle.word_laws.proofs.WalkLemmas.{AsksIf, Comes, Word, asks_if, budget_numbers, comes, flag, gathering, last_fault, map-plains, plain, plains, read_budget, read_workers, tables_fault, tables_pass, tables_rule, takes_budget, takes_workers, text_of, turns, turns-append, turns-plains, unless, workers_numbers}
 use Rattle.word_laws.specs.Asking.{AsksFor}
 use Rattle.word_laws.specs.LogWords.{AsksOfLog, LogNames, NamesLog, log_words, of_names, search_within, tables_named, with_fold}
 use Rattle.word_laws.specs.NumberTexts.{writes_budget, writes_workers}

@@ -1,7 +1,7 @@
 use Rattle.std.proofs.Common.{refl, []}
 use Rattle.clap.proofs.OnLiterals.{clap_on_literals}
 use Rattle.clap.specs.declared.error.kind.ErrorKind.TheVariants as kind
-use Rattle.pdb_words.proofs.KindLemmas.{mistaken}
+use Rattle.pdb_words.proofs.CommandLemmas.{mistaken}
 use Rattle.pdb_words.proofs.TextLemmas.{dashless}
 use Rattle.word_laws.proofs.laws.what_replay_asks.Goals as goal
 

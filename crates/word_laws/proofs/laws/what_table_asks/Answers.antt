@@ -5,9 +5,8 @@ use Rattle.clap.specs.declared.error.kind.ErrorKind.TheVariants as kind
 use Rattle.pdb_request.specs.Asked.{table}
 use Rattle.pdb_words.specs.Commands.{IsCommand, IsPlain}
 use Rattle.pdb_words.specs.Numbers.{number_of}
-use Rattle.pdb_words.proofs.KindLemmas.{mistaken}
-use Rattle.word_laws.proofs.NumberLemmas.{AsksIf, asks_if, unless, workers_numbers}
-use Rattle.word_laws.proofs.WalkLemmas.{comes, flag, plain}
+use Rattle.pdb_words.proofs.CommandLemmas.{mistaken}
+use Rattle.word_laws.proofs.WalkLemmas.{AsksIf, asks_if, comes, flag, plain, unless, workers_numbers}
 use Rattle.word_laws.proofs.laws.what_table_asks.Goals as goal
 use Rattle.word_laws.specs.Asking.{AsksFor}
 use Rattle.word_laws.specs.NumberTexts.{writes_workers}

@@ -9,9 +9,8 @@ use Rattle.pdb_words.specs.Commands.{IsCommand}
 use Rattle.pdb_words.specs.Faults.{IsMistaken}
 use Rattle.pdb_words.specs.MakeTable.{most_mask, most_side}
 use Rattle.pdb_words.specs.Commands.{IsPlain}
-use Rattle.pdb_words.proofs.KindLemmas.{mistaken}
-use Rattle.word_laws.proofs.NumberLemmas.{mask_numbers, number_mistaken, read_within, read_workers, side_numbers, takes_within, takes_workers, unless, workers_numbers}
-use Rattle.word_laws.proofs.WalkLemmas.{Comes, Word, comes, flag, plain}
+use Rattle.pdb_words.proofs.CommandLemmas.{mistaken}
+use Rattle.word_laws.proofs.WalkLemmas.{Comes, Word, comes, flag, mask_numbers, number_mistaken, plain, read_within, read_workers, side_numbers, takes_within, takes_workers, unless, workers_numbers}
 use Rattle.word_laws.proofs.maker_laws.what_make_table_asks.Goals as goal
 use Rattle.word_laws.specs.Asking.{AsksFor}
 use Rattle.word_laws.specs.MakeTableWords.{PatternWords, WritesPattern, asks_for_table, pattern_words}
