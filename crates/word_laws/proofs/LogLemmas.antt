@@ -15,7 +15,7 @@ use Rattle.pdb_words.specs.Commands.{IsCommand, IsPlain}
 use Rattle.pdb_words.specs.Faults.{IsMistaken}
 use Rattle.pdb_words.specs.Numbers.{number_of}
 use Rattle.pdb_words.proofs.CommandLemmas.{faults_behind, leaf, mistaken, start}
-use Rattle.word_laws.proofs.WalkLemmas.{AsksIf, Comes, Word, asks_if, budget_numbers, comes, flag, gathering, last_fault, map-plains, plain, plains, read_budget, read_workers, tables_fault, tables_pass, tables_rule, takes_budget, takes_workers, text_of, turns, turns-append, turns-plains, unless, workers_numbers}
+use Rattle.word_laws.proofs.WalkLemmas.{AsksIf, Comes, Word, asks_if, budgets, comes, flag, gathering, last_fault, map-plains, plain, plains, tables_fault, tables_pass, tables_rule, text_of, turns, turns-append, turns-plains, unless, workers}
 use Rattle.word_laws.specs.Asking.{AsksFor}
 use Rattle.word_laws.specs.LogWords.{AsksOfLog, LogNames, NamesLog, log_words, of_names, search_within, tables_named, with_fold}
 use Rattle.word_laws.specs.NumberTexts.{writes_budget, writes_workers}
@@ -110,31 +110,31 @@ module _ (names : LogNames) where
     unfolding clap_on_literals
     workers_first command folds =
         let kinds : Kinds → Bool → Kinds = λ tables taken. or_else (or_else (unless taken []) []) (or_else tables []) in
-        asks_if workers_numbers number is (kinds []) (λ n. of_names (asks command) names n folds) (rw append-nil at (each_comes (numbered (codes "--workers") number is) []
-        (λ tables. kinds tables (takes_workers number)) (λ c f. of_names (asks c) names (read_workers number) f) command folds assumption)) refl refl
+        asks_if workers number is (kinds []) (λ n. of_names (asks command) names n folds) (rw append-nil at (each_comes (numbered (codes "--workers") number is) []
+        (λ tables. kinds tables (workers.takes number)) (λ c f. of_names (asks c) names (workers.reads number) f) command folds assumption)) refl refl
 
     workers_last : (command : LogCommand) (folds : Bool)
         → AsksIf (writes_workers number) (name_of command ∷ with_fold folds (log_words names ++ codes "--workers" ∷ number ∷ [])) (of_names (asks command) names (number_of number) folds)
     unfolding clap_on_literals
     workers_last command folds =
         let kinds : Kinds → Bool → Kinds = λ tables taken. or_else (or_else (or_else tables []) []) (unless taken []) in
-        asks_if workers_numbers number is (kinds []) (λ n. of_names (asks command) names n folds) (each_comes [] (numbered (codes "--workers") number is)
-        (λ tables. kinds tables (takes_workers number)) (λ c f. of_names (asks c) names (read_workers number) f) command folds assumption) refl refl
+        asks_if workers number is (kinds []) (λ n. of_names (asks command) names n folds) (each_comes [] (numbered (codes "--workers") number is)
+        (λ tables. kinds tables (workers.takes number)) (λ c f. of_names (asks c) names (workers.reads number) f) command folds assumption) refl refl
 
   module _ (budget : Text) (is : IsPlain budget) (folds : Bool) where
     pub budget_first : AsksIf (writes_budget budget) (codes "solve" ∷ with_fold folds (codes "--budget" ∷ budget ∷ log_words names)) (of_names (search_within (number_of budget)) names 1 folds)
     unfolding clap_on_literals
     budget_first =
         let kinds : Kinds → Bool → Kinds = λ tables taken. or_else (or_else (unless taken []) []) (or_else tables []) in
-        asks_if budget_numbers budget is (kinds []) (λ n. of_names (search_within n) names 1 folds) (rw append-nil at (log_comes (numbered (codes "--budget") budget is) []
-        (λ tables. kinds tables (takes_budget budget)) (λ c f. of_names (search_within (read_budget budget)) names 1 f) on_search folds assumption)) refl refl
+        asks_if budgets budget is (kinds []) (λ n. of_names (search_within n) names 1 folds) (rw append-nil at (log_comes (numbered (codes "--budget") budget is) []
+        (λ tables. kinds tables (budgets.takes budget)) (λ c f. of_names (search_within (budgets.reads budget)) names 1 f) on_search folds assumption)) refl refl
 
     pub budget_last : AsksIf (writes_budget budget) (codes "solve" ∷ with_fold folds (log_words names ++ codes "--budget" ∷ budget ∷ [])) (of_names (search_within (number_of budget)) names 1 folds)
     unfolding clap_on_literals
     budget_last =
         let kinds : Kinds → Bool → Kinds = λ tables taken. or_else (or_else (or_else tables []) []) (unless taken []) in
-        asks_if budget_numbers budget is (kinds []) (λ n. of_names (search_within n) names 1 folds) (log_comes [] (numbered (codes "--budget") budget is)
-        (λ tables. kinds tables (takes_budget budget)) (λ c f. of_names (search_within (read_budget budget)) names 1 f) on_search folds assumption) refl refl
+        asks_if budgets budget is (kinds []) (λ n. of_names (search_within n) names 1 folds) (log_comes [] (numbered (codes "--budget") budget is)
+        (λ tables. kinds tables (budgets.takes budget)) (λ c f. of_names (search_within (budgets.reads budget)) names 1 f) on_search folds assumption) refl refl
 
   -- both flags with a number
   pub both_asked : (folds : Bool) (number budget : Text) → IsPlain number → IsPlain budget → writes_workers number ≡ true → writes_budget budget ≡ true
@@ -144,9 +144,9 @@ module _ (names : LogNames) where
   both_asked folds number budget n b writes writes_budget =
       let kinds : Kinds → Bool → Bool → Kinds = λ tables one other. or_else (or_else (or_else (unless one []) (unless other [])) []) (or_else tables []) in
       let come = rw append-nil at (log_comes (numbered (codes "--workers") number n ++ numbered (codes "--budget") budget b) []
-      (λ tables. kinds tables (takes_workers number) (takes_budget budget)) (λ c f. of_names (search_within (read_budget budget)) names (read_workers number) f) on_search folds assumption) in (
-        come.faults ∙ (λ i. kinds [] ((workers_numbers.taken number n ∙ writes) i) ((budget_numbers.taken budget b ∙ writes_budget) i)),
-        come.asks ∙ (λ i. of_names (search_within (budget_numbers.read budget b writes_budget i)) names (workers_numbers.read number n writes i) folds),
+      (λ tables. kinds tables (workers.takes number) (budgets.takes budget)) (λ c f. of_names (search_within (budgets.reads budget)) names (workers.reads number) f) on_search folds assumption) in (
+        come.faults ∙ (λ i. kinds [] ((workers.taken number n ∙ writes) i) ((budgets.taken budget b ∙ writes_budget) i)),
+        come.asks ∙ (λ i. of_names (search_within (budgets.read budget b writes_budget i)) names (workers.read number n writes i) folds),
       )
 
   fold_asked : (command : LogCommand) → AsksFor (name_of command ∷ log_words names ++ codes "--fold" ∷ []) (of_names (asks command) names 1 true)

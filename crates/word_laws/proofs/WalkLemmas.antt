@@ -23,7 +23,7 @@ use Rattle.pdb_words.specs.Numbers.{number_of, number_within, writes_within}
 use Rattle.pdb_words.proofs.CommandLemmas.{asked_behind, faults_behind, leaf, mistaken, start}
 use Rattle.pdb_words.proofs.TextLemmas.{not_dashes, strip_dash}
 use Rattle.word_laws.specs.Asking.{AsksFor}
-use Rattle.word_laws.specs.NumberTexts.{writes_budget, writes_mask, writes_side, writes_workers}
+use Rattle.word_laws.specs.NumberTexts.{writes_budget}
 
 -- nothing wrong behind what is wrong
 or_nothing : (kinds : Kinds) → or_else kinds [] ≡ kinds
@@ -145,53 +145,48 @@ comes {name = name} is words run ends found =
       asks = asked_behind name is (map text_of words) ∙ (λ i. asked_by name (finished (leaf name).rules (read i).0.held)) ∙ found;
     }
 
--- ---- which texts `clap` takes as numbers, and what is read of them
+-- ---- numbers in words
 
--- which texts without `-` `clap` takes as numbers, and what is read of them
-pub record IsNumberOf (takes writes : Text → Bool) (reads : Text → ℕ) : Type 0 where
+-- which texts without `-` `clap` takes as such numbers, which write one, and what is read of them
+pub record Numbers : Type 0 where
+  pub takes : Text → Bool
+  pub writes : Text → Bool
+  pub reads : Text → ℕ
   pub taken : (number : Text) → IsPlain number → takes number ≡ writes number
   pub read : (number : Text) → IsPlain number → writes number ≡ true → reads number ≡ number_of number
 
--- `clap` takes the text as a number from low to high, of a type that has negative numbers
-abbrev pub takes_within : ℕ → ℕ → Text → Bool
-takes_within low high text = accepts false (parser.Signed (pos low) (pos high)) text
-
--- the number that is read of such a text, or another where it writes none from low to high
-abbrev pub read_within : ℕ → ℕ → ℕ → Text → ℕ
-read_within low high other text = number_within low high other (without_minus text)
-
-signed_taken : (low high : ℕ) → high < 2 ^ 63 → (number : Text) → IsPlain number → takes_within low high number ≡ writes_within low high number
+pub signed_taken : (low high : ℕ) → high < 2 ^ 63 → (number : Text) → IsPlain number → accepts false (parser.Signed (pos low) (pos high)) number ≡ writes_within low high number
 signed_taken low high fits [] no_dash = refl
 signed_taken low high fits (d ∷ number) no_dash = rw (ne_eqb d 45 no_dash) (grind (arith, nat_tests))
 
-signed_numbers : (low high other : ℕ) → high < 2 ^ 63 → IsNumberOf (takes_within low high) (writes_within low high) (read_within low high other)
-signed_numbers low high other fits = record { taken = signed_taken low high fits; read = λ number no_dash writes. rw (strip_dash number no_dash, writes) }
+-- numbers from low to high, of a type that has negative ones, and otherwise another
+abbrev pub signed : (low high other : ℕ) → high < 2 ^ 63 → Numbers
+signed low high other fits = record {
+  takes = accepts false (parser.Signed (pos low) (pos high));
+  writes = writes_within low high;
+  reads = λ text. number_within low high other (without_minus text);
+  taken = signed_taken low high fits;
+  read = λ number no_dash writes. rw (strip_dash number no_dash, writes);
+}
 
--- a number of workers, and a budget: whether `clap` takes a text as one, and which is read of it
-abbrev pub takes_workers : Text → Bool
-takes_workers = takes_within 1 most_workers
+-- numbers of workers, sides, tile masks and budgets
+abbrev pub workers : Numbers
+workers = signed 1 most_workers 1 (omega arith)
 
-abbrev pub read_workers : Text → ℕ
-read_workers = read_within 1 most_workers 1
+abbrev pub sides : Numbers
+sides = signed 0 most_side 0 (omega arith)
 
-abbrev pub takes_budget : Text → Bool
-takes_budget = accepts false (parser.Unsigned 1 most_budget)
+abbrev pub masks : Numbers
+masks = signed 0 most_mask 0 (omega arith)
 
-abbrev pub read_budget : Text → ℕ
-read_budget = number_within 1 most_budget usual_budget
-
-pub workers_numbers : IsNumberOf takes_workers writes_workers read_workers
-workers_numbers = signed_numbers 1 most_workers 1 (omega arith)
-
-pub budget_numbers : IsNumberOf takes_budget writes_budget read_budget
-budget_numbers = record { taken = λ number no_dash. grind (arith, nat_tests); read = λ number no_dash writes. rw writes }
-
--- a side, and a tile mask
-pub side_numbers : IsNumberOf (takes_within 0 most_side) writes_side (read_within 0 most_side 0)
-side_numbers = signed_numbers 0 most_side 0 (omega arith)
-
-pub mask_numbers : IsNumberOf (takes_within 0 most_mask) writes_mask (read_within 0 most_mask 0)
-mask_numbers = signed_numbers 0 most_mask 0 (omega arith)
+abbrev pub budgets : Numbers
+budgets = record {
+  takes = accepts false (parser.Unsigned 1 most_budget);
+  writes = writes_budget;
+  reads = number_within 1 most_budget usual_budget;
+  taken = λ number no_dash. grind (arith, nat_tests);
+  read = λ number no_dash writes. rw writes;
+}
 
 -- ---- words with a number
 
@@ -208,9 +203,9 @@ abbrev pub AsksIf : Bool → List Text → Asked → Type 0
 AsksIf test words asked = (test ≡ true → AsksFor words asked) × (test ≡ false → IsMistaken words)
 
 -- so do words whose faults and question hang on a number
-pub asks_if : {takes writes : Text → Bool} {reads : Text → ℕ} {name : Text} {words : List Text} → IsNumberOf takes writes reads → (number : Text) → IsPlain number
-    → (kinds : Bool → Kinds) (asks : ℕ → Asked) → Comes name words (kinds (takes number)) (asks (reads number)) → kinds true ≡ [] → kinds false ≡ kind.ValueValidation ∷ []
-    → AsksIf (writes number) (name ∷ words) (asks (number_of number))
+pub asks_if : {name : Text} {words : List Text} (numbers : Numbers) (number : Text) → IsPlain number → (kinds : Bool → Kinds) (asks : ℕ → Asked)
+    → Comes name words (kinds (numbers.takes number)) (asks (numbers.reads number)) → kinds true ≡ [] → kinds false ≡ kind.ValueValidation ∷ []
+    → AsksIf (numbers.writes number) (name ∷ words) (asks (number_of number))
 asks_if numbers number no_dash kinds asks come right wrong = (
   λ is. (come.faults ∙ ap kinds (numbers.taken number no_dash ∙ is) ∙ right, come.asks ∙ ap asks (numbers.read number no_dash is)),
   λ is. number_mistaken _ (come.faults ∙ ap kinds (numbers.taken number no_dash ∙ is) ∙ wrong),

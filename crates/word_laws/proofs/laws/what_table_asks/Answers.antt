@@ -6,7 +6,7 @@ use Rattle.pdb_request.specs.Asked.{table}
 use Rattle.pdb_words.specs.Commands.{IsCommand, IsPlain}
 use Rattle.pdb_words.specs.Numbers.{number_of}
 use Rattle.pdb_words.proofs.CommandLemmas.{mistaken}
-use Rattle.word_laws.proofs.WalkLemmas.{AsksIf, asks_if, comes, flag, plain, unless, workers_numbers}
+use Rattle.word_laws.proofs.WalkLemmas.{AsksIf, asks_if, comes, flag, plain, unless, workers}
 use Rattle.word_laws.proofs.laws.what_table_asks.Goals as goal
 use Rattle.word_laws.specs.Asking.{AsksFor}
 use Rattle.word_laws.specs.NumberTexts.{writes_workers}
@@ -21,12 +21,12 @@ alone name f = let come = comes is_command (plain name f ∷ []) refl refl refl 
 module _ (number name : List ℕ) (n : IsPlain number) (f : IsPlain name) where
   before : AsksIf (writes_workers number) (codes "table" ∷ codes "--workers" ∷ number ∷ name ∷ []) (table name (number_of number))
   unfolding clap_on_literals
-  before = asks_if workers_numbers number n (λ is. or_else (unless is []) []) (table name)
+  before = asks_if workers number n (λ is. or_else (unless is []) []) (table name)
       (comes is_command (flag (codes "--workers") ∷ plain number n ∷ plain name f ∷ []) refl refl refl) refl refl
 
   behind : AsksIf (writes_workers number) (codes "table" ∷ name ∷ codes "--workers" ∷ number ∷ []) (table name (number_of number))
   unfolding clap_on_literals
-  behind = asks_if workers_numbers number n (λ is. unless is []) (table name)
+  behind = asks_if workers number n (λ is. unless is []) (table name)
       (comes is_command (plain name f ∷ flag (codes "--workers") ∷ plain number n ∷ []) refl refl refl) refl refl
 
 pub returns : goal.returns

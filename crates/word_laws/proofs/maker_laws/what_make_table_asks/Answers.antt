@@ -10,7 +10,7 @@ use Rattle.pdb_words.specs.Faults.{IsMistaken}
 use Rattle.pdb_words.specs.MakeTable.{most_mask, most_side}
 use Rattle.pdb_words.specs.Commands.{IsPlain}
 use Rattle.pdb_words.proofs.CommandLemmas.{mistaken}
-use Rattle.word_laws.proofs.WalkLemmas.{Comes, Word, comes, flag, mask_numbers, number_mistaken, plain, read_within, read_workers, side_numbers, takes_within, takes_workers, unless, workers_numbers}
+use Rattle.word_laws.proofs.WalkLemmas.{Comes, Word, comes, flag, masks, number_mistaken, plain, sides, unless, workers}
 use Rattle.word_laws.proofs.maker_laws.what_make_table_asks.Goals as goal
 use Rattle.word_laws.specs.Asking.{AsksFor}
 use Rattle.word_laws.specs.MakeTableWords.{PatternWords, WritesPattern, asks_for_table, pattern_words}
@@ -39,43 +39,43 @@ module _ (words : PatternWords) where
   whole = plain words.side words.plain_side ∷ plain words.mask words.plain_mask ∷ plain words.out words.plain_out ∷ []
 
   abbrev side : Bool
-  side = takes_within 0 most_side words.side
+  side = sides.takes words.side
 
   abbrev mask : Bool
-  mask = takes_within 0 most_mask words.mask
+  mask = masks.takes words.mask
 
   abbrev ComesTo : List Text → Kinds → ℕ → Type 0
-  ComesTo ws kinds workers = Comes (codes "make-table") ws kinds (make_table (read_within 0 most_side 0 words.side) (read_within 0 most_mask 0 words.mask) words.out workers)
+  ComesTo ws kinds workers = Comes (codes "make-table") ws kinds (make_table (sides.reads words.side) (masks.reads words.mask) words.out workers)
 
   alone : ComesTo (pattern_words words) (workers_last true side mask) 1
   unfolding clap_on_literals
   alone = comes is_command whole refl refl refl
 
-  first : (number : Text) → IsPlain number → ComesTo (codes "--workers" ∷ number ∷ pattern_words words) (workers_first (takes_workers number) side mask) (read_workers number)
+  first : (number : Text) → IsPlain number → ComesTo (codes "--workers" ∷ number ∷ pattern_words words) (workers_first (workers.takes number) side mask) (workers.reads number)
   unfolding clap_on_literals
   first number n = comes is_command (flag (codes "--workers") ∷ plain number n ∷ whole) refl refl refl
 
-  last : (number : Text) → IsPlain number → ComesTo (pattern_words words ++ codes "--workers" ∷ number ∷ []) (workers_last (takes_workers number) side mask) (read_workers number)
+  last : (number : Text) → IsPlain number → ComesTo (pattern_words words ++ codes "--workers" ∷ number ∷ []) (workers_last (workers.takes number) side mask) (workers.reads number)
   unfolding clap_on_literals
   last number n = comes is_command (whole ++ flag (codes "--workers") ∷ plain number n ∷ []) refl refl refl
 
   asked : {ws : List Text} {taken : Bool} {read workers : ℕ} (kinds : Bool → Bool → Bool → Kinds) → ComesTo ws (kinds taken side mask) read → kinds true true true ≡ []
       → WritesPattern words → taken ≡ true → read ≡ workers → AsksFor (codes "make-table" ∷ ws) (asks_for_table words workers)
   asked kinds come right writes taken read = (
-    come.faults ∙ (λ i. kinds (taken i) ((side_numbers.taken words.side words.plain_side ∙ writes.0) i) ((mask_numbers.taken words.mask words.plain_mask ∙ writes.1) i)) ∙ right,
-    come.asks ∙ (λ i. make_table (side_numbers.read words.side words.plain_side writes.0 i) (mask_numbers.read words.mask words.plain_mask writes.1 i) words.out (read i)),
+    come.faults ∙ (λ i. kinds (taken i) ((sides.taken words.side words.plain_side ∙ writes.0) i) ((masks.taken words.mask words.plain_mask ∙ writes.1) i)) ∙ right,
+    come.asks ∙ (λ i. make_table (sides.read words.side words.plain_side writes.0 i) (masks.read words.mask words.plain_mask writes.1 i) words.out (read i)),
   )
 
 pub returns : goal.returns
 unfolding clap_on_literals
 returns c = record {
   numbers = λ words writes. asked words workers_last (alone words) refl writes refl refl;
-  other_side = λ words is. number_mistaken _ ((alone words).faults ∙ ap (λ (s : Bool). workers_last true s (mask words)) (side_numbers.taken words.side words.plain_side ∙ is));
-  other_mask = λ words is. number_mistaken _ ((alone words).faults ∙ ap (workers_last true (side words)) (mask_numbers.taken words.mask words.plain_mask ∙ is) ∙ later_wrong true (side words) false refl);
+  other_side = λ words is. number_mistaken _ ((alone words).faults ∙ ap (λ (s : Bool). workers_last true s (mask words)) (sides.taken words.side words.plain_side ∙ is));
+  other_mask = λ words is. number_mistaken _ ((alone words).faults ∙ ap (workers_last true (side words)) (masks.taken words.mask words.plain_mask ∙ is) ∙ later_wrong true (side words) false refl);
   no_name = λ side mask s m. nameless _ _ _ (comes is_command (plain side s ∷ plain mask m ∷ []) refl refl refl).faults;
-  workers = λ words number n is writes. asked words workers_first (first words number n) refl writes (workers_numbers.taken number n ∙ is) (workers_numbers.read number n is);
-  other_workers = λ words number n is. number_mistaken _ ((first words number n).faults ∙ ap (λ (t : Bool). workers_first t (side words) (mask words)) (workers_numbers.taken number n ∙ is));
-  workers_last = λ words number n is writes. asked words workers_last (last words number n) refl writes (workers_numbers.taken number n ∙ is) (workers_numbers.read number n is);
-  other_workers_last = λ words number n is. number_mistaken _ ((last words number n).faults ∙ ap (λ (t : Bool). workers_last t (side words) (mask words)) (workers_numbers.taken number n ∙ is)
+  workers = λ words number n is writes. asked words workers_first (first words number n) refl writes (workers.taken number n ∙ is) (workers.read number n is);
+  other_workers = λ words number n is. number_mistaken _ ((first words number n).faults ∙ ap (λ (t : Bool). workers_first t (side words) (mask words)) (workers.taken number n ∙ is));
+  workers_last = λ words number n is writes. asked words workers_last (last words number n) refl writes (workers.taken number n ∙ is) (workers.read number n is);
+  other_workers_last = λ words number n is. number_mistaken _ ((last words number n).faults ∙ ap (λ (t : Bool). workers_last t (side words) (mask words)) (workers.taken number n ∙ is)
       ∙ later_wrong false (side words) (mask words) refl);
 }
