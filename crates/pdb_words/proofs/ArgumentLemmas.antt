@@ -1,11 +1,10 @@
--- Arguments that are added to commands. A simple argument isn't global, and a plain command has no global argument.
+-- Arguments that are added to commands. A simple argument isn't global.
 use Rattle.std.proofs.Common.{◌≡◌, ◌&&◌, Bool, arith, false, true}
 use Rattle.std.specs.Prelude.{IfOk, Result}
 use Rattle.std.specs.declared.alloc.AllocError.{AllocError}
 use Rattle.clap.specs.Words.{App, Rule, app_of, rule_of, with_rule}
 use Rattle.clap.specs.declared.Arg.{Arg}
 use Rattle.clap.specs.declared.Command.{Command}
-use Rattle.clap.specs.declared.Command.TheViews.{out-Command}
 use Rattle.clap.proofs.SimpleLemmas.{is_false}
 use Rattle.clap.proofs.WalkLemmas.{both}
 use Rattle.pdb_words.specs.Arguments.{HasArgument}
@@ -15,9 +14,6 @@ second a b all = (both a b all).1
 
 pub simple_is_local : (a : Arg) → (rule_of a).is_simple ≡ true → a.global ≡ false
 simple_is_local a simple = search (second, is_false) depth 14
-
-pub plain_is_local : (c : Command) → (app_of c).top.is_plain ≡ true → (out-Command c).has_globals ≡ false
-plain_is_local c plain = grind arith
 
 -- a command of which it is known what it is, with one more argument of which it is known
 pub has_rule : (made : Result Command AllocError) (other : Command) (arg : Arg) (app : App) (rule : Rule) → IfOk made (HasArgument other arg)
