@@ -1,12 +1,11 @@
 -- Which flags stand in words that parse.
-use Rattle.std.proofs.Common.{◌≡◌, ◌≢◌, ◌∙◌, ◌⊎◌, arith, inl, inr, refl, sym, ap, ℕ, Bool, not, true, false, List, [], ◌∷◌, ◌++◌, Option, Some, None, codes}
-use Rattle.std.specs.List.{All, list_all}
+use Rattle.std.proofs.Common.{◌≡◌, ◌≢◌, ◌∙◌, ◌⊎◌, arith, inl, inr, refl, sym, ap, ℕ, Bool, false, List, [], ◌∷◌, ◌++◌, Option, Some, None, codes}
+use Rattle.std.specs.List.{All}
 use Rattle.std.specs.Prelude.{IfSome}
 use Rattle.std.specs.Str.{bytes_eq}
 use Rattle.std.proofs.lemmas.Bool.{cases_Bool}
 use Rattle.std.proofs.lemmas.List.Elements.{All-head, All-tail}
-use Rattle.clap.specs.Faults.{long_fault, turn_fault, walk_fault}
-use Rattle.clap.specs.Kinds.{Kinds}
+use Rattle.clap.specs.Faults.{long_fault, walk_fault}
 use Rattle.clap.specs.Lexer.{long_of}
 use Rattle.clap.specs.Simple.{Shape, filled, help_rule}
 use Rattle.clap.specs.Walk.{Held, Rule, Text, Walk, arg_by_index, arg_by_long, nothing_held, walk_from, walked}

@@ -100,9 +100,7 @@ module _ (names : LogNames) where
 
   plain_asked : (command : LogCommand) (folds : Bool) → AsksFor (name_of command ∷ with_fold folds (log_words names)) (of_names (asks command) names 1 folds)
   unfolding clap_on_literals
-  plain_asked command folds =
-      let come = rw append-nil at (each_comes [] [] (λ tables. or_else tables []) (λ c f. of_names (asks c) names 1 f) command folds assumption) in
-      (come.faults, come.asks)
+  plain_asked command folds = rw append-nil at (each_comes [] [] (λ tables. or_else tables []) (λ c f. of_names (asks c) names 1 f) command folds assumption)
 
   module _ (number : Text) (is : IsPlain number) where
     workers_first : (command : LogCommand) (folds : Bool)
@@ -145,22 +143,21 @@ module _ (names : LogNames) where
       let kinds : Kinds → Bool → Bool → Kinds = λ tables one other. or_else (or_else (or_else (unless one []) (unless other [])) []) (or_else tables []) in
       let come = rw append-nil at (log_comes (numbered (codes "--workers") number n ++ numbered (codes "--budget") budget b) []
       (λ tables. kinds tables (workers.takes number) (budgets.takes budget)) (λ c f. of_names (search_within (budgets.reads budget)) names (workers.reads number) f) on_search folds assumption) in (
-        come.faults ∙ (λ i. kinds [] ((workers.taken number n ∙ writes) i) ((budgets.taken budget b ∙ writes_budget) i)),
-        come.asks ∙ (λ i. of_names (search_within (budgets.read budget b writes_budget i)) names (workers.read number n writes i) folds),
+        come.0 ∙ (λ i. kinds [] ((workers.taken number n ∙ writes) i) ((budgets.taken budget b ∙ writes_budget) i)),
+        come.1 ∙ (λ i. of_names (search_within (budgets.read budget b writes_budget i)) names (workers.read number n writes i) folds),
       )
 
   fold_asked : (command : LogCommand) → AsksFor (name_of command ∷ log_words names ++ codes "--fold" ∷ []) (of_names (asks command) names 1 true)
   unfolding clap_on_literals
   fold_asked command =
       let kinds : Kinds → Kinds = λ tables. or_else (or_else (or_else (or_else tables []) []) []) [] in
-      let come = all_come command [] (flag (codes "--fold") ∷ []) kinds (of_names (asks command) names 1 true)
-      (by_command (λ c. Fits c [] (flag (codes "--fold") ∷ []) kinds (of_names (asks c) names 1 true)) (assumption) command) in
-      (come.faults, come.asks)
+      all_come command [] (flag (codes "--fold") ∷ []) kinds (of_names (asks command) names 1 true)
+      (by_command (λ c. Fits c [] (flag (codes "--fold") ∷ []) kinds (of_names (asks c) names 1 true)) (assumption) command)
 
 -- no table
 missing : (command : LogCommand) (words : List Word) → or_else (turns (leaf (name_of command)) start words).1 (last_fault (leaf (name_of command)) (turns (leaf (name_of command)) start words).0.held) ≡ kind.MissingRequiredArgument ∷ []
     → IsMistaken (name_of command ∷ map text_of words)
-missing command words ends = mistaken _ kind.MissingRequiredArgument [] (comes (is_command command) words refl ends refl).faults (λ e. cc)
+missing command words ends = mistaken _ kind.MissingRequiredArgument [] (comes (is_command command) words refl ends refl).0 (λ e. cc)
 
 tableless : (command : LogCommand) (folds : Bool) (text sets log : Text) → IsPlain text → IsPlain sets → IsPlain log → IsMistaken (name_of command ∷ with_fold folds (text ∷ sets ∷ log ∷ []))
 unfolding clap_on_literals

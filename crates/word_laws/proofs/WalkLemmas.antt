@@ -131,19 +131,18 @@ last_fault s h = or_else (settle_fault s.rules s.args_override_self h)
     (or_else (defaults_fault (settled s.rules h).rows s.rules) (check_fault s (finished s.rules h) false))
 
 -- what is wrong with a command's words, and what they ask for
-pub record Comes (name : Text) (words : List Text) (kinds : Kinds) (asked : Asked) : Type 0 where
-  pub faults : faults_of (name ∷ words) ≡ kinds
-  pub asks : asked_of (name ∷ words) ≡ asked
+abbrev pub Comes : Text → List Text → Kinds → Asked → Type 0
+Comes name words kinds asked = (faults_of (name ∷ words) ≡ kinds) × (asked_of (name ∷ words) ≡ asked)
 
 -- they come to what stands at the end of the walk
 pub comes : {name : Text} → IsCommand name → (words : List Word) {end : Walk × Kinds} {kinds : Kinds} {asked : Asked} → turns (leaf name) start words ≡ end
     → or_else end.1 (last_fault (leaf name) end.0.held) ≡ kinds → asked_by name (finished (leaf name).rules end.0.held) ≡ asked → Comes name (map text_of words) kinds asked
 unfolding walk_fault
 comes {name = name} is words run ends found =
-    let read = words_read (leaf name) start words ∙ run in record {
-      faults = faults_behind name is (map text_of words) ∙ or_nothing _ ∙ (λ i. or_else (read i).1 (last_fault (leaf name) (read i).0.held)) ∙ ends;
-      asks = asked_behind name is (map text_of words) ∙ (λ i. asked_by name (finished (leaf name).rules (read i).0.held)) ∙ found;
-    }
+    let read = words_read (leaf name) start words ∙ run in (
+      faults_behind name is (map text_of words) ∙ or_nothing _ ∙ (λ i. or_else (read i).1 (last_fault (leaf name) (read i).0.held)) ∙ ends,
+      asked_behind name is (map text_of words) ∙ (λ i. asked_by name (finished (leaf name).rules (read i).0.held)) ∙ found,
+    )
 
 -- ---- numbers in words
 
@@ -207,6 +206,6 @@ pub asks_if : {name : Text} {words : List Text} (numbers : Numbers) (number : Te
     → Comes name words (kinds (numbers.takes number)) (asks (numbers.reads number)) → kinds true ≡ [] → kinds false ≡ kind.ValueValidation ∷ []
     → AsksIf (numbers.writes number) (name ∷ words) (asks (number_of number))
 asks_if numbers number no_dash kinds asks come right wrong = (
-  λ is. (come.faults ∙ ap kinds (numbers.taken number no_dash ∙ is) ∙ right, come.asks ∙ ap asks (numbers.read number no_dash is)),
-  λ is. number_mistaken _ (come.faults ∙ ap kinds (numbers.taken number no_dash ∙ is) ∙ wrong),
+  λ is. (come.0 ∙ ap kinds (numbers.taken number no_dash ∙ is) ∙ right, come.1 ∙ ap asks (numbers.read number no_dash is)),
+  λ is. number_mistaken _ (come.0 ∙ ap kinds (numbers.taken number no_dash ∙ is) ∙ wrong),
 )

@@ -8,15 +8,10 @@ use Rattle.pdb_words.specs.Numbers.{number_of}
 use Rattle.pdb_words.proofs.CommandLemmas.{mistaken}
 use Rattle.word_laws.proofs.WalkLemmas.{AsksIf, asks_if, comes, flag, plain, unless, workers}
 use Rattle.word_laws.proofs.laws.what_table_asks.Goals as goal
-use Rattle.word_laws.specs.Asking.{AsksFor}
 use Rattle.word_laws.specs.NumberTexts.{writes_workers}
 
 is_command : IsCommand (codes "table")
 is_command = inr (inl refl)
-
-alone : (name : List ℕ) → IsPlain name → AsksFor (codes "table" ∷ name ∷ []) (table name 1)
-unfolding clap_on_literals
-alone name f = let come = comes is_command (plain name f ∷ []) refl refl refl in (come.faults, come.asks)
 
 module _ (number name : List ℕ) (n : IsPlain number) (f : IsPlain name) where
   before : AsksIf (writes_workers number) (codes "table" ∷ codes "--workers" ∷ number ∷ name ∷ []) (table name (number_of number))
@@ -32,7 +27,7 @@ module _ (number name : List ℕ) (n : IsPlain number) (f : IsPlain name) where
 pub returns : goal.returns
 unfolding clap_on_literals
 returns c = record {
-  file = alone;
+  file = λ name f. comes is_command (plain name f ∷ []) refl refl refl;
   alone = mistaken _ kind.MissingRequiredArgument [] refl (λ e. cc);
   workers = λ number name n f. (before number name n f).0;
   other_workers = λ number name n f. (before number name n f).1;

@@ -7,7 +7,6 @@ use Rattle.pdb_request.specs.Asked.{make_table}
 use Rattle.pdb_words.specs.CommandLine.{faults_of}
 use Rattle.pdb_words.specs.Commands.{IsCommand}
 use Rattle.pdb_words.specs.Faults.{IsMistaken}
-use Rattle.pdb_words.specs.MakeTable.{most_mask, most_side}
 use Rattle.pdb_words.specs.Commands.{IsPlain}
 use Rattle.pdb_words.proofs.CommandLemmas.{mistaken}
 use Rattle.word_laws.proofs.WalkLemmas.{Comes, Word, comes, flag, masks, number_mistaken, plain, sides, unless, workers}
@@ -59,23 +58,23 @@ module _ (words : PatternWords) where
   unfolding clap_on_literals
   last number n = comes is_command (whole ++ flag (codes "--workers") ∷ plain number n ∷ []) refl refl refl
 
-  asked : {ws : List Text} {taken : Bool} {read workers : ℕ} (kinds : Bool → Bool → Bool → Kinds) → ComesTo ws (kinds taken side mask) read → kinds true true true ≡ []
+  asked : (ws : List Text) {taken : Bool} {read workers : ℕ} (kinds : Bool → Bool → Bool → Kinds) → ComesTo ws (kinds taken side mask) read → kinds true true true ≡ []
       → WritesPattern words → taken ≡ true → read ≡ workers → AsksFor (codes "make-table" ∷ ws) (asks_for_table words workers)
-  asked kinds come right writes taken read = (
-    come.faults ∙ (λ i. kinds (taken i) ((sides.taken words.side words.plain_side ∙ writes.0) i) ((masks.taken words.mask words.plain_mask ∙ writes.1) i)) ∙ right,
-    come.asks ∙ (λ i. make_table (sides.read words.side words.plain_side writes.0 i) (masks.read words.mask words.plain_mask writes.1 i) words.out (read i)),
+  asked ws kinds come right writes taken read = (
+    come.0 ∙ (λ i. kinds (taken i) ((sides.taken words.side words.plain_side ∙ writes.0) i) ((masks.taken words.mask words.plain_mask ∙ writes.1) i)) ∙ right,
+    come.1 ∙ (λ i. make_table (sides.read words.side words.plain_side writes.0 i) (masks.read words.mask words.plain_mask writes.1 i) words.out (read i)),
   )
 
 pub returns : goal.returns
 unfolding clap_on_literals
 returns c = record {
-  numbers = λ words writes. asked words workers_last (alone words) refl writes refl refl;
-  other_side = λ words is. number_mistaken _ ((alone words).faults ∙ ap (λ (s : Bool). workers_last true s (mask words)) (sides.taken words.side words.plain_side ∙ is));
-  other_mask = λ words is. number_mistaken _ ((alone words).faults ∙ ap (workers_last true (side words)) (masks.taken words.mask words.plain_mask ∙ is) ∙ later_wrong true (side words) false refl);
-  no_name = λ side mask s m. nameless _ _ _ (comes is_command (plain side s ∷ plain mask m ∷ []) refl refl refl).faults;
-  workers = λ words number n is writes. asked words workers_first (first words number n) refl writes (workers.taken number n ∙ is) (workers.read number n is);
-  other_workers = λ words number n is. number_mistaken _ ((first words number n).faults ∙ ap (λ (t : Bool). workers_first t (side words) (mask words)) (workers.taken number n ∙ is));
-  workers_last = λ words number n is writes. asked words workers_last (last words number n) refl writes (workers.taken number n ∙ is) (workers.read number n is);
-  other_workers_last = λ words number n is. number_mistaken _ ((last words number n).faults ∙ ap (λ (t : Bool). workers_last t (side words) (mask words)) (workers.taken number n ∙ is)
+  numbers = λ words writes. asked words (pattern_words words) workers_last (alone words) refl writes refl refl;
+  other_side = λ words is. number_mistaken _ ((alone words).0 ∙ ap (λ (s : Bool). workers_last true s (mask words)) (sides.taken words.side words.plain_side ∙ is));
+  other_mask = λ words is. number_mistaken _ ((alone words).0 ∙ ap (workers_last true (side words)) (masks.taken words.mask words.plain_mask ∙ is) ∙ later_wrong true (side words) false refl);
+  no_name = λ side mask s m. nameless _ _ _ (comes is_command (plain side s ∷ plain mask m ∷ []) refl refl refl).0;
+  workers = λ words number n is writes. asked words (codes "--workers" ∷ number ∷ pattern_words words) workers_first (first words number n) refl writes (workers.taken number n ∙ is) (workers.read number n is);
+  other_workers = λ words number n is. number_mistaken _ ((first words number n).0 ∙ ap (λ (t : Bool). workers_first t (side words) (mask words)) (workers.taken number n ∙ is));
+  workers_last = λ words number n is writes. asked words (pattern_words words ++ codes "--workers" ∷ number ∷ []) workers_last (last words number n) refl writes (workers.taken number n ∙ is) (workers.read number n is);
+  other_workers_last = λ words number n is. number_mistaken _ ((last words number n).0 ∙ ap (λ (t : Bool). workers_last t (side words) (mask words)) (workers.taken number n ∙ is)
       ∙ later_wrong false (side words) (mask words) refl);
 }
