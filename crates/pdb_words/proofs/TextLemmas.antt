@@ -6,7 +6,7 @@ use Rattle.std.specs.Str.{bytes_eq}
 use Rattle.std.proofs.lemmas.Bool.Decides.{nat_tests}
 use Rattle.std.proofs.lemmas.Slice.Eq.{bytes_eq-Decides}
 use Rattle.clap.specs.Lexer.{strip_byte}
-use Rattle.clap.specs.Walk.{Names, Text, answers_to}
+use Rattle.clap.specs.Walk.{Text, answers_to}
 use Rattle.pdb_words.specs.Commands.{IsOneOf, IsPlain}
 
 pub same_text : (a b : Text) → bytes_eq a b ≡ true → a ≡ b
@@ -18,12 +18,8 @@ each_holds P [] all text is = absurd is
 each_holds P (first ∷ rest) all text (inl same) = subst P (sym same) all.0
 each_holds P (first ∷ rest) all text (inr later) = each_holds P rest all.1 text later
 
--- names without aliases
-abbrev pub labels : List Text → Names
-labels = map (λ name. (name, []))
-
--- a word is one of the names, or answers to none
-pub named : (word : Text) (names : List Text) → IsOneOf names word ⊎ (find (answers_to word) (labels names) ≡ None)
+-- a word is one of the names, which are without aliases, or answers to none
+pub named : (word : Text) (names : List Text) → IsOneOf names word ⊎ (find (answers_to word) (map (λ name. (name, [])) names) ≡ None)
 named word [] = inr refl
 named word (name ∷ rest) = grind (arith, same_text name word, named word rest)
 

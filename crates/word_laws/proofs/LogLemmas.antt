@@ -120,6 +120,7 @@ module _ (names : LogNames) where
         (λ tables. kinds tables (workers.takes number)) (λ c f. of_names (asks c) names (workers.reads number) f) command folds assumption) refl refl
 
   module _ (budget : Text) (is : IsPlain budget) (folds : Bool) where
+    -- a budget before the names
     pub budget_first : AsksIf (writes_budget budget) (codes "solve" ∷ with_fold folds (codes "--budget" ∷ budget ∷ log_words names)) (of_names (search_within (number_of budget)) names 1 folds)
     unfolding clap_on_literals
     budget_first =
@@ -127,6 +128,7 @@ module _ (names : LogNames) where
         asks_if budgets budget is (kinds []) (λ n. of_names (search_within n) names 1 folds) (rw append-nil at (log_comes (numbered (codes "--budget") budget is) []
         (λ tables. kinds tables (budgets.takes budget)) (λ c f. of_names (search_within (budgets.reads budget)) names 1 f) on_search folds assumption)) refl refl
 
+    -- a budget behind them
     pub budget_last : AsksIf (writes_budget budget) (codes "solve" ∷ with_fold folds (log_words names ++ codes "--budget" ∷ budget ∷ [])) (of_names (search_within (number_of budget)) names 1 folds)
     unfolding clap_on_literals
     budget_last =

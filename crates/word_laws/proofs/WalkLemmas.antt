@@ -42,6 +42,7 @@ abbrev pub text_of : Word → Text
 text_of (flag word) = word
 text_of (plain word is) = word
 
+-- words that don't begin with `-`
 abbrev pub plains : (words : List Text) → AllByRecursion IsPlain words → List Word
 plains [] all = []
 plains (word ∷ rest) all = plain word all.0 ∷ plains rest all.1
@@ -67,11 +68,11 @@ turn_of s w (plain word is) = plain_turn s w.is_trailing w.stopped w word
 
 turn_is : (s : Shape) (w : Walk) (word : Word) → turn_at s w (text_of word) ≡ turn_of s w word
 unfolding walked
-turn_is s w (flag word) = refl
-turn_is s w (plain word is) = grind (arith, strip_dash word is, not_dashes word is)
+turn_is s w word = grind (arith, strip_dash, not_dashes)
 
 -- ---- words in a row
 
+-- the walk behind words, and what is wrong up to there
 abbrev pub turns : Shape → Walk → List Word → Walk × Kinds
 turns s w [] = (w, [])
 turns s w (word ∷ rest) =
