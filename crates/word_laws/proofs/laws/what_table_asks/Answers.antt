@@ -3,31 +3,28 @@ use Rattle.clap.proofs.OnLiterals.{clap_on_literals}
 use Rattle.clap.specs.Kinds.{or_else}
 use Rattle.clap.specs.declared.error.kind.ErrorKind.TheVariants as kind
 use Rattle.pdb_request.specs.Asked.{table}
-use Rattle.pdb_words.specs.Commands.{IsCommand, IsPlain}
+use Rattle.pdb_words.specs.Commands.{IsPlain}
 use Rattle.pdb_words.specs.Numbers.{number_of}
 use Rattle.pdb_words.proofs.CommandLemmas.{mistaken}
 use Rattle.word_laws.proofs.WalkLemmas.{AsksIf, asks_if, comes, flag, plain, unless, workers}
 use Rattle.word_laws.proofs.laws.what_table_asks.Goals as goal
 use Rattle.word_laws.specs.NumberTexts.{writes_workers}
 
-is_command : IsCommand (codes "table")
-is_command = inr (inl refl)
-
 module _ (number name : List ℕ) (n : IsPlain number) (f : IsPlain name) where
   before : AsksIf (writes_workers number) (codes "table" ∷ codes "--workers" ∷ number ∷ name ∷ []) (table name (number_of number))
   unfolding clap_on_literals
   before = asks_if workers number n (λ is. or_else (unless is []) []) (table name)
-      (comes is_command (flag (codes "--workers") ∷ plain number n ∷ plain name f ∷ []) refl refl refl) refl refl
+      (comes (inr (inl refl)) (flag (codes "--workers") ∷ plain number n ∷ plain name f ∷ []) refl refl refl) refl refl
 
   behind : AsksIf (writes_workers number) (codes "table" ∷ name ∷ codes "--workers" ∷ number ∷ []) (table name (number_of number))
   unfolding clap_on_literals
   behind = asks_if workers number n (λ is. unless is []) (table name)
-      (comes is_command (plain name f ∷ flag (codes "--workers") ∷ plain number n ∷ []) refl refl refl) refl refl
+      (comes (inr (inl refl)) (plain name f ∷ flag (codes "--workers") ∷ plain number n ∷ []) refl refl refl) refl refl
 
 pub returns : goal.returns
 unfolding clap_on_literals
 returns c = record {
-  file = λ name f. comes is_command (plain name f ∷ []) refl refl refl;
+  file = λ name f. comes (inr (inl refl)) (plain name f ∷ []) refl refl refl;
   alone = mistaken _ kind.MissingRequiredArgument [] refl (λ e. cc);
   workers = λ number name n f. (before number name n f).0;
   other_workers = λ number name n f. (before number name n f).1;
