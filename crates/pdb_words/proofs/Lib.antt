@@ -1,5 +1,4 @@
 mod ArgumentLemmas
 pub mod CommandLemmas
-mod FoundLemmas
 mod NumberLemmas
 pub mod TextLemmas

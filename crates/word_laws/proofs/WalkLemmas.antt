@@ -202,7 +202,7 @@ number_mistaken words is = mistaken words kind.ValueValidation [] is (λ e. cc)
 abbrev pub AsksIf : Bool → List Text → Asked → Type 0
 AsksIf test words asked = (test ≡ true → AsksFor words asked) × (test ≡ false → IsMistaken words)
 
--- so do words whose faults and question hang on a number
+-- so do words whose faults, and what they ask for, hang on a number
 pub asks_if : {name : Text} {words : List Text} (numbers : Numbers) (number : Text) → IsPlain number → (kinds : Bool → Kinds) (asks : ℕ → Asked)
     → Comes name words (kinds (numbers.takes number)) (asks (numbers.reads number)) → kinds true ≡ [] → kinds false ≡ kind.ValueValidation ∷ []
     → AsksIf (numbers.writes number) (name ∷ words) (asks (number_of number))
