@@ -3,6 +3,7 @@ use Rattle.std.proofs.Common.{◌≡◌, ◌<◌, ◌^◌, ◌&&◌, arith, ℕ,
 use Rattle.std.specs.Bool.{Decides}
 use Rattle.std.specs.Char.{digit_value}
 use Rattle.std.specs.List.{list_all}
+use Rattle.std.specs.Option.{option_map_or}
 use Rattle.std.specs.Prelude.{Option, Some, None, Result, if◌then◌else◌}
 use Rattle.std.specs.Str.Parse.{AllDigits, ExplainsUnsignedError, HasUnsignedDigitsIfOk, ParsesUnsigned, without_leading_plus}
 use Rattle.std.specs.declared.num.ParseIntError.{ParseIntError}
@@ -17,20 +18,15 @@ digits_tested : (ds : List ℕ) → Decides (list_all (λ d. nat_lt (digit_value
 digits_tested [] = grind arith
 digits_tested (d ∷ ds) = grind (arith, nat_tests, digits_tested ds)
 
--- the number that was read, where it is one from low to high, and otherwise another
-abbrev pub kept : ℕ → ℕ → ℕ → Option ℕ → ℕ
-kept low high other None = other
-kept low high other (Some n) = if nat_le low n && nat_le n high then n else other
-
 -- what `u64` makes of a text
 abbrev pub Gives : Text → Result ℕ ParseIntError → Type 0
 Gives text r = ParsesUnsigned 64 10 text r × ExplainsUnsignedError 10 text r × HasUnsignedDigitsIfOk text r
 
 module _ (low high other : ℕ) (fits : high < 2 ^ 64) where
-  text_read : (text : Text) (read : Option ℕ) → ReadsOne Gives text read → kept low high other read ≡ number_within low high other text
+  text_read : (text : Text) (read : Option ℕ) → ReadsOne Gives text read → option_map_or (λ n. if nat_le low n && nat_le n high then n else other) read other ≡ number_within low high other text
   text_read text read reads = grind (arith, nat_tests, digits_tested (without_leading_plus text))
 
-  -- what `get_one` read of a text that may be missing
+  -- what `get_one` read of a text that may be missing: the number where it is one from low to high, and otherwise another
   pub number_read : (m : ArgMatches) (id : Text) (read : Option ℕ) → (one_text (found_of m) id ≡ None → read ≡ None) → ((text : Text) → one_text (found_of m) id ≡ Some text → ReadsOne Gives text read)
-      → kept low high other read ≡ number_in low high other id (rows_of (found_of m))
+      → option_map_or (λ n. if nat_le low n && nat_le n high then n else other) read other ≡ number_in low high other id (rows_of (found_of m))
   number_read m id read none value = grind (arith, text_read, one_text-rows (found_of m) id)
