@@ -157,7 +157,8 @@ module _ (names : LogNames) where
       (by_command (λ c. Fits c [] (flag (codes "--fold") ∷ []) kinds (of_names (asks c) names 1 true)) (assumption) command)
 
 -- no table
-missing : (command : LogCommand) (words : List Word) → or_else (turns (leaf (name_of command)) start words).1 (last_fault (leaf (name_of command)) (turns (leaf (name_of command)) start words).0.held) ≡ kind.MissingRequiredArgument ∷ []
+missing : (command : LogCommand) (words : List Word)
+    → (let end = turns (leaf (name_of command)) start words in or_else end.1 (last_fault (leaf (name_of command)) end.0.held) ≡ kind.MissingRequiredArgument ∷ [])
     → IsMistaken (name_of command ∷ map text_of words)
 missing command words ends = mistaken _ kind.MissingRequiredArgument [] (comes (is_command command) words refl ends refl).0 (λ e. cc)
 
