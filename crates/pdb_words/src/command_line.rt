@@ -72,7 +72,7 @@ fn program<'a>(alloc: Global) -> Result<Command<'a>, AllocError>
 }
 
 /// The program with one more command, where memory was there for both.
-#[tactic(auto, using(crate::proofs::ArgumentLemmas::plain_is_local))]
+#[tactic(auto, using(clap::proofs::SimpleLemmas::plain_fields))]
 fn with_command<'a>(
     program: Result<Command<'a>, AllocError>,
     command: Result<Command<'a>, AllocError>,

@@ -62,7 +62,7 @@ pub(crate) fn with_log<'a>(
 }
 
 /// The name that these matches of a command have for a file.
-#[tactic(auto, using(crate::proofs::FoundLemmas::found_rows))]
+#[tactic(auto, using(crate::proofs::ArgumentLemmas::found_rows))]
 pub(crate) fn file_in<'a>(found: &ArgMatches<'a>, id: &str) -> &'a str
     ensures { result.now ≡ file_in id.now (rows_found found.now) }
 {
@@ -70,7 +70,7 @@ pub(crate) fn file_in<'a>(found: &ArgMatches<'a>, id: &str) -> &'a str
 }
 
 /// The names that these matches of a command have for the tables.
-#[tactic(auto, using(crate::proofs::FoundLemmas::found_rows))]
+#[tactic(auto, using(crate::proofs::ArgumentLemmas::found_rows))]
 pub(crate) fn tables_in<'a>(
     alloc: Global,
     found: &ArgMatches<'a>,

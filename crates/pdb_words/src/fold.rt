@@ -28,7 +28,7 @@ pub(crate) fn with_fold<'a>(alloc: Global, command: Command<'a>) -> Result<Comma
 }
 
 /// Whether these matches of a command ask that tables are folded.
-#[tactic(auto, using(crate::proofs::FoundLemmas::found_rows))]
+#[tactic(auto, using(crate::proofs::ArgumentLemmas::found_rows))]
 pub(crate) fn fold_in(found: &ArgMatches<'_>) -> bool
     ensures { result ≡ fold_in (rows_found found.now) }
 {

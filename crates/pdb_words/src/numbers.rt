@@ -26,7 +26,6 @@ pub(crate) fn number_flag<'a>(
 }
 
 /// The number that these matches of a command have under an id, or the usual one where they have none from low to high.
-#[tactic(auto, using(crate::proofs::NumberLemmas::none_read))]
 pub(crate) fn number_in(found: &ArgMatches<'_>, id: &str, low: u64, high: u64, usual: u64) -> u64
     requires { (low ≤ usual) × (usual ≤ high) }
     ensures asked { result ≡ number_in low high usual id.now (rows_found found.now) }

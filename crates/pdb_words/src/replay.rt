@@ -34,7 +34,7 @@ pub(crate) fn replay_command<'a>(alloc: Global) -> Result<Command<'a>, AllocErro
 }
 
 /// What these matches of the command ask for.
-#[tactic(auto, using(crate::proofs::FoundLemmas::found_rows))]
+#[tactic(auto, using(crate::proofs::ArgumentLemmas::found_rows))]
 pub(crate) fn replay_in<'a>(found: &ArgMatches<'a>) -> Request<'a>
     ensures asked { request_shown result ≡ replay_in (rows_found found.now) }
     ensures workers { HasWorkers result }

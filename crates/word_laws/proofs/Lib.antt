@@ -1,7 +1,3 @@
 mod FlagLemmas
-mod GivenLemmas
 mod LogLemmas
-mod MakeTableLemmas
-mod NumberLemmas
-mod TablesLemmas
 mod WalkLemmas

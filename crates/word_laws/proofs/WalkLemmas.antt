@@ -1,116 +1,128 @@
--- What the words behind a command come to, word by word: a word that doesn't begin with `-` is no flag.
-use Rattle.std.proofs.Common.{◌≡◌, ◌∙◌, refl, ap, ap₂, sym, ℕ, Bool, false, true, List, [], ◌∷◌, ◌++◌, Option, Some, None, map}
-use Rattle.std.specs.Bool.{⊤}
+-- What the words behind a command come to, word by word, and the numbers among them: a word that doesn't begin with `-` is no flag.
+use Rattle.std.proofs.Common.{◌≡◌, ◌∙◌, ◌≤◌, arith, refl, ap, Bool, false, List, [], ◌∷◌, ◌++◌, Option, Some, None, append-nil, append_assoc, codes, length, map, ◌<◌, ◌^◌, ℕ, true, ne_eqb}
 use Rattle.std.specs.List.{AllByRecursion, fold}
-use Rattle.clap.specs.Faults.{check_fault, defaults_fault, settle_fault, step_fault, turn_fault, walk_fault}
+use Rattle.std.specs.Prelude.{if◌then◌else◌, pos}
+use Rattle.std.proofs.lemmas.Bool.Decides.{nat_tests}
+use Rattle.clap.specs.Faults.{check_fault, defaults_fault, settle_fault, step_fault, turn_fault, use_fault, values_fault, walk_fault}
 use Rattle.clap.specs.Kinds.{Kinds, or_else}
-use Rattle.clap.specs.Simple.{Shape}
-use Rattle.clap.specs.Walk.{Held, Text, Waiting, Walk, after_step, finished, idle, option, plain_word, positional, settled, walked}
-use Rattle.pdb_request.specs.Asked.{Asked}
+use Rattle.clap.specs.Lexer.{usize_max, without_minus}
+use Rattle.clap.specs.Simple.{Shape, filled, with_index}
+use Rattle.clap.specs.ValueTests.{accepts}
+use Rattle.clap.specs.Walk.{Held, Row, Rule, Text, Walk, after_step, arg_by_index, finished, plain_word, positional, settled, walked}
+use Rattle.clap.specs.declared.builder.value_parser.ValueParser.TheVariants as parser
+use Rattle.clap.specs.declared.error.kind.ErrorKind.TheVariants as kind
+use Rattle.book_core.specs.Books.{most_workers}
+use Rattle.pdb_request.specs.Asked.{Asked, most_budget}
+use Rattle.pdb_words.specs.Budget.{usual_budget}
 use Rattle.pdb_words.specs.CommandLine.{asked_by, asked_of, faults_of}
 use Rattle.pdb_words.specs.Commands.{IsCommand, IsPlain}
-use Rattle.pdb_words.proofs.CommandLemmas.{asked_behind, faults_behind, leaf, start}
-use Rattle.pdb_words.proofs.TextLemmas.{HasNoDash, dashless, has_no_dash}
+use Rattle.pdb_words.specs.Faults.{IsMistaken}
+use Rattle.pdb_words.specs.Files.{needed_tables}
+use Rattle.pdb_words.specs.MakeTable.{most_mask, most_side}
+use Rattle.pdb_words.specs.Numbers.{number_of, number_within, writes_within}
+use Rattle.pdb_words.proofs.CommandLemmas.{asked_behind, faults_behind, leaf, mistaken, start}
+use Rattle.pdb_words.proofs.TextLemmas.{not_dashes, strip_dash}
+use Rattle.word_laws.specs.Asking.{AsksFor}
+use Rattle.word_laws.specs.NumberTexts.{writes_budget}
 
 -- nothing wrong behind what is wrong
-pub or_nothing : (kinds : Kinds) → or_else kinds [] ≡ kinds
-or_nothing [] = refl
-or_nothing (k ∷ ks) = refl
+or_nothing : (kinds : Kinds) → or_else kinds [] ≡ kinds
+or_nothing kinds = grind arith
 
 -- three places in a row
-pub or_assoc : (a b c : Kinds) → or_else (or_else a b) c ≡ or_else a (or_else b c)
-or_assoc [] b c = refl
-or_assoc (k ∷ ks) b c = refl
+or_assoc : (a b c : Kinds) → or_else (or_else a b) c ≡ or_else a (or_else b c)
+or_assoc a b c = grind arith
 
 -- a word: a flag that is written out, or any that doesn't begin with `-`
 pub data Word : Type 0 where
   flag : Text → Word
-  plain : Text → Word
+  plain : (word : Text) → IsPlain word → Word
 
 abbrev pub text_of : Word → Text
 text_of (flag word) = word
-text_of (plain word) = word
+text_of (plain word is) = word
 
-abbrev pub IsRead : Word → Type 0
-IsRead (flag word) = ⊤
-IsRead (plain word) = IsPlain word
+-- words that don't begin with `-`
+abbrev pub plains : (words : List Text) → AllByRecursion IsPlain words → List Word
+plains [] all = []
+plains (word ∷ rest) all = plain word all.0 ∷ plains rest all.1
 
--- the walk behind a word, and what is wrong there; a plain word is none of `clap`'s flags
-abbrev plain_walk : Shape → Bool → Option (Text × List Text) → Walk → Text → Walk
-plain_walk s false None w word = after_step s.rules word w (plain_word s.rules w.waiting word w.held).0 (plain_word s.rules w.waiting word w.held).1
-plain_walk s trailing stopped w word = walked s.rules [] w word
+pub map-plains : (words : List Text) (all : AllByRecursion IsPlain words) → map text_of (plains words all) ≡ words
+map-plains [] all = refl
+map-plains (word ∷ rest) all = ap (λ (ws : List Text). word ∷ ws) (map-plains rest all.1)
 
-abbrev plain_fault : Shape → Bool → Option (Text × List Text) → Walk → Text → Kinds
-plain_fault s false None w word = step_fault s w.position (plain_word s.rules w.waiting word w.held).0 (plain_word s.rules w.waiting word w.held).1
-plain_fault s trailing stopped w word = turn_fault s [] w word
+-- the walk behind a word, and what is wrong there
+abbrev turn_at : Shape → Walk → Text → Walk × Kinds
+turn_at s w word = (walked s.rules [] w word, turn_fault s [] w word)
 
-abbrev pub past_word : Shape → Walk → Word → Walk
-past_word s w (flag word) = walked s.rules [] w word
-past_word s w (plain word) = plain_walk s w.is_trailing w.stopped w word
+-- the same of a plain word, which is none of `clap`'s flags
+abbrev plain_turn : Shape → Bool → Option (Text × List Text) → Walk → Text → Walk × Kinds
+plain_turn s false None w word =
+    let met = plain_word s.rules w.waiting word w.held in
+    (after_step s.rules word w met.0 met.1, step_fault s w.position met.0 met.1)
+plain_turn s trailing stopped w word = turn_at s w word
 
-abbrev pub fault_at : Shape → Walk → Word → Kinds
-fault_at s w (flag word) = turn_fault s [] w word
-fault_at s w (plain word) = plain_fault s w.is_trailing w.stopped w word
+abbrev pub turn_of : Shape → Walk → Word → Walk × Kinds
+turn_of s w (flag word) = turn_at s w word
+turn_of s w (plain word is) = plain_turn s w.is_trailing w.stopped w word
 
-record Passes (s : Shape) (w : Walk) (word : Word) : Type 0 where
-  step : walked s.rules [] w (text_of word) ≡ past_word s w word
-  fault : turn_fault s [] w (text_of word) ≡ fault_at s w word
-
-plain_passes : (s : Shape) (word : Text) → HasNoDash word → (h : Held) (position : ℕ) (waiting : Waiting) (trailing : Bool) (stopped : Option (Text × List Text))
-    → Passes s (record { held = h; waiting = waiting; position = position; is_trailing = trailing; stopped = stopped }) (plain word)
+turn_is : (s : Shape) (w : Walk) (word : Word) → turn_at s w (text_of word) ≡ turn_of s w word
 unfolding walked
-plain_passes s word n h position waiting true stopped = record { step = refl; fault = refl }
-plain_passes s word n h position waiting false (Some p) = record { step = refl; fault = refl }
-plain_passes s word n h position idle false None = record { step = simp dashless; fault = simp dashless }
-plain_passes s word n h position (option id) false None = record { step = simp dashless; fault = simp dashless }
-plain_passes s word n h position positional false None = record { step = simp dashless; fault = simp dashless }
-
-passes : (s : Shape) (w : Walk) (word : Word) → IsRead word → Passes s w word
-passes s w (flag word) read = record { step = refl; fault = refl }
-passes s w (plain word) read = plain_passes s word (has_no_dash word read) w.held w.position w.waiting w.is_trailing w.stopped
+turn_is s w word = grind (arith, strip_dash, not_dashes)
 
 -- ---- words in a row
 
--- the walk over some words leads to a place before others, with this wrong up to there
-pub record Leads (s : Shape) (w : Walk) (words : List Text) (kinds : Kinds) (after : Walk) (behind : List Text) : Type 0 where
-  pub steps : fold (walked s.rules []) w words ≡ fold (walked s.rules []) after behind
-  pub faults : walk_fault s [] w words ≡ or_else kinds (walk_fault s [] after behind)
+-- the walk behind words, and what is wrong up to there
+abbrev pub turns : Shape → Walk → List Word → Walk × Kinds
+turns s w [] = (w, [])
+turns s w (word ∷ rest) =
+    let here = turn_of s w word in
+    let later = turns s here.0 rest in
+    (later.0, or_else here.1 later.1)
 
--- one walk after the other
-pub leads_on : {s : Shape} {u v w : Walk} {xs ys zs : List Text} {a b : Kinds} → Leads s u xs a v ys → Leads s v ys b w zs → Leads s u xs (or_else a b) w zs
-leads_on {a = a} {b = b} first later = record {
-  steps = first.steps ∙ later.steps;
-  faults = first.faults ∙ ap (or_else a) later.faults ∙ sym (or_assoc a b _);
-}
-
--- the same, where nothing is wrong with the later one
-pub leads_past : {s : Shape} {u v w : Walk} {xs ys zs : List Text} {a : Kinds} → Leads s u xs a v ys → Leads s v ys [] w zs → Leads s u xs a w zs
-leads_past {a = a} first later = record { steps = first.steps ∙ later.steps; faults = first.faults ∙ ap (or_else a) later.faults }
-
--- one word more
-pub one_word : (s : Shape) (w after : Walk) (word : Text) (rest : List Text) (kinds : Kinds) → turn_fault s [] w word ≡ kinds → walked s.rules [] w word ≡ after
-    → Leads s w (word ∷ rest) kinds after rest
+words_read : (s : Shape) (w : Walk) (words : List Word) → (fold (walked s.rules []) w (map text_of words), walk_fault s [] w (map text_of words)) ≡ turns s w words
 unfolding walk_fault
-one_word s w after word rest kinds fault step = record {
-  steps = ap (λ (w : Walk). fold (walked s.rules []) w rest) step;
-  faults = ap₂ (λ (ks : Kinds) (w : Walk). or_else ks (walk_fault s [] w rest)) fault step;
+words_read s w [] = refl
+words_read s w (word ∷ rest) = grind (arith, turn_is s w word, words_read s (turn_of s w word).0 rest)
+
+pub turns-append : (s : Shape) (w : Walk) (xs ys : List Word)
+    → turns s w (xs ++ ys) ≡ ((turns s (turns s w xs).0 ys).0, or_else (turns s w xs).1 (turns s (turns s w xs).0 ys).1)
+turns-append s w [] ys = refl
+turns-append s w (x ∷ xs) ys = grind (arith, or_assoc, turns-append s (turn_of s w x).0 xs ys)
+
+-- ---- one table or more, as the last names of a command
+
+-- the tables, as they are built: in the fourth place
+abbrev pub tables_rule : Rule
+tables_rule = with_index 4 (filled needed_tables)
+
+-- the walk behind some tables, where these rows were found before them
+abbrev pub gathering : List Row → List Text → Walk
+gathering rows tables = record {
+  held = record { rows = rows; pending = Some (codes "TABLES", tables); skip = 0 };
+  waiting = positional;
+  position = 4;
+  is_trailing = false;
+  stopped = None;
 }
 
-abbrev pub past_words : Shape → Walk → List Word → Walk
-past_words s w [] = w
-past_words s w (word ∷ rest) = past_words s (past_word s w word) rest
+-- more tables
+pub turns-plains : (s : Shape) → arg_by_index s.rules 4 ≡ Some tables_rule → (rows : List Row) (tables more : List Text) (all : AllByRecursion IsPlain more) (behind : List Word)
+    → turns s (gathering rows tables) (plains more all ++ behind) ≡ turns s (gathering rows (tables ++ more)) behind
+turns-plains s fourth rows tables [] all behind = rw append-nil refl
+turns-plains s fourth rows tables (word ∷ more) all behind = grind (arith, append_assoc, turns-plains s fourth rows (tables ++ word ∷ []) more all.1 behind)
 
-abbrev pub faults_at : Shape → Walk → List Word → Kinds
-faults_at s w [] = []
-faults_at s w (word ∷ rest) = or_else (fault_at s w word) (faults_at s (past_word s w word) rest)
+texts_pass : (texts : List Text) → values_fault tables_rule texts ≡ []
+texts_pass [] = refl
+texts_pass (text ∷ texts) = texts_pass texts
 
--- each word leads past itself
-pub words_lead : (s : Shape) (w : Walk) (words : List Word) (behind : List Text) → AllByRecursion IsRead words
-    → Leads s w (map text_of words ++ behind) (faults_at s w words) (past_words s w words) behind
-words_lead s w [] behind read = record { steps = refl; faults = refl }
-words_lead s w (word ∷ rest) behind read =
-    let here = passes s w word read.0 in
-    leads_on (one_word s w (past_word s w word) (text_of word) (map text_of rest ++ behind) (fault_at s w word) here.fault here.step) (words_lead s (past_word s w word) rest behind read.1)
+-- what is wrong with the tables at the end
+abbrev pub tables_fault : List Text → Kinds
+tables_fault tables = use_fault false tables_rule tables []
+
+-- as many tables as a machine can name pass
+pub tables_pass : (table : Text) (tables : List Text) → length (table ∷ tables) ≤ usize_max → tables_fault (table ∷ tables) ≡ []
+tables_pass table tables many = grind (arith, nat_tests, texts_pass tables)
 
 -- ---- all words
 
@@ -120,16 +132,81 @@ last_fault s h = or_else (settle_fault s.rules s.args_override_self h)
     (or_else (defaults_fault (settled s.rules h).rows s.rules) (check_fault s (finished s.rules h) false))
 
 -- what is wrong with a command's words, and what they ask for
-pub record Comes (name : Text) (words : List Text) (kinds : Kinds) (asked : Asked) : Type 0 where
-  pub faults : faults_of (name ∷ words) ≡ kinds
-  pub asks : asked_of (name ∷ words) ≡ asked
+abbrev pub Comes : Text → List Text → Kinds → Asked → Type 0
+Comes name words kinds asked = (faults_of (name ∷ words) ≡ kinds) × (asked_of (name ∷ words) ≡ asked)
 
 -- they come to what stands at the end of the walk
-pub comes : {name : Text} → IsCommand name → {words : List Text} {kinds all : Kinds} {w : Walk} {asked : Asked} → Leads (leaf name) start words kinds w []
-    → or_else kinds (last_fault (leaf name) w.held) ≡ all → asked_by name (finished (leaf name).rules w.held) ≡ asked → Comes name words all asked
+pub comes : {name : Text} → IsCommand name → (words : List Word) {end : Walk × Kinds} {kinds : Kinds} {asked : Asked} → turns (leaf name) start words ≡ end
+    → or_else end.1 (last_fault (leaf name) end.0.held) ≡ kinds → asked_by name (finished (leaf name).rules end.0.held) ≡ asked → Comes name (map text_of words) kinds asked
 unfolding walk_fault
-comes {name = name} is {words = words} {kinds = kinds} leads ends found = record {
-  faults = faults_behind name is words ∙ or_nothing _
-      ∙ ap₂ (λ (ks : Kinds) (w : Walk). or_else ks (last_fault (leaf name) w.held)) (leads.faults ∙ or_nothing kinds) leads.steps ∙ ends;
-  asks = asked_behind name is words ∙ ap (λ (w : Walk). asked_by name (finished (leaf name).rules w.held)) leads.steps ∙ found;
+comes {name = name} is words run ends found =
+    let read = words_read (leaf name) start words ∙ run in (
+      faults_behind name is (map text_of words) ∙ or_nothing _ ∙ (λ i. or_else (read i).1 (last_fault (leaf name) (read i).0.held)) ∙ ends,
+      asked_behind name is (map text_of words) ∙ (λ i. asked_by name (finished (leaf name).rules (read i).0.held)) ∙ found,
+    )
+
+-- ---- numbers in words
+
+-- which texts without `-` `clap` takes as such numbers, which write one, and what is read of them
+pub record Numbers : Type 0 where
+  pub takes : Text → Bool
+  pub writes : Text → Bool
+  pub reads : Text → ℕ
+  pub taken : (number : Text) → IsPlain number → takes number ≡ writes number
+  pub read : (number : Text) → IsPlain number → writes number ≡ true → reads number ≡ number_of number
+
+pub signed_taken : (low high : ℕ) → high < 2 ^ 63 → (number : Text) → IsPlain number → accepts false (parser.Signed (pos low) (pos high)) number ≡ writes_within low high number
+signed_taken low high fits [] no_dash = refl
+signed_taken low high fits (d ∷ number) no_dash = rw (ne_eqb d 45 no_dash) (grind (arith, nat_tests))
+
+-- numbers from low to high, of a type that has negative ones, and otherwise another
+abbrev pub signed : (low high other : ℕ) → high < 2 ^ 63 → Numbers
+signed low high other fits = record {
+  takes = accepts false (parser.Signed (pos low) (pos high));
+  writes = writes_within low high;
+  reads = λ text. number_within low high other (without_minus text);
+  taken = signed_taken low high fits;
+  read = λ number no_dash writes. rw (strip_dash number no_dash, writes);
 }
+
+-- numbers of workers, sides, tile masks and budgets
+abbrev pub workers : Numbers
+workers = signed 1 most_workers 1 (omega arith)
+
+abbrev pub sides : Numbers
+sides = signed 0 most_side 0 (omega arith)
+
+abbrev pub masks : Numbers
+masks = signed 0 most_mask 0 (omega arith)
+
+abbrev pub budgets : Numbers
+budgets = record {
+  takes = accepts false (parser.Unsigned 1 most_budget);
+  writes = writes_budget;
+  reads = number_within 1 most_budget usual_budget;
+  taken = λ number no_dash. grind (arith, nat_tests);
+  read = λ number no_dash writes. rw writes;
+}
+
+-- ---- words with a number
+
+-- nothing is wrong with a number that is taken, behind it comes what else is
+abbrev pub unless : Bool → Kinds → Kinds
+unless is rest = or_else (or_else (if is then [] else kind.ValueValidation ∷ []) []) rest
+
+-- words that are wrong for a number alone are mistaken
+pub number_mistaken : (words : List Text) → faults_of words ≡ kind.ValueValidation ∷ [] → IsMistaken words
+number_mistaken words is = mistaken words kind.ValueValidation [] is (λ e. cc)
+
+-- the words ask for this if the test passes, and are mistaken if it doesn't
+abbrev pub AsksIf : Bool → List Text → Asked → Type 0
+AsksIf test words asked = (test ≡ true → AsksFor words asked) × (test ≡ false → IsMistaken words)
+
+-- so do words whose faults, and what they ask for, hang on a number
+pub asks_if : {name : Text} {words : List Text} (numbers : Numbers) (number : Text) → IsPlain number → (kinds : Bool → Kinds) (asks : ℕ → Asked)
+    → Comes name words (kinds (numbers.takes number)) (asks (numbers.reads number)) → kinds true ≡ [] → kinds false ≡ kind.ValueValidation ∷ []
+    → AsksIf (numbers.writes number) (name ∷ words) (asks (number_of number))
+asks_if numbers number no_dash kinds asks come right wrong = (
+  λ is. (come.0 ∙ ap kinds (numbers.taken number no_dash ∙ is) ∙ right, come.1 ∙ ap asks (numbers.read number no_dash is)),
+  λ is. number_mistaken _ (come.0 ∙ ap kinds (numbers.taken number no_dash ∙ is) ∙ wrong),
+)

@@ -48,18 +48,21 @@ pub fn what_table_asks()
 /// `bound` with the names of a board, the sets, a log and one table or more asks whether the log proves its bound of
 /// the board: the tables in their order, checked by one worker, or by as many as `--workers` says, first or last, and
 /// folded then where `--fold` comes before all or behind all.
+#[tactic(auto, using(crate::proofs::LogLemmas::board_names))]
 pub fn what_bound_asks()
     ensures { NamesLog (codes "bound") (log_check Bound) }
 {}
 
 /// `optimal` asks in the same words, with a puzzle text first, whether the log proves that its moves are a shortest
 /// solution.
+#[tactic(auto, using(crate::proofs::LogLemmas::puzzle_names))]
 pub fn what_optimal_asks()
     ensures { NamesLog (codes "optimal") (log_check Optimum) }
 {}
 
 /// Words that parse begin with a command of the program, and give no flag but those that their command takes:
 /// `--workers`, which `replay` doesn't take, behind `bound`, `optimal` and `solve` `--fold`, and behind `solve` `--budget`.
+#[tactic(auto, using(pdb_words::proofs::CommandLemmas::begins_with_command, pdb_words::proofs::CommandLemmas::other_command))]
 pub fn no_other_words_parse()
     ensures commands { (words : List (List ℕ)) → Parses words → BeginsWithCommand words }
     // Another first word, other than a wish for help, is a mistake, whatever follows.
