@@ -2,7 +2,8 @@
 use Rattle.std.proofs.Common.{◌≡◌, ◌∙◌, ◌+◌, ℕ, List, ◌++◌, Option, Result, Ok, Err, IfOk, length, take, drop, drop_at, sym, ap, subst}
 use Rattle.std.proofs.KnownBytes.{Consumes-trans}
 use Rattle.std.proofs.Math.Seq.{take-add}
-use Rattle.std.proofs.lemmas.List.{take-append-le}
+use borrow.Rule.Slice.PartMut.{take_put}
+use Rattle.std.proofs.lemmas.List.{places, take-append-le, with_items_is}
 use Rattle.std.specs.Io.{ReadsAtMost}
 use Rattle.std.specs.Io.KnownBytes.{Consumes}
 
@@ -18,3 +19,5 @@ pub read_more : (a b c : Option (List ℕ)) (old new : List ℕ) (filled n : ℕ
     → Consumes b c (take n (drop filled new)) → Consumes a c (take (filled + n) new)
 read_more a b c old new filled n front before read =
     subst (Consumes a c) (sym (take-add filled n new)) (Consumes-trans a b c _ _ (subst (Consumes a b) (sym front) before) read)
+
+pub ruleset read_steps = (read_in_place, read_more, take_put, places, with_items_is)
