@@ -1,5 +1,5 @@
 use Rattle.std.proofs.Common.{refl}
-use Rattle.pdb_run.proofs.RunLemmas.{ends_answered, ends_wanting}
+use Rattle.pdb_run.proofs.AnswerLemmas.{ends_answered, ends_wanting}
 use Rattle.pdb_run.proofs.runs.conclude.Goals as goal
 
 pub returns-in-Ok-clause-ends : goal.returns-in-Ok-clause-ends

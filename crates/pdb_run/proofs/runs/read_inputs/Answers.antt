@@ -3,7 +3,7 @@ use Rattle.std.proofs.lemmas.List.{length-map}
 use Rattle.pdb_run.specs.Inputs.{wanted_of}
 use Rattle.pdb_run.specs.Runs.{unread}
 use Rattle.pdb_run.proofs.ReadingLemmas.{AreRead-length}
-use Rattle.pdb_run.proofs.RunLemmas.{ends_so}
+use Rattle.pdb_run.proofs.AnswerLemmas.{ends_so}
 use Rattle.pdb_run.proofs.runs.read_inputs.Goals as goal
 
 pub returns-in-Ok-load_all-clause-read : goal.returns-in-Ok-load_all-clause-read
