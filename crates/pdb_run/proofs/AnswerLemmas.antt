@@ -1,10 +1,10 @@
 -- How a run ends, and that it has answered where it ends with a yes or a no.
 use Rattle.std.proofs.Common.{◌≡◌, ◌∙◌, ◌⊎◌, List, Some, arith, inl, inr, refl}
 use Rattle.byte_io.specs.Shelf.{Bytes}
-use Rattle.pdb_run.specs.Answers.{SaysRight, answer_text}
+use Rattle.pdb_run.specs.Answers.{IsReplyOf, answer_text}
 use Rattle.pdb_run.specs.Commands.{Plan, Reply}
 use Rattle.pdb_run.specs.Io.{HasRead, IsSaid}
-use Rattle.pdb_run.specs.Runs.{Ends, HasCause, IsAnswered, LeavesFailure, LeavesFiles, LeavesReader, Outcome, World, no_memory, replied, status_of, status_of_reply, text_of, unkept, unread, unwritable, with_kept}
+use Rattle.pdb_run.specs.Runs.{Ends, HasCause, IsAnswered, LeavesFailure, LeavesFiles, LeavesReader, Outcome, World, no_memory, replied, status_of, status_of_reply, text_of, with_kept}
 use Rattle.pdb_run.specs.Steps.{kept_of}
 use Rattle.pdb_run.specs.declared.answers.Answer.{Answer}
 use Rattle.pdb_run.specs.declared.statuses.Status.{Status}
@@ -34,16 +34,15 @@ module _ {plan : Plan} {old mid new : World} {status : Status} where
       ends_so no_memory said (inr (_, are.read, takes)) are.files tt tt are.written
 
   -- an answer is said, and what it keeps was kept
-  pub ends_answered : {read : World} {inputs : List Bytes} {answer : Answer}
-      → HasRead plan.inputs old read inputs → SaysRight (plan.MayReply inputs) answer
+  pub ends_answered : {read : World} {inputs : List Bytes} {answer : Answer} {reply : Reply}
+      → HasRead plan.inputs old read inputs → plan.MayReply inputs reply → IsReplyOf answer reply
       → IsSaid (answer_text answer) (status_of_reply answer.is_yes) mid new status
       → mid.files ≡ with_kept read.files plan.keeps_under (kept_of answer)
       → mid.failed ≡ read.failed → mid.reader ≡ read.reader → mid.written ≡ read.written
       → Ends plan old new status
-  ends_answered {inputs = inputs} are right said files failed reader written =
-      let is = right.2 in
-      ends_so (replied inputs right.0)
-      (rw (← is.digested, ← is.made, ← is.lines, ← is.is_yes) said) (are.read, right.1)
+  ends_answered {inputs} {reply = reply} are right is said files failed reader written =
+      ends_so (replied inputs reply)
+      (rw (← is.digested, ← is.made, ← is.lines, ← is.is_yes) said) (are.read, right)
       (rw (← are.files, ← is.made, ← is.is_yes) files) (λ _ _. failed ∙ are.failed)
       (rw reader are.behind) (written ∙ are.written)
 

@@ -17,8 +17,5 @@ returns-in-Ok-load_all-clause-count g c =
 
 pub returns-clause-ends : goal.returns-clause-ends
 returns-clause-ends g c =
-    let stopped = c.in-Err.ensures.unread in
-    let fault = c.in-Err.fault in
-    ends_so (unread (wanted_of fault.input) fault.why) c.say_unread.ensures.said
-    (rw (← c.in-Ok.ensures.all, ← c.as_slice.ensures.value) stopped.first) stopped.files tt tt
-    stopped.written
+    let stopped = rw (c.as_slice.ensures.value, c.in-Ok.ensures.all) at c.in-Err.ensures.unread in
+    ends_so (unread _ c.in-Err.fault.why) c.say_unread.ensures.said stopped.first stopped.files tt tt stopped.written
