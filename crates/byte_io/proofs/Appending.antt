@@ -20,4 +20,5 @@ pub front_of_more : (a b : Option Bytes) (xs ys : Bytes) → AppendsFront a b xs
 front_of_more a b xs ys p = (p.0, grind (arith, common_steps), grind (arith, common_steps))
 
 -- with the room of one list, into which reads go
-pub ruleset stream_steps = (common_steps, Appends-trans, Consumes-trans, take-add, take_put, length-take-le, places, with_items_is)
+pub ruleset stream_steps = (common_steps, places, Appends-trans, Consumes-trans, length-take-le, take-add, take_put,
+  with_items_is)

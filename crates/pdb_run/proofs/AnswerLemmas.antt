@@ -1,5 +1,5 @@
 -- How a run ends, and that it has answered where it ends with a yes or a no.
-use Rattle.std.proofs.Common.{◌≡◌, ◌∙◌, ◌⊎◌, List, Some, arith, inl, inr, refl}
+use Rattle.std.proofs.Common.{◌≡◌, ◌∙◌, ◌⊎◌, List, arith, inl, inr, refl}
 use Rattle.byte_io.specs.Shelf.{Bytes}
 use Rattle.pdb_run.specs.Answers.{IsReplyOf, answer_text}
 use Rattle.pdb_run.specs.Commands.{Plan, Reply}

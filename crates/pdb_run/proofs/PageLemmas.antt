@@ -1,5 +1,5 @@
 -- Text that is gathered on a page, and pieces of text.
-use Rattle.std.proofs.Common.{◌≡◌, ◌∙◌, ◌+◌, ◌<◌, ◌≤◌, ℕ, List, [], ◌∷◌, ◌++◌, Option, Result, Ok, Err, IsErr, ap, append_assoc, drop, get_or, length, refl, subst, sym, take}
+use Rattle.std.proofs.Common.{◌≡◌, ◌∙◌, ◌+◌, ◌<◌, ◌≤◌, ℕ, List, [], ◌∷◌, ◌++◌, Option, Result, Ok, Err, IsErr, ap, append_assoc, get_or, length, refl, subst, sym, take}
 use Rattle.std.proofs.lemmas.Grind.{common_steps, flat_map-append}
 use Rattle.std.proofs.lemmas.List.{drop_more, get_or-map, length-map, take-append-drop, take-map, take_more}
 use Rattle.std.proofs.lemmas.List.Folds.{length-flat_map-take}
@@ -49,6 +49,7 @@ module _ {W : Type 0} {contents : W → Option Bytes} where
         → Adds contents a b xs (Err e) → Writes start (contents b.out.now) xs r
     writes_failed r is p = MatchResult-from_err r _ _ is (λ _. p.gathers start [] page)
 
+    -- three times bytes are added
     pub gathers_three : {b c d : Page W} {xs ys zs : Bytes} {u v w : Unit {0}} → Adds contents a b xs (Ok u)
         → Adds contents b c ys (Ok v) → Adds contents c d zs (Ok w) → Gathered contents start d (xs ++ (ys ++ zs))
     gathers_three p q s = (adds_then p (adds_then q s refl) refl).gathers start [] page
@@ -65,7 +66,8 @@ module _ {W : Type 0} {contents : W → Option Bytes} {a b c : Page W} {v : Unit
   module _ {e : WriteFault} {r : Done} (is : IsErr r) where
     -- a write fails before the end of the next byte
     pub byte_failed : {y : ℕ} (bytes : Bytes) (i : ℕ) → Adds contents a b (take i bytes) (Ok v)
-        → Adds contents b c (y ∷ []) (Err e) → i < length bytes → y ≡ get_or bytes i 0 → Adds contents a c bytes r
+        → Adds contents b c (y ∷ []) (Err e) → i < length bytes → y ≡ get_or bytes i 0
+        → Adds contents a c bytes r
     byte_failed bytes i p q within at =
         subst (λ (t : Bytes). Adds contents a c t r) (take-append-drop (i + 1) bytes)
         (adds_failed r _ is (byte_next bytes i p q within at))

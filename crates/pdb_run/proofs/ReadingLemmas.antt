@@ -1,11 +1,11 @@
 -- Inputs in a row.
-use Rattle.std.proofs.Common.{◌≡◌, ◌∙◌, ◌<◌, ℕ, List, [], ◌∷◌, ◌++◌, Bool, Option, ap, arith, drop, get_or, length, map, refl, suc, sym, take, ◌+◌}
+use Rattle.std.proofs.Common.{◌≡◌, ◌∙◌, ◌<◌, ℕ, List, [], ◌∷◌, ◌++◌, Option, ap, arith, drop, get_or, length, map, refl, suc, sym, take, ◌+◌}
 use Rattle.std.proofs.lemmas.Grind.{common_steps}
 use Rattle.std.proofs.lemmas.List.{drop_more, map-append, take-append-drop}
 use Rattle.byte_io.specs.Shelf.{Bytes, Files}
 use Rattle.byte_io.specs.declared.streams.ReadFault.{ReadFault}
 use Rattle.pdb_run.specs.Commands.{Wanted}
-use Rattle.pdb_run.specs.Inputs.{AreRead, IsAsTold, IsRead, IsReadFrom, IsUnread, left, left_by_all, wanted_of}
+use Rattle.pdb_run.specs.Inputs.{AreRead, IsRead, left, left_by_all, wanted_of}
 use Rattle.pdb_run.specs.Io.{HasRead, HasStopped, IsNotLoaded}
 use Rattle.pdb_run.specs.Runs.{World}
 use Rattle.pdb_run.specs.Steps.{IsNext}
@@ -42,10 +42,8 @@ module _ (wanted : List Input) (i : ℕ) (d : Input) {old now new : World} {byte
       let input = wanted_of (get_or wanted i d) in
       let before = map wanted_of (take i wanted) in
       let read : IsRead old.files (left_by_all old.reader before) input next.bytes = grind arith in
-      let behind : IsAsTold (left (left_by_all old.reader before) input.name) new.reader = grind arith in
       let more = read_more old.files old.reader before bytes input next.bytes so_far.read read in
-      let order : map wanted_of (take (i + 1) wanted) ≡ before ++ input ∷ [] = grind (arith, common_steps) in
-      grind arith
+      grind (arith, common_steps)
 
   -- it was not
   pub stopped : {why : ReadFault} → IsNotLoaded (wanted_of (get_or wanted i d)) now new why

@@ -1,6 +1,5 @@
 use Rattle.std.proofs.Common.{sym}
 use Rattle.std.proofs.lemmas.List.{length-map}
-use Rattle.pdb_run.specs.Inputs.{wanted_of}
 use Rattle.pdb_run.specs.Runs.{unread}
 use Rattle.pdb_run.proofs.ReadingLemmas.{AreRead-length}
 use Rattle.pdb_run.proofs.AnswerLemmas.{ends_so}
