@@ -1,5 +1,5 @@
 -- Text that is gathered on a page, and pieces of text.
-use Rattle.std.proofs.Common.{◌≡◌, ◌∙◌, ◌+◌, ◌<◌, ◌≤◌, ℕ, List, [], ◌∷◌, ◌++◌, Option, Result, Ok, Err, IsErr, ap, append_assoc, get_or, length, refl, subst, sym, take}
+use Rattle.std.proofs.Common.{◌≡◌, ◌∙◌, ◌+◌, ◌<◌, ◌≤◌, ℕ, List, [], ◌∷◌, ◌++◌, Option, Result, Ok, Err, IsErr, ap, append_assoc, get_or, length, refl, sym, take}
 use Rattle.std.proofs.lemmas.Grind.{common_steps, flat_map-append}
 use Rattle.std.proofs.lemmas.List.{drop_more, get_or-map, length-map, take-append-drop, take-map, take_more}
 use Rattle.std.proofs.lemmas.List.Folds.{length-flat_map-take}
@@ -7,10 +7,10 @@ use Rattle.std.proofs.lemmas.Result.{MatchResult-from_err}
 use Rattle.std.specs.Borrow.{Bor}
 use Rattle.std.specs.Prelude.{Vec}
 use Rattle.byte_io.specs.Shelf.{Bytes}
-use Rattle.byte_io.specs.Streams.{AppendsFront, Writes}
+use Rattle.byte_io.specs.Streams.{Writes}
 use Rattle.byte_io.specs.declared.streams.WriteFault.{WriteFault}
 use Rattle.byte_io.proofs.Appending.{front_of_more}
-use Rattle.pdb_run.specs.Pages.{Adds, Gathered, Gathers}
+use Rattle.pdb_run.specs.Pages.{Adds, Gathered}
 use Rattle.pdb_run.specs.Writing.{all_bytes, digest_line, digests_of, joined}
 use Rattle.pdb_run.specs.declared.pages.Page.{Page}
 
@@ -21,19 +21,16 @@ module _ {W : Type 0} {contents : W → Option Bytes} where
   -- bytes are added, and then others
   pub adds_then : {a b c : Page W} {xs ys all : Bytes} {v : Unit {0}} {r : Done} → Adds contents a b xs (Ok v)
       → Adds contents b c ys r → xs ++ ys ≡ all → Adds contents a c all r
-  adds_then {c} {xs} {ys} {r} p q whole = rw (← whole) (record {
-    gathers = λ start text page.
-        subst (λ (t : Bytes). Gathers contents start c t r) (append_assoc text xs ys)
-        (q.gathers start (text ++ xs) (p.gathers start text page));
+  adds_then {xs} p q whole = rw (← whole) (record {
+    gathers = λ start text page. rw (← append_assoc) (q.gathers start (text ++ xs) (p.gathers start text page));
   })
 
   -- a write that fails before the end of some bytes does so before the end of more
   pub adds_more : {a b : Page W} {xs : Bytes} {e : WriteFault} (ys : Bytes) → Adds contents a b xs (Err e)
       → Adds contents a b (xs ++ ys) (Err e)
-  adds_more {b} {xs} ys p = record {
+  adds_more {xs} ys p = record {
     gathers = λ start text page.
-        subst (λ (t : Bytes). AppendsFront start (contents b.out.now) t) (append_assoc text xs ys)
-        (front_of_more _ _ (text ++ xs) ys (p.gathers start text page));
+        rw (← append_assoc) (front_of_more _ _ (text ++ xs) ys (p.gathers start text page));
   }
 
   -- whatever the error
@@ -69,8 +66,7 @@ module _ {W : Type 0} {contents : W → Option Bytes} {a b c : Page W} {v : Unit
         → Adds contents b c (y ∷ []) (Err e) → i < length bytes → y ≡ get_or bytes i 0
         → Adds contents a c bytes r
     byte_failed bytes i p q within at =
-        subst (λ (t : Bytes). Adds contents a c t r) (take-append-drop (i + 1) bytes)
-        (adds_failed r _ is (byte_next bytes i p q within at))
+        rw (← take-append-drop (i + 1) bytes) (adds_failed r _ is (byte_next bytes i p q within at))
 
     -- or of the next file's line
     pub file_failed : {line : Bytes} {A : Type 0} (files : List (Vec ℕ A)) (i : ℕ)
@@ -82,8 +78,7 @@ module _ {W : Type 0} {contents : W → Option Bytes} {a b c : Page W} {v : Unit
         let next = sym (drop_more fs i [] (rw length-map within)) in
         let split = ap (λ t. take i fs ++ t) next ∙ take-append-drop i fs in
         let front = rw (← take-map (λ v. v.items) i files) at p in
-        subst (λ (t : List Bytes). Adds contents a c (digests_of t) r) split
-        (rw flat_map-append (adds_then front (adds_failed r _ is (rw at at q)) refl))
+        rw (← split, flat_map-append) (adds_then front (adds_failed r _ is (rw at at q)) refl)
 
 pub ruleset byte_steps = (byte_next, byte_failed, get_or-map, length-map)
 pub ruleset file_steps = (common_steps, adds_then, adds_failed, file_failed)

@@ -1,7 +1,7 @@
 -- Inputs in a row.
 use Rattle.std.proofs.Common.{◌≡◌, ◌∙◌, ◌<◌, ℕ, List, [], ◌∷◌, ◌++◌, Option, ap, arith, drop, get_or, length, map, refl, suc, sym, take, ◌+◌}
 use Rattle.std.proofs.lemmas.Grind.{common_steps}
-use Rattle.std.proofs.lemmas.List.{drop_more, map-append, take-append-drop}
+use Rattle.std.proofs.lemmas.List.{at_drop_more, map-append, take-append-drop}
 use Rattle.byte_io.specs.Shelf.{Bytes, Files}
 use Rattle.byte_io.specs.declared.streams.ReadFault.{ReadFault}
 use Rattle.pdb_run.specs.Commands.{Wanted}
@@ -48,17 +48,16 @@ module _ (wanted : List Input) (i : ℕ) (d : Input) {old now new : World} {byte
   -- it was not
   pub stopped : {why : ReadFault} → IsNotLoaded (wanted_of (get_or wanted i d)) now new why
       → HasStopped (map wanted_of wanted) old new (wanted_of (get_or wanted i d)) why
-  stopped failed =
-      let split = sym (take-append-drop i wanted) ∙ ap (λ t. take i wanted ++ t) (drop_more wanted i d within) in
-      record {
-        first = record {
-          before = map wanted_of (take i wanted);
-          behind = map wanted_of (drop (i + 1) wanted);
-          order = ap (map wanted_of) split ∙ map-append wanted_of _ _;
-          bytes = bytes;
-          read = so_far.read;
-          cause = grind arith;
-        };
-        files = failed.files ∙ so_far.files;
-        written = failed.written ∙ so_far.written;
-      }
+  stopped failed = record {
+    first = record {
+      before = map wanted_of (take i wanted);
+      behind = map wanted_of (drop (i + 1) wanted);
+      order = ap (map wanted_of) (sym (take-append-drop i wanted)) ∙ map-append wanted_of _ _
+          ∙ at_drop_more (λ rest. map wanted_of (take i wanted) ++ map wanted_of rest) wanted i d within;
+      bytes = bytes;
+      read = so_far.read;
+      cause = grind arith;
+    };
+    files = failed.files ∙ so_far.files;
+    written = failed.written ∙ so_far.written;
+  }
