@@ -3,7 +3,7 @@ use Rattle.std.proofs.Common.{◌≡◌, ◌∙◌, ◌≤◌, ◌+◌, ◌-◌,
 use Rattle.std.proofs.KnownBytes.{Appends-trans, Consumes-trans}
 use Rattle.std.proofs.Math.Seq.{take-add, take-append-add}
 use Rattle.std.proofs.lemmas.Grind.{common_steps}
-use Rattle.std.proofs.lemmas.List.{length-take-le, places, take-append-le, with_items_is}
+use Rattle.std.proofs.lemmas.List.{places, take-append-le, with_items_is}
 use borrow.Rule.Slice.PartMut.{take_put}
 use Rattle.std.specs.Io.KnownBytes.{Appends}
 use Rattle.byte_io.specs.Shelf.{Bytes}
@@ -20,5 +20,4 @@ pub front_of_more : (a b : Option Bytes) (xs ys : Bytes) → AppendsFront a b xs
 front_of_more a b xs ys p = (p.0, grind (arith, common_steps), grind (arith, common_steps))
 
 -- with the room of one list, into which reads go
-pub ruleset stream_steps = (common_steps, places, Appends-trans, Consumes-trans, length-take-le, take-add, take_put,
-  with_items_is)
+pub ruleset stream_steps = (common_steps, places, Appends-trans, Consumes-trans, take-add, take_put, with_items_is)

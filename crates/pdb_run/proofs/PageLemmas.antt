@@ -81,6 +81,7 @@ module _ {W : Type 0} {contents : W → Option Bytes} {a b c : Page W} {v : Unit
         rw (← split, flat_map-append) (adds_then front (adds_failed r _ is (rw at at q)) refl)
 
 pub ruleset byte_steps = (byte_next, byte_failed, get_or-map, length-map)
+
 pub ruleset file_steps = (common_steps, adds_then, adds_failed, file_failed)
 
 -- ---- pieces of text
