@@ -44,6 +44,7 @@ impl MemShelf {
     }
 
     /// Holds these bytes under this name.
+    #[tactic(auto, using(std::proofs::lemmas::Map::Text::text_keys))]
     fn hold(&mut self, alloc: Global, name: &str, bytes: &[u8]) -> Result<(), AllocError>
         ensures held { let kept = with_file (files_in self.old) name.now bytes.now in
             OnOk result ((other : List ℕ) → files_in self.new other ≡ kept other) }

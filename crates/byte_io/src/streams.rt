@@ -96,6 +96,7 @@ pub fn read_said<R: Source>(
 }
 
 /// The same, by a reader that notes its reads: they are at most one more than the limit, and `F1` says that one failed.
+#[tactic(auto, using(crate::proofs::Appending::stream_steps))]
 pub fn read_watched<R: Source>(
     alloc: Global,
     reader: &mut Watched<'_, R>,
@@ -157,6 +158,7 @@ fn make_room(bytes: &mut Vec<u8>, filled: usize) -> Result<(), AllocError>
 }
 
 /// One read into the room behind what is filled.
+#[tactic(auto, using(crate::proofs::Appending::stream_steps))]
 fn read_behind<R: Source>(
     reader: &mut Watched<'_, R>,
     bytes: &mut [u8],
@@ -193,6 +195,7 @@ pub fn put_bytes<W: Write>(out: &mut W, bytes: &[u8]) -> Result<(), WriteFault>
 }
 
 /// The same, by a writer that notes its writes: `F3` says that one failed, and each of them was of some bytes.
+#[tactic(auto, using(crate::proofs::Appending::stream_steps))]
 pub fn put_watched<W: Write>(out: &mut Watched<'_, W>, bytes: &[u8]) -> Result<(), WriteFault>
     ensures same_stream { out.new.stream.ghost_name ≡ out.old.stream.ghost_name }
     ensures written { let old = W.contents out.old.stream.now in

@@ -1,4 +1,3 @@
 pub mod AnswerLemmas
 mod PageLemmas
 mod ReadingLemmas
-mod RunLemmas

@@ -39,6 +39,7 @@ pub struct Answer<'a> {
 }
 
 /// Pieces of text in one.
+#[tactic(auto, using(crate::proofs::PageLemmas::joined_fits))]
 pub fn lines(pieces: &[&str]) -> Lines
     requires { length (joined pieces.now) ≤ LINES_LEN }
     ensures { result.bytes ≡ joined pieces.now }

@@ -25,6 +25,7 @@ pub struct Unread<'a> {
 }
 
 /// The bytes of the inputs, read in their order. The first that fails ends it.
+#[tactic(auto, using(crate::proofs::ReadingLemmas::stopped))]
 pub fn load_all<'a, I: Io>(
     alloc: Global,
     wanted: &[Input<'a>],

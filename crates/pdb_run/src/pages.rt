@@ -60,6 +60,7 @@ impl<'o, W: Write> Page<'o, W> {
     }
 
     /// Adds bytes.
+    #[tactic(auto, using(crate::proofs::PageLemmas::byte_steps))]
     pub(crate) fn add(&mut self, bytes: &[u8]) -> Result<(), WriteFault>
         ensures same_out { self.new.out.ghost_name ≡ self.old.out.ghost_name }
         ensures added { Adds W.contents self.old self.new bytes.now result }
@@ -79,6 +80,7 @@ impl<'o, W: Write> Page<'o, W> {
     }
 
     /// Adds a name, as a line shows it.
+    #[tactic(auto, using(crate::proofs::PageLemmas::byte_steps))]
     pub(crate) fn add_name(&mut self, name: &str) -> Result<(), WriteFault>
         ensures same_out { self.new.out.ghost_name ≡ self.old.out.ghost_name }
         ensures added { Adds W.contents self.old self.new (map shown_byte name.now) result }
@@ -90,6 +92,7 @@ impl<'o, W: Write> Page<'o, W> {
     }
 
     /// Adds the digest line of each file, and of the last one, where there is one.
+    #[tactic(auto, using(crate::proofs::PageLemmas::file_steps))]
     pub(crate) fn add_digests(
         &mut self,
         files: &[Vec<u8>],
@@ -104,6 +107,7 @@ impl<'o, W: Write> Page<'o, W> {
     }
 
     /// Adds the digest line of each file.
+    #[tactic(auto, using(crate::proofs::PageLemmas::file_steps))]
     fn add_files(&mut self, files: &[Vec<u8>]) -> Result<(), WriteFault>
         ensures same_out { self.new.out.ghost_name ≡ self.old.out.ghost_name }
         ensures added { let digests = digests_of (all_bytes files.now) in

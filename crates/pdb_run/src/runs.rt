@@ -68,6 +68,7 @@ pub fn read_inputs_and_try<C: Command, I: Io>(
 
 /// Says what a command answers, or that its check wants memory. So a run ends that has read the inputs on whose bytes that is
 /// the answer, of a command that keeps nothing.
+#[tactic(auto, using(crate::proofs::AnswerLemmas::ends_wanting))]
 pub fn conclude<C: Command, I: Io>(
     command: &C,
     answer: &Result<Answer<'_>, AllocError>,
@@ -88,6 +89,7 @@ pub fn conclude<C: Command, I: Io>(
 
 /// As `conclude`, of a command that keeps a file under a name: what it made is kept after a yes, and then the answer is
 /// said. Where it can't be kept, that is said alone.
+#[tactic(auto, using(crate::proofs::AnswerLemmas::ends_wanting))]
 pub fn keep_and_conclude<C: Command, I: Io>(
     alloc: Global,
     command: &C,

@@ -12,6 +12,7 @@ use byte_io::streams::WriteFault;
 use std::io::Write;
 
 /// Writes an answer: the digests, and then its lines. It is one write, where the writer takes all and a page holds all.
+#[tactic(auto, using(crate::proofs::PageLemmas::gathers_three))]
 pub fn say<W: Write>(answer: &Answer<'_>, out: &mut W) -> Result<(), WriteFault>
     ensures { Writes (W.contents out.old) (W.contents out.new) (answer_text answer.now) result }
 {
@@ -61,6 +62,7 @@ pub fn say_digests<W: Write>(
 }
 
 /// Writes a text, a name as a line shows it, and the line's end.
+#[tactic(auto, using(crate::proofs::PageLemmas::gathers_three))]
 pub(crate) fn put_named<W: Write>(text: &str, name: &str, out: &mut W) -> Result<(), WriteFault>
     ensures { let line = named_line text.now (map shown_byte name.now) in
         Writes (W.contents out.old) (W.contents out.new) line result }

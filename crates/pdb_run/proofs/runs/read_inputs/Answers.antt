@@ -1,9 +1,8 @@
 use Rattle.std.proofs.Common.{sym}
 use Rattle.std.proofs.lemmas.List.{length-map}
-use Rattle.pdb_run.specs.Inputs.{wanted_of}
 use Rattle.pdb_run.specs.Runs.{unread}
 use Rattle.pdb_run.proofs.ReadingLemmas.{AreRead-length}
-use Rattle.pdb_run.proofs.RunLemmas.{ends_so}
+use Rattle.pdb_run.proofs.AnswerLemmas.{ends_so}
 use Rattle.pdb_run.proofs.runs.read_inputs.Goals as goal
 
 pub returns-in-Ok-load_all-clause-read : goal.returns-in-Ok-load_all-clause-read
@@ -17,8 +16,5 @@ returns-in-Ok-load_all-clause-count g c =
 
 pub returns-clause-ends : goal.returns-clause-ends
 returns-clause-ends g c =
-    let stopped = c.in-Err.ensures.unread in
-    let fault = c.in-Err.fault in
-    ends_so (unread (wanted_of fault.input) fault.why) c.say_unread.ensures.said
-    (rw (← c.in-Ok.ensures.all, ← c.as_slice.ensures.value) stopped.first) stopped.files tt tt
-    stopped.written
+    let stopped = rw (c.as_slice.ensures.value, c.in-Ok.ensures.all) at c.in-Err.ensures.unread in
+    ends_so (unread _ c.in-Err.fault.why) c.say_unread.ensures.said stopped.first stopped.files tt tt stopped.written

@@ -1,6 +1,6 @@
 use Rattle.std.proofs.Common.{◌∙◌}
 use Rattle.pdb_run.specs.Runs.{unwritable}
-use Rattle.pdb_run.proofs.RunLemmas.{ends_so}
+use Rattle.pdb_run.proofs.AnswerLemmas.{ends_so}
 use Rattle.pdb_run.proofs.runs.read_inputs_and_try.Goals as goal
 
 pub returns-in-Err-clause-ends : goal.returns-in-Err-clause-ends

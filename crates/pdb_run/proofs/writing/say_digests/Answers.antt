@@ -4,4 +4,4 @@ use Rattle.pdb_run.proofs.writing.say_digests.Goals as goal
 
 pub returns-in_err-add_digests : goal.returns-in_err-add_digests
 returns-in_err-add_digests g c =
-    let failed = writes_failed _ c.from_residual.ensures.0 c.on-page.ensures.empty c.in_err-add_digests.ensures.added in search (rules, failed)
+    search (rules, writes_failed c.on-page.ensures.empty _ c.from_residual.ensures.0 c.in_err-add_digests.ensures.added)

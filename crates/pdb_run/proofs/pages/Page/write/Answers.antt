@@ -1,8 +1,7 @@
-use Rattle.std.proofs.Common.{◌≡◌, ◌++◌, ◌∙◌, ap}
 use Rattle.byte_io.proofs.Appending.{writes_behind}
 use Rattle.pdb_run.proofs.pages.Page.write.Goals as goal
 
 pub returns-clause-finished : goal.returns-clause-finished
 returns-clause-finished g c = λ start text page.
-    let same : page.front ++ c.as_slice.result.now ≡ text = ap (λ t. page.front ++ t) c.as_slice.ensures.value ∙ page.whole in
-    rw (← same) (writes_behind _ _ _ page.front _ _ page.written c.put_bytes-written.ensures)
+    rw (← page.whole, ← c.as_slice.ensures.value)
+    (writes_behind _ _ _ page.front _ _ page.written c.put_bytes-written.ensures)
