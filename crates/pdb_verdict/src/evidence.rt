@@ -41,6 +41,7 @@ pub(crate) fn bound_for<H: Threads + Wait, G: Gate + Sync>(
 
 /// As `bound_for`, with folded tables: the bytes of each table are given up in turn. Beside it the digest lines of the tables
 /// and the log.
+#[tactic(auto, using(crate::proofs::FoldingLemmas::digests_of_snoc))]
 pub(crate) fn bound_of_files<H: Threads + Wait + Sync, G: Gate + Sync>(
     board: &Board,
     sets: &[u8],

@@ -1,9 +1,5 @@
-use Rattle.std.proofs.Common.{Err, Ok, refl, rules, subst, sym}
-use Rattle.pdb_verdict.specs.Inputs.{table_file}
+use Rattle.std.proofs.Common.{Ok, refl, rules}
 use Rattle.pdb_verdict.specs.Table.{IsExactFor}
-use Rattle.pdb_verdict.specs.Verdicts.{IsFoundOf}
-use Rattle.pdb_verdict.specs.declared.refusals.Failure.{Failure}
-use Rattle.pdb_verdict.specs.declared.verdicts.Fault.{Fault}
 use Rattle.pdb_verdict.proofs.TableLemmas.{table_refused}
 use Rattle.pdb_verdict.proofs.table.verify_table.Goals as goal
 
@@ -13,5 +9,4 @@ returns-in-Ok g c =
     (Ok (c.side.result, c.mask.result, c.census.result), exact, refl)
 
 pub returns-in-Err : goal.returns-in-Err
-returns-in-Err g c =
-    subst (λ (f : Failure Fault). IsFoundOf (table_file c.args.table.now) (Err f)) (sym c.table_fault.ensures) (table_refused c.args.table.now c.in-Err.fault c.in-Err.ensures.err)
+returns-in-Err g c = rw c.table_fault.ensures (table_refused c.args.table.now c.in-Err.fault c.in-Err.ensures.err)
