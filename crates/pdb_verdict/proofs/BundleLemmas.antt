@@ -32,10 +32,9 @@ first_one (file ∷ files) (suc i) zero r q is also = absurd (exact_or_fault fil
 first_one (file ∷ files) (suc i) (suc j) r q is also = let rest = first_one files i j r q is.2 also.2 in (ap suc rest.0, rest.1)
 
 none_refused : (files : List Bytes) (ts : List Table) (i : ℕ) (r : TableRefusal) → AreExactFiles ts files → ¬ IsFirstRefused files i r
-none_refused [] ts i r are is = is
-none_refused (file ∷ files) [] i r are is = are
 none_refused (file ∷ files) (t ∷ ts) zero r are is = exact_or_fault file t r are.0 is
 none_refused (file ∷ files) (t ∷ ts) (suc i) r are is = none_refused files ts i r are.1 is.2
+none_refused _ _ i r are is = search
 
 -- what files come to
 abbrev pub AreTablesOf : List Bytes → Result (List Table) FileRefusal → Type 0

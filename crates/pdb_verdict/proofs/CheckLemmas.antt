@@ -1,5 +1,5 @@
 -- What is told of a check is told of the inputs that were read.
-use Rattle.std.proofs.Common.{◌≡◌, ℕ, List, [], ◌∷◌, Vec, Result, Ok, Err, arith, get_or, length, refl}
+use Rattle.std.proofs.Common.{◌≡◌, ℕ, List, [], ◌∷◌, Vec, Result, Ok, Err, arith, get_or, length}
 use Rattle.std.specs.declared.alloc.AllocError.{AllocError}
 use Rattle.byte_io.specs.Shelf.{Bytes}
 use Rattle.pdb_run.specs.Answers.{IsAnswerBy, all_bytes}
@@ -11,9 +11,8 @@ use Rattle.pdb_verdict.specs.Verdicts.{TakesMemory, TellsResult}
 -- the only one
 pub only_input : {Z : Type 0} (xs : List (Vec ℕ Z)) (x : Vec ℕ Z) (now : Bytes) → length xs ≡ 1 → x ≡ get_or xs 0 x
     → now ≡ x.items → all_bytes xs ≡ now ∷ []
-only_input [] x now one is same = absurd (omega arith)
 only_input (y ∷ []) x now one is same = rw (same, is)
-only_input (y ∷ z ∷ rest) x now one is same = absurd (omega arith)
+only_input _ x now one is same = absurd (omega arith)
 
 -- an answer on what was read is one on the inputs
 pub check_answered : {A : Type 0} (given_of : A → Given) (a : A) (inputs : List Bytes) (told : Result Answer AllocError)

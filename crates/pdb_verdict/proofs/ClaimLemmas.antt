@@ -124,9 +124,7 @@ module _ (fold : Bool) (files : LogFiles) where
 
   -- no solution of fewer moves than this one makes it a shortest
   pub proved_least : (n : ℕ) (h : IsFoundForPuzzle fold files n (Ok n)) → IsLeastCount h.solved.board n
-  proved_least n h = record {
-    path = h.solved.solved.path;
-    solution = h.solved.solved.solution;
-    count = h.solved.solved.count;
-    bounded = proved_bounds fold h.solved.board files.sets files.log files.tables n h.found_for;
-  }
+  proved_least n h =
+      let solves = h.solved.solved in
+      let bounded = proved_bounds fold h.solved.board files.sets files.log files.tables n h.found_for in
+      record { path = solves.path; solution = solves.solution; count = solves.count; bounded = bounded }

@@ -60,7 +60,6 @@ pub fold_step : {Z Y : Type 0} (before rest files : List (Vec ℕ Z)) (file : Ve
     → MatchResult after (λ ps. ArePartsOf true (all_bytes (before ++ file ∷ [])) ps.items) (IsCauseForTables (all_bytes files))
 fold_step before rest files file now same whole (Ok ps) (Ok qs) are ok err =
     rw ok.2 (next_parts true before rest files file now same whole ps.items are ok.0 ok.1)
-fold_step before rest files file now same whole (Ok ps) (Err cause) are ok err =
-    next_cause true before rest files file now same whole ps.items are cause err
+fold_step before rest files file now same whole (Ok ps) (Err cause) are ok err = next_cause _ _ _ _ _ _ same whole _ are cause err
 fold_step before rest files file now same whole (Err refused) (Ok qs) are ok err = absurd ok
 fold_step before rest files file now same whole (Err refused) (Err cause) are ok err = rw err are

@@ -1,5 +1,5 @@
 -- A table file has one result.
-use Rattle.std.proofs.Common.{◌≡◌, ◌∙◌, ℕ, ◌+◌, ◌<◌, Err, Ok, Result, drop, get_or-drop, inl, inr, refl, slice_index}
+use Rattle.std.proofs.Common.{◌≡◌, ℕ, ◌+◌, ◌<◌, Err, Ok, Result, drop, get_or-drop, inl, inr, refl, slice_index}
 use Rattle.byteorder.specs.Numbers.{big_from-lt}
 use Rattle.pat_place.proofs.MaskLemmas.{numbers_of-one}
 use Rattle.tab_rule.specs.TableFaults.{IsTableCauseOf}

@@ -1,5 +1,5 @@
 -- Inputs have one result, and it is a verdict exactly where that is true.
-use Rattle.std.proofs.Common.{◌≡◌, ◌∙◌, ◌↔◌, ◌⊎◌, ℕ, ◌<◌, true, false, inl, inr, is_ok, slice_index, Result, Ok, Err, ap, append-nil, refl, sym}
+use Rattle.std.proofs.Common.{◌≡◌, ◌∙◌, ◌↔◌, ◌⊎◌, ℕ, ◌<◌, true, false, inl, inr, slice_index, Result, Ok, Err, ap, append-nil, refl, sym}
 use Rattle.tab_file.specs.Tables.{Table}
 use Rattle.tab_rule.specs.ExactTables.{IsExactFile}
 use Rattle.tab_rule.proofs.OneResultLemmas.{exact_or_fault}

@@ -11,28 +11,22 @@ parted xs i x low is =
 
 pub returns-in-Err-clause-err : goal.returns-in-Err-clause-err
 returns-in-Err-clause-err g c =
-    let files = c.args.tables.files.now in
-    let i = c.loop-file.file-index in
+    let whole = parted c.args.tables.files.now c.loop-file.file-index _ c.loop-file-test.true c.file-item.is in
     let count : c.len.result ≡ length c.loop-file.parts.items = search (rules, c.len.ensures, c.loop-file.parts.ok) in
-    next_cause _ (take i files) (drop (i + 1) files) files _ _ c.as_slice.ensures.value
-    (parted files i _ c.loop-file-test.true c.file-item.is) c.loop-file.parts.items c.loop-file.invariant
+    next_cause _ _ _ _ _ _ c.as_slice.ensures.value whole _ c.loop-file.invariant
     c.failure_at.result (rw count at (c.failure_at.ensures c.as_slice.result.now c.in-Err.ensures.err))
 
 pub returns-then-is_err-clause-err : goal.returns-then-is_err-clause-err
 returns-then-is_err-clause-err g c =
-    let files = c.args.tables.files.now in
-    let i = c.loop-file.file-index in
+    let whole = parted c.args.tables.files.now c.loop-file.file-index _ c.loop-file-test.true c.file-item.is in
     let is = c.in-Ok.ensures.ok in
-    next_cause _ (take i files) (drop (i + 1) files) files _ _ c.as_slice.ensures.value
-    (parted files i _ c.loop-file-test.true c.file-item.is) c.loop-file.parts.items c.loop-file.invariant
-    Failure.Memory (is.0, is.1.is_file)
+    next_cause _ _ _ _ _ _ c.as_slice.ensures.value whole _ c.loop-file.invariant Failure.Memory (is.0, is.1.is_file)
 
 pub loop-file-preserved : goal.loop-file-preserved
 loop-file-preserved g c =
     let files = c.args.tables.files.now in
     let i = c.loop-file.file-index in
     let file = c.file-item.result in
+    let whole = parted files i file c.loop-file-test.true c.file-item.is in
     rw (c.push.ensures.items, c.if-is_err.ensures.negation, take_more files i file c.loop-file-test.true, ← c.file-item.is)
-    (next_parts _ (take i files) (drop (i + 1) files) files _ _ c.as_slice.ensures.value
-    (parted files i _ c.loop-file-test.true c.file-item.is) c.loop-file.parts.items c.loop-file.invariant
-    c.in-Ok.part c.in-Ok.ensures.ok)
+    (next_parts _ _ _ _ _ _ c.as_slice.ensures.value whole _ c.loop-file.invariant c.in-Ok.part c.in-Ok.ensures.ok)

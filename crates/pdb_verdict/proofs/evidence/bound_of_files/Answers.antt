@@ -1,13 +1,7 @@
-use Rattle.std.proofs.Common.{true}
-use Rattle.pdb_verdict.proofs.BoundLemmas.{cause_found, found_over}
+use Rattle.pdb_verdict.proofs.BoundLemmas.{found_over}
 use Rattle.pdb_verdict.proofs.evidence.bound_of_files.Goals as goal
 
 pub returns-in-Ok-clause-found : goal.returns-in-Ok-clause-found
 returns-in-Ok-clause-found g c =
     rw c.proved.ensures (found_over c.args.board.now c.args.log.now (rw c.in-Ok.is at c.fold_bundle-digests.ensures.ok)
     c.bound_beside-found.result c.bound_beside-found.ensures.found)
-
-pub returns-in-Err-clause-found : goal.returns-in-Err-clause-found
-returns-in-Err-clause-found g c =
-    rw c.without_bundle.ensures (cause_found true c.args.board.now c.args.sets.now c.args.log.now _ c.in-Err.failure
-    (rw c.in-Err.is at c.fold_bundle-digests.ensures.err))
