@@ -72,18 +72,18 @@ module _ (fold : Bool) (files : LogFiles) where
   pub bound_some : (found : Result ℕ BoundRefusal) × IsBoundResult fold files found
   bound_some = by_result (board_of_text files.text)
       (λ board is.
-        let found = found_some fold board files.sets files.log files.tables in
-        let spelt = spelled-board_of_text files.text board is in
-        (as_bound found.0, bound_found found.0 (record { board = board; spelt = spelt; found_for = found.1 })))
+      let found = found_some fold board files.sets files.log files.tables in
+      let spelt = spelled-board_of_text files.text board is in
+      (as_bound found.0, bound_found found.0 (record { board = board; spelt = spelt; found_for = found.1 })))
       (λ refused is. (Err (BoundRefusal.Board refused), is))
 
   -- of an optimum
   pub optimum_some : (found : Result ℕ OptimumRefusal) × IsOptimumResult fold files found
   optimum_some = by_result (solved_parts (puzzle_parts files.text))
       (λ read is.
-        let solved = (solved-parts files.text read.0 read.1 is).0 in
-        let found = found_some fold solved.board files.sets files.log files.tables in
-        (as_optimum read.1 found.0, optimum_found read.1 found.0 (record { solved = solved; found_for = found.1 })))
+      let solved = (solved-parts files.text read.0 read.1 is).0 in
+      let found = found_some fold solved.board files.sets files.log files.tables in
+      (as_optimum read.1 found.0, optimum_found read.1 found.0 (record { solved = solved; found_for = found.1 })))
       (λ refused is. (Err (OptimumRefusal.Replay refused), is))
 
   -- ---- one result
@@ -105,7 +105,7 @@ module _ (fold : Bool) (files : LogFiles) where
 
   by_puzzle : (result : Result ℕ OptimumRefusal) → IsOptimumResult fold files result
       → Behind (λ r. solved_parts (puzzle_parts files.text) ≡ r) (λ f. Err (OptimumRefusal.Replay f))
-          (λ read. FoundAs (as_optimum read.1) read.0) result
+      (λ read. FoundAs (as_optimum read.1) read.0) result
   by_puzzle (Ok n) is =
       after (is.solved.board, n) (parts-solved files.text n is.solved) (Ok n, is.found_for, rw (eq-eqb n n refl))
   by_puzzle (Err (OptimumRefusal.Replay f)) is = stays f is

@@ -24,14 +24,15 @@ solved-parts puzzle board n is =
     let spelt : board_of_text texts.0 ≡ Ok board = grind arith in
     let replayed : replay_of board texts.1 ≡ Ok n = grind arith in
     let spells = spelled-board_of_text texts.0 board spelt in
-    (record {
+    let solved : IsSolvedPuzzle puzzle n = record {
       board = board;
       board_text = texts.0;
       moves_text = texts.1;
       parts = puzzle-parts puzzle texts.0 texts.1 parts;
       spelt = spells;
       solved = solved-replay_of board texts.1 n spells.board replayed;
-    }, refl)
+    } in
+    (solved, refl)
 
 -- and of each
 pub parts-solved : (puzzle : List ℕ) (n : ℕ) (solved : IsSolvedPuzzle puzzle n) → solved_parts (puzzle_parts puzzle) ≡ Ok (solved.board, n)

@@ -79,17 +79,17 @@ true_is_yes inputs answer (inr lacks) v holds = inr lacks
 pub yes_told : (inputs : Given) (reply : Reply) → TellsResult inputs reply → reply.is_yes ≡ true → IsToldYes inputs reply
 yes_told inputs reply tells is = by_result tells.answer
     (λ v same.
-      let is_true = (IsResult-true inputs v).0 (rw same at tells.is_result) in
-      let told = tells.told ∙ ap (reply_to inputs) same in
-      record { verdict = v; is_true = is_true; holds = true_holds inputs v is_true; told = told })
+    let is_true = (IsResult-true inputs v).0 (rw same at tells.is_result) in
+    let told = tells.told ∙ ap (reply_to inputs) same in
+    record { verdict = v; is_true = is_true; holds = true_holds inputs v is_true; told = told })
     (λ refused same.
-      let told = tells.told ∙ ap (reply_to inputs) same in
-      let clash : false ≡ true = sym (ap (λ (r : Reply). r.is_yes) told) ∙ is in cc)
+    let told = tells.told ∙ ap (reply_to inputs) same in
+    let clash : false ≡ true = sym (ap (λ (r : Reply). r.is_yes) told) ∙ is in cc)
 
 -- a table file that is answered with a no is no exact file
 pub no_told : (file : Bytes) (reply : Reply) → TellsResult (table_file file) reply → reply.is_yes ≡ false → (t : Table) → ¬ IsExactFile t file
 no_told file reply tells is t exact = by_result tells.is_result.0
     (λ found same.
-      let told = tells.told ∙ ap (reply_to (table_file file)) (tells.is_result.2 ∙ ap (told_as exact_verdict Fault.Table) same) in
-      let clash : true ≡ false = sym (ap (λ (r : Reply). r.is_yes) told) ∙ is in cc)
+    let told = tells.told ∙ ap (reply_to (table_file file)) (tells.is_result.2 ∙ ap (told_as exact_verdict Fault.Table) same) in
+    let clash : true ≡ false = sym (ap (λ (r : Reply). r.is_yes) told) ∙ is in cc)
     (λ refused same. exact_or_fault file t refused exact (rw same at tells.is_result.1))

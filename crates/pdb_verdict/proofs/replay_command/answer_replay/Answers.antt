@@ -8,7 +8,8 @@ pub returns : goal.returns
 returns c =
     let puzzle = c.as_slice-puzzle.result.now in
     let are = only_input c.args.inputs.now _ puzzle c.requires c.index-inputs-0.is c.as_slice-puzzle.ensures.value in
-    let answer = c.verify_puzzle.result in
-    (reply_to (puzzle_text puzzle) answer,
-    (puzzle, are, record { answer = answer; is_result = c.verify_puzzle.ensures.exact; told = refl }),
-    c.told.ensures (puzzle_text puzzle) c.digested_by.ensures)
+    let answer = c.verify_puzzle.result in (
+      reply_to (puzzle_text puzzle) answer,
+      (puzzle, are, record { answer = answer; is_result = c.verify_puzzle.ensures.exact; told = refl }),
+      c.told.ensures (puzzle_text puzzle) c.digested_by.ensures,
+    )
