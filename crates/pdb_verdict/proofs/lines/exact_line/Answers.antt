@@ -3,12 +3,5 @@ use Rattle.pdb_verdict.proofs.lines.exact_line.Goals as goal
 
 pub returns : goal.returns
 returns c =
-    rw c.lines.ensures (simp (
-      c.get.ensures.value,
-      c.format.ensures.text,
-      c.format-2.ensures.text,
-      c.format-3.ensures.text,
-      c.format-4.ensures.text,
-      c.format-5.ensures.text,
-      append_assoc,
-    ))
+    rw (c.lines.ensures, c.format.ensures.text, c.get.ensures.value)
+    (simp (c.format-2.ensures.text, c.format-3.ensures.text, c.format-4.ensures.text, c.format-5.ensures.text, append_assoc))
