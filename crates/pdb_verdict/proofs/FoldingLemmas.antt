@@ -1,51 +1,65 @@
--- Table files that are folded one after the other, and their digest lines.
-use Rattle.std.proofs.Common.{◌≡◌, ◌∙◌, ◌+◌, ◌<◌, true, ℕ, List, [], ◌∷◌, ◌++◌, Vec, Result, Ok, Err, IfErr, IfOk, ap, append-nil, drop, get_or, length, subst, sym, take}
-use Rattle.std.specs.Prelude.{MatchResult}
-use Rattle.std.proofs.lemmas.Grind.{flat_map-append}
-use Rattle.std.proofs.lemmas.List.{drop_more, map-append, take-append-drop, take_more}
+-- Table files that are checked one after the other: one file more, and its digest line.
+use Rattle.std.proofs.Common.{◌≡◌, ◌∙◌, ℕ, Bool, true, List, [], ◌∷◌, ◌++◌, MatchResult, Vec, Result, Ok, Err, IfErr, IfOk, ap₂, length, refl, sym}
+use Rattle.std.proofs.lemmas.List.{flat_map_more, length-map, map-append}
+use Rattle.tab_file.specs.Tables.{Table}
+use Rattle.tab_rule.specs.ExactTables.{IsExactFile}
 use Rattle.set_sum.specs.declared.parts.Part.{Part}
 use Rattle.byte_io.specs.Shelf.{Bytes}
 use Rattle.pdb_run.specs.Answers.{all_bytes}
 use Rattle.pdb_run.specs.Writing.{digest_line, digests_of}
-use Rattle.pdb_verdict.specs.Steps.{ArePartsOf, HasOneMore, IsCauseAt, IsCauseForTables}
+use Rattle.pdb_verdict.specs.Bundles.{AreExactFiles, part_for}
+use Rattle.pdb_verdict.specs.Steps.{ArePartsOf, HasOneMore, IsCauseAt, IsCauseForTables, IsPartOf}
 use Rattle.pdb_verdict.specs.declared.refusals.Failure.{Failure}
 use Rattle.pdb_verdict.specs.declared.refusals.FileRefusal.{FileRefusal}
-use Rattle.pdb_verdict.proofs.BundleLemmas.{next_cause, next_parts}
 
 -- the digest line of one file more
-pub digests-snoc : (files : List Bytes) (file : Bytes) → digests_of (files ++ file ∷ []) ≡ digests_of files ++ digest_line file
-digests-snoc files file = flat_map-append digest_line files (file ∷ []) ∙ ap (λ (line : Bytes). digests_of files ++ line) (append-nil (digest_line file))
+pub digests_of_snoc : (files : List Bytes) (file : Bytes) → digests_of (files ++ file ∷ []) ≡ digests_of files ++ digest_line file
+digests_of_snoc files file = sym (flat_map_more digest_line [] files file)
 
--- the bytes of files, of which one is seen
-pub bytes-between : {Z : Type 0} (before rest : List (Vec ℕ Z)) (file : Vec ℕ Z) (now : Bytes) → now ≡ file.items
-    → all_bytes before ++ now ∷ all_bytes rest ≡ all_bytes (before ++ file ∷ rest)
-bytes-between before rest file now is =
-    ap (λ (b : Bytes). all_bytes before ++ b ∷ all_bytes rest) is ∙ sym (map-append (λ v. v.items) before (file ∷ rest))
+next_exact : (ts : List Table) (before : List Bytes) (t : Table) (file : Bytes) → AreExactFiles ts before → IsExactFile t file
+    → AreExactFiles (ts ++ t ∷ []) (before ++ file ∷ [])
+next_exact [] [] t file are is = (is, tt)
+next_exact (u ∷ ts) (f ∷ before) t file are is = (are.0, next_exact ts before t file are.1 is)
+next_exact _ _ t file are is = absurd are
 
--- the digest lines of one file more, as they were added
-pub lines_more : {Z : Type 0} (files : List (Vec ℕ Z)) (file : Vec ℕ Z) (now lines more : Bytes) → now ≡ file.items → lines ≡ digests_of (all_bytes files)
-    → more ≡ lines ++ digest_line now → more ≡ digests_of (all_bytes (files ++ file ∷ []))
-lines_more files file now lines more same are is =
-    is ∙ ap (λ (ls : Bytes). ls ++ digest_line now) are ∙ sym (digests-snoc (all_bytes files) now) ∙ ap digests_of (bytes-between files [] file now same)
+cause_behind : (ts : List Table) (before rest : List Bytes) (file : Bytes) (cause : Failure FileRefusal)
+    → AreExactFiles ts before → IsCauseAt (length ts) file cause → IsCauseForTables (before ++ file ∷ rest) cause
+cause_behind [] [] rest file (Failure.Refused r) are is = rw is.0 is.1
+cause_behind [] [] rest file Failure.Memory are is = is
+cause_behind (t ∷ ts) (f ∷ before) rest file (Failure.Refused r) are is =
+    let less = Failure.Refused (record r { number = length ts }) in
+    rw is.0 (t, are.0, cause_behind ts before rest file less are.1 (refl, is.1))
+cause_behind (t ∷ ts) (f ∷ before) rest file Failure.Memory are is = (t, are.0.is_file)
+cause_behind _ _ rest file cause are is = absurd are
 
--- one file of several, with those before it and those behind it
-pub one-seen : {Z : Type 0} (files : List (Vec ℕ Z)) (i : ℕ) (file : Vec ℕ Z) (now : Bytes) → i < length files → file ≡ get_or files i file → now ≡ file.items
-    → (all_bytes (take i files) ++ now ∷ [] ≡ all_bytes (take (i + 1) files)) × (all_bytes (take i files) ++ now ∷ all_bytes (drop (i + 1) files) ≡ all_bytes files)
-one-seen files i file now low is same = (
-  bytes-between (take i files) [] file now same ∙ ap (λ f. all_bytes (take i files ++ f ∷ [])) is ∙ ap all_bytes (sym (take_more files i file low)),
-  bytes-between (take i files) (drop (i + 1) files) file now same ∙ ap (λ f. all_bytes (take i files ++ f ∷ drop (i + 1) files)) is
-      ∙ ap (λ fs. all_bytes (take i files ++ fs)) (sym (drop_more files i file low)) ∙ ap all_bytes (take-append-drop i files),
-)
+module _ {Z : Type 0} (fold : Bool) (before rest files : List (Vec ℕ Z)) (file : Vec ℕ Z) (now : Bytes)
+    (same : now ≡ file.items) (whole : before ++ file ∷ rest ≡ files) (parts : List Part)
+    (so_far : ArePartsOf fold (all_bytes before) parts) where
+  -- the parts of one file more
+  pub next_parts : (part : Part) → IsPartOf fold now part
+      → ArePartsOf fold (all_bytes (before ++ file ∷ [])) (parts ++ part ∷ [])
+  next_parts part is = record {
+    tables = so_far.tables ++ is.0 ∷ [];
+    exact = rw (map-append, ← same) (next_exact so_far.tables (all_bytes before) is.0 now so_far.exact is.1);
+    are = ap₂ (λ (xs : List Part) (x : Part). xs ++ x ∷ []) so_far.are is.2 ∙ sym (map-append (part_for fold) so_far.tables (is.0 ∷ []));
+  }
+
+  -- what keeps its table away keeps away those of all
+  pub next_cause : (cause : Failure FileRefusal) → IsCauseAt (length parts) now cause
+      → IsCauseForTables (all_bytes files) cause
+  next_cause cause is =
+      rw (← whole, map-append, ← same) (cause_behind so_far.tables (all_bytes before) (all_bytes rest) now cause
+      so_far.exact (rw (so_far.are, length-map) at is))
 
 -- the parts of one file more, or why there aren't those of all
-pub fold_step : {Z : Type 0} (before rest more files : List Bytes) (file : Bytes) → before ++ file ∷ [] ≡ more → before ++ file ∷ rest ≡ files
-    → (parts after : Result (Vec Part Z) (Failure FileRefusal))
-    → MatchResult parts (λ ps. ArePartsOf true before ps.items) (IsCauseForTables files)
-    → IfOk after (λ more. MatchResult parts (λ ps. HasOneMore ps.items file more.items) (λ _. ⊥))
-    → IfErr after (λ cause. MatchResult parts (λ ps. IsCauseAt (length ps.items) file cause) (λ refused. cause ≡ refused))
-    → MatchResult after (λ ps. ArePartsOf true more ps.items) (IsCauseForTables files)
-fold_step before rest more files file one_more whole (Ok ps) (Ok qs) are ok err =
-    subst (ArePartsOf true more) (sym ok.2) (next_parts true before rest more files file one_more whole ps.items are ok.0 ok.1)
-fold_step before rest more files file one_more whole (Ok ps) (Err cause) are ok err = next_cause true before rest more files file one_more whole ps.items are cause err
-fold_step before rest more files file one_more whole (Err refused) (Ok qs) are ok err = absurd ok
-fold_step before rest more files file one_more whole (Err refused) (Err cause) are ok err = subst (IsCauseForTables files) (sym err) are
+pub fold_step : {Z Y : Type 0} (before rest files : List (Vec ℕ Z)) (file : Vec ℕ Z) (now : Bytes) → now ≡ file.items
+    → before ++ file ∷ rest ≡ files → (parts after : Result (Vec Part Y) (Failure FileRefusal))
+    → MatchResult parts (λ ps. ArePartsOf true (all_bytes before) ps.items) (IsCauseForTables (all_bytes files))
+    → IfOk after (λ more. MatchResult parts (λ ps. HasOneMore ps.items now more.items) (λ _. ⊥))
+    → IfErr after (λ cause. MatchResult parts (λ ps. IsCauseAt (length ps.items) now cause) (λ refused. cause ≡ refused))
+    → MatchResult after (λ ps. ArePartsOf true (all_bytes (before ++ file ∷ [])) ps.items) (IsCauseForTables (all_bytes files))
+fold_step before rest files file now same whole (Ok ps) (Ok qs) are ok err =
+    rw ok.2 (next_parts true before rest files file now same whole ps.items are ok.0 ok.1)
+fold_step before rest files file now same whole (Ok ps) (Err cause) are ok err = next_cause _ _ _ _ _ _ same whole _ are cause err
+fold_step before rest files file now same whole (Err refused) (Ok qs) are ok err = absurd ok
+fold_step before rest files file now same whole (Err refused) (Err cause) are ok err = rw err are

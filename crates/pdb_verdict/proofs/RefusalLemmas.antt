@@ -1,11 +1,14 @@
 -- What is found, refused or told, and steps behind one another.
-use Rattle.std.proofs.Common.{◌≡◌, ◌∙◌, ◌↔◌, Result, Ok, Err, ap, refl, subst, sym}
-use Rattle.std.specs.Prelude.{MatchResult}
+use Rattle.std.proofs.Common.{◌≡◌, ◌∙◌, ◌↔◌, MatchResult, Result, Ok, Err, ap, refl, sym}
 use Rattle.pdb_verdict.specs.Refusals.{IsFoundBy, IsTold, or_failure, or_memory, told_as}
 use Rattle.pdb_verdict.specs.declared.refusals.Failure.{Failure}
-use Rattle.pdb_verdict.specs.declared.refusals.Failure.TheVariants.{Memory, Refused}
 use Rattle.pdb_verdict.specs.declared.verdicts.Fault.{Fault}
 use Rattle.pdb_verdict.specs.declared.verdicts.Verdict.{Verdict}
+
+-- what comes of a result, by cases
+pub by_result : {A R B : Type 0} (r : Result A R) → ((a : A) → r ≡ Ok a → B) → ((e : R) → r ≡ Err e → B) → B
+by_result (Ok a) ok err = ok a refl
+by_result (Err e) ok err = err e refl
 
 -- ---- one result
 
@@ -13,31 +16,52 @@ use Rattle.pdb_verdict.specs.declared.verdicts.Verdict.{Verdict}
 abbrev pub IsOne : {X : Type 0} → (X → Type 0) → Type 0
 IsOne {X = X} Is = (a b : X) → Is a → Is b → a ≡ b
 
-module _ {A R : Type 0} (IsFound : A → Type 0) (IsRefused : R → Type 0) where
-  -- there is one result, where nothing is both found and refused
-  pub one_result : IsOne IsFound → IsOne IsRefused → ((a : A) (r : R) → IsFound a → IsRefused r → ⊥)
-      → IsOne (λ (x : Result A R). MatchResult x IsFound IsRefused)
-  one_result found refused apart (Ok a) (Ok b) is also = ap Ok (found a b is also)
-  one_result found refused apart (Ok a) (Err r) is also = absurd (apart a r is also)
-  one_result found refused apart (Err r) (Ok a) is also = absurd (apart a r also is)
-  one_result found refused apart (Err r) (Err q) is also = ap (λ x. Err x) (refused r q is also)
+-- the same of what implies it
+pub one_by : {X : Type 0} {Is By : X → Type 0} → ((x : X) → Is x → By x) → IsOne By → IsOne Is
+one_by by one a b is also = one a b (by a is) (by b also)
+
+-- there is one result, where nothing is both found and refused
+pub one_result : {A R : Type 0} {IsFound : A → Type 0} {IsRefused : R → Type 0} → IsOne IsFound → IsOne IsRefused
+    → ((a : A) (r : R) → IsFound a → IsRefused r → ⊥) → IsOne (λ (x : Result A R). MatchResult x IsFound IsRefused)
+one_result found refused apart (Ok a) (Ok b) is also = ap Ok (found a b is also)
+one_result found refused apart (Ok a) (Err r) is also = absurd (apart a r is also)
+one_result found refused apart (Err r) (Ok a) is also = absurd (apart a r also is)
+one_result found refused apart (Err r) (Err q) is also = ap (λ x. Err x) (refused r q is also)
+
+module _ {A B : Type 0} {Is : A → Type 0} (make : A → B) where
+  -- one thing is made of one
+  pub one_made : IsOne Is → IsOne (λ b. (a : A) × Is a × (b ≡ make a))
+  one_made one x y is also = is.2 ∙ ap make (one is.0 also.0 is.1 also.1) ∙ sym also.2
+
+  -- and one of each
+  pub some_made : (a : A) × Is a → (b : B) × ((a : A) × Is a × (b ≡ make a))
+  some_made some = (make some.0, (some.0, some.1, refl))
 
 -- ---- steps behind one another
 
-module _ {A R B : Type 0} (IsFirst : Result A R → Type 0) (why : R → B) (IsNext : A → B → Type 0) where
-  -- this comes behind what the first step finds, whose refusal stays
-  abbrev Comes : B → Result A R → Type 0
-  Comes result first = MatchResult first (λ a. IsNext a result) (λ r. result ≡ why r)
+-- a result comes behind what a first step finds, whose refusal stays
+pub record Behind {A R B : Type 0} (IsFirst : Result A R → Type 0) (why : R → B) (IsNext : A → B → Type 0) (result : B)
+    : Type 0 where
+  pub first : Result A R
+  pub is_first : IsFirst first
+  pub comes : MatchResult first (λ a. IsNext a result) (λ r. result ≡ why r)
 
-  -- this comes of both
-  abbrev pub Behind : B → Type 0
-  Behind result = (first : Result A R) × IsFirst first × Comes result first
+module _ {A R B : Type 0} {IsFirst : Result A R → Type 0} {why : R → B} {IsNext : A → B → Type 0} where
+  -- it comes of what is found
+  pub after : {result : B} (a : A) → IsFirst (Ok a) → IsNext a result → Behind IsFirst why IsNext result
+  after a is comes = record { first = Ok a; is_first = is; comes = comes }
+
+  -- it is why the first step refuses
+  pub stays : (r : R) → IsFirst (Err r) → Behind IsFirst why IsNext (why r)
+  stays r is = record { first = Err r; is_first = is; comes = refl }
 
   -- one thing comes of steps that each find one
-  pub one_behind : IsOne IsFirst → ((a : A) → IsOne (IsNext a)) → IsOne Behind
-  one_behind one next x y is also = by is.0 is.2 (subst (Comes y) (one also.0 is.0 also.1 is.1) also.2)
+  pub one_behind : IsOne IsFirst → ((a : A) → IsOne (IsNext a)) → IsOne (Behind IsFirst why IsNext)
+  one_behind one next x y is also =
+      by is.first is.comes (rw (one also.first is.first also.is_first is.is_first) at also.comes)
     where
-      by : (first : Result A R) → Comes x first → Comes y first → x ≡ y
+      by : (first : Result A R) → MatchResult first (λ a. IsNext a x) (λ r. x ≡ why r)
+          → MatchResult first (λ a. IsNext a y) (λ r. y ≡ why r) → x ≡ y
       by (Ok a) comes too = next a x y comes too
       by (Err r) comes too = comes ∙ sym too
 
@@ -56,20 +80,12 @@ pub found_next : {A B R Q : Type 0} (step : Result A R → Result B Q) (WasFound
     → ((r : Result A R) → WasFound r → IsFound (step r)) → (Took → Takes) → (found : Result A (Failure R)) → IsFoundBy WasFound Took found
     → IsFoundBy IsFound Takes (or_failure step found)
 found_next step WasFound IsFound Took Takes next takes (Ok a) is = found_now IsFound Takes (step (Ok a)) (next (Ok a) is)
-found_next step WasFound IsFound Took Takes next takes (Err (Refused r)) is = found_now IsFound Takes (step (Err r)) (next (Err r) is)
-found_next step WasFound IsFound Took Takes next takes (Err Memory) is = takes is
+found_next step WasFound IsFound Took Takes next takes (Err (Failure.Refused r)) is = found_now IsFound Takes (step (Err r)) (next (Err r) is)
+found_next step WasFound IsFound Took Takes next takes (Err Failure.Memory) is = takes is
 
 -- ---- what is told
 
 module _ {A R : Type 0} (verdict_of : A → Verdict) (fault_of : R → Fault) (IsFound : Result A R → Type 0) where
-  -- one result is told as one answer
-  pub one_told : IsOne IsFound → IsOne (IsTold verdict_of fault_of IsFound)
-  one_told one x y is also = is.2 ∙ ap (told_as verdict_of fault_of) (one is.0 also.0 is.1 also.1) ∙ sym also.2
-
-  -- a result is told as an answer
-  pub told_some : (found : Result A R) × IsFound found → (answer : Result Verdict Fault) × IsTold verdict_of fault_of IsFound answer
-  told_some found = (told_as verdict_of fault_of found.0, (found.0, found.1, refl))
-
   by_yes : (v : Verdict) → IsTold verdict_of fault_of IsFound (Ok v) → (a : A) × IsFound (Ok a) × (v ≡ verdict_of a)
   by_yes v (Ok a, is, same) = (a, is, cc)
   by_yes v (Err r, is, same) = let clash : ◌≡◌ {A = Result Verdict Fault} (Ok v) (Err (fault_of r)) = same in cc

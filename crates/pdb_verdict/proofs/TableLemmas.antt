@@ -1,15 +1,10 @@
 -- A table file has one result.
-use Rattle.std.proofs.Common.{◌≡◌, ◌∙◌, ℕ, ◌+◌, ◌<◌, ◌^◌, Err, Ok, Result, ap, drop, inl, inr, refl, sym, subst}
-use Rattle.std.specs.Prelude.{slice_index}
-use Rattle.std.proofs.lemmas.List.{get_or-drop}
+use Rattle.std.proofs.Common.{◌≡◌, ℕ, ◌+◌, ◌<◌, Err, Ok, Result, drop, get_or-drop, inl, inr, refl, slice_index}
 use Rattle.byteorder.specs.Numbers.{big_from-lt}
 use Rattle.pat_place.proofs.MaskLemmas.{numbers_of-one}
-use Rattle.tab_file.specs.TableFiles.{mask_in}
-use Rattle.tab_rule.specs.Counts.{IsCensusOf}
-use Rattle.tab_rule.specs.TableFaults.{IsTableCauseOf, IsTableFaultOf}
+use Rattle.tab_rule.specs.TableFaults.{IsTableCauseOf}
 use Rattle.tab_rule.specs.declared.census.Census.{Census}
 use Rattle.tab_rule.specs.declared.tables.TableFault.{TableFault}
-use Rattle.tab_rule.specs.declared.tables.TableFault.TheVariants.{Memory, Refused}
 use Rattle.tab_rule.specs.declared.tables.TableRefusal.{TableRefusal}
 use Rattle.tab_rule.proofs.AnswerLemmas.{census_some, file_answer}
 use Rattle.tab_rule.proofs.OneResultLemmas.{IsCensusOf-one, IsTableFaultOf-one, exact_one, exact_or_fault}
@@ -20,22 +15,18 @@ use Rattle.pdb_verdict.specs.Table.{IsExactFor, IsTableResult}
 use Rattle.pdb_verdict.specs.Verdicts.{IsFoundOf}
 use Rattle.pdb_verdict.proofs.RefusalLemmas.{IsOne, one_result}
 
--- a mask of four bytes fits 32 bits
-mask_low : (file : Bytes) → ((i : ℕ) → slice_index file i < 256) → mask_in file < 2 ^ 32
-mask_low file small = big_from-lt 0 4 (drop 8 file) (λ i. subst (λ byte. byte < 256) (sym (get_or-drop 8 file i 0)) (small (8 + i)))
-
 module _ (file : Bytes) where
-  -- there is a result
+  -- there is a result, and the mask, of four bytes, fits 32 bits
   pub table_some : ((i : ℕ) → slice_index file i < 256) → (found : Result (ℕ × ℕ × Census) TableRefusal) × IsTableResult file found
   table_some small = elim (file_answer file) [
     | inl exact ↦ let census = census_some exact.0.entries in (
-      Ok (exact.0.pattern.side, mask_in file, census.0),
+      Ok (exact.0.pattern.side, _, census.0),
       record {
         table = exact.0;
         exact = exact.1;
         is_side = refl;
         is_mask = exact.1.is_file.header.mask;
-        mask_low = mask_low file small;
+        mask_low = big_from-lt 0 4 (drop 8 file) (λ i. rw get_or-drop (small (8 + i)));
         counted = census.1;
       },
     )
@@ -45,20 +36,16 @@ module _ (file : Bytes) where
   exact_for_one : IsOne (λ (e : ℕ × ℕ × Census). IsExactFor file e.0 e.1 e.2)
   exact_for_one e f is also =
       let table = exact_one file is.table also.table is.exact also.exact in
-      let side = is.is_side ∙ ap (λ t. t.pattern.side) table ∙ sym also.is_side in
-      let tiles = is.is_mask ∙ ap (λ t. t.pattern.tiles) table ∙ sym also.is_mask in
-      let mask = numbers_of-one e.1 f.1 is.mask_low also.mask_low tiles in
-      let counted = subst (λ t. IsCensusOf t.entries e.2) table is.counted in
-      let census = IsCensusOf-one also.table.entries e.2 f.2 counted also.counted in
+      let side : e.0 ≡ f.0 = cc in
+      let mask = numbers_of-one e.1 f.1 is.mask_low also.mask_low (cc) in
+      let census = IsCensusOf-one also.table.entries e.2 f.2 (rw table at is.counted) also.counted in
       λ i. (side i, mask i, census i)
 
   -- there is one result
   pub IsTableResult-one : IsOne (IsTableResult file)
-  IsTableResult-one =
-      one_result (λ (e : ℕ × ℕ × Census). IsExactFor file e.0 e.1 e.2) (λ r. IsTableFaultOf r file) exact_for_one
-      (IsTableFaultOf-one file) (λ e r is. exact_or_fault file is.table r is.exact)
+  IsTableResult-one = one_result exact_for_one (IsTableFaultOf-one file) (λ e r is. exact_or_fault file is.table r is.exact)
 
   -- a refusal is the result, and want of memory is taken
   pub table_refused : (cause : TableFault) → IsTableCauseOf cause file → IsFoundOf (table_file file) (Err (of_table cause))
-  table_refused (Refused refused) is = (Err refused, is, refl)
-  table_refused Memory is = is
+  table_refused (TableFault.Refused refused) is = (Err refused, is, refl)
+  table_refused TableFault.Memory is = is

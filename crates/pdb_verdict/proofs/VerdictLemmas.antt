@@ -1,10 +1,7 @@
 -- Inputs have one result, and it is a verdict exactly where that is true.
-use Rattle.std.proofs.Common.{◌≡◌, ◌∙◌, ◌↔◌, ◌⊎◌, ℕ, ◌<◌, Bool, true, false, inl, inr, Result, Ok, Err, ap, append-nil, refl, subst, sym}
-use Rattle.std.specs.Prelude.{is_ok, slice_index}
+use Rattle.std.proofs.Common.{◌≡◌, ◌∙◌, ◌↔◌, ◌⊎◌, ℕ, ◌<◌, true, false, inl, inr, slice_index, Result, Ok, Err, ap, append-nil, refl, sym}
 use Rattle.tab_file.specs.Tables.{Table}
 use Rattle.tab_rule.specs.ExactTables.{IsExactFile}
-use Rattle.tab_rule.specs.declared.census.Census.{Census}
-use Rattle.tab_rule.specs.declared.tables.TableRefusal.{TableRefusal}
 use Rattle.tab_rule.proofs.OneResultLemmas.{exact_or_fault}
 use Rattle.byte_io.specs.Shelf.{Bytes}
 use Rattle.pdb_request.specs.declared.requests.Claim.TheVariants.{Bound, Optimum}
@@ -19,23 +16,20 @@ use Rattle.pdb_verdict.specs.Replay.{IsReplayResult}
 use Rattle.pdb_verdict.specs.Table.{IsTableResult, exact_verdict}
 use Rattle.pdb_verdict.specs.Verdicts.{HoldsOfSolutions, IsAnswerTo, IsFoundOf, IsResult, IsTrueOf, LacksMemory, TellsResult}
 use Rattle.pdb_verdict.specs.declared.refusals.Failure.{Failure}
-use Rattle.pdb_verdict.specs.declared.refusals.Failure.TheVariants.{Memory, Refused}
 use Rattle.pdb_verdict.specs.declared.verdicts.Fault.{Fault}
-use Rattle.pdb_verdict.specs.declared.verdicts.Fault.TheVariants as fault
 use Rattle.pdb_verdict.specs.declared.verdicts.Verdict.{Verdict}
-use Rattle.pdb_verdict.specs.declared.verdicts.Verdict.TheVariants as verdict
 use Rattle.pdb_verdict.proofs.BoundLemmas.{proved_bounds}
 use Rattle.pdb_verdict.proofs.ClaimLemmas.{IsBoundResult-one, IsOptimumResult-one, bound_some, optimum_some, proved_least}
-use Rattle.pdb_verdict.proofs.RefusalLemmas.{IsOne, one_told, told_some, told_yes}
+use Rattle.pdb_verdict.proofs.RefusalLemmas.{IsOne, by_result, one_made, some_made, told_yes}
 use Rattle.pdb_verdict.proofs.ReplayLemmas.{IsReplayResult-one, replay_some}
 use Rattle.pdb_verdict.proofs.TableLemmas.{IsTableResult-one, table_some}
 
 -- a verdict is the result exactly where it is true
 pub IsResult-true : (inputs : Given) (v : Verdict) → IsResult inputs (Ok v) ↔ IsTrueOf inputs v
-IsResult-true (puzzle_text puzzle) = told_yes verdict.Solution fault_of_replay (IsReplayResult puzzle)
-IsResult-true (table_file table) = told_yes exact_verdict fault.Table (IsTableResult table)
-IsResult-true (log_claim Bound fold files) = told_yes verdict.Bound fault_of_bound (IsBoundResult fold files)
-IsResult-true (log_claim Optimum fold files) = told_yes verdict.Optimal fault_of_optimum (IsOptimumResult fold files)
+IsResult-true (puzzle_text puzzle) = told_yes Verdict.Solution fault_of_replay (IsReplayResult puzzle)
+IsResult-true (table_file table) = told_yes exact_verdict Fault.Table (IsTableResult table)
+IsResult-true (log_claim Bound fold files) = told_yes Verdict.Bound fault_of_bound (IsBoundResult fold files)
+IsResult-true (log_claim Optimum fold files) = told_yes Verdict.Optimal fault_of_optimum (IsOptimumResult fold files)
 
 -- a true verdict on a log holds of the solutions
 pub true_holds : (inputs : Given) (v : Verdict) → IsTrueOf inputs v → HoldsOfSolutions inputs v
@@ -48,32 +42,30 @@ true_holds (log_claim Optimum fold files) v h = (h.0, record { solved = h.1.solv
 
 -- there is one result
 pub IsResult-one : (inputs : Given) → IsOne (IsResult inputs)
-IsResult-one (puzzle_text puzzle) = one_told verdict.Solution fault_of_replay (IsReplayResult puzzle) (IsReplayResult-one puzzle)
-IsResult-one (table_file table) = one_told exact_verdict fault.Table (IsTableResult table) (IsTableResult-one table)
-IsResult-one (log_claim Bound fold files) = one_told verdict.Bound fault_of_bound (IsBoundResult fold files) (IsBoundResult-one fold files)
-IsResult-one (log_claim Optimum fold files) =
-    one_told verdict.Optimal fault_of_optimum (IsOptimumResult fold files) (IsOptimumResult-one fold files)
+IsResult-one (puzzle_text puzzle) = one_made (told_as Verdict.Solution fault_of_replay) (IsReplayResult-one puzzle)
+IsResult-one (table_file table) = one_made (told_as exact_verdict Fault.Table) (IsTableResult-one table)
+IsResult-one (log_claim Bound fold files) = one_made (told_as Verdict.Bound fault_of_bound) (IsBoundResult-one fold files)
+IsResult-one (log_claim Optimum fold files) = one_made (told_as Verdict.Optimal fault_of_optimum) (IsOptimumResult-one fold files)
 
 -- inputs, which are bytes, have a result
 pub result_some : (inputs : Given) → ((i : ℕ) → slice_index (bytes_of inputs) i < 256) → (answer : Result Verdict Fault) × IsResult inputs answer
-result_some (puzzle_text puzzle) small = told_some verdict.Solution fault_of_replay (IsReplayResult puzzle) (replay_some puzzle)
-result_some (table_file file) small =
-    told_some exact_verdict fault.Table (IsTableResult file) (table_some file (subst (λ bytes. (i : ℕ) → slice_index bytes i < 256) (append-nil file) small))
-result_some (log_claim Bound fold files) small = told_some verdict.Bound fault_of_bound (IsBoundResult fold files) (bound_some fold files)
-result_some (log_claim Optimum fold files) small = told_some verdict.Optimal fault_of_optimum (IsOptimumResult fold files) (optimum_some fold files)
+result_some (puzzle_text puzzle) small = some_made (told_as Verdict.Solution fault_of_replay) (replay_some puzzle)
+result_some (table_file file) small = some_made (told_as exact_verdict Fault.Table) (table_some file (rw append-nil at small))
+result_some (log_claim Bound fold files) small = some_made (told_as Verdict.Bound fault_of_bound) (bound_some fold files)
+result_some (log_claim Optimum fold files) small = some_made (told_as Verdict.Optimal fault_of_optimum) (optimum_some fold files)
 
 -- ---- answers
 
 -- what is found is the answer, of which want of memory is one
 pub found_answers : (inputs : Given) (found : Result Verdict (Failure Fault)) → IsFoundOf inputs found → IsAnswerTo inputs (with_memory found)
 found_answers inputs (Ok verdict) is = inl is
-found_answers inputs (Err (Refused refused)) is = inl is
-found_answers inputs (Err Memory) is = inr (is, refl)
+found_answers inputs (Err (Failure.Refused refused)) is = inl is
+found_answers inputs (Err Failure.Memory) is = inr (is, refl)
 
 -- a yes is answered only where it is true
 pub yes_is_true : (inputs : Given) (answer : Result Verdict Fault) → IsAnswerTo inputs answer → (v : Verdict) → answer ≡ Ok v → IsTrueOf inputs v
-yes_is_true inputs answer (inl is) v same = (IsResult-true inputs v).0 (subst (IsResult inputs) same is)
-yes_is_true inputs answer (inr lacks) v same = let clash : Err fault.Memory ≡ Ok v = sym lacks.1 ∙ same in cc
+yes_is_true inputs answer (inl is) v same = (IsResult-true inputs v).0 (rw same at is)
+yes_is_true inputs answer (inr lacks) v same = let clash : Err Fault.Memory ≡ Ok v = sym lacks.1 ∙ same in cc
 
 -- and always then, where memory is there
 pub true_is_yes : (inputs : Given) (answer : Result Verdict Fault) → IsAnswerTo inputs answer → (v : Verdict) → IsTrueOf inputs v
@@ -85,21 +77,19 @@ true_is_yes inputs answer (inr lacks) v holds = inr lacks
 
 -- the verdict of a yes is true of the inputs, and holds of the solutions
 pub yes_told : (inputs : Given) (reply : Reply) → TellsResult inputs reply → reply.is_yes ≡ true → IsToldYes inputs reply
-yes_told inputs reply tells is = by tells.answer tells.is_result tells.told (sym (ap (λ (r : Reply). r.is_yes) tells.told) ∙ is)
-  where
-    by : (answer : Result Verdict Fault) → IsResult inputs answer → reply ≡ reply_to inputs answer → is_ok answer ≡ true → IsToldYes inputs reply
-    by (Ok v) is_result told says_yes =
-        let is_true = (IsResult-true inputs v).0 is_result in
-        record { verdict = v; is_true = is_true; holds = true_holds inputs v is_true; told = told }
-    by (Err refused) is_result told says_yes = let clash : false ≡ true = says_yes in cc
+yes_told inputs reply tells is = by_result tells.answer
+    (λ v same.
+    let is_true = (IsResult-true inputs v).0 (rw same at tells.is_result) in
+    let told = tells.told ∙ ap (reply_to inputs) same in
+    record { verdict = v; is_true = is_true; holds = true_holds inputs v is_true; told = told })
+    (λ refused same.
+    let told = tells.told ∙ ap (reply_to inputs) same in
+    let clash : false ≡ true = sym (ap (λ (r : Reply). r.is_yes) told) ∙ is in cc)
 
 -- a table file that is answered with a no is no exact file
 pub no_told : (file : Bytes) (reply : Reply) → TellsResult (table_file file) reply → reply.is_yes ≡ false → (t : Table) → ¬ IsExactFile t file
-no_told file reply tells is =
-    let told = tells.is_result in
-    by told.0 told.1 (ap is_ok (sym told.2) ∙ sym (ap (λ (r : Reply). r.is_yes) tells.told) ∙ is)
-  where
-    by : (found : Result (ℕ × ℕ × Census) TableRefusal) → IsTableResult file found → is_ok (told_as exact_verdict fault.Table found) ≡ false
-        → (t : Table) → ¬ IsExactFile t file
-    by (Ok found) is_result says_no t exact = let clash : true ≡ false = says_no in cc
-    by (Err refused) is_result says_no t exact = exact_or_fault file t refused exact is_result
+no_told file reply tells is t exact = by_result tells.is_result.0
+    (λ found same.
+    let told = tells.told ∙ ap (reply_to (table_file file)) (tells.is_result.2 ∙ ap (told_as exact_verdict Fault.Table) same) in
+    let clash : true ≡ false = sym (ap (λ (r : Reply). r.is_yes) told) ∙ is in cc)
+    (λ refused same. exact_or_fault file t refused exact (rw same at tells.is_result.1))

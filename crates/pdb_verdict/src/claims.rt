@@ -24,6 +24,7 @@ use work_run::{Gate, Workers};
 
 /// The bound that is proved for the board of a text. Or the first refusal that stands: the board text's, then those of the
 /// evidence.
+#[tactic(auto, using(crate::proofs::ClaimLemmas::bound_by))]
 pub(crate) fn bound_of_text<H: Threads + Wait, G: Gate + Sync>(
     text: &[u8],
     evidence: &Evidence<'_>,

@@ -26,6 +26,7 @@ pub(crate) struct Evidence<'a> {
 
 /// The bound that is proved for a board. Or the first refusal that stands: that of the first table file that is refused, the set
 /// text's, the log's. Want of memory may be answered in place of all behind the first table's header.
+#[tactic(auto, using(crate::proofs::BoundLemmas::cause_found, crate::proofs::BoundLemmas::found_over))]
 pub(crate) fn bound_for<H: Threads + Wait, G: Gate + Sync>(
     board: &Board,
     evidence: &Evidence<'_>,
@@ -41,6 +42,7 @@ pub(crate) fn bound_for<H: Threads + Wait, G: Gate + Sync>(
 
 /// As `bound_for`, with folded tables: the bytes of each table are given up in turn. Beside it the digest lines of the tables
 /// and the log.
+#[tactic(auto, using(crate::proofs::FoldingLemmas::digests_of_snoc, crate::proofs::BoundLemmas::cause_found, crate::proofs::BoundLemmas::found_over))]
 pub(crate) fn bound_of_files<H: Threads + Wait + Sync, G: Gate + Sync>(
     board: &Board,
     sets: &[u8],

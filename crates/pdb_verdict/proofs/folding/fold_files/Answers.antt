@@ -1,7 +1,7 @@
-use Rattle.std.proofs.Common.{◌≡◌, ◌∙◌, ◌++◌, ◌∷◌, [], ap, append_assoc, arith, length-append, sym}
+use Rattle.std.proofs.Common.{◌∷◌, [], append_assoc, arith, length-append}
 use Rattle.std.specs.Vec.Iter.{into_iter_items}
-use Rattle.pdb_run.specs.Answers.{all_bytes}
-use Rattle.pdb_verdict.proofs.FoldingLemmas.{bytes-between, fold_step, lines_more}
+use Rattle.std.proofs.lemmas.List.{map-append}
+use Rattle.pdb_verdict.proofs.FoldingLemmas.{digests_of_snoc, fold_step}
 use Rattle.pdb_verdict.proofs.folding.fold_files.Goals as goal
 
 pub loop-file-preserved : goal.loop-file-preserved
@@ -9,17 +9,14 @@ loop-file-preserved g c =
     let so_far = c.loop-file.invariant in
     let before = c.loop-file.yielded in
     let file = c.in-Some.file in
-    let rest = into_iter_items c.next.new.self in
-    let now = c.as_slice.result.now in
     let is = c.as_slice.ensures.value in
-    let whole : before ++ file ∷ rest ≡ c.args.files.items = ap (λ r. before ++ r) (sym c.in-Some.ensures.steps.0) ∙ so_far.whole in
+    let whole = rw c.in-Some.ensures.steps.0 at so_far.whole in
     record {
       can_next = tt;
       is_finite = tt;
-      whole = append_assoc before (file ∷ []) rest ∙ whole;
-      lines = lines_more before file now c.loop-file.digests.items c.fold_next-parts.new.digests.items is so_far.lines c.fold_next-parts.ensures.line;
+      whole = rw append_assoc whole;
+      lines = rw (map-append, ← is, digests_of_snoc, ← so_far.lines) c.fold_next-parts.ensures.line;
       count = omega (arith, length-append before (file ∷ []), so_far.count, c.fold_next-parts.ensures.length);
-      parts = fold_step (all_bytes before) (all_bytes rest) (all_bytes (before ++ file ∷ [])) (all_bytes c.args.files.items) now
-          (bytes-between before [] file now is) (bytes-between before rest file now is ∙ ap all_bytes whole) c.loop-file.parts c.fold_next-parts.result so_far.parts
-          c.fold_next-parts.ensures.ok c.fold_next-parts.ensures.err;
+      parts = fold_step before (into_iter_items c.next.new.self) c.args.files.items file c.as_slice.result.now is whole
+          c.loop-file.parts c.fold_next-parts.result so_far.parts c.fold_next-parts.ensures.ok c.fold_next-parts.ensures.err;
     }

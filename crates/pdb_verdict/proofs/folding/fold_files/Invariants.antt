@@ -1,5 +1,4 @@
-use Rattle.std.proofs.Common.{◌≡◌, ◌*◌, ◌++◌, length, true}
-use Rattle.std.specs.Prelude.{MatchResult}
+use Rattle.std.proofs.Common.{◌≡◌, ◌*◌, ◌++◌, MatchResult, length, true}
 use Rattle.std.specs.Vec.Iter.{into_iter_items}
 use Rattle.pdb_run.specs.Answers.{all_bytes}
 use Rattle.pdb_run.specs.Writing.{digests_of}

@@ -1,17 +1,8 @@
-use Rattle.std.proofs.Common.{Err, Ok, refl, rules, subst, sym}
-use Rattle.pdb_verdict.specs.Inputs.{table_file}
+use Rattle.std.proofs.Common.{Ok, refl, rules}
 use Rattle.pdb_verdict.specs.Table.{IsExactFor}
-use Rattle.pdb_verdict.specs.Verdicts.{IsFoundOf}
-use Rattle.pdb_verdict.specs.declared.refusals.Failure.{Failure}
-use Rattle.pdb_verdict.specs.declared.verdicts.Fault.{Fault}
-use Rattle.pdb_verdict.proofs.TableLemmas.{table_refused}
 use Rattle.pdb_verdict.proofs.table.verify_table.Goals as goal
 
 pub returns-in-Ok : goal.returns-in-Ok
 returns-in-Ok g c =
     let exact : IsExactFor c.args.table.now c.side.result c.mask.result c.census.result = search (rules, c.in-Ok.ensures.ok) in
     (Ok (c.side.result, c.mask.result, c.census.result), exact, refl)
-
-pub returns-in-Err : goal.returns-in-Err
-returns-in-Err g c =
-    subst (λ (f : Failure Fault). IsFoundOf (table_file c.args.table.now) (Err f)) (sym c.table_fault.ensures) (table_refused c.args.table.now c.in-Err.fault c.in-Err.ensures.err)
