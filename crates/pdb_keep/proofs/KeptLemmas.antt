@@ -1,5 +1,5 @@
 -- What a maker's yes keeps.
-use Rattle.std.proofs.Common.{◌≡◌, ℕ, Bool, List, [], ◌∷◌, Some, Ok, ap, inl, refl, subst}
+use Rattle.std.proofs.Common.{◌≡◌, ℕ, Bool, List, [], ◌∷◌, Some, Ok, inl, refl, subst}
 use Rattle.std.specs.Io.KnownBytes.{Appends}
 use Rattle.std.proofs.lemmas.Slice.Eq.{bytes_eq-Decides}
 use Rattle.byte_io.specs.Shelf.{Bytes, Files, with_file}
@@ -47,7 +47,7 @@ module _ (side mask : ℕ) (out : Bytes) (old new : World) where
       }
   exact_kept _ is says = let clash : Yes ≡ Refused = says.0 in absurd cc
 
-  -- whatever takes memory
+  -- a yes of a run that is answered, whatever its check takes memory for
   pub table_answered : (Takes : List Bytes → Type 0)
       → IsAnswered (plan_under (Some out) [] (λ inputs. TellsBuild side mask) Takes) old new Yes
       → IsTableKept side mask out old new
@@ -90,6 +90,7 @@ module _ (fold : Bool) (text sets out : Bytes) (tables : List Bytes) (old new : 
       }
   found_kept board_text set_text files read _ is says = let clash : Yes ≡ Refused = says.0 in absurd cc
 
+  -- a yes of a run that is answered
   pub log_answered : IsAnswered (solve_plan fold text sets out tables) old new Yes
       → IsLogKept fold text sets out tables old new
   log_answered answered =

@@ -5,7 +5,7 @@ use Rattle.std.specs.List.{cons_option}
 use Rattle.std.proofs.lemmas.List.Elements.{All-cons, All-map}
 use Rattle.puz_board.specs.BoardTexts.{is_separator}
 use Rattle.puz_board.specs.Cells.{move_of_letter}
-use Rattle.puz_board.specs.MovesTexts.{Solves, is_letter, moves_of}
+use Rattle.puz_board.specs.MovesTexts.{is_letter, moves_of}
 use Rattle.puz_board.specs.declared.moves.Move.{Move}
 use Rattle.puz_board.specs.declared.moves.Move.TheVariants.{Up, Down, Left, Right}
 use Rattle.byte_io.specs.Shelf.{Bytes}

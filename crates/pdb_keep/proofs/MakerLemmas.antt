@@ -1,5 +1,5 @@
 -- What comes of makers.
-use Rattle.std.proofs.Common.{◌≡◌, ◌∙◌, ℕ, suc, ◌+◌, ◌<◌, ◌≤◌, Bool, true, false, List, [], ◌∷◌, ◌++◌, Option, None, Result, Ok, Err, IfOk, IfSome, length, map, drop, get_or, not, ◌||◌, ap, append_assoc, arith, length-append, refl, subst, sym}
+use Rattle.std.proofs.Common.{◌≡◌, ◌∙◌, ℕ, suc, ◌+◌, ◌<◌, ◌≤◌, Bool, true, false, List, [], ◌∷◌, ◌++◌, Option, None, Result, Ok, Err, IfOk, IfSome, length, drop, get_or, not, ◌||◌, ap, append_assoc, arith, length-append, refl, subst, sym}
 use Rattle.std.specs.Prelude.{◌==◌, MatchResult}
 use Rattle.std.specs.Char.{is_ascii_digit}
 use Rattle.std.specs.declared.alloc.AllocError.{AllocError}
@@ -7,7 +7,6 @@ use Rattle.std.proofs.lemmas.Bool.{eqb-true}
 use Rattle.std.proofs.lemmas.List.{drop_more, length-map, map-append}
 use Rattle.std.proofs.lemmas.List.Elements.{filter_map-append}
 use Rattle.puz_board.specs.BoardTexts.{Spells, is_separator, stray_byte}
-use Rattle.puz_board.specs.Cells.{move_of_letter}
 use Rattle.puz_board.specs.MovesTexts.{Solves, moves_of}
 use Rattle.puz_board.specs.Paths.{Leads}
 use Rattle.puz_board.specs.PuzzleTexts.{HasNoSemicolon}
