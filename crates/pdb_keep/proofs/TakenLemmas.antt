@@ -69,8 +69,8 @@ module _ (fold : Bool) (text sets out : Bytes) (tables : List Bytes) (before : F
       let files = log_files f.board_text f.set_text kept.log kept.files in
       let claim = log_claim Bound fold files in
       let has = same ∙ kept.kept ∙ ap (λ (files : Option Files). told_with files out kept.log) had in
-      let read = subst (λ (r : Option Files × List Bytes). AreRead r.0 later.reader (log_check_inputs text sets out tables) r.1)
-      (λ i. (has i, is.1 i)) a.right.0 in
+      let read = subst (λ (r : Option Files × List Bytes). AreRead r.0 later.reader
+      (log_check_inputs text sets out tables) r.1) (λ i. (has i, is.1 i)) a.right.0 in
       let same = same_files is.0 read in
       let tells : TellsResult claim a.reply = rw same at is.2 in
       let proved : IsResult claim (Ok (verdict.Bound kept.n)) =

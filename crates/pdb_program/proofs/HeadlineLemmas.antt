@@ -1,5 +1,5 @@
 -- What a yes means and what a no means follow from what is answered and what is kept.
-use Rattle.std.proofs.Common.{◌≡◌, ◌∙◌, ◌⊎◌, ◌≤◌, inl, inr, ℕ, Bool, true, false, List, [], ◌∷◌, ◌++◌, Option, Some, None, Ok, IfSome, ap, append_assoc, arith, codes, map, refl, subst, sym}
+use Rattle.std.proofs.Common.{◌≡◌, ◌∙◌, ◌⊎◌, ◌≤◌, inl, inr, ℕ, Bool, true, false, List, [], ◌∷◌, ◌++◌, Option, Some, None, IfSome, ap, append_assoc, arith, codes, map, refl, subst, sym}
 use Rattle.std.specs.Option.{option_map_or}
 use Rattle.std.proofs.lemmas.Grind.{flat_map-append}
 use Rattle.std.proofs.lemmas.List.{append-nil, append_cancel_left}
@@ -26,7 +26,7 @@ use Rattle.pdb_keep.specs.Laws.{told_moves}
 use Rattle.pdb_keep.specs.Solve.{letters_of}
 use Rattle.pdb_keep.proofs.KeptLemmas.{file-kept, log_answered, table_answered}
 use Rattle.pdb_keep.proofs.LetterLemmas.{told_solution}
-use Rattle.pdb_words.specs.CommandLine.{Parses, asked_of}
+use Rattle.pdb_words.specs.CommandLine.{asked_of}
 use Rattle.pdb_program.specs.Headline.{EndWith, Headline, HoldsOfYes}
 use Rattle.pdb_program.specs.Programs.{IsNumberOfStatus, RunsOn, plan_of}
 use Rattle.pdb_program.specs.Steps.{SaysHeadline}
@@ -37,7 +37,8 @@ whole-digests : (files : List Bytes)
     → (digests_of files ≡ []) ⊎ ((line : Bytes) × (digests_of files ≡ line ++ codes "\n"))
 whole-digests [] = inl refl
 whole-digests (file ∷ files) = elim (whole-digests files) [
-  | inl none ↦ inr (codes "sha256 " ++ _, ap (λ (t : Bytes). digest_line file ++ t) none ∙ append-nil (digest_line file))
+  | inl none ↦
+      inr (codes "sha256 " ++ _, ap (λ (t : Bytes). digest_line file ++ t) none ∙ append-nil (digest_line file))
   | inr some ↦ inr (digest_line file ++ some.0, rw some.1 (sym (append_assoc (digest_line file) some.0 (codes "\n"))))
 ]
 
