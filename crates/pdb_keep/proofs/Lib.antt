@@ -1,5 +1,4 @@
 pub mod KeptLemmas
 pub mod LetterLemmas
-mod LineLemmas
 mod MakerLemmas
 mod TakenLemmas

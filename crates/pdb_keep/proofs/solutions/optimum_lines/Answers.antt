@@ -1,12 +1,20 @@
-use Rattle.std.proofs.Common.{◌≡◌, ◌∙◌, ◌<◌, List, ℕ, length, subst, sym}
-use Rattle.pdb_keep.specs.Solve.{letters_of}
-use Rattle.pdb_keep.proofs.LineLemmas.{moves_parts, not_none}
+use Rattle.std.proofs.Common.{◌≡◌, ◌∙◌, List, ℕ, [], ◌∷◌, ◌++◌, ap, append_assoc, codes, false, length, sym}
+use Rattle.std.specs.Prelude.{◌==◌, decimal}
+use Rattle.pdb_verdict.specs.Lines.{counted}
+use Rattle.pdb_keep.specs.Solve.{letters_of, moves_line}
 use Rattle.pdb_keep.proofs.solutions.optimum_lines.Goals as goal
+
+-- the parts of the lines of an optimum with moves
+moves_parts : (letters : List ℕ) (n : ℕ) → (length letters == 0) ≡ false
+    → codes "moves " ++ (letters ++ (codes "\noptimal " ++ (decimal n ++ codes "\n")))
+    ≡ moves_line letters ++ counted (codes "optimal ") n
+moves_parts [] n some = cc
+moves_parts (letter ∷ letters) n some =
+    ap (λ (t : List ℕ). codes "moves " ++ t) (sym (append_assoc (letter ∷ letters) (codes "\n") _))
 
 pub returns-else-is_empty : goal.returns-else-is_empty
 returns-else-is_empty c =
-    let letters = letters_of c.args.moves.now in
-    let same : c.letters_of-letters.result.bytes ≡ letters = c.letters_of-letters.ensures in
-    let some : 0 < length c.letters_of-letters.result.bytes = not_none c.letters_of-letters.result.bytes (sym c.is_empty.ensures ∙ c.if-is_empty.false) in
+    let some = rw c.letters_of-letters.ensures at (sym c.is_empty.ensures ∙ c.if-is_empty.false) in
     c.lines-else-is_empty.ensures
-    ∙ moves_parts letters _ _ c.args.count (subst (λ (t : List ℕ). 0 < length t) same some) (c.as_str.ensures.value ∙ same) c.format-count.ensures.text
+    ∙ rw (c.as_str.ensures.value, c.letters_of-letters.ensures, c.format-count.ensures.text)
+    (moves_parts (letters_of c.args.moves.now) c.args.count some)

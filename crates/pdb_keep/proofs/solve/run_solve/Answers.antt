@@ -1,19 +1,15 @@
-use Rattle.std.proofs.Common.{Bool, subst, sym}
 use Rattle.pdb_run.specs.Answers.{all_bytes}
-use Rattle.pdb_keep.specs.Steps.{IsSearchAnswer}
 use Rattle.pdb_keep.proofs.MakerLemmas.{search_answered}
 use Rattle.pdb_keep.proofs.solve.run_solve.Goals as goal
 
 pub returns-in-Some-clause-ends : goal.returns-in-Some-clause-ends
 returns-in-Some-clause-ends g c =
-    let files = c.of-files.result in
-    let told = c.answer_folded-answer.result in
-    let says = subst (λ (fold : Bool). IsSearchAnswer fold files told) (sym c.in-Some.ensures.folds) c.answer_folded-answer.ensures in
+    let says = rw (← c.in-Some.ensures.folds) at c.answer_folded-answer.ensures in
     c.keep_and_conclude.ensures.ends (all_bytes c.in-Ok.inputs.items) _ c.in-Ok.ensures.read
-    (search_answered c.args.search.now.fold _ files.text.items files.sets.items (all_bytes files.tables.items) told c.of-files.ensures says)
+    (search_answered c.args.search.now.fold _ c.of-files.result c.answer_folded-answer.result c.of-files.ensures says)
 
 pub returns-in-None-clause-ends : goal.returns-in-None-clause-ends
 returns-in-None-clause-ends g c =
-    let files = c.of-files.result in
+    let says = c.answer_solve-answer.ensures in
     c.keep_and_conclude-in-None.ensures.ends (all_bytes c.in-Ok.inputs.items) _ c.in-Ok.ensures.read
-    (search_answered c.args.search.now.fold _ files.text.items files.sets.items (all_bytes files.tables.items) c.answer_solve-answer.result c.of-files.ensures c.answer_solve-answer.ensures)
+    (search_answered c.args.search.now.fold _ c.of-files.result c.answer_solve-answer.result c.of-files.ensures says)

@@ -1,6 +1,5 @@
 use Rattle.std.proofs.Common.{◌∙◌, ap}
 use Rattle.pdb_run.specs.Statuses.{status_number}
-use Rattle.pdb_program.proofs.HeadlineLemmas.{headline_on}
 use Rattle.pdb_program.proofs.starts.start.Goals as goal
 
 pub returns-in-Ok-clause-runs : goal.returns-in-Ok-clause-runs
@@ -12,4 +11,4 @@ returns-in-Err-clause-unreadable g c = rw c.in-Err.is (λ no.
     (told.0, told.1, c.code.ensures ∙ ap status_number told.2))
 
 pub returns-in-Ok-clause-headline : goal.returns-in-Ok-clause-headline
-returns-in-Ok-clause-headline g c = rw c.in-Ok.is (headline_on _ _ _ _ _ _ _ _ c.words_in.ensures c.run.ensures.headline)
+returns-in-Ok-clause-headline g c = rw (c.in-Ok.is, ← c.words_in.ensures) c.run.ensures.headline
