@@ -1,4 +1,4 @@
-//! The boards that the moves of a branch lead to.
+//! What sets say of the boards that the moves of a branch lead to.
 
 use crate::leaves::{Leaf, Sum};
 use crate::places::Stand;
@@ -17,6 +17,8 @@ pub(crate) struct Looked {
     pub(crate) sum: Sum,
     /// The number of the place, or that of none.
     pub(crate) place: u8,
+    /// The same, or that of none where an earlier set has the place too.
+    pub(crate) kept: u8,
 }
 
 impl Looked {
@@ -26,28 +28,7 @@ impl Looked {
             stand: Stand::none(),
             sum: Sum::none(),
             place: NO_PLACE,
-        }
-    }
-}
-
-/// A board that a move leads to. While a search is there, the board that it came from.
-#[derive(Clone, Copy)]
-pub(crate) struct Child {
-    /// What the set says that says the most, of those in which the board was looked up.
-    pub(crate) leaf: Leaf,
-    /// The tile that moves.
-    pub(crate) tile: u8,
-    /// The cell of the blank.
-    pub(crate) blank: u8,
-}
-
-impl Child {
-    /// No board.
-    pub(crate) fn none() -> Child {
-        Child {
-            leaf: Leaf::none(),
-            tile: 0,
-            blank: 0,
+            kept: NO_PLACE,
         }
     }
 }
@@ -55,7 +36,8 @@ impl Child {
 /// The boards that the moves of one branch lead to, in their order.
 #[derive(Clone, Copy)]
 pub(crate) struct Children {
-    pub(crate) boards: [Child; 4],
+    /// What the set says of each that says the most, of those in which it was looked up.
+    pub(crate) leaves: [Leaf; 4],
     /// What each set says of each of them.
     pub(crate) looked: [[Looked; 4]; MOST_SETS],
 }
@@ -64,15 +46,14 @@ impl Children {
     /// No boards.
     pub(crate) fn none() -> Children {
         Children {
-            boards: [Child::none(); 4],
+            leaves: [Leaf::none(0); 4],
             looked: [[Looked::none(); 4]; MOST_SETS],
         }
     }
 }
 
-/// A board that one move leads to, and what each set says of it.
+/// What each set says of a board that one move leads to.
 #[derive(Clone, Copy)]
 pub(crate) struct Entries {
-    pub(crate) board: Child,
     pub(crate) looked: [Looked; MOST_SETS],
 }

@@ -48,11 +48,11 @@ pub(crate) struct Leaf {
 }
 
 impl Leaf {
-    /// One that says nothing.
+    /// One by which a set says nothing.
     #[inline]
-    pub(crate) fn none() -> Leaf {
+    pub(crate) fn none(set: u8) -> Leaf {
         Leaf {
-            set: 0,
+            set,
             sum: 0,
             raised: 0,
         }

@@ -10,6 +10,7 @@ use pat_place::Pattern;
 use puz_board::masks::all_below;
 use puz_board::{Board, Side};
 use set_sum::{Member, Part};
+use tab_file::NO_REGION;
 
 /// What is told of a board whose entry a table hasn't: nothing.
 const NOTHING: u8 = 0;
@@ -218,29 +219,47 @@ impl<'a> Place<'a> {
         Stand { first, free, entry }
     }
 
-    /// Where the tiles are after one of them moves.
+    /// Where the tiles are after one of them moves. The entry isn't read yet.
     #[inline]
-    pub(crate) fn after(&self, slots: &mut Slots, mover: &Mover, moved: &Moved<'_>) -> Stand {
-        let passage = if self.member.is_transposed {
+    pub(crate) fn after(&self, mover: &Mover, moved: &Moved<'_>) -> Stand {
+        let passage = self.passage(moved);
+        Stand {
+            first: mover.first_after(self.stand.first, passage, moved.numbers),
+            free: self.stand.free ^ passage.ends,
+            entry: NOTHING,
+        }
+    }
+
+    /// The entry of the board after a move, where the tiles are then here.
+    #[inline]
+    pub(crate) fn entry_after(&self, slots: &mut Slots, stand: &Stand, moved: &Moved<'_>) -> u8 {
+        self.entry(slots, stand.first, stand.free, self.passage(moved).blank)
+    }
+
+    /// How the member sees a move.
+    #[inline]
+    fn passage<'b>(&self, moved: &Moved<'b>) -> &'b Passage {
+        if self.member.is_transposed {
             &moved.way.transposed
         } else {
             &moved.way.plain
-        };
-        let first = mover.first_after(self.stand.first, passage, moved.numbers);
-        let free = self.stand.free ^ passage.ends;
-        let entry = self.entry(slots, first, free, passage.blank);
-        Stand { first, free, entry }
+        }
     }
 
-    /// The entry of the board whose tiles have this first entry and leave these cells free, and whose blank is in this cell.
-    #[inline]
+    /// The entry of the board whose tiles have this first entry and leave these cells free, and whose blank is in this cell. Most
+    /// often the cells are one region, and only then there is none in the next slot.
+    #[inline(always)]
     fn entry(&self, slots: &mut Slots, first: Number, free: u32, blank: u8) -> u8 {
-        let slot = if self.has_slots {
-            slots.slot_of(free, blank)
-        } else {
-            0
-        };
-        let number = first as usize + slot;
+        let first = first as usize;
+        if !self.has_slots || self.entry_at(first + 1) == NO_REGION {
+            return self.entry_at(first);
+        }
+        self.entry_at(first + slots.slot_of(free, blank))
+    }
+
+    /// An entry of the table by its number.
+    #[inline(always)]
+    fn entry_at(&self, number: usize) -> u8 {
         self.entries.get(number).copied().unwrap_or(NOTHING)
     }
 }

@@ -4,7 +4,7 @@ ghost use Rattle.std.specs.Prelude.{◌≡◌, ◌<◌, ◌*◌, length, take};
 ghost use Rattle.puz_board.specs.Boards.{side_of};
 
 use crate::cells::{CELLS, place_of};
-use crate::children::{Child, Children, Entries};
+use crate::children::{Children, Entries};
 use crate::leaves::Leaf;
 use crate::places::Moved;
 use crate::sums::{Moves, Sums};
@@ -79,61 +79,44 @@ impl<'a> Position<'a> {
         self.sums.best_leaf(self.parity)
     }
 
-    /// Looks up in one set the boards that the moves of a list lead to. Answers how many they are.
+    /// Looks up the boards that the moves of a list lead to in one set first, and then in each other one those that no set before
+    /// cuts off. So many moves from them are to be refuted. Answers how many boards there are.
     #[inline]
     pub(crate) fn look_around(
         &mut self,
         list: ListNumber,
-        set: u8,
+        first: u8,
+        remaining: u16,
         children: &mut Children,
     ) -> usize {
         let moves = Moves {
             ways: self.ways.list(list),
             numbers: &self.numbers,
             parity: self.parity ^ 1,
+            remaining,
         };
-        self.sums.look_around(set, &moves, children);
+        self.sums.look_around(first, &moves, children);
         moves.ways.len()
     }
 
-    /// Looks up in the other sets the board that a move of a list leads to, as long as none cuts it off, where so many moves
-    /// remain.
+    /// Goes to one of some boards that were looked up in all sets, where the blank is here, and leaves in its place the one where it
+    /// was. Answers where the blank was.
     #[inline]
-    pub(crate) fn look_further(
-        &mut self,
-        list: ListNumber,
-        at: usize,
-        remaining: u16,
-        children: &mut Children,
-    )
+    pub(crate) fn exchange(&mut self, blank: u8, at: usize, children: &mut Children) -> u8
         requires { at < 4 }
     {
-        if let Some(way) = self.ways.list(list).get(at) {
-            let moved = Moved {
-                way,
-                numbers: &self.numbers,
-                parity: self.parity ^ 1,
-            };
-            self.sums.look_further(&moved, at, remaining, children);
-        }
-    }
-
-    /// Goes to one of some boards that were looked up in all sets, and leaves in its place the one where it was.
-    #[inline]
-    pub(crate) fn exchange(&mut self, at: usize, children: &mut Children)
-        requires { at < 4 }
-    {
-        self.move_to(&mut children.boards[at]);
         self.sums.exchange(at, children);
+        self.move_to(blank)
     }
 
-    /// Moves a tile to where the blank is, and leaves in its place the move back.
+    /// Moves the blank to a cell beside it. Answers where it was.
     #[inline]
-    fn move_to(&mut self, child: &mut Child) {
-        mem::swap(&mut self.blank, &mut child.blank);
-        self.numbers[place_of(child.blank)] = child.tile;
-        self.numbers[place_of(self.blank)] = 0;
+    fn move_to(&mut self, blank: u8) -> u8 {
+        let before = mem::replace(&mut self.blank, blank);
+        self.numbers[place_of(before)] = self.numbers[place_of(blank)];
+        self.numbers[place_of(blank)] = 0;
         self.parity ^= 1;
+        before
     }
 
     /// Moves the blank to a cell beside it. Answers what there was.
@@ -146,22 +129,22 @@ impl<'a> Position<'a> {
             parity: self.parity ^ 1,
         };
         let mut entries = self.sums.look(&moved);
-        self.swap(&mut entries);
+        self.swap(to, &mut entries);
         Some(entries)
     }
 
     /// Moves the blank back to the cell where it was.
-    pub(crate) fn slide_back(&mut self, before: &Option<Entries>) {
+    pub(crate) fn slide_back(&mut self, from: u8, before: &Option<Entries>) {
         if let Some(before) = before {
             let mut before = *before;
-            self.swap(&mut before);
+            self.swap(from, &mut before);
         }
     }
 
-    /// Goes to a board that was looked up, and leaves in its place the one where it was.
-    fn swap(&mut self, entries: &mut Entries) {
-        self.move_to(&mut entries.board);
+    /// Goes to a board that was looked up, where the blank is here, and leaves in its place the one where it was.
+    fn swap(&mut self, blank: u8, entries: &mut Entries) {
         self.sums.exchange_entries(entries);
+        let _ = self.move_to(blank);
     }
 
     /// Whether each number is in the cell of its own number.

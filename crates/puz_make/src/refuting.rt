@@ -158,6 +158,6 @@ impl<'a> Refuter<'a> {
     /// Takes a move of the blank from this cell back.
     fn slide_back(&mut self, from: Cell, before: &Option<Entries>) {
         self.tiles.slide(from);
-        self.position.slide_back(before);
+        self.position.slide_back(from.number(), before);
     }
 }

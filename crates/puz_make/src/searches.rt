@@ -214,29 +214,6 @@ impl<'a> Search<'a> {
         true
     }
 
-    /// Whether a set cuts off the board that a move of a list leads to, from which so many moves are to be refuted: the set in
-    /// which it was looked up, or another one. The leaf is then written.
-    #[inline]
-    fn is_cut_by_any(
-        &mut self,
-        list: ListNumber,
-        at: usize,
-        remaining: u16,
-        children: &mut Children,
-    ) -> bool
-        requires { at < 4 }
-        ensures { OnFalse result (0 < remaining) }
-    {
-        if self.is_cut(&children.boards[at].leaf, remaining) {
-            return true;
-        }
-        if self.position.sums.is_single() {
-            return false;
-        }
-        self.position.look_further(list, at, remaining, children);
-        self.is_cut(&children.boards[at].leaf, remaining)
-    }
-
     /// Tries the moves of a list, whose boards are looked up in one set first. Answers whether the board has a solution of
     /// fewer moves than remain. There is a level for each of these moves.
     fn expand(
@@ -253,23 +230,24 @@ impl<'a> Search<'a> {
         let Some((children, below)) = levels.split_first_mut() else {
             return Err(MakeFault::Memory);
         };
-        let count = self.position.look_around(list, first, children);
+        let remaining = remaining - 1;
+        let count = self.position.look_around(list, first, remaining, children);
         for at in 0..4 {
             if at >= count {
                 break;
             }
-            if self.is_cut_by_any(list, at, remaining - 1, children) {
+            let leaf = children.leaves[at];
+            if self.is_cut(&leaf, remaining) {
                 continue;
             }
             let Some(way) = self.position.way(list, at) else {
                 break;
             };
-            let (number, next) = (way.number, way.next());
-            let leaf = children.boards[at].leaf;
-            self.position.exchange(at, children);
+            let (to, number, next) = (way.to, way.number, way.next());
+            let from = self.position.exchange(to, at, children);
             let is_goal = leaf.raised == 0 && self.position.is_goal();
-            let is_solved = is_goal || self.expand(below, next, leaf.set, remaining - 1)?;
-            self.position.exchange(at, children);
+            let is_solved = is_goal || self.expand(below, next, leaf.set, remaining)?;
+            let _ = self.position.exchange(from, at, children);
             if is_solved {
                 self.add_move(number)?;
                 return Ok(true);

@@ -74,7 +74,7 @@ impl Slots {
     }
 
     /// The slot of a free cell among these ones, on the grid of any pattern of the side.
-    #[inline]
+    #[inline(never)]
     pub(crate) fn slot_of(&mut self, free: u32, cell: u8) -> usize
         ensures { result < 8 }
     {

@@ -4,7 +4,7 @@
 ghost use Rattle.std.specs.Prelude.{◌<◌, length};
 
 use crate::cells::{CELLS, place_of};
-use crate::children::{Child, Children, Entries, Looked, MOST_SETS, NO_PLACE};
+use crate::children::{Children, Entries, Looked, MOST_SETS, NO_PLACE};
 use crate::leaves::{Leaf, Sum};
 use crate::places::{Moved, Mover, Place, Weights};
 use crate::slots::Slots;
@@ -93,68 +93,28 @@ impl<'a> Sums<'a> {
         u8::try_from(self.sets.len()).unwrap_or(u8::MAX)
     }
 
-    /// Whether there is no other set than one.
+    /// Looks up the boards that moves lead to in one set first, and then in each other one those that no set before cuts off.
     #[inline]
-    pub(crate) fn is_single(&self) -> bool {
-        self.sets.len() <= 1
-    }
-
-    /// Looks up in one set the boards that moves lead to.
-    #[inline]
-    pub(crate) fn look_around(&mut self, set: u8, moves: &Moves<'_>, children: &mut Children) {
-        let set = usize::from(set);
-        let (Some(set), Some(looks)) = (self.sets.get(set), children.looked.get_mut(set)) else {
-            return;
-        };
-        for at in 0..4 {
-            let Some(way) = moves.ways.get(at) else {
-                break;
-            };
-            let moved = moves.along(way);
-            let child = &mut children.boards[at];
-            child.tile = moved.tile();
-            child.blank = way.to;
-            child.leaf = set.look(&self.places, &mut self.slots, &moved, &mut looks[at]);
+    pub(crate) fn look_around(&mut self, first: u8, moves: &Moves<'_>, children: &mut Children) {
+        children.leaves = [Leaf::none(first); 4];
+        if let Some(set) = self.sets.get(usize::from(first)) {
+            set.look_around(&self.places, &mut self.slots, moves, children);
         }
-    }
-
-    /// Looks up in all sets but one a board that a move leads to, as long as none cuts it off, where so many moves remain.
-    #[inline]
-    pub(crate) fn look_further(
-        &mut self,
-        moved: &Moved<'_>,
-        at: usize,
-        remaining: u16,
-        children: &mut Children,
-    )
-        requires { at < 4 }
-    {
-        let child = &mut children.boards[at];
-        let first = child.leaf.set;
-        for (set, looks) in self.sets.iter().zip(&mut children.looked) {
-            if set.number == first {
-                continue;
-            }
-            let leaf = set.look(&self.places, &mut self.slots, moved, &mut looks[at]);
-            if leaf.raised > child.leaf.raised {
-                child.leaf = leaf;
-            }
-            if leaf.raised >= remaining {
-                break;
+        for set in &self.sets {
+            if set.number != first {
+                set.look_around(&self.places, &mut self.slots, moves, children);
             }
         }
     }
 
     /// Looks up in all sets the board that a move leads to.
     pub(crate) fn look(&mut self, moved: &Moved<'_>) -> Entries {
-        let mut board = Child::none();
-        board.tile = moved.tile();
-        board.blank = moved.way.to;
         let mut looked = [Looked::none(); MOST_SETS];
         for (set, looked) in self.sets.iter().zip(&mut looked) {
-            let _ = set.look(&self.places, &mut self.slots, moved, looked);
+            set.step(&self.places, moved, looked);
+            let _ = set.read(&self.places, &mut self.slots, moved, looked);
         }
-        Entries { board, looked }
+        Entries { looked }
     }
 
     /// Goes to one of some boards that were looked up in all sets, and leaves in its place what there was.
@@ -184,7 +144,7 @@ impl<'a> Sums<'a> {
     /// What the first set says that says the most of a board whose solutions have this parity.
     #[inline]
     pub(crate) fn best_leaf(&self, parity: u16) -> Leaf {
-        let mut best = Leaf::none();
+        let mut best = Leaf::none(0);
         for set in &self.sets {
             let leaf = Leaf::new(set.number, set.sum, parity);
             if leaf.raised > best.raised {
@@ -206,22 +166,82 @@ impl Set {
         }
     }
 
-    /// Looks up the board that a move leads to. Answers what the set says of it.
-    #[inline]
-    fn look(
+    /// Looks up those of the boards that moves lead to that no set before cuts off. All tiles move before the first entry is
+    /// read, so that the reads, which miss the caches, wait side by side.
+    #[inline(always)]
+    fn look_around(
+        &self,
+        places: &[Place<'_>],
+        slots: &mut Slots,
+        moves: &Moves<'_>,
+        children: &mut Children,
+    ) {
+        self.step_all(places, moves, children);
+        self.read_all(places, slots, moves, children);
+    }
+
+    /// Moves a tile to each of the boards.
+    #[inline(always)]
+    fn step_all(&self, places: &[Place<'_>], moves: &Moves<'_>, children: &mut Children) {
+        let looks = &mut children.looked[usize::from(self.number) % MOST_SETS];
+        for at in 0..4 {
+            let Some(way) = moves.ways.get(at) else {
+                break;
+            };
+            if children.leaves[at].raised < moves.remaining {
+                self.step(places, &moves.along(way), &mut looks[at]);
+            }
+        }
+    }
+
+    /// Reads what there is of each of the boards.
+    #[inline(always)]
+    fn read_all(
+        &self,
+        places: &[Place<'_>],
+        slots: &mut Slots,
+        moves: &Moves<'_>,
+        children: &mut Children,
+    ) {
+        let looks = &mut children.looked[usize::from(self.number) % MOST_SETS];
+        for at in 0..4 {
+            let Some(way) = moves.ways.get(at) else {
+                break;
+            };
+            if children.leaves[at].raised < moves.remaining {
+                let leaf = self.read(places, slots, &moves.along(way), &mut looks[at]);
+                if leaf.raised > children.leaves[at].raised {
+                    children.leaves[at] = leaf;
+                }
+            }
+        }
+    }
+
+    /// Notes where the tiles are on the board that a move leads to.
+    #[inline(always)]
+    fn step(&self, places: &[Place<'_>], moved: &Moved<'_>, looked: &mut Looked) {
+        let mover = &self.movers[place_of(moved.tile())];
+        looked.place = mover.place;
+        looked.kept = mover.kept;
+        if let Some(place) = places.get(usize::from(mover.place)) {
+            looked.stand = place.after(mover, moved);
+        }
+    }
+
+    /// Reads the entry of the board that a move leads to. Answers what the set says of it.
+    #[inline(always)]
+    fn read(
         &self,
         places: &[Place<'_>],
         slots: &mut Slots,
         moved: &Moved<'_>,
         looked: &mut Looked,
     ) -> Leaf {
-        let mover = &self.movers[place_of(moved.tile())];
         let mut sum = self.sum;
-        looked.place = mover.kept;
-        if let Some(place) = places.get(usize::from(mover.place)) {
-            let stand = place.after(slots, mover, moved);
-            sum = sum.with(stand.entry, place.stand.entry);
-            looked.stand = stand;
+        if let Some(place) = places.get(usize::from(looked.place)) {
+            let entry = place.entry_after(slots, &looked.stand, moved);
+            looked.stand.entry = entry;
+            sum = sum.with(entry, place.stand.entry);
         }
         looked.sum = sum;
         Leaf::new(self.number, sum, moved.parity)
@@ -231,7 +251,7 @@ impl Set {
     #[inline]
     fn exchange(&mut self, places: &mut [Place<'_>], looked: &mut Looked) {
         mem::swap(&mut self.sum, &mut looked.sum);
-        if let Some(place) = places.get_mut(usize::from(looked.place)) {
+        if let Some(place) = places.get_mut(usize::from(looked.kept)) {
             mem::swap(&mut place.stand, &mut looked.stand);
         }
     }
@@ -245,6 +265,8 @@ pub(crate) struct Moves<'b> {
     pub(crate) numbers: &'b [u8; CELLS],
     /// The parity of the number of moves of each solution after one move: 0 or 1.
     pub(crate) parity: u16,
+    /// How many moves from the boards that they lead to are to be refuted.
+    pub(crate) remaining: u16,
 }
 
 impl<'b> Moves<'b> {
