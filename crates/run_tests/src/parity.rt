@@ -5,7 +5,9 @@ use byte_io::memory::MemShelf;
 use samples::files::{TILES_12, TILES_123, with_byte};
 use samples::logs::{BRANCHES, BY_PARITY, LEAF};
 use std::alloc::{AllocError, Global};
+use std::sync::Wait;
 use std::test::Fail;
+use std::thread::Threads;
 
 /// The files of all runs here, by their names.
 fn shelf(alloc: Global) -> Result<MemShelf, AllocError> {
@@ -57,13 +59,19 @@ fn digest_of(name: &str) -> &'static str {
 const NO_PROOF: &str = "refused L6 at lemma 0";
 
 /// A run of these words, the command, its board, its sets, a log and a table, says this line below the digests, with this status.
-fn expect(rt: &HostRuntime, words: &[&str; 5], line: &str, status: u8) -> Result<(), Fail> {
-    let mut shelf = shelf(rt.alloc())?;
+fn expect<H: Threads + Wait + Sync>(
+    rt: &H,
+    alloc: Global,
+    words: &[&str; 5],
+    line: &str,
+    status: u8,
+) -> Result<(), Fail> {
+    let mut shelf = shelf(alloc)?;
     let mut reader = b"".as_slice();
-    let ended = ran(rt, rt.alloc(), words, &mut shelf, &mut reader)?;
+    let ended = ran(rt, alloc, words, &mut shelf, &mut reader)?;
     let of_table = digest_of(words[4]);
     let of_log = digest_of(words[3]);
-    let want = format!(in rt.alloc(); "sha256 {of_table}\nsha256 {of_log}\n{line}\n")?;
+    let want = format!(in alloc; "sha256 {of_table}\nsha256 {of_log}\n{line}\n")?;
     ended.expect(want.as_bytes(), status)
 }
 
@@ -82,8 +90,8 @@ fn leaves_by_parity_are_of_version_2(rt: HostRuntime) -> Result<(), Fail> {
     ];
     for (log, table, line, status) in bounds {
         let words = ["bound", "board", "one_set", log, table];
-        expect(&rt, &words, line, status)?;
+        expect(&rt, rt.alloc(), &words, line, status)?;
     }
     let words = ["optimal", "six_moves", "one_set", "by_parity", "f12"];
-    expect(&rt, &words, "optimal 6", 0)
+    expect(&rt, rt.alloc(), &words, "optimal 6", 0)
 }
