@@ -29,6 +29,7 @@ by_command P all on_board = all.0
 by_command P all on_puzzle = all.1
 by_command P all on_search = all.2
 
+-- its word
 abbrev pub name_of : LogCommand → Text
 name_of on_board = codes "bound"
 name_of on_puzzle = codes "optimal"

@@ -38,6 +38,7 @@ pub data Word : Type 0 where
   flag : Text → Word
   plain : (word : Text) → IsPlain word → Word
 
+-- its text
 abbrev pub text_of : Word → Text
 text_of (flag word) = word
 text_of (plain word is) = word
@@ -47,6 +48,7 @@ abbrev pub plains : (words : List Text) → AllByRecursion IsPlain words → Lis
 plains [] all = []
 plains (word ∷ rest) all = plain word all.0 ∷ plains rest all.1
 
+-- their texts are the words
 pub map-plains : (words : List Text) (all : AllByRecursion IsPlain words) → map text_of (plains words all) ≡ words
 map-plains [] all = refl
 map-plains (word ∷ rest) all = ap (λ (ws : List Text). word ∷ ws) (map-plains rest all.1)
@@ -62,6 +64,7 @@ plain_turn s false None w word =
     (after_step s.rules word w met.0 met.1, step_fault s w.position met.0 met.1)
 plain_turn s trailing stopped w word = turn_at s w word
 
+-- the same of a word
 abbrev pub turn_of : Shape → Walk → Word → Walk × Kinds
 turn_of s w (flag word) = turn_at s w word
 turn_of s w (plain word is) = plain_turn s w.is_trailing w.stopped w word
@@ -85,6 +88,7 @@ unfolding walk_fault
 words_read s w [] = refl
 words_read s w (word ∷ rest) = grind (arith, turn_is s w word, words_read s (turn_of s w word).0 rest)
 
+-- words behind words
 pub turns-append : (s : Shape) (w : Walk) (xs ys : List Word)
     → turns s w (xs ++ ys) ≡ ((turns s (turns s w xs).0 ys).0, or_else (turns s w xs).1 (turns s (turns s w xs).0 ys).1)
 turns-append s w [] ys = refl
@@ -155,6 +159,7 @@ pub record Numbers : Type 0 where
   pub taken : (number : Text) → IsPlain number → takes number ≡ writes number
   pub read : (number : Text) → IsPlain number → writes number ≡ true → reads number ≡ number_of number
 
+-- `clap` takes a text without `-` as a number from low to high exactly if it writes one
 pub signed_taken : (low high : ℕ) → high < 2 ^ 63 → (number : Text) → IsPlain number → accepts false (parser.Signed (pos low) (pos high)) number ≡ writes_within low high number
 signed_taken low high fits [] no_dash = refl
 signed_taken low high fits (d ∷ number) no_dash = rw (ne_eqb d 45 no_dash) (grind (arith, nat_tests))
