@@ -2,9 +2,7 @@
 
 use crate::leaves::{Leaf, Sum};
 use crate::places::Stand;
-
-/// The most sets of a bundle.
-pub(crate) const MOST_SETS: usize = 16;
+use crate::set_indices::{MOST_SETS, SetIndex};
 
 /// The number of no place: there are fewer.
 pub(crate) const NO_PLACE: u8 = u8::MAX;
@@ -46,7 +44,7 @@ impl Children {
     /// No boards.
     pub(crate) fn none() -> Children {
         Children {
-            leaves: [Leaf::none(0); 4],
+            leaves: [Leaf::none(SetIndex::first()); 4],
             looked: [[Looked::none(); 4]; MOST_SETS],
         }
     }

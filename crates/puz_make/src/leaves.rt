@@ -1,5 +1,6 @@
 //! What sets say of a board: sums of entries, and the leaves of trees.
 
+use crate::set_indices::SetIndex;
 use tab_file::NO_WAY_HOME;
 
 /// The sum of a set that says that there is no way home: more than ever remains.
@@ -40,7 +41,7 @@ impl Sum {
 /// What a set says of a board.
 #[derive(Clone, Copy)]
 pub(crate) struct Leaf {
-    pub(crate) set: u8,
+    pub(crate) set: SetIndex,
     /// A number of moves that no solution is below.
     sum: u16,
     /// The least number from the sum on that has the parity of all solutions.
@@ -50,7 +51,7 @@ pub(crate) struct Leaf {
 impl Leaf {
     /// One by which a set says nothing.
     #[inline]
-    pub(crate) fn none(set: u8) -> Leaf {
+    pub(crate) fn none(set: SetIndex) -> Leaf {
         Leaf {
             set,
             sum: 0,
@@ -60,7 +61,7 @@ impl Leaf {
 
     /// What a set says by its sum of a board whose solutions have this parity: 0 or 1.
     #[inline]
-    pub(crate) fn new(set: u8, sum: Sum, parity: u16) -> Leaf {
+    pub(crate) fn new(set: SetIndex, sum: Sum, parity: u16) -> Leaf {
         let odd = (sum.moves ^ parity) & 1;
         Leaf {
             set,
@@ -82,6 +83,6 @@ impl Leaf {
         } else {
             LEAF
         };
-        first.saturating_add(self.set)
+        first + self.set.number()
     }
 }

@@ -16,6 +16,7 @@ mod positions;
 mod refuting;
 mod repeats;
 mod searches;
+mod set_indices;
 mod slots;
 mod solvable;
 mod sums;

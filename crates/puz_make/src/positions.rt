@@ -7,6 +7,7 @@ use crate::cells::{CELLS, place_of};
 use crate::children::{Children, Entries};
 use crate::leaves::Leaf;
 use crate::places::Moved;
+use crate::set_indices::SetIndex;
 use crate::sums::{Moves, Sums};
 use crate::ways::{ListNumber, Way, Ways};
 use puz_board::{Board, MOVES, Side, step};
@@ -85,7 +86,7 @@ impl<'a> Position<'a> {
     pub(crate) fn look_around(
         &mut self,
         list: ListNumber,
-        first: u8,
+        first: SetIndex,
         remaining: u16,
         children: &mut Children,
     ) -> usize {
@@ -173,7 +174,7 @@ pub(crate) fn numbers_of(board: &Board) -> [u8; CELLS]
 pub(crate) fn steps_of(side: Side) -> [[u8; 4]; CELLS] {
     let mut steps = [[NOWHERE; 4]; CELLS];
     for cell in 0..side.cells() {
-        steps[usize::from(cell) % CELLS] = steps_from(side, cell);
+        steps[usize::from(cell)] = steps_from(side, cell);
     }
     steps
 }

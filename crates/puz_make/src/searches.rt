@@ -12,6 +12,7 @@ use crate::leaves::Leaf;
 use crate::limits::Limits;
 use crate::logs::log_of;
 use crate::positions::Position;
+use crate::set_indices::SetIndex;
 use crate::solvable::is_solvable;
 use crate::trees::Refutation;
 use crate::ways::ListNumber;
@@ -220,7 +221,7 @@ impl<'a> Search<'a> {
         &mut self,
         levels: &mut [Children],
         list: ListNumber,
-        first: u8,
+        first: SetIndex,
         remaining: u16,
     ) -> Result<bool, MakeFault>
         requires { 0 < remaining }

@@ -4,9 +4,10 @@
 ghost use Rattle.std.specs.Prelude.{◌<◌, length};
 
 use crate::cells::{CELLS, place_of};
-use crate::children::{Children, Entries, Looked, MOST_SETS, NO_PLACE};
+use crate::children::{Children, Entries, Looked, NO_PLACE};
 use crate::leaves::{Leaf, Sum};
 use crate::places::{Moved, Mover, Place, Weights};
+use crate::set_indices::{MOST_SETS, SetIndex};
 use crate::slots::Slots;
 use crate::ways::{Way, seen};
 use pat_place::Pattern;
@@ -19,7 +20,7 @@ use tab_file::NO_WAY_HOME;
 /// A set of members.
 #[derive(Drop)]
 struct Set {
-    number: u8,
+    number: SetIndex,
     /// The sum of the entries of its members.
     sum: Sum,
     /// How each tile moves in the place of the member that has it.
@@ -63,7 +64,7 @@ impl<'a> Sums<'a> {
         requires { number < length bundle.now.sets }
     {
         let mut set = Set {
-            number,
+            number: SetIndex::of(bundle, number),
             sum: Sum::none(),
             movers: [Mover::none(); CELLS],
         };
@@ -95,9 +96,14 @@ impl<'a> Sums<'a> {
 
     /// Looks up the boards that moves lead to in one set first, and then in each other one those that no set before cuts off.
     #[inline]
-    pub(crate) fn look_around(&mut self, first: u8, moves: &Moves<'_>, children: &mut Children) {
+    pub(crate) fn look_around(
+        &mut self,
+        first: SetIndex,
+        moves: &Moves<'_>,
+        children: &mut Children,
+    ) {
         children.leaves = [Leaf::none(first); 4];
-        if let Some(set) = self.sets.get(usize::from(first)) {
+        if let Some(set) = self.sets.get(first.place()) {
             set.look_around(&self.places, &mut self.slots, moves, children);
         }
         for set in &self.sets {
@@ -144,7 +150,7 @@ impl<'a> Sums<'a> {
     /// What the first set says that says the most of a board whose solutions have this parity.
     #[inline]
     pub(crate) fn best_leaf(&self, parity: u16) -> Leaf {
-        let mut best = Leaf::none(0);
+        let mut best = Leaf::none(SetIndex::first());
         for set in &self.sets {
             let leaf = Leaf::new(set.number, set.sum, parity);
             if leaf.raised > best.raised {
@@ -176,43 +182,38 @@ impl Set {
         moves: &Moves<'_>,
         children: &mut Children,
     ) {
-        self.step_all(places, moves, children);
-        self.read_all(places, slots, moves, children);
-    }
-
-    /// Moves a tile to each of the boards.
-    #[inline(always)]
-    fn step_all(&self, places: &[Place<'_>], moves: &Moves<'_>, children: &mut Children) {
-        let looks = &mut children.looked[usize::from(self.number) % MOST_SETS];
-        for at in 0..4 {
-            let Some(way) = moves.ways.get(at) else {
-                break;
-            };
-            if children.leaves[at].raised < moves.remaining {
-                self.step(places, &moves.along(way), &mut looks[at]);
+        self.on_each(
+            moves,
+            children,
+            |moved, _, looked| self.step(places, moved, looked),
+        );
+        self.on_each(moves, children, |moved, leaf, looked| {
+            let said = self.read(places, slots, moved, looked);
+            if said.raised > leaf.raised {
+                *leaf = said;
             }
-        }
+        });
     }
 
-    /// Reads what there is of each of the boards.
+    /// Calls a function on each board that moves lead to and no set before cuts off, with what sets say of it: the leaf that says
+    /// the most, and what this set says.
     #[inline(always)]
-    fn read_all(
+    fn on_each<F: FnMut(&Moved<'_>, &mut Leaf, &mut Looked)>(
         &self,
-        places: &[Place<'_>],
-        slots: &mut Slots,
         moves: &Moves<'_>,
         children: &mut Children,
-    ) {
-        let looks = &mut children.looked[usize::from(self.number) % MOST_SETS];
+        mut call: F,
+    )
+        requires { F.IsAlwaysCallable call }
+    {
+        let leaves = &mut children.leaves;
+        let looked = &mut children.looked[self.number.place()];
         for at in 0..4 {
             let Some(way) = moves.ways.get(at) else {
                 break;
             };
-            if children.leaves[at].raised < moves.remaining {
-                let leaf = self.read(places, slots, &moves.along(way), &mut looks[at]);
-                if leaf.raised > children.leaves[at].raised {
-                    children.leaves[at] = leaf;
-                }
+            if leaves[at].raised < moves.remaining {
+                call(&moves.along(way), &mut leaves[at], &mut looked[at]);
             }
         }
     }

@@ -68,7 +68,7 @@ impl WrittenTree {
     #[inline]
     pub(crate) fn put_leaf(&mut self, leaf: &Leaf, remaining: u16) {
         let kind = u64::from(leaf.is_by_parity(remaining)) << 1 | 1;
-        let code = u64::from(leaf.set) << DIGITS_OF_KIND | kind;
+        let code = u64::from(leaf.set.number()) << DIGITS_OF_KIND | kind;
         self.put(code, self.leaf_digits);
     }
 
