@@ -167,11 +167,12 @@ module _ (before after : Files) (input start lines : Bytes) (failed failed_after
       known Yes e = omega arith
       known _ e = omega arith
 
--- so of a run on words
-pub headline_of : (words : List Bytes) (old new : World) (old_err new_err : Option Bytes) (number : ℕ)
-    → RunsOn words old new old_err new_err number → SaysHeadline words old new number
-headline_of words old new old_err new_err number runs before after input start lines parses had has left stood wrote =
+-- so of a run on words, and on the same words
+pub headline_of : (words other : List Bytes) (old new : World) (old_err new_err : Option Bytes) (number : ℕ) → other ≡ words
+    → RunsOn other old new old_err new_err number → SaysHeadline words old new number
+headline_of words other old new old_err new_err number same runs before after input start lines parses had has left stood wrote =
+    let ends = rw same at (runs.ends (rw same parses)) in
     headline_told before after input start lines old.failed new.failed new.reader (asked_of words) number
     (subst (λ (w : World × World). IsNumberOfStatus (Ends (plan_of (asked_of words)) w.0 w.1) number)
     (λ i. (world (had i) old.failed (left i) (stood i), world (has i) new.failed new.reader (wrote i)))
-    (runs.ends parses))
+    ends)

@@ -1,11 +1,17 @@
+use Rattle.std.proofs.Common.{ap, map}
+use Rattle.std.specs.String.{string_bytes}
 use Rattle.pdb_program.proofs.HeadlineLemmas.{headline_of}
 use Rattle.pdb_program.proofs.ProgramLemmas.{runs_on}
 use Rattle.pdb_program.proofs.programs.run_on.Goals as goal
+
+-- The headline is answered first and by itself, so that a wrong body is refused by it.
+pub returns-clause-headline : goal.returns-clause-headline
+returns-clause-headline g c =
+    let said = c.answer.ensures in
+    let same = ap (map string_bytes) c.as_slice.ensures.value in
+    headline_of _ _ _ _ _ _ _ same (runs_on _ _ _ _ _ c.code.result c.answer.result c.code.ensures said.ends said.refuses said.quiet said.same)
 
 pub returns-clause-runs : goal.returns-clause-runs
 returns-clause-runs g c =
     let said = c.answer.ensures in
     rw (← c.as_slice.ensures.value) (runs_on _ _ _ _ _ c.code.result c.answer.result c.code.ensures said.ends said.refuses said.quiet said.same)
-
-pub returns-clause-headline : goal.returns-clause-headline
-returns-clause-headline g c = headline_of _ _ _ _ _ _ (returns-clause-runs g c)
