@@ -109,8 +109,9 @@ fn build_table<H: Threads + Wait + Sync, G: Gate + Sync>(
     let file = match build(workers.rt, workers.alloc, &pattern) {
         Ok(file) => file,
         Err(MakeFault::Memory) => return Err(Failure::Memory),
-        // K3 alone is left: no other refusal comes of building.
-        Err(_) => return Err(Failure::Refused(BuildRefusal::K3)),
+        Err(MakeFault::K3) => return Err(Failure::Refused(BuildRefusal::K3)),
+        // These come of searching alone.
+        Err(MakeFault::K1 | MakeFault::K2) => unreachable!(),
     };
     let table = file.as_slice();
     let (digest, answer) = verify_beside(&Inputs::Table { table }, workers);

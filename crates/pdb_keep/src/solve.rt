@@ -353,8 +353,9 @@ fn find(
         Ok(found) => Ok(found),
         Err(MakeFault::K1) => Err(Failure::Refused(GivenUp::K1)),
         Err(MakeFault::Memory) => Err(Failure::Memory),
-        // K2 alone is left: K3 never comes of searching.
-        Err(_) => Err(Failure::Refused(GivenUp::K2)),
+        Err(MakeFault::K2) => Err(Failure::Refused(GivenUp::K2)),
+        // This comes of building alone.
+        Err(MakeFault::K3) => unreachable!(),
     }
 }
 

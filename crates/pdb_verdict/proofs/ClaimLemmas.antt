@@ -8,9 +8,9 @@ use Rattle.pdb_verdict.specs.Bound.{IsBoundFor, IsBoundResult, IsFoundForText, T
 use Rattle.pdb_verdict.specs.Bundles.{TakesMemoryForTables}
 use Rattle.pdb_verdict.specs.Inputs.{LogFiles, log_claim}
 use Rattle.pdb_verdict.specs.Optimal.{IsFoundForPuzzle, IsLeastCount, IsOptimumResult, TakesMemoryForOptimum}
-use Rattle.pdb_verdict.specs.Refusals.{IsFoundBy, fault_of_bound, fault_of_optimum, or_failure}
+use Rattle.pdb_verdict.specs.Refusals.{IsFoundBy, fault_of_bound, fault_of_optimum}
 use Rattle.pdb_verdict.specs.Replay.{solved_parts}
-use Rattle.pdb_verdict.specs.Steps.{Begins, IsFoundFor, answer_with, as_bound, as_optimum, claim_with}
+use Rattle.pdb_verdict.specs.Steps.{Begins, IsFoundFor, answer_with, as_bound, as_optimum, claim_with, or_failure}
 use Rattle.pdb_verdict.specs.Verdicts.{IsFoundOf}
 use Rattle.pdb_verdict.specs.declared.refusals.BoundRefusal.{BoundRefusal}
 use Rattle.pdb_verdict.specs.declared.refusals.Failure.{Failure}

@@ -1,6 +1,7 @@
 -- What is found, refused or told, and steps behind one another.
 use Rattle.std.proofs.Common.{◌≡◌, ◌∙◌, ◌↔◌, MatchResult, Result, Ok, Err, ap, refl, sym}
-use Rattle.pdb_verdict.specs.Refusals.{IsFoundBy, IsTold, or_failure, or_memory, told_as}
+use Rattle.pdb_verdict.specs.Refusals.{IsFoundBy, IsTold, or_memory, told_as}
+use Rattle.pdb_verdict.specs.Steps.{or_failure}
 use Rattle.pdb_verdict.specs.declared.refusals.Failure.{Failure}
 use Rattle.pdb_verdict.specs.declared.verdicts.Fault.{Fault}
 use Rattle.pdb_verdict.specs.declared.verdicts.Verdict.{Verdict}

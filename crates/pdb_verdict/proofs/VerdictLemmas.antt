@@ -11,7 +11,8 @@ use Rattle.pdb_verdict.specs.Inputs.{Given, bytes_of, log_claim, puzzle_text, ta
 use Rattle.pdb_verdict.specs.Laws.{IsToldYes}
 use Rattle.pdb_verdict.specs.Lines.{reply_to}
 use Rattle.pdb_verdict.specs.Optimal.{IsOptimumResult}
-use Rattle.pdb_verdict.specs.Refusals.{fault_of_bound, fault_of_optimum, fault_of_replay, told_as, with_memory}
+use Rattle.pdb_verdict.specs.Refusals.{fault_of_bound, fault_of_optimum, fault_of_replay, told_as}
+use Rattle.pdb_verdict.specs.Steps.{with_memory}
 use Rattle.pdb_verdict.specs.Replay.{IsReplayResult}
 use Rattle.pdb_verdict.specs.Table.{IsTableResult, exact_verdict}
 use Rattle.pdb_verdict.specs.Verdicts.{HoldsOfSolutions, IsAnswerTo, IsFoundOf, IsResult, IsTrueOf, LacksMemory, TellsResult}

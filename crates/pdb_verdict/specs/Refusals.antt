@@ -98,15 +98,3 @@ IsCauseBy IsRefused TakesMemory Memory = TakesMemory
 abbrev pub or_memory : {A R : Type 0} → Result A R → Result A (Failure R)
 or_memory (Ok found) = Ok found
 or_memory (Err refused) = Err (Refused refused)
-
--- a verdict or a fault, of which want of memory is one
-abbrev pub with_memory : Result Verdict (Failure Fault) → Result Verdict Fault
-with_memory (Ok verdict) = Ok verdict
-with_memory (Err (Refused refused)) = Err refused
-with_memory (Err Memory) = Err fault.Memory
-
--- a step behind another, whose want of memory stays
-abbrev pub or_failure : {A B R Q : Type 0} → (Result A R → Result B Q) → Result A (Failure R) → Result B (Failure Q)
-or_failure step (Ok found) = or_memory (step (Ok found))
-or_failure step (Err (Refused refused)) = or_memory (step (Err refused))
-or_failure step (Err Memory) = Err Memory

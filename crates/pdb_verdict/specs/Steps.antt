@@ -21,7 +21,7 @@ use Rattle.pdb_run.specs.Answers.{all_bytes}
 use Rattle.pdb_verdict.specs.Bound.{IsBoundFor}
 use Rattle.pdb_verdict.specs.Bundles.{AreExactFiles, IsFirstRefused, TakesMemoryForTables, part_for, parts_for}
 use Rattle.pdb_verdict.specs.Inputs.{LogFiles, log_files}
-use Rattle.pdb_verdict.specs.Refusals.{IsCauseBy, IsFoundBy, fault_of_bound, fault_of_optimum, or_failure, told_as}
+use Rattle.pdb_verdict.specs.Refusals.{IsCauseBy, IsFoundBy, fault_of_bound, fault_of_optimum, or_memory, told_as}
 use Rattle.pdb_verdict.specs.Replay.{solved_parts}
 use Rattle.pdb_verdict.specs.declared.evidence.Evidence.{Evidence}
 use Rattle.pdb_verdict.specs.declared.log_inputs.LogInputs.{LogInputs}
@@ -39,6 +39,20 @@ use Rattle.pdb_verdict.specs.declared.verdicts.Fault.{Fault}
 use Rattle.pdb_verdict.specs.declared.verdicts.Fault.TheVariants as fault
 use Rattle.pdb_verdict.specs.declared.verdicts.Verdict.{Verdict}
 use Rattle.pdb_verdict.specs.declared.verdicts.Verdict.TheVariants as verdict
+
+-- ---- want of memory
+
+-- a verdict or a fault, of which want of memory is one
+abbrev pub with_memory : Result Verdict (Failure Fault) → Result Verdict Fault
+with_memory (Ok verdict) = Ok verdict
+with_memory (Err (Refused refused)) = Err refused
+with_memory (Err Memory) = Err fault.Memory
+
+-- a step behind another, whose want of memory stays
+abbrev pub or_failure : {A B R Q : Type 0} → (Result A R → Result B Q) → Result A (Failure R) → Result B (Failure Q)
+or_failure step (Ok found) = or_memory (step (Ok found))
+or_failure step (Err (Refused refused)) = or_memory (step (Err refused))
+or_failure step (Err Memory) = Err Memory
 
 -- ---- tables
 

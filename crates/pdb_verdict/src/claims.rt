@@ -6,8 +6,8 @@ ghost use Rattle.pdb_verdict.specs.Bound.{IsBoundResult, TakesMemoryForBound};
 ghost use Rattle.pdb_verdict.specs.Bundles.{IsBundleOfFiles};
 ghost use Rattle.pdb_verdict.specs.Inputs.{log_files};
 ghost use Rattle.pdb_verdict.specs.Optimal.{IsOptimumResult, TakesMemoryForOptimum};
-ghost use Rattle.pdb_verdict.specs.Refusals.{IsFoundBy, fault_of_bound, fault_of_optimum, or_failure, told_as};
-ghost use Rattle.pdb_verdict.specs.Steps.{answer_with, as_bound, as_optimum, files_with};
+ghost use Rattle.pdb_verdict.specs.Refusals.{IsFoundBy, fault_of_bound, fault_of_optimum, told_as};
+ghost use Rattle.pdb_verdict.specs.Steps.{answer_with, as_bound, as_optimum, files_with, or_failure};
 ghost use Rattle.pdb_verdict.specs.declared.verdicts.Verdict.TheVariants as verdict;
 
 use crate::evidence::{Evidence, bound_for, bound_over, proved};

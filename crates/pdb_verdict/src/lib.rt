@@ -28,7 +28,7 @@ pub use folding::fold_bundle;
 pub use inputs::Inputs;
 pub use laws::{
     inputs_have_a_result, inputs_have_one_result, results_are_true_verdicts,
-    true_verdicts_hold_of_solutions,
+    tables_told_no_are_not_exact, told_yeses_are_true, true_verdicts_hold_of_solutions,
 };
 pub use limits::a_text;
 pub use lines::line_of;

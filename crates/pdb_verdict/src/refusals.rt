@@ -1,7 +1,8 @@
 //! Why each command refuses: a type for each, and the fault that each refusal is told as.
 
 ghost use Rattle.std.specs.Prelude.{◌≡◌, IfErr, IfOk};
-ghost use Rattle.pdb_verdict.specs.Refusals.{fault_of_bound, fault_of_build, fault_of_bundle, fault_of_optimum, fault_of_proof, fault_of_replay, fault_of_search, or_memory, with_memory};
+ghost use Rattle.pdb_verdict.specs.Refusals.{fault_of_bound, fault_of_build, fault_of_bundle, fault_of_optimum, fault_of_proof, fault_of_replay, fault_of_search, or_memory};
+ghost use Rattle.pdb_verdict.specs.Steps.{with_memory};
 ghost use Rattle.pdb_verdict.specs.declared.refusals.Failure.TheVariants.{Memory, Refused};
 ghost use Rattle.pdb_verdict.specs.declared.refusals.OptimumRefusal.TheVariants as optimum_refusal;
 
