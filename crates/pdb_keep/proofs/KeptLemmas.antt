@@ -56,6 +56,7 @@ module _ (side mask : ℕ) (out : Bytes) (old new : World) where
       exact_kept tells.build tells.is_build
       (subst (IsYes out old new) tells.told (answered.is_status, answered.files, answered.lines))
 
+-- so of each run of `make-table` that ends with a yes
 pub table_kept : KeptTablesAreExact
 table_kept side mask out old new ends =
     table_answered side mask out old new _ (IsAnswered-ends (make_table_plan side mask out) old new Yes ends (inl refl))
@@ -99,6 +100,7 @@ module _ (fold : Bool) (text sets out : Bytes) (tables : List Bytes) (old new : 
       found_kept is.0 is.1 is.2 (rw is.3 at answered.right.0) tells.outcome tells.is_outcome
       (subst (IsYes out old new) tells.told (answered.is_status, answered.files, answered.lines))
 
+-- so of each run of `solve` that ends with a yes
 pub log_kept : KeptLogsProveOptima
 log_kept fold text sets out tables old new ends =
     log_answered fold text sets out tables old new

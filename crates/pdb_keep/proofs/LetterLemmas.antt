@@ -30,6 +30,7 @@ told : (letters : Bytes) → (moves_line letters ≡ codes "moves" ++ told_moves
 told [] = (refl, refl, λ clean. clean)
 told (letter ∷ letters) = (refl, refl, λ clean. All-cons IsClean 32 (letter ∷ letters) refl clean)
 
+-- so the line is as it is told, and its moves solve what the moves solve
 pub told_solution : ToldMovesSolve
 told_solution b moves n solves =
     let is = told (letters_of moves) in

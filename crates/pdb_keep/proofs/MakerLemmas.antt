@@ -130,6 +130,7 @@ letters-append front rest = rw filter_map-append (map-append letter_of (moves_of
 
 module _ (moves front piece : Bytes) (i : ℕ) (low : i < length moves) (so_far : front ++ letters_of (drop i moves) ≡ letters_of moves)
     (is : piece ≡ letters_of (get_or moves i 0 ∷ [])) where
+  -- with the next piece the front goes one letter further
   pub letters-next : (front ++ piece) ++ letters_of (drop (i + 1) moves) ≡ letters_of moves
   letters-next =
       let rest = drop (i + 1) moves in

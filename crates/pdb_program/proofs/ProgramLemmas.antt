@@ -83,6 +83,7 @@ yes_keeps (solve board sets out tables workers fold budget) old new answered =
     log_answered fold board sets out tables old new answered
 yes_keeps _ old new answered = answered.files
 
+-- a run on words is what its steps make it
 pub runs_on : (words : List Bytes) (old new : World) (old_err new_err : Option Bytes) (number : ℕ) (status : Status) → number ≡ status_number status
     → (Parses words → Ends (plan_of (asked_of words)) old new status)
     → ((Parses words → ⊥) → Refuses words old.written new.written old_err new_err status)

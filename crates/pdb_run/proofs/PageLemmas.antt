@@ -80,8 +80,10 @@ module _ {W : Type 0} {contents : W → Option Bytes} {a b c : Page W} {v : Unit
         let front = rw (← take-map (λ v. v.items) i files) at p in
         rw (← split, flat_map-append) (adds_then front (adds_failed r _ is (rw at at q)) refl)
 
+-- what a step over bytes leaves
 pub ruleset byte_steps = (byte_next, byte_failed, get_or-map, length-map)
 
+-- what a step over files leaves
 pub ruleset file_steps = (common_steps, adds_then, adds_failed, file_failed)
 
 -- ---- pieces of text

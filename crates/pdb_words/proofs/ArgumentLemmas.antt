@@ -12,6 +12,7 @@ use Rattle.pdb_words.specs.Arguments.{HasArgument}
 second : (a b : Bool) → (a && b) ≡ true → b ≡ true
 second a b all = (both a b all).1
 
+-- a simple argument is its command's alone
 pub simple_is_local : (a : Arg) → (rule_of a).is_simple ≡ true → a.global ≡ false
 simple_is_local a simple = search (second, is_false) depth 14
 

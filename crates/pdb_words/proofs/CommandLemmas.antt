@@ -26,12 +26,15 @@ none_wrong a b none = grind arith
 pub mistaken : (words : List Text) (k : ErrorKind) (ks : Kinds) → faults_of words ≡ k ∷ ks → k ≢ kind.DisplayHelp → IsMistaken words
 mistaken words k ks is no_help = record { kind = k; among = rw is (inl refl); no_help = no_help }
 
+-- the program as `clap` builds it
 abbrev pub top : Shape
 top = (built command_line).top
 
+-- the names of its commands
 abbrev pub names : Names
 names = names_of (built command_line)
 
+-- the walk before the first word
 abbrev pub start : Walk
 start = walk_from nothing_held
 
@@ -88,6 +91,7 @@ begins_with_command (word ∷ rest) parses = elim (known_or_other word) [
 
 -- ---- another first word is a mistake
 
+-- a first word that is no flag, no command and not `help`
 pub other_command : (first : Text) (rest : List Text) → IsPlain first → (IsCommand first → ⊥) → first ≢ codes "help" → IsMistaken (first ∷ rest)
 unfolding walk_fault
 other_command first rest plain no_command no_help = elim (known_or_other first) [
@@ -120,9 +124,11 @@ module _ (name : Text) (is : IsCommand name) (words : List Text) where
       let e = is_entered name is in
       rw (e.passes, e.stops, stopped_fault top names start (name, []) words, ← walk_stopped top.rules names start name [] words, e.found)
 
+  -- `clap` finds the command, with the rows of the words behind its name
   pub met : subcommand_of command_line (name ∷ words) ≡ Some (name, rows_after (leaf name).rules [] words)
   met = let e = is_entered name is in rw (e.stops, ← walk_stopped top.rules names start name [] words, e.found, e.label)
 
+  -- what is asked for is what these rows ask for
   pub asked_behind : asked_of (name ∷ words) ≡ asked_by name (rows_after (leaf name).rules [] words)
   asked_behind = rw met refl
 
@@ -137,6 +143,7 @@ command_met [] begins = tt
 command_met (word ∷ rest) (inl command) = rw (met word command rest) command
 command_met (word ∷ rest) (inr dashes) = rw (dashes.0, dashes.1) tt
 
+-- the matches of words have a command of the program, or none
 pub command_found : (words : List Text) (r : Result ArgMatches Error) → FailsBy (faults_of words) r → IfOk r (λ m. subcommand_rows_of m ≡ subcommand_of command_line words)
     → IfOk r (λ m. HasCommand (subcommand_rows_of m))
 command_found words (Ok m) parses rows = rw rows (command_met words (begins_with_command words parses))

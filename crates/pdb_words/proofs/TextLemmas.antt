@@ -9,6 +9,7 @@ use Rattle.clap.specs.Lexer.{strip_byte}
 use Rattle.clap.specs.Walk.{Text, answers_to}
 use Rattle.pdb_words.specs.Commands.{IsOneOf, IsPlain}
 
+-- texts with the same bytes are the same
 pub same_text : (a b : Text) → bytes_eq a b ≡ true → a ≡ b
 same_text a b = (bytes_eq-Decides a b).0
 
@@ -23,11 +24,13 @@ pub named : (word : Text) (names : List Text) → IsOneOf names word ⊎ (find (
 named word [] = inr refl
 named word (name ∷ rest) = grind (arith, same_text name word, named word rest)
 
--- a text that doesn't begin with `-` is no flag, and not `--`
+-- a text that doesn't begin with `-` is no flag
 pub strip_dash : (text : Text) → IsPlain text → strip_byte 45 text ≡ None
 strip_dash text plain = grind (arith, nat_tests)
 
+-- a text that doesn't begin with `-` is not `--`
 pub not_dashes : (text : Text) → IsPlain text → bytes_eq text (45 ∷ 45 ∷ []) ≡ false
 not_dashes text plain = grind (arith, nat_tests)
 
+-- both, for a text that doesn't begin with `-`
 pub ruleset dashless = (strip_dash, not_dashes)

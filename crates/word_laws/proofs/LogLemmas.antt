@@ -189,9 +189,10 @@ names_log command = record {
   fold_twice = λ words. mistaken _ kind.ArgumentConflict [] (folded_twice command words) (λ e. cc);
 }
 
--- the same of a board, and of a puzzle
+-- the words of `bound`
 pub board_names : NamesLog (codes "bound") (log_check Bound)
 board_names = names_log on_board
 
+-- the words of `optimal`
 pub puzzle_names : NamesLog (codes "optimal") (log_check Optimum)
 puzzle_names = names_log on_puzzle

@@ -174,16 +174,19 @@ signed low high other fits = record {
   read = λ number no_dash writes. rw (strip_dash number no_dash, writes);
 }
 
--- numbers of workers, sides, tile masks and budgets
+-- numbers of workers
 abbrev pub workers : Numbers
 workers = signed 1 most_workers 1 (omega arith)
 
+-- numbers that may be meant for a side
 abbrev pub sides : Numbers
 sides = signed 0 most_side 0 (omega arith)
 
+-- numbers that may be meant for a tile mask
 abbrev pub masks : Numbers
 masks = signed 0 most_mask 0 (omega arith)
 
+-- budgets
 abbrev pub budgets : Numbers
 budgets = record {
   takes = accepts false (parser.Unsigned 1 most_budget);
