@@ -15,7 +15,7 @@ ghost use Rattle.log_check.specs.declared.faults.LogRefusal.{LogRefusal};
 ghost use Rattle.log_check.specs.declared.faults.LogRefusal.TheVariants.{Form};
 
 use crate::faults::{LogFault, LogRefusal};
-use crate::jobs::LogCheck;
+use crate::jobs::LogLemmas;
 use log_file::{LogView, ViewFault};
 use puz_board::Board;
 use set_sum::Bundle;
@@ -115,8 +115,8 @@ fn first_bad<R: Threads + Wait, G: Gate + Sync>(
     ensures { IfOk result (λ first.
         MatchOption first (AreGood bundle.now log.now) (IsFirstBadLemma bundle.now log.now)) }
 {
-    let check = LogCheck { log, bundle };
-    match run_jobs_by(&check, workers) {
+    let lemmas = LogLemmas { log, bundle };
+    match run_jobs_by(&lemmas, workers) {
         Ok(Some(number)) => Ok(Some(number as u32)),
         Ok(None) => Ok(None),
         Err(fault) => Err(fault),

@@ -4,6 +4,8 @@ ghost use Rattle.std.specs.Prelude.{◌≤◌, IfNone, IfSome};
 ghost use Rattle.set_sum.specs.Bundles.{most_sets};
 ghost use Rattle.log_check.specs.Nodes.{BeginsWith, BeginsWithNone};
 
+use log_file::tree_bytes::{BRANCH, CITATION, FIRST_LEAF, FIRST_PARITY_LEAF, PARITY_VERSION};
+
 /// A node of a tree.
 #[derive(Clone, Copy)]
 pub(crate) enum Node {
@@ -15,9 +17,6 @@ pub(crate) enum Node {
     Citation(u32),
 }
 
-/// The byte of a leaf by parity of set 0.
-const FIRST_BY_PARITY: u8 = 65;
-
 /// The node at the front of bytes of a log of this version, where there are so many sets, and the bytes behind it.
 pub(crate) fn first_node(bytes: &[u8], version: u8, sets: u8) -> Option<(Node, &[u8])>
     requires { sets ≤ most_sets }
@@ -25,19 +24,21 @@ pub(crate) fn first_node(bytes: &[u8], version: u8, sets: u8) -> Option<(Node, &
     ensures none { IfNone result (BeginsWithNone version sets bytes.now) }
 {
     match bytes {
-        [0, behind @ ..] => Some((Node::Branch, behind)),
-        [32, a, b, c, d, behind @ ..] => {
+        [BRANCH, behind @ ..] => Some((Node::Branch, behind)),
+        [CITATION, a, b, c, d, behind @ ..] => {
             let lemma = u32::from_be_bytes([*a, *b, *c, *d]);
             Some((Node::Citation(lemma), behind))
         }
-        [byte, behind @ ..] if *byte <= sets => {
-            let set = *byte - 1;
+        [byte, behind @ ..] if FIRST_LEAF <= *byte && *byte < FIRST_LEAF + sets => {
+            let set = *byte - FIRST_LEAF;
             let by_parity = false;
             Some((Node::Leaf { by_parity, set }, behind))
         }
         [byte, behind @ ..]
-            if version == 2 && FIRST_BY_PARITY <= *byte && *byte < FIRST_BY_PARITY + sets => {
-            let set = *byte - FIRST_BY_PARITY;
+            if version == PARITY_VERSION
+                && FIRST_PARITY_LEAF <= *byte
+                && *byte < FIRST_PARITY_LEAF + sets => {
+            let set = *byte - FIRST_PARITY_LEAF;
             let by_parity = true;
             Some((Node::Leaf { by_parity, set }, behind))
         }

@@ -21,7 +21,7 @@ pub const NEWEST_VERSION: u8 = 2;
 pub const MOST_BYTES: usize = 1 << 30;
 
 /// The most lemmas of a log.
-const MOST_LEMMAS: u32 = 1 << 20;
+pub const MOST_LEMMAS: u32 = 1 << 20;
 
 /// What a header says.
 #[derive(Clone, Copy)]

@@ -8,9 +8,10 @@ mod faults;
 mod fronts;
 mod headers;
 pub mod laws;
+pub mod tree_bytes;
 mod views;
 
 pub use faults::{FormFault, ViewFault};
 pub use fronts::BOUND_AND_LENGTH;
-pub use headers::{HEADER_LEN, MOST_BYTES, NEWEST_VERSION, SIGNATURE};
+pub use headers::{HEADER_LEN, MOST_BYTES, MOST_LEMMAS, NEWEST_VERSION, SIGNATURE};
 pub use views::{LemmaView, LogView};

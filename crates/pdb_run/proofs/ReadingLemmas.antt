@@ -9,7 +9,7 @@ use Rattle.pdb_run.specs.Inputs.{AreRead, IsRead, left, left_by_all, wanted_of}
 use Rattle.pdb_run.specs.Io.{HasRead, HasStopped, IsNotLoaded}
 use Rattle.pdb_run.specs.Runs.{World}
 use Rattle.pdb_run.specs.Steps.{IsNext}
-use Rattle.pdb_run.specs.declared.inputs.Input.{Input}
+use Rattle.pdb_run.specs.declared.commands.Input.{Input}
 
 -- inputs that were read, and one more behind them
 read_more : (files : Option Files) (reader : Option Bytes) (before : List Wanted)

@@ -4,7 +4,7 @@ use Rattle.byte_io.specs.Shelf.{Bytes, Files}
 use Rattle.byte_io.specs.declared.streams.ReadFault.{ReadFault}
 use Rattle.byte_io.specs.declared.streams.ReadFault.TheVariants.{F1, F2, Memory}
 use Rattle.pdb_run.specs.Commands.{Wanted}
-use Rattle.pdb_run.specs.declared.inputs.Input.{Input}
+use Rattle.pdb_run.specs.declared.commands.Input.{Input}
 
 -- ---- one input
 

@@ -1,11 +1,17 @@
-//! What a command is.
+//! What a command is, and the inputs that it wants.
 
 ghost use Rattle.std.specs.Prelude.{◌≡◌, ◌<◌, length, map, IfOk, OnErr};
 ghost use Rattle.pdb_run.specs.Commands.{Plan};
 ghost use Rattle.pdb_run.specs.Inputs.{wanted_of};
 
-use crate::inputs::Input;
 use std::alloc::{AllocError, Global};
+
+/// An input: its name, or none for the reader, and the most bytes that it may have.
+#[derive(Clone, Copy)]
+pub struct Input<'a> {
+    pub name: Option<&'a str>,
+    pub limit: u64,
+}
 
 /// A command, with all that its words say: what it wants read, and what it may answer on what was read.
 ///

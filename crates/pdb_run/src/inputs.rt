@@ -6,16 +6,10 @@ ghost use Rattle.pdb_run.specs.Inputs.{wanted_of};
 ghost use Rattle.pdb_run.specs.Io.{HasRead, HasStopped, IsNotLoaded};
 ghost use Rattle.pdb_run.specs.Steps.{IsNext};
 
+use crate::commands::Input;
 use crate::io::Io;
 use byte_io::streams::ReadFault;
 use std::alloc::Global;
-
-/// An input: its name, or none for the reader, and the most bytes that it may have.
-#[derive(Clone, Copy)]
-pub struct Input<'a> {
-    pub name: Option<&'a str>,
-    pub limit: u64,
-}
 
 /// The first input that was not read.
 #[derive(Clone, Copy)]

@@ -8,7 +8,7 @@ ghost use Rattle.pdb_run.specs.Runs.{World};
 ghost use Rattle.pdb_run.specs.Writing.{named_line, shown_byte};
 
 use crate::answers::Answer;
-use crate::inputs::Input;
+use crate::commands::Input;
 use crate::writing::{put_named, say};
 use byte_io::shelf::{KeepFault, Shelf};
 use byte_io::streams::{ReadFault, WriteFault, put_text, read_all};

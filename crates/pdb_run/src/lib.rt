@@ -12,9 +12,9 @@ mod statuses;
 mod writing;
 
 pub use answers::{Answer, Digested, LINES_LEN, Lines, lines};
-pub use commands::Command;
+pub use commands::{Command, Input};
 pub use digests::{DIGEST_LEN, DIGESTS_LEN, Digests, FILES_BESIDE, beside, with_digest};
-pub use inputs::{Input, Unread, load_all};
+pub use inputs::{Unread, load_all};
 pub use io::{BorrowedIo, Io};
 pub use runs::{
     NO_MEMORY, conclude, keep_and_conclude, read_inputs, read_inputs_and_try, say_no_memory,

@@ -10,8 +10,8 @@ ghost use Rattle.pdb_run.specs.Steps.{kept_of};
 ghost use Rattle.pdb_run.specs.Writing.{memory_line, named_line, shown, shown_byte};
 
 use crate::answers::Answer;
-use crate::commands::Command;
-use crate::inputs::{Input, Unread, load_all};
+use crate::commands::{Command, Input};
+use crate::inputs::{Unread, load_all};
 use crate::io::Io;
 use crate::statuses::Status;
 use byte_io::shelf::KeepFault;

@@ -33,7 +33,7 @@ pub const MOST_MEMBERS: usize = 2 * MOST_TABLES;
 pub(crate) const MOST_CELLS: usize = 25;
 
 /// The most sets of a bundle.
-pub(crate) const MOST_SETS: usize = 16;
+pub const MOST_SETS: usize = 16;
 
 /// The members of a set, each before the next.
 pub(crate) type Set = ArrayVec<Member, MOST_MEMBERS>;

@@ -1,16 +1,15 @@
 //! What members are known to say of a board of a walk.
 
 ghost use Rattle.std.specs.Prelude.{◌≡◌, ℕ, ◌<◌, ◌≤◌, length};
+ghost use Rattle.tab_file.specs.EntryBytes.{greatest_count};
 ghost use Rattle.tab_rule.specs.declared.tables.Count.TheVariants.{Finite};
 ghost use Rattle.set_sum.specs.Noting.{IsJoined, IsNoted};
 ghost use Rattle.set_sum.specs.Known.{said_by};
 
 use crate::bundles::MOST_MEMBERS;
 use puz_board::masks::{first_of, with, without};
+use tab_file::NO_WAY_HOME;
 use tab_rule::Count;
-
-/// The entry that stands for `Never`.
-const NEVER: u8 = 255;
 
 /// What members are known to say of a board. Each member has a place.
 #[derive(Clone, Copy)]
@@ -61,7 +60,7 @@ pub(crate) fn joined(known: &Known, other: &Known, places: u32) -> Known
 pub(crate) fn said_by(entry: u8) -> Count
     ensures { result ≡ said_by entry }
 {
-    if entry == NEVER {
+    if entry == NO_WAY_HOME {
         Count::Never
     } else {
         Count::Finite(u16::from(entry))
@@ -71,11 +70,11 @@ pub(crate) fn said_by(entry: u8) -> Count
 /// The entry that says this.
 #[inline]
 pub(crate) fn entry_of(count: Count) -> u8
-    requires { (d : ℕ) → count ≡ Finite d → d ≤ 253 }
+    requires { (d : ℕ) → count ≡ Finite d → d ≤ greatest_count }
     ensures { said_by result ≡ count }
 {
     match count {
         Count::Finite(count) => count as u8,
-        Count::Never => NEVER,
+        Count::Never => NO_WAY_HOME,
     }
 }

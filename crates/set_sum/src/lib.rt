@@ -15,7 +15,7 @@ mod parts;
 mod sums;
 mod tables;
 
-pub use bundles::{Bundle, MOST_MEMBERS, MOST_TABLES};
+pub use bundles::{Bundle, MOST_MEMBERS, MOST_SETS, MOST_TABLES};
 pub use faults::SetFault;
 pub use known::Step;
 pub use members::Member;

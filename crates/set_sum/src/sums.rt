@@ -5,6 +5,7 @@ ghost use Rattle.puz_board.specs.Boards.{IsBoardOf, IsGoal, blank, moved, side_o
 ghost use Rattle.puz_board.specs.Cells.{Adjacent};
 ghost use Rattle.puz_board.specs.Parity.{blank_parity};
 ghost use Rattle.puz_board.specs.Transposing.{transposed};
+ghost use Rattle.tab_file.specs.EntryBytes.{greatest_count};
 ghost use Rattle.tab_rule.specs.Counts.{AreCellsOf};
 ghost use Rattle.tab_rule.specs.declared.tables.Count.TheVariants.{Finite};
 ghost use Rattle.set_sum.specs.Bundles.{IsBundle, BundleSays};
@@ -197,7 +198,7 @@ impl<'a> Sums<'a> {
     fn look(&self, member: Member) -> Count
         requires { member.table < length self.now.bundle.tables }
         ensures says { MemberSays self.now.bundle.tables member self.now.board result }
-        ensures few { (d : ℕ) → result ≡ Finite d → d ≤ 253 }
+        ensures few { (d : ℕ) → result ≡ Finite d → d ≤ greatest_count }
     {
         let cells = if member.is_transposed {
             &self.transposed

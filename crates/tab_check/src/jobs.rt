@@ -12,9 +12,9 @@ use tab_rule::{BLOCK_RANKS, block_count};
 use tab_runs::{RowTable, check_runs};
 use work_run::Job;
 
-/// The check of a table: a job for each block, whose places are the numbers of its entries.
+/// The blocks of a table: a job for each, whose places are the numbers of its entries.
 #[derive(Drop)]
-pub(crate) struct TableCheck<'a> {
+pub(crate) struct TableBlocks<'a> {
     pub(crate) view: TableView<'a>,
     /// Where they are kept, the rows by which blocks are checked run by run.
     pub(crate) rows: Option<RowTable>,
@@ -26,24 +26,24 @@ pub(crate) struct TableCheck<'a> {
     ghost small: { block_begin view.pattern (block_count view.pattern) ≤ 2 ^ 32 },
 }
 
-impl Job for TableCheck<'_> {
+impl Job for TableBlocks<'_> {
     ghost use Rattle.tab_check.specs.Jobs.{block_begin};
     ghost use Rattle.tab_rule.specs.BadEntries.{IsBad};
     ghost use Rattle.tab_rule.specs.Blocks.{block_count};
 
-    ghost jobs = { λ check. block_count check.view.pattern };
+    ghost jobs = { λ blocks. block_count blocks.view.pattern };
 
-    ghost begins = { λ check block. block_begin check.view.pattern block };
+    ghost begins = { λ blocks block. block_begin blocks.view.pattern block };
 
-    ghost bad = { λ check. IsBad check.view };
+    ghost bad = { λ blocks. IsBad blocks.view };
 
-    ghost few = { λ check. check.few_blocks };
+    ghost few = { λ blocks. blocks.few_blocks };
 
-    ghost from_zero = { λ check. check.from_zero };
+    ghost from_zero = { λ blocks. blocks.from_zero };
 
-    ghost rises = { λ check block low. check.rises block };
+    ghost rises = { λ blocks block low. blocks.rises block };
 
-    ghost small = { λ check. check.small };
+    ghost small = { λ blocks. blocks.small };
 
     fn count(&self) -> u64 {
         block_count(&self.view.pattern())

@@ -13,7 +13,7 @@ ghost use Rattle.tab_rule.specs.declared.tables.TableRefusal.TheVariants.{Head, 
 ghost use Rattle.tab_runs.specs.RowTables.{rows_for};
 ghost use Rattle.work_run.specs.Workers.{AreWorkers};
 
-use crate::jobs::TableCheck;
+use crate::jobs::TableBlocks;
 use std::alloc::Global;
 use std::sync::Wait;
 use std::thread::Threads;
@@ -56,9 +56,9 @@ pub fn check_table<'a, R: Threads + Wait, G: Gate + Sync>(
         Err(fault) => return Err(TableFault::Refused(TableRefusal::Head(fault))),
     };
     let rows = rows_of(alloc, &view);
-    let check = TableCheck { view, rows };
-    match run_jobs(rt, alloc, &check, workers, gate) {
-        Ok(None) => Ok(CheckedTable::of_view(check.view)),
+    let blocks = TableBlocks { view, rows };
+    match run_jobs(rt, alloc, &blocks, workers, gate) {
+        Ok(None) => Ok(CheckedTable::of_view(blocks.view)),
         Ok(Some(number)) => Err(TableFault::Refused(TableRefusal::T7(number))),
         Err(_) => Err(TableFault::Memory),
     }

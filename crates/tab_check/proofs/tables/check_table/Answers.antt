@@ -9,10 +9,10 @@ use Rattle.tab_check.proofs.JobLemmas.{block_begin-rises, block_begin-small, blo
 use Rattle.tab_rule.proofs.TableLemmas.{keeps_from_exact, least_bad_one, none_bad}
 use Rattle.tab_check.proofs.TableLemmas.{keeps_whole, least_bad_whole}
 use Rattle.tab_check.proofs.tables.check_table.Goals as goal
-use Rattle.tab_check.proofs.tables.check_table.Goals.{Joined-check, Joined-check-2}
+use Rattle.tab_check.proofs.tables.check_table.Goals.{Joined-blocks, Joined-blocks-2}
 
-pub invariant_of-check : goal.invariant_of-check
-invariant_of-check g c =
+pub invariant_of-blocks : goal.invariant_of-blocks
+invariant_of-blocks g c =
     let p = c.in-Ok.view.pattern in
     let pat = c.in-Ok.ensures.ok.table.pattern in
     let placements : placement_count p < 2 ^ 32 = few_placements p pat in
@@ -31,11 +31,11 @@ of_view-requires g c =
     λ block low number inside. keeps number
 
 -- no entry is bad
-keeps : (g : _) (c : Joined-check g) → AllKeepRule c.in-Ok.view
+keeps : (g : _) (c : Joined-blocks g) → AllKeepRule c.in-Ok.view
 keeps g c = keeps_whole c.in-Ok.view c.in-Ok.ensures.ok.table.pattern (rw c.in-Ok-None.field-0-is at c.in-Ok-None.ensures)
 
 -- this entry is bad
-bad : (g : _) (c : Joined-check-2 g) → IsLeastBadEntry c.in-Ok.view c.in-Ok-Some.number
+bad : (g : _) (c : Joined-blocks-2 g) → IsLeastBadEntry c.in-Ok.view c.in-Ok-Some.number
 bad g c = least_bad_whole c.in-Ok.view c.in-Ok-Some.number (rw c.in-Ok-Some.field-0-is at c.in-Ok-Some.ensures)
 
 pub returns-in-Ok-None-clause-bad : goal.returns-in-Ok-None-clause-bad

@@ -1,5 +1,5 @@
 use Rattle.tab_check.proofs.TableLemmas.{block_places}
-use Rattle.tab_check.proofs.jobs.TableCheckJob.run.Goals as goal
+use Rattle.tab_check.proofs.jobs.TableBlocksJob.run.Goals as goal
 
 pub returns : goal.returns
 returns c = block_places c.args.self.now.view c.args.block c.bad_entry_in.result c.bad_entry_in.ensures
