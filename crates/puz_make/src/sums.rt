@@ -3,7 +3,7 @@
 
 ghost use Rattle.std.specs.Prelude.{◌<◌, length};
 
-use crate::cells::{CELLS, place_of};
+use crate::cells::{CELLS, Tile};
 use crate::children::{Children, Entries, Looked, NO_PLACE};
 use crate::leaves::{Leaf, Sum};
 use crate::places::{Moved, Mover, Place, Weights};
@@ -221,7 +221,7 @@ impl Set {
     /// Notes where the tiles are on the board that a move leads to.
     #[inline(always)]
     fn step(&self, places: &[Place<'_>], moved: &Moved<'_>, looked: &mut Looked) {
-        let mover = &self.movers[place_of(moved.tile())];
+        let mover = &self.movers[moved.tile().place()];
         looked.place = mover.place;
         looked.kept = mover.kept;
         if let Some(place) = places.get(usize::from(mover.place)) {
@@ -262,8 +262,8 @@ impl Set {
 #[derive(Clone, Copy)]
 pub(crate) struct Moves<'b> {
     pub(crate) ways: &'b [Way],
-    /// The number in each cell.
-    pub(crate) numbers: &'b [u8; CELLS],
+    /// The tile in each cell.
+    pub(crate) tiles: &'b [Tile; CELLS],
     /// The parity of the number of moves of each solution after one move: 0 or 1.
     pub(crate) parity: u16,
     /// How many moves from the boards that they lead to are to be refuted.
@@ -276,7 +276,7 @@ impl<'b> Moves<'b> {
     fn along(&self, way: &'b Way) -> Moved<'b> {
         Moved {
             way,
-            numbers: self.numbers,
+            tiles: self.tiles,
             parity: self.parity,
         }
     }
@@ -287,10 +287,8 @@ fn tiles_of(side: Side, pattern: &Pattern, member: Member) -> [bool; CELLS] {
     let mut tiles = [false; CELLS];
     for tile in pattern.tiles().as_slice() {
         if *tile < side.cells() {
-            let tile = seen(side, *tile, member.is_transposed);
-            if let Some(is_there) = tiles.get_mut(usize::from(tile)) {
-                *is_there = true;
-            }
+            let tile = Tile::on(side, seen(side, *tile, member.is_transposed));
+            tiles[tile.place()] = true;
         }
     }
     tiles
