@@ -3,7 +3,6 @@
 ghost use Rattle.std.specs.Prelude.{◌<◌};
 
 use crate::cells::{CELLS, Cell, Tile};
-use crate::children::NO_PLACE;
 use crate::slots::Slots;
 use crate::ways::{Passage, Way, seen};
 use pat_place::Pattern;
@@ -14,6 +13,9 @@ use tab_file::NO_REGION;
 
 /// What is told of a board whose entry a table hasn't: nothing.
 const NOTHING: u8 = 0;
+
+/// The number of no place: there are fewer.
+pub(crate) const NO_PLACE: u8 = u8::MAX;
 
 /// Numbers of entries, of which a table has fewer than 2^32, and by how much one is greater than another.
 type Number = u32;

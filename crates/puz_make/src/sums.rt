@@ -4,9 +4,9 @@
 ghost use Rattle.std.specs.Prelude.{◌<◌, length};
 
 use crate::cells::{CELLS, Tile};
-use crate::children::{Children, Entries, Looked, NO_PLACE};
+use crate::children::{Children, Entries, Looked};
 use crate::leaves::{Leaf, Sum};
-use crate::places::{Moved, Mover, Place, Weights};
+use crate::places::{Moved, Mover, NO_PLACE, Place, Weights};
 use crate::set_indices::{MOST_SETS, SetIndex};
 use crate::slots::Slots;
 use crate::ways::{Way, seen};
