@@ -17,11 +17,10 @@ use std::alloc::{AllocError, Global};
 use std::mem;
 use tab_file::NO_WAY_HOME;
 
-/// A set of members.
+/// A set of members, with the sum of their entries on the board.
 #[derive(Drop)]
-struct Set {
+struct SummedSet {
     number: SetIndex,
-    /// The sum of the entries of its members.
     sum: Sum,
     /// How each tile moves in the place of the member that has it.
     movers: [Mover; CELLS],
@@ -32,7 +31,7 @@ struct Set {
 pub(crate) struct Sums<'a> {
     /// Where the tiles of each member's table are, on the board or on the transposed one.
     places: Vec<Place<'a>>,
-    sets: Vec<Set>,
+    sets: Vec<SummedSet>,
     slots: Slots,
 }
 
@@ -63,7 +62,7 @@ impl<'a> Sums<'a> {
     ) -> Result<(), AllocError>
         requires { number < length bundle.now.sets }
     {
-        let mut set = Set {
+        let mut set = SummedSet {
             number: SetIndex::of(bundle, number),
             sum: Sum::none(),
             movers: [Mover::none(); CELLS],
@@ -161,7 +160,7 @@ impl<'a> Sums<'a> {
     }
 }
 
-impl Set {
+impl SummedSet {
     /// Notes how some tiles move in a place, and whether no earlier set has it.
     fn add_movers(&mut self, tiles: &[bool; CELLS], weights: &Weights, place: u8, is_new: bool) {
         let kept = if is_new { place } else { NO_PLACE };
