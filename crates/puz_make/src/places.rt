@@ -1,12 +1,12 @@
 //! Where the tiles of a table's pattern are on the board of a search, and what the table tells of it.
 
-ghost use Rattle.std.specs.Prelude.{◌<◌};
+ghost use Rattle.std.specs.Prelude.{◌*◌, ◌<◌};
 
 use crate::cells::{CELLS, Cell, Tile};
 use crate::slots::Slots;
 use crate::ways::{Passage, Way, seen};
 use pat_place::Pattern;
-use puz_board::masks::{all_below, count_below, without};
+use puz_board::masks::{all_below, count_below, has_cell, without};
 use puz_board::{Board, Side};
 use set_sum::{Member, Part};
 use tab_file::NO_REGION;
@@ -68,21 +68,25 @@ impl Weights {
 
     /// Weighs the tiles of a pattern whose placements have so many slots each.
     fn weigh(&mut self, side: Side, pattern: &Pattern, width: u8, is_transposed: bool) {
-        let cells = u32::from(side.cells());
+        let cells = side.cells();
+        let tiles = pattern.mask();
         let mut weight = u32::from(width);
-        let tiles = pattern.tiles();
-        let tiles = tiles.as_slice();
-        for index in (0..tiles.len()).rev() {
-            let tile = tile_of(side, tiles[index], is_transposed).place();
-            self.nexts[tile] = weight;
+        for tile in (0..cells).rev() {
+            if !has_cell(tiles, tile) {
+                continue;
+            }
+            let place = tile_of(side, tile, is_transposed).place();
+            self.nexts[place] = weight;
             for other in 1..CELLS {
-                self.passes[tile][other] = weight.wrapping_add(self.nexts[other]);
+                self.passes[place][other] = weight.wrapping_add(self.nexts[other]);
             }
-            for earlier in &tiles[..index] {
-                let earlier = tile_of(side, *earlier, is_transposed).place();
-                self.passes[tile][earlier] = 0;
+            for earlier in 0..tile {
+                if has_cell(tiles, earlier) {
+                    let earlier = tile_of(side, earlier, is_transposed).place();
+                    self.passes[place][earlier] = 0;
+                }
             }
-            weight = weight.wrapping_mul(cells.wrapping_sub(index as u32));
+            weight = weight.wrapping_mul(u32::from(cells - count_below(tiles, tile)));
         }
     }
 
@@ -208,13 +212,15 @@ impl<'a> Place<'a> {
         } else {
             *board
         };
+        let side = seen.side();
+        let tiles = pattern.mask();
         let mut first = 0u32;
-        let mut free = all_below(board.side().cells());
-        for tile in pattern.tiles().as_slice() {
-            if *tile < board.side().cells() {
-                let cell = seen.cell_of(*tile);
+        let mut free = all_below(side.cells());
+        for tile in 0..side.cells() {
+            if has_cell(tiles, tile) {
+                let cell = seen.cell_of(tile);
                 let before = u32::from(count_below(free, cell));
-                let weight = weights.nexts[tile_of(board.side(), *tile, is_transposed).place()];
+                let weight = weights.nexts[tile_of(side, tile, is_transposed).place()];
                 first = first.wrapping_add(weight.wrapping_mul(before));
                 free = without(free, cell);
             }
@@ -269,10 +275,8 @@ impl<'a> Place<'a> {
 }
 
 /// The tile of the board that a member sees as this one.
-fn tile_of(side: Side, tile: u8, is_transposed: bool) -> Tile {
-    if tile < side.cells() {
-        Tile::on(side, seen(side, tile, is_transposed))
-    } else {
-        Tile::blank()
-    }
+pub(crate) fn tile_of(side: Side, tile: u8, is_transposed: bool) -> Tile
+    requires { tile < side * side }
+{
+    Tile::on(side, seen(side, tile, is_transposed))
 }

@@ -6,11 +6,12 @@ ghost use Rattle.std.specs.Prelude.{◌<◌, length};
 use crate::cells::{CELLS, Tile};
 use crate::children::{Children, Entries, Looked};
 use crate::leaves::{Leaf, Sum};
-use crate::places::{Moved, Mover, NO_PLACE, Place, Weights};
+use crate::places::{Moved, Mover, NO_PLACE, Place, Weights, tile_of};
 use crate::set_indices::{MOST_SETS, SetIndex};
 use crate::slots::Slots;
-use crate::ways::{Way, seen};
+use crate::ways::Way;
 use pat_place::Pattern;
+use puz_board::masks::has_cell;
 use puz_board::{Board, Side};
 use set_sum::{Bundle, Member};
 use std::alloc::{AllocError, Global};
@@ -284,11 +285,9 @@ impl<'b> Moves<'b> {
 /// Which tiles of the board a member sees as those of its table's pattern.
 fn tiles_of(side: Side, pattern: &Pattern, member: Member) -> [bool; CELLS] {
     let mut tiles = [false; CELLS];
-    for tile in pattern.tiles().as_slice() {
-        if *tile < side.cells() {
-            let tile = Tile::on(side, seen(side, *tile, member.is_transposed));
-            tiles[tile.place()] = true;
-        }
+    for tile in 0..side.cells() {
+        let place = tile_of(side, tile, member.is_transposed).place();
+        tiles[place] = has_cell(pattern.mask(), tile);
     }
     tiles
 }
