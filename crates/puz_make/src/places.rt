@@ -17,7 +17,8 @@ const NOTHING: u8 = 0;
 /// The number of no place: there are fewer.
 pub(crate) const NO_PLACE: u8 = u8::MAX;
 
-/// Numbers of entries, of which a table has fewer than 2^32, and by how much one is greater than another.
+/// Numbers of entries, of which a table has fewer than 2^32, and by how much one is greater than another. They are added modulo
+/// 2^32, since it isn't proved that no sum comes so far.
 type Number = u32;
 
 /// Where the tiles of a pattern are.
