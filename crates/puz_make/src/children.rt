@@ -1,11 +1,8 @@
 //! What sets say of the boards that the moves of a branch lead to.
 
 use crate::leaves::{Leaf, Sum};
-use crate::places::Stand;
+use crate::places::{NO_PLACE, Stand};
 use crate::set_indices::{MOST_SETS, SetIndex};
-
-/// The number of no place: there are fewer.
-pub(crate) const NO_PLACE: u8 = u8::MAX;
 
 /// What a set says of a board, and what is new in one of its members' places. While a search is there, what there was before.
 #[derive(Clone, Copy)]

@@ -5,9 +5,8 @@
 
 ghost use Rattle.std.specs.Prelude.{◌≡◌, ◌<◌, ◌≤◌};
 
-use crate::cells::Cell;
+use crate::cells::{CELLS, Cell};
 use crate::positions::numbers_of;
-use crate::slots::CELLS;
 use puz_board::Board;
 
 /// The key of a board. Few boards have the same one.

@@ -1,13 +1,12 @@
 //! Where the tiles of a table's pattern are on the board of a search, and what the table tells of it.
 
-ghost use Rattle.std.specs.Prelude.{◌<◌};
+ghost use Rattle.std.specs.Prelude.{◌*◌, ◌<◌};
 
-use crate::cells::{CELLS, mask_of, place_of};
-use crate::children::NO_PLACE;
+use crate::cells::{CELLS, Cell, Tile};
 use crate::slots::Slots;
 use crate::ways::{Passage, Way, seen};
 use pat_place::Pattern;
-use puz_board::masks::all_below;
+use puz_board::masks::{all_below, count_below, has_cell, without};
 use puz_board::{Board, Side};
 use set_sum::{Member, Part};
 use tab_file::NO_REGION;
@@ -15,7 +14,11 @@ use tab_file::NO_REGION;
 /// What is told of a board whose entry a table hasn't: nothing.
 const NOTHING: u8 = 0;
 
-/// Numbers of entries, of which a table has fewer than 2^32, and by how much one is greater than another.
+/// The number of no place: there are fewer.
+pub(crate) const NO_PLACE: u8 = u8::MAX;
+
+/// Numbers of entries, of which a table has fewer than 2^32, and by how much one is greater than another. They are added modulo
+/// 2^32, since it isn't proved that no sum comes so far.
 type Number = u32;
 
 /// Where the tiles of a pattern are.
@@ -66,27 +69,31 @@ impl Weights {
 
     /// Weighs the tiles of a pattern whose placements have so many slots each.
     fn weigh(&mut self, side: Side, pattern: &Pattern, width: u8, is_transposed: bool) {
-        let cells = u32::from(side.cells());
+        let cells = side.cells();
+        let tiles = pattern.mask();
         let mut weight = u32::from(width);
-        let tiles = pattern.tiles();
-        let tiles = tiles.as_slice();
-        for index in (0..tiles.len()).rev() {
-            let tile = tile_of(side, tiles[index], is_transposed);
-            self.nexts[tile] = weight;
+        for tile in (0..cells).rev() {
+            if !has_cell(tiles, tile) {
+                continue;
+            }
+            let place = tile_of(side, tile, is_transposed).place();
+            self.nexts[place] = weight;
             for other in 1..CELLS {
-                self.passes[tile][other] = weight.wrapping_add(self.nexts[other]);
+                self.passes[place][other] = weight.wrapping_add(self.nexts[other]);
             }
-            for earlier in &tiles[..index] {
-                let earlier = tile_of(side, *earlier, is_transposed);
-                self.passes[tile][earlier] = 0;
+            for earlier in 0..tile {
+                if has_cell(tiles, earlier) {
+                    let earlier = tile_of(side, earlier, is_transposed).place();
+                    self.passes[place][earlier] = 0;
+                }
             }
-            weight = weight.wrapping_mul(cells.wrapping_sub(index as u32));
+            weight = weight.wrapping_mul(u32::from(cells - count_below(tiles, tile)));
         }
     }
 
     /// How a tile moves, in the place of this number, which is kept by this number.
     pub(crate) fn mover(&self, tile: usize, place: u8, kept: u8) -> Mover
-        requires { tile < 32 }
+        requires { tile < 25 }
     {
         Mover {
             passes: self.passes[tile],
@@ -123,12 +130,12 @@ impl Mover {
 
     /// The number of the first entry of the cells after the tile moves, where it is this one before.
     #[inline]
-    fn first_after(&self, first: Number, passage: &Passage, numbers: &[u8; CELLS]) -> Number {
+    fn first_after(&self, first: Number, passage: &Passage, tiles: &[Tile; CELLS]) -> Number {
         let mut growth = self.next;
         let passed = passage.passed;
         for cell in passed {
-            let number = numbers[place_of(cell)];
-            growth = growth.wrapping_add(self.passes[place_of(number)]);
+            let tile = tiles[cell.place()];
+            growth = growth.wrapping_add(self.passes[tile.place()]);
         }
         if passage.is_up {
             first.wrapping_add(growth)
@@ -142,8 +149,8 @@ impl Mover {
 #[derive(Clone, Copy)]
 pub(crate) struct Moved<'b> {
     pub(crate) way: &'b Way,
-    /// The number in each cell before the move.
-    pub(crate) numbers: &'b [u8; CELLS],
+    /// The tile in each cell before the move.
+    pub(crate) tiles: &'b [Tile; CELLS],
     /// The parity of the number of moves of each solution after it: 0 or 1.
     pub(crate) parity: u16,
 }
@@ -151,8 +158,9 @@ pub(crate) struct Moved<'b> {
 impl<'b> Moved<'b> {
     /// The tile that moves.
     #[inline]
-    pub(crate) fn tile(&self) -> u8 {
-        self.numbers[place_of(self.way.to)]
+    pub(crate) fn tile(&self) -> Tile {
+        let tiles = self.tiles;
+        tiles[self.way.to.place()]
     }
 }
 
@@ -205,17 +213,20 @@ impl<'a> Place<'a> {
         } else {
             *board
         };
-        let found = seen.cells_of_all();
+        let side = seen.side();
+        let tiles = pattern.mask();
         let mut first = 0u32;
-        let mut free = all_below(board.side().cells());
-        for tile in pattern.tiles().as_slice() {
-            let cell = found.get(usize::from(*tile)).copied().unwrap_or(0);
-            let before = (free & mask_of(cell).saturating_sub(1)).count_ones();
-            let weight = weights.nexts[tile_of(board.side(), *tile, is_transposed)];
-            first = first.wrapping_add(weight.wrapping_mul(before));
-            free &= !mask_of(cell);
+        let mut free = all_below(side.cells());
+        for tile in 0..side.cells() {
+            if has_cell(tiles, tile) {
+                let cell = seen.cell_of(tile);
+                let before = u32::from(count_below(free, cell));
+                let weight = weights.nexts[tile_of(side, tile, is_transposed).place()];
+                first = first.wrapping_add(weight.wrapping_mul(before));
+                free = without(free, cell);
+            }
         }
-        let entry = self.entry(slots, first, free, seen.blank());
+        let entry = self.entry(slots, first, free, Cell::of_blank(&seen));
         Stand { first, free, entry }
     }
 
@@ -224,7 +235,7 @@ impl<'a> Place<'a> {
     pub(crate) fn after(&self, mover: &Mover, moved: &Moved<'_>) -> Stand {
         let passage = self.passage(moved);
         Stand {
-            first: mover.first_after(self.stand.first, passage, moved.numbers),
+            first: mover.first_after(self.stand.first, passage, moved.tiles),
             free: self.stand.free ^ passage.ends,
             entry: NOTHING,
         }
@@ -249,7 +260,7 @@ impl<'a> Place<'a> {
     /// The entry of the board whose tiles have this first entry and leave these cells free, and whose blank is in this cell. Most
     /// often the cells are one region, and only then there is none in the next slot.
     #[inline(always)]
-    fn entry(&self, slots: &mut Slots, first: Number, free: u32, blank: u8) -> u8 {
+    fn entry(&self, slots: &mut Slots, first: Number, free: u32, blank: Cell) -> u8 {
         let first = first as usize;
         if !self.has_slots || self.entry_at(first + 1) == NO_REGION {
             return self.entry_at(first);
@@ -264,13 +275,9 @@ impl<'a> Place<'a> {
     }
 }
 
-/// The place of the tile of the board that a member sees as this one.
-fn tile_of(side: Side, tile: u8, is_transposed: bool) -> usize
-    ensures { result < 32 }
+/// The tile of the board that a member sees as this one.
+pub(crate) fn tile_of(side: Side, tile: u8, is_transposed: bool) -> Tile
+    requires { tile < side * side }
 {
-    if tile < side.cells() {
-        place_of(seen(side, tile, is_transposed))
-    } else {
-        0
-    }
+    Tile::on(side, seen(side, tile, is_transposed))
 }

@@ -3,7 +3,7 @@
 ghost use Rattle.std.specs.Prelude.{◌≡◌, ◌<◌, ◌*◌, length, take};
 ghost use Rattle.puz_board.specs.Boards.{side_of};
 
-use crate::cells::{CELLS, place_of};
+use crate::cells::{CELLS, Cell, Tile};
 use crate::children::{Children, Entries};
 use crate::leaves::Leaf;
 use crate::places::Moved;
@@ -21,12 +21,12 @@ pub(crate) const NOWHERE: u8 = u8::MAX;
 /// A board, and what the sets of a bundle say of it.
 #[derive(Drop)]
 pub(crate) struct Position<'a> {
-    /// The number in each cell.
-    numbers: [u8; CELLS],
+    /// The tile in each cell.
+    tiles: [Tile; CELLS],
     /// How many cells there are.
     cells: u8,
     /// The cell of the blank.
-    blank: u8,
+    blank: Cell,
     /// The parity of the number of moves of each solution: 0 or 1.
     parity: u16,
     /// The moves from each cell.
@@ -45,9 +45,9 @@ impl<'a> Position<'a> {
         requires { side_of board.now ≡ bundle.now.side }
     {
         Ok(Position {
-            numbers: numbers_of(board),
+            tiles: tiles_on(board),
             cells: board.side().cells(),
-            blank: board.blank(),
+            blank: Cell::of_blank(board),
             parity: u16::from(board.blank_parity()),
             ways: Ways::new(alloc, board.side())?,
             sums: Sums::new(alloc, bundle, board)?,
@@ -60,10 +60,10 @@ impl<'a> Position<'a> {
     }
 
     /// Where the moves lead, in their order.
-    pub(crate) fn steps(&self) -> [u8; 4] {
-        let mut steps = [NOWHERE; 4];
+    pub(crate) fn steps(&self) -> [Option<Cell>; 4] {
+        let mut steps = [None; 4];
         for (to, way) in steps.iter_mut().zip(self.ways.list(self.all_moves())) {
-            *to = way.to;
+            *to = Some(way.to);
         }
         steps
     }
@@ -92,7 +92,7 @@ impl<'a> Position<'a> {
     ) -> usize {
         let moves = Moves {
             ways: self.ways.list(list),
-            numbers: &self.numbers,
+            tiles: &self.tiles,
             parity: self.parity ^ 1,
             remaining,
         };
@@ -103,7 +103,7 @@ impl<'a> Position<'a> {
     /// Goes to one of some boards that were looked up in all sets, where the blank is here, and leaves in its place the one where it
     /// was. Answers where the blank was.
     #[inline]
-    pub(crate) fn exchange(&mut self, blank: u8, at: usize, children: &mut Children) -> u8
+    pub(crate) fn exchange(&mut self, blank: Cell, at: usize, children: &mut Children) -> Cell
         requires { at < 4 }
     {
         self.sums.exchange(at, children);
@@ -112,21 +112,21 @@ impl<'a> Position<'a> {
 
     /// Moves the blank to a cell beside it. Answers where it was.
     #[inline]
-    fn move_to(&mut self, blank: u8) -> u8 {
+    fn move_to(&mut self, blank: Cell) -> Cell {
         let before = mem::replace(&mut self.blank, blank);
-        self.numbers[place_of(before)] = self.numbers[place_of(blank)];
-        self.numbers[place_of(blank)] = 0;
+        self.tiles[before.place()] = self.tiles[blank.place()];
+        self.tiles[blank.place()] = Tile::blank();
         self.parity ^= 1;
         before
     }
 
     /// Moves the blank to a cell beside it. Answers what there was.
-    pub(crate) fn slide(&mut self, to: u8) -> Option<Entries> {
+    pub(crate) fn slide(&mut self, to: Cell) -> Option<Entries> {
         let list = self.ways.list(self.all_moves());
         let way = list.iter().find(|way| way.to == to).copied()?;
         let moved = Moved {
             way: &way,
-            numbers: &self.numbers,
+            tiles: &self.tiles,
             parity: self.parity ^ 1,
         };
         let mut entries = self.sums.look(&moved);
@@ -135,7 +135,7 @@ impl<'a> Position<'a> {
     }
 
     /// Moves the blank back to the cell where it was.
-    pub(crate) fn slide_back(&mut self, from: u8, before: &Option<Entries>) {
+    pub(crate) fn slide_back(&mut self, from: Cell, before: &Option<Entries>) {
         if let Some(before) = before {
             let mut before = *before;
             self.swap(from, &mut before);
@@ -143,19 +143,29 @@ impl<'a> Position<'a> {
     }
 
     /// Goes to a board that was looked up, where the blank is here, and leaves in its place the one where it was.
-    fn swap(&mut self, blank: u8, entries: &mut Entries) {
+    fn swap(&mut self, blank: Cell, entries: &mut Entries) {
         self.sums.exchange_entries(entries);
         let _ = self.move_to(blank);
     }
 
     /// Whether each number is in the cell of its own number.
     pub(crate) fn is_goal(&self) -> bool {
-        self.numbers
+        self.tiles
             .iter()
             .take(usize::from(self.cells))
             .enumerate()
-            .all(|(cell, number)| usize::from(*number) == cell)
+            .all(|(cell, tile)| tile.place() == cell)
     }
+}
+
+/// The tile in each cell of a board.
+fn tiles_on(board: &Board) -> [Tile; CELLS] {
+    let mut tiles = [Tile::blank(); CELLS];
+    let side = board.side();
+    for number in 0..side.cells() {
+        tiles[usize::from(board.cell_of(number))] = Tile::on(side, number);
+    }
+    tiles
 }
 
 /// The number in each cell of a board.

@@ -124,7 +124,7 @@ impl<'a> Refuter<'a> {
         let blank = self.tiles.blank;
         let steps = self.position.steps();
         for step in &steps {
-            let Some(to) = Cell::of(*step) else {
+            let Some(to) = *step else {
                 continue;
             };
             if to == came_from {
@@ -152,12 +152,12 @@ impl<'a> Refuter<'a> {
     /// Moves the blank. Answers what the sets said before.
     fn slide(&mut self, to: Cell) -> Option<Entries> {
         self.tiles.slide(to);
-        self.position.slide(to.number())
+        self.position.slide(to)
     }
 
     /// Takes a move of the blank from this cell back.
     fn slide_back(&mut self, from: Cell, before: &Option<Entries>) {
         self.tiles.slide(from);
-        self.position.slide_back(from.number(), before);
+        self.position.slide_back(from, before);
     }
 }

@@ -82,24 +82,24 @@ pub fn solve_within(
     let root = position.best_leaf();
     let mut bound = root.raised;
     let mut levels = vec![in alloc; Children::none(); LEVELS]?;
-    let mut search = Search::new(alloc, position, budget, limits);
-    search.failed.put_leaf(&root, bound);
+    let mut searcher = Searcher::new(alloc, position, budget, limits);
+    searcher.failed.put_leaf(&root, bound);
     for threshold in 0..=GREATEST_BOUND {
         if threshold < bound {
             continue;
         }
-        if search.is_solved(&mut levels, threshold + BETWEEN_THRESHOLDS)? {
-            return search.found(alloc, board, threshold as u8, &mut levels);
+        if searcher.is_solved(&mut levels, threshold + BETWEEN_THRESHOLDS)? {
+            return searcher.found(alloc, board, threshold as u8, &mut levels);
         }
         bound = threshold + BETWEEN_THRESHOLDS;
-        search.begin_again();
+        searcher.begin_again();
     }
     Err(MakeFault::K2)
 }
 
-/// What a search keeps.
+/// What searches for a solution, with all that it keeps.
 #[derive(Drop)]
-struct Search<'a> {
+struct Searcher<'a> {
     position: Position<'a>,
     /// How many more boards may be expanded.
     budget: u64,
@@ -112,11 +112,11 @@ struct Search<'a> {
     moves: Vec<u8>,
 }
 
-impl<'a> Search<'a> {
-    /// A search that may expand so many boards.
-    fn new(alloc: Global, position: Position<'a>, budget: u64, limits: &Limits) -> Search<'a> {
+impl<'a> Searcher<'a> {
+    /// One that may expand so many boards.
+    fn new(alloc: Global, position: Position<'a>, budget: u64, limits: &Limits) -> Searcher<'a> {
         let sets = position.sums.count();
-        Search {
+        Searcher {
             position,
             budget,
             limits: *limits,

@@ -2,8 +2,7 @@
 
 ghost use Rattle.std.specs.Prelude.{◌<◌};
 
-pub(crate) use crate::cells::CELLS;
-use crate::cells::mask_of;
+use crate::cells::Cell;
 use pat_place::region_of;
 use puz_board::Side;
 use puz_board::masks::first_of;
@@ -40,13 +39,12 @@ impl Around {
 
     /// The slot of a cell.
     #[inline]
-    fn slot(&self, cell: u8) -> usize
+    fn slot(&self, cell: Cell) -> usize
         ensures { result < 8 }
     {
-        let cell = mask_of(cell);
-        let ones = usize::from(self.ones & cell != 0);
-        let twos = usize::from(self.twos & cell != 0);
-        let fours = usize::from(self.fours & cell != 0);
+        let ones = usize::from(cell.is_in(self.ones));
+        let twos = usize::from(cell.is_in(self.twos));
+        let fours = usize::from(cell.is_in(self.fours));
         4 * fours + 2 * twos + ones
     }
 }
@@ -75,7 +73,7 @@ impl Slots {
 
     /// The slot of a free cell among these ones, on the grid of any pattern of the side.
     #[inline(never)]
-    pub(crate) fn slot_of(&mut self, free: u32, cell: u8) -> usize
+    pub(crate) fn slot_of(&mut self, free: u32, cell: Cell) -> usize
         ensures { result < 8 }
     {
         let side = self.side;

@@ -3,25 +3,25 @@
 
 ghost use Rattle.std.specs.Prelude.{◌<◌, length};
 
-use crate::cells::{CELLS, place_of};
-use crate::children::{Children, Entries, Looked, NO_PLACE};
+use crate::cells::{CELLS, Tile};
+use crate::children::{Children, Entries, Looked};
 use crate::leaves::{Leaf, Sum};
-use crate::places::{Moved, Mover, Place, Weights};
+use crate::places::{Moved, Mover, NO_PLACE, Place, Weights, tile_of};
 use crate::set_indices::{MOST_SETS, SetIndex};
 use crate::slots::Slots;
-use crate::ways::{Way, seen};
+use crate::ways::Way;
 use pat_place::Pattern;
+use puz_board::masks::has_cell;
 use puz_board::{Board, Side};
 use set_sum::{Bundle, Member};
 use std::alloc::{AllocError, Global};
 use std::mem;
 use tab_file::NO_WAY_HOME;
 
-/// A set of members.
+/// A set of members, with the sum of their entries on the board.
 #[derive(Drop)]
-struct Set {
+struct SummedSet {
     number: SetIndex,
-    /// The sum of the entries of its members.
     sum: Sum,
     /// How each tile moves in the place of the member that has it.
     movers: [Mover; CELLS],
@@ -32,7 +32,7 @@ struct Set {
 pub(crate) struct Sums<'a> {
     /// Where the tiles of each member's table are, on the board or on the transposed one.
     places: Vec<Place<'a>>,
-    sets: Vec<Set>,
+    sets: Vec<SummedSet>,
     slots: Slots,
 }
 
@@ -63,7 +63,7 @@ impl<'a> Sums<'a> {
     ) -> Result<(), AllocError>
         requires { number < length bundle.now.sets }
     {
-        let mut set = Set {
+        let mut set = SummedSet {
             number: SetIndex::of(bundle, number),
             sum: Sum::none(),
             movers: [Mover::none(); CELLS],
@@ -161,7 +161,7 @@ impl<'a> Sums<'a> {
     }
 }
 
-impl Set {
+impl SummedSet {
     /// Notes how some tiles move in a place, and whether no earlier set has it.
     fn add_movers(&mut self, tiles: &[bool; CELLS], weights: &Weights, place: u8, is_new: bool) {
         let kept = if is_new { place } else { NO_PLACE };
@@ -221,7 +221,7 @@ impl Set {
     /// Notes where the tiles are on the board that a move leads to.
     #[inline(always)]
     fn step(&self, places: &[Place<'_>], moved: &Moved<'_>, looked: &mut Looked) {
-        let mover = &self.movers[place_of(moved.tile())];
+        let mover = &self.movers[moved.tile().place()];
         looked.place = mover.place;
         looked.kept = mover.kept;
         if let Some(place) = places.get(usize::from(mover.place)) {
@@ -262,8 +262,8 @@ impl Set {
 #[derive(Clone, Copy)]
 pub(crate) struct Moves<'b> {
     pub(crate) ways: &'b [Way],
-    /// The number in each cell.
-    pub(crate) numbers: &'b [u8; CELLS],
+    /// The tile in each cell.
+    pub(crate) tiles: &'b [Tile; CELLS],
     /// The parity of the number of moves of each solution after one move: 0 or 1.
     pub(crate) parity: u16,
     /// How many moves from the boards that they lead to are to be refuted.
@@ -276,7 +276,7 @@ impl<'b> Moves<'b> {
     fn along(&self, way: &'b Way) -> Moved<'b> {
         Moved {
             way,
-            numbers: self.numbers,
+            tiles: self.tiles,
             parity: self.parity,
         }
     }
@@ -285,13 +285,9 @@ impl<'b> Moves<'b> {
 /// Which tiles of the board a member sees as those of its table's pattern.
 fn tiles_of(side: Side, pattern: &Pattern, member: Member) -> [bool; CELLS] {
     let mut tiles = [false; CELLS];
-    for tile in pattern.tiles().as_slice() {
-        if *tile < side.cells() {
-            let tile = seen(side, *tile, member.is_transposed);
-            if let Some(is_there) = tiles.get_mut(usize::from(tile)) {
-                *is_there = true;
-            }
-        }
+    for tile in 0..side.cells() {
+        let place = tile_of(side, tile, member.is_transposed).place();
+        tiles[place] = has_cell(pattern.mask(), tile);
     }
     tiles
 }

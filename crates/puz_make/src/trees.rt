@@ -1,9 +1,8 @@
 //! Walks over the tree that a search wrote, from its first byte to its last.
 
-use crate::cells::Cell;
+use crate::cells::{CELLS, Cell};
 use crate::keys::Tiles;
 use crate::positions::steps_of;
-use crate::slots::CELLS;
 use puz_board::Board;
 use std::alloc::{AllocError, Global};
 

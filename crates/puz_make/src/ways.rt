@@ -2,15 +2,12 @@
 
 ghost use Rattle.std.specs.Prelude.{◌*◌, ◌<◌};
 
-use crate::cells::{CELLS, mask_of};
+use crate::cells::Cell;
 use puz_board::{MOVES, Move, Side, step, transposed_cell};
 use std::alloc::{AllocError, Global};
 
 /// How many cells there are at most between two that are above each other.
 const MOST_PASSED: usize = 4;
-
-/// A cell that no board has.
-const OUTSIDE: u8 = CELLS as u8 - 1;
 
 /// How a member sees a tile go from one cell to another, where the blank was. A plain member sees the board, and a transposed
 /// one the transposed board.
@@ -19,11 +16,12 @@ pub(crate) struct Passage {
     /// Whether the tile goes to a greater cell.
     pub(crate) is_up: bool,
     /// The cell that the tile leaves to the blank.
-    pub(crate) blank: u8,
+    pub(crate) blank: Cell,
     /// Both cells, as a mask.
     pub(crate) ends: u32,
-    /// The cells of the board that are between the two for the member. For each that is missing there is a cell outside.
-    pub(crate) passed: [u8; MOST_PASSED],
+    /// The cells of the board that are between the two for the member. In place of each that is missing there is the cell where the
+    /// blank was: its number makes no difference to any entry's.
+    pub(crate) passed: [Cell; MOST_PASSED],
 }
 
 /// A move of the blank.
@@ -34,7 +32,7 @@ pub(crate) struct Way {
     /// What a transposed member sees.
     pub(crate) transposed: Passage,
     /// The cell to which it leads.
-    pub(crate) to: u8,
+    pub(crate) to: Cell,
     /// Its number among the moves.
     pub(crate) number: u8,
 }
@@ -113,15 +111,15 @@ pub(crate) struct ListNumber {
 
 impl ListNumber {
     /// That of the list of all moves from a cell.
-    pub(crate) fn all_from(cell: u8) -> ListNumber {
+    pub(crate) fn all_from(cell: Cell) -> ListNumber {
         ListNumber::of(cell, MOVES.len() as u8)
     }
 
     /// That of the moves from a cell but for the reverse of the move of this number, or of all if no move has it.
     #[inline]
-    fn of(cell: u8, arriving: u8) -> ListNumber {
+    fn of(cell: Cell, arriving: u8) -> ListNumber {
         ListNumber {
-            number: u16::from(cell) * (MOVES.len() as u16 + 1) + u16::from(arriving),
+            number: u16::from(cell.number()) * (MOVES.len() as u16 + 1) + u16::from(arriving),
         }
     }
 }
@@ -144,7 +142,7 @@ fn way_of(side: Side, cell: u8, to: u8, number: u8) -> Way
     Way {
         plain: passage_of(side, to, cell, false),
         transposed: passage_of(side, to, cell, true),
-        to,
+        to: Cell::on(side, to),
         number,
     }
 }
@@ -154,22 +152,23 @@ fn passage_of(side: Side, from: u8, to: u8, is_transposed: bool) -> Passage
     requires from { from < side * side }
     requires to { to < side * side }
 {
+    let mut passed = [Cell::on(side, to); MOST_PASSED];
     let from = seen(side, from, is_transposed);
     let to = seen(side, to, is_transposed);
-    let mut passed = [OUTSIDE; MOST_PASSED];
     let before = from.min(to);
     for cell in before..from.max(to) {
         if cell == before {
             continue;
         }
         if let Some(passed) = passed.get_mut(usize::from(cell - before) - 1) {
-            *passed = seen(side, cell, is_transposed);
+            *passed = Cell::on(side, seen(side, cell, is_transposed));
         }
     }
+    let blank = Cell::on(side, from);
     Passage {
         is_up: from < to,
-        blank: from,
-        ends: mask_of(from) | mask_of(to),
+        blank,
+        ends: blank.mask() | Cell::on(side, to).mask(),
         passed,
     }
 }

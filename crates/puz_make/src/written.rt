@@ -3,6 +3,8 @@
 //! A node takes few binary digits: a branch one, and a leaf as many as tell its set and its kind. So the tree of the last threshold
 //! and that of the next take less memory together than one of them has bytes in a log.
 
+ghost use Rattle.std.specs.Prelude.{◌<◌, ◌≤◌};
+
 use crate::leaves::Leaf;
 use crate::trees::BRANCH;
 use std::alloc::{AllocError, Global};
@@ -30,10 +32,12 @@ pub(crate) struct WrittenTree {
     blocks: Vec<Vec<u64>>,
     /// The nodes after these, from the last digit on.
     word: u64,
-    /// How many digits they have.
+    /// How many digits they have: there is room for one node more.
     digits: u32,
+    ghost has_room: { digits ≤ 58 },
     /// How many digits a leaf has.
     leaf_digits: u32,
+    ghost few_digits: { leaf_digits ≤ 6 },
     /// How many more nodes it may have.
     room: usize,
     /// Whether no node is missing.
@@ -74,16 +78,20 @@ impl WrittenTree {
 
     /// Writes the digits of a node, the first one last.
     #[inline]
-    fn put(&mut self, code: u64, digits: u32) {
+    fn put(&mut self, code: u64, digits: u32)
+        requires { digits ≤ 6 }
+    {
         if self.room == 0 {
             self.drop_nodes();
             return;
         }
         self.room -= 1;
-        self.word |= code << (self.digits % DIGITS_OF_WORD);
-        self.digits = self.digits.wrapping_add(digits);
-        if self.digits > DIGITS_OF_WORD - MOST_DIGITS {
+        self.word |= code << self.digits;
+        let digits = self.digits + digits;
+        if digits > DIGITS_OF_WORD - MOST_DIGITS {
             self.end_word();
+        } else {
+            self.digits = digits;
         }
     }
 
@@ -161,7 +169,9 @@ fn add_nodes(
     word: u64,
     leaf_digits: u32,
     most: usize,
-) -> Result<(), AllocError> {
+) -> Result<(), AllocError>
+    requires { leaf_digits ≤ 6 }
+{
     let mut rest = word;
     let mut passed = 0u32;
     for _ in 0..DIGITS_OF_WORD {
@@ -176,17 +186,18 @@ fn add_nodes(
             BRANCH
         };
         bytes.push(node)?;
-        rest >>= digits % DIGITS_OF_WORD;
-        passed = passed.wrapping_add(digits);
+        rest >>= digits;
+        passed += digits;
     }
     Ok(())
 }
 
 /// The byte of a leaf whose digits these begin with.
 #[inline]
-fn leaf_of(rest: u64, leaf_digits: u32) -> u8 {
-    let end = 1u64 << (leaf_digits % DIGITS_OF_WORD);
-    let code = rest & end.saturating_sub(1);
+fn leaf_of(rest: u64, leaf_digits: u32) -> u8
+    requires { leaf_digits ≤ 6 }
+{
+    let code = rest & ((1 << leaf_digits) - 1);
     let set = u8::try_from(code >> DIGITS_OF_KIND).unwrap_or(0);
     let kind = if code & 2 != 0 { PARITY } else { 0 };
     set.saturating_add(1) | kind

@@ -1,4 +1,4 @@
-use Rattle.puz_make.proofs.searches.Search.+expand.Given as goal
+use Rattle.puz_make.proofs.searches.Searcher.+expand.Given as goal
 
 abbrev pub decreases-expand : goal.decreases-expand
 decreases-expand l = l.remaining
