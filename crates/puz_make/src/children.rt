@@ -2,7 +2,8 @@
 
 use crate::leaves::{Leaf, Sum};
 use crate::places::{NO_PLACE, Stand};
-use crate::set_indices::{MOST_SETS, SetIndex};
+use crate::set_indices::SetIndex;
+use set_sum::MOST_SETS;
 
 /// What a set says of a board, and what is new in one of its members' places. While a search is there, what there was before.
 #[derive(Clone, Copy)]

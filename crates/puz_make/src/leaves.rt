@@ -1,16 +1,11 @@
 //! What sets say of a board: sums of entries, and the leaves of trees.
 
 use crate::set_indices::SetIndex;
+use log_file::tree_bytes::{FIRST_LEAF, FIRST_PARITY_LEAF};
 use tab_file::NO_WAY_HOME;
 
 /// The sum of a set that says that there is no way home: more than ever remains.
 const NEVER: u16 = 1 << 15;
-
-/// The byte of a leaf by set 0.
-const LEAF: u8 = 0x01;
-
-/// The byte of a leaf by set 0 and by parity.
-const PARITY_LEAF: u8 = 0x41;
 
 /// The sum of the entries of a set's members.
 #[derive(Clone, Copy)]
@@ -78,11 +73,17 @@ impl Leaf {
 
     /// The byte of the leaf in a tree, where it cuts off a board from which so many moves are to be refuted.
     pub(crate) fn byte(&self, remaining: u16) -> u8 {
-        let first = if self.is_by_parity(remaining) {
-            PARITY_LEAF
-        } else {
-            LEAF
-        };
-        first + self.set.number()
+        leaf_byte(self.set.number(), self.is_by_parity(remaining))
     }
+}
+
+/// The byte of a leaf by a set, plain or by parity.
+#[inline]
+pub(crate) fn leaf_byte(set: u8, is_by_parity: bool) -> u8 {
+    let first = if is_by_parity {
+        FIRST_PARITY_LEAF
+    } else {
+        FIRST_LEAF
+    };
+    first.saturating_add(set)
 }

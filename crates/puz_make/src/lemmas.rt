@@ -3,7 +3,7 @@
 use crate::board_table::BoardTable;
 use crate::keys::Tiles;
 use crate::log_bytes::LogBytes;
-use crate::trees::CITATION_LEN;
+use log_file::tree_bytes::CITATION_LEN;
 use tab_make::MakeFault;
 
 /// The lemmas of a log, as far as they are written.

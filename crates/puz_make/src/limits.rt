@@ -1,6 +1,6 @@
 //! How large what a search keeps may be.
 
-use log_file::{BOUND_AND_LENGTH, HEADER_LEN, MOST_BYTES};
+use log_file::{BOUND_AND_LENGTH, HEADER_LEN, MOST_BYTES, MOST_LEMMAS};
 
 /// The most bytes before the tree of a log of one lemma: boards of side 5 have 25 numbers.
 const MOST_BEFORE_TREE: usize = HEADER_LEN + 25 + BOUND_AND_LENGTH;
@@ -21,7 +21,7 @@ pub struct Limits {
 impl Limits {
     /// Those of log files, and what serves best below them.
     pub const USUAL: Limits = Limits {
-        lemmas: 1 << 20,
+        lemmas: MOST_LEMMAS,
         one_lemma_below: 1 << 16,
         tree: MOST_BYTES - MOST_BEFORE_TREE,
         early_tree: 1 << 28,

@@ -5,7 +5,8 @@ use crate::children::Entries;
 use crate::keys::Tiles;
 use crate::lemmas::Lemmas;
 use crate::positions::Position;
-use crate::trees::{BRANCH, Branch, CITATION};
+use crate::trees::Branch;
+use log_file::tree_bytes::{BRANCH, CITATION};
 use puz_board::Board;
 use std::alloc::{AllocError, Global};
 

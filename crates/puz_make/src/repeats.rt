@@ -4,7 +4,8 @@
 //! comes again: a citation can stand for it, if the first is a lemma.
 
 use crate::board_table::BoardTable;
-use crate::trees::{CITATION_LEN, Refutation, Step, Walk, most_steps};
+use crate::trees::{Refutation, Step, Walk, most_steps};
+use log_file::tree_bytes::CITATION_LEN;
 use std::alloc::{AllocError, Global};
 
 /// The least bytes of a branch whose board is looked for elsewhere in the tree.

@@ -4,9 +4,6 @@ ghost use Rattle.std.specs.Prelude.{◌<◌, length};
 
 use set_sum::Bundle;
 
-/// The most sets of a bundle.
-pub(crate) const MOST_SETS: usize = 16;
-
 /// Which set of a bundle one is: the sets are numbered from 0.
 #[derive(Clone, Copy, PartialEq, Eq)]
 pub(crate) struct SetIndex {

@@ -3,11 +3,9 @@
 use crate::cells::{CELLS, Cell};
 use crate::keys::Tiles;
 use crate::positions::steps_of;
+use log_file::tree_bytes::BRANCH;
 use puz_board::Board;
 use std::alloc::{AllocError, Global};
-
-/// The byte of a branch.
-pub(crate) const BRANCH: u8 = 0;
 
 /// The byte of a branch with a long subtree. No log has it.
 const LONG: u8 = 0xFF;
@@ -15,12 +13,6 @@ const LONG: u8 = 0xFF;
 /// The byte of a branch with a long subtree whose board comes here for the first time, or from here on refutes more than
 /// before. No log has it.
 const FIRST: u8 = 0xFE;
-
-/// The byte of a citation.
-pub(crate) const CITATION: u8 = 0x20;
-
-/// How many bytes a citation has: its own, and four for the number of a lemma.
-pub(crate) const CITATION_LEN: usize = 5;
 
 /// How many moves a branch has, with those that leave the board.
 const MOVES: usize = 4;

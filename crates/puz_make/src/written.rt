@@ -5,8 +5,8 @@
 
 ghost use Rattle.std.specs.Prelude.{◌<◌, ◌≤◌};
 
-use crate::leaves::Leaf;
-use crate::trees::BRANCH;
+use crate::leaves::{Leaf, leaf_byte};
+use log_file::tree_bytes::BRANCH;
 use std::alloc::{AllocError, Global};
 
 /// How many words a block has.
@@ -20,9 +20,6 @@ const MOST_DIGITS: u32 = 6;
 
 /// How many of a leaf's digits say that it is a leaf, and of which kind.
 const DIGITS_OF_KIND: u32 = 2;
-
-/// The binary digit of a leaf's byte that a leaf by parity has.
-const PARITY: u8 = 0x40;
 
 /// A tree that is written, node after node. It is dropped where it has too many nodes or memory for it is refused, and the
 /// search goes on without it.
@@ -198,7 +195,5 @@ fn leaf_of(rest: u64, leaf_digits: u32) -> u8
     requires { leaf_digits ≤ 6 }
 {
     let code = rest & ((1 << leaf_digits) - 1);
-    let set = u8::try_from(code >> DIGITS_OF_KIND).unwrap_or(0);
-    let kind = if code & 2 != 0 { PARITY } else { 0 };
-    set.saturating_add(1) | kind
+    leaf_byte((code >> DIGITS_OF_KIND) as u8, code & 2 != 0)
 }
