@@ -25,21 +25,28 @@ struct Case<'a> {
 
 /// Whether a table that is made, by some workers, is kept as the file of its case and told so.
 fn makes<H: Threads + Wait + Sync>(rt: &H, alloc: Global, case: &Case<'_>) -> Result<bool, Fail> {
-    let told = joined(alloc, &[case.digest, case.line])?;
+    let Case {
+        side,
+        mask,
+        file,
+        digest,
+        line,
+    } = *case;
+    let told = joined(alloc, &[digest, line])?;
     for count in [1u8, 2, 7] {
         let mut shelf = MemShelf::of(alloc, &[("o", b"old".as_slice())])?;
         let workers = Workers::new(rt, alloc, count, &OpenGate);
         let mut out = Vec::new(alloc);
         let mut reader = b"".as_slice();
         let command = MakeTable {
-            side: case.side,
-            mask: case.mask,
+            side,
+            mask,
             out: "o",
             workers: count,
         };
         let mut io = io_over(&mut shelf, &mut reader, &mut out);
         let status = run_make_table(&command, &workers, &mut io);
-        let is_kept = shelf.get("o") == Some(case.file);
+        let is_kept = shelf.get("o") == Some(file);
         if status != Status::Yes || out != told || !is_kept {
             return Ok(false);
         }
