@@ -1,7 +1,7 @@
 #!/usr/bin/env python3
 """Counts what a reader has to believe: the definitions behind a statement, each followed by its names, file by file.
 
-    tools/check_believe.py                    compares docs/BELIEVE.md with what it counts
+    tools/check_believe.py                    compares docs/BELIEVE.md and README.md with what it counts
     tools/check_believe.py list [STATEMENT]   prints the definitions behind a statement, and how many lines they have
     tools/check_believe.py count STATEMENT..  prints one line for each statement
 
@@ -10,8 +10,9 @@ behind it for one of them, or CRATE::FILE::NAME for a definition of crates/CRATE
 headline. Definitions of the kit (its standard library, `clap`, `sha2` and others) are not followed. Lines are those of the
 definitions alone: no comments, no imports, no empty lines.
 
-Each number of the page is compared, and each definition must be named there under its file, with none besides. A line is
-written for each of these that fails, and last the line `N passed, M failed`. The status is 0 if all passed.
+Each number of BELIEVE.md is compared, and each definition must be named there under its file, with none besides. Of README.md
+its quote of the clause is compared, and how many definitions it says are behind it. A line is written for each of these that
+fails, and last the line `N passed, M failed`. The status is 0 if all passed.
 """
 
 import functools
@@ -22,6 +23,7 @@ from pathlib import Path
 
 ROOT = Path(__file__).resolve().parent.parent
 PAGE = ROOT / "docs" / "BELIEVE.md"
+README = ROOT / "README.md"
 RUN = "pdb_program::programs::run"
 CLAUSE = RUN + ".headline"
 HEADLINE = "pdb_program::Headline::Headline"
@@ -315,9 +317,16 @@ def check_page(page):
     yield "the headline is quoted", quoted(page, text[last_import + 2 :])
 
 
+def check_readme(page):
+    yield "README.md: the clause is quoted", quoted(page, clause_text("programs", "run"))
+    headline, clause = behind(HEADLINE, *roots_of(APART)), behind(CLAUSE)
+    counts = f"the {len(clause)} short definitions behind it in order: {len(headline)} of them say"
+    yield f"README.md: {counts}", counts in page
+
+
 def compare():
     passed = failed = 0
-    for name, holds in check_page(PAGE.read_text()):
+    for name, holds in [*check_page(PAGE.read_text()), *check_readme(README.read_text())]:
         passed += holds
         failed += not holds
         if not holds:

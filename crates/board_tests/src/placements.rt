@@ -305,44 +305,46 @@ fn kept_slot_at(kept: &SlotTable, placement: &Placement, cell: u8) -> Option<u8>
     kept.slot(placement, cell)
 }
 
+/// A side, a mask, a board, and the slot of each of its cells that is free.
+const SLOTS: [(u8, u32, &[u8], &[Option<u8>]); 3] = [
+    (2, 6, &[1, 0, 3, 2], &[None, Some(0), Some(1), None]),
+    (
+        3,
+        30,
+        &[0, 1, 5, 2, 6, 3, 7, 4, 8],
+        &[
+            Some(0),
+            None,
+            Some(1),
+            None,
+            Some(2),
+            None,
+            Some(3),
+            None,
+            Some(4),
+        ],
+    ),
+    (
+        3,
+        14,
+        &[4, 1, 0, 2, 3, 5, 6, 7, 8],
+        &[
+            Some(0),
+            None,
+            Some(1),
+            None,
+            None,
+            Some(1),
+            Some(1),
+            Some(1),
+            Some(1),
+        ],
+    ),
+];
+
 #[test]
 fn kept_slots_are_regions_by_least_cell(rt: HostRuntime) -> Result<(), Fail> {
-    let placements: [(u8, u32, &[u8], &[Option<u8>]); 3] = [
-        (2, 6, &[1, 0, 3, 2], &[None, Some(0), Some(1), None]),
-        (
-            3,
-            30,
-            &[0, 1, 5, 2, 6, 3, 7, 4, 8],
-            &[
-                Some(0),
-                None,
-                Some(1),
-                None,
-                Some(2),
-                None,
-                Some(3),
-                None,
-                Some(4),
-            ],
-        ),
-        (
-            3,
-            14,
-            &[4, 1, 0, 2, 3, 5, 6, 7, 8],
-            &[
-                Some(0),
-                None,
-                Some(1),
-                None,
-                None,
-                Some(1),
-                Some(1),
-                Some(1),
-                Some(1),
-            ],
-        ),
-    ];
-    for (n, mask, board, slots) in placements {
+    for (n, mask, board, slots) in SLOTS {
         let placement = on_board(&rt, &pattern_with(&rt, n, mask), board);
         let kept = SlotTable::build(rt.alloc(), &placement.pattern())?;
         for (cell, want) in (0..).zip(slots) {

@@ -33,7 +33,8 @@ impl Command for WantsOne<'_> {
     ghost use Rattle.pdb_run.specs.Commands.{plan_under};
 
     ghost plan = { λ command. plan_under None
-        (record { name = option_map (λ s. s.now) command.name; limit = 4 } ∷ []) (λ _ _. ⊥) (λ _. ⊥) };
+        (record { name = option_map (λ s. s.now) command.name; limit = 4 } ∷ [])
+        (λ _ _. ⊥) (λ _. ⊥) };
 
     fn inputs(&self, alloc: Global) -> Result<Vec<Input<'_>>, AllocError> {
         let mut inputs = Vec::new(alloc);

@@ -138,6 +138,14 @@ fn lemma_at<'a>(lemmas: &Lemmas<'a>, number: u32) -> Option<Lemma<'a>> {
     Some(front(lemmas.cells, rest)?.0)
 }
 
+/// What the tree of a lemma is read with: the lemmas of its file, its number among them, and the tiles of the table.
+#[derive(Clone, Copy)]
+struct Place<'a> {
+    lemmas: &'a Lemmas<'a>,
+    number: u32,
+    tiles: &'a [u8],
+}
+
 /// Whether the bytes of a lemma's tree spell one tree, which refutes shorter solutions.
 fn is_good(lemmas: &Lemmas<'_>, i: u32, tiles: &[u8]) -> bool {
     let Some(lemma) = lemma_at(lemmas, i) else {
@@ -146,15 +154,12 @@ fn is_good(lemmas: &Lemmas<'_>, i: u32, tiles: &[u8]) -> bool {
     let [a, b, c, d] = *lemma.cells else {
         return false;
     };
-    match behind_tree(
+    let place = Place {
         lemmas,
-        i,
+        number: i,
         tiles,
-        lemma.tree,
-        &[a, b, c, d],
-        None,
-        lemma.bound,
-    ) {
+    };
+    match behind_tree(&place, lemma.tree, &[a, b, c, d], None, lemma.bound) {
         Some(rest) => rest.is_empty(),
         None => false,
     }
@@ -162,24 +167,22 @@ fn is_good(lemmas: &Lemmas<'_>, i: u32, tiles: &[u8]) -> bool {
 
 /// The bytes behind the tree at the front, where it refutes that the board has a solution of fewer moves than the bound.
 fn behind_tree<'a>(
-    lemmas: &Lemmas<'_>,
-    i: u32,
-    tiles: &[u8],
+    place: &Place<'_>,
     bytes: &'a [u8],
     board: &Cells,
     arriving: Option<usize>,
     bound: u8,
 ) -> Option<&'a [u8]> {
     let (node, mut rest) = bytes.split_first()?;
-    if *node == 1 || (lemmas.version == 2 && *node == 0x41) {
-        return if reaches(tiles, board, *node == 0x41, bound) {
+    if *node == 1 || (place.lemmas.version == 2 && *node == 0x41) {
+        return if reaches(place.tiles, board, *node == 0x41, bound) {
             Some(rest)
         } else {
             None
         };
     }
     if *node == 0x20 {
-        return behind_citation(lemmas, i, rest, board, bound);
+        return behind_citation(place, rest, board, bound);
     }
     if *node != 0 || bound == 0 || *board == RING[0] {
         return None;
@@ -189,26 +192,25 @@ fn behind_tree<'a>(
             continue;
         }
         if let Some(after) = moved(board, to) {
-            rest = behind_tree(lemmas, i, tiles, rest, &after, Some(mv), bound - 1)?;
+            rest = behind_tree(place, rest, &after, Some(mv), bound - 1)?;
         }
     }
     Some(rest)
 }
 
-/// The bytes behind the number of a lemma at the front, where lemma `i` may cite it.
+/// The bytes behind the number of a lemma at the front, where the lemma whose tree is read may cite it.
 fn behind_citation<'a>(
-    lemmas: &Lemmas<'_>,
-    i: u32,
+    place: &Place<'_>,
     bytes: &'a [u8],
     board: &Cells,
     bound: u8,
 ) -> Option<&'a [u8]> {
     let (number, rest) = bytes.split_first_chunk::<4>()?;
     let number = u32::from_be_bytes(*number);
-    if number >= i {
+    if number >= place.number {
         return None;
     }
-    let cited = lemma_at(lemmas, number)?;
+    let cited = lemma_at(place.lemmas, number)?;
     if cited.cells == board.as_slice() && bound <= cited.bound {
         Some(rest)
     } else {

@@ -2,6 +2,7 @@
 
 use crate::runs::{Ended, ran_by};
 use byte_io::memory::MemShelf;
+use pdb_program::Host;
 use samples::HoldingGate;
 use samples::files::{TILE_1, TILE_3, TILE_24, TILES_12, TILES_123};
 use samples::logs::{BRANCHES, CITATION, LEAF, UNSOLVABLE};
@@ -39,50 +40,53 @@ const TURNED_LEAF: [u8; 20] = *b"PDBL\x01\x02\0\0\0\x01\0\x02\x01\x03\x05\0\0\0\
 const WRONG_123: [u8; 44] =
     *b"PDBT\x01\x02\x03\0\0\0\0\x0E\0\0\0\0\0\0\0\x18\xFF\xFF\x02\x01\x03\xFF\x02\x01\xFF\0\xFF\xFF\xFF\xFF\x02\xFF\x05\x04\xFF\x03\x05\x04\xFF\xFF";
 
+/// `BRANCHES` without its last byte.
+const BRANCHES_CUT: [u8; 29] =
+    *b"PDBL\x01\x02\0\0\0\x01\x03\x02\x01\0\x06\0\0\0\x0B\0\0\0\0\0\x01\0\0\0\0";
+
+/// `TILES_123` without its last byte.
+const CUT_123: [u8; 43] =
+    *b"PDBT\x01\x02\x03\0\0\0\0\x0E\0\0\0\0\0\0\0\x18\xFF\xFF\x02\x01\x03\xFF\x02\x01\xFF\0\xFF\xFF\xFF\xFF\x06\xFF\x05\x04\xFF\x03\x05\x04\xFF";
+
 /// The files of all runs here, by their names.
-fn shelf(alloc: Global) -> Result<MemShelf, AllocError> {
-    MemShelf::of(
-        alloc,
-        &[
-            ("board", b"3 2 1 0".as_slice()),
-            ("unsolvable_board", b"0 1 3 2"),
-            ("another_board", b"3 0 1 2"),
-            ("turned_board", b"0 2 1 3"),
-            ("no_board", b"0 1 2 2"),
-            ("six_moves", b"3 2 1 0 ; ULDRUL"),
-            ("eight_moves", b"3 2 1 0 ; ULDRULRL"),
-            ("one_move", b"3 2 1 0 ; U"),
-            ("one_set", b"set 0\n"),
-            ("pair", b"set 0 1\n"),
-            ("descending", b"set 0\nset 1 0\n"),
-            ("transposed", b"set 0t\n"),
-            ("with_transposed", b"set 0 0t\n"),
-            ("with_transposed_and_1", b"set 0 0t 1\n"),
-            ("transposed_second", b"set 0 1t\n"),
-            ("transposed_first", b"set 0t 0\n"),
-            ("great_letter", b"set 0T\n"),
-            ("leaf", &LEAF),
-            ("leaf_of_4", &LEAF_OF_4),
-            ("leaf_of_5", &LEAF_OF_5),
-            ("leaf_of_7", &LEAF_OF_7),
-            ("turned_leaf", &TURNED_LEAF),
-            ("branches", &BRANCHES),
-            ("branches_cut", &BRANCHES[..29]),
-            ("without_a_child", &WITHOUT_A_CHILD),
-            ("branches_and_more", &BRANCHES_AND_MORE),
-            ("citation", &CITATION),
-            ("cites_itself", &CITES_ITSELF),
-            ("unsolvable", &UNSOLVABLE),
-            ("f123", &TILES_123),
-            ("wrong_123", &WRONG_123),
-            ("cut_123", &TILES_123[..43]),
-            ("f12", &TILES_12),
-            ("f1", &TILE_1),
-            ("f3", &TILE_3),
-            ("f24", &TILE_24),
-        ],
-    )
-}
+const FILES: [(&str, &[u8]); 36] = [
+    ("board", b"3 2 1 0"),
+    ("unsolvable_board", b"0 1 3 2"),
+    ("another_board", b"3 0 1 2"),
+    ("turned_board", b"0 2 1 3"),
+    ("no_board", b"0 1 2 2"),
+    ("six_moves", b"3 2 1 0 ; ULDRUL"),
+    ("eight_moves", b"3 2 1 0 ; ULDRULRL"),
+    ("one_move", b"3 2 1 0 ; U"),
+    ("one_set", b"set 0\n"),
+    ("pair", b"set 0 1\n"),
+    ("descending", b"set 0\nset 1 0\n"),
+    ("transposed", b"set 0t\n"),
+    ("with_transposed", b"set 0 0t\n"),
+    ("with_transposed_and_1", b"set 0 0t 1\n"),
+    ("transposed_second", b"set 0 1t\n"),
+    ("transposed_first", b"set 0t 0\n"),
+    ("great_letter", b"set 0T\n"),
+    ("leaf", &LEAF),
+    ("leaf_of_4", &LEAF_OF_4),
+    ("leaf_of_5", &LEAF_OF_5),
+    ("leaf_of_7", &LEAF_OF_7),
+    ("turned_leaf", &TURNED_LEAF),
+    ("branches", &BRANCHES),
+    ("branches_cut", &BRANCHES_CUT),
+    ("without_a_child", &WITHOUT_A_CHILD),
+    ("branches_and_more", &BRANCHES_AND_MORE),
+    ("citation", &CITATION),
+    ("cites_itself", &CITES_ITSELF),
+    ("unsolvable", &UNSOLVABLE),
+    ("f123", &TILES_123),
+    ("wrong_123", &WRONG_123),
+    ("cut_123", &CUT_123),
+    ("f12", &TILES_12),
+    ("f1", &TILE_1),
+    ("f3", &TILE_3),
+    ("f24", &TILE_24),
+];
 
 /// The SHA-256 of a log or a table, by its name.
 fn digest_of(name: &str) -> &'static str {
@@ -136,9 +140,10 @@ fn checked_by<'w, H: Threads + Wait + Sync, G: Gate + Sync>(
     for flag in flags.split(' ') {
         all.push(flag)?;
     }
-    let mut shelf = shelf(alloc)?;
+    let mut shelf = MemShelf::of(alloc, &FILES)?;
     let mut reader = b"".as_slice();
-    ran_by(rt, alloc, all.as_slice(), &mut shelf, &mut reader, gate)
+    let host = Host { rt, alloc, gate };
+    ran_by(&host, all.as_slice(), &mut shelf, &mut reader)
 }
 
 /// The digest lines of the tables and of the log that the words name, and then this line.
@@ -153,33 +158,47 @@ fn lines(alloc: Global, words: &str, line: &str) -> Result<String, AllocError> {
     format!(in alloc; "{all}sha256 {}\n{line}\n", digest_of(log))
 }
 
-/// A run of these words says this line below the digests, with this status, whichever of these flags it has.
+/// The words of a run, the line that it says below the digests, and its status.
+#[derive(Clone, Copy)]
+struct Case<'a> {
+    words: &'a str,
+    line: &'a str,
+    status: u8,
+}
+
+/// A run says what its case has, whichever of these flags it has.
 fn expect_by<H: Threads + Wait + Sync>(
     rt: &H,
     alloc: Global,
-    words: &str,
+    case: &Case<'_>,
     flags: &[&str],
-    line: &str,
-    status: u8,
 ) -> Result<(), Fail> {
-    let want = lines(alloc, words, line)?;
+    let want = lines(alloc, case.words, case.line)?;
     for flag in flags {
-        let ended = checked_by(rt, alloc, words, flag, &OpenGate)?;
-        ended.expect(want.as_bytes(), status)?;
+        let ended = checked_by(rt, alloc, case.words, flag, &OpenGate)?;
+        ended.expect(want.as_bytes(), case.status)?;
     }
     Ok(())
 }
 
-/// The same, whoever checks, and whether the tables are folded or not.
-fn expect<H: Threads + Wait + Sync>(
+/// Runs of these words say these lines below their digests, with this status, whoever checks, and whether the tables are
+/// folded or not.
+fn expect_all<H: Threads + Wait + Sync>(
     rt: &H,
     alloc: Global,
-    words: &str,
-    line: &str,
+    cases: &[(&str, &str)],
     status: u8,
 ) -> Result<(), Fail> {
-    expect_by(rt, alloc, words, &WHOLE, line, status)?;
-    expect_by(rt, alloc, words, &FOLDED, line, status)
+    for (words, line) in cases {
+        let case = Case {
+            words,
+            line,
+            status,
+        };
+        expect_by(rt, alloc, &case, &WHOLE)?;
+        expect_by(rt, alloc, &case, &FOLDED)?;
+    }
+    Ok(())
 }
 
 #[test]
@@ -204,18 +223,25 @@ fn bounds_that_good_logs_prove_are_told(rt: HostRuntime) -> Result<(), Fail> {
         ),
         ("optimal six_moves one_set branches f12", "optimal 6"),
     ];
-    for (words, line) in cases {
-        expect(&rt, rt.alloc(), words, line, 0)?;
-    }
-    Ok(())
+    expect_all(&rt, rt.alloc(), &cases, 0)
 }
 
 #[test]
 fn a_folded_table_bounds_some_boards_less(rt: HostRuntime) -> Result<(), Fail> {
     // The tiles 1 and 2 never come home from here; folded, their table has 4 for this and the board with the blank in cell 3.
     let words = "bound turned_board one_set turned_leaf f12";
-    expect_by(&rt, rt.alloc(), words, &WHOLE, "bound 5", 0)?;
-    expect_by(&rt, rt.alloc(), words, &FOLDED, "refused L6 at lemma 0", 1)
+    let whole = Case {
+        words,
+        line: "bound 5",
+        status: 0,
+    };
+    expect_by(&rt, rt.alloc(), &whole, &WHOLE)?;
+    let folded = Case {
+        words,
+        line: "refused L6 at lemma 0",
+        status: 1,
+    };
+    expect_by(&rt, rt.alloc(), &folded, &FOLDED)
 }
 
 // Run with each allocation refused in turn.
@@ -276,10 +302,7 @@ fn the_first_refusal_of_a_bound_is_told(rt: HostRuntime) -> Result<(), Fail> {
         ("bound another_board one_set leaf f123", "refused L5"),
         ("bound board one_set leaf f24", "refused L4"),
     ];
-    for (words, line) in cases {
-        expect(&rt, rt.alloc(), words, line, 1)?;
-    }
-    Ok(())
+    expect_all(&rt, rt.alloc(), &cases, 1)
 }
 
 #[test]
@@ -296,10 +319,7 @@ fn the_first_refusal_of_an_optimum_is_told(rt: HostRuntime) -> Result<(), Fail> 
             "refused L6 at lemma 0",
         ),
     ];
-    for (words, line) in cases {
-        expect(&rt, rt.alloc(), words, line, 1)?;
-    }
-    Ok(())
+    expect_all(&rt, rt.alloc(), &cases, 1)
 }
 
 #[test]
@@ -334,10 +354,7 @@ fn changed_logs_and_tables_are_refused(rt: HostRuntime) -> Result<(), Fail> {
             "refused T7 at entry 14 of table 1",
         ),
     ];
-    for (words, line) in cases {
-        expect(&rt, rt.alloc(), words, line, 1)?;
-    }
-    Ok(())
+    expect_all(&rt, rt.alloc(), &cases, 1)
 }
 
 #[test]
@@ -352,10 +369,7 @@ fn more_than_16_tables_are_checked_and_then_refused(rt: HostRuntime) -> Result<(
             "refused T6 of table 16",
         ),
     ];
-    for (words, line) in cases {
-        expect(&rt, rt.alloc(), words, line, 1)?;
-    }
-    Ok(())
+    expect_all(&rt, rt.alloc(), &cases, 1)
 }
 
 #[test]

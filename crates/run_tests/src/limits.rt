@@ -1,6 +1,6 @@
 //! Inputs at their limits, and large ones.
 
-use crate::runs::{expect_line, ran, replayed};
+use crate::runs::{Said, expect_said, ran, replayed};
 use byte_io::memory::MemShelf;
 use byte_io::shelf::Shelf;
 use sample_streams::EndlessReader;
@@ -53,8 +53,12 @@ fn large_files_are_checked(rt: HostRuntime) -> Result<(), Fail> {
     let alloc = rt.alloc();
     let mut longer = TWO_BLOCKS.to_vec(alloc)?;
     longer.resize(65_620, 0)?;
-    let digest = "8c1a77fdee3a59eba622c8000d2cdb911f557623ec87b290cba2802588bd699b";
-    expect_line(&rt, alloc, longer.as_slice(), digest, "refused T6", 1)?;
+    let too_long = Said {
+        digest: "8c1a77fdee3a59eba622c8000d2cdb911f557623ec87b290cba2802588bd699b",
+        line: "refused T6",
+        status: 1,
+    };
+    expect_said(&rt, alloc, longer.as_slice(), &too_long)?;
 
     // The tiles 1 to 4 on side 5: above a mebibyte.
     let header = [
@@ -63,13 +67,10 @@ fn large_files_are_checked(rt: HostRuntime) -> Result<(), Fail> {
     ];
     let mut never = header.to_vec(alloc)?;
     never.resize(1_518_020, 0xFF)?;
-    let digest = "67fd091c6bdb2d94d50facea750c22465e480e46100b1cb75e1f788929ae029d";
-    expect_line(
-        &rt,
-        alloc,
-        never.as_slice(),
-        digest,
-        "refused T7 at entry 1",
-        1,
-    )
+    let bad_entry = Said {
+        digest: "67fd091c6bdb2d94d50facea750c22465e480e46100b1cb75e1f788929ae029d",
+        line: "refused T7 at entry 1",
+        status: 1,
+    };
+    expect_said(&rt, alloc, never.as_slice(), &bad_entry)
 }

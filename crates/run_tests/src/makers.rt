@@ -3,6 +3,7 @@
 use crate::runs::{Ended, ran, ran_by};
 use byte_io::memory::MemShelf;
 use byte_io::shelf::Shelf;
+use pdb_program::Host;
 use samples::files::{TILE_24, TILES_12, TILES_123};
 use samples::{HoldingGate, LeastCosts};
 use std::alloc::{AllocError, Global};
@@ -135,7 +136,12 @@ fn two_workers_check_a_made_table_side_by_side(rt: HostRuntime) -> Result<(), Fa
     let words = ["make-table", "3", "14", "o", "--workers", "2"];
     let line = "exact side 3 mask 14 entries 2016 unreachable 0 deepest 12";
     let want = format!(in alloc; "sha256 {DIGEST_OF_14}\n{line}\n")?;
-    ran_by(&rt, alloc, &words, &mut shelf, &mut reader, &gate)?.expect(want.as_bytes(), 0)?;
+    let host = Host {
+        rt: &rt,
+        alloc,
+        gate: &gate,
+    };
+    ran_by(&host, &words, &mut shelf, &mut reader)?.expect(want.as_bytes(), 0)?;
     assert!(rt; gate.saw_all(), "one worker alone");
     let table = LeastCosts::new(alloc, &[1, 2, 3])?.table(alloc)?;
     expect_held(&shelf, "o", Some(table.as_slice()))
@@ -188,47 +194,67 @@ fn letters_in(lines: &str) -> &str {
     letters.strip_prefix(" ").unwrap_or(letters)
 }
 
-/// A run of `solve` on this board with these words behind its first three names tells the digest of its table, that of
-/// the log which it keeps, the letters of so many moves, and that so many are the fewest. What `optimal` says of these
-/// moves and this log agrees.
+/// A search on a board over a table, by their names, with more words behind these, and how many moves are the fewest.
+#[derive(Clone, Copy)]
+struct Search<'a> {
+    board: &'a str,
+    table: &'a str,
+    flags: &'a str,
+    moves: usize,
+}
+
+/// A run of `optimal` on the board of a search with these letters behind it, and on the log that it kept.
+fn checked_after<H: Threads + Wait + Sync>(
+    rt: &H,
+    alloc: Global,
+    search: &Search<'_>,
+    letters: &str,
+    shelf: &mut MemShelf,
+) -> Result<Ended, Fail> {
+    let board = std::str::from_utf8(shelf.get(search.board).unwrap_or(b"")).unwrap_or("");
+    let puzzle = format!(in alloc; "{board};{letters}")?;
+    if shelf.keep(alloc, "puzzle", puzzle.as_bytes()).is_err() {
+        return Err(Fail::new("the puzzle text is not kept"));
+    }
+    let fold = if search.flags.contains("--fold") {
+        " --fold"
+    } else {
+        ""
+    };
+    let words = format!(in alloc; "optimal puzzle sets o {}{fold}", search.table)?;
+    Ok(ran_on(rt, alloc, words.as_str(), shelf)?)
+}
+
+/// A run of `solve` tells the digest of its table, that of the log which it keeps, the letters of as many moves as the
+/// search has, and that so many are the fewest. What `optimal` says of these moves and this log agrees.
 fn expect_solved<H: Threads + Wait + Sync>(
     rt: &H,
     alloc: Global,
-    board: &str,
-    table: &str,
-    flags: &str,
-    moves: usize,
+    search: &Search<'_>,
 ) -> Result<(), Fail> {
+    let Search {
+        board,
+        table,
+        flags,
+        moves,
+    } = *search;
     let mut shelf = shelf(alloc)?;
     let words = format!(in alloc; "solve {board} sets o {table}{flags}")?;
     let ended = ran_on(rt, alloc, words.as_str(), &mut shelf)?;
     let told = std::str::from_utf8(ended.out.as_slice()).unwrap_or("");
     let letters = letters_in(told);
-    let text = std::str::from_utf8(shelf.get(board).unwrap_or(b"")).unwrap_or("");
-    let puzzle = format!(in alloc; "{text};{letters}")?;
-    if shelf.keep(alloc, "puzzle", puzzle.as_bytes()).is_err() {
-        return Err(Fail::new("the puzzle text is not kept"));
-    }
-    let fold = if flags.contains("--fold") {
-        " --fold"
-    } else {
-        ""
-    };
-    let words = format!(in alloc; "optimal puzzle sets o {table}{fold}")?;
-    let checked = ran_on(rt, alloc, words.as_str(), &mut shelf)?;
+    let checked = checked_after(rt, alloc, search, letters, &mut shelf)?;
     let said = std::str::from_utf8(checked.out.as_slice()).unwrap_or("");
     let digest_of_log = said.lines().nth(1).unwrap_or("");
-    let digest = if table == "f12" {
-        DIGEST_OF_12
-    } else {
-        DIGEST_OF_123
+    let digest = match table {
+        "f12" => DIGEST_OF_12,
+        _ => DIGEST_OF_123,
     };
     let space = if moves == 0 { "" } else { " " };
-    let want = format!(in alloc;
-        "sha256 {digest}\n{digest_of_log}\nmoves{space}{letters}\noptimal {moves}\n"
-    )?;
+    let digests = format!(in alloc; "sha256 {digest}\n{digest_of_log}\n")?;
+    let want = format!(in alloc; "{digests}moves{space}{letters}\noptimal {moves}\n")?;
     ended.expect(want.as_bytes(), 0)?;
-    let want = format!(in alloc; "sha256 {digest}\n{digest_of_log}\noptimal {moves}\n")?;
+    let want = format!(in alloc; "{digests}optimal {moves}\n")?;
     checked.expect(want.as_bytes(), 0)?;
     if letters.len() == moves {
         Ok(())
@@ -254,7 +280,13 @@ fn shortest_solutions_are_found_and_their_logs_kept(rt: HostRuntime) -> Result<(
         ("six", "f12", " --fold --workers 2 --budget 1000", 6),
     ];
     for (board, table, flags, moves) in cases {
-        expect_solved(&rt, rt.alloc(), board, table, flags, moves)?;
+        let search = Search {
+            board,
+            table,
+            flags,
+            moves,
+        };
+        expect_solved(&rt, rt.alloc(), &search)?;
     }
     Ok(())
 }
@@ -306,7 +338,12 @@ fn two_workers_check_the_table_of_a_search_side_by_side(rt: HostRuntime) -> Resu
     // The first two jobs of all are the table's.
     let gate = HoldingGate::new(&[0], &[1]).among(0..2);
     let words = ["solve", "one", "sets", "o", "three", "--workers", "2"];
-    let ended = ran_by(&rt, alloc, &words, &mut shelf, &mut reader, &gate)?;
+    let host = Host {
+        rt: &rt,
+        alloc,
+        gate: &gate,
+    };
+    let ended = ran_by(&host, &words, &mut shelf, &mut reader)?;
     assert!(rt; ended.status == 0 && ended.out.ends_with(b"\nmoves L\noptimal 1\n"));
     assert!(rt; gate.saw_all(), "one worker alone");
     Ok(())

@@ -4,45 +4,47 @@ use crate::runs::{ran, replayed};
 use byte_io::memory::MemShelf;
 use std::test::Fail;
 
+/// Puzzle texts, the lines on them, and the statuses.
+const TEXTS: [(&[u8], &[u8], u8); 21] = [
+    (b"3 2 1 0 ; ULDRUL\n", b"solution 6\n", 0),
+    (b"0 1 2 3 ;", b"solution 0\n", 0),
+    (b"1 0 2 3 ; L", b"solution 1\n", 0),
+    (b"3 1 2 4 0 5 6 7 8 ; LU", b"solution 2\n", 0),
+    (
+        b"4 1 2 3 5 0 6 7 8 9 10 11 12 13 14 15 ; LU",
+        b"solution 2\n",
+        0,
+    ),
+    (
+        b"5 1 2 3 4 6 0 7 8 9 10 11 12 13 14 15 16 17 18 19 20 21 22 23 24 ; LU",
+        b"solution 2\n",
+        0,
+    ),
+    (
+        b"5 1 2 3 4 6 0 7 8 9 10 11 12 13 14 15 16 17 18 19 20 21 22 23 24 ; UL",
+        b"refused M4\n",
+        1,
+    ),
+    (b"", b"refused P1\n", 1),
+    (b"0 1 2 x", b"refused P1\n", 1),
+    (b"1 0 2 3 ; U", b"refused M2 at step 0\n", 1),
+    (b"1 0 2 3 ;", b"refused M4\n", 1),
+    (b"0 1 2 3 ;u", b"refused M1 at byte 0\n", 1),
+    (b"0 1 2 3 ;;", b"refused M1 at byte 0\n", 1),
+    (b"0 1 2 3 ; RL\0", b"refused M1 at byte 3\n", 1),
+    (b"0 1 2 3 ;\x80", b"refused M1 at byte 0\n", 1),
+    (b"0 1 2 2 ;", b"refused B5 at number 3\n", 1),
+    (b"0 1 2 3 4 ;", b"refused B3 count 5\n", 1),
+    (b"0 1 2 4 ;", b"refused B4 at number 3\n", 1),
+    (b"0 1 2 x ;u", b"refused B1 at byte 6\n", 1),
+    (b"0 1 \xff 3 ;", b"refused B1 at byte 4\n", 1),
+    (b"0 1 002 3 ;", b"refused B2 at byte 4\n", 1),
+];
+
 #[test]
 fn puzzle_texts_get_their_lines(rt: HostRuntime) -> Result<(), Fail> {
     let alloc = rt.alloc();
-    let cases: [(&[u8], &[u8], u8); 21] = [
-        (b"3 2 1 0 ; ULDRUL\n", b"solution 6\n", 0),
-        (b"0 1 2 3 ;", b"solution 0\n", 0),
-        (b"1 0 2 3 ; L", b"solution 1\n", 0),
-        (b"3 1 2 4 0 5 6 7 8 ; LU", b"solution 2\n", 0),
-        (
-            b"4 1 2 3 5 0 6 7 8 9 10 11 12 13 14 15 ; LU",
-            b"solution 2\n",
-            0,
-        ),
-        (
-            b"5 1 2 3 4 6 0 7 8 9 10 11 12 13 14 15 16 17 18 19 20 21 22 23 24 ; LU",
-            b"solution 2\n",
-            0,
-        ),
-        (
-            b"5 1 2 3 4 6 0 7 8 9 10 11 12 13 14 15 16 17 18 19 20 21 22 23 24 ; UL",
-            b"refused M4\n",
-            1,
-        ),
-        (b"", b"refused P1\n", 1),
-        (b"0 1 2 x", b"refused P1\n", 1),
-        (b"1 0 2 3 ; U", b"refused M2 at step 0\n", 1),
-        (b"1 0 2 3 ;", b"refused M4\n", 1),
-        (b"0 1 2 3 ;u", b"refused M1 at byte 0\n", 1),
-        (b"0 1 2 3 ;;", b"refused M1 at byte 0\n", 1),
-        (b"0 1 2 3 ; RL\0", b"refused M1 at byte 3\n", 1),
-        (b"0 1 2 3 ;\x80", b"refused M1 at byte 0\n", 1),
-        (b"0 1 2 2 ;", b"refused B5 at number 3\n", 1),
-        (b"0 1 2 3 4 ;", b"refused B3 count 5\n", 1),
-        (b"0 1 2 4 ;", b"refused B4 at number 3\n", 1),
-        (b"0 1 2 x ;u", b"refused B1 at byte 6\n", 1),
-        (b"0 1 \xff 3 ;", b"refused B1 at byte 4\n", 1),
-        (b"0 1 002 3 ;", b"refused B2 at byte 4\n", 1),
-    ];
-    for (input, line, status) in cases {
+    for (input, line, status) in TEXTS {
         replayed(&rt, alloc, input)?.expect(line, status)?;
     }
     Ok(())

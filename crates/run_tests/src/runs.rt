@@ -2,7 +2,7 @@
 
 use byte_io::memory::MemShelf;
 use byte_io::shelf::Shelf;
-use pdb_program::run;
+use pdb_program::{Host, run};
 use std::alloc::{AllocError, Global};
 use std::io::Read;
 use std::sync::Wait;
@@ -74,15 +74,14 @@ pub fn owned(alloc: Global, words: &[&str]) -> Result<Vec<String>, AllocError> {
     Ok(all)
 }
 
-/// A run of these words over a shelf and a reader, whose workers pass a gate.
+/// A run of these words on a host, over a shelf and a reader.
 pub fn ran_by<H: Threads + Wait + Sync, S: Shelf, R: Read, G: Gate + Sync>(
-    rt: &H,
-    alloc: Global,
+    host: &Host<'_, H, G>,
     words: &[&str],
     shelf: &mut S,
     reader: &mut R,
-    gate: &G,
 ) -> Result<Ended, AllocError> {
+    let (rt, alloc, gate) = (host.rt, host.alloc, host.gate);
     let mut out = Vec::new(alloc);
     let mut err = Vec::new(alloc);
     let words = owned(alloc, words)?;
@@ -98,7 +97,12 @@ pub fn ran<H: Threads + Wait + Sync, S: Shelf, R: Read>(
     shelf: &mut S,
     reader: &mut R,
 ) -> Result<Ended, AllocError> {
-    ran_by(rt, alloc, words, shelf, reader, &OpenGate)
+    let host = Host {
+        rt,
+        alloc,
+        gate: &OpenGate,
+    };
+    ran_by(&host, words, shelf, reader)
 }
 
 /// A run of `replay` on standard input with these bytes.
@@ -122,29 +126,29 @@ pub fn checked_by<H: Threads + Wait + Sync, G: Gate + Sync>(
 ) -> Result<Ended, AllocError> {
     let mut shelf = MemShelf::of(alloc, &[("a table", file)])?;
     let mut reader = b"".as_slice();
-    ran_by(
-        rt,
-        alloc,
-        &["table", "a table", "--workers", workers],
-        &mut shelf,
-        &mut reader,
-        gate,
-    )
+    let words = ["table", "a table", "--workers", workers];
+    ran_by(&Host { rt, alloc, gate }, &words, &mut shelf, &mut reader)
 }
 
-/// A run on the file says this line below this digest, with this status, whether 1, 2, 7 or 64 workers check it.
-pub fn expect_line<H: Threads + Wait + Sync>(
+/// What is said of a table file: its digest, the line below, and the status.
+#[derive(Clone, Copy)]
+pub struct Said<'a> {
+    pub digest: &'a str,
+    pub line: &'a str,
+    pub status: u8,
+}
+
+/// A run on the file says this, whether 1, 2, 7 or 64 workers check it.
+pub fn expect_said<H: Threads + Wait + Sync>(
     rt: &H,
     alloc: Global,
     file: &[u8],
-    digest: &str,
-    line: &str,
-    status: u8,
+    said: &Said<'_>,
 ) -> Result<(), Fail> {
-    let want = format!(in alloc; "sha256 {digest}\n{line}\n")?;
+    let want = format!(in alloc; "sha256 {}\n{}\n", said.digest, said.line)?;
     for workers in ["1", "2", "7", "64"] {
         let ended = checked_by(rt, alloc, file, workers, &OpenGate)?;
-        ended.expect(want.as_bytes(), status)?;
+        ended.expect(want.as_bytes(), said.status)?;
     }
     Ok(())
 }

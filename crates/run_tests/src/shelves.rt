@@ -21,20 +21,29 @@ const FILES: [(&str, &[u8]); 7] = [
     ("taken", b"what stood here"),
 ];
 
-/// A run of these words, one of whose calls of the shelf fails, says this alone. The shelf keeps nothing.
+/// The number of a shelf's call that fails, why it does, and what a run says then.
+#[derive(Clone, Copy)]
+struct Failure<'a> {
+    call: u64,
+    why: ShelfFault,
+    said: &'a str,
+}
+
+/// A run of these words, with this failure, says this alone. The shelf keeps nothing.
 fn expect_fault<H: Threads + Wait + Sync>(
     rt: &H,
     alloc: Global,
     words: &[&str],
-    call: u64,
-    why: ShelfFault,
-    said: &str,
+    failure: &Failure<'_>,
 ) -> Result<(), Fail> {
     let files = MemShelf::of(alloc, &FILES)?;
-    let mut shelf = FailingShelf::new(files, call, why);
+    let mut shelf = FailingShelf::new(files, failure.call, failure.why);
     let mut reader = b"".as_slice();
-    let line = format!(in alloc; "{said}\n")?;
-    let status = if why == ShelfFault::Memory { 3 } else { 2 };
+    let line = format!(in alloc; "{}\n", failure.said)?;
+    let status = match failure.why {
+        ShelfFault::Memory => 3,
+        _ => 2,
+    };
     ran(rt, alloc, words, &mut shelf, &mut reader)?.expect(line.as_bytes(), status)?;
     let is_kept = FILES
         .iter()
@@ -76,7 +85,7 @@ fn a_load_that_fails_is_a_fault_alone(rt: HostRuntime) -> Result<(), Fail> {
                 (ShelfFault::Size, too_long.as_str()),
                 (ShelfFault::Memory, "no memory"),
             ] {
-                expect_fault(&rt, alloc, words, call, why, said)?;
+                expect_fault(&rt, alloc, words, &Failure { call, why, said })?;
             }
         }
     }
@@ -95,11 +104,12 @@ fn what_can_not_be_kept_is_told_alone(rt: HostRuntime) -> Result<(), Fail> {
         ] {
             // Of both commands first the trial of the name fails, and then the keeping.
             for call in [0, 1] {
-                expect_fault(&rt, alloc, &["make-table", "2", "6", name], call, why, said)?;
+                let words = ["make-table", "2", "6", name];
+                expect_fault(&rt, alloc, &words, &Failure { call, why, said })?;
             }
             for call in [3, 4] {
                 let words = ["solve", "board", "sets", name, "f12"];
-                expect_fault(&rt, alloc, &words, call, why, said)?;
+                expect_fault(&rt, alloc, &words, &Failure { call, why, said })?;
             }
         }
     }
@@ -128,14 +138,12 @@ fn a_name_is_tried_before_anything_is_checked(rt: HostRuntime) -> Result<(), Fai
         (&["solve", "board", "sets", "made", "log"], 3),
     ];
     for (words, call) in cases {
-        expect_fault(
-            &rt,
-            alloc,
-            words,
+        let failure = Failure {
             call,
-            ShelfFault::Device,
-            "fault write made",
-        )?;
+            why: ShelfFault::Device,
+            said: "fault write made",
+        };
+        expect_fault(&rt, alloc, words, &failure)?;
     }
     Ok(())
 }

@@ -1,6 +1,6 @@
 //! `table` on table files.
 
-use crate::runs::{expect_line, ran};
+use crate::runs::{Said, expect_said, ran};
 use byte_io::memory::MemShelf;
 use samples::files::{
     TILE_1, TILE_1_NEVER, TILE_3, TILE_24, TILES_12, TILES_123, with_byte, with_one_more,
@@ -21,7 +21,12 @@ fn expect_lines<H: Threads + Wait + Sync>(
     status: u8,
 ) -> Result<(), Fail> {
     for (file, digest, line) in cases {
-        expect_line(rt, alloc, file, digest, line, status)?;
+        let said = Said {
+            digest,
+            line,
+            status,
+        };
+        expect_said(rt, alloc, file, &said)?;
     }
     Ok(())
 }

@@ -1,6 +1,6 @@
 //! `table` by several workers.
 
-use crate::runs::{checked_by, expect_line};
+use crate::runs::{Said, checked_by, expect_said};
 use samples::files::{FOURTEEN_BLOCKS, TWO_BLOCKS};
 use samples::{HoldingGate, LeastCosts};
 use std::test::Fail;
@@ -27,7 +27,12 @@ fn tables_of_side_3_are_exact_whoever_checks_them(rt: HostRuntime) -> Result<(),
     ];
     for (tiles, digest, line) in cases {
         let table = LeastCosts::new(alloc, tiles)?.table(alloc)?;
-        expect_line(&rt, alloc, table.as_slice(), digest, line, 0)?;
+        let said = Said {
+            digest,
+            line,
+            status: 0,
+        };
+        expect_said(&rt, alloc, table.as_slice(), &said)?;
     }
     Ok(())
 }

@@ -53,7 +53,8 @@ impl<'a> SampleReader<'a> {
     pub fn byte_by_byte_from(self, call: u64) -> SampleReader<'a>
         ensures bytes { result.rest.now ≡ self.entry.rest.now }
         ensures calls { result.calls ≡ self.entry.calls }
-        ensures failing { (result.failing_from ≡ self.entry.failing_from) × (result.failing_to ≡ self.entry.failing_to) }
+        ensures failing { (result.failing_from ≡ self.entry.failing_from)
+            × (result.failing_to ≡ self.entry.failing_to) }
     {
         SampleReader {
             single_from: call,
@@ -74,9 +75,11 @@ impl Read for SampleReader<'_> {
 
     fn read(&mut self, buf: &mut [u8]) -> io::Result<usize>
         ensures bound { ReadsAtMost result buf.new }
-        ensures bytes { ReadConsumes (Some self.old.rest.now) (Some self.new.rest.now) result buf.new }
+        ensures bytes { ReadConsumes (Some self.old.rest.now) (Some self.new.rest.now)
+            result buf.new }
         ensures counted { self.new.calls ≡ min (self.old.calls + 1) (2 ^ 64 - 1) }
-        ensures failing { IsErr result ↔ (self.old.failing_from ≤ self.old.calls) × (self.old.calls < self.old.failing_to) }
+        ensures failing { IsErr result ↔
+            (self.old.failing_from ≤ self.old.calls) × (self.old.calls < self.old.failing_to) }
         ensures single { self.old.single_from ≤ self.old.calls → IfOk result (λ count. count ≤ 1) }
     {
         let call = self.calls;

@@ -63,7 +63,8 @@ impl SampleWriter {
     pub fn byte_by_byte_from(self, call: u64) -> SampleWriter
         ensures taken { result.taken.items ≡ self.taken.items }
         ensures calls { result.calls ≡ self.calls }
-        ensures failing { (result.failing_from ≡ self.failing_from) × (result.failing_to ≡ self.failing_to) }
+        ensures failing { (result.failing_from ≡ self.failing_from)
+            × (result.failing_to ≡ self.failing_to) }
     {
         SampleWriter {
             single_from: call,
@@ -91,9 +92,11 @@ impl Write for SampleWriter {
 
     fn write(&mut self, buf: &[u8]) -> io::Result<usize>
         ensures bound { WritesAtMost result buf.now }
-        ensures bytes { WriteAppends (Some self.old.taken.items) (Some self.new.taken.items) result buf.now }
+        ensures bytes { WriteAppends (Some self.old.taken.items) (Some self.new.taken.items)
+            result buf.now }
         ensures counted { self.new.calls ≡ min (self.old.calls + 1) (2 ^ 64 - 1) }
-        ensures failing { self.old.failing_from ≤ self.old.calls → self.old.calls < self.old.failing_to → IfOk result (λ count. count ≡ 0) }
+        ensures failing { self.old.failing_from ≤ self.old.calls →
+            self.old.calls < self.old.failing_to → IfOk result (λ count. count ≡ 0) }
         ensures single { self.old.single_from ≤ self.old.calls → IfOk result (λ count. count ≤ 1) }
     {
         let call = self.calls;

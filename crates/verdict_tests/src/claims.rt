@@ -3,10 +3,10 @@
 ghost use Rattle.std.specs.Prelude.{◌<◌, ◌≤◌};
 
 use crate::sha256;
-use crate::telling::{joined, tells};
+use crate::telling::{io_over, joined, tells};
 use byte_io::memory::MemShelf;
 use pdb_request::{Claim, LogCheck};
-use pdb_run::{BorrowedIo, Status};
+use pdb_run::Status;
 use pdb_verdict::{Fault, Inputs, Verdict, run_log_check, verify};
 use samples::HoldingGate;
 use samples::files::{TILE_1, TILE_3, TILE_24, TILES_12, TILES_123, with_byte};
@@ -388,11 +388,7 @@ fn claims_are_told_behind_the_digests_of_their_tables(rt: HostRuntime) -> Result
     let workers = Workers::new(&rt, alloc, 2, &OpenGate);
     let mut out = Vec::new(alloc);
     let mut reader = b"".as_slice();
-    let mut io = BorrowedIo {
-        shelf: &mut shelf,
-        reader: &mut reader,
-        out: &mut out,
-    };
+    let mut io = io_over(&mut shelf, &mut reader, &mut out);
     let check = check_of(alloc, Claim::Bound, "sets", "log", "table")?;
     let bound = run_log_check(&check, &workers, &mut io);
     let check = check_of(alloc, Claim::Optimum, "sets", "log", "table")?;
@@ -421,11 +417,7 @@ fn claims_are_read_in_the_order_of_their_names(rt: HostRuntime) -> Result<(), Fa
     let no_table = check_of(alloc, Claim::Bound, "sets", "log", "no table")?;
     let mut out = Vec::new(alloc);
     let mut reader = b"".as_slice();
-    let mut io = BorrowedIo {
-        shelf: &mut shelf,
-        reader: &mut reader,
-        out: &mut out,
-    };
+    let mut io = io_over(&mut shelf, &mut reader, &mut out);
     for check in [&no_sets, &no_table] {
         let status = run_log_check(check, &workers, &mut io);
         assert!(rt; status == Status::Fault);

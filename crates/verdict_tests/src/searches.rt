@@ -1,11 +1,11 @@
 //! Moves and logs that are made, what is told of them, and what is kept.
 
 use crate::sha256;
-use crate::telling::joined;
+use crate::telling::{io_over, joined};
 use byte_io::memory::MemShelf;
 use pdb_keep::run_solve;
 use pdb_request::{Claim, LogCheck, Search};
-use pdb_run::{BorrowedIo, Status};
+use pdb_run::Status;
 use pdb_verdict::run_log_check;
 use samples::files::{TILE_24, TILES_12, TILES_123, with_byte};
 use std::alloc::{AllocError, Global};
@@ -63,11 +63,7 @@ fn solved<H: Threads + Wait + Sync>(
     };
     let mut out = Vec::new(alloc);
     let mut reader = b"".as_slice();
-    let mut io = BorrowedIo {
-        shelf: &mut shelf,
-        reader: &mut reader,
-        out: &mut out,
-    };
+    let mut io = io_over(&mut shelf, &mut reader, &mut out);
     let status = run_solve(&search, workers, &mut io);
     Ok((status, out, shelf))
 }
@@ -109,11 +105,7 @@ fn verdict_on<H: Threads + Wait + Sync>(
     };
     let mut told = Vec::new(alloc);
     let mut reader = b"".as_slice();
-    let mut io = BorrowedIo {
-        shelf: &mut claim,
-        reader: &mut reader,
-        out: &mut told,
-    };
+    let mut io = io_over(&mut claim, &mut reader, &mut told);
     let status = run_log_check(&check, workers, &mut io);
     Ok((status, told))
 }
@@ -329,11 +321,7 @@ fn ended_by<H: Threads + Wait + Sync>(
     let mut shelf = shelf(alloc)?;
     let mut out = Vec::new(alloc);
     let mut reader = b"".as_slice();
-    let mut io = BorrowedIo {
-        shelf: &mut shelf,
-        reader: &mut reader,
-        out: &mut out,
-    };
+    let mut io = io_over(&mut shelf, &mut reader, &mut out);
     let status = run_solve(search, &workers, &mut io);
     Ok((status, out))
 }

@@ -1,9 +1,10 @@
 //! Runs of each command over a shelf that fails.
 
+use crate::telling::io_over;
 use byte_io::memory::MemShelf;
 use pdb_keep::{run_make_table, run_solve};
 use pdb_request::{Claim, LogCheck, MakeTable, Replay, Search, TableCheck};
-use pdb_run::{BorrowedIo, Io, Status};
+use pdb_run::{Io, Status};
 use pdb_verdict::{run_log_check, run_replay, run_table};
 use sample_streams::{FailingShelf, ShelfFault};
 use samples::files::{TILE_3, TILES_12};
@@ -54,7 +55,28 @@ fn check_of(
     })
 }
 
-/// The end of its run over a shelf, by one worker. What it makes is to be kept as `o`.
+/// A search on the board, whose log is to be kept as `o`.
+fn search(alloc: Global) -> Result<Search<'static>, AllocError> {
+    Ok(Search {
+        board: "board",
+        sets: "sets",
+        out: "o",
+        tables: vec![in alloc; "f12", "f3"]?,
+        workers: 1,
+        fold: false,
+        budget: 1_000,
+    })
+}
+
+/// A table that is to be made and kept as `o`.
+const PATTERN: MakeTable<'static> = MakeTable {
+    side: 2,
+    mask: 6,
+    out: "o",
+    workers: 1,
+};
+
+/// The end of a command's run over a shelf, by one worker.
 fn ended<H: Threads + Wait + Sync, I: Io>(
     workers: &Workers<'_, H, OpenGate>,
     command: Command,
@@ -75,48 +97,32 @@ fn ended<H: Threads + Wait + Sync, I: Io>(
         }
         Command::Bound => run_log_check(&check_of(alloc, Claim::Bound, "board")?, workers, io),
         Command::Optimal => run_log_check(&check_of(alloc, Claim::Optimum, "puzzle")?, workers, io),
-        Command::Solve => {
-            let search = Search {
-                board: "board",
-                sets: "sets",
-                out: "o",
-                tables: vec![in alloc; "f12", "f3"]?,
-                workers: 1,
-                fold: false,
-                budget: 1_000,
-            };
-            run_solve(&search, workers, io)
-        }
-        Command::MakeTable => {
-            let pattern = MakeTable {
-                side: 2,
-                mask: 6,
-                out: "o",
-                workers: 1,
-            };
-            run_make_table(&pattern, workers, io)
-        }
+        Command::Solve => run_solve(&search(alloc)?, workers, io),
+        Command::MakeTable => run_make_table(&PATTERN, workers, io),
     };
     Ok(status)
 }
 
-/// A command's run, whose call of the shelf with this number fails, ends there, says this line alone and leaves all files.
+/// The number of a shelf's call that fails, why it does, and the line that a run says then.
+#[derive(Clone, Copy)]
+struct Failure<'a> {
+    call: u64,
+    why: ShelfFault,
+    line: &'a [u8],
+}
+
+/// A command's run with this failure ends there, says its line alone and leaves all files.
 fn expect_fault<H: Threads + Wait + Sync + Abort>(
     rt: &H,
     alloc: Global,
     command: Command,
-    call: u64,
-    why: ShelfFault,
-    line: &[u8],
+    failure: &Failure<'_>,
 ) -> Result<(), Fail> {
+    let Failure { call, why, line } = *failure;
     let mut shelf = FailingShelf::new(MemShelf::of(alloc, &FILES)?, call, why);
     let mut reader = b"".as_slice();
     let mut out = Vec::new(alloc);
-    let mut io = BorrowedIo {
-        shelf: &mut shelf,
-        reader: &mut reader,
-        out: &mut out,
-    };
+    let mut io = io_over(&mut shelf, &mut reader, &mut out);
     let status = ended(&Workers::new(rt, alloc, 1, &OpenGate), command, &mut io)?;
     let want = match why {
         ShelfFault::Memory => Status::NoMemory,
@@ -150,7 +156,7 @@ fn an_input_that_can_not_be_read_is_told_alone(rt: HostRuntime) -> Result<(), Fa
                 (ShelfFault::Size, too_long.as_bytes()),
                 (ShelfFault::Memory, b"no memory\n"),
             ] {
-                expect_fault(&rt, alloc, command, call, why, line)?;
+                expect_fault(&rt, alloc, command, &Failure { call, why, line })?;
             }
         }
     }
@@ -170,7 +176,7 @@ fn what_can_not_be_kept_is_told_alone(rt: HostRuntime) -> Result<(), Fail> {
             (ShelfFault::Device, b"fault write o\n".as_slice()),
             (ShelfFault::Memory, b"no memory\n"),
         ] {
-            expect_fault(&rt, rt.alloc(), command, call, why, line)?;
+            expect_fault(&rt, rt.alloc(), command, &Failure { call, why, line })?;
         }
     }
     Ok(())

@@ -1,11 +1,11 @@
 //! Tables that are made, what is told of them, and what is kept.
 
 use crate::sha256;
-use crate::telling::joined;
+use crate::telling::{io_over, joined};
 use byte_io::memory::MemShelf;
 use pdb_keep::run_make_table;
 use pdb_request::MakeTable;
-use pdb_run::{BorrowedIo, Status};
+use pdb_run::Status;
 use samples::files::{TILE_24, TILES_12, TILES_123};
 use std::alloc::Global;
 use std::sync::Wait;
@@ -13,15 +13,26 @@ use std::test::Fail;
 use std::thread::Threads;
 use work_run::{OpenGate, Workers};
 
-/// Whether a table that is made, by some workers, is kept as this file and told so.
-fn makes<H: Threads + Wait + Sync>(
-    rt: &H,
-    alloc: Global,
+/// A side and a mask, the file that is made for them, its digest and the line on it.
+#[derive(Clone, Copy)]
+struct Case<'a> {
     side: u8,
     mask: u32,
-    file: &[u8],
-    told: &[u8],
-) -> Result<bool, Fail> {
+    file: &'a [u8],
+    digest: &'a [u8],
+    line: &'a [u8],
+}
+
+/// Whether a table that is made, by some workers, is kept as the file of its case and told so.
+fn makes<H: Threads + Wait + Sync>(rt: &H, alloc: Global, case: &Case<'_>) -> Result<bool, Fail> {
+    let Case {
+        side,
+        mask,
+        file,
+        digest,
+        line,
+    } = *case;
+    let told = joined(alloc, &[digest, line])?;
     for count in [1u8, 2, 7] {
         let mut shelf = MemShelf::of(alloc, &[("o", b"old".as_slice())])?;
         let workers = Workers::new(rt, alloc, count, &OpenGate);
@@ -33,14 +44,10 @@ fn makes<H: Threads + Wait + Sync>(
             out: "o",
             workers: count,
         };
-        let mut io = BorrowedIo {
-            shelf: &mut shelf,
-            reader: &mut reader,
-            out: &mut out,
-        };
+        let mut io = io_over(&mut shelf, &mut reader, &mut out);
         let status = run_make_table(&command, &workers, &mut io);
         let is_kept = shelf.get("o") == Some(file);
-        if status != Status::Yes || out.as_slice() != told || !is_kept {
+        if status != Status::Yes || out != told || !is_kept {
             return Ok(false);
         }
     }
@@ -49,33 +56,31 @@ fn makes<H: Threads + Wait + Sync>(
 
 #[test]
 fn tables_are_made_told_and_kept(rt: HostRuntime) -> Result<(), Fail> {
-    let alloc = rt.alloc();
-    let cases: [(u8, u32, &[u8], &[u8], &[u8]); 3] = [
-        (
-            2,
-            14,
-            &TILES_123,
-            sha256::OF_123,
-            b"exact side 2 mask 14 entries 24 unreachable 12 deepest 6\n",
-        ),
-        (
-            2,
-            6,
-            &TILES_12,
-            sha256::OF_12,
-            b"exact side 2 mask 6 entries 24 unreachable 8 deepest 4\n",
-        ),
-        (
-            5,
-            16_777_216,
-            &TILE_24,
-            sha256::OF_24,
-            b"exact side 5 mask 16777216 entries 50 unreachable 0 deepest 8\n",
-        ),
+    let cases = [
+        Case {
+            side: 2,
+            mask: 14,
+            file: &TILES_123,
+            digest: sha256::OF_123,
+            line: b"exact side 2 mask 14 entries 24 unreachable 12 deepest 6\n",
+        },
+        Case {
+            side: 2,
+            mask: 6,
+            file: &TILES_12,
+            digest: sha256::OF_12,
+            line: b"exact side 2 mask 6 entries 24 unreachable 8 deepest 4\n",
+        },
+        Case {
+            side: 5,
+            mask: 16_777_216,
+            file: &TILE_24,
+            digest: sha256::OF_24,
+            line: b"exact side 5 mask 16777216 entries 50 unreachable 0 deepest 8\n",
+        },
     ];
-    for (side, mask, file, digest, line) in cases {
-        let told = joined(alloc, &[digest, line])?;
-        assert!(rt; makes(&rt, alloc, side, mask, file, told.as_slice())?);
+    for case in &cases {
+        assert!(rt; makes(&rt, rt.alloc(), case)?);
     }
     Ok(())
 }
@@ -95,11 +100,7 @@ fn nothing_is_made_of_what_is_no_pattern(rt: HostRuntime) -> Result<(), Fail> {
             out: "o",
             workers: 1,
         };
-        let mut io = BorrowedIo {
-            shelf: &mut shelf,
-            reader: &mut reader,
-            out: &mut out,
-        };
+        let mut io = io_over(&mut shelf, &mut reader, &mut out);
         let status = run_make_table(&command, &workers, &mut io);
         assert!(rt; status == Status::Refused);
         assert!(rt; out.as_slice() == b"refused K4\n".as_slice());

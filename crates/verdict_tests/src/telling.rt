@@ -1,5 +1,6 @@
-//! What is told on inputs.
+//! What is told on inputs, and what runs read and write, as one.
 
+use pdb_run::BorrowedIo;
 use pdb_verdict::{Inputs, report, verify};
 use std::alloc::{AllocError, Global};
 use std::sync::Wait;
@@ -23,6 +24,15 @@ pub fn tells<H: Threads + Wait>(
         }
     }
     Ok(true)
+}
+
+/// A run's shelf, its reader and its output, as one.
+pub fn io_over<'s, 'r, 'o, S, R, W>(
+    shelf: &'s mut S,
+    reader: &'r mut R,
+    out: &'o mut W,
+) -> BorrowedIo<'s, 'r, 'o, S, R, W> {
+    BorrowedIo { shelf, reader, out }
 }
 
 /// Pieces of text in one.

@@ -1,10 +1,10 @@
 //! Worked examples: puzzle texts and table files, the verdicts on them and the bytes that tell these.
 
 use crate::sha256;
-use crate::telling::{joined, tells};
+use crate::telling::{io_over, joined, tells};
 use byte_io::memory::MemShelf;
 use pdb_request::Replay;
-use pdb_run::{BorrowedIo, Status};
+use pdb_run::Status;
 use pdb_verdict::{
     Fault, Inputs, MakeRefusal, digests, line, report, run_replay, verify, verify_puzzle,
 };
@@ -228,11 +228,7 @@ fn a_replay_runs_without_threads(rt: HostRuntime) -> Result<(), Fail> {
     let mut shelf = MemShelf::of(alloc, &[("one", b"1 0 2 3 ; L".as_slice())])?;
     let mut reader = b"1 0 2 3 ; U".as_slice();
     let mut out = Vec::new(alloc);
-    let mut io = BorrowedIo {
-        shelf: &mut shelf,
-        reader: &mut reader,
-        out: &mut out,
-    };
+    let mut io = io_over(&mut shelf, &mut reader, &mut out);
     let named = run_replay(
         alloc,
         Replay {

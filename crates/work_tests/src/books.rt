@@ -101,7 +101,8 @@ fn place_of(job: u64) -> Option<u64>
 /// Draws jobs and reports their places until none is left.
 fn draw_all(book: &Book, mut pass: Pass, tally: &Tally) -> Pass
     requires { (pass.book ≡ book.now) × (pass.deeds ≡ fresh) }
-    ensures { (result.book ≡ book.now) × (result.number ≡ pass.number) × (result.deeds.ended ≡ true) }
+    ensures { (result.book ≡ book.now) × (result.number ≡ pass.number)
+        × (result.deeds.ended ≡ true) }
 {
     while let Some(job) = book.claim(&mut pass) {
         tally.note(job);
@@ -133,7 +134,8 @@ fn close_after_threads<R: Threads + Sync>(
         passes,
         &|pass: Pass| -> Pass
             requires { (pass.book ≡ shared.now) × (pass.deeds ≡ fresh) }
-            ensures { (result.book ≡ shared.entry.now) × (result.number ≡ pass.number) × (result.deeds.ended ≡ true) }
+            ensures { (result.book ≡ shared.entry.now) × (result.number ≡ pass.number)
+                × (result.deeds.ended ≡ true) }
         { draw_all(shared, pass, tally) },
     )?;
     Ok(book.close(ended))
