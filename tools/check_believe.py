@@ -115,7 +115,7 @@ def definitions_in(crate, file):
             found[name] = definition
             if re.match(r" *(pub )?data ", line):
                 for inner in own[1:]:
-                    found[inner.split()[0]] = definition
+                    found.update(dict.fromkeys(inner.partition(" : ")[0].split(), definition))
         comment = []
     return found
 

@@ -6,7 +6,7 @@ use Rattle.std.proofs.lemmas.Option.{slice_get-get_or}
 use Rattle.puz_board.specs.Boards.{IsBoardOf, side_of}
 use Rattle.puz_board.proofs.BoardLemmas.{side_of-board}
 use Rattle.tab_rule.proofs.ValueLemmas.{same_list_decided}
-use Rattle.set_sum.specs.Bundles.{BundleView, IsBundle}
+use Rattle.set_sum.specs.Bundles.{ShownBundle, IsBundle}
 use Rattle.set_sum.proofs.AnswerLemmas.{all_get}
 use Rattle.log_file.specs.FormFaults as form
 use Rattle.log_file.specs.LogFiles.{IsLogFile}
@@ -33,7 +33,7 @@ last_some log is =
     let some : 1 ≤ length log.lemmas = is.size.some in
     (_, slice_get-get_or log.lemmas (length log.lemmas - 1) (record { board = []; bound = 0; tree = [] }) (omega arith))
 
-module _ (v : BundleView) (b : List ℕ) (log : Log) where
+module _ (v : ShownBundle) (b : List ℕ) (log : Log) where
   of_one_side : IsLog log → (last : Lemma) → IsLogFor v log b last → AreOfOneSide v log b
   of_one_side is last is_for =
       let board = all_get (λ lemma. IsBoardOf log.side lemma.board) log.lemmas (length log.lemmas - 1) last is_for.is_last is.boards in
@@ -78,7 +78,7 @@ module _ (v : BundleView) (b : List ℕ) (log : Log) where
 
 -- ---- one file
 
-module _ (v : BundleView) (b file : List ℕ) where
+module _ (v : ShownBundle) (b file : List ℕ) where
   -- a fault is one of the form, or stands of the file's log
   fault_of : (f : LogRefusal) → IsLogRefusalOf f v b file
       → ((fault : FormFault) × (f ≡ Form fault) × form.IsFormFaultOf fault file) ⊎ ((log : Log) × IsLogFile log file × Stands v b log f)
@@ -133,7 +133,7 @@ module _ (v : BundleView) (b file : List ℕ) where
 
 -- ---- there is an answer
 
-module _ (v : BundleView) (is : IsBundle v) (b file : List ℕ) where
+module _ (v : ShownBundle) (is : IsBundle v) (b file : List ℕ) where
   abbrev Answer : Type 0
   Answer = ((bound : ℕ) × IsGoodFile v b file bound) ⊎ ((f : LogRefusal) × IsLogRefusalOf f v b file)
 

@@ -3,8 +3,8 @@ use Rattle.std.proofs.Common.{◌≡◌, ℕ, ◌-◌, ◌<◌, ◌≤◌, ◌^�
 use Rattle.std.specs.Prelude.{IfNone, IfSome, option_map}
 use Rattle.puz_board.specs.Boards.{moved}
 use Rattle.puz_board.specs.declared.moves.Move.{Move}
-use Rattle.set_sum.specs.Bundles.{BundleView}
-use Rattle.set_sum.specs.SumViews.{SumsView}
+use Rattle.set_sum.specs.Bundles.{ShownBundle}
+use Rattle.set_sum.specs.ShownSums.{ShownSums}
 use Rattle.log_file.specs.Logs.{Log}
 use Rattle.log_check.specs.Nodes.{BeginsWith, BeginsWithNone}
 use Rattle.log_check.specs.Refutations.{takes_back}
@@ -28,7 +28,7 @@ none_so P h None = h
 none_so P h (Some x) = tt
 
 -- the sums of a board after a move are of the same bundle
-pub after_is : (s t : SumsView) (o : Option (List ℕ)) → Some t ≡ option_map (λ b. record { bundle = s.bundle; board = b }) o → (t.bundle ≡ s.bundle) × (o ≡ Some t.board)
+pub after_is : (s t : ShownSums) (o : Option (List ℕ)) → Some t ≡ option_map (λ b. record { bundle = s.bundle; board = b }) o → (t.bundle ≡ s.bundle) × (o ≡ Some t.board)
 after_is s t None e = cc
 after_is s t (Some b) e =
     let same : t ≡ record { bundle = s.bundle; board = b } = cc in
@@ -56,7 +56,7 @@ module _ (w : Waiting) (move : Move) where
       subst (λ back. with_child_at w move (moved w.board move) back ws ≡ record { board = b; arriving = Some move; bound = w.bound - 1 } ∷ ws) (sym on)
       (subst (λ o. with_child_at w move o false ws ≡ record { board = b; arriving = Some move; bound = w.bound - 1 } ∷ ws) (sym leads) refl)
 
-module _ (v : BundleView) (log : Log) (i : ℕ) where
+module _ (v : ShownBundle) (log : Log) (i : ℕ) where
   -- ---- one after the other
 
   pub walked_none : (first : List Waiting → List Waiting) (bytes : List ℕ) → ((ws : List Waiting) → first ws ≡ ws) → AreWalked v log i first bytes bytes

@@ -7,7 +7,7 @@ use Rattle.puz_board.specs.Boards.{IsBoardOf, moved}
 use Rattle.puz_board.specs.Paths.{IsSolution}
 use Rattle.puz_board.proofs.MovedLemmas.{IsBoardOf-moved}
 use Rattle.set_sum.specs.Bounds.{IsBounded}
-use Rattle.set_sum.specs.Bundles.{BundleView, IsBundle}
+use Rattle.set_sum.specs.Bundles.{ShownBundle, IsBundle}
 use Rattle.set_sum.proofs.SayLemmas.{at_least_bounds}
 use Rattle.log_file.specs.Logs.{Lemma, Log}
 use Rattle.log_check.specs.Refutations.{Cites, IsChild, Refutes, takes_back}
@@ -30,7 +30,7 @@ child_holds None back child Holds next is leads on = cc
 child_holds (Some b) true child Holds next is leads on = cc
 child_holds (Some b) false child Holds next is leads on = subst Holds (let e : b ≡ next = cc in e) is
 
-module _ (v : BundleView) (is_bundle : IsBundle v) (log : Log) (i : ℕ) (earlier : EarlierBound log.lemmas i) where
+module _ (v : ShownBundle) (is_bundle : IsBundle v) (log : Log) (i : ℕ) (earlier : EarlierBound log.lemmas i) where
   citation_bounds : (j : ℕ) (b : List ℕ) (r : ℕ) → Cites log.lemmas i j b r → IsBounded b r
   citation_bounds j b r cites = λ path solves.
       let low : cites.lemma.bound ≤ length path = earlier j cites.lemma cites.earlier cites.there path (subst (λ c. IsSolution c path) (sym cites.board) solves) in

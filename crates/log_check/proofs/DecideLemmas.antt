@@ -11,7 +11,7 @@ use Rattle.puz_board.proofs.BoardLemmas.{goal-is_goal, is_goal-goal}
 use Rattle.puz_board.proofs.MovedLemmas.{IsBoardOf-moved}
 use Rattle.pat_place.proofs.JoinLemmas.{Decided, both}
 use Rattle.tab_rule.proofs.ValueLemmas.{same_list_decided}
-use Rattle.set_sum.specs.Bundles.{BundleView, IsBundle}
+use Rattle.set_sum.specs.Bundles.{ShownBundle, IsBundle}
 use Rattle.set_sum.proofs.SayLemmas.{at_least_decided}
 use Rattle.log_file.specs.Logs.{IsLog, Lemma, Log}
 use Rattle.log_check.specs.GoodLogs.{IsGood}
@@ -98,7 +98,7 @@ children_boards n w good (move ∷ moves) ws more =
 
 -- ---- whether they are refuted
 
-module _ (v : BundleView) (is : IsBundle v) (log : Log) (i : ℕ) (fits : i < 2 ^ 32) where
+module _ (v : ShownBundle) (is : IsBundle v) (log : Log) (i : ℕ) (fits : i < 2 ^ 32) where
   cites_decided : (j : ℕ) (b : List ℕ) (r : ℕ) → Decided (Cites log.lemmas i j b r)
   cites_decided j b r = elim (cases_lt j i) [
     | inr late ↦ inr (λ cites. let earlier = cites.earlier in omega arith)
@@ -181,7 +181,7 @@ module _ (v : BundleView) (is : IsBundle v) (log : Log) (i : ℕ) (fits : i < 2 
 
 -- ---- lemmas
 
-pub good_decided : (v : BundleView) → IsBundle v → (log : Log) → IsLog log → log.side ≡ v.side → (i : ℕ) → Decided (IsGood v log i)
+pub good_decided : (v : ShownBundle) → IsBundle v → (log : Log) → IsLog log → log.side ≡ v.side → (i : ℕ) → Decided (IsGood v log i)
 good_decided v is log is_log side i = equally_decided (good_is_pending v log i) (go (slice_get log.lemmas i) refl)
   where
     go : (o : Option Lemma) → slice_get log.lemmas i ≡ o

@@ -1,14 +1,14 @@
 -- The first lemma of a log that isn't good.
 use Rattle.std.proofs.Common.{◌≡◌, ℕ, zero, suc, ◌<◌, ◌≤◌, ◌⊎◌, length, Some, None, inl, inr, subst, arith}
 use Rattle.std.proofs.lemmas.Bool.{cases_lt}
-use Rattle.set_sum.specs.Bundles.{BundleView, IsBundle}
+use Rattle.set_sum.specs.Bundles.{ShownBundle, IsBundle}
 use Rattle.log_file.specs.Logs.{IsLog, Log}
 use Rattle.work_run.specs.Faults.{IsFault}
 use Rattle.log_check.specs.GoodLogs.{AreGood, IsGood}
 use Rattle.log_check.specs.LogFaults.{IsFirstBadLemma}
 use Rattle.log_check.proofs.DecideLemmas.{good_decided}
 
-module _ (v : BundleView) (is : IsBundle v) (log : Log) (is_log : IsLog log) (side : log.side ≡ v.side) where
+module _ (v : ShownBundle) (is : IsBundle v) (log : Log) (is_log : IsLog log) (side : log.side ≡ v.side) where
   abbrev IsBad : ℕ → Type 0
   IsBad i = ¬ IsGood v log i
 

@@ -4,7 +4,7 @@ use lib.Pointwise.{pointwise}
 use Rattle.std.specs.Cmp.Lexicographic.{same_text}
 use Rattle.std.specs.Prelude.{nat_eq}
 use Rattle.puz_board.specs.Boards.{IsBoardOf, IsGoal}
-use Rattle.set_sum.specs.Bundles.{BundleView, SaysAtLeast}
+use Rattle.set_sum.specs.Bundles.{ShownBundle, SaysAtLeast}
 use Rattle.log_file.specs.Logs.{Lemma, Log}
 use Rattle.log_check.specs.GoodLogs.{IsGood}
 use Rattle.log_check.specs.Nodes.{BeginsWith, BeginsWithNone, IsNode, node_bytes}
@@ -64,7 +64,7 @@ pub BeginsWith-same : {version sets also_version also_sets : ℕ} (node : Node) 
     → BeginsWith version sets node behind bytes → BeginsWith also_version also_sets node behind bytes
 BeginsWith-same node behind bytes versions counts begins = subst (λ A. A) (ap₂ (λ version sets. BeginsWith version sets node behind bytes) versions counts) begins
 
-module _ (v : BundleView) (few : length v.sets ≤ 16) (log : Log) (i : ℕ) (fits : i < 2 ^ 32) (w : Waiting) (ws : List Waiting) (bytes : List ℕ) where
+module _ (v : ShownBundle) (few : length v.sets ≤ 16) (log : Log) (i : ℕ) (fits : i < 2 ^ 32) (w : Waiting) (ws : List Waiting) (bytes : List ℕ) where
   -- it is a node that it may have, and the boards behind wait for the bytes behind
   pub node_bytes-step : (node : Node) (behind : List ℕ) → BeginsWith log.version (length v.sets) node behind bytes
       → Pending v log i (w ∷ ws) bytes ↔ (MayHave v log i w node × Pending v log i (with_node node w ws) behind)
@@ -108,7 +108,7 @@ AreBoards-node n (Leaf by_parity set) w ws boards = boards.1
 AreBoards-node n (Citation lemma) w ws boards = boards.1
 
 -- a lemma's board waits at first, and no other
-pub root-pending : (v : BundleView) (log : Log) (i : ℕ) → i < length log.lemmas → (board : List ℕ) (bound : ℕ) (tree : List ℕ) (ws : List Waiting)
+pub root-pending : (v : ShownBundle) (log : Log) (i : ℕ) → i < length log.lemmas → (board : List ℕ) (bound : ℕ) (tree : List ℕ) (ws : List Waiting)
     → ((lemma : Lemma) → slice_get log.lemmas i ≡ Some lemma → board ≡ lemma.board) → ((lemma : Lemma) → slice_get log.lemmas i ≡ Some lemma → bound ≡ lemma.bound)
     → ((lemma : Lemma) → slice_get log.lemmas i ≡ Some lemma → tree ≡ lemma.tree) → ws ≡ []
     → IsGood v log i ↔ Pending v log i (record { board = board; arriving = None; bound = bound } ∷ ws) tree
@@ -126,7 +126,7 @@ root-pending v log i within board bound tree ws board_is bound_is tree_is none =
     ))
 
 -- where the boards wait for the bytes whenever something holds, those behind the node wait for the bytes behind
-pub walked : (v : BundleView) → length v.sets ≤ 16 → (log : Log) (i : ℕ) → i < 2 ^ 32 → (w : Waiting) (ws : List Waiting) (bytes : List ℕ)
+pub walked : (v : ShownBundle) → length v.sets ≤ 16 → (log : Log) (i : ℕ) → i < 2 ^ 32 → (w : Waiting) (ws : List Waiting) (bytes : List ℕ)
     → IsGood v log i ↔ Pending v log i (w ∷ ws) bytes → (node : Node) (behind : List ℕ) → BeginsWith log.version (length v.sets) node behind bytes
     → MayHave v log i w node → (now : List Waiting) → now ≡ with_node node w ws → IsGood v log i ↔ Pending v log i now behind
 walked v few log i fits w ws bytes good node behind begins may now is =

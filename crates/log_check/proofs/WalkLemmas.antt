@@ -5,7 +5,7 @@ use Rattle.std.proofs.lemmas.Nat.{from_be_bytes-to_be_bytes_4}
 use Rattle.puz_board.specs.Boards.{IsGoal, moved}
 use Rattle.puz_board.specs.declared.moves.Move.{Move}
 use Rattle.puz_board.specs.declared.moves.Move.TheVariants.{Up, Down, Left, Right}
-use Rattle.set_sum.specs.Bundles.{BundleView, SaysAtLeast}
+use Rattle.set_sum.specs.Bundles.{ShownBundle, SaysAtLeast}
 use Rattle.set_sum.proofs.NumeralLemmas.{head_is, tail_is}
 use Rattle.log_file.specs.Logs.{Lemma, Log}
 use Rattle.log_check.specs.GoodLogs.{IsGood}
@@ -65,7 +65,7 @@ BeginsWithNode version bytes =
 
 -- ---- the children of a branch
 
-module _ (v : BundleView) (log : Log) (i : ℕ) where
+module _ (v : ShownBundle) (log : Log) (i : ℕ) where
   -- the tree refutes the child's board
   abbrev Holds : Waiting → Move → Tree → List ℕ → Type 0
   Holds w move tree b = Refutes v log i tree b (Some move) (w.bound - 1)
@@ -106,7 +106,7 @@ branch_spelt up down left right bytes behind_up behind_down behind_left rest p q
 
 -- ---- one lemma for each kind of node
 
-module _ (v : BundleView) (few : length v.sets ≤ 16) (log : Log) (i : ℕ) (fits : i < 2 ^ 32) (w : Waiting) (ws : List Waiting) where
+module _ (v : ShownBundle) (few : length v.sets ≤ 16) (log : Log) (i : ℕ) (fits : i < 2 ^ 32) (w : Waiting) (ws : List Waiting) where
   -- where a board waits, a node comes first
   pub begins_with_node : (bytes : List ℕ) → Pending v log i (w ∷ ws) bytes → BeginsWithNode log.version bytes
   begins_with_node bytes p = split p.0 p.1 p.2 p.3
@@ -217,7 +217,7 @@ append_nil [] = refl
 append_nil (x ∷ xs) = ap (λ ys. x ∷ ys) (append_nil xs)
 
 -- a lemma is good where its board alone waits for its bytes
-pub good_is_pending : (v : BundleView) (log : Log) (i : ℕ)
+pub good_is_pending : (v : ShownBundle) (log : Log) (i : ℕ)
     → IsGood v log i ↔ ((lemma : Lemma) × (slice_get log.lemmas i ≡ Some lemma) × Pending v log i (lemma_waiting lemma ∷ []) lemma.tree)
 good_is_pending v log i = (
   λ good. (good.lemma, good.there, (good.tree, [], good.spelt ∙ sym (append_nil (spelling good.tree)), good.refutes, refl)),

@@ -5,7 +5,7 @@ use Rattle.puz_board.specs.Boards.{IsGoal, moved}
 use Rattle.puz_board.specs.Cells.{reverse_of}
 use Rattle.puz_board.specs.declared.moves.Move.{Move}
 use Rattle.puz_board.specs.declared.moves.Move.TheVariants.{Up, Down, Left, Right}
-use Rattle.set_sum.specs.Bundles.{BundleView, SaysAtLeast}
+use Rattle.set_sum.specs.Bundles.{ShownBundle, SaysAtLeast}
 use Rattle.log_file.specs.Logs.{Lemma, Log}
 use Rattle.log_check.specs.Trees.{HasLeaf, Tree, absent, leaf, citation, branch}
 
@@ -43,7 +43,7 @@ pub record Cites (lemmas : List Lemma) (i j : ℕ) (b : List ℕ) (r : ℕ) : Ty
 
 -- ---- refutations, in lemma i
 
-module _ (v : BundleView) (log : Log) (i : ℕ) where
+module _ (v : ShownBundle) (log : Log) (i : ℕ) where
   -- The tree refutes that the board, reached by the arriving move, has a solution of fewer than r moves that doesn't take
   -- that move back. A leaf does where a log of this version may have it, and its set, taken by parity or not, says never or
   -- at least r; a citation where it may be made. A branch does where the board isn't the goal board, r is 1 or more, and each

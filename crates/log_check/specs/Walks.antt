@@ -3,7 +3,7 @@ use Rattle.std.specs.Prelude.{◌≡◌, ◌↔◌, ℕ, ◌-◌, ◌≤◌, Lis
 use Rattle.puz_board.specs.Boards.{IsGoal, moved}
 use Rattle.puz_board.specs.declared.moves.Move.{Move}
 use Rattle.puz_board.specs.declared.moves.Move.TheVariants.{Up, Down, Left, Right}
-use Rattle.set_sum.specs.Bundles.{BundleView, SaysAtLeast}
+use Rattle.set_sum.specs.Bundles.{ShownBundle, SaysAtLeast}
 use Rattle.log_file.specs.Logs.{Log}
 use Rattle.log_check.specs.Refutations.{Cites, Refutes, takes_back}
 use Rattle.log_check.specs.Trees.{Tree, spelling}
@@ -47,14 +47,14 @@ with_node (Leaf by_parity set) w ws = ws
 with_node (Citation lemma) w ws = ws
 
 -- in lemma i the board may have this node
-abbrev pub MayHave : BundleView → Log → ℕ → Waiting → Node → Type 0
+abbrev pub MayHave : ShownBundle → Log → ℕ → Waiting → Node → Type 0
 MayHave v log i w Branch = (¬ IsGoal w.board) × (1 ≤ w.bound)
 MayHave v log i w (Leaf by_parity set) = SaysAtLeast v by_parity set w.board w.bound
 MayHave v log i w (Citation lemma) = Cites log.lemmas i lemma w.board w.bound
 
 -- ---- the bytes
 
-module _ (v : BundleView) (log : Log) (i : ℕ) where
+module _ (v : ShownBundle) (log : Log) (i : ℕ) where
   -- they spell trees that refute these boards, one after the other, and nothing more
   abbrev pub Pending : List Waiting → List ℕ → Type 0
   Pending [] bytes = bytes ≡ []

@@ -1,6 +1,6 @@
 -- Log files: a header, and behind it the lemmas, one after the other.
 -- The places of bytes are counted from 0, and a number of several bytes has its highest byte first.
-use Rattle.std.specs.Prelude.{◌≡◌, ℕ, ◌+◌, ◌*◌, ◌≤◌, List, [], ◌∷◌, codes, drop, length, slice_index, take}
+use Rattle.std.specs.Prelude.{◌≡◌, ℕ, ◌+◌, ◌*◌, ◌≤◌, ◌^◌, List, [], ◌∷◌, codes, drop, length, slice_index, take}
 use Rattle.byteorder.specs.Endian.{big_number}
 use Rattle.log_file.specs.Logs.{IsLog, Lemma, Log}
 
@@ -66,6 +66,10 @@ pub record HasLemma (n : ℕ) (bytes : List ℕ) : Type 0 where
   pub whole : head_length n + tree_length n bytes ≤ length bytes
 
 -- ---- log files
+
+-- the most bytes of one
+abbrev pub most_log_bytes : ℕ
+most_log_bytes = 2 ^ 30
 
 -- the bytes are these lemmas, one after the other, and nothing more
 abbrev pub AreLemmas : ℕ → List Lemma → List ℕ → Type 0

@@ -7,7 +7,7 @@ use Rattle.puz_board.specs.Boards.{IsBoardOf, at, blank, cell_of}
 use Rattle.puz_board.proofs.BoardLemmas.{at-cell_of, cell_of-below, cell_of-is, cells_least}
 use Rattle.pat_place.specs.BoardLaws.{HasBoard}
 use Rattle.pat_place.specs.Patterns.{IsPattern, has}
-use Rattle.pat_place.specs.Placements.{PlacementView, IsPlacement, IsApart, IsFree, placement_of}
+use Rattle.pat_place.specs.Placements.{ShownPlacement, IsPlacement, IsApart, IsFree, placement_of}
 use Rattle.pat_place.proofs.ListLemmas.{apart_from_ascending}
 
 unfoldable exchanged : List ℕ → ℕ → ℕ → List ℕ
@@ -119,7 +119,7 @@ no_blank n [] all = refl
 no_blank n (t ∷ ts) all = let big : 0 < t = all.0.0 in or_from (eqb t 0) (has ts 0) (ne_eqb t 0 (λ e. omega arith)) (no_blank n ts all.1)
 
 -- the blank and the tiles of the pattern are arranged, one after the other
-pub board_of : (p : PlacementView) → IsPattern p.pattern → IsPlacement p → (c : ℕ) → IsFree p.pattern.side p.cells c → HasBoard p c
+pub board_of : (p : ShownPlacement) → IsPattern p.pattern → IsPlacement p → (c : ℕ) → IsFree p.pattern.side p.cells c → HasBoard p c
 board_of p pat place c free =
     record {
       board = arranged goal (0 ∷ ts) (c ∷ p.cells);

@@ -3,7 +3,7 @@ use Rattle.std.proofs.Common.{◌≡◌, ℕ, zero, suc, ◌*◌, ◌^◌, ◌<�
 use Rattle.std.specs.Prelude.{◌&&◌}
 use Rattle.std.proofs.lemmas.Bool.{and_parts, cases_eq}
 use Rattle.puz_board.proofs.CellLemmas.{by_side}
-use Rattle.pat_place.specs.Patterns.{PatternView, IsPattern, most_tiles, width}
+use Rattle.pat_place.specs.Patterns.{ShownPattern, IsPattern, most_tiles, width}
 use Rattle.pat_place.specs.Ranks.{falling_factorial, placements}
 use Rattle.pat_place.proofs.RankLemmas.{count_of_placements}
 
@@ -28,14 +28,14 @@ at_side = by_side (λ n. (k : ℕ) → k ≤ most_tiles n → test n k ≡ true)
     (λ k l. holds_at (test 4) 9 k refl (omega arith))
     (λ k l. holds_at (test 5) 7 k refl (omega arith))
 
-tested : (p : PatternView) → IsPattern p → (falling_factorial (p.side * p.side) (length p.tiles) * width p.side (length p.tiles) < 2 ^ 32) × (falling_factorial (p.side * p.side) (length p.tiles) < 2 ^ 32)
+tested : (p : ShownPattern) → IsPattern p → (falling_factorial (p.side * p.side) (length p.tiles) * width p.side (length p.tiles) < 2 ^ 32) × (falling_factorial (p.side * p.side) (length p.tiles) < 2 ^ 32)
 tested p good =
     let count = falling_factorial (p.side * p.side) (length p.tiles) in
     let parts = and_parts (ltb (count * width p.side (length p.tiles)) 4294967296) (ltb count 4294967296) (at_side p.side good.low good.high (length p.tiles) good.most) in
     (ltb-true (count * width p.side (length p.tiles)) 4294967296 parts.0, ltb-true count 4294967296 parts.1)
 
-pub few_slots : (p : PatternView) → IsPattern p → length (placements p.side (length p.tiles)) * width p.side (length p.tiles) < 2 ^ 32
+pub few_slots : (p : ShownPattern) → IsPattern p → length (placements p.side (length p.tiles)) * width p.side (length p.tiles) < 2 ^ 32
 few_slots p good = subst (λ k. k * width p.side (length p.tiles) < 2 ^ 32) (sym (count_of_placements p.side (length p.tiles))) (tested p good).0
 
-pub few_placements : (p : PatternView) → IsPattern p → length (placements p.side (length p.tiles)) < 2 ^ 32
+pub few_placements : (p : ShownPattern) → IsPattern p → length (placements p.side (length p.tiles)) < 2 ^ 32
 few_placements p good = subst (λ k. k < 2 ^ 32) (sym (count_of_placements p.side (length p.tiles))) (tested p good).1

@@ -14,7 +14,7 @@ use Rattle.puz_board.proofs.BitLemmas.{in_below, in_or_out}
 use Rattle.puz_board.proofs.OnesLemmas.{ones_below-suc, ones_below-zero}
 use Rattle.puz_board.proofs.HasLemmas.{has_cases, has-here, has-get, has-range, in_range}
 use Rattle.pat_place.specs.Patterns.{has, IsAscending, IsPattern}
-use Rattle.pat_place.specs.Placements.{IsApart, IsFree, IsPlacement, PlacementView}
+use Rattle.pat_place.specs.Placements.{IsApart, IsFree, IsPlacement, ShownPlacement}
 use Rattle.pat_place.specs.Ranks.{IsRank, without, lists_of, falling_factorial, placements}
 use Rattle.pat_place.proofs.ListLemmas.{has-at, all_at, apart_from_ascending, ascending-filter, ascending-range}
 use Rattle.pat_place.proofs.MaskLemmas.{get-numbers_below, ascending-numbers_below, numbers_below-clear, has-numbers_below, in_numbers_below, length-numbers_below, numbers_below-zero}
@@ -350,13 +350,13 @@ module _ (n : ℕ) (small : n * n ≤ 25) (cells : List ℕ) (inside : AllByRecu
 
 -- ---- the last tile that is not lifted, by masks: its cell is lifted too, or it goes on
 
-pub lifted-cell : (p : PlacementView) → IsPattern p.pattern → IsPlacement p → (index free : ℕ) → IsLifted p.pattern.side p.cells index free → 0 < index → (cell : ℕ) → cell ≡ get_or p.cells (index - 1) 0 → cell < 25
+pub lifted-cell : (p : ShownPlacement) → IsPattern p.pattern → IsPlacement p → (index free : ℕ) → IsLifted p.pattern.side p.cells index free → 0 < index → (cell : ℕ) → cell ≡ get_or p.cells (index - 1) 0 → cell < 25
 lifted-cell p pat place index free h some cell is_cell =
     let l = all_at p.cells (index - 1) place.inside (let u = h.upto in omega arith) in
     let few = few_cells p.pattern.side pat.low pat.high in
     omega arith
 
-module _ (p : PlacementView) (pat : IsPattern p.pattern) (place : IsPlacement p) (index free : ℕ) (h : IsLifted p.pattern.side p.cells index free) (some : 0 < index)
+module _ (p : ShownPlacement) (pat : IsPattern p.pattern) (place : IsPlacement p) (index free : ℕ) (h : IsLifted p.pattern.side p.cells index free) (some : 0 < index)
     (cell more greater : ℕ) (is_cell : cell ≡ get_or p.cells (index - 1) 0) (bits : more < 2 ^ 32) (here : bit_at more cell ≡ 1) (others : (x : ℕ) → x ≢ cell → bit_at more x ≡ bit_at free x)
     (above : (x : ℕ) → cell < x → bit_at greater x ≡ bit_at free x) where
   small : p.pattern.side * p.pattern.side ≤ 25
@@ -451,7 +451,7 @@ IsFilling-all count free cells i rest h all =
 
 -- ---- ranks
 
-module _ (p : PlacementView) where
+module _ (p : ShownPlacement) where
   abbrev all_cells : List ℕ
   all_cells = range_with_len 0 (p.pattern.side * p.pattern.side)
 
@@ -485,7 +485,7 @@ module _ (p : PlacementView) where
 
 -- ---- the cells as they are stored
 
-module _ (p : PlacementView) (place : IsPlacement p) (index size : ℕ) (some : 0 < index) (within : index ≤ size) (size_is : size ≡ length p.pattern.tiles)
+module _ (p : ShownPlacement) (place : IsPlacement p) (index size : ℕ) (some : 0 < index) (within : index ≤ size) (size_is : size ≡ length p.pattern.tiles)
     (stored cells : List ℕ) (same : cells ≡ stored) (long : length stored ≡ 8) (few : size ≤ 8) (shown : take (length p.pattern.tiles) stored ≡ p.cells) where
   length_cells : length p.cells ≡ size
   length_cells = place.size ∙ sym size_is

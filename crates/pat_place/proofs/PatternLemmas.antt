@@ -8,13 +8,13 @@ use Rattle.std.proofs.lemmas.Nat.Bits.{bit_at-lt, same_from_bits, bit_at-zero, b
 use Rattle.puz_board.specs.Masks.{numbers_of}
 use Rattle.puz_board.proofs.BitLemmas.{in_shr}
 use Rattle.puz_board.proofs.HasLemmas.{all_from_has, has_from_all}
-use Rattle.pat_place.specs.Patterns.{PatternView, IsPattern, most_tiles}
+use Rattle.pat_place.specs.Patterns.{ShownPattern, IsPattern, most_tiles}
 use Rattle.pat_place.proofs.MaskLemmas.{has-numbers_below, in_numbers_below, length-numbers_below, ascending-numbers_below}
 
 pub most_tiles-le : (n : ℕ) → most_tiles n ≤ 8
 most_tiles-le n = cond_both (eqb n 2) 3 (cond (eqb n 5) 6 8) (λ k. k ≤ 8) (λ _. omega arith) (λ _. cond_both (eqb n 5) 6 8 (λ k. k ≤ 8) (λ _. omega arith) (λ _. omega arith))
 
-pub few_tiles : (p : PatternView) → IsPattern p → length p.tiles ≤ 8
+pub few_tiles : (p : ShownPattern) → IsPattern p → length p.tiles ≤ 8
 few_tiles p good = let a = most_tiles-le p.side in let b = good.most in omega arith
 
 -- ---- the test of a mask: no blank, and nothing from the count of cells on
@@ -58,7 +58,7 @@ low_of_tiles mask cells fits all = zero_of_bits (mask / 2 ^ cells) (λ i. in_shr
 
 -- ---- patterns of masks
 
-abbrev pub pattern_with : ℕ → ℕ → PatternView
+abbrev pub pattern_with : ℕ → ℕ → ShownPattern
 pattern_with n mask = record { side = n; tiles = numbers_of mask }
 
 abbrev pub Tiles : ℕ → ℕ → Type 0

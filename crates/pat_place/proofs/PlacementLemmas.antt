@@ -6,20 +6,20 @@ use Rattle.std.proofs.lemmas.List.{length-map, length-replicate, length-set, tak
 use Rattle.std.proofs.Math.Seq.{take-set-lt}
 use Rattle.std.proofs.lemmas.List.{drop-set-lt}
 use Rattle.puz_board.specs.Boards.{IsBoard, IsGoal, cell_of, side_of}
-use Rattle.pat_place.specs.Patterns.{PatternView, IsPattern, has}
-use Rattle.pat_place.specs.Placements.{PlacementView, IsPlacement, IsApart, IsFree, cells_found, placement_of}
+use Rattle.pat_place.specs.Patterns.{ShownPattern, IsPattern, has}
+use Rattle.pat_place.specs.Placements.{ShownPlacement, IsPlacement, IsApart, IsFree, cells_found, placement_of}
 use Rattle.pat_place.specs.StoredPlacements.{IsStoredPlacement, placement_shown}
 use Rattle.pat_place.specs.declared.placements.Placement.TheInside.{Inside}
 use Rattle.pat_place.proofs.ListLemmas.{apart_from_ascending}
 use Rattle.pat_place.proofs.PatternLemmas.{few_tiles}
 use Rattle.pat_place.proofs.BoardFacts.{cell_of-inside, cell_of-apart, cell_of-goal}
 
-abbrev pub placed : PatternView → List ℕ → PlacementView
+abbrev pub placed : ShownPattern → List ℕ → ShownPlacement
 placed p cells = record { pattern = p; cells = cells }
 
 -- ---- what is stored
 
-module _ (p : PatternView) (good : IsPattern p) (cells : List ℕ) (is : IsPlacement (placed p cells)) (stored : List ℕ) (filled : stored ≡ cells ++ replicate (8 - length cells) 0) where
+module _ (p : ShownPattern) (good : IsPattern p) (cells : List ℕ) (is : IsPlacement (placed p cells)) (stored : List ℕ) (filled : stored ≡ cells ++ replicate (8 - length cells) 0) where
   abbrev fields : Inside
   fields = record { pattern = p; cells = stored }
 
@@ -47,7 +47,7 @@ weaker : (n : ℕ) (ts : List ℕ) → AllByRecursion (λ t. (0 < t) × (t < n))
 weaker n [] all = tt
 weaker n (t ∷ ts) all = (all.0.1, weaker n ts all.1)
 
-pub IsPlacement-goal : (p : PatternView) → IsPattern p → IsPlacement (placed p p.tiles)
+pub IsPlacement-goal : (p : ShownPattern) → IsPattern p → IsPlacement (placed p p.tiles)
 IsPlacement-goal p good = record {
   size = refl;
   inside = weaker (p.side * p.side) p.tiles good.tiles;
@@ -80,7 +80,7 @@ module _ (b : List ℕ) (board : IsBoard b) where
   apart-of [] all apart = tt
   apart-of (t ∷ ts) all apart = (other t ts all.0.1 all.1 apart.0, apart-of ts all.1 apart.1)
 
-  pub IsPlacement-of : (p : PatternView) → IsPattern p → side_of b ≡ p.side → IsPlacement (placed p (placement_of p.tiles b))
+  pub IsPlacement-of : (p : ShownPattern) → IsPattern p → side_of b ≡ p.side → IsPlacement (placed p (placement_of p.tiles b))
   IsPlacement-of p good e =
       let all : Inner p.tiles = subst (λ n. AllByRecursion (λ t. (0 < t) × (t < n * n)) p.tiles) (sym e) good.tiles in
       record {
@@ -108,7 +108,7 @@ inside-set n [] i c all l = tt
 inside-set n (x ∷ xs) zero c all l = (l, all.1)
 inside-set n (x ∷ xs) (suc i) c all l = (all.0, inside-set n xs i c all.1 l)
 
-pub IsPlacement-moved : (p : PlacementView) → IsPlacement p → (i c : ℕ) → IsFree p.pattern.side p.cells c → IsPlacement (placed p.pattern (set p.cells i c))
+pub IsPlacement-moved : (p : ShownPlacement) → IsPlacement p → (i c : ℕ) → IsFree p.pattern.side p.cells c → IsPlacement (placed p.pattern (set p.cells i c))
 IsPlacement-moved p is i c free = record {
   size = length-set p.cells i c ∙ is.size;
   inside = inside-set (p.pattern.side * p.pattern.side) p.cells i c is.inside free.0;
@@ -136,5 +136,5 @@ cells_same : (b found : List ℕ) (m : ℕ) → ((t : ℕ) → t < m → get_or 
 cells_same b found m each [] all = refl
 cells_same b found m each (t ∷ ts) all = ap₂ (λ x xs. x ∷ xs) (each t all.0.1) (cells_same b found m each ts all.1)
 
-pub cells_of_board : (b : List ℕ) → IsBoard b → (p : PatternView) → IsPattern p → side_of b ≡ p.side → (found : List ℕ) → ((t : ℕ) → t < length b → get_or found t 0 ≡ cell_of t b) → cells_found p.tiles found ≡ placement_of p.tiles b
+pub cells_of_board : (b : List ℕ) → IsBoard b → (p : ShownPattern) → IsPattern p → side_of b ≡ p.side → (found : List ℕ) → ((t : ℕ) → t < length b → get_or found t 0 ≡ cell_of t b) → cells_found p.tiles found ≡ placement_of p.tiles b
 cells_of_board b board p good side found each = cells_same b found (p.side * p.side) (λ t l. each t (let e = board.size in let s : side_of b * side_of b ≡ p.side * p.side = ap₂ (λ x y. x * y) side side in omega arith)) p.tiles good.tiles

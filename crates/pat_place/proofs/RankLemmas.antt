@@ -8,7 +8,7 @@ use Rattle.std.proofs.lemmas.List.FromFn.{length-range_with_len}
 use Rattle.std.proofs.lemmas.Nat.{mul-le}
 use Rattle.std.proofs.Math.Nat.{pow-suc, pow-le-pow_right}
 use Rattle.puz_board.proofs.HasLemmas.{has_cases, has-here, has-later, has-filter, has-filter_not, has-range, in_range}
-use Rattle.pat_place.specs.Patterns.{has, IsAscending, PatternView}
+use Rattle.pat_place.specs.Patterns.{has, IsAscending, ShownPattern}
 use Rattle.pat_place.specs.Placements.{IsApart, IsPlacement}
 use Rattle.pat_place.specs.Laws.{IsLexicographicallyBefore}
 use Rattle.pat_place.specs.Ranks.{without, lists_of, placements, falling_factorial, IsRank}
@@ -269,7 +269,7 @@ inside_from count [] all = tt
 inside_from count (x ∷ xs) all = (let l = (in_range 0 count x all.0).1 in omega arith, inside_from count xs all.1)
 
 -- what a rank leads to is a placement, and of that rank
-module _ (p : PatternView) (count size rank : ℕ) (cells : List ℕ) (is_count : count ≡ p.side * p.side) (is_size : size ≡ length p.tiles) (found : slice_get (lists_of size (range_with_len 0 count)) rank ≡ Some (take size cells)) where
+module _ (p : ShownPattern) (count size rank : ℕ) (cells : List ℕ) (is_count : count ≡ p.side * p.side) (is_size : size ≡ length p.tiles) (found : slice_get (lists_of size (range_with_len 0 count)) rank ≡ Some (take size cells)) where
   pub IsPlacement-found : IsPlacement (record { pattern = p; cells = take (length p.tiles) cells })
   IsPlacement-found =
       let z = placement_of_rank size (range_with_len 0 count) rank (take size cells) found in

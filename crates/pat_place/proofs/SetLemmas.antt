@@ -5,7 +5,7 @@ use Rattle.puz_board.specs.Masks.{IsMaskOf, numbers_of}
 use Rattle.puz_board.proofs.BitLemmas.{in_below}
 use Rattle.puz_board.proofs.GrownLemmas.{free_fits}
 use Rattle.puz_board.proofs.HasLemmas.{all_from_has}
-use Rattle.pat_place.specs.Patterns.{IsPattern, PatternView, has}
+use Rattle.pat_place.specs.Patterns.{IsPattern, ShownPattern, has}
 use Rattle.pat_place.specs.Placements.{IsFree, IsPlacement}
 use Rattle.pat_place.specs.Regions.{Joins, IsLeader, IsCount, IsSlot}
 use Rattle.std.proofs.lemmas.Bool.{cases_Bool, both_ways}
@@ -16,7 +16,7 @@ use Rattle.pat_place.proofs.SlotSteps.{same_paths}
 
 -- ---- the cells of a set, ascending
 
-module _ (p : PatternView) (pat : IsPattern p) (set : ℕ) (bits : set < 2 ^ (p.side * p.side)) (size : count_ones set ≡ length p.tiles) where
+module _ (p : ShownPattern) (pat : IsPattern p) (set : ℕ) (bits : set < 2 ^ (p.side * p.side)) (size : count_ones set ≡ length p.tiles) where
   fits : set < 2 ^ 32
   fits = free_fits p.side set pat.low pat.high bits
 

@@ -8,7 +8,7 @@ use Rattle.puz_board.specs.Cells.{Adjacent}
 use Rattle.puz_board.proofs.BoardLemmas.{IsBoardOf-slid, at-cell_of, at-slid_back, at-slid_other, at_blank, cell_of-below, cell_of-content, cell_of-is}
 use Rattle.puz_board.proofs.BoardWays.{Adjacent-apart}
 use Rattle.pat_place.specs.BoardLaws.{MovesOneTile}
-use Rattle.pat_place.specs.Patterns.{PatternView, IsPattern, has}
+use Rattle.pat_place.specs.Patterns.{ShownPattern, IsPattern, has}
 use Rattle.pat_place.specs.Placements.{IsApart, IsFree, placement_of}
 use Rattle.pat_place.proofs.ListLemmas.{apart_from_ascending, at-has, has-at}
 
@@ -103,7 +103,7 @@ module _ (n : ℕ) (ts : List ℕ) (all : AreTiles n ts) (b : List ℕ) (good : 
 
 -- ---- a step of a tile of the pattern
 
-pub MovesOneTile-slid : (p : PatternView) → IsPattern p → (b : List ℕ) → IsBoardOf p.side b → (c : ℕ) → Adjacent p.side (blank b) c → has p.tiles (at b c) ≡ true → MovesOneTile p b c
+pub MovesOneTile-slid : (p : ShownPattern) → IsPattern p → (b : List ℕ) → IsBoardOf p.side b → (c : ℕ) → Adjacent p.side (blank b) c → has p.tiles (at b c) ≡ true → MovesOneTile p b c
 MovesOneTile-slid p pat b good c near h =
     let i = at-has p.tiles (at b c) h in
     record {

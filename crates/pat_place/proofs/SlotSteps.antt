@@ -11,7 +11,7 @@ use Rattle.std.proofs.lemmas.Nat.Bits.{bit_at_ones, bit_at_ones_above, bit_at-ze
 use Rattle.puz_board.proofs.CellLemmas.{by_side}
 use Rattle.puz_board.specs.Masks.{IsMaskOf}
 use Rattle.pat_place.specs.Patterns.{has, width, most_tiles, IsPattern}
-use Rattle.pat_place.specs.Placements.{IsFree, IsApart, PlacementView, IsPlacement}
+use Rattle.pat_place.specs.Placements.{IsFree, IsApart, ShownPlacement, IsPlacement}
 use Rattle.pat_place.specs.Regions.{Reaches, here, onward, Joins, IsLeader, IsCount, IsSlot}
 use Rattle.puz_board.proofs.BitLemmas.{IsIn, in_or_out, but_in, in_but}
 use Rattle.pat_place.proofs.JoinLemmas.{Joins-trans, Joins-free, Joins-sym}
@@ -148,14 +148,14 @@ module _ (n : ℕ) (low : 2 ≤ n) (high : n ≤ 5) (cells : List ℕ) (rest j :
   still_left c i o = in_but rest region c h.bits fits i o
 
 -- the region of the least cell that is left, as slot j
-pub record IsTaken (p : PlacementView) (rest j region : ℕ) : Type 0 where
+pub record IsTaken (p : ShownPlacement) (rest j region : ℕ) : Type 0 where
   pub slots : (c : ℕ) → IsIn region c ↔ IsSlot p.pattern.side p.cells c j
   pub below : j < width p.pattern.side (length p.cells)
   pub next : IsRest p.pattern.side p.cells (bit_and rest (2 ^ 32 - 1 - region)) (suc j)
   pub smaller : bit_and rest (2 ^ 32 - 1 - region) < rest
   pub left : (c : ℕ) → IsIn rest c → bit_at region c ≡ 0 → IsIn (bit_and rest (2 ^ 32 - 1 - region)) c
 
-pub taken : (p : PlacementView) → IsPattern p.pattern → IsPlacement p → (rest j : ℕ) → IsRest p.pattern.side p.cells rest j
+pub taken : (p : ShownPlacement) → IsPattern p.pattern → IsPlacement p → (rest j : ℕ) → IsRest p.pattern.side p.cells rest j
     → (side free : ℕ) → side ≡ p.pattern.side → IsMaskOf free (IsFree p.pattern.side p.cells)
     → (seed : ℕ) → IsIn rest seed → ((x : ℕ) → x < seed → bit_at rest x ≡ 0)
     → (region : ℕ) → region < 2 ^ 32 → IsMaskOf region (Reaches side (IsIn free) seed) → IsTaken p rest j region
@@ -174,7 +174,7 @@ taken p good placed rest j h side free same is seed set lowest region fits reach
     }
 
 -- a cell that is reached from the least one has slot j
-pub met : (p : PlacementView) → IsPattern p.pattern → IsPlacement p → (rest j : ℕ) → IsRest p.pattern.side p.cells rest j
+pub met : (p : ShownPlacement) → IsPattern p.pattern → IsPlacement p → (rest j : ℕ) → IsRest p.pattern.side p.cells rest j
     → (side free : ℕ) → side ≡ p.pattern.side → IsMaskOf free (IsFree p.pattern.side p.cells)
     → (seed : ℕ) → IsIn rest seed → ((x : ℕ) → x < seed → bit_at rest x ≡ 0)
     → (c : ℕ) → Reaches side (IsIn free) seed c → IsSlot p.pattern.side p.cells c j × (j < width p.pattern.side (length p.cells))
@@ -220,5 +220,5 @@ count_within n low high cells (suc i) inside apart a =
 width_at : (n : ℕ) → 2 ≤ n → n ≤ 5 → (k : ℕ) → 0 < k → k ≤ most_tiles n → width n k ≤ 8
 width_at = by_side (λ n. (k : ℕ) → 0 < k → k ≤ most_tiles n → width n k ≤ 8) (λ k some few. omega arith) (λ k some few. omega arith) (λ k some few. omega arith) (λ k some few. omega arith)
 
-pub width_le : (p : PlacementView) → IsPattern p.pattern → IsPlacement p → width p.pattern.side (length p.cells) ≤ 8
+pub width_le : (p : ShownPlacement) → IsPattern p.pattern → IsPlacement p → width p.pattern.side (length p.cells) ≤ 8
 width_le p good is = subst (λ k. width p.pattern.side k ≤ 8) (sym is.size) (width_at p.pattern.side good.low good.high (length p.pattern.tiles) good.some good.most)

@@ -12,7 +12,7 @@ use Rattle.puz_board.proofs.BoardLemmas.{pigeonhole}
 use Rattle.puz_board.proofs.CellLemmas.{few_cells}
 use Rattle.puz_board.proofs.TransposeLemmas.{cell_below, cell_twice, cell_zero, transposed_tiles-are, transposed_tiles-inside}
 use Rattle.puz_board.proofs.HasLemmas.{has-filter, has-filter_not, has-range, has_cases, all_from_has, has_from_all}
-use Rattle.pat_place.specs.Patterns.{IsAscending, IsPattern, PatternView, has}
+use Rattle.pat_place.specs.Patterns.{IsAscending, IsPattern, ShownPattern, has}
 use Rattle.pat_place.specs.Placements.{IsApart}
 use Rattle.pat_place.proofs.ListLemmas.{apart_at, apart_from_ascending, ascending-filter, ascending-range, filter-append, has-at, range-append}
 use Rattle.pat_place.proofs.BoardOf.{no_blank}
@@ -63,7 +63,7 @@ module _ (n : ℕ) (low : 2 ≤ n) (high : n ≤ 5) (tiles : List ℕ) (up : IsA
       (one_of (λ t. has tiles t ≡ true) inside) in
       omega arith
 
-pub IsPattern-transposed : (p : PatternView) → IsPattern p → IsPattern (record { side = p.side; tiles = transposed_tiles p.side p.tiles })
+pub IsPattern-transposed : (p : ShownPattern) → IsPattern p → IsPattern (record { side = p.side; tiles = transposed_tiles p.side p.tiles })
 IsPattern-transposed p pat =
     let n = p.side in
     let size = length-transposed n pat.low pat.high p.tiles pat.ascending (λ t is. (has_from_all (λ t. (0 < t) × (t < n * n)) p.tiles t pat.tiles is).1) in

@@ -1,8 +1,8 @@
 -- What holds of ranks, regions and slots at every placement.
 use Rattle.std.specs.Prelude.{◌≡◌, ℕ, ◌<◌, ◌↔◌, ◌⊎◌, List, [], ◌∷◌, length, slice_get, Some}
 use Rattle.puz_board.specs.Transposing.{transposed_tiles}
-use Rattle.pat_place.specs.Patterns.{IsPattern, PatternView, width}
-use Rattle.pat_place.specs.Placements.{PlacementView, IsPlacement, IsFree}
+use Rattle.pat_place.specs.Patterns.{IsPattern, ShownPattern, width}
+use Rattle.pat_place.specs.Placements.{ShownPlacement, IsPlacement, IsFree}
 use Rattle.pat_place.specs.Ranks.{IsRank, placements}
 use Rattle.pat_place.specs.Regions.{Joins, IsSlot}
 
@@ -11,7 +11,7 @@ use Rattle.pat_place.specs.Regions.{Joins, IsSlot}
 -- each placement has one rank
 abbrev pub EachPlacementHasOneRank : Type 0
 EachPlacementHasOneRank =
-    (p : PlacementView) → IsPlacement p →
+    (p : ShownPlacement) → IsPlacement p →
     (r : ℕ) × IsRank p.pattern.side p.cells r × ((s : ℕ) → IsRank p.pattern.side p.cells s → s ≡ r)
 
 -- the first number in which two lists differ is the smaller one of the first list
@@ -35,21 +35,21 @@ RanksOfThreeCells = IsRank 3 (1 ∷ 2 ∷ 3 ∷ []) 64 × IsRank 3 (8 ∷ 7 ∷ 
 -- each free cell has one slot
 abbrev pub EachFreeCellHasOneSlot : Type 0
 EachFreeCellHasOneSlot =
-    (p : PlacementView) → IsPattern p.pattern → (c : ℕ) → IsFree p.pattern.side p.cells c →
+    (p : ShownPlacement) → IsPattern p.pattern → (c : ℕ) → IsFree p.pattern.side p.cells c →
     (j : ℕ) × IsSlot p.pattern.side p.cells c j × ((i : ℕ) → IsSlot p.pattern.side p.cells c i → i ≡ j)
 
 -- two free cells have the same slot exactly where a path of free cells joins them
 abbrev pub OneSlotIsOneRegion : Type 0
 OneSlotIsOneRegion =
-    (p : PlacementView) → IsPattern p.pattern → (c d i j : ℕ) →
+    (p : ShownPlacement) → IsPattern p.pattern → (c d i j : ℕ) →
     IsSlot p.pattern.side p.cells c i → IsSlot p.pattern.side p.cells d j → (i ≡ j) ↔ Joins p.pattern.side p.cells c d
 
 -- no placement has more regions than its pattern's width
 abbrev pub SlotsAreBelowWidth : Type 0
 SlotsAreBelowWidth =
-    (p : PlacementView) → IsPattern p.pattern → IsPlacement p → (c j : ℕ) → IsSlot p.pattern.side p.cells c j →
+    (p : ShownPlacement) → IsPattern p.pattern → IsPlacement p → (c j : ℕ) → IsSlot p.pattern.side p.cells c j →
     j < width p.pattern.side (length p.cells)
 
 -- a pattern transposed is a pattern
 abbrev pub TransposedPatternsArePatterns : Type 0
-TransposedPatternsArePatterns = (p : PatternView) → IsPattern p → IsPattern (record { side = p.side; tiles = transposed_tiles p.side p.tiles })
+TransposedPatternsArePatterns = (p : ShownPattern) → IsPattern p → IsPattern (record { side = p.side; tiles = transposed_tiles p.side p.tiles })

@@ -5,7 +5,7 @@ use Rattle.std.specs.List.{AllByRecursion}
 pub use Rattle.puz_board.specs.Costs.{has}
 
 -- what a contract sees of a pattern: the side of its board, and its tiles
-pub record PatternView : Type 0 where
+pub record ShownPattern : Type 0 where
   pub side : ℕ
   pub tiles : List ℕ
 
@@ -19,7 +19,7 @@ abbrev pub most_tiles : ℕ → ℕ
 most_tiles n = if n == 2 then 3 else if n == 5 then 6 else 8
 
 -- some of the tiles 1 to n * n - 1, and not too many, for a side n from 2 to 5
-pub record IsPattern (p : PatternView) : Type 0 where
+pub record IsPattern (p : ShownPattern) : Type 0 where
   pub low : 2 ≤ p.side
   pub high : p.side ≤ 5
   pub ascending : IsAscending p.tiles

@@ -2,11 +2,11 @@
 use Rattle.std.specs.Prelude.{◌≡◌, ℕ, ◌*◌, ◌<◌, false, List, [], ◌∷◌, length, map, slice_index, ⊤}
 use Rattle.std.specs.List.{AllByRecursion}
 use Rattle.puz_board.specs.Boards.{cell_of}
-use Rattle.pat_place.specs.Patterns.{PatternView, has}
+use Rattle.pat_place.specs.Patterns.{ShownPattern, has}
 
 -- what a contract sees of a placement
-pub record PlacementView : Type 0 where
-  pub pattern : PatternView
+pub record ShownPlacement : Type 0 where
+  pub pattern : ShownPattern
   pub cells : List ℕ
 
 -- no number stands twice
@@ -15,7 +15,7 @@ IsApart [] = ⊤
 IsApart (x ∷ xs) = (has xs x ≡ false) × IsApart xs
 
 -- a cell of the board for each tile, no cell for two
-pub record IsPlacement (p : PlacementView) : Type 0 where
+pub record IsPlacement (p : ShownPlacement) : Type 0 where
   pub size : length p.cells ≡ length p.pattern.tiles
   pub inside : AllByRecursion (λ c. c < p.pattern.side * p.pattern.side) p.cells
   pub apart : IsApart p.cells

@@ -2,7 +2,7 @@
 use Rattle.std.specs.Prelude.{◌≡◌, ℕ, ◌+◌, ◌^◌, ◌<◌, List, [], ◌∷◌}
 use Rattle.pat_place.specs.declared.patterns.Pattern.TheInside.{Inside}
 use Rattle.puz_board.specs.Masks.{numbers_of}
-use Rattle.pat_place.specs.Patterns.{PatternView, IsPattern}
+use Rattle.pat_place.specs.Patterns.{ShownPattern, IsPattern}
 
 -- the mask of different numbers
 abbrev pub mask_of : List ℕ → ℕ
@@ -10,7 +10,7 @@ mask_of [] = 0
 mask_of (x ∷ xs) = 2 ^ x + mask_of xs
 
 -- the pattern with this side and the tiles of this mask
-abbrev pub pattern_shown : Inside → PatternView
+abbrev pub pattern_shown : Inside → ShownPattern
 pattern_shown p = record { side = p.side; tiles = numbers_of p.mask }
 
 -- these are the fields of a pattern
@@ -20,7 +20,7 @@ pub record IsStoredPattern (p : Inside) : Type 0 where
   pub of_tiles : mask_of (numbers_of p.mask) ≡ p.mask
 
 -- the fields of the pattern with this side and these tiles
-abbrev pub stored_pattern_of : PatternView → Inside
+abbrev pub stored_pattern_of : ShownPattern → Inside
 stored_pattern_of p = record { side = p.side; mask = mask_of p.tiles }
 
 -- the tiles give the fields back

@@ -4,10 +4,10 @@ use Rattle.std.proofs.Common.{sym, ◌∙◌, ap}
 use Rattle.std.proofs.lemmas.List.{take-append-drop}
 use Rattle.pat_place.specs.declared.placements.Placement.TheInside.{Inside}
 use Rattle.pat_place.specs.Patterns.{IsPattern}
-use Rattle.pat_place.specs.Placements.{PlacementView, IsPlacement}
+use Rattle.pat_place.specs.Placements.{ShownPlacement, IsPlacement}
 
 -- the cells that count
-abbrev pub placement_shown : Inside → PlacementView
+abbrev pub placement_shown : Inside → ShownPlacement
 placement_shown p = record { pattern = p.pattern; cells = take (length p.pattern.tiles) p.cells }
 
 -- these are the fields of a placement
@@ -18,7 +18,7 @@ pub record IsStoredPlacement (p : Inside) : Type 0 where
   pub rest : drop (length p.pattern.tiles) p.cells ≡ replicate (8 - length p.pattern.tiles) 0
 
 -- the fields of the placement with this pattern and these cells
-abbrev pub stored_placement_of : PlacementView → Inside
+abbrev pub stored_placement_of : ShownPlacement → Inside
 stored_placement_of p = record { pattern = p.pattern; cells = p.cells ++ replicate (8 - length p.cells) 0 }
 
 refilled_cells : (p : Inside) → IsStoredPlacement p → (stored_placement_of (placement_shown p)).cells ≡ p.cells

@@ -21,9 +21,9 @@ pub struct Pattern {
 }
 
 impl Model for Pattern {
-    ghost use Rattle.pat_place.specs.Patterns.{PatternView};
+    ghost use Rattle.pat_place.specs.Patterns.{ShownPattern};
 
-    ghost Value = { PatternView };
+    ghost Value = { ShownPattern };
 
     ghost use Rattle.pat_place.specs.StoredPatterns.{IsStoredPattern, pattern_shown, stored_pattern_of, stored_pattern_of-shown};
 

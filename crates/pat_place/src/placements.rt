@@ -20,9 +20,9 @@ pub struct Placement {
 }
 
 impl Model for Placement {
-    ghost use Rattle.pat_place.specs.Placements.{PlacementView};
+    ghost use Rattle.pat_place.specs.Placements.{ShownPlacement};
 
-    ghost Value = { PlacementView };
+    ghost Value = { ShownPlacement };
 
     ghost use Rattle.pat_place.specs.StoredPlacements.{IsStoredPlacement, placement_shown, stored_placement_of, stored_placement_of-shown};
 

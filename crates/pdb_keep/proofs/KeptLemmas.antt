@@ -1,15 +1,17 @@
 -- What a maker's yes keeps.
-use Rattle.std.proofs.Common.{◌≡◌, ℕ, Bool, List, [], ◌∷◌, Some, Ok, inl, refl, subst}
+use Rattle.std.proofs.Common.{◌≡◌, List, [], ◌∷◌, Option, Some, Ok, inl, map, refl, subst}
 use Rattle.std.specs.Io.KnownBytes.{Appends}
 use Rattle.std.proofs.lemmas.Slice.Eq.{bytes_eq-Decides}
 use Rattle.byte_io.specs.Shelf.{Bytes, Files, with_file}
+use Rattle.pdb_request.specs.Asked.{MakeTableArguments, SolveArguments}
 use Rattle.pdb_run.specs.Writing.{reply_text}
 use Rattle.pdb_run.specs.Commands.{Reply, plan_under}
-use Rattle.pdb_run.specs.Inputs.{AreRead}
+use Rattle.pdb_run.specs.Inputs.{AreRead, IsReadFrom}
 use Rattle.pdb_run.specs.Runs.{IsAnswered, World, kept, status_of_reply, with_kept}
 use Rattle.pdb_run.specs.declared.statuses.Status.TheVariants.{Yes, Refused}
 use Rattle.pdb_run.proofs.AnswerLemmas.{IsAnswered-ends}
 use Rattle.pdb_verdict.specs.Inputs.{log_files}
+use Rattle.pdb_verdict.specs.Limits.{a_table}
 use Rattle.pdb_verdict.specs.Table.{IsTableResult, exact_verdict}
 use Rattle.pdb_verdict.specs.declared.verdicts.Fault.TheVariants as fault
 use Rattle.pdb_verdict.proofs.ClaimLemmas.{proved_least}
@@ -32,9 +34,9 @@ file-kept files out file = rw ((bytes_eq-Decides out out).1 refl)
 
 -- ---- tables
 
-module _ (side mask : ℕ) (out : Bytes) (old new : World) where
-  exact_kept : (build : Build) → IsBuildFor side mask build → IsYes out old new (reply_to_build build)
-      → IsTableKept side mask out old new
+module _ (arguments : MakeTableArguments) (old new : World) where
+  exact_kept : (build : Build) → IsBuildFor arguments.side arguments.mask build → IsYes arguments.out old new (reply_to_build build)
+      → IsTableKept arguments old new
   exact_kept (built file (Ok v)) is says =
       let yes = (told_yes exact_verdict fault.Table (IsTableResult file) v).0 is.is_result in
       let speaks = rw yes.2 at is.own in
@@ -49,25 +51,36 @@ module _ (side mask : ℕ) (out : Bytes) (old new : World) where
 
   -- a yes of a run that is answered, whatever its check takes memory for
   pub table_answered : (Takes : List Bytes → Type 0)
-      → IsAnswered (plan_under (Some out) [] (λ inputs. TellsBuild side mask) Takes) old new Yes
-      → IsTableKept side mask out old new
+      → IsAnswered (plan_under (Some arguments.out) [] (λ inputs. TellsBuild arguments.side arguments.mask) Takes) old new Yes
+      → IsTableKept arguments old new
   table_answered Takes answered =
       let tells = answered.right.1 in
       exact_kept tells.build tells.is_build
-      (subst (IsYes out old new) tells.told (answered.is_status, answered.files, answered.lines))
+      (subst (IsYes arguments.out old new) tells.told (answered.is_status, answered.files, answered.lines))
 
 -- so of each run of `make-table` that ends with a yes
 pub table_kept : KeptTablesAreExact
-table_kept side mask out old new ends =
-    table_answered side mask out old new _ (IsAnswered-ends (make_table_plan side mask out) old new Yes ends (inl refl))
+table_kept arguments old new ends =
+    table_answered arguments old new _ (IsAnswered-ends (make_table_plan arguments) old new Yes ends (inl refl))
 
 -- ---- logs
 
-module _ (fold : Bool) (text sets out : Bytes) (tables : List Bytes) (old new : World) where
+-- what a search read stood under the names that it was given
+pub record SearchStood (shelf : Option Files) (reader : Option Bytes) (arguments : SolveArguments) (board_text set_text : Bytes) (files : List Bytes) : Type 0 where
+  pub board : IsReadFrom shelf reader (Some arguments.board) board_text
+  pub sets : IsReadFrom shelf reader (Some arguments.sets) set_text
+  pub tables : AreRead shelf reader (map a_table arguments.tables) files
+
+pub search_stood : (shelf : Option Files) (reader : Option Bytes) (arguments : SolveArguments) (board_text set_text : Bytes) (files : List Bytes)
+    → AreRead shelf reader (solve_inputs arguments) (board_text ∷ set_text ∷ files) → SearchStood shelf reader arguments board_text set_text files
+search_stood shelf reader arguments board_text set_text files read =
+    record { board = read.0.0; sets = read.1.0.0; tables = read.1.1 }
+
+module _ (arguments : SolveArguments) (old new : World) where
   found_kept : (board_text set_text : Bytes) (files : List Bytes)
-      → AreRead old.files old.reader (solve_inputs text sets tables) (board_text ∷ set_text ∷ files)
-      → (outcome : SearchOutcome) → IsSearchOf fold board_text set_text files outcome
-      → IsYes out old new (reply_to_search files outcome) → IsLogKept fold text sets out tables old new
+      → AreRead old.files old.reader (solve_inputs arguments) (board_text ∷ set_text ∷ files)
+      → (outcome : SearchOutcome) → IsSearchOf arguments.fold board_text set_text files outcome
+      → IsYes arguments.out old new (reply_to_search files outcome) → IsLogKept arguments old new
   found_kept board_text set_text files read (searched moves log (Ok n)) is says =
       let proved = is.is_result in
       let parts = solved-moves board_text moves is.could.board n proved.solved is.could.spelt in
@@ -84,7 +97,7 @@ module _ (fold : Bool) (text sets out : Bytes) (tables : List Bytes) (old new : 
           spelt = parts.0;
           solved = parts.1;
           proved = proved.found_for;
-          least = proved_least fold (log_files (puzzle_of board_text moves) set_text log files) n proved;
+          least = proved_least (log_files arguments.fold (puzzle_of board_text moves) set_text log files) n proved;
         };
         kept = says.1;
         lines = says.2;
@@ -92,16 +105,13 @@ module _ (fold : Bool) (text sets out : Bytes) (tables : List Bytes) (old new : 
   found_kept board_text set_text files read _ is says = let clash : Yes ≡ Refused = says.0 in absurd cc
 
   -- a yes of a run that is answered
-  pub log_answered : IsAnswered (solve_plan fold text sets out tables) old new Yes
-      → IsLogKept fold text sets out tables old new
+  pub log_answered : IsAnswered (solve_plan arguments) old new Yes → IsLogKept arguments old new
   log_answered answered =
       let is = answered.right.1 in
       let tells = is.4 in
       found_kept is.0 is.1 is.2 (rw is.3 at answered.right.0) tells.outcome tells.is_outcome
-      (subst (IsYes out old new) tells.told (answered.is_status, answered.files, answered.lines))
+      (subst (IsYes arguments.out old new) tells.told (answered.is_status, answered.files, answered.lines))
 
 -- so of each run of `solve` that ends with a yes
 pub log_kept : KeptLogsProveOptima
-log_kept fold text sets out tables old new ends =
-    log_answered fold text sets out tables old new
-    (IsAnswered-ends (solve_plan fold text sets out tables) old new Yes ends (inl refl))
+log_kept arguments old new ends = log_answered arguments old new (IsAnswered-ends (solve_plan arguments) old new Yes ends (inl refl))

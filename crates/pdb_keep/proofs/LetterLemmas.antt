@@ -1,6 +1,6 @@
 -- The letters that are told of a search are a moves text.
 use Rattle.std.proofs.Common.{◌≡◌, ◌∙◌, ℕ, List, [], ◌∷◌, ◌++◌, ◌||◌, true, Some, ap, codes, get_or, map, refl, sym}
-use Rattle.std.specs.Prelude.{All, is_some}
+use Rattle.std.specs.Prelude.{All, ◌==◌, is_some, not}
 use Rattle.std.specs.List.{cons_option}
 use Rattle.std.proofs.lemmas.List.Elements.{All-cons, All-map}
 use Rattle.puz_board.specs.BoardTexts.{is_separator}
@@ -24,6 +24,17 @@ letters-read (m ∷ moves) =
 abbrev IsClean : ℕ → Type 0
 IsClean byte = is_letter byte || is_separator byte ≡ true
 
+-- a byte that ends no line
+abbrev IsInLine : ℕ → Type 0
+IsInLine byte = not (byte == 10) ≡ true
+
+letter-in_line : (m : Move) → IsInLine (letter_of m)
+letter-in_line = elim [ Up ↦ refl | Down ↦ refl | Left ↦ refl | Right ↦ refl ]
+
+told-in_line : (letters : Bytes) → All IsInLine letters → All IsInLine (told_moves letters)
+told-in_line [] all = all
+told-in_line (letter ∷ letters) all = All-cons IsInLine 32 (letter ∷ letters) refl all
+
 -- a space before them changes nothing but that the line has it
 told : (letters : Bytes) → (moves_line letters ≡ codes "moves" ++ told_moves letters ++ codes "\n")
     × (moves_of (told_moves letters) ≡ moves_of letters) × (All IsClean letters → All IsClean (told_moves letters))
@@ -35,8 +46,10 @@ pub told_solution : ToldMovesSolve
 told_solution b moves n solves =
     let is = told (letters_of moves) in
     let clean = λ (m : Move). ap (λ o. is_some o || is_separator (letter_of m)) (letter-read m) in
+    let in_line = All-map IsInLine letter_of (moves_of moves) (λ k d low. letter-in_line (get_or (moves_of moves) k d)) in
     record {
       line = is.0;
+      one_line = told-in_line (letters_of moves) in_line;
       solves = record {
         letters = is.2 (All-map IsClean letter_of (moves_of moves) (λ k d low. clean (get_or (moves_of moves) k d)));
         path = solves.path;

@@ -1,19 +1,14 @@
 -- What comes of makers.
-use Rattle.std.proofs.Common.{◌≡◌, ◌∙◌, ℕ, suc, ◌+◌, ◌<◌, ◌≤◌, Bool, true, false, List, [], ◌∷◌, ◌++◌, Option, None, Result, Ok, Err, IfOk, IfSome, length, drop, get_or, not, ◌||◌, ap, append_assoc, arith, length-append, refl, subst, sym}
-use Rattle.std.specs.Prelude.{◌==◌, MatchResult}
-use Rattle.std.specs.Char.{is_ascii_digit}
+use Rattle.std.proofs.Common.{◌≡◌, ◌∙◌, ℕ, suc, ◌+◌, ◌<◌, ◌≤◌, Bool, List, [], ◌∷◌, ◌++◌, Option, Result, Ok, Err, IfOk, IfSome, length, drop, get_or, ap, append_assoc, arith, length-append, refl, subst, sym}
+use Rattle.std.specs.Prelude.{MatchResult}
 use Rattle.std.specs.declared.alloc.AllocError.{AllocError}
-use Rattle.std.proofs.lemmas.Bool.{eqb-true}
 use Rattle.std.proofs.lemmas.List.{drop_more, length-map, map-append}
 use Rattle.std.proofs.lemmas.List.Elements.{filter_map-append}
-use Rattle.puz_board.specs.BoardTexts.{Spells, is_separator, stray_byte}
+use Rattle.puz_board.specs.BoardTexts.{Spells}
 use Rattle.puz_board.specs.MovesTexts.{Solves, moves_of}
 use Rattle.puz_board.specs.Paths.{Leads}
-use Rattle.puz_board.specs.PuzzleTexts.{HasNoSemicolon}
 use Rattle.puz_board.specs.declared.moves.Move.{Move}
 use Rattle.puz_board.proofs.PuzzleLemmas.{puzzle_parts-puzzle}
-use Rattle.puz_board.proofs.SpellingLemmas.{stray_byte-numerals}
-use Rattle.puz_board.proofs.FirstLemmas.{AllPass-position}
 use Rattle.byte_io.specs.Shelf.{Bytes}
 use Rattle.pdb_run.specs.Answers.{IsAnswerBy}
 use Rattle.pdb_run.specs.declared.answers.Answer.{Answer}
@@ -35,6 +30,7 @@ use Rattle.pdb_verdict.specs.declared.verdicts.Fault.TheVariants as fault
 use Rattle.pdb_verdict.specs.declared.verdicts.Verdict.{Verdict}
 use Rattle.pdb_verdict.proofs.BundleLemmas.{bundle_taken}
 use Rattle.pdb_verdict.proofs.RefusalLemmas.{found_settled, told_yes}
+use Rattle.pdb_verdict.proofs.ReplayLemmas.{solved-puzzle, spelled-no_semicolon}
 use Rattle.pdb_keep.specs.MakeTable.{IsOfAnother, SpeaksOf}
 use Rattle.pdb_keep.specs.Solve.{AreForBoard, IsMade, IsSolveReply, SolveTakesMemory, letter_of, letters_of, puzzle_of}
 use Rattle.pdb_keep.specs.Steps.{HasItsMoves, IsCauseForSearch, IsSearchAnswer, search_files_read, unmade_for}
@@ -73,23 +69,13 @@ module _ (fold : Bool) (text sets : Bytes) (files : List Bytes) (board : List �
 
 -- ---- the puzzle text of a search
 
-not_semicolon : (b : ℕ) (t : Bool) → (b == 59) ≡ t → (is_ascii_digit b || is_separator b) ≡ true → not t ≡ true
-not_semicolon b true is clean = let clash : false ≡ true = rw (eqb-true b 59 is) at clean in cc
-not_semicolon b false is clean = refl
-
-no_semicolon : (text : List ℕ) → stray_byte text ≡ None → HasNoSemicolon text
-unfolding stray_byte
-no_semicolon text none k d low =
-    not_semicolon _ _ refl (AllPass-position (λ b. is_ascii_digit b || is_separator b) text none k d low)
-
 -- a solved puzzle has the text and the moves that its text was joined of
 pub solved-moves : (text moves board : List ℕ) (n : ℕ) (solved : IsSolvedPuzzle (puzzle_of text moves) n)
     → Spells text board → Spells text solved.board × Solves solved.board moves n
 solved-moves text moves board n solved spelt =
-    let first = no_semicolon text (stray_byte-numerals text spelt.numerals) in
-    let parts = puzzle_parts-puzzle _ text moves (record { whole = refl; first = first }) in
+    let parts = puzzle_parts-puzzle _ text moves (record { whole = refl; first = spelled-no_semicolon text board spelt }) in
     subst (λ (o : Option (Bytes × Bytes)). IfSome o (λ p. Spells p.0 solved.board × Solves solved.board p.1 n))
-    (sym (puzzle_parts-puzzle _ _ _ solved.parts) ∙ parts) (solved.spelt, solved.solved)
+    (sym (puzzle_parts-puzzle _ _ _ (solved-puzzle _ n solved)) ∙ parts) (solved.spelt, solved.solved)
 
 -- ---- how many moves there are
 

@@ -1,10 +1,11 @@
 -- What a maker's yes leaves on the shelf, and tells.
-use Rattle.std.specs.Prelude.{◌≡◌, ℕ, Bool, List, [], ◌∷◌, ◌++◌, codes}
+use Rattle.std.specs.Prelude.{◌≡◌, ℕ, List, [], ◌∷◌, ◌++◌, codes}
 use Rattle.std.specs.Io.KnownBytes.{Appends}
 use Rattle.puz_board.specs.BoardTexts.{Spells}
 use Rattle.puz_board.specs.MovesTexts.{Solves}
 use Rattle.tab_rule.specs.declared.census.Census.{Census}
 use Rattle.byte_io.specs.Shelf.{Bytes, told_with}
+use Rattle.pdb_request.specs.Asked.{MakeTableArguments, SolveArguments}
 use Rattle.pdb_run.specs.Writing.{digests_of}
 use Rattle.pdb_run.specs.Inputs.{AreRead}
 use Rattle.pdb_run.specs.Runs.{World}
@@ -16,33 +17,34 @@ use Rattle.pdb_keep.specs.Solve.{letters_of, moves_line, solve_inputs}
 
 -- the shelf has the exact table of this side and this mask under the name, and under each other name what it had; the writer
 -- got its digest and its line
-pub record IsTableKept (side mask : ℕ) (out : Bytes) (old new : World) : Type 0 where
+pub record IsTableKept (arguments : MakeTableArguments) (old new : World) : Type 0 where
   pub file : Bytes
   pub census : Census
-  pub exact : IsExactFor file side mask census
-  pub kept : new.files ≡ told_with old.files out file
-  pub lines : Appends old.written new.written (digests_of (file ∷ []) ++ exact_line side mask census)
+  pub exact : IsExactFor file arguments.side arguments.mask census
+  pub kept : new.files ≡ told_with old.files arguments.out file
+  pub lines : Appends old.written new.written
+      (digests_of (file ∷ []) ++ exact_line arguments.side arguments.mask census.entries census.unreachable census.deepest)
 
 -- n is the least number of moves of any solution of the board that the text under its name spelt at the start: these n moves
 -- solve it, and the log proves that none are fewer, over the set text and the table files, folded or full, that stood under their
 -- names
-pub record IsFoundLeast (fold : Bool) (old : World) (text sets : Bytes) (tables : List Bytes) (moves log : Bytes) (files : List Bytes) (n : ℕ) : Type 0 where
+pub record IsFoundLeast (arguments : SolveArguments) (old : World) (moves log : Bytes) (files : List Bytes) (n : ℕ) : Type 0 where
   pub board_text : Bytes
   pub set_text : Bytes
-  pub read : AreRead old.files old.reader (solve_inputs text sets tables) (board_text ∷ set_text ∷ files)
+  pub read : AreRead old.files old.reader (solve_inputs arguments) (board_text ∷ set_text ∷ files)
   pub board : List ℕ
   pub spelt : Spells board_text board
   pub solved : Solves board moves n
-  pub proved : IsProvedBound fold board set_text log files n
+  pub proved : IsProvedBound arguments.fold board set_text log files n
   pub least : IsLeastCount board n
 
 -- the shelf has such a log under the name, and under each other name what it had; the writer got the digests of the tables
 -- and of the log, the letters of the moves and their number
-pub record IsLogKept (fold : Bool) (text sets out : Bytes) (tables : List Bytes) (old new : World) : Type 0 where
+pub record IsLogKept (arguments : SolveArguments) (old new : World) : Type 0 where
   pub moves : Bytes
   pub log : Bytes
   pub files : List Bytes
   pub n : ℕ
-  pub found : IsFoundLeast fold old text sets tables moves log files n
-  pub kept : new.files ≡ told_with old.files out log
+  pub found : IsFoundLeast arguments old moves log files n
+  pub kept : new.files ≡ told_with old.files arguments.out log
   pub lines : Appends old.written new.written (digests_of files ++ (digests_of (log ∷ []) ++ (moves_line (letters_of moves) ++ counted (codes "optimal ") n)))

@@ -1,9 +1,10 @@
 -- What holds of all runs of makers.
-use Rattle.std.specs.Prelude.{◌≡◌, ◌≢◌, ◌⊎◌, ℕ, Bool, List, [], ◌∷◌, ◌++◌, Some, codes}
+use Rattle.std.specs.Prelude.{◌≡◌, ◌≢◌, ◌⊎◌, ℕ, ◌==◌, not, List, [], ◌∷◌, ◌++◌, Some, codes}
 use Rattle.std.specs.Io.KnownBytes.{Appends}
-use Rattle.std.specs.List.{AllByRecursion}
+use Rattle.std.specs.List.{AllByRecursion, AllPass}
 use Rattle.puz_board.specs.MovesTexts.{Solves}
 use Rattle.byte_io.specs.Shelf.{Bytes, Files}
+use Rattle.pdb_request.specs.Asked.{LogArguments, MakeTableArguments, SolveArguments}
 use Rattle.pdb_request.specs.declared.requests.Claim.TheVariants.{Bound}
 use Rattle.pdb_run.specs.Writing.{digests_of}
 use Rattle.pdb_run.specs.Runs.{Ends, World}
@@ -17,12 +18,11 @@ use Rattle.pdb_keep.specs.Solve.{letters_of, moves_line, solve_plan}
 
 -- a run of `make-table` that ends with a yes has kept the exact table of its pattern
 abbrev pub KeptTablesAreExact : Type 0
-KeptTablesAreExact = (side mask : ℕ) (out : Bytes) (old new : World) → Ends (make_table_plan side mask out) old new Yes → IsTableKept side mask out old new
+KeptTablesAreExact = (arguments : MakeTableArguments) (old new : World) → Ends (make_table_plan arguments) old new Yes → IsTableKept arguments old new
 
 -- a run of `solve` that ends with a yes has kept a log that, with the moves, proves an optimum
 abbrev pub KeptLogsProveOptima : Type 0
-KeptLogsProveOptima = (fold : Bool) (text sets out : Bytes) (tables : List Bytes) (old new : World) → Ends (solve_plan fold text sets out tables) old new Yes
-    → IsLogKept fold text sets out tables old new
+KeptLogsProveOptima = (arguments : SolveArguments) (old new : World) → Ends (solve_plan arguments) old new Yes → IsLogKept arguments old new
 
 -- ---- the moves that are told
 
@@ -31,9 +31,10 @@ abbrev pub told_moves : Bytes → Bytes
 told_moves [] = []
 told_moves (letter ∷ letters) = 32 ∷ letter ∷ letters
 
--- the line of letters is that word, what is told behind it, and the line's end
+-- the line of letters is that word, what is told behind it, which has no LF, and the line's end
 pub record IsToldSolution (b : List ℕ) (moves : Bytes) (n : ℕ) : Type 0 where
   pub line : moves_line (letters_of moves) ≡ codes "moves" ++ told_moves (letters_of moves) ++ codes "\n"
+  pub one_line : AllPass (λ byte. not (byte == 10)) (told_moves (letters_of moves))
   pub solves : Solves b (told_moves (letters_of moves)) n
 
 -- what is told of n moves that solve a board is a moves text, whose n moves solve it
@@ -42,9 +43,17 @@ ToldMovesSolve = (b : List ℕ) (moves : Bytes) (n : ℕ) → Solves b moves n �
 
 -- ---- what is kept is taken
 
+-- a check has the names of a search, and as its log what the search kept; the tables are folded by both or by neither
+pub record IsOfSearch (arguments : SolveArguments) (check : LogArguments) : Type 0 where
+  pub board : check.text ≡ arguments.board
+  pub sets : check.sets ≡ arguments.sets
+  pub log : check.log ≡ arguments.out
+  pub tables : check.tables ≡ arguments.tables
+  pub fold : check.fold ≡ arguments.fold
+
 -- the search has kept a log, and the run behind it says yes, and by its lines that this log proves the number of the moves
-pub record IsTaken (fold : Bool) (text sets out : Bytes) (tables : List Bytes) (old mid later new : World) (status : Status) : Type 0 where
-  pub kept : IsLogKept fold text sets out tables old mid
+pub record IsTaken (arguments : SolveArguments) (old mid later new : World) (status : Status) : Type 0 where
+  pub kept : IsLogKept arguments old mid
   pub is_yes : status ≡ Yes
   pub lines : Appends later.written new.written (digests_of (kept.files ++ kept.log ∷ []) ++ counted (codes "bound ") kept.n)
 
@@ -52,8 +61,8 @@ pub record IsTaken (fold : Bool) (text sets out : Bytes) (tables : List Bytes) (
 -- log, a yes or a no is a yes, and its bound the number of the moves; OUT is to be none of the other names
 abbrev pub KeptLogsAreTaken : Type 0
 KeptLogsAreTaken =
-    (fold : Bool) (text sets out : Bytes) (tables : List Bytes) (before : Files) (old mid later new : World) (status : Status) →
-    out ≢ text → out ≢ sets → AllByRecursion (λ name. out ≢ name) tables →
-    old.files ≡ Some before → Ends (solve_plan fold text sets out tables) old mid Yes →
-    later.files ≡ mid.files → Ends (log_check_plan Bound fold text sets out tables) later new status → (status ≡ Yes) ⊎ (status ≡ Refused) →
-    IsTaken fold text sets out tables old mid later new status
+    (arguments : SolveArguments) (check : LogArguments) (before : Files) (old mid later new : World) (status : Status) →
+    IsOfSearch arguments check → arguments.out ≢ arguments.board → arguments.out ≢ arguments.sets → AllByRecursion (λ name. arguments.out ≢ name) arguments.tables →
+    old.files ≡ Some before → Ends (solve_plan arguments) old mid Yes →
+    later.files ≡ mid.files → Ends (log_check_plan Bound check) later new status → (status ≡ Yes) ⊎ (status ≡ Refused) →
+    IsTaken arguments old mid later new status

@@ -6,6 +6,7 @@ use Rattle.puz_board.specs.Masks.{numbers_of}
 use Rattle.pat_place.specs.Patterns.{IsPattern}
 use Rattle.tab_rule.specs.declared.census.Census.{Census}
 use Rattle.byte_io.specs.Shelf.{Bytes}
+use Rattle.pdb_request.specs.Asked.{MakeTableArguments}
 use Rattle.pdb_run.specs.Commands.{Plan, Reply, plan_under}
 use Rattle.pdb_verdict.specs.Lines.{line_of, line_of_fault}
 use Rattle.pdb_verdict.specs.Refusals.{fault_of_build}
@@ -73,5 +74,6 @@ pub record TellsBuild (side mask : ℕ) (reply : Reply) : Type 0 where
 -- ---- the command
 
 -- it reads nothing, and takes memory once the side and the mask are a pattern; for any number of workers
-abbrev pub make_table_plan : ℕ → ℕ → Bytes → Plan
-make_table_plan side mask out = plan_under (Some out) [] (λ inputs. TellsBuild side mask) (λ inputs. ArePattern side mask)
+abbrev pub make_table_plan : MakeTableArguments → Plan
+make_table_plan arguments = plan_under (Some arguments.out) []
+    (λ inputs. TellsBuild arguments.side arguments.mask) (λ inputs. ArePattern arguments.side arguments.mask)

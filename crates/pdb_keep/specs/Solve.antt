@@ -8,10 +8,9 @@ use Rattle.puz_board.specs.Boards.{side_of}
 use Rattle.puz_board.specs.MovesTexts.{moves_of}
 use Rattle.puz_board.specs.declared.moves.Move.{Move}
 use Rattle.puz_board.specs.declared.moves.Move.TheVariants.{Up, Down, Left, Right}
-use Rattle.set_sum.specs.Bundles.{BundleView}
+use Rattle.set_sum.specs.Bundles.{ShownBundle}
 use Rattle.byte_io.specs.Shelf.{Bytes}
-use Rattle.pdb_request.specs.Asked.{file_names}
-use Rattle.pdb_request.specs.declared.requests.Search.{Search}
+use Rattle.pdb_request.specs.Asked.{SolveArguments}
 use Rattle.pdb_run.specs.Commands.{Plan, Reply, Wanted, plan_under}
 use Rattle.pdb_verdict.specs.Bound.{TakesMemoryForBound}
 use Rattle.pdb_verdict.specs.Bundles.{AreRefused, IsBundleOfFiles}
@@ -30,7 +29,7 @@ use Rattle.pdb_verdict.specs.declared.refusals.UnmadeRefusal.TheVariants.{Bundle
 
 -- the table files, folded or full, and the set text make a bundle, whose side is that of the board
 pub record AreForBoard (fold : Bool) (board : List ℕ) (sets : Bytes) (tables : List Bytes) : Type 0 where
-  pub bundle : BundleView
+  pub bundle : ShownBundle
   pub is_bundle : IsBundleOfFiles fold tables sets bundle
   pub one_side : side_of board ≡ bundle.side
 
@@ -42,7 +41,7 @@ pub record IsSearchable (fold : Bool) (text sets : Bytes) (tables : List Bytes) 
 
 -- they make a bundle of another side
 pub record AreForAnotherSide (fold : Bool) (board : List ℕ) (sets : Bytes) (tables : List Bytes) : Type 0 where
-  pub bundle : BundleView
+  pub bundle : ShownBundle
   pub is_bundle : IsBundleOfFiles fold tables sets bundle
   pub another_side : side_of board ≢ bundle.side
 
@@ -73,7 +72,7 @@ puzzle_of text moves = text ++ 59 ∷ moves
 -- a search could begin, and the answer is the result on its moves and its log
 pub record IsMade (fold : Bool) (text sets : Bytes) (tables : List Bytes) (moves log : Bytes) (answer : Result ℕ OptimumRefusal) : Type 0 where
   pub could : IsSearchable fold text sets tables
-  pub is_result : IsOptimumResult fold (log_files (puzzle_of text moves) sets log tables) answer
+  pub is_result : IsOptimumResult (log_files fold (puzzle_of text moves) sets log tables) answer
 
 -- ---- what is told of it
 
@@ -122,8 +121,8 @@ pub record TellsSearch (fold : Bool) (text sets : Bytes) (tables : List Bytes) (
 -- ---- the command
 
 -- the board text, the set text and the table files, in this order
-abbrev pub solve_inputs : Bytes → Bytes → List Bytes → List Wanted
-solve_inputs text sets tables = a_text (Some text) ∷ a_text (Some sets) ∷ map a_table tables
+abbrev pub solve_inputs : SolveArguments → List Wanted
+solve_inputs arguments = a_text (Some arguments.board) ∷ a_text (Some arguments.sets) ∷ map a_table arguments.tables
 
 -- what comes of a search on them is told
 abbrev pub IsSolveReply : Bool → List Bytes → Reply → Type 0
@@ -136,9 +135,5 @@ SolveTakesMemory inputs =
     (text : Bytes) × (sets : Bytes) × (tables : List Bytes) × (inputs ≡ text ∷ sets ∷ tables) × TakesMemoryForBound text tables
 
 -- for any budget and any number of workers
-abbrev pub solve_plan : Bool → Bytes → Bytes → Bytes → List Bytes → Plan
-solve_plan fold text sets out tables = plan_under (Some out) (solve_inputs text sets tables) (IsSolveReply fold) SolveTakesMemory
-
--- the same of a search as the code has it
-abbrev pub plan_of_search : Search → Plan
-plan_of_search search = solve_plan search.fold search.board.now search.sets.now search.out.now (file_names search.tables.items)
+abbrev pub solve_plan : SolveArguments → Plan
+solve_plan arguments = plan_under (Some arguments.out) (solve_inputs arguments) (IsSolveReply arguments.fold) SolveTakesMemory

@@ -15,7 +15,6 @@ pub fn kept_logs_prove_optima()
 {}
 
 /// The moves that `solve` tells are a moves text that solves the board.
-#[tactic(auto, using(crate::proofs::LetterLemmas::told_solution))]
 pub fn told_moves_solve()
     ensures { ToldMovesSolve }
 {}

@@ -1,6 +1,7 @@
 //! Makes a table, and keeps it once it is found exact for the pattern that was asked for.
 
 ghost use Rattle.std.specs.Prelude.{◌≡◌, ◌↔◌, ◌∷◌, [], IsSome, IsTrue, IfErr, IfOk, option_map};
+ghost use Rattle.pdb_request.specs.Asked.{make_table_shown};
 ghost use Rattle.pdb_run.specs.Writing.{digests_of};
 ghost use Rattle.pdb_run.specs.Answers.{IsAnswerBy};
 ghost use Rattle.pdb_run.specs.Runs.{Ends};
@@ -27,7 +28,7 @@ use work_run::{Gate, Workers};
 struct Making<'n>(MakeTable<'n>);
 
 impl Command for Making<'_> {
-    ghost plan = { λ command. make_table_plan command.0.side command.0.mask command.0.out.now };
+    ghost plan = { λ command. make_table_plan (make_table_shown command.0) };
 
     fn inputs(&self, alloc: Global) -> Result<Vec<Input<'_>>, AllocError> {
         Ok(Vec::new(alloc))
@@ -43,7 +44,7 @@ pub fn run_make_table<H: Threads + Wait + Sync, G: Gate + Sync, I: Io>(
     io: &mut I,
 ) -> Status
     ensures same_streams { I.streams io.new ≡ I.streams io.old }
-    ensures ends { let plan = make_table_plan asked.now.side asked.now.mask asked.now.out.now in
+    ensures ends { let plan = make_table_plan (make_table_shown asked.now) in
         Ends plan (I.world io.old) (I.world io.new) result }
 {
     let command = Making(*asked);

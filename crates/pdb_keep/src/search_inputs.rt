@@ -1,8 +1,9 @@
 //! The inputs of a search: what is wanted, in order, and what was read, in the same order.
 
 ghost use Rattle.std.specs.Prelude.{◌≡◌, ◌≤◌, length};
+ghost use Rattle.pdb_request.specs.Asked.{search_shown};
 ghost use Rattle.pdb_run.specs.Answers.{all_bytes};
-ghost use Rattle.pdb_keep.specs.Solve.{plan_of_search};
+ghost use Rattle.pdb_keep.specs.Solve.{solve_plan};
 ghost use Rattle.pdb_keep.specs.Steps.{search_files_read};
 
 use pdb_request::Search;
@@ -15,7 +16,7 @@ use std::alloc::{AllocError, Global};
 pub(crate) struct Searching<'c, 'n>(pub(crate) &'c Search<'n>);
 
 impl Command for Searching<'_, '_> {
-    ghost plan = { λ command. plan_of_search command.0.now };
+    ghost plan = { λ command. solve_plan (search_shown command.0.now) };
 
     fn inputs(&self, alloc: Global) -> Result<Vec<Input<'_>>, AllocError> {
         let search = self.0;

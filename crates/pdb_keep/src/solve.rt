@@ -3,6 +3,7 @@
 ghost use Rattle.std.specs.Prelude.{◌≡◌, ◌≤◌, ◌∷◌, Bool, true, List, ℕ, [], length, option_map, IfErr, IfOk, IfSome, MatchResult};
 ghost use Rattle.puz_board.specs.BoardTexts.{Spells};
 ghost use Rattle.puz_board.specs.Boards.{side_of};
+ghost use Rattle.pdb_request.specs.Asked.{search_shown};
 ghost use Rattle.pdb_run.specs.Writing.{digests_of};
 ghost use Rattle.pdb_run.specs.Answers.{IsAnswerBy, IsReplyOf, all_bytes, digest_lines};
 ghost use Rattle.pdb_run.specs.Runs.{Ends};
@@ -11,7 +12,7 @@ ghost use Rattle.pdb_verdict.specs.Bundles.{IsBundleOfFiles, IsCauseForBundle};
 ghost use Rattle.pdb_verdict.specs.Inputs.{log_files};
 ghost use Rattle.pdb_verdict.specs.Optimal.{IsOptimumResult, TakesMemoryForOptimum};
 ghost use Rattle.pdb_verdict.specs.Refusals.{IsFoundBy};
-ghost use Rattle.pdb_keep.specs.Solve.{IsMade, TellsSearch, plan_of_search, puzzle_of, reply_to_search, searched, unmade};
+ghost use Rattle.pdb_keep.specs.Solve.{IsMade, TellsSearch, puzzle_of, reply_to_search, searched, solve_plan, unmade};
 ghost use Rattle.pdb_keep.specs.Steps.{HasItsMoves, IsCauseForSearch, IsSearchAnswer, unmade_for};
 ghost use Rattle.pdb_verdict.specs.declared.refusals.UnmadeRefusal.TheVariants as unmade_refusal;
 
@@ -43,7 +44,8 @@ pub fn run_solve<H: Threads + Wait + Sync, G: Gate + Sync, I: Io>(
     io: &mut I,
 ) -> Status
     ensures same_streams { I.streams io.new ≡ I.streams io.old }
-    ensures ends { Ends (plan_of_search search.now) (I.world io.old) (I.world io.new) result }
+    ensures ends { let plan = solve_plan (search_shown search.now) in
+        Ends plan (I.world io.old) (I.world io.new) result }
 {
     let command = Searching(search);
     let files = match read_inputs_and_try(workers.alloc, &command, search.out, io) {
@@ -299,7 +301,7 @@ fn search_over<H: Threads + Wait + Sync, G: Gate + Sync>(
     ensures { (fold : Bool) (sets : List ℕ) (tables : List (List ℕ))
         → IsBundleOfFiles fold tables sets bundle.now → IfOk result (λ made.
         let puzzle = puzzle_of text.now made.moves.items in
-        IsOptimumResult fold (log_files puzzle sets made.log.items tables) made.answer) }
+        IsOptimumResult (log_files fold puzzle sets made.log.items tables) made.answer) }
 {
     let found = find(workers.alloc, bundle, board, budget)?;
     let Ok(puzzle) = join(workers.alloc, text, found.moves.as_slice()) else {
@@ -328,13 +330,13 @@ fn log_beside<H: Threads + Wait + Sync, G: Gate + Sync>(
     ensures digest { IfSome result.0 (λ digest. digest.items ≡ digests_of (log.now ∷ [])) }
     ensures answer { (fold : Bool) (sets : List ℕ) (tables : List (List ℕ))
         → IsBundleOfFiles fold tables sets bundle.now
-        → IsFoundBy (IsOptimumResult fold (log_files puzzle.now sets log.now tables))
+        → IsFoundBy (IsOptimumResult (log_files fold puzzle.now sets log.now tables))
         (TakesMemoryForOptimum puzzle.now tables) result.1 }
 {
     let check = || -> Result<u8, Failure<OptimumRefusal>>
         ensures { (fold : Bool) (sets : List ℕ) (tables : List (List ℕ))
             → IsBundleOfFiles fold tables sets bundle.entry.now → let p = puzzle.entry.now in
-            IsFoundBy (IsOptimumResult fold (log_files p sets log.entry.now tables))
+            IsFoundBy (IsOptimumResult (log_files fold p sets log.entry.now tables))
             (TakesMemoryForOptimum p tables) result }
     { optimum_over(bundle, puzzle, log, workers) };
     beside(workers.rt, workers.count, &[], Some(log), check)

@@ -1,12 +1,12 @@
 -- What a yes means and what a no means follow from what is answered and what is kept.
-use Rattle.std.proofs.Common.{◌≡◌, ◌∙◌, ◌⊎◌, ◌≤◌, inl, inr, ℕ, Bool, true, false, List, [], ◌∷◌, ◌++◌, Option, Some, None, IfSome, ap, append_assoc, arith, codes, map, refl, subst, sym}
+use Rattle.std.proofs.Common.{◌≡◌, ◌∙◌, ◌⊎◌, ◌≤◌, inl, inr, ℕ, Bool, true, false, List, [], ◌∷◌, ◌++◌, Option, Some, None, IfSome, ap, append_assoc, arith, codes, refl, subst, sym}
 use Rattle.std.specs.Option.{option_map_or}
 use Rattle.std.proofs.lemmas.Grind.{flat_map-append}
 use Rattle.std.proofs.lemmas.List.{append-nil, append_cancel_left}
 use Rattle.tab_file.specs.Tables.{Table}
 use Rattle.tab_rule.specs.ExactTables.{IsExactFile}
 use Rattle.byte_io.specs.Shelf.{Bytes, Files, with_file}
-use Rattle.pdb_request.specs.Asked.{Asked, log_check, make_table, replay, solve, table}
+use Rattle.pdb_request.specs.Asked.{Asked, TableArguments, bound, make_table, optimal, replay, solve, table}
 use Rattle.pdb_request.specs.declared.requests.Claim.TheVariants.{Bound, Optimum}
 use Rattle.pdb_run.specs.Writing.{digest_line, digests_of}
 use Rattle.pdb_run.specs.Commands.{Wanted}
@@ -15,16 +15,16 @@ use Rattle.pdb_run.specs.Runs.{Ends, IsAnswered, World, status_of_reply, world}
 use Rattle.pdb_run.specs.Statuses.{status_number}
 use Rattle.pdb_run.specs.declared.statuses.Status.{Status}
 use Rattle.pdb_run.specs.declared.statuses.Status.TheVariants.{Yes, Refused}
-use Rattle.pdb_verdict.specs.Inputs.{Given, files_in_order, log_claim, puzzle_text, table_file}
-use Rattle.pdb_verdict.specs.Limits.{a_table, a_text}
+use Rattle.pdb_verdict.specs.Inputs.{Given, files_in_order, puzzle_text, table_file}
 use Rattle.pdb_verdict.specs.Lines.{digested_of, line_of_verdict}
-use Rattle.pdb_verdict.specs.Plans.{check_plan, log_check_inputs, table_plan}
+use Rattle.pdb_verdict.specs.Plans.{check_plan, log_check_inputs, log_given, replay_inputs, table_inputs, table_plan}
 use Rattle.pdb_verdict.specs.Verdicts.{HoldsOfSolutions, IsTrueOf}
 use Rattle.pdb_verdict.specs.declared.verdicts.Verdict.{Verdict}
+use Rattle.pdb_verdict.proofs.ReadLemmas.{log_stood, replay_stood, table_stood, tables_stood}
 use Rattle.pdb_verdict.proofs.VerdictLemmas.{no_told, yes_told}
 use Rattle.pdb_keep.specs.Laws.{told_moves}
 use Rattle.pdb_keep.specs.Solve.{letters_of}
-use Rattle.pdb_keep.proofs.KeptLemmas.{file-kept, log_answered, table_answered}
+use Rattle.pdb_keep.proofs.KeptLemmas.{file-kept, log_answered, search_stood, table_answered}
 use Rattle.pdb_keep.proofs.LetterLemmas.{told_solution}
 use Rattle.pdb_words.specs.CommandLine.{asked_of}
 use Rattle.pdb_program.specs.Headline.{EndWith, Headline, HoldsOfYes}
@@ -67,18 +67,10 @@ module _ (before after : Files) (input start lines : Bytes) (failed failed_after
       (digests_of (files ++ more), whole-digests (files ++ more), rw (flat_map-append digest_line files more) all)
 
   -- what was read stood there
-  given : (name : Option Bytes) (bytes : Bytes) → IsReadFrom (Some before) (Some input) name bytes
+  stood : (name : Option Bytes) (bytes : Bytes) → IsReadFrom (Some before) (Some input) name bytes
       → option_map_or before name (Some input) ≡ Some bytes
-  given None bytes read = ap Some read
-  given (Some name) bytes read = read
-
-  all_under : (names files : List Bytes) → AreRead (Some before) (Some input) (map a_table names) files
-      → map before names ≡ map Some files
-  all_under [] [] read = refl
-  all_under (name ∷ names) (file ∷ files) read =
-      let rest = all_under names files read.1 in
-      λ i. read.0.0 i ∷ rest i
-  all_under _ _ read = absurd read
+  stood None bytes read = ap Some read
+  stood (Some name) bytes read = read
 
   -- what was kept stands under its name
   stands : (out file : Bytes) → Some after ≡ Some (with_file before out file) → after out ≡ Some file
@@ -102,64 +94,95 @@ module _ (before after : Files) (input start lines : Bytes) (failed failed_after
       )
 
   yes_by : (asked : Asked) → IsAnswered (plan_of asked) old new Yes → HoldsOfYes asked before after input lines
-  yes_by (replay name) a =
-      let all = checked (a_text name ∷ []) puzzle_text a in
-      (a.right.1.0, all.2.0, given name a.right.1.0 all.1.0.0, all.4 _ all.2.2, all.2.1)
-  yes_by (table name workers) a =
-      let all = checked (a_table name ∷ []) table_file a in
+  yes_by (replay arguments) a =
+      let all = checked (replay_inputs arguments) puzzle_text a in
+      let puzzle = a.right.1.0 in
+      let read = replay_stood (Some before) (Some input) arguments puzzle all.1 in
+      (puzzle, all.2.0, stood arguments.puzzle puzzle read, all.4 _ all.2.2, all.2.1)
+  yes_by (table arguments) a =
+      let all = checked (table_inputs arguments) table_file a in
+      let file = a.right.1.0 in
+      let census = all.2.0.2 in
       let is = all.2.1 in
-      let last = rw is.is_side at (all.4 _ all.2.2) in
-      (a.right.1.0, is.table, all.2.0.1, all.2.0.2, all.1.0.0, last, is.mask_low, sym is.is_mask, is.exact)
-  yes_by (log_check Bound name sets log tables workers fold) a =
-      let all = checked (log_check_inputs name sets log tables) (log_claim Bound fold) a in
+      let last = rw is.is_side at (all.4 _ all.2.2) in (
+        file,
+        is.table,
+        all.2.0.1,
+        table_stood (Some before) (Some input) arguments file all.1,
+        is.mask_low,
+        sym is.is_mask,
+        is.exact,
+        census.entries,
+        census.unreachable,
+        census.deepest,
+        last,
+      )
+  yes_by (bound arguments) a =
+      let all = checked (log_check_inputs arguments) (log_given Bound arguments) a in
+      let files = a.right.1.0 in
+      let read = log_stood (Some before) (Some input) Bound arguments files all.1 in
       let holds = all.3.1 in
-      (a.right.1.0.text, holds.board, all.3.0, all.1.0.0, holds.spelt, all.4 _ all.3.2, holds.bounded)
-  yes_by (log_check Optimum name sets log tables workers fold) a =
-      let all = checked (log_check_inputs name sets log tables) (log_claim Optimum fold) a in
+      (files.text, holds.board, all.3.0, read.text, holds.spelt, all.4 _ all.3.2, holds.bounded)
+  yes_by (optimal arguments) a =
+      let all = checked (log_check_inputs arguments) (log_given Optimum arguments) a in
+      let files = a.right.1.0 in
+      let read = log_stood (Some before) (Some input) Optimum arguments files all.1 in
       let holds = all.3.1 in
-      (a.right.1.0.text, all.3.0, holds.solved, all.1.0.0, all.4 _ all.3.2, holds.least.bounded)
-  yes_by (make_table side mask out workers) a =
-      let kept = table_answered side mask out old new _ a in
+      (files.text, all.3.0, holds.solved, read.text, all.4 _ all.3.2, holds.least.bounded)
+  yes_by (make_table arguments) a =
+      let kept = table_answered arguments old new _ a in
       let is = kept.exact in
-      let last = ends [] (kept.file ∷ []) _ kept.lines in
-      (kept.file, is.table, kept.census, stands out kept.file kept.kept, last, sym is.is_side, sym is.is_mask, is.exact)
-  yes_by (solve board sets out tables workers fold budget) a =
-      let kept = log_answered fold board sets out tables old new a in
+      let last = ends [] (kept.file ∷ []) _ kept.lines in (
+        kept.file,
+        is.table,
+        stands arguments.out kept.file kept.kept,
+        sym is.is_side,
+        sym is.is_mask,
+        is.exact,
+        kept.census.entries,
+        kept.census.unreachable,
+        kept.census.deepest,
+        last,
+      )
+  yes_by (solve arguments) a =
+      let kept = log_answered arguments old new a in
       let f = kept.found in
+      let read = search_stood (Some before) (Some input) arguments f.board_text f.set_text kept.files f.read in
       let solution = told_solution f.board kept.moves kept.n f.solved in
-      let last = rw solution.line at (ends kept.files (kept.log ∷ []) _ kept.lines) in
-      let under = all_under tables kept.files f.read.1.1 in (
+      let last = rw solution.line at (ends kept.files (kept.log ∷ []) _ kept.lines) in (
         f.board_text,
         f.board,
         told_moves (letters_of kept.moves),
         kept.n,
-        f.read.0.0,
+        read.board,
         f.spelt,
         last,
+        solution.one_line,
         solution.solves,
         f.least.bounded,
         f.set_text,
         kept.files,
         kept.log,
-        f.read.1.0.0,
-        under,
-        stands out kept.log kept.kept,
+        read.sets,
+        tables_stood before (Some input) arguments.tables kept.files read.tables,
+        stands arguments.out kept.log kept.kept,
         f.proved,
       )
 
-  no_by : (name : Bytes) → IsAnswered (table_plan name) old new Refused
-      → (file : Bytes) × (before name ≡ Some file) × ((t : Table) → ¬ IsExactFile t file)
-  no_by name a =
+  no_by : (arguments : TableArguments) → IsAnswered (table_plan arguments) old new Refused
+      → (file : Bytes) × (before arguments.file ≡ Some file) × ((t : Table) → ¬ IsExactFile t file)
+  no_by arguments a =
       let is = a.right.1 in
-      let read = rw is.1 at a.right.0 in
-      (is.0, read.0.0, no_told is.0 a.reply is.2 (says a.reply.is_yes false a.is_status))
+      let read = table_stood (Some before) (Some input) arguments is.0 (rw is.1 at a.right.0) in
+      (is.0, read, no_told is.0 a.reply is.2 (says a.reply.is_yes false a.is_status))
 
   -- the sentence follows from how a run ends
   headline_told : (asked : Asked) (number : ℕ) → IsNumberOfStatus (Ends (plan_of asked) old new) number
       → Headline asked before after input lines number
   headline_told asked number ended = record {
     yes = λ zero. yes_by asked (answered_by (plan_of asked) old new true number ended zero);
-    no = λ name _ same one. no_by name (answered_by (table_plan name) old new false number (rw same at ended) one);
+    no = λ arguments same one.
+        no_by arguments (answered_by (table_plan arguments) old new false number (rw same at ended) one);
     known = known ended.0 ended.1;
   }
     where

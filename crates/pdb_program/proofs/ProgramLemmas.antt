@@ -1,9 +1,9 @@
 -- The numbers by which runs end.
-use Rattle.std.proofs.Common.{◌≡◌, ◌⊎◌, inl, inr, refl, subst, arith, Bool, true, false, ℕ, List, [], Option}
+use Rattle.std.proofs.Common.{◌≡◌, ◌⊎◌, inl, inr, refl, subst, arith, Bool, true, false, ℕ, List, [], ◌∷◌, Option}
 use Rattle.std.specs.Io.KnownBytes.{Keeps}
 use Rattle.byte_io.specs.Shelf.{Bytes}
-use Rattle.pdb_request.specs.Asked.{Asked, make_table, solve}
-use Rattle.pdb_run.specs.Commands.{Plan}
+use Rattle.pdb_request.specs.Asked.{Asked, MakeTableArguments, make_table, solve}
+use Rattle.pdb_run.specs.Commands.{Plan, Wanted}
 use Rattle.pdb_run.specs.Runs.{Ends, HasCause, IsAnswered, Outcome, WantsMemory, World, no_memory, status_of_reply, unkept, unwritable}
 use Rattle.pdb_run.specs.Statuses.{status_number}
 use Rattle.pdb_run.specs.declared.statuses.Status.{Status}
@@ -26,9 +26,17 @@ answered_by plan old new _ number (_, e, ends) is = absurd (omega arith)
 
 -- ---- words that parse, where memory was refused
 
--- whatever is asked for, memory may be wanted: to list what is read, or for a table that is to be made
+-- a plan that takes memory at any time may want it: to list what is read, or where nothing is
+taking-wants : (plan : Plan) (old : World) → WantsMemory (taking_memory plan) old
+taking-wants plan old = go plan.inputs refl
+  where
+    go : (wanted : List Wanted) → plan.inputs ≡ wanted → WantsMemory (taking_memory plan) old
+    go [] none = inr ([], rw none tt, tt)
+    go (first ∷ more) some = inl (rw some (omega arith))
+
+-- so it may whatever is asked for: to list what is read, or for a table that is to be made
 wants : (asked : Asked) (old : World) → WantsMemory (plan_of asked) old
-wants (make_table side mask out workers) old = inr ([], tt, tt)
+wants (make_table arguments) old = taking-wants (make_table_plan arguments) old
 wants _ old = inl (omega arith)
 
 -- what is said of a fault in words that parse is want of memory
@@ -62,12 +70,12 @@ taking plan old failed no_memory (inr checked) = inr (checked.0, checked.1, tt)
 taking plan old failed _ cause = cause
 
 -- what was asked for is a table to be made
-pub made_ends : (side mask : ℕ) (out : Bytes) (workers : ℕ) (asked : Asked) (old new : World) (status : Status) → make_table side mask out workers ≡ asked
-    → Ends (make_table_plan side mask out) old new status → Ends (plan_of asked) old new status
-made_ends side mask out workers asked old new status is ends =
+pub made_ends : (arguments : MakeTableArguments) (asked : Asked) (old new : World) (status : Status) → make_table arguments ≡ asked
+    → Ends (make_table_plan arguments) old new status → Ends (plan_of asked) old new status
+made_ends arguments asked old new status is ends =
     subst (λ (a : Asked). Ends (plan_of a) old new status) is (record {
       outcome = ends.outcome;
-      cause = taking (make_table_plan side mask out) old new.failed ends.outcome ends.cause;
+      cause = taking (make_table_plan arguments) old new.failed ends.outcome ends.cause;
       files = ends.files;
       failure = ends.failure;
       reader = ends.reader;
@@ -78,9 +86,8 @@ made_ends side mask out workers asked old new status is ends =
 
 -- a yes has kept what was asked for
 yes_keeps : (asked : Asked) (old new : World) → IsAnswered (plan_of asked) old new Yes → HasKept asked old new
-yes_keeps (make_table side mask out workers) old new answered = table_answered side mask out old new _ answered
-yes_keeps (solve board sets out tables workers fold budget) old new answered =
-    log_answered fold board sets out tables old new answered
+yes_keeps (make_table arguments) old new answered = table_answered arguments old new _ answered
+yes_keeps (solve arguments) old new answered = log_answered arguments old new answered
 yes_keeps _ old new answered = answered.files
 
 -- a run on words is what its steps make it

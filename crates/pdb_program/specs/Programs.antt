@@ -2,7 +2,8 @@
 use Rattle.std.specs.Prelude.{◌≡◌, ◌⊎◌, ⊤, ℕ, List, Option, None}
 use Rattle.std.specs.Io.KnownBytes.{Keeps}
 use Rattle.byte_io.specs.Shelf.{Bytes}
-use Rattle.pdb_request.specs.Asked.{Asked, log_check, make_table, replay, solve, table}
+use Rattle.pdb_request.specs.Asked.{Asked, bound, make_table, optimal, replay, solve, table}
+use Rattle.pdb_request.specs.declared.requests.Claim.TheVariants.{Bound, Optimum}
 use Rattle.pdb_run.specs.Commands.{Plan}
 use Rattle.pdb_run.specs.Runs.{Ends, IsAnswered, World}
 use Rattle.pdb_run.specs.Statuses.{status_number}
@@ -22,11 +23,12 @@ taking_memory plan = record plan { TakesMemory = λ inputs. ⊤ }
 -- the plan of what words ask for; how many workers share a check and how far a search may go change nothing of it, and
 -- to read the words of a table that is to be made takes memory, whatever its numbers are
 abbrev pub plan_of : Asked → Plan
-plan_of (replay name) = replay_plan name
-plan_of (table name workers) = table_plan name
-plan_of (log_check claim text sets log tables workers fold) = log_check_plan claim fold text sets log tables
-plan_of (make_table side mask out workers) = taking_memory (make_table_plan side mask out)
-plan_of (solve board sets out tables workers fold budget) = solve_plan fold board sets out tables
+plan_of (replay arguments) = replay_plan arguments
+plan_of (table arguments) = table_plan arguments
+plan_of (bound arguments) = log_check_plan Bound arguments
+plan_of (optimal arguments) = log_check_plan Optimum arguments
+plan_of (make_table arguments) = taking_memory (make_table_plan arguments)
+plan_of (solve arguments) = solve_plan arguments
 
 -- the words ask for nothing under whose name a file is kept: only make-table and solve keep one
 abbrev pub AskToKeepNothing : List Bytes → Type 0
@@ -35,11 +37,9 @@ AskToKeepNothing words = Parses words → (plan_of (asked_of words)).keeps_under
 -- after a yes: what was made for these words stands under its name, checked, and under each other name what stood there;
 -- what was asked for with other words leaves the shelf as it was
 abbrev pub HasKept : Asked → World → World → Type 0
-HasKept (replay name) old new = new.files ≡ old.files
-HasKept (table name workers) old new = new.files ≡ old.files
-HasKept (log_check claim text sets log tables workers fold) old new = new.files ≡ old.files
-HasKept (make_table side mask out workers) old new = IsTableKept side mask out old new
-HasKept (solve board sets out tables workers fold budget) old new = IsLogKept fold board sets out tables old new
+HasKept (make_table arguments) old new = IsTableKept arguments old new
+HasKept (solve arguments) old new = IsLogKept arguments old new
+HasKept other old new = new.files ≡ old.files
 
 -- the number is that of a status of which this holds
 abbrev pub IsNumberOfStatus : (Status → Type 0) → ℕ → Type 0

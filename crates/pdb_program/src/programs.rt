@@ -25,8 +25,8 @@ use std::sync::Wait;
 use std::thread::Threads;
 use work_run::Gate;
 
-/// Does what the words ask for, and answers the status: 0 for a yes, 1 for a refusal, 2 for bad words or a fault
-/// of a read or a write, 3 for want of memory.
+/// Does what the words ask for, and answers the status: 0 for a yes or for help, 1 for a refusal, 2 for bad words or
+/// a fault of a read or a write, 3 for want of memory.
 ///
 /// The words leave out the program's own name. Without any it is `replay` on the reader. Workers pass the gate.
 pub fn run<H: Threads + Wait + Sync, S: Shelf, R: Read, W: Write, E: Write, G: Gate + Sync>(

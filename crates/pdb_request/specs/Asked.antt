@@ -3,44 +3,130 @@ use Rattle.std.specs.Borrow.{Bor}
 use Rattle.std.specs.Prelude.{⊤, ℕ, ◌≤◌, Bool, List, Option, map, option_map}
 use Rattle.book_core.specs.Books.{AreWorkers}
 use Rattle.pdb_request.specs.declared.requests.Claim.{Claim}
+use Rattle.pdb_request.specs.declared.requests.Claim.TheVariants as claim
 use Rattle.pdb_request.specs.declared.requests.LogCheck.{LogCheck}
+use Rattle.pdb_request.specs.declared.requests.MakeTable.{MakeTable}
+use Rattle.pdb_request.specs.declared.requests.Replay.{Replay}
 use Rattle.pdb_request.specs.declared.requests.Request.{Request}
 use Rattle.pdb_request.specs.declared.requests.Request.TheVariants as request
+use Rattle.pdb_request.specs.declared.requests.Search.{Search}
+use Rattle.pdb_request.specs.declared.requests.TableCheck.{TableCheck}
 
--- what words ask for: a command, with the names and numbers it is given
+-- ---- the arguments of commands
+
+-- `replay`
+pub record ReplayArguments : Type 0 where
+  -- the name of the puzzle text, or none for standard input
+  pub puzzle : Option (List ℕ)
+
+-- `table`
+pub record TableArguments : Type 0 where
+  -- the name of the table file
+  pub file : List ℕ
+  -- how many workers check it
+  pub workers : ℕ
+
+-- `bound` and `optimal`
+pub record LogArguments : Type 0 where
+  -- the names of the text, which is a board text for a bound and a puzzle text for an optimum, of the sets and of the log
+  pub text : List ℕ
+  pub sets : List ℕ
+  pub log : List ℕ
+  -- those of the tables, in order
+  pub tables : List (List ℕ)
+  -- how many workers check the tables and the log
+  pub workers : ℕ
+  -- whether each table is folded once it is checked
+  pub fold : Bool
+
+-- `make-table`
+pub record MakeTableArguments : Type 0 where
+  -- the side and the tile mask of the pattern
+  pub side : ℕ
+  pub mask : ℕ
+  -- the name under which the table is kept
+  pub out : List ℕ
+  -- how many workers check it
+  pub workers : ℕ
+
+-- `solve`
+pub record SolveArguments : Type 0 where
+  -- the names of the board text, of the sets, and that under which the log is kept
+  pub board : List ℕ
+  pub sets : List ℕ
+  pub out : List ℕ
+  -- those of the tables, in order
+  pub tables : List (List ℕ)
+  -- how many workers check the tables and the log
+  pub workers : ℕ
+  -- whether each table is folded once it is checked
+  pub fold : Bool
+  -- how many boards may be expanded
+  pub budget : ℕ
+
+-- what words ask for: a command with its arguments
 pub data Asked : Type 0 where
-  -- the verdict on the puzzle text of this file, or of standard input where there is no name
-  replay : Option (List ℕ) → Asked
-  -- whether the table file of this name is exact, checked by so many workers
-  table : List ℕ → ℕ → Asked
-  -- whether a log proves what is claimed of it, for a bound of the board of a board text, and for an optimum of the moves of a
-  -- puzzle text: the names of that text, the sets, the log and its tables, in order, how many workers check the tables and the log,
-  -- and whether each table is folded once it is checked
-  log_check : Claim → List ℕ → List ℕ → List ℕ → List (List ℕ) → ℕ → Bool → Asked
-  -- the table of the pattern with this side and this tile mask, kept under a name: how many workers check it
-  make_table : ℕ → ℕ → List ℕ → ℕ → Asked
-  -- a shortest solution of a board, and the log that proves it, kept under a name: the names of the board, the sets, the
-  -- log and its tables, in order, how many workers check the tables and the log, whether each table is folded once it is
-  -- checked, and how many boards may be expanded
-  solve : List ℕ → List ℕ → List ℕ → List (List ℕ) → ℕ → Bool → ℕ → Asked
+  -- whether the moves of a puzzle text solve its board
+  replay : ReplayArguments → Asked
+  -- whether a table file is exact
+  table : TableArguments → Asked
+  -- whether a log proves a bound of the board of a board text, or the moves of a puzzle text to be an optimum
+  bound optimal : LogArguments → Asked
+  -- the table of a pattern, kept under a name
+  make_table : MakeTableArguments → Asked
+  -- a shortest solution of a board, and the log that proves it, kept under a name
+  solve : SolveArguments → Asked
+
+-- ---- the same of the code's requests
 
 -- the names of files, as their bytes
 abbrev pub file_names : List (Bor (List ℕ)) → List (List ℕ)
 file_names names = map (λ name. name.now) names
 
--- what the check of a log asks for
-abbrev pub log_check_shown : LogCheck → Asked
-log_check_shown check = log_check check.claim check.text.now check.sets.now check.log.now (file_names check.tables.items)
-    check.workers check.fold
+abbrev pub replay_shown : Replay → ReplayArguments
+replay_shown command = record { puzzle = option_map (λ s. s.now) command.puzzle }
+
+abbrev pub table_check_shown : TableCheck → TableArguments
+table_check_shown check = record { file = check.file.now; workers = check.workers }
+
+abbrev pub log_check_shown : LogCheck → LogArguments
+log_check_shown check = record {
+  text = check.text.now;
+  sets = check.sets.now;
+  log = check.log.now;
+  tables = file_names check.tables.items;
+  workers = check.workers;
+  fold = check.fold;
+}
+
+abbrev pub make_table_shown : MakeTable → MakeTableArguments
+make_table_shown command = record { side = command.side; mask = command.mask; out = command.out.now; workers = command.workers }
+
+abbrev pub search_shown : Search → SolveArguments
+search_shown search = record {
+  board = search.board.now;
+  sets = search.sets.now;
+  out = search.out.now;
+  tables = file_names search.tables.items;
+  workers = search.workers;
+  fold = search.fold;
+  budget = search.budget;
+}
+
+-- what is claimed of a log makes the command
+abbrev pub claimed : Claim → LogArguments → Asked
+claimed claim.Bound = bound
+claimed claim.Optimum = optimal
 
 -- a request, as its bytes
 abbrev pub request_shown : Request → Asked
-request_shown (request.Replay command) = replay (option_map (λ s. s.now) command.puzzle)
-request_shown (request.TableCheck check) = table check.file.now check.workers
-request_shown (request.LogCheck check) = log_check_shown check
-request_shown (request.MakeTable command) = make_table command.side command.mask command.out.now command.workers
-request_shown (request.Search search) = solve search.board.now search.sets.now search.out.now (file_names search.tables.items)
-    search.workers search.fold search.budget
+request_shown (request.Replay command) = replay (replay_shown command)
+request_shown (request.TableCheck check) = table (table_check_shown check)
+request_shown (request.LogCheck check) = claimed check.claim (log_check_shown check)
+request_shown (request.MakeTable command) = make_table (make_table_shown command)
+request_shown (request.Search search) = solve (search_shown search)
+
+-- ---- which numbers a request can have
 
 -- there are as many workers as may share a check, where any are asked for
 abbrev pub HasWorkers : Request → Type 0

@@ -1,7 +1,7 @@
 -- Table files, a set text and a log file have one result for a board, and a bound that they prove holds.
 use Rattle.std.proofs.Common.{◌≡◌, ◌∙◌, ℕ, Bool, List, MatchResult, Result, Ok, Err, inl, inr, refl, sym}
 use Rattle.set_sum.specs.Bounds.{IsBounded}
-use Rattle.set_sum.specs.Bundles.{BundleView}
+use Rattle.set_sum.specs.Bundles.{ShownBundle}
 use Rattle.set_sum.specs.Reading as reading
 use Rattle.set_sum.proofs.AnswerLemmas.{bundle-no_fault, bundle-once, fault-once}
 use Rattle.set_sum.proofs.BundleLemmas.{is_bundle}
@@ -73,7 +73,7 @@ module _ (fold : Bool) (board : List ℕ) (sets log : Bytes) (files : List Bytes
 
 module _ {fold : Bool} {files : List Bytes} {sets : Bytes} (board : List ℕ) (log : Bytes) where
   -- what is found over the bundle that files make is found for them
-  pub found_over : {v : BundleView} → IsBundleOfFiles fold files sets v → (found : Result ℕ LogFault)
+  pub found_over : {v : ShownBundle} → IsBundleOfFiles fold files sets v → (found : Result ℕ LogFault)
       → IsFoundOver v board log found → IsFoundFor fold board sets log files (of_log found)
   found_over {v = v} is_bundle (Ok n) is = record { bundle = v; is_bundle = is_bundle; good = is }
   found_over {v = v} is_bundle (Err (LogFault.Refused r)) is = record { bundle = v; is_bundle = is_bundle; fault = is }

@@ -9,7 +9,7 @@ use Rattle.tab_rule.specs.declared.tables.TableRefusal.{TableRefusal}
 use Rattle.tab_rule.proofs.AnswerLemmas.{file_answer}
 use Rattle.tab_rule.proofs.FoldLemmas.{AreFoldedBelow, folded_all, folded_more, folded_none, least_more, least_none, part_of}
 use Rattle.tab_rule.proofs.OneResultLemmas.{IsTableFaultOf-one, exact_one, exact_or_fault}
-use Rattle.set_sum.specs.Bundles.{BundleView}
+use Rattle.set_sum.specs.Bundles.{ShownBundle}
 use Rattle.set_sum.specs.Parts.{IsExactPart}
 use Rattle.byte_io.specs.Shelf.{Bytes}
 use Rattle.pdb_verdict.specs.Bundles.{AreExactFiles, IsBundleOfFiles, IsFirstRefused, TakesMemoryForTables, part_for, parts_for}
@@ -95,7 +95,7 @@ all_exact fold (t ∷ ts) (file ∷ files) are =
     (part_exact fold t (record { is_table = are.0.is_file.table; exact = are.0.exact }), all_exact fold ts files are.1)
 
 -- what makes a bundle has a table file, so it takes memory to check it
-pub bundle_taken : (fold : Bool) (files : List Bytes) (sets : Bytes) (bundle : BundleView) → IsBundleOfFiles fold files sets bundle → TakesMemoryForTables files
+pub bundle_taken : (fold : Bool) (files : List Bytes) (sets : Bytes) (bundle : ShownBundle) → IsBundleOfFiles fold files sets bundle → TakesMemoryForTables files
 bundle_taken fold files sets bundle is = exact_taken is.tables files is.makes.alike.count.some is.exact
   where
     exact_taken : (ts : List Table) (of : List Bytes) → 0 < length (parts_for fold ts) → AreExactFiles ts of → TakesMemoryForTables of

@@ -3,7 +3,8 @@ pub mod BundleLemmas
 mod CheckLemmas
 pub mod ClaimLemmas
 mod FoldingLemmas
+pub mod ReadLemmas
 pub mod RefusalLemmas
-mod ReplayLemmas
+pub mod ReplayLemmas
 mod TableLemmas
 pub mod VerdictLemmas

@@ -1,11 +1,15 @@
 -- A puzzle text has one result, and it is a number of moves exactly where so many solve the board.
-use Rattle.std.proofs.Common.{◌≡◌, ◌∙◌, ◌↔◌, ℕ, List, [], Some, Result, Ok, Err, arith, refl, sym, unwrap_or}
-use Rattle.puz_board.specs.BoardTexts.{board_of_text}
+use Rattle.std.proofs.Common.{◌≡◌, ◌∙◌, ◌↔◌, ℕ, Bool, true, false, List, [], Some, Result, Ok, Err, not, ◌||◌, arith, refl, sym, unwrap_or}
+use Rattle.std.specs.Prelude.{◌==◌}
+use Rattle.std.specs.Char.{is_ascii_digit}
+use Rattle.std.proofs.lemmas.Bool.{eqb-true}
+use Rattle.puz_board.specs.BoardTexts.{Spells, board_of_text, is_separator, stray_byte}
 use Rattle.puz_board.specs.MovesTexts.{replay_of}
-use Rattle.puz_board.specs.PuzzleTexts.{puzzle_parts}
+use Rattle.puz_board.specs.PuzzleTexts.{HasNoSemicolon, IsPuzzle, puzzle_parts}
+use Rattle.puz_board.proofs.FirstLemmas.{AllPass-position}
 use Rattle.puz_board.proofs.PuzzleLemmas.{puzzle_parts-puzzle, puzzle-parts}
 use Rattle.puz_board.proofs.SolutionLemmas.{replay_of-solved, solved-replay_of}
-use Rattle.puz_board.proofs.SpellingLemmas.{board_of_text-spelled, spelled-board_of_text}
+use Rattle.puz_board.proofs.SpellingLemmas.{board_of_text-spelled, spelled-board_of_text, stray_byte-numerals}
 use Rattle.pdb_verdict.specs.Refusals.{fault_of_replay, told_as}
 use Rattle.pdb_verdict.specs.Replay.{IsReplayResult, IsReplayTold, IsSolvedPuzzle, solved_parts}
 use Rattle.pdb_verdict.specs.declared.refusals.ReplayRefusal.{ReplayRefusal}
@@ -14,6 +18,22 @@ use Rattle.pdb_verdict.specs.declared.verdicts.Verdict.{Verdict}
 use Rattle.pdb_verdict.proofs.RefusalLemmas.{Behind, IsOne, after, by_result, one_behind, one_by, one_made, stays, told_yes}
 
 -- ---- puzzles that are solved
+
+not_semicolon : (b : ℕ) (t : Bool) → (b == 59) ≡ t → (is_ascii_digit b || is_separator b) ≡ true → not t ≡ true
+not_semicolon b true is clean = let clash : false ≡ true = rw (eqb-true b 59 is) at clean in cc
+not_semicolon b false is clean = refl
+
+-- no text of a board has a `;`
+pub spelled-no_semicolon : (text board : List ℕ) → Spells text board → HasNoSemicolon text
+unfolding stray_byte
+spelled-no_semicolon text board spelt k d low =
+    let none = stray_byte-numerals text spelt.numerals in
+    not_semicolon _ _ refl (AllPass-position (λ b. is_ascii_digit b || is_separator b) text none k d low)
+
+-- so the `;` behind it is the first
+pub solved-puzzle : (puzzle : List ℕ) (n : ℕ) (solved : IsSolvedPuzzle puzzle n) → IsPuzzle puzzle solved.board_text solved.moves_text
+solved-puzzle puzzle n solved =
+    record { whole = solved.whole; first = spelled-no_semicolon solved.board_text solved.board solved.spelt }
 
 -- a board and a number of moves come of a puzzle that is solved
 pub solved-parts : (puzzle board : List ℕ) (n : ℕ) → solved_parts (puzzle_parts puzzle) ≡ Ok (board, n)
@@ -28,7 +48,7 @@ solved-parts puzzle board n is =
       board = board;
       board_text = texts.0;
       moves_text = texts.1;
-      parts = puzzle-parts puzzle texts.0 texts.1 parts;
+      whole = (puzzle-parts puzzle texts.0 texts.1 parts).whole;
       spelt = spells;
       solved = solved-replay_of board texts.1 n spells.board replayed;
     } in
@@ -37,7 +57,7 @@ solved-parts puzzle board n is =
 -- and of each
 pub parts-solved : (puzzle : List ℕ) (n : ℕ) (solved : IsSolvedPuzzle puzzle n) → solved_parts (puzzle_parts puzzle) ≡ Ok (solved.board, n)
 parts-solved puzzle n h =
-    rw (puzzle_parts-puzzle puzzle h.board_text h.moves_text h.parts, board_of_text-spelled h.board_text h.board h.spelt)
+    rw (puzzle_parts-puzzle puzzle h.board_text h.moves_text (solved-puzzle puzzle n h), board_of_text-spelled h.board_text h.board h.spelt)
     (rw (replay_of-solved h.board h.moves_text n h.spelt.board h.solved))
 
 -- ---- the result

@@ -29,31 +29,31 @@ use Rattle.pdb_verdict.proofs.TableLemmas.{IsTableResult-one, table_some}
 pub IsResult-true : (inputs : Given) (v : Verdict) → IsResult inputs (Ok v) ↔ IsTrueOf inputs v
 IsResult-true (puzzle_text puzzle) = told_yes Verdict.Solution fault_of_replay (IsReplayResult puzzle)
 IsResult-true (table_file table) = told_yes exact_verdict Fault.Table (IsTableResult table)
-IsResult-true (log_claim Bound fold files) = told_yes Verdict.Bound fault_of_bound (IsBoundResult fold files)
-IsResult-true (log_claim Optimum fold files) = told_yes Verdict.Optimal fault_of_optimum (IsOptimumResult fold files)
+IsResult-true (log_claim Bound files) = told_yes Verdict.Bound fault_of_bound (IsBoundResult files)
+IsResult-true (log_claim Optimum files) = told_yes Verdict.Optimal fault_of_optimum (IsOptimumResult files)
 
 -- a true verdict on a log holds of the solutions
 pub true_holds : (inputs : Given) (v : Verdict) → IsTrueOf inputs v → HoldsOfSolutions inputs v
 true_holds (puzzle_text puzzle) v h = tt
 true_holds (table_file table) v h = tt
-true_holds (log_claim Bound fold files) v h =
-    let bounded = proved_bounds fold h.1.board files.sets files.log files.tables h.0 h.1.found_for in
+true_holds (log_claim Bound files) v h =
+    let bounded = proved_bounds files.fold h.1.board files.sets files.log files.tables h.0 h.1.found_for in
     (h.0, record { board = h.1.board; spelt = h.1.spelt; bounded = bounded }, h.2)
-true_holds (log_claim Optimum fold files) v h = (h.0, record { solved = h.1.solved; least = proved_least fold files h.0 h.1 }, h.2)
+true_holds (log_claim Optimum files) v h = (h.0, record { solved = h.1.solved; least = proved_least files h.0 h.1 }, h.2)
 
 -- there is one result
 pub IsResult-one : (inputs : Given) → IsOne (IsResult inputs)
 IsResult-one (puzzle_text puzzle) = one_made (told_as Verdict.Solution fault_of_replay) (IsReplayResult-one puzzle)
 IsResult-one (table_file table) = one_made (told_as exact_verdict Fault.Table) (IsTableResult-one table)
-IsResult-one (log_claim Bound fold files) = one_made (told_as Verdict.Bound fault_of_bound) (IsBoundResult-one fold files)
-IsResult-one (log_claim Optimum fold files) = one_made (told_as Verdict.Optimal fault_of_optimum) (IsOptimumResult-one fold files)
+IsResult-one (log_claim Bound files) = one_made (told_as Verdict.Bound fault_of_bound) (IsBoundResult-one files)
+IsResult-one (log_claim Optimum files) = one_made (told_as Verdict.Optimal fault_of_optimum) (IsOptimumResult-one files)
 
 -- inputs, which are bytes, have a result
 pub result_some : (inputs : Given) → ((i : ℕ) → slice_index (bytes_of inputs) i < 256) → (answer : Result Verdict Fault) × IsResult inputs answer
 result_some (puzzle_text puzzle) small = some_made (told_as Verdict.Solution fault_of_replay) (replay_some puzzle)
 result_some (table_file file) small = some_made (told_as exact_verdict Fault.Table) (table_some file (rw append-nil at small))
-result_some (log_claim Bound fold files) small = some_made (told_as Verdict.Bound fault_of_bound) (bound_some fold files)
-result_some (log_claim Optimum fold files) small = some_made (told_as Verdict.Optimal fault_of_optimum) (optimum_some fold files)
+result_some (log_claim Bound files) small = some_made (told_as Verdict.Bound fault_of_bound) (bound_some files)
+result_some (log_claim Optimum files) small = some_made (told_as Verdict.Optimal fault_of_optimum) (optimum_some files)
 
 -- ---- answers
 

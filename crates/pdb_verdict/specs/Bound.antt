@@ -2,7 +2,7 @@
 use Rattle.std.specs.Prelude.{◌≡◌, ℕ, Bool, List, Result, Ok, Err}
 use Rattle.puz_board.specs.BoardTexts.{Spells, board_of_text}
 use Rattle.set_sum.specs.Bounds.{IsBounded}
-use Rattle.set_sum.specs.Bundles.{BundleView}
+use Rattle.set_sum.specs.Bundles.{ShownBundle}
 use Rattle.log_check.specs.GoodLogs.{IsGoodFile}
 use Rattle.log_check.specs.LogFaults.{IsLogRefusalOf}
 use Rattle.log_check.specs.declared.faults.LogRefusal.{LogRefusal}
@@ -19,13 +19,13 @@ use Rattle.pdb_verdict.specs.declared.refusals.ProofRefusal.TheVariants.{Bundle,
 -- the table files, folded or full, and the set text make a bundle, and over it the log file is that of a good log for the board
 -- and the bound
 pub record IsProvedBound (fold : Bool) (board : List ℕ) (sets log : Bytes) (tables : List Bytes) (bound : ℕ) : Type 0 where
-  pub bundle : BundleView
+  pub bundle : ShownBundle
   pub is_bundle : IsBundleOfFiles fold tables sets bundle
   pub good : IsGoodFile bundle board log bound
 
 -- they make a bundle, and over it the log file is refused for this
 pub record IsRefusedLog (fold : Bool) (board : List ℕ) (sets log : Bytes) (tables : List Bytes) (refused : LogRefusal) : Type 0 where
-  pub bundle : BundleView
+  pub bundle : ShownBundle
   pub is_bundle : IsBundleOfFiles fold tables sets bundle
   pub fault : IsLogRefusalOf refused bundle board log
 
@@ -38,16 +38,16 @@ IsBoundFor fold board sets log tables (Err (Log refused)) = IsRefusedLog fold bo
 -- ---- `bound`
 
 -- the text spells a board, for which this is found
-pub record IsFoundForText (fold : Bool) (files : LogFiles) (found : Result ℕ ProofRefusal) : Type 0 where
+pub record IsFoundForText (files : LogFiles) (found : Result ℕ ProofRefusal) : Type 0 where
   pub board : List ℕ
   pub spelt : Spells files.text board
-  pub found_for : IsBoundFor fold board files.sets files.log files.tables found
+  pub found_for : IsBoundFor files.fold board files.sets files.log files.tables found
 
 -- the result: the bound that is proved for the board of the text, or why none is; the board text comes before all else
-abbrev pub IsBoundResult : Bool → LogFiles → Result ℕ BoundRefusal → Type 0
-IsBoundResult fold files (Ok bound) = IsFoundForText fold files (Ok bound)
-IsBoundResult fold files (Err (Board refused)) = board_of_text files.text ≡ Err refused
-IsBoundResult fold files (Err (Proof refused)) = IsFoundForText fold files (Err refused)
+abbrev pub IsBoundResult : LogFiles → Result ℕ BoundRefusal → Type 0
+IsBoundResult files (Ok bound) = IsFoundForText files (Ok bound)
+IsBoundResult files (Err (Board refused)) = board_of_text files.text ≡ Err refused
+IsBoundResult files (Err (Proof refused)) = IsFoundForText files (Err refused)
 
 -- it takes memory to check the tables, once the text spells a board
 abbrev pub TakesMemoryForBound : Bytes → List Bytes → Type 0

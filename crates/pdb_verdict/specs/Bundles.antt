@@ -5,7 +5,7 @@ use Rattle.tab_file.specs.Tables.{Table}
 use Rattle.tab_rule.specs.ExactTables.{IsExactFile}
 use Rattle.tab_rule.specs.TableFaults as table_fault
 use Rattle.tab_rule.specs.declared.tables.TableRefusal.{TableRefusal}
-use Rattle.set_sum.specs.Bundles.{BundleView}
+use Rattle.set_sum.specs.Bundles.{ShownBundle}
 use Rattle.set_sum.specs.Reading as reading
 use Rattle.set_sum.specs.declared.faults.SetFault.{SetFault}
 use Rattle.set_sum.specs.declared.parts.Part.{Part}
@@ -35,7 +35,7 @@ abbrev pub parts_for : Bool → List Table → List Part
 parts_for fold tables = map (part_for fold) tables
 
 -- the files are those of exact tables, and these, folded or full, and the set text make this bundle
-pub record IsBundleOfFiles (fold : Bool) (files : List Bytes) (sets : Bytes) (bundle : BundleView) : Type 0 where
+pub record IsBundleOfFiles (fold : Bool) (files : List Bytes) (sets : Bytes) (bundle : ShownBundle) : Type 0 where
   pub tables : List Table
   pub exact : AreExactFiles tables files
   pub makes : reading.IsBundleOf (parts_for fold tables) sets bundle

@@ -8,16 +8,17 @@ use Rattle.pdb_verdict.specs.declared.inputs.Inputs.{Inputs}
 use Rattle.pdb_verdict.specs.declared.inputs.Inputs.TheVariants as inputs
 
 -- the files of a check of a log: a text, which is a board text for a bound and a puzzle text for an optimum, a set text, a log file
--- and table files
+-- and table files; and whether each table is folded once it is checked
 pub record LogFiles : Type 0 where
   pub text : Bytes
   pub sets : Bytes
   pub log : Bytes
   pub tables : List Bytes
+  pub fold : Bool
 
--- these four
-abbrev pub log_files : Bytes → Bytes → Bytes → List Bytes → LogFiles
-log_files text sets log tables = record { text = text; sets = sets; log = log; tables = tables }
+-- these four files, with the tables folded or not
+abbrev pub log_files : Bool → Bytes → Bytes → Bytes → List Bytes → LogFiles
+log_files fold text sets log tables = record { text = text; sets = sets; log = log; tables = tables; fold = fold }
 
 -- what a command is to check: the bytes of each of its inputs
 pub data Given : Type 0 where
@@ -25,21 +26,21 @@ pub data Given : Type 0 where
   puzzle_text : Bytes → Given
   -- of `table`: a table file
   table_file : Bytes → Given
-  -- of `bound` and `optimal`: what is claimed of a log, whether the tables are folded, and the files
-  log_claim : Claim → Bool → LogFiles → Given
+  -- of `bound` and `optimal`: what is claimed of a log, and the files
+  log_claim : Claim → LogFiles → Given
 
 -- inputs as the code has them
 abbrev pub given : Inputs → Given
 given (inputs.Replay puzzle) = puzzle_text puzzle.now
 given (inputs.Table table) = table_file table.now
-given (inputs.Bound board sets log tables fold) = log_claim Bound fold (log_files board.now sets.now log.now (all_bytes tables.now))
-given (inputs.Optimal puzzle sets log tables fold) = log_claim Optimum fold (log_files puzzle.now sets.now log.now (all_bytes tables.now))
+given (inputs.Bound board sets log tables fold) = log_claim Bound (log_files fold board.now sets.now log.now (all_bytes tables.now))
+given (inputs.Optimal puzzle sets log tables fold) = log_claim Optimum (log_files fold puzzle.now sets.now log.now (all_bytes tables.now))
 
 -- the files, in the order in which they are read
 abbrev pub files_in_order : Given → List Bytes
 files_in_order (puzzle_text puzzle) = puzzle ∷ []
 files_in_order (table_file table) = table ∷ []
-files_in_order (log_claim claim fold files) = files.text ∷ files.sets ∷ files.log ∷ files.tables
+files_in_order (log_claim claim files) = files.text ∷ files.sets ∷ files.log ∷ files.tables
 
 -- their bytes, one after the other
 abbrev pub bytes_of : Given → Bytes

@@ -1,5 +1,7 @@
 -- The most bytes of each kind of input.
-use Rattle.std.specs.Prelude.{ℕ, ◌^◌, Option, Some}
+use Rattle.std.specs.Prelude.{ℕ, Option, Some}
+use Rattle.tab_file.specs.TableFiles.{most_table_bytes}
+use Rattle.log_file.specs.LogFiles.{most_log_bytes}
 use Rattle.byte_io.specs.Shelf.{Bytes}
 use Rattle.pdb_run.specs.Commands.{Wanted}
 
@@ -7,22 +9,14 @@ use Rattle.pdb_run.specs.Commands.{Wanted}
 abbrev pub text_limit : ℕ
 text_limit = 65536
 
--- of a log file
-abbrev pub log_limit : ℕ
-log_limit = 2 ^ 30
-
--- of a table file
-abbrev pub table_limit : ℕ
-table_limit = 2 ^ 32
-
 -- a text under this name, or of the reader
 abbrev pub a_text : Option Bytes → Wanted
 a_text name = record { name = name; limit = text_limit }
 
 -- a log file under this name
 abbrev pub a_log : Bytes → Wanted
-a_log name = record { name = Some name; limit = log_limit }
+a_log name = record { name = Some name; limit = most_log_bytes }
 
 -- a table file under this name
 abbrev pub a_table : Bytes → Wanted
-a_table name = record { name = Some name; limit = table_limit }
+a_table name = record { name = Some name; limit = most_table_bytes }

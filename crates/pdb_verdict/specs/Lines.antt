@@ -6,7 +6,6 @@ use Rattle.puz_board.specs.declared.texts.BoardFault.{BoardFault}
 use Rattle.puz_board.specs.declared.texts.BoardFault.TheVariants.{B1, B2, B3, B4, B5}
 use Rattle.tab_file.specs.declared.headers.HeadFault.{HeadFault}
 use Rattle.tab_file.specs.declared.headers.HeadFault.TheVariants.{T1, T2, T3, T4, T5, T6}
-use Rattle.tab_rule.specs.declared.census.Census.{Census}
 use Rattle.tab_rule.specs.declared.tables.TableRefusal.{TableRefusal}
 use Rattle.tab_rule.specs.declared.tables.TableRefusal.TheVariants.{Head, T7}
 use Rattle.set_sum.specs.declared.faults.SetFault.{SetFault}
@@ -119,16 +118,17 @@ line_of_fault (fault.Make refused) = line_of_make_refusal refused
 line_of_fault fault.K4 = codes "refused K4\n"
 line_of_fault fault.Memory = memory_line
 
--- the side and the mask of a table's pattern, and its census
-abbrev pub exact_line : ℕ → ℕ → Census → Bytes
-exact_line side mask census =
-    codes "exact side " ++ decimal side ++ codes " mask " ++ decimal mask ++ codes " entries " ++ decimal census.entries
-    ++ codes " unreachable " ++ decimal census.unreachable ++ codes " deepest " ++ decimal census.deepest ++ codes "\n"
+-- the line `exact`: the side and the mask of a table's pattern, how many entries it has, how many of them say that no walk leads
+-- home, and the greatest count
+abbrev pub exact_line : (side mask entries unreachable deepest : ℕ) → Bytes
+exact_line side mask entries unreachable deepest =
+    codes "exact side " ++ decimal side ++ codes " mask " ++ decimal mask ++ codes " entries " ++ decimal entries
+    ++ codes " unreachable " ++ decimal unreachable ++ codes " deepest " ++ decimal deepest ++ codes "\n"
 
 -- of a yes
 abbrev pub line_of_verdict : Verdict → Bytes
 line_of_verdict (verdict.Solution n) = counted (codes "solution ") n
-line_of_verdict (verdict.Exact side mask census) = exact_line side mask census
+line_of_verdict (verdict.Exact side mask census) = exact_line side mask census.entries census.unreachable census.deepest
 line_of_verdict (verdict.Bound n) = counted (codes "bound ") n
 line_of_verdict (verdict.Optimal n) = counted (codes "optimal ") n
 
@@ -143,7 +143,7 @@ line_of (Err refused) = line_of_fault refused
 abbrev pub digested_of : Given → List Bytes
 digested_of (puzzle_text puzzle) = []
 digested_of (table_file table) = table ∷ []
-digested_of (log_claim claim fold files) = files.tables ++ files.log ∷ []
+digested_of (log_claim claim files) = files.tables ++ files.log ∷ []
 
 -- an answer on inputs, as a run tells it; no file is made
 abbrev pub reply_to : Given → Result Verdict Fault → Reply

@@ -1,5 +1,5 @@
 -- `optimal PUZZLE SETS LOG TABLES..`: whether the moves of a puzzle text solve its board, and a log proves that none are fewer.
-use Rattle.std.specs.Prelude.{◌≡◌, ◌≢◌, ℕ, Bool, List, Result, Ok, Err, length}
+use Rattle.std.specs.Prelude.{◌≡◌, ◌≢◌, ℕ, List, Result, Ok, Err, length}
 use Rattle.puz_board.specs.Paths.{IsSolution}
 use Rattle.set_sum.specs.Bounds.{IsBounded}
 use Rattle.byte_io.specs.Shelf.{Bytes}
@@ -12,17 +12,17 @@ use Rattle.pdb_verdict.specs.declared.refusals.OptimumRefusal.TheVariants.{O1, P
 use Rattle.pdb_verdict.specs.declared.refusals.ProofRefusal.{ProofRefusal}
 
 -- the moves of the puzzle text are n and solve its board, for which this is found
-pub record IsFoundForPuzzle (fold : Bool) (files : LogFiles) (n : ℕ) (found : Result ℕ ProofRefusal) : Type 0 where
+pub record IsFoundForPuzzle (files : LogFiles) (n : ℕ) (found : Result ℕ ProofRefusal) : Type 0 where
   pub solved : IsSolvedPuzzle files.text n
-  pub found_for : IsBoundFor fold solved.board files.sets files.log files.tables found
+  pub found_for : IsBoundFor files.fold solved.board files.sets files.log files.tables found
 
 -- the result: the number of the moves where it is the bound that is proved for the board, or why not; the puzzle text comes
 -- before all else, and last that the bound is another number
-abbrev pub IsOptimumResult : Bool → LogFiles → Result ℕ OptimumRefusal → Type 0
-IsOptimumResult fold files (Ok n) = IsFoundForPuzzle fold files n (Ok n)
-IsOptimumResult fold files (Err (Replay refused)) = IsReplayResult files.text (Err refused)
-IsOptimumResult fold files (Err (Proof refused)) = (n : ℕ) × IsFoundForPuzzle fold files n (Err refused)
-IsOptimumResult fold files (Err (O1 n bound)) = IsFoundForPuzzle fold files n (Ok bound) × (n ≢ bound)
+abbrev pub IsOptimumResult : LogFiles → Result ℕ OptimumRefusal → Type 0
+IsOptimumResult files (Ok n) = IsFoundForPuzzle files n (Ok n)
+IsOptimumResult files (Err (Replay refused)) = IsReplayResult files.text (Err refused)
+IsOptimumResult files (Err (Proof refused)) = (n : ℕ) × IsFoundForPuzzle files n (Err refused)
+IsOptimumResult files (Err (O1 n bound)) = IsFoundForPuzzle files n (Ok bound) × (n ≢ bound)
 
 -- it takes memory to check the tables, once the moves solve the board
 abbrev pub TakesMemoryForOptimum : Bytes → List Bytes → Type 0

@@ -1,11 +1,10 @@
 -- The plans of the commands that check: the inputs of each, in order, and that the result on them is told.
-use Rattle.std.specs.Prelude.{◌≡◌, Bool, List, [], ◌∷◌, Option, Some, map}
+use Rattle.std.specs.Prelude.{◌≡◌, List, [], ◌∷◌, Some, map}
 use Rattle.byte_io.specs.Shelf.{Bytes}
-use Rattle.pdb_request.specs.Asked.{file_names}
+use Rattle.pdb_request.specs.Asked.{LogArguments, ReplayArguments, TableArguments}
 use Rattle.pdb_request.specs.declared.requests.Claim.{Claim}
-use Rattle.pdb_request.specs.declared.requests.LogCheck.{LogCheck}
 use Rattle.pdb_run.specs.Commands.{Plan, Reply, Wanted, plan}
-use Rattle.pdb_verdict.specs.Inputs.{Given, files_in_order, log_claim, puzzle_text, table_file}
+use Rattle.pdb_verdict.specs.Inputs.{Given, LogFiles, files_in_order, log_claim, puzzle_text, table_file}
 use Rattle.pdb_verdict.specs.Limits.{a_log, a_table, a_text}
 use Rattle.pdb_verdict.specs.Verdicts.{TakesMemory, TellsResult}
 
@@ -22,23 +21,37 @@ module _ {A : Type 0} where
   abbrev pub check_plan : List Wanted → (A → Given) → Plan
   check_plan inputs given_of = plan inputs (IsCheckReply given_of) (CheckTakesMemory given_of)
 
+-- ---- `replay`
+
 -- one text, of the file or of the reader
-abbrev pub replay_plan : Option Bytes → Plan
-replay_plan puzzle = check_plan (a_text puzzle ∷ []) puzzle_text
+abbrev pub replay_inputs : ReplayArguments → List Wanted
+replay_inputs arguments = a_text arguments.puzzle ∷ []
+
+-- it is checked as a puzzle text
+abbrev pub replay_plan : ReplayArguments → Plan
+replay_plan arguments = check_plan (replay_inputs arguments) puzzle_text
+
+-- ---- `table`
 
 -- one table file
-abbrev pub table_plan : Bytes → Plan
-table_plan file = check_plan (a_table file ∷ []) table_file
+abbrev pub table_inputs : TableArguments → List Wanted
+table_inputs arguments = a_table arguments.file ∷ []
+
+-- it is checked as a table file
+abbrev pub table_plan : TableArguments → Plan
+table_plan arguments = check_plan (table_inputs arguments) table_file
+
+-- ---- `bound` and `optimal`, by what is claimed
 
 -- the text, the set text, the log file and the table files, in this order
-abbrev pub log_check_inputs : Bytes → Bytes → Bytes → List Bytes → List Wanted
-log_check_inputs text sets log tables = a_text (Some text) ∷ a_text (Some sets) ∷ a_log log ∷ map a_table tables
+abbrev pub log_check_inputs : LogArguments → List Wanted
+log_check_inputs arguments =
+    a_text (Some arguments.text) ∷ a_text (Some arguments.sets) ∷ a_log arguments.log ∷ map a_table arguments.tables
 
--- of what is claimed, and whether the tables are folded
-abbrev pub log_check_plan : Claim → Bool → Bytes → Bytes → Bytes → List Bytes → Plan
-log_check_plan claim fold text sets log tables = check_plan (log_check_inputs text sets log tables) (log_claim claim fold)
+-- what is claimed of the files that were read, with the tables folded or not
+abbrev pub log_given : Claim → LogArguments → LogFiles → Given
+log_given claim arguments files = log_claim claim (record files { fold = arguments.fold })
 
--- the same of a check as the code has it
-abbrev pub plan_of_check : LogCheck → Plan
-plan_of_check check =
-    log_check_plan check.claim check.fold check.text.now check.sets.now check.log.now (file_names check.tables.items)
+-- they are checked for what is claimed
+abbrev pub log_check_plan : Claim → LogArguments → Plan
+log_check_plan claim arguments = check_plan (log_check_inputs arguments) (log_given claim arguments)

@@ -1,8 +1,8 @@
 -- `replay [FILE]`: whether the moves of a puzzle text solve its board.
-use Rattle.std.specs.Prelude.{◌≡◌, ℕ, List, Option, Some, None, Result, Ok, Err, MatchResult}
+use Rattle.std.specs.Prelude.{◌≡◌, ℕ, List, ◌++◌, Option, Some, None, Result, Ok, Err, MatchResult, codes}
 use Rattle.puz_board.specs.BoardTexts.{Spells, board_of_text}
 use Rattle.puz_board.specs.MovesTexts.{Solves, replay_of}
-use Rattle.puz_board.specs.PuzzleTexts.{IsPuzzle, puzzle_parts}
+use Rattle.puz_board.specs.PuzzleTexts.{puzzle_parts}
 use Rattle.puz_board.specs.declared.replays.MoveFault.{MoveFault}
 use Rattle.puz_board.specs.declared.texts.BoardFault.{BoardFault}
 use Rattle.byte_io.specs.Shelf.{Bytes}
@@ -15,12 +15,12 @@ use Rattle.pdb_verdict.specs.declared.verdicts.Verdict.TheVariants as verdict
 
 -- ---- what a yes means
 
--- a board text before the first `;`, and behind it a text of n moves that solve the board
+-- a board text, a `;`, and a text of n moves that solve the board
 pub record IsSolvedPuzzle (puzzle : Bytes) (n : ℕ) : Type 0 where
   pub board : List ℕ
   pub board_text : Bytes
   pub moves_text : Bytes
-  pub parts : IsPuzzle puzzle board_text moves_text
+  pub whole : puzzle ≡ board_text ++ (codes ";" ++ moves_text)
   pub spelt : Spells board_text board
   pub solved : Solves board moves_text n
 

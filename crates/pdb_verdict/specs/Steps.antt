@@ -8,7 +8,7 @@ use Rattle.tab_rule.specs.ExactTables.{IsExactFile}
 use Rattle.tab_rule.specs.TableFaults.{IsTableFaultOf}
 use Rattle.tab_rule.specs.declared.tables.TableFault.{TableFault}
 use Rattle.tab_rule.specs.declared.tables.TableFault.TheVariants as table_fault
-use Rattle.set_sum.specs.Bundles.{BundleView}
+use Rattle.set_sum.specs.Bundles.{ShownBundle}
 use Rattle.set_sum.specs.declared.parts.Part.{Part}
 use Rattle.log_check.specs.GoodLogs.{IsGoodFile}
 use Rattle.log_check.specs.LogFaults.{IsCauseOfLogFault}
@@ -82,17 +82,17 @@ IsCauseForTables files cause = IsCauseBy (λ (refused : FileRefusal). IsFirstRef
 -- ---- files
 
 -- the files that were read for a check of a log
-abbrev pub files_read : LogInputs → LogFiles
-files_read files = log_files files.text.items files.sets.items files.log.items (all_bytes files.tables.items)
+abbrev pub files_read : Bool → LogInputs → LogFiles
+files_read fold files = log_files fold files.text.items files.sets.items files.log.items (all_bytes files.tables.items)
 
 -- those that a log is checked with, and a text
 abbrev pub files_with : Bytes → Evidence → LogFiles
-files_with text evidence = log_files text evidence.sets.now evidence.log.now (all_bytes evidence.tables.files.now)
+files_with text evidence = log_files evidence.tables.fold text evidence.sets.now evidence.log.now (all_bytes evidence.tables.files.now)
 
 -- ---- bounds
 
 -- the bound for a board over a bundle, or why there is none, or want of memory
-abbrev pub IsFoundOver : BundleView → List ℕ → Bytes → Result ℕ LogFault → Type 0
+abbrev pub IsFoundOver : ShownBundle → List ℕ → Bytes → Result ℕ LogFault → Type 0
 IsFoundOver bundle board log found = MatchResult found (IsGoodFile bundle board log) (λ cause. IsCauseOfLogFault cause bundle board log)
 
 -- what is found of a log over a bundle, as what is found for the files

@@ -20,23 +20,23 @@ use Rattle.pdb_verdict.specs.declared.verdicts.Verdict.TheVariants as verdict
 abbrev pub IsTrueOf : Given → Verdict → Type 0
 IsTrueOf (puzzle_text puzzle) said = (n : ℕ) × IsSolvedPuzzle puzzle n × (said ≡ verdict.Solution n)
 IsTrueOf (table_file table) said = (exact : ℕ × ℕ × Census) × IsExactFor table exact.0 exact.1 exact.2 × (said ≡ exact_verdict exact)
-IsTrueOf (log_claim Bound fold files) said = (n : ℕ) × IsFoundForText fold files (Ok n) × (said ≡ verdict.Bound n)
-IsTrueOf (log_claim Optimum fold files) said = (n : ℕ) × IsFoundForPuzzle fold files n (Ok n) × (said ≡ verdict.Optimal n)
+IsTrueOf (log_claim Bound files) said = (n : ℕ) × IsFoundForText files (Ok n) × (said ≡ verdict.Bound n)
+IsTrueOf (log_claim Optimum files) said = (n : ℕ) × IsFoundForPuzzle files n (Ok n) × (said ≡ verdict.Optimal n)
 
 -- what a verdict on a log says of the solutions of the board: that none has fewer moves than a bound, and that an optimum is their
 -- least number of moves
 abbrev pub HoldsOfSolutions : Given → Verdict → Type 0
 HoldsOfSolutions (puzzle_text puzzle) said = ⊤
 HoldsOfSolutions (table_file table) said = ⊤
-HoldsOfSolutions (log_claim Bound fold files) said = (n : ℕ) × IsBoundedText files.text n × (said ≡ verdict.Bound n)
-HoldsOfSolutions (log_claim Optimum fold files) said = (n : ℕ) × IsOptimum files.text n × (said ≡ verdict.Optimal n)
+HoldsOfSolutions (log_claim Bound files) said = (n : ℕ) × IsBoundedText files.text n × (said ≡ verdict.Bound n)
+HoldsOfSolutions (log_claim Optimum files) said = (n : ℕ) × IsOptimum files.text n × (said ≡ verdict.Optimal n)
 
 -- the answer is the result on the inputs
 abbrev pub IsResult : Given → Result Verdict Fault → Type 0
 IsResult (puzzle_text puzzle) answer = IsReplayTold puzzle answer
 IsResult (table_file table) answer = IsTableTold table answer
-IsResult (log_claim Bound fold files) answer = IsTold verdict.Bound fault_of_bound (IsBoundResult fold files) answer
-IsResult (log_claim Optimum fold files) answer = IsTold verdict.Optimal fault_of_optimum (IsOptimumResult fold files) answer
+IsResult (log_claim Bound files) answer = IsTold verdict.Bound fault_of_bound (IsBoundResult files) answer
+IsResult (log_claim Optimum files) answer = IsTold verdict.Optimal fault_of_optimum (IsOptimumResult files) answer
 
 -- the reply tells it
 pub record TellsResult (inputs : Given) (reply : Reply) : Type 0 where
@@ -51,8 +51,8 @@ pub record TellsResult (inputs : Given) (reply : Reply) : Type 0 where
 abbrev pub TakesMemory : Given → Type 0
 TakesMemory (puzzle_text puzzle) = ⊥
 TakesMemory (table_file table) = TakesMemoryForTable table
-TakesMemory (log_claim Bound fold files) = TakesMemoryForBound files.text files.tables
-TakesMemory (log_claim Optimum fold files) = TakesMemoryForOptimum files.text files.tables
+TakesMemory (log_claim Bound files) = TakesMemoryForBound files.text files.tables
+TakesMemory (log_claim Optimum files) = TakesMemoryForOptimum files.text files.tables
 
 -- the answer is want of memory, where that is taken
 abbrev pub LacksMemory : Given → Result Verdict Fault → Type 0

@@ -31,8 +31,8 @@ pub(crate) fn bound_of_text<H: Threads + Wait, G: Gate + Sync>(
     workers: &Workers<'_, H, G>,
 ) -> Result<u8, Failure<BoundRefusal>>
     ensures { let files = files_with text.now evidence.now in
-        let IsFound = IsBoundResult evidence.now.tables.fold files in
-        IsFoundBy IsFound (TakesMemoryForBound files.text files.tables) result }
+        let takes = TakesMemoryForBound files.text files.tables in
+        IsFoundBy (IsBoundResult files) takes result }
 {
     match Board::read(text) {
         Ok(board) => bound_of(bound_for(&board, evidence, workers)),
@@ -48,8 +48,8 @@ pub(crate) fn optimum_of_puzzle<H: Threads + Wait, G: Gate + Sync>(
     workers: &Workers<'_, H, G>,
 ) -> Result<u8, Failure<OptimumRefusal>>
     ensures { let files = files_with puzzle.now evidence.now in
-        let IsFound = IsOptimumResult evidence.now.tables.fold files in
-        IsFoundBy IsFound (TakesMemoryForOptimum files.text files.tables) result }
+        let takes = TakesMemoryForOptimum files.text files.tables in
+        IsFoundBy (IsOptimumResult files) takes result }
 {
     let (board, moves) = solved_board(puzzle)?;
     optimum_of(moves, bound_for(&board, evidence, workers))
@@ -64,7 +64,7 @@ pub fn optimum_over<H: Threads + Wait, G: Gate + Sync>(
 ) -> Result<u8, Failure<OptimumRefusal>>
     ensures { (fold : Bool) (sets : List ℕ) (tables : List (List ℕ))
         → IsBundleOfFiles fold tables sets bundle.now
-        → IsFoundBy (IsOptimumResult fold (log_files puzzle.now sets log.now tables))
+        → IsFoundBy (IsOptimumResult (log_files fold puzzle.now sets log.now tables))
         (TakesMemoryForOptimum puzzle.now tables) result }
 {
     let (board, moves) = solved_board(puzzle)?;

@@ -9,9 +9,6 @@ use pdb_run::Input;
 /// The most bytes of a board text, a puzzle text or a set text.
 const TEXT_LIMIT: u64 = 65_536;
 
-/// The most bytes of a table file.
-const TABLE_LIMIT: u64 = 1 << 32;
-
 /// A text under this name, or of the reader.
 pub fn a_text<'a>(name: Option<&'a str>) -> Input<'a>
     ensures { wanted_of result ≡ a_text (option_map (λ s. s.now) name.entry) }
@@ -38,6 +35,6 @@ pub(crate) fn a_table<'a>(name: &'a str) -> Input<'a>
 {
     Input {
         name: Some(name),
-        limit: TABLE_LIMIT,
+        limit: tab_file::MOST_BYTES,
     }
 }

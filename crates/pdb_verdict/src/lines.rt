@@ -31,7 +31,8 @@ pub fn line_of(answer: &Result<Verdict, Fault>) -> Lines
 
 /// The line of an exact table.
 fn exact_line(side: Side, mask: u32, census: Census) -> Lines
-    ensures { result.bytes ≡ exact_line side mask census }
+    ensures { result.bytes
+        ≡ exact_line side mask census.entries census.unreachable census.deepest }
 {
     lines(&[
         "exact side ",

@@ -1,10 +1,11 @@
 //! The commands `bound` and `optimal`: checks of a log.
 
 ghost use Rattle.std.specs.Prelude.{◌≡◌, ◌≤◌, Some, true, length, IfSome};
+ghost use Rattle.pdb_request.specs.Asked.{log_check_shown};
 ghost use Rattle.pdb_run.specs.Answers.{IsAnswerBy};
 ghost use Rattle.pdb_run.specs.Runs.{Ends};
 ghost use Rattle.pdb_verdict.specs.Inputs.{log_claim};
-ghost use Rattle.pdb_verdict.specs.Plans.{plan_of_check};
+ghost use Rattle.pdb_verdict.specs.Plans.{log_check_plan};
 ghost use Rattle.pdb_verdict.specs.Steps.{Begins, claim_with, files_read};
 ghost use Rattle.pdb_verdict.specs.Verdicts.{TakesMemory, TellsResult};
 
@@ -29,7 +30,8 @@ pub fn run_log_check<H: Threads + Wait + Sync, G: Gate + Sync, I: Io>(
     io: &mut I,
 ) -> Status
     ensures same_streams { I.streams io.new ≡ I.streams io.old }
-    ensures ends { Ends (plan_of_check check.now) (I.world io.old) (I.world io.new) result }
+    ensures ends { let plan = log_check_plan check.now.claim (log_check_shown check.now) in
+        Ends plan (I.world io.old) (I.world io.new) result }
 {
     let command = CheckingLog(check);
     let files = match read_inputs(workers.alloc, &command, io) {
@@ -83,7 +85,7 @@ fn answer_folded<'i, H: Threads + Wait + Sync, G: Gate + Sync>(
 ) -> Result<Answer<'i>, AllocError>
     requires few { length files.tables.items ≤ FILES_BESIDE }
     requires begins { Begins files.text.items board.now moves }
-    ensures { let claimed = log_claim (claim_with moves) true (files_read files) in
+    ensures { let claimed = log_claim (claim_with moves) (files_read true files) in
         IsAnswerBy (TellsResult claimed) (TakesMemory claimed) result }
 {
     let LogInputs {

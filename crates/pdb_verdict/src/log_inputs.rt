@@ -1,11 +1,12 @@
 //! The inputs of a check of a log: what is wanted, in order, and what was read, in the same order.
 
 ghost use Rattle.std.specs.Prelude.{◌≡◌, ◌≤◌, ◌<◌, ◌+◌, ◌∷◌, ◌++◌, Bool, length, map, OnOk};
+ghost use Rattle.pdb_request.specs.Asked.{log_check_shown};
 ghost use Rattle.pdb_run.specs.Answers.{all_bytes};
 ghost use Rattle.pdb_run.specs.Inputs.{wanted_of};
 ghost use Rattle.pdb_verdict.specs.Inputs.{files_in_order, given, log_claim};
 ghost use Rattle.pdb_verdict.specs.Limits.{a_table};
-ghost use Rattle.pdb_verdict.specs.Plans.{plan_of_check};
+ghost use Rattle.pdb_verdict.specs.Plans.{log_check_plan};
 ghost use Rattle.pdb_verdict.specs.Steps.{files_read};
 
 use crate::inputs::Inputs;
@@ -19,7 +20,8 @@ use std::alloc::{AllocError, Global};
 pub(crate) struct CheckingLog<'c, 'n>(pub(crate) &'c LogCheck<'n>);
 
 impl Command for CheckingLog<'_, '_> {
-    ghost plan = { λ command. plan_of_check command.0.now };
+    ghost plan = { λ command. log_check_plan command.0.now.claim
+        (log_check_shown command.0.now) };
 
     fn inputs(&self, alloc: Global) -> Result<Vec<Input<'_>>, AllocError> {
         let check = self.0;
@@ -66,7 +68,7 @@ impl LogInputs {
     pub(crate) fn of(inputs: Vec<Vec<u8>>) -> LogInputs
         requires { 3 ≤ length inputs.items }
         ensures { (claim : Claim) (fold : Bool) →
-            all_bytes inputs.items ≡ files_in_order (log_claim claim fold (files_read result)) }
+            all_bytes inputs.items ≡ files_in_order (log_claim claim (files_read fold result)) }
     {
         let mut tables = inputs;
         let text = take_first(&mut tables);
@@ -82,7 +84,7 @@ impl LogInputs {
 
     /// What is to be checked.
     pub(crate) fn inputs(&self, claim: Claim, fold: bool) -> Inputs<'_>
-        ensures { given result ≡ log_claim claim fold (files_read self.now) }
+        ensures { given result ≡ log_claim claim (files_read fold self.now) }
     {
         let (text, sets) = (self.text.as_slice(), self.sets.as_slice());
         let (log, tables) = (self.log.as_slice(), self.tables.as_slice());

@@ -1,6 +1,7 @@
 //! The command `replay`.
 
-ghost use Rattle.std.specs.Prelude.{◌≡◌, length, option_map};
+ghost use Rattle.std.specs.Prelude.{◌≡◌, length};
+ghost use Rattle.pdb_request.specs.Asked.{replay_shown};
 ghost use Rattle.pdb_run.specs.Answers.{SaysRight, all_bytes};
 ghost use Rattle.pdb_run.specs.Runs.{Ends};
 ghost use Rattle.pdb_verdict.specs.Inputs.{puzzle_text};
@@ -19,7 +20,7 @@ use std::alloc::{AllocError, Global};
 struct Replaying<'a>(Replay<'a>);
 
 impl Command for Replaying<'_> {
-    ghost plan = { λ command. replay_plan (option_map (λ s. s.now) command.0.puzzle) };
+    ghost plan = { λ command. replay_plan (replay_shown command.0) };
 
     fn inputs(&self, alloc: Global) -> Result<Vec<Input<'_>>, AllocError> {
         let mut inputs = Vec::new(alloc);
@@ -32,7 +33,7 @@ impl Command for Replaying<'_> {
 #[inline(never)] // so that the stack has the values of one command alone
 pub fn run_replay<I: Io>(alloc: Global, asked: Replay<'_>, io: &mut I) -> Status
     ensures same_streams { I.streams io.new ≡ I.streams io.old }
-    ensures ends { let plan = replay_plan (option_map (λ s. s.now) asked.entry.puzzle) in
+    ensures ends { let plan = replay_plan (replay_shown asked.entry) in
         Ends plan (I.world io.old) (I.world io.new) result }
 {
     let command = Replaying(asked);

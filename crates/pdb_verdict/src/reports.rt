@@ -132,7 +132,7 @@ fn checked_files<'i>(inputs: &Inputs<'i>) -> (&'i [Vec<u8>], Option<&'i [u8]>)
         ≡ digested_of (given inputs.now) }
 {
     match *inputs {
-        Inputs::Replay { puzzle: _ } => (&[], None),
+        Inputs::Replay { .. } => (&[], None),
         Inputs::Table { table } => (&[], Some(table)),
         Inputs::Bound { log, tables, .. } | Inputs::Optimal { log, tables, .. } => {
             (tables, Some(log))

@@ -1,6 +1,7 @@
 //! The command `table`.
 
 ghost use Rattle.std.specs.Prelude.{◌≡◌, length};
+ghost use Rattle.pdb_request.specs.Asked.{table_check_shown};
 ghost use Rattle.pdb_run.specs.Answers.{IsAnswerBy, all_bytes};
 ghost use Rattle.pdb_run.specs.Runs.{Ends};
 ghost use Rattle.pdb_verdict.specs.Inputs.{table_file};
@@ -21,7 +22,7 @@ use work_run::{Gate, Workers};
 struct CheckingTable<'a>(TableCheck<'a>);
 
 impl Command for CheckingTable<'_> {
-    ghost plan = { λ command. table_plan command.0.file.now };
+    ghost plan = { λ command. table_plan (table_check_shown command.0) };
 
     fn inputs(&self, alloc: Global) -> Result<Vec<Input<'_>>, AllocError> {
         let mut inputs = Vec::new(alloc);
@@ -38,7 +39,7 @@ pub fn run_table<H: Threads + Wait + Sync, G: Gate + Sync, I: Io>(
     io: &mut I,
 ) -> Status
     ensures same_streams { I.streams io.new ≡ I.streams io.old }
-    ensures ends { let plan = table_plan check.now.file.now in
+    ensures ends { let plan = table_plan (table_check_shown check.now) in
         Ends plan (I.world io.old) (I.world io.new) result }
 {
     let command = CheckingTable(*check);

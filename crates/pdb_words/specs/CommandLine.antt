@@ -5,11 +5,11 @@ use Rattle.clap.specs.Walk.{Row, Text}
 use Rattle.clap.specs.Simple.{App, new_app, on_top, subcommand_of, with_subcommand}
 use Rattle.clap.specs.Faults.{fault_of}
 use Rattle.clap.specs.Kinds.{Kinds}
-use Rattle.pdb_request.specs.Asked.{Asked, replay}
+use Rattle.pdb_request.specs.Asked.{Asked}
 use Rattle.pdb_request.specs.declared.requests.Claim.TheVariants.{Bound, Optimum}
 use Rattle.pdb_words.specs.LogChecks.{check_command, check_in}
 use Rattle.pdb_words.specs.MakeTable.{make_table_command, make_table_in}
-use Rattle.pdb_words.specs.Replay.{replay_command, replay_in}
+use Rattle.pdb_words.specs.Replay.{replay_command, replay_in, replay_input}
 use Rattle.pdb_words.specs.Solve.{solve_command, solve_in}
 use Rattle.pdb_words.specs.Table.{table_command, table_in}
 
@@ -36,11 +36,11 @@ asked_by name rows = if bytes_eq name (codes "replay") then replay_in rows
     else if bytes_eq name (codes "optimal") then check_in Optimum rows
     else if bytes_eq name (codes "make-table") then make_table_in rows
     else if bytes_eq name (codes "solve") then solve_in rows
-    else replay None
+    else replay_input
 
 -- without a command it is `replay` on standard input
 abbrev pub asked_in : Option (Text × List Row) → Asked
-asked_in None = replay None
+asked_in None = replay_input
 asked_in (Some found) = asked_by found.0 found.1
 
 -- what words that parse ask for

@@ -2,7 +2,7 @@
 use Rattle.std.specs.Prelude.{List, codes}
 use Rattle.clap.specs.Walk.{Row, Text}
 use Rattle.clap.specs.Simple.{App, new_app, with_rule}
-use Rattle.pdb_request.specs.Asked.{Asked, log_check}
+use Rattle.pdb_request.specs.Asked.{Asked, claimed}
 use Rattle.pdb_request.specs.declared.requests.Claim.{Claim}
 use Rattle.pdb_request.specs.declared.requests.Claim.TheVariants.{Bound, Optimum}
 use Rattle.pdb_words.specs.Files.{file_in, needed_file, tables_in, with_log}
@@ -26,5 +26,11 @@ check_command claim =
 
 -- what the values found of it ask for
 abbrev pub check_in : Claim → List Row → Asked
-check_in claim rows = log_check claim (file_in (text_id claim) rows) (file_in (codes "SETS") rows)
-    (file_in (codes "LOG") rows) (tables_in rows) (workers_in rows) (fold_in rows)
+check_in claim rows = claimed claim (record {
+  text = file_in (text_id claim) rows;
+  sets = file_in (codes "SETS") rows;
+  log = file_in (codes "LOG") rows;
+  tables = tables_in rows;
+  workers = workers_in rows;
+  fold = fold_in rows;
+})

@@ -39,4 +39,9 @@ mask_number_in rows = number_in 0 most_mask 0 (codes "MASK") rows
 
 -- what the values found of it ask for
 abbrev pub make_table_in : List Row → Asked
-make_table_in rows = make_table (side_number_in rows) (mask_number_in rows) (file_in (codes "OUT") rows) (workers_in rows)
+make_table_in rows = make_table (record {
+  side = side_number_in rows;
+  mask = mask_number_in rows;
+  out = file_in (codes "OUT") rows;
+  workers = workers_in rows;
+})

@@ -1,5 +1,5 @@
 -- The words of `replay [FILE]`.
-use Rattle.std.specs.Prelude.{List, codes}
+use Rattle.std.specs.Prelude.{List, None, codes}
 use Rattle.clap.specs.Walk.{Row, first_of}
 use Rattle.clap.specs.Simple.{App, new_app, new_rule, with_rule}
 use Rattle.pdb_request.specs.Asked.{Asked, replay}
@@ -10,4 +10,8 @@ replay_command = with_rule (new_app (codes "replay")) (new_rule (codes "FILE"))
 
 -- what the values found of it ask for
 abbrev pub replay_in : List Row → Asked
-replay_in rows = replay (first_of (codes "FILE") rows)
+replay_in rows = replay (record { puzzle = first_of (codes "FILE") rows })
+
+-- what no words ask for: `replay` on standard input
+abbrev pub replay_input : Asked
+replay_input = replay (record { puzzle = None })

@@ -14,5 +14,12 @@ solve_command = with_rule (with_log (with_rule (new_app (codes "solve")) (needed
 
 -- what the values found of it ask for
 abbrev pub solve_in : List Row → Asked
-solve_in rows = solve (file_in (codes "BOARD") rows) (file_in (codes "SETS") rows) (file_in (codes "OUT") rows) (tables_in rows)
-    (workers_in rows) (fold_in rows) (budget_in rows)
+solve_in rows = solve (record {
+  board = file_in (codes "BOARD") rows;
+  sets = file_in (codes "SETS") rows;
+  out = file_in (codes "OUT") rows;
+  tables = tables_in rows;
+  workers = workers_in rows;
+  fold = fold_in rows;
+  budget = budget_in rows;
+})

@@ -12,4 +12,4 @@ table_command = with_rule (with_rule (new_app (codes "table")) workers_flag) (ne
 
 -- what the values found of it ask for
 abbrev pub table_in : List Row → Asked
-table_in rows = table (file_in (codes "FILE") rows) (workers_in rows)
+table_in rows = table (record { file = file_in (codes "FILE") rows; workers = workers_in rows })

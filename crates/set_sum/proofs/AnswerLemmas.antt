@@ -3,7 +3,7 @@ use Rattle.std.proofs.Common.{◌≡◌, ◌≢◌, ℕ, zero, suc, ◌<◌, ◌
 use Rattle.std.proofs.lemmas.Bool.{cases_order}
 use Rattle.std.specs.Prelude.{Err, IfErr, IfOk, Ok, Result, slice_get}
 use Rattle.std.specs.List.{AllByRecursion}
-use Rattle.set_sum.specs.Bundles.{BundleView, most_sets}
+use Rattle.set_sum.specs.Bundles.{ShownBundle, most_sets}
 use Rattle.set_sum.specs.Parts.{part_pattern}
 use Rattle.set_sum.specs.Reading.{AreAlike, AreFew, AreNotFew, AreSets, IsBundleOf, IsSetFaultOf, IsFirstWith, NamesNoTable, NamesOverlap, NamesTwice, first_side}
 use Rattle.set_sum.specs.SetTexts.{AreLines}
@@ -105,7 +105,7 @@ module _ (tables : List Part) (text : List ℕ) where
   fault-once (S6 i) S5 one other = absurd (elim other [ inl none ↦ not_few one.0.count none | inr many ↦ few_lines one.1 many.1 one.2 many.2 many.3 ])
 
   -- a bundle, and then no fault
-  pub bundle-no_fault : (v : BundleView) (f : SetFault) → IsBundleOf tables text v → ¬ IsSetFaultOf f tables text
+  pub bundle-no_fault : (v : ShownBundle) (f : SetFault) → IsBundleOf tables text v → ¬ IsSetFaultOf f tables text
   bundle-no_fault v (S1 i) is fault = no_bad_line text v.sets i is.are_sets.lines fault.1
   bundle-no_fault v (S2 i) is fault = first-none No v.sets i (subst (λ ss. IsFirstWith No ss i) (sets-once fault.1 v.sets fault.2 is.are_sets) fault.3) is.there
   bundle-no_fault v (S3 i) is fault = first-none Two v.sets i (subst (λ ss. IsFirstWith Two ss i) (sets-once fault.1 v.sets fault.2 is.are_sets) fault.5) is.disjoint
@@ -115,7 +115,7 @@ module _ (tables : List Part) (text : List ℕ) where
 
   -- ---- one bundle
 
-  pub bundle-once : (v w : BundleView) → IsBundleOf tables text v → IsBundleOf tables text w → v ≡ w
+  pub bundle-once : (v w : ShownBundle) → IsBundleOf tables text v → IsBundleOf tables text w → v ≡ w
   bundle-once v w one other =
       let side : v.side ≡ w.side = one.side ∙ sym other.side in
       let shown : v.tables ≡ w.tables = one.shown ∙ sym other.shown in
@@ -124,10 +124,10 @@ module _ (tables : List Part) (text : List ℕ) where
 
   -- ---- an answer that is right is the answer
 
-  pub made : (r : Result BundleView SetFault) → IfOk r (λ w. IsBundleOf tables text w) → IfErr r (λ g. IsSetFaultOf g tables text) → (v : BundleView) → IsBundleOf tables text v → r ≡ Ok v
+  pub made : (r : Result ShownBundle SetFault) → IfOk r (λ w. IsBundleOf tables text w) → IfErr r (λ g. IsSetFaultOf g tables text) → (v : ShownBundle) → IsBundleOf tables text v → r ≡ Ok v
   made (Ok w) ok err v is = ap Ok (bundle-once w v ok is)
   made (Err g) ok err v is = absurd (bundle-no_fault v g is err)
 
-  pub refused : (r : Result BundleView SetFault) → IfOk r (λ w. IsBundleOf tables text w) → IfErr r (λ g. IsSetFaultOf g tables text) → (f : SetFault) → IsSetFaultOf f tables text → r ≡ Err f
+  pub refused : (r : Result ShownBundle SetFault) → IfOk r (λ w. IsBundleOf tables text w) → IfErr r (λ g. IsSetFaultOf g tables text) → (f : SetFault) → IsSetFaultOf f tables text → r ≡ Err f
   refused (Ok w) ok err f is = absurd (bundle-no_fault w f ok is)
   refused (Err g) ok err f is = ap Err (fault-once g f err is)

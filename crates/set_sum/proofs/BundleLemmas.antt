@@ -8,10 +8,10 @@ use Rattle.arrayvec.specs.ArrayVec.{ArrayVec}
 use Rattle.puz_board.specs.Boards.{IsBoardOf}
 use Rattle.pat_place.specs.Patterns.{IsPattern}
 use Rattle.tab_rule.specs.declared.tables.Count.{Count}
-use Rattle.set_sum.specs.Bundles.{BundleView, IsBundle, IsSetOf, TellsOfAll, most_tables}
+use Rattle.set_sum.specs.Bundles.{ShownBundle, IsBundle, IsSetOf, TellsOfAll, most_tables}
 use Rattle.set_sum.specs.Members.{board_for, patterns_of_set, table_of}
 use Rattle.set_sum.specs.ReadLines.{AreSetsOf}
-use Rattle.set_sum.specs.Parts.{IsExactPart, PartSays, PartView, no_part, part_pattern, part_shown, parts_shown}
+use Rattle.set_sum.specs.Parts.{IsExactPart, PartSays, ShownPart, no_part, part_pattern, part_shown, parts_shown}
 use Rattle.set_sum.specs.SetTexts.{IsLine}
 use Rattle.set_sum.specs.Reading.{AreAlike, IsBundleOf, NamesNoTable, NamesOverlap, first_side}
 use Rattle.set_sum.specs.StoredBundles.{AreAllOwners, AreAllTransposed, IsStoredBundle, bundle_shown, sets_stored}
@@ -33,13 +33,13 @@ module _ (v : Inside) (place : ℕ) (low : place < length (bundle_shown v).sets)
   stored_set = mapped_at (λ s. s.items) v.sets.items place set [] (subst (λ n. place < n) (length-map v.sets.items (λ s. s.items)) low) is
 
 -- the tables of a set's members are there
-pub set_there : (v : BundleView) → IsBundle v → (number : ℕ) → number < length v.sets → AllByRecursion (λ m. m.table < length v.tables) (get_or v.sets number [])
+pub set_there : (v : ShownBundle) → IsBundle v → (number : ℕ) → number < length v.sets → AllByRecursion (λ m. m.table < length v.tables) (get_or v.sets number [])
 set_there v is number low = all_at (AllByRecursion (λ m. m.table < length v.tables)) v.sets number [] low is.there
 
 -- ---- a bundle that is made
 
 -- the tiles that are shown are a pattern
-abbrev IsShownOf : ℕ → PartView → Type 0
+abbrev IsShownOf : ℕ → ShownPart → Type 0
 IsShownOf n part = IsOf n part.tiles
 
 all_patterns : (n : ℕ) (tables : List Part) → AllByRecursion (λ t. (part_pattern t).side ≡ n) tables → AllByRecursion (λ t. IsPattern (part_pattern t)) tables
@@ -49,7 +49,7 @@ all_patterns n (t ∷ tables) sides patterns =
     (subst (IsOf n) (shown_tiles t) (subst (λ m. IsOf m (part_pattern t).tiles) sides.0 patterns.0), all_patterns n tables sides.1 patterns.1)
 
 -- an exact table tells something of each board
-abbrev TellsAll : ℕ → PartView → Type 0
+abbrev TellsAll : ℕ → ShownPart → Type 0
 TellsAll n part = (b : List ℕ) → IsBoardOf n b → (count : Count) × PartSays part b count
 
 all_told : (n : ℕ) (tables : List Part) → AllByRecursion (λ t. (part_pattern t).side ≡ n) tables → AllByRecursion IsExactPart tables → AllByRecursion (TellsAll n) (parts_shown tables)
@@ -57,7 +57,7 @@ all_told n [] sides exact = tt
 all_told n (t ∷ tables) sides exact = (λ b board. part_told t exact.0 b (subst (λ m. IsBoardOf m b) (sym sides.0) board), all_told n tables sides.1 exact.1)
 
 -- what holds of each table holds of the members' tables
-all_members : (P : PartView → Type 0) (tables : List Part) (set : List Member) → AllByRecursion P (parts_shown tables) → AllByRecursion (λ m. m.table < length tables) set
+all_members : (P : ShownPart → Type 0) (tables : List Part) (set : List Member) → AllByRecursion P (parts_shown tables) → AllByRecursion (λ m. m.table < length tables) set
     → AllByRecursion (λ m. P (table_of (parts_shown tables) m)) set
 all_members P tables [] all there = tt
 all_members P tables (m ∷ set) all there =
@@ -88,7 +88,7 @@ none_missing tables (m ∷ set) none = elim (cases_lt m.table tables) [
 ]
 
 -- what exact tables and a text make is a bundle
-module _ (tables : List Part) (text : List ℕ) (v : BundleView) (exact : AllByRecursion IsExactPart tables) (is : IsBundleOf tables text v) where
+module _ (tables : List Part) (text : List ℕ) (v : ShownBundle) (exact : AllByRecursion IsExactPart tables) (is : IsBundleOf tables text v) where
   sides : AllByRecursion (λ t. (part_pattern t).side ≡ v.side) tables
   sides = all_weaker (λ t. (part_pattern t).side ≡ first_side tables) (λ t. (part_pattern t).side ≡ v.side) (λ t same. same ∙ sym is.side) tables is.alike.one_side
 
@@ -104,7 +104,7 @@ module _ (tables : List Part) (text : List ℕ) (v : BundleView) (exact : AllByR
   told : TellsOfAll v
   told number low b board =
       let set : List Member = get_or v.sets number [] in
-      let parts : List PartView = parts_shown tables in
+      let parts : List ShownPart = parts_shown tables in
       let set_is_there = all_at (AllByRecursion (λ m. m.table < length tables)) v.sets number [] low there in
       let each = all_members (TellsAll v.side) tables set (all_told v.side tables sides exact) set_is_there in
       let told = all_weaker (λ (m : Member). TellsAll v.side (table_of parts m)) (IsTold parts b) (λ m tells. tells (board_for m b) (board_for-good v.side m b board)) set each in

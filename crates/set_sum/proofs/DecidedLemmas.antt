@@ -6,9 +6,9 @@ use Rattle.std.proofs.lemmas.Bool.{cases_eq, cases_lt, eqb-true, eq-eqb}
 use Rattle.std.proofs.lemmas.List.{append-nil, append_cancel_left}
 use Rattle.std.proofs.lemmas.List.Folds.{Any-from_list_any, list_any-from_Any}
 use Rattle.puz_board.specs.Costs.{has}
-use Rattle.set_sum.specs.Bundles.{BundleView, most_sets, most_tables}
+use Rattle.set_sum.specs.Bundles.{ShownBundle, most_sets, most_tables}
 use Rattle.set_sum.specs.Members.{AreOnePattern, pattern_of, patterns_of_set}
-use Rattle.set_sum.specs.Parts.{PartView, part_pattern, parts_shown}
+use Rattle.set_sum.specs.Parts.{ShownPart, part_pattern, parts_shown}
 use Rattle.set_sum.specs.Reading.{AreAlike, AreFew, AreSets, IsBundleOf, IsSetFaultOf, IsFirstWith, NamesNoTable, NamesOverlap, NamesTwice, first_side}
 use Rattle.set_sum.specs.SetTexts.{AreLines, BeginsWithNoLine, IsFirstBadLine, IsLine, members_text, member_text, set_line, set_lines}
 use Rattle.set_sum.specs.Sums.{HaveTwo, Overlap}
@@ -273,7 +273,7 @@ list_decided (x ∷ xs) (y ∷ ys) = elim (cases_eq x y) [
   ]
 ]
 
-one_pattern_decided : (n : ℕ) (tables : List PartView) (m o : Member) → Decided (AreOnePattern n tables m o)
+one_pattern_decided : (n : ℕ) (tables : List ShownPart) (m o : Member) → Decided (AreOnePattern n tables m o)
 one_pattern_decided n tables m o = elim (list_decided (pattern_of n tables m) (pattern_of n tables o)) [
   | inr other ↦ inr (λ h. other h.same)
   | inl same ↦ elim (is_true_decided m.is_transposed) [
@@ -289,7 +289,7 @@ one_pattern_decided n tables m o = elim (list_decided (pattern_of n tables m) (p
 
 module _ (tables : List Part) (text : List ℕ) where
   abbrev Answer : Type 0
-  Answer = ((v : BundleView) × IsBundleOf tables text v) ⊎ ((f : SetFault) × IsSetFaultOf f tables text)
+  Answer = ((v : ShownBundle) × IsBundleOf tables text v) ⊎ ((f : SetFault) × IsSetFaultOf f tables text)
 
   sets_answer : AreAlike tables → (sets : List (List Member)) → AreSets text sets → Answer
   sets_answer alike sets are = elim (first_or_none (NamesNoTable tables) (any_decided (λ m. length tables ≤ m.table) within) sets) [

@@ -16,9 +16,9 @@ use Rattle.puz_board.proofs.CellLemmas.{step_of-inside}
 use Rattle.pat_place.specs.Patterns.{IsPattern}
 use Rattle.pat_place.proofs.MaskLemmas.{in_numbers_below}
 use Rattle.tab_rule.specs.Counts.{AreCellsOf}
-use Rattle.set_sum.specs.Bundles.{BundleView}
+use Rattle.set_sum.specs.Bundles.{ShownBundle}
 use Rattle.set_sum.specs.Members.{MemberSays}
-use Rattle.set_sum.specs.Parts.{PartView, no_part, part_pattern, part_shown}
+use Rattle.set_sum.specs.Parts.{ShownPart, no_part, part_pattern, part_shown}
 use Rattle.set_sum.specs.Owners.{AreOwners, IsOwner, has_tile}
 use Rattle.set_sum.specs.Known.{place_of, IsKnownOf, said_by}
 use Rattle.set_sum.specs.Noting.{IsJoined, IsNoted}
@@ -76,7 +76,7 @@ fresh_within all known owners a k o p set =
 
 -- ---- the members whose pattern has a tile
 
-module _ (tables : List PartView) (t : ℕ) (part : Part) (shown : part_shown part ≡ slice_index_or tables t no_part) where
+module _ (tables : List ShownPart) (t : ℕ) (part : Part) (shown : part_shown part ≡ slice_index_or tables t no_part) where
   shown_of : (slice_index_or tables t no_part).tiles ≡ (part_pattern part).tiles
   shown_of = ap (λ p. p.tiles) (sym shown) ∙ sym (shown_tiles part)
 
@@ -100,14 +100,14 @@ module _ (tables : List PartView) (t : ℕ) (part : Part) (shown : part_shown pa
     owner_at m e = subst (IsOwner n tables tile two) (λ i. record { table = sym e i; is_transposed = m.is_transposed }) (owner_here m.is_transposed)
 
 -- places that are added leave owners
-pub owner_kept : (n : ℕ) (tables : List PartView) (tile places more : ℕ) (m : Member) → ((x : ℕ) → bit_at places x ≡ 1 → bit_at more x ≡ 1)
+pub owner_kept : (n : ℕ) (tables : List ShownPart) (tile places more : ℕ) (m : Member) → ((x : ℕ) → bit_at places x ≡ 1 → bit_at more x ≡ 1)
     → IsOwner n tables tile places m → IsOwner n tables tile more m
 owner_kept n tables tile places more m kept owner = record { pattern = owner.pattern; owned = λ h. kept (place_of m) (owner.owned h) }
 
 -- ---- what is known
 
 -- one member more
-pub known_noted : (v : BundleView) (b : List ℕ) (known now : Known) (m : Member) (entry : ℕ) → IsKnownOf v b known → IsNoted (place_of m) entry known now
+pub known_noted : (v : ShownBundle) (b : List ℕ) (known now : Known) (m : Member) (entry : ℕ) → IsKnownOf v b known → IsNoted (place_of m) entry known now
     → MemberSays v.tables m b (said_by entry) → IsKnownOf v b now
 known_noted v b known now m entry is noted says = record {
   size = noted.size ∙ is.size;
@@ -121,7 +121,7 @@ known_noted v b known now m entry is noted says = record {
   ];
 }
 
-module _ (v : BundleView) (b : List ℕ) (good : IsBoardOf v.side b) (c : ℕ) (near : Adjacent v.side (blank b) c) (owners : ℕ) (own : AreOwners v.side v.tables (at b c) owners) (fits : owners < 2 ^ 32) where
+module _ (v : ShownBundle) (b : List ℕ) (good : IsBoardOf v.side b) (c : ℕ) (near : Adjacent v.side (blank b) c) (owners : ℕ) (own : AreOwners v.side v.tables (at b c) owners) (fits : owners < 2 ^ 32) where
   -- a member outside the owners' places has another pattern
   other_tile : (m : Member) → m.table < length v.tables → bit_at owners (place_of m) ≡ 0 → has_tile v.side v.tables m (at b c) ≡ false
   other_tile m there clear = elim (cases_Bool (has_tile v.side v.tables m (at b c))) [

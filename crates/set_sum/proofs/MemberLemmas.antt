@@ -12,16 +12,16 @@ use Rattle.pat_place.proofs.TransposedLemmas.{IsPattern-transposed}
 use Rattle.tab_rule.specs.declared.tables.Count.{Count}
 use Rattle.tab_rule.specs.declared.tables.Count.TheVariants.{Finite, Never}
 use Rattle.set_sum.specs.Members.{MemberSays, board_for, own_part, pattern_of, table_of, table_pattern}
-use Rattle.set_sum.specs.Parts.{PartSays, PartView}
+use Rattle.set_sum.specs.Parts.{PartSays, ShownPart}
 use Rattle.set_sum.specs.declared.members.Member.{Member}
 use Rattle.set_sum.proofs.HomeLemmas.{IsOf, solution_home}
 use Rattle.set_sum.proofs.ListLemmas.{all_weaker}
 use Rattle.set_sum.proofs.PartLemmas.{part_either, part_none, part_once, part_transposed, part_within}
 
-pub member_once : (tables : List PartView) (m : Member) (b : List ℕ) (d e : ℕ) → MemberSays tables m b (Finite d) → MemberSays tables m b (Finite e) → d ≡ e
+pub member_once : (tables : List ShownPart) (m : Member) (b : List ℕ) (d e : ℕ) → MemberSays tables m b (Finite d) → MemberSays tables m b (Finite e) → d ≡ e
 member_once tables m b d e one other = part_once (table_of tables m) (board_for m b) d e one other
 
-pub member_either : (tables : List PartView) (m : Member) (b : List ℕ) (d : ℕ) → MemberSays tables m b (Finite d) → ¬ MemberSays tables m b Never
+pub member_either : (tables : List ShownPart) (m : Member) (b : List ℕ) (d : ℕ) → MemberSays tables m b (Finite d) → ¬ MemberSays tables m b Never
 member_either tables m b d one never = part_either (table_of tables m) (board_for m b) d one never
 
 board_good : (n : ℕ) (is_transposed : Bool) (b : List ℕ) → IsBoardOf n b → IsBoardOf n (cond is_transposed (transposed b) b)
@@ -42,15 +42,15 @@ module _ (n : ℕ) (b : List ℕ) (good : IsBoardOf n b) where
   below : (tiles : List ℕ) → IsOf n tiles → AllByRecursion (λ t. t < n * n) tiles
   below tiles pat = all_weaker (λ t. (0 < t) × (t < n * n)) (λ t. t < n * n) (λ t within. within.1) tiles pat.tiles
 
-  own_says : (is_transposed : Bool) (part : PartView) → IsOf n part.tiles → (count : Count) → PartSays part (cond is_transposed (transposed b) b) count
+  own_says : (is_transposed : Bool) (part : ShownPart) → IsOf n part.tiles → (count : Count) → PartSays part (cond is_transposed (transposed b) b) count
       → PartSays (record { tiles = cond is_transposed (transposed_tiles n part.tiles) part.tiles; is_folded = part.is_folded }) b count
   own_says true part pat count says = part_transposed n part (below part.tiles pat) b good count says
   own_says false part pat count says = says
 
-  pub member_pattern : (tables : List PartView) (m : Member) → IsOf n (table_pattern tables m) → (count : Count) → MemberSays tables m b count → PartSays (own_part n tables m) b count
+  pub member_pattern : (tables : List ShownPart) (m : Member) → IsOf n (table_pattern tables m) → (count : Count) → MemberSays tables m b count → PartSays (own_part n tables m) b count
   member_pattern tables m pat count says = own_says m.is_transposed (table_of tables m) pat count says
 
-  module _ (path : List ℕ) (solves : IsSolution b path) (tables : List PartView) (m : Member) (pat : IsOf n (table_pattern tables m)) where
+  module _ (path : List ℕ) (solves : IsSolution b path) (tables : List ShownPart) (m : Member) (pat : IsOf n (table_pattern tables m)) where
     own : IsOf n (pattern_of n tables m)
     own = own_good n m.is_transposed (table_pattern tables m) pat
 

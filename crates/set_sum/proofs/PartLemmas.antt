@@ -13,7 +13,7 @@ use Rattle.tab_rule.specs.declared.tables.Count.{Count}
 use Rattle.tab_rule.specs.declared.tables.Count.TheVariants.{Finite, Never}
 use Rattle.tab_rule.proofs.FoldLemmas.{folded_some}
 use Rattle.tab_rule.proofs.LookLemmas.{count_some}
-use Rattle.set_sum.specs.Parts.{IsExactPart, PartSays, PartView, part_pattern, part_shown}
+use Rattle.set_sum.specs.Parts.{IsExactPart, PartSays, ShownPart, part_pattern, part_shown}
 use Rattle.set_sum.specs.declared.parts.Part.{Part}
 use Rattle.set_sum.specs.declared.parts.Part.TheVariants.{Folded, Full}
 use Rattle.set_sum.proofs.TransposedFoldLemmas.{folded_counts}
@@ -38,14 +38,14 @@ tells_once false tiles b d e one other =
     let q : cost tiles b other.path ≡ e = other.costs in
     omega arith
 
-pub part_once : (part : PartView) (b : List ℕ) (d e : ℕ) → PartSays part b (Finite d) → PartSays part b (Finite e) → d ≡ e
+pub part_once : (part : ShownPart) (b : List ℕ) (d e : ℕ) → PartSays part b (Finite d) → PartSays part b (Finite e) → d ≡ e
 part_once part b d e one other = tells_once part.is_folded part.tiles b d e one other
 
 tells_either : (is_folded : Bool) (tiles b : List ℕ) (d : ℕ) → Tells is_folded tiles b (Finite d) → ¬ Tells is_folded tiles b Never
 tells_either true tiles b d one never = never one.board one.is_board one.places one.costs.path one.costs.leads
 tells_either false tiles b d one never = never one.path one.leads
 
-pub part_either : (part : PartView) (b : List ℕ) (d : ℕ) → PartSays part b (Finite d) → ¬ PartSays part b Never
+pub part_either : (part : ShownPart) (b : List ℕ) (d : ℕ) → PartSays part b (Finite d) → ¬ PartSays part b Never
 part_either part b d one never = tells_either part.is_folded part.tiles b d one never
 
 -- ---- a lower bound of what paths cost
@@ -54,14 +54,14 @@ tells_within : (is_folded : Bool) (tiles b : List ℕ) → IsBoard b → (d : �
 tells_within true tiles b board d says path leads = says.least b path board refl leads
 tells_within false tiles b board d says path leads = says.least path leads
 
-pub part_within : (part : PartView) (b : List ℕ) → IsBoard b → (d : ℕ) → PartSays part b (Finite d) → (path : List ℕ) → LeadsHome part.tiles b path → d ≤ cost part.tiles b path
+pub part_within : (part : ShownPart) (b : List ℕ) → IsBoard b → (d : ℕ) → PartSays part b (Finite d) → (path : List ℕ) → LeadsHome part.tiles b path → d ≤ cost part.tiles b path
 part_within part b board d says path leads = tells_within part.is_folded part.tiles b board d says path leads
 
 tells_none : (is_folded : Bool) (tiles b : List ℕ) → IsBoard b → Tells is_folded tiles b Never → (path : List ℕ) → ¬ LeadsHome tiles b path
 tells_none true tiles b board never path leads = never b board refl path leads
 tells_none false tiles b board never path leads = never path leads
 
-pub part_none : (part : PartView) (b : List ℕ) → IsBoard b → PartSays part b Never → (path : List ℕ) → ¬ LeadsHome part.tiles b path
+pub part_none : (part : ShownPart) (b : List ℕ) → IsBoard b → PartSays part b Never → (path : List ℕ) → ¬ LeadsHome part.tiles b path
 part_none part b board never path leads = tells_none part.is_folded part.tiles b board never path leads
 
 -- ---- a transposed board
@@ -73,7 +73,7 @@ tells_transposed false n tiles all b good (Finite d) is = (least_costs n tiles a
 tells_transposed false n tiles all b good Never is = (nevers n tiles all b good).1 is
 
 -- what a table says of the transposed board one of the transposed pattern says of the board
-pub part_transposed : (n : ℕ) (part : PartView) → AllByRecursion (λ t. t < n * n) part.tiles → (b : List ℕ) → IsBoardOf n b → (count : Count)
+pub part_transposed : (n : ℕ) (part : ShownPart) → AllByRecursion (λ t. t < n * n) part.tiles → (b : List ℕ) → IsBoardOf n b → (count : Count)
     → PartSays part (transposed b) count → PartSays (record { tiles = transposed_tiles n part.tiles; is_folded = part.is_folded }) b count
 part_transposed n part all b good count is = tells_transposed part.is_folded n part.tiles all b good count is
 

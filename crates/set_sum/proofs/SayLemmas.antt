@@ -5,20 +5,20 @@ use Rattle.puz_board.specs.Boards.{IsBoardOf}
 use Rattle.tab_rule.specs.declared.tables.Count.{Count}
 use Rattle.tab_rule.specs.declared.tables.Count.TheVariants.{Finite, Never}
 use Rattle.set_sum.specs.Bounds.{BoundsSolutions, IsBounded, CountReaches}
-use Rattle.set_sum.specs.Bundles.{BundleView, IsBundle, IsSetOf, BundleSays, SaysAtLeast, set_of}
+use Rattle.set_sum.specs.Bundles.{ShownBundle, IsBundle, IsSetOf, BundleSays, SaysAtLeast, set_of}
 use Rattle.set_sum.specs.Parity.{told_of}
 use Rattle.set_sum.proofs.ListLemmas.{all_at}
 use Rattle.set_sum.proofs.ParityLemmas.{told_bounds}
 use Rattle.set_sum.proofs.SumLemmas.{set_bounds, set_once}
 
 -- no set of a bundle says two things of a board
-pub says_once : (v : BundleView) (number : ℕ) (b : List ℕ) (c d : Count) → BundleSays v number b c → BundleSays v number b d → c ≡ d
+pub says_once : (v : ShownBundle) (number : ℕ) (b : List ℕ) (c d : Count) → BundleSays v number b c → BundleSays v number b d → c ≡ d
 says_once v number b c d one other = set_once v.tables (set_of v number) b c d one.says other.says
 
-pub set_is : (v : BundleView) → IsBundle v → (number : ℕ) → number < length v.sets → IsSetOf v.side v.tables (set_of v number)
+pub set_is : (v : ShownBundle) → IsBundle v → (number : ℕ) → number < length v.sets → IsSetOf v.side v.tables (set_of v number)
 set_is v is number there = all_at (IsSetOf v.side v.tables) v.sets number [] there is.each
 
-pub says_bounds : (v : BundleView) → IsBundle v → (number : ℕ) (b : List ℕ) (count : Count) → IsBoardOf v.side b → BundleSays v number b count → BoundsSolutions b count
+pub says_bounds : (v : ShownBundle) → IsBundle v → (number : ℕ) (b : List ℕ) (count : Count) → IsBoardOf v.side b → BundleSays v number b count → BoundsSolutions b count
 says_bounds v is number b count good says = set_bounds v.side v.tables (set_of v number) (set_is v is number says.there) b good count says.says
 
 reaches_bounds : (b : List ℕ) (r : ℕ) (count : Count) → CountReaches count r → BoundsSolutions b count → IsBounded b r
@@ -26,13 +26,13 @@ reaches_bounds b r (Finite d) enough bounds = λ path solves. let low : r ≤ d 
 reaches_bounds b r Never enough none = λ path solves. absurd (none path solves)
 
 -- a set that says at least r bounds the solutions by r
-pub at_least_bounds : (v : BundleView) → IsBundle v → (by_parity : Bool) (number : ℕ) (b : List ℕ) (r : ℕ) → IsBoardOf v.side b → SaysAtLeast v by_parity number b r → IsBounded b r
+pub at_least_bounds : (v : ShownBundle) → IsBundle v → (by_parity : Bool) (number : ℕ) (b : List ℕ) (r : ℕ) → IsBoardOf v.side b → SaysAtLeast v by_parity number b r → IsBounded b r
 at_least_bounds v is by_parity number b r good at_least =
     reaches_bounds b r (told_of by_parity b at_least.count) at_least.enough
     (told_bounds by_parity v.side b good at_least.count (says_bounds v is number b at_least.count good at_least.says))
 
 -- where a set says at least r, what it says, taken so, is never or at least r
-pub reaches_from_sum : (v : BundleView) (by_parity : Bool) (number : ℕ) (b : List ℕ) (count : Count) (r : ℕ)
+pub reaches_from_sum : (v : ShownBundle) (by_parity : Bool) (number : ℕ) (b : List ℕ) (count : Count) (r : ℕ)
     → BundleSays v number b count → SaysAtLeast v by_parity number b r → CountReaches (told_of by_parity b count) r
 reaches_from_sum v by_parity number b count r says at_least =
     subst (λ c. CountReaches (told_of by_parity b c) r) (says_once v number b at_least.count count at_least.says says) at_least.enough
@@ -42,7 +42,7 @@ reaches_decided (Finite d) r = elim (cases_lt d r) [ inl few ↦ inr (λ enough.
 reaches_decided Never r = inl tt
 
 -- whether a set says at least r of a board is settled
-pub at_least_decided : (v : BundleView) → IsBundle v → (by_parity : Bool) (number : ℕ) (b : List ℕ) → IsBoardOf v.side b → (r : ℕ)
+pub at_least_decided : (v : ShownBundle) → IsBundle v → (by_parity : Bool) (number : ℕ) (b : List ℕ) → IsBoardOf v.side b → (r : ℕ)
     → SaysAtLeast v by_parity number b r ⊎ (¬ SaysAtLeast v by_parity number b r)
 at_least_decided v is by_parity number b board r = elim (cases_lt number (length v.sets)) [
   | inr none ↦ inr (λ h. let there : number < length v.sets = h.says.there in omega arith)

@@ -13,7 +13,7 @@ use Rattle.puz_board.proofs.BoardLemmas.{cell_of-below, cells_least, cells_most,
 use Rattle.puz_board.proofs.CellLemmas.{step_of-inside}
 use Rattle.puz_board.proofs.TransposeLemmas.{blank-transposed, slid-transposed}
 use Rattle.tab_rule.specs.Counts.{AreCellsOf}
-use Rattle.set_sum.specs.Bundles.{BundleView}
+use Rattle.set_sum.specs.Bundles.{ShownBundle}
 use Rattle.set_sum.specs.Owners.{AreOwners}
 use Rattle.set_sum.specs.Known.{place_of, IsKnownOf}
 use Rattle.set_sum.specs.Steps.{IsStepFrom}
@@ -86,7 +86,7 @@ step_leads n b cells good are move side same o is =
 pub step_adjacent : (n : ℕ) (b : List ℕ) → IsBoardOf n b → (move : Move) (to : ℕ) → step_of n (blank b) move ≡ Some to → Adjacent n (blank b) to
 step_adjacent n b good move to leads = (step_of-inside n (blank b) move to good.low good.high (blank_below n b good) leads, move, leads)
 
-module _ (v : BundleView) (b next : List ℕ) (step : Step) (is : IsStepFrom v b next step) where
+module _ (v : ShownBundle) (b next : List ℕ) (step : Step) (is : IsStepFrom v b next step) where
   pub step_back : slid next step.from ≡ b
   step_back = ap (λ x. slid x step.from) (sym is.leads) ∙ ap (slid (slid b is.to)) is.from ∙ slid-back v.side b is.board is.to is.near
 
@@ -107,7 +107,7 @@ module _ (v : BundleView) (b next : List ℕ) (step : Step) (is : IsStepFrom v b
 
 -- ---- where nothing is known
 
-pub known_none : (v : BundleView) (b : List ℕ) (known : Known) → length known.entries ≡ 32 → known.places ≡ 0 → IsKnownOf v b known
+pub known_none : (v : ShownBundle) (b : List ℕ) (known : Known) → length known.entries ≡ 32 → known.places ≡ 0 → IsKnownOf v b known
 known_none v b known room none = record {
   size = room;
   small = let few : 0 < 2 ^ 32 = lit< tt in omega arith;

@@ -19,7 +19,7 @@ use Rattle.tab_rule.specs.FoldedTables.{IsFoldedCost, IsFoldedCountOf, IsFoldedN
 use Rattle.tab_rule.specs.declared.tables.Count.{Count}
 use Rattle.tab_rule.specs.declared.tables.Count.TheVariants.{Finite, Never}
 use Rattle.set_sum.specs.Members.{MemberSays, table_of, table_pattern}
-use Rattle.set_sum.specs.Parts.{PartSays, PartView}
+use Rattle.set_sum.specs.Parts.{PartSays, ShownPart}
 use Rattle.set_sum.specs.Owners.{has_tile}
 use Rattle.set_sum.specs.declared.members.Member.{Member}
 
@@ -129,7 +129,7 @@ module _ (n : ℕ) (b : List ℕ) (good : IsBoardOf n b) (c : ℕ) (near : Adjac
       at-transposed n b good (transposed_cell n c) (cell_below n good.low good.high c near.0) ∙
       ap (λ x. transposed_cell n (at b x)) (cell_twice n good.low good.high c near.0)
 
-  says_still : (part : PartView) → AreTiles n part.tiles → (is_transposed : Bool) → has part.tiles (cond is_transposed (transposed_cell n (at b c)) (at b c)) ≡ false
+  says_still : (part : ShownPart) → AreTiles n part.tiles → (is_transposed : Bool) → has part.tiles (cond is_transposed (transposed_cell n (at b c)) (at b c)) ≡ false
       → (count : Count) → PartSays part (cond is_transposed (transposed b) b) count → PartSays part (cond is_transposed (transposed (slid b c)) (slid b c)) count
   says_still part all true other count says =
       subst (λ x. PartSays part x count) (slid-transposed n b good c near.0)
@@ -137,12 +137,12 @@ module _ (n : ℕ) (b : List ℕ) (good : IsBoardOf n b) (c : ℕ) (near : Adjac
   says_still part all false other count says = tells_still n b good c near part.tiles other all part.is_folded count says
 
   -- it says the same of the board after the step
-  pub member_still : (tables : List PartView) (m : Member) → AreTiles n (table_pattern tables m) → has_tile n tables m (at b c) ≡ false
+  pub member_still : (tables : List ShownPart) (m : Member) → AreTiles n (table_pattern tables m) → has_tile n tables m (at b c) ≡ false
       → (count : Count) → MemberSays tables m b count → MemberSays tables m (slid b c) count
   member_still tables m all other count says = says_still (table_of tables m) all m.is_transposed other count says
 
 -- and of the board before it
-pub member_before : (n : ℕ) (b : List ℕ) (good : IsBoardOf n b) (c : ℕ) (near : Adjacent n (blank b) c) (tables : List PartView) (m : Member) → AreTiles n (table_pattern tables m)
+pub member_before : (n : ℕ) (b : List ℕ) (good : IsBoardOf n b) (c : ℕ) (near : Adjacent n (blank b) c) (tables : List ShownPart) (m : Member) → AreTiles n (table_pattern tables m)
     → has_tile n tables m (at b c) ≡ false → (count : Count) → MemberSays tables m (slid b c) count → MemberSays tables m b count
 member_before n b good c near tables m all other count says =
     subst (λ x. MemberSays tables m x count) (slid-back n b good c near)

@@ -10,7 +10,7 @@ use Rattle.tab_rule.specs.declared.tables.Count.TheVariants.{Finite, Never}
 use Rattle.set_sum.specs.Bounds.{BoundsSolutions}
 use Rattle.set_sum.specs.Bundles.{IsSetOf}
 use Rattle.set_sum.specs.Members.{MemberSays, pattern_of, patterns_of_set, table_pattern}
-use Rattle.set_sum.specs.Parts.{PartView}
+use Rattle.set_sum.specs.Parts.{ShownPart}
 use Rattle.set_sum.specs.Sums.{AddUpTo, SetSays, total_cost}
 use Rattle.set_sum.specs.declared.members.Member.{Member}
 use Rattle.set_sum.proofs.AnyLemmas.{Any-cases, Any-here, Any-later, Any-none}
@@ -18,7 +18,7 @@ use Rattle.set_sum.proofs.CostLemmas.{total_cost-within}
 use Rattle.set_sum.proofs.HomeLemmas.{IsOf}
 use Rattle.set_sum.proofs.MemberLemmas.{member_either, member_none, member_once, member_within}
 
-module _ (n : ℕ) (tables : List PartView) (b : List ℕ) (good : IsBoardOf n b) (path : List ℕ) (solves : IsSolution b path) where
+module _ (n : ℕ) (tables : List ShownPart) (b : List ℕ) (good : IsBoardOf n b) (path : List ℕ) (solves : IsSolution b path) where
   abbrev IsMember : Member → Type 0
   IsMember m = IsOf n (table_pattern tables m)
 
@@ -37,7 +37,7 @@ module _ (n : ℕ) (tables : List PartView) (b : List ℕ) (good : IsBoardOf n b
     | inr more ↦ never_none ms all.1 more
   ]
 
-pub set_bounds : (n : ℕ) (tables : List PartView) (set : List Member) → IsSetOf n tables set → (b : List ℕ) → IsBoardOf n b → (count : Count) → SetSays tables set b count → BoundsSolutions b count
+pub set_bounds : (n : ℕ) (tables : List ShownPart) (set : List Member) → IsSetOf n tables set → (b : List ℕ) → IsBoardOf n b → (count : Count) → SetSays tables set b count → BoundsSolutions b count
 set_bounds n tables set is b good (Finite d) says = λ path solves.
     let patterns : List (List ℕ) = patterns_of_set n tables set in
     let low : d ≤ total_cost patterns b path = sum_within n tables b good path solves set is.patterns d says in
@@ -45,7 +45,7 @@ set_bounds n tables set is b good (Finite d) says = λ path solves.
     omega arith
 set_bounds n tables set is b good Never says = λ path solves. never_none n tables b good path solves set is.patterns says
 
-module _ (tables : List PartView) where
+module _ (tables : List ShownPart) where
   -- ---- one thing
 
   sum_once : (set : List Member) (b : List ℕ) (d e : ℕ) → AddUpTo tables set b d → AddUpTo tables set b e → d ≡ e

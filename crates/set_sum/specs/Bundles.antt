@@ -7,7 +7,7 @@ use Rattle.tab_rule.specs.declared.tables.Count.{Count}
 use Rattle.set_sum.specs.Bounds.{CountReaches}
 use Rattle.set_sum.specs.Members.{patterns_of_set, table_pattern}
 use Rattle.set_sum.specs.Parity.{told_of}
-use Rattle.set_sum.specs.Parts.{PartView}
+use Rattle.set_sum.specs.Parts.{ShownPart}
 use Rattle.set_sum.specs.Sums.{AreDisjoint, SetSays}
 use Rattle.set_sum.specs.declared.members.Member.{Member}
 
@@ -28,13 +28,13 @@ most_sets = 16
 -- ---- what is seen
 
 -- what a contract sees of a bundle: the side of its boards, its tables, and its sets, each the list of its members
-pub record BundleView : Type 0 where
+pub record ShownBundle : Type 0 where
   pub side : ℕ
-  pub tables : List PartView
+  pub tables : List ShownPart
   pub sets : List (List Member)
 
 -- some members, of tables with patterns of side n, whose own patterns are disjoint
-pub record IsSetOf (n : ℕ) (tables : List PartView) (set : List Member) : Type 0 where
+pub record IsSetOf (n : ℕ) (tables : List ShownPart) (set : List Member) : Type 0 where
   pub some : 0 < length set
   pub patterns : AllByRecursion (λ m. IsPattern (record { side = n; tiles = table_pattern tables m })) set
   pub disjoint : AreDisjoint (patterns_of_set n tables set)
@@ -42,20 +42,20 @@ pub record IsSetOf (n : ℕ) (tables : List PartView) (set : List Member) : Type
 -- ---- what a bundle's sets say of a board
 
 -- the set with this number
-abbrev pub set_of : BundleView → ℕ → List Member
+abbrev pub set_of : ShownBundle → ℕ → List Member
 set_of v number = slice_index_or v.sets number []
 
 -- the set with this number is there, and says this of the board
-pub record BundleSays (v : BundleView) (number : ℕ) (b : List ℕ) (count : Count) : Type 0 where
+pub record BundleSays (v : ShownBundle) (number : ℕ) (b : List ℕ) (count : Count) : Type 0 where
   pub there : number < length v.sets
   pub says : SetSays v.tables (set_of v number) b count
 
 -- each set says something of each board of the side
-abbrev pub TellsOfAll : BundleView → Type 0
+abbrev pub TellsOfAll : ShownBundle → Type 0
 TellsOfAll v = (number : ℕ) → number < length v.sets → (b : List ℕ) → IsBoardOf v.side b → (count : Count) × BundleSays v number b count
 
 -- the set with this number is there, and what it says of the board, taken by parity or not, is never or at least r
-pub record SaysAtLeast (v : BundleView) (by_parity : Bool) (number : ℕ) (b : List ℕ) (r : ℕ) : Type 0 where
+pub record SaysAtLeast (v : ShownBundle) (by_parity : Bool) (number : ℕ) (b : List ℕ) (r : ℕ) : Type 0 where
   pub count : Count
   pub says : BundleSays v number b count
   pub enough : CountReaches (told_of by_parity b count) r
@@ -64,7 +64,7 @@ pub record SaysAtLeast (v : BundleView) (by_parity : Bool) (number : ℕ) (b : L
 
 -- a side from 2 to 5, and some tables and some sets, no more of each than a bundle may have; a set is of members whose
 -- tables are there and have patterns of that side, their own patterns are disjoint, and it says something of each board
-pub record IsBundle (v : BundleView) : Type 0 where
+pub record IsBundle (v : ShownBundle) : Type 0 where
   pub low : 2 ≤ v.side
   pub high : v.side ≤ 5
   pub some_tables : 0 < length v.tables

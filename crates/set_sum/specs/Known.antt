@@ -4,7 +4,7 @@ use Rattle.std.specs.Int.{bit_at}
 use Rattle.tab_file.specs.EntryBytes.{no_way_home}
 use Rattle.tab_rule.specs.declared.tables.Count.{Count}
 use Rattle.tab_rule.specs.declared.tables.Count.TheVariants.{Finite, Never}
-use Rattle.set_sum.specs.Bundles.{BundleView}
+use Rattle.set_sum.specs.Bundles.{ShownBundle}
 use Rattle.set_sum.specs.Members.{MemberSays}
 use Rattle.set_sum.specs.declared.known.Known.{Known}
 use Rattle.set_sum.specs.declared.members.Member.{Member}
@@ -18,7 +18,7 @@ abbrev pub said_by : ℕ → Count
 said_by entry = if entry == no_way_home then Never else Finite entry
 
 -- what is known of members of the board is what they say of it
-pub record IsKnownOf (v : BundleView) (b : List ℕ) (known : Known) : Type 0 where
+pub record IsKnownOf (v : ShownBundle) (b : List ℕ) (known : Known) : Type 0 where
   pub size : length known.entries ≡ 32
   pub small : known.places < 2 ^ 32
   pub each : (m : Member) → m.table < length v.tables → bit_at known.places (place_of m) ≡ 1 →

@@ -10,7 +10,7 @@ pub mod Reading
 pub mod SetTexts
 pub mod Steps
 pub mod Sums
-pub mod SumViews
+pub mod ShownSums
 -- How values are stored.
 pub mod Owners
 pub mod StoredBundles

@@ -1,6 +1,6 @@
 -- The tables of a bundle, each of them full or folded.
 use Rattle.std.specs.Prelude.{ℕ, Bool, true, false, List, [], MatchBool, map}
-use Rattle.pat_place.specs.Patterns.{PatternView}
+use Rattle.pat_place.specs.Patterns.{ShownPattern}
 use Rattle.tab_rule.specs.Counts.{IsCountOf}
 use Rattle.tab_rule.specs.ExactTables.{IsExactTable}
 use Rattle.tab_rule.specs.FoldedTables.{HasFoldedTable, IsFoldedCountOf}
@@ -11,33 +11,33 @@ use Rattle.set_sum.specs.declared.parts.Part.TheVariants.{Folded, Full}
 -- ---- what is shown of them
 
 -- what a contract sees of a bundle's table: the tiles of its pattern, and whether it is folded
-pub record PartView : Type 0 where
+pub record ShownPart : Type 0 where
   pub tiles : List ℕ
   pub is_folded : Bool
 
 -- the pattern of a table
-abbrev pub part_pattern : Part → PatternView
+abbrev pub part_pattern : Part → ShownPattern
 part_pattern (Full table) = table.pattern
 part_pattern (Folded pattern) = pattern
 
 -- a table as it is shown
-abbrev pub part_shown : Part → PartView
+abbrev pub part_shown : Part → ShownPart
 part_shown (Full table) = record { tiles = table.pattern.tiles; is_folded = false }
 part_shown (Folded pattern) = record { tiles = pattern.tiles; is_folded = true }
 
 -- the same of several
-abbrev pub parts_shown : List Part → List PartView
+abbrev pub parts_shown : List Part → List ShownPart
 parts_shown parts = map part_shown parts
 
 -- what is shown where there is no table
-abbrev pub no_part : PartView
+abbrev pub no_part : ShownPart
 no_part = record { tiles = []; is_folded = false }
 
 -- ---- what they say
 
 -- what a table tells of a board, by whole boards and paths: the least cost at which its tiles come home, or never; and folded
 -- the least of that over all boards that have the tiles in the same cells
-abbrev pub PartSays : PartView → List ℕ → Count → Type 0
+abbrev pub PartSays : ShownPart → List ℕ → Count → Type 0
 PartSays part b count = MatchBool part.is_folded (IsFoldedCountOf part.tiles b count) (IsCountOf part.tiles b count)
 
 -- a table that is exact; or the folded table of a pattern, which has one

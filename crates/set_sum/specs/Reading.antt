@@ -1,7 +1,7 @@
 -- What tables and a set text make: a bundle, or the first of their faults.
 use Rattle.std.specs.Prelude.{◌≡◌, ◌≢◌, ℕ, ◌<◌, ◌≤◌, List, [], ◌∷◌, length, slice_get, take, Any, Some, ◌⊎◌}
 use Rattle.std.specs.List.{AllByRecursion}
-use Rattle.set_sum.specs.Bundles.{BundleView, most_sets, most_tables}
+use Rattle.set_sum.specs.Bundles.{ShownBundle, most_sets, most_tables}
 use Rattle.set_sum.specs.Members.{AreOnePattern, patterns_of_set}
 use Rattle.set_sum.specs.Parts.{part_pattern, parts_shown}
 use Rattle.set_sum.specs.SetTexts.{AreLines, IsFirstBadLine}
@@ -49,7 +49,7 @@ pub record AreSets (text : List ℕ) (sets : List (List Member)) : Type 0 where
 
 -- the tables and the text make this bundle: its sets are those of the text's lines, all of whose tables are there; no two
 -- members of a set have one pattern where one of them is transposed, and no two share a tile
-pub record IsBundleOf (tables : List Part) (text : List ℕ) (v : BundleView) : Type 0 where
+pub record IsBundleOf (tables : List Part) (text : List ℕ) (v : ShownBundle) : Type 0 where
   pub alike : AreAlike tables
   pub side : v.side ≡ first_side tables
   pub shown : v.tables ≡ parts_shown tables

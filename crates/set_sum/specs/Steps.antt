@@ -2,12 +2,12 @@
 use Rattle.std.specs.Prelude.{◌≡◌, ℕ, List}
 use Rattle.puz_board.specs.Boards.{IsBoardOf, blank, slid}
 use Rattle.puz_board.specs.Cells.{Adjacent}
-use Rattle.set_sum.specs.Bundles.{BundleView}
+use Rattle.set_sum.specs.Bundles.{ShownBundle}
 use Rattle.set_sum.specs.Known.{IsKnownOf}
 use Rattle.set_sum.specs.declared.known.Step.{Step}
 
 -- the step leads from board b to this one: it keeps the blank's cell on b, and what is known of b
-pub record IsStepFrom (v : BundleView) (b next : List ℕ) (step : Step) : Type 0 where
+pub record IsStepFrom (v : ShownBundle) (b next : List ℕ) (step : Step) : Type 0 where
   pub board : IsBoardOf v.side b
   pub to : ℕ
   pub near : Adjacent v.side (blank b) to

@@ -2,9 +2,9 @@
 use Rattle.std.specs.Prelude.{◌≡◌, ℕ, ◌*◌, ◌<◌, List, length, map, slice_index}
 use Rattle.std.specs.List.{AllByRecursion}
 use Rattle.puz_board.specs.Transposing.{transposed_cell}
-use Rattle.set_sum.specs.Bundles.{BundleView, IsBundle}
+use Rattle.set_sum.specs.Bundles.{ShownBundle, IsBundle}
 use Rattle.set_sum.specs.Owners.{AreOwners}
-use Rattle.set_sum.specs.Parts.{PartView, part_pattern, parts_shown}
+use Rattle.set_sum.specs.Parts.{ShownPart, part_pattern, parts_shown}
 use Rattle.set_sum.specs.declared.bundles.Bundle.TheInside.{Inside}
 use Rattle.set_sum.specs.declared.members.Member.{Member}
 
@@ -13,7 +13,7 @@ abbrev pub sets_stored : Inside → List (List Member)
 sets_stored v = map (λ set. set.items) v.sets.items
 
 -- the bundle with this side, these tables, and these sets
-abbrev pub bundle_shown : Inside → BundleView
+abbrev pub bundle_shown : Inside → ShownBundle
 bundle_shown v = record {
   side = v.side;
   tables = parts_shown v.tables.items;
@@ -21,7 +21,7 @@ bundle_shown v = record {
 }
 
 -- for each tile of side n the places of its owners are kept
-pub record AreAllOwners (n : ℕ) (tables : List PartView) (owners : List ℕ) : Type 0 where
+pub record AreAllOwners (n : ℕ) (tables : List ShownPart) (owners : List ℕ) : Type 0 where
   pub room : length owners ≡ 25
   pub each : (tile : ℕ) → tile < n * n → AreOwners n tables tile (slice_index owners tile)
 

@@ -4,7 +4,7 @@ use Rattle.puz_board.specs.Boards.{IsBoardOf}
 use Rattle.puz_board.specs.Transposing.{transposed}
 use Rattle.tab_rule.specs.Counts.{AreCellsOf}
 use Rattle.set_sum.specs.Known.{IsKnownOf}
-use Rattle.set_sum.specs.SumViews.{SumsView}
+use Rattle.set_sum.specs.ShownSums.{ShownSums}
 use Rattle.set_sum.specs.declared.sums.Sums.TheInside.{Inside}
 
 -- the numbers of the board
@@ -12,7 +12,7 @@ abbrev pub sums_numbers_shown : Inside → List ℕ
 sums_numbers_shown s = take (s.bundle.now.side * s.bundle.now.side) s.numbers
 
 -- the bundle and the board
-abbrev pub sums_shown : Inside → SumsView
+abbrev pub sums_shown : Inside → ShownSums
 sums_shown s = record { bundle = s.bundle.now; board = sums_numbers_shown s }
 
 -- these are the fields of sums

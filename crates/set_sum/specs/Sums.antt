@@ -4,7 +4,7 @@ use Rattle.puz_board.specs.Costs.{cost, has}
 use Rattle.tab_rule.specs.declared.tables.Count.{Count}
 use Rattle.tab_rule.specs.declared.tables.Count.TheVariants.{Finite, Never}
 use Rattle.set_sum.specs.Members.{MemberSays}
-use Rattle.set_sum.specs.Parts.{PartView}
+use Rattle.set_sum.specs.Parts.{ShownPart}
 use Rattle.set_sum.specs.declared.members.Member.{Member}
 
 -- ---- disjoint patterns
@@ -34,12 +34,12 @@ total_cost (p ∷ ps) b path = cost p b path + total_cost ps b path
 -- ---- what a set says of a board
 
 -- each member says a number, and these add up to d
-abbrev pub AddUpTo : List PartView → List Member → List ℕ → ℕ → Type 0
+abbrev pub AddUpTo : List ShownPart → List Member → List ℕ → ℕ → Type 0
 AddUpTo tables [] b d = d ≡ 0
 AddUpTo tables (m ∷ ms) b d =
     (first : ℕ) × (rest : ℕ) × MemberSays tables m b (Finite first) × AddUpTo tables ms b rest × (d ≡ first + rest)
 
 -- the sum of what the members say, and never where one of them says never
-abbrev pub SetSays : List PartView → List Member → List ℕ → Count → Type 0
+abbrev pub SetSays : List ShownPart → List Member → List ℕ → Count → Type 0
 SetSays tables set b (Finite d) = AddUpTo tables set b d
 SetSays tables set b Never = Any (λ m. MemberSays tables m b Never) set

@@ -4,7 +4,7 @@ ghost use Rattle.std.specs.Prelude.{◌≡◌, ◌*◌, ◌<◌, ◌≤◌, Err,
 ghost use Rattle.std.specs.List.{AllByRecursion};
 ghost use Rattle.puz_board.specs.Boards.{side_of};
 ghost use Rattle.set_sum.specs.Bounds.{BoundsSolutions};
-ghost use Rattle.set_sum.specs.Bundles.{BundleView, IsBundle, BundleSays, most_members};
+ghost use Rattle.set_sum.specs.Bundles.{ShownBundle, IsBundle, BundleSays, most_members};
 ghost use Rattle.puz_board.specs.Transposing.{transposed_cell};
 ghost use Rattle.set_sum.specs.Owners.{AreOwners};
 ghost use Rattle.set_sum.specs.Parts.{no_part, part_pattern, part_shown};
@@ -54,9 +54,9 @@ pub struct Bundle<'a> {
 }
 
 impl<'a> Model for Bundle<'a> {
-    ghost use Rattle.set_sum.specs.Bundles.{BundleView};
+    ghost use Rattle.set_sum.specs.Bundles.{ShownBundle};
 
-    ghost Value = { BundleView };
+    ghost Value = { ShownBundle };
 
     ghost use Rattle.set_sum.specs.StoredBundles.{IsStoredBundle, bundle_shown};
 
@@ -74,7 +74,7 @@ impl<'a> Bundle<'a> {
     pub fn read(tables: Vec<Part<'a>>, text: &[u8]) -> Result<Bundle<'a>, SetFault>
         // A bundle comes exactly of tables and a text that make it.
         ensures ok { IfOk result (λ bundle. IsBundleOf tables.entry.items text.now bundle) }
-        ensures made { (bundle : BundleView) → IsBundleOf tables.entry.items text.now bundle
+        ensures made { (bundle : ShownBundle) → IsBundleOf tables.entry.items text.now bundle
             → result ≡ Ok bundle }
 
         // A fault is answered exactly where it is the first that stands.

@@ -39,9 +39,9 @@ pub struct Sums<'a> {
 }
 
 impl<'a> Model for Sums<'a> {
-    ghost use Rattle.set_sum.specs.SumViews.{SumsView};
+    ghost use Rattle.set_sum.specs.ShownSums.{ShownSums};
 
-    ghost Value = { SumsView };
+    ghost Value = { ShownSums };
 
     ghost use Rattle.set_sum.specs.StoredSums.{IsStoredSums, sums_shown};
 

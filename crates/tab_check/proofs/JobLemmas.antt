@@ -1,12 +1,12 @@
 -- The blocks of a table are cut from its entries in order.
 use Rattle.std.proofs.Common.{◌≡◌, ℕ, ◌+◌, ◌*◌, ◌≤◌, ◌^◌, arith}
 use Rattle.std.proofs.Math.Nat.{mul-le-mul_right}
-use Rattle.pat_place.specs.Patterns.{PatternView}
+use Rattle.pat_place.specs.Patterns.{ShownPattern}
 use Rattle.tab_file.specs.Tables.{entry_count, slot_count}
 use Rattle.tab_check.specs.Jobs.{block_begin}
 use Rattle.tab_rule.specs.Blocks.{block_count}
 
-module _ (p : PatternView) where
+module _ (p : ShownPattern) where
   pub block_begin-zero : block_begin p 0 ≡ 0
   block_begin-zero = omega arith
 

@@ -3,7 +3,7 @@ use Rattle.std.proofs.Common.{◌≡◌, ℕ, ◌+◌, ◌*◌, ◌<◌, ◌≤�
 use Rattle.std.specs.Prelude.{MatchOption}
 use Rattle.std.proofs.lemmas.Bool.{cases_lt}
 use Rattle.std.proofs.Math.Nat.{mul-le-mul_right}
-use Rattle.pat_place.specs.Patterns.{PatternView, IsPattern}
+use Rattle.pat_place.specs.Patterns.{ShownPattern, IsPattern}
 use Rattle.tab_file.specs.Tables.{Table, entry_count, placement_count, slot_count}
 use Rattle.work_run.specs.Faults.{IsFault, IsLeastBad as IsLeastPlace}
 use Rattle.tab_rule.specs.BadEntries.{AllKeepRule, IsBad, IsLeastBadEntry}
@@ -12,7 +12,7 @@ use Rattle.tab_rule.proofs.TableLemmas.{keeps_unless_bad, number_below}
 use Rattle.tab_check.specs.Jobs.{block_begin}
 
 -- the last block ends with the last entry
-pub block_begin-end : (p : PatternView) → block_begin p (block_count p) ≡ entry_count p
+pub block_begin-end : (p : ShownPattern) → block_begin p (block_count p) ≡ entry_count p
 block_begin-end p =
     let all : placement_count p * slot_count p ≤ block_count p * 256 * slot_count p = mul-le-mul_right (slot_count p) (let s : placement_count p ≤ block_count p * 256 = omega arith in s) in
     omega arith

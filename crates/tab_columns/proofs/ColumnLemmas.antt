@@ -7,10 +7,10 @@ use Rattle.std.proofs.lemmas.Option.{get_or_from_slice_get, slice_get-get_or, sl
 use Rattle.std.proofs.lemmas.Simd.{get_or-zip2, length-zip2}
 use Rattle.std.proofs.Math.Nat.{mul-le-mul_right}
 use lib.Lanes.{zip2}
-use Rattle.pat_place.specs.Patterns.{PatternView, IsPattern, most_tiles, width}
+use Rattle.pat_place.specs.Patterns.{ShownPattern, IsPattern, most_tiles, width}
 use Rattle.puz_board.specs.Cells.{step_of}
 use Rattle.puz_board.proofs.CellLemmas.{by_side, step_of-inside}
-use Rattle.pat_place.specs.Placements.{PlacementView, IsPlacement}
+use Rattle.pat_place.specs.Placements.{ShownPlacement, IsPlacement}
 use Rattle.pat_place.proofs.ListLemmas.{Some-one, all_at}
 use Rattle.tab_file.specs.Tables.{Table, IsTable, slot_count}
 use Rattle.tab_columns.specs.Columns.{AreOf, EachSlot}
@@ -47,21 +47,21 @@ take_get xs n r v is =
 pub place_before : (r row j w : ℕ) → r < row → j < w → r * w + j < row * w
 place_before r row j w l low = let next : (r + 1) * w ≤ row * w = mul-le-mul_right w (let s : r + 1 ≤ row = omega arith in s) in omega arith
 
-pub few_slots_each : (p : PatternView) → IsPattern p → slot_count p ≤ 8
+pub few_slots_each : (p : ShownPattern) → IsPattern p → slot_count p ≤ 8
 few_slots_each p pat = by_side (λ n. (k : ℕ) → k ≤ most_tiles n → width n k ≤ 8) (λ k l. omega arith) (λ k l. omega arith) (λ k l. omega arith) (λ k l. omega arith) p.side pat.low pat.high (length p.tiles) pat.most
 
-row_fits : (p : PatternView) → IsPattern p → (row : ℕ) → row < 256 → row * slot_count p + slot_count p ≤ 2048
+row_fits : (p : ShownPattern) → IsPattern p → (row : ℕ) → row < 256 → row * slot_count p + slot_count p ≤ 2048
 row_fits p pat row l =
     let few : slot_count p ≤ 8 = few_slots_each p pat in
     let all : (row + 1) * slot_count p ≤ 256 * slot_count p = mul-le-mul_right (slot_count p) (let s : row + 1 ≤ 256 = omega arith in s) in
     omega arith
 
-module _ (p : PatternView) (placements : List PlacementView) (Says : List ℕ → ℕ → ℕ → Type 0) where
+module _ (p : ShownPattern) (placements : List ShownPlacement) (Says : List ℕ → ℕ → ℕ → Type 0) where
   pub each_none : (column : List ℕ) → EachSlot p placements Says 0 column
   each_none column row j v l is low = absurd (omega arith)
 
   pub each_more : (row : ℕ) (column new : List ℕ) → EachSlot p placements Says row column → ((i : ℕ) → i < row * slot_count p → get_or new i 0 ≡ get_or column i 0)
-      → ((v : PlacementView) → slice_get placements row ≡ Some v → (j : ℕ) → j < slot_count p → Says v.cells j (get_or new (row * slot_count p + j) 0)) → EachSlot p placements Says (row + 1) new
+      → ((v : ShownPlacement) → slice_get placements row ≡ Some v → (j : ℕ) → j < slot_count p → Says v.cells j (get_or new (row * slot_count p + j) 0)) → EachSlot p placements Says (row + 1) new
   each_more row column new before same here r j v l is low = elim (cases_eq r row) [
     | inl e ↦ subst (λ x. Says v.cells j (get_or new (x * slot_count p + j) 0)) (sym e) (here v (subst (λ x. slice_get placements x ≡ Some v) e is) j low)
     | inr ne ↦ subst (Says v.cells j) (sym (same (r * slot_count p + j) (place_before r row j (slot_count p) (omega arith) low))) (before r j v (omega arith) is low)
@@ -73,21 +73,21 @@ module _ (p : PatternView) (placements : List PlacementView) (Says : List ℕ �
 -- ---- the entry after one move of one placement more
 
 -- the row has this placement, and its slots stand within the column
-pub record IsColumnRow (t : Table) (ps : List PlacementView) (row w : ℕ) (v : PlacementView) : Type 0 where
+pub record IsColumnRow (t : Table) (ps : List ShownPlacement) (row w : ℕ) (v : ShownPlacement) : Type 0 where
   pub get : slice_get ps row ≡ Some v
   pub of : (v.pattern ≡ t.pattern) × IsPlacement v
   pub wide : w ≡ slot_count t.pattern
   pub at : row * w ≡ row * slot_count t.pattern
   pub fits : row * slot_count t.pattern + slot_count t.pattern ≤ 2048
 
-pub row_is : {t : Table} {p : PatternView} {ps : List PlacementView} {row w : ℕ} {v : PlacementView} → IsTable t → AreOf t.pattern ps → length ps ≤ 256 → p ≡ t.pattern → w ≡ slot_count p → row < length ps → v ≡ get_or ps row v
+pub row_is : {t : Table} {p : ShownPattern} {ps : List ShownPlacement} {row w : ℕ} {v : ShownPlacement} → IsTable t → AreOf t.pattern ps → length ps ≤ 256 → p ≡ t.pattern → w ≡ slot_count p → row < length ps → v ≡ get_or ps row v
     → IsColumnRow t ps row w v
 row_is {t = t} {ps = ps} {row = row} {v = v} table of few same width low read =
     let get = slice_get_read ps (length ps) row v refl low read in
     record { get = get; of = of row v get; wide = width ∙ ap slot_count same; at = ap (λ x. row * x) (width ∙ ap slot_count same); fits = row_fits t.pattern table.pattern row (omega arith) }
 
 -- the part of the column that the row's slots have
-module _ {t : Table} {ps : List PlacementView} {row w : ℕ} {v : PlacementView} (is : IsColumnRow t ps row w v) (column : List ℕ) where
+module _ {t : Table} {ps : List ShownPlacement} {row w : ℕ} {v : ShownPlacement} (is : IsColumnRow t ps row w v) (column : List ℕ) where
   pub part_size : length column ≡ 2048 → length (take (row * w + w - row * w) (drop (row * w) column)) ≡ slot_count t.pattern
   part_size long =
       length-take-le (row * w + w - row * w) (drop (row * w) column) (let d = length-drop (row * w) column in let at = is.at in let fits = is.fits in let e = is.wide in omega arith) ∙
@@ -97,7 +97,7 @@ module _ {t : Table} {ps : List PlacementView} {row w : ℕ} {v : PlacementView}
   part_at j l =
       get_or-take (row * w + w - row * w) (drop (row * w) column) j 0 (let e = is.wide in omega arith) ∙ get_or-drop (row * w) column j 0 ∙ ap (λ b. get_or column (b + j) 0) is.at
 
-module _ {t : Table} {ps : List PlacementView} {row w : ℕ} {v : PlacementView} (is : IsColumnRow t ps row w v) (index : ℕ) (mv : Move) where
+module _ {t : Table} {ps : List ShownPlacement} {row w : ℕ} {v : ShownPlacement} (is : IsColumnRow t ps row w v) (index : ℕ) (mv : Move) where
   abbrev SaysTowards : List ℕ → ℕ → ℕ → Type 0
   SaysTowards cells j = IsLeastOf (IsEntryTowards t cells j index mv)
 
@@ -136,20 +136,20 @@ module _ {t : Table} {ps : List PlacementView} {row w : ℕ} {v : PlacementView}
             | inr ne ↦ subst (SaysTowards v.cells j) (sym (other (row * w + j) (λ e. ne (omega arith)) ∙ empty (row * w + j) (omega arith) (omega arith))) (found.others j low ne)
           ]
 
-      of_row : (u : PlacementView) → slice_get ps row ≡ Some u → (j : ℕ) → j < slot_count t.pattern → SaysTowards u.cells j (get_or new (row * slot_count t.pattern + j) 0)
+      of_row : (u : ShownPlacement) → slice_get ps row ≡ Some u → (j : ℕ) → j < slot_count t.pattern → SaysTowards u.cells j (get_or new (row * slot_count t.pattern + j) 0)
       of_row u also j low =
           subst (λ x. SaysTowards x.cells j (get_or new (row * slot_count t.pattern + j) 0)) (Some-one v u (sym is.get ∙ also)) (
           subst (λ a. SaysTowards v.cells j (get_or new (a + j) 0)) is.at (at_slot j low))
 
 -- ---- the cell beside a tile's
 
-module _ {t : Table} {v : PlacementView} {index : ℕ} (table : IsTable t) (of : (v.pattern ≡ t.pattern) × IsPlacement v) (low : index < length t.pattern.tiles) where
+module _ {t : Table} {v : ShownPlacement} {index : ℕ} (table : IsTable t) (of : (v.pattern ≡ t.pattern) × IsPlacement v) (low : index < length t.pattern.tiles) where
   cell_in : get_or v.cells index 0 < t.pattern.side * t.pattern.side
   cell_in =
       let size : length v.cells ≡ length t.pattern.tiles = of.1.size ∙ ap (λ q. length q.tiles) of.0 in
       subst (λ q. get_or v.cells index 0 < q.side * q.side) of.0 (all_at v.cells index of.1.inside (omega arith))
 
-  pub cell_step : {p : PatternView} {side cell : ℕ} (mv : Move) (beside : List (Option ℕ)) → p ≡ t.pattern → side ≡ p.side → ((c : ℕ) → c < side * side → slice_get beside c ≡ Some (step_of side c mv)) → cell ≡ get_or v.cells index 0
+  pub cell_step : {p : ShownPattern} {side cell : ℕ} (mv : Move) (beside : List (Option ℕ)) → p ≡ t.pattern → side ≡ p.side → ((c : ℕ) → c < side * side → slice_get beside c ≡ Some (step_of side c mv)) → cell ≡ get_or v.cells index 0
       → get_or beside cell None ≡ step_of t.pattern.side (get_or v.cells index 0) mv
   cell_step {side = side} {cell = cell} mv beside same_pattern same is here =
       let own : side ≡ t.pattern.side = same ∙ ap (λ q. q.side) same_pattern in
@@ -168,7 +168,7 @@ module _ {t : Table} {v : PlacementView} {index : ℕ} (table : IsTable t) (of :
 
 -- ---- the least entries of one tile more
 
-module _ (t : Table) (table : IsTable t) (ps : List PlacementView) (of : AreOf t.pattern ps) (few : length ps ≤ 256) where
+module _ (t : Table) (table : IsTable t) (ps : List ShownPlacement) (of : AreOf t.pattern ps) (few : length ps ≤ 256) where
   place_fits : (row j : ℕ) → row < length ps → j < slot_count t.pattern → row * slot_count t.pattern + j < 2048
   place_fits row j l low = let fits = row_fits t.pattern table.pattern row (omega arith) in omega arith
 

@@ -11,8 +11,8 @@ use Rattle.puz_board.specs.Masks.{IsMaskOf}
 use Rattle.puz_board.specs.Paths.{Reaches, here, onward}
 use Rattle.puz_board.proofs.BitLemmas.{both_in, sub_le}
 use Rattle.puz_board.proofs.CellLemmas.{few_cells}
-use Rattle.pat_place.specs.Patterns.{IsPattern, PatternView}
-use Rattle.pat_place.specs.Placements.{PlacementView, IsFree, IsPlacement}
+use Rattle.pat_place.specs.Patterns.{IsPattern, ShownPattern}
+use Rattle.pat_place.specs.Placements.{ShownPlacement, IsFree, IsPlacement}
 use Rattle.pat_place.specs.Regions.{IsLeader}
 use Rattle.pat_place.proofs.ListLemmas.{Some-one}
 use Rattle.pat_place.proofs.SlotLemmas.{count_grows}
@@ -85,7 +85,7 @@ none_left n cells rest slot h empty j l c is =
     let low : j < slot = count_grows (IsLeader n cells) is.leader (n * n) j slot is.is_leader is.is_leader.0.0 is.below (IsRest-all n cells rest slot h empty) in
     omega arith
 
-pub slot_taken : (v : PlacementView) → IsPattern v.pattern → IsPlacement v → (side free : ℕ) → side ≡ v.pattern.side → IsMaskOf free (IsFree v.pattern.side v.cells)
+pub slot_taken : (v : ShownPlacement) → IsPattern v.pattern → IsPlacement v → (side free : ℕ) → side ≡ v.pattern.side → IsMaskOf free (IsFree v.pattern.side v.cells)
     → (rest slot : ℕ) → rest < 2 ^ 32 → AreStillLeft v.pattern.side v.cells rest slot → (region : ℕ) → region < 2 ^ 32 → IsFirstRegion side free rest region
     → IsRegion v.pattern.side v.cells slot region × AreStillLeft v.pattern.side v.cells (bit_and rest (2 ^ 32 - 1 - region)) (slot + 1)
 slot_taken v good placed side free same is rest slot bits left region fits first = elim (cases_eq rest 0) [
@@ -107,23 +107,23 @@ slot_taken v good placed side free same is rest slot bits left region fits first
 
 -- ---- all placements of a block
 
-few_bits : (p : PatternView) → IsPattern p → (m : ℕ) → m < 2 ^ (p.side * p.side) → m < 2 ^ 32
+few_bits : (p : ShownPattern) → IsPattern p → (m : ℕ) → m < 2 ^ (p.side * p.side) → m < 2 ^ 32
 few_bits p pat m l = let few = few_cells p.side pat.low pat.high in let up : 2 ^ (p.side * p.side) ≤ 2 ^ 32 = pow-le-pow_right (lit< tt) (let k : p.side * p.side ≤ 32 = omega arith in k) in omega arith
 
-pub record AreTaken (p : PatternView) (placements : List PlacementView) (slot : ℕ) (free rest masks : List ℕ) : Type 0 where
-  pub left : (row : ℕ) (v : PlacementView) → row < length placements → slice_get placements row ≡ Some v → AreStillLeft p.side v.cells (get_or rest row 0) slot
-  pub each : (row j : ℕ) (v : PlacementView) → row < length placements → slice_get placements row ≡ Some v → j < slot → IsRegion p.side v.cells j (get_or masks (row * slot_count p + j) 0)
+pub record AreTaken (p : ShownPattern) (placements : List ShownPlacement) (slot : ℕ) (free rest masks : List ℕ) : Type 0 where
+  pub left : (row : ℕ) (v : ShownPlacement) → row < length placements → slice_get placements row ≡ Some v → AreStillLeft p.side v.cells (get_or rest row 0) slot
+  pub each : (row j : ℕ) (v : ShownPlacement) → row < length placements → slice_get placements row ≡ Some v → j < slot → IsRegion p.side v.cells j (get_or masks (row * slot_count p + j) 0)
   pub inside : (row c : ℕ) → row < 256 → bit_at (get_or rest row 0) c ≡ 1 → bit_at (get_or free row 0) c ≡ 1
 
 -- one placement more
-pub AreFree-start : (placements : List PlacementView) → AreFree placements 0 (replicate 256 0)
+pub AreFree-start : (placements : List ShownPlacement) → AreFree placements 0 (replicate 256 0)
 AreFree-start placements = record {
   len = length-replicate {A = ℕ} 256 0;
   each = λ row v l is. absurd (omega arith);
   behind = λ row past l. get_or-replicate {A = ℕ} 256 row 0 0 l;
 }
 
-pub AreFree-more : (placements : List PlacementView) (count : ℕ) (column : List ℕ) (v : PlacementView) (mask : ℕ) → count < 256 → slice_get placements count ≡ Some v
+pub AreFree-more : (placements : List ShownPlacement) (count : ℕ) (column : List ℕ) (v : ShownPlacement) (mask : ℕ) → count < 256 → slice_get placements count ≡ Some v
     → IsMaskOf mask (IsFree v.pattern.side v.cells) → mask < 2 ^ (v.pattern.side * v.pattern.side) → AreFree placements count column → AreFree placements (count + 1) (set column count mask)
 AreFree-more placements count column v mask low is cells fits are = record {
   len = length-set column count mask ∙ are.len;
@@ -166,7 +166,7 @@ module _ (masks old regions : List ℕ) (width slot row : ℕ) (low : slot < wid
       ]
 
 -- the masks of the board behind the placements too
-pub free_grows : (p : PatternView) (placements : List PlacementView) (free : List ℕ) → AreOf p placements → AreFree placements (length placements) free → (row : ℕ) → row < 256 → get_or free row 0 < 2 ^ (p.side * p.side)
+pub free_grows : (p : ShownPattern) (placements : List ShownPlacement) (free : List ℕ) → AreOf p placements → AreFree placements (length placements) free → (row : ℕ) → row < 256 → get_or free row 0 < 2 ^ (p.side * p.side)
 free_grows p placements free of are row l = elim (cases_lt row (length placements)) [
   | inl low ↦
       let v = get_or_some placements row low in
@@ -174,12 +174,12 @@ free_grows p placements free of are row l = elim (cases_lt row (length placement
   | inr past ↦ let empty = are.behind row past l in let some = pow_pos (p.side * p.side) in omega arith
 ]
   where
-    get_or_some : (vs : List PlacementView) (i : ℕ) → i < length vs → (v : PlacementView) × (slice_get vs i ≡ Some v)
+    get_or_some : (vs : List ShownPlacement) (i : ℕ) → i < length vs → (v : ShownPlacement) × (slice_get vs i ≡ Some v)
     get_or_some [] i l = absurd (omega arith)
     get_or_some (v ∷ vs) zero l = (v, refl)
     get_or_some (v ∷ vs) (suc i) l = get_or_some vs i (omega arith)
 
-pub AreTaken-grow : (p : PatternView) (placements : List PlacementView) (slot : ℕ) (free rest masks : List ℕ) → AreOf p placements → AreFree placements (length placements) free → length rest ≡ 256
+pub AreTaken-grow : (p : ShownPattern) (placements : List ShownPlacement) (slot : ℕ) (free rest masks : List ℕ) → AreOf p placements → AreFree placements (length placements) free → length rest ≡ 256
     → AreTaken p placements slot free rest masks → AllMayGrow p.side rest free
 AreTaken-grow p placements slot free rest masks of are long taken = record {
   lengths = long ∙ sym are.len;
@@ -189,7 +189,7 @@ AreTaken-grow p placements slot free rest masks of are long taken = record {
   };
 }
 
-module _ (p : PatternView) (pat : IsPattern p) (placements : List PlacementView) (few : length placements ≤ 256) (of : AreOf p placements) (free : List ℕ) (are : AreFree placements (length placements) free) where
+module _ (p : ShownPattern) (pat : IsPattern p) (placements : List ShownPlacement) (few : length placements ≤ 256) (of : AreOf p placements) (free : List ℕ) (are : AreFree placements (length placements) free) where
   pub AreTaken-start : (masks : List ℕ) → AreTaken p placements 0 free free masks
   AreTaken-start masks = record {
     left = λ row v l is.
@@ -218,7 +218,7 @@ module _ (p : PatternView) (pat : IsPattern p) (placements : List PlacementView)
     inside = λ row c l one. is_taken.inside row c l (both_in (get_or rest row 0) (2 ^ 32 - 1 - get_or regions row 0) c (ap (λ m. bit_at m c) (sym (out row l)) ∙ one)).0;
   }
     where
-      of_row : (row : ℕ) (v : PlacementView) → row < length placements → slice_get placements row ≡ Some v
+      of_row : (row : ℕ) (v : ShownPlacement) → row < length placements → slice_get placements row ≡ Some v
           → IsRegion p.side v.cells slot (get_or regions row 0) × AreStillLeft p.side v.cells (bit_and (get_or rest row 0) (2 ^ 32 - 1 - get_or regions row 0)) (slot + 1)
       of_row row v l is =
           let same = (of row v is).0 in

@@ -2,7 +2,7 @@
 use Rattle.std.proofs.Common.{◌≡◌, ℕ, List, inl, inr, sym, ◌∙◌, ap, arith}
 use Rattle.std.specs.Int.{bit_at}
 use Rattle.std.proofs.lemmas.Nat.Bits.{bit_at-lt, bit_at-zero, same_from_bits}
-use Rattle.pat_place.specs.Patterns.{PatternView, IsPattern}
+use Rattle.pat_place.specs.Patterns.{ShownPattern, IsPattern}
 use Rattle.tab_columns.specs.Columns.{IsKindByMask, no_region as by_none, goal as by_goal, other as by_other}
 use Rattle.tab_rule.specs.Entries.{HasNoRegion, HasRegion}
 use Rattle.tab_rule.specs.LocalRule.{IsGoalSlot, IsKindOf, no_region, goal, other}
@@ -15,7 +15,7 @@ empty_region n cells j none c = (λ one. absurd (let z = bit_at-zero c in omega 
 
 -- ---- the kind of a slot by the mask of its region
 
-module _ (p : PatternView) (pat : IsPattern p) (cells : List ℕ) (j mask : ℕ) (is : IsRegion p.side cells j mask) where
+module _ (p : ShownPattern) (pat : IsPattern p) (cells : List ℕ) (j mask : ℕ) (is : IsRegion p.side cells j mask) where
   none_of_zero : mask ≡ 0 → HasNoRegion p.side cells j
   none_of_zero zero c slot = let one = (is c).1 slot in let z = ap (λ m. bit_at m c) zero ∙ bit_at-zero c in omega arith
 

@@ -4,8 +4,8 @@ use Rattle.std.specs.Prelude.{◌↔◌, slice_get}
 use Rattle.std.proofs.lemmas.Bool.{cases_lt}
 use Rattle.std.proofs.lemmas.List.{get_or-drop, get_or-take, length-take-le}
 use Rattle.std.proofs.Math.Nat.{mul-le-mul_right}
-use Rattle.pat_place.specs.Patterns.{PatternView}
-use Rattle.pat_place.specs.Placements.{PlacementView}
+use Rattle.pat_place.specs.Patterns.{ShownPattern}
+use Rattle.pat_place.specs.Placements.{ShownPlacement}
 use Rattle.tab_lanes.specs.LocalRule.{AllPlacesKeepRule, IsFirstBreach, KeepsRuleAt, KeepsRuleOfKind}
 use Rattle.tab_file.specs.Tables.{Table, IsTable, placement_count, slot_count}
 use Rattle.tab_rule.specs.Blocks.{BlockKeepsRule, IsLeastBadIn}
@@ -24,7 +24,7 @@ pub record IsBlock (t : Table) (block count w : ℕ) : Type 0 where
   pub within : block * 256 * w + count * w ≤ length t.entries
   pub few : count * w ≤ 2048
 
-pub block_is : {t : Table} {p : PatternView} {block all count w : ℕ} → IsTable t → block < (placement_count t.pattern + 255) / 256 → p ≡ t.pattern → all ≡ placement_count p → count ≡ min (all - block * 256) 256 → w ≡ slot_count p
+pub block_is : {t : Table} {p : ShownPattern} {block all count w : ℕ} → IsTable t → block < (placement_count t.pattern + 255) / 256 → p ≡ t.pattern → all ≡ placement_count p → count ≡ min (all - block * 256) 256 → w ≡ slot_count p
     → IsBlock t block count w
 block_is {t = t} {p = p} {block = block} {all = all} {count = count} {w = w} table some same all_is least_is w_is =
     let counted : count ≡ min (placement_count t.pattern - block * 256) 256 = least_is ∙ ap (λ k. min (k - block * 256) 256) (all_is ∙ ap placement_count same) in
@@ -49,7 +49,7 @@ pub record TellOf (t : Table) (block w : ℕ) (own mins marks : List ℕ) : Type
   pub keep : AllPlacesKeepRule own mins marks → BlockKeepsRule t block
   pub bad : (place : ℕ) → IsFirstBreach own mins marks place → IsLeastBadIn t block (block * 256 * w + place)
 
-module _ (t : Table) (block count : ℕ) (is : IsBlock t block count (slot_count t.pattern)) (ps : List PlacementView) (ranks : HaveRanks t.pattern (block * 256) ps) (long : length ps ≡ count)
+module _ (t : Table) (block count : ℕ) (is : IsBlock t block count (slot_count t.pattern)) (ps : List ShownPlacement) (ranks : HaveRanks t.pattern (block * 256) ps) (long : length ps ≡ count)
     (goal : ℕ) (home : IsGoalNumber t.pattern goal) (masks kinds least : List ℕ)
     (are_masks : EachSlot t.pattern ps (IsRegion t.pattern.side) (length ps) masks) (are_least : EachSlot t.pattern ps (IsLeastNear t) (length ps) least)
     (are_kinds : (i : ℕ) → i < 2048 → IsKindByMask (get_or masks i 0) (block * 256 * slot_count t.pattern + i ≡ goal) (get_or kinds i 0)) where
@@ -71,7 +71,7 @@ module _ (t : Table) (block count : ℕ) (is : IsBlock t block count (slot_count
   whole : (count ≡ 256) ⊎ (placement_count t.pattern ≤ block * 256 + count)
   whole = let counted = is.counted in elim (cases_lt 256 (placement_count t.pattern - block * 256)) [ inl l ↦ inl (omega arith) | inr l ↦ inr (omega arith) ]
 
-  rule : (row j : ℕ) (v : PlacementView) → row < count → slice_get ps row ≡ Some v → j < slot_count t.pattern
+  rule : (row j : ℕ) (v : ShownPlacement) → row < count → slice_get ps row ≡ Some v → j < slot_count t.pattern
       → KeepsRuleAt block_entries (take len least) (take len kinds) (row * slot_count t.pattern + j) ↔ LocalRule t v.cells j (get_or block_entries (row * slot_count t.pattern + j) 0)
   rule row j v l get slot =
       let i : ℕ = row * slot_count t.pattern + j in
@@ -87,7 +87,7 @@ module _ (t : Table) (block count : ℕ) (is : IsBlock t block count (slot_count
     bad = block_least_bad t is.table block count ps ranks long most whole block_entries (take len least) (take len kinds) (length-own is) read rule;
   }
 
-pub parts_tell : {t : Table} {p : PatternView} {block count w goal : ℕ} {entries own mins marks : List ℕ} (ps : List PlacementView) (masks kinds least : List ℕ) → IsBlock t block count w → p ≡ t.pattern → HaveRanks p (block * 256) ps → length ps ≡ count
+pub parts_tell : {t : Table} {p : ShownPattern} {block count w goal : ℕ} {entries own mins marks : List ℕ} (ps : List ShownPlacement) (masks kinds least : List ℕ) → IsBlock t block count w → p ≡ t.pattern → HaveRanks p (block * 256) ps → length ps ≡ count
     → IsGoalNumber t.pattern goal
     → EachSlot t.pattern ps (IsRegion t.pattern.side) (length ps) masks → EachSlot t.pattern ps (IsLeastNear t) (length ps) least
     → ((i : ℕ) → i < 2048 → IsKindByMask (get_or masks i 0) (block * 256 * w + i ≡ goal) (get_or kinds i 0))

@@ -6,7 +6,7 @@ use Rattle.puz_board.specs.declared.moves.Move.{Move}
 use Rattle.puz_board.specs.declared.moves.Move.TheVariants.{Up, Down, Left, Right}
 use Rattle.puz_board.specs.Cells.{Adjacent, step_of, reverse_of}
 use Rattle.puz_board.proofs.CellLemmas.{reverse_of-takes_back}
-use Rattle.pat_place.specs.Placements.{PlacementView}
+use Rattle.pat_place.specs.Placements.{ShownPlacement}
 use Rattle.pat_place.specs.Regions.{IsSlot}
 use Rattle.pat_place.proofs.ListLemmas.{Some-one, all_at}
 use Rattle.pat_place.proofs.SlotLemmas.{slot_one}
@@ -17,7 +17,7 @@ use Rattle.tab_columns.specs.Moves.{IsEntryAfter, IsEntryAmong, IsEntryTowards, 
 use Rattle.tab_rule.proofs.EntryLemmas.{entry_one}
 use Rattle.tab_rule.proofs.MoveLemmas.{IsLeastOf-min, IsLeastOf-none, IsLeastOf-one, IsLeastOf-same}
 
-module _ (t : Table) (p : PlacementView) (index cell : ℕ) (tile : IsTileIn t p index cell) where
+module _ (t : Table) (p : ShownPlacement) (index cell : ℕ) (tile : IsTileIn t p index cell) where
   table : IsTable t
   table = tile.0
 

@@ -3,8 +3,8 @@ use Rattle.std.specs.Prelude.{◌≡◌, ◌≢◌, ℕ, ◌+◌, ◌*◌, ◌^�
 use Rattle.std.specs.Int.{bit_at}
 use Rattle.puz_board.specs.Masks.{IsMaskOf}
 use Rattle.puz_board.specs.Paths.{Reaches}
-use Rattle.pat_place.specs.Patterns.{PatternView}
-use Rattle.pat_place.specs.Placements.{PlacementView, IsFree, IsPlacement}
+use Rattle.pat_place.specs.Patterns.{ShownPattern}
+use Rattle.pat_place.specs.Placements.{ShownPlacement, IsFree, IsPlacement}
 use Rattle.pat_place.specs.Ranks.{IsRank}
 use Rattle.tab_lanes.specs.LocalRule.{goal_slot, other_slot, without_region}
 use Rattle.tab_file.specs.Tables.{Table, IsTable, slot_count}
@@ -16,22 +16,22 @@ abbrev pub most_entries : ℕ
 most_entries = block_ranks * 8
 
 -- the placements of a list are those of the pattern
-abbrev pub AreOf : PatternView → List PlacementView → Type 0
-AreOf p placements = (row : ℕ) (placement : PlacementView) → slice_get placements row ≡ Some placement → (placement.pattern ≡ p) × IsPlacement placement
+abbrev pub AreOf : ShownPattern → List ShownPlacement → Type 0
+AreOf p placements = (row : ℕ) (placement : ShownPlacement) → slice_get placements row ≡ Some placement → (placement.pattern ≡ p) × IsPlacement placement
 
 -- and their ranks are this one and those behind it
-abbrev pub HaveRanks : PatternView → ℕ → List PlacementView → Type 0
+abbrev pub HaveRanks : ShownPattern → ℕ → List ShownPlacement → Type 0
 HaveRanks p first placements =
-    (row : ℕ) (placement : PlacementView) → slice_get placements row ≡ Some placement → (placement.pattern ≡ p) × IsPlacement placement × IsRank p.side placement.cells (first + row)
+    (row : ℕ) (placement : ShownPlacement) → slice_get placements row ≡ Some placement → (placement.pattern ≡ p) × IsPlacement placement × IsRank p.side placement.cells (first + row)
 
 -- each number of the column says this of its placement and slot, for so many of the placements
-abbrev pub EachSlot : PatternView → List PlacementView → (List ℕ → ℕ → ℕ → Type 0) → ℕ → List ℕ → Type 0
+abbrev pub EachSlot : ShownPattern → List ShownPlacement → (List ℕ → ℕ → ℕ → Type 0) → ℕ → List ℕ → Type 0
 EachSlot p placements Says count column =
-    (row j : ℕ) (placement : PlacementView) → row < count → slice_get placements row ≡ Some placement → j < slot_count p →
+    (row j : ℕ) (placement : ShownPlacement) → row < count → slice_get placements row ≡ Some placement → j < slot_count p →
     Says placement.cells j (slice_index column (row * slot_count p + j))
 
 -- some placements of the table's pattern, no more than a block has, and a column with the mask of each slot's region
-pub record AreColumnsOf (t : Table) (ps : List PlacementView) (masks : List ℕ) : Type 0 where
+pub record AreColumnsOf (t : Table) (ps : List ShownPlacement) (masks : List ℕ) : Type 0 where
   pub table : IsTable t
   pub few : length ps ≤ block_ranks
   pub placements : AreOf t.pattern ps
@@ -40,9 +40,9 @@ pub record AreColumnsOf (t : Table) (ps : List PlacementView) (masks : List ℕ)
 -- ---- masks of cells, one for each placement
 
 -- those of the first placements are their free cells, and behind them stand masks without cells
-pub record AreFree (placements : List PlacementView) (count : ℕ) (column : List ℕ) : Type 0 where
+pub record AreFree (placements : List ShownPlacement) (count : ℕ) (column : List ℕ) : Type 0 where
   pub len : length column ≡ block_ranks
-  pub each : (row : ℕ) (placement : PlacementView) → row < count → slice_get placements row ≡ Some placement →
+  pub each : (row : ℕ) (placement : ShownPlacement) → row < count → slice_get placements row ≡ Some placement →
       IsMaskOf (slice_index column row) (IsFree placement.pattern.side placement.cells) × (slice_index column row < 2 ^ (placement.pattern.side * placement.pattern.side))
   pub behind : (row : ℕ) → count ≤ row → row < block_ranks → slice_index column row ≡ 0
 

@@ -3,7 +3,7 @@ use Rattle.std.specs.Prelude.{◌≡◌, ◌≢◌, ℕ, ◌<◌, List, length, 
 use Rattle.puz_board.specs.Cells.{step_of}
 use Rattle.puz_board.specs.declared.moves.Move.{Move}
 use Rattle.puz_board.specs.Masks.{IsMaskOf}
-use Rattle.pat_place.specs.Placements.{PlacementView, IsPlacement}
+use Rattle.pat_place.specs.Placements.{ShownPlacement, IsPlacement}
 use Rattle.pat_place.specs.Regions.{IsSlot}
 use Rattle.tab_file.specs.Tables.{Table, IsTable, slot_count}
 use Rattle.tab_rule.specs.Entries.{IsEntryAt}
@@ -11,7 +11,7 @@ use Rattle.tab_file.specs.EntryBytes.{no_way_home}
 use Rattle.tab_rule.specs.LocalRule.{IsLeastOf, MayMove}
 
 -- a tile of a placement of the table's pattern, by its index, and the cell that it is in
-abbrev pub IsTileIn : Table → PlacementView → ℕ → ℕ → Type 0
+abbrev pub IsTileIn : Table → ShownPlacement → ℕ → ℕ → Type 0
 IsTileIn t p index cell = IsTable t × (p.pattern ≡ t.pattern) × IsPlacement p × (index < length p.cells) × (slice_index p.cells index ≡ cell)
 
 -- the mask has the cells of the slot

@@ -7,7 +7,7 @@ use Rattle.std.proofs.lemmas.Bool.{and_from, and_parts, both_ways, cases_Bool, c
 use Rattle.std.proofs.Math.Seq.{take-length}
 use Rattle.std.proofs.lemmas.Slice.Eq.{bytes_eq-Decides}
 use Rattle.puz_board.specs.Masks.{numbers_of}
-use Rattle.pat_place.specs.Patterns.{PatternView, IsAscending, IsPattern, most_tiles}
+use Rattle.pat_place.specs.Patterns.{ShownPattern, IsAscending, IsPattern, most_tiles}
 use Rattle.pat_place.proofs.MaskLemmas.{ascending-numbers_below}
 use Rattle.byteorder.specs.Endian.{big_number}
 use Rattle.tab_file.specs.Tables.{Table, entry_count}
@@ -39,7 +39,7 @@ tiles_from_test m (x ∷ xs) e =
     let one = and_parts (nat_lt 0 x) (nat_lt x m) parts.0 in
     ((ltb-true 0 x one.0, ltb-true x m one.1), tiles_from_test m xs parts.1)
 
-is_pattern-true : (p : PatternView) → IsPattern p → is_pattern p ≡ true
+is_pattern-true : (p : ShownPattern) → IsPattern p → is_pattern p ≡ true
 is_pattern-true p good =
     and_from _ _
     (and_from _ _
@@ -49,7 +49,7 @@ is_pattern-true p good =
     (lt-ltb 0 (length p.tiles) good.some))
     (le-leb (length p.tiles) (most_tiles p.side) good.most)
 
-is_pattern-from : (p : PatternView) → IsAscending p.tiles → is_pattern p ≡ true → IsPattern p
+is_pattern-from : (p : ShownPattern) → IsAscending p.tiles → is_pattern p ≡ true → IsPattern p
 is_pattern-from p up e =
     let most = and_parts (nat_le 2 p.side && nat_le p.side 5 && list_all (λ t. nat_lt 0 t && nat_lt t (p.side * p.side)) p.tiles && nat_lt 0 (length p.tiles)) (nat_le (length p.tiles) (most_tiles p.side)) e in
     let some = and_parts (nat_le 2 p.side && nat_le p.side 5 && list_all (λ t. nat_lt 0 t && nat_lt t (p.side * p.side)) p.tiles) (nat_lt 0 (length p.tiles)) most.0 in
@@ -221,11 +221,11 @@ begins-test file r e begins = e ∙ (bytes_eq-Decides table_signature (take 5 fi
 pub drop-rest : (i : ℕ) (file : List ℕ) → take (length file - i) (drop i file) ≡ drop i file
 drop-rest i file = ap (λ n. take n (drop i file)) (sym (length-drop i file)) ∙ take-length (drop i file)
 
-pub pattern_named : (file : List ℕ) (side mask : ℕ) → side ≡ side_in file → mask ≡ big_number 4 (take (length file - 8) (drop 8 file)) → let p : PatternView = record { side = side; tiles = numbers_of mask } in p ≡ pattern_in file
+pub pattern_named : (file : List ℕ) (side mask : ℕ) → side ≡ side_in file → mask ≡ big_number 4 (take (length file - 8) (drop 8 file)) → let p : ShownPattern = record { side = side; tiles = numbers_of mask } in p ≡ pattern_in file
 pattern_named file side mask e f = λ i. record { side = e i; tiles = numbers_of (is_mask i) }
   where
     is_mask : mask ≡ big_number 4 (drop 8 file)
     is_mask = f ∙ ap (big_number 4) (drop-rest 8 file)
 
-pub table_named : (file : List ℕ) {p : PatternView} → p ≡ pattern_in file → let t : Table = record { pattern = p; entries = take (length file - 20) (drop 20 file) } in t ≡ table_in file
+pub table_named : (file : List ℕ) {p : ShownPattern} → p ≡ pattern_in file → let t : Table = record { pattern = p; entries = take (length file - 20) (drop 20 file) } in t ≡ table_in file
 table_named file e = λ i. record { pattern = e i; entries = drop-rest 20 file i }

@@ -3,7 +3,7 @@ use Rattle.std.proofs.Common.{◌≡◌, ℕ, ◌^◌, ◌<◌, List, [], ◌∷
 use Rattle.byteorder.specs.Endian.{big_bytes}
 use Rattle.byteorder.specs.Numbers.{big_number-reads_back}
 use Rattle.puz_board.specs.Masks.{numbers_of}
-use Rattle.pat_place.specs.Patterns.{PatternView, IsPattern}
+use Rattle.pat_place.specs.Patterns.{ShownPattern, IsPattern}
 use Rattle.tab_file.specs.Tables.{entry_count}
 use Rattle.tab_file.specs.TableFiles.{IsTableFile, table_signature}
 use Rattle.tab_file.specs.HeadFaults.{table_of_file}
@@ -13,7 +13,7 @@ use Rattle.tab_file.proofs.FileLemmas.{table_of_file-file}
 abbrev written : ℕ → ℕ → ℕ → ℕ → List ℕ
 written side size mask count = table_signature ++ side ∷ size ∷ 0 ∷ [] ++ big_bytes 4 mask ++ big_bytes 8 count
 
-module _ (p : PatternView) (side size mask count : ℕ) (good : IsPattern p) (is_side : side ≡ p.side) (is_size : size ≡ length p.tiles) (is_mask : numbers_of mask ≡ p.tiles) (mask_fits : mask < 2 ^ 32) (is_count : count ≡ entry_count p) (count_fits : count < 2 ^ 64) (entries : List ℕ) (all : length entries ≡ entry_count p) where
+module _ (p : ShownPattern) (side size mask count : ℕ) (good : IsPattern p) (is_side : side ≡ p.side) (is_size : size ≡ length p.tiles) (is_mask : numbers_of mask ≡ p.tiles) (mask_fits : mask < 2 ^ 32) (is_count : count ≡ entry_count p) (count_fits : count < 2 ^ 64) (entries : List ℕ) (all : length entries ≡ entry_count p) where
   pub IsTableFile-written : IsTableFile (record { pattern = p; entries = entries }) (written side size mask count ++ entries)
   IsTableFile-written = record {
     table = record { pattern = good; entries = all };

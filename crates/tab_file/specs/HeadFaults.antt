@@ -3,14 +3,14 @@ use Rattle.std.specs.Prelude.{◌≡◌, ◌≢◌, ℕ, ◌+◌, ◌*◌, ◌<�
 use Rattle.std.specs.List.{AllByRecursion, list_all, starts_with}
 use Rattle.std.specs.Option.{option_map_or}
 use Rattle.puz_board.specs.Masks.{numbers_of}
-use Rattle.pat_place.specs.Patterns.{PatternView, IsPattern, most_tiles}
+use Rattle.pat_place.specs.Patterns.{ShownPattern, IsPattern, most_tiles}
 use Rattle.tab_file.specs.Tables.{Table, entry_count}
 use Rattle.tab_file.specs.TableFiles.{table_signature, side_in, size_in, spare_in, mask_in, entry_count_in}
 use Rattle.tab_file.specs.declared.headers.HeadFault.{HeadFault}
 use Rattle.tab_file.specs.declared.headers.HeadFault.TheVariants.{T1, T2, T3, T4, T5, T6}
 
 -- the pattern that the side and the mask of a header name
-abbrev pub pattern_in : List ℕ → PatternView
+abbrev pub pattern_in : List ℕ → ShownPattern
 pattern_in file = record { side = side_in file; tiles = numbers_of (mask_in file) }
 
 -- ---- the faults, in their order
@@ -41,7 +41,7 @@ pub record IsFirstFault (fault : HeadFault) (file : List ℕ) : Type 0 where
 -- ---- the same as tests
 
 -- whether tiles that ascend make a pattern
-abbrev pub is_pattern : PatternView → Bool
+abbrev pub is_pattern : ShownPattern → Bool
 is_pattern p =
     nat_le 2 p.side && nat_le p.side 5 && list_all (λ t. nat_lt 0 t && nat_lt t (p.side * p.side)) p.tiles &&
     nat_lt 0 (length p.tiles) && nat_le (length p.tiles) (most_tiles p.side)

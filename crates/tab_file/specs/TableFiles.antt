@@ -1,9 +1,9 @@
 -- Table files: 20 bytes of header, and behind them the entries, a byte for each.
 -- The places of bytes are counted from 0, and a number of several bytes has its highest byte first.
-use Rattle.std.specs.Prelude.{◌≡◌, ℕ, ◌≤◌, List, [], ◌∷◌, ◌++◌, codes, drop, length, slice_index, take}
+use Rattle.std.specs.Prelude.{◌≡◌, ℕ, ◌≤◌, ◌^◌, List, [], ◌∷◌, ◌++◌, codes, drop, length, slice_index, take}
 use Rattle.byteorder.specs.Endian.{big_number}
 use Rattle.puz_board.specs.Masks.{numbers_of}
-use Rattle.pat_place.specs.Patterns.{PatternView}
+use Rattle.pat_place.specs.Patterns.{ShownPattern}
 use Rattle.tab_file.specs.Tables.{Table, IsTable, entry_count}
 
 -- ---- the fields of a header
@@ -34,8 +34,12 @@ entry_count_in file = big_number 8 (drop 12 file)
 
 -- ---- table files
 
+-- the most bytes of one
+abbrev pub most_table_bytes : ℕ
+most_table_bytes = 2 ^ 32
+
 -- the first 20 bytes are the header of the pattern
-pub record IsTableHeader (p : PatternView) (file : List ℕ) : Type 0 where
+pub record IsTableHeader (p : ShownPattern) (file : List ℕ) : Type 0 where
   pub room : 20 ≤ length file
   pub begins : take 5 file ≡ table_signature
   pub side : side_in file ≡ p.side

@@ -12,6 +12,9 @@ use pat_place::Pattern;
 /// How many bytes a header has.
 pub const HEADER_LEN: usize = 20;
 
+/// The most bytes of a table file.
+pub const MOST_BYTES: u64 = 1 << 32;
+
 /// How a header begins: the letters of the format, and its version.
 pub(crate) const SIGNATURE: &[u8; 5] = b"PDBT\x01";
 

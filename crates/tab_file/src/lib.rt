@@ -6,5 +6,5 @@ mod headers;
 mod views;
 
 pub use entries::{GREATEST_COUNT, NO_REGION, NO_WAY_HOME};
-pub use headers::{HEADER_LEN, HeadFault, header_of};
+pub use headers::{HEADER_LEN, HeadFault, MOST_BYTES, header_of};
 pub use views::{TableView, view};

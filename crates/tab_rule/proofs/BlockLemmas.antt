@@ -3,8 +3,8 @@ use Rattle.std.proofs.Common.{◌≡◌, ℕ, ◌+◌, ◌*◌, ◌/◌, ◌^◌
 use Rattle.std.specs.Prelude.{MatchBool, slice_get, slice_index}
 use Rattle.std.proofs.lemmas.Bool.{cases_lt}
 use Rattle.std.proofs.Math.Nat.{mul-le-mul_left, mul-le-mul_right}
-use Rattle.pat_place.specs.Patterns.{PatternView, IsPattern}
-use Rattle.pat_place.specs.Placements.{PlacementView, IsPlacement}
+use Rattle.pat_place.specs.Patterns.{ShownPattern, IsPattern}
+use Rattle.pat_place.specs.Placements.{ShownPlacement, IsPlacement}
 use Rattle.pat_place.specs.Ranks.{IsRank, placements}
 use Rattle.pat_place.proofs.CountLemmas.{few_placements}
 use Rattle.pat_place.proofs.ListLemmas.{Some-one}
@@ -13,6 +13,7 @@ use Rattle.tab_file.specs.Tables.{Table, entry_at, placement_count, slot_count}
 use Rattle.tab_rule.specs.BadEntries.{IsBad, KeepsRule}
 use Rattle.tab_rule.specs.Blocks.{BlockKeepsRule, IsLeastBadIn, first_of_block}
 use Rattle.tab_rule.specs.LocalRule.{LocalRule}
+use Rattle.tab_rule.proofs.EntryNumberLemmas.{entry_cells, entry_number, entry_rank_below}
 
 -- ---- one placement of a block
 
@@ -31,7 +32,7 @@ pub record IsFirstBadSlot (t : Table) (cells : List ℕ) (rank slot : ℕ) : Typ
 pub same_cells : (n : ℕ) (cells other : List ℕ) (r : ℕ) → length cells ≡ length other → IsRank n cells r → IsRank n other r → cells ≡ other
 same_cells n cells other r e is also = Some-one cells other (sym (subst (λ k. slice_get (placements n k) r ≡ Some cells) e is) ∙ also)
 
-module _ (t : Table) (p : PlacementView) (same : p.pattern ≡ t.pattern) (place : IsPlacement p) (r : ℕ) (is : IsRank t.pattern.side p.cells r) where
+module _ (t : Table) (p : ShownPlacement) (same : p.pattern ≡ t.pattern) (place : IsPlacement p) (r : ℕ) (is : IsRank t.pattern.side p.cells r) where
   size : length p.cells ≡ length t.pattern.tiles
   size = place.size ∙ ap (λ q. length q.tiles) same
 
@@ -40,7 +41,7 @@ module _ (t : Table) (p : PlacementView) (same : p.pattern ≡ t.pattern) (place
 
 -- ---- the next placement
 
-pub next_rank : (p : PatternView) (old : PlacementView) (new : List ℕ) (b : Bool) (r : ℕ) → old.pattern ≡ p → IsPlacement old → IsRank p.side old.cells r → r + 1 < placement_count p
+pub next_rank : (p : ShownPattern) (old : ShownPlacement) (new : List ℕ) (b : Bool) (r : ℕ) → old.pattern ≡ p → IsPlacement old → IsRank p.side old.cells r → r + 1 < placement_count p
     → ((r : ℕ) → IsRank old.pattern.side old.cells r → MatchBool b (IsRank old.pattern.side new (r + 1)) (r + 1 ≡ length (placements old.pattern.side (length old.cells)))) → IsRank p.side new (r + 1)
 next_rank p old new b r same place is low step = go b (step r (subst (λ q. IsRank q.side old.cells r) (sym same) is))
   where
@@ -58,10 +59,10 @@ rank_low r j w m l = elim (cases_lt r m) [ inl k ↦ k | inr k ↦ absurd (let h
 pub rank_high : (r j w m : ℕ) → j < w → m * w ≤ r * w + j → m ≤ r
 rank_high r j w m low l = elim (cases_lt r m) [ inr k ↦ k | inl k ↦ absurd (let h : (r + 1) * w ≤ m * w = mul-le-mul_right w (let s : r + 1 ≤ m = omega arith in s) in omega arith) ]
 
-pub first_fits : (p : PatternView) → IsPattern p → (block : ℕ) → block < (placement_count p + 255) / 256 → block * 256 + 256 < 2 ^ 64
+pub first_fits : (p : ShownPattern) → IsPattern p → (block : ℕ) → block < (placement_count p + 255) / 256 → block * 256 + 256 < 2 ^ 64
 first_fits p pat block l = let few = few_placements p pat in omega arith
 
-pub number_fits : (p : PatternView) → IsPattern p → (r w j : ℕ) → r < placement_count p → w < 256 → j < 256 → r * w + j < 2 ^ 64
+pub number_fits : (p : ShownPattern) → IsPattern p → (r w j : ℕ) → r < placement_count p → w < 256 → j < 256 → r * w + j < 2 ^ 64
 number_fits p pat r w j l fit low =
     let few = few_placements p pat in
     let most : r * w ≤ r * 255 = mul-le-mul_left r (let k : w ≤ 255 = omega arith in k) in
@@ -79,7 +80,7 @@ module _ (t : Table) where
         let low : number_is.rank < place + 1 = rank_low number_is.rank j (slot_count t.pattern) (place + 1) (omega arith) in
         let high : place ≤ number_is.rank = rank_high number_is.rank j (slot_count t.pattern) place number_is.slot (omega arith) in
         let same : number_is.rank ≡ place = omega arith in
-        let one : cells ≡ others = same_cells t.pattern.side cells others place (size ∙ sym number_is.placement.size) is (subst (IsRank t.pattern.side others) same number_is.is_rank) in
+        let one : cells ≡ others = entry_cells number_is cells place size is (sym same) in
         let here : place * slot_count t.pattern + j ≡ number = ap (λ r. r * slot_count t.pattern + j) (sym same) ∙ sym counted in
         subst (λ e. LocalRule t others j (slice_index t.entries e)) here (subst (λ q. LocalRule t q j (entry_at t place j)) one (keeps j number_is.slot))
   ]
@@ -91,19 +92,19 @@ module _ (t : Table) where
       let counted : number ≡ number_is.rank * slot_count t.pattern + j = number_is.counted in
       let to : number < (block + 1) * 256 * slot_count t.pattern = inside.to in
       let low : number_is.rank < (block + 1) * 256 = rank_low number_is.rank j (slot_count t.pattern) ((block + 1) * 256) (omega arith) in
-      let below : number_is.rank < placement_count t.pattern = subst (λ k. number_is.rank < length (placements t.pattern.side k)) number_is.placement.size (IsRank-below t.pattern.side cells number_is.rank number_is.is_rank) in
+      let below : number_is.rank < placement_count t.pattern = entry_rank_below number_is in
       let r_low : number_is.rank < place = past number_is.rank low below in
       let next : (number_is.rank + 1) * slot_count t.pattern ≤ place * slot_count t.pattern = mul-le-mul_right (slot_count t.pattern) (let s : number_is.rank + 1 ≤ place = omega arith in s) in
       let slot : j < slot_count t.pattern = number_is.slot in
       before number inside.from (omega arith) cells j number_is
 
   -- the first bad slot of the first placement that has one is the least bad entry
-  pub least_bad_in : (block place slot : ℕ) (p : PlacementView) → p.pattern ≡ t.pattern → IsPlacement p → IsRank t.pattern.side p.cells place
+  pub least_bad_in : (block place slot : ℕ) (p : ShownPlacement) → p.pattern ≡ t.pattern → IsPlacement p → IsRank t.pattern.side p.cells place
       → block * 256 ≤ place → place < (block + 1) * 256 → IsFirstBadSlot t p.cells place slot
       → ((number : ℕ) → first_of_block t.pattern block ≤ number → number < place * slot_count t.pattern → KeepsRule t number)
       → IsLeastBadIn t block (place * slot_count t.pattern + slot)
   least_bad_in block place slot p same is is_rank from to bad before =
-      let placed : IsPlacement (record { pattern = t.pattern; cells = p.cells }) = subst (λ q. IsPlacement (record { pattern = q; cells = p.cells })) same is in
+      let size : length p.cells ≡ length t.pattern.tiles = is.size ∙ ap (λ q. length q.tiles) same in
       let low : slot < slot_count t.pattern = bad.slot_low in
       let at_first : block * 256 * slot_count t.pattern ≤ place * slot_count t.pattern = mul-le-mul_right (slot_count t.pattern) from in
       let at_end : (place + 1) * slot_count t.pattern ≤ (block + 1) * 256 * slot_count t.pattern = mul-le-mul_right (slot_count t.pattern) (let s : place + 1 ≤ (block + 1) * 256 = omega arith in s) in
@@ -112,10 +113,10 @@ module _ (t : Table) where
         bad = record {
           cells = p.cells;
           slot = slot;
-          is_number = record { placement = placed; rank = place; is_rank = is_rank; slot = low; counted = refl };
+          is_number = entry_number place size is_rank low refl;
           breaks = bad.breaks;
         };
-        least = λ other inside breaks. least p.cells placed.size is_rank bad before other inside.from breaks;
+        least = λ other inside breaks. least p.cells size is_rank bad before other inside.from breaks;
       }
     where
       least : (cells : List ℕ) → length cells ≡ length t.pattern.tiles → IsRank t.pattern.side cells place → IsFirstBadSlot t cells place slot
@@ -132,7 +133,7 @@ module _ (t : Table) where
               let r_low : number_is.rank < place + 1 = rank_low number_is.rank breaks.slot (slot_count t.pattern) (place + 1) (omega arith) in
               let r_high : place ≤ number_is.rank = rank_high number_is.rank breaks.slot (slot_count t.pattern) place number_is.slot (omega arith) in
               let same : number_is.rank ≡ place = omega arith in
-              let one : cells ≡ breaks.cells = same_cells t.pattern.side cells breaks.cells place (size ∙ sym number_is.placement.size) is_rank (subst (IsRank t.pattern.side breaks.cells) same number_is.is_rank) in
+              let one : cells ≡ breaks.cells = entry_cells number_is cells place size is_rank (sym same) in
               let here : place * slot_count t.pattern + breaks.slot ≡ other = ap (λ r. r * slot_count t.pattern + breaks.slot) (sym same) ∙ sym counted in
               let slot_low : breaks.slot < slot = omega arith in
               absurd (breaks.breaks (subst (λ e. LocalRule t breaks.cells breaks.slot (slice_index t.entries e)) here (subst (λ q. LocalRule t q breaks.slot (entry_at t place breaks.slot)) one (bad.below breaks.slot slot_low))))

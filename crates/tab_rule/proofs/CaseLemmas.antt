@@ -2,7 +2,7 @@
 use Rattle.std.proofs.Common.{◌≡◌, ℕ, suc, ◌<◌, ◌≤◌, List, inl, inr, subst, arith, refl}
 use Rattle.std.specs.Prelude.{◌↔◌}
 use Rattle.std.proofs.lemmas.Bool.{cases_eq, cases_lt}
-use Rattle.pat_place.specs.Patterns.{PatternView, IsPattern}
+use Rattle.pat_place.specs.Patterns.{ShownPattern, IsPattern}
 use Rattle.pat_place.proofs.JoinLemmas.{Decided}
 use Rattle.tab_lanes.specs.LocalRule.{KeepsRuleOfKind, no_region as by_no_region, goal as by_goal, one_more as by_one_more, never as by_never}
 use Rattle.tab_file.specs.Tables.{Table}
@@ -20,7 +20,7 @@ IsLeastOf-only Has m k is also = let a = low m k is also in let b = low k m also
     low m k is also = elim also.reached [ inl full ↦ (let l = is.most in omega arith) | inr h ↦ is.least k h ]
 
 -- a slot has one kind
-kind_one : (p : PatternView) (cells : List ℕ) (j k l : ℕ) → IsKindOf p cells j k → IsKindOf p cells j l → k ≡ l
+kind_one : (p : ShownPattern) (cells : List ℕ) (j k l : ℕ) → IsKindOf p cells j k → IsKindOf p cells j l → k ≡ l
 kind_one p cells j k l (of_no_region none is) (of_no_region also other) = omega arith
 kind_one p cells j k l (of_no_region none is) (of_goal home other) = absurd (none 0 home.1)
 kind_one p cells j k l (of_no_region none is) (of_other has away other) = absurd (none has.cell has.in_slot)

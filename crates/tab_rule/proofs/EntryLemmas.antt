@@ -7,7 +7,7 @@ use Rattle.puz_board.specs.Boards.{blank}
 use Rattle.puz_board.specs.Cells.{Adjacent}
 use Rattle.puz_board.proofs.BoardWays.{State}
 use Rattle.pat_place.specs.BoardLaws.{HasBoard}
-use Rattle.pat_place.specs.Patterns.{PatternView, IsPattern, has, width}
+use Rattle.pat_place.specs.Patterns.{ShownPattern, IsPattern, has, width}
 use Rattle.pat_place.specs.Placements.{IsApart, IsFree}
 use Rattle.pat_place.specs.Regions.{IsSlot, here, onward}
 use Rattle.pat_place.proofs.BoardOf.{board_of}
@@ -18,6 +18,7 @@ use Rattle.pat_place.proofs.WidthLemmas.{slot_within}
 use Rattle.tab_file.specs.Tables.{slot_count}
 use Rattle.tab_rule.specs.Entries.{HasNoRegion, HasRegion, IsEntryAt, IsEntryNumber}
 use Rattle.tab_rule.specs.LocalRule.{IsNearEntry, MayMove}
+use Rattle.tab_rule.proofs.EntryNumberLemmas.{entry_number, entry_rank}
 use Rattle.tab_rule.proofs.NearLemmas.{IsFree-in, IsPlaced-in, one_from_near}
 use Rattle.tab_rule.proofs.Values.{IsConstant, IsNear, IsPlaced, table}
 
@@ -54,7 +55,7 @@ apart_decided (c ∷ cells) = elim (cases_Bool (has cells c)) [
   | inr f ↦ elim (apart_decided cells) [ inl h ↦ inl (f, h) | inr none ↦ inr (λ h. none h.1) ]
 ]
 
-pub placed_decided : (p : PatternView) (cells : List ℕ) → Decided (IsPlaced p cells)
+pub placed_decided : (p : ShownPattern) (cells : List ℕ) → Decided (IsPlaced p cells)
 placed_decided p cells = elim (cases_eq (length cells) (length p.tiles)) [
   | inr ne ↦ inr (λ h. ne h.size)
   | inl e ↦ elim (inside_decided (p.side * p.side) cells) [
@@ -63,7 +64,7 @@ placed_decided p cells = elim (cases_eq (length cells) (length p.tiles)) [
   ]
 ]
 
-module _ (p : PatternView) (pat : IsPattern p) where
+module _ (p : ShownPattern) (pat : IsPattern p) where
   -- ---- slots
 
   slot_in : (cells : List ℕ) (c j : ℕ) → IsPlaced p cells → IsSlot p.side cells c j → j < slot_count p
@@ -127,12 +128,14 @@ module _ (p : PatternView) (pat : IsPattern p) where
   -- ---- entries
 
   pub number_one : (cells : List ℕ) (j a b : ℕ) → IsEntryNumber p cells j a → IsEntryNumber p cells j b → a ≡ b
-  number_one cells j a b is also = is.counted ∙ ap (λ r. r * slot_count p + j) (IsRank-one p.side cells is.rank also.rank is.is_rank also.is_rank) ∙ sym also.counted
+  number_one cells j a b is also =
+      let same = IsRank-one p.side cells is.rank also.rank (entry_rank is) (entry_rank also) in
+      is.counted ∙ ap (λ r. r * slot_count p + j) same ∙ sym also.counted
 
   pub number_some : (cells : List ℕ) (c j : ℕ) → IsPlaced p cells → IsSlot p.side cells c j → (number : ℕ) × IsEntryNumber p cells j number
   number_some cells c j place is =
       let r = IsRank-some p.side cells place.inside place.apart in
-      (r.0 * slot_count p + j, record { placement = place; rank = r.0; is_rank = r.1; slot = slot_in cells c j place is; counted = refl })
+      (r.0 * slot_count p + j, entry_number r.0 place.size r.1 (slot_in cells c j place is) refl)
 
   module _ (entries : List ℕ) where
     pub entry_total : (cells : List ℕ) (c : ℕ) → IsPlaced p cells → IsFree p.side cells c → (e : ℕ) × IsEntryAt (table p entries) cells c e

@@ -4,7 +4,7 @@ use Rattle.std.specs.Prelude.{slice_index}
 use Rattle.puz_board.specs.Boards.{IsBoardOf, blank}
 use Rattle.puz_board.proofs.BoardWays.{State}
 use Rattle.pat_place.specs.BoardLaws.{HasBoard}
-use Rattle.pat_place.specs.Patterns.{PatternView, IsPattern}
+use Rattle.pat_place.specs.Patterns.{ShownPattern, IsPattern}
 use Rattle.pat_place.specs.Placements.{IsFree, placement_of}
 use Rattle.pat_place.specs.Regions.{IsSlot}
 use Rattle.pat_place.proofs.BoardOf.{board_of}
@@ -15,12 +15,13 @@ use Rattle.tab_rule.specs.ExactTables.{AreExact, SaysOfBoard}
 use Rattle.tab_rule.specs.LocalRule.{IsGoalSlot, IsLeastNear, IsNearEntry}
 use Rattle.tab_rule.proofs.CaseLemmas.{RuleCase, goal, never, no_region, one_more, rule_of_case}
 use Rattle.tab_rule.proofs.EntryLemmas.{decode, decode_large, decode_small, decode_some, entry_total, near_entry, near_from_move, near_valid, region_cases, value, value-constant, value-is}
+use Rattle.tab_rule.proofs.EntryNumberLemmas.{entry_placement}
 use Rattle.tab_rule.proofs.NearLemmas.{IsFree-in, IsPlaced-in}
 use Rattle.tab_rule.proofs.RuleLemmas.{exact_entries, region_from_slot, slot_from_region}
 use Rattle.tab_rule.proofs.ValueLemmas.{rule_from_exact}
 use Rattle.tab_rule.proofs.Values.{IsExactValue, IsNear, IsOneMore, IsPlaced, SaysCost, table}
 
-module _ (p : PatternView) (pat : IsPattern p) (entries : List ℕ) (exact : AreExact (table p entries)) where
+module _ (p : ShownPattern) (pat : IsPattern p) (entries : List ℕ) (exact : AreExact (table p entries)) where
   says_of : (cells : List ℕ) (c e : ℕ) → IsEntryAt (table p entries) cells c e → (b : List ℕ) → IsBoardOf p.side b → placement_of p.tiles b ≡ cells → blank b ≡ c → SaysOfBoard p.tiles b e
   says_of cells c e is b good same z =
       subst (SaysOfBoard p.tiles b) is.holds ((exact cells is.slot is.number is.is_number).boards b good same (subst (λ x. IsSlot p.side cells x is.slot) (sym z) is.is_slot))
@@ -121,9 +122,9 @@ module _ (p : PatternView) (pat : IsPattern p) (entries : List ℕ) (exact : Are
         away far (inr full) one = never region far (none_near (subst (IsOneMore p (value p pat entries) cells c) (known ∙ decode_large e (omega arith)) one)) full
 
   pub entries_keep : AllKeepRule (table p entries)
-  entries_keep number cells j is = rule_of_case (table p entries) cells j (slice_index entries number) pat is.placement (elim (region_cases p pat cells j) [
+  entries_keep number cells j is = rule_of_case (table p entries) cells j (slice_index entries number) pat (entry_placement is) (elim (region_cases p pat cells j) [
     | inr none ↦ no_region none ((exact cells j number is).no_region none)
-    | inl has ↦ rule_at cells has.cell j (slice_index entries number) is.placement has.in_slot
+    | inl has ↦ rule_at cells has.cell j (slice_index entries number) (entry_placement is) has.in_slot
         (record { slot = j; is_slot = has.in_slot; number = number; is_number = is; holds = refl })
   ])
 

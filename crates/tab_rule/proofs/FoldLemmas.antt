@@ -8,7 +8,7 @@ use Rattle.puz_board.specs.Boards.{IsBoard, IsBoardOf, blank, side_of}
 use Rattle.puz_board.specs.Costs.{LeadsHome, cost}
 use Rattle.puz_board.proofs.BoardLemmas.{cells_least, side_of-board}
 use Rattle.pat_place.specs.BoardLaws.{HasBoard}
-use Rattle.pat_place.specs.Patterns.{PatternView, width}
+use Rattle.pat_place.specs.Patterns.{ShownPattern, width}
 use Rattle.pat_place.specs.Placements.{IsFree, IsPlacement, placement_of}
 use Rattle.pat_place.specs.Ranks.{IsRank, placements}
 use Rattle.pat_place.specs.Regions.{IsSlot}
@@ -26,6 +26,7 @@ use Rattle.tab_rule.specs.LeastEntries.{IsLeastEntry}
 use Rattle.tab_rule.specs.declared.tables.Count.{Count}
 use Rattle.tab_rule.specs.declared.tables.Count.TheVariants.{Finite, Never}
 use Rattle.tab_rule.proofs.EntryLemmas.{region_cases}
+use Rattle.tab_rule.proofs.EntryNumberLemmas.{entry_number}
 
 -- ---- the least of some entries
 
@@ -86,7 +87,7 @@ module _ (xs : List ℕ) (e least : ℕ) (is : IsLeastEntry xs least) where
 
 module _ (t : Table) (is : IsExactTable t) (cells : List ℕ) (place : IsPlacement (record { pattern = t.pattern; cells = cells })) (r : ℕ) (is_rank : IsRank t.pattern.side cells r) where
   number_is : (j : ℕ) → j < slot_count t.pattern → IsEntryNumber t.pattern cells j (r * slot_count t.pattern + j)
-  number_is j low = record { placement = place; rank = r; is_rank = is_rank; slot = low; counted = refl }
+  number_is j low = entry_number r place.size is_rank low refl
 
   -- each board of the placement has a slot, and its entry says the board's least cost
   record Said (b : List ℕ) : Type 0 where
@@ -199,7 +200,7 @@ folded_all t is folded are = record {
 
 -- ---- a folded table tells a count of each board of its side
 
-pub says-folded : (p : PatternView) (b : List ℕ) → side_of b ≡ p.side → (e : ℕ) → SaysOfPlacement p (placement_of p.tiles b) e → IsFoldedCountOf p.tiles b (cond (eqb e 255) Never (Finite e))
+pub says-folded : (p : ShownPattern) (b : List ℕ) → side_of b ≡ p.side → (e : ℕ) → SaysOfPlacement p (placement_of p.tiles b) e → IsFoldedCountOf p.tiles b (cond (eqb e 255) Never (Finite e))
 says-folded p b side e says = elim says [
   | inl h ↦
       let finite : Finite e ≡ cond (eqb e 255) Never (Finite e) = sym (cond-false (eqb e 255) Never (Finite e) (ne_eqb e 255 (λ full. let l = h.0 in omega arith))) in
@@ -209,7 +210,7 @@ says-folded p b side e says = elim says [
       subst (IsFoldedCountOf p.tiles b) never (subst (λ n. IsFoldedNever n p.tiles (placement_of p.tiles b)) (sym side) h.1)
 ]
 
-pub folded_some : (p : PatternView) → HasFoldedTable p → (b : List ℕ) → IsBoardOf p.side b → (count : Count) × IsFoldedCountOf p.tiles b count
+pub folded_some : (p : ShownPattern) → HasFoldedTable p → (b : List ℕ) → IsBoardOf p.side b → (count : Count) × IsFoldedCountOf p.tiles b count
 folded_some p is b board =
     let side : side_of b ≡ p.side = side_of-board p.side b board in
     let good : IsBoard b = subst (λ n. IsBoardOf n b) (sym side) board in

@@ -3,6 +3,7 @@ pub mod BlockLemmas
 pub mod CaseLemmas
 mod DecidedLemmas
 pub mod EntryLemmas
+pub mod EntryNumberLemmas
 mod ExactLemmas
 pub mod FoldLemmas
 pub mod LookLemmas

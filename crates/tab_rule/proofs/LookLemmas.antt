@@ -6,8 +6,8 @@ use Rattle.puz_board.specs.Boards.{IsBoard, IsBoardOf, blank, cell_of, side_of}
 use Rattle.puz_board.proofs.BoardLemmas.{cells_least}
 use Rattle.puz_board.proofs.BoardWays.{State}
 use Rattle.pat_place.specs.BoardLaws.{HasBoard}
-use Rattle.pat_place.specs.Patterns.{PatternView, IsPattern}
-use Rattle.pat_place.specs.Placements.{PlacementView, IsFree, IsPlacement, cells_found, placement_of}
+use Rattle.pat_place.specs.Patterns.{ShownPattern, IsPattern}
+use Rattle.pat_place.specs.Placements.{ShownPlacement, IsFree, IsPlacement, cells_found, placement_of}
 use Rattle.pat_place.specs.Ranks.{IsRank}
 use Rattle.pat_place.specs.Regions.{IsLeader, IsSlot, here}
 use Rattle.pat_place.proofs.BoardOf.{board_of}
@@ -21,21 +21,22 @@ use Rattle.tab_rule.specs.ExactTables.{IsExactTable, SaysOfBoard}
 use Rattle.tab_rule.specs.declared.tables.Count.{Count}
 use Rattle.tab_rule.specs.declared.tables.Count.TheVariants.{Finite, Never}
 use Rattle.tab_rule.proofs.EntryLemmas.{entry_total}
+use Rattle.tab_rule.proofs.EntryNumberLemmas.{entry_number, entry_placement}
 use Rattle.tab_rule.proofs.NearLemmas.{IsFree-in, IsPlaced-in}
 
 -- the placement of a board
-abbrev pub placement_on : List ℕ → PatternView → PlacementView
+abbrev pub placement_on : List ℕ → ShownPattern → ShownPlacement
 placement_on b p = record { pattern = p; cells = placement_of p.tiles b }
 
 -- the same where the cell of each number was found
-pub placement_found : (b found : List ℕ) → IsBoard b → (p : PatternView) → IsPattern p → side_of b ≡ p.side → ((t : ℕ) → t < length b → slice_index found t ≡ cell_of t b) → (q : PatternView) → q ≡ p
+pub placement_found : (b found : List ℕ) → IsBoard b → (p : ShownPattern) → IsPattern p → side_of b ≡ p.side → ((t : ℕ) → t < length b → slice_index found t ≡ cell_of t b) → (q : ShownPattern) → q ≡ p
     → record { pattern = q; cells = cells_found q.tiles found } ≡ placement_on b p
 placement_found b found good p pat side each q same =
-    ap {B = PlacementView} (λ x. record { pattern = x; cells = cells_found x.tiles found }) same ∙
-    ap {B = PlacementView} (λ xs. record { pattern = p; cells = xs }) (cells_of_board b good p pat side found each)
+    ap {B = ShownPlacement} (λ x. record { pattern = x; cells = cells_found x.tiles found }) same ∙
+    ap {B = ShownPlacement} (λ xs. record { pattern = p; cells = xs }) (cells_of_board b good p pat side found each)
 
 -- the blank's cell is free
-pub free_blank : (p : PatternView) → IsPattern p → (b : List ℕ) → IsBoard b → side_of b ≡ p.side → IsFree p.side (placement_of p.tiles b) (blank b)
+pub free_blank : (p : ShownPattern) → IsPattern p → (b : List ℕ) → IsBoard b → side_of b ≡ p.side → IsFree p.side (placement_of p.tiles b) (blank b)
 free_blank p pat b good e =
     let board : IsBoardOf p.side b = subst (λ n. IsBoardOf n b) e good in
     IsFree-blank p.side p.tiles pat.tiles b board (let l = cells_least p.side b board in omega arith)
@@ -59,7 +60,7 @@ second_region n cells c j is l = elim (cases_eq j 1) [
 region_says : (t : Table) → IsExactTable t → (cells : List ℕ) (j number : ℕ) → IsEntryNumber t.pattern cells j number → HasRegion t.pattern.side cells j
     → slice_index t.entries number ≡ 254 → ⊥
 region_says t is cells j number number_is has empty =
-    let b : HasBoard (record { pattern = t.pattern; cells = cells }) has.cell = board_of (record { pattern = t.pattern; cells = cells }) is.is_table.pattern number_is.placement has.cell has.in_slot.free in
+    let b : HasBoard (record { pattern = t.pattern; cells = cells }) has.cell = board_of (record { pattern = t.pattern; cells = cells }) is.is_table.pattern (entry_placement number_is) has.cell has.in_slot.free in
     let says = (is.exact cells j number number_is).boards b.board b.is_board b.places (subst (λ c. IsSlot t.pattern.side cells c j) (sym b.blank_cell) has.in_slot) in
     elim says [ inl h ↦ (let few = h.0 in omega arith) | inr h ↦ (let full = h.0 in omega arith) ]
 
@@ -68,7 +69,7 @@ pub first_slot : (t : Table) → IsExactTable t → (cells : List ℕ) → IsPla
 first_slot t is cells place r c j is_rank wide empty in_slot = elim (cases_lt 0 j) [
   | inr l ↦ omega arith
   | inl l ↦ absurd (
-      region_says t is cells 1 (r * slot_count t.pattern + 1) (record { placement = place; rank = r; is_rank = is_rank; slot = wide; counted = refl }) (second_region t.pattern.side cells c j in_slot l) empty)
+      region_says t is cells 1 (r * slot_count t.pattern + 1) (entry_number r place.size is_rank wide refl) (second_region t.pattern.side cells c j in_slot l) empty)
 ]
 
 pub slot_first : (t : Table) → IsExactTable t → (cells : List ℕ) → IsPlacement (record { pattern = t.pattern; cells = cells }) → (r c : ℕ) → IsRank t.pattern.side cells r
@@ -81,7 +82,8 @@ slot_first t is cells place r c is_rank wide empty free =
 pub entry_says : (t : Table) → IsExactTable t → (b : List ℕ) → IsBoard b → side_of b ≡ t.pattern.side → (r j e : ℕ) → IsRank t.pattern.side (placement_of t.pattern.tiles b) r
     → IsSlot t.pattern.side (placement_of t.pattern.tiles b) (blank b) j → j < slot_count t.pattern → e ≡ entry_at t r j → SaysOfBoard t.pattern.tiles b e
 entry_says t is b good side r j e is_rank is_slot slot_low holds =
-    let number_is : IsEntryNumber t.pattern (placement_of t.pattern.tiles b) j (r * slot_count t.pattern + j) = record { placement = IsPlacement-of b good t.pattern is.is_table.pattern side; rank = r; is_rank = is_rank; slot = slot_low; counted = refl } in
+    let number_is : IsEntryNumber t.pattern (placement_of t.pattern.tiles b) j (r * slot_count t.pattern + j) =
+    entry_number r (IsPlacement-of b good t.pattern is.is_table.pattern side).size is_rank slot_low refl in
     let right = is.exact (placement_of t.pattern.tiles b) j (r * slot_count t.pattern + j) number_is in
     let board : IsBoardOf t.pattern.side b = subst (λ n. IsBoardOf n b) side good in
     subst (SaysOfBoard t.pattern.tiles b) (sym holds) (right.boards b board refl is_slot)

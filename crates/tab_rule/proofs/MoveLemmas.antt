@@ -2,13 +2,13 @@
 use Rattle.std.proofs.Common.{◌≡◌, ℕ, ◌<◌, ◌≤◌, ◌⊎◌, true, length, get_or, set, min, inl, inr, refl, sym, ◌∙◌, ap, subst, arith, get_or-set_same, get_or-set_other, length-set}
 use Rattle.std.proofs.lemmas.Bool.{cases_eq, cases_lt, both_ways, false_from_ne_true}
 use Rattle.pat_place.specs.Patterns.{has}
-use Rattle.pat_place.specs.Placements.{PlacementView, IsFree, IsPlacement}
+use Rattle.pat_place.specs.Placements.{ShownPlacement, IsFree, IsPlacement}
 use Rattle.pat_place.proofs.ListLemmas.{all_at, apart_at, at-has, has-at}
 use Rattle.tab_rule.specs.LocalRule.{IsLeastOf}
 
 -- ---- one tile moved
 
-module _ (p : PlacementView) (is : IsPlacement p) (i to : ℕ) (low : i < length p.cells) (free : IsFree p.pattern.side p.cells to) where
+module _ (p : ShownPlacement) (is : IsPlacement p) (i to : ℕ) (low : i < length p.cells) (free : IsFree p.pattern.side p.cells to) where
   -- the cell that the tile left is free
   pub left_free : IsFree p.pattern.side (set p.cells i to) (get_or p.cells i 0)
   left_free = (all_at p.cells i is.inside low, false_from_ne_true (has (set p.cells i to) (get_or p.cells i 0)) twice)

@@ -7,7 +7,7 @@ use Rattle.puz_board.specs.Cells.{Adjacent}
 use Rattle.puz_board.proofs.BoardLemmas.{at-cell_of, blank-slid, cell_of-content, cells_least, side_of-board}
 use Rattle.puz_board.proofs.BoardWays.{Adjacent-apart, Free, Home, Paid, State, moved}
 use Rattle.puz_board.proofs.Ways
-use Rattle.pat_place.specs.Patterns.{PatternView, IsPattern, has}
+use Rattle.pat_place.specs.Patterns.{ShownPattern, IsPattern, has}
 use Rattle.pat_place.specs.Placements.{IsFree, placement_of}
 use Rattle.pat_place.specs.Regions.{Joins, here, onward}
 use Rattle.pat_place.proofs.ListLemmas.{apart_from_ascending, at-has, has-at}
@@ -15,7 +15,7 @@ use Rattle.pat_place.proofs.PlacementLemmas.{IsPlacement-of}
 use Rattle.pat_place.proofs.SlideLemmas.{IsFree-blank, get-placement_of, has-placement_of, placement_of-slid_other, placement_of-slid_tile, tile_at}
 use Rattle.tab_rule.proofs.Values.{IsGoalRegion, IsNear, IsPlaced}
 
-module _ (p : PatternView) (pat : IsPattern p) where
+module _ (p : ShownPattern) (pat : IsPattern p) where
   -- the placement and the blank of a state
   abbrev pub cells_in : State p.side → List ℕ
   cells_in s = placement_of p.tiles s.cells

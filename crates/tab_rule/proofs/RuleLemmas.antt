@@ -2,7 +2,7 @@
 use Rattle.std.proofs.Common.{◌≡◌, ℕ, suc, ◌<◌, ◌≤◌, ◌⊎◌, List, Some, None, get_or, set, inl, inr, refl, sym, ◌∙◌, ap, subst, arith}
 use Rattle.std.specs.Prelude.{slice_index}
 use Rattle.puz_board.specs.Boards.{IsBoardOf, blank}
-use Rattle.pat_place.specs.Patterns.{PatternView, IsPattern}
+use Rattle.pat_place.specs.Patterns.{ShownPattern, IsPattern}
 use Rattle.pat_place.specs.Placements.{placement_of}
 use Rattle.pat_place.specs.Regions.{IsSlot}
 use Rattle.pat_place.proofs.SlotLemmas.{region_slot, slot_region}
@@ -12,10 +12,11 @@ use Rattle.tab_rule.specs.ExactTables.{AreExact, SaysOfBoard}
 use Rattle.tab_rule.specs.LocalRule.{IsGoalSlot, IsLeastNear, IsNearEntry, LocalRule}
 use Rattle.tab_rule.proofs.CaseLemmas.{RuleCase, goal, never, no_region, one_more, rule_cases}
 use Rattle.tab_rule.proofs.EntryLemmas.{decode, decode_large, decode_small, decode_some, entry_total, near_entry, near_from_move, near_valid, value, value-constant, value-is}
+use Rattle.tab_rule.proofs.EntryNumberLemmas.{entry_placement}
 use Rattle.tab_rule.proofs.ValueLemmas.{exact_from_rule}
 use Rattle.tab_rule.proofs.Values.{AllKeepValueRule, IsGoalRegion, IsNear, IsOneMore, IsPlaced, KeepsValueRule, SaysCost, table}
 
-module _ (p : PatternView) (pat : IsPattern p) where
+module _ (p : ShownPattern) (pat : IsPattern p) where
   -- ---- the goal's slot is the goal's region
 
   pub region_from_slot : (cells : List ℕ) (c j : ℕ) → IsSlot p.side cells c j → IsGoalSlot p cells j → IsGoalRegion p cells c
@@ -114,7 +115,7 @@ module _ (p : PatternView) (pat : IsPattern p) where
             known : value p pat entries (placement_of p.tiles b) (blank b) ≡ decode e
             known =
                 ap (λ q. value p pat entries q (blank b)) same ∙
-                value-is p pat entries cells (blank b) e is.placement slot.free (record { slot = j; is_slot = slot; number = number; is_number = is; holds = refl })
+                value-is p pat entries cells (blank b) e (entry_placement is) slot.free (record { slot = j; is_slot = slot; number = number; is_number = is; holds = refl })
 
             right : SaysCost p.tiles b (value p pat entries (placement_of p.tiles b) (blank b))
             right = exact_from_rule p pat (value p pat entries) (value-constant p pat entries) value_rule b good

@@ -1,27 +1,23 @@
 -- The entries of a table together.
-use Rattle.std.proofs.Common.{◌≡◌, ℕ, ◌+◌, ◌*◌, ◌/◌, ◌<◌, ◌≤◌, List, length, inl, inr, subst, arith}
+use Rattle.std.proofs.Common.{◌≡◌, ℕ, ◌+◌, ◌*◌, ◌/◌, ◌<◌, ◌≤◌, List, inl, inr, arith}
 use Rattle.std.specs.Prelude.{slice_index}
 use Rattle.std.proofs.Math.Nat.{mul-le-mul_right}
-use Rattle.pat_place.specs.Patterns.{PatternView, IsPattern}
-use Rattle.pat_place.specs.Ranks.{placements}
-use Rattle.pat_place.proofs.RankLemmas.{IsRank-below}
+use Rattle.pat_place.specs.Patterns.{ShownPattern, IsPattern}
 use Rattle.tab_file.specs.Tables.{Table, IsTable, entry_count, placement_count, slot_count}
 use Rattle.tab_rule.specs.BadEntries.{AllKeepRule, IsBad, IsLeastBadEntry, KeepsRule}
 use Rattle.tab_rule.specs.Blocks.{AllBlocksKeepRule}
 use Rattle.tab_rule.specs.Entries.{IsEntryNumber}
 use Rattle.tab_rule.specs.ExactTables.{AreExact}
 use Rattle.tab_rule.proofs.DecidedLemmas.{rule_decided}
+use Rattle.tab_rule.proofs.EntryNumberLemmas.{entry_placement, entry_rank_below}
 use Rattle.tab_rule.proofs.ExactLemmas.{files_exact}
 
-module _ (p : PatternView) (cells : List ℕ) (j number : ℕ) (is : IsEntryNumber p cells j number) where
-  rank_within : is.rank < placement_count p
-  rank_within = subst (λ k. is.rank < length (placements p.side k)) is.placement.size (IsRank-below p.side cells is.rank is.is_rank)
-
+module _ (p : ShownPattern) (cells : List ℕ) (j number : ℕ) (is : IsEntryNumber p cells j number) where
   pub number_below : number < entry_count p
   number_below =
       let counted : number ≡ is.rank * slot_count p + j = is.counted in
       let slot : j < slot_count p = is.slot in
-      let below = rank_within in
+      let below = entry_rank_below is in
       let next : (is.rank + 1) * slot_count p ≤ placement_count p * slot_count p = mul-le-mul_right (slot_count p) (let s : is.rank + 1 ≤ placement_count p = omega arith in s) in
       omega arith
 
@@ -32,14 +28,14 @@ module _ (t : Table) where
       let block : ℕ = is.rank / 256 in
       let counted : number ≡ is.rank * slot_count t.pattern + j = is.counted in
       let slot : j < slot_count t.pattern = is.slot in
-      let below : is.rank < placement_count t.pattern = rank_within t.pattern cells j number is in
+      let below : is.rank < placement_count t.pattern = entry_rank_below is in
       let starts : block * 256 * slot_count t.pattern ≤ is.rank * slot_count t.pattern = mul-le-mul_right (slot_count t.pattern) (let s : block * 256 ≤ is.rank = omega arith in s) in
       let ends : (is.rank + 1) * slot_count t.pattern ≤ (block + 1) * 256 * slot_count t.pattern = mul-le-mul_right (slot_count t.pattern) (let s : is.rank + 1 ≤ (block + 1) * 256 = omega arith in s) in
       all block (omega arith) number (record { from = omega arith; to = omega arith }) cells j is
 
   -- an entry that isn't bad keeps the rule, since that can be told
   pub keeps_unless_bad : IsPattern t.pattern → (number : ℕ) → ¬ IsBad t number → KeepsRule t number
-  keeps_unless_bad pat number good cells j is = elim (rule_decided t pat cells j (slice_index t.entries number) is.placement) [
+  keeps_unless_bad pat number good cells j is = elim (rule_decided t pat cells j (slice_index t.entries number) (entry_placement is)) [
     | inl keeps ↦ keeps
     | inr breaks ↦ absurd (good (record { cells = cells; slot = j; is_number = is; breaks = breaks }))
   ]

@@ -6,7 +6,7 @@ use Rattle.puz_board.proofs.BoardWays.{Free, Home, Paid, State, least_of_ways, n
 use Rattle.puz_board.proofs.Ways
 use Rattle.puz_board.proofs.WayLemmas
 use Rattle.pat_place.specs.BoardLaws.{HasBoard}
-use Rattle.pat_place.specs.Patterns.{PatternView, IsPattern}
+use Rattle.pat_place.specs.Patterns.{ShownPattern, IsPattern}
 use Rattle.pat_place.proofs.BoardOf.{board_of}
 use Rattle.pat_place.proofs.JoinLemmas.{Decided, joins_decided}
 use Rattle.tab_rule.proofs.NearLemmas.{IsFree-in, IsPlaced-in, blank_in, cells_in, free_keeps, goal_region, near_from_one, one_from_near, region_goal}
@@ -23,13 +23,13 @@ same_list_decided (x ∷ xs) (y ∷ ys) = elim (cases_eq x y) [
   | inr ne ↦ inr (λ q. ne (let w : x ≡ y = cc in w))
 ]
 
-pub goal_decided : (p : PatternView) (cells : List ℕ) (c : ℕ) → Decided (IsGoalRegion p cells c)
+pub goal_decided : (p : ShownPattern) (cells : List ℕ) (c : ℕ) → Decided (IsGoalRegion p cells c)
 goal_decided p cells c = elim (same_list_decided cells p.tiles) [
   | inl e ↦ elim (joins_decided p.side cells c 0) [ inl r ↦ inl (e, r) | inr none ↦ inr (λ g. none g.1) ]
   | inr ne ↦ inr (λ g. ne g.0)
 ]
 
-module _ (p : PatternView) (pat : IsPattern p) (value : List ℕ → ℕ → Option ℕ) (constant : IsConstant p value) where
+module _ (p : ShownPattern) (pat : IsPattern p) (value : List ℕ → ℕ → Option ℕ) (constant : IsConstant p value) where
   -- ---- the value of a state
 
   abbrev v : State p.side → Option ℕ

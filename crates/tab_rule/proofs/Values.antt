@@ -3,7 +3,7 @@ use Rattle.std.proofs.Common.{◌≡◌, ℕ, suc, ◌<◌, ◌≤◌, ◌⊎◌
 use Rattle.puz_board.specs.Boards.{IsBoardOf, blank}
 use Rattle.puz_board.specs.Cells.{Adjacent}
 use Rattle.puz_board.specs.Costs.{IsLeastCost, IsNeverHome}
-use Rattle.pat_place.specs.Patterns.{PatternView}
+use Rattle.pat_place.specs.Patterns.{ShownPattern}
 use Rattle.pat_place.specs.Placements.{IsFree, IsPlacement, placement_of}
 use Rattle.pat_place.specs.Regions.{Joins}
 use Rattle.tab_file.specs.Tables.{Table}
@@ -18,17 +18,17 @@ pub record IsNear (n : ℕ) (cells : List ℕ) (c : ℕ) (moved : List ℕ) (t :
   pub adjacent : Adjacent n to t
   pub moves : moved ≡ set cells index to
 
-abbrev pub table : PatternView → List ℕ → Table
+abbrev pub table : ShownPattern → List ℕ → Table
 table p entries = record { pattern = p; entries = entries }
 
-abbrev pub IsPlaced : PatternView → List ℕ → Type 0
+abbrev pub IsPlaced : ShownPattern → List ℕ → Type 0
 IsPlaced p cells = IsPlacement (record { pattern = p; cells = cells })
 
 -- the goal placement has tile t in cell t; the goal's region has cell 0
-abbrev pub IsGoalRegion : PatternView → List ℕ → ℕ → Type 0
+abbrev pub IsGoalRegion : ShownPattern → List ℕ → ℕ → Type 0
 IsGoalRegion p cells c = (cells ≡ p.tiles) × Joins p.side cells c 0
 
-module _ (p : PatternView) (value : List ℕ → ℕ → Option ℕ) where
+module _ (p : ShownPattern) (value : List ℕ → ℕ → Option ℕ) where
   -- neighbouring free cells have one value
   abbrev pub IsConstant : Type 0
   IsConstant = (cells : List ℕ) (c d : ℕ) → IsPlaced p cells → IsFree p.side cells c → IsFree p.side cells d → Adjacent p.side c d → value cells d ≡ value cells c
@@ -53,5 +53,5 @@ SaysCost tiles b None = IsNeverHome tiles b
 SaysCost tiles b (Some d) = IsLeastCost tiles b d
 
 -- each value is the least cost of each board with that placement and its blank in that cell
-abbrev pub IsExactValue : PatternView → (List ℕ → ℕ → Option ℕ) → Type 0
+abbrev pub IsExactValue : ShownPattern → (List ℕ → ℕ → Option ℕ) → Type 0
 IsExactValue p value = (b : List ℕ) → IsBoardOf p.side b → SaysCost p.tiles b (value (placement_of p.tiles b) (blank b))

@@ -1,21 +1,20 @@
 -- Entries of a table: one for each placement and slot, rank by rank, and slot by slot within a rank.
-use Rattle.std.specs.Prelude.{◌≡◌, ℕ, ◌+◌, ◌*◌, ◌<◌, List, slice_index}
-use Rattle.pat_place.specs.Patterns.{PatternView}
-use Rattle.pat_place.specs.Placements.{IsPlacement}
-use Rattle.pat_place.specs.Ranks.{IsRank}
+use Rattle.std.specs.Prelude.{◌≡◌, ℕ, ◌+◌, ◌*◌, ◌<◌, List, length, slice_get, slice_index, Some}
+use Rattle.pat_place.specs.Patterns.{ShownPattern}
+use Rattle.pat_place.specs.Ranks.{placements}
 use Rattle.pat_place.specs.Regions.{IsSlot}
 use Rattle.tab_file.specs.Tables.{Table, slot_count}
 
--- the number of the entry of a placement and a slot
-pub record IsEntryNumber (p : PatternView) (cells : List ℕ) (j number : ℕ) : Type 0 where
-  pub placement : IsPlacement (record { pattern = p; cells = cells })
+-- the number of the entry of a placement and a slot: the placement is the one that stands at this rank in the list of all
+-- placements, and each of them has an entry for each slot
+pub record IsEntryNumber (p : ShownPattern) (cells : List ℕ) (j number : ℕ) : Type 0 where
   pub rank : ℕ
-  pub is_rank : IsRank p.side cells rank
+  pub is_placement : slice_get (placements p.side (length p.tiles)) rank ≡ Some cells
   pub slot : j < slot_count p
   pub counted : number ≡ rank * slot_count p + j
 
 -- the number of the entry of the goal's placement and of the region that has cell 0
-pub record IsGoalNumber (p : PatternView) (number : ℕ) : Type 0 where
+pub record IsGoalNumber (p : ShownPattern) (number : ℕ) : Type 0 where
   pub slot : ℕ
   pub in_slot : IsSlot p.side p.tiles 0 slot
   pub is_number : IsEntryNumber p p.tiles slot number

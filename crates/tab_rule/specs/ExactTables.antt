@@ -2,7 +2,7 @@
 use Rattle.std.specs.Prelude.{◌≡◌, ℕ, ◌≤◌, ◌⊎◌, List, slice_index}
 use Rattle.puz_board.specs.Boards.{IsBoardOf, blank}
 use Rattle.puz_board.specs.Costs.{IsLeastCost, IsNeverHome}
-use Rattle.pat_place.specs.Patterns.{PatternView}
+use Rattle.pat_place.specs.Patterns.{ShownPattern}
 use Rattle.pat_place.specs.Placements.{placement_of}
 use Rattle.pat_place.specs.Regions.{IsSlot}
 use Rattle.tab_file.specs.TableFiles.{IsTableFile}
@@ -16,7 +16,7 @@ SaysOfBoard tiles b e = ((e ≤ greatest_count) × IsLeastCost tiles b e) ⊎ ((
 
 -- an entry is right: 254 where the slot has no region, and otherwise what it says holds of every board with this
 -- placement and its blank in this slot's region
-pub record IsExactEntry (p : PatternView) (cells : List ℕ) (j e : ℕ) : Type 0 where
+pub record IsExactEntry (p : ShownPattern) (cells : List ℕ) (j e : ℕ) : Type 0 where
   pub no_region : HasNoRegion p.side cells j → e ≡ no_region_entry
   pub boards : (b : List ℕ) → IsBoardOf p.side b → placement_of p.tiles b ≡ cells → IsSlot p.side cells (blank b) j → SaysOfBoard p.tiles b e
 

@@ -2,7 +2,7 @@
 use Rattle.std.specs.Prelude.{◌≡◌, ℕ, ◌≤◌, ◌⊎◌, List, length, slice_index}
 use Rattle.puz_board.specs.Boards.{IsBoardOf, side_of}
 use Rattle.puz_board.specs.Costs.{IsLeastCost, IsNeverHome, LeadsHome, cost}
-use Rattle.pat_place.specs.Patterns.{PatternView, IsPattern}
+use Rattle.pat_place.specs.Patterns.{ShownPattern, IsPattern}
 use Rattle.pat_place.specs.Placements.{IsPlacement, placement_of}
 use Rattle.pat_place.specs.Ranks.{IsRank}
 use Rattle.tab_file.specs.Tables.{placement_count}
@@ -28,17 +28,17 @@ IsFoldedCountOf tiles b (Finite d) = IsFoldedCost (side_of b) tiles (placement_o
 IsFoldedCountOf tiles b Never = IsFoldedNever (side_of b) tiles (placement_of tiles b)
 
 -- an entry says this of a placement: the cost, which is 253 at most, or by 255 that none of its boards comes home
-abbrev pub SaysOfPlacement : PatternView → List ℕ → ℕ → Type 0
+abbrev pub SaysOfPlacement : ShownPattern → List ℕ → ℕ → Type 0
 SaysOfPlacement p cells e =
     ((e ≤ greatest_count) × IsFoldedCost p.side p.tiles cells e) ⊎ ((e ≡ no_way_home) × IsFoldedNever p.side p.tiles cells)
 
 -- the entries of a folded table of the pattern, rank by rank
-pub record AreFolded (p : PatternView) (entries : List ℕ) : Type 0 where
+pub record AreFolded (p : ShownPattern) (entries : List ℕ) : Type 0 where
   pub size : length entries ≡ placement_count p
   pub each : (cells : List ℕ) (r : ℕ) → IsPlacement (record { pattern = p; cells = cells }) → IsRank p.side cells r → SaysOfPlacement p cells (slice_index entries r)
 
 -- a pattern that has a folded table
-pub record HasFoldedTable (p : PatternView) : Type 0 where
+pub record HasFoldedTable (p : ShownPattern) : Type 0 where
   pub pattern : IsPattern p
   pub entries : List ℕ
   pub are : AreFolded p entries

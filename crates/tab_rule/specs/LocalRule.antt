@@ -1,7 +1,7 @@
 -- The local rule: an entry and the entries one move of a pattern's tile away.
 use Rattle.std.specs.Prelude.{◌≡◌, ℕ, ◌<◌, ◌≤◌, ◌⊎◌, List, length, slice_index, slice_set}
 use Rattle.puz_board.specs.Cells.{Adjacent}
-use Rattle.pat_place.specs.Patterns.{PatternView}
+use Rattle.pat_place.specs.Patterns.{ShownPattern}
 use Rattle.pat_place.specs.Regions.{IsSlot}
 use Rattle.tab_lanes.specs.LocalRule.{KeepsRuleOfKind, goal_slot, other_slot, without_region}
 use Rattle.tab_file.specs.Tables.{Table}
@@ -32,11 +32,11 @@ abbrev pub IsLeastNear : Table → List ℕ → ℕ → ℕ → Type 0
 IsLeastNear t cells j = IsLeastOf (IsNearEntry t cells j)
 
 -- each tile is in the cell of its own number, and cell 0 has the slot
-abbrev pub IsGoalSlot : PatternView → List ℕ → ℕ → Type 0
+abbrev pub IsGoalSlot : ShownPattern → List ℕ → ℕ → Type 0
 IsGoalSlot p cells j = (cells ≡ p.tiles) × IsSlot p.side cells 0 j
 
 -- the kind of a slot, as a number
-pub data IsKindOf (p : PatternView) (cells : List ℕ) (j kind : ℕ) : Type 0 where
+pub data IsKindOf (p : ShownPattern) (cells : List ℕ) (j kind : ℕ) : Type 0 where
   no_region : HasNoRegion p.side cells j → kind ≡ without_region → IsKindOf p cells j kind
   goal : IsGoalSlot p cells j → kind ≡ goal_slot → IsKindOf p cells j kind
   other : HasRegion p.side cells j → ¬ IsGoalSlot p cells j → kind ≡ other_slot → IsKindOf p cells j kind

@@ -25,10 +25,10 @@ pub struct FoldedTable {
 }
 
 impl Model for FoldedTable {
-    ghost use Rattle.pat_place.specs.Patterns.{PatternView};
+    ghost use Rattle.pat_place.specs.Patterns.{ShownPattern};
     ghost use Rattle.tab_rule.specs.StoredFolds.{IsStoredFold};
 
-    ghost Value = { PatternView };
+    ghost Value = { ShownPattern };
 
     ghost view = { λ folded. folded.pattern };
 

@@ -7,13 +7,12 @@ use Rattle.std.proofs.lemmas.Nat.{div-add-mod', mod_below}
 use Rattle.std.proofs.Math.Nat.{mul-le-mul_right}
 use Rattle.pat_place.specs.Patterns.{IsPattern}
 use Rattle.pat_place.specs.Placements.{IsFree}
-use Rattle.pat_place.specs.Ranks.{IsRank}
 use Rattle.pat_place.proofs.RankLemmas.{IsRank-one}
 use Rattle.tab_rule.specs.BadEntries.{IsBad, KeepsRule}
 use Rattle.tab_rule.specs.Entries.{IsEntryNumber}
 use Rattle.tab_rule.specs.LocalRule.{IsKindOf, IsLeastNear, LocalRule}
-use Rattle.tab_rule.proofs.BlockLemmas.{same_cells}
 use Rattle.tab_rule.proofs.CaseLemmas.{rule_by_numbers}
+use Rattle.tab_rule.proofs.EntryNumberLemmas.{entry_cells, entry_number, entry_placement, entry_rank}
 use Rattle.tab_file.specs.Tables.{Table, slot_count}
 use Rattle.tab_lanes.specs.LocalRule.{AllPlacesKeepRule, IsFirstBreach, KeepsRuleAt, KeepsRuleOfKind}
 use Rattle.tab_runs.specs.Checks.{AreKinds, IsFirstBadPlace, RunKeepsRule}
@@ -61,13 +60,10 @@ module _ (t : Table) (pat : IsPattern t.pattern) (p : List ℕ) (run : IsRun t.p
       }
 
   number_is : (first : ℕ) → IsFirstRank t.pattern.side p first → (place : ℕ) → (a : IsAt place) → IsEntryNumber t.pattern (with_last p a.cell) a.slot (first * slot_count t.pattern + place)
-  number_is first is_first place a = record {
-    placement = placed_last t.pattern p a.cell run a.free;
-    rank = first + free_below p a.cell;
-    is_rank = is_first.each a.cell a.free;
-    slot = a.low;
-    counted = ap (λ k. first * slot_count t.pattern + k) a.counted ∙ (omega arith);
-  }
+  number_is first is_first place a =
+      let size = (placed_last t.pattern p a.cell run a.free).size in
+      entry_number (first + free_below p a.cell) size (is_first.each a.cell a.free) a.low
+      (ap (λ k. first * slot_count t.pattern + k) a.counted ∙ (omega arith))
 
   -- the entry of its number is the byte of its place
   entry_is : (first : ℕ) → IsFirstRank t.pattern.side p first → (place : ℕ) → (a : IsAt place) → slice_index t.entries (first * slot_count t.pattern + place) ≡ get_or own (1 + place) 0
@@ -96,7 +92,8 @@ module _ (t : Table) (pat : IsPattern t.pattern) (p : List ℕ) (run : IsRun t.p
       let a = at_place place l in
       let here = number_is first is_first place a in
       let parts = parts_one is.rank here.rank (slot_count t.pattern) j a.slot is.slot a.low (sym is.counted ∙ here.counted) in
-      let one : with_last p a.cell ≡ cells = same_cells t.pattern.side (with_last p a.cell) cells is.rank (here.placement.size ∙ sym is.placement.size) (subst (IsRank t.pattern.side (with_last p a.cell)) (sym parts.0) here.is_rank) is.is_rank in
+      let one : with_last p a.cell ≡ cells =
+      entry_cells is (with_last p a.cell) here.rank (entry_placement here).size (entry_rank here) (sym parts.0) in
       subst (λ i. LocalRule t cells i (slice_index t.entries (first * slot_count t.pattern + place))) (sym parts.1)
       (subst (λ q. LocalRule t q a.slot (slice_index t.entries (first * slot_count t.pattern + place))) one ((rule_at first is_first place a).0 keeps))
 

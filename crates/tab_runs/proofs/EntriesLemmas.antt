@@ -4,7 +4,7 @@ use Rattle.std.specs.Prelude.{slice_get}
 use Rattle.std.specs.List.{range_with_len}
 use Rattle.std.proofs.lemmas.List.{get_or-drop, get_or-take, length-take-le}
 use Rattle.std.proofs.Math.Nat.{mul-le-mul_right}
-use Rattle.pat_place.specs.Patterns.{PatternView}
+use Rattle.pat_place.specs.Patterns.{ShownPattern}
 use Rattle.pat_place.specs.Ranks.{IsRank, falling_factorial, lists_of}
 use Rattle.pat_place.proofs.CountLemmas.{few_slots}
 use Rattle.pat_place.proofs.RankLemmas.{IsRank-below, IsRank-from, IsRank-one, count_of_placements, falling_more}
@@ -17,7 +17,7 @@ use Rattle.tab_runs.proofs.RunRanks.{first_some}
 
 -- ---- a run ends within the table
 
-pub run_few : (p : PatternView) (cells : List ℕ) → IsRun p cells → (r : ℕ) → IsRank p.side cells r → r * run_length p.side cells + run_length p.side cells ≤ placement_count p
+pub run_few : (p : ShownPattern) (cells : List ℕ) → IsRun p cells → (r : ℕ) → IsRank p.side cells r → r * run_length p.side cells + run_length p.side cells ≤ placement_count p
 run_few p cells run r is =
     let low : r < falling_factorial (p.side * p.side) (length cells) = (let l = IsRank-below p.side cells r is in let e = count_of_placements p.side (length cells) in omega arith) in
     let all : placement_count p ≡ falling_factorial (p.side * p.side) (length cells) * run_length p.side cells =
@@ -25,7 +25,7 @@ run_few p cells run r is =
     let next : (r + 1) * run_length p.side cells ≤ falling_factorial (p.side * p.side) (length cells) * run_length p.side cells = mul-le-mul_right (run_length p.side cells) (let s : r + 1 ≤ falling_factorial (p.side * p.side) (length cells) = omega arith in s) in
     omega arith
 
-pub run_end : (p : PatternView) (cells : List ℕ) → IsRun p cells → (r : ℕ) → IsRank p.side cells r → (r * run_length p.side cells + run_length p.side cells) * slot_count p ≤ entry_count p
+pub run_end : (p : ShownPattern) (cells : List ℕ) → IsRun p cells → (r : ℕ) → IsRank p.side cells r → (r * run_length p.side cells + run_length p.side cells) * slot_count p ≤ entry_count p
 run_end p cells run r is = mul-le-mul_right (slot_count p) (run_few p cells run r is)
 
 -- a table file has fewer than 2 ^ 33 bytes
@@ -43,7 +43,7 @@ pub record AreNumbers (t : Table) (cells : List ℕ) (rank run width : ℕ) : Ty
   pub is_run : run ≡ run_length t.pattern.side cells
   pub is_width : width ≡ slot_count t.pattern
 
-pub are_numbers : (t : Table) (pattern : PatternView) (cells : List ℕ) (side count from w width rank : ℕ) → pattern ≡ t.pattern → side ≡ pattern.side → count ≡ side * side → from ≡ count → w ≡ slot_count pattern → width ≡ w
+pub are_numbers : (t : Table) (pattern : ShownPattern) (cells : List ℕ) (side count from w width rank : ℕ) → pattern ≡ t.pattern → side ≡ pattern.side → count ≡ side * side → from ≡ count → w ≡ slot_count pattern → width ≡ w
     → slice_get (lists_of (length cells) (range_with_len 0 count)) rank ≡ Some cells → AreNumbers t cells rank (from - length cells) width
 are_numbers t pattern cells side count from w width rank same side_is count_is from_is w_is width_is found =
     let n : side ≡ t.pattern.side = side_is ∙ ap (λ q. q.side) same in

@@ -7,8 +7,8 @@ use Rattle.std.proofs.lemmas.Bool.{both_ways, false_from_ne_true}
 use Rattle.std.proofs.Math.Nat.{mul-le-mul_right}
 use Rattle.puz_board.specs.Masks.{IsMaskOf}
 use Rattle.puz_board.proofs.CellLemmas.{by_side}
-use Rattle.pat_place.specs.Patterns.{IsPattern, PatternView, has, most_tiles, width}
-use Rattle.pat_place.specs.Placements.{IsFree, IsPlacement, PlacementView}
+use Rattle.pat_place.specs.Patterns.{IsPattern, ShownPattern, has, most_tiles, width}
+use Rattle.pat_place.specs.Placements.{IsFree, IsPlacement, ShownPlacement}
 use Rattle.pat_place.specs.Ranks.{IsRank, lists_of, placements}
 use Rattle.pat_place.proofs.RankLemmas.{IsRank-from, IsRank-one}
 use Rattle.tab_rule.proofs.BlockLemmas.{next_rank, same_cells}
@@ -24,7 +24,7 @@ use Rattle.tab_runs.proofs.RunLemmas.{placed_last}
 -- ---- a run's set of cells
 
 -- the first placement of a run is one of the table's
-run_some : (p : PatternView) → IsPattern p → (cells : List ℕ) → IsRun p cells → 0 < run_length p.side cells
+run_some : (p : ShownPattern) → IsPattern p → (cells : List ℕ) → IsRun p cells → 0 < run_length p.side cells
 run_some p pat cells run =
     let k = by_side (λ n. (k : ℕ) → k + 1 ≤ most_tiles n → k < n * n)
     (λ k l. let m : k + 1 ≤ 3 = l in omega arith)
@@ -36,7 +36,7 @@ run_some p pat cells run =
 
 -- what is known of a run and its set: how many cells the board has, how many slots a placement, how many placements the
 -- run, and the rank of its first one
-pub record IsRunOfSet (p : PatternView) (cells : List ℕ) (mask count width size first : ℕ) : Type 0 where
+pub record IsRunOfSet (p : ShownPattern) (cells : List ℕ) (mask count width size first : ℕ) : Type 0 where
   pub pattern : IsPattern p
   pub run : IsRun p cells
   pub is_mask : IsMaskOf mask (λ c. has cells c ≡ true)
@@ -47,7 +47,7 @@ pub record IsRunOfSet (p : PatternView) (cells : List ℕ) (mask count width siz
   pub low : first < placement_count p
   pub few : first + size ≤ placement_count p
 
-pub run_of_set : (p : PatternView) → IsPattern p → (cells : List ℕ) → IsRun p cells → (mask rank : ℕ) → IsMaskOf mask (λ c. has cells c ≡ true) → {side count from width : ℕ} → side ≡ p.side → count ≡ side * side → from ≡ count
+pub run_of_set : (p : ShownPattern) → IsPattern p → (cells : List ℕ) → IsRun p cells → (mask rank : ℕ) → IsMaskOf mask (λ c. has cells c ≡ true) → {side count from width : ℕ} → side ≡ p.side → count ≡ side * side → from ≡ count
     → width ≡ slot_count p → slice_get (lists_of (length cells) (range_with_len 0 count)) rank ≡ Some cells → IsRunOfSet p cells mask count width (from - length cells) (rank * (from - length cells))
 run_of_set p pat cells run mask rank is_mask {side} {count} {from} {width} side_is count_is from_is width_is found =
     let board : count ≡ p.side * p.side = count_is ∙ ap₂ (λ m n. m * n) side_is side_is in
@@ -73,13 +73,13 @@ run_of_set p pat cells run mask rank is_mask {side} {count} {from} {width} side_
 -- ---- the placement of a cell of the last tile
 
 -- the placement that is held at a cell: that of the first free cell from there on, if there is one
-pub record IsHeld (p : PatternView) (cells : List ℕ) (size first last free : ℕ) (view : PlacementView) : Type 0 where
+pub record IsHeld (p : ShownPattern) (cells : List ℕ) (size first last free : ℕ) (view : ShownPlacement) : Type 0 where
   pub count : free ≡ free_below cells last
   pub pattern : view.pattern ≡ p
   pub placement : IsPlacement view
   pub rank : free < size → IsRank p.side view.cells (first + free)
 
-pub held_start : {p : PatternView} {cells : List ℕ} {size first : ℕ} {view : PlacementView} → view.pattern ≡ p → IsPlacement view → IsRank p.side view.cells first → IsHeld p cells size first 0 0 view
+pub held_start : {p : ShownPattern} {cells : List ℕ} {size first : ℕ} {view : ShownPlacement} → view.pattern ≡ p → IsPlacement view → IsRank p.side view.cells first → IsHeld p cells size first 0 0 view
 held_start {p} {cells} {size} {first} {view} same placed is = record {
   count = sym (free_below-zero cells);
   pattern = same;
@@ -87,11 +87,11 @@ held_start {p} {cells} {size} {first} {view} same placed is = record {
   rank = λ l. subst (IsRank p.side view.cells) (let e : first ≡ first + 0 = omega arith in e) is;
 }
 
-pub held_as : {p : PatternView} {cells : List ℕ} {size first last f g : ℕ} {u v : PlacementView} → f ≡ g → u ≡ v → IsHeld p cells size first last g v → IsHeld p cells size first last f u
+pub held_as : {p : ShownPattern} {cells : List ℕ} {size first last f g : ℕ} {u v : ShownPlacement} → f ≡ g → u ≡ v → IsHeld p cells size first last g v → IsHeld p cells size first last f u
 held_as {p} {cells} {size} {first} {last} {f} {g} {u} {v} a b is = subst (λ k. IsHeld p cells size first last k u) (sym a) (subst (IsHeld p cells size first last g) (sym b) is)
 
 -- what is known at a free cell, and of the placement that is held there
-pub record IsAtLast (p : PatternView) (cells : List ℕ) (last before : ℕ) (view : PlacementView) : Type 0 where
+pub record IsAtLast (p : ShownPattern) (cells : List ℕ) (last before : ℕ) (view : ShownPlacement) : Type 0 where
   pub free : IsFree p.side cells last
   pub before_is : before ≡ free_below cells last * slot_count p
   pub before_low : 1 + before + slot_count p ≤ 141
@@ -100,7 +100,7 @@ pub record IsAtLast (p : PatternView) (cells : List ℕ) (last before : ℕ) (vi
   pub cells_are : view.cells ≡ with_last cells last
   pub size : length view.cells ≡ length p.tiles
 
-module _ {p : PatternView} {cells : List ℕ} {mask count width size first last free : ℕ} {view : PlacementView} (is : IsRunOfSet p cells mask count width size first) (held : IsHeld p cells size first last free view) where
+module _ {p : ShownPattern} {cells : List ℕ} {mask count width size first last free : ℕ} {view : ShownPlacement} (is : IsRunOfSet p cells mask count width size first) (held : IsHeld p cells size first last free view) where
   pub at_last : {taken : Bool} → last < count → IsTrue taken ↔ (bit_at mask last ≡ 1) → taken ≡ false → IsAtLast p cells last (free * width) view
   at_last {taken} low test not_taken =
       let board = is.board in
@@ -122,7 +122,7 @@ module _ {p : PatternView} {cells : List ℕ} {mask count width size first last 
         size = long;
       }
 
-  pub held_more : (moved : Bool) {next : PlacementView} → has cells last ≡ false → next.pattern ≡ view.pattern → IsPlacement next
+  pub held_more : (moved : Bool) {next : ShownPlacement} → has cells last ≡ false → next.pattern ≡ view.pattern → IsPlacement next
       → ((r : ℕ) → IsRank view.pattern.side view.cells r → MatchBool moved (IsRank view.pattern.side next.cells (r + 1)) (r + 1 ≡ length (placements view.pattern.side (length view.cells))))
       → IsHeld p cells size first (last + 1) (free + 1) next
   held_more moved {next} out same placed step = record {
@@ -143,7 +143,7 @@ module _ {p : PatternView} {cells : List ℕ} {mask count width size first last 
     rank = held.rank;
   }
 
-module _ {p : PatternView} {cells : List ℕ} {last before : ℕ} {view : PlacementView} (at : IsAtLast p cells last before view) where
+module _ {p : ShownPattern} {cells : List ℕ} {last before : ℕ} {view : ShownPlacement} (at : IsAtLast p cells last before view) where
   pub regions_are : {items regions : List ℕ} → regions ≡ items → AreRegions view.pattern.side view.cells items → AreRegions p.side (with_last cells last) regions
   regions_are {items} {regions} same are = subst (AreRegions p.side (with_last cells last)) (sym same) (subst (λ q. AreRegions p.side q items) at.cells_are (subst (λ q. AreRegions q.side view.cells items) at.pattern are))
 

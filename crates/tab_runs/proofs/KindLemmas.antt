@@ -2,7 +2,7 @@
 use Rattle.std.proofs.Common.{◌≡◌, ◌≢◌, ℕ, ◌+◌, ◌-◌, ◌*◌, ◌<◌, ◌≤◌, true, List, length, get_or, inl, inr, sym, ◌∙◌, ap, subst, arith}
 use Rattle.std.proofs.lemmas.Bool.{cases_eq, cases_lt}
 use Rattle.puz_board.specs.Masks.{IsMaskOf}
-use Rattle.pat_place.specs.Patterns.{PatternView, has}
+use Rattle.pat_place.specs.Patterns.{ShownPattern, has}
 use Rattle.pat_place.specs.Placements.{IsFree}
 use Rattle.pat_place.specs.Regions.{AreRegions}
 use Rattle.pat_place.proofs.SetLemmas.{SameCells, free_same, same_back, same_of_mask, slot_same}
@@ -77,7 +77,7 @@ tells_same n w p q same kinds tells c j free low =
 
 -- ---- one set more
 
-pub entries_same : (p : PatternView) (cells : List ℕ) → IsRun p cells → run_length p.side cells * slot_count p ≡ entries_of_run p.side (length p.tiles)
+pub entries_same : (p : ShownPattern) (cells : List ℕ) → IsRun p cells → run_length p.side cells * slot_count p ≡ entries_of_run p.side (length p.tiles)
 entries_same p cells run = ap (λ k. k * slot_count p) (let s = run.size in let e : p.side * p.side - length cells ≡ p.side * p.side + 1 - length p.tiles = omega arith in e)
 
 pub kinds_of_set : (n w : ℕ) (p kinds : List ℕ) (mask : ℕ) → IsMaskOf mask (λ c. has p c ≡ true) → TellRegions n w p kinds → TellRegionsOf n w mask kinds

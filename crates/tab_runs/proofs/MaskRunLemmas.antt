@@ -5,13 +5,13 @@ use Rattle.puz_board.specs.Masks.{IsMaskOf, numbers_of}
 use Rattle.puz_board.proofs.BitLemmas.{in_below}
 use Rattle.puz_board.proofs.GrownLemmas.{free_fits}
 use Rattle.puz_board.proofs.HasLemmas.{all_from_has}
-use Rattle.pat_place.specs.Patterns.{IsPattern, PatternView, has}
+use Rattle.pat_place.specs.Patterns.{IsPattern, ShownPattern, has}
 use Rattle.pat_place.proofs.ListLemmas.{apart_from_ascending}
 use Rattle.pat_place.proofs.MaskLemmas.{ascending-numbers_below, has-numbers_below, in_numbers_below, length-numbers_below}
 use Rattle.pat_place.proofs.PatternLemmas.{few_tiles}
 use Rattle.tab_runs.specs.RunPlaces.{IsRun}
 
-module _ (p : PatternView) (pat : IsPattern p) (set : ℕ) (bits : set < 2 ^ (p.side * p.side)) (size : count_ones set + 1 ≡ length p.tiles) where
+module _ (p : ShownPattern) (pat : IsPattern p) (set : ℕ) (bits : set < 2 ^ (p.side * p.side)) (size : count_ones set + 1 ≡ length p.tiles) where
   fits : set < 2 ^ 32
   fits = free_fits p.side set pat.low pat.high bits
 

@@ -7,7 +7,7 @@ use Rattle.tab_runs.specs.Rows.{IsOpen, IsRow, listed_below, row_length}
 use Rattle.tab_runs.specs.RunPlaces.{AreFreeBelow}
 use Rattle.tab_runs.specs.RunsOfTables.{IsRunOf}
 use Rattle.tab_runs.specs.Steps.{IsSingleStep, IsPairStep, IsTakenIn}
-use Rattle.tab_runs.specs.RowTables.{RowsView, row_of, rows_for}
+use Rattle.tab_runs.specs.RowTables.{ShownRows, row_of, rows_for}
 use Rattle.tab_runs.specs.declared.runs.Run.{Run}
 use Rattle.tab_runs.proofs.ListedLemmas.{listed_both}
 use Rattle.tab_runs.proofs.LoopLemmas.{one_as, own_low, pair_taken}
@@ -22,7 +22,7 @@ pub record IsInRow (t : Table) (p own : List ℕ) (x c : ℕ) (row : List ℕ) (
   pub entry_low : {place : ℕ} → place ≡ get_or row index 0 → place < length own
 
 -- what is known of two free cells of a run, in their order
-pub record ArePair (t : Table) (v : RowsView) (r : Run) (below : List ℕ) (a b : ℕ) : Type 0 where
+pub record ArePair (t : Table) (v : ShownRows) (r : Run) (below : List ℕ) (a b : ℕ) : Type 0 where
   pub pattern : IsPattern t.pattern
   pub rows : v ≡ rows_for t.pattern
   pub run : IsRunOf t r
@@ -31,7 +31,7 @@ pub record ArePair (t : Table) (v : RowsView) (r : Run) (below : List ℕ) (a b 
   pub free_b : IsFree t.pattern.side r.cells.now b
   pub order : a < b
 
-module _ {t : Table} {v : RowsView} {r : Run} {below : List ℕ} {a b : ℕ} (are : ArePair t v r below a b) where
+module _ {t : Table} {v : ShownRows} {r : Run} {below : List ℕ} {a b : ℕ} (are : ArePair t v r below a b) where
   both : (get_or below a 0 ≡ listed_below r.cells.now b a) × (get_or below b 0 ≡ listed_below r.cells.now a b + 1)
   both = listed_both t.pattern.side r.cells.now below a b are.counts are.free_a are.free_b are.order
 

@@ -2,7 +2,7 @@
 use Rattle.std.proofs.Common.{◌≡◌, ◌≢◌, ℕ, ◌+◌, ◌-◌, ◌*◌, ◌<◌, ◌≤◌, List, length, get_or, inl, inr, sym, ◌∙◌, ap, subst, arith}
 use Rattle.std.proofs.lemmas.Bool.{cases_eq, cases_lt}
 use Rattle.std.proofs.Math.Nat.{mul-le-mul_right}
-use Rattle.pat_place.specs.Patterns.{IsPattern, PatternView}
+use Rattle.pat_place.specs.Patterns.{IsPattern, ShownPattern}
 use Rattle.pat_place.specs.Placements.{IsFree}
 use Rattle.pat_place.specs.Ranks.{IsRank}
 use Rattle.pat_place.specs.Regions.{IsSlot}
@@ -12,7 +12,7 @@ use Rattle.tab_rule.specs.BadEntries.{KeepsRule}
 use Rattle.tab_rule.specs.Blocks.{IsLeastBadIn, first_of_block}
 use Rattle.tab_rule.specs.Entries.{IsGoalNumber}
 use Rattle.tab_rule.specs.LocalRule.{IsGoalSlot, no_region, goal as goal_kind, other as other_kind}
-use Rattle.tab_rule.proofs.BlockLemmas.{same_cells}
+use Rattle.tab_rule.proofs.EntryNumberLemmas.{entry_cells}
 use Rattle.tab_file.specs.Tables.{Table, slot_count}
 use Rattle.tab_runs.specs.Checks.{AreKinds, IsFirstBadPlace, RunKeepsRule}
 use Rattle.tab_runs.specs.Kinds.{TellRegions}
@@ -37,13 +37,13 @@ module _ (t : Table) (pat : IsPattern t.pattern) (p : List ℕ) (run : IsRun t.p
       (let r : (first + free_below p c) * slot_count t.pattern + j ≡ first * slot_count t.pattern + (free_below p c * slot_count t.pattern + j) = omega arith in r) ∙ e ∙ goal.is_number.counted in
       let parts = parts_one (first + free_below p c) goal.is_number.rank (slot_count t.pattern) j goal.slot low goal.is_number.slot sum in
       let placed = placed_last t.pattern p c run free in (
-        same_cells t.pattern.side (with_last p c) t.pattern.tiles goal.is_number.rank placed.size (subst (IsRank t.pattern.side (with_last p c)) parts.0 (is_first.each c free)) goal.is_number.is_rank,
+        entry_cells goal.is_number (with_last p c) (first + free_below p c) placed.size (is_first.each c free) parts.0,
         parts.1,
       )
 
   number_at : (c j : ℕ) → IsFree t.pattern.side p c → IsGoalSlot t.pattern (with_last p c) j → first * slot_count t.pattern + (free_below p c * slot_count t.pattern + j) ≡ number
   number_at c j free g =
-      let rank : first + free_below p c ≡ goal.is_number.rank = IsRank-one t.pattern.side t.pattern.tiles (first + free_below p c) goal.is_number.rank (subst (λ q. IsRank t.pattern.side q (first + free_below p c)) g.0 (is_first.each c free)) goal.is_number.is_rank in
+      let rank : first + free_below p c ≡ goal.is_number.rank = IsRank-one t.pattern.side t.pattern.tiles (first + free_below p c) goal.is_number.rank (subst (λ q. IsRank t.pattern.side q (first + free_below p c)) g.0 (is_first.each c free)) goal.is_number.is_placement in
       let slot : j ≡ goal.slot = slot_one t.pattern.side pat.low pat.high t.pattern.tiles 0 j goal.slot (subst (λ q. IsSlotOf q j) g.0 g.1) goal.in_slot in
       (let r : first * slot_count t.pattern + (free_below p c * slot_count t.pattern + j) ≡ (first + free_below p c) * slot_count t.pattern + j = omega arith in r) ∙
       ap (λ r. r * slot_count t.pattern + j) rank ∙ ap (λ k. goal.is_number.rank * slot_count t.pattern + k) slot ∙ sym goal.is_number.counted
@@ -102,7 +102,7 @@ module _ (t : Table) (p : List ℕ) (first : ℕ) (is_first : IsFirstRank t.patt
 pub part_low : (a b w : ℕ) → a ≤ b → a * w ≤ b * w
 part_low a b w l = mul-le-mul_right w l
 
-pub part_few : (p : PatternView) (cells : List ℕ) (count w : ℕ) → w ≡ slot_count p → count ≤ run_length p.side cells → count * w ≤ run_length p.side cells * slot_count p
+pub part_few : (p : ShownPattern) (cells : List ℕ) (count w : ℕ) → w ≡ slot_count p → count ≤ run_length p.side cells → count * w ≤ run_length p.side cells * slot_count p
 part_few p cells count w same l = subst (λ v. count * v ≤ run_length p.side cells * slot_count p) (sym same) (mul-le-mul_right (slot_count p) l)
 
 -- ---- from part to part of a block

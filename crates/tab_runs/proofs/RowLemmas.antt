@@ -4,7 +4,7 @@ use Rattle.std.specs.List.{AllByRecursion, range_with_len}
 use Rattle.std.proofs.lemmas.Bool.{cases_eq, cases_lt}
 use Rattle.std.proofs.Math.Nat.{mul-le-mul_right}
 use Rattle.puz_board.proofs.CellLemmas.{by_side}
-use Rattle.pat_place.specs.Patterns.{IsPattern, PatternView, most_tiles, width}
+use Rattle.pat_place.specs.Patterns.{IsPattern, ShownPattern, most_tiles, width}
 use Rattle.pat_place.specs.Placements.{IsApart, IsFree}
 use Rattle.pat_place.specs.Regions.{IsSlot}
 use Rattle.pat_place.proofs.CountLemmas.{holds_at}
@@ -73,7 +73,7 @@ at_side = by_side (λ n. (k : ℕ) → k + 1 ≤ most_tiles n → test n k ≡ t
     (λ k l. holds_at (test 4) 8 k refl (omega arith))
     (λ k l. holds_at (test 5) 6 k refl (omega arith))
 
-pub few_entries : (p : PatternView) → IsPattern p → (cells : List ℕ) → IsRun p cells → run_length p.side cells * slot_count p ≤ most_run_entries
+pub few_entries : (p : ShownPattern) → IsPattern p → (cells : List ℕ) → IsRun p cells → run_length p.side cells * slot_count p ≤ most_run_entries
 few_entries p pat cells run =
     let small = ltb-true ((p.side * p.side - length cells) * width p.side (length cells + 1)) (most_run_entries + 1) (at_side p.side pat.low pat.high (length cells) (let m = pat.most in let s = run.size in omega arith)) in
     let e : run_length p.side cells * width p.side (length cells + 1) ≡ run_length p.side cells * slot_count p = ap (λ k. run_length p.side cells * width p.side k) run.size in
@@ -81,7 +81,7 @@ few_entries p pat cells run =
 
 -- ---- what a row holds
 
-module _ (p : PatternView) (pat : IsPattern p) (cells : List ℕ) (run : IsRun p cells) where
+module _ (p : ShownPattern) (pat : IsPattern p) (cells : List ℕ) (run : IsRun p cells) where
   pub slot_low : (c x j : ℕ) → IsFree p.side cells c → IsSlot p.side (with_last cells c) x j → j < slot_count p
   slot_low c x j free is =
       let place = placed_last p cells c run free in

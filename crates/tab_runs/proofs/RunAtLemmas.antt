@@ -9,8 +9,8 @@ use Rattle.std.proofs.Math.Seq.{set-append_seam, take-suc}
 use Rattle.puz_board.specs.Masks.{IsMaskOf}
 use Rattle.puz_board.proofs.BitLemmas.{in_below}
 use Rattle.puz_board.proofs.CellLemmas.{few_cells}
-use Rattle.pat_place.specs.Patterns.{IsPattern, PatternView, has}
-use Rattle.pat_place.specs.Placements.{IsApart, IsFree, IsPlacement, PlacementView}
+use Rattle.pat_place.specs.Patterns.{IsPattern, ShownPattern, has}
+use Rattle.pat_place.specs.Placements.{IsApart, IsFree, IsPlacement, ShownPlacement}
 use Rattle.pat_place.specs.Ranks.{IsRank}
 use Rattle.pat_place.proofs.ListLemmas.{all_at, at-has}
 use Rattle.pat_place.proofs.RankLemmas.{IsRank-one}
@@ -70,7 +70,7 @@ first_is n p c from inside apart free is =
     let e : first.0 * run_length n p ≡ from - from % run_length n p = (let k = parts.1 in omega arith) in
     subst (IsFirstRank n p) e first.2
 
-pub run_at : (t : Table) → IsPattern t.pattern → (view : PlacementView) → view.pattern ≡ t.pattern → IsPlacement view → (from : ℕ) → IsRank t.pattern.side view.cells from → (cells : List ℕ) → cells ≡ view.cells
+pub run_at : (t : Table) → IsPattern t.pattern → (view : ShownPlacement) → view.pattern ≡ t.pattern → IsPlacement view → (from : ℕ) → IsRank t.pattern.side view.cells from → (cells : List ℕ) → cells ≡ view.cells
     → (index occupied set len : ℕ) → index + 1 ≡ length t.pattern.tiles → IsMaskOf occupied (λ c. has view.cells c ≡ true) → set < 2 ^ 32 → bit_at set (get_or cells index 0) ≡ 0
     → ((x : ℕ) → x < 32 → x ≢ get_or cells index 0 → bit_at set x ≡ bit_at occupied x) → len ≡ t.pattern.side * t.pattern.side + 1 - length t.pattern.tiles
     → IsRunAt t (take index cells) (get_or cells index 0) from (from - from % len) set
@@ -135,7 +135,7 @@ outside_free t p c from first set at g count count_is is = (
 )
 
 -- the set of a placement's cells without that of its last tile
-pub record IsWithoutLast (q : PatternView) (view : PlacementView) (count index cell occupied rest : ℕ) : Type 0 where
+pub record IsWithoutLast (q : ShownPattern) (view : ShownPlacement) (count index cell occupied rest : ℕ) : Type 0 where
   pub pattern : IsPattern q
   pub same : view.pattern ≡ q
   pub placed : IsPlacement view
@@ -148,7 +148,7 @@ pub record IsWithoutLast (q : PatternView) (view : PlacementView) (count index c
   pub others : (x : ℕ) → x < 32 → x ≢ cell → bit_at rest x ≡ bit_at occupied x
 
 -- the greatest cell that it lacks is where the run's last placement has the last tile
-module _ {q : PatternView} {view : PlacementView} {count index cell occupied rest : ℕ} (w : IsWithoutLast q view count index cell occupied rest) where
+module _ {q : ShownPattern} {view : ShownPlacement} {count index cell occupied rest : ℕ} (w : IsWithoutLast q view count index cell occupied rest) where
   long : length view.cells ≡ index + 1
   long = w.placed.size ∙ ap (λ u. length u.tiles) w.same ∙ sym w.index_is
 

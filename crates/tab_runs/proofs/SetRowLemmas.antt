@@ -2,7 +2,7 @@
 use Rattle.std.proofs.Common.{◌≡◌, ◌≢◌, ℕ, ◌+◌, ◌*◌, ◌<◌, List, length, get_or, set, inl, inr, refl, sym, ◌∙◌, ap, subst, arith, get_or-set_same, get_or-set_other}
 use Rattle.std.specs.Int.{bit_at}
 use Rattle.std.proofs.lemmas.Bool.{cases_eq, cases_lt}
-use Rattle.pat_place.specs.Patterns.{IsPattern, PatternView}
+use Rattle.pat_place.specs.Patterns.{IsPattern, ShownPattern}
 use Rattle.pat_place.specs.Placements.{IsFree}
 use Rattle.pat_place.specs.Regions.{AreRegions, IsSlot}
 use Rattle.pat_place.proofs.SlotLemmas.{slot_one}
@@ -66,7 +66,7 @@ set_rows_skip n k cells c block set_rows taken = record {
 }
 
 -- a free cell
-module _ (p : PatternView) (pat : IsPattern p) (cells : List ℕ) (run : IsRun p cells) (c : ℕ) (free : IsFree p.side cells c) (regions : List ℕ) (are : AreRegions p.side (with_last cells c) regions) where
+module _ (p : ShownPattern) (pat : IsPattern p) (cells : List ℕ) (run : IsRun p cells) (c : ℕ) (free : IsFree p.side cells c) (regions : List ℕ) (are : AreRegions p.side (with_last cells c) regions) where
   some_open : (x : ℕ) → IsInSome regions x → IsOpen p.side cells x c
   some_open x some =
       let in_region = (are.each some.0 x some.1).0 some.2 in

@@ -11,6 +11,7 @@ use Rattle.tab_file.specs.Tables.{Table, slot_count}
 use Rattle.tab_rule.specs.Entries.{IsEntryAt}
 use Rattle.tab_rule.specs.LocalRule.{IsLeastNear, IsLeastOf, IsNearEntry}
 use Rattle.tab_rule.proofs.EntryLemmas.{entry_one}
+use Rattle.tab_rule.proofs.EntryNumberLemmas.{entry_number}
 use Rattle.tab_rule.proofs.MoveLemmas.{IsLeastOf-same}
 use Rattle.tab_runs.specs.Rows.{IsOpen, IsRow, listed_below, place_in_run}
 use Rattle.tab_runs.specs.RunPlaces.{AreRunEntries, IsRun}
@@ -31,13 +32,9 @@ module _ (t : Table) (pat : IsPattern t.pattern) (p : List ℕ) (run : IsRun t.p
         slot = j.0;
         is_slot = j.1;
         number = (entries.first + free_below p c) * slot_count t.pattern + j.0;
-        is_number = record {
-          placement = placed_last t.pattern p c run o.last;
-          rank = entries.first + free_below p c;
-          is_rank = entries.is_first.each c o.last;
-          slot = low;
-          counted = refl;
-        };
+        is_number =
+            let size = (placed_last t.pattern p c run o.last).size in
+            entry_number (entries.first + free_below p c) size (entries.is_first.each c o.last) low refl;
         holds = sym (ap (λ i. get_or near i 0) (is.place c j.0 o j.1) ∙ entries.each c j.0 o.last low);
       }
 

@@ -3,7 +3,7 @@ use Rattle.std.proofs.Common.{◌≡◌, ℕ, ◌+◌, ◌*◌, ◌<◌, ◌≤�
 use Rattle.std.proofs.lemmas.List.{get_or-drop, get_or-take, length-take-le}
 use Rattle.std.proofs.Math.Nat.{mul-le-mul_right}
 use Rattle.puz_board.specs.Masks.{IsMaskOf}
-use Rattle.pat_place.specs.Patterns.{IsPattern, PatternView, has}
+use Rattle.pat_place.specs.Patterns.{IsPattern, ShownPattern, has}
 use Rattle.pat_place.proofs.SetLemmas.{same_of_mask}
 use Rattle.tab_runs.specs.SetRows.{AreRowsUpTo}
 use Rattle.tab_runs.specs.Rows.{IsRow, listed_below, row_length}
@@ -11,7 +11,7 @@ use Rattle.tab_runs.specs.RunPlaces.{IsRun}
 use Rattle.tab_runs.specs.RowTables.{AreRowsOf, row_of}
 use Rattle.tab_runs.proofs.RowLemmas.{listed_low, row_same}
 
-module _ (p : PatternView) (pat : IsPattern p) (cells : List ℕ) (run : IsRun p cells) (block : List ℕ) (filled : AreRowsUpTo p.side (length p.tiles) cells (p.side * p.side) block) where
+module _ (p : ShownPattern) (pat : IsPattern p) (cells : List ℕ) (run : IsRun p cells) (block : List ℕ) (filled : AreRowsUpTo p.side (length p.tiles) cells (p.side * p.side) block) where
   abbrev len : ℕ
   len = row_length p.side (length p.tiles)
 

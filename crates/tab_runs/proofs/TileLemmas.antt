@@ -7,7 +7,7 @@ use Rattle.pat_place.specs.Placements.{IsFree}
 use Rattle.puz_board.proofs.CellLemmas.{few_cells}
 use Rattle.tab_file.specs.Tables.{Table}
 use Rattle.tab_runs.specs.Rows.{IsRow, row_length}
-use Rattle.tab_runs.specs.RowTables.{AreRowsOf, RowsView, row_of, rows_for}
+use Rattle.tab_runs.specs.RowTables.{AreRowsOf, ShownRows, row_of, rows_for}
 use Rattle.tab_runs.specs.RunPlaces.{AreRunEntries, IsRun}
 use Rattle.tab_runs.specs.RunsOfTables.{IsRunOf}
 use Rattle.tab_runs.specs.declared.runs.Run.{Run}
@@ -20,16 +20,16 @@ use Rattle.tab_runs.proofs.StepLemmas.{row_from_tile, tile_from_row}
 use Rattle.tab_runs.proofs.TakenLemmas.{taken_same}
 
 -- the row that is found among those of a set
-pub row_found : (t : Table) (v : RowsView) (mask x : ℕ) (p rows row : List ℕ) → v ≡ rows_for t.pattern → x < t.pattern.side * t.pattern.side → AreRowsOf t.pattern.side (length t.pattern.tiles) mask rows
+pub row_found : (t : Table) (v : ShownRows) (mask x : ℕ) (p rows row : List ℕ) → v ≡ rows_for t.pattern → x < t.pattern.side * t.pattern.side → AreRowsOf t.pattern.side (length t.pattern.tiles) mask rows
     → row ≡ row_of (row_length v.side v.tiles) rows x → IsMaskOf mask (λ c. has p c ≡ true) → IsRow t.pattern.side (length t.pattern.tiles) p x row
 row_found t v mask x p rows row same low are row_is is = subst (IsRow t.pattern.side (length t.pattern.tiles) p x) (sym (row_is ∙ ap (λ u. row_of (row_length u.side u.tiles) rows x) same)) (are.each x low p is)
 
 -- what is kept for a set serves the table
-pub kept_rows : (t : Table) (v : RowsView) (mask : ℕ) (rows : List ℕ) → v ≡ rows_for t.pattern → AreRowsOf v.side v.tiles mask rows → AreRowsOf t.pattern.side (length t.pattern.tiles) mask rows
+pub kept_rows : (t : Table) (v : ShownRows) (mask : ℕ) (rows : List ℕ) → v ≡ rows_for t.pattern → AreRowsOf v.side v.tiles mask rows → AreRowsOf t.pattern.side (length t.pattern.tiles) mask rows
 kept_rows t v mask rows same are = subst (λ u. AreRowsOf u.side u.tiles mask rows) same are
 
 -- the row that is found for the run's own set
-pub own_row : (t : Table) (v : RowsView) (r : Run) (x : ℕ) (row : List ℕ) → v ≡ rows_for t.pattern → IsRunOf t r → x < t.pattern.side * t.pattern.side → row ≡ row_of (row_length v.side v.tiles) r.rows.now x → IsRow t.pattern.side (length t.pattern.tiles) r.cells.now x row
+pub own_row : (t : Table) (v : ShownRows) (r : Run) (x : ℕ) (row : List ℕ) → v ≡ rows_for t.pattern → IsRunOf t r → x < t.pattern.side * t.pattern.side → row ≡ row_of (row_length v.side v.tiles) r.rows.now x → IsRow t.pattern.side (length t.pattern.tiles) r.cells.now x row
 own_row t v r x row same run low row_is = row_found t v r.set x r.cells.now r.rows.now row same low run.rows row_is run.set
 
 -- what is known of the rows of a tile's move
@@ -61,7 +61,7 @@ module _ (t : Table) (p : List ℕ) (i f : ℕ) (to from : List ℕ) (are : AreT
       is
 
 -- the rows that are found for a tile's move
-pub tile_rows : (t : Table) (v : RowsView) (r : Run) (i f less more : ℕ) (kept to from : List ℕ) → IsPattern t.pattern → v ≡ rows_for t.pattern → IsRunOf t r → i < length r.cells.now → IsFree t.pattern.side r.cells.now f
+pub tile_rows : (t : Table) (v : ShownRows) (r : Run) (i f less more : ℕ) (kept to from : List ℕ) → IsPattern t.pattern → v ≡ rows_for t.pattern → IsRunOf t r → i < length r.cells.now → IsFree t.pattern.side r.cells.now f
     → less < 2 ^ 32 → bit_at less (get_or r.cells.now i 0) ≡ 0 → ((x : ℕ) → x < 32 → x ≢ get_or r.cells.now i 0 → bit_at less x ≡ bit_at r.set x) → bit_at more f ≡ 1 → ((x : ℕ) → x ≢ f → bit_at more x ≡ bit_at less x)
     → AreRowsOf v.side v.tiles more kept → to ≡ row_of (row_length v.side v.tiles) r.rows.now f → from ≡ row_of (row_length v.side v.tiles) kept (get_or r.cells.now i 0) → AreTileRows t r.cells.now i f to from
 tile_rows t v r i f less more kept to from pat same run low free fits clear others_same here others are to_is from_is =

@@ -1,15 +1,15 @@
 -- Tables of rows: for each set of cells the rows of all cells, and how many entries a run has.
 use Rattle.std.specs.Prelude.{◌≡◌, ℕ, ◌+◌, ◌-◌, ◌*◌, ◌<◌, List, length, drop, take}
-use Rattle.pat_place.specs.Patterns.{PatternView, width}
+use Rattle.pat_place.specs.Patterns.{ShownPattern, width}
 use Rattle.tab_runs.specs.Rows.{IsRowOf, row_length}
 
 -- what a contract sees of a table of rows: the side of the board, and how many tiles a placement has
-pub record RowsView : Type 0 where
+pub record ShownRows : Type 0 where
   pub side : ℕ
   pub tiles : ℕ
 
 -- what serves the patterns with this side and as many tiles
-abbrev pub rows_for : PatternView → RowsView
+abbrev pub rows_for : ShownPattern → ShownRows
 rows_for p = record { side = p.side; tiles = length p.tiles }
 
 -- how many entries the placements of a run of k tiles have

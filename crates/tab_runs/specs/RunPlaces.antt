@@ -1,14 +1,14 @@
 -- Where the placements and the entries of a run are.
 use Rattle.std.specs.Prelude.{◌≡◌, ℕ, ◌+◌, ◌-◌, ◌*◌, ◌<◌, List, length, slice_index}
 use Rattle.std.specs.List.{AllByRecursion}
-use Rattle.pat_place.specs.Patterns.{PatternView}
+use Rattle.pat_place.specs.Patterns.{ShownPattern}
 use Rattle.pat_place.specs.Placements.{IsApart, IsFree}
 use Rattle.pat_place.specs.Ranks.{IsRank}
 use Rattle.tab_file.specs.Tables.{Table, entry_at, slot_count}
 use Rattle.tab_runs.specs.Runs.{free_below, with_last}
 
 -- a cell of the board for each tile but the last, no cell for two
-pub record IsRun (p : PatternView) (cells : List ℕ) : Type 0 where
+pub record IsRun (p : ShownPattern) (cells : List ℕ) : Type 0 where
   pub size : length cells + 1 ≡ length p.tiles
   pub inside : AllByRecursion (λ c. c < p.side * p.side) cells
   pub apart : IsApart cells

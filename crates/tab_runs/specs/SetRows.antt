@@ -1,7 +1,7 @@
 -- How the rows of all cells for one set of cells are filled, and what is kept of its slots.
 use Rattle.std.specs.Prelude.{◌≡◌, ◌≢◌, ℕ, ◌+◌, ◌-◌, ◌*◌, ◌<◌, ◌≤◌, ◌⊎◌, List, ltb, length, slice_index}
 use Rattle.std.specs.Int.{bit_at, from_bool}
-use Rattle.pat_place.specs.Patterns.{PatternView, width}
+use Rattle.pat_place.specs.Patterns.{ShownPattern, width}
 use Rattle.pat_place.specs.Placements.{IsFree}
 use Rattle.pat_place.specs.Regions.{IsSlot}
 use Rattle.tab_file.specs.Tables.{slot_count}
@@ -35,7 +35,7 @@ pub record AreRowsUpTo (n k : ℕ) (p : List ℕ) (count : ℕ) (block : List �
       slice_index block (x * row_length n k + listed_below p x c) ≡ place_in_run (width n k) p c j
 
 -- the same for all cells, of a run of the pattern
-abbrev pub AreRowsOfRun : PatternView → List ℕ → List ℕ → Type 0
+abbrev pub AreRowsOfRun : ShownPattern → List ℕ → List ℕ → Type 0
 AreRowsOfRun p cells block = AreRowsUpTo p.side (length p.tiles) cells (p.side * p.side) block
 
 -- ---- which slots have a region
@@ -52,5 +52,5 @@ pub record AreKindsUpTo (n w : ℕ) (p : List ℕ) (count : ℕ) (kinds : List �
   pub empty : (c j : ℕ) → ¬ (c < count) → IsFree n p c → j < w → slice_index kinds (free_below p c * w + j) ≡ 0
 
 -- the same for all cells, of a run of the pattern
-abbrev pub AreKindsOfRun : PatternView → List ℕ → List ℕ → Type 0
+abbrev pub AreKindsOfRun : ShownPattern → List ℕ → List ℕ → Type 0
 AreKindsOfRun p cells kinds = AreKindsUpTo p.side (slot_count p) cells (p.side * p.side) kinds

@@ -7,8 +7,7 @@ use Rattle.clap.specs.Kinds.{Kinds, or_else}
 use Rattle.clap.specs.Walk.{Rule, Text, Walk, arg_by_index, finished}
 use Rattle.clap.specs.declared.error.kind.ErrorKind.TheVariants as kind
 use Rattle.clap.proofs.OnLiterals.{clap_on_literals}
-use Rattle.pdb_request.specs.Asked.{Asked, log_check}
-use Rattle.pdb_request.specs.declared.requests.Claim.TheVariants.{Bound, Optimum}
+use Rattle.pdb_request.specs.Asked.{Asked, bound, optimal}
 use Rattle.pdb_words.specs.Budget.{usual_budget}
 use Rattle.pdb_words.specs.CommandLine.{asked_by, faults_of}
 use Rattle.pdb_words.specs.Commands.{IsCommand, IsPlain}
@@ -40,8 +39,8 @@ is_command = by_command (λ command. IsCommand (name_of command)) (inr (inr (inl
 
 -- what it asks for, with the usual budget
 abbrev pub asks : LogCommand → AsksOfLog
-asks on_board = log_check Bound
-asks on_puzzle = log_check Optimum
+asks on_board = bound
+asks on_puzzle = optimal
 asks on_search = search_within usual_budget
 
 -- a flag with a number
@@ -190,9 +189,9 @@ names_log command = record {
 }
 
 -- the words of `bound`
-pub board_names : NamesLog (codes "bound") (log_check Bound)
+pub board_names : NamesLog (codes "bound") bound
 board_names = names_log on_board
 
 -- the words of `optimal`
-pub puzzle_names : NamesLog (codes "optimal") (log_check Optimum)
+pub puzzle_names : NamesLog (codes "optimal") optimal
 puzzle_names = names_log on_puzzle

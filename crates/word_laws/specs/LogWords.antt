@@ -1,7 +1,7 @@
 -- What the words of a command that names a log ask for.
 use Rattle.std.specs.Prelude.{◌≡◌, ℕ, Bool, List, [], ◌∷◌, ◌++◌, codes, false, true}
 use Rattle.clap.specs.Walk.{Text}
-use Rattle.pdb_request.specs.Asked.{Asked, solve}
+use Rattle.pdb_request.specs.Asked.{Asked, LogArguments, solve}
 use Rattle.pdb_words.specs.Commands.{IsPlain}
 use Rattle.pdb_words.specs.Faults.{IsMistaken}
 use Rattle.pdb_words.specs.Numbers.{number_of}
@@ -30,18 +30,32 @@ abbrev pub with_fold : Bool → List Text → List Text
 with_fold true words = codes "--fold" ∷ words
 with_fold false words = words
 
--- what is asked of a text, the sets, a log and its tables, of so many workers, with the tables folded or whole
+-- what is asked with the arguments of a check of a log
 abbrev pub AsksOfLog : Type 0
-AsksOfLog = Text → Text → Text → List Text → ℕ → Bool → Asked
+AsksOfLog = LogArguments → Asked
 
--- the same, of the files of these names
+-- the same, of the files of these names, of so many workers, with the tables folded or whole
 abbrev pub of_names : AsksOfLog → LogNames → ℕ → Bool → Asked
-of_names asks names workers folds =
-    asks names.text names.sets names.log (tables_named names) workers folds
+of_names asks names workers folds = asks (record {
+  text = names.text;
+  sets = names.sets;
+  log = names.log;
+  tables = tables_named names;
+  workers = workers;
+  fold = folds;
+})
 
--- a search that may expand so many boards
+-- a search that may expand so many boards, and that keeps its log under the name of the log
 abbrev pub search_within : ℕ → AsksOfLog
-search_within budget = λ board sets out tables workers folds. solve board sets out tables workers folds budget
+search_within budget = λ given. solve (record {
+  board = given.text;
+  sets = given.sets;
+  out = given.log;
+  tables = given.tables;
+  workers = given.workers;
+  fold = given.fold;
+  budget = budget;
+})
 
 -- the command of this name, with the names of a text, the sets, a log and one table or more, asks for this: of one worker, or
 -- of as many as `--workers` says, first or last; and with folded tables where `--fold` comes first or last

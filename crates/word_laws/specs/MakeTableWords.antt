@@ -25,4 +25,9 @@ WritesPattern words = (writes_side words.side ≡ true) × (writes_mask words.ma
 
 -- what they ask for, of so many workers
 abbrev pub asks_for_table : PatternWords → ℕ → Asked
-asks_for_table words workers = make_table (number_of words.side) (number_of words.mask) words.out workers
+asks_for_table words workers = make_table (record {
+  side = number_of words.side;
+  mask = number_of words.mask;
+  out = words.out;
+  workers = workers;
+})

@@ -1,13 +1,13 @@
 //! What holds of all words. Each function here says it, and does nothing.
 
-ghost use Rattle.std.specs.Prelude.{◌≡◌, ◌≢◌, ◌∷◌, ◌++◌, [], ℕ, List, None, Some, codes, false, true};
+ghost use Rattle.std.specs.Prelude.{◌≡◌, ◌≢◌, ◌∷◌, ◌++◌, [], ℕ, List, Some, codes, false, true};
 ghost use Rattle.std.specs.List.{All};
-ghost use Rattle.pdb_request.specs.Asked.{log_check, replay, table};
-ghost use Rattle.pdb_request.specs.declared.requests.Claim.TheVariants.{Bound, Optimum};
+ghost use Rattle.pdb_request.specs.Asked.{bound, optimal, replay, table};
 ghost use Rattle.pdb_words.specs.CommandLine.{Parses};
 ghost use Rattle.pdb_words.specs.Commands.{BeginsWithCommand, IsCommand, IsPlain};
 ghost use Rattle.pdb_words.specs.Faults.{IsMistaken};
 ghost use Rattle.pdb_words.specs.Numbers.{number_of};
+ghost use Rattle.pdb_words.specs.Replay.{replay_input};
 ghost use Rattle.word_laws.specs.Asking.{AsksFor};
 ghost use Rattle.word_laws.specs.Flags.{IsLongFlag, TakesFlag};
 ghost use Rattle.word_laws.specs.LogWords.{NamesLog};
@@ -15,10 +15,10 @@ ghost use Rattle.word_laws.specs.NumberTexts.{writes_workers};
 
 /// No words, and `replay` alone, ask for standard input, and `replay` with a name for that file.
 pub fn what_replay_asks()
-    ensures nothing { AsksFor [] (replay None) }
-    ensures alone { AsksFor (codes "replay" ∷ []) (replay None) }
+    ensures nothing { AsksFor [] replay_input }
+    ensures alone { AsksFor (codes "replay" ∷ []) replay_input }
     ensures file { (name : List ℕ) → IsPlain name
-        → AsksFor (codes "replay" ∷ name ∷ []) (replay (Some name)) }
+        → AsksFor (codes "replay" ∷ name ∷ []) (replay (record { puzzle = Some name })) }
     ensures workers { (number : List ℕ)
         → IsMistaken (codes "replay" ∷ codes "--workers" ∷ number ∷ []) }
 {}
@@ -27,19 +27,19 @@ pub fn what_replay_asks()
 /// or behind it.
 pub fn what_table_asks()
     ensures file { (name : List ℕ) → IsPlain name
-        → AsksFor (codes "table" ∷ name ∷ []) (table name 1) }
+        → AsksFor (codes "table" ∷ name ∷ []) (table (record { file = name; workers = 1 })) }
     ensures alone { IsMistaken (codes "table" ∷ []) }
     ensures workers { (number name : List ℕ) → IsPlain number → IsPlain name
         → writes_workers number ≡ true
         → AsksFor (codes "table" ∷ codes "--workers" ∷ number ∷ name ∷ [])
-        (table name (number_of number)) }
+        (table (record { file = name; workers = number_of number })) }
     ensures other_workers { (number name : List ℕ) → IsPlain number → IsPlain name
         → writes_workers number ≡ false
         → IsMistaken (codes "table" ∷ codes "--workers" ∷ number ∷ name ∷ []) }
     ensures workers_last { (number name : List ℕ) → IsPlain number → IsPlain name
         → writes_workers number ≡ true
         → AsksFor (codes "table" ∷ name ∷ codes "--workers" ∷ number ∷ [])
-        (table name (number_of number)) }
+        (table (record { file = name; workers = number_of number })) }
     ensures other_workers_last { (number name : List ℕ) → IsPlain number → IsPlain name
         → writes_workers number ≡ false
         → IsMistaken (codes "table" ∷ name ∷ codes "--workers" ∷ number ∷ []) }
@@ -50,14 +50,14 @@ pub fn what_table_asks()
 /// folded then where `--fold` comes before all or behind all.
 #[tactic(auto, using(crate::proofs::LogLemmas::board_names))]
 pub fn what_bound_asks()
-    ensures { NamesLog (codes "bound") (log_check Bound) }
+    ensures { NamesLog (codes "bound") bound }
 {}
 
 /// `optimal` asks in the same words, with a puzzle text first, whether the log proves that its moves are a shortest
 /// solution.
 #[tactic(auto, using(crate::proofs::LogLemmas::puzzle_names))]
 pub fn what_optimal_asks()
-    ensures { NamesLog (codes "optimal") (log_check Optimum) }
+    ensures { NamesLog (codes "optimal") optimal }
 {}
 
 /// Words that parse begin with a command of the program, and give no flag but those that their command takes:

@@ -2,7 +2,7 @@ use Rattle.std.proofs.Common.{◌≡◌, ◌+◌, ◌∷◌, ◌-◌, Some, List
 use Rattle.std.specs.Prelude.{IfNone, IfSome}
 use Rattle.puz_board.proofs.MovedLemmas.{IsBoardOf-moved}
 use Rattle.set_sum.specs.Steps.{IsStepFrom}
-use Rattle.set_sum.specs.SumViews.{SumsView}
+use Rattle.set_sum.specs.ShownSums.{ShownSums}
 use Rattle.log_check.specs.Nodes.{BeginsWith, BeginsWithNone}
 use Rattle.log_check.specs.Reached.{waiting_of}
 use Rattle.log_check.specs.Walks.{AreNeverPending, AreWalked, MayHave, Waiting, all_moves, with_child, with_children, with_node}
@@ -72,7 +72,7 @@ behind_child-returns-in-Some-clause-same t c =
     let sums : after.sums ≡ c.step.new.self = ap (λ x. x.sums) same in
     let from = subst (λ w. IsStepFrom w.bundle s.board w.board c.in-Some.step) (sym sums) (subst (λ v. IsStepFrom v s.board c.step.new.self.board c.in-Some.step) (sym is.1) is.2) in
     let back : c.take_back.new.self ≡ s =
-    c.take_back.ensures s.board from ∙ ap {B = SumsView} (λ v. record { bundle = v; board = s.board }) (ap (λ w. w.bundle) sums ∙ is.1) in
+    c.take_back.ensures s.board from ∙ ap {B = ShownSums} (λ v. record { bundle = v; board = s.board }) (ap (λ w. w.bundle) sums ∙ is.1) in
     let bound : after.bound + 1 ≡ r.bound = (let less : after.bound ≡ r.bound - 1 = ap (λ x. x.bound) same in let some = c.requires.bound in omega arith) in
     λ i. record { sums = back i; arriving = r.arriving; bound = bound i }
 

@@ -8,7 +8,7 @@ returns g c = λ fold sets tables is_bundle.
     let puzzle = c.as_slice-2.result.now in
     let log = c.as_slice-3.result.now in
     let joined = rw c.as_slice.ensures.value at c.in-Ok.ensures in
-    let is_found = IsOptimumResult fold (log_files puzzle sets log tables) in
+    let is_found = IsOptimumResult (log_files fold puzzle sets log tables) in
     let found = rw c.in-Ok-settled.ensures.ok at (c.log_beside-digest.ensures.answer fold sets tables is_bundle) in
     rw (c.as_slice-2.ensures.value, joined, c.as_slice-3.ensures.value) at
     (found_settled is_found (TakesMemoryForOptimum puzzle tables) c.in-Ok-settled.answer found)

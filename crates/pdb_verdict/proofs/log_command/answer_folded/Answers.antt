@@ -6,8 +6,8 @@ use Rattle.pdb_verdict.proofs.log_command.answer_folded.Goals as goal
 
 pub returns : goal.returns
 returns g c =
-    let files = files_read c.args.files in
+    let files = files_read true c.args.files in
     let log = c.as_slice-log.ensures.value in
     let found = rw (c.as_slice-sets.ensures.value, log) at c.bound_of_files-digests.ensures.found in
-    c.told_or_memory.ensures (log_claim (claim_with c.args.moves) true files) (rw log at c.bound_of_files-digests.ensures.digests)
-    (rw c.answer_with.ensures (claim_answered true files c.args.board.now c.args.moves _ c.requires.begins found))
+    c.told_or_memory.ensures (log_claim (claim_with c.args.moves) files) (rw log at c.bound_of_files-digests.ensures.digests)
+    (rw c.answer_with.ensures (claim_answered files c.args.board.now c.args.moves _ c.requires.begins found))

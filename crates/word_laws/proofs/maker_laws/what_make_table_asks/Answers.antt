@@ -3,7 +3,7 @@ use Rattle.clap.proofs.OnLiterals.{clap_on_literals}
 use Rattle.clap.specs.Kinds.{Kinds, or_else}
 use Rattle.clap.specs.Walk.{Text}
 use Rattle.clap.specs.declared.error.kind.ErrorKind.TheVariants as kind
-use Rattle.pdb_request.specs.Asked.{make_table}
+use Rattle.pdb_request.specs.Asked.{Asked, make_table}
 use Rattle.pdb_words.specs.CommandLine.{faults_of}
 use Rattle.pdb_words.specs.Commands.{IsCommand}
 use Rattle.pdb_words.specs.Faults.{IsMistaken}
@@ -43,8 +43,11 @@ module _ (words : PatternWords) where
   abbrev mask : Bool
   mask = masks.takes words.mask
 
+  abbrev made : ℕ → ℕ → ℕ → Asked
+  made side mask workers = make_table (record { side = side; mask = mask; out = words.out; workers = workers })
+
   abbrev ComesTo : List Text → Kinds → ℕ → Type 0
-  ComesTo ws kinds workers = Comes (codes "make-table") ws kinds (make_table (sides.reads words.side) (masks.reads words.mask) words.out workers)
+  ComesTo ws kinds workers = Comes (codes "make-table") ws kinds (made (sides.reads words.side) (masks.reads words.mask) workers)
 
   alone : ComesTo (pattern_words words) (workers_last true side mask) 1
   unfolding clap_on_literals
@@ -62,7 +65,7 @@ module _ (words : PatternWords) where
       → WritesPattern words → taken ≡ true → read ≡ workers → AsksFor (codes "make-table" ∷ ws) (asks_for_table words workers)
   asked ws kinds come right writes taken read = (
     come.0 ∙ (λ i. kinds (taken i) ((sides.taken words.side words.plain_side ∙ writes.0) i) ((masks.taken words.mask words.plain_mask ∙ writes.1) i)) ∙ right,
-    come.1 ∙ (λ i. make_table (sides.read words.side words.plain_side writes.0 i) (masks.read words.mask words.plain_mask writes.1 i) words.out (read i)),
+    come.1 ∙ (λ i. made (sides.read words.side words.plain_side writes.0 i) (masks.read words.mask words.plain_mask writes.1 i) (read i)),
   )
 
 pub returns : goal.returns

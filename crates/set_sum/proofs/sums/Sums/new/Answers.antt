@@ -2,7 +2,7 @@ use Rattle.std.proofs.Common.{◌≡◌, ◌*◌, refl, sym, ap, subst, take, ru
 use Rattle.puz_board.specs.Boards.{IsBoardOf}
 use Rattle.puz_board.specs.Transposing.{transposed}
 use Rattle.tab_rule.specs.Counts.{AreCellsOf}
-use Rattle.set_sum.specs.SumViews.{SumsView}
+use Rattle.set_sum.specs.ShownSums.{ShownSums}
 use Rattle.set_sum.proofs.SlideLemmas.{known_none, shown_board}
 use Rattle.set_sum.proofs.sums.Sums.new.Goals as goal
 
@@ -28,4 +28,4 @@ invariant_of-result c =
     }
 
 pub returns : goal.returns
-returns c = ap {B = SumsView} (λ x. record { bundle = c.args.bundle.now; board = x }) (shown c)
+returns c = ap {B = ShownSums} (λ x. record { bundle = c.args.bundle.now; board = x }) (shown c)

@@ -8,7 +8,7 @@ use Rattle.tab_rule.specs.Counts.{AreCellsOf}
 use Rattle.set_sum.specs.Owners.{AreOwners}
 use Rattle.set_sum.specs.StoredSums.{sums_numbers_shown}
 use Rattle.set_sum.specs.Known.{IsKnownOf}
-use Rattle.set_sum.specs.SumViews.{SumsView}
+use Rattle.set_sum.specs.ShownSums.{ShownSums}
 use Rattle.set_sum.specs.declared.known.Known.{Known}
 use Rattle.set_sum.proofs.KnownLemmas.{cells_after, known_after}
 use Rattle.set_sum.proofs.SlideLemmas.{blank_below, blank_first, number_at, numbers_slid, transposed_after}
@@ -88,5 +88,5 @@ invariant_of-self c =
 pub returns : goal.returns
 returns c =
     let s = c.self.inside in
-    ap {B = SumsView} (λ x. record { bundle = s.bundle.now; board = x }) (shown c) ∙
-    ap {B = SumsView} (λ w. record { bundle = w.bundle; board = slid w.board c.args.to }) c.self.view_is
+    ap {B = ShownSums} (λ x. record { bundle = s.bundle.now; board = x }) (shown c) ∙
+    ap {B = ShownSums} (λ w. record { bundle = w.bundle; board = slid w.board c.args.to }) c.self.view_is

@@ -5,7 +5,7 @@ use Rattle.puz_board.proofs.BoardLemmas.{cells_most}
 use Rattle.set_sum.specs.Owners.{AreOwners}
 use Rattle.set_sum.specs.StoredSums.{sums_numbers_shown}
 use Rattle.set_sum.specs.Known.{IsKnownOf}
-use Rattle.set_sum.specs.SumViews.{SumsView}
+use Rattle.set_sum.specs.ShownSums.{ShownSums}
 use Rattle.set_sum.proofs.SlideLemmas.{number_at, step_back, step_known, step_near}
 use Rattle.set_sum.proofs.sums.Sums.take_back.Goals as goal
 
@@ -45,7 +45,7 @@ invariant_of-self c =
     (subst (λ t. AreOwners n s.bundle.now.tables t c.owners.result) tile_is c.owners.ensures) in
     let behind : IsKnownOf now.bundle now.board s.known = subst (λ w. IsKnownOf w.bundle w.board s.known) c.self.view_is c.self.invariant.known in
     let known : IsKnownOf now.bundle b c.joined-known.result = step_known now.bundle b now.board step is c.owners.result own c.owners.type_inv s.known c.joined-known.result behind c.joined-known.ensures in
-    let back = c.self-2.view_is ∙ c.slide.ensures ∙ ap {B = SumsView} (λ x. record { bundle = now.bundle; board = x }) (step_back now.bundle b now.board step is) in
+    let back = c.self-2.view_is ∙ c.slide.ensures ∙ ap {B = ShownSums} (λ x. record { bundle = now.bundle; board = x }) (step_back now.bundle b now.board step is) in
     record {
       space = c.self-2.invariant.space;
       board = c.self-2.invariant.board;
@@ -59,4 +59,4 @@ invariant_of-self c =
 pub returns : goal.returns
 returns c b is =
     let now = c.args.self.now in
-    c.self-2.view_is ∙ c.slide.ensures ∙ ap {B = SumsView} (λ x. record { bundle = now.bundle; board = x }) (step_back now.bundle b now.board c.args.step.now is)
+    c.self-2.view_is ∙ c.slide.ensures ∙ ap {B = ShownSums} (λ x. record { bundle = now.bundle; board = x }) (step_back now.bundle b now.board c.args.step.now is)

@@ -3,7 +3,7 @@ use Rattle.std.proofs.lemmas.Bool.{cond-true, cond-false}
 use Rattle.std.specs.Prelude.{slice_index}
 use Rattle.puz_board.specs.Boards.{IsBoard, IsBoardOf}
 use Rattle.puz_board.proofs.BoardLemmas.{side_of-board}
-use Rattle.pat_place.specs.Patterns.{PatternView}
+use Rattle.pat_place.specs.Patterns.{ShownPattern}
 use Rattle.pat_place.specs.Placements.{IsPlacement, placement_of}
 use Rattle.pat_place.specs.Ranks.{IsRank}
 use Rattle.pat_place.proofs.PlacementLemmas.{IsPlacement-of}
@@ -15,7 +15,7 @@ use Rattle.tab_rule.proofs.LookLemmas.{placement_found, placement_on}
 use Rattle.tab_rule.proofs.folded.FoldedTable.look_in.Goals as goal
 
 -- a board of the pattern's side
-own : (p : PatternView) (b : List ℕ) → IsBoardOf p.side b → IsBoard b
+own : (p : ShownPattern) (b : List ℕ) → IsBoardOf p.side b → IsBoard b
 own p b board = subst (λ n. IsBoardOf n b) (sym (side_of-board p.side b board)) board
 
 pub standing_of-standing-requires : goal.standing_of-standing-requires
@@ -52,7 +52,7 @@ returns-clause-count c b board found =
     subst (IsFoldedCountOf p.tiles b) (sym c.count_of.ensures)
     (says-folded p b (side_of-board p.side b board) (slice_index c.as_slice.result.now c.standing_of-standing.result.rank) says)
 
-few : (p : PatternView) (cells : List ℕ) (e : ℕ) → SaysOfPlacement p cells e → (d : ℕ) → cond (eqb e 255) Never (Finite e) ≡ Finite d → d ≤ 253
+few : (p : ShownPattern) (cells : List ℕ) (e : ℕ) → SaysOfPlacement p cells e → (d : ℕ) → cond (eqb e 255) Never (Finite e) ≡ Finite d → d ≤ 253
 few p cells e says d is = elim says [
   | inl h ↦
       let own : cond (eqb e 255) Never (Finite e) ≡ Finite e = cond-false (eqb e 255) Never (Finite e) (ne_eqb e 255 (λ full. let l = h.0 in omega arith)) in

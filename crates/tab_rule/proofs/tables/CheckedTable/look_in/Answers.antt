@@ -2,7 +2,7 @@ use Rattle.std.proofs.Common.{◌≡◌, ◌<◌, ℕ, List, refl, slice_index, 
 use Rattle.puz_board.specs.Boards.{IsBoard, IsBoardOf, blank}
 use Rattle.puz_board.proofs.BoardLemmas.{cells_least, side_of-board}
 use Rattle.puz_board.specs.Masks.{IsMaskOf}
-use Rattle.pat_place.specs.Patterns.{PatternView, has}
+use Rattle.pat_place.specs.Patterns.{ShownPattern, has}
 use Rattle.pat_place.specs.Placements.{IsFree, IsPlacement, cells_found, placement_of}
 use Rattle.pat_place.proofs.PlacementLemmas.{IsPlacement-of}
 use Rattle.pat_place.specs.Ranks.{IsRank}
@@ -24,7 +24,7 @@ blank_found : (n : ℕ) (b found : List ℕ) → IsBoardOf n b → AreCellsOf fo
 blank_found n b found good are = are 0 (let l = cells_least n b good in let s = good.size in omega arith)
 
 -- the placement of a board, in the cells that were found
-found_on : (t : Table) → IsTable t → (b found : List ℕ) → IsBoardOf t.pattern.side b → AreCellsOf found b → (q : PatternView) → q ≡ t.pattern
+found_on : (t : Table) → IsTable t → (b found : List ℕ) → IsBoardOf t.pattern.side b → AreCellsOf found b → (q : ShownPattern) → q ≡ t.pattern
     → record { pattern = q; cells = cells_found q.tiles found } ≡ placement_on b t.pattern
 found_on t is b found board are q same = placement_found b found (own t.pattern.side b board) t.pattern is.pattern (side_of-board t.pattern.side b board) are q same
 

@@ -1,5 +1,5 @@
 use Rattle.std.proofs.Common.{◌≡◌, ◌<◌, refl, slice_index, sym, ◌∙◌, ap, subst}
-use Rattle.pat_place.specs.Placements.{IsFree, IsPlacement, PlacementView, cells_found}
+use Rattle.pat_place.specs.Placements.{IsFree, IsPlacement, ShownPlacement, cells_found}
 use Rattle.pat_place.specs.Ranks.{IsRank}
 use Rattle.pat_place.specs.Regions.{IsSlot}
 use Rattle.tab_rule.proofs.tables.CheckedTable.slot_found.Goals as goal
@@ -15,7 +15,7 @@ pub slot_in-requires : goal.slot_in-requires
 slot_in-requires c =
     let found = c.args.found.now in
     let on : c.of_cells-placement.result ≡ record { pattern = c.args.self.now.pattern; cells = cells_found c.args.self.now.pattern.tiles found } =
-    c.of_cells-placement.ensures ∙ ap {B = PlacementView} (λ q. record { pattern = q; cells = cells_found q.tiles found }) c.pattern.ensures.pattern in
+    c.of_cells-placement.ensures ∙ ap {B = ShownPlacement} (λ q. record { pattern = q; cells = cells_found q.tiles found }) c.pattern.ensures.pattern in
     record {
       placement = subst IsPlacement (sym on) c.requires.placement;
       pattern = ap (λ p. p.pattern) on;
@@ -32,7 +32,7 @@ pub returns-in-None : goal.returns-in-None
 returns-in-None c =
     let found = c.args.found.now in
     let on : c.of_cells-placement.result ≡ record { pattern = c.args.self.now.pattern; cells = cells_found c.args.self.now.pattern.tiles found } =
-    c.of_cells-placement.ensures ∙ ap {B = PlacementView} (λ q. record { pattern = q; cells = cells_found q.tiles found }) c.pattern.ensures.pattern in
+    c.of_cells-placement.ensures ∙ ap {B = ShownPlacement} (λ q. record { pattern = q; cells = cells_found q.tiles found }) c.pattern.ensures.pattern in
     record {
       slot = subst (λ p. IsSlot p.pattern.side p.cells (slice_index found 0) c.slot_in.result) on c.slot_in.ensures.slot;
       below = c.slot_in.ensures.below;

@@ -1,8 +1,8 @@
 -- A board of which the sets of a bundle are asked.
 use Rattle.std.specs.Prelude.{ℕ, List}
-use Rattle.set_sum.specs.Bundles.{BundleView}
+use Rattle.set_sum.specs.Bundles.{ShownBundle}
 
 -- what a contract sees of sums: the bundle, and the board of which its sets are asked
-pub record SumsView : Type 0 where
-  pub bundle : BundleView
+pub record ShownSums : Type 0 where
+  pub bundle : ShownBundle
   pub board : List ℕ

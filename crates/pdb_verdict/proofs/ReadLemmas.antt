@@ -1,0 +1,41 @@
+-- What was read for a command stood under the names that it was given.
+use Rattle.std.proofs.Common.{◌≡◌, List, [], ◌∷◌, Option, Some, map, refl}
+use Rattle.byte_io.specs.Shelf.{Bytes, Files}
+use Rattle.pdb_request.specs.Asked.{LogArguments, ReplayArguments, TableArguments}
+use Rattle.pdb_request.specs.declared.requests.Claim.{Claim}
+use Rattle.pdb_run.specs.Inputs.{AreRead, IsReadFrom}
+use Rattle.pdb_verdict.specs.Inputs.{LogFiles, files_in_order, puzzle_text, table_file}
+use Rattle.pdb_verdict.specs.Limits.{a_table}
+use Rattle.pdb_verdict.specs.Plans.{log_check_inputs, log_given, replay_inputs, table_inputs}
+
+-- the tables of a told shelf, name by name
+pub tables_stood : (before : Files) (reader : Option Bytes) (names files : List Bytes)
+    → AreRead (Some before) reader (map a_table names) files → map before names ≡ map Some files
+tables_stood before reader [] [] read = refl
+tables_stood before reader (name ∷ names) (file ∷ files) read =
+    let rest = tables_stood before reader names files read.1 in
+    λ i. read.0.0 i ∷ rest i
+tables_stood before reader _ _ read = absurd read
+
+module _ (shelf : Option Files) (reader : Option Bytes) where
+  -- the puzzle text of `replay`
+  pub replay_stood : (arguments : ReplayArguments) (puzzle : Bytes)
+      → AreRead shelf reader (replay_inputs arguments) (files_in_order (puzzle_text puzzle)) → IsReadFrom shelf reader arguments.puzzle puzzle
+  replay_stood arguments puzzle read = read.0.0
+
+  -- the table file of `table`
+  pub table_stood : (arguments : TableArguments) (file : Bytes)
+      → AreRead shelf reader (table_inputs arguments) (files_in_order (table_file file)) → IsReadFrom shelf reader (Some arguments.file) file
+  table_stood arguments file read = read.0.0
+
+  -- the files of `bound` or `optimal`
+  pub record LogStood (arguments : LogArguments) (files : LogFiles) : Type 0 where
+    pub text : IsReadFrom shelf reader (Some arguments.text) files.text
+    pub sets : IsReadFrom shelf reader (Some arguments.sets) files.sets
+    pub log : IsReadFrom shelf reader (Some arguments.log) files.log
+    pub tables : AreRead shelf reader (map a_table arguments.tables) files.tables
+
+  pub log_stood : (claim : Claim) (arguments : LogArguments) (files : LogFiles)
+      → AreRead shelf reader (log_check_inputs arguments) (files_in_order (log_given claim arguments files)) → LogStood arguments files
+  log_stood claim arguments files read =
+      record { text = read.0.0; sets = read.1.0.0; log = read.1.1.0.0; tables = read.1.1.1 }
