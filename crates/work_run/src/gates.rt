@@ -9,6 +9,14 @@ pub trait Gate {
 
     /// Is called once before each job that is run, by the worker that runs it, and returns.
     fn before(&self, job: u64);
+
+    /// Is called before a board is searched for a solution of fewer moves than a bound, with the number of its claim, from 0, and
+    /// returns. It does nothing unless an implementation says otherwise.
+    fn searches(&self, _claim: u64, _bound: u8) {}
+
+    /// Is called now and then by a worker that searches, with the number of boards that it has expanded since its last call, and
+    /// returns. It does nothing unless an implementation says otherwise.
+    fn expanded(&self, _boards: u64) {}
 }
 
 /// Holds nobody.
