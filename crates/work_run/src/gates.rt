@@ -10,9 +10,13 @@ pub trait Gate {
     /// Is called once before each job that is run, by the worker that runs it, and returns.
     fn before(&self, job: u64);
 
-    /// Is called before a board is searched for a solution of fewer moves than a bound, with the number of its claim, from 0, and
-    /// returns. It does nothing unless an implementation says otherwise.
-    fn searches(&self, _claim: u64, _bound: u8) {}
+    /// Is called before a claim is searched for, with the claim's number from 0, and returns. It does nothing unless an
+    /// implementation says otherwise.
+    fn asks(&self, _claim: u64) {}
+
+    /// Is called before a board is searched for a solution of fewer moves than a bound, and returns. It does nothing unless an
+    /// implementation says otherwise.
+    fn searches(&self, _bound: u8) {}
 
     /// Is called now and then by a worker that searches, with the number of boards that it has expanded since its last call, and
     /// returns. It does nothing unless an implementation says otherwise.
