@@ -1,0 +1,103 @@
+-- Bounds of one parity: all solutions of a board have it.
+use Rattle.std.proofs.Common.{◌≡◌, ℕ, zero, suc, ◌+◌, ◌-◌, ◌*◌, ◌%◌, ◌<◌, ◌≤◌, List, length, None, refl, subst, arith}
+use Rattle.puz_board.specs.Boards.{IsBoardOf}
+use Rattle.puz_board.specs.MovesTexts.{Solves}
+use Rattle.puz_board.specs.Parity.{blank_parity}
+use Rattle.puz_board.proofs.ParityLemmas.{solution_parity}
+use Rattle.set_sum.specs.Bounds.{IsBounded}
+use Rattle.set_sum.specs.Bundles.{ShownBundle}
+use Rattle.puz_search.specs.Answers.{IsDeepened, IsShorter}
+use Rattle.puz_search.specs.Searches.{Fails, FailsInTurn}
+use Rattle.puz_search.specs.declared.deepening.Deepened.TheVariants.{Beyond, Spent}
+use Rattle.puz_search.proofs.FailLemmas.{fails_once, once_both}
+
+module _ (n : ℕ) (b : List ℕ) (good : IsBoardOf n b) where
+  pub first_bound : (bound : ℕ) → bound ≡ blank_parity b → IsBounded b bound
+  first_bound bound e path solves = let parity : length path % 2 ≡ blank_parity b = solution_parity n b good path solves in omega arith
+
+  pub next_bound : (bound : ℕ) → bound % 2 ≡ blank_parity b → IsBounded b (bound + 1) → IsBounded b (bound + 2)
+  next_bound bound e bounds path solves =
+      let parity : length path % 2 ≡ blank_parity b = solution_parity n b good path solves in
+      let low : bound + 1 ≤ length path = bounds path solves in
+      omega arith
+
+-- one move fewer than the bound is none
+pub found_bound : (b : List ℕ) (bound : ℕ) (letters : List ℕ) → IsBounded b bound → IsShorter b (bound + 1) letters → Solves b letters bound
+found_bound b bound letters bounds is =
+    let low : bound ≤ length is.2.path = bounds is.2.path is.2.solution in
+    let count : length is.2.path ≡ is.0 = is.2.count in
+    let less : is.0 < bound + 1 = is.1 in
+    let same : is.0 ≡ bound = omega arith in
+    subst (Solves b letters) same is.2
+
+-- ---- thresholds
+
+-- the searches below the first thresholds failed, with what was spent of the budget, and no solution has fewer moves than the bound
+pub record IsDeep (v : ShownBundle) (b : List ℕ) (budget left bound : ℕ) : Type 0 where
+  pub bounds : IsBounded b bound
+  pub small : bound ≤ 255
+  pub thresholds : ℕ
+  pub reached : bound ≡ blank_parity b + 2 * thresholds
+  pub spent : ℕ
+  pub fails : FailsInTurn v b thresholds spent
+  pub sum : spent + left ≡ budget
+
+-- they fail with one count
+turn_once : (v : ShownBundle) (b : List ℕ) (k m n : ℕ) → FailsInTurn v b k m → FailsInTurn v b k n → m ≡ n
+turn_once v b zero m n h g = omega arith
+turn_once v b (suc k) m n h g = once_both (FailsInTurn v b k) (Fails v (blank_parity b + 2 * k + 1) b None) (turn_once v b k) (fails_once v (blank_parity b + 2 * k + 1) b None) m n h g
+
+module _ (v : ShownBundle) (b : List ℕ) (good : IsBoardOf v.side b) (budget : ℕ) where
+  pub deep_first : (bound : ℕ) → bound ≡ blank_parity b → bound ≤ 1 → IsDeep v b budget budget bound
+  deep_first bound e bit = record {
+    bounds = first_bound v.side b good bound e;
+    small = omega arith;
+    thresholds = 0;
+    reached = omega arith;
+    spent = 0;
+    fails = refl;
+    sum = omega arith;
+  }
+
+  -- one threshold more
+  pub deep_next : (left bound boards : ℕ) → bound < 254 → blank_parity b ≤ 1 → IsDeep v b budget left bound → IsBounded b (bound + 1) → Fails v (bound + 1) b None boards → boards ≤ left
+      → IsDeep v b budget (left - boards) (bound + 2)
+  deep_next left bound boards low bit is bounds fails few =
+      let reached : bound ≡ blank_parity b + 2 * is.thresholds = is.reached in
+      let same : bound + 1 ≡ blank_parity b + 2 * is.thresholds + 1 = omega arith in
+      record {
+        bounds = next_bound v.side b good bound (omega arith) bounds;
+        small = omega arith;
+        thresholds = suc is.thresholds;
+        reached = omega arith;
+        spent = is.spent + boards;
+        fails = (is.spent, boards, is.fails, subst (λ r. Fails v r b None boards) same fails, refl);
+        sum = let sum = is.sum in omega arith;
+      }
+
+  -- where the budget ended below a threshold
+  pub deep_spent : (left bound : ℕ) → IsDeep v b budget left bound → ((boards : ℕ) → Fails v (bound + 1) b None boards → left < boards) → IsDeepened v b budget (Spent bound)
+  deep_spent left bound is more =
+      let reached : bound ≡ blank_parity b + 2 * is.thresholds = is.reached in
+      let same : blank_parity b + 2 * is.thresholds + 1 ≡ bound + 1 = omega arith in
+      let next : is.thresholds + 1 ≡ suc is.thresholds = omega arith in
+      let sum : is.spent + left ≡ budget = is.sum in (
+        is.bounds,
+        (
+          is.thresholds,
+          is.reached,
+          (
+            (is.spent, is.fails, omega arith),
+            λ boards h.
+                let both = subst (λ k. FailsInTurn v b k boards) next h in
+                let whole : boards ≡ both.0 + both.1 = both.4 in
+                let before : is.spent ≡ both.0 = turn_once v b is.thresholds is.spent both.0 is.fails both.2 in
+                let here : left < both.1 = more both.1 (subst (λ r. Fails v r b None both.1) same both.3) in
+                omega arith,
+          ),
+        ),
+      )
+
+  -- where no threshold is left
+  pub deep_beyond : (left bound : ℕ) → 254 ≤ bound → IsDeep v b budget left bound → IsDeepened v b budget Beyond
+  deep_beyond left bound high is path solves = let low : bound ≤ length path = is.bounds path solves in omega arith

@@ -1,0 +1,10 @@
+mod AnswerLemmas
+mod BranchLemmas
+mod CountLemmas
+mod DeepLemmas
+mod FailLemmas
+mod FrontierLemmas
+mod NodeLemmas
+mod OutcomeLemmas
+mod TrailLemmas
+mod WalkLemmas

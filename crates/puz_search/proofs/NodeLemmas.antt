@@ -1,0 +1,80 @@
+-- Nodes, the moves that lead to them, and what the searches below them answer.
+use Rattle.std.proofs.Common.{◌≡◌, ℕ, ◌+◌, ◌-◌, ◌*◌, ◌≤◌, ◌↔◌, false, List, [], ◌∷◌, ◌++◌, Some, refl, sym, subst, append_assoc, arith}
+use Rattle.puz_board.specs.Boards.{IsGoal, moved}
+use Rattle.puz_board.specs.Cells.{move_of_letter}
+use Rattle.puz_board.specs.declared.moves.Move.{Move}
+use Rattle.puz_board.specs.declared.moves.Move.TheVariants.{Up, Down, Left, Right}
+use Rattle.puz_search.specs.Frontiers.{Adds, IsMore, child_fails_of}
+use Rattle.puz_search.specs.Nodes.{IsLed, IsPartAnswer, node_fails, solves_below, solves_first}
+use Rattle.puz_search.specs.Outcomes.{IsTrail}
+use Rattle.puz_search.specs.Searches.{Fails, InTurn, IsCutOff, most_boards, takes_back}
+use Rattle.puz_search.specs.declared.answers.Answer.{Answer}
+use Rattle.puz_search.specs.declared.answers.Answer.TheVariants.{Refuted, Solved, Spent}
+use Rattle.puz_search.specs.declared.nodes.Node.{Node}
+use Rattle.puz_search.specs.declared.searches.Search.{Search}
+use Rattle.puz_search.proofs.CountLemmas.{adds_as, adds_both}
+use Rattle.puz_search.proofs.FailLemmas.{at_child, fails_cut, fails_open}
+use Rattle.puz_search.proofs.TrailLemmas.{trail_move}
+use Rattle.puz_search.proofs.WalkLemmas.{most_open}
+
+-- the letters behind a move of a node
+pub led_after : (s : Search) (node : Node) (move : Move) (next : List ℕ) (letter : ℕ) (text : List ℕ) → IsLed s node → 1 ≤ node.bound → moved node.board move ≡ Some next → move_of_letter letter ≡ Some move
+    → IsTrail next (node.bound - 1) text → IsTrail s.board.now s.bound ((node.letters.items ++ letter ∷ []) ++ text)
+led_after s node move next letter text led some leads names trail =
+    subst (IsTrail s.board.now s.bound) (sym (append_assoc node.letters.items (letter ∷ []) text))
+    (led.leads (letter ∷ text) (trail_move node.board next node.bound letter text move some leads names trail))
+
+-- what a search below a node answers, said of the first board
+pub node_answer : (s : Search) (node : Node) → IsLed s node → (Part : ℕ → Type 0) (most budget : ℕ) (answer : Answer) → IsPartAnswer Part most (solves_below node) budget answer
+    → IsPartAnswer Part most (solves_first s) budget answer
+node_answer s node led Part most budget (Refuted boards) is = is
+node_answer s node led Part most budget (Solved letters) is = subst (IsTrail s.board.now s.bound) (sym is.2) (led.leads is.0 is.1)
+node_answer s node led Part most budget Spent is = is
+
+-- ---- the node after a move
+
+module _ (s : Search) (node child : Node) (move : Move) (next : List ℕ) (leads : moved node.board move ≡ Some next) (on : takes_back node.arriving move ≡ false)
+    (board : child.board ≡ next) (arriving : child.arriving ≡ Some move) (bound : child.bound + 1 ≡ node.bound) where
+  -- the search below it is that after the move
+  pub child_same : (n : ℕ) → child_fails_of s node move n ↔ node_fails s child n
+  child_same n =
+      let v = s.bundle.now in
+      let less : node.bound - 1 ≡ child.bound = omega arith in
+      let at = at_child (moved node.board move) (takes_back node.arriving move) (λ b. Fails v (node.bound - 1) b (Some move)) next leads on n in
+      let there : Fails v (node.bound - 1) next (Some move) n → node_fails s child n =
+      λ h. subst (λ r. Fails v r child.board child.arriving n) less (subst (λ b. Fails v (node.bound - 1) b child.arriving n) (sym board) (subst (λ a. Fails v (node.bound - 1) next a n) (sym arriving) h)) in
+      let back : node_fails s child n → Fails v (node.bound - 1) next (Some move) n =
+      λ h. subst (λ a. Fails v (node.bound - 1) next a n) arriving (subst (λ b. Fails v (node.bound - 1) b child.arriving n) board (subst (λ r. Fails v r child.board child.arriving n) (sym less) h)) in
+      (λ h. there (at.0 h), λ h. at.1 (back h))
+
+  -- where it is cut off, no board is expanded after the move
+  pub child_cut : IsCutOff s.bundle.now child.board child.bound → (n : ℕ) → child_fails_of s node move n ↔ (n ≡ 0)
+  child_cut cut n =
+      let same = child_same n in
+      let none = fails_cut s.bundle.now child.board child.arriving child.bound cut n in
+      (λ h. none.0 (same.0 h), λ e. same.1 (none.1 e))
+
+-- ---- a node that is expanded
+
+module _ (s : Search) (node : Node) (some : 1 ≤ node.bound) (whole : ¬ IsCutOff s.bundle.now node.board node.bound) (far : ¬ IsGoal node.board) where
+  -- the searches after its moves, in their order
+  abbrev After : Move → ℕ → Type 0
+  After move = child_fails_of s node move
+
+  opened_more : IsMore (node_fails s node) (InTurn (After Up) (InTurn (After Down) (InTurn (After Left) (After Right)))) 1
+  opened_more = record {
+    to = λ n h. let open_ = (fails_open s.bundle.now node.board node.arriving node.bound some whole far n).0 h in (open_.0, open_.2, open_.1);
+    back = λ n rest h e. (fails_open s.bundle.now node.board node.arriving node.bound some whole far n).1 (rest, e, h);
+  }
+
+  -- the nodes after its moves are added
+  pub opened_adds : (old one two three new : List Node) → Adds s (After Up) (most_boards (node.bound - 1)) 0 old one → Adds s (After Down) (most_boards (node.bound - 1)) 0 one two
+      → Adds s (After Left) (most_boards (node.bound - 1)) 0 two three → Adds s (After Right) (most_boards (node.bound - 1)) 0 three new
+      → Adds s (node_fails s node) (most_boards node.bound) 1 old new
+  opened_adds old one two three new a b c d =
+      let M = most_boards (node.bound - 1) in
+      let most : most_boards node.bound ≡ 4 * most_boards (node.bound - 1) + 1 = most_open node.bound some in
+      let last = adds_both s (After Left) (After Right) M M 0 0 two three new c d in
+      let rest = adds_both s (After Down) (InTurn (After Left) (After Right)) M (M + M) 0 0 one two new b last in
+      let all = adds_both s (After Up) (InTurn (After Down) (InTurn (After Left) (After Right))) M (M + (M + M)) 0 0 old one new a rest in
+      adds_as s (node_fails s node) (InTurn (After Up) (InTurn (After Down) (InTurn (After Left) (After Right)))) (M + (M + (M + M))) (most_boards node.bound) 0 1 1 old new opened_more refl (omega arith) all

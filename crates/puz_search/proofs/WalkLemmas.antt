@@ -1,0 +1,179 @@
+-- The steps of a search, on a board that was reached.
+use Rattle.std.proofs.Common.{◌≡◌, ℕ, zero, suc, ◌+◌, ◌*◌, ◌-◌, ◌<◌, ◌≤◌, ◌↔◌, false, List, [], reverse, Result, Ok, Err, Some, refl, sym, ◌∙◌, ap, subst, arith}
+use Rattle.std.specs.Prelude.{IfErr, IsErrAnd, OnOk}
+use Rattle.puz_board.specs.Boards.{IsGoal, moved}
+use Rattle.puz_board.specs.declared.moves.Move.{Move}
+use Rattle.puz_board.specs.declared.moves.Move.TheVariants.{Up, Down, Left, Right}
+use Rattle.puz_search.specs.Outcomes.{AfterMove, IsRefuted, IsStop, IsTrail, child_fails, children_fail, fails_at, is_solved_at, most_children}
+use Rattle.puz_search.specs.Searches.{Fails, InTurn, IsCutOff, most_boards, takes_back}
+use Rattle.puz_search.specs.declared.efforts.Effort.{Effort}
+use Rattle.puz_search.specs.declared.efforts.Stop.{Stop}
+use Rattle.puz_search.specs.declared.efforts.Stop.TheVariants.{Solved, Spent}
+use Rattle.puz_search.specs.declared.walks.Reached.{Reached}
+use Rattle.puz_search.proofs.FailLemmas.{at_child, fails_goal, fails_open}
+use Rattle.puz_search.proofs.OutcomeLemmas.{refuted_as, refuted_both, stop_first, stop_second}
+use Rattle.puz_search.proofs.TrailLemmas.{reverse_push, trail_end, trail_move}
+
+-- ---- results
+
+pub err_as : {A X : Type 0} (P Q : X → Type 0) → ((x : X) → P x → Q x) → (o : Result A X) → IfErr o P → IfErr o Q
+err_as P Q f (Ok a) h = h
+err_as P Q f (Err x) h = f x h
+
+-- of one result and an equal one
+pub err_both : {A X : Type 0} (P Q R : X → Type 0) → ((x : X) → P x → Q x → R x) → (o other : Result A X) → other ≡ o → IfErr o P → IfErr other Q → IfErr other R
+err_both P Q R f (Ok a) (Ok b) e h g = h
+err_both P Q R f (Ok a) (Err y) e h g = cc
+err_both P Q R f (Err x) (Ok b) e h g = g
+err_both {A} P Q R f (Err x) (Err y) e h g = let same : x ≡ y = cc in f y (subst P same h) g
+
+pub ok_both : {A X : Type 0} (P Q R : Type 0) → (P → Q → R) → (o other : Result A X) → other ≡ o → OnOk o P → OnOk other Q → OnOk other R
+ok_both P Q R f (Ok a) (Ok b) e h g = f h g
+ok_both P Q R f (Ok a) (Err y) e h g = g
+ok_both P Q R f (Err x) (Ok b) e h g = cc
+ok_both P Q R f (Err x) (Err y) e h g = g
+
+-- where it is this one
+pub err_is : {A X : Type 0} (P : X → Type 0) (x : X) (o : Result A X) → IsErrAnd o (λ y. y ≡ x) → P x → IfErr o P
+err_is P x (Ok a) h p = absurd h
+err_is P x (Err y) h p = subst P (sym h) p
+
+pub ok_as : {A X : Type 0} (P Q : Type 0) → (P → Q) → (o : Result A X) → OnOk o P → OnOk o Q
+ok_as P Q f (Ok a) h = f h
+ok_as P Q f (Err x) h = h
+
+-- ---- a board
+
+pub most_open : (r : ℕ) → 1 ≤ r → most_boards r ≡ 4 * most_boards (r - 1) + 1
+most_open zero some = absurd (omega arith)
+most_open (suc r) some = ap (λ k. 4 * most_boards k + 1) (let e : r ≡ suc r - 1 = omega arith in e)
+
+-- the goal board
+pub goal_solved : (r : Reached) → 1 ≤ r.bound → (¬ IsCutOff r.sums.bundle r.sums.board r.bound) → IsGoal r.sums.board → (letters : List ℕ) → letters ≡ []
+    → is_solved_at r letters × ((boards : ℕ) → ¬ fails_at r boards)
+goal_solved r some whole goal letters none = (
+  subst (is_solved_at r) (sym none) (trail_end r.sums.board r.bound some goal),
+  fails_goal r.sums.bundle r.sums.board r.arriving r.bound some whole goal,
+)
+
+module _ (r : Reached) (some : 1 ≤ r.bound) (whole : ¬ IsCutOff r.sums.bundle r.sums.board r.bound) (far : ¬ IsGoal r.sums.board) (old spent new : Effort) (one : old.left ≡ spent.left + 1) where
+  pub opened_refuted : IsRefuted (children_fail r) (most_children 4 r.bound) spent new → IsRefuted (fails_at r) (most_boards r.bound) old new
+  opened_refuted is = record {
+    boards = is.boards + 1;
+    left = let left = is.left in omega arith;
+    few = let few = is.few in let most = most_open r.bound some in omega arith;
+    fails = (fails_open r.sums.bundle r.sums.board r.arriving r.bound some whole far (is.boards + 1)).1 (is.boards, refl, is.fails);
+    once = λ n h.
+        let on = (fails_open r.sums.bundle r.sums.board r.arriving r.bound some whole far n).0 h in
+        let e : n ≡ on.0 + 1 = on.1 in
+        let same : on.0 ≡ is.boards = is.once on.0 on.2 in
+        omega arith;
+    none = is.none;
+  }
+
+  pub opened_stopped : (stop : Stop) → IsStop (children_fail r) (is_solved_at r) (most_children 4 r.bound) stop spent new → IsStop (fails_at r) (is_solved_at r) (most_boards r.bound) stop old new
+  opened_stopped Solved is = (is.0, λ n h. let on = (fails_open r.sums.bundle r.sums.board r.arriving r.bound some whole far n).0 h in is.1 on.0 on.2)
+  opened_stopped Spent is = (
+    let l : spent.left < most_children 4 r.bound = is.0 in let most = most_open r.bound some in omega arith,
+    λ n h.
+        let on = (fails_open r.sums.bundle r.sums.board r.arriving r.bound some whole far n).0 h in
+        let l : spent.left < on.0 = is.1 on.0 on.2 in
+        let e : n ≡ on.0 + 1 = on.1 in
+        omega arith,
+  )
+
+-- ---- the boards after its moves
+
+stop_more : (F : ℕ → Type 0) (S : List ℕ → Type 0) (most more : ℕ) → most ≤ more → (stop : Stop) (old new : Effort) → IsStop F S most stop old new → IsStop F S more stop old new
+stop_more F S most more low Solved old new is = is
+stop_more F S most more low Spent old new is = (let l : old.left < most = is.0 in omega arith, is.1)
+
+abbrev Four : Reached → ℕ → Type 0
+Four r = InTurn (child_fails r Up) (InTurn (child_fails r Down) (InTurn (child_fails r Left) (child_fails r Right)))
+
+module _ (r s t u : Reached) (first : s ≡ r) (second : t ≡ s) (third : u ≡ t) where
+  abbrev Out : Reached → Move → Effort → Effort → Type 0
+  Out x move old new = IsRefuted (child_fails x move) (most_children 1 x.bound) old new
+
+  abbrev Stops : Reached → Move → Stop → Effort → Effort → Type 0
+  Stops x move stop old new = IsStop (child_fails x move) (is_solved_at x) (most_children 1 x.bound) stop old new
+
+  abbrev Stopped : Stop → Effort → Effort → Type 0
+  Stopped stop old new = IsStop (children_fail r) (is_solved_at r) (most_children 4 r.bound) stop old new
+
+  module _ (a b : Effort) (up : Out r Up a b) where
+    pub stopped_second : (stop : Stop) (c : Effort) → Stops s Down stop b c → Stopped stop a c
+    stopped_second stop c is =
+        let m = most_children 1 r.bound in
+        let down = subst (λ x. Stops x Down stop b c) first is in
+        stop_more (Four r) (is_solved_at r) (m + (m + (m + m))) (most_children 4 r.bound) (omega arith) stop a c
+        (stop_second (child_fails r Up) (InTurn (child_fails r Down) (InTurn (child_fails r Left) (child_fails r Right))) m (m + (m + m)) (is_solved_at r) stop a b c up
+        (stop_first (child_fails r Down) (InTurn (child_fails r Left) (child_fails r Right)) m (m + m) (is_solved_at r) stop b c down))
+
+    module _ (c : Effort) (down : Out s Down b c) where
+      pub stopped_third : (stop : Stop) (d : Effort) → Stops t Left stop c d → Stopped stop a d
+      stopped_third stop d is =
+          let m = most_children 1 r.bound in
+          let down_is = subst (λ x. Out x Down b c) first down in
+          let left = subst (λ x. Stops x Left stop c d) (second ∙ first) is in
+          stop_more (Four r) (is_solved_at r) (m + (m + (m + m))) (most_children 4 r.bound) (omega arith) stop a d
+          (stop_second (child_fails r Up) (InTurn (child_fails r Down) (InTurn (child_fails r Left) (child_fails r Right))) m (m + (m + m)) (is_solved_at r) stop a b d up
+          (stop_second (child_fails r Down) (InTurn (child_fails r Left) (child_fails r Right)) m (m + m) (is_solved_at r) stop b c d down_is
+          (stop_first (child_fails r Left) (child_fails r Right) m m (is_solved_at r) stop c d left)))
+
+      module _ (d : Effort) (left : Out t Left c d) where
+        pub stopped_fourth : (stop : Stop) (e : Effort) → Stops u Right stop d e → Stopped stop a e
+        stopped_fourth stop e is =
+            let m = most_children 1 r.bound in
+            let down_is = subst (λ x. Out x Down b c) first down in
+            let left_is = subst (λ x. Out x Left c d) (second ∙ first) left in
+            let right = subst (λ x. Stops x Right stop d e) (third ∙ second ∙ first) is in
+            stop_more (Four r) (is_solved_at r) (m + (m + (m + m))) (most_children 4 r.bound) (omega arith) stop a e
+            (stop_second (child_fails r Up) (InTurn (child_fails r Down) (InTurn (child_fails r Left) (child_fails r Right))) m (m + (m + m)) (is_solved_at r) stop a b e up
+            (stop_second (child_fails r Down) (InTurn (child_fails r Left) (child_fails r Right)) m (m + m) (is_solved_at r) stop b c e down_is
+            (stop_second (child_fails r Left) (child_fails r Right) m m (is_solved_at r) stop c d e left_is right)))
+
+        pub refuted_four : (e : Effort) → Out u Right d e → IsRefuted (children_fail r) (most_children 4 r.bound) a e
+        refuted_four e is =
+            let m = most_children 1 r.bound in
+            let down_is = subst (λ x. Out x Down b c) first down in
+            let left_is = subst (λ x. Out x Left c d) (second ∙ first) left in
+            let right = subst (λ x. Out x Right d e) (third ∙ second ∙ first) is in
+            refuted_as (Four r) (children_fail r) (λ n. (λ h. h, λ h. h)) (m + (m + (m + m))) (most_children 4 r.bound) (omega arith) a e
+            (refuted_both (child_fails r Up) (InTurn (child_fails r Down) (InTurn (child_fails r Left) (child_fails r Right))) m (m + (m + m)) a b e up
+            (refuted_both (child_fails r Down) (InTurn (child_fails r Left) (child_fails r Right)) m (m + m) b c e down_is
+            (refuted_both (child_fails r Left) (child_fails r Right) m m c d e left_is right)))
+
+-- ---- the board after a move
+
+module _ (r next : Reached) (move : Move) (some : 1 ≤ r.bound) (on : takes_back r.arriving move ≡ false)
+    (leads : moved r.sums.board move ≡ Some next.sums.board) (bundle : next.sums.bundle ≡ r.sums.bundle) (arriving : next.arriving ≡ Some move) (bound : next.bound ≡ r.bound - 1) where
+  same_counts : (boards : ℕ) → fails_at next boards ↔ child_fails r move boards
+  same_counts boards =
+      let at = at_child (moved r.sums.board move) (takes_back r.arriving move) (λ c. Fails r.sums.bundle (r.bound - 1) c (Some move)) next.sums.board leads on boards in (
+        λ h. at.1 (subst (λ v. Fails v (r.bound - 1) next.sums.board (Some move) boards) bundle
+            (subst (λ k. Fails next.sums.bundle k next.sums.board (Some move) boards) bound
+            (subst (λ a. Fails next.sums.bundle next.bound next.sums.board a boards) arriving h))),
+        λ h. subst (λ a. Fails next.sums.bundle next.bound next.sums.board a boards) (sym arriving)
+            (subst (λ k. Fails next.sums.bundle k next.sums.board (Some move) boards) (sym bound)
+            (subst (λ v. Fails v (r.bound - 1) next.sums.board (Some move) boards) (sym bundle) (at.0 h))),
+      )
+
+  few_after : most_boards next.bound ≤ most_children 1 r.bound
+  few_after = let e : most_boards next.bound ≡ most_boards (r.bound - 1) = ap most_boards bound in omega arith
+
+  pub child_refuted : (old new : Effort) → IsRefuted (fails_at next) (most_boards next.bound) old new → IsRefuted (child_fails r move) (most_children 1 r.bound) old new
+  child_refuted old new is = refuted_as (fails_at next) (child_fails r move) same_counts (most_boards next.bound) (most_children 1 r.bound) few_after old new is
+
+  pub child_stopped : (stop : Stop) (old between new : Effort) → IsStop (fails_at next) (is_solved_at next) (most_boards next.bound) stop old between → AfterMove move stop between new
+      → IsStop (child_fails r move) (is_solved_at r) (most_children 1 r.bound) stop old new
+  child_stopped Solved old between new is after = (
+    subst (IsTrail r.sums.board r.bound) (sym (ap reverse after.2 ∙ reverse_push between.letters.items after.0))
+        (trail_move r.sums.board next.sums.board r.bound after.0 (reverse between.letters.items) move some leads after.1
+        (subst (λ k. IsTrail next.sums.board k (reverse between.letters.items)) bound is.0)),
+    λ n h. is.1 n ((same_counts n).1 h),
+  )
+  child_stopped Spent old between new is after = (
+    let l : old.left < most_boards next.bound = is.0 in let few = few_after in omega arith,
+    λ n h. is.1 n ((same_counts n).1 h),
+  )

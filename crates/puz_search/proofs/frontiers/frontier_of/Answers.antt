@@ -1,0 +1,19 @@
+use Rattle.std.proofs.Common.{◌+◌, ◌∷◌, ◌++◌, [], refl, ◌∙◌, ap, arith}
+use Rattle.puz_search.proofs.FrontierLemmas.{frontier_first, frontier_next}
+use Rattle.puz_search.proofs.frontiers.frontier_of.Goals as goal
+
+pub loop-init : goal.loop-init
+loop-init c =
+    record {
+      frontier = frontier_first c.args.task.now c.first.result (record { nodes = c.push.new.self; expanded = 0 }) c.first.ensures.first c.first.ensures.led
+          (c.in_ok-push.ensures.items ∙ ap (λ xs. xs ++ c.first.result ∷ []) c.new-nodes.ensures.items) refl;
+      small = omega arith;
+    }
+
+pub loop-preserved : goal.loop-preserved
+loop-preserved c =
+    record {
+      frontier = frontier_next c.args.task.now (record { nodes = c.loop.nodes; expanded = c.loop.expanded }) (record { nodes = c.in_ok-next.next.nodes; expanded = c.loop.expanded + c.in_ok-next.next.expanded }) c.in_ok-next.next.expanded refl
+          c.loop.invariant.frontier c.in_ok-next.ensures.next;
+      small = let few = c.in_ok-next.ensures.few in let small = c.loop.invariant.small in omega arith;
+    }

@@ -1,0 +1,9 @@
+use Rattle.std.proofs.Common.{◌*◌, ◌≤◌}
+use Rattle.puz_search.specs.Frontiers.{IsFrontier}
+use Rattle.puz_search.proofs.frontiers.frontier_of.Given as goal
+
+abbrev pub invariant-loop : goal.invariant-loop
+invariant-loop l = record {
+  frontier : IsFrontier l.task (record { nodes = l.nodes; expanded = l.expanded });
+  small : l.expanded ≤ 4096 * l.counter;
+}

@@ -1,0 +1,32 @@
+use Rattle.std.proofs.Common.{◌-◌, ◌<◌, length, take, sym, subst, arith}
+use Rattle.std.specs.Prelude.{slice_index_or}
+use Rattle.puz_search.specs.Frontiers.{IsOutcome, all_fail}
+use Rattle.puz_search.specs.declared.outcomes.Outcome.TheVariants.{Refuted}
+use Rattle.puz_search.proofs.FrontierLemmas.{push_at, settled_more, spent_in}
+use Rattle.puz_search.proofs.outcomes.settle.Goals as goal
+
+pub settle_node-requires-clause-outcome : goal.settle_node-requires-clause-outcome
+settle_node-requires-clause-outcome c =
+    let node = c.index-nodes-at.result in
+    let low : c.loop-at.at < length c.args.nodes.now = omega arith in
+    subst (λ n. IsOutcome c.args.task.now n (slice_index_or c.args.outcomes.now c.loop-at.at (Refuted 0))) (sym c.index-nodes-at.is) (c.requires.outcomes.1 c.loop-at.at (Refuted 0) low node)
+
+pub returns-in-Spent : goal.returns-in-Spent
+returns-in-Spent c =
+    let low : c.loop-at.at < length c.args.nodes.now = omega arith in
+    spent_in c.args.task.now c.args.nodes.now c.loop-at.at c.index-nodes-at.result low c.index-nodes-at.is (c.args.budget - c.loop-at.left) c.loop-at.left c.args.budget c.loop-at.invariant.done (omega arith)
+    c.in-Spent.ensures.0 c.in-Spent.ensures.1
+
+pub loop-at-preserved : goal.loop-at-preserved
+loop-at-preserved c =
+    let s = c.args.task.now in
+    let nodes = c.args.nodes.now in
+    let at = c.loop-at.at in
+    let boards = c.in-Refuted.boards in
+    let low : at < length nodes = omega arith in
+    let few = c.in-Refuted.ensures.1 in
+    record {
+      left = omega arith;
+      done = subst (λ xs. all_fail s xs (c.args.budget - (c.loop-at.left - boards))) (sym (push_at nodes at c.index-nodes-at.result low c.index-nodes-at.is))
+          (settled_more s (take at nodes) c.index-nodes-at.result (c.args.budget - c.loop-at.left) boards (c.args.budget - (c.loop-at.left - boards)) c.loop-at.invariant.done c.in-Refuted.ensures.0 (omega arith));
+    }

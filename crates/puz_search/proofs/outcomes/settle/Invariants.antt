@@ -1,0 +1,9 @@
+use Rattle.std.proofs.Common.{◌-◌, ◌≤◌, take}
+use Rattle.puz_search.specs.Frontiers.{all_fail}
+use Rattle.puz_search.proofs.outcomes.settle.Given as goal
+
+abbrev pub invariant-loop-at : goal.invariant-loop-at
+invariant-loop-at l = record {
+  left : l.left ≤ l.budget;
+  done : all_fail l.task (take l.at l.nodes) (l.budget - l.left);
+}

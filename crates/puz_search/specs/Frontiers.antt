@@ -1,0 +1,67 @@
+-- Frontiers: lists of nodes, so that a search fails just where those below all of them do.
+use Rattle.std.specs.Prelude.{◌≡◌, ℕ, ◌+◌, ◌-◌, ◌<◌, ◌≤◌, List, [], ◌∷◌, ◌++◌, length, slice_index_or, Some, None, ⊤}
+use Rattle.std.specs.List.{All}
+use Rattle.puz_board.specs.Boards.{moved}
+use Rattle.puz_board.specs.declared.moves.Move.{Move}
+use Rattle.puz_search.specs.Nodes.{IsLed, node_fails}
+use Rattle.puz_search.specs.Searches.{AtChild, Fails, InTurn, most_boards, takes_back}
+use Rattle.puz_search.specs.declared.frontiers.Frontier.{Frontier}
+use Rattle.puz_search.specs.declared.nodes.Node.{Node}
+use Rattle.puz_search.specs.declared.searches.Search.{Search}
+use Rattle.puz_search.specs.declared.outcomes.Outcome.{Outcome}
+use Rattle.puz_search.specs.declared.outcomes.Outcome.TheVariants.{Refuted, Spent, Open}
+
+-- ---- counts
+
+-- one holds of a count just where the other holds of x fewer
+pub record IsMore (One Other : ℕ → Type 0) (x : ℕ) : Type 0 where
+  pub to : (count : ℕ) → One count → (rest : ℕ) × Other rest × (count ≡ rest + x)
+  pub back : (count rest : ℕ) → Other rest → count ≡ rest + x → One count
+
+-- the searches below the nodes fail, and expand so many boards in all
+abbrev pub all_fail : Search → List Node → ℕ → Type 0
+all_fail s [] boards = boards ≡ 0
+all_fail s (node ∷ rest) boards = InTurn (node_fails s node) (all_fail s rest) boards
+
+-- the most boards that these searches expand
+abbrev pub most_of : List Node → ℕ
+most_of [] = 0
+most_of (node ∷ rest) = most_boards node.bound + most_of rest
+
+-- the search after a move of a node
+abbrev pub child_fails_of : Search → Node → Move → ℕ → Type 0
+child_fails_of s node move boards =
+    AtChild (moved node.board move) (takes_back node.arriving move) (λ next. Fails s.bundle.now (node.bound - 1) next (Some move)) boards
+
+-- ---- frontiers
+
+-- nodes were added for a part of a search, of which x boards were expanded
+pub record Adds (s : Search) (Part : ℕ → Type 0) (most x : ℕ) (old new : List Node) : Type 0 where
+  pub added : List Node
+  pub items : new ≡ old ++ added
+  pub counts : IsMore Part (all_fail s added) x
+  pub few : most_of added + x ≤ most
+  pub led : All (IsLed s) added
+
+-- the nodes stand for the whole search
+pub record IsFrontier (s : Search) (frontier : Frontier) : Type 0 where
+  pub counts : IsMore (Fails s.bundle.now s.bound s.board.now None) (all_fail s frontier.nodes.items) frontier.expanded
+  pub few : most_of frontier.nodes.items + frontier.expanded ≤ most_boards s.bound
+  pub led : All (IsLed s) frontier.nodes.items
+
+-- ---- the jobs of workers
+
+-- how the search below a node ended
+abbrev pub IsOutcome : Search → Node → Outcome → Type 0
+IsOutcome s node (Refuted boards) = node_fails s node boards
+IsOutcome s node (Spent budget) = ((boards : ℕ) → node_fails s node boards → budget < boards) × (budget < most_boards node.bound)
+IsOutcome s node Open = ⊤
+
+-- how that of the node with this number did
+abbrev pub IsOutcomeOf : Search → List Node → ℕ → Outcome → Type 0
+IsOutcomeOf s nodes job outcome = (other : Node) → IsOutcome s (slice_index_or nodes job other) outcome
+
+-- how those of all nodes did
+abbrev pub AreOutcomesOf : Search → List Node → List Outcome → Type 0
+AreOutcomesOf s nodes outcomes =
+    (length outcomes ≡ length nodes) × ((job : ℕ) (other : Outcome) → job < length nodes → IsOutcomeOf s nodes job (slice_index_or outcomes job other))

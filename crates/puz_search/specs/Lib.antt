@@ -1,0 +1,7 @@
+-- What public contracts say.
+pub mod Answers
+pub mod Searches
+-- What proofs alone need.
+pub mod Outcomes
+pub mod Nodes
+pub mod Frontiers

@@ -1,0 +1,44 @@
+-- Nodes: boards of a search, below which is still to be searched.
+use Rattle.std.specs.Prelude.{◌≡◌, ℕ, ◌+◌, ◌<◌, ◌≤◌, List, ◌++◌, length, None}
+use Rattle.puz_board.specs.Boards.{IsBoardOf}
+use Rattle.puz_search.specs.Outcomes.{IsTrail}
+use Rattle.puz_search.specs.Searches.{Fails}
+use Rattle.puz_search.specs.declared.answers.Answer.{Answer}
+use Rattle.puz_search.specs.declared.answers.Answer.TheVariants.{Refuted, Solved, Spent}
+use Rattle.puz_search.specs.declared.nodes.Node.{Node}
+use Rattle.puz_search.specs.declared.searches.Search.{Search}
+
+-- the search below a node fails, and expands so many boards
+abbrev pub node_fails : Search → Node → ℕ → Type 0
+node_fails s node boards = Fails s.bundle.now node.bound node.board node.arriving boards
+
+-- the node is that of the first board
+pub record IsFirst (s : Search) (node : Node) : Type 0 where
+  pub board : node.board ≡ s.board.now
+  pub arriving : node.arriving ≡ None
+  pub bound : node.bound ≡ s.bound
+
+-- the board is of the bundle's side, and has just the bound that is left after the moves of the letters
+pub record IsPlaced (s : Search) (node : Node) : Type 0 where
+  pub board : IsBoardOf s.bundle.now.side node.board
+  pub left : length node.letters.items + node.bound ≡ s.bound
+
+-- the letters lead from the first board to that of the node: with the letters of a trail from there they are a trail
+pub record IsLed (s : Search) (node : Node) : Type 0 where
+  pub placed : IsPlaced s node
+  pub leads : (text : List ℕ) → IsTrail node.board node.bound text → IsTrail s.board.now s.bound (node.letters.items ++ text)
+
+-- the letters are those of the node, and then those of a solution below it
+abbrev pub solves_below : Node → List ℕ → Type 0
+solves_below node letters = (text : List ℕ) × IsTrail node.board node.bound text × (letters ≡ node.letters.items ++ text)
+
+-- the letters are those of a solution of the first board, of fewer moves than the bound
+abbrev pub solves_first : Search → List ℕ → Type 0
+solves_first s letters = IsTrail s.board.now s.bound letters
+
+-- what a part of a search answers within a budget: these say with how many boards it fails, at most so many, and what its
+-- solutions are
+abbrev pub IsPartAnswer : (ℕ → Type 0) → ℕ → (List ℕ → Type 0) → ℕ → Answer → Type 0
+IsPartAnswer Part most IsSolved budget (Refuted boards) = Part boards × (boards ≤ budget)
+IsPartAnswer Part most IsSolved budget (Solved letters) = IsSolved letters.items
+IsPartAnswer Part most IsSolved budget Spent = ((boards : ℕ) → Part boards → budget < boards) × (budget < most)

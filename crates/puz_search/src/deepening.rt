@@ -1,0 +1,79 @@
+//! Shortest solutions by iterative deepening (Korf 1985).
+
+ghost use Rattle.std.specs.Prelude.{◌≡◌, IfOk};
+ghost use Rattle.puz_board.specs.Boards.{side_of};
+ghost use Rattle.puz_search.specs.Answers.{IsDeepened};
+
+use crate::answers::{Answer, Letters};
+use crate::refuting::refute;
+use crate::sharing::refute_by;
+use puz_board::Board;
+use set_sum::Bundle;
+use std::alloc::AllocError;
+use std::thread::Threads;
+use work_run::{Gate, Workers};
+
+/// Bounds of so many moves and more aren't raised.
+const LARGEST_BOUND: u8 = 254;
+
+/// How far a board was searched, threshold by threshold.
+#[derive(Drop)]
+pub enum Deepened {
+    /// The moves of a shortest solution.
+    Shortest(Letters),
+    /// The budget of boards ended. No solution has fewer moves than this bound.
+    Spent(u8),
+    /// No solution has fewer than 254 moves.
+    Beyond,
+}
+
+/// Searches for a shortest solution of a board, threshold by threshold (Korf 1985), and expands at most `budget` boards in all.
+///
+/// The first threshold is one more than the parity that all solutions of the board have, and each next one two more: below a
+/// threshold `refute` searches.
+pub fn shortest(bundle: &Bundle<'_>, board: &Board, budget: u64) -> Deepened
+    requires { side_of board.now ≡ bundle.now.side }
+    ensures { IsDeepened bundle.now board.now budget result }
+{
+    let _side = board.side();
+    let mut bound = board.blank_parity();
+    let mut left = budget;
+    while bound < LARGEST_BOUND {
+        match refute(bundle, board, bound + 1, left) {
+            Answer::Refuted(boards) => {
+                left -= boards;
+                bound += 2;
+            }
+            Answer::Solved(letters) => return Deepened::Shortest(letters),
+            Answer::Spent => return Deepened::Spent(bound),
+        }
+    }
+    Deepened::Beyond
+}
+
+/// Searches as `shortest` does, by these workers at once: below a threshold `refute_by` searches.
+pub fn shortest_by<R: Threads + Sync, G: Gate + Sync>(
+    bundle: &Bundle<'_>,
+    board: &Board,
+    budget: u64,
+    workers: &Workers<'_, R, G>,
+) -> Result<Deepened, AllocError>
+    requires { side_of board.now ≡ bundle.now.side }
+    ensures { IfOk result (IsDeepened bundle.now board.now budget) }
+{
+    let _side = board.side();
+    let mut bound = board.blank_parity();
+    let mut left = budget;
+    while bound < LARGEST_BOUND {
+        let answer = refute_by(bundle, board, bound + 1, left, workers)?;
+        match answer {
+            Answer::Refuted(boards) => {
+                left -= boards;
+                bound += 2;
+            }
+            Answer::Solved(letters) => return Ok(Deepened::Shortest(letters)),
+            Answer::Spent => return Ok(Deepened::Spent(bound)),
+        }
+    }
+    Ok(Deepened::Beyond)
+}

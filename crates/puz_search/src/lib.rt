@@ -1,0 +1,20 @@
+//! Depth-first searches that refute, with no log, that a board has a solution of fewer moves than a bound (Korf 1985).
+#![tactic(auto)]
+
+mod answers;
+mod cuts;
+mod deepening;
+mod efforts;
+mod frontiers;
+mod nodes;
+mod order;
+mod outcomes;
+mod refuting;
+mod searches;
+mod sharing;
+mod walks;
+
+pub use answers::{Answer, Letters};
+pub use deepening::{Deepened, shortest, shortest_by};
+pub use refuting::refute;
+pub use sharing::refute_by;

@@ -1,0 +1,115 @@
+//! Searches that workers share.
+
+ghost use Rattle.std.specs.Prelude.{◌≡◌, ◌≤◌, ℕ, IfOk, None};
+ghost use Rattle.puz_board.specs.Boards.{side_of};
+ghost use Rattle.puz_search.specs.Answers.{IsAnswer};
+ghost use Rattle.puz_search.specs.Nodes.{IsPartAnswer, solves_first};
+ghost use Rattle.puz_search.specs.Searches.{Fails, most_boards};
+ghost use Rattle.puz_search.specs.declared.answers.Answer.TheVariants.{Refuted, Spent};
+
+use crate::answers::Answer;
+use crate::efforts::Effort;
+use crate::frontiers::frontier_of;
+use crate::outcomes::{SearchNodes, settle};
+use crate::refuting::refute_node;
+use crate::searches::Search;
+use puz_board::Board;
+use set_sum::Bundle;
+use std::alloc::AllocError;
+use std::sync::atomic::{AtomicU64, AtomicUsize};
+use std::thread::Threads;
+use work_run::{Gate, Workers};
+use work_share::share;
+
+/// A search that expands no more boards is over sooner than it is shared.
+const FEW_BOARDS: u64 = 1 << 16;
+
+/// Searches as `refute` does, by these workers at once: the answer means the same, and is the same for each number of workers.
+///
+/// A small search is the caller's alone. A larger one is cut at the boards a few moves away, and the workers search below these.
+/// The budget counts the boards of all of them. Where it ends, the workers may have expanded more: each at most the budget that
+/// was left when it began to search below its board. The gate is told of each search, and of the boards that are expanded. Memory
+/// is taken for the boards a few moves away, for what their searches answer, and for the workers.
+pub fn refute_by<R: Threads + Sync, G: Gate + Sync>(
+    bundle: &Bundle<'_>,
+    board: &Board,
+    bound: u8,
+    budget: u64,
+    workers: &Workers<'_, R, G>,
+) -> Result<Answer, AllocError>
+    requires { side_of board.now ≡ bundle.now.side }
+
+    // Refuted: no solution of the board has fewer moves, and the search fails with so many boards, within the budget. Solved:
+    // these moves solve it, and are fewer. Spent: where the search fails, it expands more boards than the budget.
+    ensures answer { IfOk result (IsAnswer bundle.now board.now bound budget) }
+
+    // It is refuted wherever the search fails within the budget.
+    ensures within { (boards : ℕ) → Fails bundle.now bound board.now None boards
+        → boards ≤ budget → IfOk result (λ answer. answer ≡ Refuted boards) }
+
+    // A budget that is large enough is never spent.
+    ensures enough { most_boards bound ≤ budget → IfOk result (λ answer. answer ≡ Spent → ⊥) }
+{
+    // What is said of boards and sums is said of a board and a bundle, and these say that the values are.
+    let _sides = (board.side(), bundle.side());
+    workers.gate.searches(bound);
+    let search = Search {
+        bundle,
+        board,
+        bound,
+    };
+    search_by(&search, budget, workers)
+}
+
+/// Searches alone first, and then by all workers where that search is too small.
+fn search_by<R: Threads + Sync, G: Gate + Sync>(
+    task: &Search<'_>,
+    budget: u64,
+    workers: &Workers<'_, R, G>,
+) -> Result<Answer, AllocError>
+    ensures { IfOk result (IsPartAnswer
+        (Fails task.now.bundle.now task.now.bound task.now.board.now None)
+        (most_boards task.now.bound) (solves_first task.now) budget) }
+{
+    let few = budget.min(FEW_BOARDS);
+    let mut effort = Effort::within(few);
+    let answer = refute_node(task, &task.first(), &mut effort);
+    workers.gate.expanded(few.saturating_sub(effort.left));
+    match answer {
+        Answer::Refuted(boards) => Ok(Answer::Refuted(boards)),
+        Answer::Solved(letters) => Ok(Answer::Solved(letters)),
+        Answer::Spent if budget <= FEW_BOARDS => Ok(Answer::Spent),
+        Answer::Spent => search_frontier(task, budget, workers),
+    }
+}
+
+/// Searches below the nodes of a frontier, which the workers share.
+fn search_frontier<R: Threads + Sync, G: Gate + Sync>(
+    task: &Search<'_>,
+    budget: u64,
+    workers: &Workers<'_, R, G>,
+) -> Result<Answer, AllocError>
+    ensures { IfOk result (IsPartAnswer
+        (Fails task.now.bundle.now task.now.bound task.now.board.now None)
+        (most_boards task.now.bound) (solves_first task.now) budget) }
+{
+    let frontier = frontier_of(task, workers.alloc)?;
+    workers.gate.expanded(frontier.expanded);
+    let Some(left) = budget.checked_sub(frontier.expanded) else {
+        return Ok(Answer::Spent);
+    };
+    let nodes = SearchNodes {
+        task,
+        nodes: frontier.nodes.as_slice(),
+        budget: left,
+        expanded: AtomicU64::new(0),
+        solved: AtomicUsize::new(usize::MAX),
+        gate: workers.gate,
+    };
+    let outcomes = share(&nodes, workers)?;
+    match settle(task, frontier.nodes.as_slice(), outcomes.as_slice(), left) {
+        Answer::Refuted(boards) => Ok(Answer::Refuted(frontier.expanded + boards)),
+        Answer::Solved(letters) => Ok(Answer::Solved(letters)),
+        Answer::Spent => Ok(Answer::Spent),
+    }
+}

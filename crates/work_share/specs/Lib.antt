@@ -1,0 +1,2 @@
+-- What public contracts say, and what proofs alone need.
+pub mod Shares
