@@ -1,0 +1,185 @@
+//! Texts of claims of each form, each kind of line that is none, and the most claims.
+
+use claim_text::{Asks, ClaimsFault, MOST_CLAIMS, bound_line, read_claims};
+use puz_board::Board;
+use std::alloc::{AllocError, AllocGlobal, Global};
+use std::process::Abort;
+use std::test::Fail;
+
+/// The fault of a text.
+fn fault<R: AllocGlobal>(rt: &R, text: &[u8]) -> Option<ClaimsFault> {
+    read_claims(rt.alloc(), text).err()
+}
+
+/// The one claim of a text: whether it is on these numbers, and what it asks or says.
+fn said<'a, R: AllocGlobal + Abort>(rt: &R, text: &'a [u8], numbers: &[u8]) -> (bool, Asks<'a>) {
+    let claims = read_claims(rt.alloc(), text).ok().expect(rt, "claims");
+    let claim = claims.first().expect(rt, "a claim");
+    (
+        Board::from_cells(numbers) == Some(claim.board) && claims.len() == 1,
+        claim.asks,
+    )
+}
+
+#[test]
+fn claims_of_each_form_are_read(rt: HostRuntime) {
+    let start = [3, 2, 1, 0];
+    assert_eq!(rt; said(&rt, b"3 2 1 0\r\n", &start), (true, Asks::Shortest));
+    assert_eq!(rt;
+        said(&rt, b" 3\t2 1 0;UL\tDRUL\r\n", &start),
+        (true, Asks::Moves(b"UL\tDRUL\r"))
+    );
+    assert_eq!(rt; said(&rt, b"3 2 1 0 ;", &start), (true, Asks::Moves(b"")));
+    assert_eq!(rt; said(&rt, b"3 2 1 0:6", &start), (true, Asks::Bound(6)));
+    assert_eq!(rt; said(&rt, b"3 2 1 0 : 0\n", &start), (true, Asks::Bound(0)));
+    assert_eq!(rt;
+        said(&rt, b"3 2 1 0 \t:\t10 \r\n", &start),
+        (true, Asks::Bound(10))
+    );
+    assert_eq!(rt;
+        said(&rt, b"3 2 1 0 : 255", &start),
+        (true, Asks::Bound(255))
+    );
+    let three = [1, 0, 2, 3, 4, 5, 6, 7, 8];
+    assert_eq!(rt;
+        said(&rt, b"1 0 2 3 4 5 6 7 8 : 9", &three),
+        (true, Asks::Bound(9))
+    );
+}
+
+#[test]
+fn claims_come_in_the_order_of_their_lines(rt: HostRuntime) {
+    let claims = read_claims(rt.alloc(), b"3 2 1 0 ; ULDRUL\n3 2 1 0 : 6\n")
+        .ok()
+        .expect(&rt, "claims");
+    assert_eq!(rt; claims.len(), 2);
+    for claim in &claims {
+        assert_eq!(rt;
+            bound_line(6, &claim.board).as_str(),
+            "bound 6 of 3 2 1 0\n"
+        );
+    }
+    assert_eq!(rt;
+        claims.first().map(|claim| claim.asks),
+        Some(Asks::Moves(b" ULDRUL"))
+    );
+    assert_eq!(rt; claims.last().map(|claim| claim.asks), Some(Asks::Bound(6)));
+}
+
+#[test]
+fn the_last_line_may_lack_its_end(rt: HostRuntime) {
+    let texts: [(&[u8], usize); 4] = [
+        (b"3 2 1 0", 1),
+        (b"3 2 1 0\n", 1),
+        (b"3 2 1 0\n0 1 2 3", 2),
+        (b"3 2 1 0\n0 1 2 3\n", 2),
+    ];
+    for (text, count) in texts {
+        let claims = read_claims(rt.alloc(), text).ok().expect(&rt, "claims");
+        assert_eq!(rt; claims.len(), count, "{text:?}");
+    }
+}
+
+/// Lines that are no claims, with a bar between them.
+const NO_CLAIMS: &[u8] =
+    b"|\r|3 2 1 0 # a remark|3 2 1 1|3 2 1 0 :|3 2 1 0 : |3 2 1 0 : 256|3 2 1 0 : 300|3 2 1 0 : 999|\
+3 2 1 0 : 1000|3 2 1 0 : 0006|3 2 1 0 : 06|3 2 1 0 : 00|3 2 1 0 : +6|3 2 1 0 : -6|3 2 1 0 : 6 7|3 2 1 0 : 1 0|\
+3 2 1 0 : 6 : 7|3 2 1 0 : 6x|3 2 1 0 : x6|3 2 1 0 : 6\x0c|3 2 1 0 : \xd9\xa6|3 2 1 0 : 6 ; ULDRUL|3 2 1 0 ; ULDRUL : 6|\
+3 2 1 0 ; ULX|3 2 1 0 ; uldrul|3 2 1 0 ; UL ; DRUL|; ULDRUL|: 6";
+
+#[test]
+fn lines_that_are_no_claims_are_refused(rt: HostRuntime) -> Result<(), Fail> {
+    for line in NO_CLAIMS.split(|b| *b == b'|') {
+        let mut text = b"3 2 1 0 : 6\n3 2 1 0\n".to_vec(rt.alloc())?;
+        text.extend_from_slice(line)?;
+        text.extend_from_slice(b"\n3 2 1 0 : x\n")?;
+        assert_eq!(rt;
+            fault(&rt, &text),
+            Some(ClaimsFault::Q1 { line: 2 }),
+            "{line:?}"
+        );
+    }
+    Ok(())
+}
+
+#[test]
+fn the_first_line_that_is_no_claim_is_named(rt: HostRuntime) {
+    let texts: [(&[u8], u32); 5] = [
+        (b"", 0),
+        (b"\n", 0),
+        (b"3 2 1 0\n\n", 1),
+        (b"3 2 1 0\n0 1 2\n0 1 2\n", 1),
+        (b"3 2 1 0\n3 2 1 0\n3 2 1 1", 2),
+    ];
+    for (text, line) in texts {
+        assert_eq!(rt;
+            fault(&rt, text),
+            Some(ClaimsFault::Q1 { line }),
+            "{text:?}"
+        );
+    }
+}
+
+/// A board and so many letters, with a separator behind each.
+fn with_letters(alloc: Global, count: u16) -> Result<Vec<u8>, AllocError> {
+    let mut text = b"0 1 2 3 ;".to_vec(alloc)?;
+    for _ in 0..count {
+        text.extend_from_slice(b"R ")?;
+    }
+    Ok(text)
+}
+
+#[test]
+fn a_claim_has_1000_letters_at_most(rt: HostRuntime) -> Result<(), Fail> {
+    let most = with_letters(rt.alloc(), 1000)?;
+    let claims = read_claims(rt.alloc(), &most).ok().expect(&rt, "claims");
+    assert_eq!(rt; claims.len(), 1);
+    let more = with_letters(rt.alloc(), 1001)?;
+    assert_eq!(rt; fault(&rt, &more), Some(ClaimsFault::Q1 { line: 0 }));
+    Ok(())
+}
+
+/// So many lines, each of them a claim.
+fn many(alloc: Global, count: u32) -> Result<Vec<u8>, AllocError> {
+    let mut text = Vec::new(alloc);
+    for _ in 0..count {
+        text.extend_from_slice(b"0 1 2 3:9\n")?;
+    }
+    Ok(text)
+}
+
+#[test]
+fn a_text_may_have_1048576_claims(rt: HostRuntime) -> Result<(), Fail> {
+    let text = many(rt.alloc(), 1_048_576)?;
+    let claims = read_claims(rt.alloc(), &text).ok().expect(&rt, "claims");
+    assert_eq!(rt; claims.len(), 1_048_576);
+    assert_eq!(rt; claims.last().map(|claim| claim.asks), Some(Asks::Bound(9)));
+    Ok(())
+}
+
+#[test]
+fn a_claim_more_is_refused(rt: HostRuntime) -> Result<(), Fail> {
+    assert_eq!(rt; MOST_CLAIMS, 1_048_576);
+    let text = many(rt.alloc(), 1_048_577)?;
+    assert_eq!(rt;
+        fault(&rt, &text),
+        Some(ClaimsFault::Q1 { line: 1_048_576 })
+    );
+    Ok(())
+}
+
+// Run with each allocation refused in turn.
+#[test]
+fn want_of_memory_is_answered_and_a_second_reading_has_the_claims(rt: HostRuntime) {
+    let text = b"3 2 1 0\n3 2 1 0 : 6";
+    let mut claims = read_claims(rt.alloc(), text);
+    if matches!(&claims, Err(ClaimsFault::Memory)) {
+        claims = read_claims(rt.alloc(), text);
+    }
+    assert_eq!(rt; claims.ok().expect(&rt, "claims").len(), 2);
+    // What is no text of claims wants none.
+    assert_eq!(rt;
+        fault(&rt, b"3 2 1 0\n3 2 1 0 : x"),
+        Some(ClaimsFault::Q1 { line: 1 })
+    );
+}

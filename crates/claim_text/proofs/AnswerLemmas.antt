@@ -1,0 +1,149 @@
+-- The lines that answer claims.
+use Rattle.std.proofs.Common.{◌≡◌, ℕ, zero, suc, ◌+◌, ◌*◌, ◌/◌, ◌%◌, ◌<◌, ◌≤◌, Bool, true, false, List, [], ◌∷◌, ◌++◌, append_assoc, append-nil, None, cond, length, length-append, get_or, take, drop, eqb, ltb, not, refl, sym, ◌∙◌, ap, subst, arith, codes, decimal, inl, inr}
+use Rattle.std.proofs.Math.Seq.{drop-cons}
+use Rattle.std.proofs.lemmas.Bool.{cases_lt, cond-false, cond-true, ne_eqb, not_from_false}
+use Rattle.std.proofs.lemmas.Fmt.{length-decimal-le}
+use Rattle.std.proofs.lemmas.List.{take-append-drop, take_more}
+use Rattle.std.proofs.lemmas.List.Concat.{flat_map-append}
+use Rattle.std.proofs.lemmas.List.Elements.{All-append, All-cons, All-nil, filter-append}
+use Rattle.std.proofs.lemmas.List.Sums.{AllPass-from_list_all}
+use Rattle.std.specs.Prelude.{is_some}
+use Rattle.std.specs.Fmt.{digit_glyph, digits, digits_onto}
+use Rattle.std.specs.List.{list_any}
+use Rattle.puz_board.specs.Boards.{IsBoard, at, side_of}
+use Rattle.puz_board.specs.Cells.{move_of_letter}
+use Rattle.puz_board.specs.MovesTexts.{is_letter}
+use Rattle.puz_board.proofs.BoardLemmas.{cells_most}
+use Rattle.claim_text.specs.Claims.{HasNo, ShownAsks, ShownClaim, bound, letters, moves, shortest}
+use Rattle.claim_text.specs.Laws.{AnswersAreLines, AnswersBegin}
+use Rattle.claim_text.specs.Lines.{asks_words, bounded, claim_words, numbers, optimal, refused, shorter, spaced_letters}
+
+-- ---- how much room they take
+
+-- a board has 25 cells at most, and each number has two digits at most
+pub cell_short : (b : List ℕ) (n c : ℕ) → IsBoard b → n ≡ side_of b → c < n * n → (c < 25) × (length (decimal (at b c)) ≤ 2) × (c < length b)
+cell_short b n c board side within =
+    let most : side_of b * side_of b ≤ 25 = cells_most (side_of b) b board in
+    let here : c < side_of b * side_of b = subst (λ k. c < k * k) side within in
+    let below : at b c < side_of b * side_of b = board.below c here in
+    let size : length b ≡ side_of b * side_of b = board.size in
+    (omega arith, length-decimal-le 2 (at b c) (omega arith) (omega arith) (omega arith), omega arith)
+
+-- a number more
+pub numbers-more : (front b : List ℕ) (c : ℕ) → c < length b → ((front ++ numbers (take c b)) ++ codes " ") ++ decimal (at b c) ≡ front ++ numbers (take (c + 1) b)
+numbers-more front b c within =
+    append_assoc (front ++ numbers (take c b)) (codes " ") (decimal (at b c)) ∙ append_assoc front (numbers (take c b)) (codes " " ++ decimal (at b c)) ∙
+    ap (λ text. front ++ text)
+    (sym (ap numbers (take_more b c 0 within) ∙ flat_map-append (λ n. codes " " ++ decimal n) (take c b) (at b c ∷ []) ∙
+    ap (λ text. numbers (take c b) ++ (codes " " ++ text)) (append-nil (decimal (at b c)))))
+
+-- ---- no LF but at the end
+
+glyph_other : (d : ℕ) → eqb (digit_glyph false d) 10 ≡ false
+glyph_other d = go (ltb d 10)
+  where
+    go : (b : Bool) → eqb (cond b (48 + d) (87 + d)) 10 ≡ false
+    go true = ne_eqb (48 + d) 10 (λ e. omega arith)
+    go false = ne_eqb (87 + d) 10 (λ e. omega arith)
+
+digits_onto-no_lf : (k n : ℕ) (acc : List ℕ) → HasNo 10 acc → HasNo 10 (digits_onto k 10 false n acc)
+digits_onto-no_lf zero n acc none = none
+digits_onto-no_lf (suc k) n acc none = go (eqb (n / 10) 0) (All-cons (λ b. not (eqb b 10) ≡ true) (digit_glyph false (n % 10)) acc (not_from_false (eqb (digit_glyph false (n % 10)) 10) (glyph_other (n % 10))) none) (digits_onto-no_lf k)
+  where
+    go : (b : Bool) → HasNo 10 (digit_glyph false (n % 10) ∷ acc) → ((m : ℕ) (acc : List ℕ) → HasNo 10 acc → HasNo 10 (digits_onto k 10 false m acc))
+        → HasNo 10 (cond b (digit_glyph false (n % 10) ∷ acc) (digits_onto k 10 false (n / 10) (digit_glyph false (n % 10) ∷ acc)))
+    go true more rest = more
+    go false more rest = rest (n / 10) (digit_glyph false (n % 10) ∷ acc) more
+
+-- a decimal has no LF
+pub decimal-no_lf : (n : ℕ) → HasNo 10 (decimal n)
+unfolding digits
+decimal-no_lf n = digits_onto-no_lf 64 n [] (All-nil (λ b. not (eqb b 10) ≡ true))
+
+-- two texts without an LF have none together
+pub join_no_lf : (a b : List ℕ) → HasNo 10 a → HasNo 10 b → HasNo 10 (a ++ b)
+join_no_lf a b p q = All-append (λ byte. not (eqb byte 10) ≡ true) a b p q
+
+numbers-no_lf : (b : List ℕ) → HasNo 10 (numbers b)
+numbers-no_lf [] = All-nil (λ b. not (eqb b 10) ≡ true)
+numbers-no_lf (n ∷ b) = join_no_lf (codes " " ++ decimal n) (numbers b) (join_no_lf (codes " ") (decimal n) (AllPass-from_list_all (λ b. not (eqb b 10)) (codes " ") refl) (decimal-no_lf n)) (numbers-no_lf b)
+
+letter_other : (x : ℕ) → is_letter x ≡ true → eqb x 10 ≡ false
+letter_other x e = ne_eqb x 10 (λ same. let no : false ≡ true = subst (λ n. is_letter n ≡ true) same e in cc)
+
+letters-no_lf : (text : List ℕ) → HasNo 10 (letters text)
+letters-no_lf [] = All-nil (λ b. not (eqb b 10) ≡ true)
+letters-no_lf (x ∷ xs) = go (is_letter x) refl (letters-no_lf xs)
+  where
+    go : (b : Bool) → is_letter x ≡ b → HasNo 10 (letters xs) → HasNo 10 (cond b (x ∷ letters xs) (letters xs))
+    go true e rest = All-cons (λ b. not (eqb b 10) ≡ true) x (letters xs) (not_from_false (eqb x 10) (letter_other x e)) rest
+    go false e rest = rest
+
+spaced-no_lf : (text : List ℕ) → HasNo 10 (spaced_letters text)
+spaced-no_lf text = go (list_any is_letter text)
+  where
+    go : (b : Bool) → HasNo 10 (cond b (codes " " ++ letters text) [])
+    go true = join_no_lf (codes " ") (letters text) (AllPass-from_list_all (λ b. not (eqb b 10)) (codes " ") refl) (letters-no_lf text)
+    go false = All-nil (λ b. not (eqb b 10) ≡ true)
+
+asks-no_lf : (asks : ShownAsks) → HasNo 10 (asks_words asks)
+asks-no_lf shortest = All-nil (λ b. not (eqb b 10) ≡ true)
+asks-no_lf (moves text) = join_no_lf (codes " ;") (spaced_letters text) (AllPass-from_list_all (λ b. not (eqb b 10)) (codes " ;") refl) (spaced-no_lf text)
+asks-no_lf (bound n) = join_no_lf (codes " : ") (decimal n) (AllPass-from_list_all (λ b. not (eqb b 10)) (codes " : ") refl) (decimal-no_lf n)
+
+claim-no_lf : (claim : ShownClaim) → HasNo 10 (claim_words claim)
+claim-no_lf claim = join_no_lf (numbers claim.board) (asks_words claim.asks) (numbers-no_lf claim.board) (asks-no_lf claim.asks)
+
+-- behind `of`, whatever comes before it
+of_no_lf : (front words : List ℕ) → HasNo 10 front → HasNo 10 words → HasNo 10 (front ++ codes " of" ++ words)
+of_no_lf front words p q =
+    join_no_lf (front ++ codes " of") words (join_no_lf front (codes " of") p (AllPass-from_list_all (λ b. not (eqb b 10)) (codes " of") refl)) q
+
+-- a line that answers a claim has no LF before its end
+pub answer-no_lf : AnswersAreLines
+answer-no_lf (bounded n b) what = of_no_lf (codes "bound " ++ decimal n) (numbers b) (join_no_lf (codes "bound ") (decimal n) (AllPass-from_list_all (λ b. not (eqb b 10)) (codes "bound ") refl) (decimal-no_lf n)) (numbers-no_lf b)
+answer-no_lf (optimal n b text) what =
+    of_no_lf (codes "optimal " ++ decimal n) (claim_words (record { board = b; asks = moves text })) (join_no_lf (codes "optimal ") (decimal n) (AllPass-from_list_all (λ b. not (eqb b 10)) (codes "optimal ") refl) (decimal-no_lf n))
+    (claim-no_lf (record { board = b; asks = moves text }))
+answer-no_lf (shorter solution claim) what =
+    of_no_lf (codes "refused O2 by" ++ spaced_letters solution) (claim_words claim)
+    (join_no_lf (codes "refused O2 by") (spaced_letters solution) (AllPass-from_list_all (λ b. not (eqb b 10)) (codes "refused O2 by") refl) (spaced-no_lf solution)) (claim-no_lf claim)
+answer-no_lf (refused what claim) none = of_no_lf what (claim_words claim) none (claim-no_lf claim)
+
+regroup : (a b c d e : List ℕ) → (((a ++ b) ++ c) ++ d) ++ e ≡ a ++ (b ++ (c ++ (d ++ e)))
+regroup a b c d e = simp append_assoc
+
+regroup_four : (a b c d : List ℕ) → ((a ++ b) ++ c) ++ d ≡ a ++ (b ++ (c ++ d))
+regroup_four a b c d = simp append_assoc
+
+-- it begins as its kind says
+pub answer_begins : AnswersBegin
+answer_begins (bounded n b) = (decimal n ++ (codes " of" ++ (numbers b ++ codes "\n")), regroup (codes "bound ") (decimal n) (codes " of") (numbers b) (codes "\n"))
+answer_begins (optimal n b text) =
+    let words = claim_words (record { board = b; asks = moves text }) in
+    (decimal n ++ (codes " of" ++ (words ++ codes "\n")), regroup (codes "optimal ") (decimal n) (codes " of") words (codes "\n"))
+answer_begins (shorter solution claim) = (
+  spaced_letters solution ++ (codes " of" ++ (claim_words claim ++ codes "\n")),
+  regroup (codes "refused O2 by") (spaced_letters solution) (codes " of") (claim_words claim) (codes "\n"),
+)
+answer_begins (refused what claim) = (codes " of" ++ (claim_words claim ++ codes "\n"), regroup_four what (codes " of") (claim_words claim) (codes "\n"))
+
+-- ---- letters, one after the other
+
+-- where a letter stands, there is room for it behind those before it
+pub letters_room : (text : List ℕ) (i : ℕ) → i < length text → is_letter (get_or text i 0) ≡ true → length (letters (take i text)) + 1 ≤ length (letters text)
+letters_room text i within letter =
+    let whole = ap letters (sym (take-append-drop i text)) ∙ filter-append is_letter (take i text) (drop i text) in
+    let rest = ap letters (drop-cons text i 0 within) ∙ cond-true (is_letter (get_or text i 0)) (get_or text i 0 ∷ letters (drop (suc i) text)) (letters (drop (suc i) text)) letter in
+    omega (arith, ap length whole, ap length rest, length-append (letters (take i text)) (letters (drop i text)))
+
+-- a letter is an ASCII byte
+pub letter_small : (x : ℕ) → is_letter x ≡ true → x < 128
+letter_small x e = elim (cases_lt x 128) [
+  | inl below ↦ below
+  | inr above ↦
+      let none : move_of_letter x ≡ None =
+      cond-false (eqb x 85) _ _ (ne_eqb x 85 (λ same. omega arith)) ∙ cond-false (eqb x 68) _ _ (ne_eqb x 68 (λ same. omega arith)) ∙
+      cond-false (eqb x 76) _ _ (ne_eqb x 76 (λ same. omega arith)) ∙ cond-false (eqb x 82) _ _ (ne_eqb x 82 (λ same. omega arith)) in
+      absurd (let no : true ≡ false = sym e ∙ ap is_some none in cc)
+]

@@ -1,0 +1,5 @@
+use Rattle.claim_text.proofs.AnswerLemmas.{answer_begins}
+use Rattle.claim_text.proofs.laws.answers_begin.Goals as goal
+
+pub returns : goal.returns
+returns c = answer_begins

@@ -1,0 +1,8 @@
+use Rattle.claim_text.proofs.LetterLemmas.{letters_solve, solved_by_letters}
+use Rattle.claim_text.proofs.laws.solves_by_letters.Goals as goal
+
+pub returns-clause-letters : goal.returns-clause-letters
+returns-clause-letters c = letters_solve
+
+pub returns-clause-text : goal.returns-clause-text
+returns-clause-text c = solved_by_letters

@@ -1,0 +1,11 @@
+use Rattle.claim_text.proofs.ReadingLemmas.{no_fault, one_fault, one_reading}
+use Rattle.claim_text.proofs.laws.texts_have_one_answer.Goals as goal
+
+pub returns-clause-claims : goal.returns-clause-claims
+returns-clause-claims c = one_reading
+
+pub returns-clause-fault : goal.returns-clause-fault
+returns-clause-fault c = one_fault
+
+pub returns-clause-either : goal.returns-clause-either
+returns-clause-either c = no_fault

@@ -1,0 +1,17 @@
+use Rattle.std.proofs.Common.{◌≡◌, ◌≤◌, drop, length, map, take, vec_capacity, vec_len}
+use Rattle.std.specs.List.{AllZip}
+use Rattle.claim_text.specs.Claims.{IsClaim}
+use Rattle.claim_text.specs.Shown.{claim_shown}
+use Rattle.claim_text.specs.Texts.{lines_of}
+use Rattle.claim_text.proofs.texts.list_claims.Given as goal
+
+abbrev pub invariant-loop-line : goal.invariant-loop-line
+invariant-loop-line l = record {
+  room : length (lines_of l.text) ≤ vec_capacity l.claims;
+  few : vec_len l.claims ≤ length (lines_of l.text);
+  left : drop (vec_len l.claims) (lines_of l.text) ≡ lines_of l.rest;
+  listed : AllZip IsClaim (take (vec_len l.claims) (lines_of l.text)) (map claim_shown l.claims.items);
+}
+
+abbrev pub decreases-loop-line : goal.decreases-loop-line
+decreases-loop-line l = length l.rest

@@ -1,0 +1,7 @@
+-- What public contracts say.
+pub mod Claims
+pub mod Laws
+pub mod Lines
+pub mod Texts
+-- How values are stored.
+pub mod Shown

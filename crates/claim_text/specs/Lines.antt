@@ -1,0 +1,71 @@
+-- The lines that answer claims.
+use Rattle.std.specs.Prelude.{ℕ, ◌≤◌, if◌then◌else◌, codes, decimal, flat_map, length, List, [], ◌++◌, ⊤}
+use Rattle.std.specs.List.{list_any}
+use Rattle.puz_board.specs.MovesTexts.{is_letter}
+use Rattle.claim_text.specs.Claims.{HasNo, ShownAsks, ShownClaim, letters, shortest, moves, bound}
+
+-- ---- a claim in words
+
+-- the numbers of the cells, each with one space before it
+abbrev pub numbers : List ℕ → List ℕ
+numbers b = flat_map (λ n. codes " " ++ decimal n) b
+
+-- the letters of a moves text, with one space before them where there are any
+abbrev pub spaced_letters : List ℕ → List ℕ
+spaced_letters text = if list_any is_letter text then codes " " ++ letters text else []
+
+-- what stands behind the board
+abbrev pub asks_words : ShownAsks → List ℕ
+asks_words shortest = []
+asks_words (moves text) = codes " ;" ++ spaced_letters text
+asks_words (bound n) = codes " : " ++ decimal n
+
+-- the claim behind the word `of`: " 3 2 1 0", " 3 2 1 0 ; ULDRUL" or " 3 2 1 0 : 6"
+abbrev pub claim_words : ShownClaim → List ℕ
+claim_words claim = numbers claim.board ++ asks_words claim.asks
+
+-- ---- the answers
+
+-- no solution of the board has fewer moves than this; these moves, so many of them, are a shortest solution of the board; this
+-- solution shows that the claim is false; or this is why the claim is refused
+pub data Told : Type 0 where
+  bounded : ℕ → List ℕ → Told
+  optimal : ℕ → List ℕ → List ℕ → Told
+  shorter : List ℕ → ShownClaim → Told
+  refused : List ℕ → ShownClaim → Told
+
+-- the answer without the line's end
+abbrev pub told_text : Told → List ℕ
+told_text (bounded n b) = codes "bound " ++ decimal n ++ codes " of" ++ numbers b
+told_text (optimal n b text) = codes "optimal " ++ decimal n ++ codes " of" ++ claim_words (record { board = b; asks = moves text })
+told_text (shorter solution claim) = codes "refused O2 by" ++ spaced_letters solution ++ codes " of" ++ claim_words claim
+told_text (refused what claim) = what ++ codes " of" ++ claim_words claim
+
+-- the line
+abbrev pub told_line : Told → List ℕ
+told_line told = told_text told ++ codes "\n"
+
+-- ---- what holds of them
+
+-- the claim's moves text, where it has one, has at most 1,000 letters
+abbrev pub AreFewLetters : ShownAsks → Type 0
+AreFewLetters shortest = ⊤
+AreFewLetters (moves text) = length (letters text) ≤ 1000
+AreFewLetters (bound n) = ⊤
+
+abbrev pub HasFewLetters : ShownClaim → Type 0
+HasFewLetters claim = AreFewLetters claim.asks
+
+-- no LF, whose byte is 10, is in what a claim is refused for; of the other answers nothing is asked
+abbrev pub WhatHasNoLf : Told → Type 0
+WhatHasNoLf (bounded n b) = ⊤
+WhatHasNoLf (optimal n b text) = ⊤
+WhatHasNoLf (shorter solution claim) = ⊤
+WhatHasNoLf (refused what claim) = HasNo 10 what
+
+-- how the line begins
+abbrev pub beginning : Told → List ℕ
+beginning (bounded n b) = codes "bound "
+beginning (optimal n b text) = codes "optimal "
+beginning (shorter solution claim) = codes "refused O2 by"
+beginning (refused what claim) = what

@@ -1,0 +1,131 @@
+//! The lines that answer claims, as values.
+
+ghost use Rattle.std.specs.Prelude.{◌≡◌, ◌+◌, ◌≤◌, ◌++◌, codes, length};
+ghost use Rattle.arrayvec.specs.ArrayString.{array_string_len};
+ghost use Rattle.claim_text.specs.Claims.{letters};
+ghost use Rattle.claim_text.specs.Lines.{HasFewLetters, claim_words, numbers, spaced_letters, told_line};
+ghost use Rattle.claim_text.specs.Lines.{bounded, optimal, refused, shorter};
+ghost use Rattle.claim_text.specs.Shown.{claim_shown};
+
+use crate::claims::{Asks, Claim};
+use crate::letters::{has_letters, is_letter};
+use arrayvec::ArrayString;
+use itoa::Buffer;
+use puz_board::Board;
+
+/// Room for the longest line: what a claim is refused for, ` of`, 25 numbers of two digits at most, ` ;`, the 1,000 letters of a
+/// claim, and the line's end; one space stands before the letters and before each number.
+pub const LINE_LEN: usize = 1402;
+
+/// The most bytes of what a refused claim's line begins with.
+pub const MOST_WHAT: usize = 320;
+
+/// The most letters of a solution that shows that a claim is false.
+pub const MOST_SOLUTION: usize = 255;
+
+/// A line, as a value.
+pub type Line = ArrayString<LINE_LEN>;
+
+/// The line that says that no solution of a board has fewer moves than `bound`: `bound 6 of 3 2 1 0`.
+pub fn bound_line(bound: u8, board: &Board) -> Line
+    ensures { result.bytes ≡ told_line (bounded bound board.now) }
+{
+    let mut line = Line::new();
+    line.push_str("bound ");
+    line.push_str(Buffer::new().format(bound));
+    line.push_str(" of");
+    add_numbers(&mut line, board);
+    line.push_str("\n");
+    line
+}
+
+/// The line that says that these moves, `count` of them, are a shortest solution of a board: `optimal 6 of 3 2 1 0 ; ULDRUL`.
+pub fn optimal_line(count: u16, board: &Board, moves: &[u8]) -> Line
+    requires { length (letters moves.now) ≤ 1000 }
+    ensures { result.bytes ≡ told_line (optimal count board.now moves.now) }
+{
+    let mut line = Line::new();
+    line.push_str("optimal ");
+    line.push_str(Buffer::new().format(count));
+    let claim = Claim {
+        board: *board,
+        asks: Asks::Moves(moves),
+    };
+    end_with(line, &claim)
+}
+
+/// The line that says that a solution shows a claim to be false: `refused O2 by ULDRUL of 3 2 1 0 : 7`.
+pub fn shorter_line(solution: &[u8], claim: &Claim<'_>) -> Line
+    requires solution { length (letters solution.now) ≤ MOST_SOLUTION }
+    requires claim { HasFewLetters (claim_shown claim.now) }
+    ensures { result.bytes ≡ told_line (shorter solution.now (claim_shown claim.now)) }
+{
+    let mut line = Line::new();
+    line.push_str("refused O2 by");
+    add_letters(&mut line, solution);
+    end_with(line, claim)
+}
+
+/// The line that says why a claim is refused: `refused K1 of 3 2 1 0 : 7`.
+pub fn refused_line(what: &str, claim: &Claim<'_>) -> Line
+    requires what { length what.now ≤ MOST_WHAT }
+    requires claim { HasFewLetters (claim_shown claim.now) }
+    ensures { result.bytes ≡ told_line (refused what.now (claim_shown claim.now)) }
+{
+    let mut line = Line::new();
+    line.push_str(what);
+    end_with(line, claim)
+}
+
+/// A line ended with `of` and a claim.
+fn end_with(start: Line, claim: &Claim<'_>) -> Line
+    requires room { array_string_len start ≤ MOST_WHAT }
+    requires claim { HasFewLetters (claim_shown claim.now) }
+    ensures { result.bytes ≡ start.bytes ++ codes " of" ++ claim_words (claim_shown claim.now) ++ codes "\n" }
+{
+    let mut line = start;
+    line.push_str(" of");
+    add_numbers(&mut line, &claim.board);
+    match claim.asks {
+        Asks::Shortest => {}
+        Asks::Moves(moves) => {
+            line.push_str(" ;");
+            add_letters(&mut line, moves);
+        }
+        Asks::Bound(bound) => {
+            line.push_str(" : ");
+            line.push_str(Buffer::new().format(bound));
+        }
+    }
+    line.push_str("\n");
+    line
+}
+
+/// Adds the numbers of a board's cells to a line, each with a space before it.
+fn add_numbers(line: &mut Line, board: &Board)
+    requires { array_string_len line.old + 75 ≤ LINE_LEN }
+    ensures bytes { line.new.bytes ≡ line.old.bytes ++ numbers board.now }
+    ensures len { array_string_len line.new ≤ array_string_len line.old + 75 }
+{
+    for cell in 0..board.side().cells() {
+        line.push_str(" ");
+        line.push_str(Buffer::new().format(board.at(cell)));
+    }
+}
+
+/// Adds the letters of a moves text to a line, with a space before them where there are any.
+fn add_letters(line: &mut Line, moves: &[u8])
+    requires { array_string_len line.old + 1 + length (letters moves.now) ≤ LINE_LEN }
+    ensures bytes { line.new.bytes ≡ line.old.bytes ++ spaced_letters moves.now }
+    ensures len { array_string_len line.new ≤ array_string_len line.old + 1 + length (letters moves.now) }
+{
+    if !has_letters(moves) {
+        return;
+    }
+    line.push_str(" ");
+    for b in moves {
+        if is_letter(*b) {
+            line.push(char::from(*b));
+        }
+    }
+}
