@@ -100,6 +100,7 @@ fn answer_folded<'i, H: Threads + Wait + Sync, G: Gate + Sync>(
 }
 
 /// The answer of a search over the tables as they were read. Want of memory never comes of a board that is refused.
+#[inline(never)] // so that a run with folded tables hasn't its values on the stack
 fn answer_solve<'i, H: Threads + Wait + Sync, G: Gate + Sync>(
     files: &'i SearchInputs,
     fold: bool,

@@ -6,12 +6,12 @@ use Rattle.std.proofs.lemmas.List.{append-nil, append_cancel_left}
 use Rattle.tab_file.specs.Tables.{Table}
 use Rattle.tab_rule.specs.ExactTables.{IsExactFile}
 use Rattle.byte_io.specs.Shelf.{Bytes, Files, with_file}
-use Rattle.pdb_request.specs.Asked.{Asked, TableArguments, bound, make_table, optimal, replay, solve, table}
+use Rattle.pdb_request.specs.Asked.{Asked, TableArguments, bound, make_table, optimal, prove, replay, solve, table}
 use Rattle.pdb_request.specs.declared.requests.Claim.TheVariants.{Bound, Optimum}
 use Rattle.pdb_run.specs.Writing.{digest_line, digests_of}
 use Rattle.pdb_run.specs.Commands.{Wanted}
 use Rattle.pdb_run.specs.Inputs.{AreRead, IsReadFrom}
-use Rattle.pdb_run.specs.Runs.{Ends, IsAnswered, World, status_of_reply, world}
+use Rattle.pdb_run.specs.Runs.{IsAnswered, World, status_of_reply, world}
 use Rattle.pdb_run.specs.Statuses.{status_number}
 use Rattle.pdb_run.specs.declared.statuses.Status.{Status}
 use Rattle.pdb_run.specs.declared.statuses.Status.TheVariants.{Yes, Refused}
@@ -28,9 +28,10 @@ use Rattle.pdb_keep.proofs.KeptLemmas.{file-kept, log_answered, search_stood, ta
 use Rattle.pdb_keep.proofs.LetterLemmas.{told_solution}
 use Rattle.pdb_words.specs.CommandLine.{asked_of}
 use Rattle.pdb_program.specs.Headline.{EndWith, Headline, HoldsOfYes}
-use Rattle.pdb_program.specs.Programs.{IsNumberOfStatus, RunsOn, plan_of}
+use Rattle.pdb_program.specs.Programs.{EndsFor, IsNumberOfStatus, RunsOn, plan_of}
 use Rattle.pdb_program.specs.Steps.{SaysHeadline}
 use Rattle.pdb_program.proofs.ProgramLemmas.{answered_by}
+use Rattle.pdb_program.proofs.TrueLemmas.{lines_told, yes_lines}
 
 -- digest lines are whole lines
 whole-digests : (files : List Bytes)
@@ -168,6 +169,9 @@ module _ (before after : Files) (input start lines : Bytes) (failed failed_after
         stands arguments.out kept.log kept.kept,
         f.proved,
       )
+  yes_by (prove arguments) a =
+      let yes = yes_lines arguments old new Yes a (says a.reply.is_yes true a.is_status) in
+      (yes.0, yes.1, append_cancel_left start lines _ a.lines ∙ yes.2, yes.3)
 
   no_by : (arguments : TableArguments) → IsAnswered (table_plan arguments) old new Refused
       → (file : Bytes) × (before arguments.file ≡ Some file) × ((t : Table) → ¬ IsExactFile t file)
@@ -177,12 +181,13 @@ module _ (before after : Files) (input start lines : Bytes) (failed failed_after
       (is.0, read, no_told is.0 a.reply is.2 (says a.reply.is_yes false a.is_status))
 
   -- the sentence follows from how a run ends
-  headline_told : (asked : Asked) (number : ℕ) → IsNumberOfStatus (Ends (plan_of asked) old new) number
+  headline_told : (asked : Asked) (number : ℕ) → IsNumberOfStatus (EndsFor asked old new) number
       → Headline asked before after input lines number
   headline_told asked number ended = record {
-    yes = λ zero. yes_by asked (answered_by (plan_of asked) old new true number ended zero);
+    yes = λ zero. yes_by asked (answered_by asked old new true number ended zero);
     no = λ arguments same one.
-        no_by arguments (answered_by (table_plan arguments) old new false number (rw same at ended) one);
+        no_by arguments (answered_by (table arguments) old new false number (rw same at ended) one);
+    lines_true = λ arguments same. lines_told start lines arguments old new ended.0 (rw same at ended.2) refl refl;
     known = known ended.0 ended.1;
   }
     where
@@ -196,6 +201,6 @@ pub headline_of : (words other : List Bytes) (old new : World) (old_err new_err 
 headline_of words other old new old_err new_err number same runs before after input start lines parses had has left stood wrote =
     let ends = rw same at (runs.ends (rw same parses)) in
     headline_told before after input start lines old.failed new.failed new.reader (asked_of words) number
-    (subst (λ (w : World × World). IsNumberOfStatus (Ends (plan_of (asked_of words)) w.0 w.1) number)
+    (subst (λ (w : World × World). IsNumberOfStatus (EndsFor (asked_of words) w.0 w.1) number)
     (λ i. (world (had i) old.failed (left i) (stood i), world (has i) new.failed new.reader (wrote i)))
     ends)

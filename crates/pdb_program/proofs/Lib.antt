@@ -1,2 +1,3 @@
 mod HeadlineLemmas
 mod ProgramLemmas
+mod TrueLemmas

@@ -2,27 +2,39 @@
 use Rattle.std.proofs.Common.{◌≡◌, ◌⊎◌, inl, inr, refl, subst, arith, Bool, true, false, ℕ, List, [], ◌∷◌, Option}
 use Rattle.std.specs.Io.KnownBytes.{Keeps}
 use Rattle.byte_io.specs.Shelf.{Bytes}
-use Rattle.pdb_request.specs.Asked.{Asked, MakeTableArguments, make_table, solve}
+use Rattle.pdb_request.specs.Asked.{Asked, MakeTableArguments, make_table, prove, solve}
 use Rattle.pdb_run.specs.Commands.{Plan, Wanted}
 use Rattle.pdb_run.specs.Runs.{Ends, HasCause, IsAnswered, Outcome, WantsMemory, World, no_memory, status_of_reply, unkept, unwritable}
 use Rattle.pdb_run.specs.Statuses.{status_number}
 use Rattle.pdb_run.specs.declared.statuses.Status.{Status}
-use Rattle.pdb_run.specs.declared.statuses.Status.TheVariants.{Yes, Refused}
+use Rattle.pdb_run.specs.declared.statuses.Status.TheVariants.{Fault, Refused, Yes}
 use Rattle.pdb_run.proofs.AnswerLemmas.{IsAnswered-ends}
 use Rattle.pdb_keep.specs.MakeTable.{make_table_plan}
 use Rattle.pdb_keep.proofs.KeptLemmas.{log_answered, table_answered}
 use Rattle.pdb_words.specs.CommandLine.{Parses, asked_of}
 use Rattle.pdb_words.specs.Faults.{IsMistaken}
-use Rattle.pdb_program.specs.Programs.{AskToKeepNothing, HasKept, IsNumberOfStatus, RunsOn, plan_of, taking_memory}
+use Rattle.pdb_program.specs.Programs.{AskToKeepNothing, EndsFor, HasKept, IsCut, IsNumberOfStatus, RunsOn, plan_of, taking_memory}
 use Rattle.pdb_program.specs.Refusals.{Refuses}
 
+-- a run that was cut is neither a yes nor a no
+cut_fault : (asked : Asked) (old new : World) (status : Status) → IsCut asked old new status → status ≡ Fault
+cut_fault (prove arguments) old new status cut = cut.is_fault
+cut_fault _ old new status cut = absurd cut
+
+-- so it isn't answered
+cut_answers : (asked : Asked) (old new : World) (is_yes : Bool) → ¬ IsCut asked old new (status_of_reply is_yes)
+cut_answers asked old new true cut = let clash : Yes ≡ Fault = cut_fault asked old new Yes cut in cc
+cut_answers asked old new false cut = let clash : Refused ≡ Fault = cut_fault asked old new Refused cut in cc
+
 -- a run whose number is that of a yes or a no is answered
-pub answered_by : (plan : Plan) (old new : World) (is_yes : Bool) (number : ℕ)
-    → IsNumberOfStatus (Ends plan old new) number → number ≡ status_number (status_of_reply is_yes)
-    → IsAnswered plan old new (status_of_reply is_yes)
-answered_by plan old new true number (Yes, e, ends) is = IsAnswered-ends plan old new Yes ends (inl refl)
-answered_by plan old new false number (Refused, e, ends) is = IsAnswered-ends plan old new Refused ends (inr refl)
-answered_by plan old new _ number (_, e, ends) is = absurd (omega arith)
+pub answered_by : (asked : Asked) (old new : World) (is_yes : Bool) (number : ℕ)
+    → IsNumberOfStatus (EndsFor asked old new) number → number ≡ status_number (status_of_reply is_yes)
+    → IsAnswered (plan_of asked) old new (status_of_reply is_yes)
+answered_by asked old new true number (Yes, e, inl ends) is = IsAnswered-ends (plan_of asked) old new Yes ends (inl refl)
+answered_by asked old new false number (Refused, e, inl ends) is = IsAnswered-ends (plan_of asked) old new Refused ends (inr refl)
+answered_by asked old new true number (Yes, e, inr cut) is = absurd (cut_answers asked old new true cut)
+answered_by asked old new false number (Refused, e, inr cut) is = absurd (cut_answers asked old new false cut)
+answered_by asked old new _ number (_, e, ends) is = absurd (omega arith)
 
 -- ---- words that parse, where memory was refused
 
@@ -41,9 +53,10 @@ wants _ old = inl (omega arith)
 
 -- what is said of a fault in words that parse is want of memory
 pub parsed_ends : (words : List Bytes) (old new : World) (old_err new_err : Option Bytes) (status : Status) → Parses words → new.files ≡ old.files
-    → Refuses words old.written new.written old_err new_err status → Ends (plan_of (asked_of words)) old new status
+    → Refuses words old.written new.written old_err new_err status → EndsFor (asked_of words) old new status
 parsed_ends words old new old_err new_err status parses files = elim [
-  | inl memory ↦ record { outcome = no_memory; cause = wants (asked_of words) old; files = files; failure = tt; reader = tt; said = memory.0 }
+  | inl memory ↦
+      inl (record { outcome = no_memory; cause = wants (asked_of words) old; files = files; failure = tt; reader = tt; said = memory.0 })
   | inr (inl mistake) ↦ absurd (rw parses at mistake.0.among)
   | inr (inr help) ↦ absurd (rw parses at help.0)
 ]
@@ -71,16 +84,16 @@ taking plan old failed _ cause = cause
 
 -- what was asked for is a table to be made
 pub made_ends : (arguments : MakeTableArguments) (asked : Asked) (old new : World) (status : Status) → make_table arguments ≡ asked
-    → Ends (make_table_plan arguments) old new status → Ends (plan_of asked) old new status
+    → Ends (make_table_plan arguments) old new status → EndsFor asked old new status
 made_ends arguments asked old new status is ends =
-    subst (λ (a : Asked). Ends (plan_of a) old new status) is (record {
+    subst (λ (a : Asked). EndsFor a old new status) is (inl (record {
       outcome = ends.outcome;
       cause = taking (make_table_plan arguments) old new.failed ends.outcome ends.cause;
       files = ends.files;
       failure = ends.failure;
       reader = ends.reader;
       said = ends.said;
-    })
+    }))
 
 -- ---- a run on words
 
@@ -92,13 +105,13 @@ yes_keeps _ old new answered = answered.files
 
 -- a run on words is what its steps make it
 pub runs_on : (words : List Bytes) (old new : World) (old_err new_err : Option Bytes) (number : ℕ) (status : Status) → number ≡ status_number status
-    → (Parses words → Ends (plan_of (asked_of words)) old new status)
+    → (Parses words → EndsFor (asked_of words) old new status)
     → ((Parses words → ⊥) → Refuses words old.written new.written old_err new_err status)
     → Keeps old_err new_err ⊎ IsMistaken words → (AskToKeepNothing words → new.files ≡ old.files)
     → RunsOn words old new old_err new_err number
 runs_on words old new old_err new_err number status is ends refuses quiet same =
     let answered = λ (is_yes : Bool) (parses : Parses words).
-    answered_by (plan_of (asked_of words)) old new is_yes number (status, is, ends parses) in
+    answered_by (asked_of words) old new is_yes number (status, is, ends parses) in
     record {
       answered = λ parses. elim [
         | inl zero ↦ (Yes, zero, answered true parses zero)

@@ -2,7 +2,7 @@
 --
 -- `before` and `after` have the bytes under each name when the run begins and when it ends, `input` what its reader has left
 -- when it begins, and `lines` all that it wrote.
-use Rattle.std.specs.Prelude.{◌≡◌, ◌⊎◌, ℕ, ◌<◌, ◌≤◌, ◌^◌, ◌==◌, not, List, [], ◌++◌, Option, Some, codes, map}
+use Rattle.std.specs.Prelude.{◌≡◌, ◌⊎◌, ℕ, ◌<◌, ◌≤◌, ◌^◌, ◌==◌, true, not, List, [], ◌++◌, Option, Some, codes, map}
 use Rattle.std.specs.List.{AllPass}
 use Rattle.std.specs.Option.{option_map_or}
 use Rattle.puz_board.specs.BoardTexts.{Spells}
@@ -12,7 +12,12 @@ use Rattle.tab_file.specs.Tables.{Table}
 use Rattle.tab_rule.specs.ExactTables.{IsExactFile}
 use Rattle.set_sum.specs.Bounds.{IsBounded}
 use Rattle.byte_io.specs.Shelf.{Bytes}
-use Rattle.pdb_request.specs.Asked.{Asked, TableArguments, bound, make_table, optimal, replay, solve, table}
+use Rattle.pdb_request.specs.Asked.{Asked, ProveArguments, TableArguments, bound, make_table, optimal, prove, replay, solve, table}
+use Rattle.claim_text.specs.Lines.{Told}
+use Rattle.pdb_prove.specs.Answers.{are_yes}
+use Rattle.pdb_prove.specs.Prove.{told_lines}
+use Rattle.pdb_run.specs.Writing.{digests_of}
+use Rattle.pdb_program.specs.TrueLines.{AreTrueLines}
 use Rattle.pdb_verdict.specs.Bound.{IsProvedBound}
 use Rattle.pdb_verdict.specs.Lines.{counted, exact_line}
 use Rattle.pdb_verdict.specs.Replay.{IsSolvedPuzzle}
@@ -54,6 +59,9 @@ HoldsOfYes (solve a) before after input lines =
     × Solves b moves n × IsBounded b n
     × (set_text : Bytes) × (files : List Bytes) × (log : Bytes) × (before a.sets ≡ Some set_text) × (map before a.tables ≡ map Some files)
     × (after a.out ≡ Some log) × IsProvedBound a.fold b set_text log files n
+-- the lines are digests and what is told of claims, each a yes; that each of them is true is said below, whatever the status
+HoldsOfYes (prove a) before after input lines =
+    (files : List Bytes) × (told : List Told) × (lines ≡ digests_of files ++ told_lines told) × (are_yes told ≡ true)
 
 -- A run that was asked for this and ends with this status, 0 for a yes and 1 for a no. What a no means of `table`: the bytes under
 -- the name are no exact file, of whatever pattern; so an exact file is answered with 0, or by 2 or 3, but never with 1. What 2 and 3
@@ -62,4 +70,6 @@ pub record Headline (asked : Asked) (before after : Bytes → Option Bytes) (inp
   pub yes : status ≡ 0 → HoldsOfYes asked before after input lines
   pub no : (a : TableArguments) → asked ≡ table a → status ≡ 1
       → (file : Bytes) × (before a.file ≡ Some file) × ((t : Table) → ¬ IsExactFile t file)
+  -- each line of `prove` is true, whatever the status and whatever happened later
+  pub lines_true : (a : ProveArguments) → asked ≡ prove a → AreTrueLines lines
   pub known : status ≤ 3

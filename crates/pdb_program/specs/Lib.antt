@@ -2,5 +2,6 @@
 pub mod Headline
 pub mod Programs
 pub mod Refusals
+pub mod TrueLines
 -- What proofs alone need.
 pub mod Steps

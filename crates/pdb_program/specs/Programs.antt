@@ -2,7 +2,7 @@
 use Rattle.std.specs.Prelude.{◌≡◌, ◌⊎◌, ⊤, ℕ, List, Option, None}
 use Rattle.std.specs.Io.KnownBytes.{Keeps}
 use Rattle.byte_io.specs.Shelf.{Bytes}
-use Rattle.pdb_request.specs.Asked.{Asked, bound, make_table, optimal, replay, solve, table}
+use Rattle.pdb_request.specs.Asked.{Asked, bound, make_table, optimal, prove, replay, solve, table}
 use Rattle.pdb_request.specs.declared.requests.Claim.TheVariants.{Bound, Optimum}
 use Rattle.pdb_run.specs.Commands.{Plan}
 use Rattle.pdb_run.specs.Runs.{Ends, IsAnswered, World}
@@ -12,6 +12,7 @@ use Rattle.pdb_verdict.specs.Plans.{log_check_plan, replay_plan, table_plan}
 use Rattle.pdb_keep.specs.Kept.{IsLogKept, IsTableKept}
 use Rattle.pdb_keep.specs.MakeTable.{make_table_plan}
 use Rattle.pdb_keep.specs.Solve.{solve_plan}
+use Rattle.pdb_prove.specs.Prove.{IsCutShort, prove_plan}
 use Rattle.pdb_words.specs.CommandLine.{Parses, asked_of}
 use Rattle.pdb_words.specs.Faults.{IsMistaken}
 use Rattle.pdb_program.specs.Refusals.{Refuses}
@@ -29,6 +30,16 @@ plan_of (bound arguments) = log_check_plan Bound arguments
 plan_of (optimal arguments) = log_check_plan Optimum arguments
 plan_of (make_table arguments) = taking_memory (make_table_plan arguments)
 plan_of (solve arguments) = solve_plan arguments
+plan_of (prove arguments) = prove_plan arguments
+
+-- the output of a command that writes line by line failed before all lines were written
+abbrev pub IsCut : Asked → World → World → Status → Type 0
+IsCut (prove arguments) old new status = IsCutShort arguments old new status
+IsCut other old new status = ⊥
+
+-- a run of what words ask for ends as its plan says, or was cut
+abbrev pub EndsFor : Asked → World → World → Status → Type 0
+EndsFor asked old new status = Ends (plan_of asked) old new status ⊎ IsCut asked old new status
 
 -- the words ask for nothing under whose name a file is kept: only make-table and solve keep one
 abbrev pub AskToKeepNothing : List Bytes → Type 0
@@ -48,7 +59,7 @@ IsNumberOfStatus Holds number = (status : Status) × (number ≡ status_number s
 -- a run on these words, from the one world to the other; what stood on the errors before and after it; and its number
 pub record RunsOn (words : List Bytes) (old new : World) (old_err new_err : Option Bytes) (number : ℕ) : Type 0 where
   pub answered : Parses words → (number ≡ 0) ⊎ (number ≡ 1) → IsNumberOfStatus (IsAnswered (plan_of (asked_of words)) old new) number
-  pub ends : Parses words → IsNumberOfStatus (Ends (plan_of (asked_of words)) old new) number
+  pub ends : Parses words → IsNumberOfStatus (EndsFor (asked_of words) old new) number
   pub refuses : (Parses words → ⊥) → IsNumberOfStatus (Refuses words old.written new.written old_err new_err) number
   pub quiet : Keeps old_err new_err ⊎ IsMistaken words
   pub kept : Parses words → number ≡ 0 → HasKept (asked_of words) old new

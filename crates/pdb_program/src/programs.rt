@@ -3,11 +3,11 @@
 ghost use Rattle.std.specs.Prelude.{◌≡◌, ◌⊎◌, ◌++◌, Option, map, string_bytes};
 ghost use Rattle.std.specs.Io.KnownBytes.{Keeps};
 ghost use Rattle.byte_io.specs.Shelf.{Bytes};
-ghost use Rattle.pdb_run.specs.Runs.{Ends, world};
+ghost use Rattle.pdb_run.specs.Runs.{world};
 ghost use Rattle.pdb_words.specs.CommandLine.{Parses, asked_of};
 ghost use Rattle.pdb_words.specs.Faults.{IsMistaken};
 ghost use Rattle.pdb_program.specs.Headline.{Headline};
-ghost use Rattle.pdb_program.specs.Programs.{AskToKeepNothing, RunsOn, plan_of};
+ghost use Rattle.pdb_program.specs.Programs.{AskToKeepNothing, EndsFor, RunsOn};
 ghost use Rattle.pdb_program.specs.Steps.{SaysHeadline};
 ghost use Rattle.pdb_program.specs.Refusals.{Refuses};
 
@@ -15,6 +15,7 @@ use crate::hosts::Host;
 use crate::refusals::explain;
 use byte_io::shelf::Shelf;
 use pdb_keep::{run_make_table, run_solve};
+use pdb_prove::run_prove;
 use pdb_request::Request;
 use pdb_run::{BorrowedIo, Io, Status};
 use pdb_verdict::{run_log_check, run_replay, run_table};
@@ -88,7 +89,7 @@ fn answer<H: Threads + Wait + Sync, I: Io, E: Write, G: Gate + Sync>(
 ) -> Status
     ensures same_streams { I.streams io.new ≡ I.streams io.old }
     ensures ends { let words = map string_bytes words.now in Parses words
-        → Ends (plan_of (asked_of words)) (I.world io.old) (I.world io.new) result }
+        → EndsFor (asked_of words) (I.world io.old) (I.world io.new) result }
     ensures refuses { let words = map string_bytes words.now in
         let old = I.world io.old in let new = I.world io.new in (Parses words → ⊥)
         → Refuses words old.written new.written (E.contents err.old) (E.contents err.new) result }
@@ -103,6 +104,7 @@ fn answer<H: Threads + Wait + Sync, I: Io, E: Write, G: Gate + Sync>(
         Ok(Request::LogCheck(check)) => run_log_check(&check, &host.workers(check.workers), io),
         Ok(Request::MakeTable(asked)) => run_make_table(&asked, &host.workers(asked.workers), io),
         Ok(Request::Search(search)) => run_solve(&search, &host.workers(search.workers), io),
+        Ok(Request::Prove(prove)) => run_prove(&prove, &host.workers(prove.workers), io),
         Err(fault) => explain(fault, io, err),
     }
 }

@@ -1,2 +1,3 @@
 -- What public contracts say.
+pub mod Paces
 pub mod Shares

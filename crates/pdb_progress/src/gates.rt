@@ -1,21 +1,23 @@
-//! Gates that tell how far a check has come.
+//! Gates that tell how far a check has come, and how fast a search goes.
 
+use crate::paces::Pace;
 use crate::shares::Share;
 use crate::times::is_time;
 use std::io;
 use std::rt::{Clock, Env};
-use std::sync::atomic::{AtomicU64, Ordering};
+use std::sync::atomic::{AtomicBool, AtomicU8, AtomicU64, Ordering};
 use std::time::Instant;
 use work_run::Gate;
 
 /// The variable of the environment that asks for progress, by the value 1.
 const VARIABLE: &str = "PDB_PROGRESS";
 
-/// Tells on standard error, while workers run, what share of the jobs was begun: at most once a second, and not in the
-/// first second.
+/// Tells on standard error, while workers run, what share of the jobs was begun, or how fast a search goes: at most once
+/// a second, and not in the first second.
 ///
-/// A job is a block of a table or a lemma of a log. Of several checks one after the other each has its own share.
-/// Where the clock or standard error fails nothing is told, and the check goes on.
+/// A job is a block of a table or a lemma of a log. Of several checks one after the other each has its own share. From
+/// the first claim or search on no share is told: the jobs are parts of searches then.
+/// Where the clock or standard error fails nothing is told, and the work goes on.
 #[derive(Drop)]
 pub struct Progress<'a, R> {
     rt: &'a R,
@@ -24,6 +26,14 @@ pub struct Progress<'a, R> {
     told: AtomicU64,
     jobs: AtomicU64,
     begun: AtomicU64,
+    /// Whether the work is a search.
+    is_search: AtomicBool,
+    claim: AtomicU64,
+    bound: AtomicU8,
+    /// How many boards were expanded below this bound.
+    boards: AtomicU64,
+    /// The milliseconds from the start to the beginning of the search below this bound.
+    began: AtomicU64,
 }
 
 impl<'a, R: Clock + Eprint> Progress<'a, R> {
@@ -35,6 +45,11 @@ impl<'a, R: Clock + Eprint> Progress<'a, R> {
             told: AtomicU64::new(0),
             jobs: AtomicU64::new(0),
             begun: AtomicU64::new(0),
+            is_search: AtomicBool::new(false),
+            claim: AtomicU64::new(0),
+            bound: AtomicU8::new(0),
+            boards: AtomicU64::new(0),
+            began: AtomicU64::new(0),
         })
     }
 
@@ -44,8 +59,8 @@ impl<'a, R: Clock + Eprint> Progress<'a, R> {
         u64::try_from(elapsed.as_millis()).ok()
     }
 
-    /// The share to tell now, where it is time to tell one and no other worker does.
-    fn due(&self, begun: u64) -> Option<Share> {
+    /// The milliseconds since the start, where it is time to tell and no other worker does.
+    fn due(&self) -> Option<u64> {
         let now = self.millis()?;
         let told = self.told.load(Ordering::SeqCst);
         if !is_time(told, now) {
@@ -54,7 +69,22 @@ impl<'a, R: Clock + Eprint> Progress<'a, R> {
         self.told
             .compare_exchange(told, now, Ordering::SeqCst, Ordering::SeqCst)
             .ok()?;
+        Some(now)
+    }
+
+    /// The share to tell now, where it is time to tell one and no other worker does.
+    fn share_due(&self, begun: u64) -> Option<Share> {
+        self.due()?;
         Share::of(begun, self.jobs.load(Ordering::SeqCst))
+    }
+
+    /// The pace to tell now, where it is time to tell one and no other worker does.
+    fn pace_due(&self, boards: u64) -> Option<Pace> {
+        let now = self.due()?;
+        let claim = self.claim.load(Ordering::SeqCst);
+        let bound = self.bound.load(Ordering::SeqCst);
+        let began = self.began.load(Ordering::SeqCst);
+        Pace::of(claim, bound, boards, now.saturating_sub(began))
     }
 }
 
@@ -65,9 +95,33 @@ impl<R: Clock + Eprint> Gate for Progress<'_, R> {
     }
 
     fn before(&self, _job: u64) {
+        if self.is_search.load(Ordering::SeqCst) {
+            return;
+        }
         let begun_before = self.begun.fetch_add(1, Ordering::SeqCst);
-        if let Some(share) = self.due(begun_before.saturating_add(1)) {
+        if let Some(share) = self.share_due(begun_before.saturating_add(1)) {
             let _ = self.rt.eprintln(share);
+        }
+    }
+
+    fn asks(&self, claim: u64) {
+        self.is_search.store(true, Ordering::SeqCst);
+        self.claim.store(claim, Ordering::SeqCst);
+    }
+
+    fn searches(&self, bound: u8) {
+        self.is_search.store(true, Ordering::SeqCst);
+        self.bound.store(bound, Ordering::SeqCst);
+        self.boards.store(0, Ordering::SeqCst);
+        // Where the clock fails no time passes below this bound, so that no pace is told.
+        self.began
+            .store(self.millis().unwrap_or(u64::MAX), Ordering::SeqCst);
+    }
+
+    fn expanded(&self, boards: u64) {
+        let boards_before = self.boards.fetch_add(boards, Ordering::SeqCst);
+        if let Some(pace) = self.pace_due(boards_before.saturating_add(boards)) {
+            let _ = self.rt.eprintln(pace);
         }
     }
 }
@@ -77,7 +131,7 @@ impl<R: Clock + Eprint> Gate for Progress<'_, R> {
 pub enum Watch<'a, R> {
     /// Tells nothing, and holds nobody.
     Quiet,
-    /// Tells how far the check has come.
+    /// Tells how far the check has come, or how fast the search goes.
     Telling(Progress<'a, R>),
 }
 
@@ -104,6 +158,24 @@ impl<R: Clock + Eprint> Gate for Watch<'_, R> {
     fn before(&self, job: u64) {
         if let Watch::Telling(progress) = self {
             progress.before(job);
+        }
+    }
+
+    fn asks(&self, claim: u64) {
+        if let Watch::Telling(progress) = self {
+            progress.asks(claim);
+        }
+    }
+
+    fn searches(&self, bound: u8) {
+        if let Watch::Telling(progress) = self {
+            progress.searches(bound);
+        }
+    }
+
+    fn expanded(&self, boards: u64) {
+        if let Watch::Telling(progress) = self {
+            progress.expanded(boards);
         }
     }
 }

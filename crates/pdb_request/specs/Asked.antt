@@ -1,11 +1,12 @@
 -- What words ask for, as bytes and numbers.
 use Rattle.std.specs.Borrow.{Bor}
-use Rattle.std.specs.Prelude.{⊤, ℕ, ◌≤◌, Bool, List, Option, map, option_map}
+use Rattle.std.specs.Prelude.{⊤, ℕ, ◌≤◌, Bool, IfSome, List, Option, map, option_map}
 use Rattle.book_core.specs.Books.{AreWorkers}
 use Rattle.pdb_request.specs.declared.requests.Claim.{Claim}
 use Rattle.pdb_request.specs.declared.requests.Claim.TheVariants as claim
 use Rattle.pdb_request.specs.declared.requests.LogCheck.{LogCheck}
 use Rattle.pdb_request.specs.declared.requests.MakeTable.{MakeTable}
+use Rattle.pdb_request.specs.declared.requests.Prove.{Prove}
 use Rattle.pdb_request.specs.declared.requests.Replay.{Replay}
 use Rattle.pdb_request.specs.declared.requests.Request.{Request}
 use Rattle.pdb_request.specs.declared.requests.Request.TheVariants as request
@@ -64,6 +65,21 @@ pub record SolveArguments : Type 0 where
   -- how many boards may be expanded
   pub budget : ℕ
 
+-- `prove`
+pub record ProveArguments : Type 0 where
+  -- the name of the claims, or none for standard input
+  pub claims : Option (List ℕ)
+  -- the name of the sets
+  pub sets : List ℕ
+  -- those of the tables, in order
+  pub tables : List (List ℕ)
+  -- how many workers check the tables and search
+  pub workers : ℕ
+  -- whether each table is folded once it is checked
+  pub fold : Bool
+  -- how many boards may be expanded for a claim, or none for as many as it takes
+  pub budget : Option ℕ
+
 -- what words ask for: a command with its arguments
 pub data Asked : Type 0 where
   -- whether the moves of a puzzle text solve its board
@@ -76,6 +92,8 @@ pub data Asked : Type 0 where
   make_table : MakeTableArguments → Asked
   -- a shortest solution of a board, and the log that proves it, kept under a name
   solve : SolveArguments → Asked
+  -- bounds and optima of the boards of claims, by a search and without a log
+  prove : ProveArguments → Asked
 
 -- ---- the same of the code's requests
 
@@ -113,6 +131,16 @@ search_shown search = record {
   budget = search.budget;
 }
 
+abbrev pub prove_shown : Prove → ProveArguments
+prove_shown command = record {
+  claims = option_map (λ s. s.now) command.claims;
+  sets = command.sets.now;
+  tables = file_names command.tables.items;
+  workers = command.workers;
+  fold = command.fold;
+  budget = command.budget;
+}
+
 -- what is claimed of a log makes the command
 abbrev pub claimed : Claim → LogArguments → Asked
 claimed claim.Bound = bound
@@ -125,6 +153,7 @@ request_shown (request.TableCheck check) = table (table_check_shown check)
 request_shown (request.LogCheck check) = claimed check.claim (log_check_shown check)
 request_shown (request.MakeTable command) = make_table (make_table_shown command)
 request_shown (request.Search search) = solve (search_shown search)
+request_shown (request.Prove command) = prove (prove_shown command)
 
 -- ---- which numbers a request can have
 
@@ -135,6 +164,7 @@ HasWorkers (request.TableCheck check) = AreWorkers check.workers
 HasWorkers (request.LogCheck check) = AreWorkers check.workers
 HasWorkers (request.MakeTable command) = AreWorkers command.workers
 HasWorkers (request.Search search) = AreWorkers search.workers
+HasWorkers (request.Prove command) = AreWorkers command.workers
 
 -- a search may be let expand so many boards at most
 abbrev pub most_budget : ℕ
@@ -144,7 +174,8 @@ most_budget = 1000000000000
 abbrev pub IsBudget : ℕ → Type 0
 IsBudget count = (1 ≤ count) × (count ≤ most_budget)
 
--- a search has a budget
+-- a search for a log has a budget, and one without a log has one where any is asked for
 abbrev pub HasBudget : Request → Type 0
 HasBudget (request.Search search) = IsBudget search.budget
+HasBudget (request.Prove command) = IfSome command.budget IsBudget
 HasBudget other = ⊤

@@ -13,6 +13,8 @@ pub enum Request<'a> {
     MakeTable(MakeTable<'a>),
     /// `solve`.
     Search(Search<'a>),
+    /// `prove`.
+    Prove(Prove<'a>),
 }
 
 /// Whether the moves of a puzzle text solve its board.
@@ -87,4 +89,21 @@ pub struct Search<'a> {
     pub fold: bool,
     /// How many boards the search may expand: 1 to 1,000,000,000,000.
     pub budget: u64,
+}
+
+/// Bounds and optima by a search, without a log: the files that are read, by their names and in the order in which they are read.
+#[derive(Debug, PartialEq, Drop)]
+pub struct Prove<'a> {
+    /// The file of the claims, or none for standard input.
+    pub claims: Option<&'a str>,
+    /// The sets of tables that the search sums over.
+    pub sets: &'a str,
+    /// The tables, in the order of their numbers: one or more.
+    pub tables: Vec<&'a str>,
+    /// How many workers check the tables and search: 1 to 64.
+    pub workers: u8,
+    /// Whether each table is folded once it is checked.
+    pub fold: bool,
+    /// How many boards may be expanded for a claim, 1 to 1,000,000,000,000, or none for as many as it takes.
+    pub budget: Option<u64>,
 }

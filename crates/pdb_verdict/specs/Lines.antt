@@ -116,6 +116,8 @@ line_of_fault (fault.Log refused) = line_of_log_refusal refused
 line_of_fault (fault.O1 solution bound) = counted_twice (codes "refused O1 solution ") solution (codes " bound ") bound
 line_of_fault (fault.Make refused) = line_of_make_refusal refused
 line_of_fault fault.K4 = codes "refused K4\n"
+line_of_fault (fault.Q1 line) = counted (codes "refused Q1 at line ") line
+line_of_fault (fault.Q2 line) = counted (codes "refused Q2 at line ") line
 line_of_fault fault.Memory = memory_line
 
 -- the line `exact`: the side and the mask of a table's pattern, how many entries it has, how many of them say that no walk leads

@@ -71,6 +71,8 @@ fn fault_line(fault: &Fault) -> Lines
         }
         Fault::Make(refused) => make_line(*refused),
         Fault::K4 => lines(&["refused K4\n"]),
+        Fault::Q1(line) => counted("refused Q1 at line ", *line as u64),
+        Fault::Q2(line) => counted("refused Q2 at line ", *line as u64),
         Fault::Memory => lines(&[NO_MEMORY]),
     }
 }

@@ -51,6 +51,14 @@ pub enum BundleRefusal {
     Sets(SetFault),
 }
 
+impl From<BundleRefusal> for Fault {
+    ghost from_gives = { λ refused fault. fault ≡ fault_of_bundle refused };
+
+    fn from(refused: BundleRefusal) -> Fault {
+        fault_of_bundle(refused)
+    }
+}
+
 /// Why table files, a set text and a log prove no bound for a board.
 #[derive(Clone, Copy, Debug, PartialEq, Eq)]
 pub enum ProofRefusal {

@@ -65,6 +65,12 @@ pub enum Fault {
     /// A side and a mask are no pattern, or the table that was built for them is exact for another pattern.
     #[error("this is no pattern, or the table that was built is that of another one")]
     K4,
+    /// A line of a claims text, with this number from 0, is no claim.
+    #[error("line {0} of the claims is no claim")]
+    Q1(u32),
+    /// The board of the claim with this number, from 0, is of another side than the tables.
+    #[error("the board of claim {0} has another side than the tables")]
+    Q2(u32),
     /// Memory was refused.
     #[error("no memory")]
     Memory,

@@ -9,6 +9,7 @@ use Rattle.pdb_request.specs.Asked.{Asked}
 use Rattle.pdb_request.specs.declared.requests.Claim.TheVariants.{Bound, Optimum}
 use Rattle.pdb_words.specs.LogChecks.{check_command, check_in}
 use Rattle.pdb_words.specs.MakeTable.{make_table_command, make_table_in}
+use Rattle.pdb_words.specs.Prove.{prove_command, prove_in}
 use Rattle.pdb_words.specs.Replay.{replay_command, replay_in, replay_input}
 use Rattle.pdb_words.specs.Solve.{solve_command, solve_in}
 use Rattle.pdb_words.specs.Table.{table_command, table_in}
@@ -24,7 +25,7 @@ checks = with_subcommand (with_subcommand (with_subcommand (with_subcommand prog
 
 -- the program with all its commands
 abbrev pub command_line : App
-command_line = with_subcommand (with_subcommand checks make_table_command.top) solve_command.top
+command_line = with_subcommand (with_subcommand (with_subcommand checks make_table_command.top) solve_command.top) prove_command.top
 
 -- ---- what words ask for
 
@@ -36,6 +37,7 @@ asked_by name rows = if bytes_eq name (codes "replay") then replay_in rows
     else if bytes_eq name (codes "optimal") then check_in Optimum rows
     else if bytes_eq name (codes "make-table") then make_table_in rows
     else if bytes_eq name (codes "solve") then solve_in rows
+    else if bytes_eq name (codes "prove") then prove_in rows
     else replay_input
 
 -- without a command it is `replay` on standard input

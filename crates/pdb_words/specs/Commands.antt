@@ -4,7 +4,7 @@ use Rattle.clap.specs.Walk.{Text}
 
 -- the names of the commands that take `--workers`
 abbrev pub shared_commands : List Text
-shared_commands = codes "table" ∷ codes "bound" ∷ codes "optimal" ∷ codes "make-table" ∷ codes "solve" ∷ []
+shared_commands = codes "table" ∷ codes "bound" ∷ codes "optimal" ∷ codes "make-table" ∷ codes "solve" ∷ codes "prove" ∷ []
 
 -- the names of the commands
 abbrev pub commands : List Text

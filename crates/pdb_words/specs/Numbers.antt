@@ -1,6 +1,5 @@
 -- Numbers, as words write them.
-use Rattle.std.specs.Prelude.{ℕ, Bool, ◌&&◌, List, [], ◌∷◌, Some, if◌then◌else◌, nat_le}
-use Rattle.std.specs.Option.{option_map_or}
+use Rattle.std.specs.Prelude.{ℕ, Bool, ◌&&◌, List, [], ◌∷◌, Option, Some, None, if◌then◌else◌, nat_le, option_and_then, unwrap_or}
 use Rattle.std.specs.Str.Parse.{digits_value, without_leading_plus}
 use Rattle.clap.specs.Walk.{Row, Rule, Text, one_of}
 use Rattle.clap.specs.Simple.{new_rule}
@@ -15,19 +14,22 @@ number_of text = digits_value 10 (without_leading_plus text)
 abbrev pub writes_within : ℕ → ℕ → Text → Bool
 writes_within low high text = is_numeral (without_leading_plus text) && (nat_le low (number_of text) && nat_le (number_of text) high)
 
--- the number that a text writes, or another where it writes none from low to high
-abbrev pub number_within : ℕ → ℕ → ℕ → Text → ℕ
-number_within low high other text = if writes_within low high text then number_of text else other
+-- the number that a text writes, where it writes one from low to high
+abbrev pub number_written : ℕ → ℕ → Text → Option ℕ
+number_written low high text = if writes_within low high text then Some (number_of text) else None
 
--- the number that the values found of a command have under an id, or another where they have none from low to high
+-- the number that the values found of a command have under an id, where they have one from low to high
+abbrev pub optional_number_in : ℕ → ℕ → Text → List Row → Option ℕ
+optional_number_in low high id rows = option_and_then (number_written low high) (one_of id rows)
+
+-- the same, or another where they have none
 abbrev pub number_in : ℕ → ℕ → ℕ → Text → List Row → ℕ
-number_in low high other id rows = option_map_or (number_within low high other) (one_of id rows) other
+number_in low high other id rows = unwrap_or (optional_number_in low high id rows) other
 
--- the flag `--NAME N`: a number that the parser takes, and without the flag the usual one
+-- the flag `--NAME N`: a number that the parser takes
+abbrev pub optional_number_flag : Text → ValueParser → Rule
+optional_number_flag name parser = record (new_rule name) { long = Some name; value_names = 1; parser = Some parser }
+
+-- the same, and without the flag the usual number
 abbrev pub number_flag : Text → ValueParser → Text → Rule
-number_flag name parser usual = record (new_rule name) {
-  long = Some name;
-  value_names = 1;
-  parser = Some parser;
-  defaults = usual ∷ [];
-}
+number_flag name parser usual = record (optional_number_flag name parser) { defaults = usual ∷ [] }

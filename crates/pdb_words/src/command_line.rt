@@ -11,6 +11,7 @@ use crate::commands::with_statuses;
 use crate::faults::{WordFault, fault_by};
 use crate::log_checks::{bound_command, check_in, optimal_command};
 use crate::make_table::{make_table_command, make_table_in};
+use crate::prove::{prove_command, prove_in};
 use crate::replay::{replay_command, replay_in};
 use crate::solve::{solve_command, solve_in};
 use crate::table::{table_command, table_in};
@@ -45,7 +46,8 @@ fn command_line<'a>(alloc: Global) -> Result<Command<'a>, AllocError>
     ensures { IfOk result (λ c. app_of c ≡ command_line) }
 {
     let program = with_command(checks(alloc), make_table_command(alloc));
-    with_command(program, solve_command(alloc))
+    let program = with_command(program, solve_command(alloc));
+    with_command(program, prove_command(alloc))
 }
 
 /// The program with the commands that only check.
@@ -113,6 +115,7 @@ fn request_in<'a>(alloc: Global, matches: &ArgMatches<'a>) -> Result<Request<'a>
         Some(("optimal", found)) => check_in(alloc, found, Claim::Optimum),
         Some(("make-table", found)) => Ok(make_table_in(found)),
         Some(("solve", found)) => solve_in(alloc, found),
+        Some(("prove", found)) => prove_in(alloc, found),
         Some(_) => unreachable!(),
     }
 }

@@ -4,7 +4,7 @@ ghost use Rattle.std.specs.Prelude.{◌≡◌, IfOk};
 ghost use Rattle.clap.specs.Words.{app_of, rule_of, with_rule};
 ghost use Rattle.pdb_request.specs.Asked.{file_names};
 ghost use Rattle.pdb_words.specs.Arguments.{rows_found};
-ghost use Rattle.pdb_words.specs.Files.{file_in, needed_file, needed_tables, tables_in, with_log};
+ghost use Rattle.pdb_words.specs.Files.{file_in, needed_file, needed_tables, tables_in, with_log, with_sets};
 
 use crate::commands::with_argument;
 use crate::fold::with_fold;
@@ -19,7 +19,7 @@ fn needed_file<'a>(alloc: Global, id: &'a str) -> Arg<'a>
     Arg::new(alloc, id).required(true)
 }
 
-/// The tables of a log: one or more.
+/// The tables: one or more.
 fn needed_tables<'a>(alloc: Global) -> Arg<'a>
     ensures { rule_of result ≡ needed_tables }
 {
@@ -43,6 +43,26 @@ pub(crate) fn with_file<'a>(
     with_argument(command, needed_file(alloc, id).help(help))
 }
 
+/// A command with `SETS` behind its own file, and with the flags `--workers` and `--fold`.
+pub(crate) fn with_sets<'a>(alloc: Global, command: Command<'a>) -> Result<Command<'a>, AllocError>
+    ensures { IfOk result (λ c. app_of c ≡ with_sets (app_of command.entry)) }
+{
+    let command = with_workers(alloc, command)?;
+    let command = with_fold(alloc, command)?;
+    with_file(alloc, command, "SETS", "The sets of tables")
+}
+
+/// A command with `TABLES..` behind what it has.
+#[tactic(auto, using(crate::proofs::ArgumentLemmas::has_rule))]
+pub(crate) fn with_tables<'a>(
+    alloc: Global,
+    command: Command<'a>,
+) -> Result<Command<'a>, AllocError>
+    ensures { IfOk result (λ c. app_of c ≡ with_rule (app_of command.entry) needed_tables) }
+{
+    with_argument(command, needed_tables(alloc))
+}
+
 /// A command with `SETS`, the file of a log and `TABLES..` behind its own file, and with the flags `--workers` and
 /// `--fold`.
 pub(crate) fn with_log<'a>(
@@ -54,11 +74,9 @@ pub(crate) fn with_log<'a>(
     ensures { let file = needed_file log.entry.now in
         IfOk result (λ c. app_of c ≡ with_log (app_of command.entry) file) }
 {
-    let command = with_workers(alloc, command)?;
-    let command = with_fold(alloc, command)?;
-    let command = with_file(alloc, command, "SETS", "The sets of tables")?;
+    let command = with_sets(alloc, command)?;
     let command = with_file(alloc, command, log, help)?;
-    with_argument(command, needed_tables(alloc))
+    with_tables(alloc, command)
 }
 
 /// The name that these matches of a command have for a file.

@@ -10,6 +10,7 @@ mod fold;
 mod log_checks;
 mod make_table;
 mod numbers;
+mod prove;
 mod replay;
 mod solve;
 mod table;

@@ -27,4 +27,5 @@ mod written;
 
 pub use limits::Limits;
 pub use searches::{Found, solve, solve_within};
+pub use solvable::is_solvable;
 pub use tab_make::{MakeFault, build, entry_of, layer};

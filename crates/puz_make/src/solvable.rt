@@ -10,7 +10,7 @@ use puz_board::Board;
 ///
 /// A move exchanges the blank with a tile beside it. So it changes the parity of the order of the numbers, and that of
 /// the blank's distance from cell 0. On the goal board both are even, and all boards on which they agree have solutions.
-pub(crate) fn is_solvable(board: &Board) -> bool
+pub fn is_solvable(board: &Board) -> bool
     ensures { IsTrue result ↔ HasTheBlanksParity board.now }
 {
     let numbers = numbers_of(board);

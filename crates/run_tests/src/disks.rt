@@ -12,9 +12,10 @@ use std::test::Fail;
 use std::thread::Threads;
 
 /// The names of the files here and their bytes.
-const FILES: [(&str, &[u8]); 6] = [
+const FILES: [(&str, &[u8]); 7] = [
     ("board", b"3 2 1 0"),
     ("puzzle", b"3 2 1 0 ; ULDRUL"),
+    ("claims", b"3 2 1 0\n3 2 1 0 : 6\n"),
     ("sets", b"set 0 1\n"),
     ("log", &BRANCHES),
     ("f12", &TILES_12),
@@ -30,7 +31,7 @@ struct Task<'a> {
     line: &'a [u8],
 }
 
-const TASKS: [Task<'static>; 7] = [
+const TASKS: [Task<'static>; 8] = [
     Task {
         words: &["replay", "puzzle"],
         reads: &["puzzle"],
@@ -72,6 +73,12 @@ const TASKS: [Task<'static>; 7] = [
         reads: &["board", "sets", "f12", "f3"],
         keeps: Some("board"),
         line: b"\noptimal 6\n",
+    },
+    Task {
+        words: &["prove", "claims", "sets", "f12", "f3"],
+        reads: &["claims", "sets", "f12", "f3"],
+        keeps: None,
+        line: b"\noptimal 6 of 3 2 1 0 ; ULDRUL\nbound 6 of 3 2 1 0\n",
     },
 ];
 

@@ -16,6 +16,8 @@ mod makers;
 #[cfg(test)]
 mod parity;
 #[cfg(test)]
+mod proofs;
+#[cfg(test)]
 mod replays;
 #[cfg(test)]
 mod runs;

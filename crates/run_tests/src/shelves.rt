@@ -56,7 +56,7 @@ fn expect_fault<H: Threads + Wait + Sync>(
 }
 
 /// Commands, and the names that they read in the order of the shelf's calls. The last is kept under a name after these.
-const READERS: [(&[&str], &[&str]); 5] = [
+const READERS: [(&[&str], &[&str]); 6] = [
     (&["replay", "puzzle"], &["puzzle"]),
     (&["table", "f12"], &["f12"]),
     (
@@ -70,6 +70,10 @@ const READERS: [(&[&str], &[&str]); 5] = [
     (
         &["solve", "board", "sets", "made", "f12", "f3"],
         &["board", "sets", "f12", "f3"],
+    ),
+    (
+        &["prove", "puzzle", "sets", "f12", "f3"],
+        &["puzzle", "sets", "f12", "f3"],
     ),
 ];
 

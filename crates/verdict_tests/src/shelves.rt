@@ -3,7 +3,8 @@
 use crate::telling::io_over;
 use byte_io::memory::MemShelf;
 use pdb_keep::{run_make_table, run_solve};
-use pdb_request::{Claim, LogCheck, MakeTable, Replay, Search, TableCheck};
+use pdb_prove::run_prove;
+use pdb_request::{Claim, LogCheck, MakeTable, Prove, Replay, Search, TableCheck};
 use pdb_run::{Io, Status};
 use pdb_verdict::{run_log_check, run_replay, run_table};
 use sample_streams::{FailingShelf, ShelfFault};
@@ -36,6 +37,7 @@ enum Command {
     Optimal,
     Solve,
     MakeTable,
+    Prove,
 }
 
 /// The check of the log, of what is claimed of a text of this name.
@@ -65,6 +67,18 @@ fn search(alloc: Global) -> Result<Search<'static>, AllocError> {
         workers: 1,
         fold: false,
         budget: 1_000,
+    })
+}
+
+/// Claims on the board, which are to be proved.
+fn proving(alloc: Global) -> Result<Prove<'static>, AllocError> {
+    Ok(Prove {
+        claims: Some("puzzle"),
+        sets: "sets",
+        tables: vec![in alloc; "f12", "f3"]?,
+        workers: 1,
+        fold: false,
+        budget: None,
     })
 }
 
@@ -99,6 +113,7 @@ fn ended<H: Threads + Wait + Sync, I: Io>(
         Command::Optimal => run_log_check(&check_of(alloc, Claim::Optimum, "puzzle")?, workers, io),
         Command::Solve => run_solve(&search(alloc)?, workers, io),
         Command::MakeTable => run_make_table(&PATTERN, workers, io),
+        Command::Prove => run_prove(&proving(alloc)?, workers, io),
     };
     Ok(status)
 }
@@ -140,12 +155,13 @@ fn expect_fault<H: Threads + Wait + Sync + Abort>(
 #[test]
 fn an_input_that_can_not_be_read_is_told_alone(rt: HostRuntime) -> Result<(), Fail> {
     let alloc = rt.alloc();
-    let cases: [(Command, &[&str]); 5] = [
+    let cases: [(Command, &[&str]); 6] = [
         (Command::Replay, &["puzzle"]),
         (Command::Table, &["f12"]),
         (Command::Bound, &["board", "sets", "log", "f12", "f3"]),
         (Command::Optimal, &["puzzle", "sets", "log", "f12", "f3"]),
         (Command::Solve, &["board", "sets", "f12", "f3"]),
+        (Command::Prove, &["puzzle", "sets", "f12", "f3"]),
     ];
     for (command, names) in cases {
         for (call, name) in (0..).zip(names) {

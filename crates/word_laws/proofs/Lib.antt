@@ -1,3 +1,4 @@
 mod FlagLemmas
 mod LogLemmas
+mod ProveLemmas
 mod WalkLemmas

@@ -1,22 +1,21 @@
 -- What the words of `bound`, `optimal` and `solve` ask for, and what is wrong with them.
-use Rattle.std.proofs.Common.{◌≡◌, ◌∙◌, arith, inl, inr, refl, ap, Bool, false, true, List, [], ◌∷◌, ◌++◌, Option, Some, append-nil, append_assoc, codes, map}
+use Rattle.std.proofs.Common.{◌≡◌, ◌∙◌, arith, inl, inr, refl, Bool, false, true, List, [], ◌∷◌, ◌++◌, append-nil, codes, map}
 use Rattle.std.specs.List.{AllByRecursion}
-use Rattle.std.proofs.lemmas.List.{map-append}
 use Rattle.std.proofs.lemmas.List.Elements.{recursion_from_All}
 use Rattle.clap.specs.Kinds.{Kinds, or_else}
-use Rattle.clap.specs.Walk.{Rule, Text, Walk, arg_by_index, finished}
+use Rattle.clap.specs.Walk.{Text}
 use Rattle.clap.specs.declared.error.kind.ErrorKind.TheVariants as kind
 use Rattle.clap.proofs.OnLiterals.{clap_on_literals}
 use Rattle.pdb_request.specs.Asked.{Asked, bound, optimal}
 use Rattle.pdb_words.specs.Budget.{usual_budget}
-use Rattle.pdb_words.specs.CommandLine.{asked_by, faults_of}
+use Rattle.pdb_words.specs.CommandLine.{faults_of}
 use Rattle.pdb_words.specs.Commands.{IsCommand, IsPlain}
 use Rattle.pdb_words.specs.Faults.{IsMistaken}
 use Rattle.pdb_words.specs.Numbers.{number_of}
-use Rattle.pdb_words.proofs.CommandLemmas.{faults_behind, leaf, mistaken, start}
-use Rattle.word_laws.proofs.WalkLemmas.{AsksIf, Comes, Word, asks_if, budgets, comes, flag, gathering, last_fault, map-plains, plain, plains, tables_fault, tables_pass, tables_rule, text_of, turns, turns-append, turns-plains, unless, workers}
+use Rattle.pdb_words.proofs.CommandLemmas.{faults_behind, mistaken}
+use Rattle.word_laws.proofs.WalkLemmas.{AsksIf, Comes, FitsTables, Word, asks_if, budgets, flag, missing, numbered, plain, tables_come, text_of, unless, workers}
 use Rattle.word_laws.specs.Asking.{AsksFor}
-use Rattle.word_laws.specs.LogWords.{AsksOfLog, LogNames, NamesLog, log_words, of_names, search_within, tables_named, with_fold}
+use Rattle.word_laws.specs.LogWords.{AsksOfLog, LogNames, NamesLog, log_words, of_names, search_within, with_fold}
 use Rattle.word_laws.specs.NumberTexts.{writes_budget, writes_workers}
 
 -- a command that names a log
@@ -43,43 +42,22 @@ asks on_board = bound
 asks on_puzzle = optimal
 asks on_search = search_within usual_budget
 
--- a flag with a number
-abbrev numbered : Text → (number : Text) → IsPlain number → List Word
-numbered name number is = flag name ∷ plain number is ∷ []
-
 module _ (names : LogNames) where
   all_plain : AllByRecursion IsPlain (log_words names)
   all_plain = recursion_from_All IsPlain (log_words names) names.are_names.0
 
-  -- the names as far as the first table, and the others
+  -- the names as far as the first table
   abbrev leading : List Word
   leading = plain names.text all_plain.0 ∷ plain names.sets all_plain.1.0 ∷ plain names.log all_plain.1.1.0 ∷ plain names.table all_plain.1.1.1.0 ∷ []
 
-  abbrev more : List Word
-  more = plains names.more_tables all_plain.1.1.1.1
-
-  -- the walk of a command over flags, the names as far as the first table, and the flags behind all tables has this wrong, by what
-  -- is with the tables, and asks for this
+  -- as far as that, and as far as all tables, the walk of a command fits
   abbrev Fits : LogCommand → List Word → List Word → (Kinds → Kinds) → Asked → Type 0
-  Fits command before behind kinds asked =
-      let s = leaf (name_of command) in
-      let first = turns s start (before ++ leading) in
-      let end = turns s (gathering first.0.held.rows (tables_named names)) behind in
-      ◌≡◌ {A = Option Rule × Walk × Kinds × Asked}
-      (arg_by_index s.rules 4, first.0, or_else (or_else first.1 end.1) (last_fault s end.0.held), asked_by (name_of command) (finished s.rules end.0.held))
-      (Some tables_rule, gathering first.0.held.rows (names.table ∷ []), kinds (tables_fault (tables_named names)), asked)
+  Fits command before behind kinds asked = FitsTables (name_of command) 4 leading names.table names.more_tables before behind kinds asked
 
   all_come : (command : LogCommand) (before behind : List Word) (kinds : Kinds → Kinds) (asked : Asked) → Fits command before behind kinds asked
       → Comes (name_of command) (map text_of before ++ (log_words names ++ map text_of behind)) (kinds []) asked
   all_come command before behind kinds asked fits =
-      let s = leaf (name_of command) in
-      let first = turns s start (before ++ leading) in
-      let rest = ap (λ (w : Walk). turns s w (more ++ behind)) (λ i. (fits i).1)
-      ∙ turns-plains s (λ i. (fits i).0) first.0.held.rows (names.table ∷ []) names.more_tables all_plain.1.1.1.1 behind in
-      let come = comes (is_command command) ((before ++ leading) ++ (more ++ behind))
-      (turns-append s start (before ++ leading) (more ++ behind) ∙ ap (λ (t : Walk × Kinds). (t.0, or_else first.1 t.1)) rest)
-      ((λ i. (fits i).2) ∙ ap kinds (tables_pass names.table names.more_tables (omega (arith, names.are_names.1)))) (λ i. (fits i).3) in
-      simp (map-append, map-plains, append_assoc) at come
+      tables_come (is_command command) 4 leading names.table names.more_tables all_plain.1.1.1.1 (omega (arith, names.are_names.1)) before behind kinds asked fits
 
   -- the same whether `--fold` comes first or not
   record FitsBoth (flags behind : List Word) (kinds : Kinds → Kinds) (asked : LogCommand → Bool → Asked) (command : LogCommand) : Type 0 where
@@ -157,17 +135,12 @@ module _ (names : LogNames) where
       (by_command (λ c. Fits c [] (flag (codes "--fold") ∷ []) kinds (of_names (asks c) names 1 true)) (assumption) command)
 
 -- no table
-missing : (command : LogCommand) (words : List Word)
-    → (let end = turns (leaf (name_of command)) start words in or_else end.1 (last_fault (leaf (name_of command)) end.0.held) ≡ kind.MissingRequiredArgument ∷ [])
-    → IsMistaken (name_of command ∷ map text_of words)
-missing command words ends = mistaken _ kind.MissingRequiredArgument [] (comes (is_command command) words refl ends refl).0 (λ e. cc)
-
 tableless : (command : LogCommand) (folds : Bool) (text sets log : Text) → IsPlain text → IsPlain sets → IsPlain log → IsMistaken (name_of command ∷ with_fold folds (text ∷ sets ∷ log ∷ []))
 unfolding clap_on_literals
-tableless on_search true text sets log t s l = missing on_search (flag (codes "--fold") ∷ plain text t ∷ plain sets s ∷ plain log l ∷ []) refl
-tableless command true text sets log t s l = missing command (flag (codes "--fold") ∷ plain text t ∷ plain sets s ∷ plain log l ∷ []) refl
-tableless on_search false text sets log t s l = missing on_search (plain text t ∷ plain sets s ∷ plain log l ∷ []) refl
-tableless command false text sets log t s l = missing command (plain text t ∷ plain sets s ∷ plain log l ∷ []) refl
+tableless on_search true text sets log t s l = missing (is_command on_search) (flag (codes "--fold") ∷ plain text t ∷ plain sets s ∷ plain log l ∷ []) refl
+tableless command true text sets log t s l = missing (is_command command) (flag (codes "--fold") ∷ plain text t ∷ plain sets s ∷ plain log l ∷ []) refl
+tableless on_search false text sets log t s l = missing (is_command on_search) (plain text t ∷ plain sets s ∷ plain log l ∷ []) refl
+tableless command false text sets log t s l = missing (is_command command) (plain text t ∷ plain sets s ∷ plain log l ∷ []) refl
 
 -- `--fold` twice
 folded_twice : (command : LogCommand) (words : List Text) → faults_of (name_of command ∷ codes "--fold" ∷ codes "--fold" ∷ words) ≡ kind.ArgumentConflict ∷ []

@@ -1,8 +1,9 @@
 -- What the words behind a command come to, word by word, and the numbers among them: a word that doesn't begin with `-` is no flag.
 use Rattle.std.proofs.Common.{◌≡◌, ◌∙◌, ◌≤◌, arith, refl, ap, Bool, false, List, [], ◌∷◌, ◌++◌, Option, Some, None, append-nil, append_assoc, codes, length, map, ◌<◌, ◌^◌, ℕ, true, ne_eqb}
 use Rattle.std.specs.List.{AllByRecursion, fold}
-use Rattle.std.specs.Prelude.{if◌then◌else◌, pos}
+use Rattle.std.specs.Prelude.{if◌then◌else◌, pos, unwrap_or}
 use Rattle.std.proofs.lemmas.Bool.Decides.{nat_tests}
+use Rattle.std.proofs.lemmas.List.{map-append}
 use Rattle.clap.specs.Faults.{check_fault, defaults_fault, settle_fault, step_fault, turn_fault, use_fault, values_fault, walk_fault}
 use Rattle.clap.specs.Kinds.{Kinds, or_else}
 use Rattle.clap.specs.Lexer.{usize_max, without_minus}
@@ -19,7 +20,7 @@ use Rattle.pdb_words.specs.Commands.{IsCommand, IsPlain}
 use Rattle.pdb_words.specs.Faults.{IsMistaken}
 use Rattle.pdb_words.specs.Files.{needed_tables}
 use Rattle.pdb_words.specs.MakeTable.{most_mask, most_side}
-use Rattle.pdb_words.specs.Numbers.{number_of, number_within, writes_within}
+use Rattle.pdb_words.specs.Numbers.{number_of, number_written, writes_within}
 use Rattle.pdb_words.proofs.CommandLemmas.{asked_behind, faults_behind, leaf, mistaken, start}
 use Rattle.pdb_words.proofs.TextLemmas.{not_dashes, strip_dash}
 use Rattle.word_laws.specs.Asking.{AsksFor}
@@ -96,37 +97,38 @@ turns-append s w (x ∷ xs) ys = grind (arith, or_assoc, turns-append s (turn_of
 
 -- ---- one table or more, as the last names of a command
 
--- the tables, as they are built: in the fourth place
-abbrev pub tables_rule : Rule
-tables_rule = with_index 4 (filled needed_tables)
+module _ (place : ℕ) where
+  -- the tables, as they are built: in this place
+  abbrev pub tables_rule : Rule
+  tables_rule = with_index place (filled needed_tables)
 
--- the walk behind some tables, where these rows were found before them
-abbrev pub gathering : List Row → List Text → Walk
-gathering rows tables = record {
-  held = record { rows = rows; pending = Some (codes "TABLES", tables); skip = 0 };
-  waiting = positional;
-  position = 4;
-  is_trailing = false;
-  stopped = None;
-}
+  -- the walk behind some tables, where these rows were found before them
+  abbrev pub gathering : List Row → List Text → Walk
+  gathering rows tables = record {
+    held = record { rows = rows; pending = Some (codes "TABLES", tables); skip = 0 };
+    waiting = positional;
+    position = place;
+    is_trailing = false;
+    stopped = None;
+  }
 
--- more tables
-pub turns-plains : (s : Shape) → arg_by_index s.rules 4 ≡ Some tables_rule → (rows : List Row) (tables more : List Text) (all : AllByRecursion IsPlain more) (behind : List Word)
-    → turns s (gathering rows tables) (plains more all ++ behind) ≡ turns s (gathering rows (tables ++ more)) behind
-turns-plains s fourth rows tables [] all behind = rw append-nil refl
-turns-plains s fourth rows tables (word ∷ more) all behind = grind (arith, append_assoc, turns-plains s fourth rows (tables ++ word ∷ []) more all.1 behind)
+  -- more tables
+  turns-plains : (s : Shape) → arg_by_index s.rules place ≡ Some tables_rule → (rows : List Row) (tables more : List Text) (all : AllByRecursion IsPlain more) (behind : List Word)
+      → turns s (gathering rows tables) (plains more all ++ behind) ≡ turns s (gathering rows (tables ++ more)) behind
+  turns-plains s met rows tables [] all behind = rw append-nil refl
+  turns-plains s met rows tables (word ∷ more) all behind = grind (arith, append_assoc, turns-plains s met rows (tables ++ word ∷ []) more all.1 behind)
 
-texts_pass : (texts : List Text) → values_fault tables_rule texts ≡ []
-texts_pass [] = refl
-texts_pass (text ∷ texts) = texts_pass texts
+  texts_pass : (texts : List Text) → values_fault tables_rule texts ≡ []
+  texts_pass [] = refl
+  texts_pass (text ∷ texts) = texts_pass texts
 
--- what is wrong with the tables at the end
-abbrev pub tables_fault : List Text → Kinds
-tables_fault tables = use_fault false tables_rule tables []
+  -- what is wrong with the tables at the end
+  abbrev pub tables_fault : List Text → Kinds
+  tables_fault tables = use_fault false tables_rule tables []
 
--- as many tables as a machine can name pass
-pub tables_pass : (table : Text) (tables : List Text) → length (table ∷ tables) ≤ usize_max → tables_fault (table ∷ tables) ≡ []
-tables_pass table tables many = grind (arith, nat_tests, texts_pass tables)
+  -- as many tables as a machine can name pass
+  tables_pass : (table : Text) (tables : List Text) → length (table ∷ tables) ≤ usize_max → tables_fault (table ∷ tables) ≡ []
+  tables_pass table tables many = grind (arith, nat_tests, texts_pass tables)
 
 -- ---- all words
 
@@ -149,7 +151,41 @@ comes {name = name} is words run ends found =
       asked_behind name is (map text_of words) ∙ (λ i. asked_by name (finished (leaf name).rules (read i).0.held)) ∙ found,
     )
 
+-- the walk of a command over flags, the names as far as the first table, all tables, and the flags behind them has this wrong, by
+-- what is with the tables, and asks for this
+abbrev pub FitsTables : (name : Text) (place : ℕ) (leading : List Word) (table : Text) (more : List Text) (before behind : List Word) → (Kinds → Kinds) → Asked → Type 0
+FitsTables name place leading table more before behind kinds asked =
+    let s = leaf name in
+    let first = turns s start (before ++ leading) in
+    let end = turns s (gathering place first.0.held.rows (table ∷ more)) behind in
+    ◌≡◌ {A = Option Rule × Walk × Kinds × Asked}
+    (arg_by_index s.rules place, first.0, or_else (or_else first.1 end.1) (last_fault s end.0.held), asked_by name (finished s.rules end.0.held))
+    (Some (tables_rule place), gathering place first.0.held.rows (table ∷ []), kinds (tables_fault place (table ∷ more)), asked)
+
+-- so the words come to this
+pub tables_come : {name : Text} → IsCommand name → (place : ℕ) (leading : List Word) (table : Text) (more : List Text) (all : AllByRecursion IsPlain more) → length (table ∷ more) ≤ usize_max
+    → (before behind : List Word) (kinds : Kinds → Kinds) (asked : Asked) → FitsTables name place leading table more before behind kinds asked
+    → Comes name (map text_of before ++ (map text_of leading ++ (more ++ map text_of behind))) (kinds []) asked
+tables_come {name = name} is place leading table more all many before behind kinds asked fits =
+    let s = leaf name in
+    let first = turns s start (before ++ leading) in
+    let rest = ap (λ (w : Walk). turns s w (plains more all ++ behind)) (λ i. (fits i).1)
+    ∙ turns-plains place s (λ i. (fits i).0) first.0.held.rows (table ∷ []) more all behind in
+    let come = comes is ((before ++ leading) ++ (plains more all ++ behind))
+    (turns-append s start (before ++ leading) (plains more all ++ behind) ∙ ap (λ (t : Walk × Kinds). (t.0, or_else first.1 t.1)) rest)
+    ((λ i. (fits i).2) ∙ ap kinds (tables_pass place table more many)) (λ i. (fits i).3) in
+    simp (map-append, map-plains, append_assoc) at come
+
+-- words that lack what has to be there are mistaken
+pub missing : {name : Text} → IsCommand name → (words : List Word)
+    → (let end = turns (leaf name) start words in or_else end.1 (last_fault (leaf name) end.0.held) ≡ kind.MissingRequiredArgument ∷ []) → IsMistaken (name ∷ map text_of words)
+missing is words ends = mistaken _ kind.MissingRequiredArgument [] (comes is words refl ends refl).0 (λ e. cc)
+
 -- ---- numbers in words
+
+-- the number that a text writes, or another where it writes none from low to high
+abbrev pub number_within : ℕ → ℕ → ℕ → Text → ℕ
+number_within low high other text = unwrap_or (number_written low high text) other
 
 -- which texts without `-` `clap` takes as such numbers, which write one, and what is read of them
 pub record Numbers : Type 0 where
@@ -198,6 +234,10 @@ budgets = record {
 
 -- ---- words with a number
 
+-- a flag with a number
+abbrev pub numbered : Text → (number : Text) → IsPlain number → List Word
+numbered name number is = flag name ∷ plain number is ∷ []
+
 -- nothing is wrong with a number that is taken, behind it comes what else is
 abbrev pub unless : Bool → Kinds → Kinds
 unless is rest = or_else (or_else (if is then [] else kind.ValueValidation ∷ []) []) rest
@@ -210,11 +250,17 @@ number_mistaken words is = mistaken words kind.ValueValidation [] is (λ e. cc)
 abbrev pub AsksIf : Bool → List Text → Asked → Type 0
 AsksIf test words asked = (test ≡ true → AsksFor words asked) × (test ≡ false → IsMistaken words)
 
+-- so do words whose faults, and what they ask for, hang on a text that is taken
+pub asks_when : {A : Type 0} {name : Text} {words : List Text} (takes writes : Bool) (read meant : A) → takes ≡ writes → (writes ≡ true → read ≡ meant) → (kinds : Bool → Kinds) (asks : A → Asked)
+    → Comes name words (kinds takes) (asks read) → kinds true ≡ [] → kinds false ≡ kind.ValueValidation ∷ [] → AsksIf writes (name ∷ words) (asks meant)
+asks_when takes writes read meant taken is_read kinds asks come right wrong = (
+  λ is. (come.0 ∙ ap kinds (taken ∙ is) ∙ right, come.1 ∙ ap asks (is_read is)),
+  λ is. number_mistaken _ (come.0 ∙ ap kinds (taken ∙ is) ∙ wrong),
+)
+
 -- so do words whose faults, and what they ask for, hang on a number
 pub asks_if : {name : Text} {words : List Text} (numbers : Numbers) (number : Text) → IsPlain number → (kinds : Bool → Kinds) (asks : ℕ → Asked)
     → Comes name words (kinds (numbers.takes number)) (asks (numbers.reads number)) → kinds true ≡ [] → kinds false ≡ kind.ValueValidation ∷ []
     → AsksIf (numbers.writes number) (name ∷ words) (asks (number_of number))
-asks_if numbers number no_dash kinds asks come right wrong = (
-  λ is. (come.0 ∙ ap kinds (numbers.taken number no_dash ∙ is) ∙ right, come.1 ∙ ap asks (numbers.read number no_dash is)),
-  λ is. number_mistaken _ (come.0 ∙ ap kinds (numbers.taken number no_dash ∙ is) ∙ wrong),
-)
+asks_if numbers number no_dash kinds asks come right wrong =
+    asks_when (numbers.takes number) (numbers.writes number) (numbers.reads number) (number_of number) (numbers.taken number no_dash) (numbers.read number no_dash) kinds asks come right wrong

@@ -5,13 +5,17 @@ use Rattle.clap.specs.Walk.{Text}
 use Rattle.pdb_words.specs.Commands.{IsOneOf, shared_commands}
 
 -- the names of the commands that take `--fold`
-abbrev pub log_commands : List Text
-log_commands = codes "bound" ∷ codes "optimal" ∷ codes "solve" ∷ []
+abbrev pub folding_commands : List Text
+folding_commands = codes "bound" ∷ codes "optimal" ∷ codes "solve" ∷ codes "prove" ∷ []
+
+-- the names of the commands that take `--budget`
+abbrev pub searching_commands : List Text
+searching_commands = codes "solve" ∷ codes "prove" ∷ []
 
 -- the command takes the flag of this name
 abbrev pub TakesFlag : Text → Text → Type 0
 TakesFlag command name = (IsOneOf shared_commands command × (name ≡ codes "workers"))
-    ⊎ ((IsOneOf log_commands command × (name ≡ codes "fold")) ⊎ ((command ≡ codes "solve") × (name ≡ codes "budget")))
+    ⊎ ((IsOneOf folding_commands command × (name ≡ codes "fold")) ⊎ (IsOneOf searching_commands command × (name ≡ codes "budget")))
 
 -- the word is `--`, a name, and perhaps a value behind `=`
 abbrev pub IsLongFlag : Text → Text → Type 0

@@ -4,3 +4,4 @@ pub mod Flags
 pub mod LogWords
 pub mod MakeTableWords
 pub mod NumberTexts
+pub mod ProveWords

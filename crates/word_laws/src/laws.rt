@@ -61,7 +61,8 @@ pub fn what_optimal_asks()
 {}
 
 /// Words that parse begin with a command of the program, and give no flag but those that their command takes:
-/// `--workers`, which `replay` doesn't take, behind `bound`, `optimal` and `solve` `--fold`, and behind `solve` `--budget`.
+/// `--workers`, which `replay` doesn't take, behind `bound`, `optimal`, `solve` and `prove` `--fold`, and behind `solve`
+/// and `prove` `--budget`.
 #[tactic(auto, using(pdb_words::proofs::CommandLemmas::begins_with_command, pdb_words::proofs::CommandLemmas::other_command))]
 pub fn no_other_words_parse()
     ensures commands { (words : List (List ℕ)) → Parses words → BeginsWithCommand words }

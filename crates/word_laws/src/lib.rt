@@ -4,8 +4,10 @@
 
 mod laws;
 mod maker_laws;
+mod prove_laws;
 
 pub use laws::{
     no_other_words_parse, what_bound_asks, what_optimal_asks, what_replay_asks, what_table_asks,
 };
 pub use maker_laws::{what_make_table_asks, what_solve_asks};
+pub use prove_laws::what_prove_asks;

@@ -14,6 +14,7 @@ Commands:
   optimal     Says whether a log proves that the moves of a puzzle text are a shortest solution
   make-table  Makes the table of a pattern, and keeps it if it is exact
   solve       Searches for a shortest solution of a board, and keeps the log that proves it
+  prove       Proves bounds and shortest solutions of many boards by a search, without a log
   help        Print this message or the help of the given subcommand(s)
 
 Options:
@@ -147,9 +148,37 @@ three tables of five tiles whose solutions have fewer than about 55 moves; harde
 The search is one thread's work, whatever --workers says: workers share the checks. Tables
 that make-table builds are built by all processors.
 OUT is replaced once its log is found good; until then, and otherwise, it stays as it is.
+`prove` answers a board without a log.
 
 Reads BOARD, SETS and TABLES. Answers the digests of the tables and the log, `moves ..` and
 `optimal N`, or `refused ..` and why.
+
+Status: 0 yes, 1 refused, 2 bad words or a read or write fault, 3 no memory.
+";
+
+const HELP_OF_PROVE: &str =
+    "Proves bounds and shortest solutions of many boards by a search, without a log
+
+Usage: pdb_cli prove [--workers N] [--fold] [--budget N] CLAIMS SETS TABLES..
+
+Arguments:
+  <CLAIMS>     The file of the claims, or - for standard input
+  <SETS>       The sets of tables
+  <TABLES>...  The table files, in the order of their numbers
+
+Options:
+      --workers <N>  How many workers share the check, 1 to 64 [default: 1]
+      --fold         Fold each table once it is checked: one byte a placement
+      --budget <N>   How many boards may be expanded for a claim, 1 to 1000000000000; without it as many as it takes
+  -h, --help         Print help
+
+CLAIMS has a claim a line:
+  BOARD          asks for a shortest solution
+  BOARD ; MOVES  says that these moves are a shortest solution
+  BOARD : N      says that no solution has fewer than N moves
+Answers come a line a claim, in order, each written as soon as it and those before are done:
+`optimal N of BOARD ; MOVES`, `bound N of BOARD`, or `refused .. of ..`: why, and the claim.
+No log is needed. Workers share the check of the tables and the search.
 
 Status: 0 yes, 1 refused, 2 bad words or a read or write fault, 3 no memory.
 ";
@@ -178,7 +207,7 @@ fn help_of_the_program_is_shown_whole(rt: HostRuntime) -> Result<(), Fail> {
 
 #[test]
 fn help_of_a_command_is_shown_whole(rt: HostRuntime) -> Result<(), Fail> {
-    let cases: [(&[&str], &str); 13] = [
+    let cases: [(&[&str], &str); 15] = [
         (&["replay", "--help"], HELP_OF_REPLAY),
         (&["help", "replay"], HELP_OF_REPLAY),
         (&["table", "--help"], HELP_OF_TABLE),
@@ -192,6 +221,8 @@ fn help_of_a_command_is_shown_whole(rt: HostRuntime) -> Result<(), Fail> {
         (&["help", "make-table"], HELP_OF_MAKE_TABLE),
         (&["solve", "--help"], HELP_OF_SOLVE),
         (&["help", "solve"], HELP_OF_SOLVE),
+        (&["prove", "--help"], HELP_OF_PROVE),
+        (&["help", "prove"], HELP_OF_PROVE),
     ];
     for (words, help) in cases {
         expect_help(rt.alloc(), words, help)?;

@@ -174,6 +174,53 @@ fn words_of_solve(rt: HostRuntime) -> Result<(), Fail> {
 }
 
 #[test]
+fn words_of_prove(rt: HostRuntime) -> Result<(), Fail> {
+    expect_mistakes(
+        rt.alloc(),
+        &[
+            (&["prove"], "<CLAIMS>"),
+            (&["prove", "c"], "<SETS>"),
+            (&["prove", "c", "s"], "<TABLES>"),
+            (&["prove", "--fold", "-", "s"], "<TABLES>"),
+            (
+                &["prove", "--budget", "0", "c", "s", "t"],
+                "0 is not in 1..=1000000000000",
+            ),
+            (
+                &["prove", "c", "s", "t", "--budget", "1000000000001"],
+                "1000000000001 is not in 1..=1000000000000",
+            ),
+            (
+                &["prove", "c", "s", "t", "--budget", "many"],
+                "invalid value 'many'",
+            ),
+            (&["prove", "c", "s", "t", "--budget"], "a value is required"),
+            (
+                &["prove", "--budget", "5", "c", "s", "t", "--budget=5"],
+                "cannot be used multiple times",
+            ),
+            (
+                &["prove", "--workers", "65", "c", "s", "t"],
+                "65 is not in 1..=64",
+            ),
+            (
+                &["prove", "--workers=2", "--workers=2", "c", "s", "t"],
+                "cannot be used multiple times",
+            ),
+            (
+                &["prove", "c", "s", "t", "--fold", "--fold"],
+                "cannot be used multiple times",
+            ),
+            (&["prove", "-x", "s", "t"], "unexpected argument '-x' found"),
+            (
+                &["prove", "c", "s", "t", "--log", "l"],
+                "unexpected argument '--log'",
+            ),
+        ],
+    )
+}
+
+#[test]
 fn a_mistake_shows_the_usage(rt: HostRuntime) -> Result<(), Fail> {
     let alloc = rt.alloc();
     let whole = format!(in alloc; "error: unrecognized subcommand 'shuffle'{USAGE}")?;

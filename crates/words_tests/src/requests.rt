@@ -1,7 +1,7 @@
 //! What words ask for.
 
 use crate::readings::{behind, expect_request};
-use pdb_request::{Claim, LogCheck, MakeTable, Replay, Request, Search, TableCheck};
+use pdb_request::{Claim, LogCheck, MakeTable, Prove, Replay, Request, Search, TableCheck};
 use std::alloc::{AllocError, Global};
 use std::test::Fail;
 
@@ -197,6 +197,65 @@ fn words_ask_for_a_search(rt: HostRuntime) -> Result<(), Fail> {
         expect_request(
             alloc,
             behind(alloc, "solve", words.as_slice())?.as_slice(),
+            &wanted,
+        )?;
+    }
+    Ok(())
+}
+
+/// How claims are searched for: by how many workers, whether over folded tables, and within which budget each.
+type Searched = (u8, bool, Option<u64>);
+
+/// How they are searched for without flags.
+const WITHOUT_FLAGS: Searched = (1, false, None);
+
+#[test]
+fn words_ask_for_proofs_of_claims(rt: HostRuntime) -> Result<(), Fail> {
+    // The words behind the command, the file of the claims, and the tables.
+    let cases = [
+        ("c s t", Some("c"), "t", WITHOUT_FLAGS),
+        ("c s t u t", Some("c"), "t u t", WITHOUT_FLAGS),
+        ("- s t u", None, "t u", WITHOUT_FLAGS),
+        ("-- - s -t", None, "-t", WITHOUT_FLAGS),
+        ("-- -c s t", Some("-c"), "t", WITHOUT_FLAGS),
+        ("./- s -", Some("./-"), "-", WITHOUT_FLAGS),
+        ("--budget 1 c s t", Some("c"), "t", (1, false, Some(1))),
+        (
+            "c s t --budget 1000000000000",
+            Some("c"),
+            "t",
+            (1, false, Some(1_000_000_000_000)),
+        ),
+        ("- s t --workers=64", None, "t", (64, false, None)),
+        ("--fold c s t u", Some("c"), "t u", (1, true, None)),
+        ("c s t u --fold", Some("c"), "t u", (1, true, None)),
+        (
+            "--workers 7 --fold --budget 1000000 - s t",
+            None,
+            "t",
+            (7, true, Some(1_000_000)),
+        ),
+        (
+            "c --budget=9 s t --workers 2",
+            Some("c"),
+            "t",
+            (2, false, Some(9)),
+        ),
+    ];
+    for (words, claims, tables, (workers, fold, budget)) in cases {
+        let alloc = rt.alloc();
+        let wanted = Request::Prove(Prove {
+            claims,
+            sets: "s",
+            tables: words_of(alloc, tables)?,
+            workers,
+            fold,
+            budget,
+        });
+        let words = words_of(alloc, words)?;
+        expect_request(
+            alloc,
+            behind(alloc, "prove", words.as_slice())?.as_slice(),
             &wanted,
         )?;
     }

@@ -2,7 +2,7 @@
 
 use crate::stages::Stage;
 use crate::workers::Good;
-use pdb_progress::{Progress, Share, Watch, is_time};
+use pdb_progress::{Pace, Progress, Share, Watch, is_time};
 use std::test::Fail;
 use work_run::{Gate, run_jobs};
 
@@ -108,6 +108,113 @@ fn each_check_has_a_share_of_its_own(rt: HostRuntime) -> Result<(), Fail> {
         stage.line(3),
         "pdb_cli: 100 percent of 2 blocks or lemmas begun"
     );
+    Ok(())
+}
+
+#[test]
+fn paces_are_in_whole_boards_a_second(rt: HostRuntime) {
+    let cases = [
+        (0, 1, Some(0)),
+        (7, 1, Some(7000)),
+        (3, 2000, Some(1)),
+        (12_000_000, 2926, Some(4_101_161)),
+        (9_007_199_254_740_992, 1000, Some(9_007_199_254_740_992)),
+        (9_007_199_254_740_993, 1000, None),
+        (5, 0, None),
+    ];
+    for (boards, millis, rate) in cases {
+        let pace = Pace::of(0, 93, boards, millis);
+        assert_eq!(rt;
+            pace.map(|pace| pace.boards_a_second()),
+            rate,
+            "{boards} in {millis}"
+        );
+    }
+}
+
+#[test]
+fn a_search_tells_its_pace_and_no_share(rt: HostRuntime) -> Result<(), Fail> {
+    let stage = Stage::new(rt.alloc())?;
+    let gate = Progress::start(&stage)?;
+    gate.begins(3);
+    gate.asks(0);
+    gate.searches(40);
+    // The clock, how many boards were expanded since the last step, and how many lines are then told.
+    let steps = [
+        (999, 500, 0),
+        (1000, 500, 1),
+        (1500, 2000, 1),
+        (2500, 0, 2),
+        (3499, 1, 2),
+    ];
+    for (millis, boards, told) in steps {
+        stage.set_clock(millis);
+        gate.expanded(boards);
+        assert_eq!(rt; stage.told(), told, "at {millis}");
+    }
+    // The jobs of a search are no blocks or lemmas.
+    stage.set_clock(9000);
+    gate.begins(7);
+    gate.before(0);
+    assert_eq!(rt; stage.told(), 2);
+    assert_eq!(rt;
+        stage.line(0),
+        "pdb_cli: claim 0, below 40: 1000 boards, 1000 a second"
+    );
+    assert_eq!(rt;
+        stage.line(1),
+        "pdb_cli: claim 0, below 40: 3000 boards, 1200 a second"
+    );
+    Ok(())
+}
+
+#[test]
+fn each_bound_of_each_claim_has_a_pace_of_its_own(rt: HostRuntime) -> Result<(), Fail> {
+    let stage = Stage::new(rt.alloc())?;
+    let gate = Progress::start(&stage)?;
+    gate.asks(2);
+    gate.searches(40);
+    gate.expanded(600);
+    stage.set_clock(1000);
+    gate.searches(42);
+    // No time has passed below 42.
+    gate.expanded(600);
+    stage.set_clock(3000);
+    gate.expanded(601);
+    gate.asks(3);
+    gate.searches(255);
+    stage.set_clock(5000);
+    gate.expanded(4_100_000);
+    assert_eq!(rt; stage.told(), 2);
+    assert_eq!(rt;
+        stage.line(0),
+        "pdb_cli: claim 2, below 42: 1201 boards, 600 a second"
+    );
+    assert_eq!(rt;
+        stage.line(1),
+        "pdb_cli: claim 3, below 255: 4100000 boards, 2050000 a second"
+    );
+    Ok(())
+}
+
+#[test]
+fn the_gate_of_the_program_tells_of_searches(rt: HostRuntime) -> Result<(), Fail> {
+    for (value, told) in [(Some(b"1".as_slice()), 1), (None, 0)] {
+        let mut stage = Stage::new(rt.alloc())?;
+        stage.value = value;
+        let gate = Watch::asked_for(&stage);
+        gate.asks(1);
+        gate.searches(20);
+        stage.set_clock(2000);
+        gate.expanded(9);
+        assert_eq!(rt; stage.told(), told, "{value:?}");
+        if told == 1 {
+            assert_eq!(rt;
+                stage.line(0),
+                "pdb_cli: claim 1, below 20: 9 boards, 4 a second"
+            );
+        }
+    }
     Ok(())
 }
 

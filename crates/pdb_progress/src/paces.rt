@@ -1,0 +1,65 @@
+//! How fast a search goes over boards.
+
+ghost use Rattle.std.specs.Prelude.{◌≡◌, ◌↔◌, IfSome, IsSome};
+ghost use Rattle.pdb_progress.specs.Paces.{IsPace, boards_a_second};
+
+use std::fmt;
+use std::fmt::{Display, Formatter};
+
+/// The most boards of which a pace is told.
+const MOST_BOARDS: u64 = 1 << 53;
+
+/// How fast a claim's board is searched for a solution of fewer moves than a bound. It is shown as the line that tells
+/// it.
+#[derive(Clone, Copy, Debug, PartialEq, Eq)]
+pub struct Pace {
+    /// The claim's number, from 0 as the numbers of tables, sets and lemmas are in the program's other lines.
+    pub claim: u64,
+    /// The bound: only solutions of fewer moves are searched for.
+    pub bound: u8,
+    /// How many boards were expanded since the search for these solutions began.
+    pub boards: u64,
+    /// How many milliseconds have passed since.
+    pub millis: u64,
+    ghost is: { IsPace boards millis },
+}
+
+impl Pace {
+    /// The pace of so many boards in so many milliseconds, where a search may have expanded so many and some time has
+    /// passed.
+    pub fn of(claim: u64, bound: u8, boards: u64, millis: u64) -> Option<Pace>
+        ensures variant { IsSome result ↔ IsPace boards millis }
+        ensures claim { IfSome result (λ pace. (pace.claim ≡ claim) × (pace.bound ≡ bound)) }
+        ensures value { IfSome result (λ pace. (pace.boards ≡ boards) × (pace.millis ≡ millis)) }
+    {
+        if millis == 0 || boards > MOST_BOARDS {
+            return None;
+        }
+        Some(Pace {
+            claim,
+            bound,
+            boards,
+            millis,
+        })
+    }
+
+    /// How many boards were expanded a second, rounded down.
+    pub fn boards_a_second(&self) -> u64
+        ensures { result ≡ boards_a_second self.now.boards self.now.millis }
+    {
+        1000 * self.boards / self.millis
+    }
+}
+
+impl Display for Pace {
+    fn fmt<W: fmt::Write>(&self, f: &mut Formatter<W>) -> fmt::Result {
+        let claim = self.claim;
+        let bound = self.bound;
+        let boards = self.boards;
+        let rate = self.boards_a_second();
+        write!(
+            f,
+            "pdb_cli: claim {claim}, below {bound}: {boards} boards, {rate} a second"
+        )
+    }
+}

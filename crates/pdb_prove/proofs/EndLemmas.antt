@@ -1,0 +1,96 @@
+-- How a run of claims ends that are ready.
+use Rattle.std.proofs.Common.{◌≡◌, ◌∙◌, ◌++◌, ap, ℕ, Bool, List, [], ◌∷◌, Ok, Err, Some, None, inl, inr, refl, sym}
+use Rattle.std.proofs.lemmas.Grind.{flat_map-append}
+use Rattle.std.proofs.lemmas.List.{append-nil}
+use Rattle.set_sum.specs.Bundles.{ShownBundle}
+use Rattle.claim_text.specs.Claims.{ShownClaim}
+use Rattle.byte_io.specs.Shelf.{Bytes}
+use Rattle.byte_io.specs.declared.streams.WriteFault.{WriteFault}
+use Rattle.byte_io.proofs.Appending.{writes_behind}
+use Rattle.pdb_request.specs.Asked.{ProveArguments}
+use Rattle.pdb_run.specs.Io.{HasRead, IsWritten}
+use Rattle.pdb_run.specs.Runs.{World, replied, status_of_reply}
+use Rattle.pdb_run.specs.Writing.{digest_line, digests_of}
+use Rattle.pdb_run.specs.declared.statuses.Status.{Status}
+use Rattle.pdb_run.specs.declared.statuses.Status.TheVariants.{Fault}
+use Rattle.pdb_prove.specs.Prove.{AreReady, ClaimsFiles, ProveEnds, answered, budget_of, digested_files, in_order, prove_inputs, reply_to_claims, told_lines}
+use Rattle.pdb_verdict.specs.declared.refusals.Failure.{Failure}
+use Rattle.pdb_verdict.specs.declared.refusals.Failure.TheVariants.{Memory, Refused}
+use Rattle.pdb_verdict.specs.declared.verdicts.Fault as verdict
+use Rattle.pdb_prove.specs.Steps.{AreAllTold, AreCut, IsCauseForClaims, IsCauseForText}
+use Rattle.pdb_prove.proofs.TellingLemmas.{written_behind}
+
+-- the digest lines of tables, and that of a text behind them
+pub digests_behind : (tables : List Bytes) (text : Bytes) → digests_of tables ++ digest_line text ≡ digests_of (tables ++ text ∷ [])
+digests_behind tables text =
+    ap (λ (line : Bytes). digests_of tables ++ line) (sym (append-nil (digest_line text))) ∙ sym (flat_map-append digest_line tables (text ∷ []))
+
+-- a line that is no claim keeps everything from being searched
+pub text_cause : (fold : Bool) (files : ClaimsFiles) (cause : Failure verdict.Fault) → IsCauseForText files.claims cause → IsCauseForClaims fold files cause
+text_cause fold files (Refused refused) is = inl is
+text_cause fold files Memory is = is
+
+module _ (arguments : ProveArguments) (files : ClaimsFiles) {old read : World} (claims : List ShownClaim) (v : ShownBundle)
+    (are : HasRead (prove_inputs arguments) old read (in_order files)) (ready : AreReady arguments.fold files claims v) where
+  -- the digests were cut
+  pub head_cut : {new : World} {fault : WriteFault} → IsWritten (digests_of (digested_files files)) read new (Err fault) → ProveEnds arguments old new Fault
+  head_cut {new} {fault} head = inr (record {
+    files = files;
+    read = are.read;
+    first = [];
+    others = claims;
+    bundle = v;
+    ready = ready;
+    told = [];
+    each = tt;
+    front = rw (append-nil (digests_of (digested_files files)), ← are.written) head.written;
+    same = head.files ∙ are.files;
+    failure = head.failed ∙ are.failed;
+    reader = rw head.reader are.behind;
+    is_fault = refl;
+  })
+
+  module _ {mid : World} (head : IsWritten (digests_of (digested_files files)) read mid (Ok tt)) where
+    -- the lines were cut
+    pub lines_cut : {new : World} → AreCut v (budget_of arguments.budget) mid new claims → ProveEnds arguments old new Fault
+    lines_cut {new} cut =
+        let all = written_behind head cut.written in inr (record {
+          files = files;
+          read = are.read;
+          first = cut.first;
+          others = cut.others;
+          bundle = v;
+          ready = rw (← cut.order) ready;
+          told = cut.told;
+          each = cut.each;
+          front = rw (← are.written) all.written;
+          same = all.files ∙ are.files;
+          failure = all.failed ∙ are.failed;
+          reader = rw all.reader are.behind;
+          is_fault = refl;
+        })
+
+    -- all lines were written
+    pub all_answered : {new : World} {is_yes : Bool} (status : Status) → AreAllTold v (budget_of arguments.budget) mid new claims is_yes
+        → status ≡ status_of_reply is_yes → ProveEnds arguments old new status
+    all_answered {new} {is_yes} status all is =
+        let whole = written_behind head all.written in
+        let reply = reply_to_claims files (answered all.told) in inl (record {
+          outcome = replied (in_order files) reply;
+          cause = (
+            are.read,
+            (
+              files,
+              refl,
+              record {
+                outcome = answered all.told;
+                is_outcome = record { claims = claims; bundle = v; ready = ready; each = all.each };
+                told = refl;
+              },
+            ),
+          );
+          files = whole.files ∙ are.files;
+          failure = λ name under. whole.failed ∙ are.failed;
+          reader = rw whole.reader are.behind;
+          said = inl (rw (← are.written) whole.written, rw (← all.yes) is);
+        })

@@ -1,0 +1,6 @@
+pub mod LineLemmas
+pub mod ReadyLemmas
+pub mod TellingLemmas
+pub mod SoonLemmas
+pub mod QuestionLemmas
+pub mod EndLemmas

@@ -1,0 +1,16 @@
+use Rattle.std.proofs.Common.{◌≡◌, ◌∙◌, Ok, Err, ap, sym}
+use Rattle.puz_board.specs.MovesTexts.{Solves}
+use Rattle.pdb_prove.proofs.answers.found_shortest.Goals as goal
+
+pub unreachable-requires : goal.unreachable-requires
+unreachable-requires c =
+    let found = rw c.in-Shortest.is at c.requires.2 in
+    let same = c.replay.ensures.solved found.0 (rw c.as_slice.ensures.value found.1) in
+    let clash = sym c.in-Err.is ∙ same in cc
+
+pub returns-in-Ok : goal.returns-in-Ok
+returns-in-Ok c = λ v budget is.
+    let found = rw c.in-Shortest.is at is in
+    let same = sym c.in-Ok.is ∙ c.replay.ensures.solved found.0 (rw c.as_slice.ensures.value found.1) in
+    let count : c.in-Ok.count ≡ found.0 = cc in
+    (rw count found.1, rw count found.2)

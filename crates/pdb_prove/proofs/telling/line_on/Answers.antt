@@ -1,0 +1,10 @@
+use Rattle.std.proofs.Common.{arith}
+use Rattle.pdb_prove.proofs.LineLemmas.{few_letters}
+use Rattle.pdb_prove.proofs.telling.line_on.Goals as goal
+
+pub shorter_line-requires-clause-solution : goal.shorter_line-requires-clause-solution
+shorter_line-requires-clause-solution c = omega (arith, few_letters c.as_slice.result.now, c.as_slice.ensures.fits)
+
+pub optimal_line-requires-in_default-Shortest : goal.optimal_line-requires-in_default-Shortest
+optimal_line-requires-in_default-Shortest c =
+    omega (arith, few_letters c.as_slice-in_default-Shortest.result.now, c.as_slice-in_default-Shortest.ensures.fits)

@@ -1,0 +1,107 @@
+-- Which answer to a claim is right, over the sets of a bundle and for a budget of boards.
+use Rattle.std.specs.Prelude.{◌≡◌, ℕ, ◌-◌, ◌<◌, ◌≤◌, ◌⊎◌, min, Bool, true, false, List, [], take, length, Err}
+use Rattle.std.specs.List.{list_all}
+use Rattle.puz_board.specs.MovesTexts.{Solves, replay_of}
+use Rattle.set_sum.specs.Bounds.{IsBounded}
+use Rattle.set_sum.specs.Bundles.{ShownBundle}
+use Rattle.claim_text.specs.Claims as claims
+use Rattle.claim_text.specs.Claims.{ShownAsks, ShownClaim}
+use Rattle.claim_text.specs.Lines as line
+use Rattle.claim_text.specs.Lines.{Told}
+use Rattle.puz_make.specs.Solvable.{HasTheBlanksParity}
+use Rattle.puz_search.specs.Answers.{IsAnswer, IsDeepened}
+use Rattle.puz_search.specs.declared.answers.Answer.TheVariants as search
+use Rattle.puz_search.specs.declared.deepening.Deepened.TheVariants as deepened
+use Rattle.byte_io.specs.Shelf.{Bytes}
+use Rattle.pdb_verdict.specs.Lines.{line_of_fault}
+use Rattle.pdb_verdict.specs.declared.verdicts.Fault.{Fault}
+use Rattle.pdb_verdict.specs.declared.verdicts.Fault.TheVariants.{Make, Moves}
+use Rattle.pdb_verdict.specs.declared.verdicts.MakeRefusal.TheVariants.{K1, K2}
+use Rattle.pdb_prove.specs.declared.answers.Found.{Found}
+use Rattle.pdb_prove.specs.declared.answers.Found.TheVariants.{Bound, Optimum, Refused, Shorter, Shortest}
+
+-- ---- what is found for a claim
+
+module _ (v : ShownBundle) (budget : ℕ) where
+  -- the search for a solution of fewer moves refutes it, whatever it expands within the budget
+  abbrev pub IsRefuted : List ℕ → ℕ → Type 0
+  IsRefuted b r = (boards : ℕ) × IsAnswer v b r budget (search.Refuted boards)
+
+  -- for a board alone: a shortest solution; K1 where the budget is spent; K2 where the order of the numbers hasn't the blank's
+  -- parity, or no solution has fewer than 254 moves
+  abbrev pub IsShortestFor : List ℕ → Found → Type 0
+  IsShortestFor b (Shortest n letters) = Solves b letters.items n × IsBounded b n
+  IsShortestFor b (Refused (Make K1)) = (bound : ℕ) × IsDeepened v b budget (deepened.Spent bound)
+  IsShortestFor b (Refused (Make K2)) = (¬ HasTheBlanksParity b) ⊎ IsDeepened v b budget deepened.Beyond
+  IsShortestFor b _ = ⊥
+
+  -- for moves that are said to be a shortest solution: so they are; or a shorter one; or why the moves are refused; K1 where the
+  -- budget is spent; K2 where they are more than 255, and no solution has fewer
+  -- than 255
+  abbrev pub IsOptimumFor : List ℕ → Bytes → Found → Type 0
+  IsOptimumFor b moves (Optimum n) = Solves b moves n × (n ≤ 255) × IsRefuted b n
+  IsOptimumFor b moves (Shorter letters) =
+      (n : ℕ) × Solves b moves n × IsAnswer v b (min n 255) budget (search.Solved letters)
+  IsOptimumFor b moves (Refused (Moves refused)) = replay_of b moves ≡ Err refused
+  IsOptimumFor b moves (Refused (Make K1)) = (n : ℕ) × Solves b moves n × IsAnswer v b (min n 255) budget search.Spent
+  IsOptimumFor b moves (Refused (Make K2)) = (n : ℕ) × Solves b moves n × (255 < n) × IsRefuted b (min n 255)
+  IsOptimumFor b moves _ = ⊥
+
+  -- for a bound: it is one; or a solution of fewer moves; K1 where the budget is spent; K2 where the order of the numbers hasn't
+  -- the blank's parity
+  abbrev pub IsBoundFor : List ℕ → ℕ → Found → Type 0
+  IsBoundFor b r Bound = IsRefuted b r
+  IsBoundFor b r (Shorter letters) = IsAnswer v b r budget (search.Solved letters)
+  IsBoundFor b r (Refused (Make K1)) = IsAnswer v b r budget search.Spent
+  IsBoundFor b r (Refused (Make K2)) = ¬ HasTheBlanksParity b
+  IsBoundFor b r _ = ⊥
+
+  -- for what a claim asks of its board
+  abbrev pub IsFoundOf : List ℕ → ShownAsks → Found → Type 0
+  IsFoundOf b claims.shortest found = IsShortestFor b found
+  IsFoundOf b (claims.moves text) found = IsOptimumFor b text found
+  IsFoundOf b (claims.bound r) found = IsBoundFor b r found
+
+  -- for a claim
+  abbrev pub IsFoundFor : ShownClaim → Found → Type 0
+  IsFoundFor claim found = IsFoundOf claim.board claim.asks found
+
+-- ---- what is told of it
+
+-- the words of a refusal, which are its line without the line's end
+abbrev pub words_of : Fault → Bytes
+words_of refused = take (length (line_of_fault refused) - 1) (line_of_fault refused)
+
+-- what is told of a board, of which a claim asks this, where this is found
+abbrev pub told_of : List ℕ → ShownAsks → Found → Told
+told_of b (claims.bound r) Bound = line.bounded r b
+told_of b (claims.moves text) (Optimum n) = line.optimal n b text
+told_of b asks (Shortest n letters) = line.optimal n b letters.items
+told_of b asks (Shorter letters) = line.shorter letters.items (record { board = b; asks = asks })
+told_of b asks (Refused refused) = line.refused (words_of refused) (record { board = b; asks = asks })
+told_of b asks _ = line.refused [] (record { board = b; asks = asks })
+
+-- this is told of the claim, over the sets and for the budget
+pub record IsToldOf (v : ShownBundle) (budget : ℕ) (claim : ShownClaim) (told : Told) : Type 0 where
+  pub found : Found
+  pub is_found : IsFoundFor v budget claim found
+  pub is_told : told ≡ told_of claim.board claim.asks found
+
+-- it is a yes
+abbrev pub is_yes : Told → Bool
+is_yes (line.bounded r b) = true
+is_yes (line.optimal n b moves) = true
+is_yes (line.shorter moves claim) = false
+is_yes (line.refused what claim) = false
+
+-- all of them are
+abbrev pub are_yes : List Told → Bool
+are_yes told = list_all is_yes told
+
+-- what is found is a yes to its claim
+abbrev pub is_found_yes : Found → Bool
+is_found_yes Bound = true
+is_found_yes (Optimum n) = true
+is_found_yes (Shortest n letters) = true
+is_found_yes (Shorter letters) = false
+is_found_yes (Refused refused) = false

@@ -1,0 +1,5 @@
+-- What public contracts say.
+pub mod Answers
+pub mod Prove
+-- What proofs alone need.
+pub mod Steps

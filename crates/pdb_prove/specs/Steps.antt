@@ -1,0 +1,97 @@
+-- What the steps of a run of claims say.
+use Rattle.std.specs.Prelude.{◌≡◌, ℕ, ◌<◌, ◌++◌, Bool, true, false, List, length, slice_index_or, Option, IfSome, Result, Ok, Err, ⊤, MatchResult}
+use Rattle.std.specs.List.{AllZip}
+use Rattle.puz_board.specs.MovesTexts.{Solves}
+use Rattle.set_sum.specs.Bundles.{ShownBundle}
+use Rattle.claim_text.specs.Claims as claims
+use Rattle.claim_text.specs.Claims.{ShownAsks, ShownClaim}
+use Rattle.claim_text.specs.Lines.{Told}
+use Rattle.claim_text.specs.Shown.{claim_shown}
+use Rattle.claim_text.specs.Texts.{AreClaims, IsFirstNoClaim}
+use Rattle.claim_text.specs.declared.claims.Claim.{Claim}
+use Rattle.byte_io.specs.Shelf.{Bytes}
+use Rattle.byte_io.specs.Streams.{AppendsFront}
+use Rattle.byte_io.specs.declared.streams.WriteFault.{WriteFault}
+use Rattle.pdb_run.specs.Answers.{all_bytes}
+use Rattle.pdb_run.specs.Io.{IsWritten}
+use Rattle.pdb_run.specs.Runs.{World}
+use Rattle.pdb_verdict.specs.Refusals.{IsCauseBy}
+use Rattle.pdb_verdict.specs.declared.refusals.Failure.{Failure}
+use Rattle.pdb_verdict.specs.declared.verdicts.Fault.{Fault}
+use Rattle.pdb_verdict.specs.declared.verdicts.Fault.TheVariants.{Make, Q1}
+use Rattle.pdb_verdict.specs.declared.verdicts.MakeRefusal.TheVariants.{K1}
+use Rattle.pdb_prove.specs.Answers.{IsFoundFor, IsToldOf, are_yes}
+use Rattle.pdb_prove.specs.Prove.{ClaimsFiles, IsUnready, told_lines}
+use Rattle.pdb_prove.specs.declared.answers.Found.{Found}
+use Rattle.pdb_prove.specs.declared.answers.Found.TheVariants.{Refused}
+use Rattle.pdb_prove.specs.declared.answers.Question.{Question}
+use Rattle.pdb_prove.specs.declared.answers.Question.TheVariants.{Bound, Moves, Shortest}
+use Rattle.pdb_prove.specs.declared.inputs.ProveFiles.{ProveFiles}
+
+-- these three
+abbrev pub files_of : Bytes → Bytes → List Bytes → ClaimsFiles
+files_of claims sets tables = record { claims = claims; sets = sets; tables = tables }
+
+-- the files that were read
+abbrev pub files_read : ProveFiles → ClaimsFiles
+files_read files = files_of files.claims.items files.sets.items (all_bytes files.tables.items)
+
+-- a line of the text is no claim, or it is of claims, and memory was wanted
+abbrev pub IsCauseForText : Bytes → Failure Fault → Type 0
+IsCauseForText text cause =
+    IsCauseBy (λ refused. (number : ℕ) × IsFirstNoClaim text number × (refused ≡ Q1 number)) ((claims : List ShownClaim) × AreClaims text claims) cause
+
+-- why nothing is searched, or want of memory, which comes of a text of claims alone
+abbrev pub IsCauseForClaims : Bool → ClaimsFiles → Failure Fault → Type 0
+IsCauseForClaims fold files cause = IsCauseBy (IsUnready fold files) ((claims : List ShownClaim) × AreClaims files.claims claims) cause
+
+-- ---- one claim
+
+-- this is to be searched for where a claim asks this of a board
+abbrev pub IsQuestionOf : List ℕ → ShownAsks → Question → Type 0
+IsQuestionOf b claims.shortest question = question ≡ Shortest
+IsQuestionOf b (claims.moves text) question = (n : ℕ) × Solves b text n × (question ≡ Moves n)
+IsQuestionOf b (claims.bound r) question = question ≡ Bound r
+
+abbrev pub IsAskedOf : ShownClaim → Question → Type 0
+IsAskedOf claim question = IsQuestionOf claim.board claim.asks question
+
+-- what is found is that the budget is spent
+abbrev pub is_spent : Found → Bool
+is_spent (Refused (Make K1)) = true
+is_spent _ = false
+
+-- ---- the claims of a batch
+
+-- this is found for the claim with the number
+abbrev pub IsFoundAt : ShownBundle → ℕ → List Claim → ℕ → Found → Type 0
+IsFoundAt v budget all number found = (other : Claim) → IsFoundFor v budget (claim_shown (slice_index_or all number other)) found
+
+-- what was found soon for some of the claims, each in its place
+abbrev pub AreFoundSoon : ShownBundle → ℕ → List Claim → List (Option Found) → Type 0
+AreFoundSoon v budget all soon =
+    (number : ℕ) (other : Option Found) → number < length soon → IfSome (slice_index_or soon number other) (IsFoundAt v budget all number)
+
+-- ---- the lines of claims, one after the other
+
+module _ (v : ShownBundle) (budget : ℕ) (old new : World) where
+  -- all claims were answered, and the lines written
+  pub record AreAllTold (claims : List ShownClaim) (is_yes : Bool) : Type 0 where
+    pub told : List Told
+    pub each : AllZip (IsToldOf v budget) claims told
+    pub yes : is_yes ≡ are_yes told
+    pub written : IsWritten (told_lines told) old new (Ok tt)
+
+  -- the first of them were answered, and of their lines a proper front was written
+  pub record AreCut (claims : List ShownClaim) : Type 0 where
+    pub first : List ShownClaim
+    pub others : List ShownClaim
+    pub order : claims ≡ first ++ others
+    pub told : List Told
+    pub each : AllZip (IsToldOf v budget) first told
+    pub fault : WriteFault
+    pub written : IsWritten (told_lines told) old new (Err fault)
+
+-- one of the two
+abbrev pub AreTold : ShownBundle → ℕ → List ShownClaim → World → World → Result Bool WriteFault → Type 0
+AreTold v budget claims old new result = MatchResult result (AreAllTold v budget old new claims) (λ _. AreCut v budget old new claims)

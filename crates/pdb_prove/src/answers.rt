@@ -1,0 +1,219 @@
+//! The answer to one claim, by one thread or by all workers.
+
+ghost use Rattle.std.specs.Prelude.{◌≡◌, ℕ, IfErr, IfOk, IfSome, List, min};
+ghost use Rattle.puz_board.specs.Boards.{side_of};
+ghost use Rattle.puz_board.specs.MovesTexts.{Solves};
+ghost use Rattle.set_sum.specs.Bundles.{ShownBundle};
+ghost use Rattle.claim_text.specs.Shown.{claim_shown};
+ghost use Rattle.puz_search.specs.Answers.{IsAnswer, IsDeepened};
+ghost use Rattle.pdb_prove.specs.Answers.{IsBoundFor, IsFoundFor, IsOptimumFor, IsShortestFor, is_found_yes};
+ghost use Rattle.pdb_prove.specs.Steps.{IsAskedOf, is_spent};
+
+use claim_text::{Asks, Claim};
+use pdb_verdict::{Fault, MakeRefusal};
+use puz_board::{Board, replay};
+use puz_make::is_solvable;
+use puz_search::{Answer, Deepened, Letters, refute, refute_by, shortest, shortest_by};
+use set_sum::Bundle;
+use std::thread::Threads;
+use work_run::{Gate, Workers};
+
+/// What is found for a claim.
+#[derive(Drop)]
+pub enum Found {
+    /// No solution has fewer moves than the bound of the claim.
+    Bound,
+    /// The moves of the claim, so many, are a shortest solution.
+    Optimum(u16),
+    /// How many moves a shortest solution has, and their letters, for a claim that asks for one.
+    Shortest(u16, Letters),
+    /// The letters of a solution that is shorter than the claim says.
+    Shorter(Letters),
+    /// Why the claim is refused: its moves don't solve the board, the board has no solution, or the budget is spent.
+    Refused(Fault),
+}
+
+impl Found {
+    /// Whether it is a yes to the claim.
+    pub(crate) fn is_yes(&self) -> bool
+        ensures { result ≡ is_found_yes self.now }
+    {
+        matches!(self, Found::Bound | Found::Optimum(_) | Found::Shortest(..))
+    }
+
+    /// Whether it is that the budget is spent.
+    fn is_spent(&self) -> bool
+        ensures { result ≡ is_spent self.now }
+    {
+        matches!(self, Found::Refused(Fault::Make(MakeRefusal::K1)))
+    }
+}
+
+/// A search that expands no more boards is one thread's work.
+const FEW_BOARDS: u64 = 1 << 16;
+
+/// What is found for a claim by one thread that expands few boards, where these are enough.
+pub(crate) fn answer_soon(bundle: &Bundle<'_>, claim: &Claim<'_>, budget: u64) -> Option<Found>
+    requires { side_of claim.now.board ≡ bundle.now.side }
+    ensures { IfSome result (IsFoundFor bundle.now budget (claim_shown claim.now)) }
+{
+    if budget <= FEW_BOARDS {
+        return Some(answer_alone(bundle, claim, budget));
+    }
+    let found = answer_alone(bundle, claim, FEW_BOARDS);
+    if found.is_spent() { None } else { Some(found) }
+}
+
+/// What is found for a claim by one thread that expands at most so many boards.
+fn answer_alone(bundle: &Bundle<'_>, claim: &Claim<'_>, budget: u64) -> Found
+    requires { side_of claim.now.board ≡ bundle.now.side }
+    ensures { IsFoundFor bundle.now budget (claim_shown claim.now) result }
+{
+    let board = &claim.board;
+    match asked_of(claim) {
+        Ok(Question::Shortest) => found_shortest(board, shortest(bundle, board, budget)),
+        Ok(Question::Moves(count)) => {
+            found_moves(count, refute(bundle, board, bound_of(count), budget))
+        }
+        Ok(Question::Bound(bound)) => found_bound(refute(bundle, board, bound, budget)),
+        Err(refused) => Found::Refused(refused),
+    }
+}
+
+/// What is found for a claim by all workers, which expand at most so many boards together.
+pub(crate) fn answer_by<R: Threads + Sync, G: Gate + Sync>(
+    bundle: &Bundle<'_>,
+    claim: &Claim<'_>,
+    budget: u64,
+    workers: &Workers<'_, R, G>,
+) -> Found
+    requires { side_of claim.now.board ≡ bundle.now.side }
+    ensures { IsFoundFor bundle.now budget (claim_shown claim.now) result }
+{
+    let board = &claim.board;
+    match asked_of(claim) {
+        Ok(Question::Shortest) => {
+            found_shortest(board, shortest_together(bundle, board, budget, workers))
+        }
+        Ok(Question::Moves(count)) => {
+            let bound = bound_of(count);
+            found_moves(
+                count,
+                refute_together(bundle, board, bound, budget, workers),
+            )
+        }
+        Ok(Question::Bound(bound)) => {
+            found_bound(refute_together(bundle, board, bound, budget, workers))
+        }
+        Err(refused) => Found::Refused(refused),
+    }
+}
+
+/// What is to be searched for.
+#[derive(Clone, Copy)]
+enum Question {
+    /// A shortest solution.
+    Shortest,
+    /// A solution that is shorter than one of so many moves.
+    Moves(u16),
+    /// A solution of fewer moves than this.
+    Bound(u8),
+}
+
+/// What is to be searched for, where the claim isn't refused without a search.
+fn asked_of(claim: &Claim<'_>) -> Result<Question, Fault>
+    ensures ok { IfOk result (IsAskedOf (claim_shown claim.now)) }
+    ensures err { IfErr result (λ refused. (v : ShownBundle) (budget : ℕ)
+        → IsFoundFor v budget (claim_shown claim.now) (Found.Refused refused)) }
+{
+    match claim.asks {
+        Asks::Moves(moves) => match replay(&claim.board, moves) {
+            Ok(count) => Ok(Question::Moves(count)),
+            Err(refused) => Err(Fault::Moves(refused)),
+        },
+        Asks::Shortest if is_solvable(&claim.board) => Ok(Question::Shortest),
+        Asks::Bound(bound) if is_solvable(&claim.board) => Ok(Question::Bound(bound)),
+        Asks::Shortest | Asks::Bound(_) => Err(Fault::Make(MakeRefusal::K2)),
+    }
+}
+
+/// The bound below which a search looks for a solution that is shorter than one of so many moves.
+fn bound_of(count: u16) -> u8
+    ensures { result ≡ min count 255 }
+{
+    count.min(255) as u8
+}
+
+/// What is found where a shortest solution of a board is asked for and a search answers this.
+fn found_shortest(board: &Board, deepened: Deepened) -> Found
+    requires { (v : ShownBundle) × (budget : ℕ) × IsDeepened v board.now budget deepened }
+    ensures { (v : ShownBundle) (budget : ℕ) → IsDeepened v board.now budget deepened
+        → IsShortestFor v budget board.now result }
+{
+    match deepened {
+        Deepened::Shortest(letters) => match replay(board, letters.as_slice()) {
+            Ok(count) => Found::Shortest(count, letters),
+            Err(_) => unreachable!(),
+        },
+        Deepened::Spent(_) => Found::Refused(Fault::Make(MakeRefusal::K1)),
+        Deepened::Beyond => Found::Refused(Fault::Make(MakeRefusal::K2)),
+    }
+}
+
+/// What is found where so many moves solve a board and a search for a shorter solution answers this.
+fn found_moves(count: u16, answer: Answer) -> Found
+    ensures { (v : ShownBundle) (budget : ℕ) (b moves : List ℕ) → Solves b moves count
+        → IsAnswer v b (min count 255) budget answer → IsOptimumFor v budget b moves result }
+{
+    match answer {
+        Answer::Refuted(_) if count <= 255 => Found::Optimum(count),
+        Answer::Refuted(_) => Found::Refused(Fault::Make(MakeRefusal::K2)),
+        Answer::Solved(letters) => Found::Shorter(letters),
+        Answer::Spent => Found::Refused(Fault::Make(MakeRefusal::K1)),
+    }
+}
+
+/// What is found where a bound is claimed and a search for a solution of fewer moves answers this.
+fn found_bound(answer: Answer) -> Found
+    ensures { (v : ShownBundle) (budget : ℕ) (b : List ℕ) (r : ℕ) → IsAnswer v b r budget answer
+        → IsBoundFor v budget b r result }
+{
+    match answer {
+        Answer::Refuted(_) => Found::Bound,
+        Answer::Solved(letters) => Found::Shorter(letters),
+        Answer::Spent => Found::Refused(Fault::Make(MakeRefusal::K1)),
+    }
+}
+
+/// As `refute_by`, or where workers can't be started as `refute`.
+fn refute_together<R: Threads + Sync, G: Gate + Sync>(
+    bundle: &Bundle<'_>,
+    board: &Board,
+    bound: u8,
+    budget: u64,
+    workers: &Workers<'_, R, G>,
+) -> Answer
+    requires { side_of board.now ≡ bundle.now.side }
+    ensures { IsAnswer bundle.now board.now bound budget result }
+{
+    match refute_by(bundle, board, bound, budget, workers) {
+        Ok(answer) => answer,
+        Err(_) => refute(bundle, board, bound, budget),
+    }
+}
+
+/// As `shortest_by`, or where workers can't be started as `shortest`.
+fn shortest_together<R: Threads + Sync, G: Gate + Sync>(
+    bundle: &Bundle<'_>,
+    board: &Board,
+    budget: u64,
+    workers: &Workers<'_, R, G>,
+) -> Deepened
+    requires { side_of board.now ≡ bundle.now.side }
+    ensures { IsDeepened bundle.now board.now budget result }
+{
+    match shortest_by(bundle, board, budget, workers) {
+        Ok(deepened) => deepened,
+        Err(_) => shortest(bundle, board, budget),
+    }
+}

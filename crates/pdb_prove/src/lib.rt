@@ -1,0 +1,12 @@
+//! The command `prove`: bounds and optima by a proved search, without a log.
+#![tactic(auto)]
+
+mod answers;
+mod batches;
+mod inputs;
+mod ready;
+mod runs;
+mod telling;
+
+pub use answers::Found;
+pub use runs::run_prove;

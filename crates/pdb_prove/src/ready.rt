@@ -1,0 +1,110 @@
+//! What is to be known before anything is searched: the claims, and the bundle of the tables and the sets.
+
+ghost use Rattle.std.specs.Prelude.{◌≡◌, ◌≤◌, ◌^◌, Bool, List, length, map, IfErr, IfNone, IfOk, IfSome};
+ghost use Rattle.std.specs.List.{All, AllByRecursion};
+ghost use Rattle.puz_board.specs.Boards.{side_of};
+ghost use Rattle.claim_text.specs.Lines.{HasFewLetters};
+ghost use Rattle.claim_text.specs.Shown.{claim_shown};
+ghost use Rattle.claim_text.specs.Texts.{AreClaims};
+ghost use Rattle.byte_io.specs.Shelf.{Bytes};
+ghost use Rattle.pdb_run.specs.Answers.{all_bytes};
+ghost use Rattle.pdb_verdict.specs.Bundles.{IsBundleOfFiles, IsCauseForBundle};
+ghost use Rattle.pdb_prove.specs.Prove.{AreReady, IsFirstOfAnotherSide};
+ghost use Rattle.pdb_prove.specs.Steps.{IsCauseForClaims, IsCauseForText, files_of};
+
+use claim_text::{Claim, ClaimsFault, MOST_CLAIMS, read_claims};
+use pdb_verdict::{BundleRefusal, Failure, Fault, Tables, read_bundle};
+use set_sum::Bundle;
+use std::alloc::Global;
+use std::sync::Wait;
+use std::thread::Threads;
+use work_run::{Gate, Workers};
+
+/// Claims, and a bundle of the side of their boards.
+#[derive(Drop)]
+pub(crate) struct Ready<'b, 'c> {
+    pub(crate) claims: Vec<Claim<'c>>,
+    pub(crate) bundle: Bundle<'b>,
+    ghost sides: { All (λ claim. side_of claim.board ≡ bundle.side) claims.items },
+}
+
+/// The claims of a text, and the bundle of table files and a set text. Or the first refusal that stands: `Q1` of a line that is no
+/// claim, that of the first table file that is refused, the set text's, and then `Q2` of the first board of another side.
+pub(crate) fn ready_for<'b, 'c, H: Threads + Wait, G: Gate + Sync>(
+    text: &'c [u8],
+    sets: &[u8],
+    tables: Tables<'b>,
+    workers: &Workers<'_, H, G>,
+) -> Result<Ready<'b, 'c>, Failure<Fault>>
+    ensures ok { let files = files_of text.now sets.now (all_bytes tables.entry.files.now) in
+        IfOk result (λ ready. AreReady tables.entry.fold files
+        (map claim_shown ready.claims.items) ready.bundle) }
+    ensures few { IfOk result
+        (λ ready. All (λ claim. HasFewLetters (claim_shown claim)) ready.claims.items) }
+    ensures err { let files = files_of text.now sets.now (all_bytes tables.entry.files.now) in
+        IfErr result (IsCauseForClaims tables.entry.fold files) }
+{
+    let claims = claims_in(workers.alloc, text)?;
+    let bundle = read_bundle(tables, sets, workers);
+    ready_with(claims, bundle)
+}
+
+/// The claims of a text.
+pub(crate) fn claims_in<'c>(alloc: Global, text: &'c [u8]) -> Result<Vec<Claim<'c>>, Failure<Fault>>
+    ensures ok { IfOk result (λ claims. AreClaims text.now (map claim_shown claims.items)) }
+    ensures few { IfOk result (λ claims.
+        All (λ claim. HasFewLetters (claim_shown claim)) claims.items) }
+    ensures count { IfOk result (λ claims. length claims.items ≤ MOST_CLAIMS) }
+    ensures err { IfErr result (IsCauseForText text.now) }
+{
+    match read_claims(alloc, text) {
+        Ok(claims) => Ok(claims),
+        Err(ClaimsFault::Q1 { line }) => Err(Failure::Refused(Fault::Q1(line))),
+        Err(ClaimsFault::Memory) => Err(Failure::Memory),
+    }
+}
+
+/// These claims and a bundle, where there is one, and of the side of their boards.
+pub(crate) fn ready_with<'b, 'c>(
+    claims: Vec<Claim<'c>>,
+    bundle: Result<Bundle<'b>, Failure<BundleRefusal>>,
+) -> Result<Ready<'b, 'c>, Failure<Fault>>
+    requires { length claims.items ≤ MOST_CLAIMS }
+    ensures ok { (fold : Bool) (text sets : Bytes) (tables : List Bytes)
+        → AreClaims text (map claim_shown claims.entry.items)
+        → IfOk bundle.entry (IsBundleOfFiles fold tables sets)
+        → IfOk result (λ ready. AreReady fold (files_of text sets tables)
+        (map claim_shown ready.claims.items) ready.bundle) }
+    ensures same { IfOk result (λ ready. ready.claims.items ≡ claims.entry.items) }
+    ensures err { (fold : Bool) (text sets : Bytes) (tables : List Bytes)
+        → AreClaims text (map claim_shown claims.entry.items)
+        → IfOk bundle.entry (IsBundleOfFiles fold tables sets)
+        → IfErr bundle.entry (IsCauseForBundle fold tables sets)
+        → IfErr result (IsCauseForClaims fold (files_of text sets tables)) }
+{
+    let bundle = match bundle {
+        Ok(bundle) => bundle,
+        Err(Failure::Refused(refused)) => return Err(Failure::Refused(Fault::from(refused))),
+        Err(Failure::Memory) => return Err(Failure::Memory),
+    };
+    match first_of_another_side(claims.as_slice(), &bundle) {
+        None => Ok(Ready { claims, bundle }),
+        Some(number) => Err(Failure::Refused(Fault::Q2(number))),
+    }
+}
+
+/// The number of the first claim whose board has another side than a bundle.
+fn first_of_another_side(claims: &[Claim<'_>], bundle: &Bundle<'_>) -> Option<u32>
+    requires { length claims.now ≤ MOST_CLAIMS }
+    ensures none { let shown = map claim_shown claims.now in
+        IfNone result (AllByRecursion (λ claim. side_of claim.board ≡ bundle.now.side) shown) }
+    ensures some { let shown = map claim_shown claims.now in
+        IfSome result (IsFirstOfAnotherSide bundle.now.side shown) }
+{
+    for (number, claim) in claims.iter().enumerate() {
+        if claim.board.side() != bundle.side() {
+            return Some(number as u32);
+        }
+    }
+    None
+}

@@ -1,0 +1,262 @@
+//! A run of `prove`.
+
+ghost use Rattle.std.specs.Prelude.{◌≡◌, ◌≤◌, true, IfErr, IfOk, IfSome, length, map};
+ghost use Rattle.std.specs.List.{All};
+ghost use Rattle.claim_text.specs.Lines.{HasFewLetters};
+ghost use Rattle.claim_text.specs.Shown.{claim_shown};
+ghost use Rattle.pdb_request.specs.Asked.{prove_shown};
+ghost use Rattle.pdb_run.specs.Answers.{IsReplyOf, all_bytes, answer_text, digest_lines};
+ghost use Rattle.pdb_run.specs.Io.{HasRead};
+ghost use Rattle.pdb_run.specs.Runs.{World, status_of_reply};
+ghost use Rattle.pdb_run.specs.Writing.{digests_of};
+ghost use Rattle.pdb_prove.specs.Prove.{AreReady, ClaimsFiles, ProveEnds, budget_of, digested_files, in_order, prove_inputs, reply_to_claims, unready};
+ghost use Rattle.pdb_prove.specs.Steps.{IsCauseForClaims, files_of, files_read};
+
+use crate::batches::tell_all;
+use crate::inputs::{ProveFiles, Proving};
+use crate::ready::{Ready, claims_in, ready_for, ready_with};
+use pdb_request::Prove;
+use pdb_run::{
+    Answer, Digested, Digests, FILES_BESIDE, Io, Lines, Status, beside, conclude, read_inputs,
+    with_digest,
+};
+use pdb_verdict::{Failure, Fault, Tables, fold_bundle, line_of};
+use std::alloc::AllocError;
+use std::sync::Wait;
+use std::thread::Threads;
+use work_run::{Gate, Workers};
+
+/// A whole run of `prove`, whoever checks the tables and searches. Each line is written as soon as it and those before it are
+/// known.
+#[inline(never)] // so that the stack has the values of one command alone
+pub fn run_prove<H: Threads + Wait + Sync, G: Gate + Sync, I: Io>(
+    prove: &Prove<'_>,
+    workers: &Workers<'_, H, G>,
+    io: &mut I,
+) -> Status
+    ensures same_streams { I.streams io.new ≡ I.streams io.old }
+    ensures ends { ProveEnds (prove_shown prove.now) (I.world io.old) (I.world io.new) result }
+{
+    let command = Proving(prove);
+    let files = match read_inputs(workers.alloc, &command, io) {
+        Ok(inputs) => ProveFiles::of(inputs),
+        Err(status) => return status,
+    };
+    if prove.fold && files.tables.len() <= FILES_BESIDE {
+        prove_folded(&command, files, workers, io)
+    } else {
+        prove_full(&command, &files, workers, io)
+    }
+}
+
+/// Proves claims over the tables as they were read.
+fn prove_full<H: Threads + Wait + Sync, G: Gate + Sync, I: Io>(
+    command: &Proving<'_, '_>,
+    files: &ProveFiles,
+    workers: &Workers<'_, H, G>,
+    io: &mut I,
+) -> Status
+    ensures same_streams { I.streams io.new ≡ I.streams io.old }
+    ensures ends { let arguments = prove_shown command.now.0.now in
+        (old : World) → HasRead (prove_inputs arguments) old (I.world io.old)
+        (in_order (files_read files.now)) → ProveEnds arguments old (I.world io.new) result }
+{
+    let (digests, ready) = ready_beside(files, command.0.fold, workers);
+    tell_ready(command, digested_by(files, digests), &ready, workers, io)
+}
+
+/// The digest lines of files: those that are made already, or else those of the files.
+fn digested_by(files: &ProveFiles, digests: Option<Digests>) -> Digested<'_>
+    requires { let lines = digests_of (digested_files (files_read files.now)) in
+        IfSome digests (λ digests. digests.items ≡ lines) }
+    ensures { digest_lines result ≡ digests_of (digested_files (files_read files.now)) }
+{
+    match digests {
+        Some(lines) => Digested::Lines(lines),
+        None => Digested::Files(files.tables.as_slice(), Some(files.claims.as_slice())),
+    }
+}
+
+/// What is known of files before anything is searched, and their digest lines, where these are made beside the checks.
+fn ready_beside<'f, H: Threads + Wait + Sync, G: Gate + Sync>(
+    files: &'f ProveFiles,
+    fold: bool,
+    workers: &Workers<'_, H, G>,
+) -> (Option<Digests>, Result<Ready<'f, 'f>, Failure<Fault>>)
+    ensures digests { let lines = digests_of (digested_files (files_read files.now)) in
+        IfSome result.0 (λ digests. digests.items ≡ lines) }
+    ensures ok { IfOk result.1 (λ ready. AreReady fold (files_read files.now)
+        (map claim_shown ready.claims.items) ready.bundle) }
+    ensures few { IfOk result.1
+        (λ ready. All (λ claim. HasFewLetters (claim_shown claim)) ready.claims.items) }
+    ensures err { IfErr result.1 (IsCauseForClaims fold (files_read files.now)) }
+{
+    let (text, sets) = (files.claims.as_slice(), files.sets.as_slice());
+    let tables = Tables {
+        files: files.tables.as_slice(),
+        fold,
+    };
+    let check = || -> Result<Ready<'_, '_>, Failure<Fault>>
+        ensures ok { let f = files_of text.entry.now sets.entry.now (all_bytes tables.entry.files.now) in
+            IfOk result (λ ready. AreReady tables.entry.fold f (map claim_shown ready.claims.items) ready.bundle) }
+        ensures few { IfOk result
+            (λ ready. All (λ claim. HasFewLetters (claim_shown claim)) ready.claims.items) }
+        ensures err { let f = files_of text.entry.now sets.entry.now (all_bytes tables.entry.files.now) in
+            IfErr result (IsCauseForClaims tables.entry.fold f) }
+    { ready_for(text, sets, tables, workers) };
+    beside(workers.rt, workers.count, tables.files, Some(text), check)
+}
+
+/// Proves claims over folded tables. The bytes of each table are given up in turn, so that the search runs beside the folded
+/// tables alone.
+#[inline(never)] // so that a run with full tables hasn't its values on the stack
+fn prove_folded<H: Threads + Wait + Sync, G: Gate + Sync, I: Io>(
+    command: &Proving<'_, '_>,
+    files: ProveFiles,
+    workers: &Workers<'_, H, G>,
+    io: &mut I,
+) -> Status
+    requires few { length files.tables.items ≤ FILES_BESIDE }
+    requires fold { command.now.0.now.fold ≡ true }
+    ensures same_streams { I.streams io.new ≡ I.streams io.old }
+    ensures ends { let arguments = prove_shown command.now.0.now in
+        (old : World) → HasRead (prove_inputs arguments) old (I.world io.old)
+        (in_order (files_read files)) → ProveEnds arguments old (I.world io.new) result }
+{
+    let ProveFiles {
+        claims: text,
+        sets,
+        tables,
+    } = files;
+    let (text, sets) = (text.as_slice(), sets.as_slice());
+    match claims_in(workers.alloc, text) {
+        Ok(claims) => {
+            let (mut digests, bundle) = fold_bundle(tables, sets, workers);
+            with_digest(workers.rt, 1, &mut digests, text, || ());
+            let ready = ready_with(claims, bundle);
+            tell_ready(command, Digested::Lines(digests), &ready, workers, io)
+        }
+        Err(failure) => {
+            let digested = Digested::Files(tables.as_slice(), Some(text));
+            tell_ready(command, digested, &Err(failure), workers, io)
+        }
+    }
+}
+
+/// Tells what comes of claims where this is known before anything is searched.
+fn tell_ready<H: Threads + Wait + Sync, G: Gate + Sync, I: Io>(
+    command: &Proving<'_, '_>,
+    digested: Digested<'_>,
+    ready: &Result<Ready<'_, '_>, Failure<Fault>>,
+    workers: &Workers<'_, H, G>,
+    io: &mut I,
+) -> Status
+    requires few { IfOk ready.now
+        (λ ready. All (λ claim. HasFewLetters (claim_shown claim)) ready.claims.items) }
+    ensures same_streams { I.streams io.new ≡ I.streams io.old }
+    ensures ends { let arguments = prove_shown command.now.0.now in let fold = arguments.fold in
+        (files : ClaimsFiles) (old : World)
+        → HasRead (prove_inputs arguments) old (I.world io.old) (in_order files)
+        → digest_lines digested.entry ≡ digests_of (digested_files files)
+        → IfOk ready.now (λ ready.
+        AreReady fold files (map claim_shown ready.claims.items) ready.bundle)
+        → IfErr ready.now (IsCauseForClaims fold files)
+        → ProveEnds arguments old (I.world io.new) result }
+{
+    match ready {
+        Ok(ready) => answer_claims(command, digested, ready, workers, io),
+        Err(failure) => tell_failure(command, digested, *failure, io),
+    }
+}
+
+/// Tells why nothing is searched.
+fn tell_failure<I: Io>(
+    command: &Proving<'_, '_>,
+    digested: Digested<'_>,
+    failure: Failure<Fault>,
+    io: &mut I,
+) -> Status
+    ensures same_streams { I.streams io.new ≡ I.streams io.old }
+    ensures ends { let arguments = prove_shown command.now.0.now in
+        (files : ClaimsFiles) (old : World)
+        → HasRead (prove_inputs arguments) old (I.world io.old) (in_order files)
+        → digest_lines digested.entry ≡ digests_of (digested_files files)
+        → IsCauseForClaims arguments.fold files failure
+        → ProveEnds arguments old (I.world io.new) result }
+{
+    match failure {
+        Failure::Refused(refused) => conclude(command, &Ok(refusal_of(digested, refused)), io),
+        Failure::Memory => conclude(command, &Err(AllocError), io),
+    }
+}
+
+/// The answer where nothing is searched.
+fn refusal_of<'i>(digested: Digested<'i>, refused: Fault) -> Answer<'i>
+    ensures { (files : ClaimsFiles) → digest_lines digested.entry ≡ digests_of (digested_files files)
+        → IsReplyOf result (reply_to_claims files (unready refused)) }
+{
+    Answer {
+        digested,
+        made: None,
+        made_digest: None,
+        lines: line_of(&Err(refused)),
+        is_yes: false,
+    }
+}
+
+/// Tells the digests, and then the answer to each claim.
+fn answer_claims<H: Threads + Wait + Sync, G: Gate + Sync, I: Io>(
+    command: &Proving<'_, '_>,
+    digested: Digested<'_>,
+    ready: &Ready<'_, '_>,
+    workers: &Workers<'_, H, G>,
+    io: &mut I,
+) -> Status
+    requires few { All (λ claim. HasFewLetters (claim_shown claim)) ready.now.claims.items }
+    ensures same_streams { I.streams io.new ≡ I.streams io.old }
+    ensures ends { let arguments = prove_shown command.now.0.now in
+        (files : ClaimsFiles) (old : World)
+        → HasRead (prove_inputs arguments) old (I.world io.old) (in_order files)
+        → digest_lines digested.entry ≡ digests_of (digested_files files)
+        → AreReady arguments.fold files (map claim_shown ready.now.claims.items) ready.now.bundle
+        → ProveEnds arguments old (I.world io.new) result }
+{
+    let Ok(()) = io.write_answer(&digests_alone(digested)) else {
+        return Status::Fault;
+    };
+    let budget = budget_of(command.0);
+    match tell_all(&ready.bundle, ready.claims.as_slice(), budget, workers, io) {
+        Ok(is_yes) => status_of(is_yes),
+        Err(_) => Status::Fault,
+    }
+}
+
+/// The status of a run in which all claims were answered, each with a yes or not.
+fn status_of(is_yes: bool) -> Status
+    ensures { result ≡ status_of_reply is_yes }
+{
+    if is_yes { Status::Yes } else { Status::Refused }
+}
+
+/// How many boards may be expanded for a claim.
+fn budget_of(prove: &Prove<'_>) -> u64
+    ensures { result ≡ budget_of (prove_shown prove.now).budget }
+{
+    match prove.budget {
+        Some(budget) => budget,
+        None => u64::MAX,
+    }
+}
+
+/// The digest lines alone, as an answer.
+fn digests_alone<'i>(digested: Digested<'i>) -> Answer<'i>
+    ensures { answer_text result ≡ digest_lines digested.entry }
+{
+    Answer {
+        digested,
+        made: None,
+        made_digest: None,
+        lines: Lines::new(),
+        is_yes: true,
+    }
+}
