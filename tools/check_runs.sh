@@ -1,8 +1,8 @@
 #!/usr/bin/env bash
 # Runs the built program and checks what it writes, where it writes it and its status: words, streams, files and their
-# names, limits, tables, workers, want of memory, changed inputs, the tour, sizes, budgets, and runs at once. What is wanted
-# follows from docs/FORMATS.md, and of tables and searches from a plain search that does. It also has docs/BELIEVE.md
-# compared with what is proved.
+# names, limits, tables, workers, claims, want of memory, changed inputs, whole puzzles, the tour, sizes, budgets, and runs
+# at once. What is wanted follows from docs/FORMATS.md, and of tables and searches from a plain search that does. It also has
+# docs/BELIEVE.md compared with what is proved.
 #
 #     tools/check_runs.sh [PROGRAM]
 #
@@ -184,7 +184,8 @@ expect 'a name of more than one byte a letter' 2 'fault read né →' : replay '
 #
 
 for words in --help -h help 'help replay' 'help table' 'help bound' 'help optimal' 'help help' 'replay --help' 'table -h' \
-    'bound --help' 'optimal b s l t -h' 'help make-table' 'make-table -h' 'help solve' 'solve --help'; do
+    'bound --help' 'optimal b s l t -h' 'help make-table' 'make-table -h' 'help solve' 'solve --help' 'help prove' \
+    'prove --help' 'prove c s t -h'; do
     # shellcheck disable=SC2086
     run $words
     check "help by $words" told_help
@@ -208,6 +209,10 @@ run solve --help
 check 'the help of solve speaks of its budget, its workers and OUT' told 'The budget is in boards expanded' \
     'The usual 1000000 is enough for most' 'harder ones take' '2 to 10 million' 'whatever --workers says' \
     'built by all processors' 'OUT is replaced'
+run prove --help
+check 'the help of prove speaks of claims, their answers, no log, and the statuses' told 'CLAIMS has a claim a line' \
+    'BOARD ; MOVES' 'BOARD : N' 'bound N of BOARD' 'optimal N of BOARD ; MOVES' 'No log is needed' \
+    'Status: 0 yes, 1 refused, 2 bad words or a read or write fault, 3 no memory.'
 for words in rplay 'replay a b' 'replay --workers 2' 'replay --workers 2 solved' table 'table a b' --version --workers \
     '--workers 2 table F1' 'table --none F1' 'table F1 --workers' 'table F1 --workers 2 --workers 2' -x 'replay -x' \
     'table F1 --workers 0' 'table F1 --workers 65' 'table F1 --workers x' 'table F1 --workers -1' 'table F1 --workers 1.5' \
@@ -218,7 +223,9 @@ for words in rplay 'replay a b' 'replay --workers 2' 'replay --workers 2 solved'
     'make-table 2 14 o --workers 0' 'make-table 2 14 o --budget 1' solve 'solve b s o' 'solve --budget 0 b s o t' \
     'solve b s o t --budget 1000000000001' 'solve b s o t --budget x' 'solve b s o t --workers 65' \
     'table F1 --fold' 'replay solved --fold' 'make-table 2 14 o --fold' --fold 'bound b s l --fold' 'bound b s l t --fold=1' \
-    'optimal p s l t --fold --fold' 'solve b s o --fold'; do
+    'optimal p s l t --fold --fold' 'solve b s o --fold' prove 'prove c' 'prove c s' 'prove - s' 'prove c s t --budget 0' \
+    'prove c s t --budget x' 'prove --budget 1000000000001 c s t' 'prove c s t --budget' 'prove c s t --workers 0' \
+    'prove --workers 65 c s t' 'prove c s t --none' 'prove c s --fold' 'prove c s t --fold --fold'; do
     # shellcheck disable=SC2086
     run $words
     check "the mistake in $words" told_a_mistake
@@ -593,6 +600,124 @@ either_way 0 'bound 4' F12 leaf_of_the_other_region : bound folded_board one_set
 claim 0 'bound 6' F12 branches : bound --fold board one_set branches F12
 
 #
+# Claims.
+#
+
+# Claims of a file or of standard input must be answered by the digests of these tables and of the claims, and by these lines:
+# proves CLAIMS SETS FILES STATUS LINE.. : WORD..
+proves() {
+    local claims=$1 sets=$2 files=() wanted=$4 lines=() answers=() file digest
+    read -ra files <<<"$3"
+    shift 4
+    while [ "$1" != : ]; do
+        answers+=("$1")
+        shift
+    done
+    shift
+    for file in "${files[@]}" "$claims"; do
+        digest=$(sha256sum <"$file")
+        lines+=("sha256 ${digest%% *}")
+    done
+    expect "prove $claims $sets ${files[*]} $*" "$wanted" "${lines[@]}" "${answers[@]}" : \
+        prove "$claims" "$sets" "${files[@]}" "$@"
+    input=$claims
+    expect "prove of the input $claims $sets ${files[*]} $*" "$wanted" "${lines[@]}" "${answers[@]}" : \
+        prove - "$sets" "${files[@]}" "$@"
+    input=/dev/null
+}
+
+# The same by 1, 2 and 7 workers, over tables as they are and over folded ones.
+proves_each_way() {
+    local words
+    for words in '' '--workers 2' '--workers 7' --fold '--fold --workers 7'; do
+        # shellcheck disable=SC2086
+        proves "$@" : $words
+    done
+}
+
+printf '%b' '3 2 1 0\n 03\t2  1 00 : 6\n3 2 1 0;UL DR\tUL\r\n3 2 1 0 ; LURDLU\n0 1 2 3 ;\n0 1 2 3\r\n1 0 2 3:1\n1 0 2 3 : 0 ' \
+    >true_claims
+true_answers=('optimal 6 of 3 2 1 0 ; ULDRUL' 'bound 6 of 3 2 1 0' 'optimal 6 of 3 2 1 0 ; ULDRUL'
+    'optimal 6 of 3 2 1 0 ; LURDLU' 'optimal 0 of 0 1 2 3 ;' 'optimal 0 of 0 1 2 3 ;' 'bound 1 of 1 0 2 3' 'bound 0 of 1 0 2 3')
+proves_each_way true_claims one_set F12 0 "${true_answers[@]}"
+proves_each_way true_claims one_set F123 0 "${true_answers[@]}"
+proves_each_way true_claims with_mirror_and_1 'F1 F3' 0 "${true_answers[@]}"
+proves_each_way true_claims sixteen_mirrors F1 0 "${true_answers[@]}"
+printf '%s\n' '3 2 1 0 : 7' '3 2 1 0 ; ULDRULRL' '1 0 2 3 ; RL' '3 2 1 0 : 6' '1 0 2 3 ; DULRL' '1 0 2 3 : 2' '3 2 1 0 ; R' \
+    '3 2 1 0 ; ULU' '3 2 1 0 ; U' '3 2 1 0 ;' '0 1 3 2' '0 1 3 2 : 0' '0 1 3 2 ; R' >false_claims
+proves_each_way false_claims one_set F12 1 'refused O2 by ULDRUL of 3 2 1 0 : 7' \
+    'refused O2 by ULDRUL of 3 2 1 0 ; ULDRULRL' 'refused M2 at step 0 of 1 0 2 3 ; RL' 'bound 6 of 3 2 1 0' \
+    'refused O2 by L of 1 0 2 3 ; DULRL' 'refused O2 by L of 1 0 2 3 : 2' 'refused M2 at step 0 of 3 2 1 0 ; R' \
+    'refused M2 at step 2 of 3 2 1 0 ; ULU' 'refused M4 of 3 2 1 0 ; U' 'refused M4 of 3 2 1 0 ;' 'refused K2 of 0 1 3 2' \
+    'refused K2 of 0 1 3 2 : 0' 'refused M4 of 0 1 3 2 ; R'
+# No board is expanded for a claim of which the sets say enough, or whose board is the goal board.
+printf '%s\n' '3 2 1 0' '3 2 1 0 : 6' '3 2 1 0 ; LURDLU' '0 1 2 3' '1 0 2 3 : 1' '3 2 1 0 : 4' >claims_of_few_boards
+for words in '--budget 1' '--budget 1 --fold' '--workers 7 --budget=1'; do
+    # shellcheck disable=SC2086
+    proves claims_of_few_boards one_set F12 1 'refused K1 of 3 2 1 0' 'refused K1 of 3 2 1 0 : 6' \
+        'refused K1 of 3 2 1 0 ; LURDLU' 'optimal 0 of 0 1 2 3 ;' 'bound 1 of 1 0 2 3' 'bound 4 of 3 2 1 0' : $words
+done
+proves true_claims one_set F12 0 "${true_answers[@]}" : --budget 1000000000000
+
+# The first line that is no claim comes before faults of tables and sets: no_claim LINE TEXT
+no_claim() {
+    printf '%b' "$2" >claims
+    proves claims one_set F12 1 "refused Q1 at line $1" :
+    proves claims empty F12_with_FE 1 "refused Q1 at line $1" : --fold --workers 2
+}
+letters_1000=$(printf 'RL%.0s' {1..500})
+for text in '' '\n' ' ' 'x' '3 2 1' '3 2 1 0 2' '3 2 1 3' '3 2 1 4' '003 2 1 0' '3,2,1,0' '3 2 1 0 ; u' '3 2 1 0 ;; U' \
+    '3 2 1 0 ; U : 6' '3 2 1 0 : 6 ; U' '; U' ': 6' '3 2 1 0 :' '3 2 1 0 : 06' '3 2 1 0 : 256' '3 2 1 0 : -1' '3 2 1 0 : 1 2' \
+    '3 2 1 0 : 6 : 6' '3 2 1 0 : 6.' '3 2 1 0 : +6' '3 2 1 0 : 1000' 'optimal 6 of 3 2 1 0' "0 1 2 3 ;${letters_1000}R"; do
+    no_claim 0 "$text"
+    [ -z "$text" ] || no_claim 1 "3 2 1 0\n$text\n3 2 1 0\nx\n"
+done
+printf '0 1 2 3 ;%s' "$letters_1000" >claims
+proves claims one_set F12 1 "refused O2 by of 0 1 2 3 ; $letters_1000" :
+printf '3 2 1 0\n0 1 2 3 4 5 6 7 8 : 1\n3 2 1 0\n0 1 2 3 4 5 6 7 8\n' >claims_of_two_sides
+proves_each_way claims_of_two_sides one_set F12 1 'refused Q2 at line 1'
+proves_each_way true_claims one_set F24 1 'refused Q2 at line 0'
+proves_each_way claims_of_two_sides one_set F12_with_FE 1 'refused T7 at entry 0 of table 0'
+proves_each_way claims_of_two_sides empty F12 1 'refused S1 at line 0'
+proves_each_way true_claims one_set 'F12 F123_with_a_byte_more F12_with_FE' 1 'refused T6 of table 1'
+proves_each_way true_claims pair 'F12 F1' 1 'refused S3 at line 0'
+proves_each_way true_claims one_set "$seventeen" 1 'refused S5'
+expect 'claims that are not there' 2 'fault read C' : prove C one_set F12
+expect 'sets of claims that are not there' 2 'fault read S' : prove true_claims S F12
+expect 'a table of claims that is not there' 2 'fault read T' : prove true_claims one_set F12 T
+cp true_claims ./-
+run prove ./- one_set F12
+mv "$work/output" "$work/own_answer"
+run prove true_claims one_set F12
+check 'claims of a file whose name is -, by another name of it' cmp -s "$work/output" "$work/own_answer"
+rm ./-
+truncate -s 67108865 long_claims
+expect 'claims over their limit' 2 'fault size long_claims' : prove long_claims one_set F12
+truncate -s 67108864 long_claims
+run prove long_claims one_set F12
+check 'claims of as many bytes as they may have' [ "$status.$(tail -n 1 "$work/output")" = '1.refused Q1 at line 0' ]
+rm long_claims
+status=0
+"$program" prove - one_set F12 <&- >"$work/output" 2>"$work/errors" || status=$?
+check 'claims of a closed standard input' wrote 2 'fault read -'
+for claims in true_claims false_claims; do
+    status=0
+    "$program" prove "$claims" one_set F12 2>"$work/errors" >/dev/full || status=$?
+    : >"$work/output"
+    check "answers to $claims on a full standard output" [ "$status" = 2 ]
+    status=0
+    "$program" prove "$claims" one_set F12 2>"$work/errors" >&- || status=$?
+    check "answers to $claims on a closed standard output" [ "$status" = 2 ]
+done
+# A reader that goes away after some lines has those, whole.
+yes '3 2 1 0' | head -n 20000 >many_claims
+status=0
+("$program" prove many_claims one_set F12 2>"$work/errors"; echo "$?" >"$work/status") | head -n 5 | tail -n 3 >"$work/output" || status=$?
+check 'the first answers for a reader that goes away' cmp -s "$work/output" <(yes "${true_answers[0]}" | head -n 3)
+check 'the run of a reader that goes away' [ "$(cat "$work/status")" = 2 ]
+rm many_claims
+
+#
 # Inputs of a claim that are not there, or too long.
 #
 
@@ -650,6 +775,8 @@ limit_memory optimal six_moves one_set branches F12 --workers 7 --fold
 limit_memory make-table 3 126 made --workers 7
 limit_memory solve board one_set made F12 --workers 7
 limit_memory solve board one_set made F12 --fold
+limit_memory prove true_claims one_set F12 --workers 7
+limit_memory prove false_claims one_set F12 --workers 64 --fold
 rm -f made
 check 'memory was refused to some runs' [ "$refusals" -gt 0 ]
 
@@ -662,7 +789,8 @@ for words in '' 'table F123' 'table F123 --workers 2' 'table F123_with_02' 'make
     'optimal six_moves one_set branches F12' 'optimal six_moves one_set branches F12 --fold' \
     'optimal six_moves pair leaf F12 F3 --fold --workers 2' 'solve next_board one_set made F123' \
     'solve board with_mirror_and_1 made F1 F3' 'solve board one_set made F12 --fold' \
-    'solve board pair made F12 F3 --fold --workers 2'; do
+    'solve board pair made F12 F3 --fold --workers 2' 'prove true_claims one_set F12' 'prove false_claims one_set F12 --workers 2' \
+    'prove true_claims with_mirror_and_1 F1 F3 --fold --workers 7' 'prove claims one_set F12'; do
     status=0
     # shellcheck disable=SC2086
     PROGRAM=$bare "$root/tools/refuse_memory.sh" $words <solved >"$work/output" 2>"$work/errors" || status=$?
@@ -715,6 +843,8 @@ limit_stack solve next_board one_set made F123
 limit_stack solve board one_set made "${most_tables[@]}" --workers 64
 limit_stack solve board sixteen_mirrors made "${most_tables[@]}" --workers 64
 limit_stack solve board sixteen_mirrors made "${most_tables[@]}" --workers 64 --fold
+limit_stack prove true_claims one_set "${most_tables[@]}" --workers 64
+limit_stack prove false_claims sixteen_mirrors "${most_tables[@]}" --workers 64 --fold
 rm -f made
 
 #
@@ -755,6 +885,19 @@ status=0
 : >"$work/errors"
 check 'progress on a full standard error leaves the answer' same_answer
 
+# A search tells its pace, and no shares.
+echo '0 3 2 4 1 8 7 6 5' >claims
+run prove claims mirror all_of_side_3
+own_status=$status
+mv "$work/output" "$work/own_answer"
+for workers in 1 4; do
+    status=0
+    (export PDB_PROGRESS=1 LD_PRELOAD=$work/step_clock.so && exec "$bare" prove claims mirror all_of_side_3 --workers "$workers") \
+        >"$work/output" 2>"$work/errors" || status=$?
+    check "progress of $workers workers leaves the answer to a claim" same_line_and_status
+    check "$workers workers tell lines of progress alone" [ -z "$(grep -v '^pdb_cli: ' "$work/errors")" ]
+done
+
 #
 # Changed inputs.
 #
@@ -763,6 +906,19 @@ status=0
 "$root/tools/try_hostile.py" --program "$bare" >"$work/output" 2>"$work/errors" || status=$?
 check '2,000 changed inputs are answered as their plain answers say' \
     [ "$status.$(tail -n 1 "$work/output")" = '0.2000 passed, 0 failed' ]
+
+#
+# Whole puzzles.
+#
+
+status=0
+"$root/tools/check_prove.py" "$bare" >"$work/output" 2>"$work/errors" || status=$?
+check 'claims on the boards of sides 2 to 4 are answered as a breadth-first search says' [ "$status" = 0 ]
+# Its own checks count too.
+if [[ $(tail -n 1 "$work/output") =~ ^([0-9]+)\ passed,\ ([0-9]+)\ failed$ ]]; then
+    passed=$((passed + BASH_REMATCH[1]))
+    failed=$((failed + BASH_REMATCH[2]))
+fi
 
 #
 # The tour.
@@ -1175,6 +1331,9 @@ for words in 'table F1' 'table F1_of_FF' 'replay solved' 'replay none' --help \
     status=$?
     check "$words is written by one write" wrote 0 1
 done
+python3 "$work/writes.py" "$program" prove true_claims one_set F12 >"$work/output" 2>"$work/errors"
+status=$?
+check 'each answer to a claim is written by one write, behind one of the digests' wrote 0 "$((${#true_answers[@]} + 1))"
 
 echo "$passed passed, $failed failed"
 [ "$failed" = 0 ]

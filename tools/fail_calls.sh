@@ -1,7 +1,8 @@
 #!/usr/bin/env bash
 # Runs the program once for each of its system calls, with that one failing, for each way to fail below. Such a run must
 # answer as the run does in which nothing fails, or tell the fault: `fault read NAME` or `fault write NAME` with status 2, or
-# `no memory` with status 3, or nothing with status 2 where the lines can't be written. Where it tells a fault, it must leave
+# `no memory` with status 3, or with status 2 nothing, or of `prove` the first of its lines, where the lines can't be written.
+# Where it tells a fault, it must leave
 # its files as they were, those beside them with names that end in `.unkept` too, but for a temporary file that it could not
 # remove; and otherwise as the run does in which nothing fails.
 #
@@ -101,6 +102,13 @@ has_left() {
     [ "$1" = unlink ] && [ -z "$(comm -13 "$work/left" "$work/$2")" ] && [ "${#more[@]}" = 1 ] && [[ ${more[0]} == *.unkept ]]
 }
 
+# Whether the run has written the first of its lines, and ended with status 2. The line of a status has 9 bytes.
+is_cut_short() {
+    local bytes
+    bytes=$(($(wc -c <"$work/output") - 9))
+    [ "$(tail -n 1 "$work/output")" = 'status 2' ] && cmp -s -n "$bytes" "$work/output" "$work/own_answer"
+}
+
 # Sets `told` to what the run with the words behind $1 has answered, in which the call $1 failed; its status is not 0 where
 # that is no right answer, or the run has left other files than it may.
 judge() {
@@ -120,6 +128,9 @@ judge() {
         has_left "$1" before
     elif [ "$1 ${lines[*]}" = 'write status 2' ]; then
         told='nothing, status 2'
+        has_left "$1" after
+    elif [ "$1 $2" = 'write prove' ] && is_cut_short; then
+        told='its first lines, status 2'
         has_left "$1" after
     else
         return 1

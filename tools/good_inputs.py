@@ -1,5 +1,5 @@
-"""Good inputs of every kind, drawn at random: puzzle texts, exact tables, set texts, logs that prove their bounds, patterns
-and searches."""
+"""Good inputs of every kind, drawn at random: puzzle texts, exact tables, set texts, logs that prove their bounds, patterns,
+searches and claims."""
 
 import functools
 import itertools
@@ -157,7 +157,7 @@ def unsolvable(board):
 
 
 @dataclass(frozen=True)
-class Claim:
+class LogCheck:
     """A board, the letters of a solution of it or None, a set text, the version and the lemmas of a log, table files, and
     whether the log is over folded tables."""
 
@@ -170,7 +170,7 @@ class Claim:
     fold: bool
 
 
-def claim(draw):
+def log_check(draw):
     side = draw.choice([2] * 5 + [3] * 3 + [4, 5])
     files = [table(draw, side) for _ in range(draw.choice([1, 1, 2, 2, 3, 16]))]
     sets_text = set_text(draw, files)
@@ -186,7 +186,7 @@ def claim(draw):
         prover.prove(nearby, draw.randint(0, 10))
     steps = len(letters) if letters is not None else draw.choice([3, 8, 255])
     prover.prove(board, steps)
-    return Claim(board, letters, sets_text, version, prover.lemmas, files, fold)
+    return LogCheck(board, letters, sets_text, version, prover.lemmas, files, fold)
 
 
 def side_and_mask(draw):
@@ -229,3 +229,38 @@ def search(draw):
     board, budget = board_to_solve(draw, side)
     files = [table(draw, side) for _ in range(draw.choice([1, 1, 1, 2, 3, 16]))]
     return board, budget, set_text(draw, files), files
+
+
+def line_text(draw, board):
+    """A board text of a line, which has no LF."""
+    return board_text(draw, board).replace(b"\n", draw.choice([b" ", b"\t", b"\r"]))
+
+
+def claim_line(draw, side, steps):
+    """A line of any kind on a board near the goal board, true or false, or on one that has no solution."""
+    board, letters = walk(draw, side, draw.randint(0, steps))
+    if draw.random() < 0.1:
+        board = unsolvable(board)
+    kind = draw.choice(["shortest", "moves", "bound"])
+    if kind == "shortest":
+        return line_text(draw, board)
+    if kind == "bound":
+        bound = max(len(letters) + draw.choice([-2, -1, 0, 0, 0, 1, 2]), 0)
+        bound = draw.choice([0, 1, 255]) if draw.random() < 0.1 else bound
+        return line_text(draw, board) + draw.choice([b":", b" : "]) + b"%d" % bound + draw.choice([b"", b" ", b"\r"])
+    letters += draw.choice(["", "", "", "RL", "DU", "R", "L"])
+    return line_text(draw, board) + draw.choice([b";", b" ; "]) + letters.encode() + draw.choice([b"", b" ", b"\r"])
+
+
+def claims_text(draw, side):
+    steps = {2: 6, 3: 12, 4: 7, 5: 5}[side]
+    lines = [claim_line(draw, side, steps) for _ in range(draw.choice([1, 1, 2, 3, 5, 20]))]
+    return b"\n".join(lines) + draw.choice([b"\n", b"\n", b""])
+
+
+def claims(draw):
+    """A claims text, the budget of each claim or none, a set text and tables."""
+    side = draw.choice([2, 2, 2, 3, 3, 3, 4, 5])
+    files = [table(draw, side) for _ in range(draw.choice([1, 1, 1, 2, 3, 16]))]
+    budget = draw.choice([None, None, None, 10**12, 1, 2, 5, 20, 100, 1000])
+    return claims_text(draw, side), budget, set_text(draw, files), files

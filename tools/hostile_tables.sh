@@ -43,6 +43,7 @@ files["G16"] = b"PDBL\2\2\0\0\0\1" + board + b"\5\0\0\x41\0\x41"
 files["G15"] = head + b"\2\3\0\1\2\5\0\0\0\6\0\1\0\0\0\1" + board + b"\x0b\0\x20\0\0\0\0\0\0\0\0\1"
 files |= {"board": b"3 2 1 0\n", "next": b"1 0 2 3\n", "puzzle": b"3 2 1 0 ; ULDRUL\n"}
 files |= {"sets": b"set 0\n", "mirrors": b"set 0 0t 1\n"}
+files["claims"] = b"3 2 1 0\n3 2 1 0 : 6\n3 2 1 0 ; ULDRULRL\n0 1 3 2\n"
 for name, data in files.items():
     pathlib.Path(name).write_bytes(data)
 END
@@ -82,7 +83,8 @@ row() {
         }
     else
         echo "| $name | ${BASH_REMATCH[1]} | $(count_of 'its own answer') | $(count_of 'fault read') |" \
-            "$(count_of 'fault write') | $(count_of 'no memory') | $(count_of 'nothing, status 2') |"
+            "$(count_of 'fault write') | $(count_of 'no memory') | $(count_of 'nothing, status 2') |" \
+            "$(count_of 'its first lines, status 2') |"
     fi
 }
 
@@ -138,6 +140,12 @@ row '`solve board sets o F12 --workers 2`' solve board sets o F12 --workers 2
 row '`solve board sets o F12 --workers 7`' solve board sets o F12 --workers 7
 row '`solve board mirrors o F1 F3`' solve board mirrors o F1 F3
 row '`solve board sets o F12 --fold`' solve board sets o F12 --fold
+row '`prove claims sets F12`' prove claims sets F12
+row '`prove claims sets F12 --workers 2`' prove claims sets F12 --workers 2
+row '`prove claims sets F12 --workers 7 --fold`' prove claims sets F12 --workers 7 --fold
+input=claims
+row '`prove - mirrors F1 F3`, claims on standard input' prove - mirrors F1 F3
+input=/dev/null
 row '`--help`' --help
 echo "$passed passed, $failed failed"
 [ "$failed" = 0 ]

@@ -3,8 +3,8 @@
 `answer` gives how a run must end: its lines, its status and the files that it leaves. A table is judged by the local rule,
 entry by entry, and besides by a breadth-first search over placements and regions: the two must agree. A table of 65,536
 entries and more is compared with the search, and where it differs, the rule is asked of all entries that can break it.
-What `solve` finds is its own: its moves must solve the board, be as few as a breadth-first search over boards says, and the
-log that it keeps must prove that they are.
+What `solve` and `prove` find is their own: moves must solve the board, and be as few as a breadth-first search over boards
+says, or fewer than the claim says; and a log that is kept must prove that they are.
 """
 
 import functools
@@ -20,9 +20,13 @@ REVERSE = {"U": "D", "D": "U", "L": "R", "R": "L"}
 MOST_TILES = {2: 3, 3: 8, 4: 8, 5: 6}
 NO_REGION, NEVER = 254, 255
 BRANCH, LEAF, CITATION, PARITY_LEAF = 0x00, 0x01, 0x20, 0x41
-TEXT_LIMIT, LOG_LIMIT, TABLE_LIMIT = 65_536, 2**30, 2**32
-MOST_LEMMAS = 1_048_576
+TEXT_LIMIT, CLAIMS_LIMIT, LOG_LIMIT, TABLE_LIMIT = 65_536, 2**26, 2**30, 2**32
+MOST_LEMMAS = MOST_CLAIMS = 1_048_576
+MOST_LETTERS = 1000
+USUAL_BUDGET = 1_000_000
 MANY_ENTRIES = 65_536
+# The budget of a search of which nothing is said.
+ENDLESS = 2**64 - 1
 STANDARD_INPUT = "-"
 MISTAKE = b"error: "
 PIECE = 4096
@@ -131,6 +135,59 @@ def read_puzzle(text):
         raise Refused("P1")
     board = read_board(before)
     return board, replay(board, behind)
+
+
+# Claims.
+
+
+@dataclass(frozen=True)
+class Claim:
+    """A board, and the letters that are said to be a shortest solution of it, or the number of moves that no solution is said
+    to be below, or neither, where a shortest solution is asked for."""
+
+    board: tuple
+    letters: str | None = None
+    bound: int | None = None
+
+    def __str__(self):
+        """The claim as answers name it."""
+        words = list(map(str, self.board))
+        if self.letters is not None:
+            words += [";", self.letters] if self.letters else [";"]
+        if self.bound is not None:
+            words += [":", str(self.bound)]
+        return " ".join(words)
+
+
+def read_claim(line):
+    """The claim of a line."""
+    before, semicolon, behind = line.partition(b";")
+    if semicolon:
+        letters = "".join(chr(byte) for byte in behind if byte not in SEPARATORS)
+        if not re.fullmatch("[UDLR]{0,%d}" % MOST_LETTERS, letters):
+            raise Refused("no moves text")
+        return Claim(read_board(before), letters=letters)
+    before, colon, behind = line.partition(b":")
+    if not colon:
+        return Claim(read_board(line))
+    numeral = behind.strip(SEPARATORS)
+    if not re.fullmatch(rb"0|[1-9][0-9]{0,2}", numeral) or int(numeral) > 255:
+        raise Refused("no bound")
+    return Claim(read_board(before), bound=int(numeral))
+
+
+def read_claims(text):
+    """The claims of the lines, of which the last may lack its LF."""
+    lines = text.removesuffix(b"\n").split(b"\n")
+    claims = []
+    for number, line in enumerate(lines):
+        try:
+            claims.append(read_claim(line))
+        except Refused:
+            raise Refused(f"Q1 at line {number}") from None
+        if number == MOST_CLAIMS:
+            raise Refused(f"Q1 at line {number}")
+    return claims
 
 
 # Tables.
@@ -587,6 +644,70 @@ def gives_up(board, budget):
     return ["K1"] if least is None or budget < most_expanded(board, least) else []
 
 
+def is_spent(claim, budget):
+    """Whether a search for a claim may end since its budget is spent."""
+    if budget == ENDLESS:
+        return False
+    most = claim.bound if claim.letters is None else min(len(claim.letters), 255)
+    if most is None:
+        return gives_up(claim.board, budget) == ["K1"]
+    return budget < most_expanded(claim.board, most)
+
+
+def shorter_by(line, claim, fewer):
+    """Whether a line says that a claim is false, and by moves that show it: they solve the board, and are fewer than these."""
+    told = re.fullmatch(rb"refused O2 by(| [UDLR]+) of (.*)", line)
+    if told is None or told[2] != str(claim).encode():
+        return False
+    try:
+        return replay(claim.board, told[1].strip()) < fewer
+    except Refused:
+        return False
+
+
+def shortest_by(line, claim):
+    """Whether a line says what a shortest solution of the board is, and it is one."""
+    told = re.fullmatch(rb"optimal ([0-9]+) of ([^;]*) ;(| [UDLR]+)", line)
+    if told is None or told[2] != str(claim).encode():
+        return False
+    try:
+        moves, least = replay(claim.board, told[3].strip()), least_moves(claim.board)
+    except Refused:
+        return False
+    return told[1] == b"%d" % moves and least in (None, moves)
+
+
+def right_line(claim, line, budget):
+    """The line that answers a claim: this one where it may, since moves are the search's own, and so is whether a budget is
+    spent. Of a board that is too far away to be searched here, only moves can be judged."""
+    board, shown, least = claim.board, str(claim), None
+    fewer = claim.bound
+    if claim.letters is not None:
+        try:
+            fewer = replay(board, claim.letters.encode())
+        except Refused as refused:
+            return f"refused {refused} of {shown}".encode()
+    elif not has_solution(board):
+        return f"refused K2 of {shown}".encode()
+    if is_spent(claim, budget) and line == f"refused K1 of {shown}".encode():
+        return line
+    if fewer is None:
+        return line if shortest_by(line, claim) else f"optimal .. of {shown} ; ..".encode()
+    least = least_moves(board)
+    if shorter_by(line, claim, fewer) and least != fewer:
+        return line
+    if least is not None and least < fewer:
+        return f"refused O2 by .. of {shown}".encode()
+    if claim.letters is None:
+        plain = " ".join(map(str, board))
+        return f"bound {fewer} of {plain}".encode()
+    return (f"optimal {fewer} of {shown}" if fewer <= 255 else f"refused K2 of {shown}").encode()
+
+
+def is_yes(line):
+    return line.startswith((b"optimal ", b"bound "))
+
+
 def solved(run, ended, board, sets, tables):
     """The lines behind the digests of the tables where a search ends well, and the log that it keeps. Its moves and its log
     are taken from how the run ended, and must be right."""
@@ -601,7 +722,7 @@ def solved(run, ended, board, sets, tables):
     least = least_moves(board)
     if len(found) != 1 or found != {least} and least is not None:
         raise Refused(f"nothing: {found}, where {least} moves are the fewest")
-    if run.budget < len(letters):
+    if run.boards < len(letters):
         raise Refused("K1")
     return digest_line(log) + b"moves%s\noptimal %d\n" % (b" " + letters if letters else b"", len(letters)), log
 
@@ -612,21 +733,28 @@ def solved(run, ended, board, sets, tables):
 @dataclass(frozen=True)
 class Run:
     """A command, the names that it reads, the bytes that files have, the name that it keeps under, the numbers of a side and
-    a mask, the budget of a search, how many workers are asked for, and whether tables are to be folded."""
+    a mask, the budget of a search where one is named, how many workers are asked for, and whether tables are to be folded."""
 
     command: str
     names: tuple
     files: dict
     out: str = None
     numbers: tuple = ()
-    budget: int = 1_000_000
+    budget: int | None = None
     workers: int = 1
     fold: bool = False
 
+    @property
+    def boards(self):
+        """How many boards a search may expand."""
+        if self.budget is not None:
+            return self.budget
+        return ENDLESS if self.command == "prove" else USUAL_BUDGET
+
     def words(self):
-        names = [name for name in self.names if name != STANDARD_INPUT]
+        names = [name for name in self.names if name != STANDARD_INPUT or self.command == "prove"]
         flags = ["--workers", str(self.workers)] if self.workers != 1 else []
-        flags += ["--budget", str(self.budget)] if self.budget != 1_000_000 else []
+        flags += ["--budget", str(self.budget)] if self.budget is not None else []
         flags += ["--fold"] if self.fold else []
         kept = [] if self.out is None else [self.out]
         return [self.command, *flags, *map(str, self.numbers), *names[:2], *kept, *names[2:]]
@@ -663,7 +791,8 @@ def limits(command, count):
         return [TEXT_LIMIT]
     if command == "table":
         return [TABLE_LIMIT]
-    texts = {"solve": [TEXT_LIMIT] * 2, "make-table": []}.get(command, [TEXT_LIMIT, TEXT_LIMIT, LOG_LIMIT])
+    texts = {"solve": [TEXT_LIMIT] * 2, "prove": [CLAIMS_LIMIT, TEXT_LIMIT], "make-table": []}
+    texts = texts.get(command, [TEXT_LIMIT, TEXT_LIMIT, LOG_LIMIT])
     return texts + [TABLE_LIMIT] * (count - len(texts))
 
 
@@ -676,8 +805,8 @@ def digest_line(file):
 
 
 def digest_lines(command, inputs):
-    digested = {"replay": [], "table": inputs, "make-table": [], "solve": inputs[2:]}.get(command, inputs[3:] + inputs[2:3])
-    return b"".join(digest_line(file) for file in digested)
+    digested = {"replay": [], "table": inputs, "make-table": [], "solve": inputs[2:], "prove": inputs[2:] + inputs[:1]}
+    return b"".join(digest_line(file) for file in digested.get(command, inputs[3:] + inputs[2:3]))
 
 
 def made_table(run):
@@ -698,11 +827,25 @@ def made_log(run, ended, inputs):
     sets = read_sets(set_text, tables)
     if tables[0].pattern.side != side_of(board):
         raise Refused("L4")
-    refusals = gives_up(board, run.budget)
+    refusals = gives_up(board, run.boards)
     told = [refusal for refusal in refusals if ended.written.endswith(b"refused %s\n" % refusal.encode())]
     if told or not has_solution(board):
         raise Refused([*refusals, *told][-1])
     return solved(run, ended, board, sets, tables)
+
+
+def claims_answered(run, ended, inputs):
+    """The lines that answer claims, behind the digests."""
+    text, set_text, *files = inputs
+    claims = read_claims(text)
+    tables = read_tables(files, run.fold)
+    read_sets(set_text, tables)
+    for number, claim in enumerate(claims):
+        if side_of(claim.board) != tables[0].pattern.side:
+            raise Refused(f"Q2 at line {number}")
+    told = ended.written.split(b"\n")[len(files) + 1 :]
+    pairs = itertools.zip_longest(claims, told[: len(claims)], fillvalue=b"")
+    return [right_line(claim, line, run.boards) for claim, line in pairs]
 
 
 def can_be_kept(name):
@@ -714,12 +857,14 @@ def can_be_kept(name):
 def is_mistaken(run):
     """Whether a number among the words is none that they may have, or the command has nothing to fold."""
     within = [0 <= number < limit for number, limit in zip(run.numbers, [256, 2**32])]
-    can_fold = run.command in ("bound", "optimal", "solve")
-    return not (all(within) and 1 <= run.budget <= 10**12 and 1 <= run.workers <= 64 and can_fold >= run.fold)
+    can_fold = run.command in ("bound", "optimal", "solve", "prove")
+    in_budget = run.budget is None or 1 <= run.budget <= 10**12
+    return not (all(within) and in_budget and 1 <= run.workers <= 64 and can_fold >= run.fold)
 
 
 def answer(run, ended):
-    """How the run must end. How it has ended tells the moves and the log of `solve`, and whether it gave up where it may."""
+    """How the run must end. How it has ended tells the moves and the log of `solve`, the moves of `prove`, and where they gave
+    up if they may."""
     if is_mistaken(run):
         return Ended(b"", 2, run.files, MISTAKE)
     for name, limit in zip(run.names, limits(run.command, len(run.names))):
@@ -732,6 +877,9 @@ def answer(run, ended):
     inputs = [run.files[name] for name in run.names]
     lines, made = digest_lines(run.command, inputs), None
     try:
+        if run.command == "prove":
+            told = claims_answered(run, ended, inputs)
+            return Ended(lines + b"".join(line + b"\n" for line in told), int(not all(map(is_yes, told))), run.files)
         if run.command == "make-table":
             told, made = made_table(run)
         elif run.command == "solve":

@@ -35,6 +35,7 @@ from plain_answers import (
     PARITY_LEAF,
     STANDARD_INPUT,
     TEXT_LIMIT,
+    USUAL_BUDGET,
     Ended,
     Run,
     answer,
@@ -293,15 +294,15 @@ def named(tables):
     return {f"table_{number}": file for number, file in enumerate(tables)}
 
 
-def claimed(draw, number):
+def log_checked(draw, number):
     """A run of `bound` or `optimal`, most of whose inputs are good, so that all of them are reached."""
-    claim = good_inputs.claim(draw)
-    sets, tables = claim.sets, claim.tables
-    command = "bound" if claim.letters is None else draw.choice(["bound", "bound", "optimal"])
+    good = good_inputs.log_check(draw)
+    sets, tables = good.sets, good.tables
+    command = "bound" if good.letters is None else draw.choice(["bound", "bound", "optimal"])
     if command == "bound":
-        text = good_inputs.board_text(draw, claim.board)
+        text = good_inputs.board_text(draw, good.board)
     else:
-        text = good_inputs.puzzle_text(draw, claim.board, claim.letters)
+        text = good_inputs.puzzle_text(draw, good.board, good.letters)
     which = draw.choice(["nothing", "text", "sets", "log", "log", "log", "log", "table"])
     if which == "text" or draw.random() < 0.05:
         text = long_text(draw, changed(draw, text, CHANGES if command == "bound" else PUZZLE_CHANGES))
@@ -309,15 +310,15 @@ def claimed(draw, number):
         sets = long_text(draw, changed_set_text(draw, sets))
     if which == "table":
         tables = changed_tables(draw, tables)
-    log = good_inputs.log_of(claim.version, claim.lemmas)
+    log = good_inputs.log_of(good.version, good.lemmas)
     if which == "log" or draw.random() < 0.05:
-        log = changed_log(draw, claim.version, claim.lemmas)
+        log = changed_log(draw, good.version, good.lemmas)
     if draw.random() < 0.02:
         tables += [draw.choice(tables)] * 16
     if draw.random() < 0.01:
         tables += [draw.choice(LARGE_CHANGES)(draw, large_table(number))]
     files = {"text": text, "sets": sets, "log": log, **named(tables)}
-    fold = claim.fold if draw.random() < 0.9 else not claim.fold
+    fold = good.fold if draw.random() < 0.9 else not good.fold
     return Run(command, ("text", "sets", "log", *named(tables)), files, workers=workers(draw), fold=fold)
 
 
@@ -355,10 +356,44 @@ def solved(draw, number):
         budget = draw.choice([0, 10**12 + 1])
     out, files = kept_under(draw, {"text": text, "sets": sets, **named(tables)})
     names, fold = ("text", "sets", *named(tables)), draw.random() < 0.3
+    budget = None if budget == USUAL_BUDGET else budget
     return Run("solve", names, files, out, budget=budget, workers=workers(draw), fold=fold)
 
 
-KINDS = [replayed] * 20 + [checked] * 35 + [checked_large] * 3 + [claimed] * 30 + [made] * 5 + [solved] * 7
+def changed_claims(draw, text):
+    """The text with other numbers, letters or bytes, or with its lines in another order."""
+    how = draw.random()
+    if how < 0.2:
+        return re.sub(rb"(: *)[0-9]+", lambda found: found[1] + draw.choice([b"0", b"2", b"02", b"255", b"256", b"-1"]), text)
+    if how < 0.4:
+        return b"\n".join(draw.sample(lines := text.split(b"\n"), len(lines)))
+    return changed(draw, text, PUZZLE_CHANGES)
+
+
+def proved(draw, number):
+    """A run of `prove`, most of whose inputs are good."""
+    text, budget, sets, tables = good_inputs.claims(draw)
+    which = draw.choice(["nothing"] * 4 + ["text"] * 3 + ["sets", "table"])
+    if which == "text":
+        # Its boards may be far from the goal board.
+        text, budget = changed_claims(draw, text), min(budget or 20_000, 20_000)
+    if which == "sets":
+        sets = long_text(draw, changed_set_text(draw, sets))
+    if which == "table":
+        tables = changed_tables(draw, tables)
+    if draw.random() < 0.02:
+        tables += [draw.choice(tables)] * 16
+    if draw.random() < 0.02:
+        tables = [large_table(number)]
+    if draw.random() < 0.02:
+        budget = draw.choice([0, 10**12 + 1])
+    name = draw.choice([STANDARD_INPUT, "claims", "claims"])
+    files = {name: text, "sets": sets, **named(tables)}
+    return Run("prove", (name, "sets", *named(tables)), files, budget=budget, workers=workers(draw), fold=draw.random() < 0.3)
+
+
+KINDS = [replayed] * 20 + [checked] * 35 + [checked_large] * 3 + [log_checked] * 30 + [made] * 5 + [solved] * 7
+KINDS += [proved] * 15
 
 
 def drawn(seed, number):
