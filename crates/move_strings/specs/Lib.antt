@@ -1,0 +1,8 @@
+-- What public contracts say.
+pub mod Automata
+pub mod Laws
+pub mod Least
+pub mod Strings
+-- What proofs alone need.
+pub mod Checks
+pub mod Drafts
