@@ -1,22 +1,22 @@
 -- Moves that an automaton refuses end, at the step that is left out, with a forbidden string.
-use Rattle.std.proofs.Common.{◌≡◌, ℕ, zero, suc, ◌+◌, ◌*◌, ◌/◌, ◌%◌, ◌<◌, true, eqb, List, [], ◌∷◌, ◌++◌, length, get_or, inl, inr, refl, sym, ◌∙◌, ap, subst, arith, append_assoc, ne_eqb}
-use Rattle.std.specs.Prelude.{All}
+use Rattle.std.proofs.Common.{◌≡◌, ℕ, zero, suc, ◌+◌, ◌*◌, ◌/◌, ◌%◌, ◌<◌, true, eqb, List, [], ◌∷◌, ◌++◌, length, get_or, map, inl, inr, refl, sym, ◌∙◌, ap, ap₂, subst, arith, append_assoc, ne_eqb}
+use Rattle.std.specs.Prelude.{◌↔◌, All, Bool, IsTrue}
 use Rattle.std.specs.declared.vec.Vec.{Vec}
 use Rattle.std.proofs.lemmas.Bool.{cond-false}
+use Rattle.std.proofs.lemmas.List.{get_or-map, length-map}
 use Rattle.puz_board.specs.declared.moves.Move.{Move}
 use Rattle.puz_board.specs.declared.moves.Move.TheVariants.{Up, Down, Left, Right}
+use Rattle.move_strings.proofs.OrderLemmas.{rank_of-few}
 use Rattle.move_strings.specs.Automata.{IsAutomaton, IsState, left_out, next_at, refuses}
-use Rattle.move_strings.specs.Drafts.{AreSteps, EndsWith, IsRight, label_of, move_of_rank, string_of}
+use Rattle.move_strings.specs.Drafts.{EndsWith, IsRightDraft, IsRightStep, automaton_of, label_of, move_of_rank, moves_at, number_of, string_of}
 use Rattle.move_strings.specs.Strings.{HasForbidden, IsForbidden, rank_of}
+use Rattle.move_strings.specs.Tables.{IsRight}
+use Rattle.move_strings.specs.declared.drafts.Draft.{Draft}
+use Rattle.move_strings.specs.declared.drafts.Step.{Step}
+use Rattle.move_strings.specs.declared.drafts.Step.TheVariants.{To, LeftOut}
 use Rattle.move_strings.specs.declared.forbidden_strings.Forbidden.{Forbidden}
 
 -- ---- places of the table
-
-rank_of-few : (m : Move) → rank_of m < 4
-rank_of-few Up = omega arith
-rank_of-few Down = omega arith
-rank_of-few Left = omega arith
-rank_of-few Right = omega arith
 
 move_of_rank-rank_of : (m : Move) → move_of_rank (rank_of m) ≡ m
 move_of_rank-rank_of Up = refl
@@ -92,28 +92,48 @@ is_state steps states s long inside m = let few = rank_of-few m in omega arith
 state_is : (steps : List ℕ) (states s : ℕ) → length steps ≡ 4 * states → IsState steps s → s < states
 state_is steps states s long is = let last : 4 * s + 0 < length steps = is Up in omega arith
 
-pub automaton_of : {Z : Type 0} → (n : ℕ) (labels : List (Vec Move Z)) (forbidden : List Forbidden) (steps : List ℕ)
-    → 0 < length labels → length labels < left_out → label_of labels 0 ≡ [] → All (λ entry. IsForbidden n entry.string.items) forbidden → AreSteps labels forbidden steps
-    → IsAutomaton (record { side = n; steps = steps })
-automaton_of n labels forbidden steps some few first each are = record {
-  first = is_state steps (length labels) 0 are.0 some;
-  next = λ s m is on. elim (right s m (state_is steps (length labels) s are.0 is)) [
-    | inl leads ↦ is_state steps (length labels) (next_at steps s m) are.0 leads.0
+number_right : {Z : Type 0} → (labels : List (Vec Move Z)) (forbidden : List Forbidden) (moves : List Move) (step : Step) → IsRightStep labels forbidden moves step
+    → IsRight (label_of labels) (length labels) (string_of forbidden) (length forbidden) moves (number_of step)
+number_right labels forbidden moves (To state) right = inl (right.0, right.1)
+number_right labels forbidden moves (LeftOut number) right = inr (refl, number, right.0, right.1)
+
+moves_at-place : {Z : Type 0} → (labels : List (Vec Move Z)) (s : ℕ) (m : Move) → moves_at labels (4 * s + rank_of m) ≡ label_of labels s ++ m ∷ []
+moves_at-place labels s m =
+    ap₂ (λ k r. label_of labels k ++ move_of_rank r ∷ []) (state_of_place s m) (rank_of_place s m) ∙
+    ap (λ k. label_of labels s ++ k ∷ []) (move_of_rank-rank_of m)
+
+-- the automaton of a draft that is right
+pub IsAutomaton-right : (n : ℕ) (draft : Draft) → IsRightDraft n draft → IsAutomaton (automaton_of n draft)
+IsAutomaton-right n draft is = record {
+  first = is_state steps states 0 long is.some;
+  next = λ s m leads on. elim (right s m (state_is steps states s long leads)) [
+    | inl to ↦ is_state steps states (next_at steps s m) long to.0
     | inr out ↦ absurd (on out.0)
   ];
   refused = λ moves refused.
-      refused_from n (label_of labels) (length labels) (string_of forbidden) (length forbidden) steps few
-      (λ number low. first_entry (IsForbidden n) forbidden each number low) right moves 0 [] some ([], sym first) refused;
+      refused_from n (label_of draft.labels.items) states (string_of draft.forbidden.items) (length draft.forbidden.items) steps is.few
+      (λ number low. first_entry (IsForbidden n) draft.forbidden.items (λ k d inside. record { witness = (get_or draft.forbidden.items k d).witness.items; is = is.witnesses k d inside }) number low)
+      right moves 0 [] is.some ([], sym is.first) refused;
 }
   where
-    right : (s : ℕ) (m : Move) → s < length labels → IsRight (label_of labels) (length labels) (string_of forbidden) (length forbidden) (label_of labels s ++ m ∷ []) (next_at steps s m)
+    states : ℕ
+    states = length draft.labels.items
+
+    steps : List ℕ
+    steps = map number_of draft.steps.items
+
+    long : length (map number_of draft.steps.items) ≡ 4 * length draft.labels.items
+    long = length-map draft.steps.items number_of ∙ is.four
+
+    right : (s : ℕ) (m : Move) → s < states → IsRight (label_of draft.labels.items) states (string_of draft.forbidden.items) (length draft.forbidden.items) (label_of draft.labels.items s ++ m ∷ []) (next_at steps s m)
     right s m inside =
         let few_ranks = rank_of-few m in
-        let long : length steps ≡ 4 * length labels = are.0 in
-        subst (λ k. IsRight (label_of labels) (length labels) (string_of forbidden) (length forbidden) (label_of labels s ++ k ∷ []) (next_at steps s m)) (move_of_rank-rank_of m)
-        (subst (λ k. IsRight (label_of labels) (length labels) (string_of forbidden) (length forbidden) (label_of labels s ++ move_of_rank k ∷ []) (next_at steps s m)) (rank_of_place s m)
-        (subst (λ k. IsRight (label_of labels) (length labels) (string_of forbidden) (length forbidden) (label_of labels k ++ move_of_rank ((4 * s + rank_of m) % 4) ∷ []) (next_at steps s m)) (state_of_place s m)
-        (are.1 (4 * s + rank_of m) (omega arith))))
+        let four = is.four in
+        let there : 4 * s + rank_of m < length draft.steps.items = omega arith in
+        subst (λ k. IsRight (label_of draft.labels.items) states (string_of draft.forbidden.items) (length draft.forbidden.items) k (next_at steps s m)) (moves_at-place draft.labels.items s m)
+        (subst (IsRight (label_of draft.labels.items) states (string_of draft.forbidden.items) (length draft.forbidden.items) (moves_at draft.labels.items (4 * s + rank_of m)))
+        (sym (get_or-map number_of draft.steps.items (4 * s + rank_of m) (To 0) 0 there))
+        (number_right draft.labels.items draft.forbidden.items (moves_at draft.labels.items (4 * s + rank_of m)) (get_or draft.steps.items (4 * s + rank_of m) (To 0)) (is.steps (4 * s + rank_of m) (To 0) there)))
 
 -- ---- what is read of a draft
 
@@ -123,9 +143,22 @@ label_of-read labels k label inside is = ap (λ v. v.items) is ∙ sym (label_of
 pub string_of-read : (forbidden : List Forbidden) (k : ℕ) (d : Forbidden) → k < length forbidden → (get_or forbidden k d).string.items ≡ string_of forbidden k
 string_of-read forbidden k d inside = sym (string_of-get forbidden k d inside)
 
-pub ends_as : (label other : List Move) (m k : Move) (string shown : List Move) → label ≡ other → m ≡ k → string ≡ shown → EndsWith (label ++ m ∷ []) string → EndsWith (other ++ k ∷ []) shown
-ends_as label other m k string shown e f g ends =
-    subst (λ ls. EndsWith (ls ++ k ∷ []) shown) e (subst (λ x. EndsWith (label ++ x ∷ []) shown) f (subst (EndsWith (label ++ m ∷ [])) g ends))
+-- a test of ends, told of what the moves and the string are
+pub ends_as : (label other : List Move) (m k : Move) (string shown : List Move) → label ≡ other → m ≡ k → string ≡ shown
+    → (t : Bool) → IsTrue t ↔ EndsWith (label ++ m ∷ []) string → IsTrue t ↔ EndsWith (other ++ k ∷ []) shown
+ends_as label other m k string shown e f g t ends =
+    subst (λ ls. IsTrue t ↔ EndsWith (ls ++ k ∷ []) shown) e
+    (subst (λ x. IsTrue t ↔ EndsWith (label ++ x ∷ []) shown) f (subst (λ s. IsTrue t ↔ EndsWith (label ++ m ∷ []) s) g ends))
+
+pub right_to : {Z : Type 0} → (labels : List (Vec Move Z)) (forbidden : List Forbidden) (place state : ℕ) (step : Step) → step ≡ To state → state < length labels
+    → {t : Bool} → IsTrue t ↔ EndsWith (moves_at labels place) (label_of labels state) → IsTrue t ↔ IsRightStep labels forbidden (moves_at labels place) step
+right_to labels forbidden place state step is inside {t} ends =
+    subst (λ s. IsTrue t ↔ IsRightStep labels forbidden (moves_at labels place) s) (sym is) (λ holds. (inside, ends.0 holds), λ right. ends.1 right.1)
+
+pub right_left_out : {Z : Type 0} → (labels : List (Vec Move Z)) (forbidden : List Forbidden) (place number : ℕ) (step : Step) → step ≡ LeftOut number → number < length forbidden
+    → {t : Bool} → IsTrue t ↔ EndsWith (moves_at labels place) (string_of forbidden number) → IsTrue t ↔ IsRightStep labels forbidden (moves_at labels place) step
+right_left_out labels forbidden place number step is inside {t} ends =
+    subst (λ s. IsTrue t ↔ IsRightStep labels forbidden (moves_at labels place) s) (sym is) (λ holds. (inside, ends.0 holds), λ right. ends.1 right.1)
 
 pub ends_with_none : (moves string : List Move) → length string ≡ 0 → EndsWith moves string
 ends_with_none moves [] none = (moves, sym (append_none moves))

@@ -9,7 +9,7 @@ pub spelled : ℕ → List Move → ℕ
 spelled a [] = a
 spelled a (m ∷ ms) = spelled (4 * a + rank_of m + 1) ms
 
-rank_of-few : (m : Move) → rank_of m < 4
+pub rank_of-few : (m : Move) → rank_of m < 4
 rank_of-few Up = omega arith
 rank_of-few Down = omega arith
 rank_of-few Left = omega arith

@@ -21,14 +21,14 @@ nat_same a b = (a ≡ b) ⊎ (a ≡ b → ⊥)
 nat_or : (a b : ℕ) → nat_same a b
 nat_or a b = cases_eq a b
 
-same_or : (l m : Move) → (l ≡ m) ⊎ (l ≡ m → ⊥)
+pub same_or : (l m : Move) → (l ≡ m) ⊎ (l ≡ m → ⊥)
 same_or l m = elim (nat_or (rank_of l) (rank_of m)) [ inl e ↦ inl (same_rank l m e) | inr ne ↦ inr (λ e. ne (ap rank_of e)) ]
 
-abbrev first_of_moves : List Move → Move
+abbrev pub first_of_moves : List Move → Move
 first_of_moves [] = Up
 first_of_moves (m ∷ ms) = m
 
-abbrev rest_of_moves : List Move → List Move
+abbrev pub rest_of_moves : List Move → List Move
 rest_of_moves [] = []
 rest_of_moves (m ∷ ms) = ms
 

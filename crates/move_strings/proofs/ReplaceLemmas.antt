@@ -74,13 +74,13 @@ replaced n b good moves end leads has =
     let witness = has.forbidden.witness in
     let first = between b front (string ++ rest) end (subst (λ ms. board_after b ms ≡ Some end) has.has.whole leads) in
     let second = between first.middle string rest end first.on in
-    let same = has.forbidden.same first.middle second.middle (IsBoardOf-after n b good front first.middle first.leads) second.leads in
+    let same = has.forbidden.is.same first.middle second.middle (IsBoardOf-after n b good front first.middle first.leads) second.leads in
     record {
       others = front ++ (witness ++ rest);
       leads = joined b front (witness ++ rest) first.middle end first.leads (joined first.middle witness rest second.middle end same second.on);
-      few = subst (λ ms. length (front ++ (witness ++ rest)) ≤ length ms) (sym has.has.whole) (length-replaced front witness string rest has.forbidden.before);
-      less = subst (λ ms. spelled 0 (front ++ (witness ++ rest)) < spelled 0 ms) (sym has.has.whole) (spelled-replaced front witness string rest has.forbidden.before);
-      before = subst (ComesBefore (front ++ (witness ++ rest))) (sym has.has.whole) (ComesBefore-around front witness string rest has.forbidden.before);
+      few = subst (λ ms. length (front ++ (witness ++ rest)) ≤ length ms) (sym has.has.whole) (length-replaced front witness string rest has.forbidden.is.before);
+      less = subst (λ ms. spelled 0 (front ++ (witness ++ rest)) < spelled 0 ms) (sym has.has.whole) (spelled-replaced front witness string rest has.forbidden.is.before);
+      before = subst (ComesBefore (front ++ (witness ++ rest))) (sym has.has.whole) (ComesBefore-around front witness string rest has.forbidden.is.before);
     }
 
 -- ---- the least moves that lead to a board

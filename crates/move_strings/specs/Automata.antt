@@ -32,3 +32,13 @@ pub record IsAutomaton (a : ShownAutomaton) : Type 0 where
   pub first : IsState a.steps 0
   pub next : (state : ℕ) (move : Move) → IsState a.steps state → next_at a.steps state move ≢ left_out → IsState a.steps (next_at a.steps state move)
   pub refused : (moves : List Move) → refuses a.steps 0 moves ≡ true → HasForbidden a.side moves
+
+-- the table of the automaton of reversals: no move has arrived at the first state, and then come those at which U, D, L and R
+-- have. A move leads to its own state, and the step of the move that takes the arriving one back is left out
+abbrev pub reversal_steps : List ℕ
+reversal_steps =
+    1 ∷ 2 ∷ 3 ∷ 4 ∷
+    1 ∷ left_out ∷ 3 ∷ 4 ∷
+    left_out ∷ 2 ∷ 3 ∷ 4 ∷
+    1 ∷ 2 ∷ 3 ∷ left_out ∷
+    1 ∷ 2 ∷ left_out ∷ 4 ∷ []

@@ -1,9 +1,13 @@
--- What the parts of a check of an automaton say.
-use Rattle.std.specs.Prelude.{◌≡◌, ℕ, zero, suc, ◌*◌, ◌/◌, ◌%◌, ◌<◌, ◌⊎◌, ◌==◌, if◌then◌else◌, List, [], ◌∷◌, ◌++◌, length, slice_index}
+-- Drafts of automata, and which of them are right.
+use Rattle.std.specs.Prelude.{◌≡◌, ℕ, zero, suc, ◌*◌, ◌/◌, ◌%◌, ◌<◌, ◌==◌, if◌then◌else◌, List, [], ◌∷◌, ◌++◌, length, get_or, map, All}
 use Rattle.std.specs.declared.vec.Vec.{Vec}
 use Rattle.puz_board.specs.declared.moves.Move.{Move}
 use Rattle.puz_board.specs.declared.moves.Move.TheVariants.{Up, Down, Left, Right}
-use Rattle.move_strings.specs.Automata.{left_out}
+use Rattle.move_strings.specs.Automata.{ShownAutomaton, left_out}
+use Rattle.move_strings.specs.Strings.{IsWitness}
+use Rattle.move_strings.specs.declared.drafts.Draft.{Draft}
+use Rattle.move_strings.specs.declared.drafts.Step.{Step}
+use Rattle.move_strings.specs.declared.drafts.Step.TheVariants.{To, LeftOut}
 use Rattle.move_strings.specs.declared.forbidden_strings.Forbidden.{Forbidden}
 
 -- the label of a state
@@ -29,19 +33,36 @@ move_of_rank rank =
 abbrev pub EndsWith : List Move → List Move → Type 0
 EndsWith moves string = (front : List Move) × (moves ≡ front ++ string)
 
--- after some moves: the next one is a state with whose label they end; or the step is left out, and they end with a string that
--- is said to be forbidden
-abbrev pub IsRight : (ℕ → List Move) → ℕ → (ℕ → List Move) → ℕ → List Move → ℕ → Type 0
-IsRight label states string strings moves next =
-    ((next < states) × EndsWith moves (label next)) ⊎
-    ((next ≡ left_out) × (number : ℕ) × (number < strings) × EndsWith moves (string number))
+-- a step after some moves is right: it leads to a state with whose label they end; or it is left out, and they end with a string
+-- that is said to be forbidden
+abbrev pub IsRightStep : {Z : Type 0} → List (Vec Move Z) → List Forbidden → List Move → Step → Type 0
+IsRightStep labels forbidden moves (To state) = (state < length labels) × EndsWith moves (label_of labels state)
+IsRightStep labels forbidden moves (LeftOut number) = (number < length forbidden) × EndsWith moves (string_of forbidden number)
 
--- what stands in a table at this place is right
-abbrev pub IsStepAt : {Z : Type 0} → List (Vec Move Z) → List Forbidden → ℕ → ℕ → Type 0
-IsStepAt labels forbidden place next =
-    IsRight (label_of labels) (length labels) (string_of forbidden) (length forbidden) (label_of labels (place / 4) ++ move_of_rank (place % 4) ∷ []) next
+-- the moves before which a step at this place is tried: the label of its state, and then its own move
+abbrev pub moves_at : {Z : Type 0} → List (Vec Move Z) → ℕ → List Move
+moves_at labels place = label_of labels (place / 4) ++ move_of_rank (place % 4) ∷ []
 
--- the table has four steps for each state, and each is right
-abbrev pub AreSteps : {Z : Type 0} → List (Vec Move Z) → List Forbidden → List ℕ → Type 0
-AreSteps labels forbidden steps =
-    (length steps ≡ 4 * length labels) × ((place : ℕ) → place < length steps → IsStepAt labels forbidden place (slice_index steps place))
+-- each step is right
+abbrev pub AreRightSteps : {Z : Type 0} → List (Vec Move Z) → List Forbidden → List Step → Type 0
+AreRightSteps labels forbidden steps =
+    (place : ℕ) (none : Step) → place < length steps → IsRightStep labels forbidden (moves_at labels place) (get_or steps place none)
+
+-- each string has the witness that is given with it, on boards of side n; no moves stand for the first state; and of each state
+-- there are four steps, each of which is right
+pub record IsRightDraft (n : ℕ) (draft : Draft) : Type 0 where
+  pub some : 0 < length draft.labels.items
+  pub few : length draft.labels.items < left_out
+  pub first : label_of draft.labels.items 0 ≡ []
+  pub witnesses : All (λ entry. IsWitness n entry.string.items entry.witness.items) draft.forbidden.items
+  pub four : length draft.steps.items ≡ 4 * length draft.labels.items
+  pub steps : AreRightSteps draft.labels.items draft.forbidden.items draft.steps.items
+
+-- what stands for a step in the table of an automaton
+abbrev pub number_of : Step → ℕ
+number_of (To state) = state
+number_of (LeftOut number) = left_out
+
+-- the automaton of a draft
+abbrev pub automaton_of : ℕ → Draft → ShownAutomaton
+automaton_of n draft = record { side = n; steps = map number_of draft.steps.items }

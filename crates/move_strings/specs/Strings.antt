@@ -1,6 +1,7 @@
 -- Strings of moves, and which of them no search need try (Taylor and Korf 1993).
 use Rattle.std.specs.Prelude.{◌≡◌, ℕ, ◌<◌, ◌⊎◌, List, [], ◌∷◌, ◌++◌, length, Some}
 use Rattle.puz_board.specs.Boards.{IsBoardOf}
+use Rattle.puz_board.specs.Cells.{reverse_of}
 use Rattle.puz_board.specs.Paths.{board_after}
 use Rattle.puz_board.specs.declared.moves.Move.{Move}
 use Rattle.puz_board.specs.declared.moves.Move.TheVariants.{Up, Down, Left, Right}
@@ -33,11 +34,15 @@ ComesBefore first second = (length first < length second) ⊎ IsEarlier first se
 
 -- ---- forbidden strings
 
--- some string that comes before this one has the same effect wherever this one can be made
-pub record IsForbidden (n : ℕ) (string : List Move) : Type 0 where
-  pub witness : List Move
+-- the witness comes before the string, and has the same effect wherever the string can be made
+pub record IsWitness (n : ℕ) (string witness : List Move) : Type 0 where
   pub before : ComesBefore witness string
   pub same : HasSameEffect n string witness
+
+-- the string has a witness
+pub record IsForbidden (n : ℕ) (string : List Move) : Type 0 where
+  pub witness : List Move
+  pub is : IsWitness n string witness
 
 -- the moves have the string in them, from one move to the next
 pub record HasString (moves string : List Move) : Type 0 where
@@ -50,3 +55,7 @@ pub record HasForbidden (n : ℕ) (moves : List Move) : Type 0 where
   pub string : List Move
   pub forbidden : IsForbidden n string
   pub has : HasString moves string
+
+-- somewhere the moves take one of them straight back
+abbrev pub HasReversal : List Move → Type 0
+HasReversal moves = (move : Move) × HasString moves (move ∷ reverse_of move ∷ [])

@@ -1,10 +1,12 @@
 //! Automata that read moves one by one, and refuse some.
 
-ghost use Rattle.std.specs.Prelude.{◌≡◌, ◌≢◌, ℕ, IfOk, IfSome, MatchOption};
-ghost use Rattle.move_strings.specs.Automata.{IsAutomaton, IsState, left_out, next_at};
+ghost use Rattle.std.specs.Prelude.{◌≡◌, ◌≢◌, ◌↔◌, ℕ, IfOk, IfSome, List, MatchOption, SomeIff, true};
+ghost use Rattle.puz_board.specs.declared.moves.Move.{Move};
+ghost use Rattle.move_strings.specs.Automata.{IsAutomaton, IsState, left_out, next_at, refuses, reversal_steps};
+ghost use Rattle.move_strings.specs.Drafts.{IsRightDraft, automaton_of};
+ghost use Rattle.move_strings.specs.Strings.{HasReversal};
 
-use crate::drafts::{Draft, LEFT_OUT, table_of};
-use crate::forbidden_strings::are_forbidden;
+use crate::drafts::{Draft, LEFT_OUT, is_right, table_of};
 use crate::order::rank_of_move;
 use puz_board::{Move, Side};
 use std::alloc::{AllocError, Global};
@@ -30,28 +32,33 @@ impl Model for Automaton {
 }
 
 impl Automaton {
-    /// The automaton of a draft for boards of a side, where each entry holds, and each step is right: it leads to a state with
-    /// whose label the state's label and the move end, or it is left out, and they end with a forbidden string.
+    /// The automaton of a draft for boards of a side, where the draft is right: each string has the witness that is given with it,
+    /// and each step leads to a state with whose label the state's label and the move end, or is left out, where they end with a
+    /// forbidden string.
     pub fn check(alloc: Global, side: Side, draft: &Draft) -> Result<Option<Automaton>, AllocError>
-        ensures { IfOk result (λ checked. IfSome checked (λ automaton. automaton.side ≡ side)) }
+        ensures { IfOk result (λ checked.
+            SomeIff checked (IsRightDraft side draft.now) (automaton_of side draft.now)) }
     {
-        let labels = draft.labels.as_slice();
-        let forbidden = draft.forbidden.as_slice();
-        let steps = draft.steps.as_slice();
-        if labels.len() == 0 || labels.len() >= LEFT_OUT as usize {
+        if !is_right(side, draft) {
             return Ok(None);
         }
-        let first = labels[0].as_slice().len();
-        if first != 0 || steps.len() != 4 * labels.len() {
-            return Ok(None);
-        }
-        if !are_forbidden(side, forbidden) {
-            return Ok(None);
-        }
-        match table_of(alloc, labels, forbidden, steps)? {
-            Some(steps) => Ok(Some(Automaton { side, steps })),
-            None => Ok(None),
-        }
+        let steps = table_of(alloc, draft.steps.as_slice())?;
+        Ok(Some(Automaton { side, steps }))
+    }
+
+    /// The automaton of reversals, with a state for each arriving move: it refuses the moves that somewhere take one of them
+    /// straight back.
+    pub fn of_reversals(alloc: Global, side: Side) -> Result<Automaton, AllocError>
+        ensures value { IfOk result (λ automaton.
+            automaton ≡ record { side = side; steps = reversal_steps }) }
+        ensures refused { IfOk result (λ automaton. (moves : List Move)
+            → (refuses automaton.steps 0 moves ≡ true) ↔ HasReversal moves) }
+    {
+        // Four steps for each state: the first, and those after U, D, L and R.
+        let steps = vec![in alloc;
+            1, 2, 3, 4, 1, LEFT_OUT, 3, 4, LEFT_OUT, 2, 3, 4, 1, 2, 3, LEFT_OUT, 1, 2, LEFT_OUT, 4,
+        ]?;
+        Ok(Automaton { side, steps })
     }
 
     /// The side of the boards, on which moves that it refuses have a forbidden string in them.

@@ -1,11 +1,11 @@
 //! Drafts of automata, which nobody need trust.
 
-ghost use Rattle.std.specs.Prelude.{◌≡◌, ◌*◌, ◌/◌, ◌%◌, ◌<◌, ◌++◌, ◌∷◌, [], IfOk, IfSome, IsTrue, length};
-ghost use Rattle.move_strings.specs.Drafts.{AreSteps, EndsWith, IsStepAt, move_of_rank};
+ghost use Rattle.std.specs.Prelude.{◌≡◌, ◌*◌, ◌/◌, ◌%◌, ◌<◌, ◌↔◌, ◌++◌, ◌∷◌, [], IfOk, IsTrue, length, map};
+ghost use Rattle.move_strings.specs.Drafts.{AreRightSteps, EndsWith, IsRightDraft, IsRightStep, move_of_rank, moves_at, number_of};
 
-use crate::forbidden_strings::Forbidden;
+use crate::forbidden_strings::{Forbidden, are_forbidden};
 use crate::order::rank_of_move;
-use puz_board::Move;
+use puz_board::{Move, Side};
 use std::alloc::{AllocError, Global};
 
 /// The step of a move from a state, as a draft has it.
@@ -31,52 +31,68 @@ pub struct Draft {
 /// What stands in the place of a step that is left out.
 pub(crate) const LEFT_OUT: u32 = 4294967295;
 
-/// The table of a draft's steps, where each is right.
-pub(crate) fn table_of(
-    alloc: Global,
-    labels: &[Vec<Move>],
-    forbidden: &[Forbidden],
-    steps: &[Step],
-) -> Result<Option<Vec<u32>>, AllocError>
-    requires { length steps.now ≡ 4 * length labels.now }
-    ensures { IfOk result (λ table. IfSome table (λ is.
-        AreSteps labels.now forbidden.now is.items)) }
+/// Whether a draft is right for boards of a side.
+pub(crate) fn is_right(side: Side, draft: &Draft) -> bool
+    ensures { IsTrue result ↔ IsRightDraft side draft.now }
 {
-    let mut table = Vec::with_capacity(alloc, steps.len())?;
-    for (place, step) in steps.iter().enumerate() {
-        match next_of(labels, forbidden, place, *step) {
-            Some(next) => table.push(next)?,
-            None => return Ok(None),
-        }
+    let labels = draft.labels.as_slice();
+    let forbidden = draft.forbidden.as_slice();
+    let steps = draft.steps.as_slice();
+    if labels.len() == 0 || labels.len() >= LEFT_OUT as usize {
+        return false;
     }
-    Ok(Some(table))
+    let first = labels[0].as_slice().len();
+    if first != 0 || steps.len() != 4 * labels.len() {
+        return false;
+    }
+    are_forbidden(side, forbidden) && are_right_steps(labels, forbidden, steps)
 }
 
-/// What stands at a place of the table, where the step is right.
-fn next_of(labels: &[Vec<Move>], forbidden: &[Forbidden], place: usize, step: Step) -> Option<u32>
+/// Whether each step is right.
+fn are_right_steps(labels: &[Vec<Move>], forbidden: &[Forbidden], steps: &[Step]) -> bool
+    requires { length steps.now ≡ 4 * length labels.now }
+    ensures { IsTrue result ↔ AreRightSteps labels.now forbidden.now steps.now }
+{
+    for (place, step) in steps.iter().enumerate() {
+        if !is_right_step(labels, forbidden, place, *step) {
+            return false;
+        }
+    }
+    true
+}
+
+/// Whether the step at a place is right.
+fn is_right_step(labels: &[Vec<Move>], forbidden: &[Forbidden], place: usize, step: Step) -> bool
     requires { place / 4 < length labels.now }
-    ensures { IfSome result (IsStepAt labels.now forbidden.now place) }
+    ensures { IsTrue result
+        ↔ IsRightStep labels.now forbidden.now (moves_at labels.now place) step }
 {
     let label = labels[place / 4].as_slice();
     let mv = move_at(place);
     match step {
-        Step::To(next) => {
-            let state = next as usize;
-            if state < labels.len() && ends_so(label, mv, labels[state].as_slice()) {
-                Some(next)
-            } else {
-                None
-            }
+        Step::To(state) => {
+            let state = state as usize;
+            state < labels.len() && ends_so(label, mv, labels[state].as_slice())
         }
         Step::LeftOut(number) => {
             let number = number as usize;
-            if number < forbidden.len() && ends_so(label, mv, forbidden[number].string.as_slice()) {
-                Some(LEFT_OUT)
-            } else {
-                None
-            }
+            number < forbidden.len() && ends_so(label, mv, forbidden[number].string.as_slice())
         }
     }
+}
+
+/// The table of steps.
+pub(crate) fn table_of(alloc: Global, steps: &[Step]) -> Result<Vec<u32>, AllocError>
+    ensures { IfOk result (λ table. table.items ≡ map number_of steps.now) }
+{
+    let mut table = Vec::with_capacity(alloc, steps.len())?;
+    for step in steps {
+        table.push(match *step {
+            Step::To(state) => state,
+            Step::LeftOut(_) => LEFT_OUT,
+        })?;
+    }
+    Ok(table)
 }
 
 /// The move of a place in the table.
@@ -93,7 +109,7 @@ fn move_at(place: usize) -> Move
 
 /// Whether a label and one more move end with a string.
 fn ends_so(label: &[Move], mv: Move, string: &[Move]) -> bool
-    ensures { IsTrue result → EndsWith (label.now ++ mv ∷ []) string.now }
+    ensures { IsTrue result ↔ EndsWith (label.now ++ mv ∷ []) string.now }
 {
     match string.split_last() {
         Some((last, front)) => rank_of_move(*last) == rank_of_move(mv) && ends_with(label, front),
@@ -103,7 +119,7 @@ fn ends_so(label: &[Move], mv: Move, string: &[Move]) -> bool
 
 /// Whether moves end with a string.
 fn ends_with(moves: &[Move], string: &[Move]) -> bool
-    ensures { IsTrue result → EndsWith moves.now string.now }
+    ensures { IsTrue result ↔ EndsWith moves.now string.now }
 {
     if moves.len() < string.len() {
         return false;

@@ -1,8 +1,9 @@
 //! The effects of strings.
 
-ghost use Rattle.std.specs.Prelude.{◌≡◌, IsTrue};
+ghost use Rattle.std.specs.Prelude.{◌≡◌, ◌*◌, ◌<◌, ◌↔◌, IfSome, IsSome, IsTrue};
+ghost use Rattle.puz_board.specs.Boards.{IsBoardOf, blank};
 ghost use Rattle.puz_board.specs.Paths.{board_after};
-ghost use Rattle.move_strings.specs.Checks.{IsSameOn};
+ghost use Rattle.move_strings.specs.Checks.{IsSameOn, exchanged};
 
 use puz_board::{Board, Move, Side};
 
@@ -19,7 +20,7 @@ fn after(board: &Board, moves: &[Move]) -> Option<Board>
 
 /// Whether the witness can be made on a board, where the string can, and leaves the same board.
 pub(crate) fn is_same_on(board: &Board, string: &[Move], witness: &[Move]) -> bool
-    ensures { IsTrue result → IsSameOn board.now string.now witness.now }
+    ensures { IsTrue result ↔ IsSameOn board.now string.now witness.now }
 {
     match after(board, string) {
         Some(end) => after(board, witness) == Some(end),
@@ -27,15 +28,28 @@ pub(crate) fn is_same_on(board: &Board, string: &[Move], witness: &[Move]) -> bo
     }
 }
 
-/// A board of the side whose blank is in the cell.
-pub(crate) fn board_from(side: Side, cell: u8) -> Option<Board> {
+/// A board of the side whose blank is in the cell: the goal board with two numbers exchanged.
+pub(crate) fn board_from(side: Side, cell: u8) -> Option<Board>
+    requires { cell < side * side }
+    ensures some { IsSome result }
+    ensures board { IfSome result (λ board. IsBoardOf side board × (blank board ≡ cell)) }
+{
     let mut numbers = [0; 25];
-    for number in 0..side.cells() {
-        numbers[usize::from(number)] = number;
-    }
-    numbers[0] = cell;
-    if usize::from(cell) < numbers.len() {
-        numbers[usize::from(cell)] = 0;
+    for place in 0..side.cells() {
+        numbers[usize::from(place)] = number_in(place, cell);
     }
     Board::from_cells(&numbers[..usize::from(side.cells())])
+}
+
+/// The number in a place of the goal board, where the blank has been exchanged with the number in a cell.
+fn number_in(place: u8, cell: u8) -> u8
+    ensures { result ≡ exchanged cell place }
+{
+    if place == cell {
+        0
+    } else if place == 0 {
+        cell
+    } else {
+        place
+    }
 }

@@ -1,8 +1,8 @@
 //! Strings that are said to be forbidden.
 
-ghost use Rattle.std.specs.Prelude.{◌≡◌, ◌*◌, ◌<◌, ℕ, IsTrue, All};
+ghost use Rattle.std.specs.Prelude.{◌≡◌, ◌*◌, ◌<◌, ◌↔◌, ℕ, IsTrue, All};
 ghost use Rattle.move_strings.specs.Checks.{IsSameFrom, IsSameOn};
-ghost use Rattle.move_strings.specs.Strings.{ComesBefore, IsForbidden};
+ghost use Rattle.move_strings.specs.Strings.{ComesBefore, IsWitness};
 
 use crate::effects::{board_from, is_same_on};
 use crate::order::comes_before;
@@ -17,11 +17,12 @@ pub struct Forbidden {
     pub witness: Vec<Move>,
 }
 
-/// Whether each entry holds on boards of the side.
+/// Whether each string is forbidden on boards of the side, by the witness that is given with it.
 ///
 /// Both strings are played from each cell, on a board of distinct numbers.
 pub fn are_forbidden(side: Side, forbidden: &[Forbidden]) -> bool
-    ensures { IsTrue result → All (λ entry. IsForbidden side entry.string.items) forbidden.now }
+    ensures { IsTrue result
+        ↔ All (λ entry. IsWitness side entry.string.items entry.witness.items) forbidden.now }
 {
     are_before(forbidden) && are_same(side, forbidden)
 }
@@ -29,7 +30,7 @@ pub fn are_forbidden(side: Side, forbidden: &[Forbidden]) -> bool
 /// Whether each entry's witness comes before its string.
 fn are_before(forbidden: &[Forbidden]) -> bool
     ensures { IsTrue result
-        → All (λ entry. ComesBefore entry.witness.items entry.string.items) forbidden.now }
+        ↔ All (λ entry. ComesBefore entry.witness.items entry.string.items) forbidden.now }
 {
     for entry in forbidden {
         if !comes_before(entry.witness.as_slice(), entry.string.as_slice()) {
@@ -41,8 +42,8 @@ fn are_before(forbidden: &[Forbidden]) -> bool
 
 /// Whether each entry's strings have the same effect, from each cell.
 fn are_same(side: Side, forbidden: &[Forbidden]) -> bool
-    ensures { IsTrue result → (cell : ℕ) → cell < side * side
-        → All (λ entry. IsSameFrom side cell entry.string.items entry.witness.items) forbidden.now }
+    ensures { IsTrue result ↔ ((cell : ℕ) → cell < side * side
+        → All (λ entry. IsSameFrom side cell entry.string.items entry.witness.items) forbidden.now) }
 {
     for cell in 0..side.cells() {
         if !are_same_from(side, cell, forbidden) {
@@ -54,16 +55,12 @@ fn are_same(side: Side, forbidden: &[Forbidden]) -> bool
 
 /// Whether each entry's strings have the same effect, from one cell.
 fn are_same_from(side: Side, cell: u8, forbidden: &[Forbidden]) -> bool
+    requires { cell < side * side }
     ensures { IsTrue result
-        → All (λ entry. IsSameFrom side cell entry.string.items entry.witness.items) forbidden.now }
+        ↔ All (λ entry. IsSameFrom side cell entry.string.items entry.witness.items) forbidden.now }
 {
     match board_from(side, cell) {
-        Some(board) => {
-            if board.side() != side || board.blank() != cell {
-                return false;
-            }
-            are_same_on(&board, forbidden)
-        }
+        Some(board) => are_same_on(&board, forbidden),
         None => false,
     }
 }
@@ -71,7 +68,7 @@ fn are_same_from(side: Side, cell: u8, forbidden: &[Forbidden]) -> bool
 /// Whether each entry's strings have the same effect on a board.
 fn are_same_on(board: &Board, forbidden: &[Forbidden]) -> bool
     ensures { IsTrue result
-        → All (λ entry. IsSameOn board.now entry.string.items entry.witness.items) forbidden.now }
+        ↔ All (λ entry. IsSameOn board.now entry.string.items entry.witness.items) forbidden.now }
 {
     for entry in forbidden {
         if !is_same_on(board, entry.string.as_slice(), entry.witness.as_slice()) {

@@ -11,3 +11,4 @@ mod order;
 pub use automata::Automaton;
 pub use drafts::{Draft, Step};
 pub use forbidden_strings::{Forbidden, are_forbidden};
+pub use order::rank_of_move;

@@ -1,8 +1,6 @@
-use Rattle.std.proofs.Common.{◌≡◌, ℕ, ◌<◌, length, get_or}
-use Rattle.move_strings.specs.Drafts.{IsStepAt}
+use Rattle.std.proofs.Common.{◌≡◌, map, take}
+use Rattle.move_strings.specs.Drafts.{number_of}
 use Rattle.move_strings.proofs.drafts.table_of.Given as goal
 
-abbrev pub invariant-loop-place : goal.invariant-loop-place
-invariant-loop-place l =
-    (length l.table.items ≡ l.place) ×
-    ((k : ℕ) → k < length l.table.items → IsStepAt l.fn.labels l.fn.forbidden k (get_or l.table.items k 0))
+abbrev pub invariant-loop-step : goal.invariant-loop-step
+invariant-loop-step l = l.table.items ≡ map number_of (take l.step-index l.steps)
