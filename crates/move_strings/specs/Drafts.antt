@@ -39,7 +39,7 @@ abbrev pub IsRightStep : {Z : Type 0} → List (Vec Move Z) → List Forbidden �
 IsRightStep labels forbidden moves (To state) = (state < length labels) × EndsWith moves (label_of labels state)
 IsRightStep labels forbidden moves (LeftOut number) = (number < length forbidden) × EndsWith moves (string_of forbidden number)
 
--- the moves before which a step at this place is tried: the label of its state, and then its own move
+-- the moves that the step at this place completes: the label of its state, and then its own move
 abbrev pub moves_at : {Z : Type 0} → List (Vec Move Z) → ℕ → List Move
 moves_at labels place = label_of labels (place / 4) ++ move_of_rank (place % 4) ∷ []
 
@@ -48,8 +48,9 @@ abbrev pub AreRightSteps : {Z : Type 0} → List (Vec Move Z) → List Forbidden
 AreRightSteps labels forbidden steps =
     (place : ℕ) (none : Step) → place < length steps → IsRightStep labels forbidden (moves_at labels place) (get_or steps place none)
 
--- each string has the witness that is given with it, on boards of side n; no moves stand for the first state; and of each state
--- there are four steps, each of which is right
+-- a draft is right for boards of side n: it has some states, whose numbers are below that of a step that is left out; no moves
+-- stand for the first state; each string has the witness that is given with it; and of each state there are four steps, each of
+-- which is right
 pub record IsRightDraft (n : ℕ) (draft : Draft) : Type 0 where
   pub some : 0 < length draft.labels.items
   pub few : length draft.labels.items < left_out
