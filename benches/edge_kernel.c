@@ -16,7 +16,8 @@
  *     boards N found F milliseconds T
  *
  * with how many boards were expanded, whether a solution was found (then the count says nothing), and the processor time of the
- * search alone. The status is 0, or 2 where the words or a claim are wrong or a file fails. Nothing here is proved. */
+ * search alone. With LONGEST as its only word it prints the strings themselves, one a line. The status is 0, or 2 where the words
+ * or a claim are wrong or a file fails. Nothing here is proved. */
 #define _GNU_SOURCE
 #include <pthread.h>
 #include <stdint.h>
@@ -354,6 +355,8 @@ static int is_inside(const struct string *s, const struct string *of)
 static uint32_t (*trie)[WAYS], trie_states = 1, trie_room = 1 << 20;
 static uint8_t *ends;
 
+static int writes_strings;
+
 static int is_forbidden(uint64_t moves, int length)
 {
     uint32_t state = 0;
@@ -376,6 +379,10 @@ static void forbid(uint64_t moves, int length)
         state = *next;
     }
     ends[state] = 1;
+    for (int k = length - 1; writes_strings && k >= 0; k--)
+        putchar("UDLR"[moves >> 2 * k & 3]);
+    if (writes_strings)
+        putchar('\n');
 }
 
 static void find_strings(int longest)
@@ -705,13 +712,18 @@ static void answer(const char *claim, const char *set_lines, int lanes)
 
 int main(int count, char **words)
 {
-    if (count < 5)
-        fail("the words are SETS LANES LONGEST TABLES..", "");
-    size_t length;
-    const char *set_lines = (const char *)read_file(words[1], &length);
-    int lanes = atoi(words[2]), longest = atoi(words[3]);
+    if (count != 2 && count < 5)
+        fail("the words are SETS LANES LONGEST TABLES.., or LONGEST", "");
+    int lanes = count == 2 ? 1 : atoi(words[2]), longest = atoi(words[count == 2 ? 1 : 3]);
     if (lanes < 1 || lanes > MOST_LANES || longest < 2 || longest > 16)
         fail("a number is too small or too large", "");
+    writes_strings = count == 2;
+    if (writes_strings) {
+        find_strings(longest);
+        return 0;
+    }
+    size_t length;
+    const char *set_lines = (const char *)read_file(words[1], &length);
     for (int i = 4; i < count; i++)
         read_table(words[i]);
     double start = milliseconds();
