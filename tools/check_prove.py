@@ -54,6 +54,7 @@ ROOT = pathlib.Path(__file__).resolve().parent.parent
 WORKERS = [1, 2, 7, 64]
 # Boards that one thread searches before all workers do.
 ALONE = 65_536
+LONGEST = 12  # moves of a string that need not be tried
 # Bytes that mean something in a claims text, and some that don't.
 TELLING = b"0123456789 \t\r\n;:UDLRu-\x00\xff"
 SMALL_CLAIMS = b"3 2 1 0\n1 0 2 3 : 1\n3 2 1 0 ; ULDRUL\n0 1 2 3 ;\n 3 2 1 0 : 7"
@@ -270,14 +271,14 @@ def boards_expanded(search, claim):
         thresholds = range(parity, least_moves(board) + 1, 2)
     for threshold in thresholds:
         if board != goal(side_of(board)) and search.says(board) <= threshold:
-            search.solves(board, threshold, None)
+            search.solves(board, threshold)
     return search.expanded
 
 
 def budgets(program, checks, claims, tables):
     sets = program.folder / "sets"
     files = [(program.folder / name).read_bytes() for name in tables]
-    search = Search(read_sets(sets.read_bytes(), read_tables(files, False)))
+    search = Search(read_sets(sets.read_bytes(), read_tables(files, False)), program.strings)
     able = [claim for claim in claims if claim.letters is None and has_solution(claim.board)]
     able = [claim for claim in able if claim.bound in (None, least_moves(claim.board)) and least_moves(claim.board) < 24]
     for claim in able[:40]:
@@ -298,7 +299,8 @@ def large_budgets(program, checks):
     program.table("three_tiles", 3, 14)
     program.keep("one_set", b"set 0\n")
     claim = Claim((8, 0, 6, 5, 4, 7, 2, 3, 1), bound=29)
-    search = Search(read_sets(b"set 0\n", read_tables([(program.folder / "three_tiles").read_bytes()], False)))
+    files = [(program.folder / "three_tiles").read_bytes()]
+    search = Search(read_sets(b"set 0\n", read_tables(files, False)), program.strings)
     expanded = boards_expanded(search, claim)
     checks.that("more boards than one thread searches alone", expanded > ALONE, expanded)
     for workers in WORKERS:
@@ -395,8 +397,11 @@ def main():
     settings, checks = read_settings(), Checks()
     with tempfile.TemporaryDirectory() as folder:
         program = Program(settings.program, folder)
-        made = ["cc", "-O2", "-o", program.folder / "plain_table", ROOT / "tools" / "plain_table.c"]
-        subprocess.run(made, check=True)
+        for source in ["tools/plain_table.c", "benches/edge_kernel.c"]:
+            made = program.folder / pathlib.Path(source).stem
+            subprocess.run(["cc", "-O2", "-pthread", "-o", made, ROOT / source], check=True)
+        found = subprocess.run([program.folder / "edge_kernel", str(LONGEST)], check=True, capture_output=True, text=True)
+        program.strings = found.stdout.split()
         side_2(program, checks)
         broken_texts(program, checks, settings)
         texts_of_many_lines(program, checks)

@@ -14,12 +14,16 @@ import pathlib
 
 from plain_answers import REVERSE, goal, moved, raised, read_board, read_sets, read_tables, side_of, sum_of, ways
 
+REVERSALS = [letter + reverse for letter, reverse in REVERSE.items()]
+
 
 class Search:
-    """A search over sets, which knows of each board that it came to what the sets say of it, and where its moves lead."""
+    """A search over sets, which knows of each board that it came to what the sets say of it, and where its moves lead. Moves that
+    complete one of the strings are left out."""
 
-    def __init__(self, sets):
-        self.sets, self.expanded = sets, 0
+    def __init__(self, sets, strings=REVERSALS):
+        self.sets, self.strings, self.expanded = sets, frozenset(strings), 0
+        self.lengths = sorted({len(string) for string in strings})
         self.says = functools.cache(self.says)
         self.after = functools.cache(self.after)
 
@@ -29,19 +33,20 @@ class Search:
         return float("inf") if None in told else max(told)
 
     def after(self, board):
-        """The moves in their order, the reverse of each, the boards that they lead to, and what the sets say of these."""
+        """The moves in their order, the boards that they lead to, and what the sets say of these."""
         found = [(letter, moved(board, letter)) for letter in ways(side_of(board), board.index(0))]
-        return [(letter, REVERSE[letter], there, self.says(there)) for letter, there in found]
+        return [(letter, there, self.says(there)) for letter, there in found]
 
-    def solves(self, board, left, taken_back):
+    def solves(self, board, left, trail=""):
         """Whether so many moves can be enough from this board, which isn't the goal board, and of which the sets say no more.
-        The move that would take back the last one is left out."""
+        The trail has the last moves that led here."""
         self.expanded += 1
-        for letter, reverse, there, says in self.after(board):
-            if letter == taken_back:
+        for letter, there, says in self.after(board):
+            longer = (trail + letter)[-self.lengths[-1] :]
+            if any(longer[-length:] in self.strings for length in self.lengths):
                 continue
             if says < left:
-                if says == 0 and there == goal(side_of(there)) or self.solves(there, left - 1, reverse):
+                if says == 0 and there == goal(side_of(there)) or self.solves(there, left - 1, longer):
                     return True
             else:
                 self.exceeds = min(self.exceeds, says - (left - 1))
@@ -54,7 +59,7 @@ class Search:
             return 0
         while True:
             self.exceeds = float("inf")
-            if self.solves(board, threshold, None):
+            if self.solves(board, threshold):
                 return threshold
             threshold += self.exceeds
 
