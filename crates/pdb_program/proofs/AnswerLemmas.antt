@@ -139,6 +139,7 @@ letters_one moves = go (moves_of moves)
   where
     one : (m : Move) → not (letter_of m == 10) ≡ true
     one = elim [ Up ↦ refl | Down ↦ refl | Left ↦ refl | Right ↦ refl ]
+
     go : (all : List Move) → HasNo 10 (map letter_of all)
     go [] = All-nil (λ b. not (b == 10) ≡ true)
     go (m ∷ all) = All-cons (λ b. not (b == 10) ≡ true) (letter_of m) (map letter_of all) (one m) (go all)

@@ -53,11 +53,10 @@ parts-word word (b ∷ text) some is parted =
 -- a digit is one, and no separator
 digit_clean : (c : ℕ) → (48 ≤ c) × (c ≤ 57) → (is_ascii_digit c ≡ true) × (is_separator c ≡ false)
 digit_clean c within =
-    let other : (n : ℕ) → n < 48 → eqb c n ≡ false = λ n low. ne_eqb c n (λ same. omega (arith, within.0)) in
-    (
+    let other : (n : ℕ) → n < 48 → eqb c n ≡ false = λ n low. ne_eqb c n (λ same. omega (arith, within.0)) in (
       and_from _ _ (le-leb 48 c within.0) (le-leb c 57 within.1),
       or_from (eqb c 32 || eqb c 9 || eqb c 13) (eqb c 10)
-      (or_from (eqb c 32 || eqb c 9) (eqb c 13) (or_from (eqb c 32) (eqb c 9) (other 32 (omega arith)) (other 9 (omega arith))) (other 13 (omega arith))) (other 10 (omega arith)),
+          (or_from (eqb c 32 || eqb c 9) (eqb c 13) (or_from (eqb c 32) (eqb c 9) (other 32 (omega arith)) (other 9 (omega arith))) (other 13 (omega arith))) (other 10 (omega arith)),
     )
 
 digits_clean : (ds : Bytes) → AllDigits 10 ds → AllPass is_ascii_digit ds × IsWord ds

@@ -99,8 +99,7 @@ module _ (v : ShownBundle) (budget : ℕ) where
   each_true [] (t ∷ told) boards each = absurd each
   each_true (claim ∷ claims) [] boards each = absurd each
   each_true (claim ∷ claims) (t ∷ told) boards each =
-      let is = each.0 in
-      (
+      let is = each.0 in (
         subst IsTrueTold (sym is.is_told) (found_true claim.board claim.asks is.found boards.0 is.is_found),
         each_true claims told boards.1 each.1,
       )
@@ -261,8 +260,7 @@ pub claims_yes : (a : ProveArguments) (lines : Bytes) (files : List Bytes) (told
 claims_yes a lines files told is all_yes =
     let digests = digests_are IsYesOrDigest (λ digest. inr (digest, refl)) files in
     let all = joined_lines IsYesOrDigest (digests_of files) (told_lines told) digests (told_yes told all_yes) in
-    let whole = is ∙ all.1 in
-    (
+    let whole = is ∙ all.1 in (
       subst AreWholeLines (sym whole) (whole_lines all.0),
       λ above line below has. line_holds IsYesOrDigest all.0 above line below lines [] all.2 has (append-nil lines ∙ whole),
     )
