@@ -29,7 +29,7 @@ CLAUSE = RUN + ".headline"
 HEADLINE = "pdb_program::Headline::Headline"
 # What a log has to be is set apart: of the headline the line on `solve` alone cites it.
 APART = "pdb_verdict::Bound::IsProvedBound"
-MOST_DEFINITIONS, MOST_LINES = 110, 370
+MOST_DEFINITIONS, MOST_LINES = 95, 330
 
 WORD = re.compile(r"[^\s(){}\[\],;.]+(?:\.[^\s(){}\[\],;.]+)*")
 START = re.compile(
@@ -263,7 +263,9 @@ def items_in(section):
 def names_in(path):
     """All names that a file of specs/ defines; those that aren't read may not stand there."""
     crate, _, file = path.removeprefix("crates/").partition("/")
-    return {definition.name for definition in definitions_in(crate, file).values()} if file.endswith(".antt") else set()
+    if not file.endswith(".antt") or not (ROOT / path).exists():
+        return set()
+    return {definition.name for definition in definitions_in(crate, file).values()}
 
 
 def check_section(page, title, definitions):
@@ -309,6 +311,7 @@ def check_page(page):
     yield f"the headline is short: {size(headline)}", definitions <= MOST_DEFINITIONS and lines <= MOST_LINES
     run, start = clause_text("programs", "run"), clause_text("starts", "start")
     yield "the clause is quoted", quoted(page, run)
+    yield "the clause of a run in memory is quoted", quoted(page, clause_text("in_memory", "run_in_memory"))
     # It names other words in the line or the lines before.
     same = run[1:-1] == start[1 - len(run) : -1] and run[-1].strip(" })") == start[-1].strip(" })")
     yield "the clause of start is the same", same
