@@ -1,0 +1,3 @@
+mod ExactLemmas
+mod FileLemmas
+mod SolutionLemmas

@@ -1,0 +1,3 @@
+-- What public contracts say.
+pub mod Solutions
+pub mod TableFiles

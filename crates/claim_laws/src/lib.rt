@@ -1,0 +1,8 @@
+//! Laws of shortest solutions, ranks and exact tables. A function of this crate that has no body says what holds of all of them.
+#![tactic(auto)]
+
+mod laws;
+mod ranks;
+
+pub use laws::{patterns_have_one_exact_file, shortest_solutions_take_nothing_back};
+pub use ranks::{rank_of_unranked, unrank_ranked};
