@@ -1,8 +1,8 @@
 -- What a full table, a set of full tables and a parity leaf say of a board is no less than what folded ones say.
-use Rattle.std.proofs.Common.{◌≡◌, ◌∙◌, ◌+◌, ◌%◌, ◌≤◌, ◌<◌, ◌⊎◌, inl, inr, ap, ℕ, suc, zero, Bool, true, false, List, [], ◌∷◌, arith, cond, eqb, get_or, length, refl, subst, sym}
+use Rattle.std.proofs.Common.{◌≡◌, ◌∙◌, ◌+◌, ◌%◌, ◌≤◌, ◌<◌, inl, inr, ap, ℕ, suc, zero, Bool, true, false, List, [], ◌∷◌, arith, cond, eqb, get_or, length, refl, subst, sym}
 use Rattle.std.specs.Prelude.{⊤, Any}
 use Rattle.std.proofs.lemmas.Bool.{cases_lt, eqb-false, eqb-true}
-use Rattle.puz_board.specs.Boards.{IsBoard, IsBoardOf, side_of}
+use Rattle.puz_board.specs.Boards.{IsBoard, IsBoardOf}
 use Rattle.puz_board.specs.Parity.{blank_parity}
 use Rattle.puz_board.proofs.BoardLemmas.{side_of-board}
 use Rattle.tab_rule.specs.declared.tables.Count.{Count}
@@ -13,7 +13,7 @@ use Rattle.set_sum.specs.Parity.{raised, told_of}
 use Rattle.set_sum.specs.Parts.{PartSays, ShownPart}
 use Rattle.set_sum.specs.Sums.{AddUpTo, SetSays}
 use Rattle.set_sum.specs.declared.members.Member.{Member}
-use Rattle.set_sum.proofs.MemberLemmas.{board_for-good, member_either}
+use Rattle.set_sum.proofs.MemberLemmas.{board_for-good}
 use Rattle.set_sum.proofs.PartLemmas.{part_none, part_within}
 
 -- the one count is no more than the other

@@ -1,11 +1,10 @@
 -- The entries of an exact table are settled by its pattern.
-use Rattle.std.proofs.Common.{◌≡◌, ◌∙◌, ◌≤◌, ◌<◌, ◌+◌, ◌*◌, ◌/◌, ◌%◌, ◌⊎◌, inl, inr, ap, ℕ, suc, zero, List, [], ◌∷◌, Some, arith, get_or, length, refl, subst, sym}
+use Rattle.std.proofs.Common.{◌≡◌, ◌∙◌, ◌<◌, ◌+◌, ◌*◌, ◌/◌, ◌%◌, inl, inr, ap, ℕ, suc, zero, List, [], ◌∷◌, Some, arith, length, refl, subst, sym}
 use Rattle.std.specs.Prelude.{slice_get, slice_index}
 use Rattle.std.specs.List.{range_with_len}
 use Rattle.std.proofs.lemmas.Bool.{cases_eq, cases_lt}
 use Rattle.std.proofs.Math.Nat.{div-add-mod, mod-lt}
 use Rattle.std.proofs.lemmas.List.{ext_get_or}
-use Rattle.puz_board.specs.Costs.{IsLeastCost}
 use Rattle.pat_place.specs.Patterns.{IsPattern, ShownPattern}
 use Rattle.pat_place.specs.Placements.{IsPlacement}
 use Rattle.pat_place.specs.Ranks.{placements}

@@ -1,14 +1,11 @@
 -- The header of a table file is settled by its pattern.
-use Rattle.std.proofs.Common.{◌≡◌, ◌∙◌, ◌+◌, ◌*◌, ◌≤◌, ◌<◌, ◌^◌, ap, ℕ, suc, List, [], ◌∷◌, ◌++◌, arith, drop, get_or, length, refl, subst, sym, take, take-append-drop}
+use Rattle.std.proofs.Common.{◌≡◌, ◌∙◌, ◌+◌, ◌*◌, ◌≤◌, ◌<◌, ◌^◌, ap, ℕ, suc, List, ◌∷◌, ◌++◌, arith, drop, length, sym, take-append-drop}
 use Rattle.std.specs.Prelude.{slice_index}
 use Rattle.std.proofs.Math.Seq.{drop-cons}
 use Rattle.std.proofs.lemmas.List.{get_or-drop}
 use Rattle.byteorder.specs.Endian.{big_from, big_number}
-use Rattle.puz_board.specs.Masks.{numbers_of}
 use Rattle.pat_place.proofs.MaskLemmas.{numbers_of-one}
-use Rattle.tab_file.specs.TableFiles.{IsTableHeader}
-use Rattle.tab_file.specs.Tables.{Table, entry_count}
-use Rattle.tab_rule.specs.ExactTables.{IsExactFile}
+use Rattle.tab_file.specs.Tables.{entry_count}
 use Rattle.claim_laws.specs.TableFiles.{AreBytes, PatternsHaveOneExactFile}
 use Rattle.claim_laws.proofs.ExactLemmas.{entries_one}
 

@@ -1,5 +1,5 @@
 -- What a log refutes over folded tables it refutes over the full ones.
-use Rattle.std.proofs.Common.{◌≡◌, ◌∙◌, ◌-◌, ◌<◌, ◌⊎◌, inl, inr, ap, ℕ, suc, zero, Bool, true, false, List, [], ◌∷◌, Option, Some, None, ◌≤◌, arith, cond, get_or, length, map, refl, subst, sym}
+use Rattle.std.proofs.Common.{◌≡◌, ◌∙◌, ◌-◌, ◌<◌, inl, inr, ap, ℕ, suc, zero, Bool, true, false, List, [], ◌∷◌, Option, Some, None, ◌≤◌, cond, get_or, length, map, refl, subst, sym}
 use Rattle.std.specs.Prelude.{Any, slice_get}
 use Rattle.std.specs.List.{AllByRecursion}
 use Rattle.puz_board.specs.Boards.{IsBoardOf, moved}
@@ -12,19 +12,18 @@ use Rattle.pat_place.proofs.ListLemmas.{Some-one}
 use Rattle.set_sum.specs.Bundles.{SaysAtLeast, ShownBundle, most_tables, set_of}
 use Rattle.set_sum.specs.Members.{AreOnePattern, pattern_of, patterns_of_set}
 use Rattle.set_sum.specs.Parts.{IsExactPart, no_part, part_pattern, parts_shown}
-use Rattle.set_sum.specs.Reading.{AreAlike, IsBundleOf, NamesNoTable, NamesOverlap, NamesTwice, first_side}
+use Rattle.set_sum.specs.Reading.{AreAlike, IsBundleOf, NamesOverlap, NamesTwice, first_side}
 use Rattle.set_sum.specs.Sums.{HaveOverlap, HaveTwo, SetSays}
 use Rattle.set_sum.specs.declared.members.Member.{Member}
 use Rattle.set_sum.specs.declared.parts.Part.{Part}
 use Rattle.set_sum.proofs.BundleLemmas.{is_bundle}
 use Rattle.set_sum.proofs.ListLemmas.{all_weaker}
-use Rattle.log_file.specs.Logs.{Lemma, Log}
-use Rattle.log_check.specs.GoodLogs.{IsGood, IsGoodFile}
+use Rattle.log_file.specs.Logs.{Log}
+use Rattle.log_check.specs.GoodLogs.{IsGoodFile}
 use Rattle.log_check.specs.Refutations.{IsChild, Refutes, takes_back}
 use Rattle.log_check.specs.Trees.{Tree, absent, branch, citation, leaf}
 use Rattle.byte_io.specs.Shelf.{Bytes}
-use Rattle.pdb_verdict.specs.Bound.{IsProvedBound}
-use Rattle.pdb_verdict.specs.Bundles.{AreExactFiles, IsBundleOfFiles, part_for, parts_for}
+use Rattle.pdb_verdict.specs.Bundles.{parts_for}
 use Rattle.pdb_verdict.proofs.BundleLemmas.{all_exact}
 use Rattle.claim_laws.specs.FoldedLogs.{FoldedLogsAreGoodUnfolded}
 use Rattle.claim_laws.proofs.CountLemmas.{IsFullOf, set_most, told_most}
@@ -48,20 +47,16 @@ module _ (v w : ShownBundle) (log : Log) (n i : ℕ)
     refutes.0,
     refutes.1,
     child_more b Up (moved b Up) (takes_back arriving Up) up _ _ refl
-    (λ c leads holds. refutes_more up c (Some Up) (r - 1) (IsBoardOf-moved n b good Up c leads) holds) refutes.2,
+        (λ c leads holds. refutes_more up c (Some Up) (r - 1) (IsBoardOf-moved n b good Up c leads) holds) refutes.2,
     child_more b Down (moved b Down) (takes_back arriving Down) down _ _ refl
-    (λ c leads holds. refutes_more down c (Some Down) (r - 1) (IsBoardOf-moved n b good Down c leads) holds) refutes.3,
+        (λ c leads holds. refutes_more down c (Some Down) (r - 1) (IsBoardOf-moved n b good Down c leads) holds) refutes.3,
     child_more b Left (moved b Left) (takes_back arriving Left) left _ _ refl
-    (λ c leads holds. refutes_more left c (Some Left) (r - 1) (IsBoardOf-moved n b good Left c leads) holds) refutes.4,
+        (λ c leads holds. refutes_more left c (Some Left) (r - 1) (IsBoardOf-moved n b good Left c leads) holds) refutes.4,
     child_more b Right (moved b Right) (takes_back arriving Right) right _ _ refl
-    (λ c leads holds. refutes_more right c (Some Right) (r - 1) (IsBoardOf-moved n b good Right c leads) holds) refutes.5,
+        (λ c leads holds. refutes_more right c (Some Right) (r - 1) (IsBoardOf-moved n b good Right c leads) holds) refutes.5,
   )
 
 -- ---- bundles
-
-
-
-
 
 -- the full table in the place of a folded one
 full_at : (tables : List Table) (k : ℕ) → IsFullOf (get_or (parts_shown (parts_for true tables)) k no_part) (get_or (parts_shown (parts_for false tables)) k no_part)

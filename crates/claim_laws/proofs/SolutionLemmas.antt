@@ -1,6 +1,6 @@
 -- A solution that takes a move back is two moves longer than another.
-use Rattle.std.proofs.Common.{◌≡◌, ◌∙◌, ◌*◌, ◌+◌, ◌<◌, ◌≤◌, ap, ℕ, List, [], ◌∷◌, ◌++◌, Some, arith, length, length-append, option_map, refl, subst, sym}
-use Rattle.puz_board.specs.Boards.{IsBoard, IsBoardOf, IsGoal, blank, moved, side_of, slid}
+use Rattle.std.proofs.Common.{◌≡◌, ◌∙◌, ◌*◌, ◌<◌, ◌≤◌, ap, ℕ, List, [], ◌∷◌, ◌++◌, Some, arith, length, length-append, option_map, subst, sym}
+use Rattle.puz_board.specs.Boards.{IsBoardOf, IsGoal, blank, moved, side_of, slid}
 use Rattle.puz_board.specs.Cells.{Adjacent, reverse_of, step_of}
 use Rattle.puz_board.specs.Paths.{IsPath, IsSolution, after}
 use Rattle.puz_board.proofs.BoardLemmas.{IsBoardOf-slid, blank-slid, cell_of-below, cells_least, side_of-board, side_of-slid}
