@@ -16,15 +16,21 @@ say() {
     printf 'pdb_cli: %s\n' "$1" >&2
 }
 
-# Writes a digest of all that a build reads: the line that names the kit, and the names and bytes of the sources.
+# Writes a digest of all that a build reads: the line that names the kit, and the names and bytes of the sources. What a link
+# among them leads to would be in no digest, so there may be none.
 digest() {
-    local line paths
+    local line paths link
     if ! find_rt; then
         say 'rt, the command of the Rattle kit, is not on the PATH: install the kit that README.md names'
         return 1
     fi
     if ! line=$("$rt" version </dev/null) || [ -z "$line" ]; then
         say "rt version, which names the kit, failed: $rt"
+        return 1
+    fi
+    link=$(cd -P -- "$root/" && find_paths '' && find -H "${paths[@]}" -type l -print -quit 2>/dev/null)
+    if [ -n "$link" ]; then
+        say "$link is a link, and what it leads to is no source: put a file or a folder in its place"
         return 1
     fi
     if ! (
@@ -168,10 +174,11 @@ watch() {
 }
 
 # Runs the function $1 as a process of its own, copies its lines to the log, hands each to the function $2, and tells once a
-# minute how far it is. Returns the status of $1.
+# minute how far it is. Returns the status of $1. The build is the same in each environment: none may allow code in C, or choose
+# what compiles.
 follow() {
     local lines line part='' status job alive watcher
-    exec {lines}< <("$1" 2>&1)
+    exec {lines}< <(unset RT_ALLOW_C RT_BACKEND && "$1" 2>&1)
     job=$!
     exec {alive}> >(exec {lines}<&- && watch)
     watcher=$!

@@ -7,8 +7,8 @@
 
 A STATEMENT is CRATE::FILE::FUNCTION, for all clauses of a function in crates/CRATE/src/FILE.rt, the same with `.CLAUSE`
 behind it for one of them, or CRATE::FILE::NAME for a definition of crates/CRATE/specs/FILE.antt; without one it is the
-headline. Definitions of the kit (its standard library, `clap`, `sha2` and others) are not followed. Lines are those of the
-definitions alone: no comments, no imports, no empty lines.
+headline. Definitions of the kit (its standard library, `clap`, `sha2` and others) are not followed, but those of `clap` are
+counted where the kit is there. Lines are those of the definitions alone: no comments, no imports, no empty lines.
 
 Each number of BELIEVE.md is compared, and each definition must be named there under its file, with none besides. Of README.md
 its quote of the clause is compared, and how many definitions it says are behind it. A line is written for each of these that
@@ -17,11 +17,14 @@ fails, and last the line `N passed, M failed`. The status is 0 if all passed.
 
 import functools
 import re
+import shutil
 import sys
 from dataclasses import dataclass
 from pathlib import Path
 
 ROOT = Path(__file__).resolve().parent.parent
+# The kit's libraries, where its command is found.
+KIT = Path(shutil.which("rt") or "/none").resolve().parent.parent / "rattle"
 PAGE = ROOT / "docs" / "BELIEVE.md"
 README = ROOT / "README.md"
 RUN = "pdb_program::programs::run"
@@ -29,7 +32,7 @@ CLAUSE = RUN + ".headline"
 HEADLINE = "pdb_program::Headline::Headline"
 # What a log has to be is set apart: of the headline the line on `solve` alone cites it.
 APART = "pdb_verdict::Bound::IsProvedBound"
-MOST_DEFINITIONS, MOST_LINES = 110, 370
+MOST_DEFINITIONS, MOST_LINES = 95, 330
 
 WORD = re.compile(r"[^\s(){}\[\],;.]+(?:\.[^\s(){}\[\],;.]+)*")
 START = re.compile(
@@ -58,9 +61,14 @@ class Definition:
 # Reading files.
 
 
+def place_of(path):
+    """Where a file or a folder of a crate is: in the checkout, or, of `clap`, in the kit."""
+    return KIT / path.removeprefix("crates/") if path.startswith("crates/clap/") else ROOT / path
+
+
 @functools.cache
 def lines_of(path):
-    return (ROOT / path).read_text().splitlines()
+    return place_of(path).read_text().splitlines()
 
 
 def imports_of(lines):
@@ -123,7 +131,7 @@ def definitions_in(crate, file):
 @functools.cache
 def declared(crate, module, name):
     """A type of the code, whose values a contract sees."""
-    source = next(p for p in (f"src/{'/'.join(module)}.rt", "src/lib.rt") if (ROOT / f"crates/{crate}/{p}").exists())
+    source = next(p for p in (f"src/{'/'.join(module)}.rt", "src/lib.rt") if place_of(f"crates/{crate}/{p}").exists())
     lines = lines_of(f"crates/{crate}/{source}")
     first = next(i for i, line in enumerate(lines) if re.match(rf"pub(\(crate\))? (enum|struct) {name}\b", line))
     last = first
@@ -143,7 +151,7 @@ def declared(crate, module, name):
 def resolve(module, name):
     """The definition of this name in a module, or None for what the kit defines."""
     parts = module.split(".")[1:]
-    if not (ROOT / "crates" / parts[0] / "specs").exists() or parts[1:2] != ["specs"]:
+    if not place_of(f"crates/{parts[0]}/specs").exists() or parts[1:2] != ["specs"]:
         return None
     crate, inner = parts[0], parts[2:]
     if inner[:1] == ["declared"]:
@@ -203,8 +211,8 @@ def roots_of(statement):
     return set(filter(None, named_in(clauses_of(lines, function, clause), imports_of(lines), {})))
 
 
-def behind(statement, apart=None):
-    """All definitions behind a statement, without this one and what is behind it alone."""
+def behind_with_clap(statement, apart=None):
+    """All definitions behind a statement, those of `clap` among them, without this one and what is behind it alone."""
     found, left = set(), list(roots_of(statement))
     while left:
         definition = left.pop()
@@ -213,6 +221,11 @@ def behind(statement, apart=None):
         found.add(definition)
         left.extend(named_by(definition))
     return found
+
+
+def behind(statement, apart=None):
+    """The same of the checkout's own. No definition of `clap` names one of these."""
+    return {definition for definition in behind_with_clap(statement, apart) if definition.crate != "clap"}
 
 
 def size(definitions):
@@ -263,7 +276,9 @@ def items_in(section):
 def names_in(path):
     """All names that a file of specs/ defines; those that aren't read may not stand there."""
     crate, _, file = path.removeprefix("crates/").partition("/")
-    return {definition.name for definition in definitions_in(crate, file).values()} if file.endswith(".antt") else set()
+    if not file.endswith(".antt") or not (ROOT / path).exists():
+        return set()
+    return {definition.name for definition in definitions_in(crate, file).values()}
 
 
 def check_section(page, title, definitions):
@@ -305,10 +320,15 @@ def check_page(page):
     yield from check_section(page, "The headline", headline)
     yield from check_section(page, "A log that proves a bound", log)
     yield from check_section(page, "What words ask for", clause - headline - log)
+    if (KIT / "clap").exists():
+        clap = behind_with_clap(CLAUSE) - clause
+        counts = "{} definitions of `clap`, {} lines".format(*size(clap))
+        yield f"behind what words ask for: {counts}", counts in section_of(page, "What words ask for")
     definitions, lines = size(headline)
     yield f"the headline is short: {size(headline)}", definitions <= MOST_DEFINITIONS and lines <= MOST_LINES
     run, start = clause_text("programs", "run"), clause_text("starts", "start")
     yield "the clause is quoted", quoted(page, run)
+    yield "the clause of a run in memory is quoted", quoted(page, clause_text("in_memory", "run_in_memory"))
     # It names other words in the line or the lines before.
     same = run[1:-1] == start[1 - len(run) : -1] and run[-1].strip(" })") == start[-1].strip(" })")
     yield "the clause of start is the same", same

@@ -4,8 +4,8 @@
     tools/check_examples.py
 
 An example is a block that begins with ```rust. Spaces at the beginning of a line don't count. Each crate but those of
-tests, and `pdb_cli` and `word_laws`, which nobody calls, has one. The last line is `N passed, M failed`, and the status is
-0 if none failed.
+tests, and `pdb_cli`, `word_laws` and `claim_laws`, which nobody calls, has one. The last line is `N passed, M failed`, and the
+status is 0 if none failed.
 """
 
 import pathlib
@@ -13,7 +13,7 @@ import re
 import sys
 
 ROOT = pathlib.Path(__file__).resolve().parent.parent
-CALLED_BY_NOBODY = {"pdb_cli", "word_laws"}
+CALLED_BY_NOBODY = {"pdb_cli", "word_laws", "claim_laws"}
 
 
 def bare(text):

@@ -262,7 +262,8 @@ breakages=(
     'kit_has_no_line:rt version' 'kit_has_an_empty_line:rt version' 'no_rt:is not on the PATH' 'sources_never_rest:change'
     'no_find:can be read and compared' 'no_sort:can be read and compared' 'no_xargs:can be read and compared' 'no_sha256sum:can be read and compared' 'no_flock:cannot be'
     'no_mkdir:cannot be' 'no_rm:cannot be' 'no_cp:cannot be' 'no_mv:cannot be'
-    'folder_unreadable:can be read and compared' 'file_unreadable:can be read and compared' 'no_list_of_crates:can be read and compared' 'no_script:cannot be read'
+    'folder_unreadable:can be read and compared' 'file_unreadable:can be read and compared' 'link_inside_a_source_folder:linked.rt is a link' 'folder_inside_that_is_a_link:deep is a link'
+    'no_list_of_crates:can be read and compared' 'no_script:cannot be read'
     'no_script_at_all:cannot be read' 'no_proofs_side_by_side:cannot be read'
 )
 log_is_a_folder() { rm -f "$checkout/out/build.log" && mkdir "$checkout/out/build.log"; }
@@ -278,6 +279,8 @@ no_rt() { path=$work/bin; }
 sources_never_rest() { order edit; }
 folder_unreadable() { chmod 0 "$checkout/crates/low/src"; }
 file_unreadable() { chmod 0 "$checkout/crates/low/src/lib.rt"; }
+link_inside_a_source_folder() { ln -s "$place/old.rt" "$checkout/crates/low/src/linked.rt"; }
+folder_inside_that_is_a_link() { ln -s "$place" "$checkout/crates/low/specs/deep"; }
 no_list_of_crates() { rm "$checkout/crates.txt"; }
 no_script() { rm "$checkout/tools/build.sh"; }
 no_script_at_all() { rm "$checkout/tools/sources.sh"; }
@@ -450,6 +453,16 @@ order hold_right
 start sources
 check 'where a check is killed, those beside it are ended' [ "$(calls 'right ends')" = 0 ]
 check 'and all are proved one after the other' ran 2
+
+for way in 'beside' 'by rt run'; do
+    make "allowed ${way// /_}"
+    [ "$way" = beside ] || mkdir -p "$checkout/crates/pdb_cli/out/incremental"
+    [ "${#plain[@]}" = 0 ] || chown -R 65534:65534 "$checkout"
+    by=("$env" RT_ALLOW_C=1 RT_BACKEND=rattle "$launcher")
+    start sources
+    check "$way: no environment allows a build code in C, or chooses its compiler" ran 1
+    check "$way: nor makes it fail" grep -qx "build $way" "$at/orders/calls"
+done
 
 make kept_work
 mkdir -p "$checkout/crates/pdb_cli/out/incremental"

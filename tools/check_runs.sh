@@ -184,12 +184,13 @@ expect 'a name of more than one byte a letter' 2 'fault read né →' : replay '
 #
 
 for words in --help -h help 'help replay' 'help table' 'help bound' 'help optimal' 'help help' 'replay --help' 'table -h' \
-    'bound --help' 'optimal b s l t -h' 'help make-table' 'make-table -h' 'help solve' 'solve --help' 'help prove' \
-    'prove --help' 'prove c s t -h'; do
+    'bound --help' 'optimal b s l t -h' 'optimal b s --help t' 'help make-table' 'make-table -h' 'help solve' 'solve --help' \
+    'help prove' 'prove --help' 'prove c s t -h'; do
     # shellcheck disable=SC2086
     run $words
     check "help by $words" told_help
 done
+expect 'a flag behind -- is a name' 2 'fault read --help' : table -- --help
 # Whether the help says each of these.
 told() {
     local text

@@ -21,6 +21,8 @@ make_kit() {
 write_orders() {
     cat <<'END'
 is_ordered() { [ -e "$orders/$1" ]; }
+# Whether the environment allows no code in C and chooses no compiler.
+is_plain() { [ -z "${RT_ALLOW_C+set}${RT_BACKEND+set}" ]; }
 # Goes on once none of these orders is there.
 hold() {
     while is_ordered "$1" || is_ordered "$2"; do
@@ -71,6 +73,7 @@ if [ "$*" = version ]; then
     ! is_ordered no_version || exit 1
     exec cat "$here/../KIT-ID"
 fi
+is_plain || exit 2
 echo "$$" >>"$orders/processes"
 [ "$*" != ci ] || cd crates/pdb_cli || exit 2
 [ "$*" = run ] || [ "$*" = ci ] && [ "${PWD##*/}" = pdb_cli ] || exit 2
@@ -100,7 +103,7 @@ stand_in_for_rattle() {
 name=${PWD##*/}
 all=$*
 made=${all##* -o }
-[ "$1 $2 $3" = "build --crate-name $name" ] || exit 2
+[ "$1 $2 $3" = "build --crate-name $name" ] && is_plain || exit 2
 [ "$name" = pdb_cli ] || [[ $all == *' --statements '* ]] || exit 2
 echo "$$" >>"$orders/processes"
 [ "$name" != low ] || echo 'build beside' >>"$orders/calls"

@@ -1,22 +1,18 @@
 -- What the lines of `prove` say is true.
-use Rattle.std.proofs.Common.{◌≡◌, ◌∙◌, ◌||◌, ◌-◌, ◌+◌, ◌≤◌, inl, inr, ap, ℕ, Bool, true, false, List, [], ◌∷◌, ◌++◌, Option, Some, None, append_assoc, arith, codes, cond, decimal, drop, eqb, length, length-append, ltb, map, not, refl, subst, sym, take, take-append-drop}
-use Rattle.std.proofs.lemmas.Bool.{ltb-false, ne_eqb, not_from_false}
+use Rattle.std.proofs.Common.{◌≡◌, ◌∙◌, ◌⊎◌, ◌-◌, ◌+◌, inl, inr, ap, ℕ, Bool, true, false, List, [], ◌∷◌, ◌++◌, Some, None, append_assoc, arith, codes, drop, length, length-append, refl, subst, sym, take, take-append-drop}
+use Rattle.std.proofs.lemmas.Bool.{and_parts}
 use Rattle.std.proofs.lemmas.List.{append-nil, append_cancel_left, take_at}
-use Rattle.std.proofs.lemmas.List.Elements.{All-cons, All-nil}
-use Rattle.std.proofs.lemmas.List.Sums.{AllPass-from_list_all}
-use Rattle.std.specs.List.{AllByRecursion, AllZip, list_all}
+use Rattle.std.specs.Prelude.{⊤}
+use Rattle.std.specs.List.{AllByRecursion, AllZip}
 use Rattle.claim_text.specs.Claims as claims
-use Rattle.claim_text.specs.Claims.{HasNo, ShownAsks, ShownClaim}
-use Rattle.claim_text.specs.Lines.{Told}
-use Rattle.claim_text.proofs.AnswerLemmas.{decimal-no_lf, join_no_lf}
-use Rattle.log_check.specs.declared.faults.LogRefusal.TheVariants as log
-use Rattle.log_file.specs.declared.faults.FormFault.TheVariants as form
-use Rattle.puz_board.specs.declared.replays.MoveFault.TheVariants as move
-use Rattle.puz_board.specs.declared.texts.BoardFault.TheVariants as board
+use Rattle.claim_text.specs.Claims.{IsClaim, IsClaimOf, ShownAsks, ShownClaim}
+use Rattle.claim_text.specs.Lines as line
+use Rattle.claim_text.specs.Lines.{Told, WhatHasNoLf, claim_words, numbers, spaced_letters, told_text}
+use Rattle.claim_text.proofs.AnswerLemmas.{answer-no_lf}
+use Rattle.puz_board.specs.Boards.{IsBoard}
+use Rattle.puz_board.specs.MovesTexts.{Solves}
+use Rattle.set_sum.specs.Bounds.{IsBounded}
 use Rattle.set_sum.specs.Bundles.{ShownBundle}
-use Rattle.set_sum.specs.declared.faults.SetFault.TheVariants as set
-use Rattle.tab_file.specs.declared.headers.HeadFault.TheVariants as head
-use Rattle.tab_rule.specs.declared.tables.TableRefusal.TheVariants as table
 use Rattle.byte_io.specs.Shelf.{Bytes}
 use Rattle.byte_io.specs.Streams.{AppendsFront}
 use Rattle.byte_io.specs.declared.streams.ReadFault.TheVariants as read
@@ -24,138 +20,19 @@ use Rattle.pdb_request.specs.Asked.{ProveArguments, prove}
 use Rattle.pdb_run.specs.Commands.{Reply}
 use Rattle.pdb_run.specs.Runs.{HasCause, IsAnswered, Says, World, no_memory, replied, text_of, unkept, unread, unwritable}
 use Rattle.pdb_run.specs.Runs as runs
-use Rattle.pdb_run.specs.Writing.{digests_of, memory_line, named_line, reply_text, shown, shown_byte}
+use Rattle.pdb_run.specs.Writing.{digests_of, reply_text}
 use Rattle.pdb_run.specs.declared.statuses.Status.{Status}
-use Rattle.pdb_verdict.specs.Lines.{counted, line_of_fault}
+use Rattle.pdb_verdict.specs.Lines.{line_of_fault}
 use Rattle.pdb_verdict.specs.declared.verdicts.Fault.{Fault}
-use Rattle.pdb_verdict.specs.declared.verdicts.Fault.TheVariants as fault
-use Rattle.pdb_verdict.specs.declared.verdicts.MakeRefusal.TheVariants as make
-use Rattle.pdb_prove.specs.Answers.{IsFoundOf, IsToldOf, are_yes, told_of, words_of}
+use Rattle.pdb_prove.specs.Answers.{IsFoundOf, IsToldOf, are_yes, told_of, is_yes, words_of}
 use Rattle.pdb_prove.specs.Prove.{ClaimsFiles, IsOutcomeOf, Outcome, TellsClaims, answered, budget_of, digested_files, prove_plan, reply_to_claims, told_lines, unready}
 use Rattle.pdb_prove.specs.declared.answers.Found.{Found}
 use Rattle.pdb_prove.specs.declared.answers.Found.TheVariants.{Bound, Optimum, Refused, Shorter, Shortest}
+use Rattle.pdb_program.specs.Headline.{AreAYes, AreWholeLines, HasLine, HoldsOfClaim, SaysYes}
 use Rattle.pdb_program.specs.Programs.{EndsFor}
-use Rattle.pdb_program.specs.TrueLines.{AreTrueLines, IsOtherLine, IsTrueTold, SaysElse}
-
--- ---- lines that say neither
-
--- the line has words that say neither
-abbrev IsElseLine : Bytes → Type 0
-IsElseLine line = (words : Bytes) × (line ≡ words ++ codes "\n") × SaysElse words
-
--- a text that is known has no LF
-known : (text : Bytes) → list_all (λ b. not (eqb b 10)) text ≡ true → HasNo 10 text
-known text all = AllPass-from_list_all (λ b. not (eqb b 10)) text all
-
--- a refusal begins with the letter r, whose byte is 114
-refused_else : (words : Bytes) → HasNo 10 words → SaysElse (codes "refused " ++ words)
-refused_else words none =
-    ((λ e. omega arith), (λ e. omega arith), join_no_lf (codes "refused ") words (known (codes "refused ") refl) none)
-
-refused_line : (words : Bytes) → HasNo 10 words → IsElseLine ((codes "refused " ++ words) ++ codes "\n")
-refused_line words none = (codes "refused " ++ words, refl, refused_else words none)
-
-plain : (text : Bytes) → list_all (λ b. not (eqb b 10)) text ≡ true → IsElseLine ((codes "refused " ++ text) ++ codes "\n")
-plain text all = refused_line text (known text all)
-
--- a text and a number have no LF
-with_number : (text : Bytes) (n : ℕ) → list_all (λ b. not (eqb b 10)) text ≡ true → HasNo 10 (text ++ decimal n)
-with_number text n all = join_no_lf text (decimal n) (known text all) (decimal-no_lf n)
-
-numbered : (text : Bytes) (n : ℕ) → list_all (λ b. not (eqb b 10)) text ≡ true → IsElseLine (counted (codes "refused " ++ text) n)
-numbered text n all = refused_line (text ++ decimal n) (with_number text n all)
-
-twice_numbered : (text other : Bytes) (n m : ℕ) → list_all (λ b. not (eqb b 10)) text ≡ true → list_all (λ b. not (eqb b 10)) other ≡ true
-    → IsElseLine (((codes "refused " ++ text) ++ decimal n) ++ counted other m)
-twice_numbered text other n m first second =
-    let words = (text ++ decimal n) ++ (other ++ decimal m) in
-    let none = join_no_lf (text ++ decimal n) (other ++ decimal m) (with_number text n first) (with_number other m second) in (
-      codes "refused " ++ words,
-      ap (λ (t : Bytes). codes "refused " ++ t) (sym (append_assoc (text ++ decimal n) (other ++ decimal m) (codes "\n"))),
-      refused_else words none,
-    )
-
-memory : IsElseLine memory_line
-memory = (codes "no memory", refl, ((λ e. omega arith), (λ e. omega arith), known (codes "no memory") refl))
-
--- the lines of refusals
-fault_line : (refused : Fault) → IsElseLine (line_of_fault refused)
-fault_line fault.P1 = plain (codes "P1") refl
-fault_line (fault.Board (board.B1 n)) = numbered (codes "B1 at byte ") n refl
-fault_line (fault.Board (board.B2 n)) = numbered (codes "B2 at byte ") n refl
-fault_line (fault.Board (board.B3 n)) = numbered (codes "B3 count ") n refl
-fault_line (fault.Board (board.B4 n)) = numbered (codes "B4 at number ") n refl
-fault_line (fault.Board (board.B5 n)) = numbered (codes "B5 at number ") n refl
-fault_line (fault.Moves (move.M1 n)) = numbered (codes "M1 at byte ") n refl
-fault_line (fault.Moves (move.M2 n)) = numbered (codes "M2 at step ") n refl
-fault_line (fault.Moves move.M3) = plain (codes "M3") refl
-fault_line (fault.Moves move.M4) = plain (codes "M4") refl
-fault_line (fault.Table (table.Head head.T1)) = plain (codes "T1") refl
-fault_line (fault.Table (table.Head head.T2)) = plain (codes "T2") refl
-fault_line (fault.Table (table.Head head.T3)) = plain (codes "T3") refl
-fault_line (fault.Table (table.Head head.T4)) = plain (codes "T4") refl
-fault_line (fault.Table (table.Head head.T5)) = plain (codes "T5") refl
-fault_line (fault.Table (table.Head head.T6)) = plain (codes "T6") refl
-fault_line (fault.Table (table.T7 n)) = numbered (codes "T7 at entry ") n refl
-fault_line (fault.TableOf i (table.Head head.T1)) = numbered (codes "T1 of table ") i refl
-fault_line (fault.TableOf i (table.Head head.T2)) = numbered (codes "T2 of table ") i refl
-fault_line (fault.TableOf i (table.Head head.T3)) = numbered (codes "T3 of table ") i refl
-fault_line (fault.TableOf i (table.Head head.T4)) = numbered (codes "T4 of table ") i refl
-fault_line (fault.TableOf i (table.Head head.T5)) = numbered (codes "T5 of table ") i refl
-fault_line (fault.TableOf i (table.Head head.T6)) = numbered (codes "T6 of table ") i refl
-fault_line (fault.TableOf i (table.T7 n)) = twice_numbered (codes "T7 at entry ") (codes " of table ") n i refl refl
-fault_line (fault.Sets (set.S1 n)) = numbered (codes "S1 at line ") n refl
-fault_line (fault.Sets (set.S2 n)) = numbered (codes "S2 at line ") n refl
-fault_line (fault.Sets (set.S3 n)) = numbered (codes "S3 at line ") n refl
-fault_line (fault.Sets (set.S4 n)) = numbered (codes "S4 at table ") n refl
-fault_line (fault.Sets set.S5) = plain (codes "S5") refl
-fault_line (fault.Sets (set.S6 n)) = numbered (codes "S6 at line ") n refl
-fault_line (fault.Log (log.Form form.L1)) = plain (codes "L1") refl
-fault_line (fault.Log (log.Form (form.L2 n))) = numbered (codes "L2 at lemma ") n refl
-fault_line (fault.Log (log.Form (form.L3 n))) = numbered (codes "L3 at lemma ") n refl
-fault_line (fault.Log log.L4) = plain (codes "L4") refl
-fault_line (fault.Log log.L5) = plain (codes "L5") refl
-fault_line (fault.Log (log.L6 n)) = numbered (codes "L6 at lemma ") n refl
-fault_line (fault.O1 solution bound) = twice_numbered (codes "O1 solution ") (codes " bound ") solution bound refl refl
-fault_line (fault.Make make.K1) = plain (codes "K1") refl
-fault_line (fault.Make make.K2) = plain (codes "K2") refl
-fault_line (fault.Make make.K3) = plain (codes "K3") refl
-fault_line fault.K4 = plain (codes "K4") refl
-fault_line (fault.Q1 n) = numbered (codes "Q1 at line ") n refl
-fault_line (fault.Q2 n) = numbered (codes "Q2 at line ") n refl
-fault_line fault.Memory = memory
-
--- a byte as it is shown is no LF
-byte_other : (b : ℕ) → eqb (shown_byte b) 10 ≡ false
-byte_other b = go (ltb b 32) (eqb b 127) (ltb-false b 32)
-  where
-    go : (low last : Bool) → (low ≡ false → 32 ≤ b) → eqb (cond (low || last) 63 b) 10 ≡ false
-    go true last high = refl
-    go false true high = refl
-    go false false high = let h = high refl in ne_eqb b 10 (λ e. omega (arith, h))
-
--- nor is one in a name
-name_other : (name : Bytes) → HasNo 10 (map shown_byte name)
-name_other [] = All-nil (λ b. not (eqb b 10) ≡ true)
-name_other (b ∷ name) =
-    All-cons (λ b. not (eqb b 10) ≡ true) (shown_byte b) (map shown_byte name) (not_from_false (eqb (shown_byte b) 10) (byte_other b)) (name_other name)
-
-shown_other : (name : Option Bytes) → HasNo 10 (shown name)
-shown_other None = known (codes "-") refl
-shown_other (Some name) = name_other name
-
--- a fault begins with the letter f
-named : (text : Bytes) (name : Option Bytes) → list_all (λ b. not (eqb b 10)) text ≡ true
-    → IsElseLine (named_line (codes "fault " ++ text) (shown name))
-named text name all = (
-  codes "fault " ++ (text ++ shown name),
-  ap (λ (t : Bytes). codes "fault " ++ t) (sym (append_assoc text (shown name) (codes "\n"))),
-  (
-    (λ e. omega arith),
-    (λ e. omega arith),
-    join_no_lf (codes "fault ") (text ++ shown name) (known (codes "fault ") refl) (join_no_lf text (shown name) (known text all) (shown_other name)),
-  ),
-)
+use Rattle.pdb_program.proofs.ElseLemmas.{IsElseLine, SaysElse, SaysNoYes, digest_no_yes, digests_are, else_no_yes, fault_line, known, memory, named, says_else}
+use Rattle.pdb_program.proofs.LineLemmas.{IsOfLines, joined_lines, line_alone, line_holds, whole_lines}
+use Rattle.pdb_program.proofs.SpellLemmas.{numbers_bounded, words_optimal}
 
 -- ---- what is told of claims
 
@@ -165,71 +42,134 @@ without_end line words is =
     let count : length line ≡ length words + 1 = rw is (length-append words (codes "\n")) in
     ap (take (length line - 1)) is ∙ take_at words (codes "\n") (length line - 1) (omega (arith, count))
 
--- the words of a refusal say neither
+-- what is known of what is told: the boards are boards, and a yes is true; what is told else is no yes
+abbrev IsTrueTold : Told → Type 0
+IsTrueTold (line.bounded n b) = IsBoard b × IsBounded b n
+IsTrueTold (line.optimal n b moves) = IsBoard b × Solves b moves n × IsBounded b n
+IsTrueTold (line.shorter solution claim) = ⊤
+IsTrueTold (line.refused what claim) = SaysElse what
+
+-- the words of a refusal say no yes
 refused_words : (refused : Fault) → SaysElse (words_of refused)
 refused_words refused =
     let line = fault_line refused in subst SaysElse (sym (without_end (line_of_fault refused) line.0 line.1)) line.2
 
+-- the board of each claim is one
+abbrev HaveBoards : List ShownClaim → Type 0
+HaveBoards all = AllByRecursion (λ claim. IsBoard claim.board) all
+
+claim_board : (line b : List ℕ) (asks : ShownAsks) → IsClaimOf line b asks → IsBoard b
+claim_board line b claims.shortest is = is.board.board
+claim_board line b (claims.moves text) is = is.board.board
+claim_board line b (claims.bound n) is = is.board.board
+
+claims_boards : (lines : List Bytes) (all : List ShownClaim) → AllZip IsClaim lines all → HaveBoards all
+claims_boards [] [] each = tt
+claims_boards [] (claim ∷ all) each = absurd each
+claims_boards (line ∷ lines) [] each = absurd each
+claims_boards (line ∷ lines) (claim ∷ all) each = (claim_board line claim.board claim.asks each.0, claims_boards lines all each.1)
+
+first_boards : (first others : List ShownClaim) → HaveBoards (first ++ others) → HaveBoards first
+first_boards [] others boards = tt
+first_boards (claim ∷ first) others boards = (boards.0, first_boards first others boards.1)
+
 module _ (v : ShownBundle) (budget : ℕ) where
   -- what is found for what a claim asks is told truly
-  found_true : (b : List ℕ) (asks : ShownAsks) (found : Found) → IsFoundOf v budget b asks found → IsTrueTold (told_of b asks found)
-  found_true b (claims.bound r) Bound is = is.1.0
-  found_true b (claims.bound r) (Optimum n) is = absurd is
-  found_true b (claims.bound r) (Shortest n letters) is = absurd is
-  found_true b (claims.bound r) (Shorter letters) is = tt
-  found_true b (claims.bound r) (Refused refused) is = refused_words refused
-  found_true b (claims.moves text) Bound is = absurd is
-  found_true b (claims.moves text) (Optimum n) is = (is.0, is.2.1.0)
-  found_true b (claims.moves text) (Shortest n letters) is = absurd is
-  found_true b (claims.moves text) (Shorter letters) is = tt
-  found_true b (claims.moves text) (Refused refused) is = refused_words refused
-  found_true b claims.shortest Bound is = absurd is
-  found_true b claims.shortest (Optimum n) is = absurd is
-  found_true b claims.shortest (Shortest n letters) is = (is.0, is.1)
-  found_true b claims.shortest (Shorter letters) is = absurd is
-  found_true b claims.shortest (Refused refused) is = refused_words refused
+  found_true : (b : List ℕ) (asks : ShownAsks) (found : Found) → IsBoard b → IsFoundOf v budget b asks found → IsTrueTold (told_of b asks found)
+  found_true b (claims.bound r) Bound board is = (board, is.1.0)
+  found_true b (claims.bound r) (Optimum n) board is = absurd is
+  found_true b (claims.bound r) (Shortest n letters) board is = absurd is
+  found_true b (claims.bound r) (Shorter letters) board is = tt
+  found_true b (claims.bound r) (Refused refused) board is = refused_words refused
+  found_true b (claims.moves text) Bound board is = absurd is
+  found_true b (claims.moves text) (Optimum n) board is = (board, is.0, is.2.1.0)
+  found_true b (claims.moves text) (Shortest n letters) board is = absurd is
+  found_true b (claims.moves text) (Shorter letters) board is = tt
+  found_true b (claims.moves text) (Refused refused) board is = refused_words refused
+  found_true b claims.shortest Bound board is = absurd is
+  found_true b claims.shortest (Optimum n) board is = absurd is
+  found_true b claims.shortest (Shortest n letters) board is = (board, is.0, is.1)
+  found_true b claims.shortest (Shorter letters) board is = absurd is
+  found_true b claims.shortest (Refused refused) board is = refused_words refused
 
   -- so each of them is
-  each_true : (claims : List ShownClaim) (told : List Told) → AllZip (IsToldOf v budget) claims told → AllByRecursion IsTrueTold told
-  each_true [] [] each = tt
-  each_true [] (t ∷ told) each = absurd each
-  each_true (claim ∷ claims) [] each = absurd each
-  each_true (claim ∷ claims) (t ∷ told) each =
-      let is = each.0 in
-      (subst IsTrueTold (sym is.is_told) (found_true claim.board claim.asks is.found is.is_found), each_true claims told each.1)
+  each_true : (claims : List ShownClaim) (told : List Told) → HaveBoards claims → AllZip (IsToldOf v budget) claims told
+      → AllByRecursion IsTrueTold told
+  each_true [] [] boards each = tt
+  each_true [] (t ∷ told) boards each = absurd each
+  each_true (claim ∷ claims) [] boards each = absurd each
+  each_true (claim ∷ claims) (t ∷ told) boards each =
+      let is = each.0 in (
+        subst IsTrueTold (sym is.is_told) (found_true claim.board claim.asks is.found boards.0 is.is_found),
+        each_true claims told boards.1 each.1,
+      )
 
 -- ---- what is written
 
--- the text is of digest lines, of true lines, and of one other line or none
-abbrev IsTrueText : Bytes → Type 0
-IsTrueText text =
-    (files : List Bytes) × (told : List Told) × (last : Bytes) × (text ≡ digests_of files ++ (told_lines told ++ last))
-    × AllByRecursion IsTrueTold told × IsOtherLine last
+-- what is told is one line
+told_one : (t : Told) → IsTrueTold t → WhatHasNoLf t
+told_one (line.bounded n b) is = tt
+told_one (line.optimal n b moves) is = tt
+told_one (line.shorter solution claim) is = tt
+told_one (line.refused what claim) is = says_else what is
 
--- one line alone
-alone : (line : Bytes) → IsElseLine line → IsTrueText line
-alone line is = ([], [], line, refl, tt, inr is)
+-- what a yes of what is told says
+yes_of_told : (t : Told) → IsTrueTold t → SaysYes (told_text t) → HoldsOfClaim (told_text t)
+yes_of_told (line.bounded n b) is says = inl (numbers b, n, refl, numbers_bounded b n is.0 is.1)
+yes_of_told (line.optimal n b text) is says =
+    let least = words_optimal b text n is.0 is.1 is.2 in
+    inr (claim_words (record { board = b; asks = claims.moves text }), n, least.0, refl, least.1)
+yes_of_told (line.shorter solution claim) is says =
+    absurd (else_no_yes (codes "refused") _ refused says)
+  where
+    refused : SaysElse (codes "refused")
+    refused = ((λ e. omega (arith, e)), (λ e. omega (arith, e)), (λ e. omega (arith, e)), (λ e. omega (arith, e)), known (codes "refused") refl)
+yes_of_told (line.refused what claim) is says =
+    absurd (else_no_yes what (codes " of" ++ claim_words claim) is (subst SaysYes (append_assoc what (codes " of") (claim_words claim)) says))
 
--- digest lines and true lines alone
-answers_alone : (files : List Bytes) (told : List Told) → AllByRecursion IsTrueTold told → IsTrueText (digests_of files ++ told_lines told)
-answers_alone files told each =
-    (files, told, [], ap (λ (t : Bytes). digests_of files ++ t) (sym (append-nil (told_lines told))), each, inl refl)
+-- a line of which what it says as a yes is true
+abbrev IsTrueLine : Bytes → Type 0
+IsTrueLine line = SaysYes line → HoldsOfClaim line
+
+no_yes_true : (line : Bytes) → SaysNoYes line → IsTrueLine line
+no_yes_true line none = λ yes. absurd (none yes)
+
+told_true : (told : List Told) → AllByRecursion IsTrueTold told → IsOfLines IsTrueLine (told_lines told)
+told_true [] each = ([], refl, tt)
+told_true (t ∷ told) each =
+    joined_lines IsTrueLine _ (told_lines told)
+    (line_alone IsTrueLine (told_text t) (answer-no_lf t (told_one t each.0)) (yes_of_told t each.0)) (told_true told each.1)
+
+digests_true : (files : List Bytes) → IsOfLines IsTrueLine (digests_of files)
+digests_true files = digests_are IsTrueLine (λ digest. no_yes_true (codes "sha256 " ++ digest) (digest_no_yes digest)) files
+
+-- one other line
+alone : (line : Bytes) → IsElseLine line → IsOfLines IsTrueLine line
+alone line is =
+    subst (IsOfLines IsTrueLine) (sym is.1)
+    (line_alone IsTrueLine is.0 (says_else is.0 is.2) (no_yes_true is.0 (subst SaysNoYes (append-nil is.0) (else_no_yes is.0 [] is.2))))
+
+-- digest lines and what is told truly
+answers_true : (files : ClaimsFiles) (told : List Told) → AllByRecursion IsTrueTold told
+    → IsOfLines IsTrueLine (digests_of (digested_files files) ++ told_lines told)
+answers_true files told each =
+    joined_lines IsTrueLine (digests_of (digested_files files)) (told_lines told) (digests_true (digested_files files)) (told_true told each)
 
 -- what comes of claims is told truly
 comes_true : (fold : Bool) (budget : ℕ) (files : ClaimsFiles) (outcome : Outcome) → IsOutcomeOf fold budget files outcome
-    → IsTrueText (reply_text (reply_to_claims files outcome))
+    → IsOfLines IsTrueLine (reply_text (reply_to_claims files outcome))
 comes_true fold budget files (unready refused) is =
-    (digested_files files, [], line_of_fault refused, refl, tt, inr (fault_line refused))
+    joined_lines IsTrueLine (digests_of (digested_files files)) (line_of_fault refused) (digests_true (digested_files files)) (alone _ (fault_line refused))
 comes_true fold budget files (answered told) is =
-    answers_alone (digested_files files) told (each_true is.bundle budget is.claims told is.each)
+    answers_true files told (each_true is.bundle budget is.claims told (claims_boards _ is.claims is.ready.are_claims.lines) is.each)
 
-reply_true : (fold : Bool) (budget : ℕ) (files : ClaimsFiles) (reply : Reply) → TellsClaims fold budget files reply → IsTrueText (reply_text reply)
+reply_true : (fold : Bool) (budget : ℕ) (files : ClaimsFiles) (reply : Reply) → TellsClaims fold budget files reply → IsOfLines IsTrueLine (reply_text reply)
 reply_true fold budget files reply tells =
-    subst (λ (r : Reply). IsTrueText (reply_text r)) (sym tells.told) (comes_true fold budget files tells.outcome tells.is_outcome)
+    subst (λ (r : Reply). IsOfLines IsTrueLine (reply_text r)) (sym tells.told) (comes_true fold budget files tells.outcome tells.is_outcome)
 
 -- whatever a run comes to
 outcome_true : (arguments : ProveArguments) (old : World) (failed : Bool) (outcome : runs.Outcome) → HasCause (prove_plan arguments) old failed outcome
-    → IsTrueText (text_of outcome)
+    → IsOfLines IsTrueLine (text_of outcome)
 outcome_true arguments old failed (replied inputs reply) cause =
     reply_true arguments.fold (budget_of arguments.budget) cause.1.0 reply cause.1.2
 outcome_true arguments old failed (unread wanted read.F1) cause = alone _ (named (codes "read ") wanted.name refl)
@@ -240,38 +180,41 @@ outcome_true arguments old failed (unkept name why) cause = let clash : None ≡
 outcome_true arguments old failed no_memory cause = alone _ memory
 
 module _ (start lines : Bytes) where
-  -- a front of the text, or the whole, is of true lines
-  front_true : (text rest : Bytes) → lines ++ rest ≡ text → IsTrueText text → AreTrueLines lines
-  front_true text rest is whole = record {
-    files = whole.0;
-    told = whole.1;
-    last = whole.2;
-    rest = rest;
-    front = is ∙ whole.3;
-    is_true = whole.4;
-    otherwise = whole.5;
-  }
+  -- the lines are a front of a text of true lines, or the whole
+  abbrev AreTrue : Type 0
+  AreTrue = (rest : Bytes) × IsOfLines IsTrueLine (lines ++ rest)
 
   -- what was cut
-  cut_true : (text : Bytes) → AppendsFront (Some start) (Some (start ++ lines)) text → IsTrueText text → AreTrueLines lines
+  cut_true : (text : Bytes) → AppendsFront (Some start) (Some (start ++ lines)) text → IsOfLines IsTrueLine text → AreTrue
   cut_true text cut whole =
       let n = cut.0 in
-      front_true text (drop n text) (ap (λ (t : Bytes). t ++ drop n text) (append_cancel_left start lines (take n text) cut.2) ∙ take-append-drop n text) whole
+      let is = ap (λ (t : Bytes). t ++ drop n text) (append_cancel_left start lines (take n text) cut.2) ∙ take-append-drop n text in
+      (drop n text, subst (IsOfLines IsTrueLine) (sym is) whole)
 
   -- what was said
-  said_true : (text : Bytes) (with_text status : Status) → Says text with_text (Some start) (Some (start ++ lines)) status → IsTrueText text
-      → AreTrueLines lines
-  said_true text with_text status (inl whole) is = front_true text [] (append-nil lines ∙ append_cancel_left start lines text whole.0) is
+  said_true : (text : Bytes) (with_text status : Status) → Says text with_text (Some start) (Some (start ++ lines)) status → IsOfLines IsTrueLine text
+      → AreTrue
+  said_true text with_text status (inl whole) is =
+      ([], subst (IsOfLines IsTrueLine) (sym (append-nil lines ∙ append_cancel_left start lines text whole.0)) is)
   said_true text with_text status (inr cut) is = cut_true text cut.0 is
 
   -- the lines of a run of `prove` are true
-  pub lines_told : (arguments : ProveArguments) (old new : World) (status : Status) → EndsFor (prove arguments) old new status
-      → old.written ≡ Some start → new.written ≡ Some (start ++ lines) → AreTrueLines lines
+  lines_told : (arguments : ProveArguments) (old new : World) (status : Status) → EndsFor (prove arguments) old new status
+      → old.written ≡ Some start → new.written ≡ Some (start ++ lines) → AreTrue
   lines_told arguments old new status (inl ends) had wrote =
       said_true (text_of ends.outcome) _ status (rw (had, wrote) at ends.said) (outcome_true arguments old new.failed ends.outcome ends.cause)
   lines_told arguments old new status (inr cut) had wrote =
+      let boards = first_boards cut.first cut.others (claims_boards _ (cut.first ++ cut.others) cut.ready.are_claims.lines) in
       cut_true _ (rw (had, wrote) at cut.front)
-      (answers_alone (digested_files cut.files) cut.told (each_true cut.bundle (budget_of arguments.budget) cut.first cut.told cut.each))
+      (answers_true cut.files cut.told (each_true cut.bundle (budget_of arguments.budget) cut.first cut.told boards cut.each))
+
+  -- so is each of them that says a yes
+  pub claims_true : (arguments : ProveArguments) (old new : World) (status : Status) → EndsFor (prove arguments) old new status
+      → old.written ≡ Some start → new.written ≡ Some (start ++ lines)
+      → (above line below : Bytes) → HasLine above line below lines → SaysYes line → HoldsOfClaim line
+  claims_true arguments old new status ends had wrote above line below has says =
+      let are = lines_told arguments old new status ends had wrote in
+      line_holds IsTrueLine are.1.0 above line below lines are.0 are.1.2 has are.1.1 says
 
 -- ---- a yes
 
@@ -292,3 +235,32 @@ yes_lines arguments old new status a is_yes =
     let is = a.right.1 in
     let said = comes_yes is.0 is.2.outcome a.reply is.2.told is_yes in
     (digested_files is.0, said.0, said.1, said.2)
+
+-- a yes, or a digest
+abbrev IsYesOrDigest : Bytes → Type 0
+IsYesOrDigest line = SaysYes line ⊎ ((rest : Bytes) × (line ≡ codes "sha256 " ++ rest))
+
+told_yes : (told : List Told) → are_yes told ≡ true → IsOfLines IsYesOrDigest (told_lines told)
+told_yes [] all = ([], refl, tt)
+told_yes (t ∷ told) all =
+    let both = and_parts (is_yes t) (are_yes told) all in
+    joined_lines IsYesOrDigest _ (told_lines told) (one t both.0) (told_yes told both.1)
+  where
+    one : (t : Told) → is_yes t ≡ true → IsOfLines IsYesOrDigest (told_text t ++ codes "\n")
+    one (line.bounded n b) is =
+        line_alone IsYesOrDigest (told_text (line.bounded n b)) (answer-no_lf (line.bounded n b) tt) (inl (_, inr (inr (inl refl))))
+    one (line.optimal n b moves) is =
+        line_alone IsYesOrDigest (told_text (line.optimal n b moves)) (answer-no_lf (line.optimal n b moves) tt) (inl (_, inr (inr (inr refl))))
+    one (line.shorter solution claim) is = let clash : false ≡ true = is in cc
+    one (line.refused what claim) is = let clash : false ≡ true = is in cc
+
+-- the lines of a yes are whole ones, each of them a yes or a digest
+pub claims_yes : (a : ProveArguments) (lines : Bytes) (files : List Bytes) (told : List Told) → lines ≡ digests_of files ++ told_lines told
+    → are_yes told ≡ true → AreAYes (prove a) lines
+claims_yes a lines files told is all_yes =
+    let digests = digests_are IsYesOrDigest (λ digest. inr (digest, refl)) files in
+    let all = joined_lines IsYesOrDigest (digests_of files) (told_lines told) digests (told_yes told all_yes) in
+    let whole = is ∙ all.1 in (
+      subst AreWholeLines (sym whole) (whole_lines all.0),
+      λ above line below has. line_holds IsYesOrDigest all.0 above line below lines [] all.2 has (append-nil lines ∙ whole),
+    )

@@ -2,74 +2,105 @@
 --
 -- `before` and `after` have the bytes under each name when the run begins and when it ends, `input` what its reader has left
 -- when it begins, and `lines` all that it wrote.
-use Rattle.std.specs.Prelude.{◌≡◌, ◌⊎◌, ℕ, ◌<◌, ◌≤◌, ◌^◌, ◌==◌, true, not, List, [], ◌++◌, Option, Some, codes, map}
-use Rattle.std.specs.List.{AllPass}
+use Rattle.std.specs.Prelude.{◌≡◌, ◌≢◌, ◌⊎◌, ℕ, ◌<◌, ◌≤◌, ◌^◌, List, [], ◌++◌, Option, Some, codes, decimal, map}
 use Rattle.std.specs.Option.{option_map_or}
 use Rattle.puz_board.specs.BoardTexts.{Spells}
 use Rattle.puz_board.specs.Masks.{numbers_of}
 use Rattle.puz_board.specs.MovesTexts.{Solves}
+use Rattle.claim_text.specs.Claims.{HasNo}
 use Rattle.tab_file.specs.Tables.{Table}
 use Rattle.tab_rule.specs.ExactTables.{IsExactFile}
 use Rattle.set_sum.specs.Bounds.{IsBounded}
 use Rattle.byte_io.specs.Shelf.{Bytes}
 use Rattle.pdb_request.specs.Asked.{Asked, ProveArguments, TableArguments, bound, make_table, optimal, prove, replay, solve, table}
-use Rattle.claim_text.specs.Lines.{Told}
-use Rattle.pdb_prove.specs.Answers.{are_yes}
-use Rattle.pdb_prove.specs.Prove.{told_lines}
-use Rattle.pdb_run.specs.Writing.{digests_of}
-use Rattle.pdb_program.specs.TrueLines.{AreTrueLines}
-use Rattle.pdb_verdict.specs.Bound.{IsProvedBound}
-use Rattle.pdb_verdict.specs.Lines.{counted, exact_line}
+use Rattle.pdb_verdict.specs.Bound.{IsBoundedText, IsProvedBound}
+use Rattle.pdb_verdict.specs.Lines.{exact_line}
 use Rattle.pdb_verdict.specs.Replay.{IsSolvedPuzzle}
 
--- the last of the lines is this one, or these; before it stand whole lines or none
-abbrev pub EndWith : Bytes → Bytes → Type 0
-EndWith last lines = (front : Bytes) × ((front ≡ []) ⊎ ((line : Bytes) × (front ≡ line ++ codes "\n"))) × (lines ≡ front ++ last)
+-- ---- whole lines
 
--- what a yes means, command by command, with the arguments of the command
-abbrev pub HoldsOfYes : Asked → (before after : Bytes → Option Bytes) → (input lines : Bytes) → Type 0
--- the last line is `solution n`, and the moves of the puzzle text, n of them, solve its board
-HoldsOfYes (replay a) before after input lines =
+-- nothing, or a text that ends with an LF
+abbrev pub AreWholeLines : Bytes → Type 0
+AreWholeLines text = (text ≡ []) ⊎ ((front : Bytes) × (text ≡ front ++ codes "\n"))
+
+-- the text has this line, with that above and below it: it begins the text or stands behind an LF, an LF ends it, and it has no
+-- other LF, whose byte is 10
+pub record HasLine (above line below text : Bytes) : Type 0 where
+  pub begins : AreWholeLines above
+  pub one : HasNo 10 line
+  pub whole : text ≡ above ++ (line ++ (codes "\n" ++ below))
+
+-- the line begins as the lines of a yes do
+abbrev pub SaysYes : Bytes → Type 0
+SaysYes line = (rest : Bytes)
+    × ((line ≡ codes "solution" ++ rest) ⊎ (line ≡ codes "exact" ++ rest) ⊎ (line ≡ codes "bound" ++ rest) ⊎ (line ≡ codes "optimal" ++ rest))
+
+-- ---- what a line of a yes means
+
+-- the line is `exact` of this side and this mask, whatever counts it ends with, and the file is the exact one of their pattern
+abbrev pub SaysExact : (line file : Bytes) → (side mask : ℕ) → Type 0
+SaysExact line file side mask =
+    (t : Table) × (t.pattern.side ≡ side) × (t.pattern.tiles ≡ numbers_of mask) × IsExactFile t file
+    × (entries : ℕ) × (unreachable : ℕ) × (deepest : ℕ) × (line ++ codes "\n" ≡ exact_line side mask entries unreachable deepest)
+
+-- the line is `bound n of` a board text, and no solution of its board has fewer than n moves; or it is `optimal n of` a puzzle text,
+-- whose moves, n of them, solve its board, and no solution has fewer
+abbrev pub HoldsOfClaim : Bytes → Type 0
+HoldsOfClaim line =
+    ((text : Bytes) × (n : ℕ) × (line ≡ codes "bound " ++ decimal n ++ codes " of" ++ text) × IsBoundedText text n)
+    ⊎ ((puzzle : Bytes) × (n : ℕ) × (solved : IsSolvedPuzzle puzzle n)
+    × (line ≡ codes "optimal " ++ decimal n ++ codes " of" ++ puzzle) × IsBounded solved.board n)
+
+-- what a line of a yes means below what stands above it, command by command, with the arguments of the command
+abbrev pub HoldsOfYes : Asked → (before after : Bytes → Option Bytes) → (input above line : Bytes) → Type 0
+-- the line is `solution n`, and the moves of the puzzle text, n of them, solve its board
+HoldsOfYes (replay a) before after input above line =
     (puzzle : Bytes) × (n : ℕ) × (option_map_or before a.puzzle (Some input) ≡ Some puzzle)
-    × EndWith (counted (codes "solution ") n) lines × IsSolvedPuzzle puzzle n
--- the last line is `exact` of a side and a mask, whatever counts it ends with, and the file is the exact one of their pattern
-HoldsOfYes (table a) before after input lines =
-    (file : Bytes) × (t : Table) × (mask : ℕ) × (before a.file ≡ Some file)
-    × (mask < 2 ^ 32) × (t.pattern.tiles ≡ numbers_of mask) × IsExactFile t file
-    × (entries : ℕ) × (unreachable : ℕ) × (deepest : ℕ) × EndWith (exact_line t.pattern.side mask entries unreachable deepest) lines
--- the last line is `bound n`, and no solution of the board in the text has fewer than n moves
-HoldsOfYes (bound a) before after input lines =
-    (text : Bytes) × (b : List ℕ) × (n : ℕ) × (before a.text ≡ Some text) × Spells text b
-    × EndWith (counted (codes "bound ") n) lines × IsBounded b n
--- the last line is `optimal n`; the moves of the puzzle text, n of them, solve its board, and no solution has fewer
-HoldsOfYes (optimal a) before after input lines =
+    × (line ≡ codes "solution " ++ decimal n) × IsSolvedPuzzle puzzle n
+-- the line is `exact` of a side and a mask, and the file is the exact one of their pattern
+HoldsOfYes (table a) before after input above line =
+    (file : Bytes) × (side : ℕ) × (mask : ℕ) × (before a.file ≡ Some file) × (mask < 2 ^ 32) × SaysExact line file side mask
+-- the line is `bound n`, and no solution of the board in the text has fewer than n moves
+HoldsOfYes (bound a) before after input above line =
+    (text : Bytes) × (n : ℕ) × (before a.text ≡ Some text) × (line ≡ codes "bound " ++ decimal n) × IsBoundedText text n
+-- the line is `optimal n`; the moves of the puzzle text, n of them, solve its board, and no solution has fewer
+HoldsOfYes (optimal a) before after input above line =
     (puzzle : Bytes) × (n : ℕ) × (solved : IsSolvedPuzzle puzzle n) × (before a.text ≡ Some puzzle)
-    × EndWith (counted (codes "optimal ") n) lines × IsBounded solved.board n
--- the bytes that stand under OUT afterwards are the exact file of the pattern of this side and this mask, and the last line is
--- `exact` of these
-HoldsOfYes (make_table a) before after input lines =
-    (file : Bytes) × (t : Table) × (after a.out ≡ Some file)
-    × (t.pattern.side ≡ a.side) × (t.pattern.tiles ≡ numbers_of a.mask) × IsExactFile t file
-    × (entries : ℕ) × (unreachable : ℕ) × (deepest : ℕ) × EndWith (exact_line a.side a.mask entries unreachable deepest) lines
--- the last lines are `moves` with a moves text on the same line, and `optimal n`; its n moves solve the board in the text, and no
--- solution has fewer; and the bytes that stand under OUT afterwards are a log that proves this bound, over the sets and the tables
-HoldsOfYes (solve a) before after input lines =
+    × (line ≡ codes "optimal " ++ decimal n) × IsBounded solved.board n
+-- the bytes that stand under OUT afterwards are the exact file of the pattern of this side and this mask, and the line is `exact`
+-- of these
+HoldsOfYes (make_table a) before after input above line =
+    (file : Bytes) × (after a.out ≡ Some file) × SaysExact line file a.side a.mask
+-- the line is `optimal n`, and the one above it `moves` with a moves text; its n moves solve the board in the text, and no solution
+-- has fewer; and the bytes that stand under OUT afterwards are a log that proves this bound, over the sets and the tables
+HoldsOfYes (solve a) before after input above line =
     (text : Bytes) × (b : List ℕ) × (moves : Bytes) × (n : ℕ) × (before a.board ≡ Some text) × Spells text b
-    × EndWith (codes "moves" ++ moves ++ codes "\n" ++ counted (codes "optimal ") n) lines × AllPass (λ byte. not (byte == 10)) moves
+    × (line ≡ codes "optimal " ++ decimal n) × (higher : Bytes) × HasLine higher (codes "moves" ++ moves) [] above
     × Solves b moves n × IsBounded b n
     × (set_text : Bytes) × (files : List Bytes) × (log : Bytes) × (before a.sets ≡ Some set_text) × (map before a.tables ≡ map Some files)
     × (after a.out ≡ Some log) × IsProvedBound a.fold b set_text log files n
--- the lines are digests and what is told of claims, each a yes; that each of them is true is said below, whatever the status
-HoldsOfYes (prove a) before after input lines =
-    (files : List Bytes) × (told : List Told) × (lines ≡ digests_of files ++ told_lines told) × (are_yes told ≡ true)
+-- the line is a true answer to a claim
+HoldsOfYes (prove a) before after input above line = HoldsOfClaim line
+
+-- ---- the program's answers
+
+-- the last line says a yes; of `prove` each line does, but for digests
+abbrev pub AreAYes : Asked → Bytes → Type 0
+AreAYes (prove a) lines = AreWholeLines lines × ((above line below : Bytes) → HasLine above line below lines
+    → SaysYes line ⊎ ((rest : Bytes) × (line ≡ codes "sha256 " ++ rest)))
+AreAYes other lines = (above : Bytes) × (line : Bytes) × HasLine above line [] lines × SaysYes line
 
 -- A run that was asked for this and ends with this status, 0 for a yes and 1 for a no. What a no means of `table`: the bytes under
 -- the name are no exact file, of whatever pattern; so an exact file is answered with 0, or by 2 or 3, but never with 1. What 2 and 3
 -- mean is said where runs are (`RunsOn`).
 pub record Headline (asked : Asked) (before after : Bytes → Option Bytes) (input lines : Bytes) (status : ℕ) : Type 0 where
-  pub yes : status ≡ 0 → HoldsOfYes asked before after input lines
+  -- each line that says a yes is true, whatever the status and whatever else happened
+  pub lines_true : (above line below : Bytes) → HasLine above line below lines → SaysYes line → HoldsOfYes asked before after input above line
+  -- it is the last line, and the status is 0; of `prove` more lines may follow, and one of these may be a no
+  pub last : (above line below : Bytes) → HasLine above line below lines → SaysYes line → ((a : ProveArguments) → asked ≢ prove a)
+      → (below ≡ []) × (status ≡ 0)
+  -- and there is one where the status is 0
+  pub yes : status ≡ 0 → AreAYes asked lines
   pub no : (a : TableArguments) → asked ≡ table a → status ≡ 1
       → (file : Bytes) × (before a.file ≡ Some file) × ((t : Table) → ¬ IsExactFile t file)
-  -- each line of `prove` is true, whatever the status and whatever happened later
-  pub lines_true : (a : ProveArguments) → asked ≡ prove a → AreTrueLines lines
   pub known : status ≤ 3

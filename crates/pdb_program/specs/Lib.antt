@@ -2,6 +2,5 @@
 pub mod Headline
 pub mod Programs
 pub mod Refusals
-pub mod TrueLines
 -- What proofs alone need.
 pub mod Steps

@@ -2,10 +2,12 @@
 #![tactic(auto)]
 
 mod hosts;
+mod in_memory;
 mod programs;
 mod refusals;
 mod starts;
 
 pub use hosts::{Call, Host};
+pub use in_memory::{MemoryRun, run_in_memory};
 pub use programs::run;
 pub use starts::start;

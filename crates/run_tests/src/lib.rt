@@ -10,6 +10,8 @@ mod disks;
 #[cfg(test)]
 mod faulty;
 #[cfg(test)]
+mod in_memory;
+#[cfg(test)]
 mod limits;
 #[cfg(test)]
 mod makers;

@@ -97,6 +97,26 @@ fn a_load_that_fails_is_a_fault_alone(rt: HostRuntime) -> Result<(), Fail> {
 }
 
 #[test]
+fn each_input_is_loaded_once(rt: HostRuntime) -> Result<(), Fail> {
+    let alloc = rt.alloc();
+    for (words, names) in READERS {
+        let files = MemShelf::of(alloc, &FILES)?;
+        let mut shelf = FailingShelf::new(files, 99, ShelfFault::Device);
+        let mut reader = b"".as_slice();
+        let ended = ran(&rt, alloc, words, &mut shelf, &mut reader)?;
+        // A search tries the name of its log, and then keeps it.
+        let keeps = if words.first().is_some_and(|word| *word == "solve") {
+            2
+        } else {
+            0
+        };
+        assert!(rt; ended.status == 0, "status {}", ended.status);
+        assert_eq!(rt; shelf.calls(), names.len() as u64 + keeps);
+    }
+    Ok(())
+}
+
+#[test]
 fn what_can_not_be_kept_is_told_alone(rt: HostRuntime) -> Result<(), Fail> {
     let alloc = rt.alloc();
     for name in ["made", "taken", "board"] {

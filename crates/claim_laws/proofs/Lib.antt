@@ -1,0 +1,5 @@
+mod CountLemmas
+mod ExactLemmas
+mod FileLemmas
+mod FoldLemmas
+mod SolutionLemmas

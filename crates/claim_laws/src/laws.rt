@@ -1,0 +1,20 @@
+//! Laws of shortest solutions and of exact tables. Each function here says what holds of all of them, and does nothing.
+
+ghost use Rattle.claim_laws.specs.FoldedLogs.{FoldedLogsAreGoodUnfolded};
+ghost use Rattle.claim_laws.specs.Solutions.{ShortestSolutionsTakeNothingBack};
+ghost use Rattle.claim_laws.specs.TableFiles.{PatternsHaveOneExactFile};
+
+/// No move of a shortest solution takes back the one before.
+pub fn shortest_solutions_take_nothing_back()
+    ensures { ShortestSolutionsTakeNothingBack }
+{}
+
+/// A pattern has one exact file at most.
+pub fn patterns_have_one_exact_file()
+    ensures { PatternsHaveOneExactFile }
+{}
+
+/// A log that proves a bound with `--fold` proves it without.
+pub fn folded_logs_are_good_unfolded()
+    ensures { FoldedLogsAreGoodUnfolded }
+{}
