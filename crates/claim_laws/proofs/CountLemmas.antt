@@ -94,6 +94,7 @@ raised_most parity d e less = go (eqb (d % 2) parity) (eqb (e % 2) parity) refl 
           | inr above ↦ let same : d ≡ e = omega (arith, less, above) in absurd (apart (ap (λ k. k % 2) same ∙ here))
         ]
 
+-- a count that is no less reaches what the other reaches, taken by parity or not
 pub told_most : (by_parity : Bool) (b : List ℕ) (c e : Count) (r : ℕ) → IsAtMost c e → CountReaches (told_of by_parity b c) r
     → CountReaches (told_of by_parity b e) r
 told_most true b c Never r most reaches = tt

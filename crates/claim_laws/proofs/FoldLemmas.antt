@@ -178,6 +178,7 @@ good_more v w b file bound side more good =
       };
     }
 
+-- so the log proves the bound over the full tables
 pub folded_is_good : FoldedLogsAreGoodUnfolded
 folded_is_good board sets log files bound proved =
     let v = proved.bundle in

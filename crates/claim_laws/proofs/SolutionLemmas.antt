@@ -42,6 +42,7 @@ shorter (x ∷ front) b behind n c good solves =
     let back : IsPath (side_of b) x (front ++ behind) = subst (λ z. IsPath (side_of b) z (front ++ behind)) here (subst (λ k. IsPath k (blank d) (front ++ behind)) side rest.0) in
     ((solves.0.0, back), rest.1)
 
+-- so a shortest solution has no such moves
 pub takes_nothing_back : ShortestSolutionsTakeNothingBack
 takes_nothing_back b front behind c d good solves bounded = λ same.
     let path = front ++ (c ∷ d ∷ behind) in

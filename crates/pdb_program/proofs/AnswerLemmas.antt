@@ -49,6 +49,7 @@ behind_lines front line lines none last = record {
   one = last.one;
 }
 
+-- lines of digests say no yes
 pub digests_say_no_yes : (files : List Bytes) → IsOfNoYes (digests_of files)
 digests_say_no_yes files = digests_are SaysNoYes digest_no_yes files
 
@@ -88,6 +89,7 @@ exact_words side mask entries unreachable deepest =
     codes "exact side " ++ decimal side ++ codes " mask " ++ decimal mask ++ codes " entries " ++ decimal entries
     ++ codes " unreachable " ++ decimal unreachable ++ codes " deepest " ++ decimal deepest
 
+-- they are one line
 pub exact_one : (side mask entries unreachable deepest : ℕ) → HasNo 10 (exact_words side mask entries unreachable deepest)
 exact_one side mask entries unreachable deepest =
     let a = codes "exact side " ++ decimal side in
@@ -102,6 +104,7 @@ exact_one side mask entries unreachable deepest =
     let is_d = more c (codes " unreachable ") unreachable is_c (known (codes " unreachable ") refl) in
     more d (codes " deepest ") deepest is_d (known (codes " deepest ") refl)
 
+-- a text and a number are the last line, where they stand alone
 pub counted_last : (text : Bytes) (n : ℕ) → HasNo 10 text → IsLast (text ++ decimal n) (counted text n)
 counted_last text n none = line_last (text ++ decimal n) (join_no_lf text (decimal n) none (decimal-no_lf n))
 
@@ -160,6 +163,7 @@ moves_else (letter ∷ letters) one =
     let spaced = codes " " ++ (letter ∷ letters) in
     (codes "moves" ++ spaced, refl, else_moves spaced (join_no_lf (codes " ") (letter ∷ letters) (known (codes " ") refl) one))
 
+-- nor does its text
 pub moves_say_no_yes : (moves : Bytes) → IsOfNoYes (moves_line (letters_of moves))
 moves_say_no_yes moves = else_alone (moves_line (letters_of moves)) (moves_else (letters_of moves) (letters_one moves))
 
@@ -192,6 +196,7 @@ unkept_answer : (name : Bytes) (why : KeepFault) → IsAnswerText (unkept_text n
 unkept_answer name keep.F3 = else_answer _ _ (named (codes "write ") (Some name) refl)
 unkept_answer name keep.Memory = else_answer _ _ memory
 
+-- the text of each outcome ends as its status says
 pub outcome_answer : (asked : Asked) (old : World) (failed : Bool) (outcome : Outcome) → AnswersOnce asked → HasCause (plan_of asked) old failed outcome
     → IsAnswerText (text_of outcome) (status_of outcome)
 outcome_answer asked old failed (replied inputs reply) once cause = right_answer asked old inputs reply once cause

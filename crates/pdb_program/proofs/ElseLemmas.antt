@@ -54,6 +54,7 @@ else_no_yes (first ∷ words) behind says = λ yes. elim yes.1 [
   | inr (inr (inr e)) ↦ says.3 (ap (head_of 0) e)
 ]
 
+-- such words are of one line
 pub says_else : (words : Bytes) → SaysElse words → HasNo 10 words
 says_else [] says = absurd says
 says_else (first ∷ words) says = says.4
@@ -104,6 +105,7 @@ twice_numbered text other n m first second =
       refused_else words none,
     )
 
+-- want of memory is said so
 pub memory : IsElseLine memory_line
 memory = (codes "no memory", refl, ((λ e. omega (arith, e)), (λ e. omega (arith, e)), (λ e. omega (arith, e)), (λ e. omega (arith, e)), known (codes "no memory") refl))
 
