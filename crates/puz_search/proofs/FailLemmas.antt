@@ -1,5 +1,5 @@
 -- Searches that fail bound the solutions of their boards, and step by step what a search fails with.
-use Rattle.std.proofs.Common.{◌≡◌, ℕ, zero, suc, ◌+◌, ◌-◌, ◌<◌, ◌≤◌, ◌↔◌, Bool, true, false, List, Option, Some, None, inl, inr, sym, subst, arith}
+use Rattle.std.proofs.Common.{◌≡◌, ℕ, zero, suc, ◌+◌, ◌-◌, ◌<◌, ◌≤◌, ◌↔◌, Bool, true, false, List, Option, Some, None, inl, inr, refl, sym, subst, arith}
 use Rattle.puz_board.specs.Boards.{IsBoardOf, IsGoal, moved}
 use Rattle.puz_board.specs.declared.moves.Move.{Move}
 use Rattle.puz_board.specs.declared.moves.Move.TheVariants.{Up, Down, Left, Right}
@@ -7,7 +7,8 @@ use Rattle.puz_board.proofs.MovedLemmas.{IsBoardOf-moved}
 use Rattle.set_sum.specs.Bounds.{IsBounded}
 use Rattle.set_sum.specs.Bundles.{ShownBundle, IsBundle}
 use Rattle.set_sum.proofs.SayLemmas.{at_least_bounds}
-use Rattle.puz_search.specs.Searches.{AtChild, AtChildren, Fails, InTurn, IsCutOff, most_boards, takes_back}
+use Rattle.puz_walk.specs.Walks.{IsClosed, IsCutOff}
+use Rattle.puz_search.specs.Searches.{AtChild, AtChildren, Fails, InTurn, most_boards, takes_back}
 use Rattle.puz_search.proofs.BranchLemmas.{Bounds, BoundsAfter, branch_bounds}
 
 -- ---- the place of a move
@@ -41,6 +42,9 @@ module _ (v : ShownBundle) (b : List ℕ) (arriving : Option Move) where
   fails_cut zero cut boards = (λ h. h, λ h. h)
   fails_cut (suc r) cut boards = (λ h. elim h [ inl none ↦ none.1 | inr open_ ↦ absurd (open_.0 cut) ], λ e. inl (cut, e))
 
+  pub fails_closed : (r : ℕ) → IsClosed v b r → (boards : ℕ) → Fails v r b arriving boards ↔ (boards ≡ 0)
+  fails_closed r closed boards = elim closed [ inl none ↦ fails_zero r none boards | inr cut ↦ fails_cut r cut boards ]
+
   -- where it is expanded
   pub fails_open : (r : ℕ) → 1 ≤ r → (¬ IsCutOff v b r) → (¬ IsGoal b) → (boards : ℕ)
       → Fails v r b arriving boards ↔ ((below : ℕ) × (boards ≡ below + 1) × AtChildren b arriving (λ move next. Fails v (r - 1) next (Some move)) below)
@@ -63,6 +67,13 @@ module _ (v : ShownBundle) (b : List ℕ) (arriving : Option Move) where
   pub fails_some : (r : ℕ) → 1 ≤ r → (¬ IsCutOff v b r) → (boards : ℕ) → Fails v r b arriving boards → 0 < boards
   fails_some zero some whole boards h = absurd (omega arith)
   fails_some (suc r) some whole boards h = elim h [ inl none ↦ absurd (whole none.0) | inr on ↦ let e : boards ≡ on.2 + 1 = on.3 in omega arith ]
+
+-- where a move leads to no open board
+pub at_nowhere : (v : ShownBundle) (r : ℕ) (o : Option (List ℕ)) (back : Bool) (move : Move) → ((next : List ℕ) → o ≡ Some next → IsClosed v next r)
+    → (count : ℕ) → AtChild o back (λ next. Fails v r next (Some move)) count ↔ (count ≡ 0)
+at_nowhere v r None back move none count = (λ h. h, λ h. h)
+at_nowhere v r (Some b) true move none count = (λ h. h, λ h. h)
+at_nowhere v r (Some b) false move none count = fails_closed v b (Some move) r (none b refl) count
 
 -- ---- bounds
 

@@ -7,13 +7,14 @@ use Rattle.puz_board.specs.declared.moves.Move.TheVariants.{Up, Down, Left, Righ
 use Rattle.puz_search.specs.Frontiers.{Adds, IsMore, child_fails_of}
 use Rattle.puz_search.specs.Nodes.{IsLed, IsPartAnswer, node_fails, solves_below, solves_first}
 use Rattle.puz_search.specs.Outcomes.{IsTrail}
-use Rattle.puz_search.specs.Searches.{Fails, InTurn, IsCutOff, most_boards, takes_back}
+use Rattle.puz_walk.specs.Walks.{IsClosed, IsCutOff}
+use Rattle.puz_search.specs.Searches.{Fails, InTurn, most_boards, takes_back}
 use Rattle.puz_search.specs.declared.answers.Answer.{Answer}
 use Rattle.puz_search.specs.declared.answers.Answer.TheVariants.{Refuted, Solved, Spent}
 use Rattle.puz_search.specs.declared.nodes.Node.{Node}
 use Rattle.puz_search.specs.declared.searches.Search.{Search}
 use Rattle.puz_search.proofs.CountLemmas.{adds_as, adds_both}
-use Rattle.puz_search.proofs.FailLemmas.{at_child, fails_cut, fails_open}
+use Rattle.puz_search.proofs.FailLemmas.{at_child, fails_closed, fails_open}
 use Rattle.puz_search.proofs.TrailLemmas.{trail_move}
 use Rattle.puz_search.proofs.WalkLemmas.{most_open}
 
@@ -47,11 +48,11 @@ module _ (s : Search) (node child : Node) (move : Move) (next : List ℕ) (leads
       λ h. subst (λ a. Fails v (node.bound - 1) next a n) arriving (subst (λ b. Fails v (node.bound - 1) b child.arriving n) board (subst (λ r. Fails v r child.board child.arriving n) (sym less) h)) in
       (λ h. there (at.0 h), λ h. at.1 (back h))
 
-  -- where it is cut off, no board is expanded after the move
-  pub child_cut : IsCutOff s.bundle.now child.board child.bound → (n : ℕ) → child_fails_of s node move n ↔ (n ≡ 0)
-  child_cut cut n =
+  -- where it is closed, no board is expanded after the move
+  pub child_closed : IsClosed s.bundle.now child.board child.bound → (n : ℕ) → child_fails_of s node move n ↔ (n ≡ 0)
+  child_closed closed n =
       let same = child_same n in
-      let none = fails_cut s.bundle.now child.board child.arriving child.bound cut n in
+      let none = fails_closed s.bundle.now child.board child.arriving child.bound closed n in
       (λ h. none.0 (same.0 h), λ e. same.1 (none.1 e))
 
 -- ---- a node that is expanded

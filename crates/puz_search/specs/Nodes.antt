@@ -1,12 +1,13 @@
 -- Nodes: boards of a search, below which is still to be searched.
 use Rattle.std.specs.Prelude.{◌≡◌, ℕ, ◌+◌, ◌<◌, ◌≤◌, List, ◌++◌, length, None}
 use Rattle.puz_board.specs.Boards.{IsBoardOf}
-use Rattle.puz_search.specs.Outcomes.{IsTrail}
+use Rattle.puz_search.specs.Outcomes.{IsTrail, walk_at}
 use Rattle.puz_search.specs.Searches.{Fails}
 use Rattle.puz_search.specs.declared.answers.Answer.{Answer}
 use Rattle.puz_search.specs.declared.answers.Answer.TheVariants.{Refuted, Solved, Spent}
 use Rattle.puz_search.specs.declared.nodes.Node.{Node}
 use Rattle.puz_search.specs.declared.searches.Search.{Search}
+use Rattle.puz_search.specs.declared.walks.Reached.{Reached}
 
 -- the search below a node fails, and expands so many boards
 abbrev pub node_fails : Search → Node → ℕ → Type 0
@@ -22,6 +23,11 @@ pub record IsFirst (s : Search) (node : Node) : Type 0 where
 pub record IsPlaced (s : Search) (node : Node) : Type 0 where
   pub board : IsBoardOf s.bundle.now.side node.board
   pub left : length node.letters.items + node.bound ≡ s.bound
+
+-- a search reaches the board of the node, by a walk over the bundle
+pub record IsReached (s : Search) (node : Node) (reached : Reached) : Type 0 where
+  pub walk : walk_at reached ≡ record { bundle = s.bundle.now; board = node.board; bound = node.bound }
+  pub arriving : reached.arriving ≡ node.arriving
 
 -- the letters lead from the first board to that of the node: with the letters of a trail from there they are a trail
 pub record IsLed (s : Search) (node : Node) : Type 0 where

@@ -5,7 +5,8 @@ use Rattle.puz_board.specs.Cells.{reverse_of}
 use Rattle.puz_board.specs.Parity.{blank_parity}
 use Rattle.puz_board.specs.declared.moves.Move.{Move}
 use Rattle.puz_board.specs.declared.moves.Move.TheVariants.{Up, Down, Left, Right}
-use Rattle.set_sum.specs.Bundles.{ShownBundle, SaysAtLeast}
+use Rattle.set_sum.specs.Bundles.{ShownBundle}
+use Rattle.puz_walk.specs.Walks.{IsCutOff}
 
 -- ---- the moves of a board
 
@@ -23,10 +24,6 @@ takes_back None move = false
 takes_back (Some arriving) move = is_same_move (reverse_of arriving) move
 
 -- ---- searches
-
--- some set, taken by parity, says that the board has no solution, or none of fewer than r moves
-abbrev pub IsCutOff : ShownBundle → List ℕ → ℕ → Type 0
-IsCutOff v b r = (set : ℕ) × SaysAtLeast v true set b r
 
 -- a count of boards at the place of a move: where the move leads to a board and doesn't take back the arriving one, this holds of
 -- that board and the count; otherwise the count is 0

@@ -6,7 +6,6 @@ ghost use Rattle.puz_search.specs.Frontiers.{Adds, IsFrontier, all_fail, child_f
 ghost use Rattle.puz_search.specs.Nodes.{IsLed, node_fails};
 ghost use Rattle.puz_search.specs.Searches.{most_boards};
 
-use crate::cuts::is_cut_off;
 use crate::nodes::Node;
 use crate::order::takes_back;
 use crate::searches::Search;
@@ -72,14 +71,10 @@ fn expand(task: &Search<'_>, node: Node, next: &mut Vec<Node>) -> Result<bool, A
     ensures { IfOk result (λ expanded. Adds task.now (node_fails task.now node)
         (most_boards node.bound) (if expanded then 1 else 0) next.old.items next.new.items) }
 {
-    let mut reached = task.reached(&node);
-    if reached.bound == 0 {
+    let Some(reached) = task.reached(&node) else {
         return Ok(false);
-    }
-    if is_cut_off(&mut reached) {
-        return Ok(false);
-    }
-    if reached.sums.is_goal() {
+    };
+    if reached.walk.is_goal() {
         next.push(node)?;
         return Ok(false);
     }
@@ -109,7 +104,7 @@ fn add_child(
         return Ok(());
     };
     let child = task.after(node, mv, board);
-    if !is_cut_off(&mut task.reached(&child)) {
+    if task.reached(&child).is_some() {
         next.push(child)?;
     }
     Ok(())

@@ -2,7 +2,6 @@
 #![tactic(auto)]
 
 mod answers;
-mod cuts;
 mod deepening;
 mod efforts;
 mod frontiers;

@@ -1,15 +1,16 @@
 //! Boards below which is still to be searched.
 
-ghost use Rattle.std.specs.Prelude.{◌≡◌, ◌+◌, ◌≤◌, Some, None, length};
+ghost use Rattle.std.specs.Prelude.{◌≡◌, ◌+◌, ◌≤◌, Some, None, IfNone, IfSome, length};
 ghost use Rattle.puz_board.specs.Boards.{moved};
-ghost use Rattle.puz_search.specs.Nodes.{IsFirst, IsLed, IsPlaced};
+ghost use Rattle.puz_walk.specs.Walks.{IsClosed};
+ghost use Rattle.puz_search.specs.Nodes.{IsFirst, IsLed, IsPlaced, IsReached};
 
 use crate::answers::{Letters, joined};
 use crate::searches::Search;
 use crate::walks::Reached;
 use arrayvec::ArrayVec;
 use puz_board::{Board, Move};
-use set_sum::Sums;
+use puz_walk::Walk;
 
 /// A board below which is still to be searched.
 #[derive(Drop)]
@@ -37,20 +38,18 @@ impl<'a> Search<'a> {
         }
     }
 
-    /// The board of a node, as a search reaches it.
-    pub(crate) fn reached(&self, node: &Node) -> Reached<'a>
+    /// The board of a node, as a search reaches it, where it isn't cut off.
+    pub(crate) fn reached(&self, node: &Node) -> Option<Reached<'a>>
         requires { IsPlaced self.now node.now }
-        ensures { result ≡ record {
-          sums = record { bundle = self.now.bundle.now; board = node.now.board };
-          arriving = node.now.arriving;
-          bound = node.now.bound;
-        } }
+        ensures some { IfSome result (IsReached self.now node.now) }
+        ensures none { IfNone result
+            (IsClosed self.now.bundle.now node.now.board node.now.bound) }
     {
-        Reached {
-            sums: Sums::new(self.bundle, &node.board),
+        let walk = Walk::of_sums(self.bundle, &node.board, node.bound)?;
+        Some(Reached {
+            walk,
             arriving: node.arriving,
-            bound: node.bound,
-        }
+        })
     }
 
     /// The node after a move of a node, which leads to this board.

@@ -51,7 +51,10 @@ pub(crate) fn refute_node(task: &Search<'_>, node: &Node, effort: &mut Effort) -
         (solves_below node.now) effort.old.left result }
 {
     let budget = effort.left;
-    match search(&mut task.reached(node), effort) {
+    let Some(mut reached) = task.reached(node) else {
+        return Answer::Refuted(0);
+    };
+    match search(&mut reached, effort) {
         Ok(()) => Answer::Refuted(budget - effort.left),
         Err(Stop::Solved) => {
             effort.letters.reverse();
