@@ -1,0 +1,7 @@
+use Rattle.std.proofs.Common.{ℕ, ◌<◌, get_or}
+use Rattle.move_strings.specs.Drafts.{IsRightStep, moves_at}
+use Rattle.move_strings.specs.declared.drafts.Step.{Step}
+use Rattle.move_strings.proofs.drafts.are_right_steps.Given as goal
+
+abbrev pub invariant-loop-place : goal.invariant-loop-place
+invariant-loop-place l = (k : ℕ) (none : Step) → k < l.place → IsRightStep l.labels l.forbidden (moves_at l.labels k) (get_or l.steps k none)

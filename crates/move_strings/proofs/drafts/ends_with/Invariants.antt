@@ -1,0 +1,5 @@
+use Rattle.std.proofs.Common.{◌≡◌, ◌+◌, drop}
+use Rattle.move_strings.proofs.drafts.ends_with.Given as goal
+
+abbrev pub invariant-loop-i : goal.invariant-loop-i
+invariant-loop-i l = drop (l.start + l.i) l.moves ≡ drop l.i l.string → drop l.start l.moves ≡ l.string

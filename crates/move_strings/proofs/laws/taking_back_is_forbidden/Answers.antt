@@ -1,0 +1,5 @@
+use Rattle.move_strings.proofs.ReversalLemmas.{IsForbidden-reversal}
+use Rattle.move_strings.proofs.laws.taking_back_is_forbidden.Goals as goal
+
+pub returns : goal.returns
+returns c n m = IsForbidden-reversal n m
