@@ -1,7 +1,7 @@
 mod AnswerLemmas
-mod BranchLemmas
 mod CountLemmas
 mod DeepLemmas
+mod EnoughLemmas
 mod FailLemmas
 mod FrontierLemmas
 mod NodeLemmas

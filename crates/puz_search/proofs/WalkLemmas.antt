@@ -1,17 +1,18 @@
 -- The steps of a search, on a board that was reached.
-use Rattle.std.proofs.Common.{◌≡◌, ℕ, zero, suc, ◌+◌, ◌*◌, ◌-◌, ◌<◌, ◌≤◌, ◌↔◌, false, List, [], reverse, Result, Ok, Err, Some, refl, sym, ◌∙◌, ap, subst, arith}
+use Rattle.std.proofs.Common.{◌≡◌, ◌≢◌, ℕ, zero, suc, ◌+◌, ◌*◌, ◌-◌, ◌<◌, ◌≤◌, ◌↔◌, false, List, [], reverse, Result, Ok, Err, Some, refl, sym, ◌∙◌, ap, subst, eq-eqb, ne_eqb, arith}
 use Rattle.std.specs.Prelude.{IfErr, IsErrAnd, OnOk}
 use Rattle.puz_board.specs.Boards.{IsGoal, moved}
 use Rattle.puz_board.specs.declared.moves.Move.{Move}
 use Rattle.puz_board.specs.declared.moves.Move.TheVariants.{Up, Down, Left, Right}
-use Rattle.puz_search.specs.Outcomes.{AfterMove, IsRefuted, IsStop, IsTrail, bound_at, child_fails, children_fail, fails_at, is_solved_at, most_children, walk_at}
+use Rattle.puz_search.specs.Outcomes.{AfterMove, IsRefuted, IsStop, IsTrail, bound_at, child_fails, children_fail, fails_at, guide_at, is_solved_at, most_children, walk_at}
+use Rattle.move_strings.specs.Automata.{left_out, next_at}
 use Rattle.puz_walk.specs.Walks.{IsOpen, LeadsNowhere}
-use Rattle.puz_search.specs.Searches.{Fails, InTurn, most_boards, takes_back}
+use Rattle.puz_search.specs.Searches.{Fails, InTurn, leaves_out, most_boards}
 use Rattle.puz_search.specs.declared.efforts.Effort.{Effort}
 use Rattle.puz_search.specs.declared.efforts.Stop.{Stop}
 use Rattle.puz_search.specs.declared.efforts.Stop.TheVariants.{Solved, Spent}
 use Rattle.puz_search.specs.declared.walks.Reached.{Reached}
-use Rattle.puz_search.proofs.FailLemmas.{at_child, at_nowhere, fails_goal, fails_open, fails_some}
+use Rattle.puz_search.proofs.FailLemmas.{at_child, at_nowhere, at_out, fails_goal, fails_open, fails_some}
 use Rattle.puz_search.proofs.OutcomeLemmas.{refuted_as, refuted_none, refuted_both, stop_first, stop_second}
 use Rattle.puz_search.proofs.TrailLemmas.{reverse_push, trail_end, trail_move}
 
@@ -54,14 +55,14 @@ pub goal_solved : (r : Reached) → IsOpen (walk_at r) → IsGoal (walk_at r).bo
     → is_solved_at r letters × ((boards : ℕ) → ¬ fails_at r boards)
 goal_solved r open_ goal letters none = (
   subst (is_solved_at r) (sym none) (trail_end (walk_at r).board (bound_at r) open_.some goal),
-  fails_goal (walk_at r).bundle (walk_at r).board r.arriving (bound_at r) open_.some open_.not_cut goal,
+  fails_goal (guide_at r) (walk_at r).board r.state (bound_at r) open_.some open_.not_cut goal,
 )
 
 -- where no board may be expanded
 pub spent_stopped : (r : Reached) → IsOpen (walk_at r) → (e : Effort) → e.left ≡ 0 → (e.left < most_boards (bound_at r)) × ((boards : ℕ) → fails_at r boards → e.left < boards)
 spent_stopped r open_ e none = (
   let most = most_open (bound_at r) open_.some in omega arith,
-  λ boards h. let some = fails_some (walk_at r).bundle (walk_at r).board r.arriving (bound_at r) open_.some open_.not_cut boards h in omega arith,
+  λ boards h. let some = fails_some (guide_at r) (walk_at r).board r.state (bound_at r) open_.some open_.not_cut boards h in omega arith,
 )
 
 module _ (r : Reached) (open_ : IsOpen (walk_at r)) (far : ¬ IsGoal (walk_at r).board) (old spent new : Effort) (one : old.left ≡ spent.left + 1) where
@@ -70,9 +71,9 @@ module _ (r : Reached) (open_ : IsOpen (walk_at r)) (far : ¬ IsGoal (walk_at r)
     boards = is.boards + 1;
     left = let left = is.left in omega arith;
     few = let few = is.few in let most = most_open (bound_at r) open_.some in omega arith;
-    fails = (fails_open (walk_at r).bundle (walk_at r).board r.arriving (bound_at r) open_.some open_.not_cut far (is.boards + 1)).1 (is.boards, refl, is.fails);
+    fails = (fails_open (guide_at r) (walk_at r).board r.state (bound_at r) open_.some open_.not_cut far (is.boards + 1)).1 (is.boards, refl, is.fails);
     once = λ n h.
-        let on = (fails_open (walk_at r).bundle (walk_at r).board r.arriving (bound_at r) open_.some open_.not_cut far n).0 h in
+        let on = (fails_open (guide_at r) (walk_at r).board r.state (bound_at r) open_.some open_.not_cut far n).0 h in
         let e : n ≡ on.0 + 1 = on.1 in
         let same : on.0 ≡ is.boards = is.once on.0 on.2 in
         omega arith;
@@ -80,11 +81,11 @@ module _ (r : Reached) (open_ : IsOpen (walk_at r)) (far : ¬ IsGoal (walk_at r)
   }
 
   pub opened_stopped : (stop : Stop) → IsStop (children_fail r) (is_solved_at r) (most_children 4 (bound_at r)) stop spent new → IsStop (fails_at r) (is_solved_at r) (most_boards (bound_at r)) stop old new
-  opened_stopped Solved is = (is.0, λ n h. let on = (fails_open (walk_at r).bundle (walk_at r).board r.arriving (bound_at r) open_.some open_.not_cut far n).0 h in is.1 on.0 on.2)
+  opened_stopped Solved is = (is.0, λ n h. let on = (fails_open (guide_at r) (walk_at r).board r.state (bound_at r) open_.some open_.not_cut far n).0 h in is.1 on.0 on.2)
   opened_stopped Spent is = (
     let l : spent.left < most_children 4 (bound_at r) = is.0 in let most = most_open (bound_at r) open_.some in omega arith,
     λ n h.
-        let on = (fails_open (walk_at r).bundle (walk_at r).board r.arriving (bound_at r) open_.some open_.not_cut far n).0 h in
+        let on = (fails_open (guide_at r) (walk_at r).board r.state (bound_at r) open_.some open_.not_cut far n).0 h in
         let l : spent.left < on.0 = is.1 on.0 on.2 in
         let e : n ≡ on.0 + 1 = on.1 in
         omega arith,
@@ -158,19 +159,33 @@ module _ (r s t u : Reached) (first : s ≡ r) (second : t ≡ s) (third : u ≡
 pub nowhere_refuted : (r : Reached) (move : Move) (e : Effort) → LeadsNowhere (walk_at r) move → e.letters.items ≡ [] → IsRefuted (child_fails r move) (most_children 1 (bound_at r)) e e
 nowhere_refuted r move e none clean =
     refuted_none (child_fails r move) (most_children 1 (bound_at r)) e
-    (at_nowhere (walk_at r).bundle (bound_at r - 1) (moved (walk_at r).board move) (takes_back r.arriving move) move none) clean
+    (at_nowhere (guide_at r) (bound_at r - 1) (moved (walk_at r).board move) (leaves_out r.automaton.now.steps r.state move)
+    (next_at r.automaton.now.steps r.state move) none) clean
 
-module _ (r next : Reached) (move : Move) (some : 1 ≤ bound_at r) (on : takes_back r.arriving move ≡ false)
-    (leads : moved (walk_at r).board move ≡ Some (walk_at next).board) (bundle : (walk_at next).bundle ≡ (walk_at r).bundle) (arriving : next.arriving ≡ Some move) (bound : bound_at next ≡ bound_at r - 1) where
+-- the automaton has a step
+pub step_kept : (steps : List ℕ) (state next : ℕ) (move : Move) → next_at steps state move ≡ next → next ≢ left_out → leaves_out steps state move ≡ false
+step_kept steps state next move to kept = ne_eqb (next_at steps state move) left_out (λ e. kept (sym to ∙ e))
+
+-- where the automaton leaves the move out
+pub out_refuted : (r : Reached) (move : Move) (e : Effort) → next_at r.automaton.now.steps r.state move ≡ left_out → e.letters.items ≡ [] → IsRefuted (child_fails r move) (most_children 1 (bound_at r)) e e
+out_refuted r move e out clean =
+    refuted_none (child_fails r move) (most_children 1 (bound_at r)) e
+    (at_out (moved (walk_at r).board move) (leaves_out r.automaton.now.steps r.state move)
+    (λ next. Fails (guide_at r) (bound_at r - 1) next (next_at r.automaton.now.steps r.state move)) (eq-eqb (next_at r.automaton.now.steps r.state move) left_out out)) clean
+
+module _ (r next : Reached) (move : Move) (some : 1 ≤ bound_at r) (on : leaves_out r.automaton.now.steps r.state move ≡ false)
+    (leads : moved (walk_at r).board move ≡ Some (walk_at next).board) (guide : guide_at next ≡ guide_at r) (state : next.state ≡ next_at r.automaton.now.steps r.state move)
+    (bound : bound_at next ≡ bound_at r - 1) where
   same_counts : (boards : ℕ) → fails_at next boards ↔ child_fails r move boards
   same_counts boards =
-      let at = at_child (moved (walk_at r).board move) (takes_back r.arriving move) (λ c. Fails (walk_at r).bundle (bound_at r - 1) c (Some move)) (walk_at next).board leads on boards in (
-        λ h. at.1 (subst (λ v. Fails v (bound_at r - 1) (walk_at next).board (Some move) boards) bundle
-            (subst (λ k. Fails (walk_at next).bundle k (walk_at next).board (Some move) boards) bound
-            (subst (λ a. Fails (walk_at next).bundle (bound_at next) (walk_at next).board a boards) arriving h))),
-        λ h. subst (λ a. Fails (walk_at next).bundle (bound_at next) (walk_at next).board a boards) (sym arriving)
-            (subst (λ k. Fails (walk_at next).bundle k (walk_at next).board (Some move) boards) (sym bound)
-            (subst (λ v. Fails v (bound_at r - 1) (walk_at next).board (Some move) boards) (sym bundle) (at.0 h))),
+      let to = next_at r.automaton.now.steps r.state move in
+      let at = at_child (moved (walk_at r).board move) (leaves_out r.automaton.now.steps r.state move) (λ c. Fails (guide_at r) (bound_at r - 1) c to) (walk_at next).board leads on boards in (
+        λ h. at.1 (subst (λ g. Fails g (bound_at r - 1) (walk_at next).board to boards) guide
+            (subst (λ k. Fails (guide_at next) k (walk_at next).board to boards) bound
+            (subst (λ a. Fails (guide_at next) (bound_at next) (walk_at next).board a boards) state h))),
+        λ h. subst (λ a. Fails (guide_at next) (bound_at next) (walk_at next).board a boards) (sym state)
+            (subst (λ k. Fails (guide_at next) k (walk_at next).board to boards) (sym bound)
+            (subst (λ g. Fails g (bound_at r - 1) (walk_at next).board to boards) (sym guide) (at.0 h))),
       )
 
   few_after : most_boards (bound_at next) ≤ most_children 1 (bound_at r)

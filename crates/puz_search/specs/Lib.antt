@@ -1,5 +1,6 @@
 -- What public contracts say.
 pub mod Answers
+pub mod Guides
 pub mod Searches
 -- What proofs alone need.
 pub mod Outcomes

@@ -5,8 +5,8 @@ mod answers;
 mod deepening;
 mod efforts;
 mod frontiers;
+mod guides;
 mod nodes;
-mod order;
 mod outcomes;
 mod refuting;
 mod searches;
@@ -15,5 +15,6 @@ mod walks;
 
 pub use answers::{Answer, Letters};
 pub use deepening::{Deepened, shortest, shortest_by};
+pub use guides::Guide;
 pub use refuting::refute;
 pub use sharing::refute_by;

@@ -13,7 +13,7 @@ pub returns-in_default : goal.returns-in_default
 returns-in_default c =
     let s = c.args.task.now in
     let node = c.args.node in
-    adds_none s (node_fails s node) (most_boards node.bound) c.args.next.now.items (fails_closed s.bundle.now node.board node.arriving node.bound c.in_default.ensures.none)
+    adds_none s (node_fails s node) (most_boards node.bound) c.args.next.now.items (fails_closed s.guide.now node.board node.state node.bound c.in_default.ensures.none)
 
 pub returns-then-is_goal : goal.returns-then-is_goal
 returns-then-is_goal c =
@@ -28,7 +28,7 @@ returns c =
     let node = c.args.node in
     let r = c.in-Some.reached in
     let walk = c.in-Some.ensures.some.walk in
-    let is_open : IsOpen (record { bundle = s.bundle.now; board = node.board; bound = node.bound }) = subst IsOpen walk c.is_goal.ensures.«open» in
+    let is_open : IsOpen (record { bundle = s.guide.now.bundle; board = node.board; bound = node.bound }) = subst IsOpen walk c.is_goal.ensures.«open» in
     let far : ¬ IsGoal node.board =
     λ goal_is. let test = c.is_goal.ensures.goal.1 (subst (λ w. IsGoal w.board) (sym walk) goal_is) in let no = c.if-is_goal.false in cc in
     opened_adds s node is_open.some is_open.not_cut far c.args.next.now.items c.add_child.new.next.items c.add_child-2.new.next.items c.add_child-3.new.next.items c.add_child-4.new.next.items
