@@ -1,0 +1,5 @@
+use Rattle.move_strings.specs.Automata.{IsState}
+use Rattle.string_tests.proofs.walks.read.Given as goal
+
+abbrev pub invariant-loop-count : goal.invariant-loop-count
+invariant-loop-count l = IsState l.automaton.steps l.state

@@ -1,0 +1,34 @@
+//! Sides, strings, drafts and automata, where there is memory for them.
+
+use move_strings::{Automaton, Draft};
+use puz_board::{Move, Side};
+use std::alloc::AllocGlobal;
+use std::process::Abort;
+use string_make::draft_of;
+
+/// The side of a board with so many cells in a row.
+pub(crate) fn side_of(rt: &impl Abort, n: u8) -> Side {
+    Side::of(n).expect(rt, "a side")
+}
+
+/// The moves that letters name.
+pub(crate) fn moves_of<R: AllocGlobal + Abort>(rt: &R, letters: &[u8]) -> Vec<Move> {
+    let mut moves = Vec::new(rt.alloc());
+    for letter in letters {
+        let mv = Move::of_byte(*letter).expect(rt, "a letter");
+        moves.push(mv).expect(rt, "memory");
+    }
+    moves
+}
+
+/// The draft that is made for forbidden strings of up to so many moves.
+pub(crate) fn draft<R: AllocGlobal + Abort>(rt: &R, longest: u8) -> Draft {
+    draft_of(rt.alloc(), longest).ok().expect(rt, "memory")
+}
+
+/// The automaton of a draft, if it is right.
+pub(crate) fn checked<R: AllocGlobal + Abort>(rt: &R, n: u8, draft: &Draft) -> Option<Automaton> {
+    Automaton::check(rt.alloc(), side_of(rt, n), draft)
+        .ok()
+        .expect(rt, "memory")
+}
