@@ -4,7 +4,9 @@ mod DeepLemmas
 mod EnoughLemmas
 mod FailLemmas
 mod FrontierLemmas
+mod LaneLemmas
 mod NodeLemmas
 mod OutcomeLemmas
 mod TrailLemmas
+mod TurnLemmas
 mod WalkLemmas

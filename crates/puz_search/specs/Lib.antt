@@ -6,3 +6,5 @@ pub mod Searches
 pub mod Outcomes
 pub mod Nodes
 pub mod Frontiers
+pub mod Lanes
+pub mod Turns
