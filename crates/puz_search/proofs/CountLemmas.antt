@@ -108,13 +108,13 @@ module _ (s : Search) where
   -- they fail with one count
   pub all_once : (xs : List Node) (m n : ℕ) → all_fail s xs m → all_fail s xs n → m ≡ n
   all_once [] m n h k = omega arith
-  all_once (x ∷ xs) m n h k = once_both (node_fails s x) (all_fail s xs) (fails_once s.bundle.now x.bound x.board x.arriving) (all_once xs) m n h k
+  all_once (x ∷ xs) m n h k = once_both (node_fails s x) (all_fail s xs) (fails_once s.guide.now x.bound x.board x.state) (all_once xs) m n h k
 
   -- and expand no more than the most
   pub all_few : (xs : List Node) (n : ℕ) → all_fail s xs n → n ≤ most_of xs
   all_few [] n h = omega arith
   all_few (x ∷ xs) n h =
-      let a = fails_few s.bundle.now x.bound x.board x.arriving h.0 h.2 in
+      let a = fails_few s.guide.now x.bound x.board x.state h.0 h.2 in
       let b = all_few xs h.1 h.3 in
       let e : n ≡ h.0 + h.1 = h.4 in
       omega arith

@@ -1,12 +1,12 @@
 -- Bounds of one parity: all solutions of a board have it.
-use Rattle.std.proofs.Common.{◌≡◌, ℕ, zero, suc, ◌+◌, ◌-◌, ◌*◌, ◌%◌, ◌<◌, ◌≤◌, List, length, None, refl, subst, arith}
+use Rattle.std.proofs.Common.{◌≡◌, ℕ, zero, suc, ◌+◌, ◌-◌, ◌*◌, ◌%◌, ◌<◌, ◌≤◌, List, length, refl, subst, arith}
 use Rattle.puz_board.specs.Boards.{IsBoardOf}
 use Rattle.puz_board.specs.MovesTexts.{Solves}
 use Rattle.puz_board.specs.Parity.{blank_parity}
 use Rattle.puz_board.proofs.ParityLemmas.{solution_parity}
 use Rattle.set_sum.specs.Bounds.{IsBounded}
-use Rattle.set_sum.specs.Bundles.{ShownBundle}
 use Rattle.puz_search.specs.Answers.{IsDeepened, IsShorter}
+use Rattle.puz_search.specs.Guides.{ShownGuide}
 use Rattle.puz_search.specs.Searches.{Fails, FailsInTurn}
 use Rattle.puz_search.specs.declared.deepening.Deepened.TheVariants.{Beyond, Spent}
 use Rattle.puz_search.proofs.FailLemmas.{fails_once, once_both}
@@ -33,24 +33,24 @@ found_bound b bound letters bounds is =
 -- ---- thresholds
 
 -- the searches below the first thresholds failed, with what was spent of the budget, and no solution has fewer moves than the bound
-pub record IsDeep (v : ShownBundle) (b : List ℕ) (budget left bound : ℕ) : Type 0 where
+pub record IsDeep (g : ShownGuide) (b : List ℕ) (budget left bound : ℕ) : Type 0 where
   pub bounds : IsBounded b bound
   pub small : bound ≤ 255
   pub thresholds : ℕ
   pub reached : bound ≡ blank_parity b + 2 * thresholds
   pub spent : ℕ
-  pub fails : FailsInTurn v b thresholds spent
+  pub fails : FailsInTurn g b thresholds spent
   pub sum : spent + left ≡ budget
 
 -- they fail with one count
-turn_once : (v : ShownBundle) (b : List ℕ) (k m n : ℕ) → FailsInTurn v b k m → FailsInTurn v b k n → m ≡ n
-turn_once v b zero m n h g = omega arith
-turn_once v b (suc k) m n h g = once_both (FailsInTurn v b k) (Fails v (blank_parity b + 2 * k + 1) b None) (turn_once v b k) (fails_once v (blank_parity b + 2 * k + 1) b None) m n h g
+turn_once : (g : ShownGuide) (b : List ℕ) (k m n : ℕ) → FailsInTurn g b k m → FailsInTurn g b k n → m ≡ n
+turn_once g b zero m n h j = omega arith
+turn_once g b (suc k) m n h j = once_both (FailsInTurn g b k) (Fails g (blank_parity b + 2 * k + 1) b 0) (turn_once g b k) (fails_once g (blank_parity b + 2 * k + 1) b 0) m n h j
 
-module _ (v : ShownBundle) (b : List ℕ) (good : IsBoardOf v.side b) (budget : ℕ) where
-  pub deep_first : (bound : ℕ) → bound ≡ blank_parity b → bound ≤ 1 → IsDeep v b budget budget bound
+module _ (g : ShownGuide) (b : List ℕ) (good : IsBoardOf g.bundle.side b) (budget : ℕ) where
+  pub deep_first : (bound : ℕ) → bound ≡ blank_parity b → bound ≤ 1 → IsDeep g b budget budget bound
   deep_first bound e bit = record {
-    bounds = first_bound v.side b good bound e;
+    bounds = first_bound g.bundle.side b good bound e;
     small = omega arith;
     thresholds = 0;
     reached = omega arith;
@@ -60,23 +60,23 @@ module _ (v : ShownBundle) (b : List ℕ) (good : IsBoardOf v.side b) (budget : 
   }
 
   -- one threshold more
-  pub deep_next : (left bound boards : ℕ) → bound < 254 → blank_parity b ≤ 1 → IsDeep v b budget left bound → IsBounded b (bound + 1) → Fails v (bound + 1) b None boards → boards ≤ left
-      → IsDeep v b budget (left - boards) (bound + 2)
+  pub deep_next : (left bound boards : ℕ) → bound < 254 → blank_parity b ≤ 1 → IsDeep g b budget left bound → IsBounded b (bound + 1) → Fails g (bound + 1) b 0 boards → boards ≤ left
+      → IsDeep g b budget (left - boards) (bound + 2)
   deep_next left bound boards low bit is bounds fails few =
       let reached : bound ≡ blank_parity b + 2 * is.thresholds = is.reached in
       let same : bound + 1 ≡ blank_parity b + 2 * is.thresholds + 1 = omega arith in
       record {
-        bounds = next_bound v.side b good bound (omega arith) bounds;
+        bounds = next_bound g.bundle.side b good bound (omega arith) bounds;
         small = omega arith;
         thresholds = suc is.thresholds;
         reached = omega arith;
         spent = is.spent + boards;
-        fails = (is.spent, boards, is.fails, subst (λ r. Fails v r b None boards) same fails, refl);
+        fails = (is.spent, boards, is.fails, subst (λ r. Fails g r b 0 boards) same fails, refl);
         sum = let sum = is.sum in omega arith;
       }
 
   -- where the budget ended below a threshold
-  pub deep_spent : (left bound : ℕ) → IsDeep v b budget left bound → ((boards : ℕ) → Fails v (bound + 1) b None boards → left < boards) → IsDeepened v b budget (Spent bound)
+  pub deep_spent : (left bound : ℕ) → IsDeep g b budget left bound → ((boards : ℕ) → Fails g (bound + 1) b 0 boards → left < boards) → IsDeepened g b budget (Spent bound)
   deep_spent left bound is more =
       let reached : bound ≡ blank_parity b + 2 * is.thresholds = is.reached in
       let same : blank_parity b + 2 * is.thresholds + 1 ≡ bound + 1 = omega arith in
@@ -89,15 +89,15 @@ module _ (v : ShownBundle) (b : List ℕ) (good : IsBoardOf v.side b) (budget : 
           (
             (is.spent, is.fails, omega arith),
             λ boards h.
-                let both = subst (λ k. FailsInTurn v b k boards) next h in
+                let both = subst (λ k. FailsInTurn g b k boards) next h in
                 let whole : boards ≡ both.0 + both.1 = both.4 in
-                let before : is.spent ≡ both.0 = turn_once v b is.thresholds is.spent both.0 is.fails both.2 in
-                let here : left < both.1 = more both.1 (subst (λ r. Fails v r b None both.1) same both.3) in
+                let before : is.spent ≡ both.0 = turn_once g b is.thresholds is.spent both.0 is.fails both.2 in
+                let here : left < both.1 = more both.1 (subst (λ r. Fails g r b 0 both.1) same both.3) in
                 omega arith,
           ),
         ),
       )
 
   -- where no threshold is left
-  pub deep_beyond : (left bound : ℕ) → 254 ≤ bound → IsDeep v b budget left bound → IsDeepened v b budget Beyond
+  pub deep_beyond : (left bound : ℕ) → 254 ≤ bound → IsDeep g b budget left bound → IsDeepened g b budget Beyond
   deep_beyond left bound high is path solves = let low : bound ≤ length path = is.bounds path solves in omega arith

@@ -1,10 +1,9 @@
 -- What the searches below the nodes of a frontier answer in turn.
-use Rattle.std.proofs.Common.{◌≡◌, ℕ, suc, ◌+◌, ◌<◌, Bool, true, false, cond, Option, None, List, [], ◌∷◌, ◌++◌, length, take, drop, get_or, sym, ap, ◌∙◌, subst, take-append-drop, arith}
+use Rattle.std.proofs.Common.{◌≡◌, ℕ, suc, ◌+◌, ◌<◌, Bool, true, false, cond, List, [], ◌∷◌, ◌++◌, length, take, drop, get_or, sym, ap, ◌∙◌, subst, take-append-drop, arith}
 use Rattle.std.proofs.Math.Seq.{drop-cons}
 use Rattle.std.proofs.lemmas.List.{take_more}
 use Rattle.std.specs.List.{All}
 use Rattle.std.proofs.lemmas.List.Elements.{All-cons, All-nil}
-use Rattle.puz_board.specs.declared.moves.Move.{Move}
 use Rattle.puz_search.specs.Frontiers.{Adds, IsFrontier, IsMore, all_fail, most_of}
 use Rattle.puz_search.specs.Nodes.{IsFirst, IsLed, IsPartAnswer, node_fails, solves_first}
 use Rattle.puz_search.specs.Searches.{Fails, InTurn, most_boards}
@@ -69,12 +68,12 @@ module _ (s : Search) where
   -- the first level is the node of the first board
   pub frontier_first : (node : Node) (frontier : Frontier) → IsFirst s node → IsLed s node → frontier.nodes.items ≡ node ∷ [] → frontier.expanded ≡ 0 → IsFrontier s frontier
   frontier_first node frontier first led items none =
-      let Says : List ℕ → Option Move → ℕ → Type 0 = λ b arriving r. IsMore (Fails s.bundle.now r b arriving) (all_fail s (node ∷ [])) 0 in
-      let counts : Says s.board.now None s.bound = subst (Says s.board.now None) first.bound (subst (λ a. Says s.board.now a node.bound) first.arriving (subst (λ b. Says b node.arriving node.bound) first.board (all_one s node))) in
+      let Says : List ℕ → ℕ → ℕ → Type 0 = λ b state r. IsMore (Fails s.guide.now r b state) (all_fail s (node ∷ [])) 0 in
+      let counts : Says s.board.now 0 s.bound = subst (Says s.board.now 0) first.bound (subst (λ a. Says s.board.now a node.bound) first.state (subst (λ b. Says b node.state node.bound) first.board (all_one s node))) in
       let most : most_of frontier.nodes.items ≡ most_boards node.bound + 0 = ap most_of items in
       let same : most_boards node.bound ≡ most_boards s.bound = ap most_boards first.bound in
       record {
-        counts = subst (IsMore (Fails s.bundle.now s.bound s.board.now None) (all_fail s frontier.nodes.items)) (sym none) (subst (λ xs. IsMore (Fails s.bundle.now s.bound s.board.now None) (all_fail s xs) 0) (sym items) counts);
+        counts = subst (IsMore (Fails s.guide.now s.bound s.board.now 0) (all_fail s frontier.nodes.items)) (sym none) (subst (λ xs. IsMore (Fails s.guide.now s.bound s.board.now 0) (all_fail s xs) 0) (sym items) counts);
         few = omega arith;
         led = subst (All (IsLed s)) (sym items) (All-cons (IsLed s) node [] led (All-nil (IsLed s)));
       }
@@ -85,8 +84,8 @@ module _ (s : Search) where
       let added : after.nodes.items ≡ adds.added = adds.items in
       let most : most_of after.nodes.items ≡ most_of adds.added = ap most_of added in
       record {
-        counts = subst (λ xs. IsMore (Fails s.bundle.now s.bound s.board.now None) (all_fail s xs) after.expanded) (sym added)
-            (more_then (Fails s.bundle.now s.bound s.board.now None) (all_fail s before.nodes.items) (all_fail s adds.added) before.expanded x after.expanded e is.counts adds.counts);
+        counts = subst (λ xs. IsMore (Fails s.guide.now s.bound s.board.now 0) (all_fail s xs) after.expanded) (sym added)
+            (more_then (Fails s.guide.now s.bound s.board.now 0) (all_fail s before.nodes.items) (all_fail s adds.added) before.expanded x after.expanded e is.counts adds.counts);
         few = let few = is.few in let less = adds.few in omega arith;
         led = subst (All (IsLed s)) (sym added) adds.led;
       }

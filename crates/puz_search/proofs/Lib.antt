@@ -1,10 +1,12 @@
 mod AnswerLemmas
-mod BranchLemmas
 mod CountLemmas
 mod DeepLemmas
+mod EnoughLemmas
 mod FailLemmas
 mod FrontierLemmas
+mod LaneLemmas
 mod NodeLemmas
 mod OutcomeLemmas
 mod TrailLemmas
+mod TurnLemmas
 mod WalkLemmas

@@ -1,19 +1,22 @@
 -- Nodes, the moves that lead to them, and what the searches below them answer.
-use Rattle.std.proofs.Common.{◌≡◌, ℕ, ◌+◌, ◌-◌, ◌*◌, ◌≤◌, ◌↔◌, false, List, [], ◌∷◌, ◌++◌, Some, refl, sym, subst, append_assoc, arith}
+use Rattle.std.proofs.Common.{◌≡◌, ℕ, ◌+◌, ◌-◌, ◌*◌, ◌≤◌, ◌↔◌, false, List, [], ◌∷◌, ◌++◌, Some, refl, sym, ap, subst, append_assoc, eq-eqb, arith}
 use Rattle.puz_board.specs.Boards.{IsGoal, moved}
 use Rattle.puz_board.specs.Cells.{move_of_letter}
 use Rattle.puz_board.specs.declared.moves.Move.{Move}
 use Rattle.puz_board.specs.declared.moves.Move.TheVariants.{Up, Down, Left, Right}
 use Rattle.puz_search.specs.Frontiers.{Adds, IsMore, child_fails_of}
-use Rattle.puz_search.specs.Nodes.{IsLed, IsPartAnswer, node_fails, solves_below, solves_first}
-use Rattle.puz_search.specs.Outcomes.{IsTrail}
-use Rattle.puz_search.specs.Searches.{Fails, InTurn, IsCutOff, most_boards, takes_back}
+use Rattle.puz_search.specs.Nodes.{IsLed, IsPartAnswer, IsReached, node_fails, solves_below, solves_first}
+use Rattle.puz_search.specs.Outcomes.{IsTrail, bound_at, fails_at, guide_at, walk_at}
+use Rattle.move_strings.specs.Automata.{left_out, next_at}
+use Rattle.puz_walk.specs.Walks.{IsClosed, IsCutOff}
+use Rattle.puz_search.specs.Searches.{Fails, InTurn, leaves_out, most_boards}
 use Rattle.puz_search.specs.declared.answers.Answer.{Answer}
 use Rattle.puz_search.specs.declared.answers.Answer.TheVariants.{Refuted, Solved, Spent}
 use Rattle.puz_search.specs.declared.nodes.Node.{Node}
 use Rattle.puz_search.specs.declared.searches.Search.{Search}
+use Rattle.puz_search.specs.declared.walks.Reached.{Reached}
 use Rattle.puz_search.proofs.CountLemmas.{adds_as, adds_both}
-use Rattle.puz_search.proofs.FailLemmas.{at_child, fails_cut, fails_open}
+use Rattle.puz_search.proofs.FailLemmas.{at_child, at_out, fails_closed, fails_open}
 use Rattle.puz_search.proofs.TrailLemmas.{trail_move}
 use Rattle.puz_search.proofs.WalkLemmas.{most_open}
 
@@ -31,40 +34,65 @@ node_answer s node led Part most budget (Refuted boards) is = is
 node_answer s node led Part most budget (Solved letters) is = subst (IsTrail s.board.now s.bound) (sym is.2) (led.leads is.0 is.1)
 node_answer s node led Part most budget Spent is = is
 
+-- ---- a node that is reached
+
+module _ (s : Search) (node : Node) (reached : Reached) (is : IsReached s node reached) where
+  reached_guide : guide_at reached ≡ s.guide.now
+  reached_guide = let bundle = ap (λ w. w.bundle) is.walk in let steps = ap (λ a. a.steps) is.automaton in λ i. record { bundle = bundle i; steps = steps i }
+
+  -- the search from there is that below the node
+  pub reached_fails : (n : ℕ) → fails_at reached n ↔ node_fails s node n
+  reached_fails n = (
+    λ h. subst (λ g. Fails g node.bound node.board node.state n) reached_guide
+        (subst (λ w. Fails (guide_at reached) w.bound w.board node.state n) is.walk (subst (λ a. Fails (guide_at reached) (bound_at reached) (walk_at reached).board a n) is.state h)),
+    λ h. subst (λ a. Fails (guide_at reached) (bound_at reached) (walk_at reached).board a n) (sym is.state)
+        (subst (λ w. Fails (guide_at reached) w.bound w.board node.state n) (sym is.walk) (subst (λ g. Fails g node.bound node.board node.state n) (sym reached_guide) h)),
+  )
+
+  pub reached_most : most_boards (bound_at reached) ≡ most_boards node.bound
+  reached_most = ap (λ w. most_boards w.bound) is.walk
+
 -- ---- the node after a move
 
-module _ (s : Search) (node child : Node) (move : Move) (next : List ℕ) (leads : moved node.board move ≡ Some next) (on : takes_back node.arriving move ≡ false)
-    (board : child.board ≡ next) (arriving : child.arriving ≡ Some move) (bound : child.bound + 1 ≡ node.bound) where
+-- where the automaton leaves the move out
+pub child_out : (s : Search) (node : Node) (move : Move) → next_at s.guide.now.steps node.state move ≡ left_out → (n : ℕ) → child_fails_of s node move n ↔ (n ≡ 0)
+child_out s node move out n =
+    at_out (moved node.board move) (leaves_out s.guide.now.steps node.state move) (λ next. Fails s.guide.now (node.bound - 1) next (next_at s.guide.now.steps node.state move))
+    (eq-eqb (next_at s.guide.now.steps node.state move) left_out out) n
+
+module _ (s : Search) (node child : Node) (move : Move) (next : List ℕ) (leads : moved node.board move ≡ Some next) (on : leaves_out s.guide.now.steps node.state move ≡ false)
+    (board : child.board ≡ next) (state : child.state ≡ next_at s.guide.now.steps node.state move) (bound : child.bound + 1 ≡ node.bound) where
   -- the search below it is that after the move
   pub child_same : (n : ℕ) → child_fails_of s node move n ↔ node_fails s child n
   child_same n =
-      let v = s.bundle.now in
+      let g = s.guide.now in
+      let to = next_at g.steps node.state move in
       let less : node.bound - 1 ≡ child.bound = omega arith in
-      let at = at_child (moved node.board move) (takes_back node.arriving move) (λ b. Fails v (node.bound - 1) b (Some move)) next leads on n in
-      let there : Fails v (node.bound - 1) next (Some move) n → node_fails s child n =
-      λ h. subst (λ r. Fails v r child.board child.arriving n) less (subst (λ b. Fails v (node.bound - 1) b child.arriving n) (sym board) (subst (λ a. Fails v (node.bound - 1) next a n) (sym arriving) h)) in
-      let back : node_fails s child n → Fails v (node.bound - 1) next (Some move) n =
-      λ h. subst (λ a. Fails v (node.bound - 1) next a n) arriving (subst (λ b. Fails v (node.bound - 1) b child.arriving n) board (subst (λ r. Fails v r child.board child.arriving n) (sym less) h)) in
+      let at = at_child (moved node.board move) (leaves_out s.guide.now.steps node.state move) (λ b. Fails g (node.bound - 1) b to) next leads on n in
+      let there : Fails g (node.bound - 1) next to n → node_fails s child n =
+      λ h. subst (λ r. Fails g r child.board child.state n) less (subst (λ b. Fails g (node.bound - 1) b child.state n) (sym board) (subst (λ a. Fails g (node.bound - 1) next a n) (sym state) h)) in
+      let back : node_fails s child n → Fails g (node.bound - 1) next to n =
+      λ h. subst (λ a. Fails g (node.bound - 1) next a n) state (subst (λ b. Fails g (node.bound - 1) b child.state n) board (subst (λ r. Fails g r child.board child.state n) (sym less) h)) in
       (λ h. there (at.0 h), λ h. at.1 (back h))
 
-  -- where it is cut off, no board is expanded after the move
-  pub child_cut : IsCutOff s.bundle.now child.board child.bound → (n : ℕ) → child_fails_of s node move n ↔ (n ≡ 0)
-  child_cut cut n =
+  -- where it is closed, no board is expanded after the move
+  pub child_closed : IsClosed s.guide.now.bundle child.board child.bound → (n : ℕ) → child_fails_of s node move n ↔ (n ≡ 0)
+  child_closed closed n =
       let same = child_same n in
-      let none = fails_cut s.bundle.now child.board child.arriving child.bound cut n in
+      let none = fails_closed s.guide.now child.board child.state child.bound closed n in
       (λ h. none.0 (same.0 h), λ e. same.1 (none.1 e))
 
 -- ---- a node that is expanded
 
-module _ (s : Search) (node : Node) (some : 1 ≤ node.bound) (whole : ¬ IsCutOff s.bundle.now node.board node.bound) (far : ¬ IsGoal node.board) where
+module _ (s : Search) (node : Node) (some : 1 ≤ node.bound) (whole : ¬ IsCutOff s.guide.now.bundle node.board node.bound) (far : ¬ IsGoal node.board) where
   -- the searches after its moves, in their order
   abbrev After : Move → ℕ → Type 0
   After move = child_fails_of s node move
 
   opened_more : IsMore (node_fails s node) (InTurn (After Up) (InTurn (After Down) (InTurn (After Left) (After Right)))) 1
   opened_more = record {
-    to = λ n h. let open_ = (fails_open s.bundle.now node.board node.arriving node.bound some whole far n).0 h in (open_.0, open_.2, open_.1);
-    back = λ n rest h e. (fails_open s.bundle.now node.board node.arriving node.bound some whole far n).1 (rest, e, h);
+    to = λ n h. let open_ = (fails_open s.guide.now node.board node.state node.bound some whole far n).0 h in (open_.0, open_.2, open_.1);
+    back = λ n rest h e. (fails_open s.guide.now node.board node.state node.bound some whole far n).1 (rest, e, h);
   }
 
   -- the nodes after its moves are added

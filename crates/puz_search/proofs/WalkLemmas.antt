@@ -1,17 +1,19 @@
 -- The steps of a search, on a board that was reached.
-use Rattle.std.proofs.Common.{◌≡◌, ℕ, zero, suc, ◌+◌, ◌*◌, ◌-◌, ◌<◌, ◌≤◌, ◌↔◌, false, List, [], reverse, Result, Ok, Err, Some, refl, sym, ◌∙◌, ap, subst, arith}
+use Rattle.std.proofs.Common.{◌≡◌, ◌≢◌, ℕ, zero, suc, ◌+◌, ◌*◌, ◌-◌, ◌<◌, ◌≤◌, ◌↔◌, false, List, [], reverse, Result, Ok, Err, Some, refl, sym, ◌∙◌, ap, subst, eq-eqb, ne_eqb, arith}
 use Rattle.std.specs.Prelude.{IfErr, IsErrAnd, OnOk}
 use Rattle.puz_board.specs.Boards.{IsGoal, moved}
 use Rattle.puz_board.specs.declared.moves.Move.{Move}
 use Rattle.puz_board.specs.declared.moves.Move.TheVariants.{Up, Down, Left, Right}
-use Rattle.puz_search.specs.Outcomes.{AfterMove, IsRefuted, IsStop, IsTrail, child_fails, children_fail, fails_at, is_solved_at, most_children}
-use Rattle.puz_search.specs.Searches.{Fails, InTurn, IsCutOff, most_boards, takes_back}
+use Rattle.puz_search.specs.Outcomes.{AfterMove, IsRefuted, IsStop, IsTrail, bound_at, child_fails, children_fail, fails_at, guide_at, is_solved_at, most_children, walk_at}
+use Rattle.move_strings.specs.Automata.{left_out, next_at}
+use Rattle.puz_walk.specs.Walks.{IsOpen, LeadsNowhere}
+use Rattle.puz_search.specs.Searches.{Fails, InTurn, leaves_out, most_boards}
 use Rattle.puz_search.specs.declared.efforts.Effort.{Effort}
 use Rattle.puz_search.specs.declared.efforts.Stop.{Stop}
 use Rattle.puz_search.specs.declared.efforts.Stop.TheVariants.{Solved, Spent}
 use Rattle.puz_search.specs.declared.walks.Reached.{Reached}
-use Rattle.puz_search.proofs.FailLemmas.{at_child, fails_goal, fails_open}
-use Rattle.puz_search.proofs.OutcomeLemmas.{refuted_as, refuted_both, stop_first, stop_second}
+use Rattle.puz_search.proofs.FailLemmas.{at_child, at_nowhere, at_out, fails_goal, fails_open, fails_some}
+use Rattle.puz_search.proofs.OutcomeLemmas.{refuted_as, refuted_none, refuted_both, stop_first, stop_second}
 use Rattle.puz_search.proofs.TrailLemmas.{reverse_push, trail_end, trail_move}
 
 -- ---- results
@@ -49,34 +51,41 @@ most_open zero some = absurd (omega arith)
 most_open (suc r) some = ap (λ k. 4 * most_boards k + 1) (let e : r ≡ suc r - 1 = omega arith in e)
 
 -- the goal board
-pub goal_solved : (r : Reached) → 1 ≤ r.bound → (¬ IsCutOff r.sums.bundle r.sums.board r.bound) → IsGoal r.sums.board → (letters : List ℕ) → letters ≡ []
+pub goal_solved : (r : Reached) → IsOpen (walk_at r) → IsGoal (walk_at r).board → (letters : List ℕ) → letters ≡ []
     → is_solved_at r letters × ((boards : ℕ) → ¬ fails_at r boards)
-goal_solved r some whole goal letters none = (
-  subst (is_solved_at r) (sym none) (trail_end r.sums.board r.bound some goal),
-  fails_goal r.sums.bundle r.sums.board r.arriving r.bound some whole goal,
+goal_solved r open_ goal letters none = (
+  subst (is_solved_at r) (sym none) (trail_end (walk_at r).board (bound_at r) open_.some goal),
+  fails_goal (guide_at r) (walk_at r).board r.state (bound_at r) open_.some open_.not_cut goal,
 )
 
-module _ (r : Reached) (some : 1 ≤ r.bound) (whole : ¬ IsCutOff r.sums.bundle r.sums.board r.bound) (far : ¬ IsGoal r.sums.board) (old spent new : Effort) (one : old.left ≡ spent.left + 1) where
-  pub opened_refuted : IsRefuted (children_fail r) (most_children 4 r.bound) spent new → IsRefuted (fails_at r) (most_boards r.bound) old new
+-- where no board may be expanded
+pub spent_stopped : (r : Reached) → IsOpen (walk_at r) → (e : Effort) → e.left ≡ 0 → (e.left < most_boards (bound_at r)) × ((boards : ℕ) → fails_at r boards → e.left < boards)
+spent_stopped r open_ e none = (
+  let most = most_open (bound_at r) open_.some in omega arith,
+  λ boards h. let some = fails_some (guide_at r) (walk_at r).board r.state (bound_at r) open_.some open_.not_cut boards h in omega arith,
+)
+
+module _ (r : Reached) (open_ : IsOpen (walk_at r)) (far : ¬ IsGoal (walk_at r).board) (old spent new : Effort) (one : old.left ≡ spent.left + 1) where
+  pub opened_refuted : IsRefuted (children_fail r) (most_children 4 (bound_at r)) spent new → IsRefuted (fails_at r) (most_boards (bound_at r)) old new
   opened_refuted is = record {
     boards = is.boards + 1;
     left = let left = is.left in omega arith;
-    few = let few = is.few in let most = most_open r.bound some in omega arith;
-    fails = (fails_open r.sums.bundle r.sums.board r.arriving r.bound some whole far (is.boards + 1)).1 (is.boards, refl, is.fails);
+    few = let few = is.few in let most = most_open (bound_at r) open_.some in omega arith;
+    fails = (fails_open (guide_at r) (walk_at r).board r.state (bound_at r) open_.some open_.not_cut far (is.boards + 1)).1 (is.boards, refl, is.fails);
     once = λ n h.
-        let on = (fails_open r.sums.bundle r.sums.board r.arriving r.bound some whole far n).0 h in
+        let on = (fails_open (guide_at r) (walk_at r).board r.state (bound_at r) open_.some open_.not_cut far n).0 h in
         let e : n ≡ on.0 + 1 = on.1 in
         let same : on.0 ≡ is.boards = is.once on.0 on.2 in
         omega arith;
     none = is.none;
   }
 
-  pub opened_stopped : (stop : Stop) → IsStop (children_fail r) (is_solved_at r) (most_children 4 r.bound) stop spent new → IsStop (fails_at r) (is_solved_at r) (most_boards r.bound) stop old new
-  opened_stopped Solved is = (is.0, λ n h. let on = (fails_open r.sums.bundle r.sums.board r.arriving r.bound some whole far n).0 h in is.1 on.0 on.2)
+  pub opened_stopped : (stop : Stop) → IsStop (children_fail r) (is_solved_at r) (most_children 4 (bound_at r)) stop spent new → IsStop (fails_at r) (is_solved_at r) (most_boards (bound_at r)) stop old new
+  opened_stopped Solved is = (is.0, λ n h. let on = (fails_open (guide_at r) (walk_at r).board r.state (bound_at r) open_.some open_.not_cut far n).0 h in is.1 on.0 on.2)
   opened_stopped Spent is = (
-    let l : spent.left < most_children 4 r.bound = is.0 in let most = most_open r.bound some in omega arith,
+    let l : spent.left < most_children 4 (bound_at r) = is.0 in let most = most_open (bound_at r) open_.some in omega arith,
     λ n h.
-        let on = (fails_open r.sums.bundle r.sums.board r.arriving r.bound some whole far n).0 h in
+        let on = (fails_open (guide_at r) (walk_at r).board r.state (bound_at r) open_.some open_.not_cut far n).0 h in
         let l : spent.left < on.0 = is.1 on.0 on.2 in
         let e : n ≡ on.0 + 1 = on.1 in
         omega arith,
@@ -93,30 +102,30 @@ Four r = InTurn (child_fails r Up) (InTurn (child_fails r Down) (InTurn (child_f
 
 module _ (r s t u : Reached) (first : s ≡ r) (second : t ≡ s) (third : u ≡ t) where
   abbrev Out : Reached → Move → Effort → Effort → Type 0
-  Out x move old new = IsRefuted (child_fails x move) (most_children 1 x.bound) old new
+  Out x move old new = IsRefuted (child_fails x move) (most_children 1 (bound_at x)) old new
 
   abbrev Stops : Reached → Move → Stop → Effort → Effort → Type 0
-  Stops x move stop old new = IsStop (child_fails x move) (is_solved_at x) (most_children 1 x.bound) stop old new
+  Stops x move stop old new = IsStop (child_fails x move) (is_solved_at x) (most_children 1 (bound_at x)) stop old new
 
   abbrev Stopped : Stop → Effort → Effort → Type 0
-  Stopped stop old new = IsStop (children_fail r) (is_solved_at r) (most_children 4 r.bound) stop old new
+  Stopped stop old new = IsStop (children_fail r) (is_solved_at r) (most_children 4 (bound_at r)) stop old new
 
   module _ (a b : Effort) (up : Out r Up a b) where
     pub stopped_second : (stop : Stop) (c : Effort) → Stops s Down stop b c → Stopped stop a c
     stopped_second stop c is =
-        let m = most_children 1 r.bound in
+        let m = most_children 1 (bound_at r) in
         let down = subst (λ x. Stops x Down stop b c) first is in
-        stop_more (Four r) (is_solved_at r) (m + (m + (m + m))) (most_children 4 r.bound) (omega arith) stop a c
+        stop_more (Four r) (is_solved_at r) (m + (m + (m + m))) (most_children 4 (bound_at r)) (omega arith) stop a c
         (stop_second (child_fails r Up) (InTurn (child_fails r Down) (InTurn (child_fails r Left) (child_fails r Right))) m (m + (m + m)) (is_solved_at r) stop a b c up
         (stop_first (child_fails r Down) (InTurn (child_fails r Left) (child_fails r Right)) m (m + m) (is_solved_at r) stop b c down))
 
     module _ (c : Effort) (down : Out s Down b c) where
       pub stopped_third : (stop : Stop) (d : Effort) → Stops t Left stop c d → Stopped stop a d
       stopped_third stop d is =
-          let m = most_children 1 r.bound in
+          let m = most_children 1 (bound_at r) in
           let down_is = subst (λ x. Out x Down b c) first down in
           let left = subst (λ x. Stops x Left stop c d) (second ∙ first) is in
-          stop_more (Four r) (is_solved_at r) (m + (m + (m + m))) (most_children 4 r.bound) (omega arith) stop a d
+          stop_more (Four r) (is_solved_at r) (m + (m + (m + m))) (most_children 4 (bound_at r)) (omega arith) stop a d
           (stop_second (child_fails r Up) (InTurn (child_fails r Down) (InTurn (child_fails r Left) (child_fails r Right))) m (m + (m + m)) (is_solved_at r) stop a b d up
           (stop_second (child_fails r Down) (InTurn (child_fails r Left) (child_fails r Right)) m (m + m) (is_solved_at r) stop b c d down_is
           (stop_first (child_fails r Left) (child_fails r Right) m m (is_solved_at r) stop c d left)))
@@ -124,56 +133,80 @@ module _ (r s t u : Reached) (first : s ≡ r) (second : t ≡ s) (third : u ≡
       module _ (d : Effort) (left : Out t Left c d) where
         pub stopped_fourth : (stop : Stop) (e : Effort) → Stops u Right stop d e → Stopped stop a e
         stopped_fourth stop e is =
-            let m = most_children 1 r.bound in
+            let m = most_children 1 (bound_at r) in
             let down_is = subst (λ x. Out x Down b c) first down in
             let left_is = subst (λ x. Out x Left c d) (second ∙ first) left in
             let right = subst (λ x. Stops x Right stop d e) (third ∙ second ∙ first) is in
-            stop_more (Four r) (is_solved_at r) (m + (m + (m + m))) (most_children 4 r.bound) (omega arith) stop a e
+            stop_more (Four r) (is_solved_at r) (m + (m + (m + m))) (most_children 4 (bound_at r)) (omega arith) stop a e
             (stop_second (child_fails r Up) (InTurn (child_fails r Down) (InTurn (child_fails r Left) (child_fails r Right))) m (m + (m + m)) (is_solved_at r) stop a b e up
             (stop_second (child_fails r Down) (InTurn (child_fails r Left) (child_fails r Right)) m (m + m) (is_solved_at r) stop b c e down_is
             (stop_second (child_fails r Left) (child_fails r Right) m m (is_solved_at r) stop c d e left_is right)))
 
-        pub refuted_four : (e : Effort) → Out u Right d e → IsRefuted (children_fail r) (most_children 4 r.bound) a e
+        pub refuted_four : (e : Effort) → Out u Right d e → IsRefuted (children_fail r) (most_children 4 (bound_at r)) a e
         refuted_four e is =
-            let m = most_children 1 r.bound in
+            let m = most_children 1 (bound_at r) in
             let down_is = subst (λ x. Out x Down b c) first down in
             let left_is = subst (λ x. Out x Left c d) (second ∙ first) left in
             let right = subst (λ x. Out x Right d e) (third ∙ second ∙ first) is in
-            refuted_as (Four r) (children_fail r) (λ n. (λ h. h, λ h. h)) (m + (m + (m + m))) (most_children 4 r.bound) (omega arith) a e
+            refuted_as (Four r) (children_fail r) (λ n. (λ h. h, λ h. h)) (m + (m + (m + m))) (most_children 4 (bound_at r)) (omega arith) a e
             (refuted_both (child_fails r Up) (InTurn (child_fails r Down) (InTurn (child_fails r Left) (child_fails r Right))) m (m + (m + m)) a b e up
             (refuted_both (child_fails r Down) (InTurn (child_fails r Left) (child_fails r Right)) m (m + m) b c e down_is
             (refuted_both (child_fails r Left) (child_fails r Right) m m c d e left_is right)))
 
 -- ---- the board after a move
 
-module _ (r next : Reached) (move : Move) (some : 1 ≤ r.bound) (on : takes_back r.arriving move ≡ false)
-    (leads : moved r.sums.board move ≡ Some next.sums.board) (bundle : next.sums.bundle ≡ r.sums.bundle) (arriving : next.arriving ≡ Some move) (bound : next.bound ≡ r.bound - 1) where
-  same_counts : (boards : ℕ) → fails_at next boards ↔ child_fails r move boards
+-- where the move leads nowhere
+pub nowhere_none : (r : Reached) (move : Move) → LeadsNowhere (walk_at r) move → (n : ℕ) → child_fails r move n ↔ (n ≡ 0)
+nowhere_none r move none =
+    at_nowhere (guide_at r) (bound_at r - 1) (moved (walk_at r).board move) (leaves_out r.automaton.now.steps r.state move)
+    (next_at r.automaton.now.steps r.state move) none
+
+pub nowhere_refuted : (r : Reached) (move : Move) (e : Effort) → LeadsNowhere (walk_at r) move → e.letters.items ≡ [] → IsRefuted (child_fails r move) (most_children 1 (bound_at r)) e e
+nowhere_refuted r move e none clean = refuted_none (child_fails r move) (most_children 1 (bound_at r)) e (nowhere_none r move none) clean
+
+-- the automaton has a step
+pub step_kept : (steps : List ℕ) (state next : ℕ) (move : Move) → next_at steps state move ≡ next → next ≢ left_out → leaves_out steps state move ≡ false
+step_kept steps state next move to kept = ne_eqb (next_at steps state move) left_out (λ e. kept (sym to ∙ e))
+
+-- where the automaton leaves the move out
+pub out_none : (r : Reached) (move : Move) → next_at r.automaton.now.steps r.state move ≡ left_out → (n : ℕ) → child_fails r move n ↔ (n ≡ 0)
+out_none r move out =
+    at_out (moved (walk_at r).board move) (leaves_out r.automaton.now.steps r.state move)
+    (λ next. Fails (guide_at r) (bound_at r - 1) next (next_at r.automaton.now.steps r.state move)) (eq-eqb (next_at r.automaton.now.steps r.state move) left_out out)
+
+pub out_refuted : (r : Reached) (move : Move) (e : Effort) → next_at r.automaton.now.steps r.state move ≡ left_out → e.letters.items ≡ [] → IsRefuted (child_fails r move) (most_children 1 (bound_at r)) e e
+out_refuted r move e out clean = refuted_none (child_fails r move) (most_children 1 (bound_at r)) e (out_none r move out) clean
+
+module _ (r next : Reached) (move : Move) (some : 1 ≤ bound_at r) (on : leaves_out r.automaton.now.steps r.state move ≡ false)
+    (leads : moved (walk_at r).board move ≡ Some (walk_at next).board) (guide : guide_at next ≡ guide_at r) (state : next.state ≡ next_at r.automaton.now.steps r.state move)
+    (bound : bound_at next ≡ bound_at r - 1) where
+  pub same_counts : (boards : ℕ) → fails_at next boards ↔ child_fails r move boards
   same_counts boards =
-      let at = at_child (moved r.sums.board move) (takes_back r.arriving move) (λ c. Fails r.sums.bundle (r.bound - 1) c (Some move)) next.sums.board leads on boards in (
-        λ h. at.1 (subst (λ v. Fails v (r.bound - 1) next.sums.board (Some move) boards) bundle
-            (subst (λ k. Fails next.sums.bundle k next.sums.board (Some move) boards) bound
-            (subst (λ a. Fails next.sums.bundle next.bound next.sums.board a boards) arriving h))),
-        λ h. subst (λ a. Fails next.sums.bundle next.bound next.sums.board a boards) (sym arriving)
-            (subst (λ k. Fails next.sums.bundle k next.sums.board (Some move) boards) (sym bound)
-            (subst (λ v. Fails v (r.bound - 1) next.sums.board (Some move) boards) (sym bundle) (at.0 h))),
+      let to = next_at r.automaton.now.steps r.state move in
+      let at = at_child (moved (walk_at r).board move) (leaves_out r.automaton.now.steps r.state move) (λ c. Fails (guide_at r) (bound_at r - 1) c to) (walk_at next).board leads on boards in (
+        λ h. at.1 (subst (λ g. Fails g (bound_at r - 1) (walk_at next).board to boards) guide
+            (subst (λ k. Fails (guide_at next) k (walk_at next).board to boards) bound
+            (subst (λ a. Fails (guide_at next) (bound_at next) (walk_at next).board a boards) state h))),
+        λ h. subst (λ a. Fails (guide_at next) (bound_at next) (walk_at next).board a boards) (sym state)
+            (subst (λ k. Fails (guide_at next) k (walk_at next).board to boards) (sym bound)
+            (subst (λ g. Fails g (bound_at r - 1) (walk_at next).board to boards) (sym guide) (at.0 h))),
       )
 
-  few_after : most_boards next.bound ≤ most_children 1 r.bound
-  few_after = let e : most_boards next.bound ≡ most_boards (r.bound - 1) = ap most_boards bound in omega arith
+  few_after : most_boards (bound_at next) ≤ most_children 1 (bound_at r)
+  few_after = let e : most_boards (bound_at next) ≡ most_boards (bound_at r - 1) = ap most_boards bound in omega arith
 
-  pub child_refuted : (old new : Effort) → IsRefuted (fails_at next) (most_boards next.bound) old new → IsRefuted (child_fails r move) (most_children 1 r.bound) old new
-  child_refuted old new is = refuted_as (fails_at next) (child_fails r move) same_counts (most_boards next.bound) (most_children 1 r.bound) few_after old new is
+  pub child_refuted : (old new : Effort) → IsRefuted (fails_at next) (most_boards (bound_at next)) old new → IsRefuted (child_fails r move) (most_children 1 (bound_at r)) old new
+  child_refuted old new is = refuted_as (fails_at next) (child_fails r move) same_counts (most_boards (bound_at next)) (most_children 1 (bound_at r)) few_after old new is
 
-  pub child_stopped : (stop : Stop) (old between new : Effort) → IsStop (fails_at next) (is_solved_at next) (most_boards next.bound) stop old between → AfterMove move stop between new
-      → IsStop (child_fails r move) (is_solved_at r) (most_children 1 r.bound) stop old new
+  pub child_stopped : (stop : Stop) (old between new : Effort) → IsStop (fails_at next) (is_solved_at next) (most_boards (bound_at next)) stop old between → AfterMove move stop between new
+      → IsStop (child_fails r move) (is_solved_at r) (most_children 1 (bound_at r)) stop old new
   child_stopped Solved old between new is after = (
-    subst (IsTrail r.sums.board r.bound) (sym (ap reverse after.2 ∙ reverse_push between.letters.items after.0))
-        (trail_move r.sums.board next.sums.board r.bound after.0 (reverse between.letters.items) move some leads after.1
-        (subst (λ k. IsTrail next.sums.board k (reverse between.letters.items)) bound is.0)),
+    subst (IsTrail (walk_at r).board (bound_at r)) (sym (ap reverse after.2 ∙ reverse_push between.letters.items after.0))
+        (trail_move (walk_at r).board (walk_at next).board (bound_at r) after.0 (reverse between.letters.items) move some leads after.1
+        (subst (λ k. IsTrail (walk_at next).board k (reverse between.letters.items)) bound is.0)),
     λ n h. is.1 n ((same_counts n).1 h),
   )
   child_stopped Spent old between new is after = (
-    let l : old.left < most_boards next.bound = is.0 in let few = few_after in omega arith,
+    let l : old.left < most_boards (bound_at next) = is.0 in let few = few_after in omega arith,
     λ n h. is.1 n ((same_counts n).1 h),
   )

@@ -1,9 +1,9 @@
 -- What searches answer.
-use Rattle.std.specs.Prelude.{◌≡◌, ℕ, ◌+◌, ◌*◌, ◌<◌, ◌≤◌, List, None}
+use Rattle.std.specs.Prelude.{◌≡◌, ℕ, ◌+◌, ◌*◌, ◌<◌, ◌≤◌, List}
 use Rattle.puz_board.specs.MovesTexts.{Solves}
 use Rattle.puz_board.specs.Parity.{blank_parity}
 use Rattle.set_sum.specs.Bounds.{IsBounded}
-use Rattle.set_sum.specs.Bundles.{ShownBundle}
+use Rattle.puz_search.specs.Guides.{ShownGuide}
 use Rattle.puz_search.specs.Searches.{Fails, FailsInTurn}
 use Rattle.puz_search.specs.declared.answers.Answer.{Answer}
 use Rattle.puz_search.specs.declared.answers.Answer.TheVariants as answer
@@ -18,24 +18,24 @@ IsShorter b r letters = (moves : ℕ) × (moves < r) × Solves b letters moves
 
 -- No solution of the board has fewer than r moves, and the search for one fails with so many boards, within the budget; or these
 -- letters are one that has; or the search expands more boards than the budget wherever it fails.
-abbrev pub IsAnswer : ShownBundle → List ℕ → ℕ → ℕ → Answer → Type 0
-IsAnswer v b r budget (answer.Refuted boards) = IsBounded b r × Fails v r b None boards × (boards ≤ budget)
-IsAnswer v b r budget (answer.Solved letters) = IsShorter b r letters.items
-IsAnswer v b r budget answer.Spent = (boards : ℕ) → Fails v r b None boards → budget < boards
+abbrev pub IsAnswer : ShownGuide → List ℕ → ℕ → ℕ → Answer → Type 0
+IsAnswer g b r budget (answer.Refuted boards) = IsBounded b r × Fails g r b 0 boards × (boards ≤ budget)
+IsAnswer g b r budget (answer.Solved letters) = IsShorter b r letters.items
+IsAnswer g b r budget answer.Spent = (boards : ℕ) → Fails g r b 0 boards → budget < boards
 
 -- ---- threshold by threshold
 
 -- the searches below the first k thresholds fail in turn within the budget, but those below the first k + 1 don't: where they
 -- fail, they expand more boards
-abbrev pub IsSpentAfter : ShownBundle → List ℕ → ℕ → ℕ → Type 0
-IsSpentAfter v b budget k =
-    ((boards : ℕ) × FailsInTurn v b k boards × (boards ≤ budget)) ×
-    ((boards : ℕ) → FailsInTurn v b (k + 1) boards → budget < boards)
+abbrev pub IsSpentAfter : ShownGuide → List ℕ → ℕ → ℕ → Type 0
+IsSpentAfter g b budget k =
+    ((boards : ℕ) × FailsInTurn g b k boards × (boards ≤ budget)) ×
+    ((boards : ℕ) → FailsInTurn g b (k + 1) boards → budget < boards)
 
 -- These letters are a shortest solution. Or no solution has fewer moves than this bound, and the searches below the next
 -- threshold and those before it expand more boards than the budget. Or no solution has fewer than 254 moves.
-abbrev pub IsDeepened : ShownBundle → List ℕ → ℕ → Deepened → Type 0
-IsDeepened v b budget (deepened.Shortest letters) = (moves : ℕ) × Solves b letters.items moves × IsBounded b moves
-IsDeepened v b budget (deepened.Spent bound) =
-    IsBounded b bound × ((k : ℕ) × (bound ≡ blank_parity b + 2 * k) × IsSpentAfter v b budget k)
-IsDeepened v b budget deepened.Beyond = IsBounded b 254
+abbrev pub IsDeepened : ShownGuide → List ℕ → ℕ → Deepened → Type 0
+IsDeepened g b budget (deepened.Shortest letters) = (moves : ℕ) × Solves b letters.items moves × IsBounded b moves
+IsDeepened g b budget (deepened.Spent bound) =
+    IsBounded b bound × ((k : ℕ) × (bound ≡ blank_parity b + 2 * k) × IsSpentAfter g b budget k)
+IsDeepened g b budget deepened.Beyond = IsBounded b 254

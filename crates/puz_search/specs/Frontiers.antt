@@ -1,10 +1,11 @@
 -- Frontiers: lists of nodes, so that a search fails just where those below all of them do.
-use Rattle.std.specs.Prelude.{◌≡◌, ℕ, ◌+◌, ◌-◌, ◌<◌, ◌≤◌, List, [], ◌∷◌, ◌++◌, length, slice_index_or, Some, None, ⊤}
+use Rattle.std.specs.Prelude.{◌≡◌, ℕ, ◌+◌, ◌-◌, ◌<◌, ◌≤◌, List, [], ◌∷◌, ◌++◌, slice_index_or, ⊤}
 use Rattle.std.specs.List.{All}
 use Rattle.puz_board.specs.Boards.{moved}
 use Rattle.puz_board.specs.declared.moves.Move.{Move}
+use Rattle.move_strings.specs.Automata.{next_at}
 use Rattle.puz_search.specs.Nodes.{IsLed, node_fails}
-use Rattle.puz_search.specs.Searches.{AtChild, Fails, InTurn, most_boards, takes_back}
+use Rattle.puz_search.specs.Searches.{AtChild, Fails, InTurn, leaves_out, most_boards}
 use Rattle.puz_search.specs.declared.frontiers.Frontier.{Frontier}
 use Rattle.puz_search.specs.declared.nodes.Node.{Node}
 use Rattle.puz_search.specs.declared.searches.Search.{Search}
@@ -31,7 +32,8 @@ most_of (node ∷ rest) = most_boards node.bound + most_of rest
 -- the search after a move of a node
 abbrev pub child_fails_of : Search → Node → Move → ℕ → Type 0
 child_fails_of s node move boards =
-    AtChild (moved node.board move) (takes_back node.arriving move) (λ next. Fails s.bundle.now (node.bound - 1) next (Some move)) boards
+    AtChild (moved node.board move) (leaves_out s.guide.now.steps node.state move)
+    (λ next. Fails s.guide.now (node.bound - 1) next (next_at s.guide.now.steps node.state move)) boards
 
 -- ---- frontiers
 
@@ -45,7 +47,7 @@ pub record Adds (s : Search) (Part : ℕ → Type 0) (most x : ℕ) (old new : L
 
 -- the nodes stand for the whole search
 pub record IsFrontier (s : Search) (frontier : Frontier) : Type 0 where
-  pub counts : IsMore (Fails s.bundle.now s.bound s.board.now None) (all_fail s frontier.nodes.items) frontier.expanded
+  pub counts : IsMore (Fails s.guide.now s.bound s.board.now 0) (all_fail s frontier.nodes.items) frontier.expanded
   pub few : most_of frontier.nodes.items + frontier.expanded ≤ most_boards s.bound
   pub led : All (IsLed s) frontier.nodes.items
 
@@ -60,8 +62,3 @@ IsOutcome s node Open = ⊤
 -- how that of the node with this number did
 abbrev pub IsOutcomeOf : Search → List Node → ℕ → Outcome → Type 0
 IsOutcomeOf s nodes job outcome = (other : Node) → IsOutcome s (slice_index_or nodes job other) outcome
-
--- how those of all nodes did
-abbrev pub AreOutcomesOf : Search → List Node → List Outcome → Type 0
-AreOutcomesOf s nodes outcomes =
-    (length outcomes ≡ length nodes) × ((job : ℕ) (other : Outcome) → job < length nodes → IsOutcomeOf s nodes job (slice_index_or outcomes job other))

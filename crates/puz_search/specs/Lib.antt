@@ -1,7 +1,10 @@
 -- What public contracts say.
 pub mod Answers
+pub mod Guides
 pub mod Searches
 -- What proofs alone need.
 pub mod Outcomes
 pub mod Nodes
 pub mod Frontiers
+pub mod Lanes
+pub mod Turns

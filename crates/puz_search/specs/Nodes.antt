@@ -1,27 +1,37 @@
 -- Nodes: boards of a search, below which is still to be searched.
-use Rattle.std.specs.Prelude.{◌≡◌, ℕ, ◌+◌, ◌<◌, ◌≤◌, List, ◌++◌, length, None}
+use Rattle.std.specs.Prelude.{◌≡◌, ℕ, ◌+◌, ◌<◌, ◌≤◌, List, ◌++◌, length}
 use Rattle.puz_board.specs.Boards.{IsBoardOf}
-use Rattle.puz_search.specs.Outcomes.{IsTrail}
+use Rattle.move_strings.specs.Automata.{IsState}
+use Rattle.puz_search.specs.Guides.{automaton_of}
+use Rattle.puz_search.specs.Outcomes.{IsTrail, walk_at}
 use Rattle.puz_search.specs.Searches.{Fails}
 use Rattle.puz_search.specs.declared.answers.Answer.{Answer}
 use Rattle.puz_search.specs.declared.answers.Answer.TheVariants.{Refuted, Solved, Spent}
 use Rattle.puz_search.specs.declared.nodes.Node.{Node}
 use Rattle.puz_search.specs.declared.searches.Search.{Search}
+use Rattle.puz_search.specs.declared.walks.Reached.{Reached}
 
 -- the search below a node fails, and expands so many boards
 abbrev pub node_fails : Search → Node → ℕ → Type 0
-node_fails s node boards = Fails s.bundle.now node.bound node.board node.arriving boards
+node_fails s node boards = Fails s.guide.now node.bound node.board node.state boards
 
 -- the node is that of the first board
 pub record IsFirst (s : Search) (node : Node) : Type 0 where
   pub board : node.board ≡ s.board.now
-  pub arriving : node.arriving ≡ None
+  pub state : node.state ≡ 0
   pub bound : node.bound ≡ s.bound
 
--- the board is of the bundle's side, and has just the bound that is left after the moves of the letters
+-- the board is of the bundle's side, in a state of the automaton, and has just the bound that is left after the moves of the letters
 pub record IsPlaced (s : Search) (node : Node) : Type 0 where
-  pub board : IsBoardOf s.bundle.now.side node.board
+  pub board : IsBoardOf s.guide.now.bundle.side node.board
+  pub state : IsState s.guide.now.steps node.state
   pub left : length node.letters.items + node.bound ≡ s.bound
+
+-- a search reaches the board of the node in its state, led by the guide
+pub record IsReached (s : Search) (node : Node) (reached : Reached) : Type 0 where
+  pub walk : walk_at reached ≡ record { bundle = s.guide.now.bundle; board = node.board; bound = node.bound }
+  pub automaton : reached.automaton.now ≡ automaton_of s.guide.now
+  pub state : reached.state ≡ node.state
 
 -- the letters lead from the first board to that of the node: with the letters of a trail from there they are a trail
 pub record IsLed (s : Search) (node : Node) : Type 0 where

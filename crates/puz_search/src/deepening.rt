@@ -5,10 +5,10 @@ ghost use Rattle.puz_board.specs.Boards.{side_of};
 ghost use Rattle.puz_search.specs.Answers.{IsDeepened};
 
 use crate::answers::{Answer, Letters};
+use crate::guides::Guide;
 use crate::refuting::refute;
 use crate::sharing::refute_by;
 use puz_board::Board;
-use set_sum::Bundle;
 use std::alloc::AllocError;
 use std::thread::Threads;
 use work_run::{Gate, Workers};
@@ -31,15 +31,15 @@ pub enum Deepened {
 ///
 /// The first threshold is one more than the parity that all solutions of the board have, and each next one two more: below a
 /// threshold `refute` searches.
-pub fn shortest(bundle: &Bundle<'_>, board: &Board, budget: u64) -> Deepened
-    requires { side_of board.now ≡ bundle.now.side }
-    ensures { IsDeepened bundle.now board.now budget result }
+pub fn shortest(guide: &Guide<'_>, board: &Board, budget: u64) -> Deepened
+    requires { side_of board.now ≡ guide.now.bundle.side }
+    ensures { IsDeepened guide.now board.now budget result }
 {
     let _side = board.side();
     let mut bound = board.blank_parity();
     let mut left = budget;
     while bound < LARGEST_BOUND {
-        match refute(bundle, board, bound + 1, left) {
+        match refute(guide, board, bound + 1, left) {
             Answer::Refuted(boards) => {
                 left -= boards;
                 bound += 2;
@@ -53,19 +53,19 @@ pub fn shortest(bundle: &Bundle<'_>, board: &Board, budget: u64) -> Deepened
 
 /// Searches as `shortest` does, by these workers at once: below a threshold `refute_by` searches.
 pub fn shortest_by<R: Threads + Sync, G: Gate + Sync>(
-    bundle: &Bundle<'_>,
+    guide: &Guide<'_>,
     board: &Board,
     budget: u64,
     workers: &Workers<'_, R, G>,
 ) -> Result<Deepened, AllocError>
-    requires { side_of board.now ≡ bundle.now.side }
-    ensures { IfOk result (IsDeepened bundle.now board.now budget) }
+    requires { side_of board.now ≡ guide.now.bundle.side }
+    ensures { IfOk result (IsDeepened guide.now board.now budget) }
 {
     let _side = board.side();
     let mut bound = board.blank_parity();
     let mut left = budget;
     while bound < LARGEST_BOUND {
-        let answer = refute_by(bundle, board, bound + 1, left, workers)?;
+        let answer = refute_by(guide, board, bound + 1, left, workers)?;
         match answer {
             Answer::Refuted(boards) => {
                 left -= boards;

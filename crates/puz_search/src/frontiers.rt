@@ -6,9 +6,7 @@ ghost use Rattle.puz_search.specs.Frontiers.{Adds, IsFrontier, all_fail, child_f
 ghost use Rattle.puz_search.specs.Nodes.{IsLed, node_fails};
 ghost use Rattle.puz_search.specs.Searches.{most_boards};
 
-use crate::cuts::is_cut_off;
 use crate::nodes::Node;
-use crate::order::takes_back;
 use crate::searches::Search;
 use puz_board::Move;
 use std::alloc::{AllocError, Global};
@@ -72,14 +70,10 @@ fn expand(task: &Search<'_>, node: Node, next: &mut Vec<Node>) -> Result<bool, A
     ensures { IfOk result (λ expanded. Adds task.now (node_fails task.now node)
         (most_boards node.bound) (if expanded then 1 else 0) next.old.items next.new.items) }
 {
-    let mut reached = task.reached(&node);
-    if reached.bound == 0 {
+    let Some(reached) = task.reached(&node) else {
         return Ok(false);
-    }
-    if is_cut_off(&mut reached) {
-        return Ok(false);
-    }
-    if reached.sums.is_goal() {
+    };
+    if reached.walk.is_goal() {
         next.push(node)?;
         return Ok(false);
     }
@@ -90,7 +84,7 @@ fn expand(task: &Search<'_>, node: Node, next: &mut Vec<Node>) -> Result<bool, A
     Ok(true)
 }
 
-/// Adds the node after a move, where the move leads to a board, doesn't take back the arriving one, and the board isn't cut off.
+/// Adds the node after a move, where the move leads to a board, isn't left out, and the board isn't cut off.
 fn add_child(
     task: &Search<'_>,
     node: &Node,
@@ -102,14 +96,14 @@ fn add_child(
     ensures { IfOk result (λ done. Adds task.now (child_fails_of task.now node.now mv)
         (most_boards (node.now.bound - 1)) 0 next.old.items next.new.items) }
 {
-    if takes_back(node.arriving, mv) {
+    let Some(state) = task.guide.next(node.state, mv) else {
         return Ok(());
-    }
+    };
     let Some(board) = node.board.apply(mv) else {
         return Ok(());
     };
-    let child = task.after(node, mv, board);
-    if !is_cut_off(&mut task.reached(&child)) {
+    let child = task.after(node, mv, board, state);
+    if task.reached(&child).is_some() {
         next.push(child)?;
     }
     Ok(())

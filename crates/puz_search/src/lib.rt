@@ -2,19 +2,21 @@
 #![tactic(auto)]
 
 mod answers;
-mod cuts;
 mod deepening;
 mod efforts;
 mod frontiers;
+mod guides;
+mod lanes;
 mod nodes;
-mod order;
 mod outcomes;
 mod refuting;
 mod searches;
 mod sharing;
+mod turns;
 mod walks;
 
 pub use answers::{Answer, Letters};
 pub use deepening::{Deepened, shortest, shortest_by};
+pub use guides::Guide;
 pub use refuting::refute;
 pub use sharing::refute_by;

@@ -1,22 +1,23 @@
 //! Boards below which is still to be searched.
 
-ghost use Rattle.std.specs.Prelude.{◌≡◌, ◌+◌, ◌≤◌, Some, None, length};
+ghost use Rattle.std.specs.Prelude.{◌≡◌, ◌+◌, ◌≤◌, Some, IfNone, IfSome, length};
 ghost use Rattle.puz_board.specs.Boards.{moved};
-ghost use Rattle.puz_search.specs.Nodes.{IsFirst, IsLed, IsPlaced};
+ghost use Rattle.move_strings.specs.Automata.{IsState};
+ghost use Rattle.puz_walk.specs.Walks.{IsClosed};
+ghost use Rattle.puz_search.specs.Nodes.{IsFirst, IsLed, IsPlaced, IsReached};
 
 use crate::answers::{Letters, joined};
 use crate::searches::Search;
 use crate::walks::Reached;
 use arrayvec::ArrayVec;
 use puz_board::{Board, Move};
-use set_sum::Sums;
 
 /// A board below which is still to be searched.
 #[derive(Drop)]
 pub(crate) struct Node {
     pub(crate) board: Board,
-    /// The move by which it was reached. None led to the first board.
-    pub(crate) arriving: Option<Move>,
+    /// The state of the automaton after the moves that lead here.
+    pub(crate) state: u32,
     /// Solutions of fewer moves are searched.
     pub(crate) bound: u8,
     /// The letters of the moves that lead here from the first board.
@@ -31,41 +32,41 @@ impl<'a> Search<'a> {
     {
         Node {
             board: *self.board,
-            arriving: None,
+            state: 0,
             bound: self.bound,
             letters: ArrayVec::new(),
         }
     }
 
-    /// The board of a node, as a search reaches it.
-    pub(crate) fn reached(&self, node: &Node) -> Reached<'a>
+    /// The board of a node, as a search reaches it, where it isn't cut off.
+    pub(crate) fn reached(&self, node: &Node) -> Option<Reached<'a>>
         requires { IsPlaced self.now node.now }
-        ensures { result ≡ record {
-          sums = record { bundle = self.now.bundle.now; board = node.now.board };
-          arriving = node.now.arriving;
-          bound = node.now.bound;
-        } }
+        ensures some { IfSome result (IsReached self.now node.now) }
+        ensures none { IfNone result
+            (IsClosed self.now.guide.now.bundle node.now.board node.now.bound) }
     {
-        Reached {
-            sums: Sums::new(self.bundle, &node.board),
-            arriving: node.arriving,
-            bound: node.bound,
-        }
+        let walk = self.guide.walk(&node.board, node.bound)?;
+        Some(Reached {
+            walk,
+            automaton: self.guide.automaton(),
+            state: node.state,
+        })
     }
 
-    /// The node after a move of a node, which leads to this board.
-    pub(crate) fn after(&self, node: &Node, mv: Move, board: Board) -> Node
+    /// The node after a move of a node, which leads to this board and this state.
+    pub(crate) fn after(&self, node: &Node, mv: Move, board: Board, state: u32) -> Node
         requires led { IsLed self.now node.now }
         requires bound { 1 ≤ node.now.bound }
         requires moved { moved node.now.board mv ≡ Some board }
+        requires state { IsState self.now.guide.now.steps state }
         ensures board { result.board ≡ board }
-        ensures arriving { result.arriving ≡ Some mv }
+        ensures state { result.state ≡ state }
         ensures bound { result.bound + 1 ≡ node.now.bound }
         ensures led { IsLed self.now result }
     {
         Node {
             board,
-            arriving: Some(mv),
+            state,
             bound: node.bound - 1,
             letters: joined(node.letters.as_slice(), &[mv.letter()]),
         }

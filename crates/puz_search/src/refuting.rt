@@ -1,6 +1,6 @@
 //! Searches of one thread.
 
-ghost use Rattle.std.specs.Prelude.{◌≡◌, ◌≤◌, ℕ, [], None};
+ghost use Rattle.std.specs.Prelude.{◌≡◌, ◌≤◌, ℕ, []};
 ghost use Rattle.puz_board.specs.Boards.{side_of};
 ghost use Rattle.puz_search.specs.Answers.{IsAnswer};
 ghost use Rattle.puz_search.specs.Nodes.{IsPartAnswer, IsPlaced, node_fails, solves_below};
@@ -9,34 +9,34 @@ ghost use Rattle.puz_search.specs.declared.answers.Answer.TheVariants.{Refuted, 
 
 use crate::answers::{Answer, joined};
 use crate::efforts::{Effort, Stop};
+use crate::guides::Guide;
 use crate::nodes::Node;
 use crate::searches::Search;
 use crate::walks::search;
 use puz_board::Board;
-use set_sum::Bundle;
 
 /// Searches for a solution of a board of fewer moves than a bound, depth first, and expands at most `budget` boards
-/// (Korf 1985).
+/// (Korf 1985). Moves that the guide's automaton leaves out aren't tried (Taylor and Korf 1993).
 ///
 /// A board is expanded where its moves are tried. At any time at most 255 boards are, one inside the other.
-pub fn refute(bundle: &Bundle<'_>, board: &Board, bound: u8, budget: u64) -> Answer
-    requires { side_of board.now ≡ bundle.now.side }
+pub fn refute(guide: &Guide<'_>, board: &Board, bound: u8, budget: u64) -> Answer
+    requires { side_of board.now ≡ guide.now.bundle.side }
 
     // Refuted: no solution of the board has fewer moves, and the search fails with so many boards, within the budget. Solved:
     // these moves solve it, and are fewer. Spent: where the search fails, it expands more boards than the budget.
-    ensures answer { IsAnswer bundle.now board.now bound budget result }
+    ensures answer { IsAnswer guide.now board.now bound budget result }
 
     // It is refuted wherever the search fails within the budget.
-    ensures within { (boards : ℕ) → Fails bundle.now bound board.now None boards
+    ensures within { (boards : ℕ) → Fails guide.now bound board.now 0 boards
         → boards ≤ budget → result ≡ Refuted boards }
 
     // A budget that is large enough is never spent.
     ensures enough { most_boards bound ≤ budget → (result ≡ Spent → ⊥) }
 {
-    // What is said of boards and sums is said of a board and a bundle, and these say that the values are.
-    let _sides = (board.side(), bundle.side());
+    // What is said of boards and searches is said of a board and a guide, and these say that the values are.
+    let _sides = (board.side(), guide.side());
     let search = Search {
-        bundle,
+        guide,
         board,
         bound,
     };
@@ -51,7 +51,10 @@ pub(crate) fn refute_node(task: &Search<'_>, node: &Node, effort: &mut Effort) -
         (solves_below node.now) effort.old.left result }
 {
     let budget = effort.left;
-    match search(&mut task.reached(node), effort) {
+    let Some(mut reached) = task.reached(node) else {
+        return Answer::Refuted(0);
+    };
+    match search(&mut reached, effort) {
         Ok(()) => Answer::Refuted(budget - effort.left),
         Err(Stop::Solved) => {
             effort.letters.reverse();

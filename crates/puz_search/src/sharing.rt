@@ -1,6 +1,6 @@
 //! Searches that workers share.
 
-ghost use Rattle.std.specs.Prelude.{◌≡◌, ◌≤◌, ℕ, IfOk, None};
+ghost use Rattle.std.specs.Prelude.{◌≡◌, ◌≤◌, ℕ, IfOk};
 ghost use Rattle.puz_board.specs.Boards.{side_of};
 ghost use Rattle.puz_search.specs.Answers.{IsAnswer};
 ghost use Rattle.puz_search.specs.Nodes.{IsPartAnswer, solves_first};
@@ -10,11 +10,11 @@ ghost use Rattle.puz_search.specs.declared.answers.Answer.TheVariants.{Refuted, 
 use crate::answers::Answer;
 use crate::efforts::Effort;
 use crate::frontiers::frontier_of;
+use crate::guides::Guide;
 use crate::outcomes::{SearchNodes, settle};
 use crate::refuting::refute_node;
 use crate::searches::Search;
 use puz_board::Board;
-use set_sum::Bundle;
 use std::alloc::AllocError;
 use std::sync::atomic::{AtomicU64, AtomicUsize};
 use std::thread::Threads;
@@ -31,30 +31,30 @@ const FEW_BOARDS: u64 = 1 << 16;
 /// was left when it began to search below its board. The gate is told of each search, and of the boards that are expanded. Memory
 /// is taken for the boards a few moves away, for what their searches answer, and for the workers.
 pub fn refute_by<R: Threads + Sync, G: Gate + Sync>(
-    bundle: &Bundle<'_>,
+    guide: &Guide<'_>,
     board: &Board,
     bound: u8,
     budget: u64,
     workers: &Workers<'_, R, G>,
 ) -> Result<Answer, AllocError>
-    requires { side_of board.now ≡ bundle.now.side }
+    requires { side_of board.now ≡ guide.now.bundle.side }
 
     // Refuted: no solution of the board has fewer moves, and the search fails with so many boards, within the budget. Solved:
     // these moves solve it, and are fewer. Spent: where the search fails, it expands more boards than the budget.
-    ensures answer { IfOk result (IsAnswer bundle.now board.now bound budget) }
+    ensures answer { IfOk result (IsAnswer guide.now board.now bound budget) }
 
     // It is refuted wherever the search fails within the budget.
-    ensures within { (boards : ℕ) → Fails bundle.now bound board.now None boards
+    ensures within { (boards : ℕ) → Fails guide.now bound board.now 0 boards
         → boards ≤ budget → IfOk result (λ answer. answer ≡ Refuted boards) }
 
     // A budget that is large enough is never spent.
     ensures enough { most_boards bound ≤ budget → IfOk result (λ answer. answer ≡ Spent → ⊥) }
 {
-    // What is said of boards and sums is said of a board and a bundle, and these say that the values are.
-    let _sides = (board.side(), bundle.side());
+    // What is said of boards and searches is said of a board and a guide, and these say that the values are.
+    let _sides = (board.side(), guide.side());
     workers.gate.searches(bound);
     let search = Search {
-        bundle,
+        guide,
         board,
         bound,
     };
@@ -68,7 +68,7 @@ fn search_by<R: Threads + Sync, G: Gate + Sync>(
     workers: &Workers<'_, R, G>,
 ) -> Result<Answer, AllocError>
     ensures { IfOk result (IsPartAnswer
-        (Fails task.now.bundle.now task.now.bound task.now.board.now None)
+        (Fails task.now.guide.now task.now.bound task.now.board.now 0)
         (most_boards task.now.bound) (solves_first task.now) budget) }
 {
     let few = budget.min(FEW_BOARDS);
@@ -90,7 +90,7 @@ fn search_frontier<R: Threads + Sync, G: Gate + Sync>(
     workers: &Workers<'_, R, G>,
 ) -> Result<Answer, AllocError>
     ensures { IfOk result (IsPartAnswer
-        (Fails task.now.bundle.now task.now.bound task.now.board.now None)
+        (Fails task.now.guide.now task.now.bound task.now.board.now 0)
         (most_boards task.now.bound) (solves_first task.now) budget) }
 {
     let frontier = frontier_of(task, workers.alloc)?;

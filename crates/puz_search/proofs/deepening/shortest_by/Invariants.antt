@@ -3,7 +3,7 @@ use Rattle.puz_search.proofs.DeepLemmas.{IsDeep}
 use Rattle.puz_search.proofs.deepening.shortest_by.Given as goal
 
 abbrev pub invariant-loop-bound : goal.invariant-loop-bound
-invariant-loop-bound g l = IsDeep l.bundle l.board l.budget l.left l.bound
+invariant-loop-bound g l = IsDeep l.guide l.board l.budget l.left l.bound
 
 abbrev pub decreases-loop-bound : goal.decreases-loop-bound
 decreases-loop-bound g l = 255 - l.bound

@@ -11,7 +11,7 @@ returns-in-Refuted-2 c =
     let boards = c.in-Refuted.boards in
     let more : c.args.budget < boards = c.if-boards-budget.false in
     let fails : node_fails s node boards = rw c.in-Refuted.is at c.requires.outcome in
-    let few : boards ≤ most_boards node.bound = fails_few s.bundle.now node.bound node.board node.arriving boards fails in (
-      λ other h. let same : boards ≡ other = fails_once s.bundle.now node.bound node.board node.arriving boards other fails h in omega arith,
+    let few : boards ≤ most_boards node.bound = fails_few s.guide.now node.bound node.board node.state boards fails in (
+      λ other h. let same : boards ≡ other = fails_once s.guide.now node.bound node.board node.state boards other fails h in omega arith,
       omega arith,
     )

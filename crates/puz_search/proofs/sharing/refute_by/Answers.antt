@@ -8,10 +8,10 @@ use Rattle.puz_search.proofs.sharing.refute_by.Goals as goal
 
 pub returns-clause-answer : goal.returns-clause-answer
 returns-clause-answer g c =
-    let s : Search = record { bundle = c.args.bundle; board = c.args.board; bound = c.args.bound; one_side = subst (λ n. IsBoardOf n c.args.board.now) c.requires c.side.ensures.board; small = omega arith } in
-    if_ok (IsWhole s c.args.budget) (IsAnswer c.args.bundle.now c.args.board.now c.args.bound c.args.budget) (whole_answer s c.side-2.ensures.bundle c.args.budget) c.search_by.result c.search_by.ensures
+    let s : Search = record { guide = c.args.guide; board = c.args.board; bound = c.args.bound; first_state = c.side-2.ensures.guide.automaton.first; one_side = subst (λ n. IsBoardOf n c.args.board.now) c.requires c.side.ensures.board; small = omega arith } in
+    if_ok (IsWhole s c.args.budget) (IsAnswer c.args.guide.now c.args.board.now c.args.bound c.args.budget) (whole_answer s c.side-2.ensures.guide c.args.budget) c.search_by.result c.search_by.ensures
 
 pub returns-clause-within : goal.returns-clause-within
 returns-clause-within g c boards fails few =
-    let s : Search = record { bundle = c.args.bundle; board = c.args.board; bound = c.args.bound; one_side = subst (λ n. IsBoardOf n c.args.board.now) c.requires c.side.ensures.board; small = omega arith } in
-    if_ok (IsWhole s c.args.budget) (λ answer. answer ≡ Refuted boards) (whole_within s c.side-2.ensures.bundle c.args.budget boards fails few) c.search_by.result c.search_by.ensures
+    let s : Search = record { guide = c.args.guide; board = c.args.board; bound = c.args.bound; first_state = c.side-2.ensures.guide.automaton.first; one_side = subst (λ n. IsBoardOf n c.args.board.now) c.requires c.side.ensures.board; small = omega arith } in
+    if_ok (IsWhole s c.args.budget) (λ answer. answer ≡ Refuted boards) (whole_within s c.side-2.ensures.guide c.args.budget boards fails few) c.search_by.result c.search_by.ensures

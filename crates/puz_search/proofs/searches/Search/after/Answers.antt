@@ -19,6 +19,6 @@ returns-clause-led c =
     let items : c.joined.result.items ≡ node.letters.items ++ c.letter.result ∷ [] = c.joined.ensures ∙ ap (λ letters. letters ++ c.letter.result ∷ []) c.as_slice.ensures.value in
     let count : length c.joined.result.items ≡ length node.letters.items + 1 = ap length items ∙ length-append node.letters.items (c.letter.result ∷ []) in
     record {
-      placed = record { board = IsBoardOf-moved s.bundle.now.side node.board placed.board c.args.mv c.args.board c.requires.moved; left = omega arith };
+      placed = record { board = IsBoardOf-moved s.guide.now.bundle.side node.board placed.board c.args.mv c.args.board c.requires.moved; state = c.requires.state; left = omega arith };
       leads = λ text trail. subst (λ letters. IsTrail s.board.now s.bound (letters ++ text)) (sym items) (led_after s node c.args.mv c.args.board c.letter.result text c.requires.led c.requires.bound c.requires.moved c.letter.ensures trail);
     }

@@ -6,6 +6,6 @@ pub returns-clause-led : goal.returns-clause-led
 returns-clause-led c =
     let s = c.args.self.now in
     record {
-      placed = record { board = s.one_side; left = let none = ap length c.new.ensures in omega arith };
+      placed = record { board = s.one_side; state = s.first_state; left = let none = ap length c.new.ensures in omega arith };
       leads = λ text trail. subst (λ letters. IsTrail s.board.now s.bound (letters ++ text)) (sym c.new.ensures) trail;
     }

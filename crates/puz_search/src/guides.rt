@@ -1,0 +1,80 @@
+//! What leads a search.
+
+ghost use Rattle.std.specs.Prelude.{◌≡◌, ◌≢◌, IfNone, IfSome, MatchOption};
+ghost use Rattle.puz_board.specs.Boards.{side_of};
+ghost use Rattle.move_strings.specs.Automata.{IsState, left_out, next_at};
+ghost use Rattle.puz_walk.specs.Shown.{walk_shown};
+ghost use Rattle.puz_walk.specs.Walks.{IsClosed};
+ghost use Rattle.puz_search.specs.Guides.{IsGuide, automaton_of};
+
+use move_strings::Automaton;
+use puz_board::{Board, Move, Side};
+use puz_walk::Walk;
+use set_sum::Bundle;
+use std::marker::Model;
+
+/// What leads a search: the sets of a bundle cut boards off (Korf and Felner 2002), and an automaton leaves out moves that need
+/// not be tried (Taylor and Korf 1993).
+#[derive(Drop)]
+pub struct Guide<'a> {
+    bundle: &'a Bundle<'a>,
+    automaton: &'a Automaton,
+}
+
+impl<'a> Model for Guide<'a> {
+    ghost use Rattle.std.specs.Prelude.{◌≡◌};
+    ghost use Rattle.puz_search.specs.Guides.{ShownGuide};
+
+    ghost Value = { ShownGuide };
+
+    ghost view = { λ g. record { bundle = g.bundle.now; steps = g.automaton.now.steps } };
+
+    ghost invariant = { λ g. g.automaton.now.side ≡ g.bundle.now.side };
+}
+
+impl<'a> Guide<'a> {
+    /// The guide of a bundle and an automaton for boards of its side.
+    pub fn new(bundle: &'a Bundle<'a>, automaton: &'a Automaton) -> Guide<'a>
+        requires { automaton.now.side ≡ bundle.now.side }
+        ensures { result ≡ record { bundle = bundle.now; steps = automaton.now.steps } }
+    {
+        Guide { bundle, automaton }
+    }
+
+    /// The side of the boards that it leads to.
+    pub fn side(&self) -> Side
+        ensures side { result ≡ self.now.bundle.side }
+        ensures guide { IsGuide self.now }
+    {
+        let _automaton = self.automaton.side();
+        self.bundle.side()
+    }
+
+    /// The state of the automaton after a move from a state, unless the step is left out.
+    pub(crate) fn next(&self, state: u32, mv: Move) -> Option<u32>
+        requires { IsState self.now.steps state }
+        ensures next { MatchOption result
+            (next_at self.now.steps state mv ≡ left_out)
+            (λ next. (next_at self.now.steps state mv ≡ next) × (next ≢ left_out)) }
+        ensures state { IfSome result (IsState self.now.steps) }
+    {
+        self.automaton.next(state, mv)
+    }
+
+    /// The automaton.
+    pub(crate) fn automaton(&self) -> &'a Automaton
+        ensures { result.now ≡ automaton_of self.now }
+    {
+        self.automaton
+    }
+
+    /// The walk from a board, unless no solution of fewer moves than the bound need be searched for.
+    pub(crate) fn walk(&self, board: &Board, bound: u8) -> Option<Walk<'a>>
+        requires { side_of board.now ≡ self.now.bundle.side }
+        ensures some { IfSome result (λ walk. walk_shown walk
+            ≡ record { bundle = self.now.bundle; board = board.now; bound = bound }) }
+        ensures none { IfNone result (IsClosed self.now.bundle board.now bound) }
+    {
+        Walk::of_sums(self.bundle, board, bound)
+    }
+}
