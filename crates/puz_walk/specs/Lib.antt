@@ -1,0 +1,9 @@
+-- What public contracts say.
+pub mod Walks
+pub mod WordBundles
+pub mod WordSteps
+-- How values are stored.
+pub mod StoredWords
+pub mod StoredWordWalks
+-- What proofs alone need.
+pub mod WordSpots
