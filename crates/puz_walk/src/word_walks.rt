@@ -64,9 +64,10 @@ impl<'a> WordWalk<'a> {
     }
 
     /// Whether the board is the goal board.
+    #[inline]
     pub fn is_goal(&self) -> bool
         ensures goal { IsTrue result ↔ IsGoal self.now.board }
-        ensures is_open { IsOpen self.now }
+        ensures open { IsOpen self.now }
     {
         is_in_order(&self.spot.numbers[..usize::from(self.bundle.side().cells())])
     }

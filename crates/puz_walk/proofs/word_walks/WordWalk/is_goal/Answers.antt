@@ -3,5 +3,5 @@ use Rattle.puz_walk.specs.Walks.{IsOpen}
 use Rattle.puz_walk.proofs.WordWalkLemmas.{walk_open}
 use Rattle.puz_walk.proofs.word_walks.WordWalk.is_goal.Goals as goal
 
-pub returns-clause-is_open : goal.returns-clause-is_open
-returns-clause-is_open c = subst IsOpen c.self.view_is (walk_open c.self.inside c.self.invariant)
+pub returns-clause-open : goal.returns-clause-open
+returns-clause-open c = subst IsOpen c.self.view_is (walk_open c.self.inside c.self.invariant)
