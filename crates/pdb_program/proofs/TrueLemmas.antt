@@ -12,6 +12,7 @@ use Rattle.claim_text.proofs.AnswerLemmas.{answer-no_lf}
 use Rattle.puz_board.specs.Boards.{IsBoard}
 use Rattle.puz_board.specs.MovesTexts.{Solves}
 use Rattle.set_sum.specs.Bounds.{IsBounded}
+use Rattle.puz_search.specs.Guides.{ShownGuide}
 use Rattle.set_sum.specs.Bundles.{ShownBundle}
 use Rattle.byte_io.specs.Shelf.{Bytes}
 use Rattle.byte_io.specs.Streams.{AppendsFront}
@@ -73,9 +74,9 @@ first_boards : (first others : List ShownClaim) → HaveBoards (first ++ others)
 first_boards [] others boards = tt
 first_boards (claim ∷ first) others boards = (boards.0, first_boards first others boards.1)
 
-module _ (v : ShownBundle) (budget : ℕ) where
+module _ (guide : ShownGuide) (budget : ℕ) where
   -- what is found for what a claim asks is told truly
-  found_true : (b : List ℕ) (asks : ShownAsks) (found : Found) → IsBoard b → IsFoundOf v budget b asks found → IsTrueTold (told_of b asks found)
+  found_true : (b : List ℕ) (asks : ShownAsks) (found : Found) → IsBoard b → IsFoundOf guide budget b asks found → IsTrueTold (told_of b asks found)
   found_true b (claims.bound r) Bound board is = (board, is.1.0)
   found_true b (claims.bound r) (Optimum n) board is = absurd is
   found_true b (claims.bound r) (Shortest n letters) board is = absurd is
@@ -91,7 +92,7 @@ module _ (v : ShownBundle) (budget : ℕ) where
   found_true b claims.shortest (Shortest n letters) board is = (board, is.0, is.1)
   found_true b claims.shortest (Shorter letters) board is = absurd is
   found_true b claims.shortest (Refused refused) board is = refused_words refused
-
+module _ (v : ShownBundle) (budget : ℕ) where
   -- so each of them is
   each_true : (claims : List ShownClaim) (told : List Told) → HaveBoards claims → AllZip (IsToldOf v budget) claims told
       → AllByRecursion IsTrueTold told
@@ -99,8 +100,8 @@ module _ (v : ShownBundle) (budget : ℕ) where
   each_true [] (t ∷ told) boards each = absurd each
   each_true (claim ∷ claims) [] boards each = absurd each
   each_true (claim ∷ claims) (t ∷ told) boards each =
-      let is = each.0 in (
-        subst IsTrueTold (sym is.is_told) (found_true claim.board claim.asks is.found boards.0 is.is_found),
+      let is = each.0 in let by = is.is_found in (
+        subst IsTrueTold (sym is.is_told) (found_true by.guide budget claim.board claim.asks is.found boards.0 by.is_found),
         each_true claims told boards.1 each.1,
       )
 

@@ -2,6 +2,8 @@
 pub mod Answers
 pub mod Guides
 pub mod Searches
+-- How values are stored.
+pub mod StoredGuides
 -- What proofs alone need.
 pub mod Outcomes
 pub mod Nodes

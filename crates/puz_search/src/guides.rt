@@ -9,36 +9,65 @@ ghost use Rattle.puz_search.specs.Guides.{IsGuide, automaton_of};
 
 use move_strings::Automaton;
 use puz_board::{Board, Move, Side};
-use puz_walk::Walk;
+use puz_walk::{Walk, WordBundle};
 use set_sum::Bundle;
 use std::marker::Model;
+
+/// The sets that cut boards off.
+#[derive(Drop)]
+enum Sets<'a> {
+    /// They are asked for their sums.
+    Sums(&'a Bundle<'a>),
+    /// What moves do to their sums is read from edge words.
+    Words(&'a WordBundle<'a>),
+}
 
 /// What leads a search: the sets of a bundle cut boards off (Korf and Felner 2002), and an automaton leaves out moves that need
 /// not be tried (Taylor and Korf 1993).
 #[derive(Drop)]
 pub struct Guide<'a> {
-    bundle: &'a Bundle<'a>,
+    sets: Sets<'a>,
     automaton: &'a Automaton,
 }
 
 impl<'a> Model for Guide<'a> {
     ghost use Rattle.std.specs.Prelude.{◌≡◌};
     ghost use Rattle.puz_search.specs.Guides.{ShownGuide};
+    ghost use Rattle.puz_search.specs.StoredGuides.{bundle_of};
 
     ghost Value = { ShownGuide };
 
-    ghost view = { λ g. record { bundle = g.bundle.now; steps = g.automaton.now.steps } };
+    ghost view = { λ g. record { bundle = bundle_of g.sets; steps = g.automaton.now.steps } };
 
-    ghost invariant = { λ g. g.automaton.now.side ≡ g.bundle.now.side };
+    ghost invariant = { λ g. g.automaton.now.side ≡ (bundle_of g.sets).side };
 }
 
 impl<'a> Guide<'a> {
     /// The guide of a bundle and an automaton for boards of its side.
     pub fn new(bundle: &'a Bundle<'a>, automaton: &'a Automaton) -> Guide<'a>
         requires { automaton.now.side ≡ bundle.now.side }
-        ensures { result ≡ record { bundle = bundle.now; steps = automaton.now.steps } }
+        ensures value { result ≡ record { bundle = bundle.now; steps = automaton.now.steps } }
+        ensures guide { IsGuide result }
     {
-        Guide { bundle, automaton }
+        let _sides = (bundle.side(), automaton.side());
+        Guide {
+            sets: Sets::Sums(bundle),
+            automaton,
+        }
+    }
+
+    /// The guide of a bundle with edge words, which are read where the sets would be asked for their sums, and an automaton for
+    /// boards of its side.
+    pub fn over_words(words: &'a WordBundle<'a>, automaton: &'a Automaton) -> Guide<'a>
+        requires { automaton.now.side ≡ words.now.side }
+        ensures value { result ≡ record { bundle = words.now; steps = automaton.now.steps } }
+        ensures guide { IsGuide result }
+    {
+        let _sides = (words.side(), automaton.side());
+        Guide {
+            sets: Sets::Words(words),
+            automaton,
+        }
     }
 
     /// The side of the boards that it leads to.
@@ -47,7 +76,10 @@ impl<'a> Guide<'a> {
         ensures guide { IsGuide self.now }
     {
         let _automaton = self.automaton.side();
-        self.bundle.side()
+        match &self.sets {
+            Sets::Sums(bundle) => bundle.side(),
+            Sets::Words(words) => words.side(),
+        }
     }
 
     /// The state of the automaton after a move from a state, unless the step is left out.
@@ -75,6 +107,9 @@ impl<'a> Guide<'a> {
             ≡ record { bundle = self.now.bundle; board = board.now; bound = bound }) }
         ensures none { IfNone result (IsClosed self.now.bundle board.now bound) }
     {
-        Walk::of_sums(self.bundle, board, bound)
+        match &self.sets {
+            Sets::Sums(bundle) => Walk::of_sums(bundle, board, bound),
+            Sets::Words(words) => Walk::of_words(words, board, bound),
+        }
     }
 }

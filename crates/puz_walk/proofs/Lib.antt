@@ -1,1 +1,9 @@
+mod BlankLemmas
+mod JudgeLemmas
+mod MarginLemmas
+mod OpenLemmas
+mod OwnerLemmas
+mod ShiftLemmas
+mod TurnLemmas
 mod WalkLemmas
+mod WordWalkLemmas

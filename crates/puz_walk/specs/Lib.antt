@@ -1,4 +1,11 @@
 -- What public contracts say.
 pub mod Walks
 pub mod SumSteps
+pub mod WordBundles
+pub mod WordSteps
 pub mod Shown
+-- How values are stored.
+pub mod StoredWords
+pub mod StoredWordWalks
+-- What proofs alone need.
+pub mod WordSpots

@@ -4,8 +4,14 @@
 #![tactic(auto)]
 
 mod cuts;
+mod owners;
 mod sum_walks;
 mod walks;
+mod word_bundles;
+mod word_spots;
+mod word_walks;
 
 pub use sum_walks::SumWalk;
 pub use walks::{Step, Walk};
+pub use word_bundles::WordBundle;
+pub use word_walks::{WordStep, WordWalk};

@@ -6,6 +6,8 @@ ghost use Rattle.puz_walk.specs.Shown.{IsStepFrom, walk_shown};
 ghost use Rattle.puz_walk.specs.Walks.{IsClosed, IsOpen, LeadsNowhere};
 
 use crate::sum_walks::SumWalk;
+use crate::word_bundles::WordBundle;
+use crate::word_walks::{WordStep, WordWalk};
 use puz_board::{Board, Move};
 use set_sum::Bundle;
 
@@ -14,6 +16,8 @@ use set_sum::Bundle;
 pub enum Walk<'a> {
     /// The sums of the sets of a bundle cut boards off.
     Sums(SumWalk<'a>),
+    /// They do, and what moves do to them is read from edge words.
+    Words(WordWalk<'a>),
 }
 
 /// A step of a walk, by which it is taken back.
@@ -21,6 +25,8 @@ pub enum Walk<'a> {
 pub enum Step {
     /// Of a walk that asks for sums.
     Sums(set_sum::Step),
+    /// Of a walk that reads edge words.
+    Words(WordStep),
 }
 
 impl<'a> Walk<'a> {
@@ -36,6 +42,18 @@ impl<'a> Walk<'a> {
         Some(Walk::Sums(walk))
     }
 
+    /// The walk from a board that reads the edge words of a bundle, unless no solution of fewer moves than the bound need be
+    /// searched for.
+    pub fn of_words(words: &'a WordBundle<'a>, board: &Board, bound: u8) -> Option<Walk<'a>>
+        requires { side_of board.now ≡ words.now.side }
+        ensures some { IfSome result (λ walk. walk_shown walk
+            ≡ record { bundle = words.now; board = board.now; bound = bound }) }
+        ensures none { IfNone result (IsClosed words.now board.now bound) }
+    {
+        let walk = WordWalk::new(words, board, bound)?;
+        Some(Walk::Words(walk))
+    }
+
     /// Whether the board is the goal board.
     #[inline]
     pub fn is_goal(&self) -> bool
@@ -44,6 +62,7 @@ impl<'a> Walk<'a> {
     {
         match self {
             Walk::Sums(walk) => walk.is_goal(),
+            Walk::Words(walk) => walk.is_goal(),
         }
     }
 
@@ -59,10 +78,8 @@ impl<'a> Walk<'a> {
             × (new.bound + 1 ≡ old.bound) × IsStepFrom self.old self.new step) }
     {
         match self {
-            Walk::Sums(walk) => {
-                let step = walk.enter(mv)?;
-                Some(Step::Sums(step))
-            }
+            Walk::Sums(walk) => Some(Step::Sums(walk.enter(mv)?)),
+            Walk::Words(walk) => Some(Step::Words(walk.enter(mv)?)),
         }
     }
 
@@ -74,6 +91,8 @@ impl<'a> Walk<'a> {
     {
         match (self, step) {
             (Walk::Sums(walk), Step::Sums(step)) => walk.leave(step),
+            (Walk::Words(walk), Step::Words(step)) => walk.leave(step),
+            _ => {}
         }
     }
 }

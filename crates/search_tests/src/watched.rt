@@ -1,8 +1,9 @@
 //! What a gate is told of searches.
 
+use crate::guided::reversals;
 use crate::small_searches::bundle;
 use puz_board::Board;
-use puz_search::{Answer, Deepened, refute_by, shortest_by};
+use puz_search::{Answer, Deepened, Guide, refute_by, shortest_by};
 use samples::boards::RING;
 use samples::files::TILE_1;
 use std::sync::atomic::{AtomicU64, Ordering};
@@ -43,14 +44,16 @@ fn a_gate_is_told_of_each_search_and_of_its_boards(rt: HostRuntime) {
     if board.side() != bundle.side() {
         panic!(rt; "of side 2");
     }
+    let automaton = reversals(&rt, board.side());
+    let guide = Guide::new(&bundle, &automaton);
     let counts = Counts::new();
     let workers = Workers::new(&rt, rt.alloc(), 2, &counts);
-    let Ok(Answer::Refuted(boards)) = refute_by(&bundle, &board, 6, 100, &workers) else {
+    let Ok(Answer::Refuted(boards)) = refute_by(&guide, &board, 6, 100, &workers) else {
         panic!(rt; "refuted");
     };
     assert_eq!(rt; counts.searches.load(Ordering::SeqCst), 1);
     assert_eq!(rt; counts.boards.load(Ordering::SeqCst), boards);
-    let Ok(Deepened::Shortest(_)) = shortest_by(&bundle, &board, 100, &workers) else {
+    let Ok(Deepened::Shortest(_)) = shortest_by(&guide, &board, 100, &workers) else {
         panic!(rt; "a solution");
     };
     // Thresholds 1, 3, 5 and 7.

@@ -4,14 +4,14 @@ mod HeldLemmas
 mod KindLemmas
 mod ListedLemmas
 mod LoopLemmas
-mod MaskLemmas
+pub mod MaskLemmas
 mod MaskRunLemmas
 mod PairLemmas
 mod PartLemmas
 mod RowLemmas
-mod RunAtLemmas
-mod RunLemmas
-mod RunRanks
+pub mod RunAtLemmas
+pub mod RunLemmas
+pub mod RunRanks
 mod SetRowLemmas
 mod StepLemmas
 mod TableLemmas

@@ -22,11 +22,11 @@ use Rattle.tab_runs.proofs.RowLemmas.{parts_one}
 use Rattle.tab_runs.proofs.RunLemmas.{has-with_last}
 use Rattle.tab_runs.proofs.RunRanks.{first_some, free_at, free_below-low, free_below-up}
 
-inside_front : (m : ℕ) (p : List ℕ) (c : ℕ) → AllByRecursion (λ x. x < m) (with_last p c) → AllByRecursion (λ x. x < m) p × (c < m)
+pub inside_front : (m : ℕ) (p : List ℕ) (c : ℕ) → AllByRecursion (λ x. x < m) (with_last p c) → AllByRecursion (λ x. x < m) p × (c < m)
 inside_front m [] c all = (tt, all.0)
 inside_front m (x ∷ p) c all = let r = inside_front m p c all.1 in ((all.0, r.0), r.1)
 
-apart_front : (p : List ℕ) (c : ℕ) → IsApart (with_last p c) → IsApart p × (has p c ≡ false)
+pub apart_front : (p : List ℕ) (c : ℕ) → IsApart (with_last p c) → IsApart p × (has p c ≡ false)
 apart_front [] c apart = (tt, refl)
 apart_front (x ∷ p) c apart =
     let r = apart_front p c apart.1 in
@@ -101,7 +101,7 @@ set_last cells index g size =
     let long : length (take index cells) ≡ index = length-take-le index cells (omega arith) in
     ap (λ q. set q index g) (sym whole) ∙ ap (λ k. set (with_last (take index cells) c) k g) (sym long) ∙ set-append_seam (take index cells) c [] g
 
-same_last : (cells : List ℕ) (index : ℕ) → length cells ≡ index + 1 → with_last (take index cells) (get_or cells index 0) ≡ cells
+pub same_last : (cells : List ℕ) (index : ℕ) → length cells ≡ index + 1 → with_last (take index cells) (get_or cells index 0) ≡ cells
 same_last cells index size = sym (take-suc cells index 0 (omega arith)) ∙ take_all (suc index) cells (omega arith)
 
 -- no cell of the run's last tile is behind the greatest one

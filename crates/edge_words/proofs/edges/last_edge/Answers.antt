@@ -1,0 +1,39 @@
+use Rattle.std.proofs.Common.{◌≡◌, ◌∙◌, Some, sym, ap, subst}
+use Rattle.puz_board.specs.Cells.{reverse_of, step_of}
+use Rattle.pat_place.specs.Placements.{IsFree}
+use Rattle.pat_place.proofs.ListLemmas.{Some-one}
+use Rattle.edge_words.specs.Lookups.{but_last}
+use Rattle.edge_words.proofs.RunMoveLemmas.{last_none, last_told}
+use Rattle.edge_words.proofs.edges.last_edge.Goals as goal
+
+pub returns-in_default : goal.returns-in_default
+returns-in_default c =
+    let p = c.args.lookup.now in
+    let side = c.side-side.ensures.side ∙ ap (λ q. q.side) c.pattern.ensures.pattern in
+    last_none p c.pattern.ensures.is_pattern (but_last p c.args.run.now.cells) c.requires.run.run c.args.last c.requires.last c.args.mv
+    (λ from step free. c.in_default.not-Some from (c.step.ensures.cell ∙ ap (λ n. step_of n c.args.last c.reverse.result) side ∙ ap (step_of p.side c.args.last) c.reverse.ensures.value ∙ step))
+
+pub returns-then-not-has_cell : goal.returns-then-not-has_cell
+returns-then-not-has_cell c =
+    let p = c.args.lookup.now in
+    let side = c.side-side.ensures.side ∙ ap (λ q. q.side) c.pattern.ensures.pattern in
+    let leads : step_of p.side c.args.last (reverse_of c.args.mv) ≡ Some c.in-Some.from =
+    sym (c.step.ensures.cell ∙ ap (λ n. step_of n c.args.last c.reverse.result) side ∙ ap (step_of p.side c.args.last) c.reverse.ensures.value) ∙ c.in-Some.is in
+    last_none p c.pattern.ensures.is_pattern (but_last p c.args.run.now.cells) c.requires.run.run c.args.last c.requires.last c.args.mv
+    (λ from step free.
+    let same : from ≡ c.in-Some.from = Some-one from c.in-Some.from (sym step ∙ leads) in
+    let one = (c.requires.run.free c.in-Some.from).1 (subst (IsFree p.side (but_last p c.args.run.now.cells)) same free) in
+    let test = c.has_cell.ensures.1 one in
+    let no = c.if-not-has_cell.true in
+    cc)
+
+pub returns : goal.returns
+returns c =
+    let p = c.args.lookup.now in
+    let cells = but_last p c.args.run.now.cells in
+    let side = c.side-side.ensures.side ∙ ap (λ q. q.side) c.pattern.ensures.pattern in
+    let step : step_of p.side c.args.last (reverse_of c.args.mv) ≡ Some c.in-Some.from =
+    sym (c.step.ensures.cell ∙ ap (λ n. step_of n c.args.last c.reverse.result) side ∙ ap (step_of p.side c.args.last) c.reverse.ensures.value) ∙ c.in-Some.is in
+    last_told p c.pattern.ensures.is_pattern cells c.requires.run.run c.args.last c.requires.last c.args.mv c.in-Some.from step
+    ((c.requires.run.free c.in-Some.from).0 (c.has_cell.ensures.0 c.if-not-has_cell.false))
+    c.entry-before.result c.entry-after.result c.entry-before.ensures c.entry-after.ensures c.rise.result c.rise.ensures.differs

@@ -1,0 +1,10 @@
+use Rattle.edge_words.proofs.fills.+fill_by+fn-fill_by-join_mut+arg2+fn-fill_by-join_mut+arg3.Given as goal
+
+abbrev pub decreases-fill_by : goal.decreases-fill_by
+decreases-fill_by g l = l.threads
+
+abbrev pub decreases-join_mut+arg2 : goal.decreases-join_mut+arg2
+decreases-join_mut+arg2 g l = l.half
+
+abbrev pub decreases-join_mut+arg3 : goal.decreases-join_mut+arg3
+decreases-join_mut+arg3 g l = l.others

@@ -1,0 +1,23 @@
+use Rattle.std.proofs.Common.{◌+◌, sym, subst, arith}
+use Rattle.edge_words.specs.Fills.{AreToldBelow}
+use Rattle.edge_words.proofs.FillLemmas.{told_all, told_past}
+use Rattle.edge_words.proofs.fills.fill.Goals.{in-Some+else-not-fill_run, in_default}
+use Rattle.edge_words.proofs.fills.fill.Goals as goal
+
+pub loop-index-preserved : goal.loop-index-preserved
+loop-index-preserved c =
+    let p = c.args.lookup.now in
+    let s = c.args.span.now in
+    let index = c.loop-index.index in
+    elim c.match-run_at.branch [
+      | in-Some+else-not-fill_run w ↦ subst (AreToldBelow p s (index + 1)) (sym w.words-is) w.if-not-fill_run.ensures.told
+      | in_default w ↦ subst (AreToldBelow p s (index + 1)) (sym w.words-is) (told_past p s index c.loop-index.words w.in_default.ensures c.loop-index.invariant)
+    ]
+
+pub returns : goal.returns
+returns c =
+    let s = c.args.span.now in
+    record {
+      told = told_all c.args.lookup.now s c.loop-index.index c.loop-index.words (let stride = c.requires.span.stride in let done = c.loop-index-test.false in omega arith) c.loop-index.invariant;
+      odd = tt;
+    }

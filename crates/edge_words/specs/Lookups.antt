@@ -1,0 +1,33 @@
+-- Where the entries of a run are looked up, and what they say.
+use Rattle.std.specs.Prelude.{◌≡◌, ℕ, ◌-◌, true, List, length, take}
+use Rattle.puz_board.specs.Boards.{IsBoardOf, blank}
+use Rattle.puz_board.specs.Masks.{IsMaskOf}
+use Rattle.pat_place.specs.Patterns.{ShownPattern, has}
+use Rattle.pat_place.specs.Placements.{IsFree, placement_of}
+use Rattle.tab_file.specs.Tables.{slot_count}
+use Rattle.tab_rule.specs.ExactTables.{IsExactTable, SaysOfBoard}
+use Rattle.tab_runs.specs.RunPlaces.{IsFirstRank, IsRun}
+use Rattle.edge_words.specs.declared.lookups.Lookup.TheInside.{Inside}
+use Rattle.edge_words.specs.declared.runs.Run.{Run}
+
+-- the entries are those of an exact table, and slots are kept for its side
+pub record IsStoredLookup (l : Inside) : Type 0 where
+  pub exact : IsExactTable (record { pattern = l.pattern; entries = l.entries.now })
+  pub width : l.width ≡ slot_count l.pattern
+  pub slots : l.slots ≡ l.pattern.side
+
+-- the cells of all tiles but the last
+abbrev pub but_last : ShownPattern → List ℕ → List ℕ
+but_last p cells = take (length p.tiles - 1) cells
+
+-- what is kept of a run is that of its cells
+pub record IsRunOf (p : ShownPattern) (r : Run) : Type 0 where
+  pub room : length r.cells ≡ 8
+  pub run : IsRun p (but_last p r.cells)
+  pub set : IsMaskOf r.set (λ c. has (but_last p r.cells) c ≡ true)
+  pub free : IsMaskOf r.free (IsFree p.side (but_last p r.cells))
+  pub first : IsFirstRank p.side (but_last p r.cells) r.first
+
+-- an entry says this of all boards with these cells and this blank
+abbrev pub SaysOfAll : ShownPattern → List ℕ → ℕ → ℕ → Type 0
+SaysOfAll p cells cell e = (b : List ℕ) → IsBoardOf p.side b → placement_of p.tiles b ≡ cells → blank b ≡ cell → SaysOfBoard p.tiles b e

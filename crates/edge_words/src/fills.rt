@@ -1,0 +1,162 @@
+//! The words of all placements, run by run.
+
+ghost use Rattle.std.specs.Prelude.{◌≡◌, ◌≢◌, ℕ, ◌+◌, ◌-◌, ◌*◌, ◌<◌, ◌≤◌, true, List, MatchOption, length};
+ghost use Rattle.std.specs.Bool.{OnFalse, OnTrue};
+ghost use Rattle.std.specs.List.{AllByRecursion};
+ghost use Rattle.puz_board.specs.Masks.{IsMaskOf};
+ghost use Rattle.pat_place.specs.Patterns.{has};
+ghost use Rattle.pat_place.specs.Placements.{IsApart};
+ghost use Rattle.tab_runs.specs.RunPlaces.{IsRun};
+ghost use denote.Param.Send.{IsSync};
+ghost use Rattle.edge_words.specs.Fills.{AreToldBelow, IsFillable, IsFilled, IsSpan, stride_of};
+ghost use Rattle.edge_words.specs.Indexes.{index_count, index_in, most_words};
+ghost use Rattle.edge_words.specs.Lookups.{IsRunOf, but_last};
+ghost use Rattle.edge_words.specs.OddEdges.{HasOddEdge};
+
+use crate::edges::{nears_of, word_of};
+use crate::lookups::Lookup;
+use crate::runs::Run;
+use pat_place::Pattern;
+use puz_board::masks::{has_cell, with};
+use std::thread::{Threads, join_mut};
+
+/// Cells of the last tile, one after the other.
+#[derive(Clone, Copy)]
+pub(crate) struct Span {
+    /// The first one.
+    pub(crate) low: u8,
+    /// Behind the last one.
+    pub(crate) high: u8,
+    /// How many words there are for each.
+    pub(crate) stride: usize,
+}
+
+/// Fills in the words of a span by so many threads at once. It answers false where there is an odd edge.
+pub(crate) fn fill_by<R: Threads + Sync>(
+    rt: &R,
+    lookup: &Lookup<'_>,
+    threads: u8,
+    span: Span,
+    words: &mut [u32],
+) -> bool
+    requires { IsFillable lookup.now span words.old }
+    ensures { IsFilled lookup.now span words.new result }
+{
+    let _pattern = lookup.pattern();
+    if threads < 2 {
+        return fill(lookup, &span, words);
+    }
+    let half = threads / 2;
+    let others = threads - half;
+    let middle = span.low + (span.high - span.low) / threads * half;
+    let low = Span {
+        high: middle,
+        ..span
+    };
+    let high = Span {
+        low: middle,
+        ..span
+    };
+    let (front, back) = words.split_at_mut(usize::from(middle - span.low) * span.stride);
+    let (one, other) = join_mut(
+        rt,
+        &mut || -> bool
+            requires { IsSync R.row × IsFillable lookup.now low front.now }
+            ensures { IsFilled lookup.entry.now low front.exit.now result }
+        { fill_by(rt, lookup, half, low, front) },
+        &mut || -> bool
+            requires { IsSync R.row × IsFillable lookup.now high back.now }
+            ensures { IsFilled lookup.entry.now high back.exit.now result }
+        { fill_by(rt, lookup, others, high, back) },
+    );
+    one && other
+}
+
+/// Fills in the words of a span, run by run. It answers false where there is an odd edge.
+fn fill(lookup: &Lookup<'_>, span: &Span, words: &mut [u32]) -> bool
+    requires { IsFillable lookup.now span.now words.old }
+    ensures { IsFilled lookup.now span.now words.new result }
+{
+    for index in 0..span.stride {
+        if let Some(run) = run_at(lookup, index) {
+            if !fill_run(lookup, &run, index, span, words) {
+                return false;
+            }
+        }
+    }
+    true
+}
+
+/// Fills in the words of a run's placements in a span, where those of the runs with lower indexes are there.
+fn fill_run(lookup: &Lookup<'_>, run: &Run, index: usize, span: &Span, words: &mut [u32]) -> bool
+    requires run { IsRunOf lookup.now run.now }
+    requires index { index_in lookup.now (but_last lookup.now run.now.cells) ≡ index }
+    requires span { IsSpan lookup.now span.now }
+    requires few { index_count lookup.now ≤ most_words }
+    requires told { AreToldBelow lookup.now span.now index words.old }
+    ensures told { OnTrue result (AreToldBelow lookup.now span.now (index + 1) words.new) }
+    ensures odd { OnFalse result (HasOddEdge lookup.now) }
+{
+    let _pattern = lookup.pattern();
+    let nears = nears_of(lookup, run);
+    for last in span.low..span.high {
+        if has_cell(run.free, last) {
+            let Some(word) = word_of(lookup, run, &nears, last) else {
+                return false;
+            };
+            words[usize::from(last - span.low) * span.stride + index] = word;
+        }
+    }
+    true
+}
+
+/// The run with an index, where no two of its tiles are in the same cell.
+fn run_at(lookup: &Lookup<'_>, index: usize) -> Option<Run>
+    requires index { index < stride_of lookup.now }
+    ensures { MatchOption result
+        ((cells : List ℕ) → IsRun lookup.now cells → index_in lookup.now cells ≢ index)
+        (λ run. IsRunOf lookup.now run
+        × (index_in lookup.now (but_last lookup.now run.cells) ≡ index)) }
+{
+    let pattern = lookup.pattern();
+    let cells = cells_at(&pattern, index);
+    let Some(set) = set_of(&cells[..usize::from(pattern.size()) - 1]) else {
+        return None;
+    };
+    Some(lookup.run_of(cells, set))
+}
+
+/// The cells of all tiles but the last whose index this is. Zeros stand behind them.
+fn cells_at(pattern: &Pattern, index: usize) -> [u8; 8]
+    requires { index < stride_of pattern.now }
+    ensures room { length result ≡ 8 }
+    ensures index { index_in pattern.now (but_last pattern.now result) ≡ index }
+    ensures inside { let count = pattern.now.side * pattern.now.side in
+        AllByRecursion (λ c. c < count) (but_last pattern.now result) }
+{
+    let count = usize::from(pattern.side().cells());
+    let mut cells = [0; 8];
+    let mut rest = index;
+    for tile in 0..usize::from(pattern.size()) - 1 {
+        cells[tile] = (rest % count) as u8;
+        rest /= count;
+    }
+    cells
+}
+
+/// The cells as a mask, where no two of them are the same.
+fn set_of(cells: &[u8]) -> Option<u32>
+    requires { AllByRecursion (λ c. c < 25) cells.now }
+    ensures { MatchOption result
+        (¬ IsApart cells.now)
+        (λ set. IsApart cells.now × IsMaskOf set (λ c. has cells.now c ≡ true)) }
+{
+    let mut set = 0;
+    for cell in cells {
+        if has_cell(set, *cell) {
+            return None;
+        }
+        set = with(set, *cell);
+    }
+    Some(set)
+}

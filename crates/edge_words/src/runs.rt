@@ -1,0 +1,14 @@
+//! Runs: the placements that differ in the last tile alone.
+
+/// A run of a table.
+#[derive(Clone, Copy)]
+pub(crate) struct Run {
+    /// The cells of all tiles but the last. Any numbers stand behind them.
+    pub(crate) cells: [u8; 8],
+    /// These cells as a mask.
+    pub(crate) set: u32,
+    /// The other cells of the board.
+    pub(crate) free: u32,
+    /// The rank of the first placement.
+    pub(crate) first: u64,
+}

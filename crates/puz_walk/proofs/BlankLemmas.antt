@@ -1,0 +1,65 @@
+-- The blank's move on the board that a walk keeps.
+use Rattle.std.proofs.Common.{◌≡◌, ℕ, ◌*◌, ◌<◌, List, take, sym, ◌∙◌, ap, subst, arith, slice_index, slice_set}
+use Rattle.std.proofs.Math.Seq.{take-set-lt}
+use Rattle.std.proofs.lemmas.List.{get_or-take}
+use Rattle.puz_board.specs.Boards.{IsBoardOf, at, blank, slid}
+use Rattle.puz_board.proofs.BoardLemmas.{blank-slid, cells_most}
+use Rattle.puz_board.proofs.MovedLemmas.{IsBoardOf-moved}
+use Rattle.edge_words.specs.Spots.{IsStepOf}
+use Rattle.edge_words.proofs.TileMoveLemmas.{Slide, slide_of}
+use Rattle.set_sum.specs.Bundles.{ShownBundle}
+use Rattle.puz_walk.specs.WordSpots.{IsSlideTo, IsSpotOf}
+use Rattle.puz_walk.specs.declared.word_spots.Spot.{Spot}
+use Rattle.puz_walk.proofs.TurnLemmas.{blank_below}
+
+module _ (v : ShownBundle) (b next : List ℕ) (to : ℕ) (slides : IsSlideTo v b next to) where
+  abbrev n : ℕ
+  n = v.side
+
+  slide : Slide n b slides.move next
+  slide = slide_of n b slides.board slides.move next slides.leads
+
+  to_cell : to ≡ slide.cell
+  to_cell = slides.to_is ∙ ap blank (sym slide.is) ∙ blank-slid n b slides.board slide.cell slide.inside
+
+  pub next_is : IsBoardOf n next
+  next_is = IsBoardOf-moved n b slides.board slides.move next slides.leads
+
+  pub to_below : to < n * n
+  to_below = subst (λ k. k < n * n) (sym to_cell) slide.inside
+
+  pub to_room : to < 25
+  to_room = let l = to_below in let most = cells_most n b slides.board in omega arith
+
+  module _ (spot : Spot) (is : IsSpotOf v b spot) where
+    pub from_room : spot.blank < 25
+    from_room = let l = blank_below n b slides.board in let most = cells_most n b slides.board in let e = is.blank_is in omega arith
+
+    -- the tile that moves
+    pub tile_is : slice_index spot.numbers to ≡ at b to
+    tile_is = sym (get_or-take (n * n) spot.numbers to 0 to_below) ∙ ap (λ xs. at xs to) is.numbers
+
+    -- the move of the tile
+    pub step_is : (place : ℕ) → place ≡ to → IsStepOf n slides.move b next (slice_index spot.numbers place) spot.blank to
+    step_is place place_is = record {
+      board = slides.board;
+      leads = slides.leads;
+      tile_is = ap (slice_index spot.numbers) place_is ∙ tile_is ∙ ap (at b) slides.to_is;
+      from_is = is.blank_is;
+      to_is = slides.to_is;
+    }
+
+    -- the numbers after it
+    pub numbers_next : (place from there : ℕ) → place ≡ to → from ≡ spot.blank → there ≡ to → take (n * n) (slice_set (slice_set spot.numbers from (slice_index spot.numbers place)) there 0) ≡ next
+    unfolding slid
+    numbers_next place from there place_is from_is there_is =
+        let tile : ℕ = slice_index spot.numbers place in
+        let inside : there < n * n = subst (λ k. k < n * n) (sym there_is) to_below in
+        let home : from < n * n = subst (λ k. k < n * n) (sym (from_is ∙ is.blank_is)) (blank_below n b slides.board) in
+        take-set-lt (n * n) (slice_set spot.numbers from tile) there 0 inside ∙
+        ap (λ xs. slice_set xs there 0) (take-set-lt (n * n) spot.numbers from tile home) ∙
+        ap (λ xs. slice_set (slice_set xs from tile) there 0) is.numbers ∙
+        ap (λ k. slice_set (slice_set b k tile) there 0) (from_is ∙ is.blank_is) ∙
+        ap (λ t. slice_set (slice_set b (blank b) t) there 0) (ap (slice_index spot.numbers) place_is ∙ tile_is ∙ ap (at b) to_cell) ∙
+        ap (λ k. slice_set (slice_set b (blank b) (at b slide.cell)) k 0) (there_is ∙ to_cell) ∙
+        slide.is

@@ -1,0 +1,132 @@
+-- Sums that a move changes, set by set.
+use Rattle.std.proofs.Common.{◌≡◌, ◌≢◌, ℕ, ◌+◌, ◌^◌, ◌<◌, ◌≤◌, Bool, true, false, List, length, slice_index, slice_set, Option, Some, None, inl, inr, sym, ◌∙◌, ap, subst, arith, get_or-set_same, get_or-set_other, length-set}
+use Rattle.std.specs.Int.{bit_at}
+use Rattle.std.proofs.lemmas.Bool.{cases_eq}
+use Rattle.tab_rule.specs.declared.tables.Count.TheVariants.{Finite}
+use Rattle.set_sum.specs.Bundles.{ShownBundle, BundleSays, set_of}
+use Rattle.set_sum.proofs.SumLemmas.{set_once}
+use Rattle.puz_walk.specs.WordSpots.{AreIndexesOf, AreKept, IsKept, IsRoomy, IsShift, Shifts}
+use Rattle.puz_walk.specs.WordSteps.{AreChanged, IsChangeOf}
+use Rattle.puz_walk.specs.declared.word_spots.Change.{Change}
+
+-- a set has one sum
+pub sum_once : (v : ShownBundle) (set : ℕ) (b : List ℕ) (d e : ℕ) → BundleSays v set b (Finite d) → BundleSays v set b (Finite e) → d ≡ e
+sum_once v set b d e one other = let same : Finite d ≡ Finite e = set_once v.tables (set_of v set) b (Finite d) (Finite e) one.says other.says in cc
+
+shifts_once : (rises : Option Bool) (d e f : ℕ) → Shifts rises d e → Shifts rises d f → e ≡ f
+shifts_once (Some true) d e f one other = let p : e ≡ d + 1 = one in let q : f ≡ d + 1 = other in omega arith
+shifts_once (Some false) d e f one other = let p : d ≡ e + 1 = one in let q : d ≡ f + 1 = other in omega arith
+shifts_once None d e f one other = let p : e ≡ d = one in let q : f ≡ d = other in omega arith
+
+-- ---- sets that are judged
+
+module _ (v : ShownBundle) (b next : List ℕ) (limit : ℕ) where
+  -- what the move does to the sum of a set is noted, and after it the sum is below the limit
+  pub record IsJudged (change : Change) (set : ℕ) : Type 0 where
+    pub changed : IsChangeOf v b next change set
+    pub below : (d : ℕ) → BundleSays v set next (Finite d) → d < limit
+
+  -- the sum after the move is the one that was reckoned
+  pub after_is : (set sum after : ℕ) (rises : Option Bool) → BundleSays v set b (Finite sum) → (shift : IsShift v b next set rises) → Shifts rises sum after → shift.after ≡ after
+  after_is set sum after rises says shift is =
+      let before = sum_once v set b shift.before sum shift.says_before says in
+      shifts_once rises sum shift.after after (subst (λ d. Shifts rises d shift.after) before shift.is) is
+
+  pub judged_here : (new : Change) (set sum after : ℕ) (rises : Option Bool) → limit < 2 ^ 8 → BundleSays v set b (Finite sum) → IsShift v b next set rises → Shifts rises sum after → after < limit
+      → ((d e : ℕ) → Shifts rises d e → e + bit_at new.fell set ≡ d + bit_at new.rose set) → bit_at new.rose set + bit_at new.fell set ≤ 1 → IsJudged new set
+  judged_here new set sum after rises small says shift is low here one =
+      let same = after_is set sum after rises says shift is in
+      let noted = here shift.before shift.after shift.is in
+      record {
+        changed = record {
+          before = shift.before;
+          after = shift.after;
+          says_before = shift.says_before;
+          says_after = shift.says_after;
+          is = noted;
+          fits = omega arith;
+        };
+        below = λ d told. let e = sum_once v set next d shift.after told shift.says_after in omega arith;
+      }
+
+  pub judged_kept : (old new : Change) (set : ℕ) → bit_at new.rose set ≡ bit_at old.rose set → bit_at new.fell set ≡ bit_at old.fell set → IsJudged old set → IsJudged new set
+  judged_kept old new set rose fell is = record {
+    changed = record {
+      before = is.changed.before;
+      after = is.changed.after;
+      says_before = is.changed.says_before;
+      says_after = is.changed.says_after;
+      is = (let e = is.changed.is in omega arith);
+      fits = (let l = is.changed.fits in omega arith);
+    };
+    below = is.below;
+  }
+
+-- ---- sets that follow
+
+-- the change the other way round
+pub changed_back : (v : ShownBundle) (b next : List ℕ) (change : Change) → AreChanged v b next change → AreChanged v next b (record { rose = change.fell; fell = change.rose })
+changed_back v b next change are set low =
+    let is = are set low in
+    record {
+      before = is.after;
+      after = is.before;
+      says_before = is.says_after;
+      says_after = is.says_before;
+      is = sym is.is;
+      fits = (let e = is.is in let l = is.fits in omega arith);
+    }
+
+module _ (v : ShownBundle) (b next : List ℕ) (change : Change) (changed : AreChanged v b next change) where
+  -- the sums of the first sets are those of the next board, and the others those of the board before
+  pub record IsHalf (count : ℕ) (sums indexes : List ℕ) : Type 0 where
+    pub room : IsRoomy sums indexes
+    pub done : (set : ℕ) → set < count → set < length v.sets → IsKept v next sums indexes set
+    pub left : (set : ℕ) → count ≤ set → set < length v.sets → IsKept v b sums indexes set
+
+  module _ (set : ℕ) (low : set < length v.sets) (sums : List ℕ) (says : BundleSays v set b (Finite (slice_index sums set))) where
+    pub before_is : (changed set low).before ≡ slice_index sums set
+    before_is = sum_once v set b (changed set low).before (slice_index sums set) (changed set low).says_before says
+
+    pub fits_here : slice_index sums set + bit_at change.rose set < 2 ^ 8
+    fits_here = subst (λ d. d + bit_at change.rose set < 2 ^ 8) before_is (changed set low).fits
+
+    is_here : (changed set low).after + bit_at change.fell set ≡ slice_index sums set + bit_at change.rose set
+    is_here = (changed set low).is ∙ ap (λ d. d + bit_at change.rose set) before_is
+
+    pub some_here : bit_at change.fell set ≤ slice_index sums set + bit_at change.rose set
+    some_here = let e = is_here in omega arith
+
+    pub after_here : (sum : ℕ) → sum + bit_at change.fell set ≡ slice_index sums set + bit_at change.rose set → sum ≡ (changed set low).after
+    after_here sum e = let f = is_here in omega arith
+
+  pub half_more : (count : ℕ) (sums indexes new : List ℕ) (sum : ℕ) → length v.sets ≤ 16 → (low : count < length v.sets) → IsHalf count sums indexes
+      → sum + bit_at change.fell count ≡ slice_index sums count + bit_at change.rose count → length new ≡ 256 → AreIndexesOf v next new count
+      → ((other : ℕ) (x : List ℕ) → other < length v.sets → other ≢ count → AreIndexesOf v x indexes other → AreIndexesOf v x new other)
+      → IsHalf (count + 1) (slice_set sums count sum) new
+  half_more count sums indexes new sum few low half is room follows others = record {
+    room = record { sums_room = length-set _ _ _ ∙ half.room.sums_room; indexes_room = room };
+    done = λ set l there. elim (cases_eq set count) [
+      | inl e ↦ subst (IsKept v next (slice_set sums count sum) new) (sym e) (record {
+        says = subst (λ d. BundleSays v count next (Finite d)) (sym (here ∙ after_here count low sums (half.left count (omega arith) low).says sum is)) (changed count low).says_after;
+        are = follows;
+      })
+      | inr ne ↦ other next set ne there (half.done set (omega arith) there)
+    ];
+    left = λ set l there. other b set (λ e. omega arith) there (half.left set (omega arith) there);
+  }
+    where
+      here : slice_index (slice_set sums count sum) count ≡ sum
+      here = get_or-set_same sums count sum 0 (let e = half.room.sums_room in omega arith)
+
+      other : (x : List ℕ) (set : ℕ) → set ≢ count → set < length v.sets → IsKept v x sums indexes set → IsKept v x (slice_set sums count sum) new set
+      other x set ne there kept = record {
+        says = subst (λ d. BundleSays v set x (Finite d)) (sym (get_or-set_other sums count set sum 0 ne)) kept.says;
+        are = others set x there ne kept.are;
+      }
+
+  pub half_none : (sums indexes : List ℕ) → AreKept v b sums indexes → IsHalf 0 sums indexes
+  half_none sums indexes kept = record { room = kept.room; done = λ set l there. absurd (omega arith); left = λ set l there. kept.each set there }
+
+  pub half_all : (count : ℕ) (sums indexes : List ℕ) → length v.sets ≤ count → IsHalf count sums indexes → AreKept v next sums indexes
+  half_all count sums indexes all half = record { room = half.room; each = λ set there. half.done set (omega arith) there }

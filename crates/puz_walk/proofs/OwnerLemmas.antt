@@ -1,0 +1,194 @@
+-- The member of a set that has a tile, and what a move of the tile does to the set.
+use Rattle.std.proofs.Common.{◌≡◌, ◌≢◌, ℕ, ◌+◌, ◌*◌, ◌/◌, ◌%◌, eqb, eq-eqb, ne_eqb, ◌<◌, ◌≤◌, Bool, true, false, cond, List, [], ◌∷◌, length, get_or, slice_index, slice_set, Some, None, inl, inr, refl, sym, ◌∙◌, ap, subst, arith, get_or-set_same, get_or-set_other}
+use Rattle.std.specs.Prelude.{slice_get}
+use Rattle.std.specs.List.{AllByRecursion}
+use Rattle.std.specs.Int.{bit_at}
+use Rattle.std.proofs.lemmas.Bool.{false_from_ne_true}
+use Rattle.puz_board.specs.Masks.{numbers_of}
+use Rattle.puz_board.proofs.CellLemmas.{few_cells}
+use Rattle.pat_place.proofs.MaskLemmas.{in_numbers_below}
+use Rattle.puz_board.specs.Boards.{blank}
+use Rattle.puz_board.specs.Costs.{IsLeastCost, has}
+use Rattle.puz_board.specs.declared.moves.Move.{Move}
+use Rattle.puz_board.proofs.HasLemmas.{has-get}
+use Rattle.pat_place.specs.Patterns.{IsPattern}
+use Rattle.tab_rule.specs.declared.tables.Count.TheVariants.{Finite}
+use Rattle.edge_words.specs.Spots.{IsStepOf, IsTileStep, index_on}
+use Rattle.edge_words.specs.Words.{IsTileMove, RisesOrFalls, ShownWords}
+use Rattle.set_sum.specs.Bundles.{ShownBundle, BundleSays, IsBundle, IsSetOf, set_of}
+use Rattle.set_sum.specs.Members.{MemberSays, board_for, table_of, table_pattern}
+use Rattle.set_sum.specs.declared.members.Member.{Member}
+use Rattle.set_sum.proofs.AnswerLemmas.{all_get}
+use Rattle.set_sum.proofs.ListLemmas.{all_at, get_or-slice_get}
+use Rattle.puz_walk.specs.StoredWords.{HasNoOwner, IsOwner, cell_for, move_for}
+use Rattle.puz_walk.specs.WordBundles.{HaveWords, pattern_at}
+use Rattle.puz_walk.specs.WordSpots.{AreIndexesOf, IsShift, index_place}
+use Rattle.puz_walk.specs.declared.owners.Owner.{Owner}
+use Rattle.puz_walk.proofs.ShiftLemmas.{IsFull, member_index_still, member_shifts, member_still, owner_or_not, sum_shifts, sum_still}
+use Rattle.puz_walk.proofs.TurnLemmas.{blank_below, next_good, step_for}
+
+-- the tile of a step is one of the board
+pub tile_below : (n : ℕ) (move : Move) (b next : List ℕ) (tile from to : ℕ) → IsStepOf n move b next tile from to → tile < n * n
+tile_below n move b next tile from to step =
+    subst (λ t. t < n * n) (sym step.tile_is) (step.board.below (blank next) (blank_below n next (next_good n move b next tile from to step)))
+
+-- ---- tiles and masks
+
+pub cell_small : (n c : ℕ) → 2 ≤ n → n ≤ 5 → c < n * n → c < 32
+cell_small n c low high inside = let most = few_cells n low high in omega arith
+
+-- a number outside the mask is none of the tiles
+pub other_bit : (tiles : List ℕ) (mask tile : ℕ) → numbers_of mask ≡ tiles → (bit_at mask tile ≡ 1 → ⊥) → has tiles tile ≡ false
+other_bit tiles mask tile is none = false_from_ne_true (has tiles tile) (λ h. none (in_numbers_below 32 mask tile (ap (λ xs. has xs tile) is ∙ h)).1)
+
+-- ---- places
+
+same_parts : (set t u : ℕ) (x y : Bool) → 16 * set + (2 * t + cond x 1 0) ≡ 16 * set + (2 * u + cond y 1 0) → (t ≡ u) × (x ≡ y)
+same_parts set t u true true e = (let h : t ≡ u = omega arith in h, refl)
+same_parts set t u true false e = absurd (omega arith)
+same_parts set t u false true e = absurd (omega arith)
+same_parts set t u false false e = (let h : t ≡ u = omega arith in h, refl)
+
+-- no two members have one place
+pub same_member : (set : ℕ) (m o : Member) → index_place set m ≡ index_place set o → m ≡ o
+same_member set m o e =
+    let parts = same_parts set m.table o.table m.is_transposed o.is_transposed e in
+    λ i. record { table = parts.0 i; is_transposed = parts.1 i }
+
+apart_parts : (set other t u : ℕ) (x y : Bool) → t < 8 → u < 8 → other ≢ set → 16 * other + (2 * t + cond x 1 0) ≢ 16 * set + (2 * u + cond y 1 0)
+apart_parts set other t u true true low less ne e = ne (omega arith)
+apart_parts set other t u true false low less ne e = ne (omega arith)
+apart_parts set other t u false true low less ne e = ne (omega arith)
+apart_parts set other t u false false low less ne e = ne (omega arith)
+
+-- each set has 16 places
+pub place_low : (set t : ℕ) (x : Bool) → t < 8 → 16 * set + (2 * t + cond x 1 0) < 16 * set + 16
+place_low set t true low = omega arith
+place_low set t false low = omega arith
+
+-- what stands at a place
+pub place_parts : (set t : ℕ) (x : Bool) → t < 8 → ((16 * set + (2 * t + cond x 1 0)) % 16 / 2 ≡ t) × (eqb ((16 * set + (2 * t + cond x 1 0)) % 2) 1 ≡ x)
+place_parts set t true low = (let h : (16 * set + (2 * t + 1)) % 16 / 2 ≡ t = omega arith in h, eq-eqb ((16 * set + (2 * t + 1)) % 2) 1 (omega arith))
+place_parts set t false low = (let h : (16 * set + (2 * t + 0)) % 16 / 2 ≡ t = omega arith in h, ne_eqb ((16 * set + (2 * t + 0)) % 2) 1 (λ e. omega arith))
+
+-- ---- members of a set
+
+module _ (v : ShownBundle) (bundle : IsBundle v) (words : List ShownWords) (have : HaveWords v words) (set : ℕ) (low : set < length v.sets) where
+  set_is : IsSetOf v.side v.tables (set_of v set)
+  set_is = all_at (IsSetOf v.side v.tables) v.sets set _ low bundle.each
+
+  module _ (number : ℕ) (m : Member) (is : slice_get (set_of v set) number ≡ Some m) where
+    pub member_there : m.table < length v.tables
+    member_there = all_get (λ o. o.table < length v.tables) (set_of v set) number m is (all_at (AllByRecursion (λ o. o.table < length v.tables)) v.sets set _ low bundle.there)
+
+    pub member_pattern : IsPattern (pattern_at v m.table)
+    member_pattern = all_get (λ o. IsPattern (pattern_at v o.table)) (set_of v set) number m is set_is.patterns
+
+    pub member_full : (table_of v.tables m).is_folded ≡ false
+    member_full = (have.each m.table member_there).full
+
+    pub table_low : m.table < 8
+    table_low = let l = member_there in let few = have.few in omega arith
+
+    pub index_place_low : index_place set m < 256
+    index_place_low = let l = place_low set m.table m.is_transposed table_low in let few = bundle.few_sets in omega arith
+
+    -- the words that were read for it are those of its table's pattern
+    pub words_at : (place : ℕ) (w : ShownWords) → place ≡ m.table → w ≡ get_or words place w → w.pattern ≡ pattern_at v m.table
+    words_at place w place_is read =
+        let there = member_there in
+        let size = have.size in
+        let at_table : w ≡ get_or words m.table w = subst (λ k. w ≡ get_or words k w) place_is read in
+        (have.each m.table there).pattern w (get_or-slice_get words m.table w (omega arith) ∙ ap Some (sym at_table))
+
+  full_of : (ms : List Member) → AllByRecursion (λ m. IsPattern (pattern_at v m.table)) ms → AllByRecursion (λ m. m.table < length v.tables) ms → AllByRecursion (IsFull v.side v.tables) ms
+  full_of [] patterns there = tt
+  full_of (m ∷ ms) patterns there = ((patterns.0, (have.each m.table there.0).full), full_of ms patterns.1 there.1)
+
+  full_all : AllByRecursion (IsFull v.side v.tables) (set_of v set)
+  full_all = full_of (set_of v set) set_is.patterns (all_at (AllByRecursion (λ o. o.table < length v.tables)) v.sets set _ low bundle.there)
+
+  -- ---- the owner of a tile
+
+  module _ (move : Move) (b next : List ℕ) (tile from to : ℕ) (step : IsStepOf v.side move b next tile from to) where
+    tile_low : tile < v.side * v.side
+    tile_low = tile_below v.side move b next tile from to step
+
+    still : (m : Member) → IsFull v.side v.tables m → has (table_pattern v.tables m) (cell_for v.side m tile) ≡ false → (d : ℕ) → MemberSays v.tables m b (Finite d) → MemberSays v.tables m next (Finite d)
+    still m full none d says = member_still v.side move b next tile from to step v.tables m full.0 full.1 none d says
+
+    -- where no member has the tile, the sum stays
+    pub none_shifts : HasNoOwner v set tile → (d : ℕ) → BundleSays v set b (Finite d) → IsShift v b next set None
+    none_shifts none d says = record {
+      before = d;
+      after = d;
+      says_before = says;
+      says_after = record { there = low; says = sum_still v.side v.tables tile tile_low b next still (set_of v set) full_all none d says.says };
+      is = refl;
+    }
+
+    -- and the indexes
+    pub none_indexes : HasNoOwner v set tile → (indexes : List ℕ) → AreIndexesOf v b indexes set → AreIndexesOf v next indexes set
+    none_indexes none indexes are number m is =
+        are number m is ∙ sym (member_index_still v.side move b next tile from to step v.tables m (member_pattern number m is)
+        (all_get (λ o. has (table_pattern v.tables o) (cell_for v.side o tile) ≡ false) (set_of v set) number m is none))
+
+    module _ (owner : Owner) (is : IsOwner v set tile owner) where
+      abbrev pub own : Member
+      own = owner.member
+
+      owner_takes : has (table_pattern v.tables own) (cell_for v.side own tile) ≡ true
+      owner_takes =
+          subst (λ t. has (table_pattern v.tables own) t ≡ true) is.is
+          (has-get (table_pattern v.tables own) owner.tile (slice_index (table_pattern v.tables own) owner.tile) (get_or-slice_get (table_pattern v.tables own) owner.tile 0 is.low))
+
+      -- the move of the board that the owner looks up is one of its tile
+      pub owner_moves : IsTileMove (pattern_at v own.table) owner.tile (move_for own move) (board_for own b) (board_for own next)
+      owner_moves =
+          let looked = step_for v.side move b next tile from to step own in
+          record { board = looked.board; leads = looked.leads; is_index = is.low; tile = sym looked.tile_is ∙ sym is.is }
+
+      pub owner_steps : IsTileStep (pattern_at v own.table) owner.tile (board_for own b) (board_for own next) (cell_for v.side own from) (cell_for v.side own to)
+      owner_steps =
+          let looked = step_for v.side move b next tile from to step own in
+          record { move = move_for own move; moves = owner_moves; from_is = looked.from_is; to_is = looked.to_is }
+
+      -- its word tells of the sum
+      pub owner_shifts : (rises : Bool) → ((d : ℕ) → IsLeastCost (table_pattern v.tables own) (board_for own b) d → RisesOrFalls rises (table_pattern v.tables own) (board_for own next) d)
+          → (d : ℕ) → BundleSays v set b (Finite d) → IsShift v b next set (Some rises)
+      owner_shifts rises told d says =
+          let shifts = sum_shifts v.side v.tables tile tile_low b next still own owner_takes rises
+          (member_shifts v.side move b next tile from to step v.tables own (member_pattern is.number own is.member) (member_full is.number own is.member) rises told)
+          (set_of v set) full_all set_is.disjoint is.number is.member d says.says in
+          record {
+            before = d;
+            after = shifts.0;
+            says_before = says;
+            says_after = record { there = low; says = shifts.1 };
+            is = shifts.2;
+          }
+
+      -- its index is the one that changes
+      pub owner_indexes : (indexes : List ℕ) (place index : ℕ) → length indexes ≡ 256 → place ≡ index_place set own → index ≡ index_on (pattern_at v own.table) (board_for own next)
+          → AreIndexesOf v b indexes set → AreIndexesOf v next (slice_set indexes place index) set
+      owner_indexes indexes place index room place_is index_is are number m there = elim (owner_or_not v.side v.tables tile tile_low (set_of v set) set_is.disjoint is.number own is.member owner_takes number m there) [
+        | inl same ↦
+            let here : slice_index (slice_set indexes place index) place ≡ index = get_or-set_same indexes place index 0 (let l = index_place_low is.number own is.member in omega arith) in
+            subst (λ o. slice_index (slice_set indexes place index) (index_place set o) ≡ index_on (pattern_at v o.table) (board_for o next)) (sym same)
+            (ap (slice_index (slice_set indexes place index)) (sym place_is) ∙ here ∙ index_is)
+        | inr none ↦
+            let other : index_place set m ≢ place = (λ e.
+            let one : m ≡ own = same_member set m own (e ∙ place_is) in
+            let takes : has (table_pattern v.tables m) (cell_for v.side m tile) ≡ true = subst (λ o. has (table_pattern v.tables o) (cell_for v.side o tile) ≡ true) (sym one) owner_takes in
+            absurd cc) in
+            get_or-set_other indexes place (index_place set m) index 0 other ∙ are number m there ∙
+            sym (member_index_still v.side move b next tile from to step v.tables m (member_pattern number m there) none)
+      ]
+
+-- the indexes of another set stay
+pub other_indexes : (v : ShownBundle) (bundle : IsBundle v) (words : List ShownWords) (have : HaveWords v words) (set other : ℕ) → other < length v.sets → other ≢ set → (own : Member) → own.table < 8
+    → (indexes : List ℕ) (place index : ℕ) → place ≡ index_place set own → (b : List ℕ) → AreIndexesOf v b indexes other → AreIndexesOf v b (slice_set indexes place index) other
+other_indexes v bundle words have set other low ne own few indexes place index place_is b are number m there =
+    get_or-set_other indexes place (index_place other m) index 0 (λ e.
+    apart_parts set other m.table own.table m.is_transposed own.is_transposed (table_low v bundle words have other low number m there) few ne (e ∙ place_is)) ∙
+    are number m there

@@ -1,0 +1,43 @@
+use Rattle.std.proofs.Common.{◌≡◌, ℕ, zero, suc, ◌<◌, ◌/◌, ◌%◌, cond, eqb, get_or, [], ◌∷◌, None, length, length-set, inl, inr, sym, ◌∙◌, ap, arith, get_or-set_same, get_or-set_other}
+use Rattle.std.specs.Prelude.{slice_index_or, slice_set}
+use Rattle.std.proofs.lemmas.Bool.{cases_eq}
+use Rattle.puz_board.specs.Cells.{step_of}
+use Rattle.puz_board.specs.declared.moves.Move.{Move}
+use Rattle.puz_board.specs.declared.moves.Move.TheVariants.{Up, Down, Left, Right}
+use Rattle.puz_board.proofs.CellLemmas.{few_cells}
+use Rattle.edge_words.specs.Words.{move_of}
+use Rattle.puz_walk.proofs.word_bundles.all_ways.Goals as goal
+
+-- the move of a last digit
+abbrev pick : ℕ → Move
+pick digit = cond (eqb digit 0) Up (cond (eqb digit 1) Down (cond (eqb digit 2) Left Right))
+
+-- the moves in their order
+move_at : (digit k : ℕ) → digit ≡ k % 4 → get_or (Up ∷ Down ∷ Left ∷ Right ∷ []) digit Up ≡ move_of k
+move_at zero k e = ap pick e
+move_at (suc zero) k e = ap pick e
+move_at (suc (suc zero)) k e = ap pick e
+move_at (suc (suc (suc zero))) k e = ap pick e
+move_at (suc (suc (suc (suc digit)))) k e = absurd (omega arith)
+
+pub loop-place-preserved : goal.loop-place-preserved
+loop-place-preserved c = record {
+  room = length-set _ _ _ ∙ c.loop-place.invariant.room;
+  each = λ k l. elim (cases_eq k c.loop-place.place) [
+    | inl e ↦
+        let place = c.loop-place.place in
+        let there : c.step.result ≡ step_of c.args.side (place / 4) (get_or (Up ∷ Down ∷ Left ∷ Right ∷ []) c.from.result Up) = c.step.ensures.cell in
+        let room : length c.loop-place.ways ≡ 100 = c.loop-place.invariant.room in
+        let low : c.from-in-loop-place.result < length c.loop-place.ways = (
+        let most = few_cells c.args.side c.cells-place-end.ensures.low c.cells-place-end.ensures.high in
+        let count = c.cells-place-end.ensures.value in
+        let more = c.loop-place-test.true in
+        let same = c.from-in-loop-place.ensures in
+        omega arith) in
+        ap (λ i. slice_index_or (slice_set c.loop-place.ways c.from-in-loop-place.result c.step.result) i None) (e ∙ sym c.from-in-loop-place.ensures) ∙
+        get_or-set_same c.loop-place.ways c.from-in-loop-place.result c.step.result None low ∙ there ∙
+        ap (step_of c.args.side (place / 4)) (move_at c.from.result place c.from.ensures) ∙
+        ap (λ i. step_of c.args.side (i / 4) (move_of i)) (sym e)
+    | inr ne ↦ get_or-set_other c.loop-place.ways c.from-in-loop-place.result k c.step.result None (λ w. ne (w ∙ c.from-in-loop-place.ensures)) ∙ c.loop-place.invariant.each k (omega arith)
+  ];
+}

@@ -1,0 +1,47 @@
+use Rattle.std.proofs.Common.{sym, subst, arith}
+use Rattle.puz_walk.specs.WordSteps.{AreChanged, IsWordStepFrom}
+use Rattle.puz_walk.proofs.JudgeLemmas.{changed_back}
+use Rattle.puz_walk.proofs.WordWalkLemmas.{back_is, board, bound_fits, changed_before, slides_back, stored_back}
+use Rattle.puz_walk.proofs.word_walks.WordWalk.leave.Goals as goal
+
+pub move_blank-requires : goal.move_blank-requires
+move_blank-requires c =
+    let s = c.self.inside in
+    let v = s.bundle.now in
+    let w = c.requires.0 in
+    let step = c.args.step.now in
+    let from = subst (λ x. IsWordStepFrom w x step) (sym c.self.view_is) c.requires.1 in
+    let b = board s c.self.invariant in (
+      b,
+      w.board,
+      slides_back s c.self.invariant w step from,
+      c.self.invariant.spot,
+      subst (AreChanged v b w.board) (sym c.back.ensures) (changed_back v w.board b step.change (changed_before s c.self.invariant w step from)),
+    )
+
+pub overflow_add-self : goal.overflow_add-self
+overflow_add-self c =
+    let from = subst (λ x. IsWordStepFrom c.requires.0 x c.args.step.now) (sym c.self.view_is) c.requires.1 in
+    let fits = bound_fits c.self.inside c.self.invariant c.requires.0 c.args.step.now from in
+    omega arith
+
+pub invariant_of-self : goal.invariant_of-self
+invariant_of-self c =
+    let s = c.self.inside in
+    let v = s.bundle.now in
+    let w = c.requires.0 in
+    let step = c.args.step.now in
+    let from = subst (λ x. IsWordStepFrom w x step) (sym c.self.view_is) c.requires.1 in
+    let b = board s c.self.invariant in
+    let changed = subst (AreChanged v b w.board) (sym c.back.ensures) (changed_back v w.board b step.change (changed_before s c.self.invariant w step from)) in
+    stored_back s c.self.invariant w step from c.move_blank.new.spot (c.move_blank.ensures b w.board (slides_back s c.self.invariant w step from) c.self.invariant.spot changed)
+
+pub returns : goal.returns
+returns c w step_from =
+    let s = c.self.inside in
+    let v = s.bundle.now in
+    let step = c.args.step.now in
+    let from = subst (λ x. IsWordStepFrom w x step) (sym c.self.view_is) step_from in
+    let b = board s c.self.invariant in
+    let changed = subst (AreChanged v b w.board) (sym c.back.ensures) (changed_back v w.board b step.change (changed_before s c.self.invariant w step from)) in
+    back_is s c.self.invariant w step from c.move_blank.new.spot (c.move_blank.ensures b w.board (slides_back s c.self.invariant w step from) c.self.invariant.spot changed)

@@ -1,0 +1,243 @@
+//! Bundles whose tables have edge words.
+
+ghost use Rattle.std.specs.Prelude.{◌≡◌, ◌≢◌, ◌*◌, ◌+◌, ◌<◌, ◌≤◌, ◌↔◌, ℕ, false, IfNone, IfSome, IsTrue, List, length};
+ghost use Rattle.puz_board.specs.Cells.{step_of};
+ghost use Rattle.set_sum.specs.Bundles.{IsBundle};
+ghost use Rattle.set_sum.specs.Parts.{part_pattern, part_shown};
+ghost use Rattle.set_sum.specs.StoredBundles.{AreAllTransposed};
+ghost use Rattle.edge_words.specs.Words.{way_of};
+ghost use Rattle.puz_walk.specs.StoredWords.{AreWaysOf, IsOwnerOf, cell_for};
+ghost use Rattle.puz_walk.specs.WordBundles.{HaveWords, most_worded};
+ghost use Rattle.puz_walk.specs.WordSpots.{AreIndexesOf, AreKept, IsShift, Slides};
+ghost use Rattle.edge_words.specs.Spots.{IsStepOf};
+
+use crate::owners::{MOST_OWNERS, Owner, all_owners, move_for};
+use crate::word_spots::{MOST_INDEXES, Slide, Spot, index_place};
+use edge_words::Words;
+use pat_place::Pattern;
+use puz_board::{MOVES, Move, Side, step, transposed_cell};
+use set_sum::{Bundle, Member, Part};
+use std::marker::Model;
+
+/// The most tables of a bundle with words.
+const MOST_WORDED: usize = 8;
+
+/// How many moves there are from all cells: four from each of 25.
+const MOST_WAYS: usize = 100;
+
+/// A bundle each table of which has edge words, with what a walk asks at each move: for each set and tile the member whose
+/// pattern has it, and where moves lead.
+#[derive(Drop)]
+pub struct WordBundle<'a> {
+    pub(crate) bundle: &'a Bundle<'a>,
+    pub(crate) words: &'a [Words],
+    /// For each set and tile the member whose pattern has it.
+    owners: [Option<Owner>; MOST_OWNERS],
+    /// For each cell and move the cell to which it leads.
+    ways: [Option<u8>; MOST_WAYS],
+    /// The transposed cell of each cell.
+    transposed: [u8; 25],
+}
+
+impl<'a> Model for WordBundle<'a> {
+    ghost use Rattle.set_sum.specs.Bundles.{ShownBundle};
+
+    ghost Value = { ShownBundle };
+
+    ghost view = { λ w. w.bundle.now };
+
+    ghost use Rattle.puz_walk.specs.StoredWords.{IsStoredWordBundle};
+
+    ghost invariant = { IsStoredWordBundle };
+}
+
+impl<'a> WordBundle<'a> {
+    /// The bundle, with the words of each of its tables. There is none where there are more than 8 tables, where there aren't as
+    /// many words, where a table is folded, or where the words with its number aren't those of its pattern.
+    pub fn of(bundle: &'a Bundle<'a>, words: &'a [Words]) -> Option<WordBundle<'a>>
+        ensures some { IfSome result (λ made. (made ≡ bundle.now) × HaveWords bundle.now words.now) }
+        ensures none { IfNone result (¬ HaveWords bundle.now words.now) }
+    {
+        if !have_words(bundle, words) {
+            return None;
+        }
+        let side = bundle.side();
+        Some(WordBundle {
+            bundle,
+            words,
+            owners: all_owners(bundle),
+            ways: all_ways(side),
+            transposed: all_transposed(side),
+        })
+    }
+
+    /// The side of the boards.
+    pub fn side(&self) -> Side
+        ensures side { result ≡ self.now.side }
+        ensures bundle { IsBundle self.now }
+    {
+        self.bundle.side()
+    }
+
+    /// How many sets there are.
+    #[inline]
+    pub(crate) fn sets(&self) -> u8
+        ensures sets { result ≡ length self.now.sets }
+        ensures bundle { IsBundle self.now }
+        ensures few { length self.now.tables ≤ most_worded }
+    {
+        self.bundle.sets()
+    }
+
+    /// The cell to which a move leads, where the blank stays on the board.
+    #[inline]
+    pub(crate) fn after(&self, cell: u8, mv: Move) -> Option<u8>
+        requires { cell < self.now.side * self.now.side }
+        ensures { result ≡ step_of self.now.side cell mv }
+    {
+        let _side = self.bundle.side();
+        self.ways[way_place(cell, mv)]
+    }
+
+    /// The member of a set whose pattern has a tile.
+    #[inline]
+    fn owner(&self, set: u8, tile: u8) -> Option<Owner>
+        requires set { set < length self.now.sets }
+        requires tile { tile < self.now.side * self.now.side }
+        ensures { IsOwnerOf self.now set tile result }
+    {
+        let _sets = self.bundle.sets();
+        self.owners[25 * usize::from(set) + usize::from(tile)]
+    }
+
+    /// The cell that a member looks up.
+    #[inline]
+    fn cell_for(&self, member: Member, cell: u8) -> u8
+        requires { cell < self.now.side * self.now.side }
+        ensures { result ≡ cell_for self.now.side member cell }
+    {
+        let _side = self.bundle.side();
+        if member.is_transposed {
+            self.transposed[usize::from(cell)]
+        } else {
+            cell
+        }
+    }
+
+    /// Whether a move of a tile raises the sum of a set, where a member of the set has the tile.
+    #[inline]
+    pub(crate) fn raises(&self, spot: &Spot, set: u8, tile: u8, mv: Move) -> Option<bool>
+        requires set { set < length self.now.sets }
+        requires step { (b : List ℕ) × (next : List ℕ) × (from : ℕ) × (to : ℕ)
+            × IsStepOf self.now.side mv b next tile from to
+            × AreKept self.now b spot.now.sums spot.now.indexes }
+        ensures { (b next : List ℕ) (from to : ℕ)
+            → IsStepOf self.now.side mv b next tile from to
+            → AreKept self.now b spot.now.sums spot.now.indexes
+            → IsShift self.now b next set result }
+    {
+        let words = self.words;
+        let owner = self.owner(set, tile)?;
+        let member = owner.member;
+        let index = spot.indexes[index_place(set, member)];
+        let way = move_for(member, mv);
+        Some(words[usize::from(member.table)].raises(index, owner.tile, way))
+    }
+
+    /// The indexes of a set after a move of a tile.
+    #[inline]
+    pub(crate) fn follow(&self, indexes: &mut [u32; MOST_INDEXES], set: u8, slide: Slide)
+        requires set { set < length self.now.sets }
+        requires room { length indexes.old ≡ 256 }
+        requires step { (b : List ℕ) × (next : List ℕ) × Slides self.now b next slide
+            × AreIndexesOf self.now b indexes.old set }
+        ensures room { length indexes.new ≡ 256 }
+        ensures indexes { (b next : List ℕ) → Slides self.now b next slide
+            → AreIndexesOf self.now b indexes.old set
+            → AreIndexesOf self.now next indexes.new set }
+        ensures others { (other : ℕ) (b : List ℕ) → other < length self.now.sets → other ≢ set
+            → AreIndexesOf self.now b indexes.old other
+            → AreIndexesOf self.now b indexes.new other }
+    {
+        let words = self.words;
+        let Some(owner) = self.owner(set, slide.tile) else {
+            return;
+        };
+        let member = owner.member;
+        let place = index_place(set, member);
+        let from = self.cell_for(member, slide.from);
+        let to = self.cell_for(member, slide.to);
+        let words = &words[usize::from(member.table)];
+        indexes[place] = words.follow(indexes[place], owner.tile, from, to);
+    }
+}
+
+/// Whether each table of a bundle has its words, and there are not too many.
+fn have_words(bundle: &Bundle<'_>, words: &[Words]) -> bool
+    ensures { IsTrue result ↔ HaveWords bundle.now words.now }
+{
+    let tables = bundle.tables();
+    if words.len() > MOST_WORDED || words.len() != usize::from(tables) {
+        return false;
+    }
+    for table in 0..tables {
+        if !is_worded(bundle.part(table), &words[usize::from(table)]) {
+            return false;
+        }
+    }
+    true
+}
+
+/// Whether a table isn't folded, and these words are those of its pattern.
+fn is_worded(part: &Part<'_>, words: &Words) -> bool
+    ensures { IsTrue result
+        ↔ (((part_shown part.now).is_folded ≡ false) × (words.now.pattern ≡ part_pattern part.now)) }
+{
+    match part {
+        Part::Full(table) => is_same(&words.pattern(), &table.pattern()),
+        Part::Folded(_) => false,
+    }
+}
+
+/// Whether two patterns are the same.
+fn is_same(pattern: &Pattern, other: &Pattern) -> bool
+    ensures { IsTrue result ↔ (pattern.now ≡ other.now) }
+{
+    pattern.side().get() == other.side().get() && pattern.mask() == other.mask()
+}
+
+/// Where the cell to which a move leads is kept.
+#[inline]
+fn way_place(cell: u8, mv: Move) -> usize
+    ensures { result ≡ 4 * cell + way_of mv }
+{
+    let way = match mv {
+        Move::Up => 0,
+        Move::Down => 1,
+        Move::Left => 2,
+        Move::Right => 3,
+    };
+    4 * usize::from(cell) + way
+}
+
+/// For each cell and move of boards of a side the cell to which it leads.
+fn all_ways(side: Side) -> [Option<u8>; MOST_WAYS]
+    ensures { AreWaysOf side result }
+{
+    let mut ways = [None; MOST_WAYS];
+    for place in 0..4 * side.cells() {
+        ways[usize::from(place)] = step(side, place / 4, MOVES[usize::from(place % 4)]);
+    }
+    ways
+}
+
+/// The transposed cell of each cell of a board of a side.
+fn all_transposed(side: Side) -> [u8; 25]
+    ensures { AreAllTransposed side result }
+{
+    let mut cells = [0; 25];
+    for cell in 0..side.cells() {
+        cells[usize::from(cell)] = transposed_cell(side, cell);
+    }
+    cells
+}

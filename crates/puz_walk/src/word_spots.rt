@@ -1,0 +1,288 @@
+//! Where a walk stands: the board, and for each set its sum and the indexes of its members.
+
+ghost use Rattle.std.specs.Prelude.{◌≡◌, ◌≢◌, ◌*◌, ◌+◌, ◌-◌, ◌<◌, ◌≤◌, ◌^◌, if◌then◌else◌, ℕ, IfNone, IfSome, List, MatchOption, length, slice_index, take};
+ghost use Rattle.std.specs.Int.{bit_at};
+ghost use Rattle.puz_board.specs.Boards.{IsBoardOf, at, side_of};
+ghost use Rattle.tab_rule.specs.declared.tables.Count.TheVariants.{Finite};
+ghost use Rattle.set_sum.specs.Bounds.{CountReaches};
+ghost use Rattle.set_sum.specs.Bundles.{BundleSays, IsBundle};
+ghost use Rattle.edge_words.specs.Spots.{IsStepOf, index_on};
+ghost use Rattle.puz_walk.specs.WordBundles.{pattern_at};
+ghost use Rattle.puz_walk.specs.WordSpots.{AreBelow, AreIndexesOf, AreKept, GoesBeyond, IsSlideTo, IsSpotOf, Shifts, Slides, index_place};
+ghost use Rattle.puz_walk.specs.WordSteps.{AreChanged};
+
+use crate::word_bundles::WordBundle;
+use puz_board::masks::{has_cell, with};
+use puz_board::{Board, Move};
+use set_sum::{Bundle, MOST_SETS, Member};
+use tab_rule::Count;
+
+/// How many indexes there are: 16 for each of 16 sets.
+pub(crate) const MOST_INDEXES: usize = 256;
+
+/// A board, and for each set its sum and the indexes of its members: two for each table, the first for the plain member.
+#[derive(Drop)]
+pub(crate) struct Spot {
+    /// The number in each cell.
+    pub(crate) numbers: [u8; 25],
+    /// The blank's cell.
+    pub(crate) blank: u8,
+    pub(crate) sums: [u8; MOST_SETS],
+    pub(crate) indexes: [u32; MOST_INDEXES],
+}
+
+/// The sets whose sums a move raises by one, and those whose sums it lowers by one: bit s for set s.
+#[derive(Clone, Copy)]
+pub(crate) struct Change {
+    pub(crate) rose: u32,
+    pub(crate) fell: u32,
+}
+
+/// Where the index of a member of a set is kept.
+#[inline]
+pub(crate) fn index_place(set: u8, member: Member) -> usize
+    requires { member.table < 8 }
+    ensures { result ≡ index_place set member }
+{
+    16 * usize::from(set) + 2 * usize::from(member.table) + usize::from(member.is_transposed)
+}
+
+/// A move of a tile: the blank goes from one cell to another.
+#[derive(Clone, Copy)]
+pub(crate) struct Slide {
+    pub(crate) tile: u8,
+    pub(crate) from: u8,
+    pub(crate) to: u8,
+}
+
+impl Change {
+    /// What the move back does.
+    #[inline]
+    pub(crate) fn back(self) -> Change
+        ensures { result ≡ record { rose = self.fell; fell = self.rose } }
+    {
+        Change {
+            rose: self.fell,
+            fell: self.rose,
+        }
+    }
+
+    /// The sum of a set after the move.
+    #[inline]
+    fn apply(self, set: u8, sum: u8) -> u8
+        requires set { set < 16 }
+        requires fits { sum + bit_at self.rose set < 2 ^ 8 }
+        requires some { bit_at self.fell set ≤ sum + bit_at self.rose set }
+        ensures { result + bit_at self.fell set ≡ sum + bit_at self.rose set }
+    {
+        sum + u8::from(has_cell(self.rose, set)) - u8::from(has_cell(self.fell, set))
+    }
+}
+
+/// What a move of a tile does to the sums, where each is below a limit after it.
+#[inline]
+pub(crate) fn judge(
+    bundle: &WordBundle<'_>,
+    spot: &Spot,
+    tile: u8,
+    mv: Move,
+    limit: u8,
+) -> Option<Change>
+    requires { (b : List ℕ) × (next : List ℕ) × (from : ℕ) × (to : ℕ)
+        × IsStepOf bundle.now.side mv b next tile from to
+        × AreKept bundle.now b spot.now.sums spot.now.indexes }
+    ensures some { IfSome result (λ change. (b next : List ℕ) (from to : ℕ)
+        → IsStepOf bundle.now.side mv b next tile from to
+        → AreKept bundle.now b spot.now.sums spot.now.indexes
+        → AreChanged bundle.now b next change × AreBelow bundle.now next limit) }
+    ensures none { IfNone result ((b next : List ℕ) (from to : ℕ)
+        → IsStepOf bundle.now.side mv b next tile from to
+        → AreKept bundle.now b spot.now.sums spot.now.indexes
+        → GoesBeyond bundle.now next limit) }
+{
+    let mut change = Change { rose: 0, fell: 0 };
+    for set in 0..bundle.sets() {
+        let rises = bundle.raises(spot, set, tile, mv);
+        if sum_after(spot.sums[usize::from(set)], rises) >= u16::from(limit) {
+            return None;
+        }
+        change = noted(change, set, rises);
+    }
+    Some(change)
+}
+
+/// The sum after a move that raises it, lowers it, or leaves it.
+#[inline]
+fn sum_after(sum: u8, rises: Option<bool>) -> u16
+    requires { (e : ℕ) × Shifts rises sum e }
+    ensures { Shifts rises sum result }
+{
+    let sum = u16::from(sum);
+    match rises {
+        Some(true) => sum + 1,
+        Some(false) => sum - 1,
+        None => sum,
+    }
+}
+
+/// The change with one set more.
+#[inline]
+fn noted(change: Change, set: u8, rises: Option<bool>) -> Change
+    requires set { set < 16 }
+    requires rose { bit_at change.rose set ≡ 0 }
+    requires fell { bit_at change.fell set ≡ 0 }
+    ensures here { (d e : ℕ) → Shifts rises d e
+        → e + bit_at result.fell set ≡ d + bit_at result.rose set }
+    ensures rose { (x : ℕ) → x ≢ set → bit_at result.rose x ≡ bit_at change.rose x }
+    ensures fell { (x : ℕ) → x ≢ set → bit_at result.fell x ≡ bit_at change.fell x }
+    ensures one { bit_at result.rose set + bit_at result.fell set ≤ 1 }
+{
+    match rises {
+        Some(true) => Change {
+            rose: with(change.rose, set),
+            fell: change.fell,
+        },
+        Some(false) => Change {
+            rose: change.rose,
+            fell: with(change.fell, set),
+        },
+        None => change,
+    }
+}
+
+/// Moves the blank to a cell beside its own, and the tile there into its own.
+#[inline]
+pub(crate) fn move_blank(bundle: &WordBundle<'_>, spot: &mut Spot, to: u8, change: Change)
+    requires { (b : List ℕ) × (next : List ℕ) × IsSlideTo bundle.now b next to
+        × IsSpotOf bundle.now b spot.old × AreChanged bundle.now b next change }
+    ensures { (b next : List ℕ) → IsSlideTo bundle.now b next to
+        → IsSpotOf bundle.now b spot.old → AreChanged bundle.now b next change
+        → IsSpotOf bundle.now next spot.new }
+{
+    let from = spot.blank;
+    let tile = spot.numbers[usize::from(to)];
+    spot.numbers[usize::from(from)] = tile;
+    spot.numbers[usize::from(to)] = 0;
+    spot.blank = to;
+    follow_sets(bundle, spot, Slide { tile, from, to }, change);
+}
+
+/// The sums and the indexes after a move of a tile.
+#[inline]
+fn follow_sets(bundle: &WordBundle<'_>, spot: &mut Spot, slide: Slide, change: Change)
+    requires { (b : List ℕ) × (next : List ℕ) × Slides bundle.now b next slide
+        × AreKept bundle.now b spot.old.sums spot.old.indexes
+        × AreChanged bundle.now b next change }
+    ensures kept { (b next : List ℕ) → Slides bundle.now b next slide
+        → AreKept bundle.now b spot.old.sums spot.old.indexes
+        → AreChanged bundle.now b next change
+        → AreKept bundle.now next spot.new.sums spot.new.indexes }
+    ensures numbers { spot.new.numbers ≡ spot.old.numbers }
+    ensures blank { spot.new.blank ≡ spot.old.blank }
+{
+    for set in 0..bundle.sets() {
+        let number = usize::from(set);
+        spot.sums[number] = change.apply(set, spot.sums[number]);
+        bundle.follow(&mut spot.indexes, set, slide);
+    }
+}
+
+/// The spot of a board where no set has a sum above a limit.
+pub(crate) fn spot_of(bundle: &WordBundle<'_>, board: &Board, most: u8) -> Option<Spot>
+    requires { side_of board.now ≡ bundle.now.side }
+    ensures some { IfSome result (λ spot. IsSpotOf bundle.now board.now spot
+        × AreBelow bundle.now board.now (most + 1)) }
+    ensures none { IfNone result (GoesBeyond bundle.now board.now (most + 1)) }
+{
+    let _side = board.side();
+    let sums = sums_of(bundle.bundle, board, most)?;
+    Some(Spot {
+        numbers: numbers_of(board),
+        blank: board.blank(),
+        sums,
+        indexes: indexes_of(bundle, board),
+    })
+}
+
+/// The sums of a board, where none is above a limit.
+fn sums_of(bundle: &Bundle<'_>, board: &Board, most: u8) -> Option<[u8; MOST_SETS]>
+    requires { side_of board.now ≡ bundle.now.side }
+    ensures room { IfSome result (λ sums. length sums ≡ 16) }
+    ensures some { IfSome result (λ sums. (set : ℕ) → set < length bundle.now.sets
+        → BundleSays bundle.now set board.now (Finite (slice_index sums set))
+        × (slice_index sums set ≤ most)) }
+    ensures none { IfNone result (GoesBeyond bundle.now board.now (most + 1)) }
+{
+    let mut sums = [0; MOST_SETS];
+    for set in 0..bundle.sets() {
+        sums[usize::from(set)] = upto(bundle.sum(set, board), most)?;
+    }
+    Some(sums)
+}
+
+/// A finite count that isn't above a limit.
+fn upto(count: Count, most: u8) -> Option<u8>
+    ensures { MatchOption result
+        (CountReaches count (most + 1))
+        (λ sum. (count ≡ Finite sum) × (sum ≤ most)) }
+{
+    match count {
+        Count::Finite(sum) => if sum <= u16::from(most) {
+            Some(sum as u8)
+        } else {
+            None
+        },
+        Count::Never => None,
+    }
+}
+
+/// The numbers of a board. Zeros stand behind them.
+fn numbers_of(board: &Board) -> [u8; 25]
+    ensures room { length result ≡ 25 }
+    ensures numbers { take (length board.now) result ≡ board.now }
+{
+    let mut numbers = [0; 25];
+    for cell in 0..board.side().cells() {
+        numbers[usize::from(cell)] = board.at(cell);
+    }
+    numbers
+}
+
+/// The indexes of the members of all sets on a board.
+fn indexes_of(bundle: &WordBundle<'_>, board: &Board) -> [u32; MOST_INDEXES]
+    requires { side_of board.now ≡ bundle.now.side }
+    ensures room { length result ≡ 256 }
+    ensures indexes { (set : ℕ) → set < length bundle.now.sets
+        → AreIndexesOf bundle.now board.now result set }
+{
+    let turned = board.transposed();
+    let mut indexes = [0; MOST_INDEXES];
+    for place in 0..16 * usize::from(bundle.sets()) {
+        let looked_up = chosen(board, &turned, place % 2 == 1);
+        indexes[place] = index_for(bundle, place % 16 / 2, &looked_up);
+    }
+    indexes
+}
+
+/// The board, or the transposed one.
+fn chosen(board: &Board, turned: &Board, is_transposed: bool) -> Board
+    requires { side_of turned.now ≡ side_of board.now }
+    ensures board { result ≡ (if is_transposed then turned.now else board.now) }
+    ensures side { side_of result ≡ side_of board.now }
+{
+    if is_transposed { *turned } else { *board }
+}
+
+/// The index of a board in a table's words, where there is the table.
+fn index_for(bundle: &WordBundle<'_>, table: usize, board: &Board) -> u32
+    requires { side_of board.now ≡ bundle.now.side }
+    ensures { table < length bundle.now.tables
+        → result ≡ index_on (pattern_at bundle.now table) board.now }
+{
+    let words = bundle.words;
+    if table < words.len() {
+        words[table].index_of(board)
+    } else {
+        0
+    }
+}

@@ -1,0 +1,123 @@
+//! Boards that are moved in place, cut off by edge words.
+
+ghost use Rattle.std.specs.Prelude.{◌≡◌, ◌+◌, ◌*◌, ◌↔◌, ℕ, IfNone, IfSome, IsTrue, Some, length, slice_index};
+ghost use Rattle.puz_board.specs.Boards.{IsBoardOf, IsGoal, moved, side_of};
+ghost use Rattle.puz_walk.specs.StoredWordWalks.{margin_of};
+ghost use Rattle.puz_walk.specs.Walks.{IsClosed, IsOpen, LeadsNowhere, ShownWalk};
+ghost use Rattle.puz_walk.specs.WordSteps.{IsWordStepFrom};
+
+use crate::word_bundles::WordBundle;
+use crate::word_spots::{Change, Spot, judge, move_blank, spot_of};
+use puz_board::{Board, Move};
+use std::marker::Model;
+
+/// A board that is moved in place while a solution of fewer moves than a bound is still to be searched for. What a move does
+/// to the sums of the bundle's sets is read from edge words before the board is moved: no table is looked into.
+#[derive(Drop)]
+pub struct WordWalk<'a> {
+    bundle: &'a WordBundle<'a>,
+    spot: Spot,
+    bound: u8,
+    /// How far each sum must be below the bound.
+    margin: u8,
+}
+
+impl<'a> Model for WordWalk<'a> {
+    ghost use Rattle.puz_walk.specs.Walks.{ShownWalk};
+
+    ghost Value = { ShownWalk };
+
+    ghost use Rattle.puz_walk.specs.StoredWordWalks.{IsStoredWordWalk, word_walk_shown};
+
+    ghost view = { word_walk_shown };
+
+    ghost invariant = { IsStoredWordWalk };
+}
+
+/// A step of a walk, by which it is taken back: where the blank was, and which sums rose or fell.
+#[derive(Clone, Copy)]
+pub struct WordStep {
+    from: u8,
+    change: Change,
+}
+
+impl<'a> WordWalk<'a> {
+    /// The walk from a board that isn't closed below the bound.
+    pub fn new(bundle: &'a WordBundle<'a>, board: &Board, bound: u8) -> Option<WordWalk<'a>>
+        requires { side_of board.now ≡ bundle.now.side }
+        ensures some { IfSome result (λ walk.
+            walk ≡ record { bundle = bundle.now; board = board.now; bound = bound }) }
+        ensures none { IfNone result (IsClosed bundle.now board.now bound) }
+    {
+        let (_side, _sets) = (board.side(), bundle.sets());
+        let margin = margin_of(bound, board.blank_parity());
+        if bound < margin {
+            return None;
+        }
+        let spot = spot_of(bundle, board, bound - margin)?;
+        Some(WordWalk {
+            bundle,
+            spot,
+            bound,
+            margin,
+        })
+    }
+
+    /// Whether the board is the goal board.
+    #[inline]
+    pub fn is_goal(&self) -> bool
+        ensures goal { IsTrue result ↔ IsGoal self.now.board }
+        ensures open { IsOpen self.now }
+    {
+        is_in_order(&self.spot.numbers[..usize::from(self.bundle.side().cells())])
+    }
+
+    /// Moves the board where the move leads to one that is open below one move less. The answer is the step, by which the move
+    /// is taken back.
+    #[inline]
+    pub fn enter(&mut self, mv: Move) -> Option<WordStep>
+        ensures none { IfNone result ((self.new ≡ self.old) × LeadsNowhere self.old mv) }
+        ensures some { IfSome result (λ step. (moved self.old.board mv ≡ Some self.new.board)
+            × (self.new.bundle ≡ self.old.bundle) × (self.new.bound + 1 ≡ self.old.bound)
+            × IsWordStepFrom self.old self.new step) }
+    {
+        let bundle = self.bundle;
+        let from = self.spot.blank;
+        let to = bundle.after(from, mv)?;
+        let tile = self.spot.numbers[usize::from(to)];
+        let change = judge(bundle, &self.spot, tile, mv, self.bound - self.margin)?;
+        move_blank(bundle, &mut self.spot, to, change);
+        self.bound -= 1;
+        Some(WordStep { from, change })
+    }
+
+    /// Takes a step back.
+    #[inline]
+    pub fn leave(&mut self, step: &WordStep)
+        requires { (w : ShownWalk) × IsWordStepFrom w self.old step.now }
+        ensures { (w : ShownWalk) → IsWordStepFrom w self.old step.now → self.new ≡ w }
+    {
+        move_blank(self.bundle, &mut self.spot, step.from, step.change.back());
+        self.bound += 1;
+    }
+}
+
+/// How far each sum must be below a bound, where the blank's parity is this one: the raised sums are below the bound then.
+fn margin_of(bound: u8, parity: u8) -> u8
+    ensures { result ≡ margin_of bound parity }
+{
+    if bound % 2 == parity { 2 } else { 1 }
+}
+
+/// Whether each number is in the cell of its own number.
+#[inline]
+fn is_in_order(numbers: &[u8]) -> bool
+    ensures { IsTrue result ↔ IsGoal numbers.now }
+{
+    for (cell, number) in numbers.iter().enumerate() {
+        if usize::from(*number) != cell {
+            return false;
+        }
+    }
+    true
+}
