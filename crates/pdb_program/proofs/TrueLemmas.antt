@@ -13,7 +13,7 @@ use Rattle.log_check.specs.declared.faults.LogRefusal.TheVariants as log
 use Rattle.log_file.specs.declared.faults.FormFault.TheVariants as form
 use Rattle.puz_board.specs.declared.replays.MoveFault.TheVariants as move
 use Rattle.puz_board.specs.declared.texts.BoardFault.TheVariants as board
-use Rattle.set_sum.specs.Bundles.{ShownBundle}
+use Rattle.puz_search.specs.Guides.{ShownGuide}
 use Rattle.set_sum.specs.declared.faults.SetFault.TheVariants as set
 use Rattle.tab_file.specs.declared.headers.HeadFault.TheVariants as head
 use Rattle.tab_rule.specs.declared.tables.TableRefusal.TheVariants as table
@@ -170,9 +170,9 @@ refused_words : (refused : Fault) → SaysElse (words_of refused)
 refused_words refused =
     let line = fault_line refused in subst SaysElse (sym (without_end (line_of_fault refused) line.0 line.1)) line.2
 
-module _ (v : ShownBundle) (budget : ℕ) where
+module _ (guide : ShownGuide) (budget : ℕ) where
   -- what is found for what a claim asks is told truly
-  found_true : (b : List ℕ) (asks : ShownAsks) (found : Found) → IsFoundOf v budget b asks found → IsTrueTold (told_of b asks found)
+  found_true : (b : List ℕ) (asks : ShownAsks) (found : Found) → IsFoundOf guide budget b asks found → IsTrueTold (told_of b asks found)
   found_true b (claims.bound r) Bound is = is.1.0
   found_true b (claims.bound r) (Optimum n) is = absurd is
   found_true b (claims.bound r) (Shortest n letters) is = absurd is
@@ -190,7 +190,7 @@ module _ (v : ShownBundle) (budget : ℕ) where
   found_true b claims.shortest (Refused refused) is = refused_words refused
 
   -- so each of them is
-  each_true : (claims : List ShownClaim) (told : List Told) → AllZip (IsToldOf v budget) claims told → AllByRecursion IsTrueTold told
+  each_true : (claims : List ShownClaim) (told : List Told) → AllZip (IsToldOf guide budget) claims told → AllByRecursion IsTrueTold told
   each_true [] [] each = tt
   each_true [] (t ∷ told) each = absurd each
   each_true (claim ∷ claims) [] each = absurd each
@@ -221,7 +221,7 @@ comes_true : (fold : Bool) (budget : ℕ) (files : ClaimsFiles) (outcome : Outco
 comes_true fold budget files (unready refused) is =
     (digested_files files, [], line_of_fault refused, refl, tt, inr (fault_line refused))
 comes_true fold budget files (answered told) is =
-    answers_alone (digested_files files) told (each_true is.bundle budget is.claims told is.each)
+    answers_alone (digested_files files) told (each_true is.guide budget is.claims told is.each)
 
 reply_true : (fold : Bool) (budget : ℕ) (files : ClaimsFiles) (reply : Reply) → TellsClaims fold budget files reply → IsTrueText (reply_text reply)
 reply_true fold budget files reply tells =
@@ -271,7 +271,7 @@ module _ (start lines : Bytes) where
       said_true (text_of ends.outcome) _ status (rw (had, wrote) at ends.said) (outcome_true arguments old new.failed ends.outcome ends.cause)
   lines_told arguments old new status (inr cut) had wrote =
       cut_true _ (rw (had, wrote) at cut.front)
-      (answers_alone (digested_files cut.files) cut.told (each_true cut.bundle (budget_of arguments.budget) cut.first cut.told cut.each))
+      (answers_alone (digested_files cut.files) cut.told (each_true cut.guide (budget_of arguments.budget) cut.first cut.told cut.each))
 
 -- ---- a yes
 

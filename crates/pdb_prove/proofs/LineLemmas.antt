@@ -1,5 +1,5 @@
 -- The lines of refusals, and their words.
-use Rattle.std.proofs.Common.{◌≡◌, ◌∙◌, ◌+◌, ◌-◌, ◌<◌, ◌≤◌, ◌/◌, ℕ, List, [], ◌∷◌, ◌++◌, append_assoc, arith, codes, length, length-append, refl, slice_index, sym}
+use Rattle.std.proofs.Common.{◌≡◌, ◌+◌, ◌-◌, ◌<◌, ◌≤◌, ℕ, [], ◌∷◌, ◌++◌, append_assoc, arith, codes, length, length-append, refl, slice_index, sym}
 use Rattle.std.proofs.Common.{decimal}
 use Rattle.std.specs.String.Boundary.{IsSplitPoint}
 use Rattle.std.proofs.lemmas.Grind.{common_steps}

@@ -1,25 +1,24 @@
 -- What is found for a question is found for the claim that asks it.
 use Rattle.std.proofs.Common.{◌≡◌, ℕ, List}
 use Rattle.puz_board.specs.MovesTexts.{Solves}
-use Rattle.set_sum.specs.Bundles.{ShownBundle}
+use Rattle.puz_search.specs.Guides.{ShownGuide}
 use Rattle.claim_text.specs.Claims as claims
 use Rattle.claim_text.specs.Claims.{ShownAsks}
 use Rattle.pdb_prove.specs.Answers.{IsBoundFor, IsFoundOf, IsOptimumFor, IsShortestFor}
 use Rattle.pdb_prove.specs.Steps.{IsQuestionOf}
 use Rattle.pdb_prove.specs.declared.answers.Found.{Found}
-use Rattle.pdb_prove.specs.declared.answers.Question.{Question}
 use Rattle.pdb_prove.specs.declared.answers.Question.TheVariants.{Bound, Moves, Shortest}
 
-module _ (v : ShownBundle) (budget : ℕ) (b : List ℕ) (found : Found) where
+module _ (guide : ShownGuide) (budget : ℕ) (b : List ℕ) (found : Found) where
   -- a shortest solution is asked for
-  pub shortest_for : (asks : ShownAsks) → IsQuestionOf b asks Shortest → IsShortestFor v budget b found → IsFoundOf v budget b asks found
+  pub shortest_for : (asks : ShownAsks) → IsQuestionOf b asks Shortest → IsShortestFor guide budget b found → IsFoundOf guide budget b asks found
   shortest_for claims.shortest is found_for = found_for
   shortest_for (claims.moves text) is found_for = let clash : Shortest ≡ Moves is.0 = is.2 in cc
   shortest_for (claims.bound r) is found_for = let clash : Shortest ≡ Bound r = is in cc
 
   -- moves are said to be a shortest solution
-  pub moves_for : (asks : ShownAsks) (n : ℕ) → IsQuestionOf b asks (Moves n) → ((text : List ℕ) → Solves b text n → IsOptimumFor v budget b text found)
-      → IsFoundOf v budget b asks found
+  pub moves_for : (asks : ShownAsks) (n : ℕ) → IsQuestionOf b asks (Moves n) → ((text : List ℕ) → Solves b text n → IsOptimumFor guide budget b text found)
+      → IsFoundOf guide budget b asks found
   moves_for claims.shortest n is found_for = let clash : Moves n ≡ Shortest = is in cc
   moves_for (claims.moves text) n is found_for =
       let same : n ≡ is.0 = moves_same n is.0 is.2 in found_for text (rw same is.1)
@@ -29,7 +28,7 @@ module _ (v : ShownBundle) (budget : ℕ) (b : List ℕ) (found : Found) where
   moves_for (claims.bound r) n is found_for = let clash : Moves n ≡ Bound r = is in cc
 
   -- a bound is said
-  pub bound_for : (asks : ShownAsks) (r : ℕ) → IsQuestionOf b asks (Bound r) → IsBoundFor v budget b r found → IsFoundOf v budget b asks found
+  pub bound_for : (asks : ShownAsks) (r : ℕ) → IsQuestionOf b asks (Bound r) → IsBoundFor guide budget b r found → IsFoundOf guide budget b asks found
   bound_for claims.shortest r is found_for = let clash : Bound r ≡ Shortest = is in cc
   bound_for (claims.moves text) r is found_for = let clash : Bound r ≡ Moves is.0 = is.2 in cc
   bound_for (claims.bound s) r is found_for = let same : r ≡ s = bound_same r s is in rw (← same) found_for

@@ -1,13 +1,11 @@
 -- What is found within few boards is found within more.
-use Rattle.std.proofs.Common.{◌≡◌, ◌≤◌, ◌⊎◌, ℕ, List, min, true, false, inl, inr, arith}
-use Rattle.set_sum.specs.Bundles.{ShownBundle}
+use Rattle.std.proofs.Common.{◌≡◌, ◌≤◌, ℕ, List, min, true, false, inl, inr, arith}
+use Rattle.puz_search.specs.Guides.{ShownGuide}
 use Rattle.claim_text.specs.Claims as claims
 use Rattle.claim_text.specs.Claims.{ShownAsks}
-use Rattle.puz_search.specs.Answers.{IsAnswer}
-use Rattle.pdb_verdict.specs.declared.verdicts.Fault.{Fault}
 use Rattle.pdb_verdict.specs.declared.verdicts.Fault.TheVariants.{Make}
 use Rattle.pdb_verdict.specs.declared.verdicts.MakeRefusal.TheVariants.{K1, K2}
-use Rattle.pdb_prove.specs.Answers.{IsBoundFor, IsFoundOf, IsOptimumFor, IsRefuted, IsShortestFor}
+use Rattle.pdb_prove.specs.Answers.{IsFoundOf, IsRefuted}
 use Rattle.pdb_prove.specs.Steps.{is_spent}
 use Rattle.pdb_prove.specs.declared.answers.Found.{Found}
 use Rattle.pdb_prove.specs.declared.answers.Found.TheVariants.{Bound, Optimum, Refused, Shorter, Shortest}
@@ -15,12 +13,12 @@ use Rattle.pdb_prove.specs.declared.answers.Found.TheVariants.{Bound, Optimum, R
 spent_not : true ≡ false → ⊥
 spent_not e = cc
 
-module _ (v : ShownBundle) (few budget : ℕ) (less : few ≤ budget) where
-  refuted_within : (b : List ℕ) (r : ℕ) → IsRefuted v few b r → IsRefuted v budget b r
+module _ (guide : ShownGuide) (few budget : ℕ) (less : few ≤ budget) where
+  refuted_within : (b : List ℕ) (r : ℕ) → IsRefuted guide few b r → IsRefuted guide budget b r
   refuted_within b r is = (is.0, (is.1.0, is.1.1, omega (arith, is.1.2, less)))
 
   -- what is found for a claim within few boards, and isn't that these are spent, is found within more
-  pub soon_enough : (b : List ℕ) (asks : ShownAsks) (found : Found) → is_spent found ≡ false → IsFoundOf v few b asks found → IsFoundOf v budget b asks found
+  pub soon_enough : (b : List ℕ) (asks : ShownAsks) (found : Found) → is_spent found ≡ false → IsFoundOf guide few b asks found → IsFoundOf guide budget b asks found
   soon_enough b claims.shortest (Shortest n letters) settled is = is
   soon_enough b claims.shortest (Refused (Make K2)) settled is = elim is [ inl odd ↦ inl odd | inr beyond ↦ inr beyond ]
   soon_enough b claims.shortest (Refused (Make K1)) settled is = absurd (spent_not settled)

@@ -1,15 +1,15 @@
--- Which answer to a claim is right, over the sets of a bundle and for a budget of boards.
+-- Which answer to a claim is right, by a search that a guide leads, and for a budget of boards.
 use Rattle.std.specs.Prelude.{◌≡◌, ℕ, ◌-◌, ◌<◌, ◌≤◌, ◌⊎◌, min, Bool, true, false, List, [], take, length, Err}
 use Rattle.std.specs.List.{list_all}
 use Rattle.puz_board.specs.MovesTexts.{Solves, replay_of}
 use Rattle.set_sum.specs.Bounds.{IsBounded}
-use Rattle.set_sum.specs.Bundles.{ShownBundle}
 use Rattle.claim_text.specs.Claims as claims
 use Rattle.claim_text.specs.Claims.{ShownAsks, ShownClaim}
 use Rattle.claim_text.specs.Lines as line
 use Rattle.claim_text.specs.Lines.{Told}
 use Rattle.puz_make.specs.Solvable.{HasTheBlanksParity}
 use Rattle.puz_search.specs.Answers.{IsAnswer, IsDeepened}
+use Rattle.puz_search.specs.Guides.{ShownGuide}
 use Rattle.puz_search.specs.declared.answers.Answer.TheVariants as search
 use Rattle.puz_search.specs.declared.deepening.Deepened.TheVariants as deepened
 use Rattle.byte_io.specs.Shelf.{Bytes}
@@ -22,17 +22,17 @@ use Rattle.pdb_prove.specs.declared.answers.Found.TheVariants.{Bound, Optimum, R
 
 -- ---- what is found for a claim
 
-module _ (v : ShownBundle) (budget : ℕ) where
+module _ (guide : ShownGuide) (budget : ℕ) where
   -- the search for a solution of fewer moves refutes it, whatever it expands within the budget
   abbrev pub IsRefuted : List ℕ → ℕ → Type 0
-  IsRefuted b r = (boards : ℕ) × IsAnswer v b r budget (search.Refuted boards)
+  IsRefuted b r = (boards : ℕ) × IsAnswer guide b r budget (search.Refuted boards)
 
   -- for a board alone: a shortest solution; K1 where the budget is spent; K2 where the order of the numbers hasn't the blank's
   -- parity, or no solution has fewer than 254 moves
   abbrev pub IsShortestFor : List ℕ → Found → Type 0
   IsShortestFor b (Shortest n letters) = Solves b letters.items n × IsBounded b n
-  IsShortestFor b (Refused (Make K1)) = (bound : ℕ) × IsDeepened v b budget (deepened.Spent bound)
-  IsShortestFor b (Refused (Make K2)) = (¬ HasTheBlanksParity b) ⊎ IsDeepened v b budget deepened.Beyond
+  IsShortestFor b (Refused (Make K1)) = (bound : ℕ) × IsDeepened guide b budget (deepened.Spent bound)
+  IsShortestFor b (Refused (Make K2)) = (¬ HasTheBlanksParity b) ⊎ IsDeepened guide b budget deepened.Beyond
   IsShortestFor b _ = ⊥
 
   -- for moves that are said to be a shortest solution: so they are; or a shorter one; or why the moves are refused; K1 where the
@@ -41,9 +41,9 @@ module _ (v : ShownBundle) (budget : ℕ) where
   abbrev pub IsOptimumFor : List ℕ → Bytes → Found → Type 0
   IsOptimumFor b moves (Optimum n) = Solves b moves n × (n ≤ 255) × IsRefuted b n
   IsOptimumFor b moves (Shorter letters) =
-      (n : ℕ) × Solves b moves n × IsAnswer v b (min n 255) budget (search.Solved letters)
+      (n : ℕ) × Solves b moves n × IsAnswer guide b (min n 255) budget (search.Solved letters)
   IsOptimumFor b moves (Refused (Moves refused)) = replay_of b moves ≡ Err refused
-  IsOptimumFor b moves (Refused (Make K1)) = (n : ℕ) × Solves b moves n × IsAnswer v b (min n 255) budget search.Spent
+  IsOptimumFor b moves (Refused (Make K1)) = (n : ℕ) × Solves b moves n × IsAnswer guide b (min n 255) budget search.Spent
   IsOptimumFor b moves (Refused (Make K2)) = (n : ℕ) × Solves b moves n × (255 < n) × IsRefuted b (min n 255)
   IsOptimumFor b moves _ = ⊥
 
@@ -51,8 +51,8 @@ module _ (v : ShownBundle) (budget : ℕ) where
   -- the blank's parity
   abbrev pub IsBoundFor : List ℕ → ℕ → Found → Type 0
   IsBoundFor b r Bound = IsRefuted b r
-  IsBoundFor b r (Shorter letters) = IsAnswer v b r budget (search.Solved letters)
-  IsBoundFor b r (Refused (Make K1)) = IsAnswer v b r budget search.Spent
+  IsBoundFor b r (Shorter letters) = IsAnswer guide b r budget (search.Solved letters)
+  IsBoundFor b r (Refused (Make K1)) = IsAnswer guide b r budget search.Spent
   IsBoundFor b r (Refused (Make K2)) = ¬ HasTheBlanksParity b
   IsBoundFor b r _ = ⊥
 
@@ -81,10 +81,10 @@ told_of b asks (Shorter letters) = line.shorter letters.items (record { board = 
 told_of b asks (Refused refused) = line.refused (words_of refused) (record { board = b; asks = asks })
 told_of b asks _ = line.refused [] (record { board = b; asks = asks })
 
--- this is told of the claim, over the sets and for the budget
-pub record IsToldOf (v : ShownBundle) (budget : ℕ) (claim : ShownClaim) (told : Told) : Type 0 where
+-- this is told of the claim, by the search and for the budget
+pub record IsToldOf (guide : ShownGuide) (budget : ℕ) (claim : ShownClaim) (told : Told) : Type 0 where
   pub found : Found
-  pub is_found : IsFoundFor v budget claim found
+  pub is_found : IsFoundFor guide budget claim found
   pub is_told : told ≡ told_of claim.board claim.asks found
 
 -- it is a yes

@@ -3,9 +3,9 @@
 ghost use Rattle.std.specs.Prelude.{◌≡◌, ℕ, IfErr, IfOk, IfSome, List, min};
 ghost use Rattle.puz_board.specs.Boards.{side_of};
 ghost use Rattle.puz_board.specs.MovesTexts.{Solves};
-ghost use Rattle.set_sum.specs.Bundles.{ShownBundle};
 ghost use Rattle.claim_text.specs.Shown.{claim_shown};
 ghost use Rattle.puz_search.specs.Answers.{IsAnswer, IsDeepened};
+ghost use Rattle.puz_search.specs.Guides.{ShownGuide};
 ghost use Rattle.pdb_prove.specs.Answers.{IsBoundFor, IsFoundFor, IsOptimumFor, IsShortestFor, is_found_yes};
 ghost use Rattle.pdb_prove.specs.Steps.{IsAskedOf, is_spent};
 
@@ -13,8 +13,7 @@ use claim_text::{Asks, Claim};
 use pdb_verdict::{Fault, MakeRefusal};
 use puz_board::{Board, replay};
 use puz_make::is_solvable;
-use puz_search::{Answer, Deepened, Letters, refute, refute_by, shortest, shortest_by};
-use set_sum::Bundle;
+use puz_search::{Answer, Deepened, Guide, Letters, refute, refute_by, shortest, shortest_by};
 use std::thread::Threads;
 use work_run::{Gate, Workers};
 
@@ -53,57 +52,54 @@ impl Found {
 const FEW_BOARDS: u64 = 1 << 16;
 
 /// What is found for a claim by one thread that expands few boards, where these are enough.
-pub(crate) fn answer_soon(bundle: &Bundle<'_>, claim: &Claim<'_>, budget: u64) -> Option<Found>
-    requires { side_of claim.now.board ≡ bundle.now.side }
-    ensures { IfSome result (IsFoundFor bundle.now budget (claim_shown claim.now)) }
+pub(crate) fn answer_soon(guide: &Guide<'_>, claim: &Claim<'_>, budget: u64) -> Option<Found>
+    requires { side_of claim.now.board ≡ guide.now.bundle.side }
+    ensures { IfSome result (IsFoundFor guide.now budget (claim_shown claim.now)) }
 {
     if budget <= FEW_BOARDS {
-        return Some(answer_alone(bundle, claim, budget));
+        return Some(answer_alone(guide, claim, budget));
     }
-    let found = answer_alone(bundle, claim, FEW_BOARDS);
+    let found = answer_alone(guide, claim, FEW_BOARDS);
     if found.is_spent() { None } else { Some(found) }
 }
 
 /// What is found for a claim by one thread that expands at most so many boards.
-fn answer_alone(bundle: &Bundle<'_>, claim: &Claim<'_>, budget: u64) -> Found
-    requires { side_of claim.now.board ≡ bundle.now.side }
-    ensures { IsFoundFor bundle.now budget (claim_shown claim.now) result }
+fn answer_alone(guide: &Guide<'_>, claim: &Claim<'_>, budget: u64) -> Found
+    requires { side_of claim.now.board ≡ guide.now.bundle.side }
+    ensures { IsFoundFor guide.now budget (claim_shown claim.now) result }
 {
     let board = &claim.board;
     match asked_of(claim) {
-        Ok(Question::Shortest) => found_shortest(board, shortest(bundle, board, budget)),
+        Ok(Question::Shortest) => found_shortest(board, shortest(guide, board, budget)),
         Ok(Question::Moves(count)) => {
-            found_moves(count, refute(bundle, board, bound_of(count), budget))
+            found_moves(count, refute(guide, board, bound_of(count), budget))
         }
-        Ok(Question::Bound(bound)) => found_bound(refute(bundle, board, bound, budget)),
+        Ok(Question::Bound(bound)) => found_bound(refute(guide, board, bound, budget)),
         Err(refused) => Found::Refused(refused),
     }
 }
 
 /// What is found for a claim by all workers, which expand at most so many boards together.
 pub(crate) fn answer_by<R: Threads + Sync, G: Gate + Sync>(
-    bundle: &Bundle<'_>,
+    guide: &Guide<'_>,
     claim: &Claim<'_>,
     budget: u64,
     workers: &Workers<'_, R, G>,
 ) -> Found
-    requires { side_of claim.now.board ≡ bundle.now.side }
-    ensures { IsFoundFor bundle.now budget (claim_shown claim.now) result }
+    requires { side_of claim.now.board ≡ guide.now.bundle.side }
+    ensures { IsFoundFor guide.now budget (claim_shown claim.now) result }
 {
     let board = &claim.board;
     match asked_of(claim) {
         Ok(Question::Shortest) => {
-            found_shortest(board, shortest_together(bundle, board, budget, workers))
+            found_shortest(board, shortest_together(guide, board, budget, workers))
         }
         Ok(Question::Moves(count)) => {
             let bound = bound_of(count);
-            found_moves(
-                count,
-                refute_together(bundle, board, bound, budget, workers),
-            )
+            found_moves(count, refute_together(guide, board, bound, budget, workers))
         }
         Ok(Question::Bound(bound)) => {
-            found_bound(refute_together(bundle, board, bound, budget, workers))
+            found_bound(refute_together(guide, board, bound, budget, workers))
         }
         Err(refused) => Found::Refused(refused),
     }
@@ -123,8 +119,8 @@ enum Question {
 /// What is to be searched for, where the claim isn't refused without a search.
 fn asked_of(claim: &Claim<'_>) -> Result<Question, Fault>
     ensures ok { IfOk result (IsAskedOf (claim_shown claim.now)) }
-    ensures err { IfErr result (λ refused. (v : ShownBundle) (budget : ℕ)
-        → IsFoundFor v budget (claim_shown claim.now) (Found.Refused refused)) }
+    ensures err { IfErr result (λ refused. (guide : ShownGuide) (budget : ℕ)
+        → IsFoundFor guide budget (claim_shown claim.now) (Found.Refused refused)) }
 {
     match claim.asks {
         Asks::Moves(moves) => match replay(&claim.board, moves) {
@@ -146,9 +142,9 @@ fn bound_of(count: u16) -> u8
 
 /// What is found where a shortest solution of a board is asked for and a search answers this.
 fn found_shortest(board: &Board, deepened: Deepened) -> Found
-    requires { (v : ShownBundle) × (budget : ℕ) × IsDeepened v board.now budget deepened }
-    ensures { (v : ShownBundle) (budget : ℕ) → IsDeepened v board.now budget deepened
-        → IsShortestFor v budget board.now result }
+    requires { (guide : ShownGuide) × (budget : ℕ) × IsDeepened guide board.now budget deepened }
+    ensures { (guide : ShownGuide) (budget : ℕ) → IsDeepened guide board.now budget deepened
+        → IsShortestFor guide budget board.now result }
 {
     match deepened {
         Deepened::Shortest(letters) => match replay(board, letters.as_slice()) {
@@ -162,8 +158,9 @@ fn found_shortest(board: &Board, deepened: Deepened) -> Found
 
 /// What is found where so many moves solve a board and a search for a shorter solution answers this.
 fn found_moves(count: u16, answer: Answer) -> Found
-    ensures { (v : ShownBundle) (budget : ℕ) (b moves : List ℕ) → Solves b moves count
-        → IsAnswer v b (min count 255) budget answer → IsOptimumFor v budget b moves result }
+    ensures { (guide : ShownGuide) (budget : ℕ) (b moves : List ℕ) → Solves b moves count
+        → IsAnswer guide b (min count 255) budget answer
+        → IsOptimumFor guide budget b moves result }
 {
     match answer {
         Answer::Refuted(_) if count <= 255 => Found::Optimum(count),
@@ -175,8 +172,8 @@ fn found_moves(count: u16, answer: Answer) -> Found
 
 /// What is found where a bound is claimed and a search for a solution of fewer moves answers this.
 fn found_bound(answer: Answer) -> Found
-    ensures { (v : ShownBundle) (budget : ℕ) (b : List ℕ) (r : ℕ) → IsAnswer v b r budget answer
-        → IsBoundFor v budget b r result }
+    ensures { (guide : ShownGuide) (budget : ℕ) (b : List ℕ) (r : ℕ)
+        → IsAnswer guide b r budget answer → IsBoundFor guide budget b r result }
 {
     match answer {
         Answer::Refuted(_) => Found::Bound,
@@ -187,33 +184,33 @@ fn found_bound(answer: Answer) -> Found
 
 /// As `refute_by`, or where workers can't be started as `refute`.
 fn refute_together<R: Threads + Sync, G: Gate + Sync>(
-    bundle: &Bundle<'_>,
+    guide: &Guide<'_>,
     board: &Board,
     bound: u8,
     budget: u64,
     workers: &Workers<'_, R, G>,
 ) -> Answer
-    requires { side_of board.now ≡ bundle.now.side }
-    ensures { IsAnswer bundle.now board.now bound budget result }
+    requires { side_of board.now ≡ guide.now.bundle.side }
+    ensures { IsAnswer guide.now board.now bound budget result }
 {
-    match refute_by(bundle, board, bound, budget, workers) {
+    match refute_by(guide, board, bound, budget, workers) {
         Ok(answer) => answer,
-        Err(_) => refute(bundle, board, bound, budget),
+        Err(_) => refute(guide, board, bound, budget),
     }
 }
 
 /// As `shortest_by`, or where workers can't be started as `shortest`.
 fn shortest_together<R: Threads + Sync, G: Gate + Sync>(
-    bundle: &Bundle<'_>,
+    guide: &Guide<'_>,
     board: &Board,
     budget: u64,
     workers: &Workers<'_, R, G>,
 ) -> Deepened
-    requires { side_of board.now ≡ bundle.now.side }
-    ensures { IsDeepened bundle.now board.now budget result }
+    requires { side_of board.now ≡ guide.now.bundle.side }
+    ensures { IsDeepened guide.now board.now budget result }
 {
-    match shortest_by(bundle, board, budget, workers) {
+    match shortest_by(guide, board, budget, workers) {
         Ok(deepened) => deepened,
-        Err(_) => shortest(bundle, board, budget),
+        Err(_) => shortest(guide, board, budget),
     }
 }

@@ -14,7 +14,7 @@ use crate::telling::line_on;
 use byte_io::streams::WriteFault;
 use claim_text::Claim;
 use pdb_run::Io;
-use set_sum::Bundle;
+use puz_search::Guide;
 use std::thread::Threads;
 use work_run::{Gate, Workers};
 use work_share::{Task, share};
@@ -22,15 +22,15 @@ use work_share::{Task, share};
 /// How many claims a batch has.
 const BATCH: usize = 1024;
 
-/// Claims over a bundle of the side of their boards, and how many boards may be expanded for each.
+/// Claims, a guide to boards of their side, and how many boards may be expanded for each.
 #[derive(Drop)]
 pub(crate) struct Batch<'a> {
-    pub(crate) bundle: &'a Bundle<'a>,
+    pub(crate) guide: &'a Guide<'a>,
     pub(crate) claims: &'a [Claim<'a>],
     pub(crate) budget: u64,
     /// The number of the first claim.
     pub(crate) first: u64,
-    ghost sides: { All (λ claim. side_of claim.board ≡ bundle.now.side) claims.now },
+    ghost sides: { All (λ claim. side_of claim.board ≡ guide.now.bundle.side) claims.now },
 }
 
 impl<'a> Task for Batch<'a> {
@@ -42,14 +42,14 @@ impl<'a> Task for Batch<'a> {
     ghost jobs = { λ batch. length batch.claims.now };
 
     ghost gives = { λ batch number found.
-        IfSome found (IsFoundAt batch.bundle.now batch.budget batch.claims.now number) };
+        IfSome found (IsFoundAt batch.guide.now batch.budget batch.claims.now number) };
 
     fn count(&self) -> usize {
         self.claims.len()
     }
 
     fn run(&self, number: usize) -> Option<Found> {
-        answer_soon(self.bundle, &self.claims[number], self.budget)
+        answer_soon(self.guide, &self.claims[number], self.budget)
     }
 }
 
@@ -62,24 +62,24 @@ struct Known<'a> {
 
 /// Tells all claims in their order: whether all of them are answered with a yes.
 pub(crate) fn tell_all<'x, H: Threads + Sync, G: Gate + Sync, I: Io>(
-    bundle: &'x Bundle<'x>,
+    guide: &'x Guide<'x>,
     claims: &'x [Claim<'x>],
     budget: u64,
     workers: &Workers<'_, H, G>,
     io: &mut I,
 ) -> Result<bool, WriteFault>
-    requires sides { All (λ claim. side_of claim.board ≡ bundle.now.side) claims.now }
+    requires sides { All (λ claim. side_of claim.board ≡ guide.now.bundle.side) claims.now }
     requires few { All (λ claim. HasFewLetters (claim_shown claim)) claims.now }
     ensures same_streams { I.streams io.new ≡ I.streams io.old }
     ensures told { let shown = map claim_shown claims.now in
-        AreTold bundle.now budget shown (I.world io.old) (I.world io.new) result }
+        AreTold guide.now budget shown (I.world io.old) (I.world io.new) result }
 {
     let mut told = 0;
     let mut all_yes = true;
     while told < claims.len() {
         let (next, _) = claims[told..].split_at(BATCH.min(claims.len() - told));
         let batch = Batch {
-            bundle,
+            guide,
             claims: next,
             budget,
             first: told as u64,
@@ -102,7 +102,7 @@ fn tell_batch<H: Threads + Sync, G: Gate + Sync, I: Io>(
     requires few { All (λ claim. HasFewLetters (claim_shown claim)) batch.now.claims.now }
     ensures same_streams { I.streams io.new ≡ I.streams io.old }
     ensures told { let batch = batch.now in let shown = map claim_shown batch.claims.now in
-        AreTold batch.bundle.now batch.budget shown (I.world io.old) (I.world io.new) result }
+        AreTold batch.guide.now batch.budget shown (I.world io.old) (I.world io.new) result }
 {
     // Where workers can't be started, all claims are left to be searched for one by one.
     match share(batch, workers) {
@@ -122,11 +122,11 @@ fn tell_each<H: Threads + Sync, G: Gate + Sync, I: Io>(
 ) -> Result<bool, WriteFault>
     requires few { All (λ claim. HasFewLetters (claim_shown claim)) known.now.batch.now.claims.now }
     requires right { let b = known.now.batch.now in
-        AreFoundSoon b.bundle.now b.budget b.claims.now known.now.soon.now }
+        AreFoundSoon b.guide.now b.budget b.claims.now known.now.soon.now }
     ensures same_streams { I.streams io.new ≡ I.streams io.old }
     ensures told { let batch = known.now.batch.now in
         let shown = map claim_shown batch.claims.now in
-        AreTold batch.bundle.now batch.budget shown (I.world io.old) (I.world io.new) result }
+        AreTold batch.guide.now batch.budget shown (I.world io.old) (I.world io.new) result }
 {
     let mut all_yes = true;
     for (number, claim) in known.batch.claims.iter().enumerate() {
@@ -147,13 +147,13 @@ fn tell_next<H: Threads + Sync, G: Gate + Sync, I: Io>(
     io: &mut I,
 ) -> Result<bool, WriteFault>
     requires claim { claim.now ≡ slice_index_or known.now.batch.now.claims.now number claim.now }
-    requires side { side_of claim.now.board ≡ known.now.batch.now.bundle.now.side }
+    requires side { side_of claim.now.board ≡ known.now.batch.now.guide.now.bundle.side }
     requires few { HasFewLetters (claim_shown claim.now) }
     requires right { let b = known.now.batch.now in
-        AreFoundSoon b.bundle.now b.budget b.claims.now known.now.soon.now }
+        AreFoundSoon b.guide.now b.budget b.claims.now known.now.soon.now }
     ensures same_streams { I.streams io.new ≡ I.streams io.old }
     ensures told { let batch = known.now.batch.now in let shown = claim_shown claim.now ∷ [] in
-        AreTold batch.bundle.now batch.budget shown (I.world io.old) (I.world io.new) result }
+        AreTold batch.guide.now batch.budget shown (I.world io.old) (I.world io.new) result }
 {
     match known.soon.get(number) {
         Some(Some(found)) => tell(known.batch, claim, found, io),
@@ -169,14 +169,14 @@ fn search_and_tell<H: Threads + Sync, G: Gate + Sync, I: Io>(
     workers: &Workers<'_, H, G>,
     io: &mut I,
 ) -> Result<bool, WriteFault>
-    requires side { side_of claim.now.board ≡ batch.now.bundle.now.side }
+    requires side { side_of claim.now.board ≡ batch.now.guide.now.bundle.side }
     requires few { HasFewLetters (claim_shown claim.now) }
     ensures same_streams { I.streams io.new ≡ I.streams io.old }
     ensures told { let batch = batch.now in let shown = claim_shown claim.now ∷ [] in
-        AreTold batch.bundle.now batch.budget shown (I.world io.old) (I.world io.new) result }
+        AreTold batch.guide.now batch.budget shown (I.world io.old) (I.world io.new) result }
 {
     workers.gate.asks(batch.first.saturating_add(number as u64));
-    let found = answer_by(batch.bundle, claim, batch.budget, workers);
+    let found = answer_by(batch.guide, claim, batch.budget, workers);
     tell(batch, claim, &found, io)
 }
 
@@ -189,10 +189,10 @@ fn tell<I: Io>(
 ) -> Result<bool, WriteFault>
     requires few { HasFewLetters (claim_shown claim.now) }
     requires found { let batch = batch.now in let shown = claim_shown claim.now in
-        IsFoundFor batch.bundle.now batch.budget shown found.now }
+        IsFoundFor batch.guide.now batch.budget shown found.now }
     ensures same_streams { I.streams io.new ≡ I.streams io.old }
     ensures told { let batch = batch.now in let shown = claim_shown claim.now ∷ [] in
-        AreTold batch.bundle.now batch.budget shown (I.world io.old) (I.world io.new) result }
+        AreTold batch.guide.now batch.budget shown (I.world io.old) (I.world io.new) result }
 {
     match io.write_text(line_on(claim, found).as_str()) {
         Ok(()) => Ok(found.is_yes()),

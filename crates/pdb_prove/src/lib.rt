@@ -2,6 +2,7 @@
 #![tactic(auto)]
 
 mod answers;
+mod automata;
 mod batches;
 mod inputs;
 mod ready;

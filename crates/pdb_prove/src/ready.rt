@@ -1,4 +1,4 @@
-//! What is to be known before anything is searched: the claims, and the bundle of the tables and the sets.
+//! What is to be known before anything is searched: the claims, the bundle of the tables and the sets, and an automaton.
 
 ghost use Rattle.std.specs.Prelude.{◌≡◌, ◌≤◌, ◌^◌, Bool, List, length, map, IfErr, IfNone, IfOk, IfSome};
 ghost use Rattle.std.specs.List.{All, AllByRecursion};
@@ -12,7 +12,9 @@ ghost use Rattle.pdb_verdict.specs.Bundles.{IsBundleOfFiles, IsCauseForBundle};
 ghost use Rattle.pdb_prove.specs.Prove.{AreReady, IsFirstOfAnotherSide};
 ghost use Rattle.pdb_prove.specs.Steps.{IsCauseForClaims, IsCauseForText, files_of};
 
+use crate::automata::automaton_for;
 use claim_text::{Claim, ClaimsFault, MOST_CLAIMS, read_claims};
+use move_strings::Automaton;
 use pdb_verdict::{BundleRefusal, Failure, Fault, Tables, read_bundle};
 use set_sum::Bundle;
 use std::alloc::Global;
@@ -20,12 +22,14 @@ use std::sync::Wait;
 use std::thread::Threads;
 use work_run::{Gate, Workers};
 
-/// Claims, and a bundle of the side of their boards.
+/// Claims, and a bundle and an automaton of the side of their boards.
 #[derive(Drop)]
 pub(crate) struct Ready<'b, 'c> {
     pub(crate) claims: Vec<Claim<'c>>,
     pub(crate) bundle: Bundle<'b>,
+    pub(crate) automaton: Automaton,
     ghost sides: { All (λ claim. side_of claim.board ≡ bundle.side) claims.items },
+    ghost one_side: { automaton.side ≡ bundle.side },
 }
 
 /// The claims of a text, and the bundle of table files and a set text. Or the first refusal that stands: `Q1` of a line that is no
@@ -46,7 +50,7 @@ pub(crate) fn ready_for<'b, 'c, H: Threads + Wait, G: Gate + Sync>(
 {
     let claims = claims_in(workers.alloc, text)?;
     let bundle = read_bundle(tables, sets, workers);
-    ready_with(claims, bundle)
+    ready_with(workers.alloc, claims, bundle)
 }
 
 /// The claims of a text.
@@ -64,8 +68,9 @@ pub(crate) fn claims_in<'c>(alloc: Global, text: &'c [u8]) -> Result<Vec<Claim<'
     }
 }
 
-/// These claims and a bundle, where there is one, and of the side of their boards.
+/// These claims and a bundle, where there is one, and of the side of their boards, with an automaton of that side.
 pub(crate) fn ready_with<'b, 'c>(
+    alloc: Global,
     claims: Vec<Claim<'c>>,
     bundle: Result<Bundle<'b>, Failure<BundleRefusal>>,
 ) -> Result<Ready<'b, 'c>, Failure<Fault>>
@@ -88,7 +93,14 @@ pub(crate) fn ready_with<'b, 'c>(
         Err(Failure::Memory) => return Err(Failure::Memory),
     };
     match first_of_another_side(claims.as_slice(), &bundle) {
-        None => Ok(Ready { claims, bundle }),
+        None => match automaton_for(alloc, bundle.side()) {
+            Ok(automaton) => Ok(Ready {
+                claims,
+                bundle,
+                automaton,
+            }),
+            Err(_) => Err(Failure::Memory),
+        },
         Some(number) => Err(Failure::Refused(Fault::Q2(number))),
     }
 }

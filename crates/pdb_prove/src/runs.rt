@@ -21,6 +21,7 @@ use pdb_run::{
     with_digest,
 };
 use pdb_verdict::{Failure, Fault, Tables, fold_bundle, line_of};
+use puz_search::Guide;
 use std::alloc::AllocError;
 use std::sync::Wait;
 use std::thread::Threads;
@@ -133,7 +134,7 @@ fn prove_folded<H: Threads + Wait + Sync, G: Gate + Sync, I: Io>(
         Ok(claims) => {
             let (mut digests, bundle) = fold_bundle(tables, sets, workers);
             with_digest(workers.rt, 1, &mut digests, text, || ());
-            let ready = ready_with(claims, bundle);
+            let ready = ready_with(workers.alloc, claims, bundle);
             tell_ready(command, Digested::Lines(digests), &ready, workers, io)
         }
         Err(failure) => {
@@ -221,11 +222,12 @@ fn answer_claims<H: Threads + Wait + Sync, G: Gate + Sync, I: Io>(
         → AreReady arguments.fold files (map claim_shown ready.now.claims.items) ready.now.bundle
         → ProveEnds arguments old (I.world io.new) result }
 {
+    let guide = Guide::new(&ready.bundle, &ready.automaton);
     let Ok(()) = io.write_answer(&digests_alone(digested)) else {
         return Status::Fault;
     };
     let budget = budget_of(command.0);
-    match tell_all(&ready.bundle, ready.claims.as_slice(), budget, workers, io) {
+    match tell_all(&guide, ready.claims.as_slice(), budget, workers, io) {
         Ok(is_yes) => status_of(is_yes),
         Err(_) => Status::Fault,
     }

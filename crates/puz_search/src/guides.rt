@@ -36,8 +36,10 @@ impl<'a> Guide<'a> {
     /// The guide of a bundle and an automaton for boards of its side.
     pub fn new(bundle: &'a Bundle<'a>, automaton: &'a Automaton) -> Guide<'a>
         requires { automaton.now.side ≡ bundle.now.side }
-        ensures { result ≡ record { bundle = bundle.now; steps = automaton.now.steps } }
+        ensures value { result ≡ record { bundle = bundle.now; steps = automaton.now.steps } }
+        ensures guide { IsGuide result }
     {
+        let _sides = (bundle.side(), automaton.side());
         Guide { bundle, automaton }
     }
 

@@ -1,8 +1,9 @@
 //! Searches of more boards than one thread searches alone, of a board of side 3 with the table of a few tiles.
 
+use crate::guided::reversals;
 use crate::small_searches::{Told, bundle, searched};
 use puz_board::Board;
-use puz_search::{Answer, refute_by};
+use puz_search::{Answer, Guide, refute_by};
 use samples::LeastCosts;
 use set_sum::Bundle;
 use std::process::Abort;
@@ -28,13 +29,15 @@ fn refuted<R: Threads + Wait + Sync + AllocGlobal + Abort>(
     if board.side() != bundle.side() {
         panic!(rt; "of side 3");
     }
+    let automaton = reversals(rt, board.side());
+    let guide = Guide::new(bundle, &automaton);
     let workers = match count {
         1..=64 => Workers::new(rt, rt.alloc(), count, &OpenGate),
         _ => panic!(rt; "1 to 64 workers"),
     };
-    let answer = match refute_by(bundle, &board, BOUND, budget, &workers) {
+    let answer = match refute_by(&guide, &board, BOUND, budget, &workers) {
         Ok(answer) => answer,
-        Err(_) => refute_by(bundle, &board, BOUND, budget, &workers).expect(rt, "memory"),
+        Err(_) => refute_by(&guide, &board, BOUND, budget, &workers).expect(rt, "memory"),
     };
     match answer {
         Answer::Refuted(boards) => Some(boards),

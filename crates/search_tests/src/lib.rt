@@ -2,6 +2,8 @@
 #![tactic(auto)]
 
 #[cfg(test)]
+mod guided;
+#[cfg(test)]
 mod large_searches;
 #[cfg(test)]
 mod shares;

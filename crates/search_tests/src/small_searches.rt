@@ -1,8 +1,9 @@
 //! Searches of the boards of side 2, whose solutions are known.
 
+use crate::guided::reversals;
 use arrayvec::ArrayVec;
 use puz_board::{Board, replay};
-use puz_search::{Answer, Deepened, Letters, refute, refute_by, shortest, shortest_by};
+use puz_search::{Answer, Deepened, Guide, Letters, refute, refute_by, shortest, shortest_by};
 use samples::boards::RING;
 use samples::files::{TILE_1, TILES_123};
 use set_sum::{Bundle, Part};
@@ -73,12 +74,14 @@ pub(crate) fn searched<R: Threads + Wait + Sync + AllocGlobal + Abort>(
     if board.side() != bundle.side() {
         panic!(rt; "of the bundle's side");
     }
-    let alone = tell(rt, &board, refute(bundle, &board, bound, budget));
+    let automaton = reversals(rt, board.side());
+    let guide = Guide::new(bundle, &automaton);
+    let alone = tell(rt, &board, refute(&guide, &board, bound, budget));
     for count in WORKERS {
         let workers = Workers::new(rt, rt.alloc(), count, &OpenGate);
-        let answer = match refute_by(bundle, &board, bound, budget, &workers) {
+        let answer = match refute_by(&guide, &board, bound, budget, &workers) {
             Ok(answer) => answer,
-            Err(_) => refute_by(bundle, &board, bound, budget, &workers).expect(rt, "memory"),
+            Err(_) => refute_by(&guide, &board, bound, budget, &workers).expect(rt, "memory"),
         };
         assert_eq!(rt;
             tell(rt, &board, answer),
@@ -117,12 +120,14 @@ pub(crate) fn deepened<R: Threads + Wait + Sync + AllocGlobal + Abort>(
     if board.side() != bundle.side() {
         panic!(rt; "of the bundle's side");
     }
-    let alone = reached(rt, &board, shortest(bundle, &board, budget));
+    let automaton = reversals(rt, board.side());
+    let guide = Guide::new(bundle, &automaton);
+    let alone = reached(rt, &board, shortest(&guide, &board, budget));
     for count in WORKERS {
         let workers = Workers::new(rt, rt.alloc(), count, &OpenGate);
-        let found = match shortest_by(bundle, &board, budget, &workers) {
+        let found = match shortest_by(&guide, &board, budget, &workers) {
             Ok(found) => found,
-            Err(_) => shortest_by(bundle, &board, budget, &workers).expect(rt, "memory"),
+            Err(_) => shortest_by(&guide, &board, budget, &workers).expect(rt, "memory"),
         };
         assert_eq!(rt;
             reached(rt, &board, found),
@@ -134,7 +139,7 @@ pub(crate) fn deepened<R: Threads + Wait + Sync + AllocGlobal + Abort>(
 }
 
 /// The board with its tiles 1 and 2 exchanged, which the goal board isn't reached from.
-fn with_two_exchanged<R: Abort>(rt: &R, numbers: &[u8; 4]) -> [u8; 4] {
+pub(crate) fn with_two_exchanged<R: Abort>(rt: &R, numbers: &[u8; 4]) -> [u8; 4] {
     let mut exchanged = *numbers;
     for number in &mut exchanged {
         *number = match *number {

@@ -1,5 +1,4 @@
-use Rattle.std.proofs.Common.{◌≡◌, ◌∙◌, Ok, Err, ap, sym}
-use Rattle.puz_board.specs.MovesTexts.{Solves}
+use Rattle.std.proofs.Common.{◌≡◌, ◌∙◌, sym}
 use Rattle.pdb_prove.proofs.answers.found_shortest.Goals as goal
 
 pub unreachable-requires : goal.unreachable-requires

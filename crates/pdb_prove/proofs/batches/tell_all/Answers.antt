@@ -1,4 +1,4 @@
-use Rattle.std.proofs.Common.{◌∙◌, arith, length, map}
+use Rattle.std.proofs.Common.{◌∙◌, arith, map}
 use Rattle.claim_text.specs.Shown.{claim_shown}
 use Rattle.pdb_prove.proofs.TellingLemmas.{batch_shown, next_cut, next_told}
 use Rattle.pdb_prove.proofs.batches.tell_all.Goals as goal
