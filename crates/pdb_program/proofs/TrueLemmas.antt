@@ -92,6 +92,7 @@ module _ (guide : ShownGuide) (budget : ℕ) where
   found_true b claims.shortest (Shortest n letters) board is = (board, is.0, is.1)
   found_true b claims.shortest (Shorter letters) board is = absurd is
   found_true b claims.shortest (Refused refused) board is = refused_words refused
+
 module _ (v : ShownBundle) (budget : ℕ) where
   -- so each of them is
   each_true : (claims : List ShownClaim) (told : List Told) → HaveBoards claims → AllZip (IsToldOf v budget) claims told

@@ -47,6 +47,7 @@ pub(crate) struct Running<'a> {
 
 impl<'a, G: Gate> SearchNodes<'a, G> {
     /// Searches below the nodes of a group by lanes that take turns, until all are over.
+    #[inline(never)] // so that a small search hasn't its lanes on the stack
     pub(crate) fn search_group(&self, group: &Group) -> Outcomes
         requires { IsGroupOf self.now.nodes.now group.now }
         ensures { AreTold self.now.task.now self.now.nodes.now group.now.first result }
