@@ -1,19 +1,19 @@
 -- How a run of claims ends that are ready.
-use Rattle.std.proofs.Common.{◌≡◌, ◌∙◌, ◌++◌, ap, ℕ, Bool, List, [], ◌∷◌, Ok, Err, inl, inr, refl, subst, sym}
+use Rattle.std.proofs.Common.{◌≡◌, ◌∙◌, ◌++◌, ap, ℕ, Bool, List, [], ◌∷◌, Ok, Err, Some, None, inl, inr, refl, sym}
 use Rattle.std.proofs.lemmas.Grind.{flat_map-append}
 use Rattle.std.proofs.lemmas.List.{append-nil}
 use Rattle.set_sum.specs.Bundles.{ShownBundle}
-use Rattle.puz_search.specs.Guides.{IsGuide, ShownGuide}
 use Rattle.claim_text.specs.Claims.{ShownClaim}
 use Rattle.byte_io.specs.Shelf.{Bytes}
 use Rattle.byte_io.specs.declared.streams.WriteFault.{WriteFault}
+use Rattle.byte_io.proofs.Appending.{writes_behind}
 use Rattle.pdb_request.specs.Asked.{ProveArguments}
 use Rattle.pdb_run.specs.Io.{HasRead, IsWritten}
 use Rattle.pdb_run.specs.Runs.{World, replied, status_of_reply}
 use Rattle.pdb_run.specs.Writing.{digest_line, digests_of}
 use Rattle.pdb_run.specs.declared.statuses.Status.{Status}
 use Rattle.pdb_run.specs.declared.statuses.Status.TheVariants.{Fault}
-use Rattle.pdb_prove.specs.Prove.{AreReady, ClaimsFiles, ProveEnds, answered, budget_of, digested_files, in_order, prove_inputs, reply_to_claims}
+use Rattle.pdb_prove.specs.Prove.{AreReady, ClaimsFiles, ProveEnds, answered, budget_of, digested_files, in_order, prove_inputs, reply_to_claims, told_lines}
 use Rattle.pdb_verdict.specs.declared.refusals.Failure.{Failure}
 use Rattle.pdb_verdict.specs.declared.refusals.Failure.TheVariants.{Memory, Refused}
 use Rattle.pdb_verdict.specs.declared.verdicts.Fault as verdict
@@ -30,13 +30,8 @@ pub text_cause : (fold : Bool) (files : ClaimsFiles) (cause : Failure verdict.Fa
 text_cause fold files (Refused refused) is = inl is
 text_cause fold files Memory is = is
 
--- the claims are ready for a search that the bundle leads
-pub ready_by : {fold : Bool} {files : ClaimsFiles} {claims : List ShownClaim} {bundle : ShownBundle} {steps : List ℕ} {guide : ShownGuide} → guide ≡ record { bundle = bundle; steps = steps }
-    → AreReady fold files claims bundle → AreReady fold files claims guide.bundle
-ready_by {fold} {files} {claims} is ready = subst (λ v. AreReady fold files claims v) (sym (ap (λ g. g.bundle) is)) ready
-
-module _ (arguments : ProveArguments) (files : ClaimsFiles) {old read : World} (claims : List ShownClaim) (guide : ShownGuide) (is_guide : IsGuide guide)
-    (are : HasRead (prove_inputs arguments) old read (in_order files)) (ready : AreReady arguments.fold files claims guide.bundle) where
+module _ (arguments : ProveArguments) (files : ClaimsFiles) {old read : World} (claims : List ShownClaim) (v : ShownBundle)
+    (are : HasRead (prove_inputs arguments) old read (in_order files)) (ready : AreReady arguments.fold files claims v) where
   -- the digests were cut
   pub head_cut : {new : World} {fault : WriteFault} → IsWritten (digests_of (digested_files files)) read new (Err fault) → ProveEnds arguments old new Fault
   head_cut {new} {fault} head = inr (record {
@@ -44,8 +39,7 @@ module _ (arguments : ProveArguments) (files : ClaimsFiles) {old read : World} (
     read = are.read;
     first = [];
     others = claims;
-    guide = guide;
-    is_guide = is_guide;
+    bundle = v;
     ready = ready;
     told = [];
     each = tt;
@@ -58,15 +52,14 @@ module _ (arguments : ProveArguments) (files : ClaimsFiles) {old read : World} (
 
   module _ {mid : World} (head : IsWritten (digests_of (digested_files files)) read mid (Ok tt)) where
     -- the lines were cut
-    pub lines_cut : {new : World} → AreCut guide (budget_of arguments.budget) mid new claims → ProveEnds arguments old new Fault
+    pub lines_cut : {new : World} → AreCut v (budget_of arguments.budget) mid new claims → ProveEnds arguments old new Fault
     lines_cut {new} cut =
         let all = written_behind head cut.written in inr (record {
           files = files;
           read = are.read;
           first = cut.first;
           others = cut.others;
-          guide = guide;
-          is_guide = is_guide;
+          bundle = v;
           ready = rw (← cut.order) ready;
           told = cut.told;
           each = cut.each;
@@ -78,7 +71,7 @@ module _ (arguments : ProveArguments) (files : ClaimsFiles) {old read : World} (
         })
 
     -- all lines were written
-    pub all_answered : {new : World} {is_yes : Bool} (status : Status) → AreAllTold guide (budget_of arguments.budget) mid new claims is_yes
+    pub all_answered : {new : World} {is_yes : Bool} (status : Status) → AreAllTold v (budget_of arguments.budget) mid new claims is_yes
         → status ≡ status_of_reply is_yes → ProveEnds arguments old new status
     all_answered {new} {is_yes} status all is =
         let whole = written_behind head all.written in
@@ -91,7 +84,7 @@ module _ (arguments : ProveArguments) (files : ClaimsFiles) {old read : World} (
               refl,
               record {
                 outcome = answered all.told;
-                is_outcome = record { claims = claims; guide = guide; is_guide = is_guide; ready = ready; each = all.each };
+                is_outcome = record { claims = claims; bundle = v; ready = ready; each = all.each };
                 told = refl;
               },
             ),

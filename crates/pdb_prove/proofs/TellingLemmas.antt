@@ -1,11 +1,12 @@
 -- Lines that are told one after the other.
-use Rattle.std.proofs.Common.{◌≡◌, ◌∙◌, ◌+◌, ◌-◌, ◌<◌, ◌≤◌, ◌&&◌, ap, ℕ, Bool, true, false, List, [], ◌∷◌, ◌++◌, Result, Ok, Err, append_assoc, arith, drop, get_or, length, map, refl, subst, sym, take, take-append-drop}
+use Rattle.std.proofs.Common.{◌≡◌, ◌∙◌, ◌+◌, ◌-◌, ◌<◌, ◌≤◌, ◌&&◌, ap, ℕ, zero, suc, Bool, true, false, List, [], ◌∷◌, ◌++◌, Result, Ok, Err, append_assoc, arith, drop, get_or, length, map, refl, subst, sym, take, take-append-drop}
 use Rattle.std.specs.List.{AllZip}
 use Rattle.std.proofs.KnownBytes.{Appends-nil}
 use Rattle.std.proofs.Math.Seq.{take-add}
 use Rattle.std.proofs.lemmas.Grind.{common_steps, flat_map-append}
 use Rattle.std.proofs.lemmas.List.{append-nil, drop-map, drop_more, take-map}
 use Rattle.std.proofs.lemmas.List.Folds.{list_all-append}
+use Rattle.set_sum.specs.Bundles.{ShownBundle}
 use Rattle.puz_search.specs.Guides.{ShownGuide}
 use Rattle.claim_text.specs.Claims as claims
 use Rattle.claim_text.specs.Claims.{ShownAsks, ShownClaim}
@@ -17,8 +18,9 @@ use Rattle.byte_io.specs.declared.streams.WriteFault.{WriteFault}
 use Rattle.byte_io.proofs.Appending.{writes_behind}
 use Rattle.pdb_run.specs.Io.{IsWritten}
 use Rattle.pdb_run.specs.Runs.{World}
-use Rattle.pdb_prove.specs.Answers.{IsFoundFor, IsFoundOf, IsToldOf, is_found_yes, is_yes, told_of}
-use Rattle.pdb_prove.specs.Steps.{AreAllTold, AreCut}
+use Rattle.pdb_prove.specs.Answers.{IsFoundFor, IsFoundOf, IsToldOf, are_yes, is_found_yes, is_yes, told_of}
+use Rattle.pdb_prove.specs.Prove.{told_lines}
+use Rattle.pdb_prove.specs.Steps.{AreAllTold, AreCut, AreTold}
 use Rattle.pdb_prove.specs.declared.answers.Found.{Found}
 use Rattle.pdb_prove.specs.declared.answers.Found.TheVariants.{Bound, Optimum, Refused, Shorter, Shortest}
 
@@ -36,42 +38,42 @@ written_behind {a} {b} {c} {xs} {ys} {r} p q = record {
 }
 
 -- what is told of two lists of claims, one behind the other
-pub zip_behind : (guide : ShownGuide) (budget : ℕ) (xs : List ShownClaim) (ys : List Told) (more : List ShownClaim) (rest : List Told)
-    → AllZip (IsToldOf guide budget) xs ys → AllZip (IsToldOf guide budget) more rest → AllZip (IsToldOf guide budget) (xs ++ more) (ys ++ rest)
-zip_behind guide budget [] [] more rest p q = q
-zip_behind guide budget (x ∷ xs) (y ∷ ys) more rest p q = (p.0, zip_behind guide budget xs ys more rest p.1 q)
-zip_behind guide budget _ _ more rest p q = absurd p
+pub zip_behind : (v : ShownBundle) (budget : ℕ) (xs : List ShownClaim) (ys : List Told) (more : List ShownClaim) (rest : List Told)
+    → AllZip (IsToldOf v budget) xs ys → AllZip (IsToldOf v budget) more rest → AllZip (IsToldOf v budget) (xs ++ more) (ys ++ rest)
+zip_behind v budget [] [] more rest p q = q
+zip_behind v budget (x ∷ xs) (y ∷ ys) more rest p q = (p.0, zip_behind v budget xs ys more rest p.1 q)
+zip_behind v budget _ _ more rest p q = absurd p
 
-module _ {guide : ShownGuide} {budget : ℕ} where
+module _ {v : ShownBundle} {budget : ℕ} where
   -- nothing was told of no claims
-  pub none_told : (w : World) → AreAllTold guide budget w w [] true
+  pub none_told : (w : World) → AreAllTold v budget w w [] true
   none_told w = record { told = []; each = tt; yes = refl; written = record { written = Appends-nil w.written; files = refl; failed = refl; reader = refl } }
 
-  module _ {a b c : World} {claims more : List ShownClaim} {y : Bool} (all : AreAllTold guide budget a b claims y) where
+  module _ {a b c : World} {claims more : List ShownClaim} {y : Bool} (all : AreAllTold v budget a b claims y) where
     -- all of some claims were told, and all of more behind them
-    pub all_behind : {z : Bool} → AreAllTold guide budget b c more z → AreAllTold guide budget a c (claims ++ more) (y && z)
+    pub all_behind : {z : Bool} → AreAllTold v budget b c more z → AreAllTold v budget a c (claims ++ more) (y && z)
     all_behind next = record {
       told = all.told ++ next.told;
-      each = zip_behind guide budget claims all.told more next.told all.each next.each;
+      each = zip_behind v budget claims all.told more next.told all.each next.each;
       yes = rw (all.yes, next.yes) (sym (list_all-append is_yes all.told next.told));
       written = rw (flat_map-append told_line all.told next.told) (written_behind all.written next.written);
     }
 
     -- or some of more
-    pub cut_behind : AreCut guide budget b c more → AreCut guide budget a c (claims ++ more)
+    pub cut_behind : AreCut v budget b c more → AreCut v budget a c (claims ++ more)
     cut_behind next = record {
       first = claims ++ next.first;
       others = next.others;
       order = rw next.order (sym (append_assoc claims next.first next.others));
       told = all.told ++ next.told;
-      each = zip_behind guide budget claims all.told next.first next.told all.each next.each;
+      each = zip_behind v budget claims all.told next.first next.told all.each next.each;
       fault = next.fault;
       written = rw (flat_map-append told_line all.told next.told) (written_behind all.written next.written);
     }
 
   -- where some were told, there may be more
-  pub cut_before : {a b : World} {claims : List ShownClaim} (more : List ShownClaim) → AreCut guide budget a b claims
-      → AreCut guide budget a b (claims ++ more)
+  pub cut_before : {a b : World} {claims : List ShownClaim} (more : List ShownClaim) → AreCut v budget a b claims
+      → AreCut v budget a b (claims ++ more)
   cut_before more cut = record {
     first = cut.first;
     others = cut.others ++ more;
@@ -82,9 +84,9 @@ module _ {guide : ShownGuide} {budget : ℕ} where
     written = cut.written;
   }
 
-  module _ {a b : World} {claim : ShownClaim} {told : Told} (is : IsToldOf guide budget claim told) where
+  module _ {a b : World} {claim : ShownClaim} {told : Told} (is : IsToldOf v budget claim told) where
     -- one claim was told
-    pub one_told : IsWritten (told_line told) a b (Ok tt) → AreAllTold guide budget a b (claim ∷ []) (is_yes told)
+    pub one_told : IsWritten (told_line told) a b (Ok tt) → AreAllTold v budget a b (claim ∷ []) (is_yes told)
     one_told written = record {
       told = told ∷ [];
       each = (is, tt);
@@ -97,7 +99,7 @@ module _ {guide : ShownGuide} {budget : ℕ} where
         one_yes false = refl
 
     -- or its line was cut
-    pub one_cut : {fault : WriteFault} → IsWritten (told_line told) a b (Err fault) → AreCut guide budget a b (claim ∷ [])
+    pub one_cut : {fault : WriteFault} → IsWritten (told_line told) a b (Err fault) → AreCut v budget a b (claim ∷ [])
     one_cut {fault} written = record {
       first = claim ∷ [];
       others = [];
@@ -130,31 +132,37 @@ yes_told guide budget b (claims.moves text) (Refused refused) is = refl
 yes_told guide budget b (claims.bound r) (Refused refused) is = refl
 
 -- its line was written whole
-pub found_told : {guide : ShownGuide} {budget : ℕ} {a b : World} (claim : ShownClaim) (found : Found) → IsFoundFor guide budget claim found
-    → IsWritten (told_line (told_of claim.board claim.asks found)) a b (Ok tt) → AreAllTold guide budget a b (claim ∷ []) (is_found_yes found)
-found_told {guide} {budget} claim found is written =
-    rw (← yes_told guide budget claim.board claim.asks found is)
+pub found_told : {v : ShownBundle} {budget : ℕ} {a b : World} (claim : ShownClaim) (found : Found) → IsFoundFor v budget claim found
+    → IsWritten (told_line (told_of claim.board claim.asks found)) a b (Ok tt) → AreAllTold v budget a b (claim ∷ []) (is_found_yes found)
+found_told {v} {budget} claim found is written =
+    rw (← yes_told is.guide budget claim.board claim.asks found is.is_found)
     (one_told (record { found = found; is_found = is; is_told = refl }) written)
 
 -- or not
-pub found_cut : {guide : ShownGuide} {budget : ℕ} {a b : World} (claim : ShownClaim) (found : Found) → IsFoundFor guide budget claim found
-    → {fault : WriteFault} → IsWritten (told_line (told_of claim.board claim.asks found)) a b (Err fault) → AreCut guide budget a b (claim ∷ [])
+pub found_cut : {v : ShownBundle} {budget : ℕ} {a b : World} (claim : ShownClaim) (found : Found) → IsFoundFor v budget claim found
+    → {fault : WriteFault} → IsWritten (told_line (told_of claim.board claim.asks found)) a b (Err fault) → AreCut v budget a b (claim ∷ [])
 found_cut claim found is written = one_cut (record { found = found; is_found = is; is_told = refl }) written
 
 -- ---- claims in a row
 
-module _ {guide : ShownGuide} {budget : ℕ} {a b c : World} (shown : List ShownClaim) (i n : ℕ) {y : Bool}
-    (all : AreAllTold guide budget a b (take i shown) y) where
+module _ {v : ShownBundle} {budget : ℕ} {a b c : World} (shown : List ShownClaim) (i n : ℕ) {y : Bool}
+    (all : AreAllTold v budget a b (take i shown) y) where
   -- the first i were told, and n behind them
-  pub next_told : {z : Bool} → AreAllTold guide budget b c (take n (drop i shown)) z → AreAllTold guide budget a c (take (i + n) shown) (y && z)
+  pub next_told : {z : Bool} → AreAllTold v budget b c (take n (drop i shown)) z → AreAllTold v budget a c (take (i + n) shown) (y && z)
   next_told next = rw (take-add i n shown) (all_behind all next)
 
   -- or some of these
-  pub next_cut : AreCut guide budget b c (take n (drop i shown)) → AreCut guide budget a c shown
+  pub next_cut : AreCut v budget b c (take n (drop i shown)) → AreCut v budget a c shown
   next_cut next =
       let whole : (take i shown ++ take n (drop i shown)) ++ drop (i + n) shown ≡ shown =
       rw (← take-add i n shown) (take-append-drop (i + n) shown) in
-      subst (λ all. AreCut guide budget a c all) whole (cut_before (drop (i + n) shown) (cut_behind all next))
+      subst (λ all. AreCut v budget a c all) whole (cut_before (drop (i + n) shown) (cut_behind all next))
+
+-- the claim with a number below the count of claims
+pub claim_at : (claims : List Claim) (i : ℕ) → i < length claims → (claim : Claim) × (claim ≡ get_or claims i claim)
+claim_at [] i low = absurd (omega (arith, low))
+claim_at (claim ∷ claims) zero low = (claim, refl)
+claim_at (claim ∷ claims) (suc i) low = claim_at claims i (omega (arith, low))
 
 -- the one claim with this number
 pub one_shown : (claims : List Claim) (i : ℕ) (claim : Claim) → i < length claims → claim ≡ get_or claims i claim

@@ -3,13 +3,14 @@ use Rattle.std.specs.Prelude.{◌≡◌, ℕ, ◌-◌, ◌<◌, ◌≤◌, ◌�
 use Rattle.std.specs.List.{list_all}
 use Rattle.puz_board.specs.MovesTexts.{Solves, replay_of}
 use Rattle.set_sum.specs.Bounds.{IsBounded}
+use Rattle.set_sum.specs.Bundles.{ShownBundle}
 use Rattle.claim_text.specs.Claims as claims
 use Rattle.claim_text.specs.Claims.{ShownAsks, ShownClaim}
 use Rattle.claim_text.specs.Lines as line
 use Rattle.claim_text.specs.Lines.{Told}
 use Rattle.puz_make.specs.Solvable.{HasTheBlanksParity}
 use Rattle.puz_search.specs.Answers.{IsAnswer, IsDeepened}
-use Rattle.puz_search.specs.Guides.{ShownGuide}
+use Rattle.puz_search.specs.Guides.{IsGuide, ShownGuide}
 use Rattle.puz_search.specs.declared.answers.Answer.TheVariants as search
 use Rattle.puz_search.specs.declared.deepening.Deepened.TheVariants as deepened
 use Rattle.byte_io.specs.Shelf.{Bytes}
@@ -63,8 +64,15 @@ module _ (guide : ShownGuide) (budget : ℕ) where
   IsFoundOf b (claims.bound r) found = IsBoundFor b r found
 
   -- for a claim
-  abbrev pub IsFoundFor : ShownClaim → Found → Type 0
-  IsFoundFor claim found = IsFoundOf claim.board claim.asks found
+  abbrev pub IsFoundBy : ShownClaim → Found → Type 0
+  IsFoundBy claim found = IsFoundOf claim.board claim.asks found
+
+-- for a claim, by a search that this bundle leads, and some automaton for boards of its side
+pub record IsFoundFor (v : ShownBundle) (budget : ℕ) (claim : ShownClaim) (found : Found) : Type 0 where
+  pub guide : ShownGuide
+  pub is_guide : IsGuide guide
+  pub leads : guide.bundle ≡ v
+  pub is_found : IsFoundBy guide budget claim found
 
 -- ---- what is told of it
 
@@ -81,10 +89,10 @@ told_of b asks (Shorter letters) = line.shorter letters.items (record { board = 
 told_of b asks (Refused refused) = line.refused (words_of refused) (record { board = b; asks = asks })
 told_of b asks _ = line.refused [] (record { board = b; asks = asks })
 
--- this is told of the claim, by the search and for the budget
-pub record IsToldOf (guide : ShownGuide) (budget : ℕ) (claim : ShownClaim) (told : Told) : Type 0 where
+-- this is told of the claim, over the bundle and for the budget
+pub record IsToldOf (v : ShownBundle) (budget : ℕ) (claim : ShownClaim) (told : Told) : Type 0 where
   pub found : Found
-  pub is_found : IsFoundFor guide budget claim found
+  pub is_found : IsFoundFor v budget claim found
   pub is_told : told ≡ told_of claim.board claim.asks found
 
 -- it is a yes

@@ -3,7 +3,6 @@ use Rattle.std.specs.Prelude.{◌≡◌, ◌≢◌, ℕ, zero, suc, ◌-◌, ◌
 use Rattle.std.specs.List.{AllByRecursion, AllZip}
 use Rattle.puz_board.specs.Boards.{side_of}
 use Rattle.set_sum.specs.Bundles.{ShownBundle}
-use Rattle.puz_search.specs.Guides.{IsGuide, ShownGuide}
 use Rattle.claim_text.specs.Claims.{ShownClaim}
 use Rattle.claim_text.specs.Texts.{AreClaims, IsFirstNoClaim}
 use Rattle.claim_text.specs.Lines.{Told, told_line}
@@ -79,13 +78,12 @@ pub data Outcome : Type 0 where
   unready : verdict.Fault → Outcome
   answered : List Told → Outcome
 
--- for claims that are ready, what is told of each, in their order: by a search that the bundle leads, and some automaton of its side
+-- for claims that are ready, what is told of each, in their order
 pub record AreAnswered (fold : Bool) (budget : ℕ) (files : ClaimsFiles) (told : List Told) : Type 0 where
   pub claims : List ShownClaim
-  pub guide : ShownGuide
-  pub is_guide : IsGuide guide
-  pub ready : AreReady fold files claims guide.bundle
-  pub each : AllZip (IsToldOf guide budget) claims told
+  pub bundle : ShownBundle
+  pub ready : AreReady fold files claims bundle
+  pub each : AllZip (IsToldOf bundle budget) claims told
 
 -- of these files
 abbrev pub IsOutcomeOf : Bool → ℕ → ClaimsFiles → Outcome → Type 0
@@ -129,7 +127,7 @@ in_order files = files.claims ∷ files.sets ∷ files.tables
 abbrev pub IsClaimsReply : Bool → ℕ → List Bytes → Reply → Type 0
 IsClaimsReply fold budget inputs reply = (files : ClaimsFiles) × (inputs ≡ in_order files) × TellsClaims fold budget files reply
 
--- to list claims takes memory, and to check the tables, to make the automaton and to search
+-- to list claims takes memory, and to check the tables and search
 abbrev pub TakesMemoryForClaims : List Bytes → Type 0
 TakesMemoryForClaims inputs = (files : ClaimsFiles) × (inputs ≡ in_order files) × (claims : List ShownClaim) × AreClaims files.claims claims
 
@@ -144,11 +142,10 @@ pub record IsCutShort (arguments : ProveArguments) (old new : World) (status : S
   pub read : AreRead old.files old.reader (prove_inputs arguments) (in_order files)
   pub first : List ShownClaim
   pub others : List ShownClaim
-  pub guide : ShownGuide
-  pub is_guide : IsGuide guide
-  pub ready : AreReady arguments.fold files (first ++ others) guide.bundle
+  pub bundle : ShownBundle
+  pub ready : AreReady arguments.fold files (first ++ others) bundle
   pub told : List Told
-  pub each : AllZip (IsToldOf guide (budget_of arguments.budget)) first told
+  pub each : AllZip (IsToldOf bundle (budget_of arguments.budget)) first told
   pub front : AppendsFront old.written new.written (digests_of (digested_files files) ++ told_lines told)
   pub same : new.files ≡ old.files
   pub failure : new.failed ≡ old.failed

@@ -1,8 +1,8 @@
 -- What the steps of a run of claims say.
-use Rattle.std.specs.Prelude.{◌≡◌, ℕ, ◌<◌, ◌++◌, Bool, true, false, List, length, slice_index_or, Option, IfSome, Result, Ok, Err, MatchResult}
+use Rattle.std.specs.Prelude.{◌≡◌, ℕ, ◌<◌, ◌++◌, Bool, true, false, List, length, slice_index_or, Option, IfSome, Result, Ok, Err, ⊤, MatchResult}
 use Rattle.std.specs.List.{AllZip}
 use Rattle.puz_board.specs.MovesTexts.{Solves}
-use Rattle.puz_search.specs.Guides.{ShownGuide}
+use Rattle.set_sum.specs.Bundles.{ShownBundle}
 use Rattle.claim_text.specs.Claims as claims
 use Rattle.claim_text.specs.Claims.{ShownAsks, ShownClaim}
 use Rattle.claim_text.specs.Lines.{Told}
@@ -10,6 +10,7 @@ use Rattle.claim_text.specs.Shown.{claim_shown}
 use Rattle.claim_text.specs.Texts.{AreClaims, IsFirstNoClaim}
 use Rattle.claim_text.specs.declared.claims.Claim.{Claim}
 use Rattle.byte_io.specs.Shelf.{Bytes}
+use Rattle.byte_io.specs.Streams.{AppendsFront}
 use Rattle.byte_io.specs.declared.streams.WriteFault.{WriteFault}
 use Rattle.pdb_run.specs.Answers.{all_bytes}
 use Rattle.pdb_run.specs.Io.{IsWritten}
@@ -63,21 +64,21 @@ is_spent _ = false
 -- ---- the claims of a batch
 
 -- this is found for the claim with the number
-abbrev pub IsFoundAt : ShownGuide → ℕ → List Claim → ℕ → Found → Type 0
-IsFoundAt guide budget all number found = (other : Claim) → IsFoundFor guide budget (claim_shown (slice_index_or all number other)) found
+abbrev pub IsFoundAt : ShownBundle → ℕ → List Claim → ℕ → Found → Type 0
+IsFoundAt v budget all number found = (other : Claim) → IsFoundFor v budget (claim_shown (slice_index_or all number other)) found
 
 -- what was found soon for some of the claims, each in its place
-abbrev pub AreFoundSoon : ShownGuide → ℕ → List Claim → List (Option Found) → Type 0
-AreFoundSoon guide budget all soon =
-    (number : ℕ) (other : Option Found) → number < length soon → IfSome (slice_index_or soon number other) (IsFoundAt guide budget all number)
+abbrev pub AreFoundSoon : ShownBundle → ℕ → List Claim → List (Option Found) → Type 0
+AreFoundSoon v budget all soon =
+    (number : ℕ) (other : Option Found) → number < length soon → IfSome (slice_index_or soon number other) (IsFoundAt v budget all number)
 
 -- ---- the lines of claims, one after the other
 
-module _ (guide : ShownGuide) (budget : ℕ) (old new : World) where
+module _ (v : ShownBundle) (budget : ℕ) (old new : World) where
   -- all claims were answered, and the lines written
   pub record AreAllTold (claims : List ShownClaim) (is_yes : Bool) : Type 0 where
     pub told : List Told
-    pub each : AllZip (IsToldOf guide budget) claims told
+    pub each : AllZip (IsToldOf v budget) claims told
     pub yes : is_yes ≡ are_yes told
     pub written : IsWritten (told_lines told) old new (Ok tt)
 
@@ -87,10 +88,10 @@ module _ (guide : ShownGuide) (budget : ℕ) (old new : World) where
     pub others : List ShownClaim
     pub order : claims ≡ first ++ others
     pub told : List Told
-    pub each : AllZip (IsToldOf guide budget) first told
+    pub each : AllZip (IsToldOf v budget) first told
     pub fault : WriteFault
     pub written : IsWritten (told_lines told) old new (Err fault)
 
 -- one of the two
-abbrev pub AreTold : ShownGuide → ℕ → List ShownClaim → World → World → Result Bool WriteFault → Type 0
-AreTold guide budget claims old new result = MatchResult result (AreAllTold guide budget old new claims) (λ _. AreCut guide budget old new claims)
+abbrev pub AreTold : ShownBundle → ℕ → List ShownClaim → World → World → Result Bool WriteFault → Type 0
+AreTold v budget claims old new result = MatchResult result (AreAllTold v budget old new claims) (λ _. AreCut v budget old new claims)

@@ -6,7 +6,7 @@ ghost use Rattle.puz_board.specs.MovesTexts.{Solves};
 ghost use Rattle.claim_text.specs.Shown.{claim_shown};
 ghost use Rattle.puz_search.specs.Answers.{IsAnswer, IsDeepened};
 ghost use Rattle.puz_search.specs.Guides.{ShownGuide};
-ghost use Rattle.pdb_prove.specs.Answers.{IsBoundFor, IsFoundFor, IsOptimumFor, IsShortestFor, is_found_yes};
+ghost use Rattle.pdb_prove.specs.Answers.{IsBoundFor, IsFoundBy, IsOptimumFor, IsShortestFor, is_found_yes};
 ghost use Rattle.pdb_prove.specs.Steps.{IsAskedOf, is_spent};
 
 use claim_text::{Asks, Claim};
@@ -49,12 +49,12 @@ impl Found {
 }
 
 /// A search that expands no more boards is one thread's work.
-const FEW_BOARDS: u64 = 1 << 16;
+pub(crate) const FEW_BOARDS: u64 = 1 << 16;
 
 /// What is found for a claim by one thread that expands few boards, where these are enough.
 pub(crate) fn answer_soon(guide: &Guide<'_>, claim: &Claim<'_>, budget: u64) -> Option<Found>
     requires { side_of claim.now.board ≡ guide.now.bundle.side }
-    ensures { IfSome result (IsFoundFor guide.now budget (claim_shown claim.now)) }
+    ensures { IfSome result (IsFoundBy guide.now budget (claim_shown claim.now)) }
 {
     if budget <= FEW_BOARDS {
         return Some(answer_alone(guide, claim, budget));
@@ -66,7 +66,7 @@ pub(crate) fn answer_soon(guide: &Guide<'_>, claim: &Claim<'_>, budget: u64) -> 
 /// What is found for a claim by one thread that expands at most so many boards.
 fn answer_alone(guide: &Guide<'_>, claim: &Claim<'_>, budget: u64) -> Found
     requires { side_of claim.now.board ≡ guide.now.bundle.side }
-    ensures { IsFoundFor guide.now budget (claim_shown claim.now) result }
+    ensures { IsFoundBy guide.now budget (claim_shown claim.now) result }
 {
     let board = &claim.board;
     match asked_of(claim) {
@@ -87,7 +87,7 @@ pub(crate) fn answer_by<R: Threads + Sync, G: Gate + Sync>(
     workers: &Workers<'_, R, G>,
 ) -> Found
     requires { side_of claim.now.board ≡ guide.now.bundle.side }
-    ensures { IsFoundFor guide.now budget (claim_shown claim.now) result }
+    ensures { IsFoundBy guide.now budget (claim_shown claim.now) result }
 {
     let board = &claim.board;
     match asked_of(claim) {
@@ -120,7 +120,7 @@ enum Question {
 fn asked_of(claim: &Claim<'_>) -> Result<Question, Fault>
     ensures ok { IfOk result (IsAskedOf (claim_shown claim.now)) }
     ensures err { IfErr result (λ refused. (guide : ShownGuide) (budget : ℕ)
-        → IsFoundFor guide budget (claim_shown claim.now) (Found.Refused refused)) }
+        → IsFoundBy guide budget (claim_shown claim.now) (Found.Refused refused)) }
 {
     match claim.asks {
         Asks::Moves(moves) => match replay(&claim.board, moves) {

@@ -1,20 +1,25 @@
 //! Claims in batches: what one thread finds soon is found for all claims of a batch first, by all workers, and the rest of a batch
 //! is searched for claim by claim, by all workers together.
 
-ghost use Rattle.std.specs.Prelude.{◌≡◌, ◌∷◌, [], map, slice_index_or};
+ghost use Rattle.std.specs.Prelude.{◌≡◌, ◌<◌, ◌∷◌, [], length, map, slice_index_or};
 ghost use Rattle.std.specs.List.{All};
 ghost use Rattle.puz_board.specs.Boards.{side_of};
 ghost use Rattle.claim_text.specs.Lines.{HasFewLetters};
 ghost use Rattle.claim_text.specs.Shown.{claim_shown};
+ghost use Rattle.claim_text.specs.declared.claims.Claim.{Claim};
 ghost use Rattle.pdb_prove.specs.Answers.{IsFoundFor};
 ghost use Rattle.pdb_prove.specs.Steps.{AreFoundSoon, AreTold};
 
-use crate::answers::{Found, answer_by, answer_soon};
+use crate::answers::{FEW_BOARDS, Found, answer_by, answer_soon};
+use crate::help::Help;
+use crate::ready::Ready;
 use crate::telling::line_on;
 use byte_io::streams::WriteFault;
 use claim_text::Claim;
+use move_strings::Automaton;
 use pdb_run::Io;
 use puz_search::Guide;
+use set_sum::Bundle;
 use std::thread::Threads;
 use work_run::{Gate, Workers};
 use work_share::{Task, share};
@@ -22,15 +27,17 @@ use work_share::{Task, share};
 /// How many claims a batch has.
 const BATCH: usize = 1024;
 
-/// Claims, a guide to boards of their side, and how many boards may be expanded for each.
+/// Claims over a bundle and the automaton of reversals of the side of their boards, and how many boards may be expanded for each.
 #[derive(Drop)]
 pub(crate) struct Batch<'a> {
-    pub(crate) guide: &'a Guide<'a>,
+    pub(crate) bundle: &'a Bundle<'a>,
+    pub(crate) reversals: &'a Automaton,
     pub(crate) claims: &'a [Claim<'a>],
     pub(crate) budget: u64,
     /// The number of the first claim.
     pub(crate) first: u64,
-    ghost sides: { All (λ claim. side_of claim.board ≡ guide.now.bundle.side) claims.now },
+    ghost sides: { All (λ claim. side_of claim.board ≡ bundle.now.side) claims.now },
+    ghost one_side: { reversals.now.side ≡ bundle.now.side },
 }
 
 impl<'a> Task for Batch<'a> {
@@ -42,14 +49,15 @@ impl<'a> Task for Batch<'a> {
     ghost jobs = { λ batch. length batch.claims.now };
 
     ghost gives = { λ batch number found.
-        IfSome found (IsFoundAt batch.guide.now batch.budget batch.claims.now number) };
+        IfSome found (IsFoundAt batch.bundle.now batch.budget batch.claims.now number) };
 
     fn count(&self) -> usize {
         self.claims.len()
     }
 
     fn run(&self, number: usize) -> Option<Found> {
-        answer_soon(self.guide, &self.claims[number], self.budget)
+        let guide = Guide::new(self.bundle, self.reversals);
+        answer_soon(&guide, &self.claims[number], self.budget)
     }
 }
 
@@ -61,30 +69,32 @@ struct Known<'a> {
 }
 
 /// Tells all claims in their order: whether all of them are answered with a yes.
-pub(crate) fn tell_all<'x, H: Threads + Sync, G: Gate + Sync, I: Io>(
-    guide: &'x Guide<'x>,
-    claims: &'x [Claim<'x>],
+pub(crate) fn tell_all<H: Threads + Sync, G: Gate + Sync, I: Io>(
+    ready: &Ready<'_, '_>,
     budget: u64,
     workers: &Workers<'_, H, G>,
     io: &mut I,
 ) -> Result<bool, WriteFault>
-    requires sides { All (λ claim. side_of claim.board ≡ guide.now.bundle.side) claims.now }
-    requires few { All (λ claim. HasFewLetters (claim_shown claim)) claims.now }
+    requires few { All (λ claim. HasFewLetters (claim_shown claim)) ready.now.claims.items }
     ensures same_streams { I.streams io.new ≡ I.streams io.old }
-    ensures told { let shown = map claim_shown claims.now in
-        AreTold guide.now budget shown (I.world io.old) (I.world io.new) result }
+    ensures told { let shown = map claim_shown ready.now.claims.items in
+        AreTold ready.now.bundle budget shown (I.world io.old) (I.world io.new) result }
 {
+    let (bundle, reversals) = (&ready.bundle, &ready.reversals);
+    let claims = ready.claims.as_slice();
+    let mut help = Help::new(bundle, reversals);
     let mut told = 0;
     let mut all_yes = true;
     while told < claims.len() {
         let (next, _) = claims[told..].split_at(BATCH.min(claims.len() - told));
         let batch = Batch {
-            guide,
+            bundle,
+            reversals,
             claims: next,
             budget,
             first: told as u64,
         };
-        match tell_batch(&batch, workers, io) {
+        match tell_batch(&batch, &mut help, workers, io) {
             Ok(is_yes) => all_yes &= is_yes,
             Err(fault) => return Err(fault),
         }
@@ -96,41 +106,47 @@ pub(crate) fn tell_all<'x, H: Threads + Sync, G: Gate + Sync, I: Io>(
 /// Tells the claims of a batch.
 fn tell_batch<H: Threads + Sync, G: Gate + Sync, I: Io>(
     batch: &Batch<'_>,
+    help: &mut Help<'_>,
     workers: &Workers<'_, H, G>,
     io: &mut I,
 ) -> Result<bool, WriteFault>
     requires few { All (λ claim. HasFewLetters (claim_shown claim)) batch.now.claims.now }
+    requires bundle { help.old.bundle.now ≡ batch.now.bundle.now }
+    ensures bundle { help.new.bundle ≡ help.old.bundle }
     ensures same_streams { I.streams io.new ≡ I.streams io.old }
     ensures told { let batch = batch.now in let shown = map claim_shown batch.claims.now in
-        AreTold batch.guide.now batch.budget shown (I.world io.old) (I.world io.new) result }
+        AreTold batch.bundle.now batch.budget shown (I.world io.old) (I.world io.new) result }
 {
     // Where workers can't be started, all claims are left to be searched for one by one.
     match share(batch, workers) {
         Ok(soon) => {
             let soon = soon.as_slice();
-            tell_each(&Known { batch, soon }, workers, io)
+            tell_each(&Known { batch, soon }, help, workers, io)
         }
-        Err(_) => tell_each(&Known { batch, soon: &[] }, workers, io),
+        Err(_) => tell_each(&Known { batch, soon: &[] }, help, workers, io),
     }
 }
 
 /// Tells each claim of a batch.
 fn tell_each<H: Threads + Sync, G: Gate + Sync, I: Io>(
     known: &Known<'_>,
+    help: &mut Help<'_>,
     workers: &Workers<'_, H, G>,
     io: &mut I,
 ) -> Result<bool, WriteFault>
     requires few { All (λ claim. HasFewLetters (claim_shown claim)) known.now.batch.now.claims.now }
     requires right { let b = known.now.batch.now in
-        AreFoundSoon b.guide.now b.budget b.claims.now known.now.soon.now }
+        AreFoundSoon b.bundle.now b.budget b.claims.now known.now.soon.now }
+    requires bundle { help.old.bundle.now ≡ known.now.batch.now.bundle.now }
+    ensures bundle { help.new.bundle ≡ help.old.bundle }
     ensures same_streams { I.streams io.new ≡ I.streams io.old }
     ensures told { let batch = known.now.batch.now in
         let shown = map claim_shown batch.claims.now in
-        AreTold batch.guide.now batch.budget shown (I.world io.old) (I.world io.new) result }
+        AreTold batch.bundle.now batch.budget shown (I.world io.old) (I.world io.new) result }
 {
     let mut all_yes = true;
-    for (number, claim) in known.batch.claims.iter().enumerate() {
-        match tell_next(known, number, claim, workers, io) {
+    for number in 0..known.batch.claims.len() {
+        match tell_next(known, number, help, workers, io) {
             Ok(is_yes) => all_yes &= is_yes,
             Err(fault) => return Err(fault),
         }
@@ -142,42 +158,50 @@ fn tell_each<H: Threads + Sync, G: Gate + Sync, I: Io>(
 fn tell_next<H: Threads + Sync, G: Gate + Sync, I: Io>(
     known: &Known<'_>,
     number: usize,
-    claim: &Claim<'_>,
+    help: &mut Help<'_>,
     workers: &Workers<'_, H, G>,
     io: &mut I,
 ) -> Result<bool, WriteFault>
-    requires claim { claim.now ≡ slice_index_or known.now.batch.now.claims.now number claim.now }
-    requires side { side_of claim.now.board ≡ known.now.batch.now.guide.now.bundle.side }
-    requires few { HasFewLetters (claim_shown claim.now) }
+    requires number { number < length known.now.batch.now.claims.now }
+    requires few { All (λ claim. HasFewLetters (claim_shown claim)) known.now.batch.now.claims.now }
     requires right { let b = known.now.batch.now in
-        AreFoundSoon b.guide.now b.budget b.claims.now known.now.soon.now }
+        AreFoundSoon b.bundle.now b.budget b.claims.now known.now.soon.now }
+    requires bundle { help.old.bundle.now ≡ known.now.batch.now.bundle.now }
+    ensures bundle { help.new.bundle ≡ help.old.bundle }
     ensures same_streams { I.streams io.new ≡ I.streams io.old }
-    ensures told { let batch = known.now.batch.now in let shown = claim_shown claim.now ∷ [] in
-        AreTold batch.guide.now batch.budget shown (I.world io.old) (I.world io.new) result }
+    ensures told { (other : Claim) → let batch = known.now.batch.now in
+        let shown = claim_shown (slice_index_or batch.claims.now number other) ∷ [] in
+        AreTold batch.bundle.now batch.budget shown (I.world io.old) (I.world io.new) result }
 {
+    let batch = known.batch;
+    let claims = batch.claims;
+    let claim = &claims[number];
     match known.soon.get(number) {
-        Some(Some(found)) => tell(known.batch, claim, found, io),
-        _ => search_and_tell(known.batch, number, claim, workers, io),
+        Some(Some(found)) => tell(batch, claim, found, io),
+        _ => {
+            workers.gate.asks(batch.first.saturating_add(number as u64));
+            let found = search(batch, claim, help, workers);
+            tell(batch, claim, &found, io)
+        }
     }
 }
 
-/// Searches for the claim of a batch that has this number in it, by all workers, and tells what is found.
-fn search_and_tell<H: Threads + Sync, G: Gate + Sync, I: Io>(
+/// What is found for a claim of a batch by all workers.
+fn search<H: Threads + Sync, G: Gate + Sync>(
     batch: &Batch<'_>,
-    number: usize,
     claim: &Claim<'_>,
+    help: &mut Help<'_>,
     workers: &Workers<'_, H, G>,
-    io: &mut I,
-) -> Result<bool, WriteFault>
-    requires side { side_of claim.now.board ≡ batch.now.guide.now.bundle.side }
-    requires few { HasFewLetters (claim_shown claim.now) }
-    ensures same_streams { I.streams io.new ≡ I.streams io.old }
-    ensures told { let batch = batch.now in let shown = claim_shown claim.now ∷ [] in
-        AreTold batch.guide.now batch.budget shown (I.world io.old) (I.world io.new) result }
+) -> Found
+    requires side { side_of claim.now.board ≡ batch.now.bundle.now.side }
+    requires bundle { help.old.bundle.now ≡ batch.now.bundle.now }
+    ensures bundle { help.new.bundle ≡ help.old.bundle }
+    ensures found { IsFoundFor batch.now.bundle.now batch.now.budget (claim_shown claim.now) result }
 {
-    workers.gate.asks(batch.first.saturating_add(number as u64));
-    let found = answer_by(batch.guide, claim, batch.budget, workers);
-    tell(batch, claim, &found, io)
+    if batch.budget > FEW_BOARDS {
+        help.make(workers.alloc);
+    }
+    answer_by(&help.guide(), claim, batch.budget, workers)
 }
 
 /// Tells what is found for a claim of a batch: whether it is a yes.
@@ -189,10 +213,10 @@ fn tell<I: Io>(
 ) -> Result<bool, WriteFault>
     requires few { HasFewLetters (claim_shown claim.now) }
     requires found { let batch = batch.now in let shown = claim_shown claim.now in
-        IsFoundFor batch.guide.now batch.budget shown found.now }
+        IsFoundFor batch.bundle.now batch.budget shown found.now }
     ensures same_streams { I.streams io.new ≡ I.streams io.old }
     ensures told { let batch = batch.now in let shown = claim_shown claim.now ∷ [] in
-        AreTold batch.guide.now batch.budget shown (I.world io.old) (I.world io.new) result }
+        AreTold batch.bundle.now batch.budget shown (I.world io.old) (I.world io.new) result }
 {
     match io.write_text(line_on(claim, found).as_str()) {
         Ok(()) => Ok(found.is_yes()),

@@ -2,8 +2,8 @@
 #![tactic(auto)]
 
 mod answers;
-mod automata;
 mod batches;
+mod help;
 mod inputs;
 mod ready;
 mod runs;

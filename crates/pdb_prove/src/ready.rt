@@ -1,4 +1,4 @@
-//! What is to be known before anything is searched: the claims, the bundle of the tables and the sets, and an automaton.
+//! What is to be known before anything is searched: the claims, the bundle of the tables and the sets, and the automaton of reversals.
 
 ghost use Rattle.std.specs.Prelude.{◌≡◌, ◌≤◌, ◌^◌, Bool, List, length, map, IfErr, IfNone, IfOk, IfSome};
 ghost use Rattle.std.specs.List.{All, AllByRecursion};
@@ -12,7 +12,6 @@ ghost use Rattle.pdb_verdict.specs.Bundles.{IsBundleOfFiles, IsCauseForBundle};
 ghost use Rattle.pdb_prove.specs.Prove.{AreReady, IsFirstOfAnotherSide};
 ghost use Rattle.pdb_prove.specs.Steps.{IsCauseForClaims, IsCauseForText, files_of};
 
-use crate::automata::automaton_for;
 use claim_text::{Claim, ClaimsFault, MOST_CLAIMS, read_claims};
 use move_strings::Automaton;
 use pdb_verdict::{BundleRefusal, Failure, Fault, Tables, read_bundle};
@@ -22,14 +21,14 @@ use std::sync::Wait;
 use std::thread::Threads;
 use work_run::{Gate, Workers};
 
-/// Claims, and a bundle and an automaton of the side of their boards.
+/// Claims, and a bundle and the automaton of reversals of the side of their boards.
 #[derive(Drop)]
 pub(crate) struct Ready<'b, 'c> {
     pub(crate) claims: Vec<Claim<'c>>,
     pub(crate) bundle: Bundle<'b>,
-    pub(crate) automaton: Automaton,
+    pub(crate) reversals: Automaton,
     ghost sides: { All (λ claim. side_of claim.board ≡ bundle.side) claims.items },
-    ghost one_side: { automaton.side ≡ bundle.side },
+    ghost one_side: { reversals.side ≡ bundle.side },
 }
 
 /// The claims of a text, and the bundle of table files and a set text. Or the first refusal that stands: `Q1` of a line that is no
@@ -68,7 +67,7 @@ pub(crate) fn claims_in<'c>(alloc: Global, text: &'c [u8]) -> Result<Vec<Claim<'
     }
 }
 
-/// These claims and a bundle, where there is one, and of the side of their boards, with an automaton of that side.
+/// These claims and a bundle, where there is one, and of the side of their boards, with the automaton of that side.
 pub(crate) fn ready_with<'b, 'c>(
     alloc: Global,
     claims: Vec<Claim<'c>>,
@@ -93,11 +92,11 @@ pub(crate) fn ready_with<'b, 'c>(
         Err(Failure::Memory) => return Err(Failure::Memory),
     };
     match first_of_another_side(claims.as_slice(), &bundle) {
-        None => match automaton_for(alloc, bundle.side()) {
-            Ok(automaton) => Ok(Ready {
+        None => match Automaton::of_reversals(alloc, bundle.side()) {
+            Ok(reversals) => Ok(Ready {
                 claims,
                 bundle,
-                automaton,
+                reversals,
             }),
             Err(_) => Err(Failure::Memory),
         },

@@ -21,7 +21,6 @@ use pdb_run::{
     with_digest,
 };
 use pdb_verdict::{Failure, Fault, Tables, fold_bundle, line_of};
-use puz_search::Guide;
 use std::alloc::AllocError;
 use std::sync::Wait;
 use std::thread::Threads;
@@ -222,12 +221,11 @@ fn answer_claims<H: Threads + Wait + Sync, G: Gate + Sync, I: Io>(
         → AreReady arguments.fold files (map claim_shown ready.now.claims.items) ready.now.bundle
         → ProveEnds arguments old (I.world io.new) result }
 {
-    let guide = Guide::new(&ready.bundle, &ready.automaton);
     let Ok(()) = io.write_answer(&digests_alone(digested)) else {
         return Status::Fault;
     };
     let budget = budget_of(command.0);
-    match tell_all(&guide, ready.claims.as_slice(), budget, workers, io) {
+    match tell_all(ready, budget, workers, io) {
         Ok(is_yes) => status_of(is_yes),
         Err(_) => Status::Fault,
     }

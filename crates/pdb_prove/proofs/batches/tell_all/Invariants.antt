@@ -9,6 +9,7 @@ decreases-loop-told g l = length l.claims - l.told
 -- the claims before were told
 abbrev pub invariant-loop-told : goal.invariant-loop-told
 invariant-loop-told g l =
-    AreAllTold l.guide l.budget (g.I.Io.world l.fn.io) (g.I.Io.world l.io) (take l.told (map claim_shown l.claims)) l.all_yes
+    AreAllTold l.bundle l.budget (g.I.Io.world l.fn.io) (g.I.Io.world l.io) (take l.told (map claim_shown l.claims)) l.all_yes
     × (g.I.Io.streams l.io ≡ g.I.Io.streams l.fn.io)
     × (l.told ≤ length l.claims)
+    × (l.help.bundle.now ≡ l.bundle)
