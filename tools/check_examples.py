@@ -4,8 +4,8 @@
     tools/check_examples.py
 
 An example is a block that begins with ```rust. Spaces at the beginning of a line don't count. Each crate but those of
-tests, and `pdb_cli`, `word_laws` and `claim_laws`, which nobody calls, has one. The last line is `N passed, M failed`, and the
-status is 0 if none failed.
+tests, `pdb_cli`, `word_laws` and `claim_laws`, which nobody calls, and `puz_walk`, which tests call through `puz_search`, has
+one. The last line is `N passed, M failed`, and the status is 0 if none failed.
 """
 
 import pathlib
@@ -13,7 +13,7 @@ import re
 import sys
 
 ROOT = pathlib.Path(__file__).resolve().parent.parent
-CALLED_BY_NOBODY = {"pdb_cli", "word_laws", "claim_laws"}
+WITHOUT_EXAMPLE = {"pdb_cli", "word_laws", "claim_laws", "puz_walk"}
 
 
 def bare(text):
@@ -30,7 +30,7 @@ def main():
         wrong = [it for it in examples if not any(bare(it) in test for test in tests)]
         if wrong:
             print(f"FAILED: no test has this example of {crate}:\n{wrong[0]}", end="")
-        elif not examples and not crate.endswith("_tests") and crate not in CALLED_BY_NOBODY:
+        elif not examples and not crate.endswith("_tests") and crate not in WITHOUT_EXAMPLE:
             wrong = [crate]
             print(f"FAILED: {crate} has no example")
         failures += bool(wrong)

@@ -278,7 +278,7 @@ def boards_expanded(search, claim):
 def budgets(program, checks, claims, tables):
     sets = program.folder / "sets"
     files = [(program.folder / name).read_bytes() for name in tables]
-    search = Search(read_sets(sets.read_bytes(), read_tables(files, False)), program.strings)
+    search = Search(read_sets(sets.read_bytes(), read_tables(files, False)))
     able = [claim for claim in claims if claim.letters is None and has_solution(claim.board)]
     able = [claim for claim in able if claim.bound in (None, least_moves(claim.board)) and least_moves(claim.board) < 24]
     for claim in able[:40]:
