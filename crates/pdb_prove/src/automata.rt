@@ -18,7 +18,11 @@ pub(crate) fn automaton_for(alloc: Global, side: Side) -> Result<Automaton, Allo
     }
 }
 
-/// How many moves the longest strings have. The searches of small sides are so short that long strings don't pay.
+/// How many moves the longest strings have. The searches of small sides are so short that longer ones don't pay.
 fn longest_for(side: Side) -> u8 {
-    if side.get() <= 3 { 8 } else { 12 }
+    match side.get() {
+        2 => 2,
+        3 => 8,
+        _ => 12,
+    }
 }

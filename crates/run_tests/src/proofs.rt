@@ -56,7 +56,7 @@ bound 0 of 0 1 2 3
 
 /// A bound of one of the two boards of side 3 that are 31 moves from the goal board, the most (Reinefeld 1993): with the table of
 /// one tile it takes more boards than one thread searches alone. And a claim behind it.
-const LARGE: &[u8] = b"8 7 6 0 4 1 2 5 3 : 21\n1 0 2 3 4 5 6 7 8\n";
+const LARGE: &[u8] = b"8 7 6 0 4 1 2 5 3 : 23\n1 0 2 3 4 5 6 7 8\n";
 
 /// `TILES_123` with 2 in the place of entry 14.
 const WRONG_123: [u8; 44] =
@@ -90,7 +90,7 @@ fn digest_of(name: &str) -> &'static str {
         "one_false" => "e6cda88c5697d3cc48824352974d9eb938209216843003ef28472d794e38995a",
         "hard" => "29fed0d4882a31bac72e3234c1978730c3ec4ed9f497c8038245be852c851b2d",
         "many" => "f6db0dd1d48c97ce7c203638410fb18a5f59d79498026a51e1282067405ccd3e",
-        "large" => "a2dab23026978952873079eb50291e182e2090546d8de7315566047ac845a2fa",
+        "large" => "26cab942cd91066e8513035118182c670c99cfd402a5e51868ca1cee17677117",
         "no_claim" => "2ab34e9318f1bfdfde42c27f7eb35c1ab9a622ecae036abbbdca9b69bbd89f1f",
         "empty" => "e3b0c44298fc1c149afbf4c8996fb92427ae41e4649b934ca495991b7852b855",
         "another_side" => "efad2aed21c4ef191ed9f0dbd79b2246be4714c8b2a9c909eb33f6a04827b1f2",
@@ -205,12 +205,12 @@ fn a_large_search_says_the_same_for_each_number_of_workers(rt: HostRuntime) -> R
     let cases = [
         (
             "",
-            "bound 21 of 8 7 6 0 4 1 2 5 3\noptimal 1 of 1 0 2 3 4 5 6 7 8 ; L\n",
+            "bound 23 of 8 7 6 0 4 1 2 5 3\noptimal 1 of 1 0 2 3 4 5 6 7 8 ; L\n",
             0,
         ),
         (
             " --budget 65537",
-            "refused K1 of 8 7 6 0 4 1 2 5 3 : 21\noptimal 1 of 1 0 2 3 4 5 6 7 8 ; L\n",
+            "refused K1 of 8 7 6 0 4 1 2 5 3 : 23\noptimal 1 of 1 0 2 3 4 5 6 7 8 ; L\n",
             1,
         ),
     ];

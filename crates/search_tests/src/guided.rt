@@ -97,26 +97,58 @@ fn push_after(reached: &Reached, next: &mut Vec<Reached>) -> Result<(), AllocErr
     Ok(())
 }
 
+/// A bundle, and an automaton of its side.
+#[derive(Clone, Copy)]
+struct Led<'a> {
+    bundle: &'a Bundle<'a>,
+    automaton: &'a Automaton,
+}
+
 /// How many boards are expanded where a board has no solution of fewer moves than a bound.
-fn refuted<R: Abort>(rt: &R, guide: &Guide<'_>, board: &Board, bound: u8) -> u64 {
-    if board.side() != guide.side() {
-        panic!(rt; "of the guide's side");
+fn refuted<R: Abort>(rt: &R, led: Led<'_>, board: &Board, bound: u8) -> u64 {
+    let side = led.bundle.side();
+    if board.side() != side || led.automaton.side() != side {
+        panic!(rt; "of one side");
     }
-    match refute(guide, board, bound, u64::MAX) {
+    match refute(
+        &Guide::new(led.bundle, led.automaton),
+        board,
+        bound,
+        u64::MAX,
+    ) {
         Answer::Refuted(boards) => boards,
         Answer::Solved(_) | Answer::Spent => panic!(rt; "refuted"),
     }
 }
 
 /// How many moves a shortest solution of a board has, if one is found.
-fn fewest<R: Abort>(rt: &R, guide: &Guide<'_>, board: &Board) -> Option<u16> {
-    if board.side() != guide.side() {
-        panic!(rt; "of the guide's side");
+fn fewest<R: Abort>(rt: &R, led: Led<'_>, board: &Board) -> Option<u16> {
+    let side = led.bundle.side();
+    if board.side() != side || led.automaton.side() != side {
+        panic!(rt; "of one side");
     }
-    match shortest(guide, board, 1 << 40) {
+    match shortest(&Guide::new(led.bundle, led.automaton), board, 1 << 40) {
         Deepened::Shortest(letters) => Some(moves(rt, board, &letters)),
         Deepened::Spent(_) | Deepened::Beyond => None,
     }
+}
+
+/// That a search with the automaton of reversals expands just the boards that are counted level by level.
+fn count_all<R: AllocGlobal + Abort>(
+    rt: &R,
+    bundle: &Bundle<'_>,
+    numbers: &[u8],
+    bound: u8,
+) -> Result<u64, AllocError> {
+    let automaton = reversals(rt, bundle.side());
+    let board = Board::from_cells(numbers).expect(rt, "a board");
+    let boards = expanded(rt.alloc(), bundle, &board, u64::from(bound))?;
+    let led = Led {
+        bundle,
+        automaton: &automaton,
+    };
+    assert_eq!(rt; refuted(rt, led, &board, bound), boards, "{numbers:?}");
+    Ok(boards)
 }
 
 #[test]
@@ -124,23 +156,16 @@ fn the_automaton_of_reversals_leaves_out_moves_straight_back_alone(
     rt: HostRuntime,
 ) -> Result<(), Fail> {
     let small = bundle(&rt, &TILE_1);
-    let automaton = reversals(&rt, small.side());
-    let guide = Guide::new(&small, &automaton);
     for (numbers, bound) in RING.iter().zip([0, 1, 2, 3, 4, 5, 6, 5, 4, 3, 2, 1]) {
-        let board = Board::from_cells(numbers).expect(&rt, "a board");
-        let boards = expanded(rt.alloc(), &small, &board, u64::from(bound))?;
-        assert_eq!(rt; refuted(&rt, &guide, &board, bound), boards, "{numbers:?}");
+        count_all(&rt, &small, numbers, bound)?;
     }
     let file = LeastCosts::new(rt.alloc(), &[1, 2, 3])?.table(rt.alloc())?;
     let large = bundle(&rt, &file);
-    let automaton = reversals(&rt, large.side());
-    let guide = Guide::new(&large, &automaton);
-    let board = Board::from_cells(&NUMBERS).expect(&rt, "a board");
-    for bound in [10, 15, 18] {
-        let boards = expanded(rt.alloc(), &large, &board, u64::from(bound))?;
-        assert_eq!(rt; refuted(&rt, &guide, &board, bound), boards);
+    for bound in [10, 15] {
+        count_all(&rt, &large, &NUMBERS, bound)?;
     }
-    assert!(rt; refuted(&rt, &guide, &board, 18) > 1000);
+    let boards = count_all(&rt, &large, &NUMBERS, 18)?;
+    assert!(rt; boards > 1000, "{boards}");
     Ok(())
 }
 
@@ -154,27 +179,72 @@ fn of_strings<R: AllocGlobal + Abort>(rt: &R, side: Side) -> Result<Automaton, A
 }
 
 /// That a longer automaton leads to the same shortest solution of a board as that of reversals, and with no more boards.
-fn compare<R: Abort>(rt: &R, guide: &Guide<'_>, longer: &Guide<'_>, board: &Board) {
-    let moves = fewest(rt, guide, board);
+fn compare<R: Abort>(rt: &R, led: Led<'_>, longer: &Automaton, board: &Board) {
+    let shorter = led;
+    let longer = Led {
+        bundle: led.bundle,
+        automaton: longer,
+    };
+    let moves = fewest(rt, shorter, board);
     assert_eq!(rt; fewest(rt, longer, board), moves);
     if let Some(moves) = moves {
         let bound = u8::try_from(moves).unwrap_or(u8::MAX);
-        assert!(rt; refuted(rt, longer, board, bound) <= refuted(rt, guide, board, bound));
+        assert!(rt; refuted(rt, longer, board, bound) <= refuted(rt, shorter, board, bound));
     }
+}
+
+/// The same of all boards of side 2.
+fn compare_all<R: AllocGlobal + Abort>(rt: &R, bundle: &Bundle<'_>) -> Result<(), AllocError> {
+    let automaton = reversals(rt, bundle.side());
+    let longer = of_strings(rt, bundle.side())?;
+    let led = Led {
+        bundle,
+        automaton: &automaton,
+    };
+    for numbers in &RING {
+        let board = Board::from_cells(numbers).expect(rt, "a board");
+        compare(rt, led, &longer, &board);
+        let odd = Board::from_cells(&with_two_exchanged(rt, numbers)).expect(rt, "a board");
+        compare(rt, led, &longer, &odd);
+    }
+    Ok(())
 }
 
 #[test]
 fn a_longer_automaton_finds_the_same_on_all_boards_of_side_2(rt: HostRuntime) -> Result<(), Fail> {
     let bundle = bundle(&rt, &TILE_1);
-    let automaton = reversals(&rt, bundle.side());
-    let longer = of_strings(&rt, bundle.side())?;
-    let guide = Guide::new(&bundle, &automaton);
-    let longer = Guide::new(&bundle, &longer);
-    for numbers in &RING {
-        let board = Board::from_cells(numbers).expect(&rt, "a board");
-        compare(&rt, &guide, &longer, &board);
-        let odd = Board::from_cells(&with_two_exchanged(&rt, numbers)).expect(&rt, "a board");
-        compare(&rt, &guide, &longer, &odd);
+    compare_all(&rt, &bundle)?;
+    Ok(())
+}
+
+/// A board some random moves away from the goal board.
+fn scrambled(goal: &Board, state: &mut u32) -> Board {
+    let mut board = *goal;
+    for _ in 0..30 {
+        *state = state.wrapping_mul(1_664_525).wrapping_add(1_013_904_223);
+        let mv = match *state >> 30 {
+            0 => Move::Up,
+            1 => Move::Down,
+            2 => Move::Left,
+            _ => Move::Right,
+        };
+        board = board.apply(mv).unwrap_or(board);
+    }
+    board
+}
+
+/// The same of boards of side 3.
+fn compare_some<R: AllocGlobal + Abort>(rt: &R, bundle: &Bundle<'_>) -> Result<(), AllocError> {
+    let automaton = reversals(rt, bundle.side());
+    let longer = of_strings(rt, bundle.side())?;
+    let led = Led {
+        bundle,
+        automaton: &automaton,
+    };
+    let goal = Board::from_cells(&[0, 1, 2, 3, 4, 5, 6, 7, 8]).expect(rt, "a board");
+    let mut state: u32 = 1;
+    for _ in 0..1000 {
+        compare(rt, led, &longer, &scrambled(&goal, &mut state));
     }
     Ok(())
 }
@@ -183,25 +253,6 @@ fn a_longer_automaton_finds_the_same_on_all_boards_of_side_2(rt: HostRuntime) ->
 fn a_longer_automaton_finds_the_same_on_boards_of_side_3(rt: HostRuntime) -> Result<(), Fail> {
     let file = LeastCosts::new(rt.alloc(), &[1, 2, 3, 4])?.table(rt.alloc())?;
     let bundle = bundle(&rt, &file);
-    let automaton = reversals(&rt, bundle.side());
-    let longer = of_strings(&rt, bundle.side())?;
-    let guide = Guide::new(&bundle, &automaton);
-    let longer = Guide::new(&bundle, &longer);
-    let goal = Board::from_cells(&[0, 1, 2, 3, 4, 5, 6, 7, 8]).expect(&rt, "a board");
-    let mut state: u32 = 1;
-    for _ in 0..1000 {
-        let mut board = goal;
-        for _ in 0..30 {
-            state = state.wrapping_mul(1_664_525).wrapping_add(1_013_904_223);
-            let mv = match state >> 30 {
-                0 => Move::Up,
-                1 => Move::Down,
-                2 => Move::Left,
-                _ => Move::Right,
-            };
-            board = board.apply(mv).unwrap_or(board);
-        }
-        compare(&rt, &guide, &longer, &board);
-    }
+    compare_some(&rt, &bundle)?;
     Ok(())
 }

@@ -2,11 +2,15 @@
 
 use crate::guided::reversals;
 use crate::small_searches::bundle;
+use move_strings::Automaton;
 use puz_board::Board;
 use puz_search::{Answer, Deepened, Guide, refute_by, shortest_by};
 use samples::boards::RING;
 use samples::files::TILE_1;
+use set_sum::Bundle;
+use std::process::Abort;
 use std::sync::atomic::{AtomicU64, Ordering};
+use std::thread::Threads;
 use work_run::{Gate, Workers};
 
 /// Counts searches and boards.
@@ -37,17 +41,20 @@ impl Gate for Counts {
     }
 }
 
-#[test]
-fn a_gate_is_told_of_each_search_and_of_its_boards(rt: HostRuntime) {
-    let bundle = bundle(&rt, &TILE_1);
-    let board = Board::from_cells(&RING[6]).expect(&rt, "a board");
-    if board.side() != bundle.side() {
-        panic!(rt; "of side 2");
+/// What a gate is told of the searches for a board of a ring.
+fn watch<R: Threads + Sync + AllocGlobal + Abort>(
+    rt: &R,
+    bundle: &Bundle<'_>,
+    automaton: &Automaton,
+) {
+    let board = Board::from_cells(&RING[6]).expect(rt, "a board");
+    let side = board.side();
+    if side != bundle.side() || side != automaton.side() {
+        panic!(rt; "of one side");
     }
-    let automaton = reversals(&rt, board.side());
-    let guide = Guide::new(&bundle, &automaton);
+    let guide = Guide::new(bundle, automaton);
     let counts = Counts::new();
-    let workers = Workers::new(&rt, rt.alloc(), 2, &counts);
+    let workers = Workers::new(rt, rt.alloc(), 2, &counts);
     let Ok(Answer::Refuted(boards)) = refute_by(&guide, &board, 6, 100, &workers) else {
         panic!(rt; "refuted");
     };
@@ -58,4 +65,11 @@ fn a_gate_is_told_of_each_search_and_of_its_boards(rt: HostRuntime) {
     };
     // Thresholds 1, 3, 5 and 7.
     assert_eq!(rt; counts.searches.load(Ordering::SeqCst), 5);
+}
+
+#[test]
+fn a_gate_is_told_of_each_search_and_of_its_boards(rt: HostRuntime) {
+    let bundle = bundle(&rt, &TILE_1);
+    let automaton = reversals(&rt, bundle.side());
+    watch(&rt, &bundle, &automaton);
 }
