@@ -14,7 +14,7 @@ use set_sum::Bundle;
 use std::marker::Model;
 
 /// The sets that cut boards off.
-#[derive(Drop)]
+#[derive(Clone, Copy)]
 enum Sets<'a> {
     /// They are asked for their sums.
     Sums(&'a Bundle<'a>),

@@ -170,7 +170,10 @@ fn the_automaton_of_reversals_leaves_out_moves_straight_back_alone(
 }
 
 /// The automaton of strings of at most 8 moves.
-fn of_strings<R: AllocGlobal + Abort>(rt: &R, side: Side) -> Result<Automaton, AllocError>
+pub(crate) fn of_strings<R: AllocGlobal + Abort>(
+    rt: &R,
+    side: Side,
+) -> Result<Automaton, AllocError>
     ensures { IfOk result (λ automaton. automaton.side ≡ side) }
 {
     let draft = draft_of(rt.alloc(), 8)?;
@@ -218,7 +221,7 @@ fn a_longer_automaton_finds_the_same_on_all_boards_of_side_2(rt: HostRuntime) ->
 }
 
 /// A board some random moves away from the goal board.
-fn scrambled(goal: &Board, state: &mut u32) -> Board {
+pub(crate) fn scrambled(goal: &Board, state: &mut u32) -> Board {
     let mut board = *goal;
     for _ in 0..30 {
         *state = state.wrapping_mul(1_664_525).wrapping_add(1_013_904_223);

@@ -11,3 +11,5 @@ mod shares;
 mod small_searches;
 #[cfg(test)]
 mod watched;
+#[cfg(test)]
+mod worded;
