@@ -4,9 +4,7 @@ mod DeepLemmas
 mod EnoughLemmas
 mod FailLemmas
 mod FrontierLemmas
-mod LaneLemmas
 mod NodeLemmas
 mod OutcomeLemmas
 mod TrailLemmas
-mod TurnLemmas
 mod WalkLemmas

@@ -156,31 +156,27 @@ module _ (r s t u : Reached) (first : s ≡ r) (second : t ≡ s) (third : u ≡
 -- ---- the board after a move
 
 -- where the move leads nowhere
-pub nowhere_none : (r : Reached) (move : Move) → LeadsNowhere (walk_at r) move → (n : ℕ) → child_fails r move n ↔ (n ≡ 0)
-nowhere_none r move none =
-    at_nowhere (guide_at r) (bound_at r - 1) (moved (walk_at r).board move) (leaves_out r.automaton.now.steps r.state move)
-    (next_at r.automaton.now.steps r.state move) none
-
 pub nowhere_refuted : (r : Reached) (move : Move) (e : Effort) → LeadsNowhere (walk_at r) move → e.letters.items ≡ [] → IsRefuted (child_fails r move) (most_children 1 (bound_at r)) e e
-nowhere_refuted r move e none clean = refuted_none (child_fails r move) (most_children 1 (bound_at r)) e (nowhere_none r move none) clean
+nowhere_refuted r move e none clean =
+    refuted_none (child_fails r move) (most_children 1 (bound_at r)) e
+    (at_nowhere (guide_at r) (bound_at r - 1) (moved (walk_at r).board move) (leaves_out r.automaton.now.steps r.state move)
+    (next_at r.automaton.now.steps r.state move) none) clean
 
 -- the automaton has a step
 pub step_kept : (steps : List ℕ) (state next : ℕ) (move : Move) → next_at steps state move ≡ next → next ≢ left_out → leaves_out steps state move ≡ false
 step_kept steps state next move to kept = ne_eqb (next_at steps state move) left_out (λ e. kept (sym to ∙ e))
 
 -- where the automaton leaves the move out
-pub out_none : (r : Reached) (move : Move) → next_at r.automaton.now.steps r.state move ≡ left_out → (n : ℕ) → child_fails r move n ↔ (n ≡ 0)
-out_none r move out =
-    at_out (moved (walk_at r).board move) (leaves_out r.automaton.now.steps r.state move)
-    (λ next. Fails (guide_at r) (bound_at r - 1) next (next_at r.automaton.now.steps r.state move)) (eq-eqb (next_at r.automaton.now.steps r.state move) left_out out)
-
 pub out_refuted : (r : Reached) (move : Move) (e : Effort) → next_at r.automaton.now.steps r.state move ≡ left_out → e.letters.items ≡ [] → IsRefuted (child_fails r move) (most_children 1 (bound_at r)) e e
-out_refuted r move e out clean = refuted_none (child_fails r move) (most_children 1 (bound_at r)) e (out_none r move out) clean
+out_refuted r move e out clean =
+    refuted_none (child_fails r move) (most_children 1 (bound_at r)) e
+    (at_out (moved (walk_at r).board move) (leaves_out r.automaton.now.steps r.state move)
+    (λ next. Fails (guide_at r) (bound_at r - 1) next (next_at r.automaton.now.steps r.state move)) (eq-eqb (next_at r.automaton.now.steps r.state move) left_out out)) clean
 
 module _ (r next : Reached) (move : Move) (some : 1 ≤ bound_at r) (on : leaves_out r.automaton.now.steps r.state move ≡ false)
     (leads : moved (walk_at r).board move ≡ Some (walk_at next).board) (guide : guide_at next ≡ guide_at r) (state : next.state ≡ next_at r.automaton.now.steps r.state move)
     (bound : bound_at next ≡ bound_at r - 1) where
-  pub same_counts : (boards : ℕ) → fails_at next boards ↔ child_fails r move boards
+  same_counts : (boards : ℕ) → fails_at next boards ↔ child_fails r move boards
   same_counts boards =
       let to = next_at r.automaton.now.steps r.state move in
       let at = at_child (moved (walk_at r).board move) (leaves_out r.automaton.now.steps r.state move) (λ c. Fails (guide_at r) (bound_at r - 1) c to) (walk_at next).board leads on boards in (

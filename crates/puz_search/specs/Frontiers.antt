@@ -1,5 +1,5 @@
 -- Frontiers: lists of nodes, so that a search fails just where those below all of them do.
-use Rattle.std.specs.Prelude.{◌≡◌, ℕ, ◌+◌, ◌-◌, ◌<◌, ◌≤◌, List, [], ◌∷◌, ◌++◌, slice_index_or, ⊤}
+use Rattle.std.specs.Prelude.{◌≡◌, ℕ, ◌+◌, ◌-◌, ◌<◌, ◌≤◌, List, [], ◌∷◌, ◌++◌, length, slice_index_or, ⊤}
 use Rattle.std.specs.List.{All}
 use Rattle.puz_board.specs.Boards.{moved}
 use Rattle.puz_board.specs.declared.moves.Move.{Move}
@@ -62,3 +62,8 @@ IsOutcome s node Open = ⊤
 -- how that of the node with this number did
 abbrev pub IsOutcomeOf : Search → List Node → ℕ → Outcome → Type 0
 IsOutcomeOf s nodes job outcome = (other : Node) → IsOutcome s (slice_index_or nodes job other) outcome
+
+-- how those of all nodes did
+abbrev pub AreOutcomesOf : Search → List Node → List Outcome → Type 0
+AreOutcomesOf s nodes outcomes =
+    (length outcomes ≡ length nodes) × ((job : ℕ) (other : Outcome) → job < length nodes → IsOutcomeOf s nodes job (slice_index_or outcomes job other))

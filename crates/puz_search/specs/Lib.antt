@@ -8,5 +8,3 @@ pub mod StoredGuides
 pub mod Outcomes
 pub mod Nodes
 pub mod Frontiers
-pub mod Lanes
-pub mod Turns

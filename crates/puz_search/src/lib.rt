@@ -6,13 +6,11 @@ mod deepening;
 mod efforts;
 mod frontiers;
 mod guides;
-mod lanes;
 mod nodes;
 mod outcomes;
 mod refuting;
 mod searches;
 mod sharing;
-mod turns;
 mod walks;
 
 pub use answers::{Answer, Letters};

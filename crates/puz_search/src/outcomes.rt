@@ -1,19 +1,17 @@
 //! The searches below nodes as jobs that workers share.
 
-ghost use Rattle.std.specs.Prelude.{◌≡◌, ◌/◌, ◌<◌, length};
+ghost use Rattle.std.specs.Prelude.{◌≡◌};
 ghost use Rattle.std.specs.List.{All};
 ghost use Rattle.puz_search.specs.Nodes.{IsLed, IsPartAnswer, IsPlaced, node_fails, solves_first};
-ghost use Rattle.puz_search.specs.Frontiers.{IsOutcome, all_fail, most_of};
+ghost use Rattle.puz_search.specs.Frontiers.{AreOutcomesOf, IsOutcome, all_fail, most_of};
 ghost use Rattle.puz_search.specs.Searches.{most_boards};
-ghost use Rattle.puz_search.specs.Turns.{AreOutcomesOf, outcome_in};
 
 use crate::answers::Answer;
 use crate::efforts::Effort;
 use crate::nodes::Node;
 use crate::refuting::refute_node;
 use crate::searches::Search;
-use crate::turns::{Group, NODES_OF_GROUP, Outcomes};
-use std::sync::atomic::{AtomicU64, AtomicUsize};
+use std::sync::atomic::{AtomicU64, AtomicUsize, Ordering};
 use work_run::Gate;
 use work_share::Task;
 
@@ -28,7 +26,7 @@ pub(crate) enum Outcome {
     Open,
 }
 
-/// The searches below nodes: a job for each group of them, and one for those that are left over.
+/// The searches below nodes: a job for each.
 #[derive(Drop)]
 pub(crate) struct SearchNodes<'a, G> {
     pub(crate) task: &'a Search<'a>,
@@ -44,36 +42,53 @@ pub(crate) struct SearchNodes<'a, G> {
 }
 
 impl<'a, G: Gate> Task for SearchNodes<'a, G> {
-    ghost use Rattle.std.specs.Prelude.{◌*◌, length};
-    ghost use Rattle.puz_search.specs.Turns.{AreTold, groups_of};
+    ghost use Rattle.std.specs.Prelude.{length};
+    ghost use Rattle.puz_search.specs.Frontiers.{IsOutcomeOf};
 
-    type Outcome = Outcomes;
+    type Outcome = Outcome;
 
-    ghost jobs = { λ all. groups_of (length all.nodes.now) };
+    ghost jobs = { λ all. length all.nodes.now };
 
-    ghost gives = { λ all job outcomes. AreTold all.task.now all.nodes.now (job * 64) outcomes };
+    ghost gives = { λ all job outcome. IsOutcomeOf all.task.now all.nodes.now job outcome };
 
     fn count(&self) -> usize {
-        self.nodes.len() / NODES_OF_GROUP + 1
+        self.nodes.len()
     }
 
-    fn run(&self, job: usize) -> Outcomes {
-        let first = job * NODES_OF_GROUP;
-        let count = NODES_OF_GROUP.min(self.nodes.len() - first);
-        self.search_group(&Group { first, count })
+    // What other jobs have expanded and found is a hint: with any other the outcome would be true as well.
+    fn run(&self, job: usize) -> Outcome {
+        let budget = self
+            .budget
+            .saturating_sub(self.expanded.load(Ordering::SeqCst));
+        if budget == 0 || self.solved.load(Ordering::SeqCst) < job {
+            return Outcome::Open;
+        }
+        let mut effort = Effort::within(budget);
+        let answer = refute_node(self.task, &self.nodes[job], &mut effort);
+        let expanded = budget.saturating_sub(effort.left);
+        self.expanded.fetch_add(expanded, Ordering::SeqCst);
+        self.gate.expanded(expanded);
+        match answer {
+            Answer::Refuted(boards) => Outcome::Refuted(boards),
+            Answer::Solved(_) => {
+                self.solved.store(job, Ordering::SeqCst);
+                Outcome::Open
+            }
+            Answer::Spent => Outcome::Spent(budget),
+        }
     }
 }
 
 /// What the searches below all nodes answer in turn, within a budget.
-pub(crate) fn settle(task: &Search<'_>, nodes: &[Node], groups: &[Outcomes], budget: u64) -> Answer
+pub(crate) fn settle(task: &Search<'_>, nodes: &[Node], outcomes: &[Outcome], budget: u64) -> Answer
     requires led { All (IsLed task.now) nodes.now }
-    requires outcomes { AreOutcomesOf task.now nodes.now groups.now }
+    requires outcomes { AreOutcomesOf task.now nodes.now outcomes.now }
     ensures { IsPartAnswer (all_fail task.now nodes.now) (most_of nodes.now)
         (solves_first task.now) budget result }
 {
     let mut left = budget;
     for at in 0..nodes.len() {
-        match settle_node(task, &nodes[at], outcome_of(groups, at), left) {
+        match settle_node(task, &nodes[at], outcomes[at], left) {
             Answer::Refuted(boards) => {
                 left -= boards;
             }
@@ -82,14 +97,6 @@ pub(crate) fn settle(task: &Search<'_>, nodes: &[Node], groups: &[Outcomes], bud
         }
     }
     Answer::Refuted(budget - left)
-}
-
-/// The outcome of the search below the node with this number.
-fn outcome_of(groups: &[Outcomes], node: usize) -> Outcome
-    requires { node / 64 < length groups.now }
-    ensures { result ≡ outcome_in groups.now node }
-{
-    groups[node / NODES_OF_GROUP][node % NODES_OF_GROUP]
 }
 
 /// What the search below a node answers within a budget, by the outcome of its job where that tells.

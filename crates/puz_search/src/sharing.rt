@@ -27,8 +27,8 @@ const FEW_BOARDS: u64 = 1 << 16;
 /// Searches as `refute` does, by these workers at once: the answer means the same, and is the same for each number of workers.
 ///
 /// A small search is the caller's alone. A larger one is cut at the boards a few moves away, and the workers search below these.
-/// The budget counts the boards of all of them. Where it ends, the workers may have expanded more: below each board at most the
-/// budget that was left when its search began, and each worker has eight such searches at work in turns. The gate is told of each search, and of the boards that are expanded. Memory
+/// The budget counts the boards of all of them. Where it ends, the workers may have expanded more: each at most the budget that
+/// was left when it began to search below its board. The gate is told of each search, and of the boards that are expanded. Memory
 /// is taken for the boards a few moves away, for what their searches answer, and for the workers.
 pub fn refute_by<R: Threads + Sync, G: Gate + Sync>(
     guide: &Guide<'_>,

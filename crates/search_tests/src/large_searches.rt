@@ -3,7 +3,7 @@
 use crate::guided::reversals;
 use crate::small_searches::{Told, bundle, searched};
 use puz_board::Board;
-use puz_search::{Answer, Guide, refute, refute_by};
+use puz_search::{Answer, Guide, refute_by};
 use samples::LeastCosts;
 use set_sum::Bundle;
 use std::process::Abort;
@@ -39,42 +39,11 @@ fn refuted<R: Threads + Wait + Sync + AllocGlobal + Abort>(
         Ok(answer) => answer,
         Err(_) => refute_by(&guide, &board, BOUND, budget, &workers).expect(rt, "memory"),
     };
-    told(rt, answer)
-}
-
-/// With how many boards an answer refutes, unless the budget was spent.
-fn told<R: Abort>(rt: &R, answer: Answer) -> Option<u64> {
     match answer {
         Answer::Refuted(boards) => Some(boards),
         Answer::Solved(_) => panic!(rt; "no solution has so few moves"),
         Answer::Spent => None,
     }
-}
-
-/// The same by one thread alone, which goes down and back up and makes no jobs.
-fn refuted_alone<R: AllocGlobal + Abort>(rt: &R, bundle: &Bundle<'_>, budget: u64) -> Option<u64> {
-    let board = Board::from_cells(&NUMBERS).expect(rt, "a board");
-    if board.side() != bundle.side() {
-        panic!(rt; "of side 3");
-    }
-    let automaton = reversals(rt, board.side());
-    let guide = Guide::new(bundle, &automaton);
-    told(rt, refute(&guide, &board, BOUND, budget))
-}
-
-#[test]
-fn workers_expand_the_boards_that_one_thread_alone_expands(rt: HostRuntime) -> Result<(), Fail> {
-    let file = LeastCosts::new(rt.alloc(), &[4])?.table(rt.alloc())?;
-    let bundle = bundle(&rt, &file);
-    let boards = refuted_alone(&rt, &bundle, 1 << 40).expect(&rt, "refuted");
-    for count in [1, 2, 7] {
-        assert_eq!(rt; refuted(&rt, &bundle, count, boards), Some(boards));
-        assert_eq!(rt;
-            refuted(&rt, &bundle, count, boards.saturating_sub(1)),
-            None
-        );
-    }
-    Ok(())
 }
 
 #[test]

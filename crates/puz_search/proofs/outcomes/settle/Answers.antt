@@ -1,16 +1,15 @@
 use Rattle.std.proofs.Common.{◌-◌, ◌<◌, length, take, sym, subst, arith}
+use Rattle.std.specs.Prelude.{slice_index_or}
 use Rattle.puz_search.specs.Frontiers.{IsOutcome, all_fail}
-use Rattle.puz_search.specs.Turns.{outcome_in}
+use Rattle.puz_search.specs.declared.outcomes.Outcome.TheVariants.{Refuted}
 use Rattle.puz_search.proofs.FrontierLemmas.{push_at, settled_more, spent_in}
 use Rattle.puz_search.proofs.outcomes.settle.Goals as goal
 
 pub settle_node-requires-clause-outcome : goal.settle_node-requires-clause-outcome
 settle_node-requires-clause-outcome c =
-    let s = c.args.task.now in
     let node = c.index-nodes-at.result in
     let low : c.loop-at.at < length c.args.nodes.now = omega arith in
-    subst (IsOutcome s node) (sym c.outcome_of.ensures)
-    (subst (λ n. IsOutcome s n (outcome_in c.args.groups.now c.loop-at.at)) (sym c.index-nodes-at.is) (c.requires.outcomes.1 c.loop-at.at low node))
+    subst (λ n. IsOutcome c.args.task.now n (slice_index_or c.args.outcomes.now c.loop-at.at (Refuted 0))) (sym c.index-nodes-at.is) (c.requires.outcomes.1 c.loop-at.at (Refuted 0) low node)
 
 pub returns-in-Spent : goal.returns-in-Spent
 returns-in-Spent c =
