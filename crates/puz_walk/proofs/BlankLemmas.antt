@@ -3,6 +3,7 @@ use Rattle.std.proofs.Common.{◌≡◌, ℕ, ◌*◌, ◌<◌, List, take, sym,
 use Rattle.std.proofs.Math.Seq.{take-set-lt}
 use Rattle.std.proofs.lemmas.List.{get_or-take}
 use Rattle.puz_board.specs.Boards.{IsBoardOf, at, blank, slid}
+use Rattle.puz_board.specs.declared.moves.Move.{Move}
 use Rattle.puz_board.proofs.BoardLemmas.{blank-slid, cells_most}
 use Rattle.puz_board.proofs.MovedLemmas.{IsBoardOf-moved}
 use Rattle.edge_words.specs.Spots.{IsStepOf}
@@ -12,18 +13,18 @@ use Rattle.puz_walk.specs.WordSpots.{IsSlideTo, IsSpotOf}
 use Rattle.puz_walk.specs.declared.word_spots.Spot.{Spot}
 use Rattle.puz_walk.proofs.TurnLemmas.{blank_below}
 
-module _ (v : ShownBundle) (b next : List ℕ) (to : ℕ) (slides : IsSlideTo v b next to) where
+module _ (v : ShownBundle) (move : Move) (b next : List ℕ) (to : ℕ) (slides : IsSlideTo v move b next to) where
   abbrev n : ℕ
   n = v.side
 
-  slide : Slide n b slides.move next
-  slide = slide_of n b slides.board slides.move next slides.leads
+  slide : Slide n b move next
+  slide = slide_of n b slides.board move next slides.leads
 
   to_cell : to ≡ slide.cell
   to_cell = slides.to_is ∙ ap blank (sym slide.is) ∙ blank-slid n b slides.board slide.cell slide.inside
 
   pub next_is : IsBoardOf n next
-  next_is = IsBoardOf-moved n b slides.board slides.move next slides.leads
+  next_is = IsBoardOf-moved n b slides.board move next slides.leads
 
   pub to_below : to < n * n
   to_below = subst (λ k. k < n * n) (sym to_cell) slide.inside
@@ -40,7 +41,7 @@ module _ (v : ShownBundle) (b next : List ℕ) (to : ℕ) (slides : IsSlideTo v 
     tile_is = sym (get_or-take (n * n) spot.numbers to 0 to_below) ∙ ap (λ xs. at xs to) is.numbers
 
     -- the move of the tile
-    pub step_is : (place : ℕ) → place ≡ to → IsStepOf n slides.move b next (slice_index spot.numbers place) spot.blank to
+    pub step_is : (place : ℕ) → place ≡ to → IsStepOf n move b next (slice_index spot.numbers place) spot.blank to
     step_is place place_is = record {
       board = slides.board;
       leads = slides.leads;

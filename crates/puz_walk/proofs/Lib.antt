@@ -3,6 +3,7 @@ mod JudgeLemmas
 mod MarginLemmas
 mod OpenLemmas
 mod OwnerLemmas
+mod SeatLemmas
 mod ShiftLemmas
 mod TurnLemmas
 mod WalkLemmas

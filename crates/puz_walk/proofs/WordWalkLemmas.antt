@@ -74,13 +74,13 @@ module _ (w : Inside) (kept : IsStoredWordWalk w) where
       inside : to < v.side * v.side
       inside = step_of-inside v.side (blank board) move to good.low good.high (blank_below v.side board good) (ap (λ k. step_of v.side k move) (sym kept.spot.blank_is) ∙ sym is)
 
-      pub slides : IsSlideTo v board (slid board to) to
-      slides = record { board = good; move = move; leads = leads; to_is = sym (blank-slid v.side board good to inside) }
+      pub slides : IsSlideTo v move board (slid board to) to
+      slides = record { board = good; leads = leads; to_is = sym (blank-slid v.side board good to inside) }
 
       -- the move of its tile
       pub step_here : (place : ℕ) → place ≡ to → IsStepOf v.side move board (slid board to) (slice_index w.spot.numbers place) w.spot.blank to
       unfolding slides
-      step_here place place_is = step_is v board (slid board to) to slides w.spot kept.spot place place_is
+      step_here place place_is = step_is v move board (slid board to) to slides w.spot kept.spot place place_is
 
       still : w.margin ≡ margin_of (w.bound - 1) (blank_parity (slid board to))
       still =
@@ -105,11 +105,10 @@ module _ (w : Inside) (kept : IsStoredWordWalk w) where
           (λ set there. let l = low set (slice_index spot.sums set) (at.kept.each set there).says in let some = some_moves in let fits = margin_fits in omega arith)
 
       pub step_next : w.bound < 2 ^ 8 → (spot : Spot) → IsSpotOf v (slid board to) spot → (change : Change) → AreChanged v board (slid board to) change
-          → IsWordStepFrom (word_walk_shown w) (word_walk_shown (record { bundle = w.bundle; spot = spot; bound = w.bound - 1; margin = w.margin })) (record { from = w.spot.blank; change = change })
+          → IsWordStepFrom (word_walk_shown w) (word_walk_shown (record { bundle = w.bundle; spot = spot; bound = w.bound - 1; margin = w.margin })) (record { from = w.spot.blank; mv = move; change = change })
       step_next small spot at change changed = record {
         is_open = walk_open;
         bundle = refl;
-        move = move;
         leads = leads ∙ ap Some (sym at.numbers);
         less = (let some = some_moves in omega arith);
         fits = small;
@@ -126,11 +125,10 @@ module _ (w : Inside) (kept : IsStoredWordWalk w) where
     good_before : IsBoardOf v.side before.board
     good_before = subst (λ u. IsBoardOf u.side before.board) bundle_is from.is_open.board
 
-    pub slides_back : IsSlideTo v board before.board step.from
+    pub slides_back : IsSlideTo v (reverse_of step.mv) board before.board step.from
     slides_back = record {
       board = good;
-      move = reverse_of from.move;
-      leads = moved-reverse_of v.side before.board good_before from.move board from.leads;
+      leads = moved-reverse_of v.side before.board good_before step.mv board from.leads;
       to_is = from.from;
     }
 
@@ -141,7 +139,7 @@ module _ (w : Inside) (kept : IsStoredWordWalk w) where
     bound_fits = let e = from.less in let l = from.fits in omega arith
 
     margin_back : w.margin ≡ margin_of (w.bound + 1) (blank_parity before.board)
-    margin_back = kept.margin ∙ sym (margin_still w.bound (blank_parity before.board) (blank_parity board) (parity_flips v.side before.board good_before from.move board from.leads))
+    margin_back = kept.margin ∙ sym (margin_still w.bound (blank_parity before.board) (blank_parity board) (parity_flips v.side before.board good_before step.mv board from.leads))
 
     not_cut : IsCutOff v before.board (w.bound + 1) → ⊥
     not_cut cut = from.is_open.not_cut (subst (λ k. IsCutOff before.bundle before.board k) from.less (subst (λ u. IsCutOff u before.board (w.bound + 1)) from.bundle cut))

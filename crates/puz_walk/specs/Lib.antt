@@ -7,5 +7,7 @@ pub mod Shown
 -- How values are stored.
 pub mod StoredWords
 pub mod StoredWordWalks
+pub mod Seats
+pub mod StoredWordBundles
 -- What proofs alone need.
 pub mod WordSpots

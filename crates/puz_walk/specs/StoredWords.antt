@@ -1,4 +1,4 @@
--- How a bundle with edge words is stored: for each set and tile the member that has it, and where moves lead.
+-- What members look up, the members that have a tile, and where moves lead.
 use Rattle.std.specs.Prelude.{◌≡◌, ℕ, ◌+◌, ◌*◌, ◌<◌, false, if◌then◌else◌, List, length, slice_get, slice_index, slice_index_or, MatchOption, Option, Some, None}
 use Rattle.std.specs.List.{AllByRecursion}
 use Rattle.puz_board.specs.Cells.{step_of}
@@ -7,13 +7,10 @@ use Rattle.puz_board.specs.Transposing.{transposed_cell}
 use Rattle.puz_board.specs.declared.moves.Move.{Move}
 use Rattle.puz_board.specs.declared.moves.Move.TheVariants.{Up, Down, Left, Right}
 use Rattle.edge_words.specs.Words.{way_of}
-use Rattle.set_sum.specs.Bundles.{ShownBundle, IsBundle, set_of}
+use Rattle.set_sum.specs.Bundles.{ShownBundle, set_of}
 use Rattle.set_sum.specs.Members.{table_pattern}
-use Rattle.set_sum.specs.StoredBundles.{AreAllTransposed}
 use Rattle.set_sum.specs.declared.members.Member.{Member}
-use Rattle.puz_walk.specs.WordBundles.{HaveWords}
 use Rattle.puz_walk.specs.declared.owners.Owner.{Owner}
-use Rattle.puz_walk.specs.declared.word_bundles.WordBundle.TheInside.{Inside}
 
 -- ---- what a member looks up
 
@@ -49,24 +46,9 @@ HasNoOwner v set tile = AllByRecursion (λ m. has (table_pattern v.tables m) (ce
 abbrev pub IsOwnerOf : ShownBundle → ℕ → ℕ → Option Owner → Type 0
 IsOwnerOf v set tile owner = MatchOption owner (HasNoOwner v set tile) (IsOwner v set tile)
 
--- for each set and tile there is its owner
-pub record AreOwnersOf (v : ShownBundle) (owners : List (Option Owner)) : Type 0 where
-  pub room : length owners ≡ 400
-  pub each : (set tile : ℕ) → set < length v.sets → tile < v.side * v.side → IsOwnerOf v set tile (slice_index_or owners (25 * set + tile) None)
-
 -- ---- moves
 
 -- for each cell and move there is the cell to which it leads
 pub record AreWaysOf (n : ℕ) (ways : List (Option ℕ)) : Type 0 where
   pub room : length ways ≡ 100
   pub each : (cell : ℕ) (move : Move) → cell < n * n → slice_index_or ways (4 * cell + way_of move) None ≡ step_of n cell move
-
--- ---- all fields
-
--- these are the fields of a bundle with words
-pub record IsStoredWordBundle (w : Inside) : Type 0 where
-  pub bundle : IsBundle w.bundle.now
-  pub words : HaveWords w.bundle.now w.words.now
-  pub owners : AreOwnersOf w.bundle.now w.owners
-  pub ways : AreWaysOf w.bundle.now.side w.ways
-  pub transposed : AreAllTransposed w.bundle.now.side w.transposed

@@ -5,13 +5,12 @@ use Rattle.puz_board.specs.declared.moves.Move.{Move}
 use Rattle.tab_rule.specs.declared.tables.Count.{Count}
 use Rattle.tab_rule.specs.declared.tables.Count.TheVariants.{Finite}
 use Rattle.set_sum.specs.Bounds.{CountReaches}
-use Rattle.edge_words.specs.Spots.{IsStepOf, index_on}
+use Rattle.edge_words.specs.Spots.{index_on}
 use Rattle.set_sum.specs.Bundles.{ShownBundle, BundleSays, set_of}
 use Rattle.set_sum.specs.Known.{place_of}
 use Rattle.set_sum.specs.Members.{board_for}
 use Rattle.set_sum.specs.declared.members.Member.{Member}
 use Rattle.puz_walk.specs.WordBundles.{pattern_at}
-use Rattle.puz_walk.specs.declared.word_spots.Slide.{Slide}
 use Rattle.puz_walk.specs.declared.word_spots.Spot.{Spot}
 
 -- where the index of a member of a set is kept
@@ -46,14 +45,9 @@ pub record IsSpotOf (v : ShownBundle) (b : List ℕ) (spot : Spot) : Type 0 wher
   pub blank_is : spot.blank ≡ blank b
   pub kept : AreKept v b spot.sums spot.indexes
 
--- by some move of the tile the blank goes from one cell to the other
-abbrev pub Slides : ShownBundle → List ℕ → List ℕ → Slide → Type 0
-Slides v b next slide = (move : Move) × IsStepOf v.side move b next slide.tile slide.from slide.to
-
--- some move leads from board b to the next one, where the blank is in this cell
-pub record IsSlideTo (v : ShownBundle) (b next : List ℕ) (to : ℕ) : Type 0 where
+-- the move leads from board b to the next one, where the blank is in this cell
+pub record IsSlideTo (v : ShownBundle) (move : Move) (b next : List ℕ) (to : ℕ) : Type 0 where
   pub board : IsBoardOf v.side b
-  pub move : Move
   pub leads : moved b move ≡ Some next
   pub to_is : to ≡ blank next
 

@@ -2,7 +2,6 @@
 use Rattle.std.specs.Prelude.{◌≡◌, ℕ, ◌+◌, ◌<◌, ◌^◌, List, length, Some}
 use Rattle.std.specs.Int.{bit_at}
 use Rattle.puz_board.specs.Boards.{blank, moved}
-use Rattle.puz_board.specs.declared.moves.Move.{Move}
 use Rattle.tab_rule.specs.declared.tables.Count.TheVariants.{Finite}
 use Rattle.set_sum.specs.Bundles.{ShownBundle, BundleSays}
 use Rattle.puz_walk.specs.Walks.{IsOpen, ShownWalk}
@@ -23,13 +22,12 @@ pub record IsChangeOf (v : ShownBundle) (b next : List ℕ) (change : Change) (s
 abbrev pub AreChanged : ShownBundle → List ℕ → List ℕ → Change → Type 0
 AreChanged v b next change = (set : ℕ) → set < length v.sets → IsChangeOf v b next change set
 
--- the step leads from walk w, which is open, to the next one by a move, with one move less: it keeps the blank's cell, and
+-- the step leads from walk w, which is open, to the next one by its move, with one move less: it keeps the blank's cell, and
 -- the sets whose sums rose or fell
 pub record IsWordStepFrom (w next : ShownWalk) (step : WordStep) : Type 0 where
   pub is_open : IsOpen w
   pub bundle : next.bundle ≡ w.bundle
-  pub move : Move
-  pub leads : moved w.board move ≡ Some next.board
+  pub leads : moved w.board step.mv ≡ Some next.board
   pub less : next.bound + 1 ≡ w.bound
   pub fits : w.bound < 2 ^ 8
   pub from : step.from ≡ blank w.board

@@ -5,6 +5,7 @@
 
 mod cuts;
 mod owners;
+mod seats;
 mod sum_walks;
 mod walks;
 mod word_bundles;

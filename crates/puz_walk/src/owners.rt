@@ -1,14 +1,11 @@
-//! For each set and tile the member whose pattern has it.
+//! The member of a set whose pattern has a tile.
 
-ghost use Rattle.std.specs.Prelude.{◌≡◌, ◌*◌, ◌<◌, ◌≤◌, ◌/◌, ◌%◌, IsTrue, length};
-ghost use Rattle.puz_walk.specs.StoredWords.{AreOwnersOf, IsOwnerOf, cell_for, move_for, transposed_move};
+ghost use Rattle.std.specs.Prelude.{◌≡◌, ◌*◌, ◌<◌, length};
+ghost use Rattle.puz_walk.specs.StoredWords.{IsOwnerOf, cell_for, move_for, transposed_move};
 
 use puz_board::masks::{count_below, has_cell};
 use puz_board::{Move, Side, transposed_cell};
 use set_sum::{Bundle, Member};
-
-/// How many owners there are: one for each of 16 sets and 25 tiles.
-pub(crate) const MOST_OWNERS: usize = 400;
 
 /// The member of a set whose pattern has a tile.
 #[derive(Clone, Copy)]
@@ -18,23 +15,8 @@ pub(crate) struct Owner {
     pub(crate) tile: u8,
 }
 
-/// The owners of the tiles of all sets: 25 for each set.
-pub(crate) fn all_owners(bundle: &Bundle<'_>) -> [Option<Owner>; MOST_OWNERS]
-    ensures { AreOwnersOf bundle.now result }
-{
-    let cells = bundle.side().cells();
-    let mut owners = [None; MOST_OWNERS];
-    for place in 0..25 * u16::from(bundle.sets()) {
-        let tile = (place % 25) as u8;
-        if tile < cells {
-            owners[usize::from(place)] = owner_of(bundle, (place / 25) as u8, tile);
-        }
-    }
-    owners
-}
-
 /// The member of a set whose pattern has a tile.
-fn owner_of(bundle: &Bundle<'_>, set: u8, tile: u8) -> Option<Owner>
+pub(crate) fn owner_of(bundle: &Bundle<'_>, set: u8, tile: u8) -> Option<Owner>
     requires set { set < length bundle.now.sets }
     requires tile { tile < bundle.now.side * bundle.now.side }
     ensures { IsOwnerOf bundle.now set tile result }

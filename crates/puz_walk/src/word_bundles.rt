@@ -4,19 +4,19 @@ ghost use Rattle.std.specs.Prelude.{◌≡◌, ◌≢◌, ◌*◌, ◌+◌, ◌<
 ghost use Rattle.puz_board.specs.Cells.{step_of};
 ghost use Rattle.set_sum.specs.Bundles.{IsBundle};
 ghost use Rattle.set_sum.specs.Parts.{part_pattern, part_shown};
-ghost use Rattle.set_sum.specs.StoredBundles.{AreAllTransposed};
-ghost use Rattle.edge_words.specs.Words.{way_of};
-ghost use Rattle.puz_walk.specs.StoredWords.{AreWaysOf, IsOwnerOf, cell_for};
+ghost use Rattle.edge_words.specs.Words.{ShownWords, way_of};
+ghost use Rattle.puz_walk.specs.Seats.{IsSeatOf};
+ghost use Rattle.puz_walk.specs.StoredWords.{AreWaysOf};
 ghost use Rattle.puz_walk.specs.WordBundles.{HaveWords, most_worded};
-ghost use Rattle.puz_walk.specs.WordSpots.{AreIndexesOf, AreKept, IsShift, Slides};
+ghost use Rattle.puz_walk.specs.WordSpots.{AreIndexesOf, AreKept, IsShift};
 ghost use Rattle.edge_words.specs.Spots.{IsStepOf};
 
-use crate::owners::{MOST_OWNERS, Owner, all_owners, move_for};
-use crate::word_spots::{MOST_INDEXES, Slide, Spot, index_place};
+use crate::seats::{MOST_SEATS, Seat, all_seats};
+use crate::word_spots::{MOST_INDEXES, Spot};
 use edge_words::Words;
 use pat_place::Pattern;
-use puz_board::{MOVES, Move, Side, step, transposed_cell};
-use set_sum::{Bundle, Member, Part};
+use puz_board::{MOVES, Move, Side, step};
+use set_sum::{Bundle, Part};
 use std::marker::Model;
 
 /// The most tables of a bundle with words.
@@ -31,12 +31,10 @@ const MOST_WAYS: usize = 100;
 pub struct WordBundle<'a> {
     pub(crate) bundle: &'a Bundle<'a>,
     pub(crate) words: &'a [Words],
-    /// For each set and tile the member whose pattern has it.
-    owners: [Option<Owner>; MOST_OWNERS],
+    /// For each set and tile what is read and changed when the tile moves.
+    seats: [Seat; MOST_SEATS],
     /// For each cell and move the cell to which it leads.
     ways: [Option<u8>; MOST_WAYS],
-    /// The transposed cell of each cell.
-    transposed: [u8; 25],
 }
 
 impl<'a> Model for WordBundle<'a> {
@@ -46,7 +44,7 @@ impl<'a> Model for WordBundle<'a> {
 
     ghost view = { λ w. w.bundle.now };
 
-    ghost use Rattle.puz_walk.specs.StoredWords.{IsStoredWordBundle};
+    ghost use Rattle.puz_walk.specs.StoredWordBundles.{IsStoredWordBundle};
 
     ghost invariant = { IsStoredWordBundle };
 }
@@ -65,9 +63,8 @@ impl<'a> WordBundle<'a> {
         Some(WordBundle {
             bundle,
             words,
-            owners: all_owners(bundle),
+            seats: all_seats(bundle, words),
             ways: all_ways(side),
-            transposed: all_transposed(side),
         })
     }
 
@@ -99,29 +96,17 @@ impl<'a> WordBundle<'a> {
         self.ways[way_place(cell, mv)]
     }
 
-    /// The member of a set whose pattern has a tile.
+    /// The seat of a tile in a set.
     #[inline]
-    fn owner(&self, set: u8, tile: u8) -> Option<Owner>
+    fn seat(&self, set: u8, tile: u8) -> Seat
         requires set { set < length self.now.sets }
         requires tile { tile < self.now.side * self.now.side }
-        ensures { IsOwnerOf self.now set tile result }
+        ensures seat { IsSeatOf self.now set tile result }
+        ensures bundle { IsBundle self.now }
+        ensures words { (words : List ShownWords) × HaveWords self.now words }
     {
         let _sets = self.bundle.sets();
-        self.owners[25 * usize::from(set) + usize::from(tile)]
-    }
-
-    /// The cell that a member looks up.
-    #[inline]
-    fn cell_for(&self, member: Member, cell: u8) -> u8
-        requires { cell < self.now.side * self.now.side }
-        ensures { result ≡ cell_for self.now.side member cell }
-    {
-        let _side = self.bundle.side();
-        if member.is_transposed {
-            self.transposed[usize::from(cell)]
-        } else {
-            cell
-        }
+        self.seats[32 * usize::from(set) + usize::from(tile)]
     }
 
     /// Whether a move of a tile raises the sum of a set, where a member of the set has the tile.
@@ -137,38 +122,35 @@ impl<'a> WordBundle<'a> {
             → IsShift self.now b next set result }
     {
         let words = self.words;
-        let owner = self.owner(set, tile)?;
-        let member = owner.member;
-        let index = spot.indexes[index_place(set, member)];
-        let way = move_for(member, mv);
-        Some(words[usize::from(member.table)].raises(index, owner.tile, way))
+        let seat = self.seat(set, tile);
+        let table = usize::from(seat.owner.member.table);
+        if words.len() <= table {
+            return None;
+        }
+        let index = spot.indexes[usize::from(seat.place)];
+        Some(words[table].tells(index, seat.bits[way_of(mv)]))
     }
 
     /// The indexes of a set after a move of a tile.
     #[inline]
-    pub(crate) fn follow(&self, indexes: &mut [u32; MOST_INDEXES], set: u8, slide: Slide)
+    pub(crate) fn follow(&self, indexes: &mut [u32; MOST_INDEXES], set: u8, tile: u8, mv: Move)
         requires set { set < length self.now.sets }
         requires room { length indexes.old ≡ 256 }
-        requires step { (b : List ℕ) × (next : List ℕ) × Slides self.now b next slide
+        requires step { (b : List ℕ) × (next : List ℕ) × (from : ℕ) × (to : ℕ)
+            × IsStepOf self.now.side mv b next tile from to
             × AreIndexesOf self.now b indexes.old set }
         ensures room { length indexes.new ≡ 256 }
-        ensures indexes { (b next : List ℕ) → Slides self.now b next slide
+        ensures indexes { (b next : List ℕ) (from to : ℕ)
+            → IsStepOf self.now.side mv b next tile from to
             → AreIndexesOf self.now b indexes.old set
             → AreIndexesOf self.now next indexes.new set }
         ensures others { (other : ℕ) (b : List ℕ) → other < length self.now.sets → other ≢ set
             → AreIndexesOf self.now b indexes.old other
             → AreIndexesOf self.now b indexes.new other }
     {
-        let words = self.words;
-        let Some(owner) = self.owner(set, slide.tile) else {
-            return;
-        };
-        let member = owner.member;
-        let place = index_place(set, member);
-        let from = self.cell_for(member, slide.from);
-        let to = self.cell_for(member, slide.to);
-        let words = &words[usize::from(member.table)];
-        indexes[place] = words.follow(indexes[place], owner.tile, from, to);
+        let seat = self.seat(set, tile);
+        let place = usize::from(seat.place);
+        indexes[place] = indexes[place].wrapping_add(seat.steps[way_of(mv)]);
     }
 }
 
@@ -211,13 +193,21 @@ fn is_same(pattern: &Pattern, other: &Pattern) -> bool
 fn way_place(cell: u8, mv: Move) -> usize
     ensures { result ≡ 4 * cell + way_of mv }
 {
-    let way = match mv {
+    4 * usize::from(cell) + way_of(mv)
+}
+
+/// The number of a move.
+#[inline]
+fn way_of(mv: Move) -> usize
+    ensures number { result ≡ way_of mv }
+    ensures few { result < 4 }
+{
+    match mv {
         Move::Up => 0,
         Move::Down => 1,
         Move::Left => 2,
         Move::Right => 3,
-    };
-    4 * usize::from(cell) + way
+    }
 }
 
 /// For each cell and move of boards of a side the cell to which it leads.
@@ -229,15 +219,4 @@ fn all_ways(side: Side) -> [Option<u8>; MOST_WAYS]
         ways[usize::from(place)] = step(side, place / 4, MOVES[usize::from(place % 4)]);
     }
     ways
-}
-
-/// The transposed cell of each cell of a board of a side.
-fn all_transposed(side: Side) -> [u8; 25]
-    ensures { AreAllTransposed side result }
-{
-    let mut cells = [0; 25];
-    for cell in 0..side.cells() {
-        cells[usize::from(cell)] = transposed_cell(side, cell);
-    }
-    cells
 }

@@ -8,7 +8,7 @@ ghost use Rattle.set_sum.specs.Bounds.{CountReaches};
 ghost use Rattle.set_sum.specs.Bundles.{BundleSays, IsBundle};
 ghost use Rattle.edge_words.specs.Spots.{IsStepOf, index_on};
 ghost use Rattle.puz_walk.specs.WordBundles.{pattern_at};
-ghost use Rattle.puz_walk.specs.WordSpots.{AreBelow, AreIndexesOf, AreKept, GoesBeyond, IsSlideTo, IsSpotOf, Shifts, Slides, index_place};
+ghost use Rattle.puz_walk.specs.WordSpots.{AreBelow, AreIndexesOf, AreKept, GoesBeyond, IsSlideTo, IsSpotOf, Shifts, index_place};
 ghost use Rattle.puz_walk.specs.WordSteps.{AreChanged};
 
 use crate::word_bundles::WordBundle;
@@ -45,14 +45,6 @@ pub(crate) fn index_place(set: u8, member: Member) -> usize
     ensures { result ≡ index_place set member }
 {
     16 * usize::from(set) + 2 * usize::from(member.table) + usize::from(member.is_transposed)
-}
-
-/// A move of a tile: the blank goes from one cell to another.
-#[derive(Clone, Copy)]
-pub(crate) struct Slide {
-    pub(crate) tile: u8,
-    pub(crate) from: u8,
-    pub(crate) to: u8,
 }
 
 impl Change {
@@ -152,10 +144,10 @@ fn noted(change: Change, set: u8, rises: Option<bool>) -> Change
 
 /// Moves the blank to a cell beside its own, and the tile there into its own.
 #[inline]
-pub(crate) fn move_blank(bundle: &WordBundle<'_>, spot: &mut Spot, to: u8, change: Change)
-    requires { (b : List ℕ) × (next : List ℕ) × IsSlideTo bundle.now b next to
+pub(crate) fn move_blank(bundle: &WordBundle<'_>, spot: &mut Spot, to: u8, mv: Move, change: Change)
+    requires { (b : List ℕ) × (next : List ℕ) × IsSlideTo bundle.now mv b next to
         × IsSpotOf bundle.now b spot.old × AreChanged bundle.now b next change }
-    ensures { (b next : List ℕ) → IsSlideTo bundle.now b next to
+    ensures { (b next : List ℕ) → IsSlideTo bundle.now mv b next to
         → IsSpotOf bundle.now b spot.old → AreChanged bundle.now b next change
         → IsSpotOf bundle.now next spot.new }
 {
@@ -164,16 +156,18 @@ pub(crate) fn move_blank(bundle: &WordBundle<'_>, spot: &mut Spot, to: u8, chang
     spot.numbers[usize::from(from)] = tile;
     spot.numbers[usize::from(to)] = 0;
     spot.blank = to;
-    follow_sets(bundle, spot, Slide { tile, from, to }, change);
+    follow_sets(bundle, spot, tile, mv, change);
 }
 
 /// The sums and the indexes after a move of a tile.
 #[inline]
-fn follow_sets(bundle: &WordBundle<'_>, spot: &mut Spot, slide: Slide, change: Change)
-    requires { (b : List ℕ) × (next : List ℕ) × Slides bundle.now b next slide
+fn follow_sets(bundle: &WordBundle<'_>, spot: &mut Spot, tile: u8, mv: Move, change: Change)
+    requires { (b : List ℕ) × (next : List ℕ) × (from : ℕ) × (to : ℕ)
+        × IsStepOf bundle.now.side mv b next tile from to
         × AreKept bundle.now b spot.old.sums spot.old.indexes
         × AreChanged bundle.now b next change }
-    ensures kept { (b next : List ℕ) → Slides bundle.now b next slide
+    ensures kept { (b next : List ℕ) (from to : ℕ)
+        → IsStepOf bundle.now.side mv b next tile from to
         → AreKept bundle.now b spot.old.sums spot.old.indexes
         → AreChanged bundle.now b next change
         → AreKept bundle.now next spot.new.sums spot.new.indexes }
@@ -183,7 +177,7 @@ fn follow_sets(bundle: &WordBundle<'_>, spot: &mut Spot, slide: Slide, change: C
     for set in 0..bundle.sets() {
         let number = usize::from(set);
         spot.sums[number] = change.apply(set, spot.sums[number]);
-        bundle.follow(&mut spot.indexes, set, slide);
+        bundle.follow(&mut spot.indexes, set, tile, mv);
     }
 }
 

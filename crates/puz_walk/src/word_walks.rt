@@ -34,10 +34,11 @@ impl<'a> Model for WordWalk<'a> {
     ghost invariant = { IsStoredWordWalk };
 }
 
-/// A step of a walk, by which it is taken back: where the blank was, and which sums rose or fell.
+/// A step of a walk, by which it is taken back: where the blank was, how it went, and which sums rose or fell.
 #[derive(Clone, Copy)]
 pub struct WordStep {
     from: u8,
+    mv: Move,
     change: Change,
 }
 
@@ -86,9 +87,9 @@ impl<'a> WordWalk<'a> {
         let to = bundle.after(from, mv)?;
         let tile = self.spot.numbers[usize::from(to)];
         let change = judge(bundle, &self.spot, tile, mv, self.bound - self.margin)?;
-        move_blank(bundle, &mut self.spot, to, change);
+        move_blank(bundle, &mut self.spot, to, mv, change);
         self.bound -= 1;
-        Some(WordStep { from, change })
+        Some(WordStep { from, mv, change })
     }
 
     /// Takes a step back.
@@ -97,7 +98,8 @@ impl<'a> WordWalk<'a> {
         requires { (w : ShownWalk) × IsWordStepFrom w self.old step.now }
         ensures { (w : ShownWalk) → IsWordStepFrom w self.old step.now → self.new ≡ w }
     {
-        move_blank(self.bundle, &mut self.spot, step.from, step.change.back());
+        let (back, change) = (step.mv.reverse(), step.change.back());
+        move_blank(self.bundle, &mut self.spot, step.from, back, change);
         self.bound += 1;
     }
 }

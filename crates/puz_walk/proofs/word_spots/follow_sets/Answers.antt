@@ -8,8 +8,8 @@ apply-requires-clause-fits c =
     let v = c.args.bundle.now in
     let set = c.loop-set.set in
     let low : set < length v.sets = (let more = c.loop-set-test.true in let count = c.sets-set-end.ensures.sets in omega arith) in
-    let half = c.loop-set.invariant.half c.requires.0 c.requires.1 c.requires.2 c.requires.3 c.requires.4 in
-    let fits = fits_here v c.requires.0 c.requires.1 c.args.change c.requires.4 set low c.loop-set.spot.sums (half.left set (omega arith) low).says in
+    let half = c.loop-set.invariant.half c.requires.0 c.requires.1 c.requires.2 c.requires.3 c.requires.4 c.requires.5 c.requires.6 in
+    let fits = fits_here v c.requires.0 c.requires.1 c.args.change c.requires.6 set low c.loop-set.spot.sums (half.left set (omega arith) low).says in
     subst (λ k. slice_index c.loop-set.spot.sums k + bit_at c.args.change.rose set < 2 ^ 8) (sym c.from-number.ensures) fits
 
 pub apply-requires-clause-some : goal.apply-requires-clause-some
@@ -17,8 +17,8 @@ apply-requires-clause-some c =
     let v = c.args.bundle.now in
     let set = c.loop-set.set in
     let low : set < length v.sets = (let more = c.loop-set-test.true in let count = c.sets-set-end.ensures.sets in omega arith) in
-    let half = c.loop-set.invariant.half c.requires.0 c.requires.1 c.requires.2 c.requires.3 c.requires.4 in
-    let some = some_here v c.requires.0 c.requires.1 c.args.change c.requires.4 set low c.loop-set.spot.sums (half.left set (omega arith) low).says in
+    let half = c.loop-set.invariant.half c.requires.0 c.requires.1 c.requires.2 c.requires.3 c.requires.4 c.requires.5 c.requires.6 in
+    let some = some_here v c.requires.0 c.requires.1 c.args.change c.requires.6 set low c.loop-set.spot.sums (half.left set (omega arith) low).says in
     subst (λ k. bit_at c.args.change.fell set ≤ slice_index c.loop-set.spot.sums k + bit_at c.args.change.rose set) (sym c.from-number.ensures) some
 
 pub follow-requires-clause-step : goal.follow-requires-clause-step
@@ -26,28 +26,28 @@ follow-requires-clause-step c =
     let v = c.args.bundle.now in
     let set = c.loop-set.set in
     let low : set < length v.sets = (let more = c.loop-set-test.true in let count = c.sets-set-end.ensures.sets in omega arith) in
-    let half = c.loop-set.invariant.half c.requires.0 c.requires.1 c.requires.2 c.requires.3 c.requires.4 in
-    (c.requires.0, c.requires.1, c.requires.2, (half.left set (omega arith) low).are)
+    let half = c.loop-set.invariant.half c.requires.0 c.requires.1 c.requires.2 c.requires.3 c.requires.4 c.requires.5 c.requires.6 in
+    (c.requires.0, c.requires.1, c.requires.2, c.requires.3, c.requires.4, (half.left set (omega arith) low).are)
 
 pub loop-set-preserved : goal.loop-set-preserved
 loop-set-preserved c = record {
   numbers = c.loop-set.invariant.numbers;
   blank = c.loop-set.invariant.blank;
-  half = λ b next slides kept changed.
+  half = λ b next from to step kept changed.
       let v = c.args.bundle.now in
       let set = c.loop-set.set in
       let low : set < length v.sets = (let more = c.loop-set-test.true in let count = c.sets-set-end.ensures.sets in omega arith) in
-      let half = c.loop-set.invariant.half b next slides kept changed in
+      let half = c.loop-set.invariant.half b next from to step kept changed in
       let sum : c.apply.result + bit_at c.args.change.fell set ≡ slice_index c.loop-set.spot.sums set + bit_at c.args.change.rose set =
       c.apply.ensures ∙ ap (λ k. slice_index c.loop-set.spot.sums k + bit_at c.args.change.rose set) c.from-number.ensures in
       subst (λ k. IsHalf v b next c.args.change changed (set + 1) (slice_set c.loop-set.spot.sums k c.apply.result) c.follow.new.indexes) (sym c.from-number.ensures)
       (half_more v b next c.args.change changed set c.loop-set.spot.sums c.loop-set.spot.indexes c.follow.new.indexes c.apply.result c.sets-set-end.ensures.bundle.few_sets low half
-      sum c.follow.ensures.room (c.follow.ensures.indexes b next slides (half.left set (omega arith) low).are)
+      sum c.follow.ensures.room (c.follow.ensures.indexes b next from to step (half.left set (omega arith) low).are)
       (λ other x there ne are. c.follow.ensures.others other x there ne are));
 }
 
 pub returns-clause-kept : goal.returns-clause-kept
-returns-clause-kept c b next slides kept changed =
+returns-clause-kept c b next from to step kept changed =
     let v = c.args.bundle.now in
     let all : length v.sets ≤ c.loop-set.set = (let done = c.loop-set-test.false in let count = c.sets-set-end.ensures.sets in omega arith) in
-    half_all v b next c.args.change changed c.loop-set.set c.loop-set.spot.sums c.loop-set.spot.indexes all (c.loop-set.invariant.half b next slides kept changed)
+    half_all v b next c.args.change changed c.loop-set.set c.loop-set.spot.sums c.loop-set.spot.indexes all (c.loop-set.invariant.half b next from to step kept changed)

@@ -3,19 +3,21 @@ use Rattle.puz_walk.proofs.BlankLemmas.{from_room, next_is, numbers_next, step_i
 use Rattle.puz_walk.proofs.word_spots.move_blank.Goals as goal
 
 pub bounds-spot-from : goal.bounds-spot-from
-bounds-spot-from c = subst (λ k. k < 25) (sym c.from.ensures) (to_room c.args.bundle.now c.requires.0 c.requires.1 c.args.to c.requires.2)
+bounds-spot-from c = subst (λ k. k < 25) (sym c.from.ensures) (to_room c.args.bundle.now c.args.mv c.requires.0 c.requires.1 c.args.to c.requires.2)
 
 pub bounds-spot-from-2 : goal.bounds-spot-from-2
-bounds-spot-from-2 c = subst (λ k. k < 25) (sym c.from-2.ensures) (from_room c.args.bundle.now c.requires.0 c.requires.1 c.args.to c.requires.2 c.args.spot.now c.requires.3)
+bounds-spot-from-2 c = subst (λ k. k < 25) (sym c.from-2.ensures) (from_room c.args.bundle.now c.args.mv c.requires.0 c.requires.1 c.args.to c.requires.2 c.args.spot.now c.requires.3)
 
 pub bounds-spot-from-3 : goal.bounds-spot-from-3
-bounds-spot-from-3 c = subst (λ k. k < 25) (sym c.from-3.ensures) (to_room c.args.bundle.now c.requires.0 c.requires.1 c.args.to c.requires.2)
+bounds-spot-from-3 c = subst (λ k. k < 25) (sym c.from-3.ensures) (to_room c.args.bundle.now c.args.mv c.requires.0 c.requires.1 c.args.to c.requires.2)
 
 pub follow_sets-requires : goal.follow_sets-requires
 follow_sets-requires c = (
   c.requires.0,
   c.requires.1,
-  (c.requires.2.move, step_is c.args.bundle.now c.requires.0 c.requires.1 c.args.to c.requires.2 c.args.spot.now c.requires.3 c.from.result c.from.ensures),
+  c.args.spot.now.blank,
+  c.args.to,
+  step_is c.args.bundle.now c.args.mv c.requires.0 c.requires.1 c.args.to c.requires.2 c.args.spot.now c.requires.3 c.from.result c.from.ensures,
   c.requires.3.kept,
   c.requires.4,
 )
@@ -24,12 +26,12 @@ pub returns : goal.returns
 returns c b next slides is changed =
     let v = c.args.bundle.now in
     let spot = c.args.spot.now in
-    let step = step_is v b next c.args.to slides spot is c.from.result c.from.ensures in
+    let step = step_is v c.args.mv b next c.args.to slides spot is c.from.result c.from.ensures in
     record {
-      board = next_is v b next c.args.to slides;
+      board = next_is v c.args.mv b next c.args.to slides;
       space = ap length c.follow_sets.ensures.numbers ∙ length-set _ _ _ ∙ length-set _ _ _ ∙ is.space;
       numbers = ap (take (v.side * v.side)) c.follow_sets.ensures.numbers ∙
-          numbers_next v b next c.args.to slides spot is c.from.result c.from-2.result c.from-3.result c.from.ensures c.from-2.ensures c.from-3.ensures;
+          numbers_next v c.args.mv b next c.args.to slides spot is c.from.result c.from-2.result c.from-3.result c.from.ensures c.from-2.ensures c.from-3.ensures;
       blank_is = c.follow_sets.ensures.blank ∙ slides.to_is;
-      kept = c.follow_sets.ensures.kept b next (slides.move, step) is.kept changed;
+      kept = c.follow_sets.ensures.kept b next spot.blank c.args.to step is.kept changed;
     }

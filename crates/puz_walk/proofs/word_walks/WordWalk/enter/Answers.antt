@@ -24,7 +24,7 @@ bounds-self-inside-from c =
     let s = c.self.inside in
     let b = board s c.self.invariant in
     let to = c.in_ok-to.to in
-    subst (λ k. k < 25) (sym c.from.ensures) (to_room s.bundle.now b (slid b to) to (slides s c.self.invariant c.args.mv to c.in_ok-to.ensures))
+    subst (λ k. k < 25) (sym c.from.ensures) (to_room s.bundle.now c.args.mv b (slid b to) to (slides s c.self.invariant c.args.mv to c.in_ok-to.ensures))
 
 pub overflow_sub-self-inside : goal.overflow_sub-self-inside
 overflow_sub-self-inside c = margin_fits c.self.inside c.self.invariant
@@ -80,6 +80,6 @@ returns-clause-some c =
       ap (λ w. moved w.board c.args.mv) (sym c.self.view_is) ∙ leads s c.self.invariant c.args.mv to c.in_ok-to.ensures ∙ ap Some (sym there.numbers),
       ap (λ w. w.bundle) c.self.view_is,
       (let some = some_moves s c.self.invariant in let e : s.bound - 1 + 1 ≡ s.bound = omega arith in e ∙ ap (λ w. w.bound) c.self.view_is),
-      subst (λ w. IsWordStepFrom w (word_walk_shown (record { bundle = s.bundle; spot = c.move_blank.new.spot; bound = s.bound - 1; margin = s.margin })) (record { from = s.spot.blank; change = c.in_ok-change.change })) c.self.view_is
+      subst (λ w. IsWordStepFrom w (word_walk_shown (record { bundle = s.bundle; spot = c.move_blank.new.spot; bound = s.bound - 1; margin = s.margin })) (record { from = s.spot.blank; mv = c.args.mv; change = c.in_ok-change.change })) c.self.view_is
           (step_next s c.self.invariant c.args.mv to c.in_ok-to.ensures small c.move_blank.new.spot there c.in_ok-change.change judged.0),
     )

@@ -1,4 +1,5 @@
 use Rattle.std.proofs.Common.{sym, subst, arith}
+use Rattle.puz_walk.specs.WordSpots.{IsSlideTo}
 use Rattle.puz_walk.specs.WordSteps.{AreChanged, IsWordStepFrom}
 use Rattle.puz_walk.proofs.JudgeLemmas.{changed_back}
 use Rattle.puz_walk.proofs.WordWalkLemmas.{back_is, board, bound_fits, changed_before, slides_back, stored_back}
@@ -14,9 +15,9 @@ move_blank-requires c =
     let b = board s c.self.invariant in (
       b,
       w.board,
-      slides_back s c.self.invariant w step from,
+      subst (λ mv. IsSlideTo v mv b w.board step.from) (sym c.reverse-back.ensures.value) (slides_back s c.self.invariant w step from),
       c.self.invariant.spot,
-      subst (AreChanged v b w.board) (sym c.back.ensures) (changed_back v w.board b step.change (changed_before s c.self.invariant w step from)),
+      subst (AreChanged v b w.board) (sym c.back-change.ensures) (changed_back v w.board b step.change (changed_before s c.self.invariant w step from)),
     )
 
 pub overflow_add-self : goal.overflow_add-self
@@ -33,8 +34,8 @@ invariant_of-self c =
     let step = c.args.step.now in
     let from = subst (λ x. IsWordStepFrom w x step) (sym c.self.view_is) c.requires.1 in
     let b = board s c.self.invariant in
-    let changed = subst (AreChanged v b w.board) (sym c.back.ensures) (changed_back v w.board b step.change (changed_before s c.self.invariant w step from)) in
-    stored_back s c.self.invariant w step from c.move_blank.new.spot (c.move_blank.ensures b w.board (slides_back s c.self.invariant w step from) c.self.invariant.spot changed)
+    let changed = subst (AreChanged v b w.board) (sym c.back-change.ensures) (changed_back v w.board b step.change (changed_before s c.self.invariant w step from)) in
+    stored_back s c.self.invariant w step from c.move_blank.new.spot (c.move_blank.ensures b w.board (subst (λ mv. IsSlideTo v mv b w.board step.from) (sym c.reverse-back.ensures.value) (slides_back s c.self.invariant w step from)) c.self.invariant.spot changed)
 
 pub returns : goal.returns
 returns c w step_from =
@@ -43,5 +44,5 @@ returns c w step_from =
     let step = c.args.step.now in
     let from = subst (λ x. IsWordStepFrom w x step) (sym c.self.view_is) step_from in
     let b = board s c.self.invariant in
-    let changed = subst (AreChanged v b w.board) (sym c.back.ensures) (changed_back v w.board b step.change (changed_before s c.self.invariant w step from)) in
-    back_is s c.self.invariant w step from c.move_blank.new.spot (c.move_blank.ensures b w.board (slides_back s c.self.invariant w step from) c.self.invariant.spot changed)
+    let changed = subst (AreChanged v b w.board) (sym c.back-change.ensures) (changed_back v w.board b step.change (changed_before s c.self.invariant w step from)) in
+    back_is s c.self.invariant w step from c.move_blank.new.spot (c.move_blank.ensures b w.board (subst (λ mv. IsSlideTo v mv b w.board step.from) (sym c.reverse-back.ensures.value) (slides_back s c.self.invariant w step from)) c.self.invariant.spot changed)
