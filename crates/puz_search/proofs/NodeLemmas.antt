@@ -1,14 +1,16 @@
 -- Nodes, the moves that lead to them, and what the searches below them answer.
-use Rattle.std.proofs.Common.{◌≡◌, ℕ, ◌+◌, ◌-◌, ◌*◌, ◌≤◌, ◌↔◌, false, List, [], ◌∷◌, ◌++◌, Some, refl, sym, ap, subst, append_assoc, eq-eqb, arith}
+use Rattle.std.proofs.Common.{◌≡◌, ℕ, ◌+◌, ◌-◌, ◌*◌, ◌≤◌, ◌↔◌, false, List, [], ◌∷◌, ◌++◌, Option, Some, IfSome, refl, sym, ap, subst, append_assoc, eq-eqb, arith}
 use Rattle.puz_board.specs.Boards.{IsGoal, moved}
 use Rattle.puz_board.specs.Cells.{move_of_letter}
 use Rattle.puz_board.specs.declared.moves.Move.{Move}
 use Rattle.puz_board.specs.declared.moves.Move.TheVariants.{Up, Down, Left, Right}
 use Rattle.puz_search.specs.Frontiers.{Adds, IsMore, child_fails_of}
-use Rattle.puz_search.specs.Nodes.{IsLed, IsPartAnswer, IsReached, node_fails, solves_below, solves_first}
+use Rattle.puz_search.specs.Guides.{automaton_of}
+use Rattle.puz_search.specs.Nodes.{IsLed, IsPartAnswer, node_fails, solves_below, solves_first, walk_to}
+use Rattle.puz_search.specs.Openness.{IsWalkTo}
 use Rattle.puz_search.specs.Outcomes.{IsTrail, bound_at, fails_at, guide_at, walk_at}
 use Rattle.move_strings.specs.Automata.{left_out, next_at}
-use Rattle.puz_walk.specs.Walks.{IsClosed, IsCutOff}
+use Rattle.puz_walk.specs.Walks.{IsClosed, IsCutOff, ShownWalk}
 use Rattle.puz_search.specs.Searches.{Fails, InTurn, leaves_out, most_boards}
 use Rattle.puz_search.specs.declared.answers.Answer.{Answer}
 use Rattle.puz_search.specs.declared.answers.Answer.TheVariants.{Refuted, Solved, Spent}
@@ -36,20 +38,35 @@ node_answer s node led Part most budget Spent is = is
 
 -- ---- a node that is reached
 
-module _ (s : Search) (node : Node) (reached : Reached) (is : IsReached s node reached) where
-  reached_guide : guide_at reached ≡ s.guide.now
+-- a search reaches the board of the node in its state, led by the guide; what is seen of its walk is `shown`
+pub record IsReached {W : Type 0} (shown : W → ShownWalk) (s : Search) (node : Node) (reached : Reached W) : Type 0 where
+  pub walk : walk_at shown reached ≡ walk_to s node
+  pub automaton : reached.automaton.now ≡ automaton_of s.guide.now
+  pub state : reached.state ≡ node.state
+
+-- by a walk to that board
+pub reached_by : {W : Type 0} (shown : W → ShownWalk) (s : Search) (node : Node) (walk : Option W) (reached : Reached W) → IsWalkTo shown (walk_to s node) walk → walk ≡ Some reached.walk
+    → reached.automaton.now ≡ automaton_of s.guide.now → reached.state ≡ node.state → IsReached shown s node reached
+reached_by shown s node walk reached to some automaton state = record {
+  walk = subst (λ o. IfSome o (λ w. shown w ≡ walk_to s node)) some to.0;
+  automaton = automaton;
+  state = state;
+}
+
+module _ {W : Type 0} (shown : W → ShownWalk) (s : Search) (node : Node) (reached : Reached W) (is : IsReached shown s node reached) where
+  reached_guide : guide_at shown reached ≡ s.guide.now
   reached_guide = let bundle = ap (λ w. w.bundle) is.walk in let steps = ap (λ a. a.steps) is.automaton in λ i. record { bundle = bundle i; steps = steps i }
 
   -- the search from there is that below the node
-  pub reached_fails : (n : ℕ) → fails_at reached n ↔ node_fails s node n
+  pub reached_fails : (n : ℕ) → fails_at shown reached n ↔ node_fails s node n
   reached_fails n = (
     λ h. subst (λ g. Fails g node.bound node.board node.state n) reached_guide
-        (subst (λ w. Fails (guide_at reached) w.bound w.board node.state n) is.walk (subst (λ a. Fails (guide_at reached) (bound_at reached) (walk_at reached).board a n) is.state h)),
-    λ h. subst (λ a. Fails (guide_at reached) (bound_at reached) (walk_at reached).board a n) (sym is.state)
-        (subst (λ w. Fails (guide_at reached) w.bound w.board node.state n) (sym is.walk) (subst (λ g. Fails g node.bound node.board node.state n) (sym reached_guide) h)),
+        (subst (λ w. Fails (guide_at shown reached) w.bound w.board node.state n) is.walk (subst (λ a. Fails (guide_at shown reached) (bound_at shown reached) (walk_at shown reached).board a n) is.state h)),
+    λ h. subst (λ a. Fails (guide_at shown reached) (bound_at shown reached) (walk_at shown reached).board a n) (sym is.state)
+        (subst (λ w. Fails (guide_at shown reached) w.bound w.board node.state n) (sym is.walk) (subst (λ g. Fails g node.bound node.board node.state n) (sym reached_guide) h)),
   )
 
-  pub reached_most : most_boards (bound_at reached) ≡ most_boards node.bound
+  pub reached_most : most_boards (bound_at shown reached) ≡ most_boards node.bound
   reached_most = ap (λ w. most_boards w.bound) is.walk
 
 -- ---- the node after a move

@@ -6,7 +6,7 @@ use Rattle.puz_board.specs.declared.moves.Move.{Move}
 use Rattle.puz_board.specs.declared.moves.Move.TheVariants.{Up, Down, Left, Right}
 use Rattle.puz_search.specs.Outcomes.{AfterMove, IsRefuted, IsStop, IsTrail, bound_at, child_fails, children_fail, fails_at, guide_at, is_solved_at, most_children, walk_at}
 use Rattle.move_strings.specs.Automata.{left_out, next_at}
-use Rattle.puz_walk.specs.Walks.{IsOpen, LeadsNowhere}
+use Rattle.puz_walk.specs.Walks.{IsOpen, LeadsNowhere, ShownWalk}
 use Rattle.puz_search.specs.Searches.{Fails, InTurn, leaves_out, most_boards}
 use Rattle.puz_search.specs.declared.efforts.Effort.{Effort}
 use Rattle.puz_search.specs.declared.efforts.Stop.{Stop}
@@ -44,165 +44,169 @@ pub ok_as : {A X : Type 0} (P Q : Type 0) → (P → Q) → (o : Result A X) →
 ok_as P Q f (Ok a) h = f h
 ok_as P Q f (Err x) h = h
 
--- ---- a board
+-- ---- what needs no walk
 
 pub most_open : (r : ℕ) → 1 ≤ r → most_boards r ≡ 4 * most_boards (r - 1) + 1
 most_open zero some = absurd (omega arith)
 most_open (suc r) some = ap (λ k. 4 * most_boards k + 1) (let e : r ≡ suc r - 1 = omega arith in e)
 
--- the goal board
-pub goal_solved : (r : Reached) → IsOpen (walk_at r) → IsGoal (walk_at r).board → (letters : List ℕ) → letters ≡ []
-    → is_solved_at r letters × ((boards : ℕ) → ¬ fails_at r boards)
-goal_solved r open_ goal letters none = (
-  subst (is_solved_at r) (sym none) (trail_end (walk_at r).board (bound_at r) open_.some goal),
-  fails_goal (guide_at r) (walk_at r).board r.state (bound_at r) open_.some open_.not_cut goal,
-)
-
--- where no board may be expanded
-pub spent_stopped : (r : Reached) → IsOpen (walk_at r) → (e : Effort) → e.left ≡ 0 → (e.left < most_boards (bound_at r)) × ((boards : ℕ) → fails_at r boards → e.left < boards)
-spent_stopped r open_ e none = (
-  let most = most_open (bound_at r) open_.some in omega arith,
-  λ boards h. let some = fails_some (guide_at r) (walk_at r).board r.state (bound_at r) open_.some open_.not_cut boards h in omega arith,
-)
-
-module _ (r : Reached) (open_ : IsOpen (walk_at r)) (far : ¬ IsGoal (walk_at r).board) (old spent new : Effort) (one : old.left ≡ spent.left + 1) where
-  pub opened_refuted : IsRefuted (children_fail r) (most_children 4 (bound_at r)) spent new → IsRefuted (fails_at r) (most_boards (bound_at r)) old new
-  opened_refuted is = record {
-    boards = is.boards + 1;
-    left = let left = is.left in omega arith;
-    few = let few = is.few in let most = most_open (bound_at r) open_.some in omega arith;
-    fails = (fails_open (guide_at r) (walk_at r).board r.state (bound_at r) open_.some open_.not_cut far (is.boards + 1)).1 (is.boards, refl, is.fails);
-    once = λ n h.
-        let on = (fails_open (guide_at r) (walk_at r).board r.state (bound_at r) open_.some open_.not_cut far n).0 h in
-        let e : n ≡ on.0 + 1 = on.1 in
-        let same : on.0 ≡ is.boards = is.once on.0 on.2 in
-        omega arith;
-    none = is.none;
-  }
-
-  pub opened_stopped : (stop : Stop) → IsStop (children_fail r) (is_solved_at r) (most_children 4 (bound_at r)) stop spent new → IsStop (fails_at r) (is_solved_at r) (most_boards (bound_at r)) stop old new
-  opened_stopped Solved is = (is.0, λ n h. let on = (fails_open (guide_at r) (walk_at r).board r.state (bound_at r) open_.some open_.not_cut far n).0 h in is.1 on.0 on.2)
-  opened_stopped Spent is = (
-    let l : spent.left < most_children 4 (bound_at r) = is.0 in let most = most_open (bound_at r) open_.some in omega arith,
-    λ n h.
-        let on = (fails_open (guide_at r) (walk_at r).board r.state (bound_at r) open_.some open_.not_cut far n).0 h in
-        let l : spent.left < on.0 = is.1 on.0 on.2 in
-        let e : n ≡ on.0 + 1 = on.1 in
-        omega arith,
-  )
-
--- ---- the boards after its moves
-
 stop_more : (F : ℕ → Type 0) (S : List ℕ → Type 0) (most more : ℕ) → most ≤ more → (stop : Stop) (old new : Effort) → IsStop F S most stop old new → IsStop F S more stop old new
 stop_more F S most more low Solved old new is = is
 stop_more F S most more low Spent old new is = (let l : old.left < most = is.0 in omega arith, is.1)
-
-abbrev Four : Reached → ℕ → Type 0
-Four r = InTurn (child_fails r Up) (InTurn (child_fails r Down) (InTurn (child_fails r Left) (child_fails r Right)))
-
-module _ (r s t u : Reached) (first : s ≡ r) (second : t ≡ s) (third : u ≡ t) where
-  abbrev Out : Reached → Move → Effort → Effort → Type 0
-  Out x move old new = IsRefuted (child_fails x move) (most_children 1 (bound_at x)) old new
-
-  abbrev Stops : Reached → Move → Stop → Effort → Effort → Type 0
-  Stops x move stop old new = IsStop (child_fails x move) (is_solved_at x) (most_children 1 (bound_at x)) stop old new
-
-  abbrev Stopped : Stop → Effort → Effort → Type 0
-  Stopped stop old new = IsStop (children_fail r) (is_solved_at r) (most_children 4 (bound_at r)) stop old new
-
-  module _ (a b : Effort) (up : Out r Up a b) where
-    pub stopped_second : (stop : Stop) (c : Effort) → Stops s Down stop b c → Stopped stop a c
-    stopped_second stop c is =
-        let m = most_children 1 (bound_at r) in
-        let down = subst (λ x. Stops x Down stop b c) first is in
-        stop_more (Four r) (is_solved_at r) (m + (m + (m + m))) (most_children 4 (bound_at r)) (omega arith) stop a c
-        (stop_second (child_fails r Up) (InTurn (child_fails r Down) (InTurn (child_fails r Left) (child_fails r Right))) m (m + (m + m)) (is_solved_at r) stop a b c up
-        (stop_first (child_fails r Down) (InTurn (child_fails r Left) (child_fails r Right)) m (m + m) (is_solved_at r) stop b c down))
-
-    module _ (c : Effort) (down : Out s Down b c) where
-      pub stopped_third : (stop : Stop) (d : Effort) → Stops t Left stop c d → Stopped stop a d
-      stopped_third stop d is =
-          let m = most_children 1 (bound_at r) in
-          let down_is = subst (λ x. Out x Down b c) first down in
-          let left = subst (λ x. Stops x Left stop c d) (second ∙ first) is in
-          stop_more (Four r) (is_solved_at r) (m + (m + (m + m))) (most_children 4 (bound_at r)) (omega arith) stop a d
-          (stop_second (child_fails r Up) (InTurn (child_fails r Down) (InTurn (child_fails r Left) (child_fails r Right))) m (m + (m + m)) (is_solved_at r) stop a b d up
-          (stop_second (child_fails r Down) (InTurn (child_fails r Left) (child_fails r Right)) m (m + m) (is_solved_at r) stop b c d down_is
-          (stop_first (child_fails r Left) (child_fails r Right) m m (is_solved_at r) stop c d left)))
-
-      module _ (d : Effort) (left : Out t Left c d) where
-        pub stopped_fourth : (stop : Stop) (e : Effort) → Stops u Right stop d e → Stopped stop a e
-        stopped_fourth stop e is =
-            let m = most_children 1 (bound_at r) in
-            let down_is = subst (λ x. Out x Down b c) first down in
-            let left_is = subst (λ x. Out x Left c d) (second ∙ first) left in
-            let right = subst (λ x. Stops x Right stop d e) (third ∙ second ∙ first) is in
-            stop_more (Four r) (is_solved_at r) (m + (m + (m + m))) (most_children 4 (bound_at r)) (omega arith) stop a e
-            (stop_second (child_fails r Up) (InTurn (child_fails r Down) (InTurn (child_fails r Left) (child_fails r Right))) m (m + (m + m)) (is_solved_at r) stop a b e up
-            (stop_second (child_fails r Down) (InTurn (child_fails r Left) (child_fails r Right)) m (m + m) (is_solved_at r) stop b c e down_is
-            (stop_second (child_fails r Left) (child_fails r Right) m m (is_solved_at r) stop c d e left_is right)))
-
-        pub refuted_four : (e : Effort) → Out u Right d e → IsRefuted (children_fail r) (most_children 4 (bound_at r)) a e
-        refuted_four e is =
-            let m = most_children 1 (bound_at r) in
-            let down_is = subst (λ x. Out x Down b c) first down in
-            let left_is = subst (λ x. Out x Left c d) (second ∙ first) left in
-            let right = subst (λ x. Out x Right d e) (third ∙ second ∙ first) is in
-            refuted_as (Four r) (children_fail r) (λ n. (λ h. h, λ h. h)) (m + (m + (m + m))) (most_children 4 (bound_at r)) (omega arith) a e
-            (refuted_both (child_fails r Up) (InTurn (child_fails r Down) (InTurn (child_fails r Left) (child_fails r Right))) m (m + (m + m)) a b e up
-            (refuted_both (child_fails r Down) (InTurn (child_fails r Left) (child_fails r Right)) m (m + m) b c e down_is
-            (refuted_both (child_fails r Left) (child_fails r Right) m m c d e left_is right)))
-
--- ---- the board after a move
-
--- where the move leads nowhere
-pub nowhere_refuted : (r : Reached) (move : Move) (e : Effort) → LeadsNowhere (walk_at r) move → e.letters.items ≡ [] → IsRefuted (child_fails r move) (most_children 1 (bound_at r)) e e
-nowhere_refuted r move e none clean =
-    refuted_none (child_fails r move) (most_children 1 (bound_at r)) e
-    (at_nowhere (guide_at r) (bound_at r - 1) (moved (walk_at r).board move) (leaves_out r.automaton.now.steps r.state move)
-    (next_at r.automaton.now.steps r.state move) none) clean
 
 -- the automaton has a step
 pub step_kept : (steps : List ℕ) (state next : ℕ) (move : Move) → next_at steps state move ≡ next → next ≢ left_out → leaves_out steps state move ≡ false
 step_kept steps state next move to kept = ne_eqb (next_at steps state move) left_out (λ e. kept (sym to ∙ e))
 
--- where the automaton leaves the move out
-pub out_refuted : (r : Reached) (move : Move) (e : Effort) → next_at r.automaton.now.steps r.state move ≡ left_out → e.letters.items ≡ [] → IsRefuted (child_fails r move) (most_children 1 (bound_at r)) e e
-out_refuted r move e out clean =
-    refuted_none (child_fails r move) (most_children 1 (bound_at r)) e
-    (at_out (moved (walk_at r).board move) (leaves_out r.automaton.now.steps r.state move)
-    (λ next. Fails (guide_at r) (bound_at r - 1) next (next_at r.automaton.now.steps r.state move)) (eq-eqb (next_at r.automaton.now.steps r.state move) left_out out)) clean
+-- ---- a board
 
-module _ (r next : Reached) (move : Move) (some : 1 ≤ bound_at r) (on : leaves_out r.automaton.now.steps r.state move ≡ false)
-    (leads : moved (walk_at r).board move ≡ Some (walk_at next).board) (guide : guide_at next ≡ guide_at r) (state : next.state ≡ next_at r.automaton.now.steps r.state move)
-    (bound : bound_at next ≡ bound_at r - 1) where
-  same_counts : (boards : ℕ) → fails_at next boards ↔ child_fails r move boards
-  same_counts boards =
-      let to = next_at r.automaton.now.steps r.state move in
-      let at = at_child (moved (walk_at r).board move) (leaves_out r.automaton.now.steps r.state move) (λ c. Fails (guide_at r) (bound_at r - 1) c to) (walk_at next).board leads on boards in (
-        λ h. at.1 (subst (λ g. Fails g (bound_at r - 1) (walk_at next).board to boards) guide
-            (subst (λ k. Fails (guide_at next) k (walk_at next).board to boards) bound
-            (subst (λ a. Fails (guide_at next) (bound_at next) (walk_at next).board a boards) state h))),
-        λ h. subst (λ a. Fails (guide_at next) (bound_at next) (walk_at next).board a boards) (sym state)
-            (subst (λ k. Fails (guide_at next) k (walk_at next).board to boards) (sym bound)
-            (subst (λ g. Fails g (bound_at r - 1) (walk_at next).board to boards) (sym guide) (at.0 h))),
-      )
-
-  few_after : most_boards (bound_at next) ≤ most_children 1 (bound_at r)
-  few_after = let e : most_boards (bound_at next) ≡ most_boards (bound_at r - 1) = ap most_boards bound in omega arith
-
-  pub child_refuted : (old new : Effort) → IsRefuted (fails_at next) (most_boards (bound_at next)) old new → IsRefuted (child_fails r move) (most_children 1 (bound_at r)) old new
-  child_refuted old new is = refuted_as (fails_at next) (child_fails r move) same_counts (most_boards (bound_at next)) (most_children 1 (bound_at r)) few_after old new is
-
-  pub child_stopped : (stop : Stop) (old between new : Effort) → IsStop (fails_at next) (is_solved_at next) (most_boards (bound_at next)) stop old between → AfterMove move stop between new
-      → IsStop (child_fails r move) (is_solved_at r) (most_children 1 (bound_at r)) stop old new
-  child_stopped Solved old between new is after = (
-    subst (IsTrail (walk_at r).board (bound_at r)) (sym (ap reverse after.2 ∙ reverse_push between.letters.items after.0))
-        (trail_move (walk_at r).board (walk_at next).board (bound_at r) after.0 (reverse between.letters.items) move some leads after.1
-        (subst (λ k. IsTrail (walk_at next).board k (reverse between.letters.items)) bound is.0)),
-    λ n h. is.1 n ((same_counts n).1 h),
+-- what is seen of a walk is `shown`
+module _ {W : Type 0} (shown : W → ShownWalk) where
+  -- the goal board
+  pub goal_solved : (r : Reached W) → IsOpen (walk_at shown r) → IsGoal (walk_at shown r).board → (letters : List ℕ) → letters ≡ []
+      → is_solved_at shown r letters × ((boards : ℕ) → ¬ fails_at shown r boards)
+  goal_solved r open_ goal letters none = (
+    subst (is_solved_at shown r) (sym none) (trail_end (walk_at shown r).board (bound_at shown r) open_.some goal),
+    fails_goal (guide_at shown r) (walk_at shown r).board r.state (bound_at shown r) open_.some open_.not_cut goal,
   )
-  child_stopped Spent old between new is after = (
-    let l : old.left < most_boards (bound_at next) = is.0 in let few = few_after in omega arith,
-    λ n h. is.1 n ((same_counts n).1 h),
+
+  -- where no board may be expanded
+  pub spent_stopped : (r : Reached W) → IsOpen (walk_at shown r) → (e : Effort) → e.left ≡ 0 → (e.left < most_boards (bound_at shown r)) × ((boards : ℕ) → fails_at shown r boards → e.left < boards)
+  spent_stopped r open_ e none = (
+    let most = most_open (bound_at shown r) open_.some in omega arith,
+    λ boards h. let some = fails_some (guide_at shown r) (walk_at shown r).board r.state (bound_at shown r) open_.some open_.not_cut boards h in omega arith,
   )
+
+  module _ (r : Reached W) (open_ : IsOpen (walk_at shown r)) (far : ¬ IsGoal (walk_at shown r).board) (old spent new : Effort) (one : old.left ≡ spent.left + 1) where
+    pub opened_refuted : IsRefuted (children_fail shown r) (most_children 4 (bound_at shown r)) spent new → IsRefuted (fails_at shown r) (most_boards (bound_at shown r)) old new
+    opened_refuted is = record {
+      boards = is.boards + 1;
+      left = let left = is.left in omega arith;
+      few = let few = is.few in let most = most_open (bound_at shown r) open_.some in omega arith;
+      fails = (fails_open (guide_at shown r) (walk_at shown r).board r.state (bound_at shown r) open_.some open_.not_cut far (is.boards + 1)).1 (is.boards, refl, is.fails);
+      once = λ n h.
+          let on = (fails_open (guide_at shown r) (walk_at shown r).board r.state (bound_at shown r) open_.some open_.not_cut far n).0 h in
+          let e : n ≡ on.0 + 1 = on.1 in
+          let same : on.0 ≡ is.boards = is.once on.0 on.2 in
+          omega arith;
+      none = is.none;
+    }
+
+    pub opened_stopped : (stop : Stop) → IsStop (children_fail shown r) (is_solved_at shown r) (most_children 4 (bound_at shown r)) stop spent new → IsStop (fails_at shown r) (is_solved_at shown r) (most_boards (bound_at shown r)) stop old new
+    opened_stopped Solved is = (is.0, λ n h. let on = (fails_open (guide_at shown r) (walk_at shown r).board r.state (bound_at shown r) open_.some open_.not_cut far n).0 h in is.1 on.0 on.2)
+    opened_stopped Spent is = (
+      let l : spent.left < most_children 4 (bound_at shown r) = is.0 in let most = most_open (bound_at shown r) open_.some in omega arith,
+      λ n h.
+          let on = (fails_open (guide_at shown r) (walk_at shown r).board r.state (bound_at shown r) open_.some open_.not_cut far n).0 h in
+          let l : spent.left < on.0 = is.1 on.0 on.2 in
+          let e : n ≡ on.0 + 1 = on.1 in
+          omega arith,
+    )
+
+  -- ---- the boards after its moves
+
+  abbrev Four : Reached W → ℕ → Type 0
+  Four r = InTurn (child_fails shown r Up) (InTurn (child_fails shown r Down) (InTurn (child_fails shown r Left) (child_fails shown r Right)))
+
+  module _ (r s t u : Reached W) (first : s ≡ r) (second : t ≡ s) (third : u ≡ t) where
+    abbrev Out : Reached W → Move → Effort → Effort → Type 0
+    Out x move old new = IsRefuted (child_fails shown x move) (most_children 1 (bound_at shown x)) old new
+
+    abbrev Stops : Reached W → Move → Stop → Effort → Effort → Type 0
+    Stops x move stop old new = IsStop (child_fails shown x move) (is_solved_at shown x) (most_children 1 (bound_at shown x)) stop old new
+
+    abbrev Stopped : Stop → Effort → Effort → Type 0
+    Stopped stop old new = IsStop (children_fail shown r) (is_solved_at shown r) (most_children 4 (bound_at shown r)) stop old new
+
+    module _ (a b : Effort) (up : Out r Up a b) where
+      pub stopped_second : (stop : Stop) (c : Effort) → Stops s Down stop b c → Stopped stop a c
+      stopped_second stop c is =
+          let m = most_children 1 (bound_at shown r) in
+          let down = subst (λ x. Stops x Down stop b c) first is in
+          stop_more (Four r) (is_solved_at shown r) (m + (m + (m + m))) (most_children 4 (bound_at shown r)) (omega arith) stop a c
+          (stop_second (child_fails shown r Up) (InTurn (child_fails shown r Down) (InTurn (child_fails shown r Left) (child_fails shown r Right))) m (m + (m + m)) (is_solved_at shown r) stop a b c up
+          (stop_first (child_fails shown r Down) (InTurn (child_fails shown r Left) (child_fails shown r Right)) m (m + m) (is_solved_at shown r) stop b c down))
+
+      module _ (c : Effort) (down : Out s Down b c) where
+        pub stopped_third : (stop : Stop) (d : Effort) → Stops t Left stop c d → Stopped stop a d
+        stopped_third stop d is =
+            let m = most_children 1 (bound_at shown r) in
+            let down_is = subst (λ x. Out x Down b c) first down in
+            let left = subst (λ x. Stops x Left stop c d) (second ∙ first) is in
+            stop_more (Four r) (is_solved_at shown r) (m + (m + (m + m))) (most_children 4 (bound_at shown r)) (omega arith) stop a d
+            (stop_second (child_fails shown r Up) (InTurn (child_fails shown r Down) (InTurn (child_fails shown r Left) (child_fails shown r Right))) m (m + (m + m)) (is_solved_at shown r) stop a b d up
+            (stop_second (child_fails shown r Down) (InTurn (child_fails shown r Left) (child_fails shown r Right)) m (m + m) (is_solved_at shown r) stop b c d down_is
+            (stop_first (child_fails shown r Left) (child_fails shown r Right) m m (is_solved_at shown r) stop c d left)))
+
+        module _ (d : Effort) (left : Out t Left c d) where
+          pub stopped_fourth : (stop : Stop) (e : Effort) → Stops u Right stop d e → Stopped stop a e
+          stopped_fourth stop e is =
+              let m = most_children 1 (bound_at shown r) in
+              let down_is = subst (λ x. Out x Down b c) first down in
+              let left_is = subst (λ x. Out x Left c d) (second ∙ first) left in
+              let right = subst (λ x. Stops x Right stop d e) (third ∙ second ∙ first) is in
+              stop_more (Four r) (is_solved_at shown r) (m + (m + (m + m))) (most_children 4 (bound_at shown r)) (omega arith) stop a e
+              (stop_second (child_fails shown r Up) (InTurn (child_fails shown r Down) (InTurn (child_fails shown r Left) (child_fails shown r Right))) m (m + (m + m)) (is_solved_at shown r) stop a b e up
+              (stop_second (child_fails shown r Down) (InTurn (child_fails shown r Left) (child_fails shown r Right)) m (m + m) (is_solved_at shown r) stop b c e down_is
+              (stop_second (child_fails shown r Left) (child_fails shown r Right) m m (is_solved_at shown r) stop c d e left_is right)))
+
+          pub refuted_four : (e : Effort) → Out u Right d e → IsRefuted (children_fail shown r) (most_children 4 (bound_at shown r)) a e
+          refuted_four e is =
+              let m = most_children 1 (bound_at shown r) in
+              let down_is = subst (λ x. Out x Down b c) first down in
+              let left_is = subst (λ x. Out x Left c d) (second ∙ first) left in
+              let right = subst (λ x. Out x Right d e) (third ∙ second ∙ first) is in
+              refuted_as (Four r) (children_fail shown r) (λ n. (λ h. h, λ h. h)) (m + (m + (m + m))) (most_children 4 (bound_at shown r)) (omega arith) a e
+              (refuted_both (child_fails shown r Up) (InTurn (child_fails shown r Down) (InTurn (child_fails shown r Left) (child_fails shown r Right))) m (m + (m + m)) a b e up
+              (refuted_both (child_fails shown r Down) (InTurn (child_fails shown r Left) (child_fails shown r Right)) m (m + m) b c e down_is
+              (refuted_both (child_fails shown r Left) (child_fails shown r Right) m m c d e left_is right)))
+
+  -- ---- the board after a move
+
+  -- where the move leads nowhere
+  pub nowhere_refuted : (r : Reached W) (move : Move) (e : Effort) → LeadsNowhere (walk_at shown r) move → e.letters.items ≡ [] → IsRefuted (child_fails shown r move) (most_children 1 (bound_at shown r)) e e
+  nowhere_refuted r move e none clean =
+      refuted_none (child_fails shown r move) (most_children 1 (bound_at shown r)) e
+      (at_nowhere (guide_at shown r) (bound_at shown r - 1) (moved (walk_at shown r).board move) (leaves_out r.automaton.now.steps r.state move)
+      (next_at r.automaton.now.steps r.state move) none) clean
+
+  -- where the automaton leaves the move out
+  pub out_refuted : (r : Reached W) (move : Move) (e : Effort) → next_at r.automaton.now.steps r.state move ≡ left_out → e.letters.items ≡ [] → IsRefuted (child_fails shown r move) (most_children 1 (bound_at shown r)) e e
+  out_refuted r move e out clean =
+      refuted_none (child_fails shown r move) (most_children 1 (bound_at shown r)) e
+      (at_out (moved (walk_at shown r).board move) (leaves_out r.automaton.now.steps r.state move)
+      (λ next. Fails (guide_at shown r) (bound_at shown r - 1) next (next_at r.automaton.now.steps r.state move)) (eq-eqb (next_at r.automaton.now.steps r.state move) left_out out)) clean
+
+  module _ (r next : Reached W) (move : Move) (some : 1 ≤ bound_at shown r) (on : leaves_out r.automaton.now.steps r.state move ≡ false)
+      (leads : moved (walk_at shown r).board move ≡ Some (walk_at shown next).board) (guide : guide_at shown next ≡ guide_at shown r) (state : next.state ≡ next_at r.automaton.now.steps r.state move)
+      (bound : bound_at shown next ≡ bound_at shown r - 1) where
+    same_counts : (boards : ℕ) → fails_at shown next boards ↔ child_fails shown r move boards
+    same_counts boards =
+        let to = next_at r.automaton.now.steps r.state move in
+        let at = at_child (moved (walk_at shown r).board move) (leaves_out r.automaton.now.steps r.state move) (λ c. Fails (guide_at shown r) (bound_at shown r - 1) c to) (walk_at shown next).board leads on boards in (
+          λ h. at.1 (subst (λ g. Fails g (bound_at shown r - 1) (walk_at shown next).board to boards) guide
+              (subst (λ k. Fails (guide_at shown next) k (walk_at shown next).board to boards) bound
+              (subst (λ a. Fails (guide_at shown next) (bound_at shown next) (walk_at shown next).board a boards) state h))),
+          λ h. subst (λ a. Fails (guide_at shown next) (bound_at shown next) (walk_at shown next).board a boards) (sym state)
+              (subst (λ k. Fails (guide_at shown next) k (walk_at shown next).board to boards) (sym bound)
+              (subst (λ g. Fails g (bound_at shown r - 1) (walk_at shown next).board to boards) (sym guide) (at.0 h))),
+        )
+
+    few_after : most_boards (bound_at shown next) ≤ most_children 1 (bound_at shown r)
+    few_after = let e : most_boards (bound_at shown next) ≡ most_boards (bound_at shown r - 1) = ap most_boards bound in omega arith
+
+    pub child_refuted : (old new : Effort) → IsRefuted (fails_at shown next) (most_boards (bound_at shown next)) old new → IsRefuted (child_fails shown r move) (most_children 1 (bound_at shown r)) old new
+    child_refuted old new is = refuted_as (fails_at shown next) (child_fails shown r move) same_counts (most_boards (bound_at shown next)) (most_children 1 (bound_at shown r)) few_after old new is
+
+    pub child_stopped : (stop : Stop) (old between new : Effort) → IsStop (fails_at shown next) (is_solved_at shown next) (most_boards (bound_at shown next)) stop old between → AfterMove move stop between new
+        → IsStop (child_fails shown r move) (is_solved_at shown r) (most_children 1 (bound_at shown r)) stop old new
+    child_stopped Solved old between new is after = (
+      subst (IsTrail (walk_at shown r).board (bound_at shown r)) (sym (ap reverse after.2 ∙ reverse_push between.letters.items after.0))
+          (trail_move (walk_at shown r).board (walk_at shown next).board (bound_at shown r) after.0 (reverse between.letters.items) move some leads after.1
+          (subst (λ k. IsTrail (walk_at shown next).board k (reverse between.letters.items)) bound is.0)),
+      λ n h. is.1 n ((same_counts n).1 h),
+    )
+    child_stopped Spent old between new is after = (
+      let l : old.left < most_boards (bound_at shown next) = is.0 in let few = few_after in omega arith,
+      λ n h. is.1 n ((same_counts n).1 h),
+    )

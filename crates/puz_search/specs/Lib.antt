@@ -5,6 +5,7 @@ pub mod Searches
 -- How values are stored.
 pub mod StoredGuides
 -- What proofs alone need.
+pub mod Openness
 pub mod Outcomes
 pub mod Nodes
 pub mod Frontiers

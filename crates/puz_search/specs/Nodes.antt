@@ -2,14 +2,13 @@
 use Rattle.std.specs.Prelude.{◌≡◌, ℕ, ◌+◌, ◌<◌, ◌≤◌, List, ◌++◌, length}
 use Rattle.puz_board.specs.Boards.{IsBoardOf}
 use Rattle.move_strings.specs.Automata.{IsState}
-use Rattle.puz_search.specs.Guides.{automaton_of}
-use Rattle.puz_search.specs.Outcomes.{IsTrail, walk_at}
+use Rattle.puz_walk.specs.Walks.{ShownWalk}
+use Rattle.puz_search.specs.Outcomes.{IsTrail}
 use Rattle.puz_search.specs.Searches.{Fails}
 use Rattle.puz_search.specs.declared.answers.Answer.{Answer}
 use Rattle.puz_search.specs.declared.answers.Answer.TheVariants.{Refuted, Solved, Spent}
 use Rattle.puz_search.specs.declared.nodes.Node.{Node}
 use Rattle.puz_search.specs.declared.searches.Search.{Search}
-use Rattle.puz_search.specs.declared.walks.Reached.{Reached}
 
 -- the search below a node fails, and expands so many boards
 abbrev pub node_fails : Search → Node → ℕ → Type 0
@@ -27,11 +26,9 @@ pub record IsPlaced (s : Search) (node : Node) : Type 0 where
   pub state : IsState s.guide.now.steps node.state
   pub left : length node.letters.items + node.bound ≡ s.bound
 
--- a search reaches the board of the node in its state, led by the guide
-pub record IsReached (s : Search) (node : Node) (reached : Reached) : Type 0 where
-  pub walk : walk_at reached ≡ record { bundle = s.guide.now.bundle; board = node.board; bound = node.bound }
-  pub automaton : reached.automaton.now ≡ automaton_of s.guide.now
-  pub state : reached.state ≡ node.state
+-- what is seen of a walk that begins at the board of the node
+abbrev pub walk_to : Search → Node → ShownWalk
+walk_to s node = record { bundle = s.guide.now.bundle; board = node.board; bound = node.bound }
 
 -- the letters lead from the first board to that of the node: with the letters of a trail from there they are a trail
 pub record IsLed (s : Search) (node : Node) : Type 0 where

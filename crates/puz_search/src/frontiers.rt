@@ -7,6 +7,7 @@ ghost use Rattle.puz_search.specs.Nodes.{IsLed, node_fails};
 ghost use Rattle.puz_search.specs.Searches.{most_boards};
 
 use crate::nodes::Node;
+use crate::openness::Openness;
 use crate::searches::Search;
 use puz_board::Move;
 use std::alloc::{AllocError, Global};
@@ -70,12 +71,13 @@ fn expand(task: &Search<'_>, node: Node, next: &mut Vec<Node>) -> Result<bool, A
     ensures { IfOk result (λ expanded. Adds task.now (node_fails task.now node)
         (most_boards node.bound) (if expanded then 1 else 0) next.old.items next.new.items) }
 {
-    let Some(reached) = task.reached(&node) else {
-        return Ok(false);
-    };
-    if reached.walk.is_goal() {
-        next.push(node)?;
-        return Ok(false);
+    match task.openness(&node) {
+        Openness::Closed => return Ok(false),
+        Openness::Goal => {
+            next.push(node)?;
+            return Ok(false);
+        }
+        Openness::Open => {}
     }
     add_child(task, &node, Move::Up, next)?;
     add_child(task, &node, Move::Down, next)?;
@@ -103,8 +105,9 @@ fn add_child(
         return Ok(());
     };
     let child = task.after(node, mv, board, state);
-    if task.reached(&child).is_some() {
-        next.push(child)?;
+    match task.openness(&child) {
+        Openness::Closed => {}
+        Openness::Goal | Openness::Open => next.push(child)?,
     }
     Ok(())
 }

@@ -3,19 +3,18 @@
 ghost use Rattle.std.specs.Prelude.{◌≡◌, ◌≢◌, IfNone, IfSome, MatchOption};
 ghost use Rattle.puz_board.specs.Boards.{side_of};
 ghost use Rattle.move_strings.specs.Automata.{IsState, left_out, next_at};
-ghost use Rattle.puz_walk.specs.Shown.{walk_shown};
-ghost use Rattle.puz_walk.specs.Walks.{IsClosed};
 ghost use Rattle.puz_search.specs.Guides.{IsGuide, automaton_of};
 
+use crate::openness::{Openness, openness_of};
 use move_strings::Automaton;
 use puz_board::{Board, Move, Side};
-use puz_walk::{Walk, WordBundle};
+use puz_walk::{SumWalk, WordBundle, WordWalk};
 use set_sum::Bundle;
 use std::marker::Model;
 
 /// The sets that cut boards off.
 #[derive(Clone, Copy)]
-enum Sets<'a> {
+pub(crate) enum Sets<'a> {
     /// They are asked for their sums.
     Sums(&'a Bundle<'a>),
     /// What moves do to their sums is read from edge words.
@@ -43,6 +42,9 @@ impl<'a> Model for Guide<'a> {
 }
 
 impl<'a> Guide<'a> {
+    ghost use Rattle.puz_search.specs.Openness.{IsOpennessOf};
+    ghost use Rattle.puz_search.specs.StoredGuides.{bundle_of};
+
     /// The guide of a bundle and an automaton for boards of its side.
     pub fn new(bundle: &'a Bundle<'a>, automaton: &'a Automaton) -> Guide<'a>
         requires { automaton.now.side ≡ bundle.now.side }
@@ -100,16 +102,22 @@ impl<'a> Guide<'a> {
         self.automaton
     }
 
-    /// The walk from a board, unless no solution of fewer moves than the bound need be searched for.
-    pub(crate) fn walk(&self, board: &Board, bound: u8) -> Option<Walk<'a>>
+    /// The sets that cut boards off.
+    pub(crate) fn sets(&self) -> Sets<'a>
+        ensures { bundle_of result ≡ self.now.bundle }
+    {
+        self.sets
+    }
+
+    /// Whether a solution of a board of fewer moves than a bound is still to be searched for.
+    pub(crate) fn openness(&self, board: &Board, bound: u8) -> Openness
         requires { side_of board.now ≡ self.now.bundle.side }
-        ensures some { IfSome result (λ walk. walk_shown walk
-            ≡ record { bundle = self.now.bundle; board = board.now; bound = bound }) }
-        ensures none { IfNone result (IsClosed self.now.bundle board.now bound) }
+        ensures { IsOpennessOf
+            (record { bundle = self.now.bundle; board = board.now; bound = bound }) result }
     {
         match &self.sets {
-            Sets::Sums(bundle) => Walk::of_sums(bundle, board, bound),
-            Sets::Words(words) => Walk::of_words(words, board, bound),
+            Sets::Sums(bundle) => openness_of(SumWalk::new(bundle, board, bound)),
+            Sets::Words(words) => openness_of(WordWalk::new(words, board, bound)),
         }
     }
 }

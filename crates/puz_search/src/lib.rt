@@ -7,6 +7,7 @@ mod efforts;
 mod frontiers;
 mod guides;
 mod nodes;
+mod openness;
 mod outcomes;
 mod refuting;
 mod searches;

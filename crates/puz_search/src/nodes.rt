@@ -1,14 +1,14 @@
 //! Boards below which is still to be searched.
 
-ghost use Rattle.std.specs.Prelude.{◌≡◌, ◌+◌, ◌≤◌, Some, IfNone, IfSome, length};
+ghost use Rattle.std.specs.Prelude.{◌≡◌, ◌+◌, ◌≤◌, Some, length};
 ghost use Rattle.puz_board.specs.Boards.{moved};
 ghost use Rattle.move_strings.specs.Automata.{IsState};
-ghost use Rattle.puz_walk.specs.Walks.{IsClosed};
-ghost use Rattle.puz_search.specs.Nodes.{IsFirst, IsLed, IsPlaced, IsReached};
+ghost use Rattle.puz_search.specs.Nodes.{IsFirst, IsLed, IsPlaced, walk_to};
+ghost use Rattle.puz_search.specs.Openness.{IsOpennessOf};
 
 use crate::answers::{Letters, joined};
+use crate::openness::Openness;
 use crate::searches::Search;
-use crate::walks::Reached;
 use arrayvec::ArrayVec;
 use puz_board::{Board, Move};
 
@@ -24,7 +24,7 @@ pub(crate) struct Node {
     pub(crate) letters: Letters,
 }
 
-impl<'a> Search<'a> {
+impl Search<'_> {
     /// The node of the first board.
     pub(crate) fn first(&self) -> Node
         ensures first { IsFirst self.now result }
@@ -38,19 +38,12 @@ impl<'a> Search<'a> {
         }
     }
 
-    /// The board of a node, as a search reaches it, where it isn't cut off.
-    pub(crate) fn reached(&self, node: &Node) -> Option<Reached<'a>>
+    /// Whether a solution of a node's board is still to be searched for.
+    pub(crate) fn openness(&self, node: &Node) -> Openness
         requires { IsPlaced self.now node.now }
-        ensures some { IfSome result (IsReached self.now node.now) }
-        ensures none { IfNone result
-            (IsClosed self.now.guide.now.bundle node.now.board node.now.bound) }
+        ensures { IsOpennessOf (walk_to self.now node.now) result }
     {
-        let walk = self.guide.walk(&node.board, node.bound)?;
-        Some(Reached {
-            walk,
-            automaton: self.guide.automaton(),
-            state: node.state,
-        })
+        self.guide.openness(&node.board, node.bound)
     }
 
     /// The node after a move of a node, which leads to this board and this state.

@@ -3,17 +3,19 @@
 ghost use Rattle.std.specs.Prelude.{◌≡◌, ◌≤◌, ℕ, []};
 ghost use Rattle.puz_board.specs.Boards.{side_of};
 ghost use Rattle.puz_search.specs.Answers.{IsAnswer};
-ghost use Rattle.puz_search.specs.Nodes.{IsPartAnswer, IsPlaced, node_fails, solves_below};
+ghost use Rattle.puz_search.specs.Nodes.{IsPartAnswer, IsPlaced, node_fails, solves_below, walk_to};
+ghost use Rattle.puz_search.specs.Openness.{IsWalkTo};
 ghost use Rattle.puz_search.specs.Searches.{Fails, most_boards};
 ghost use Rattle.puz_search.specs.declared.answers.Answer.TheVariants.{Refuted, Spent};
 
 use crate::answers::{Answer, joined};
 use crate::efforts::{Effort, Stop};
-use crate::guides::Guide;
+use crate::guides::{Guide, Sets};
 use crate::nodes::Node;
 use crate::searches::Search;
-use crate::walks::search;
+use crate::walks::{Reached, search};
 use puz_board::Board;
+use puz_walk::{SumWalk, Walk, WordWalk};
 
 /// Searches for a solution of a board of fewer moves than a bound, depth first, and expands at most `budget` boards
 /// (Korf 1985). Moves that the guide's automaton leaves out aren't tried (Taylor and Korf 1993).
@@ -50,9 +52,39 @@ pub(crate) fn refute_node(task: &Search<'_>, node: &Node, effort: &mut Effort) -
     ensures { IsPartAnswer (node_fails task.now node.now) (most_boards node.now.bound)
         (solves_below node.now) effort.old.left result }
 {
+    match task.guide.sets() {
+        Sets::Sums(bundle) => {
+            let walk = SumWalk::new(bundle, &node.board, node.bound);
+            refute_by_walk(task, node, walk, effort)
+        }
+        Sets::Words(words) => {
+            let walk = WordWalk::new(words, &node.board, node.bound);
+            refute_by_walk(task, node, walk, effort)
+        }
+    }
+}
+
+/// Searches below a node by a walk from its board, where there is one.
+fn refute_by_walk<W: Walk>(
+    task: &Search<'_>,
+    node: &Node,
+    walk: Option<W>,
+    effort: &mut Effort,
+) -> Answer
+    requires placed { IsPlaced task.now node.now }
+    requires walk { IsWalkTo W.shown (walk_to task.now node.now) walk }
+    requires none { effort.old.letters.items ≡ [] }
+    ensures { IsPartAnswer (node_fails task.now node.now) (most_boards node.now.bound)
+        (solves_below node.now) effort.old.left result }
+{
     let budget = effort.left;
-    let Some(mut reached) = task.reached(node) else {
+    let Some(walk) = walk else {
         return Answer::Refuted(0);
+    };
+    let mut reached = Reached {
+        walk,
+        automaton: task.guide.automaton(),
+        state: node.state,
     };
     match search(&mut reached, effort) {
         Ok(()) => Answer::Refuted(budget - effort.left),

@@ -3,7 +3,6 @@ pub mod Walks
 pub mod SumSteps
 pub mod WordBundles
 pub mod WordSteps
-pub mod Shown
 -- How values are stored.
 pub mod StoredWords
 pub mod StoredWordWalks

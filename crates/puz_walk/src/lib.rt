@@ -13,6 +13,6 @@ mod word_spots;
 mod word_walks;
 
 pub use sum_walks::SumWalk;
-pub use walks::{Step, Walk};
+pub use walks::Walk;
 pub use word_bundles::WordBundle;
 pub use word_walks::{WordStep, WordWalk};

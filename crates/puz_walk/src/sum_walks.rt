@@ -1,11 +1,11 @@
 //! Walks that ask the sets of a bundle for their sums.
 
-ghost use Rattle.std.specs.Prelude.{◌≡◌, ◌+◌, ◌↔◌, IfNone, IfSome, IsTrue, Some};
-ghost use Rattle.puz_board.specs.Boards.{IsGoal, moved, side_of};
-ghost use Rattle.puz_walk.specs.SumSteps.{IsSumStep};
-ghost use Rattle.puz_walk.specs.Walks.{IsClosed, IsOpen, LeadsNowhere, ShownWalk};
+ghost use Rattle.std.specs.Prelude.{◌≡◌, IfNone, IfSome};
+ghost use Rattle.puz_board.specs.Boards.{side_of};
+ghost use Rattle.puz_walk.specs.Walks.{IsClosed};
 
 use crate::cuts::is_cut_off;
+use crate::walks::Walk;
 use puz_board::{Board, Move};
 use set_sum::{Bundle, Step, Sums};
 use std::marker::Model;
@@ -43,25 +43,24 @@ impl<'a> SumWalk<'a> {
         }
         Some(SumWalk { sums, bound })
     }
+}
 
-    /// Whether the board is the goal board.
+impl<'a> Walk for SumWalk<'a> {
+    ghost use Rattle.puz_walk.specs.SumSteps.{IsSumStep};
+
+    type Step = Step;
+
+    ghost shown = { λ w. w };
+
+    ghost leads = { IsSumStep };
+
     #[inline]
-    pub fn is_goal(&self) -> bool
-        ensures goal { IsTrue result ↔ IsGoal self.now.board }
-        ensures open { IsOpen self.now }
-    {
+    fn is_goal(&self) -> bool {
         self.sums.is_goal()
     }
 
-    /// Moves the board, where the move leads to one of which solutions of fewer moves than one below the bound are still to be
-    /// searched for. The answer is the step, by which the move is taken back.
     #[inline]
-    pub fn enter(&mut self, mv: Move) -> Option<Step>
-        ensures none { IfNone result ((self.new ≡ self.old) × LeadsNowhere self.old mv) }
-        ensures some { IfSome result (λ step. (moved self.old.board mv ≡ Some self.new.board)
-            × (self.new.bundle ≡ self.old.bundle) × (self.new.bound + 1 ≡ self.old.bound)
-            × IsSumStep self.old self.new step) }
-    {
+    fn enter(&mut self, mv: Move) -> Option<Step> {
         if self.bound == 1 {
             return None;
         }
@@ -74,12 +73,8 @@ impl<'a> SumWalk<'a> {
         Some(step)
     }
 
-    /// Takes a step back.
     #[inline]
-    pub fn leave(&mut self, step: &Step)
-        requires { (w : ShownWalk) × IsSumStep w self.old step.now }
-        ensures { (w : ShownWalk) → IsSumStep w self.old step.now → self.new ≡ w }
-    {
+    fn leave(&mut self, step: &Step) {
         self.sums.take_back(step);
         self.bound += 1;
     }

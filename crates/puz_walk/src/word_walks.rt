@@ -1,11 +1,11 @@
 //! Boards that are moved in place, cut off by edge words.
 
-ghost use Rattle.std.specs.Prelude.{◌≡◌, ◌+◌, ◌*◌, ◌↔◌, ℕ, IfNone, IfSome, IsTrue, Some, length, slice_index};
-ghost use Rattle.puz_board.specs.Boards.{IsBoardOf, IsGoal, moved, side_of};
+ghost use Rattle.std.specs.Prelude.{◌≡◌, ◌↔◌, IfNone, IfSome, IsTrue};
+ghost use Rattle.puz_board.specs.Boards.{IsGoal, side_of};
 ghost use Rattle.puz_walk.specs.StoredWordWalks.{margin_of};
-ghost use Rattle.puz_walk.specs.Walks.{IsClosed, IsOpen, LeadsNowhere, ShownWalk};
-ghost use Rattle.puz_walk.specs.WordSteps.{IsWordStepFrom};
+ghost use Rattle.puz_walk.specs.Walks.{IsClosed};
 
+use crate::walks::Walk;
 use crate::word_bundles::WordBundle;
 use crate::word_spots::{Change, Spot, judge, move_blank, spot_of};
 use puz_board::{Board, Move};
@@ -63,25 +63,24 @@ impl<'a> WordWalk<'a> {
             margin,
         })
     }
+}
 
-    /// Whether the board is the goal board.
+impl<'a> Walk for WordWalk<'a> {
+    ghost use Rattle.puz_walk.specs.WordSteps.{IsWordStepFrom};
+
+    type Step = WordStep;
+
+    ghost shown = { λ w. w };
+
+    ghost leads = { IsWordStepFrom };
+
     #[inline]
-    pub fn is_goal(&self) -> bool
-        ensures goal { IsTrue result ↔ IsGoal self.now.board }
-        ensures open { IsOpen self.now }
-    {
+    fn is_goal(&self) -> bool {
         is_in_order(&self.spot.numbers[..usize::from(self.bundle.side().cells())])
     }
 
-    /// Moves the board where the move leads to one that is open below one move less. The answer is the step, by which the move
-    /// is taken back.
     #[inline]
-    pub fn enter(&mut self, mv: Move) -> Option<WordStep>
-        ensures none { IfNone result ((self.new ≡ self.old) × LeadsNowhere self.old mv) }
-        ensures some { IfSome result (λ step. (moved self.old.board mv ≡ Some self.new.board)
-            × (self.new.bundle ≡ self.old.bundle) × (self.new.bound + 1 ≡ self.old.bound)
-            × IsWordStepFrom self.old self.new step) }
-    {
+    fn enter(&mut self, mv: Move) -> Option<WordStep> {
         let bundle = self.bundle;
         let from = self.spot.blank;
         let to = bundle.after(from, mv)?;
@@ -92,12 +91,8 @@ impl<'a> WordWalk<'a> {
         Some(WordStep { from, mv, change })
     }
 
-    /// Takes a step back.
     #[inline]
-    pub fn leave(&mut self, step: &WordStep)
-        requires { (w : ShownWalk) × IsWordStepFrom w self.old step.now }
-        ensures { (w : ShownWalk) → IsWordStepFrom w self.old step.now → self.new ≡ w }
-    {
+    fn leave(&mut self, step: &WordStep) {
         let (back, change) = (step.mv.reverse(), step.change.back());
         move_blank(self.bundle, &mut self.spot, step.from, back, change);
         self.bound += 1;

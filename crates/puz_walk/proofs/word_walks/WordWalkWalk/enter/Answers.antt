@@ -6,7 +6,7 @@ use Rattle.puz_walk.specs.Walks.{LeadsNowhere}
 use Rattle.puz_walk.specs.WordSteps.{IsWordStepFrom}
 use Rattle.puz_walk.proofs.BlankLemmas.{to_room}
 use Rattle.puz_walk.proofs.WordWalkLemmas.{beyond_nowhere, blank_low, board, leads, margin_fits, none_nowhere, slides, some_moves, step_here, step_next, stored_next}
-use Rattle.puz_walk.proofs.word_walks.WordWalk.enter.Goals as goal
+use Rattle.puz_walk.proofs.word_walks.WordWalkWalk.enter.Goals as goal
 
 none_so : {X : Type 0} (P : Type 0) → P → (o : Option X) → IfNone o P
 none_so P h None = h

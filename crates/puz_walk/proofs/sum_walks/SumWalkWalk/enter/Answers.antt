@@ -3,7 +3,7 @@ use Rattle.puz_board.specs.Boards.{IsBoardOf}
 use Rattle.puz_board.proofs.MovedLemmas.{IsBoardOf-moved}
 use Rattle.puz_walk.specs.Walks.{IsCutOff, LeadsNowhere}
 use Rattle.puz_walk.proofs.WalkLemmas.{back_at_once, cut_nowhere, walk_of}
-use Rattle.puz_walk.proofs.sum_walks.SumWalk.enter.Goals as goal
+use Rattle.puz_walk.proofs.sum_walks.SumWalkWalk.enter.Goals as goal
 
 pub returns-then-is_cut_off-clause-none : goal.returns-then-is_cut_off-clause-none
 returns-then-is_cut_off-clause-none c =

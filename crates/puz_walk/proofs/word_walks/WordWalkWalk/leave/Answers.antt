@@ -3,7 +3,7 @@ use Rattle.puz_walk.specs.WordSpots.{IsSlideTo}
 use Rattle.puz_walk.specs.WordSteps.{AreChanged, IsWordStepFrom}
 use Rattle.puz_walk.proofs.JudgeLemmas.{changed_back}
 use Rattle.puz_walk.proofs.WordWalkLemmas.{back_is, board, bound_fits, changed_before, slides_back, stored_back}
-use Rattle.puz_walk.proofs.word_walks.WordWalk.leave.Goals as goal
+use Rattle.puz_walk.proofs.word_walks.WordWalkWalk.leave.Goals as goal
 
 pub move_blank-requires : goal.move_blank-requires
 move_blank-requires c =

@@ -1,7 +1,7 @@
 use Rattle.std.proofs.Common.{sym, subst}
 use Rattle.puz_walk.specs.Walks.{IsOpen}
 use Rattle.puz_walk.proofs.WalkLemmas.{left_is}
-use Rattle.puz_walk.proofs.sum_walks.SumWalk.leave.Goals as goal
+use Rattle.puz_walk.proofs.sum_walks.SumWalkWalk.leave.Goals as goal
 
 pub invariant_of-self : goal.invariant_of-self
 invariant_of-self c =

@@ -1,0 +1,5 @@
+use Rattle.puz_board.proofs.BoardLemmas.{side_of-board}
+use Rattle.puz_search.proofs.searches.Search.openness.Goals as goal
+
+pub openness-requires : goal.openness-requires
+openness-requires c = side_of-board c.args.self.now.guide.now.bundle.side c.args.node.now.board c.requires.board
