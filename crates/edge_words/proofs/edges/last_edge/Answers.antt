@@ -1,8 +1,10 @@
-use Rattle.std.proofs.Common.{◌≡◌, ◌∙◌, Some, sym, ap, subst}
+use Rattle.std.proofs.Common.{◌≡◌, ◌∙◌, Some, sym, ap, subst, arith}
 use Rattle.puz_board.specs.Cells.{reverse_of, step_of}
+use Rattle.puz_board.proofs.CellLemmas.{few_cells}
 use Rattle.pat_place.specs.Placements.{IsFree}
 use Rattle.pat_place.proofs.ListLemmas.{Some-one}
 use Rattle.edge_words.specs.Lookups.{but_last}
+use Rattle.edge_words.proofs.LookupLemmas.{open_place}
 use Rattle.edge_words.proofs.RunMoveLemmas.{last_none, last_told}
 use Rattle.edge_words.proofs.edges.last_edge.Goals as goal
 
@@ -37,3 +39,20 @@ returns c =
     last_told p c.pattern.ensures.is_pattern cells c.requires.run.run c.args.last c.requires.last c.args.mv c.in-Some.from step
     ((c.requires.run.free c.in-Some.from).0 (c.has_cell.ensures.0 c.if-not-has_cell.false))
     c.entry-before.result c.entry-after.result c.entry-before.ensures c.entry-after.ensures c.rise.result c.rise.ensures.differs
+
+pub entry-before-requires-clause-place : goal.entry-before-requires-clause-place
+entry-before-requires-clause-place c =
+    let p = c.args.lookup.now in
+    let pat = c.pattern.ensures.is_pattern in
+    let few = few_cells p.side pat.low pat.high in
+    open_place p.side (omega arith) (but_last p c.args.run.now.cells) c.args.run.now.free c.without.result c.in-Some.from c.requires.run.free c.without.type_inv c.without.ensures.here c.without.ensures.others
+    c.args.last c.requires.last.0 c.count_below-place.result c.count_below-place.ensures.count
+
+pub entry-after-requires-clause-place : goal.entry-after-requires-clause-place
+entry-after-requires-clause-place c =
+    let p = c.args.lookup.now in
+    let pat = c.pattern.ensures.is_pattern in
+    let few = few_cells p.side pat.low pat.high in
+    let free = (c.requires.run.free c.in-Some.from).0 (c.has_cell.ensures.0 c.if-not-has_cell.false) in
+    open_place p.side (omega arith) (but_last p c.args.run.now.cells) c.args.run.now.free c.without-2.result c.args.last c.requires.run.free c.without-2.type_inv c.without-2.ensures.here c.without-2.ensures.others
+    c.in-Some.from free.0 c.count_below-place-2.result c.count_below-place-2.ensures.count
