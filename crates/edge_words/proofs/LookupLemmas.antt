@@ -1,12 +1,12 @@
 -- Ranks, rows and entries of a run's placements.
-use Rattle.std.proofs.Common.{◌≡◌, ◌≢◌, ℕ, zero, suc, ◌+◌, ◌-◌, ◌*◌, ◌^◌, ◌<◌, ◌≤◌, List, length, filter, get_or, take, drop, not, true, inl, inr, refl, sym, ◌∙◌, ap, subst, arith, length-drop, lit<}
+use Rattle.std.proofs.Common.{◌≡◌, ◌≢◌, ℕ, zero, suc, ◌+◌, ◌-◌, ◌*◌, ◌%◌, ◌^◌, ◌<◌, ◌≤◌, List, length, filter, get_or, take, drop, not, true, inl, inr, refl, sym, ◌∙◌, ap, subst, arith, length-drop, lit<}
 use Rattle.std.specs.Int.{bit_at}
 use Rattle.std.specs.List.{range_with_len}
 use Rattle.std.specs.Prelude.{slice_index}
 use Rattle.std.proofs.lemmas.List.{get_or-drop, get_or-take, length-take-le}
 use Rattle.std.proofs.Math.Nat.{mul-le-mul_right}
 use Rattle.std.proofs.lemmas.Bool.{both_ways, cases_Bool, cases_eq}
-use Rattle.std.proofs.lemmas.Nat.{mul-add-lt, mul-le}
+use Rattle.std.proofs.lemmas.Nat.{mod_below, mul-add-lt, mul-le, ones-le, pow_pos}
 use Rattle.std.proofs.Math.Nat.{pow-le-pow_right}
 use Rattle.puz_board.specs.Boards.{IsBoard, IsBoardOf, blank, side_of}
 use Rattle.puz_board.specs.Masks.{IsMaskOf, ones_below}
@@ -94,6 +94,21 @@ mask_with cells last set next is here others x = elim (cases_eq x last) [
       let same : has (with_last cells last) x ≡ has cells x = with_last-other cells last x (λ e. ne (sym e)) in
       (λ h. same ∙ (is x).0 (sym (others x ne) ∙ h), λ h. others x ne ∙ (is x).1 (sym same ∙ h))
 ]
+
+-- one number more of a mask, or none
+pub one_more : (m x : ℕ) → bit_at m x ≡ 1 → ones_below m (x + 1) ≡ ones_below m x + 1
+one_more m x one =
+    let more = ones_below-suc m x in
+    ap (ones_below m) (let e : x + 1 ≡ suc x = omega arith in e) ∙ more ∙ ap (λ k. ones_below m x + k) one
+
+pub none_more : (m x : ℕ) → (bit_at m x ≡ 1 → ⊥) → ones_below m (x + 1) ≡ ones_below m x
+none_more m x none =
+    let zero_bit : bit_at m x ≡ 0 = elim (in_or_out m x) [ inl i ↦ absurd (none i) | inr o ↦ o ] in
+    let more = ones_below-suc m x in
+    ap (ones_below m) (let e : x + 1 ≡ suc x = omega arith in e) ∙ more ∙ (omega arith)
+
+pub few_below : (m x : ℕ) → ones_below m x ≤ x
+few_below m x = ones-le x (m % 2 ^ x) (mod_below m (2 ^ x) (pow_pos x))
 
 -- the free cells but one
 pub mask_open : (n : ℕ) → n * n ≤ 32 → (cells : List ℕ) (free left cell : ℕ) → IsMaskOf free (IsFree n cells) → left < 2 ^ 32 → bit_at left cell ≡ 0 → ((x : ℕ) → x < 32 → x ≢ cell → bit_at left x ≡ bit_at free x)

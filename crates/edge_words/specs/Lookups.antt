@@ -1,6 +1,7 @@
 -- Where the entries of a run are looked up, and what they say.
-use Rattle.std.specs.Prelude.{◌≡◌, ℕ, ◌+◌, ◌-◌, ◌*◌, true, IfSome, List, length, slice_index, take}
+use Rattle.std.specs.Prelude.{◌≡◌, ℕ, ◌+◌, ◌-◌, ◌*◌, ◌/◌, ◌<◌, true, IfSome, List, None, Option, length, slice_index, slice_index_or, take}
 use Rattle.puz_board.specs.Boards.{IsBoardOf, blank}
+use Rattle.puz_board.specs.Cells.{reverse_of, step_of}
 use Rattle.puz_board.specs.Masks.{IsMaskOf}
 use Rattle.pat_place.specs.Patterns.{ShownPattern, has}
 use Rattle.pat_place.specs.Placements.{IsFree, placement_of}
@@ -11,8 +12,14 @@ use Rattle.tab_runs.specs.Rows.{row_length}
 use Rattle.tab_runs.specs.RowTables.{AreRowsOf, rows_for}
 use Rattle.tab_runs.specs.RunPlaces.{IsFirstRank, IsRun, run_length}
 use Rattle.tab_runs.specs.Runs.{free_below, with_last}
+use Rattle.edge_words.specs.Words.{move_of}
 use Rattle.edge_words.specs.declared.lookups.Lookup.TheInside.{Inside}
 use Rattle.edge_words.specs.declared.runs.Run.{Run}
+
+-- for each cell and each move's number there is the cell from which the move leads there
+pub record AreOrigins (n : ℕ) (origins : List (Option ℕ)) : Type 0 where
+  pub room : length origins ≡ 100
+  pub each : (k : ℕ) → k < 4 * (n * n) → slice_index_or origins k None ≡ step_of n (k / 4) (reverse_of (move_of k))
 
 -- the entries are those of an exact table, and rows are kept for its side and number of tiles
 pub record IsStoredLookup (l : Inside) : Type 0 where
@@ -20,6 +27,7 @@ pub record IsStoredLookup (l : Inside) : Type 0 where
   pub width : l.width ≡ slot_count l.pattern
   pub listed : l.listed ≡ row_length l.pattern.side (length l.pattern.tiles)
   pub rows : l.rows ≡ rows_for l.pattern
+  pub origins : AreOrigins l.pattern.side l.origins
 
 -- the cells of all tiles but the last
 abbrev pub but_last : ShownPattern → List ℕ → List ℕ

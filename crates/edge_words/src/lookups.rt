@@ -1,24 +1,30 @@
 //! The entries of a table, by runs.
 
-ghost use Rattle.std.specs.Prelude.{◌≡◌, ◌+◌, ◌<◌, true, IfOk, IfSome, length};
+ghost use Rattle.std.specs.Prelude.{◌≡◌, ◌+◌, ◌*◌, ◌<◌, true, IfOk, IfSome, length};
+ghost use Rattle.puz_board.specs.Cells.{reverse_of, step_of};
 ghost use Rattle.puz_board.specs.Masks.{IsMaskOf};
 ghost use Rattle.pat_place.specs.Patterns.{IsPattern, has};
 ghost use Rattle.pat_place.specs.Placements.{IsFree};
 ghost use Rattle.pat_place.specs.Ranks.{IsRank};
 ghost use Rattle.pat_place.specs.Regions.{IsSlot};
 ghost use Rattle.tab_runs.specs.RunPlaces.{IsFirstRank, IsRun};
-ghost use Rattle.tab_runs.specs.Rows.{IsOpen, listed_below};
+ghost use Rattle.tab_runs.specs.Rows.{IsOpen, listed_below, row_length};
 ghost use Rattle.tab_runs.specs.RowTables.{AreRowsOf};
 ghost use Rattle.tab_runs.specs.Runs.{with_last};
-ghost use Rattle.edge_words.specs.Lookups.{AreEntriesOf, IsRunOf, SaysOfAll, but_last};
+ghost use Rattle.edge_words.specs.Lookups.{AreEntriesOf, AreOrigins, IsRunOf, SaysOfAll, but_last};
+ghost use Rattle.edge_words.specs.Words.{move_of};
 
 use crate::runs::Run;
 use pat_place::{Pattern, rank_among, slot_of, unrank};
 use puz_board::masks::{all_below, count_below};
+use puz_board::{Move, Side, step};
 use std::alloc::{AllocError, Global};
 use std::marker::Model;
 use tab_rule::CheckedTable;
 use tab_runs::RowTable;
+
+/// How many moves there are to all cells: four to each of 25.
+const MOST_WAYS: usize = 100;
 
 /// A table, whose entries are looked up by runs. It takes no flood where its rows are kept.
 #[derive(Drop)]
@@ -30,6 +36,8 @@ pub(crate) struct Lookup<'a> {
     /// How many cells a row lists.
     listed: usize,
     rows: RowTable,
+    /// For each cell and move the cell from which the move leads there.
+    origins: [Option<u8>; MOST_WAYS],
 }
 
 impl<'a> Model for Lookup<'a> {
@@ -57,6 +65,7 @@ impl<'a> Lookup<'a> {
             width: usize::from(pattern.width()),
             listed: usize::from(pattern.side().cells()) - usize::from(pattern.size()),
             rows,
+            origins: all_origins(pattern.side()),
         })
     }
 
@@ -118,22 +127,41 @@ impl<'a> Lookup<'a> {
         }
     }
 
-    /// The entry of the run's placement with the last tile in a cell, where the blank is in another one, in whose row it has
-    /// this place.
+    /// The cell from which the move with a number leads the blank to a cell, if there is one.
+    #[inline]
+    pub(crate) fn origin(&self, cell: u8, number: u8) -> Option<u8>
+        requires { cell < self.now.side * self.now.side }
+        ensures origin { result ≡ step_of self.now.side cell (reverse_of (move_of number)) }
+        ensures within { IfSome result (λ from. from < self.now.side * self.now.side) }
+    {
+        let _side = self.pattern.side();
+        self.origins[usize::from(4 * cell + number % 4)]
+    }
+
+    /// Where the row of a cell begins among the rows of a set.
+    #[inline]
+    pub(crate) fn row_start(&self, cell: u8) -> usize
+        requires { cell < self.now.side * self.now.side }
+        ensures { result ≡ cell * row_length self.now.side (length self.now.tiles) }
+    {
+        let _side = self.pattern.side();
+        usize::from(cell) * self.listed
+    }
+
+    /// The entry of the run's placement with the last tile in a cell, where the blank is in another one, which has this place
+    /// among the rows of the run's set.
     #[inline(always)]
-    pub(crate) fn entry(&self, run: &Run<'_>, cell: u8, last: u8, place: u8) -> u8
+    pub(crate) fn entry(&self, run: &Run<'_>, cell: u8, last: u8, place: usize) -> u8
         requires run { IsRunOf self.now run.now }
         requires open { IsOpen self.now.side (but_last self.now run.now.cells) cell last }
-        requires place { place ≡ listed_below (but_last self.now run.now.cells) cell last }
+        requires place { let p = self.now in place ≡ cell * row_length p.side (length p.tiles)
+            + listed_below (but_last p run.now.cells) cell last }
         ensures { let cells = with_last (but_last self.now run.now.cells) last in
             SaysOfAll self.now cells cell result }
     {
         let _side = self.pattern.side();
         match run.rows {
-            Some(rows) => {
-                let at = rows[usize::from(cell) * self.listed + usize::from(place)];
-                run.own[usize::from(at) - 1]
-            }
+            Some(rows) => run.own[usize::from(rows[place]) - 1],
             None => self.found_entry(run, cell, last),
         }
     }
@@ -171,5 +199,30 @@ impl<'a> Lookup<'a> {
     {
         let _side = self.pattern.side();
         run.first + u64::from(count_below(run.free, last))
+    }
+}
+
+/// For each cell of a board of a side and each move the cell from which the move leads there.
+fn all_origins(side: Side) -> [Option<u8>; MOST_WAYS]
+    ensures { AreOrigins side result }
+{
+    let mut origins = [None; MOST_WAYS];
+    for place in 0..4 * side.cells() {
+        let back = move_of(place).reverse();
+        origins[usize::from(place)] = step(side, place / 4, back);
+    }
+    origins
+}
+
+/// The move with a number, of which the last digit to the base 4 counts.
+#[inline]
+fn move_of(number: u8) -> Move
+    ensures { result ≡ move_of number }
+{
+    match number % 4 {
+        0 => Move::Up,
+        1 => Move::Down,
+        2 => Move::Left,
+        _ => Move::Right,
     }
 }

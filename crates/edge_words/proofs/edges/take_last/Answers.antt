@@ -21,14 +21,13 @@ loop-last-preserved c =
     let last = c.loop-last.last in
     let few = few_cells p.side pat.low pat.high in
     let side = c.side.ensures.side ∙ ap (λ q. q.side) c.pattern.ensures.pattern in
-    let count : c.cells-last-end.result ≡ p.side * p.side = c.cells-last-end.ensures.value ∙ ap₂ (λ m n. m * n) side side in
+    let count : c.cells-cells.result ≡ p.side * p.side = c.cells-cells.ensures.value ∙ ap₂ (λ m n. m * n) side side in
     let within = c.loop-last-test.true in
     elim c.if-has_cell.branch [
       | then-has_cell+in-Some w ↦
           let tile : length p.tiles - 1 ≡ number / 4 = (let t = c.requires.tile in omega arith) in
-          let told : TellsOfMove p (with_last cells last) (length p.tiles - 1) c.move_of-mv.result w.in-Some.rises = subst (IsToldOf p (with_last cells last) (length p.tiles - 1) c.move_of-mv.result) w.in-Some.is w.last_edge.ensures in
-          let tells : TellsOfMove p (with_last cells last) (number / 4) (move_of number) w.in-Some.rises = subst (λ m. TellsOfMove p (with_last cells last) (number / 4) m w.in-Some.rises) c.move_of-mv.ensures
-          (subst (λ i. TellsOfMove p (with_last cells last) i c.move_of-mv.result w.in-Some.rises) tile told) in
+          let told : TellsOfMove p (with_last cells last) (length p.tiles - 1) (move_of number) w.in-Some.rises = subst (IsToldOf p (with_last cells last) (length p.tiles - 1) (move_of number)) w.in-Some.is w.last_edge.ensures in
+          let tells : TellsOfMove p (with_last cells last) (number / 4) (move_of number) w.in-Some.rises = subst (λ i. TellsOfMove p (with_last cells last) i (move_of number) w.in-Some.rises) tile told in
           subst (AreBitsUpTo p cells number (last + 1)) (sym w.words-is)
           (bits_next p cells number last c.loop-last.words c.loop-last.invariant (omega arith) w.in-Some.rises tells w.from-then-has_cell.result w.noted.result w.from-then-has_cell.ensures
           (subst (λ i. IsWith w.in-Some.rises number (slice_index c.loop-last.words i) w.noted.result) (w.from.ensures ∙ sym w.from-then-has_cell.ensures) w.noted.ensures))
@@ -42,6 +41,6 @@ pub returns-clause-told : goal.returns-clause-told
 returns-clause-told c =
     let p = c.args.lookup.now in
     let side = c.side.ensures.side ∙ ap (λ q. q.side) c.pattern.ensures.pattern in
-    let count : c.cells-last-end.result ≡ p.side * p.side = c.cells-last-end.ensures.value ∙ ap₂ (λ m n. m * n) side side in
+    let count : c.cells-cells.result ≡ p.side * p.side = c.cells-cells.ensures.value ∙ ap₂ (λ m n. m * n) side side in
     let done = c.loop-last-test.false in
     bits_all p (but_last p c.args.run.now.cells) c.args.number c.loop-last.last c.loop-last.words (omega arith) c.loop-last.invariant

@@ -1,5 +1,4 @@
-use Rattle.std.proofs.Common.{◌≡◌, ◌/◌, ◌<◌, length, ◌∙◌, ap, subst, arith}
-use Rattle.edge_words.specs.Edges.{HasNoOrigin}
+use Rattle.std.proofs.Common.{◌≡◌, ◌/◌, ◌<◌, length, ◌∙◌, ap, arith}
 use Rattle.edge_words.specs.Lookups.{but_last}
 use Rattle.edge_words.specs.Words.{move_of}
 use Rattle.edge_words.proofs.RunMoveLemmas.{front_none}
@@ -16,6 +15,5 @@ returns-in-None-clause-told c =
     let within = c.requires.number in
     let other = c.if-tile-size.false in
     let low : number / 4 < length cells = omega arith in
-    let none : HasNoOrigin p cells (number / 4) (move_of number) = subst (HasNoOrigin p cells (number / 4)) c.move_of.ensures c.in-None.ensures in
     bits_none p cells number c.args.words.now c.requires.words
-    (λ last free. front_none p c.pattern.ensures.is_pattern cells c.requires.run.run last free (number / 4) (move_of number) low none)
+    (λ last free. front_none p c.pattern.ensures.is_pattern cells c.requires.run.run last free (number / 4) (move_of number) low c.in-None.ensures)
