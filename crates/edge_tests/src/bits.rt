@@ -80,7 +80,7 @@ fn cell_of(numbers: &Numbers, number: u8) -> usize {
 /// The index of the tiles' cells.
 fn index_of(tiles: &[u8], numbers: &Numbers) -> u32 {
     let mut index: u32 = 0;
-    for tile in tiles.iter().rev() {
+    for tile in tiles {
         index = index
             .wrapping_mul(9)
             .wrapping_add(u32::try_from(cell_of(numbers, *tile)).unwrap_or(0));

@@ -2,6 +2,8 @@
 #![tactic(auto)]
 
 #[cfg(test)]
+mod along_walks;
+#[cfg(test)]
 mod bits;
 #[cfg(test)]
 mod making;

@@ -1,7 +1,7 @@
 -- Moves between the placements of runs.
-use Rattle.std.proofs.Common.{◌≡◌, ◌≢◌, ℕ, ◌+◌, ◌-◌, ◌/◌, ◌<◌, Bool, true, false, eqb, List, [], ◌∷◌, length, Option, None, Some, inl, inr, sym, ◌∙◌, ap, subst, arith, get_or-set_same, get_or-set_other}
-use Rattle.std.specs.Prelude.{MatchOption, slice_index, slice_index_or, slice_set}
-use Rattle.std.proofs.lemmas.Bool.{cases_Bool, cases_eq, or_left}
+use Rattle.std.proofs.Common.{◌≡◌, ◌≢◌, ℕ, ◌-◌, ◌<◌, Bool, true, false, eqb, List, [], ◌∷◌, length, Option, Some, inl, inr, sym, ◌∙◌, ap, ap₂, subst, arith}
+use Rattle.std.specs.Prelude.{MatchOption, slice_index, slice_set}
+use Rattle.std.proofs.lemmas.Bool.{cases_Bool, or_left}
 use Rattle.std.proofs.lemmas.List.{get_or_append_left, get_or_at, set-append_left}
 use Rattle.std.proofs.Math.Seq.{set-append_seam}
 use Rattle.puz_board.specs.Cells.{reverse_of, step_of}
@@ -11,35 +11,16 @@ use Rattle.puz_board.proofs.CellLemmas.{step_of-inside}
 use Rattle.pat_place.specs.Patterns.{IsPattern, ShownPattern, has}
 use Rattle.pat_place.specs.Placements.{IsFree, IsPlacement}
 use Rattle.pat_place.proofs.ListLemmas.{Some-one}
+use Rattle.tab_runs.specs.Rows.{IsOpen, listed_below}
 use Rattle.tab_runs.specs.RunPlaces.{IsRun}
 use Rattle.tab_runs.specs.Runs.{with_last}
-use Rattle.tab_runs.proofs.RunLemmas.{free-with_last, has-with_last, left_cell, placed_last, stays_free, taken, with_last-free, with_last-here}
-use Rattle.edge_words.specs.Edges.{AreNears, HasNoOrigin, IsNear, IsToldOf}
+use Rattle.tab_runs.proofs.RunLemmas.{free-with_last, has-with_last, open_free, open_moved, placed_last, same_moved, with_last-free, with_last-here}
+use Rattle.edge_words.specs.Edges.{HasNoOrigin, IsNear, IsToldOf}
 use Rattle.edge_words.specs.Lookups.{SaysOfAll, but_last}
-use Rattle.edge_words.specs.Words.{Differs, TellsOfMove, move_of}
+use Rattle.edge_words.specs.Words.{Differs, TellsOfMove}
 use Rattle.edge_words.specs.declared.edges.Near.{Near}
 use Rattle.edge_words.proofs.EdgeLemmas.{edge_told, no_origin_tells}
-
--- what is kept for a move's number
-pub kept_at : (p : ShownPattern) (cells : List ℕ) (count : ℕ) (nears : List (Option Near)) → AreNears p cells count nears → (at number : ℕ) → at ≡ number → number < count → (o : Option Near) → slice_index_or nears at None ≡ o
-    → MatchOption o (HasNoOrigin p cells (number / 4) (move_of number)) (IsNear p cells (number / 4) (move_of number))
-kept_at p cells count nears are at number same low o is =
-    subst (λ o. MatchOption o (HasNoOrigin p cells (number / 4) (move_of number)) (IsNear p cells (number / 4) (move_of number)))
-    (ap (λ k. slice_index_or nears k None) (sym same) ∙ is) (are number None low)
-
--- what is found for one number more
-pub nears_more : (p : ShownPattern) (cells : List ℕ) (count : ℕ) (nears : List (Option Near)) → AreNears p cells count nears → count < length nears → (at : ℕ) → at ≡ count → (new : Option Near)
-    → MatchOption new (HasNoOrigin p cells (count / 4) (move_of count)) (IsNear p cells (count / 4) (move_of count)) → AreNears p cells (count + 1) (slice_set nears at new)
-nears_more p cells count nears are room at same new is number other low = elim (cases_eq number count) [
-  | inl e ↦
-      let here : slice_index_or (slice_set nears at new) number other ≡ new = ap (λ k. slice_index_or (slice_set nears at new) k other) (e ∙ sym same) ∙ get_or-set_same nears at new other (omega arith) in
-      subst (λ o. MatchOption o (HasNoOrigin p cells (number / 4) (move_of number)) (IsNear p cells (number / 4) (move_of number))) (sym here)
-      (subst (λ k. MatchOption new (HasNoOrigin p cells (k / 4) (move_of k)) (IsNear p cells (k / 4) (move_of k))) (sym e) is)
-  | inr ne ↦
-      let there : slice_index_or (slice_set nears at new) number other ≡ slice_index_or nears number other = get_or-set_other nears at number new other (λ e. ne (e ∙ same)) in
-      subst (λ o. MatchOption o (HasNoOrigin p cells (number / 4) (move_of number)) (IsNear p cells (number / 4) (move_of number))) (sym there)
-      (are number other (omega arith))
-]
+use Rattle.edge_words.proofs.LookupLemmas.{free_below-same}
 
 module _ (p : ShownPattern) (pat : IsPattern p) (cells : List ℕ) (run : IsRun p cells) (last : ℕ) (free : IsFree p.side cells last) where
   placed : IsPlacement (record { pattern = p; cells = with_last cells last })
@@ -69,26 +50,28 @@ module _ (p : ShownPattern) (pat : IsPattern p) (cells : List ℕ) (run : IsRun 
           let same : from ≡ near.from = Some-one from near.from (sym other ∙ ap (λ c. step_of p.side c (reverse_of move)) (sym to_is) ∙ step) in
           ap (has (with_last cells last)) (same ∙ blocked) ∙ with_last-here cells last)
 
-      pub front_before : near.from ≢ last → IsFree p.side (with_last cells last) near.from
-      front_before apart = free-with_last p.side cells last near.from is.free apart
+      -- before the move
+      pub front_before : near.from ≢ last → IsOpen p.side cells near.from last
+      front_before apart = record { last = free; cell = is.free; other = apart }
 
-      -- after the move
-      pub front_last : near.from ≢ last → IsFree p.side (but_last p near.run.cells) last
-      front_last apart = subst (λ xs. IsFree p.side xs last) (sym is.moved) (stays_free p.side cells run.inside run.apart index near.from low is.free last free apart)
-
-      pub front_after : near.from ≢ last → IsFree p.side (with_last (but_last p near.run.cells) last) near.to
+      -- after it
+      pub front_after : near.from ≢ last → IsOpen p.side (but_last p near.run.cells) near.to last
       front_after apart =
-          let left : IsFree p.side (slice_set cells index near.from) (slice_index cells index) = left_cell p.side cells run.inside run.apart index near.from low is.free in
-          subst (λ xs. IsFree p.side (with_last xs last) near.to) (sym is.moved)
-          (free-with_last p.side (slice_set cells index near.from) last near.to (subst (IsFree p.side (slice_set cells index near.from)) (sym is.to) left)
-          (λ e. taken p.side cells run.inside run.apart index near.from low is.free (subst (IsFree p.side cells) (sym e ∙ is.to) free)))
+          subst (λ xs. IsOpen p.side xs near.to last) (sym is.moved)
+          (subst (λ c. IsOpen p.side (slice_set cells index near.from) c last) (sym is.to) (open_moved p.side cells run.inside run.apart index near.from low is.free last (front_before apart)))
+
+      -- the place in both rows
+      pub front_place : listed_below cells near.from last ≡ listed_below (but_last p near.run.cells) near.to last
+      front_place =
+          free_below-same (with_last cells near.from) (with_last (slice_set cells index near.from) (slice_index cells index)) (same_moved cells index near.from low) last ∙
+          ap₂ (λ xs c. listed_below xs c last) (sym is.moved) (sym is.to)
 
       pub front_told : near.from ≢ last → (before after : ℕ) → SaysOfAll p (with_last cells last) near.from before → SaysOfAll p (with_last (but_last p near.run.cells) last) near.to after
           → (o : Option Bool) → MatchOption o ((rises : Bool) → ¬ Differs rises before after) (λ rises. Differs rises before after) → IsToldOf p (with_last cells last) index move o
       front_told apart before after says also =
           edge_told p pat (with_last cells last) index move near.from near.to before after to_is step says
           (subst (λ xs. SaysOfAll p xs near.to after) (ap (λ xs. with_last xs last) is.moved ∙ sym (set-append_left cells (last ∷ []) index near.from low)) also)
-          placed (let e = run.size in omega arith) (front_before apart)
+          placed (let e = run.size in omega arith) (free-with_last p.side cells last near.from is.free apart)
 
   -- ---- the last tile
 
@@ -113,15 +96,15 @@ module _ (p : ShownPattern) (pat : IsPattern p) (cells : List ℕ) (run : IsRun 
       apart : last ≢ from
       apart = Adjacent-apart p.side last from pat.low (open_cell.0, reverse_of move, step)
 
-      pub last_before : IsFree p.side (with_last cells last) from
-      last_before = free-with_last p.side cells last from open_cell (λ e. apart (sym e))
+      pub last_before : IsOpen p.side cells from last
+      last_before = record { last = free; cell = open_cell; other = λ e. apart (sym e) }
 
-      pub last_after : IsFree p.side (with_last cells from) last
-      last_after = free-with_last p.side cells from last free apart
+      pub last_after : IsOpen p.side cells last from
+      last_after = record { last = open_cell; cell = free; other = apart }
 
       pub last_told : (before after : ℕ) → SaysOfAll p (with_last cells last) from before → SaysOfAll p (with_last cells from) last after
           → (o : Option Bool) → MatchOption o ((rises : Bool) → ¬ Differs rises before after) (λ rises. Differs rises before after) → IsToldOf p (with_last cells last) (length p.tiles - 1) move o
       last_told before after says also =
           edge_told p pat (with_last cells last) (length p.tiles - 1) move from last before after (sym at_last) step says
           (subst (λ xs. SaysOfAll p xs last after) (sym (ap (λ k. slice_set (with_last cells last) k from) (sym here) ∙ set-append_seam cells last [] from)) also)
-          placed (let e = run.size in omega arith) last_before
+          placed (let e = run.size in omega arith) (open_free p.side cells from last last_before)

@@ -1,12 +1,15 @@
 -- Moves of tiles between the placements of runs.
-use Rattle.std.specs.Prelude.{◌≡◌, ℕ, ◌/◌, ◌<◌, true, Bool, List, MatchOption, Option, Some, slice_index, slice_index_or, slice_set}
+use Rattle.std.specs.Prelude.{◌≡◌, ◌≢◌, ℕ, ◌+◌, ◌/◌, ◌<◌, ◌≤◌, true, false, Bool, List, MatchOption, Option, Some, length, slice_index, slice_set}
+use Rattle.std.specs.Int.{bit_at}
+use Rattle.puz_board.specs.Masks.{has_bit}
 use Rattle.puz_board.specs.Cells.{reverse_of, step_of}
 use Rattle.puz_board.specs.declared.moves.Move.{Move}
 use Rattle.pat_place.specs.Patterns.{ShownPattern, has}
 use Rattle.pat_place.specs.Placements.{IsFree}
+use Rattle.tab_runs.specs.Runs.{with_last}
 use Rattle.edge_words.specs.Lookups.{IsRunOf, but_last}
 use Rattle.edge_words.specs.OddEdges.{HasOddEdge}
-use Rattle.edge_words.specs.Words.{TellsOfMove, move_of}
+use Rattle.edge_words.specs.Words.{IsEdgeWord, TellsOfMove, move_of}
 use Rattle.edge_words.specs.declared.edges.Near.{Near}
 
 -- whether the move raises the least cost, or there is an odd edge
@@ -26,8 +29,28 @@ abbrev pub HasNoOrigin : ShownPattern → List ℕ → ℕ → Move → Type 0
 HasNoOrigin p cells index move =
     (from : ℕ) → step_of p.side (slice_index cells index) (reverse_of move) ≡ Some from → has cells from ≡ true
 
--- for each tile but the last and each move the run to which it leads, or none
-abbrev pub AreNears : ShownPattern → List ℕ → ℕ → List (Option Near) → Type 0
-AreNears p cells count nears =
-    (number : ℕ) (other : Option Near) → number < count →
-    MatchOption (slice_index_or nears number other) (HasNoOrigin p cells (number / 4) (move_of number)) (IsNear p cells (number / 4) (move_of number))
+-- the bit is set where this holds, and the others stay
+abbrev pub IsWith : Bool → ℕ → ℕ → ℕ → Type 0
+IsWith true number word next = (bit_at next number ≡ 1) × ((x : ℕ) → x ≢ number → bit_at next x ≡ bit_at word x)
+IsWith false number word next = next ≡ word
+
+-- the bits of the moves with numbers below this one tell of them, and the others are clear
+pub record IsToldBelow (p : ShownPattern) (cells : List ℕ) (number word : ℕ) : Type 0 where
+  pub bits : (k : ℕ) → k < number → TellsOfMove p cells (k / 4) (move_of k) (has_bit word k)
+  pub clear : (k : ℕ) → number ≤ k → bit_at word k ≡ 0
+
+-- the same of each placement of the run with these cells
+pub record AreBitsBelow (p : ShownPattern) (cells : List ℕ) (number : ℕ) (words : List ℕ) : Type 0 where
+  pub room : length words ≡ 25
+  pub each : (last : ℕ) → IsFree p.side cells last → IsToldBelow p (with_last cells last) number (slice_index words last)
+
+-- one move more of those with the last tile in a cell below this one
+pub record AreBitsUpTo (p : ShownPattern) (cells : List ℕ) (number end : ℕ) (words : List ℕ) : Type 0 where
+  pub room : length words ≡ 25
+  pub done : (last : ℕ) → IsFree p.side cells last → last < end → IsToldBelow p (with_last cells last) (number + 1) (slice_index words last)
+  pub left : (last : ℕ) → IsFree p.side cells last → end ≤ last → IsToldBelow p (with_last cells last) number (slice_index words last)
+
+-- the words of the run's placements
+pub record AreWordsOf (p : ShownPattern) (cells words : List ℕ) : Type 0 where
+  pub room : length words ≡ 25
+  pub each : (last : ℕ) → IsFree p.side cells last → IsEdgeWord p (with_last cells last) (slice_index words last)

@@ -8,27 +8,25 @@ ghost use Rattle.pat_place.specs.Patterns.{has};
 ghost use Rattle.pat_place.specs.Placements.{IsApart};
 ghost use Rattle.tab_runs.specs.RunPlaces.{IsRun};
 ghost use denote.Param.Send.{IsSync};
-ghost use Rattle.edge_words.specs.Fills.{AreToldBelow, IsFillable, IsFilled, IsSpan, stride_of};
+ghost use Rattle.edge_words.specs.Fills.{AreToldBelow, IsFillable, IsFilled, IsSpan, run_count};
 ghost use Rattle.edge_words.specs.Indexes.{index_count, index_in, most_words};
 ghost use Rattle.edge_words.specs.Lookups.{IsRunOf, but_last};
 ghost use Rattle.edge_words.specs.OddEdges.{HasOddEdge};
 
-use crate::edges::{nears_of, word_of};
+use crate::edges::words_of;
 use crate::lookups::Lookup;
 use crate::runs::Run;
 use pat_place::Pattern;
 use puz_board::masks::{has_cell, with};
 use std::thread::{Threads, join_mut};
 
-/// Cells of the last tile, one after the other.
+/// Runs, one after the other by their indexes.
 #[derive(Clone, Copy)]
 pub(crate) struct Span {
-    /// The first one.
-    pub(crate) low: u8,
+    /// The first index.
+    pub(crate) low: usize,
     /// Behind the last one.
-    pub(crate) high: u8,
-    /// How many words there are for each.
-    pub(crate) stride: usize,
+    pub(crate) high: usize,
 }
 
 /// Fills in the words of a span by so many threads at once. It answers false where there is an odd edge.
@@ -42,13 +40,14 @@ pub(crate) fn fill_by<R: Threads + Sync>(
     requires { IsFillable lookup.now span words.old }
     ensures { IsFilled lookup.now span words.new result }
 {
-    let _pattern = lookup.pattern();
+    let cells = usize::from(lookup.pattern().side().cells());
     if threads < 2 {
         return fill(lookup, &span, words);
     }
     let half = threads / 2;
     let others = threads - half;
-    let middle = span.low + (span.high - span.low) / threads * half;
+    let part = (span.high - span.low) / usize::from(threads) * usize::from(half);
+    let middle = span.low + part;
     let low = Span {
         high: middle,
         ..span
@@ -57,7 +56,7 @@ pub(crate) fn fill_by<R: Threads + Sync>(
         low: middle,
         ..span
     };
-    let (front, back) = words.split_at_mut(usize::from(middle - span.low) * span.stride);
+    let (front, back) = words.split_at_mut(part * cells);
     let (one, other) = join_mut(
         rt,
         &mut || -> bool
@@ -77,7 +76,7 @@ fn fill(lookup: &Lookup<'_>, span: &Span, words: &mut [u32]) -> bool
     requires { IsFillable lookup.now span.now words.old }
     ensures { IsFilled lookup.now span.now words.new result }
 {
-    for index in 0..span.stride {
+    for index in span.low..span.high {
         if let Some(run) = run_at(lookup, index) {
             if !fill_run(lookup, &run, index, span, words) {
                 return false;
@@ -87,32 +86,36 @@ fn fill(lookup: &Lookup<'_>, span: &Span, words: &mut [u32]) -> bool
     true
 }
 
-/// Fills in the words of a run's placements in a span, where those of the runs with lower indexes are there.
-fn fill_run(lookup: &Lookup<'_>, run: &Run, index: usize, span: &Span, words: &mut [u32]) -> bool
+/// Fills in the words of a run's placements, where those of the span's runs with lower indexes are there.
+fn fill_run(
+    lookup: &Lookup<'_>,
+    run: &Run<'_>,
+    index: usize,
+    span: &Span,
+    words: &mut [u32],
+) -> bool
     requires run { IsRunOf lookup.now run.now }
     requires index { index_in lookup.now (but_last lookup.now run.now.cells) ≡ index }
-    requires span { IsSpan lookup.now span.now }
+    requires span { IsSpan lookup.now span.now × (span.now.low ≤ index) × (index < span.now.high) }
     requires few { index_count lookup.now ≤ most_words }
     requires told { AreToldBelow lookup.now span.now index words.old }
     ensures told { OnTrue result (AreToldBelow lookup.now span.now (index + 1) words.new) }
     ensures odd { OnFalse result (HasOddEdge lookup.now) }
 {
-    let _pattern = lookup.pattern();
-    let nears = nears_of(lookup, run);
-    for last in span.low..span.high {
-        if has_cell(run.free, last) {
-            let Some(word) = word_of(lookup, run, &nears, last) else {
-                return false;
-            };
-            words[usize::from(last - span.low) * span.stride + index] = word;
-        }
+    let Some(found) = words_of(lookup, run) else {
+        return false;
+    };
+    let cells = lookup.pattern().side().cells();
+    let start = (index - span.low) * usize::from(cells);
+    for last in 0..cells {
+        words[start + usize::from(last)] = found[usize::from(last)];
     }
     true
 }
 
 /// The run with an index, where no two of its tiles are in the same cell.
-fn run_at(lookup: &Lookup<'_>, index: usize) -> Option<Run>
-    requires index { index < stride_of lookup.now }
+fn run_at<'a>(lookup: &'a Lookup<'_>, index: usize) -> Option<Run<'a>>
+    requires index { index < run_count lookup.now }
     ensures { MatchOption result
         ((cells : List ℕ) → IsRun lookup.now cells → index_in lookup.now cells ≢ index)
         (λ run. IsRunOf lookup.now run
@@ -128,7 +131,7 @@ fn run_at(lookup: &Lookup<'_>, index: usize) -> Option<Run>
 
 /// The cells of all tiles but the last whose index this is. Zeros stand behind them.
 fn cells_at(pattern: &Pattern, index: usize) -> [u8; 8]
-    requires { index < stride_of pattern.now }
+    requires { index < run_count pattern.now }
     ensures room { length result ≡ 8 }
     ensures index { index_in pattern.now (but_last pattern.now result) ≡ index }
     ensures inside { let count = pattern.now.side * pattern.now.side in
@@ -137,7 +140,9 @@ fn cells_at(pattern: &Pattern, index: usize) -> [u8; 8]
     let count = usize::from(pattern.side().cells());
     let mut cells = [0; 8];
     let mut rest = index;
-    for tile in 0..usize::from(pattern.size()) - 1 {
+    let mut tile = usize::from(pattern.size()) - 1;
+    while tile > 0 {
+        tile -= 1;
         cells[tile] = (rest % count) as u8;
         rest /= count;
     }

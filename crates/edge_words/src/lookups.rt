@@ -1,30 +1,43 @@
 //! The entries of a table, by runs.
 
-ghost use Rattle.std.specs.Prelude.{◌≡◌, ◌+◌, ◌<◌, true, IfOk, length};
+ghost use Rattle.std.specs.Prelude.{◌≡◌, ◌+◌, ◌*◌, ◌<◌, true, IfOk, IfSome, length};
+ghost use Rattle.puz_board.specs.Cells.{reverse_of, step_of};
 ghost use Rattle.puz_board.specs.Masks.{IsMaskOf};
 ghost use Rattle.pat_place.specs.Patterns.{IsPattern, has};
 ghost use Rattle.pat_place.specs.Placements.{IsFree};
 ghost use Rattle.pat_place.specs.Ranks.{IsRank};
 ghost use Rattle.pat_place.specs.Regions.{IsSlot};
-ghost use Rattle.tab_runs.specs.RunPlaces.{IsRun};
+ghost use Rattle.tab_runs.specs.RunPlaces.{IsFirstRank, IsRun};
+ghost use Rattle.tab_runs.specs.Rows.{IsOpen, listed_below, row_length};
+ghost use Rattle.tab_runs.specs.RowTables.{AreRowsOf};
 ghost use Rattle.tab_runs.specs.Runs.{with_last};
-ghost use Rattle.edge_words.specs.Lookups.{IsRunOf, SaysOfAll, but_last};
+ghost use Rattle.edge_words.specs.Lookups.{AreEntriesOf, AreOrigins, IsRunOf, SaysOfAll, but_last};
+ghost use Rattle.edge_words.specs.Words.{move_of};
 
 use crate::runs::Run;
-use pat_place::{Pattern, SlotTable, rank_among, slot_of, unrank};
-use puz_board::masks::{all_below, count_below, with};
+use pat_place::{Pattern, rank_among, slot_of, unrank};
+use puz_board::masks::{all_below, count_below};
+use puz_board::{Move, Side, step};
 use std::alloc::{AllocError, Global};
 use std::marker::Model;
 use tab_rule::CheckedTable;
+use tab_runs::RowTable;
 
-/// A table, whose entries are looked up by runs. It takes no flood.
+/// How many moves there are to all cells: four to each of 25.
+const MOST_WAYS: usize = 100;
+
+/// A table, whose entries are looked up by runs. It takes no flood where its rows are kept.
 #[derive(Drop)]
 pub(crate) struct Lookup<'a> {
     pattern: Pattern,
     entries: &'a [u8],
     /// How many entries a placement has.
     width: usize,
-    slots: SlotTable,
+    /// How many cells a row lists.
+    listed: usize,
+    rows: RowTable,
+    /// For each cell and move the cell from which the move leads there.
+    origins: [Option<u8>; MOST_WAYS],
 }
 
 impl<'a> Model for Lookup<'a> {
@@ -45,12 +58,14 @@ impl<'a> Lookup<'a> {
         ensures { IfOk result (λ pattern. pattern ≡ table.now.pattern) }
     {
         let pattern = table.pattern();
-        let slots = SlotTable::build(alloc, &pattern)?;
+        let rows = RowTable::build(alloc, &pattern)?;
         Ok(Lookup {
             pattern,
             entries: table.entries(),
             width: usize::from(pattern.width()),
-            slots,
+            listed: usize::from(pattern.side().cells()) - usize::from(pattern.size()),
+            rows,
+            origins: all_origins(pattern.side()),
         })
     }
 
@@ -64,7 +79,8 @@ impl<'a> Lookup<'a> {
     }
 
     /// The run with these cells, whose mask is given.
-    pub(crate) fn run_of(&self, cells: [u8; 8], set: u32) -> Run
+    #[inline]
+    pub(crate) fn run_of(&self, cells: [u8; 8], set: u32) -> Run<'_>
         requires room { length cells ≡ 8 }
         requires run { IsRun self.now (but_last self.now cells) }
         requires set { IsMaskOf set (λ c. has (but_last self.now cells) c ≡ true) }
@@ -74,28 +90,96 @@ impl<'a> Lookup<'a> {
         let count = self.pattern.side().cells();
         let others = usize::from(self.pattern.size()) - 1;
         let rank = rank_among(&cells[..others], count);
+        let first = rank * (u64::from(count) - others as u64);
         Run {
             cells,
             set,
             free: all_below(count) & !set,
-            first: rank * (u64::from(count) - others as u64),
+            first,
+            own: self.entries_from(&cells, first),
+            rows: self.rows_of(&cells, set),
         }
     }
 
-    /// The rank of the run's placement with the last tile in a cell.
+    /// The entries of the run with these cells, whose first placement has this rank.
     #[inline]
-    fn rank_of(&self, run: &Run, last: u8) -> u64
-        requires run { IsRunOf self.now run.now }
-        requires last { IsFree self.now.side (but_last self.now run.now.cells) last }
-        ensures { IsRank self.now.side (with_last (but_last self.now run.now.cells) last) result }
+    fn entries_from(&self, cells: &[u8; 8], first: u64) -> &[u8]
+        requires run { IsRun self.now (but_last self.now cells.now) }
+        requires first { IsFirstRank self.now.side (but_last self.now cells.now) first }
+        ensures { AreEntriesOf self.now (but_last self.now cells.now) result.now }
+    {
+        let count = usize::from(self.pattern.side().cells());
+        let placements = count + 1 - usize::from(self.pattern.size());
+        let start = first as usize * self.width;
+        &self.entries[start..start + placements * self.width]
+    }
+
+    /// The rows of the set of these cells, if they are kept.
+    #[inline]
+    fn rows_of(&self, cells: &[u8; 8], set: u32) -> Option<&[u8]>
+        requires { IsMaskOf set (λ c. has (but_last self.now cells.now) c ≡ true) }
+        ensures { IfSome result (λ rows.
+            AreRowsOf self.now.side (length self.now.tiles) set rows.now) }
+    {
+        match self.rows.of_set(set) {
+            Some(kept) => Some(kept.rows),
+            None => None,
+        }
+    }
+
+    /// The cell from which the move with a number leads the blank to a cell, if there is one.
+    #[inline]
+    pub(crate) fn origin(&self, cell: u8, number: u8) -> Option<u8>
+        requires { cell < self.now.side * self.now.side }
+        ensures origin { result ≡ step_of self.now.side cell (reverse_of (move_of number)) }
+        ensures within { IfSome result (λ from. from < self.now.side * self.now.side) }
     {
         let _side = self.pattern.side();
-        run.first + u64::from(count_below(run.free, last))
+        self.origins[usize::from(4 * cell + number % 4)]
+    }
+
+    /// Where the row of a cell begins among the rows of a set.
+    #[inline]
+    pub(crate) fn row_start(&self, cell: u8) -> usize
+        requires { cell < self.now.side * self.now.side }
+        ensures { result ≡ cell * row_length self.now.side (length self.now.tiles) }
+    {
+        let _side = self.pattern.side();
+        usize::from(cell) * self.listed
+    }
+
+    /// The entry of the run's placement with the last tile in a cell, where the blank is in another one, which has this place
+    /// among the rows of the run's set.
+    #[inline(always)]
+    pub(crate) fn entry(&self, run: &Run<'_>, cell: u8, last: u8, place: usize) -> u8
+        requires run { IsRunOf self.now run.now }
+        requires open { IsOpen self.now.side (but_last self.now run.now.cells) cell last }
+        requires place { let p = self.now in place ≡ cell * row_length p.side (length p.tiles)
+            + listed_below (but_last p run.now.cells) cell last }
+        ensures { let cells = with_last (but_last self.now run.now.cells) last in
+            SaysOfAll self.now cells cell result }
+    {
+        let _side = self.pattern.side();
+        match run.rows {
+            Some(rows) => run.own[usize::from(rows[place]) - 1],
+            None => self.found_entry(run, cell, last),
+        }
+    }
+
+    /// The same, by a flood.
+    fn found_entry(&self, run: &Run<'_>, cell: u8, last: u8) -> u8
+        requires run { IsRunOf self.now run.now }
+        requires open { IsOpen self.now.side (but_last self.now run.now.cells) cell last }
+        ensures { let cells = with_last (but_last self.now run.now.cells) last in
+            SaysOfAll self.now cells cell result }
+    {
+        let _side = self.pattern.side();
+        let number = usize::from(count_below(run.free, last));
+        run.own[number * self.width + usize::from(self.slot_of(run, last, cell))]
     }
 
     /// The slot of a free cell of that placement.
-    #[inline]
-    fn slot_of(&self, run: &Run, last: u8, cell: u8) -> u8
+    fn slot_of(&self, run: &Run<'_>, last: u8, cell: u8) -> u8
         requires run { IsRunOf self.now run.now }
         requires last { IsFree self.now.side (but_last self.now run.now.cells) last }
         requires free { let cells = with_last (but_last self.now run.now.cells) last in
@@ -104,25 +188,41 @@ impl<'a> Lookup<'a> {
             IsSlot self.now.side cells cell result }
     {
         let _side = self.pattern.side();
-        match self.slots.slot_in(with(run.set, last), cell) {
-            Some(slot) => slot,
-            None => slot_of(&unrank(&self.pattern, self.rank_of(run, last)), cell),
-        }
+        slot_of(&unrank(&self.pattern, self.rank_of(run, last)), cell)
     }
 
-    /// The entry of that placement and cell.
-    #[inline]
-    pub(crate) fn entry(&self, run: &Run, last: u8, cell: u8) -> u8
+    /// The rank of the run's placement with the last tile in a cell.
+    fn rank_of(&self, run: &Run<'_>, last: u8) -> u64
         requires run { IsRunOf self.now run.now }
         requires last { IsFree self.now.side (but_last self.now run.now.cells) last }
-        requires free { let cells = with_last (but_last self.now run.now.cells) last in
-            IsFree self.now.side cells cell }
-        ensures { let cells = with_last (but_last self.now run.now.cells) last in
-            SaysOfAll self.now cells cell result }
+        ensures { IsRank self.now.side (with_last (but_last self.now run.now.cells) last) result }
     {
         let _side = self.pattern.side();
-        let rank = self.rank_of(run, last) as usize;
-        let slot = usize::from(self.slot_of(run, last, cell));
-        self.entries[rank * self.width + slot]
+        run.first + u64::from(count_below(run.free, last))
+    }
+}
+
+/// For each cell of a board of a side and each move the cell from which the move leads there.
+fn all_origins(side: Side) -> [Option<u8>; MOST_WAYS]
+    ensures { AreOrigins side result }
+{
+    let mut origins = [None; MOST_WAYS];
+    for place in 0..4 * side.cells() {
+        let back = move_of(place).reverse();
+        origins[usize::from(place)] = step(side, place / 4, back);
+    }
+    origins
+}
+
+/// The move with a number, of which the last digit to the base 4 counts.
+#[inline]
+fn move_of(number: u8) -> Move
+    ensures { result ≡ move_of number }
+{
+    match number % 4 {
+        0 => Move::Up,
+        1 => Move::Down,
+        2 => Move::Left,
+        _ => Move::Right,
     }
 }

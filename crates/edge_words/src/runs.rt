@@ -2,7 +2,7 @@
 
 /// A run of a table.
 #[derive(Clone, Copy)]
-pub(crate) struct Run {
+pub(crate) struct Run<'a> {
     /// The cells of all tiles but the last. Any numbers stand behind them.
     pub(crate) cells: [u8; 8],
     /// These cells as a mask.
@@ -11,4 +11,8 @@ pub(crate) struct Run {
     pub(crate) free: u32,
     /// The rank of the first placement.
     pub(crate) first: u64,
+    /// The entries of its placements.
+    pub(crate) own: &'a [u8],
+    /// For each cell where its regions stand among the entries, counted from 1, if that is kept.
+    pub(crate) rows: Option<&'a [u8]>,
 }

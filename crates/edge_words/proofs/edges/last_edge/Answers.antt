@@ -1,25 +1,25 @@
-use Rattle.std.proofs.Common.{◌≡◌, ◌∙◌, Some, sym, ap, subst}
+use Rattle.std.proofs.Common.{◌≡◌, ◌+◌, ◌∙◌, Some, sym, ap₂, subst, arith}
 use Rattle.puz_board.specs.Cells.{reverse_of, step_of}
+use Rattle.puz_board.proofs.CellLemmas.{few_cells}
 use Rattle.pat_place.specs.Placements.{IsFree}
 use Rattle.pat_place.proofs.ListLemmas.{Some-one}
 use Rattle.edge_words.specs.Lookups.{but_last}
+use Rattle.edge_words.specs.Words.{move_of}
+use Rattle.edge_words.proofs.LookupLemmas.{open_place}
 use Rattle.edge_words.proofs.RunMoveLemmas.{last_none, last_told}
 use Rattle.edge_words.proofs.edges.last_edge.Goals as goal
 
 pub returns-in_default : goal.returns-in_default
 returns-in_default c =
     let p = c.args.lookup.now in
-    let side = c.side-side.ensures.side ∙ ap (λ q. q.side) c.pattern.ensures.pattern in
-    last_none p c.pattern.ensures.is_pattern (but_last p c.args.run.now.cells) c.requires.run.run c.args.last c.requires.last c.args.mv
-    (λ from step free. c.in_default.not-Some from (c.step.ensures.cell ∙ ap (λ n. step_of n c.args.last c.reverse.result) side ∙ ap (step_of p.side c.args.last) c.reverse.ensures.value ∙ step))
+    last_none p c.pattern-pattern.ensures.is_pattern (but_last p c.args.run.now.cells) c.requires.run.run c.args.last c.requires.last (move_of c.args.number)
+    (λ from step free. c.in_default.not-Some from (c.origin.ensures.origin ∙ step))
 
 pub returns-then-not-has_cell : goal.returns-then-not-has_cell
 returns-then-not-has_cell c =
     let p = c.args.lookup.now in
-    let side = c.side-side.ensures.side ∙ ap (λ q. q.side) c.pattern.ensures.pattern in
-    let leads : step_of p.side c.args.last (reverse_of c.args.mv) ≡ Some c.in-Some.from =
-    sym (c.step.ensures.cell ∙ ap (λ n. step_of n c.args.last c.reverse.result) side ∙ ap (step_of p.side c.args.last) c.reverse.ensures.value) ∙ c.in-Some.is in
-    last_none p c.pattern.ensures.is_pattern (but_last p c.args.run.now.cells) c.requires.run.run c.args.last c.requires.last c.args.mv
+    let leads : step_of p.side c.args.last (reverse_of (move_of c.args.number)) ≡ Some c.in-Some.from = sym c.origin.ensures.origin ∙ c.in-Some.is in
+    last_none p c.pattern-pattern.ensures.is_pattern (but_last p c.args.run.now.cells) c.requires.run.run c.args.last c.requires.last (move_of c.args.number)
     (λ from step free.
     let same : from ≡ c.in-Some.from = Some-one from c.in-Some.from (sym step ∙ leads) in
     let one = (c.requires.run.free c.in-Some.from).1 (subst (IsFree p.side (but_last p c.args.run.now.cells)) same free) in
@@ -27,13 +27,30 @@ returns-then-not-has_cell c =
     let no = c.if-not-has_cell.true in
     cc)
 
+pub entry-before-requires-clause-place : goal.entry-before-requires-clause-place
+entry-before-requires-clause-place c =
+    let p = c.args.lookup.now in
+    let pat = c.pattern-pattern.ensures.is_pattern in
+    let few = few_cells p.side pat.low pat.high in
+    ap₂ (λ a b. a + b) c.row_start.ensures (c.from-place.ensures ∙
+    open_place p.side (omega arith) (but_last p c.args.run.now.cells) c.args.run.now.free c.without.result c.in-Some.from c.requires.run.free c.without.type_inv c.without.ensures.here c.without.ensures.others
+    c.args.last c.requires.last.0 c.count_below.result c.count_below.ensures.count)
+
+pub entry-after-requires-clause-place : goal.entry-after-requires-clause-place
+entry-after-requires-clause-place c =
+    let p = c.args.lookup.now in
+    let pat = c.pattern-pattern.ensures.is_pattern in
+    let few = few_cells p.side pat.low pat.high in
+    let free = (c.requires.run.free c.in-Some.from).0 (c.has_cell.ensures.0 c.if-not-has_cell.false) in
+    ap₂ (λ a b. a + b) c.row_start-2.ensures (c.from-place-2.ensures ∙
+    open_place p.side (omega arith) (but_last p c.args.run.now.cells) c.args.run.now.free c.without-2.result c.args.last c.requires.run.free c.without-2.type_inv c.without-2.ensures.here c.without-2.ensures.others
+    c.in-Some.from free.0 c.count_below-2.result c.count_below-2.ensures.count)
+
 pub returns : goal.returns
 returns c =
     let p = c.args.lookup.now in
     let cells = but_last p c.args.run.now.cells in
-    let side = c.side-side.ensures.side ∙ ap (λ q. q.side) c.pattern.ensures.pattern in
-    let step : step_of p.side c.args.last (reverse_of c.args.mv) ≡ Some c.in-Some.from =
-    sym (c.step.ensures.cell ∙ ap (λ n. step_of n c.args.last c.reverse.result) side ∙ ap (step_of p.side c.args.last) c.reverse.ensures.value) ∙ c.in-Some.is in
-    last_told p c.pattern.ensures.is_pattern cells c.requires.run.run c.args.last c.requires.last c.args.mv c.in-Some.from step
+    let step : step_of p.side c.args.last (reverse_of (move_of c.args.number)) ≡ Some c.in-Some.from = sym c.origin.ensures.origin ∙ c.in-Some.is in
+    last_told p c.pattern-pattern.ensures.is_pattern cells c.requires.run.run c.args.last c.requires.last (move_of c.args.number) c.in-Some.from step
     ((c.requires.run.free c.in-Some.from).0 (c.has_cell.ensures.0 c.if-not-has_cell.false))
     c.entry-before.result c.entry-after.result c.entry-before.ensures c.entry-after.ensures c.rise.result c.rise.ensures.differs

@@ -1,4 +1,4 @@
-use Rattle.std.proofs.Common.{◌≡◌, ◌-◌, ◌*◌, ◌<◌, length, get_or, true, sym, ◌∙◌, ap, subst, arith}
+use Rattle.std.proofs.Common.{◌≡◌, ◌-◌, ◌/◌, length, get_or, true, sym, ◌∙◌, ap, subst, arith}
 use Rattle.std.specs.Int.{bit_at}
 use Rattle.std.specs.Prelude.{slice_index, slice_set}
 use Rattle.std.proofs.lemmas.Bool.{false_from_ne_true}
@@ -13,6 +13,7 @@ use Rattle.tab_runs.specs.RunPlaces.{IsRun}
 use Rattle.tab_runs.proofs.MaskLemmas.{mask_moved}
 use Rattle.tab_runs.proofs.RunLemmas.{run_moved}
 use Rattle.edge_words.specs.Lookups.{but_last}
+use Rattle.edge_words.specs.Words.{move_of}
 use Rattle.edge_words.proofs.edges.near_of.Goals as goal
 
 pub run_of-run-requires-clause-run : goal.run_of-run-requires-clause-run
@@ -20,28 +21,27 @@ run_of-run-requires-clause-run c =
     let p = c.args.lookup.now in
     let cells = c.args.run.now.cells in
     let from = c.in_ok-from.from in
-    let side = c.side-side.ensures.side ∙ ap (λ q. q.side) c.pattern.ensures.pattern in
     let free : IsFree p.side (but_last p cells) from = (
-      subst (λ n. from < n * n) side c.in_ok-from.ensures.within,
+      c.in_ok-from.ensures.within,
       false_from_ne_true (has (but_last p cells) from) (λ h. let test = c.has_cell.ensures.1 ((c.requires.run.set from).1 h) in let no = c.if-has_cell.false in cc),
     ) in
-    let moved : but_last p (slice_set cells c.from-2.result from) ≡ slice_set (but_last p cells) c.args.tile from =
-    ap (λ k. but_last p (slice_set cells k from)) c.from-2.ensures ∙ take-set-lt (length p.tiles - 1) cells c.args.tile from c.requires.tile in
-    subst (IsRun p) (sym moved) (run_moved p (but_last p cells) c.args.tile from c.requires.run.run free)
+    let moved : but_last p (slice_set cells c.from-tile.result from) ≡ slice_set (but_last p cells) (c.args.number / 4) from =
+    ap (λ k. but_last p (slice_set cells k from)) c.from-tile.ensures ∙ take-set-lt (length p.tiles - 1) cells (c.args.number / 4) from c.requires.tile in
+    subst (IsRun p) (sym moved) (run_moved p (but_last p cells) (c.args.number / 4) from c.requires.run.run free)
 
 pub run_of-run-requires-clause-set : goal.run_of-run-requires-clause-set
 run_of-run-requires-clause-set c =
     let p = c.args.lookup.now in
-    let pat = c.pattern.ensures.is_pattern in
+    let pat = c.pattern-pattern.ensures.is_pattern in
     let cells = c.args.run.now.cells in
     let from = c.in_ok-from.from in
     let run = c.requires.run.run in
     let size = run.size in
-    let to : get_or cells c.from.result 0 ≡ get_or (but_last p cells) c.args.tile 0 = ap (λ k. get_or cells k 0) c.from.ensures ∙ sym (get_or-take (length p.tiles - 1) cells c.args.tile 0 c.requires.tile) in
-    let moved : but_last p (slice_set cells c.from-2.result from) ≡ slice_set (but_last p cells) c.args.tile from =
-    ap (λ k. but_last p (slice_set cells k from)) c.from-2.ensures ∙ take-set-lt (length p.tiles - 1) cells c.args.tile from c.requires.tile in
+    let to : get_or cells c.from-tile.result 0 ≡ get_or (but_last p cells) (c.args.number / 4) 0 = ap (λ k. get_or cells k 0) c.from-tile.ensures ∙ sym (get_or-take (length p.tiles - 1) cells (c.args.number / 4) 0 c.requires.tile) in
+    let moved : but_last p (slice_set cells c.from-tile.result from) ≡ slice_set (but_last p cells) (c.args.number / 4) from =
+    ap (λ k. but_last p (slice_set cells k from)) c.from-tile.ensures ∙ take-set-lt (length p.tiles - 1) cells (c.args.number / 4) from c.requires.tile in
     subst (λ xs. IsMaskOf c.with.result (λ x. has xs x ≡ true)) (sym moved)
-    (mask_moved p.side (few_cells p.side pat.low pat.high) (but_last p cells) run.inside run.apart c.args.tile from (let l = c.requires.tile in omega arith) c.args.run.now.set c.without.result c.with.result c.without.type_inv c.requires.run.set
+    (mask_moved p.side (few_cells p.side pat.low pat.high) (but_last p cells) run.inside run.apart (c.args.number / 4) from (let l = c.requires.tile in omega arith) c.args.run.now.set c.without.result c.with.result c.without.type_inv c.requires.run.set
     (subst (λ k. bit_at c.without.result k ≡ 0) to c.without.ensures.here)
     (λ x low ne. c.without.ensures.others x low (λ e. ne (e ∙ to)))
     c.with.ensures.here c.with.ensures.others)
@@ -51,20 +51,19 @@ returns c =
     let p = c.args.lookup.now in
     let cells = c.args.run.now.cells in
     let from = c.in_ok-from.from in
-    let side = c.side-side.ensures.side ∙ ap (λ q. q.side) c.pattern.ensures.pattern in
-    let to : get_or cells c.from.result 0 ≡ slice_index (but_last p cells) c.args.tile = ap (λ k. get_or cells k 0) c.from.ensures ∙ sym (get_or-take (length p.tiles - 1) cells c.args.tile 0 c.requires.tile) in
+    let to : get_or cells c.from-tile.result 0 ≡ slice_index (but_last p cells) (c.args.number / 4) = ap (λ k. get_or cells k 0) c.from-tile.ensures ∙ sym (get_or-take (length p.tiles - 1) cells (c.args.number / 4) 0 c.requires.tile) in
     record {
       step =
-          ap (λ k. step_of p.side k (reverse_of c.args.mv)) (sym to) ∙
-          sym (c.step.ensures.cell ∙ ap (λ n. step_of n (get_or cells c.from.result 0) c.reverse.result) side ∙ ap (step_of p.side (get_or cells c.from.result 0)) c.reverse.ensures.value) ∙
+          ap (λ k. step_of p.side k (reverse_of (move_of c.args.number))) (sym to) ∙
+          sym c.origin.ensures.origin ∙
           c.in_ok-from.was {u = tt};
       free = (
-        subst (λ n. from < n * n) side c.in_ok-from.ensures.within,
+        c.in_ok-from.ensures.within,
         false_from_ne_true (has (but_last p cells) from) (λ h. let test = c.has_cell.ensures.1 ((c.requires.run.set from).1 h) in let no = c.if-has_cell.false in cc),
       );
       to = to;
       run = c.run_of-run.ensures.run;
       moved =
-          ap (but_last p) (c.run_of-run.ensures.cells ∙ ap (λ k. slice_set cells k from) c.from-2.ensures) ∙
-          take-set-lt (length p.tiles - 1) cells c.args.tile from c.requires.tile;
+          ap (but_last p) (c.run_of-run.ensures.cells ∙ ap (λ k. slice_set cells k from) c.from-tile.ensures) ∙
+          take-set-lt (length p.tiles - 1) cells (c.args.number / 4) from c.requires.tile;
     }

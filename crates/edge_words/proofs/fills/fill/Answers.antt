@@ -1,4 +1,4 @@
-use Rattle.std.proofs.Common.{◌+◌, sym, subst, arith}
+use Rattle.std.proofs.Common.{◌+◌, sym, subst}
 use Rattle.edge_words.specs.Fills.{AreToldBelow}
 use Rattle.edge_words.proofs.FillLemmas.{told_all, told_past}
 use Rattle.edge_words.proofs.fills.fill.Goals.{in-Some+else-not-fill_run, in_default}
@@ -15,9 +15,4 @@ loop-index-preserved c =
     ]
 
 pub returns : goal.returns
-returns c =
-    let s = c.args.span.now in
-    record {
-      told = told_all c.args.lookup.now s c.loop-index.index c.loop-index.words (let stride = c.requires.span.stride in let done = c.loop-index-test.false in omega arith) c.loop-index.invariant;
-      odd = tt;
-    }
+returns c = record { told = told_all c.args.lookup.now c.args.span.now c.loop-index.index c.loop-index.words c.loop-index-test.false c.loop-index.invariant; odd = tt }

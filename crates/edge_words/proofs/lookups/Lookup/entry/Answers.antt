@@ -1,49 +1,58 @@
-use Rattle.std.proofs.Common.{◌≡◌, ℕ, ◌+◌, ◌*◌, ◌^◌, ◌<◌, sym, ◌∙◌, ap, subst, arith}
+use Rattle.std.proofs.Common.{◌≡◌, ◌+◌, ◌-◌, ◌*◌, IfSome, length, sym, ◌∙◌, ap, subst, arith}
 use Rattle.std.specs.Prelude.{slice_index}
 use Rattle.pat_place.specs.Patterns.{IsPattern}
 use Rattle.tab_file.specs.Tables.{slot_count}
-use Rattle.tab_rule.specs.ExactTables.{IsExactTable}
-use Rattle.tab_runs.specs.Runs.{with_last}
+use Rattle.tab_runs.specs.RowTables.{AreRowsOf}
+use Rattle.tab_runs.specs.Runs.{free_below, with_last}
 use Rattle.edge_words.specs.Lookups.{SaysOfAll, but_last}
-use Rattle.edge_words.proofs.LookupLemmas.{place_fits, place_low, place_says}
+use Rattle.edge_words.proofs.LookupLemmas.{own_low, row_place, row_place_low, slot_there}
 use Rattle.edge_words.proofs.lookups.Lookup.entry.Goals as goal
-use Rattle.edge_words.proofs.lookups.Lookup.entry.Goals.{After-from-slot}
 
-pattern : (c : After-from-slot) → IsPattern c.args.self.now
-pattern c = subst IsPattern c.self.view_is c.side-side.ensures.pattern
-
-exact : (c : After-from-slot) → IsExactTable (record { pattern = c.args.self.now; entries = c.self.inside.entries.now })
-exact c = subst (λ q. IsExactTable (record { pattern = q; entries = c.self.inside.entries.now })) c.self.view_is c.self.invariant.exact
-
--- the number of the entry
-number : (c : After-from-slot) (slot : ℕ) → slot ≡ c.slot_of.result → c.rank_of-rank.result * c.self.inside.width + slot ≡ c.rank_of-rank.result * slot_count c.args.self.now + c.slot_of.result
-number c slot is =
-    ap (λ w. c.rank_of-rank.result * w + slot) (c.self.invariant.width ∙ ap slot_count c.self.view_is) ∙
-    ap (λ j. c.rank_of-rank.result * slot_count c.args.self.now + j) is
-
-fits : (c : After-from-slot) → c.rank_of-rank.result * slot_count c.args.self.now + c.slot_of.result < 2 ^ 32
-fits c = place_fits c.args.self.now (pattern c) c.args.run.now c.requires.run c.args.last c.requires.last c.self.inside.entries.now (exact c) c.rank_of-rank.result c.slot_of.result c.args.cell c.rank_of-rank.ensures c.slot_of.ensures
-
-pub overflow_mul-result : goal.overflow_mul-result
-overflow_mul-result c = let few = fits c in let same = number c c.from-slot.result c.from-slot.ensures in record { fits = omega arith }
-
-pub overflow_add-result : goal.overflow_add-result
-overflow_add-result c = let few = fits c in let same = number c c.from-slot.result c.from-slot.ensures in record { fits = omega arith }
-
-pub bounds-self-inside-rank : goal.bounds-self-inside-rank
-bounds-self-inside-rank c =
-    let low = place_low c.args.self.now (pattern c) c.args.run.now c.requires.run c.args.last c.requires.last c.self.inside.entries.now (exact c) c.rank_of-rank.result c.slot_of.result c.args.cell c.rank_of-rank.ensures c.slot_of.ensures in
-    let same = number c c.from-slot.result c.from-slot.ensures in
+pub bounds-rows-place : goal.bounds-rows-place
+bounds-rows-place c =
+    let p = c.args.self.now in
+    let pat = subst IsPattern c.self.view_is c.side-side.ensures.pattern in
+    let run = c.requires.run in
+    let are = subst (λ o. IfSome o (λ rows. AreRowsOf p.side (length p.tiles) c.args.run.now.set rows.now)) c.in-Some.is run.rows in
+    let low = row_place_low p pat (but_last p c.args.run.now.cells) run.run c.args.cell c.args.last c.requires.open c.args.run.now.set c.in-Some.rows.now run.set are in
+    let place = c.requires.place in
     omega arith
 
-pub returns : goal.returns
-returns c =
+pub overflow_sub-result : goal.overflow_sub-result
+overflow_sub-result c =
     let p = c.args.self.now in
-    let cells = with_last (but_last p c.args.run.now.cells) c.args.last in
-    let same : c.rank_of-rank.result * c.self.inside.width + c.from-slot.result ≡ c.rank_of-rank.result * slot_count p + c.slot_of.result =
-    ap (λ w. c.rank_of-rank.result * w + c.from-slot.result) (c.self.invariant.width ∙ ap slot_count c.self.view_is) ∙
-    ap (λ j. c.rank_of-rank.result * slot_count p + j) c.from-slot.ensures in
-    subst (λ k. SaysOfAll p cells c.args.cell (slice_index c.self.inside.entries.now k)) (sym same)
-    (place_says p (subst IsPattern c.self.view_is c.side-side.ensures.pattern) c.args.run.now c.requires.run c.args.last c.requires.last c.self.inside.entries.now
-    (subst (λ q. IsExactTable (record { pattern = q; entries = c.self.inside.entries.now })) c.self.view_is c.self.invariant.exact)
-    c.rank_of-rank.result c.slot_of.result c.args.cell c.rank_of-rank.ensures c.slot_of.ensures)
+    let pat = subst IsPattern c.self.view_is c.side-side.ensures.pattern in
+    let cells = but_last p c.args.run.now.cells in
+    let run = c.requires.run in
+    let are = subst (λ o. IfSome o (λ rows. AreRowsOf p.side (length p.tiles) c.args.run.now.set rows.now)) c.in-Some.is run.rows in
+    let slot = slot_there p pat cells run.run c.args.cell c.args.last c.requires.open in
+    let e : c.from.result ≡ 1 + (free_below cells c.args.last * slot_count p + slot.0) = c.from.ensures ∙ ap (slice_index c.in-Some.rows.now) c.requires.place ∙
+    row_place p pat cells run.run c.args.cell c.args.last c.requires.open c.args.run.now.set c.in-Some.rows.now run.set are in
+    omega arith
+
+pub bounds-run-from : goal.bounds-run-from
+bounds-run-from c =
+    let p = c.args.self.now in
+    let pat = subst IsPattern c.self.view_is c.side-side.ensures.pattern in
+    let cells = but_last p c.args.run.now.cells in
+    let run = c.requires.run in
+    let are = subst (λ o. IfSome o (λ rows. AreRowsOf p.side (length p.tiles) c.args.run.now.set rows.now)) c.in-Some.is run.rows in
+    let slot = slot_there p pat cells run.run c.args.cell c.args.last c.requires.open in
+    let e : c.from.result ≡ 1 + (free_below cells c.args.last * slot_count p + slot.0) = c.from.ensures ∙ ap (slice_index c.in-Some.rows.now) c.requires.place ∙
+    row_place p pat cells run.run c.args.cell c.args.last c.requires.open c.args.run.now.set c.in-Some.rows.now run.set are in
+    let low = own_low p pat cells run.run c.args.run.now.own.now run.own c.args.last c.args.cell slot.0 c.requires.open.last slot.1 in
+    omega arith
+
+pub returns-in-Some : goal.returns-in-Some
+returns-in-Some c =
+    let p = c.args.self.now in
+    let pat = subst IsPattern c.self.view_is c.side-side.ensures.pattern in
+    let cells = but_last p c.args.run.now.cells in
+    let run = c.requires.run in
+    let are = subst (λ o. IfSome o (λ rows. AreRowsOf p.side (length p.tiles) c.args.run.now.set rows.now)) c.in-Some.is run.rows in
+    let slot = slot_there p pat cells run.run c.args.cell c.args.last c.requires.open in
+    let e : c.from.result ≡ 1 + (free_below cells c.args.last * slot_count p + slot.0) = c.from.ensures ∙ ap (slice_index c.in-Some.rows.now) c.requires.place ∙
+    row_place p pat cells run.run c.args.cell c.args.last c.requires.open c.args.run.now.set c.in-Some.rows.now run.set are in
+    let at : c.from.result - 1 ≡ free_below cells c.args.last * slot_count p + slot.0 = omega arith in
+    subst (λ k. SaysOfAll p (with_last cells c.args.last) c.args.cell (slice_index c.args.run.now.own.now k)) (sym at)
+    (run.own.each c.args.last c.args.cell slot.0 c.requires.open.last slot.1)
