@@ -1,19 +1,18 @@
 -- How a run of claims ends that are ready.
-use Rattle.std.proofs.Common.{◌≡◌, ◌∙◌, ◌++◌, ap, ℕ, Bool, List, [], ◌∷◌, Ok, Err, Some, None, inl, inr, refl, sym}
+use Rattle.std.proofs.Common.{◌≡◌, ◌∙◌, ◌++◌, ap, Bool, List, [], ◌∷◌, Ok, Err, inl, inr, refl, sym}
 use Rattle.std.proofs.lemmas.Grind.{flat_map-append}
 use Rattle.std.proofs.lemmas.List.{append-nil}
 use Rattle.set_sum.specs.Bundles.{ShownBundle}
 use Rattle.claim_text.specs.Claims.{ShownClaim}
 use Rattle.byte_io.specs.Shelf.{Bytes}
 use Rattle.byte_io.specs.declared.streams.WriteFault.{WriteFault}
-use Rattle.byte_io.proofs.Appending.{writes_behind}
 use Rattle.pdb_request.specs.Asked.{ProveArguments}
 use Rattle.pdb_run.specs.Io.{HasRead, IsWritten}
 use Rattle.pdb_run.specs.Runs.{World, replied, status_of_reply}
 use Rattle.pdb_run.specs.Writing.{digest_line, digests_of}
 use Rattle.pdb_run.specs.declared.statuses.Status.{Status}
 use Rattle.pdb_run.specs.declared.statuses.Status.TheVariants.{Fault}
-use Rattle.pdb_prove.specs.Prove.{AreReady, ClaimsFiles, ProveEnds, answered, budget_of, digested_files, in_order, prove_inputs, reply_to_claims, told_lines}
+use Rattle.pdb_prove.specs.Prove.{AreReady, ClaimsFiles, ProveEnds, answered, budget_of, digested_files, in_order, prove_inputs, reply_to_claims}
 use Rattle.pdb_verdict.specs.declared.refusals.Failure.{Failure}
 use Rattle.pdb_verdict.specs.declared.refusals.Failure.TheVariants.{Memory, Refused}
 use Rattle.pdb_verdict.specs.declared.verdicts.Fault as verdict

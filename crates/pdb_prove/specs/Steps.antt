@@ -1,7 +1,8 @@
 -- What the steps of a run of claims say.
-use Rattle.std.specs.Prelude.{◌≡◌, ℕ, ◌<◌, ◌++◌, Bool, true, false, List, length, slice_index_or, Option, IfSome, Result, Ok, Err, ⊤, MatchResult}
-use Rattle.std.specs.List.{AllZip}
+use Rattle.std.specs.Prelude.{◌≡◌, ℕ, ◌*◌, ◌<◌, ◌++◌, Bool, true, false, List, length, slice_index_or, Option, IfSome, Result, Ok, Err, MatchResult}
+use Rattle.std.specs.List.{AllZip, sum_by}
 use Rattle.puz_board.specs.MovesTexts.{Solves}
+use Rattle.pat_place.specs.Ranks.{falling_factorial}
 use Rattle.set_sum.specs.Bundles.{ShownBundle}
 use Rattle.claim_text.specs.Claims as claims
 use Rattle.claim_text.specs.Claims.{ShownAsks, ShownClaim}
@@ -10,7 +11,6 @@ use Rattle.claim_text.specs.Shown.{claim_shown}
 use Rattle.claim_text.specs.Texts.{AreClaims, IsFirstNoClaim}
 use Rattle.claim_text.specs.declared.claims.Claim.{Claim}
 use Rattle.byte_io.specs.Shelf.{Bytes}
-use Rattle.byte_io.specs.Streams.{AppendsFront}
 use Rattle.byte_io.specs.declared.streams.WriteFault.{WriteFault}
 use Rattle.pdb_run.specs.Answers.{all_bytes}
 use Rattle.pdb_run.specs.Io.{IsWritten}
@@ -44,6 +44,10 @@ IsCauseForText text cause =
 -- why nothing is searched, or want of memory, which comes of a text of claims alone
 abbrev pub IsCauseForClaims : Bool → ClaimsFiles → Failure Fault → Type 0
 IsCauseForClaims fold files cause = IsCauseBy (IsUnready fold files) ((claims : List ShownClaim) × AreClaims files.claims claims) cause
+
+-- how many placements the tables of a bundle have together
+abbrev pub placements_of : ShownBundle → ℕ
+placements_of v = sum_by (λ table. falling_factorial (v.side * v.side) (length table.tiles)) v.tables
 
 -- ---- one claim
 
