@@ -1,9 +1,9 @@
 -- What a text of claims is read as: one thing.
-use Rattle.std.proofs.Common.{◌≡◌, ℕ, zero, suc, ◌+◌, ◌<◌, ◌≤◌, ◌^◌, List, [], ◌∷◌, ◌++◌, add-one, length, length-drop, get_or, drop, take, Ok, Err, Result, true, false, refl, sym, ◌∙◌, ap, subst, arith, inl, inr}
+use Rattle.std.proofs.Common.{◌≡◌, ℕ, zero, suc, ◌+◌, ◌<◌, ◌≤◌, ◌^◌, List, [], ◌∷◌, ◌++◌, add-one, length, length-drop, get_or, drop, take, true, false, refl, sym, ◌∙◌, ap, subst, arith, inl, inr}
 use Rattle.std.proofs.Math.Seq.{drop-cons}
 use Rattle.std.proofs.lemmas.Bool.{cases_lt}
 use Rattle.std.proofs.lemmas.List.Elements.{All-head, All-tail}
-use Rattle.std.specs.Prelude.{◌⊎◌, IfOk, IfSome, IsOkAnd, Option, Some, None, is_some, map}
+use Rattle.std.specs.Prelude.{IfSome, Option, Some, None, is_some, map}
 use Rattle.std.proofs.lemmas.List.{take_more}
 use Rattle.std.specs.List.{All, AllZip}
 use Rattle.puz_board.specs.Boards.{IsBoard, side_of, side_of_count}
@@ -12,8 +12,6 @@ use Rattle.claim_text.specs.Claims.{IsClaim, IsClaimOf, IsNoClaim, ShownAsks, Sh
 use Rattle.claim_text.specs.Laws.{ClaimsHaveNoFault, TextsHaveOneFault, TextsHaveOneReading}
 use Rattle.claim_text.specs.Lines.{AreFewLetters, HasFewLetters}
 use Rattle.claim_text.specs.Texts.{AreClaims, IsFirstNoClaim, SaysClaim, lines_of}
-use Rattle.claim_text.specs.declared.faults.ClaimsFault.{ClaimsFault}
-use Rattle.claim_text.specs.declared.faults.ClaimsFault.TheVariants.{Memory, Q1}
 use Rattle.claim_text.proofs.ClaimLemmas.{no_shortest_claim, one_claim}
 
 same_claims : (lines : List (List ℕ)) (a b : List ShownClaim) → AllZip IsClaim lines a → AllZip IsClaim lines b → a ≡ b
@@ -75,24 +73,7 @@ no_fault text claims number p q =
           let some = p.some in omega arith
     ]
 
--- ---- what follows for a result
-
--- a text that reads as claims gives those, or wants memory
-pub claims_read : {A : Type 0} (text : List ℕ) (shown : A → List ShownClaim) (r : Result A ClaimsFault)
-    → IfOk r (λ read. AreClaims text (shown read)) → ((line : ℕ) → r ≡ Err (Q1 line) → IsFirstNoClaim text line)
-    → (claims : List ShownClaim) → AreClaims text claims → IsOkAnd r (λ read. shown read ≡ claims) ⊎ (r ≡ Err Memory)
-claims_read text shown (Ok read) ok fault claims are = inl (one_reading text (shown read) claims ok are)
-claims_read text shown (Err (Q1 line)) ok fault claims are = absurd (no_fault text claims line are (fault line refl))
-claims_read text shown (Err Memory) ok fault claims are = inr refl
-
--- a text with a fault gives it
-pub fault_named : {A : Type 0} (text : List ℕ) (shown : A → List ShownClaim) (r : Result A ClaimsFault)
-    → IfOk r (λ read. AreClaims text (shown read)) → ((line : ℕ) → r ≡ Err (Q1 line) → IsFirstNoClaim text line)
-    → (r ≡ Err Memory → (claims : List ShownClaim) × AreClaims text claims)
-    → (line : ℕ) → IsFirstNoClaim text line → r ≡ Err (Q1 line)
-fault_named text shown (Ok read) ok fault memory line first = absurd (no_fault text (shown read) line ok first)
-fault_named text shown (Err (Q1 other)) ok fault memory line first = ap (λ n. Err (Q1 n)) (one_fault text other line (fault other refl) first)
-fault_named text shown (Err Memory) ok fault memory line first = let held = memory refl in absurd (no_fault text held.0 line held.1 first)
+-- ---- letters
 
 few_letters_of : (line b : List ℕ) (asks : ShownAsks) → IsClaimOf line b asks → AreFewLetters asks
 few_letters_of line b shortest is = tt
@@ -103,18 +84,13 @@ few_letters_of line b (bound n) is = tt
 pub few_letters : (line : List ℕ) (claim : ShownClaim) → IsClaim line claim → HasFewLetters claim
 few_letters line claim is = few_letters_of line claim.board claim.asks is
 
-all_few : {A : Type 0} (shown : A → ShownClaim) (lines : List (List ℕ)) (read : List A) → AllZip IsClaim lines (map shown read) → (k : ℕ) (d : A) → k < length read
+-- each claim that is read of a text has
+pub all_few : {A : Type 0} (shown : A → ShownClaim) (lines : List (List ℕ)) (read : List A) → AllZip IsClaim lines (map shown read) → (k : ℕ) (d : A) → k < length read
     → HasFewLetters (shown (get_or read k d))
 all_few shown lines [] all k d within = absurd (omega arith)
 all_few shown [] (x ∷ xs) all k d within = absurd all
 all_few shown (line ∷ lines) (x ∷ xs) all zero d within = few_letters line (shown x) all.0
 all_few shown (line ∷ lines) (x ∷ xs) all (suc k) d within = all_few shown lines xs all.1 k d (omega arith)
-
--- each claim that is read of a text has
-pub all_few_letters : {A B : Type 0} (text : List ℕ) (shown : A → ShownClaim) (items : B → List A) (r : Result B ClaimsFault)
-    → IfOk r (λ read. AreClaims text (map shown (items read))) → IfOk r (λ read. All (λ claim. HasFewLetters (shown claim)) (items read))
-all_few_letters text shown items (Ok read) are = all_few shown (lines_of text) (items read) are.lines
-all_few_letters text shown items (Err fault) are = tt
 
 -- ---- line after line
 

@@ -35,15 +35,6 @@ pub fn read_claims<'a>(alloc: Global, text: &'a [u8]) -> Result<Vec<Claim<'a>>, 
     ensures few { IfOk result (λ claims.
         All (λ claim. HasFewLetters (claim_shown claim)) claims.items) }
 {
-    read_text(alloc, text)
-}
-
-/// Reads the claims of a text.
-fn read_text(alloc: Global, text: &[u8]) -> Result<Vec<Claim<'_>>, ClaimsFault>
-    ensures ok { IfOk result (λ claims. AreClaims text.now (map claim_shown claims.items)) }
-    ensures fault { (line : ℕ) → result ≡ Err (Q1 line) → IsFirstNoClaim text.now line }
-    ensures memory { result ≡ Err Memory → (claims : List ShownClaim) × AreClaims text.now claims }
-{
     let count = match count_claims(text) {
         Ok(count) => count,
         Err(line) => return Err(ClaimsFault::Q1 { line }),

@@ -1,23 +1,22 @@
 -- How a run of claims ends that are ready.
-use Rattle.std.proofs.Common.{◌≡◌, ◌∙◌, ◌++◌, ap, ℕ, Bool, List, [], ◌∷◌, Ok, Err, Some, None, inl, inr, refl, sym}
+use Rattle.std.proofs.Common.{◌≡◌, ◌∙◌, ◌++◌, ap, ℕ, Bool, Result, List, [], ◌∷◌, Ok, Err, inl, inr, refl, sym}
 use Rattle.std.proofs.lemmas.Grind.{flat_map-append}
 use Rattle.std.proofs.lemmas.List.{append-nil}
 use Rattle.set_sum.specs.Bundles.{ShownBundle}
 use Rattle.claim_text.specs.Claims.{ShownClaim}
+use Rattle.claim_text.specs.Texts.{AreClaims, IsFirstNoClaim}
+use Rattle.claim_text.specs.declared.faults.ClaimsFault.{ClaimsFault}
+use Rattle.claim_text.specs.declared.faults.ClaimsFault.TheVariants as claims_fault
 use Rattle.byte_io.specs.Shelf.{Bytes}
 use Rattle.byte_io.specs.declared.streams.WriteFault.{WriteFault}
-use Rattle.byte_io.proofs.Appending.{writes_behind}
 use Rattle.pdb_request.specs.Asked.{ProveArguments}
 use Rattle.pdb_run.specs.Io.{HasRead, IsWritten}
 use Rattle.pdb_run.specs.Runs.{World, replied, status_of_reply}
 use Rattle.pdb_run.specs.Writing.{digest_line, digests_of}
 use Rattle.pdb_run.specs.declared.statuses.Status.{Status}
 use Rattle.pdb_run.specs.declared.statuses.Status.TheVariants.{Fault}
-use Rattle.pdb_prove.specs.Prove.{AreReady, ClaimsFiles, ProveEnds, answered, budget_of, digested_files, in_order, prove_inputs, reply_to_claims, told_lines}
-use Rattle.pdb_verdict.specs.declared.refusals.Failure.{Failure}
-use Rattle.pdb_verdict.specs.declared.refusals.Failure.TheVariants.{Memory, Refused}
-use Rattle.pdb_verdict.specs.declared.verdicts.Fault as verdict
-use Rattle.pdb_prove.specs.Steps.{AreAllTold, AreCut, IsCauseForClaims, IsCauseForText}
+use Rattle.pdb_prove.specs.Prove.{AreReady, ClaimsFiles, ProveEnds, answered, budget_of, digested_files, in_order, prove_inputs, reply_to_claims}
+use Rattle.pdb_prove.specs.Steps.{AreAllTold, AreCut, IsCauseForClaims, failure_of}
 use Rattle.pdb_prove.proofs.TellingLemmas.{written_behind}
 
 -- the digest lines of tables, and that of a text behind them
@@ -25,10 +24,13 @@ pub digests_behind : (tables : List Bytes) (text : Bytes) → digests_of tables 
 digests_behind tables text =
     ap (λ (line : Bytes). digests_of tables ++ line) (sym (append-nil (digest_line text))) ∙ sym (flat_map-append digest_line tables (text ∷ []))
 
--- a line that is no claim keeps everything from being searched
-pub text_cause : (fold : Bool) (files : ClaimsFiles) (cause : Failure verdict.Fault) → IsCauseForText files.claims cause → IsCauseForClaims fold files cause
-text_cause fold files (Refused refused) is = inl is
-text_cause fold files Memory is = is
+-- where the text gives no claims, nothing is searched
+pub text_cause : {A : Type 0} (fold : Bool) (files : ClaimsFiles) (r : Result A ClaimsFault) (fault : ClaimsFault) → r ≡ Err fault
+    → ((line : ℕ) → r ≡ Err (claims_fault.Q1 line) → IsFirstNoClaim files.claims line)
+    → (r ≡ Err claims_fault.Memory → (claims : List ShownClaim) × AreClaims files.claims claims)
+    → IsCauseForClaims fold files (failure_of fault)
+text_cause fold files r (claims_fault.Q1 line) is named memory = inl (line, named line is, refl)
+text_cause fold files r claims_fault.Memory is named memory = memory is
 
 module _ (arguments : ProveArguments) (files : ClaimsFiles) {old read : World} (claims : List ShownClaim) (v : ShownBundle)
     (are : HasRead (prove_inputs arguments) old read (in_order files)) (ready : AreReady arguments.fold files claims v) where

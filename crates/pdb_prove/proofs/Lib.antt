@@ -4,3 +4,4 @@ pub mod TellingLemmas
 pub mod SoonLemmas
 pub mod QuestionLemmas
 pub mod EndLemmas
+pub mod WordLemmas

@@ -1,11 +1,12 @@
 -- What is found within few boards is found within more.
 use Rattle.std.proofs.Common.{◌≡◌, ◌≤◌, ℕ, List, min, true, false, inl, inr, arith}
+use Rattle.set_sum.specs.Bundles.{ShownBundle}
 use Rattle.puz_search.specs.Guides.{ShownGuide}
 use Rattle.claim_text.specs.Claims as claims
-use Rattle.claim_text.specs.Claims.{ShownAsks}
+use Rattle.claim_text.specs.Claims.{ShownAsks, ShownClaim}
 use Rattle.pdb_verdict.specs.declared.verdicts.Fault.TheVariants.{Make}
 use Rattle.pdb_verdict.specs.declared.verdicts.MakeRefusal.TheVariants.{K1, K2}
-use Rattle.pdb_prove.specs.Answers.{IsFoundOf, IsRefuted}
+use Rattle.pdb_prove.specs.Answers.{IsFoundFor, IsFoundOf, IsRefuted}
 use Rattle.pdb_prove.specs.Steps.{is_spent}
 use Rattle.pdb_prove.specs.declared.answers.Found.{Found}
 use Rattle.pdb_prove.specs.declared.answers.Found.TheVariants.{Bound, Optimum, Refused, Shorter, Shortest}
@@ -32,3 +33,13 @@ module _ (guide : ShownGuide) (few budget : ℕ) (less : few ≤ budget) where
   soon_enough b (claims.bound r) (Refused (Make K2)) settled is = is
   soon_enough b (claims.bound r) (Refused (Make K1)) settled is = absurd (spent_not settled)
   soon_enough b asks _ settled is = is
+
+-- the same by a guide of the bundle
+pub found_enough : (v : ShownBundle) (few budget : ℕ) → few ≤ budget → (claim : ShownClaim) (found : Found) → is_spent found ≡ false
+    → IsFoundFor v few claim found → IsFoundFor v budget claim found
+found_enough v few budget less claim found settled is = record {
+  guide = is.guide;
+  is_guide = is.is_guide;
+  leads = is.leads;
+  is_found = soon_enough is.guide few budget less claim.board claim.asks found settled is.is_found;
+}

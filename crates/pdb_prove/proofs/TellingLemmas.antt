@@ -1,10 +1,11 @@
 -- Lines that are told one after the other.
 use Rattle.std.proofs.Common.{◌≡◌, ◌∙◌, ◌+◌, ◌-◌, ◌<◌, ◌≤◌, ◌&&◌, ap, ℕ, zero, suc, Bool, true, false, List, [], ◌∷◌, ◌++◌, Result, Ok, Err, append_assoc, arith, drop, get_or, length, map, refl, subst, sym, take, take-append-drop}
-use Rattle.std.specs.List.{AllZip}
+use Rattle.std.specs.List.{All, AllZip}
 use Rattle.std.proofs.KnownBytes.{Appends-nil}
 use Rattle.std.proofs.Math.Seq.{take-add}
 use Rattle.std.proofs.lemmas.Grind.{common_steps, flat_map-append}
 use Rattle.std.proofs.lemmas.List.{append-nil, drop-map, drop_more, take-map}
+use Rattle.std.proofs.lemmas.List.Elements.{All-drop, All-take}
 use Rattle.std.proofs.lemmas.List.Folds.{list_all-append}
 use Rattle.set_sum.specs.Bundles.{ShownBundle}
 use Rattle.puz_search.specs.Guides.{ShownGuide}
@@ -18,9 +19,8 @@ use Rattle.byte_io.specs.declared.streams.WriteFault.{WriteFault}
 use Rattle.byte_io.proofs.Appending.{writes_behind}
 use Rattle.pdb_run.specs.Io.{IsWritten}
 use Rattle.pdb_run.specs.Runs.{World}
-use Rattle.pdb_prove.specs.Answers.{IsFoundFor, IsFoundOf, IsToldOf, are_yes, is_found_yes, is_yes, told_of}
-use Rattle.pdb_prove.specs.Prove.{told_lines}
-use Rattle.pdb_prove.specs.Steps.{AreAllTold, AreCut, AreTold}
+use Rattle.pdb_prove.specs.Answers.{IsFoundFor, IsFoundOf, IsToldOf, is_found_yes, is_yes, told_of}
+use Rattle.pdb_prove.specs.Steps.{AreAllTold, AreCut}
 use Rattle.pdb_prove.specs.declared.answers.Found.{Found}
 use Rattle.pdb_prove.specs.declared.answers.Found.TheVariants.{Bound, Optimum, Refused, Shorter, Shortest}
 
@@ -176,3 +176,8 @@ pub batch_shown : (claims : List Claim) (i n : ℕ) → n ≤ length claims - i 
 batch_shown claims i n few front is =
     let whole : take (length claims - i) (drop i claims) ≡ drop i claims = grind (arith, common_steps) in
     ap (map claim_shown) (is ∙ ap (take n) whole) ∙ rw (drop-map claim_shown i claims) (sym (take-map claim_shown n (drop i claims)))
+
+-- what holds of all claims holds of these
+pub all_in_batch : (P : Claim → Type 0) (claims : List Claim) (i n : ℕ) (front : List Claim) → front ≡ take n (take (length claims - i) (drop i claims))
+    → All P claims → All P front
+all_in_batch P claims i n front is all = rw is (All-take P n _ (All-take P (length claims - i) _ (All-drop P i claims all)))

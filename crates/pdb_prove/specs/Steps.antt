@@ -1,22 +1,24 @@
 -- What the steps of a run of claims say.
-use Rattle.std.specs.Prelude.{◌≡◌, ℕ, ◌<◌, ◌++◌, Bool, true, false, List, length, slice_index_or, Option, IfSome, Result, Ok, Err, ⊤, MatchResult}
-use Rattle.std.specs.List.{AllZip}
+use Rattle.std.specs.Prelude.{◌≡◌, ℕ, ◌*◌, ◌<◌, ◌++◌, Bool, true, false, List, length, slice_index_or, Option, IfSome, Result, Ok, Err, MatchResult}
+use Rattle.std.specs.List.{AllZip, sum_by}
 use Rattle.puz_board.specs.MovesTexts.{Solves}
+use Rattle.pat_place.specs.Ranks.{falling_factorial}
 use Rattle.set_sum.specs.Bundles.{ShownBundle}
 use Rattle.claim_text.specs.Claims as claims
 use Rattle.claim_text.specs.Claims.{ShownAsks, ShownClaim}
 use Rattle.claim_text.specs.Lines.{Told}
 use Rattle.claim_text.specs.Shown.{claim_shown}
-use Rattle.claim_text.specs.Texts.{AreClaims, IsFirstNoClaim}
+use Rattle.claim_text.specs.Texts.{AreClaims}
 use Rattle.claim_text.specs.declared.claims.Claim.{Claim}
+use Rattle.claim_text.specs.declared.faults.ClaimsFault.{ClaimsFault}
+use Rattle.claim_text.specs.declared.faults.ClaimsFault.TheVariants as claims_fault
 use Rattle.byte_io.specs.Shelf.{Bytes}
-use Rattle.byte_io.specs.Streams.{AppendsFront}
 use Rattle.byte_io.specs.declared.streams.WriteFault.{WriteFault}
-use Rattle.pdb_run.specs.Answers.{all_bytes}
 use Rattle.pdb_run.specs.Io.{IsWritten}
 use Rattle.pdb_run.specs.Runs.{World}
 use Rattle.pdb_verdict.specs.Refusals.{IsCauseBy}
 use Rattle.pdb_verdict.specs.declared.refusals.Failure.{Failure}
+use Rattle.pdb_verdict.specs.declared.refusals.Failure.TheVariants as failure
 use Rattle.pdb_verdict.specs.declared.verdicts.Fault.{Fault}
 use Rattle.pdb_verdict.specs.declared.verdicts.Fault.TheVariants.{Make, Q1}
 use Rattle.pdb_verdict.specs.declared.verdicts.MakeRefusal.TheVariants.{K1}
@@ -26,24 +28,23 @@ use Rattle.pdb_prove.specs.declared.answers.Found.{Found}
 use Rattle.pdb_prove.specs.declared.answers.Found.TheVariants.{Refused}
 use Rattle.pdb_prove.specs.declared.answers.Question.{Question}
 use Rattle.pdb_prove.specs.declared.answers.Question.TheVariants.{Bound, Moves, Shortest}
-use Rattle.pdb_prove.specs.declared.inputs.ProveFiles.{ProveFiles}
 
 -- these three
 abbrev pub files_of : Bytes → Bytes → List Bytes → ClaimsFiles
 files_of claims sets tables = record { claims = claims; sets = sets; tables = tables }
 
--- the files that were read
-abbrev pub files_read : ProveFiles → ClaimsFiles
-files_read files = files_of files.claims.items files.sets.items (all_bytes files.tables.items)
-
--- a line of the text is no claim, or it is of claims, and memory was wanted
-abbrev pub IsCauseForText : Bytes → Failure Fault → Type 0
-IsCauseForText text cause =
-    IsCauseBy (λ refused. (number : ℕ) × IsFirstNoClaim text number × (refused ≡ Q1 number)) ((claims : List ShownClaim) × AreClaims text claims) cause
-
 -- why nothing is searched, or want of memory, which comes of a text of claims alone
 abbrev pub IsCauseForClaims : Bool → ClaimsFiles → Failure Fault → Type 0
 IsCauseForClaims fold files cause = IsCauseBy (IsUnready fold files) ((claims : List ShownClaim) × AreClaims files.claims claims) cause
+
+-- the same, where a text gives no claims
+abbrev pub failure_of : ClaimsFault → Failure Fault
+failure_of (claims_fault.Q1 line) = failure.Refused (Q1 line)
+failure_of claims_fault.Memory = failure.Memory
+
+-- how many placements the tables of a bundle have together
+abbrev pub placements_of : ShownBundle → ℕ
+placements_of v = sum_by (λ table. falling_factorial (v.side * v.side) (length table.tiles)) v.tables
 
 -- ---- one claim
 

@@ -41,7 +41,7 @@ impl Found {
     }
 
     /// Whether it is that the budget is spent.
-    fn is_spent(&self) -> bool
+    pub(crate) fn is_spent(&self) -> bool
         ensures { result ≡ is_spent self.now }
     {
         matches!(self, Found::Refused(Fault::Make(MakeRefusal::K1)))

@@ -10,7 +10,7 @@ ghost use Rattle.claim_text.specs.declared.claims.Claim.{Claim};
 ghost use Rattle.pdb_prove.specs.Answers.{IsFoundFor};
 ghost use Rattle.pdb_prove.specs.Steps.{AreFoundSoon, AreTold};
 
-use crate::answers::{FEW_BOARDS, Found, answer_by, answer_soon};
+use crate::answers::{Found, answer_soon};
 use crate::help::Help;
 use crate::ready::Ready;
 use crate::telling::line_on;
@@ -180,28 +180,10 @@ fn tell_next<H: Threads + Sync, G: Gate + Sync, I: Io>(
         Some(Some(found)) => tell(batch, claim, found, io),
         _ => {
             workers.gate.asks(batch.first.saturating_add(number as u64));
-            let found = search(batch, claim, help, workers);
+            let found = help.search(claim, batch.budget, workers);
             tell(batch, claim, &found, io)
         }
     }
-}
-
-/// What is found for a claim of a batch by all workers.
-fn search<H: Threads + Sync, G: Gate + Sync>(
-    batch: &Batch<'_>,
-    claim: &Claim<'_>,
-    help: &mut Help<'_>,
-    workers: &Workers<'_, H, G>,
-) -> Found
-    requires side { side_of claim.now.board ≡ batch.now.bundle.now.side }
-    requires bundle { help.old.bundle.now ≡ batch.now.bundle.now }
-    ensures bundle { help.new.bundle ≡ help.old.bundle }
-    ensures found { IsFoundFor batch.now.bundle.now batch.now.budget (claim_shown claim.now) result }
-{
-    if batch.budget > FEW_BOARDS {
-        help.make(workers.alloc);
-    }
-    answer_by(&help.guide(), claim, batch.budget, workers)
 }
 
 /// Tells what is found for a claim of a batch: whether it is a yes.

@@ -2,20 +2,31 @@
 
 ghost use Rattle.std.specs.Prelude.{◌≡◌, IfSome};
 ghost use Rattle.std.proofs.Props.{props};
-ghost use Rattle.puz_search.specs.Guides.{IsGuide};
+ghost use Rattle.puz_board.specs.Boards.{side_of};
+ghost use Rattle.claim_text.specs.Shown.{claim_shown};
+ghost use Rattle.puz_walk.specs.WordBundles.{HaveWords};
+ghost use Rattle.pdb_prove.specs.Answers.{IsFoundFor};
 
+use crate::answers::{FEW_BOARDS, Found, answer_by};
+use crate::counts::Counting;
+use crate::worded::{answer_over, wordable, words_of};
+use claim_text::Claim;
+use edge_words::Words;
 use move_strings::Automaton;
 use puz_board::Side;
 use puz_search::Guide;
 use set_sum::Bundle;
 use std::alloc::Global;
+use std::thread::Threads;
 use string_make::draft_of;
+use work_run::{Gate, Workers};
 
 /// The most moves of the strings that a search for a hard claim leaves out.
 const LONGEST: u8 = 12;
 
-/// What leads the searches for hard claims over a bundle: an automaton of strings, which is made when the first of them wants it,
-/// and kept for the rest. Where there is no memory for it, the automaton of reversals.
+/// What leads the searches for hard claims over a bundle. An automaton of strings is made when the first of them wants it, and kept
+/// for the rest. Words are made once the hard claims have been searched for over sums for as many boards as the tables have
+/// placements together. Where there is no memory for either, the searches go on without it.
 #[derive(Drop)]
 pub(crate) struct Help<'a> {
     bundle: &'a Bundle<'a>,
@@ -24,8 +35,14 @@ pub(crate) struct Help<'a> {
     is_made: bool,
     /// The automaton of strings, where it was made and there was memory for it.
     strings: Option<Automaton>,
+    /// How many boards more may be expanded over sums before words are wanted. None where they were wanted already, or there
+    /// can't be any.
+    before_words: Option<u64>,
+    /// The words of the tables, where they were made and there was memory for them.
+    words: Option<Vec<Words>>,
     ghost one_side: { reversals.now.side ≡ bundle.now.side },
     ghost same_side: { IfSome strings (λ automaton. automaton.side ≡ bundle.now.side) } by { Prim.hlevel props },
+    ghost have_words: { IfSome words (λ words. HaveWords bundle.now words.items) } by { Prim.hlevel props },
 }
 
 impl<'a> Help<'a> {
@@ -39,11 +56,59 @@ impl<'a> Help<'a> {
             reversals,
             is_made: false,
             strings: None,
+            before_words: wordable(bundle),
+            words: None,
         }
     }
 
-    /// Makes what isn't made yet.
-    pub(crate) fn make(&mut self, alloc: Global)
+    /// What is found by all workers for a claim that one thread doesn't find soon.
+    pub(crate) fn search<H: Threads + Sync, G: Gate + Sync>(
+        &mut self,
+        claim: &Claim<'_>,
+        budget: u64,
+        workers: &Workers<'_, H, G>,
+    ) -> Found
+        requires { side_of claim.now.board ≡ self.old.bundle.now.side }
+        ensures bundle { self.new.bundle ≡ self.old.bundle }
+        ensures found { IsFoundFor self.old.bundle.now budget (claim_shown claim.now) result }
+    {
+        if budget > FEW_BOARDS {
+            self.make_strings(workers.alloc);
+            if let Some(found) = self.search_before_words(claim, budget, workers) {
+                return found;
+            }
+        }
+        self.answer(claim, budget, workers)
+    }
+
+    /// What is found for a hard claim while no words are wanted. Where they are, they are made.
+    fn search_before_words<H: Threads + Sync, G: Gate + Sync>(
+        &mut self,
+        claim: &Claim<'_>,
+        budget: u64,
+        workers: &Workers<'_, H, G>,
+    ) -> Option<Found>
+        requires { side_of claim.now.board ≡ self.old.bundle.now.side }
+        ensures bundle { self.new.bundle ≡ self.old.bundle }
+        ensures found { let shown = claim_shown claim.now in
+            IfSome result (IsFoundFor self.old.bundle.now budget shown) }
+    {
+        let left = self.before_words?;
+        let few = left.min(budget);
+        let counting = Counting::new(workers.gate);
+        let counted = Workers::new(workers.rt, workers.alloc, workers.count, &counting);
+        let found = self.answer(claim, few, &counted);
+        if few == budget || !found.is_spent() {
+            self.before_words = Some(left.saturating_sub(counting.boards()));
+            return Some(found);
+        }
+        self.before_words = None;
+        self.words = words_of(self.bundle, workers).unwrap_or(None);
+        None
+    }
+
+    /// Makes the automaton of strings, where it isn't made yet.
+    fn make_strings(&mut self, alloc: Global)
         ensures { self.new.bundle ≡ self.old.bundle }
     {
         if !self.is_made {
@@ -52,15 +117,32 @@ impl<'a> Help<'a> {
         }
     }
 
-    /// What leads a search.
-    pub(crate) fn guide(&self) -> Guide<'_>
-        ensures bundle { result.bundle ≡ self.now.bundle.now }
-        ensures guide { IsGuide result }
+    /// What is found for a claim within a budget, over words where there are any.
+    fn answer<H: Threads + Sync, G: Gate + Sync>(
+        &self,
+        claim: &Claim<'_>,
+        budget: u64,
+        workers: &Workers<'_, H, G>,
+    ) -> Found
+        requires { side_of claim.now.board ≡ self.now.bundle.now.side }
+        ensures { IsFoundFor self.now.bundle.now budget (claim_shown claim.now) result }
     {
-        if let Some(strings) = &self.strings {
-            return Guide::new(self.bundle, strings);
+        let automaton = self.automaton();
+        if let Some(words) = &self.words {
+            let tables = (self.bundle, words.as_slice());
+            return answer_over(tables, automaton, claim, budget, workers);
         }
-        Guide::new(self.bundle, self.reversals)
+        answer_by(&Guide::new(self.bundle, automaton), claim, budget, workers)
+    }
+
+    /// The automaton that leads a search.
+    fn automaton(&self) -> &Automaton
+        ensures { result.now.side ≡ self.now.bundle.now.side }
+    {
+        match &self.strings {
+            Some(strings) => strings,
+            None => self.reversals,
+        }
     }
 }
 

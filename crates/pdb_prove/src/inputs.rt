@@ -1,15 +1,13 @@
-//! The inputs of `prove`: what is wanted, in order, and what was read, in the same order.
+//! The inputs of `prove`, in their order.
 
-ghost use Rattle.std.specs.Prelude.{◌≡◌, ◌≤◌, length, option_map};
+ghost use Rattle.std.specs.Prelude.{◌≡◌, option_map};
 ghost use Rattle.pdb_request.specs.Asked.{prove_shown};
-ghost use Rattle.pdb_run.specs.Answers.{all_bytes};
 ghost use Rattle.pdb_run.specs.Inputs.{wanted_of};
-ghost use Rattle.pdb_prove.specs.Prove.{a_claims_text, in_order, prove_plan};
-ghost use Rattle.pdb_prove.specs.Steps.{files_read};
+ghost use Rattle.pdb_prove.specs.Prove.{a_claims_text, prove_plan};
 
 use pdb_request::Prove;
 use pdb_run::{Command, Input};
-use pdb_verdict::{a_text, push_tables, take_first};
+use pdb_verdict::{a_text, push_tables};
 use std::alloc::{AllocError, Global};
 
 /// The most bytes of a claims text.
@@ -39,30 +37,5 @@ fn a_claims_text<'a>(name: Option<&'a str>) -> Input<'a>
     Input {
         name,
         limit: CLAIMS_LIMIT,
-    }
-}
-
-/// What was read for claims.
-#[derive(Drop)]
-pub(crate) struct ProveFiles {
-    pub(crate) claims: Vec<u8>,
-    pub(crate) sets: Vec<u8>,
-    pub(crate) tables: Vec<Vec<u8>>,
-}
-
-impl ProveFiles {
-    /// Inputs in their order.
-    pub(crate) fn of(inputs: Vec<Vec<u8>>) -> ProveFiles
-        requires { 2 ≤ length inputs.items }
-        ensures { all_bytes inputs.items ≡ in_order (files_read result) }
-    {
-        let mut tables = inputs;
-        let claims = take_first(&mut tables);
-        let sets = take_first(&mut tables);
-        ProveFiles {
-            claims,
-            sets,
-            tables,
-        }
     }
 }

@@ -3,11 +3,13 @@
 
 mod answers;
 mod batches;
+mod counts;
 mod help;
 mod inputs;
 mod ready;
 mod runs;
 mod telling;
+mod worded;
 
 pub use answers::Found;
 pub use runs::run_prove;

@@ -3,23 +3,26 @@
 ghost use Rattle.std.specs.Prelude.{◌≡◌, ◌≤◌, ◌^◌, Bool, List, length, map, IfErr, IfNone, IfOk, IfSome};
 ghost use Rattle.std.specs.List.{All, AllByRecursion};
 ghost use Rattle.puz_board.specs.Boards.{side_of};
-ghost use Rattle.claim_text.specs.Lines.{HasFewLetters};
 ghost use Rattle.claim_text.specs.Shown.{claim_shown};
 ghost use Rattle.claim_text.specs.Texts.{AreClaims};
 ghost use Rattle.byte_io.specs.Shelf.{Bytes};
-ghost use Rattle.pdb_run.specs.Answers.{all_bytes};
 ghost use Rattle.pdb_verdict.specs.Bundles.{IsBundleOfFiles, IsCauseForBundle};
 ghost use Rattle.pdb_prove.specs.Prove.{AreReady, IsFirstOfAnotherSide};
-ghost use Rattle.pdb_prove.specs.Steps.{IsCauseForClaims, IsCauseForText, files_of};
+ghost use Rattle.pdb_prove.specs.Steps.{IsCauseForClaims, files_of};
 
-use claim_text::{Claim, ClaimsFault, MOST_CLAIMS, read_claims};
+use claim_text::{Claim, MOST_CLAIMS};
 use move_strings::Automaton;
-use pdb_verdict::{BundleRefusal, Failure, Fault, Tables, read_bundle};
+use pdb_verdict::{BundleRefusal, Failure, Fault};
 use set_sum::Bundle;
 use std::alloc::Global;
-use std::sync::Wait;
-use std::thread::Threads;
-use work_run::{Gate, Workers};
+
+/// A claims text, the claims of it, and a set text.
+#[derive(Drop)]
+pub(crate) struct Asked<'t> {
+    pub(crate) text: &'t [u8],
+    pub(crate) sets: &'t [u8],
+    pub(crate) claims: Vec<Claim<'t>>,
+}
 
 /// Claims, and a bundle and the automaton of reversals of the side of their boards.
 #[derive(Drop)]
@@ -29,42 +32,6 @@ pub(crate) struct Ready<'b, 'c> {
     pub(crate) reversals: Automaton,
     ghost sides: { All (λ claim. side_of claim.board ≡ bundle.side) claims.items },
     ghost one_side: { reversals.side ≡ bundle.side },
-}
-
-/// The claims of a text, and the bundle of table files and a set text. Or the first refusal that stands: `Q1` of a line that is no
-/// claim, that of the first table file that is refused, the set text's, and then `Q2` of the first board of another side.
-pub(crate) fn ready_for<'b, 'c, H: Threads + Wait, G: Gate + Sync>(
-    text: &'c [u8],
-    sets: &[u8],
-    tables: Tables<'b>,
-    workers: &Workers<'_, H, G>,
-) -> Result<Ready<'b, 'c>, Failure<Fault>>
-    ensures ok { let files = files_of text.now sets.now (all_bytes tables.entry.files.now) in
-        IfOk result (λ ready. AreReady tables.entry.fold files
-        (map claim_shown ready.claims.items) ready.bundle) }
-    ensures few { IfOk result
-        (λ ready. All (λ claim. HasFewLetters (claim_shown claim)) ready.claims.items) }
-    ensures err { let files = files_of text.now sets.now (all_bytes tables.entry.files.now) in
-        IfErr result (IsCauseForClaims tables.entry.fold files) }
-{
-    let claims = claims_in(workers.alloc, text)?;
-    let bundle = read_bundle(tables, sets, workers);
-    ready_with(workers.alloc, claims, bundle)
-}
-
-/// The claims of a text.
-pub(crate) fn claims_in<'c>(alloc: Global, text: &'c [u8]) -> Result<Vec<Claim<'c>>, Failure<Fault>>
-    ensures ok { IfOk result (λ claims. AreClaims text.now (map claim_shown claims.items)) }
-    ensures few { IfOk result (λ claims.
-        All (λ claim. HasFewLetters (claim_shown claim)) claims.items) }
-    ensures count { IfOk result (λ claims. length claims.items ≤ MOST_CLAIMS) }
-    ensures err { IfErr result (IsCauseForText text.now) }
-{
-    match read_claims(alloc, text) {
-        Ok(claims) => Ok(claims),
-        Err(ClaimsFault::Q1 { line }) => Err(Failure::Refused(Fault::Q1(line))),
-        Err(ClaimsFault::Memory) => Err(Failure::Memory),
-    }
 }
 
 /// These claims and a bundle, where there is one, and of the side of their boards, with the automaton of that side.

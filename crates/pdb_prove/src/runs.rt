@@ -1,26 +1,32 @@
 //! A run of `prove`.
 
-ghost use Rattle.std.specs.Prelude.{◌≡◌, ◌≤◌, true, IfErr, IfOk, IfSome, length, map};
+ghost use Rattle.std.specs.Prelude.{◌≡◌, ◌≤◌, ◌++◌, ◌∷◌, [], true, IfErr, IfOk, IfSome, length, map};
 ghost use Rattle.std.specs.List.{All};
 ghost use Rattle.claim_text.specs.Lines.{HasFewLetters};
 ghost use Rattle.claim_text.specs.Shown.{claim_shown};
+ghost use Rattle.claim_text.specs.Texts.{AreClaims};
 ghost use Rattle.pdb_request.specs.Asked.{prove_shown};
 ghost use Rattle.pdb_run.specs.Answers.{IsReplyOf, all_bytes, answer_text, digest_lines};
 ghost use Rattle.pdb_run.specs.Io.{HasRead};
 ghost use Rattle.pdb_run.specs.Runs.{World, status_of_reply};
 ghost use Rattle.pdb_run.specs.Writing.{digests_of};
+ghost use Rattle.pdb_verdict.specs.Bundles.{IsBundleOfFiles, IsCauseForBundle};
 ghost use Rattle.pdb_prove.specs.Prove.{AreReady, ClaimsFiles, ProveEnds, budget_of, digested_files, in_order, prove_inputs, reply_to_claims, unready};
-ghost use Rattle.pdb_prove.specs.Steps.{IsCauseForClaims, files_of, files_read};
+ghost use Rattle.pdb_prove.specs.Steps.{IsCauseForClaims, failure_of, files_of};
 
 use crate::batches::tell_all;
-use crate::inputs::{ProveFiles, Proving};
-use crate::ready::{Ready, claims_in, ready_for, ready_with};
+use crate::inputs::Proving;
+use crate::ready::{Asked, Ready, ready_with};
+use claim_text::{ClaimsFault, read_claims};
 use pdb_request::Prove;
 use pdb_run::{
     Answer, Digested, Digests, FILES_BESIDE, Io, Lines, Status, beside, conclude, read_inputs,
     with_digest,
 };
-use pdb_verdict::{Failure, Fault, Tables, fold_bundle, line_of};
+use pdb_verdict::{
+    BundleRefusal, Failure, Fault, Tables, fold_bundle, line_of, read_bundle, take_first,
+};
+use set_sum::Bundle;
 use std::alloc::AllocError;
 use std::sync::Wait;
 use std::thread::Threads;
@@ -38,72 +44,107 @@ pub fn run_prove<H: Threads + Wait + Sync, G: Gate + Sync, I: Io>(
     ensures ends { ProveEnds (prove_shown prove.now) (I.world io.old) (I.world io.new) result }
 {
     let command = Proving(prove);
-    let files = match read_inputs(workers.alloc, &command, io) {
-        Ok(inputs) => ProveFiles::of(inputs),
+    let mut tables = match read_inputs(workers.alloc, &command, io) {
+        Ok(inputs) => inputs,
         Err(status) => return status,
     };
-    if prove.fold && files.tables.len() <= FILES_BESIDE {
-        prove_folded(&command, files, workers, io)
-    } else {
-        prove_full(&command, &files, workers, io)
+    let text = take_first(&mut tables);
+    let sets = take_first(&mut tables);
+    match read_claims(workers.alloc, text.as_slice()) {
+        Ok(claims) => {
+            let asked = Asked {
+                text: text.as_slice(),
+                sets: sets.as_slice(),
+                claims,
+            };
+            if prove.fold && tables.len() <= FILES_BESIDE {
+                prove_folded(&command, asked, tables, workers, io)
+            } else {
+                prove_full(&command, asked, tables.as_slice(), workers, io)
+            }
+        }
+        Err(fault) => {
+            let digested = Digested::Files(tables.as_slice(), Some(text.as_slice()));
+            tell_failure(&command, digested, failure_of(fault), io)
+        }
+    }
+}
+
+/// Why nothing is searched, where a text gives no claims.
+fn failure_of(fault: ClaimsFault) -> Failure<Fault>
+    ensures { result ≡ failure_of fault }
+{
+    match fault {
+        ClaimsFault::Q1 { line } => Failure::Refused(Fault::Q1(line)),
+        ClaimsFault::Memory => Failure::Memory,
     }
 }
 
 /// Proves claims over the tables as they were read.
 fn prove_full<H: Threads + Wait + Sync, G: Gate + Sync, I: Io>(
     command: &Proving<'_, '_>,
-    files: &ProveFiles,
+    asked: Asked<'_>,
+    tables: &[Vec<u8>],
     workers: &Workers<'_, H, G>,
     io: &mut I,
 ) -> Status
+    requires are_claims { AreClaims asked.text.now (map claim_shown asked.claims.items) }
+    requires letters { All (λ claim. HasFewLetters (claim_shown claim)) asked.claims.items }
     ensures same_streams { I.streams io.new ≡ I.streams io.old }
     ensures ends { let arguments = prove_shown command.now.0.now in
-        (old : World) → HasRead (prove_inputs arguments) old (I.world io.old)
-        (in_order (files_read files.now)) → ProveEnds arguments old (I.world io.new) result }
+        let files = files_of asked.entry.text.now asked.entry.sets.now (all_bytes tables.now) in
+        (old : World) → HasRead (prove_inputs arguments) old (I.world io.old) (in_order files)
+        → ProveEnds arguments old (I.world io.new) result }
 {
-    let (digests, ready) = ready_beside(files, command.0.fold, workers);
-    tell_ready(command, digested_by(files, digests), &ready, workers, io)
+    let Asked { text, sets, claims } = asked;
+    let given = Tables {
+        files: tables,
+        fold: command.0.fold,
+    };
+    let (digests, bundle) = bundle_beside(given, text, sets, workers);
+    let ready = ready_with(workers.alloc, claims, bundle);
+    tell_ready(
+        command,
+        digested_by(tables, text, digests),
+        &ready,
+        workers,
+        io,
+    )
 }
 
-/// The digest lines of files: those that are made already, or else those of the files.
-fn digested_by(files: &ProveFiles, digests: Option<Digests>) -> Digested<'_>
-    requires { let lines = digests_of (digested_files (files_read files.now)) in
+/// The digest lines of tables and a claims text: those that are made already, or else those of the files.
+fn digested_by<'f>(tables: &'f [Vec<u8>], text: &'f [u8], digests: Option<Digests>) -> Digested<'f>
+    requires { let lines = digests_of (all_bytes tables.now ++ text.now ∷ []) in
         IfSome digests (λ digests. digests.items ≡ lines) }
-    ensures { digest_lines result ≡ digests_of (digested_files (files_read files.now)) }
+    ensures { digest_lines result ≡ digests_of (all_bytes tables.entry.now ++ text.entry.now ∷ []) }
 {
     match digests {
         Some(lines) => Digested::Lines(lines),
-        None => Digested::Files(files.tables.as_slice(), Some(files.claims.as_slice())),
+        None => Digested::Files(tables, Some(text)),
     }
 }
 
-/// What is known of files before anything is searched, and their digest lines, where these are made beside the checks.
-fn ready_beside<'f, H: Threads + Wait + Sync, G: Gate + Sync>(
-    files: &'f ProveFiles,
-    fold: bool,
+/// The bundle of tables and a set text, and the digest lines of the tables and of a claims text, where these are made beside the
+/// checks.
+fn bundle_beside<'t, H: Threads + Wait + Sync, G: Gate + Sync>(
+    tables: Tables<'t>,
+    text: &[u8],
+    sets: &[u8],
     workers: &Workers<'_, H, G>,
-) -> (Option<Digests>, Result<Ready<'f, 'f>, Failure<Fault>>)
-    ensures digests { let lines = digests_of (digested_files (files_read files.now)) in
-        IfSome result.0 (λ digests. digests.items ≡ lines) }
-    ensures ok { IfOk result.1 (λ ready. AreReady fold (files_read files.now)
-        (map claim_shown ready.claims.items) ready.bundle) }
-    ensures few { IfOk result.1
-        (λ ready. All (λ claim. HasFewLetters (claim_shown claim)) ready.claims.items) }
-    ensures err { IfErr result.1 (IsCauseForClaims fold (files_read files.now)) }
+) -> (Option<Digests>, Result<Bundle<'t>, Failure<BundleRefusal>>)
+    ensures digests { let all = files_of text.now sets.now (all_bytes tables.entry.files.now) in
+        IfSome result.0 (λ digests. digests.items ≡ digests_of (digested_files all)) }
+    ensures ok { let files = all_bytes tables.entry.files.now in
+        IfOk result.1 (IsBundleOfFiles tables.entry.fold files sets.now) }
+    ensures err { let files = all_bytes tables.entry.files.now in
+        IfErr result.1 (IsCauseForBundle tables.entry.fold files sets.now) }
 {
-    let (text, sets) = (files.claims.as_slice(), files.sets.as_slice());
-    let tables = Tables {
-        files: files.tables.as_slice(),
-        fold,
-    };
-    let check = || -> Result<Ready<'_, '_>, Failure<Fault>>
-        ensures ok { let f = files_of text.entry.now sets.entry.now (all_bytes tables.entry.files.now) in
-            IfOk result (λ ready. AreReady tables.entry.fold f (map claim_shown ready.claims.items) ready.bundle) }
-        ensures few { IfOk result
-            (λ ready. All (λ claim. HasFewLetters (claim_shown claim)) ready.claims.items) }
-        ensures err { let f = files_of text.entry.now sets.entry.now (all_bytes tables.entry.files.now) in
-            IfErr result (IsCauseForClaims tables.entry.fold f) }
-    { ready_for(text, sets, tables, workers) };
+    let check = || -> Result<Bundle<'_>, Failure<BundleRefusal>>
+        ensures ok { let files = all_bytes tables.entry.files.now in
+            IfOk result (IsBundleOfFiles tables.entry.fold files sets.entry.now) }
+        ensures err { let files = all_bytes tables.entry.files.now in
+            IfErr result (IsCauseForBundle tables.entry.fold files sets.entry.now) }
+    { read_bundle(tables, sets, workers) };
     beside(workers.rt, workers.count, tables.files, Some(text), check)
 }
 
@@ -112,35 +153,26 @@ fn ready_beside<'f, H: Threads + Wait + Sync, G: Gate + Sync>(
 #[inline(never)] // so that a run with full tables hasn't its values on the stack
 fn prove_folded<H: Threads + Wait + Sync, G: Gate + Sync, I: Io>(
     command: &Proving<'_, '_>,
-    files: ProveFiles,
+    asked: Asked<'_>,
+    tables: Vec<Vec<u8>>,
     workers: &Workers<'_, H, G>,
     io: &mut I,
 ) -> Status
-    requires few { length files.tables.items ≤ FILES_BESIDE }
+    requires few { length tables.items ≤ FILES_BESIDE }
     requires fold { command.now.0.now.fold ≡ true }
+    requires are_claims { AreClaims asked.text.now (map claim_shown asked.claims.items) }
+    requires letters { All (λ claim. HasFewLetters (claim_shown claim)) asked.claims.items }
     ensures same_streams { I.streams io.new ≡ I.streams io.old }
     ensures ends { let arguments = prove_shown command.now.0.now in
-        (old : World) → HasRead (prove_inputs arguments) old (I.world io.old)
-        (in_order (files_read files)) → ProveEnds arguments old (I.world io.new) result }
+        let files = files_of asked.entry.text.now asked.entry.sets.now (all_bytes tables.items) in
+        (old : World) → HasRead (prove_inputs arguments) old (I.world io.old) (in_order files)
+        → ProveEnds arguments old (I.world io.new) result }
 {
-    let ProveFiles {
-        claims: text,
-        sets,
-        tables,
-    } = files;
-    let (text, sets) = (text.as_slice(), sets.as_slice());
-    match claims_in(workers.alloc, text) {
-        Ok(claims) => {
-            let (mut digests, bundle) = fold_bundle(tables, sets, workers);
-            with_digest(workers.rt, 1, &mut digests, text, || ());
-            let ready = ready_with(workers.alloc, claims, bundle);
-            tell_ready(command, Digested::Lines(digests), &ready, workers, io)
-        }
-        Err(failure) => {
-            let digested = Digested::Files(tables.as_slice(), Some(text));
-            tell_ready(command, digested, &Err(failure), workers, io)
-        }
-    }
+    let Asked { text, sets, claims } = asked;
+    let (mut digests, bundle) = fold_bundle(tables, sets, workers);
+    with_digest(workers.rt, 1, &mut digests, text, || ());
+    let ready = ready_with(workers.alloc, claims, bundle);
+    tell_ready(command, Digested::Lines(digests), &ready, workers, io)
 }
 
 /// Tells what comes of claims where this is known before anything is searched.

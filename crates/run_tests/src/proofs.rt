@@ -9,9 +9,10 @@ use samples::{HoldingGate, LeastCosts};
 use std::alloc::{AllocError, Global};
 use std::io;
 use std::sync::Wait;
+use std::sync::atomic::{AtomicU64, Ordering};
 use std::test::Fail;
 use std::thread::Threads;
-use work_run::OpenGate;
+use work_run::{Gate, OpenGate};
 
 /// Claims of each form that hold.
 const TRUE: &[u8] = b"3 2 1 0\n3 2 1 0 ; LURDLU\n3 2 1 0 : 6\n0 1 2 3\n1 0 2 3;L\n0 1 2 3 : 0\n";
@@ -57,6 +58,12 @@ bound 0 of 0 1 2 3
 /// A bound of one of the two boards of side 3 that are 31 moves from the goal board, the most (Reinefeld 1993): with the table of
 /// one tile it takes more boards than one thread searches alone. And a claim behind it.
 const LARGE: &[u8] = b"8 7 6 0 4 1 2 5 3 : 23\n1 0 2 3 4 5 6 7 8\n";
+
+/// The answers to these claims.
+const LARGE_LINES: &str = "bound 23 of 8 7 6 0 4 1 2 5 3\noptimal 1 of 1 0 2 3 4 5 6 7 8 ; L\n";
+
+/// The same bound twice.
+const LARGE_TWICE: &[u8] = b"8 7 6 0 4 1 2 5 3 : 23\n8 7 6 0 4 1 2 5 3 : 23\n";
 
 /// `TILES_123` with 2 in the place of entry 14.
 const WRONG_123: [u8; 44] =
@@ -203,11 +210,7 @@ fn a_large_search_says_the_same_for_each_number_of_workers(rt: HostRuntime) -> R
     let files: [(&str, &[u8]); 3] = [("large", LARGE), ("sets", b"set 0\n"), ("f4", &table)];
     let mut shelf = MemShelf::of(alloc, &files)?;
     let cases = [
-        (
-            "",
-            "bound 23 of 8 7 6 0 4 1 2 5 3\noptimal 1 of 1 0 2 3 4 5 6 7 8 ; L\n",
-            0,
-        ),
+        ("", LARGE_LINES, 0),
         (
             " --budget 65537",
             "refused K1 of 8 7 6 0 4 1 2 5 3 : 23\noptimal 1 of 1 0 2 3 4 5 6 7 8 ; L\n",
@@ -222,6 +225,73 @@ fn a_large_search_says_the_same_for_each_number_of_workers(rt: HostRuntime) -> R
             ended.expect(want.as_bytes(), status)?;
         }
     }
+    Ok(())
+}
+
+/// Counts the searches of boards below bounds.
+#[derive(Drop)]
+struct Searches {
+    count: AtomicU64,
+}
+
+impl Gate for Searches {
+    fn before(&self, _job: u64) {}
+
+    fn searches(&self, _bound: u8) {
+        self.count.fetch_add(1, Ordering::SeqCst);
+    }
+}
+
+/// How many searches of large claims a run of `prove` begins by all workers, on these names and flags, which one space parts.
+fn searches_of<H: Threads + Wait + Sync>(
+    rt: &H,
+    alloc: Global,
+    words: &str,
+    shelf: &mut MemShelf,
+) -> Result<u64, Fail> {
+    let gate = Searches {
+        count: AtomicU64::new(0),
+    };
+    let mut all = Vec::new(alloc);
+    all.push("prove")?;
+    for word in words.split(' ') {
+        all.push(word)?;
+    }
+    let mut reader = b"".as_slice();
+    let host = Host {
+        rt,
+        alloc,
+        gate: &gate,
+    };
+    let ended = ran_by(&host, all.as_slice(), shelf, &mut reader)?;
+    if ended.status != 0 {
+        return Err(Fail::new("not all claims are told"));
+    }
+    Ok(gate.count.load(Ordering::SeqCst))
+}
+
+#[test]
+fn a_claim_is_searched_for_anew_over_words_where_it_takes_more_boards_than_there_are_placements(
+    rt: HostRuntime,
+) -> Result<(), Fail> {
+    let alloc = rt.alloc();
+    let small = LeastCosts::new(alloc, &[4])?.table(alloc)?;
+    let great = LeastCosts::new(alloc, &[1, 2, 3, 4, 5, 6, 7])?.table(alloc)?;
+    let files: [(&str, &[u8]); 4] = [
+        ("twice", LARGE_TWICE),
+        ("sets", b"set 0\n"),
+        ("small", &small),
+        ("great", &great),
+    ];
+    let mut shelf = MemShelf::of(alloc, &files)?;
+    // The first claim takes more than 9 boards, and is searched for a second time, and the second claim over words alone.
+    assert_eq!(rt; searches_of(&rt, alloc, "twice sets small", &mut shelf)?, 3);
+    // Folded tables have no words.
+    let folded = "twice sets small --fold --workers 2";
+    assert_eq!(rt; searches_of(&rt, alloc, folded, &mut shelf)?, 2);
+    // There are 181,449 placements: the first claim takes fewer boards, but both take more together.
+    let both = "twice sets small great --workers 2";
+    assert_eq!(rt; searches_of(&rt, alloc, both, &mut shelf)?, 3);
     Ok(())
 }
 

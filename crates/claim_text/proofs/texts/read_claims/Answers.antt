@@ -1,15 +1,37 @@
-use Rattle.std.proofs.Common.{map}
+use Rattle.std.proofs.Common.{Err, ap, inl, map}
 use Rattle.claim_text.specs.Shown.{claim_shown}
-use Rattle.claim_text.proofs.ReadingLemmas.{all_few_letters, claims_read, fault_named}
+use Rattle.claim_text.specs.Texts.{lines_of}
+use Rattle.claim_text.specs.declared.faults.ClaimsFault.TheVariants.{Q1}
+use Rattle.claim_text.proofs.ReadingLemmas.{all_few, are_claims, claims_there, no_fault, one_fault, one_reading}
 use Rattle.claim_text.proofs.texts.read_claims.Goals as goal
 
-pub returns-clause-claims : goal.returns-clause-claims
-returns-clause-claims c =
-    claims_read c.args.text.now (λ claims. map claim_shown claims.items) c.read_text.result c.read_text.ensures.ok c.read_text.ensures.fault
+pub returns-in-Err-clause-claims : goal.returns-in-Err-clause-claims
+returns-in-Err-clause-claims c = λ claims are. absurd (no_fault c.args.text.now claims c.in-Err.line are c.in-Err.ensures.err)
 
-pub returns-clause-exact : goal.returns-clause-exact
-returns-clause-exact c =
-    fault_named c.args.text.now (λ claims. map claim_shown claims.items) c.read_text.result c.read_text.ensures.ok c.read_text.ensures.fault c.read_text.ensures.memory
+pub returns-in-Err-clause-exact : goal.returns-in-Err-clause-exact
+returns-in-Err-clause-exact c = λ line first. ap (λ n. Err (Q1 n)) (one_fault c.args.text.now c.in-Err.line line c.in-Err.ensures.err first)
 
-pub returns-clause-few : goal.returns-clause-few
-returns-clause-few c = all_few_letters c.args.text.now claim_shown (λ claims. claims.items) c.read_text.result c.read_text.ensures.ok
+pub returns-in-Ok-list_claims-clause-ok : goal.returns-in-Ok-list_claims-clause-ok
+returns-in-Ok-list_claims-clause-ok c =
+    are_claims c.args.text.now c.in-Ok.count (map claim_shown c.in-Ok-list_claims.claims.items) c.in-Ok.ensures.count c.in-Ok.ensures.some c.in-Ok.ensures.few c.in-Ok-list_claims.ensures
+
+pub returns-in-Ok-list_claims-clause-claims : goal.returns-in-Ok-list_claims-clause-claims
+returns-in-Ok-list_claims-clause-claims c = λ claims are.
+    inl (one_reading c.args.text.now (map claim_shown c.in-Ok-list_claims.claims.items) claims (returns-in-Ok-list_claims-clause-ok c) are)
+
+pub returns-in-Ok-list_claims-clause-exact : goal.returns-in-Ok-list_claims-clause-exact
+returns-in-Ok-list_claims-clause-exact c = λ line first.
+    absurd (no_fault c.args.text.now (map claim_shown c.in-Ok-list_claims.claims.items) line (returns-in-Ok-list_claims-clause-ok c) first)
+
+pub returns-in-Ok-list_claims-clause-few : goal.returns-in-Ok-list_claims-clause-few
+returns-in-Ok-list_claims-clause-few c = all_few claim_shown (lines_of c.args.text.now) c.in-Ok-list_claims.claims.items c.in-Ok-list_claims.ensures
+
+pub returns-in-Err-list_claims-clause-exact : goal.returns-in-Err-list_claims-clause-exact
+returns-in-Err-list_claims-clause-exact c = λ line first.
+    let there = claims_there (lines_of c.args.text.now) c.in-Ok.ensures.claims in
+    absurd (no_fault c.args.text.now there.0 line (are_claims c.args.text.now c.in-Ok.count there.0 c.in-Ok.ensures.count c.in-Ok.ensures.some c.in-Ok.ensures.few there.1) first)
+
+pub returns-in-Err-list_claims-clause-memory : goal.returns-in-Err-list_claims-clause-memory
+returns-in-Err-list_claims-clause-memory c _ =
+    let there = claims_there (lines_of c.args.text.now) c.in-Ok.ensures.claims in
+    (there.0, are_claims c.args.text.now c.in-Ok.count there.0 c.in-Ok.ensures.count c.in-Ok.ensures.some c.in-Ok.ensures.few there.1)

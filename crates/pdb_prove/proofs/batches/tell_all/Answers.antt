@@ -1,6 +1,9 @@
-use Rattle.std.proofs.Common.{◌∙◌, ap, arith, length, map}
+use Rattle.std.proofs.Common.{◌≡◌, ◌∙◌, ap, arith, map, refl}
+use Rattle.std.specs.List.{All}
+use Rattle.puz_board.specs.Boards.{side_of}
+use Rattle.claim_text.specs.Lines.{HasFewLetters}
 use Rattle.claim_text.specs.Shown.{claim_shown}
-use Rattle.pdb_prove.proofs.TellingLemmas.{batch_shown, next_cut, next_told}
+use Rattle.pdb_prove.proofs.TellingLemmas.{all_in_batch, batch_shown, next_cut, next_told, none_told}
 use Rattle.pdb_prove.proofs.batches.tell_all.Goals as goal
 
 pub returns-in-Err-clause-told : goal.returns-in-Err-clause-told
@@ -27,3 +30,22 @@ loop-told-preserved g c =
       rw count (omega (arith, within, before)),
       ap (λ bundle. bundle.now) c.tell_batch.ensures.bundle ∙ c.loop-told.invariant.3,
     )
+
+pub loop-told-init : goal.loop-told-init
+loop-told-init g c = (none_told _, refl, omega arith, c.new-help.ensures)
+
+pub invariant_of-batch : goal.invariant_of-batch
+invariant_of-batch g c =
+    let side = c.args.ready.now.bundle.side in
+    let claims = c.as_slice-claims.result.now in
+    let sides : All (λ claim. side_of claim.board ≡ side) claims = rw c.as_slice-claims.ensures.value c.args.ready.now.sides in
+    record {
+      sides = all_in_batch (λ claim. side_of claim.board ≡ side) claims c.loop-told.told c.min.result _ c.split_at.ensures.front sides;
+      one_side = c.args.ready.now.one_side;
+    }
+
+pub tell_batch-requires-clause-few : goal.tell_batch-requires-clause-few
+tell_batch-requires-clause-few g c _ _ =
+    let claims = c.as_slice-claims.result.now in
+    let few : All (λ claim. HasFewLetters (claim_shown claim)) claims = rw c.as_slice-claims.ensures.value c.requires.few in
+    all_in_batch (λ claim. HasFewLetters (claim_shown claim)) claims c.loop-told.told c.min.result _ c.split_at.ensures.front few

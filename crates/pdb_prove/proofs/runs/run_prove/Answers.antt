@@ -1,0 +1,18 @@
+use Rattle.std.proofs.Common.{refl}
+use Rattle.pdb_request.specs.Asked.{prove_shown}
+use Rattle.pdb_run.specs.Answers.{all_bytes}
+use Rattle.pdb_prove.specs.Steps.{files_of}
+use Rattle.pdb_prove.proofs.EndLemmas.{text_cause}
+use Rattle.pdb_prove.proofs.runs.run_prove.Goals as goal
+
+pub returns-in-Err-read_claims-clause-ends : goal.returns-in-Err-read_claims-clause-ends
+returns-in-Err-read_claims-clause-ends g c =
+    let fold = (prove_shown c.args.prove.now).fold in
+    let files = files_of c.take_first-text.result.items c.take_first-sets.result.items (all_bytes c.take_first-sets.new.inputs.items) in
+    let read = rw (c.take_first-text.ensures.items, c.take_first-sets.ensures.items) at c.in-Ok.ensures.read in
+    let named = rw c.as_slice.ensures.value at c.read_claims.ensures.fault in
+    let memory = rw c.as_slice.ensures.value at c.read_claims.ensures.memory in
+    let cause = text_cause fold files c.read_claims.result c.in-Err-read_claims.fault c.in-Err-read_claims.is named memory in
+    c.tell_failure.ensures.ends files _ read
+    (rw (c.as_slice-in-Err-read_claims.ensures.value, c.as_slice-in-Err-read_claims-2.ensures.value) refl)
+    (rw c.failure_of.ensures cause)
