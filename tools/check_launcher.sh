@@ -682,6 +682,16 @@ by=("$env" PDB_PROGRESS=2 "$launcher")
 start progress
 check "and what the caller has set is the program's" grep -qx 2 "$at/stdout"
 
+by=("$env" -u GLIBC_TUNABLES "$launcher")
+start tunables
+check 'the program asks for huge pages' grep -qx 'glibc.malloc.hugetlb=1' "$at/stdout"
+by=("$env" GLIBC_TUNABLES=glibc.malloc.arena_max=1 "$launcher")
+start tunables
+check 'beside what the caller has set' grep -qx 'glibc.malloc.arena_max=1:glibc.malloc.hugetlb=1' "$at/stdout"
+by=("$env" GLIBC_TUNABLES=glibc.malloc.hugetlb=0 "$launcher")
+start tunables
+check 'but not where the caller has set which pages' grep -qx 'glibc.malloc.hugetlb=0' "$at/stdout"
+
 #
 # What is built of other sources.
 #

@@ -57,6 +57,7 @@ kill) kill -TERM $$ ;;
 copy) cat && echo 'on standard error' >&2 ;;
 place) pwd ;;
 progress) echo "${PDB_PROGRESS-not set}" ;;
+tunables) echo "${GLIBC_TUNABLES-not set}" ;;
 '') echo "$# words" ;;
 esac
 PROGRAM
