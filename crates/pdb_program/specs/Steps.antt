@@ -9,5 +9,5 @@ use Rattle.pdb_program.specs.Headline.{Headline}
 abbrev pub SaysHeadline : List Bytes → World → World → ℕ → Type 0
 SaysHeadline words old new number =
     (before after : Bytes → Option Bytes) (input start lines : Bytes) → Parses words → old.files ≡ Some before → new.files ≡ Some after
-    → old.reader ≡ Some input → old.written ≡ Some start → new.written ≡ Some (start ++ lines)
+    → old.reader ≡ Some input → old.written.bytes ≡ Some start → new.written.bytes ≡ Some (start ++ lines)
     → Headline (asked_of words) before after input lines number

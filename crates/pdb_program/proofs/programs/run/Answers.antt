@@ -6,4 +6,4 @@ returns-clause-headline g c = λ before after input start lines parses had has l
     let shelf : c.shelf-1.given.0 ≡ c.run_on.new.io.shelf.now = search rules in
     let out : c.out-1.given.0 ≡ c.run_on.new.io.out.now = search rules in
     c.run_on.ensures.headline before after input start lines parses had
-    (ap g.S.Shelf.held (sym shelf) ∙ has) left stood (ap g.W.Write.contents (sym out) ∙ wrote)
+    (ap g.S.Shelf.held (sym shelf) ∙ has) left stood (ap (λ w. (g.W.Sink.output w).bytes) (sym out) ∙ wrote)
