@@ -15,7 +15,7 @@ use Rattle.pdb_run.specs.Runs.{Ends, World}
 use Rattle.pdb_run.specs.Writing.{digests_of}
 use Rattle.pdb_run.specs.declared.statuses.Status.{Status}
 use Rattle.pdb_run.specs.declared.statuses.Status.TheVariants.{Fault}
-use Rattle.pdb_verdict.specs.Bundles.{AreRefused, IsBundleOfFiles}
+use Rattle.pdb_verdict.specs.FileBundles.{AreRefused, IsBundleOfFiles}
 use Rattle.pdb_verdict.specs.Limits.{a_table, a_text}
 use Rattle.pdb_verdict.specs.Lines.{line_of_fault}
 use Rattle.pdb_verdict.specs.Refusals.{fault_of_bundle}
