@@ -54,12 +54,12 @@ yes_or_not NoMemory = inr (λ e. cc)
 
 -- ---- over what tells its bytes
 
-module _ (before after : Files) (input start lines : Bytes) (failed failed_after : Failures) (cut cut_after : Bool) (reader : Option Bytes) where
+module _ (before later : Files) (input start lines : Bytes) (failed failed_after : Failures) (cut cut_after : Bool) (reader : Option Bytes) where
   abbrev old : World
   old = world (Some before) failed (Some input) (output (Some start) cut)
 
   abbrev new : World
-  new = world (Some after) failed_after reader (output (Some (start ++ lines)) cut_after)
+  new = world (Some later) failed_after reader (output (Some (start ++ lines)) cut_after)
 
   -- what was appended is all that was written
   last : (files more : List Bytes) (line text : Bytes) → IsLast line text
@@ -74,7 +74,7 @@ module _ (before after : Files) (input start lines : Bytes) (failed failed_after
   stood (Some name) bytes read = read
 
   -- what was kept stands under its name
-  stands : (out file : Bytes) → Some after ≡ Some (with_file before out file) → after out ≡ Some file
+  stands : (out file : Bytes) → Some later ≡ Some (with_file before out file) → later out ≡ Some file
   stands out file kept =
       subst (λ (o : Option Files). IfSome o (λ files. files out ≡ Some file)) (sym kept) (file-kept before out file)
 
@@ -99,7 +99,7 @@ module _ (before after : Files) (input start lines : Bytes) (failed failed_after
     line : Bytes
     is_last : IsLast line lines
     says : SaysYes line
-    holds : HoldsOfYes asked before after input is_last.above line
+    holds : HoldsOfYes asked before later input is_last.above line
 
   yes_by : (asked : Asked) → AnswersOnce asked → IsAnswered (plan_of asked) old new Yes → EndsWithYes asked
   yes_by (replay arguments) once a =
@@ -254,12 +254,12 @@ module _ (before after : Files) (input start lines : Bytes) (failed failed_after
 
   -- what such a line says is true
   yes_is_true : (asked : Asked) → EndsWithYes asked → (above line below : Bytes) → HasLine above line below lines → SaysYes line
-      → HoldsOfYes asked before after input above line
+      → HoldsOfYes asked before later input above line
   yes_is_true asked ends above line below has says =
       let all = ends.is_last.none in
       let whole = append-nil lines ∙ ends.is_last.whole ∙ ap (λ (t : Bytes). t ++ (ends.line ++ codes "\n")) all.1 in
       let found = last_yes all.0 ends.line above line below lines [] all.2 ends.is_last.one has says whole in
-      subst (λ (t : Bytes × Bytes). HoldsOfYes asked before after input t.0 t.1)
+      subst (λ (t : Bytes × Bytes). HoldsOfYes asked before later input t.0 t.1)
       (λ i. (((all.1 ∙ sym found.0) i), (sym found.1 i)))
       ends.holds
 
@@ -292,7 +292,7 @@ module _ (before after : Files) (input start lines : Bytes) (failed failed_after
 
   -- of a command that answers once
   once_told : (asked : Asked) (number : ℕ) → AnswersOnce asked → IsNumberOfStatus (EndsFor asked old new) number
-      → Headline asked before after input lines number
+      → Headline asked before later input lines number
   once_told asked number once ended =
       let ends = once_ends asked ended.0 once ended.2 in
       let found = yes_is_last asked ended.0 once ends in
@@ -309,7 +309,7 @@ module _ (before after : Files) (input start lines : Bytes) (failed failed_after
 
   -- of `prove`
   prove_told : (a : ProveArguments) (number : ℕ) → IsNumberOfStatus (EndsFor (prove a) old new) number
-      → Headline (prove a) before after input lines number
+      → Headline (prove a) before later input lines number
   prove_told a number ended = record {
     lines_true = claims_true start lines a old new ended.0 ended.2 refl refl;
     last = λ above line below has says once. absurd (once a refl);
@@ -323,7 +323,7 @@ module _ (before after : Files) (input start lines : Bytes) (failed failed_after
 
   -- the sentence follows from how a run ends
   headline_told : (asked : Asked) (number : ℕ) → IsNumberOfStatus (EndsFor asked old new) number
-      → Headline asked before after input lines number
+      → Headline asked before later input lines number
   headline_told (replay a) number ended = once_told (replay a) number (λ b e. cc) ended
   headline_told (table a) number ended = once_told (table a) number (λ b e. cc) ended
   headline_told (bound a) number ended = once_told (bound a) number (λ b e. cc) ended
@@ -335,9 +335,9 @@ module _ (before after : Files) (input start lines : Bytes) (failed failed_after
 -- so of a run on words, and on the same words
 pub headline_of : (words other : List Bytes) (old new : World) (old_err new_err : Option Bytes) (number : ℕ) → other ≡ words
     → RunsOn other old new old_err new_err number → SaysHeadline words old new number
-headline_of words other old new old_err new_err number same runs before after input start lines parses had has left stood wrote =
+headline_of words other old new old_err new_err number same runs before later input start lines parses had has left stood wrote =
     let ends = rw same at (runs.ends (rw same parses)) in
-    headline_told before after input start lines old.failed new.failed old.written.failed new.written.failed new.reader (asked_of words) number
+    headline_told before later input start lines old.failed new.failed old.written.failed new.written.failed new.reader (asked_of words) number
     (subst (λ (w : World × World). IsNumberOfStatus (EndsFor (asked_of words) w.0 w.1) number)
     (λ i. (world (had i) old.failed (left i) (output (stood i) old.written.failed), world (has i) new.failed new.reader (output (wrote i) new.written.failed)))
     ends)

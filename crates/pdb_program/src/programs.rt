@@ -46,11 +46,11 @@ pub fn run<H: Threads + Wait + Sync, S: Shelf, R: Source, W: Sink, E: Write, G: 
     // What a yes means on each command, and a no to a table, in boards, paths and bytes: over a shelf, a reader and a writer that
     // tell their bytes, for 1 to 64 workers and every order in which they take their work.
     ensures headline { let words = map string_bytes words.items in
-        (before after : Bytes → Option Bytes) (input start lines : Bytes) → Parses words
-        → S.held shelf.old ≡ Some before → S.held shelf.new ≡ Some after
+        (before later : Bytes → Option Bytes) (input start lines : Bytes) → Parses words
+        → S.held shelf.old ≡ Some before → S.held shelf.new ≡ Some later
         → R.remaining reader.old ≡ Some input
         → (W.output out.old).bytes ≡ Some start → (W.output out.new).bytes ≡ Some (start ++ lines)
-        → Headline (asked_of words) before after input lines result }
+        → Headline (asked_of words) before later input lines result }
 
     // With a yes or a no the writer got exactly the lines on the inputs that the words ask for, and with a yes what was made
     // and checked stands under its name. In any case the run says one thing that it has cause to say, or a proper front of it

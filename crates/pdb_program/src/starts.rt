@@ -41,11 +41,11 @@ pub fn start<H: Threads + Wait + Sync, S: Shelf, R: Source, W: Sink, E: Write, G
     // What a yes means on each command, and a no to a table, in boards, paths and bytes, as on `run`.
     ensures headline { IfOk call.entry.arguments (λ all.
         let words = drop 1 (map string_bytes all.items) in
-        (before after : Bytes → Option Bytes) (input start lines : Bytes) → Parses words
-        → S.held shelf.old ≡ Some before → S.held shelf.new ≡ Some after
+        (before later : Bytes → Option Bytes) (input start lines : Bytes) → Parses words
+        → S.held shelf.old ≡ Some before → S.held shelf.new ≡ Some later
         → R.remaining reader.old ≡ Some input
         → (W.output out.old).bytes ≡ Some start → (W.output out.new).bytes ≡ Some (start ++ lines)
-        → Headline (asked_of words) before after input lines result) }
+        → Headline (asked_of words) before later input lines result) }
 
     ensures runs { IfOk call.entry.arguments (λ all. RunsOn (drop 1 (map string_bytes all.items))
         (world (S.held shelf.old)
