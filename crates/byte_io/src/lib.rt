@@ -4,6 +4,7 @@
 pub mod disk;
 pub mod memory;
 pub mod shelf;
+pub mod sinks;
 pub mod sources;
 pub mod streams;
 pub mod watched;

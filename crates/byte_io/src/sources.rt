@@ -1,11 +1,12 @@
-//! What is read from, whose reads may be counted.
+//! What is read from, whose reads may be counted and tell whether one failed.
 
 use std::io;
 use std::io::Read;
 
-/// What is read from: any reader, of whose reads nothing is told, or a `Watched` one, which tells how often it was read.
+/// What is read from: any reader, of whose reads nothing is told, or a `Watched` one, which tells how often it was read and
+/// whether a read failed.
 pub trait Source {
-    ghost use Rattle.std.specs.Prelude.{ℕ, ◌≤◌, ◌+◌, List, Option};
+    ghost use Rattle.std.specs.Prelude.{ℕ, ◌≡◌, ◌≤◌, ◌+◌, Bool, true, List, Option, OnErr, OnOk};
     ghost use Rattle.std.specs.Io.{ReadsAtMost};
     ghost use Rattle.std.specs.Io.KnownBytes.{ReadConsumes};
 
@@ -15,17 +16,26 @@ pub trait Source {
     /// How many reads it tells of.
     ghost reads: { Self → ℕ };
 
+    /// Whether a read may have failed: it may where nothing is told, and else it has.
+    ghost may_have_failed: { Self → Bool };
+
     /// One read.
     fn read_once(&mut self, buf: &mut [u8]) -> io::Result<usize>
         ensures bound { ReadsAtMost result buf.new }
         ensures bytes { ReadConsumes (remaining self.old) (remaining self.new) result buf.new }
-        ensures counted { reads self.new ≤ reads self.old + 1 };
+        ensures counted { reads self.new ≤ reads self.old + 1 }
+        ensures calm { OnOk result (may_have_failed self.new ≡ may_have_failed self.old) }
+        ensures failed { OnErr result (may_have_failed self.new ≡ true) };
 }
 
 impl<R: Read> Source for R {
+    ghost use Rattle.std.specs.Prelude.{true};
+
     ghost remaining = { λ reader. R.remaining reader };
 
     ghost reads = { λ _. 0 };
+
+    ghost may_have_failed = { λ _. true };
 
     fn read_once(&mut self, buf: &mut [u8]) -> io::Result<usize> {
         self.read(buf)

@@ -4,11 +4,11 @@ ghost use Rattle.std.specs.Prelude.{◌≡◌, ◌≤◌, ◌<◌, ◌+◌, true
 ghost use Rattle.std.specs.Io.KnownBytes.{Consumes, IsAtEnd};
 ghost use Rattle.byte_io.specs.Streams.{HasMore, IsReadWhole, Writes};
 
+use crate::sinks::Sink;
 use crate::sources::Source;
 use crate::watched::Watched;
 use std::alloc::{AllocError, Global};
 use std::io;
-use std::io::Write;
 
 /// Why an input was not read.
 #[derive(Clone, Copy, Debug, PartialEq, Eq)]
@@ -54,6 +54,9 @@ pub fn read_all<R: Source>(alloc: Global, reader: &mut R, limit: u64) -> Result<
         IfOk result (λ bytes. IsReadWhole old new limit bytes.items) }
     ensures over { IsErrOf result ReadFault.F2 → HasMore (R.remaining reader.old) limit }
     ensures reads { R.reads reader.new ≤ R.reads reader.old + limit + 1 }
+    ensures failed { IsErrOf result ReadFault.F1 → R.may_have_failed reader.new ≡ true }
+    ensures calm { (IsErrOf result ReadFault.F1 → ⊥)
+        → R.may_have_failed reader.new ≡ R.may_have_failed reader.old }
 {
     read_sized(alloc, reader, limit, 0)
 }
@@ -70,6 +73,9 @@ pub fn read_sized<R: Source>(
         IfOk result (λ bytes. IsReadWhole old new limit bytes.items) }
     ensures over { IsErrOf result ReadFault.F2 → HasMore (R.remaining reader.old) limit }
     ensures reads { R.reads reader.new ≤ R.reads reader.old + limit + 1 }
+    ensures failed { IsErrOf result ReadFault.F1 → R.may_have_failed reader.new ≡ true }
+    ensures calm { (IsErrOf result ReadFault.F1 → ⊥)
+        → R.may_have_failed reader.new ≡ R.may_have_failed reader.old }
 {
     read_watched(alloc, &mut Watched::new(reader), limit, size)
 }
@@ -88,6 +94,9 @@ pub fn read_said<R: Source>(
         → HasMore (R.remaining reader.old) limit }
     ensures unread { limit < size → IsErrOf result ReadFault.F2 × (reader.new ≡ reader.old) }
     ensures reads { R.reads reader.new ≤ R.reads reader.old + limit + 1 }
+    ensures failed { IsErrOf result ReadFault.F1 → R.may_have_failed reader.new ≡ true }
+    ensures calm { (IsErrOf result ReadFault.F1 → ⊥)
+        → R.may_have_failed reader.new ≡ R.may_have_failed reader.old }
 {
     if limit < size {
         return Err(ReadFault::F2);
@@ -114,6 +123,10 @@ pub fn read_watched<R: Source>(
     ensures failed { IsErrOf result ReadFault.F1 → reader.new.has_failed ≡ true }
     ensures calm { (IsErrOf result ReadFault.F1 → ⊥)
         → reader.new.has_failed ≡ reader.old.has_failed }
+    ensures failed_inside { IsErrOf result ReadFault.F1
+        → R.may_have_failed reader.new.stream.now ≡ true }
+    ensures calm_inside { let old = R.may_have_failed reader.old.stream.now in
+        (IsErrOf result ReadFault.F1 → ⊥) → R.may_have_failed reader.new.stream.now ≡ old }
 {
     // One byte more shows the end without more memory.
     let room = if size == 0 {
@@ -176,37 +189,40 @@ fn read_behind<R: Source>(
     ensures noted_inside { R.reads reader.new.stream.now ≤ R.reads reader.old.stream.now + 1 }
     ensures calm { OnOk result (reader.new.has_failed ≡ reader.old.has_failed) }
     ensures failed { OnErr result (reader.new.has_failed ≡ true) }
+    ensures calm_inside { let old = R.may_have_failed reader.old.stream.now in
+        OnOk result (R.may_have_failed reader.new.stream.now ≡ old) }
+    ensures failed_inside { OnErr result (R.may_have_failed reader.new.stream.now ≡ true) }
 {
     reader.read_once(&mut bytes[filled..])
 }
 
 /// Writes a text.
-pub fn put_text<W: Write>(out: &mut W, text: &str) -> Result<(), WriteFault>
-    ensures { Writes (W.contents out.old) (W.contents out.new) text.now result }
+pub fn put_text<W: Sink>(out: &mut W, text: &str) -> Result<(), WriteFault>
+    ensures { Writes (W.output out.old) (W.output out.new) text.now result }
 {
     put_bytes(out, text.as_bytes())
 }
 
 /// Writes bytes.
-pub fn put_bytes<W: Write>(out: &mut W, bytes: &[u8]) -> Result<(), WriteFault>
-    ensures { Writes (W.contents out.old) (W.contents out.new) bytes.now result }
+pub fn put_bytes<W: Sink>(out: &mut W, bytes: &[u8]) -> Result<(), WriteFault>
+    ensures { Writes (W.output out.old) (W.output out.new) bytes.now result }
 {
     put_watched(&mut Watched::new(out), bytes)
 }
 
 /// The same, by a writer that notes its writes: `F3` says that one failed, and each of them was of some bytes.
 #[tactic(auto, using(crate::proofs::Appending::stream_steps))]
-pub fn put_watched<W: Write>(out: &mut Watched<'_, W>, bytes: &[u8]) -> Result<(), WriteFault>
+pub fn put_watched<W: Sink>(out: &mut Watched<'_, W>, bytes: &[u8]) -> Result<(), WriteFault>
     ensures same_stream { out.new.stream.ghost_name ≡ out.old.stream.ghost_name }
-    ensures written { let old = W.contents out.old.stream.now in
-        Writes old (W.contents out.new.stream.now) bytes.now result }
+    ensures written { let old = W.output out.old.stream.now in
+        Writes old (W.output out.new.stream.now) bytes.now result }
     ensures writes { out.new.calls ≤ out.old.calls + length bytes.now }
     ensures failed { OnErr result (out.new.has_failed ≡ true) }
     ensures calm { OnOk result (out.new.has_failed ≡ out.old.has_failed) }
 {
     let mut done = 0;
     while done < bytes.len() {
-        match out.write(&bytes[done..]) {
+        match out.write_once(&bytes[done..]) {
             Ok(count) if count > 0 => done += count,
             _ => return Err(WriteFault::F3),
         }

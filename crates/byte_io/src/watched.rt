@@ -2,11 +2,12 @@
 
 ghost use Rattle.std.specs.Prelude.{◌≡◌, ◌<◌, ◌≤◌, ◌+◌, ◌-◌, ◌^◌, min, length, true, false, Ok, OnOk, OnErr, IfOk};
 ghost use Rattle.std.specs.Io.{ReadsAtMost, WritesAtMost};
-ghost use Rattle.std.specs.Io.KnownBytes.{Keeps, ReadConsumes, WriteAppends};
+ghost use Rattle.std.specs.Io.KnownBytes.{ReadConsumes, WriteAppends};
+ghost use Rattle.byte_io.specs.Streams.{output};
 
+use crate::sinks::Sink;
 use crate::sources::Source;
 use std::io;
-use std::io::Write;
 
 /// A reader or a writer that notes how often it was read or written, and whether it failed: by an error, or by a
 /// write that took nothing of some bytes.
@@ -52,6 +53,8 @@ impl<R: Source> Source for Watched<'_, R> {
 
     ghost reads = { λ watched. watched.calls };
 
+    ghost may_have_failed = { λ watched. watched.has_failed };
+
     fn read_once(&mut self, buf: &mut [u8]) -> io::Result<usize>
         ensures bound { ReadsAtMost result buf.new }
         ensures bytes { let old = R.remaining self.old.stream.now in
@@ -62,6 +65,9 @@ impl<R: Source> Source for Watched<'_, R> {
         ensures inside { R.reads self.new.stream.now ≤ R.reads self.old.stream.now + 1 }
         ensures calm { OnOk result (self.new.has_failed ≡ self.old.has_failed) }
         ensures failed { OnErr result (self.new.has_failed ≡ true) }
+        ensures calm_inside { let old = R.may_have_failed self.old.stream.now in
+            OnOk result (R.may_have_failed self.new.stream.now ≡ old) }
+        ensures failed_inside { OnErr result (R.may_have_failed self.new.stream.now ≡ true) }
     {
         self.calls = self.calls.saturating_add(1);
         let result = self.stream.read_once(buf);
@@ -72,13 +78,13 @@ impl<R: Source> Source for Watched<'_, R> {
     }
 }
 
-impl<W: Write> Write for Watched<'_, W> {
-    ghost contents = { λ watched. W.contents watched.stream.now };
+impl<W: Sink> Sink for Watched<'_, W> {
+    ghost output = { λ watched. output (W.output watched.stream.now).bytes watched.has_failed };
 
-    fn write(&mut self, buf: &[u8]) -> io::Result<usize>
+    fn write_once(&mut self, buf: &[u8]) -> io::Result<usize>
         ensures bound { WritesAtMost result buf.now }
-        ensures bytes { let old = W.contents self.old.stream.now in
-            WriteAppends old (W.contents self.new.stream.now) result buf.now }
+        ensures bytes { let old = (W.output self.old.stream.now).bytes in
+            WriteAppends old (W.output self.new.stream.now).bytes result buf.now }
         ensures same_stream { self.new.stream.ghost_name ≡ self.old.stream.ghost_name }
         ensures counted { self.new.calls ≡ min (self.old.calls + 1) (2 ^ 64 - 1) }
         ensures calm { IfOk result
@@ -86,25 +92,20 @@ impl<W: Write> Write for Watched<'_, W> {
         ensures stuck { IfOk result
             (λ count. count ≡ 0 → 0 < length buf.now → self.new.has_failed ≡ true) }
         ensures failed { OnErr result (self.new.has_failed ≡ true) }
+        ensures calm_inside { let old = W.output self.old.stream.now in
+            let new = W.output self.new.stream.now in
+            IfOk result (λ count. 0 < count → new.failed ≡ old.failed) }
+        ensures stuck_inside { let new = W.output self.new.stream.now in IfOk result
+            (λ count. count ≡ 0 → 0 < length buf.now → new.failed ≡ true) }
+        ensures failed_inside { OnErr result ((W.output self.new.stream.now).failed ≡ true) }
     {
         self.calls = self.calls.saturating_add(1);
-        let result = self.stream.write(buf);
+        let result = self.stream.write_once(buf);
         let failed = match &result {
             Ok(count) => *count == 0 && !buf.is_empty(),
             Err(_) => true,
         };
         if failed {
-            self.has_failed = true;
-        }
-        result
-    }
-
-    fn flush(&mut self) -> io::Result<()>
-        ensures bytes { Keeps (W.contents self.old.stream.now) (W.contents self.new.stream.now) }
-        ensures same_stream { self.new.stream.ghost_name ≡ self.old.stream.ghost_name }
-    {
-        let result = self.stream.flush();
-        if result.is_err() {
             self.has_failed = true;
         }
         result

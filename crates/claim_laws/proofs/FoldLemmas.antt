@@ -23,7 +23,7 @@ use Rattle.log_check.specs.GoodLogs.{IsGoodFile}
 use Rattle.log_check.specs.Refutations.{IsChild, Refutes, takes_back}
 use Rattle.log_check.specs.Trees.{Tree, absent, branch, citation, leaf}
 use Rattle.byte_io.specs.Shelf.{Bytes}
-use Rattle.pdb_verdict.specs.Bundles.{parts_for}
+use Rattle.pdb_verdict.specs.FileBundles.{parts_for}
 use Rattle.pdb_verdict.proofs.BundleLemmas.{all_exact}
 use Rattle.claim_laws.specs.FoldedLogs.{FoldedLogsAreGoodUnfolded}
 use Rattle.claim_laws.proofs.CountLemmas.{IsFullOf, set_most, told_most}

@@ -2,6 +2,7 @@
 #![tactic(auto)]
 
 use byte_io::disk::DiskShelf;
+use byte_io::watched::Watched;
 use pdb_program::{Call, Host, start};
 use pdb_progress::Watch;
 use std::process::ExitCode;
@@ -15,8 +16,10 @@ fn arguments(rt: &HostRuntime) -> io::Result<Vec<String>> {
 
 fn main(rt: HostRuntime) -> ExitCode {
     let mut shelf = DiskShelf::new(&rt);
-    let mut reader = rt.stdin();
-    let mut out = rt.stdout();
+    let mut stdin = rt.stdin();
+    let mut stdout = rt.stdout();
+    let mut reader = Watched::new(&mut stdin);
+    let mut out = Watched::new(&mut stdout);
     let mut err = rt.stderr();
     let gate = Watch::asked_for(&rt);
     let call = Call {

@@ -1,8 +1,8 @@
 -- What a maker's yes keeps.
 use Rattle.std.proofs.Common.{◌≡◌, List, [], ◌∷◌, Option, Some, Ok, inl, map, refl, subst}
-use Rattle.std.specs.Io.KnownBytes.{Appends}
 use Rattle.std.proofs.lemmas.Slice.Eq.{bytes_eq-Decides}
 use Rattle.byte_io.specs.Shelf.{Bytes, Files, with_file}
+use Rattle.byte_io.specs.Streams.{WritesAll}
 use Rattle.pdb_request.specs.Asked.{MakeTableArguments, SolveArguments}
 use Rattle.pdb_run.specs.Writing.{reply_text}
 use Rattle.pdb_run.specs.Commands.{Reply, plan_under}
@@ -26,7 +26,7 @@ use Rattle.pdb_keep.proofs.MakerLemmas.{solved-moves}
 abbrev IsYes : Bytes → World → World → Reply → Type 0
 IsYes out old new reply =
     (Yes ≡ status_of_reply reply.is_yes) × (new.files ≡ with_kept old.files (Some out) (kept reply))
-    × Appends old.written new.written (reply_text reply)
+    × WritesAll old.written new.written (reply_text reply)
 
 -- what was kept stands under its name
 pub file-kept : (files : Files) (out file : Bytes) → with_file files out file out ≡ Some file

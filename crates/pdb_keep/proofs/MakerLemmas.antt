@@ -12,7 +12,7 @@ use Rattle.puz_board.proofs.PuzzleLemmas.{puzzle_parts-puzzle}
 use Rattle.byte_io.specs.Shelf.{Bytes}
 use Rattle.pdb_run.specs.Answers.{IsAnswerBy}
 use Rattle.pdb_run.specs.declared.answers.Answer.{Answer}
-use Rattle.pdb_verdict.specs.Bundles.{IsCauseForBundle}
+use Rattle.pdb_verdict.specs.FileBundles.{IsCauseForBundle}
 use Rattle.pdb_verdict.specs.Inputs.{table_file}
 use Rattle.pdb_verdict.specs.Refusals.{or_memory}
 use Rattle.pdb_verdict.specs.Replay.{IsSolvedPuzzle}

@@ -1,10 +1,10 @@
 -- What a maker's yes leaves on the shelf, and tells.
 use Rattle.std.specs.Prelude.{◌≡◌, ℕ, List, [], ◌∷◌, ◌++◌, codes}
-use Rattle.std.specs.Io.KnownBytes.{Appends}
 use Rattle.puz_board.specs.BoardTexts.{Spells}
 use Rattle.puz_board.specs.MovesTexts.{Solves}
 use Rattle.tab_rule.specs.declared.census.Census.{Census}
 use Rattle.byte_io.specs.Shelf.{Bytes, told_with}
+use Rattle.byte_io.specs.Streams.{WritesAll}
 use Rattle.pdb_request.specs.Asked.{MakeTableArguments, SolveArguments}
 use Rattle.pdb_run.specs.Writing.{digests_of}
 use Rattle.pdb_run.specs.Inputs.{AreRead}
@@ -22,7 +22,7 @@ pub record IsTableKept (arguments : MakeTableArguments) (old new : World) : Type
   pub census : Census
   pub exact : IsExactFor file arguments.side arguments.mask census
   pub kept : new.files ≡ told_with old.files arguments.out file
-  pub lines : Appends old.written new.written
+  pub lines : WritesAll old.written new.written
       (digests_of (file ∷ []) ++ exact_line arguments.side arguments.mask census.entries census.unreachable census.deepest)
 
 -- n is the least number of moves of any solution of the board that the text under its name spelt at the start: these n moves
@@ -47,4 +47,4 @@ pub record IsLogKept (arguments : SolveArguments) (old new : World) : Type 0 whe
   pub n : ℕ
   pub found : IsFoundLeast arguments old moves log files n
   pub kept : new.files ≡ told_with old.files arguments.out log
-  pub lines : Appends old.written new.written (digests_of files ++ (digests_of (log ∷ []) ++ (moves_line (letters_of moves) ++ counted (codes "optimal ") n)))
+  pub lines : WritesAll old.written new.written (digests_of files ++ (digests_of (log ∷ []) ++ (moves_line (letters_of moves) ++ counted (codes "optimal ") n)))

@@ -1,9 +1,9 @@
 -- What holds of all runs of makers.
 use Rattle.std.specs.Prelude.{◌≡◌, ◌≢◌, ◌⊎◌, ℕ, ◌==◌, not, List, [], ◌∷◌, ◌++◌, Some, codes}
-use Rattle.std.specs.Io.KnownBytes.{Appends}
 use Rattle.std.specs.List.{AllByRecursion, AllPass}
 use Rattle.puz_board.specs.MovesTexts.{Solves}
 use Rattle.byte_io.specs.Shelf.{Bytes, Files}
+use Rattle.byte_io.specs.Streams.{WritesAll}
 use Rattle.pdb_request.specs.Asked.{LogArguments, MakeTableArguments, SolveArguments}
 use Rattle.pdb_request.specs.declared.requests.Claim.TheVariants.{Bound}
 use Rattle.pdb_run.specs.Writing.{digests_of}
@@ -55,7 +55,7 @@ pub record IsOfSearch (arguments : SolveArguments) (check : LogArguments) : Type
 pub record IsTaken (arguments : SolveArguments) (old mid later new : World) (status : Status) : Type 0 where
   pub kept : IsLogKept arguments old mid
   pub is_yes : status ≡ Yes
-  pub lines : Appends later.written new.written (digests_of (kept.files ++ kept.log ∷ []) ++ counted (codes "bound ") kept.n)
+  pub lines : WritesAll later.written new.written (digests_of (kept.files ++ kept.log ∷ []) ++ counted (codes "bound ") kept.n)
 
 -- where `solve` ends with a yes, and then `bound` is run over the files that it left, with the same names and with OUT as the
 -- log, a yes or a no is a yes, and its bound the number of the moves; OUT is to be none of the other names

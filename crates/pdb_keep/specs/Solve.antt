@@ -13,7 +13,7 @@ use Rattle.byte_io.specs.Shelf.{Bytes}
 use Rattle.pdb_request.specs.Asked.{SolveArguments}
 use Rattle.pdb_run.specs.Commands.{Plan, Reply, Wanted, plan_under}
 use Rattle.pdb_verdict.specs.Bound.{TakesMemoryForBound}
-use Rattle.pdb_verdict.specs.Bundles.{AreRefused, IsBundleOfFiles}
+use Rattle.pdb_verdict.specs.FileBundles.{AreRefused, IsBundleOfFiles}
 use Rattle.pdb_verdict.specs.Inputs.{log_files}
 use Rattle.pdb_verdict.specs.Limits.{a_table, a_text}
 use Rattle.pdb_verdict.specs.Lines.{counted, line_of_fault}

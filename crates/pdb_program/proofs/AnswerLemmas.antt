@@ -1,5 +1,5 @@
 -- What a run of a command that answers once writes: lines that say no yes, and a last line.
-use Rattle.std.proofs.Common.{◌≡◌, ◌∙◌, ap, ℕ, Bool, true, List, [], ◌∷◌, ◌++◌, Some, Ok, Err, Result, append_assoc, arith, codes, decimal, map, not, refl, subst, sym}
+use Rattle.std.proofs.Common.{◌≡◌, ◌∙◌, ap, ℕ, true, List, [], ◌∷◌, ◌++◌, Some, Ok, Err, Result, append_assoc, arith, codes, decimal, map, not, refl, subst, sym}
 use Rattle.std.proofs.lemmas.List.{append-nil}
 use Rattle.std.proofs.lemmas.List.Elements.{All-cons, All-nil}
 use Rattle.std.specs.Prelude.{◌==◌, ◌≢◌}
@@ -14,6 +14,7 @@ use Rattle.byte_io.specs.declared.shelf.KeepFault.TheVariants as keep
 use Rattle.byte_io.specs.declared.streams.ReadFault.TheVariants as read
 use Rattle.pdb_request.specs.Asked.{Asked, ProveArguments, bound, make_table, optimal, prove, replay, solve, table}
 use Rattle.pdb_run.specs.Commands.{Reply}
+use Rattle.pdb_run.specs.Inputs.{Failures}
 use Rattle.pdb_run.specs.Runs.{HasCause, IsRight, Outcome, World, no_memory, replied, status_of, status_of_reply, text_of, unkept, unkept_status, unkept_text, unread, unwritable}
 use Rattle.pdb_run.specs.Writing.{digests_of, reply_text}
 use Rattle.pdb_run.specs.declared.statuses.Status.{Status}
@@ -197,7 +198,7 @@ unkept_answer name keep.F3 = else_answer _ _ (named (codes "write ") (Some name)
 unkept_answer name keep.Memory = else_answer _ _ memory
 
 -- the text of each outcome ends as its status says
-pub outcome_answer : (asked : Asked) (old : World) (failed : Bool) (outcome : Outcome) → AnswersOnce asked → HasCause (plan_of asked) old failed outcome
+pub outcome_answer : (asked : Asked) (old : World) (failed : Failures) (outcome : Outcome) → AnswersOnce asked → HasCause (plan_of asked) old failed outcome
     → IsAnswerText (text_of outcome) (status_of outcome)
 outcome_answer asked old failed (replied inputs reply) once cause = right_answer asked old inputs reply once cause
 outcome_answer asked old failed (unread wanted read.F1) once cause = else_answer _ _ (named (codes "read ") wanted.name refl)

@@ -7,10 +7,11 @@ use Rattle.claim_text.proofs.AnswerLemmas.{decimal-no_lf, join_no_lf}
 use Rattle.tab_file.specs.Tables.{Table}
 use Rattle.tab_rule.specs.ExactTables.{IsExactFile}
 use Rattle.byte_io.specs.Shelf.{Bytes, Files, with_file}
+use Rattle.byte_io.specs.Streams.{output}
 use Rattle.pdb_request.specs.Asked.{Asked, ProveArguments, TableArguments, bound, make_table, optimal, prove, replay, solve, table}
 use Rattle.pdb_request.specs.declared.requests.Claim.TheVariants.{Bound, Optimum}
 use Rattle.pdb_run.specs.Commands.{Wanted}
-use Rattle.pdb_run.specs.Inputs.{AreRead, IsReadFrom}
+use Rattle.pdb_run.specs.Inputs.{AreRead, Failures, IsReadFrom}
 use Rattle.pdb_run.specs.Runs.{Ends, IsAnswered, World, status_of, status_of_reply, text_of, world}
 use Rattle.pdb_run.specs.Writing.{digests_of}
 use Rattle.pdb_run.specs.Statuses.{status_number}
@@ -53,12 +54,12 @@ yes_or_not NoMemory = inr (λ e. cc)
 
 -- ---- over what tells its bytes
 
-module _ (before after : Files) (input start lines : Bytes) (failed failed_after : Bool) (reader : Option Bytes) where
+module _ (before later : Files) (input start lines : Bytes) (failed failed_after : Failures) (cut cut_after : Bool) (reader : Option Bytes) where
   abbrev old : World
-  old = world (Some before) failed (Some input) (Some start)
+  old = world (Some before) failed (Some input) (output (Some start) cut)
 
   abbrev new : World
-  new = world (Some after) failed_after reader (Some (start ++ lines))
+  new = world (Some later) failed_after reader (output (Some (start ++ lines)) cut_after)
 
   -- what was appended is all that was written
   last : (files more : List Bytes) (line text : Bytes) → IsLast line text
@@ -73,7 +74,7 @@ module _ (before after : Files) (input start lines : Bytes) (failed failed_after
   stood (Some name) bytes read = read
 
   -- what was kept stands under its name
-  stands : (out file : Bytes) → Some after ≡ Some (with_file before out file) → after out ≡ Some file
+  stands : (out file : Bytes) → Some later ≡ Some (with_file before out file) → later out ≡ Some file
   stands out file kept =
       subst (λ (o : Option Files). IfSome o (λ files. files out ≡ Some file)) (sym kept) (file-kept before out file)
 
@@ -90,7 +91,7 @@ module _ (before after : Files) (input start lines : Bytes) (failed failed_after
         rw is.1 at a.right.0,
         yes.is_true,
         yes.holds,
-        λ w line same is_last. last (digested_of of) [] line (line_of_verdict w) is_last (rw (yes.told, same) at a.lines),
+        λ w line same is_last. last (digested_of of) [] line (line_of_verdict w) is_last (rw (yes.told, same) at a.lines.0),
       )
 
   -- the last line says a yes, and this is true
@@ -98,7 +99,7 @@ module _ (before after : Files) (input start lines : Bytes) (failed failed_after
     line : Bytes
     is_last : IsLast line lines
     says : SaysYes line
-    holds : HoldsOfYes asked before after input is_last.above line
+    holds : HoldsOfYes asked before later input is_last.above line
 
   yes_by : (asked : Asked) → AnswersOnce asked → IsAnswered (plan_of asked) old new Yes → EndsWithYes asked
   yes_by (replay arguments) once a =
@@ -162,7 +163,7 @@ module _ (before after : Files) (input start lines : Bytes) (failed failed_after
       let one = exact_one arguments.side arguments.mask census.entries census.unreachable census.deepest in
       record {
         line = words;
-        is_last = last [] (kept.file ∷ []) words _ (line_last words one) kept.lines;
+        is_last = last [] (kept.file ∷ []) words _ (line_last words one) kept.lines.0;
         says = (_, inr (inl refl));
         holds = (kept.file, stands arguments.out kept.file kept.kept, exact);
       }
@@ -181,7 +182,7 @@ module _ (before after : Files) (input start lines : Bytes) (failed failed_after
       let no_digest = joined_lines SaysNoYes tables kept_digest (digests_say_no_yes kept.files) (digests_say_no_yes (kept.log ∷ [])) in
       let is_last : IsLast line lines = record {
         above = digests ++ ml;
-        whole = append_cancel_left start lines _ kept.lines ∙ sym (append_assoc tables kept_digest (ml ++ (line ++ codes "\n"))) ∙ sym (append_assoc digests ml (line ++ codes "\n"));
+        whole = append_cancel_left start lines _ kept.lines.0 ∙ sym (append_assoc tables kept_digest (ml ++ (line ++ codes "\n"))) ∙ sym (append_assoc digests ml (line ++ codes "\n"));
         none = joined_lines SaysNoYes digests ml no_digest (moves_say_no_yes kept.moves);
         one = join_no_lf (codes "optimal ") (decimal n) (known (codes "optimal ") refl) (decimal-no_lf n);
       } in
@@ -234,31 +235,31 @@ module _ (before after : Files) (input start lines : Bytes) (failed failed_after
       let whole : text ≡ ended all.0 ++ (is.0 ++ codes "\n") = is.1.whole ∙ ap (λ (t : Bytes). t ++ (is.0 ++ codes "\n")) all.1 in
       elim ends.said [
         | inl said ↦
-            let same = append_cancel_left start lines text said.0 in
+            let same = append_cancel_left start lines text said.0.0 in
             let found = last_yes all.0 is.0 above line below lines [] all.2 is.1.one has says (append-nil lines ∙ same ∙ whole) in
             elim (yes_or_not (status_of ends.outcome)) [
               | inl e ↦ (sym (append-nil below) ∙ found.2, said.1 ∙ e)
               | inr other ↦ absurd (is.2 other (subst SaysYes found.1 says))
             ]
         | inr cut ↦
-            let n = cut.0.0 in
+            let n = cut.0.0.0 in
             let rest = drop n text in
-            let same = ap (λ (t : Bytes). t ++ rest) (append_cancel_left start lines (take n text) cut.0.2) ∙ take-append-drop n text in
+            let same = ap (λ (t : Bytes). t ++ rest) (append_cancel_left start lines (take n text) cut.0.0.2) ∙ take-append-drop n text in
             let found = last_yes all.0 is.0 above line below lines rest all.2 is.1.one has says (same ∙ whole) in
             let none : length (below ++ rest) ≡ 0 = ap length found.2 in
             let sum = length-append below rest in
             let left = length-drop n text in
-            absurd (omega (arith, cut.0.1, none, sum, left))
+            absurd (omega (arith, cut.0.0.1, none, sum, left))
       ]
 
   -- what such a line says is true
   yes_is_true : (asked : Asked) → EndsWithYes asked → (above line below : Bytes) → HasLine above line below lines → SaysYes line
-      → HoldsOfYes asked before after input above line
+      → HoldsOfYes asked before later input above line
   yes_is_true asked ends above line below has says =
       let all = ends.is_last.none in
       let whole = append-nil lines ∙ ends.is_last.whole ∙ ap (λ (t : Bytes). t ++ (ends.line ++ codes "\n")) all.1 in
       let found = last_yes all.0 ends.line above line below lines [] all.2 ends.is_last.one has says whole in
-      subst (λ (t : Bytes × Bytes). HoldsOfYes asked before after input t.0 t.1)
+      subst (λ (t : Bytes × Bytes). HoldsOfYes asked before later input t.0 t.1)
       (λ i. (((all.1 ∙ sym found.0) i), (sym found.1 i)))
       ends.holds
 
@@ -291,7 +292,7 @@ module _ (before after : Files) (input start lines : Bytes) (failed failed_after
 
   -- of a command that answers once
   once_told : (asked : Asked) (number : ℕ) → AnswersOnce asked → IsNumberOfStatus (EndsFor asked old new) number
-      → Headline asked before after input lines number
+      → Headline asked before later input lines number
   once_told asked number once ended =
       let ends = once_ends asked ended.0 once ended.2 in
       let found = yes_is_last asked ended.0 once ends in
@@ -308,21 +309,21 @@ module _ (before after : Files) (input start lines : Bytes) (failed failed_after
 
   -- of `prove`
   prove_told : (a : ProveArguments) (number : ℕ) → IsNumberOfStatus (EndsFor (prove a) old new) number
-      → Headline (prove a) before after input lines number
+      → Headline (prove a) before later input lines number
   prove_told a number ended = record {
     lines_true = claims_true start lines a old new ended.0 ended.2 refl refl;
     last = λ above line below has says once. absurd (once a refl);
     yes = λ zero.
         let answered = answered_by (prove a) old new true number ended zero in
         let told = yes_lines a old new Yes answered (says answered.reply.is_yes true answered.is_status) in
-        claims_yes a lines told.0 told.1 (append_cancel_left start lines _ answered.lines ∙ told.2) told.3;
+        claims_yes a lines told.0 told.1 (append_cancel_left start lines _ answered.lines.0 ∙ told.2) told.3;
     no = no_told_by (prove a) number ended;
     known = low ended.0 number ended.1;
   }
 
   -- the sentence follows from how a run ends
   headline_told : (asked : Asked) (number : ℕ) → IsNumberOfStatus (EndsFor asked old new) number
-      → Headline asked before after input lines number
+      → Headline asked before later input lines number
   headline_told (replay a) number ended = once_told (replay a) number (λ b e. cc) ended
   headline_told (table a) number ended = once_told (table a) number (λ b e. cc) ended
   headline_told (bound a) number ended = once_told (bound a) number (λ b e. cc) ended
@@ -334,9 +335,9 @@ module _ (before after : Files) (input start lines : Bytes) (failed failed_after
 -- so of a run on words, and on the same words
 pub headline_of : (words other : List Bytes) (old new : World) (old_err new_err : Option Bytes) (number : ℕ) → other ≡ words
     → RunsOn other old new old_err new_err number → SaysHeadline words old new number
-headline_of words other old new old_err new_err number same runs before after input start lines parses had has left stood wrote =
+headline_of words other old new old_err new_err number same runs before later input start lines parses had has left stood wrote =
     let ends = rw same at (runs.ends (rw same parses)) in
-    headline_told before after input start lines old.failed new.failed new.reader (asked_of words) number
+    headline_told before later input start lines old.failed new.failed old.written.failed new.written.failed new.reader (asked_of words) number
     (subst (λ (w : World × World). IsNumberOfStatus (EndsFor (asked_of words) w.0 w.1) number)
-    (λ i. (world (had i) old.failed (left i) (stood i), world (has i) new.failed new.reader (wrote i)))
+    (λ i. (world (had i) old.failed (left i) (output (stood i) old.written.failed), world (has i) new.failed new.reader (output (wrote i) new.written.failed)))
     ends)

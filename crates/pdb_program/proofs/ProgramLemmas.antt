@@ -1,19 +1,22 @@
 -- The numbers by which runs end.
-use Rattle.std.proofs.Common.{◌≡◌, ◌⊎◌, inl, inr, refl, subst, arith, Bool, true, false, ℕ, List, [], ◌∷◌, Option}
+use Rattle.std.proofs.Common.{◌≡◌, ◌∙◌, ◌⊎◌, ap, inl, inr, refl, subst, sym, arith, Bool, true, false, ℕ, List, [], ◌∷◌, Option, Some, None}
 use Rattle.std.specs.Io.KnownBytes.{Keeps}
 use Rattle.byte_io.specs.Shelf.{Bytes}
 use Rattle.pdb_request.specs.Asked.{Asked, MakeTableArguments, make_table, prove, solve}
+use Rattle.byte_io.specs.declared.shelf.KeepFault.TheVariants as keep
+use Rattle.byte_io.specs.declared.streams.ReadFault.TheVariants as read
 use Rattle.pdb_run.specs.Commands.{Plan, Wanted}
-use Rattle.pdb_run.specs.Runs.{Ends, HasCause, IsAnswered, Outcome, WantsMemory, World, no_memory, status_of_reply, unkept, unwritable}
+use Rattle.pdb_run.specs.Inputs.{Failures, HasFailed}
+use Rattle.pdb_run.specs.Runs.{Ends, HasCause, IsAnswered, Outcome, WantsMemory, World, no_memory, replied, status_of, status_of_reply, unkept, unread, unwritable}
 use Rattle.pdb_run.specs.Statuses.{status_number}
 use Rattle.pdb_run.specs.declared.statuses.Status.{Status}
-use Rattle.pdb_run.specs.declared.statuses.Status.TheVariants.{Fault, Refused, Yes}
+use Rattle.pdb_run.specs.declared.statuses.Status.TheVariants.{Fault, NoMemory, Refused, Yes}
 use Rattle.pdb_run.proofs.AnswerLemmas.{IsAnswered-ends}
 use Rattle.pdb_keep.specs.MakeTable.{make_table_plan}
 use Rattle.pdb_keep.proofs.KeptLemmas.{log_answered, table_answered}
 use Rattle.pdb_words.specs.CommandLine.{Parses, asked_of}
 use Rattle.pdb_words.specs.Faults.{IsMistaken}
-use Rattle.pdb_program.specs.Programs.{AskToKeepNothing, EndsFor, HasKept, IsCut, IsNumberOfStatus, RunsOn, plan_of, taking_memory}
+use Rattle.pdb_program.specs.Programs.{AskToKeepNothing, EndsFor, HasFault, HasKept, IsCut, IsNumberOfStatus, RunsOn, SaysAll, plan_of, taking_memory}
 use Rattle.pdb_program.specs.Refusals.{Refuses}
 
 -- a run that was cut is neither a yes nor a no
@@ -64,7 +67,7 @@ parsed_ends words old new old_err new_err status parses files = elim [
 -- ---- a table that is to be made
 
 -- what has cause by a plan has it by that which may want memory at any time
-taking : (plan : Plan) (old : World) (failed : Bool) (outcome : Outcome) → HasCause plan old failed outcome
+taking : (plan : Plan) (old : World) (failed : Failures) (outcome : Outcome) → HasCause plan old failed outcome
     → HasCause (taking_memory plan) old failed outcome
 taking plan old failed (unwritable name why) cause =
     record { under = cause.under; inputs = cause.inputs; read = cause.read; has_failed = cause.has_failed }
@@ -95,6 +98,53 @@ made_ends arguments asked old new status is ends =
       said = ends.said;
     }))
 
+-- ---- failures
+
+-- what a run has to say is written whole where no write has failed
+said_all : (asked : Asked) (old new : World) (number : ℕ) (status : Status) → number ≡ status_number status → EndsFor asked old new status
+    → new.written.failed ≡ false → SaysAll asked old new number
+said_all asked old new number status is (inl ends) calm = elim ends.said [
+  | inl said ↦
+      record { outcome = ends.outcome; cause = ends.cause; whole = said.0; is_status = is ∙ ap status_number said.1 }
+  | inr cut ↦ let clash : true ≡ false = sym cut.0.1 ∙ calm in absurd cc
+]
+said_all (prove arguments) old new number status is (inr cut) calm = let clash : true ≡ false = sym cut.front.1 ∙ calm in absurd cc
+said_all _ old new number status is (inr cut) calm = absurd cut
+
+-- a reply is no fault
+reply_fault : (is_yes : Bool) → ¬ (status_of_reply is_yes ≡ Fault)
+reply_fault true is = let clash : Yes ≡ Fault = is in cc
+reply_fault false is = let clash : Refused ≡ Fault = is in cc
+
+-- the shelf or the reader
+one_failed : (name : Option Bytes) (failed : Failures) → HasFailed name failed → (failed.shelf ≡ true) ⊎ (failed.reader ≡ true)
+one_failed None failed is = inr is
+one_failed (Some name) failed is = inl is
+
+-- what has a cause and is a fault
+fault_of : (asked : Asked) (old new : World) (outcome : Outcome) → HasCause (plan_of asked) old new.failed outcome → status_of outcome ≡ Fault
+    → HasFault asked old new
+fault_of asked old new (unread wanted read.F1) cause is = elim (one_failed wanted.name new.failed cause.cause) [
+  | inl shelf ↦ inl shelf
+  | inr reader ↦ inr (inl reader)
+]
+fault_of asked old new (unread wanted read.F2) cause is = inr (inr (inr (wanted, cause)))
+fault_of asked old new (unwritable name keep.F3) cause is = inl (cause.has_failed refl)
+fault_of asked old new (unkept name keep.F3) cause is = inl (cause.has_failed refl)
+fault_of asked old new (replied inputs reply) cause is = absurd (reply_fault reply.is_yes is)
+fault_of asked old new _ cause is = let clash : NoMemory ≡ Fault = is in absurd cc
+
+-- what ends with status 2
+faulted : (asked : Asked) (old new : World) (number : ℕ) (status : Status) → number ≡ status_number status → EndsFor asked old new status
+    → number ≡ 2 → HasFault asked old new
+faulted asked old new number Fault is (inl ends) two = elim ends.said [
+  | inl said ↦ fault_of asked old new ends.outcome ends.cause (sym said.1)
+  | inr cut ↦ inr (inr (inl cut.0.1))
+]
+faulted (prove arguments) old new number Fault is (inr cut) two = inr (inr (inl cut.front.1))
+faulted _ old new number Fault is (inr cut) two = absurd cut
+faulted asked old new number _ is ends two = absurd (omega arith)
+
 -- ---- a run on words
 
 -- a yes has kept what was asked for
@@ -118,6 +168,8 @@ runs_on words old new old_err new_err number status is ends refuses quiet same =
         | inr one ↦ (Refused, one, answered false parses one)
       ];
       ends = λ parses. (status, is, ends parses);
+      whole = λ parses. said_all (asked_of words) old new number status is (ends parses);
+      fault = λ parses. faulted (asked_of words) old new number status is (ends parses);
       refuses = λ fails. (status, is, refuses fails);
       quiet = quiet;
       kept = λ parses zero. yes_keeps (asked_of words) old new (answered true parses zero);

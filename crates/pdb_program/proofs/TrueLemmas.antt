@@ -15,10 +15,11 @@ use Rattle.set_sum.specs.Bounds.{IsBounded}
 use Rattle.puz_search.specs.Guides.{ShownGuide}
 use Rattle.set_sum.specs.Bundles.{ShownBundle}
 use Rattle.byte_io.specs.Shelf.{Bytes}
-use Rattle.byte_io.specs.Streams.{AppendsFront}
+use Rattle.byte_io.specs.Streams.{AppendsFront, Output}
 use Rattle.byte_io.specs.declared.streams.ReadFault.TheVariants as read
 use Rattle.pdb_request.specs.Asked.{ProveArguments, prove}
 use Rattle.pdb_run.specs.Commands.{Reply}
+use Rattle.pdb_run.specs.Inputs.{Failures}
 use Rattle.pdb_run.specs.Runs.{HasCause, IsAnswered, Says, World, no_memory, replied, text_of, unkept, unread, unwritable}
 use Rattle.pdb_run.specs.Runs as runs
 use Rattle.pdb_run.specs.Writing.{digests_of, reply_text}
@@ -170,7 +171,7 @@ reply_true fold budget files reply tells =
     subst (λ (r : Reply). IsOfLines IsTrueLine (reply_text r)) (sym tells.told) (comes_true fold budget files tells.outcome tells.is_outcome)
 
 -- whatever a run comes to
-outcome_true : (arguments : ProveArguments) (old : World) (failed : Bool) (outcome : runs.Outcome) → HasCause (prove_plan arguments) old failed outcome
+outcome_true : (arguments : ProveArguments) (old : World) (failed : Failures) (outcome : runs.Outcome) → HasCause (prove_plan arguments) old failed outcome
     → IsOfLines IsTrueLine (text_of outcome)
 outcome_true arguments old failed (replied inputs reply) cause =
     reply_true arguments.fold (budget_of arguments.budget) cause.1.0 reply cause.1.2
@@ -194,25 +195,26 @@ module _ (start lines : Bytes) where
       (drop n text, subst (IsOfLines IsTrueLine) (sym is) whole)
 
   -- what was said
-  said_true : (text : Bytes) (with_text status : Status) → Says text with_text (Some start) (Some (start ++ lines)) status → IsOfLines IsTrueLine text
-      → AreTrue
-  said_true text with_text status (inl whole) is =
-      ([], subst (IsOfLines IsTrueLine) (sym (append-nil lines ∙ append_cancel_left start lines text whole.0)) is)
-  said_true text with_text status (inr cut) is = cut_true text cut.0 is
+  said_true : (text : Bytes) (with_text status : Status) (old new : Output) → old.bytes ≡ Some start → new.bytes ≡ Some (start ++ lines)
+      → Says text with_text old new status → IsOfLines IsTrueLine text → AreTrue
+  said_true text with_text status old new had wrote (inl whole) is =
+      let same : start ++ lines ≡ start ++ text = rw (had, wrote) at whole.0.0 in
+      ([], subst (IsOfLines IsTrueLine) (sym (append-nil lines ∙ append_cancel_left start lines text same)) is)
+  said_true text with_text status old new had wrote (inr cut) is = cut_true text (rw (had, wrote) at cut.0.0) is
 
   -- the lines of a run of `prove` are true
   lines_told : (arguments : ProveArguments) (old new : World) (status : Status) → EndsFor (prove arguments) old new status
-      → old.written ≡ Some start → new.written ≡ Some (start ++ lines) → AreTrue
+      → old.written.bytes ≡ Some start → new.written.bytes ≡ Some (start ++ lines) → AreTrue
   lines_told arguments old new status (inl ends) had wrote =
-      said_true (text_of ends.outcome) _ status (rw (had, wrote) at ends.said) (outcome_true arguments old new.failed ends.outcome ends.cause)
+      said_true (text_of ends.outcome) _ status old.written new.written had wrote ends.said (outcome_true arguments old new.failed ends.outcome ends.cause)
   lines_told arguments old new status (inr cut) had wrote =
       let boards = first_boards cut.first cut.others (claims_boards _ (cut.first ++ cut.others) cut.ready.are_claims.lines) in
-      cut_true _ (rw (had, wrote) at cut.front)
+      cut_true _ (rw (had, wrote) at cut.front.0)
       (answers_true cut.files cut.told (each_true cut.bundle (budget_of arguments.budget) cut.first cut.told boards cut.each))
 
   -- so is each of them that says a yes
   pub claims_true : (arguments : ProveArguments) (old new : World) (status : Status) → EndsFor (prove arguments) old new status
-      → old.written ≡ Some start → new.written ≡ Some (start ++ lines)
+      → old.written.bytes ≡ Some start → new.written.bytes ≡ Some (start ++ lines)
       → (above line below : Bytes) → HasLine above line below lines → SaysYes line → HoldsOfClaim line
   claims_true arguments old new status ends had wrote above line below has says =
       let are = lines_told arguments old new status ends had wrote in

@@ -1,6 +1,6 @@
 -- What the program's yes means, command by command, and its no to a table: in boards, paths and bytes.
 --
--- `before` and `after` have the bytes under each name when the run begins and when it ends, `input` what its reader has left
+-- `before` and `later` have the bytes under each name when the run begins and when it ends, `input` what its reader has left
 -- when it begins, and `lines` all that it wrote.
 use Rattle.std.specs.Prelude.{◌≡◌, ◌≢◌, ◌⊎◌, ℕ, ◌<◌, ◌≤◌, ◌^◌, List, [], ◌++◌, Option, Some, codes, decimal, map}
 use Rattle.std.specs.Option.{option_map_or}
@@ -52,35 +52,35 @@ HoldsOfClaim line =
     × (line ≡ codes "optimal " ++ decimal n ++ codes " of" ++ puzzle) × IsBounded solved.board n)
 
 -- what a line of a yes means below what stands above it, command by command, with the arguments of the command
-abbrev pub HoldsOfYes : Asked → (before after : Bytes → Option Bytes) → (input above line : Bytes) → Type 0
+abbrev pub HoldsOfYes : Asked → (before later : Bytes → Option Bytes) → (input above line : Bytes) → Type 0
 -- the line is `solution n`, and the moves of the puzzle text, n of them, solve its board
-HoldsOfYes (replay a) before after input above line =
+HoldsOfYes (replay a) before later input above line =
     (puzzle : Bytes) × (n : ℕ) × (option_map_or before a.puzzle (Some input) ≡ Some puzzle)
     × (line ≡ codes "solution " ++ decimal n) × IsSolvedPuzzle puzzle n
 -- the line is `exact` of a side and a mask, and the file is the exact one of their pattern
-HoldsOfYes (table a) before after input above line =
+HoldsOfYes (table a) before later input above line =
     (file : Bytes) × (side : ℕ) × (mask : ℕ) × (before a.file ≡ Some file) × (mask < 2 ^ 32) × SaysExact line file side mask
 -- the line is `bound n`, and no solution of the board in the text has fewer than n moves
-HoldsOfYes (bound a) before after input above line =
+HoldsOfYes (bound a) before later input above line =
     (text : Bytes) × (n : ℕ) × (before a.text ≡ Some text) × (line ≡ codes "bound " ++ decimal n) × IsBoundedText text n
 -- the line is `optimal n`; the moves of the puzzle text, n of them, solve its board, and no solution has fewer
-HoldsOfYes (optimal a) before after input above line =
+HoldsOfYes (optimal a) before later input above line =
     (puzzle : Bytes) × (n : ℕ) × (solved : IsSolvedPuzzle puzzle n) × (before a.text ≡ Some puzzle)
     × (line ≡ codes "optimal " ++ decimal n) × IsBounded solved.board n
 -- the bytes that stand under OUT afterwards are the exact file of the pattern of this side and this mask, and the line is `exact`
 -- of these
-HoldsOfYes (make_table a) before after input above line =
-    (file : Bytes) × (after a.out ≡ Some file) × SaysExact line file a.side a.mask
+HoldsOfYes (make_table a) before later input above line =
+    (file : Bytes) × (later a.out ≡ Some file) × SaysExact line file a.side a.mask
 -- the line is `optimal n`, and the one above it `moves` with a moves text; its n moves solve the board in the text, and no solution
 -- has fewer; and the bytes that stand under OUT afterwards are a log that proves this bound, over the sets and the tables
-HoldsOfYes (solve a) before after input above line =
+HoldsOfYes (solve a) before later input above line =
     (text : Bytes) × (b : List ℕ) × (moves : Bytes) × (n : ℕ) × (before a.board ≡ Some text) × Spells text b
     × (line ≡ codes "optimal " ++ decimal n) × (higher : Bytes) × HasLine higher (codes "moves" ++ moves) [] above
     × Solves b moves n × IsBounded b n
     × (set_text : Bytes) × (files : List Bytes) × (log : Bytes) × (before a.sets ≡ Some set_text) × (map before a.tables ≡ map Some files)
-    × (after a.out ≡ Some log) × IsProvedBound a.fold b set_text log files n
+    × (later a.out ≡ Some log) × IsProvedBound a.fold b set_text log files n
 -- the line is a true answer to a claim
-HoldsOfYes (prove a) before after input above line = HoldsOfClaim line
+HoldsOfYes (prove a) before later input above line = HoldsOfClaim line
 
 -- ---- the program's answers
 
@@ -93,9 +93,9 @@ AreAYes other lines = (above : Bytes) × (line : Bytes) × HasLine above line []
 -- A run that was asked for this and ends with this status, 0 for a yes and 1 for a no. What a no means of `table`: the bytes under
 -- the name are no exact file, of whatever pattern; so an exact file is answered with 0, or by 2 or 3, but never with 1. What 2 and 3
 -- mean is said where runs are (`RunsOn`).
-pub record Headline (asked : Asked) (before after : Bytes → Option Bytes) (input lines : Bytes) (status : ℕ) : Type 0 where
+pub record Headline (asked : Asked) (before later : Bytes → Option Bytes) (input lines : Bytes) (status : ℕ) : Type 0 where
   -- each line that says a yes is true, whatever the status and whatever else happened
-  pub lines_true : (above line below : Bytes) → HasLine above line below lines → SaysYes line → HoldsOfYes asked before after input above line
+  pub lines_true : (above line below : Bytes) → HasLine above line below lines → SaysYes line → HoldsOfYes asked before later input above line
   -- it is the last line, and the status is 0; of `prove` more lines may follow, and one of these may be a no
   pub last : (above line below : Bytes) → HasLine above line below lines → SaysYes line → ((a : ProveArguments) → asked ≢ prove a)
       → (below ≡ []) × (status ≡ 0)

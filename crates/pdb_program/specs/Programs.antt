@@ -1,11 +1,14 @@
 -- What the words of the program do, and how a run on words ends.
-use Rattle.std.specs.Prelude.{◌≡◌, ◌⊎◌, ⊤, ℕ, List, Option, None}
+use Rattle.std.specs.Prelude.{◌≡◌, ◌⊎◌, ⊤, ℕ, false, true, List, Option, None}
 use Rattle.std.specs.Io.KnownBytes.{Keeps}
 use Rattle.byte_io.specs.Shelf.{Bytes}
+use Rattle.byte_io.specs.Streams.{WritesAll}
+use Rattle.byte_io.specs.declared.streams.ReadFault.TheVariants.{F2}
 use Rattle.pdb_request.specs.Asked.{Asked, bound, make_table, optimal, prove, replay, solve, table}
 use Rattle.pdb_request.specs.declared.requests.Claim.TheVariants.{Bound, Optimum}
-use Rattle.pdb_run.specs.Commands.{Plan}
-use Rattle.pdb_run.specs.Runs.{Ends, IsAnswered, World}
+use Rattle.pdb_run.specs.Commands.{Plan, Wanted}
+use Rattle.pdb_run.specs.Inputs.{IsFirstUnread}
+use Rattle.pdb_run.specs.Runs.{Ends, HasCause, IsAnswered, Outcome, World, status_of, text_of}
 use Rattle.pdb_run.specs.Statuses.{status_number}
 use Rattle.pdb_run.specs.declared.statuses.Status.{Status}
 use Rattle.pdb_verdict.specs.Plans.{log_check_plan, replay_plan, table_plan}
@@ -32,7 +35,7 @@ plan_of (make_table arguments) = taking_memory (make_table_plan arguments)
 plan_of (solve arguments) = solve_plan arguments
 plan_of (prove arguments) = prove_plan arguments
 
--- the output of a command that writes line by line failed before all lines were written
+-- a write of a command that writes line by line failed before all lines were written
 abbrev pub IsCut : Asked → World → World → Status → Type 0
 IsCut (prove arguments) old new status = IsCutShort arguments old new status
 IsCut other old new status = ⊥
@@ -52,6 +55,19 @@ HasKept (make_table arguments) old new = IsTableKept arguments old new
 HasKept (solve arguments) old new = IsLogKept arguments old new
 HasKept other old new = new.files ≡ old.files
 
+-- what a run has to say is written whole
+pub record SaysAll (asked : Asked) (old new : World) (number : ℕ) : Type 0 where
+  pub outcome : Outcome
+  pub cause : HasCause (plan_of asked) old new.failed outcome
+  pub whole : WritesAll old.written new.written (text_of outcome)
+  pub is_status : number ≡ status_number (status_of outcome)
+
+-- the shelf has failed, or the reader, or a write; or an input, the first that was not read, is over its limit
+abbrev pub HasFault : Asked → World → World → Type 0
+HasFault asked old new =
+    (new.failed.shelf ≡ true) ⊎ (new.failed.reader ≡ true) ⊎ (new.written.failed ≡ true)
+    ⊎ ((wanted : Wanted) × IsFirstUnread old.files old.reader new.failed (plan_of asked).inputs wanted F2)
+
 -- the number is that of a status of which this holds
 abbrev pub IsNumberOfStatus : (Status → Type 0) → ℕ → Type 0
 IsNumberOfStatus Holds number = (status : Status) × (number ≡ status_number status) × Holds status
@@ -60,6 +76,9 @@ IsNumberOfStatus Holds number = (status : Status) × (number ≡ status_number s
 pub record RunsOn (words : List Bytes) (old new : World) (old_err new_err : Option Bytes) (number : ℕ) : Type 0 where
   pub answered : Parses words → (number ≡ 0) ⊎ (number ≡ 1) → IsNumberOfStatus (IsAnswered (plan_of (asked_of words)) old new) number
   pub ends : Parses words → IsNumberOfStatus (EndsFor (asked_of words) old new) number
+  -- nothing is cut short but by a write that failed, and status 2 has a cause that shelf, streams or inputs show
+  pub whole : Parses words → new.written.failed ≡ false → SaysAll (asked_of words) old new number
+  pub fault : Parses words → number ≡ 2 → HasFault (asked_of words) old new
   pub refuses : (Parses words → ⊥) → IsNumberOfStatus (Refuses words old.written new.written old_err new_err) number
   pub quiet : Keeps old_err new_err ⊎ IsMistaken words
   pub kept : Parses words → number ≡ 0 → HasKept (asked_of words) old new

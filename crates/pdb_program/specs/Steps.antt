@@ -8,6 +8,6 @@ use Rattle.pdb_program.specs.Headline.{Headline}
 -- the headline on these words, from the one world to the other, where they tell their bytes
 abbrev pub SaysHeadline : List Bytes → World → World → ℕ → Type 0
 SaysHeadline words old new number =
-    (before after : Bytes → Option Bytes) (input start lines : Bytes) → Parses words → old.files ≡ Some before → new.files ≡ Some after
-    → old.reader ≡ Some input → old.written ≡ Some start → new.written ≡ Some (start ++ lines)
-    → Headline (asked_of words) before after input lines number
+    (before later : Bytes → Option Bytes) (input start lines : Bytes) → Parses words → old.files ≡ Some before → new.files ≡ Some later
+    → old.reader ≡ Some input → old.written.bytes ≡ Some start → new.written.bytes ≡ Some (start ++ lines)
+    → Headline (asked_of words) before later input lines number

@@ -34,8 +34,8 @@ pub fn run_in_memory<H: Threads + Wait + Sync>(
 ) -> MemoryRun
     // What a yes means on each command, and a no to a table: as on `run`, with nothing left to suppose of shelf and streams.
     ensures headline { let words = map string_bytes words.items in
-        let before = files_in files in let after = files_in result.files in Parses words
-        → Headline (asked_of words) before after input.now result.output.items result.status }
+        let before = files_in files in let later = files_in result.files in Parses words
+        → Headline (asked_of words) before later input.now result.output.items result.status }
 {
     let mut files = files;
     let mut reader = input;

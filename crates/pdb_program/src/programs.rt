@@ -3,6 +3,7 @@
 ghost use Rattle.std.specs.Prelude.{◌≡◌, ◌⊎◌, ◌++◌, Option, map, string_bytes};
 ghost use Rattle.std.specs.Io.KnownBytes.{Keeps};
 ghost use Rattle.byte_io.specs.Shelf.{Bytes};
+ghost use Rattle.pdb_run.specs.Inputs.{failures};
 ghost use Rattle.pdb_run.specs.Runs.{world};
 ghost use Rattle.pdb_words.specs.CommandLine.{Parses, asked_of};
 ghost use Rattle.pdb_words.specs.Faults.{IsMistaken};
@@ -14,6 +15,8 @@ ghost use Rattle.pdb_program.specs.Refusals.{Refuses};
 use crate::hosts::Host;
 use crate::refusals::explain;
 use byte_io::shelf::Shelf;
+use byte_io::sinks::Sink;
+use byte_io::sources::Source;
 use pdb_keep::{run_make_table, run_solve};
 use pdb_prove::run_prove;
 use pdb_request::Request;
@@ -21,7 +24,7 @@ use pdb_run::{BorrowedIo, Io, Status};
 use pdb_verdict::{run_log_check, run_replay, run_table};
 use pdb_words::read_words;
 use std::alloc::Global;
-use std::io::{Read, Write};
+use std::io::Write;
 use std::sync::Wait;
 use std::thread::Threads;
 use work_run::Gate;
@@ -30,7 +33,7 @@ use work_run::Gate;
 /// a fault of a read or a write, 3 for want of memory.
 ///
 /// The words leave out the program's own name. Without any it is `replay` on the reader. Workers pass the gate.
-pub fn run<H: Threads + Wait + Sync, S: Shelf, R: Read, W: Write, E: Write, G: Gate + Sync>(
+pub fn run<H: Threads + Wait + Sync, S: Shelf, R: Source, W: Sink, E: Write, G: Gate + Sync>(
     rt: &H,
     alloc: Global,
     words: Vec<String>,
@@ -43,20 +46,22 @@ pub fn run<H: Threads + Wait + Sync, S: Shelf, R: Read, W: Write, E: Write, G: G
     // What a yes means on each command, and a no to a table, in boards, paths and bytes: over a shelf, a reader and a writer that
     // tell their bytes, for 1 to 64 workers and every order in which they take their work.
     ensures headline { let words = map string_bytes words.items in
-        (before after : Bytes → Option Bytes) (input start lines : Bytes) → Parses words
-        → S.held shelf.old ≡ Some before → S.held shelf.new ≡ Some after
+        (before later : Bytes → Option Bytes) (input start lines : Bytes) → Parses words
+        → S.held shelf.old ≡ Some before → S.held shelf.new ≡ Some later
         → R.remaining reader.old ≡ Some input
-        → W.contents out.old ≡ Some start → W.contents out.new ≡ Some (start ++ lines)
-        → Headline (asked_of words) before after input lines result }
+        → (W.output out.old).bytes ≡ Some start → (W.output out.new).bytes ≡ Some (start ++ lines)
+        → Headline (asked_of words) before later input lines result }
 
     // With a yes or a no the writer got exactly the lines on the inputs that the words ask for, and with a yes what was made
     // and checked stands under its name. In any case the run says one thing that it has cause to say, or a proper front of it
     // where the writer failed; so it does of words that don't parse.
     ensures runs { RunsOn (map string_bytes words.items)
-        (world (S.held shelf.old) (S.has_failed shelf.old)
-        (R.remaining reader.old) (W.contents out.old))
-        (world (S.held shelf.new) (S.has_failed shelf.new)
-        (R.remaining reader.new) (W.contents out.new))
+        (world (S.held shelf.old)
+        (failures (S.has_failed shelf.old) (R.may_have_failed reader.old))
+        (R.remaining reader.old) (W.output out.old))
+        (world (S.held shelf.new)
+        (failures (S.has_failed shelf.new) (R.may_have_failed reader.new))
+        (R.remaining reader.new) (W.output out.new))
         (E.contents err.old) (E.contents err.new) result }
 {
     let host = Host { rt, alloc, gate };

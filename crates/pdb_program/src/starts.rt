@@ -6,6 +6,7 @@ ghost use Rattle.std.specs.Io.KnownBytes.{Keeps};
 ghost use Rattle.std.specs.declared.io.ErrorKind.TheVariants.{OutOfMemory};
 ghost use Rattle.byte_io.specs.Shelf.{Bytes};
 ghost use Rattle.pdb_run.specs.Writing.{memory_line};
+ghost use Rattle.pdb_run.specs.Inputs.{failures};
 ghost use Rattle.pdb_run.specs.Runs.{Says, world};
 ghost use Rattle.pdb_words.specs.CommandLine.{Parses, asked_of};
 ghost use Rattle.pdb_words.specs.Faults.{unreadable_word};
@@ -17,18 +18,20 @@ use crate::hosts::Call;
 use crate::programs::run;
 use crate::refusals::tell;
 use byte_io::shelf::Shelf;
+use byte_io::sinks::Sink;
+use byte_io::sources::Source;
 use byte_io::streams::put_text;
 use pdb_run::{NO_MEMORY, Status};
 use pdb_words::unreadable_word;
 use std::io;
-use std::io::{Read, Write};
+use std::io::Write;
 use std::sync::Wait;
 use std::thread::Threads;
 use work_run::Gate;
 
 /// A run on the arguments behind the first, which is the program's own name, or what is said where they can't be taken:
 /// for want of memory, or since one is no UTF-8 text. Then the shelf and the reader stay as they are.
-pub fn start<H: Threads + Wait + Sync, S: Shelf, R: Read, W: Write, E: Write, G: Gate + Sync>(
+pub fn start<H: Threads + Wait + Sync, S: Shelf, R: Source, W: Sink, E: Write, G: Gate + Sync>(
     call: Call<'_, H, G>,
     shelf: &mut S,
     reader: &mut R,
@@ -38,24 +41,26 @@ pub fn start<H: Threads + Wait + Sync, S: Shelf, R: Read, W: Write, E: Write, G:
     // What a yes means on each command, and a no to a table, in boards, paths and bytes, as on `run`.
     ensures headline { IfOk call.entry.arguments (λ all.
         let words = drop 1 (map string_bytes all.items) in
-        (before after : Bytes → Option Bytes) (input start lines : Bytes) → Parses words
-        → S.held shelf.old ≡ Some before → S.held shelf.new ≡ Some after
+        (before later : Bytes → Option Bytes) (input start lines : Bytes) → Parses words
+        → S.held shelf.old ≡ Some before → S.held shelf.new ≡ Some later
         → R.remaining reader.old ≡ Some input
-        → W.contents out.old ≡ Some start → W.contents out.new ≡ Some (start ++ lines)
-        → Headline (asked_of words) before after input lines result) }
+        → (W.output out.old).bytes ≡ Some start → (W.output out.new).bytes ≡ Some (start ++ lines)
+        → Headline (asked_of words) before later input lines result) }
 
     ensures runs { IfOk call.entry.arguments (λ all. RunsOn (drop 1 (map string_bytes all.items))
-        (world (S.held shelf.old) (S.has_failed shelf.old)
-        (R.remaining reader.old) (W.contents out.old))
-        (world (S.held shelf.new) (S.has_failed shelf.new)
-        (R.remaining reader.new) (W.contents out.new))
+        (world (S.held shelf.old)
+        (failures (S.has_failed shelf.old) (R.may_have_failed reader.old))
+        (R.remaining reader.old) (W.output out.old))
+        (world (S.held shelf.new)
+        (failures (S.has_failed shelf.new) (R.may_have_failed reader.new))
+        (R.remaining reader.new) (W.output out.new))
         (E.contents err.old) (E.contents err.new) result) }
     ensures memory { IfErr call.entry.arguments (λ e. error_kind e ≡ OutOfMemory
         → IsNumberOfStatus
-        (Says memory_line Status.NoMemory (W.contents out.old) (W.contents out.new)) result
+        (Says memory_line Status.NoMemory (W.output out.old) (W.output out.new)) result
         × Keeps (E.contents err.old) (E.contents err.new)) }
     ensures unreadable { IfErr call.entry.arguments (λ e. error_kind e ≢ OutOfMemory
-        → Keeps (W.contents out.old) (W.contents out.new)
+        → Keeps (W.output out.old).bytes (W.output out.new).bytes
         × AppendsWholeOrFront unreadable_word (E.contents err.old) (E.contents err.new)
         × (result ≡ 2)) }
     ensures untouched { OnErr call.entry.arguments
@@ -88,12 +93,12 @@ fn words_in(mut arguments: Vec<String>) -> Vec<String>
 }
 
 /// Says why there are no words.
-fn without_words<W: Write, E: Write>(error: &io::Error, out: &mut W, err: &mut E) -> Status
+fn without_words<W: Sink, E: Write>(error: &io::Error, out: &mut W, err: &mut E) -> Status
     ensures memory { error_kind error.now ≡ OutOfMemory
-        → Says memory_line Status.NoMemory (W.contents out.old) (W.contents out.new) result
+        → Says memory_line Status.NoMemory (W.output out.old) (W.output out.new) result
         × Keeps (E.contents err.old) (E.contents err.new) }
     ensures unreadable { error_kind error.now ≢ OutOfMemory
-        → Keeps (W.contents out.old) (W.contents out.new)
+        → Keeps (W.output out.old).bytes (W.output out.new).bytes
         × AppendsWholeOrFront unreadable_word (E.contents err.old) (E.contents err.new)
         × (result ≡ Status.Fault) }
 {
@@ -104,8 +109,8 @@ fn without_words<W: Write, E: Write>(error: &io::Error, out: &mut W, err: &mut E
 }
 
 /// Says a text on the output, which ends a run with this status.
-fn say_on<W: Write>(out: &mut W, text: &str, status: Status) -> Status
-    ensures { Says text.now status (W.contents out.old) (W.contents out.new) result }
+fn say_on<W: Sink>(out: &mut W, text: &str, status: Status) -> Status
+    ensures { Says text.now status (W.output out.old) (W.output out.new) result }
 {
     match put_text(out, text) {
         Ok(()) => status,

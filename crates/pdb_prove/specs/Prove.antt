@@ -7,7 +7,7 @@ use Rattle.claim_text.specs.Claims.{ShownClaim}
 use Rattle.claim_text.specs.Texts.{AreClaims, IsFirstNoClaim}
 use Rattle.claim_text.specs.Lines.{Told, told_line}
 use Rattle.byte_io.specs.Shelf.{Bytes}
-use Rattle.byte_io.specs.Streams.{AppendsFront}
+use Rattle.byte_io.specs.Streams.{WritesFront}
 use Rattle.pdb_request.specs.Asked.{ProveArguments}
 use Rattle.pdb_run.specs.Commands.{Plan, Reply, Wanted, plan}
 use Rattle.pdb_run.specs.Inputs.{AreRead, IsAsTold, left_by_all}
@@ -15,7 +15,7 @@ use Rattle.pdb_run.specs.Runs.{Ends, World}
 use Rattle.pdb_run.specs.Writing.{digests_of}
 use Rattle.pdb_run.specs.declared.statuses.Status.{Status}
 use Rattle.pdb_run.specs.declared.statuses.Status.TheVariants.{Fault}
-use Rattle.pdb_verdict.specs.Bundles.{AreRefused, IsBundleOfFiles}
+use Rattle.pdb_verdict.specs.FileBundles.{AreRefused, IsBundleOfFiles}
 use Rattle.pdb_verdict.specs.Limits.{a_table, a_text}
 use Rattle.pdb_verdict.specs.Lines.{line_of_fault}
 use Rattle.pdb_verdict.specs.Refusals.{fault_of_bundle}
@@ -135,7 +135,7 @@ TakesMemoryForClaims inputs = (files : ClaimsFiles) × (inputs ≡ in_order file
 abbrev pub prove_plan : ProveArguments → Plan
 prove_plan arguments = plan (prove_inputs arguments) (IsClaimsReply arguments.fold (budget_of arguments.budget)) TakesMemoryForClaims
 
--- the output failed before all lines were written: the first claims were answered, and a proper front of the digests and the lines
+-- a write failed before all lines were written: the first claims were answered, and a proper front of the digests and the lines
 -- so far is what was written
 pub record IsCutShort (arguments : ProveArguments) (old new : World) (status : Status) : Type 0 where
   pub files : ClaimsFiles
@@ -146,7 +146,7 @@ pub record IsCutShort (arguments : ProveArguments) (old new : World) (status : S
   pub ready : AreReady arguments.fold files (first ++ others) bundle
   pub told : List Told
   pub each : AllZip (IsToldOf bundle (budget_of arguments.budget)) first told
-  pub front : AppendsFront old.written new.written (digests_of (digested_files files) ++ told_lines told)
+  pub front : WritesFront old.written new.written (digests_of (digested_files files) ++ told_lines told)
   pub same : new.files ≡ old.files
   pub failure : new.failed ≡ old.failed
   pub reader : IsAsTold (left_by_all old.reader (prove_inputs arguments)) new.reader

@@ -6,7 +6,7 @@ ghost use Rattle.puz_board.specs.Boards.{side_of};
 ghost use Rattle.claim_text.specs.Shown.{claim_shown};
 ghost use Rattle.claim_text.specs.Texts.{AreClaims};
 ghost use Rattle.byte_io.specs.Shelf.{Bytes};
-ghost use Rattle.pdb_verdict.specs.Bundles.{IsBundleOfFiles, IsCauseForBundle};
+ghost use Rattle.pdb_verdict.specs.FileBundles.{IsBundleOfFiles, IsCauseForBundle};
 ghost use Rattle.pdb_prove.specs.Prove.{AreReady, IsFirstOfAnotherSide};
 ghost use Rattle.pdb_prove.specs.Steps.{IsCauseForClaims, files_of};
 

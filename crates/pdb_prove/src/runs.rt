@@ -10,7 +10,7 @@ ghost use Rattle.pdb_run.specs.Answers.{IsReplyOf, all_bytes, answer_text, diges
 ghost use Rattle.pdb_run.specs.Io.{HasRead};
 ghost use Rattle.pdb_run.specs.Runs.{World, status_of_reply};
 ghost use Rattle.pdb_run.specs.Writing.{digests_of};
-ghost use Rattle.pdb_verdict.specs.Bundles.{IsBundleOfFiles, IsCauseForBundle};
+ghost use Rattle.pdb_verdict.specs.FileBundles.{IsBundleOfFiles, IsCauseForBundle};
 ghost use Rattle.pdb_prove.specs.Prove.{AreReady, ClaimsFiles, ProveEnds, budget_of, digested_files, in_order, prove_inputs, reply_to_claims, unready};
 ghost use Rattle.pdb_prove.specs.Steps.{IsCauseForClaims, failure_of, files_of};
 

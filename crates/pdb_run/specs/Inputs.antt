@@ -22,13 +22,22 @@ abbrev pub IsOverLimit : Option Files → Option Bytes → Option Bytes → ℕ 
 IsOverLimit files reader None limit = IfSome reader (λ told. limit < length told)
 IsOverLimit files reader (Some name) limit = IfSome files (λ told. IsSomeAnd (told name) (λ bytes. limit < length bytes))
 
--- a shelf can't be read only where it has failed; a reader may fail unseen
-abbrev pub HasFailed : Option Bytes → Bool → Type 0
-HasFailed None failed = ⊤
-HasFailed (Some name) failed = failed ≡ true
+-- whether a shelf has failed, and whether a reader may have: of one that tells it, whether it has
+pub record Failures : Type 0 where
+  pub shelf : Bool
+  pub reader : Bool
+
+-- the failures with these two
+abbrev pub failures : Bool → Bool → Failures
+failures shelf reader = record { shelf = shelf; reader = reader }
+
+-- what has bytes under this name has failed: the shelf, or the reader where there is no name
+abbrev pub HasFailed : Option Bytes → Failures → Type 0
+HasFailed None failed = failed.reader ≡ true
+HasFailed (Some name) failed = failed.shelf ≡ true
 
 -- why an input was not read: its read failed, or it is over its limit, or memory was wanted to hold it
-abbrev pub IsUnread : Option Files → Option Bytes → Bool → Wanted → ReadFault → Type 0
+abbrev pub IsUnread : Option Files → Option Bytes → Failures → Wanted → ReadFault → Type 0
 IsUnread files reader failed wanted F1 = HasFailed wanted.name failed
 IsUnread files reader failed wanted F2 = IsOverLimit files reader wanted.name wanted.limit
 IsUnread files reader failed wanted Memory = ⊤
@@ -53,7 +62,7 @@ AreRead files reader (wanted ∷ more) [] = ⊥
 AreRead files reader (wanted ∷ more) (bytes ∷ rest) = IsRead files reader wanted bytes × AreRead files (left reader wanted.name) more rest
 
 -- the inputs before this one were read, and this one was not
-pub record IsFirstUnread (files : Option Files) (reader : Option Bytes) (failed : Bool) (all : List Wanted) (wanted : Wanted) (why : ReadFault) : Type 0 where
+pub record IsFirstUnread (files : Option Files) (reader : Option Bytes) (failed : Failures) (all : List Wanted) (wanted : Wanted) (why : ReadFault) : Type 0 where
   pub before : List Wanted
   pub behind : List Wanted
   pub order : all ≡ before ++ wanted ∷ behind

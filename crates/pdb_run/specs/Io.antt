@@ -43,14 +43,14 @@ pub record IsKept (name : Bytes) (file : Option Bytes) (old new : World) : Type 
 -- it was not, since the shelf has failed or memory was wanted; what the name has is open, and nothing else has changed
 pub record IsNotKept (name : Bytes) (old new : World) (why : KeepFault) : Type 0 where
   pub files : KeepsOthers old.files new.files name
-  pub has_failed : why ≡ keep.F3 → new.failed ≡ true
+  pub has_failed : why ≡ keep.F3 → new.failed.shelf ≡ true
   pub reader : new.reader ≡ old.reader
   pub written : new.written ≡ old.written
 
 -- nothing can be kept, since the shelf has failed or memory was wanted to try it; nothing else has changed
 pub record CanNotKeep (old new : World) (why : KeepFault) : Type 0 where
   pub files : new.files ≡ old.files
-  pub has_failed : why ≡ keep.F3 → new.failed ≡ true
+  pub has_failed : why ≡ keep.F3 → new.failed.shelf ≡ true
   pub reader : new.reader ≡ old.reader
   pub written : new.written ≡ old.written
 

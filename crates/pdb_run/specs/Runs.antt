@@ -1,29 +1,29 @@
 -- How a run of a command ends.
 use Rattle.std.specs.Prelude.{◌≡◌, ◌⊎◌, ⊤, ◌<◌, Bool, true, false, List, Option, Some, None, codes, length}
-use Rattle.std.specs.Io.KnownBytes.{Appends}
 use Rattle.byte_io.specs.Shelf.{Bytes, Files, KeepsOthers, told_with}
-use Rattle.byte_io.specs.Streams.{AppendsFront}
+use Rattle.byte_io.specs.Streams.{Output, WritesAll, WritesFront}
 use Rattle.byte_io.specs.declared.streams.ReadFault.{ReadFault}
 use Rattle.byte_io.specs.declared.streams.ReadFault.TheVariants as read
 use Rattle.byte_io.specs.declared.shelf.KeepFault.{KeepFault}
 use Rattle.byte_io.specs.declared.shelf.KeepFault.TheVariants as keep
 use Rattle.pdb_run.specs.Writing.{memory_line, named_line, reply_text, shown}
 use Rattle.pdb_run.specs.Commands.{Plan, Reply, Wanted}
-use Rattle.pdb_run.specs.Inputs.{AreRead, IsAsTold, IsFirstUnread, left_by_all}
+use Rattle.pdb_run.specs.Inputs.{AreRead, Failures, IsAsTold, IsFirstUnread, left_by_all}
 use Rattle.pdb_run.specs.declared.statuses.Status.{Status}
 use Rattle.pdb_run.specs.declared.statuses.Status.TheVariants.{Yes, Refused, Fault, NoMemory}
 
 -- ---- what a run meets and leaves
 
--- the files of its shelf and whether that has failed, what its reader has left, and what its writer got; each may be untold
+-- the files of its shelf, what its reader has left, whether these two have failed, and what its writer got and whether that has
+-- failed; each may be untold
 pub record World : Type 0 where
   pub files : Option Files
-  pub failed : Bool
+  pub failed : Failures
   pub reader : Option Bytes
-  pub written : Option Bytes
+  pub written : Output
 
 -- the world with these four
-abbrev pub world : Option Files → Bool → Option Bytes → Option Bytes → World
+abbrev pub world : Option Files → Failures → Option Bytes → Output → World
 world files failed reader written = record { files = files; failed = failed; reader = reader; written = written }
 
 -- ---- the one thing that a run does
@@ -84,11 +84,11 @@ IsRight plan old inputs reply = AreRead old.files old.reader plan.inputs inputs 
 
 -- a file is to be kept under this name, the inputs hold these bytes at the start, and the shelf has failed when it was tried, or
 -- memory was wanted to try it
-pub record IsUnwritable (plan : Plan) (old : World) (failed : Bool) (name : Bytes) (why : KeepFault) : Type 0 where
+pub record IsUnwritable (plan : Plan) (old : World) (failed : Failures) (name : Bytes) (why : KeepFault) : Type 0 where
   pub under : plan.keeps_under ≡ Some name
   pub inputs : List Bytes
   pub read : AreRead old.files old.reader plan.inputs inputs
-  pub has_failed : why ≡ keep.F3 → failed ≡ true
+  pub has_failed : why ≡ keep.F3 → failed.shelf ≡ true
 
 -- what was made is kept after a yes, and after nothing else
 abbrev pub kept_after : Bool → Option Bytes → Option Bytes
@@ -100,14 +100,14 @@ abbrev pub kept : Reply → Option Bytes
 kept reply = kept_after reply.is_yes reply.made
 
 -- a right reply has a file to keep under this name, and the shelf has failed, or memory was wanted to keep it
-pub record IsUnkept (plan : Plan) (old : World) (failed : Bool) (name : Bytes) (why : KeepFault) : Type 0 where
+pub record IsUnkept (plan : Plan) (old : World) (failed : Failures) (name : Bytes) (why : KeepFault) : Type 0 where
   pub under : plan.keeps_under ≡ Some name
   pub inputs : List Bytes
   pub reply : Reply
   pub right : IsRight plan old inputs reply
   pub file : Bytes
   pub is_kept : kept reply ≡ Some file
-  pub has_failed : why ≡ keep.F3 → failed ≡ true
+  pub has_failed : why ≡ keep.F3 → failed.shelf ≡ true
 
 -- memory was wanted to list the inputs, or by the check of those that were read
 abbrev pub WantsMemory : Plan → World → Type 0
@@ -115,7 +115,7 @@ WantsMemory plan old = (0 < length plan.inputs) ⊎ ((inputs : List Bytes) × Ar
 
 -- a reply is right, the input that was not read is the first, nothing could be kept or the file to keep was not, and memory was
 -- wanted
-abbrev pub HasCause : Plan → World → Bool → Outcome → Type 0
+abbrev pub HasCause : Plan → World → Failures → Outcome → Type 0
 HasCause plan old failed (replied inputs reply) = IsRight plan old inputs reply
 HasCause plan old failed (unread wanted why) = IsFirstUnread old.files old.reader failed plan.inputs wanted why
 HasCause plan old failed (unwritable name why) = IsUnwritable plan old failed name why
@@ -139,13 +139,13 @@ LeavesFiles plan old new (unwritable name why) = new ≡ old
 LeavesFiles plan old new (unkept name why) = KeepsOthers old new name
 LeavesFiles plan old new no_memory = new ≡ old
 
--- of a plan that keeps under a name the shelf's failure is as it was: a read that failed, or the trial of the name, or the keeping
+-- of a plan that keeps under a name the failures are as they were: a read that failed, or the trial of the name, or the keeping
 -- would be seen
-abbrev pub StaysCalm : Plan → Bool → Bool → Type 0
+abbrev pub StaysCalm : Plan → Failures → Failures → Type 0
 StaysCalm plan old new = (name : Bytes) → plan.keeps_under ≡ Some name → new ≡ old
 
 -- so it is after a reply; any other outcome may leave it failed
-abbrev pub LeavesFailure : Plan → Bool → Bool → Outcome → Type 0
+abbrev pub LeavesFailure : Plan → Failures → Failures → Outcome → Type 0
 LeavesFailure plan old new (replied inputs reply) = StaysCalm plan old new
 LeavesFailure plan old new (unread wanted why) = ⊤
 LeavesFailure plan old new (unwritable name why) = ⊤
@@ -161,13 +161,13 @@ LeavesReader plan old new (unwritable name why) = IsAsTold (left_by_all old plan
 LeavesReader plan old new (unkept name why) = IsAsTold (left_by_all old plan.inputs) new
 LeavesReader plan old new no_memory = ⊤
 
--- the text was written whole, or the writer failed with at least one byte of it left to write
-abbrev pub Says : Bytes → Status → Option Bytes → Option Bytes → Status → Type 0
-Says text with_text old new status = (Appends old new text × (status ≡ with_text)) ⊎ (AppendsFront old new text × (status ≡ Fault))
+-- the text was written whole, and no write failed; or a write failed with at least one byte of it left to write
+abbrev pub Says : Bytes → Status → Output → Output → Status → Type 0
+Says text with_text old new status = (WritesAll old new text × (status ≡ with_text)) ⊎ (WritesFront old new text × (status ≡ Fault))
 
 -- ---- how it ends
 
--- it does one thing that it has cause to do, leaves the files, the shelf's failure and the reader as that does, and says it
+-- it does one thing that it has cause to do, leaves the files, the failures and the reader as that does, and says it
 pub record Ends (plan : Plan) (old new : World) (status : Status) : Type 0 where
   pub outcome : Outcome
   pub cause : HasCause plan old new.failed outcome
@@ -178,8 +178,8 @@ pub record Ends (plan : Plan) (old new : World) (status : Status) : Type 0 where
 
 -- ---- what follows for a yes or a no
 
--- the writer got exactly the lines of a right reply on the inputs at the start, of the files only the kept one changed, where one
--- was to be kept no trial of its name had failed, and the reader has what the inputs left
+-- the writer got exactly the lines of a right reply on the inputs at the start, and no write failed; of the files only the kept one
+-- changed, where one was to be kept no trial of its name had failed, and the reader has what the inputs left
 pub record IsAnswered (plan : Plan) (old new : World) (status : Status) : Type 0 where
   pub inputs : List Bytes
   pub reply : Reply
@@ -187,5 +187,5 @@ pub record IsAnswered (plan : Plan) (old new : World) (status : Status) : Type 0
   pub files : new.files ≡ with_kept old.files plan.keeps_under (kept reply)
   pub failure : StaysCalm plan old.failed new.failed
   pub reader : IsAsTold (left_by_all old.reader plan.inputs) new.reader
-  pub lines : Appends old.written new.written (reply_text reply)
+  pub lines : WritesAll old.written new.written (reply_text reply)
   pub is_status : status ≡ status_of_reply reply.is_yes

@@ -2,7 +2,7 @@
 
 ghost use Rattle.std.specs.Prelude.{◌≡◌, None, Some, map, IfErr, IfOk, OnOk};
 ghost use Rattle.pdb_run.specs.Answers.{answer_text};
-ghost use Rattle.pdb_run.specs.Inputs.{wanted_of};
+ghost use Rattle.pdb_run.specs.Inputs.{failures, wanted_of};
 ghost use Rattle.pdb_run.specs.Io.{CanNotKeep, IsKept, IsLoaded, IsNotKept, IsNotLoaded, IsWritten, Streams};
 ghost use Rattle.pdb_run.specs.Runs.{World};
 ghost use Rattle.pdb_run.specs.Writing.{named_line, shown_byte};
@@ -11,13 +11,14 @@ use crate::answers::Answer;
 use crate::commands::Input;
 use crate::writing::{put_named, say};
 use byte_io::shelf::{KeepFault, Shelf};
+use byte_io::sinks::Sink;
+use byte_io::sources::Source;
 use byte_io::streams::{ReadFault, WriteFault, put_text, read_all};
 use std::alloc::Global;
-use std::io::{Read, Write};
 
 /// The shelf, the reader and the output of a run.
 pub trait Io {
-    /// Their files and bytes, as far as they tell them.
+    /// Their files and bytes, and whether they have failed, as far as they tell that.
     ghost world: { Self → World };
 
     /// Which ones they are. No call changes that.
@@ -70,12 +71,12 @@ pub struct BorrowedIo<'s, 'r, 'o, S, R, W> {
     pub out: &'o mut W,
 }
 
-impl<S: Shelf, R: Read, W: Write> Io for BorrowedIo<'_, '_, '_, S, R, W> {
+impl<S: Shelf, R: Source, W: Sink> Io for BorrowedIo<'_, '_, '_, S, R, W> {
     ghost world = { λ io. record {
       files = S.held io.shelf.now;
-      failed = S.has_failed io.shelf.now;
+      failed = failures (S.has_failed io.shelf.now) (R.may_have_failed io.reader.now);
       reader = R.remaining io.reader.now;
-      written = W.contents io.out.now;
+      written = W.output io.out.now;
     } };
 
     ghost streams = { λ io. record {

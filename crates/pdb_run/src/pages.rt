@@ -7,8 +7,8 @@ ghost use Rattle.pdb_run.specs.Pages.{Adds, Finishes, Gathered};
 use crate::answers::LINES_LEN;
 use crate::digests::{DIGEST_LEN, DIGESTS_LEN, digest_line};
 use arrayvec::ArrayVec;
+use byte_io::sinks::Sink;
 use byte_io::streams::{WriteFault, put_bytes};
-use std::io::Write;
 
 /// How many bytes a page holds.
 const PAGE_LEN: usize = 4_096;
@@ -23,11 +23,11 @@ pub(crate) struct Page<'o, W> {
     out: &'o mut W,
 }
 
-impl<'o, W: Write> Page<'o, W> {
+impl<'o, W: Sink> Page<'o, W> {
     /// An empty page for a writer.
     pub(crate) fn on(out: &'o mut W) -> Page<'o, W>
         ensures same_out { result.out.ghost_name ≡ out.entry.ghost_name }
-        ensures empty { Gathered W.contents (W.contents out.old) result [] }
+        ensures empty { Gathered W.output (W.output out.old) result [] }
     {
         Page {
             text: ArrayVec::new(),
@@ -38,7 +38,7 @@ impl<'o, W: Write> Page<'o, W> {
     /// Writes what stands on the page, which is empty then.
     pub(crate) fn write(&mut self) -> Result<(), WriteFault>
         ensures same_out { self.new.out.ghost_name ≡ self.old.out.ghost_name }
-        ensures finished { Finishes W.contents self.old self.new result }
+        ensures finished { Finishes W.output self.old self.new result }
         ensures emptied { self.new.text.items ≡ [] }
     {
         let written = put_bytes(self.out, self.text.as_slice());
@@ -49,7 +49,7 @@ impl<'o, W: Write> Page<'o, W> {
     /// Adds a byte. Where the page is full, that is written first.
     fn add_byte(&mut self, byte: u8) -> Result<(), WriteFault>
         ensures same_out { self.new.out.ghost_name ≡ self.old.out.ghost_name }
-        ensures added { Adds W.contents self.old self.new (byte ∷ []) result }
+        ensures added { Adds W.output self.old self.new (byte ∷ []) result }
     {
         if self.text.try_push(byte).is_ok() {
             return Ok(());
@@ -63,7 +63,7 @@ impl<'o, W: Write> Page<'o, W> {
     #[tactic(auto, using(crate::proofs::PageLemmas::byte_steps))]
     pub(crate) fn add(&mut self, bytes: &[u8]) -> Result<(), WriteFault>
         ensures same_out { self.new.out.ghost_name ≡ self.old.out.ghost_name }
-        ensures added { Adds W.contents self.old self.new bytes.now result }
+        ensures added { Adds W.output self.old self.new bytes.now result }
     {
         for byte in bytes {
             self.add_byte(*byte)?;
@@ -74,7 +74,7 @@ impl<'o, W: Write> Page<'o, W> {
     /// Adds a text.
     pub(crate) fn add_text(&mut self, text: &str) -> Result<(), WriteFault>
         ensures same_out { self.new.out.ghost_name ≡ self.old.out.ghost_name }
-        ensures added { Adds W.contents self.old self.new text.now result }
+        ensures added { Adds W.output self.old self.new text.now result }
     {
         self.add(text.as_bytes())
     }
@@ -83,7 +83,7 @@ impl<'o, W: Write> Page<'o, W> {
     #[tactic(auto, using(crate::proofs::PageLemmas::byte_steps))]
     pub(crate) fn add_name(&mut self, name: &str) -> Result<(), WriteFault>
         ensures same_out { self.new.out.ghost_name ≡ self.old.out.ghost_name }
-        ensures added { Adds W.contents self.old self.new (map shown_byte name.now) result }
+        ensures added { Adds W.output self.old self.new (map shown_byte name.now) result }
     {
         for byte in name.as_bytes() {
             self.add_byte(shown_byte(*byte))?;
@@ -100,7 +100,7 @@ impl<'o, W: Write> Page<'o, W> {
     ) -> Result<(), WriteFault>
         ensures same_out { self.new.out.ghost_name ≡ self.old.out.ghost_name }
         ensures added { let digests = digests_of (all_files files.now last.entry) in
-            Adds W.contents self.old self.new digests result }
+            Adds W.output self.old self.new digests result }
     {
         self.add_files(files)?;
         self.add_digest(last)
@@ -111,7 +111,7 @@ impl<'o, W: Write> Page<'o, W> {
     fn add_files(&mut self, files: &[Vec<u8>]) -> Result<(), WriteFault>
         ensures same_out { self.new.out.ghost_name ≡ self.old.out.ghost_name }
         ensures added { let digests = digests_of (all_bytes files.now) in
-            Adds W.contents self.old self.new digests result }
+            Adds W.output self.old self.new digests result }
     {
         for file in files {
             self.add(&digest_line(file.as_slice()))?;
@@ -123,7 +123,7 @@ impl<'o, W: Write> Page<'o, W> {
     pub(crate) fn add_digest(&mut self, file: Option<&[u8]>) -> Result<(), WriteFault>
         ensures same_out { self.new.out.ghost_name ≡ self.old.out.ghost_name }
         ensures added { let digest = digests_of (list_of (option_map (λ f. f.now) file.entry)) in
-            Adds W.contents self.old self.new digest result }
+            Adds W.output self.old self.new digest result }
     {
         match file {
             Some(file) => self.add(&digest_line(file)),

@@ -8,13 +8,13 @@ ghost use Rattle.pdb_run.specs.Writing.{all_files, digests_of, list_of, named_li
 
 use crate::answers::{Answer, Digested};
 use crate::pages::Page;
+use byte_io::sinks::Sink;
 use byte_io::streams::WriteFault;
-use std::io::Write;
 
 /// Writes an answer: the digests, and then its lines. It is one write, where the writer takes all and a page holds all.
 #[tactic(auto, using(crate::proofs::PageLemmas::gathers_three))]
-pub fn say<W: Write>(answer: &Answer<'_>, out: &mut W) -> Result<(), WriteFault>
-    ensures { Writes (W.contents out.old) (W.contents out.new) (answer_text answer.now) result }
+pub fn say<W: Sink>(answer: &Answer<'_>, out: &mut W) -> Result<(), WriteFault>
+    ensures { Writes (W.output out.old) (W.output out.new) (answer_text answer.now) result }
 {
     let mut page = Page::on(out);
     add_digests(&mut page, answer)?;
@@ -24,9 +24,9 @@ pub fn say<W: Write>(answer: &Answer<'_>, out: &mut W) -> Result<(), WriteFault>
 }
 
 /// Adds the digests to a page: the lines that are made already, or else those of the files.
-fn add_digests<W: Write>(page: &mut Page<'_, W>, answer: &Answer<'_>) -> Result<(), WriteFault>
+fn add_digests<W: Sink>(page: &mut Page<'_, W>, answer: &Answer<'_>) -> Result<(), WriteFault>
     ensures same_out { page.new.out.ghost_name ≡ page.old.out.ghost_name }
-    ensures added { Adds W.contents page.old page.new (digest_lines answer.now.digested) result }
+    ensures added { Adds W.output page.old page.new (digest_lines answer.now.digested) result }
 {
     match &answer.digested {
         Digested::Files(files, last) => page.add_digests(files, *last),
@@ -36,10 +36,10 @@ fn add_digests<W: Write>(page: &mut Page<'_, W>, answer: &Answer<'_>) -> Result<
 
 /// Adds the digest of the file that was made to a page, where there is one: the line that is made already, or else that of the
 /// file.
-fn add_made_digest<W: Write>(page: &mut Page<'_, W>, answer: &Answer<'_>) -> Result<(), WriteFault>
+fn add_made_digest<W: Sink>(page: &mut Page<'_, W>, answer: &Answer<'_>) -> Result<(), WriteFault>
     ensures same_out { page.new.out.ghost_name ≡ page.old.out.ghost_name }
     ensures added { let digest = digests_of (list_of (made_file answer.now)) in
-        Adds W.contents page.old page.new digest result }
+        Adds W.output page.old page.new digest result }
 {
     match &answer.made_digest {
         Some(digest) => page.add(digest.as_slice()),
@@ -48,13 +48,13 @@ fn add_made_digest<W: Write>(page: &mut Page<'_, W>, answer: &Answer<'_>) -> Res
 }
 
 /// Writes the digest line of each file, and of the last one, where there is one.
-pub fn say_digests<W: Write>(
+pub fn say_digests<W: Sink>(
     files: &[Vec<u8>],
     last: Option<&[u8]>,
     out: &mut W,
 ) -> Result<(), WriteFault>
     ensures { let digests = digests_of (all_files files.now last.entry) in
-        Writes (W.contents out.old) (W.contents out.new) digests result }
+        Writes (W.output out.old) (W.output out.new) digests result }
 {
     let mut page = Page::on(out);
     page.add_digests(files, last)?;
@@ -63,9 +63,9 @@ pub fn say_digests<W: Write>(
 
 /// Writes a text, a name as a line shows it, and the line's end.
 #[tactic(auto, using(crate::proofs::PageLemmas::gathers_three))]
-pub(crate) fn put_named<W: Write>(text: &str, name: &str, out: &mut W) -> Result<(), WriteFault>
+pub(crate) fn put_named<W: Sink>(text: &str, name: &str, out: &mut W) -> Result<(), WriteFault>
     ensures { let line = named_line text.now (map shown_byte name.now) in
-        Writes (W.contents out.old) (W.contents out.new) line result }
+        Writes (W.output out.old) (W.output out.new) line result }
 {
     let mut page = Page::on(out);
     page.add_text(text)?;

@@ -13,7 +13,7 @@ use Rattle.log_check.proofs.GoodLemmas.{good_log_bounds}
 use Rattle.log_check.proofs.AnswerLemmas.{check_answer, good_or_fault, one_bound, one_fault}
 use Rattle.byte_io.specs.Shelf.{Bytes}
 use Rattle.pdb_verdict.specs.Bound.{IsBoundFor, IsProvedBound}
-use Rattle.pdb_verdict.specs.Bundles.{IsBundleOfFiles, IsCauseForBundle, parts_for}
+use Rattle.pdb_verdict.specs.FileBundles.{IsBundleOfFiles, IsCauseForBundle, parts_for}
 use Rattle.pdb_verdict.specs.Steps.{IsFoundFor, IsFoundOver, of_bundle, of_log}
 use Rattle.pdb_verdict.specs.declared.refusals.BundleRefusal.{BundleRefusal}
 use Rattle.pdb_verdict.specs.declared.refusals.Failure.{Failure}

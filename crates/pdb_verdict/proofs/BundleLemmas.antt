@@ -12,7 +12,7 @@ use Rattle.tab_rule.proofs.OneResultLemmas.{IsTableFaultOf-one, exact_one, exact
 use Rattle.set_sum.specs.Bundles.{ShownBundle}
 use Rattle.set_sum.specs.Parts.{IsExactPart}
 use Rattle.byte_io.specs.Shelf.{Bytes}
-use Rattle.pdb_verdict.specs.Bundles.{AreExactFiles, IsBundleOfFiles, IsFirstRefused, TakesMemoryForTables, part_for, parts_for}
+use Rattle.pdb_verdict.specs.FileBundles.{AreExactFiles, IsBundleOfFiles, IsFirstRefused, TakesMemoryForTables, part_for, parts_for}
 use Rattle.pdb_verdict.specs.declared.refusals.FileRefusal.{FileRefusal}
 use Rattle.pdb_verdict.proofs.RefusalLemmas.{IsOne, one_result}
 

@@ -5,7 +5,7 @@ use Rattle.puz_board.specs.BoardTexts.{Spells, board_of_text}
 use Rattle.puz_board.specs.PuzzleTexts.{puzzle_parts}
 use Rattle.puz_board.proofs.SpellingLemmas.{board_of_text-spelled, spelled-board_of_text}
 use Rattle.pdb_verdict.specs.Bound.{IsBoundFor, IsBoundResult, IsFoundForText, TakesMemoryForBound}
-use Rattle.pdb_verdict.specs.Bundles.{TakesMemoryForTables}
+use Rattle.pdb_verdict.specs.FileBundles.{TakesMemoryForTables}
 use Rattle.pdb_verdict.specs.Inputs.{LogFiles, log_claim}
 use Rattle.pdb_verdict.specs.Optimal.{IsFoundForPuzzle, IsLeastCount, IsOptimumResult, TakesMemoryForOptimum}
 use Rattle.pdb_verdict.specs.Refusals.{IsFoundBy, fault_of_bound, fault_of_optimum}

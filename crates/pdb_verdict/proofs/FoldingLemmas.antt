@@ -7,7 +7,7 @@ use Rattle.set_sum.specs.declared.parts.Part.{Part}
 use Rattle.byte_io.specs.Shelf.{Bytes}
 use Rattle.pdb_run.specs.Answers.{all_bytes}
 use Rattle.pdb_run.specs.Writing.{digest_line, digests_of}
-use Rattle.pdb_verdict.specs.Bundles.{AreExactFiles, part_for}
+use Rattle.pdb_verdict.specs.FileBundles.{AreExactFiles, part_for}
 use Rattle.pdb_verdict.specs.Steps.{ArePartsOf, HasOneMore, IsCauseAt, IsCauseForTables, IsPartOf}
 use Rattle.pdb_verdict.specs.declared.refusals.Failure.{Failure}
 use Rattle.pdb_verdict.specs.declared.refusals.FileRefusal.{FileRefusal}

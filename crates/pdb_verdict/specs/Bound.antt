@@ -7,7 +7,7 @@ use Rattle.log_check.specs.GoodLogs.{IsGoodFile}
 use Rattle.log_check.specs.LogFaults.{IsLogRefusalOf}
 use Rattle.log_check.specs.declared.faults.LogRefusal.{LogRefusal}
 use Rattle.byte_io.specs.Shelf.{Bytes}
-use Rattle.pdb_verdict.specs.Bundles.{AreRefused, IsBundleOfFiles, TakesMemoryForTables}
+use Rattle.pdb_verdict.specs.FileBundles.{AreRefused, IsBundleOfFiles, TakesMemoryForTables}
 use Rattle.pdb_verdict.specs.Inputs.{LogFiles}
 use Rattle.pdb_verdict.specs.declared.refusals.BoundRefusal.{BoundRefusal}
 use Rattle.pdb_verdict.specs.declared.refusals.BoundRefusal.TheVariants.{Board, Proof}

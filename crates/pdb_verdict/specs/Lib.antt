@@ -1,6 +1,6 @@
 -- What public contracts say.
 pub mod Bound
-pub mod Bundles
+pub mod FileBundles
 pub mod Inputs
 pub mod Laws
 pub mod Limits

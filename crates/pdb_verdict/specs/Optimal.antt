@@ -4,7 +4,7 @@ use Rattle.puz_board.specs.Paths.{IsSolution}
 use Rattle.set_sum.specs.Bounds.{IsBounded}
 use Rattle.byte_io.specs.Shelf.{Bytes}
 use Rattle.pdb_verdict.specs.Bound.{IsBoundFor}
-use Rattle.pdb_verdict.specs.Bundles.{TakesMemoryForTables}
+use Rattle.pdb_verdict.specs.FileBundles.{TakesMemoryForTables}
 use Rattle.pdb_verdict.specs.Inputs.{LogFiles}
 use Rattle.pdb_verdict.specs.Replay.{IsReplayResult, IsSolvedPuzzle}
 use Rattle.pdb_verdict.specs.declared.refusals.OptimumRefusal.{OptimumRefusal}

@@ -19,7 +19,7 @@ use Rattle.pdb_request.specs.declared.requests.Claim.{Claim}
 use Rattle.pdb_request.specs.declared.requests.Claim.TheVariants.{Bound, Optimum}
 use Rattle.pdb_run.specs.Answers.{all_bytes}
 use Rattle.pdb_verdict.specs.Bound.{IsBoundFor}
-use Rattle.pdb_verdict.specs.Bundles.{AreExactFiles, IsFirstRefused, TakesMemoryForTables, part_for, parts_for}
+use Rattle.pdb_verdict.specs.FileBundles.{AreExactFiles, IsFirstRefused, TakesMemoryForTables, part_for, parts_for}
 use Rattle.pdb_verdict.specs.Inputs.{LogFiles, log_files}
 use Rattle.pdb_verdict.specs.Refusals.{IsCauseBy, IsFoundBy, fault_of_bound, fault_of_optimum, or_memory, told_as}
 use Rattle.pdb_verdict.specs.Replay.{solved_parts}

@@ -6,7 +6,7 @@ ghost use Rattle.tab_rule.specs.TableFaults.{IsTableCauseOf};
 ghost use Rattle.set_sum.specs.declared.parts.Part.TheVariants.{Folded};
 ghost use Rattle.byte_io.specs.Shelf.{Bytes};
 ghost use Rattle.pdb_run.specs.Answers.{all_bytes};
-ghost use Rattle.pdb_verdict.specs.Bundles.{IsBundleOfFiles, IsCauseForBundle};
+ghost use Rattle.pdb_verdict.specs.FileBundles.{IsBundleOfFiles, IsCauseForBundle};
 ghost use Rattle.pdb_verdict.specs.Steps.{ArePartsOf, IsCauseAt, IsCauseForTables, IsPartOf, of_bundle};
 
 use crate::refusals::{BundleRefusal, Failure, FileRefusal, ProofRefusal};

@@ -3,7 +3,7 @@
 
 ghost use Rattle.std.specs.Prelude.{◌≡◌, Bool, List, ℕ};
 ghost use Rattle.pdb_verdict.specs.Bound.{IsBoundResult, TakesMemoryForBound};
-ghost use Rattle.pdb_verdict.specs.Bundles.{IsBundleOfFiles};
+ghost use Rattle.pdb_verdict.specs.FileBundles.{IsBundleOfFiles};
 ghost use Rattle.pdb_verdict.specs.Inputs.{log_files};
 ghost use Rattle.pdb_verdict.specs.Optimal.{IsOptimumResult, TakesMemoryForOptimum};
 ghost use Rattle.pdb_verdict.specs.Refusals.{IsFoundBy, fault_of_bound, fault_of_optimum, told_as};

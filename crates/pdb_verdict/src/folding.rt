@@ -5,7 +5,7 @@ ghost use Rattle.tab_rule.specs.TableFaults.{IsTableCauseOf};
 ghost use Rattle.set_sum.specs.declared.parts.Part.TheVariants.{Folded};
 ghost use Rattle.pdb_run.specs.Answers.{all_bytes};
 ghost use Rattle.pdb_run.specs.Writing.{digest_line, digests_of};
-ghost use Rattle.pdb_verdict.specs.Bundles.{IsBundleOfFiles, IsCauseForBundle};
+ghost use Rattle.pdb_verdict.specs.FileBundles.{IsBundleOfFiles, IsCauseForBundle};
 ghost use Rattle.pdb_verdict.specs.Steps.{ArePartsOf, HasOneMore, IsCauseAt, IsCauseForTables, IsPartOf};
 
 use crate::bundles::{bundle_of, failure_at, fold_file};

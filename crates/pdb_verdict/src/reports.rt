@@ -13,11 +13,11 @@ use crate::inputs::Inputs;
 use crate::lines::line_of;
 use crate::refusals::{Failure, settled};
 use crate::verdicts::{Fault, Verdict};
+use byte_io::sinks::Sink;
 use byte_io::streams::{WriteFault, put_text};
 use pdb_run::{Answer, Digested, Digests, FILES_BESIDE, beside, say, say_digests};
 use set_sum::MOST_TABLES;
 use std::alloc::AllocError;
-use std::io::Write;
 use std::sync::Wait;
 use std::thread::Threads;
 use work_run::{Gate, Workers};
@@ -26,13 +26,13 @@ use work_run::{Gate, Workers};
 const _: () = prove!(FILES_BESIDE == MOST_TABLES);
 
 /// Writes all lines on the inputs: the digests and then the answer's line, which stands alone for want of memory.
-pub fn report<W: Write>(
+pub fn report<W: Sink>(
     inputs: &Inputs<'_>,
     answer: &Result<Verdict, Fault>,
     out: &mut W,
 ) -> Result<(), WriteFault>
     ensures { let lines = lines_of (given inputs.now) answer.now in
-        Writes (W.contents out.old) (W.contents out.new) lines result }
+        Writes (W.output out.old) (W.output out.new) lines result }
 {
     if stands_alone(answer) {
         return line(answer, out);
@@ -41,17 +41,17 @@ pub fn report<W: Write>(
 }
 
 /// Writes the digest line of each file that is checked.
-pub fn digests<W: Write>(inputs: &Inputs<'_>, out: &mut W) -> Result<(), WriteFault>
+pub fn digests<W: Sink>(inputs: &Inputs<'_>, out: &mut W) -> Result<(), WriteFault>
     ensures { let lines = digests_of (digested_of (given inputs.now)) in
-        Writes (W.contents out.old) (W.contents out.new) lines result }
+        Writes (W.output out.old) (W.output out.new) lines result }
 {
     let (files, last) = checked_files(inputs);
     say_digests(files, last, out)
 }
 
 /// Writes the line of a verdict, a refusal or want of memory.
-pub fn line<W: Write>(answer: &Result<Verdict, Fault>, out: &mut W) -> Result<(), WriteFault>
-    ensures { Writes (W.contents out.old) (W.contents out.new) (line_of answer.now) result }
+pub fn line<W: Sink>(answer: &Result<Verdict, Fault>, out: &mut W) -> Result<(), WriteFault>
+    ensures { Writes (W.output out.old) (W.output out.new) (line_of answer.now) result }
 {
     put_text(out, line_of(answer).as_str())
 }

@@ -2,6 +2,7 @@
 
 use crate::runs::{owned, ran};
 use byte_io::memory::MemShelf;
+use byte_io::watched::Watched;
 use pdb_program::run;
 use sample_streams::{Failing, SampleReader, SampleWriter};
 use samples::files::{TILE_1, TILES_123};
@@ -26,7 +27,9 @@ fn a_read_that_fails_is_a_fault_alone(rt: HostRuntime) -> Result<(), Fail> {
         let mut reader = SampleReader::new(SOLVED)
             .failing(call, call + 1, io::ErrorKind::Other)
             .byte_by_byte_from(0);
-        ran(&rt, alloc, &[], &mut shelf, &mut reader)?.expect(b"fault read -\n", 2)?;
+        let mut watched = Watched::new(&mut reader);
+        ran(&rt, alloc, &[], &mut shelf, &mut watched)?.expect(b"fault read -\n", 2)?;
+        assert!(rt; watched.has_failed(), "read {call}");
     }
     Ok(())
 }
@@ -36,8 +39,10 @@ fn bytes_read_one_by_one_are_read_whole(rt: HostRuntime) -> Result<(), Fail> {
     let alloc = rt.alloc();
     let mut shelf = MemShelf::of(alloc, &[])?;
     let mut reader = SampleReader::new(SOLVED).byte_by_byte_from(0);
-    ran(&rt, alloc, &[], &mut shelf, &mut reader)?.expect(b"solution 6\n", 0)?;
-    assert_eq!(rt; reader.calls(), SOLVED.len() as u64 + 1);
+    let mut watched = Watched::new(&mut reader);
+    ran(&rt, alloc, &[], &mut shelf, &mut watched)?.expect(b"solution 6\n", 0)?;
+    assert!(rt; !watched.has_failed());
+    assert_eq!(rt; watched.calls(), SOLVED.len() as u64 + 1);
     Ok(())
 }
 
@@ -63,14 +68,23 @@ const FILES: [(&str, &[u8]); 6] = [
     ("log", &LEAF),
 ];
 
+/// What a run left: its status, whether a write failed, and the files.
+#[derive(Drop)]
+struct Left {
+    status: u8,
+    write_failed: bool,
+    files: MemShelf,
+}
+
 /// A run on a shelf with these files, over this output.
 fn ran_over<H: Threads + Wait + Sync>(
     rt: &H,
     alloc: Global,
     words: &[&str],
     out: &mut SampleWriter,
-) -> Result<(u8, MemShelf), Fail> {
+) -> Result<Left, Fail> {
     let mut shelf = MemShelf::of(alloc, &FILES)?;
+    let mut out = Watched::new(out);
     let mut reader = SOLVED;
     let mut err = Vec::new(alloc);
     let words = owned(alloc, words)?;
@@ -81,12 +95,16 @@ fn ran_over<H: Threads + Wait + Sync>(
         words,
         &mut shelf,
         &mut reader,
-        out,
+        &mut out,
         &mut err,
         &gate,
     );
     if err.is_empty() {
-        Ok((status, shelf))
+        Ok(Left {
+            status,
+            write_failed: out.has_failed(),
+            files: shelf,
+        })
     } else {
         Err(Fail::new("written on the errors"))
     }
@@ -137,14 +155,15 @@ fn a_write_that_fails_leaves_a_front_of_the_lines(rt: HostRuntime) -> Result<(),
         for how in [BY_ERROR, Failing::ByTakingNothing] {
             for fails_from in 0..lines.len() {
                 let mut out = failing_from(alloc, fails_from, how);
-                let (ended, shelf) = ran_over(&rt, alloc, words, &mut out)?;
+                let left = ran_over(&rt, alloc, words, &mut out)?;
                 assert!(rt;
-                    ended == 2 && out.taken() == &lines[..fails_from],
+                    left.status == 2 && out.taken() == &lines[..fails_from],
                     "write {fails_from}"
                 );
+                assert!(rt; left.write_failed, "write {fails_from}");
                 assert_eq!(rt; out.calls(), fails_from as u64 + 1);
                 // What was made stays, since it is kept before any line is written.
-                assert!(rt; shelf.get("made") == made_by(words, status));
+                assert!(rt; left.files.get("made") == made_by(words, status));
             }
         }
     }
@@ -156,8 +175,10 @@ fn lines_that_are_taken_byte_by_byte_are_the_same(rt: HostRuntime) -> Result<(),
     let alloc = rt.alloc();
     for (words, lines, want) in CASES {
         let mut out = SampleWriter::new(alloc).byte_by_byte_from(0);
-        let (status, _shelf) = ran_over(&rt, alloc, words, &mut out)?;
+        let left = ran_over(&rt, alloc, words, &mut out)?;
+        let status = left.status;
         assert!(rt; status == want && out.taken() == lines, "status {status}");
+        assert!(rt; !left.write_failed, "status {status}");
         assert_eq!(rt; out.calls(), lines.len() as u64);
     }
     Ok(())
@@ -167,10 +188,14 @@ fn lines_that_are_taken_byte_by_byte_are_the_same(rt: HostRuntime) -> Result<(),
 fn help_that_cannot_be_written_is_a_fault(rt: HostRuntime) -> Result<(), Fail> {
     let alloc = rt.alloc();
     let mut whole = SampleWriter::new(alloc).failing(1, u64::MAX, BY_ERROR);
-    assert_eq!(rt; ran_over(&rt, alloc, &["help", "table"], &mut whole)?.0, 0);
+    assert_eq!(rt;
+        ran_over(&rt, alloc, &["help", "table"], &mut whole)?.status,
+        0
+    );
     for fails_from in [0, 1, 100] {
         let mut out = failing_from(alloc, fails_from, BY_ERROR);
-        assert_eq!(rt; ran_over(&rt, alloc, &["help", "table"], &mut out)?.0, 2);
+        let left = ran_over(&rt, alloc, &["help", "table"], &mut out)?;
+        assert!(rt; left.status == 2 && left.write_failed, "write {fails_from}");
         assert!(rt;
             out.taken().len() == fails_from && whole.taken().starts_with(out.taken()),
             "write {fails_from}"
@@ -184,12 +209,14 @@ fn all_that_a_run_says_is_one_write(rt: HostRuntime) -> Result<(), Fail> {
     let alloc = rt.alloc();
     for (words, lines, want) in CASES {
         let mut out = SampleWriter::new(alloc);
-        let (status, _shelf) = ran_over(&rt, alloc, words, &mut out)?;
+        let left = ran_over(&rt, alloc, words, &mut out)?;
+        let status = left.status;
         assert!(rt; status == want && out.taken() == lines, "status {status}");
+        assert!(rt; !left.write_failed, "status {status}");
         assert_eq!(rt; out.calls(), 1);
     }
     let mut help = SampleWriter::new(alloc);
-    let (status, _shelf) = ran_over(&rt, alloc, &["--help"], &mut help)?;
-    assert!(rt; status == 0 && help.calls() == 1 && help.taken().ends_with(b"\n"));
+    let left = ran_over(&rt, alloc, &["--help"], &mut help)?;
+    assert!(rt; left.status == 0 && help.calls() == 1 && help.taken().ends_with(b"\n"));
     Ok(())
 }

@@ -2,9 +2,9 @@
 
 use byte_io::memory::MemShelf;
 use byte_io::shelf::Shelf;
+use byte_io::sources::Source;
 use pdb_program::{Host, run};
 use std::alloc::{AllocError, Global};
-use std::io::Read;
 use std::sync::Wait;
 use std::test::Fail;
 use std::thread::Threads;
@@ -75,7 +75,7 @@ pub fn owned(alloc: Global, words: &[&str]) -> Result<Vec<String>, AllocError> {
 }
 
 /// A run of these words on a host, over a shelf and a reader.
-pub fn ran_by<H: Threads + Wait + Sync, S: Shelf, R: Read, G: Gate + Sync>(
+pub fn ran_by<H: Threads + Wait + Sync, S: Shelf, R: Source, G: Gate + Sync>(
     host: &Host<'_, H, G>,
     words: &[&str],
     shelf: &mut S,
@@ -90,7 +90,7 @@ pub fn ran_by<H: Threads + Wait + Sync, S: Shelf, R: Read, G: Gate + Sync>(
 }
 
 /// A run of these words over a shelf and a reader.
-pub fn ran<H: Threads + Wait + Sync, S: Shelf, R: Read>(
+pub fn ran<H: Threads + Wait + Sync, S: Shelf, R: Source>(
     rt: &H,
     alloc: Global,
     words: &[&str],

@@ -1,12 +1,12 @@
 use Rattle.std.proofs.Common.{◌≡◌, ◌≤◌, ◌+◌, ◌-◌, length, take}
-use Rattle.std.specs.Io.KnownBytes.{Appends}
+use Rattle.byte_io.specs.Streams.{WritesAll}
 use Rattle.byte_io.proofs.streams.put_watched.Given as goal
 
 -- the bytes up to `done` were appended, by at most one write a byte, none of which failed
 abbrev pub invariant-loop-done : goal.invariant-loop-done
 invariant-loop-done g l =
     (l.done ≤ length l.bytes)
-    × Appends (g.W.Write.contents l.fn.out.stream.now) (g.W.Write.contents l.out.stream.now) (take l.done l.bytes)
+    × WritesAll (g.W.Sink.output l.fn.out.stream.now) (g.W.Sink.output l.out.stream.now) (take l.done l.bytes)
     × (l.out.calls ≤ l.fn.out.calls + l.done)
     × (l.out.has_failed ≡ l.fn.out.has_failed)
     × (l.out.stream.ghost_name ≡ l.fn.out.stream.ghost_name)

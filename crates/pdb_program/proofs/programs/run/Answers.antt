@@ -2,8 +2,8 @@ use Rattle.std.proofs.Common.{◌≡◌, ◌∙◌, ap, rules, sym}
 use Rattle.pdb_program.proofs.programs.run.Goals as goal
 
 pub returns-clause-headline : goal.returns-clause-headline
-returns-clause-headline g c = λ before after input start lines parses had has left stood wrote.
+returns-clause-headline g c = λ before later input start lines parses had has left stood wrote.
     let shelf : c.shelf-1.given.0 ≡ c.run_on.new.io.shelf.now = search rules in
     let out : c.out-1.given.0 ≡ c.run_on.new.io.out.now = search rules in
-    c.run_on.ensures.headline before after input start lines parses had
-    (ap g.S.Shelf.held (sym shelf) ∙ has) left stood (ap g.W.Write.contents (sym out) ∙ wrote)
+    c.run_on.ensures.headline before later input start lines parses had
+    (ap g.S.Shelf.held (sym shelf) ∙ has) left stood (ap (λ w. (g.W.Sink.output w).bytes) (sym out) ∙ wrote)

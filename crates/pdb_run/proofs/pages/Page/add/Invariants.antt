@@ -4,5 +4,5 @@ use Rattle.pdb_run.proofs.pages.Page.add.Given as goal
 
 abbrev pub invariant-loop-byte : goal.invariant-loop-byte
 invariant-loop-byte g l =
-    Adds g.W.Write.contents l.fn.self l.self (take l.byte-index l.bytes) (Ok tt)
+    Adds g.W.Sink.output l.fn.self l.self (take l.byte-index l.bytes) (Ok tt)
     × (l.self.out.ghost_name ≡ l.fn.self.out.ghost_name)

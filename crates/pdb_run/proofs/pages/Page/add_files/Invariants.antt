@@ -5,5 +5,5 @@ use Rattle.pdb_run.proofs.pages.Page.add_files.Given as goal
 
 abbrev pub invariant-loop-file : goal.invariant-loop-file
 invariant-loop-file g l =
-    Adds g.W.Write.contents l.fn.self l.self (digests_of (all_bytes (take l.file-index l.files))) (Ok tt)
+    Adds g.W.Sink.output l.fn.self l.self (digests_of (all_bytes (take l.file-index l.files))) (Ok tt)
     × (l.self.out.ghost_name ≡ l.fn.self.out.ghost_name)

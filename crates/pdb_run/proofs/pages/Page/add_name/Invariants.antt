@@ -5,5 +5,5 @@ use Rattle.pdb_run.proofs.pages.Page.add_name.Given as goal
 
 abbrev pub invariant-loop-byte : goal.invariant-loop-byte
 invariant-loop-byte g l =
-    Adds g.W.Write.contents l.fn.self l.self (take l.byte-index (map shown_byte l.byte-items)) (Ok tt)
+    Adds g.W.Sink.output l.fn.self l.self (take l.byte-index (map shown_byte l.byte-items)) (Ok tt)
     × (l.self.out.ghost_name ≡ l.fn.self.out.ghost_name)
