@@ -1,6 +1,6 @@
 //! What leads a search.
 
-ghost use Rattle.std.specs.Prelude.{◌≡◌, ◌≢◌, IfNone, IfSome, MatchOption};
+ghost use Rattle.std.specs.Prelude.{◌≡◌, ◌≢◌, IfSome, MatchOption};
 ghost use Rattle.puz_board.specs.Boards.{side_of};
 ghost use Rattle.move_strings.specs.Automata.{IsState, left_out, next_at};
 ghost use Rattle.puz_search.specs.Guides.{IsGuide, automaton_of};

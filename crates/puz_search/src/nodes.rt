@@ -1,6 +1,6 @@
 //! Boards below which is still to be searched.
 
-ghost use Rattle.std.specs.Prelude.{◌≡◌, ◌+◌, ◌≤◌, Some, length};
+ghost use Rattle.std.specs.Prelude.{◌≡◌, ◌+◌, ◌≤◌, Some};
 ghost use Rattle.puz_board.specs.Boards.{moved};
 ghost use Rattle.move_strings.specs.Automata.{IsState};
 ghost use Rattle.puz_search.specs.Nodes.{IsFirst, IsLed, IsPlaced, walk_to};
