@@ -3,6 +3,7 @@ searches and claims."""
 
 import functools
 import itertools
+import re
 from dataclasses import dataclass
 
 from plain_answers import (
@@ -263,4 +264,8 @@ def claims(draw):
     side = draw.choice([2, 2, 2, 3, 3, 3, 4, 5])
     files = [table(draw, side) for _ in range(draw.choice([1, 1, 1, 2, 3, 16]))]
     budget = draw.choice([None, None, None, 10**12, 1, 2, 5, 20, 100, 1000])
-    return claims_text(draw, side), budget, set_text(draw, files), files
+    text = claims_text(draw, side)
+    if side > 3 and re.search(rb": ?255", text):
+        # Depth first, and so far down, a search of a large board hardly ends.
+        budget = min(budget or 1000, 1000)
+    return text, budget, set_text(draw, files), files
