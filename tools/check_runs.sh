@@ -799,6 +799,19 @@ for words in '' 'table F123' 'table F123 --workers 2' 'table F123_with_02' 'make
 done
 rm -f made
 
+# A hard claim asks for memory some 25,000 times, nearly always for its automaton, and last for edge words and a search over them.
+# Without either the search goes on, so the answer is the same.
+"$bare" make-table 3 14 three_of_side_3 >/dev/null
+echo '8 0 6 5 4 7 2 3 1 : 27' >hard_claim
+for which in LAST=100 EVERY=997; do
+    status=0
+    env PROGRAM="$bare" "$which" "$root/tools/refuse_memory.sh" prove hard_claim one_set three_of_side_3 \
+        </dev/null >"$work/output" 2>"$work/errors" || status=$?
+    check "requests of a hard claim are refused, $which" [ "$status" = 0 ]
+    check "a hard claim does without help, $which" told 'no memory: 0, '
+done
+rm hard_claim
+
 #
 # The stack.
 #

@@ -10,7 +10,7 @@
 # it is called in, of which each run gets a copy. It needs the C compiler `cc`. A line is written for each run that ends
 # otherwise, with what that run wrote and left, then one that counts both answers, and last `N passed, M failed`. The status
 # is 0 if all passed, and otherwise not. The program is that of the variable PROGRAM, a path; without it, the launcher builds
-# it where that is needed.
+# it where that is needed. With EVERY=N only each N-th request is refused, and with LAST=N only the last N.
 set -euo pipefail
 
 root=$(dirname "$(dirname "$(readlink -f "${BASH_SOURCE[0]}")")")
@@ -49,14 +49,33 @@ mv "$work/output" "$work/own_answer"
 rm -rf "$work/files" && cp -a "$work/given" "$work/files"
 { echo 'no memory' && list_end 3; } >"$work/no_memory"
 
+# Whether the program makes so many requests.
+asks() {
+    run "$@"
+    [ -s "$work/refused" ]
+}
+
+every=${EVERY-1}
 request=0
+if [ -n "${LAST-}" ]; then
+    # There are at least `request` requests, and fewer than `beyond`.
+    beyond=1
+    while asks "$beyond" "$@"; do
+        request=$beyond
+        beyond=$((2 * beyond))
+    done
+    while [ "$((request + 1))" -lt "$beyond" ]; do
+        middle=$(((request + beyond) / 2))
+        if asks "$middle" "$@"; then request=$middle; else beyond=$middle; fi
+    done
+    request=$((request < LAST ? 0 : request - LAST))
+fi
 without=0
 own=0
 bad=0
 while :; do
-    request=$((request + 1))
-    run "$request" "$@"
-    [ -s "$work/refused" ] || break
+    request=$((request + every))
+    asks "$request" "$@" || break
     if cmp -s "$work/output" "$work/no_memory"; then
         without=$((without + 1))
     elif cmp -s "$work/output" "$work/own_answer"; then
