@@ -1,8 +1,8 @@
 #!/usr/bin/env bash
 # Runs the built program and checks what it writes, where it writes it and its status: words, streams, files and their
-# names, limits, tables, workers, claims, want of memory, changed inputs, whole puzzles, the tour, sizes, budgets, and runs
-# at once. What is wanted follows from docs/FORMATS.md, and of tables and searches from a plain search that does. It also has
-# docs/BELIEVE.md compared with what is proved.
+# names, limits, tables, workers, claims, want of memory, changed inputs, whole puzzles, boards of the literature, the tour,
+# sizes, budgets, and runs at once. What is wanted follows from docs/FORMATS.md, and of tables and searches from a plain
+# search that does. It also has docs/BELIEVE.md compared with what is proved.
 #
 #     tools/check_runs.sh [PROGRAM]
 #
@@ -933,6 +933,22 @@ if [[ $(tail -n 1 "$work/output") =~ ^([0-9]+)\ passed,\ ([0-9]+)\ failed$ ]]; t
     passed=$((passed + BASH_REMATCH[1]))
     failed=$((failed + BASH_REMATCH[2]))
 fi
+
+#
+# Boards of the literature.
+#
+
+for mask in 9826 55680 28; do
+    "$bare" make-table 4 "$mask" "korf_$mask" >/dev/null
+done
+printf 'set 0 1 2\nset 0t 1t 2t\n' >korf_sets
+run prove "$root/docs/results/korf_1985.claims" korf_sets korf_9826 korf_55680 korf_28 --workers 4
+check "Korf's hundred boards of the 15-puzzle have the shortest solutions that docs/results says" \
+    cmp -s "$work/output" "$root/docs/results/korf_1985.answers"
+check "Korf's hundred boards are all answered with a yes" [ "$status" = 0 ]
+rm korf_*
+"$root/tools/make_results.py" >"$work/output" 2>"$work/errors"
+check 'docs/RESULTS.md says what docs/results has' cmp -s "$work/output" "$root/docs/RESULTS.md"
 
 #
 # The tour.
