@@ -32,7 +32,7 @@ CLAUSE = RUN + ".headline"
 HEADLINE = "pdb_program::Headline::Headline"
 # What a log has to be is set apart: of the headline the line on `solve` alone cites it.
 APART = "pdb_verdict::Bound::IsProvedBound"
-MOST_DEFINITIONS, MOST_LINES = 95, 330
+MOST_DEFINITIONS, MOST_LINES = 90, 300
 
 WORD = re.compile(r"[^\s(){}\[\],;.]+(?:\.[^\s(){}\[\],;.]+)*")
 START = re.compile(

@@ -9,7 +9,7 @@ use Rattle.tab_rule.specs.declared.tables.Count.{Count}
 use Rattle.tab_rule.specs.declared.tables.Count.TheVariants.{Finite, Never}
 use Rattle.set_sum.specs.Bounds.{CountReaches}
 use Rattle.set_sum.specs.Members.{MemberSays, board_for, table_of}
-use Rattle.set_sum.specs.Parity.{raised, told_of}
+use Rattle.set_sum.specs.Raised.{raised, told_of}
 use Rattle.set_sum.specs.Parts.{PartSays, ShownPart}
 use Rattle.set_sum.specs.Sums.{AddUpTo, SetSays}
 use Rattle.set_sum.specs.declared.members.Member.{Member}

@@ -1,9 +1,10 @@
 -- The header of a table file is settled by its pattern.
-use Rattle.std.proofs.Common.{◌≡◌, ◌∙◌, ◌+◌, ◌*◌, ◌≤◌, ◌<◌, ◌^◌, ap, ℕ, suc, List, ◌∷◌, ◌++◌, arith, drop, length, sym, take-append-drop}
-use Rattle.std.specs.Prelude.{slice_index}
+use Rattle.std.proofs.Common.{◌≡◌, ◌∙◌, ◌+◌, ◌*◌, ◌≤◌, ◌<◌, ◌^◌, ap, ℕ, suc, List, [], ◌∷◌, ◌++◌, arith, drop, length, sym, take-append-drop}
+use Rattle.std.specs.Prelude.{codes, slice_index}
 use Rattle.std.proofs.Math.Seq.{drop-cons}
 use Rattle.std.proofs.lemmas.List.{get_or-drop}
 use Rattle.byteorder.specs.Endian.{big_from, big_number}
+use Rattle.pat_place.specs.Patterns.{ShownPattern}
 use Rattle.pat_place.proofs.MaskLemmas.{numbers_of-one}
 use Rattle.tab_file.specs.Tables.{entry_count}
 use Rattle.claim_laws.specs.TableFiles.{AreBytes, PatternsHaveOneExactFile}
@@ -67,8 +68,8 @@ same_behind i j f g same = sym (behind i f j) ∙ same ∙ behind i g j
 -- the header and the entries behind it are settled
 pub one_file : PatternsHaveOneExactFile
 one_file t u f g p q exact also same =
-    let h = exact.is_file.header in
-    let k = also.is_file.header in
+    let h = exact.is_file in
+    let k = also.is_file in
     let here = bytes_behind 8 f p in
     let there = bytes_behind 8 g q in
     let tiles = ap (λ r. r.tiles) same in
@@ -93,7 +94,5 @@ one_file t u f g p q exact also same =
     let d10 = on 10 (omega arith) (same_behind 8 2 f g m.2) d11 in
     let d9 = on 9 (omega arith) (same_behind 8 1 f g m.1) d10 in
     let d8 = on 8 (omega arith) (same_behind 8 0 f g m.0) d9 in
-    let d7 = on 7 (omega arith) (h.spare ∙ sym k.spare) d8 in
-    let d6 = on 6 (omega arith) (h.size ∙ ap length tiles ∙ sym k.size) d7 in
-    let d5 = on 5 (omega arith) (h.side ∙ ap (λ r. r.side) same ∙ sym k.side) d6 in
-    sym (take-append-drop 5 f) ∙ (λ i. (h.begins ∙ sym k.begins) i ++ d5 i) ∙ take-append-drop 5 g
+    let begins = h.begins ∙ ap (λ (r : ShownPattern). codes "PDBT" ++ 1 ∷ r.side ∷ length r.tiles ∷ 0 ∷ []) same ∙ sym k.begins in
+    sym (take-append-drop 8 f) ∙ (λ i. begins i ++ d8 i) ∙ take-append-drop 8 g

@@ -3,7 +3,7 @@
 ghost use Rattle.std.specs.Prelude.{◌≡◌, ◌<◌, ◌↔◌, IsTrue, length};
 ghost use Rattle.puz_board.specs.Boards.{IsBoardOf};
 ghost use Rattle.set_sum.specs.Bundles.{SaysAtLeast};
-ghost use Rattle.set_sum.specs.Parity.{told_of};
+ghost use Rattle.set_sum.specs.Raised.{told_of};
 ghost use Rattle.tab_rule.specs.declared.tables.Count.TheVariants.{Finite};
 ghost use Rattle.log_check.specs.GoodLogs.{IsGood};
 ghost use Rattle.log_check.specs.Nodes.{IsNode};

@@ -25,7 +25,7 @@ module _ (file : Bytes) where
         table = exact.0;
         exact = exact.1;
         is_side = refl;
-        is_mask = exact.1.is_file.header.mask;
+        is_mask = exact.1.is_file.mask;
         mask_low = big_from-lt 0 4 (drop 8 file) (λ i. rw get_or-drop (small (8 + i)));
         counted = census.1;
       },

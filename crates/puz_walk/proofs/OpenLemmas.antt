@@ -7,7 +7,7 @@ use Rattle.tab_rule.specs.declared.tables.Count.{Count}
 use Rattle.tab_rule.specs.declared.tables.Count.TheVariants.{Finite, Never}
 use Rattle.set_sum.specs.Bounds.{CountReaches}
 use Rattle.set_sum.specs.Bundles.{ShownBundle, BundleSays, IsBundle, set_of}
-use Rattle.set_sum.specs.Parity.{raised, told_of}
+use Rattle.set_sum.specs.Raised.{raised, told_of}
 use Rattle.set_sum.proofs.SumLemmas.{set_once}
 use Rattle.puz_walk.specs.StoredWordWalks.{margin_of}
 use Rattle.puz_walk.specs.Walks.{IsCutOff, IsOpen}

@@ -8,8 +8,8 @@ use Rattle.puz_board.specs.Transposing.{transposed_cell, transposed_tiles}
 use Rattle.puz_board.specs.declared.moves.Move.{Move}
 use Rattle.puz_board.proofs.TransposeLemmas.{transposed_tiles-are}
 use Rattle.pat_place.specs.Patterns.{IsPattern}
-use Rattle.tab_rule.specs.FoldedTables.{IsFoldedCountOf}
-use Rattle.tab_rule.specs.Counts.{IsCountOf}
+use Rattle.tab_rule.specs.FoldedTables.{FoldedTableSays}
+use Rattle.tab_rule.specs.Counts.{TableSays}
 use Rattle.tab_rule.specs.declared.tables.Count.TheVariants.{Finite}
 use Rattle.edge_words.specs.Spots.{IsStepOf, index_on}
 use Rattle.edge_words.specs.Words.{RisesOrFalls}
@@ -25,10 +25,10 @@ use Rattle.puz_walk.proofs.TurnLemmas.{step_for}
 -- ---- what full tables say
 
 full_says : (part : ShownPart) (b : List ℕ) (d : ℕ) → part.is_folded ≡ false → PartSays part b (Finite d) → IsLeastCost part.tiles b d
-full_says part b d full says = subst (λ f. MatchBool f (IsFoldedCountOf part.tiles b (Finite d)) (IsCountOf part.tiles b (Finite d))) full says
+full_says part b d full says = subst (λ f. MatchBool f (FoldedTableSays part.tiles b (Finite d)) (TableSays part.tiles b (Finite d))) full says
 
 says_full : (part : ShownPart) (b : List ℕ) (d : ℕ) → part.is_folded ≡ false → IsLeastCost part.tiles b d → PartSays part b (Finite d)
-says_full part b d full least = subst (λ f. MatchBool f (IsFoldedCountOf part.tiles b (Finite d)) (IsCountOf part.tiles b (Finite d))) (sym full) least
+says_full part b d full least = subst (λ f. MatchBool f (FoldedTableSays part.tiles b (Finite d)) (TableSays part.tiles b (Finite d))) (sym full) least
 
 -- ---- the tile of a member's own pattern
 

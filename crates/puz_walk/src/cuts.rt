@@ -2,7 +2,7 @@
 
 ghost use Rattle.std.specs.Prelude.{◌≡◌, ◌<◌, ◌↔◌, IsTrue, length, true};
 ghost use Rattle.set_sum.specs.Bundles.{SaysAtLeast};
-ghost use Rattle.set_sum.specs.Parity.{told_of};
+ghost use Rattle.set_sum.specs.Raised.{told_of};
 ghost use Rattle.tab_rule.specs.declared.tables.Count.TheVariants.{Finite};
 ghost use Rattle.puz_walk.specs.Walks.{IsCutOff};
 

@@ -7,7 +7,7 @@ use Rattle.puz_board.proofs.ParityLemmas.{solution_parity}
 use Rattle.tab_rule.specs.declared.tables.Count.{Count}
 use Rattle.tab_rule.specs.declared.tables.Count.TheVariants.{Finite, Never}
 use Rattle.set_sum.specs.Bounds.{BoundsSolutions, IsBounded}
-use Rattle.set_sum.specs.Parity.{raised, told_of}
+use Rattle.set_sum.specs.Raised.{raised, told_of}
 
 raised_bounds : (n : ℕ) (b : List ℕ) → IsBoardOf n b → (d : ℕ) → IsBounded b d → IsBounded b (raised (blank_parity b) d)
 raised_bounds n b good d bounds = λ path solves.

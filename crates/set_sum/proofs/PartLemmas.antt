@@ -7,8 +7,8 @@ use Rattle.puz_board.specs.Costs.{LeadsHome, cost}
 use Rattle.puz_board.specs.Transposing.{transposed, transposed_tiles}
 use Rattle.puz_board.proofs.TransposeLemmas.{least_costs, nevers}
 use Rattle.pat_place.specs.Patterns.{IsPattern}
-use Rattle.tab_rule.specs.Counts.{IsCountOf}
-use Rattle.tab_rule.specs.FoldedTables.{IsFoldedCountOf}
+use Rattle.tab_rule.specs.Counts.{TableSays}
+use Rattle.tab_rule.specs.FoldedTables.{FoldedTableSays}
 use Rattle.tab_rule.specs.declared.tables.Count.{Count}
 use Rattle.tab_rule.specs.declared.tables.Count.TheVariants.{Finite, Never}
 use Rattle.tab_rule.proofs.FoldLemmas.{folded_some}
@@ -20,7 +20,7 @@ use Rattle.set_sum.proofs.TransposedFoldLemmas.{folded_counts}
 
 -- what a table says whose tiles are these, folded or not
 abbrev Tells : Bool → List ℕ → List ℕ → Count → Type 0
-Tells is_folded tiles b count = MatchBool is_folded (IsFoldedCountOf tiles b count) (IsCountOf tiles b count)
+Tells is_folded tiles b count = MatchBool is_folded (FoldedTableSays tiles b count) (TableSays tiles b count)
 
 -- ---- one thing
 

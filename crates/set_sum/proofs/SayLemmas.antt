@@ -6,7 +6,7 @@ use Rattle.tab_rule.specs.declared.tables.Count.{Count}
 use Rattle.tab_rule.specs.declared.tables.Count.TheVariants.{Finite, Never}
 use Rattle.set_sum.specs.Bounds.{BoundsSolutions, IsBounded, CountReaches}
 use Rattle.set_sum.specs.Bundles.{ShownBundle, IsBundle, IsSetOf, BundleSays, SaysAtLeast, set_of}
-use Rattle.set_sum.specs.Parity.{told_of}
+use Rattle.set_sum.specs.Raised.{told_of}
 use Rattle.set_sum.proofs.ListLemmas.{all_at}
 use Rattle.set_sum.proofs.ParityLemmas.{told_bounds}
 use Rattle.set_sum.proofs.SumLemmas.{set_bounds, set_once}

@@ -14,8 +14,8 @@ use Rattle.puz_board.proofs.MovedLemmas.{moved-reverse_of}
 use Rattle.puz_board.proofs.TransposeLemmas.{Adjacent-transposed, IsBoardOf-transposed, at-transposed, blank-transposed, cell_below, cell_twice, slid-transposed}
 use Rattle.pat_place.specs.Placements.{placement_of}
 use Rattle.pat_place.proofs.SlideLemmas.{AreTiles, placement_of-slid_other}
-use Rattle.tab_rule.specs.Counts.{IsCountOf}
-use Rattle.tab_rule.specs.FoldedTables.{IsFoldedCost, IsFoldedCountOf, IsFoldedNever}
+use Rattle.tab_rule.specs.Counts.{TableSays}
+use Rattle.tab_rule.specs.FoldedTables.{IsFoldedCost, FoldedTableSays, IsFoldedNever}
 use Rattle.tab_rule.specs.declared.tables.Count.{Count}
 use Rattle.tab_rule.specs.declared.tables.Count.TheVariants.{Finite, Never}
 use Rattle.set_sum.specs.Members.{MemberSays, table_of, table_pattern}
@@ -91,7 +91,7 @@ module _ (n : ℕ) (b : List ℕ) (good : IsBoardOf n b) (c : ℕ) (near : Adjac
 
     -- ---- what a table says
 
-    count_still : (count : Count) → IsCountOf tiles b count → IsCountOf tiles (slid b c) count
+    count_still : (count : Count) → TableSays tiles b count → TableSays tiles (slid b c) count
     count_still (Finite d) is = record {
       path = blank b ∷ is.path;
       leads = lead_back is.path is.leads;
@@ -100,7 +100,7 @@ module _ (n : ℕ) (b : List ℕ) (good : IsBoardOf n b) (c : ℕ) (near : Adjac
     }
     count_still Never never = λ path leads. never (c ∷ path) (lead_on path leads)
 
-    folded_still : AreTiles n tiles → (count : Count) → IsFoldedCountOf tiles b count → IsFoldedCountOf tiles (slid b c) count
+    folded_still : AreTiles n tiles → (count : Count) → FoldedTableSays tiles b count → FoldedTableSays tiles (slid b c) count
     folded_still all (Finite d) is =
         subst (λ k. IsFoldedCost k tiles (placement_of tiles (slid b c)) d) (sym (side_of-slid n b good c near.0))
         (subst (λ cells. IsFoldedCost (side_of b) tiles cells d) (sym (placement_of-slid_other n b good c near.0 tiles all other)) is)
@@ -108,8 +108,8 @@ module _ (n : ℕ) (b : List ℕ) (good : IsBoardOf n b) (c : ℕ) (near : Adjac
         subst (λ k. IsFoldedNever k tiles (placement_of tiles (slid b c))) (sym (side_of-slid n b good c near.0))
         (subst (λ cells. IsFoldedNever (side_of b) tiles cells) (sym (placement_of-slid_other n b good c near.0 tiles all other)) is)
 
-    tells_still : AreTiles n tiles → (is_folded : Bool) (count : Count) → MatchBool is_folded (IsFoldedCountOf tiles b count) (IsCountOf tiles b count)
-        → MatchBool is_folded (IsFoldedCountOf tiles (slid b c) count) (IsCountOf tiles (slid b c) count)
+    tells_still : AreTiles n tiles → (is_folded : Bool) (count : Count) → MatchBool is_folded (FoldedTableSays tiles b count) (TableSays tiles b count)
+        → MatchBool is_folded (FoldedTableSays tiles (slid b c) count) (TableSays tiles (slid b c) count)
     tells_still all true count is = folded_still all count is
     tells_still all false count is = count_still count is
 

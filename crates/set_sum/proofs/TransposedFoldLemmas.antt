@@ -10,7 +10,7 @@ use Rattle.puz_board.proofs.BoardLemmas.{side_of-board}
 use Rattle.puz_board.proofs.HasLemmas.{has-here, has-later, has_cases, has_from_all}
 use Rattle.puz_board.proofs.TransposeLemmas.{AreInside, AreTransposed, IsBoardOf-transposed, cell_below, cell_of-transposed, cell_twice, cost-transposed, leads-transposed, least_costs, transposed-twice, transposed_tiles-are, transposed_tiles-inside}
 use Rattle.pat_place.specs.Placements.{placement_of}
-use Rattle.tab_rule.specs.FoldedTables.{IsFoldedCost, IsFoldedCountOf, IsFoldedNever}
+use Rattle.tab_rule.specs.FoldedTables.{IsFoldedCost, FoldedTableSays, IsFoldedNever}
 use Rattle.tab_rule.specs.declared.tables.Count.{Count}
 use Rattle.tab_rule.specs.declared.tables.Count.TheVariants.{Finite, Never}
 use Rattle.set_sum.proofs.NumeralLemmas.{head_is, tail_is}
@@ -89,7 +89,7 @@ module _ (n : ℕ) (tiles : List ℕ) (all : AllByRecursion (λ t. t < n * n) ti
   folded_never never x good_x same path leads =
       never (transposed x) (IsBoardOf-transposed n x good_x) (to_tiles x good_x same) (map (transposed_cell n) path) (leads-transposed n tiles others are inside x good_x path leads)
 
-  pub folded_counts : (count : Count) → IsFoldedCountOf tiles (transposed b) count → IsFoldedCountOf others b count
+  pub folded_counts : (count : Count) → FoldedTableSays tiles (transposed b) count → FoldedTableSays others b count
   folded_counts (Finite d) is =
       subst (λ k. IsFoldedCost k others (placement_of others b) d) (sym (side_of-board n b good)) (
       folded_cost d (subst (λ k. IsFoldedCost k tiles (placement_of tiles (transposed b)) d) (side_of-board n (transposed b) turned) is))

@@ -6,7 +6,7 @@ use Rattle.pat_place.specs.Patterns.{IsPattern}
 use Rattle.tab_rule.specs.declared.tables.Count.{Count}
 use Rattle.set_sum.specs.Bounds.{CountReaches}
 use Rattle.set_sum.specs.Members.{patterns_of_set, table_pattern}
-use Rattle.set_sum.specs.Parity.{told_of}
+use Rattle.set_sum.specs.Raised.{told_of}
 use Rattle.set_sum.specs.Parts.{ShownPart}
 use Rattle.set_sum.specs.Sums.{AreDisjoint, SetSays}
 use Rattle.set_sum.specs.declared.members.Member.{Member}

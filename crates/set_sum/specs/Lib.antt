@@ -4,8 +4,8 @@ pub mod Bundles
 pub mod Known
 pub mod Laws
 pub mod Members
-pub mod Parity
 pub mod Parts
+pub mod Raised
 pub mod Reading
 pub mod SetTexts
 pub mod Steps

@@ -1,9 +1,9 @@
 -- The tables of a bundle, each of them full or folded.
 use Rattle.std.specs.Prelude.{ℕ, Bool, true, false, List, [], MatchBool, map}
 use Rattle.pat_place.specs.Patterns.{ShownPattern}
-use Rattle.tab_rule.specs.Counts.{IsCountOf}
+use Rattle.tab_rule.specs.Counts.{TableSays}
 use Rattle.tab_rule.specs.ExactTables.{IsExactTable}
-use Rattle.tab_rule.specs.FoldedTables.{HasFoldedTable, IsFoldedCountOf}
+use Rattle.tab_rule.specs.FoldedTables.{HasFoldedTable, FoldedTableSays}
 use Rattle.tab_rule.specs.declared.tables.Count.{Count}
 use Rattle.set_sum.specs.declared.parts.Part.{Part}
 use Rattle.set_sum.specs.declared.parts.Part.TheVariants.{Folded, Full}
@@ -38,7 +38,7 @@ no_part = record { tiles = []; is_folded = false }
 -- what a table tells of a board, by whole boards and paths: the least cost at which its tiles come home, or never; and folded
 -- the least of that over all boards that have the tiles in the same cells
 abbrev pub PartSays : ShownPart → List ℕ → Count → Type 0
-PartSays part b count = MatchBool part.is_folded (IsFoldedCountOf part.tiles b count) (IsCountOf part.tiles b count)
+PartSays part b count = MatchBool part.is_folded (FoldedTableSays part.tiles b count) (TableSays part.tiles b count)
 
 -- a table that is exact; or the folded table of a pattern, which has one
 abbrev pub IsExactPart : Part → Type 0

@@ -11,7 +11,7 @@ use Rattle.pat_place.specs.Patterns.{ShownPattern, IsAscending, IsPattern, most_
 use Rattle.pat_place.proofs.MaskLemmas.{ascending-numbers_below}
 use Rattle.byteorder.specs.Endian.{big_number}
 use Rattle.tab_file.specs.Tables.{Table, entry_count}
-use Rattle.tab_file.specs.TableFiles.{table_signature, side_in, size_in, spare_in, mask_in, entry_count_in}
+use Rattle.tab_file.specs.HeadFields.{table_signature, side_in, size_in, spare_in, mask_in, entry_count_in}
 use Rattle.tab_file.specs.HeadFaults.{Stands, IsFirstFault, earlier, first_fault, is_pattern, is_standing, pattern_in, table_of_file}
 use Rattle.tab_file.specs.declared.headers.HeadFault.{HeadFault}
 use Rattle.tab_file.specs.declared.headers.HeadFault.TheVariants.{T1, T2, T3, T4, T5, T6}

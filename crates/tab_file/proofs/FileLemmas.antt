@@ -1,31 +1,69 @@
 -- Table files are the bytes in which no fault stands.
-use Rattle.std.proofs.Common.{◌≡◌, ℕ, ◌+◌, ◌-◌, List, length, drop, Result, Ok, Err, inl, inr, refl, sym, ◌∙◌, ap, subst, arith, length-drop}
+use Rattle.std.proofs.Common.{◌≡◌, ℕ, ◌+◌, ◌-◌, ◌<◌, ◌≤◌, List, [], ◌∷◌, ◌++◌, length, take, drop, Result, Ok, Err, inl, inr, refl, sym, ◌∙◌, ap, subst, arith, length-drop, get_or-take, take-take}
 use Rattle.std.specs.Prelude.{IfErr, IfOk, slice_index}
-use Rattle.std.proofs.lemmas.List.{get_or-drop}
+use Rattle.std.proofs.lemmas.List.{get_or-drop, take_more}
 use Rattle.pat_place.specs.Patterns.{IsPattern}
 use Rattle.tab_file.specs.Tables.{Table, entry_count}
-use Rattle.tab_file.specs.TableFiles.{IsTableFile, entry_count_in}
+use Rattle.tab_file.specs.TableFiles.{IsTableFile}
+use Rattle.tab_file.specs.HeadFields.{table_signature, side_in, size_in, spare_in, entry_count_in}
 use Rattle.tab_file.specs.HeadFaults.{IsFirstFault, pattern_in, table_of_file}
 use Rattle.tab_file.specs.declared.headers.HeadFault.{HeadFault}
 use Rattle.tab_file.specs.declared.headers.HeadFault.TheVariants.{T1, T2, T4, T5, T6}
 use Rattle.tab_file.proofs.FaultLemmas.{Passes, accepted, table_in, table_of_file-fault, which}
 
+-- ---- the first eight bytes are the signature and three numbers
+
+module _ (file : List ℕ) (side size : ℕ) where
+  abbrev Begins : Type 0
+  Begins = take 8 file ≡ table_signature ++ side ∷ size ∷ 0 ∷ []
+
+  Begins-from : 20 ≤ length file → take 5 file ≡ table_signature → side_in file ≡ side → size_in file ≡ size → spare_in file ≡ 0 → Begins
+  Begins-from room begins is_side is_size spare =
+      take_more file 7 0 (omega arith) ∙ (λ i. seven i ++ spare i ∷ [])
+    where
+      six : take 6 file ≡ table_signature ++ side ∷ []
+      six = take_more file 5 0 (omega arith) ∙ (λ i. begins i ++ is_side i ∷ [])
+
+      seven : take 7 file ≡ table_signature ++ side ∷ size ∷ []
+      seven = take_more file 6 0 (omega arith) ∙ (λ i. six i ++ is_size i ∷ [])
+
+  module _ (begins : Begins) where
+    byte : (i : ℕ) → i < 8 → slice_index file i ≡ slice_index (table_signature ++ side ∷ size ∷ 0 ∷ []) i
+    byte i low = sym (get_or-take 8 file i 0 low) ∙ ap (λ bytes. slice_index bytes i) begins
+
+    begins-signature : take 5 file ≡ table_signature
+    begins-signature = sym (take-take 5 8 file (omega arith)) ∙ ap (take 5) begins
+
+    begins-side : side_in file ≡ side
+    begins-side = byte 5 (omega arith)
+
+    begins-size : size_in file ≡ size
+    begins-size = byte 6 (omega arith)
+
+    begins-spare : spare_in file ≡ 0
+    begins-spare = byte 7 (omega arith)
+
+-- ---- files and their tables
+
 module _ (t : Table) (file : List ℕ) (good : IsTableFile t file) where
+  is_side : side_in file ≡ t.pattern.side
+  is_side = begins-side file t.pattern.side (length t.pattern.tiles) good.begins
+
   pattern_is : pattern_in file ≡ t.pattern
-  pattern_is = λ i. record { side = good.header.side i; tiles = good.header.mask i }
+  pattern_is = λ i. record { side = is_side i; tiles = good.mask i }
 
   table_is : table_in file ≡ t
   table_is = λ i. record { pattern = pattern_is i; entries = good.entries i }
 
   pub table_of_file-file : table_of_file file ≡ Ok t
   table_of_file-file = accepted file (
-    good.header.room,
+    good.room,
     (
-      good.header.begins,
+      begins-signature file t.pattern.side (length t.pattern.tiles) good.begins,
       (
-        (let l = good.table.pattern.low in let e = good.header.side in omega arith, let l = good.table.pattern.high in let e = good.header.side in omega arith),
+        (let l = good.table.pattern.low in let e = is_side in omega arith, let l = good.table.pattern.high in let e = is_side in omega arith),
         (
-          (pattern, good.header.size ∙ ap (λ p. length p.tiles) (sym pattern_is), good.header.spare),
+          (pattern, size ∙ ap (λ p. length p.tiles) (sym pattern_is), begins-spare file t.pattern.side (length t.pattern.tiles) good.begins),
           (
             count,
             (
@@ -41,14 +79,17 @@ module _ (t : Table) (file : List ℕ) (good : IsTableFile t file) where
       pattern : IsPattern (pattern_in file)
       pattern = let same = sym pattern_is in subst IsPattern same good.table.pattern
 
+      size : size_in file ≡ length t.pattern.tiles
+      size = begins-size file t.pattern.side (length t.pattern.tiles) good.begins
+
       count : entry_count_in file ≡ entry_count (pattern_in file)
-      count = good.header.count ∙ ap entry_count (sym pattern_is)
+      count = good.count ∙ ap entry_count (sym pattern_is)
 
       whole : length file ≡ 20 + entry_count_in file
       whole =
-          let room = good.header.room in
+          let room = good.room in
           let rest : length (drop 20 file) ≡ length file - 20 = length-drop 20 file in
-          let entries : length (drop 20 file) ≡ entry_count_in file = ap length good.entries ∙ good.table.entries ∙ sym good.header.count in
+          let entries : length (drop 20 file) ≡ entry_count_in file = ap length good.entries ∙ good.table.entries ∙ sym good.count in
           omega arith
 
 -- a file that passes is one of the table in it
@@ -58,7 +99,10 @@ IsTableFile-passes file room begins pattern count whole = record {
     pattern = pattern.0;
     entries = (let rest : length (drop 20 file) ≡ length file - 20 = length-drop 20 file in let more : length file - 20 ≡ entry_count_in file = omega arith in rest ∙ more ∙ count);
   };
-  header = record { room = room; begins = begins; side = refl; size = pattern.1; spare = pattern.2; mask = refl; count = count };
+  room = room;
+  begins = Begins-from file _ _ room begins refl pattern.1 pattern.2;
+  mask = refl;
+  count = count;
   entries = refl;
 }
 

@@ -5,7 +5,8 @@ use Rattle.byteorder.specs.Numbers.{big_number-reads_back}
 use Rattle.puz_board.specs.Masks.{numbers_of}
 use Rattle.pat_place.specs.Patterns.{ShownPattern, IsPattern}
 use Rattle.tab_file.specs.Tables.{entry_count}
-use Rattle.tab_file.specs.TableFiles.{IsTableFile, table_signature}
+use Rattle.tab_file.specs.TableFiles.{IsTableFile}
+use Rattle.tab_file.specs.HeadFields.{table_signature}
 use Rattle.tab_file.specs.HeadFaults.{table_of_file}
 use Rattle.tab_file.proofs.FileLemmas.{table_of_file-file}
 
@@ -17,15 +18,10 @@ module _ (p : ShownPattern) (side size mask count : ℕ) (good : IsPattern p) (i
   pub IsTableFile-written : IsTableFile (record { pattern = p; entries = entries }) (written side size mask count ++ entries)
   IsTableFile-written = record {
     table = record { pattern = good; entries = all };
-    header = record {
-      room = omega arith;
-      begins = refl;
-      side = is_side;
-      size = is_size;
-      spare = refl;
-      mask = ap numbers_of (big_number-reads_back 4 mask (big_bytes 8 count ++ entries) mask_fits) ∙ is_mask;
-      count = big_number-reads_back 8 count entries count_fits ∙ is_count;
-    };
+    room = omega arith;
+    begins = λ i. table_signature ++ is_side i ∷ is_size i ∷ 0 ∷ [];
+    mask = ap numbers_of (big_number-reads_back 4 mask (big_bytes 8 count ++ entries) mask_fits) ∙ is_mask;
+    count = big_number-reads_back 8 count entries count_fits ∙ is_count;
     entries = refl;
   }
 

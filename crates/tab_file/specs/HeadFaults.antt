@@ -5,7 +5,7 @@ use Rattle.std.specs.Option.{option_map_or}
 use Rattle.puz_board.specs.Masks.{numbers_of}
 use Rattle.pat_place.specs.Patterns.{ShownPattern, IsPattern, most_tiles}
 use Rattle.tab_file.specs.Tables.{Table, entry_count}
-use Rattle.tab_file.specs.TableFiles.{table_signature, side_in, size_in, spare_in, mask_in, entry_count_in}
+use Rattle.tab_file.specs.HeadFields.{table_signature, side_in, size_in, spare_in, mask_in, entry_count_in}
 use Rattle.tab_file.specs.declared.headers.HeadFault.{HeadFault}
 use Rattle.tab_file.specs.declared.headers.HeadFault.TheVariants.{T1, T2, T3, T4, T5, T6}
 

@@ -2,6 +2,7 @@
 pub mod EntryBytes
 pub mod Tables
 pub mod TableFiles
+pub mod HeadFields
 pub mod HeadFaults
 -- How values are stored.
 pub mod StoredTables

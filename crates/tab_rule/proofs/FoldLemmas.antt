@@ -21,7 +21,7 @@ use Rattle.pat_place.proofs.WidthLemmas.{slot_within}
 use Rattle.tab_file.specs.Tables.{Table, entry_at, placement_count, slot_count}
 use Rattle.tab_rule.specs.Entries.{IsEntryNumber}
 use Rattle.tab_rule.specs.ExactTables.{IsExactTable, SaysOfBoard}
-use Rattle.tab_rule.specs.FoldedTables.{AreFolded, HasFoldedTable, IsFoldedCost, IsFoldedCountOf, IsFoldedNever, SaysOfPlacement}
+use Rattle.tab_rule.specs.FoldedTables.{AreFolded, HasFoldedTable, IsFoldedCost, FoldedTableSays, IsFoldedNever, SaysOfPlacement}
 use Rattle.tab_rule.specs.LeastEntries.{IsLeastEntry}
 use Rattle.tab_rule.specs.declared.tables.Count.{Count}
 use Rattle.tab_rule.specs.declared.tables.Count.TheVariants.{Finite, Never}
@@ -200,17 +200,17 @@ folded_all t is folded are = record {
 
 -- ---- a folded table tells a count of each board of its side
 
-pub says-folded : (p : ShownPattern) (b : List ℕ) → side_of b ≡ p.side → (e : ℕ) → SaysOfPlacement p (placement_of p.tiles b) e → IsFoldedCountOf p.tiles b (cond (eqb e 255) Never (Finite e))
+pub says-folded : (p : ShownPattern) (b : List ℕ) → side_of b ≡ p.side → (e : ℕ) → SaysOfPlacement p (placement_of p.tiles b) e → FoldedTableSays p.tiles b (cond (eqb e 255) Never (Finite e))
 says-folded p b side e says = elim says [
   | inl h ↦
       let finite : Finite e ≡ cond (eqb e 255) Never (Finite e) = sym (cond-false (eqb e 255) Never (Finite e) (ne_eqb e 255 (λ full. let l = h.0 in omega arith))) in
-      subst (IsFoldedCountOf p.tiles b) finite (subst (λ n. IsFoldedCost n p.tiles (placement_of p.tiles b) e) (sym side) h.1)
+      subst (FoldedTableSays p.tiles b) finite (subst (λ n. IsFoldedCost n p.tiles (placement_of p.tiles b) e) (sym side) h.1)
   | inr h ↦
       let never : Never ≡ cond (eqb e 255) Never (Finite e) = sym (cond-true (eqb e 255) Never (Finite e) (eq-eqb e 255 h.0)) in
-      subst (IsFoldedCountOf p.tiles b) never (subst (λ n. IsFoldedNever n p.tiles (placement_of p.tiles b)) (sym side) h.1)
+      subst (FoldedTableSays p.tiles b) never (subst (λ n. IsFoldedNever n p.tiles (placement_of p.tiles b)) (sym side) h.1)
 ]
 
-pub folded_some : (p : ShownPattern) → HasFoldedTable p → (b : List ℕ) → IsBoardOf p.side b → (count : Count) × IsFoldedCountOf p.tiles b count
+pub folded_some : (p : ShownPattern) → HasFoldedTable p → (b : List ℕ) → IsBoardOf p.side b → (count : Count) × FoldedTableSays p.tiles b count
 folded_some p is b board =
     let side : side_of b ≡ p.side = side_of-board p.side b board in
     let good : IsBoard b = subst (λ n. IsBoardOf n b) (sym side) board in
@@ -221,6 +221,6 @@ folded_some p is b board =
 
 -- ---- a folded count and the paths of a board
 
-pub folded_bound : (tiles b : List ℕ) → IsBoard b → (count : Count) → IsFoldedCountOf tiles b count → (path : List ℕ) → LeadsHome tiles b path → (d : ℕ) × (count ≡ Finite d) × (d ≤ cost tiles b path)
+pub folded_bound : (tiles b : List ℕ) → IsBoard b → (count : Count) → FoldedTableSays tiles b count → (path : List ℕ) → LeadsHome tiles b path → (d : ℕ) × (count ≡ Finite d) × (d ≤ cost tiles b path)
 folded_bound tiles b board (Finite d) is path leads = (d, refl, is.least b path board refl leads)
 folded_bound tiles b board Never is path leads = absurd (is b board refl path leads)

@@ -15,7 +15,7 @@ use Rattle.pat_place.proofs.PlacementLemmas.{IsPlacement-of, cells_of_board}
 use Rattle.pat_place.proofs.SlideLemmas.{IsFree-blank}
 use Rattle.pat_place.proofs.SlotLemmas.{count_place, slot_some}
 use Rattle.tab_file.specs.Tables.{Table, entry_at, slot_count}
-use Rattle.tab_rule.specs.Counts.{IsCountOf}
+use Rattle.tab_rule.specs.Counts.{TableSays}
 use Rattle.tab_rule.specs.Entries.{HasRegion, IsEntryNumber}
 use Rattle.tab_rule.specs.ExactTables.{IsExactTable, SaysOfBoard}
 use Rattle.tab_rule.specs.declared.tables.Count.{Count}
@@ -89,10 +89,10 @@ entry_says t is b good side r j e is_rank is_slot slot_low holds =
     subst (SaysOfBoard t.pattern.tiles b) (sym holds) (right.boards b board refl is_slot)
 
 -- such an entry as a count
-pub says-count : (tiles b : List ℕ) (e : ℕ) → SaysOfBoard tiles b e → IsCountOf tiles b (cond (eqb e 255) Never (Finite e))
+pub says-count : (tiles b : List ℕ) (e : ℕ) → SaysOfBoard tiles b e → TableSays tiles b (cond (eqb e 255) Never (Finite e))
 says-count tiles b e says = elim says [
-  | inl h ↦ subst (IsCountOf tiles b) (sym (cond-false (eqb e 255) Never (Finite e) (ne_eqb e 255 (λ full. let l = h.0 in omega arith)))) h.1
-  | inr h ↦ subst (IsCountOf tiles b) (sym (cond-true (eqb e 255) Never (Finite e) (eq-eqb e 255 h.0))) h.1
+  | inl h ↦ subst (TableSays tiles b) (sym (cond-false (eqb e 255) Never (Finite e) (ne_eqb e 255 (λ full. let l = h.0 in omega arith)))) h.1
+  | inr h ↦ subst (TableSays tiles b) (sym (cond-true (eqb e 255) Never (Finite e) (eq-eqb e 255 h.0))) h.1
 ]
 
 pub says-few : (tiles b : List ℕ) (e : ℕ) → SaysOfBoard tiles b e → (d : ℕ) → cond (eqb e 255) Never (Finite e) ≡ Finite d → d ≤ 253
@@ -102,7 +102,7 @@ says-few tiles b e says d is = elim says [
 ]
 
 -- an exact table tells a count of each board of its side
-pub count_some : (t : Table) → IsExactTable t → (b : List ℕ) → IsBoardOf t.pattern.side b → (count : Count) × IsCountOf t.pattern.tiles b count
+pub count_some : (t : Table) → IsExactTable t → (b : List ℕ) → IsBoardOf t.pattern.side b → (count : Count) × TableSays t.pattern.tiles b count
 count_some t is b board =
     let pat = is.is_table.pattern in
     let s : State t.pattern.side = record { cells = b; good = board } in

@@ -8,10 +8,10 @@ use Rattle.tab_rule.specs.declared.census.Census.{Census}
 use Rattle.tab_rule.specs.declared.tables.Count.{Count}
 use Rattle.tab_rule.specs.declared.tables.Count.TheVariants.{Finite, Never}
 
--- the least cost at which the tiles come home, or never
-abbrev pub IsCountOf : List ℕ → List ℕ → Count → Type 0
-IsCountOf tiles b (Finite d) = IsLeastCost tiles b d
-IsCountOf tiles b Never = IsNeverHome tiles b
+-- what a table of these tiles says of a board: the least cost at which they come home, or never
+abbrev pub TableSays : List ℕ → List ℕ → Count → Type 0
+TableSays tiles b (Finite d) = IsLeastCost tiles b d
+TableSays tiles b Never = IsNeverHome tiles b
 
 -- the list has the cell of each number of the board, in the order of the numbers; what follows these tells nothing
 abbrev pub AreCellsOf : List ℕ → List ℕ → Type 0

@@ -7,17 +7,16 @@ use Rattle.pat_place.specs.Placements.{placement_of}
 use Rattle.pat_place.specs.Regions.{IsSlot}
 use Rattle.tab_file.specs.TableFiles.{IsTableFile}
 use Rattle.tab_file.specs.Tables.{Table, IsTable}
-use Rattle.tab_rule.specs.Entries.{HasNoRegion, IsEntryNumber}
-use Rattle.tab_file.specs.EntryBytes.{greatest_count, no_region_entry, no_way_home}
+use Rattle.tab_rule.specs.Entries.{IsEntryNumber}
 
 -- an entry says the least cost of a board, which is 253 at most, or by 255 that no path leads its tiles home
 abbrev pub SaysOfBoard : List ℕ → List ℕ → ℕ → Type 0
-SaysOfBoard tiles b e = ((e ≤ greatest_count) × IsLeastCost tiles b e) ⊎ ((e ≡ no_way_home) × IsNeverHome tiles b)
+SaysOfBoard tiles b e = ((e ≤ 253) × IsLeastCost tiles b e) ⊎ ((e ≡ 255) × IsNeverHome tiles b)
 
 -- an entry is right: 254 where the slot has no region, and otherwise what it says holds of every board with this
 -- placement and its blank in this slot's region
 pub record IsExactEntry (p : ShownPattern) (cells : List ℕ) (j e : ℕ) : Type 0 where
-  pub no_region : HasNoRegion p.side cells j → e ≡ no_region_entry
+  pub no_region : ((c : ℕ) → ¬ IsSlot p.side cells c j) → e ≡ 254
   pub boards : (b : List ℕ) → IsBoardOf p.side b → placement_of p.tiles b ≡ cells → IsSlot p.side cells (blank b) j → SaysOfBoard p.tiles b e
 
 -- each entry is right

@@ -6,7 +6,6 @@ use Rattle.pat_place.specs.Patterns.{ShownPattern, IsPattern}
 use Rattle.pat_place.specs.Placements.{IsPlacement, placement_of}
 use Rattle.pat_place.specs.Ranks.{IsRank}
 use Rattle.tab_file.specs.Tables.{placement_count}
-use Rattle.tab_file.specs.EntryBytes.{greatest_count, no_way_home}
 use Rattle.tab_rule.specs.declared.tables.Count.{Count}
 use Rattle.tab_rule.specs.declared.tables.Count.TheVariants.{Finite, Never}
 
@@ -22,15 +21,15 @@ pub record IsFoldedCost (n : ℕ) (tiles cells : List ℕ) (d : ℕ) : Type 0 wh
 abbrev pub IsFoldedNever : ℕ → List ℕ → List ℕ → Type 0
 IsFoldedNever n tiles cells = (b : List ℕ) → IsBoardOf n b → placement_of tiles b ≡ cells → IsNeverHome tiles b
 
--- what a folded table tells of a board: that of its placement
-abbrev pub IsFoldedCountOf : List ℕ → List ℕ → Count → Type 0
-IsFoldedCountOf tiles b (Finite d) = IsFoldedCost (side_of b) tiles (placement_of tiles b) d
-IsFoldedCountOf tiles b Never = IsFoldedNever (side_of b) tiles (placement_of tiles b)
+-- what a folded table of these tiles says of a board: that of its placement
+abbrev pub FoldedTableSays : List ℕ → List ℕ → Count → Type 0
+FoldedTableSays tiles b (Finite d) = IsFoldedCost (side_of b) tiles (placement_of tiles b) d
+FoldedTableSays tiles b Never = IsFoldedNever (side_of b) tiles (placement_of tiles b)
 
 -- an entry says this of a placement: the cost, which is 253 at most, or by 255 that none of its boards comes home
 abbrev pub SaysOfPlacement : ShownPattern → List ℕ → ℕ → Type 0
 SaysOfPlacement p cells e =
-    ((e ≤ greatest_count) × IsFoldedCost p.side p.tiles cells e) ⊎ ((e ≡ no_way_home) × IsFoldedNever p.side p.tiles cells)
+    ((e ≤ 253) × IsFoldedCost p.side p.tiles cells e) ⊎ ((e ≡ 255) × IsFoldedNever p.side p.tiles cells)
 
 -- the entries of a folded table of the pattern, rank by rank
 pub record AreFolded (p : ShownPattern) (entries : List ℕ) : Type 0 where

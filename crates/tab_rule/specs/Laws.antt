@@ -11,7 +11,7 @@ use Rattle.tab_rule.specs.Counts.{IsCensusOf}
 use Rattle.tab_rule.specs.Entries.{IsEntryAt}
 use Rattle.tab_file.specs.EntryBytes.{greatest_count}
 use Rattle.tab_rule.specs.ExactTables.{AreExact, IsExactFile}
-use Rattle.tab_rule.specs.FoldedTables.{IsFoldedCountOf}
+use Rattle.tab_rule.specs.FoldedTables.{FoldedTableSays}
 use Rattle.tab_rule.specs.LocalRule.{IsNearEntry}
 use Rattle.tab_rule.specs.TableFaults.{IsTableFaultOf}
 use Rattle.tab_rule.specs.declared.census.Census.{Census}
@@ -64,7 +64,7 @@ FilesAreExactByRule = (t : Table) → IsTable t → AllKeepRule t ↔ AreExact t
 -- where a path leads a board's tiles home, what a folded table tells of the board is a count that is at most its cost
 abbrev pub FoldedCountsBoundPaths : Type 0
 FoldedCountsBoundPaths =
-    (tiles b : List ℕ) → IsBoard b → (count : Count) → IsFoldedCountOf tiles b count → (path : List ℕ) → LeadsHome tiles b path →
+    (tiles b : List ℕ) → IsBoard b → (count : Count) → FoldedTableSays tiles b count → (path : List ℕ) → LeadsHome tiles b path →
     (d : ℕ) × (count ≡ Finite d) × (d ≤ cost tiles b path)
 
 -- ---- one answer

@@ -5,7 +5,7 @@ ghost use Rattle.puz_board.specs.Boards.{IsBoardOf, side_of};
 ghost use Rattle.tab_file.specs.Tables.{slot_count};
 ghost use Rattle.tab_rule.specs.Counts.{AreCellsOf};
 ghost use Rattle.tab_file.specs.EntryBytes.{greatest_count};
-ghost use Rattle.tab_rule.specs.FoldedTables.{AreFolded, HasFoldedTable, IsFoldedCountOf};
+ghost use Rattle.tab_rule.specs.FoldedTables.{AreFolded, HasFoldedTable, FoldedTableSays};
 ghost use Rattle.tab_rule.specs.LeastEntries.{IsLeastEntry};
 ghost use Rattle.tab_rule.specs.declared.tables.Count.TheVariants.{Finite};
 
@@ -102,7 +102,7 @@ impl FoldedTable {
     /// The least that the table which was folded tells of any board with this board's placement.
     pub fn look(&self, board: &Board) -> Count
         requires { side_of board.now ≡ self.now.side }
-        ensures count { IsFoldedCountOf self.now.tiles board.now result }
+        ensures count { FoldedTableSays self.now.tiles board.now result }
         ensures few { (d : ℕ) → result ≡ Finite d → d ≤ greatest_count }
     {
         let _side = board.side();
@@ -114,7 +114,7 @@ impl FoldedTable {
         requires { (board : List ℕ) × IsBoardOf self.now.side board × AreCellsOf found.now board }
         ensures count { (board : List ℕ) → IsBoardOf self.now.side board
             → AreCellsOf found.now board
-            → IsFoldedCountOf self.now.tiles board result }
+            → FoldedTableSays self.now.tiles board result }
         ensures few { (d : ℕ) → result ≡ Finite d → d ≤ greatest_count }
     {
         let standing = standing_of(&self.pattern(), found);

@@ -10,7 +10,7 @@ ghost use Rattle.pat_place.specs.Regions.{IsSlot};
 ghost use Rattle.tab_file.specs.EntryBytes.{greatest_count, no_way_home};
 ghost use Rattle.tab_file.specs.Tables.{IsTable, slot_count};
 ghost use Rattle.tab_rule.specs.Blocks.{AllBlocksKeepRule};
-ghost use Rattle.tab_rule.specs.Counts.{AreCellsOf, IsCensusOf, IsCountOf};
+ghost use Rattle.tab_rule.specs.Counts.{AreCellsOf, IsCensusOf, TableSays};
 ghost use Rattle.tab_rule.specs.ExactTables.{IsExactTable};
 ghost use Rattle.tab_rule.specs.declared.tables.Count.TheVariants.{Finite, Never};
 
@@ -103,7 +103,7 @@ impl<'a> CheckedTable<'a> {
     /// The least number of moves of the pattern's tiles on this board that bring them home.
     pub fn look(&self, board: &Board) -> Count
         requires { side_of board.now ≡ self.now.pattern.side }
-        ensures count { IsCountOf self.now.pattern.tiles board.now result }
+        ensures count { TableSays self.now.pattern.tiles board.now result }
         ensures few { (d : ℕ) → result ≡ Finite d → d ≤ greatest_count }
     {
         let _side = board.side();
@@ -116,7 +116,7 @@ impl<'a> CheckedTable<'a> {
             × IsBoardOf self.now.pattern.side board × AreCellsOf found.now board }
         ensures count { (board : List ℕ) → IsBoardOf self.now.pattern.side board
             → AreCellsOf found.now board
-            → IsCountOf self.now.pattern.tiles board result }
+            → TableSays self.now.pattern.tiles board result }
         ensures few { (d : ℕ) → result ≡ Finite d → d ≤ greatest_count }
     {
         let standing = standing_of(&self.pattern(), found);

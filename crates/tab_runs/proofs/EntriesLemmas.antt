@@ -64,7 +64,7 @@ module _ (t : Table) (file p : List ℕ) (is_file : IsTableFile t file) (run : I
       let all : length t.entries ≡ entry_count t.pattern = is_file.table.entries in
       let d : length (drop 20 file) ≡ length t.entries = ap length is_file.entries in
       let k = length-drop 20 file in
-      let room = is_file.header.room in
+      let room = is_file.room in
       omega arith
 
   pub run_bytes : (start len : ℕ) → start ≡ 19 + r * run_length t.pattern.side p * slot_count t.pattern → len ≡ run_length t.pattern.side p * slot_count t.pattern + 1 → AreRunEntries t p (take len (drop start file))

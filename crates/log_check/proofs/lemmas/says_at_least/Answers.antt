@@ -1,7 +1,7 @@
 use Rattle.std.proofs.Common.{◌≡◌, ◌≤◌, ◌∙◌, ap, le-leb, leb-true, subst, sym}
 use Rattle.tab_rule.specs.declared.tables.Count.TheVariants.{Finite}
 use Rattle.set_sum.specs.Bounds.{CountReaches}
-use Rattle.set_sum.specs.Parity.{told_of}
+use Rattle.set_sum.specs.Raised.{told_of}
 use Rattle.set_sum.proofs.SayLemmas.{reaches_from_sum}
 use Rattle.log_check.proofs.lemmas.says_at_least.Goals as goal
 

@@ -4,7 +4,7 @@ use Rattle.pat_place.specs.Patterns.{IsPattern}
 use Rattle.std.specs.List.{AllByRecursion}
 use Rattle.byteorder.specs.Endian.{big_number}
 use Rattle.tab_file.specs.Tables.{entry_count}
-use Rattle.tab_file.specs.TableFiles.{entry_count_in}
+use Rattle.tab_file.specs.HeadFields.{entry_count_in}
 use Rattle.tab_file.specs.declared.headers.HeadFault.TheVariants.{T1, T2, T3, T4, T5, T6}
 use Rattle.tab_file.proofs.FaultLemmas.{begins-from, begins-test, drop-rest, pattern_named, refused, accepted, table_named, Passes, all_faults}
 use Rattle.tab_file.proofs.views.read_table.Goals as goal

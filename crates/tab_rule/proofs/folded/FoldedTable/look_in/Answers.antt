@@ -9,7 +9,7 @@ use Rattle.pat_place.specs.Ranks.{IsRank}
 use Rattle.pat_place.proofs.PlacementLemmas.{IsPlacement-of}
 use Rattle.tab_rule.specs.Counts.{AreCellsOf}
 use Rattle.tab_rule.specs.declared.tables.Count.TheVariants.{Finite, Never}
-use Rattle.tab_rule.specs.FoldedTables.{AreFolded, IsFoldedCountOf, SaysOfPlacement}
+use Rattle.tab_rule.specs.FoldedTables.{AreFolded, FoldedTableSays, SaysOfPlacement}
 use Rattle.tab_rule.proofs.FoldLemmas.{says-folded}
 use Rattle.tab_rule.proofs.LookLemmas.{placement_found, placement_on}
 use Rattle.tab_rule.proofs.folded.FoldedTable.look_in.Goals as goal
@@ -49,7 +49,7 @@ pub returns-clause-count : goal.returns-clause-count
 returns-clause-count c b board found =
     let p = c.args.self.now in
     let says = says_of c b board found in
-    subst (IsFoldedCountOf p.tiles b) (sym c.count_of.ensures)
+    subst (FoldedTableSays p.tiles b) (sym c.count_of.ensures)
     (says-folded p b (side_of-board p.side b board) (slice_index c.as_slice.result.now c.standing_of-standing.result.rank) says)
 
 few : (p : ShownPattern) (cells : List ℕ) (e : ℕ) → SaysOfPlacement p cells e → (d : ℕ) → cond (eqb e 255) Never (Finite e) ≡ Finite d → d ≤ 253

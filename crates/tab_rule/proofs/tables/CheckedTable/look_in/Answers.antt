@@ -8,7 +8,7 @@ use Rattle.pat_place.proofs.PlacementLemmas.{IsPlacement-of}
 use Rattle.pat_place.specs.Ranks.{IsRank}
 use Rattle.pat_place.specs.Regions.{IsSlot}
 use Rattle.tab_file.specs.Tables.{IsTable, Table, placement_count, slot_count}
-use Rattle.tab_rule.specs.Counts.{AreCellsOf, IsCountOf}
+use Rattle.tab_rule.specs.Counts.{AreCellsOf, TableSays}
 use Rattle.tab_rule.specs.ExactTables.{SaysOfBoard}
 use Rattle.tab_rule.proofs.BlockLemmas.{rank_below}
 use Rattle.tab_rule.proofs.LookLemmas.{entry_says, free_blank, placement_found, placement_on, says-count, says-few}
@@ -90,7 +90,7 @@ returns c =
     record {
       count = λ b is are.
           let says = says_of (goal.at.returns c).After-entry b (subst (λ n. IsBoardOf n b) back is) are in
-          subst (λ s. IsCountOf s.pattern.tiles b c.count_of.result) c.self.view_is (subst (IsCountOf t.pattern.tiles b) (sym c.count_of.ensures) (says-count t.pattern.tiles b c.entry.result says));
+          subst (λ s. TableSays s.pattern.tiles b c.count_of.result) c.self.view_is (subst (TableSays t.pattern.tiles b) (sym c.count_of.ensures) (says-count t.pattern.tiles b c.entry.result says));
       few = λ d is.
           let b = c.requires.0 in
           let says = says_of (goal.at.returns c).After-entry b (subst (λ n. IsBoardOf n b) back c.requires.1) c.requires.2 in
