@@ -179,6 +179,7 @@ watch() {
 # Proves and builds the program, at most twice: the second time one crate after the other, as may help where memory was short.
 build() {
     local copy alive most status refused begun=$EPOCHSECONDS
+    { : >&2; } 2>/dev/null || exec 2>/dev/null
     [[ $(make --version 2>/dev/null) == 'GNU Make'* ]] || say 'GNU make is not on the PATH: install the package make' || return
     { : >"$log"; } 2>/dev/null || say "$log cannot be written" || return
     say "proving and building the program, some minutes the first time; the log is $log"

@@ -206,7 +206,7 @@ log | true | [ "$(grep -c "^fn .*: proved$" "$checkout/out/build.log")" = 2 ] &&
 copy_of_sources_alone | mkdir crates/low/out; touch crates/low/out/x.rt | ! grep "README\|edit\|x.rt" "$at/orders/copy"
 input | head -c 100000 /dev/urandom >"$at/in"; input=$at/in; words=(copy) | wrote 0 "$input"
 environment | by=("$env" RT_ALLOW_C=1 RT_BACKEND=rattle MAKEFLAGS=-n MAKEFILES=crates.txt "$launcher") | ran low pdb_cli
-no_terminal | by=("$(type -P setsid)" -w "$launcher") | ran low pdb_cli
+no_terminal_and_no_streams | by=("$(type -P setsid)" -w bash -c "exec \"\$@\" <&- 2>&-" bash "$launcher") | ran low pdb_cli
 no_nproc | rm "$kit/bin/nproc" | ran low pdb_cli
 one_processor | add_more; echo 1 >"$at/orders/processors" | is_run && in_turn low top right left pdb_cli
 little_memory | add_more; cp "$kit/bin/rt" "$kit/bin/sed" | is_run && in_turn low top right left pdb_cli

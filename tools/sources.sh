@@ -31,7 +31,7 @@ find_paths() {
 # Has find look, by these words, at all that may not change if the program is not to be built again.
 look_at_all() {
     local paths kit
-    find_rt && kit=$(readlink -f -- "$rt") && kit=${kit%/*/*}/KIT-ID || return 1
+    find_rt && kit=$rt && { [ ! -L "$rt" ] || kit=$(readlink -f -- "$rt"); } && kit=${kit%/*}/../KIT-ID || return 1
     find_paths "$root/"
     [ ! -e "$kit" ] || paths+=("$kit")
     find -H "${paths[@]}" "$rt" "$program" "$@"
