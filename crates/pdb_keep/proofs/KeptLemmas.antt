@@ -13,7 +13,6 @@ use Rattle.pdb_run.proofs.AnswerLemmas.{IsAnswered-ends}
 use Rattle.pdb_verdict.specs.Inputs.{log_files}
 use Rattle.pdb_verdict.specs.Limits.{a_table}
 use Rattle.pdb_verdict.specs.Table.{IsTableResult, exact_verdict}
-use Rattle.pdb_verdict.specs.declared.verdicts.Fault.TheVariants as fault
 use Rattle.pdb_verdict.proofs.ClaimLemmas.{proved_least}
 use Rattle.pdb_verdict.proofs.RefusalLemmas.{told_yes}
 use Rattle.pdb_keep.specs.Kept.{IsLogKept, IsTableKept}
@@ -38,7 +37,7 @@ module _ (arguments : MakeTableArguments) (old new : World) where
   exact_kept : (build : Build) → IsBuildFor arguments.side arguments.mask build → IsYes arguments.out old new (reply_to_build build)
       → IsTableKept arguments old new
   exact_kept (built file (Ok v)) is says =
-      let yes = (told_yes exact_verdict fault.Table (IsTableResult file) v).0 is.is_result in
+      let yes = (told_yes exact_verdict (IsTableResult file) v).0 is.is_result in
       let speaks = rw yes.2 at is.own in
       record {
         file = file;

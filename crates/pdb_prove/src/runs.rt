@@ -6,13 +6,13 @@ ghost use Rattle.claim_text.specs.Lines.{HasFewLetters};
 ghost use Rattle.claim_text.specs.Shown.{claim_shown};
 ghost use Rattle.claim_text.specs.Texts.{AreClaims};
 ghost use Rattle.pdb_request.specs.Asked.{prove_shown};
-ghost use Rattle.pdb_run.specs.Answers.{IsReplyOf, all_bytes, answer_text, digest_lines};
+ghost use Rattle.pdb_run.specs.Answers.{all_bytes, answer_text, digest_lines};
 ghost use Rattle.pdb_run.specs.Io.{HasRead};
 ghost use Rattle.pdb_run.specs.Runs.{World, status_of_reply};
 ghost use Rattle.pdb_run.specs.Writing.{digests_of};
 ghost use Rattle.pdb_verdict.specs.FileBundles.{IsBundleOfFiles, IsCauseForBundle};
-ghost use Rattle.pdb_prove.specs.Prove.{AreReady, ClaimsFiles, ProveEnds, budget_of, digested_files, in_order, prove_inputs, reply_to_claims, unready};
-ghost use Rattle.pdb_prove.specs.Steps.{IsCauseForClaims, failure_of, files_of};
+ghost use Rattle.pdb_prove.specs.Prove.{AreReady, ClaimsFiles, ProveEnds, budget_of, digested_files, in_order, prove_inputs};
+ghost use Rattle.pdb_prove.specs.Steps.{IsCauseForClaims, files_of, of_claims};
 
 use crate::batches::tell_all;
 use crate::inputs::Proving;
@@ -23,11 +23,8 @@ use pdb_run::{
     Answer, Digested, Digests, FILES_BESIDE, Io, Lines, Status, beside, conclude, read_inputs,
     with_digest,
 };
-use pdb_verdict::{
-    BundleRefusal, Failure, Fault, Tables, fold_bundle, line_of, read_bundle, take_first,
-};
+use pdb_verdict::{Fault, Tables, fold_bundle, read_bundle, take_first, told_or_memory};
 use set_sum::Bundle;
-use std::alloc::AllocError;
 use std::sync::Wait;
 use std::thread::Threads;
 use work_run::{Gate, Workers};
@@ -65,18 +62,18 @@ pub fn run_prove<H: Threads + Wait + Sync, G: Gate + Sync, I: Io>(
         }
         Err(fault) => {
             let digested = Digested::Files(tables.as_slice(), Some(text.as_slice()));
-            tell_failure(&command, digested, failure_of(fault), io)
+            tell_fault(&command, digested, of_claims(fault), io)
         }
     }
 }
 
 /// Why nothing is searched, where a text gives no claims.
-fn failure_of(fault: ClaimsFault) -> Failure<Fault>
-    ensures { result ≡ failure_of fault }
+fn of_claims(fault: ClaimsFault) -> Fault
+    ensures { result ≡ of_claims fault }
 {
     match fault {
-        ClaimsFault::Q1 { line } => Failure::Refused(Fault::Q1(line)),
-        ClaimsFault::Memory => Failure::Memory,
+        ClaimsFault::Q1 { line } => Fault::Q1(line),
+        ClaimsFault::Memory => Fault::Memory,
     }
 }
 
@@ -131,7 +128,7 @@ fn bundle_beside<'t, H: Threads + Wait + Sync, G: Gate + Sync>(
     text: &[u8],
     sets: &[u8],
     workers: &Workers<'_, H, G>,
-) -> (Option<Digests>, Result<Bundle<'t>, Failure<BundleRefusal>>)
+) -> (Option<Digests>, Result<Bundle<'t>, Fault>)
     ensures digests { let all = files_of text.now sets.now (all_bytes tables.entry.files.now) in
         IfSome result.0 (λ digests. digests.items ≡ digests_of (digested_files all)) }
     ensures ok { let files = all_bytes tables.entry.files.now in
@@ -139,7 +136,7 @@ fn bundle_beside<'t, H: Threads + Wait + Sync, G: Gate + Sync>(
     ensures err { let files = all_bytes tables.entry.files.now in
         IfErr result.1 (IsCauseForBundle tables.entry.fold files sets.now) }
 {
-    let check = || -> Result<Bundle<'_>, Failure<BundleRefusal>>
+    let check = || -> Result<Bundle<'_>, Fault>
         ensures ok { let files = all_bytes tables.entry.files.now in
             IfOk result (IsBundleOfFiles tables.entry.fold files sets.entry.now) }
         ensures err { let files = all_bytes tables.entry.files.now in
@@ -179,7 +176,7 @@ fn prove_folded<H: Threads + Wait + Sync, G: Gate + Sync, I: Io>(
 fn tell_ready<H: Threads + Wait + Sync, G: Gate + Sync, I: Io>(
     command: &Proving<'_, '_>,
     digested: Digested<'_>,
-    ready: &Result<Ready<'_, '_>, Failure<Fault>>,
+    ready: &Result<Ready<'_, '_>, Fault>,
     workers: &Workers<'_, H, G>,
     io: &mut I,
 ) -> Status
@@ -197,15 +194,15 @@ fn tell_ready<H: Threads + Wait + Sync, G: Gate + Sync, I: Io>(
 {
     match ready {
         Ok(ready) => answer_claims(command, digested, ready, workers, io),
-        Err(failure) => tell_failure(command, digested, *failure, io),
+        Err(fault) => tell_fault(command, digested, *fault, io),
     }
 }
 
 /// Tells why nothing is searched.
-fn tell_failure<I: Io>(
+fn tell_fault<I: Io>(
     command: &Proving<'_, '_>,
     digested: Digested<'_>,
-    failure: Failure<Fault>,
+    fault: Fault,
     io: &mut I,
 ) -> Status
     ensures same_streams { I.streams io.new ≡ I.streams io.old }
@@ -213,27 +210,10 @@ fn tell_failure<I: Io>(
         (files : ClaimsFiles) (old : World)
         → HasRead (prove_inputs arguments) old (I.world io.old) (in_order files)
         → digest_lines digested.entry ≡ digests_of (digested_files files)
-        → IsCauseForClaims arguments.fold files failure
+        → IsCauseForClaims arguments.fold files fault
         → ProveEnds arguments old (I.world io.new) result }
 {
-    match failure {
-        Failure::Refused(refused) => conclude(command, &Ok(refusal_of(digested, refused)), io),
-        Failure::Memory => conclude(command, &Err(AllocError), io),
-    }
-}
-
-/// The answer where nothing is searched.
-fn refusal_of<'i>(digested: Digested<'i>, refused: Fault) -> Answer<'i>
-    ensures { (files : ClaimsFiles) → digest_lines digested.entry ≡ digests_of (digested_files files)
-        → IsReplyOf result (reply_to_claims files (unready refused)) }
-{
-    Answer {
-        digested,
-        made: None,
-        made_digest: None,
-        lines: line_of(&Err(refused)),
-        is_yes: false,
-    }
+    conclude(command, &told_or_memory(digested, Err(fault)), io)
 }
 
 /// Tells the digests, and then the answer to each claim.

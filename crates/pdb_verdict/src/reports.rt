@@ -1,17 +1,18 @@
 //! What is written of an answer.
 
-ghost use Rattle.std.specs.Prelude.{◌≡◌, ◌++◌, option_map, IfSome};
+ghost use Rattle.std.specs.Prelude.{◌≡◌, ◌≢◌, ◌++◌, Err, List, option_map, IfOk, IfSome, OnErr};
+ghost use Rattle.byte_io.specs.Shelf.{Bytes};
 ghost use Rattle.byte_io.specs.Streams.{Writes};
 ghost use Rattle.pdb_run.specs.Writing.{digests_of, list_of};
 ghost use Rattle.pdb_run.specs.Answers.{IsAnswerBy, IsReplyOf, all_bytes, digest_lines};
-ghost use Rattle.pdb_verdict.specs.Inputs.{Given, given};
-ghost use Rattle.pdb_verdict.specs.Lines.{digested_of, line_of, lines_of, reply_to, stands_alone};
-ghost use Rattle.pdb_verdict.specs.Verdicts.{IsFoundOf, TakesMemory, TellsResult};
+ghost use Rattle.pdb_verdict.specs.Inputs.{given};
+ghost use Rattle.pdb_verdict.specs.Lines.{digested_of, line_of, lines_of, reply_on, stands_alone};
+ghost use Rattle.pdb_verdict.specs.Verdicts.{IsAnswerTo, TakesMemory, TellsResult};
+ghost use Rattle.pdb_verdict.specs.declared.verdicts.Fault.TheVariants.{Memory};
 
 use crate::checks::verify_by;
 use crate::inputs::Inputs;
 use crate::lines::line_of;
-use crate::refusals::{Failure, settled};
 use crate::verdicts::{Fault, Verdict};
 use byte_io::sinks::Sink;
 use byte_io::streams::{WriteFault, put_text};
@@ -57,6 +58,7 @@ pub fn line<W: Sink>(answer: &Result<Verdict, Fault>, out: &mut W) -> Result<(),
 }
 
 /// The answer on inputs, whose digest lines are made beside their check, where there are workers for both.
+#[tactic(auto, using(crate::proofs::CheckLemmas::result_told))]
 pub(crate) fn answer_by<'i, H: Threads + Wait + Sync, G: Gate + Sync>(
     inputs: &Inputs<'i>,
     workers: &Workers<'_, H, G>,
@@ -72,14 +74,14 @@ pub(crate) fn answer_by<'i, H: Threads + Wait + Sync, G: Gate + Sync>(
 pub fn verify_beside<H: Threads + Wait + Sync, G: Gate + Sync>(
     inputs: &Inputs<'_>,
     workers: &Workers<'_, H, G>,
-) -> (Option<Digests>, Result<Verdict, Failure<Fault>>)
+) -> (Option<Digests>, Result<Verdict, Fault>)
     ensures digests { let lines = digests_of (digested_of (given inputs.now)) in
         IfSome result.0 (λ digests. digests.items ≡ lines) }
-    ensures answer { IsFoundOf (given inputs.now) result.1 }
+    ensures answer { IsAnswerTo (given inputs.now) result.1 }
 {
     let (files, last) = checked_files(inputs);
-    let check = || -> Result<Verdict, Failure<Fault>>
-        ensures { IsFoundOf (given inputs.entry.now) result }
+    let check = || -> Result<Verdict, Fault>
+        ensures { IsAnswerTo (given inputs.entry.now) result }
     { verify_by(inputs, workers) };
     beside(workers.rt, workers.count, files, last, check)
 }
@@ -99,10 +101,10 @@ pub(crate) fn digested_by<'i>(inputs: &Inputs<'i>, digests: Option<Digests>) -> 
     }
 }
 
-/// What is to be written of an answer on inputs with these digest lines.
-pub(crate) fn told<'i>(digested: Digested<'i>, answer: &Result<Verdict, Fault>) -> Answer<'i>
-    ensures { (inputs : Given) → digest_lines digested.entry ≡ digests_of (digested_of inputs)
-        → IsReplyOf result (reply_to inputs answer.now) }
+/// What is to be written of an answer behind these digest lines, where nothing was made.
+pub fn told<'i>(digested: Digested<'i>, answer: &Result<Verdict, Fault>) -> Answer<'i>
+    ensures { (files : List Bytes) → digest_lines digested.entry ≡ digests_of files
+        → IsReplyOf result (reply_on files answer.now) }
 {
     Answer {
         digested,
@@ -114,16 +116,28 @@ pub(crate) fn told<'i>(digested: Digested<'i>, answer: &Result<Verdict, Fault>) 
 }
 
 /// The same, but for want of memory.
-pub(crate) fn told_or_memory<'i>(
+pub fn told_or_memory<'i>(
     digested: Digested<'i>,
-    answer: Result<Verdict, Failure<Fault>>,
+    answer: Result<Verdict, Fault>,
 ) -> Result<Answer<'i>, AllocError>
-    ensures { (inputs : Given) → digest_lines digested.entry ≡ digests_of (digested_of inputs)
-        → IsFoundOf inputs answer
-        → IsAnswerBy (TellsResult inputs) (TakesMemory inputs) result }
+    ensures told { (files : List Bytes) → digest_lines digested.entry ≡ digests_of files
+        → IfOk result (λ told. IsReplyOf told (reply_on files answer) × (answer ≢ Err Memory)) }
+    ensures memory { OnErr result (answer ≡ Err Memory) }
 {
     let answer = settled(answer)?;
     Ok(told(digested, &answer))
+}
+
+/// What is found, where memory isn't wanted.
+pub fn settled<A: Drop>(found: Result<A, Fault>) -> Result<Result<A, Fault>, AllocError>
+    ensures ok { IfOk result (λ settled. (settled ≡ found) × (settled ≢ Err Memory)) }
+    ensures err { OnErr result (found ≡ Err Memory) }
+{
+    match found {
+        Err(Fault::Memory) => Err(AllocError),
+        Ok(found) => Ok(Ok(found)),
+        Err(refused) => Ok(Err(refused)),
+    }
 }
 
 /// The files whose digests are told: several, and one behind them.
