@@ -12,13 +12,14 @@ use Rattle.pdb_run.specs.declared.statuses.Status.TheVariants.{Yes, Refused}
 use Rattle.pdb_run.proofs.AnswerLemmas.{IsAnswered-ends}
 use Rattle.pdb_verdict.specs.Inputs.{log_files}
 use Rattle.pdb_verdict.specs.Limits.{a_table}
+use Rattle.pdb_verdict.specs.Replay.{puzzle_of}
 use Rattle.pdb_verdict.specs.Table.{IsTableResult, exact_verdict}
 use Rattle.pdb_verdict.proofs.ClaimLemmas.{proved_least}
 use Rattle.pdb_verdict.proofs.RefusalLemmas.{told_yes}
 use Rattle.pdb_keep.specs.Kept.{IsLogKept, IsTableKept}
 use Rattle.pdb_keep.specs.Laws.{KeptLogsProveOptima, KeptTablesAreExact}
 use Rattle.pdb_keep.specs.MakeTable.{Build, IsBuildFor, TellsBuild, built, make_table_plan, reply_to_build}
-use Rattle.pdb_keep.specs.Solve.{IsSearchOf, SearchOutcome, puzzle_of, reply_to_search, searched, solve_inputs, solve_plan}
+use Rattle.pdb_keep.specs.Solve.{IsSearchOf, SearchOutcome, reply_to_search, searched, solve_inputs, solve_plan}
 use Rattle.pdb_keep.proofs.MakerLemmas.{solved-moves}
 
 -- a reply is a yes, and what it made is kept and its lines are told

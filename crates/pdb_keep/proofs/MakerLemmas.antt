@@ -15,7 +15,7 @@ use Rattle.pdb_run.specs.declared.answers.Answer.{Answer}
 use Rattle.pdb_verdict.specs.FileBundles.{AreRefused, IsCauseForBundle}
 use Rattle.pdb_verdict.specs.Inputs.{log_files, table_file}
 use Rattle.pdb_verdict.specs.Optimal.{IsOptimumResult}
-use Rattle.pdb_verdict.specs.Replay.{IsSolvedPuzzle}
+use Rattle.pdb_verdict.specs.Replay.{IsSolvedPuzzle, puzzle_of}
 use Rattle.pdb_verdict.specs.Table.{IsTableResult, IsTableTold, TakesMemoryForTable, exact_verdict}
 use Rattle.pdb_verdict.specs.Verdicts.{IsAnswerTo}
 use Rattle.pdb_verdict.specs.declared.verdicts.Fault.{Fault}
@@ -25,7 +25,7 @@ use Rattle.pdb_verdict.proofs.BundleLemmas.{bundle_taken}
 use Rattle.pdb_verdict.proofs.RefusalLemmas.{cause_by, found_settled, told_yes}
 use Rattle.pdb_verdict.proofs.ReplayLemmas.{solved-puzzle, spelled-no_semicolon}
 use Rattle.pdb_keep.specs.MakeTable.{IsOfAnother, SpeaksOf}
-use Rattle.pdb_keep.specs.Solve.{AreForBoard, IsMade, IsSolveReply, IsUnmade, SolveTakesMemory, letter_of, letters_of, puzzle_of}
+use Rattle.pdb_keep.specs.Solve.{AreForBoard, IsMade, IsSolveReply, IsUnmade, SolveTakesMemory, letter_of, letters_of}
 use Rattle.pdb_keep.specs.Steps.{HasItsMoves, IsCauseForSearch, IsGivenUp, IsSearchAnswer, search_files_read}
 use Rattle.pdb_keep.specs.declared.search_inputs.SearchInputs.{SearchInputs}
 use Rattle.pdb_keep.specs.declared.solutions.TheConstants.{MOST_LETTERS}

@@ -19,6 +19,7 @@ use Rattle.pdb_verdict.specs.Inputs.{log_files}
 use Rattle.pdb_verdict.specs.Limits.{a_table, a_text}
 use Rattle.pdb_verdict.specs.Lines.{counted, line_of_fault, reply_on}
 use Rattle.pdb_verdict.specs.Optimal.{IsOptimumResult}
+use Rattle.pdb_verdict.specs.Replay.{puzzle_of}
 use Rattle.pdb_verdict.specs.declared.verdicts.Fault.{Fault}
 use Rattle.pdb_verdict.specs.declared.verdicts.Fault.TheVariants as fault
 
@@ -62,10 +63,6 @@ IsUnmade fold text sets tables (fault.Board refused) = board_of_text text ≡ Er
 IsUnmade fold text sets tables refused = IsUnmadeForText fold text sets tables refused
 
 -- ---- a log that is made
-
--- the board text and moves as a puzzle text; the byte of `;` is 59
-abbrev pub puzzle_of : Bytes → Bytes → Bytes
-puzzle_of text moves = text ++ 59 ∷ moves
 
 -- a search could begin, and the answer is the result on its moves and its log
 pub record IsMade (fold : Bool) (text sets : Bytes) (tables : List Bytes) (moves log : Bytes) (answer : Result ℕ Fault) : Type 0 where

@@ -5,6 +5,8 @@ ghost use Rattle.pdb_request.specs.Asked.{make_table_shown};
 ghost use Rattle.pdb_run.specs.Writing.{digests_of};
 ghost use Rattle.pdb_run.specs.Answers.{IsAnswerBy};
 ghost use Rattle.pdb_run.specs.Runs.{Ends};
+ghost use Rattle.pdb_verdict.specs.Inputs.{table_file};
+ghost use Rattle.pdb_verdict.specs.Verdicts.{IsAnswerTo};
 ghost use Rattle.pdb_keep.specs.MakeTable.{ArePattern, IsBuilt, SpeaksOf, TellsBuild, make_table_plan};
 ghost use Rattle.pdb_keep.specs.Steps.{IsCauseForBuild};
 
@@ -12,9 +14,10 @@ use crate::makers::of_maker;
 use pat_place::Pattern;
 use pdb_request::MakeTable;
 use pdb_run::{
-    Answer, Command, Digested, Digests, Input, Io, Status, keep_and_conclude, read_inputs_and_try,
+    Answer, Command, Digested, Digests, Input, Io, Status, beside, keep_and_conclude,
+    read_inputs_and_try,
 };
-use pdb_verdict::{Fault, Inputs, Verdict, line_of, settled, told, verify_beside};
+use pdb_verdict::{Fault, Verdict, line_of, settled, told, verify_table};
 use puz_board::Side;
 use puz_make::build;
 use std::alloc::{AllocError, Global};
@@ -106,7 +109,10 @@ fn build_table<H: Threads + Wait + Sync, G: Gate + Sync>(
         Err(fault) => return Err(of_maker(fault)),
     };
     let table = file.as_slice();
-    let (digest, answer) = verify_beside(&Inputs::Table { table }, workers);
+    let check = || -> Result<Verdict, Fault>
+        ensures { IsAnswerTo (table_file table.entry.now) result }
+    { verify_table(table, workers) };
+    let (digest, answer) = beside(workers.rt, workers.count, &[], Some(table), check);
     let answer = settled(answer)?;
     if speaks_of(&answer, side, mask) {
         Ok(Built {

@@ -12,7 +12,8 @@ ghost use Rattle.pdb_verdict.specs.FileBundles.{IsBundleOfFiles, IsCauseForBundl
 ghost use Rattle.pdb_verdict.specs.Inputs.{log_files};
 ghost use Rattle.pdb_verdict.specs.Optimal.{IsOptimumResult, TakesMemoryForOptimum};
 ghost use Rattle.pdb_verdict.specs.Refusals.{IsFoundBy};
-ghost use Rattle.pdb_keep.specs.Solve.{IsMade, TellsSearch, puzzle_of, reply_to_search, searched, solve_plan};
+ghost use Rattle.pdb_verdict.specs.Replay.{puzzle_of};
+ghost use Rattle.pdb_keep.specs.Solve.{IsMade, TellsSearch, reply_to_search, searched, solve_plan};
 ghost use Rattle.pdb_keep.specs.Steps.{HasItsMoves, IsCauseForSearch, IsGivenUp, IsSearchAnswer};
 
 use crate::makers::of_maker;
@@ -21,8 +22,8 @@ use crate::solutions::lines_on;
 use log_check::LogRefusal;
 use pdb_request::Search;
 use pdb_run::{
-    Answer, Digested, Digests, FILES_BESIDE, Io, Status, beside, keep_and_conclude,
-    read_inputs_and_try,
+    Answer, Digested, Digests, FILES_BESIDE, Io, Status, beside, digested_beside,
+    keep_and_conclude, read_inputs_and_try,
 };
 use pdb_verdict::{Fault, Tables, fold_bundle, optimum_over, read_bundle, settled, told};
 use puz_board::Board;
@@ -90,10 +91,8 @@ fn answer_folded<'i, H: Threads + Wait + Sync, G: Gate + Sync>(
     requires spelt { Spells files.text.items board.now }
     ensures { IsSearchAnswer true files result }
 {
-    let SearchInputs { text, sets, tables } = files;
-    let (text, sets) = (text.as_slice(), sets.as_slice());
-    let (digests, bundle) = fold_bundle(tables, sets, workers);
-    let outcome = search_in(bundle, board, text, budget, workers);
+    let (digests, bundle) = fold_bundle(files.tables, files.sets.as_slice(), workers);
+    let outcome = search_in(bundle, board, budget, workers);
     answer_of(Digested::Lines(digests), outcome)
 }
 
@@ -110,19 +109,8 @@ fn answer_solve<'i, H: Threads + Wait + Sync, G: Gate + Sync>(
     let (text, sets) = (files.text.as_slice(), files.sets.as_slice());
     let files = files.tables.as_slice();
     let tables = Tables { files, fold };
-    let (digests, outcome) = search_beside(text, sets, tables, budget, workers);
-    answer_of(digested_by(files, digests), outcome)
-}
-
-/// The digest lines of tables: those that are made already, or else those of the files.
-fn digested_by(tables: &[Vec<u8>], digests: Option<Digests>) -> Digested<'_>
-    requires { IfSome digests (λ digests. digests.items ≡ digests_of (all_bytes tables.now)) }
-    ensures { digest_lines result ≡ digests_of (all_bytes tables.now) }
-{
-    match digests {
-        Some(lines) => Digested::Lines(lines),
-        None => Digested::Files(tables, None),
-    }
+    let (digested, outcome) = search_beside(text, sets, tables, budget, workers);
+    answer_of(digested, outcome)
 }
 
 /// The answer on what comes of a search over tables with these digest lines.
@@ -173,16 +161,15 @@ struct Made {
         ≡ option_map (λ _. digests_of (log.items ∷ [])) digest },
 }
 
-/// What comes of a search, and the digest lines of the tables, where they are made beside it.
-fn search_beside<H: Threads + Wait + Sync, G: Gate + Sync>(
+/// What comes of a search, and the digest lines of the tables, which are made beside it, where there are workers for both.
+fn search_beside<'t, H: Threads + Wait + Sync, G: Gate + Sync>(
     text: &[u8],
     sets: &[u8],
-    tables: Tables<'_>,
+    tables: Tables<'t>,
     budget: u64,
     workers: &Workers<'_, H, G>,
-) -> (Option<Digests>, Result<Made, Fault>)
-    ensures digests { let files = all_bytes tables.entry.files.now in
-        IfSome result.0 (λ digests. digests.items ≡ digests_of files) }
+) -> (Digested<'t>, Result<Made, Fault>)
+    ensures digested { digest_lines result.0 ≡ digests_of (all_bytes tables.entry.files.now) }
     ensures outcome { let of = all_bytes tables.entry.files.now in let fold = tables.entry.fold in
         MatchResult result.1
         (λ made. IsMade fold text.now sets.now of made.moves.items made.log.items made.answer)
@@ -195,7 +182,7 @@ fn search_beside<H: Threads + Wait + Sync, G: Gate + Sync>(
             (λ made. IsMade fold b s of made.moves.items made.log.items made.answer)
             (IsCauseForSearch fold b s of) }
     { search(text, sets, tables, budget, workers) };
-    beside(workers.rt, workers.count, tables.files, None, search)
+    digested_beside(workers.rt, workers.count, tables.files, None, search)
 }
 
 /// Searches for a shortest solution of the board of a text, and checks what is found. Or the first refusal that stands: the
@@ -215,51 +202,48 @@ fn search<H: Threads + Wait + Sync, G: Gate + Sync>(
 {
     let board = Board::read(text)?;
     let bundle = read_bundle(tables, sets, workers);
-    search_in(bundle, &board, text, budget, workers)
+    search_in(bundle, &board, budget, workers)
 }
 
 /// The same for the board that a text spells, once the tables and the sets are checked.
 fn search_in<H: Threads + Wait + Sync, G: Gate + Sync>(
     bundle: Result<Bundle<'_>, Fault>,
     board: &Board,
-    text: &[u8],
     budget: u64,
     workers: &Workers<'_, H, G>,
 ) -> Result<Made, Fault>
-    ensures { (fold : Bool) (sets : List ℕ) (tables : List (List ℕ)) → Spells text.now board.now
-        → IfOk bundle.entry (IsBundleOfFiles fold tables sets)
+    ensures { (fold : Bool) (text sets : List ℕ) (tables : List (List ℕ))
+        → Spells text board.now → IfOk bundle.entry (IsBundleOfFiles fold tables sets)
         → IfErr bundle.entry (IsCauseForBundle fold tables sets)
         → MatchResult result
-        (λ made. IsMade fold text.now sets tables made.moves.items made.log.items made.answer)
-        (IsCauseForSearch fold text.now sets tables) }
+        (λ made. IsMade fold text sets tables made.moves.items made.log.items made.answer)
+        (IsCauseForSearch fold text sets tables) }
 {
     let bundle = bundle?;
     if board.side() != bundle.side() {
         return Err(Fault::Log(LogRefusal::L4));
     }
-    search_over(&bundle, board, text, budget, workers)
+    search_over(&bundle, board, budget, workers)
 }
 
-/// Searches for a shortest solution of the board that a text spells, over a bundle of its side, and checks what is found.
+/// Searches for a shortest solution of a board over a bundle of its side, and checks what is found.
 #[inline(never)] // so that the stack hasn't its values while tables are checked
 fn search_over<H: Threads + Wait + Sync, G: Gate + Sync>(
     bundle: &Bundle<'_>,
     board: &Board,
-    text: &[u8],
     budget: u64,
     workers: &Workers<'_, H, G>,
 ) -> Result<Made, Fault>
     requires { side_of board.now ≡ bundle.now.side }
     ensures given_up { IfErr result IsGivenUp }
-    ensures made { (fold : Bool) (sets : List ℕ) (tables : List (List ℕ))
+    ensures made { (fold : Bool) (text sets : List ℕ) (tables : List (List ℕ)) → Spells text board.now
         → IsBundleOfFiles fold tables sets bundle.now → IfOk result (λ made.
-        let puzzle = puzzle_of text.now made.moves.items in
+        let puzzle = puzzle_of text made.moves.items in
         IsOptimumResult (log_files fold puzzle sets made.log.items tables) made.answer) }
 {
     let found = find(workers.alloc, bundle, board, budget)?;
-    let puzzle = join(workers.alloc, text, found.moves.as_slice())?;
     let (moves, log) = (found.moves, found.log);
-    let (digest, answer) = log_beside(bundle, puzzle.as_slice(), log.as_slice(), workers);
+    let (digest, answer) = log_beside(bundle, board, moves.as_slice(), log.as_slice(), workers);
     let answer = settled(answer)?;
     Ok(Made {
         moves,
@@ -269,25 +253,26 @@ fn search_over<H: Threads + Wait + Sync, G: Gate + Sync>(
     })
 }
 
-/// The result on a puzzle text and a log over a bundle, and the log's digest line, where that is made beside the check.
+/// The result on the moves and the log of a board over a bundle, and the log's digest line, where that is made beside the check.
 fn log_beside<H: Threads + Wait + Sync, G: Gate + Sync>(
     bundle: &Bundle<'_>,
-    puzzle: &[u8],
+    board: &Board,
+    moves: &[u8],
     log: &[u8],
     workers: &Workers<'_, H, G>,
 ) -> (Option<Digests>, Result<u8, Fault>)
     ensures digest { IfSome result.0 (λ digest. digest.items ≡ digests_of (log.now ∷ [])) }
-    ensures answer { (fold : Bool) (sets : List ℕ) (tables : List (List ℕ))
-        → IsBundleOfFiles fold tables sets bundle.now
-        → IsFoundBy (IsOptimumResult (log_files fold puzzle.now sets log.now tables))
-        (TakesMemoryForOptimum puzzle.now tables) result.1 }
+    ensures answer { (fold : Bool) (text sets : List ℕ) (tables : List (List ℕ)) → Spells text board.now
+        → IsBundleOfFiles fold tables sets bundle.now → let puzzle = puzzle_of text moves.now in
+        IsFoundBy (IsOptimumResult (log_files fold puzzle sets log.now tables))
+        (TakesMemoryForOptimum puzzle tables) result.1 }
 {
     let check = || -> Result<u8, Fault>
-        ensures { (fold : Bool) (sets : List ℕ) (tables : List (List ℕ))
-            → IsBundleOfFiles fold tables sets bundle.entry.now → let p = puzzle.entry.now in
-            IsFoundBy (IsOptimumResult (log_files fold p sets log.entry.now tables))
-            (TakesMemoryForOptimum p tables) result }
-    { optimum_over(bundle, puzzle, log, workers) };
+        ensures { (fold : Bool) (text sets : List ℕ) (tables : List (List ℕ)) → Spells text board.entry.now
+            → IsBundleOfFiles fold tables sets bundle.entry.now → let puzzle = puzzle_of text moves.entry.now in
+            IsFoundBy (IsOptimumResult (log_files fold puzzle sets log.entry.now tables))
+            (TakesMemoryForOptimum puzzle tables) result }
+    { optimum_over(bundle, board, moves, log, workers) };
     beside(workers.rt, workers.count, &[], Some(log), check)
 }
 
@@ -300,14 +285,4 @@ fn find(alloc: Global, bundle: &Bundle<'_>, board: &Board, budget: u64) -> Resul
         Ok(found) => Ok(found),
         Err(fault) => Err(of_maker(fault)),
     }
-}
-
-/// The board text and the moves as a puzzle text.
-fn join(alloc: Global, text: &[u8], moves: &[u8]) -> Result<Vec<u8>, AllocError>
-    ensures { IfOk result (λ puzzle. puzzle.items ≡ puzzle_of text.now moves.now) }
-{
-    let mut puzzle = text.to_vec(alloc)?;
-    puzzle.push(b';')?;
-    puzzle.extend_from_slice(moves)?;
-    Ok(puzzle)
 }

@@ -1,6 +1,6 @@
 //! A run of `prove`.
 
-ghost use Rattle.std.specs.Prelude.{◌≡◌, ◌≤◌, ◌++◌, ◌∷◌, [], true, IfErr, IfOk, IfSome, length, map};
+ghost use Rattle.std.specs.Prelude.{◌≡◌, ◌≤◌, true, IfErr, IfOk, length, map};
 ghost use Rattle.std.specs.List.{All};
 ghost use Rattle.claim_text.specs.Lines.{HasFewLetters};
 ghost use Rattle.claim_text.specs.Shown.{claim_shown};
@@ -20,7 +20,7 @@ use crate::ready::{Asked, Ready, ready_with};
 use claim_text::{ClaimsFault, read_claims};
 use pdb_request::Prove;
 use pdb_run::{
-    Answer, Digested, Digests, FILES_BESIDE, Io, Lines, Status, beside, conclude, read_inputs,
+    Answer, Digested, FILES_BESIDE, Io, Lines, Status, conclude, digested_beside, read_inputs,
     with_digest,
 };
 use pdb_verdict::{Fault, Tables, fold_bundle, read_bundle, take_first, told_or_memory};
@@ -98,39 +98,21 @@ fn prove_full<H: Threads + Wait + Sync, G: Gate + Sync, I: Io>(
         files: tables,
         fold: command.0.fold,
     };
-    let (digests, bundle) = bundle_beside(given, text, sets, workers);
+    let (digested, bundle) = bundle_beside(given, text, sets, workers);
     let ready = ready_with(workers.alloc, claims, bundle);
-    tell_ready(
-        command,
-        digested_by(tables, text, digests),
-        &ready,
-        workers,
-        io,
-    )
+    tell_ready(command, digested, &ready, workers, io)
 }
 
-/// The digest lines of tables and a claims text: those that are made already, or else those of the files.
-fn digested_by<'f>(tables: &'f [Vec<u8>], text: &'f [u8], digests: Option<Digests>) -> Digested<'f>
-    requires { let lines = digests_of (all_bytes tables.now ++ text.now ∷ []) in
-        IfSome digests (λ digests. digests.items ≡ lines) }
-    ensures { digest_lines result ≡ digests_of (all_bytes tables.entry.now ++ text.entry.now ∷ []) }
-{
-    match digests {
-        Some(lines) => Digested::Lines(lines),
-        None => Digested::Files(tables, Some(text)),
-    }
-}
-
-/// The bundle of tables and a set text, and the digest lines of the tables and of a claims text, where these are made beside the
-/// checks.
+/// The bundle of tables and a set text, and the digest lines of the tables and of a claims text, which are made beside the checks,
+/// where there are workers for both.
 fn bundle_beside<'t, H: Threads + Wait + Sync, G: Gate + Sync>(
     tables: Tables<'t>,
-    text: &[u8],
+    text: &'t [u8],
     sets: &[u8],
     workers: &Workers<'_, H, G>,
-) -> (Option<Digests>, Result<Bundle<'t>, Fault>)
-    ensures digests { let all = files_of text.now sets.now (all_bytes tables.entry.files.now) in
-        IfSome result.0 (λ digests. digests.items ≡ digests_of (digested_files all)) }
+) -> (Digested<'t>, Result<Bundle<'t>, Fault>)
+    ensures digested { let all = files_of text.now sets.now (all_bytes tables.entry.files.now) in
+        digest_lines result.0 ≡ digests_of (digested_files all) }
     ensures ok { let files = all_bytes tables.entry.files.now in
         IfOk result.1 (IsBundleOfFiles tables.entry.fold files sets.now) }
     ensures err { let files = all_bytes tables.entry.files.now in
@@ -142,7 +124,7 @@ fn bundle_beside<'t, H: Threads + Wait + Sync, G: Gate + Sync>(
         ensures err { let files = all_bytes tables.entry.files.now in
             IfErr result (IsCauseForBundle tables.entry.fold files sets.entry.now) }
     { read_bundle(tables, sets, workers) };
-    beside(workers.rt, workers.count, tables.files, Some(text), check)
+    digested_beside(workers.rt, workers.count, tables.files, Some(text), check)
 }
 
 /// Proves claims over folded tables. The bytes of each table are given up in turn, so that the search runs beside the folded

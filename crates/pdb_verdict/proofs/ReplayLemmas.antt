@@ -11,7 +11,7 @@ use Rattle.puz_board.proofs.PuzzleLemmas.{puzzle_parts-puzzle, puzzle-parts}
 use Rattle.puz_board.proofs.SolutionLemmas.{replay_of-solved, solved-replay_of}
 use Rattle.puz_board.proofs.SpellingLemmas.{board_of_text-spelled, spelled-board_of_text, stray_byte-numerals}
 use Rattle.pdb_verdict.specs.Refusals.{told_as}
-use Rattle.pdb_verdict.specs.Replay.{IsReplayResult, IsReplayTold, IsSolvedPuzzle, solved_parts}
+use Rattle.pdb_verdict.specs.Replay.{IsReplayResult, IsReplayTold, IsSolvedPuzzle, puzzle_of, solved_by, solved_parts}
 use Rattle.pdb_verdict.specs.declared.verdicts.Fault.{Fault}
 use Rattle.pdb_verdict.specs.declared.verdicts.Verdict.{Verdict}
 use Rattle.pdb_verdict.proofs.RefusalLemmas.{Behind, IsOne, after, by_result, one_behind, one_by, one_made, stays, told_yes}
@@ -58,6 +58,11 @@ pub parts-solved : (puzzle : List ℕ) (n : ℕ) (solved : IsSolvedPuzzle puzzle
 parts-solved puzzle n h =
     rw (puzzle_parts-puzzle puzzle h.board_text h.moves_text (solved-puzzle puzzle n h), board_of_text-spelled h.board_text h.board h.spelt)
     (rw (replay_of-solved h.board h.moves_text n h.spelt.board h.solved))
+
+-- the board and the moves of a puzzle text that is made of them
+pub joined-parts : (text moves board : List ℕ) → Spells text board → solved_parts (puzzle_parts (puzzle_of text moves)) ≡ solved_by board (replay_of board moves)
+joined-parts text moves board spelt =
+    rw (puzzle_parts-puzzle _ text moves (record { whole = refl; first = spelled-no_semicolon text board spelt }), board_of_text-spelled text board spelt) refl
 
 -- ---- the result
 

@@ -1,5 +1,5 @@
 -- `replay [FILE]`: whether the moves of a puzzle text solve its board.
-use Rattle.std.specs.Prelude.{◌≡◌, ℕ, List, ◌++◌, Option, Some, None, Result, Ok, Err, MatchResult, codes}
+use Rattle.std.specs.Prelude.{◌≡◌, ℕ, List, ◌∷◌, ◌++◌, Option, Some, None, Result, Ok, Err, MatchResult, codes}
 use Rattle.puz_board.specs.BoardTexts.{Spells, board_of_text}
 use Rattle.puz_board.specs.MovesTexts.{Solves, replay_of}
 use Rattle.puz_board.specs.PuzzleTexts.{puzzle_parts}
@@ -39,6 +39,10 @@ solved_board (Ok board) moves = solved_by board (replay_of board moves)
 abbrev pub solved_parts : Option (Bytes × Bytes) → Result (List ℕ × ℕ) Fault
 solved_parts None = Err P1
 solved_parts (Some parts) = solved_board (board_of_text parts.0) parts.1
+
+-- a board text and a moves text as a puzzle text; the byte of `;` is 59
+abbrev pub puzzle_of : Bytes → Bytes → Bytes
+puzzle_of text moves = text ++ 59 ∷ moves
 
 -- the result on the puzzle text
 abbrev pub IsReplayResult : Bytes → Result ℕ Fault → Type 0

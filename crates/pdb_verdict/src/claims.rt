@@ -2,17 +2,19 @@
 //! puzzle text are a solution, and none has fewer.
 
 ghost use Rattle.std.specs.Prelude.{◌≡◌, Bool, List, ℕ};
+ghost use Rattle.puz_board.specs.BoardTexts.{Spells};
 ghost use Rattle.pdb_verdict.specs.Bound.{IsBoundResult, TakesMemoryForBound};
 ghost use Rattle.pdb_verdict.specs.FileBundles.{IsBundleOfFiles};
 ghost use Rattle.pdb_verdict.specs.Inputs.{log_files};
 ghost use Rattle.pdb_verdict.specs.Optimal.{IsOptimumResult, TakesMemoryForOptimum};
 ghost use Rattle.pdb_verdict.specs.Refusals.{IsFoundBy};
+ghost use Rattle.pdb_verdict.specs.Replay.{puzzle_of};
 ghost use Rattle.pdb_verdict.specs.Steps.{answer_with, files_with, optimum_of};
 
 use crate::evidence::{Evidence, bound_for, bound_over};
 use crate::replay::solved_board;
 use crate::verdicts::{Fault, Verdict};
-use puz_board::Board;
+use puz_board::{Board, replay};
 use set_sum::Bundle;
 use std::sync::Wait;
 use std::thread::Threads;
@@ -49,20 +51,22 @@ pub(crate) fn optimum_of_puzzle<H: Threads + Wait, G: Gate + Sync>(
     optimum_of(moves, bound_for(&board, evidence, workers)?)
 }
 
-/// The same for files that made a bundle.
+/// The optimum that is proved for a board and moves, over the bundle that files make: as of the puzzle text of a text that spells the
+/// board, and of the moves.
 pub fn optimum_over<H: Threads + Wait, G: Gate + Sync>(
     bundle: &Bundle<'_>,
-    puzzle: &[u8],
+    board: &Board,
+    moves: &[u8],
     log: &[u8],
     workers: &Workers<'_, H, G>,
 ) -> Result<u8, Fault>
-    ensures { (fold : Bool) (sets : List ℕ) (tables : List (List ℕ))
-        → IsBundleOfFiles fold tables sets bundle.now
-        → IsFoundBy (IsOptimumResult (log_files fold puzzle.now sets log.now tables))
-        (TakesMemoryForOptimum puzzle.now tables) result }
+    ensures { (fold : Bool) (text sets : List ℕ) (tables : List (List ℕ)) → Spells text board.now
+        → IsBundleOfFiles fold tables sets bundle.now → let puzzle = puzzle_of text moves.now in
+        IsFoundBy (IsOptimumResult (log_files fold puzzle sets log.now tables))
+        (TakesMemoryForOptimum puzzle tables) result }
 {
-    let (board, moves) = solved_board(puzzle)?;
-    optimum_of(moves, bound_over(bundle, &board, log, workers)?)
+    let solution = replay(board, moves)?;
+    optimum_of(solution, bound_over(bundle, board, log, workers)?)
 }
 
 /// The bound of a board that so many moves solve, as an optimum.

@@ -35,6 +35,7 @@ pub use log_command::run_log_check;
 pub use log_inputs::{push_tables, take_first};
 pub use replay::verify_puzzle;
 pub use replay_command::run_replay;
-pub use reports::{digests, line, report, settled, told, told_or_memory, verify_beside};
+pub use reports::{digests, line, report, settled, told, told_or_memory};
+pub use table::verify_table;
 pub use table_command::run_table;
 pub use verdicts::{Fault, Verdict};

@@ -1,6 +1,6 @@
 //! What is written of an answer.
 
-ghost use Rattle.std.specs.Prelude.{◌≡◌, ◌≢◌, ◌++◌, Err, List, option_map, IfOk, IfSome, OnErr};
+ghost use Rattle.std.specs.Prelude.{◌≡◌, ◌≢◌, ◌++◌, Err, List, option_map, IfOk, OnErr};
 ghost use Rattle.byte_io.specs.Shelf.{Bytes};
 ghost use Rattle.byte_io.specs.Streams.{Writes};
 ghost use Rattle.pdb_run.specs.Writing.{digests_of, list_of};
@@ -16,7 +16,7 @@ use crate::lines::line_of;
 use crate::verdicts::{Fault, Verdict};
 use byte_io::sinks::Sink;
 use byte_io::streams::{WriteFault, put_text};
-use pdb_run::{Answer, Digested, Digests, FILES_BESIDE, beside, say, say_digests};
+use pdb_run::{Answer, Digested, FILES_BESIDE, digested_beside, say, say_digests};
 use set_sum::MOST_TABLES;
 use std::alloc::AllocError;
 use std::sync::Wait;
@@ -38,7 +38,8 @@ pub fn report<W: Sink>(
     if stands_alone(answer) {
         return line(answer, out);
     }
-    say(&told(digested_by(inputs, None), answer), out)
+    let (files, last) = checked_files(inputs);
+    say(&told(Digested::Files(files, last), answer), out)
 }
 
 /// Writes the digest line of each file that is checked.
@@ -66,39 +67,12 @@ pub(crate) fn answer_by<'i, H: Threads + Wait + Sync, G: Gate + Sync>(
     ensures { let inputs = given inputs.now in
         IsAnswerBy (TellsResult inputs) (TakesMemory inputs) result }
 {
-    let (digests, answer) = verify_beside(inputs, workers);
-    told_or_memory(digested_by(inputs, digests), answer)
-}
-
-/// What these workers answer to inputs, and the digest lines that are made beside their check, where there are some.
-pub fn verify_beside<H: Threads + Wait + Sync, G: Gate + Sync>(
-    inputs: &Inputs<'_>,
-    workers: &Workers<'_, H, G>,
-) -> (Option<Digests>, Result<Verdict, Fault>)
-    ensures digests { let lines = digests_of (digested_of (given inputs.now)) in
-        IfSome result.0 (λ digests. digests.items ≡ lines) }
-    ensures answer { IsAnswerTo (given inputs.now) result.1 }
-{
     let (files, last) = checked_files(inputs);
     let check = || -> Result<Verdict, Fault>
         ensures { IsAnswerTo (given inputs.entry.now) result }
     { verify_by(inputs, workers) };
-    beside(workers.rt, workers.count, files, last, check)
-}
-
-/// The digest lines of inputs: those that are made already, or else those of the files.
-pub(crate) fn digested_by<'i>(inputs: &Inputs<'i>, digests: Option<Digests>) -> Digested<'i>
-    requires { let lines = digests_of (digested_of (given inputs.now)) in
-        IfSome digests (λ digests. digests.items ≡ lines) }
-    ensures { digest_lines result ≡ digests_of (digested_of (given inputs.now)) }
-{
-    match digests {
-        Some(lines) => Digested::Lines(lines),
-        None => {
-            let (files, last) = checked_files(inputs);
-            Digested::Files(files, last)
-        }
-    }
+    let (digested, answer) = digested_beside(workers.rt, workers.count, files, last, check);
+    told_or_memory(digested, answer)
 }
 
 /// What is to be written of an answer behind these digest lines, where nothing was made.

@@ -12,7 +12,7 @@ use work_run::{Gate, Workers};
 /// The verdict on a table file: each of its entries is right. Or the first refusal that stands: its header's, then the
 /// least bad entry's. Want of memory may be answered in place of all but the header's.
 #[tactic(auto, using(crate::proofs::TableLemmas::table_refused))]
-pub(crate) fn verify_table<H: Threads + Wait, G: Gate + Sync>(
+pub fn verify_table<H: Threads + Wait, G: Gate + Sync>(
     table: &[u8],
     workers: &Workers<'_, H, G>,
 ) -> Result<Verdict, Fault>

@@ -4,13 +4,13 @@ use Rattle.pdb_keep.proofs.MakerLemmas.{no_bundle, search_came}
 use Rattle.pdb_keep.proofs.solve.search_in.Goals as goal
 
 pub returns-in_err-bundle : goal.returns-in_err-bundle
-returns-in_err-bundle g c = λ fold sets tables spelt ok err.
+returns-in_err-bundle g c = λ fold text sets tables spelt ok err.
     let why = c.in_err-bundle.field-0.0 in
     let refused : c.from_residual.result ≡ Err why = search (rules, c.from_residual.ensures) in
-    rw refused (no_bundle fold c.args.text.now sets tables c.args.board.now spelt why (rw c.in_err-bundle.was at err))
+    rw refused (no_bundle fold text sets tables c.args.board.now spelt why (rw c.in_err-bundle.was at err))
 
 pub returns-then-ne : goal.returns-then-ne
-returns-then-ne g c = λ fold sets tables spelt ok err.
+returns-then-ne g c = λ fold text sets tables spelt ok err.
     record {
       board = c.args.board.now;
       spelt = spelt;
@@ -18,9 +18,9 @@ returns-then-ne g c = λ fold sets tables spelt ok err.
     }
 
 pub returns : goal.returns
-returns g c = λ fold sets tables spelt ok err.
+returns g c = λ fold text sets tables spelt ok err.
     let is_bundle = rw c.in_ok-bundle.was at ok in
     let are_for : AreForBoard fold c.args.board.now sets tables =
     record { bundle = c.in_ok-bundle.bundle; is_bundle = is_bundle; one_side = search rules } in
-    search_came fold c.args.text.now sets tables c.args.board.now spelt are_for c.search_over.result
-    c.search_over.ensures.given_up (c.search_over.ensures.made fold sets tables is_bundle)
+    search_came fold text sets tables c.args.board.now spelt are_for c.search_over.result
+    c.search_over.ensures.given_up (c.search_over.ensures.made fold text sets tables spelt is_bundle)
