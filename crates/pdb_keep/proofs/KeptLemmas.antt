@@ -12,14 +12,14 @@ use Rattle.pdb_run.specs.declared.statuses.Status.TheVariants.{Yes, Refused}
 use Rattle.pdb_run.proofs.AnswerLemmas.{IsAnswered-ends}
 use Rattle.pdb_verdict.specs.Inputs.{log_files}
 use Rattle.pdb_verdict.specs.Limits.{a_table}
+use Rattle.pdb_verdict.specs.Replay.{puzzle_of}
 use Rattle.pdb_verdict.specs.Table.{IsTableResult, exact_verdict}
-use Rattle.pdb_verdict.specs.declared.verdicts.Fault.TheVariants as fault
 use Rattle.pdb_verdict.proofs.ClaimLemmas.{proved_least}
 use Rattle.pdb_verdict.proofs.RefusalLemmas.{told_yes}
 use Rattle.pdb_keep.specs.Kept.{IsLogKept, IsTableKept}
 use Rattle.pdb_keep.specs.Laws.{KeptLogsProveOptima, KeptTablesAreExact}
 use Rattle.pdb_keep.specs.MakeTable.{Build, IsBuildFor, TellsBuild, built, make_table_plan, reply_to_build}
-use Rattle.pdb_keep.specs.Solve.{IsSearchOf, SearchOutcome, puzzle_of, reply_to_search, searched, solve_inputs, solve_plan}
+use Rattle.pdb_keep.specs.Solve.{IsSearchOf, SearchOutcome, reply_to_search, searched, solve_inputs, solve_plan}
 use Rattle.pdb_keep.proofs.MakerLemmas.{solved-moves}
 
 -- a reply is a yes, and what it made is kept and its lines are told
@@ -38,7 +38,7 @@ module _ (arguments : MakeTableArguments) (old new : World) where
   exact_kept : (build : Build) → IsBuildFor arguments.side arguments.mask build → IsYes arguments.out old new (reply_to_build build)
       → IsTableKept arguments old new
   exact_kept (built file (Ok v)) is says =
-      let yes = (told_yes exact_verdict fault.Table (IsTableResult file) v).0 is.is_result in
+      let yes = (told_yes exact_verdict (IsTableResult file) v).0 is.is_result in
       let speaks = rw yes.2 at is.own in
       record {
         file = file;

@@ -1,5 +1,5 @@
 -- What comes of makers.
-use Rattle.std.proofs.Common.{◌≡◌, ◌∙◌, ℕ, suc, ◌+◌, ◌<◌, ◌≤◌, Bool, List, [], ◌∷◌, ◌++◌, Option, Result, Ok, Err, IfOk, IfSome, length, drop, get_or, ap, append_assoc, arith, length-append, refl, subst, sym}
+use Rattle.std.proofs.Common.{◌≡◌, ◌≢◌, ◌∙◌, ℕ, suc, ◌+◌, ◌<◌, ◌≤◌, Bool, List, [], ◌∷◌, ◌++◌, Option, Result, Ok, Err, IfErr, IfOk, IfSome, length, drop, get_or, ap, append_assoc, arith, length-append, refl, subst, sym}
 use Rattle.std.specs.Prelude.{MatchResult}
 use Rattle.std.specs.declared.alloc.AllocError.{AllocError}
 use Rattle.std.proofs.lemmas.List.{drop_more, length-map, map-append}
@@ -12,28 +12,21 @@ use Rattle.puz_board.proofs.PuzzleLemmas.{puzzle_parts-puzzle}
 use Rattle.byte_io.specs.Shelf.{Bytes}
 use Rattle.pdb_run.specs.Answers.{IsAnswerBy}
 use Rattle.pdb_run.specs.declared.answers.Answer.{Answer}
-use Rattle.pdb_verdict.specs.FileBundles.{IsCauseForBundle}
-use Rattle.pdb_verdict.specs.Inputs.{table_file}
-use Rattle.pdb_verdict.specs.Refusals.{or_memory}
-use Rattle.pdb_verdict.specs.Replay.{IsSolvedPuzzle}
+use Rattle.pdb_verdict.specs.FileBundles.{AreRefused, IsCauseForBundle}
+use Rattle.pdb_verdict.specs.Inputs.{log_files, table_file}
+use Rattle.pdb_verdict.specs.Optimal.{IsOptimumResult}
+use Rattle.pdb_verdict.specs.Replay.{IsSolvedPuzzle, puzzle_of}
 use Rattle.pdb_verdict.specs.Table.{IsTableResult, IsTableTold, TakesMemoryForTable, exact_verdict}
-use Rattle.pdb_verdict.specs.Verdicts.{IsFoundOf}
-use Rattle.pdb_verdict.specs.declared.refusals.BundleRefusal.{BundleRefusal}
-use Rattle.pdb_verdict.specs.declared.refusals.Failure.{Failure}
-use Rattle.pdb_verdict.specs.declared.refusals.Failure.TheVariants.{Memory, Refused}
-use Rattle.pdb_verdict.specs.declared.refusals.GivenUp.{GivenUp}
-use Rattle.pdb_verdict.specs.declared.refusals.OptimumRefusal.{OptimumRefusal}
-use Rattle.pdb_verdict.specs.declared.refusals.SearchRefusal.{SearchRefusal}
-use Rattle.pdb_verdict.specs.declared.refusals.UnmadeRefusal.TheVariants as unmade_refusal
+use Rattle.pdb_verdict.specs.Verdicts.{IsAnswerTo}
 use Rattle.pdb_verdict.specs.declared.verdicts.Fault.{Fault}
 use Rattle.pdb_verdict.specs.declared.verdicts.Fault.TheVariants as fault
 use Rattle.pdb_verdict.specs.declared.verdicts.Verdict.{Verdict}
 use Rattle.pdb_verdict.proofs.BundleLemmas.{bundle_taken}
-use Rattle.pdb_verdict.proofs.RefusalLemmas.{found_settled, told_yes}
+use Rattle.pdb_verdict.proofs.RefusalLemmas.{cause_by, found_settled, told_yes}
 use Rattle.pdb_verdict.proofs.ReplayLemmas.{solved-puzzle, spelled-no_semicolon}
 use Rattle.pdb_keep.specs.MakeTable.{IsOfAnother, SpeaksOf}
-use Rattle.pdb_keep.specs.Solve.{AreForBoard, IsMade, IsSolveReply, SolveTakesMemory, letter_of, letters_of, puzzle_of}
-use Rattle.pdb_keep.specs.Steps.{HasItsMoves, IsCauseForSearch, IsSearchAnswer, search_files_read, unmade_for}
+use Rattle.pdb_keep.specs.Solve.{AreForBoard, IsMade, IsSolveReply, IsUnmade, SolveTakesMemory, letter_of, letters_of}
+use Rattle.pdb_keep.specs.Steps.{HasItsMoves, IsCauseForSearch, IsGivenUp, IsSearchAnswer, search_files_read}
 use Rattle.pdb_keep.specs.declared.search_inputs.SearchInputs.{SearchInputs}
 use Rattle.pdb_keep.specs.declared.solutions.TheConstants.{MOST_LETTERS}
 use Rattle.pdb_keep.specs.declared.solve.Made.{Made}
@@ -44,28 +37,41 @@ use Rattle.pdb_keep.specs.declared.solve.Made.{Made}
 pub another_table : (side mask : ℕ) (file : Bytes) (answer : Result Verdict Fault) → IsTableTold file answer
     → ¬ SpeaksOf side mask answer → IsOfAnother side mask file
 another_table side mask file (Ok v) is other =
-    let yes = (told_yes exact_verdict fault.Table (IsTableResult file) v).0 is in
+    let yes = (told_yes exact_verdict (IsTableResult file) v).0 is in
     record { other_side = yes.0.0; other_mask = yes.0.1; census = yes.0.2; exact = yes.1; other = rw yes.2 at other }
 another_table side mask file (Err refused) is other = absurd (other tt)
 
 -- the answer on a file that was read tells the result, where memory isn't wanted
-pub table_told : (file now : Bytes) (answer : Result Verdict (Failure Fault)) (settled : Result Verdict Fault) → now ≡ file → answer ≡ or_memory settled
-    → IsFoundOf (table_file now) answer → IsTableTold file settled
-table_told file now answer settled same is says =
-    found_settled (IsTableTold file) (TakesMemoryForTable file) settled (rw (same, is) at says)
+pub table_told : (file now : Bytes) (answer settled : Result Verdict Fault) → now ≡ file → settled ≡ answer → settled ≢ Err fault.Memory
+    → IsAnswerTo (table_file now) answer → IsTableTold file settled
+table_told file now answer settled same is there says =
+    found_settled (IsTableTold file) (TakesMemoryForTable file) settled there (rw (same, sym is) at says)
 
 -- ---- searches over a bundle
 
 module _ (fold : Bool) (text sets : Bytes) (files : List Bytes) (board : List ℕ) (spelt : Spells text board) where
   -- what gives up over a bundle of the board's side is why no log is made
-  pub given_up : AreForBoard fold board sets files → (failure : Failure GivenUp) → IsCauseForSearch fold text sets files (unmade_for unmade_refusal.GivenUp failure)
-  given_up are_for (Refused why) = record { board = board; spelt = spelt; unmade = are_for }
-  given_up are_for Memory = (board, spelt, bundle_taken fold files sets are_for.bundle are_for.is_bundle)
+  pub given_up : AreForBoard fold board sets files → (why : Fault) → IsGivenUp why → IsCauseForSearch fold text sets files why
+  given_up are_for fault.K1 is = record { board = board; spelt = spelt; unmade = are_for }
+  given_up are_for fault.K2 is = record { board = board; spelt = spelt; unmade = are_for }
+  given_up are_for fault.Memory is = (board, spelt, bundle_taken fold files sets are_for.bundle are_for.is_bundle)
+  given_up are_for _ is = absurd is
+
+  unmade_of : (refused : Fault) → AreRefused fold files sets refused → IsUnmade fold text sets files refused
+  unmade_of (fault.TableOf number refused) is = record { board = board; spelt = spelt; unmade = is }
+  unmade_of (fault.Sets refused) is = record { board = board; spelt = spelt; unmade = is }
+  unmade_of _ is = absurd is
 
   -- so is why there is no bundle
-  pub no_bundle : (failure : Failure BundleRefusal) → IsCauseForBundle fold files sets failure → IsCauseForSearch fold text sets files (unmade_for unmade_refusal.Bundle failure)
-  no_bundle (Refused refused) is = record { board = board; spelt = spelt; unmade = is }
-  no_bundle Memory is = (board, spelt, is)
+  pub no_bundle : (why : Fault) → IsCauseForBundle fold files sets why → IsCauseForSearch fold text sets files why
+  no_bundle why is = cause_by unmade_of (λ takes. (board, spelt, takes)) why is
+
+  -- so a search over one makes a log, or that is why
+  pub search_came : AreForBoard fold board sets files → (r : Result Made Fault) → IfErr r IsGivenUp
+      → IfOk r (λ made. IsOptimumResult (log_files fold (puzzle_of text made.moves.items) sets made.log.items files) made.answer)
+      → MatchResult r (λ made. IsMade fold text sets files made.moves.items made.log.items made.answer) (IsCauseForSearch fold text sets files)
+  search_came are_for (Ok made) why is = record { could = record { board = board; spelt = spelt; are_for = are_for }; is_result = is }
+  search_came are_for (Err why) gives is = given_up are_for why gives
 
 -- ---- the puzzle text of a search
 
@@ -85,7 +91,7 @@ led-length n c (m ∷ moves) (d ∷ path) led = ap suc (led-length n d moves pat
 led-length n c _ _ led = absurd led
 
 -- an optimum is the number of the moves that were made
-has_its_moves : (fold : Bool) (text sets moves log : Bytes) (tables : List Bytes) (answer : Result ℕ OptimumRefusal)
+has_its_moves : (fold : Bool) (text sets moves log : Bytes) (tables : List Bytes) (answer : Result ℕ Fault)
     → IsMade fold text sets tables moves log answer → HasItsMoves moves answer
 has_its_moves fold text sets moves log tables (Ok n) is =
     let solves = (solved-moves text moves is.could.board n is.is_result.solved is.could.spelt).1 in
@@ -93,7 +99,7 @@ has_its_moves fold text sets moves log tables (Ok n) is =
 has_its_moves fold text sets moves log tables (Err refused) is = tt
 
 -- so it is where a search finds one
-pub made_moves : (fold : Bool) (text sets : Bytes) (tables : List Bytes) (r : Result Made (Failure SearchRefusal))
+pub made_moves : (fold : Bool) (text sets : Bytes) (tables : List Bytes) (r : Result Made Fault)
     → MatchResult r (λ made. IsMade fold text sets tables made.moves.items made.log.items made.answer)
     (IsCauseForSearch fold text sets tables)
     → IfOk r (λ made. HasItsMoves made.moves.items made.answer)

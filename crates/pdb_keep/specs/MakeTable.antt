@@ -1,19 +1,17 @@
 -- `make-table SIDE MASK OUT`: a table is built, and kept where it is that of the pattern which the words name.
 --
 -- The maker is free: it may build any bytes, or give up. What is told of them, and whether they are kept, is not free.
-use Rattle.std.specs.Prelude.{◌≡◌, ◌⊎◌, ⊤, ℕ, false, [], Some, None, Result, Ok, is_ok}
+use Rattle.std.specs.Prelude.{◌≡◌, ◌⊎◌, ⊤, ℕ, [], Some, Result, Ok, Err, is_ok}
 use Rattle.puz_board.specs.Masks.{numbers_of}
 use Rattle.pat_place.specs.Patterns.{IsPattern}
 use Rattle.tab_rule.specs.declared.census.Census.{Census}
 use Rattle.byte_io.specs.Shelf.{Bytes}
 use Rattle.pdb_request.specs.Asked.{MakeTableArguments}
 use Rattle.pdb_run.specs.Commands.{Plan, Reply, plan_under}
-use Rattle.pdb_verdict.specs.Lines.{line_of, line_of_fault}
-use Rattle.pdb_verdict.specs.Refusals.{fault_of_build}
+use Rattle.pdb_verdict.specs.Lines.{line_of, reply_on}
 use Rattle.pdb_verdict.specs.Table.{IsExactFor, IsTableTold}
-use Rattle.pdb_verdict.specs.declared.refusals.BuildRefusal.{BuildRefusal}
-use Rattle.pdb_verdict.specs.declared.refusals.BuildRefusal.TheVariants.{K3, K4}
 use Rattle.pdb_verdict.specs.declared.verdicts.Fault.{Fault}
+use Rattle.pdb_verdict.specs.declared.verdicts.Fault.TheVariants.{K3, K4}
 use Rattle.pdb_verdict.specs.declared.verdicts.Verdict.{Verdict}
 use Rattle.pdb_verdict.specs.declared.verdicts.Verdict.TheVariants as verdict
 
@@ -44,15 +42,16 @@ pub record IsBuilt (side mask : ℕ) (file : Bytes) (answer : Result Verdict Fau
 
 -- why no file is told of: K4 where they are no pattern, or where they are one and a file is the exact table of another; K3
 -- where they are a pattern. What the maker built, or where it gave up, isn't seen here
-abbrev pub IsUnbuilt : ℕ → ℕ → BuildRefusal → Type 0
+abbrev pub IsUnbuilt : ℕ → ℕ → Fault → Type 0
 IsUnbuilt side mask K4 = (¬ ArePattern side mask) ⊎ (ArePattern side mask × (file : Bytes) × IsOfAnother side mask file)
 IsUnbuilt side mask K3 = ArePattern side mask
+IsUnbuilt side mask _ = ⊥
 
 -- ---- what is told of it
 
 -- what comes of the maker: a refusal, or a file, and the result on it
 pub data Build : Type 0 where
-  unbuilt : BuildRefusal → Build
+  unbuilt : Fault → Build
   built : Bytes → Result Verdict Fault → Build
 
 -- for this side and this mask
@@ -62,7 +61,7 @@ IsBuildFor side mask (built file answer) = IsBuilt side mask file answer
 
 -- a refusal stands alone; of a file its digest is told, and then the line of the result
 abbrev pub reply_to_build : Build → Reply
-reply_to_build (unbuilt refused) = record { digested = []; made = None; lines = line_of_fault (fault_of_build refused); is_yes = false }
+reply_to_build (unbuilt refused) = reply_on [] (Err refused)
 reply_to_build (built file answer) = record { digested = []; made = Some file; lines = line_of answer; is_yes = is_ok answer }
 
 -- a reply tells what comes of the maker for a side and a mask

@@ -2,13 +2,14 @@
 --
 -- The maker is free: it may find any moves and any log, or give up. What is told of them, and whether the log is kept, is not
 -- free.
-use Rattle.std.specs.Prelude.{◌≡◌, ◌≢◌, ℕ, Bool, false, List, [], ◌∷◌, ◌++◌, Some, None, Result, Ok, Err, codes, is_ok, map}
+use Rattle.std.specs.Prelude.{◌≡◌, ◌≢◌, ℕ, Bool, List, [], ◌∷◌, ◌++◌, Some, Result, Ok, Err, codes, is_ok, map}
 use Rattle.puz_board.specs.BoardTexts.{Spells, board_of_text}
 use Rattle.puz_board.specs.Boards.{side_of}
 use Rattle.puz_board.specs.MovesTexts.{moves_of}
 use Rattle.puz_board.specs.declared.moves.Move.{Move}
 use Rattle.puz_board.specs.declared.moves.Move.TheVariants.{Up, Down, Left, Right}
 use Rattle.set_sum.specs.Bundles.{ShownBundle}
+use Rattle.log_check.specs.declared.faults.LogRefusal.TheVariants.{L4}
 use Rattle.byte_io.specs.Shelf.{Bytes}
 use Rattle.pdb_request.specs.Asked.{SolveArguments}
 use Rattle.pdb_run.specs.Commands.{Plan, Reply, Wanted, plan_under}
@@ -16,14 +17,11 @@ use Rattle.pdb_verdict.specs.Bound.{TakesMemoryForBound}
 use Rattle.pdb_verdict.specs.FileBundles.{AreRefused, IsBundleOfFiles}
 use Rattle.pdb_verdict.specs.Inputs.{log_files}
 use Rattle.pdb_verdict.specs.Limits.{a_table, a_text}
-use Rattle.pdb_verdict.specs.Lines.{counted, line_of_fault}
+use Rattle.pdb_verdict.specs.Lines.{counted, line_of_fault, reply_on}
 use Rattle.pdb_verdict.specs.Optimal.{IsOptimumResult}
-use Rattle.pdb_verdict.specs.Refusals.{fault_of_optimum, fault_of_search}
-use Rattle.pdb_verdict.specs.declared.refusals.OptimumRefusal.{OptimumRefusal}
-use Rattle.pdb_verdict.specs.declared.refusals.SearchRefusal.{SearchRefusal}
-use Rattle.pdb_verdict.specs.declared.refusals.SearchRefusal.TheVariants.{Board, Unmade}
-use Rattle.pdb_verdict.specs.declared.refusals.UnmadeRefusal.{UnmadeRefusal}
-use Rattle.pdb_verdict.specs.declared.refusals.UnmadeRefusal.TheVariants.{Bundle, GivenUp, L4}
+use Rattle.pdb_verdict.specs.Replay.{puzzle_of}
+use Rattle.pdb_verdict.specs.declared.verdicts.Fault.{Fault}
+use Rattle.pdb_verdict.specs.declared.verdicts.Fault.TheVariants as fault
 
 -- ---- before a log is made
 
@@ -47,30 +45,27 @@ pub record AreForAnotherSide (fold : Bool) (board : List ℕ) (sets : Bytes) (ta
 
 -- why no log is made for a board: each table file comes first, then the set text, then L4 for a bundle of another side;
 -- behind them the maker may give up on the search, with K1 or K2
-abbrev pub IsUnmadeFor : Bool → List ℕ → Bytes → List Bytes → UnmadeRefusal → Type 0
-IsUnmadeFor fold board sets tables (Bundle refused) = AreRefused fold tables sets refused
-IsUnmadeFor fold board sets tables L4 = AreForAnotherSide fold board sets tables
-IsUnmadeFor fold board sets tables (GivenUp why) = AreForBoard fold board sets tables
+abbrev pub IsUnmadeFor : Bool → List ℕ → Bytes → List Bytes → Fault → Type 0
+IsUnmadeFor fold board sets tables (fault.Log L4) = AreForAnotherSide fold board sets tables
+IsUnmadeFor fold board sets tables fault.K1 = AreForBoard fold board sets tables
+IsUnmadeFor fold board sets tables fault.K2 = AreForBoard fold board sets tables
+IsUnmadeFor fold board sets tables refused = AreRefused fold tables sets refused
 
 -- the text spells a board, for which no log is made
-pub record IsUnmadeForText (fold : Bool) (text sets : Bytes) (tables : List Bytes) (refused : UnmadeRefusal) : Type 0 where
+pub record IsUnmadeForText (fold : Bool) (text sets : Bytes) (tables : List Bytes) (refused : Fault) : Type 0 where
   pub board : List ℕ
   pub spelt : Spells text board
   pub unmade : IsUnmadeFor fold board sets tables refused
 
 -- why no log is made: the board text comes before all else
-abbrev pub IsUnmade : Bool → Bytes → Bytes → List Bytes → SearchRefusal → Type 0
-IsUnmade fold text sets tables (Board refused) = board_of_text text ≡ Err refused
-IsUnmade fold text sets tables (Unmade refused) = IsUnmadeForText fold text sets tables refused
+abbrev pub IsUnmade : Bool → Bytes → Bytes → List Bytes → Fault → Type 0
+IsUnmade fold text sets tables (fault.Board refused) = board_of_text text ≡ Err refused
+IsUnmade fold text sets tables refused = IsUnmadeForText fold text sets tables refused
 
 -- ---- a log that is made
 
--- the board text and moves as a puzzle text; the byte of `;` is 59
-abbrev pub puzzle_of : Bytes → Bytes → Bytes
-puzzle_of text moves = text ++ 59 ∷ moves
-
 -- a search could begin, and the answer is the result on its moves and its log
-pub record IsMade (fold : Bool) (text sets : Bytes) (tables : List Bytes) (moves log : Bytes) (answer : Result ℕ OptimumRefusal) : Type 0 where
+pub record IsMade (fold : Bool) (text sets : Bytes) (tables : List Bytes) (moves log : Bytes) (answer : Result ℕ Fault) : Type 0 where
   pub could : IsSearchable fold text sets tables
   pub is_result : IsOptimumResult (log_files fold (puzzle_of text moves) sets log tables) answer
 
@@ -93,14 +88,14 @@ moves_line [] = codes "moves\n"
 moves_line (letter ∷ letters) = codes "moves " ++ (letter ∷ letters ++ codes "\n")
 
 -- of an optimum the moves come before its line
-abbrev pub lines_on : Bytes → Result ℕ OptimumRefusal → Bytes
+abbrev pub lines_on : Bytes → Result ℕ Fault → Bytes
 lines_on moves (Ok n) = moves_line (letters_of moves) ++ counted (codes "optimal ") n
-lines_on moves (Err refused) = line_of_fault (fault_of_optimum refused)
+lines_on moves (Err refused) = line_of_fault refused
 
 -- what comes of a search: a refusal, or moves, a log, and the result on them
 pub data SearchOutcome : Type 0 where
-  unmade : SearchRefusal → SearchOutcome
-  searched : Bytes → Bytes → Result ℕ OptimumRefusal → SearchOutcome
+  unmade : Fault → SearchOutcome
+  searched : Bytes → Bytes → Result ℕ Fault → SearchOutcome
 
 -- on this board text, this set text and these table files
 abbrev pub IsSearchOf : Bool → Bytes → Bytes → List Bytes → SearchOutcome → Type 0
@@ -109,7 +104,7 @@ IsSearchOf fold text sets tables (searched moves log answer) = IsMade fold text 
 
 -- the digests of the tables, and of the log where one was made, and then the lines
 abbrev pub reply_to_search : List Bytes → SearchOutcome → Reply
-reply_to_search tables (unmade refused) = record { digested = tables; made = None; lines = line_of_fault (fault_of_search refused); is_yes = false }
+reply_to_search tables (unmade refused) = reply_on tables (Err refused)
 reply_to_search tables (searched moves log answer) = record { digested = tables; made = Some log; lines = lines_on moves answer; is_yes = is_ok answer }
 
 -- a reply tells what comes of a search

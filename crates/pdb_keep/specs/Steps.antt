@@ -1,37 +1,43 @@
 -- What the steps of a maker's command answer: a result, or want of memory in its place.
-use Rattle.std.specs.Prelude.{◌≡◌, ℕ, Bool, List, ◌∷◌, Result, IfOk, length}
+use Rattle.std.specs.Prelude.{◌≡◌, ⊤, ℕ, Bool, List, ◌∷◌, Result, IfOk, length}
 use Rattle.std.specs.declared.alloc.AllocError.{AllocError}
 use Rattle.byte_io.specs.Shelf.{Bytes}
 use Rattle.pdb_run.specs.Answers.{IsAnswerBy, all_bytes}
 use Rattle.pdb_run.specs.declared.answers.Answer.{Answer}
 use Rattle.pdb_verdict.specs.Bound.{TakesMemoryForBound}
 use Rattle.pdb_verdict.specs.Refusals.{IsCauseBy}
-use Rattle.pdb_verdict.specs.declared.refusals.BuildRefusal.{BuildRefusal}
-use Rattle.pdb_verdict.specs.declared.refusals.Failure.{Failure}
-use Rattle.pdb_verdict.specs.declared.refusals.Failure.TheVariants.{Memory, Refused}
-use Rattle.pdb_verdict.specs.declared.refusals.OptimumRefusal.{OptimumRefusal}
-use Rattle.pdb_verdict.specs.declared.refusals.SearchRefusal.{SearchRefusal}
-use Rattle.pdb_verdict.specs.declared.refusals.SearchRefusal.TheVariants.{Unmade}
-use Rattle.pdb_verdict.specs.declared.refusals.UnmadeRefusal.{UnmadeRefusal}
+use Rattle.pdb_verdict.specs.declared.verdicts.Fault.{Fault}
+use Rattle.pdb_verdict.specs.declared.verdicts.Fault.TheVariants as fault
+use Rattle.tab_make.specs.declared.faults.MakeFault.{MakeFault}
+use Rattle.tab_make.specs.declared.faults.MakeFault.TheVariants as make
 use Rattle.pdb_keep.specs.MakeTable.{ArePattern, IsUnbuilt}
 use Rattle.pdb_keep.specs.Solve.{IsUnmade, TellsSearch, letters_of}
 use Rattle.pdb_keep.specs.declared.search_inputs.SearchInputs.{SearchInputs}
 
 -- why a maker of a table builds none, or want of memory, which comes of patterns alone
-abbrev pub IsCauseForBuild : ℕ → ℕ → Failure BuildRefusal → Type 0
+abbrev pub IsCauseForBuild : ℕ → ℕ → Fault → Type 0
 IsCauseForBuild side mask cause = IsCauseBy (IsUnbuilt side mask) (ArePattern side mask) cause
 
 -- why a search makes no log, or want of memory, which comes where the check of the tables takes some
-abbrev pub IsCauseForSearch : Bool → Bytes → Bytes → List Bytes → Failure SearchRefusal → Type 0
+abbrev pub IsCauseForSearch : Bool → Bytes → Bytes → List Bytes → Fault → Type 0
 IsCauseForSearch fold text sets tables cause = IsCauseBy (IsUnmade fold text sets tables) (TakesMemoryForBound text tables) cause
 
--- no log for a board, as what comes of a search
-abbrev pub unmade_for : {R : Type 0} → (R → UnmadeRefusal) → Failure R → Failure SearchRefusal
-unmade_for why (Refused refused) = Refused (Unmade (why refused))
-unmade_for why Memory = Memory
+-- why a maker gives up, as it is told
+abbrev pub of_maker : MakeFault → Fault
+of_maker make.K1 = fault.K1
+of_maker make.K2 = fault.K2
+of_maker make.K3 = fault.K3
+of_maker make.Memory = fault.Memory
+
+-- a search may give up for this
+abbrev pub IsGivenUp : Fault → Type 0
+IsGivenUp fault.K1 = ⊤
+IsGivenUp fault.K2 = ⊤
+IsGivenUp fault.Memory = ⊤
+IsGivenUp _ = ⊥
 
 -- an optimum is the number of these moves
-abbrev pub HasItsMoves : Bytes → Result ℕ OptimumRefusal → Type 0
+abbrev pub HasItsMoves : Bytes → Result ℕ Fault → Type 0
 HasItsMoves moves answer = IfOk answer (λ n. length (letters_of moves) ≡ n)
 
 -- the files that were read for a search, in order

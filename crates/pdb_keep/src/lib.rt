@@ -4,6 +4,7 @@
 
 mod laws;
 mod make_table;
+mod makers;
 mod search_inputs;
 mod solutions;
 mod solve;

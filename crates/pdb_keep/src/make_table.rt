@@ -5,19 +5,21 @@ ghost use Rattle.pdb_request.specs.Asked.{make_table_shown};
 ghost use Rattle.pdb_run.specs.Writing.{digests_of};
 ghost use Rattle.pdb_run.specs.Answers.{IsAnswerBy};
 ghost use Rattle.pdb_run.specs.Runs.{Ends};
+ghost use Rattle.pdb_verdict.specs.Inputs.{table_file};
+ghost use Rattle.pdb_verdict.specs.Verdicts.{IsAnswerTo};
 ghost use Rattle.pdb_keep.specs.MakeTable.{ArePattern, IsBuilt, SpeaksOf, TellsBuild, make_table_plan};
 ghost use Rattle.pdb_keep.specs.Steps.{IsCauseForBuild};
 
+use crate::makers::of_maker;
 use pat_place::Pattern;
 use pdb_request::MakeTable;
 use pdb_run::{
-    Answer, Command, Digested, Digests, Input, Io, Status, keep_and_conclude, read_inputs_and_try,
+    Answer, Command, Digested, Digests, Input, Io, Status, beside, keep_and_conclude,
+    read_inputs_and_try,
 };
-use pdb_verdict::{
-    BuildRefusal, Failure, Fault, Inputs, Verdict, fault_of_build, line_of, settled, verify_beside,
-};
+use pdb_verdict::{Fault, Verdict, line_of, settled, told, verify_table};
 use puz_board::Side;
-use puz_make::{MakeFault, build};
+use puz_make::build;
 use std::alloc::{AllocError, Global};
 use std::sync::Wait;
 use std::thread::Threads;
@@ -65,22 +67,17 @@ fn answer_make_table<H: Threads + Wait + Sync, G: Gate + Sync>(
 ) -> Result<Answer<'static>, AllocError>
     ensures { IsAnswerBy (TellsBuild side mask) (ArePattern side mask) result }
 {
-    match build_table(side, mask, workers) {
+    let nothing = Digested::Files(&[], None);
+    let build = settled(build_table(side, mask, workers))?;
+    match build {
         Ok(built) => Ok(Answer {
-            digested: Digested::Files(&[], None),
+            digested: nothing,
             lines: line_of(&built.answer),
             is_yes: built.answer.is_ok(),
             made: Some(built.file),
             made_digest: built.digest,
         }),
-        Err(Failure::Memory) => Err(AllocError),
-        Err(Failure::Refused(refused)) => Ok(Answer {
-            digested: Digested::Files(&[], None),
-            made: None,
-            made_digest: None,
-            lines: line_of(&Err(fault_of_build(refused))),
-            is_yes: false,
-        }),
+        Err(refused) => Ok(told(nothing, &Err(refused))),
     }
 }
 
@@ -100,25 +97,23 @@ fn build_table<H: Threads + Wait + Sync, G: Gate + Sync>(
     side: u8,
     mask: u32,
     workers: &Workers<'_, H, G>,
-) -> Result<Built, Failure<BuildRefusal>>
+) -> Result<Built, Fault>
     ensures built { IfOk result (λ built. IsBuilt side mask built.file.items built.answer) }
     ensures unbuilt { IfErr result (IsCauseForBuild side mask) }
 {
     let Some(pattern) = pattern_of(side, mask) else {
-        return Err(Failure::Refused(BuildRefusal::K4));
+        return Err(Fault::K4);
     };
     let file = match build(workers.rt, workers.alloc, &pattern) {
         Ok(file) => file,
-        Err(MakeFault::Memory) => return Err(Failure::Memory),
-        Err(MakeFault::K3) => return Err(Failure::Refused(BuildRefusal::K3)),
-        // These come of searching alone.
-        Err(MakeFault::K1 | MakeFault::K2) => unreachable!(),
+        Err(fault) => return Err(of_maker(fault)),
     };
     let table = file.as_slice();
-    let (digest, answer) = verify_beside(&Inputs::Table { table }, workers);
-    let Ok(answer) = settled(answer) else {
-        return Err(Failure::Memory);
-    };
+    let check = || -> Result<Verdict, Fault>
+        ensures { IsAnswerTo (table_file table.entry.now) result }
+    { verify_table(table, workers) };
+    let (digest, answer) = beside(workers.rt, workers.count, &[], Some(table), check);
+    let answer = settled(answer)?;
     if speaks_of(&answer, side, mask) {
         Ok(Built {
             file,
@@ -126,7 +121,7 @@ fn build_table<H: Threads + Wait + Sync, G: Gate + Sync>(
             answer,
         })
     } else {
-        Err(Failure::Refused(BuildRefusal::K4))
+        Err(Fault::K4)
     }
 }
 

@@ -8,20 +8,20 @@ ghost use Rattle.pdb_keep.specs.Steps.{HasItsMoves};
 use arrayvec::ArrayString;
 use itoa::Buffer;
 use pdb_run::{Lines, lines};
-use pdb_verdict::{OptimumRefusal, fault_of_optimum, line_of};
+use pdb_verdict::{Fault, line_of};
 use puz_board::Move;
 
 /// The most letters of the moves of an optimum: how many they are is a byte.
 const MOST_LETTERS: usize = u8::MAX as usize;
 
 /// The lines of a result on moves and their log: of an optimum the moves come first.
-pub(crate) fn lines_on(moves: &[u8], answer: &Result<u8, OptimumRefusal>) -> Lines
+pub(crate) fn lines_on(moves: &[u8], answer: &Result<u8, Fault>) -> Lines
     requires { HasItsMoves moves.now answer.now }
     ensures { result.bytes ≡ lines_on moves.now answer.now }
 {
     match answer {
         Ok(count) => optimum_lines(moves, *count),
-        Err(refused) => line_of(&Err(fault_of_optimum(*refused))),
+        Err(refused) => line_of(&Err(*refused)),
     }
 }
 

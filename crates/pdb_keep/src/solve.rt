@@ -12,23 +12,22 @@ ghost use Rattle.pdb_verdict.specs.FileBundles.{IsBundleOfFiles, IsCauseForBundl
 ghost use Rattle.pdb_verdict.specs.Inputs.{log_files};
 ghost use Rattle.pdb_verdict.specs.Optimal.{IsOptimumResult, TakesMemoryForOptimum};
 ghost use Rattle.pdb_verdict.specs.Refusals.{IsFoundBy};
-ghost use Rattle.pdb_keep.specs.Solve.{IsMade, TellsSearch, puzzle_of, reply_to_search, searched, solve_plan, unmade};
-ghost use Rattle.pdb_keep.specs.Steps.{HasItsMoves, IsCauseForSearch, IsSearchAnswer, unmade_for};
-ghost use Rattle.pdb_verdict.specs.declared.refusals.UnmadeRefusal.TheVariants as unmade_refusal;
+ghost use Rattle.pdb_verdict.specs.Replay.{puzzle_of};
+ghost use Rattle.pdb_keep.specs.Solve.{IsMade, TellsSearch, reply_to_search, searched, solve_plan};
+ghost use Rattle.pdb_keep.specs.Steps.{HasItsMoves, IsCauseForSearch, IsGivenUp, IsSearchAnswer};
 
+use crate::makers::of_maker;
 use crate::search_inputs::{SearchInputs, Searching};
 use crate::solutions::lines_on;
+use log_check::LogRefusal;
 use pdb_request::Search;
 use pdb_run::{
-    Answer, Digested, Digests, FILES_BESIDE, Io, Status, beside, keep_and_conclude,
-    read_inputs_and_try,
+    Answer, Digested, Digests, FILES_BESIDE, Io, Status, beside, digested_beside,
+    keep_and_conclude, read_inputs_and_try,
 };
-use pdb_verdict::{
-    BundleRefusal, Failure, GivenUp, OptimumRefusal, SearchRefusal, Tables, UnmadeRefusal,
-    fault_of_search, fold_bundle, line_of, optimum_over, read_bundle, settled,
-};
+use pdb_verdict::{Fault, Tables, fold_bundle, optimum_over, read_bundle, settled, told};
 use puz_board::Board;
-use puz_make::{Found, MakeFault, solve};
+use puz_make::{Found, solve};
 use set_sum::Bundle;
 use std::alloc::{AllocError, Global};
 use std::sync::Wait;
@@ -92,10 +91,8 @@ fn answer_folded<'i, H: Threads + Wait + Sync, G: Gate + Sync>(
     requires spelt { Spells files.text.items board.now }
     ensures { IsSearchAnswer true files result }
 {
-    let SearchInputs { text, sets, tables } = files;
-    let (text, sets) = (text.as_slice(), sets.as_slice());
-    let (digests, bundle) = fold_bundle(tables, sets, workers);
-    let outcome = search_in(bundle, board, text, budget, workers);
+    let (digests, bundle) = fold_bundle(files.tables, files.sets.as_slice(), workers);
+    let outcome = search_in(bundle, board, budget, workers);
     answer_of(Digested::Lines(digests), outcome)
 }
 
@@ -112,25 +109,14 @@ fn answer_solve<'i, H: Threads + Wait + Sync, G: Gate + Sync>(
     let (text, sets) = (files.text.as_slice(), files.sets.as_slice());
     let files = files.tables.as_slice();
     let tables = Tables { files, fold };
-    let (digests, outcome) = search_beside(text, sets, tables, budget, workers);
-    answer_of(digested_by(files, digests), outcome)
-}
-
-/// The digest lines of tables: those that are made already, or else those of the files.
-fn digested_by(tables: &[Vec<u8>], digests: Option<Digests>) -> Digested<'_>
-    requires { IfSome digests (λ digests. digests.items ≡ digests_of (all_bytes tables.now)) }
-    ensures { digest_lines result ≡ digests_of (all_bytes tables.now) }
-{
-    match digests {
-        Some(lines) => Digested::Lines(lines),
-        None => Digested::Files(tables, None),
-    }
+    let (digested, outcome) = search_beside(text, sets, tables, budget, workers);
+    answer_of(digested, outcome)
 }
 
 /// The answer on what comes of a search over tables with these digest lines.
 fn answer_of<'i>(
     digested: Digested<'i>,
-    outcome: Result<Made, Failure<SearchRefusal>>,
+    outcome: Result<Made, Fault>,
 ) -> Result<Answer<'i>, AllocError>
     requires { IfOk outcome (λ made. HasItsMoves made.moves.items made.answer) }
     ensures { (fold : Bool) (text sets : List ℕ) (tables : List (List ℕ))
@@ -141,10 +127,10 @@ fn answer_of<'i>(
         → IsAnswerBy (TellsSearch fold text sets tables)
         (TakesMemoryForBound text tables) result }
 {
+    let outcome = settled(outcome)?;
     match outcome {
         Ok(made) => Ok(answer_on(digested, made)),
-        Err(Failure::Refused(refused)) => Ok(refusal_of(digested, refused)),
-        Err(Failure::Memory) => Err(AllocError),
+        Err(refused) => Ok(told(digested, &Err(refused))),
     }
 }
 
@@ -164,54 +150,39 @@ fn answer_on<'i>(digested: Digested<'i>, made: Made) -> Answer<'i>
     }
 }
 
-/// The answer where a search made nothing.
-fn refusal_of<'i>(digested: Digested<'i>, refused: SearchRefusal) -> Answer<'i>
-    ensures { (tables : List (List ℕ)) → digest_lines digested.entry ≡ digests_of tables
-        → IsReplyOf result (reply_to_search tables (unmade refused)) }
-{
-    Answer {
-        digested,
-        made: None,
-        made_digest: None,
-        lines: line_of(&Err(fault_of_search(refused))),
-        is_yes: false,
-    }
-}
-
 /// The moves and the log of a search, the log's digest line, where that is made already, and the result on them.
 #[derive(Drop)]
 struct Made {
     moves: Vec<u8>,
     log: Vec<u8>,
     digest: Option<Digests>,
-    answer: Result<u8, OptimumRefusal>,
+    answer: Result<u8, Fault>,
     ghost digested: { option_map (λ d. d.items) digest
         ≡ option_map (λ _. digests_of (log.items ∷ [])) digest },
 }
 
-/// What comes of a search, and the digest lines of the tables, where they are made beside it.
-fn search_beside<H: Threads + Wait + Sync, G: Gate + Sync>(
+/// What comes of a search, and the digest lines of the tables, which are made beside it, where there are workers for both.
+fn search_beside<'t, H: Threads + Wait + Sync, G: Gate + Sync>(
     text: &[u8],
     sets: &[u8],
-    tables: Tables<'_>,
+    tables: Tables<'t>,
     budget: u64,
     workers: &Workers<'_, H, G>,
-) -> (Option<Digests>, Result<Made, Failure<SearchRefusal>>)
-    ensures digests { let files = all_bytes tables.entry.files.now in
-        IfSome result.0 (λ digests. digests.items ≡ digests_of files) }
+) -> (Digested<'t>, Result<Made, Fault>)
+    ensures digested { digest_lines result.0 ≡ digests_of (all_bytes tables.entry.files.now) }
     ensures outcome { let of = all_bytes tables.entry.files.now in let fold = tables.entry.fold in
         MatchResult result.1
         (λ made. IsMade fold text.now sets.now of made.moves.items made.log.items made.answer)
         (IsCauseForSearch fold text.now sets.now of) }
 {
-    let search = || -> Result<Made, Failure<SearchRefusal>>
+    let search = || -> Result<Made, Fault>
         ensures { let of = all_bytes tables.entry.files.now in let fold = tables.entry.fold in
             let b = text.entry.now in let s = sets.entry.now in
             MatchResult result
             (λ made. IsMade fold b s of made.moves.items made.log.items made.answer)
             (IsCauseForSearch fold b s of) }
     { search(text, sets, tables, budget, workers) };
-    beside(workers.rt, workers.count, tables.files, None, search)
+    digested_beside(workers.rt, workers.count, tables.files, None, search)
 }
 
 /// Searches for a shortest solution of the board of a text, and checks what is found. Or the first refusal that stands: the
@@ -223,96 +194,57 @@ fn search<H: Threads + Wait + Sync, G: Gate + Sync>(
     tables: Tables<'_>,
     budget: u64,
     workers: &Workers<'_, H, G>,
-) -> Result<Made, Failure<SearchRefusal>>
+) -> Result<Made, Fault>
     ensures { let of = all_bytes tables.entry.files.now in let fold = tables.entry.fold in
         MatchResult result
         (λ made. IsMade fold text.now sets.now of made.moves.items made.log.items made.answer)
         (IsCauseForSearch fold text.now sets.now of) }
 {
-    let board = match Board::read(text) {
-        Ok(board) => board,
-        Err(refused) => return Err(Failure::Refused(SearchRefusal::Board(refused))),
-    };
+    let board = Board::read(text)?;
     let bundle = read_bundle(tables, sets, workers);
-    search_in(bundle, &board, text, budget, workers)
+    search_in(bundle, &board, budget, workers)
 }
 
 /// The same for the board that a text spells, once the tables and the sets are checked.
 fn search_in<H: Threads + Wait + Sync, G: Gate + Sync>(
-    bundle: Result<Bundle<'_>, Failure<BundleRefusal>>,
+    bundle: Result<Bundle<'_>, Fault>,
     board: &Board,
-    text: &[u8],
     budget: u64,
     workers: &Workers<'_, H, G>,
-) -> Result<Made, Failure<SearchRefusal>>
-    ensures { (fold : Bool) (sets : List ℕ) (tables : List (List ℕ)) → Spells text.now board.now
-        → IfOk bundle.entry (IsBundleOfFiles fold tables sets)
+) -> Result<Made, Fault>
+    ensures { (fold : Bool) (text sets : List ℕ) (tables : List (List ℕ))
+        → Spells text board.now → IfOk bundle.entry (IsBundleOfFiles fold tables sets)
         → IfErr bundle.entry (IsCauseForBundle fold tables sets)
         → MatchResult result
-        (λ made. IsMade fold text.now sets tables made.moves.items made.log.items made.answer)
-        (IsCauseForSearch fold text.now sets tables) }
+        (λ made. IsMade fold text sets tables made.moves.items made.log.items made.answer)
+        (IsCauseForSearch fold text sets tables) }
 {
-    let bundle = match bundle {
-        Ok(bundle) => bundle,
-        Err(failure) => return Err(without_bundle(failure)),
-    };
+    let bundle = bundle?;
     if board.side() != bundle.side() {
-        return Err(Failure::Refused(SearchRefusal::Unmade(UnmadeRefusal::L4)));
+        return Err(Fault::Log(LogRefusal::L4));
     }
-    match search_over(&bundle, board, text, budget, workers) {
-        Ok(made) => Ok(made),
-        Err(failure) => Err(given_up(failure)),
-    }
+    search_over(&bundle, board, budget, workers)
 }
 
-/// Why a search makes no log, where there is no bundle.
-fn without_bundle(failure: Failure<BundleRefusal>) -> Failure<SearchRefusal>
-    ensures { result ≡ unmade_for unmade_refusal.Bundle failure }
-{
-    match failure {
-        Failure::Refused(refused) => {
-            Failure::Refused(SearchRefusal::Unmade(UnmadeRefusal::Bundle(refused)))
-        }
-        Failure::Memory => Failure::Memory,
-    }
-}
-
-/// The same where the search gave up.
-fn given_up(failure: Failure<GivenUp>) -> Failure<SearchRefusal>
-    ensures { result ≡ unmade_for unmade_refusal.GivenUp failure }
-{
-    match failure {
-        Failure::Refused(why) => {
-            Failure::Refused(SearchRefusal::Unmade(UnmadeRefusal::GivenUp(why)))
-        }
-        Failure::Memory => Failure::Memory,
-    }
-}
-
-/// Searches for a shortest solution of the board that a text spells, over a bundle of its side, and checks what is found.
+/// Searches for a shortest solution of a board over a bundle of its side, and checks what is found.
 #[inline(never)] // so that the stack hasn't its values while tables are checked
 fn search_over<H: Threads + Wait + Sync, G: Gate + Sync>(
     bundle: &Bundle<'_>,
     board: &Board,
-    text: &[u8],
     budget: u64,
     workers: &Workers<'_, H, G>,
-) -> Result<Made, Failure<GivenUp>>
+) -> Result<Made, Fault>
     requires { side_of board.now ≡ bundle.now.side }
-    ensures { (fold : Bool) (sets : List ℕ) (tables : List (List ℕ))
+    ensures given_up { IfErr result IsGivenUp }
+    ensures made { (fold : Bool) (text sets : List ℕ) (tables : List (List ℕ)) → Spells text board.now
         → IsBundleOfFiles fold tables sets bundle.now → IfOk result (λ made.
-        let puzzle = puzzle_of text.now made.moves.items in
+        let puzzle = puzzle_of text made.moves.items in
         IsOptimumResult (log_files fold puzzle sets made.log.items tables) made.answer) }
 {
     let found = find(workers.alloc, bundle, board, budget)?;
-    let Ok(puzzle) = join(workers.alloc, text, found.moves.as_slice()) else {
-        return Err(Failure::Memory);
-    };
     let (moves, log) = (found.moves, found.log);
-    let (digest, answer) = log_beside(bundle, puzzle.as_slice(), log.as_slice(), workers);
-    let Ok(answer) = settled(answer) else {
-        return Err(Failure::Memory);
-    };
+    let (digest, answer) = log_beside(bundle, board, moves.as_slice(), log.as_slice(), workers);
+    let answer = settled(answer)?;
     Ok(Made {
         moves,
         log,
@@ -321,53 +253,36 @@ fn search_over<H: Threads + Wait + Sync, G: Gate + Sync>(
     })
 }
 
-/// The result on a puzzle text and a log over a bundle, and the log's digest line, where that is made beside the check.
+/// The result on the moves and the log of a board over a bundle, and the log's digest line, where that is made beside the check.
 fn log_beside<H: Threads + Wait + Sync, G: Gate + Sync>(
     bundle: &Bundle<'_>,
-    puzzle: &[u8],
+    board: &Board,
+    moves: &[u8],
     log: &[u8],
     workers: &Workers<'_, H, G>,
-) -> (Option<Digests>, Result<u8, Failure<OptimumRefusal>>)
+) -> (Option<Digests>, Result<u8, Fault>)
     ensures digest { IfSome result.0 (λ digest. digest.items ≡ digests_of (log.now ∷ [])) }
-    ensures answer { (fold : Bool) (sets : List ℕ) (tables : List (List ℕ))
-        → IsBundleOfFiles fold tables sets bundle.now
-        → IsFoundBy (IsOptimumResult (log_files fold puzzle.now sets log.now tables))
-        (TakesMemoryForOptimum puzzle.now tables) result.1 }
+    ensures answer { (fold : Bool) (text sets : List ℕ) (tables : List (List ℕ)) → Spells text board.now
+        → IsBundleOfFiles fold tables sets bundle.now → let puzzle = puzzle_of text moves.now in
+        IsFoundBy (IsOptimumResult (log_files fold puzzle sets log.now tables))
+        (TakesMemoryForOptimum puzzle tables) result.1 }
 {
-    let check = || -> Result<u8, Failure<OptimumRefusal>>
-        ensures { (fold : Bool) (sets : List ℕ) (tables : List (List ℕ))
-            → IsBundleOfFiles fold tables sets bundle.entry.now → let p = puzzle.entry.now in
-            IsFoundBy (IsOptimumResult (log_files fold p sets log.entry.now tables))
-            (TakesMemoryForOptimum p tables) result }
-    { optimum_over(bundle, puzzle, log, workers) };
+    let check = || -> Result<u8, Fault>
+        ensures { (fold : Bool) (text sets : List ℕ) (tables : List (List ℕ)) → Spells text board.entry.now
+            → IsBundleOfFiles fold tables sets bundle.entry.now → let puzzle = puzzle_of text moves.entry.now in
+            IsFoundBy (IsOptimumResult (log_files fold puzzle sets log.entry.now tables))
+            (TakesMemoryForOptimum puzzle tables) result }
+    { optimum_over(bundle, board, moves, log, workers) };
     beside(workers.rt, workers.count, &[], Some(log), check)
 }
 
 /// What a search finds, unchecked.
-fn find(
-    alloc: Global,
-    bundle: &Bundle<'_>,
-    board: &Board,
-    budget: u64,
-) -> Result<Found, Failure<GivenUp>>
+fn find(alloc: Global, bundle: &Bundle<'_>, board: &Board, budget: u64) -> Result<Found, Fault>
     requires { side_of board.now ≡ bundle.now.side }
+    ensures { IfErr result IsGivenUp }
 {
     match solve(alloc, bundle, board, budget) {
         Ok(found) => Ok(found),
-        Err(MakeFault::K1) => Err(Failure::Refused(GivenUp::K1)),
-        Err(MakeFault::Memory) => Err(Failure::Memory),
-        Err(MakeFault::K2) => Err(Failure::Refused(GivenUp::K2)),
-        // This comes of building alone.
-        Err(MakeFault::K3) => unreachable!(),
+        Err(fault) => Err(of_maker(fault)),
     }
-}
-
-/// The board text and the moves as a puzzle text.
-fn join(alloc: Global, text: &[u8], moves: &[u8]) -> Result<Vec<u8>, AllocError>
-    ensures { IfOk result (λ puzzle. puzzle.items ≡ puzzle_of text.now moves.now) }
-{
-    let mut puzzle = text.to_vec(alloc)?;
-    puzzle.push(b';')?;
-    puzzle.extend_from_slice(moves)?;
-    Ok(puzzle)
 }

@@ -21,7 +21,6 @@ use Rattle.pdb_run.specs.declared.statuses.Status.{Status}
 use Rattle.pdb_run.specs.declared.statuses.Status.TheVariants.{Yes}
 use Rattle.pdb_verdict.specs.Inputs.{Given}
 use Rattle.pdb_verdict.specs.Lines.{counted, line_of_fault, line_of_verdict, reply_to}
-use Rattle.pdb_verdict.specs.Refusals.{fault_of_build, fault_of_optimum, fault_of_search}
 use Rattle.pdb_verdict.specs.Verdicts.{TellsResult}
 use Rattle.pdb_verdict.specs.declared.verdicts.Fault.{Fault}
 use Rattle.pdb_verdict.specs.declared.verdicts.Verdict.{Verdict}
@@ -133,7 +132,7 @@ check_answer inputs reply tells = subst IsAnswerReply (sym tells.told) (result_a
 -- ---- makers
 
 build_answer : (build : Build) → IsAnswerReply (reply_to_build build)
-build_answer (unbuilt refused) = digested [] [] _ _ (else_answer (line_of_fault (fault_of_build refused)) _ (fault_line (fault_of_build refused)))
+build_answer (unbuilt refused) = digested [] [] _ _ (else_answer (line_of_fault refused) _ (fault_line refused))
 build_answer (built file (Ok v)) = digested [] (file ∷ []) (line_of_verdict v) Yes (verdict_answer v)
 build_answer (built file (Err refused)) = digested [] (file ∷ []) _ _ (else_answer (line_of_fault refused) _ (fault_line refused))
 
@@ -169,13 +168,13 @@ pub moves_say_no_yes : (moves : Bytes) → IsOfNoYes (moves_line (letters_of mov
 moves_say_no_yes moves = else_alone (moves_line (letters_of moves)) (moves_else (letters_of moves) (letters_one moves))
 
 search_answer : (tables : List Bytes) (outcome : SearchOutcome) → IsAnswerReply (reply_to_search tables outcome)
-search_answer tables (unmade refused) = digested tables [] _ _ (else_answer (line_of_fault (fault_of_search refused)) _ (fault_line (fault_of_search refused)))
+search_answer tables (unmade refused) = digested tables [] _ _ (else_answer (line_of_fault refused) _ (fault_line refused))
 search_answer tables (searched moves log (Ok n)) =
     let last = counted_last (codes "optimal ") n (known (codes "optimal ") refl) in
     digested tables (log ∷ []) _ Yes
     (yes_answer (codes "optimal " ++ decimal n) _ (behind_lines (moves_line (letters_of moves)) _ (counted (codes "optimal ") n) (moves_say_no_yes moves) last))
 search_answer tables (searched moves log (Err refused)) =
-    digested tables (log ∷ []) _ _ (else_answer (line_of_fault (fault_of_optimum refused)) _ (fault_line (fault_of_optimum refused)))
+    digested tables (log ∷ []) _ _ (else_answer (line_of_fault refused) _ (fault_line refused))
 
 -- ---- whatever a run comes to
 

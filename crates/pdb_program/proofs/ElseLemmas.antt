@@ -22,7 +22,6 @@ use Rattle.pdb_run.specs.Writing.{digest_line, digests_of, memory_line, named_li
 use Rattle.pdb_verdict.specs.Lines.{counted, line_of_fault}
 use Rattle.pdb_verdict.specs.declared.verdicts.Fault.{Fault}
 use Rattle.pdb_verdict.specs.declared.verdicts.Fault.TheVariants as fault
-use Rattle.pdb_verdict.specs.declared.verdicts.MakeRefusal.TheVariants as make
 use Rattle.pdb_program.specs.Headline.{SaysYes}
 use Rattle.pdb_program.proofs.LineLemmas.{IsOfLines, joined_lines, line_alone}
 
@@ -148,9 +147,9 @@ fault_line (fault.Log log.L4) = plain (codes "L4") refl
 fault_line (fault.Log log.L5) = plain (codes "L5") refl
 fault_line (fault.Log (log.L6 n)) = numbered (codes "L6 at lemma ") n refl
 fault_line (fault.O1 solution bound) = twice_numbered (codes "O1 solution ") (codes " bound ") solution bound refl refl
-fault_line (fault.Make make.K1) = plain (codes "K1") refl
-fault_line (fault.Make make.K2) = plain (codes "K2") refl
-fault_line (fault.Make make.K3) = plain (codes "K3") refl
+fault_line fault.K1 = plain (codes "K1") refl
+fault_line fault.K2 = plain (codes "K2") refl
+fault_line fault.K3 = plain (codes "K3") refl
 fault_line fault.K4 = plain (codes "K4") refl
 fault_line (fault.Q1 n) = numbered (codes "Q1 at line ") n refl
 fault_line (fault.Q2 n) = numbered (codes "Q2 at line ") n refl

@@ -70,7 +70,7 @@ pub fn run<H: Threads + Wait + Sync, S: Shelf, R: Source, W: Sink, E: Write, G: 
 }
 
 /// The same on any shelf, reader and output.
-fn run_on<H: Threads + Wait + Sync, I: Io, E: Write, G: Gate + Sync>(
+pub(crate) fn run_on<H: Threads + Wait + Sync, I: Io, E: Write, G: Gate + Sync>(
     host: &Host<'_, H, G>,
     words: Vec<String>,
     io: &mut I,

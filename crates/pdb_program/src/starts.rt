@@ -15,13 +15,13 @@ ghost use Rattle.pdb_program.specs.Programs.{IsNumberOfStatus, RunsOn};
 ghost use Rattle.pdb_program.specs.Refusals.{AppendsWholeOrFront};
 
 use crate::hosts::Call;
-use crate::programs::run;
+use crate::programs::run_on;
 use crate::refusals::tell;
 use byte_io::shelf::Shelf;
 use byte_io::sinks::Sink;
 use byte_io::sources::Source;
 use byte_io::streams::put_text;
-use pdb_run::{NO_MEMORY, Status};
+use pdb_run::{BorrowedIo, NO_MEMORY, Status};
 use pdb_words::unreadable_word;
 use std::io;
 use std::io::Write;
@@ -68,16 +68,10 @@ pub fn start<H: Threads + Wait + Sync, S: Shelf, R: Source, W: Sink, E: Write, G
 {
     let Call { host, arguments } = call;
     match arguments {
-        Ok(all) => run(
-            host.rt,
-            host.alloc,
-            words_in(all),
-            shelf,
-            reader,
-            out,
-            err,
-            host.gate,
-        ),
+        Ok(all) => {
+            let mut io = BorrowedIo { shelf, reader, out };
+            run_on(&host, words_in(all), &mut io, err)
+        }
         Err(error) => without_words(&error, out, err).code(),
     }
 }

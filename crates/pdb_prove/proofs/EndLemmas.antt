@@ -1,5 +1,6 @@
 -- How a run of claims ends that are ready.
-use Rattle.std.proofs.Common.{◌≡◌, ◌∙◌, ◌++◌, ap, ℕ, Bool, Result, List, [], ◌∷◌, Ok, Err, inl, inr, refl, sym}
+use Rattle.std.proofs.Common.{◌≡◌, ◌≢◌, ◌∙◌, ◌++◌, ap, ℕ, Bool, Result, List, [], ◌∷◌, Ok, Err, IfOk, OnErr, inl, inr, refl, subst, sym}
+use Rattle.std.specs.declared.alloc.AllocError.{AllocError}
 use Rattle.std.proofs.lemmas.Grind.{flat_map-append}
 use Rattle.std.proofs.lemmas.List.{append-nil}
 use Rattle.set_sum.specs.Bundles.{ShownBundle}
@@ -10,13 +11,19 @@ use Rattle.claim_text.specs.declared.faults.ClaimsFault.TheVariants as claims_fa
 use Rattle.byte_io.specs.Shelf.{Bytes}
 use Rattle.byte_io.specs.declared.streams.WriteFault.{WriteFault}
 use Rattle.pdb_request.specs.Asked.{ProveArguments}
+use Rattle.pdb_run.specs.Answers.{IsAnswerBy, IsReplyOf}
+use Rattle.pdb_run.specs.declared.answers.Answer.{Answer}
 use Rattle.pdb_run.specs.Io.{HasRead, IsWritten}
 use Rattle.pdb_run.specs.Runs.{World, replied, status_of_reply}
 use Rattle.pdb_run.specs.Writing.{digest_line, digests_of}
 use Rattle.pdb_run.specs.declared.statuses.Status.{Status}
 use Rattle.pdb_run.specs.declared.statuses.Status.TheVariants.{Fault}
-use Rattle.pdb_prove.specs.Prove.{AreReady, ClaimsFiles, ProveEnds, answered, budget_of, digested_files, in_order, prove_inputs, reply_to_claims}
-use Rattle.pdb_prove.specs.Steps.{AreAllTold, AreCut, IsCauseForClaims, failure_of}
+use Rattle.pdb_verdict.specs.declared.verdicts.Fault as verdict
+use Rattle.pdb_verdict.specs.declared.verdicts.Fault.TheVariants.{Memory}
+use Rattle.pdb_verdict.specs.declared.verdicts.Verdict.{Verdict}
+use Rattle.pdb_verdict.proofs.RefusalLemmas.{cause_settled}
+use Rattle.pdb_prove.specs.Prove.{AreReady, ClaimsFiles, IsClaimsReply, IsUnready, ProveEnds, TakesMemoryForClaims, answered, budget_of, digested_files, in_order, prove_inputs, reply_to_claims, unready}
+use Rattle.pdb_prove.specs.Steps.{AreAllTold, AreCut, IsCauseForClaims, of_claims}
 use Rattle.pdb_prove.proofs.TellingLemmas.{written_behind}
 
 -- the digest lines of tables, and that of a text behind them
@@ -28,9 +35,23 @@ digests_behind tables text =
 pub text_cause : {A : Type 0} (fold : Bool) (files : ClaimsFiles) (r : Result A ClaimsFault) (fault : ClaimsFault) → r ≡ Err fault
     → ((line : ℕ) → r ≡ Err (claims_fault.Q1 line) → IsFirstNoClaim files.claims line)
     → (r ≡ Err claims_fault.Memory → (claims : List ShownClaim) × AreClaims files.claims claims)
-    → IsCauseForClaims fold files (failure_of fault)
+    → IsCauseForClaims fold files (of_claims fault)
 text_cause fold files r (claims_fault.Q1 line) is named memory = inl (line, named line is, refl)
 text_cause fold files r claims_fault.Memory is named memory = memory is
+
+-- what is told of this tells what comes of the claims, or memory is wanted, where it is taken
+pub fault_told : (arguments : ProveArguments) (files : ClaimsFiles) (fault : verdict.Fault) (told : Result Answer AllocError)
+    → IsCauseForClaims arguments.fold files fault
+    → IfOk told (λ t. IsReplyOf t (reply_to_claims files (unready fault)) × (◌≢◌ {A = Result Verdict verdict.Fault} (Err fault) (Err Memory)))
+    → OnErr told (◌≡◌ {A = Result Verdict verdict.Fault} (Err fault) (Err Memory))
+    → IsAnswerBy (IsClaimsReply arguments.fold (budget_of arguments.budget) (in_order files)) (TakesMemoryForClaims (in_order files)) told
+fault_told arguments files fault (Ok t) is says wants =
+    let refused = cause_settled (IsUnready arguments.fold files) _ fault (λ same. says.1 (ap (λ x. Err x) same)) is in
+    (reply_to_claims files (unready fault), (files, refl, record { outcome = unready fault; is_outcome = refused; told = refl }), says.0)
+fault_told arguments files fault (Err e) is says wants =
+    let same : fault ≡ Memory = cc in
+    let takes = subst (IsCauseForClaims arguments.fold files) same is in
+    (files, refl, takes.0, takes.1)
 
 module _ (arguments : ProveArguments) (files : ClaimsFiles) {old read : World} (claims : List ShownClaim) (v : ShownBundle)
     (are : HasRead (prove_inputs arguments) old read (in_order files)) (ready : AreReady arguments.fold files claims v) where

@@ -15,7 +15,6 @@ use Rattle.byte_io.specs.Shelf.{Bytes}
 use Rattle.pdb_verdict.specs.Lines.{counted, line_of_fault}
 use Rattle.pdb_verdict.specs.declared.verdicts.Fault.{Fault}
 use Rattle.pdb_verdict.specs.declared.verdicts.Fault.TheVariants as fault
-use Rattle.pdb_verdict.specs.declared.verdicts.MakeRefusal.TheVariants as make
 
 -- the line is these words and its end
 abbrev pub IsLineOf : Bytes → Bytes → Type 0
@@ -64,9 +63,9 @@ fault_line (fault.Log log.L4) = (codes "refused L4", refl)
 fault_line (fault.Log log.L5) = (codes "refused L5", refl)
 fault_line (fault.Log (log.L6 n)) = (codes "refused L6 at lemma " ++ decimal n, refl)
 fault_line (fault.O1 solution bound) = ((codes "refused O1 solution " ++ decimal solution) ++ (codes " bound " ++ decimal bound), twice (codes "refused O1 solution ") (codes " bound ") solution bound)
-fault_line (fault.Make make.K1) = (codes "refused K1", refl)
-fault_line (fault.Make make.K2) = (codes "refused K2", refl)
-fault_line (fault.Make make.K3) = (codes "refused K3", refl)
+fault_line fault.K1 = (codes "refused K1", refl)
+fault_line fault.K2 = (codes "refused K2", refl)
+fault_line fault.K3 = (codes "refused K3", refl)
 fault_line fault.K4 = (codes "refused K4", refl)
 fault_line (fault.Q1 n) = (codes "refused Q1 at line " ++ decimal n, refl)
 fault_line (fault.Q2 n) = (codes "refused Q2 at line " ++ decimal n, refl)

@@ -4,8 +4,7 @@ use Rattle.set_sum.specs.Bundles.{ShownBundle}
 use Rattle.puz_search.specs.Guides.{ShownGuide}
 use Rattle.claim_text.specs.Claims as claims
 use Rattle.claim_text.specs.Claims.{ShownAsks, ShownClaim}
-use Rattle.pdb_verdict.specs.declared.verdicts.Fault.TheVariants.{Make}
-use Rattle.pdb_verdict.specs.declared.verdicts.MakeRefusal.TheVariants.{K1, K2}
+use Rattle.pdb_verdict.specs.declared.verdicts.Fault.TheVariants.{K1, K2}
 use Rattle.pdb_prove.specs.Answers.{IsFoundFor, IsFoundOf, IsRefuted}
 use Rattle.pdb_prove.specs.Steps.{is_spent}
 use Rattle.pdb_prove.specs.declared.answers.Found.{Found}
@@ -21,17 +20,17 @@ module _ (guide : ShownGuide) (few budget : ℕ) (less : few ≤ budget) where
   -- what is found for a claim within few boards, and isn't that these are spent, is found within more
   pub soon_enough : (b : List ℕ) (asks : ShownAsks) (found : Found) → is_spent found ≡ false → IsFoundOf guide few b asks found → IsFoundOf guide budget b asks found
   soon_enough b claims.shortest (Shortest n letters) settled is = is
-  soon_enough b claims.shortest (Refused (Make K2)) settled is = elim is [ inl odd ↦ inl odd | inr beyond ↦ inr beyond ]
-  soon_enough b claims.shortest (Refused (Make K1)) settled is = absurd (spent_not settled)
+  soon_enough b claims.shortest (Refused K2) settled is = elim is [ inl odd ↦ inl odd | inr beyond ↦ inr beyond ]
+  soon_enough b claims.shortest (Refused K1) settled is = absurd (spent_not settled)
   soon_enough b (claims.moves text) (Optimum n) settled is = (is.0, is.1, refuted_within b n is.2)
   soon_enough b (claims.moves text) (Shorter letters) settled is = is
-  soon_enough b (claims.moves text) (Refused (Make K2)) settled is = (is.0, is.1, is.2, refuted_within b (min is.0 255) is.3)
-  soon_enough b (claims.moves text) (Refused (Make K1)) settled is = absurd (spent_not settled)
+  soon_enough b (claims.moves text) (Refused K2) settled is = (is.0, is.1, is.2, refuted_within b (min is.0 255) is.3)
+  soon_enough b (claims.moves text) (Refused K1) settled is = absurd (spent_not settled)
   soon_enough b (claims.moves text) (Refused _) settled is = is
   soon_enough b (claims.bound r) Bound settled is = refuted_within b r is
   soon_enough b (claims.bound r) (Shorter letters) settled is = is
-  soon_enough b (claims.bound r) (Refused (Make K2)) settled is = is
-  soon_enough b (claims.bound r) (Refused (Make K1)) settled is = absurd (spent_not settled)
+  soon_enough b (claims.bound r) (Refused K2) settled is = is
+  soon_enough b (claims.bound r) (Refused K1) settled is = absurd (spent_not settled)
   soon_enough b asks _ settled is = is
 
 -- the same by a guide of the bundle

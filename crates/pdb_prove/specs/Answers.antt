@@ -16,8 +16,7 @@ use Rattle.puz_search.specs.declared.deepening.Deepened.TheVariants as deepened
 use Rattle.byte_io.specs.Shelf.{Bytes}
 use Rattle.pdb_verdict.specs.Lines.{line_of_fault}
 use Rattle.pdb_verdict.specs.declared.verdicts.Fault.{Fault}
-use Rattle.pdb_verdict.specs.declared.verdicts.Fault.TheVariants.{Make, Moves}
-use Rattle.pdb_verdict.specs.declared.verdicts.MakeRefusal.TheVariants.{K1, K2}
+use Rattle.pdb_verdict.specs.declared.verdicts.Fault.TheVariants.{K1, K2, Moves}
 use Rattle.pdb_prove.specs.declared.answers.Found.{Found}
 use Rattle.pdb_prove.specs.declared.answers.Found.TheVariants.{Bound, Optimum, Refused, Shorter, Shortest}
 
@@ -32,8 +31,8 @@ module _ (guide : ShownGuide) (budget : ℕ) where
   -- parity, or no solution has fewer than 254 moves
   abbrev pub IsShortestFor : List ℕ → Found → Type 0
   IsShortestFor b (Shortest n letters) = Solves b letters.items n × IsBounded b n
-  IsShortestFor b (Refused (Make K1)) = (bound : ℕ) × IsDeepened guide b budget (deepened.Spent bound)
-  IsShortestFor b (Refused (Make K2)) = (¬ HasTheBlanksParity b) ⊎ IsDeepened guide b budget deepened.Beyond
+  IsShortestFor b (Refused K1) = (bound : ℕ) × IsDeepened guide b budget (deepened.Spent bound)
+  IsShortestFor b (Refused K2) = (¬ HasTheBlanksParity b) ⊎ IsDeepened guide b budget deepened.Beyond
   IsShortestFor b _ = ⊥
 
   -- for moves that are said to be a shortest solution: so they are; or a shorter one; or why the moves are refused; K1 where the
@@ -44,8 +43,8 @@ module _ (guide : ShownGuide) (budget : ℕ) where
   IsOptimumFor b moves (Shorter letters) =
       (n : ℕ) × Solves b moves n × IsAnswer guide b (min n 255) budget (search.Solved letters)
   IsOptimumFor b moves (Refused (Moves refused)) = replay_of b moves ≡ Err refused
-  IsOptimumFor b moves (Refused (Make K1)) = (n : ℕ) × Solves b moves n × IsAnswer guide b (min n 255) budget search.Spent
-  IsOptimumFor b moves (Refused (Make K2)) = (n : ℕ) × Solves b moves n × (255 < n) × IsRefuted b (min n 255)
+  IsOptimumFor b moves (Refused K1) = (n : ℕ) × Solves b moves n × IsAnswer guide b (min n 255) budget search.Spent
+  IsOptimumFor b moves (Refused K2) = (n : ℕ) × Solves b moves n × (255 < n) × IsRefuted b (min n 255)
   IsOptimumFor b moves _ = ⊥
 
   -- for a bound: it is one; or a solution of fewer moves; K1 where the budget is spent; K2 where the order of the numbers hasn't
@@ -53,8 +52,8 @@ module _ (guide : ShownGuide) (budget : ℕ) where
   abbrev pub IsBoundFor : List ℕ → ℕ → Found → Type 0
   IsBoundFor b r Bound = IsRefuted b r
   IsBoundFor b r (Shorter letters) = IsAnswer guide b r budget (search.Solved letters)
-  IsBoundFor b r (Refused (Make K1)) = IsAnswer guide b r budget search.Spent
-  IsBoundFor b r (Refused (Make K2)) = ¬ HasTheBlanksParity b
+  IsBoundFor b r (Refused K1) = IsAnswer guide b r budget search.Spent
+  IsBoundFor b r (Refused K2) = ¬ HasTheBlanksParity b
   IsBoundFor b r _ = ⊥
 
   -- for what a claim asks of its board

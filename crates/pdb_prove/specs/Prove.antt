@@ -1,5 +1,5 @@
 -- `prove CLAIMS SETS TABLES..`: claims, a line each, are answered by a search, in their order.
-use Rattle.std.specs.Prelude.{◌≡◌, ◌≢◌, ℕ, zero, suc, ◌-◌, ◌^◌, ◌⊎◌, Bool, false, List, [], ◌∷◌, ◌++◌, Option, Some, None, flat_map, map}
+use Rattle.std.specs.Prelude.{◌≡◌, ◌≢◌, ℕ, zero, suc, ◌-◌, ◌^◌, ◌⊎◌, Bool, List, [], ◌∷◌, ◌++◌, Option, Some, None, Err, flat_map, map}
 use Rattle.std.specs.List.{AllByRecursion, AllZip}
 use Rattle.puz_board.specs.Boards.{side_of}
 use Rattle.set_sum.specs.Bundles.{ShownBundle}
@@ -17,9 +17,7 @@ use Rattle.pdb_run.specs.declared.statuses.Status.{Status}
 use Rattle.pdb_run.specs.declared.statuses.Status.TheVariants.{Fault}
 use Rattle.pdb_verdict.specs.FileBundles.{AreRefused, IsBundleOfFiles}
 use Rattle.pdb_verdict.specs.Limits.{a_table, a_text}
-use Rattle.pdb_verdict.specs.Lines.{line_of_fault}
-use Rattle.pdb_verdict.specs.Refusals.{fault_of_bundle}
-use Rattle.pdb_verdict.specs.declared.refusals.BundleRefusal.{BundleRefusal}
+use Rattle.pdb_verdict.specs.Lines.{reply_on}
 use Rattle.pdb_verdict.specs.declared.verdicts.Fault as verdict
 use Rattle.pdb_verdict.specs.declared.verdicts.Fault.TheVariants as fault
 use Rattle.pdb_prove.specs.Answers.{IsToldOf, are_yes}
@@ -50,7 +48,7 @@ IsFirstOfAnotherSide side (claim ∷ claims) zero = side_of claim.board ≢ side
 IsFirstOfAnotherSide side (claim ∷ claims) (suc number) = (side_of claim.board ≡ side) × IsFirstOfAnotherSide side claims number
 
 -- the text is of claims, and the table files and the set text are refused for this
-pub record AreClaimsWithoutBundle (fold : Bool) (files : ClaimsFiles) (refused : BundleRefusal) : Type 0 where
+pub record AreClaimsWithoutBundle (fold : Bool) (files : ClaimsFiles) (refused : verdict.Fault) : Type 0 where
   pub claims : List ShownClaim
   pub are_claims : AreClaims files.claims claims
   pub no_bundle : AreRefused fold files.tables files.sets refused
@@ -68,7 +66,7 @@ pub record AreOfAnotherSide (fold : Bool) (files : ClaimsFiles) (number : ℕ) :
 abbrev pub IsUnready : Bool → ClaimsFiles → verdict.Fault → Type 0
 IsUnready fold files refused =
     ((number : ℕ) × IsFirstNoClaim files.claims number × (refused ≡ fault.Q1 number))
-    ⊎ ((why : BundleRefusal) × AreClaimsWithoutBundle fold files why × (refused ≡ fault_of_bundle why))
+    ⊎ AreClaimsWithoutBundle fold files refused
     ⊎ ((number : ℕ) × AreOfAnotherSide fold files number × (refused ≡ fault.Q2 number))
 
 -- ---- what is told
@@ -100,7 +98,7 @@ told_lines told = flat_map told_line told
 
 -- the digests, and then the lines; it is a yes where each claim is answered with one
 abbrev pub reply_to_claims : ClaimsFiles → Outcome → Reply
-reply_to_claims files (unready refused) = record { digested = digested_files files; made = None; lines = line_of_fault refused; is_yes = false }
+reply_to_claims files (unready refused) = reply_on (digested_files files) (Err refused)
 reply_to_claims files (answered told) = record { digested = digested_files files; made = None; lines = told_lines told; is_yes = are_yes told }
 
 -- a reply tells what comes of the claims

@@ -17,11 +17,8 @@ use Rattle.byte_io.specs.declared.streams.WriteFault.{WriteFault}
 use Rattle.pdb_run.specs.Io.{IsWritten}
 use Rattle.pdb_run.specs.Runs.{World}
 use Rattle.pdb_verdict.specs.Refusals.{IsCauseBy}
-use Rattle.pdb_verdict.specs.declared.refusals.Failure.{Failure}
-use Rattle.pdb_verdict.specs.declared.refusals.Failure.TheVariants as failure
 use Rattle.pdb_verdict.specs.declared.verdicts.Fault.{Fault}
-use Rattle.pdb_verdict.specs.declared.verdicts.Fault.TheVariants.{Make, Q1}
-use Rattle.pdb_verdict.specs.declared.verdicts.MakeRefusal.TheVariants.{K1}
+use Rattle.pdb_verdict.specs.declared.verdicts.Fault.TheVariants as fault
 use Rattle.pdb_prove.specs.Answers.{IsFoundFor, IsToldOf, are_yes}
 use Rattle.pdb_prove.specs.Prove.{ClaimsFiles, IsUnready, told_lines}
 use Rattle.pdb_prove.specs.declared.answers.Found.{Found}
@@ -34,13 +31,13 @@ abbrev pub files_of : Bytes → Bytes → List Bytes → ClaimsFiles
 files_of claims sets tables = record { claims = claims; sets = sets; tables = tables }
 
 -- why nothing is searched, or want of memory, which comes of a text of claims alone
-abbrev pub IsCauseForClaims : Bool → ClaimsFiles → Failure Fault → Type 0
+abbrev pub IsCauseForClaims : Bool → ClaimsFiles → Fault → Type 0
 IsCauseForClaims fold files cause = IsCauseBy (IsUnready fold files) ((claims : List ShownClaim) × AreClaims files.claims claims) cause
 
 -- the same, where a text gives no claims
-abbrev pub failure_of : ClaimsFault → Failure Fault
-failure_of (claims_fault.Q1 line) = failure.Refused (Q1 line)
-failure_of claims_fault.Memory = failure.Memory
+abbrev pub of_claims : ClaimsFault → Fault
+of_claims (claims_fault.Q1 line) = fault.Q1 line
+of_claims claims_fault.Memory = fault.Memory
 
 -- how many placements the tables of a bundle have together
 abbrev pub placements_of : ShownBundle → ℕ
@@ -59,7 +56,7 @@ IsAskedOf claim question = IsQuestionOf claim.board claim.asks question
 
 -- what is found is that the budget is spent
 abbrev pub is_spent : Found → Bool
-is_spent (Refused (Make K1)) = true
+is_spent (Refused fault.K1) = true
 is_spent _ = false
 
 -- ---- the claims of a batch

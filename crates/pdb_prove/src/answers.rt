@@ -10,7 +10,7 @@ ghost use Rattle.pdb_prove.specs.Answers.{IsBoundFor, IsFoundBy, IsOptimumFor, I
 ghost use Rattle.pdb_prove.specs.Steps.{IsAskedOf, is_spent};
 
 use claim_text::{Asks, Claim};
-use pdb_verdict::{Fault, MakeRefusal};
+use pdb_verdict::Fault;
 use puz_board::{Board, replay};
 use puz_make::is_solvable;
 use puz_search::{Answer, Deepened, Guide, Letters, refute, refute_by, shortest, shortest_by};
@@ -44,7 +44,7 @@ impl Found {
     pub(crate) fn is_spent(&self) -> bool
         ensures { result ≡ is_spent self.now }
     {
-        matches!(self, Found::Refused(Fault::Make(MakeRefusal::K1)))
+        matches!(self, Found::Refused(Fault::K1))
     }
 }
 
@@ -129,7 +129,7 @@ fn asked_of(claim: &Claim<'_>) -> Result<Question, Fault>
         },
         Asks::Shortest if is_solvable(&claim.board) => Ok(Question::Shortest),
         Asks::Bound(bound) if is_solvable(&claim.board) => Ok(Question::Bound(bound)),
-        Asks::Shortest | Asks::Bound(_) => Err(Fault::Make(MakeRefusal::K2)),
+        Asks::Shortest | Asks::Bound(_) => Err(Fault::K2),
     }
 }
 
@@ -151,8 +151,8 @@ fn found_shortest(board: &Board, deepened: Deepened) -> Found
             Ok(count) => Found::Shortest(count, letters),
             Err(_) => unreachable!(),
         },
-        Deepened::Spent(_) => Found::Refused(Fault::Make(MakeRefusal::K1)),
-        Deepened::Beyond => Found::Refused(Fault::Make(MakeRefusal::K2)),
+        Deepened::Spent(_) => Found::Refused(Fault::K1),
+        Deepened::Beyond => Found::Refused(Fault::K2),
     }
 }
 
@@ -164,9 +164,9 @@ fn found_moves(count: u16, answer: Answer) -> Found
 {
     match answer {
         Answer::Refuted(_) if count <= 255 => Found::Optimum(count),
-        Answer::Refuted(_) => Found::Refused(Fault::Make(MakeRefusal::K2)),
+        Answer::Refuted(_) => Found::Refused(Fault::K2),
         Answer::Solved(letters) => Found::Shorter(letters),
-        Answer::Spent => Found::Refused(Fault::Make(MakeRefusal::K1)),
+        Answer::Spent => Found::Refused(Fault::K1),
     }
 }
 
@@ -178,7 +178,7 @@ fn found_bound(answer: Answer) -> Found
     match answer {
         Answer::Refuted(_) => Found::Bound,
         Answer::Solved(letters) => Found::Shorter(letters),
-        Answer::Spent => Found::Refused(Fault::Make(MakeRefusal::K1)),
+        Answer::Spent => Found::Refused(Fault::K1),
     }
 }
 

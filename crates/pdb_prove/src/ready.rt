@@ -12,7 +12,7 @@ ghost use Rattle.pdb_prove.specs.Steps.{IsCauseForClaims, files_of};
 
 use claim_text::{Claim, MOST_CLAIMS};
 use move_strings::Automaton;
-use pdb_verdict::{BundleRefusal, Failure, Fault};
+use pdb_verdict::Fault;
 use set_sum::Bundle;
 use std::alloc::Global;
 
@@ -38,8 +38,8 @@ pub(crate) struct Ready<'b, 'c> {
 pub(crate) fn ready_with<'b, 'c>(
     alloc: Global,
     claims: Vec<Claim<'c>>,
-    bundle: Result<Bundle<'b>, Failure<BundleRefusal>>,
-) -> Result<Ready<'b, 'c>, Failure<Fault>>
+    bundle: Result<Bundle<'b>, Fault>,
+) -> Result<Ready<'b, 'c>, Fault>
     requires { length claims.items ≤ MOST_CLAIMS }
     ensures ok { (fold : Bool) (text sets : Bytes) (tables : List Bytes)
         → AreClaims text (map claim_shown claims.entry.items)
@@ -53,21 +53,17 @@ pub(crate) fn ready_with<'b, 'c>(
         → IfErr bundle.entry (IsCauseForBundle fold tables sets)
         → IfErr result (IsCauseForClaims fold (files_of text sets tables)) }
 {
-    let bundle = match bundle {
-        Ok(bundle) => bundle,
-        Err(Failure::Refused(refused)) => return Err(Failure::Refused(Fault::from(refused))),
-        Err(Failure::Memory) => return Err(Failure::Memory),
-    };
+    let bundle = bundle?;
     match first_of_another_side(claims.as_slice(), &bundle) {
-        None => match Automaton::of_reversals(alloc, bundle.side()) {
-            Ok(reversals) => Ok(Ready {
+        None => {
+            let reversals = Automaton::of_reversals(alloc, bundle.side())?;
+            Ok(Ready {
                 claims,
                 bundle,
                 reversals,
-            }),
-            Err(_) => Err(Failure::Memory),
-        },
-        Some(number) => Err(Failure::Refused(Fault::Q2(number))),
+            })
+        }
+        Some(number) => Err(Fault::Q2(number)),
     }
 }
 

@@ -1,18 +1,18 @@
 //! A run of `prove`.
 
-ghost use Rattle.std.specs.Prelude.{◌≡◌, ◌≤◌, ◌++◌, ◌∷◌, [], true, IfErr, IfOk, IfSome, length, map};
+ghost use Rattle.std.specs.Prelude.{◌≡◌, ◌≤◌, true, IfErr, IfOk, length, map};
 ghost use Rattle.std.specs.List.{All};
 ghost use Rattle.claim_text.specs.Lines.{HasFewLetters};
 ghost use Rattle.claim_text.specs.Shown.{claim_shown};
 ghost use Rattle.claim_text.specs.Texts.{AreClaims};
 ghost use Rattle.pdb_request.specs.Asked.{prove_shown};
-ghost use Rattle.pdb_run.specs.Answers.{IsReplyOf, all_bytes, answer_text, digest_lines};
+ghost use Rattle.pdb_run.specs.Answers.{all_bytes, answer_text, digest_lines};
 ghost use Rattle.pdb_run.specs.Io.{HasRead};
 ghost use Rattle.pdb_run.specs.Runs.{World, status_of_reply};
 ghost use Rattle.pdb_run.specs.Writing.{digests_of};
 ghost use Rattle.pdb_verdict.specs.FileBundles.{IsBundleOfFiles, IsCauseForBundle};
-ghost use Rattle.pdb_prove.specs.Prove.{AreReady, ClaimsFiles, ProveEnds, budget_of, digested_files, in_order, prove_inputs, reply_to_claims, unready};
-ghost use Rattle.pdb_prove.specs.Steps.{IsCauseForClaims, failure_of, files_of};
+ghost use Rattle.pdb_prove.specs.Prove.{AreReady, ClaimsFiles, ProveEnds, budget_of, digested_files, in_order, prove_inputs};
+ghost use Rattle.pdb_prove.specs.Steps.{IsCauseForClaims, files_of, of_claims};
 
 use crate::batches::tell_all;
 use crate::inputs::Proving;
@@ -20,14 +20,11 @@ use crate::ready::{Asked, Ready, ready_with};
 use claim_text::{ClaimsFault, read_claims};
 use pdb_request::Prove;
 use pdb_run::{
-    Answer, Digested, Digests, FILES_BESIDE, Io, Lines, Status, beside, conclude, read_inputs,
+    Answer, Digested, FILES_BESIDE, Io, Lines, Status, conclude, digested_beside, read_inputs,
     with_digest,
 };
-use pdb_verdict::{
-    BundleRefusal, Failure, Fault, Tables, fold_bundle, line_of, read_bundle, take_first,
-};
+use pdb_verdict::{Fault, Tables, fold_bundle, read_bundle, take_first, told_or_memory};
 use set_sum::Bundle;
-use std::alloc::AllocError;
 use std::sync::Wait;
 use std::thread::Threads;
 use work_run::{Gate, Workers};
@@ -65,18 +62,18 @@ pub fn run_prove<H: Threads + Wait + Sync, G: Gate + Sync, I: Io>(
         }
         Err(fault) => {
             let digested = Digested::Files(tables.as_slice(), Some(text.as_slice()));
-            tell_failure(&command, digested, failure_of(fault), io)
+            tell_fault(&command, digested, of_claims(fault), io)
         }
     }
 }
 
 /// Why nothing is searched, where a text gives no claims.
-fn failure_of(fault: ClaimsFault) -> Failure<Fault>
-    ensures { result ≡ failure_of fault }
+fn of_claims(fault: ClaimsFault) -> Fault
+    ensures { result ≡ of_claims fault }
 {
     match fault {
-        ClaimsFault::Q1 { line } => Failure::Refused(Fault::Q1(line)),
-        ClaimsFault::Memory => Failure::Memory,
+        ClaimsFault::Q1 { line } => Fault::Q1(line),
+        ClaimsFault::Memory => Fault::Memory,
     }
 }
 
@@ -101,51 +98,33 @@ fn prove_full<H: Threads + Wait + Sync, G: Gate + Sync, I: Io>(
         files: tables,
         fold: command.0.fold,
     };
-    let (digests, bundle) = bundle_beside(given, text, sets, workers);
+    let (digested, bundle) = bundle_beside(given, text, sets, workers);
     let ready = ready_with(workers.alloc, claims, bundle);
-    tell_ready(
-        command,
-        digested_by(tables, text, digests),
-        &ready,
-        workers,
-        io,
-    )
+    tell_ready(command, digested, &ready, workers, io)
 }
 
-/// The digest lines of tables and a claims text: those that are made already, or else those of the files.
-fn digested_by<'f>(tables: &'f [Vec<u8>], text: &'f [u8], digests: Option<Digests>) -> Digested<'f>
-    requires { let lines = digests_of (all_bytes tables.now ++ text.now ∷ []) in
-        IfSome digests (λ digests. digests.items ≡ lines) }
-    ensures { digest_lines result ≡ digests_of (all_bytes tables.entry.now ++ text.entry.now ∷ []) }
-{
-    match digests {
-        Some(lines) => Digested::Lines(lines),
-        None => Digested::Files(tables, Some(text)),
-    }
-}
-
-/// The bundle of tables and a set text, and the digest lines of the tables and of a claims text, where these are made beside the
-/// checks.
+/// The bundle of tables and a set text, and the digest lines of the tables and of a claims text, which are made beside the checks,
+/// where there are workers for both.
 fn bundle_beside<'t, H: Threads + Wait + Sync, G: Gate + Sync>(
     tables: Tables<'t>,
-    text: &[u8],
+    text: &'t [u8],
     sets: &[u8],
     workers: &Workers<'_, H, G>,
-) -> (Option<Digests>, Result<Bundle<'t>, Failure<BundleRefusal>>)
-    ensures digests { let all = files_of text.now sets.now (all_bytes tables.entry.files.now) in
-        IfSome result.0 (λ digests. digests.items ≡ digests_of (digested_files all)) }
+) -> (Digested<'t>, Result<Bundle<'t>, Fault>)
+    ensures digested { let all = files_of text.now sets.now (all_bytes tables.entry.files.now) in
+        digest_lines result.0 ≡ digests_of (digested_files all) }
     ensures ok { let files = all_bytes tables.entry.files.now in
         IfOk result.1 (IsBundleOfFiles tables.entry.fold files sets.now) }
     ensures err { let files = all_bytes tables.entry.files.now in
         IfErr result.1 (IsCauseForBundle tables.entry.fold files sets.now) }
 {
-    let check = || -> Result<Bundle<'_>, Failure<BundleRefusal>>
+    let check = || -> Result<Bundle<'_>, Fault>
         ensures ok { let files = all_bytes tables.entry.files.now in
             IfOk result (IsBundleOfFiles tables.entry.fold files sets.entry.now) }
         ensures err { let files = all_bytes tables.entry.files.now in
             IfErr result (IsCauseForBundle tables.entry.fold files sets.entry.now) }
     { read_bundle(tables, sets, workers) };
-    beside(workers.rt, workers.count, tables.files, Some(text), check)
+    digested_beside(workers.rt, workers.count, tables.files, Some(text), check)
 }
 
 /// Proves claims over folded tables. The bytes of each table are given up in turn, so that the search runs beside the folded
@@ -179,7 +158,7 @@ fn prove_folded<H: Threads + Wait + Sync, G: Gate + Sync, I: Io>(
 fn tell_ready<H: Threads + Wait + Sync, G: Gate + Sync, I: Io>(
     command: &Proving<'_, '_>,
     digested: Digested<'_>,
-    ready: &Result<Ready<'_, '_>, Failure<Fault>>,
+    ready: &Result<Ready<'_, '_>, Fault>,
     workers: &Workers<'_, H, G>,
     io: &mut I,
 ) -> Status
@@ -197,15 +176,15 @@ fn tell_ready<H: Threads + Wait + Sync, G: Gate + Sync, I: Io>(
 {
     match ready {
         Ok(ready) => answer_claims(command, digested, ready, workers, io),
-        Err(failure) => tell_failure(command, digested, *failure, io),
+        Err(fault) => tell_fault(command, digested, *fault, io),
     }
 }
 
 /// Tells why nothing is searched.
-fn tell_failure<I: Io>(
+fn tell_fault<I: Io>(
     command: &Proving<'_, '_>,
     digested: Digested<'_>,
-    failure: Failure<Fault>,
+    fault: Fault,
     io: &mut I,
 ) -> Status
     ensures same_streams { I.streams io.new ≡ I.streams io.old }
@@ -213,27 +192,10 @@ fn tell_failure<I: Io>(
         (files : ClaimsFiles) (old : World)
         → HasRead (prove_inputs arguments) old (I.world io.old) (in_order files)
         → digest_lines digested.entry ≡ digests_of (digested_files files)
-        → IsCauseForClaims arguments.fold files failure
+        → IsCauseForClaims arguments.fold files fault
         → ProveEnds arguments old (I.world io.new) result }
 {
-    match failure {
-        Failure::Refused(refused) => conclude(command, &Ok(refusal_of(digested, refused)), io),
-        Failure::Memory => conclude(command, &Err(AllocError), io),
-    }
-}
-
-/// The answer where nothing is searched.
-fn refusal_of<'i>(digested: Digested<'i>, refused: Fault) -> Answer<'i>
-    ensures { (files : ClaimsFiles) → digest_lines digested.entry ≡ digests_of (digested_files files)
-        → IsReplyOf result (reply_to_claims files (unready refused)) }
-{
-    Answer {
-        digested,
-        made: None,
-        made_digest: None,
-        lines: line_of(&Err(refused)),
-        is_yes: false,
-    }
+    conclude(command, &told_or_memory(digested, Err(fault)), io)
 }
 
 /// Tells the digests, and then the answer to each claim.

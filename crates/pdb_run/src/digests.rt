@@ -1,8 +1,10 @@
 //! Digest lines, and how they are made beside a check.
 
 ghost use Rattle.std.specs.Prelude.{◌≡◌, ◌<◌, ◌≤◌, ◌+◌, ◌++◌, None, IfOk, IfSome, IsOk, OnOk, length};
+ghost use Rattle.pdb_run.specs.Answers.{digest_lines};
 ghost use Rattle.pdb_run.specs.Writing.{all_files, digest_line, digests_of};
 
+use crate::answers::Digested;
 use arrayvec::{ArrayVec, CapacityError};
 use sha2::{Digest, Sha256};
 use std::thread::{Threads, join};
@@ -49,6 +51,28 @@ pub fn beside<R: Threads + Sync, T, F: FnOnce() -> T>(
     { digests_in_groups(rt, workers, files, last) };
     let (digests, answer) = join(rt, digests, check);
     (digests.ok(), answer)
+}
+
+/// The digest lines of files and of a last one, where there is one, and what a check answers: the lines are made beside the check,
+/// as `beside` makes them, or are still to be made.
+pub fn digested_beside<'f, R: Threads + Sync, T, F: FnOnce() -> T>(
+    rt: &R,
+    workers: u8,
+    files: &'f [Vec<u8>],
+    last: Option<&'f [u8]>,
+    check: F,
+) -> (Digested<'f>, T)
+    requires { F.pre check }
+    ensures digested { let all = all_files files.entry.now last.entry in
+        digest_lines result.0 ≡ digests_of all }
+    ensures answer { F.post check result.1 }
+{
+    let (digests, answer) = beside(rt, workers, files, last, check);
+    let digested = match digests {
+        Some(lines) => Digested::Lines(lines),
+        None => Digested::Files(files, last),
+    };
+    (digested, answer)
 }
 
 /// What a check of a file answers, and behind the lines so far the file's digest line: made in a thread of its own beside the

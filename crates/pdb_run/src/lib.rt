@@ -13,7 +13,9 @@ mod writing;
 
 pub use answers::{Answer, Digested, LINES_LEN, Lines, lines};
 pub use commands::{Command, Input};
-pub use digests::{DIGEST_LEN, DIGESTS_LEN, Digests, FILES_BESIDE, beside, with_digest};
+pub use digests::{
+    DIGEST_LEN, DIGESTS_LEN, Digests, FILES_BESIDE, beside, digested_beside, with_digest,
+};
 pub use inputs::{Unread, load_all};
 pub use io::{BorrowedIo, Io};
 pub use runs::{

@@ -13,7 +13,6 @@ use Rattle.set_sum.specs.Bundles.{ShownBundle}
 use Rattle.set_sum.specs.Parts.{IsExactPart}
 use Rattle.byte_io.specs.Shelf.{Bytes}
 use Rattle.pdb_verdict.specs.FileBundles.{AreExactFiles, IsBundleOfFiles, IsFirstRefused, TakesMemoryForTables, part_for, parts_for}
-use Rattle.pdb_verdict.specs.declared.refusals.FileRefusal.{FileRefusal}
 use Rattle.pdb_verdict.proofs.RefusalLemmas.{IsOne, one_result}
 
 -- ---- the files are those of one list of tables, or one is the first that is refused
@@ -37,25 +36,25 @@ none_refused (file ∷ files) (t ∷ ts) (suc i) r are is = none_refused files t
 none_refused _ _ i r are is = search
 
 -- what files come to
-abbrev pub AreTablesOf : List Bytes → Result (List Table) FileRefusal → Type 0
-AreTablesOf files found = MatchResult found (λ ts. AreExactFiles ts files) (λ f. IsFirstRefused files f.number f.refusal)
+abbrev pub AreTablesOf : List Bytes → Result (List Table) (ℕ × TableRefusal) → Type 0
+AreTablesOf files found = MatchResult found (λ ts. AreExactFiles ts files) (λ f. IsFirstRefused files f.0 f.1)
 
 -- they come to one thing
 pub AreTablesOf-one : (files : List Bytes) → IsOne (AreTablesOf files)
 AreTablesOf-one files =
     one_result (tables_one files)
-    (λ f g is also. let same = first_one files f.number g.number f.refusal g.refusal is also in λ k. record { number = same.0 k; refusal = same.1 k })
-    (λ ts f. none_refused files ts f.number f.refusal)
+    (λ f g is also. let same = first_one files f.0 g.0 f.1 g.1 is also in λ k. (same.0 k, same.1 k))
+    (λ ts f. none_refused files ts f.0 f.1)
 
 -- the tables of all files, or the first file that is refused
 pub tables_answer : (files : List Bytes)
-    → ((tables : List Table) × AreExactFiles tables files) ⊎ ((f : FileRefusal) × IsFirstRefused files f.number f.refusal)
+    → ((tables : List Table) × AreExactFiles tables files) ⊎ ((number : ℕ) × (refused : TableRefusal) × IsFirstRefused files number refused)
 tables_answer [] = inl ([], tt)
 tables_answer (file ∷ files) = elim (file_answer file) [
-  | inr refused ↦ inr (record { number = zero; refusal = refused.0 }, refused.1)
+  | inr refused ↦ inr (zero, refused.0, refused.1)
   | inl exact ↦ elim (tables_answer files) [
     | inl are ↦ inl (exact.0 ∷ are.0, (exact.1, are.1))
-    | inr h ↦ inr (record { number = suc h.0.number; refusal = h.0.refusal }, (exact.0, exact.1, h.1))
+    | inr h ↦ inr (suc h.0, h.1, (exact.0, exact.1, h.2))
   ]
 ]
 

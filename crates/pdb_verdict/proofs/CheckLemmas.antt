@@ -1,12 +1,26 @@
 -- What is told of a check is told of the inputs that were read.
-use Rattle.std.proofs.Common.{◌≡◌, ℕ, List, [], ◌∷◌, Vec, Result, Ok, Err, arith, get_or, length}
+use Rattle.std.proofs.Common.{◌≡◌, ◌≢◌, ℕ, List, [], ◌∷◌, Vec, Result, Ok, Err, IfOk, OnErr, arith, get_or, length, refl}
 use Rattle.std.specs.declared.alloc.AllocError.{AllocError}
 use Rattle.byte_io.specs.Shelf.{Bytes}
-use Rattle.pdb_run.specs.Answers.{IsAnswerBy, all_bytes}
+use Rattle.pdb_run.specs.Answers.{IsAnswerBy, IsReplyOf, all_bytes}
 use Rattle.pdb_run.specs.declared.answers.Answer.{Answer}
 use Rattle.pdb_verdict.specs.Inputs.{Given, files_in_order}
 use Rattle.pdb_verdict.specs.Plans.{CheckTakesMemory, IsCheckReply}
-use Rattle.pdb_verdict.specs.Verdicts.{TakesMemory, TellsResult}
+use Rattle.pdb_verdict.specs.Lines.{reply_to}
+use Rattle.pdb_verdict.specs.Verdicts.{IsAnswerTo, IsResult, TakesMemory, TellsResult}
+use Rattle.pdb_verdict.specs.declared.verdicts.Fault.{Fault}
+use Rattle.pdb_verdict.specs.declared.verdicts.Fault.TheVariants.{Memory}
+use Rattle.pdb_verdict.specs.declared.verdicts.Verdict.{Verdict}
+use Rattle.pdb_verdict.proofs.RefusalLemmas.{found_settled}
+
+-- what is told of an answer to inputs tells the result, or memory is wanted, where it is taken
+pub result_told : (inputs : Given) (answer : Result Verdict Fault) (told : Result Answer AllocError) → IsAnswerTo inputs answer
+    → IfOk told (λ t. IsReplyOf t (reply_to inputs answer) × (answer ≢ Err Memory)) → OnErr told (answer ≡ Err Memory)
+    → IsAnswerBy (TellsResult inputs) (TakesMemory inputs) told
+result_told inputs answer (Ok t) is says wants =
+    let result = found_settled (IsResult inputs) (TakesMemory inputs) answer says.1 is in
+    (reply_to inputs answer, record { answer = answer; is_result = result; told = refl }, says.0)
+result_told inputs answer (Err e) is says wants = rw wants at is
 
 -- the only one
 pub only_input : {Z : Type 0} (xs : List (Vec ℕ Z)) (x : Vec ℕ Z) (now : Bytes) → length xs ≡ 1 → x ≡ get_or xs 0 x

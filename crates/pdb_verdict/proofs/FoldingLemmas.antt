@@ -7,10 +7,9 @@ use Rattle.set_sum.specs.declared.parts.Part.{Part}
 use Rattle.byte_io.specs.Shelf.{Bytes}
 use Rattle.pdb_run.specs.Answers.{all_bytes}
 use Rattle.pdb_run.specs.Writing.{digest_line, digests_of}
-use Rattle.pdb_verdict.specs.FileBundles.{AreExactFiles, part_for}
+use Rattle.pdb_verdict.specs.FileBundles.{AreExactFiles, IsCauseForBundle, part_for}
 use Rattle.pdb_verdict.specs.Steps.{ArePartsOf, HasOneMore, IsCauseAt, IsCauseForTables, IsPartOf}
-use Rattle.pdb_verdict.specs.declared.refusals.Failure.{Failure}
-use Rattle.pdb_verdict.specs.declared.refusals.FileRefusal.{FileRefusal}
+use Rattle.pdb_verdict.specs.declared.verdicts.Fault.{Fault}
 
 -- the digest line of one file more
 pub digests_of_snoc : (files : List Bytes) (file : Bytes) → digests_of (files ++ file ∷ []) ≡ digests_of files ++ digest_line file
@@ -22,15 +21,14 @@ next_exact [] [] t file are is = (is, tt)
 next_exact (u ∷ ts) (f ∷ before) t file are is = (are.0, next_exact ts before t file are.1 is)
 next_exact _ _ t file are is = absurd are
 
-cause_behind : (ts : List Table) (before rest : List Bytes) (file : Bytes) (cause : Failure FileRefusal)
+cause_behind : (ts : List Table) (before rest : List Bytes) (file : Bytes) (cause : Fault)
     → AreExactFiles ts before → IsCauseAt (length ts) file cause → IsCauseForTables (before ++ file ∷ rest) cause
-cause_behind [] [] rest file (Failure.Refused r) are is = rw is.0 is.1
-cause_behind [] [] rest file Failure.Memory are is = is
-cause_behind (t ∷ ts) (f ∷ before) rest file (Failure.Refused r) are is =
-    let less = Failure.Refused (record r { number = length ts }) in
-    rw is.0 (t, are.0, cause_behind ts before rest file less are.1 (refl, is.1))
-cause_behind (t ∷ ts) (f ∷ before) rest file Failure.Memory are is = (t, are.0.is_file)
-cause_behind _ _ rest file cause are is = absurd are
+cause_behind [] [] rest file (Fault.TableOf i r) are is = rw is.0 is.1
+cause_behind [] [] rest file Fault.Memory are is = is
+cause_behind (t ∷ ts) (f ∷ before) rest file (Fault.TableOf i r) are is =
+    rw is.0 (t, are.0, cause_behind ts before rest file (Fault.TableOf (length ts) r) are.1 (refl, is.1))
+cause_behind (t ∷ ts) (f ∷ before) rest file Fault.Memory are is = (t, are.0.is_file)
+cause_behind _ _ rest file cause are is = search
 
 module _ {Z : Type 0} (fold : Bool) (before rest files : List (Vec ℕ Z)) (file : Vec ℕ Z) (now : Bytes)
     (same : now ≡ file.items) (whole : before ++ file ∷ rest ≡ files) (parts : List Part)
@@ -45,15 +43,21 @@ module _ {Z : Type 0} (fold : Bool) (before rest files : List (Vec ℕ Z)) (file
   }
 
   -- what keeps its table away keeps away those of all
-  pub next_cause : (cause : Failure FileRefusal) → IsCauseAt (length parts) now cause
+  pub next_cause : (cause : Fault) → IsCauseAt (length parts) now cause
       → IsCauseForTables (all_bytes files) cause
   next_cause cause is =
       rw (← whole, map-append, ← same) (cause_behind so_far.tables (all_bytes before) (all_bytes rest) now cause
       so_far.exact (rw (so_far.are, length-map) at is))
 
+-- what keeps the tables away keeps a bundle away
+pub bundle_cause : (fold : Bool) (files : List Bytes) (sets : Bytes) (cause : Fault) → IsCauseForTables files cause → IsCauseForBundle fold files sets cause
+bundle_cause fold files sets (Fault.TableOf number refused) is = is
+bundle_cause fold files sets Fault.Memory is = is
+bundle_cause fold files sets _ is = absurd is
+
 -- the parts of one file more, or why there aren't those of all
 pub fold_step : {Z Y : Type 0} (before rest files : List (Vec ℕ Z)) (file : Vec ℕ Z) (now : Bytes) → now ≡ file.items
-    → before ++ file ∷ rest ≡ files → (parts after : Result (Vec Part Y) (Failure FileRefusal))
+    → before ++ file ∷ rest ≡ files → (parts after : Result (Vec Part Y) Fault)
     → MatchResult parts (λ ps. ArePartsOf true (all_bytes before) ps.items) (IsCauseForTables (all_bytes files))
     → IfOk after (λ more. MatchResult parts (λ ps. HasOneMore ps.items now more.items) (λ _. ⊥))
     → IfErr after (λ cause. MatchResult parts (λ ps. IsCauseAt (length ps.items) now cause) (λ refused. cause ≡ refused))

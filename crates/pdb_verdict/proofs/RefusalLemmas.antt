@@ -1,8 +1,6 @@
 -- What is found, refused or told, and steps behind one another.
-use Rattle.std.proofs.Common.{◌≡◌, ◌∙◌, ◌↔◌, MatchResult, Result, Ok, Err, ap, refl, sym}
-use Rattle.pdb_verdict.specs.Refusals.{IsFoundBy, IsTold, or_memory, told_as}
-use Rattle.pdb_verdict.specs.Steps.{or_failure}
-use Rattle.pdb_verdict.specs.declared.refusals.Failure.{Failure}
+use Rattle.std.proofs.Common.{◌≡◌, ◌≢◌, ◌∙◌, ◌↔◌, MatchResult, Result, Ok, Err, ap, refl, sym}
+use Rattle.pdb_verdict.specs.Refusals.{IsCauseBy, IsFoundBy, IsTold, told_as}
 use Rattle.pdb_verdict.specs.declared.verdicts.Fault.{Fault}
 use Rattle.pdb_verdict.specs.declared.verdicts.Verdict.{Verdict}
 
@@ -66,38 +64,41 @@ module _ {A R B : Type 0} {IsFirst : Result A R → Type 0} {why : R → B} {IsN
       by (Ok a) comes too = next a x y comes too
       by (Err r) comes too = comes ∙ sym too
 
-module _ {A R : Type 0} (IsFound : Result A R → Type 0) (Takes : Type 0) where
-  found_now : (found : Result A R) → IsFound found → IsFoundBy IsFound Takes (or_memory found)
-  found_now (Ok a) is = is
-  found_now (Err refused) is = is
+-- ---- want of memory
 
-  -- where memory isn't wanted, something is found
-  pub found_settled : (found : Result A R) → IsFoundBy IsFound Takes (or_memory found) → IsFound found
-  found_settled (Ok a) is = is
-  found_settled (Err refused) is = is
+-- what makes one refusal another makes one cause another, where memory is taken for both
+pub cause_by : {Was Is : Fault → Type 0} {Took Takes : Type 0} → ((refused : Fault) → Was refused → Is refused) → (Took → Takes)
+    → (fault : Fault) → IsCauseBy Was Took fault → IsCauseBy Is Takes fault
+cause_by next takes Fault.Memory is = takes is
+cause_by next takes refused is = next refused is
 
--- what a step makes of what was found is found
-pub found_next : {A B R Q : Type 0} (step : Result A R → Result B Q) (WasFound : Result A R → Type 0) (IsFound : Result B Q → Type 0) (Took Takes : Type 0)
-    → ((r : Result A R) → WasFound r → IsFound (step r)) → (Took → Takes) → (found : Result A (Failure R)) → IsFoundBy WasFound Took found
-    → IsFoundBy IsFound Takes (or_failure step found)
-found_next step WasFound IsFound Took Takes next takes (Ok a) is = found_now IsFound Takes (step (Ok a)) (next (Ok a) is)
-found_next step WasFound IsFound Took Takes next takes (Err (Failure.Refused r)) is = found_now IsFound Takes (step (Err r)) (next (Err r) is)
-found_next step WasFound IsFound Took Takes next takes (Err Failure.Memory) is = takes is
+-- where want of memory is told apart, this holds of the refusal
+pub cause_settled : (IsRefused : Fault → Type 0) (Takes : Type 0) (fault : Fault) → fault ≢ Fault.Memory → IsCauseBy IsRefused Takes fault
+    → IsRefused fault
+cause_settled IsRefused Takes Fault.Memory settled is = absurd (settled refl)
+cause_settled IsRefused Takes refused settled is = is
+
+-- and of what is found
+pub found_settled : {A : Type 0} (IsFound : Result A Fault → Type 0) (Takes : Type 0) (found : Result A Fault) → found ≢ Err Fault.Memory
+    → IsFoundBy IsFound Takes found → IsFound found
+found_settled IsFound Takes (Ok a) settled is = is
+found_settled IsFound Takes (Err fault) settled is =
+    cause_settled (λ refused. IsFound (Err refused)) Takes fault (λ same. settled (ap (λ x. Err x) same)) is
 
 -- ---- what is told
 
-module _ {A R : Type 0} (verdict_of : A → Verdict) (fault_of : R → Fault) (IsFound : Result A R → Type 0) where
-  by_yes : (v : Verdict) → IsTold verdict_of fault_of IsFound (Ok v) → (a : A) × IsFound (Ok a) × (v ≡ verdict_of a)
+module _ {A : Type 0} (verdict_of : A → Verdict) (IsFound : Result A Fault → Type 0) where
+  by_yes : (v : Verdict) → IsTold verdict_of IsFound (Ok v) → (a : A) × IsFound (Ok a) × (v ≡ verdict_of a)
   by_yes v (Ok a, is, same) = (a, is, cc)
-  by_yes v (Err r, is, same) = let clash : ◌≡◌ {A = Result Verdict Fault} (Ok v) (Err (fault_of r)) = same in cc
+  by_yes v (Err r, is, same) = let clash : ◌≡◌ {A = Result Verdict Fault} (Ok v) (Err r) = same in cc
 
   -- a yes tells what is found
-  pub told_yes : (v : Verdict) → IsTold verdict_of fault_of IsFound (Ok v) ↔ ((a : A) × IsFound (Ok a) × (v ≡ verdict_of a))
+  pub told_yes : (v : Verdict) → IsTold verdict_of IsFound (Ok v) ↔ ((a : A) × IsFound (Ok a) × (v ≡ verdict_of a))
   told_yes v = (by_yes v, λ h. (Ok h.0, h.1, ap Ok h.2))
 
   -- what is found is told, or else memory is wanted
-  pub found_told : (Takes : Type 0) (found : Result A (Failure R)) → IsFoundBy IsFound Takes found
-      → IsFoundBy (IsTold verdict_of fault_of IsFound) Takes (or_failure (told_as verdict_of fault_of) found)
-  found_told Takes found is =
-      found_next (told_as verdict_of fault_of) IsFound (IsTold verdict_of fault_of IsFound) Takes Takes
-      (λ r is_found. (r, is_found, refl)) (λ takes. takes) found is
+  pub found_told : (Takes : Type 0) (found : Result A Fault) → IsFoundBy IsFound Takes found
+      → IsFoundBy (IsTold verdict_of IsFound) Takes (told_as verdict_of found)
+  found_told Takes (Ok a) is = (Ok a, is, refl)
+  found_told Takes (Err fault) is =
+      cause_by {Was = λ refused. IsFound (Err refused)} {Is = λ refused. IsTold verdict_of IsFound (Err refused)} (λ refused is_found. (Err refused, is_found, refl)) (λ takes. takes) fault is

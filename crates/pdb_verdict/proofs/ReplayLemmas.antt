@@ -10,9 +10,8 @@ use Rattle.puz_board.proofs.FirstLemmas.{AllPass-position}
 use Rattle.puz_board.proofs.PuzzleLemmas.{puzzle_parts-puzzle, puzzle-parts}
 use Rattle.puz_board.proofs.SolutionLemmas.{replay_of-solved, solved-replay_of}
 use Rattle.puz_board.proofs.SpellingLemmas.{board_of_text-spelled, spelled-board_of_text, stray_byte-numerals}
-use Rattle.pdb_verdict.specs.Refusals.{fault_of_replay, told_as}
-use Rattle.pdb_verdict.specs.Replay.{IsReplayResult, IsReplayTold, IsSolvedPuzzle, solved_parts}
-use Rattle.pdb_verdict.specs.declared.refusals.ReplayRefusal.{ReplayRefusal}
+use Rattle.pdb_verdict.specs.Refusals.{told_as}
+use Rattle.pdb_verdict.specs.Replay.{IsReplayResult, IsReplayTold, IsSolvedPuzzle, puzzle_of, solved_by, solved_parts}
 use Rattle.pdb_verdict.specs.declared.verdicts.Fault.{Fault}
 use Rattle.pdb_verdict.specs.declared.verdicts.Verdict.{Verdict}
 use Rattle.pdb_verdict.proofs.RefusalLemmas.{Behind, IsOne, after, by_result, one_behind, one_by, one_made, stays, told_yes}
@@ -60,9 +59,14 @@ parts-solved puzzle n h =
     rw (puzzle_parts-puzzle puzzle h.board_text h.moves_text (solved-puzzle puzzle n h), board_of_text-spelled h.board_text h.board h.spelt)
     (rw (replay_of-solved h.board h.moves_text n h.spelt.board h.solved))
 
+-- the board and the moves of a puzzle text that is made of them
+pub joined-parts : (text moves board : List ℕ) → Spells text board → solved_parts (puzzle_parts (puzzle_of text moves)) ≡ solved_by board (replay_of board moves)
+joined-parts text moves board spelt =
+    rw (puzzle_parts-puzzle _ text moves (record { whole = refl; first = spelled-no_semicolon text board spelt }), board_of_text-spelled text board spelt) refl
+
 -- ---- the result
 
-by_puzzle : (puzzle : List ℕ) (found : Result ℕ ReplayRefusal) → IsReplayResult puzzle found
+by_puzzle : (puzzle : List ℕ) (found : Result ℕ Fault) → IsReplayResult puzzle found
     → Behind (λ r. solved_parts (puzzle_parts puzzle) ≡ r) (λ f. Err f) (λ read found. found ≡ Ok read.1) found
 by_puzzle puzzle (Ok n) is = after (is.board, n) (parts-solved puzzle n is) refl
 by_puzzle puzzle (Err refused) is = stays refused is
@@ -73,17 +77,21 @@ IsReplayResult-one puzzle =
     one_by (by_puzzle puzzle) (one_behind (λ r q is also. sym is ∙ also) (λ read a b is also. is ∙ sym also))
 
 -- a puzzle text has a result
-pub replay_some : (puzzle : List ℕ) → (found : Result ℕ ReplayRefusal) × IsReplayResult puzzle found
+pub replay_some : (puzzle : List ℕ) → (found : Result ℕ Fault) × IsReplayResult puzzle found
 replay_some puzzle = by_result (solved_parts (puzzle_parts puzzle))
     (λ read is. (Ok read.1, (solved-parts puzzle read.0 read.1 is).0)) (λ refused is. (Err refused, is))
+
+-- a text that is refused is told so
+pub refused_told : (puzzle : List ℕ) (refused : Fault) → solved_parts (puzzle_parts puzzle) ≡ Err refused → IsReplayTold puzzle (Err refused)
+refused_told puzzle refused is = (Err refused, is, refl)
 
 -- so an answer that tells it says a number of moves exactly where so many solve the board
 pub says_solution : (puzzle : List ℕ) (answer : Result Verdict Fault) → IsReplayTold puzzle answer → (n : ℕ)
     → (answer ≡ Ok (Verdict.Solution n)) ↔ (IsSolvedPuzzle puzzle n)
 says_solution puzzle answer is n = (
   λ same.
-      let yes = (told_yes Verdict.Solution fault_of_replay (IsReplayResult puzzle) (Verdict.Solution n)).0 (rw same at is) in
+      let yes = (told_yes Verdict.Solution (IsReplayResult puzzle) (Verdict.Solution n)).0 (rw same at is) in
       let count : n ≡ yes.0 = cc in
       rw count yes.1,
-  λ h. one_made (told_as Verdict.Solution fault_of_replay) (IsReplayResult-one puzzle) answer (Ok (Verdict.Solution n)) is (Ok n, h, refl),
+  λ h. one_made (told_as Verdict.Solution) (IsReplayResult-one puzzle) answer (Ok (Verdict.Solution n)) is (Ok n, h, refl),
 )

@@ -2,7 +2,6 @@
 use Rattle.std.proofs.Common.{◌≡◌, ◌∙◌, ◌↔◌, ◌⊎◌, ℕ, ◌<◌, true, false, inl, inr, slice_index, Result, Ok, Err, ap, append-nil, refl, sym}
 use Rattle.tab_file.specs.Tables.{Table}
 use Rattle.tab_rule.specs.ExactTables.{IsExactFile}
-use Rattle.tab_rule.proofs.OneResultLemmas.{exact_or_fault}
 use Rattle.byte_io.specs.Shelf.{Bytes}
 use Rattle.pdb_request.specs.declared.requests.Claim.TheVariants.{Bound, Optimum}
 use Rattle.pdb_run.specs.Commands.{Reply}
@@ -11,26 +10,24 @@ use Rattle.pdb_verdict.specs.Inputs.{Given, bytes_of, log_claim, puzzle_text, ta
 use Rattle.pdb_verdict.specs.Laws.{IsToldYes}
 use Rattle.pdb_verdict.specs.Lines.{reply_to}
 use Rattle.pdb_verdict.specs.Optimal.{IsOptimumResult}
-use Rattle.pdb_verdict.specs.Refusals.{fault_of_bound, fault_of_optimum, fault_of_replay, told_as}
-use Rattle.pdb_verdict.specs.Steps.{with_memory}
+use Rattle.pdb_verdict.specs.Refusals.{told_as}
 use Rattle.pdb_verdict.specs.Replay.{IsReplayResult}
 use Rattle.pdb_verdict.specs.Table.{IsTableResult, exact_verdict}
-use Rattle.pdb_verdict.specs.Verdicts.{HoldsOfSolutions, IsAnswerTo, IsFoundOf, IsResult, IsTrueOf, LacksMemory, TellsResult}
-use Rattle.pdb_verdict.specs.declared.refusals.Failure.{Failure}
+use Rattle.pdb_verdict.specs.Verdicts.{HoldsOfSolutions, IsAnswerTo, IsResult, IsTrueOf, LacksMemory, TellsResult}
 use Rattle.pdb_verdict.specs.declared.verdicts.Fault.{Fault}
 use Rattle.pdb_verdict.specs.declared.verdicts.Verdict.{Verdict}
 use Rattle.pdb_verdict.proofs.BoundLemmas.{proved_bounds}
 use Rattle.pdb_verdict.proofs.ClaimLemmas.{IsBoundResult-one, IsOptimumResult-one, bound_some, optimum_some, proved_least}
 use Rattle.pdb_verdict.proofs.RefusalLemmas.{IsOne, by_result, one_made, some_made, told_yes}
 use Rattle.pdb_verdict.proofs.ReplayLemmas.{IsReplayResult-one, replay_some}
-use Rattle.pdb_verdict.proofs.TableLemmas.{IsTableResult-one, table_some}
+use Rattle.pdb_verdict.proofs.TableLemmas.{IsTableResult-one, refused_no_exact, table_some}
 
 -- a verdict is the result exactly where it is true
 pub IsResult-true : (inputs : Given) (v : Verdict) → IsResult inputs (Ok v) ↔ IsTrueOf inputs v
-IsResult-true (puzzle_text puzzle) = told_yes Verdict.Solution fault_of_replay (IsReplayResult puzzle)
-IsResult-true (table_file table) = told_yes exact_verdict Fault.Table (IsTableResult table)
-IsResult-true (log_claim Bound files) = told_yes Verdict.Bound fault_of_bound (IsBoundResult files)
-IsResult-true (log_claim Optimum files) = told_yes Verdict.Optimal fault_of_optimum (IsOptimumResult files)
+IsResult-true (puzzle_text puzzle) = told_yes Verdict.Solution (IsReplayResult puzzle)
+IsResult-true (table_file table) = told_yes exact_verdict (IsTableResult table)
+IsResult-true (log_claim Bound files) = told_yes Verdict.Bound (IsBoundResult files)
+IsResult-true (log_claim Optimum files) = told_yes Verdict.Optimal (IsOptimumResult files)
 
 -- a true verdict on a log holds of the solutions
 pub true_holds : (inputs : Given) (v : Verdict) → IsTrueOf inputs v → HoldsOfSolutions inputs v
@@ -43,36 +40,37 @@ true_holds (log_claim Optimum files) v h = (h.0, record { solved = h.1.solved; l
 
 -- there is one result
 pub IsResult-one : (inputs : Given) → IsOne (IsResult inputs)
-IsResult-one (puzzle_text puzzle) = one_made (told_as Verdict.Solution fault_of_replay) (IsReplayResult-one puzzle)
-IsResult-one (table_file table) = one_made (told_as exact_verdict Fault.Table) (IsTableResult-one table)
-IsResult-one (log_claim Bound files) = one_made (told_as Verdict.Bound fault_of_bound) (IsBoundResult-one files)
-IsResult-one (log_claim Optimum files) = one_made (told_as Verdict.Optimal fault_of_optimum) (IsOptimumResult-one files)
+IsResult-one (puzzle_text puzzle) = one_made (told_as Verdict.Solution) (IsReplayResult-one puzzle)
+IsResult-one (table_file table) = one_made (told_as exact_verdict) (IsTableResult-one table)
+IsResult-one (log_claim Bound files) = one_made (told_as Verdict.Bound) (IsBoundResult-one files)
+IsResult-one (log_claim Optimum files) = one_made (told_as Verdict.Optimal) (IsOptimumResult-one files)
 
 -- inputs, which are bytes, have a result
 pub result_some : (inputs : Given) → ((i : ℕ) → slice_index (bytes_of inputs) i < 256) → (answer : Result Verdict Fault) × IsResult inputs answer
-result_some (puzzle_text puzzle) small = some_made (told_as Verdict.Solution fault_of_replay) (replay_some puzzle)
-result_some (table_file file) small = some_made (told_as exact_verdict Fault.Table) (table_some file (rw append-nil at small))
-result_some (log_claim Bound files) small = some_made (told_as Verdict.Bound fault_of_bound) (bound_some files)
-result_some (log_claim Optimum files) small = some_made (told_as Verdict.Optimal fault_of_optimum) (optimum_some files)
+result_some (puzzle_text puzzle) small = some_made (told_as Verdict.Solution) (replay_some puzzle)
+result_some (table_file file) small = some_made (told_as exact_verdict) (table_some file (rw append-nil at small))
+result_some (log_claim Bound files) small = some_made (told_as Verdict.Bound) (bound_some files)
+result_some (log_claim Optimum files) small = some_made (told_as Verdict.Optimal) (optimum_some files)
 
 -- ---- answers
 
--- what is found is the answer, of which want of memory is one
-pub found_answers : (inputs : Given) (found : Result Verdict (Failure Fault)) → IsFoundOf inputs found → IsAnswerTo inputs (with_memory found)
-found_answers inputs (Ok verdict) is = inl is
-found_answers inputs (Err (Failure.Refused refused)) is = inl is
-found_answers inputs (Err Failure.Memory) is = inr (is, refl)
+-- an answer is the result, or want of memory
+result_or_memory : (inputs : Given) (answer : Result Verdict Fault) → IsAnswerTo inputs answer → IsResult inputs answer ⊎ LacksMemory inputs answer
+result_or_memory inputs (Ok verdict) is = inl is
+result_or_memory inputs (Err Fault.Memory) is = inr (is, refl)
+result_or_memory inputs (Err refused) is = inl is
 
 -- a yes is answered only where it is true
 pub yes_is_true : (inputs : Given) (answer : Result Verdict Fault) → IsAnswerTo inputs answer → (v : Verdict) → answer ≡ Ok v → IsTrueOf inputs v
-yes_is_true inputs answer (inl is) v same = (IsResult-true inputs v).0 (rw same at is)
-yes_is_true inputs answer (inr lacks) v same = let clash : Err Fault.Memory ≡ Ok v = sym lacks.1 ∙ same in cc
+yes_is_true inputs answer is v same = (IsResult-true inputs v).0 (rw same at is)
 
 -- and always then, where memory is there
 pub true_is_yes : (inputs : Given) (answer : Result Verdict Fault) → IsAnswerTo inputs answer → (v : Verdict) → IsTrueOf inputs v
     → (answer ≡ Ok v) ⊎ LacksMemory inputs answer
-true_is_yes inputs answer (inl is) v holds = inl (IsResult-one inputs answer (Ok v) is ((IsResult-true inputs v).1 holds))
-true_is_yes inputs answer (inr lacks) v holds = inr lacks
+true_is_yes inputs answer is v holds = elim (result_or_memory inputs answer is) [
+  | inl result ↦ inl (IsResult-one inputs answer (Ok v) result ((IsResult-true inputs v).1 holds))
+  | inr lacks ↦ inr lacks
+]
 
 -- ---- what is told
 
@@ -91,6 +89,6 @@ yes_told inputs reply tells is = by_result tells.answer
 pub no_told : (file : Bytes) (reply : Reply) → TellsResult (table_file file) reply → reply.is_yes ≡ false → (t : Table) → ¬ IsExactFile t file
 no_told file reply tells is t exact = by_result tells.is_result.0
     (λ found same.
-    let told = tells.told ∙ ap (reply_to (table_file file)) (tells.is_result.2 ∙ ap (told_as exact_verdict Fault.Table) same) in
+    let told = tells.told ∙ ap (reply_to (table_file file)) (tells.is_result.2 ∙ ap (told_as exact_verdict) same) in
     let clash : true ≡ false = sym (ap (λ (r : Reply). r.is_yes) told) ∙ is in cc)
-    (λ refused same. exact_or_fault file t refused exact (rw same at tells.is_result.1))
+    (λ refused same. refused_no_exact file refused (rw same at tells.is_result.1) t exact)

@@ -9,10 +9,8 @@ use Rattle.log_check.specs.declared.faults.LogRefusal.{LogRefusal}
 use Rattle.byte_io.specs.Shelf.{Bytes}
 use Rattle.pdb_verdict.specs.FileBundles.{AreRefused, IsBundleOfFiles, TakesMemoryForTables}
 use Rattle.pdb_verdict.specs.Inputs.{LogFiles}
-use Rattle.pdb_verdict.specs.declared.refusals.BoundRefusal.{BoundRefusal}
-use Rattle.pdb_verdict.specs.declared.refusals.BoundRefusal.TheVariants.{Board, Proof}
-use Rattle.pdb_verdict.specs.declared.refusals.ProofRefusal.{ProofRefusal}
-use Rattle.pdb_verdict.specs.declared.refusals.ProofRefusal.TheVariants.{Bundle, Log}
+use Rattle.pdb_verdict.specs.declared.verdicts.Fault.{Fault}
+use Rattle.pdb_verdict.specs.declared.verdicts.Fault.TheVariants as fault
 
 -- ---- bounds that a log proves for a board
 
@@ -30,24 +28,23 @@ pub record IsRefusedLog (fold : Bool) (board : List ℕ) (sets log : Bytes) (tab
   pub fault : IsLogRefusalOf refused bundle board log
 
 -- the bound that is proved for the board, or why none is: each table file comes first, then the set text, then the log
-abbrev pub IsBoundFor : Bool → List ℕ → Bytes → Bytes → List Bytes → Result ℕ ProofRefusal → Type 0
+abbrev pub IsBoundFor : Bool → List ℕ → Bytes → Bytes → List Bytes → Result ℕ Fault → Type 0
 IsBoundFor fold board sets log tables (Ok bound) = IsProvedBound fold board sets log tables bound
-IsBoundFor fold board sets log tables (Err (Bundle refused)) = AreRefused fold tables sets refused
-IsBoundFor fold board sets log tables (Err (Log refused)) = IsRefusedLog fold board sets log tables refused
+IsBoundFor fold board sets log tables (Err (fault.Log refused)) = IsRefusedLog fold board sets log tables refused
+IsBoundFor fold board sets log tables (Err refused) = AreRefused fold tables sets refused
 
 -- ---- `bound`
 
 -- the text spells a board, for which this is found
-pub record IsFoundForText (files : LogFiles) (found : Result ℕ ProofRefusal) : Type 0 where
+pub record IsFoundForText (files : LogFiles) (found : Result ℕ Fault) : Type 0 where
   pub board : List ℕ
   pub spelt : Spells files.text board
   pub found_for : IsBoundFor files.fold board files.sets files.log files.tables found
 
 -- the result: the bound that is proved for the board of the text, or why none is; the board text comes before all else
-abbrev pub IsBoundResult : LogFiles → Result ℕ BoundRefusal → Type 0
-IsBoundResult files (Ok bound) = IsFoundForText files (Ok bound)
-IsBoundResult files (Err (Board refused)) = board_of_text files.text ≡ Err refused
-IsBoundResult files (Err (Proof refused)) = IsFoundForText files (Err refused)
+abbrev pub IsBoundResult : LogFiles → Result ℕ Fault → Type 0
+IsBoundResult files (Err (fault.Board refused)) = board_of_text files.text ≡ Err refused
+IsBoundResult files found = IsFoundForText files found
 
 -- it takes memory to check the tables, once the text spells a board
 abbrev pub TakesMemoryForBound : Bytes → List Bytes → Type 0

@@ -12,9 +12,8 @@ use Rattle.set_sum.specs.declared.parts.Part.{Part}
 use Rattle.set_sum.specs.declared.parts.Part.TheVariants.{Folded, Full}
 use Rattle.byte_io.specs.Shelf.{Bytes}
 use Rattle.pdb_verdict.specs.Refusals.{IsCauseBy}
-use Rattle.pdb_verdict.specs.declared.refusals.BundleRefusal.{BundleRefusal}
-use Rattle.pdb_verdict.specs.declared.refusals.BundleRefusal.TheVariants.{File, Sets}
-use Rattle.pdb_verdict.specs.declared.refusals.Failure.{Failure}
+use Rattle.pdb_verdict.specs.declared.verdicts.Fault.{Fault}
+use Rattle.pdb_verdict.specs.declared.verdicts.Fault.TheVariants as fault
 
 -- ---- what a bundle is
 
@@ -55,9 +54,10 @@ pub record AreRefusedSets (fold : Bool) (files : List Bytes) (sets : Bytes) (ref
   pub fault : reading.IsSetFaultOf refused (parts_for fold tables) sets
 
 -- they make no bundle, and this is why
-abbrev pub AreRefused : Bool → List Bytes → Bytes → BundleRefusal → Type 0
-AreRefused fold files sets (File refused) = IsFirstRefused files refused.number refused.refusal
-AreRefused fold files sets (Sets refused) = AreRefusedSets fold files sets refused
+abbrev pub AreRefused : Bool → List Bytes → Bytes → Fault → Type 0
+AreRefused fold files sets (fault.TableOf number refused) = IsFirstRefused files number refused
+AreRefused fold files sets (fault.Sets refused) = AreRefusedSets fold files sets refused
+AreRefused fold files sets _ = ⊥
 
 -- ---- memory
 
@@ -67,5 +67,5 @@ TakesMemoryForTables [] = ⊥
 TakesMemoryForTables (file ∷ files) = (table : Table) × IsTableFile table file
 
 -- why there isn't a bundle of the files and the set text: they are refused, or want of memory
-abbrev pub IsCauseForBundle : Bool → List Bytes → Bytes → Failure BundleRefusal → Type 0
+abbrev pub IsCauseForBundle : Bool → List Bytes → Bytes → Fault → Type 0
 IsCauseForBundle fold files sets cause = IsCauseBy (AreRefused fold files sets) (TakesMemoryForTables files) cause

@@ -20,8 +20,6 @@ use Rattle.pdb_run.specs.Commands.{Reply}
 use Rattle.pdb_verdict.specs.Inputs.{Given, log_claim, puzzle_text, table_file}
 use Rattle.pdb_verdict.specs.declared.verdicts.Fault.{Fault}
 use Rattle.pdb_verdict.specs.declared.verdicts.Fault.TheVariants as fault
-use Rattle.pdb_verdict.specs.declared.verdicts.MakeRefusal.{MakeRefusal}
-use Rattle.pdb_verdict.specs.declared.verdicts.MakeRefusal.TheVariants.{K1, K2, K3}
 use Rattle.pdb_verdict.specs.declared.verdicts.Verdict.{Verdict}
 use Rattle.pdb_verdict.specs.declared.verdicts.Verdict.TheVariants as verdict
 
@@ -98,12 +96,6 @@ line_of_log_refusal L4 = codes "refused L4\n"
 line_of_log_refusal L5 = codes "refused L5\n"
 line_of_log_refusal (L6 lemma) = counted (codes "refused L6 at lemma ") lemma
 
--- of a maker that makes nothing
-abbrev pub line_of_make_refusal : MakeRefusal → Bytes
-line_of_make_refusal K1 = codes "refused K1\n"
-line_of_make_refusal K2 = codes "refused K2\n"
-line_of_make_refusal K3 = codes "refused K3\n"
-
 -- of a refusal or want of memory
 abbrev pub line_of_fault : Fault → Bytes
 line_of_fault fault.P1 = codes "refused P1\n"
@@ -114,7 +106,9 @@ line_of_fault (fault.TableOf number refused) = line_of_numbered_table_refusal nu
 line_of_fault (fault.Sets refused) = line_of_set_fault refused
 line_of_fault (fault.Log refused) = line_of_log_refusal refused
 line_of_fault (fault.O1 solution bound) = counted_twice (codes "refused O1 solution ") solution (codes " bound ") bound
-line_of_fault (fault.Make refused) = line_of_make_refusal refused
+line_of_fault fault.K1 = codes "refused K1\n"
+line_of_fault fault.K2 = codes "refused K2\n"
+line_of_fault fault.K3 = codes "refused K3\n"
 line_of_fault fault.K4 = codes "refused K4\n"
 line_of_fault (fault.Q1 line) = counted (codes "refused Q1 at line ") line
 line_of_fault (fault.Q2 line) = counted (codes "refused Q2 at line ") line
@@ -147,9 +141,13 @@ digested_of (puzzle_text puzzle) = []
 digested_of (table_file table) = table ∷ []
 digested_of (log_claim claim files) = files.tables ++ files.log ∷ []
 
--- an answer on inputs, as a run tells it; no file is made
+-- an answer behind the digests of these files, as a run tells it; no file is made
+abbrev pub reply_on : List Bytes → Result Verdict Fault → Reply
+reply_on files answer = record { digested = files; made = None; lines = line_of answer; is_yes = is_ok answer }
+
+-- an answer on inputs
 abbrev pub reply_to : Given → Result Verdict Fault → Reply
-reply_to inputs answer = record { digested = digested_of inputs; made = None; lines = line_of answer; is_yes = is_ok answer }
+reply_to inputs answer = reply_on (digested_of inputs) answer
 
 -- want of memory is said without digests
 abbrev pub stands_alone : Result Verdict Fault → Bool

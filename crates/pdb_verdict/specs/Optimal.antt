@@ -1,5 +1,5 @@
 -- `optimal PUZZLE SETS LOG TABLES..`: whether the moves of a puzzle text solve its board, and a log proves that none are fewer.
-use Rattle.std.specs.Prelude.{◌≡◌, ◌≢◌, ℕ, List, Result, Ok, Err, length}
+use Rattle.std.specs.Prelude.{◌≡◌, ◌≢◌, ◌⊎◌, ℕ, List, Result, Ok, Err, length}
 use Rattle.puz_board.specs.Paths.{IsSolution}
 use Rattle.set_sum.specs.Bounds.{IsBounded}
 use Rattle.byte_io.specs.Shelf.{Bytes}
@@ -7,22 +7,22 @@ use Rattle.pdb_verdict.specs.Bound.{IsBoundFor}
 use Rattle.pdb_verdict.specs.FileBundles.{TakesMemoryForTables}
 use Rattle.pdb_verdict.specs.Inputs.{LogFiles}
 use Rattle.pdb_verdict.specs.Replay.{IsReplayResult, IsSolvedPuzzle}
-use Rattle.pdb_verdict.specs.declared.refusals.OptimumRefusal.{OptimumRefusal}
-use Rattle.pdb_verdict.specs.declared.refusals.OptimumRefusal.TheVariants.{O1, Proof, Replay}
-use Rattle.pdb_verdict.specs.declared.refusals.ProofRefusal.{ProofRefusal}
+use Rattle.pdb_verdict.specs.declared.verdicts.Fault.{Fault}
+use Rattle.pdb_verdict.specs.declared.verdicts.Fault.TheVariants.{O1}
 
 -- the moves of the puzzle text are n and solve its board, for which this is found
-pub record IsFoundForPuzzle (files : LogFiles) (n : ℕ) (found : Result ℕ ProofRefusal) : Type 0 where
+pub record IsFoundForPuzzle (files : LogFiles) (n : ℕ) (found : Result ℕ Fault) : Type 0 where
   pub solved : IsSolvedPuzzle files.text n
   pub found_for : IsBoundFor files.fold solved.board files.sets files.log files.tables found
 
 -- the result: the number of the moves where it is the bound that is proved for the board, or why not; the puzzle text comes
 -- before all else, and last that the bound is another number
-abbrev pub IsOptimumResult : LogFiles → Result ℕ OptimumRefusal → Type 0
+abbrev pub IsOptimumResult : LogFiles → Result ℕ Fault → Type 0
 IsOptimumResult files (Ok n) = IsFoundForPuzzle files n (Ok n)
-IsOptimumResult files (Err (Replay refused)) = IsReplayResult files.text (Err refused)
-IsOptimumResult files (Err (Proof refused)) = (n : ℕ) × IsFoundForPuzzle files n (Err refused)
-IsOptimumResult files (Err (O1 n bound)) = IsFoundForPuzzle files n (Ok bound) × (n ≢ bound)
+IsOptimumResult files (Err refused) =
+    IsReplayResult files.text (Err refused)
+    ⊎ ((n : ℕ) × IsFoundForPuzzle files n (Err refused))
+    ⊎ ((n : ℕ) × (bound : ℕ) × IsFoundForPuzzle files n (Ok bound) × (n ≢ bound) × (refused ≡ O1 n bound))
 
 -- it takes memory to check the tables, once the moves solve the board
 abbrev pub TakesMemoryForOptimum : Bytes → List Bytes → Type 0

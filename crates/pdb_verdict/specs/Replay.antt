@@ -1,15 +1,14 @@
 -- `replay [FILE]`: whether the moves of a puzzle text solve its board.
-use Rattle.std.specs.Prelude.{◌≡◌, ℕ, List, ◌++◌, Option, Some, None, Result, Ok, Err, MatchResult, codes}
+use Rattle.std.specs.Prelude.{◌≡◌, ℕ, List, ◌∷◌, ◌++◌, Option, Some, None, Result, Ok, Err, MatchResult, codes}
 use Rattle.puz_board.specs.BoardTexts.{Spells, board_of_text}
 use Rattle.puz_board.specs.MovesTexts.{Solves, replay_of}
 use Rattle.puz_board.specs.PuzzleTexts.{puzzle_parts}
 use Rattle.puz_board.specs.declared.replays.MoveFault.{MoveFault}
 use Rattle.puz_board.specs.declared.texts.BoardFault.{BoardFault}
 use Rattle.byte_io.specs.Shelf.{Bytes}
-use Rattle.pdb_verdict.specs.Refusals.{IsTold, fault_of_replay}
-use Rattle.pdb_verdict.specs.declared.refusals.ReplayRefusal.{ReplayRefusal}
-use Rattle.pdb_verdict.specs.declared.refusals.ReplayRefusal.TheVariants.{Board, Moves, P1}
+use Rattle.pdb_verdict.specs.Refusals.{IsTold}
 use Rattle.pdb_verdict.specs.declared.verdicts.Fault.{Fault}
+use Rattle.pdb_verdict.specs.declared.verdicts.Fault.TheVariants.{Board, Moves, P1}
 use Rattle.pdb_verdict.specs.declared.verdicts.Verdict.{Verdict}
 use Rattle.pdb_verdict.specs.declared.verdicts.Verdict.TheVariants as verdict
 
@@ -27,24 +26,28 @@ pub record IsSolvedPuzzle (puzzle : Bytes) (n : ℕ) : Type 0 where
 -- ---- the result
 
 -- the board and the number of moves that solve it, or why the moves text is refused
-abbrev pub solved_by : List ℕ → Result ℕ MoveFault → Result (List ℕ × ℕ) ReplayRefusal
+abbrev pub solved_by : List ℕ → Result ℕ MoveFault → Result (List ℕ × ℕ) Fault
 solved_by board (Err refused) = Err (Moves refused)
 solved_by board (Ok n) = Ok (board, n)
 
 -- the same of a board that was read, and otherwise why the board text is refused
-abbrev pub solved_board : Result (List ℕ) BoardFault → Bytes → Result (List ℕ × ℕ) ReplayRefusal
+abbrev pub solved_board : Result (List ℕ) BoardFault → Bytes → Result (List ℕ × ℕ) Fault
 solved_board (Err refused) moves = Err (Board refused)
 solved_board (Ok board) moves = solved_by board (replay_of board moves)
 
 -- the same of the texts before and behind the first `;`, and otherwise that there is none
-abbrev pub solved_parts : Option (Bytes × Bytes) → Result (List ℕ × ℕ) ReplayRefusal
+abbrev pub solved_parts : Option (Bytes × Bytes) → Result (List ℕ × ℕ) Fault
 solved_parts None = Err P1
 solved_parts (Some parts) = solved_board (board_of_text parts.0) parts.1
 
+-- a board text and a moves text as a puzzle text; the byte of `;` is 59
+abbrev pub puzzle_of : Bytes → Bytes → Bytes
+puzzle_of text moves = text ++ 59 ∷ moves
+
 -- the result on the puzzle text
-abbrev pub IsReplayResult : Bytes → Result ℕ ReplayRefusal → Type 0
+abbrev pub IsReplayResult : Bytes → Result ℕ Fault → Type 0
 IsReplayResult puzzle found = MatchResult found (IsSolvedPuzzle puzzle) (λ refused. solved_parts (puzzle_parts puzzle) ≡ Err refused)
 
 -- the answer tells it
 abbrev pub IsReplayTold : Bytes → Result Verdict Fault → Type 0
-IsReplayTold puzzle answer = IsTold verdict.Solution fault_of_replay (IsReplayResult puzzle) answer
+IsReplayTold puzzle answer = IsTold verdict.Solution (IsReplayResult puzzle) answer

@@ -13,7 +13,7 @@ use Rattle.set_sum.specs.declared.parts.Part.{Part}
 use Rattle.log_check.specs.GoodLogs.{IsGoodFile}
 use Rattle.log_check.specs.LogFaults.{IsCauseOfLogFault}
 use Rattle.log_check.specs.declared.faults.LogFault.{LogFault}
-use Rattle.log_check.specs.declared.faults.LogFault.TheVariants as log_failure
+use Rattle.log_check.specs.declared.faults.LogFault.TheVariants as log_fault
 use Rattle.byte_io.specs.Shelf.{Bytes}
 use Rattle.pdb_request.specs.declared.requests.Claim.{Claim}
 use Rattle.pdb_request.specs.declared.requests.Claim.TheVariants.{Bound, Optimum}
@@ -21,38 +21,14 @@ use Rattle.pdb_run.specs.Answers.{all_bytes}
 use Rattle.pdb_verdict.specs.Bound.{IsBoundFor}
 use Rattle.pdb_verdict.specs.FileBundles.{AreExactFiles, IsFirstRefused, TakesMemoryForTables, part_for, parts_for}
 use Rattle.pdb_verdict.specs.Inputs.{LogFiles, log_files}
-use Rattle.pdb_verdict.specs.Refusals.{IsCauseBy, IsFoundBy, fault_of_bound, fault_of_optimum, or_memory, told_as}
+use Rattle.pdb_verdict.specs.Refusals.{IsFoundBy, told_as}
 use Rattle.pdb_verdict.specs.Replay.{solved_parts}
 use Rattle.pdb_verdict.specs.declared.evidence.Evidence.{Evidence}
 use Rattle.pdb_verdict.specs.declared.log_inputs.LogInputs.{LogInputs}
-use Rattle.pdb_verdict.specs.declared.refusals.BoundRefusal.{BoundRefusal}
-use Rattle.pdb_verdict.specs.declared.refusals.BoundRefusal.TheVariants as bound_refusal
-use Rattle.pdb_verdict.specs.declared.refusals.BundleRefusal.{BundleRefusal}
-use Rattle.pdb_verdict.specs.declared.refusals.Failure.{Failure}
-use Rattle.pdb_verdict.specs.declared.refusals.Failure.TheVariants.{Memory, Refused}
-use Rattle.pdb_verdict.specs.declared.refusals.FileRefusal.{FileRefusal}
-use Rattle.pdb_verdict.specs.declared.refusals.OptimumRefusal.{OptimumRefusal}
-use Rattle.pdb_verdict.specs.declared.refusals.OptimumRefusal.TheVariants as optimum_refusal
-use Rattle.pdb_verdict.specs.declared.refusals.ProofRefusal.{ProofRefusal}
-use Rattle.pdb_verdict.specs.declared.refusals.ProofRefusal.TheVariants.{Bundle, Log}
 use Rattle.pdb_verdict.specs.declared.verdicts.Fault.{Fault}
 use Rattle.pdb_verdict.specs.declared.verdicts.Fault.TheVariants as fault
 use Rattle.pdb_verdict.specs.declared.verdicts.Verdict.{Verdict}
 use Rattle.pdb_verdict.specs.declared.verdicts.Verdict.TheVariants as verdict
-
--- ---- want of memory
-
--- a verdict or a fault, of which want of memory is one
-abbrev pub with_memory : Result Verdict (Failure Fault) → Result Verdict Fault
-with_memory (Ok verdict) = Ok verdict
-with_memory (Err (Refused refused)) = Err refused
-with_memory (Err Memory) = Err fault.Memory
-
--- a step behind another, whose want of memory stays
-abbrev pub or_failure : {A B R Q : Type 0} → (Result A R → Result B Q) → Result A (Failure R) → Result B (Failure Q)
-or_failure step (Ok found) = or_memory (step (Ok found))
-or_failure step (Err (Refused refused)) = or_memory (step (Err refused))
-or_failure step (Err Memory) = Err Memory
 
 -- ---- tables
 
@@ -71,13 +47,16 @@ pub record ArePartsOf (fold : Bool) (files : List Bytes) (parts : List Part) : T
   pub are : parts ≡ parts_for fold tables
 
 -- why there isn't the table of the file with this number: it is refused, or want of memory, which comes of table files alone
-abbrev pub IsCauseAt : ℕ → Bytes → Failure FileRefusal → Type 0
-IsCauseAt number file (Refused refused) = (refused.number ≡ number) × IsTableFaultOf refused.refusal file
-IsCauseAt number file Memory = (table : Table) × IsTableFile table file
+abbrev pub IsCauseAt : ℕ → Bytes → Fault → Type 0
+IsCauseAt number file (fault.TableOf i refused) = (i ≡ number) × IsTableFaultOf refused file
+IsCauseAt number file fault.Memory = (table : Table) × IsTableFile table file
+IsCauseAt number file _ = ⊥
 
 -- why there aren't the tables of all files: the first that is refused, or want of memory
-abbrev pub IsCauseForTables : List Bytes → Failure FileRefusal → Type 0
-IsCauseForTables files cause = IsCauseBy (λ (refused : FileRefusal). IsFirstRefused files refused.number refused.refusal) (TakesMemoryForTables files) cause
+abbrev pub IsCauseForTables : List Bytes → Fault → Type 0
+IsCauseForTables files (fault.TableOf number refused) = IsFirstRefused files number refused
+IsCauseForTables files fault.Memory = TakesMemoryForTables files
+IsCauseForTables files _ = ⊥
 
 -- ---- files
 
@@ -95,37 +74,30 @@ files_with text evidence = log_files evidence.tables.fold text evidence.sets.now
 abbrev pub IsFoundOver : ShownBundle → List ℕ → Bytes → Result ℕ LogFault → Type 0
 IsFoundOver bundle board log found = MatchResult found (IsGoodFile bundle board log) (λ cause. IsCauseOfLogFault cause bundle board log)
 
--- what is found of a log over a bundle, as what is found for the files
-abbrev pub of_log : Result ℕ LogFault → Result ℕ (Failure ProofRefusal)
-of_log (Ok bound) = Ok bound
-of_log (Err (log_failure.Refused refused)) = Err (Refused (Log refused))
-of_log (Err log_failure.Memory) = Err Memory
-
--- no bundle, as no bound
-abbrev pub of_bundle : Failure BundleRefusal → Failure ProofRefusal
-of_bundle (Refused refused) = Refused (Bundle refused)
-of_bundle Memory = Memory
+-- why a log is refused, or want of memory
+abbrev pub of_log : LogFault → Fault
+of_log (log_fault.Refused refused) = fault.Log refused
+of_log log_fault.Memory = fault.Memory
 
 -- the bound for a board, or why there is none, or want of memory
-abbrev pub IsFoundFor : Bool → List ℕ → Bytes → Bytes → List Bytes → Result ℕ (Failure ProofRefusal) → Type 0
+abbrev pub IsFoundFor : Bool → List ℕ → Bytes → Bytes → List Bytes → Result ℕ Fault → Type 0
 IsFoundFor fold board sets log tables found = IsFoundBy (IsBoundFor fold board sets log tables) (TakesMemoryForTables tables) found
 
 -- the same over evidence
-abbrev pub IsFoundBehind : List ℕ → Evidence → Result ℕ (Failure ProofRefusal) → Type 0
+abbrev pub IsFoundBehind : List ℕ → Evidence → Result ℕ Fault → Type 0
 IsFoundBehind board evidence found =
     IsFoundFor evidence.tables.fold board evidence.sets.now evidence.log.now (all_bytes evidence.tables.files.now) found
 
 -- ---- claims on a log
 
--- what is found for the board of a text, as the result of `bound`
-abbrev pub as_bound : Result ℕ ProofRefusal → Result ℕ BoundRefusal
-as_bound (Ok bound) = Ok bound
-as_bound (Err refused) = Err (bound_refusal.Proof refused)
+-- the bound of a board that so many moves solve, as an optimum
+abbrev pub optimum_of : ℕ → ℕ → Result ℕ Fault
+optimum_of n bound = if n == bound then Ok bound else Err (fault.O1 n bound)
 
--- what is found for the board of a puzzle text with so many moves, as the result of `optimal`
-abbrev pub as_optimum : ℕ → Result ℕ ProofRefusal → Result ℕ OptimumRefusal
-as_optimum n (Ok bound) = if n == bound then Ok bound else Err (optimum_refusal.O1 n bound)
-as_optimum n (Err refused) = Err (optimum_refusal.Proof refused)
+-- what is found for a board that so many moves solve, as the result of `optimal`
+abbrev pub as_optimum : ℕ → Result ℕ Fault → Result ℕ Fault
+as_optimum n (Ok bound) = optimum_of n bound
+as_optimum n (Err refused) = Err refused
 
 -- what is claimed where moves are told, and where they aren't
 abbrev pub claim_with : Option ℕ → Claim
@@ -138,13 +110,13 @@ Begins text board None = Spells text board
 Begins text board (Some n) = solved_parts (puzzle_parts text) ≡ Ok (board, n)
 
 -- the answer on what is found for the board
-abbrev pub answer_with : Option ℕ → Result ℕ (Failure ProofRefusal) → Result Verdict (Failure Fault)
-answer_with None found = or_failure (told_as verdict.Bound fault_of_bound) (or_failure as_bound found)
-answer_with (Some n) found = or_failure (told_as verdict.Optimal fault_of_optimum) (or_failure (as_optimum n) found)
+abbrev pub answer_with : Option ℕ → Result ℕ Fault → Result Verdict Fault
+answer_with None found = told_as verdict.Bound found
+answer_with (Some n) found = told_as verdict.Optimal (as_optimum n found)
 
 -- ---- a table file alone
 
 -- why a table file is refused, or want of memory
-abbrev pub of_table : TableFault → Failure Fault
-of_table (table_fault.Refused refused) = Refused (fault.Table refused)
-of_table table_fault.Memory = Memory
+abbrev pub of_table : TableFault → Fault
+of_table (table_fault.Refused refused) = fault.Table refused
+of_table table_fault.Memory = fault.Memory

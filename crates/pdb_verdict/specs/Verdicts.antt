@@ -1,5 +1,5 @@
 -- The result on given inputs: a verdict, or the first refusal that stands.
-use Rattle.std.specs.Prelude.{◌≡◌, ◌⊎◌, ⊤, ℕ, Result, Ok, Err}
+use Rattle.std.specs.Prelude.{◌≡◌, ⊤, ℕ, Result, Ok, Err}
 use Rattle.tab_rule.specs.declared.census.Census.{Census}
 use Rattle.pdb_request.specs.declared.requests.Claim.TheVariants.{Bound, Optimum}
 use Rattle.pdb_run.specs.Commands.{Reply}
@@ -7,10 +7,9 @@ use Rattle.pdb_verdict.specs.Bound.{IsBoundResult, IsBoundedText, IsFoundForText
 use Rattle.pdb_verdict.specs.Inputs.{Given, log_claim, puzzle_text, table_file}
 use Rattle.pdb_verdict.specs.Lines.{reply_to}
 use Rattle.pdb_verdict.specs.Optimal.{IsFoundForPuzzle, IsOptimum, IsOptimumResult, TakesMemoryForOptimum}
-use Rattle.pdb_verdict.specs.Refusals.{IsFoundBy, IsTold, fault_of_bound, fault_of_optimum}
+use Rattle.pdb_verdict.specs.Refusals.{IsFoundBy, IsTold}
 use Rattle.pdb_verdict.specs.Replay.{IsReplayTold, IsSolvedPuzzle}
 use Rattle.pdb_verdict.specs.Table.{IsExactFor, IsTableTold, TakesMemoryForTable, exact_verdict}
-use Rattle.pdb_verdict.specs.declared.refusals.Failure.{Failure}
 use Rattle.pdb_verdict.specs.declared.verdicts.Fault.{Fault}
 use Rattle.pdb_verdict.specs.declared.verdicts.Fault.TheVariants as fault
 use Rattle.pdb_verdict.specs.declared.verdicts.Verdict.{Verdict}
@@ -35,8 +34,8 @@ HoldsOfSolutions (log_claim Optimum files) said = (n : ℕ) × IsOptimum files.t
 abbrev pub IsResult : Given → Result Verdict Fault → Type 0
 IsResult (puzzle_text puzzle) answer = IsReplayTold puzzle answer
 IsResult (table_file table) answer = IsTableTold table answer
-IsResult (log_claim Bound files) answer = IsTold verdict.Bound fault_of_bound (IsBoundResult files) answer
-IsResult (log_claim Optimum files) answer = IsTold verdict.Optimal fault_of_optimum (IsOptimumResult files) answer
+IsResult (log_claim Bound files) answer = IsTold verdict.Bound (IsBoundResult files) answer
+IsResult (log_claim Optimum files) answer = IsTold verdict.Optimal (IsOptimumResult files) answer
 
 -- the reply tells it
 pub record TellsResult (inputs : Given) (reply : Reply) : Type 0 where
@@ -60,8 +59,4 @@ LacksMemory inputs answer = TakesMemory inputs × (answer ≡ Err fault.Memory)
 
 -- the answer is the result, or want of memory where that is taken
 abbrev pub IsAnswerTo : Given → Result Verdict Fault → Type 0
-IsAnswerTo inputs answer = IsResult inputs answer ⊎ LacksMemory inputs answer
-
--- the same, where want of memory is told from all faults
-abbrev pub IsFoundOf : Given → Result Verdict (Failure Fault) → Type 0
-IsFoundOf inputs found = IsFoundBy (IsResult inputs) (TakesMemory inputs) found
+IsAnswerTo inputs answer = IsFoundBy (IsResult inputs) (TakesMemory inputs) answer

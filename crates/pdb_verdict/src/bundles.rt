@@ -1,15 +1,15 @@
 //! Bundles of table files and a set text.
 
-ghost use Rattle.std.specs.Prelude.{◌≡◌, Bool, List, true, IfErr, IfOk};
+ghost use Rattle.std.specs.Prelude.{Bool, List, true, IfErr, IfOk};
 ghost use Rattle.tab_rule.specs.ExactTables.{IsExactFile};
 ghost use Rattle.tab_rule.specs.TableFaults.{IsTableCauseOf};
 ghost use Rattle.set_sum.specs.declared.parts.Part.TheVariants.{Folded};
 ghost use Rattle.byte_io.specs.Shelf.{Bytes};
 ghost use Rattle.pdb_run.specs.Answers.{all_bytes};
 ghost use Rattle.pdb_verdict.specs.FileBundles.{IsBundleOfFiles, IsCauseForBundle};
-ghost use Rattle.pdb_verdict.specs.Steps.{ArePartsOf, IsCauseAt, IsCauseForTables, IsPartOf, of_bundle};
+ghost use Rattle.pdb_verdict.specs.Steps.{ArePartsOf, IsCauseAt, IsCauseForTables, IsPartOf};
 
-use crate::refusals::{BundleRefusal, Failure, FileRefusal, ProofRefusal};
+use crate::verdicts::Fault;
 use set_sum::{Bundle, Part};
 use std::sync::Wait;
 use std::thread::Threads;
@@ -30,7 +30,7 @@ pub fn read_bundle<'a, H: Threads + Wait, G: Gate + Sync>(
     tables: Tables<'a>,
     sets: &[u8],
     workers: &Workers<'_, H, G>,
-) -> Result<Bundle<'a>, Failure<BundleRefusal>>
+) -> Result<Bundle<'a>, Fault>
     ensures ok { IfOk result (λ bundle.
         IsBundleOfFiles tables.entry.fold (all_bytes tables.entry.files.now) sets.now bundle) }
     ensures err { IfErr result
@@ -41,9 +41,9 @@ pub fn read_bundle<'a, H: Threads + Wait, G: Gate + Sync>(
 
 /// The bundle of the parts for all files, where there are those, and a set text.
 pub(crate) fn bundle_of<'a>(
-    parts: Result<Vec<Part<'a>>, Failure<FileRefusal>>,
+    parts: Result<Vec<Part<'a>>, Fault>,
     sets: &[u8],
-) -> Result<Bundle<'a>, Failure<BundleRefusal>>
+) -> Result<Bundle<'a>, Fault>
     ensures ok { (fold : Bool) (files : List Bytes)
         → IfOk parts.entry (λ parts. ArePartsOf fold files parts.items)
         → IfOk result (IsBundleOfFiles fold files sets.now) }
@@ -52,24 +52,15 @@ pub(crate) fn bundle_of<'a>(
         → IfErr parts.entry (IsCauseForTables files)
         → IfErr result (IsCauseForBundle fold files sets.now) }
 {
-    let parts = match parts {
-        Ok(parts) => parts,
-        Err(Failure::Refused(refused)) => return Err(Failure::Refused(BundleRefusal::File(
-            refused,
-        ))),
-        Err(Failure::Memory) => return Err(Failure::Memory),
-    };
-    match Bundle::read(parts, sets) {
-        Ok(bundle) => Ok(bundle),
-        Err(refused) => Err(Failure::Refused(BundleRefusal::Sets(refused))),
-    }
+    let bundle = Bundle::read(parts?, sets)?;
+    Ok(bundle)
 }
 
 /// The part for each file, one after the other. No memory is taken before the first file's header stands.
 fn parts_of<'a, H: Threads + Wait, G: Gate + Sync>(
     tables: Tables<'a>,
     workers: &Workers<'_, H, G>,
-) -> Result<Vec<Part<'a>>, Failure<FileRefusal>>
+) -> Result<Vec<Part<'a>>, Fault>
     ensures ok { IfOk result
         (λ parts. ArePartsOf tables.entry.fold (all_bytes tables.entry.files.now) parts.items) }
     ensures err { IfErr result (IsCauseForTables (all_bytes tables.entry.files.now)) }
@@ -79,11 +70,9 @@ fn parts_of<'a, H: Threads + Wait, G: Gate + Sync>(
     for file in files {
         let part = match part_of(file.as_slice(), fold, workers) {
             Ok(part) => part,
-            Err(fault) => return Err(failure_at(parts.len(), fault)),
+            Err(fault) => return Err(fault_at(parts.len(), fault)),
         };
-        if parts.push(part).is_err() {
-            return Err(Failure::Memory);
-        }
+        parts.push(part)?;
     }
     Ok(parts)
 }
@@ -132,21 +121,11 @@ pub(crate) fn check_file<'a, H: Threads + Wait, G: Gate + Sync>(
 }
 
 /// Why there aren't the parts for all files, where there isn't that for the file with this number.
-pub(crate) fn failure_at(number: usize, fault: TableFault) -> Failure<FileRefusal>
+pub(crate) fn fault_at(number: usize, fault: TableFault) -> Fault
     ensures { (file : Bytes) → IsTableCauseOf fault file → IsCauseAt number file result }
 {
     match fault {
-        TableFault::Refused(refusal) => Failure::Refused(FileRefusal { number, refusal }),
-        TableFault::Memory => Failure::Memory,
-    }
-}
-
-/// Why no bound is proved, where there is no bundle.
-pub(crate) fn without_bundle(failure: Failure<BundleRefusal>) -> Failure<ProofRefusal>
-    ensures { result ≡ of_bundle failure }
-{
-    match failure {
-        Failure::Refused(refused) => Failure::Refused(ProofRefusal::Bundle(refused)),
-        Failure::Memory => Failure::Memory,
+        TableFault::Refused(refused) => Fault::TableOf(number, refused),
+        TableFault::Memory => Fault::Memory,
     }
 }

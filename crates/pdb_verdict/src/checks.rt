@@ -3,13 +3,12 @@
 ghost use Rattle.std.specs.Prelude.{◌≡◌, ◌⊎◌, Ok};
 ghost use Rattle.work_run.specs.Workers.{AreWorkers};
 ghost use Rattle.pdb_verdict.specs.Inputs.{given};
-ghost use Rattle.pdb_verdict.specs.Verdicts.{HoldsOfSolutions, IsAnswerTo, IsFoundOf, IsTrueOf, LacksMemory};
+ghost use Rattle.pdb_verdict.specs.Verdicts.{HoldsOfSolutions, IsAnswerTo, IsTrueOf, LacksMemory};
 
 use crate::bundles::Tables;
-use crate::claims::{answer_of_bound, answer_of_optimum, bound_of_text, optimum_of_puzzle};
+use crate::claims::{bound_of_text, optimum_of_puzzle};
 use crate::evidence::Evidence;
 use crate::inputs::Inputs;
-use crate::refusals::{Failure, with_memory};
 use crate::replay::verify_puzzle;
 use crate::table::verify_table;
 use crate::verdicts::{Fault, Verdict};
@@ -41,21 +40,18 @@ pub fn verify<H: Threads + Wait, G: Gate + Sync>(
     // Which refusal it is.
     ensures exact { IsAnswerTo (given inputs.now) result }
 {
-    with_memory(verify_by(inputs, &Workers::new(rt, alloc, workers, gate)))
+    verify_by(inputs, &Workers::new(rt, alloc, workers, gate))
 }
 
 /// What these workers find of inputs.
 pub(crate) fn verify_by<H: Threads + Wait, G: Gate + Sync>(
     inputs: &Inputs<'_>,
     workers: &Workers<'_, H, G>,
-) -> Result<Verdict, Failure<Fault>>
-    ensures { IsFoundOf (given inputs.now) result }
+) -> Result<Verdict, Fault>
+    ensures { IsAnswerTo (given inputs.now) result }
 {
     match *inputs {
-        Inputs::Replay { puzzle } => match verify_puzzle(puzzle) {
-            Ok(verdict) => Ok(verdict),
-            Err(fault) => Err(Failure::Refused(fault)),
-        },
+        Inputs::Replay { puzzle } => verify_puzzle(puzzle),
         Inputs::Table { table } => verify_table(table, workers),
         Inputs::Bound {
             board,
@@ -66,7 +62,7 @@ pub(crate) fn verify_by<H: Threads + Wait, G: Gate + Sync>(
         } => {
             let tables = Tables { files, fold };
             let evidence = Evidence { sets, log, tables };
-            answer_of_bound(bound_of_text(board, &evidence, workers))
+            Ok(Verdict::Bound(bound_of_text(board, &evidence, workers)?))
         }
         Inputs::Optimal {
             puzzle,
@@ -77,7 +73,7 @@ pub(crate) fn verify_by<H: Threads + Wait, G: Gate + Sync>(
         } => {
             let tables = Tables { files, fold };
             let evidence = Evidence { sets, log, tables };
-            answer_of_optimum(optimum_of_puzzle(puzzle, &evidence, workers))
+            Ok(Verdict::Optimal(optimum_of_puzzle(puzzle, &evidence, workers)?))
         }
     }
 }

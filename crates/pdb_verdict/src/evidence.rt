@@ -3,11 +3,11 @@
 ghost use Rattle.std.specs.Prelude.{◌≡◌, ◌≤◌, ◌+◌, ◌∷◌, ◌++◌, [], true, length};
 ghost use Rattle.pdb_run.specs.Answers.{all_bytes};
 ghost use Rattle.pdb_run.specs.Writing.{digest_line, digests_of};
-ghost use Rattle.pdb_verdict.specs.Steps.{IsFoundBehind, IsFoundFor, IsFoundOver, of_log};
+ghost use Rattle.pdb_verdict.specs.Steps.{IsFoundBehind, IsFoundFor, IsFoundOver};
 
-use crate::bundles::{Tables, read_bundle, without_bundle};
+use crate::bundles::{Tables, read_bundle};
 use crate::folding::fold_bundle;
-use crate::refusals::{Failure, ProofRefusal};
+use crate::verdicts::Fault;
 use log_check::{LogFault, check_log};
 use pdb_run::{DIGEST_LEN, DIGESTS_LEN, Digests, FILES_BESIDE, with_digest};
 use puz_board::Board;
@@ -26,30 +26,29 @@ pub(crate) struct Evidence<'a> {
 
 /// The bound that is proved for a board. Or the first refusal that stands: that of the first table file that is refused, the set
 /// text's, the log's. Want of memory may be answered in place of all behind the first table's header.
-#[tactic(auto, using(crate::proofs::BoundLemmas::cause_found, crate::proofs::BoundLemmas::found_over))]
+#[tactic(auto, using(crate::proofs::BoundLemmas::cause_found, crate::proofs::BoundLemmas::bound_found, crate::proofs::BoundLemmas::log_found))]
 pub(crate) fn bound_for<H: Threads + Wait, G: Gate + Sync>(
     board: &Board,
     evidence: &Evidence<'_>,
     workers: &Workers<'_, H, G>,
-) -> Result<u8, Failure<ProofRefusal>>
+) -> Result<u8, Fault>
     ensures { IsFoundBehind board.now evidence.now result }
 {
-    match read_bundle(evidence.tables, evidence.sets, workers) {
-        Ok(bundle) => proved(bound_over(&bundle, board, evidence.log, workers)),
-        Err(failure) => Err(without_bundle(failure)),
-    }
+    let bundle = read_bundle(evidence.tables, evidence.sets, workers)?;
+    let bound = bound_over(&bundle, board, evidence.log, workers)?;
+    Ok(bound)
 }
 
 /// As `bound_for`, with folded tables: the bytes of each table are given up in turn. Beside it the digest lines of the tables
 /// and the log.
-#[tactic(auto, using(crate::proofs::FoldingLemmas::digests_of_snoc, crate::proofs::BoundLemmas::cause_found, crate::proofs::BoundLemmas::found_over))]
+#[tactic(auto, using(crate::proofs::FoldingLemmas::digests_of_snoc, crate::proofs::BoundLemmas::cause_found, crate::proofs::BoundLemmas::bound_found, crate::proofs::BoundLemmas::log_found))]
 pub(crate) fn bound_of_files<H: Threads + Wait + Sync, G: Gate + Sync>(
     board: &Board,
     sets: &[u8],
     log: &[u8],
     files: Vec<Vec<u8>>,
     workers: &Workers<'_, H, G>,
-) -> (Digests, Result<u8, Failure<ProofRefusal>>)
+) -> (Digests, Result<u8, Fault>)
     requires { length files.items ≤ FILES_BESIDE }
     ensures digests { result.0.items ≡ digests_of (all_bytes files.items ++ log.now ∷ []) }
     ensures found { IsFoundFor true board.now sets.now log.now (all_bytes files.items) result.1 }
@@ -58,11 +57,11 @@ pub(crate) fn bound_of_files<H: Threads + Wait + Sync, G: Gate + Sync>(
     match bundle {
         Ok(bundle) => {
             let found = bound_beside(&bundle, board, log, &mut digests, workers);
-            (digests, proved(found))
+            (digests, found.map_err(Fault::from))
         }
-        Err(failure) => {
+        Err(fault) => {
             with_digest(workers.rt, 1, &mut digests, log, || ());
-            (digests, Err(without_bundle(failure)))
+            (digests, Err(fault))
         }
     }
 }
@@ -104,15 +103,4 @@ pub(crate) fn bound_over<H: Threads + Wait, G: Gate + Sync>(
         workers.count,
         workers.gate,
     )
-}
-
-/// What is found for a board where a log is found to be this over a bundle.
-pub(crate) fn proved(found: Result<u8, LogFault>) -> Result<u8, Failure<ProofRefusal>>
-    ensures { result ≡ of_log found }
-{
-    match found {
-        Ok(bound) => Ok(bound),
-        Err(LogFault::Refused(refused)) => Err(Failure::Refused(ProofRefusal::Log(refused))),
-        Err(LogFault::Memory) => Err(Failure::Memory),
-    }
 }

@@ -8,8 +8,8 @@ ghost use Rattle.pdb_run.specs.Writing.{digest_line, digests_of};
 ghost use Rattle.pdb_verdict.specs.FileBundles.{IsBundleOfFiles, IsCauseForBundle};
 ghost use Rattle.pdb_verdict.specs.Steps.{ArePartsOf, HasOneMore, IsCauseAt, IsCauseForTables, IsPartOf};
 
-use crate::bundles::{bundle_of, failure_at, fold_file};
-use crate::refusals::{BundleRefusal, Failure, FileRefusal};
+use crate::bundles::{bundle_of, fault_at, fold_file};
+use crate::verdicts::Fault;
 use pdb_run::{DIGEST_LEN, DIGESTS_LEN, Digests, FILES_BESIDE, with_digest};
 use set_sum::{Bundle, Part};
 use std::sync::Wait;
@@ -25,7 +25,7 @@ pub fn fold_bundle<'x, H: Threads + Wait + Sync, G: Gate + Sync>(
     files: Vec<Vec<u8>>,
     sets: &[u8],
     workers: &Workers<'_, H, G>,
-) -> (Digests, Result<Bundle<'x>, Failure<BundleRefusal>>)
+) -> (Digests, Result<Bundle<'x>, Fault>)
     requires { length files.items ≤ FILES_BESIDE }
     ensures digests { result.0.items ≡ digests_of (all_bytes files.items) }
     ensures room { length result.0.items + DIGEST_LEN ≤ DIGESTS_LEN }
@@ -41,7 +41,7 @@ pub fn fold_bundle<'x, H: Threads + Wait + Sync, G: Gate + Sync>(
 fn fold_files<'x, H: Threads + Wait + Sync, G: Gate + Sync>(
     files: Vec<Vec<u8>>,
     workers: &Workers<'_, H, G>,
-) -> (Digests, Result<Vec<Part<'x>>, Failure<FileRefusal>>)
+) -> (Digests, Result<Vec<Part<'x>>, Fault>)
     requires { length files.items ≤ FILES_BESIDE }
     ensures digests { result.0.items ≡ digests_of (all_bytes files.items) }
     ensures room { length result.0.items + DIGEST_LEN ≤ DIGESTS_LEN }
@@ -58,11 +58,11 @@ fn fold_files<'x, H: Threads + Wait + Sync, G: Gate + Sync>(
 
 /// The folded tables of one file more, where those before it are there. Its digest line is added behind the others.
 fn fold_next<'x, H: Threads + Wait + Sync, G: Gate + Sync>(
-    parts: Result<Vec<Part<'x>>, Failure<FileRefusal>>,
+    parts: Result<Vec<Part<'x>>, Fault>,
     file: &[u8],
     digests: &mut Digests,
     workers: &Workers<'_, H, G>,
-) -> Result<Vec<Part<'x>>, Failure<FileRefusal>>
+) -> Result<Vec<Part<'x>>, Fault>
     requires { length digests.old.items + DIGEST_LEN ≤ DIGESTS_LEN }
     ensures line { digests.new.items ≡ digests.old.items ++ digest_line file.now }
     ensures length { length digests.new.items ≡ length digests.old.items + DIGEST_LEN }
@@ -80,11 +80,9 @@ fn fold_next<'x, H: Threads + Wait + Sync, G: Gate + Sync>(
     };
     let table = match fold_beside(file, digests, workers) {
         Ok(table) => table,
-        Err(fault) => return Err(failure_at(folded.len(), fault)),
+        Err(fault) => return Err(fault_at(folded.len(), fault)),
     };
-    if folded.push(Part::Folded(table)).is_err() {
-        return Err(Failure::Memory);
-    }
+    folded.push(Part::Folded(table))?;
     Ok(folded)
 }
 

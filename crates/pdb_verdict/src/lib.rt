@@ -13,7 +13,6 @@ mod limits;
 mod lines;
 mod log_command;
 mod log_inputs;
-mod refusals;
 mod replay;
 mod replay_command;
 mod reports;
@@ -34,13 +33,9 @@ pub use limits::a_text;
 pub use lines::line_of;
 pub use log_command::run_log_check;
 pub use log_inputs::{push_tables, take_first};
-pub use refusals::{
-    BoundRefusal, BuildRefusal, BundleRefusal, Failure, FileRefusal, GivenUp, OptimumRefusal,
-    ProofRefusal, ReplayRefusal, SearchRefusal, UnmadeRefusal, fault_of_build, fault_of_optimum,
-    fault_of_search, settled,
-};
 pub use replay::verify_puzzle;
 pub use replay_command::run_replay;
-pub use reports::{digests, line, report, verify_beside};
+pub use reports::{digests, line, report, settled, told, told_or_memory};
+pub use table::verify_table;
 pub use table_command::run_table;
-pub use verdicts::{Fault, MakeRefusal, Verdict};
+pub use verdicts::{Fault, Verdict};

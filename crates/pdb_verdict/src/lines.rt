@@ -1,9 +1,9 @@
 //! The lines that a verdict or a refusal is told in, as values.
 
 ghost use Rattle.std.specs.Prelude.{◌≡◌, ◌≤◌, ℕ, length};
-ghost use Rattle.pdb_verdict.specs.Lines.{counted, counted_twice, exact_line, line_of, line_of_board_fault, line_of_fault, line_of_form_fault, line_of_head_fault, line_of_make_refusal, line_of_numbered_head_fault, line_of_log_refusal, line_of_move_fault, line_of_set_fault, line_of_table_refusal, line_of_numbered_table_refusal};
+ghost use Rattle.pdb_verdict.specs.Lines.{counted, counted_twice, exact_line, line_of, line_of_board_fault, line_of_fault, line_of_form_fault, line_of_head_fault, line_of_numbered_head_fault, line_of_log_refusal, line_of_move_fault, line_of_set_fault, line_of_table_refusal, line_of_numbered_table_refusal};
 
-use crate::verdicts::{Fault, MakeRefusal, Verdict};
+use crate::verdicts::{Fault, Verdict};
 use itoa::Buffer;
 use log_check::LogRefusal;
 use log_file::FormFault;
@@ -69,7 +69,9 @@ fn fault_line(fault: &Fault) -> Lines
                 *bound as u64,
             )
         }
-        Fault::Make(refused) => make_line(*refused),
+        Fault::K1 => lines(&["refused K1\n"]),
+        Fault::K2 => lines(&["refused K2\n"]),
+        Fault::K3 => lines(&["refused K3\n"]),
         Fault::K4 => lines(&["refused K4\n"]),
         Fault::Q1(line) => counted("refused Q1 at line ", *line as u64),
         Fault::Q2(line) => counted("refused Q2 at line ", *line as u64),
@@ -188,17 +190,6 @@ fn form_line(refused: FormFault) -> Lines
         FormFault::L1 => lines(&["refused L1\n"]),
         FormFault::L2(lemma) => counted("refused L2 at lemma ", lemma as u64),
         FormFault::L3(lemma) => counted("refused L3 at lemma ", lemma as u64),
-    }
-}
-
-/// The line of a maker that makes nothing.
-fn make_line(refused: MakeRefusal) -> Lines
-    ensures { result.bytes ≡ line_of_make_refusal refused }
-{
-    match refused {
-        MakeRefusal::K1 => lines(&["refused K1\n"]),
-        MakeRefusal::K2 => lines(&["refused K2\n"]),
-        MakeRefusal::K3 => lines(&["refused K3\n"]),
     }
 }
 

@@ -7,12 +7,11 @@ ghost use Rattle.pdb_run.specs.Runs.{Ends};
 ghost use Rattle.pdb_verdict.specs.Inputs.{puzzle_text};
 ghost use Rattle.pdb_verdict.specs.Plans.{IsCheckReply, replay_plan};
 
-use crate::inputs::Inputs;
 use crate::limits::a_text;
 use crate::replay::verify_puzzle;
-use crate::reports::{digested_by, told};
+use crate::reports::told;
 use pdb_request::Replay;
-use pdb_run::{Answer, Command, Input, Io, Status, conclude, read_inputs};
+use pdb_run::{Answer, Command, Digested, Input, Io, Status, conclude, read_inputs};
 use std::alloc::{AllocError, Global};
 
 /// A replay, as a command.
@@ -52,8 +51,5 @@ fn answer_replay<'i>(inputs: &'i [Vec<u8>]) -> Answer<'i>
     ensures { SaysRight (IsCheckReply puzzle_text (all_bytes inputs.now)) result }
 {
     let puzzle = inputs[0].as_slice();
-    told(
-        digested_by(&Inputs::Replay { puzzle }, None),
-        &verify_puzzle(puzzle),
-    )
+    told(Digested::Files(&[], None), &verify_puzzle(puzzle))
 }

@@ -1,21 +1,22 @@
 //! What is written of an answer.
 
-ghost use Rattle.std.specs.Prelude.{◌≡◌, ◌++◌, option_map, IfSome};
+ghost use Rattle.std.specs.Prelude.{◌≡◌, ◌≢◌, ◌++◌, Err, List, option_map, IfOk, OnErr};
+ghost use Rattle.byte_io.specs.Shelf.{Bytes};
 ghost use Rattle.byte_io.specs.Streams.{Writes};
 ghost use Rattle.pdb_run.specs.Writing.{digests_of, list_of};
 ghost use Rattle.pdb_run.specs.Answers.{IsAnswerBy, IsReplyOf, all_bytes, digest_lines};
-ghost use Rattle.pdb_verdict.specs.Inputs.{Given, given};
-ghost use Rattle.pdb_verdict.specs.Lines.{digested_of, line_of, lines_of, reply_to, stands_alone};
-ghost use Rattle.pdb_verdict.specs.Verdicts.{IsFoundOf, TakesMemory, TellsResult};
+ghost use Rattle.pdb_verdict.specs.Inputs.{given};
+ghost use Rattle.pdb_verdict.specs.Lines.{digested_of, line_of, lines_of, reply_on, stands_alone};
+ghost use Rattle.pdb_verdict.specs.Verdicts.{IsAnswerTo, TakesMemory, TellsResult};
+ghost use Rattle.pdb_verdict.specs.declared.verdicts.Fault.TheVariants.{Memory};
 
 use crate::checks::verify_by;
 use crate::inputs::Inputs;
 use crate::lines::line_of;
-use crate::refusals::{Failure, settled};
 use crate::verdicts::{Fault, Verdict};
 use byte_io::sinks::Sink;
 use byte_io::streams::{WriteFault, put_text};
-use pdb_run::{Answer, Digested, Digests, FILES_BESIDE, beside, say, say_digests};
+use pdb_run::{Answer, Digested, FILES_BESIDE, digested_beside, say, say_digests};
 use set_sum::MOST_TABLES;
 use std::alloc::AllocError;
 use std::sync::Wait;
@@ -37,7 +38,8 @@ pub fn report<W: Sink>(
     if stands_alone(answer) {
         return line(answer, out);
     }
-    say(&told(digested_by(inputs, None), answer), out)
+    let (files, last) = checked_files(inputs);
+    say(&told(Digested::Files(files, last), answer), out)
 }
 
 /// Writes the digest line of each file that is checked.
@@ -57,6 +59,7 @@ pub fn line<W: Sink>(answer: &Result<Verdict, Fault>, out: &mut W) -> Result<(),
 }
 
 /// The answer on inputs, whose digest lines are made beside their check, where there are workers for both.
+#[tactic(auto, using(crate::proofs::CheckLemmas::result_told))]
 pub(crate) fn answer_by<'i, H: Threads + Wait + Sync, G: Gate + Sync>(
     inputs: &Inputs<'i>,
     workers: &Workers<'_, H, G>,
@@ -64,45 +67,18 @@ pub(crate) fn answer_by<'i, H: Threads + Wait + Sync, G: Gate + Sync>(
     ensures { let inputs = given inputs.now in
         IsAnswerBy (TellsResult inputs) (TakesMemory inputs) result }
 {
-    let (digests, answer) = verify_beside(inputs, workers);
-    told_or_memory(digested_by(inputs, digests), answer)
-}
-
-/// What these workers answer to inputs, and the digest lines that are made beside their check, where there are some.
-pub fn verify_beside<H: Threads + Wait + Sync, G: Gate + Sync>(
-    inputs: &Inputs<'_>,
-    workers: &Workers<'_, H, G>,
-) -> (Option<Digests>, Result<Verdict, Failure<Fault>>)
-    ensures digests { let lines = digests_of (digested_of (given inputs.now)) in
-        IfSome result.0 (λ digests. digests.items ≡ lines) }
-    ensures answer { IsFoundOf (given inputs.now) result.1 }
-{
     let (files, last) = checked_files(inputs);
-    let check = || -> Result<Verdict, Failure<Fault>>
-        ensures { IsFoundOf (given inputs.entry.now) result }
+    let check = || -> Result<Verdict, Fault>
+        ensures { IsAnswerTo (given inputs.entry.now) result }
     { verify_by(inputs, workers) };
-    beside(workers.rt, workers.count, files, last, check)
+    let (digested, answer) = digested_beside(workers.rt, workers.count, files, last, check);
+    told_or_memory(digested, answer)
 }
 
-/// The digest lines of inputs: those that are made already, or else those of the files.
-pub(crate) fn digested_by<'i>(inputs: &Inputs<'i>, digests: Option<Digests>) -> Digested<'i>
-    requires { let lines = digests_of (digested_of (given inputs.now)) in
-        IfSome digests (λ digests. digests.items ≡ lines) }
-    ensures { digest_lines result ≡ digests_of (digested_of (given inputs.now)) }
-{
-    match digests {
-        Some(lines) => Digested::Lines(lines),
-        None => {
-            let (files, last) = checked_files(inputs);
-            Digested::Files(files, last)
-        }
-    }
-}
-
-/// What is to be written of an answer on inputs with these digest lines.
-pub(crate) fn told<'i>(digested: Digested<'i>, answer: &Result<Verdict, Fault>) -> Answer<'i>
-    ensures { (inputs : Given) → digest_lines digested.entry ≡ digests_of (digested_of inputs)
-        → IsReplyOf result (reply_to inputs answer.now) }
+/// What is to be written of an answer behind these digest lines, where nothing was made.
+pub fn told<'i>(digested: Digested<'i>, answer: &Result<Verdict, Fault>) -> Answer<'i>
+    ensures { (files : List Bytes) → digest_lines digested.entry ≡ digests_of files
+        → IsReplyOf result (reply_on files answer.now) }
 {
     Answer {
         digested,
@@ -114,16 +90,28 @@ pub(crate) fn told<'i>(digested: Digested<'i>, answer: &Result<Verdict, Fault>) 
 }
 
 /// The same, but for want of memory.
-pub(crate) fn told_or_memory<'i>(
+pub fn told_or_memory<'i>(
     digested: Digested<'i>,
-    answer: Result<Verdict, Failure<Fault>>,
+    answer: Result<Verdict, Fault>,
 ) -> Result<Answer<'i>, AllocError>
-    ensures { (inputs : Given) → digest_lines digested.entry ≡ digests_of (digested_of inputs)
-        → IsFoundOf inputs answer
-        → IsAnswerBy (TellsResult inputs) (TakesMemory inputs) result }
+    ensures told { (files : List Bytes) → digest_lines digested.entry ≡ digests_of files
+        → IfOk result (λ told. IsReplyOf told (reply_on files answer) × (answer ≢ Err Memory)) }
+    ensures memory { OnErr result (answer ≡ Err Memory) }
 {
     let answer = settled(answer)?;
     Ok(told(digested, &answer))
+}
+
+/// What is found, where memory isn't wanted.
+pub fn settled<A: Drop>(found: Result<A, Fault>) -> Result<Result<A, Fault>, AllocError>
+    ensures ok { IfOk result (λ settled. (settled ≡ found) × (settled ≢ Err Memory)) }
+    ensures err { OnErr result (found ≡ Err Memory) }
+{
+    match found {
+        Err(Fault::Memory) => Err(AllocError),
+        Ok(found) => Ok(Ok(found)),
+        Err(refused) => Ok(Err(refused)),
+    }
 }
 
 /// The files whose digests are told: several, and one behind them.

@@ -1,9 +1,14 @@
-//! Verdicts on claims.
+//! Verdicts on claims, and the one type of all faults.
 
-use log_check::LogRefusal;
+ghost use Rattle.std.specs.Prelude.{◌≡◌};
+ghost use Rattle.pdb_verdict.specs.Steps.{of_log, of_table};
+ghost use Rattle.pdb_verdict.specs.declared.verdicts.Fault.TheVariants as fault;
+
+use log_check::{LogFault, LogRefusal};
 use puz_board::{BoardFault, MoveFault, Side};
 use set_sum::SetFault;
-use tab_rule::{Census, TableRefusal};
+use std::alloc::{AllocError, AllocFailed};
+use tab_rule::{Census, TableFault, TableRefusal};
 use thiserror::Error;
 
 /// A yes.
@@ -20,19 +25,8 @@ pub enum Verdict {
     Optimal(u8),
 }
 
-/// Why a maker makes nothing.
-#[derive(Clone, Copy, Debug, PartialEq, Eq)]
-pub enum MakeRefusal {
-    /// The search has expanded as many boards as it may.
-    K1,
-    /// The board has no solution, as the parity of its numbers or a set says, or the next threshold of the search would be
-    /// above 255.
-    K2,
-    /// A count of the table would be above 253.
-    K3,
-}
-
-/// A no, or want of memory.
+/// A no, or want of memory: what every check and every maker of the program answers in place of what it finds. Which of
+/// these a command may answer is said in its contract.
 #[derive(Clone, Copy, Debug, PartialEq, Eq, Error)]
 pub enum Fault {
     /// A puzzle text has no `;`.
@@ -59,9 +53,16 @@ pub enum Fault {
     /// The moves are a solution, and more than the bound that the log proves.
     #[error("the solution has {solution} moves, and the bound is {bound}")]
     O1 { solution: u16, bound: u8 },
-    /// The maker makes nothing.
-    #[error("nothing is made: {0:?}")]
-    Make(MakeRefusal),
+    /// The search has expanded as many boards as it may.
+    #[error("the budget of boards is spent")]
+    K1,
+    /// The board has no solution, as the parity of its numbers or a set says, or the next threshold of the search would be
+    /// above 255.
+    #[error("the board has no solution, or none that a log could prove shortest")]
+    K2,
+    /// A count of the table would be above 253.
+    #[error("a count of the table would be above 253")]
+    K3,
     /// A side and a mask are no pattern, or the table that was built for them is exact for another pattern.
     #[error("this is no pattern, or the table that was built is that of another one")]
     K4,
@@ -74,4 +75,66 @@ pub enum Fault {
     /// Memory was refused.
     #[error("no memory")]
     Memory,
+}
+
+impl From<BoardFault> for Fault {
+    ghost from_gives = { λ refused gives. gives ≡ fault.Board refused };
+
+    fn from(refused: BoardFault) -> Fault {
+        Fault::Board(refused)
+    }
+}
+
+impl From<MoveFault> for Fault {
+    ghost from_gives = { λ refused gives. gives ≡ fault.Moves refused };
+
+    fn from(refused: MoveFault) -> Fault {
+        Fault::Moves(refused)
+    }
+}
+
+impl From<TableFault> for Fault {
+    ghost from_gives = { λ why gives. gives ≡ of_table why };
+
+    fn from(why: TableFault) -> Fault {
+        match why {
+            TableFault::Refused(refused) => Fault::Table(refused),
+            TableFault::Memory => Fault::Memory,
+        }
+    }
+}
+
+impl From<SetFault> for Fault {
+    ghost from_gives = { λ refused gives. gives ≡ fault.Sets refused };
+
+    fn from(refused: SetFault) -> Fault {
+        Fault::Sets(refused)
+    }
+}
+
+impl From<LogFault> for Fault {
+    ghost from_gives = { λ why gives. gives ≡ of_log why };
+
+    fn from(why: LogFault) -> Fault {
+        match why {
+            LogFault::Refused(refused) => Fault::Log(refused),
+            LogFault::Memory => Fault::Memory,
+        }
+    }
+}
+
+impl From<AllocError> for Fault {
+    ghost from_gives = { λ _ gives. gives ≡ fault.Memory };
+
+    fn from(_: AllocError) -> Fault {
+        Fault::Memory
+    }
+}
+
+impl<T: Drop> From<AllocFailed<T>> for Fault {
+    ghost from_gives = { λ _ gives. gives ≡ fault.Memory };
+
+    fn from(_: AllocFailed<T>) -> Fault {
+        Fault::Memory
+    }
 }

@@ -5,9 +5,7 @@ use crate::telling::{io_over, joined, tells};
 use byte_io::memory::MemShelf;
 use pdb_request::Replay;
 use pdb_run::Status;
-use pdb_verdict::{
-    Fault, Inputs, MakeRefusal, digests, line, report, run_replay, verify, verify_puzzle,
-};
+use pdb_verdict::{Fault, Inputs, digests, line, report, run_replay, verify, verify_puzzle};
 use sample_streams::{Failing, SampleWriter};
 use samples::HoldingGate;
 use samples::files::{TILE_1_NEVER, TILES_12, TILES_123, TWO_BLOCKS, with_byte, with_one_more};
@@ -197,12 +195,7 @@ fn two_workers_check_two_blocks_side_by_side(rt: HostRuntime) -> Result<(), Fail
 
 #[test]
 fn makers_that_give_up_have_their_lines(rt: HostRuntime) -> Result<(), Fail> {
-    let faults = [
-        Fault::Make(MakeRefusal::K1),
-        Fault::Make(MakeRefusal::K2),
-        Fault::Make(MakeRefusal::K3),
-        Fault::K4,
-    ];
+    let faults = [Fault::K1, Fault::K2, Fault::K3, Fault::K4];
     let mut out = Vec::new(rt.alloc());
     for fault in faults {
         assert!(rt; line(&Err(fault), &mut out).is_ok());

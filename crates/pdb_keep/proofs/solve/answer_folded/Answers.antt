@@ -5,13 +5,10 @@ use Rattle.pdb_keep.proofs.solve.answer_folded.Goals as goal
 pub answer_of-requires : goal.answer_of-requires
 answer_of-requires g c =
     let digested = c.fold_bundle-digests.ensures in
-    let spelt = rw (← c.as_slice-text.ensures.value) at c.requires.spelt in
-    made_moves true _ _ _ _ (c.search_in-outcome.ensures true _ _ spelt digested.ok digested.err)
+    made_moves true _ _ _ _ (c.search_in-outcome.ensures true _ _ _ c.requires.spelt digested.ok digested.err)
 
 pub returns : goal.returns
 returns g c =
     let digested = c.fold_bundle-digests.ensures in
-    let spelt = rw (← c.as_slice-text.ensures.value) at c.requires.spelt in
-    let comes = c.search_in-outcome.ensures true _ _ spelt digested.ok digested.err in
-    rw (← c.as_slice-text.ensures.value, ← c.as_slice-sets.ensures.value)
-    (c.answer_of.ensures true _ _ _ digested.digests comes)
+    let comes = c.search_in-outcome.ensures true _ _ _ c.requires.spelt digested.ok digested.err in
+    rw (← c.as_slice.ensures.value) (c.answer_of.ensures true _ _ _ digested.digests comes)

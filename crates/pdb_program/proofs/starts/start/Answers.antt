@@ -1,9 +1,13 @@
-use Rattle.std.proofs.Common.{◌∙◌, ap}
+use Rattle.std.proofs.Common.{◌≡◌, ◌∙◌, ap, rules, sym}
 use Rattle.pdb_run.specs.Statuses.{status_number}
 use Rattle.pdb_program.proofs.starts.start.Goals as goal
 
 pub returns-in-Ok-clause-runs : goal.returns-in-Ok-clause-runs
-returns-in-Ok-clause-runs g c = rw (c.in-Ok.is, ← c.words_in.ensures) c.run.ensures.runs
+returns-in-Ok-clause-runs g c =
+    let shelf : c.shelf-1.given.0 ≡ c.run_on.new.io.shelf.now = search rules in
+    let reader : c.reader-1.given.0 ≡ c.run_on.new.io.reader.now = search rules in
+    let out : c.out-1.given.0 ≡ c.run_on.new.io.out.now = search rules in
+    rw (c.in-Ok.is, ← c.words_in.ensures, shelf, reader, out) c.run_on.ensures.runs
 
 pub returns-in-Err-clause-unreadable : goal.returns-in-Err-clause-unreadable
 returns-in-Err-clause-unreadable g c = rw c.in-Err.is (λ no.
@@ -11,4 +15,8 @@ returns-in-Err-clause-unreadable g c = rw c.in-Err.is (λ no.
     (told.0, told.1, c.code.ensures ∙ ap status_number told.2))
 
 pub returns-in-Ok-clause-headline : goal.returns-in-Ok-clause-headline
-returns-in-Ok-clause-headline g c = rw (c.in-Ok.is, ← c.words_in.ensures) c.run.ensures.headline
+returns-in-Ok-clause-headline g c = rw (c.in-Ok.is, ← c.words_in.ensures) (λ before later input start lines parses had has left stood wrote.
+    let shelf : c.shelf-1.given.0 ≡ c.run_on.new.io.shelf.now = search rules in
+    let out : c.out-1.given.0 ≡ c.run_on.new.io.out.now = search rules in
+    c.run_on.ensures.headline before later input start lines parses had
+    (ap g.S.Shelf.held (sym shelf) ∙ has) left stood (ap (λ w. (g.W.Sink.output w).bytes) (sym out) ∙ wrote))

@@ -13,6 +13,6 @@ returns-in-Err-read_claims-clause-ends g c =
     let named = rw c.as_slice.ensures.value at c.read_claims.ensures.fault in
     let memory = rw c.as_slice.ensures.value at c.read_claims.ensures.memory in
     let cause = text_cause fold files c.read_claims.result c.in-Err-read_claims.fault c.in-Err-read_claims.is named memory in
-    c.tell_failure.ensures.ends files _ read
+    c.tell_fault.ensures.ends files _ read
     (rw (c.as_slice-in-Err-read_claims.ensures.value, c.as_slice-in-Err-read_claims-2.ensures.value) refl)
-    (rw c.failure_of.ensures cause)
+    (rw c.of_claims.ensures cause)

@@ -6,4 +6,4 @@ returns-in-Ok-clause-ends g c = λ files old are digested ok err.
 
 pub returns-in-Err-clause-ends : goal.returns-in-Err-clause-ends
 returns-in-Err-clause-ends g c = λ files old are digested ok err.
-    c.tell_failure.ensures.ends files old are digested (rw c.in-Err.is at err)
+    c.tell_fault.ensures.ends files old are digested (rw c.in-Err.is at err)

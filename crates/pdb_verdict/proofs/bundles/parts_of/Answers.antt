@@ -1,6 +1,6 @@
 use Rattle.std.proofs.Common.{◌≡◌, ◌∙◌, ℕ, ◌+◌, ◌<◌, List, ◌∷◌, ◌++◌, ap, drop, get_or, length, rules, take, take-append-drop}
 use Rattle.std.proofs.lemmas.List.{drop_more, take_more}
-use Rattle.pdb_verdict.specs.declared.refusals.Failure.{Failure}
+use Rattle.pdb_verdict.specs.declared.verdicts.Fault.{Fault}
 use Rattle.pdb_verdict.proofs.FoldingLemmas.{next_cause, next_parts}
 use Rattle.pdb_verdict.proofs.bundles.parts_of.Goals as goal
 
@@ -14,13 +14,14 @@ returns-in-Err-clause-err g c =
     let whole = parted c.args.tables.files.now c.loop-file.file-index _ c.loop-file-test.true c.file-item.is in
     let count : c.len.result ≡ length c.loop-file.parts.items = search (rules, c.len.ensures, c.loop-file.parts.ok) in
     next_cause _ _ _ _ _ _ c.as_slice.ensures.value whole _ c.loop-file.invariant
-    c.failure_at.result (rw count at (c.failure_at.ensures c.as_slice.result.now c.in-Err.ensures.err))
+    c.fault_at.result (rw count at (c.fault_at.ensures c.as_slice.result.now c.in-Err.ensures.err))
 
-pub returns-then-is_err-clause-err : goal.returns-then-is_err-clause-err
-returns-then-is_err-clause-err g c =
+pub returns-in_err-push-clause-err : goal.returns-in_err-push-clause-err
+returns-in_err-push-clause-err g c =
     let whole = parted c.args.tables.files.now c.loop-file.file-index _ c.loop-file-test.true c.file-item.is in
     let is = c.in-Ok.ensures.ok in
-    next_cause _ _ _ _ _ _ c.as_slice.ensures.value whole _ c.loop-file.invariant Failure.Memory (is.0, is.1.is_file)
+    let memory = next_cause _ _ _ _ _ _ c.as_slice.ensures.value whole _ c.loop-file.invariant Fault.Memory (is.0, is.1.is_file) in
+    search rules
 
 pub loop-file-preserved : goal.loop-file-preserved
 loop-file-preserved g c =
@@ -28,5 +29,5 @@ loop-file-preserved g c =
     let i = c.loop-file.file-index in
     let file = c.file-item.result in
     let whole = parted files i file c.loop-file-test.true c.file-item.is in
-    rw (c.push.ensures.items, c.if-is_err.ensures.negation, take_more files i file c.loop-file-test.true, ← c.file-item.is)
+    rw (c.in_ok-push.ensures.items, take_more files i file c.loop-file-test.true, ← c.file-item.is)
     (next_parts _ _ _ _ _ _ c.as_slice.ensures.value whole _ c.loop-file.invariant c.in-Ok.part c.in-Ok.ensures.ok)

@@ -1,14 +1,12 @@
 use Rattle.pdb_verdict.specs.Inputs.{given}
-use Rattle.pdb_verdict.specs.Verdicts.{IsAnswerTo}
-use Rattle.pdb_verdict.proofs.VerdictLemmas.{found_answers, true_holds, true_is_yes, yes_is_true}
+use Rattle.pdb_verdict.proofs.VerdictLemmas.{true_holds, true_is_yes, yes_is_true}
 use Rattle.pdb_verdict.proofs.checks.verify.Goals as goal
 
 pub returns : goal.returns
 returns g c =
     let inputs = given c.args.inputs.now in
-    let answer = c.with_memory.result in
-    let exact : IsAnswerTo inputs answer =
-    rw c.with_memory.ensures (found_answers inputs c.verify_by.result c.verify_by.ensures) in
+    let answer = c.verify_by.result in
+    let exact = c.verify_by.ensures in
     record {
       yes = yes_is_true inputs answer exact;
       always = true_is_yes inputs answer exact;

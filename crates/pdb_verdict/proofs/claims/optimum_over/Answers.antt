@@ -1,12 +1,35 @@
+use Rattle.std.proofs.Common.{◌≡◌, ◌∙◌, Err, Ok, ap, inl, rules}
 use Rattle.pdb_verdict.specs.Inputs.{log_files}
+use Rattle.pdb_verdict.specs.Replay.{puzzle_of, solved_by}
 use Rattle.pdb_verdict.specs.Steps.{of_log}
-use Rattle.pdb_verdict.proofs.BoundLemmas.{found_over}
+use Rattle.pdb_verdict.specs.declared.verdicts.Fault.{Fault}
+use Rattle.pdb_verdict.proofs.BoundLemmas.{bound_found, log_found}
 use Rattle.pdb_verdict.proofs.ClaimLemmas.{optimum_by}
+use Rattle.pdb_verdict.proofs.ReplayLemmas.{joined-parts}
 use Rattle.pdb_verdict.proofs.claims.optimum_over.Goals as goal
 
+pub returns-in_err-solution : goal.returns-in_err-solution
+returns-in_err-solution g c = λ fold text sets tables spelt is_bundle.
+    let why = c.in_err-solution.field-0.0 in
+    let refused : c.from_residual.result ≡ Err (Fault.Moves why) = search (rules, c.from_residual.ensures) in
+    let replayed = rw c.replay.ensures.exact at c.in_err-solution.was in
+    rw refused (inl (joined-parts text c.args.moves.now c.args.board.now spelt ∙ ap (solved_by c.args.board.now) replayed))
+
+pub returns-in_err-bound_over : goal.returns-in_err-bound_over
+returns-in_err-bound_over g c = λ fold text sets tables spelt is_bundle.
+    let board = c.args.board.now in
+    let moves = c.args.moves.now in
+    let why = c.in_err-bound_over.field-0.0 in
+    let found = log_found fold tables sets board c.args.log.now c.args.bundle.now is_bundle why c.in_err-bound_over.ensures in
+    let refused : c.from_residual-in_err-bound_over.result ≡ Err (of_log why) = search (rules, c.from_residual-in_err-bound_over.ensures) in
+    let parts = joined-parts text moves board spelt ∙ ap (solved_by board) (rw c.replay.ensures.exact at c.in_ok-solution.was) in
+    rw refused (optimum_by (log_files fold (puzzle_of text moves) sets c.args.log.now tables) board c.in_ok-solution.solution parts (Err (of_log why)) found)
+
 pub returns : goal.returns
-returns g c = λ fold sets tables is_bundle.
-    let board = c.in_ok-board.board in
-    let found = found_over board c.args.log.now is_bundle c.bound_over.result c.bound_over.ensures in
-    rw (c.optimum_of.ensures, c.proved.ensures) (optimum_by (log_files fold c.args.puzzle.now sets c.args.log.now tables)
-    board c.in_ok-board.moves (of_log c.bound_over.result) (rw c.solved_board.ensures at c.in_ok-board.was) found)
+returns g c = λ fold text sets tables spelt is_bundle.
+    let board = c.args.board.now in
+    let moves = c.args.moves.now in
+    let bound = c.in_ok-bound_over.field-0 in
+    let found = bound_found fold tables sets board c.args.log.now c.args.bundle.now is_bundle bound c.in_ok-bound_over.ensures in
+    let parts = joined-parts text moves board spelt ∙ ap (solved_by board) (rw c.replay.ensures.exact at c.in_ok-solution.was) in
+    rw c.optimum_of.ensures (optimum_by (log_files fold (puzzle_of text moves) sets c.args.log.now tables) board c.in_ok-solution.solution parts (Ok bound) found)

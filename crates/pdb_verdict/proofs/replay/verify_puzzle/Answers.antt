@@ -1,17 +1,18 @@
-use Rattle.std.proofs.Common.{Ok, Err}
+use Rattle.std.proofs.Common.{Ok, refl, rules}
 use Rattle.pdb_verdict.specs.Replay.{IsReplayTold}
 use Rattle.pdb_verdict.specs.declared.verdicts.Verdict.{Verdict}
-use Rattle.pdb_verdict.proofs.ReplayLemmas.{says_solution}
+use Rattle.pdb_verdict.proofs.ReplayLemmas.{refused_told, says_solution, solved-parts}
 use Rattle.pdb_verdict.proofs.replay.verify_puzzle.Goals as goal
 
-pub returns-in-Ok : goal.returns-in-Ok
-returns-in-Ok c =
-    let told : IsReplayTold c.args.puzzle.now (Ok (Verdict.Solution c.in-Ok.count)) =
-    (c.replay_result.result, c.replay_result.ensures, rw c.in-Ok.is) in
-    record { solved = says_solution c.args.puzzle.now _ told; exact = told }
+pub returns-in_err-_board-clause-solved : goal.returns-in_err-_board-clause-solved
+returns-in_err-_board-clause-solved c =
+    let told : IsReplayTold c.args.puzzle.now c.from_residual.result = search (rules, refused_told, c.from_residual.ensures) in
+    says_solution c.args.puzzle.now _ told
 
-pub returns-in-Err : goal.returns-in-Err
-returns-in-Err c =
-    let told : IsReplayTold c.args.puzzle.now (Err c.fault_of_replay.result) =
-    (c.replay_result.result, c.replay_result.ensures, rw (c.in-Err.is, c.fault_of_replay.ensures)) in
+pub returns : goal.returns
+returns c =
+    let is = rw c.solved_board.ensures at c.in_ok-_board.was in
+    let n = c.in_ok-_board.count in
+    let told : IsReplayTold c.args.puzzle.now (Ok (Verdict.Solution n)) =
+    (Ok n, (solved-parts c.args.puzzle.now c.in_ok-_board._board n is).0, refl) in
     record { solved = says_solution c.args.puzzle.now _ told; exact = told }

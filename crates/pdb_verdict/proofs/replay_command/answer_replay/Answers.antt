@@ -1,5 +1,4 @@
-use Rattle.std.proofs.Common.{refl}
-use Rattle.pdb_verdict.specs.Inputs.{puzzle_text}
+use Rattle.std.proofs.Common.{[], refl}
 use Rattle.pdb_verdict.proofs.CheckLemmas.{only_input}
 use Rattle.pdb_verdict.proofs.replay_command.answer_replay.Goals as goal
 
@@ -8,5 +7,5 @@ returns c =
     let puzzle = c.as_slice-puzzle.result.now in
     let are = only_input c.args.inputs.now _ puzzle c.requires c.index-inputs-0.is c.as_slice-puzzle.ensures.value in
     let answer = c.verify_puzzle.result in
-    let told = c.told.ensures (puzzle_text puzzle) c.digested_by.ensures in
+    let told = c.told.ensures [] refl in
     (_, (puzzle, are, record { answer = answer; is_result = c.verify_puzzle.ensures.exact; told = refl }), told)

@@ -1,0 +1,19 @@
+//! Why a maker makes nothing, as a fault of the program.
+
+ghost use Rattle.std.specs.Prelude.{◌≡◌};
+ghost use Rattle.pdb_keep.specs.Steps.{of_maker};
+
+use pdb_verdict::Fault;
+use puz_make::MakeFault;
+
+/// Why a maker gives up, as it is told.
+pub(crate) fn of_maker(fault: MakeFault) -> Fault
+    ensures { result ≡ of_maker fault }
+{
+    match fault {
+        MakeFault::K1 => Fault::K1,
+        MakeFault::K2 => Fault::K2,
+        MakeFault::K3 => Fault::K3,
+        MakeFault::Memory => Fault::Memory,
+    }
+}
