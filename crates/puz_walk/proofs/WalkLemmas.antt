@@ -1,7 +1,9 @@
 -- Walks that ask sets for their sums: where they go on, and their steps taken back.
-use Rattle.std.proofs.Common.{◌≡◌, ◌+◌, ◌-◌, ℕ, List, Some, inr, sym, ◌∙◌, ap, subst}
+use Rattle.std.proofs.Common.{◌≡◌, ◌+◌, ◌-◌, ◌<◌, ℕ, List, Some, true, inl, inr, sym, ◌∙◌, ap, subst, arith}
+use Rattle.std.proofs.lemmas.Bool.{cases_order}
 use Rattle.puz_board.specs.Boards.{moved}
 use Rattle.puz_board.specs.declared.moves.Move.{Move}
+use Rattle.set_sum.specs.Bundles.{SaysAtLeast}
 use Rattle.set_sum.specs.ShownSums.{ShownSums}
 use Rattle.set_sum.specs.Steps.{IsStepFrom}
 use Rattle.set_sum.specs.declared.known.Step.{Step}
@@ -38,3 +40,14 @@ left_is w now s new r step is from taken =
     let back : new ≡ record { bundle = s.bundle; board = w.board } = taken w.board there in
     let bound : r + 1 ≡ w.bound = ap (λ x. x.bound + 1) is ∙ from.bound in
     λ i. record { bundle = (ap (λ x. x.bundle) back ∙ bundle) i; board = (ap (λ x. x.board) back) i; bound = bound i }
+
+-- one set more was asked, and doesn't cut the board off
+pub one_more : (s : ShownSums) (r count : ℕ) → ((k : ℕ) → k < count → ¬ SaysAtLeast s.bundle true k s.board r) → (¬ SaysAtLeast s.bundle true count s.board r) →
+    (k : ℕ) → k < count + 1 → ¬ SaysAtLeast s.bundle true k s.board r
+one_more s r count before here k low says = elim (cases_order k count) [
+  | inl same ↦ here (subst (λ x. SaysAtLeast s.bundle true x s.board r) same says)
+  | inr rest ↦ elim rest [
+    | inl less ↦ before k less says
+    | inr more ↦ absurd (omega arith)
+  ]
+]

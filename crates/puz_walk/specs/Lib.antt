@@ -4,6 +4,7 @@ pub mod SumSteps
 pub mod WordBundles
 pub mod WordSteps
 -- How values are stored.
+pub mod StoredSumWalks
 pub mod StoredWords
 pub mod StoredWordWalks
 pub mod Seats

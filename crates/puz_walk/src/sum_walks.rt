@@ -4,7 +4,7 @@ ghost use Rattle.std.specs.Prelude.{◌≡◌, IfNone, IfSome};
 ghost use Rattle.puz_board.specs.Boards.{side_of};
 ghost use Rattle.puz_walk.specs.Walks.{IsClosed};
 
-use crate::cuts::is_cut_off;
+use crate::cuts::cutting_set;
 use crate::walks::Walk;
 use puz_board::{Board, Move};
 use set_sum::{Bundle, Step, Sums};
@@ -16,16 +16,20 @@ use std::marker::Model;
 pub struct SumWalk<'a> {
     sums: Sums<'a>,
     bound: u8,
+    /// The set that cut a board off last. It is asked first, since it often cuts off the next board too.
+    last_cut: u8,
 }
 
 impl<'a> Model for SumWalk<'a> {
-    ghost use Rattle.puz_walk.specs.Walks.{IsOpen, ShownWalk};
+    ghost use Rattle.puz_walk.specs.Walks.{ShownWalk};
 
     ghost Value = { ShownWalk };
 
-    ghost view = { λ w. record { bundle = w.sums.bundle; board = w.sums.board; bound = w.bound } };
+    ghost use Rattle.puz_walk.specs.StoredSumWalks.{IsStoredSumWalk, sum_walk_shown};
 
-    ghost invariant = { λ w. IsOpen (record { bundle = w.sums.bundle; board = w.sums.board; bound = w.bound }) };
+    ghost view = { sum_walk_shown };
+
+    ghost invariant = { IsStoredSumWalk };
 }
 
 impl<'a> SumWalk<'a> {
@@ -36,12 +40,16 @@ impl<'a> SumWalk<'a> {
             ≡ record { bundle = bundle.now; board = board.now; bound = bound }) }
         ensures none { IfNone result (IsClosed bundle.now board.now bound) }
     {
-        let _side = board.side();
+        let (_side, _sets) = (board.side(), bundle.sets());
         let mut sums = Sums::new(bundle, board);
-        if bound == 0 || is_cut_off(&mut sums, bound) {
+        if bound == 0 || cutting_set(&mut sums, bound, 0).is_some() {
             return None;
         }
-        Some(SumWalk { sums, bound })
+        Some(SumWalk {
+            sums,
+            bound,
+            last_cut: 0,
+        })
     }
 }
 
@@ -65,7 +73,8 @@ impl<'a> Walk for SumWalk<'a> {
             return None;
         }
         let step = self.sums.step(mv)?;
-        if is_cut_off(&mut self.sums, self.bound - 1) {
+        if let Some(set) = cutting_set(&mut self.sums, self.bound - 1, self.last_cut) {
+            self.last_cut = set;
             self.sums.take_back(&step);
             return None;
         }

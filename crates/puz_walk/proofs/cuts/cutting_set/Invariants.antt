@@ -1,6 +1,6 @@
 use Rattle.std.proofs.Common.{◌≡◌, ℕ, ◌<◌, true, length}
 use Rattle.set_sum.specs.Bundles.{SaysAtLeast}
-use Rattle.puz_walk.proofs.cuts.is_cut_off.Given as goal
+use Rattle.puz_walk.proofs.cuts.cutting_set.Given as goal
 
 -- no set so far cuts the board off
 abbrev pub invariant-loop-set : goal.invariant-loop-set
