@@ -43,7 +43,7 @@ The number of boards is that of the last search, which finds no shorter solution
 KORF_AND_FELNER = """\
 ## The 24-puzzle: {count} boards of Korf and Felner
 
-They are {count} of the fifty random boards of Korf and Felner (2002), those whose searches are shortest. Their solutions have {least} to {most} moves, as published. The files: [boards and moves](results/korf_felner_2002.claims), and [answers](results/korf_felner_2002.answers). The tables have 3.6 GB, and the run takes 7.4 GB:
+These are {count} of the fifty random boards of Korf and Felner (2002): those of which `prove` found a shortest solution within 1.5 billion boards. Their solutions have {least} to {most} moves, as published. The files: [boards and moves](results/korf_felner_2002.claims), and [answers](results/korf_felner_2002.answers). The tables have 3.6 GB, and the run takes 7.4 GB:
 
 ```
 for mask in 4326 25368 3247104 30277632; do ./pdb_cli make-table 5 $mask t$mask --workers 4; done
@@ -52,7 +52,7 @@ printf 'set 0 1 2 3\\nset 0t 1t 2t 3t\\n' >sets
     diff - docs/results/korf_felner_2002.answers
 ```
 
-The last searches expand {boards} boards in all, 42 to 50 million a second by four workers ([SPEED](SPEED.md)).
+The last searches expand {boards} boards in all. Four idle processors expand 42 to 50 million a second ([SPEED](SPEED.md)).
 """
 # A search of fewer boards tells nothing while it runs.
 FEW = 65_536
@@ -108,8 +108,7 @@ def section(name, text, across):
 def main():
     print(INTRODUCTION, end="")
     section("korf_1985", KORF, 4)
-    if (ROOT / "docs/results/korf_felner_2002.csv").exists():
-        section("korf_felner_2002", KORF_AND_FELNER, 2)
+    section("korf_felner_2002", KORF_AND_FELNER, 2)
 
 
 main()
