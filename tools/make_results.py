@@ -4,7 +4,7 @@
     tools/make_results.py >docs/RESULTS.md
 
 NAME.claims has boards and moves, as `prove` reads them, and NAME.answers is what it wrote. NAME.csv has a line for each claim: its
-number in the literature, the moves that are published there, and how many boards the last search expanded, which found no shorter
+number in the literature, the moves that it is said to have there, and how many boards the last search expanded, which found no shorter
 solution, or nothing where that were fewer than 65,536. The files must agree, and the moves must solve the boards.
 """
 
@@ -21,6 +21,8 @@ INTRODUCTION = """\
 
 Each board here has a solution of so many moves, and none of fewer. `prove` says so, and that it says so only where it is true is [proved](../README.md#what-is-proved). You need not believe who made the tables or these files: the run that answers checks the tables too, and you can run it yourself. [BELIEVE](BELIEVE.md) says what is left to believe.
 
+The boards, and the lengths that the papers are said to give, were written down without the papers at hand. That `prove` finds just these lengths speaks for them; compare a board with its paper before you cite it as the paper's.
+
 The blank is first in the goal board. To look at a solution, move by move:
 
 ```
@@ -30,7 +32,7 @@ tools/show_solution.py docs/results/korf_1985.answers --svg solutions.svg
 KORF = """\
 ## The 15-puzzle: Korf's hundred boards
 
-Korf (1985) published them with his search by iterative deepening, the first that found their shortest solutions. They have {least} to {most} moves, as he said. The files: [boards and moves](results/korf_1985.claims), and [answers](results/korf_1985.answers). This makes the tables and compares all hundred answers, in less than 20 seconds:
+Korf (1985) published them with his search by iterative deepening, the first that found their shortest solutions. They have {least} to {most} moves. The files: [boards and moves](results/korf_1985.claims), and [answers](results/korf_1985.answers). This makes the tables and compares all hundred answers, in less than 20 seconds:
 
 ```
 for mask in 9826 55680 28; do ./pdb_cli make-table 4 $mask t$mask; done
@@ -43,7 +45,7 @@ The number of boards is that of the last search, which finds no shorter solution
 KORF_AND_FELNER = """\
 ## The 24-puzzle: {count} boards of Korf and Felner
 
-These are {count} of the fifty random boards of Korf and Felner (2002): those of which `prove` found a shortest solution within 1.5 billion boards. Their solutions have {least} to {most} moves, as published. The files: [boards and moves](results/korf_felner_2002.claims), and [answers](results/korf_felner_2002.answers). The tables have 3.6 GB, and the run takes 7.4 GB:
+These are {count} of the fifty random boards of Korf and Felner (2002): those of which `prove` found a shortest solution within 1.5 billion boards. Their solutions have {least} to {most} moves. The files: [boards and moves](results/korf_felner_2002.claims), and [answers](results/korf_felner_2002.answers). The tables have 3.6 GB, and the run takes 7.4 GB:
 
 ```
 for mask in 4326 25368 3247104 30277632; do ./pdb_cli make-table 5 $mask t$mask --workers 4; done
