@@ -189,9 +189,7 @@ build() {
         exec {alive}<> <(:) # (a pipe)
         set -m
         { watch & exec {alive}>&- && make_program "$most"; } </dev/null 3>&2 >>"$log" 2>&1 &
-        set +m
-        wait "$!"
-        status=$?
+        set +m && wait "$!"; status=$?
         exec {alive}>&-
         [ "$status" != 0 ] || return 0
         refused=$(sed -n 's/^refused: //p' "$log")

@@ -1,5 +1,6 @@
 #!/usr/bin/env python3
-"""Looks for the example of each crate's README.md among the tests: its lines stand there one after the other.
+"""Looks for the example of each crate's README.md among the tests: its lines stand there one after the other. And compares the
+sentences that say why an answer is no yes, in docs/FORMATS.md, with those of the crate `pdb_reason`.
 
     tools/check_examples.py
 
@@ -21,6 +22,16 @@ def bare(text):
     return "\n" + "".join(line.strip() + "\n" for line in text.splitlines())
 
 
+def sentences():
+    """The rows of docs/FORMATS.md that the sentences of the source make: an arm has a code, and then the pieces of a sentence."""
+    source = (ROOT / "crates/pdb_reason/src/texts.rt").read_text()
+    for arm in re.split(r'\n +(?="\w+" =>|_ =>)', source):
+        code, *pieces = re.findall(r'"([^"]*)"', arm) if arm.startswith('"') else [""]
+        if code:
+            answer = code if len(code) == 2 else f"fault {code}"
+            yield f"| {answer} | {pieces[0]}{''.join(number + piece for number, piece in zip('NM', pieces[1:]))} |"
+
+
 def main():
     tests = [bare(file.read_text()) for file in sorted(ROOT.glob("crates/*_tests/src/*.rt"))]
     failures = passed = 0
@@ -35,6 +46,13 @@ def main():
             print(f"FAILED: {crate} has no example")
         failures += bool(wrong)
         passed += not wrong
+    rows = (ROOT / "docs/FORMATS.md").read_text().splitlines()
+    wanted = list(sentences())
+    missing = [it for it in wanted if it not in rows]
+    if missing or len(wanted) < 39:
+        print(f"FAILED: docs/FORMATS.md lacks sentences: {missing}")
+    failures += bool(missing) or len(wanted) < 39
+    passed += not missing
     print(f"{passed} passed, {failures} failed")
     return failures != 0
 

@@ -16,8 +16,7 @@ chmod 711 "$work"
 passed=0 failed=0 status=0 plain=()
 [ "$(id -u)" != 0 ] || plain=(setpriv --reuid=65534 --regid=65534 --clear-groups --)
 # The launcher finds these commands alone, so each can be taken away.
-env=$(type -P env)
-mkdir "$work/bin"
+env=$(type -P env) && mkdir "$work/bin"
 for name in bash cat chmod cmp cp cut dirname env find flock grep make mkdir mktemp mv nice readlink rm sed sha256sum sleep \
     sort tail tar tee tr xargs; do ln -s "$(type -P "$name")" "$work/bin/$name"; done
 
@@ -37,8 +36,8 @@ make_case() {
     chmod +x "$kit/bin/"* "$checkout/tools/check_"*
     add low unused pdb_cli
     mv "$checkout/crates/pdb_cli/src/"{lib,main}.rt
-    mkdir -p "$checkout/crates/low/"{specs,must-fail}
-    echo 'Low : ℕ' | tee "$checkout/crates/low/"{README.md,specs/Low.antt,must-fail/x.edit} >"$checkout/crates/pdb_cli/stdin"
+    mkdir -p "$checkout/crates/low/"{specs,proofs,must-fail}
+    echo 'Low : ℕ' | tee "$checkout/crates/low/"{README.md,{specs,proofs}/Low.antt,must-fail/x.edit} >"$checkout/crates/pdb_cli/stdin"
     printf '%s\n' '# A library.' low: 'unused: low' 'pdb_cli: low hex' >"$checkout/crates.txt"
     echo 'Handles allowed: none.' >"$checkout/HANDLES"
     touch -d '2 hours ago' "$place/old.rt"
@@ -107,6 +106,7 @@ for_rows() {
 rows='same_size | low LOW | ran low pdb_cli
 same_size_and_time | touch -r crates/low/src/lib.rt x; low LOW; touch -r x crates/low/src/lib.rt | ran low pdb_cli
 definition | echo "Low : ℤ" >crates/low/specs/Low.antt | ran low pdb_cli
+proof | echo "Low : ℤ" >crates/low/proofs/Low.antt | ran low pdb_cli
 main_file | echo "fn more" >>crates/pdb_cli/src/main.rt | ran pdb_cli
 added_file | echo "fn added" >crates/low/src/added.rt | ran low pdb_cli
 removed_file | rm crates/low/specs/Low.antt | ran low pdb_cli
@@ -183,8 +183,7 @@ try_built() {
     start && check "$1: once more" "$([ "$status" = 0 ] && echo 'is_run && [ "$(calls begins)" = 0 ]' || echo "$3")"
 }
 for_rows build "$rows"$'\nstreams\nquick\nfailed'
-wait && sleep 4
-# This start takes more than a minute, and is looked at last.
+wait && sleep 4 # The next start takes more than a minute, and is looked at last.
 make_case minute 'add_more; order hold_left hold_right' && start_beside
 slow=$going minute=$SECONDS
 for_rows try_built "$rows"
@@ -195,6 +194,7 @@ for i in {10..19}; do
     { low "$i" && start && is_run && low "x$i" && low "$i" && start && is_run; } || stale=1
 done
 check 'edits in quick turn are each seen' '[ "$stale.$(calls "low begins")" = 0.10 ]'
+words=(--version) && start && check 'the version has a digest' 'grep -Eqx "sources and kit [0-9a-f]{64}" "$at/stdout"'
 
 # First starts.
 try_first() {

@@ -86,9 +86,11 @@ class Program:
         (self.folder / name).write_bytes(data)
 
     def run(self, *words, given=b""):
-        """The status and what is written; what goes to standard error counts as written."""
+        """The status and what is written; what goes to standard error counts as written, but for a sentence that says why the
+        answer is no yes."""
         ended = subprocess.run([self.path, *words], cwd=self.folder, input=given, capture_output=True)
-        return ended.returncode, ended.stdout + ended.stderr
+        says_why = ended.returncode and re.fullmatch(rb"pdb_cli: .*\n", ended.stderr)
+        return ended.returncode, ended.stdout + (b"" if says_why else ended.stderr)
 
     def table(self, name, side, mask):
         self.keep(name, subprocess.check_output([self.folder / "plain_table", str(side), str(mask)]))

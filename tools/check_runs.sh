@@ -13,52 +13,7 @@
 set -uo pipefail
 
 root=$(dirname "$(dirname "$(readlink -f "${BASH_SOURCE[0]}")")")
-if [ "$#" -gt 1 ]; then
-    echo 'usage: tools/check_runs.sh [PROGRAM]' >&2
-    exit 2
-fi
-program=$(readlink -f "${1-$root/pdb_cli}")
-if ! "$program" --help >/dev/null; then
-    echo "there is no program to run: $program --help fails" >&2
-    exit 2
-fi
-# The program itself, where bash's own need of memory is not to count.
-bare=${1+$program}
-bare=${bare:-$root/out/pdb_cli}
-
-work=$(mktemp -d) || exit 2
-trap 'rm -r "$work"' EXIT
-mkdir "$work/files"
-cd "$work/files" || exit 2
-passed=0
-failed=0
-input=/dev/null
-
-# Runs the program with these words, and keeps what it writes and its status.
-run() {
-    status=0
-    "$program" "$@" <"$input" >"$work/output" 2>"$work/errors" || status=$?
-}
-
-# Counts a check, whose name is $1, by the status of the words behind it.
-check() {
-    local name=$1
-    shift
-    if "$@"; then
-        passed=$((passed + 1))
-        return
-    fi
-    failed=$((failed + 1))
-    printf 'FAILED: %s: status %s; standard output: %s; standard error: %s\n' \
-        "$name" "$status" "$(head -c 400 "$work/output" | tr '\n' '|')" "$(head -c 400 "$work/errors" | tr '\n' '|')"
-}
-
-# Whether the run ended with status $1, wrote exactly the lines behind it, and nothing to standard error.
-wrote() {
-    local wanted=$1
-    shift
-    [ "$status" = "$wanted" ] && [ ! -s "$work/errors" ] && printf '%s\n' "$@" | cmp -s - "$work/output"
-}
+. "$root/tools/runs.sh"
 
 # Whether the run told a mistake in the words on standard error, and nothing on standard output.
 told_a_mistake() {
@@ -73,17 +28,10 @@ told_help() {
     [ "$status" = 0 ] && [ ! -s "$work/errors" ] && grep -q '^Usage: pdb_cli' "$work/output"
 }
 
-# A run with the words behind `:` must write these lines with this status: expect NAME STATUS LINE.. : WORD..
-expect() {
-    local name=$1 wanted=$2 lines=()
-    shift 2
-    while [ "$1" != : ]; do
-        lines+=("$1")
-        shift
-    done
-    shift
-    run "$@"
-    check "$name" wrote "$wanted" "${lines[@]}"
+# Whether the run told the version, by the launcher below the digest of what it was built of.
+told_the_version() {
+    [ "$status" = 0 ] && [ ! -s "$work/errors" ] &&
+        [ "$(grep -Evx 'sources and kit [0-9a-f]{64}' "$work/output")" = 'pdb_cli 0.2.0' ]
 }
 
 # The same of a puzzle text, once as a file and once on standard input: puzzle TEXT STATUS LINE
@@ -101,13 +49,6 @@ bytes() {
     for number in $1; do
         printf '%b' "\\x$number"
     done
-}
-
-# A table file must be answered by its digest and this line: table NAME STATUS LINE WORD..
-table() {
-    local digest
-    digest=$(sha256sum <"$1")
-    expect "table $1 ${*:4}" "$2" "sha256 ${digest%% *}" "$3" : table "$1" "${@:4}"
 }
 
 #
@@ -214,7 +155,12 @@ run prove --help
 check 'the help of prove speaks of claims, their answers, no log, and the statuses' told 'CLAIMS has a claim a line' \
     'BOARD ; MOVES' 'BOARD : N' 'bound N of BOARD' 'optimal N of BOARD ; MOVES' 'No log is needed' \
     'Status: 0 yes, 1 refused, 2 bad words or a read or write fault, 3 no memory.'
-for words in rplay 'replay a b' 'replay --workers 2' 'replay --workers 2 solved' table 'table a b' --version --workers \
+for words in --version -V '--version table' '-V --help'; do
+    # shellcheck disable=SC2086
+    run $words
+    check "the version by $words" told_the_version
+done
+for words in rplay 'replay a b' 'replay --workers 2' 'replay --workers 2 solved' table 'table a b' --workers \
     '--workers 2 table F1' 'table --none F1' 'table F1 --workers' 'table F1 --workers 2 --workers 2' -x 'replay -x' \
     'table F1 --workers 0' 'table F1 --workers 65' 'table F1 --workers x' 'table F1 --workers -1' 'table F1 --workers 1.5' \
     'table F1 --workers 256' 'table F1 --workers 18446744073709551617' bound 'bound b' 'bound b s' 'bound b s l' \
@@ -226,23 +172,47 @@ for words in rplay 'replay a b' 'replay --workers 2' 'replay --workers 2 solved'
     'table F1 --fold' 'replay solved --fold' 'make-table 2 14 o --fold' --fold 'bound b s l --fold' 'bound b s l t --fold=1' \
     'optimal p s l t --fold --fold' 'solve b s o --fold' prove 'prove c' 'prove c s' 'prove - s' 'prove c s t --budget 0' \
     'prove c s t --budget x' 'prove --budget 1000000000001 c s t' 'prove c s t --budget' 'prove c s t --workers 0' \
-    'prove --workers 65 c s t' 'prove c s t --none' 'prove c s --fold' 'prove c s t --fold --fold'; do
+    'prove --workers 65 c s t' 'prove c s t --none' 'prove c s --fold' 'prove c s t --fold --fold' \
+    'table --version' 'solve -V' --version=1 'make-table 2 1e o' 'make-table 2 0x o' 'make-table 2 0x1g o' \
+    'make-table 2 0x+e o' 'make-table 2 0X1e o' 'make-table 2 0x100000000 o' 'make-table 2 tiles: o' \
+    'make-table 2 tiles o' 'make-table 2 tiles:1, o' 'make-table 2 tiles:1,,2 o' 'make-table 2 tiles:2,2 o' \
+    'make-table 2 tiles:01 o' 'make-table 2 tiles:32 o' 'make-table 2 1,2 o' 'make-table 2 tiles:1 o p'; do
     # shellcheck disable=SC2086
     run $words
     check "the mistake in $words" told_a_mistake
 done
+# A mistake in a mask is told with this: no_mask MASK TEXT
+no_mask() {
+    run make-table 2 "$1" made
+    check "the mistake in the mask $1" told_a_mistake
+    check "what is wrong with the mask $1" grep -qxF -- "error: invalid value '$1' for '<MASK>': $2" "$work/errors"
+}
+no_mask 4294967296 '4294967296 is not in 0..=4294967295'
+no_mask x 'a mask is a number from 0 to 4294967295, as 30 or 0x1e, or its tiles, as tiles:1,2,3,4'
+no_mask '' 'a mask is a number from 0 to 4294967295, as 30 or 0x1e, or its tiles, as tiles:1,2,3,4'
+no_mask 0xg 'hexadecimal digits write a number up to 0xffffffff, as 0x1e'
+no_mask tiles:3,3 'tiles are numbers from 0 to 31, none twice, with commas between them, as tiles:1,2,3,4'
+run make-table 2 $'\e[2K\x7f' made
+check 'escape codes in a mask' grep -qF "invalid value '?[2K?' for" "$work/errors"
+run table F1 --workers $'\e]0;é\a'
+check 'escape codes in another word' grep -qF "invalid value '?]0;???' for" "$work/errors"
 run ''
 check 'the mistake in an empty word' told_a_mistake
 run 'replay solved'
 check 'the mistake in two words as one' told_a_mistake
 run table F1 --workers ''
 check 'the mistake in no workers' told_a_mistake
-run $'\xff'
-check 'a command that is no UTF-8' told_a_mistake_and_usage
-run replay $'solved\xff'
-check 'a name that is no UTF-8' told_a_mistake_and_usage
-run table F1 --workers $'\xc3'
-check 'workers that are no UTF-8' told_a_mistake_and_usage
+# A word that is no UTF-8 is told by its number: unreadable NUMBER WORD..
+unreadable() {
+    run "${@:2}"
+    check "a word $1 that is no UTF-8" told_a_mistake_and_usage
+    check "which word is no UTF-8: word $1" grep -qxF "error: word $1 is no UTF-8 text" "$work/errors"
+}
+unreadable 1 $'\xff'
+unreadable 2 replay $'solved\xff'
+unreadable 4 table F1 --workers $'\xc3'
+unreadable 2 table $'\xff' --workers $'\xc3'
+unreadable 3 table "$(head -c 131000 /dev/zero | tr '\0' x)" $'\xed\xa0\x80'
 
 #
 # Streams.
@@ -743,7 +713,7 @@ echo 'no memory' >"$work/no_memory"
 
 # Whether the run wrote `no memory` with status 3, or its own answer.
 lacked_memory_or_not() {
-    [ ! -s "$work/errors" ] || return 1
+    told_at_most_why || return 1
     case $status in
     "$own_status") cmp -s "$work/output" "$work/own_answer" ;;
     3) cmp -s "$work/output" "$work/no_memory" ;;
@@ -818,7 +788,7 @@ rm hard_claim
 
 # Whether the run gave its own answer.
 same_answer() {
-    [ "$status" = "$own_status" ] && [ ! -s "$work/errors" ] && cmp -s "$work/output" "$work/own_answer"
+    [ "$status" = "$own_status" ] && told_at_most_why && cmp -s "$work/output" "$work/own_answer"
 }
 
 same_line_and_status() {
@@ -999,13 +969,18 @@ made() {
 
 made F123 'exact side 2 mask 14 entries 24 unreachable 12 deepest 6' 2 14
 made F12 'exact side 2 mask 6 entries 24 unreachable 8 deepest 4' 2 6
-made F24 'exact side 5 mask 16777216 entries 50 unreachable 0 deepest 8' 5 16777216
+for mask in 0xe 0x0E tiles:1,2,3 tiles:3,1,2; do
+    made F123 'exact side 2 mask 14 entries 24 unreachable 12 deepest 6' 2 "$mask"
+done
+for mask in 16777216 0x1000000 tiles:24; do
+    made F24 'exact side 5 mask 16777216 entries 50 unreachable 0 deepest 8' 5 "$mask"
+done
 for workers in 1 2 7; do
     made all_of_side_3 'exact side 3 mask 510 entries 362880 unreachable 181440 deepest 31' 3 510 --workers "$workers"
 done
 rm -f made
 names_before=$(names_of)
-for numbers in '2 1' '6 2' '2 0' '2 15' '5 254' '0 0' '255 4294967295'; do
+for numbers in '2 1' '6 2' '2 0' '2 15' '5 254' '0 0' '255 4294967295' '2 0x0' '5 0xffffffff' '2 tiles:0,1' '2 tiles:4' '5 tiles:31'; do
     # shellcheck disable=SC2086
     expect "make-table $numbers" 1 'refused K4' : make-table $numbers made
     check "make-table $numbers keeps nothing" only_new
@@ -1089,7 +1064,9 @@ echo '0 15 14 13 12 11 10 9 8 7 6 5 4 3 1 2' >far_board
 run make-table 4 2 tile_1
 mkdir "$work/a_folder"
 mkfifo a_pipe
-too_long=$(printf 'n%.0s' {1..249})
+too_long=$(printf 'n%.0s' {1..256})
+ln -s F12 a_link
+ln -s none a_loose_link
 names_before=$(names_of)
 
 # A run with these words must tell so of OUT alone, within ten seconds: unwritable OUT WORD..
@@ -1100,7 +1077,8 @@ unwritable() {
     timeout 10 "$program" "$@" </dev/null >"$work/output" 2>"$work/errors" || status=$?
     check "'$out' can not be written by $1" wrote 2 "fault write $out"
 }
-for out in no_folder/made F12/made "$work/a_folder" "$work/a_folder/" . /dev/full /dev/null a_pipe /proc/made "$too_long" ''; do
+for out in no_folder/made F12/made "$work/a_folder" "$work/a_folder/" . /dev/full /dev/null /dev/stdout a_pipe a_link a_loose_link \
+    /proc/made "$too_long" ''; do
     unwritable "$out" make-table 5 126 "$out" --workers 4
     unwritable "$out" solve far_board one_set "$out" tile_1 --budget 1000000000000
     unwritable "$out" solve far_board one_set "$out" tile_1 --budget 1000000000000 --fold
@@ -1115,7 +1093,26 @@ if [ "$(id -u)" != 0 ]; then
     chmod u+w "$work/a_folder"
 fi
 check 'the folder is as it was' [ -z "$(ls -A "$work/a_folder")" ]
-rm far_board tile_1 a_pipe
+check 'a link stays, and what it leads to' cmp -s a_link F12
+check 'a link stays a link' [ "$(readlink a_link) $(readlink a_loose_link)" = 'F12 none' ]
+rm far_board tile_1 a_pipe a_link a_loose_link
+
+# Names up to the limit of the system, and modes.
+for out in "${too_long:1}" "$(printf 'é%.0s' {1..127})" "./${too_long:1}" "a${too_long:10}"; do
+    names_before=$(names_of)
+    run make-table 2 6 "$out"
+    check "make-table under a name of ${#out} letters" cmp -s "$out" F12
+    check "make-table under a name of ${#out} letters leaves nothing else" only_new "${out#./}"
+    rm -f "$out"
+done
+for mode in 600 444 755; do
+    echo 'what stood here' >made
+    chmod "$mode" made
+    run make-table 2 6 made
+    check "a file that is replaced keeps its mode $mode" [ "$(stat -c %a made)" = "$mode" ]
+    check "a file of mode $mode is replaced" cmp -s made F12
+    rm -f made
+done
 
 # Files of a user's own under the names of temporary files stay.
 cp F12 made.unkept
@@ -1263,6 +1260,16 @@ for words in '' '--budget 1000000'; do
     expect "solve far_board $words" 1 "sha256 ${digest%% *}" 'refused K1' : solve far_board one_set made three_of_side_3 $words
 done
 
+# The sizes that users have. Its own checks count too.
+status=0
+"$root/tools/check_sizes.sh" "$bare" >"$work/output" 2>"$work/errors" || status=$?
+grep '^FAILED' "$work/output"
+check 'tables, claims and logs at the sizes that users have' [ "$status" = 0 ]
+if [[ $(tail -n 1 "$work/output") =~ ^([0-9]+)\ passed,\ ([0-9]+)\ failed$ ]]; then
+    passed=$((passed + BASH_REMATCH[1]))
+    failed=$((failed + BASH_REMATCH[2]))
+fi
+
 #
 # Logs of many lemmas.
 #
@@ -1348,7 +1355,7 @@ check 'the lines of 1,000 runs at once do not mix' cmp -s "$work/counted" "$work
 cat >"$work/writes.py" <<'END'
 import os, subprocess, sys
 ends = os.pipe2(os.O_DIRECT)
-subprocess.run(sys.argv[1:], stdin=subprocess.DEVNULL, stdout=ends[1])
+subprocess.run(sys.argv[1:], stdin=subprocess.DEVNULL, stdout=ends[1], stderr=subprocess.DEVNULL)
 os.close(ends[1])
 packets = list(iter(lambda: os.read(ends[0], 1 << 16), b""))
 print(len(packets))

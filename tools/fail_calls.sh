@@ -115,7 +115,8 @@ judge() {
     local lines=()
     mapfile -t lines <"$work/output"
     told='something else'
-    [ ! -s "$work/errors" ] || return
+    # A sentence that says why may be wanting.
+    ! grep -qv '^pdb_cli: ' "$work/errors" || return
     if cmp -s "$work/output" "$work/own_answer"; then
         told='its own answer'
         has_left "$1" after

@@ -41,7 +41,8 @@ run() {
     rm -rf "$work/files" && cp -a "$work/given" "$work/files"
     (cd "$work/files" && REFUSE=$1 LD_PRELOAD=$work/refuse_memory.so exec "$program" "${@:2}") \
         <"$work/input" >"$work/output" 2>"$work/errors" 9>"$work/refused" || status=$?
-    { cat "$work/errors" && list_end "$status"; } >>"$work/output"
+    # A sentence that says why may be wanting where memory is.
+    { sed '/^pdb_cli: /d' "$work/errors" && list_end "$status"; } >>"$work/output"
 }
 
 run 0 "$@"

@@ -324,7 +324,7 @@ def log_checked(draw, number):
 
 def kept_under(draw, files):
     """A name to keep under, and the files with what may stand there already, or under the name of a temporary file."""
-    unkept = ["no_folder/made", "no\x1bfolder/a", "taken/made", "/dev/full", ".", "", "n" * 249]
+    unkept = ["no_folder/made", "no\x1bfolder/a", "taken/made", "/dev/full", ".", "", "n" * 256]
     out = draw.choice(["made"] * 8 + ["taken"] * 3 + ["two words", "a\nb"] + unkept)
     if files and draw.random() < 0.1:
         out = draw.choice(list(files))
@@ -448,6 +448,9 @@ class Program:
         written, errors = (folder / ".out").read_bytes(), (folder / ".err").read_bytes()
         left = {path.name: path.read_bytes() for path in folder.iterdir() if path.name not in STREAMS}
         shutil.rmtree(folder)
+        if status and re.fullmatch(rb"pdb_cli: .*\n", errors):
+            # It says why the answer is no yes.
+            errors = b""
         return Ended(written, status, left, MISTAKE if errors.startswith(MISTAKE) else errors)
 
     def ended_alone(self, run):

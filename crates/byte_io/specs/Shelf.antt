@@ -1,7 +1,9 @@
 -- A shelf: the bytes that stand under names, as files do.
-use Rattle.std.specs.Prelude.{◌≡◌, ◌≢◌, ℕ, List, Option, Some, None, fold, if◌then◌else◌, option_map}
+use Rattle.std.specs.Prelude.{◌≡◌, ◌≢◌, ℕ, List, [], ◌∷◌, ◌++◌, Option, Some, None, Result, Ok, Err, fold, if◌then◌else◌, option_map}
 use Rattle.std.specs.Borrow.{Bor}
 use Rattle.std.specs.Str.{bytes_eq}
+use Rattle.byte_io.specs.declared.shelf.KeepFault.{KeepFault}
+use Rattle.byte_io.specs.declared.streams.ReadFault.{ReadFault}
 
 -- bytes, each a number below 256; a name is the bytes of its text
 abbrev pub Bytes : Type 0
@@ -30,3 +32,21 @@ told_with files name bytes = option_map (λ told. with_file told name bytes) fil
 -- what is told of each other name is the same; of this one nothing is said
 abbrev pub KeepsOthers : Option Files → Option Files → Bytes → Type 0
 KeepsOthers old new name = (other : Bytes) → other ≢ name → option_map (λ told. told other) new ≡ option_map (λ told. told other) old
+
+-- ---- the calls on a shelf
+
+-- what is under a name was to be loaded, the name was tried, or bytes were to be kept under it; and the fault of that, where there
+-- was one
+pub data Call : Type 0 where
+  loads : Bytes → Option ReadFault → Call
+  tries : Bytes → Option KeepFault → Call
+  keeps : Bytes → Option KeepFault → Call
+
+-- the fault that a call answers, if any
+abbrev pub fault_of : {A F : Type 0} → Result A F → Option F
+fault_of (Ok answer) = None
+fault_of (Err fault) = Some fault
+
+-- told calls, and this one behind them
+abbrev pub told_then : Option (List Call) → Call → Option (List Call)
+told_then calls call = option_map (λ told. told ++ call ∷ []) calls

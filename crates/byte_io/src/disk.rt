@@ -5,13 +5,17 @@ ghost use Rattle.std.specs.Prelude.{◌≡◌, None, false};
 use crate::shelf::{KeepFault, Shelf};
 use crate::streams::{ReadFault, WriteFault, put_bytes, read_said};
 use std::alloc::{AllocError, Global};
-use std::fs::{File, OpenFile, OpenOptions};
+use std::fs::{File, OpenFile, OpenOptions, Permissions};
 use std::io::ErrorKind;
 use std::rt::Files;
 use std::{fs, io};
 
 /// How many names are tried for the temporary file of a name, until nothing stands under one.
 const TEMPORARY_NAMES: u16 = 1_000;
+
+/// How many bytes of a file's own name its temporary file has in its name. The system takes 255, and this leaves room for an
+/// ending.
+const MOST_NAME: usize = 240;
 
 /// The files of the system, by their paths. It tells no bytes: what is said of a file speaks of the bytes that were read.
 #[derive(Drop)]
@@ -36,6 +40,8 @@ impl<R: Files> Shelf for DiskShelf<'_, R> {
     ghost held = { λ _. None };
 
     ghost has_failed = { λ shelf. shelf.has_failed };
+
+    ghost calls = { λ _. None };
 
     fn load(&mut self, alloc: Global, name: &str, limit: u64) -> Result<Vec<u8>, ReadFault> {
         let result = match File::open(self.files, name) {
@@ -81,10 +87,19 @@ fn said_size<F: OpenFile>(file: &F) -> u64 {
     }
 }
 
+/// A file that is to stand under a name once it is whole.
+#[derive(Drop)]
+struct Temporary<F> {
+    file: F,
+    name: String,
+    /// The mode of what stands under that name, where that is told.
+    mode: Option<Permissions>,
+}
+
 /// Makes the temporary file of a name, and removes it.
 fn make_and_remove<R: Files>(alloc: Global, files: &R, name: &str) -> Result<(), KeepFault> {
-    let (_file, temporary) = make_temporary(alloc, files, name)?;
-    match fs::remove_file(files, temporary.as_str()) {
+    let made = make_temporary(alloc, files, name)?;
+    match fs::remove_file(files, made.name.as_str()) {
         Ok(()) => Ok(()),
         Err(_) => Err(KeepFault::F3),
     }
@@ -93,31 +108,37 @@ fn make_and_remove<R: Files>(alloc: Global, files: &R, name: &str) -> Result<(),
 /// Puts bytes in the place of a plain file, or where nothing stands. At each moment the name has what it had or all of
 /// these bytes, since a file gets it only when it is whole.
 fn replace<R: Files>(alloc: Global, files: &R, name: &str, bytes: &[u8]) -> Result<(), KeepFault> {
-    let (file, temporary) = make_temporary(alloc, files, name)?;
-    match fill_and_rename(files, file, bytes, temporary.as_str(), name) {
+    let mut made = make_temporary(alloc, files, name)?;
+    match fill_and_rename(files, &mut made, bytes, name) {
         Ok(()) => Ok(()),
         Err(_) => {
-            let _ = fs::remove_file(files, temporary.as_str());
+            let _ = fs::remove_file(files, made.name.as_str());
             Err(KeepFault::F3)
         }
     }
 }
 
-/// Makes a temporary file for what is to stand under a name, beside it, and gives its own name. Nothing stood there, so the
-/// file is this run's: what others have made stays, be it a user's, another run's, or what was left over by one that was
-/// stopped.
+/// Makes a temporary file for what is to stand under a name, beside it. Nothing stood there, so the file is this run's: what
+/// others have made stays, be it a user's, another run's, or what was left over by one that was stopped.
 fn make_temporary<R: Files>(
     alloc: Global,
     files: &R,
     name: &str,
-) -> Result<(R::File, String), KeepFault> {
-    if name.is_empty() || is_no_file(files, name) {
+) -> Result<Temporary<R::File>, KeepFault> {
+    if name.is_empty() {
         return Err(KeepFault::F3);
     }
+    let mode = mode_of(files, name)?;
     for number in 0..TEMPORARY_NAMES {
         let temporary = temporary_name(alloc, name, number)?;
         match create_new(files, temporary.as_str()) {
-            Ok(file) => return Ok((file, temporary)),
+            Ok(file) => {
+                return Ok(Temporary {
+                    file,
+                    name: temporary,
+                    mode,
+                });
+            }
             Err(error) if error.kind() == ErrorKind::AlreadyExists => {}
             Err(_) => return Err(KeepFault::F3),
         }
@@ -125,18 +146,39 @@ fn make_temporary<R: Files>(
     Err(KeepFault::F3)
 }
 
-/// Whether something else stands under a name than a plain file, as a folder, a pipe or a device.
-fn is_no_file<R: Files>(files: &R, name: &str) -> bool {
-    matches!(fs::metadata(files, name), Ok(data) if !data.is_file())
+/// The mode of the plain file under a name, where there is one and the system tells it. Where something else stands there, as a
+/// link, a folder, a pipe or a device, or the name is too long, nothing can be kept under it.
+fn mode_of<R: Files>(files: &R, name: &str) -> Result<Option<Permissions>, KeepFault> {
+    match fs::symlink_metadata(files, name) {
+        Ok(data) if data.is_file() => Ok(Some(data.permissions())),
+        Ok(_) => Err(KeepFault::F3),
+        Err(error) if error.kind() == ErrorKind::InvalidFilename => Err(KeepFault::F3),
+        Err(_) => Ok(None),
+    }
 }
 
-/// The temporary file's name of this number: `NAME.unkept`, and then `NAME.1.unkept`, `NAME.2.unkept` and so on.
+/// The temporary file's name of this number: `NAME.unkept`, and then `NAME.1.unkept`, `NAME.2.unkept` and so on. A long name is
+/// cut.
 fn temporary_name(alloc: Global, name: &str, number: u16) -> Result<String, AllocError> {
+    let name = short_name(name);
     if number == 0 {
         format!(in alloc; "{name}.unkept")
     } else {
         format!(in alloc; "{name}.{number}.unkept")
     }
+}
+
+/// A name of which the part behind the last `/` is cut where it is long.
+fn short_name(name: &str) -> &str {
+    let folder = name.rfind('/').map_or(0, |at| at.saturating_add(1));
+    let end = folder.saturating_add(MOST_NAME);
+    // A letter has at most four bytes, so one of four places is between two letters.
+    for back in 0..4 {
+        if let Some(short) = name.get(..end.saturating_sub(back)) {
+            return short;
+        }
+    }
+    name
 }
 
 /// Makes a file where nothing stands.
@@ -147,16 +189,19 @@ fn create_new<R: Files>(files: &R, name: &str) -> io::Result<R::File> {
         .open(files, name)
 }
 
-/// Writes a file whole, down to its device, and then gives it another name.
+/// Writes a temporary file whole, down to its device, and then gives it another name.
 fn fill_and_rename<R: Files>(
     files: &R,
-    mut file: R::File,
+    made: &mut Temporary<R::File>,
     bytes: &[u8],
-    from: &str,
     to: &str,
 ) -> Result<(), WriteFault> {
-    put_bytes(&mut file, bytes)?;
-    file.sync_all()?;
-    fs::rename(files, from, to)?;
+    put_bytes(&mut made.file, bytes)?;
+    made.file.sync_all()?;
+    if let Some(mode) = made.mode.take() {
+        // Not each system has modes.
+        let _ = fs::set_permissions(files, made.name.as_str(), mode);
+    }
+    fs::rename(files, made.name.as_str(), to)?;
     Ok(())
 }

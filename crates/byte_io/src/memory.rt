@@ -64,6 +64,8 @@ impl Shelf for MemShelf {
 
     ghost has_failed = { λ shelf. shelf.has_failed };
 
+    ghost calls = { λ _. None };
+
     fn load(&mut self, alloc: Global, name: &str, limit: u64) -> Result<Vec<u8>, ReadFault>
         ensures found { IfOk result (λ bytes. files_in self.old name.now ≡ Some bytes.items) }
         ensures fits { IfOk result (λ bytes. length bytes.items ≤ limit) }

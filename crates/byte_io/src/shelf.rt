@@ -1,7 +1,7 @@
 //! Named bytes.
 
-ghost use Rattle.std.specs.Prelude.{◌≡◌, ◌<◌, ◌≤◌, Option, Bool, Some, true, length, IfOk, OnOk, OnErr, IfSome, IsErrOf, IsSomeAnd};
-ghost use Rattle.byte_io.specs.Shelf.{Files, KeepsOthers, told_with};
+ghost use Rattle.std.specs.Prelude.{◌≡◌, ◌<◌, ◌≤◌, List, Option, Bool, Some, true, length, IfOk, OnOk, OnErr, IfSome, IsErrOf, IsSomeAnd};
+ghost use Rattle.byte_io.specs.Shelf.{Call, Files, KeepsOthers, fault_of, keeps, loads, told_then, told_with, tries};
 
 use crate::streams::ReadFault;
 use std::alloc::{AllocError, Global};
@@ -33,6 +33,9 @@ pub trait Shelf {
     /// Whether its device has failed.
     ghost has_failed: { Self → Bool };
 
+    /// The calls on it so far, in their order, where the shelf tells them.
+    ghost calls: { Self → Option (List Call) };
+
     /// The bytes under a name, which are at most so many. A name that isn't there is a failure of the device too.
     fn load(&mut self, alloc: Global, name: &str, limit: u64) -> Result<Vec<u8>, ReadFault>
         ensures found { IfOk result
@@ -43,7 +46,9 @@ pub trait Shelf {
         ensures same { held self.new ≡ held self.old }
         ensures failed { IsErrOf result ReadFault.F1 → has_failed self.new ≡ true }
         ensures calm { (IsErrOf result ReadFault.F1 → ⊥)
-            → has_failed self.new ≡ has_failed self.old };
+            → has_failed self.new ≡ has_failed self.old }
+        ensures told { let call = loads name.now (fault_of result) in
+            calls self.new ≡ told_then (calls self.old) call };
 
     /// Tries whether bytes can be kept under a name, and leaves all files as they are. That they can promises nothing of a
     /// later `keep`.
@@ -51,7 +56,9 @@ pub trait Shelf {
         ensures same { held self.new ≡ held self.old }
         ensures failed { IsErrOf result KeepFault.F3 → has_failed self.new ≡ true }
         ensures calm { (IsErrOf result KeepFault.F3 → ⊥)
-            → has_failed self.new ≡ has_failed self.old };
+            → has_failed self.new ≡ has_failed self.old }
+        ensures told { let call = tries name.now (fault_of result) in
+            calls self.new ≡ told_then (calls self.old) call };
 
     /// Puts these bytes under a name, in the place of what stood there. What the name holds after a fault is open.
     fn keep(&mut self, alloc: Global, name: &str, bytes: &[u8]) -> Result<(), KeepFault>
@@ -59,7 +66,9 @@ pub trait Shelf {
         ensures others { OnErr result (KeepsOthers (held self.old) (held self.new) name.now) }
         ensures failed { IsErrOf result KeepFault.F3 → has_failed self.new ≡ true }
         ensures calm { (IsErrOf result KeepFault.F3 → ⊥)
-            → has_failed self.new ≡ has_failed self.old };
+            → has_failed self.new ≡ has_failed self.old }
+        ensures told { let call = keeps name.now (fault_of result) in
+            calls self.new ≡ told_then (calls self.old) call };
 
     /// Whether its device has failed.
     fn failed(&self) -> bool

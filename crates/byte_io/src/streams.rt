@@ -57,6 +57,8 @@ pub fn read_all<R: Source>(alloc: Global, reader: &mut R, limit: u64) -> Result<
     ensures failed { IsErrOf result ReadFault.F1 → R.may_have_failed reader.new ≡ true }
     ensures calm { (IsErrOf result ReadFault.F1 → ⊥)
         → R.may_have_failed reader.new ≡ R.may_have_failed reader.old }
+    ensures ended { OnOk result (R.may_have_ended reader.new ≡ true) }
+    ensures open { OnErr result (R.may_have_ended reader.new ≡ R.may_have_ended reader.old) }
 {
     read_sized(alloc, reader, limit, 0)
 }
@@ -76,6 +78,8 @@ pub fn read_sized<R: Source>(
     ensures failed { IsErrOf result ReadFault.F1 → R.may_have_failed reader.new ≡ true }
     ensures calm { (IsErrOf result ReadFault.F1 → ⊥)
         → R.may_have_failed reader.new ≡ R.may_have_failed reader.old }
+    ensures ended { OnOk result (R.may_have_ended reader.new ≡ true) }
+    ensures open { OnErr result (R.may_have_ended reader.new ≡ R.may_have_ended reader.old) }
 {
     read_watched(alloc, &mut Watched::new(reader), limit, size)
 }
@@ -97,6 +101,8 @@ pub fn read_said<R: Source>(
     ensures failed { IsErrOf result ReadFault.F1 → R.may_have_failed reader.new ≡ true }
     ensures calm { (IsErrOf result ReadFault.F1 → ⊥)
         → R.may_have_failed reader.new ≡ R.may_have_failed reader.old }
+    ensures ended { OnOk result (R.may_have_ended reader.new ≡ true) }
+    ensures open { OnErr result (R.may_have_ended reader.new ≡ R.may_have_ended reader.old) }
 {
     if limit < size {
         return Err(ReadFault::F2);
@@ -127,6 +133,9 @@ pub fn read_watched<R: Source>(
         → R.may_have_failed reader.new.stream.now ≡ true }
     ensures calm_inside { let old = R.may_have_failed reader.old.stream.now in
         (IsErrOf result ReadFault.F1 → ⊥) → R.may_have_failed reader.new.stream.now ≡ old }
+    ensures ended_inside { OnOk result (R.may_have_ended reader.new.stream.now ≡ true) }
+    ensures open_inside { let old = R.may_have_ended reader.old.stream.now in
+        OnErr result (R.may_have_ended reader.new.stream.now ≡ old) }
 {
     // One byte more shows the end without more memory.
     let room = if size == 0 {
@@ -192,6 +201,12 @@ fn read_behind<R: Source>(
     ensures calm_inside { let old = R.may_have_failed reader.old.stream.now in
         OnOk result (R.may_have_failed reader.new.stream.now ≡ old) }
     ensures failed_inside { OnErr result (R.may_have_failed reader.new.stream.now ≡ true) }
+    ensures more_inside { let old = R.may_have_ended reader.old.stream.now in
+        IfOk result (λ count. 0 < count → R.may_have_ended reader.new.stream.now ≡ old) }
+    ensures ended_inside { let new = R.may_have_ended reader.new.stream.now in
+        IfOk result (λ count. count ≡ 0 → new ≡ true) }
+    ensures stopped_inside { let old = R.may_have_ended reader.old.stream.now in
+        OnErr result (R.may_have_ended reader.new.stream.now ≡ old) }
 {
     reader.read_once(&mut bytes[filled..])
 }

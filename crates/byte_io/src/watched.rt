@@ -9,13 +9,14 @@ use crate::sinks::Sink;
 use crate::sources::Source;
 use std::io;
 
-/// A reader or a writer that notes how often it was read or written, and whether it failed: by an error, or by a
-/// write that took nothing of some bytes.
+/// A reader or a writer that notes how often it was read or written, whether it failed: by an error, or by a
+/// write that took nothing of some bytes; and whether a read met its end, which gives no bytes where there is room for some.
 #[derive(Drop)]
 pub struct Watched<'a, S> {
     pub(crate) stream: &'a mut S,
     pub(crate) calls: u64,
     pub(crate) has_failed: bool,
+    pub(crate) has_ended: bool,
 }
 
 impl<'a, S> Watched<'a, S> {
@@ -25,11 +26,13 @@ impl<'a, S> Watched<'a, S> {
         ensures as_it_was { result.stream.now ≡ stream.old }
         ensures uncalled { result.calls ≡ 0 }
         ensures calm { result.has_failed ≡ false }
+        ensures open { result.has_ended ≡ false }
     {
         Watched {
             stream,
             calls: 0,
             has_failed: false,
+            has_ended: false,
         }
     }
 
@@ -46,6 +49,13 @@ impl<'a, S> Watched<'a, S> {
     {
         self.has_failed
     }
+
+    /// Whether a read met the end.
+    pub fn has_ended(&self) -> bool
+        ensures { result ≡ self.now.has_ended }
+    {
+        self.has_ended
+    }
 }
 
 impl<R: Source> Source for Watched<'_, R> {
@@ -54,6 +64,8 @@ impl<R: Source> Source for Watched<'_, R> {
     ghost reads = { λ watched. watched.calls };
 
     ghost may_have_failed = { λ watched. watched.has_failed };
+
+    ghost may_have_ended = { λ watched. watched.has_ended };
 
     fn read_once(&mut self, buf: &mut [u8]) -> io::Result<usize>
         ensures bound { ReadsAtMost result buf.new }
@@ -68,11 +80,26 @@ impl<R: Source> Source for Watched<'_, R> {
         ensures calm_inside { let old = R.may_have_failed self.old.stream.now in
             OnOk result (R.may_have_failed self.new.stream.now ≡ old) }
         ensures failed_inside { OnErr result (R.may_have_failed self.new.stream.now ≡ true) }
+        ensures more { IfOk result (λ count. 0 < count → self.new.has_ended ≡ self.old.has_ended) }
+        ensures ended { IfOk result
+            (λ count. count ≡ 0 → 0 < length buf.new → self.new.has_ended ≡ true) }
+        ensures stopped { OnErr result (self.new.has_ended ≡ self.old.has_ended) }
+        ensures more_inside { let old = R.may_have_ended self.old.stream.now in IfOk result
+            (λ count. 0 < count → R.may_have_ended self.new.stream.now ≡ old) }
+        ensures ended_inside { let new = R.may_have_ended self.new.stream.now in IfOk result
+            (λ count. count ≡ 0 → 0 < length buf.new → new ≡ true) }
+        ensures stopped_inside { let old = R.may_have_ended self.old.stream.now in
+            OnErr result (R.may_have_ended self.new.stream.now ≡ old) }
     {
         self.calls = self.calls.saturating_add(1);
         let result = self.stream.read_once(buf);
-        if result.is_err() {
-            self.has_failed = true;
+        match &result {
+            Ok(count) => {
+                if *count == 0 && !buf.is_empty() {
+                    self.has_ended = true;
+                }
+            }
+            Err(_) => self.has_failed = true,
         }
         result
     }

@@ -1,5 +1,5 @@
 //! Tests of streams and shelves, and of a run's beginning and its end: that calls succeed, real files, and streams,
-//! shelves and files that fail on the way.
+//! shelves and files that fail on the way; and sentences that say why.
 #![tactic(auto)]
 
 #[cfg(test)]
@@ -12,6 +12,8 @@ mod calls;
 mod files;
 #[cfg(test)]
 mod keeping;
+#[cfg(test)]
+mod reasons;
 #[cfg(test)]
 mod runs;
 #[cfg(test)]

@@ -5,8 +5,8 @@ use byte_io::memory::MemShelf;
 use byte_io::shelf::Shelf;
 use byte_io::streams::ReadFault;
 use pdb_run::{
-    Answer, BorrowedIo, Command, Digested, Input, Status, keep_and_conclude, lines, load_all,
-    read_inputs, read_inputs_and_try,
+    Answer, BorrowedIo, Command, Digested, Input, Status, Unanswered, keep_and_conclude, lines,
+    load_all, read_inputs, read_inputs_and_try,
 };
 use sample_streams::{Failing, FailingShelf, SampleReader, SampleWriter, ShelfFault};
 use std::alloc::{AllocError, Global};
@@ -34,7 +34,7 @@ impl Command for WantsOne<'_> {
 
     ghost plan = { λ command. plan_under None
         (record { name = option_map (λ s. s.now) command.name; limit = 4 } ∷ [])
-        (λ _ _. ⊥) (λ _. ⊥) };
+        (λ _ _. ⊥) (λ _. ⊥) (λ _. ⊥) };
 
     fn inputs(&self, alloc: Global) -> Result<Vec<Input<'_>>, AllocError> {
         let mut inputs = Vec::new(alloc);
@@ -112,7 +112,8 @@ fn the_first_input_that_is_not_read_is_named(rt: HostRuntime) -> Result<(), Fail
             let mut reader = b"".as_slice();
             let mut out = SampleWriter::new(alloc);
             let mut io = io_over(&mut shelf, &mut reader, &mut out);
-            let loaded = load_all(alloc, &wanted, &mut io);
+            let room = Vec::with_capacity(alloc, wanted.len())?;
+            let loaded = load_all(alloc, &wanted, room, &mut io);
             let unread = loaded.err().ok_or("an input is not read")?;
             assert!(rt; unread.input.name == Some(name) && unread.why == why);
             assert_eq!(rt;
@@ -135,7 +136,7 @@ impl Command for Makes<'_> {
     ghost use Rattle.std.specs.Prelude.{⊤, [], Some};
     ghost use Rattle.pdb_run.specs.Commands.{plan_under};
 
-    ghost plan = { λ command. plan_under (Some command.out.now) [] (λ _ _. ⊤) (λ _. ⊤) };
+    ghost plan = { λ command. plan_under (Some command.out.now) [] (λ _ _. ⊤) (λ _. ⊤) (λ _. ⊤) };
 
     fn inputs(&self, alloc: Global) -> Result<Vec<Input<'_>>, AllocError> {
         Ok(Vec::new(alloc))
@@ -201,7 +202,7 @@ fn a_name_that_can_not_be_kept_under_ends_a_run(rt: HostRuntime) -> Result<(), F
 }
 
 /// Its answer where it made `abc`.
-fn makes_abc<'i>(alloc: Global, is_yes: bool) -> Result<Answer<'i>, AllocError> {
+fn makes_abc<'i>(alloc: Global, is_yes: bool) -> Result<Answer<'i>, Unanswered> {
     Ok(Answer {
         digested: Digested::Files(&[], Some(b"")),
         made: Some(b"abc".to_vec(alloc)?),
@@ -219,7 +220,7 @@ fn makes_abc<'i>(alloc: Global, is_yes: bool) -> Result<Answer<'i>, AllocError> 
 fn conclude_making<S: Shelf>(
     alloc: Global,
     out_name: &str,
-    answer: &Result<Answer<'_>, AllocError>,
+    answer: &Result<Answer<'_>, Unanswered>,
     shelf: &mut S,
     out: &mut SampleWriter,
 ) -> Status {
@@ -281,14 +282,20 @@ fn nothing_is_kept_after_a_no(rt: HostRuntime) -> Result<(), Fail> {
 }
 
 #[test]
-fn nothing_is_kept_without_memory(rt: HostRuntime) -> Result<(), Fail> {
+fn nothing_is_kept_without_an_answer(rt: HostRuntime) -> Result<(), Fail> {
     let alloc = rt.alloc();
-    let mut shelf = MemShelf::of(alloc, &[("o", b"old")])?;
-    let mut out = SampleWriter::new(alloc);
-    let status = conclude_making(alloc, "o", &Err(AllocError), &mut shelf, &mut out);
-    assert_eq!(rt; status, Status::NoMemory);
-    assert!(rt; out.taken() == b"no memory\n".as_slice());
-    assert!(rt; shelf.get("o") == Some(b"old".as_slice()));
+    let cases: [(Unanswered, &[u8], Status); 2] = [
+        (Unanswered::Memory, b"no memory\n", Status::NoMemory),
+        (Unanswered::Wrong, b"fault maker\n", Status::Fault),
+    ];
+    for (why, line, want) in cases {
+        let mut shelf = MemShelf::of(alloc, &[("o", b"old")])?;
+        let mut out = SampleWriter::new(alloc);
+        let status = conclude_making(alloc, "o", &Err(why), &mut shelf, &mut out);
+        assert_eq!(rt; status, want);
+        assert!(rt; out.taken() == line);
+        assert!(rt; shelf.get("o") == Some(b"old".as_slice()) && !shelf.failed());
+    }
     Ok(())
 }
 

@@ -171,7 +171,7 @@ fn a_real_name_that_can_be_kept_under_is_found(rt: HostRuntime) -> Result<(), Fa
 #[test]
 fn a_real_name_that_can_not_be_kept_under_is_a_failure(rt: HostRuntime) -> Result<(), Fail> {
     let alloc = rt.alloc();
-    let too_long = String::from_utf8(vec![in alloc; b'n'; 249]?)
+    let too_long = String::from_utf8(vec![in alloc; b'n'; 256]?)
         .ok()
         .ok_or("a text")?;
     fs::create_dir(&rt, "trial_folder")?;

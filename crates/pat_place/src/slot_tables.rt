@@ -11,6 +11,7 @@ use crate::patterns::Pattern;
 use crate::placements::Placement;
 use crate::set_numbers::SetNumbers;
 use crate::slots::{find_region, regions};
+use puz_board::masks::all_below;
 use std::alloc::{AllocError, Global};
 use std::marker::Model;
 
@@ -52,10 +53,17 @@ impl SlotTable {
         let size = u32::from(pattern.size());
         let mut masks = Vec::new(alloc);
         let mut slots = Vec::new(alloc);
-        for set in 0..1u32 << side.cells() {
+        let all = 1u32 << side.cells();
+        let mut set = all_below(pattern.size());
+        for _ in 0..all {
+            if set >= all {
+                break;
+            }
+            // Each set has this size, but only speed depends on that.
             if set.count_ones() == size {
                 push_set(pattern, set, &mut masks, &mut slots)?;
             }
+            set = next_of_size(set);
         }
         let numbers = SetNumbers::of_sets(alloc, masks.as_slice())?;
         Ok(SlotTable {
@@ -94,6 +102,15 @@ impl SlotTable {
         }
         Some(slots[number * self.cells + usize::from(cell)])
     }
+}
+
+/// The next greater mask of as many cells, where there is one: the lowest run of cells gives its uppermost cell upwards, and
+/// the others go down to the lowest cells. No clause speaks of it.
+fn next_of_size(set: u32) -> u32 {
+    let lowest = set.trailing_zeros();
+    let carried = set.wrapping_add(1u32.wrapping_shl(lowest));
+    let others = (set ^ carried).wrapping_shr(lowest.wrapping_add(2));
+    carried | others
 }
 
 /// Puts a set of cells and the slots of its free cells behind those that are there. Without them only speed is lost.

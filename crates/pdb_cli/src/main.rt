@@ -3,15 +3,72 @@
 
 use byte_io::disk::DiskShelf;
 use byte_io::watched::Watched;
-use pdb_program::{Call, Host, start};
+use pdb_program::{ArgumentFault, Call, Host, start};
 use pdb_progress::Watch;
+use pdb_reason::{Beginning, Heard, Reason};
+use pdb_words::read_words;
+use std::env::Env;
+use std::fs::File;
+use std::io::Read;
 use std::process::ExitCode;
-use std::{env, io};
+use std::{env, fs, io, str};
+
+/// The system lets no argument take more bytes.
+const MOST_ARGUMENT: usize = 131_072;
 
 /// All arguments, of which the first is the program's own name.
-fn arguments(rt: &HostRuntime) -> io::Result<Vec<String>> {
-    let arguments = env::args(rt)?.collect(rt.alloc())?;
-    Ok(arguments)
+fn arguments(rt: &HostRuntime) -> Result<Vec<String>, ArgumentFault> {
+    match env::args(rt) {
+        Ok(all) => all.collect(rt.alloc()).map_err(|_| ArgumentFault::Memory),
+        Err(error) => match error.kind() {
+            io::ErrorKind::OutOfMemory => Err(ArgumentFault::Memory),
+            _ => Err(unreadable(rt)),
+        },
+    }
+}
+
+/// The first argument that is no UTF-8 text.
+fn unreadable(rt: &HostRuntime) -> ArgumentFault {
+    let Ok(mut room) = vec![in rt.alloc(); 0_u8; MOST_ARGUMENT] else {
+        return ArgumentFault::Memory;
+    };
+    for place in 0..usize::MAX {
+        match rt.arg(place, room.as_mut_slice()) {
+            Ok(length) if str::from_utf8(&room.as_slice()[..length]).is_ok() => {}
+            _ => return ArgumentFault::Unreadable(place),
+        }
+    }
+    ArgumentFault::Memory
+}
+
+/// What a file begins with. Of what is no plain file, as a pipe, nothing is read.
+fn beginning_of(rt: &HostRuntime, name: &str) -> io::Result<Beginning> {
+    let mut bytes = [0; 4096];
+    if !fs::metadata(rt, name)?.is_file() {
+        return Ok(Beginning::OfAny);
+    }
+    let count = File::open(rt, name)?.read(&mut bytes)?;
+    Ok(Beginning::of(&bytes[..count]))
+}
+
+/// Tells on standard error why a run ended without a yes, by its last line. What can't be told is left out.
+fn tell_reason(rt: &HostRuntime, line: &[u8]) -> io::Result<()> {
+    let Ok(words) = arguments(rt) else {
+        return Ok(());
+    };
+    let words = words.get(1..).unwrap_or_default();
+    let Ok(asked) = read_words(rt.alloc(), words) else {
+        return Ok(());
+    };
+    let Some(reason) = Reason::of(&asked, line) else {
+        return Ok(());
+    };
+    let beginning = match reason.name() {
+        // Standard input is read already.
+        Some("-") | None => Beginning::OfAny,
+        Some(name) => beginning_of(rt, name).unwrap_or(Beginning::OfAny),
+    };
+    rt.eprintln(reason.beginning(beginning))
 }
 
 fn main(rt: HostRuntime) -> ExitCode {
@@ -19,7 +76,8 @@ fn main(rt: HostRuntime) -> ExitCode {
     let mut stdin = rt.stdin();
     let mut stdout = rt.stdout();
     let mut reader = Watched::new(&mut stdin);
-    let mut out = Watched::new(&mut stdout);
+    let mut watched = Watched::new(&mut stdout);
+    let mut out = Heard::new(&mut watched);
     let mut err = rt.stderr();
     let gate = Watch::asked_for(&rt);
     let call = Call {
@@ -30,5 +88,10 @@ fn main(rt: HostRuntime) -> ExitCode {
         },
         arguments: arguments(&rt),
     };
-    ExitCode::from(start(call, &mut shelf, &mut reader, &mut out, &mut err))
+    let status = start(call, &mut shelf, &mut reader, &mut out, &mut err);
+    if status != 0 {
+        // Nobody is left to be told that standard error failed.
+        let _ = tell_reason(&rt, out.line());
+    }
+    ExitCode::from(status)
 }

@@ -1,11 +1,11 @@
 -- What a maker's yes keeps.
-use Rattle.std.proofs.Common.{◌≡◌, List, [], ◌∷◌, Option, Some, Ok, inl, map, refl, subst}
+use Rattle.std.proofs.Common.{◌≡◌, List, ◌∷◌, Option, Some, inl, map, refl, subst}
 use Rattle.std.proofs.lemmas.Slice.Eq.{bytes_eq-Decides}
 use Rattle.byte_io.specs.Shelf.{Bytes, Files, with_file}
 use Rattle.byte_io.specs.Streams.{WritesAll}
 use Rattle.pdb_request.specs.Asked.{MakeTableArguments, SolveArguments}
 use Rattle.pdb_run.specs.Writing.{reply_text}
-use Rattle.pdb_run.specs.Commands.{Reply, plan_under}
+use Rattle.pdb_run.specs.Commands.{Reply}
 use Rattle.pdb_run.specs.Inputs.{AreRead, IsReadFrom}
 use Rattle.pdb_run.specs.Runs.{IsAnswered, World, kept, status_of_reply, with_kept}
 use Rattle.pdb_run.specs.declared.statuses.Status.TheVariants.{Yes, Refused}
@@ -18,7 +18,7 @@ use Rattle.pdb_verdict.proofs.ClaimLemmas.{proved_least}
 use Rattle.pdb_verdict.proofs.RefusalLemmas.{told_yes}
 use Rattle.pdb_keep.specs.Kept.{IsLogKept, IsTableKept}
 use Rattle.pdb_keep.specs.Laws.{KeptLogsProveOptima, KeptTablesAreExact}
-use Rattle.pdb_keep.specs.MakeTable.{Build, IsBuildFor, TellsBuild, built, make_table_plan, reply_to_build}
+use Rattle.pdb_keep.specs.MakeTable.{Build, IsBuildFor, built, make_table_plan, reply_to_build}
 use Rattle.pdb_keep.specs.Solve.{IsSearchOf, SearchOutcome, reply_to_search, searched, solve_inputs, solve_plan}
 use Rattle.pdb_keep.proofs.MakerLemmas.{solved-moves}
 
@@ -37,7 +37,7 @@ file-kept files out file = rw ((bytes_eq-Decides out out).1 refl)
 module _ (arguments : MakeTableArguments) (old new : World) where
   exact_kept : (build : Build) → IsBuildFor arguments.side arguments.mask build → IsYes arguments.out old new (reply_to_build build)
       → IsTableKept arguments old new
-  exact_kept (built file (Ok v)) is says =
+  exact_kept (built file v) is says =
       let yes = (told_yes exact_verdict (IsTableResult file) v).0 is.is_result in
       let speaks = rw yes.2 at is.own in
       record {
@@ -49,19 +49,16 @@ module _ (arguments : MakeTableArguments) (old new : World) where
       }
   exact_kept _ is says = let clash : Yes ≡ Refused = says.0 in absurd cc
 
-  -- a yes of a run that is answered, whatever its check takes memory for
-  pub table_answered : (Takes : List Bytes → Type 0)
-      → IsAnswered (plan_under (Some arguments.out) [] (λ inputs. TellsBuild arguments.side arguments.mask) Takes) old new Yes
-      → IsTableKept arguments old new
-  table_answered Takes answered =
+  -- a yes of a run that is answered
+  pub table_answered : IsAnswered (make_table_plan arguments) old new Yes → IsTableKept arguments old new
+  table_answered answered =
       let tells = answered.right.1 in
       exact_kept tells.build tells.is_build
       (subst (IsYes arguments.out old new) tells.told (answered.is_status, answered.files, answered.lines))
 
 -- so of each run of `make-table` that ends with a yes
 pub table_kept : KeptTablesAreExact
-table_kept arguments old new ends =
-    table_answered arguments old new _ (IsAnswered-ends (make_table_plan arguments) old new Yes ends (inl refl))
+table_kept arguments old new ends = table_answered arguments old new (IsAnswered-ends (make_table_plan arguments) old new Yes ends (inl refl))
 
 -- ---- logs
 
@@ -81,7 +78,7 @@ module _ (arguments : SolveArguments) (old new : World) where
       → AreRead old.files old.reader (solve_inputs arguments) (board_text ∷ set_text ∷ files)
       → (outcome : SearchOutcome) → IsSearchOf arguments.fold board_text set_text files outcome
       → IsYes arguments.out old new (reply_to_search files outcome) → IsLogKept arguments old new
-  found_kept board_text set_text files read (searched moves log (Ok n)) is says =
+  found_kept board_text set_text files read (searched moves log n) is says =
       let proved = is.is_result in
       let parts = solved-moves board_text moves is.could.board n proved.solved is.could.spelt in
       record {

@@ -1,17 +1,21 @@
 -- What comes of makers.
-use Rattle.std.proofs.Common.{◌≡◌, ◌≢◌, ◌∙◌, ℕ, suc, ◌+◌, ◌<◌, ◌≤◌, Bool, List, [], ◌∷◌, ◌++◌, Option, Result, Ok, Err, IfErr, IfOk, IfSome, length, drop, get_or, ap, append_assoc, arith, length-append, refl, subst, sym}
-use Rattle.std.specs.Prelude.{MatchResult}
-use Rattle.std.specs.declared.alloc.AllocError.{AllocError}
+use Rattle.std.proofs.Common.{◌≡◌, ◌≢◌, ◌∙◌, ℕ, suc, ◌+◌, ◌<◌, ◌≤◌, ◌^◌, Bool, List, [], ◌∷◌, ◌++◌, Option, Some, None, Result, Ok, Err, IfErr, IfOk, IfSome, Vec, length, drop, get_or, ap, append_assoc, arith, length-append, refl, subst, sym}
 use Rattle.std.proofs.lemmas.List.{drop_more, length-map, map-append}
 use Rattle.std.proofs.lemmas.List.Elements.{filter_map-append}
 use Rattle.puz_board.specs.BoardTexts.{Spells}
+use Rattle.puz_board.specs.Masks.{numbers_of}
 use Rattle.puz_board.specs.MovesTexts.{Solves, moves_of}
 use Rattle.puz_board.specs.Paths.{Leads}
 use Rattle.puz_board.specs.declared.moves.Move.{Move}
 use Rattle.puz_board.proofs.PuzzleLemmas.{puzzle_parts-puzzle}
+use Rattle.pat_place.proofs.MaskLemmas.{numbers_of-one}
+use Rattle.tab_file.specs.TableFiles.{IsTableFile}
 use Rattle.byte_io.specs.Shelf.{Bytes}
-use Rattle.pdb_run.specs.Answers.{IsAnswerBy}
+use Rattle.pdb_request.specs.declared.requests.Search.{Search}
+use Rattle.pdb_run.specs.Answers.{IsMadeBy}
 use Rattle.pdb_run.specs.declared.answers.Answer.{Answer}
+use Rattle.pdb_run.specs.declared.answers.Unanswered.{Unanswered}
+use Rattle.pdb_run.specs.declared.answers.Unanswered.TheVariants.{Memory, Wrong}
 use Rattle.pdb_verdict.specs.FileBundles.{AreRefused, IsCauseForBundle}
 use Rattle.pdb_verdict.specs.Inputs.{log_files, table_file}
 use Rattle.pdb_verdict.specs.Optimal.{IsOptimumResult}
@@ -24,22 +28,25 @@ use Rattle.pdb_verdict.specs.declared.verdicts.Verdict.{Verdict}
 use Rattle.pdb_verdict.proofs.BundleLemmas.{bundle_taken}
 use Rattle.pdb_verdict.proofs.RefusalLemmas.{cause_by, found_settled, told_yes}
 use Rattle.pdb_verdict.proofs.ReplayLemmas.{solved-puzzle, spelled-no_semicolon}
-use Rattle.pdb_keep.specs.MakeTable.{IsOfAnother, SpeaksOf}
-use Rattle.pdb_keep.specs.Solve.{AreForBoard, IsMade, IsSolveReply, IsUnmade, SolveTakesMemory, letter_of, letters_of}
-use Rattle.pdb_keep.specs.Steps.{HasItsMoves, IsCauseForSearch, IsGivenUp, IsSearchAnswer, search_files_read}
-use Rattle.pdb_keep.specs.declared.search_inputs.SearchInputs.{SearchInputs}
+use Rattle.pdb_keep.specs.MakeTable.{SpeaksOf}
+use Rattle.pdb_keep.specs.Solve.{AreForBoard, IsSolveReply, IsUnmade, SolveMakes, SolveTakesMemory, letter_of, letters_of}
+use Rattle.pdb_keep.specs.Steps.{CameTo, HasItsMoves, IsCauseForSearch, IsGivenUp, IsSearchAnswer, search_read}
 use Rattle.pdb_keep.specs.declared.solutions.TheConstants.{MOST_LETTERS}
-use Rattle.pdb_keep.specs.declared.solve.Made.{Made}
+use Rattle.pdb_keep.specs.declared.made.Made.{Made}
 
 -- ---- tables
 
--- a result that doesn't speak of the side and the mask is that on a table of another pattern
-pub another_table : (side mask : ℕ) (file : Bytes) (answer : Result Verdict Fault) → IsTableTold file answer
-    → ¬ SpeaksOf side mask answer → IsOfAnother side mask file
-another_table side mask file (Ok v) is other =
-    let yes = (told_yes exact_verdict (IsTableResult file) v).0 is in
-    record { other_side = yes.0.0; other_mask = yes.0.1; census = yes.0.2; exact = yes.1; other = rw yes.2 at other }
-another_table side mask file (Err refused) is other = absurd (other tt)
+-- a verdict on a file with the header of a pattern speaks of that pattern
+pub own_table : (side mask : ℕ) (entries file : List ℕ) (said : Verdict) → mask < 2 ^ 32
+    → IsTableFile (record { pattern = record { side = side; tiles = numbers_of mask }; entries = entries }) file
+    → IsTableTold file (Ok said) → SpeaksOf side mask said
+own_table side mask entries file said low is told =
+    let yes = (told_yes exact_verdict (IsTableResult file) said).0 told in
+    let exact = yes.1 in
+    let of = exact.exact.is_file in
+    let same_side : exact.table.pattern.side ≡ side = sym (ap (λ bytes. get_or bytes 5 0) of.begins) ∙ ap (λ bytes. get_or bytes 5 0) is.begins in
+    let same_tiles : exact.table.pattern.tiles ≡ numbers_of mask = sym of.mask ∙ is.mask in
+    rw yes.2 (exact.is_side ∙ same_side, numbers_of-one yes.0.1 mask exact.mask_low low (exact.is_mask ∙ same_tiles))
 
 -- the answer on a file that was read tells the result, where memory isn't wanted
 pub table_told : (file now : Bytes) (answer settled : Result Verdict Fault) → now ≡ file → settled ≡ answer → settled ≢ Err fault.Memory
@@ -51,9 +58,10 @@ table_told file now answer settled same is there says =
 
 module _ (fold : Bool) (text sets : Bytes) (files : List Bytes) (board : List ℕ) (spelt : Spells text board) where
   -- what gives up over a bundle of the board's side is why no log is made
-  pub given_up : AreForBoard fold board sets files → (why : Fault) → IsGivenUp why → IsCauseForSearch fold text sets files why
+  pub given_up : (are_for : AreForBoard fold board sets files) (why : Fault) → IsGivenUp are_for.bundle board why
+      → IsCauseForSearch fold text sets files why
   given_up are_for fault.K1 is = record { board = board; spelt = spelt; unmade = are_for }
-  given_up are_for fault.K2 is = record { board = board; spelt = spelt; unmade = are_for }
+  given_up are_for fault.K2 is = record { board = board; spelt = spelt; unmade = record { are_for = are_for; out_of_reach = is } }
   given_up are_for fault.Memory is = (board, spelt, bundle_taken fold files sets are_for.bundle are_for.is_bundle)
   given_up are_for _ is = absurd is
 
@@ -67,10 +75,12 @@ module _ (fold : Bool) (text sets : Bytes) (files : List Bytes) (board : List �
   no_bundle why is = cause_by unmade_of (λ takes. (board, spelt, takes)) why is
 
   -- so a search over one makes a log, or that is why
-  pub search_came : AreForBoard fold board sets files → (r : Result Made Fault) → IfErr r IsGivenUp
-      → IfOk r (λ made. IsOptimumResult (log_files fold (puzzle_of text made.moves.items) sets made.log.items files) made.answer)
-      → MatchResult r (λ made. IsMade fold text sets files made.moves.items made.log.items made.answer) (IsCauseForSearch fold text sets files)
-  search_came are_for (Ok made) why is = record { could = record { board = board; spelt = spelt; are_for = are_for }; is_result = is }
+  pub search_came : (are_for : AreForBoard fold board sets files) (r : Result (Option Made) Fault) → IfErr r (IsGivenUp are_for.bundle board)
+      → IfOk r (λ made. IfSome made (λ made.
+      IsOptimumResult (log_files fold (puzzle_of text made.moves.items) sets made.log.items files) (Ok made.count)))
+      → CameTo fold text sets files r
+  search_came are_for (Ok (Some made)) why is = record { could = record { board = board; spelt = spelt; are_for = are_for }; is_result = is }
+  search_came are_for (Ok None) why is = record { board = board; spelt = spelt; are_for = are_for }
   search_came are_for (Err why) gives is = given_up are_for why gives
 
 -- ---- the puzzle text of a search
@@ -90,30 +100,25 @@ led-length n c [] [] led = refl
 led-length n c (m ∷ moves) (d ∷ path) led = ap suc (led-length n d moves path led.1)
 led-length n c _ _ led = absurd led
 
--- an optimum is the number of the moves that were made
-has_its_moves : (fold : Bool) (text sets moves log : Bytes) (tables : List Bytes) (answer : Result ℕ Fault)
-    → IsMade fold text sets tables moves log answer → HasItsMoves moves answer
-has_its_moves fold text sets moves log tables (Ok n) is =
-    let solves = (solved-moves text moves is.could.board n is.is_result.solved is.could.spelt).1 in
+-- so there are as many as are said, where a search makes some
+pub made_moves : (fold : Bool) (text sets : Bytes) (tables : List Bytes) (r : Result (Option Made) Fault) → CameTo fold text sets tables r
+    → HasItsMoves r
+made_moves fold text sets tables (Ok (Some made)) is =
+    let moves = made.moves.items in
+    let solves = (solved-moves text moves is.could.board made.count is.is_result.solved is.could.spelt).1 in
     length-map (moves_of moves) letter_of ∙ led-length _ _ (moves_of moves) solves.path solves.led ∙ solves.count
-has_its_moves fold text sets moves log tables (Err refused) is = tt
-
--- so it is where a search finds one
-pub made_moves : (fold : Bool) (text sets : Bytes) (tables : List Bytes) (r : Result Made Fault)
-    → MatchResult r (λ made. IsMade fold text sets tables made.moves.items made.log.items made.answer)
-    (IsCauseForSearch fold text sets tables)
-    → IfOk r (λ made. HasItsMoves made.moves.items made.answer)
-made_moves fold text sets tables (Ok made) is = has_its_moves fold text sets _ made.log.items tables made.answer is
+made_moves fold text sets tables (Ok None) is = tt
 made_moves fold text sets tables (Err cause) is = tt
 
 -- ---- what is told of a search
 
 -- an answer on what was read is one on the inputs
-pub search_answered : (fold : Bool) (inputs : List Bytes) (files : SearchInputs) (told : Result Answer AllocError)
-    → inputs ≡ search_files_read files → IsSearchAnswer fold files told
-    → IsAnswerBy (IsSolveReply fold inputs) (SolveTakesMemory inputs) told
-search_answered fold inputs files (Ok answer) are says = (says.0, (_, _, _, are, says.1), says.2)
-search_answered fold inputs files (Err refused) are takes = (_, _, _, are, takes)
+pub search_answered : {A : Type 0} (inputs : List Bytes) (search : Search (Vec ℕ A)) (told : Result Answer Unanswered)
+    → inputs ≡ search_read search → IsSearchAnswer search told
+    → IsMadeBy (IsSolveReply search.fold inputs) (SolveTakesMemory inputs) (SolveMakes search.fold inputs) told
+search_answered inputs search (Ok answer) are says = (says.0, (_, _, _, are, says.1), says.2)
+search_answered inputs search (Err Memory) are takes = (_, _, _, are, takes)
+search_answered inputs search (Err Wrong) are makes = (_, _, _, are, makes)
 
 -- ---- letters, byte by byte
 

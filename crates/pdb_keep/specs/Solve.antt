@@ -2,7 +2,7 @@
 --
 -- The maker is free: it may find any moves and any log, or give up. What is told of them, and whether the log is kept, is not
 -- free.
-use Rattle.std.specs.Prelude.{◌≡◌, ◌≢◌, ℕ, Bool, List, [], ◌∷◌, ◌++◌, Some, Result, Ok, Err, codes, is_ok, map}
+use Rattle.std.specs.Prelude.{◌≡◌, ◌≢◌, ℕ, Bool, List, [], ◌∷◌, ◌++◌, Some, Ok, Err, codes, map, true}
 use Rattle.puz_board.specs.BoardTexts.{Spells, board_of_text}
 use Rattle.puz_board.specs.Boards.{side_of}
 use Rattle.puz_board.specs.MovesTexts.{moves_of}
@@ -10,6 +10,7 @@ use Rattle.puz_board.specs.declared.moves.Move.{Move}
 use Rattle.puz_board.specs.declared.moves.Move.TheVariants.{Up, Down, Left, Right}
 use Rattle.set_sum.specs.Bundles.{ShownBundle}
 use Rattle.log_check.specs.declared.faults.LogRefusal.TheVariants.{L4}
+use Rattle.puz_make.specs.Faults.{IsOutOfReach}
 use Rattle.byte_io.specs.Shelf.{Bytes}
 use Rattle.pdb_request.specs.Asked.{SolveArguments}
 use Rattle.pdb_run.specs.Commands.{Plan, Reply, Wanted, plan_under}
@@ -17,7 +18,7 @@ use Rattle.pdb_verdict.specs.Bound.{TakesMemoryForBound}
 use Rattle.pdb_verdict.specs.FileBundles.{AreRefused, IsBundleOfFiles}
 use Rattle.pdb_verdict.specs.Inputs.{log_files}
 use Rattle.pdb_verdict.specs.Limits.{a_table, a_text}
-use Rattle.pdb_verdict.specs.Lines.{counted, line_of_fault, reply_on}
+use Rattle.pdb_verdict.specs.Lines.{counted, reply_on}
 use Rattle.pdb_verdict.specs.Optimal.{IsOptimumResult}
 use Rattle.pdb_verdict.specs.Replay.{puzzle_of}
 use Rattle.pdb_verdict.specs.declared.verdicts.Fault.{Fault}
@@ -30,6 +31,11 @@ pub record AreForBoard (fold : Bool) (board : List ℕ) (sets : Bytes) (tables :
   pub bundle : ShownBundle
   pub is_bundle : IsBundleOfFiles fold tables sets bundle
   pub one_side : side_of board ≡ bundle.side
+
+-- they do, and over it the board is out of reach
+pub record IsOutOfReachOf (fold : Bool) (board : List ℕ) (sets : Bytes) (tables : List Bytes) : Type 0 where
+  pub are_for : AreForBoard fold board sets tables
+  pub out_of_reach : IsOutOfReach are_for.bundle board
 
 -- the text spells a board for which they do, so that there is something to search over
 pub record IsSearchable (fold : Bool) (text sets : Bytes) (tables : List Bytes) : Type 0 where
@@ -44,11 +50,11 @@ pub record AreForAnotherSide (fold : Bool) (board : List ℕ) (sets : Bytes) (ta
   pub another_side : side_of board ≢ bundle.side
 
 -- why no log is made for a board: each table file comes first, then the set text, then L4 for a bundle of another side;
--- behind them the maker may give up on the search, with K1 or K2
+-- behind them K2 for a board that is out of reach; and the maker may give up on the search with K1
 abbrev pub IsUnmadeFor : Bool → List ℕ → Bytes → List Bytes → Fault → Type 0
 IsUnmadeFor fold board sets tables (fault.Log L4) = AreForAnotherSide fold board sets tables
 IsUnmadeFor fold board sets tables fault.K1 = AreForBoard fold board sets tables
-IsUnmadeFor fold board sets tables fault.K2 = AreForBoard fold board sets tables
+IsUnmadeFor fold board sets tables fault.K2 = IsOutOfReachOf fold board sets tables
 IsUnmadeFor fold board sets tables refused = AreRefused fold tables sets refused
 
 -- the text spells a board, for which no log is made
@@ -64,10 +70,10 @@ IsUnmade fold text sets tables refused = IsUnmadeForText fold text sets tables r
 
 -- ---- a log that is made
 
--- a search could begin, and the answer is the result on its moves and its log
-pub record IsMade (fold : Bool) (text sets : Bytes) (tables : List Bytes) (moves log : Bytes) (answer : Result ℕ Fault) : Type 0 where
+-- a search could begin, and its moves, n of them, and its log prove an optimum
+pub record IsMade (fold : Bool) (text sets : Bytes) (tables : List Bytes) (moves log : Bytes) (n : ℕ) : Type 0 where
   pub could : IsSearchable fold text sets tables
-  pub is_result : IsOptimumResult (log_files fold (puzzle_of text moves) sets log tables) answer
+  pub is_result : IsOptimumResult (log_files fold (puzzle_of text moves) sets log tables) (Ok n)
 
 -- ---- what is told of it
 
@@ -87,25 +93,24 @@ abbrev pub moves_line : Bytes → Bytes
 moves_line [] = codes "moves\n"
 moves_line (letter ∷ letters) = codes "moves " ++ (letter ∷ letters ++ codes "\n")
 
--- of an optimum the moves come before its line
-abbrev pub lines_on : Bytes → Result ℕ Fault → Bytes
-lines_on moves (Ok n) = moves_line (letters_of moves) ++ counted (codes "optimal ") n
-lines_on moves (Err refused) = line_of_fault refused
+-- the moves come before the line of their number
+abbrev pub lines_on : Bytes → ℕ → Bytes
+lines_on moves n = moves_line (letters_of moves) ++ counted (codes "optimal ") n
 
--- what comes of a search: a refusal, or moves, a log, and the result on them
+-- what comes of a search: a refusal, or moves, a log, and how many moves they are
 pub data SearchOutcome : Type 0 where
   unmade : Fault → SearchOutcome
-  searched : Bytes → Bytes → Result ℕ Fault → SearchOutcome
+  searched : Bytes → Bytes → ℕ → SearchOutcome
 
 -- on this board text, this set text and these table files
 abbrev pub IsSearchOf : Bool → Bytes → Bytes → List Bytes → SearchOutcome → Type 0
 IsSearchOf fold text sets tables (unmade refused) = IsUnmade fold text sets tables refused
-IsSearchOf fold text sets tables (searched moves log answer) = IsMade fold text sets tables moves log answer
+IsSearchOf fold text sets tables (searched moves log n) = IsMade fold text sets tables moves log n
 
 -- the digests of the tables, and of the log where one was made, and then the lines
 abbrev pub reply_to_search : List Bytes → SearchOutcome → Reply
 reply_to_search tables (unmade refused) = reply_on tables (Err refused)
-reply_to_search tables (searched moves log answer) = record { digested = tables; made = Some log; lines = lines_on moves answer; is_yes = is_ok answer }
+reply_to_search tables (searched moves log n) = record { digested = tables; made = Some log; lines = lines_on moves n; is_yes = true }
 
 -- a reply tells what comes of a search
 pub record TellsSearch (fold : Bool) (text sets : Bytes) (tables : List Bytes) (reply : Reply) : Type 0 where
@@ -129,6 +134,12 @@ abbrev pub SolveTakesMemory : List Bytes → Type 0
 SolveTakesMemory inputs =
     (text : Bytes) × (sets : Bytes) × (tables : List Bytes) × (inputs ≡ text ∷ sets ∷ tables) × TakesMemoryForBound text tables
 
+-- it makes moves and a log where a search could begin
+abbrev pub SolveMakes : Bool → List Bytes → Type 0
+SolveMakes fold inputs =
+    (text : Bytes) × (sets : Bytes) × (tables : List Bytes) × (inputs ≡ text ∷ sets ∷ tables) × IsSearchable fold text sets tables
+
 -- for any budget and any number of workers
 abbrev pub solve_plan : SolveArguments → Plan
-solve_plan arguments = plan_under (Some arguments.out) (solve_inputs arguments) (IsSolveReply arguments.fold) SolveTakesMemory
+solve_plan arguments =
+    plan_under (Some arguments.out) (solve_inputs arguments) (IsSolveReply arguments.fold) SolveTakesMemory (SolveMakes arguments.fold)

@@ -1,18 +1,21 @@
 -- What the steps of a maker's command answer: a result, or want of memory in its place.
-use Rattle.std.specs.Prelude.{◌≡◌, ⊤, ℕ, Bool, List, ◌∷◌, Result, IfOk, length}
-use Rattle.std.specs.declared.alloc.AllocError.{AllocError}
+use Rattle.std.specs.Prelude.{◌≡◌, ⊤, ℕ, Bool, List, ◌∷◌, Option, Some, None, Result, Ok, Err, IfOk, IfSome, Vec, length}
 use Rattle.byte_io.specs.Shelf.{Bytes}
-use Rattle.pdb_run.specs.Answers.{IsAnswerBy, all_bytes}
+use Rattle.pdb_request.specs.declared.requests.Search.{Search}
+use Rattle.pdb_run.specs.Answers.{IsMadeBy, all_bytes}
 use Rattle.pdb_run.specs.declared.answers.Answer.{Answer}
+use Rattle.pdb_run.specs.declared.answers.Unanswered.{Unanswered}
+use Rattle.set_sum.specs.Bundles.{ShownBundle}
 use Rattle.pdb_verdict.specs.Bound.{TakesMemoryForBound}
 use Rattle.pdb_verdict.specs.Refusals.{IsCauseBy}
 use Rattle.pdb_verdict.specs.declared.verdicts.Fault.{Fault}
 use Rattle.pdb_verdict.specs.declared.verdicts.Fault.TheVariants as fault
+use Rattle.puz_make.specs.Faults.{IsOutOfReach}
 use Rattle.tab_make.specs.declared.faults.MakeFault.{MakeFault}
 use Rattle.tab_make.specs.declared.faults.MakeFault.TheVariants as make
 use Rattle.pdb_keep.specs.MakeTable.{ArePattern, IsUnbuilt}
-use Rattle.pdb_keep.specs.Solve.{IsUnmade, TellsSearch, letters_of}
-use Rattle.pdb_keep.specs.declared.search_inputs.SearchInputs.{SearchInputs}
+use Rattle.pdb_keep.specs.Solve.{IsMade, IsSearchable, IsUnmade, TellsSearch, letters_of}
+use Rattle.pdb_keep.specs.declared.made.Made.{Made}
 
 -- why a maker of a table builds none, or want of memory, which comes of patterns alone
 abbrev pub IsCauseForBuild : ℕ → ℕ → Fault → Type 0
@@ -22,31 +25,40 @@ IsCauseForBuild side mask cause = IsCauseBy (IsUnbuilt side mask) (ArePattern si
 abbrev pub IsCauseForSearch : Bool → Bytes → Bytes → List Bytes → Fault → Type 0
 IsCauseForSearch fold text sets tables cause = IsCauseBy (IsUnmade fold text sets tables) (TakesMemoryForBound text tables) cause
 
--- why a maker gives up, as it is told
-abbrev pub of_maker : MakeFault → Fault
-of_maker make.K1 = fault.K1
-of_maker make.K2 = fault.K2
-of_maker make.K3 = fault.K3
-of_maker make.Memory = fault.Memory
+-- why a maker gives up, as it is told; that it is wrong is no refusal
+abbrev pub of_maker : MakeFault → Option Fault
+of_maker make.K1 = Some fault.K1
+of_maker make.K2 = Some fault.K2
+of_maker make.K3 = Some fault.K3
+of_maker make.Memory = Some fault.Memory
+of_maker make.Wrong = None
 
--- a search may give up for this
-abbrev pub IsGivenUp : Fault → Type 0
-IsGivenUp fault.K1 = ⊤
-IsGivenUp fault.K2 = ⊤
-IsGivenUp fault.Memory = ⊤
-IsGivenUp _ = ⊥
+-- a search of a board may give up for this: K2 where it is out of reach
+abbrev pub IsGivenUp : ShownBundle → List ℕ → Fault → Type 0
+IsGivenUp v b fault.K1 = ⊤
+IsGivenUp v b fault.K2 = IsOutOfReach v b
+IsGivenUp v b fault.Memory = ⊤
+IsGivenUp v b _ = ⊥
 
--- an optimum is the number of these moves
-abbrev pub HasItsMoves : Bytes → Result ℕ Fault → Type 0
-HasItsMoves moves answer = IfOk answer (λ n. length (letters_of moves) ≡ n)
+-- what comes of a search: it is made, or what was made is wrong, or this is why nothing is
+abbrev pub CameTo : Bool → Bytes → Bytes → List Bytes → Result (Option Made) Fault → Type 0
+CameTo fold text sets tables (Ok (Some made)) = IsMade fold text sets tables made.moves.items made.log.items made.count
+CameTo fold text sets tables (Ok None) = IsSearchable fold text sets tables
+CameTo fold text sets tables (Err cause) = IsCauseForSearch fold text sets tables cause
 
--- the files that were read for a search, in order
-abbrev pub search_files_read : SearchInputs → List Bytes
-search_files_read files = files.text.items ∷ files.sets.items ∷ all_bytes files.tables.items
+-- it has as many moves as it says, where it is made
+abbrev pub HasItsMoves : Result (Option Made) Fault → Type 0
+HasItsMoves outcome = IfOk outcome (λ made. IfSome made (λ made. length (letters_of made.moves.items) ≡ made.count))
 
--- the answer tells what comes of a search over them, or memory was wanted, where that is taken
-abbrev pub IsSearchAnswer : Bool → SearchInputs → Result Answer AllocError → Type 0
-IsSearchAnswer fold files answer =
-    let text = files.text.items in
-    let tables = all_bytes files.tables.items in
-    IsAnswerBy (TellsSearch fold text files.sets.items tables) (TakesMemoryForBound text tables) answer
+module _ {A : Type 0} where
+  -- the files that were read for a search, in order
+  abbrev pub search_read : Search (Vec ℕ A) → List Bytes
+  search_read search = search.board.items ∷ search.sets.items ∷ all_bytes search.tables.items
+
+  -- the answer tells what comes of a search over them, or there is none for want of memory or since what was made is wrong
+  abbrev pub IsSearchAnswer : Search (Vec ℕ A) → Result Answer Unanswered → Type 0
+  IsSearchAnswer search answer =
+      let text = search.board.items in
+      let sets = search.sets.items in
+      let tables = all_bytes search.tables.items in
+      IsMadeBy (TellsSearch search.fold text sets tables) (TakesMemoryForBound text tables) (IsSearchable search.fold text sets tables) answer

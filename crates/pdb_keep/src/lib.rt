@@ -3,6 +3,7 @@
 #![tactic(auto)]
 
 mod laws;
+mod made;
 mod make_table;
 mod makers;
 mod search_inputs;

@@ -1,20 +1,21 @@
 //! Makes a table, and keeps it once it is found exact for the pattern that was asked for.
 
-ghost use Rattle.std.specs.Prelude.{◌≡◌, ◌↔◌, ◌∷◌, [], IsSome, IsTrue, IfErr, IfOk, option_map};
+ghost use Rattle.std.specs.Prelude.{◌≡◌, ◌↔◌, ◌∷◌, [], IsSome, IfErr, IfNone, IfOk, IfSome, option_map};
+ghost use Rattle.puz_board.specs.Masks.{numbers_of};
 ghost use Rattle.pdb_request.specs.Asked.{make_table_shown};
 ghost use Rattle.pdb_run.specs.Writing.{digests_of};
-ghost use Rattle.pdb_run.specs.Answers.{IsAnswerBy};
+ghost use Rattle.pdb_run.specs.Answers.{IsMadeBy};
 ghost use Rattle.pdb_run.specs.Runs.{Ends};
 ghost use Rattle.pdb_verdict.specs.Inputs.{table_file};
 ghost use Rattle.pdb_verdict.specs.Verdicts.{IsAnswerTo};
-ghost use Rattle.pdb_keep.specs.MakeTable.{ArePattern, IsBuilt, SpeaksOf, TellsBuild, make_table_plan};
+ghost use Rattle.pdb_keep.specs.MakeTable.{ArePattern, IsBuilt, TellsBuild, make_table_plan};
 ghost use Rattle.pdb_keep.specs.Steps.{IsCauseForBuild};
 
 use crate::makers::of_maker;
 use pat_place::Pattern;
 use pdb_request::MakeTable;
 use pdb_run::{
-    Answer, Command, Digested, Digests, Input, Io, Status, beside, keep_and_conclude,
+    Answer, Command, Digested, Digests, Input, Io, Status, Unanswered, beside, keep_and_conclude,
     read_inputs_and_try,
 };
 use pdb_verdict::{Fault, Verdict, line_of, settled, told, verify_table};
@@ -64,41 +65,45 @@ fn answer_make_table<H: Threads + Wait + Sync, G: Gate + Sync>(
     side: u8,
     mask: u32,
     workers: &Workers<'_, H, G>,
-) -> Result<Answer<'static>, AllocError>
-    ensures { IsAnswerBy (TellsBuild side mask) (ArePattern side mask) result }
+) -> Result<Answer<'static>, Unanswered>
+    ensures { let pattern = ArePattern side mask in
+        IsMadeBy (TellsBuild side mask) pattern pattern result }
 {
     let nothing = Digested::Files(&[], None);
     let build = settled(build_table(side, mask, workers))?;
     match build {
-        Ok(built) => Ok(Answer {
+        Ok(Some(built)) => Ok(Answer {
             digested: nothing,
-            lines: line_of(&built.answer),
-            is_yes: built.answer.is_ok(),
+            lines: line_of(&Ok(built.said)),
+            is_yes: true,
             made: Some(built.file),
             made_digest: built.digest,
         }),
+        Ok(None) => Err(Unanswered::Wrong),
         Err(refused) => Ok(told(nothing, &Err(refused))),
     }
 }
 
-/// A file that was built, its digest line, where that is made already, and the result on it.
+/// A file that was built, its digest line, where that is made already, and the verdict on it.
 #[derive(Drop)]
 struct Built {
     file: Vec<u8>,
     digest: Option<Digests>,
-    answer: Result<Verdict, Fault>,
+    said: Verdict,
     ghost digested: { option_map (λ d. d.items) digest
         ≡ option_map (λ _. digests_of (file.items ∷ [])) digest },
 }
 
-/// The file that is built for a side and a mask, checked. Or why there is none to tell of: they are no pattern, the maker
-/// gave up, or it built the table of another pattern.
+/// The file that is built for a side and a mask, once it is found exact; none where it is not, or the maker finds that it is wrong.
+/// Or why nothing is built: they are no pattern, or the maker gave up.
 fn build_table<H: Threads + Wait + Sync, G: Gate + Sync>(
     side: u8,
     mask: u32,
     workers: &Workers<'_, H, G>,
-) -> Result<Built, Fault>
-    ensures built { IfOk result (λ built. IsBuilt side mask built.file.items built.answer) }
+) -> Result<Option<Built>, Fault>
+    ensures built { IfOk result (λ built.
+        IfSome built (λ built. IsBuilt side mask built.file.items built.said)) }
+    ensures wrong { IfOk result (λ built. IfNone built (ArePattern side mask)) }
     ensures unbuilt { IfErr result (IsCauseForBuild side mask) }
 {
     let Some(pattern) = pattern_of(side, mask) else {
@@ -106,38 +111,29 @@ fn build_table<H: Threads + Wait + Sync, G: Gate + Sync>(
     };
     let file = match build(workers.rt, workers.alloc, &pattern) {
         Ok(file) => file,
-        Err(fault) => return Err(of_maker(fault)),
+        Err(fault) => {
+            return match of_maker(fault) {
+                Some(fault) => Err(fault),
+                None => Ok(None),
+            };
+        }
     };
     let table = file.as_slice();
     let check = || -> Result<Verdict, Fault>
         ensures { IsAnswerTo (table_file table.entry.now) result }
     { verify_table(table, workers) };
     let (digest, answer) = beside(workers.rt, workers.count, &[], Some(table), check);
-    let answer = settled(answer)?;
-    if speaks_of(&answer, side, mask) {
-        Ok(Built {
-            file,
-            digest,
-            answer,
-        })
-    } else {
-        Err(Fault::K4)
-    }
-}
-
-/// Whether a verdict on a table speaks of this side and this mask; so does each refusal.
-fn speaks_of(answer: &Result<Verdict, Fault>, side: u8, mask: u32) -> bool
-    ensures { IsTrue result ↔ SpeaksOf side mask answer.now }
-{
-    match answer {
-        Ok(Verdict::Exact(of_side, of_mask, _)) => of_side.get() == side && *of_mask == mask,
-        _ => true,
+    match settled(answer)? {
+        Ok(said) => Ok(Some(Built { file, digest, said })),
+        Err(_) => Ok(None),
     }
 }
 
 /// The pattern of a side and a mask, where they are one.
 fn pattern_of(side: u8, mask: u32) -> Option<Pattern>
-    ensures { IsSome result ↔ ArePattern side mask }
+    ensures some { IsSome result ↔ ArePattern side mask }
+    ensures pattern { IfSome result
+        (λ pattern. pattern ≡ record { side = side; tiles = numbers_of mask }) }
 {
     Pattern::of_mask(Side::of(side)?, mask)
 }

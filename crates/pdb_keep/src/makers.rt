@@ -6,14 +6,15 @@ ghost use Rattle.pdb_keep.specs.Steps.{of_maker};
 use pdb_verdict::Fault;
 use puz_make::MakeFault;
 
-/// Why a maker gives up, as it is told.
-pub(crate) fn of_maker(fault: MakeFault) -> Fault
+/// Why a maker gives up, as it is told; `None` where it finds that it is wrong.
+pub(crate) fn of_maker(fault: MakeFault) -> Option<Fault>
     ensures { result ≡ of_maker fault }
 {
     match fault {
-        MakeFault::K1 => Fault::K1,
-        MakeFault::K2 => Fault::K2,
-        MakeFault::K3 => Fault::K3,
-        MakeFault::Memory => Fault::Memory,
+        MakeFault::K1 => Some(Fault::K1),
+        MakeFault::K2 => Some(Fault::K2),
+        MakeFault::K3 => Some(Fault::K3),
+        MakeFault::Memory => Some(Fault::Memory),
+        MakeFault::Wrong => None,
     }
 }

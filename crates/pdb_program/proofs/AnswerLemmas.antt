@@ -15,7 +15,7 @@ use Rattle.byte_io.specs.declared.streams.ReadFault.TheVariants as read
 use Rattle.pdb_request.specs.Asked.{Asked, ProveArguments, bound, make_table, optimal, prove, replay, solve, table}
 use Rattle.pdb_run.specs.Commands.{Reply}
 use Rattle.pdb_run.specs.Inputs.{Failures}
-use Rattle.pdb_run.specs.Runs.{HasCause, IsRight, Outcome, World, no_memory, replied, status_of, status_of_reply, text_of, unkept, unkept_status, unkept_text, unread, unwritable}
+use Rattle.pdb_run.specs.Runs.{HasCause, IsRight, Outcome, World, made_wrong, no_memory, replied, status_of, status_of_reply, text_of, unkept, unkept_status, unkept_text, unlisted, unread, unwritable}
 use Rattle.pdb_run.specs.Writing.{digests_of, reply_text}
 use Rattle.pdb_run.specs.declared.statuses.Status.{Status}
 use Rattle.pdb_run.specs.declared.statuses.Status.TheVariants.{Yes}
@@ -28,7 +28,7 @@ use Rattle.pdb_verdict.specs.declared.verdicts.Verdict.TheVariants as verdict
 use Rattle.pdb_keep.specs.MakeTable.{Build, built, reply_to_build, unbuilt}
 use Rattle.pdb_keep.specs.Solve.{SearchOutcome, letter_of, letters_of, moves_line, reply_to_search, searched, unmade}
 use Rattle.pdb_program.specs.Programs.{plan_of}
-use Rattle.pdb_program.proofs.ElseLemmas.{IsElseLine, IsOfNoYes, SaysElse, SaysNoYes, digest_no_yes, digests_are, else_alone, else_no_yes, fault_line, known, memory, named, says_else, with_number}
+use Rattle.pdb_program.proofs.ElseLemmas.{IsElseLine, IsOfNoYes, SaysElse, SaysNoYes, digest_no_yes, digests_are, else_alone, else_no_yes, fault_line, known, maker, memory, named, says_else, with_number}
 use Rattle.pdb_program.proofs.LineLemmas.{joined_lines}
 
 -- this line is the last of the lines, and those above it say no yes
@@ -133,8 +133,7 @@ check_answer inputs reply tells = subst IsAnswerReply (sym tells.told) (result_a
 
 build_answer : (build : Build) → IsAnswerReply (reply_to_build build)
 build_answer (unbuilt refused) = digested [] [] _ _ (else_answer (line_of_fault refused) _ (fault_line refused))
-build_answer (built file (Ok v)) = digested [] (file ∷ []) (line_of_verdict v) Yes (verdict_answer v)
-build_answer (built file (Err refused)) = digested [] (file ∷ []) _ _ (else_answer (line_of_fault refused) _ (fault_line refused))
+build_answer (built file said) = digested [] (file ∷ []) (line_of_verdict said) Yes (verdict_answer said)
 
 -- the letters of moves are on one line
 letters_one : (moves : Bytes) → HasNo 10 (letters_of moves)
@@ -169,12 +168,10 @@ moves_say_no_yes moves = else_alone (moves_line (letters_of moves)) (moves_else 
 
 search_answer : (tables : List Bytes) (outcome : SearchOutcome) → IsAnswerReply (reply_to_search tables outcome)
 search_answer tables (unmade refused) = digested tables [] _ _ (else_answer (line_of_fault refused) _ (fault_line refused))
-search_answer tables (searched moves log (Ok n)) =
+search_answer tables (searched moves log n) =
     let last = counted_last (codes "optimal ") n (known (codes "optimal ") refl) in
     digested tables (log ∷ []) _ Yes
     (yes_answer (codes "optimal " ++ decimal n) _ (behind_lines (moves_line (letters_of moves)) _ (counted (codes "optimal ") n) (moves_say_no_yes moves) last))
-search_answer tables (searched moves log (Err refused)) =
-    digested tables (log ∷ []) _ _ (else_answer (line_of_fault refused) _ (fault_line refused))
 
 -- ---- whatever a run comes to
 
@@ -205,4 +202,6 @@ outcome_answer asked old failed (unread wanted read.F2) once cause = else_answer
 outcome_answer asked old failed (unread wanted read.Memory) once cause = else_answer _ _ memory
 outcome_answer asked old failed (unwritable name why) once cause = unkept_answer name why
 outcome_answer asked old failed (unkept name why) once cause = unkept_answer name why
+outcome_answer asked old failed unlisted once cause = else_answer _ _ memory
 outcome_answer asked old failed no_memory once cause = else_answer _ _ memory
+outcome_answer asked old failed made_wrong once cause = else_answer _ _ maker

@@ -18,7 +18,7 @@ use Rattle.set_sum.specs.declared.faults.SetFault.TheVariants as set
 use Rattle.tab_file.specs.declared.headers.HeadFault.TheVariants as head
 use Rattle.tab_rule.specs.declared.tables.TableRefusal.TheVariants as table
 use Rattle.byte_io.specs.Shelf.{Bytes}
-use Rattle.pdb_run.specs.Writing.{digest_line, digests_of, memory_line, named_line, shown, shown_byte}
+use Rattle.pdb_run.specs.Writing.{digest_line, digests_of, maker_line, memory_line, named_line, shown, shown_byte}
 use Rattle.pdb_verdict.specs.Lines.{counted, line_of_fault}
 use Rattle.pdb_verdict.specs.declared.verdicts.Fault.{Fault}
 use Rattle.pdb_verdict.specs.declared.verdicts.Fault.TheVariants as fault
@@ -107,6 +107,10 @@ twice_numbered text other n m first second =
 -- want of memory is said so
 pub memory : IsElseLine memory_line
 memory = (codes "no memory", refl, ((λ e. omega (arith, e)), (λ e. omega (arith, e)), (λ e. omega (arith, e)), (λ e. omega (arith, e)), known (codes "no memory") refl))
+
+-- what a maker made is wrong
+pub maker : IsElseLine maker_line
+maker = (codes "fault maker", refl, ((λ e. omega (arith, e)), (λ e. omega (arith, e)), (λ e. omega (arith, e)), (λ e. omega (arith, e)), known (codes "fault maker") refl))
 
 -- the lines of refusals
 pub fault_line : (refused : Fault) → IsElseLine (line_of_fault refused)

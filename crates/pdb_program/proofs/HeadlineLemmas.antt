@@ -10,6 +10,7 @@ use Rattle.byte_io.specs.Shelf.{Bytes, Files, with_file}
 use Rattle.byte_io.specs.Streams.{output}
 use Rattle.pdb_request.specs.Asked.{Asked, ProveArguments, TableArguments, bound, make_table, optimal, prove, replay, solve, table}
 use Rattle.pdb_request.specs.declared.requests.Claim.TheVariants.{Bound, Optimum}
+use Rattle.pdb_run.specs.Calls.{Calls}
 use Rattle.pdb_run.specs.Commands.{Wanted}
 use Rattle.pdb_run.specs.Inputs.{AreRead, Failures, IsReadFrom}
 use Rattle.pdb_run.specs.Runs.{Ends, IsAnswered, World, status_of, status_of_reply, text_of, world}
@@ -54,12 +55,12 @@ yes_or_not NoMemory = inr (λ e. cc)
 
 -- ---- over what tells its bytes
 
-module _ (before later : Files) (input start lines : Bytes) (failed failed_after : Failures) (cut cut_after : Bool) (reader : Option Bytes) where
+module _ (before later : Files) (input start lines : Bytes) (calls calls_after : Calls) (failed failed_after : Failures) (cut cut_after : Bool) (reader : Option Bytes) where
   abbrev old : World
-  old = world (Some before) failed (Some input) (output (Some start) cut)
+  old = world (Some before) calls failed (Some input) (output (Some start) cut)
 
   abbrev new : World
-  new = world (Some later) failed_after reader (output (Some (start ++ lines)) cut_after)
+  new = world (Some later) calls_after failed_after reader (output (Some (start ++ lines)) cut_after)
 
   -- what was appended is all that was written
   last : (files more : List Bytes) (line text : Bytes) → IsLast line text
@@ -154,7 +155,7 @@ module _ (before later : Files) (input start lines : Bytes) (failed failed_after
         holds = (files.text, n, all.3.1.solved, read.text, refl, all.3.1.least.bounded);
       }
   yes_by (make_table arguments) once a =
-      let kept = table_answered arguments old new _ a in
+      let kept = table_answered arguments old new a in
       let is = kept.exact in
       let census = kept.census in
       let words = exact_words arguments.side arguments.mask census.entries census.unreachable census.deepest in
@@ -337,7 +338,7 @@ pub headline_of : (words other : List Bytes) (old new : World) (old_err new_err 
     → RunsOn other old new old_err new_err number → SaysHeadline words old new number
 headline_of words other old new old_err new_err number same runs before later input start lines parses had has left stood wrote =
     let ends = rw same at (runs.ends (rw same parses)) in
-    headline_told before later input start lines old.failed new.failed old.written.failed new.written.failed new.reader (asked_of words) number
+    headline_told before later input start lines old.calls new.calls old.failed new.failed old.written.failed new.written.failed new.reader (asked_of words) number
     (subst (λ (w : World × World). IsNumberOfStatus (EndsFor (asked_of words) w.0 w.1) number)
-    (λ i. (world (had i) old.failed (left i) (output (stood i) old.written.failed), world (has i) new.failed new.reader (output (wrote i) new.written.failed)))
+    (λ i. (world (had i) old.calls old.failed (left i) (output (stood i) old.written.failed), world (has i) new.calls new.failed new.reader (output (wrote i) new.written.failed)))
     ends)

@@ -1,23 +1,22 @@
 -- The numbers by which runs end.
-use Rattle.std.proofs.Common.{◌≡◌, ◌∙◌, ◌⊎◌, ap, inl, inr, refl, subst, sym, arith, Bool, true, false, ℕ, List, [], ◌∷◌, Option, Some, None}
+use Rattle.std.proofs.Common.{◌≡◌, ◌∙◌, ◌⊎◌, ap, inl, inr, refl, sym, arith, Bool, true, false, ℕ, List, Option, Some, None}
 use Rattle.std.specs.Io.KnownBytes.{Keeps}
 use Rattle.byte_io.specs.Shelf.{Bytes}
-use Rattle.pdb_request.specs.Asked.{Asked, MakeTableArguments, make_table, prove, solve}
+use Rattle.pdb_request.specs.Asked.{Asked, make_table, prove, solve}
 use Rattle.byte_io.specs.declared.shelf.KeepFault.TheVariants as keep
 use Rattle.byte_io.specs.declared.streams.ReadFault.TheVariants as read
-use Rattle.pdb_run.specs.Commands.{Plan, Wanted}
 use Rattle.pdb_run.specs.Inputs.{Failures, HasFailed}
-use Rattle.pdb_run.specs.Runs.{Ends, HasCause, IsAnswered, Outcome, WantsMemory, World, no_memory, replied, status_of, status_of_reply, unkept, unread, unwritable}
+use Rattle.pdb_run.specs.Runs.{Ends, HasCause, IsAnswered, Outcome, World, made_wrong, replied, status_of, status_of_reply, unkept, unlisted, unread, unwritable}
 use Rattle.pdb_run.specs.Statuses.{status_number}
 use Rattle.pdb_run.specs.declared.statuses.Status.{Status}
 use Rattle.pdb_run.specs.declared.statuses.Status.TheVariants.{Fault, NoMemory, Refused, Yes}
 use Rattle.pdb_run.proofs.AnswerLemmas.{IsAnswered-ends}
-use Rattle.pdb_keep.specs.MakeTable.{make_table_plan}
 use Rattle.pdb_keep.proofs.KeptLemmas.{log_answered, table_answered}
 use Rattle.pdb_words.specs.CommandLine.{Parses, asked_of}
 use Rattle.pdb_words.specs.Faults.{IsMistaken}
-use Rattle.pdb_program.specs.Programs.{AskToKeepNothing, EndsFor, HasFault, HasKept, IsCut, IsNumberOfStatus, RunsOn, SaysAll, plan_of, taking_memory}
+use Rattle.pdb_program.specs.Programs.{AskToKeepNothing, EndsFor, HasFault, HasKept, IsCut, IsNumberOfStatus, RunsOn, SaysAll, plan_of}
 use Rattle.pdb_program.specs.Refusals.{Refuses}
+use Rattle.pdb_program.specs.Steps.{OnlyWrites}
 
 -- a run that was cut is neither a yes nor a no
 cut_fault : (asked : Asked) (old new : World) (status : Status) → IsCut asked old new status → status ≡ Fault
@@ -41,62 +40,23 @@ answered_by asked old new _ number (_, e, ends) is = absurd (omega arith)
 
 -- ---- words that parse, where memory was refused
 
--- a plan that takes memory at any time may want it: to list what is read, or where nothing is
-taking-wants : (plan : Plan) (old : World) → WantsMemory (taking_memory plan) old
-taking-wants plan old = go plan.inputs refl
-  where
-    go : (wanted : List Wanted) → plan.inputs ≡ wanted → WantsMemory (taking_memory plan) old
-    go [] none = inr ([], rw none tt, tt)
-    go (first ∷ more) some = inl (rw some (omega arith))
-
--- so it may whatever is asked for: to list what is read, or for a table that is to be made
-wants : (asked : Asked) (old : World) → WantsMemory (plan_of asked) old
-wants (make_table arguments) old = taking-wants (make_table_plan arguments) old
-wants _ old = inl (omega arith)
-
 -- what is said of a fault in words that parse is want of memory
-pub parsed_ends : (words : List Bytes) (old new : World) (old_err new_err : Option Bytes) (status : Status) → Parses words → new.files ≡ old.files
+pub parsed_ends : (words : List Bytes) (old new : World) (old_err new_err : Option Bytes) (status : Status) → Parses words → OnlyWrites old new
     → Refuses words old.written new.written old_err new_err status → EndsFor (asked_of words) old new status
-parsed_ends words old new old_err new_err status parses files = elim [
-  | inl memory ↦
-      inl (record { outcome = no_memory; cause = wants (asked_of words) old; files = files; failure = tt; reader = tt; said = memory.0 })
+parsed_ends words old new old_err new_err status parses same = elim [
+  | inl memory ↦ inl (record {
+    outcome = unlisted;
+    cause = tt;
+    files = same.files;
+    calls = same.calls;
+    failure = same.failed;
+    reader = same.reader;
+    said = memory.0;
+  })
   | inr (inl mistake) ↦ absurd (rw parses at mistake.0.among)
-  | inr (inr help) ↦ absurd (rw parses at help.0)
+  | inr (inr (inl help)) ↦ absurd (rw parses at help.0)
+  | inr (inr (inr version)) ↦ absurd (rw parses at version.0)
 ]
-
--- ---- a table that is to be made
-
--- what has cause by a plan has it by that which may want memory at any time
-taking : (plan : Plan) (old : World) (failed : Failures) (outcome : Outcome) → HasCause plan old failed outcome
-    → HasCause (taking_memory plan) old failed outcome
-taking plan old failed (unwritable name why) cause =
-    record { under = cause.under; inputs = cause.inputs; read = cause.read; has_failed = cause.has_failed }
-taking plan old failed (unkept name why) cause =
-    record {
-      under = cause.under;
-      inputs = cause.inputs;
-      reply = cause.reply;
-      right = cause.right;
-      file = cause.file;
-      is_kept = cause.is_kept;
-      has_failed = cause.has_failed;
-    }
-taking plan old failed no_memory (inl listed) = inl listed
-taking plan old failed no_memory (inr checked) = inr (checked.0, checked.1, tt)
-taking plan old failed _ cause = cause
-
--- what was asked for is a table to be made
-pub made_ends : (arguments : MakeTableArguments) (asked : Asked) (old new : World) (status : Status) → make_table arguments ≡ asked
-    → Ends (make_table_plan arguments) old new status → EndsFor asked old new status
-made_ends arguments asked old new status is ends =
-    subst (λ (a : Asked). EndsFor a old new status) is (inl (record {
-      outcome = ends.outcome;
-      cause = taking (make_table_plan arguments) old new.failed ends.outcome ends.cause;
-      files = ends.files;
-      failure = ends.failure;
-      reader = ends.reader;
-      said = ends.said;
-    }))
 
 -- ---- failures
 
@@ -128,9 +88,10 @@ fault_of asked old new (unread wanted read.F1) cause is = elim (one_failed wante
   | inl shelf ↦ inl shelf
   | inr reader ↦ inr (inl reader)
 ]
-fault_of asked old new (unread wanted read.F2) cause is = inr (inr (inr (wanted, cause)))
+fault_of asked old new (unread wanted read.F2) cause is = inr (inr (inr (inl (wanted, cause))))
 fault_of asked old new (unwritable name keep.F3) cause is = inl (cause.has_failed refl)
 fault_of asked old new (unkept name keep.F3) cause is = inl (cause.has_failed refl)
+fault_of asked old new made_wrong cause is = inr (inr (inr (inr cause)))
 fault_of asked old new (replied inputs reply) cause is = absurd (reply_fault reply.is_yes is)
 fault_of asked old new _ cause is = let clash : NoMemory ≡ Fault = is in absurd cc
 
@@ -149,7 +110,7 @@ faulted asked old new number _ is ends two = absurd (omega arith)
 
 -- a yes has kept what was asked for
 yes_keeps : (asked : Asked) (old new : World) → IsAnswered (plan_of asked) old new Yes → HasKept asked old new
-yes_keeps (make_table arguments) old new answered = table_answered arguments old new _ answered
+yes_keeps (make_table arguments) old new answered = table_answered arguments old new answered
 yes_keeps (solve arguments) old new answered = log_answered arguments old new answered
 yes_keeps _ old new answered = answered.files
 

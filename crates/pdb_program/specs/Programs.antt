@@ -1,5 +1,5 @@
 -- What the words of the program do, and how a run on words ends.
-use Rattle.std.specs.Prelude.{◌≡◌, ◌⊎◌, ⊤, ℕ, false, true, List, Option, None}
+use Rattle.std.specs.Prelude.{◌≡◌, ◌⊎◌, ℕ, false, true, List, Option, None}
 use Rattle.std.specs.Io.KnownBytes.{Keeps}
 use Rattle.byte_io.specs.Shelf.{Bytes}
 use Rattle.byte_io.specs.Streams.{WritesAll}
@@ -8,7 +8,7 @@ use Rattle.pdb_request.specs.Asked.{Asked, bound, make_table, optimal, prove, re
 use Rattle.pdb_request.specs.declared.requests.Claim.TheVariants.{Bound, Optimum}
 use Rattle.pdb_run.specs.Commands.{Plan, Wanted}
 use Rattle.pdb_run.specs.Inputs.{IsFirstUnread}
-use Rattle.pdb_run.specs.Runs.{Ends, HasCause, IsAnswered, Outcome, World, status_of, text_of}
+use Rattle.pdb_run.specs.Runs.{Ends, HasCause, HasMade, IsAnswered, Outcome, World, status_of, text_of}
 use Rattle.pdb_run.specs.Statuses.{status_number}
 use Rattle.pdb_run.specs.declared.statuses.Status.{Status}
 use Rattle.pdb_verdict.specs.Plans.{log_check_plan, replay_plan, table_plan}
@@ -20,18 +20,13 @@ use Rattle.pdb_words.specs.CommandLine.{Parses, asked_of}
 use Rattle.pdb_words.specs.Faults.{IsMistaken}
 use Rattle.pdb_program.specs.Refusals.{Refuses}
 
--- the plan, where memory may be wanted whatever is asked for
-abbrev pub taking_memory : Plan → Plan
-taking_memory plan = record plan { TakesMemory = λ inputs. ⊤ }
-
--- the plan of what words ask for; how many workers share a check and how far a search may go change nothing of it, and
--- to read the words of a table that is to be made takes memory, whatever its numbers are
+-- the plan of what words ask for; how many workers share a check and how far a search may go change nothing of it
 abbrev pub plan_of : Asked → Plan
 plan_of (replay arguments) = replay_plan arguments
 plan_of (table arguments) = table_plan arguments
 plan_of (bound arguments) = log_check_plan Bound arguments
 plan_of (optimal arguments) = log_check_plan Optimum arguments
-plan_of (make_table arguments) = taking_memory (make_table_plan arguments)
+plan_of (make_table arguments) = make_table_plan arguments
 plan_of (solve arguments) = solve_plan arguments
 plan_of (prove arguments) = prove_plan arguments
 
@@ -62,11 +57,13 @@ pub record SaysAll (asked : Asked) (old new : World) (number : ℕ) : Type 0 whe
   pub whole : WritesAll old.written new.written (text_of outcome)
   pub is_status : number ≡ status_number (status_of outcome)
 
--- the shelf has failed, or the reader, or a write; or an input, the first that was not read, is over its limit
+-- the shelf has failed, or the reader, or a write; or an input, the first that was not read, is over its limit; or something was
+-- made of the inputs, and is wrong
 abbrev pub HasFault : Asked → World → World → Type 0
 HasFault asked old new =
     (new.failed.shelf ≡ true) ⊎ (new.failed.reader ≡ true) ⊎ (new.written.failed ≡ true)
     ⊎ ((wanted : Wanted) × IsFirstUnread old.files old.reader new.failed (plan_of asked).inputs wanted F2)
+    ⊎ HasMade (plan_of asked) old
 
 -- the number is that of a status of which this holds
 abbrev pub IsNumberOfStatus : (Status → Type 0) → ℕ → Type 0
@@ -76,7 +73,8 @@ IsNumberOfStatus Holds number = (status : Status) × (number ≡ status_number s
 pub record RunsOn (words : List Bytes) (old new : World) (old_err new_err : Option Bytes) (number : ℕ) : Type 0 where
   pub answered : Parses words → (number ≡ 0) ⊎ (number ≡ 1) → IsNumberOfStatus (IsAnswered (plan_of (asked_of words)) old new) number
   pub ends : Parses words → IsNumberOfStatus (EndsFor (asked_of words) old new) number
-  -- nothing is cut short but by a write that failed, and status 2 has a cause that shelf, streams or inputs show
+  -- nothing is cut short but by a write that failed, and status 2 has a cause that shelf, streams or inputs show, or that lies with a
+  -- maker
   pub whole : Parses words → new.written.failed ≡ false → SaysAll (asked_of words) old new number
   pub fault : Parses words → number ≡ 2 → HasFault (asked_of words) old new
   pub refuses : (Parses words → ⊥) → IsNumberOfStatus (Refuses words old.written new.written old_err new_err) number

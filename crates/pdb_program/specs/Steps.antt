@@ -5,6 +5,13 @@ use Rattle.pdb_run.specs.Runs.{World}
 use Rattle.pdb_words.specs.CommandLine.{Parses, asked_of}
 use Rattle.pdb_program.specs.Headline.{Headline}
 
+-- nothing has changed but what was written
+pub record OnlyWrites (old new : World) : Type 0 where
+  pub files : new.files ≡ old.files
+  pub calls : new.calls ≡ old.calls
+  pub failed : new.failed ≡ old.failed
+  pub reader : new.reader ≡ old.reader
+
 -- the headline on these words, from the one world to the other, where they tell their bytes
 abbrev pub SaysHeadline : List Bytes → World → World → ℕ → Type 0
 SaysHeadline words old new number =

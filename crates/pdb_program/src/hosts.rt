@@ -4,7 +4,6 @@ ghost use Rattle.std.specs.Prelude.{◌≡◌};
 ghost use Rattle.work_run.specs.Workers.{AreWorkers};
 
 use std::alloc::Global;
-use std::io;
 use work_run::Workers;
 
 /// What a run has of its host.
@@ -28,9 +27,18 @@ impl<'h, H, G> Host<'h, H, G> {
     }
 }
 
+/// Why there are no arguments.
+#[derive(Clone, Copy, Debug, Drop)]
+pub enum ArgumentFault {
+    /// Memory was refused.
+    Memory,
+    /// The argument with this index is no UTF-8 text.
+    Unreadable(usize),
+}
+
 /// How the program is called: its host, and its arguments, of which the first is its own name.
 #[derive(Drop)]
 pub struct Call<'h, H, G> {
     pub host: Host<'h, H, G>,
-    pub arguments: io::Result<Vec<String>>,
+    pub arguments: Result<Vec<String>, ArgumentFault>,
 }

@@ -3,6 +3,7 @@
 ghost use Rattle.std.specs.Prelude.{◌≡◌, ◌⊎◌, ◌++◌, Option, map, string_bytes};
 ghost use Rattle.std.specs.Io.KnownBytes.{Keeps};
 ghost use Rattle.byte_io.specs.Shelf.{Bytes};
+ghost use Rattle.pdb_run.specs.Calls.{calls};
 ghost use Rattle.pdb_run.specs.Inputs.{failures};
 ghost use Rattle.pdb_run.specs.Runs.{world};
 ghost use Rattle.pdb_words.specs.CommandLine.{Parses, asked_of};
@@ -29,8 +30,8 @@ use std::sync::Wait;
 use std::thread::Threads;
 use work_run::Gate;
 
-/// Does what the words ask for, and answers the status: 0 for a yes or for help, 1 for a refusal, 2 for bad words or
-/// a fault of a read or a write, 3 for want of memory.
+/// Does what the words ask for, and answers the status: 0 for a yes, for help or for the version, 1 for a refusal, 2 for
+/// bad words or a fault of a read or a write, 3 for want of memory.
 ///
 /// The words leave out the program's own name. Without any it is `replay` on the reader. Workers pass the gate.
 pub fn run<H: Threads + Wait + Sync, S: Shelf, R: Source, W: Sink, E: Write, G: Gate + Sync>(
@@ -56,10 +57,10 @@ pub fn run<H: Threads + Wait + Sync, S: Shelf, R: Source, W: Sink, E: Write, G: 
     // and checked stands under its name. In any case the run says one thing that it has cause to say, or a proper front of it
     // where the writer failed; so it does of words that don't parse.
     ensures runs { RunsOn (map string_bytes words.items)
-        (world (S.held shelf.old)
+        (world (S.held shelf.old) (calls (S.calls shelf.old) (R.may_have_ended reader.old))
         (failures (S.has_failed shelf.old) (R.may_have_failed reader.old))
         (R.remaining reader.old) (W.output out.old))
-        (world (S.held shelf.new)
+        (world (S.held shelf.new) (calls (S.calls shelf.new) (R.may_have_ended reader.new))
         (failures (S.has_failed shelf.new) (R.may_have_failed reader.new))
         (R.remaining reader.new) (W.output out.new))
         (E.contents err.old) (E.contents err.new) result }

@@ -3,22 +3,24 @@
 ghost use Rattle.std.specs.Prelude.{◌≡◌, ℕ, List};
 ghost use Rattle.pdb_words.specs.Faults.{IsCauseOfWordFault};
 ghost use Rattle.pdb_program.specs.Refusals.{AppendsWholeOrFront, Refuses};
+ghost use Rattle.pdb_program.specs.Steps.{OnlyWrites};
 
 use byte_io::streams::put_text;
 use pdb_run::{Io, Status, say_no_memory, say_text};
-use pdb_words::WordFault;
+use pdb_words::{WordFault, version_line};
 use std::io::Write;
 
-/// Shows help, or says why the words ask for nothing.
+/// Shows help or the version, or says why the words ask for nothing.
 pub(crate) fn explain<I: Io, E: Write>(fault: WordFault, io: &mut I, err: &mut E) -> Status
     ensures same_streams { I.streams io.new ≡ I.streams io.old }
     ensures refuses { let old = I.world io.old in let new = I.world io.new in
         (words : List (List ℕ)) → IsCauseOfWordFault words fault
         → Refuses words old.written new.written (E.contents err.old) (E.contents err.new) result }
-    ensures same { (I.world io.new).files ≡ (I.world io.old).files }
+    ensures same { OnlyWrites (I.world io.old) (I.world io.new) }
 {
     match fault {
         WordFault::Help(text) => say_text(text.as_str(), Status::Yes, io),
+        WordFault::Version => say_text(version_line(), Status::Yes, io),
         WordFault::Mistake(text) => tell(text.as_str(), err),
         WordFault::Memory => say_no_memory(io),
     }

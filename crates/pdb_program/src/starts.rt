@@ -1,11 +1,10 @@
 //! A run of the program, from what the system gave as its arguments.
 
-ghost use Rattle.std.specs.Prelude.{◌≡◌, ◌≢◌, ◌++◌, Option, drop, map, string_bytes, IfErr, IfOk, OnErr};
-ghost use Rattle.std.specs.IoError.{error_kind};
+ghost use Rattle.std.specs.Prelude.{◌≡◌, ◌++◌, ℕ, Option, drop, map, string_bytes, IfErr, IfOk, OnErr};
 ghost use Rattle.std.specs.Io.KnownBytes.{Keeps};
-ghost use Rattle.std.specs.declared.io.ErrorKind.TheVariants.{OutOfMemory};
 ghost use Rattle.byte_io.specs.Shelf.{Bytes};
 ghost use Rattle.pdb_run.specs.Writing.{memory_line};
+ghost use Rattle.pdb_run.specs.Calls.{calls};
 ghost use Rattle.pdb_run.specs.Inputs.{failures};
 ghost use Rattle.pdb_run.specs.Runs.{Says, world};
 ghost use Rattle.pdb_words.specs.CommandLine.{Parses, asked_of};
@@ -14,7 +13,7 @@ ghost use Rattle.pdb_program.specs.Headline.{Headline};
 ghost use Rattle.pdb_program.specs.Programs.{IsNumberOfStatus, RunsOn};
 ghost use Rattle.pdb_program.specs.Refusals.{AppendsWholeOrFront};
 
-use crate::hosts::Call;
+use crate::hosts::{ArgumentFault, Call};
 use crate::programs::run_on;
 use crate::refusals::tell;
 use byte_io::shelf::Shelf;
@@ -23,14 +22,13 @@ use byte_io::sources::Source;
 use byte_io::streams::put_text;
 use pdb_run::{BorrowedIo, NO_MEMORY, Status};
 use pdb_words::unreadable_word;
-use std::io;
 use std::io::Write;
 use std::sync::Wait;
 use std::thread::Threads;
 use work_run::Gate;
 
 /// A run on the arguments behind the first, which is the program's own name, or what is said where they can't be taken:
-/// for want of memory, or since one is no UTF-8 text. Then the shelf and the reader stay as they are.
+/// for want of memory, or since one is no UTF-8 text, which is named by its place. Then the shelf and the reader stay as they are.
 pub fn start<H: Threads + Wait + Sync, S: Shelf, R: Source, W: Sink, E: Write, G: Gate + Sync>(
     call: Call<'_, H, G>,
     shelf: &mut S,
@@ -48,20 +46,21 @@ pub fn start<H: Threads + Wait + Sync, S: Shelf, R: Source, W: Sink, E: Write, G
         → Headline (asked_of words) before later input lines result) }
 
     ensures runs { IfOk call.entry.arguments (λ all. RunsOn (drop 1 (map string_bytes all.items))
-        (world (S.held shelf.old)
+        (world (S.held shelf.old) (calls (S.calls shelf.old) (R.may_have_ended reader.old))
         (failures (S.has_failed shelf.old) (R.may_have_failed reader.old))
         (R.remaining reader.old) (W.output out.old))
-        (world (S.held shelf.new)
+        (world (S.held shelf.new) (calls (S.calls shelf.new) (R.may_have_ended reader.new))
         (failures (S.has_failed shelf.new) (R.may_have_failed reader.new))
         (R.remaining reader.new) (W.output out.new))
         (E.contents err.old) (E.contents err.new) result) }
-    ensures memory { IfErr call.entry.arguments (λ e. error_kind e ≡ OutOfMemory
+    ensures memory { IfErr call.entry.arguments (λ fault. fault ≡ ArgumentFault.Memory
         → IsNumberOfStatus
         (Says memory_line Status.NoMemory (W.output out.old) (W.output out.new)) result
         × Keeps (E.contents err.old) (E.contents err.new)) }
-    ensures unreadable { IfErr call.entry.arguments (λ e. error_kind e ≢ OutOfMemory
+    ensures unreadable { IfErr call.entry.arguments (λ fault. (place : ℕ)
+        → fault ≡ ArgumentFault.Unreadable place
         → Keeps (W.output out.old).bytes (W.output out.new).bytes
-        × AppendsWholeOrFront unreadable_word (E.contents err.old) (E.contents err.new)
+        × AppendsWholeOrFront (unreadable_word place) (E.contents err.old) (E.contents err.new)
         × (result ≡ 2)) }
     ensures untouched { OnErr call.entry.arguments
         ((shelf.new ≡ shelf.old) × (reader.new ≡ reader.old)) }
@@ -72,7 +71,7 @@ pub fn start<H: Threads + Wait + Sync, S: Shelf, R: Source, W: Sink, E: Write, G
             let mut io = BorrowedIo { shelf, reader, out };
             run_on(&host, words_in(all), &mut io, err)
         }
-        Err(error) => without_words(&error, out, err).code(),
+        Err(fault) => without_words(fault, out, err).code(),
     }
 }
 
@@ -87,18 +86,18 @@ fn words_in(mut arguments: Vec<String>) -> Vec<String>
 }
 
 /// Says why there are no words.
-fn without_words<W: Sink, E: Write>(error: &io::Error, out: &mut W, err: &mut E) -> Status
-    ensures memory { error_kind error.now ≡ OutOfMemory
+fn without_words<W: Sink, E: Write>(fault: ArgumentFault, out: &mut W, err: &mut E) -> Status
+    ensures memory { fault ≡ ArgumentFault.Memory
         → Says memory_line Status.NoMemory (W.output out.old) (W.output out.new) result
         × Keeps (E.contents err.old) (E.contents err.new) }
-    ensures unreadable { error_kind error.now ≢ OutOfMemory
+    ensures unreadable { (place : ℕ) → fault ≡ ArgumentFault.Unreadable place
         → Keeps (W.output out.old).bytes (W.output out.new).bytes
-        × AppendsWholeOrFront unreadable_word (E.contents err.old) (E.contents err.new)
+        × AppendsWholeOrFront (unreadable_word place) (E.contents err.old) (E.contents err.new)
         × (result ≡ Status.Fault) }
 {
-    match error.kind() {
-        io::ErrorKind::OutOfMemory => say_on(out, NO_MEMORY, Status::NoMemory),
-        _ => tell(unreadable_word(), err),
+    match fault {
+        ArgumentFault::Memory => say_on(out, NO_MEMORY, Status::NoMemory),
+        ArgumentFault::Unreadable(place) => tell(unreadable_word(place).as_str(), err),
     }
 }
 

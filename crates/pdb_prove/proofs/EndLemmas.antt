@@ -68,6 +68,7 @@ module _ (arguments : ProveArguments) (files : ClaimsFiles) {old read : World} (
     each = tt;
     front = rw (append-nil (digests_of (digested_files files)), ← are.written) head.written;
     same = head.files ∙ are.files;
+    calls = head.calls ∙ are.calls;
     failure = head.failed ∙ are.failed;
     reader = rw head.reader are.behind;
     is_fault = refl;
@@ -88,6 +89,7 @@ module _ (arguments : ProveArguments) (files : ClaimsFiles) {old read : World} (
           each = cut.each;
           front = rw (← are.written) all.written;
           same = all.files ∙ are.files;
+          calls = all.calls ∙ are.calls;
           failure = all.failed ∙ are.failed;
           reader = rw all.reader are.behind;
           is_fault = refl;
@@ -113,6 +115,7 @@ module _ (arguments : ProveArguments) (files : ClaimsFiles) {old read : World} (
             ),
           );
           files = whole.files ∙ are.files;
+          calls = whole.calls ∙ are.calls;
           failure = λ name under. whole.failed ∙ are.failed;
           reader = rw whole.reader are.behind;
           said = inl (rw (← are.written) whole.written, rw (← all.yes) is);

@@ -32,6 +32,7 @@ pub written_behind : {a b c : World} {xs ys : Bytes} {r : Written} → IsWritten
     → IsWritten (xs ++ ys) a c r
 written_behind {a} {b} {c} {xs} {ys} {r} p q = record {
   written = writes_behind a.written b.written c.written xs ys r p.written q.written;
+  calls = q.calls ∙ p.calls;
   files = q.files ∙ p.files;
   failed = q.failed ∙ p.failed;
   reader = q.reader ∙ p.reader;
@@ -47,7 +48,7 @@ zip_behind v budget _ _ more rest p q = absurd p
 module _ {v : ShownBundle} {budget : ℕ} where
   -- nothing was told of no claims
   pub none_told : (w : World) → AreAllTold v budget w w [] true
-  none_told w = record { told = []; each = tt; yes = refl; written = record { written = (Appends-nil w.written.bytes, refl); files = refl; failed = refl; reader = refl } }
+  none_told w = record { told = []; each = tt; yes = refl; written = record { written = (Appends-nil w.written.bytes, refl); calls = refl; files = refl; failed = refl; reader = refl } }
 
   module _ {a b c : World} {claims more : List ShownClaim} {y : Bool} (all : AreAllTold v budget a b claims y) where
     -- all of some claims were told, and all of more behind them

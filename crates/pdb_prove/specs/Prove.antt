@@ -9,6 +9,7 @@ use Rattle.claim_text.specs.Lines.{Told, told_line}
 use Rattle.byte_io.specs.Shelf.{Bytes}
 use Rattle.byte_io.specs.Streams.{WritesFront}
 use Rattle.pdb_request.specs.Asked.{ProveArguments}
+use Rattle.pdb_run.specs.Calls.{with_inputs}
 use Rattle.pdb_run.specs.Commands.{Plan, Reply, Wanted, plan}
 use Rattle.pdb_run.specs.Inputs.{AreRead, IsAsTold, left_by_all}
 use Rattle.pdb_run.specs.Runs.{Ends, World}
@@ -146,6 +147,7 @@ pub record IsCutShort (arguments : ProveArguments) (old new : World) (status : S
   pub each : AllZip (IsToldOf bundle (budget_of arguments.budget)) first told
   pub front : WritesFront old.written new.written (digests_of (digested_files files) ++ told_lines told)
   pub same : new.files ≡ old.files
+  pub calls : new.calls ≡ with_inputs old.calls (prove_inputs arguments)
   pub failure : new.failed ≡ old.failed
   pub reader : IsAsTold (left_by_all old.reader (prove_inputs arguments)) new.reader
   pub is_fault : status ≡ Fault

@@ -1,13 +1,15 @@
 //! The inputs of `prove`, in their order.
 
-ghost use Rattle.std.specs.Prelude.{◌≡◌, option_map};
+ghost use Rattle.std.specs.Prelude.{◌≡◌, ◌≤◌, length, option_map};
 ghost use Rattle.pdb_request.specs.Asked.{prove_shown};
+ghost use Rattle.pdb_run.specs.Answers.{all_bytes};
 ghost use Rattle.pdb_run.specs.Inputs.{wanted_of};
-ghost use Rattle.pdb_prove.specs.Prove.{a_claims_text, prove_plan};
+ghost use Rattle.pdb_prove.specs.Prove.{a_claims_text, in_order, prove_plan};
+ghost use Rattle.pdb_prove.specs.Steps.{files_of};
 
 use pdb_request::Prove;
 use pdb_run::{Command, Input};
-use pdb_verdict::{a_text, push_tables};
+use pdb_verdict::{a_text, with_tables};
 use std::alloc::{AllocError, Global};
 
 /// The most bytes of a claims text.
@@ -22,12 +24,19 @@ impl Command for Proving<'_, '_> {
 
     fn inputs(&self, alloc: Global) -> Result<Vec<Input<'_>>, AllocError> {
         let prove = self.0;
-        let mut inputs = Vec::new(alloc);
-        inputs.push(a_claims_text(prove.claims))?;
-        inputs.push(a_text(Some(prove.sets)))?;
-        push_tables(&mut inputs, prove.tables.as_slice())?;
-        Ok(inputs)
+        let texts = [a_claims_text(prove.claims), a_text(Some(prove.sets))];
+        with_tables(alloc, &texts, prove.tables.as_slice())
     }
+}
+
+/// The claims text, the set text and the tables, which were read in this order.
+pub(crate) fn files_read(inputs: Vec<Vec<u8>>) -> (Vec<u8>, Vec<u8>, Vec<Vec<u8>>)
+    requires { 2 ≤ length inputs.items }
+    ensures { let files = files_of result.0.items result.1.items (all_bytes result.2.items) in
+        all_bytes inputs.items ≡ in_order files }
+{
+    let mut tables = inputs;
+    (tables.remove(0), tables.remove(0), tables)
 }
 
 /// A claims text under this name, or of the reader.

@@ -6,7 +6,7 @@ ghost use Rattle.puz_board.specs.Boards.{side_of};
 ghost use Rattle.claim_text.specs.Shown.{claim_shown};
 ghost use Rattle.claim_text.specs.Texts.{AreClaims};
 ghost use Rattle.byte_io.specs.Shelf.{Bytes};
-ghost use Rattle.pdb_verdict.specs.FileBundles.{IsBundleOfFiles, IsCauseForBundle};
+ghost use Rattle.pdb_verdict.specs.FileBundles.{IsReadBundle};
 ghost use Rattle.pdb_prove.specs.Prove.{AreReady, IsFirstOfAnotherSide};
 ghost use Rattle.pdb_prove.specs.Steps.{IsCauseForClaims, files_of};
 
@@ -43,14 +43,13 @@ pub(crate) fn ready_with<'b, 'c>(
     requires { length claims.items ≤ MOST_CLAIMS }
     ensures ok { (fold : Bool) (text sets : Bytes) (tables : List Bytes)
         → AreClaims text (map claim_shown claims.entry.items)
-        → IfOk bundle.entry (IsBundleOfFiles fold tables sets)
+        → IsReadBundle fold tables sets bundle.entry
         → IfOk result (λ ready. AreReady fold (files_of text sets tables)
         (map claim_shown ready.claims.items) ready.bundle) }
     ensures same { IfOk result (λ ready. ready.claims.items ≡ claims.entry.items) }
     ensures err { (fold : Bool) (text sets : Bytes) (tables : List Bytes)
         → AreClaims text (map claim_shown claims.entry.items)
-        → IfOk bundle.entry (IsBundleOfFiles fold tables sets)
-        → IfErr bundle.entry (IsCauseForBundle fold tables sets)
+        → IsReadBundle fold tables sets bundle.entry
         → IfErr result (IsCauseForClaims fold (files_of text sets tables)) }
 {
     let bundle = bundle?;

@@ -1,6 +1,6 @@
 //! A run of `prove`.
 
-ghost use Rattle.std.specs.Prelude.{◌≡◌, ◌≤◌, true, IfErr, IfOk, length, map};
+ghost use Rattle.std.specs.Prelude.{◌≡◌, IfErr, IfOk, map};
 ghost use Rattle.std.specs.List.{All};
 ghost use Rattle.claim_text.specs.Lines.{HasFewLetters};
 ghost use Rattle.claim_text.specs.Shown.{claim_shown};
@@ -10,21 +10,17 @@ ghost use Rattle.pdb_run.specs.Answers.{all_bytes, answer_text, digest_lines};
 ghost use Rattle.pdb_run.specs.Io.{HasRead};
 ghost use Rattle.pdb_run.specs.Runs.{World, status_of_reply};
 ghost use Rattle.pdb_run.specs.Writing.{digests_of};
-ghost use Rattle.pdb_verdict.specs.FileBundles.{IsBundleOfFiles, IsCauseForBundle};
 ghost use Rattle.pdb_prove.specs.Prove.{AreReady, ClaimsFiles, ProveEnds, budget_of, digested_files, in_order, prove_inputs};
 ghost use Rattle.pdb_prove.specs.Steps.{IsCauseForClaims, files_of, of_claims};
 
 use crate::batches::tell_all;
-use crate::inputs::Proving;
+use crate::inputs::{Proving, files_read};
 use crate::ready::{Asked, Ready, ready_with};
 use claim_text::{ClaimsFault, read_claims};
 use pdb_request::Prove;
-use pdb_run::{
-    Answer, Digested, FILES_BESIDE, Io, Lines, Status, conclude, digested_beside, read_inputs,
-    with_digest,
-};
-use pdb_verdict::{Fault, Tables, fold_bundle, read_bundle, take_first, told_or_memory};
-use set_sum::Bundle;
+use pdb_run::{Answer, Digested, Io, Lines, Status, conclude, read_inputs};
+use pdb_verdict::{Bundling, Fault, over_tables, told_or_memory};
+use std::convert::identity;
 use std::sync::Wait;
 use std::thread::Threads;
 use work_run::{Gate, Workers};
@@ -41,30 +37,23 @@ pub fn run_prove<H: Threads + Wait + Sync, G: Gate + Sync, I: Io>(
     ensures ends { ProveEnds (prove_shown prove.now) (I.world io.old) (I.world io.new) result }
 {
     let command = Proving(prove);
-    let mut tables = match read_inputs(workers.alloc, &command, io) {
-        Ok(inputs) => inputs,
+    let (text, sets, mut tables) = match read_inputs(workers.alloc, &command, io) {
+        Ok(inputs) => files_read(inputs),
         Err(status) => return status,
     };
-    let text = take_first(&mut tables);
-    let sets = take_first(&mut tables);
-    match read_claims(workers.alloc, text.as_slice()) {
-        Ok(claims) => {
-            let asked = Asked {
-                text: text.as_slice(),
-                sets: sets.as_slice(),
-                claims,
-            };
-            if prove.fold && tables.len() <= FILES_BESIDE {
-                prove_folded(&command, asked, tables, workers, io)
-            } else {
-                prove_full(&command, asked, tables.as_slice(), workers, io)
-            }
-        }
+    let claims = match read_claims(workers.alloc, text.as_slice()) {
+        Ok(claims) => claims,
         Err(fault) => {
             let digested = Digested::Files(tables.as_slice(), Some(text.as_slice()));
-            tell_fault(&command, digested, of_claims(fault), io)
+            return tell_fault(&command, digested, of_claims(fault), io);
         }
-    }
+    };
+    let asked = Asked {
+        text: text.as_slice(),
+        sets: sets.as_slice(),
+        claims,
+    };
+    prove_claims(&command, asked, &mut tables, workers, io)
 }
 
 /// Why nothing is searched, where a text gives no claims.
@@ -77,11 +66,11 @@ fn of_claims(fault: ClaimsFault) -> Fault
     }
 }
 
-/// Proves claims over the tables as they were read.
-fn prove_full<H: Threads + Wait + Sync, G: Gate + Sync, I: Io>(
+/// Proves claims over tables and sets. The digests of the tables and of the claims text are made beside the tables' checks.
+fn prove_claims<H: Threads + Wait + Sync, G: Gate + Sync, I: Io>(
     command: &Proving<'_, '_>,
     asked: Asked<'_>,
-    tables: &[Vec<u8>],
+    tables: &mut Vec<Vec<u8>>,
     workers: &Workers<'_, H, G>,
     io: &mut I,
 ) -> Status
@@ -89,69 +78,17 @@ fn prove_full<H: Threads + Wait + Sync, G: Gate + Sync, I: Io>(
     requires letters { All (λ claim. HasFewLetters (claim_shown claim)) asked.claims.items }
     ensures same_streams { I.streams io.new ≡ I.streams io.old }
     ensures ends { let arguments = prove_shown command.now.0.now in
-        let files = files_of asked.entry.text.now asked.entry.sets.now (all_bytes tables.now) in
+        let tables = all_bytes tables.old.items in
+        let files = files_of asked.entry.text.now asked.entry.sets.now tables in
         (old : World) → HasRead (prove_inputs arguments) old (I.world io.old) (in_order files)
         → ProveEnds arguments old (I.world io.new) result }
 {
     let Asked { text, sets, claims } = asked;
-    let given = Tables {
-        files: tables,
-        fold: command.0.fold,
-    };
-    let (digested, bundle) = bundle_beside(given, text, sets, workers);
+    let fold = command.0.fold;
+    let bundling = Bundling { sets, fold };
+    let (digested, bundle) = over_tables(tables, Some(text), bundling, workers, identity);
     let ready = ready_with(workers.alloc, claims, bundle);
     tell_ready(command, digested, &ready, workers, io)
-}
-
-/// The bundle of tables and a set text, and the digest lines of the tables and of a claims text, which are made beside the checks,
-/// where there are workers for both.
-fn bundle_beside<'t, H: Threads + Wait + Sync, G: Gate + Sync>(
-    tables: Tables<'t>,
-    text: &'t [u8],
-    sets: &[u8],
-    workers: &Workers<'_, H, G>,
-) -> (Digested<'t>, Result<Bundle<'t>, Fault>)
-    ensures digested { let all = files_of text.now sets.now (all_bytes tables.entry.files.now) in
-        digest_lines result.0 ≡ digests_of (digested_files all) }
-    ensures ok { let files = all_bytes tables.entry.files.now in
-        IfOk result.1 (IsBundleOfFiles tables.entry.fold files sets.now) }
-    ensures err { let files = all_bytes tables.entry.files.now in
-        IfErr result.1 (IsCauseForBundle tables.entry.fold files sets.now) }
-{
-    let check = || -> Result<Bundle<'_>, Fault>
-        ensures ok { let files = all_bytes tables.entry.files.now in
-            IfOk result (IsBundleOfFiles tables.entry.fold files sets.entry.now) }
-        ensures err { let files = all_bytes tables.entry.files.now in
-            IfErr result (IsCauseForBundle tables.entry.fold files sets.entry.now) }
-    { read_bundle(tables, sets, workers) };
-    digested_beside(workers.rt, workers.count, tables.files, Some(text), check)
-}
-
-/// Proves claims over folded tables. The bytes of each table are given up in turn, so that the search runs beside the folded
-/// tables alone.
-#[inline(never)] // so that a run with full tables hasn't its values on the stack
-fn prove_folded<H: Threads + Wait + Sync, G: Gate + Sync, I: Io>(
-    command: &Proving<'_, '_>,
-    asked: Asked<'_>,
-    tables: Vec<Vec<u8>>,
-    workers: &Workers<'_, H, G>,
-    io: &mut I,
-) -> Status
-    requires few { length tables.items ≤ FILES_BESIDE }
-    requires fold { command.now.0.now.fold ≡ true }
-    requires are_claims { AreClaims asked.text.now (map claim_shown asked.claims.items) }
-    requires letters { All (λ claim. HasFewLetters (claim_shown claim)) asked.claims.items }
-    ensures same_streams { I.streams io.new ≡ I.streams io.old }
-    ensures ends { let arguments = prove_shown command.now.0.now in
-        let files = files_of asked.entry.text.now asked.entry.sets.now (all_bytes tables.items) in
-        (old : World) → HasRead (prove_inputs arguments) old (I.world io.old) (in_order files)
-        → ProveEnds arguments old (I.world io.new) result }
-{
-    let Asked { text, sets, claims } = asked;
-    let (mut digests, bundle) = fold_bundle(tables, sets, workers);
-    with_digest(workers.rt, 1, &mut digests, text, || ());
-    let ready = ready_with(workers.alloc, claims, bundle);
-    tell_ready(command, Digested::Lines(digests), &ready, workers, io)
 }
 
 /// Tells what comes of claims where this is known before anything is searched.

@@ -107,7 +107,7 @@ replay_shown command = record { puzzle = option_map (λ s. s.now) command.puzzle
 abbrev pub table_check_shown : TableCheck → TableArguments
 table_check_shown check = record { file = check.file.now; workers = check.workers }
 
-abbrev pub log_check_shown : LogCheck → LogArguments
+abbrev pub log_check_shown : LogCheck (Bor (List ℕ)) → LogArguments
 log_check_shown check = record {
   text = check.text.now;
   sets = check.sets.now;
@@ -120,7 +120,7 @@ log_check_shown check = record {
 abbrev pub make_table_shown : MakeTable → MakeTableArguments
 make_table_shown command = record { side = command.side; mask = command.mask; out = command.out.now; workers = command.workers }
 
-abbrev pub search_shown : Search → SolveArguments
+abbrev pub search_shown : Search (Bor (List ℕ)) → SolveArguments
 search_shown search = record {
   board = search.board.now;
   sets = search.sets.now;

@@ -8,11 +8,11 @@ pub enum Request<'a> {
     /// `table`.
     TableCheck(TableCheck<'a>),
     /// `bound` and `optimal`.
-    LogCheck(LogCheck<'a>),
+    LogCheck(LogCheck<&'a str>),
     /// `make-table`.
     MakeTable(MakeTable<'a>),
     /// `solve`.
-    Search(Search<'a>),
+    Search(Search<'a, &'a str>),
     /// `prove`.
     Prove(Prove<'a>),
 }
@@ -41,17 +41,18 @@ pub enum Claim {
     Optimum,
 }
 
-/// Whether a log proves what is claimed of it: the files that are read, by their names and in the order in which they are read.
+/// Whether a log proves what is claimed of it: the files that are read, in the order in which they are read, by their names or
+/// with their bytes.
 #[derive(Debug, PartialEq, Drop)]
-pub struct LogCheck<'a> {
+pub struct LogCheck<T> {
     pub claim: Claim,
     /// What the log is to prove something of: a board text for a bound, a puzzle text for an optimum.
-    pub text: &'a str,
+    pub text: T,
     /// The sets of tables that the log sums over.
-    pub sets: &'a str,
-    pub log: &'a str,
+    pub sets: T,
+    pub log: T,
     /// The tables, in the order of their numbers: one or more.
-    pub tables: Vec<&'a str>,
+    pub tables: Vec<T>,
     /// How many workers check the tables and the log: 1 to 64.
     pub workers: u8,
     /// Whether each table is folded once it is checked.
@@ -71,18 +72,18 @@ pub struct MakeTable<'a> {
     pub workers: u8,
 }
 
-/// A shortest solution of a board, and the log that proves it shortest: the files that are read, by their names and in the order in
-/// which they are read, and the one that is kept.
+/// A shortest solution of a board, and the log that proves it shortest: the files that are read, in the order in which they are
+/// read, by their names or with their bytes, and the name of the one that is kept.
 #[derive(Debug, PartialEq, Drop)]
-pub struct Search<'a> {
+pub struct Search<'a, T> {
     /// The board text.
-    pub board: &'a str,
+    pub board: T,
     /// The sets of tables that the log sums over.
-    pub sets: &'a str,
+    pub sets: T,
     /// The name under which the log is kept.
     pub out: &'a str,
     /// The tables, in the order of their numbers: one or more.
-    pub tables: Vec<&'a str>,
+    pub tables: Vec<T>,
     /// How many workers check the tables and the log: 1 to 64.
     pub workers: u8,
     /// Whether each table is folded once it is checked.

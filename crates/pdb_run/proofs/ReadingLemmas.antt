@@ -1,9 +1,10 @@
 -- Inputs in a row.
-use Rattle.std.proofs.Common.{◌≡◌, ◌∙◌, ◌<◌, ℕ, List, [], ◌∷◌, ◌++◌, Option, ap, arith, drop, get_or, length, map, refl, suc, sym, take, ◌+◌}
+use Rattle.std.proofs.Common.{◌≡◌, ◌∙◌, ◌<◌, ℕ, List, [], ◌∷◌, ◌++◌, Option, None, Some, ap, arith, drop, get_or, length, map, refl, suc, sym, take, ◌+◌}
 use Rattle.std.proofs.lemmas.Grind.{common_steps}
 use Rattle.std.proofs.lemmas.List.{at_drop_more, map-append, take-append-drop}
 use Rattle.byte_io.specs.Shelf.{Bytes, Files}
 use Rattle.byte_io.specs.declared.streams.ReadFault.{ReadFault}
+use Rattle.pdb_run.specs.Calls.{Calls, with_input, with_inputs}
 use Rattle.pdb_run.specs.Commands.{Wanted}
 use Rattle.pdb_run.specs.Inputs.{AreRead, IsRead, left, left_by_all, wanted_of}
 use Rattle.pdb_run.specs.Io.{HasRead, HasStopped, IsNotLoaded}
@@ -22,6 +23,12 @@ read_more files reader (first ∷ before) (b ∷ bytes) wanted next are is =
     let rest = read_more files (left reader first.name) before bytes wanted next are.1 is in
     ((are.0, rest.0), rest.1)
 read_more files reader _ _ wanted next are is = absurd are
+
+-- the calls of inputs that were read, and of one more
+calls_more : (calls : Calls) (before : List Wanted) (wanted : Wanted)
+    → with_inputs calls (before ++ wanted ∷ []) ≡ with_input (with_inputs calls before) wanted.name None
+calls_more calls [] wanted = refl
+calls_more calls (first ∷ before) wanted = calls_more (with_input calls first.name None) before wanted
 
 -- there are as many bytes as inputs
 pub AreRead-length : (files : Option Files) (reader : Option Bytes) (wanted : List Wanted)
@@ -43,12 +50,13 @@ module _ (wanted : List Input) (i : ℕ) (d : Input) {old now new : World} {byte
       let before = map wanted_of (take i wanted) in
       let read : IsRead old.files (left_by_all old.reader before) input next.bytes = grind arith in
       let more = read_more old.files old.reader before bytes input next.bytes so_far.read read in
+      let calls = calls_more old.calls before input in
       grind (arith, common_steps)
 
   -- it was not
   pub stopped : {why : ReadFault} → IsNotLoaded (wanted_of (get_or wanted i d)) now new why
       → HasStopped (map wanted_of wanted) old new (wanted_of (get_or wanted i d)) why
-  stopped failed = record {
+  stopped {why} failed = record {
     first = record {
       before = map wanted_of (take i wanted);
       behind = map wanted_of (drop (i + 1) wanted);
@@ -58,6 +66,7 @@ module _ (wanted : List Input) (i : ℕ) (d : Input) {old now new : World} {byte
       read = so_far.read;
       cause = grind arith;
     };
+    calls = failed.calls ∙ ap (λ calls. with_input calls (wanted_of (get_or wanted i d)).name (Some why)) so_far.calls;
     files = failed.files ∙ so_far.files;
     written = failed.written ∙ so_far.written;
   }

@@ -8,6 +8,8 @@ use Rattle.pdb_run.specs.Commands.{Reply}
 use Rattle.pdb_run.specs.declared.answers.Answer.{Answer}
 use Rattle.pdb_run.specs.declared.answers.Digested.{Digested}
 use Rattle.pdb_run.specs.declared.answers.Digested.TheVariants as digested
+use Rattle.pdb_run.specs.declared.answers.Unanswered.{Unanswered}
+use Rattle.pdb_run.specs.declared.answers.Unanswered.TheVariants.{Memory, Wrong}
 
 -- the digest lines of files and of a last one, or lines that are made already
 abbrev pub digest_lines : Digested → Bytes
@@ -36,3 +38,12 @@ SaysRight Holds answer = (reply : Reply) × Holds reply × IsReplyOf answer repl
 -- an answer says a reply of which the one holds, or the other holds, and memory was wanted
 abbrev pub IsAnswerBy : (Reply → Type 0) → Type 0 → Result Answer AllocError → Type 0
 IsAnswerBy MayReply TakesMemory answer = MatchResult answer (SaysRight MayReply) (λ _. TakesMemory)
+
+-- why a maker has no answer: memory was wanted, where some is taken; or what it made is wrong, where it makes something
+abbrev pub IsUnanswered : (TakesMemory Makes : Type 0) → Unanswered → Type 0
+IsUnanswered TakesMemory Makes Memory = TakesMemory
+IsUnanswered TakesMemory Makes Wrong = Makes
+
+-- an answer of a maker says a reply of which this holds, or there is none, and this is why
+abbrev pub IsMadeBy : (Reply → Type 0) → (TakesMemory Makes : Type 0) → Result Answer Unanswered → Type 0
+IsMadeBy MayReply TakesMemory Makes answer = MatchResult answer (SaysRight MayReply) (IsUnanswered TakesMemory Makes)

@@ -1,11 +1,12 @@
 -- What one call on a run's shelf, its reader and its output does to the world, and what several do.
-use Rattle.std.specs.Prelude.{◌≡◌, ⊤, ℕ, List, Option, Some, Result, true}
-use Rattle.byte_io.specs.Shelf.{Bytes, KeepsOthers}
+use Rattle.std.specs.Prelude.{◌≡◌, ⊤, ℕ, List, Option, Some, None, Result, true}
+use Rattle.byte_io.specs.Shelf.{Bytes, KeepsOthers, keeps, tries}
 use Rattle.byte_io.specs.Streams.{Writes}
 use Rattle.byte_io.specs.declared.shelf.KeepFault.{KeepFault}
 use Rattle.byte_io.specs.declared.shelf.KeepFault.TheVariants as keep
 use Rattle.byte_io.specs.declared.streams.ReadFault.{ReadFault}
 use Rattle.byte_io.specs.declared.streams.WriteFault.{WriteFault}
+use Rattle.pdb_run.specs.Calls.{with_call, with_input, with_inputs, with_keep, with_trial}
 use Rattle.pdb_run.specs.Commands.{Wanted}
 use Rattle.pdb_run.specs.Inputs.{AreRead, IsAsTold, IsFirstUnread, IsRead, IsUnread, left, left_by_all}
 use Rattle.pdb_run.specs.Runs.{Says, World, with_kept}
@@ -23,6 +24,7 @@ pub record Streams : Type 0 where
 pub record IsLoaded (wanted : Wanted) (old new : World) (bytes : Bytes) : Type 0 where
   pub read : IsRead old.files old.reader wanted bytes
   pub behind : IsAsTold (left old.reader wanted.name) new.reader
+  pub calls : new.calls ≡ with_input old.calls wanted.name None
   pub files : new.files ≡ old.files
   pub failed : new.failed ≡ old.failed
   pub written : new.written ≡ old.written
@@ -30,11 +32,29 @@ pub record IsLoaded (wanted : Wanted) (old new : World) (bytes : Bytes) : Type 0
 -- the input was not read for this cause; how far the reader was read is open
 pub record IsNotLoaded (wanted : Wanted) (old new : World) (why : ReadFault) : Type 0 where
   pub cause : IsUnread old.files old.reader new.failed wanted why
+  pub calls : new.calls ≡ with_input old.calls wanted.name (Some why)
   pub files : new.files ≡ old.files
+  pub written : new.written ≡ old.written
+
+-- the name was tried, and nothing else has changed
+pub record IsTried (name : Bytes) (old new : World) : Type 0 where
+  pub calls : new.calls ≡ with_trial old.calls (Some name)
+  pub files : new.files ≡ old.files
+  pub failed : new.failed ≡ old.failed
+  pub reader : new.reader ≡ old.reader
+  pub written : new.written ≡ old.written
+
+-- nothing can be kept under the name, since the shelf has failed or memory was wanted to try it; nothing else has changed
+pub record CanNotKeep (name : Bytes) (old new : World) (why : KeepFault) : Type 0 where
+  pub calls : new.calls ≡ with_call old.calls (tries name (Some why))
+  pub files : new.files ≡ old.files
+  pub has_failed : why ≡ keep.F3 → new.failed.shelf ≡ true
+  pub reader : new.reader ≡ old.reader
   pub written : new.written ≡ old.written
 
 -- the file, where there is one, was kept under the name, and nothing else has changed
 pub record IsKept (name : Bytes) (file : Option Bytes) (old new : World) : Type 0 where
+  pub calls : new.calls ≡ with_keep old.calls (Some name) file
   pub files : new.files ≡ with_kept old.files (Some name) file
   pub failed : new.failed ≡ old.failed
   pub reader : new.reader ≡ old.reader
@@ -42,14 +62,8 @@ pub record IsKept (name : Bytes) (file : Option Bytes) (old new : World) : Type 
 
 -- it was not, since the shelf has failed or memory was wanted; what the name has is open, and nothing else has changed
 pub record IsNotKept (name : Bytes) (old new : World) (why : KeepFault) : Type 0 where
+  pub calls : new.calls ≡ with_call old.calls (keeps name (Some why))
   pub files : KeepsOthers old.files new.files name
-  pub has_failed : why ≡ keep.F3 → new.failed.shelf ≡ true
-  pub reader : new.reader ≡ old.reader
-  pub written : new.written ≡ old.written
-
--- nothing can be kept, since the shelf has failed or memory was wanted to try it; nothing else has changed
-pub record CanNotKeep (old new : World) (why : KeepFault) : Type 0 where
-  pub files : new.files ≡ old.files
   pub has_failed : why ≡ keep.F3 → new.failed.shelf ≡ true
   pub reader : new.reader ≡ old.reader
   pub written : new.written ≡ old.written
@@ -57,6 +71,7 @@ pub record CanNotKeep (old new : World) (why : KeepFault) : Type 0 where
 -- the text was written whole, or where a write failed a proper front of it, and nothing else has changed
 pub record IsWritten (text : Bytes) (old new : World) (result : Result ⊤ WriteFault) : Type 0 where
   pub written : Writes old.written new.written text result
+  pub calls : new.calls ≡ old.calls
   pub files : new.files ≡ old.files
   pub failed : new.failed ≡ old.failed
   pub reader : new.reader ≡ old.reader
@@ -64,6 +79,7 @@ pub record IsWritten (text : Bytes) (old new : World) (result : Result ⊤ Write
 -- the same, with the status of a run that ends so
 pub record IsSaid (text : Bytes) (with_text : Status) (old new : World) (status : Status) : Type 0 where
   pub said : Says text with_text old.written new.written status
+  pub calls : new.calls ≡ old.calls
   pub files : new.files ≡ old.files
   pub failed : new.failed ≡ old.failed
   pub reader : new.reader ≡ old.reader
@@ -74,12 +90,20 @@ pub record IsSaid (text : Bytes) (with_text : Status) (old new : World) (status 
 pub record HasRead (wanted : List Wanted) (old new : World) (inputs : List Bytes) : Type 0 where
   pub read : AreRead old.files old.reader wanted inputs
   pub behind : IsAsTold (left_by_all old.reader wanted) new.reader
+  pub calls : new.calls ≡ with_inputs old.calls wanted
   pub files : new.files ≡ old.files
   pub failed : new.failed ≡ old.failed
   pub written : new.written ≡ old.written
 
+-- they were read, and then the name was tried
+pub record HasReadAndTried (wanted : List Wanted) (name : Bytes) (old new : World) (inputs : List Bytes) : Type 0 where
+  pub mid : World
+  pub are : HasRead wanted old mid inputs
+  pub tried : IsTried name mid new
+
 -- this input is the first that was not read
 pub record HasStopped (all : List Wanted) (old new : World) (wanted : Wanted) (why : ReadFault) : Type 0 where
   pub first : IsFirstUnread old.files old.reader new.failed all wanted why
+  pub calls : new.calls ≡ with_input (with_inputs old.calls first.before) wanted.name (Some why)
   pub files : new.files ≡ old.files
   pub written : new.written ≡ old.written

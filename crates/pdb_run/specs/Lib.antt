@@ -1,5 +1,6 @@
 -- What public contracts say.
 pub mod Answers
+pub mod Calls
 pub mod Commands
 pub mod Inputs
 pub mod Io

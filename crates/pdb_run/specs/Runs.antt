@@ -1,12 +1,13 @@
 -- How a run of a command ends.
-use Rattle.std.specs.Prelude.{◌≡◌, ◌⊎◌, ⊤, ◌<◌, Bool, true, false, List, Option, Some, None, codes, length}
-use Rattle.byte_io.specs.Shelf.{Bytes, Files, KeepsOthers, told_with}
+use Rattle.std.specs.Prelude.{◌≡◌, ◌⊎◌, ⊤, Bool, true, false, List, ◌∷◌, ◌++◌, Option, Some, None, codes}
+use Rattle.byte_io.specs.Shelf.{Bytes, Files, KeepsOthers, keeps, told_with, tries}
 use Rattle.byte_io.specs.Streams.{Output, WritesAll, WritesFront}
 use Rattle.byte_io.specs.declared.streams.ReadFault.{ReadFault}
 use Rattle.byte_io.specs.declared.streams.ReadFault.TheVariants as read
 use Rattle.byte_io.specs.declared.shelf.KeepFault.{KeepFault}
 use Rattle.byte_io.specs.declared.shelf.KeepFault.TheVariants as keep
-use Rattle.pdb_run.specs.Writing.{memory_line, named_line, reply_text, shown}
+use Rattle.pdb_run.specs.Writing.{maker_line, memory_line, named_line, reply_text, shown}
+use Rattle.pdb_run.specs.Calls.{Calls, with_call, with_input, with_inputs, with_keep, with_trial}
 use Rattle.pdb_run.specs.Commands.{Plan, Reply, Wanted}
 use Rattle.pdb_run.specs.Inputs.{AreRead, Failures, IsAsTold, IsFirstUnread, left_by_all}
 use Rattle.pdb_run.specs.declared.statuses.Status.{Status}
@@ -14,17 +15,18 @@ use Rattle.pdb_run.specs.declared.statuses.Status.TheVariants.{Yes, Refused, Fau
 
 -- ---- what a run meets and leaves
 
--- the files of its shelf, what its reader has left, whether these two have failed, and what its writer got and whether that has
--- failed; each may be untold
+-- the files of its shelf, what its reader has left, the calls on these two and whether they have failed, and what its writer got and
+-- whether that has failed; each may be untold
 pub record World : Type 0 where
   pub files : Option Files
+  pub calls : Calls
   pub failed : Failures
   pub reader : Option Bytes
   pub written : Output
 
--- the world with these four
-abbrev pub world : Option Files → Failures → Option Bytes → Output → World
-world files failed reader written = record { files = files; failed = failed; reader = reader; written = written }
+-- the world with these five
+abbrev pub world : Option Files → Calls → Failures → Option Bytes → Output → World
+world files calls failed reader written = record { files = files; calls = calls; failed = failed; reader = reader; written = written }
 
 -- ---- the one thing that a run does
 
@@ -38,8 +40,12 @@ pub data Outcome : Type 0 where
   unwritable : Bytes → KeepFault → Outcome
   -- a file that was made can't be kept under this name
   unkept : Bytes → KeepFault → Outcome
-  -- want of memory elsewhere
+  -- want of memory before any input was read: to read the words, or to list the inputs
+  unlisted : Outcome
+  -- want of memory by the check of the inputs
   no_memory : Outcome
+  -- what was made of the inputs is wrong, as the check of it finds or the maker itself
+  made_wrong : Outcome
 
 -- what is told of a name under which nothing can be kept
 abbrev pub unkept_text : Bytes → KeepFault → Bytes
@@ -54,7 +60,9 @@ text_of (unread wanted read.F2) = named_line (codes "fault size ") (shown wanted
 text_of (unread wanted read.Memory) = memory_line
 text_of (unwritable name why) = unkept_text name why
 text_of (unkept name why) = unkept_text name why
+text_of unlisted = memory_line
 text_of no_memory = memory_line
+text_of made_wrong = maker_line
 
 -- a yes or a no
 abbrev pub status_of_reply : Bool → Status
@@ -74,7 +82,9 @@ status_of (unread wanted read.F2) = Fault
 status_of (unread wanted read.Memory) = NoMemory
 status_of (unwritable name why) = unkept_status why
 status_of (unkept name why) = unkept_status why
+status_of unlisted = NoMemory
 status_of no_memory = NoMemory
+status_of made_wrong = Fault
 
 -- ---- its cause
 
@@ -109,18 +119,25 @@ pub record IsUnkept (plan : Plan) (old : World) (failed : Failures) (name : Byte
   pub is_kept : kept reply ≡ Some file
   pub has_failed : why ≡ keep.F3 → failed.shelf ≡ true
 
--- memory was wanted to list the inputs, or by the check of those that were read
+-- the inputs hold these bytes at the start, each within its limit, and the check of these takes memory
 abbrev pub WantsMemory : Plan → World → Type 0
-WantsMemory plan old = (0 < length plan.inputs) ⊎ ((inputs : List Bytes) × AreRead old.files old.reader plan.inputs inputs × plan.TakesMemory inputs)
+WantsMemory plan old = (inputs : List Bytes) × AreRead old.files old.reader plan.inputs inputs × plan.TakesMemory inputs
 
--- a reply is right, the input that was not read is the first, nothing could be kept or the file to keep was not, and memory was
+-- the inputs hold these bytes at the start, and something is made of these
+abbrev pub HasMade : Plan → World → Type 0
+HasMade plan old = (inputs : List Bytes) × AreRead old.files old.reader plan.inputs inputs × plan.Makes inputs
+
+-- a reply is right, the input that was not read is the first, nothing could be kept or the file to keep was not, memory was wanted
+-- where the check takes some, and what was made is wrong where something is made; before any input is read memory may always be
 -- wanted
 abbrev pub HasCause : Plan → World → Failures → Outcome → Type 0
 HasCause plan old failed (replied inputs reply) = IsRight plan old inputs reply
 HasCause plan old failed (unread wanted why) = IsFirstUnread old.files old.reader failed plan.inputs wanted why
 HasCause plan old failed (unwritable name why) = IsUnwritable plan old failed name why
 HasCause plan old failed (unkept name why) = IsUnkept plan old failed name why
+HasCause plan old failed unlisted = ⊤
 HasCause plan old failed no_memory = WantsMemory plan old
+HasCause plan old failed made_wrong = HasMade plan old
 
 -- ---- its effects
 
@@ -137,29 +154,53 @@ LeavesFiles plan old new (replied inputs reply) = new ≡ with_kept old plan.kee
 LeavesFiles plan old new (unread wanted why) = new ≡ old
 LeavesFiles plan old new (unwritable name why) = new ≡ old
 LeavesFiles plan old new (unkept name why) = KeepsOthers old new name
+LeavesFiles plan old new unlisted = new ≡ old
 LeavesFiles plan old new no_memory = new ≡ old
+LeavesFiles plan old new made_wrong = new ≡ old
 
 -- of a plan that keeps under a name the failures are as they were: a read that failed, or the trial of the name, or the keeping
 -- would be seen
 abbrev pub StaysCalm : Plan → Failures → Failures → Type 0
 StaysCalm plan old new = (name : Bytes) → plan.keeps_under ≡ Some name → new ≡ old
 
--- so it is after a reply; any other outcome may leave it failed
+-- so it is after a reply, and with any plan where memory was wanted elsewhere than for an input, or what was made is wrong; any
+-- other outcome may leave them failed
 abbrev pub LeavesFailure : Plan → Failures → Failures → Outcome → Type 0
 LeavesFailure plan old new (replied inputs reply) = StaysCalm plan old new
 LeavesFailure plan old new (unread wanted why) = ⊤
 LeavesFailure plan old new (unwritable name why) = ⊤
 LeavesFailure plan old new (unkept name why) = ⊤
-LeavesFailure plan old new no_memory = ⊤
+LeavesFailure plan old new unlisted = new ≡ old
+LeavesFailure plan old new no_memory = new ≡ old
+LeavesFailure plan old new made_wrong = new ≡ old
 
 -- once all inputs are read, the reader has what they left: all that it had, where none of them is the reader; how far it was
--- read before a fault or want of memory is open
+-- read before one of them failed is open
 abbrev pub LeavesReader : Plan → Option Bytes → Option Bytes → Outcome → Type 0
 LeavesReader plan old new (replied inputs reply) = IsAsTold (left_by_all old plan.inputs) new
 LeavesReader plan old new (unread wanted why) = ⊤
 LeavesReader plan old new (unwritable name why) = IsAsTold (left_by_all old plan.inputs) new
 LeavesReader plan old new (unkept name why) = IsAsTold (left_by_all old plan.inputs) new
-LeavesReader plan old new no_memory = ⊤
+LeavesReader plan old new unlisted = new ≡ old
+LeavesReader plan old new no_memory = IsAsTold (left_by_all old plan.inputs) new
+LeavesReader plan old new made_wrong = IsAsTold (left_by_all old plan.inputs) new
+
+-- the calls before anything is checked or made: all inputs are read, and then the name is tried under which a file is to be kept
+abbrev pub calls_before : Plan → Calls → Calls
+calls_before plan old = with_trial (with_inputs old plan.inputs) plan.keeps_under
+
+-- so they stand with a reply, and behind them the file's that is kept; an input that was not read, a trial or a keep that failed
+-- is the last of them; and before any input is read there is none
+abbrev pub LeavesCalls : Plan → Calls → Calls → Outcome → Type 0
+LeavesCalls plan old new (replied inputs reply) = new ≡ with_keep (calls_before plan old) plan.keeps_under (kept reply)
+LeavesCalls plan old new (unread wanted why) =
+    (before : List Wanted) × (behind : List Wanted) × (plan.inputs ≡ before ++ wanted ∷ behind)
+    × (new ≡ with_input (with_inputs old before) wanted.name (Some why))
+LeavesCalls plan old new (unwritable name why) = new ≡ with_call (with_inputs old plan.inputs) (tries name (Some why))
+LeavesCalls plan old new (unkept name why) = new ≡ with_call (calls_before plan old) (keeps name (Some why))
+LeavesCalls plan old new unlisted = new ≡ old
+LeavesCalls plan old new no_memory = new ≡ calls_before plan old
+LeavesCalls plan old new made_wrong = new ≡ calls_before plan old
 
 -- the text was written whole, and no write failed; or a write failed with at least one byte of it left to write
 abbrev pub Says : Bytes → Status → Output → Output → Status → Type 0
@@ -167,11 +208,12 @@ Says text with_text old new status = (WritesAll old new text × (status ≡ with
 
 -- ---- how it ends
 
--- it does one thing that it has cause to do, leaves the files, the failures and the reader as that does, and says it
+-- it does one thing that it has cause to do, leaves the files, the calls, the failures and the reader as that does, and says it
 pub record Ends (plan : Plan) (old new : World) (status : Status) : Type 0 where
   pub outcome : Outcome
   pub cause : HasCause plan old new.failed outcome
   pub files : LeavesFiles plan old.files new.files outcome
+  pub calls : LeavesCalls plan old.calls new.calls outcome
   pub failure : LeavesFailure plan old.failed new.failed outcome
   pub reader : LeavesReader plan old.reader new.reader outcome
   pub said : Says (text_of outcome) (status_of outcome) old.written new.written status
@@ -179,12 +221,13 @@ pub record Ends (plan : Plan) (old new : World) (status : Status) : Type 0 where
 -- ---- what follows for a yes or a no
 
 -- the writer got exactly the lines of a right reply on the inputs at the start, and no write failed; of the files only the kept one
--- changed, where one was to be kept no trial of its name had failed, and the reader has what the inputs left
+-- changed, where one was to be kept its name was tried behind the inputs and no trial failed, and the reader has what they left
 pub record IsAnswered (plan : Plan) (old new : World) (status : Status) : Type 0 where
   pub inputs : List Bytes
   pub reply : Reply
   pub right : IsRight plan old inputs reply
   pub files : new.files ≡ with_kept old.files plan.keeps_under (kept reply)
+  pub calls : new.calls ≡ with_keep (calls_before plan old.calls) plan.keeps_under (kept reply)
   pub failure : StaysCalm plan old.failed new.failed
   pub reader : IsAsTold (left_by_all old.reader plan.inputs) new.reader
   pub lines : WritesAll old.written new.written (reply_text reply)

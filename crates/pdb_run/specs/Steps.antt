@@ -2,9 +2,10 @@
 use Rattle.std.specs.Prelude.{◌≡◌, List, [], ◌∷◌, ◌++◌, Option}
 use Rattle.byte_io.specs.Shelf.{Bytes}
 use Rattle.pdb_run.specs.Answers.{made_file}
-use Rattle.pdb_run.specs.Commands.{Wanted}
+use Rattle.pdb_run.specs.Commands.{Plan, Wanted}
+use Rattle.pdb_run.specs.Inputs.{AreRead, IsAsTold, left_by_all}
 use Rattle.pdb_run.specs.Io.{IsLoaded}
-use Rattle.pdb_run.specs.Runs.{World, kept_after}
+use Rattle.pdb_run.specs.Runs.{World, calls_before, kept_after}
 use Rattle.pdb_run.specs.declared.answers.Answer.{Answer}
 
 -- this input was read behind those before it
@@ -12,6 +13,15 @@ pub record IsNext (wanted : Wanted) (old new : World) (before after : List Bytes
   pub bytes : Bytes
   pub loaded : IsLoaded wanted old new bytes
   pub added : after ≡ before ++ bytes ∷ []
+
+-- the inputs were read, and the name was tried where a file is to be kept: what is behind them is for the check and the maker
+pub record HasBegun (plan : Plan) (old new : World) (inputs : List Bytes) : Type 0 where
+  pub read : AreRead old.files old.reader plan.inputs inputs
+  pub behind : IsAsTold (left_by_all old.reader plan.inputs) new.reader
+  pub calls : new.calls ≡ calls_before plan old.calls
+  pub files : new.files ≡ old.files
+  pub failed : new.failed ≡ old.failed
+  pub written : new.written ≡ old.written
 
 -- the file that is kept of an answer
 abbrev pub kept_of : Answer → Option Bytes

@@ -43,6 +43,10 @@ reply_text reply = digests_of reply.digested ++ (digests_of (list_of reply.made)
 abbrev pub memory_line : Bytes
 memory_line = codes "no memory\n"
 
+-- what a maker made is wrong
+abbrev pub maker_line : Bytes
+maker_line = codes "fault maker\n"
+
 -- a byte of a name in a line: `?`, which is 63, for the control characters, which are below 32 or 127; so no name ends its line
 abbrev pub shown_byte : ℕ → ℕ
 shown_byte byte = if nat_lt byte 32 || (byte == 127) then 63 else byte

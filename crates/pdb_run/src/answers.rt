@@ -5,6 +5,7 @@ ghost use Rattle.pdb_run.specs.Writing.{digests_of, joined, list_of};
 
 use crate::digests::Digests;
 use arrayvec::ArrayString;
+use std::alloc::AllocError;
 
 /// The most bytes of the lines behind the digests: the longest are the letters of 255 moves, which is the greatest bound of a
 /// log, and a verdict.
@@ -36,6 +37,25 @@ pub struct Answer<'a> {
     pub is_yes: bool,
     ghost made_ready: { option_map (λ d. d.items) made_digest
         ≡ option_map (λ _. digests_of (list_of (option_map (λ v. v.items) made))) made_digest },
+}
+
+/// Why a maker has no answer.
+#[derive(Clone, Copy, Debug, PartialEq, Eq)]
+pub enum Unanswered {
+    /// Memory was refused.
+    Memory,
+    /// What it made is wrong, as the check of it finds or the maker itself.
+    Wrong,
+}
+
+impl From<AllocError> for Unanswered {
+    ghost use Rattle.pdb_run.specs.declared.answers.Unanswered.{Unanswered};
+
+    ghost from_gives = { λ _ why. why ≡ Unanswered.Memory };
+
+    fn from(_refused: AllocError) -> Unanswered {
+        Unanswered::Memory
+    }
 }
 
 /// Pieces of text in one.

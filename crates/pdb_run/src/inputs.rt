@@ -1,6 +1,6 @@
 //! The inputs of a command.
 
-ghost use Rattle.std.specs.Prelude.{◌≡◌, map, IfErr, IfOk, OnOk};
+ghost use Rattle.std.specs.Prelude.{◌≡◌, ◌<◌, ◌≤◌, ◌+◌, [], length, map, vec_capacity, vec_len, IfErr, IfOk, OnOk};
 ghost use Rattle.pdb_run.specs.Answers.{all_bytes};
 ghost use Rattle.pdb_run.specs.Inputs.{wanted_of};
 ghost use Rattle.pdb_run.specs.Io.{HasRead, HasStopped, IsNotLoaded};
@@ -18,20 +18,23 @@ pub struct Unread<'a> {
     pub why: ReadFault,
 }
 
-/// The bytes of the inputs, read in their order. The first that fails ends it.
+/// The bytes of the inputs, read in their order into a list with room for all of them. The first that fails ends it.
 #[tactic(auto, using(crate::proofs::ReadingLemmas::stopped))]
 pub fn load_all<'a, I: Io>(
     alloc: Global,
     wanted: &[Input<'a>],
+    room: Vec<Vec<u8>>,
     io: &mut I,
 ) -> Result<Vec<Vec<u8>>, Unread<'a>>
+    requires empty { room.items ≡ [] }
+    requires room { length wanted.now ≤ vec_capacity room }
     ensures same_streams { I.streams io.new ≡ I.streams io.old }
     ensures read { let all = map wanted_of wanted.now in IfOk result
         (λ inputs. HasRead all (I.world io.old) (I.world io.new) (all_bytes inputs.items)) }
     ensures unread { let all = map wanted_of wanted.now in IfErr result
         (λ e. HasStopped all (I.world io.old) (I.world io.new) (wanted_of e.input) e.why) }
 {
-    let mut inputs = Vec::new(alloc);
+    let mut inputs = room;
     for input in wanted {
         if let Err(why) = load_next(alloc, input, io, &mut inputs) {
             return Err(Unread { input: *input, why });
@@ -40,13 +43,16 @@ pub fn load_all<'a, I: Io>(
     Ok(inputs)
 }
 
-/// Reads one input, and adds its bytes to those before it.
+/// Reads one input, and adds its bytes to those before it, behind which there is room.
 fn load_next<I: Io>(
     alloc: Global,
     input: &Input<'_>,
     io: &mut I,
     inputs: &mut Vec<Vec<u8>>,
 ) -> Result<(), ReadFault>
+    requires { vec_len inputs.old < vec_capacity inputs.old }
+    ensures length { OnOk result (vec_len inputs.new ≡ vec_len inputs.old + 1) }
+    ensures same_room { vec_capacity inputs.old ≤ vec_capacity inputs.new }
     ensures same_streams { I.streams io.new ≡ I.streams io.old }
     ensures read { let before = all_bytes inputs.old.items in
         let after = all_bytes inputs.new.items in
@@ -55,8 +61,6 @@ fn load_next<I: Io>(
         IfErr result (IsNotLoaded wanted (I.world io.old) (I.world io.new)) }
 {
     let bytes = io.load(alloc, input)?;
-    match inputs.push(bytes) {
-        Ok(()) => Ok(()),
-        Err(_) => Err(ReadFault::Memory),
-    }
+    let _fits = inputs.push(bytes);
+    Ok(())
 }

@@ -1,9 +1,10 @@
 //! The shelf, the reader and the output of a run, as one.
 
-ghost use Rattle.std.specs.Prelude.{◌≡◌, None, Some, map, IfErr, IfOk, OnOk};
+ghost use Rattle.std.specs.Prelude.{◌≡◌, Some, map, IfErr, IfOk, OnOk};
 ghost use Rattle.pdb_run.specs.Answers.{answer_text};
+ghost use Rattle.pdb_run.specs.Calls.{calls};
 ghost use Rattle.pdb_run.specs.Inputs.{failures, wanted_of};
-ghost use Rattle.pdb_run.specs.Io.{CanNotKeep, IsKept, IsLoaded, IsNotKept, IsNotLoaded, IsWritten, Streams};
+ghost use Rattle.pdb_run.specs.Io.{CanNotKeep, IsKept, IsLoaded, IsNotKept, IsNotLoaded, IsTried, IsWritten, Streams};
 ghost use Rattle.pdb_run.specs.Runs.{World};
 ghost use Rattle.pdb_run.specs.Writing.{named_line, shown_byte};
 
@@ -18,7 +19,7 @@ use std::alloc::Global;
 
 /// The shelf, the reader and the output of a run.
 pub trait Io {
-    /// Their files and bytes, and whether they have failed, as far as they tell that.
+    /// Their files and bytes, the calls on them and whether they have failed, as far as they tell that.
     ghost world: { Self → World };
 
     /// Which ones they are. No call changes that.
@@ -35,8 +36,8 @@ pub trait Io {
     /// Tries whether bytes can be kept under a name.
     fn try_keep(&mut self, alloc: Global, name: &str) -> Result<(), KeepFault>
         ensures same_streams { streams self.new ≡ streams self.old }
-        ensures tried { OnOk result (IsKept name.now None (world self.old) (world self.new)) }
-        ensures failed { IfErr result (CanNotKeep (world self.old) (world self.new)) };
+        ensures tried { OnOk result (IsTried name.now (world self.old) (world self.new)) }
+        ensures failed { IfErr result (CanNotKeep name.now (world self.old) (world self.new)) };
 
     /// Keeps bytes under a name.
     fn keep(&mut self, alloc: Global, name: &str, bytes: &[u8]) -> Result<(), KeepFault>
@@ -74,6 +75,7 @@ pub struct BorrowedIo<'s, 'r, 'o, S, R, W> {
 impl<S: Shelf, R: Source, W: Sink> Io for BorrowedIo<'_, '_, '_, S, R, W> {
     ghost world = { λ io. record {
       files = S.held io.shelf.now;
+      calls = calls (S.calls io.shelf.now) (R.may_have_ended io.reader.now);
       failed = failures (S.has_failed io.shelf.now) (R.may_have_failed io.reader.now);
       reader = R.remaining io.reader.now;
       written = W.output io.out.now;

@@ -2,14 +2,14 @@
 
 ghost use Rattle.std.specs.Prelude.{◌≡◌, List, None, Some, length, map, MatchResult, IfErr, IfOk, OnErr, OnOk};
 ghost use Rattle.byte_io.specs.Shelf.{Bytes};
-ghost use Rattle.pdb_run.specs.Answers.{IsAnswerBy, all_bytes, answer_text};
+ghost use Rattle.pdb_run.specs.Answers.{IsAnswerBy, IsMadeBy, all_bytes, answer_text};
 ghost use Rattle.pdb_run.specs.Inputs.{wanted_of};
-ghost use Rattle.pdb_run.specs.Io.{HasRead, IsKept, IsNotKept, IsSaid};
+ghost use Rattle.pdb_run.specs.Io.{HasRead, HasReadAndTried, IsKept, IsNotKept, IsSaid};
 ghost use Rattle.pdb_run.specs.Runs.{Ends, World, status_of, status_of_reply, text_of, unkept_status, unkept_text, unread};
 ghost use Rattle.pdb_run.specs.Steps.{kept_of};
 ghost use Rattle.pdb_run.specs.Writing.{memory_line, named_line, shown, shown_byte};
 
-use crate::answers::Answer;
+use crate::answers::{Answer, Unanswered};
 use crate::commands::{Command, Input};
 use crate::inputs::{Unread, load_all};
 use crate::io::Io;
@@ -21,7 +21,11 @@ use std::alloc::{AllocError, Global};
 /// The line of want of memory.
 pub const NO_MEMORY: &str = "no memory\n";
 
+/// The line of what was made wrong.
+const MADE_WRONG: &str = "fault maker\n";
+
 /// Reads the inputs of a command. Where one can't be read, that is said, and the run has ended.
+#[tactic(auto, using(crate::proofs::AnswerLemmas::ends_unlisted))]
 pub fn read_inputs<C: Command, I: Io>(
     alloc: Global,
     command: &C,
@@ -37,7 +41,10 @@ pub fn read_inputs<C: Command, I: Io>(
     let Ok(wanted) = command.inputs(alloc) else {
         return Err(say_no_memory(io));
     };
-    match load_all(alloc, wanted.as_slice(), io) {
+    let Ok(room) = Vec::with_capacity(alloc, wanted.len()) else {
+        return Err(say_no_memory(io));
+    };
+    match load_all(alloc, wanted.as_slice(), room, io) {
         Ok(inputs) => Ok(inputs),
         Err(fault) => Err(say_unread(&fault, io)),
     }
@@ -53,8 +60,9 @@ pub fn read_inputs_and_try<C: Command, I: Io>(
 ) -> Result<Vec<Vec<u8>>, Status>
     requires { (C.plan command.now).keeps_under ≡ Some name.now }
     ensures same_streams { I.streams io.new ≡ I.streams io.old }
-    ensures read { let wanted = (C.plan command.now).inputs in IfOk result
-        (λ inputs. HasRead wanted (I.world io.old) (I.world io.new) (all_bytes inputs.items)) }
+    ensures tried { let wanted = (C.plan command.now).inputs in let old = I.world io.old in
+        IfOk result (λ inputs.
+        HasReadAndTried wanted name.now old (I.world io.new) (all_bytes inputs.items)) }
     ensures count { let wanted = (C.plan command.now).inputs in
         IfOk result (λ inputs. length inputs.items ≡ length wanted) }
     ensures ends { IfErr result (Ends (C.plan command.now) (I.world io.old) (I.world io.new)) }
@@ -88,20 +96,20 @@ pub fn conclude<C: Command, I: Io>(
 }
 
 /// As `conclude`, of a command that keeps a file under a name: what it made is kept after a yes, and then the answer is
-/// said. Where it can't be kept, that is said alone.
-#[tactic(auto, using(crate::proofs::AnswerLemmas::ends_wanting))]
+/// said. Where it can't be kept, that is said alone; so is that it was made wrong.
 pub fn keep_and_conclude<C: Command, I: Io>(
     alloc: Global,
     command: &C,
-    answer: &Result<Answer<'_>, AllocError>,
+    answer: &Result<Answer<'_>, Unanswered>,
     name: &str,
     io: &mut I,
 ) -> Status
     requires { (C.plan command.now).keeps_under ≡ Some name.now }
     ensures same_streams { I.streams io.new ≡ I.streams io.old }
     ensures ends { let plan = C.plan command.now in
-        (inputs : List Bytes) (old : World) → HasRead plan.inputs old (I.world io.old) inputs
-        → IsAnswerBy (plan.MayReply inputs) (plan.TakesMemory inputs) answer.now
+        (inputs : List Bytes) (old : World)
+        → HasReadAndTried plan.inputs name.now old (I.world io.old) inputs
+        → IsMadeBy (plan.MayReply inputs) (plan.TakesMemory inputs) (plan.Makes inputs) answer.now
         → Ends plan old (I.world io.new) result }
 {
     match answer {
@@ -109,7 +117,8 @@ pub fn keep_and_conclude<C: Command, I: Io>(
             Ok(()) => say_answer(answer, io),
             Err(why) => say_unkept(name, why, io),
         },
-        Err(_) => say_no_memory(io),
+        Err(Unanswered::Memory) => say_no_memory(io),
+        Err(Unanswered::Wrong) => say_text(MADE_WRONG, Status::Fault, io),
     }
 }
 

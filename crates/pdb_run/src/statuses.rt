@@ -10,7 +10,7 @@ pub enum Status {
     Yes,
     /// A refusal.
     Refused,
-    /// Bad words, or a fault of a read or a write.
+    /// Bad words, or a fault of a read, a write or a maker.
     Fault,
     /// Want of memory.
     NoMemory,

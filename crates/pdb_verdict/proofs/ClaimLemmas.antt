@@ -1,21 +1,29 @@
 -- The files of a check of a log have one result, and what an optimum says.
-use Rattle.std.proofs.Common.{◌≡◌, ◌∙◌, ℕ, List, Option, Some, None, Result, Ok, Err, eq-eqb, inl, inr, ne_eqb, refl, subst, sym}
+use Rattle.std.proofs.Common.{◌≡◌, ◌∙◌, ℕ, List, Option, Some, None, Result, Ok, Err, ap, arith, eq-eqb, inl, inr, ne_eqb, refl, subst, sym}
 use Rattle.std.proofs.lemmas.Bool.{cases_eq}
 use Rattle.puz_board.specs.BoardTexts.{Spells, board_of_text}
 use Rattle.puz_board.specs.PuzzleTexts.{puzzle_parts}
 use Rattle.puz_board.proofs.SpellingLemmas.{board_of_text-spelled, spelled-board_of_text}
+use Rattle.byte_io.specs.Shelf.{Bytes}
+use Rattle.pdb_request.specs.declared.requests.Claim.{Claim}
+use Rattle.pdb_request.specs.declared.requests.Claim.TheVariants.{Bound, Optimum}
 use Rattle.pdb_verdict.specs.Bound.{IsBoundFor, IsBoundResult, TakesMemoryForBound}
 use Rattle.pdb_verdict.specs.Inputs.{LogFiles, log_claim}
 use Rattle.pdb_verdict.specs.Optimal.{IsFoundForPuzzle, IsLeastCount, IsOptimumResult, TakesMemoryForOptimum}
-use Rattle.pdb_verdict.specs.Refusals.{IsFoundBy}
+use Rattle.pdb_verdict.specs.Refusals.{IsFoundBy, IsTold}
 use Rattle.pdb_verdict.specs.Replay.{solved_parts}
-use Rattle.pdb_verdict.specs.Steps.{Begins, IsFoundFor, answer_with, as_optimum, claim_with}
+use Rattle.pdb_verdict.specs.Steps.{IsFoundFor, answer_with, as_optimum, begun}
 use Rattle.pdb_verdict.specs.Verdicts.{IsAnswerTo}
+use Rattle.pdb_verdict.specs.declared.claims.Begun.{Begun}
 use Rattle.pdb_verdict.specs.declared.verdicts.Fault.{Fault}
 use Rattle.pdb_verdict.specs.declared.verdicts.Verdict.{Verdict}
 use Rattle.pdb_verdict.proofs.BoundLemmas.{found_one, found_some, proved_bounds}
-use Rattle.pdb_verdict.proofs.RefusalLemmas.{Behind, IsOne, after, by_result, cause_by, found_told, one_behind, one_by, one_made, stays}
+use Rattle.pdb_verdict.proofs.RefusalLemmas.{Behind, IsOne, after, by_result, cause_by, found_told, one_behind, one_by, one_made, settled_cause, stays}
 use Rattle.pdb_verdict.proofs.ReplayLemmas.{parts-solved, solved-parts}
+
+-- no puzzle text wants memory
+never_memory : (parts : Option (Bytes × Bytes)) → ¬ (solved_parts parts ≡ Err Fault.Memory)
+never_memory parts same = grind arith
 
 module _ (files : LogFiles) where
   abbrev For : List ℕ → Result ℕ Fault → Type 0
@@ -61,12 +69,38 @@ module _ (files : LogFiles) where
     optimum_by (Err fault) is = cause_by refused_puzzle (λ takes. (n, (solved-parts files.text board n parts).0, takes)) fault is
 
   -- so it makes the answer
-  pub claim_answered : (board : List ℕ) (moves : Option ℕ) (found : Result ℕ Fault) → Begins files.text board moves
-      → ByMemory board found → IsAnswerTo (log_claim (claim_with moves) files) (answer_with moves found)
-  claim_answered board None found spelt is =
-      found_told Verdict.Bound (IsBoundResult files) (TakesMemoryForBound files.text files.tables) _ (bound_by board found spelt is)
-  claim_answered board (Some n) found parts is =
-      found_told Verdict.Optimal (IsOptimumResult files) (TakesMemoryForOptimum files.text files.tables) _ (optimum_by board n parts found is)
+  pub claim_answered : (claim : Claim) (start : Begun) (found : Result ℕ Fault) → begun claim files.text ≡ Ok start
+      → ByMemory start.board found → IsAnswerTo (log_claim claim files) (answer_with start.moves found)
+  claim_answered Bound start found same is = by_result (board_of_text files.text)
+      (λ board spelt.
+      let first : start.board ≡ board = grind arith in
+      let none : start.moves ≡ None = grind arith in
+      rw none (found_told Verdict.Bound (IsBoundResult files) (TakesMemoryForBound files.text files.tables) _
+      (bound_by board found (spelled-board_of_text files.text board spelt) (rw first at is))))
+      (λ refused why. let clash : ⊥ = grind arith in absurd clash)
+  claim_answered Optimum start found same is = by_result (solved_parts (puzzle_parts files.text))
+      (λ read parts.
+      let first : start.board ≡ read.0 = grind arith in
+      let some : start.moves ≡ Some read.1 = grind arith in
+      rw some (found_told Verdict.Optimal (IsOptimumResult files) (TakesMemoryForOptimum files.text files.tables) _
+      (optimum_by read.0 read.1 parts found (rw first at is))))
+      (λ refused why. let clash : ⊥ = grind arith in absurd clash)
+
+  -- and a text that is refused is the answer
+  pub claim_refused : (claim : Claim) (refused : Fault) → begun claim files.text ≡ Err refused
+      → IsAnswerTo (log_claim claim files) (Err refused)
+  claim_refused Bound refused same = by_result (board_of_text files.text)
+      (λ board spelt. let clash : ⊥ = grind arith in absurd clash)
+      (λ why is.
+      let told : refused ≡ Fault.Board why = grind arith in
+      rw told (Err (Fault.Board why), is, refl))
+  claim_refused Optimum refused same = by_result (solved_parts (puzzle_parts files.text))
+      (λ read parts. let clash : ⊥ = grind arith in absurd clash)
+      (λ why is.
+      let told : refused ≡ why = grind arith in
+      let result : IsTold Verdict.Optimal (IsOptimumResult files) (Err refused) = (Err refused, inl (rw told is), refl) in
+      settled_cause (λ r. IsTold Verdict.Optimal (IsOptimumResult files) (Err r)) _ refused
+      (λ memory. never_memory (puzzle_parts files.text) (is ∙ ap (λ x. Err x) (sym told ∙ memory))) result)
 
   -- ---- there is a result
 

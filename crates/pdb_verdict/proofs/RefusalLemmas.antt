@@ -78,6 +78,12 @@ pub cause_settled : (IsRefused : Fault → Type 0) (Takes : Type 0) (fault : Fau
 cause_settled IsRefused Takes Fault.Memory settled is = absurd (settled refl)
 cause_settled IsRefused Takes refused settled is = is
 
+-- and the other way round
+pub settled_cause : (IsRefused : Fault → Type 0) (Takes : Type 0) (fault : Fault) → fault ≢ Fault.Memory → IsRefused fault
+    → IsCauseBy IsRefused Takes fault
+settled_cause IsRefused Takes Fault.Memory settled is = absurd (settled refl)
+settled_cause IsRefused Takes refused settled is = is
+
 -- and of what is found
 pub found_settled : {A : Type 0} (IsFound : Result A Fault → Type 0) (Takes : Type 0) (found : Result A Fault) → found ≢ Err Fault.Memory
     → IsFoundBy IsFound Takes found → IsFound found

@@ -1,5 +1,5 @@
 -- Bundles of table files and a set text.
-use Rattle.std.specs.Prelude.{⊤, ℕ, zero, suc, Bool, true, false, List, [], ◌∷◌, map}
+use Rattle.std.specs.Prelude.{⊤, ℕ, zero, suc, Bool, true, false, List, [], ◌∷◌, Result, MatchResult, map}
 use Rattle.tab_file.specs.TableFiles.{IsTableFile}
 use Rattle.tab_file.specs.Tables.{Table}
 use Rattle.tab_rule.specs.ExactTables.{IsExactFile}
@@ -69,3 +69,16 @@ TakesMemoryForTables (file ∷ files) = (table : Table) × IsTableFile table fil
 -- why there isn't a bundle of the files and the set text: they are refused, or want of memory
 abbrev pub IsCauseForBundle : Bool → List Bytes → Bytes → Fault → Type 0
 IsCauseForBundle fold files sets cause = IsCauseBy (AreRefused fold files sets) (TakesMemoryForTables files) cause
+
+-- the bundle of the files and the set text, or why there is none
+abbrev pub IsReadBundle : Bool → List Bytes → Bytes → Result ShownBundle Fault → Type 0
+IsReadBundle fold files sets read = MatchResult read (IsBundleOfFiles fold files sets) (IsCauseForBundle fold files sets)
+
+module _ (fold : Bool) (files : List Bytes) (sets : Bytes) where
+  -- whichever of these it is, this holds of it
+  abbrev pub IfRead : (Result ShownBundle Fault → Type 0) → Type 0
+  IfRead Holds = (read : Result ShownBundle Fault) → IsReadBundle fold files sets read → Holds read
+
+  -- it is one of these, of which this holds
+  abbrev pub IsReadAnd : (Result ShownBundle Fault → Type 0) → Type 0
+  IsReadAnd Holds = (read : Result ShownBundle Fault) × IsReadBundle fold files sets read × Holds read

@@ -1,12 +1,15 @@
 -- `optimal PUZZLE SETS LOG TABLES..`: whether the moves of a puzzle text solve its board, and a log proves that none are fewer.
-use Rattle.std.specs.Prelude.{◌≡◌, ◌≢◌, ◌⊎◌, ℕ, List, Result, Ok, Err, length}
+use Rattle.std.specs.Prelude.{◌≡◌, ◌≢◌, ◌⊎◌, ℕ, Bool, List, Result, Ok, Err, length}
+use Rattle.puz_board.specs.BoardTexts.{Spells}
 use Rattle.puz_board.specs.Paths.{IsSolution}
 use Rattle.set_sum.specs.Bounds.{IsBounded}
+use Rattle.set_sum.specs.Bundles.{ShownBundle}
 use Rattle.byte_io.specs.Shelf.{Bytes}
 use Rattle.pdb_verdict.specs.Bound.{IsBoundFor}
-use Rattle.pdb_verdict.specs.FileBundles.{TakesMemoryForTables}
-use Rattle.pdb_verdict.specs.Inputs.{LogFiles}
-use Rattle.pdb_verdict.specs.Replay.{IsReplayResult, IsSolvedPuzzle}
+use Rattle.pdb_verdict.specs.FileBundles.{IsBundleOfFiles, TakesMemoryForTables}
+use Rattle.pdb_verdict.specs.Inputs.{LogFiles, log_files}
+use Rattle.pdb_verdict.specs.Refusals.{IsFoundBy}
+use Rattle.pdb_verdict.specs.Replay.{IsReplayResult, IsSolvedPuzzle, puzzle_of}
 use Rattle.pdb_verdict.specs.declared.verdicts.Fault.{Fault}
 use Rattle.pdb_verdict.specs.declared.verdicts.Fault.TheVariants.{O1}
 
@@ -27,6 +30,14 @@ IsOptimumResult files (Err refused) =
 -- it takes memory to check the tables, once the moves solve the board
 abbrev pub TakesMemoryForOptimum : Bytes → List Bytes → Type 0
 TakesMemoryForOptimum text tables = (n : ℕ) × IsSolvedPuzzle text n × TakesMemoryForTables tables
+
+-- this is found for a board, moves and a log over a bundle, as for the puzzle text of any text that spells the board, and of the
+-- moves, over any files that make the bundle
+abbrev pub IsOptimumOver : ShownBundle → List ℕ → Bytes → Bytes → Result ℕ Fault → Type 0
+IsOptimumOver bundle board moves log found =
+    (fold : Bool) (text sets : Bytes) (tables : List Bytes) → Spells text board → IsBundleOfFiles fold tables sets bundle →
+    let puzzle = puzzle_of text moves in
+    IsFoundBy (IsOptimumResult (log_files fold puzzle sets log tables)) (TakesMemoryForOptimum puzzle tables) found
 
 -- ---- what an optimum says
 

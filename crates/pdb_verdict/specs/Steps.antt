@@ -1,7 +1,8 @@
 -- What the steps of a check answer: a part of the result, or want of memory in its place.
-use Rattle.std.specs.Prelude.{◌≡◌, ℕ, Bool, true, ◌==◌, if◌then◌else◌, List, [], ◌∷◌, ◌++◌, Option, Some, None, Result, Ok, Err, MatchResult}
-use Rattle.puz_board.specs.BoardTexts.{Spells}
+use Rattle.std.specs.Prelude.{◌≡◌, ℕ, Bool, true, ◌==◌, if◌then◌else◌, List, [], ◌∷◌, ◌++◌, Option, Some, None, Result, Ok, Err, MatchResult, Vec}
+use Rattle.puz_board.specs.BoardTexts.{board_of_text}
 use Rattle.puz_board.specs.PuzzleTexts.{puzzle_parts}
+use Rattle.puz_board.specs.declared.texts.BoardFault.{BoardFault}
 use Rattle.tab_file.specs.TableFiles.{IsTableFile}
 use Rattle.tab_file.specs.Tables.{Table}
 use Rattle.tab_rule.specs.ExactTables.{IsExactFile}
@@ -17,14 +18,15 @@ use Rattle.log_check.specs.declared.faults.LogFault.TheVariants as log_fault
 use Rattle.byte_io.specs.Shelf.{Bytes}
 use Rattle.pdb_request.specs.declared.requests.Claim.{Claim}
 use Rattle.pdb_request.specs.declared.requests.Claim.TheVariants.{Bound, Optimum}
+use Rattle.pdb_request.specs.declared.requests.LogCheck.{LogCheck}
 use Rattle.pdb_run.specs.Answers.{all_bytes}
 use Rattle.pdb_verdict.specs.Bound.{IsBoundFor}
-use Rattle.pdb_verdict.specs.FileBundles.{AreExactFiles, IsFirstRefused, TakesMemoryForTables, part_for, parts_for}
-use Rattle.pdb_verdict.specs.Inputs.{LogFiles, log_files}
+use Rattle.pdb_verdict.specs.FileBundles.{AreExactFiles, IsFirstRefused, IsReadBundle, TakesMemoryForTables, part_for, parts_for}
+use Rattle.pdb_verdict.specs.Inputs.{Given, LogFiles, log_claim, log_files}
 use Rattle.pdb_verdict.specs.Refusals.{IsFoundBy, told_as}
 use Rattle.pdb_verdict.specs.Replay.{solved_parts}
-use Rattle.pdb_verdict.specs.declared.evidence.Evidence.{Evidence}
-use Rattle.pdb_verdict.specs.declared.log_inputs.LogInputs.{LogInputs}
+use Rattle.pdb_verdict.specs.Verdicts.{IsAnswerTo}
+use Rattle.pdb_verdict.specs.declared.claims.Begun.{Begun}
 use Rattle.pdb_verdict.specs.declared.verdicts.Fault.{Fault}
 use Rattle.pdb_verdict.specs.declared.verdicts.Fault.TheVariants as fault
 use Rattle.pdb_verdict.specs.declared.verdicts.Verdict.{Verdict}
@@ -61,12 +63,12 @@ IsCauseForTables files _ = ⊥
 -- ---- files
 
 -- the files that were read for a check of a log
-abbrev pub files_read : Bool → LogInputs → LogFiles
-files_read fold files = log_files fold files.text.items files.sets.items files.log.items (all_bytes files.tables.items)
+abbrev pub files_read : {A : Type 0} → LogCheck (Vec ℕ A) → LogFiles
+files_read check = log_files check.fold check.text.items check.sets.items check.log.items (all_bytes check.tables.items)
 
--- those that a log is checked with, and a text
-abbrev pub files_with : Bytes → Evidence → LogFiles
-files_with text evidence = log_files evidence.tables.fold text evidence.sets.now evidence.log.now (all_bytes evidence.tables.files.now)
+-- what is claimed of them
+abbrev pub claim_read : {A : Type 0} → LogCheck (Vec ℕ A) → Given
+claim_read check = log_claim check.claim (files_read check)
 
 -- ---- bounds
 
@@ -83,11 +85,6 @@ of_log log_fault.Memory = fault.Memory
 abbrev pub IsFoundFor : Bool → List ℕ → Bytes → Bytes → List Bytes → Result ℕ Fault → Type 0
 IsFoundFor fold board sets log tables found = IsFoundBy (IsBoundFor fold board sets log tables) (TakesMemoryForTables tables) found
 
--- the same over evidence
-abbrev pub IsFoundBehind : List ℕ → Evidence → Result ℕ Fault → Type 0
-IsFoundBehind board evidence found =
-    IsFoundFor evidence.tables.fold board evidence.sets.now evidence.log.now (all_bytes evidence.tables.files.now) found
-
 -- ---- claims on a log
 
 -- the bound of a board that so many moves solve, as an optimum
@@ -99,20 +96,35 @@ abbrev pub as_optimum : ℕ → Result ℕ Fault → Result ℕ Fault
 as_optimum n (Ok bound) = optimum_of n bound
 as_optimum n (Err refused) = Err refused
 
--- what is claimed where moves are told, and where they aren't
-abbrev pub claim_with : Option ℕ → Claim
-claim_with None = Bound
-claim_with (Some n) = Optimum
+-- a board, and how many moves solve it, where that is claimed
+abbrev pub begun_with : List ℕ → Option ℕ → Begun
+begun_with board moves = record { board = board; moves = moves }
 
--- the text begins a check of what is claimed: it spells the board, or so many moves behind the board solve it
-abbrev pub Begins : Bytes → List ℕ → Option ℕ → Type 0
-Begins text board None = Spells text board
-Begins text board (Some n) = solved_parts (puzzle_parts text) ≡ Ok (board, n)
+-- of a board text
+abbrev pub begun_by_board : Result (List ℕ) BoardFault → Result Begun Fault
+begun_by_board (Ok board) = Ok (begun_with board None)
+begun_by_board (Err refused) = Err (fault.Board refused)
+
+-- of a puzzle text
+abbrev pub begun_by_puzzle : Result (List ℕ × ℕ) Fault → Result Begun Fault
+begun_by_puzzle (Ok read) = Ok (begun_with read.0 (Some read.1))
+begun_by_puzzle (Err refused) = Err refused
+
+-- what a claim on the text begins with, or why the text is refused
+abbrev pub begun : Claim → Bytes → Result Begun Fault
+begun Bound text = begun_by_board (board_of_text text)
+begun Optimum text = begun_by_puzzle (solved_parts (puzzle_parts text))
 
 -- the answer on what is found for the board
 abbrev pub answer_with : Option ℕ → Result ℕ Fault → Result Verdict Fault
 answer_with None found = told_as verdict.Bound found
 answer_with (Some n) found = told_as verdict.Optimal (as_optimum n found)
+
+-- this is the answer to a claim that begins so, on any text that does, over any files of which this is read
+abbrev pub IsAnswerOver : Result ShownBundle Fault → Begun → Bytes → Result Verdict Fault → Type 0
+IsAnswerOver read start log answer =
+    (claim : Claim) (fold : Bool) (text sets : Bytes) (tables : List Bytes) → begun claim text ≡ Ok start → IsReadBundle fold tables sets read →
+    IsAnswerTo (log_claim claim (log_files fold text sets log tables)) answer
 
 -- ---- a table file alone
 

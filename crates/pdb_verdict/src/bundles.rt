@@ -1,12 +1,12 @@
 //! Bundles of table files and a set text.
 
-ghost use Rattle.std.specs.Prelude.{Bool, List, true, IfErr, IfOk};
+ghost use Rattle.std.specs.Prelude.{Bool, List, true, IfErr, IfOk, MatchResult};
 ghost use Rattle.tab_rule.specs.ExactTables.{IsExactFile};
 ghost use Rattle.tab_rule.specs.TableFaults.{IsTableCauseOf};
 ghost use Rattle.set_sum.specs.declared.parts.Part.TheVariants.{Folded};
 ghost use Rattle.byte_io.specs.Shelf.{Bytes};
 ghost use Rattle.pdb_run.specs.Answers.{all_bytes};
-ghost use Rattle.pdb_verdict.specs.FileBundles.{IsBundleOfFiles, IsCauseForBundle};
+ghost use Rattle.pdb_verdict.specs.FileBundles.{IsReadBundle};
 ghost use Rattle.pdb_verdict.specs.Steps.{ArePartsOf, IsCauseAt, IsCauseForTables, IsPartOf};
 
 use crate::verdicts::Fault;
@@ -17,26 +17,24 @@ use tab_check::check_table;
 use tab_rule::{CheckedTable, FoldedTable, TableFault, fold};
 use work_run::{Gate, Workers};
 
-/// The tables of a bundle: their files, and whether each is folded once it is checked.
+/// What makes a bundle of tables: a set text, and whether each table is folded once it is checked.
 #[derive(Clone, Copy)]
-pub struct Tables<'a> {
-    pub files: &'a [Vec<u8>],
+pub struct Bundling<'a> {
+    pub sets: &'a [u8],
     pub fold: bool,
 }
 
 /// The bundle of table files and a set text: each table is checked, and folded where that is asked for, and then the text is
 /// read.
-pub fn read_bundle<'a, H: Threads + Wait, G: Gate + Sync>(
-    tables: Tables<'a>,
-    sets: &[u8],
+pub(crate) fn read_bundle<'a, H: Threads + Wait, G: Gate + Sync>(
+    files: &'a [Vec<u8>],
+    bundling: Bundling<'_>,
     workers: &Workers<'_, H, G>,
 ) -> Result<Bundle<'a>, Fault>
-    ensures ok { IfOk result (λ bundle.
-        IsBundleOfFiles tables.entry.fold (all_bytes tables.entry.files.now) sets.now bundle) }
-    ensures err { IfErr result
-        (IsCauseForBundle tables.entry.fold (all_bytes tables.entry.files.now) sets.now) }
+    ensures { let sets = bundling.entry.sets.now in
+        IsReadBundle bundling.entry.fold (all_bytes files.now) sets result }
 {
-    bundle_of(parts_of(tables, workers), sets)
+    bundle_of(parts_of(files, bundling.fold, workers), bundling.sets)
 }
 
 /// The bundle of the parts for all files, where there are those, and a set text.
@@ -44,13 +42,9 @@ pub(crate) fn bundle_of<'a>(
     parts: Result<Vec<Part<'a>>, Fault>,
     sets: &[u8],
 ) -> Result<Bundle<'a>, Fault>
-    ensures ok { (fold : Bool) (files : List Bytes)
-        → IfOk parts.entry (λ parts. ArePartsOf fold files parts.items)
-        → IfOk result (IsBundleOfFiles fold files sets.now) }
-    ensures err { (fold : Bool) (files : List Bytes)
-        → IfOk parts.entry (λ parts. ArePartsOf fold files parts.items)
-        → IfErr parts.entry (IsCauseForTables files)
-        → IfErr result (IsCauseForBundle fold files sets.now) }
+    ensures { (fold : Bool) (files : List Bytes)
+        → MatchResult parts.entry (λ parts. ArePartsOf fold files parts.items)
+        (IsCauseForTables files) → IsReadBundle fold files sets.now result }
 {
     let bundle = Bundle::read(parts?, sets)?;
     Ok(bundle)
@@ -58,14 +52,13 @@ pub(crate) fn bundle_of<'a>(
 
 /// The part for each file, one after the other. No memory is taken before the first file's header stands.
 fn parts_of<'a, H: Threads + Wait, G: Gate + Sync>(
-    tables: Tables<'a>,
+    files: &'a [Vec<u8>],
+    fold: bool,
     workers: &Workers<'_, H, G>,
 ) -> Result<Vec<Part<'a>>, Fault>
-    ensures ok { IfOk result
-        (λ parts. ArePartsOf tables.entry.fold (all_bytes tables.entry.files.now) parts.items) }
-    ensures err { IfErr result (IsCauseForTables (all_bytes tables.entry.files.now)) }
+    ensures { let files = all_bytes files.now in
+        MatchResult result (λ parts. ArePartsOf fold files parts.items) (IsCauseForTables files) }
 {
-    let Tables { files, fold } = tables;
     let mut parts = Vec::new(workers.alloc);
     for file in files {
         let part = match part_of(file.as_slice(), fold, workers) {

@@ -5,13 +5,13 @@ ghost use Rattle.work_run.specs.Workers.{AreWorkers};
 ghost use Rattle.pdb_verdict.specs.Inputs.{given};
 ghost use Rattle.pdb_verdict.specs.Verdicts.{HoldsOfSolutions, IsAnswerTo, IsTrueOf, LacksMemory};
 
-use crate::bundles::Tables;
-use crate::claims::{bound_of_text, optimum_of_puzzle};
-use crate::evidence::Evidence;
+use crate::bundles::{Bundling, read_bundle};
+use crate::claims::{answer_over, begin};
 use crate::inputs::Inputs;
 use crate::replay::verify_puzzle;
 use crate::table::verify_table;
 use crate::verdicts::{Fault, Verdict};
+use pdb_request::Claim;
 use std::alloc::Global;
 use std::sync::Wait;
 use std::thread::Threads;
@@ -44,7 +44,8 @@ pub fn verify<H: Threads + Wait, G: Gate + Sync>(
 }
 
 /// What these workers find of inputs.
-pub(crate) fn verify_by<H: Threads + Wait, G: Gate + Sync>(
+#[tactic(auto, using(crate::proofs::ClaimLemmas::claim_refused))]
+fn verify_by<H: Threads + Wait, G: Gate + Sync>(
     inputs: &Inputs<'_>,
     workers: &Workers<'_, H, G>,
 ) -> Result<Verdict, Fault>
@@ -57,23 +58,23 @@ pub(crate) fn verify_by<H: Threads + Wait, G: Gate + Sync>(
             board,
             sets,
             log,
-            tables: files,
+            tables,
             fold,
         } => {
-            let tables = Tables { files, fold };
-            let evidence = Evidence { sets, log, tables };
-            Ok(Verdict::Bound(bound_of_text(board, &evidence, workers)?))
+            let start = begin(Claim::Bound, board)?;
+            let bundle = read_bundle(tables, Bundling { sets, fold }, workers);
+            answer_over(bundle, &start, log, workers)
         }
         Inputs::Optimal {
             puzzle,
             sets,
             log,
-            tables: files,
+            tables,
             fold,
         } => {
-            let tables = Tables { files, fold };
-            let evidence = Evidence { sets, log, tables };
-            Ok(Verdict::Optimal(optimum_of_puzzle(puzzle, &evidence, workers)?))
+            let start = begin(Claim::Optimum, puzzle)?;
+            let bundle = read_bundle(tables, Bundling { sets, fold }, workers);
+            answer_over(bundle, &start, log, workers)
         }
     }
 }

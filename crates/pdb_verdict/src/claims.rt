@@ -2,53 +2,73 @@
 //! puzzle text are a solution, and none has fewer.
 
 ghost use Rattle.std.specs.Prelude.{◌≡◌, Bool, List, ℕ};
-ghost use Rattle.puz_board.specs.BoardTexts.{Spells};
-ghost use Rattle.pdb_verdict.specs.Bound.{IsBoundResult, TakesMemoryForBound};
-ghost use Rattle.pdb_verdict.specs.FileBundles.{IsBundleOfFiles};
-ghost use Rattle.pdb_verdict.specs.Inputs.{log_files};
-ghost use Rattle.pdb_verdict.specs.Optimal.{IsOptimumResult, TakesMemoryForOptimum};
-ghost use Rattle.pdb_verdict.specs.Refusals.{IsFoundBy};
-ghost use Rattle.pdb_verdict.specs.Replay.{puzzle_of};
-ghost use Rattle.pdb_verdict.specs.Steps.{answer_with, files_with, optimum_of};
+ghost use Rattle.pdb_verdict.specs.FileBundles.{IsReadBundle};
+ghost use Rattle.pdb_verdict.specs.Optimal.{IsOptimumOver};
+ghost use Rattle.pdb_verdict.specs.Steps.{IsAnswerOver, IsFoundFor, IsFoundOver, answer_with, begun, optimum_of};
 
-use crate::evidence::{Evidence, bound_for, bound_over};
 use crate::replay::solved_board;
 use crate::verdicts::{Fault, Verdict};
+use log_check::{LogFault, check_log};
+use pdb_request::Claim;
 use puz_board::{Board, replay};
 use set_sum::Bundle;
 use std::sync::Wait;
 use std::thread::Threads;
 use work_run::{Gate, Workers};
 
-/// The bound that is proved for the board of a text. Or the first refusal that stands: the board text's, then those of the
-/// evidence.
-#[tactic(auto, using(crate::proofs::ClaimLemmas::bound_by))]
-pub(crate) fn bound_of_text<H: Threads + Wait, G: Gate + Sync>(
-    text: &[u8],
-    evidence: &Evidence<'_>,
-    workers: &Workers<'_, H, G>,
-) -> Result<u8, Fault>
-    ensures { let files = files_with text.now evidence.now in
-        let takes = TakesMemoryForBound files.text files.tables in
-        IsFoundBy (IsBoundResult files) takes result }
-{
-    let board = Board::read(text)?;
-    bound_for(&board, evidence, workers)
+/// What a claim begins with: the board of its text, and of a puzzle text how many moves solve it.
+#[derive(Clone, Copy)]
+pub(crate) struct Begun {
+    pub(crate) board: Board,
+    pub(crate) moves: Option<u16>,
 }
 
-/// The optimum that is proved for a puzzle text. Or the first refusal that stands: the puzzle text's, those of the evidence, and
-/// then `O1`.
-pub(crate) fn optimum_of_puzzle<H: Threads + Wait, G: Gate + Sync>(
-    puzzle: &[u8],
-    evidence: &Evidence<'_>,
+/// What a claim on a text begins with. Or why the text is refused, before anything else is looked at.
+pub(crate) fn begin(claim: Claim, text: &[u8]) -> Result<Begun, Fault>
+    ensures { result ≡ begun claim text.now }
+{
+    match claim {
+        Claim::Bound => {
+            let board = Board::read(text)?;
+            Ok(Begun { board, moves: None })
+        }
+        Claim::Optimum => {
+            let (board, moves) = solved_board(text)?;
+            let moves = Some(moves);
+            Ok(Begun { board, moves })
+        }
+    }
+}
+
+/// The answer to a claim that has begun so, over a bundle. Or the first refusal that stands: why there is no bundle, the log's, and
+/// then `O1`. Want of memory may be answered in place of all behind the first table's header.
+#[tactic(auto, using(crate::proofs::ClaimLemmas::claim_answered))]
+pub(crate) fn answer_over<H: Threads + Wait, G: Gate + Sync>(
+    bundle: Result<Bundle<'_>, Fault>,
+    start: &Begun,
+    log: &[u8],
+    workers: &Workers<'_, H, G>,
+) -> Result<Verdict, Fault>
+    ensures { IsAnswerOver bundle.entry start.now log.now result }
+{
+    answer_with(start.moves, bound_for(bundle, &start.board, log, workers))
+}
+
+/// The bound that a log proves for a board, over a bundle, where there is one.
+#[tactic(auto, using(crate::proofs::BoundLemmas::cause_found, crate::proofs::BoundLemmas::bound_found, crate::proofs::BoundLemmas::log_found))]
+fn bound_for<H: Threads + Wait, G: Gate + Sync>(
+    bundle: Result<Bundle<'_>, Fault>,
+    board: &Board,
+    log: &[u8],
     workers: &Workers<'_, H, G>,
 ) -> Result<u8, Fault>
-    ensures { let files = files_with puzzle.now evidence.now in
-        let takes = TakesMemoryForOptimum files.text files.tables in
-        IsFoundBy (IsOptimumResult files) takes result }
+    ensures { (fold : Bool) (sets : List ℕ) (tables : List (List ℕ))
+        → IsReadBundle fold tables sets bundle.entry
+        → IsFoundFor fold board.now sets log.now tables result }
 {
-    let (board, moves) = solved_board(puzzle)?;
-    optimum_of(moves, bound_for(&board, evidence, workers)?)
+    let bundle = bundle?;
+    let bound = bound_over(&bundle, board, log, workers)?;
+    Ok(bound)
 }
 
 /// The optimum that is proved for a board and moves, over the bundle that files make: as of the puzzle text of a text that spells the
@@ -60,13 +80,30 @@ pub fn optimum_over<H: Threads + Wait, G: Gate + Sync>(
     log: &[u8],
     workers: &Workers<'_, H, G>,
 ) -> Result<u8, Fault>
-    ensures { (fold : Bool) (text sets : List ℕ) (tables : List (List ℕ)) → Spells text board.now
-        → IsBundleOfFiles fold tables sets bundle.now → let puzzle = puzzle_of text moves.now in
-        IsFoundBy (IsOptimumResult (log_files fold puzzle sets log.now tables))
-        (TakesMemoryForOptimum puzzle tables) result }
+    ensures { IsOptimumOver bundle.now board.now moves.now log.now result }
 {
     let solution = replay(board, moves)?;
     optimum_of(solution, bound_over(bundle, board, log, workers)?)
+}
+
+/// The bound that a log proves for a board, over a bundle.
+fn bound_over<H: Threads + Wait, G: Gate + Sync>(
+    bundle: &Bundle<'_>,
+    board: &Board,
+    log: &[u8],
+    workers: &Workers<'_, H, G>,
+) -> Result<u8, LogFault>
+    ensures { IsFoundOver bundle.now board.now log.now result }
+{
+    check_log(
+        workers.rt,
+        workers.alloc,
+        bundle,
+        log,
+        board,
+        workers.count,
+        workers.gate,
+    )
 }
 
 /// The bound of a board that so many moves solve, as an optimum.
@@ -81,7 +118,7 @@ fn optimum_of(solution: u16, bound: u8) -> Result<u8, Fault>
 }
 
 /// The answer where this is found for the board of a text, which so many moves solve, where that is claimed.
-pub(crate) fn answer_with(moves: Option<u16>, found: Result<u8, Fault>) -> Result<Verdict, Fault>
+fn answer_with(moves: Option<u16>, found: Result<u8, Fault>) -> Result<Verdict, Fault>
     ensures { result ≡ answer_with moves found }
 {
     let bound = found?;

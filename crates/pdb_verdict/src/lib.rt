@@ -5,37 +5,34 @@
 mod bundles;
 mod checks;
 mod claims;
-mod evidence;
-mod folding;
 mod inputs;
 mod laws;
 mod limits;
 mod lines;
 mod log_command;
-mod log_inputs;
 mod replay;
 mod replay_command;
 mod reports;
 mod table;
 mod table_command;
+mod tables;
 mod verdicts;
 
-pub use bundles::{Tables, read_bundle};
+pub use bundles::Bundling;
 pub use checks::verify;
 pub use claims::optimum_over;
-pub use folding::fold_bundle;
 pub use inputs::Inputs;
 pub use laws::{
     inputs_have_a_result, inputs_have_one_result, results_are_true_verdicts,
     tables_told_no_are_not_exact, told_yeses_are_true, true_verdicts_hold_of_solutions,
 };
-pub use limits::a_text;
+pub use limits::{a_text, with_tables};
 pub use lines::line_of;
 pub use log_command::run_log_check;
-pub use log_inputs::{push_tables, take_first};
 pub use replay::verify_puzzle;
 pub use replay_command::run_replay;
 pub use reports::{digests, line, report, settled, told, told_or_memory};
 pub use table::verify_table;
 pub use table_command::run_table;
+pub use tables::over_tables;
 pub use verdicts::{Fault, Verdict};

@@ -1,31 +1,70 @@
 //! The commands `bound` and `optimal`: checks of a log.
 
-ghost use Rattle.std.specs.Prelude.{◌≡◌, ◌≤◌, Some, true, length, IfSome};
+ghost use Rattle.std.specs.Prelude.{◌≡◌, ◌≤◌, length};
 ghost use Rattle.pdb_request.specs.Asked.{log_check_shown};
-ghost use Rattle.pdb_run.specs.Answers.{IsAnswerBy};
+ghost use Rattle.pdb_run.specs.Answers.{IsAnswerBy, all_bytes};
 ghost use Rattle.pdb_run.specs.Runs.{Ends};
-ghost use Rattle.pdb_verdict.specs.Inputs.{log_claim};
+ghost use Rattle.pdb_verdict.specs.Inputs.{files_in_order};
 ghost use Rattle.pdb_verdict.specs.Plans.{log_check_plan};
-ghost use Rattle.pdb_verdict.specs.Steps.{Begins, claim_with, files_read};
+ghost use Rattle.pdb_verdict.specs.Steps.{IsAnswerOver, claim_read};
 ghost use Rattle.pdb_verdict.specs.Verdicts.{TakesMemory, TellsResult};
 
-use crate::claims::answer_with;
-use crate::evidence::bound_of_files;
-use crate::log_inputs::{CheckingLog, LogInputs};
-use crate::replay::solved_board;
-use crate::reports::{answer_by, told_or_memory};
-use pdb_request::{Claim, LogCheck};
-use pdb_run::{Answer, Digested, FILES_BESIDE, Io, Status, conclude, read_inputs};
-use puz_board::Board;
-use std::alloc::AllocError;
+use crate::bundles::Bundling;
+use crate::claims::{answer_over, begin};
+use crate::limits::{a_log, a_text, with_tables};
+use crate::reports::told_or_memory;
+use crate::tables::over_tables;
+use crate::verdicts::{Fault, Verdict};
+use pdb_request::LogCheck;
+use pdb_run::{Answer, Command, Input, Io, Status, conclude, digested_beside, read_inputs};
+use set_sum::Bundle;
+use std::alloc::{AllocError, Global};
 use std::sync::Wait;
 use std::thread::Threads;
 use work_run::{Gate, Workers};
 
+/// A check of a log, as a command.
+#[derive(Clone, Copy)]
+struct CheckingLog<'c, 'n>(&'c LogCheck<&'n str>);
+
+impl Command for CheckingLog<'_, '_> {
+    ghost plan = { λ command. log_check_plan command.0.now.claim
+        (log_check_shown command.0.now) };
+
+    fn inputs(&self, alloc: Global) -> Result<Vec<Input<'_>>, AllocError> {
+        let check = self.0;
+        let texts = [
+            a_text(Some(check.text)),
+            a_text(Some(check.sets)),
+            a_log(check.log),
+        ];
+        with_tables(alloc, &texts, check.tables.as_slice())
+    }
+}
+
+/// A check of a log with the bytes of its inputs, which were read in their order.
+fn with_bytes(check: &LogCheck<&str>, inputs: Vec<Vec<u8>>) -> LogCheck<Vec<u8>>
+    requires { 3 ≤ length inputs.items }
+    ensures claim { result.claim ≡ check.now.claim }
+    ensures fold { result.fold ≡ check.now.fold }
+    ensures inputs { all_bytes inputs.items ≡ files_in_order (claim_read result) }
+{
+    let mut tables = inputs;
+    LogCheck {
+        claim: check.claim,
+        text: tables.remove(0),
+        sets: tables.remove(0),
+        log: tables.remove(0),
+        tables,
+        workers: check.workers,
+        fold: check.fold,
+    }
+}
+
 /// A whole run of `bound` or of `optimal`, whoever checks the tables and the log.
 #[inline(never)] // so that the stack has the values of one command alone
 pub fn run_log_check<H: Threads + Wait + Sync, G: Gate + Sync, I: Io>(
-    check: &LogCheck<'_>,
+    check: &LogCheck<&str>,
     workers: &Workers<'_, H, G>,
     io: &mut I,
 ) -> Status
@@ -34,67 +73,50 @@ pub fn run_log_check<H: Threads + Wait + Sync, G: Gate + Sync, I: Io>(
         Ends plan (I.world io.old) (I.world io.new) result }
 {
     let command = CheckingLog(check);
-    let files = match read_inputs(workers.alloc, &command, io) {
-        Ok(inputs) => LogInputs::of(inputs),
+    let mut read = match read_inputs(workers.alloc, &command, io) {
+        Ok(inputs) => with_bytes(check, inputs),
         Err(status) => return status,
     };
-    match start_to_fold(check, &files) {
-        Some((board, moves)) => {
-            let answer = answer_folded(&board, moves, files, workers);
-            conclude(&command, &answer, io)
-        }
-        None => {
-            let answer = answer_by(&files.inputs(check.claim, check.fold), workers);
-            conclude(&command, &answer, io)
-        }
-    }
+    let answer = answer_log_check(&mut read, workers);
+    conclude(&command, &answer, io)
 }
 
-/// The board of a check with folded tables, and of a puzzle text how many moves solve it. There is none of a text that is
-/// refused, nor of more tables than a bundle has.
-fn start_to_fold(check: &LogCheck<'_>, files: &LogInputs) -> Option<(Board, Option<u16>)>
-    ensures folds { IfSome result (λ _. check.now.fold ≡ true) }
-    ensures few { IfSome result (λ _. length files.now.tables.items ≤ FILES_BESIDE) }
-    ensures claim { IfSome result (λ start. claim_with start.1 ≡ check.now.claim) }
-    ensures begins { IfSome result (λ start. Begins files.now.text.items start.0 start.1) }
-{
-    if !check.fold || files.tables.len() > FILES_BESIDE {
-        return None;
-    }
-    let text = files.text.as_slice();
-    match check.claim {
-        Claim::Bound => {
-            let board = Board::read(text).ok()?;
-            Some((board, None))
-        }
-        Claim::Optimum => {
-            let (board, moves) = solved_board(text).ok()?;
-            Some((board, Some(moves)))
-        }
-    }
-}
-
-/// The answer of a check with folded tables. The bytes of each table are given up in turn, so that the log is checked beside the
-/// folded tables alone.
-#[inline(never)] // so that a run with full tables hasn't its values on the stack
-fn answer_folded<'i, H: Threads + Wait + Sync, G: Gate + Sync>(
-    board: &Board,
-    moves: Option<u16>,
-    files: LogInputs,
+/// The answer to a check of a log. The board comes before all else, and takes no memory.
+fn answer_log_check<'i, H: Threads + Wait + Sync, G: Gate + Sync>(
+    check: &'i mut LogCheck<Vec<u8>>,
     workers: &Workers<'_, H, G>,
 ) -> Result<Answer<'i>, AllocError>
-    requires few { length files.tables.items ≤ FILES_BESIDE }
-    requires begins { Begins files.text.items board.now moves }
-    ensures { let claimed = log_claim (claim_with moves) (files_read true files) in
+    ensures { let claimed = claim_read check.old in
         IsAnswerBy (TellsResult claimed) (TakesMemory claimed) result }
 {
-    let LogInputs {
-        text: _,
+    let (claim, fold) = (check.claim, check.fold);
+    let LogCheck {
+        text,
         sets,
         log,
         tables,
-    } = files;
+        ..
+    } = check;
     let (sets, log) = (sets.as_slice(), log.as_slice());
-    let (digests, found) = bound_of_files(board, sets, log, tables, workers);
-    told_or_memory(Digested::Lines(digests), answer_with(moves, found))
+    match begin(claim, text.as_slice()) {
+        Ok(start) => {
+            let check = |bundle: Result<Bundle<'_>, Fault>| -> Result<Verdict, Fault>
+                ensures { IsAnswerOver bundle.entry start log.entry.now result }
+            { answer_over(bundle, &start, log, workers) };
+            let bundling = Bundling { sets, fold };
+            let (digested, answer) = over_tables(tables, Some(log), bundling, workers, check);
+            told_or_memory(digested, answer)
+        }
+        Err(refused) => {
+            let tables = tables.as_slice();
+            let (digested, answer) = digested_beside(
+                workers.rt,
+                workers.count,
+                tables,
+                Some(log),
+                || Err(refused),
+            );
+            told_or_memory(digested, answer)
+        }
+    }
 }

@@ -1,17 +1,15 @@
 //! The command `replay`.
 
-ghost use Rattle.std.specs.Prelude.{◌≡◌, length};
+ghost use Rattle.std.specs.Prelude.{◌≡◌};
 ghost use Rattle.pdb_request.specs.Asked.{replay_shown};
-ghost use Rattle.pdb_run.specs.Answers.{SaysRight, all_bytes};
 ghost use Rattle.pdb_run.specs.Runs.{Ends};
-ghost use Rattle.pdb_verdict.specs.Inputs.{puzzle_text};
-ghost use Rattle.pdb_verdict.specs.Plans.{IsCheckReply, replay_plan};
+ghost use Rattle.pdb_verdict.specs.Plans.{replay_plan};
 
 use crate::limits::a_text;
 use crate::replay::verify_puzzle;
 use crate::reports::told;
 use pdb_request::Replay;
-use pdb_run::{Answer, Command, Digested, Input, Io, Status, conclude, read_inputs};
+use pdb_run::{Command, Digested, Input, Io, Status, conclude, read_inputs};
 use std::alloc::{AllocError, Global};
 
 /// A replay, as a command.
@@ -36,20 +34,10 @@ pub fn run_replay<I: Io>(alloc: Global, asked: Replay<'_>, io: &mut I) -> Status
         Ends plan (I.world io.old) (I.world io.new) result }
 {
     let command = Replaying(asked);
-    match read_inputs(alloc, &command, io) {
-        Ok(inputs) => {
-            let answer = Ok(answer_replay(inputs.as_slice()));
-            conclude(&command, &answer, io)
-        }
-        Err(status) => status,
-    }
-}
-
-/// The answer on the bytes of the one input.
-fn answer_replay<'i>(inputs: &'i [Vec<u8>]) -> Answer<'i>
-    requires { length inputs.now ≡ 1 }
-    ensures { SaysRight (IsCheckReply puzzle_text (all_bytes inputs.now)) result }
-{
-    let puzzle = inputs[0].as_slice();
-    told(Digested::Files(&[], None), &verify_puzzle(puzzle))
+    let inputs = match read_inputs(alloc, &command, io) {
+        Ok(inputs) => inputs,
+        Err(status) => return status,
+    };
+    let answer = verify_puzzle(inputs[0].as_slice());
+    conclude(&command, &Ok(told(Digested::Files(&[], None), &answer)), io)
 }

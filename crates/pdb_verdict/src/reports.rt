@@ -4,24 +4,19 @@ ghost use Rattle.std.specs.Prelude.{◌≡◌, ◌≢◌, ◌++◌, Err, List, o
 ghost use Rattle.byte_io.specs.Shelf.{Bytes};
 ghost use Rattle.byte_io.specs.Streams.{Writes};
 ghost use Rattle.pdb_run.specs.Writing.{digests_of, list_of};
-ghost use Rattle.pdb_run.specs.Answers.{IsAnswerBy, IsReplyOf, all_bytes, digest_lines};
+ghost use Rattle.pdb_run.specs.Answers.{IsReplyOf, all_bytes, digest_lines};
 ghost use Rattle.pdb_verdict.specs.Inputs.{given};
 ghost use Rattle.pdb_verdict.specs.Lines.{digested_of, line_of, lines_of, reply_on, stands_alone};
-ghost use Rattle.pdb_verdict.specs.Verdicts.{IsAnswerTo, TakesMemory, TellsResult};
 ghost use Rattle.pdb_verdict.specs.declared.verdicts.Fault.TheVariants.{Memory};
 
-use crate::checks::verify_by;
 use crate::inputs::Inputs;
 use crate::lines::line_of;
 use crate::verdicts::{Fault, Verdict};
 use byte_io::sinks::Sink;
 use byte_io::streams::{WriteFault, put_text};
-use pdb_run::{Answer, Digested, FILES_BESIDE, digested_beside, say, say_digests};
+use pdb_run::{Answer, Digested, FILES_BESIDE, say, say_digests};
 use set_sum::MOST_TABLES;
 use std::alloc::AllocError;
-use std::sync::Wait;
-use std::thread::Threads;
-use work_run::{Gate, Workers};
 
 // The digests of all tables of a bundle may be made beside its check.
 const _: () = prove!(FILES_BESIDE == MOST_TABLES);
@@ -56,23 +51,6 @@ pub fn line<W: Sink>(answer: &Result<Verdict, Fault>, out: &mut W) -> Result<(),
     ensures { Writes (W.output out.old) (W.output out.new) (line_of answer.now) result }
 {
     put_text(out, line_of(answer).as_str())
-}
-
-/// The answer on inputs, whose digest lines are made beside their check, where there are workers for both.
-#[tactic(auto, using(crate::proofs::CheckLemmas::result_told))]
-pub(crate) fn answer_by<'i, H: Threads + Wait + Sync, G: Gate + Sync>(
-    inputs: &Inputs<'i>,
-    workers: &Workers<'_, H, G>,
-) -> Result<Answer<'i>, AllocError>
-    ensures { let inputs = given inputs.now in
-        IsAnswerBy (TellsResult inputs) (TakesMemory inputs) result }
-{
-    let (files, last) = checked_files(inputs);
-    let check = || -> Result<Verdict, Fault>
-        ensures { IsAnswerTo (given inputs.entry.now) result }
-    { verify_by(inputs, workers) };
-    let (digested, answer) = digested_beside(workers.rt, workers.count, files, last, check);
-    told_or_memory(digested, answer)
 }
 
 /// What is to be written of an answer behind these digest lines, where nothing was made.

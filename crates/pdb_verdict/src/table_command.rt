@@ -1,17 +1,18 @@
 //! The command `table`.
 
-ghost use Rattle.std.specs.Prelude.{◌≡◌, length};
+ghost use Rattle.std.specs.Prelude.{◌≡◌};
 ghost use Rattle.pdb_request.specs.Asked.{table_check_shown};
-ghost use Rattle.pdb_run.specs.Answers.{IsAnswerBy, all_bytes};
 ghost use Rattle.pdb_run.specs.Runs.{Ends};
 ghost use Rattle.pdb_verdict.specs.Inputs.{table_file};
-ghost use Rattle.pdb_verdict.specs.Plans.{CheckTakesMemory, IsCheckReply, table_plan};
+ghost use Rattle.pdb_verdict.specs.Plans.{table_plan};
+ghost use Rattle.pdb_verdict.specs.Verdicts.{IsAnswerTo};
 
-use crate::inputs::Inputs;
 use crate::limits::a_table;
-use crate::reports::answer_by;
+use crate::reports::told_or_memory;
+use crate::table::verify_table;
+use crate::verdicts::{Fault, Verdict};
 use pdb_request::TableCheck;
-use pdb_run::{Answer, Command, Input, Io, Status, conclude, read_inputs};
+use pdb_run::{Command, Input, Io, Status, conclude, digested_beside, read_inputs};
 use std::alloc::{AllocError, Global};
 use std::sync::Wait;
 use std::thread::Threads;
@@ -43,24 +44,14 @@ pub fn run_table<H: Threads + Wait + Sync, G: Gate + Sync, I: Io>(
         Ends plan (I.world io.old) (I.world io.new) result }
 {
     let command = CheckingTable(*check);
-    match read_inputs(workers.alloc, &command, io) {
-        Ok(inputs) => {
-            let answer = answer_table(inputs.as_slice(), workers);
-            conclude(&command, &answer, io)
-        }
-        Err(status) => status,
-    }
-}
-
-/// The answer on the bytes of the one input. Want of memory never comes of a header that is refused.
-fn answer_table<'i, H: Threads + Wait + Sync, G: Gate + Sync>(
-    inputs: &'i [Vec<u8>],
-    workers: &Workers<'_, H, G>,
-) -> Result<Answer<'i>, AllocError>
-    requires { length inputs.now ≡ 1 }
-    ensures { let files = all_bytes inputs.now in
-        IsAnswerBy (IsCheckReply table_file files) (CheckTakesMemory table_file files) result }
-{
+    let inputs = match read_inputs(workers.alloc, &command, io) {
+        Ok(inputs) => inputs,
+        Err(status) => return status,
+    };
     let table = inputs[0].as_slice();
-    answer_by(&Inputs::Table { table }, workers)
+    let check = || -> Result<Verdict, Fault>
+        ensures { IsAnswerTo (table_file table.entry.now) result }
+    { verify_table(table, workers) };
+    let (digested, answer) = digested_beside(workers.rt, workers.count, &[], Some(table), check);
+    conclude(&command, &told_or_memory(digested, answer), io)
 }

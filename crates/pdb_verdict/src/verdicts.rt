@@ -63,8 +63,8 @@ pub enum Fault {
     /// A count of the table would be above 253.
     #[error("a count of the table would be above 253")]
     K3,
-    /// A side and a mask are no pattern, or the table that was built for them is exact for another pattern.
-    #[error("this is no pattern, or the table that was built is that of another one")]
+    /// A side and a mask are no pattern.
+    #[error("this is no pattern")]
     K4,
     /// A line of a claims text, with this number from 0, is no claim.
     #[error("line {0} of the claims is no claim")]

@@ -1,4 +1,5 @@
 mod ArgumentLemmas
 pub mod CommandLemmas
+mod MaskLemmas
 mod NumberLemmas
 pub mod TextLemmas

@@ -13,9 +13,10 @@ use Rattle.clap.specs.Words.{ReadsOne, found_of, one_text, rows_of}
 use Rattle.clap.specs.declared.ArgMatches.{ArgMatches}
 use Rattle.pdb_words.specs.Numbers.{number_written, optional_number_in}
 
-digits_tested : (ds : List ℕ) → Decides (list_all (λ d. nat_lt (digit_value d) 10) ds) (AllDigits 10 ds)
-digits_tested [] = grind arith
-digits_tested (d ∷ ds) = grind (arith, nat_tests, digits_tested ds)
+-- digits in a radix, as a test
+pub digits_tested : (radix : ℕ) (ds : List ℕ) → Decides (list_all (λ d. nat_lt (digit_value d) radix) ds) (AllDigits radix ds)
+digits_tested radix [] = grind arith
+digits_tested radix (d ∷ ds) = grind (arith, nat_tests, digits_tested radix ds)
 
 -- what `u64` makes of a text
 abbrev pub Gives : Text → Result ℕ ParseIntError → Type 0
@@ -27,7 +28,7 @@ module _ (low high : ℕ) (fits : high < 2 ^ 64) where
   if_within n = if nat_le low n && nat_le n high then Some n else None
 
   text_read : (text : Text) (read : Option ℕ) → ReadsOne Gives text read → option_and_then if_within read ≡ number_written low high text
-  text_read text read reads = grind (arith, nat_tests, digits_tested (without_leading_plus text))
+  text_read text read reads = grind (arith, nat_tests, digits_tested 10 (without_leading_plus text))
 
   -- what `get_one` read of a text that may be missing: the number where it is one from low to high
   pub number_read : (m : ArgMatches) (id : Text) (read : Option ℕ) → (one_text (found_of m) id ≡ None → read ≡ None) → ((text : Text) → one_text (found_of m) id ≡ Some text → ReadsOne Gives text read)

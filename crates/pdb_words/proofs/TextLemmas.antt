@@ -1,6 +1,6 @@
 -- Texts: which are the same, which are among others, and which don't begin with `-`.
-use Rattle.std.proofs.Common.{◌≡◌, ◌⊎◌, arith, inl, inr, refl, sym, subst, false, true, List, [], ◌∷◌, None}
-use Rattle.std.specs.List.{AllByRecursion, find}
+use Rattle.std.proofs.Common.{◌≡◌, ◌⊎◌, arith, inl, inr, refl, sym, subst, false, true, ℕ, List, [], ◌∷◌, None}
+use Rattle.std.specs.List.{AllByRecursion, find, list_all}
 use Rattle.std.specs.Prelude.{map}
 use Rattle.std.specs.Str.{bytes_eq}
 use Rattle.std.proofs.lemmas.Bool.Decides.{nat_tests}
@@ -8,6 +8,7 @@ use Rattle.std.proofs.lemmas.Slice.Eq.{bytes_eq-Decides}
 use Rattle.clap.specs.Lexer.{strip_byte}
 use Rattle.clap.specs.Walk.{Text, answers_to}
 use Rattle.pdb_words.specs.Commands.{IsOneOf, IsPlain}
+use Rattle.pdb_words.specs.Faults.{is_plain_byte, plain_byte}
 
 -- texts with the same bytes are the same
 pub same_text : (a b : Text) → bytes_eq a b ≡ true → a ≡ b
@@ -31,6 +32,11 @@ strip_dash text plain = grind (arith, nat_tests)
 -- a text that doesn't begin with `-` is not `--`
 pub not_dashes : (text : Text) → IsPlain text → bytes_eq text (45 ∷ 45 ∷ []) ≡ false
 not_dashes text plain = grind (arith, nat_tests)
+
+-- what is shown for bytes is plain
+pub all_plain : (bytes : List ℕ) → list_all is_plain_byte (map plain_byte bytes) ≡ true
+all_plain [] = refl
+all_plain (byte ∷ bytes) = grind (arith, nat_tests, all_plain bytes)
 
 -- both, for a text that doesn't begin with `-`
 pub ruleset dashless = (strip_dash, not_dashes)

@@ -1,5 +1,5 @@
 -- The words of the command line, and what they ask for.
-use Rattle.std.specs.Prelude.{◌≡◌, List, [], Option, Some, None, codes, if◌then◌else◌, true}
+use Rattle.std.specs.Prelude.{◌≡◌, List, [], ◌++◌, Option, Some, None, codes, if◌then◌else◌, true}
 use Rattle.std.specs.Str.{bytes_eq}
 use Rattle.clap.specs.Walk.{Row, Text}
 use Rattle.clap.specs.Simple.{App, new_app, on_top, subcommand_of, with_subcommand}
@@ -8,7 +8,7 @@ use Rattle.clap.specs.Kinds.{Kinds}
 use Rattle.pdb_request.specs.Asked.{Asked}
 use Rattle.pdb_request.specs.declared.requests.Claim.TheVariants.{Bound, Optimum}
 use Rattle.pdb_words.specs.LogChecks.{check_command, check_in}
-use Rattle.pdb_words.specs.MakeTable.{make_table_command, make_table_in}
+use Rattle.pdb_words.specs.MakeTable.{make_table_command, make_table_in, mask_faults}
 use Rattle.pdb_words.specs.Prove.{prove_command, prove_in}
 use Rattle.pdb_words.specs.Replay.{replay_command, replay_in, replay_input}
 use Rattle.pdb_words.specs.Solve.{solve_command, solve_in}
@@ -16,7 +16,7 @@ use Rattle.pdb_words.specs.Table.{table_command, table_in}
 
 -- the program without its commands, over words that leave out its own name, as `clap` sees it
 abbrev pub program : App
-program = on_top (λ s. record s { no_binary_name = true }) (new_app (codes "pdb_cli"))
+program = on_top (λ s. record s { no_binary_name = true; has_version = true }) (new_app (codes "pdb_cli"))
 
 -- the program with the commands that only check
 abbrev pub checks : App
@@ -51,10 +51,23 @@ asked_of words = asked_in (subcommand_of command_line words)
 
 -- ---- which words ask for anything
 
--- what is wrong with the words: nothing, where they parse; a wish for help counts too
-abbrev pub faults_of : List Text → Kinds
-faults_of words = fault_of command_line words
+-- what `clap` finds wrong with the words; a wish for help or for the version counts too
+abbrev pub parse_faults : List Text → Kinds
+parse_faults words = fault_of command_line words
 
--- nothing is wrong with the words, and they don't ask for help
+-- what is wrong with the mask among the values found of the command of this name: only `make-table` has one
+abbrev pub mask_faults_by : Text → List Row → Kinds
+mask_faults_by name rows = if bytes_eq name (codes "make-table") then mask_faults rows else []
+
+-- the same, or nothing without a command
+abbrev pub mask_faults_in : Option (Text × List Row) → Kinds
+mask_faults_in None = []
+mask_faults_in (Some found) = mask_faults_by found.0 found.1
+
+-- what is wrong with the words: nothing, where they parse
+abbrev pub faults_of : List Text → Kinds
+faults_of words = mask_faults_in (subcommand_of command_line words) ++ parse_faults words
+
+-- nothing is wrong with the words, and they ask neither for help nor for the version
 abbrev pub Parses : List Text → Type 0
 Parses words = faults_of words ≡ []

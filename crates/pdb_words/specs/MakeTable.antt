@@ -1,10 +1,13 @@
 -- The words of `make-table [--workers N] SIDE MASK OUT`.
-use Rattle.std.specs.Prelude.{ℕ, List, Some, codes, pos, true}
+use Rattle.std.specs.Prelude.{ℕ, List, [], ◌∷◌, Option, Some, codes, if◌then◌else◌, is_some, pos, true, unwrap_or}
 use Rattle.clap.specs.Walk.{Row, Rule}
 use Rattle.clap.specs.Simple.{App, new_app, new_rule, with_rule}
+use Rattle.clap.specs.Kinds.{Kinds}
 use Rattle.clap.specs.declared.builder.value_parser.ValueParser.TheVariants as parser
+use Rattle.clap.specs.declared.error.kind.ErrorKind.TheVariants.{ValueValidation}
 use Rattle.pdb_request.specs.Asked.{Asked, make_table}
 use Rattle.pdb_words.specs.Files.{file_in, needed_file}
+use Rattle.pdb_words.specs.Masks.{mask_written}
 use Rattle.pdb_words.specs.Numbers.{number_in}
 use Rattle.pdb_words.specs.Workers.{workers_flag, workers_in}
 
@@ -12,17 +15,13 @@ use Rattle.pdb_words.specs.Workers.{workers_flag, workers_in}
 abbrev pub most_side : ℕ
 most_side = 255
 
--- the greatest number that may be meant for a tile mask: that of four bytes
-abbrev pub most_mask : ℕ
-most_mask = 4294967295
-
 -- the side, a number from 0 to 255, which has to be given
 abbrev pub needed_side : Rule
 needed_side = record (new_rule (codes "SIDE")) { required = true; parser = Some (parser.Signed (pos 0) (pos most_side)) }
 
--- the tile mask, a number from 0 to 4,294,967,295, which has to be given
+-- the tile mask, for `clap` any word, which has to be given
 abbrev pub needed_mask : Rule
-needed_mask = record (new_rule (codes "MASK")) { required = true; parser = Some (parser.Signed (pos 0) (pos most_mask)) }
+needed_mask = needed_file (codes "MASK")
 
 -- the command, as `clap` sees it
 abbrev pub make_table_command : App
@@ -33,9 +32,17 @@ make_table_command = with_rule (with_rule (with_rule (with_rule (new_app (codes 
 abbrev pub side_number_in : List Row → ℕ
 side_number_in rows = number_in 0 most_side 0 (codes "SIDE") rows
 
--- the tile mask that they name
+-- the tile mask that their word for it writes, if it writes one
+abbrev pub mask_in : List Row → Option ℕ
+mask_in rows = mask_written (file_in (codes "MASK") rows)
+
+-- the same, or 0
 abbrev pub mask_number_in : List Row → ℕ
-mask_number_in rows = number_in 0 most_mask 0 (codes "MASK") rows
+mask_number_in rows = unwrap_or (mask_in rows) 0
+
+-- what is wrong with them: nothing, or that their word for the mask writes none
+abbrev pub mask_faults : List Row → Kinds
+mask_faults rows = if is_some (mask_in rows) then [] else ValueValidation ∷ []
 
 -- what the values found of it ask for
 abbrev pub make_table_in : List Row → Asked

@@ -1,16 +1,18 @@
 //! The commands of the program, and the reading of words.
 
-ghost use Rattle.std.specs.Prelude.{◌≡◌, IfErr, IfOk, IfSome, map, string_bytes, true};
+ghost use Rattle.std.specs.Prelude.{◌≡◌, ◌∷◌, [], IfErr, IfOk, IfSome, map, string_bytes, true};
+ghost use Rattle.std.specs.Option.{MatchOption};
 ghost use Rattle.clap.specs.Words.{App, FailsBy, app_of, subcommand_of, subcommand_rows_of, with_subcommand};
+ghost use Rattle.clap.specs.declared.error.kind.ErrorKind.TheVariants.{ValueValidation};
 ghost use Rattle.pdb_request.specs.Asked.{HasBudget, HasWorkers, request_shown};
-ghost use Rattle.pdb_words.specs.CommandLine.{Parses, asked_in, asked_of, checks, command_line, faults_of, program};
+ghost use Rattle.pdb_words.specs.CommandLine.{Parses, asked_in, asked_of, checks, command_line, mask_faults_in, parse_faults, program};
 ghost use Rattle.pdb_words.specs.Commands.{IsCommand};
-ghost use Rattle.pdb_words.specs.Faults.{IsCauseOfWordFault};
+ghost use Rattle.pdb_words.specs.Faults.{IsCauseOfWordFault, IsPlainlySaid};
 
 use crate::commands::with_statuses;
-use crate::faults::{WordFault, fault_by};
+use crate::faults::{WordFault, fault_by, mask_fault};
 use crate::log_checks::{bound_command, check_in, optimal_command};
-use crate::make_table::{make_table_command, make_table_in};
+use crate::make_table::{make_table_command, make_table_in, wrong_mask_in};
 use crate::prove::{prove_command, prove_in};
 use crate::replay::{replay_command, replay_in};
 use crate::solve::{solve_command, solve_in};
@@ -34,9 +36,13 @@ pub fn read_words<'a>(alloc: Global, words: &'a [String]) -> Result<Request<'a>,
     ensures workers { IfOk result HasWorkers }
     ensures budget { IfOk result HasBudget }
     ensures cause { IfErr result (λ fault. IsCauseOfWordFault (map string_bytes words.now) fault) }
+    ensures plain { IfErr result IsPlainlySaid }
 {
     match matches_of(alloc, words) {
-        Ok(matches) => request_in(alloc, &matches).map_err(|_| WordFault::Memory),
+        Ok(matches) => match wrong_mask(&matches) {
+            None => request_in(alloc, &matches).map_err(|_| WordFault::Memory),
+            Some(word) => Err(mask_fault(alloc, word)),
+        },
         Err(error) => Err(fault_by(alloc, error)),
     }
 }
@@ -69,6 +75,7 @@ fn program<'a>(alloc: Global) -> Result<Command<'a>, AllocError>
         program
             .about("Checks claims about sliding-tile puzzles, and makes tables and logs")
             .after_help(AFTER_HELP)
+            .version("0.2.0")
             .no_binary_name(true),
     )
 }
@@ -92,11 +99,22 @@ fn with_command<'a>(
 fn matches_of<'a>(alloc: Global, words: &'a [String]) -> Result<ArgMatches<'a>, clap::Error>
     ensures rows { let texts = map string_bytes words.now in
         IfOk result (λ m. subcommand_rows_of m ≡ subcommand_of command_line texts) }
-    ensures kinds { FailsBy (faults_of (map string_bytes words.now)) result }
+    ensures kinds { FailsBy (parse_faults (map string_bytes words.now)) result }
     ensures command { IfOk result (λ m.
         IfSome (subcommand_rows_of m) (λ found. IsCommand found.0)) }
 {
     command_line(alloc)?.try_get_matches_from(words)
+}
+
+/// The word for a mask that writes none, in these matches of words.
+fn wrong_mask<'a>(matches: &ArgMatches<'a>) -> Option<&'a str>
+    ensures { let faults = mask_faults_in (subcommand_rows_of matches.now) in
+        MatchOption result (faults ≡ []) (λ _. faults ≡ ValueValidation ∷ []) }
+{
+    match matches.subcommand() {
+        Some(("make-table", found)) => wrong_mask_in(found),
+        _ => None,
+    }
 }
 
 /// What the words ask for, in which these matches were found.

@@ -9,6 +9,7 @@ mod files;
 mod fold;
 mod log_checks;
 mod make_table;
+mod masks;
 mod numbers;
 mod prove;
 mod replay;
@@ -17,4 +18,4 @@ mod table;
 mod workers;
 
 pub use command_line::read_words;
-pub use faults::{WordFault, unreadable_word};
+pub use faults::{WordFault, unreadable_word, version_line};

@@ -1,13 +1,16 @@
 //! The words of `make-table [--workers N] SIDE MASK OUT`.
 
-ghost use Rattle.std.specs.Prelude.{◌≡◌, IfOk};
+ghost use Rattle.std.specs.Prelude.{◌≡◌, ◌∷◌, [], IfOk};
+ghost use Rattle.std.specs.Option.{MatchOption};
 ghost use Rattle.clap.specs.Words.{app_of, rule_of, with_rule};
+ghost use Rattle.clap.specs.declared.error.kind.ErrorKind.TheVariants.{ValueValidation};
 ghost use Rattle.pdb_request.specs.Asked.{HasBudget, HasWorkers, request_shown};
 ghost use Rattle.pdb_words.specs.Arguments.{rows_found};
-ghost use Rattle.pdb_words.specs.MakeTable.{make_table_command, make_table_in, mask_number_in, needed_mask, needed_side, side_number_in};
+ghost use Rattle.pdb_words.specs.MakeTable.{make_table_command, make_table_in, mask_faults, mask_in, mask_number_in, needed_mask, needed_side, side_number_in};
 
 use crate::commands::{new_command, with_argument, with_statuses};
 use crate::files::{file_in, with_file};
+use crate::masks::mask_written;
 use crate::numbers::number_in;
 use crate::workers::{with_workers, workers_in};
 use clap::{Arg, ArgMatches, Command, value_parser};
@@ -64,9 +67,10 @@ fn needed_mask<'a>(alloc: Global) -> Arg<'a>
     ensures { rule_of result ≡ needed_mask }
 {
     Arg::new(alloc, "MASK")
-        .help("The tiles of the pattern: the sum of 2^t over its tiles t")
+        .help(
+            "The tiles of the pattern: tiles:1,2,3,4, or the sum of 2^t over its tiles t, as 30 or 0x1e",
+        )
         .required(true)
-        .value_parser(value_parser!(u32))
 }
 
 /// The side that these matches of the command name.
@@ -76,11 +80,29 @@ fn side_number_in(found: &ArgMatches<'_>) -> u8
     number_in(found, "SIDE", 0, u64::from(u8::MAX), 0) as u8
 }
 
-/// The tile mask that these matches of the command name.
+/// The tile mask that these matches of the command name, if their word for it writes one.
+fn mask_in(found: &ArgMatches<'_>) -> Option<u32>
+    ensures { result ≡ mask_in (rows_found found.now) }
+{
+    mask_written(file_in(found, "MASK"))
+}
+
+/// The same, or 0.
 fn mask_number_in(found: &ArgMatches<'_>) -> u32
     ensures { result ≡ mask_number_in (rows_found found.now) }
 {
-    number_in(found, "MASK", 0, u64::from(u32::MAX), 0) as u32
+    mask_in(found).unwrap_or(0)
+}
+
+/// The word for the mask, where it writes none.
+pub(crate) fn wrong_mask_in<'a>(found: &ArgMatches<'a>) -> Option<&'a str>
+    ensures { MatchOption result (mask_faults (rows_found found.now) ≡ [])
+        (λ _. mask_faults (rows_found found.now) ≡ ValueValidation ∷ []) }
+{
+    match mask_in(found) {
+        Some(_) => None,
+        None => Some(file_in(found, "MASK")),
+    }
 }
 
 /// What these matches of the command ask for.

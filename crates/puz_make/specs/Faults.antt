@@ -1,12 +1,24 @@
 -- Which faults keep something from being made.
-use Rattle.std.specs.Prelude.{⊤}
+use Rattle.std.specs.Prelude.{⊤, ℕ, ◌⊎◌, List, true}
+use Rattle.set_sum.specs.Bundles.{SaysAtLeast, ShownBundle}
 use Rattle.tab_make.specs.declared.faults.MakeFault.{MakeFault}
-use Rattle.tab_make.specs.declared.faults.MakeFault.TheVariants.{K1, K2, Memory}
+use Rattle.tab_make.specs.declared.faults.MakeFault.TheVariants.{K1, K2, Memory, Wrong}
 pub use Rattle.tab_make.specs.Faults.{IsBuildFault}
+use Rattle.puz_make.specs.Solvable.{HasTheBlanksParity}
 
--- no log is made for this alone: the budget is used up, no bound that a log may claim is left, or there isn't the memory
-abbrev pub IsSearchFault : MakeFault → Type 0
-IsSearchFault K1 = ⊤
-IsSearchFault K2 = ⊤
-IsSearchFault Memory = ⊤
-IsSearchFault fault = ⊥
+-- no log proves how few moves solve the board: it has no solution, by the parity of its numbers, or a set says of it never, or, by
+-- parity, more moves than the greatest bound of a lemma, which is 255
+abbrev pub IsOutOfReach : ShownBundle → List ℕ → Type 0
+IsOutOfReach v b = (¬ HasTheBlanksParity b) ⊎ ((set : ℕ) × SaysAtLeast v true set b 256)
+
+-- a search stops for this alone: the budget is used up, there isn't the memory, or the maker is wrong
+abbrev pub IsSearchStop : MakeFault → Type 0
+IsSearchStop K1 = ⊤
+IsSearchStop Memory = ⊤
+IsSearchStop Wrong = ⊤
+IsSearchStop fault = ⊥
+
+-- no log is made for this alone: the board is out of reach, or its search stops
+abbrev pub IsSearchFault : ShownBundle → List ℕ → MakeFault → Type 0
+IsSearchFault v b K2 = IsOutOfReach v b
+IsSearchFault v b fault = IsSearchStop fault

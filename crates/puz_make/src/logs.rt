@@ -1,7 +1,7 @@
 //! Logs of a refutation: of many lemmas, or of one.
 
 ghost use Rattle.std.specs.Prelude.{IfErr};
-ghost use Rattle.puz_make.specs.Faults.{IsSearchFault};
+ghost use Rattle.puz_make.specs.Faults.{IsSearchStop};
 
 use crate::board_table::BoardTable;
 use crate::keys::Tiles;
@@ -29,7 +29,7 @@ pub(crate) fn log_of(
     mut refutation: Refutation,
     limits: &Limits,
 ) -> Result<Vec<u8>, MakeFault>
-    ensures { IfErr result IsSearchFault }
+    ensures { IfErr result IsSearchStop }
 {
     if refutation.tree.len() >= limits.one_lemma_below && refutation.tree.first() == Some(&BRANCH) {
         if let Ok(log) = log_of_many(alloc, position, &mut refutation, limits.lemmas) {
@@ -70,7 +70,7 @@ fn length_of_one(refutation: &Refutation) -> usize {
 
 /// The log of a refutation in one lemma.
 fn log_of_one(alloc: Global, refutation: &Refutation) -> Result<Vec<u8>, MakeFault>
-    ensures { IfErr result IsSearchFault }
+    ensures { IfErr result IsSearchStop }
 {
     let tiles = Tiles::new(&refutation.board);
     let length = length_of_one(refutation);

@@ -1,11 +1,11 @@
 //! Shortest solutions by iterative deepening (Korf 1985), and the logs that prove them shortest.
 
-ghost use Rattle.std.specs.Prelude.{◌≡◌, ◌<◌, Err, IfErr, IfOk};
+ghost use Rattle.std.specs.Prelude.{◌≡◌, ◌<◌, ◌+◌, Err, IfErr, IsErrOf, OnErr, OnOk};
 ghost use Rattle.std.specs.Bool.{OnFalse};
 ghost use Rattle.puz_board.specs.Boards.{side_of};
-ghost use Rattle.puz_make.specs.Faults.{IsSearchFault};
+ghost use Rattle.puz_make.specs.Faults.{IsSearchFault, IsSearchStop};
 ghost use Rattle.puz_make.specs.Solvable.{HasTheBlanksParity};
-ghost use Rattle.tab_make.specs.declared.faults.MakeFault.TheVariants.{K2};
+ghost use Rattle.tab_make.specs.declared.faults.MakeFault.TheVariants.{K1, K2};
 
 use crate::children::Children;
 use crate::leaves::Leaf;
@@ -13,7 +13,7 @@ use crate::limits::Limits;
 use crate::logs::log_of;
 use crate::positions::Position;
 use crate::set_indices::SetIndex;
-use crate::solvable::is_solvable;
+use crate::solvable::{has_too_great_a_sum, is_solvable};
 use crate::trees::Refutation;
 use crate::ways::ListNumber;
 use crate::written::WrittenTree;
@@ -27,7 +27,7 @@ use tab_make::MakeFault;
 const BETWEEN_THRESHOLDS: u16 = 2;
 
 /// The greatest bound that a lemma claims, and so the greatest threshold.
-const GREATEST_BOUND: u16 = 255;
+pub(crate) const GREATEST_BOUND: u16 = 255;
 
 /// How many branches a search is in at most, each one move below the one before.
 const LEVELS: usize = GREATEST_BOUND as usize + BETWEEN_THRESHOLDS as usize;
@@ -47,7 +47,7 @@ pub struct Found {
 /// lemmas where its tree is large. Where that tree was too large to be kept while the next threshold was searched, its boards
 /// are expanded once more, which doesn't count. Where the sum of a set hasn't the parity of the solutions, it may count for one
 /// more, as a leaf by parity.
-/// Of a board that has no solution, by the parity of its numbers, nothing is searched.
+/// Of a board that is out of reach nothing is searched.
 pub fn solve(
     alloc: Global,
     bundle: &Bundle<'_>,
@@ -55,12 +55,9 @@ pub fn solve(
     budget: u64,
 ) -> Result<Found, MakeFault>
     requires { side_of board.now ≡ bundle.now.side }
-    ensures fault { IfErr result IsSearchFault }
+    ensures fault { IfErr result (IsSearchFault bundle.now board.now) }
     ensures unsolvable { (HasTheBlanksParity board.now → ⊥) → result ≡ Err K2 }
 {
-    if !is_solvable(board) {
-        return Err(MakeFault::K2);
-    }
     solve_within(alloc, bundle, board, budget, &Limits::USUAL)
 }
 
@@ -73,12 +70,30 @@ pub fn solve_within(
     limits: &Limits,
 ) -> Result<Found, MakeFault>
     requires { side_of board.now ≡ bundle.now.side }
-    ensures fault { IfErr result IsSearchFault }
+    ensures fault { IfErr result (IsSearchFault bundle.now board.now) }
+    ensures unsolvable { (HasTheBlanksParity board.now → ⊥) → result ≡ Err K2 }
 {
-    let position = Position::new(alloc, bundle, board)?;
-    if position.sums.is_hopeless() {
+    if !is_solvable(board) {
         return Err(MakeFault::K2);
     }
+    if has_too_great_a_sum(bundle, board) {
+        return Err(MakeFault::K2);
+    }
+    search(alloc, bundle, board, budget, limits)
+}
+
+/// Searches for a shortest solution of a board that is in reach, threshold by threshold.
+fn search(
+    alloc: Global,
+    bundle: &Bundle<'_>,
+    board: &Board,
+    budget: u64,
+    limits: &Limits,
+) -> Result<Found, MakeFault>
+    requires { side_of board.now ≡ bundle.now.side }
+    ensures { IfErr result IsSearchStop }
+{
+    let position = Position::new(alloc, bundle, board)?;
     let root = position.best_leaf();
     let mut bound = root.raised;
     let mut levels = vec![in alloc; Children::none(); LEVELS]?;
@@ -94,7 +109,7 @@ pub fn solve_within(
         bound = threshold + BETWEEN_THRESHOLDS;
         searcher.begin_again();
     }
-    Err(MakeFault::K2)
+    Err(MakeFault::Wrong)
 }
 
 /// What searches for a solution, with all that it keeps.
@@ -114,7 +129,9 @@ struct Searcher<'a> {
 
 impl<'a> Searcher<'a> {
     /// One that may expand so many boards.
-    fn new(alloc: Global, position: Position<'a>, budget: u64, limits: &Limits) -> Searcher<'a> {
+    fn new(alloc: Global, position: Position<'a>, budget: u64, limits: &Limits) -> Searcher<'a>
+        ensures { result.budget ≡ budget }
+    {
         let sets = position.sums.count();
         Searcher {
             position,
@@ -140,7 +157,7 @@ impl<'a> Searcher<'a> {
         bound: u8,
         levels: &mut [Children],
     ) -> Result<Found, MakeFault>
-        ensures { IfErr result IsSearchFault }
+        ensures { IfErr result IsSearchStop }
     {
         self.moves.reverse();
         if !self.failed.is_whole {
@@ -160,7 +177,7 @@ impl<'a> Searcher<'a> {
 
     /// Searches a threshold that failed once more, for its tree. The boards that are expanded don't count.
     fn search_again(&mut self, bound: u8, levels: &mut [Children]) -> Result<(), MakeFault>
-        ensures { IfErr result IsSearchFault }
+        ensures { IfErr result IsSearchStop }
     {
         self.budget = u64::MAX;
         self.tree.most = self.limits.tree;
@@ -177,7 +194,8 @@ impl<'a> Searcher<'a> {
     /// Whether the first board has a solution of fewer moves than remain. Where it has none, the tree that refutes it is
     /// written, and otherwise the letters of its moves.
     fn is_solved(&mut self, levels: &mut [Children], remaining: u16) -> Result<bool, MakeFault>
-        ensures { IfErr result IsSearchFault }
+        ensures fault { IfErr result IsSearchStop }
+        ensures spent { IsErrOf result K1 → self.new.budget ≡ 0 }
     {
         let leaf = self.position.best_leaf();
         if self.is_cut(&leaf, remaining) {
@@ -193,7 +211,9 @@ impl<'a> Searcher<'a> {
     /// Writes a branch, and counts it.
     #[inline]
     fn count(&mut self) -> Result<(), MakeFault>
-        ensures { IfErr result IsSearchFault }
+        ensures fault { IfErr result IsSearchStop }
+        ensures spent { OnErr result ((self.old.budget ≡ 0) × (self.new.budget ≡ 0)) }
+        ensures counted { OnOk result (self.new.budget + 1 ≡ self.old.budget) }
     {
         if self.budget == 0 {
             return Err(MakeFault::K1);
@@ -225,11 +245,12 @@ impl<'a> Searcher<'a> {
         remaining: u16,
     ) -> Result<bool, MakeFault>
         requires { 0 < remaining }
-        ensures { IfErr result IsSearchFault }
+        ensures fault { IfErr result IsSearchStop }
+        ensures spent { IsErrOf result K1 → self.new.budget ≡ 0 }
     {
         self.count()?;
         let Some((children, below)) = levels.split_first_mut() else {
-            return Err(MakeFault::Memory);
+            return Err(MakeFault::Wrong);
         };
         let remaining = remaining - 1;
         let count = self.position.look_around(list, first, remaining, children);

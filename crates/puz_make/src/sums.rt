@@ -16,7 +16,6 @@ use puz_board::{Board, Side};
 use set_sum::{Bundle, MOST_SETS, Member};
 use std::alloc::{AllocError, Global};
 use std::mem;
-use tab_file::NO_WAY_HOME;
 
 /// A set of members, with the sum of their entries on the board.
 #[derive(Drop)]
@@ -138,13 +137,6 @@ impl<'a> Sums<'a> {
         for (set, looked) in self.sets.iter_mut().zip(&mut entries.looked) {
             set.exchange(&mut self.places, looked);
         }
-    }
-
-    /// Whether a set says that the board has no solution.
-    pub(crate) fn is_hopeless(&self) -> bool {
-        self.places
-            .iter()
-            .any(|place| place.stand.entry == NO_WAY_HOME)
     }
 
     /// What the first set says that says the most of a board whose solutions have this parity.

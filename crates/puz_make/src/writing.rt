@@ -284,6 +284,6 @@ impl<'a> Writer<'a> {
 fn add_part(log: &mut LogBytes, bytes: &[u8], part: Range<usize>) -> Result<(), MakeFault> {
     match bytes.get(part) {
         Some(part) => log.add(part),
-        None => Err(MakeFault::Memory),
+        None => Err(MakeFault::Wrong),
     }
 }

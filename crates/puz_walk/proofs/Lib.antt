@@ -1,10 +1,12 @@
 mod BlankLemmas
+mod ExchangeLemmas
 mod JudgeLemmas
 mod MarginLemmas
 mod OpenLemmas
 mod OwnerLemmas
 mod SeatLemmas
 mod ShiftLemmas
+mod SumWalkLemmas
+mod TallyLemmas
 mod TurnLemmas
-mod WalkLemmas
 mod WordWalkLemmas

@@ -10,7 +10,7 @@ use Rattle.puz_board.proofs.CellLemmas.{step_of-beside}
 use Rattle.puz_board.proofs.MovedLemmas.{IsBoardOf-moved}
 use Rattle.edge_words.proofs.TileMoveLemmas.{Slide, slide_of}
 use Rattle.set_sum.specs.Raised.{raised}
-use Rattle.puz_walk.specs.StoredWordWalks.{margin_of}
+use Rattle.puz_walk.specs.Cuts.{margin_of}
 use Rattle.puz_walk.proofs.TurnLemmas.{blank_below}
 
 -- ---- the margin

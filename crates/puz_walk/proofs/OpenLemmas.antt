@@ -9,9 +9,8 @@ use Rattle.set_sum.specs.Bounds.{CountReaches}
 use Rattle.set_sum.specs.Bundles.{ShownBundle, BundleSays, IsBundle, set_of}
 use Rattle.set_sum.specs.Raised.{raised, told_of}
 use Rattle.set_sum.proofs.SumLemmas.{set_once}
-use Rattle.puz_walk.specs.StoredWordWalks.{margin_of}
+use Rattle.puz_walk.specs.Cuts.{GoesBeyond, margin_of}
 use Rattle.puz_walk.specs.Walks.{IsCutOff, IsOpen}
-use Rattle.puz_walk.specs.WordSpots.{GoesBeyond}
 use Rattle.puz_walk.proofs.MarginLemmas.{margin_some, parity_bit, raised_below, raised_reaches}
 
 module _ (v : ShownBundle) (b : List ℕ) (bound margin : ℕ) (is : margin ≡ margin_of bound (blank_parity b)) where

@@ -22,9 +22,9 @@ use Rattle.set_sum.proofs.AnswerLemmas.{all_get}
 use Rattle.set_sum.proofs.ListLemmas.{all_at, get_or-slice_get}
 use Rattle.puz_walk.specs.StoredWords.{HasNoOwner, IsOwner, cell_for, move_for}
 use Rattle.puz_walk.specs.WordBundles.{HaveWords, pattern_at}
-use Rattle.puz_walk.specs.WordSpots.{AreIndexesOf, IsShift, index_place}
+use Rattle.puz_walk.specs.WordSpots.{AreIndexesOf, IsShift, Shifts, index_place}
 use Rattle.puz_walk.specs.declared.owners.Owner.{Owner}
-use Rattle.puz_walk.proofs.ShiftLemmas.{IsFull, member_index_still, member_shifts, member_still, owner_or_not, sum_shifts, sum_still}
+use Rattle.puz_walk.proofs.ShiftLemmas.{IsFull, member_index_still, member_shifts, member_still, owner_or_not, shift_more, sum_moves, sum_still}
 use Rattle.puz_walk.proofs.TurnLemmas.{blank_below, next_good, step_for}
 
 -- the tile of a step is one of the board
@@ -73,22 +73,39 @@ place_parts set t false low = (let h : (16 * set + (2 * t + 0)) % 16 / 2 ≡ t =
 
 -- ---- members of a set
 
-module _ (v : ShownBundle) (bundle : IsBundle v) (words : List ShownWords) (have : HaveWords v words) (set : ℕ) (low : set < length v.sets) where
-  set_is : IsSetOf v.side v.tables (set_of v set)
+module _ (v : ShownBundle) (bundle : IsBundle v) (set : ℕ) (low : set < length v.sets) where
+  pub set_is : IsSetOf v.side v.tables (set_of v set)
   set_is = all_at (IsSetOf v.side v.tables) v.sets set _ low bundle.each
+
+  pub tables_there : AllByRecursion (λ m. m.table < length v.tables) (set_of v set)
+  tables_there = all_at (AllByRecursion (λ o. o.table < length v.tables)) v.sets set _ low bundle.there
 
   module _ (number : ℕ) (m : Member) (is : slice_get (set_of v set) number ≡ Some m) where
     pub member_there : m.table < length v.tables
-    member_there = all_get (λ o. o.table < length v.tables) (set_of v set) number m is (all_at (AllByRecursion (λ o. o.table < length v.tables)) v.sets set _ low bundle.there)
+    member_there = all_get (λ o. o.table < length v.tables) (set_of v set) number m is tables_there
 
     pub member_pattern : IsPattern (pattern_at v m.table)
     member_pattern = all_get (λ o. IsPattern (pattern_at v o.table)) (set_of v set) number m is set_is.patterns
 
+  -- the owner's table has the tile that the owner looks up
+  pub owner_takes : (tile : ℕ) (owner : Owner) → IsOwner v set tile owner → has (table_pattern v.tables owner.member) (cell_for v.side owner.member tile) ≡ true
+  owner_takes tile owner is =
+      let tiles = table_pattern v.tables owner.member in
+      subst (λ t. has tiles t ≡ true) is.is (has-get tiles owner.tile (slice_index tiles owner.tile) (get_or-slice_get tiles owner.tile 0 is.low))
+
+module _ (v : ShownBundle) (bundle : IsBundle v) (words : List ShownWords) (have : HaveWords v words) (set : ℕ) (low : set < length v.sets) where
+  module _ (number : ℕ) (m : Member) (is : slice_get (set_of v set) number ≡ Some m) where
+    has_table : m.table < length v.tables
+    has_table = member_there v bundle set low number m is
+
+    pat : IsPattern (pattern_at v m.table)
+    pat = member_pattern v bundle set low number m is
+
     pub member_full : (table_of v.tables m).is_folded ≡ false
-    member_full = (have.each m.table member_there).full
+    member_full = (have.each m.table has_table).full
 
     pub table_low : m.table < 8
-    table_low = let l = member_there in let few = have.few in omega arith
+    table_low = let l = has_table in let few = have.few in omega arith
 
     pub index_place_low : index_place set m < 256
     index_place_low = let l = place_low set m.table m.is_transposed table_low in let few = bundle.few_sets in omega arith
@@ -96,7 +113,7 @@ module _ (v : ShownBundle) (bundle : IsBundle v) (words : List ShownWords) (have
     -- the words that were read for it are those of its table's pattern
     pub words_at : (place : ℕ) (w : ShownWords) → place ≡ m.table → w ≡ get_or words place w → w.pattern ≡ pattern_at v m.table
     words_at place w place_is read =
-        let there = member_there in
+        let there = has_table in
         let size = have.size in
         let at_table : w ≡ get_or words m.table w = subst (λ k. w ≡ get_or words k w) place_is read in
         (have.each m.table there).pattern w (get_or-slice_get words m.table w (omega arith) ∙ ap Some (sym at_table))
@@ -106,7 +123,7 @@ module _ (v : ShownBundle) (bundle : IsBundle v) (words : List ShownWords) (have
   full_of (m ∷ ms) patterns there = ((patterns.0, (have.each m.table there.0).full), full_of ms patterns.1 there.1)
 
   full_all : AllByRecursion (IsFull v.side v.tables) (set_of v set)
-  full_all = full_of (set_of v set) set_is.patterns (all_at (AllByRecursion (λ o. o.table < length v.tables)) v.sets set _ low bundle.there)
+  full_all = full_of (set_of v set) (set_is v bundle set low).patterns (tables_there v bundle set low)
 
   -- ---- the owner of a tile
 
@@ -123,24 +140,22 @@ module _ (v : ShownBundle) (bundle : IsBundle v) (words : List ShownWords) (have
       before = d;
       after = d;
       says_before = says;
-      says_after = record { there = low; says = sum_still v.side v.tables tile tile_low b next still (set_of v set) full_all none d says.says };
+      says_after = record { there = low; says = sum_still v.side v.tables tile tile_low (IsFull v.side v.tables) b next still (set_of v set) full_all none d says.says };
       is = refl;
     }
 
     -- and the indexes
     pub none_indexes : HasNoOwner v set tile → (indexes : List ℕ) → AreIndexesOf v b indexes set → AreIndexesOf v next indexes set
     none_indexes none indexes are number m is =
-        are number m is ∙ sym (member_index_still v.side move b next tile from to step v.tables m (member_pattern number m is)
+        are number m is ∙ sym (member_index_still v.side move b next tile from to step v.tables m (pat number m is)
         (all_get (λ o. has (table_pattern v.tables o) (cell_for v.side o tile) ≡ false) (set_of v set) number m is none))
 
     module _ (owner : Owner) (is : IsOwner v set tile owner) where
       abbrev pub own : Member
       own = owner.member
 
-      owner_takes : has (table_pattern v.tables own) (cell_for v.side own tile) ≡ true
-      owner_takes =
-          subst (λ t. has (table_pattern v.tables own) t ≡ true) is.is
-          (has-get (table_pattern v.tables own) owner.tile (slice_index (table_pattern v.tables own) owner.tile) (get_or-slice_get (table_pattern v.tables own) owner.tile 0 is.low))
+      own_takes : has (table_pattern v.tables own) (cell_for v.side own tile) ≡ true
+      own_takes = owner_takes v bundle set low tile owner is
 
       -- the move of the board that the owner looks up is one of its tile
       pub owner_moves : IsTileMove (pattern_at v own.table) owner.tile (move_for own move) (board_for own b) (board_for own next)
@@ -157,9 +172,9 @@ module _ (v : ShownBundle) (bundle : IsBundle v) (words : List ShownWords) (have
       pub owner_shifts : (rises : Bool) → ((d : ℕ) → IsLeastCost (table_pattern v.tables own) (board_for own b) d → RisesOrFalls rises (table_pattern v.tables own) (board_for own next) d)
           → (d : ℕ) → BundleSays v set b (Finite d) → IsShift v b next set (Some rises)
       owner_shifts rises told d says =
-          let shifts = sum_shifts v.side v.tables tile tile_low b next still own owner_takes rises
-          (member_shifts v.side move b next tile from to step v.tables own (member_pattern is.number own is.member) (member_full is.number own is.member) rises told)
-          (set_of v set) full_all set_is.disjoint is.number is.member d says.says in
+          let shifts = sum_moves v.side v.tables tile tile_low (IsFull v.side v.tables) b next still own own_takes (Shifts (Some rises)) (shift_more rises)
+          (member_shifts v.side move b next tile from to step v.tables own (pat is.number own is.member) (member_full is.number own is.member) rises told)
+          (set_of v set) full_all (set_is v bundle set low).disjoint is.number is.member d says.says in
           record {
             before = d;
             after = shifts.0;
@@ -171,7 +186,7 @@ module _ (v : ShownBundle) (bundle : IsBundle v) (words : List ShownWords) (have
       -- its index is the one that changes
       pub owner_indexes : (indexes : List ℕ) (place index : ℕ) → length indexes ≡ 256 → place ≡ index_place set own → index ≡ index_on (pattern_at v own.table) (board_for own next)
           → AreIndexesOf v b indexes set → AreIndexesOf v next (slice_set indexes place index) set
-      owner_indexes indexes place index room place_is index_is are number m there = elim (owner_or_not v.side v.tables tile tile_low (set_of v set) set_is.disjoint is.number own is.member owner_takes number m there) [
+      owner_indexes indexes place index room place_is index_is are number m there = elim (owner_or_not v.side v.tables tile tile_low (set_of v set) (set_is v bundle set low).disjoint is.number own is.member own_takes number m there) [
         | inl same ↦
             let here : slice_index (slice_set indexes place index) place ≡ index = get_or-set_same indexes place index 0 (let l = index_place_low is.number own is.member in omega arith) in
             subst (λ o. slice_index (slice_set indexes place index) (index_place set o) ≡ index_on (pattern_at v o.table) (board_for o next)) (sym same)
@@ -179,10 +194,10 @@ module _ (v : ShownBundle) (bundle : IsBundle v) (words : List ShownWords) (have
         | inr none ↦
             let other : index_place set m ≢ place = (λ e.
             let one : m ≡ own = same_member set m own (e ∙ place_is) in
-            let takes : has (table_pattern v.tables m) (cell_for v.side m tile) ≡ true = subst (λ o. has (table_pattern v.tables o) (cell_for v.side o tile) ≡ true) (sym one) owner_takes in
+            let takes : has (table_pattern v.tables m) (cell_for v.side m tile) ≡ true = subst (λ o. has (table_pattern v.tables o) (cell_for v.side o tile) ≡ true) (sym one) own_takes in
             absurd cc) in
             get_or-set_other indexes place (index_place set m) index 0 other ∙ are number m there ∙
-            sym (member_index_still v.side move b next tile from to step v.tables m (member_pattern number m there) none)
+            sym (member_index_still v.side move b next tile from to step v.tables m (pat number m there) none)
       ]
 
 -- the indexes of another set stay

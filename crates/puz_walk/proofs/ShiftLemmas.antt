@@ -74,10 +74,11 @@ module _ (n : ℕ) (tables : List ShownPart) (tile : ℕ) (low : tile < n * n) w
 
   -- ---- the sum
 
-  module _ (b next : List ℕ) (still : (m : Member) → IsFull n tables m → takes m ≡ false → (d : ℕ) → MemberSays tables m b (Finite d) → MemberSays tables m next (Finite d)) where
-    pub sum_still : (ms : List Member) → AllByRecursion (IsFull n tables) ms → AllByRecursion (λ m. takes m ≡ false) ms → (d : ℕ) → AddUpTo tables ms b d → AddUpTo tables ms next d
-    sum_still [] full none d sum = sum
-    sum_still (m ∷ ms) full none d sum = (sum.0, sum.1, still m full.0 none.0 sum.0 sum.2, sum_still ms full.1 none.1 sum.1 sum.3, sum.4)
+  -- members of a kind, which say the same number of both boards where they don't take the tile
+  module _ (P : Member → Type 0) (b next : List ℕ) (still : (m : Member) → P m → takes m ≡ false → (d : ℕ) → MemberSays tables m b (Finite d) → MemberSays tables m next (Finite d)) where
+    pub sum_still : (ms : List Member) → AllByRecursion P ms → AllByRecursion (λ m. takes m ≡ false) ms → (d : ℕ) → AddUpTo tables ms b d → AddUpTo tables ms next d
+    sum_still [] all none d sum = sum
+    sum_still (m ∷ ms) all none d sum = (sum.0, sum.1, still m all.0 none.0 sum.0 sum.2, sum_still ms all.1 none.1 sum.1 sum.3, sum.4)
 
     others : (m : Member) (ms : List Member) → ¬ Any (Overlap (pattern_of n tables m)) (patterns_of_set n tables ms) → takes m ≡ true → AllByRecursion (λ o. takes o ≡ false) ms
     others m [] apart one = tt
@@ -86,26 +87,29 @@ module _ (n : ℕ) (tables : List ShownPart) (tile : ℕ) (low : tile < n * n) w
       others m xs (λ h. apart (suc h.0, h.1, let l : h.0 < length (patterns_of_set n tables xs) = h.2 in omega arith, h.3, h.4)) one,
     )
 
-    module _ (o : Member) (one : takes o ≡ true) (rises : Bool) (shifts : (d : ℕ) → MemberSays tables o b (Finite d) → (e : ℕ) × MemberSays tables o next (Finite e) × Shifts (Some rises) d e) where
-      shift_more : (rises : Bool) (first after rest d : ℕ) → Shifts (Some rises) first after → d ≡ first + rest → Shifts (Some rises) d (after + rest)
-      shift_more true first after rest d is sum = let h : after ≡ first + 1 = is in let g : after + rest ≡ d + 1 = omega arith in g
-      shift_more false first after rest d is sum = let h : first ≡ after + 1 = is in let g : d ≡ after + rest + 1 = omega arith in g
+    -- what a move does to the number of the member that takes the tile, it does to the sum
+    module _ (o : Member) (one : takes o ≡ true) (R : ℕ → ℕ → Type 0) (more : (d e k : ℕ) → R d e → R (k + d) (k + e))
+        (moves : (d : ℕ) → MemberSays tables o b (Finite d) → (e : ℕ) × MemberSays tables o next (Finite e) × R d e) where
+      more_behind : (d e k sum : ℕ) → R d e → sum ≡ d + k → R sum (e + k)
+      more_behind d e k sum is adds =
+          subst (λ x. R x (e + k)) (let q : k + d ≡ sum = omega arith in q) (subst (R (k + d)) (let q : k + e ≡ e + k = omega arith in q) (more d e k is))
 
-      shift_later : (rises : Bool) (first rest after d : ℕ) → Shifts (Some rises) rest after → d ≡ first + rest → Shifts (Some rises) d (first + after)
-      shift_later true first rest after d is sum = let h : after ≡ rest + 1 = is in let g : first + after ≡ d + 1 = omega arith in g
-      shift_later false first rest after d is sum = let h : rest ≡ after + 1 = is in let g : d ≡ first + after + 1 = omega arith in g
-
-      pub sum_shifts : (ms : List Member) → AllByRecursion (IsFull n tables) ms → AreDisjoint (patterns_of_set n tables ms) → (k : ℕ) → slice_get ms k ≡ Some o → (d : ℕ) → AddUpTo tables ms b d → (e : ℕ) × AddUpTo tables ms next e × Shifts (Some rises) d e
-      sum_shifts [] full apart k there d sum = absurd (let e : _ = there in cc)
-      sum_shifts (m ∷ ms) full apart zero there d sum =
+      pub sum_moves : (ms : List Member) → AllByRecursion P ms → AreDisjoint (patterns_of_set n tables ms) → (k : ℕ) → slice_get ms k ≡ Some o → (d : ℕ) → AddUpTo tables ms b d → (e : ℕ) × AddUpTo tables ms next e × R d e
+      sum_moves [] all apart k there d sum = absurd (let e : _ = there in cc)
+      sum_moves (m ∷ ms) all apart zero there d sum =
           let same : o ≡ m = (let e : Some m ≡ Some o = there in cc) in
-          let moves = shifts sum.0 (subst (λ x. MemberSays tables x b (Finite sum.0)) (sym same) sum.2) in
-          let rest = sum_still ms full.1 (others m ms (λ h. apart (inl h)) (subst (λ x. takes x ≡ true) same one)) sum.1 sum.3 in
-          (moves.0 + sum.1, (moves.0, sum.1, subst (λ x. MemberSays tables x next (Finite moves.0)) same moves.1, rest, refl), shift_more rises sum.0 moves.0 sum.1 d moves.2 sum.4)
-      sum_shifts (m ∷ ms) full apart (suc k) there d sum =
+          let now = moves sum.0 (subst (λ x. MemberSays tables x b (Finite sum.0)) (sym same) sum.2) in
+          let rest = sum_still ms all.1 (others m ms (λ h. apart (inl h)) (subst (λ x. takes x ≡ true) same one)) sum.1 sum.3 in
+          (now.0 + sum.1, (now.0, sum.1, subst (λ x. MemberSays tables x next (Finite now.0)) same now.1, rest, refl), more_behind sum.0 now.0 sum.1 d now.2 sum.4)
+      sum_moves (m ∷ ms) all apart (suc k) there d sum =
           let none : takes m ≡ false = false_from_ne_true (takes m) (λ h. absurd (let no = one_takes m ms k o (λ h. apart (inl h)) there h in cc)) in
-          let more = sum_shifts ms full.1 (λ h. apart (inr h)) k there sum.1 sum.3 in
-          (sum.0 + more.0, (sum.0, more.0, still m full.0 none sum.0 sum.2, more.1, refl), shift_later rises sum.0 sum.1 more.0 d more.2 sum.4)
+          let rest = sum_moves ms all.1 (λ h. apart (inr h)) k there sum.1 sum.3 in
+          (sum.0 + rest.0, (sum.0, rest.0, still m all.0 none sum.0 sum.2, rest.1, refl), subst (λ x. R x (sum.0 + rest.0)) (sym sum.4) (more sum.1 rest.0 sum.0 rest.2))
+
+-- a sum shifts as one of its parts does
+pub shift_more : (rises : Bool) (d e k : ℕ) → Shifts (Some rises) d e → Shifts (Some rises) (k + d) (k + e)
+shift_more true d e k is = let h : e ≡ d + 1 = is in let g : k + e ≡ k + d + 1 = omega arith in g
+shift_more false d e k is = let h : d ≡ e + 1 = is in let g : k + d ≡ k + e + 1 = omega arith in g
 
 -- ---- what a member says
 

@@ -10,9 +10,10 @@ use Rattle.puz_board.proofs.CellLemmas.{step_of-inside}
 use Rattle.puz_board.proofs.MovedLemmas.{moved-reverse_of}
 use Rattle.edge_words.specs.Spots.{IsStepOf}
 use Rattle.set_sum.specs.Bundles.{ShownBundle, IsBundle}
-use Rattle.puz_walk.specs.StoredWordWalks.{IsStoredWordWalk, margin_of, word_walk_shown}
+use Rattle.puz_walk.specs.Cuts.{AreBelow, GoesBeyond, margin_of}
+use Rattle.puz_walk.specs.StoredWordWalks.{IsStoredWordWalk, word_walk_shown}
 use Rattle.puz_walk.specs.Walks.{IsCutOff, IsOpen, LeadsNowhere, ShownWalk}
-use Rattle.puz_walk.specs.WordSpots.{AreBelow, GoesBeyond, IsSlideTo, IsSpotOf}
+use Rattle.puz_walk.specs.WordSpots.{IsSlideTo, IsSpotOf}
 use Rattle.puz_walk.specs.WordSteps.{AreChanged, IsWordStepFrom}
 use Rattle.puz_walk.specs.declared.word_spots.Change.{Change}
 use Rattle.puz_walk.specs.declared.word_spots.Spot.{Spot}

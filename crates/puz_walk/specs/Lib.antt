@@ -5,9 +5,11 @@ pub mod WordBundles
 pub mod WordSteps
 -- How values are stored.
 pub mod StoredSumWalks
+pub mod Cuts
 pub mod StoredWords
 pub mod StoredWordWalks
 pub mod Seats
 pub mod StoredWordBundles
+pub mod Tallies
 -- What proofs alone need.
 pub mod WordSpots

@@ -1,7 +1,8 @@
 -- How a walk by edge words is stored.
-use Rattle.std.specs.Prelude.{◌≡◌, ℕ, ◌+◌, ◌*◌, ◌%◌, ◌<◌, ◌≤◌, ◌==◌, if◌then◌else◌, length, take, slice_index}
+use Rattle.std.specs.Prelude.{◌≡◌, ℕ, ◌+◌, ◌*◌, ◌<◌, ◌≤◌, length, take, slice_index}
 use Rattle.puz_board.specs.Parity.{blank_parity}
 use Rattle.set_sum.specs.Bundles.{IsBundle}
+use Rattle.puz_walk.specs.Cuts.{margin_of}
 use Rattle.puz_walk.specs.Walks.{ShownWalk}
 use Rattle.puz_walk.specs.WordSpots.{IsSpotOf}
 use Rattle.puz_walk.specs.declared.word_walks.WordWalk.TheInside.{Inside}
@@ -9,10 +10,6 @@ use Rattle.puz_walk.specs.declared.word_walks.WordWalk.TheInside.{Inside}
 -- the bundle, the board and the bound
 abbrev pub word_walk_shown : Inside → ShownWalk
 word_walk_shown w = record { bundle = w.bundle.now; board = take (w.bundle.now.side * w.bundle.now.side) w.spot.numbers; bound = w.bound }
-
--- how far a sum must be below a bound so that its raised sum is below it too: a solution has the blank's parity
-abbrev pub margin_of : ℕ → ℕ → ℕ
-margin_of bound parity = if bound % 2 == parity then 2 else 1
 
 -- these are the fields of a walk, of which no set cuts the board off
 pub record IsStoredWordWalk (w : Inside) : Type 0 where

@@ -46,6 +46,11 @@ HasNoOwner v set tile = AllByRecursion (λ m. has (table_pattern v.tables m) (ce
 abbrev pub IsOwnerOf : ShownBundle → ℕ → ℕ → Option Owner → Type 0
 IsOwnerOf v set tile owner = MatchOption owner (HasNoOwner v set tile) (IsOwner v set tile)
 
+-- for each set and tile there is the member of the set that has the tile
+pub record AreOwnersOf (v : ShownBundle) (owners : List (Option Owner)) : Type 0 where
+  pub room : length owners ≡ 512
+  pub each : (set tile : ℕ) → set < length v.sets → tile < v.side * v.side → IsOwnerOf v set tile (slice_index_or owners (32 * set + tile) None)
+
 -- ---- moves
 
 -- for each cell and move there is the cell to which it leads

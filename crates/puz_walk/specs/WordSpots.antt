@@ -2,9 +2,7 @@
 use Rattle.std.specs.Prelude.{◌≡◌, ℕ, ◌+◌, ◌*◌, ◌<◌, Bool, true, false, List, length, take, slice_get, slice_index, Option, Some, None}
 use Rattle.puz_board.specs.Boards.{IsBoardOf, blank, moved}
 use Rattle.puz_board.specs.declared.moves.Move.{Move}
-use Rattle.tab_rule.specs.declared.tables.Count.{Count}
 use Rattle.tab_rule.specs.declared.tables.Count.TheVariants.{Finite}
-use Rattle.set_sum.specs.Bounds.{CountReaches}
 use Rattle.edge_words.specs.Spots.{index_on}
 use Rattle.set_sum.specs.Bundles.{ShownBundle, BundleSays, set_of}
 use Rattle.set_sum.specs.Known.{place_of}
@@ -50,14 +48,6 @@ pub record IsSlideTo (v : ShownBundle) (move : Move) (b next : List ℕ) (to : �
   pub board : IsBoardOf v.side b
   pub leads : moved b move ≡ Some next
   pub to_is : to ≡ blank next
-
--- each sum that a set says of the board is below the limit
-abbrev pub AreBelow : ShownBundle → List ℕ → ℕ → Type 0
-AreBelow v b limit = (set d : ℕ) → BundleSays v set b (Finite d) → d < limit
-
--- what some set says of the board is never, or at least the limit
-abbrev pub GoesBeyond : ShownBundle → List ℕ → ℕ → Type 0
-GoesBeyond v b limit = (set : ℕ) × (count : Count) × BundleSays v set b count × CountReaches count limit
 
 -- the second number is one more, one less, or the same
 abbrev pub Shifts : Option Bool → ℕ → ℕ → Type 0

@@ -1,57 +1,51 @@
 //! Where a search need not go on.
 
-ghost use Rattle.std.specs.Prelude.{◌≡◌, ◌<◌, ◌↔◌, IfNone, IfSome, IsTrue, length, true};
-ghost use Rattle.set_sum.specs.Bundles.{SaysAtLeast};
-ghost use Rattle.set_sum.specs.Raised.{told_of};
+ghost use Rattle.std.specs.Prelude.{◌≡◌, ℕ, ◌+◌, ◌<◌, ◌≤◌, IfNone, IfSome, MatchOption, length, slice_index};
+ghost use Rattle.puz_board.specs.Boards.{side_of};
 ghost use Rattle.tab_rule.specs.declared.tables.Count.TheVariants.{Finite};
-ghost use Rattle.puz_walk.specs.Walks.{IsCutOff};
+ghost use Rattle.set_sum.specs.Bounds.{CountReaches};
+ghost use Rattle.set_sum.specs.Bundles.{BundleSays};
+ghost use Rattle.puz_walk.specs.Cuts.{GoesBeyond, margin_of};
 
-use set_sum::Sums;
+use puz_board::Board;
+use set_sum::{Bundle, MOST_SETS};
 use tab_rule::Count;
 
-/// A set of which what it says of a board, raised to the parity of its solutions, is never, or at least the bound. This one is
-/// asked first, and then the others.
-#[inline]
-pub(crate) fn cutting_set(sums: &mut Sums<'_>, bound: u8, first: u8) -> Option<u8>
-    requires first { first < length sums.old.bundle.sets }
-    ensures some { IfSome result (λ set.
-        SaysAtLeast sums.old.bundle true set sums.old.board bound) }
-    ensures none { IfNone result (¬ IsCutOff sums.old.bundle sums.old.board bound) }
-    ensures same { sums.new ≡ sums.old }
+/// How far each sum must be below a bound, where the blank's parity is this one: the raised sums are below the bound then.
+pub(crate) fn margin_of(bound: u8, parity: u8) -> u8
+    ensures { result ≡ margin_of bound parity }
 {
-    if says_at_least(first, sums, bound) {
-        return Some(first);
-    }
-    for set in 0..sums.sets() {
-        if set != first && says_at_least(set, sums, bound) {
-            return Some(set);
-        }
-    }
-    None
+    if bound % 2 == parity { 2 } else { 1 }
 }
 
-/// Whether what a set says of a board, raised to the parity of its solutions, is never, or at least the bound.
-#[inline]
-fn says_at_least(set: u8, sums: &mut Sums<'_>, bound: u8) -> bool
-    requires set { set < length sums.old.bundle.sets }
-    ensures least { IsTrue result ↔ SaysAtLeast sums.old.bundle true set sums.old.board bound }
-    ensures same { sums.new ≡ sums.old }
+/// The sums of a board, where none is above a limit.
+pub(crate) fn sums_of(bundle: &Bundle<'_>, board: &Board, most: u8) -> Option<[u8; MOST_SETS]>
+    requires { side_of board.now ≡ bundle.now.side }
+    ensures room { IfSome result (λ sums. length sums ≡ 16) }
+    ensures some { IfSome result (λ sums. (set : ℕ) → set < length bundle.now.sets
+        → BundleSays bundle.now set board.now (Finite (slice_index sums set))
+        × (slice_index sums set ≤ most)) }
+    ensures none { IfNone result (GoesBeyond bundle.now board.now (most + 1)) }
 {
-    match sums.sum(set) {
-        Count::Finite(sum) => u32::from(bound) <= raised(sums, sum),
-        Count::Never => true,
+    let mut sums = [0; MOST_SETS];
+    for set in 0..bundle.sets() {
+        sums[usize::from(set)] = upto(bundle.sum(set, board), most)?;
     }
+    Some(sums)
 }
 
-/// A finite sum, raised to the parity of the solutions of the board.
-#[inline]
-fn raised(sums: &Sums<'_>, sum: u16) -> u32
-    ensures { Finite result ≡ told_of true sums.now.board (Finite sum) }
+/// A finite count that isn't above a limit.
+fn upto(count: Count, most: u8) -> Option<u8>
+    ensures { MatchOption result
+        (CountReaches count (most + 1))
+        (λ sum. (count ≡ Finite sum) × (sum ≤ most)) }
 {
-    let sum = u32::from(sum);
-    if sum % 2 != u32::from(sums.blank_parity()) {
-        sum + 1
-    } else {
-        sum
+    match count {
+        Count::Finite(sum) => if sum <= u16::from(most) {
+            Some(sum as u8)
+        } else {
+            None
+        },
+        Count::Never => None,
     }
 }

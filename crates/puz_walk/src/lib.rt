@@ -7,12 +7,13 @@ mod cuts;
 mod owners;
 mod seats;
 mod sum_walks;
+mod tallies;
 mod walks;
 mod word_bundles;
 mod word_spots;
 mod word_walks;
 
-pub use sum_walks::SumWalk;
+pub use sum_walks::{SumStep, SumWalk};
 pub use walks::Walk;
 pub use word_bundles::WordBundle;
 pub use word_walks::{WordStep, WordWalk};

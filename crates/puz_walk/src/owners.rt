@@ -1,11 +1,14 @@
 //! The member of a set whose pattern has a tile.
 
 ghost use Rattle.std.specs.Prelude.{◌≡◌, ◌*◌, ◌<◌, length};
-ghost use Rattle.puz_walk.specs.StoredWords.{IsOwnerOf, cell_for, move_for, transposed_move};
+ghost use Rattle.puz_walk.specs.StoredWords.{AreOwnersOf, IsOwnerOf, cell_for, move_for, transposed_move};
 
 use puz_board::masks::{count_below, has_cell};
 use puz_board::{Move, Side, transposed_cell};
 use set_sum::{Bundle, Member};
+
+/// How many owners there are: 32 for each of 16 sets.
+pub(crate) const MOST_OWNERS: usize = 512;
 
 /// The member of a set whose pattern has a tile.
 #[derive(Clone, Copy)]
@@ -33,6 +36,21 @@ pub(crate) fn owner_of(bundle: &Bundle<'_>, set: u8, tile: u8) -> Option<Owner>
         }
     }
     None
+}
+
+/// For each set and tile the member of the set whose pattern has the tile.
+pub(crate) fn all_owners(bundle: &Bundle<'_>) -> [Option<Owner>; MOST_OWNERS]
+    ensures { AreOwnersOf bundle.now result }
+{
+    let cells = bundle.side().cells();
+    let mut owners = [None; MOST_OWNERS];
+    for place in 0..32 * u16::from(bundle.sets()) {
+        let tile = (place % 32) as u8;
+        if tile < cells {
+            owners[usize::from(place)] = owner_of(bundle, (place / 32) as u8, tile);
+        }
+    }
+    owners
 }
 
 /// The cell, or the tile, that a member looks up.

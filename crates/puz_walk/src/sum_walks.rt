@@ -1,23 +1,26 @@
-//! Walks that ask the sets of a bundle for their sums.
+//! Boards that are moved in place, cut off by sums.
 
 ghost use Rattle.std.specs.Prelude.{◌≡◌, IfNone, IfSome};
 ghost use Rattle.puz_board.specs.Boards.{side_of};
 ghost use Rattle.puz_walk.specs.Walks.{IsClosed};
 
-use crate::cuts::cutting_set;
+use crate::cuts::margin_of;
+use crate::tallies::{Tally, Told, exchange, judge, tally_of};
 use crate::walks::Walk;
 use puz_board::{Board, Move};
-use set_sum::{Bundle, Step, Sums};
+use set_sum::{Bundle, MOST_SETS, Position};
 use std::marker::Model;
 
 /// A board that is moved in place, and the bound below which solutions of it are searched for. The sums of the sets of a bundle
-/// cut boards off (Korf and Felner 2002).
+/// cut boards off (Korf and Felner 2002). Of each set only the member is looked up whose pattern has the tile that moves: the
+/// others say what they said before.
 #[derive(Drop)]
 pub struct SumWalk<'a> {
-    sums: Sums<'a>,
+    position: Position<'a>,
+    tally: Tally,
     bound: u8,
-    /// The set that cut a board off last. It is asked first, since it often cuts off the next board too.
-    last_cut: u8,
+    /// How far each sum must be below the bound.
+    margin: u8,
 }
 
 impl<'a> Model for SumWalk<'a> {
@@ -32,6 +35,13 @@ impl<'a> Model for SumWalk<'a> {
     ghost invariant = { IsStoredSumWalk };
 }
 
+/// A step of a walk, by which it is taken back: where the blank was, and what the owners of the tile said.
+#[derive(Clone, Copy)]
+pub struct SumStep {
+    from: u8,
+    told: Told,
+}
+
 impl<'a> SumWalk<'a> {
     /// The walk from a board, unless no solution of fewer moves than the bound need be searched for.
     pub fn new(bundle: &'a Bundle<'a>, board: &Board, bound: u8) -> Option<SumWalk<'a>>
@@ -41,14 +51,17 @@ impl<'a> SumWalk<'a> {
         ensures none { IfNone result (IsClosed bundle.now board.now bound) }
     {
         let (_side, _sets) = (board.side(), bundle.sets());
-        let mut sums = Sums::new(bundle, board);
-        if bound == 0 || cutting_set(&mut sums, bound, 0).is_some() {
+        let margin = margin_of(bound, board.blank_parity());
+        if bound < margin {
             return None;
         }
+        let position = Position::new(bundle, board);
+        let tally = tally_of(&position, board, bound - margin)?;
         Some(SumWalk {
-            sums,
+            position,
+            tally,
             bound,
-            last_cut: 0,
+            margin,
         })
     }
 }
@@ -56,7 +69,7 @@ impl<'a> SumWalk<'a> {
 impl<'a> Walk for SumWalk<'a> {
     ghost use Rattle.puz_walk.specs.SumSteps.{IsSumStep};
 
-    type Step = Step;
+    type Step = SumStep;
 
     ghost shown = { λ w. w };
 
@@ -64,27 +77,32 @@ impl<'a> Walk for SumWalk<'a> {
 
     #[inline]
     fn is_goal(&self) -> bool {
-        self.sums.is_goal()
+        self.position.is_goal()
     }
 
     #[inline]
-    fn enter(&mut self, mv: Move) -> Option<Step> {
-        if self.bound == 1 {
+    fn enter(&mut self, mv: Move) -> Option<SumStep> {
+        let limit = self.bound - self.margin;
+        let from = self.position.blank();
+        let to = self.position.after(mv)?;
+        let tile = self.position.slide(to);
+        let mut told = [0; MOST_SETS];
+        if let Some(set) = judge(&self.position, &self.tally, tile, limit, &mut told) {
+            // It often cuts off the next board too.
+            self.tally.first = set;
+            self.position.slide(from);
             return None;
         }
-        let step = self.sums.step(mv)?;
-        if let Some(set) = cutting_set(&mut self.sums, self.bound - 1, self.last_cut) {
-            self.last_cut = set;
-            self.sums.take_back(&step);
-            return None;
-        }
+        exchange(self.position.bundle(), &mut self.tally, tile, &mut told);
         self.bound -= 1;
-        Some(step)
+        Some(SumStep { from, told })
     }
 
     #[inline]
-    fn leave(&mut self, step: &Step) {
-        self.sums.take_back(step);
+    fn leave(&mut self, step: &SumStep) {
+        let tile = self.position.slide(step.from);
+        let mut told = step.told;
+        exchange(self.position.bundle(), &mut self.tally, tile, &mut told);
         self.bound += 1;
     }
 }

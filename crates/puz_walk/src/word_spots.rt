@@ -1,21 +1,20 @@
 //! Where a walk stands: the board, and for each set its sum and the indexes of its members.
 
-ghost use Rattle.std.specs.Prelude.{◌≡◌, ◌≢◌, ◌*◌, ◌+◌, ◌-◌, ◌<◌, ◌≤◌, ◌^◌, if◌then◌else◌, ℕ, IfNone, IfSome, List, MatchOption, length, slice_index, take};
+ghost use Rattle.std.specs.Prelude.{◌≡◌, ◌≢◌, ◌*◌, ◌+◌, ◌-◌, ◌<◌, ◌≤◌, ◌^◌, if◌then◌else◌, ℕ, IfNone, IfSome, List, length, take};
 ghost use Rattle.std.specs.Int.{bit_at};
 ghost use Rattle.puz_board.specs.Boards.{IsBoardOf, at, side_of};
-ghost use Rattle.tab_rule.specs.declared.tables.Count.TheVariants.{Finite};
-ghost use Rattle.set_sum.specs.Bounds.{CountReaches};
-ghost use Rattle.set_sum.specs.Bundles.{BundleSays, IsBundle};
+ghost use Rattle.set_sum.specs.Bundles.{IsBundle};
 ghost use Rattle.edge_words.specs.Spots.{IsStepOf, index_on};
+ghost use Rattle.puz_walk.specs.Cuts.{AreBelow, GoesBeyond};
 ghost use Rattle.puz_walk.specs.WordBundles.{pattern_at};
-ghost use Rattle.puz_walk.specs.WordSpots.{AreBelow, AreIndexesOf, AreKept, GoesBeyond, IsSlideTo, IsSpotOf, Shifts, index_place};
+ghost use Rattle.puz_walk.specs.WordSpots.{AreIndexesOf, AreKept, IsSlideTo, IsSpotOf, Shifts, index_place};
 ghost use Rattle.puz_walk.specs.WordSteps.{AreChanged};
 
+use crate::cuts::sums_of;
 use crate::word_bundles::WordBundle;
 use puz_board::masks::{has_cell, with};
 use puz_board::{Board, Move};
-use set_sum::{Bundle, MOST_SETS, Member};
-use tab_rule::Count;
+use set_sum::{MOST_SETS, Member};
 
 /// How many indexes there are: 16 for each of 16 sets.
 pub(crate) const MOST_INDEXES: usize = 256;
@@ -196,38 +195,6 @@ pub(crate) fn spot_of(bundle: &WordBundle<'_>, board: &Board, most: u8) -> Optio
         sums,
         indexes: indexes_of(bundle, board),
     })
-}
-
-/// The sums of a board, where none is above a limit.
-fn sums_of(bundle: &Bundle<'_>, board: &Board, most: u8) -> Option<[u8; MOST_SETS]>
-    requires { side_of board.now ≡ bundle.now.side }
-    ensures room { IfSome result (λ sums. length sums ≡ 16) }
-    ensures some { IfSome result (λ sums. (set : ℕ) → set < length bundle.now.sets
-        → BundleSays bundle.now set board.now (Finite (slice_index sums set))
-        × (slice_index sums set ≤ most)) }
-    ensures none { IfNone result (GoesBeyond bundle.now board.now (most + 1)) }
-{
-    let mut sums = [0; MOST_SETS];
-    for set in 0..bundle.sets() {
-        sums[usize::from(set)] = upto(bundle.sum(set, board), most)?;
-    }
-    Some(sums)
-}
-
-/// A finite count that isn't above a limit.
-fn upto(count: Count, most: u8) -> Option<u8>
-    ensures { MatchOption result
-        (CountReaches count (most + 1))
-        (λ sum. (count ≡ Finite sum) × (sum ≤ most)) }
-{
-    match count {
-        Count::Finite(sum) => if sum <= u16::from(most) {
-            Some(sum as u8)
-        } else {
-            None
-        },
-        Count::Never => None,
-    }
 }
 
 /// The numbers of a board. Zeros stand behind them.

@@ -2,9 +2,9 @@
 
 ghost use Rattle.std.specs.Prelude.{◌≡◌, ◌↔◌, IfNone, IfSome, IsTrue};
 ghost use Rattle.puz_board.specs.Boards.{IsGoal, side_of};
-ghost use Rattle.puz_walk.specs.StoredWordWalks.{margin_of};
 ghost use Rattle.puz_walk.specs.Walks.{IsClosed};
 
+use crate::cuts::margin_of;
 use crate::walks::Walk;
 use crate::word_bundles::WordBundle;
 use crate::word_spots::{Change, Spot, judge, move_blank, spot_of};
@@ -97,13 +97,6 @@ impl<'a> Walk for WordWalk<'a> {
         move_blank(self.bundle, &mut self.spot, step.from, back, change);
         self.bound += 1;
     }
-}
-
-/// How far each sum must be below a bound, where the blank's parity is this one: the raised sums are below the bound then.
-fn margin_of(bound: u8, parity: u8) -> u8
-    ensures { result ≡ margin_of bound parity }
-{
-    if bound % 2 == parity { 2 } else { 1 }
 }
 
 /// Whether each number is in the cell of its own number.

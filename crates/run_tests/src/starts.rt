@@ -2,10 +2,9 @@
 
 use crate::runs::{Ended, owned};
 use byte_io::memory::MemShelf;
-use pdb_program::{Call, Host, start};
+use pdb_program::{ArgumentFault, Call, Host, start};
 use pdb_words::unreadable_word;
 use std::alloc::Global;
-use std::io;
 use std::sync::Wait;
 use std::test::Fail;
 use std::thread::Threads;
@@ -15,7 +14,7 @@ use work_run::OpenGate;
 fn started<H: Threads + Wait + Sync>(
     rt: &H,
     alloc: Global,
-    arguments: io::Result<Vec<String>>,
+    arguments: Result<Vec<String>, ArgumentFault>,
 ) -> Result<Ended, Fail> {
     let mut shelf = MemShelf::of(alloc, &[("six", b"3 2 1 0 ; ULDRUL".as_slice())])?;
     let mut reader = b"1 0 2 3 ; L".as_slice();
@@ -56,17 +55,16 @@ fn the_first_argument_is_the_program_itself(rt: HostRuntime) -> Result<(), Fail>
 #[test]
 fn arguments_that_cannot_be_taken(rt: HostRuntime) -> Result<(), Fail> {
     let alloc = rt.alloc();
-    let no_memory = io::Error::from(io::ErrorKind::OutOfMemory);
-    started(&rt, alloc, Err(no_memory))?.expect(b"before\nno memory\n", 3)?;
+    let no_memory = Err(ArgumentFault::Memory);
+    started(&rt, alloc, no_memory)?.expect(b"before\nno memory\n", 3)?;
 
-    let unreadable = io::Error::from(io::ErrorKind::InvalidData);
-    let ended = started(&rt, alloc, Err(unreadable))?;
+    let ended = started(&rt, alloc, Err(ArgumentFault::Unreadable(3)))?;
     assert!(rt;
         ended.status == 2 && ended.out.as_slice() == b"before\n".as_slice(),
         "status {}",
         ended.status
     );
-    assert!(rt; ended.err.as_slice() == unreadable_word().as_bytes());
+    assert!(rt; ended.err.as_slice() == unreadable_word(3).as_str().as_bytes());
     Ok(())
 }
 

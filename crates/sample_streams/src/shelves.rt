@@ -94,6 +94,8 @@ impl Shelf for FailingShelf {
 
     ghost has_failed = { λ shelf. shelf.has_failed };
 
+    ghost calls = { λ _. None };
+
     fn load(&mut self, alloc: Global, name: &str, limit: u64) -> Result<Vec<u8>, ReadFault> {
         let loaded = match self.count() {
             Some(ShelfFault::Device) => Err(ReadFault::F1),

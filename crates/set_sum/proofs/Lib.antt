@@ -1,12 +1,12 @@
 pub mod AnswerLemmas
-mod AnyLemmas
+pub mod AnyLemmas
 pub mod BundleLemmas
 mod CostLemmas
 pub mod DecidedLemmas
 pub mod HomeLemmas
 mod LineLemmas
 mod LinesReadLemmas
-mod KnownLemmas
+pub mod KnownLemmas
 pub mod ListLemmas
 pub mod MemberLemmas
 mod MirrorLemmas
@@ -16,8 +16,8 @@ pub mod ParityLemmas
 pub mod PartLemmas
 mod ReadLemmas
 pub mod SayLemmas
-mod SlideLemmas
-mod StillLemmas
+pub mod SlideLemmas
+pub mod StillLemmas
 pub mod SumLemmas
 mod TakenLemmas
 pub mod TransposedFoldLemmas

@@ -14,6 +14,7 @@ pub mod ShownSums
 -- How values are stored.
 pub mod Owners
 pub mod StoredBundles
+pub mod StoredPositions
 pub mod StoredSums
 -- What proofs alone need.
 pub mod Noting

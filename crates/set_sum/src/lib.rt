@@ -12,6 +12,7 @@ mod lines;
 mod members;
 mod owners;
 mod parts;
+mod positions;
 mod sums;
 mod tables;
 
@@ -20,4 +21,5 @@ pub use faults::SetFault;
 pub use known::Step;
 pub use members::Member;
 pub use parts::Part;
+pub use positions::Position;
 pub use sums::Sums;

@@ -1,23 +1,18 @@
 //! Sums for the boards of a walk, which keep what was looked up.
 
-ghost use Rattle.std.specs.Prelude.{◌≡◌, ℕ, ◌*◌, ◌<◌, ◌≤◌, ◌↔◌, IfNone, IfSome, IsTrue, List, Some, None, length};
-ghost use Rattle.puz_board.specs.Boards.{IsBoardOf, IsGoal, blank, moved, side_of, slid};
-ghost use Rattle.puz_board.specs.Cells.{Adjacent};
+ghost use Rattle.std.specs.Prelude.{◌≡◌, ℕ, ◌<◌, ◌≤◌, ◌↔◌, IfNone, IfSome, IsTrue, List, Some, None, length};
+ghost use Rattle.puz_board.specs.Boards.{IsBoardOf, IsGoal, moved, side_of};
 ghost use Rattle.puz_board.specs.Parity.{blank_parity};
-ghost use Rattle.puz_board.specs.Transposing.{transposed};
-ghost use Rattle.tab_file.specs.EntryBytes.{greatest_count};
-ghost use Rattle.tab_rule.specs.Counts.{AreCellsOf};
 ghost use Rattle.tab_rule.specs.declared.tables.Count.TheVariants.{Finite};
 ghost use Rattle.set_sum.specs.Bundles.{IsBundle, BundleSays};
-ghost use Rattle.set_sum.specs.Members.{MemberSays, board_for};
+ghost use Rattle.set_sum.specs.Members.{MemberSays};
 ghost use Rattle.set_sum.specs.Steps.{IsStepFrom};
 
-use crate::bundles::{Bundle, MOST_CELLS, MOST_MEMBERS};
-use crate::cells::{cell_after, has_numbers, is_in_order, numbers_of, parity_of};
-use crate::known::{Known, Step, entry_of, joined, note, said_by};
+use crate::bundles::{Bundle, MOST_MEMBERS};
+use crate::known::{Known, Step, joined, note, said_by};
 use crate::members::Member;
 use crate::owners::place_of;
-use crate::tables::mirrored;
+use crate::positions::Position;
 use puz_board::masks::has_cell;
 use puz_board::{Board, Move};
 use std::marker::Model;
@@ -28,13 +23,7 @@ use tab_rule::Count;
 /// back (Korf and Felner 2002).
 #[derive(Drop)]
 pub struct Sums<'a> {
-    bundle: &'a Bundle<'a>,
-    /// The number in each cell.
-    numbers: [u8; MOST_CELLS],
-    /// The cell of each number.
-    cells: [u8; MOST_CELLS],
-    /// The same on the transposed board.
-    transposed: [u8; MOST_CELLS],
+    position: Position<'a>,
     known: Known,
 }
 
@@ -56,12 +45,8 @@ impl<'a> Sums<'a> {
         requires { side_of board.now ≡ bundle.now.side }
         ensures { result ≡ record { bundle = bundle.now; board = board.now } }
     {
-        let cells = board.cells_of_all();
         Sums {
-            bundle,
-            numbers: numbers_of(board),
-            cells,
-            transposed: mirrored(board.side(), &cells),
+            position: Position::new(bundle, board),
             known: Known {
                 places: 0,
                 entries: [0; MOST_MEMBERS],
@@ -74,14 +59,14 @@ impl<'a> Sums<'a> {
         ensures sets { result ≡ length self.now.bundle.sets }
         ensures bundle { IsBundle self.now.bundle }
     {
-        self.bundle.sets()
+        self.position.bundle().sets()
     }
 
     /// Whether the board is the goal board.
     pub fn is_goal(&self) -> bool
         ensures { IsTrue result ↔ IsGoal self.now.board }
     {
-        is_in_order(self.numbers())
+        self.position.is_goal()
     }
 
     /// The parity of how many rows and columns lie between the blank's cell and cell 0: 0 or 1.
@@ -89,7 +74,7 @@ impl<'a> Sums<'a> {
         ensures parity { result ≡ blank_parity self.now.board }
         ensures bit { result ≤ 1 }
     {
-        parity_of(self.bundle.side(), self.cells[0])
+        self.position.blank_parity()
     }
 
     /// Whether this is the board.
@@ -97,15 +82,7 @@ impl<'a> Sums<'a> {
         requires { IsBoardOf self.now.bundle.side board.now }
         ensures { IsTrue result ↔ (board.now ≡ self.now.board) }
     {
-        has_numbers(board, self.numbers())
-    }
-
-    /// The numbers in the cells, in the order of the cells.
-    fn numbers(&self) -> &[u8]
-        ensures numbers { result.now ≡ self.now.board }
-        ensures board { IsBoardOf self.now.bundle.side self.now.board }
-    {
-        &self.numbers[..usize::from(self.bundle.side().cells())]
+        self.position.is_board(board)
     }
 
     /// Moves the board, where the blank stays on it. The answer is the step, by which the move is taken back.
@@ -116,13 +93,14 @@ impl<'a> Sums<'a> {
             × (self.new.bundle ≡ self.old.bundle)
             × IsStepFrom self.old.bundle self.old.board self.new.board step) }
     {
-        let from = self.cells[0];
-        let to = cell_after(self.bundle.side(), from, mv)?;
+        let from = self.position.blank();
+        let to = self.position.after(mv)?;
         let step = Step {
             from,
             known: self.known,
         };
-        self.slide(to);
+        let tile = self.position.slide(to);
+        self.known.places &= !self.position.bundle().owners(tile);
         Some(step)
     }
 
@@ -133,29 +111,9 @@ impl<'a> Sums<'a> {
         ensures { (b : List ℕ) → IsStepFrom self.old.bundle b self.old.board step.now
             → self.new ≡ record { bundle = self.old.bundle; board = b } }
     {
-        let tile = self.numbers[usize::from(step.from)];
-        let places = self.known.places & !self.bundle.owners(tile);
-        let known = joined(&step.known, &self.known, places);
-        self.slide(step.from);
-        self.known = known;
-    }
-
-    /// Moves the blank to a cell beside its own, and the tile there into its own. Of the tile's owners nothing is known then.
-    #[inline]
-    fn slide(&mut self, to: u8)
-        requires { Adjacent self.old.bundle.side (blank self.old.board) to }
-        ensures { self.new ≡ record { bundle = self.old.bundle; board = slid self.old.board to } }
-    {
-        let bundle = self.bundle;
-        let from = self.cells[0];
-        let tile = self.numbers[usize::from(to)];
-        self.known.places &= !bundle.owners(tile);
-        self.numbers[usize::from(from)] = tile;
-        self.numbers[usize::from(to)] = 0;
-        self.cells[usize::from(tile)] = from;
-        self.cells[0] = to;
-        self.transposed[usize::from(bundle.transposed(tile))] = bundle.transposed(from);
-        self.transposed[0] = bundle.transposed(to);
+        let tile = self.position.slide(step.from);
+        let places = self.known.places & !self.position.bundle().owners(tile);
+        self.known = joined(&step.known, &self.known, places);
     }
 
     /// The sum of what the members of a set say of the board, and `Never` where one of them does.
@@ -164,7 +122,7 @@ impl<'a> Sums<'a> {
         ensures sum { BundleSays self.old.bundle set self.old.board result }
         ensures same { self.new ≡ self.old }
     {
-        let bundle = self.bundle;
+        let bundle = self.position.bundle();
         let mut total = 0;
         for member in bundle.members(set) {
             match self.said(*member) {
@@ -183,28 +141,11 @@ impl<'a> Sums<'a> {
         ensures few { (d : ℕ) → result ≡ Finite d → d ≤ 255 }
         ensures same { self.new ≡ self.old }
     {
-        let _side = self.bundle.side();
+        let _side = self.position.bundle().side();
         let place = place_of(member);
-        if has_cell(self.known.places, place) {
-            return said_by(self.known.entries[usize::from(place)]);
+        if !has_cell(self.known.places, place) {
+            note(&mut self.known, place, self.position.entry(member));
         }
-        let count = self.look(member);
-        note(&mut self.known, place, entry_of(count));
-        count
-    }
-
-    /// What the table of a member tells of the board.
-    #[inline]
-    fn look(&self, member: Member) -> Count
-        requires { member.table < length self.now.bundle.tables }
-        ensures says { MemberSays self.now.bundle.tables member self.now.board result }
-        ensures few { (d : ℕ) → result ≡ Finite d → d ≤ greatest_count }
-    {
-        let cells = if member.is_transposed {
-            &self.transposed
-        } else {
-            &self.cells
-        };
-        self.bundle.part(member.table).look_in(cells)
+        said_by(self.known.entries[usize::from(place)])
     }
 }

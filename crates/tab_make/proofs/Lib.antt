@@ -1,1 +1,2 @@
 mod LayerLemmas
+mod TableLemmas

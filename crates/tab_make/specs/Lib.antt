@@ -3,3 +3,4 @@ pub mod Faults
 pub mod Layers
 -- What proofs alone need.
 pub mod Pieces
+pub mod Stops

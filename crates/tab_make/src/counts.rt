@@ -1,7 +1,8 @@
 //! How few moves lead to the tiles at home, found layer by layer.
 
-ghost use Rattle.std.specs.Prelude.{◌<◌, ◌^◌, IfErr, IfOk, length};
+ghost use Rattle.std.specs.Prelude.{◌≡◌, ◌<◌, ◌+◌, ◌^◌, Err, IfErr, IfOk, OnErr, length};
 ghost use Rattle.tab_make.specs.Faults.{IsBuildFault};
+ghost use Rattle.tab_make.specs.declared.faults.MakeFault.TheVariants.{K3};
 
 use crate::entries::entry_of;
 use crate::faults::{MakeFault, Stop};
@@ -47,12 +48,9 @@ impl Counts {
             if lists.as_slice().iter().all(|found| found.shapes.is_empty()) {
                 return Ok(reached.counts);
             }
-            match entry_of(u32::from(before) + 1) {
-                Some(entry) => reached.write_lists(&steps, &lists, entry)?,
-                None => return Err(MakeFault::K3),
-            }
+            reached.write_lists(&steps, &lists, entry_after(before)?)?;
         }
-        Err(MakeFault::K3)
+        Err(MakeFault::Wrong)
     }
 
     /// Whether there is an order of this number.
@@ -79,6 +77,17 @@ impl Counts {
             return Err(Stop::WrongNumber);
         }
         write_entries(orders, &mut self.entries[first..end], entry)
+    }
+}
+
+/// The entry of the layer after another one.
+fn entry_after(before: u8) -> Result<u8, MakeFault>
+    ensures entry { IfOk result (λ entry. entry ≡ before + 1) }
+    ensures above { OnErr result ((result ≡ Err K3) × (253 < before + 1)) }
+{
+    match entry_of(u32::from(before) + 1) {
+        Some(entry) => Ok(entry),
+        None => Err(MakeFault::K3),
     }
 }
 

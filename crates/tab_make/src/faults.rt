@@ -1,6 +1,7 @@
 //! Why nothing is made.
 
 ghost use Rattle.std.specs.Prelude.{◌≡◌};
+ghost use Rattle.tab_make.specs.Stops.{of_stop};
 ghost use Rattle.tab_make.specs.declared.faults.MakeFault.TheVariants.{Memory};
 
 use std::alloc::{AllocError, AllocFailed};
@@ -10,12 +11,15 @@ use std::alloc::{AllocError, AllocFailed};
 pub enum MakeFault {
     /// The search has expanded as many boards as it may.
     K1,
-    /// The board has no solution, by the parity of its numbers, or the next threshold would be above 255.
+    /// The board has no solution, by the parity of its numbers or since a set says never; or a set says that each has more than 255
+    /// moves.
     K2,
     /// A count would be above 253.
     K3,
     /// There isn't the memory, or the log would be longer than a log file may be.
     Memory,
+    /// The maker finds that it is wrong.
+    Wrong,
 }
 
 impl From<AllocError> for MakeFault {
@@ -47,11 +51,13 @@ impl<T: Drop> From<AllocFailed<T>> for Stop {
     }
 }
 
-/// Numbers are wrong only where memory has lost what was kept in it.
 impl From<Stop> for MakeFault {
-    ghost from_gives = { λ _ fault. fault ≡ Memory };
+    ghost from_gives = { λ stop fault. fault ≡ of_stop stop };
 
-    fn from(_: Stop) -> MakeFault {
-        MakeFault::Memory
+    fn from(stop: Stop) -> MakeFault {
+        match stop {
+            Stop::NoMemory => MakeFault::Memory,
+            Stop::WrongNumber => MakeFault::Wrong,
+        }
     }
 }

@@ -1,6 +1,7 @@
 //! Tables, built breadth first from the tiles at home.
 
-ghost use Rattle.std.specs.Prelude.{◌≡◌, ◌+◌, ◌<◌, IfErr, IfOk, length};
+ghost use Rattle.std.specs.Prelude.{◌≡◌, ◌+◌, ◌++◌, ◌<◌, ◌≤◌, ℕ, List, IfErr, IfOk, length, take};
+ghost use Rattle.tab_file.specs.TableFiles.{IsTableFile};
 ghost use Rattle.tab_file.specs.Tables.{entry_count};
 ghost use Rattle.tab_make.specs.Faults.{IsBuildFault};
 
@@ -20,12 +21,15 @@ use tab_file::{HEADER_LEN, NO_REGION, header_of};
 /// How many runs are filled in at once.
 const RUNS: usize = 512;
 
-/// The file of a pattern's table: each entry is filled in with the first layer that reaches it.
+/// The file of a pattern's table: each entry is filled in with the first layer that reaches it. It has the pattern's header and as
+/// many entries; what these say is for the checker.
 pub fn build<R: Threads + Sync>(
     rt: &R,
     alloc: Global,
     pattern: &Pattern,
 ) -> Result<Vec<u8>, MakeFault>
+    ensures file { IfOk result (λ file. (entries : List ℕ)
+        × IsTableFile (record { pattern = pattern.now; entries = entries }) file.items) }
     ensures fault { IfErr result IsBuildFault }
 {
     let grid = Grid::new(pattern)?;
@@ -39,14 +43,28 @@ pub fn build<R: Threads + Sync>(
 
 /// The file with entries that all say that their slot has no region.
 fn unfilled_file(alloc: Global, pattern: &Pattern) -> Result<Vec<u8>, AllocError>
-    ensures { IfOk result (λ file. length file.items ≡ HEADER_LEN + entry_count pattern.now) }
+    ensures length { IfOk result (λ file.
+        length file.items ≡ HEADER_LEN + entry_count pattern.now) }
+    ensures header { IfOk result (λ file. (entries : List ℕ)
+        → length entries ≡ entry_count pattern.now
+        → IsTableFile (record { pattern = pattern.now; entries = entries })
+        (take HEADER_LEN file.items ++ entries)) }
 {
     let header = header_of(pattern);
     let count = pattern.count() * u64::from(pattern.width());
-    let length = header.len() + count as usize;
-    let mut file = Vec::with_capacity(alloc, length)?;
-    file.extend_from_slice(&header)?;
-    file.resize(length, NO_REGION)?;
+    unfilled_behind(alloc, &header, HEADER_LEN + count as usize)
+}
+
+/// So many bytes that begin so, and then say that a slot has no region.
+#[tactic(auto, using(crate::proofs::TableLemmas::front_stays))]
+fn unfilled_behind(alloc: Global, front: &[u8], len: usize) -> Result<Vec<u8>, AllocError>
+    requires { length front.now ≤ len }
+    ensures length { IfOk result (λ file. length file.items ≡ len) }
+    ensures front { IfOk result (λ file. take (length front.now) file.items ≡ front.now) }
+{
+    let mut file = Vec::with_capacity(alloc, len)?;
+    file.extend_from_slice(front)?;
+    file.resize(len, NO_REGION)?;
     Ok(file)
 }
 

@@ -356,7 +356,7 @@ fn check_of(
     sets: &'static str,
     log: &'static str,
     second: &'static str,
-) -> Result<LogCheck<'static>, AllocError> {
+) -> Result<LogCheck<&'static str>, AllocError> {
     Ok(LogCheck {
         claim,
         text: "text",

@@ -287,7 +287,7 @@ fn search_of(
     board: &'static str,
     sets: &'static str,
     second: &'static str,
-) -> Result<Search<'static>, AllocError> {
+) -> Result<Search<'static, &'static str>, AllocError> {
     Ok(Search {
         board,
         sets,
@@ -315,7 +315,7 @@ fn shelf(alloc: Global) -> Result<MemShelf, AllocError> {
 fn ended_by<H: Threads + Wait + Sync>(
     rt: &H,
     alloc: Global,
-    search: &Search<'_>,
+    search: &Search<'_, &str>,
 ) -> Result<(Status, Vec<u8>), Fail> {
     let workers = Workers::new(rt, alloc, 2, &OpenGate);
     let mut shelf = shelf(alloc)?;
@@ -342,7 +342,7 @@ fn inputs_of_a_search_are_read_in_the_order_of_their_names(rt: HostRuntime) -> R
     let alloc = rt.alloc();
     let no_board = search_of(alloc, "no board", "none", "table")?;
     let no_table = search_of(alloc, "board", "sets", "no table")?;
-    let cases: [(&Search<'_>, &[u8]); 2] = [
+    let cases: [(&Search<'_, &str>, &[u8]); 2] = [
         (&no_board, b"fault read no board\n"),
         (&no_table, b"fault read no table\n"),
     ];

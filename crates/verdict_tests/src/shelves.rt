@@ -45,7 +45,7 @@ fn check_of(
     alloc: Global,
     claim: Claim,
     text: &'static str,
-) -> Result<LogCheck<'static>, AllocError> {
+) -> Result<LogCheck<&'static str>, AllocError> {
     Ok(LogCheck {
         claim,
         text,
@@ -58,7 +58,7 @@ fn check_of(
 }
 
 /// A search on the board, whose log is to be kept as `o`.
-fn search(alloc: Global) -> Result<Search<'static>, AllocError> {
+fn search(alloc: Global) -> Result<Search<'static, &'static str>, AllocError> {
     Ok(Search {
         board: "board",
         sets: "sets",

@@ -11,7 +11,7 @@ use Rattle.clap.specs.Simple.{Shape, filled, help_rule}
 use Rattle.clap.specs.Walk.{Held, Rule, Text, Walk, arg_by_index, arg_by_long, nothing_held, walk_from, walked}
 use Rattle.pdb_words.specs.CommandLine.{Parses}
 use Rattle.pdb_words.specs.Commands.{IsCommand, commands}
-use Rattle.pdb_words.proofs.CommandLemmas.{faults_behind, leaf, none_wrong}
+use Rattle.pdb_words.proofs.CommandLemmas.{leaf, none_wrong, parse_faults_behind, parse_right}
 use Rattle.pdb_words.proofs.TextLemmas.{each_holds, same_text}
 use Rattle.word_laws.specs.Flags.{IsLongFlag, TakesFlag}
 
@@ -69,7 +69,7 @@ pub flags_known : (command name flag : Text) (before after : List Text) → IsCo
 flags_known command name flag before after is all is_flag parses =
     let s = leaf command in
     let none = each_holds (λ c. NoneTrails (leaf c)) commands (λ place. grind arith, (λ place. grind arith, (λ place. grind arith, (λ place. grind arith, (λ place. grind arith, (λ place. grind arith, (λ place. grind arith, tt))))))) command is in
-    let behind = none_wrong _ _ (none_wrong _ _ (sym (faults_behind command is (before ++ flag ∷ after)) ∙ parses)).0 in
+    let behind = none_wrong _ _ (none_wrong _ _ (sym (parse_faults_behind command is (before ++ flag ∷ after)) ∙ parse_right (command ∷ before ++ flag ∷ after) parses)).0 in
     let met = flag_right s none (walk_from nothing_held) before flag name is_flag.0 after (refl, refl) all is_flag.1 behind.0 in
     elim (all_know command is name) [
       | inr taken ↦ taken

@@ -1,4 +1,5 @@
 mod FlagLemmas
 mod LogLemmas
+mod MaskWordLemmas
 mod ProveLemmas
 mod WalkLemmas

@@ -158,7 +158,7 @@ names_log command = record {
   workers_last = λ names folds number n. (workers_last names number n command folds).0;
   other_workers_last = λ names folds number n. (workers_last names number n command folds).1;
   fold_last = λ names. fold_asked names command;
-  fold_twice = λ words. mistaken _ kind.ArgumentConflict [] (folded_twice command words) (λ e. cc);
+  fold_twice = λ words. mistaken _ kind.ArgumentConflict [] (folded_twice command words) (λ e. cc) (λ e. cc);
 }
 
 -- the words of `bound`

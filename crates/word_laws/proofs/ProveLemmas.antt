@@ -168,4 +168,4 @@ folds_wrong words = faults_behind (codes "prove") is_command (codes "--fold" ∷
 
 -- `--fold` twice
 pub folded_twice : (words : List Text) → IsMistaken (codes "prove" ∷ codes "--fold" ∷ codes "--fold" ∷ words)
-folded_twice words = mistaken _ kind.ArgumentConflict [] (folds_wrong words) (λ e. cc)
+folded_twice words = mistaken _ kind.ArgumentConflict [] (folds_wrong words) (λ e. cc) (λ e. cc)

@@ -15,13 +15,13 @@ use Rattle.clap.specs.declared.error.kind.ErrorKind.TheVariants as kind
 use Rattle.book_core.specs.Books.{most_workers}
 use Rattle.pdb_request.specs.Asked.{Asked, most_budget}
 use Rattle.pdb_words.specs.Budget.{usual_budget}
-use Rattle.pdb_words.specs.CommandLine.{asked_by, asked_of, faults_of}
+use Rattle.pdb_words.specs.CommandLine.{asked_by, asked_of, faults_of, mask_faults_by, parse_faults}
 use Rattle.pdb_words.specs.Commands.{IsCommand, IsPlain}
 use Rattle.pdb_words.specs.Faults.{IsMistaken}
 use Rattle.pdb_words.specs.Files.{needed_tables}
-use Rattle.pdb_words.specs.MakeTable.{most_mask, most_side}
+use Rattle.pdb_words.specs.MakeTable.{most_side}
 use Rattle.pdb_words.specs.Numbers.{number_of, number_written, writes_within}
-use Rattle.pdb_words.proofs.CommandLemmas.{asked_behind, faults_behind, leaf, mistaken, start}
+use Rattle.pdb_words.proofs.CommandLemmas.{asked_behind, faults_behind, leaf, mistaken, mistaken_parse, parse_faults_behind, start}
 use Rattle.pdb_words.proofs.TextLemmas.{not_dashes, strip_dash}
 use Rattle.word_laws.specs.Asking.{AsksFor}
 use Rattle.word_laws.specs.NumberTexts.{writes_budget}
@@ -141,13 +141,22 @@ last_fault s h = or_else (settle_fault s.rules s.args_override_self h)
 abbrev pub Comes : Text → List Text → Kinds → Asked → Type 0
 Comes name words kinds asked = (faults_of (name ∷ words) ≡ kinds) × (asked_of (name ∷ words) ≡ asked)
 
+-- what `clap` finds wrong with them stands at the end of the walk
+parse_comes : {name : Text} (is : IsCommand name) (words : List Word)
+    → (let end = turns (leaf name) start words in parse_faults (name ∷ map text_of words) ≡ or_else end.1 (last_fault (leaf name) end.0.held))
+unfolding walk_fault
+parse_comes {name = name} is words =
+    let read = words_read (leaf name) start words in
+    parse_faults_behind name is (map text_of words) ∙ or_nothing _ ∙ (λ i. or_else (read i).1 (last_fault (leaf name) (read i).0.held))
+
 -- they come to what stands at the end of the walk
 pub comes : {name : Text} → IsCommand name → (words : List Word) {end : Walk × Kinds} {kinds : Kinds} {asked : Asked} → turns (leaf name) start words ≡ end
-    → or_else end.1 (last_fault (leaf name) end.0.held) ≡ kinds → asked_by name (finished (leaf name).rules end.0.held) ≡ asked → Comes name (map text_of words) kinds asked
+    → mask_faults_by name (finished (leaf name).rules end.0.held) ++ or_else end.1 (last_fault (leaf name) end.0.held) ≡ kinds → asked_by name (finished (leaf name).rules end.0.held) ≡ asked
+    → Comes name (map text_of words) kinds asked
 unfolding walk_fault
 comes {name = name} is words run ends found =
     let read = words_read (leaf name) start words ∙ run in (
-      faults_behind name is (map text_of words) ∙ or_nothing _ ∙ (λ i. or_else (read i).1 (last_fault (leaf name) (read i).0.held)) ∙ ends,
+      faults_behind name is (map text_of words) ∙ (λ i. mask_faults_by name (finished (leaf name).rules (read i).0.held) ++ or_nothing (or_else (read i).1 (last_fault (leaf name) (read i).0.held)) i) ∙ ends,
       asked_behind name is (map text_of words) ∙ (λ i. asked_by name (finished (leaf name).rules (read i).0.held)) ∙ found,
     )
 
@@ -159,7 +168,7 @@ FitsTables name place leading table more before behind kinds asked =
     let first = turns s start (before ++ leading) in
     let end = turns s (gathering place first.0.held.rows (table ∷ more)) behind in
     ◌≡◌ {A = Option Rule × Walk × Kinds × Asked}
-    (arg_by_index s.rules place, first.0, or_else (or_else first.1 end.1) (last_fault s end.0.held), asked_by name (finished s.rules end.0.held))
+    (arg_by_index s.rules place, first.0, mask_faults_by name (finished s.rules end.0.held) ++ or_else (or_else first.1 end.1) (last_fault s end.0.held), asked_by name (finished s.rules end.0.held))
     (Some (tables_rule place), gathering place first.0.held.rows (table ∷ []), kinds (tables_fault place (table ∷ more)), asked)
 
 -- so the words come to this
@@ -179,7 +188,7 @@ tables_come {name = name} is place leading table more all many before behind kin
 -- words that lack what has to be there are mistaken
 pub missing : {name : Text} → IsCommand name → (words : List Word)
     → (let end = turns (leaf name) start words in or_else end.1 (last_fault (leaf name) end.0.held) ≡ kind.MissingRequiredArgument ∷ []) → IsMistaken (name ∷ map text_of words)
-missing is words ends = mistaken _ kind.MissingRequiredArgument [] (comes is words refl ends refl).0 (λ e. cc)
+missing {name = name} is words ends = mistaken_parse _ kind.MissingRequiredArgument [] (parse_comes {name = name} is words ∙ ends) (λ e. cc) (λ e. cc)
 
 -- ---- numbers in words
 
@@ -218,10 +227,6 @@ workers = signed 1 most_workers 1 (omega arith)
 abbrev pub sides : Numbers
 sides = signed 0 most_side 0 (omega arith)
 
--- numbers that may be meant for a tile mask
-abbrev pub masks : Numbers
-masks = signed 0 most_mask 0 (omega arith)
-
 -- budgets
 abbrev pub budgets : Numbers
 budgets = record {
@@ -244,7 +249,7 @@ unless is rest = or_else (or_else (if is then [] else kind.ValueValidation ∷ [
 
 -- words that are wrong for a number alone are mistaken
 pub number_mistaken : (words : List Text) → faults_of words ≡ kind.ValueValidation ∷ [] → IsMistaken words
-number_mistaken words is = mistaken words kind.ValueValidation [] is (λ e. cc)
+number_mistaken words is = mistaken words kind.ValueValidation [] is (λ e. cc) (λ e. cc)
 
 -- the words ask for this if the test passes, and are mistaken if it doesn't
 abbrev pub AsksIf : Bool → List Text → Asked → Type 0

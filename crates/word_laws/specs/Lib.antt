@@ -3,5 +3,6 @@ pub mod Asking
 pub mod Flags
 pub mod LogWords
 pub mod MakeTableWords
+pub mod MaskWords
 pub mod NumberTexts
 pub mod ProveWords

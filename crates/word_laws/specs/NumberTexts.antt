@@ -1,9 +1,10 @@
 -- Which numbers texts write.
-use Rattle.std.specs.Prelude.{Bool}
+use Rattle.std.specs.Prelude.{Bool, is_some}
 use Rattle.clap.specs.Walk.{Text}
 use Rattle.book_core.specs.Books.{most_workers}
 use Rattle.pdb_request.specs.Asked.{most_budget}
-use Rattle.pdb_words.specs.MakeTable.{most_mask, most_side}
+use Rattle.pdb_words.specs.MakeTable.{most_side}
+use Rattle.pdb_words.specs.Masks.{mask_written}
 use Rattle.pdb_words.specs.Numbers.{writes_within}
 
 -- the text writes a number of workers
@@ -18,6 +19,6 @@ writes_budget text = writes_within 1 most_budget text
 abbrev pub writes_side : Text → Bool
 writes_side text = writes_within 0 most_side text
 
--- the text writes a number that may be meant for a tile mask
+-- the text writes a tile mask
 abbrev pub writes_mask : Text → Bool
-writes_mask text = writes_within 0 most_mask text
+writes_mask text = is_some (mask_written text)

@@ -1,17 +1,19 @@
 //! What holds of all words of the makers. Each function here says it, and does nothing.
 
-ghost use Rattle.std.specs.Prelude.{◌≡◌, ◌∷◌, ◌++◌, [], ℕ, Bool, List, codes, false, true};
+ghost use Rattle.std.specs.Prelude.{◌≡◌, ◌∷◌, ◌++◌, [], ℕ, Bool, List, Some, codes, false, true};
 ghost use Rattle.pdb_words.specs.Budget.{usual_budget};
 ghost use Rattle.pdb_words.specs.Commands.{IsPlain};
 ghost use Rattle.pdb_words.specs.Faults.{IsMistaken};
+ghost use Rattle.pdb_words.specs.Masks.{mask_of_tiles, mask_written};
 ghost use Rattle.pdb_words.specs.Numbers.{number_of};
 ghost use Rattle.word_laws.specs.Asking.{AsksFor};
 ghost use Rattle.word_laws.specs.LogWords.{LogNames, NamesLog, log_words, of_names, search_within, with_fold};
 ghost use Rattle.word_laws.specs.MakeTableWords.{PatternWords, WritesPattern, asks_for_table, pattern_words};
+ghost use Rattle.word_laws.specs.MaskWords.{AreTiles, tiles_word};
 ghost use Rattle.word_laws.specs.NumberTexts.{writes_budget, writes_mask, writes_side, writes_workers};
 
 /// `make-table` with a side, a tile mask and a name asks for the table of that pattern under that name: a side from 0
-/// to 255, a mask from 0 to 4,294,967,295, and one worker, or as many as `--workers` says, first or last.
+/// to 255, a mask in any of its forms, and one worker, or as many as `--workers` says, first or last.
 pub fn what_make_table_asks()
     ensures numbers { (words : PatternWords) → WritesPattern words
         → AsksFor (codes "make-table" ∷ pattern_words words) (asks_for_table words 1) }
@@ -35,6 +37,13 @@ pub fn what_make_table_asks()
     ensures other_workers_last { (words : PatternWords) (number : List ℕ)
         → IsPlain number → writes_workers number ≡ false
         → IsMistaken (codes "make-table" ∷ pattern_words words ++ codes "--workers" ∷ number ∷ []) }
+{}
+
+/// `tiles:` and numbers of tiles with commas between them write the sum of 2^t over these, in any order.
+#[tactic(auto, using(crate::proofs::MaskWordLemmas::mask_back))]
+pub fn what_tiles_write()
+    ensures { (tiles : List ℕ) → AreTiles tiles
+        → mask_written (tiles_word tiles) ≡ Some (mask_of_tiles tiles) }
 {}
 
 /// `solve` with the names of a board, the sets, what is to hold the log and one table or more asks for a shortest

@@ -1,6 +1,7 @@
-//! The helps, whole.
+//! The helps, whole, and the version.
 
-use crate::readings::expect_help;
+use crate::readings::{expect_help, expect_version};
+use pdb_words::version_line;
 use std::test::Fail;
 
 const HELP: &str = "Checks claims about sliding-tile puzzles, and makes tables and logs
@@ -18,7 +19,8 @@ Commands:
   help        Print this message or the help of the given subcommand(s)
 
 Options:
-  -h, --help  Print help
+  -h, --help     Print help
+  -V, --version  Print version
 
 Without a command it does `replay` on standard input.
 
@@ -110,7 +112,7 @@ Usage: pdb_cli make-table [--workers N] SIDE MASK OUT
 
 Arguments:
   <SIDE>  The side of the puzzle, 2 to 5
-  <MASK>  The tiles of the pattern: the sum of 2^t over its tiles t
+  <MASK>  The tiles of the pattern: tiles:1,2,3,4, or the sum of 2^t over its tiles t, as 30 or 0x1e
   <OUT>   The file that is to hold the table
 
 Options:
@@ -228,4 +230,19 @@ fn help_of_a_command_is_shown_whole(rt: HostRuntime) -> Result<(), Fail> {
         expect_help(rt.alloc(), words, help)?;
     }
     Ok(())
+}
+
+#[test]
+fn the_version_is_told(rt: HostRuntime) -> Result<(), Fail> {
+    let cases: [&[&str]; 4] = [
+        &["--version"],
+        &["-V"],
+        &["--version", "table"],
+        &["-V", "--help"],
+    ];
+    for words in cases {
+        expect_version(rt.alloc(), words)?;
+    }
+    assert_eq!(rt; version_line(), "pdb_cli 0.2.0\n");
+    expect_help(rt.alloc(), &["--help", "-V"], HELP)
 }

@@ -29,6 +29,8 @@ fn words_without_a_command(rt: HostRuntime) -> Result<(), Fail> {
             (&["help", "shuffle"], "unrecognized subcommand 'shuffle'"),
             (&[""], "unrecognized subcommand ''"),
             (&["--workers", "2"], "unexpected argument '--workers' found"),
+            (&["table", "--version"], "unexpected argument '--version'"),
+            (&["--version=1"], "unexpected value '1' for '--version'"),
             (&["-x"], "unexpected argument '-x' found"),
         ],
     )
@@ -122,6 +124,12 @@ fn words_of_make_table(rt: HostRuntime) -> Result<(), Fail> {
             (&["make-table", "x", "2", "o"], "invalid value 'x'"),
             (&["make-table", "256", "2", "o"], "256 is not in 0..=255"),
             (&["make-table", "2", "1.5", "o"], "invalid value '1.5'"),
+            (&["make-table", "2", "x", "o"], "a mask is a number from 0"),
+            (
+                &["make-table", "2", "36893488147419103232", "o"],
+                "36893488147419103232 is not in 0..=4294967295",
+            ),
+            (&["make-table", "2", "--", "-1", "o"], "invalid value '-1'"),
             (
                 &["make-table", "2", "4294967296", "o"],
                 "4294967296 is not in 0..=4294967295",
@@ -139,6 +147,97 @@ fn words_of_make_table(rt: HostRuntime) -> Result<(), Fail> {
                 &["make-table", "--fold", "2", "14", "o"],
                 "unexpected argument '--fold'",
             ),
+        ],
+    )
+}
+
+/// What is said of a word for a mask.
+fn mistake_in_mask(alloc: Global, mask: &str) -> Result<String, Fail> {
+    mistake_of(alloc, &["make-table", "3", mask, "o"])
+}
+
+/// Each of these words for a mask is a mistake, of which this is said.
+fn expect_no_masks(alloc: Global, masks: &[&str], wanted: &str) -> Result<(), Fail> {
+    for mask in masks {
+        let whole = format!(in alloc;
+            "error: invalid value '{mask}' for '<MASK>': {wanted}\n\nFor more information, try '--help'.\n"
+        )?;
+        let text = mistake_in_mask(alloc, mask)?;
+        if text.as_str() != whole.as_str() {
+            return Err(Fail::new(format_args!("{mask}: {text}")));
+        }
+    }
+    Ok(())
+}
+
+#[test]
+fn words_that_write_no_mask(rt: HostRuntime) -> Result<(), Fail> {
+    let alloc = rt.alloc();
+    expect_no_masks(
+        alloc,
+        &[
+            "tiles:",
+            "tiles:1,",
+            "tiles:,1",
+            "tiles:1,,2",
+            "tiles:1,1",
+            "tiles:3,1,3",
+            "tiles:32",
+            "tiles:01",
+            "tiles:00",
+            "tiles:100",
+            "tiles:+1",
+            "tiles:1, 2",
+            "tiles:1;2",
+            "tiles:a",
+            "tiles:0x1",
+            "tiles: 1",
+            "tiles:/",
+            "tiles:1:",
+        ],
+        "tiles are numbers from 0 to 31, none twice, with commas between them, as tiles:1,2,3,4",
+    )?;
+    expect_no_masks(
+        alloc,
+        &[
+            "0x",
+            "0x+1e",
+            "0x1g",
+            "0x 1",
+            "0x100000000",
+            "0x0x1",
+            "0x1e,",
+        ],
+        "hexadecimal digits write a number up to 0xffffffff, as 0x1e",
+    )?;
+    expect_no_masks(
+        alloc,
+        &[
+            "",
+            "0X1e",
+            "1e",
+            "Tiles:1",
+            "tiles",
+            "1,2",
+            "+",
+            "+4294967296",
+            " 30",
+            "30 ",
+        ],
+        "a mask is a number from 0 to 4294967295, as 30 or 0x1e, or its tiles, as tiles:1,2,3,4",
+    )
+}
+
+#[test]
+fn a_mistake_shows_plain_characters(rt: HostRuntime) -> Result<(), Fail> {
+    expect_mistakes(
+        rt.alloc(),
+        &[
+            (&["make-table", "3", "\u{1b}[2J", "o"], "value '?[2J' for"),
+            (&["make-table", "3", "tiles:\u{fc}", "o"], "'tiles:??' for"),
+            (&["table", "f", "--workers", "\u{1b}c"], "value '?c' for"),
+            (&["t\u{fc}r\u{7f}~"], "unrecognized subcommand 't??r?~'"),
+            (&["table", "--\u{9b}2J", "f"], "argument '--??2J' found"),
         ],
     )
 }
@@ -225,7 +324,9 @@ fn a_mistake_shows_the_usage(rt: HostRuntime) -> Result<(), Fail> {
     let alloc = rt.alloc();
     let whole = format!(in alloc; "error: unrecognized subcommand 'shuffle'{USAGE}")?;
     assert_eq!(rt; mistake_of(alloc, &["shuffle"])?.as_str(), whole.as_str());
-    let unreadable = format!(in alloc; "error: a word is no UTF-8 text{USAGE}")?;
-    assert_eq!(rt; unreadable_word(), unreadable.as_str());
+    for place in [0, 3, 10, 4_294_967_296, usize::MAX] {
+        let unreadable = format!(in alloc; "error: word {place} is no UTF-8 text{USAGE}")?;
+        assert_eq!(rt; unreadable_word(place).as_str(), unreadable.as_str());
+    }
     Ok(())
 }

@@ -48,6 +48,16 @@ pub fn expect_help(alloc: Global, words: &[&str], help: &str) -> Result<(), Fail
     Err(Fail::new(format_args!("{words:?} read as {read:?}")))
 }
 
+/// The words ask for the version; or the test fails, and shows what was read.
+pub fn expect_version(alloc: Global, words: &[&str]) -> Result<(), Fail> {
+    let words = owned(alloc, words)?;
+    let read = read_words(alloc, words.as_slice());
+    if matches!(&read, Err(WordFault::Version)) {
+        return Ok(());
+    }
+    Err(Fail::new(format_args!("{words:?} read as {read:?}")))
+}
+
 /// The text of the mistake that the words are; or the test fails, and shows what was read.
 pub fn mistake_of(alloc: Global, words: &[&str]) -> Result<String, Fail> {
     let words = owned(alloc, words)?;

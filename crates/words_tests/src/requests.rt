@@ -157,6 +157,43 @@ fn words_ask_for_a_table_to_be_made(rt: HostRuntime) -> Result<(), Fail> {
     Ok(())
 }
 
+#[test]
+fn words_write_a_mask(rt: HostRuntime) -> Result<(), Fail> {
+    let alloc = rt.alloc();
+    let cases: [(&str, u32); 17] = [
+        ("30", 30),
+        ("0x1e", 30),
+        ("0x1E", 30),
+        ("0x0000000001e", 30),
+        ("0x0", 0),
+        ("0xffffffff", u32::MAX),
+        ("0xFFFFfffE", u32::MAX - 1),
+        ("0xabcdef", 11_259_375),
+        ("tiles:1,2,3,4", 30),
+        ("tiles:4,1,3,2", 30),
+        ("tiles:0", 1),
+        ("tiles:9", 512),
+        ("tiles:10,20", 1_049_600),
+        ("tiles:31", 1 << 31),
+        ("tiles:31,0", (1 << 31) + 1),
+        ("tiles:19,29,30,31", 3_758_620_672),
+        (
+            "tiles:0,1,2,3,4,5,6,7,8,9,10,11,12,13,14,15,16,17,18,19,20,21,22,23,24,25,26,27,28,29,30,31",
+            u32::MAX,
+        ),
+    ];
+    for (word, mask) in cases {
+        let wanted = Request::MakeTable(MakeTable {
+            side: 4,
+            mask,
+            out: "o",
+            workers: 1,
+        });
+        expect_request(alloc, &["make-table", "4", word, "o"], &wanted)?;
+    }
+    Ok(())
+}
+
 /// What a search is asked to do besides: by how many workers, whether over folded tables, and within which budget.
 type Asked = (u8, bool, u64);
 

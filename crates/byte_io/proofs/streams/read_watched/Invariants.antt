@@ -12,6 +12,7 @@ invariant-reads g l =
     × (g.R.Source.reads l.reader.stream.now ≤ g.R.Source.reads l.fn.reader.stream.now + l.filled)
     × (l.reader.has_failed ≡ l.fn.reader.has_failed)
     × (g.R.Source.may_have_failed l.reader.stream.now ≡ g.R.Source.may_have_failed l.fn.reader.stream.now)
+    × (g.R.Source.may_have_ended l.reader.stream.now ≡ g.R.Source.may_have_ended l.fn.reader.stream.now)
     × (l.reader.stream.ghost_name ≡ l.fn.reader.stream.ghost_name)
 
 abbrev pub decreases-reads : goal.decreases-reads

@@ -1,16 +1,16 @@
-use Rattle.std.proofs.Common.{◌∙◌, [], Err, ap, refl, sym}
+use Rattle.std.proofs.Common.{◌≡◌, ◌∙◌, [], Err, Ok, Some, ap, refl, rules, sym}
 use Rattle.pdb_keep.specs.MakeTable.{ArePattern, IsUnbuilt, built, unbuilt}
 use Rattle.pdb_verdict.proofs.RefusalLemmas.{cause_settled}
 use Rattle.pdb_keep.proofs.make_table.answer_make_table.Goals as goal
 
-pub returns-in-Ok : goal.returns-in-Ok
-returns-in-Ok g c =
-    let settled = c.in_ok-build.ensures.ok in
-    let is = rw (sym settled.0 ∙ c.in-Ok.is) at c.build_table.ensures.built in
-    let build = built c.in-Ok.built.file.items c.in-Ok.built.answer in (
+pub returns-in-Ok-Some : goal.returns-in-Ok-Some
+returns-in-Ok-Some g c =
+    let made = c.in-Ok-Some.built in
+    let is : c.in_ok-build.build ≡ Ok (Some made) = search (rules, c.in-Ok-Some.field-0-is) in
+    let is_build = rw (sym c.in_ok-build.ensures.ok.0 ∙ is) at c.build_table.ensures.built in (
       _,
-      record { build = build; is_build = is; told = refl },
-      record { digested = refl; made = refl; lines = c.line_of.ensures; is_yes = c.is_ok.ensures.value },
+      record { build = built made.file.items made.said; is_build = is_build; told = refl },
+      record { digested = refl; made = refl; lines = c.line_of.ensures; is_yes = refl },
     )
 
 pub returns-in-Err : goal.returns-in-Err

@@ -1,19 +1,15 @@
-use Rattle.std.proofs.Common.{inr, rules}
-use Rattle.pdb_keep.specs.MakeTable.{ArePattern, SpeaksOf}
-use Rattle.pdb_keep.proofs.MakerLemmas.{another_table, table_told}
+use Rattle.std.proofs.Common.{◌<◌, ◌^◌, arith, rules}
+use Rattle.pdb_keep.specs.MakeTable.{ArePattern}
+use Rattle.pdb_keep.proofs.MakerLemmas.{own_table, table_told}
 use Rattle.pdb_keep.proofs.make_table.build_table.Goals as goal
 
-pub returns-then-speaks_of-clause-built : goal.returns-then-speaks_of-clause-built
-returns-then-speaks_of-clause-built g c =
-    let told = table_told c.in-Ok.file.items _ _ c.in_ok-answer.answer c.as_slice-table.ensures.value c.in_ok-answer.ensures.ok.0 c.in_ok-answer.ensures.ok.1 c.beside-digest.ensures.answer in
+pub returns-in-Ok-2-clause-built : goal.returns-in-Ok-2-clause-built
+returns-in-Ok-2-clause-built g c =
+    let file = c.in-Ok.file.items in
+    let settled = c.in_ok-said.ensures.ok in
+    let told = table_told file _ _ c.in_ok-said.field-0 c.as_slice-table.ensures.value settled.0 settled.1 c.beside-digest.ensures.answer in
+    let said = rw c.in-Ok-2.is at told in
+    let of = rw c.in-Some.ensures.pattern at c.in-Ok.ensures.file in
     let pattern : ArePattern c.args.side c.args.mask = search rules in
-    let own : SpeaksOf c.args.side c.args.mask c.in_ok-answer.answer = search (rules, c.if-speaks_of.ensures.0) in
-    record { pattern = pattern; is_result = told; own = own }
-
-pub returns-else-speaks_of-clause-unbuilt : goal.returns-else-speaks_of-clause-unbuilt
-returns-else-speaks_of-clause-unbuilt g c =
-    let answer = c.in_ok-answer.answer in
-    let told = table_told c.in-Ok.file.items _ _ answer c.as_slice-table.ensures.value c.in_ok-answer.ensures.ok.0 c.in_ok-answer.ensures.ok.1 c.beside-digest.ensures.answer in
-    let other : ¬ SpeaksOf c.args.side c.args.mask answer = λ own. let no : ⊥ = search (rules, c.if-speaks_of.ensures.1 own) in no in
-    let pattern : ArePattern c.args.side c.args.mask = search rules in
-    inr (pattern, c.in-Ok.file.items, another_table c.args.side c.args.mask c.in-Ok.file.items answer told other)
+    let low : c.args.mask < 2 ^ 32 = omega arith in
+    record { pattern = pattern; is_result = said; own = own_table c.args.side c.args.mask of.0 file c.in-Ok-2.said low of.1 said }

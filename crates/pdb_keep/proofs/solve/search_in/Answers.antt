@@ -4,22 +4,22 @@ use Rattle.pdb_keep.proofs.MakerLemmas.{no_bundle, search_came}
 use Rattle.pdb_keep.proofs.solve.search_in.Goals as goal
 
 pub returns-in_err-bundle : goal.returns-in_err-bundle
-returns-in_err-bundle g c = λ fold text sets tables spelt ok err.
+returns-in_err-bundle g c = λ fold text sets tables spelt read.
     let why = c.in_err-bundle.field-0.0 in
     let refused : c.from_residual.result ≡ Err why = search (rules, c.from_residual.ensures) in
-    rw refused (no_bundle fold text sets tables c.args.board.now spelt why (rw c.in_err-bundle.was at err))
+    rw refused (no_bundle fold text sets tables c.args.board.now spelt why (rw c.in_err-bundle.was at read))
 
 pub returns-then-ne : goal.returns-then-ne
-returns-then-ne g c = λ fold text sets tables spelt ok err.
+returns-then-ne g c = λ fold text sets tables spelt read.
     record {
       board = c.args.board.now;
       spelt = spelt;
-      unmade = record { bundle = c.in_ok-bundle.bundle; is_bundle = rw c.in_ok-bundle.was at ok; another_side = search rules };
+      unmade = record { bundle = c.in_ok-bundle.bundle; is_bundle = rw c.in_ok-bundle.was at read; another_side = search rules };
     }
 
 pub returns : goal.returns
-returns g c = λ fold text sets tables spelt ok err.
-    let is_bundle = rw c.in_ok-bundle.was at ok in
+returns g c = λ fold text sets tables spelt read.
+    let is_bundle = rw c.in_ok-bundle.was at read in
     let are_for : AreForBoard fold c.args.board.now sets tables =
     record { bundle = c.in_ok-bundle.bundle; is_bundle = is_bundle; one_side = search rules } in
     search_came fold text sets tables c.args.board.now spelt are_for c.search_over.result

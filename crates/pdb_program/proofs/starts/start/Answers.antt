@@ -10,8 +10,8 @@ returns-in-Ok-clause-runs g c =
     rw (c.in-Ok.is, ← c.words_in.ensures, shelf, reader, out) c.run_on.ensures.runs
 
 pub returns-in-Err-clause-unreadable : goal.returns-in-Err-clause-unreadable
-returns-in-Err-clause-unreadable g c = rw c.in-Err.is (λ no.
-    let told = c.without_words.ensures.unreadable no in
+returns-in-Err-clause-unreadable g c = rw c.in-Err.is (λ place is.
+    let told = c.without_words.ensures.unreadable place is in
     (told.0, told.1, c.code.ensures ∙ ap status_number told.2))
 
 pub returns-in-Ok-clause-headline : goal.returns-in-Ok-clause-headline

@@ -8,11 +8,17 @@ use Rattle.pdb_prove.proofs.runs.run_prove.Goals as goal
 pub returns-in-Err-read_claims-clause-ends : goal.returns-in-Err-read_claims-clause-ends
 returns-in-Err-read_claims-clause-ends g c =
     let fold = (prove_shown c.args.prove.now).fold in
-    let files = files_of c.take_first-text.result.items c.take_first-sets.result.items (all_bytes c.take_first-sets.new.inputs.items) in
-    let read = rw (c.take_first-text.ensures.items, c.take_first-sets.ensures.items) at c.in-Ok.ensures.read in
+    let read = c.files_read.result in
+    let files = files_of read.0.items read.1.items (all_bytes read.2.items) in
+    let has_read = rw c.files_read.ensures at c.in-Ok.ensures.read in
     let named = rw c.as_slice.ensures.value at c.read_claims.ensures.fault in
     let memory = rw c.as_slice.ensures.value at c.read_claims.ensures.memory in
     let cause = text_cause fold files c.read_claims.result c.in-Err-read_claims.fault c.in-Err-read_claims.is named memory in
-    c.tell_fault.ensures.ends files _ read
+    c.tell_fault.ensures.ends files _ has_read
     (rw (c.as_slice-in-Err-read_claims.ensures.value, c.as_slice-in-Err-read_claims-2.ensures.value) refl)
     (rw c.of_claims.ensures cause)
+
+pub returns-clause-ends : goal.returns-clause-ends
+returns-clause-ends g c =
+    c.prove_claims.ensures.ends _
+    (rw (c.files_read.ensures, ← c.as_slice-2.ensures.value, ← c.as_slice-3.ensures.value) at c.in-Ok.ensures.read)

@@ -17,4 +17,5 @@ returns-in-Ok-load_all-clause-count g c =
 pub returns-clause-ends : goal.returns-clause-ends
 returns-clause-ends g c =
     let stopped = rw (c.as_slice.ensures.value, c.in-Ok.ensures.all) at c.in-Err.ensures.unread in
-    ends_so (unread _ c.in-Err.fault.why) c.say_unread.ensures.said stopped.first stopped.files tt tt stopped.written
+    ends_so (unread _ c.in-Err.fault.why) c.say_unread.ensures.said stopped.first stopped.files
+    (stopped.first.before, stopped.first.behind, stopped.first.order, stopped.calls) tt tt stopped.written

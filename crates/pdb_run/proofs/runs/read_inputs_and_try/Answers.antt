@@ -9,4 +9,4 @@ returns-in-Err-clause-ends g c =
     let failed = c.in-Err.ensures.failed in
     ends_so (unwritable _ _) c.say_unkept.ensures.said
     record { under = c.requires; inputs = _; read = are.read; has_failed = failed.has_failed }
-    (failed.files ∙ are.files) tt (rw failed.reader are.behind) (failed.written ∙ are.written)
+    (failed.files ∙ are.files) (rw (← are.calls) failed.calls) tt (rw failed.reader are.behind) (failed.written ∙ are.written)

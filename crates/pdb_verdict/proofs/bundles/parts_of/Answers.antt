@@ -9,23 +9,23 @@ parted : {A : Type 0} (xs : List A) (i : ℕ) (x : A) → i < length xs → x �
 parted xs i x low is =
     ap (λ y. take i xs ++ y ∷ drop (i + 1) xs) is ∙ rw (← drop_more xs i x low) (take-append-drop i xs)
 
-pub returns-in-Err-clause-err : goal.returns-in-Err-clause-err
-returns-in-Err-clause-err g c =
-    let whole = parted c.args.tables.files.now c.loop-file.file-index _ c.loop-file-test.true c.file-item.is in
+pub returns-in-Err : goal.returns-in-Err
+returns-in-Err g c =
+    let whole = parted c.args.files.now c.loop-file.file-index _ c.loop-file-test.true c.file-item.is in
     let count : c.len.result ≡ length c.loop-file.parts.items = search (rules, c.len.ensures, c.loop-file.parts.ok) in
     next_cause _ _ _ _ _ _ c.as_slice.ensures.value whole _ c.loop-file.invariant
     c.fault_at.result (rw count at (c.fault_at.ensures c.as_slice.result.now c.in-Err.ensures.err))
 
-pub returns-in_err-push-clause-err : goal.returns-in_err-push-clause-err
-returns-in_err-push-clause-err g c =
-    let whole = parted c.args.tables.files.now c.loop-file.file-index _ c.loop-file-test.true c.file-item.is in
+pub returns-in_err-push : goal.returns-in_err-push
+returns-in_err-push g c =
+    let whole = parted c.args.files.now c.loop-file.file-index _ c.loop-file-test.true c.file-item.is in
     let is = c.in-Ok.ensures.ok in
     let memory = next_cause _ _ _ _ _ _ c.as_slice.ensures.value whole _ c.loop-file.invariant Fault.Memory (is.0, is.1.is_file) in
     search rules
 
 pub loop-file-preserved : goal.loop-file-preserved
 loop-file-preserved g c =
-    let files = c.args.tables.files.now in
+    let files = c.args.files.now in
     let i = c.loop-file.file-index in
     let file = c.file-item.result in
     let whole = parted files i file c.loop-file-test.true c.file-item.is in

@@ -1,4 +1,4 @@
-use Rattle.std.proofs.Common.{Bool, ap₂, sym}
+use Rattle.std.proofs.Common.{Bool, ap₂}
 use Rattle.pdb_request.specs.Asked.{log_check_shown}
 use Rattle.pdb_request.specs.declared.requests.Claim.{Claim}
 use Rattle.pdb_run.specs.Answers.{all_bytes}
@@ -8,18 +8,11 @@ use Rattle.pdb_verdict.specs.Steps.{files_read}
 use Rattle.pdb_verdict.proofs.CheckLemmas.{check_answered}
 use Rattle.pdb_verdict.proofs.log_command.run_log_check.Goals as goal
 
-pub returns-in-Some-clause-ends : goal.returns-in-Some-clause-ends
-returns-in-Some-clause-ends g c =
+pub returns-clause-ends : goal.returns-clause-ends
+returns-clause-ends g c =
     let check = c.args.check.now in
-    let read = c.of-files.result in
-    let same = ap₂ (λ (claim : Claim) (fold : Bool). log_claim claim (files_read fold read)) c.in-Some.ensures.claim (sym c.in-Some.ensures.folds) in
+    let read = c.with_bytes-read in
+    let same = ap₂ (λ (claim : Claim) (fold : Bool). log_claim claim (record (files_read read.result) { fold = fold })) read.ensures.claim read.ensures.fold in
     c.conclude.ensures.ends (all_bytes c.in-Ok.inputs.items) _ c.in-Ok.ensures.read
-    (check_answered (log_given check.claim (log_check_shown check)) (files_read check.fold read) _ c.answer_folded-answer.result
-    (c.of-files.ensures check.claim check.fold) _ same c.answer_folded-answer.ensures)
-
-pub returns-in-None-clause-ends : goal.returns-in-None-clause-ends
-returns-in-None-clause-ends g c =
-    let check = c.args.check.now in
-    c.conclude-in-None.ensures.ends (all_bytes c.in-Ok.inputs.items) _ c.in-Ok.ensures.read
-    (check_answered (log_given check.claim (log_check_shown check)) (files_read check.fold c.of-files.result) _ c.answer_by-answer.result
-    (c.of-files.ensures check.claim check.fold) _ c.inputs.ensures c.answer_by-answer.ensures)
+    (check_answered (log_given check.claim (log_check_shown check)) (files_read read.result) _ c.answer_log_check-answer.result
+    read.ensures.inputs _ same c.answer_log_check-answer.ensures)

@@ -1,7 +1,14 @@
+use Rattle.std.proofs.Common.{[], ◌∷◌, refl}
 use Rattle.pdb_run.specs.Answers.{all_bytes}
+use Rattle.pdb_verdict.specs.Inputs.{table_file}
+use Rattle.pdb_verdict.proofs.CheckLemmas.{check_answered, only_input, result_told}
 use Rattle.pdb_verdict.proofs.table_command.run_table.Goals as goal
 
-pub returns-in-Ok-clause-ends : goal.returns-in-Ok-clause-ends
-returns-in-Ok-clause-ends g c =
-    let by = rw c.as_slice.ensures.value at c.answer_table-answer.ensures in
-    c.conclude.ensures.ends (all_bytes c.in-Ok.inputs.items) _ c.in-Ok.ensures.read by
+pub returns-clause-ends : goal.returns-clause-ends
+returns-clause-ends g c =
+    let table = c.as_slice-table.result.now in
+    let are = only_input c.in-Ok.inputs.items _ table c.in-Ok.ensures.count (c.index.ensures) c.as_slice-table.ensures.value in
+    let told = result_told (table_file table) c.digested_beside-digested.result.1 c.told_or_memory.result c.digested_beside-digested.ensures.answer
+    (c.told_or_memory.ensures.told (table ∷ []) c.digested_beside-digested.ensures.digested) c.told_or_memory.ensures.memory in
+    c.conclude.ensures.ends (all_bytes c.in-Ok.inputs.items) _ c.in-Ok.ensures.read
+    (check_answered table_file table _ c.told_or_memory.result are _ refl told)

@@ -11,5 +11,5 @@ returns c = record {
   nothing = (refl, refl);
   alone = (refl, refl);
   file = λ name plain. (simp dashless, simp dashless);
-  workers = λ number. mistaken _ kind.UnknownArgument [] refl (λ e. cc);
+  workers = λ number. mistaken _ kind.UnknownArgument [] refl (λ e. cc) (λ e. cc);
 }

@@ -29,7 +29,7 @@ pub returns : goal.returns
 unfolding clap_on_literals
 returns c = record {
   file = λ name f. comes (inr (inl refl)) (plain name f ∷ []) refl refl refl;
-  alone = mistaken _ kind.MissingRequiredArgument [] refl (λ e. cc);
+  alone = mistaken _ kind.MissingRequiredArgument [] refl (λ e. cc) (λ e. cc);
   workers = λ number name n f. (before number name n f).0;
   other_workers = λ number name n f. (before number name n f).1;
   workers_last = λ number name n f. (behind number name n f).0;

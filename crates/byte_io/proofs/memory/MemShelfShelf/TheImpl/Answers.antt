@@ -1,4 +1,4 @@
-use Rattle.std.proofs.Common.{ap, arith, option_map, rules}
+use Rattle.std.proofs.Common.{ap, arith, option_map, refl, rules}
 use Rattle.std.proofs.lemmas.Result.{on_err_weaker}
 use Rattle.byte_io.proofs.memory.MemShelfShelf.TheImpl.Goals as goal
 
@@ -8,4 +8,5 @@ keep-tells c = record {
   others = on_err_weaker c.result (λ same other _. ap (option_map (λ told. told other)) same) c.ensures.unchanged;
   failed = search (rules, arith);
   calm = search (rules, arith);
+  told = refl;
 }

@@ -17,7 +17,7 @@ returns-then-words-table c b next from to step kept =
     let have = subst (λ u. HaveWords u words) c.self.view_is c.self.invariant.words in
     elim c.seat-seat.ensures.seat [
       | inl owned ↦
-          let there = member_there v bundle words have c.args.set c.requires.set owned.owner.number c.seat-seat.result.owner.member owned.owner.member in
+          let there = member_there v bundle c.args.set c.requires.set owned.owner.number c.seat-seat.result.owner.member owned.owner.member in
           let size = have.size in
           let none = c.if-words-table.true in
           let table = c.from-table.ensures in

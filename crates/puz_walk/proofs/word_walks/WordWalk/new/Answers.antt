@@ -2,7 +2,7 @@ use Rattle.std.proofs.Common.{◌≡◌, ◌+◌, ◌-◌, Option, Some, None, i
 use Rattle.std.specs.Prelude.{IfNone}
 use Rattle.puz_board.specs.Boards.{IsBoardOf}
 use Rattle.puz_board.specs.Parity.{blank_parity}
-use Rattle.puz_walk.specs.StoredWordWalks.{margin_of}
+use Rattle.puz_walk.specs.Cuts.{margin_of}
 use Rattle.puz_walk.proofs.OpenLemmas.{cut_below, cut_from}
 use Rattle.puz_walk.proofs.WordWalkLemmas.{stored_of}
 use Rattle.puz_walk.proofs.word_walks.WordWalk.new.Goals as goal

@@ -1,0 +1,30 @@
+use Rattle.std.proofs.Common.{◌≡◌, Err, append-nil, rules, sym}
+use Rattle.puz_board.specs.BoardTexts.{Spells}
+use Rattle.pdb_run.specs.Answers.{all_bytes}
+use Rattle.pdb_verdict.specs.declared.verdicts.Fault.{Fault}
+use Rattle.pdb_keep.proofs.MakerLemmas.{made_moves}
+use Rattle.pdb_keep.proofs.solve.answer_search.Goals as goal
+
+pub answer_of-requires : goal.answer_of-requires
+answer_of-requires g c =
+    let asked = c.args.search.now in
+    let spelt : Spells asked.board.items c.in-Ok.board = search (rules, c.read.ensures.ok) in
+    let read = c.over_tables-digested.ensures.found in
+    made_moves asked.fold asked.board.items _ _ c.over_tables-digested.result.1 (read.2.1 _ _ _ _ spelt read.1)
+
+pub returns-in-Ok : goal.returns-in-Ok
+returns-in-Ok g c =
+    let asked = c.args.search.now in
+    let spelt : Spells asked.board.items c.in-Ok.board = search (rules, c.read.ensures.ok) in
+    let read = rw c.as_slice-sets.ensures.value at c.over_tables-digested.ensures.found in
+    let lines = rw append-nil at c.over_tables-digested.ensures.digested in
+    c.answer_of.ensures asked.fold asked.board.items asked.sets.items (all_bytes asked.tables.items) lines (read.2.1 _ _ _ _ spelt read.1)
+
+pub returns-in-Err : goal.returns-in-Err
+returns-in-Err g c =
+    let asked = c.args.search.now in
+    let same : c.digested_beside-digested.result.1 ≡ Err (Fault.Board c.in-Err.refused) = search (rules, c.digested_beside-digested.ensures.answer) in
+    let why = rw (c.as_slice.ensures.value, c.in-Err.is) at c.read.ensures.exact in
+    let lines = rw (append-nil, c.as_slice-tables.ensures.value) at c.digested_beside-digested.ensures.digested in
+    c.answer_of-in-Err.ensures asked.fold asked.board.items asked.sets.items (all_bytes asked.tables.items) lines
+    (rw same (sym why))

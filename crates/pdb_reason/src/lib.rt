@@ -1,0 +1,12 @@
+//! Why a run ended without a yes, in a sentence for people.
+#![tactic(auto)]
+
+mod answers;
+mod beginnings;
+mod heard;
+mod reasons;
+mod texts;
+
+pub use beginnings::Beginning;
+pub use heard::Heard;
+pub use reasons::Reason;

@@ -1,0 +1,12 @@
+use Rattle.std.proofs.Common.{arith}
+use Rattle.pdb_words.proofs.MaskLemmas.{first_tile, last_tile}
+use Rattle.pdb_words.proofs.masks.+with_tiles.Goals as goal
+
+pub returns-in-None : goal.returns-in-None
+returns-in-None t c = grind (arith, last_tile c.args.mask c.args.text.now, c.in-None.ensures.byte)
+
+pub returns-in_err-with_tile_written-in-Some : goal.returns-in_err-with_tile_written-in-Some
+returns-in_err-with_tile_written-in-Some t c = grind (arith, first_tile c.args.mask c.args.text.now c.in-Some.first.now c.in-Some.rest.now, c.in-Some.ensures.byte)
+
+pub returns-in_ok-with_tile_written-in-Some : goal.returns-in_ok-with_tile_written-in-Some
+returns-in_ok-with_tile_written-in-Some t c = grind (arith, first_tile c.args.mask c.args.text.now c.in-Some.first.now c.in-Some.rest.now, c.in-Some.ensures.byte)

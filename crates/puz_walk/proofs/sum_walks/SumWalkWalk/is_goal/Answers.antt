@@ -1,0 +1,7 @@
+use Rattle.std.proofs.Common.{subst}
+use Rattle.puz_walk.specs.Walks.{IsOpen}
+use Rattle.puz_walk.proofs.SumWalkLemmas.{walk_open}
+use Rattle.puz_walk.proofs.sum_walks.SumWalkWalk.is_goal.Goals as goal
+
+pub returns-clause-open : goal.returns-clause-open
+returns-clause-open c = subst IsOpen c.self.view_is (walk_open c.self.inside c.self.invariant)
