@@ -124,7 +124,8 @@ impl<'a> CheckedTable<'a> {
         count_of(self.view.entry(standing.rank, slot))
     }
 
-    /// The slot of the blank in the cell that was found for it. It takes no flood where the slots are kept.
+    /// The slot of the blank in the cell that was found for it. Most often the free cells are one region: then the second slot
+    /// has none, and its entry is read beside that of the first. Else it takes no flood where the slots are kept.
     #[inline]
     fn slot_found(&self, standing: Standing, found: &[u8; 25]) -> u8
         requires placement { let cells = cells_found self.now.pattern.tiles found.now in
@@ -139,31 +140,15 @@ impl<'a> CheckedTable<'a> {
             (slice_index found.now 0) result }
         ensures below { result < slot_count self.now.pattern }
     {
+        let pattern = self.pattern();
+        if pattern.width() > 1 && self.view.entry(standing.rank, 1) == NO_REGION {
+            return 0;
+        }
         let blank = found[0];
         match self.kept_slot(standing.occupied, blank) {
             Some(slot) => slot,
-            None => {
-                let placement = Placement::of_cells(&self.pattern(), found);
-                self.slot_in(&placement, standing.rank, blank)
-            }
+            None => slot_of(&Placement::of_cells(&pattern, found), blank),
         }
-    }
-
-    /// The slot of a free cell of a placement, whose rank is given. It takes no flood where there is a second slot that has no
-    /// region, so that all free cells are of the first.
-    #[inline]
-    fn slot_in(&self, placement: &Placement, rank: u64, cell: u8) -> u8
-        requires placement { IsPlacement placement.now }
-        requires pattern { placement.now.pattern ≡ self.now.pattern }
-        requires rank { IsRank placement.now.pattern.side placement.now.cells rank }
-        requires free { IsFree placement.now.pattern.side placement.now.cells cell }
-        ensures slot { IsSlot placement.now.pattern.side placement.now.cells cell result }
-        ensures below { result < slot_count self.now.pattern }
-    {
-        if self.pattern().width() > 1 && self.view.entry(rank, 1) == NO_REGION {
-            return 0;
-        }
-        slot_of(placement, cell)
     }
 
     /// The entries, which are all bytes behind the header: rank by rank, and slot by slot for each rank.

@@ -1,39 +1,30 @@
-use Rattle.std.proofs.Common.{◌≡◌, ◌<◌, refl, slice_index, sym, ◌∙◌, ap, subst}
+use Rattle.std.proofs.Common.{◌≡◌, ◌<◌, length, refl, slice_index, sym, ◌∙◌, ap, subst, arith}
+use Rattle.pat_place.specs.Patterns.{width}
 use Rattle.pat_place.specs.Placements.{IsFree, IsPlacement, ShownPlacement, cells_found}
 use Rattle.pat_place.specs.Ranks.{IsRank}
 use Rattle.pat_place.specs.Regions.{IsSlot}
+use Rattle.tab_file.specs.Tables.{placement_count, slot_count}
+use Rattle.tab_rule.proofs.BlockLemmas.{rank_below}
+use Rattle.tab_rule.proofs.LookLemmas.{slot_first}
 use Rattle.tab_rule.proofs.tables.CheckedTable.slot_found.Goals as goal
 
-pub kept_slot-requires : goal.kept_slot-requires
-kept_slot-requires c = c.requires.free.0
+pub entry-requires-clause-rank : goal.entry-requires-clause-rank
+entry-requires-clause-rank c =
+    let t = c.args.self.now in
+    let p : ShownPlacement = record { pattern = t.pattern; cells = cells_found t.pattern.tiles c.args.found.now } in
+    subst (λ s. c.args.standing.rank < placement_count s.pattern) (sym c.self.view_is)
+    (rank_below t p refl c.requires.placement c.args.standing.rank c.requires.rank)
 
-pub of_cells-placement-requires : goal.of_cells-placement-requires
-of_cells-placement-requires c =
-    subst (λ q. IsPlacement (record { pattern = q; cells = cells_found q.tiles c.args.found.now })) (sym c.pattern.ensures.pattern) c.requires.placement
-
-pub slot_in-requires : goal.slot_in-requires
-slot_in-requires c =
-    let found = c.args.found.now in
-    let on : c.of_cells-placement.result ≡ record { pattern = c.args.self.now.pattern; cells = cells_found c.args.self.now.pattern.tiles found } =
-    c.of_cells-placement.ensures ∙ ap {B = ShownPlacement} (λ q. record { pattern = q; cells = cells_found q.tiles found }) c.pattern.ensures.pattern in
-    record {
-      placement = subst IsPlacement (sym on) c.requires.placement;
-      pattern = ap (λ p. p.pattern) on;
-      rank = subst (λ p. IsRank p.pattern.side p.cells c.args.standing.rank) (sym on) c.requires.rank;
-      free = subst (λ p. IsFree p.pattern.side p.cells (slice_index found 0)) (sym on) c.requires.free;
-    }
-
-pub returns-in-Some : goal.returns-in-Some
-returns-in-Some c =
-    let both = c.in-Some.ensures (cells_found c.args.self.now.pattern.tiles c.args.found.now) c.requires.placement c.requires.occupied c.requires.free in
-    record { slot = both.0; below = both.1 }
-
-pub returns-in-None : goal.returns-in-None
-returns-in-None c =
-    let found = c.args.found.now in
-    let on : c.of_cells-placement.result ≡ record { pattern = c.args.self.now.pattern; cells = cells_found c.args.self.now.pattern.tiles found } =
-    c.of_cells-placement.ensures ∙ ap {B = ShownPlacement} (λ q. record { pattern = q; cells = cells_found q.tiles found }) c.pattern.ensures.pattern in
-    record {
-      slot = subst (λ p. IsSlot p.pattern.side p.cells (slice_index found 0) c.slot_in.result) on c.slot_in.ensures.slot;
-      below = c.slot_in.ensures.below;
-    }
+pub returns-then-entry-clause-slot : goal.returns-then-entry-clause-slot
+returns-then-entry-clause-slot c =
+    let t = c.self.inside.view in
+    let cell = slice_index c.args.found.now 0 in
+    let width : c.width.result ≡ slot_count t.pattern = c.width.ensures ∙ ap slot_count (c.pattern-pattern.ensures.pattern ∙ ap (λ s. s.pattern) (sym c.self.view_is)) in
+    let on = sym c.self.view_is in
+    let slot : IsSlot t.pattern.side (cells_found t.pattern.tiles c.args.found.now) cell 0 =
+    slot_first t c.self.invariant.exact (cells_found t.pattern.tiles c.args.found.now)
+    (subst (λ s. IsPlacement (record { pattern = s.pattern; cells = cells_found s.pattern.tiles c.args.found.now })) on c.requires.placement) c.args.standing.rank cell
+    (subst (λ s. IsRank s.pattern.side (cells_found s.pattern.tiles c.args.found.now) c.args.standing.rank) on c.requires.rank) (let l = c.if-width-gt1.true in omega arith)
+    (sym c.entry.ensures.entry ∙ c.if-entry.true)
+    (subst (λ s. IsFree s.pattern.side (cells_found s.pattern.tiles c.args.found.now) cell) on c.requires.free) in
+    subst (λ s. IsSlot s.pattern.side (cells_found s.pattern.tiles c.args.found.now) cell 0) c.self.view_is slot
