@@ -99,11 +99,12 @@ module _ (w : Inside) (kept : IsStoredSumWalk w) where
 
       -- and else to the walk that stands there
       pub stored_next : (position : ShownSums) → position ≡ record { bundle = v; board = slid board to } → (tally : Tally) → AreTallied v (slid board to) tally → AreLow v (slid board to) (w.bound - w.margin)
-          → IsStoredSumWalk (record { position = position; tally = tally; bound = w.bound - 1; margin = w.margin })
+          → IsStoredSumWalk (record { position = position; ways = w.ways; tally = tally; bound = w.bound - 1; margin = w.margin })
       stored_next position at_next tally tallied low =
-          subst (λ p. IsStoredSumWalk (record { position = p; tally = tally; bound = w.bound - 1; margin = w.margin })) (sym at_next) (record {
+          subst (λ p. IsStoredSumWalk (record { position = p; ways = w.ways; tally = tally; bound = w.bound - 1; margin = w.margin })) (sym at_next) (record {
             bundle = kept.bundle;
             board = IsBoardOf-slid v.side board kept.board to near.0;
+            ways = kept.ways;
             tally = tallied;
             margin = still;
             below = λ set there.
@@ -126,7 +127,7 @@ module _ (w : Inside) (kept : IsStoredSumWalk w) where
           ap {B = ShownSums} (λ x. record { bundle = v; board = x }) (slid-back v.side board kept.board to near)
 
       pub step_next : w.bound ≤ 255 → (position : ShownSums) → position ≡ record { bundle = v; board = slid board to } → (tally : Tally) (tile from : ℕ) (told : List ℕ) → tile ≡ at board to → from ≡ blank board → AreTold v board tile told
-          → IsSumStep (sum_walk_shown w) (sum_walk_shown (record { position = position; tally = tally; bound = w.bound - 1; margin = w.margin })) (record { from = from; told = told })
+          → IsSumStep (sum_walk_shown w) (sum_walk_shown (record { position = position; ways = w.ways; tally = tally; bound = w.bound - 1; margin = w.margin })) (record { from = from; told = told })
       step_next small position at_next tally tile from told tile_is from_is is_told = record {
         open_ = walk_open;
         small = small;
@@ -142,11 +143,12 @@ module _ (w : Inside) (kept : IsStoredSumWalk w) where
   abbrev pub asked : ℕ → Tally
   asked set = record { owners = w.tally.owners; sums = w.tally.sums; first = set; entries = w.tally.entries }
 
-  pub stored_again : (position : ShownSums) → position ≡ w.position → (set : ℕ) → set < length v.sets → IsStoredSumWalk (record { position = position; tally = asked set; bound = w.bound; margin = w.margin })
+  pub stored_again : (position : ShownSums) → position ≡ w.position → (set : ℕ) → set < length v.sets → IsStoredSumWalk (record { position = position; ways = w.ways; tally = asked set; bound = w.bound; margin = w.margin })
   stored_again position is set there =
-      subst (λ p. IsStoredSumWalk (record { position = p; tally = asked set; bound = w.bound; margin = w.margin })) (sym is) (record {
+      subst (λ p. IsStoredSumWalk (record { position = p; ways = w.ways; tally = asked set; bound = w.bound; margin = w.margin })) (sym is) (record {
         bundle = kept.bundle;
         board = kept.board;
+        ways = kept.ways;
         tally = record { sums_room = kept.tally.sums_room; entries_room = kept.tally.entries_room; owners = kept.tally.owners; first = there; each = kept.tally.each };
         margin = kept.margin;
         below = kept.below;
@@ -193,19 +195,20 @@ module _ (w : Inside) (kept : IsStoredSumWalk w) where
         kept.margin ∙ sym (margin_still w.bound (blank_parity before.board) (blank_parity board) (flips v before.board board from.tile forth))
 
     pub stored_back : (position : ShownSums) → position ≡ record { bundle = v; board = slid board step.from } → (tally : Tally) → AreTallied v before.board tally
-        → IsStoredSumWalk (record { position = position; tally = tally; bound = w.bound + 1; margin = w.margin })
+        → IsStoredSumWalk (record { position = position; ways = w.ways; tally = tally; bound = w.bound + 1; margin = w.margin })
     stored_back position at_before tally tallied =
         let is : position ≡ record { bundle = v; board = before.board } = at_before ∙ ap {B = ShownSums} (λ x. record { bundle = v; board = x }) back_leads in
-        subst (λ p. IsStoredSumWalk (record { position = p; tally = tally; bound = w.bound + 1; margin = w.margin })) (sym is) (record {
+        subst (λ p. IsStoredSumWalk (record { position = p; ways = w.ways; tally = tally; bound = w.bound + 1; margin = w.margin })) (sym is) (record {
           bundle = kept.bundle;
           board = good_before;
+          ways = kept.ways;
           tally = tallied;
           margin = margin_back;
           below = λ set there. below_from v before.board (w.bound + 1) w.margin margin_back not_cut set (slice_index tally.sums set) (tallied.each set there).says;
         })
 
     pub back_is : (position : ShownSums) → position ≡ record { bundle = v; board = slid board step.from } → (tally : Tally)
-        → sum_walk_shown (record { position = position; tally = tally; bound = w.bound + 1; margin = w.margin }) ≡ before
+        → sum_walk_shown (record { position = position; ways = w.ways; tally = tally; bound = w.bound + 1; margin = w.margin }) ≡ before
     back_is position at_before tally =
         let is : position ≡ record { bundle = v; board = before.board } = at_before ∙ ap {B = ShownSums} (λ x. record { bundle = v; board = x }) back_leads in
         λ i. record { bundle = (ap (λ p. p.bundle) is ∙ from.bundle) i; board = (is i).board; bound = from.bound i }

@@ -9,6 +9,7 @@ mod seats;
 mod sum_walks;
 mod tallies;
 mod walks;
+mod ways;
 mod word_bundles;
 mod word_spots;
 mod word_walks;

@@ -1,12 +1,14 @@
 //! Boards that are moved in place, cut off by sums.
 
 ghost use Rattle.std.specs.Prelude.{◌≡◌, IfNone, IfSome};
-ghost use Rattle.puz_board.specs.Boards.{side_of};
+ghost use Rattle.puz_board.specs.Boards.{blank, side_of};
+ghost use Rattle.puz_board.specs.Cells.{step_of};
 ghost use Rattle.puz_walk.specs.Walks.{IsClosed};
 
 use crate::cuts::margin_of;
 use crate::tallies::{Tally, Told, exchange, judge, tally_of};
 use crate::walks::Walk;
+use crate::ways::{Ways, all_ways, way_place};
 use puz_board::{Board, Move};
 use set_sum::{Bundle, MOST_SETS, Position};
 use std::marker::Model;
@@ -17,6 +19,8 @@ use std::marker::Model;
 #[derive(Drop)]
 pub struct SumWalk<'a> {
     position: Position<'a>,
+    /// For each cell and move the cell to which it leads.
+    ways: Ways,
     tally: Tally,
     bound: u8,
     /// How far each sum must be below the bound.
@@ -50,7 +54,7 @@ impl<'a> SumWalk<'a> {
             ≡ record { bundle = bundle.now; board = board.now; bound = bound }) }
         ensures none { IfNone result (IsClosed bundle.now board.now bound) }
     {
-        let (_side, _sets) = (board.side(), bundle.sets());
+        let (side, _sets) = (board.side(), bundle.sets());
         let margin = margin_of(bound, board.blank_parity());
         if bound < margin {
             return None;
@@ -59,10 +63,20 @@ impl<'a> SumWalk<'a> {
         let tally = tally_of(&position, board, bound - margin)?;
         Some(SumWalk {
             position,
+            ways: all_ways(side),
             tally,
             bound,
             margin,
         })
+    }
+
+    /// The cell to which a move leads the blank, where it stays on the board.
+    #[inline]
+    fn after(&self, mv: Move) -> Option<u8>
+        ensures { result ≡ step_of self.now.bundle.side (blank self.now.board) mv }
+    {
+        let (blank, _side) = (self.position.blank(), self.position.bundle().side());
+        self.ways[way_place(blank, mv)]
     }
 }
 
@@ -84,7 +98,7 @@ impl<'a> Walk for SumWalk<'a> {
     fn enter(&mut self, mv: Move) -> Option<SumStep> {
         let limit = self.bound - self.margin;
         let from = self.position.blank();
-        let to = self.position.after(mv)?;
+        let to = self.after(mv)?;
         let tile = self.position.slide(to);
         let mut told = [0; MOST_SETS];
         if let Some(set) = judge(&self.position, &self.tally, tile, limit, &mut told) {

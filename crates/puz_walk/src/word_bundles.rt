@@ -4,26 +4,23 @@ ghost use Rattle.std.specs.Prelude.{◌≡◌, ◌≢◌, ◌*◌, ◌+◌, ◌<
 ghost use Rattle.puz_board.specs.Cells.{step_of};
 ghost use Rattle.set_sum.specs.Bundles.{IsBundle};
 ghost use Rattle.set_sum.specs.Parts.{part_pattern, part_shown};
-ghost use Rattle.edge_words.specs.Words.{ShownWords, way_of};
+ghost use Rattle.edge_words.specs.Words.{ShownWords};
 ghost use Rattle.puz_walk.specs.Seats.{IsSeatOf};
-ghost use Rattle.puz_walk.specs.StoredWords.{AreWaysOf};
 ghost use Rattle.puz_walk.specs.WordBundles.{HaveWords, most_worded};
 ghost use Rattle.puz_walk.specs.WordSpots.{AreIndexesOf, AreKept, IsShift};
 ghost use Rattle.edge_words.specs.Spots.{IsStepOf};
 
 use crate::seats::{MOST_SEATS, Seat, all_seats};
+use crate::ways::{Ways, all_ways, way_of, way_place};
 use crate::word_spots::{MOST_INDEXES, Spot};
 use edge_words::Words;
 use pat_place::Pattern;
-use puz_board::{MOVES, Move, Side, step};
+use puz_board::{Move, Side};
 use set_sum::{Bundle, Part};
 use std::marker::Model;
 
 /// The most tables of a bundle with words.
 const MOST_WORDED: usize = 8;
-
-/// How many moves there are from all cells: four from each of 25.
-const MOST_WAYS: usize = 100;
 
 /// A bundle each table of which has edge words, with what a walk asks at each move: for each set and tile the member whose
 /// pattern has it, and where moves lead.
@@ -34,7 +31,7 @@ pub struct WordBundle<'a> {
     /// For each set and tile what is read and changed when the tile moves.
     seats: [Seat; MOST_SEATS],
     /// For each cell and move the cell to which it leads.
-    ways: [Option<u8>; MOST_WAYS],
+    ways: Ways,
 }
 
 impl<'a> Model for WordBundle<'a> {
@@ -186,37 +183,4 @@ fn is_same(pattern: &Pattern, other: &Pattern) -> bool
     ensures { IsTrue result ↔ (pattern.now ≡ other.now) }
 {
     pattern.side().get() == other.side().get() && pattern.mask() == other.mask()
-}
-
-/// Where the cell to which a move leads is kept.
-#[inline]
-fn way_place(cell: u8, mv: Move) -> usize
-    ensures { result ≡ 4 * cell + way_of mv }
-{
-    4 * usize::from(cell) + way_of(mv)
-}
-
-/// The number of a move.
-#[inline]
-fn way_of(mv: Move) -> usize
-    ensures number { result ≡ way_of mv }
-    ensures few { result < 4 }
-{
-    match mv {
-        Move::Up => 0,
-        Move::Down => 1,
-        Move::Left => 2,
-        Move::Right => 3,
-    }
-}
-
-/// For each cell and move of boards of a side the cell to which it leads.
-fn all_ways(side: Side) -> [Option<u8>; MOST_WAYS]
-    ensures { AreWaysOf side result }
-{
-    let mut ways = [None; MOST_WAYS];
-    for place in 0..4 * side.cells() {
-        ways[usize::from(place)] = step(side, place / 4, MOVES[usize::from(place % 4)]);
-    }
-    ways
 }

@@ -1,7 +1,8 @@
-use Rattle.std.proofs.Common.{◌≡◌, ◌+◌, ◌-◌, ◌<◌, ◌≤◌, Option, Some, None, refl, length, sym, ◌∙◌, ap, subst, arith}
+use Rattle.std.proofs.Common.{◌≡◌, ℕ, ◌+◌, ◌-◌, ◌<◌, ◌≤◌, Option, Some, None, refl, length, sym, ◌∙◌, ap, subst, arith}
 use Rattle.std.specs.Prelude.{IfNone}
 use Rattle.puz_board.specs.Boards.{blank, moved, slid}
-use Rattle.puz_board.specs.Cells.{Adjacent}
+use Rattle.puz_board.specs.Cells.{Adjacent, step_of}
+use Rattle.puz_board.specs.declared.moves.Move.{Move}
 use Rattle.puz_walk.specs.Cuts.{GoesBeyond}
 use Rattle.puz_walk.specs.StoredSumWalks.{sum_walk_shown}
 use Rattle.puz_walk.specs.SumSteps.{IsSumStep}
@@ -10,16 +11,20 @@ use Rattle.puz_walk.specs.Walks.{LeadsNowhere, ShownWalk}
 use Rattle.puz_walk.proofs.SumWalkLemmas.{beyond_nowhere, leads, low_more, margin_fits, near, near_back, none_nowhere, position_back, slides, some_moves, step_next, stored_again, stored_next}
 use Rattle.puz_walk.proofs.sum_walks.SumWalkWalk.enter.Goals as goal
 
+-- where a move of what is shown leads, it leads from what is stored
+on : (s w : ShownWalk) → s ≡ w → (move : Move) → (to : Option ℕ) → to ≡ step_of w.bundle.side (blank w.board) move → to ≡ step_of s.bundle.side (blank s.board) move
+on s w is move to e = e ∙ ap (λ x. step_of x.bundle.side (blank x.board) move) (sym is)
+
 none_so : {X : Type 0} (P : Type 0) → P → (o : Option X) → IfNone o P
 none_so P h None = h
 none_so P h (Some x) = tt
 
 pub returns-in_err-to-clause-none : goal.returns-in_err-to-clause-none
 returns-in_err-to-clause-none c =
-    none_so _ (refl, subst (λ w. LeadsNowhere w c.args.mv) c.self.view_is (none_nowhere c.self.inside c.self.invariant c.args.mv c.in_err-to.ensures)) c.from_residual.result
+    none_so _ (refl, subst (λ w. LeadsNowhere w c.args.mv) c.self.view_is (none_nowhere c.self.inside c.self.invariant c.args.mv (on _ _ c.self.view_is c.args.mv _ c.in_err-to.ensures))) c.from_residual.result
 
 pub slide-tile-requires : goal.slide-tile-requires
-slide-tile-requires c = near c.self.inside c.self.invariant c.args.mv c.in_ok-to.to c.in_ok-to.ensures
+slide-tile-requires c = near c.self.inside c.self.invariant c.args.mv c.in_ok-to.to (on _ _ c.self.view_is c.args.mv _ c.in_ok-to.ensures)
 
 pub overflow_sub-limit : goal.overflow_sub-limit
 overflow_sub-limit c = margin_fits c.self.inside c.self.invariant
@@ -28,7 +33,7 @@ pub judge-requires-clause-moved : goal.judge-requires-clause-moved
 judge-requires-clause-moved c =
     let s = c.self.inside in
     let to = c.in_ok-to.to in
-    let slide = slides s c.self.invariant c.args.mv to c.in_ok-to.ensures c.slide-tile.result c.slide-tile.ensures.tile in
+    let slide = slides s c.self.invariant c.args.mv to (on _ _ c.self.view_is c.args.mv _ c.in_ok-to.ensures) c.slide-tile.result c.slide-tile.ensures.tile in
     let at = sym c.slide-tile.ensures.board in (
       s.position.board,
       subst (λ p. IsSlideOf p.bundle s.position.board p.board c.slide-tile.result) at slide,
@@ -40,7 +45,7 @@ exchange-requires c =
     let s = c.self.inside in
     let to = c.in_ok-to.to in
     let next = c.slide-tile.new.self in
-    let slide = slides s c.self.invariant c.args.mv to c.in_ok-to.ensures c.slide-tile.result c.slide-tile.ensures.tile in
+    let slide = slides s c.self.invariant c.args.mv to (on _ _ c.self.view_is c.args.mv _ c.in_ok-to.ensures) c.slide-tile.result c.slide-tile.ensures.tile in
     let at = sym c.slide-tile.ensures.board in
     let same = sym c.bundle.ensures in (
       s.position.board,
@@ -59,7 +64,7 @@ invariant_of-self-2 c =
     let s = c.self.inside in
     let to = c.in_ok-to.to in
     let next = c.slide-tile.new.self in
-    let slide = slides s c.self.invariant c.args.mv to c.in_ok-to.ensures c.slide-tile.result c.slide-tile.ensures.tile in
+    let slide = slides s c.self.invariant c.args.mv to (on _ _ c.self.view_is c.args.mv _ c.in_ok-to.ensures) c.slide-tile.result c.slide-tile.ensures.tile in
     let at = c.slide-tile.ensures.board in
     let same = c.bundle.ensures ∙ ap (λ p. p.bundle) at in
     let told = subst (λ p. AreTold p.bundle p.board c.slide-tile.result c.judge.new.told) at c.in_default.ensures.told in
@@ -72,20 +77,20 @@ invariant_of-self-2 c =
     (subst (λ u. AreTallied u b s.tally) (sym same) c.self.invariant.tally)
     (subst (λ u. AreTold u after c.slide-tile.result c.judge.new.told) (sym same) told)
     (subst (λ u. AreLow u after 256) (sym same) (low_more v after (s.bound - s.margin) 256 (omega arith) low)) in
-    stored_next s c.self.invariant c.args.mv to c.in_ok-to.ensures next at c.exchange.new.tally (subst (λ u. AreTallied u after c.exchange.new.tally) same tally) low
+    stored_next s c.self.invariant c.args.mv to (on _ _ c.self.view_is c.args.mv _ c.in_ok-to.ensures) next at c.exchange.new.tally (subst (λ u. AreTallied u after c.exchange.new.tally) same tally) low
 
 pub slide-requires : goal.slide-requires
 slide-requires c =
     let s = c.self.inside in
     let to = c.in_ok-to.to in
     subst (λ p. Adjacent p.bundle.side (blank p.board) c.blank-from.result) (sym c.slide-tile.ensures.board)
-    (subst (Adjacent s.position.bundle.side (blank (slid s.position.board to))) (sym c.blank-from.ensures.cell) (near_back s c.self.invariant c.args.mv to c.in_ok-to.ensures))
+    (subst (Adjacent s.position.bundle.side (blank (slid s.position.board to))) (sym c.blank-from.ensures.cell) (near_back s c.self.invariant c.args.mv to (on _ _ c.self.view_is c.args.mv _ c.in_ok-to.ensures)))
 
 pub invariant_of-self : goal.invariant_of-self
 invariant_of-self c =
     let s = c.self.inside in
     let to = c.in_ok-to.to in
-    let back = position_back s c.self.invariant c.args.mv to c.in_ok-to.ensures c.slide-tile.new.self c.slide.new.self c.blank-from.result c.slide-tile.ensures.board c.blank-from.ensures.cell c.slide.ensures.board in
+    let back = position_back s c.self.invariant c.args.mv to (on _ _ c.self.view_is c.args.mv _ c.in_ok-to.ensures) c.slide-tile.new.self c.slide.new.self c.blank-from.result c.slide-tile.ensures.board c.blank-from.ensures.cell c.slide.ensures.board in
     stored_again s c.self.invariant c.slide.new.self back c.in-Some.set (subst (λ v. c.in-Some.set < length v.sets) (ap (λ p. p.bundle) c.slide-tile.ensures.board) c.in-Some.ensures.set)
 
 pub returns-clause-some : goal.returns-clause-some
@@ -96,7 +101,7 @@ returns-clause-some c =
     let b = s.position.board in
     let after = slid b to in
     let next = c.slide-tile.new.self in
-    let slide = slides s c.self.invariant c.args.mv to c.in_ok-to.ensures c.slide-tile.result c.slide-tile.ensures.tile in
+    let slide = slides s c.self.invariant c.args.mv to (on _ _ c.self.view_is c.args.mv _ c.in_ok-to.ensures) c.slide-tile.result c.slide-tile.ensures.tile in
     let at = c.slide-tile.ensures.board in
     let same = c.bundle.ensures ∙ ap (λ p. p.bundle) at in
     let told = subst (λ p. AreTold p.bundle p.board c.slide-tile.result c.judge.new.told) at c.in_default.ensures.told in
@@ -107,11 +112,11 @@ returns-clause-some c =
     (subst (λ u. AreTold u after c.slide-tile.result c.judge.new.told) (sym same) told)
     (subst (λ u. AreLow u after 256) (sym same) (low_more v after (s.bound - s.margin) 256 (omega arith) low)) in
     let small : s.bound ≤ 255 = omega arith in (
-      ap (λ w. moved w.board c.args.mv) (sym c.self.view_is) ∙ leads s c.self.invariant c.args.mv to c.in_ok-to.ensures ∙ ap (λ p. Some p.board) (sym at),
+      ap (λ w. moved w.board c.args.mv) (sym c.self.view_is) ∙ leads s c.self.invariant c.args.mv to (on _ _ c.self.view_is c.args.mv _ c.in_ok-to.ensures) ∙ ap (λ p. Some p.board) (sym at),
       ap (λ p. p.bundle) at ∙ ap (λ w. w.bundle) c.self.view_is,
       (let some = some_moves s c.self.invariant in let e : s.bound - 1 + 1 ≡ s.bound = omega arith in e ∙ ap (λ w. w.bound) c.self.view_is),
-      subst (λ w. IsSumStep w (sum_walk_shown (record { position = next; tally = c.exchange.new.tally; bound = s.bound - 1; margin = s.margin })) (record { from = c.blank-from.result; told = c.exchange.new.told })) c.self.view_is
-          (step_next s c.self.invariant c.args.mv to c.in_ok-to.ensures small next at c.exchange.new.tally c.slide-tile.result c.blank-from.result c.exchange.new.told c.slide-tile.ensures.tile c.blank-from.ensures.cell
+      subst (λ w. IsSumStep w (sum_walk_shown (record { position = next; ways = s.ways; tally = c.exchange.new.tally; bound = s.bound - 1; margin = s.margin })) (record { from = c.blank-from.result; told = c.exchange.new.told })) c.self.view_is
+          (step_next s c.self.invariant c.args.mv to (on _ _ c.self.view_is c.args.mv _ c.in_ok-to.ensures) small next at c.exchange.new.tally c.slide-tile.result c.blank-from.result c.exchange.new.told c.slide-tile.ensures.tile c.blank-from.ensures.cell
           (subst (λ u. AreTold u b c.slide-tile.result c.exchange.new.told) same before)),
     )
 
@@ -119,8 +124,8 @@ pub returns-in-Some-clause-none : goal.returns-in-Some-clause-none
 returns-in-Some-clause-none c =
     let s = c.self.inside in
     let to = c.in_ok-to.to in
-    let back = position_back s c.self.invariant c.args.mv to c.in_ok-to.ensures c.slide-tile.new.self c.slide.new.self c.blank-from.result c.slide-tile.ensures.board c.blank-from.ensures.cell c.slide.ensures.board in
+    let back = position_back s c.self.invariant c.args.mv to (on _ _ c.self.view_is c.args.mv _ c.in_ok-to.ensures) c.slide-tile.new.self c.slide.new.self c.blank-from.result c.slide-tile.ensures.board c.blank-from.ensures.cell c.slide.ensures.board in
     let goes = subst (λ p. GoesBeyond p.bundle p.board (s.bound - s.margin)) c.slide-tile.ensures.board c.in-Some.ensures.cut in (
       ap {B = ShownWalk} (λ p. record { bundle = p.bundle; board = p.board; bound = s.bound }) back ∙ c.self.view_is,
-      subst (λ w. LeadsNowhere w c.args.mv) c.self.view_is (beyond_nowhere s c.self.invariant c.args.mv to c.in_ok-to.ensures goes),
+      subst (λ w. LeadsNowhere w c.args.mv) c.self.view_is (beyond_nowhere s c.self.invariant c.args.mv to (on _ _ c.self.view_is c.args.mv _ c.in_ok-to.ensures) goes),
     )

@@ -6,7 +6,7 @@ use Rattle.puz_board.specs.declared.moves.Move.{Move}
 use Rattle.puz_board.specs.declared.moves.Move.TheVariants.{Up, Down, Left, Right}
 use Rattle.puz_board.proofs.CellLemmas.{few_cells}
 use Rattle.edge_words.specs.Words.{move_of}
-use Rattle.puz_walk.proofs.word_bundles.all_ways.Goals as goal
+use Rattle.puz_walk.proofs.ways.all_ways.Goals as goal
 
 -- the move of a last digit
 abbrev pick : ℕ → Move

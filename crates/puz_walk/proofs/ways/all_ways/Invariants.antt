@@ -1,7 +1,7 @@
 use Rattle.std.proofs.Common.{◌≡◌, ℕ, ◌<◌, ◌/◌, None, length, get_or}
 use Rattle.puz_board.specs.Cells.{step_of}
 use Rattle.edge_words.specs.Words.{move_of}
-use Rattle.puz_walk.proofs.word_bundles.all_ways.Given as goal
+use Rattle.puz_walk.proofs.ways.all_ways.Given as goal
 
 -- the places up to this one have the cells to which their moves lead
 abbrev pub invariant-loop-place : goal.invariant-loop-place
