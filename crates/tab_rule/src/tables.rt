@@ -111,6 +111,7 @@ impl<'a> CheckedTable<'a> {
     }
 
     /// As `look`, of the board whose numbers were found in these cells.
+    #[inline]
     pub fn look_in(&self, found: &[u8; 25]) -> Count
         requires { (board : List ℕ)
             × IsBoardOf self.now.pattern.side board × AreCellsOf found.now board }
@@ -144,11 +145,25 @@ impl<'a> CheckedTable<'a> {
         if pattern.width() > 1 && self.view.entry(standing.rank, 1) == NO_REGION {
             return 0;
         }
-        let blank = found[0];
-        match self.kept_slot(standing.occupied, blank) {
+        match self.kept_slot(standing.occupied, found[0]) {
             Some(slot) => slot,
-            None => slot_of(&Placement::of_cells(&pattern, found), blank),
+            None => self.flooded_slot(found),
         }
+    }
+
+    /// The same by a flood.
+    #[cold]
+    #[inline(never)]
+    fn flooded_slot(&self, found: &[u8; 25]) -> u8
+        requires placement { let cells = cells_found self.now.pattern.tiles found.now in
+            IsPlacement (record { pattern = self.now.pattern; cells = cells }) }
+        requires free { IsFree self.now.pattern.side (cells_found self.now.pattern.tiles found.now)
+            (slice_index found.now 0) }
+        ensures slot { IsSlot self.now.pattern.side (cells_found self.now.pattern.tiles found.now)
+            (slice_index found.now 0) result }
+        ensures below { result < slot_count self.now.pattern }
+    {
+        slot_of(&Placement::of_cells(&self.pattern(), found), found[0])
     }
 
     /// The entries, which are all bytes behind the header: rank by rank, and slot by slot for each rank.
