@@ -32,6 +32,7 @@ impl Part<'_> {
     }
 
     /// What the table tells of the board whose numbers were found in these cells.
+    #[inline]
     pub(crate) fn look_in(&self, found: &[u8; 25]) -> Count
         requires { (board : List ℕ)
             × IsBoardOf (part_pattern self.now).side board × AreCellsOf found.now board }
