@@ -12,8 +12,10 @@ use crate::answers::{Answer, joined};
 use crate::efforts::{Effort, Stop};
 use crate::guides::{Guide, Sets};
 use crate::nodes::Node;
+use crate::part_walks::search_part;
+use crate::prefixes::Prefix;
 use crate::searches::Search;
-use crate::walks::{Reached, search};
+use crate::walks::Reached;
 use puz_board::Board;
 use puz_walk::{SumWalk, Walk, WordWalk};
 
@@ -41,6 +43,7 @@ pub fn refute(guide: &Guide<'_>, board: &Board, bound: u8, budget: u64) -> Answe
         guide,
         board,
         bound,
+        prefix: Prefix::of_all(),
     };
     refute_node(&search, &search.first(), &mut Effort::within(budget))
 }
@@ -86,7 +89,7 @@ fn refute_by_walk<W: Walk>(
         automaton: task.guide.automaton(),
         state: node.state,
     };
-    match search(&mut reached, effort) {
+    match search_part(&mut reached, &node.prefix, effort) {
         Ok(()) => Answer::Refuted(budget - effort.left),
         Err(Stop::Solved) => {
             effort.letters.reverse();
