@@ -27,7 +27,7 @@ abbrev pub IsWhole : Search → ℕ → Answer → Type 0
 IsWhole s budget answer = IsPartAnswer (search_fails s) (most_boards s.bound) (solves_first s) budget answer
 
 -- what the search below the first node answers is that
-pub first_whole : (s : Search) (node : Node) → IsFirst s node → IsLed s node → (budget : ℕ) (answer : Answer) → IsPartAnswer (node_fails s node) (most_boards node.bound) (solves_below node) budget answer
+first_whole : (s : Search) (node : Node) → IsFirst s node → IsLed s node → (budget : ℕ) (answer : Answer) → IsPartAnswer (node_fails s node) (most_boards node.bound) (solves_below node) budget answer
     → IsWhole s budget answer
 first_whole s node first led budget answer part =
     let Says : Prefix → List ℕ → ℕ → ℕ → Type 0 = λ x b state r. IsPartAnswer (prefix_fails s.guide.now x r b state) (most_boards r) (solves_first s) budget answer in
@@ -91,14 +91,25 @@ whole_enough s budget low (Refuted boards) part e = cc
 whole_enough s budget low (Solved letters) part e = cc
 whole_enough s budget low Spent part e = let more : budget < most_boards s.bound = part.1 in omega arith
 
--- the same of what the search below the first node answers
-module _ (s : Search) (is : IsGuide s.guide.now) (read : IsRead s.prefix) (node : Node) (first : IsFirst s node) (led : IsLed s node) (budget : ℕ) (answer : Answer)
-    (part : IsPartAnswer (node_fails s node) (most_boards node.bound) (solves_below node) budget answer) where
-  pub first_answer : IsAnswer s.guide.now s.board.now s.bound budget answer
-  first_answer = all_answer s is read budget answer (first_whole s node first led budget answer part)
+-- ---- what the search below the first node answers
 
-  pub first_within : (boards : ℕ) → Fails s.guide.now s.bound s.board.now 0 boards → boards ≤ budget → answer ≡ Refuted boards
-  first_within boards fails low = all_within s is read budget boards fails low answer (first_whole s node first led budget answer part)
+module _ (s : Search) (is : IsGuide s.guide.now) (node : Node) (first : IsFirst s node) (led : IsLed s node) (budget : ℕ) (answer : Answer)
+    (below : IsPartAnswer (node_fails s node) (most_boards node.bound) (solves_below node) budget answer) where
+  -- of all moves
+  module _ (read : IsRead s.prefix) where
+    pub all_first : IsAnswer s.guide.now s.board.now s.bound budget answer
+    all_first = all_answer s is read budget answer (first_whole s node first led budget answer below)
+
+    pub all_first_within : (boards : ℕ) → Fails s.guide.now s.bound s.board.now 0 boards → boards ≤ budget → answer ≡ Refuted boards
+    all_first_within boards fails low = all_within s is read budget boards fails low answer (first_whole s node first led budget answer below)
+
+  -- of a part
+  module _ (p : ShownPart) (of_part : part_of s.prefix ≡ p) (ahead : s.prefix.ahead ≡ letters_of p) (rank : s.prefix.rank ≡ 0) where
+    pub part_first : IsAnswerOfPart s.guide.now p s.board.now s.bound budget answer
+    part_first = part_answer s is p of_part ahead rank budget answer (first_whole s node first led budget answer below)
+
+    pub part_first_within : (boards : ℕ) → SearchOfPartFails s.guide.now p s.bound s.board.now boards → boards ≤ budget → answer ≡ Refuted boards
+    part_first_within boards fails low = part_within s is p of_part ahead rank budget boards fails low answer (first_whole s node first led budget answer below)
 
 -- what holds of each answer holds of an `Ok`
 pub if_ok : (P Q : Answer → Type 0) → ((answer : Answer) → P answer → Q answer) → (r : Result Answer AllocError) → IfOk r P → IfOk r Q

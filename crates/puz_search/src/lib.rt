@@ -20,5 +20,5 @@ mod walks;
 pub use answers::{Answer, Letters};
 pub use deepening::{Deepened, shortest, shortest_by};
 pub use guides::Guide;
-pub use refuting::refute;
-pub use sharing::{PartBound, refute_by, refute_part_by};
+pub use refuting::{PartBound, refute, refute_part};
+pub use sharing::{refute_by, refute_part_by};

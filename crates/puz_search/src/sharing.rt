@@ -13,24 +13,14 @@ use crate::frontiers::frontier_of;
 use crate::guides::Guide;
 use crate::outcomes::{SearchNodes, settle};
 use crate::prefixes::Prefix;
-use crate::refuting::refute_node;
+use crate::refuting::{PartBound, refute_node};
 use crate::searches::Search;
-use move_strings::BoundPart;
 use puz_board::Board;
 use std::alloc::AllocError;
 use std::sync::atomic::{AtomicU64, AtomicUsize};
 use std::thread::Threads;
 use work_run::{Gate, Workers};
 use work_share::share;
-
-/// A part of a bound.
-#[derive(Clone, Copy, Debug, PartialEq, Eq)]
-pub struct PartBound {
-    /// Solutions of fewer moves are searched.
-    pub bound: u8,
-    /// Which of them are.
-    pub part: BoundPart,
-}
 
 /// A search that expands no more boards is over sooner than it is shared.
 const FEW_BOARDS: u64 = 1 << 16;
@@ -73,9 +63,7 @@ pub fn refute_by<R: Threads + Sync, G: Gate + Sync>(
     search_by(&search, budget, workers)
 }
 
-/// Searches the moves of a part of a bound, by these workers at once, as `refute_by` searches all moves.
-///
-/// The boards above the last letter that tells the part are searched for each part, and count for each.
+/// Searches as `refute_part` does, by these workers at once, as `refute_by` does.
 pub fn refute_part_by<R: Threads + Sync, G: Gate + Sync>(
     guide: &Guide<'_>,
     board: &Board,
