@@ -1,9 +1,10 @@
 //! The lines that answer claims, each kind of them as bytes, and the longest.
 
 use claim_text::{
-    LINE_LEN, Line, MOST_SOLUTION, MOST_WHAT, bound_line, optimal_line, read_claims, refused_line,
-    shorter_line,
+    LINE_LEN, Line, MOST_SOLUTION, MOST_WHAT, bound_line, claim_line, optimal_line, part_line,
+    read_claims, refused_line, shorter_line, told_index,
 };
+use move_strings::BoundPart;
 use puz_board::Board;
 use std::alloc::AllocGlobal;
 use std::process::Abort;
@@ -51,6 +52,65 @@ fn a_bound_is_told(rt: HostRuntime) {
 }
 
 #[test]
+fn a_part_of_a_bound_is_told(rt: HostRuntime) {
+    let lines: [(u16, u16, u8, &[u8], &str); 4] = [
+        (0, 1, 6, &[3, 2, 1, 0], "part 0/1 of bound 6 of 3 2 1 0\n"),
+        (2, 3, 0, &[0, 1, 2, 3], "part 2/3 of bound 0 of 0 1 2 3\n"),
+        (
+            62,
+            63,
+            255,
+            &[1, 0, 2, 3, 4, 5, 6, 7, 8],
+            "part 62/63 of bound 255 of 1 0 2 3 4 5 6 7 8\n",
+        ),
+        (
+            65_534,
+            65_535,
+            100,
+            &[3, 2, 1, 0],
+            "part 65534/65535 of bound 100 of 3 2 1 0\n",
+        ),
+    ];
+    for (index, count, bound, numbers, want) in lines {
+        let part = BoundPart::new(index, count).expect(&rt, "a part");
+        let told = part_line(part, bound, &board(&rt, numbers));
+        assert_eq!(rt; told.as_str(), want);
+    }
+}
+
+/// The index of the part that a line says to hold, of the bound 6 of `3 2 1 0` in so many parts.
+fn told(rt: &impl Abort, count: u16, line: &str) -> Option<u16> {
+    assert!(rt; count % 2 == 1);
+    told_index(line.as_bytes(), count, 6, &board(rt, &[3, 2, 1, 0]))
+}
+
+#[test]
+fn told_parts_are_those_of_one_board_and_bound_in_so_many_parts(rt: HostRuntime) {
+    for index in 0..63 {
+        let part = BoundPart::new(index, 63).expect(&rt, "a part");
+        let line = part_line(part, 6, &board(&rt, &[3, 2, 1, 0]));
+        assert_eq!(rt; told(&rt, 63, line.as_str()), Some(index));
+        assert_eq!(rt; told(&rt, 61, line.as_str()), None);
+    }
+    let line = "part 65534/65535 of bound 6 of 3 2 1 0\n";
+    assert_eq!(rt; told(&rt, 65_535, line), Some(65_534));
+    assert_eq!(rt;
+        told(&rt, 1, "part 0/1 of bound 6 of 3 2 1 0\n"),
+        Some(0)
+    );
+    for line in NOT_TOLD.split('|') {
+        assert_eq!(rt; told(&rt, 3, line), None, "{line}");
+    }
+}
+
+/// Lines that say nothing of the bound 6 of `3 2 1 0` in 3 parts, with a bar between them.
+const NOT_TOLD: &str = "|\n|part 0/3 of bound 6 of 3 2 1 0|part 0/3 of bound 6 of 3 2 1 0\r\n|part 3/3 of bound 6 of 3 2 1 0\n|\
+part 0/3 of bound 7 of 3 2 1 0\n|part 0/3 of bound 6 of 0 1 2 3\n|part 0/3 of bound 6 of 3 2 1 0 \n|part  0/3 of bound 6 of 3 2 1 0\n|\
+part 00/3 of bound 6 of 3 2 1 0\n|part 0/03 of bound 6 of 3 2 1 0\n|part 0/63 of bound 6 of 3 2 1 0\n|bound 6 of 3 2 1 0\n|\
+refused K1 of 3 2 1 0 : 6 part 0/3\n|3 2 1 0 : 6 part 0/3\n|part /3 of bound 6 of 3 2 1 0\n|part 0 of bound 6 of 3 2 1 0\n|\
+Part 0/3 of bound 6 of 3 2 1 0\n|part 65536/3 of bound 6 of 3 2 1 0\n|part 0/3 of bound 6 of 3 2 1 0\npart 1/3 of bound 6 of 3 2 1 0\n";
+
+#[test]
 fn a_shortest_solution_is_told(rt: HostRuntime) {
     let start = board(&rt, &[3, 2, 1, 0]);
     let goal = board(&rt, &[0, 1, 2, 3]);
@@ -69,11 +129,16 @@ fn a_shortest_solution_is_told(rt: HostRuntime) {
 
 #[test]
 fn a_shorter_solution_is_told(rt: HostRuntime) {
-    let lines: [(&[u8], &[u8], &str); 5] = [
+    let lines: [(&[u8], &[u8], &str); 6] = [
         (
             b"ULDRUL",
             b"3 2 1 0 : 7",
             "refused O2 by ULDRUL of 3 2 1 0 : 7\n",
+        ),
+        (
+            b"ULDRUL",
+            b"3 2 1 0 : 7 part 0/3",
+            "refused O2 by ULDRUL of 3 2 1 0 : 7 part 0/3\n",
         ),
         (
             b"ULDRUL",
@@ -95,8 +160,13 @@ fn a_shorter_solution_is_told(rt: HostRuntime) {
 
 #[test]
 fn a_refusal_is_told(rt: HostRuntime) {
-    let lines: [(&str, &[u8], &str); 4] = [
+    let lines: [(&str, &[u8], &str); 5] = [
         ("refused K1", b"3 2 1 0 : 7", "refused K1 of 3 2 1 0 : 7\n"),
+        (
+            "refused K1",
+            b"3 2 1 0:7\tpart 2/3\r",
+            "refused K1 of 3 2 1 0 : 7 part 2/3\n",
+        ),
         ("refused K2", b"3 2 1 0", "refused K2 of 3 2 1 0\n"),
         (
             "refused M2 at step 5",
@@ -147,8 +217,9 @@ fn the_longest_lines_have_room(rt: HostRuntime) -> Result<(), Fail> {
 
 #[test]
 fn what_stands_behind_of_is_the_claim(rt: HostRuntime) {
-    let lines: [&[u8]; 6] = [
+    let lines: [&[u8]; 7] = [
         b"3 2 1 0",
+        b"3 2 1 0 : 6 part 2/3",
         b"3 2 1 0 ; ULDRUL",
         b"3 2 1 0 : 6",
         b"0 1 2 3 ;",
@@ -162,5 +233,8 @@ fn what_stands_behind_of_is_the_claim(rt: HostRuntime) {
         assert_eq!(rt; board_of(&rt, words.as_bytes()), board_of(&rt, line));
         let again = refused(&rt, "refused K1", words.as_bytes());
         assert_eq!(rt; again.as_str(), told.as_str());
+        let claims = read_claims(rt.alloc(), line).ok().expect(&rt, "claims");
+        let written = claim_line(claims.first().expect(&rt, "a claim"));
+        assert_eq!(rt; Some(written.as_str()), words.strip_prefix(' '));
     }
 }

@@ -1,6 +1,7 @@
 //! Texts of claims of each form, each kind of line that is none, and the most claims.
 
 use claim_text::{Asks, ClaimsFault, MOST_CLAIMS, bound_line, read_claims};
+use move_strings::BoundPart;
 use puz_board::Board;
 use std::alloc::{AllocError, AllocGlobal, Global};
 use std::process::Abort;
@@ -48,6 +49,27 @@ fn claims_of_each_form_are_read(rt: HostRuntime) {
 }
 
 #[test]
+fn parts_of_bounds_are_read(rt: HostRuntime) {
+    let start = [3, 2, 1, 0];
+    let lines: [(&[u8], u8, u16, u16); 6] = [
+        (b"3 2 1 0 : 6 part 0/1", 6, 0, 1),
+        (b"3 2 1 0:6 part 2/3\n", 6, 2, 3),
+        (b"3 2 1 0 :\t255\tpart  62/63 \r\n", 255, 62, 63),
+        (b"3 2 1 0 : 6 part 1/63", 6, 1, 63),
+        (b"3 2 1 0 : 100 part 256/257", 100, 256, 257),
+        (b"3 2 1 0 : 0 part 65534/65535", 0, 65_534, 65_535),
+    ];
+    for (line, bound, index, count) in lines {
+        let part = BoundPart::new(index, count).expect(&rt, "a part");
+        assert_eq!(rt;
+            said(&rt, line, &start),
+            (true, Asks::Part(bound, part)),
+            "{line:?}"
+        );
+    }
+}
+
+#[test]
 fn claims_come_in_the_order_of_their_lines(rt: HostRuntime) {
     let claims = read_claims(rt.alloc(), b"3 2 1 0 ; ULDRUL\n3 2 1 0 : 6\n")
         .ok()
@@ -85,7 +107,13 @@ const NO_CLAIMS: &[u8] =
     b"|\r|3 2 1 0 # a remark|3 2 1 1|3 2 1 0 :|3 2 1 0 : |3 2 1 0 : 256|3 2 1 0 : 300|3 2 1 0 : 999|\
 3 2 1 0 : 1000|3 2 1 0 : 0006|3 2 1 0 : 06|3 2 1 0 : 00|3 2 1 0 : +6|3 2 1 0 : -6|3 2 1 0 : 6 7|3 2 1 0 : 1 0|\
 3 2 1 0 : 6 : 7|3 2 1 0 : 6x|3 2 1 0 : x6|3 2 1 0 : 6\x0c|3 2 1 0 : \xd9\xa6|3 2 1 0 : 6 ; ULDRUL|3 2 1 0 ; ULDRUL : 6|\
-3 2 1 0 ; ULX|3 2 1 0 ; uldrul|3 2 1 0 ; UL ; DRUL|; ULDRUL|: 6";
+3 2 1 0 ; ULX|3 2 1 0 ; uldrul|3 2 1 0 ; UL ; DRUL|; ULDRUL|: 6|3 2 1 0 : 6 part|3 2 1 0 : 6 part 0|3 2 1 0 : 6 part 0/2|\
+3 2 1 0 : 6 part 0/0|3 2 1 0 : 6 part 3/3|3 2 1 0 : 6 part 4/3|3 2 1 0 : 6 part 0/65536|3 2 1 0 : 6 part 0/65537|\
+3 2 1 0 : 6 part 65536/65537|3 2 1 0 : 6 part 0 /3|3 2 1 0 : 6 part 0/ 3|3 2 1 0 : 6 part 00/3|3 2 1 0 : 6 part 0/03|\
+3 2 1 0 : 6 part 1/|3 2 1 0 : 6 part /3|3 2 1 0 : 6 part 0/3/3|3 2 1 0 : 6 part 0/3 7|3 2 1 0 : 6 part 0/3 part 1/3|\
+3 2 1 0 : 6part 0/3|3 2 1 0 : 6 part0/3|3 2 1 0 : 6 Part 0/3|3 2 1 0 : 6 parts 0/3|3 2 1 0 : 6 par 0/3|3 2 1 0 : 256 part 0/3|\
+3 2 1 0 part 0/3|3 2 1 0 : part 0/3|3 2 1 0 : part 0/3 6|3 2 1 0 : 6 part -1/3|3 2 1 0 : 6 part +1/3|3 2 1 0 : 6 part 0x1/3|\
+3 2 1 0 : 6 part 0/3 ; ULDRUL|3 2 1 0 : 6 : part 0/3|: 6 part 0/3";
 
 #[test]
 fn lines_that_are_no_claims_are_refused(rt: HostRuntime) -> Result<(), Fail> {

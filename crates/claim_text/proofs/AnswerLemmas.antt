@@ -1,5 +1,5 @@
 -- The lines that answer claims.
-use Rattle.std.proofs.Common.{◌≡◌, ℕ, zero, suc, ◌+◌, ◌*◌, ◌/◌, ◌%◌, ◌<◌, ◌≤◌, Bool, true, false, List, [], ◌∷◌, ◌++◌, append_assoc, append-nil, None, cond, length, length-append, get_or, take, drop, eqb, ltb, not, refl, sym, ◌∙◌, ap, subst, arith, codes, decimal, inl, inr}
+use Rattle.std.proofs.Common.{◌≡◌, ℕ, zero, suc, ◌+◌, ◌*◌, ◌/◌, ◌%◌, ◌<◌, ◌≤◌, Bool, true, false, List, [], ◌∷◌, ◌++◌, append_assoc, append-nil, None, cond, length, length-append, get_or, take, drop, eqb, ltb, not, refl, sym, ◌∙◌, ap, subst, arith, codes, decimal, inl, inr, lit<}
 use Rattle.std.proofs.Math.Seq.{drop-cons}
 use Rattle.std.proofs.lemmas.Bool.{cases_lt, cond-false, cond-true, ne_eqb, not_from_false}
 use Rattle.std.proofs.lemmas.Fmt.{length-decimal-le}
@@ -8,15 +8,16 @@ use Rattle.std.proofs.lemmas.List.Concat.{flat_map-append}
 use Rattle.std.proofs.lemmas.List.Elements.{All-append, All-cons, All-nil, filter-append}
 use Rattle.std.proofs.lemmas.List.Sums.{AllPass-from_list_all}
 use Rattle.std.specs.Prelude.{is_some}
-use Rattle.std.specs.Fmt.{digit_glyph, digits, digits_onto}
-use Rattle.std.specs.List.{list_any}
-use Rattle.puz_board.specs.Boards.{IsBoard, at, side_of}
+use Rattle.std.specs.List.{list_all, list_any}
+use Rattle.puz_board.specs.Boards.{IsBoard, at, side_of, side_of_count}
 use Rattle.puz_board.specs.Cells.{move_of_letter}
 use Rattle.puz_board.specs.MovesTexts.{is_letter}
 use Rattle.puz_board.proofs.BoardLemmas.{cells_most}
-use Rattle.claim_text.specs.Claims.{HasNo, ShownAsks, ShownClaim, bound, letters, moves, shortest}
+use Rattle.move_strings.specs.BoundParts.{ShownPart}
+use Rattle.claim_text.specs.Claims.{HasNo, ShownAsks, ShownClaim, bound, letters, moves, part, part_words, shortest}
 use Rattle.claim_text.specs.Laws.{AnswersAreLines, AnswersBegin}
-use Rattle.claim_text.specs.Lines.{asks_words, bounded, claim_words, numbers, optimal, refused, shorter, spaced_letters}
+use Rattle.claim_text.specs.Lines.{asks_words, bounded, claim_words, numbers, optimal, part_bounded, refused, shorter, spaced_letters}
+use Rattle.claim_text.proofs.DecimalLemmas.{decimal-no}
 
 -- ---- how much room they take
 
@@ -37,28 +38,25 @@ numbers-more front b c within =
     (sym (ap numbers (take_more b c 0 within) ∙ flat_map-append (λ n. codes " " ++ decimal n) (take c b) (at b c ∷ []) ∙
     ap (λ text. numbers (take c b) ++ (codes " " ++ text)) (append-nil (decimal (at b c)))))
 
+-- no board is empty
+pub no_side : ¬ (2 ≤ side_of [])
+unfolding side_of_count
+no_side low = omega arith
+
+-- a board has a number, and so its words a space before them
+pub spaced_front : (b more : List ℕ) → IsBoard b → (rest : List ℕ) × (numbers b ++ more ≡ 32 ∷ rest)
+spaced_front [] more board = absurd (let low : 2 ≤ side_of [] = board.low in no_side low)
+spaced_front (n ∷ ns) more board = ((decimal n ++ numbers ns) ++ more, refl)
+
 -- ---- no LF but at the end
-
-glyph_other : (d : ℕ) → eqb (digit_glyph false d) 10 ≡ false
-glyph_other d = go (ltb d 10)
-  where
-    go : (b : Bool) → eqb (cond b (48 + d) (87 + d)) 10 ≡ false
-    go true = ne_eqb (48 + d) 10 (λ e. omega arith)
-    go false = ne_eqb (87 + d) 10 (λ e. omega arith)
-
-digits_onto-no_lf : (k n : ℕ) (acc : List ℕ) → HasNo 10 acc → HasNo 10 (digits_onto k 10 false n acc)
-digits_onto-no_lf zero n acc none = none
-digits_onto-no_lf (suc k) n acc none = go (eqb (n / 10) 0) (All-cons (λ b. not (eqb b 10) ≡ true) (digit_glyph false (n % 10)) acc (not_from_false (eqb (digit_glyph false (n % 10)) 10) (glyph_other (n % 10))) none) (digits_onto-no_lf k)
-  where
-    go : (b : Bool) → HasNo 10 (digit_glyph false (n % 10) ∷ acc) → ((m : ℕ) (acc : List ℕ) → HasNo 10 acc → HasNo 10 (digits_onto k 10 false m acc))
-        → HasNo 10 (cond b (digit_glyph false (n % 10) ∷ acc) (digits_onto k 10 false (n / 10) (digit_glyph false (n % 10) ∷ acc)))
-    go true more rest = more
-    go false more rest = rest (n / 10) (digit_glyph false (n % 10) ∷ acc) more
 
 -- a decimal has no LF
 pub decimal-no_lf : (n : ℕ) → HasNo 10 (decimal n)
-unfolding digits
-decimal-no_lf n = digits_onto-no_lf 64 n [] (All-nil (λ b. not (eqb b 10) ≡ true))
+decimal-no_lf n = decimal-no 10 n (lit< tt)
+
+-- a text that is known has none where that is computed
+known : (text : List ℕ) → list_all (λ b. not (eqb b 10)) text ≡ true → HasNo 10 text
+known text all = AllPass-from_list_all (λ b. not (eqb b 10)) text all
 
 -- two texts without an LF have none together
 pub join_no_lf : (a b : List ℕ) → HasNo 10 a → HasNo 10 b → HasNo 10 (a ++ b)
@@ -66,7 +64,7 @@ join_no_lf a b p q = All-append (λ byte. not (eqb byte 10) ≡ true) a b p q
 
 numbers-no_lf : (b : List ℕ) → HasNo 10 (numbers b)
 numbers-no_lf [] = All-nil (λ b. not (eqb b 10) ≡ true)
-numbers-no_lf (n ∷ b) = join_no_lf (codes " " ++ decimal n) (numbers b) (join_no_lf (codes " ") (decimal n) (AllPass-from_list_all (λ b. not (eqb b 10)) (codes " ") refl) (decimal-no_lf n)) (numbers-no_lf b)
+numbers-no_lf (n ∷ b) = join_no_lf (codes " " ++ decimal n) (numbers b) (join_no_lf (codes " ") (decimal n) (known (codes " ") refl) (decimal-no_lf n)) (numbers-no_lf b)
 
 letter_other : (x : ℕ) → is_letter x ≡ true → eqb x 10 ≡ false
 letter_other x e = ne_eqb x 10 (λ same. let no : false ≡ true = subst (λ n. is_letter n ≡ true) same e in cc)
@@ -83,13 +81,19 @@ spaced-no_lf : (text : List ℕ) → HasNo 10 (spaced_letters text)
 spaced-no_lf text = go (list_any is_letter text)
   where
     go : (b : Bool) → HasNo 10 (cond b (codes " " ++ letters text) [])
-    go true = join_no_lf (codes " ") (letters text) (AllPass-from_list_all (λ b. not (eqb b 10)) (codes " ") refl) (letters-no_lf text)
+    go true = join_no_lf (codes " ") (letters text) (known (codes " ") refl) (letters-no_lf text)
     go false = All-nil (λ b. not (eqb b 10) ≡ true)
+
+part-no_lf : (p : ShownPart) → HasNo 10 (part_words p)
+part-no_lf p = join_no_lf (decimal p.index ++ codes "/") (decimal p.count) (join_no_lf (decimal p.index) (codes "/") (decimal-no_lf p.index) (known (codes "/") refl)) (decimal-no_lf p.count)
 
 asks-no_lf : (asks : ShownAsks) → HasNo 10 (asks_words asks)
 asks-no_lf shortest = All-nil (λ b. not (eqb b 10) ≡ true)
-asks-no_lf (moves text) = join_no_lf (codes " ;") (spaced_letters text) (AllPass-from_list_all (λ b. not (eqb b 10)) (codes " ;") refl) (spaced-no_lf text)
-asks-no_lf (bound n) = join_no_lf (codes " : ") (decimal n) (AllPass-from_list_all (λ b. not (eqb b 10)) (codes " : ") refl) (decimal-no_lf n)
+asks-no_lf (moves text) = join_no_lf (codes " ;") (spaced_letters text) (known (codes " ;") refl) (spaced-no_lf text)
+asks-no_lf (bound n) = join_no_lf (codes " : ") (decimal n) (known (codes " : ") refl) (decimal-no_lf n)
+asks-no_lf (part n p) =
+    let bounded = join_no_lf (codes " : ") (decimal n) (known (codes " : ") refl) (decimal-no_lf n) in
+    join_no_lf (codes " : " ++ decimal n ++ codes " part ") (part_words p) (join_no_lf (codes " : " ++ decimal n) (codes " part ") bounded (known (codes " part ") refl)) (part-no_lf p)
 
 claim-no_lf : (claim : ShownClaim) → HasNo 10 (claim_words claim)
 claim-no_lf claim = join_no_lf (numbers claim.board) (asks_words claim.asks) (numbers-no_lf claim.board) (asks-no_lf claim.asks)
@@ -97,17 +101,21 @@ claim-no_lf claim = join_no_lf (numbers claim.board) (asks_words claim.asks) (nu
 -- behind `of`, whatever comes before it
 of_no_lf : (front words : List ℕ) → HasNo 10 front → HasNo 10 words → HasNo 10 (front ++ codes " of" ++ words)
 of_no_lf front words p q =
-    join_no_lf (front ++ codes " of") words (join_no_lf front (codes " of") p (AllPass-from_list_all (λ b. not (eqb b 10)) (codes " of") refl)) q
+    join_no_lf (front ++ codes " of") words (join_no_lf front (codes " of") p (known (codes " of") refl)) q
 
 -- a line that answers a claim has no LF before its end
 pub answer-no_lf : AnswersAreLines
-answer-no_lf (bounded n b) what = of_no_lf (codes "bound " ++ decimal n) (numbers b) (join_no_lf (codes "bound ") (decimal n) (AllPass-from_list_all (λ b. not (eqb b 10)) (codes "bound ") refl) (decimal-no_lf n)) (numbers-no_lf b)
+answer-no_lf (bounded n b) what = of_no_lf (codes "bound " ++ decimal n) (numbers b) (join_no_lf (codes "bound ") (decimal n) (known (codes "bound ") refl) (decimal-no_lf n)) (numbers-no_lf b)
+answer-no_lf (part_bounded p n b) what =
+    let one = join_no_lf (codes "part ") (part_words p) (known (codes "part ") refl) (part-no_lf p) in
+    let more = join_no_lf (codes "part " ++ part_words p) (codes " of bound ") one (known (codes " of bound ") refl) in
+    of_no_lf (codes "part " ++ part_words p ++ codes " of bound " ++ decimal n) (numbers b) (join_no_lf (codes "part " ++ part_words p ++ codes " of bound ") (decimal n) more (decimal-no_lf n)) (numbers-no_lf b)
 answer-no_lf (optimal n b text) what =
-    of_no_lf (codes "optimal " ++ decimal n) (claim_words (record { board = b; asks = moves text })) (join_no_lf (codes "optimal ") (decimal n) (AllPass-from_list_all (λ b. not (eqb b 10)) (codes "optimal ") refl) (decimal-no_lf n))
+    of_no_lf (codes "optimal " ++ decimal n) (claim_words (record { board = b; asks = moves text })) (join_no_lf (codes "optimal ") (decimal n) (known (codes "optimal ") refl) (decimal-no_lf n))
     (claim-no_lf (record { board = b; asks = moves text }))
 answer-no_lf (shorter solution claim) what =
     of_no_lf (codes "refused O2 by" ++ spaced_letters solution) (claim_words claim)
-    (join_no_lf (codes "refused O2 by") (spaced_letters solution) (AllPass-from_list_all (λ b. not (eqb b 10)) (codes "refused O2 by") refl) (spaced-no_lf solution)) (claim-no_lf claim)
+    (join_no_lf (codes "refused O2 by") (spaced_letters solution) (known (codes "refused O2 by") refl) (spaced-no_lf solution)) (claim-no_lf claim)
 answer-no_lf (refused what claim) none = of_no_lf what (claim_words claim) none (claim-no_lf claim)
 
 regroup : (a b c d e : List ℕ) → (((a ++ b) ++ c) ++ d) ++ e ≡ a ++ (b ++ (c ++ (d ++ e)))
@@ -119,6 +127,10 @@ regroup_four a b c d = simp append_assoc
 -- it begins as its kind says
 pub answer_begins : AnswersBegin
 answer_begins (bounded n b) = (decimal n ++ (codes " of" ++ (numbers b ++ codes "\n")), regroup (codes "bound ") (decimal n) (codes " of") (numbers b) (codes "\n"))
+answer_begins (part_bounded p n b) = (
+  part_words p ++ (codes " of bound " ++ (decimal n ++ (codes " of" ++ (numbers b ++ codes "\n")))),
+  simp append_assoc,
+)
 answer_begins (optimal n b text) =
     let words = claim_words (record { board = b; asks = moves text }) in
     (decimal n ++ (codes " of" ++ (words ++ codes "\n")), regroup (codes "optimal ") (decimal n) (codes " of") words (codes "\n"))

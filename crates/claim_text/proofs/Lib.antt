@@ -1,7 +1,10 @@
 pub mod AnswerLemmas
+mod BoundLemmas
 pub mod ClaimLemmas
 pub mod CutLemmas
+mod DecimalLemmas
 pub mod LetterLemmas
 mod NumeralLemmas
-mod PartLemmas
 pub mod ReadingLemmas
+pub mod ToldLemmas
+mod WordLemmas

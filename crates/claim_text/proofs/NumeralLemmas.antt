@@ -11,7 +11,7 @@ use Rattle.std.specs.Str.Parse.{ParsesUnsigned}
 -- what is no text is no number in decimal
 pub no_text : {E : Type 0} (digits : List ℕ) (r : Result (Bor (List ℕ)) E) (Fault : E → Type 0)
     → MatchResult r (λ s. (s.now ≡ digits) × IsUtf8 digits) (λ e. ¬ IsUtf8 digits × Fault e) → None ≡ result_ok r
-    → (n : ℕ) → n ≤ 255 → ¬ (digits ≡ decimal n)
+    → (n : ℕ) → n ≤ 65535 → ¬ (digits ≡ decimal n)
 no_text digits (Ok s) Fault says none n small e = absurd (let f : None ≡ Some s = none in cc)
 no_text digits (Err fault) Fault says none n small e = says.0 (subst IsUtf8 (sym e) (IsUtf8-from_ascii (decimal n) (IsAscii-decimal n (omega arith))))
 
@@ -25,9 +25,9 @@ same_text digits (Ok s) Fault t says e = ap now_of e ∙ says.0
     now_of (Some x) = x.now
 same_text digits (Err fault) Fault t says e = absurd (let f : Some t ≡ None = e in cc)
 
--- the decimal of a number from 0 to 255 is read as it
-pub read_decimal : {E : Type 0} (text : List ℕ) (r : Result ℕ E) (n : ℕ) → n ≤ 255 → text ≡ decimal n → ParsesUnsigned 8 10 text r → result_ok r ≡ Some n
-read_decimal text r n small e parsed = ap result_ok (parse-decimal 8 n text r (omega arith) (omega arith) e parsed)
+-- the decimal of a number from 0 to 65,535 is read as it
+pub read_decimal : {E : Type 0} (text : List ℕ) (r : Result ℕ E) (n : ℕ) → n ≤ 65535 → text ≡ decimal n → ParsesUnsigned 16 10 text r → result_ok r ≡ Some n
+read_decimal text r n small e parsed = ap result_ok (parse-decimal 16 n text r (omega arith) (omega arith) e parsed)
 
 pointwise_same : (a : List ℕ) → pointwise nat_eq a a ≡ true
 pointwise_same [] = refl

@@ -6,12 +6,13 @@ use Rattle.std.proofs.lemmas.List.Elements.{All-head, All-tail}
 use Rattle.std.specs.Prelude.{IfSome, Option, Some, None, is_some, map}
 use Rattle.std.proofs.lemmas.List.{take_more}
 use Rattle.std.specs.List.{All, AllZip}
-use Rattle.puz_board.specs.Boards.{IsBoard, side_of, side_of_count}
+use Rattle.puz_board.specs.Boards.{IsBoard, side_of}
 use Rattle.puz_board.specs.BoardTexts.{Spells, numbers_in}
-use Rattle.claim_text.specs.Claims.{IsClaim, IsClaimOf, IsNoClaim, ShownAsks, ShownClaim, bound, moves, shortest}
+use Rattle.claim_text.specs.Claims.{IsClaim, IsClaimOf, IsNoClaim, ShownAsks, ShownClaim, bound, moves, part, shortest}
 use Rattle.claim_text.specs.Laws.{ClaimsHaveNoFault, TextsHaveOneFault, TextsHaveOneReading}
 use Rattle.claim_text.specs.Lines.{AreFewLetters, HasFewLetters}
 use Rattle.claim_text.specs.Texts.{AreClaims, IsFirstNoClaim, SaysClaim, lines_of}
+use Rattle.claim_text.proofs.AnswerLemmas.{no_side}
 use Rattle.claim_text.proofs.ClaimLemmas.{no_shortest_claim, one_claim}
 
 same_claims : (lines : List (List ℕ)) (a b : List ShownClaim) → AllZip IsClaim lines a → AllZip IsClaim lines b → a ≡ b
@@ -79,6 +80,7 @@ few_letters_of : (line b : List ℕ) (asks : ShownAsks) → IsClaimOf line b ask
 few_letters_of line b shortest is = tt
 few_letters_of line b (moves text) is = is.moves.few
 few_letters_of line b (bound n) is = tt
+few_letters_of line b (part n p) is = tt
 
 -- a claim of a line has 1,000 letters at most
 pub few_letters : (line : List ℕ) (claim : ShownClaim) → IsClaim line claim → HasFewLetters claim
@@ -141,10 +143,6 @@ pub are_claims : (text : List ℕ) (count : ℕ) (claims : List ShownClaim) → 
 are_claims text count claims size some few all =
     let same = length-claims (lines_of text) claims all in
     record { lines = all; some = omega arith; few = omega arith }
-
-no_side : ¬ (2 ≤ side_of [])
-unfolding side_of_count
-no_side low = omega arith
 
 no_numbers : numbers_in [] ≡ []
 unfolding numbers_in

@@ -1,8 +1,9 @@
 -- The lines that answer claims.
-use Rattle.std.specs.Prelude.{ℕ, ◌≤◌, if◌then◌else◌, codes, decimal, flat_map, length, List, [], ◌++◌, ⊤}
+use Rattle.std.specs.Prelude.{ℕ, ◌≤◌, if◌then◌else◌, codes, decimal, drop, flat_map, length, List, [], ◌++◌, ⊤}
 use Rattle.std.specs.List.{list_any}
 use Rattle.puz_board.specs.MovesTexts.{is_letter}
-use Rattle.claim_text.specs.Claims.{HasNo, ShownAsks, ShownClaim, letters, shortest, moves, bound}
+use Rattle.move_strings.specs.BoundParts.{ShownPart}
+use Rattle.claim_text.specs.Claims.{HasNo, ShownAsks, ShownClaim, letters, part_words, shortest, moves, bound, part}
 
 -- ---- a claim in words
 
@@ -19,17 +20,23 @@ abbrev pub asks_words : ShownAsks → List ℕ
 asks_words shortest = []
 asks_words (moves text) = codes " ;" ++ spaced_letters text
 asks_words (bound n) = codes " : " ++ decimal n
+asks_words (part n p) = codes " : " ++ decimal n ++ codes " part " ++ part_words p
 
--- the claim behind the word `of`: " 3 2 1 0", " 3 2 1 0 ; ULDRUL" or " 3 2 1 0 : 6"
+-- the claim behind the word `of`: " 3 2 1 0", " 3 2 1 0 ; ULDRUL", " 3 2 1 0 : 6" or " 3 2 1 0 : 6 part 0/3"
 abbrev pub claim_words : ShownClaim → List ℕ
 claim_words claim = numbers claim.board ++ asks_words claim.asks
 
+-- its line, without a space before it
+abbrev pub claim_line : ShownClaim → List ℕ
+claim_line claim = drop 1 (claim_words claim) ++ codes "\n"
+
 -- ---- the answers
 
--- no solution of the board has fewer moves than this; these moves, so many of them, are a shortest solution of the board; this
--- solution shows that the claim is false; or this is why the claim is refused
+-- no solution of the board has fewer moves than this; this part of this bound of the board holds; these moves, so many of them,
+-- are a shortest solution of the board; this solution shows that the claim is false; or this is why the claim is refused
 pub data Told : Type 0 where
   bounded : ℕ → List ℕ → Told
+  part_bounded : ShownPart → ℕ → List ℕ → Told
   optimal : ℕ → List ℕ → List ℕ → Told
   shorter : List ℕ → ShownClaim → Told
   refused : List ℕ → ShownClaim → Told
@@ -37,6 +44,7 @@ pub data Told : Type 0 where
 -- the answer without the line's end
 abbrev pub told_text : Told → List ℕ
 told_text (bounded n b) = codes "bound " ++ decimal n ++ codes " of" ++ numbers b
+told_text (part_bounded p n b) = codes "part " ++ part_words p ++ codes " of bound " ++ decimal n ++ codes " of" ++ numbers b
 told_text (optimal n b text) = codes "optimal " ++ decimal n ++ codes " of" ++ claim_words (record { board = b; asks = moves text })
 told_text (shorter solution claim) = codes "refused O2 by" ++ spaced_letters solution ++ codes " of" ++ claim_words claim
 told_text (refused what claim) = what ++ codes " of" ++ claim_words claim
@@ -52,6 +60,7 @@ abbrev pub AreFewLetters : ShownAsks → Type 0
 AreFewLetters shortest = ⊤
 AreFewLetters (moves text) = length (letters text) ≤ 1000
 AreFewLetters (bound n) = ⊤
+AreFewLetters (part n p) = ⊤
 
 abbrev pub HasFewLetters : ShownClaim → Type 0
 HasFewLetters claim = AreFewLetters claim.asks
@@ -59,6 +68,7 @@ HasFewLetters claim = AreFewLetters claim.asks
 -- no LF, whose byte is 10, is in what a claim is refused for; of the other answers nothing is asked
 abbrev pub WhatHasNoLf : Told → Type 0
 WhatHasNoLf (bounded n b) = ⊤
+WhatHasNoLf (part_bounded p n b) = ⊤
 WhatHasNoLf (optimal n b text) = ⊤
 WhatHasNoLf (shorter solution claim) = ⊤
 WhatHasNoLf (refused what claim) = HasNo 10 what
@@ -66,6 +76,7 @@ WhatHasNoLf (refused what claim) = HasNo 10 what
 -- how the line begins
 abbrev pub beginning : Told → List ℕ
 beginning (bounded n b) = codes "bound "
+beginning (part_bounded p n b) = codes "part "
 beginning (optimal n b text) = codes "optimal "
 beginning (shorter solution claim) = codes "refused O2 by"
 beginning (refused what claim) = what

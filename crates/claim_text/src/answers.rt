@@ -1,16 +1,17 @@
 //! The lines that answer claims, as values.
 
-ghost use Rattle.std.specs.Prelude.{◌≡◌, ◌+◌, ◌≤◌, ◌++◌, codes, length};
+ghost use Rattle.std.specs.Prelude.{◌≡◌, ◌+◌, ◌≤◌, ◌++◌, codes, decimal, length};
 ghost use Rattle.arrayvec.specs.ArrayString.{array_string_len};
-ghost use Rattle.claim_text.specs.Claims.{letters};
-ghost use Rattle.claim_text.specs.Lines.{HasFewLetters, claim_words, numbers, spaced_letters, told_line};
-ghost use Rattle.claim_text.specs.Lines.{bounded, optimal, refused, shorter};
+ghost use Rattle.claim_text.specs.Claims.{letters, part_words};
+ghost use Rattle.claim_text.specs.Lines.{HasFewLetters, claim_line, claim_words, numbers, spaced_letters, told_line};
+ghost use Rattle.claim_text.specs.Lines.{bounded, optimal, part_bounded, refused, shorter};
 ghost use Rattle.claim_text.specs.Shown.{claim_shown};
 
 use crate::claims::{Asks, Claim};
 use crate::letters::{has_letters, is_letter};
 use arrayvec::ArrayString;
 use itoa::Buffer;
+use move_strings::BoundPart;
 use puz_board::Board;
 
 /// Room for the longest line: what a claim is refused for, ` of`, 25 numbers of two digits at most, ` ;`, the 1,000 letters of a
@@ -32,6 +33,21 @@ pub fn bound_line(bound: u8, board: &Board) -> Line
 {
     let mut line = Line::new();
     line.push_str("bound ");
+    line.push_str(Buffer::new().format(bound));
+    line.push_str(" of");
+    add_numbers(&mut line, board);
+    line.push_str("\n");
+    line
+}
+
+/// The line that says that a part of a bound of a board holds: `part 0/3 of bound 6 of 3 2 1 0`.
+pub fn part_line(part: BoundPart, bound: u8, board: &Board) -> Line
+    ensures { result.bytes ≡ told_line (part_bounded part bound board.now) }
+{
+    let mut line = Line::new();
+    line.push_str("part ");
+    add_part(&mut line, part);
+    line.push_str(" of bound ");
     line.push_str(Buffer::new().format(bound));
     line.push_str(" of");
     add_numbers(&mut line, board);
@@ -77,6 +93,22 @@ pub fn refused_line(what: &str, claim: &Claim<'_>) -> Line
     end_with(line, claim)
 }
 
+/// The line of a claim itself: `3 2 1 0 : 7`.
+pub fn claim_line(claim: &Claim<'_>) -> Line
+    requires { HasFewLetters (claim_shown claim.now) }
+    ensures { result.bytes ≡ claim_line (claim_shown claim.now) }
+{
+    // A board has a number, and so the line a space before it.
+    let _side = claim.board.side();
+    let spaced = with_claim(Line::new(), claim);
+    let Some(words) = spaced.as_str().strip_prefix(' ') else {
+        unreachable!();
+    };
+    let mut line = Line::new();
+    line.push_str(words);
+    line
+}
+
 /// A line ended with `of` and a claim.
 fn end_with(start: Line, claim: &Claim<'_>) -> Line
     requires room { array_string_len start ≤ MOST_WHAT }
@@ -85,6 +117,16 @@ fn end_with(start: Line, claim: &Claim<'_>) -> Line
 {
     let mut line = start;
     line.push_str(" of");
+    with_claim(line, claim)
+}
+
+/// A line ended with a claim.
+fn with_claim(start: Line, claim: &Claim<'_>) -> Line
+    requires room { array_string_len start ≤ MOST_WHAT + 3 }
+    requires claim { HasFewLetters (claim_shown claim.now) }
+    ensures { result.bytes ≡ start.bytes ++ claim_words (claim_shown claim.now) ++ codes "\n" }
+{
+    let mut line = start;
     add_numbers(&mut line, &claim.board);
     match claim.asks {
         Asks::Shortest => {}
@@ -92,9 +134,11 @@ fn end_with(start: Line, claim: &Claim<'_>) -> Line
             line.push_str(" ;");
             add_letters(&mut line, moves);
         }
-        Asks::Bound(bound) => {
-            line.push_str(" : ");
-            line.push_str(Buffer::new().format(bound));
+        Asks::Bound(bound) => add_bound(&mut line, bound),
+        Asks::Part(bound, part) => {
+            add_bound(&mut line, bound);
+            line.push_str(" part ");
+            add_part(&mut line, part);
         }
     }
     line.push_str("\n");
@@ -111,6 +155,27 @@ fn add_numbers(line: &mut Line, board: &Board)
         line.push_str(" ");
         line.push_str(Buffer::new().format(board.at(cell)));
     }
+}
+
+/// Adds a bound to a line, with its `:` before it.
+fn add_bound(line: &mut Line, bound: u8)
+    requires { array_string_len line.old + 6 ≤ LINE_LEN }
+    ensures bytes { line.new.bytes ≡ line.old.bytes ++ codes " : " ++ decimal bound }
+    ensures len { array_string_len line.new ≤ array_string_len line.old + 6 }
+{
+    line.push_str(" : ");
+    line.push_str(Buffer::new().format(bound));
+}
+
+/// Adds the words of a part to a line.
+fn add_part(line: &mut Line, part: BoundPart)
+    requires { array_string_len line.old + 11 ≤ LINE_LEN }
+    ensures bytes { line.new.bytes ≡ line.old.bytes ++ part_words part }
+    ensures len { array_string_len line.new ≤ array_string_len line.old + 11 }
+{
+    line.push_str(Buffer::new().format(part.index()));
+    line.push_str("/");
+    line.push_str(Buffer::new().format(part.count()));
 }
 
 /// Adds the letters of a moves text to a line, with a space before them where there are any.

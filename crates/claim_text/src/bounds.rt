@@ -1,65 +1,39 @@
-//! The numbers of claims on bounds.
+//! Bounds and their parts, as claims say them.
 
-ghost use Rattle.std.specs.Prelude.{◌≡◌, ◌≤◌, ◌<◌, ℕ, [], ◌∷◌, IfNone, IfSome, List, decimal, length, not, position};
-ghost use Rattle.puz_board.specs.BoardTexts.{is_separator, parts};
-ghost use Rattle.claim_text.specs.Claims.{SpellsBound};
+ghost use Rattle.std.specs.Prelude.{◌≡◌, ◌≤◌, ℕ, [], ◌∷◌, IfNone, IfSome, List, decimal};
+ghost use Rattle.puz_board.specs.BoardTexts.{parts};
+ghost use Rattle.move_strings.specs.BoundParts.{IsPart, ShownPart};
+ghost use Rattle.claim_text.specs.Claims.{ShownAsks, SpellsAsks, part_words};
+ghost use Rattle.claim_text.specs.Shown.{asks_shown};
 
-use crate::letters::is_separator;
-use itoa::Buffer;
-use std::str;
+use crate::claims::Asks;
+use crate::cuts::split_at;
+use crate::numerals::read_numeral;
+use crate::words::{only_word, split_word};
+use move_strings::BoundPart;
 
-/// The number from 0 to 255 that a text has between its separators, in decimal without a superfluous leading zero.
-pub(crate) fn read_bound(text: &[u8]) -> Option<u8>
-    ensures some { IfSome result (SpellsBound text.now) }
-    ensures none { IfNone result ((n : ℕ) → ¬ SpellsBound text.now n) }
+/// What a text behind the `:` of a claim says: a bound from 0 to 255, alone or with one of its parts.
+pub(crate) fn read_asks(text: &[u8]) -> Option<Asks<'_>>
+    ensures some { IfSome result (λ asks. SpellsAsks text.now (asks_shown asks)) }
+    ensures none { IfNone result ((asks : ShownAsks) → ¬ SpellsAsks text.now asks) }
 {
-    read_numeral(only_part(text)?)
-}
-
-/// What a text has between its separators, where that is in one piece.
-fn only_part(text: &[u8]) -> Option<&[u8]>
-    ensures some { IfSome result (λ part. parts text.now ≡ part.now ∷ []) }
-    ensures none { IfNone result ((part : List ℕ) → ¬ (parts text.now ≡ part ∷ [])) }
-{
-    let start = first_other(text)?;
-    let rest = &text[start..];
-    match first_separator(rest) {
-        None => Some(rest),
-        Some(end) => if first_other(&rest[end..]).is_none() {
-            Some(&rest[..end])
-        } else {
-            None
-        },
+    let (number, behind) = split_word(text)?;
+    let bound = u8::try_from(read_numeral(number)?).ok()?;
+    let Some((word, behind)) = split_word(behind) else {
+        return Some(Asks::Bound(bound));
+    };
+    if word != b"part".as_slice() {
+        return None;
     }
+    let part = read_part(only_word(behind)?)?;
+    Some(Asks::Part(bound, part))
 }
 
-/// The place of the first byte that is no separator.
-fn first_other(text: &[u8]) -> Option<usize>
-    ensures place { result ≡ position (λ b. not (is_separator b)) text.now }
-    ensures within { IfSome result (λ i. i < length text.now) }
+/// The part that these words say.
+fn read_part(words: &[u8]) -> Option<BoundPart>
+    ensures some { IfSome result (λ p. (words.now ≡ part_words p) × IsPart p) }
+    ensures none { IfNone result ((p : ShownPart) → IsPart p → ¬ (words.now ≡ part_words p)) }
 {
-    text.iter().position(|b| !is_separator(*b))
-}
-
-/// The place of the first separator.
-fn first_separator(text: &[u8]) -> Option<usize>
-    ensures place { result ≡ position is_separator text.now }
-    ensures within { IfSome result (λ i. i < length text.now) }
-{
-    text.iter().position(|b| is_separator(*b))
-}
-
-/// The number that these digits are the decimal of.
-fn read_numeral(digits: &[u8]) -> Option<u8>
-    ensures some { IfSome result (λ n. digits.now ≡ decimal n) }
-    ensures none { IfNone result ((n : ℕ) → n ≤ 255 → ¬ (digits.now ≡ decimal n)) }
-{
-    let text = str::from_utf8(digits).ok()?;
-    let number = text.parse::<u8>().ok()?;
-    // A sign and leading zeros are read as well.
-    if Buffer::new().format(number) == text {
-        Some(number)
-    } else {
-        None
-    }
+    let (index, count) = split_at(words, b'/')?;
+    BoundPart::new(read_numeral(index)?, read_numeral(count)?)
 }

@@ -2,13 +2,14 @@
 
 ghost use Rattle.std.specs.Prelude.{◌≡◌, ◌<◌, ℕ, List, IfNone, IfSome, length};
 ghost use Rattle.puz_board.specs.BoardTexts.{Spells};
-ghost use Rattle.claim_text.specs.Claims.{IsClaim, IsMovesText, IsNoClaim, SpellsBound};
+ghost use Rattle.claim_text.specs.Claims.{IsClaim, IsMovesText, IsNoClaim, ShownAsks, SpellsAsks};
 ghost use Rattle.claim_text.specs.Shown.{asks_shown, claim_shown};
-ghost use Rattle.claim_text.specs.Claims.{bound as asks_bound, moves as asks_moves, shortest};
+ghost use Rattle.claim_text.specs.Claims.{moves as asks_moves, shortest};
 
-use crate::bounds::read_bound;
+use crate::bounds::read_asks;
 use crate::cuts::split_at;
 use crate::letters::is_moves_text;
+use move_strings::BoundPart;
 use puz_board::Board;
 
 /// What a claim asks or says of the solutions of its board.
@@ -20,6 +21,8 @@ pub enum Asks<'a> {
     Moves(&'a [u8]),
     /// No solution has fewer moves than this.
     Bound(u8),
+    /// This part of this bound holds.
+    Part(u8, BoundPart),
 }
 
 /// A claim on the solutions of a board.
@@ -29,7 +32,7 @@ pub struct Claim<'a> {
     pub asks: Asks<'a>,
 }
 
-/// The claim that a line says: `BOARD ; MOVES`, `BOARD : N` or `BOARD`.
+/// The claim that a line says: `BOARD ; MOVES`, `BOARD : N`, `BOARD : N part I/K` or `BOARD`.
 pub(crate) fn read_claim(line: &[u8]) -> Option<Claim<'_>>
     ensures some { IfSome result (λ claim. IsClaim line.now (claim_shown claim)) }
     ensures none { IfNone result (IsNoClaim line.now) }
@@ -38,7 +41,7 @@ pub(crate) fn read_claim(line: &[u8]) -> Option<Claim<'_>>
         return moves_claim(board, moves);
     }
     match split_at(line, b':') {
-        Some((board, number)) => bound_claim(board, number),
+        Some((board, behind)) => colon_claim(board, behind),
         None => shortest_claim(line),
     }
 }
@@ -72,17 +75,16 @@ fn moves_claim<'a>(board: &'a [u8], moves: &'a [u8]) -> Option<Claim<'a>>
     })
 }
 
-/// The claim that no solution of a board text has fewer moves than a number's text says.
-fn bound_claim<'a>(board: &'a [u8], number: &'a [u8]) -> Option<Claim<'a>>
-    ensures some { IfSome result (λ claim. Spells board.now claim.board × (n : ℕ)
-        × SpellsBound number.now n × (asks_shown claim.asks ≡ asks_bound n)) }
-    ensures none { IfNone result ((b : List ℕ) (n : ℕ) → Spells board.now b
-        → ¬ SpellsBound number.now n) }
+/// The claim that a board text and what stands behind its `:` say.
+fn colon_claim<'a>(board: &'a [u8], behind: &'a [u8]) -> Option<Claim<'a>>
+    ensures some { IfSome result (λ claim. Spells board.now claim.board
+        × SpellsAsks behind.now (asks_shown claim.asks)) }
+    ensures none { IfNone result ((b : List ℕ) (asks : ShownAsks) → Spells board.now b
+        → ¬ SpellsAsks behind.now asks) }
 {
     let board = Board::read(board).ok()?;
-    let bound = read_bound(number)?;
-    Some(Claim {
-        board,
-        asks: Asks::Bound(bound),
-    })
+    match read_asks(behind) {
+        Some(asks) => Some(Claim { board, asks }),
+        None => None,
+    }
 }

@@ -21,7 +21,7 @@ pub fn answers_are_lines()
     ensures { AnswersAreLines }
 {}
 
-/// A line that answers a claim begins with `bound `, `optimal `, `refused O2 by` or what it is refused for.
+/// A line that answers a claim begins with `bound `, `part `, `optimal `, `refused O2 by` or what it is refused for.
 pub fn answers_begin()
     ensures { AnswersBegin }
 {}

@@ -8,12 +8,17 @@ mod cuts;
 mod faults;
 pub mod laws;
 mod letters;
+mod numerals;
 mod texts;
+mod told_parts;
+mod words;
 
 pub use answers::{
-    LINE_LEN, Line, MOST_SOLUTION, MOST_WHAT, bound_line, optimal_line, refused_line, shorter_line,
+    LINE_LEN, Line, MOST_SOLUTION, MOST_WHAT, bound_line, claim_line, optimal_line, part_line,
+    refused_line, shorter_line,
 };
 pub use claims::{Asks, Claim};
 pub use faults::ClaimsFault;
 pub use letters::MOST_MOVES;
 pub use texts::{MOST_CLAIMS, read_claims};
+pub use told_parts::told_index;

@@ -1,7 +1,7 @@
--- Least solutions, by length and then by letters, and the parts of a bound.
-use Rattle.std.specs.Prelude.{◌≡◌, ◌≢◌, ℕ, ◌<◌, ◌≤◌, false, List, length, Some}
+-- Least solutions, by length and then by letters.
+use Rattle.std.specs.Prelude.{◌≡◌, ℕ, ◌<◌, false, List, length, Some}
 use Rattle.puz_board.specs.Boards.{IsBoardOf, IsGoal}
-use Rattle.puz_board.specs.Paths.{IsSolution, board_after}
+use Rattle.puz_board.specs.Paths.{board_after}
 use Rattle.puz_board.specs.declared.moves.Move.{Move}
 use Rattle.move_strings.specs.Automata.{IsAutomaton, ShownAutomaton, refuses}
 use Rattle.move_strings.specs.Strings.{ComesBefore, HasForbidden}
@@ -27,10 +27,3 @@ abbrev pub AutomataKeepLeastSolutions : Type 0
 AutomataKeepLeastSolutions =
     (a : ShownAutomaton) → IsAutomaton a → (b : List ℕ) → IsBoardOf a.side b → (r : ℕ) (moves : List Move) → IsLeastSolution b r moves →
     refuses a.steps 0 moves ≡ false
-
--- Let each string of moves be of one of some parts. Where no part has a least solution of fewer than r moves, no solution has fewer.
-abbrev pub PartsGiveTheBound : Type 0
-PartsGiveTheBound =
-    (n : ℕ) (b : List ℕ) → IsBoardOf n b → (r parts : ℕ) (part : List Move → ℕ) → ((moves : List Move) → part moves < parts) →
-    ((i : ℕ) → i < parts → (moves : List Move) → IsLeastSolution b r moves → part moves ≢ i) →
-    (path : List ℕ) → IsSolution b path → r ≤ length path

@@ -1,5 +1,6 @@
 -- What public contracts say.
 pub mod Automata
+pub mod BoundParts
 pub mod Drafts
 pub mod Laws
 pub mod Least

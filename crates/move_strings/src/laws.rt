@@ -1,7 +1,8 @@
 //! Laws of forbidden strings. Each function here says what holds of every board, and does nothing.
 
+ghost use Rattle.move_strings.specs.BoundParts.{PartsGiveTheBound};
 ghost use Rattle.move_strings.specs.Laws.{AutomataKeepASolution, ForbiddenStringsNeedNotBeTried, TakingBackIsForbidden};
-ghost use Rattle.move_strings.specs.Least.{AutomataKeepLeastSolutions, LeastSolutionsHaveNoForbiddenString, PartsGiveTheBound};
+ghost use Rattle.move_strings.specs.Least.{AutomataKeepLeastSolutions, LeastSolutionsHaveNoForbiddenString};
 
 /// A board with a solution of fewer than r moves has one of fewer than r moves with none of the forbidden strings in it.
 pub fn forbidden_strings_need_not_be_tried()
@@ -28,8 +29,7 @@ pub fn automata_keep_least_solutions()
     ensures { AutomataKeepLeastSolutions }
 {}
 
-/// Where none of some parts, in one of which is each string of moves, has a least solution of fewer than r moves, no solution of
-/// the board has fewer.
+/// Where each of all parts of a bound holds, so does the bound: no solution of the board has fewer moves.
 pub fn parts_give_the_bound()
     ensures { PartsGiveTheBound }
 {}

@@ -2,6 +2,7 @@
 #![tactic(auto)]
 
 mod automata;
+mod bound_parts;
 mod drafts;
 mod effects;
 mod forbidden_strings;
@@ -9,6 +10,7 @@ pub mod laws;
 mod order;
 
 pub use automata::Automaton;
+pub use bound_parts::{BoundPart, MOST_PARTS};
 pub use drafts::{Draft, Step};
 pub use forbidden_strings::{Forbidden, are_forbidden};
 pub use order::rank_of_move;

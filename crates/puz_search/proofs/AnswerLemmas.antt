@@ -1,27 +1,22 @@
 -- What the answers of parts say of the whole search.
-use Rattle.std.proofs.Common.{◌≡◌, ℕ, ◌<◌, ◌≤◌, List, length, Result, Ok, Err, IfOk, sym, ap, subst, arith}
+use Rattle.std.proofs.Common.{◌≡◌, ℕ, ◌<◌, ◌≤◌, ◌↔◌, List, Result, Ok, Err, IfOk, sym, ap, subst, arith}
 use Rattle.std.specs.declared.alloc.AllocError.{AllocError}
 use Rattle.puz_board.specs.Boards.{IsBoard, IsBoardOf}
 use Rattle.puz_board.proofs.BoardLemmas.{side_of-board}
-use Rattle.puz_search.specs.Answers.{IsAnswer, IsShorter}
-use Rattle.puz_search.specs.Guides.{IsGuide, ShownGuide}
-use Rattle.puz_search.specs.Nodes.{IsFirst, IsLed, IsPartAnswer, node_fails, solves_below, solves_first}
-use Rattle.puz_search.specs.Searches.{Fails, most_boards}
+use Rattle.puz_search.specs.Answers.{IsAnswer, IsAnswerOfPart}
+use Rattle.puz_search.specs.Guides.{IsGuide}
+use Rattle.puz_search.specs.Nodes.{IsFirst, IsLed, IsPartAnswer, node_fails, search_fails, solves_below, solves_first}
+use Rattle.move_strings.specs.BoundParts.{ShownPart, letters_of}
+use Rattle.puz_search.specs.Prefixes.{IsRead, part_of, prefix_fails}
+use Rattle.puz_search.specs.Searches.{Fails, PartFails, SearchOfPartFails, most_boards}
 use Rattle.puz_search.specs.declared.answers.Answer.{Answer}
 use Rattle.puz_search.specs.declared.answers.Answer.TheVariants.{Refuted, Solved, Spent}
 use Rattle.puz_search.specs.declared.nodes.Node.{Node}
+use Rattle.puz_search.specs.declared.prefixes.Prefix.{Prefix}
 use Rattle.puz_search.specs.declared.searches.Search.{Search}
-use Rattle.puz_search.proofs.FailLemmas.{fails_once, fails_bounds}
+use Rattle.puz_search.proofs.FailLemmas.{fails_bounds, part_bounds, part_here, part_once}
 use Rattle.puz_search.proofs.NodeLemmas.{node_answer}
 use Rattle.puz_search.proofs.TrailLemmas.{trail_solves}
-
--- a search that fails finds no solution
-pub not_both : (g : ShownGuide) → IsGuide g → (r : ℕ) (b : List ℕ) (boards : ℕ) (letters : List ℕ) → IsBoardOf g.bundle.side b → Fails g r b 0 boards → ¬ IsShorter b r letters
-not_both g is r b boards letters good fails shorter =
-    let low : r ≤ length shorter.2.path = fails_bounds g is r b boards good fails shorter.2.path shorter.2.solution in
-    let count : length shorter.2.path ≡ shorter.0 = shorter.2.count in
-    let less : shorter.0 < r = shorter.1 in
-    omega arith
 
 -- the first board is a board
 is_board : (s : Search) → IsBoard s.board.now
@@ -29,29 +24,66 @@ is_board s = subst (λ n. IsBoardOf n s.board.now) (sym (side_of-board s.guide.n
 
 -- the answer of the whole search
 abbrev pub IsWhole : Search → ℕ → Answer → Type 0
-IsWhole s budget answer = IsPartAnswer (Fails s.guide.now s.bound s.board.now 0) (most_boards s.bound) (solves_first s) budget answer
+IsWhole s budget answer = IsPartAnswer (search_fails s) (most_boards s.bound) (solves_first s) budget answer
 
 -- what the search below the first node answers is that
-pub first_whole : (s : Search) (node : Node) → IsFirst s node → IsLed s node → (budget : ℕ) (answer : Answer) → IsPartAnswer (node_fails s node) (most_boards node.bound) (solves_below node) budget answer
+first_whole : (s : Search) (node : Node) → IsFirst s node → IsLed s node → (budget : ℕ) (answer : Answer) → IsPartAnswer (node_fails s node) (most_boards node.bound) (solves_below node) budget answer
     → IsWhole s budget answer
 first_whole s node first led budget answer part =
-    let Says : List ℕ → ℕ → ℕ → Type 0 = λ b state r. IsPartAnswer (Fails s.guide.now r b state) (most_boards r) (solves_first s) budget answer in
-    let is : Says node.board node.state node.bound = node_answer s node led (node_fails s node) (most_boards node.bound) budget answer part in
-    subst (Says s.board.now 0) first.bound (subst (λ a. Says s.board.now a node.bound) first.state (subst (λ b. Says b node.state node.bound) first.board is))
+    let Says : Prefix → List ℕ → ℕ → ℕ → Type 0 = λ x b state r. IsPartAnswer (prefix_fails s.guide.now x r b state) (most_boards r) (solves_first s) budget answer in
+    let is : Says node.prefix node.board node.state node.bound = node_answer s node led (node_fails s node) (most_boards node.bound) budget answer part in
+    subst (Says s.prefix s.board.now 0) first.bound (subst (λ a. Says s.prefix s.board.now a node.bound) first.state
+    (subst (λ b. Says s.prefix b node.state node.bound) first.board (subst (λ x. Says x node.board node.state node.bound) first.prefix is)))
 
-module _ (s : Search) (is : IsGuide s.guide.now) (budget : ℕ) where
+-- is refuted where the search fails within the budget
+whole_within : (s : Search) (budget boards : ℕ) → search_fails s boards → boards ≤ budget → (answer : Answer) → IsWhole s budget answer
+    → answer ≡ Refuted boards
+whole_within s budget boards fails low (Refuted other) part =
+    ap Refuted (part_once s.guide.now (part_of s.prefix) s.prefix.ahead s.prefix.rank s.bound s.board.now 0 other boards part.0 fails)
+whole_within s budget boards fails low (Solved letters) part = absurd (part.1 boards fails)
+whole_within s budget boards fails low Spent part = let more : budget < boards = part.0 boards fails in absurd (omega arith)
+
+-- ---- of all moves
+
+module _ (s : Search) (is : IsGuide s.guide.now) (read : IsRead s.prefix) (budget : ℕ) where
+  all_same : (n : ℕ) → search_fails s n ↔ Fails s.guide.now s.bound s.board.now 0 n
+  all_same n = part_here s.guide.now (part_of s.prefix) s.board.now 0 s.prefix.ahead s.prefix.rank s.bound read.0 (λ e. read.1) n
+
   -- says what it is to say
-  pub whole_answer : (answer : Answer) → IsWhole s budget answer → IsAnswer s.guide.now s.board.now s.bound budget answer
-  whole_answer (Refuted boards) part = (fails_bounds s.guide.now is s.bound s.board.now boards s.one_side part.0, part.0, part.1)
-  whole_answer (Solved letters) part = trail_solves s.board.now s.bound letters.items (is_board s) s.small part
-  whole_answer Spent part = part.0
+  pub all_answer : (answer : Answer) → IsWhole s budget answer → IsAnswer s.guide.now s.board.now s.bound budget answer
+  all_answer (Refuted boards) part =
+      let fails = (all_same boards).0 part.0 in (fails_bounds s.guide.now is s.bound s.board.now boards s.one_side fails, fails, part.1)
+  all_answer (Solved letters) part = trail_solves s.board.now s.bound letters.items (is_board s) s.small part.0
+  all_answer Spent part = λ boards fails. part.0 boards ((all_same boards).1 fails)
 
-  -- is refuted where the search fails within the budget
-  pub whole_within : (boards : ℕ) → Fails s.guide.now s.bound s.board.now 0 boards → boards ≤ budget → (answer : Answer) → IsWhole s budget answer → answer ≡ Refuted boards
-  whole_within boards fails low (Refuted other) part = ap Refuted (fails_once s.guide.now s.bound s.board.now 0 other boards part.0 fails)
-  whole_within boards fails low (Solved letters) part =
-      absurd (not_both s.guide.now is s.bound s.board.now boards letters.items s.one_side fails (trail_solves s.board.now s.bound letters.items (is_board s) s.small part))
-  whole_within boards fails low Spent part = let more : budget < boards = part.0 boards fails in absurd (omega arith)
+  pub all_within : (boards : ℕ) → Fails s.guide.now s.bound s.board.now 0 boards → boards ≤ budget → (answer : Answer) → IsWhole s budget answer
+      → answer ≡ Refuted boards
+  all_within boards fails low answer part = whole_within s budget boards ((all_same boards).1 fails) low answer part
+
+-- ---- of a part
+
+module _ (s : Search) (is : IsGuide s.guide.now) (p : ShownPart) (of_part : part_of s.prefix ≡ p) (ahead : s.prefix.ahead ≡ letters_of p) (rank : s.prefix.rank ≡ 0) (budget : ℕ) where
+  part_same : (n : ℕ) → search_fails s n ↔ SearchOfPartFails s.guide.now p s.bound s.board.now n
+  part_same n = (
+    λ h. subst (λ k. PartFails s.guide.now p (letters_of p) k s.bound s.board.now 0 n) rank
+        (subst (λ k. PartFails s.guide.now p k s.prefix.rank s.bound s.board.now 0 n) ahead
+        (subst (λ k. PartFails s.guide.now k s.prefix.ahead s.prefix.rank s.bound s.board.now 0 n) of_part h)),
+    λ h. subst (λ k. PartFails s.guide.now k s.prefix.ahead s.prefix.rank s.bound s.board.now 0 n) (sym of_part)
+        (subst (λ k. PartFails s.guide.now p k s.prefix.rank s.bound s.board.now 0 n) (sym ahead)
+        (subst (λ k. PartFails s.guide.now p (letters_of p) k s.bound s.board.now 0 n) (sym rank) h)),
+  )
+
+  pub part_answer : (answer : Answer) → IsWhole s budget answer → IsAnswerOfPart s.guide.now p s.board.now s.bound budget answer
+  part_answer (Refuted boards) part =
+      let fails = (part_same boards).0 part.0 in (part_bounds s.guide.now is p s.bound s.board.now boards s.one_side fails, fails, part.1)
+  part_answer (Solved letters) part = trail_solves s.board.now s.bound letters.items (is_board s) s.small part.0
+  part_answer Spent part = λ boards fails. part.0 boards ((part_same boards).1 fails)
+
+  pub part_within : (boards : ℕ) → SearchOfPartFails s.guide.now p s.bound s.board.now boards → boards ≤ budget → (answer : Answer) → IsWhole s budget answer
+      → answer ≡ Refuted boards
+  part_within boards fails low answer part = whole_within s budget boards ((part_same boards).1 fails) low answer part
+
+-- ---- of either
 
 -- isn't spent where the budget is large enough
 pub whole_enough : (s : Search) (budget : ℕ) → most_boards s.bound ≤ budget → (answer : Answer) → IsWhole s budget answer → answer ≡ Spent → ⊥
@@ -59,14 +91,25 @@ whole_enough s budget low (Refuted boards) part e = cc
 whole_enough s budget low (Solved letters) part e = cc
 whole_enough s budget low Spent part e = let more : budget < most_boards s.bound = part.1 in omega arith
 
--- the same of what the search below the first node answers
-module _ (s : Search) (is : IsGuide s.guide.now) (node : Node) (first : IsFirst s node) (led : IsLed s node) (budget : ℕ) (answer : Answer)
-    (part : IsPartAnswer (node_fails s node) (most_boards node.bound) (solves_below node) budget answer) where
-  pub first_answer : IsAnswer s.guide.now s.board.now s.bound budget answer
-  first_answer = whole_answer s is budget answer (first_whole s node first led budget answer part)
+-- ---- what the search below the first node answers
 
-  pub first_within : (boards : ℕ) → Fails s.guide.now s.bound s.board.now 0 boards → boards ≤ budget → answer ≡ Refuted boards
-  first_within boards fails low = whole_within s is budget boards fails low answer (first_whole s node first led budget answer part)
+module _ (s : Search) (is : IsGuide s.guide.now) (node : Node) (first : IsFirst s node) (led : IsLed s node) (budget : ℕ) (answer : Answer)
+    (below : IsPartAnswer (node_fails s node) (most_boards node.bound) (solves_below node) budget answer) where
+  -- of all moves
+  module _ (read : IsRead s.prefix) where
+    pub all_first : IsAnswer s.guide.now s.board.now s.bound budget answer
+    all_first = all_answer s is read budget answer (first_whole s node first led budget answer below)
+
+    pub all_first_within : (boards : ℕ) → Fails s.guide.now s.bound s.board.now 0 boards → boards ≤ budget → answer ≡ Refuted boards
+    all_first_within boards fails low = all_within s is read budget boards fails low answer (first_whole s node first led budget answer below)
+
+  -- of a part
+  module _ (p : ShownPart) (of_part : part_of s.prefix ≡ p) (ahead : s.prefix.ahead ≡ letters_of p) (rank : s.prefix.rank ≡ 0) where
+    pub part_first : IsAnswerOfPart s.guide.now p s.board.now s.bound budget answer
+    part_first = part_answer s is p of_part ahead rank budget answer (first_whole s node first led budget answer below)
+
+    pub part_first_within : (boards : ℕ) → SearchOfPartFails s.guide.now p s.bound s.board.now boards → boards ≤ budget → answer ≡ Refuted boards
+    part_first_within boards fails low = part_within s is p of_part ahead rank budget boards fails low answer (first_whole s node first led budget answer below)
 
 -- what holds of each answer holds of an `Ok`
 pub if_ok : (P Q : Answer → Type 0) → ((answer : Answer) → P answer → Q answer) → (r : Result Answer AllocError) → IfOk r P → IfOk r Q

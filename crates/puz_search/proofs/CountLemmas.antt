@@ -4,10 +4,11 @@ use Rattle.std.proofs.lemmas.List.{append-nil}
 use Rattle.std.proofs.lemmas.List.Elements.{All-nil, All-append, All-cons}
 use Rattle.puz_search.specs.Frontiers.{Adds, IsMore, all_fail, most_of}
 use Rattle.puz_search.specs.Nodes.{IsLed, node_fails}
+use Rattle.puz_search.specs.Prefixes.{part_of}
 use Rattle.puz_search.specs.Searches.{InTurn, most_boards}
 use Rattle.puz_search.specs.declared.nodes.Node.{Node}
 use Rattle.puz_search.specs.declared.searches.Search.{Search}
-use Rattle.puz_search.proofs.FailLemmas.{fails_few, fails_once, once_both}
+use Rattle.puz_search.proofs.FailLemmas.{once_both, part_few, part_once}
 
 -- ---- counts
 
@@ -105,16 +106,22 @@ module _ (s : Search) where
   most_append [] ys = omega arith
   most_append (x ∷ xs) ys = let rest = most_append xs ys in omega arith
 
+  pub node_once : (x : Node) (m n : ℕ) → node_fails s x m → node_fails s x n → m ≡ n
+  node_once x m n h k = part_once s.guide.now (part_of x.prefix) x.prefix.ahead x.prefix.rank x.bound x.board x.state m n h k
+
+  pub node_few : (x : Node) (n : ℕ) → node_fails s x n → n ≤ most_boards x.bound
+  node_few x n h = part_few s.guide.now (part_of x.prefix) x.prefix.ahead x.prefix.rank x.bound x.board x.state n h
+
   -- they fail with one count
   pub all_once : (xs : List Node) (m n : ℕ) → all_fail s xs m → all_fail s xs n → m ≡ n
   all_once [] m n h k = omega arith
-  all_once (x ∷ xs) m n h k = once_both (node_fails s x) (all_fail s xs) (fails_once s.guide.now x.bound x.board x.state) (all_once xs) m n h k
+  all_once (x ∷ xs) m n h k = once_both (node_fails s x) (all_fail s xs) (node_once x) (all_once xs) m n h k
 
   -- and expand no more than the most
   pub all_few : (xs : List Node) (n : ℕ) → all_fail s xs n → n ≤ most_of xs
   all_few [] n h = omega arith
   all_few (x ∷ xs) n h =
-      let a = fails_few s.guide.now x.bound x.board x.state h.0 h.2 in
+      let a = node_few x h.0 h.2 in
       let b = all_few xs h.1 h.3 in
       let e : n ≡ h.0 + h.1 = h.4 in
       omega arith

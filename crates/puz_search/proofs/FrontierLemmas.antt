@@ -5,11 +5,13 @@ use Rattle.std.proofs.lemmas.List.{take_more}
 use Rattle.std.specs.List.{All}
 use Rattle.std.proofs.lemmas.List.Elements.{All-cons, All-nil}
 use Rattle.puz_search.specs.Frontiers.{Adds, IsFrontier, IsMore, all_fail, most_of}
-use Rattle.puz_search.specs.Nodes.{IsFirst, IsLed, IsPartAnswer, node_fails, solves_first}
-use Rattle.puz_search.specs.Searches.{Fails, InTurn, most_boards}
+use Rattle.puz_search.specs.Nodes.{IsFirst, IsLed, IsPartAnswer, node_fails, search_fails, solves_first}
+use Rattle.puz_search.specs.Prefixes.{prefix_fails}
+use Rattle.puz_search.specs.Searches.{InTurn, most_boards}
 use Rattle.puz_search.specs.declared.answers.Answer.TheVariants.{Spent}
 use Rattle.puz_search.specs.declared.frontiers.Frontier.{Frontier}
 use Rattle.puz_search.specs.declared.nodes.Node.{Node}
+use Rattle.puz_search.specs.declared.prefixes.Prefix.{Prefix}
 use Rattle.puz_search.specs.declared.searches.Search.{Search}
 use Rattle.puz_search.proofs.CountLemmas.{adds_as, adds_both, all_append, all_few, all_once, all_one, all_push, more_then, most_append}
 
@@ -49,6 +51,17 @@ module _ (s : Search) where
       subst (λ ys. IsPartAnswer (all_fail s ys) (most_of ys) (solves_first s) budget Spent) (split_at xs n node low is)
       (spent_at (take n xs) node (drop (suc n) xs) m left budget before e more few)
 
+module _ (s : Search) where
+  -- where a node has a solution not all nodes fail
+  solved_at : (xs : List Node) (node : Node) (ys : List Node) → ((boards : ℕ) → ¬ node_fails s node boards) → (boards : ℕ)
+      → ¬ all_fail s (xs ++ node ∷ ys) boards
+  solved_at xs node ys not boards h = let both = (all_append s xs (node ∷ ys)).back boards boards h (omega arith) in not both.3.0 both.3.2
+
+  pub solved_in : (xs : List Node) (n : ℕ) (node : Node) → n < length xs → node ≡ get_or xs n node → ((boards : ℕ) → ¬ node_fails s node boards)
+      → (boards : ℕ) → ¬ all_fail s xs boards
+  solved_in xs n node low is not =
+      subst (λ ys. (boards : ℕ) → ¬ all_fail s ys boards) (split_at xs n node low is) (solved_at (take n xs) node (drop (suc n) xs) not)
+
 -- ---- levels
 
 -- nothing is added where a board isn't expanded
@@ -68,12 +81,16 @@ module _ (s : Search) where
   -- the first level is the node of the first board
   pub frontier_first : (node : Node) (frontier : Frontier) → IsFirst s node → IsLed s node → frontier.nodes.items ≡ node ∷ [] → frontier.expanded ≡ 0 → IsFrontier s frontier
   frontier_first node frontier first led items none =
-      let Says : List ℕ → ℕ → ℕ → Type 0 = λ b state r. IsMore (Fails s.guide.now r b state) (all_fail s (node ∷ [])) 0 in
-      let counts : Says s.board.now 0 s.bound = subst (Says s.board.now 0) first.bound (subst (λ a. Says s.board.now a node.bound) first.state (subst (λ b. Says b node.state node.bound) first.board (all_one s node))) in
+      let Says : Prefix → List ℕ → ℕ → ℕ → Type 0 = λ x b state r. IsMore (prefix_fails s.guide.now x r b state) (all_fail s (node ∷ [])) 0 in
+      let counts : Says s.prefix s.board.now 0 s.bound =
+      subst (Says s.prefix s.board.now 0) first.bound (subst (λ a. Says s.prefix s.board.now a node.bound) first.state
+      (subst (λ b. Says s.prefix b node.state node.bound) first.board (subst (λ x. Says x node.board node.state node.bound) first.prefix (all_one s node)))) in
       let most : most_of frontier.nodes.items ≡ most_boards node.bound + 0 = ap most_of items in
       let same : most_boards node.bound ≡ most_boards s.bound = ap most_boards first.bound in
       record {
-        counts = subst (IsMore (Fails s.guide.now s.bound s.board.now 0) (all_fail s frontier.nodes.items)) (sym none) (subst (λ xs. IsMore (Fails s.guide.now s.bound s.board.now 0) (all_fail s xs) 0) (sym items) counts);
+        counts =
+            subst (IsMore (search_fails s) (all_fail s frontier.nodes.items)) (sym none)
+            (subst (λ xs. IsMore (search_fails s) (all_fail s xs) 0) (sym items) counts);
         few = omega arith;
         led = subst (All (IsLed s)) (sym items) (All-cons (IsLed s) node [] led (All-nil (IsLed s)));
       }
@@ -84,8 +101,8 @@ module _ (s : Search) where
       let added : after.nodes.items ≡ adds.added = adds.items in
       let most : most_of after.nodes.items ≡ most_of adds.added = ap most_of added in
       record {
-        counts = subst (λ xs. IsMore (Fails s.guide.now s.bound s.board.now 0) (all_fail s xs) after.expanded) (sym added)
-            (more_then (Fails s.guide.now s.bound s.board.now 0) (all_fail s before.nodes.items) (all_fail s adds.added) before.expanded x after.expanded e is.counts adds.counts);
+        counts = subst (λ xs. IsMore (search_fails s) (all_fail s xs) after.expanded) (sym added)
+            (more_then (search_fails s) (all_fail s before.nodes.items) (all_fail s adds.added) before.expanded x after.expanded e is.counts adds.counts);
         few = let few = is.few in let less = adds.few in omega arith;
         led = subst (All (IsLed s)) (sym added) adds.led;
       }

@@ -6,5 +6,6 @@ mod FailLemmas
 mod FrontierLemmas
 mod NodeLemmas
 mod OutcomeLemmas
+mod PrefixLemmas
 mod TrailLemmas
 mod WalkLemmas

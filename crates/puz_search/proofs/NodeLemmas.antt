@@ -1,24 +1,25 @@
 -- Nodes, the moves that lead to them, and what the searches below them answer.
-use Rattle.std.proofs.Common.{◌≡◌, ℕ, ◌+◌, ◌-◌, ◌*◌, ◌≤◌, ◌↔◌, false, List, [], ◌∷◌, ◌++◌, Option, Some, IfSome, refl, sym, ap, subst, append_assoc, eq-eqb, arith}
+use Rattle.std.proofs.Common.{◌≡◌, ℕ, ◌+◌, ◌-◌, ◌*◌, ◌≤◌, ◌↔◌, ◌⊎◌, inl, inr, false, List, [], ◌∷◌, ◌++◌, Option, Some, IfSome, refl, sym, ap, subst, append_assoc, eq-eqb, arith}
 use Rattle.puz_board.specs.Boards.{IsGoal, moved}
 use Rattle.puz_board.specs.Cells.{move_of_letter}
 use Rattle.puz_board.specs.declared.moves.Move.{Move}
 use Rattle.puz_board.specs.declared.moves.Move.TheVariants.{Up, Down, Left, Right}
 use Rattle.puz_search.specs.Frontiers.{Adds, IsMore, child_fails_of}
-use Rattle.puz_search.specs.Guides.{automaton_of}
+use Rattle.puz_search.specs.Guides.{ShownGuide, automaton_of}
 use Rattle.puz_search.specs.Nodes.{IsLed, IsPartAnswer, node_fails, solves_below, solves_first, walk_to}
 use Rattle.puz_search.specs.Openness.{IsWalkTo}
-use Rattle.puz_search.specs.Outcomes.{IsTrail, bound_at, fails_at, guide_at, walk_at}
+use Rattle.puz_search.specs.Prefixes.{IsInside, IsOutside, next_ahead, next_rank, part_of}
+use Rattle.puz_search.specs.Outcomes.{IsTrail, bound_at, guide_at, prefix_fails_at, walk_at}
 use Rattle.move_strings.specs.Automata.{left_out, next_at}
 use Rattle.puz_walk.specs.Walks.{IsClosed, IsCutOff, ShownWalk}
-use Rattle.puz_search.specs.Searches.{Fails, InTurn, leaves_out, most_boards}
+use Rattle.puz_search.specs.Searches.{InTurn, PartFails, leaves_out, most_boards}
 use Rattle.puz_search.specs.declared.answers.Answer.{Answer}
 use Rattle.puz_search.specs.declared.answers.Answer.TheVariants.{Refuted, Solved, Spent}
 use Rattle.puz_search.specs.declared.nodes.Node.{Node}
 use Rattle.puz_search.specs.declared.searches.Search.{Search}
 use Rattle.puz_search.specs.declared.walks.Reached.{Reached}
 use Rattle.puz_search.proofs.CountLemmas.{adds_as, adds_both}
-use Rattle.puz_search.proofs.FailLemmas.{at_child, at_out, fails_closed, fails_open}
+use Rattle.puz_search.proofs.FailLemmas.{at_child, at_out, part_closed, part_open, part_outside}
 use Rattle.puz_search.proofs.TrailLemmas.{trail_move}
 use Rattle.puz_search.proofs.WalkLemmas.{most_open}
 
@@ -33,7 +34,7 @@ led_after s node move next letter text led some leads names trail =
 pub node_answer : (s : Search) (node : Node) → IsLed s node → (Part : ℕ → Type 0) (most budget : ℕ) (answer : Answer) → IsPartAnswer Part most (solves_below node) budget answer
     → IsPartAnswer Part most (solves_first s) budget answer
 node_answer s node led Part most budget (Refuted boards) is = is
-node_answer s node led Part most budget (Solved letters) is = subst (IsTrail s.board.now s.bound) (sym is.2) (led.leads is.0 is.1)
+node_answer s node led Part most budget (Solved letters) is = (subst (IsTrail s.board.now s.bound) (sym is.0.2) (led.leads is.0.0 is.0.1), is.1)
 node_answer s node led Part most budget Spent is = is
 
 -- ---- a node that is reached
@@ -58,58 +59,92 @@ module _ {W : Type 0} (shown : W → ShownWalk) (s : Search) (node : Node) (reac
   reached_guide = let bundle = ap (λ w. w.bundle) is.walk in let steps = ap (λ a. a.steps) is.automaton in λ i. record { bundle = bundle i; steps = steps i }
 
   -- the search from there is that below the node
-  pub reached_fails : (n : ℕ) → fails_at shown reached n ↔ node_fails s node n
-  reached_fails n = (
-    λ h. subst (λ g. Fails g node.bound node.board node.state n) reached_guide
-        (subst (λ w. Fails (guide_at shown reached) w.bound w.board node.state n) is.walk (subst (λ a. Fails (guide_at shown reached) (bound_at shown reached) (walk_at shown reached).board a n) is.state h)),
-    λ h. subst (λ a. Fails (guide_at shown reached) (bound_at shown reached) (walk_at shown reached).board a n) (sym is.state)
-        (subst (λ w. Fails (guide_at shown reached) w.bound w.board node.state n) (sym is.walk) (subst (λ g. Fails g node.bound node.board node.state n) (sym reached_guide) h)),
-  )
+  pub reached_fails : (n : ℕ) → prefix_fails_at shown node.prefix reached n ↔ node_fails s node n
+  reached_fails n =
+      let Says : ShownGuide → ShownWalk → ℕ → Type 0 = λ g w a. PartFails g (part_of node.prefix) node.prefix.ahead node.prefix.rank w.bound w.board a n in (
+        λ h. subst (λ g. Says g (walk_to s node) node.state) reached_guide
+            (subst (λ w. Says (guide_at shown reached) w node.state) is.walk (subst (Says (guide_at shown reached) (walk_at shown reached)) is.state h)),
+        λ h. subst (Says (guide_at shown reached) (walk_at shown reached)) (sym is.state)
+            (subst (λ w. Says (guide_at shown reached) w node.state) (sym is.walk) (subst (λ g. Says g (walk_to s node) node.state) (sym reached_guide) h)),
+      )
 
   pub reached_most : most_boards (bound_at shown reached) ≡ most_boards node.bound
   reached_most = ap (λ w. most_boards w.bound) is.walk
 
 -- ---- the node after a move
 
+-- the search of the board after a move
+abbrev pub NextFails : Search → Node → Move → List ℕ → ℕ → Type 0
+NextFails s node move next n =
+    PartFails s.guide.now (part_of node.prefix) (next_ahead node.prefix.ahead) (next_rank node.prefix.ahead node.prefix.rank move) (node.bound - 1) next
+    (next_at s.guide.now.steps node.state move) n
+
+-- a closed node
+pub node_closed : (s : Search) (node : Node)
+    → (IsOutside (part_of node.prefix) node.prefix.ahead node.prefix.rank ⊎ IsClosed s.guide.now.bundle node.board node.bound) → (n : ℕ)
+    → node_fails s node n ↔ (n ≡ 0)
+node_closed s node (inl out) n = part_outside s.guide.now (part_of node.prefix) node.board node.state node.prefix.ahead node.prefix.rank node.bound out n
+node_closed s node (inr closed) n = part_closed s.guide.now (part_of node.prefix) node.board node.state node.prefix.ahead node.prefix.rank node.bound closed n
+
 -- where the automaton leaves the move out
 pub child_out : (s : Search) (node : Node) (move : Move) → next_at s.guide.now.steps node.state move ≡ left_out → (n : ℕ) → child_fails_of s node move n ↔ (n ≡ 0)
 child_out s node move out n =
-    at_out (moved node.board move) (leaves_out s.guide.now.steps node.state move) (λ next. Fails s.guide.now (node.bound - 1) next (next_at s.guide.now.steps node.state move))
+    at_out (moved node.board move) (leaves_out s.guide.now.steps node.state move) (NextFails s node move)
     (eq-eqb (next_at s.guide.now.steps node.state move) left_out out) n
 
 module _ (s : Search) (node child : Node) (move : Move) (next : List ℕ) (leads : moved node.board move ≡ Some next) (on : leaves_out s.guide.now.steps node.state move ≡ false)
-    (board : child.board ≡ next) (state : child.state ≡ next_at s.guide.now.steps node.state move) (bound : child.bound + 1 ≡ node.bound) where
+    (board : child.board ≡ next) (state : child.state ≡ next_at s.guide.now.steps node.state move) (bound : child.bound + 1 ≡ node.bound)
+    (part : part_of child.prefix ≡ part_of node.prefix) (less : child.prefix.ahead ≡ next_ahead node.prefix.ahead)
+    (read : child.prefix.rank ≡ next_rank node.prefix.ahead node.prefix.rank move) where
   -- the search below it is that after the move
   pub child_same : (n : ℕ) → child_fails_of s node move n ↔ node_fails s child n
   child_same n =
       let g = s.guide.now in
       let to = next_at g.steps node.state move in
-      let less : node.bound - 1 ≡ child.bound = omega arith in
-      let at = at_child (moved node.board move) (leaves_out s.guide.now.steps node.state move) (λ b. Fails g (node.bound - 1) b to) next leads on n in
-      let there : Fails g (node.bound - 1) next to n → node_fails s child n =
-      λ h. subst (λ r. Fails g r child.board child.state n) less (subst (λ b. Fails g (node.bound - 1) b child.state n) (sym board) (subst (λ a. Fails g (node.bound - 1) next a n) (sym state) h)) in
-      let back : node_fails s child n → Fails g (node.bound - 1) next to n =
-      λ h. subst (λ a. Fails g (node.bound - 1) next a n) state (subst (λ b. Fails g (node.bound - 1) b child.state n) board (subst (λ r. Fails g r child.board child.state n) (sym less) h)) in
+      let fewer : node.bound - 1 ≡ child.bound = omega arith in
+      let p = part_of node.prefix in
+      let a = next_ahead node.prefix.ahead in
+      let m = next_rank node.prefix.ahead node.prefix.rank move in
+      let at = at_child (moved node.board move) (leaves_out s.guide.now.steps node.state move) (NextFails s node move) next leads on n in
+      let there : NextFails s node move next n → node_fails s child n =
+      λ h. subst (λ k. PartFails g k child.prefix.ahead child.prefix.rank child.bound child.board child.state n) (sym part)
+      (subst (λ k. PartFails g p k child.prefix.rank child.bound child.board child.state n) (sym less)
+      (subst (λ k. PartFails g p a k child.bound child.board child.state n) (sym read)
+      (subst (λ k. PartFails g p a m k child.board child.state n) fewer
+      (subst (λ k. PartFails g p a m (node.bound - 1) k child.state n) (sym board)
+      (subst (λ k. PartFails g p a m (node.bound - 1) next k n) (sym state) h))))) in
+      let back : node_fails s child n → NextFails s node move next n =
+      λ h. subst (λ k. PartFails g p a m (node.bound - 1) next k n) state
+      (subst (λ k. PartFails g p a m (node.bound - 1) k child.state n) board
+      (subst (λ k. PartFails g p a m k child.board child.state n) (sym fewer)
+      (subst (λ k. PartFails g p a k child.bound child.board child.state n) read
+      (subst (λ k. PartFails g p k child.prefix.rank child.bound child.board child.state n) less
+      (subst (λ k. PartFails g k child.prefix.ahead child.prefix.rank child.bound child.board child.state n) part h))))) in
       (λ h. there (at.0 h), λ h. at.1 (back h))
 
   -- where it is closed, no board is expanded after the move
-  pub child_closed : IsClosed s.guide.now.bundle child.board child.bound → (n : ℕ) → child_fails_of s node move n ↔ (n ≡ 0)
+  pub child_closed : (IsOutside (part_of child.prefix) child.prefix.ahead child.prefix.rank ⊎ IsClosed s.guide.now.bundle child.board child.bound) → (n : ℕ)
+      → child_fails_of s node move n ↔ (n ≡ 0)
   child_closed closed n =
       let same = child_same n in
-      let none = fails_closed s.guide.now child.board child.state child.bound closed n in
+      let none = node_closed s child closed n in
       (λ h. none.0 (same.0 h), λ e. same.1 (none.1 e))
 
 -- ---- a node that is expanded
 
-module _ (s : Search) (node : Node) (some : 1 ≤ node.bound) (whole : ¬ IsCutOff s.guide.now.bundle node.board node.bound) (far : ¬ IsGoal node.board) where
+module _ (s : Search) (node : Node) (inside : IsInside (part_of node.prefix) node.prefix.ahead node.prefix.rank) (some : 1 ≤ node.bound) (whole : ¬ IsCutOff s.guide.now.bundle node.board node.bound) (far : ¬ IsGoal node.board) where
   -- the searches after its moves, in their order
   abbrev After : Move → ℕ → Type 0
   After move = child_fails_of s node move
 
   opened_more : IsMore (node_fails s node) (InTurn (After Up) (InTurn (After Down) (InTurn (After Left) (After Right)))) 1
   opened_more = record {
-    to = λ n h. let open_ = (fails_open s.guide.now node.board node.state node.bound some whole far n).0 h in (open_.0, open_.2, open_.1);
-    back = λ n rest h e. (fails_open s.guide.now node.board node.state node.bound some whole far n).1 (rest, e, h);
+    to =
+        λ n h. let open_ = (part_open s.guide.now (part_of node.prefix) node.board node.state node.prefix.ahead node.prefix.rank node.bound inside some
+        whole far n).0 h in (open_.0, open_.2, open_.1);
+    back =
+        λ n rest h e. (part_open s.guide.now (part_of node.prefix) node.board node.state node.prefix.ahead node.prefix.rank node.bound inside some whole far
+        n).1 (rest, e, h);
   }
 
   -- the nodes after its moves are added

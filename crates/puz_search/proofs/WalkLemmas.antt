@@ -4,15 +4,17 @@ use Rattle.std.specs.Prelude.{IfErr, IsErrAnd, OnOk}
 use Rattle.puz_board.specs.Boards.{IsGoal, moved}
 use Rattle.puz_board.specs.declared.moves.Move.{Move}
 use Rattle.puz_board.specs.declared.moves.Move.TheVariants.{Up, Down, Left, Right}
-use Rattle.puz_search.specs.Outcomes.{AfterMove, IsRefuted, IsStop, IsTrail, bound_at, child_fails, children_fail, fails_at, guide_at, is_solved_at, most_children, walk_at}
+use Rattle.puz_search.specs.Outcomes.{AfterMove, IsRefuted, IsStop, IsTrail, after_move_fails, bound_at, fails_at, guide_at, is_solved_at, most_children, part_child_fails, part_children_fail, part_fails_at, walk_at}
 use Rattle.move_strings.specs.Automata.{left_out, next_at}
 use Rattle.puz_walk.specs.Walks.{IsOpen, LeadsNowhere, ShownWalk}
-use Rattle.puz_search.specs.Searches.{Fails, InTurn, leaves_out, most_boards}
+use Rattle.move_strings.specs.BoundParts.{ShownPart}
+use Rattle.puz_search.specs.Prefixes.{IsInside, IsOutside, next_ahead, next_rank}
+use Rattle.puz_search.specs.Searches.{InTurn, PartFails, leaves_out, most_boards}
 use Rattle.puz_search.specs.declared.efforts.Effort.{Effort}
 use Rattle.puz_search.specs.declared.efforts.Stop.{Stop}
 use Rattle.puz_search.specs.declared.efforts.Stop.TheVariants.{Solved, Spent}
 use Rattle.puz_search.specs.declared.walks.Reached.{Reached}
-use Rattle.puz_search.proofs.FailLemmas.{at_child, at_nowhere, at_out, fails_goal, fails_open, fails_some}
+use Rattle.puz_search.proofs.FailLemmas.{at_child, at_nowhere, at_out, part_goal, part_here, part_open, part_outside, part_some}
 use Rattle.puz_search.proofs.OutcomeLemmas.{refuted_as, refuted_none, refuted_both, stop_first, stop_second}
 use Rattle.puz_search.proofs.TrailLemmas.{reverse_push, trail_end, trail_move}
 
@@ -60,44 +62,86 @@ step_kept steps state next move to kept = ne_eqb (next_at steps state move) left
 
 -- ---- a board
 
--- what is seen of a walk is `shown`
-module _ {W : Type 0} (shown : W → ShownWalk) where
+-- all moves are those of the only part, of which no letter is to come
+abbrev pub only_part : ShownPart
+only_part = record { index = 0; count = 1 }
+
+pub only_inside : IsInside only_part 0 0
+only_inside e = refl
+
+-- what is seen of a walk is `shown`; so many letters that tell a part are to come, behind letters of this rank
+module _ {W : Type 0} (shown : W → ShownWalk) (p : ShownPart) (ahead rank : ℕ) where
+  -- behind the last letter
+  pub here_refuted : (r : Reached W) → ahead ≡ 0 → IsInside p ahead rank → (old new : Effort)
+      → IsRefuted (fails_at shown r) (most_boards (bound_at shown r)) old new
+      → IsRefuted (part_fails_at shown p ahead rank r) (most_boards (bound_at shown r)) old new
+  here_refuted r none inside old new is =
+      refuted_as (fails_at shown r) (part_fails_at shown p ahead rank r)
+      (λ n. let same = part_here (guide_at shown r) p (walk_at shown r).board r.state ahead rank (bound_at shown r) none inside n in (same.1, same.0))
+      (most_boards (bound_at shown r)) (most_boards (bound_at shown r)) (omega arith) old new is
+
+  pub here_stopped : (r : Reached W) → ahead ≡ 0 → IsInside p ahead rank → (stop : Stop) (old new : Effort)
+      → IsStop (fails_at shown r) (is_solved_at shown r) (most_boards (bound_at shown r)) stop old new
+      → IsStop (part_fails_at shown p ahead rank r) (is_solved_at shown r) (most_boards (bound_at shown r)) stop old new
+  here_stopped r none inside Solved old new is =
+      (is.0, λ n h. is.1 n ((part_here (guide_at shown r) p (walk_at shown r).board r.state ahead rank (bound_at shown r) none inside n).0 h))
+  here_stopped r none inside Spent old new is =
+      (is.0, λ n h. is.1 n ((part_here (guide_at shown r) p (walk_at shown r).board r.state ahead rank (bound_at shown r) none inside n).0 h))
+
+  -- outside the part
+  pub outside_refuted : (r : Reached W) → IsOutside p ahead rank → (e : Effort) → e.letters.items ≡ []
+      → IsRefuted (part_fails_at shown p ahead rank r) (most_boards (bound_at shown r)) e e
+  outside_refuted r out e clean =
+      refuted_none (part_fails_at shown p ahead rank r) (most_boards (bound_at shown r)) e
+      (part_outside (guide_at shown r) p (walk_at shown r).board r.state ahead rank (bound_at shown r) out) clean
+
   -- the goal board
-  pub goal_solved : (r : Reached W) → IsOpen (walk_at shown r) → IsGoal (walk_at shown r).board → (letters : List ℕ) → letters ≡ []
-      → is_solved_at shown r letters × ((boards : ℕ) → ¬ fails_at shown r boards)
-  goal_solved r open_ goal letters none = (
+  pub goal_solved : (r : Reached W) → IsInside p ahead rank → IsOpen (walk_at shown r) → IsGoal (walk_at shown r).board → (letters : List ℕ) → letters ≡ []
+      → is_solved_at shown r letters × ((boards : ℕ) → ¬ part_fails_at shown p ahead rank r boards)
+  goal_solved r inside open_ goal letters none = (
     subst (is_solved_at shown r) (sym none) (trail_end (walk_at shown r).board (bound_at shown r) open_.some goal),
-    fails_goal (guide_at shown r) (walk_at shown r).board r.state (bound_at shown r) open_.some open_.not_cut goal,
+    part_goal (guide_at shown r) p (walk_at shown r).board r.state ahead rank (bound_at shown r) inside open_.some open_.not_cut goal,
   )
 
   -- where no board may be expanded
-  pub spent_stopped : (r : Reached W) → IsOpen (walk_at shown r) → (e : Effort) → e.left ≡ 0 → (e.left < most_boards (bound_at shown r)) × ((boards : ℕ) → fails_at shown r boards → e.left < boards)
-  spent_stopped r open_ e none = (
+  pub spent_stopped : (r : Reached W) → IsInside p ahead rank → IsOpen (walk_at shown r) → (e : Effort) → e.left ≡ 0
+      → (e.left < most_boards (bound_at shown r)) × ((boards : ℕ) → part_fails_at shown p ahead rank r boards → e.left < boards)
+  spent_stopped r inside open_ e none = (
     let most = most_open (bound_at shown r) open_.some in omega arith,
-    λ boards h. let some = fails_some (guide_at shown r) (walk_at shown r).board r.state (bound_at shown r) open_.some open_.not_cut boards h in omega arith,
+    λ boards h. let some = part_some (guide_at shown r) p (walk_at shown r).board r.state ahead rank (bound_at shown r) inside open_.some open_.not_cut
+        boards h in omega arith,
   )
 
-  module _ (r : Reached W) (open_ : IsOpen (walk_at shown r)) (far : ¬ IsGoal (walk_at shown r).board) (old spent new : Effort) (one : old.left ≡ spent.left + 1) where
-    pub opened_refuted : IsRefuted (children_fail shown r) (most_children 4 (bound_at shown r)) spent new → IsRefuted (fails_at shown r) (most_boards (bound_at shown r)) old new
+  module _ (r : Reached W) (inside : IsInside p ahead rank) (open_ : IsOpen (walk_at shown r)) (far : ¬ IsGoal (walk_at shown r).board) (old spent new : Effort) (one : old.left ≡ spent.left + 1) where
+    pub opened_refuted : IsRefuted (part_children_fail shown p ahead rank r) (most_children 4 (bound_at shown r)) spent new
+        → IsRefuted (part_fails_at shown p ahead rank r) (most_boards (bound_at shown r)) old new
     opened_refuted is = record {
       boards = is.boards + 1;
       left = let left = is.left in omega arith;
       few = let few = is.few in let most = most_open (bound_at shown r) open_.some in omega arith;
-      fails = (fails_open (guide_at shown r) (walk_at shown r).board r.state (bound_at shown r) open_.some open_.not_cut far (is.boards + 1)).1 (is.boards, refl, is.fails);
+      fails =
+          (part_open (guide_at shown r) p (walk_at shown r).board r.state ahead rank (bound_at shown r) inside open_.some open_.not_cut far
+          (is.boards + 1)).1 (is.boards, refl, is.fails);
       once = λ n h.
-          let on = (fails_open (guide_at shown r) (walk_at shown r).board r.state (bound_at shown r) open_.some open_.not_cut far n).0 h in
+          let on = (part_open (guide_at shown r) p (walk_at shown r).board r.state ahead rank (bound_at shown r) inside open_.some open_.not_cut far n).0 h in
           let e : n ≡ on.0 + 1 = on.1 in
           let same : on.0 ≡ is.boards = is.once on.0 on.2 in
           omega arith;
       none = is.none;
     }
 
-    pub opened_stopped : (stop : Stop) → IsStop (children_fail shown r) (is_solved_at shown r) (most_children 4 (bound_at shown r)) stop spent new → IsStop (fails_at shown r) (is_solved_at shown r) (most_boards (bound_at shown r)) stop old new
-    opened_stopped Solved is = (is.0, λ n h. let on = (fails_open (guide_at shown r) (walk_at shown r).board r.state (bound_at shown r) open_.some open_.not_cut far n).0 h in is.1 on.0 on.2)
+    pub opened_stopped : (stop : Stop)
+        → IsStop (part_children_fail shown p ahead rank r) (is_solved_at shown r) (most_children 4 (bound_at shown r)) stop spent new
+        → IsStop (part_fails_at shown p ahead rank r) (is_solved_at shown r) (most_boards (bound_at shown r)) stop old new
+    opened_stopped Solved is = (
+      is.0,
+      λ n h. let on = (part_open (guide_at shown r) p (walk_at shown r).board r.state ahead rank (bound_at shown r) inside open_.some open_.not_cut
+          far n).0 h in is.1 on.0 on.2,
+    )
     opened_stopped Spent is = (
       let l : spent.left < most_children 4 (bound_at shown r) = is.0 in let most = most_open (bound_at shown r) open_.some in omega arith,
       λ n h.
-          let on = (fails_open (guide_at shown r) (walk_at shown r).board r.state (bound_at shown r) open_.some open_.not_cut far n).0 h in
+          let on = (part_open (guide_at shown r) p (walk_at shown r).board r.state ahead rank (bound_at shown r) inside open_.some open_.not_cut far n).0 h in
           let l : spent.left < on.0 = is.1 on.0 on.2 in
           let e : n ≡ on.0 + 1 = on.1 in
           omega arith,
@@ -106,17 +150,19 @@ module _ {W : Type 0} (shown : W → ShownWalk) where
   -- ---- the boards after its moves
 
   abbrev Four : Reached W → ℕ → Type 0
-  Four r = InTurn (child_fails shown r Up) (InTurn (child_fails shown r Down) (InTurn (child_fails shown r Left) (child_fails shown r Right)))
+  Four r =
+      InTurn (part_child_fails shown p ahead rank r Up) (InTurn (part_child_fails shown p ahead rank r Down)
+      (InTurn (part_child_fails shown p ahead rank r Left) (part_child_fails shown p ahead rank r Right)))
 
   module _ (r s t u : Reached W) (first : s ≡ r) (second : t ≡ s) (third : u ≡ t) where
     abbrev Out : Reached W → Move → Effort → Effort → Type 0
-    Out x move old new = IsRefuted (child_fails shown x move) (most_children 1 (bound_at shown x)) old new
+    Out x move old new = IsRefuted (part_child_fails shown p ahead rank x move) (most_children 1 (bound_at shown x)) old new
 
     abbrev Stops : Reached W → Move → Stop → Effort → Effort → Type 0
-    Stops x move stop old new = IsStop (child_fails shown x move) (is_solved_at shown x) (most_children 1 (bound_at shown x)) stop old new
+    Stops x move stop old new = IsStop (part_child_fails shown p ahead rank x move) (is_solved_at shown x) (most_children 1 (bound_at shown x)) stop old new
 
     abbrev Stopped : Stop → Effort → Effort → Type 0
-    Stopped stop old new = IsStop (children_fail shown r) (is_solved_at shown r) (most_children 4 (bound_at shown r)) stop old new
+    Stopped stop old new = IsStop (part_children_fail shown p ahead rank r) (is_solved_at shown r) (most_children 4 (bound_at shown r)) stop old new
 
     module _ (a b : Effort) (up : Out r Up a b) where
       pub stopped_second : (stop : Stop) (c : Effort) → Stops s Down stop b c → Stopped stop a c
@@ -124,8 +170,12 @@ module _ {W : Type 0} (shown : W → ShownWalk) where
           let m = most_children 1 (bound_at shown r) in
           let down = subst (λ x. Stops x Down stop b c) first is in
           stop_more (Four r) (is_solved_at shown r) (m + (m + (m + m))) (most_children 4 (bound_at shown r)) (omega arith) stop a c
-          (stop_second (child_fails shown r Up) (InTurn (child_fails shown r Down) (InTurn (child_fails shown r Left) (child_fails shown r Right))) m (m + (m + m)) (is_solved_at shown r) stop a b c up
-          (stop_first (child_fails shown r Down) (InTurn (child_fails shown r Left) (child_fails shown r Right)) m (m + m) (is_solved_at shown r) stop b c down))
+          (stop_second (part_child_fails shown p ahead rank r Up)
+          (InTurn (part_child_fails shown p ahead rank r Down)
+          (InTurn (part_child_fails shown p ahead rank r Left) (part_child_fails shown p ahead rank r Right))) m (m + (m + m)) (is_solved_at shown r) stop a
+          b c up
+          (stop_first (part_child_fails shown p ahead rank r Down)
+          (InTurn (part_child_fails shown p ahead rank r Left) (part_child_fails shown p ahead rank r Right)) m (m + m) (is_solved_at shown r) stop b c down))
 
       module _ (c : Effort) (down : Out s Down b c) where
         pub stopped_third : (stop : Stop) (d : Effort) → Stops t Left stop c d → Stopped stop a d
@@ -134,9 +184,14 @@ module _ {W : Type 0} (shown : W → ShownWalk) where
             let down_is = subst (λ x. Out x Down b c) first down in
             let left = subst (λ x. Stops x Left stop c d) (second ∙ first) is in
             stop_more (Four r) (is_solved_at shown r) (m + (m + (m + m))) (most_children 4 (bound_at shown r)) (omega arith) stop a d
-            (stop_second (child_fails shown r Up) (InTurn (child_fails shown r Down) (InTurn (child_fails shown r Left) (child_fails shown r Right))) m (m + (m + m)) (is_solved_at shown r) stop a b d up
-            (stop_second (child_fails shown r Down) (InTurn (child_fails shown r Left) (child_fails shown r Right)) m (m + m) (is_solved_at shown r) stop b c d down_is
-            (stop_first (child_fails shown r Left) (child_fails shown r Right) m m (is_solved_at shown r) stop c d left)))
+            (stop_second (part_child_fails shown p ahead rank r Up)
+            (InTurn (part_child_fails shown p ahead rank r Down)
+            (InTurn (part_child_fails shown p ahead rank r Left) (part_child_fails shown p ahead rank r Right))) m (m + (m + m)) (is_solved_at shown r) stop
+            a b d up
+            (stop_second (part_child_fails shown p ahead rank r Down)
+            (InTurn (part_child_fails shown p ahead rank r Left) (part_child_fails shown p ahead rank r Right)) m (m + m) (is_solved_at shown r) stop b c d
+            down_is
+            (stop_first (part_child_fails shown p ahead rank r Left) (part_child_fails shown p ahead rank r Right) m m (is_solved_at shown r) stop c d left)))
 
         module _ (d : Effort) (left : Out t Left c d) where
           pub stopped_fourth : (stop : Stop) (e : Effort) → Stops u Right stop d e → Stopped stop a e
@@ -146,60 +201,86 @@ module _ {W : Type 0} (shown : W → ShownWalk) where
               let left_is = subst (λ x. Out x Left c d) (second ∙ first) left in
               let right = subst (λ x. Stops x Right stop d e) (third ∙ second ∙ first) is in
               stop_more (Four r) (is_solved_at shown r) (m + (m + (m + m))) (most_children 4 (bound_at shown r)) (omega arith) stop a e
-              (stop_second (child_fails shown r Up) (InTurn (child_fails shown r Down) (InTurn (child_fails shown r Left) (child_fails shown r Right))) m (m + (m + m)) (is_solved_at shown r) stop a b e up
-              (stop_second (child_fails shown r Down) (InTurn (child_fails shown r Left) (child_fails shown r Right)) m (m + m) (is_solved_at shown r) stop b c e down_is
-              (stop_second (child_fails shown r Left) (child_fails shown r Right) m m (is_solved_at shown r) stop c d e left_is right)))
+              (stop_second (part_child_fails shown p ahead rank r Up)
+              (InTurn (part_child_fails shown p ahead rank r Down)
+              (InTurn (part_child_fails shown p ahead rank r Left) (part_child_fails shown p ahead rank r Right))) m (m + (m + m)) (is_solved_at shown r)
+              stop a b e up
+              (stop_second (part_child_fails shown p ahead rank r Down)
+              (InTurn (part_child_fails shown p ahead rank r Left) (part_child_fails shown p ahead rank r Right)) m (m + m) (is_solved_at shown r) stop b c
+              e down_is
+              (stop_second (part_child_fails shown p ahead rank r Left) (part_child_fails shown p ahead rank r Right) m m (is_solved_at shown r) stop c d e
+              left_is right)))
 
-          pub refuted_four : (e : Effort) → Out u Right d e → IsRefuted (children_fail shown r) (most_children 4 (bound_at shown r)) a e
+          pub refuted_four : (e : Effort) → Out u Right d e → IsRefuted (part_children_fail shown p ahead rank r) (most_children 4 (bound_at shown r)) a e
           refuted_four e is =
               let m = most_children 1 (bound_at shown r) in
               let down_is = subst (λ x. Out x Down b c) first down in
               let left_is = subst (λ x. Out x Left c d) (second ∙ first) left in
               let right = subst (λ x. Out x Right d e) (third ∙ second ∙ first) is in
-              refuted_as (Four r) (children_fail shown r) (λ n. (λ h. h, λ h. h)) (m + (m + (m + m))) (most_children 4 (bound_at shown r)) (omega arith) a e
-              (refuted_both (child_fails shown r Up) (InTurn (child_fails shown r Down) (InTurn (child_fails shown r Left) (child_fails shown r Right))) m (m + (m + m)) a b e up
-              (refuted_both (child_fails shown r Down) (InTurn (child_fails shown r Left) (child_fails shown r Right)) m (m + m) b c e down_is
-              (refuted_both (child_fails shown r Left) (child_fails shown r Right) m m c d e left_is right)))
+              refuted_as (Four r) (part_children_fail shown p ahead rank r) (λ n. (λ h. h, λ h. h)) (m + (m + (m + m))) (most_children 4 (bound_at shown r))
+              (omega arith) a e
+              (refuted_both (part_child_fails shown p ahead rank r Up)
+              (InTurn (part_child_fails shown p ahead rank r Down)
+              (InTurn (part_child_fails shown p ahead rank r Left) (part_child_fails shown p ahead rank r Right))) m (m + (m + m)) a b e up
+              (refuted_both (part_child_fails shown p ahead rank r Down)
+              (InTurn (part_child_fails shown p ahead rank r Left) (part_child_fails shown p ahead rank r Right)) m (m + m) b c e down_is
+              (refuted_both (part_child_fails shown p ahead rank r Left) (part_child_fails shown p ahead rank r Right) m m c d e left_is right)))
 
   -- ---- the board after a move
 
   -- where the move leads nowhere
-  pub nowhere_refuted : (r : Reached W) (move : Move) (e : Effort) → LeadsNowhere (walk_at shown r) move → e.letters.items ≡ [] → IsRefuted (child_fails shown r move) (most_children 1 (bound_at shown r)) e e
+  pub nowhere_refuted : (r : Reached W) (move : Move) (e : Effort) → LeadsNowhere (walk_at shown r) move → e.letters.items ≡ []
+      → IsRefuted (part_child_fails shown p ahead rank r move) (most_children 1 (bound_at shown r)) e e
   nowhere_refuted r move e none clean =
-      refuted_none (child_fails shown r move) (most_children 1 (bound_at shown r)) e
-      (at_nowhere (guide_at shown r) (bound_at shown r - 1) (moved (walk_at shown r).board move) (leaves_out r.automaton.now.steps r.state move)
+      refuted_none (part_child_fails shown p ahead rank r move) (most_children 1 (bound_at shown r)) e
+      (at_nowhere (guide_at shown r) p (next_ahead ahead) (next_rank ahead rank move) (bound_at shown r - 1) (moved (walk_at shown r).board move)
+      (leaves_out r.automaton.now.steps r.state move)
       (next_at r.automaton.now.steps r.state move) none) clean
 
   -- where the automaton leaves the move out
-  pub out_refuted : (r : Reached W) (move : Move) (e : Effort) → next_at r.automaton.now.steps r.state move ≡ left_out → e.letters.items ≡ [] → IsRefuted (child_fails shown r move) (most_children 1 (bound_at shown r)) e e
+  pub out_refuted : (r : Reached W) (move : Move) (e : Effort) → next_at r.automaton.now.steps r.state move ≡ left_out → e.letters.items ≡ []
+      → IsRefuted (part_child_fails shown p ahead rank r move) (most_children 1 (bound_at shown r)) e e
   out_refuted r move e out clean =
-      refuted_none (child_fails shown r move) (most_children 1 (bound_at shown r)) e
+      refuted_none (part_child_fails shown p ahead rank r move) (most_children 1 (bound_at shown r)) e
       (at_out (moved (walk_at shown r).board move) (leaves_out r.automaton.now.steps r.state move)
-      (λ next. Fails (guide_at shown r) (bound_at shown r - 1) next (next_at r.automaton.now.steps r.state move)) (eq-eqb (next_at r.automaton.now.steps r.state move) left_out out)) clean
+      (after_move_fails shown p ahead rank r move) (eq-eqb (next_at r.automaton.now.steps r.state move) left_out out)) clean
 
   module _ (r next : Reached W) (move : Move) (some : 1 ≤ bound_at shown r) (on : leaves_out r.automaton.now.steps r.state move ≡ false)
       (leads : moved (walk_at shown r).board move ≡ Some (walk_at shown next).board) (guide : guide_at shown next ≡ guide_at shown r) (state : next.state ≡ next_at r.automaton.now.steps r.state move)
-      (bound : bound_at shown next ≡ bound_at shown r - 1) where
-    same_counts : (boards : ℕ) → fails_at shown next boards ↔ child_fails shown r move boards
+      (bound : bound_at shown next ≡ bound_at shown r - 1)
+      (q : ShownPart) (a m : ℕ) (part : q ≡ p) (less : a ≡ next_ahead ahead) (read : m ≡ next_rank ahead rank move) where
+    same_counts : (boards : ℕ) → part_fails_at shown q a m next boards ↔ part_child_fails shown p ahead rank r move boards
     same_counts boards =
         let to = next_at r.automaton.now.steps r.state move in
-        let at = at_child (moved (walk_at shown r).board move) (leaves_out r.automaton.now.steps r.state move) (λ c. Fails (guide_at shown r) (bound_at shown r - 1) c to) (walk_at shown next).board leads on boards in (
-          λ h. at.1 (subst (λ g. Fails g (bound_at shown r - 1) (walk_at shown next).board to boards) guide
-              (subst (λ k. Fails (guide_at shown next) k (walk_at shown next).board to boards) bound
-              (subst (λ a. Fails (guide_at shown next) (bound_at shown next) (walk_at shown next).board a boards) state h))),
-          λ h. subst (λ a. Fails (guide_at shown next) (bound_at shown next) (walk_at shown next).board a boards) (sym state)
-              (subst (λ k. Fails (guide_at shown next) k (walk_at shown next).board to boards) (sym bound)
-              (subst (λ g. Fails g (bound_at shown r - 1) (walk_at shown next).board to boards) (sym guide) (at.0 h))),
+        let on_board = (walk_at shown next).board in
+        let at = at_child (moved (walk_at shown r).board move) (leaves_out r.automaton.now.steps r.state move) (after_move_fails shown p ahead rank r move) on_board leads on boards in (
+          λ h. at.1 (subst (λ g. PartFails g p (next_ahead ahead) (next_rank ahead rank move) (bound_at shown r - 1) on_board to boards) guide
+              (subst (λ k. PartFails (guide_at shown next) p (next_ahead ahead) (next_rank ahead rank move) k on_board to boards) bound
+              (subst (λ k. PartFails (guide_at shown next) p (next_ahead ahead) (next_rank ahead rank move) (bound_at shown next) on_board k boards) state
+              (subst (λ k. PartFails (guide_at shown next) p (next_ahead ahead) k (bound_at shown next) on_board next.state boards) read
+              (subst (λ k. PartFails (guide_at shown next) p k m (bound_at shown next) on_board next.state boards) less
+              (subst (λ k. PartFails (guide_at shown next) k a m (bound_at shown next) on_board next.state boards) part h)))))),
+          λ h. subst (λ k. PartFails (guide_at shown next) k a m (bound_at shown next) on_board next.state boards) (sym part)
+              (subst (λ k. PartFails (guide_at shown next) p k m (bound_at shown next) on_board next.state boards) (sym less)
+              (subst (λ k. PartFails (guide_at shown next) p (next_ahead ahead) k (bound_at shown next) on_board next.state boards) (sym read)
+              (subst (λ k. PartFails (guide_at shown next) p (next_ahead ahead) (next_rank ahead rank move) (bound_at shown next) on_board k boards) (sym state)
+              (subst (λ k. PartFails (guide_at shown next) p (next_ahead ahead) (next_rank ahead rank move) k on_board to boards) (sym bound)
+              (subst (λ g. PartFails g p (next_ahead ahead) (next_rank ahead rank move) (bound_at shown r - 1) on_board to boards) (sym guide) (at.0 h)))))),
         )
 
     few_after : most_boards (bound_at shown next) ≤ most_children 1 (bound_at shown r)
     few_after = let e : most_boards (bound_at shown next) ≡ most_boards (bound_at shown r - 1) = ap most_boards bound in omega arith
 
-    pub child_refuted : (old new : Effort) → IsRefuted (fails_at shown next) (most_boards (bound_at shown next)) old new → IsRefuted (child_fails shown r move) (most_children 1 (bound_at shown r)) old new
-    child_refuted old new is = refuted_as (fails_at shown next) (child_fails shown r move) same_counts (most_boards (bound_at shown next)) (most_children 1 (bound_at shown r)) few_after old new is
+    pub child_refuted : (old new : Effort) → IsRefuted (part_fails_at shown q a m next) (most_boards (bound_at shown next)) old new
+        → IsRefuted (part_child_fails shown p ahead rank r move) (most_children 1 (bound_at shown r)) old new
+    child_refuted old new is =
+        refuted_as (part_fails_at shown q a m next) (part_child_fails shown p ahead rank r move) same_counts (most_boards (bound_at shown next))
+        (most_children 1 (bound_at shown r)) few_after old new is
 
-    pub child_stopped : (stop : Stop) (old between new : Effort) → IsStop (fails_at shown next) (is_solved_at shown next) (most_boards (bound_at shown next)) stop old between → AfterMove move stop between new
-        → IsStop (child_fails shown r move) (is_solved_at shown r) (most_children 1 (bound_at shown r)) stop old new
+    pub child_stopped : (stop : Stop) (old between new : Effort)
+        → IsStop (part_fails_at shown q a m next) (is_solved_at shown next) (most_boards (bound_at shown next)) stop old between
+        → AfterMove move stop between new
+        → IsStop (part_child_fails shown p ahead rank r move) (is_solved_at shown r) (most_children 1 (bound_at shown r)) stop old new
     child_stopped Solved old between new is after = (
       subst (IsTrail (walk_at shown r).board (bound_at shown r)) (sym (ap reverse after.2 ∙ reverse_push between.letters.items after.0))
           (trail_move (walk_at shown r).board (walk_at shown next).board (bound_at shown r) after.0 (reverse between.letters.items) move some leads after.1

@@ -2,9 +2,10 @@
 use Rattle.std.specs.Prelude.{◌≡◌, ℕ, ◌+◌, ◌*◌, ◌<◌, ◌≤◌, List}
 use Rattle.puz_board.specs.MovesTexts.{Solves}
 use Rattle.puz_board.specs.Parity.{blank_parity}
+use Rattle.move_strings.specs.BoundParts.{IsPartBounded, ShownPart}
 use Rattle.set_sum.specs.Bounds.{IsBounded}
 use Rattle.puz_search.specs.Guides.{ShownGuide}
-use Rattle.puz_search.specs.Searches.{Fails, FailsInTurn}
+use Rattle.puz_search.specs.Searches.{Fails, FailsInTurn, SearchOfPartFails}
 use Rattle.puz_search.specs.declared.answers.Answer.{Answer}
 use Rattle.puz_search.specs.declared.answers.Answer.TheVariants as answer
 use Rattle.puz_search.specs.declared.deepening.Deepened.{Deepened}
@@ -22,6 +23,13 @@ abbrev pub IsAnswer : ShownGuide → List ℕ → ℕ → ℕ → Answer → Typ
 IsAnswer g b r budget (answer.Refuted boards) = IsBounded b r × Fails g r b 0 boards × (boards ≤ budget)
 IsAnswer g b r budget (answer.Solved letters) = IsShorter b r letters.items
 IsAnswer g b r budget answer.Spent = (boards : ℕ) → Fails g r b 0 boards → budget < boards
+
+-- The same of a part of the bound: where it is refuted, the least solution of fewer than r moves isn't of the part. A solution
+-- may be of any part.
+abbrev pub IsAnswerOfPart : ShownGuide → ShownPart → List ℕ → ℕ → ℕ → Answer → Type 0
+IsAnswerOfPart g p b r budget (answer.Refuted boards) = IsPartBounded p r b × SearchOfPartFails g p r b boards × (boards ≤ budget)
+IsAnswerOfPart g p b r budget (answer.Solved letters) = IsShorter b r letters.items
+IsAnswerOfPart g p b r budget answer.Spent = (boards : ℕ) → SearchOfPartFails g p r b boards → budget < boards
 
 -- ---- threshold by threshold
 

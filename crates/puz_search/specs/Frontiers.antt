@@ -4,8 +4,9 @@ use Rattle.std.specs.List.{All}
 use Rattle.puz_board.specs.Boards.{moved}
 use Rattle.puz_board.specs.declared.moves.Move.{Move}
 use Rattle.move_strings.specs.Automata.{next_at}
-use Rattle.puz_search.specs.Nodes.{IsLed, node_fails}
-use Rattle.puz_search.specs.Searches.{AtChild, Fails, InTurn, leaves_out, most_boards}
+use Rattle.puz_search.specs.Nodes.{IsLed, node_fails, search_fails}
+use Rattle.puz_search.specs.Prefixes.{next_ahead, next_rank, part_of}
+use Rattle.puz_search.specs.Searches.{AtChild, InTurn, PartFails, leaves_out, most_boards}
 use Rattle.puz_search.specs.declared.frontiers.Frontier.{Frontier}
 use Rattle.puz_search.specs.declared.nodes.Node.{Node}
 use Rattle.puz_search.specs.declared.searches.Search.{Search}
@@ -32,8 +33,9 @@ most_of (node ∷ rest) = most_boards node.bound + most_of rest
 -- the search after a move of a node
 abbrev pub child_fails_of : Search → Node → Move → ℕ → Type 0
 child_fails_of s node move boards =
+    let x = node.prefix in
     AtChild (moved node.board move) (leaves_out s.guide.now.steps node.state move)
-    (λ next. Fails s.guide.now (node.bound - 1) next (next_at s.guide.now.steps node.state move)) boards
+    (λ next. PartFails s.guide.now (part_of x) (next_ahead x.ahead) (next_rank x.ahead x.rank move) (node.bound - 1) next (next_at s.guide.now.steps node.state move)) boards
 
 -- ---- frontiers
 
@@ -47,7 +49,7 @@ pub record Adds (s : Search) (Part : ℕ → Type 0) (most x : ℕ) (old new : L
 
 -- the nodes stand for the whole search
 pub record IsFrontier (s : Search) (frontier : Frontier) : Type 0 where
-  pub counts : IsMore (Fails s.guide.now s.bound s.board.now 0) (all_fail s frontier.nodes.items) frontier.expanded
+  pub counts : IsMore (search_fails s) (all_fail s frontier.nodes.items) frontier.expanded
   pub few : most_of frontier.nodes.items + frontier.expanded ≤ most_boards s.bound
   pub led : All (IsLed s) frontier.nodes.items
 

@@ -1,10 +1,12 @@
 -- What public contracts say.
 pub mod Answers
 pub mod Guides
+pub mod Laws
 pub mod Searches
 -- How values are stored.
 pub mod StoredGuides
 -- What proofs alone need.
+pub mod Prefixes
 pub mod Openness
 pub mod Outcomes
 pub mod Nodes

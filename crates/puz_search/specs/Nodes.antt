@@ -4,7 +4,7 @@ use Rattle.puz_board.specs.Boards.{IsBoardOf}
 use Rattle.move_strings.specs.Automata.{IsState}
 use Rattle.puz_walk.specs.Walks.{ShownWalk}
 use Rattle.puz_search.specs.Outcomes.{IsTrail}
-use Rattle.puz_search.specs.Searches.{Fails}
+use Rattle.puz_search.specs.Prefixes.{prefix_fails}
 use Rattle.puz_search.specs.declared.answers.Answer.{Answer}
 use Rattle.puz_search.specs.declared.answers.Answer.TheVariants.{Refuted, Solved, Spent}
 use Rattle.puz_search.specs.declared.nodes.Node.{Node}
@@ -12,13 +12,18 @@ use Rattle.puz_search.specs.declared.searches.Search.{Search}
 
 -- the search below a node fails, and expands so many boards
 abbrev pub node_fails : Search → Node → ℕ → Type 0
-node_fails s node boards = Fails s.guide.now node.bound node.board node.state boards
+node_fails s node boards = prefix_fails s.guide.now node.prefix node.bound node.board node.state boards
+
+-- the whole search fails, and expands so many boards
+abbrev pub search_fails : Search → ℕ → Type 0
+search_fails s boards = prefix_fails s.guide.now s.prefix s.bound s.board.now 0 boards
 
 -- the node is that of the first board
 pub record IsFirst (s : Search) (node : Node) : Type 0 where
   pub board : node.board ≡ s.board.now
   pub state : node.state ≡ 0
   pub bound : node.bound ≡ s.bound
+  pub prefix : node.prefix ≡ s.prefix
 
 -- the board is of the bundle's side, in a state of the automaton, and has just the bound that is left after the moves of the letters
 pub record IsPlaced (s : Search) (node : Node) : Type 0 where
@@ -44,8 +49,8 @@ abbrev pub solves_first : Search → List ℕ → Type 0
 solves_first s letters = IsTrail s.board.now s.bound letters
 
 -- what a part of a search answers within a budget: these say with how many boards it fails, at most so many, and what its
--- solutions are
+-- solutions are; where it finds one it doesn't fail
 abbrev pub IsPartAnswer : (ℕ → Type 0) → ℕ → (List ℕ → Type 0) → ℕ → Answer → Type 0
 IsPartAnswer Part most IsSolved budget (Refuted boards) = Part boards × (boards ≤ budget)
-IsPartAnswer Part most IsSolved budget (Solved letters) = IsSolved letters.items
+IsPartAnswer Part most IsSolved budget (Solved letters) = IsSolved letters.items × ((boards : ℕ) → ¬ Part boards)
 IsPartAnswer Part most IsSolved budget Spent = ((boards : ℕ) → Part boards → budget < boards) × (budget < most)

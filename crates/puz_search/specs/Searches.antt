@@ -1,10 +1,12 @@
 -- Depth-first searches below a threshold, and when they fail (Korf 1985).
-use Rattle.std.specs.Prelude.{◌≡◌, ◌==◌, ℕ, zero, suc, ◌+◌, ◌*◌, Bool, true, false, ◌⊎◌, List, Option, Some, None}
+use Rattle.std.specs.Prelude.{◌≡◌, ◌==◌, ℕ, zero, suc, ◌+◌, ◌*◌, ◌%◌, Bool, true, false, ◌⊎◌, List, Option, Some, None}
 use Rattle.puz_board.specs.Boards.{IsGoal, moved}
 use Rattle.puz_board.specs.Parity.{blank_parity}
 use Rattle.puz_board.specs.declared.moves.Move.{Move}
 use Rattle.puz_board.specs.declared.moves.Move.TheVariants.{Up, Down, Left, Right}
 use Rattle.move_strings.specs.Automata.{left_out, next_at}
+use Rattle.move_strings.specs.BoundParts.{ShownPart, letters_of}
+use Rattle.move_strings.specs.Strings.{rank_of}
 use Rattle.puz_walk.specs.Walks.{IsCutOff}
 use Rattle.puz_search.specs.Guides.{ShownGuide}
 
@@ -36,15 +38,40 @@ AtChildren steps state b Holds =
     (AtChild (moved b Right) (leaves_out steps state Right) (Holds Right))))
 
 module _ (g : ShownGuide) where
-  -- The search from a board that was reached in a state of the automaton, for a solution of fewer than r moves, fails, and expands
-  -- so many boards. It expands none where r is 0 or a set cuts the board off. Otherwise the board isn't the goal board, and it
-  -- expands this board and those that the searches after its moves expand, which fail too.
+  -- A search from a board that was reached in a state of the automaton, for a solution of fewer than r moves, where r isn't 0,
+  -- fails, and expands so many boards. It expands none where a set cuts the board off. Otherwise the board isn't the goal board,
+  -- and it expands this board and those that the searches after its moves expand, which fail too.
+  abbrev pub FailsAfter : ℕ → List ℕ → ℕ → (Move → List ℕ → ℕ → Type 0) → ℕ → Type 0
+  FailsAfter r b state After boards =
+      (IsCutOff g.bundle b r × (boards ≡ 0)) ⊎
+      ((¬ IsCutOff g.bundle b r) × (¬ IsGoal b) × (below : ℕ) × (boards ≡ below + 1) × AtChildren g.steps state b After below)
+
+  -- the search of all moves; it expands none where r is 0
   abbrev pub Fails : ℕ → List ℕ → ℕ → ℕ → Type 0
   Fails zero b state boards = boards ≡ 0
-  Fails (suc r) b state boards =
-      (IsCutOff g.bundle b (suc r) × (boards ≡ 0)) ⊎
-      ((¬ IsCutOff g.bundle b (suc r)) × (¬ IsGoal b) × (below : ℕ) × (boards ≡ below + 1) ×
-      AtChildren g.steps state b (λ move next. Fails r next (next_at g.steps state move)) below)
+  Fails (suc r) b state boards = FailsAfter (suc r) b state (λ move next. Fails r next (next_at g.steps state move)) boards
+
+-- ---- the search of a part
+
+-- where it is so, this holds of the count; otherwise the count is 0
+abbrev pub WhereTrue : Bool → (ℕ → Type 0) → ℕ → Type 0
+WhereTrue true Holds count = Holds count
+WhereTrue false Holds count = count ≡ 0
+
+module _ (g : ShownGuide) (p : ShownPart) where
+  -- The same of the moves of a part. So many letters that tell the part are still to come, and this is the rank of those before.
+  -- Behind the last of them the search is that of all moves where they are of the part, and expands no board elsewhere.
+  abbrev pub PartFails : ℕ → ℕ → ℕ → List ℕ → ℕ → ℕ → Type 0
+  PartFails zero rank r b state boards = WhereTrue (rank % p.count == p.index) (Fails g r b state) boards
+  PartFails (suc ahead) rank zero b state boards = boards ≡ 0
+  PartFails (suc ahead) rank (suc r) b state boards =
+      FailsAfter g (suc r) b state (λ move next. PartFails ahead (4 * rank + rank_of move) r next (next_at g.steps state move)) boards
+
+-- the search of a part for a solution of a board of fewer than r moves fails, and expands so many boards
+abbrev pub SearchOfPartFails : ShownGuide → ShownPart → ℕ → List ℕ → ℕ → Type 0
+SearchOfPartFails g p r b boards = PartFails g p (letters_of p) 0 r b 0 boards
+
+-- ---- thresholds
 
 -- The searches below the first k thresholds of a board fail, and expand so many boards in all. Each begins in the first state of
 -- the automaton. The first threshold is one more than the parity of the blank's cell, which is that of all solutions, and each next

@@ -3,11 +3,13 @@
 ghost use Rattle.std.specs.Prelude.{◌≡◌, ◌+◌, ◌≤◌, Some};
 ghost use Rattle.puz_board.specs.Boards.{moved};
 ghost use Rattle.move_strings.specs.Automata.{IsState};
-ghost use Rattle.puz_search.specs.Nodes.{IsFirst, IsLed, IsPlaced, walk_to};
-ghost use Rattle.puz_search.specs.Openness.{IsOpennessOf};
+ghost use Rattle.puz_search.specs.Nodes.{IsFirst, IsLed, IsPlaced};
+ghost use Rattle.puz_search.specs.Openness.{IsNodeOpenness};
+ghost use Rattle.puz_search.specs.Prefixes.{next_ahead, next_rank, part_of};
 
 use crate::answers::{Letters, joined};
 use crate::openness::Openness;
+use crate::prefixes::Prefix;
 use crate::searches::Search;
 use arrayvec::ArrayVec;
 use puz_board::{Board, Move};
@@ -22,6 +24,8 @@ pub(crate) struct Node {
     pub(crate) bound: u8,
     /// The letters of the moves that lead here from the first board.
     pub(crate) letters: Letters,
+    /// How far they have been read.
+    pub(crate) prefix: Prefix,
 }
 
 impl Search<'_> {
@@ -35,14 +39,18 @@ impl Search<'_> {
             state: 0,
             bound: self.bound,
             letters: ArrayVec::new(),
+            prefix: self.prefix,
         }
     }
 
-    /// Whether a solution of a node's board is still to be searched for.
+    /// Whether a solution of a node's board is still to be searched for, which it isn't outside the part.
     pub(crate) fn openness(&self, node: &Node) -> Openness
         requires { IsPlaced self.now node.now }
-        ensures { IsOpennessOf (walk_to self.now node.now) result }
+        ensures { IsNodeOpenness self.now node.now result }
     {
+        if node.prefix.is_outside() {
+            return Openness::Closed;
+        }
         self.guide.openness(&node.board, node.bound)
     }
 
@@ -55,6 +63,10 @@ impl Search<'_> {
         ensures board { result.board ≡ board }
         ensures state { result.state ≡ state }
         ensures bound { result.bound + 1 ≡ node.now.bound }
+        ensures part { part_of result.prefix ≡ part_of node.now.prefix }
+        ensures ahead { result.prefix.ahead ≡ next_ahead node.now.prefix.ahead }
+        ensures rank { result.prefix.rank
+            ≡ next_rank node.now.prefix.ahead node.now.prefix.rank mv }
         ensures led { IsLed self.now result }
     {
         Node {
@@ -62,6 +74,7 @@ impl Search<'_> {
             state,
             bound: node.bound - 1,
             letters: joined(node.letters.as_slice(), &[mv.letter()]),
+            prefix: node.prefix.after(mv),
         }
     }
 }

@@ -2,20 +2,32 @@
 
 ghost use Rattle.std.specs.Prelude.{◌≡◌, ◌≤◌, ℕ, []};
 ghost use Rattle.puz_board.specs.Boards.{side_of};
-ghost use Rattle.puz_search.specs.Answers.{IsAnswer};
+ghost use Rattle.puz_search.specs.Answers.{IsAnswer, IsAnswerOfPart};
 ghost use Rattle.puz_search.specs.Nodes.{IsPartAnswer, IsPlaced, node_fails, solves_below, walk_to};
 ghost use Rattle.puz_search.specs.Openness.{IsWalkTo};
-ghost use Rattle.puz_search.specs.Searches.{Fails, most_boards};
+ghost use Rattle.puz_search.specs.Searches.{Fails, SearchOfPartFails, most_boards};
 ghost use Rattle.puz_search.specs.declared.answers.Answer.TheVariants.{Refuted, Spent};
 
 use crate::answers::{Answer, joined};
 use crate::efforts::{Effort, Stop};
 use crate::guides::{Guide, Sets};
 use crate::nodes::Node;
+use crate::part_walks::search_part;
+use crate::prefixes::Prefix;
 use crate::searches::Search;
-use crate::walks::{Reached, search};
+use crate::walks::Reached;
+use move_strings::BoundPart;
 use puz_board::Board;
 use puz_walk::{SumWalk, Walk, WordWalk};
+
+/// A part of a bound.
+#[derive(Clone, Copy, Debug, PartialEq, Eq)]
+pub struct PartBound {
+    /// Solutions of fewer moves are searched.
+    pub bound: u8,
+    /// Which of them are.
+    pub part: BoundPart,
+}
 
 /// Searches for a solution of a board of fewer moves than a bound, depth first, and expands at most `budget` boards
 /// (Korf 1985). Moves that the guide's automaton leaves out aren't tried (Taylor and Korf 1993).
@@ -41,6 +53,37 @@ pub fn refute(guide: &Guide<'_>, board: &Board, bound: u8, budget: u64) -> Answe
         guide,
         board,
         bound,
+        prefix: Prefix::of_all(),
+    };
+    refute_node(&search, &search.first(), &mut Effort::within(budget))
+}
+
+/// Searches as `refute` does, among the moves of a part of the bound alone: those whose first letters are of the part, and those
+/// that are too few to tell it.
+///
+/// The boards above the last letter that tells a part are searched for each part, and count for each.
+pub fn refute_part(guide: &Guide<'_>, board: &Board, claim: PartBound, budget: u64) -> Answer
+    requires { side_of board.now ≡ guide.now.bundle.side }
+
+    // Refuted: the least solution of fewer moves, if there is one, isn't of the part, and the search of the part fails with so
+    // many boards, within the budget. Solved: these moves solve the board, and are fewer. Spent: where the search of the part
+    // fails, it expands more boards than the budget.
+    ensures answer { IsAnswerOfPart guide.now claim.part board.now claim.bound budget result }
+
+    // It is refuted wherever the search of the part fails within the budget.
+    ensures within { (boards : ℕ) → SearchOfPartFails guide.now claim.part claim.bound board.now boards
+        → boards ≤ budget → result ≡ Refuted boards }
+
+    // A budget that is large enough is never spent.
+    ensures enough { most_boards claim.bound ≤ budget → (result ≡ Spent → ⊥) }
+{
+    // What is said of boards and searches is said of a board and a guide, and these say that the values are.
+    let _sides = (board.side(), guide.side());
+    let search = Search {
+        guide,
+        board,
+        bound: claim.bound,
+        prefix: Prefix::of_part(claim.part),
     };
     refute_node(&search, &search.first(), &mut Effort::within(budget))
 }
@@ -86,7 +129,7 @@ fn refute_by_walk<W: Walk>(
         automaton: task.guide.automaton(),
         state: node.state,
     };
-    match search(&mut reached, effort) {
+    match search_part(&mut reached, &node.prefix, effort) {
         Ok(()) => Answer::Refuted(budget - effort.left),
         Err(Stop::Solved) => {
             effort.letters.reverse();

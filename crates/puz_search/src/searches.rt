@@ -5,6 +5,7 @@ ghost use Rattle.puz_board.specs.Boards.{IsBoardOf};
 ghost use Rattle.move_strings.specs.Automata.{IsState};
 
 use crate::guides::Guide;
+use crate::prefixes::Prefix;
 use puz_board::Board;
 
 /// A search for a solution of a board of fewer moves than a bound.
@@ -14,6 +15,8 @@ pub(crate) struct Search<'a> {
     /// The first board.
     pub(crate) board: &'a Board,
     pub(crate) bound: u8,
+    /// Which moves are searched.
+    pub(crate) prefix: Prefix,
     ghost first_state: { IsState guide.now.steps 0 },
     ghost one_side: { IsBoardOf guide.now.bundle.side board.now },
     ghost small: { bound ≤ 255 },

@@ -2,9 +2,9 @@
 
 ghost use Rattle.std.specs.Prelude.{◌≡◌, ◌≤◌, ℕ, IfOk};
 ghost use Rattle.puz_board.specs.Boards.{side_of};
-ghost use Rattle.puz_search.specs.Answers.{IsAnswer};
-ghost use Rattle.puz_search.specs.Nodes.{IsPartAnswer, solves_first};
-ghost use Rattle.puz_search.specs.Searches.{Fails, most_boards};
+ghost use Rattle.puz_search.specs.Answers.{IsAnswer, IsAnswerOfPart};
+ghost use Rattle.puz_search.specs.Nodes.{IsPartAnswer, search_fails, solves_first};
+ghost use Rattle.puz_search.specs.Searches.{Fails, SearchOfPartFails, most_boards};
 ghost use Rattle.puz_search.specs.declared.answers.Answer.TheVariants.{Refuted, Spent};
 
 use crate::answers::Answer;
@@ -12,7 +12,8 @@ use crate::efforts::Effort;
 use crate::frontiers::frontier_of;
 use crate::guides::Guide;
 use crate::outcomes::{SearchNodes, settle};
-use crate::refuting::refute_node;
+use crate::prefixes::Prefix;
+use crate::refuting::{PartBound, refute_node};
 use crate::searches::Search;
 use puz_board::Board;
 use std::alloc::AllocError;
@@ -57,6 +58,41 @@ pub fn refute_by<R: Threads + Sync, G: Gate + Sync>(
         guide,
         board,
         bound,
+        prefix: Prefix::of_all(),
+    };
+    search_by(&search, budget, workers)
+}
+
+/// Searches as `refute_part` does, by these workers at once, as `refute_by` does.
+pub fn refute_part_by<R: Threads + Sync, G: Gate + Sync>(
+    guide: &Guide<'_>,
+    board: &Board,
+    claim: PartBound,
+    budget: u64,
+    workers: &Workers<'_, R, G>,
+) -> Result<Answer, AllocError>
+    requires { side_of board.now ≡ guide.now.bundle.side }
+
+    // Refuted: the least solution of fewer moves, if there is one, isn't of the part, and the search of the part fails with so
+    // many boards, within the budget. Solved: these moves solve the board, and are fewer. Spent: where the search of the part
+    // fails, it expands more boards than the budget.
+    ensures answer { IfOk result (IsAnswerOfPart guide.now claim.part board.now claim.bound budget) }
+
+    // It is refuted wherever the search of the part fails within the budget.
+    ensures within { (boards : ℕ) → SearchOfPartFails guide.now claim.part claim.bound board.now boards
+        → boards ≤ budget → IfOk result (λ answer. answer ≡ Refuted boards) }
+
+    // A budget that is large enough is never spent.
+    ensures enough { most_boards claim.bound ≤ budget → IfOk result (λ answer. answer ≡ Spent → ⊥) }
+{
+    // What is said of boards and searches is said of a board and a guide, and these say that the values are.
+    let _sides = (board.side(), guide.side());
+    workers.gate.searches(claim.bound);
+    let search = Search {
+        guide,
+        board,
+        bound: claim.bound,
+        prefix: Prefix::of_part(claim.part),
     };
     search_by(&search, budget, workers)
 }
@@ -67,9 +103,8 @@ fn search_by<R: Threads + Sync, G: Gate + Sync>(
     budget: u64,
     workers: &Workers<'_, R, G>,
 ) -> Result<Answer, AllocError>
-    ensures { IfOk result (IsPartAnswer
-        (Fails task.now.guide.now task.now.bound task.now.board.now 0)
-        (most_boards task.now.bound) (solves_first task.now) budget) }
+    ensures { IfOk result (IsPartAnswer (search_fails task.now) (most_boards task.now.bound)
+        (solves_first task.now) budget) }
 {
     let few = budget.min(FEW_BOARDS);
     let mut effort = Effort::within(few);
@@ -89,9 +124,8 @@ fn search_frontier<R: Threads + Sync, G: Gate + Sync>(
     budget: u64,
     workers: &Workers<'_, R, G>,
 ) -> Result<Answer, AllocError>
-    ensures { IfOk result (IsPartAnswer
-        (Fails task.now.guide.now task.now.bound task.now.board.now 0)
-        (most_boards task.now.bound) (solves_first task.now) budget) }
+    ensures { IfOk result (IsPartAnswer (search_fails task.now) (most_boards task.now.bound)
+        (solves_first task.now) budget) }
 {
     let frontier = frontier_of(task, workers.alloc)?;
     workers.gate.expanded(frontier.expanded);

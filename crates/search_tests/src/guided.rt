@@ -56,12 +56,14 @@ fn is_cut_off(bundle: &Bundle<'_>, board: &Board, bound: u64) -> bool {
     false
 }
 
-/// How many boards are expanded below a bound by a search that never takes the arriving move back, level by level.
-fn expanded(
+/// How many boards are expanded below a bound by a search that never takes the arriving move back, fewer than so many moves
+/// behind the first board. They are counted level by level.
+pub(crate) fn expanded(
     alloc: Global,
     bundle: &Bundle<'_>,
     board: &Board,
     bound: u64,
+    depth: u64,
 ) -> Result<u64, AllocError> {
     let mut boards: u64 = 0;
     let mut level = Vec::new(alloc);
@@ -69,7 +71,7 @@ fn expanded(
         board: *board,
         arriving: None,
     })?;
-    for moves in 0..bound {
+    for moves in 0..bound.min(depth) {
         let mut next = Vec::new(alloc);
         for reached in &level {
             if !is_cut_off(bundle, &reached.board, bound.saturating_sub(moves)) {
@@ -142,7 +144,7 @@ fn count_all<R: AllocGlobal + Abort>(
 ) -> Result<u64, AllocError> {
     let automaton = reversals(rt, bundle.side());
     let board = Board::from_cells(numbers).expect(rt, "a board");
-    let boards = expanded(rt.alloc(), bundle, &board, u64::from(bound))?;
+    let boards = expanded(rt.alloc(), bundle, &board, u64::from(bound), u64::MAX)?;
     let led = Led {
         bundle,
         automaton: &automaton,

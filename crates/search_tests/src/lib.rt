@@ -6,6 +6,8 @@ mod guided;
 #[cfg(test)]
 mod large_searches;
 #[cfg(test)]
+mod parts;
+#[cfg(test)]
 mod shares;
 #[cfg(test)]
 mod small_searches;

@@ -1,4 +1,4 @@
-use Rattle.claim_text.proofs.ClaimLemmas.{IfNone-weaker, no_bound_claim, no_moves_claim, no_shortest_claim}
+use Rattle.claim_text.proofs.ClaimLemmas.{IfNone-weaker, no_colon_claim, no_moves_claim, no_shortest_claim}
 use Rattle.claim_text.proofs.claims.read_claim.Goals as goal
 
 pub returns-in-Some-clause-none : goal.returns-in-Some-clause-none
@@ -7,9 +7,9 @@ returns-in-Some-clause-none c =
 
 pub returns-in-Some-split_at-clause-none : goal.returns-in-Some-split_at-clause-none
 returns-in-Some-split_at-clause-none c =
-    IfNone-weaker c.bound_claim.result
-    (no_bound_claim c.args.line.now c.in-Some-split_at.board.now c.in-Some-split_at.number.now c.in_default.ensures.none c.in-Some-split_at.ensures.some)
-    c.bound_claim.ensures.none
+    IfNone-weaker c.colon_claim.result
+    (no_colon_claim c.args.line.now c.in-Some-split_at.board.now c.in-Some-split_at.behind.now c.in_default.ensures.none c.in-Some-split_at.ensures.some)
+    c.colon_claim.ensures.none
 
 pub returns-in-None-clause-none : goal.returns-in-None-clause-none
 returns-in-None-clause-none c =

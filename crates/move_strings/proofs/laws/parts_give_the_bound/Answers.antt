@@ -1,7 +1,5 @@
-use Rattle.std.proofs.Common.{refl}
-use Rattle.move_strings.proofs.LeastLemmas.{no_least-bound}
+use Rattle.move_strings.proofs.BoundPartLemmas.{of_all_parts}
 use Rattle.move_strings.proofs.laws.parts_give_the_bound.Goals as goal
 
 pub returns : goal.returns
-returns c n b good r parts part few none path solves =
-    no_least-bound n b good r (λ moves is. none (part moves) (few moves) moves is refl) path solves
+returns c side b good n count some parts path solves = of_all_parts side b good n count some parts path solves

@@ -27,7 +27,8 @@ returns-in_ok-push-in-Goal c =
     let less : child.bound ≡ node.bound - 1 = (let bound = e.bound in omega arith) in
     let most : most_boards child.bound ≡ most_boards (node.bound - 1) = ap most_boards less in
     subst (Adds s (child_fails_of s node move) (most_boards (node.bound - 1)) 0 c.args.next.now.items) (sym c.in_ok-push-in-Goal.ensures.items)
-    (adds_one s (child_fails_of s node move) (most_boards (node.bound - 1)) c.args.next.now.items child (child_same s node child move c.in-Some-apply.board leads on e.board state e.bound) (omega arith) e.led)
+    (adds_one s (child_fails_of s node move) (most_boards (node.bound - 1)) c.args.next.now.items child
+    (child_same s node child move c.in-Some-apply.board leads on e.board state e.bound e.part e.ahead e.rank) (omega arith) e.led)
 
 pub returns-in-Closed : goal.returns-in-Closed
 returns-in-Closed c =
@@ -40,4 +41,5 @@ returns-in-Closed c =
     step_kept s.guide.now.steps node.state c.in-Some.state move c.in-Some.ensures.next.0 c.in-Some.ensures.next.1 in
     let state = e.state ∙ sym c.in-Some.ensures.next.0 in
     let leads : moved node.board move ≡ Some c.in-Some-apply.board = sym c.apply.ensures ∙ c.in-Some-apply.is in
-    adds_none s (child_fails_of s node move) (most_boards (node.bound - 1)) c.args.next.now.items (child_closed s node child move c.in-Some-apply.board leads on e.board state e.bound c.in-Closed.ensures)
+    adds_none s (child_fails_of s node move) (most_boards (node.bound - 1)) c.args.next.now.items
+    (child_closed s node child move c.in-Some-apply.board leads on e.board state e.bound e.part e.ahead e.rank c.in-Closed.ensures)

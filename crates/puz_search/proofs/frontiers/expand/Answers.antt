@@ -3,15 +3,14 @@ use Rattle.puz_search.specs.Frontiers.{Adds}
 use Rattle.puz_search.specs.Nodes.{node_fails}
 use Rattle.puz_search.specs.Searches.{most_boards}
 use Rattle.puz_search.proofs.CountLemmas.{adds_none, adds_one}
-use Rattle.puz_search.proofs.FailLemmas.{fails_closed}
-use Rattle.puz_search.proofs.NodeLemmas.{opened_adds}
+use Rattle.puz_search.proofs.NodeLemmas.{node_closed, opened_adds}
 use Rattle.puz_search.proofs.frontiers.expand.Goals as goal
 
 pub returns-in-Closed : goal.returns-in-Closed
 returns-in-Closed c =
     let s = c.args.task.now in
     let node = c.args.node in
-    adds_none s (node_fails s node) (most_boards node.bound) c.args.next.now.items (fails_closed s.guide.now node.board node.state node.bound c.in-Closed.ensures)
+    adds_none s (node_fails s node) (most_boards node.bound) c.args.next.now.items (node_closed s node c.in-Closed.ensures)
 
 pub returns-in-Goal : goal.returns-in-Goal
 returns-in-Goal c =
@@ -25,5 +24,6 @@ returns c =
     let s = c.args.task.now in
     let node = c.args.node in
     let is = c.in-Open.ensures in
-    opened_adds s node is.0.some is.0.not_cut is.1 c.args.next.now.items c.add_child.new.next.items c.add_child-2.new.next.items c.add_child-3.new.next.items c.add_child-4.new.next.items
+    opened_adds s node is.0 is.1.0.some is.1.0.not_cut is.1.1 c.args.next.now.items c.add_child.new.next.items c.add_child-2.new.next.items
+    c.add_child-3.new.next.items c.add_child-4.new.next.items
     c.in_ok-add_child.ensures c.in_ok-add_child-2.ensures c.in_ok-add_child-3.ensures c.in_ok-add_child-4.ensures

@@ -2,7 +2,7 @@ use Rattle.std.proofs.Common.{◌-◌, ◌<◌, length, take, sym, subst, arith}
 use Rattle.std.specs.Prelude.{slice_index_or}
 use Rattle.puz_search.specs.Frontiers.{IsOutcome, all_fail}
 use Rattle.puz_search.specs.declared.outcomes.Outcome.TheVariants.{Refuted}
-use Rattle.puz_search.proofs.FrontierLemmas.{push_at, settled_more, spent_in}
+use Rattle.puz_search.proofs.FrontierLemmas.{push_at, settled_more, solved_in, spent_in}
 use Rattle.puz_search.proofs.outcomes.settle.Goals as goal
 
 pub settle_node-requires-clause-outcome : goal.settle_node-requires-clause-outcome
@@ -10,6 +10,13 @@ settle_node-requires-clause-outcome c =
     let node = c.index-nodes-at.result in
     let low : c.loop-at.at < length c.args.nodes.now = omega arith in
     subst (λ n. IsOutcome c.args.task.now n (slice_index_or c.args.outcomes.now c.loop-at.at (Refuted 0))) (sym c.index-nodes-at.is) (c.requires.outcomes.1 c.loop-at.at (Refuted 0) low node)
+
+pub returns-in-Solved : goal.returns-in-Solved
+returns-in-Solved c =
+    let low : c.loop-at.at < length c.args.nodes.now = omega arith in (
+      c.in-Solved.ensures.0,
+      solved_in c.args.task.now c.args.nodes.now c.loop-at.at c.index-nodes-at.result low c.index-nodes-at.is c.in-Solved.ensures.1,
+    )
 
 pub returns-in-Spent : goal.returns-in-Spent
 returns-in-Spent c =

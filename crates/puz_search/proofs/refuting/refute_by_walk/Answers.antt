@@ -1,8 +1,36 @@
-use Rattle.std.proofs.Common.{◌≡◌, ◌-◌, ◌<◌, refl, subst, arith}
+use Rattle.std.proofs.Common.{inr, IfNone, ◌++◌, ◌∙◌, ap, ap₂, length, reverse, ◌≡◌, ◌-◌, ◌<◌, refl, subst, arith}
+use Rattle.arrayvec.proofs.ArrayVecLemmas.{items-with_items}
+use Rattle.puz_walk.specs.Walks.{IsClosed}
 use Rattle.puz_search.specs.Nodes.{node_fails}
+use Rattle.puz_search.specs.Outcomes.{IsTrail}
 use Rattle.puz_search.specs.declared.walks.Reached.{Reached}
-use Rattle.puz_search.proofs.NodeLemmas.{reached_by, reached_fails, reached_most}
+use Rattle.puz_search.proofs.NodeLemmas.{node_closed, reached_by, reached_fails, reached_most}
 use Rattle.puz_search.proofs.refuting.refute_by_walk.Goals as goal
+
+pub returns-in_default : goal.returns-in_default
+returns-in_default g c =
+    let s = c.args.task.now in
+    let node = c.args.node.now in
+    let closed = subst (λ o. IfNone o (IsClosed s.guide.now.bundle node.board node.bound)) c.in_default.is c.requires.walk.1 in
+    ((node_closed s node (inr closed) 0).1 refl, omega arith)
+
+pub returns-in-Err-Solved : goal.returns-in-Err-Solved
+returns-in-Err-Solved g c =
+    let s = c.args.task.now in
+    let node = c.args.node.now in
+    let reached : Reached g.row.W.Denot = record { walk = c.in-Some.walk; automaton = c.automaton.result; state = node.state } in
+    let there = reached_by g.W.Walk.shown s node c.args.walk reached c.requires.walk c.in-Some.is c.automaton.ensures refl in
+    let is = rw c.in-Err-Solved.field-0-is at c.in-Err-Solved.ensures.stopped in
+    let turned =
+    items-with_items c.search_part.new.effort.letters c.reverse.new.self (c.reverse.ensures.len ∙ ap length c.deref_mut.ensures.value)
+    ∙ c.reverse.ensures.after ∙ ap reverse c.deref_mut.ensures.value in (
+      (
+        reverse c.search_part.new.effort.letters.items,
+        subst (λ w. IsTrail w.board w.bound (reverse c.search_part.new.effort.letters.items)) there.walk is.0,
+        c.joined.ensures ∙ ap₂ (λ front back. front ++ back) c.as_slice.ensures.value (c.as_slice-in-Err-Solved.ensures.value ∙ turned),
+      ),
+      λ boards fails. is.1 boards ((reached_fails g.W.Walk.shown s node reached there boards).1 fails),
+    )
 
 pub returns-in-Ok : goal.returns-in-Ok
 returns-in-Ok g c =
@@ -12,7 +40,7 @@ returns-in-Ok g c =
     let there = reached_by g.W.Walk.shown s node c.args.walk reached c.requires.walk c.in-Some.is c.automaton.ensures refl in
     let is = c.in-Ok.ensures.refuted in
     let left = is.left in
-    let same : is.boards ≡ c.args.effort.now.left - c.search.new.effort.left = omega arith in
+    let same : is.boards ≡ c.args.effort.now.left - c.search_part.new.effort.left = omega arith in
     (subst (node_fails s node) same ((reached_fails g.W.Walk.shown s node reached there is.boards).0 is.fails), omega arith)
 
 pub returns : goal.returns

@@ -1,4 +1,4 @@
--- The parts of a text between its separators.
+-- The words of a text: what it has between its separators.
 use Rattle.std.proofs.Common.{◌≡◌, ℕ, suc, ◌<◌, get_or-take, Bool, true, false, List, [], ◌∷◌, ◌++◌, length, get_or, take, drop, ltb, not, refl, sym, ◌∙◌, ap, subst, arith, Some, None, inl, inr}
 use Rattle.std.proofs.Math.Seq.{drop-cons}
 use Rattle.std.proofs.lemmas.Bool.{cases_Bool, cases_eq, cond-true, lt-ltb, not-false, not-true}
@@ -24,7 +24,7 @@ parts-separators (x ∷ xs) text all =
     ap kept (slice_split-cons_yes is_separator x (xs ++ text) (All-head (λ b. is_separator b ≡ true) x xs all)) ∙
     parts-separators xs text (All-tail (λ b. is_separator b ≡ true) x xs all)
 
--- a text of separators has no part
+-- a text of separators has no word
 pub parts-blank : (text : List ℕ) → AllPass is_separator text → parts text ≡ []
 parts-blank [] all = refl
 parts-blank (x ∷ xs) all =
@@ -40,28 +40,11 @@ parts-word x xs word = ap kept (slice_split_none is_separator (x ∷ xs) word) �
 parts-word_before : (x : ℕ) (xs : List ℕ) (y : ℕ) (ys : List ℕ) → IsWord (x ∷ xs) → is_separator y ≡ true → parts ((x ∷ xs) ++ y ∷ ys) ≡ (x ∷ xs) ∷ parts ys
 parts-word_before x xs y ys word e = ap kept (slice_split_at is_separator (x ∷ xs) y ys word e) ∙ kept-some x xs (slice_split is_separator ys)
 
-some_kept : (x : ℕ) (all : List (List ℕ)) → (first : List ℕ) × (rest : List (List ℕ)) × (kept (onto_first x all) ≡ first ∷ rest)
-some_kept x [] = (x ∷ [], [], kept-some x [] [])
-some_kept x (part ∷ all) = (x ∷ part, kept all, kept-some x part all)
+-- ---- a word by its place
 
-absurd_list : {A : Type 0} (first : List ℕ) (rest : List (List ℕ)) → [] ≡ first ∷ rest → A
-absurd_list first rest e = absurd (cc)
-
--- and a text without a part is one of separators
-pub blank-parts : (text : List ℕ) → parts text ≡ [] → AllPass is_separator text
-blank-parts [] e = λ k d l. absurd (omega arith)
-blank-parts (x ∷ xs) e = elim (cases_Bool (is_separator x)) [
-  | inl same ↦ All-cons (λ b. is_separator b ≡ true) x xs same (blank-parts xs (sym (ap kept (slice_split-cons_yes is_separator x xs same)) ∙ e))
-  | inr other ↦
-      let more = some_kept x (slice_split is_separator xs) in
-      absurd_list more.0 more.1 (sym e ∙ ap kept (slice_split-cons_no is_separator x xs other) ∙ more.2)
-]
-
--- ---- a part by its place
-
--- nothing of the text is a part where no byte is another than a separator
-pub no_part : (text : List ℕ) → None ≡ position (λ b. not (is_separator b)) text → (part : List ℕ) → parts text ≡ part ∷ [] → ⊥
-no_part text e part one = absurd_list part [] (sym (parts-blank text (AllPass-position is_separator text (sym e))) ∙ one)
+-- a text of which no byte is another than a separator has no word
+pub no_word : (text : List ℕ) → None ≡ position (λ b. not (is_separator b)) text → parts text ≡ []
+no_word text e = parts-blank text (AllPass-position is_separator text (sym e))
 
 parts-drop : (text : List ℕ) (start : ℕ) → Some start ≡ position (λ b. not (is_separator b)) text → parts (drop start text) ≡ parts text
 parts-drop text start e =
@@ -74,10 +57,10 @@ parts-drop text start e =
     ap is_separator (get_or_default_zero (take start text) k d l ∙ get_or-take start text k 0 below) ∙ not-false (is_separator (get_or text k 0)) (first.before k below) in
     sym (ap parts (sym (take-append-drop start text)) ∙ parts-separators (take start text) (drop start text) front)
 
--- where no separator stands behind the first other byte, what begins there is the one part
-pub part_alone : (text rest : List ℕ) (start : ℕ) → rest ≡ drop start text → Some start ≡ position (λ b. not (is_separator b)) text → None ≡ position is_separator rest
+-- where no separator stands behind the first other byte, what begins there is the one word
+pub word_alone : (text rest : List ℕ) (start : ℕ) → rest ≡ drop start text → Some start ≡ position (λ b. not (is_separator b)) text → None ≡ position is_separator rest
     → parts text ≡ rest ∷ []
-part_alone text rest start r e f =
+word_alone text rest start r e f =
     let first = first-position (λ b. not (is_separator b)) text start (sym e) in
     let cons = r ∙ drop-cons text start 0 first.within in
     let word : IsWord rest = λ k d l. ap is_separator (get_or_default_zero rest k d l) ∙ fails_each is_separator rest (sym f) k l in
@@ -96,7 +79,7 @@ head_other text start e =
 true≢false : {A : Type 0} (b : Bool) → b ≡ true → b ≡ false → A
 true≢false b e f = absurd (let g : true ≡ false = sym e ∙ f in cc)
 
--- where one stands there, the first part is what comes before it
+-- where one stands there, the first word is what comes before it
 pub parts-cut : (text rest : List ℕ) (start end : ℕ) → rest ≡ drop start text → Some start ≡ position (λ b. not (is_separator b)) text → Some end ≡ position is_separator rest
     → parts text ≡ take end rest ∷ parts (drop end rest)
 parts-cut text rest start end r e f =
@@ -117,31 +100,3 @@ parts-cut text rest start end r e f =
     ap (λ behind. parts (take end rest ++ behind)) cons ∙
     parts-front (take end rest) (get_or rest end 0) (drop (suc end) rest) (omega arith) word first.here ∙
     ap (λ more. take end rest ∷ more) (sym (ap parts cons ∙ ap kept (slice_split-cons_yes is_separator (get_or rest end 0) (drop (suc end) rest) first.here)))
-
--- it is the only one where separators alone follow it
-pub part_before : (text rest behind : List ℕ) (start end : ℕ) → rest ≡ drop start text → behind ≡ drop end rest → Some start ≡ position (λ b. not (is_separator b)) text
-    → Some end ≡ position is_separator rest → position (λ b. not (is_separator b)) behind ≡ None → parts text ≡ take end rest ∷ []
-part_before text rest behind start end r s e f none =
-    parts-cut text rest start end r e f ∙
-    ap (λ more. take end rest ∷ more) (ap parts (sym s) ∙ parts-blank behind (AllPass-position is_separator behind none))
-
-tail_of : List (List ℕ) → List (List ℕ)
-tail_of [] = []
-tail_of (x ∷ xs) = xs
-
--- and there it is not where another byte follows
-pub more_parts : (text rest behind : List ℕ) (start end : ℕ) → rest ≡ drop start text → behind ≡ drop end rest → Some start ≡ position (λ b. not (is_separator b)) text
-    → Some end ≡ position is_separator rest → (part : List ℕ) → parts text ≡ part ∷ [] → position (λ b. not (is_separator b)) behind ≡ None
-unfolding tail_of
-more_parts text rest behind start end r s e f part one =
-    position-AllPass is_separator behind (blank-parts behind (ap parts s ∙ ap tail_of (sym (parts-cut text rest start end r e f) ∙ one)))
-
--- nothing is there
-pub none_there : (r : Option ℕ) → is_some r ≡ false → r ≡ None
-none_there None e = refl
-none_there (Some x) e = cc
-
--- something is there
-pub none_not_there : (r : Option ℕ) → is_some r ≡ true → ¬ (r ≡ None)
-none_not_there None e none = absurd (let f : false ≡ true = e in cc)
-none_not_there (Some x) e none = cc

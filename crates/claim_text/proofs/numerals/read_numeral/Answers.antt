@@ -1,7 +1,7 @@
 use Rattle.std.proofs.Common.{◌≡◌, sym, ◌∙◌, ap, decimal, Some, None}
 use Rattle.claim_text.proofs.ClaimLemmas.{IfNone-always}
 use Rattle.claim_text.proofs.NumeralLemmas.{no_text, not_differ, read_decimal, same_text, some_same}
-use Rattle.claim_text.proofs.bounds.read_numeral.Goals as goal
+use Rattle.claim_text.proofs.numerals.read_numeral.Goals as goal
 
 pub returns-in_err-text-clause-none : goal.returns-in_err-text-clause-none
 returns-in_err-text-clause-none c =

@@ -1,0 +1,5 @@
+use Rattle.move_strings.proofs.BoundPartLemmas.{small_power}
+use Rattle.move_strings.proofs.bound_parts.digits.Goals as goal
+
+pub pow-requires : goal.pow-requires
+pow-requires c = small_power c.loop-place.place c.loop-place-test.true

@@ -1,0 +1,21 @@
+use Rattle.std.proofs.Common.{arith}
+use Rattle.puz_search.proofs.PrefixLemmas.{rank_fits, rank_small}
+use Rattle.puz_search.proofs.prefixes.Prefix.after.Goals as goal
+
+pub overflow_mul-result : goal.overflow_mul-result
+overflow_mul-result c = let x = c.args.self.now in let low = rank_fits x.ahead x.rank x.small in omega arith
+
+pub overflow_add-result : goal.overflow_add-result
+overflow_add-result c =
+    let x = c.args.self.now in
+    let low = rank_fits x.ahead x.rank x.small in
+    let few = c.rank_of_move.ensures.few in
+    let same = c.from.ensures in
+    omega arith
+
+pub invariant_of-result-clause-small : goal.invariant_of-result-clause-small
+invariant_of-result-clause-small c =
+    let x = c.args.self.now in
+    let few = c.rank_of_move.ensures.few in
+    let same = c.from.ensures in
+    rank_small x.ahead x.rank c.from.result c.if-self-eq0.false x.few x.small (omega arith)
