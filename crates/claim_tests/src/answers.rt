@@ -94,17 +94,15 @@ fn told_parts_are_those_of_one_board_and_bound_in_so_many_parts(rt: HostRuntime)
     }
     let line = "part 65534/65535 of bound 6 of 3 2 1 0\n";
     assert_eq!(rt; told(&rt, 65_535, line), Some(65_534));
-    assert_eq!(rt;
-        told(&rt, 1, "part 0/1 of bound 6 of 3 2 1 0\n"),
-        Some(0)
-    );
+    assert_eq!(rt; told(&rt, 1, "part 0/1 of bound 6 of 3 2 1 0\n"), Some(0));
     for line in NOT_TOLD.split('|') {
         assert_eq!(rt; told(&rt, 3, line), None, "{line}");
     }
 }
 
 /// Lines that say nothing of the bound 6 of `3 2 1 0` in 3 parts, with a bar between them.
-const NOT_TOLD: &str = "|\n|part 0/3 of bound 6 of 3 2 1 0|part 0/3 of bound 6 of 3 2 1 0\r\n|part 3/3 of bound 6 of 3 2 1 0\n|\
+const NOT_TOLD: &str =
+    "|\n|part 0/3 of bound 6 of 3 2 1 0|part 0/3 of bound 6 of 3 2 1 0\r\n|part 3/3 of bound 6 of 3 2 1 0\n|\
 part 0/3 of bound 7 of 3 2 1 0\n|part 0/3 of bound 6 of 0 1 2 3\n|part 0/3 of bound 6 of 3 2 1 0 \n|part  0/3 of bound 6 of 3 2 1 0\n|\
 part 00/3 of bound 6 of 3 2 1 0\n|part 0/03 of bound 6 of 3 2 1 0\n|part 0/63 of bound 6 of 3 2 1 0\n|bound 6 of 3 2 1 0\n|\
 refused K1 of 3 2 1 0 : 6 part 0/3\n|3 2 1 0 : 6 part 0/3\n|part /3 of bound 6 of 3 2 1 0\n|part 0 of bound 6 of 3 2 1 0\n|\

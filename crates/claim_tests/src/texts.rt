@@ -12,40 +12,32 @@ fn fault<R: AllocGlobal>(rt: &R, text: &[u8]) -> Option<ClaimsFault> {
     read_claims(rt.alloc(), text).err()
 }
 
-/// The one claim of a text: whether it is on these numbers, and what it asks or says.
-fn said<'a, R: AllocGlobal + Abort>(rt: &R, text: &'a [u8], numbers: &[u8]) -> (bool, Asks<'a>) {
+/// Whether a text has one claim, on these numbers, which asks or says this.
+fn says<R: AllocGlobal + Abort>(rt: &R, text: &[u8], numbers: &[u8], asks: &Asks<'_>) -> bool {
     let claims = read_claims(rt.alloc(), text).ok().expect(rt, "claims");
     let claim = claims.first().expect(rt, "a claim");
-    (
-        Board::from_cells(numbers) == Some(claim.board) && claims.len() == 1,
-        claim.asks,
-    )
+    Board::from_cells(numbers) == Some(claim.board) && claims.len() == 1 && claim.asks == *asks
 }
 
 #[test]
 fn claims_of_each_form_are_read(rt: HostRuntime) {
     let start = [3, 2, 1, 0];
-    assert_eq!(rt; said(&rt, b"3 2 1 0\r\n", &start), (true, Asks::Shortest));
-    assert_eq!(rt;
-        said(&rt, b" 3\t2 1 0;UL\tDRUL\r\n", &start),
-        (true, Asks::Moves(b"UL\tDRUL\r"))
+    assert!(rt; says(&rt, b"3 2 1 0\r\n", &start, &Asks::Shortest));
+    assert!(rt;
+        says(
+            &rt,
+            b" 3\t2 1 0;UL\tDRUL\r\n",
+            &start,
+            &Asks::Moves(b"UL\tDRUL\r")
+        )
     );
-    assert_eq!(rt; said(&rt, b"3 2 1 0 ;", &start), (true, Asks::Moves(b"")));
-    assert_eq!(rt; said(&rt, b"3 2 1 0:6", &start), (true, Asks::Bound(6)));
-    assert_eq!(rt; said(&rt, b"3 2 1 0 : 0\n", &start), (true, Asks::Bound(0)));
-    assert_eq!(rt;
-        said(&rt, b"3 2 1 0 \t:\t10 \r\n", &start),
-        (true, Asks::Bound(10))
-    );
-    assert_eq!(rt;
-        said(&rt, b"3 2 1 0 : 255", &start),
-        (true, Asks::Bound(255))
-    );
+    assert!(rt; says(&rt, b"3 2 1 0 ;", &start, &Asks::Moves(b"")));
+    assert!(rt; says(&rt, b"3 2 1 0:6", &start, &Asks::Bound(6)));
+    assert!(rt; says(&rt, b"3 2 1 0 : 0\n", &start, &Asks::Bound(0)));
+    assert!(rt; says(&rt, b"3 2 1 0 \t:\t10 \r\n", &start, &Asks::Bound(10)));
+    assert!(rt; says(&rt, b"3 2 1 0 : 255", &start, &Asks::Bound(255)));
     let three = [1, 0, 2, 3, 4, 5, 6, 7, 8];
-    assert_eq!(rt;
-        said(&rt, b"1 0 2 3 4 5 6 7 8 : 9", &three),
-        (true, Asks::Bound(9))
-    );
+    assert!(rt; says(&rt, b"1 0 2 3 4 5 6 7 8 : 9", &three, &Asks::Bound(9)));
 }
 
 #[test]
@@ -61,11 +53,8 @@ fn parts_of_bounds_are_read(rt: HostRuntime) {
     ];
     for (line, bound, index, count) in lines {
         let part = BoundPart::new(index, count).expect(&rt, "a part");
-        assert_eq!(rt;
-            said(&rt, line, &start),
-            (true, Asks::Part(bound, part)),
-            "{line:?}"
-        );
+        let asks = Asks::Part(bound, part);
+        assert!(rt; says(&rt, line, &start, &asks), "{line:?}");
     }
 }
 
@@ -81,11 +70,10 @@ fn claims_come_in_the_order_of_their_lines(rt: HostRuntime) {
             "bound 6 of 3 2 1 0\n"
         );
     }
-    assert_eq!(rt;
-        claims.first().map(|claim| claim.asks),
-        Some(Asks::Moves(b" ULDRUL"))
-    );
-    assert_eq!(rt; claims.last().map(|claim| claim.asks), Some(Asks::Bound(6)));
+    let first = claims.first().expect(&rt, "a claim");
+    assert!(rt; first.asks == Asks::Moves(b" ULDRUL"));
+    let last = claims.last().expect(&rt, "a claim");
+    assert!(rt; last.asks == Asks::Bound(6));
 }
 
 #[test]
@@ -181,7 +169,8 @@ fn a_text_may_have_1048576_claims(rt: HostRuntime) -> Result<(), Fail> {
     let text = many(rt.alloc(), 1_048_576)?;
     let claims = read_claims(rt.alloc(), &text).ok().expect(&rt, "claims");
     assert_eq!(rt; claims.len(), 1_048_576);
-    assert_eq!(rt; claims.last().map(|claim| claim.asks), Some(Asks::Bound(9)));
+    let last = claims.last().expect(&rt, "a claim");
+    assert!(rt; last.asks == Asks::Bound(9));
     Ok(())
 }
 

@@ -53,6 +53,10 @@ told_text (refused what claim) = what ++ codes " of" ++ claim_words claim
 abbrev pub told_line : Told → List ℕ
 told_line told = told_text told ++ codes "\n"
 
+-- the line that says that a bound of the board holds where each of its parts does, so many of them
+abbrev pub joined_line : ℕ → ℕ → List ℕ → List ℕ
+joined_line n count b = codes "bound " ++ decimal n ++ codes " of" ++ numbers b ++ codes " from " ++ decimal count ++ codes " parts\n"
+
 -- ---- what holds of them
 
 -- the claim's moves text, where it has one, has at most 1,000 letters

@@ -3,7 +3,7 @@
 ghost use Rattle.std.specs.Prelude.{◌≡◌, ◌+◌, ◌≤◌, ◌++◌, codes, decimal, length};
 ghost use Rattle.arrayvec.specs.ArrayString.{array_string_len};
 ghost use Rattle.claim_text.specs.Claims.{letters, part_words};
-ghost use Rattle.claim_text.specs.Lines.{HasFewLetters, claim_line, claim_words, numbers, spaced_letters, told_line};
+ghost use Rattle.claim_text.specs.Lines.{HasFewLetters, claim_line, claim_words, joined_line, numbers, spaced_letters, told_line};
 ghost use Rattle.claim_text.specs.Lines.{bounded, optimal, part_bounded, refused, shorter};
 ghost use Rattle.claim_text.specs.Shown.{claim_shown};
 
@@ -37,6 +37,21 @@ pub fn bound_line(bound: u8, board: &Board) -> Line
     line.push_str(" of");
     add_numbers(&mut line, board);
     line.push_str("\n");
+    line
+}
+
+/// The line that says that a bound of a board holds where each of its parts does: `bound 6 of 3 2 1 0 from 3 parts`.
+pub fn joined_line(bound: u8, count: u16, board: &Board) -> Line
+    ensures { result.bytes ≡ joined_line bound count board.now }
+{
+    let mut line = Line::new();
+    line.push_str("bound ");
+    line.push_str(Buffer::new().format(bound));
+    line.push_str(" of");
+    add_numbers(&mut line, board);
+    line.push_str(" from ");
+    line.push_str(Buffer::new().format(count));
+    line.push_str(" parts\n");
     line
 }
 

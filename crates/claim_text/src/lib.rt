@@ -14,8 +14,8 @@ mod told_parts;
 mod words;
 
 pub use answers::{
-    LINE_LEN, Line, MOST_SOLUTION, MOST_WHAT, bound_line, claim_line, optimal_line, part_line,
-    refused_line, shorter_line,
+    LINE_LEN, Line, MOST_SOLUTION, MOST_WHAT, bound_line, claim_line, joined_line, optimal_line,
+    part_line, refused_line, shorter_line,
 };
 pub use claims::{Asks, Claim};
 pub use faults::ClaimsFault;

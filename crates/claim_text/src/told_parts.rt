@@ -16,6 +16,8 @@ pub fn told_index(line: &[u8], count: u16, bound: u8, board: &Board) -> Option<u
     requires { AreParts count }
     ensures some { IfSome result (λ i. (i < count)
         × (line.now ≡ told_line (part_bounded (part_at count i) bound board.now))) }
+    ensures one { IfSome result (λ i. (j : ℕ) → j < count
+        → line.now ≡ told_line (part_bounded (part_at count j) bound board.now) → j ≡ i) }
     ensures none { IfNone result ((i : ℕ) → i < count
         → ¬ (line.now ≡ told_line (part_bounded (part_at count i) bound board.now))) }
 {

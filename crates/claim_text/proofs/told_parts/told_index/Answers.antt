@@ -38,3 +38,10 @@ returns-else-eq-clause-none c i below is =
     let line : ShownPart → List ℕ = λ p. told_line (part_bounded p c.args.bound c.args.board.now) in
     let told = c.as_bytes.ensures.value ∙ c.as_str.ensures.value ∙ c.part_line.ensures ∙ ap line c.in_ok-part.ensures.1 ∙ ap (λ k. line (part_at c.args.count k)) same in
     not_differ c.as_bytes.result.now c.args.line.now (told ∙ sym is) c.if-eq.ensures
+
+pub returns-then-eq-clause-one : goal.returns-then-eq-clause-one
+returns-then-eq-clause-one c j below is =
+    let few = c.requires.few in
+    let index = index_of c.args.line.now c.in_ok-words.words.now c.in_ok-index.index.now _ (part_at c.args.count j) c.args.bound c.args.board.now
+    (c.in_ok-words.ensures.cases.1 ∙ ap (λ front. drop (length front) c.args.line.now) c.as_slice.ensures) c.in_ok-index.ensures.some is in
+    sym (one_decimal c.in_ok-index-2.index j (omega arith) (omega arith) (sym c.in_ok-index-2.ensures.some ∙ index))

@@ -1,0 +1,3 @@
+mod LawLemmas
+mod LineLemmas
+mod MarkLemmas
