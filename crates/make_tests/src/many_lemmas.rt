@@ -260,12 +260,12 @@ fn a_log_has_no_more_lemmas_than_it_may(rt: HostRuntime) {
 }
 
 #[test]
-fn a_tree_of_more_bytes_than_a_log_may_have_is_want_of_memory(rt: HostRuntime) {
+fn a_tree_of_more_bytes_than_a_log_may_have_is_refused(rt: HostRuntime) {
     let (first, second, third) = tables_of_side_4(&rt);
     let bundle = bundle(&rt, &[&first, &second, &third], b"set 0 1 2\n");
     let near = &NEAR_BOARDS[6];
     for (tree, fault) in [
-        (near.tree.saturating_sub(1), Some(MakeFault::Memory)),
+        (near.tree.saturating_sub(1), Some(MakeFault::K5)),
         (near.tree, None),
     ] {
         let limits = Limits {
@@ -290,7 +290,7 @@ fn trees_that_pass_a_limit_are_left_out_until_they_are_needed(rt: HostRuntime) {
         (5, 5, None),
         (4, 5, None),
         (0, 5, None),
-        (4, 4, Some(MakeFault::Memory)),
+        (4, 4, Some(MakeFault::K5)),
     ];
     for (early_tree, tree, fault) in cases {
         let limits = Limits {

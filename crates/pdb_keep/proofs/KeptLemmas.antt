@@ -76,7 +76,7 @@ search_stood shelf reader arguments board_text set_text files read =
 module _ (arguments : SolveArguments) (old new : World) where
   found_kept : (board_text set_text : Bytes) (files : List Bytes)
       → AreRead old.files old.reader (solve_inputs arguments) (board_text ∷ set_text ∷ files)
-      → (outcome : SearchOutcome) → IsSearchOf arguments.fold board_text set_text files outcome
+      → (outcome : SearchOutcome) → IsSearchOf arguments.fold arguments.budget board_text set_text files outcome
       → IsYes arguments.out old new (reply_to_search files outcome) → IsLogKept arguments old new
   found_kept board_text set_text files read (searched moves log n) is says =
       let proved = is.is_result in

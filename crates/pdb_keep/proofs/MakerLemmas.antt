@@ -56,29 +56,30 @@ table_told file now answer settled same is there says =
 
 -- ---- searches over a bundle
 
-module _ (fold : Bool) (text sets : Bytes) (files : List Bytes) (board : List ℕ) (spelt : Spells text board) where
+module _ (fold : Bool) (budget : ℕ) (text sets : Bytes) (files : List Bytes) (board : List ℕ) (spelt : Spells text board) where
   -- what gives up over a bundle of the board's side is why no log is made
-  pub given_up : (are_for : AreForBoard fold board sets files) (why : Fault) → IsGivenUp are_for.bundle board why
-      → IsCauseForSearch fold text sets files why
-  given_up are_for fault.K1 is = record { board = board; spelt = spelt; unmade = are_for }
+  pub given_up : (are_for : AreForBoard fold board sets files) (why : Fault) → IsGivenUp are_for.bundle board budget why
+      → IsCauseForSearch fold budget text sets files why
+  given_up are_for fault.K1 is = record { board = board; spelt = spelt; unmade = record { are_for = are_for; spent = is } }
   given_up are_for fault.K2 is = record { board = board; spelt = spelt; unmade = record { are_for = are_for; out_of_reach = is } }
+  given_up are_for fault.K5 is = record { board = board; spelt = spelt; unmade = record { are_for = are_for; too_long = is } }
   given_up are_for fault.Memory is = (board, spelt, bundle_taken fold files sets are_for.bundle are_for.is_bundle)
   given_up are_for _ is = absurd is
 
-  unmade_of : (refused : Fault) → AreRefused fold files sets refused → IsUnmade fold text sets files refused
+  unmade_of : (refused : Fault) → AreRefused fold files sets refused → IsUnmade fold budget text sets files refused
   unmade_of (fault.TableOf number refused) is = record { board = board; spelt = spelt; unmade = is }
   unmade_of (fault.Sets refused) is = record { board = board; spelt = spelt; unmade = is }
   unmade_of _ is = absurd is
 
   -- so is why there is no bundle
-  pub no_bundle : (why : Fault) → IsCauseForBundle fold files sets why → IsCauseForSearch fold text sets files why
+  pub no_bundle : (why : Fault) → IsCauseForBundle fold files sets why → IsCauseForSearch fold budget text sets files why
   no_bundle why is = cause_by unmade_of (λ takes. (board, spelt, takes)) why is
 
   -- so a search over one makes a log, or that is why
-  pub search_came : (are_for : AreForBoard fold board sets files) (r : Result (Option Made) Fault) → IfErr r (IsGivenUp are_for.bundle board)
+  pub search_came : (are_for : AreForBoard fold board sets files) (r : Result (Option Made) Fault) → IfErr r (IsGivenUp are_for.bundle board budget)
       → IfOk r (λ made. IfSome made (λ made.
       IsOptimumResult (log_files fold (puzzle_of text made.moves.items) sets made.log.items files) (Ok made.count)))
-      → CameTo fold text sets files r
+      → CameTo fold budget text sets files r
   search_came are_for (Ok (Some made)) why is = record { could = record { board = board; spelt = spelt; are_for = are_for }; is_result = is }
   search_came are_for (Ok None) why is = record { board = board; spelt = spelt; are_for = are_for }
   search_came are_for (Err why) gives is = given_up are_for why gives
@@ -101,21 +102,21 @@ led-length n c (m ∷ moves) (d ∷ path) led = ap suc (led-length n d moves pat
 led-length n c _ _ led = absurd led
 
 -- so there are as many as are said, where a search makes some
-pub made_moves : (fold : Bool) (text sets : Bytes) (tables : List Bytes) (r : Result (Option Made) Fault) → CameTo fold text sets tables r
-    → HasItsMoves r
-made_moves fold text sets tables (Ok (Some made)) is =
+pub made_moves : (fold : Bool) (budget : ℕ) (text sets : Bytes) (tables : List Bytes) (r : Result (Option Made) Fault)
+    → CameTo fold budget text sets tables r → HasItsMoves r
+made_moves fold budget text sets tables (Ok (Some made)) is =
     let moves = made.moves.items in
     let solves = (solved-moves text moves is.could.board made.count is.is_result.solved is.could.spelt).1 in
     length-map (moves_of moves) letter_of ∙ led-length _ _ (moves_of moves) solves.path solves.led ∙ solves.count
-made_moves fold text sets tables (Ok None) is = tt
-made_moves fold text sets tables (Err cause) is = tt
+made_moves fold budget text sets tables (Ok None) is = tt
+made_moves fold budget text sets tables (Err cause) is = tt
 
 -- ---- what is told of a search
 
 -- an answer on what was read is one on the inputs
 pub search_answered : {A : Type 0} (inputs : List Bytes) (search : Search (Vec ℕ A)) (told : Result Answer Unanswered)
     → inputs ≡ search_read search → IsSearchAnswer search told
-    → IsMadeBy (IsSolveReply search.fold inputs) (SolveTakesMemory inputs) (SolveMakes search.fold inputs) told
+    → IsMadeBy (IsSolveReply search.fold search.budget inputs) (SolveTakesMemory inputs) (SolveMakes search.fold inputs) told
 search_answered inputs search (Ok answer) are says = (says.0, (_, _, _, are, says.1), says.2)
 search_answered inputs search (Err Memory) are takes = (_, _, _, are, takes)
 search_answered inputs search (Err Wrong) are makes = (_, _, _, are, makes)

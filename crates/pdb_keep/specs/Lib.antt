@@ -1,4 +1,5 @@
 -- What public contracts say.
+pub mod GivenUp
 pub mod Kept
 pub mod Laws
 pub mod MakeTable

@@ -1,7 +1,7 @@
 -- `solve BOARD SETS OUT TABLES..`: moves and a log are made for a board, and the log is kept where both prove an optimum.
 --
--- The maker is free: it may find any moves and any log, or give up. What is told of them, and whether the log is kept, is not
--- free.
+-- The maker is free: it may find any moves and any log, or give up. What is told of them, whether the log is kept, and why it may
+-- give up, is not free.
 use Rattle.std.specs.Prelude.{◌≡◌, ◌≢◌, ℕ, Bool, List, [], ◌∷◌, ◌++◌, Some, Ok, Err, codes, map, true}
 use Rattle.puz_board.specs.BoardTexts.{Spells, board_of_text}
 use Rattle.puz_board.specs.Boards.{side_of}
@@ -23,6 +23,7 @@ use Rattle.pdb_verdict.specs.Optimal.{IsOptimumResult}
 use Rattle.pdb_verdict.specs.Replay.{puzzle_of}
 use Rattle.pdb_verdict.specs.declared.verdicts.Fault.{Fault}
 use Rattle.pdb_verdict.specs.declared.verdicts.Fault.TheVariants as fault
+use Rattle.pdb_keep.specs.GivenUp.{IsSpent, IsTooLong}
 
 -- ---- before a log is made
 
@@ -37,6 +38,16 @@ pub record IsOutOfReachOf (fold : Bool) (board : List ℕ) (sets : Bytes) (table
   pub are_for : AreForBoard fold board sets tables
   pub out_of_reach : IsOutOfReach are_for.bundle board
 
+-- they do, and a search over it spends the budget
+pub record IsSpentOver (fold : Bool) (budget : ℕ) (board : List ℕ) (sets : Bytes) (tables : List Bytes) : Type 0 where
+  pub are_for : AreForBoard fold board sets tables
+  pub spent : IsSpent are_for.bundle board budget
+
+-- they do, and the log of a search over it may be too long
+pub record IsTooLongOver (fold : Bool) (board : List ℕ) (sets : Bytes) (tables : List Bytes) : Type 0 where
+  pub are_for : AreForBoard fold board sets tables
+  pub too_long : IsTooLong are_for.bundle board
+
 -- the text spells a board for which they do, so that there is something to search over
 pub record IsSearchable (fold : Bool) (text sets : Bytes) (tables : List Bytes) : Type 0 where
   pub board : List ℕ
@@ -50,23 +61,24 @@ pub record AreForAnotherSide (fold : Bool) (board : List ℕ) (sets : Bytes) (ta
   pub another_side : side_of board ≢ bundle.side
 
 -- why no log is made for a board: each table file comes first, then the set text, then L4 for a bundle of another side;
--- behind them K2 for a board that is out of reach; and the maker may give up on the search with K1
-abbrev pub IsUnmadeFor : Bool → List ℕ → Bytes → List Bytes → Fault → Type 0
-IsUnmadeFor fold board sets tables (fault.Log L4) = AreForAnotherSide fold board sets tables
-IsUnmadeFor fold board sets tables fault.K1 = AreForBoard fold board sets tables
-IsUnmadeFor fold board sets tables fault.K2 = IsOutOfReachOf fold board sets tables
-IsUnmadeFor fold board sets tables refused = AreRefused fold tables sets refused
+-- behind them K2 for a board that is out of reach, K1 where the search spends the budget, and K5 where its log may be too long
+abbrev pub IsUnmadeFor : Bool → ℕ → List ℕ → Bytes → List Bytes → Fault → Type 0
+IsUnmadeFor fold budget board sets tables (fault.Log L4) = AreForAnotherSide fold board sets tables
+IsUnmadeFor fold budget board sets tables fault.K1 = IsSpentOver fold budget board sets tables
+IsUnmadeFor fold budget board sets tables fault.K2 = IsOutOfReachOf fold board sets tables
+IsUnmadeFor fold budget board sets tables fault.K5 = IsTooLongOver fold board sets tables
+IsUnmadeFor fold budget board sets tables refused = AreRefused fold tables sets refused
 
 -- the text spells a board, for which no log is made
-pub record IsUnmadeForText (fold : Bool) (text sets : Bytes) (tables : List Bytes) (refused : Fault) : Type 0 where
+pub record IsUnmadeForText (fold : Bool) (budget : ℕ) (text sets : Bytes) (tables : List Bytes) (refused : Fault) : Type 0 where
   pub board : List ℕ
   pub spelt : Spells text board
-  pub unmade : IsUnmadeFor fold board sets tables refused
+  pub unmade : IsUnmadeFor fold budget board sets tables refused
 
 -- why no log is made: the board text comes before all else
-abbrev pub IsUnmade : Bool → Bytes → Bytes → List Bytes → Fault → Type 0
-IsUnmade fold text sets tables (fault.Board refused) = board_of_text text ≡ Err refused
-IsUnmade fold text sets tables refused = IsUnmadeForText fold text sets tables refused
+abbrev pub IsUnmade : Bool → ℕ → Bytes → Bytes → List Bytes → Fault → Type 0
+IsUnmade fold budget text sets tables (fault.Board refused) = board_of_text text ≡ Err refused
+IsUnmade fold budget text sets tables refused = IsUnmadeForText fold budget text sets tables refused
 
 -- ---- a log that is made
 
@@ -102,10 +114,10 @@ pub data SearchOutcome : Type 0 where
   unmade : Fault → SearchOutcome
   searched : Bytes → Bytes → ℕ → SearchOutcome
 
--- on this board text, this set text and these table files
-abbrev pub IsSearchOf : Bool → Bytes → Bytes → List Bytes → SearchOutcome → Type 0
-IsSearchOf fold text sets tables (unmade refused) = IsUnmade fold text sets tables refused
-IsSearchOf fold text sets tables (searched moves log n) = IsMade fold text sets tables moves log n
+-- on this board text, this set text and these table files, within the budget
+abbrev pub IsSearchOf : Bool → ℕ → Bytes → Bytes → List Bytes → SearchOutcome → Type 0
+IsSearchOf fold budget text sets tables (unmade refused) = IsUnmade fold budget text sets tables refused
+IsSearchOf fold budget text sets tables (searched moves log n) = IsMade fold text sets tables moves log n
 
 -- the digests of the tables, and of the log where one was made, and then the lines
 abbrev pub reply_to_search : List Bytes → SearchOutcome → Reply
@@ -113,9 +125,9 @@ reply_to_search tables (unmade refused) = reply_on tables (Err refused)
 reply_to_search tables (searched moves log n) = record { digested = tables; made = Some log; lines = lines_on moves n; is_yes = true }
 
 -- a reply tells what comes of a search
-pub record TellsSearch (fold : Bool) (text sets : Bytes) (tables : List Bytes) (reply : Reply) : Type 0 where
+pub record TellsSearch (fold : Bool) (budget : ℕ) (text sets : Bytes) (tables : List Bytes) (reply : Reply) : Type 0 where
   pub outcome : SearchOutcome
-  pub is_outcome : IsSearchOf fold text sets tables outcome
+  pub is_outcome : IsSearchOf fold budget text sets tables outcome
   pub told : reply ≡ reply_to_search tables outcome
 
 -- ---- the command
@@ -125,9 +137,9 @@ abbrev pub solve_inputs : SolveArguments → List Wanted
 solve_inputs arguments = a_text (Some arguments.board) ∷ a_text (Some arguments.sets) ∷ map a_table arguments.tables
 
 -- what comes of a search on them is told
-abbrev pub IsSolveReply : Bool → List Bytes → Reply → Type 0
-IsSolveReply fold inputs reply =
-    (text : Bytes) × (sets : Bytes) × (tables : List Bytes) × (inputs ≡ text ∷ sets ∷ tables) × TellsSearch fold text sets tables reply
+abbrev pub IsSolveReply : Bool → ℕ → List Bytes → Reply → Type 0
+IsSolveReply fold budget inputs reply =
+    (text : Bytes) × (sets : Bytes) × (tables : List Bytes) × (inputs ≡ text ∷ sets ∷ tables) × TellsSearch fold budget text sets tables reply
 
 -- it takes memory to check the tables of a board that is spelt, and so to search over them
 abbrev pub SolveTakesMemory : List Bytes → Type 0
@@ -139,7 +151,8 @@ abbrev pub SolveMakes : Bool → List Bytes → Type 0
 SolveMakes fold inputs =
     (text : Bytes) × (sets : Bytes) × (tables : List Bytes) × (inputs ≡ text ∷ sets ∷ tables) × IsSearchable fold text sets tables
 
--- for any budget and any number of workers
+-- for any number of workers
 abbrev pub solve_plan : SolveArguments → Plan
 solve_plan arguments =
-    plan_under (Some arguments.out) (solve_inputs arguments) (IsSolveReply arguments.fold) SolveTakesMemory (SolveMakes arguments.fold)
+    plan_under (Some arguments.out) (solve_inputs arguments) (IsSolveReply arguments.fold arguments.budget) SolveTakesMemory
+    (SolveMakes arguments.fold)

@@ -11,8 +11,7 @@ use Rattle.pdb_verdict.specs.Refusals.{IsCauseBy}
 use Rattle.pdb_verdict.specs.declared.verdicts.Fault.{Fault}
 use Rattle.pdb_verdict.specs.declared.verdicts.Fault.TheVariants as fault
 use Rattle.puz_make.specs.Faults.{IsOutOfReach}
-use Rattle.tab_make.specs.declared.faults.MakeFault.{MakeFault}
-use Rattle.tab_make.specs.declared.faults.MakeFault.TheVariants as make
+use Rattle.pdb_keep.specs.GivenUp.{IsSpent, IsTooLong}
 use Rattle.pdb_keep.specs.MakeTable.{ArePattern, IsUnbuilt}
 use Rattle.pdb_keep.specs.Solve.{IsMade, IsSearchable, IsUnmade, TellsSearch, letters_of}
 use Rattle.pdb_keep.specs.declared.made.Made.{Made}
@@ -22,29 +21,22 @@ abbrev pub IsCauseForBuild : ℕ → ℕ → Fault → Type 0
 IsCauseForBuild side mask cause = IsCauseBy (IsUnbuilt side mask) (ArePattern side mask) cause
 
 -- why a search makes no log, or want of memory, which comes where the check of the tables takes some
-abbrev pub IsCauseForSearch : Bool → Bytes → Bytes → List Bytes → Fault → Type 0
-IsCauseForSearch fold text sets tables cause = IsCauseBy (IsUnmade fold text sets tables) (TakesMemoryForBound text tables) cause
+abbrev pub IsCauseForSearch : Bool → ℕ → Bytes → Bytes → List Bytes → Fault → Type 0
+IsCauseForSearch fold budget text sets tables cause = IsCauseBy (IsUnmade fold budget text sets tables) (TakesMemoryForBound text tables) cause
 
--- why a maker gives up, as it is told; that it is wrong is no refusal
-abbrev pub of_maker : MakeFault → Option Fault
-of_maker make.K1 = Some fault.K1
-of_maker make.K2 = Some fault.K2
-of_maker make.K3 = Some fault.K3
-of_maker make.Memory = Some fault.Memory
-of_maker make.Wrong = None
-
--- a search of a board may give up for this: K2 where it is out of reach
-abbrev pub IsGivenUp : ShownBundle → List ℕ → Fault → Type 0
-IsGivenUp v b fault.K1 = ⊤
-IsGivenUp v b fault.K2 = IsOutOfReach v b
-IsGivenUp v b fault.Memory = ⊤
-IsGivenUp v b _ = ⊥
+-- a search of a board may give up for this: its budget is spent, the board is out of reach, or the log may be too long
+abbrev pub IsGivenUp : ShownBundle → List ℕ → ℕ → Fault → Type 0
+IsGivenUp v b budget fault.K1 = IsSpent v b budget
+IsGivenUp v b budget fault.K2 = IsOutOfReach v b
+IsGivenUp v b budget fault.K5 = IsTooLong v b
+IsGivenUp v b budget fault.Memory = ⊤
+IsGivenUp v b budget _ = ⊥
 
 -- what comes of a search: it is made, or what was made is wrong, or this is why nothing is
-abbrev pub CameTo : Bool → Bytes → Bytes → List Bytes → Result (Option Made) Fault → Type 0
-CameTo fold text sets tables (Ok (Some made)) = IsMade fold text sets tables made.moves.items made.log.items made.count
-CameTo fold text sets tables (Ok None) = IsSearchable fold text sets tables
-CameTo fold text sets tables (Err cause) = IsCauseForSearch fold text sets tables cause
+abbrev pub CameTo : Bool → ℕ → Bytes → Bytes → List Bytes → Result (Option Made) Fault → Type 0
+CameTo fold budget text sets tables (Ok (Some made)) = IsMade fold text sets tables made.moves.items made.log.items made.count
+CameTo fold budget text sets tables (Ok None) = IsSearchable fold text sets tables
+CameTo fold budget text sets tables (Err cause) = IsCauseForSearch fold budget text sets tables cause
 
 -- it has as many moves as it says, where it is made
 abbrev pub HasItsMoves : Result (Option Made) Fault → Type 0
@@ -61,4 +53,4 @@ module _ {A : Type 0} where
       let text = search.board.items in
       let sets = search.sets.items in
       let tables = all_bytes search.tables.items in
-      IsMadeBy (TellsSearch search.fold text sets tables) (TakesMemoryForBound text tables) (IsSearchable search.fold text sets tables) answer
+      IsMadeBy (TellsSearch search.fold search.budget text sets tables) (TakesMemoryForBound text tables) (IsSearchable search.fold text sets tables) answer

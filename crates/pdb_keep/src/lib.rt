@@ -2,10 +2,10 @@
 //! shortest.
 #![tactic(auto)]
 
+mod given_up;
 mod laws;
 mod made;
 mod make_table;
-mod makers;
 mod search_inputs;
 mod solutions;
 mod solve;

@@ -11,7 +11,6 @@ ghost use Rattle.pdb_verdict.specs.Verdicts.{IsAnswerTo};
 ghost use Rattle.pdb_keep.specs.MakeTable.{ArePattern, IsBuilt, TellsBuild, make_table_plan};
 ghost use Rattle.pdb_keep.specs.Steps.{IsCauseForBuild};
 
-use crate::makers::of_maker;
 use pat_place::Pattern;
 use pdb_request::MakeTable;
 use pdb_run::{
@@ -20,7 +19,7 @@ use pdb_run::{
 };
 use pdb_verdict::{Fault, Verdict, line_of, settled, told, verify_table};
 use puz_board::Side;
-use puz_make::build;
+use puz_make::{MakeFault, build};
 use std::alloc::{AllocError, Global};
 use std::sync::Wait;
 use std::thread::Threads;
@@ -111,12 +110,9 @@ fn build_table<H: Threads + Wait + Sync, G: Gate + Sync>(
     };
     let file = match build(workers.rt, workers.alloc, &pattern) {
         Ok(file) => file,
-        Err(fault) => {
-            return match of_maker(fault) {
-                Some(fault) => Err(fault),
-                None => Ok(None),
-            };
-        }
+        Err(MakeFault::K3) => return Err(Fault::K3),
+        Err(MakeFault::Memory) => return Err(Fault::Memory),
+        Err(_) => return Ok(None),
     };
     let table = file.as_slice();
     let check = || -> Result<Verdict, Fault>

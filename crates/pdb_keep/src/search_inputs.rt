@@ -32,6 +32,7 @@ pub(crate) fn with_bytes<'n>(
 ) -> Search<'n, Vec<u8>>
     requires { 2 ≤ length inputs.items }
     ensures fold { result.fold ≡ search.now.fold }
+    ensures budget { result.budget ≡ search.now.budget }
     ensures inputs { all_bytes inputs.items ≡ search_read result }
 {
     let mut tables = inputs;

@@ -15,8 +15,8 @@ ghost use Rattle.pdb_verdict.specs.Replay.{puzzle_of};
 ghost use Rattle.pdb_keep.specs.Solve.{IsSearchable, TellsSearch, letters_of, reply_to_search, searched, solve_plan};
 ghost use Rattle.pdb_keep.specs.Steps.{CameTo, HasItsMoves, IsGivenUp, IsSearchAnswer};
 
+use crate::given_up::cause_of;
 use crate::made::Made;
-use crate::makers::of_maker;
 use crate::search_inputs::{Searching, with_bytes};
 use crate::solutions::lines_on;
 use log_check::LogRefusal;
@@ -74,7 +74,7 @@ fn answer_search<'i, H: Threads + Wait + Sync, G: Gate + Sync>(
             let search = |bundle: Result<Bundle<'_>, Fault>| -> Result<Option<Made>, Fault>
                 ensures { (fold : Bool) (text sets : List ℕ) (tables : List (List ℕ))
                     → Spells text board → IsReadBundle fold tables sets bundle.entry
-                    → CameTo fold text sets tables result }
+                    → CameTo fold budget text sets tables result }
             { search_in(bundle, &board, budget, workers) };
             let sets = sets.as_slice();
             let bundling = Bundling { sets, fold };
@@ -101,9 +101,10 @@ fn answer_of<'i>(
     outcome: Result<Option<Made>, Fault>,
 ) -> Result<Answer<'i>, Unanswered>
     requires { HasItsMoves outcome }
-    ensures { (fold : Bool) (text sets : List ℕ) (tables : List (List ℕ))
-        → digest_lines digested.entry ≡ digests_of tables → CameTo fold text sets tables outcome
-        → IsMadeBy (TellsSearch fold text sets tables)
+    ensures { (fold : Bool) (budget : ℕ) (text sets : List ℕ) (tables : List (List ℕ))
+        → digest_lines digested.entry ≡ digests_of tables
+        → CameTo fold budget text sets tables outcome
+        → IsMadeBy (TellsSearch fold budget text sets tables)
         (TakesMemoryForBound text tables) (IsSearchable fold text sets tables) result }
 {
     let outcome = settled(outcome)?;
@@ -140,7 +141,7 @@ fn search_in<H: Threads + Wait + Sync, G: Gate + Sync>(
 ) -> Result<Option<Made>, Fault>
     ensures { (fold : Bool) (text sets : List ℕ) (tables : List (List ℕ))
         → Spells text board.now → IsReadBundle fold tables sets bundle.entry
-        → CameTo fold text sets tables result }
+        → CameTo fold budget text sets tables result }
 {
     let bundle = bundle?;
     if board.side() != bundle.side() {
@@ -159,7 +160,7 @@ fn search_over<H: Threads + Wait + Sync, G: Gate + Sync>(
     workers: &Workers<'_, H, G>,
 ) -> Result<Option<Made>, Fault>
     requires { side_of board.now ≡ bundle.now.side }
-    ensures given_up { IfErr result (IsGivenUp bundle.now board.now) }
+    ensures given_up { IfErr result (IsGivenUp bundle.now board.now budget) }
     ensures made { (fold : Bool) (text sets : List ℕ) (tables : List (List ℕ))
         → Spells text board.now → IsBundleOfFiles fold tables sets bundle.now
         → IfOk result (λ made. IfSome made (λ made.
@@ -186,7 +187,7 @@ fn search_over<H: Threads + Wait + Sync, G: Gate + Sync>(
     }))
 }
 
-/// What a search finds, unchecked; nothing where the maker finds that it is wrong.
+/// What a search finds, unchecked; nothing where the maker finds that it is wrong, or gives up without a cause.
 fn find(
     alloc: Global,
     bundle: &Bundle<'_>,
@@ -194,12 +195,12 @@ fn find(
     budget: u64,
 ) -> Result<Option<Found>, Fault>
     requires { side_of board.now ≡ bundle.now.side }
-    ensures { IfErr result (IsGivenUp bundle.now board.now) }
+    ensures { IfErr result (IsGivenUp bundle.now board.now budget) }
 {
     match solve(alloc, bundle, board, budget) {
         Ok(found) => Ok(Some(found)),
-        Err(fault) => match of_maker(fault) {
-            Some(fault) => Err(fault),
+        Err(fault) => match cause_of(alloc, bundle, board, budget, fault)? {
+            Some(cause) => Err(cause),
             None => Ok(None),
         },
     }

@@ -155,6 +155,7 @@ fault_line fault.K1 = plain (codes "K1") refl
 fault_line fault.K2 = plain (codes "K2") refl
 fault_line fault.K3 = plain (codes "K3") refl
 fault_line fault.K4 = plain (codes "K4") refl
+fault_line fault.K5 = plain (codes "K5") refl
 fault_line (fault.Q1 n) = numbered (codes "Q1 at line ") n refl
 fault_line (fault.Q2 n) = numbered (codes "Q2 at line ") n refl
 fault_line fault.Memory = memory

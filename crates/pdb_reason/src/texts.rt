@@ -177,6 +177,10 @@ fn maker_text(code: &str) -> Option<(Subject, Text)> {
                 "SIDE and MASK are no pattern: 1 to 3 tiles on side 2, to 8 on sides 3 and 4, to 6 on side 5, and none that isn't on the board",
             ),
         ),
+        "K5" => (
+            Run,
+            Plain("the log would have more than 2^30 bytes, the most that a log may have"),
+        ),
         "Q1" => (
             Claims,
             One(

@@ -110,6 +110,7 @@ line_of_fault fault.K1 = codes "refused K1\n"
 line_of_fault fault.K2 = codes "refused K2\n"
 line_of_fault fault.K3 = codes "refused K3\n"
 line_of_fault fault.K4 = codes "refused K4\n"
+line_of_fault fault.K5 = codes "refused K5\n"
 line_of_fault (fault.Q1 line) = counted (codes "refused Q1 at line ") line
 line_of_fault (fault.Q2 line) = counted (codes "refused Q2 at line ") line
 line_of_fault fault.Memory = memory_line

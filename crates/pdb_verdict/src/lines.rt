@@ -73,6 +73,7 @@ fn fault_line(fault: &Fault) -> Lines
         Fault::K2 => lines(&["refused K2\n"]),
         Fault::K3 => lines(&["refused K3\n"]),
         Fault::K4 => lines(&["refused K4\n"]),
+        Fault::K5 => lines(&["refused K5\n"]),
         Fault::Q1(line) => counted("refused Q1 at line ", *line as u64),
         Fault::Q2(line) => counted("refused Q2 at line ", *line as u64),
         Fault::Memory => lines(&[NO_MEMORY]),

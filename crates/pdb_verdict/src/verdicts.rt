@@ -66,6 +66,9 @@ pub enum Fault {
     /// A side and a mask are no pattern.
     #[error("this is no pattern")]
     K4,
+    /// The log of a search would be longer than a log file may be.
+    #[error("the log would be too long")]
+    K5,
     /// A line of a claims text, with this number from 0, is no claim.
     #[error("line {0} of the claims is no claim")]
     Q1(u32),

@@ -82,12 +82,12 @@ impl LogBytes {
         Ok(())
     }
 
-    /// Adds bytes to the lemma, if the log may have so many.
+    /// Adds bytes to the lemma. That the log may have so many was seen before.
     pub(crate) fn add(&mut self, bytes: &[u8]) -> Result<(), MakeFault>
         ensures { IfErr result IsSearchStop }
     {
         if self.bytes.len().saturating_add(bytes.len()) > self.most {
-            return Err(MakeFault::Memory);
+            return Err(MakeFault::Wrong);
         }
         self.bytes.extend_from_slice(bytes)?;
         Ok(())
@@ -110,9 +110,9 @@ impl LogBytes {
     }
 }
 
-/// A number that a log has, if it has room for it.
+/// A number that a log has: it has room for it, since it has fewer bytes.
 fn number_of(count: usize) -> Result<u32, MakeFault>
     ensures { IfErr result IsSearchStop }
 {
-    u32::try_from(count).map_err(|_| MakeFault::Memory)
+    u32::try_from(count).map_err(|_| MakeFault::Wrong)
 }

@@ -160,7 +160,7 @@ impl<'a> Searcher<'a> {
         ensures { IfErr result IsSearchStop }
     {
         self.moves.reverse();
-        if !self.failed.is_whole {
+        if !self.failed.is_whole() {
             self.search_again(bound, levels)?;
         }
         self.tree.drop_nodes();
@@ -184,10 +184,9 @@ impl<'a> Searcher<'a> {
         self.tree.clear();
         let _ = self.is_solved(levels, u16::from(bound))?;
         self.begin_again();
-        if self.failed.is_whole {
-            Ok(())
-        } else {
-            Err(MakeFault::Memory)
+        match self.failed.lack() {
+            None => Ok(()),
+            Some(fault) => Err(fault),
         }
     }
 

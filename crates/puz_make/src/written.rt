@@ -3,11 +3,13 @@
 //! A node takes few binary digits: a branch one, and a leaf as many as tell its set and its kind. So the tree of the last threshold
 //! and that of the next take less memory together than one of them has bytes in a log.
 
-ghost use Rattle.std.specs.Prelude.{◌<◌, ◌≤◌};
+ghost use Rattle.std.specs.Prelude.{◌<◌, ◌≤◌, IfSome};
+ghost use Rattle.puz_make.specs.Faults.{IsSearchStop};
 
 use crate::leaves::{Leaf, leaf_byte};
 use log_file::tree_bytes::BRANCH;
 use std::alloc::{AllocError, Global};
+use tab_make::MakeFault;
 
 /// How many words a block has.
 const WORDS_OF_BLOCK: usize = 1 << 12;
@@ -20,6 +22,17 @@ const MOST_DIGITS: u32 = 6;
 
 /// How many of a leaf's digits say that it is a leaf, and of which kind.
 const DIGITS_OF_KIND: u32 = 2;
+
+/// Whether a tree has all nodes that were written.
+#[derive(Clone, Copy, PartialEq, Eq)]
+enum Extent {
+    /// It has.
+    Whole,
+    /// There were more than it may have.
+    TooLarge,
+    /// Memory for them was refused, or they are needed no more.
+    Dropped,
+}
 
 /// A tree that is written, node after node. It is dropped where it has too many nodes or memory for it is refused, and the
 /// search goes on without it.
@@ -38,7 +51,7 @@ pub(crate) struct WrittenTree {
     /// How many more nodes it may have.
     room: usize,
     /// Whether no node is missing.
-    pub(crate) is_whole: bool,
+    extent: Extent,
     /// The most nodes that it may have.
     pub(crate) most: usize,
 }
@@ -54,7 +67,7 @@ impl WrittenTree {
             digits: 0,
             leaf_digits: MOST_DIGITS.min(set_digits.saturating_add(DIGITS_OF_KIND)),
             room: most,
-            is_whole: true,
+            extent: Extent::Whole,
             most,
         }
     }
@@ -79,7 +92,7 @@ impl WrittenTree {
         requires { digits ≤ 6 }
     {
         if self.room == 0 {
-            self.drop_nodes();
+            self.end_with(Extent::TooLarge);
             return;
         }
         self.room -= 1;
@@ -96,7 +109,7 @@ impl WrittenTree {
     #[inline(never)]
     fn end_word(&mut self) {
         if self.add_word().is_err() {
-            self.drop_nodes();
+            self.end_with(Extent::Dropped);
         }
         self.word = 0;
         self.digits = 0;
@@ -118,13 +131,34 @@ impl WrittenTree {
     }
 
     /// Gives the nodes up, and their memory.
-    #[cold]
     pub(crate) fn drop_nodes(&mut self) {
-        if self.is_whole {
+        self.end_with(Extent::Dropped);
+    }
+
+    /// Gives the nodes up for this cause, unless they are given up already.
+    #[cold]
+    fn end_with(&mut self, extent: Extent) {
+        if self.is_whole() {
             let alloc = *self.blocks.allocator();
             self.blocks = Vec::new(alloc);
             self.room = 0;
-            self.is_whole = false;
+            self.extent = extent;
+        }
+    }
+
+    /// Whether no node is missing.
+    pub(crate) fn is_whole(&self) -> bool {
+        self.extent == Extent::Whole
+    }
+
+    /// Why nodes are missing, where they are: a log has no room for so many, or there isn't the memory.
+    pub(crate) fn lack(&self) -> Option<MakeFault>
+        ensures { IfSome result IsSearchStop }
+    {
+        match self.extent {
+            Extent::Whole => None,
+            Extent::TooLarge => Some(MakeFault::K5),
+            Extent::Dropped => Some(MakeFault::Memory),
         }
     }
 
@@ -134,7 +168,7 @@ impl WrittenTree {
         self.word = 0;
         self.digits = 0;
         self.room = self.most;
-        self.is_whole = true;
+        self.extent = Extent::Whole;
     }
 
     /// The nodes, a byte each, as a log has them.

@@ -16,7 +16,9 @@ pub enum MakeFault {
     K2,
     /// A count would be above 253.
     K3,
-    /// There isn't the memory, or the log would be longer than a log file may be.
+    /// The log would be longer than a log file may be.
+    K5,
+    /// There isn't the memory.
     Memory,
     /// The maker finds that it is wrong.
     Wrong,

@@ -195,12 +195,12 @@ fn two_workers_check_two_blocks_side_by_side(rt: HostRuntime) -> Result<(), Fail
 
 #[test]
 fn makers_that_give_up_have_their_lines(rt: HostRuntime) -> Result<(), Fail> {
-    let faults = [Fault::K1, Fault::K2, Fault::K3, Fault::K4];
+    let faults = [Fault::K1, Fault::K2, Fault::K3, Fault::K4, Fault::K5];
     let mut out = Vec::new(rt.alloc());
     for fault in faults {
         assert!(rt; line(&Err(fault), &mut out).is_ok());
     }
-    let lines = b"refused K1\nrefused K2\nrefused K3\nrefused K4\n".as_slice();
+    let lines = b"refused K1\nrefused K2\nrefused K3\nrefused K4\nrefused K5\n".as_slice();
     assert!(rt; out.as_slice() == lines);
     Ok(())
 }

@@ -5,16 +5,16 @@ use Rattle.pdb_keep.specs.Solve.{IsUnmade, searched, unmade}
 use Rattle.pdb_keep.proofs.solve.answer_of.Goals as goal
 
 pub returns-in-Ok-Some : goal.returns-in-Ok-Some
-returns-in-Ok-Some c = λ fold text sets tables same came.
+returns-in-Ok-Some c = λ fold budget text sets tables same came.
     let made = c.in-Ok-Some.made in
     let is : c.in_ok-outcome.outcome ≡ Ok (Some made) = search (rules, c.in-Ok-Some.field-0-is) in
     let is_made = rw (sym c.in_ok-outcome.ensures.ok.0 ∙ is) at came in
     (_, record { outcome = searched made.moves.items made.log.items made.count; is_outcome = is_made; told = refl }, c.answer_on.ensures tables same)
 
 pub returns-in-Err : goal.returns-in-Err
-returns-in-Err c = λ fold text sets tables same came.
+returns-in-Err c = λ fold budget text sets tables same came.
     let refused = c.in-Err.refused in
     let settled = c.in_ok-outcome.ensures.ok in
-    let cause = cause_settled (IsUnmade fold text sets tables) (TakesMemoryForBound text tables) refused
+    let cause = cause_settled (IsUnmade fold budget text sets tables) (TakesMemoryForBound text tables) refused
     (λ memory. settled.1 (c.in-Err.is ∙ ap (λ x. Err x) memory)) (rw (sym settled.0 ∙ c.in-Err.is) at came) in
     (_, record { outcome = unmade refused; is_outcome = cause; told = refl }, c.told.ensures tables same)

@@ -10,7 +10,7 @@ answer_of-requires g c =
     let asked = c.args.search.now in
     let spelt : Spells asked.board.items c.in-Ok.board = search (rules, c.read.ensures.ok) in
     let read = c.over_tables-digested.ensures.found in
-    made_moves asked.fold asked.board.items _ _ c.over_tables-digested.result.1 (read.2.1 _ _ _ _ spelt read.1)
+    made_moves asked.fold asked.budget asked.board.items _ _ c.over_tables-digested.result.1 (read.2.1 _ _ _ _ spelt read.1)
 
 pub returns-in-Ok : goal.returns-in-Ok
 returns-in-Ok g c =
@@ -18,7 +18,7 @@ returns-in-Ok g c =
     let spelt : Spells asked.board.items c.in-Ok.board = search (rules, c.read.ensures.ok) in
     let read = rw c.as_slice-sets.ensures.value at c.over_tables-digested.ensures.found in
     let lines = rw append-nil at c.over_tables-digested.ensures.digested in
-    c.answer_of.ensures asked.fold asked.board.items asked.sets.items (all_bytes asked.tables.items) lines (read.2.1 _ _ _ _ spelt read.1)
+    c.answer_of.ensures asked.fold asked.budget asked.board.items asked.sets.items (all_bytes asked.tables.items) lines (read.2.1 _ _ _ _ spelt read.1)
 
 pub returns-in-Err : goal.returns-in-Err
 returns-in-Err g c =
@@ -26,5 +26,5 @@ returns-in-Err g c =
     let same : c.digested_beside-digested.result.1 ≡ Err (Fault.Board c.in-Err.refused) = search (rules, c.digested_beside-digested.ensures.answer) in
     let why = rw (c.as_slice.ensures.value, c.in-Err.is) at c.read.ensures.exact in
     let lines = rw (append-nil, c.as_slice-tables.ensures.value) at c.digested_beside-digested.ensures.digested in
-    c.answer_of-in-Err.ensures asked.fold asked.board.items asked.sets.items (all_bytes asked.tables.items) lines
+    c.answer_of-in-Err.ensures asked.fold asked.budget asked.board.items asked.sets.items (all_bytes asked.tables.items) lines
     (rw same (sym why))

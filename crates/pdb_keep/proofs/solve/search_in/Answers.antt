@@ -7,7 +7,7 @@ pub returns-in_err-bundle : goal.returns-in_err-bundle
 returns-in_err-bundle g c = λ fold text sets tables spelt read.
     let why = c.in_err-bundle.field-0.0 in
     let refused : c.from_residual.result ≡ Err why = search (rules, c.from_residual.ensures) in
-    rw refused (no_bundle fold text sets tables c.args.board.now spelt why (rw c.in_err-bundle.was at read))
+    rw refused (no_bundle fold c.args.budget text sets tables c.args.board.now spelt why (rw c.in_err-bundle.was at read))
 
 pub returns-then-ne : goal.returns-then-ne
 returns-then-ne g c = λ fold text sets tables spelt read.
@@ -22,5 +22,5 @@ returns g c = λ fold text sets tables spelt read.
     let is_bundle = rw c.in_ok-bundle.was at read in
     let are_for : AreForBoard fold c.args.board.now sets tables =
     record { bundle = c.in_ok-bundle.bundle; is_bundle = is_bundle; one_side = search rules } in
-    search_came fold text sets tables c.args.board.now spelt are_for c.search_over.result
+    search_came fold c.args.budget text sets tables c.args.board.now spelt are_for c.search_over.result
     c.search_over.ensures.given_up (c.search_over.ensures.made fold text sets tables spelt is_bundle)

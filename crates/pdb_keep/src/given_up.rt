@@ -1,0 +1,72 @@
+//! Why a search is given up: what the maker says of it is seen by a search that is proved.
+
+ghost use Rattle.std.specs.Prelude.{◌≡◌, IfOk, IfSome};
+ghost use Rattle.std.specs.Bool.{IsTrue};
+ghost use Rattle.puz_board.specs.Boards.{side_of};
+ghost use Rattle.puz_make.specs.Faults.{IsSearchFault};
+ghost use Rattle.pdb_keep.specs.GivenUp.{IsSpent, IsTooLong, search_guide};
+ghost use Rattle.pdb_keep.specs.Steps.{IsGivenUp};
+
+use move_strings::Automaton;
+use pdb_verdict::Fault;
+use puz_board::Board;
+use puz_make::MakeFault;
+use puz_search::{Answer, Deepened, Guide, refute, shortest};
+use set_sum::Bundle;
+use std::alloc::{AllocError, Global};
+
+/// The least boards of a search whose tree may be too large for a log: each has at most four nodes after it.
+const MANY_BOARDS: u64 = 1 << 28;
+
+/// Bounds of so many moves and more aren't raised.
+const LARGEST_BOUND: u8 = 254;
+
+/// Why a search is given up, as it is told, where the maker gives it up for this; `None` where the maker is wrong. A spent budget
+/// and too long a log are told where a search that is proved comes to them too.
+pub(crate) fn cause_of(
+    alloc: Global,
+    bundle: &Bundle<'_>,
+    board: &Board,
+    budget: u64,
+    fault: MakeFault,
+) -> Result<Option<Fault>, AllocError>
+    requires side { side_of board.now ≡ bundle.now.side }
+    requires fault { IsSearchFault bundle.now board.now fault }
+    ensures { IfOk result (λ cause. IfSome cause (IsGivenUp bundle.now board.now budget)) }
+{
+    let reversals = Automaton::of_reversals(alloc, bundle.side())?;
+    let guide = Guide::new(bundle, &reversals);
+    match fault {
+        MakeFault::K1 if is_spent(&guide, board, budget) => Ok(Some(Fault::K1)),
+        MakeFault::K2 => Ok(Some(Fault::K2)),
+        MakeFault::K5 if is_too_long(&guide, board) => Ok(Some(Fault::K5)),
+        MakeFault::Memory => Ok(Some(Fault::Memory)),
+        _ => Ok(None),
+    }
+}
+
+/// Whether a search for a shortest solution spends the budget.
+fn is_spent(guide: &Guide<'_>, board: &Board, budget: u64) -> bool
+    requires side { side_of board.now ≡ guide.now.bundle.side }
+    requires guide { guide.now ≡ search_guide guide.now.bundle }
+    ensures { IsTrue result → IsSpent guide.now.bundle board.now budget }
+{
+    matches!(shortest(guide, board, budget), Deepened::Spent(_))
+}
+
+/// Whether the search below some threshold fails and expands so many boards that its log may be too long.
+fn is_too_long(guide: &Guide<'_>, board: &Board) -> bool
+    requires side { side_of board.now ≡ guide.now.bundle.side }
+    requires guide { guide.now ≡ search_guide guide.now.bundle }
+    ensures { IsTrue result → IsTooLong guide.now.bundle board.now }
+{
+    let mut bound = board.blank_parity();
+    while bound < LARGEST_BOUND {
+        match refute(guide, board, bound + 1, u64::MAX) {
+            Answer::Refuted(boards) if boards >= MANY_BOARDS => return true,
+            Answer::Refuted(_) => bound += 2,
+            Answer::Solved(_) | Answer::Spent => return false,
+        }
+    }
+    false
+}
