@@ -23,6 +23,7 @@ use Rattle.pdb_verdict.specs.Optimal.{IsOptimumResult}
 use Rattle.pdb_verdict.specs.Replay.{puzzle_of}
 use Rattle.pdb_verdict.specs.declared.verdicts.Fault.{Fault}
 use Rattle.pdb_verdict.specs.declared.verdicts.Fault.TheVariants as fault
+use Rattle.pdb_keep.specs.Spared.{spared_unless, table_fronts}
 
 -- ---- before a log is made
 
@@ -139,7 +140,7 @@ abbrev pub SolveMakes : Bool → List Bytes → Type 0
 SolveMakes fold inputs =
     (text : Bytes) × (sets : Bytes) × (tables : List Bytes) × (inputs ≡ text ∷ sets ∷ tables) × IsSearchable fold text sets tables
 
--- for any budget and any number of workers
+-- it spares its inputs and tables, unless it is asked to replace them; for any budget and any number of workers
 abbrev pub solve_plan : SolveArguments → Plan
 solve_plan arguments =
-    plan_under (Some arguments.out) (solve_inputs arguments) (IsSolveReply arguments.fold) SolveTakesMemory (SolveMakes arguments.fold)
+    plan_under (Some arguments.out) (spared_unless arguments.replace table_fronts) (solve_inputs arguments) (IsSolveReply arguments.fold) SolveTakesMemory (SolveMakes arguments.fold)
