@@ -9,10 +9,7 @@
 log=$kept/build.log
 
 # Writes a message, and has the status 1.
-say() {
-    printf 'pdb_cli: %s\n' "$1" >&2
-    return 1
-}
+say() { printf 'pdb_cli: %s\n' "$1" >&2; return 1; }
 
 # Writes a digest of all that a build of the checkout, or of the folder $1, reads: the line that names the kit, and the names
 # and bytes of the sources. What a link among them leads to would be in no digest, so there may be none.

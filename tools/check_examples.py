@@ -30,6 +30,8 @@ def sentences():
         if code:
             answer = code if len(code) == 2 else f"fault {code}"
             yield f"| {answer} | {pieces[0]}{''.join(number + piece for number, piece in zip('NM', pieces[1:]))} |"
+    for text in re.findall(r'const \w+: &str =\s*"([^"]*)"', source):
+        yield f"| {text} |"
 
 
 def main():
@@ -48,10 +50,10 @@ def main():
         passed += not wrong
     rows = (ROOT / "docs/FORMATS.md").read_text().splitlines()
     wanted = list(sentences())
-    missing = [it for it in wanted if it not in rows]
-    if missing or len(wanted) < 39:
+    missing = [it for it in wanted if not any(row.endswith(it) for row in rows)]
+    if missing or len(wanted) < 44:
         print(f"FAILED: docs/FORMATS.md lacks sentences: {missing}")
-    failures += bool(missing) or len(wanted) < 39
+    failures += bool(missing) or len(wanted) < 44
     passed += not missing
     print(f"{passed} passed, {failures} failed")
     return failures != 0

@@ -142,19 +142,19 @@ told() {
 for command in replay table bound optimal make-table solve; do
     run "$command" --help
     check "the help of $command says what is read, what is answered, and the statuses" \
-        told Reads Answers 'Status: 0 yes, 1 refused, 2 bad words or a read or write fault, 3 no memory.'
+        told Reads Answers 'Status: 0 yes, 1 refused, 2 bad words or a fault of a read, a write or a maker, 3 no memory.'
 done
 run make-table --help
 check 'the help of make-table speaks of its workers and of OUT' told 'Building uses all processors, whatever --workers says' \
-    'OUT is replaced'
+    'OUT is replaced' '--replace'
 run solve --help
 check 'the help of solve speaks of its budget, its workers and OUT' told 'The budget is in boards expanded' \
     'The usual 1000000 is enough for most' 'harder ones take' '2 to 10 million' 'whatever --workers says' \
-    'built by all processors' 'OUT is replaced'
+    'built by all processors' 'OUT is replaced' 'only with --replace'
 run prove --help
 check 'the help of prove speaks of claims, their answers, no log, and the statuses' told 'CLAIMS has a claim a line' \
     'BOARD ; MOVES' 'BOARD : N' 'bound N of BOARD' 'optimal N of BOARD ; MOVES' 'No log is needed' \
-    'Status: 0 yes, 1 refused, 2 bad words or a read or write fault, 3 no memory.'
+    'Status: 0 yes, 1 refused, 2 bad words or a fault of a read, a write or a maker, 3 no memory.'
 for words in --version -V '--version table' '-V --help'; do
     # shellcheck disable=SC2086
     run $words
@@ -173,7 +173,8 @@ for words in rplay 'replay a b' 'replay --workers 2' 'replay --workers 2 solved'
     'optimal p s l t --fold --fold' 'solve b s o --fold' prove 'prove c' 'prove c s' 'prove - s' 'prove c s t --budget 0' \
     'prove c s t --budget x' 'prove --budget 1000000000001 c s t' 'prove c s t --budget' 'prove c s t --workers 0' \
     'prove --workers 65 c s t' 'prove c s t --none' 'prove c s --fold' 'prove c s t --fold --fold' \
-    'table --version' 'solve -V' --version=1 'make-table 2 1e o' 'make-table 2 0x o' 'make-table 2 0x1g o' \
+    'make-table 2 14 o --replace --replace' 'make-table 2 14 o --replace=1' 'table F1 --replace' \
+    'bound b s l t --replace' 'table --version' 'solve -V' --version=1 'make-table 2 1e o' 'make-table 2 0x o' 'make-table 2 0x1g o' \
     'make-table 2 0x+e o' 'make-table 2 0X1e o' 'make-table 2 0x100000000 o' 'make-table 2 tiles: o' \
     'make-table 2 tiles o' 'make-table 2 tiles:1, o' 'make-table 2 tiles:1,,2 o' 'make-table 2 tiles:2,2 o' \
     'make-table 2 tiles:01 o' 'make-table 2 tiles:32 o' 'make-table 2 1,2 o' 'make-table 2 tiles:1 o p'; do
@@ -796,7 +797,7 @@ same_line_and_status() {
 }
 
 told_shares_alone() {
-    [ -s "$work/errors" ] && ! grep -Evq '^pdb_cli: (100|[1-9]?[0-9]) percent of 1418 blocks or lemmas begun$' "$work/errors"
+    [ -s "$work/errors" ] && ! grep -Evq '^pdb_cli: all_of_side_3, 1 of 1: (100|[1-9]?[0-9]) percent of 1418 blocks or lemmas begun$' "$work/errors"
 }
 
 # A run with these words on a stack of 128 kilobytes, which each process has from its start; what a run needs beyond it the
@@ -843,7 +844,7 @@ run table all_of_side_3
 own_status=$status
 mv "$work/output" "$work/own_answer"
 for ((block = 4; block <= blocks; block += 4)); do
-    echo "pdb_cli: $((100 * block / blocks)) percent of $blocks blocks or lemmas begun"
+    echo "pdb_cli: all_of_side_3, 1 of 1: $((100 * block / blocks)) percent of $blocks blocks or lemmas begun"
 done >"$work/progress"
 for workers in 1 4; do
     status=0
@@ -868,6 +869,25 @@ status=0
     >"$work/output" 2>/dev/full || status=$?
 : >"$work/errors"
 check 'progress on a full standard error leaves the answer' same_answer
+
+# Of several files each is named, and which it is: told_files FILE..
+told_files() {
+    sed 's/: [0-9]* percent of [0-9]* blocks or lemmas begun$//' "$work/errors" | uniq | cmp -s - <(printf 'pdb_cli: %s\n' "$@")
+}
+"$bare" make-table 3 30 tiles_1_to_4 >/dev/null
+"$bare" make-table 3 480 tiles_5_to_8 >/dev/null
+echo 'set 0 1' >sets
+echo '0 3 2 4 1 8 7 6 5' >board_of_3
+status=0
+(export PDB_PROGRESS=1 LD_PRELOAD=$work/step_clock.so && exec "$bare" solve board_of_3 sets made tiles_1_to_4 tiles_5_to_8) \
+    >"$work/output" 2>"$work/errors" || status=$?
+check 'a search names the files that are checked' [ "$status.$(tail -n 1 "$work/output")" = '0.optimal 20' ]
+check 'each with its number' told_files 'tiles_1_to_4, 1 of 3' 'tiles_5_to_8, 2 of 3'
+status=0
+(export PDB_PROGRESS=1 LD_PRELOAD=$work/step_clock.so && exec "$bare" make-table 3 30 made --replace) \
+    >"$work/output" 2>"$work/errors" || status=$?
+check 'a table that is made is named while it is checked' told_files 'made, 1 of 1'
+rm made tiles_1_to_4 tiles_5_to_8 sets board_of_3
 
 # A search tells its pace, and no shares.
 echo '0 3 2 4 1 8 7 6 5' >claims
@@ -1052,12 +1072,79 @@ either_way 1 'refused S5' $seventeen : solve board one_set made $seventeen
 check 'a search that is refused keeps nothing' only_new
 expect 'solve without a board' 2 'fault read none' : solve none one_set made F12
 cp board both
-run solve both one_set both F12
-check 'solve over its own board' [ "$status.$(tail -n 1 "$work/output")" = '0.optimal 6' ]
+run solve both one_set both F12 --replace
+check 'solve over its own board, as it is told to' [ "$status.$(tail -n 1 "$work/output")" = '0.optimal 6' ]
 { cat board && sed -n 's/^moves/;/p' "$work/output"; } >"$work/puzzle"
 run optimal "$work/puzzle" one_set both F12
 check 'what stands there is the log' [ "$status.$(tail -n 1 "$work/output")" = '0.optimal 6' ]
 rm both
+
+# A file that is read, and one of the other kind, is spared, and nothing is tried or done: spares OUT WHY WORD..
+spares() {
+    local out=$1 why=$2
+    shift 2
+    cp "$out" "$work/before"
+    names_before=$(names_of)
+    run "$@"
+    check "$* spares $out" wrote 2 "fault write $out"
+    check "$* says why it spares $out" [ "$(cat "$work/errors")" = "pdb_cli: $out: $why: \`--replace\` allows that" ]
+    check "$* leaves $out as it was" cmp -s "$out" "$work/before"
+    check "$* leaves nothing else" only_new
+}
+cp board both
+cp one_set sets
+ln both also_both
+why='this run reads that file, so it is not replaced'
+for out in both ./both "$work/files/both" also_both; do
+    spares "$out" "$why" solve both sets "$out" F12
+    spares "$out" "$why" solve both sets "$out" F12 --budget 1 --fold
+done
+spares sets "$why" solve both sets sets F12
+spares F12 "$why" solve both sets F12 F12
+spares F3 "$why" solve both pair F3 F12 F3 --workers 7
+why="a table is there, or what can't be read, so no log takes its place"
+spares F12 "$why" solve board one_set F12 F123
+spares F12_with_FE "$why" solve no_board one_set F12_with_FE F123
+run solve board one_set a_log F12
+why="a log is there, or what can't be read, so no table takes its place"
+for out in a_log leaf branches; do
+    spares "$out" "$why" make-table 2 6 "$out"
+    spares "$out" "$why" make-table 2 1 "$out" --workers 2
+done
+if [ "$(id -u)" != 0 ]; then
+    chmod a-r a_log
+    cp F12 unread && chmod a-r unread
+    run make-table 2 6 a_log
+    check 'a log that can not be read is spared' wrote 2 'fault write a_log'
+    run solve board one_set unread F123
+    check 'a table that can not be read is spared' wrote 2 'fault write unread'
+    chmod u+r a_log unread && rm unread
+fi
+expect 'an input that is not there comes before a file that is spared' 2 'fault read none' : solve none one_set F12 F123
+# The same kind is replaced, and so is what only begins a little as the other does.
+run solve next_board one_set a_log F123
+check 'a log is replaced by a log' [ "$status.$(tail -n 1 "$work/output")" = '0.optimal 1' ]
+cp F12 a_table
+run make-table 2 14 a_table
+check 'a table is replaced by a table' cmp -s a_table F123
+for front in PDBL 'PDBL\x00' 'PDBL\x03' 'PDB' '' 'PDBT\x01' 'x'; do
+    printf %b "$front" >a_file
+    run make-table 2 6 a_file
+    check "a file of '$front' is replaced by a table" cmp -s a_file F12
+done
+for front in PDBT 'PDBT\x00' 'PDBT\x02' 'PDBL\x01' 'PDBL\x02'; do
+    printf %b "$front" >a_file
+    run solve board one_set a_file F12
+    check "a file of '$front' is replaced by a log" cmp -s a_file by_parity
+done
+run make-table 2 6 a_log --replace
+check 'a log is replaced by a table, as it is told to' cmp -s a_log F12
+run solve --replace board one_set a_table F12
+check 'a table is replaced by a log, as it is told to' cmp -s a_table by_parity
+cp F12 a_table
+run solve board one_set a_table a_table --replace
+check 'a log takes the place of its own table, as it is told to' cmp -s a_table by_parity
+rm both also_both sets a_log a_table a_file
 
 # Names that nothing can be kept under are told at once, before work that would take much longer than the time that it has here.
 echo '0 15 14 13 12 11 10 9 8 7 6 5 4 3 1 2' >far_board
@@ -1147,6 +1234,20 @@ done
 run make-table 2 6 made
 check 'a run behind it keeps its table' cmp -s made F12
 rm -f made made.*unkept
+# Behind the launcher a maker that is stopped leaves nothing, and ends with the launcher.
+if [ "$program" = "$root/pdb_cli" ]; then
+    names_before=$(names_of)
+    for signal in INT TERM HUP; do
+        for seconds in 0.1 0.2 0.4 0.6 0.8 1 1.5; do
+            status=0
+            (trap - INT && exec timeout -s "$signal" "$seconds" "$program" make-table 3 510 made --workers 2) \
+                >"$work/output" 2>"$work/errors" || status=$?
+            [ "$status" = 124 ] || check "a maker ends before $signal after $seconds seconds" [ "$status" = 0 ]
+            rm -f made
+            check "a maker that $signal stops after $seconds seconds leaves nothing" only_new
+        done
+    done
+fi
 
 # Two makers at once under one name.
 names_before=$(names_of)
@@ -1363,6 +1464,7 @@ END
 for words in 'table F1' 'table F1_of_FF' 'replay solved' 'replay none' --help \
     'bound board one_set leaf F123' 'optimal six_moves one_set branches F12' 'make-table 2 6 made' 'make-table 2 1 made' \
     'solve board one_set made F12'; do
+    rm -f made
     # shellcheck disable=SC2086
     python3 "$work/writes.py" "$program" $words >"$work/output" 2>"$work/errors"
     status=$?

@@ -46,7 +46,7 @@ expect 'table of seven tiles' 0 "sha256 ${digests[4_254]}" "${lines[4_254]}" : t
 blocks=225225
 cc -O1 -shared -fPIC -o "$work/step_clock.so" "$root/tools/step_clock.c" || exit 2
 for ((block = 4; block <= blocks; block += 4)); do
-    echo "pdb_cli: $((100 * block / blocks)) percent of $blocks blocks or lemmas begun"
+    echo "pdb_cli: seven, 1 of 1: $((100 * block / blocks)) percent of $blocks blocks or lemmas begun"
 done >"$work/progress"
 for workers in 1 4; do
     status=0
@@ -55,7 +55,7 @@ for workers in 1 4; do
     : >"$work/errors"
     check "a table of $blocks blocks by $workers workers" wrote 0 "sha256 ${digests[4_254]}" "${lines[4_254]}"
     check "$workers workers tell no line too many" [ "$(wc -l <"$work/told")" -le "$(wc -l <"$work/progress")" ]
-    check "$workers workers tell lines of progress alone" [ -z "$(grep -Evx "pdb_cli: (100|[1-9]?[0-9]) percent of $blocks blocks or lemmas begun" "$work/told")" ]
+    check "$workers workers tell lines of progress alone" [ -z "$(grep -Evx "pdb_cli: seven, 1 of 1: (100|[1-9]?[0-9]) percent of $blocks blocks or lemmas begun" "$work/told")" ]
     [ "$workers" != 1 ] || check 'all shares that one worker tells' cmp -s "$work/told" "$work/progress"
 done
 
@@ -230,6 +230,7 @@ calls() {
 calls 1 t table tiles_62
 [ "$(nproc)" = 1 ] || calls 3 t make-table 4 62 made
 for words in 'make-table 2 6 made' 'make-table 4 62 made' 'solve board set_0 made two'; do
+    rm -f made
     # shellcheck disable=SC2086
     calls 1 s $words
 done

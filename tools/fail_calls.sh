@@ -2,9 +2,8 @@
 # Runs the program once for each of its system calls, with that one failing, for each way to fail below. Such a run must
 # answer as the run does in which nothing fails, or tell the fault: `fault read NAME` or `fault write NAME` with status 2, or
 # `no memory` with status 3, or with status 2 nothing, or of `prove` the first of its lines, where the lines can't be written.
-# Where it tells a fault, it must leave
-# its files as they were, those beside them with names that end in `.unkept` too, but for a temporary file that it could not
-# remove; and otherwise as the run does in which nothing fails.
+# Where it tells a fault, it must leave its files as they were, those beside them with names that end in `.unkept` too; and
+# otherwise as the run does in which nothing fails.
 #
 #     echo '3 2 1 0 ; ULDRUL' | tools/fail_calls.sh
 #     tools/fail_calls.sh table FILE --workers 4 </dev/null
@@ -93,13 +92,9 @@ is_name() {
     return 1
 }
 
-# Whether the run has left the files as this list has them. Where the call $1 is one that removes a file, one more may be
-# there, the temporary file that was not removed.
+# Whether the run has left the files as this list has them.
 has_left() {
-    cmp -s "$work/left" "$work/$2" && return
-    local more
-    mapfile -t more < <(comm -23 "$work/left" "$work/$2")
-    [ "$1" = unlink ] && [ -z "$(comm -13 "$work/left" "$work/$2")" ] && [ "${#more[@]}" = 1 ] && [[ ${more[0]} == *.unkept ]]
+    cmp -s "$work/left" "$work/$1"
 }
 
 # Whether the run has written the first of its lines, and ended with status 2. The line of a status has 9 bytes.
@@ -119,20 +114,20 @@ judge() {
     ! grep -qv '^pdb_cli: ' "$work/errors" || return
     if cmp -s "$work/output" "$work/own_answer"; then
         told='its own answer'
-        has_left "$1" after
+        has_left after
     elif [ "${lines[*]}" = 'no memory status 3' ]; then
         told='no memory'
-        has_left "$1" before
+        has_left before
     elif [[ ${lines[0]} =~ ^(fault\ (read|write))\ (.*)$ && ${lines[*]:1} = 'status 2' ]] &&
         is_name "${BASH_REMATCH[3]}" "${@:2}"; then
         told=${BASH_REMATCH[1]}
-        has_left "$1" before
+        has_left before
     elif [ "$1 ${lines[*]}" = 'write status 2' ]; then
         told='nothing, status 2'
-        has_left "$1" after
+        has_left after
     elif [ "$1 $2" = 'write prove' ] && is_cut_short; then
         told='its first lines, status 2'
-        has_left "$1" after
+        has_left after
     else
         return 1
     fi

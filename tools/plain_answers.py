@@ -848,6 +848,12 @@ def claims_answered(run, ended, inputs):
     return [right_line(claim, line, run.boards) for claim, line in pairs]
 
 
+def is_spared(run):
+    """Whether OUT is an input of the run, or holds a file of the other kind: a table or a log, by its first five bytes."""
+    fronts = [b"PDBT\1"] if run.command == "solve" else [b"PDBL\1", b"PDBL\2"]
+    return run.out in run.names or run.files.get(run.out, b"")[:5] in fronts
+
+
 def can_be_kept(name):
     """Whether a file can be kept under this name: not in a folder that isn't there, nor in the place of a folder or device, nor
     under a name that leaves no room for that of a temporary file."""
@@ -872,7 +878,7 @@ def answer(run, ended):
             return Ended(b"fault read " + shown(name) + b"\n", 2, run.files)
         if len(run.files[name]) > limit:
             return Ended(b"fault size " + shown(name) + b"\n", 2, run.files)
-    if run.out is not None and not can_be_kept(run.out):
+    if run.out is not None and (is_spared(run) or not can_be_kept(run.out)):
         return Ended(b"fault write " + shown(run.out) + b"\n", 2, run.files)
     inputs = [run.files[name] for name in run.names]
     lines, made = digest_lines(run.command, inputs), None

@@ -2,12 +2,10 @@
 # Which files the program is built of, and the list by which a start knows that none of them has changed. `pdb_cli` and
 # `tools/build.sh` source this file with `root` set to the checkout's absolute path. Kept below the checkout are:
 #
-#     out/pdb_cli    the program
-#     out/built      the digest of all that this program was built of, and its own digest
-#     out/stamp      names, sizes and times of the files when they were last found to have these digests
-#     out/proved/    of each library what its last check said and made, and the digests of its sources
-#     out/build.log  what the last build said
-#     out/lock       held by the one launcher that builds, and by what it has started
+#     out/pdb_cli, out/built    the program, and the digests of all that it was built of and of itself
+#     out/stamp                 names, sizes and times of the files when they were last found to have these digests
+#     out/proved, out/build.log of each library what its last check said and made; and what the last build said
+#     out/lock                  held by the one launcher that builds, and by what it has started
 set -o pipefail
 shopt -s extglob nullglob
 

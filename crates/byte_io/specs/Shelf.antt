@@ -1,5 +1,7 @@
 -- A shelf: the bytes that stand under names, as files do.
-use Rattle.std.specs.Prelude.{◌≡◌, ◌≢◌, ℕ, List, [], ◌∷◌, ◌++◌, Option, Some, None, Result, Ok, Err, fold, if◌then◌else◌, option_map}
+use Rattle.std.specs.Prelude.{◌≡◌, ◌≢◌, ◌==◌, ℕ, Bool, false, List, [], ◌∷◌, ◌++◌, Option, Some, None, Result, Ok, Err, fold, if◌then◌else◌, option_map}
+use Rattle.std.specs.List.{starts_with}
+use Rattle.std.specs.Option.{option_map_or}
 use Rattle.std.specs.Borrow.{Bor}
 use Rattle.std.specs.Str.{bytes_eq}
 use Rattle.byte_io.specs.declared.shelf.KeepFault.{KeepFault}
@@ -32,6 +34,10 @@ told_with files name bytes = option_map (λ told. with_file told name bytes) fil
 -- what is told of each other name is the same; of this one nothing is said
 abbrev pub KeepsOthers : Option Files → Option Files → Bytes → Type 0
 KeepsOthers old new name = (other : Bytes) → other ≢ name → option_map (λ told. told other) new ≡ option_map (λ told. told other) old
+
+-- the bytes under this name begin so; where there are none, they don't
+abbrev pub begins_with : Files → Bytes → Bytes → Bool
+begins_with files name front = option_map_or (λ bytes. starts_with ◌==◌ bytes front) (files name) false
 
 -- ---- the calls on a shelf
 

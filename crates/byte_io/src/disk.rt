@@ -6,7 +6,8 @@ use crate::shelf::{KeepFault, Shelf};
 use crate::streams::{ReadFault, WriteFault, put_bytes, read_said};
 use std::alloc::{AllocError, Global};
 use std::fs::{File, OpenFile, OpenOptions, Permissions};
-use std::io::ErrorKind;
+use std::io::{ErrorKind, Read};
+use std::os::unix::fs::MetadataExt;
 use std::rt::Files;
 use std::{fs, io};
 
@@ -57,6 +58,14 @@ impl<R: Files> Shelf for DiskShelf<'_, R> {
         result
     }
 
+    fn are_one(&self, name: &str, other: &str) -> bool {
+        name == other || is_one_file(self.files, name, other)
+    }
+
+    fn begins_with(&self, name: &str, front: &[u8]) -> bool {
+        begins_with(self.files, name, front)
+    }
+
     fn try_keep(&mut self, alloc: Global, name: &str) -> Result<(), KeepFault> {
         let tried = make_and_remove(alloc, self.files, name);
         if tried == Err(KeepFault::F3) {
@@ -87,6 +96,42 @@ fn said_size<F: OpenFile>(file: &F) -> u64 {
     }
 }
 
+/// Whether the plain file under a name is the file that another name leads to. Where a system numbers no files, none is.
+fn is_one_file<R: Files>(files: &R, name: &str, other: &str) -> bool {
+    match (
+        fs::symlink_metadata(files, name),
+        fs::metadata(files, other),
+    ) {
+        (Ok(one), Ok(other)) => {
+            one.ino() != 0 && one.ino() == other.ino() && one.dev() == other.dev()
+        }
+        _ => false,
+    }
+}
+
+/// The most bytes of a file's front that are looked at.
+const MOST_FRONT: usize = 16;
+
+/// Whether the plain file under a name begins so. One that can't be looked at may: it counts as if it did.
+fn begins_with<R: Files>(files: &R, name: &str, front: &[u8]) -> bool {
+    match fs::symlink_metadata(files, name) {
+        Ok(data) if data.is_file() => {}
+        _ => return false,
+    }
+    let mut bytes = [0; MOST_FRONT];
+    let Some(read) = bytes.get_mut(..front.len()) else {
+        return true;
+    };
+    let result = match File::open(files, name) {
+        Ok(mut file) => file.read_exact(read),
+        Err(error) => Err(error),
+    };
+    match result {
+        Ok(()) => bytes.starts_with(front),
+        Err(error) => !matches!(error.kind(), ErrorKind::NotFound | ErrorKind::UnexpectedEof),
+    }
+}
+
 /// A file that is to stand under a name once it is whole.
 #[derive(Drop)]
 struct Temporary<F> {
@@ -99,10 +144,27 @@ struct Temporary<F> {
 /// Makes the temporary file of a name, and removes it.
 fn make_and_remove<R: Files>(alloc: Global, files: &R, name: &str) -> Result<(), KeepFault> {
     let made = make_temporary(alloc, files, name)?;
-    match fs::remove_file(files, made.name.as_str()) {
-        Ok(()) => Ok(()),
-        Err(_) => Err(KeepFault::F3),
+    if remove_temporary(files, made.name.as_str()) {
+        Ok(())
+    } else {
+        Err(KeepFault::F3)
     }
+}
+
+/// How often it is tried to remove a temporary file.
+const REMOVALS: u8 = 3;
+
+/// Removes a temporary file, and answers whether it is gone. A removal that fails is tried again, so that one failure leaves
+/// nothing.
+fn remove_temporary<R: Files>(files: &R, name: &str) -> bool {
+    for _ in 0..REMOVALS {
+        match fs::remove_file(files, name) {
+            Ok(()) => return true,
+            Err(error) if error.kind() == ErrorKind::NotFound => return true,
+            Err(_) => {}
+        }
+    }
+    false
 }
 
 /// Puts bytes in the place of a plain file, or where nothing stands. At each moment the name has what it had or all of
@@ -112,7 +174,7 @@ fn replace<R: Files>(alloc: Global, files: &R, name: &str, bytes: &[u8]) -> Resu
     match fill_and_rename(files, &mut made, bytes, name) {
         Ok(()) => Ok(()),
         Err(_) => {
-            let _ = fs::remove_file(files, made.name.as_str());
+            let _ = remove_temporary(files, made.name.as_str());
             Err(KeepFault::F3)
         }
     }

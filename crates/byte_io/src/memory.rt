@@ -87,6 +87,17 @@ impl Shelf for MemShelf {
         Ok(Vec::from_slice(alloc, bytes.as_slice())?)
     }
 
+    fn are_one(&self, name: &str, other: &str) -> bool {
+        name == other
+    }
+
+    fn begins_with(&self, name: &str, front: &[u8]) -> bool {
+        match self.files.get(name) {
+            Some(bytes) => bytes.as_slice().starts_with(front),
+            None => false,
+        }
+    }
+
     fn try_keep(&mut self, _alloc: Global, _name: &str) -> Result<(), KeepFault>
         ensures room { IsOk result }
         ensures same { Some (files_in self.new) ≡ Some (files_in self.old) }

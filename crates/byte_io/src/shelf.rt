@@ -1,7 +1,8 @@
 //! Named bytes.
 
 ghost use Rattle.std.specs.Prelude.{◌≡◌, ◌<◌, ◌≤◌, List, Option, Bool, Some, true, length, IfOk, OnOk, OnErr, IfSome, IsErrOf, IsSomeAnd};
-ghost use Rattle.byte_io.specs.Shelf.{Call, Files, KeepsOthers, fault_of, keeps, loads, told_then, told_with, tries};
+ghost use Rattle.std.specs.Str.{bytes_eq};
+ghost use Rattle.byte_io.specs.Shelf.{Call, Files, KeepsOthers, begins_with, fault_of, keeps, loads, told_then, told_with, tries};
 
 use crate::streams::ReadFault;
 use std::alloc::{AllocError, Global};
@@ -49,6 +50,15 @@ pub trait Shelf {
             → has_failed self.new ≡ has_failed self.old }
         ensures told { let call = loads name.now (fault_of result) in
             calls self.new ≡ told_then (calls self.old) call };
+
+    /// Whether two names are of one file. Only a shelf that doesn't tell its bytes says so of names that differ.
+    fn are_one(&self, name: &str, other: &str) -> bool
+        ensures same { name.now ≡ other.now → result ≡ true }
+        ensures told { IfSome (held self.now) (λ _. result ≡ bytes_eq name.now other.now) };
+
+    /// Whether the bytes under a name begin so. Of a name under which nothing is they don't.
+    fn begins_with(&self, name: &str, front: &[u8]) -> bool
+        ensures { IfSome (held self.now) (λ told. result ≡ begins_with told name.now front.now) };
 
     /// Tries whether bytes can be kept under a name, and leaves all files as they are. That they can promises nothing of a
     /// later `keep`.

@@ -1,5 +1,6 @@
 //! Sentences that say why a run ended without a yes, and the output that keeps its last line.
 
+use byte_io::memory::MemShelf;
 use byte_io::streams::put_bytes;
 use pdb_reason::{Beginning, Heard, Reason};
 use pdb_request::{Claim, LogCheck, MakeTable, Prove, Replay, Request, Search, TableCheck};
@@ -33,6 +34,7 @@ fn search<'a>(alloc: Global) -> Result<Request<'a>, AllocError> {
         board: "board",
         sets: "sets",
         out: "out",
+        replace: false,
         tables: tables(alloc)?,
         workers: 1,
         fold: false,
@@ -180,7 +182,7 @@ fn answers_to_claims_have_no_sentence(rt: HostRuntime) -> Result<(), Fail> {
         (
             "refused Q1 at line 3",
             any,
-            "pdb_cli: -: line 3 is none of `BOARD`, `BOARD ; MOVES` and `BOARD : N`",
+            "pdb_cli: standard input: line 3 is none of `BOARD`, `BOARD ; MOVES` and `BOARD : N`",
         ),
         ("refused K1 of 3 2 1 0", any, ""),
         ("refused K2 of 0 1 3 2", any, ""),
@@ -205,7 +207,7 @@ fn names_of_one_file_and_of_none(rt: HostRuntime) -> Result<(), Fail> {
         &[("refused T7 at entry 0", any, wrong)],
     )?;
     let replay = Request::Replay(Replay { puzzle: None });
-    let off = "pdb_cli: -: the move at step 4 takes the blank off the board";
+    let off = "pdb_cli: standard input: the move at step 4 takes the blank off the board";
     each_has_its_sentence(
         &rt,
         rt.alloc(),
@@ -216,6 +218,7 @@ fn names_of_one_file_and_of_none(rt: HostRuntime) -> Result<(), Fail> {
         side: 2,
         mask: 1,
         out: "out",
+        replace: false,
         workers: 1,
     });
     let wrong =
@@ -224,6 +227,51 @@ fn names_of_one_file_and_of_none(rt: HostRuntime) -> Result<(), Fail> {
     let write =
         "pdb_cli: out: nothing can be kept there: does its folder exist, may you write there, and is there room?";
     each_has_its_sentence(&rt, rt.alloc(), &make, &[("fault write out", any, write)])
+}
+
+/// What is said where nothing is kept under `out`, on a shelf with these files.
+fn said_of_out(
+    alloc: Global,
+    asked: &Request<'_>,
+    files: &[(&str, &[u8])],
+) -> Result<String, Fail> {
+    let shelf = MemShelf::of(alloc, files)?;
+    let reason = Reason::of(asked, b"fault write out").ok_or("a reason")?;
+    let reason = reason.on_shelf(asked, &shelf);
+    Ok(format!(in alloc; "{reason}")?)
+}
+
+#[test]
+fn a_file_that_is_spared_is_named(rt: HostRuntime) -> Result<(), Fail> {
+    let alloc = rt.alloc();
+    let making = |replace| {
+        Request::MakeTable(MakeTable {
+            side: 2,
+            mask: 6,
+            out: "out",
+            replace,
+            workers: 1,
+        })
+    };
+    let plain =
+        "pdb_cli: out: nothing can be kept there: does its folder exist, may you write there, and is there room?";
+    let log =
+        "pdb_cli: out: a log is there, or what can't be read, so no table takes its place: `--replace` allows that";
+    let table =
+        "pdb_cli: out: a table is there, or what can't be read, so no log takes its place: `--replace` allows that";
+    let is_log: [(&str, &[u8]); 1] = [("out", b"PDBL\x02 ..")];
+    let is_table: [(&str, &[u8]); 1] = [("out", b"PDBT\x01 ..")];
+    assert_eq!(rt; said_of_out(alloc, &making(false), &is_log)?.as_str(), log);
+    assert_eq!(rt;
+        said_of_out(alloc, &making(false), &is_table)?.as_str(),
+        plain
+    );
+    assert_eq!(rt; said_of_out(alloc, &making(true), &is_log)?.as_str(), plain);
+    assert_eq!(rt; said_of_out(alloc, &making(false), &[])?.as_str(), plain);
+    let search = search(alloc)?;
+    assert_eq!(rt; said_of_out(alloc, &search, &is_table)?.as_str(), table);
+    assert_eq!(rt; said_of_out(alloc, &search, &is_log)?.as_str(), plain);
+    Ok(())
 }
 
 #[test]

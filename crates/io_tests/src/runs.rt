@@ -5,8 +5,8 @@ use byte_io::memory::MemShelf;
 use byte_io::shelf::Shelf;
 use byte_io::streams::ReadFault;
 use pdb_run::{
-    Answer, BorrowedIo, Command, Digested, Input, Status, Unanswered, keep_and_conclude, lines,
-    load_all, read_inputs, read_inputs_and_try,
+    Answer, BorrowedIo, Command, Digested, Input, Keeping, Status, Unanswered, keep_and_conclude,
+    lines, load_all, read_inputs, read_inputs_and_try,
 };
 use sample_streams::{Failing, FailingShelf, SampleReader, SampleWriter, ShelfFault};
 use std::alloc::{AllocError, Global};
@@ -32,7 +32,7 @@ impl Command for WantsOne<'_> {
     ghost use Rattle.std.specs.Prelude.{[], ◌∷◌, None, option_map};
     ghost use Rattle.pdb_run.specs.Commands.{plan_under};
 
-    ghost plan = { λ command. plan_under None
+    ghost plan = { λ command. plan_under None None
         (record { name = option_map (λ s. s.now) command.name; limit = 4 } ∷ [])
         (λ _ _. ⊥) (λ _. ⊥) (λ _. ⊥) };
 
@@ -136,7 +136,7 @@ impl Command for Makes<'_> {
     ghost use Rattle.std.specs.Prelude.{⊤, [], Some};
     ghost use Rattle.pdb_run.specs.Commands.{plan_under};
 
-    ghost plan = { λ command. plan_under (Some command.out.now) [] (λ _ _. ⊤) (λ _. ⊤) (λ _. ⊤) };
+    ghost plan = { λ command. plan_under (Some command.out.now) None [] (λ _ _. ⊤) (λ _. ⊤) (λ _. ⊤) };
 
     fn inputs(&self, alloc: Global) -> Result<Vec<Input<'_>>, AllocError> {
         Ok(Vec::new(alloc))
@@ -152,12 +152,12 @@ fn begin_making<S: Shelf>(
 ) -> Result<Vec<Vec<u8>>, Status> {
     let command = Makes { out: out_name };
     let mut reader = b"".as_slice();
-    read_inputs_and_try(
-        alloc,
-        &command,
-        out_name,
-        &mut io_over(shelf, &mut reader, out),
-    )
+    let keeping = Keeping {
+        name: out_name,
+        spares: None,
+    };
+    let mut io = io_over(shelf, &mut reader, out);
+    read_inputs_and_try(alloc, &command, keeping, &mut io)
 }
 
 #[test]
@@ -197,6 +197,72 @@ fn a_name_that_can_not_be_kept_under_ends_a_run(rt: HostRuntime) -> Result<(), F
             (out.calls(), shelf.calls(), shelf.failed()),
             (1, 1, want == Status::Fault)
         );
+    }
+    Ok(())
+}
+
+/// A command that reads a file, and keeps what it makes under a name, but in the place of neither that file nor one that begins with
+/// an `a` or with `bc`.
+#[derive(Clone, Copy)]
+struct Spares<'a> {
+    input: &'a str,
+    out: &'a str,
+}
+
+impl Command for Spares<'_> {
+    ghost use Rattle.std.specs.Prelude.{⊤, ◌∷◌, [], Some};
+    ghost use Rattle.pdb_run.specs.Commands.{plan_under};
+
+    ghost plan = { λ command. plan_under (Some command.out.now) (Some ((97 ∷ []) ∷ (98 ∷ 99 ∷ []) ∷ []))
+        (record { name = Some command.input.now; limit = 5 } ∷ []) (λ _ _. ⊤) (λ _. ⊤) (λ _. ⊤) };
+
+    fn inputs(&self, alloc: Global) -> Result<Vec<Input<'_>>, AllocError> {
+        let mut inputs = Vec::new(alloc);
+        inputs.push(Input {
+            name: Some(self.input),
+            limit: 5,
+        })?;
+        Ok(inputs)
+    }
+}
+
+#[test]
+fn a_file_that_is_spared_ends_a_run(rt: HostRuntime) -> Result<(), Fail> {
+    let alloc = rt.alloc();
+    let files: [(&str, &[u8]); 5] = [
+        ("read", b"xyz"),
+        ("a", b"a"),
+        ("b", b"bcd"),
+        ("c", b"bac"),
+        ("d", b""),
+    ];
+    let fronts: [&[u8]; 2] = [b"a", b"bc"];
+    for (name, spared) in [
+        ("read", true),
+        ("a", true),
+        ("b", true),
+        ("c", false),
+        ("d", false),
+        ("new", false),
+    ] {
+        let mut shelf = MemShelf::of(alloc, &files)?;
+        let mut out = SampleWriter::new(alloc);
+        let mut reader = b"".as_slice();
+        let command = Spares {
+            input: "read",
+            out: name,
+        };
+        let keeping = Keeping {
+            name,
+            spares: Some(&fronts),
+        };
+        let mut io = io_over(&mut shelf, &mut reader, &mut out);
+        let begun = read_inputs_and_try(alloc, &command, keeping, &mut io);
+        let line = format!(in alloc; "fault write {name}\n")?;
+        let said = if spared { line.as_bytes() } else { b"" };
+        assert!(rt; begun.is_err() == spared && out.taken() == said, "{name}");
+        assert!(rt; begun.err().is_none_or(|status| status == Status::Fault));
+        assert!(rt; !shelf.failed(), "{name}");
     }
     Ok(())
 }

@@ -71,7 +71,7 @@ fn a_trial_makes_a_file_and_removes_it(rt: HostRuntime) -> Result<(), Fail> {
 fn a_trial_leaves_what_others_made(rt: HostRuntime) -> Result<(), Fail> {
     let alloc = rt.alloc();
     let given: [(&str, &[u8]); 3] = [("a", OLD), ("a.unkept", USERS), ("a.1.unkept", b"")];
-    for (from, to) in [(0, 0), (3, 4), (3, 9), (4, 5), (0, 9)] {
+    for (from, to) in [(0, 0), (3, 4), (3, 9), (4, 7), (0, 9)] {
         let files = SampleFiles::new(alloc, &given)?;
         files.fail(from, to);
         let fails = from < to;
@@ -87,15 +87,17 @@ fn a_trial_leaves_what_others_made(rt: HostRuntime) -> Result<(), Fail> {
 #[test]
 fn a_call_that_fails_is_a_failure_of_the_shelf(rt: HostRuntime) -> Result<(), Fail> {
     let alloc = rt.alloc();
-    // Where nothing is told of the name, it is tried; what can't be removed stays.
+    // Where nothing is told of the name, it is tried. What can't be removed is tried again, twice, and then stays.
     let cases = [
-        (0u64, Ok(()), 1),
-        (1, Err(KeepFault::F3), 1),
-        (2, Err(KeepFault::F3), 2),
+        (0u64, 1u64, Ok(()), 1),
+        (1, 2, Err(KeepFault::F3), 1),
+        (2, 3, Ok(()), 1),
+        (2, 4, Ok(()), 1),
+        (2, 5, Err(KeepFault::F3), 2),
     ];
-    for (call, want, count) in cases {
+    for (from, to, want, count) in cases {
         let files = SampleFiles::new(alloc, &[("a", OLD)])?;
-        files.fail(call, call.saturating_add(1));
+        files.fail(from, to);
         assert_eq!(rt; try_name(alloc, &files, "a"), (want, want.is_err()));
         assert_eq!(rt; files.count(), count);
         assert!(rt; files.has("a", OLD));
@@ -201,5 +203,38 @@ fn a_real_name_that_can_not_be_kept_under_is_a_failure(rt: HostRuntime) -> Resul
     }
     fs::remove_file(&rt, "trial_file")?;
     fs::remove_dir(&rt, "trial_folder")?;
+    Ok(())
+}
+
+#[test]
+fn names_of_one_file_and_fronts_of_files_are_told(rt: HostRuntime) -> Result<(), Fail> {
+    let alloc = rt.alloc();
+    let shelf = MemShelf::of(alloc, &[("a", OLD), ("b", OLD)])?;
+    assert!(rt; shelf.are_one("a", "a") && !shelf.are_one("a", "b") && !shelf.are_one("a", "./a"));
+    assert!(rt; shelf.begins_with("a", b"ol") && shelf.begins_with("a", b""));
+    assert!(rt; !shelf.begins_with("a", b"older") && !shelf.begins_with("c", b""));
+
+    fs::write(&rt, "front_test", OLD)?;
+    fs::write(&rt, "front_other", OLD)?;
+    fs::hard_link(&rt, "front_test", "front_link")?;
+    fs::create_dir(&rt, "front_folder")?;
+    let shelf = DiskShelf::new(&rt);
+    for name in ["front_test", "./front_test", "front_link"] {
+        assert!(rt; shelf.are_one("front_test", name), "{name}");
+    }
+    for name in ["front_other", "front_folder", "none", ""] {
+        assert!(rt; !shelf.are_one("front_test", name), "{name}");
+    }
+    assert!(rt; shelf.are_one("none", "none") && !shelf.are_one("none", "none_other"));
+    assert!(rt; shelf.begins_with("front_test", b"ol") && shelf.begins_with("front_test", OLD));
+    assert!(rt; !shelf.begins_with("front_test", b"od"));
+    for name in ["front_folder", "none", "", "front_test/a"] {
+        assert!(rt; !shelf.begins_with(name, b"ol"), "{name}");
+    }
+    assert!(rt; !shelf.begins_with("front_test", b"older"));
+    for name in ["front_test", "front_other", "front_link"] {
+        fs::remove_file(&rt, name)?;
+    }
+    fs::remove_dir(&rt, "front_folder")?;
     Ok(())
 }

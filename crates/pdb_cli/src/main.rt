@@ -4,7 +4,7 @@
 use byte_io::disk::DiskShelf;
 use byte_io::watched::Watched;
 use pdb_program::{ArgumentFault, Call, Host, start};
-use pdb_progress::Watch;
+use pdb_progress::{Watch, checked_files, is_asked_for};
 use pdb_reason::{Beginning, Heard, Reason};
 use pdb_words::read_words;
 use std::env::Env;
@@ -63,12 +63,25 @@ fn tell_reason(rt: &HostRuntime, line: &[u8]) -> io::Result<()> {
     let Some(reason) = Reason::of(&asked, line) else {
         return Ok(());
     };
+    let reason = reason.on_shelf(&asked, &DiskShelf::new(rt));
     let beginning = match reason.name() {
-        // Standard input is read already.
-        Some("-") | None => Beginning::OfAny,
+        None => Beginning::OfAny,
         Some(name) => beginning_of(rt, name).unwrap_or(Beginning::OfAny),
     };
     rt.eprintln(reason.beginning(beginning))
+}
+
+/// The files that the run checks, in order, where they are to be told and can be.
+fn files_to_tell<'a>(rt: &HostRuntime, words: &'a [String]) -> Vec<&'a str> {
+    let none = Vec::new(rt.alloc());
+    if !is_asked_for(rt) {
+        return none;
+    }
+    let words = words.get(1..).unwrap_or_default();
+    match read_words(rt.alloc(), words) {
+        Ok(asked) => checked_files(rt.alloc(), &asked).unwrap_or(none),
+        Err(_) => none,
+    }
 }
 
 fn main(rt: HostRuntime) -> ExitCode {
@@ -79,7 +92,8 @@ fn main(rt: HostRuntime) -> ExitCode {
     let mut watched = Watched::new(&mut stdout);
     let mut out = Heard::new(&mut watched);
     let mut err = rt.stderr();
-    let gate = Watch::asked_for(&rt);
+    let words = arguments(&rt).unwrap_or_else(|_| Vec::new(rt.alloc()));
+    let gate = Watch::asked_for(&rt, files_to_tell(&rt, words.as_slice()));
     let call = Call {
         host: Host {
             rt: &rt,

@@ -4,5 +4,6 @@ pub mod Kept
 pub mod Laws
 pub mod MakeTable
 pub mod Solve
+pub mod Spared
 -- What proofs alone need.
 pub mod Steps

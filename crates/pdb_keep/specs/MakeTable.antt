@@ -13,6 +13,7 @@ use Rattle.pdb_verdict.specs.declared.verdicts.Fault.{Fault}
 use Rattle.pdb_verdict.specs.declared.verdicts.Fault.TheVariants.{K3, K4}
 use Rattle.pdb_verdict.specs.declared.verdicts.Verdict.{Verdict}
 use Rattle.pdb_verdict.specs.declared.verdicts.Verdict.TheVariants as verdict
+use Rattle.pdb_keep.specs.Spared.{log_fronts, spared_unless}
 
 -- the tiles of the mask are a pattern on boards of the side
 abbrev pub ArePattern : ℕ → ℕ → Type 0
@@ -62,8 +63,8 @@ pub record TellsBuild (side mask : ℕ) (reply : Reply) : Type 0 where
 
 -- ---- the command
 
--- it reads nothing; it takes memory and makes a table once the side and the mask are a pattern; for any number of workers
+-- it reads nothing, and spares logs, unless it is asked to replace them; it takes memory and makes a table once the side and the mask are a pattern; for any number of workers
 abbrev pub make_table_plan : MakeTableArguments → Plan
-make_table_plan arguments = plan_under (Some arguments.out) []
+make_table_plan arguments = plan_under (Some arguments.out) (spared_unless arguments.replace log_fronts) []
     (λ inputs. TellsBuild arguments.side arguments.mask) (λ inputs. ArePattern arguments.side arguments.mask)
     (λ inputs. ArePattern arguments.side arguments.mask)

@@ -9,6 +9,7 @@ mod make_table;
 mod search_inputs;
 mod solutions;
 mod solve;
+mod spared;
 
 pub use laws::{
     kept_logs_are_taken, kept_logs_prove_optima, kept_tables_are_exact, told_moves_solve,

@@ -11,11 +11,12 @@ ghost use Rattle.pdb_verdict.specs.Verdicts.{IsAnswerTo};
 ghost use Rattle.pdb_keep.specs.MakeTable.{ArePattern, IsBuilt, TellsBuild, make_table_plan};
 ghost use Rattle.pdb_keep.specs.Steps.{IsCauseForBuild};
 
+use crate::spared::spared_by_table;
 use pat_place::Pattern;
 use pdb_request::MakeTable;
 use pdb_run::{
-    Answer, Command, Digested, Digests, Input, Io, Status, Unanswered, beside, keep_and_conclude,
-    read_inputs_and_try,
+    Answer, Command, Digested, Digests, Input, Io, Keeping, Status, Unanswered, beside,
+    keep_and_conclude, read_inputs_and_try,
 };
 use pdb_verdict::{Fault, Verdict, line_of, settled, told, verify_table};
 use puz_board::Side;
@@ -37,8 +38,8 @@ impl Command for Making<'_> {
     }
 }
 
-/// A whole run of `make-table`: the table is kept under its name once it is found exact. That something can be kept there is
-/// tried before the table is made.
+/// A whole run of `make-table`: the table is kept under its name once it is found exact. That something can be kept there, and no
+/// log is replaced unasked, is tried before the table is made.
 #[inline(never)] // so that the stack has the values of one command alone
 pub fn run_make_table<H: Threads + Wait + Sync, G: Gate + Sync, I: Io>(
     asked: &MakeTable<'_>,
@@ -50,7 +51,11 @@ pub fn run_make_table<H: Threads + Wait + Sync, G: Gate + Sync, I: Io>(
         Ends plan (I.world io.old) (I.world io.new) result }
 {
     let command = Making(*asked);
-    match read_inputs_and_try(workers.alloc, &command, asked.out, io) {
+    let keeping = Keeping {
+        name: asked.out,
+        spares: spared_by_table(asked.replace),
+    };
+    match read_inputs_and_try(workers.alloc, &command, keeping, io) {
         Ok(_inputs) => {
             let answer = answer_make_table(asked.side, asked.mask, workers);
             keep_and_conclude(workers.alloc, &command, &answer, asked.out, io)

@@ -40,6 +40,7 @@ pub(crate) fn with_bytes<'n>(
         board: tables.remove(0),
         sets: tables.remove(0),
         out: search.out,
+        replace: search.replace,
         tables,
         workers: search.workers,
         fold: search.fold,

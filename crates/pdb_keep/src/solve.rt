@@ -19,10 +19,11 @@ use crate::given_up::cause_of;
 use crate::made::Made;
 use crate::search_inputs::{Searching, with_bytes};
 use crate::solutions::lines_on;
+use crate::spared::spared_by_log;
 use log_check::LogRefusal;
 use pdb_request::Search;
 use pdb_run::{
-    Answer, Digested, Io, Status, Unanswered, beside, digested_beside, keep_and_conclude,
+    Answer, Digested, Io, Keeping, Status, Unanswered, beside, digested_beside, keep_and_conclude,
     read_inputs_and_try,
 };
 use pdb_verdict::{Bundling, Fault, optimum_over, over_tables, settled, told};
@@ -35,7 +36,8 @@ use std::thread::Threads;
 use work_run::{Gate, Workers};
 
 /// A whole run of `solve`, whoever checks the tables and the log: at most its budget of boards is expanded, and the log is kept
-/// once it and the moves are found to prove an optimum. That something can be kept there is tried before anything is checked.
+/// once it and the moves are found to prove an optimum. That something can be kept there, and neither an input nor a table is
+/// replaced unasked, is tried before anything is checked.
 #[inline(never)] // so that the stack has the values of one command alone
 pub fn run_solve<H: Threads + Wait + Sync, G: Gate + Sync, I: Io>(
     search: &Search<'_, &str>,
@@ -47,7 +49,11 @@ pub fn run_solve<H: Threads + Wait + Sync, G: Gate + Sync, I: Io>(
         Ends plan (I.world io.old) (I.world io.new) result }
 {
     let command = Searching(search);
-    let mut read = match read_inputs_and_try(workers.alloc, &command, search.out, io) {
+    let keeping = Keeping {
+        name: search.out,
+        spares: spared_by_log(search.replace),
+    };
+    let mut read = match read_inputs_and_try(workers.alloc, &command, keeping, io) {
         Ok(inputs) => with_bytes(search, inputs),
         Err(status) => return status,
     };

@@ -6,7 +6,7 @@ use Rattle.pdb_request.specs.Asked.{Asked, make_table, prove, solve}
 use Rattle.byte_io.specs.declared.shelf.KeepFault.TheVariants as keep
 use Rattle.byte_io.specs.declared.streams.ReadFault.TheVariants as read
 use Rattle.pdb_run.specs.Inputs.{Failures, HasFailed}
-use Rattle.pdb_run.specs.Runs.{Ends, HasCause, IsAnswered, Outcome, World, made_wrong, replied, status_of, status_of_reply, unkept, unlisted, unread, unwritable}
+use Rattle.pdb_run.specs.Runs.{Ends, HasCause, IsAnswered, Outcome, World, made_wrong, replied, spared, status_of, status_of_reply, unkept, unlisted, unread, unwritable}
 use Rattle.pdb_run.specs.Statuses.{status_number}
 use Rattle.pdb_run.specs.declared.statuses.Status.{Status}
 use Rattle.pdb_run.specs.declared.statuses.Status.TheVariants.{Fault, NoMemory, Refused, Yes}
@@ -47,6 +47,7 @@ parsed_ends words old new old_err new_err status parses same = elim [
   | inl memory ↦ inl (record {
     outcome = unlisted;
     cause = tt;
+    spares = tt;
     files = same.files;
     calls = same.calls;
     failure = same.failed;
@@ -91,7 +92,8 @@ fault_of asked old new (unread wanted read.F1) cause is = elim (one_failed wante
 fault_of asked old new (unread wanted read.F2) cause is = inr (inr (inr (inl (wanted, cause))))
 fault_of asked old new (unwritable name keep.F3) cause is = inl (cause.has_failed refl)
 fault_of asked old new (unkept name keep.F3) cause is = inl (cause.has_failed refl)
-fault_of asked old new made_wrong cause is = inr (inr (inr (inr cause)))
+fault_of asked old new (spared name) cause is = inr (inr (inr (inr (inl (name, cause)))))
+fault_of asked old new made_wrong cause is = inr (inr (inr (inr (inr cause))))
 fault_of asked old new (replied inputs reply) cause is = absurd (reply_fault reply.is_yes is)
 fault_of asked old new _ cause is = let clash : NoMemory ≡ Fault = is in absurd cc
 

@@ -75,8 +75,7 @@ HoldsOfYes (make_table a) before later input above line =
 -- has fewer; and the bytes that stand under OUT afterwards are a log that proves this bound, over the sets and the tables
 HoldsOfYes (solve a) before later input above line =
     (text : Bytes) × (b : List ℕ) × (moves : Bytes) × (n : ℕ) × (before a.board ≡ Some text) × Spells text b
-    × (line ≡ codes "optimal " ++ decimal n) × (higher : Bytes) × HasLine higher (codes "moves" ++ moves) [] above
-    × Solves b moves n × IsBounded b n
+    × (line ≡ codes "optimal " ++ decimal n) × (higher : Bytes) × HasLine higher (codes "moves" ++ moves) [] above × Solves b moves n × IsBounded b n
     × (set_text : Bytes) × (files : List Bytes) × (log : Bytes) × (before a.sets ≡ Some set_text) × (map before a.tables ≡ map Some files)
     × (later a.out ≡ Some log) × IsProvedBound a.fold b set_text log files n
 -- the line is a true answer to a claim
@@ -101,6 +100,5 @@ pub record Headline (asked : Asked) (before later : Bytes → Option Bytes) (inp
       → (below ≡ []) × (status ≡ 0)
   -- and there is one where the status is 0
   pub yes : status ≡ 0 → AreAYes asked lines
-  pub no : (a : TableArguments) → asked ≡ table a → status ≡ 1
-      → (file : Bytes) × (before a.file ≡ Some file) × ((t : Table) → ¬ IsExactFile t file)
+  pub no : (a : TableArguments) → asked ≡ table a → status ≡ 1 → (file : Bytes) × (before a.file ≡ Some file) × ((t : Table) → ¬ IsExactFile t file)
   pub known : status ≤ 3

@@ -8,7 +8,7 @@ use Rattle.pdb_request.specs.Asked.{Asked, bound, make_table, optimal, prove, re
 use Rattle.pdb_request.specs.declared.requests.Claim.TheVariants.{Bound, Optimum}
 use Rattle.pdb_run.specs.Commands.{Plan, Wanted}
 use Rattle.pdb_run.specs.Inputs.{IsFirstUnread}
-use Rattle.pdb_run.specs.Runs.{Ends, HasCause, HasMade, IsAnswered, Outcome, World, status_of, text_of}
+use Rattle.pdb_run.specs.Runs.{Ends, HasCause, HasMade, IsAnswered, IsSpared, Outcome, World, status_of, text_of}
 use Rattle.pdb_run.specs.Statuses.{status_number}
 use Rattle.pdb_run.specs.declared.statuses.Status.{Status}
 use Rattle.pdb_verdict.specs.Plans.{log_check_plan, replay_plan, table_plan}
@@ -57,13 +57,13 @@ pub record SaysAll (asked : Asked) (old new : World) (number : ℕ) : Type 0 whe
   pub whole : WritesAll old.written new.written (text_of outcome)
   pub is_status : number ≡ status_number (status_of outcome)
 
--- the shelf has failed, or the reader, or a write; or an input, the first that was not read, is over its limit; or something was
--- made of the inputs, and is wrong
+-- the shelf has failed, or the reader, or a write; or an input, the first that was not read, is over its limit; or what stands under
+-- the name of what is to be kept is spared; or something was made of the inputs, and is wrong
 abbrev pub HasFault : Asked → World → World → Type 0
 HasFault asked old new =
     (new.failed.shelf ≡ true) ⊎ (new.failed.reader ≡ true) ⊎ (new.written.failed ≡ true)
     ⊎ ((wanted : Wanted) × IsFirstUnread old.files old.reader new.failed (plan_of asked).inputs wanted F2)
-    ⊎ HasMade (plan_of asked) old
+    ⊎ ((name : Bytes) × IsSpared (plan_of asked) old name) ⊎ HasMade (plan_of asked) old
 
 -- the number is that of a status of which this holds
 abbrev pub IsNumberOfStatus : (Status → Type 0) → ℕ → Type 0

@@ -1,11 +1,12 @@
 //! Gates that tell how far a check has come, and how fast a search goes.
 
+use crate::files::FileShare;
 use crate::paces::Pace;
 use crate::shares::Share;
 use crate::times::is_time;
 use std::io;
 use std::rt::{Clock, Env};
-use std::sync::atomic::{AtomicBool, AtomicU8, AtomicU64, Ordering};
+use std::sync::atomic::{AtomicBool, AtomicU8, AtomicU64, AtomicUsize, Ordering};
 use std::time::Instant;
 use work_run::Gate;
 
@@ -19,8 +20,12 @@ const VARIABLE: &str = "PDB_PROGRESS";
 /// the first claim or search on no share is told: the jobs are parts of searches then.
 /// Where the clock or standard error fails nothing is told, and the work goes on.
 #[derive(Drop)]
-pub struct Progress<'a, R> {
+pub struct Progress<'a, 'n, R> {
     rt: &'a R,
+    /// The files that are checked, in order, as far as they are known.
+    files: Vec<&'n str>,
+    /// How many checks have begun.
+    checks: AtomicUsize,
     start: Instant,
     /// The milliseconds from the start to the last telling, 0 before the first one.
     told: AtomicU64,
@@ -36,11 +41,13 @@ pub struct Progress<'a, R> {
     began: AtomicU64,
 }
 
-impl<'a, R: Clock + Eprint> Progress<'a, R> {
-    /// A gate whose first second begins now.
-    pub fn start(rt: &'a R) -> io::Result<Progress<'a, R>> {
+impl<'a, 'n, R: Clock + Eprint> Progress<'a, 'n, R> {
+    /// A gate whose first second begins now, of a run that checks these files in this order. It tells their names, where it has any.
+    pub fn start(rt: &'a R, files: Vec<&'n str>) -> io::Result<Progress<'a, 'n, R>> {
         Ok(Progress {
             rt,
+            files,
+            checks: AtomicUsize::new(0),
             start: Instant::now(rt)?,
             told: AtomicU64::new(0),
             jobs: AtomicU64::new(0),
@@ -78,6 +85,26 @@ impl<'a, R: Clock + Eprint> Progress<'a, R> {
         Share::of(begun, self.jobs.load(Ordering::SeqCst))
     }
 
+    /// The file whose check has begun last, where that is known, with its share.
+    fn file_share(&self, share: Share) -> Option<FileShare<'n>> {
+        let number = self.checks.load(Ordering::SeqCst);
+        let file = *self.files.get(number.checked_sub(1)?)?;
+        Some(FileShare {
+            file,
+            number,
+            count: self.files.len(),
+            share,
+        })
+    }
+
+    /// Tells a share, with its file, where that is known.
+    fn tell(&self, share: Share) {
+        let _ = match self.file_share(share) {
+            Some(share) => self.rt.eprintln(share),
+            None => self.rt.eprintln(share),
+        };
+    }
+
     /// The pace to tell now, where it is time to tell one and no other worker does.
     fn pace_due(&self, boards: u64) -> Option<Pace> {
         let now = self.due()?;
@@ -88,8 +115,9 @@ impl<'a, R: Clock + Eprint> Progress<'a, R> {
     }
 }
 
-impl<R: Clock + Eprint> Gate for Progress<'_, R> {
+impl<R: Clock + Eprint> Gate for Progress<'_, '_, R> {
     fn begins(&self, jobs: u64) {
+        self.checks.fetch_add(1, Ordering::SeqCst);
         self.jobs.store(jobs, Ordering::SeqCst);
         self.begun.store(0, Ordering::SeqCst);
     }
@@ -100,7 +128,7 @@ impl<R: Clock + Eprint> Gate for Progress<'_, R> {
         }
         let begun_before = self.begun.fetch_add(1, Ordering::SeqCst);
         if let Some(share) = self.share_due(begun_before.saturating_add(1)) {
-            let _ = self.rt.eprintln(share);
+            self.tell(share);
         }
     }
 
@@ -128,27 +156,28 @@ impl<R: Clock + Eprint> Gate for Progress<'_, R> {
 
 /// The gate of the program.
 #[derive(Drop)]
-pub enum Watch<'a, R> {
+pub enum Watch<'a, 'n, R> {
     /// Tells nothing, and holds nobody.
     Quiet,
     /// Tells how far the check has come, or how fast the search goes.
-    Telling(Progress<'a, R>),
+    Telling(Progress<'a, 'n, R>),
 }
 
-impl<'a, R: Env + Clock + Eprint> Watch<'a, R> {
-    /// The gate that the environment asks for: one that tells where `PDB_PROGRESS` is 1, and otherwise a quiet one.
-    pub fn asked_for(rt: &'a R) -> Watch<'a, R> {
+impl<'a, 'n, R: Env + Clock + Eprint> Watch<'a, 'n, R> {
+    /// The gate that the environment asks for, of a run that checks these files in this order: one that tells where `PDB_PROGRESS` is
+    /// 1, and otherwise a quiet one.
+    pub fn asked_for(rt: &'a R, files: Vec<&'n str>) -> Watch<'a, 'n, R> {
         if !is_asked_for(rt) {
             return Watch::Quiet;
         }
-        match Progress::start(rt) {
+        match Progress::start(rt, files) {
             Ok(progress) => Watch::Telling(progress),
             Err(_) => Watch::Quiet,
         }
     }
 }
 
-impl<R: Clock + Eprint> Gate for Watch<'_, R> {
+impl<R: Clock + Eprint> Gate for Watch<'_, '_, R> {
     fn begins(&self, jobs: u64) {
         if let Watch::Telling(progress) = self {
             progress.begins(jobs);
@@ -181,7 +210,7 @@ impl<R: Clock + Eprint> Gate for Watch<'_, R> {
 }
 
 /// Whether the environment asks for progress.
-fn is_asked_for(rt: &impl Env) -> bool {
+pub fn is_asked_for(rt: &impl Env) -> bool {
     let mut value = [0; 2];
     match rt.var(VARIABLE, &mut value) {
         Ok(length) => value.get(..length) == Some(b"1".as_slice()),

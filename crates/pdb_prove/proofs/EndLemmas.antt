@@ -1,5 +1,5 @@
 -- How a run of claims ends that are ready.
-use Rattle.std.proofs.Common.{◌≡◌, ◌≢◌, ◌∙◌, ◌++◌, ap, ℕ, Bool, Result, List, [], ◌∷◌, Ok, Err, IfOk, OnErr, inl, inr, refl, subst, sym}
+use Rattle.std.proofs.Common.{◌≡◌, ◌≢◌, ◌∙◌, ◌++◌, ap, ℕ, Bool, Result, List, [], ◌∷◌, None, Some, Ok, Err, IfOk, OnErr, inl, inr, refl, subst, sym}
 use Rattle.std.specs.declared.alloc.AllocError.{AllocError}
 use Rattle.std.proofs.lemmas.Grind.{flat_map-append}
 use Rattle.std.proofs.lemmas.List.{append-nil}
@@ -114,6 +114,7 @@ module _ (arguments : ProveArguments) (files : ClaimsFiles) {old read : World} (
               },
             ),
           );
+          spares = λ name under. let clash : None ≡ Some name = under in cc;
           files = whole.files ∙ are.files;
           calls = whole.calls ∙ are.calls;
           failure = λ name under. whole.failed ∙ are.failed;

@@ -4,9 +4,12 @@
 mod answers;
 mod beginnings;
 mod heard;
+mod names;
+mod outs;
 mod reasons;
 mod texts;
 
 pub use beginnings::Beginning;
 pub use heard::Heard;
+pub use names::ShownName;
 pub use reasons::Reason;

@@ -2,16 +2,27 @@
 
 use crate::answers::Answer;
 use crate::beginnings::Beginning;
+use crate::names::ShownName;
+use crate::outs::spared_text;
 use crate::texts::{NO_MEMORY, Subject, Text, WRONG, fault_text, text_of};
-use pdb_request::Request;
+use byte_io::shelf::Shelf;
+use pdb_request::{Prove, Replay, Request};
 use std::fmt;
 use std::fmt::{Display, Formatter};
+
+/// What a sentence names.
+#[derive(Clone, Copy, Debug, PartialEq, Eq)]
+enum Named<'a> {
+    File(&'a str),
+    StandardInput,
+    Nothing,
+}
 
 /// Why a run ended without a yes. It is shown as a sentence, which names the file that it speaks of.
 #[derive(Clone, Copy, Debug, PartialEq, Eq)]
 pub struct Reason<'a> {
     subject: Subject,
-    name: Option<&'a str>,
+    name: Named<'a>,
     text: Text,
     numbers: [u64; 2],
     beginning: Beginning,
@@ -22,24 +33,41 @@ impl<'a> Reason<'a> {
     pub fn of(asked: &Request<'a>, line: &'a [u8]) -> Option<Reason<'a>> {
         match Answer::of(line)? {
             Answer::Refused(code, numbers) => refusal(asked, code, numbers),
-            Answer::Fault(kind, name) => {
-                let text = Text::Plain(fault_text(kind)?);
-                Some(told(Subject::Run, Some(name), text, [0; 2]))
-            }
-            Answer::Maker => Some(told(Subject::Run, None, Text::Plain(WRONG), [0; 2])),
-            Answer::NoMemory => Some(told(Subject::Run, None, Text::Plain(NO_MEMORY), [0; 2])),
+            Answer::Fault(kind, name) => Some(fault(asked, kind, name)?),
+            Answer::Maker => Some(told(Subject::Run, Named::Nothing, Text::Plain(WRONG), [0; 2])),
+            Answer::NoMemory => Some(told(
+                Subject::Run,
+                Named::Nothing,
+                Text::Plain(NO_MEMORY),
+                [0; 2],
+            )),
         }
     }
 
-    /// The file that it speaks of.
+    /// The file that it speaks of, if that is one with a name.
     pub fn name(&self) -> Option<&'a str> {
-        self.name
+        match self.name {
+            Named::File(name) => Some(name),
+            Named::StandardInput | Named::Nothing => None,
+        }
+    }
+
+    /// The same, of a run that did what was asked on this shelf: where nothing could be kept, since what is there is spared, that is
+    /// told.
+    pub fn on_shelf<S: Shelf>(self, asked: &Request<'_>, shelf: &S) -> Reason<'a> {
+        match (self.subject, spared_text(asked, shelf)) {
+            (Subject::Out, Some(text)) => Reason {
+                text: Text::Plain(text),
+                ..self
+            },
+            _ => self,
+        }
     }
 
     /// The same, where that file begins so. What is said of that is left out where it is no surprise.
     pub fn beginning(self, beginning: Beginning) -> Reason<'a> {
         let beginning = match (self.subject, beginning) {
-            (Subject::Run, _) => Beginning::OfAny,
+            (Subject::Run | Subject::Out, _) => Beginning::OfAny,
             (Subject::Table, Beginning::OfTable) => Beginning::OfAny,
             (Subject::Log, Beginning::OfLog) => Beginning::OfAny,
             (Subject::Goal, Beginning::OfBoardWithBlankLast) => beginning,
@@ -53,9 +81,12 @@ impl<'a> Reason<'a> {
 impl Display for Reason<'_> {
     fn fmt<W: fmt::Write>(&self, f: &mut Formatter<W>) -> fmt::Result {
         f.write_str("pdb_cli: ")?;
-        if let Some(name) = self.name {
-            write_name(f, name)?;
-            f.write_str(": ")?;
+        match self.name {
+            Named::File(name) => {
+                write!(f, "{}: ", ShownName(name))?;
+            }
+            Named::StandardInput => f.write_str("standard input: ")?,
+            Named::Nothing => {}
         }
         let [first, second] = self.numbers;
         match self.text {
@@ -67,16 +98,8 @@ impl Display for Reason<'_> {
     }
 }
 
-/// Writes a name, with `?` for each control character, so that no name ends the line.
-fn write_name<W: fmt::Write>(f: &mut Formatter<W>, name: &str) -> fmt::Result {
-    for letter in name.chars() {
-        f.write_char(if letter.is_control() { '?' } else { letter })?;
-    }
-    Ok(())
-}
-
 /// A reason of a file that begins as any does.
-fn told<'a>(subject: Subject, name: Option<&'a str>, text: Text, numbers: [u64; 2]) -> Reason<'a> {
+fn told<'a>(subject: Subject, name: Named<'a>, text: Text, numbers: [u64; 2]) -> Reason<'a> {
     Reason {
         subject,
         name,
@@ -84,6 +107,24 @@ fn told<'a>(subject: Subject, name: Option<&'a str>, text: Text, numbers: [u64; 
         numbers,
         beginning: Beginning::OfAny,
     }
+}
+
+/// Why an input can't be read, or nothing can be kept.
+fn fault<'a>(asked: &Request<'a>, kind: &str, name: &'a str) -> Option<Reason<'a>> {
+    let text = Text::Plain(fault_text(kind)?);
+    if kind == "write" {
+        return Some(told(Subject::Out, Named::File(name), text, [0; 2]));
+    }
+    let reads_input = matches!(
+        asked,
+        Request::Replay(Replay { puzzle: None }) | Request::Prove(Prove { claims: None, .. })
+    );
+    let name = if reads_input && name == "-" {
+        Named::StandardInput
+    } else {
+        Named::File(name)
+    };
+    Some(told(Subject::Run, name, text, [0; 2]))
 }
 
 /// Why a run was refused. What `prove` answers to a claim has the claim in its line, and no reason besides.
@@ -104,31 +145,38 @@ fn refusal<'a>(asked: &Request<'a>, code: &str, numbers: [u64; 2]) -> Option<Rea
 }
 
 /// The table with this number, or the one table.
-fn table_name<'a>(asked: &Request<'a>, number: u64) -> Option<&'a str> {
+fn table_name<'a>(asked: &Request<'a>, number: u64) -> Named<'a> {
     let tables = match asked {
-        Request::TableCheck(check) => return Some(check.file),
+        Request::TableCheck(check) => return Named::File(check.file),
         Request::LogCheck(check) => &check.tables,
         Request::Search(search) => &search.tables,
         Request::Prove(prove) => &prove.tables,
-        Request::Replay(_) | Request::MakeTable(_) => return None,
+        Request::Replay(_) | Request::MakeTable(_) => return Named::Nothing,
     };
-    let number = usize::try_from(number).ok()?;
-    tables.get(number).copied()
+    match usize::try_from(number) {
+        Ok(number) => tables
+            .get(number)
+            .map_or(Named::Nothing, |name| Named::File(name)),
+        Err(_) => Named::Nothing,
+    }
 }
 
-/// The file that a sentence speaks of, `-` for standard input.
-fn name_of<'a>(asked: &Request<'a>, subject: Subject) -> Option<&'a str> {
+/// A file, or standard input where none is named.
+fn file_or_input(name: Option<&str>) -> Named<'_> {
+    name.map_or(Named::StandardInput, Named::File)
+}
+
+/// What a sentence names.
+fn name_of<'a>(asked: &Request<'a>, subject: Subject) -> Named<'a> {
     match (asked, subject) {
-        (Request::Replay(replay), Subject::Board | Subject::Goal) => {
-            Some(replay.puzzle.unwrap_or("-"))
-        }
-        (Request::LogCheck(check), Subject::Board | Subject::Goal) => Some(check.text),
-        (Request::LogCheck(check), Subject::Sets) => Some(check.sets),
-        (Request::LogCheck(check), Subject::Log) => Some(check.log),
-        (Request::Search(search), Subject::Board | Subject::Goal) => Some(search.board),
-        (Request::Search(search), Subject::Sets) => Some(search.sets),
-        (Request::Prove(prove), Subject::Claims) => Some(prove.claims.unwrap_or("-")),
-        (Request::Prove(prove), Subject::Sets) => Some(prove.sets),
-        _ => None,
+        (Request::Replay(replay), Subject::Board | Subject::Goal) => file_or_input(replay.puzzle),
+        (Request::LogCheck(check), Subject::Board | Subject::Goal) => Named::File(check.text),
+        (Request::LogCheck(check), Subject::Sets) => Named::File(check.sets),
+        (Request::LogCheck(check), Subject::Log) => Named::File(check.log),
+        (Request::Search(search), Subject::Board | Subject::Goal) => Named::File(search.board),
+        (Request::Search(search), Subject::Sets) => Named::File(search.sets),
+        (Request::Prove(prove), Subject::Claims) => file_or_input(prove.claims),
+        (Request::Prove(prove), Subject::Sets) => Named::File(prove.sets),
+        _ => Named::Nothing,
     }
 }

@@ -10,6 +10,18 @@ pub(crate) const WRONG: &str =
 /// What is said where memory is wanted.
 pub(crate) const NO_MEMORY: &str = "the system refused memory, so there is no verdict";
 
+/// What is said where a log would take the place of a file that the run reads.
+pub(crate) const OUT_IS_READ: &str =
+    "this run reads that file, so it is not replaced: `--replace` allows that";
+
+/// What is said where a log would take the place of a table.
+pub(crate) const OUT_IS_TABLE: &str =
+    "a table is there, or what can't be read, so no log takes its place: `--replace` allows that";
+
+/// What is said where a table would take the place of a log.
+pub(crate) const OUT_IS_LOG: &str =
+    "a log is there, or what can't be read, so no table takes its place: `--replace` allows that";
+
 /// What a sentence speaks of.
 #[derive(Clone, Copy, Debug, PartialEq, Eq)]
 pub(crate) enum Subject {
@@ -22,6 +34,8 @@ pub(crate) enum Subject {
     Sets,
     Log,
     Claims,
+    /// What is to be kept, where that fails.
+    Out,
     /// The run as a whole.
     Run,
 }

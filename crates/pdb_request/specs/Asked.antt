@@ -47,6 +47,8 @@ pub record MakeTableArguments : Type 0 where
   pub mask : ℕ
   -- the name under which the table is kept
   pub out : List ℕ
+  -- whether it may take the place of a log
+  pub replace : Bool
   -- how many workers check it
   pub workers : ℕ
 
@@ -56,6 +58,8 @@ pub record SolveArguments : Type 0 where
   pub board : List ℕ
   pub sets : List ℕ
   pub out : List ℕ
+  -- whether it may take the place of a table, or of a file that is read
+  pub replace : Bool
   -- those of the tables, in order
   pub tables : List (List ℕ)
   -- how many workers check the tables and the log
@@ -118,13 +122,20 @@ log_check_shown check = record {
 }
 
 abbrev pub make_table_shown : MakeTable → MakeTableArguments
-make_table_shown command = record { side = command.side; mask = command.mask; out = command.out.now; workers = command.workers }
+make_table_shown command = record {
+  side = command.side;
+  mask = command.mask;
+  out = command.out.now;
+  replace = command.replace;
+  workers = command.workers;
+}
 
 abbrev pub search_shown : Search (Bor (List ℕ)) → SolveArguments
 search_shown search = record {
   board = search.board.now;
   sets = search.sets.now;
   out = search.out.now;
+  replace = search.replace;
   tables = file_names search.tables.items;
   workers = search.workers;
   fold = search.fold;

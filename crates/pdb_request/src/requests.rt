@@ -68,6 +68,8 @@ pub struct MakeTable<'a> {
     pub mask: u32,
     /// The name under which the table is kept.
     pub out: &'a str,
+    /// Whether the table may take the place of a log.
+    pub replace: bool,
     /// How many workers check it: 1 to 64.
     pub workers: u8,
 }
@@ -82,6 +84,8 @@ pub struct Search<'a, T> {
     pub sets: T,
     /// The name under which the log is kept.
     pub out: &'a str,
+    /// Whether the log may take the place of a table, or of one of the files that are read.
+    pub replace: bool,
     /// The tables, in the order of their numbers: one or more.
     pub tables: Vec<T>,
     /// How many workers check the tables and the log: 1 to 64.

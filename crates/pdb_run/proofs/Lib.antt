@@ -1,3 +1,4 @@
 pub mod AnswerLemmas
 mod PageLemmas
 mod ReadingLemmas
+mod SpareLemmas

@@ -17,20 +17,23 @@ pub record Reply : Type 0 where
   pub lines : Bytes
   pub is_yes : Bool
 
--- what is read, in this order; the name under which a file that was made is kept, if any is; which replies are right for
--- the bytes that were read; for which bytes the check takes memory; and for which a maker makes something, which may be wrong
+-- what is read, in this order; the name under which a file that was made is kept, if any is; how the files begin that are spared
+-- there, beside the inputs, if any are spared; which replies are right for the bytes that were read; for which bytes the check takes
+-- memory; and for which a maker makes something, which may be wrong
 pub record Plan : Type 1 where
   pub inputs : List Wanted
   pub keeps_under : Option Bytes
+  pub spares : Option (List Bytes)
   pub MayReply : List Bytes → Reply → Type 0
   pub TakesMemory : List Bytes → Type 0
   pub Makes : List Bytes → Type 0
 
--- the plan with these five
-abbrev pub plan_under : Option Bytes → List Wanted → (List Bytes → Reply → Type 0) → (TakesMemory Makes : List Bytes → Type 0) → Plan
-plan_under name inputs MayReply TakesMemory Makes =
-    record { inputs = inputs; keeps_under = name; MayReply = MayReply; TakesMemory = TakesMemory; Makes = Makes }
+-- the plan with these six
+abbrev pub plan_under : Option Bytes → Option (List Bytes) → List Wanted → (List Bytes → Reply → Type 0) → (TakesMemory Makes : List Bytes → Type 0)
+    → Plan
+plan_under name spares inputs MayReply TakesMemory Makes =
+    record { inputs = inputs; keeps_under = name; spares = spares; MayReply = MayReply; TakesMemory = TakesMemory; Makes = Makes }
 
 -- the plan of a command that makes and keeps nothing
 abbrev pub plan : List Wanted → (List Bytes → Reply → Type 0) → (List Bytes → Type 0) → Plan
-plan inputs MayReply TakesMemory = plan_under None inputs MayReply TakesMemory (λ inputs. ⊥)
+plan inputs MayReply TakesMemory = plan_under None None inputs MayReply TakesMemory (λ inputs. ⊥)

@@ -1,6 +1,9 @@
 -- What inputs give; shelf and reader may tell their bytes or not.
-use Rattle.std.specs.Prelude.{◌≡◌, ⊤, ℕ, ◌<◌, ◌≤◌, List, [], ◌∷◌, ◌++◌, Bool, true, Option, Some, None, IfSome, IsSomeAnd, length, option_map}
-use Rattle.byte_io.specs.Shelf.{Bytes, Files}
+use Rattle.std.specs.Prelude.{◌≡◌, ⊤, ℕ, ◌<◌, ◌≤◌, ◌||◌, List, [], ◌∷◌, ◌++◌, Bool, true, false, Option, Some, None, IfSome, IsSomeAnd, length, option_map}
+use Rattle.std.specs.List.{list_any}
+use Rattle.std.specs.Option.{option_map_or}
+use Rattle.std.specs.Str.{bytes_eq}
+use Rattle.byte_io.specs.Shelf.{Bytes, Files, begins_with}
 use Rattle.byte_io.specs.declared.streams.ReadFault.{ReadFault}
 use Rattle.byte_io.specs.declared.streams.ReadFault.TheVariants.{F1, F2, Memory}
 use Rattle.pdb_run.specs.Commands.{Wanted}
@@ -73,6 +76,20 @@ pub record IsFirstUnread (files : Option Files) (reader : Option Bytes) (failed 
 -- where it is told what the reader has, it has that
 abbrev pub IsAsTold : Option Bytes → Option Bytes → Type 0
 IsAsTold told reader = IfSome told (λ bytes. reader ≡ Some bytes)
+
+-- ---- what is spared
+
+-- one of these inputs has this name
+abbrev pub is_input : List Wanted → Bytes → Bool
+is_input inputs name = list_any (λ wanted. option_map_or (bytes_eq name) wanted.name false) inputs
+
+-- the bytes under this name begin in one of these ways
+abbrev pub begins_as_one : Files → Bytes → List Bytes → Bool
+begins_as_one files name fronts = list_any (begins_with files name) fronts
+
+-- the name is that of an input, or what is under it begins in one of these ways
+abbrev pub is_spared : List Wanted → List Bytes → Files → Bytes → Bool
+is_spared inputs fronts files name = is_input inputs name || begins_as_one files name fronts
 
 -- ---- an input as the code has it
 

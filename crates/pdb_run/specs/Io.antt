@@ -7,9 +7,9 @@ use Rattle.byte_io.specs.declared.shelf.KeepFault.TheVariants as keep
 use Rattle.byte_io.specs.declared.streams.ReadFault.{ReadFault}
 use Rattle.byte_io.specs.declared.streams.WriteFault.{WriteFault}
 use Rattle.pdb_run.specs.Calls.{with_call, with_input, with_inputs, with_keep, with_trial}
-use Rattle.pdb_run.specs.Commands.{Wanted}
+use Rattle.pdb_run.specs.Commands.{Plan, Wanted}
 use Rattle.pdb_run.specs.Inputs.{AreRead, IsAsTold, IsFirstUnread, IsRead, IsUnread, left, left_by_all}
-use Rattle.pdb_run.specs.Runs.{Says, World, with_kept}
+use Rattle.pdb_run.specs.Runs.{MayReplace, Says, World, with_kept}
 use Rattle.pdb_run.specs.declared.statuses.Status.{Status}
 
 -- the shelf, the reader and the output that are borrowed, each by a number of its reference
@@ -95,10 +95,11 @@ pub record HasRead (wanted : List Wanted) (old new : World) (inputs : List Bytes
   pub failed : new.failed ≡ old.failed
   pub written : new.written ≡ old.written
 
--- they were read, and then the name was tried
-pub record HasReadAndTried (wanted : List Wanted) (name : Bytes) (old new : World) (inputs : List Bytes) : Type 0 where
+-- those of a plan were read, what is under the name isn't spared, and then the name was tried
+pub record HasReadAndTried (plan : Plan) (name : Bytes) (old new : World) (inputs : List Bytes) : Type 0 where
   pub mid : World
-  pub are : HasRead wanted old mid inputs
+  pub are : HasRead plan.inputs old mid inputs
+  pub free : MayReplace plan old.files name
   pub tried : IsTried name mid new
 
 -- this input is the first that was not read

@@ -1,5 +1,5 @@
 -- How a run of a command ends.
-use Rattle.std.specs.Prelude.{◌≡◌, ◌⊎◌, ⊤, Bool, true, false, List, ◌∷◌, ◌++◌, Option, Some, None, codes}
+use Rattle.std.specs.Prelude.{◌≡◌, ◌⊎◌, ⊤, Bool, true, false, List, ◌∷◌, ◌++◌, Option, Some, None, IfSome, IsSomeAnd, codes}
 use Rattle.byte_io.specs.Shelf.{Bytes, Files, KeepsOthers, keeps, told_with, tries}
 use Rattle.byte_io.specs.Streams.{Output, WritesAll, WritesFront}
 use Rattle.byte_io.specs.declared.streams.ReadFault.{ReadFault}
@@ -9,7 +9,7 @@ use Rattle.byte_io.specs.declared.shelf.KeepFault.TheVariants as keep
 use Rattle.pdb_run.specs.Writing.{maker_line, memory_line, named_line, reply_text, shown}
 use Rattle.pdb_run.specs.Calls.{Calls, with_call, with_input, with_inputs, with_keep, with_trial}
 use Rattle.pdb_run.specs.Commands.{Plan, Reply, Wanted}
-use Rattle.pdb_run.specs.Inputs.{AreRead, Failures, IsAsTold, IsFirstUnread, left_by_all}
+use Rattle.pdb_run.specs.Inputs.{AreRead, Failures, IsAsTold, IsFirstUnread, is_spared, left_by_all}
 use Rattle.pdb_run.specs.declared.statuses.Status.{Status}
 use Rattle.pdb_run.specs.declared.statuses.Status.TheVariants.{Yes, Refused, Fault, NoMemory}
 
@@ -36,6 +36,8 @@ pub data Outcome : Type 0 where
   replied : List Bytes → Reply → Outcome
   -- this input can't be read
   unread : Wanted → ReadFault → Outcome
+  -- what is under this name is spared, as was seen before anything was checked or made
+  spared : Bytes → Outcome
   -- nothing can be kept under this name, as was tried before anything was checked or made
   unwritable : Bytes → KeepFault → Outcome
   -- a file that was made can't be kept under this name
@@ -58,6 +60,7 @@ text_of (replied inputs reply) = reply_text reply
 text_of (unread wanted read.F1) = named_line (codes "fault read ") (shown wanted.name)
 text_of (unread wanted read.F2) = named_line (codes "fault size ") (shown wanted.name)
 text_of (unread wanted read.Memory) = memory_line
+text_of (spared name) = unkept_text name keep.F3
 text_of (unwritable name why) = unkept_text name why
 text_of (unkept name why) = unkept_text name why
 text_of unlisted = memory_line
@@ -80,6 +83,7 @@ status_of (replied inputs reply) = status_of_reply reply.is_yes
 status_of (unread wanted read.F1) = Fault
 status_of (unread wanted read.F2) = Fault
 status_of (unread wanted read.Memory) = NoMemory
+status_of (spared name) = Fault
 status_of (unwritable name why) = unkept_status why
 status_of (unkept name why) = unkept_status why
 status_of unlisted = NoMemory
@@ -91,6 +95,18 @@ status_of made_wrong = Fault
 -- the inputs hold these bytes at the start, each within its limit, and the reply is right for them
 abbrev pub IsRight : Plan → World → List Bytes → Reply → Type 0
 IsRight plan old inputs reply = AreRead old.files old.reader plan.inputs inputs × plan.MayReply inputs reply
+
+-- files that begin in these ways are spared, if any are, and these inputs too; and where the shelf tells its bytes, the one under the
+-- name is such a one
+abbrev pub SparesBy : Option (List Bytes) → List Wanted → Option Files → Bytes → Type 0
+SparesBy spares inputs files name = IsSomeAnd spares (λ fronts. IfSome files (λ told. is_spared inputs fronts told name ≡ true))
+
+-- a file is to be kept under this name, the inputs hold these bytes at the start, and what is under the name is spared
+pub record IsSpared (plan : Plan) (old : World) (name : Bytes) : Type 0 where
+  pub under : plan.keeps_under ≡ Some name
+  pub inputs : List Bytes
+  pub read : AreRead old.files old.reader plan.inputs inputs
+  pub spares : SparesBy plan.spares plan.inputs old.files name
 
 -- a file is to be kept under this name, the inputs hold these bytes at the start, and the shelf has failed when it was tried, or
 -- memory was wanted to try it
@@ -127,12 +143,13 @@ WantsMemory plan old = (inputs : List Bytes) × AreRead old.files old.reader pla
 abbrev pub HasMade : Plan → World → Type 0
 HasMade plan old = (inputs : List Bytes) × AreRead old.files old.reader plan.inputs inputs × plan.Makes inputs
 
--- a reply is right, the input that was not read is the first, nothing could be kept or the file to keep was not, memory was wanted
--- where the check takes some, and what was made is wrong where something is made; before any input is read memory may always be
+-- a reply is right, the input that was not read is the first, what stands under the name is spared, nothing could be kept or the file
+-- to keep was not, memory was wanted where the check takes some, and what was made is wrong where something is made; before any input is read memory may always be
 -- wanted
 abbrev pub HasCause : Plan → World → Failures → Outcome → Type 0
 HasCause plan old failed (replied inputs reply) = IsRight plan old inputs reply
 HasCause plan old failed (unread wanted why) = IsFirstUnread old.files old.reader failed plan.inputs wanted why
+HasCause plan old failed (spared name) = IsSpared plan old name
 HasCause plan old failed (unwritable name why) = IsUnwritable plan old failed name why
 HasCause plan old failed (unkept name why) = IsUnkept plan old failed name why
 HasCause plan old failed unlisted = ⊤
@@ -152,6 +169,7 @@ with_kept files (Some name) (Some file) = told_with files name file
 abbrev pub LeavesFiles : Plan → Option Files → Option Files → Outcome → Type 0
 LeavesFiles plan old new (replied inputs reply) = new ≡ with_kept old plan.keeps_under (kept reply)
 LeavesFiles plan old new (unread wanted why) = new ≡ old
+LeavesFiles plan old new (spared name) = new ≡ old
 LeavesFiles plan old new (unwritable name why) = new ≡ old
 LeavesFiles plan old new (unkept name why) = KeepsOthers old new name
 LeavesFiles plan old new unlisted = new ≡ old
@@ -163,11 +181,12 @@ LeavesFiles plan old new made_wrong = new ≡ old
 abbrev pub StaysCalm : Plan → Failures → Failures → Type 0
 StaysCalm plan old new = (name : Bytes) → plan.keeps_under ≡ Some name → new ≡ old
 
--- so it is after a reply, and with any plan where memory was wanted elsewhere than for an input, or what was made is wrong; any
--- other outcome may leave them failed
+-- so it is after a reply, and with any plan where a file is spared, memory was wanted elsewhere than for an input, or what was made
+-- is wrong; any other outcome may leave them failed
 abbrev pub LeavesFailure : Plan → Failures → Failures → Outcome → Type 0
 LeavesFailure plan old new (replied inputs reply) = StaysCalm plan old new
 LeavesFailure plan old new (unread wanted why) = ⊤
+LeavesFailure plan old new (spared name) = new ≡ old
 LeavesFailure plan old new (unwritable name why) = ⊤
 LeavesFailure plan old new (unkept name why) = ⊤
 LeavesFailure plan old new unlisted = new ≡ old
@@ -179,6 +198,7 @@ LeavesFailure plan old new made_wrong = new ≡ old
 abbrev pub LeavesReader : Plan → Option Bytes → Option Bytes → Outcome → Type 0
 LeavesReader plan old new (replied inputs reply) = IsAsTold (left_by_all old plan.inputs) new
 LeavesReader plan old new (unread wanted why) = ⊤
+LeavesReader plan old new (spared name) = IsAsTold (left_by_all old plan.inputs) new
 LeavesReader plan old new (unwritable name why) = IsAsTold (left_by_all old plan.inputs) new
 LeavesReader plan old new (unkept name why) = IsAsTold (left_by_all old plan.inputs) new
 LeavesReader plan old new unlisted = new ≡ old
@@ -190,17 +210,37 @@ abbrev pub calls_before : Plan → Calls → Calls
 calls_before plan old = with_trial (with_inputs old plan.inputs) plan.keeps_under
 
 -- so they stand with a reply, and behind them the file's that is kept; an input that was not read, a trial or a keep that failed
--- is the last of them; and before any input is read there is none
+-- is the last of them; a name under which a file is spared isn't tried; and before any input is read there is none
 abbrev pub LeavesCalls : Plan → Calls → Calls → Outcome → Type 0
 LeavesCalls plan old new (replied inputs reply) = new ≡ with_keep (calls_before plan old) plan.keeps_under (kept reply)
 LeavesCalls plan old new (unread wanted why) =
     (before : List Wanted) × (behind : List Wanted) × (plan.inputs ≡ before ++ wanted ∷ behind)
     × (new ≡ with_input (with_inputs old before) wanted.name (Some why))
+LeavesCalls plan old new (spared name) = new ≡ with_inputs old plan.inputs
 LeavesCalls plan old new (unwritable name why) = new ≡ with_call (with_inputs old plan.inputs) (tries name (Some why))
 LeavesCalls plan old new (unkept name why) = new ≡ with_call (calls_before plan old) (keeps name (Some why))
 LeavesCalls plan old new unlisted = new ≡ old
 LeavesCalls plan old new no_memory = new ≡ calls_before plan old
 LeavesCalls plan old new made_wrong = new ≡ calls_before plan old
+
+-- no file is spared, or, where the shelf tells its bytes, the one under the name is none that is
+abbrev pub MayReplaceBy : Option (List Bytes) → List Wanted → Option Files → Bytes → Type 0
+MayReplaceBy spares inputs files name = IfSome spares (λ fronts. IfSome files (λ told. is_spared inputs fronts told name ≡ false))
+
+-- so it is with those that a plan spares
+abbrev pub MayReplace : Plan → Option Files → Bytes → Type 0
+MayReplace plan files name = MayReplaceBy plan.spares plan.inputs files name
+
+-- and under the name under which it keeps a file
+abbrev pub IsFree : Plan → Option Files → Type 0
+IsFree plan files = (name : Bytes) → plan.keeps_under ≡ Some name → MayReplace plan files name
+
+-- no name is tried, nothing is checked, made or kept, and no reply comes, where what is under it is spared
+abbrev pub SparesFiles : Plan → Option Files → Outcome → Type 0
+SparesFiles plan files (unread wanted why) = ⊤
+SparesFiles plan files unlisted = ⊤
+SparesFiles plan files (spared name) = ⊤
+SparesFiles plan files other = IsFree plan files
 
 -- the text was written whole, and no write failed; or a write failed with at least one byte of it left to write
 abbrev pub Says : Bytes → Status → Output → Output → Status → Type 0
@@ -212,6 +252,7 @@ Says text with_text old new status = (WritesAll old new text × (status ≡ with
 pub record Ends (plan : Plan) (old new : World) (status : Status) : Type 0 where
   pub outcome : Outcome
   pub cause : HasCause plan old new.failed outcome
+  pub spares : SparesFiles plan old.files outcome
   pub files : LeavesFiles plan old.files new.files outcome
   pub calls : LeavesCalls plan old.calls new.calls outcome
   pub failure : LeavesFailure plan old.failed new.failed outcome
@@ -226,6 +267,7 @@ pub record IsAnswered (plan : Plan) (old new : World) (status : Status) : Type 0
   pub inputs : List Bytes
   pub reply : Reply
   pub right : IsRight plan old inputs reply
+  pub free : IsFree plan old.files
   pub files : new.files ≡ with_kept old.files plan.keeps_under (kept reply)
   pub calls : new.calls ≡ with_keep (calls_before plan old.calls) plan.keeps_under (kept reply)
   pub failure : StaysCalm plan old.failed new.failed

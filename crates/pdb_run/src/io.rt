@@ -1,9 +1,9 @@
 //! The shelf, the reader and the output of a run, as one.
 
-ghost use Rattle.std.specs.Prelude.{◌≡◌, Some, map, IfErr, IfOk, OnOk};
+ghost use Rattle.std.specs.Prelude.{◌≡◌, ◌∷◌, [], Some, map, IfErr, IfOk, IfSome, OnOk};
 ghost use Rattle.pdb_run.specs.Answers.{answer_text};
 ghost use Rattle.pdb_run.specs.Calls.{calls};
-ghost use Rattle.pdb_run.specs.Inputs.{failures, wanted_of};
+ghost use Rattle.pdb_run.specs.Inputs.{begins_as_one, failures, is_input, is_spared, wanted_of};
 ghost use Rattle.pdb_run.specs.Io.{CanNotKeep, IsKept, IsLoaded, IsNotKept, IsNotLoaded, IsTried, IsWritten, Streams};
 ghost use Rattle.pdb_run.specs.Runs.{World};
 ghost use Rattle.pdb_run.specs.Writing.{named_line, shown_byte};
@@ -32,6 +32,11 @@ pub trait Io {
             IfOk result (λ bytes. IsLoaded wanted (world self.old) (world self.new) bytes.items) }
         ensures unread { let wanted = wanted_of input.now in
             IfErr result (IsNotLoaded wanted (world self.old) (world self.new)) };
+
+    /// Whether a name is that of one of these inputs, or what is under it begins in one of these ways.
+    fn is_spared(&self, name: &str, inputs: &[Input<'_>], fronts: &[&[u8]]) -> bool
+        ensures { let wanted = map wanted_of inputs.now in let all = map (λ front. front.now) fronts.now in
+            IfSome (world self.now).files (λ told. result ≡ is_spared wanted all told name.now) };
 
     /// Tries whether bytes can be kept under a name.
     fn try_keep(&mut self, alloc: Global, name: &str) -> Result<(), KeepFault>
@@ -94,6 +99,10 @@ impl<S: Shelf, R: Source, W: Sink> Io for BorrowedIo<'_, '_, '_, S, R, W> {
         }
     }
 
+    fn is_spared(&self, name: &str, inputs: &[Input<'_>], fronts: &[&[u8]]) -> bool {
+        is_input(self.shelf, name, inputs) || begins_as_one(self.shelf, name, fronts)
+    }
+
     fn try_keep(&mut self, alloc: Global, name: &str) -> Result<(), KeepFault> {
         self.shelf.try_keep(alloc, name)
     }
@@ -113,4 +122,40 @@ impl<S: Shelf, R: Source, W: Sink> Io for BorrowedIo<'_, '_, '_, S, R, W> {
     fn write_text(&mut self, text: &str) -> Result<(), WriteFault> {
         put_text(self.out, text)
     }
+}
+
+/// Whether a name is that of one of these inputs.
+fn is_input<S: Shelf>(shelf: &S, name: &str, inputs: &[Input<'_>]) -> bool
+    ensures { IfSome (S.held shelf.now) (λ _. result ≡ is_input (map wanted_of inputs.now) name.now) }
+{
+    for input in inputs {
+        if has_name(shelf, name, input) {
+            return true;
+        }
+    }
+    false
+}
+
+/// Whether an input has this name.
+fn has_name<S: Shelf>(shelf: &S, name: &str, input: &Input<'_>) -> bool
+    ensures { let wanted = wanted_of input.now in
+        IfSome (S.held shelf.now) (λ _. result ≡ is_input (wanted ∷ []) name.now) }
+{
+    match input.name {
+        Some(other) => shelf.are_one(name, other),
+        None => false,
+    }
+}
+
+/// Whether what is under a name begins in one of these ways.
+fn begins_as_one<S: Shelf>(shelf: &S, name: &str, fronts: &[&[u8]]) -> bool
+    ensures { let all = map (λ front. front.now) fronts.now in
+        IfSome (S.held shelf.now) (λ told. result ≡ begins_as_one told name.now all) }
+{
+    for front in fronts {
+        if shelf.begins_with(name, front) {
+            return true;
+        }
+    }
+    false
 }

@@ -19,8 +19,8 @@ pub use digests::{
 pub use inputs::{Unread, load_all};
 pub use io::{BorrowedIo, Io};
 pub use runs::{
-    NO_MEMORY, conclude, keep_and_conclude, read_inputs, read_inputs_and_try, say_no_memory,
-    say_text,
+    Keeping, NO_MEMORY, conclude, keep_and_conclude, read_inputs, read_inputs_and_try,
+    say_no_memory, say_text,
 };
 pub use statuses::Status;
 pub use writing::{say, say_digests};

@@ -1,12 +1,12 @@
 //! A run of a command: its beginning and its end. Between them the command checks.
 
-ghost use Rattle.std.specs.Prelude.{◌≡◌, List, None, Some, length, map, MatchResult, IfErr, IfOk, OnErr, OnOk};
+ghost use Rattle.std.specs.Prelude.{◌≡◌, List, None, Some, false, length, map, true, MatchResult, IfErr, IfOk, OnErr, OnOk};
 ghost use Rattle.byte_io.specs.Shelf.{Bytes};
 ghost use Rattle.pdb_run.specs.Answers.{IsAnswerBy, IsMadeBy, all_bytes, answer_text};
 ghost use Rattle.pdb_run.specs.Inputs.{wanted_of};
 ghost use Rattle.pdb_run.specs.Io.{HasRead, HasReadAndTried, IsKept, IsNotKept, IsSaid};
-ghost use Rattle.pdb_run.specs.Runs.{Ends, World, status_of, status_of_reply, text_of, unkept_status, unkept_text, unread};
-ghost use Rattle.pdb_run.specs.Steps.{kept_of};
+ghost use Rattle.pdb_run.specs.Runs.{Ends, MayReplaceBy, SparesBy, World, status_of, status_of_reply, text_of, unkept_status, unkept_text, unread};
+ghost use Rattle.pdb_run.specs.Steps.{fronts_in, kept_of};
 ghost use Rattle.pdb_run.specs.Writing.{memory_line, named_line, shown, shown_byte};
 
 use crate::answers::{Answer, Unanswered};
@@ -41,36 +41,84 @@ pub fn read_inputs<C: Command, I: Io>(
     let Ok(wanted) = command.inputs(alloc) else {
         return Err(say_no_memory(io));
     };
+    read_wanted(alloc, command, wanted.as_slice(), io)
+}
+
+/// The same, where its inputs are listed.
+#[tactic(auto, using(crate::proofs::AnswerLemmas::ends_unlisted))]
+fn read_wanted<C: Command, I: Io>(
+    alloc: Global,
+    command: &C,
+    wanted: &[Input<'_>],
+    io: &mut I,
+) -> Result<Vec<Vec<u8>>, Status>
+    requires { map wanted_of wanted.now ≡ (C.plan command.now).inputs }
+    ensures same_streams { I.streams io.new ≡ I.streams io.old }
+    ensures read { let wanted = (C.plan command.now).inputs in IfOk result
+        (λ inputs. HasRead wanted (I.world io.old) (I.world io.new) (all_bytes inputs.items)) }
+    ensures count { let wanted = (C.plan command.now).inputs in
+        IfOk result (λ inputs. length inputs.items ≡ length wanted) }
+    ensures ends { IfErr result (Ends (C.plan command.now) (I.world io.old) (I.world io.new)) }
+{
+    let _command = command;
     let Ok(room) = Vec::with_capacity(alloc, wanted.len()) else {
         return Err(say_no_memory(io));
     };
-    match load_all(alloc, wanted.as_slice(), room, io) {
+    match load_all(alloc, wanted, room, io) {
         Ok(inputs) => Ok(inputs),
         Err(fault) => Err(say_unread(&fault, io)),
     }
 }
 
-/// As `read_inputs`, of a command that keeps a file under a name: once its inputs are read it is tried whether one can be kept
-/// there. Where that fails, it is said, and the run has ended before anything is checked or made.
+/// A name to keep a file under, and how the files begin that are spared there, beside the inputs, if any are spared.
+#[derive(Clone, Copy)]
+pub struct Keeping<'n, 'f> {
+    pub name: &'n str,
+    pub spares: Option<&'f [&'f [u8]]>,
+}
+
+/// As `read_inputs`, of a command that keeps a file under a name: once its inputs are read it is seen whether the file there is
+/// spared, and then tried whether one can be kept there. Where it is, or that fails, it is said, and the run has ended before
+/// anything is checked or made.
+#[tactic(auto, using(crate::proofs::AnswerLemmas::ends_unlisted))]
 pub fn read_inputs_and_try<C: Command, I: Io>(
     alloc: Global,
     command: &C,
-    name: &str,
+    keeping: Keeping<'_, '_>,
     io: &mut I,
 ) -> Result<Vec<Vec<u8>>, Status>
-    requires { (C.plan command.now).keeps_under ≡ Some name.now }
+    requires under { (C.plan command.now).keeps_under ≡ Some keeping.name.now }
+    requires spares { (C.plan command.now).spares ≡ fronts_in keeping }
     ensures same_streams { I.streams io.new ≡ I.streams io.old }
-    ensures tried { let wanted = (C.plan command.now).inputs in let old = I.world io.old in
-        IfOk result (λ inputs.
-        HasReadAndTried wanted name.now old (I.world io.new) (all_bytes inputs.items)) }
+    ensures tried { let plan = C.plan command.now in let old = I.world io.old in IfOk result
+        (λ inputs. HasReadAndTried plan keeping.entry.name.now old (I.world io.new) (all_bytes inputs.items)) }
     ensures count { let wanted = (C.plan command.now).inputs in
         IfOk result (λ inputs. length inputs.items ≡ length wanted) }
     ensures ends { IfErr result (Ends (C.plan command.now) (I.world io.old) (I.world io.new)) }
 {
-    let inputs = read_inputs(alloc, command, io)?;
-    match io.try_keep(alloc, name) {
+    let Ok(wanted) = command.inputs(alloc) else {
+        return Err(say_no_memory(io));
+    };
+    let inputs = read_wanted(alloc, command, wanted.as_slice(), io)?;
+    if is_spared(&keeping, wanted.as_slice(), io) {
+        return Err(say_unkept(keeping.name, KeepFault::F3, io));
+    }
+    match io.try_keep(alloc, keeping.name) {
         Ok(()) => Ok(inputs),
-        Err(why) => Err(say_unkept(name, why, io)),
+        Err(why) => Err(say_unkept(keeping.name, why, io)),
+    }
+}
+
+/// Whether a file is spared under a name, where these are the inputs.
+fn is_spared<I: Io>(keeping: &Keeping<'_, '_>, inputs: &[Input<'_>], io: &I) -> bool
+    ensures spared { let wanted = map wanted_of inputs.now in let files = (I.world io.now).files in
+        result ≡ true → SparesBy (fronts_in keeping.now) wanted files keeping.now.name.now }
+    ensures free { let wanted = map wanted_of inputs.now in let files = (I.world io.now).files in
+        result ≡ false → MayReplaceBy (fronts_in keeping.now) wanted files keeping.now.name.now }
+{
+    match keeping.spares {
+        Some(fronts) => io.is_spared(keeping.name, inputs, fronts),
+        None => false,
     }
 }
 
@@ -108,7 +156,7 @@ pub fn keep_and_conclude<C: Command, I: Io>(
     ensures same_streams { I.streams io.new ≡ I.streams io.old }
     ensures ends { let plan = C.plan command.now in
         (inputs : List Bytes) (old : World)
-        → HasReadAndTried plan.inputs name.now old (I.world io.old) inputs
+        → HasReadAndTried plan name.now old (I.world io.old) inputs
         → IsMadeBy (plan.MayReply inputs) (plan.TakesMemory inputs) (plan.Makes inputs) answer.now
         → Ends plan old (I.world io.new) result }
 {

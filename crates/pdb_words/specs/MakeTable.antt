@@ -1,4 +1,4 @@
--- The words of `make-table [--workers N] SIDE MASK OUT`.
+-- The words of `make-table [--workers N] [--replace] SIDE MASK OUT`.
 use Rattle.std.specs.Prelude.{ℕ, List, [], ◌∷◌, Option, Some, codes, if◌then◌else◌, is_some, pos, true, unwrap_or}
 use Rattle.clap.specs.Walk.{Row, Rule}
 use Rattle.clap.specs.Simple.{App, new_app, new_rule, with_rule}
@@ -9,6 +9,7 @@ use Rattle.pdb_request.specs.Asked.{Asked, make_table}
 use Rattle.pdb_words.specs.Files.{file_in, needed_file}
 use Rattle.pdb_words.specs.Masks.{mask_written}
 use Rattle.pdb_words.specs.Numbers.{number_in}
+use Rattle.pdb_words.specs.Replace.{replace_flag, replace_in}
 use Rattle.pdb_words.specs.Workers.{workers_flag, workers_in}
 
 -- the greatest number that may be meant for a side: that of a byte
@@ -25,7 +26,8 @@ needed_mask = needed_file (codes "MASK")
 
 -- the command, as `clap` sees it
 abbrev pub make_table_command : App
-make_table_command = with_rule (with_rule (with_rule (with_rule (new_app (codes "make-table")) workers_flag) needed_side) needed_mask)
+make_table_command =
+    with_rule (with_rule (with_rule (with_rule (with_rule (new_app (codes "make-table")) workers_flag) replace_flag) needed_side) needed_mask)
     (needed_file (codes "OUT"))
 
 -- the side that the values found of it name
@@ -50,5 +52,6 @@ make_table_in rows = make_table (record {
   side = side_number_in rows;
   mask = mask_number_in rows;
   out = file_in (codes "OUT") rows;
+  replace = replace_in rows;
   workers = workers_in rows;
 })

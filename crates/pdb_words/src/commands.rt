@@ -12,7 +12,7 @@ macro_rules! with_statuses {
     ($before:literal, $behind:literal) => {
         concat!(
             $before,
-            "\n\nStatus: 0 yes, 1 refused, 2 bad words or a read or write fault, 3 no memory.",
+            "\n\nStatus: 0 yes, 1 refused, 2 bad words or a fault of a read, a write or a maker, 3 no memory.",
             $behind
         )
     };

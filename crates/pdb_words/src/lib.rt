@@ -12,6 +12,7 @@ mod make_table;
 mod masks;
 mod numbers;
 mod prove;
+mod replace;
 mod replay;
 mod solve;
 mod table;

@@ -1,4 +1,4 @@
-//! The words of `make-table [--workers N] SIDE MASK OUT`.
+//! The words of `make-table [--workers N] [--replace] SIDE MASK OUT`.
 
 ghost use Rattle.std.specs.Prelude.{◌≡◌, ◌∷◌, [], IfOk};
 ghost use Rattle.std.specs.Option.{MatchOption};
@@ -12,6 +12,7 @@ use crate::commands::{new_command, with_argument, with_statuses};
 use crate::files::{file_in, with_file};
 use crate::masks::mask_written;
 use crate::numbers::number_in;
+use crate::replace::{replace_in, with_replace};
 use crate::workers::{with_workers, workers_in};
 use clap::{Arg, ArgMatches, Command, value_parser};
 use pdb_request::{MakeTable, Request};
@@ -21,6 +22,7 @@ use std::alloc::{AllocError, Global};
 const AFTER_HELP: &str = with_statuses!(
     "Building uses all processors, whatever --workers says: workers share the check behind it.
 OUT is replaced once the table is found exact; until then, and otherwise, it stays as it is.
+An OUT that begins as a log does is replaced only with --replace.
 
 Reads no file. Answers the digest of the table and `exact ..`, or `refused ..` and why.",
     ""
@@ -34,10 +36,11 @@ pub(crate) fn make_table_command<'a>(alloc: Global) -> Result<Command<'a>, Alloc
         alloc,
         "make-table",
         "Makes the table of a pattern, and keeps it if it is exact",
-        "pdb_cli make-table [--workers N] SIDE MASK OUT",
+        "pdb_cli make-table [--workers N] [--replace] SIDE MASK OUT",
         AFTER_HELP,
     );
     let command = with_workers(alloc, command)?;
+    let command = with_replace(alloc, command)?;
     let command = with_pattern(alloc, command)?;
     with_file(alloc, command, "OUT", "The file that is to hold the table")
 }
@@ -115,6 +118,7 @@ pub(crate) fn make_table_in<'a>(found: &ArgMatches<'a>) -> Request<'a>
         side: side_number_in(found),
         mask: mask_number_in(found),
         out: file_in(found, "OUT"),
+        replace: replace_in(found),
         workers: workers_in(found),
     })
 }

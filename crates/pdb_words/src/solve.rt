@@ -1,4 +1,4 @@
-//! The words of `solve [--workers N] [--fold] [--budget N] BOARD SETS OUT TABLES..`.
+//! The words of `solve [--workers N] [--fold] [--budget N] [--replace] BOARD SETS OUT TABLES..`.
 
 ghost use Rattle.std.specs.Prelude.{◌≡◌, IfOk};
 ghost use Rattle.clap.specs.Words.{app_of};
@@ -10,6 +10,7 @@ use crate::budget::{budget_flag, budget_in};
 use crate::commands::{new_command, with_argument, with_statuses};
 use crate::files::{file_in, tables_in, with_file, with_log};
 use crate::fold::fold_in;
+use crate::replace::{replace_in, with_replace};
 use crate::workers::workers_in;
 use clap::{ArgMatches, Command};
 use pdb_request::{Request, Search};
@@ -22,7 +23,8 @@ three tables of five tiles whose solutions have fewer than about 55 moves; harde
 2 to 10 million. Where it is spent, the answer is `refused K1`.
 The search is one thread's work, whatever --workers says: workers share the checks. Tables
 that make-table builds are built by all processors.
-OUT is replaced once its log is found good; until then, and otherwise, it stays as it is.
+OUT is replaced once its log is found good; until then, and otherwise, it stays as it is. An
+OUT that is an input, or that begins as a table does, is replaced only with --replace.
 `prove` answers a board without a log.
 
 Reads BOARD, SETS and TABLES. Answers the digests of the tables and the log, `moves ..` and
@@ -38,12 +40,13 @@ pub(crate) fn solve_command<'a>(alloc: Global) -> Result<Command<'a>, AllocError
         alloc,
         "solve",
         "Searches for a shortest solution of a board, and keeps the log that proves it",
-        "pdb_cli solve [--workers N] [--fold] [--budget N] BOARD SETS OUT TABLES..",
+        "pdb_cli solve [--workers N] [--fold] [--budget N] [--replace] BOARD SETS OUT TABLES..",
         AFTER_HELP,
     );
     let command = with_file(alloc, command, "BOARD", "A board text")?;
     let command = with_log(alloc, command, "OUT", "The file that is to hold the log")?;
-    with_argument(command, budget_flag(alloc))
+    let command = with_argument(command, budget_flag(alloc))?;
+    with_replace(alloc, command)
 }
 
 /// What these matches of the command ask for.
@@ -56,6 +59,7 @@ pub(crate) fn solve_in<'a>(alloc: Global, found: &ArgMatches<'a>) -> Result<Requ
         board: file_in(found, "BOARD"),
         sets: file_in(found, "SETS"),
         out: file_in(found, "OUT"),
+        replace: replace_in(found),
         tables: tables_in(alloc, found)?,
         workers: workers_in(found),
         fold: fold_in(found),

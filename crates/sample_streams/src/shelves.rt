@@ -109,6 +109,14 @@ impl Shelf for FailingShelf {
         loaded
     }
 
+    fn are_one(&self, name: &str, other: &str) -> bool {
+        self.files.are_one(name, other)
+    }
+
+    fn begins_with(&self, name: &str, front: &[u8]) -> bool {
+        self.files.begins_with(name, front)
+    }
+
     fn try_keep(&mut self, alloc: Global, name: &str) -> Result<(), KeepFault> {
         let tried = match self.count_keep() {
             Some(fault) => Err(fault),

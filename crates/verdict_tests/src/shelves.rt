@@ -63,6 +63,7 @@ fn search(alloc: Global) -> Result<Search<'static, &'static str>, AllocError> {
         board: "board",
         sets: "sets",
         out: "o",
+        replace: false,
         tables: vec![in alloc; "f12", "f3"]?,
         workers: 1,
         fold: false,
@@ -87,6 +88,7 @@ const PATTERN: MakeTable<'static> = MakeTable {
     side: 2,
     mask: 6,
     out: "o",
+    replace: false,
     workers: 1,
 };
 

@@ -42,6 +42,7 @@ fn makes<H: Threads + Wait + Sync>(rt: &H, alloc: Global, case: &Case<'_>) -> Re
             side,
             mask,
             out: "o",
+            replace: false,
             workers: count,
         };
         let mut io = io_over(&mut shelf, &mut reader, &mut out);
@@ -98,6 +99,7 @@ fn nothing_is_made_of_what_is_no_pattern(rt: HostRuntime) -> Result<(), Fail> {
             side,
             mask,
             out: "o",
+            replace: false,
             workers: 1,
         };
         let mut io = io_over(&mut shelf, &mut reader, &mut out);

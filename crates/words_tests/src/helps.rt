@@ -24,7 +24,7 @@ Options:
 
 Without a command it does `replay` on standard input.
 
-Status: 0 yes, 1 refused, 2 bad words or a read or write fault, 3 no memory.
+Status: 0 yes, 1 refused, 2 bad words or a fault of a read, a write or a maker, 3 no memory.
 The formats of texts, files and output lines are in docs/FORMATS.md.
 ";
 
@@ -42,7 +42,7 @@ Options:
 Reads a puzzle text: a board, `;`, and letters U, D, L, R that say where the blank goes.
 Answers `solution N`, or `refused ..` with what is wrong first.
 
-Status: 0 yes, 1 refused, 2 bad words or a read or write fault, 3 no memory.
+Status: 0 yes, 1 refused, 2 bad words or a fault of a read, a write or a maker, 3 no memory.
 ";
 
 const HELP_OF_TABLE: &str = "Says whether a table file is exact
@@ -59,7 +59,7 @@ Options:
 Reads one table file. Answers its digest and `exact ..`, or `refused ..` with what is
 wrong first.
 
-Status: 0 yes, 1 refused, 2 bad words or a read or write fault, 3 no memory.
+Status: 0 yes, 1 refused, 2 bad words or a fault of a read, a write or a maker, 3 no memory.
 ";
 
 const HELP_OF_BOUND: &str =
@@ -81,7 +81,7 @@ Options:
 Reads all of these files. Answers the digests of the tables and the log, and `bound N`,
 or `refused ..` with what is wrong first.
 
-Status: 0 yes, 1 refused, 2 bad words or a read or write fault, 3 no memory.
+Status: 0 yes, 1 refused, 2 bad words or a fault of a read, a write or a maker, 3 no memory.
 ";
 
 const HELP_OF_OPTIMAL: &str =
@@ -103,12 +103,12 @@ Options:
 Reads all of these files. Answers the digests of the tables and the log, and `optimal N`,
 or `refused ..` with what is wrong first.
 
-Status: 0 yes, 1 refused, 2 bad words or a read or write fault, 3 no memory.
+Status: 0 yes, 1 refused, 2 bad words or a fault of a read, a write or a maker, 3 no memory.
 ";
 
 const HELP_OF_MAKE_TABLE: &str = "Makes the table of a pattern, and keeps it if it is exact
 
-Usage: pdb_cli make-table [--workers N] SIDE MASK OUT
+Usage: pdb_cli make-table [--workers N] [--replace] SIDE MASK OUT
 
 Arguments:
   <SIDE>  The side of the puzzle, 2 to 5
@@ -117,20 +117,22 @@ Arguments:
 
 Options:
       --workers <N>  How many workers share the check, 1 to 64 [default: 1]
+      --replace      Let OUT be an input of the run, or a table or log of the other kind
   -h, --help         Print help
 
 Building uses all processors, whatever --workers says: workers share the check behind it.
 OUT is replaced once the table is found exact; until then, and otherwise, it stays as it is.
+An OUT that begins as a log does is replaced only with --replace.
 
 Reads no file. Answers the digest of the table and `exact ..`, or `refused ..` and why.
 
-Status: 0 yes, 1 refused, 2 bad words or a read or write fault, 3 no memory.
+Status: 0 yes, 1 refused, 2 bad words or a fault of a read, a write or a maker, 3 no memory.
 ";
 
 const HELP_OF_SOLVE: &str =
     "Searches for a shortest solution of a board, and keeps the log that proves it
 
-Usage: pdb_cli solve [--workers N] [--fold] [--budget N] BOARD SETS OUT TABLES..
+Usage: pdb_cli solve [--workers N] [--fold] [--budget N] [--replace] BOARD SETS OUT TABLES..
 
 Arguments:
   <BOARD>      A board text
@@ -142,6 +144,7 @@ Options:
       --workers <N>  How many workers share the check, 1 to 64 [default: 1]
       --fold         Fold each table once it is checked: one byte a placement
       --budget <N>   How many boards the search may expand, 1 to 1000000000000 [default: 1000000]
+      --replace      Let OUT be an input of the run, or a table or log of the other kind
   -h, --help         Print help
 
 The budget is in boards expanded. The usual 1000000 is enough for most boards of side 4 over
@@ -149,13 +152,14 @@ three tables of five tiles whose solutions have fewer than about 55 moves; harde
 2 to 10 million. Where it is spent, the answer is `refused K1`.
 The search is one thread's work, whatever --workers says: workers share the checks. Tables
 that make-table builds are built by all processors.
-OUT is replaced once its log is found good; until then, and otherwise, it stays as it is.
+OUT is replaced once its log is found good; until then, and otherwise, it stays as it is. An
+OUT that is an input, or that begins as a table does, is replaced only with --replace.
 `prove` answers a board without a log.
 
 Reads BOARD, SETS and TABLES. Answers the digests of the tables and the log, `moves ..` and
 `optimal N`, or `refused ..` and why.
 
-Status: 0 yes, 1 refused, 2 bad words or a read or write fault, 3 no memory.
+Status: 0 yes, 1 refused, 2 bad words or a fault of a read, a write or a maker, 3 no memory.
 ";
 
 const HELP_OF_PROVE: &str =
@@ -182,7 +186,7 @@ Answers come a line a claim, in order, each written as soon as it and those befo
 `optimal N of BOARD ; MOVES`, `bound N of BOARD`, or `refused .. of ..`: why, and the claim.
 No log is needed. Workers share the check of the tables and the search.
 
-Status: 0 yes, 1 refused, 2 bad words or a read or write fault, 3 no memory.
+Status: 0 yes, 1 refused, 2 bad words or a fault of a read, a write or a maker, 3 no memory.
 ";
 
 const HELP_OF_HELP: &str = "Print this message or the help of the given subcommand(s)

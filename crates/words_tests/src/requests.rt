@@ -146,6 +146,7 @@ fn words_ask_for_a_table_to_be_made(rt: HostRuntime) -> Result<(), Fail> {
             side,
             mask,
             out,
+            replace: false,
             workers,
         });
         expect_request(
@@ -187,6 +188,7 @@ fn words_write_a_mask(rt: HostRuntime) -> Result<(), Fail> {
             side: 4,
             mask,
             out: "o",
+            replace: false,
             workers: 1,
         });
         expect_request(alloc, &["make-table", "4", word, "o"], &wanted)?;
@@ -225,6 +227,7 @@ fn words_ask_for_a_search(rt: HostRuntime) -> Result<(), Fail> {
             board: "b",
             sets: "s",
             out: "o",
+            replace: false,
             tables: words_of(alloc, tables)?,
             workers,
             fold,

@@ -48,7 +48,7 @@ fn shares_are_in_whole_percent(rt: HostRuntime) {
 #[test]
 fn shares_are_told_once_a_second_and_not_in_the_first(rt: HostRuntime) -> Result<(), Fail> {
     let stage = Stage::new(rt.alloc())?;
-    let gate = Progress::start(&stage)?;
+    let gate = Progress::start(&stage, Vec::new(rt.alloc()))?;
     gate.begins(200);
     // The clock at the first job, at the second and so on, and how many lines are then told.
     let steps = [
@@ -80,7 +80,7 @@ fn shares_are_told_once_a_second_and_not_in_the_first(rt: HostRuntime) -> Result
 #[test]
 fn each_check_has_a_share_of_its_own(rt: HostRuntime) -> Result<(), Fail> {
     let stage = Stage::new(rt.alloc())?;
-    let gate = Progress::start(&stage)?;
+    let gate = Progress::start(&stage, Vec::new(rt.alloc()))?;
     gate.begins(3);
     for second in 1..=3 {
         stage.set_clock(1000 * second);
@@ -112,6 +112,25 @@ fn each_check_has_a_share_of_its_own(rt: HostRuntime) -> Result<(), Fail> {
 }
 
 #[test]
+fn the_file_that_is_checked_is_named(rt: HostRuntime) -> Result<(), Fail> {
+    let stage = Stage::new(rt.alloc())?;
+    let files = vec![in rt.alloc(); "t0", "t\n1"]?;
+    let gate = Progress::start(&stage, files)?;
+    let wanted = [
+        "pdb_cli: t0, 1 of 2: 50 percent of 2 blocks or lemmas begun",
+        "pdb_cli: t?1, 2 of 2: 33 percent of 3 blocks or lemmas begun",
+        "pdb_cli: 25 percent of 4 blocks or lemmas begun",
+    ];
+    for (check, line) in (0..).zip(wanted) {
+        gate.begins(check + 2);
+        stage.set_clock(1000 * (check + 1));
+        gate.before(0);
+        assert_eq!(rt; stage.line(check as usize), line);
+    }
+    Ok(())
+}
+
+#[test]
 fn paces_are_in_whole_boards_a_second(rt: HostRuntime) {
     let cases = [
         (0, 1, Some(0)),
@@ -135,7 +154,7 @@ fn paces_are_in_whole_boards_a_second(rt: HostRuntime) {
 #[test]
 fn a_search_tells_its_pace_and_no_share(rt: HostRuntime) -> Result<(), Fail> {
     let stage = Stage::new(rt.alloc())?;
-    let gate = Progress::start(&stage)?;
+    let gate = Progress::start(&stage, Vec::new(rt.alloc()))?;
     gate.begins(3);
     gate.asks(0);
     gate.searches(40);
@@ -171,7 +190,7 @@ fn a_search_tells_its_pace_and_no_share(rt: HostRuntime) -> Result<(), Fail> {
 #[test]
 fn each_bound_of_each_claim_has_a_pace_of_its_own(rt: HostRuntime) -> Result<(), Fail> {
     let stage = Stage::new(rt.alloc())?;
-    let gate = Progress::start(&stage)?;
+    let gate = Progress::start(&stage, Vec::new(rt.alloc()))?;
     gate.asks(2);
     gate.searches(40);
     gate.expanded(600);
@@ -202,7 +221,7 @@ fn the_gate_of_the_program_tells_of_searches(rt: HostRuntime) -> Result<(), Fail
     for (value, told) in [(Some(b"1".as_slice()), 1), (None, 0)] {
         let mut stage = Stage::new(rt.alloc())?;
         stage.value = value;
-        let gate = Watch::asked_for(&stage);
+        let gate = Watch::asked_for(&stage, Vec::new(rt.alloc()));
         gate.asks(1);
         gate.searches(20);
         stage.set_clock(2000);
@@ -232,7 +251,7 @@ fn the_environment_asks_by_the_value_1_alone(rt: HostRuntime) -> Result<(), Fail
     for (value, told) in cases {
         let mut stage = Stage::new(rt.alloc())?;
         stage.value = value;
-        let gate = Watch::asked_for(&stage);
+        let gate = Watch::asked_for(&stage, Vec::new(rt.alloc()));
         stage.set_clock(1000);
         let jobs = Good { count: 1 };
         assert_eq!(rt; run_jobs(&rt, rt.alloc(), &jobs, 1, &gate)?, None);
@@ -245,7 +264,7 @@ fn the_environment_asks_by_the_value_1_alone(rt: HostRuntime) -> Result<(), Fail
 fn workers_together_tell_once(rt: HostRuntime) -> Result<(), Fail> {
     for workers in [1, 2, 7] {
         let stage = Stage::new(rt.alloc())?;
-        let gate = Progress::start(&stage)?;
+        let gate = Progress::start(&stage, Vec::new(rt.alloc()))?;
         stage.set_clock(5000);
         let jobs = Good { count: 5000 };
         assert_eq!(rt; run_jobs(&rt, rt.alloc(), &jobs, workers, &gate)?, None);
@@ -264,14 +283,14 @@ fn a_clock_or_a_standard_error_that_fails_stops_nothing(rt: HostRuntime) -> Resu
     let jobs = Good { count: 3 };
     let mut closed = Stage::new(rt.alloc())?;
     closed.is_open = false;
-    let gate = Progress::start(&closed)?;
+    let gate = Progress::start(&closed, Vec::new(rt.alloc()))?;
     closed.set_clock(1000);
     assert_eq!(rt; run_jobs(&rt, rt.alloc(), &jobs, 1, &gate)?, None);
     assert_eq!(rt; closed.told(), 1);
     let mut timeless = Stage::new(rt.alloc())?;
     timeless.value = Some(b"1");
     timeless.has_clock = false;
-    let gate = Watch::asked_for(&timeless);
+    let gate = Watch::asked_for(&timeless, Vec::new(rt.alloc()));
     assert_eq!(rt; run_jobs(&rt, rt.alloc(), &jobs, 1, &gate)?, None);
     assert_eq!(rt; timeless.told(), 0);
     Ok(())

@@ -26,7 +26,7 @@ returns-in-Err-clause-ends g c = λ inputs old are by.
       file = made.0;
       is_kept = rw (← right.2.made, ← right.2.is_yes) made.1;
       has_failed = failed.has_failed;
-    } (rw (← begun.files) failed.files) (rw (← begun.calls) failed.calls) tt (rw failed.reader begun.behind)
+    } begun.free (rw (← begun.files) failed.files) (rw (← begun.calls) failed.calls) tt (rw failed.reader begun.behind)
     (failed.written ∙ begun.written)
 
 pub returns-in-Err-Memory-clause-ends : goal.returns-in-Err-Memory-clause-ends

@@ -3,19 +3,18 @@ use Rattle.std.proofs.lemmas.List.{length-map}
 use Rattle.pdb_run.specs.Runs.{unread}
 use Rattle.pdb_run.proofs.ReadingLemmas.{AreRead-length}
 use Rattle.pdb_run.proofs.AnswerLemmas.{ends_so}
-use Rattle.pdb_run.proofs.runs.read_inputs.Goals as goal
+use Rattle.pdb_run.proofs.runs.read_wanted.Goals as goal
 
 pub returns-in-Ok-load_all-clause-read : goal.returns-in-Ok-load_all-clause-read
-returns-in-Ok-load_all-clause-read g c =
-    rw (← c.in-Ok.ensures.all, ← c.as_slice.ensures.value) c.in-Ok-load_all.ensures.read
+returns-in-Ok-load_all-clause-read g c = rw c.requires at c.in-Ok-load_all.ensures.read
 
 pub returns-in-Ok-load_all-clause-count : goal.returns-in-Ok-load_all-clause-count
 returns-in-Ok-load_all-clause-count g c =
     let same = AreRead-length _ _ _ _ c.in-Ok-load_all.ensures.read.read in
-    rw (← c.in-Ok.ensures.all, ← c.as_slice.ensures.value, ← same) (sym (length-map _ _))
+    rw (← c.requires, ← same) (sym (length-map _ _))
 
-pub returns-clause-ends : goal.returns-clause-ends
-returns-clause-ends g c =
-    let stopped = rw (c.as_slice.ensures.value, c.in-Ok.ensures.all) at c.in-Err.ensures.unread in
-    ends_so (unread _ c.in-Err.fault.why) c.say_unread.ensures.said stopped.first stopped.files
+pub returns-in-Err-clause-ends : goal.returns-in-Err-clause-ends
+returns-in-Err-clause-ends g c =
+    let stopped = rw c.requires at c.in-Err.ensures.unread in
+    ends_so (unread _ c.in-Err.fault.why) c.say_unread.ensures.said stopped.first tt stopped.files
     (stopped.first.before, stopped.first.behind, stopped.first.order, stopped.calls) tt tt stopped.written

@@ -1,0 +1,43 @@
+-- Tests that one of several things passes.
+use Rattle.std.proofs.Common.{◌≡◌, ◌∙◌, ◌<◌, ◌+◌, ◌||◌, ℕ, Bool, List, [], ◌∷◌, None, Option, Some, ap, false, get_or, length, map, refl, sym, take, true}
+use Rattle.std.specs.Borrow.{Bor}
+use Rattle.std.specs.List.{list_any}
+use Rattle.std.specs.Option.{option_map_or}
+use Rattle.std.specs.Prelude.{IfSome}
+use Rattle.std.specs.Str.{bytes_eq}
+use Rattle.std.proofs.Math.Bool.{or-false}
+use Rattle.std.proofs.lemmas.List.Folds.{list_any_at, list_any_more}
+use Rattle.byte_io.specs.Shelf.{Bytes, Files, begins_with}
+use Rattle.pdb_run.specs.Inputs.{begins_as_one, is_input, wanted_of}
+use Rattle.pdb_run.specs.declared.commands.Input.{Input}
+
+module _ {X Y : Type 0} (p : Y → Bool) (f : X → Y) where
+  -- a test of what each thing is shown as tests the thing
+  any_shown : (xs : List X) → list_any p (map f xs) ≡ list_any (λ x. p (f x)) xs
+  any_shown [] = refl
+  any_shown (x ∷ xs) = ap (λ b. p (f x) || b) (any_shown xs)
+
+  module _ (xs : List X) (i : ℕ) (d : X) (within : i < length xs) where
+    -- one more thing is tested
+    pub any_more : list_any p (map f (take (i + 1) xs)) ≡ (list_any p (map f (take i xs)) || p (f (get_or xs i d)))
+    any_more = any_shown (take (i + 1) xs) ∙ list_any_more (λ x. p (f x)) xs i d within ∙ ap (λ b. b || p (f (get_or xs i d))) (sym (any_shown (take i xs)))
+
+    -- one that passes is enough
+    pub any_at : p (f (get_or xs i d)) ≡ true → list_any p (map f xs) ≡ true
+    any_at passes = any_shown xs ∙ list_any_at (λ x. p (f x)) xs i d within passes
+
+-- a file that begins in the way at this place begins in one of these
+pub front_at : (files : Option Files) (name : Bytes) (fronts : List (Bor Bytes)) (i : ℕ) (d : Bor Bytes) (is : Bool) → i < length fronts
+    → IfSome files (λ told. is ≡ begins_with told name (get_or fronts i d).now) → is ≡ true
+    → IfSome files (λ told. true ≡ begins_as_one told name (map (λ front. front.now) fronts))
+front_at None name fronts i d is within begins true_is = tt
+front_at (Some told) name fronts i d is within begins true_is =
+    sym (any_at (begins_with told name) (λ front. front.now) fronts i d within (sym begins ∙ true_is))
+
+-- a name that is that of the input at this place is that of one of these
+pub input_at : (files : Option Files) (name : Bytes) (inputs : List Input) (i : ℕ) (d : Input) (is : Bool) → i < length inputs
+    → IfSome files (λ _. is ≡ is_input (wanted_of (get_or inputs i d) ∷ []) name) → is ≡ true
+    → IfSome files (λ _. true ≡ is_input (map wanted_of inputs) name)
+input_at None name inputs i d is within has true_is = tt
+input_at (Some told) name inputs i d is within has true_is =
+    sym (any_at (λ wanted. option_map_or (bytes_eq name) wanted.name false) wanted_of inputs i d within (sym (or-false _) ∙ sym has ∙ true_is))
