@@ -217,6 +217,18 @@ for fold in '' --fold; do
     # shellcheck disable=SC2086
     held 4 'bound 1' bound board_of_3 set_0 lemma_of_3 four --workers 4 $fold
 done
+# Workers share the log of a large tree: no lemma has a quarter of it.
+echo '8 0 6 5 4 7 2 3 1' >far_board_of_3
+"$bare" solve far_board_of_3 set_0 made four --budget 10000000 >/dev/null
+check 'a large tree is cut into lemmas' python3 - made <<'END'
+import sys
+log = open(sys.argv[1], "rb").read()
+lengths, start = [], 10
+while start < len(log):
+    lengths.append(14 + int.from_bytes(log[start + 10 : start + 14], "big"))
+    start += lengths[-1]
+sys.exit(not (len(log) > 200000 and max(lengths) < len(log) // 4))
+END
 "$bare" make-table 3 510 eight >/dev/null
 held 4 'exact side 3 mask 510 entries 362880 unreachable 181440 deepest 31' table eight --workers 4
 
