@@ -171,6 +171,11 @@ fn a_board_with_the_blank_last_is_named(rt: HostRuntime) -> Result<(), Fail> {
             blank,
             "pdb_cli: the budget of boards is spent: `--budget N` allows more",
         ),
+        (
+            "refused K5",
+            blank,
+            "pdb_cli: the log would have more than 2^30 bytes, the most that a log may have",
+        ),
     ];
     each_has_its_sentence(&rt, rt.alloc(), &search(rt.alloc())?, &cases)
 }
