@@ -22,7 +22,7 @@ use Rattle.pdb_run.specs.Runs.{World}
 use Rattle.pdb_prove.specs.Answers.{IsFoundFor, IsFoundOf, IsToldOf, is_found_yes, is_yes, told_of}
 use Rattle.pdb_prove.specs.Steps.{AreAllTold, AreCut}
 use Rattle.pdb_prove.specs.declared.answers.Found.{Found}
-use Rattle.pdb_prove.specs.declared.answers.Found.TheVariants.{Bound, Optimum, Refused, Shorter, Shortest}
+use Rattle.pdb_prove.specs.declared.answers.Found.TheVariants.{Bound, Optimum, Part, Refused, Shorter, Shortest}
 
 abbrev Written : Type 0
 Written = Result (Unit {0}) WriteFault
@@ -117,20 +117,29 @@ module _ {v : ShownBundle} {budget : ℕ} where
 yes_told : (guide : ShownGuide) (budget : ℕ) (b : List ℕ) (asks : ShownAsks) (found : Found) → IsFoundOf guide budget b asks found
     → is_yes (told_of b asks found) ≡ is_found_yes found
 yes_told guide budget b claims.shortest Bound is = absurd is
+yes_told guide budget b (claims.part r p) Bound is = absurd is
+yes_told guide budget b claims.shortest Part is = absurd is
+yes_told guide budget b (claims.moves text) Part is = absurd is
+yes_told guide budget b (claims.bound r) Part is = absurd is
 yes_told guide budget b claims.shortest (Optimum n) is = absurd is
+yes_told guide budget b (claims.part r p) (Optimum n) is = absurd is
 yes_told guide budget b (claims.moves text) Bound is = absurd is
 yes_told guide budget b (claims.bound r) (Optimum n) is = absurd is
 yes_told guide budget b (claims.moves text) (Optimum n) is = refl
 yes_told guide budget b (claims.bound r) Bound is = refl
+yes_told guide budget b (claims.part r p) Part is = refl
 yes_told guide budget b claims.shortest (Shortest n letters) is = refl
 yes_told guide budget b (claims.moves text) (Shortest n letters) is = refl
 yes_told guide budget b (claims.bound r) (Shortest n letters) is = refl
+yes_told guide budget b (claims.part r p) (Shortest n letters) is = refl
 yes_told guide budget b claims.shortest (Shorter letters) is = refl
 yes_told guide budget b (claims.moves text) (Shorter letters) is = refl
 yes_told guide budget b (claims.bound r) (Shorter letters) is = refl
+yes_told guide budget b (claims.part r p) (Shorter letters) is = refl
 yes_told guide budget b claims.shortest (Refused refused) is = refl
 yes_told guide budget b (claims.moves text) (Refused refused) is = refl
 yes_told guide budget b (claims.bound r) (Refused refused) is = refl
+yes_told guide budget b (claims.part r p) (Refused refused) is = refl
 
 -- its line was written whole
 pub found_told : {v : ShownBundle} {budget : ℕ} {a b : World} (claim : ShownClaim) (found : Found) → IsFoundFor v budget claim found

@@ -9,7 +9,8 @@ use Rattle.claim_text.specs.Claims.{ShownAsks, ShownClaim}
 use Rattle.claim_text.specs.Lines as line
 use Rattle.claim_text.specs.Lines.{Told}
 use Rattle.puz_make.specs.Solvable.{HasTheBlanksParity}
-use Rattle.puz_search.specs.Answers.{IsAnswer, IsDeepened}
+use Rattle.move_strings.specs.BoundParts.{ShownPart}
+use Rattle.puz_search.specs.Answers.{IsAnswer, IsAnswerOfPart, IsDeepened}
 use Rattle.puz_search.specs.Guides.{IsGuide, ShownGuide}
 use Rattle.puz_search.specs.declared.answers.Answer.TheVariants as search
 use Rattle.puz_search.specs.declared.deepening.Deepened.TheVariants as deepened
@@ -18,7 +19,7 @@ use Rattle.pdb_verdict.specs.Lines.{line_of_fault}
 use Rattle.pdb_verdict.specs.declared.verdicts.Fault.{Fault}
 use Rattle.pdb_verdict.specs.declared.verdicts.Fault.TheVariants.{K1, K2, Moves}
 use Rattle.pdb_prove.specs.declared.answers.Found.{Found}
-use Rattle.pdb_prove.specs.declared.answers.Found.TheVariants.{Bound, Optimum, Refused, Shorter, Shortest}
+use Rattle.pdb_prove.specs.declared.answers.Found.TheVariants.{Bound, Optimum, Part, Refused, Shorter, Shortest}
 
 -- ---- what is found for a claim
 
@@ -56,11 +57,25 @@ module _ (guide : ShownGuide) (budget : ℕ) where
   IsBoundFor b r (Refused K2) = ¬ HasTheBlanksParity b
   IsBoundFor b r _ = ⊥
 
+  -- the search of a part refutes it, whatever it expands within the budget
+  abbrev pub IsRefutedPart : List ℕ → ℕ → ShownPart → Type 0
+  IsRefutedPart b r p = (boards : ℕ) × IsAnswerOfPart guide p b r budget (search.Refuted boards)
+
+  -- for a part of a bound: it holds; or a solution of fewer moves, of whatever part; K1 where the budget is spent; K2 where the
+  -- order of the numbers hasn't the blank's parity
+  abbrev pub IsPartFor : List ℕ → ℕ → ShownPart → Found → Type 0
+  IsPartFor b r p Part = IsRefutedPart b r p
+  IsPartFor b r p (Shorter letters) = IsAnswerOfPart guide p b r budget (search.Solved letters)
+  IsPartFor b r p (Refused K1) = IsAnswerOfPart guide p b r budget search.Spent
+  IsPartFor b r p (Refused K2) = ¬ HasTheBlanksParity b
+  IsPartFor b r p _ = ⊥
+
   -- for what a claim asks of its board
   abbrev pub IsFoundOf : List ℕ → ShownAsks → Found → Type 0
   IsFoundOf b claims.shortest found = IsShortestFor b found
   IsFoundOf b (claims.moves text) found = IsOptimumFor b text found
   IsFoundOf b (claims.bound r) found = IsBoundFor b r found
+  IsFoundOf b (claims.part r p) found = IsPartFor b r p found
 
   -- for a claim
   abbrev pub IsFoundBy : ShownClaim → Found → Type 0
@@ -82,6 +97,7 @@ words_of refused = take (length (line_of_fault refused) - 1) (line_of_fault refu
 -- what is told of a board, of which a claim asks this, where this is found
 abbrev pub told_of : List ℕ → ShownAsks → Found → Told
 told_of b (claims.bound r) Bound = line.bounded r b
+told_of b (claims.part r p) Part = line.part_bounded p r b
 told_of b (claims.moves text) (Optimum n) = line.optimal n b text
 told_of b asks (Shortest n letters) = line.optimal n b letters.items
 told_of b asks (Shorter letters) = line.shorter letters.items (record { board = b; asks = asks })
@@ -97,6 +113,7 @@ pub record IsToldOf (v : ShownBundle) (budget : ℕ) (claim : ShownClaim) (told 
 -- it is a yes
 abbrev pub is_yes : Told → Bool
 is_yes (line.bounded r b) = true
+is_yes (line.part_bounded p r b) = true
 is_yes (line.optimal n b moves) = true
 is_yes (line.shorter moves claim) = false
 is_yes (line.refused what claim) = false
@@ -108,6 +125,7 @@ are_yes told = list_all is_yes told
 -- what is found is a yes to its claim
 abbrev pub is_found_yes : Found → Bool
 is_found_yes Bound = true
+is_found_yes Part = true
 is_found_yes (Optimum n) = true
 is_found_yes (Shortest n letters) = true
 is_found_yes (Shorter letters) = false

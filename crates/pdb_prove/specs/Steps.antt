@@ -24,7 +24,7 @@ use Rattle.pdb_prove.specs.Prove.{ClaimsFiles, IsUnready, told_lines}
 use Rattle.pdb_prove.specs.declared.answers.Found.{Found}
 use Rattle.pdb_prove.specs.declared.answers.Found.TheVariants.{Refused}
 use Rattle.pdb_prove.specs.declared.answers.Question.{Question}
-use Rattle.pdb_prove.specs.declared.answers.Question.TheVariants.{Bound, Moves, Shortest}
+use Rattle.pdb_prove.specs.declared.answers.Question.TheVariants.{Bound, Moves, Part, Shortest}
 
 -- these three
 abbrev pub files_of : Bytes → Bytes → List Bytes → ClaimsFiles
@@ -50,6 +50,7 @@ abbrev pub IsQuestionOf : List ℕ → ShownAsks → Question → Type 0
 IsQuestionOf b claims.shortest question = question ≡ Shortest
 IsQuestionOf b (claims.moves text) question = (n : ℕ) × Solves b text n × (question ≡ Moves n)
 IsQuestionOf b (claims.bound r) question = question ≡ Bound r
+IsQuestionOf b (claims.part r p) question = question ≡ Part (record { bound = r; part = p })
 
 abbrev pub IsAskedOf : ShownClaim → Question → Type 0
 IsAskedOf claim question = IsQuestionOf claim.board claim.asks question

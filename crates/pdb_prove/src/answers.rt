@@ -4,16 +4,20 @@ ghost use Rattle.std.specs.Prelude.{◌≡◌, ℕ, IfErr, IfOk, IfSome, List, m
 ghost use Rattle.puz_board.specs.Boards.{side_of};
 ghost use Rattle.puz_board.specs.MovesTexts.{Solves};
 ghost use Rattle.claim_text.specs.Shown.{claim_shown};
-ghost use Rattle.puz_search.specs.Answers.{IsAnswer, IsDeepened};
+ghost use Rattle.move_strings.specs.BoundParts.{ShownPart};
+ghost use Rattle.puz_search.specs.Answers.{IsAnswer, IsAnswerOfPart, IsDeepened};
 ghost use Rattle.puz_search.specs.Guides.{ShownGuide};
-ghost use Rattle.pdb_prove.specs.Answers.{IsBoundFor, IsFoundBy, IsOptimumFor, IsShortestFor, is_found_yes};
+ghost use Rattle.pdb_prove.specs.Answers.{IsBoundFor, IsFoundBy, IsOptimumFor, IsPartFor, IsShortestFor, is_found_yes};
 ghost use Rattle.pdb_prove.specs.Steps.{IsAskedOf, is_spent};
 
 use claim_text::{Asks, Claim};
 use pdb_verdict::Fault;
 use puz_board::{Board, replay};
 use puz_make::is_solvable;
-use puz_search::{Answer, Deepened, Guide, Letters, refute, refute_by, shortest, shortest_by};
+use puz_search::{
+    Answer, Deepened, Guide, Letters, PartBound, refute, refute_by, refute_part, refute_part_by,
+    shortest, shortest_by,
+};
 use std::thread::Threads;
 use work_run::{Gate, Workers};
 
@@ -22,6 +26,8 @@ use work_run::{Gate, Workers};
 pub enum Found {
     /// No solution has fewer moves than the bound of the claim.
     Bound,
+    /// The part of the bound of the claim holds: the least solution of fewer moves isn't of it.
+    Part,
     /// The moves of the claim, so many, are a shortest solution.
     Optimum(u16),
     /// How many moves a shortest solution has, and their letters, for a claim that asks for one.
@@ -37,7 +43,10 @@ impl Found {
     pub(crate) fn is_yes(&self) -> bool
         ensures { result ≡ is_found_yes self.now }
     {
-        matches!(self, Found::Bound | Found::Optimum(_) | Found::Shortest(..))
+        matches!(
+            self,
+            Found::Bound | Found::Part | Found::Optimum(_) | Found::Shortest(..)
+        )
     }
 
     /// Whether it is that the budget is spent.
@@ -75,6 +84,7 @@ fn answer_alone(guide: &Guide<'_>, claim: &Claim<'_>, budget: u64) -> Found
             found_moves(count, refute(guide, board, bound_of(count), budget))
         }
         Ok(Question::Bound(bound)) => found_bound(refute(guide, board, bound, budget)),
+        Ok(Question::Part(part)) => found_part(refute_part(guide, board, &part, budget)),
         Err(refused) => Found::Refused(refused),
     }
 }
@@ -101,6 +111,9 @@ pub(crate) fn answer_by<R: Threads + Sync, G: Gate + Sync>(
         Ok(Question::Bound(bound)) => {
             found_bound(refute_together(guide, board, bound, budget, workers))
         }
+        Ok(Question::Part(part)) => {
+            found_part(refute_part_together(guide, board, &part, budget, workers))
+        }
         Err(refused) => Found::Refused(refused),
     }
 }
@@ -114,6 +127,8 @@ enum Question {
     Moves(u16),
     /// A solution of fewer moves than this.
     Bound(u8),
+    /// One that is of this part.
+    Part(PartBound),
 }
 
 /// What is to be searched for, where the claim isn't refused without a search.
@@ -129,7 +144,10 @@ fn asked_of(claim: &Claim<'_>) -> Result<Question, Fault>
         },
         Asks::Shortest if is_solvable(&claim.board) => Ok(Question::Shortest),
         Asks::Bound(bound) if is_solvable(&claim.board) => Ok(Question::Bound(bound)),
-        Asks::Shortest | Asks::Bound(_) => Err(Fault::K2),
+        Asks::Part(bound, part) if is_solvable(&claim.board) => Ok(Question::Part(PartBound::new(
+            bound, part,
+        ))),
+        Asks::Shortest | Asks::Bound(_) | Asks::Part(..) => Err(Fault::K2),
     }
 }
 
@@ -179,6 +197,35 @@ fn found_bound(answer: Answer) -> Found
         Answer::Refuted(_) => Found::Bound,
         Answer::Solved(letters) => Found::Shorter(letters),
         Answer::Spent => Found::Refused(Fault::K1),
+    }
+}
+
+/// What is found where a part of a bound is claimed and the search of the part answers this.
+fn found_part(answer: Answer) -> Found
+    ensures { (guide : ShownGuide) (budget : ℕ) (b : List ℕ) (r : ℕ) (p : ShownPart)
+        → IsAnswerOfPart guide p b r budget answer → IsPartFor guide budget b r p result }
+{
+    match answer {
+        Answer::Refuted(_) => Found::Part,
+        Answer::Solved(letters) => Found::Shorter(letters),
+        Answer::Spent => Found::Refused(Fault::K1),
+    }
+}
+
+/// As `refute_part_by`, or where workers can't be started as `refute_part`.
+fn refute_part_together<R: Threads + Sync, G: Gate + Sync>(
+    guide: &Guide<'_>,
+    board: &Board,
+    part: &PartBound,
+    budget: u64,
+    workers: &Workers<'_, R, G>,
+) -> Answer
+    requires { side_of board.now ≡ guide.now.bundle.side }
+    ensures { IsAnswerOfPart guide.now part.now.part board.now part.now.bound budget result }
+{
+    match refute_part_by(guide, board, part, budget, workers) {
+        Ok(answer) => answer,
+        Err(_) => refute_part(guide, board, part, budget),
     }
 }
 

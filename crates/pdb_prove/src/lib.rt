@@ -6,6 +6,7 @@ mod batches;
 mod counts;
 mod help;
 mod inputs;
+pub mod laws;
 mod ready;
 mod runs;
 mod telling;

@@ -6,7 +6,9 @@ ghost use Rattle.claim_text.specs.Shown.{asks_shown, claim_shown};
 ghost use Rattle.pdb_prove.specs.Answers.{told_of, words_of};
 
 use crate::answers::Found;
-use claim_text::{Asks, Claim, Line, bound_line, optimal_line, refused_line, shorter_line};
+use claim_text::{
+    Asks, Claim, Line, bound_line, optimal_line, part_line, refused_line, shorter_line,
+};
 use pdb_run::Lines;
 use pdb_verdict::{Fault, line_of};
 
@@ -15,9 +17,10 @@ pub(crate) fn line_on(claim: &Claim<'_>, found: &Found) -> Line
     requires few { HasFewLetters (claim_shown claim.now) }
     ensures { result.bytes ≡ told_line (told_of claim.now.board (asks_shown claim.now.asks) found.now) }
 {
-    match (claim.asks, found) {
-        (Asks::Bound(bound), Found::Bound) => bound_line(bound, &claim.board),
-        (Asks::Moves(moves), Found::Optimum(count)) => optimal_line(*count, &claim.board, moves),
+    match (&claim.asks, found) {
+        (Asks::Bound(bound), Found::Bound) => bound_line(*bound, &claim.board),
+        (Asks::Part(bound, part), Found::Part) => part_line(*part, *bound, &claim.board),
+        (Asks::Moves(moves), Found::Optimum(count)) => optimal_line(*count, &claim.board, *moves),
         (_, Found::Shortest(count, letters)) => {
             optimal_line(*count, &claim.board, letters.as_slice())
         }

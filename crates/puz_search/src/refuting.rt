@@ -29,6 +29,23 @@ pub struct PartBound {
     pub part: BoundPart,
 }
 
+impl PartBound {
+    /// This part of this bound.
+    pub fn new(bound: u8, part: BoundPart) -> PartBound
+        ensures { result ≡ record { bound = bound; part = part } }
+    {
+        PartBound { bound, part }
+    }
+
+    /// The bound.
+    pub(crate) fn bound(&self) -> u8
+        ensures value { result ≡ self.now.bound }
+        ensures small { self.now.bound ≤ 255 }
+    {
+        self.bound
+    }
+}
+
 /// Searches for a solution of a board of fewer moves than a bound, depth first, and expands at most `budget` boards
 /// (Korf 1985). Moves that the guide's automaton leaves out aren't tried (Taylor and Korf 1993).
 ///
@@ -62,23 +79,24 @@ pub fn refute(guide: &Guide<'_>, board: &Board, bound: u8, budget: u64) -> Answe
 /// that are too few to tell it.
 ///
 /// The boards above the last letter that tells a part are searched for each part, and count for each.
-pub fn refute_part(guide: &Guide<'_>, board: &Board, claim: PartBound, budget: u64) -> Answer
+pub fn refute_part(guide: &Guide<'_>, board: &Board, claim: &PartBound, budget: u64) -> Answer
     requires { side_of board.now ≡ guide.now.bundle.side }
 
     // Refuted: the least solution of fewer moves, if there is one, isn't of the part, and the search of the part fails with so
     // many boards, within the budget. Solved: these moves solve the board, and are fewer. Spent: where the search of the part
     // fails, it expands more boards than the budget.
-    ensures answer { IsAnswerOfPart guide.now claim.part board.now claim.bound budget result }
+    ensures answer { IsAnswerOfPart guide.now claim.now.part board.now claim.now.bound budget result }
 
     // It is refuted wherever the search of the part fails within the budget.
-    ensures within { (boards : ℕ) → SearchOfPartFails guide.now claim.part claim.bound board.now boards
+    ensures within { (boards : ℕ) → SearchOfPartFails guide.now claim.now.part claim.now.bound board.now boards
         → boards ≤ budget → result ≡ Refuted boards }
 
     // A budget that is large enough is never spent.
-    ensures enough { most_boards claim.bound ≤ budget → (result ≡ Spent → ⊥) }
+    ensures enough { most_boards claim.now.bound ≤ budget → (result ≡ Spent → ⊥) }
 {
     // What is said of boards and searches is said of a board and a guide, and these say that the values are.
     let _sides = (board.side(), guide.side());
+    let _bound = claim.bound();
     let search = Search {
         guide,
         board,

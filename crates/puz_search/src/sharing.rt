@@ -67,7 +67,7 @@ pub fn refute_by<R: Threads + Sync, G: Gate + Sync>(
 pub fn refute_part_by<R: Threads + Sync, G: Gate + Sync>(
     guide: &Guide<'_>,
     board: &Board,
-    claim: PartBound,
+    claim: &PartBound,
     budget: u64,
     workers: &Workers<'_, R, G>,
 ) -> Result<Answer, AllocError>
@@ -76,14 +76,14 @@ pub fn refute_part_by<R: Threads + Sync, G: Gate + Sync>(
     // Refuted: the least solution of fewer moves, if there is one, isn't of the part, and the search of the part fails with so
     // many boards, within the budget. Solved: these moves solve the board, and are fewer. Spent: where the search of the part
     // fails, it expands more boards than the budget.
-    ensures answer { IfOk result (IsAnswerOfPart guide.now claim.part board.now claim.bound budget) }
+    ensures answer { IfOk result (IsAnswerOfPart guide.now claim.now.part board.now claim.now.bound budget) }
 
     // It is refuted wherever the search of the part fails within the budget.
-    ensures within { (boards : ℕ) → SearchOfPartFails guide.now claim.part claim.bound board.now boards
+    ensures within { (boards : ℕ) → SearchOfPartFails guide.now claim.now.part claim.now.bound board.now boards
         → boards ≤ budget → IfOk result (λ answer. answer ≡ Refuted boards) }
 
     // A budget that is large enough is never spent.
-    ensures enough { most_boards claim.bound ≤ budget → IfOk result (λ answer. answer ≡ Spent → ⊥) }
+    ensures enough { most_boards claim.now.bound ≤ budget → IfOk result (λ answer. answer ≡ Spent → ⊥) }
 {
     // What is said of boards and searches is said of a board and a guide, and these say that the values are.
     let _sides = (board.side(), guide.side());

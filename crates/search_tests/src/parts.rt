@@ -34,8 +34,7 @@ struct Led<'a> {
 
 /// A part of a bound.
 fn part_of<R: Abort>(rt: &R, bound: u8, index: u16, count: u16) -> PartBound {
-    let part = BoundPart::new(index, count).expect(rt, "a part");
-    PartBound { bound, part }
+    PartBound::new(bound, BoundPart::new(index, count).expect(rt, "a part"))
 }
 
 /// What the search of a part answers, which is the same for each number of workers.
@@ -43,7 +42,7 @@ fn told<R: Threads + Wait + Sync + AllocGlobal + Abort>(
     rt: &R,
     led: Led<'_>,
     board: &Board,
-    claim: PartBound,
+    claim: &PartBound,
     budget: u64,
 ) -> Told {
     let side = led.bundle.side();
@@ -76,7 +75,7 @@ fn boards_of_all<R: Threads + Wait + Sync + AllocGlobal + Abort>(
     let mut sum: u64 = 0;
     for index in 0..count {
         let claim = part_of(rt, bound, index, count);
-        match told(rt, led, board, claim, 1 << 40) {
+        match told(rt, led, board, &claim, 1 << 40) {
             Told::Refuted(boards) => sum = sum.saturating_add(boards),
             Told::Solved(_) | Told::Spent => panic!(rt; "part {index}/{count} is refuted"),
         }
@@ -84,39 +83,46 @@ fn boards_of_all<R: Threads + Wait + Sync + AllocGlobal + Abort>(
     sum
 }
 
+/// That a solution of few moves is found in each part, and none of fewer.
+fn find_in_each<R: Threads + Wait + Sync + AllocGlobal + Abort>(rt: &R, bundle: &Bundle<'_>) {
+    let automaton = reversals(rt, bundle.side());
+    let led = Led {
+        bundle,
+        automaton: &automaton,
+    };
+    let board = Board::from_cells(&RING[6]).expect(rt, "a board");
+    for (count, _) in &COUNTS {
+        for index in 0..*count {
+            let claim = part_of(rt, 7, index, *count);
+            assert_eq!(rt; told(rt, led, &board, &claim, 100), Told::Solved(6));
+        }
+        boards_of_all(rt, led, &board, 6, *count);
+    }
+}
+
 #[test]
 fn short_solutions_are_of_each_part(rt: HostRuntime) {
     let bundle = bundle(&rt, &TILE_1);
-    let automaton = reversals(&rt, bundle.side());
+    find_in_each(&rt, &bundle);
+}
+
+/// That all parts of a bound are refuted of a board that has no solution.
+fn refute_each<R: Threads + Wait + Sync + AllocGlobal + Abort>(rt: &R, bundle: &Bundle<'_>) {
+    let automaton = reversals(rt, bundle.side());
     let led = Led {
-        bundle: &bundle,
+        bundle,
         automaton: &automaton,
     };
-    let board = Board::from_cells(&RING[6]).expect(&rt, "a board");
-    for (count, _) in COUNTS {
-        for index in 0..count {
-            assert_eq!(rt;
-                told(&rt, led, &board, part_of(&rt, 7, index, count), 100),
-                Told::Solved(6),
-                "{index}/{count}"
-            );
-        }
-        boards_of_all(&rt, led, &board, 6, count);
+    let board = Board::from_cells(&with_two_exchanged(rt, &RING[6])).expect(rt, "a board");
+    for (count, _) in &COUNTS {
+        boards_of_all(rt, led, &board, 101, *count);
     }
 }
 
 #[test]
 fn all_parts_are_refuted_where_no_solution_is(rt: HostRuntime) {
     let bundle = bundle(&rt, &TILE_1);
-    let automaton = reversals(&rt, bundle.side());
-    let led = Led {
-        bundle: &bundle,
-        automaton: &automaton,
-    };
-    let board = Board::from_cells(&with_two_exchanged(&rt, &RING[6])).expect(&rt, "a board");
-    for (count, _) in COUNTS {
-        boards_of_all(&rt, led, &board, 101, count);
-    }
+    refute_each(&rt, &bundle);
 }
 
 /// That all parts expand just the boards of the whole search, and those above the last letter once more for each further part.
@@ -166,26 +172,34 @@ fn parts_that_workers_share_expand_the_same_boards(rt: HostRuntime) -> Result<()
     Ok(())
 }
 
+/// That a budget of just the boards of a part is enough, and one board less isn't.
+fn spend_all<R: Threads + Wait + Sync + AllocGlobal + Abort>(rt: &R, bundle: &Bundle<'_>) {
+    let automaton = reversals(rt, bundle.side());
+    let led = Led {
+        bundle,
+        automaton: &automaton,
+    };
+    let board = Board::from_cells(&NUMBERS).expect(rt, "a board");
+    let claim = part_of(rt, 18, 2, 7);
+    match told(rt, led, &board, &claim, 1 << 40) {
+        Told::Refuted(boards) => {
+            assert!(rt; boards > 0);
+            assert_eq!(rt;
+                told(rt, led, &board, &claim, boards),
+                Told::Refuted(boards)
+            );
+            let short = boards.saturating_sub(1);
+            assert_eq!(rt; told(rt, led, &board, &claim, short), Told::Spent);
+        }
+        Told::Solved(_) | Told::Spent => panic!(rt; "refuted"),
+    }
+}
+
 #[test]
 fn a_budget_of_just_the_boards_of_a_part_is_enough(rt: HostRuntime) -> Result<(), Fail> {
     let file = LeastCosts::new(rt.alloc(), &[1, 2, 3])?.table(rt.alloc())?;
     let bundle = bundle(&rt, &file);
-    let automaton = reversals(&rt, bundle.side());
-    let led = Led {
-        bundle: &bundle,
-        automaton: &automaton,
-    };
-    let board = Board::from_cells(&NUMBERS).expect(&rt, "a board");
-    let claim = part_of(&rt, 18, 2, 7);
-    let Told::Refuted(boards) = told(&rt, led, &board, claim, 1 << 40) else {
-        panic!(&rt; "refuted");
-    };
-    assert_eq!(rt;
-        told(&rt, led, &board, claim, boards),
-        Told::Refuted(boards)
-    );
-    let short = boards.saturating_sub(1);
-    assert_eq!(rt; told(&rt, led, &board, claim, short), Told::Spent);
+    spend_all(&rt, &bundle);
     Ok(())
 }
 
@@ -308,7 +322,7 @@ fn count_found<R: Threads + Wait + Sync + AllocGlobal + Abort>(
     let bound = sample.moves.saturating_add(2);
     for index in 0..sample.count {
         let claim = part_of(rt, bound, index, sample.count);
-        match told(rt, led, &sample.board, claim, 1 << 40) {
+        match told(rt, led, &sample.board, &claim, 1 << 40) {
             Told::Solved(moves) => {
                 assert_eq!(rt; moves, u16::from(sample.moves));
                 assert!(rt; sample.has(index), "{index} has a solution");
@@ -327,46 +341,81 @@ fn count_found<R: Threads + Wait + Sync + AllocGlobal + Abort>(
     found
 }
 
-#[test]
-fn false_bounds_are_refuted_in_parts_without_a_solution_alone(rt: HostRuntime) -> Result<(), Fail> {
+/// What is known of boards of side 3: the fewest moves of each, and what leads a search for them, by two automata.
+#[derive(Clone, Copy)]
+struct Known<'a> {
+    costs: &'a LeastCosts<'a>,
+    reversing: Led<'a>,
+    longer: Led<'a>,
+}
+
+/// That of a bound of two moves too many just the parts without a shortest solution are refuted. Whether just one part wasn't,
+/// and the board has one shortest solution.
+fn is_told_alone<R: Threads + Wait + Sync + AllocGlobal + Abort>(
+    rt: &R,
+    known: Known<'_>,
+    board: &Board,
+    count: u16,
+    letters: u64,
+) -> Result<bool, AllocError> {
+    let moves = fewest(known.costs, board);
+    let ways = shortest_ways(rt.alloc(), known.costs, board, letters)?;
+    let tells = letters <= u64::from(moves);
+    let sample = Sample {
+        board: *board,
+        moves,
+        count,
+        ways: if tells { ways.as_slice() } else { &[] },
+    };
+    let found = count_found(rt, known.reversing, &sample, true);
+    assert!(rt; count_found(rt, known.longer, &sample, false) <= found);
+    boards_of_all(rt, known.reversing, board, moves, count);
+    let is_alone = tells && ways.len() == 1 && count > 1;
+    if is_alone {
+        assert_eq!(rt; found, 1);
+    }
+    Ok(is_alone)
+}
+
+/// The same of some boards of side 3, and of each count of parts.
+fn refute_false_bounds<R: Threads + Wait + Sync + AllocGlobal + Abort>(
+    rt: &R,
+    bundle: &Bundle<'_>,
+) -> Result<u16, AllocError> {
     let costs = LeastCosts::new(rt.alloc(), &[1, 2, 3, 4, 5, 6, 7, 8])?;
-    let file = LeastCosts::new(rt.alloc(), &[1, 2, 3, 4])?.table(rt.alloc())?;
-    let bundle = bundle(&rt, &file);
-    let automaton = reversals(&rt, bundle.side());
-    let longer = of_strings(&rt, bundle.side())?;
-    let reversing = Led {
-        bundle: &bundle,
-        automaton: &automaton,
+    let automaton = reversals(rt, bundle.side());
+    let longer = of_strings(rt, bundle.side())?;
+    let known = Known {
+        costs: &costs,
+        reversing: Led {
+            bundle,
+            automaton: &automaton,
+        },
+        longer: Led {
+            bundle,
+            automaton: &longer,
+        },
     };
-    let led = Led {
-        bundle: &bundle,
-        automaton: &longer,
-    };
-    let goal = Board::from_cells(&[0, 1, 2, 3, 4, 5, 6, 7, 8]).expect(&rt, "a board");
+    let goal = Board::from_cells(&[0, 1, 2, 3, 4, 5, 6, 7, 8]).expect(rt, "a board");
     let mut state: u32 = 5;
     let mut alone: u16 = 0;
     for _ in 0..20 {
         let near = scrambled(&goal, &mut state);
-        let board = scrambled(&scrambled(&near, &mut state), &mut state);
-        let moves = fewest(&costs, &board);
-        for (count, letters) in COUNTS {
-            let ways = shortest_ways(rt.alloc(), &costs, &board, letters)?;
-            let tells = letters <= u64::from(moves);
-            let sample = Sample {
-                board,
-                moves,
-                count,
-                ways: if tells { ways.as_slice() } else { &[] },
-            };
-            let found = count_found(&rt, reversing, &sample, true);
-            assert!(rt; count_found(&rt, led, &sample, false) <= found);
-            boards_of_all(&rt, reversing, &board, moves, count);
-            if tells && ways.len() == 1 && count > 1 {
-                assert_eq!(rt; found, 1);
+        let board = scrambled(&near, &mut state);
+        for (count, letters) in &COUNTS {
+            if is_told_alone(rt, known, &board, *count, *letters)? {
                 alone = alone.saturating_add(1);
             }
         }
     }
+    Ok(alone)
+}
+
+#[test]
+fn false_bounds_are_refuted_in_parts_without_a_solution_alone(rt: HostRuntime) -> Result<(), Fail> {
+    let file = LeastCosts::new(rt.alloc(), &[1, 2, 3, 4])?.table(rt.alloc())?;
+    let bundle = bundle(&rt, &file);
+    let alone = refute_false_bounds(&rt, &bundle)?;
     assert!(rt; alone > 5, "{alone} boards with one shortest solution");
     Ok(())
 }

@@ -1,5 +1,5 @@
 use Rattle.claim_text.specs.Shown.{asks_shown}
-use Rattle.pdb_prove.proofs.QuestionLemmas.{bound_for, moves_for, shortest_for}
+use Rattle.pdb_prove.proofs.QuestionLemmas.{bound_for, moves_for, part_for, shortest_for}
 use Rattle.pdb_prove.proofs.answers.answer_by.Goals as goal
 
 pub returns-in-Ok-Shortest : goal.returns-in-Ok-Shortest
@@ -18,3 +18,9 @@ returns-in-Ok-Bound g c =
     let asked = rw c.in-Ok-Bound.field-0-is at c.in-Ok-Bound.ensures.ok in
     bound_for _ _ _ _ (asks_shown c.args.claim.now.asks) c.in-Ok-Bound.bound asked
     (c.found_bound.ensures _ _ _ _ c.refute_together-in-Ok-Bound.ensures)
+
+pub returns-in-Ok-Part : goal.returns-in-Ok-Part
+returns-in-Ok-Part g c =
+    let asked = rw c.in-Ok-Part.field-0-is at c.in-Ok-Part.ensures.ok in
+    part_for _ _ _ _ (asks_shown c.args.claim.now.asks) c.in-Ok-Part.part asked
+    (c.found_part.ensures _ _ _ _ _ c.refute_part_together.ensures)

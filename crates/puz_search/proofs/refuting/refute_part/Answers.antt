@@ -5,12 +5,12 @@ use Rattle.puz_search.proofs.refuting.refute_part.Goals as goal
 
 pub returns-clause-answer : goal.returns-clause-answer
 returns-clause-answer c =
-    subst (λ budget. IsAnswerOfPart c.args.guide.now c.args.claim.part c.args.board.now c.args.claim.bound budget c.refute_node.result) c.within.ensures.left
+    subst (λ budget. IsAnswerOfPart c.args.guide.now c.args.claim.now.part c.args.board.now c.args.claim.now.bound budget c.refute_node.result) c.within.ensures.left
     (part_first _ c.side-2.ensures.guide c.first.result c.first.ensures.first c.first.ensures.led c.within.result.left
-    c.refute_node.result c.refute_node.ensures c.args.claim.part c.of_part.ensures.part c.of_part.ensures.ahead c.of_part.ensures.rank)
+    c.refute_node.result c.refute_node.ensures c.args.claim.now.part c.of_part.ensures.part c.of_part.ensures.ahead c.of_part.ensures.rank)
 
 pub returns-clause-within : goal.returns-clause-within
 returns-clause-within c boards fails few =
     let same = c.within.ensures.left in
     part_first_within _ c.side-2.ensures.guide c.first.result c.first.ensures.first c.first.ensures.led c.within.result.left
-    c.refute_node.result c.refute_node.ensures c.args.claim.part c.of_part.ensures.part c.of_part.ensures.ahead c.of_part.ensures.rank boards fails (omega arith)
+    c.refute_node.result c.refute_node.ensures c.args.claim.now.part c.of_part.ensures.part c.of_part.ensures.ahead c.of_part.ensures.rank boards fails (omega arith)
