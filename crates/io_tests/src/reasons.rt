@@ -187,7 +187,7 @@ fn answers_to_claims_have_no_sentence(rt: HostRuntime) -> Result<(), Fail> {
         (
             "refused Q1 at line 3",
             any,
-            "pdb_cli: standard input: line 3 is none of `BOARD`, `BOARD ; MOVES` and `BOARD : N`",
+            "pdb_cli: standard input: line 3 is none of `BOARD`, `BOARD ; MOVES`, `BOARD : N` and `BOARD : N part I/K`",
         ),
         ("refused K1 of 3 2 1 0", any, ""),
         ("refused K2 of 0 1 3 2", any, ""),

@@ -13,7 +13,7 @@ use puz_board::Board;
 use std::alloc::{AllocError, Global};
 
 /// A bound of a board in so many parts.
-#[derive(Debug, PartialEq, Eq)]
+#[derive(Debug, PartialEq, Eq, Drop)]
 pub struct BoundInParts {
     pub board: Board,
     pub bound: u8,

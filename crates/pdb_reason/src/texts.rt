@@ -199,7 +199,7 @@ fn maker_text(code: &str) -> Option<(Subject, Text)> {
             Claims,
             One(
                 "line ",
-                " is none of `BOARD`, `BOARD ; MOVES` and `BOARD : N`",
+                " is none of `BOARD`, `BOARD ; MOVES`, `BOARD : N` and `BOARD : N part I/K`",
             ),
         ),
         "Q2" => (
