@@ -49,19 +49,31 @@ KnowsItsFlags command = (name : Text) → (arg_by_long (leaf command).rules name
 
 solve_knows : KnowsItsFlags (codes "solve")
 solve_knows name = elim (cases_Bool (bytes_eq (codes "budget") name)) [
-  | inl e ↦ inr (inr (inr (inl refl, sym (same_text (codes "budget") name e))))
-  | inr e ↦ rw e (grind arith)
+  | inl e ↦ inr (inr (inr (inl (inl refl, sym (same_text (codes "budget") name e)))))
+  | inr e ↦ elim (cases_Bool (bytes_eq (codes "replace") name)) [
+    | inl r ↦ inr (inr (inr (inr (inr (inl refl), sym (same_text (codes "replace") name r)))))
+    | inr r ↦ elim (cases_Bool (bytes_eq (codes "fold") name)) [
+      | inl f ↦ inr (inr (inl (inr (inr (inl refl)), sym (same_text (codes "fold") name f))))
+      | inr f ↦ rw (e, r, f) (grind arith)
+    ]
+  ]
+]
+
+make_table_knows : KnowsItsFlags (codes "make-table")
+make_table_knows name = elim (cases_Bool (bytes_eq (codes "replace") name)) [
+  | inl r ↦ inr (inr (inr (inr (inl refl, sym (same_text (codes "replace") name r)))))
+  | inr r ↦ rw r (grind arith)
 ]
 
 prove_knows : KnowsItsFlags (codes "prove")
 prove_knows name = elim (cases_Bool (bytes_eq (codes "budget") name)) [
-  | inl e ↦ inr (inr (inr (inr (inl refl), sym (same_text (codes "budget") name e))))
+  | inl e ↦ inr (inr (inr (inl (inr (inl refl), sym (same_text (codes "budget") name e)))))
   | inr e ↦ rw e (grind arith)
 ]
 
 all_know : (command : Text) → IsCommand command → KnowsItsFlags command
 all_know = each_holds KnowsItsFlags commands
-    (λ name. grind arith, (λ name. grind arith, (λ name. grind arith, (λ name. grind arith, (λ name. grind arith, (solve_knows, (prove_knows, tt)))))))
+    (λ name. grind arith, (λ name. grind arith, (λ name. grind arith, (λ name. grind arith, (make_table_knows, (solve_knows, (prove_knows, tt)))))))
 
 -- behind a command's name, and no `--`, there are no flags but these
 pub flags_known : (command name flag : Text) (before after : List Text) → IsCommand command → All (λ word. word ≢ codes "--") before → IsLongFlag name flag

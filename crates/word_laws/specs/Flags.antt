@@ -12,10 +12,15 @@ folding_commands = codes "bound" ∷ codes "optimal" ∷ codes "solve" ∷ codes
 abbrev pub searching_commands : List Text
 searching_commands = codes "solve" ∷ codes "prove" ∷ []
 
+-- the names of the commands that take `--replace`
+abbrev pub keeping_commands : List Text
+keeping_commands = codes "make-table" ∷ codes "solve" ∷ []
+
 -- the command takes the flag of this name
 abbrev pub TakesFlag : Text → Text → Type 0
 TakesFlag command name = (IsOneOf shared_commands command × (name ≡ codes "workers"))
-    ⊎ ((IsOneOf folding_commands command × (name ≡ codes "fold")) ⊎ (IsOneOf searching_commands command × (name ≡ codes "budget")))
+    ⊎ ((IsOneOf folding_commands command × (name ≡ codes "fold"))
+    ⊎ ((IsOneOf searching_commands command × (name ≡ codes "budget")) ⊎ (IsOneOf keeping_commands command × (name ≡ codes "replace"))))
 
 -- the word is `--`, a name, and perhaps a value behind `=`
 abbrev pub IsLongFlag : Text → Text → Type 0

@@ -51,6 +51,7 @@ search_within budget = λ given. solve (record {
   board = given.text;
   sets = given.sets;
   out = given.log;
+  replace = false;
   tables = given.tables;
   workers = given.workers;
   fold = given.fold;

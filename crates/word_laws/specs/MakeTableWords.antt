@@ -1,5 +1,5 @@
 -- What the words of `make-table` ask for.
-use Rattle.std.specs.Prelude.{◌≡◌, ℕ, List, [], ◌∷◌, true, unwrap_or}
+use Rattle.std.specs.Prelude.{◌≡◌, ℕ, List, [], ◌∷◌, true, unwrap_or, false}
 use Rattle.clap.specs.Walk.{Text}
 use Rattle.pdb_request.specs.Asked.{Asked, make_table}
 use Rattle.pdb_words.specs.Commands.{IsPlain}
@@ -30,5 +30,6 @@ asks_for_table words workers = make_table (record {
   side = number_of words.side;
   mask = unwrap_or (mask_written words.mask) 0;
   out = words.out;
+  replace = false;
   workers = workers;
 })

@@ -57,7 +57,7 @@ module _ (words : PatternWords) where
   mask = writes_mask words.mask
 
   abbrev made : ℕ → ℕ → Asked
-  made side workers = make_table (record { side = side; mask = unwrap_or (mask_written words.mask) 0; out = words.out; workers = workers })
+  made side workers = make_table (record { side = side; mask = unwrap_or (mask_written words.mask) 0; out = words.out; replace = false; workers = workers })
 
   abbrev ComesTo : List Text → Kinds → ℕ → Type 0
   ComesTo ws kinds workers = Comes (codes "make-table") ws kinds (made (sides.reads words.side) workers)
