@@ -13,6 +13,7 @@ use Rattle.puz_board.specs.Boards.{IsBoard}
 use Rattle.puz_board.specs.MovesTexts.{Solves}
 use Rattle.set_sum.specs.Bounds.{IsBounded}
 use Rattle.puz_search.specs.Guides.{ShownGuide}
+use Rattle.move_strings.specs.BoundParts.{IsPartBounded}
 use Rattle.set_sum.specs.Bundles.{ShownBundle}
 use Rattle.byte_io.specs.Shelf.{Bytes}
 use Rattle.byte_io.specs.Streams.{AppendsFront, Output}
@@ -29,7 +30,7 @@ use Rattle.pdb_verdict.specs.declared.verdicts.Fault.{Fault}
 use Rattle.pdb_prove.specs.Answers.{IsFoundOf, IsToldOf, are_yes, told_of, is_yes, words_of}
 use Rattle.pdb_prove.specs.Prove.{ClaimsFiles, IsOutcomeOf, Outcome, TellsClaims, answered, budget_of, digested_files, prove_plan, reply_to_claims, told_lines, unready}
 use Rattle.pdb_prove.specs.declared.answers.Found.{Found}
-use Rattle.pdb_prove.specs.declared.answers.Found.TheVariants.{Bound, Optimum, Refused, Shorter, Shortest}
+use Rattle.pdb_prove.specs.declared.answers.Found.TheVariants.{Bound, Optimum, Part, Refused, Shorter, Shortest}
 use Rattle.pdb_program.specs.Headline.{AreAYes, AreWholeLines, HasLine, HoldsOfClaim, SaysYes}
 use Rattle.pdb_program.specs.Programs.{EndsFor}
 use Rattle.pdb_program.proofs.ElseLemmas.{IsElseLine, SaysElse, SaysNoYes, digest_no_yes, digests_are, else_no_yes, fault_line, known, memory, named, says_else}
@@ -47,6 +48,7 @@ without_end line words is =
 -- what is known of what is told: the boards are boards, and a yes is true; what is told else is no yes
 abbrev IsTrueTold : Told → Type 0
 IsTrueTold (line.bounded n b) = IsBoard b × IsBounded b n
+IsTrueTold (line.part_bounded p n b) = IsBoard b × IsPartBounded p n b
 IsTrueTold (line.optimal n b moves) = IsBoard b × Solves b moves n × IsBounded b n
 IsTrueTold (line.shorter solution claim) = ⊤
 IsTrueTold (line.refused what claim) = SaysElse what
@@ -64,6 +66,7 @@ claim_board : (line b : List ℕ) (asks : ShownAsks) → IsClaimOf line b asks �
 claim_board line b claims.shortest is = is.board.board
 claim_board line b (claims.moves text) is = is.board.board
 claim_board line b (claims.bound n) is = is.board.board
+claim_board line b (claims.part n p) is = is.board.board
 
 claims_boards : (lines : List Bytes) (all : List ShownClaim) → AllZip IsClaim lines all → HaveBoards all
 claims_boards [] [] each = tt
@@ -83,6 +86,15 @@ module _ (guide : ShownGuide) (budget : ℕ) where
   found_true b (claims.bound r) (Shortest n letters) board is = absurd is
   found_true b (claims.bound r) (Shorter letters) board is = tt
   found_true b (claims.bound r) (Refused refused) board is = refused_words refused
+  found_true b (claims.bound r) Part board is = absurd is
+  found_true b (claims.part r p) Part board is = (board, is.1.0)
+  found_true b (claims.part r p) Bound board is = absurd is
+  found_true b (claims.part r p) (Optimum n) board is = absurd is
+  found_true b (claims.part r p) (Shortest n letters) board is = absurd is
+  found_true b (claims.part r p) (Shorter letters) board is = tt
+  found_true b (claims.part r p) (Refused refused) board is = refused_words refused
+  found_true b (claims.moves text) Part board is = absurd is
+  found_true b claims.shortest Part board is = absurd is
   found_true b (claims.moves text) Bound board is = absurd is
   found_true b (claims.moves text) (Optimum n) board is = (board, is.0, is.2.1.0)
   found_true b (claims.moves text) (Shortest n letters) board is = absurd is
@@ -112,6 +124,7 @@ module _ (v : ShownBundle) (budget : ℕ) where
 -- what is told is one line
 told_one : (t : Told) → IsTrueTold t → WhatHasNoLf t
 told_one (line.bounded n b) is = tt
+told_one (line.part_bounded p n b) is = tt
 told_one (line.optimal n b moves) is = tt
 told_one (line.shorter solution claim) is = tt
 told_one (line.refused what claim) is = says_else what is
@@ -119,6 +132,11 @@ told_one (line.refused what claim) is = says_else what is
 -- what a yes of what is told says
 yes_of_told : (t : Told) → IsTrueTold t → SaysYes (told_text t) → HoldsOfClaim (told_text t)
 yes_of_told (line.bounded n b) is says = inl (numbers b, n, refl, numbers_bounded b n is.0 is.1)
+yes_of_told (line.part_bounded p n b) is says =
+    absurd (else_no_yes (codes "part ") _ part says)
+  where
+    part : SaysElse (codes "part ")
+    part = ((λ e. omega (arith, e)), (λ e. omega (arith, e)), (λ e. omega (arith, e)), (λ e. omega (arith, e)), known (codes "part ") refl)
 yes_of_told (line.optimal n b text) is says =
     let least = words_optimal b text n is.0 is.1 is.2 in
     inr (claim_words (record { board = b; asks = claims.moves text }), n, least.0, refl, least.1)
@@ -243,9 +261,9 @@ yes_lines arguments old new status a is_yes =
     let said = comes_yes is.0 is.2.outcome a.reply is.2.told is_yes in
     (digested_files is.0, said.0, said.1, said.2)
 
--- a yes, or a digest
+-- a yes, the line of a part, or a digest
 abbrev IsYesOrDigest : Bytes → Type 0
-IsYesOrDigest line = SaysYes line ⊎ ((rest : Bytes) × (line ≡ codes "sha256 " ++ rest))
+IsYesOrDigest line = SaysYes line ⊎ ((rest : Bytes) × ((line ≡ codes "part " ++ rest) ⊎ (line ≡ codes "sha256 " ++ rest)))
 
 told_yes : (told : List Told) → are_yes told ≡ true → IsOfLines IsYesOrDigest (told_lines told)
 told_yes [] all = ([], refl, tt)
@@ -256,6 +274,8 @@ told_yes (t ∷ told) all =
     one : (t : Told) → is_yes t ≡ true → IsOfLines IsYesOrDigest (told_text t ++ codes "\n")
     one (line.bounded n b) is =
         line_alone IsYesOrDigest (told_text (line.bounded n b)) (answer-no_lf (line.bounded n b) tt) (inl (_, inr (inr (inl refl))))
+    one (line.part_bounded p n b) is =
+        line_alone IsYesOrDigest (told_text (line.part_bounded p n b)) (answer-no_lf (line.part_bounded p n b) tt) (inr (_, inl refl))
     one (line.optimal n b moves) is =
         line_alone IsYesOrDigest (told_text (line.optimal n b moves)) (answer-no_lf (line.optimal n b moves) tt) (inl (_, inr (inr (inr refl))))
     one (line.shorter solution claim) is = let clash : false ≡ true = is in cc
@@ -265,7 +285,7 @@ told_yes (t ∷ told) all =
 pub claims_yes : (a : ProveArguments) (lines : Bytes) (files : List Bytes) (told : List Told) → lines ≡ digests_of files ++ told_lines told
     → are_yes told ≡ true → AreAYes (prove a) lines
 claims_yes a lines files told is all_yes =
-    let digests = digests_are IsYesOrDigest (λ digest. inr (digest, refl)) files in
+    let digests = digests_are IsYesOrDigest (λ digest. inr (digest, inr refl)) files in
     let all = joined_lines IsYesOrDigest (digests_of files) (told_lines told) digests (told_yes told all_yes) in
     let whole = is ∙ all.1 in (
       subst AreWholeLines (sym whole) (whole_lines all.0),

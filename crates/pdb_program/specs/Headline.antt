@@ -83,10 +83,10 @@ HoldsOfYes (prove a) before later input above line = HoldsOfClaim line
 
 -- ---- the program's answers
 
--- the last line says a yes; of `prove` each line does, but for digests
+-- the last line says a yes; of `prove` each line does, but for those of parts of bounds, and for digests
 abbrev pub AreAYes : Asked → Bytes → Type 0
 AreAYes (prove a) lines = AreWholeLines lines × ((above line below : Bytes) → HasLine above line below lines
-    → SaysYes line ⊎ ((rest : Bytes) × (line ≡ codes "sha256 " ++ rest)))
+    → SaysYes line ⊎ ((rest : Bytes) × ((line ≡ codes "part " ++ rest) ⊎ (line ≡ codes "sha256 " ++ rest))))
 AreAYes other lines = (above : Bytes) × (line : Bytes) × HasLine above line [] lines × SaysYes line
 
 -- A run that was asked for this and ends with this status, 0 for a yes and 1 for a no. What a no means of `table`: the bytes under
