@@ -243,7 +243,7 @@ calls() {
 
 # The digest has a thread of its own beside two workers. Tables are built by all processors, whatever the workers.
 calls 2 t table tiles_62 --workers 2
-[ "$(nproc)" = 1 ] || calls 3 t make-table 4 62 made
+[ "$(nproc)" = 1 ] || calls 3 t make-table 4 62 made_table
 for words in 'make-table 2 6 made' 'make-table 4 62 made' 'solve board set_0 made two'; do
     rm -f made
     # shellcheck disable=SC2086
