@@ -1,3 +1,4 @@
 mod LawLemmas
 mod LineLemmas
 mod MarkLemmas
+mod RunLemmas

@@ -110,7 +110,7 @@ fn table_name<'a>(asked: &Request<'a>, number: u64) -> Option<&'a str> {
         Request::LogCheck(check) => &check.tables,
         Request::Search(search) => &search.tables,
         Request::Prove(prove) => &prove.tables,
-        Request::Replay(_) | Request::MakeTable(_) => return None,
+        Request::Replay(_) | Request::MakeTable(_) | Request::Parts(_) => return None,
     };
     let number = usize::try_from(number).ok()?;
     tables.get(number).copied()
@@ -129,6 +129,7 @@ fn name_of<'a>(asked: &Request<'a>, subject: Subject) -> Option<&'a str> {
         (Request::Search(search), Subject::Sets) => Some(search.sets),
         (Request::Prove(prove), Subject::Claims) => Some(prove.claims.unwrap_or("-")),
         (Request::Prove(prove), Subject::Sets) => Some(prove.sets),
+        (Request::Parts(parts), Subject::Board) => Some(parts.board.unwrap_or("-")),
         _ => None,
     }
 }

@@ -15,7 +15,7 @@ use Rattle.clap.specs.declared.error.kind.ErrorKind.TheVariants as kind
 use Rattle.book_core.specs.Books.{most_workers}
 use Rattle.pdb_request.specs.Asked.{Asked, most_budget}
 use Rattle.pdb_words.specs.Budget.{usual_budget}
-use Rattle.pdb_words.specs.CommandLine.{asked_by, asked_of, faults_of, mask_faults_by, parse_faults}
+use Rattle.pdb_words.specs.CommandLine.{asked_by, asked_of, faults_of, value_faults_by, parse_faults}
 use Rattle.pdb_words.specs.Commands.{IsCommand, IsPlain}
 use Rattle.pdb_words.specs.Faults.{IsMistaken}
 use Rattle.pdb_words.specs.Files.{needed_tables}
@@ -151,12 +151,12 @@ parse_comes {name = name} is words =
 
 -- they come to what stands at the end of the walk
 pub comes : {name : Text} → IsCommand name → (words : List Word) {end : Walk × Kinds} {kinds : Kinds} {asked : Asked} → turns (leaf name) start words ≡ end
-    → mask_faults_by name (finished (leaf name).rules end.0.held) ++ or_else end.1 (last_fault (leaf name) end.0.held) ≡ kinds → asked_by name (finished (leaf name).rules end.0.held) ≡ asked
+    → value_faults_by name (finished (leaf name).rules end.0.held) ++ or_else end.1 (last_fault (leaf name) end.0.held) ≡ kinds → asked_by name (finished (leaf name).rules end.0.held) ≡ asked
     → Comes name (map text_of words) kinds asked
 unfolding walk_fault
 comes {name = name} is words run ends found =
     let read = words_read (leaf name) start words ∙ run in (
-      faults_behind name is (map text_of words) ∙ (λ i. mask_faults_by name (finished (leaf name).rules (read i).0.held) ++ or_nothing (or_else (read i).1 (last_fault (leaf name) (read i).0.held)) i) ∙ ends,
+      faults_behind name is (map text_of words) ∙ (λ i. value_faults_by name (finished (leaf name).rules (read i).0.held) ++ or_nothing (or_else (read i).1 (last_fault (leaf name) (read i).0.held)) i) ∙ ends,
       asked_behind name is (map text_of words) ∙ (λ i. asked_by name (finished (leaf name).rules (read i).0.held)) ∙ found,
     )
 
@@ -168,7 +168,7 @@ FitsTables name place leading table more before behind kinds asked =
     let first = turns s start (before ++ leading) in
     let end = turns s (gathering place first.0.held.rows (table ∷ more)) behind in
     ◌≡◌ {A = Option Rule × Walk × Kinds × Asked}
-    (arg_by_index s.rules place, first.0, mask_faults_by name (finished s.rules end.0.held) ++ or_else (or_else first.1 end.1) (last_fault s end.0.held), asked_by name (finished s.rules end.0.held))
+    (arg_by_index s.rules place, first.0, value_faults_by name (finished s.rules end.0.held) ++ or_else (or_else first.1 end.1) (last_fault s end.0.held), asked_by name (finished s.rules end.0.held))
     (Some (tables_rule place), gathering place first.0.held.rows (table ∷ []), kinds (tables_fault place (table ∷ more)), asked)
 
 -- so the words come to this
