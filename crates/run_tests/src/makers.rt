@@ -374,7 +374,7 @@ fn searches_that_find_nothing_keep_nothing(rt: HostRuntime) -> Result<(), Fail> 
     for (texts, table, digest, line) in cases {
         let want = format!(in alloc; "sha256 {digest}\n{line}\n")?;
         for name in ["o", "taken", "six"] {
-            let words = format!(in alloc; "solve {texts} {name} {table}")?;
+            let words = format!(in alloc; "solve {texts} {name} {table} --replace")?;
             let mut shelf = shelf(alloc)?;
             ran_on(&rt, alloc, words.as_str(), &mut shelf)?.expect(want.as_bytes(), 1)?;
             expect_held(&shelf, "o", None)?;
@@ -392,9 +392,12 @@ fn a_name_that_holds_bytes_already_gets_what_was_made(rt: HostRuntime) -> Result
     ran_on(&rt, alloc, "make-table 2 6 taken", &mut first)?;
     expect_held(&first, "taken", Some(&TILES_12))?;
 
-    // So does the name of an input: what it held at the start is what was searched.
+    // So does the name of an input, if that is asked for: what it held at the start is what was searched.
     let mut second = shelf(alloc)?;
-    let ended = ran_on(&rt, alloc, "solve six sets six f12", &mut second)?;
+    let spared = ran_on(&rt, alloc, "solve six sets six f12", &mut second)?;
+    spared.expect(b"fault write six\n", 2)?;
+    expect_held(&second, "six", Some(b"3 2 1 0"))?;
+    let ended = ran_on(&rt, alloc, "solve six sets six f12 --replace", &mut second)?;
     assert!(rt; ended.status == 0 && ended.out.ends_with(b"\noptimal 6\n"));
     let mut third = shelf(alloc)?;
     ran_on(&rt, alloc, "solve six sets o f12", &mut third)?.expect(ended.out.as_slice(), 0)?;

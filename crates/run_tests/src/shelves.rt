@@ -132,7 +132,7 @@ fn what_can_not_be_kept_is_told_alone(rt: HostRuntime) -> Result<(), Fail> {
                 expect_fault(&rt, alloc, &words, &Failure { call, why, said })?;
             }
             for call in [3, 4] {
-                let words = ["solve", "board", "sets", name, "f12"];
+                let words = ["solve", "board", "sets", name, "f12", "--replace"];
                 expect_fault(&rt, alloc, &words, &Failure { call, why, said })?;
             }
         }
