@@ -556,6 +556,8 @@ def kind(command, right):
     if right.errors:
         return f"{command}: mistake"
     words = right.written.decode(errors="replace").splitlines()[-1].split()
+    if words[0].isdigit():
+        return f"{command}: open claims"
     return f"{command}: {' '.join(words[:2] if words[0] in ('refused', 'fault') else words[:1])}"
 
 
