@@ -303,7 +303,7 @@ fn words_ask_for_proofs_of_claims(rt: HostRuntime) -> Result<(), Fail> {
 }
 
 #[test]
-fn words_of_parts(rt: HostRuntime) -> Result<(), Fail> {
+fn words_ask_for_parts_to_be_joined(rt: HostRuntime) -> Result<(), Fail> {
     let cases = [
         ("b 6 3 a", Some("b"), 6, 3, "a"),
         ("- 0 1 a c", None, 0, 1, "a c"),
