@@ -30,8 +30,9 @@ README = ROOT / "README.md"
 RUN = "pdb_program::programs::run"
 CLAUSE = RUN + ".headline"
 HEADLINE = "pdb_program::Headline::Headline"
-# What a log has to be is set apart: of the headline the line on `solve` alone cites it.
-APART = "pdb_verdict::Bound::IsProvedBound"
+# What a log has to be, and what true answers are, is set apart: of the headline the lines on `solve` and `parts` alone cite it.
+LOG = "pdb_verdict::Bound::IsProvedBound"
+ANSWERS = "pdb_parts::Laws::AreTrueAnswers"
 MOST_DEFINITIONS, MOST_LINES = 90, 300
 
 WORD = re.compile(r"[^\s(){}\[\],;.]+(?:\.[^\s(){}\[\],;.]+)*")
@@ -211,21 +212,21 @@ def roots_of(statement):
     return set(filter(None, named_in(clauses_of(lines, function, clause), imports_of(lines), {})))
 
 
-def behind_with_clap(statement, apart=None):
-    """All definitions behind a statement, those of `clap` among them, without this one and what is behind it alone."""
+def behind_with_clap(statement, *apart):
+    """All definitions behind a statement, those of `clap` among them, without these and what is behind them alone."""
     found, left = set(), list(roots_of(statement))
     while left:
         definition = left.pop()
-        if definition in found or definition == apart:
+        if definition in found or definition in apart:
             continue
         found.add(definition)
         left.extend(named_by(definition))
     return found
 
 
-def behind(statement, apart=None):
+def behind(statement, *apart):
     """The same of the checkout's own. No definition of `clap` names one of these."""
-    return {definition for definition in behind_with_clap(statement, apart) if definition.crate != "clap"}
+    return {definition for definition in behind_with_clap(statement, *apart) if definition.crate != "clap"}
 
 
 def size(definitions):
@@ -306,20 +307,24 @@ def clause_text(function_file, function):
 
 
 def check_page(page):
-    headline = behind(HEADLINE, *roots_of(APART))
-    log = behind(APART) - headline
+    headline = behind(HEADLINE, *roots_of(LOG), *roots_of(ANSWERS))
+    log = behind(LOG) - headline
+    answers = behind(ANSWERS) - headline
     clause = behind(CLAUSE)
+    words = clause - headline - log - answers
     for row, definitions in (
         ("the headline", headline),
         ("a log that proves a bound", log),
-        ("what words ask for", clause - headline - log),
+        ("answers that are true", answers),
+        ("what words ask for", words),
         ("the clause, all of it", clause),
         ("all clauses of `run`", behind(RUN)),
     ):
         yield f"the row of {row}: {size(definitions)}", "\n| {} | {} | {} |\n".format(row, *size(definitions)) in page
     yield from check_section(page, "The headline", headline)
     yield from check_section(page, "A log that proves a bound", log)
-    yield from check_section(page, "What words ask for", clause - headline - log)
+    yield from check_section(page, "Answers that are true", answers)
+    yield from check_section(page, "What words ask for", words)
     if (KIT / "clap").exists():
         clap = behind_with_clap(CLAUSE) - clause
         counts = "{} definitions of `clap`, {} lines".format(*size(clap))
@@ -339,7 +344,7 @@ def check_page(page):
 
 def check_readme(page):
     yield "README.md: the clause is quoted", quoted(page, clause_text("programs", "run"))
-    headline, clause = behind(HEADLINE, *roots_of(APART)), behind(CLAUSE)
+    headline, clause = behind(HEADLINE, *roots_of(LOG), *roots_of(ANSWERS)), behind(CLAUSE)
     counts = f"the {len(clause)} short definitions behind it in order: {len(headline)} of them say"
     yield f"README.md: {counts}", counts in page
 

@@ -126,7 +126,7 @@ expect 'a name of more than one byte a letter' 2 'fault read né →' : replay '
 
 for words in --help -h help 'help replay' 'help table' 'help bound' 'help optimal' 'help help' 'replay --help' 'table -h' \
     'bound --help' 'optimal b s l t -h' 'optimal b s --help t' 'help make-table' 'make-table -h' 'help solve' 'solve --help' \
-    'help prove' 'prove --help' 'prove c s t -h'; do
+    'help prove' 'prove --help' 'prove c s t -h' 'help parts' 'parts -h' 'parts b 6 3 a --help'; do
     # shellcheck disable=SC2086
     run $words
     check "help by $words" told_help
@@ -155,6 +155,10 @@ run prove --help
 check 'the help of prove speaks of claims, their answers, no log, and the statuses' told 'CLAIMS has a claim a line' \
     'BOARD ; MOVES' 'BOARD : N' 'bound N of BOARD' 'optimal N of BOARD ; MOVES' 'No log is needed' \
     'Status: 0 yes, 1 refused, 2 bad words or a fault of a read, a write or a maker, 3 no memory.'
+run parts --help
+check 'the help of parts speaks of answer lines, the bound, open claims, and the statuses' told 'ANSWERS are files of lines' \
+    'part I/K of bound N of BOARD' 'bound N of BOARD from K parts' 'BOARD : N part I/K' \
+    'Status: 0 yes, 1 refused, 2 bad words or a fault of a read, a write or a maker, 3 no memory.'
 for words in --version -V '--version table' '-V --help'; do
     # shellcheck disable=SC2086
     run $words
@@ -177,7 +181,10 @@ for words in rplay 'replay a b' 'replay --workers 2' 'replay --workers 2 solved'
     'bound b s l t --replace' 'table --version' 'solve -V' --version=1 'make-table 2 1e o' 'make-table 2 0x o' 'make-table 2 0x1g o' \
     'make-table 2 0x+e o' 'make-table 2 0X1e o' 'make-table 2 0x100000000 o' 'make-table 2 tiles: o' \
     'make-table 2 tiles o' 'make-table 2 tiles:1, o' 'make-table 2 tiles:1,,2 o' 'make-table 2 tiles:2,2 o' \
-    'make-table 2 tiles:01 o' 'make-table 2 tiles:32 o' 'make-table 2 1,2 o' 'make-table 2 tiles:1 o p'; do
+    'make-table 2 tiles:01 o' 'make-table 2 tiles:32 o' 'make-table 2 1,2 o' 'make-table 2 tiles:1 o p' \
+    parts 'parts b' 'parts b 6' 'parts b 6 3' 'parts b 256 3 a' 'parts b -1 3 a' 'parts b x 3 a' 'parts b 6 0 a' 'parts b 6 2 a' \
+    'parts b 6 65534 a' 'parts b 6 65537 a' 'parts b 6 x a' 'parts b 6 3 a --workers 2' 'parts b 6 3 a --fold' \
+    'parts b 6 3 a --budget 1' 'parts b 6 3 a --replace'; do
     # shellcheck disable=SC2086
     run $words
     check "the mistake in $words" told_a_mistake
@@ -195,6 +202,9 @@ no_mask 0xg 'hexadecimal digits write a number up to 0xffffffff, as 0x1e'
 no_mask tiles:3,3 'tiles are numbers from 0 to 31, none twice, with commas between them, as tiles:1,2,3,4'
 run make-table 2 $'\e[2K\x7f' made
 check 'escape codes in a mask' grep -qF "invalid value '?[2K?' for" "$work/errors"
+run parts board 6 2 a
+check 'what is wrong with an even count of parts' \
+    grep -qxF -- "error: invalid value '2' for '<K>': a bound has an odd number of parts" "$work/errors"
 run table F1 --workers $'\e]0;é\a'
 check 'escape codes in another word' grep -qF "invalid value '?]0;???' for" "$work/errors"
 run ''
@@ -640,7 +650,11 @@ no_claim() {
 letters_1000=$(printf 'RL%.0s' {1..500})
 for text in '' '\n' ' ' 'x' '3 2 1' '3 2 1 0 2' '3 2 1 3' '3 2 1 4' '003 2 1 0' '3,2,1,0' '3 2 1 0 ; u' '3 2 1 0 ;; U' \
     '3 2 1 0 ; U : 6' '3 2 1 0 : 6 ; U' '; U' ': 6' '3 2 1 0 :' '3 2 1 0 : 06' '3 2 1 0 : 256' '3 2 1 0 : -1' '3 2 1 0 : 1 2' \
-    '3 2 1 0 : 6 : 6' '3 2 1 0 : 6.' '3 2 1 0 : +6' '3 2 1 0 : 1000' 'optimal 6 of 3 2 1 0' "0 1 2 3 ;${letters_1000}R"; do
+    '3 2 1 0 : 6 : 6' '3 2 1 0 : 6.' '3 2 1 0 : +6' '3 2 1 0 : 1000' 'optimal 6 of 3 2 1 0' "0 1 2 3 ;${letters_1000}R" \
+    '3 2 1 0 : 6 part' '3 2 1 0 : 6 part 0' '3 2 1 0 : 6 part 0/' '3 2 1 0 : 6 part /3' '3 2 1 0 : 6 part 0/2' \
+    '3 2 1 0 : 6 part 3/3' '3 2 1 0 : 6 part 0/0' '3 2 1 0 : 6 part 00/3' '3 2 1 0 : 6 part 0/03' '3 2 1 0 : 6 part 0/65537' \
+    '3 2 1 0 : 6 part -1/3' '3 2 1 0 : 6 part 0 /3' '3 2 1 0 : 6 part 0/3 1/3' '3 2 1 0 : 6 parts 0/3' '3 2 1 0 : 6part 0/3' \
+    '3 2 1 0 : 06 part 0/3' '3 2 1 0 : 256 part 0/3' '3 2 1 0 part 0/3' '3 2 1 0 : part 0/3' '3 2 1 0 ; U part 0/3'; do
     no_claim 0 "$text"
     [ -z "$text" ] || no_claim 1 "3 2 1 0\n$text\n3 2 1 0\nx\n"
 done
@@ -688,6 +702,56 @@ status=0
 check 'the first answers for a reader that goes away' cmp -s "$work/output" <(yes "${true_answers[0]}" | head -n 3)
 check 'the run of a reader that goes away' [ "$(cat "$work/status")" = 2 ]
 rm many_claims
+
+#
+# Parts of bounds.
+#
+
+printf '%s\n' '3 2 1 0 : 6 part 0/3' $'3 2 1 0:6\tpart 1/3' ' 3 02 1 0 :  6  part 2/3 ' >part_claims
+proves_each_way part_claims one_set F12 0 'part 0/3 of bound 6 of 3 2 1 0' 'part 1/3 of bound 6 of 3 2 1 0' \
+    'part 2/3 of bound 6 of 3 2 1 0'
+# A solution of few moves is of each part.
+printf '%s\n' '3 2 1 0 : 7 part 0/1' '3 2 1 0 : 7 part 64/65' '0 1 3 2 : 0 part 0/1' '3 2 1 0 : 6 part 0/65535' \
+    '0 1 2 3 : 0 part 62/63' '0 1 2 3 : 1 part 62/63' '1 0 2 3' >other_part_claims
+proves_each_way other_part_claims one_set F12 1 'refused O2 by ULDRUL of 3 2 1 0 : 7 part 0/1' \
+    'refused O2 by ULDRUL of 3 2 1 0 : 7 part 64/65' 'refused K2 of 0 1 3 2 : 0 part 0/1' \
+    'part 0/65535 of bound 6 of 3 2 1 0' 'part 62/63 of bound 0 of 0 1 2 3' 'refused O2 by of 0 1 2 3 : 1 part 62/63' \
+    'optimal 1 of 1 0 2 3 ; L'
+proves part_claims one_set F12 1 'refused K1 of 3 2 1 0 : 6 part 0/3' 'refused K1 of 3 2 1 0 : 6 part 1/3' \
+    'refused K1 of 3 2 1 0 : 6 part 2/3' : --budget 1
+
+"$program" prove part_claims one_set F12 >part_lines
+"$program" prove other_part_claims one_set F12 >other_part_lines
+expect 'what prove wrote of all parts' 0 'bound 6 of 3 2 1 0 from 3 parts' : parts board 6 3 part_lines
+input=board
+expect 'parts of a board on standard input' 0 'bound 6 of 3 2 1 0 from 3 parts' : parts - 6 3 other_part_lines part_lines
+input=/dev/null
+expect 'parts of another bound' 1 '3 2 1 0 : 5 part 0/1' : parts board 5 1 part_lines other_part_lines
+expect 'parts of another count' 1 '3 2 1 0 : 6 part 0/1' : parts board 6 1 part_lines other_part_lines
+expect 'parts of another board' 1 '0 1 2 3 : 6 part 0/3' '0 1 2 3 : 6 part 1/3' '0 1 2 3 : 6 part 2/3' : \
+    parts <(echo '0 1 2 3') 6 3 part_lines
+grep -v '^part 1/3 ' part_lines >lines_without_1
+expect 'a part that is left out' 1 '3 2 1 0 : 6 part 1/3' : parts board 6 3 lines_without_1
+"$program" parts board 6 3 lines_without_1 >open_claims
+proves open_claims one_set F12 0 'part 1/3 of bound 6 of 3 2 1 0' :
+printf 'part 1/3 of bound 6 of 3 2 1 0' >cut_line
+expect 'a last line that is cut' 1 '3 2 1 0 : 6 part 1/3' : parts board 6 3 lines_without_1 cut_line
+echo >>cut_line
+expect 'the same line, whole' 0 'bound 6 of 3 2 1 0 from 3 parts' : parts board 6 3 lines_without_1 cut_line
+expect 'parts of a text that is no board' 1 'refused B3 count 0' : parts /dev/null 6 3 part_lines
+expect 'parts of a board that is not there' 2 'fault read B' : parts B 6 3 part_lines
+expect 'answers that are not there' 2 'fault read A' : parts board 6 3 part_lines A
+truncate -s 67108865 long_answers
+expect 'answers over their limit' 2 'fault size long_answers' : parts board 6 3 part_lines long_answers
+truncate -s 67108864 long_answers
+expect 'answers of as many bytes as they may have' 0 'bound 6 of 3 2 1 0 from 3 parts' : parts board 6 3 long_answers part_lines
+rm long_answers
+for answers in part_lines lines_without_1; do
+    status=0
+    "$program" parts board 6 3 "$answers" 2>"$work/errors" >/dev/full || status=$?
+    : >"$work/output"
+    check "what comes of $answers on a full standard output" [ "$status" = 2 ]
+done
 
 #
 # Inputs of a claim that are not there, or too long.
@@ -749,6 +813,8 @@ limit_memory solve board one_set made F12 --workers 7
 limit_memory solve board one_set made F12 --fold
 limit_memory prove true_claims one_set F12 --workers 7
 limit_memory prove false_claims one_set F12 --workers 64 --fold
+limit_memory prove part_claims one_set F12 --workers 7
+limit_memory parts board 6 65535 part_lines
 rm -f made
 check 'memory was refused to some runs' [ "$refusals" -gt 0 ]
 
@@ -762,7 +828,8 @@ for words in '' 'table F123' 'table F123 --workers 2' 'table F123_with_02' 'make
     'optimal six_moves pair leaf F12 F3 --fold --workers 2' 'solve next_board one_set made F123' \
     'solve board with_mirror_and_1 made F1 F3' 'solve board one_set made F12 --fold' \
     'solve board pair made F12 F3 --fold --workers 2' 'prove true_claims one_set F12' 'prove false_claims one_set F12 --workers 2' \
-    'prove true_claims with_mirror_and_1 F1 F3 --fold --workers 7' 'prove claims one_set F12'; do
+    'prove true_claims with_mirror_and_1 F1 F3 --fold --workers 7' 'prove claims one_set F12' \
+    'prove other_part_claims one_set F12' 'parts board 6 3 part_lines' 'parts board 6 3 lines_without_1 other_part_lines'; do
     status=0
     # shellcheck disable=SC2086
     PROGRAM=$bare "$root/tools/refuse_memory.sh" $words <solved >"$work/output" 2>"$work/errors" || status=$?
@@ -830,6 +897,8 @@ limit_stack solve board sixteen_mirrors made "${most_tables[@]}" --workers 64
 limit_stack solve board sixteen_mirrors made "${most_tables[@]}" --workers 64 --fold
 limit_stack prove true_claims one_set "${most_tables[@]}" --workers 64
 limit_stack prove false_claims sixteen_mirrors "${most_tables[@]}" --workers 64 --fold
+limit_stack prove other_part_claims one_set "${most_tables[@]}" --workers 64
+limit_stack parts board 6 65535 part_lines
 rm -f made
 
 #

@@ -1,5 +1,5 @@
 """Good inputs of every kind, drawn at random: puzzle texts, exact tables, set texts, logs that prove their bounds, patterns,
-searches and claims."""
+searches, claims and answers on parts of bounds."""
 
 import functools
 import itertools
@@ -237,18 +237,27 @@ def line_text(draw, board):
     return board_text(draw, board).replace(b"\n", draw.choice([b" ", b"\t", b"\r"]))
 
 
+def part_of_some(draw):
+    """The index of a part, and how many there are."""
+    count = draw.choice([1, 3, 3, 7, 15, 17, 63, 65]) if draw.random() < 0.97 else 65_535
+    return draw.randrange(count), count
+
+
 def claim_line(draw, side, steps):
     """A line of any kind on a board near the goal board, true or false, or on one that has no solution."""
-    board, letters = walk(draw, side, draw.randint(0, steps))
+    kind = draw.choice(["shortest", "moves", "bound", "part"])
+    # Of a shorter solution there are too few letters to tell a part.
+    far = 10 if kind == "part" and side == 3 else 0
+    board, letters = walk(draw, side, draw.randint(far, steps + far))
     if draw.random() < 0.1:
         board = unsolvable(board)
-    kind = draw.choice(["shortest", "moves", "bound"])
     if kind == "shortest":
         return line_text(draw, board)
-    if kind == "bound":
+    if kind in ("bound", "part"):
         bound = max(len(letters) + draw.choice([-2, -1, 0, 0, 0, 1, 2]), 0)
         bound = draw.choice([0, 1, 255]) if draw.random() < 0.1 else bound
-        return line_text(draw, board) + draw.choice([b":", b" : "]) + b"%d" % bound + draw.choice([b"", b" ", b"\r"])
+        part = b" part %d/%d" % part_of_some(draw) if kind == "part" else b""
+        return line_text(draw, board) + draw.choice([b":", b" : "]) + b"%d" % bound + part + draw.choice([b"", b" ", b"\r"])
     letters += draw.choice(["", "", "", "RL", "DU", "R", "L"])
     return line_text(draw, board) + draw.choice([b";", b" ; "]) + letters.encode() + draw.choice([b"", b" ", b"\r"])
 
@@ -269,3 +278,27 @@ def claims(draw):
         # Depth first, and so far down, a search of a large board hardly ends.
         budget = min(budget or 1000, 1000)
     return text, budget, set_text(draw, files), files
+
+
+def answers_on_parts(draw):
+    """A board, a bound, a count of parts, and texts of answer lines, most of which say that a part of that bound holds."""
+    board, letters = walk(draw, draw.choice([2, 3, 4, 5]), draw.randint(0, 40))
+    bound, (_, count) = draw.choice([len(letters), 0, 255]), part_of_some(draw)
+    numbers = b" ".join(b"%d" % number for number in board)
+    line = b"part %d/%d of bound %d of %b\n"
+    lines = [line % (index, count, bound, numbers) for index in range(count)]
+    if draw.random() < 0.5:
+        lines.pop(draw.randrange(count))
+    others = [
+        line % (0, count + 2, bound, numbers),
+        line % (0, count, (bound + 1) % 256, numbers),
+        line % (0, count, bound, numbers[::-1]),
+        b"refused K1 of %b : %d part 0/%d\n" % (numbers, bound, count),
+        b"sha256 %064x\n" % draw.getrandbits(256),
+        b"bound %d of %b\n" % (bound, numbers),
+    ]
+    lines += draw.sample(others, draw.randint(0, len(others)))
+    draw.shuffle(lines)
+    cuts = [0, *sorted(draw.randint(0, len(lines)) for _ in range(draw.choice([0, 0, 1, 2]))), len(lines)]
+    texts = [b"".join(lines[one:other]) for one, other in zip(cuts, cuts[1:])]
+    return board, bound, count, texts

@@ -4,7 +4,8 @@
 entry by entry, and besides by a breadth-first search over placements and regions: the two must agree. A table of 65,536
 entries and more is compared with the search, and where it differs, the rule is asked of all entries that can break it.
 What `solve` and `prove` find is their own: moves must solve the board, and be as few as a breadth-first search over boards
-says, or fewer than the claim says; and a log that is kept must prove that they are.
+says, or fewer than the claim says; and a log that is kept must prove that they are. A part of a bound holds where the least
+solution that the breadth-first search finds is no shorter than the bound, or of another part.
 """
 
 import functools
@@ -20,9 +21,10 @@ REVERSE = {"U": "D", "D": "U", "L": "R", "R": "L"}
 MOST_TILES = {2: 3, 3: 8, 4: 8, 5: 6}
 NO_REGION, NEVER = 254, 255
 BRANCH, LEAF, CITATION, PARITY_LEAF = 0x00, 0x01, 0x20, 0x41
-TEXT_LIMIT, CLAIMS_LIMIT, LOG_LIMIT, TABLE_LIMIT = 65_536, 2**26, 2**30, 2**32
+TEXT_LIMIT, CLAIMS_LIMIT, ANSWERS_LIMIT, LOG_LIMIT, TABLE_LIMIT = 65_536, 2**26, 2**26, 2**30, 2**32
 MOST_LEMMAS = MOST_CLAIMS = 1_048_576
 MOST_LETTERS = 1000
+MOST_PARTS = 65_535
 USUAL_BUDGET = 1_000_000
 MANY_ENTRIES = 65_536
 # The budget of a search of which nothing is said.
@@ -143,11 +145,13 @@ def read_puzzle(text):
 @dataclass(frozen=True)
 class Claim:
     """A board, and the letters that are said to be a shortest solution of it, or the number of moves that no solution is said
-    to be below, or neither, where a shortest solution is asked for."""
+    to be below, or neither, where a shortest solution is asked for. Of that bound a part may be claimed: its index and how
+    many parts there are."""
 
     board: tuple
     letters: str | None = None
     bound: int | None = None
+    part: tuple | None = None
 
     def __str__(self):
         """The claim as answers name it."""
@@ -156,7 +160,18 @@ class Claim:
             words += [";", self.letters] if self.letters else [";"]
         if self.bound is not None:
             words += [":", str(self.bound)]
+        if self.part is not None:
+            words += ["part", "%d/%d" % self.part]
         return " ".join(words)
+
+
+# What stands behind the `:` of a claim.
+BOUND = re.compile(rb"[ \t\r\n]*(0|[1-9]\d{0,2})([ \t\r\n]+part[ \t\r\n]+(0|[1-9]\d{0,4})/([1-9]\d{0,4}))?[ \t\r\n]*")
+
+
+def may_be_parts(count):
+    """Whether a bound may have so many parts."""
+    return count % 2 == 1 and count <= MOST_PARTS
 
 
 def read_claim(line):
@@ -170,10 +185,14 @@ def read_claim(line):
     before, colon, behind = line.partition(b":")
     if not colon:
         return Claim(read_board(line))
-    numeral = behind.strip(SEPARATORS)
-    if not re.fullmatch(rb"0|[1-9][0-9]{0,2}", numeral) or int(numeral) > 255:
+    if not (found := BOUND.fullmatch(behind)) or int(found[1]) > 255:
         raise Refused("no bound")
-    return Claim(read_board(before), bound=int(numeral))
+    if found[2] is None:
+        return Claim(read_board(before), bound=int(found[1]))
+    index, count = int(found[3]), int(found[4])
+    if index >= count or not may_be_parts(count):
+        raise Refused("no part")
+    return Claim(read_board(before), bound=int(found[1]), part=(index, count))
 
 
 def read_claims(text):
@@ -608,6 +627,20 @@ def least_moves(board):
     return moves.get(board)
 
 
+def is_of_part(board, part):
+    """Whether the least solution of the board, by length and then by its letters in the order U D L R, is of this part."""
+    index, count = part
+    digits = next(digits for digits in itertools.count(1) if count < 4**digits)
+    rank, letters = 0, 12 + digits
+    if least_moves(board) < letters:
+        return True
+    for _ in range(letters):
+        there = {letter: moved(board, letter) for letter in ways(side_of(board), board.index(0))}
+        letter = next(letter for letter in there if least_moves(there[letter]) == least_moves(board) - 1)
+        rank, board = 4 * rank + LETTERS.index(letter.encode()), there[letter]
+    return rank % count == index
+
+
 def has_solution(board):
     """Whether the board has a solution: a move changes the parity of the order of all numbers, and that of the blank's
     distance from its corner."""
@@ -696,16 +729,24 @@ def right_line(claim, line, budget):
     least = least_moves(board)
     if shorter_by(line, claim, fewer) and least != fewer:
         return line
-    if least is not None and least < fewer:
+    if least is not None and least < fewer and (claim.part is None or is_of_part(board, claim.part)):
         return f"refused O2 by .. of {shown}".encode()
+    if claim.part is not None:
+        return part_line(claim)
     if claim.letters is None:
         plain = " ".join(map(str, board))
         return f"bound {fewer} of {plain}".encode()
     return (f"optimal {fewer} of {shown}" if fewer <= 255 else f"refused K2 of {shown}").encode()
 
 
+def part_line(claim):
+    """The line that says that the part of a bound holds which is claimed."""
+    plain = " ".join(map(str, claim.board))
+    return b"part %d/%d of bound %d of %s" % (*claim.part, claim.bound, plain.encode())
+
+
 def is_yes(line):
-    return line.startswith((b"optimal ", b"bound "))
+    return line.startswith((b"optimal ", b"bound ", b"part "))
 
 
 def solved(run, ended, board, sets, tables):
@@ -733,7 +774,8 @@ def solved(run, ended, board, sets, tables):
 @dataclass(frozen=True)
 class Run:
     """A command, the names that it reads, the bytes that files have, the name that it keeps under, the numbers of a side and
-    a mask, the budget of a search where one is named, how many workers are asked for, and whether tables are to be folded."""
+    a mask or of a bound and its parts, the budget of a search where one is named, how many workers are asked for, and whether
+    tables are to be folded."""
 
     command: str
     names: tuple
@@ -752,11 +794,13 @@ class Run:
         return ENDLESS if self.command == "prove" else USUAL_BUDGET
 
     def words(self):
-        names = [name for name in self.names if name != STANDARD_INPUT or self.command == "prove"]
+        names = [name for name in self.names if name != STANDARD_INPUT or self.command in ("parts", "prove")]
         flags = ["--workers", str(self.workers)] if self.workers != 1 else []
         flags += ["--budget", str(self.budget)] if self.budget is not None else []
         flags += ["--fold"] if self.fold else []
         kept = [] if self.out is None else [self.out]
+        if self.command == "parts":
+            return [self.command, *names[:1], *map(str, self.numbers), *names[1:]]
         return [self.command, *flags, *map(str, self.numbers), *names[:2], *kept, *names[2:]]
 
 
@@ -791,6 +835,8 @@ def limits(command, count):
         return [TEXT_LIMIT]
     if command == "table":
         return [TABLE_LIMIT]
+    if command == "parts":
+        return [TEXT_LIMIT] + [ANSWERS_LIMIT] * (count - 1)
     texts = {"solve": [TEXT_LIMIT] * 2, "prove": [CLAIMS_LIMIT, TEXT_LIMIT], "make-table": []}
     texts = texts.get(command, [TEXT_LIMIT, TEXT_LIMIT, LOG_LIMIT])
     return texts + [TABLE_LIMIT] * (count - len(texts))
@@ -805,7 +851,7 @@ def digest_line(file):
 
 
 def digest_lines(command, inputs):
-    digested = {"replay": [], "table": inputs, "make-table": [], "solve": inputs[2:], "prove": inputs[2:] + inputs[:1]}
+    digested = {"replay": [], "parts": [], "table": inputs, "make-table": [], "solve": inputs[2:], "prove": inputs[2:] + inputs[:1]}
     return b"".join(digest_line(file) for file in digested.get(command, inputs[3:] + inputs[2:3]))
 
 
@@ -848,6 +894,19 @@ def claims_answered(run, ended, inputs):
     return [right_line(claim, line, run.boards) for claim, line in pairs]
 
 
+def parts_joined(run, inputs):
+    """The lines of a bound whose parts are joined, and the status."""
+    text, *answers = inputs
+    board, (bound, count) = read_board(text), run.numbers
+    lines = {line for answer in answers for line in answer.split(b"\n")[:-1]}
+    claims = [Claim(board, bound=bound, part=(index, count)) for index in range(count)]
+    left = [claim for claim in claims if part_line(claim) not in lines]
+    if left:
+        return "".join(f"{claim}\n" for claim in left).encode(), 1
+    plain = " ".join(map(str, board))
+    return f"bound {bound} of {plain} from {count} parts\n".encode(), 0
+
+
 def is_spared(run):
     """Whether OUT is an input of the run, or holds a file of the other kind: a table or a log, by its first five bytes."""
     fronts = [b"PDBT\1"] if run.command == "solve" else [b"PDBL\1", b"PDBL\2"]
@@ -863,6 +922,8 @@ def can_be_kept(name):
 def is_mistaken(run):
     """Whether a number among the words is none that they may have, or the command has nothing to fold."""
     within = [0 <= number < limit for number, limit in zip(run.numbers, [256, 2**32])]
+    if run.command == "parts":
+        within.append(may_be_parts(run.numbers[1]))
     can_fold = run.command in ("bound", "optimal", "solve", "prove")
     in_budget = run.budget is None or 1 <= run.budget <= 10**12
     return not (all(within) and in_budget and 1 <= run.workers <= 64 and can_fold >= run.fold)
@@ -886,6 +947,9 @@ def answer(run, ended):
         if run.command == "prove":
             told = claims_answered(run, ended, inputs)
             return Ended(lines + b"".join(line + b"\n" for line in told), int(not all(map(is_yes, told))), run.files)
+        if run.command == "parts":
+            told, status = parts_joined(run, inputs)
+            return Ended(told, status, run.files)
         if run.command == "make-table":
             told, made = made_table(run)
         elif run.command == "solve":

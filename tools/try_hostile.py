@@ -393,8 +393,29 @@ def proved(draw, number):
     return Run("prove", (name, "sets", *named(tables)), files, budget=budget, workers=workers(draw), fold=draw.random() < 0.3)
 
 
+def changed_count(draw, count):
+    """A count of parts, or another number."""
+    return count if draw.random() < 0.9 else draw.choice([0, 1, 2, count + 1, count + 2, 65_535, 65_536, 65_537])
+
+
+def joined(draw, _number):
+    """A run of `parts`, most of whose inputs are good."""
+    board, bound, count, texts = good_inputs.answers_on_parts(draw)
+    text = good_inputs.board_text(draw, board)
+    which = draw.choice(["nothing"] * 3 + ["text"] + ["answers"] * 3)
+    if which == "text":
+        text = long_text(draw, changed(draw, text))
+    if which == "answers":
+        place = draw.randrange(len(texts))
+        texts[place] = changed(draw, texts[place])
+    name = draw.choice([STANDARD_INPUT, "board", "board"])
+    answers = {f"answers{number}": data for number, data in enumerate(texts)}
+    bound = bound if draw.random() < 0.95 else draw.choice([bound + 1, 255, 256])
+    return Run("parts", (name, *answers), {name: text, **answers}, numbers=(bound, changed_count(draw, count)))
+
+
 KINDS = [replayed] * 20 + [checked] * 35 + [checked_large] * 3 + [log_checked] * 30 + [made] * 5 + [solved] * 7
-KINDS += [proved] * 15
+KINDS += [proved] * 15 + [joined] * 10
 
 
 def drawn(seed, number):
@@ -535,6 +556,8 @@ def kind(command, right):
     if right.errors:
         return f"{command}: mistake"
     words = right.written.decode(errors="replace").splitlines()[-1].split()
+    if words[0].isdigit():
+        return f"{command}: open claims"
     return f"{command}: {' '.join(words[:2] if words[0] in ('refused', 'fault') else words[:1])}"
 
 

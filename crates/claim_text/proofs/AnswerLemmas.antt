@@ -95,7 +95,8 @@ asks-no_lf (part n p) =
     let bounded = join_no_lf (codes " : ") (decimal n) (known (codes " : ") refl) (decimal-no_lf n) in
     join_no_lf (codes " : " ++ decimal n ++ codes " part ") (part_words p) (join_no_lf (codes " : " ++ decimal n) (codes " part ") bounded (known (codes " part ") refl)) (part-no_lf p)
 
-claim-no_lf : (claim : ShownClaim) → HasNo 10 (claim_words claim)
+-- nor do the words of a claim
+pub claim-no_lf : (claim : ShownClaim) → HasNo 10 (claim_words claim)
 claim-no_lf claim = join_no_lf (numbers claim.board) (asks_words claim.asks) (numbers-no_lf claim.board) (asks-no_lf claim.asks)
 
 -- behind `of`, whatever comes before it

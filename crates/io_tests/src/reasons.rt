@@ -3,7 +3,7 @@
 use byte_io::memory::MemShelf;
 use byte_io::streams::put_bytes;
 use pdb_reason::{Beginning, Heard, Reason};
-use pdb_request::{Claim, LogCheck, MakeTable, Prove, Replay, Request, Search, TableCheck};
+use pdb_request::{Claim, LogCheck, MakeTable, Parts, Prove, Replay, Request, Search, TableCheck};
 use std::alloc::{AllocError, Global};
 use std::process::Abort;
 use std::test::Fail;
@@ -232,6 +232,49 @@ fn names_of_one_file_and_of_none(rt: HostRuntime) -> Result<(), Fail> {
     let write =
         "pdb_cli: out: nothing can be kept there: does its folder exist, may you write there, and is there room?";
     each_has_its_sentence(&rt, rt.alloc(), &make, &[("fault write out", any, write)])
+}
+
+/// Parts of a bound of the board in this file, or of standard input, joined.
+fn parts<'a>(alloc: Global, board: Option<&'a str>) -> Result<Request<'a>, AllocError> {
+    Ok(Request::Parts(Parts {
+        board,
+        bound: 6,
+        count: 3,
+        answers: vec![in alloc; "answers"]?,
+    }))
+}
+
+#[test]
+fn parts_have_their_sentences(rt: HostRuntime) -> Result<(), Fail> {
+    let any = Beginning::OfAny;
+    let cases = [
+        (
+            "refused B1 at byte 6",
+            any,
+            "pdb_cli: b: byte 6 of the board is no digit, space, tab or line end",
+        ),
+        (
+            "fault size answers",
+            any,
+            "pdb_cli: answers: it has more bytes than such a file may have",
+        ),
+        ("3 2 1 0 : 6 part 0/3", any, ""),
+        ("bound 6 of 3 2 1 0 from 3 parts", any, ""),
+    ];
+    each_has_its_sentence(&rt, rt.alloc(), &parts(rt.alloc(), Some("b"))?, &cases)?;
+    let of_input = [
+        (
+            "refused B1 at byte 6",
+            any,
+            "pdb_cli: standard input: byte 6 of the board is no digit, space, tab or line end",
+        ),
+        (
+            "fault read -",
+            any,
+            "pdb_cli: standard input: it can't be read: is it there, is it no folder, and may you read it?",
+        ),
+    ];
+    each_has_its_sentence(&rt, rt.alloc(), &parts(rt.alloc(), None)?, &of_input)
 }
 
 /// What is said where nothing is kept under `out`, on a shelf with these files.

@@ -1,3 +1,5 @@
 mod LawLemmas
 mod LineLemmas
 mod MarkLemmas
+pub mod ReplyLemmas
+mod RunLemmas

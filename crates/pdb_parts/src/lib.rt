@@ -1,10 +1,12 @@
-//! Parts of a bound, joined: which of them lines say to hold, and which are still open.
+//! The command `parts`: a bound, where lines say that each of its parts holds, or the parts that are still open.
 #![tactic(auto)]
 
 mod joining;
 pub mod laws;
 mod marks;
+mod runs;
 mod whole_lines;
 
 pub use joining::{Joined, join};
 pub use marks::BoundInParts;
+pub use runs::run_parts;

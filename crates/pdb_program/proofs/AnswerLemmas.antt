@@ -1,18 +1,27 @@
 -- What a run of a command that answers once writes: lines that say no yes, and a last line.
-use Rattle.std.proofs.Common.{◌≡◌, ◌∙◌, ap, ℕ, true, List, [], ◌∷◌, ◌++◌, Some, Ok, Err, Result, append_assoc, arith, codes, decimal, map, not, refl, subst, sym}
+use Rattle.std.proofs.Common.{◌≡◌, ◌∙◌, ◌*◌, ◌<◌, ◌≤◌, ◌&&◌, ap, ℕ, suc, Bool, true, false, List, [], ◌∷◌, ◌++◌, Some, Ok, Err, Result, append_assoc, arith, codes, cond, decimal, filter, flat_map, length, lit<, map, not, refl, subst, sym}
 use Rattle.std.proofs.lemmas.List.{append-nil}
 use Rattle.std.proofs.lemmas.List.Elements.{All-cons, All-nil}
 use Rattle.std.specs.Prelude.{◌==◌, ◌≢◌}
-use Rattle.claim_text.specs.Claims.{HasNo}
-use Rattle.claim_text.proofs.AnswerLemmas.{decimal-no_lf, join_no_lf}
+use Rattle.std.specs.List.{list_all, range_with_len}
+use Rattle.claim_text.specs.Claims.{HasNo, ShownAsks, part}
+use Rattle.claim_text.specs.Lines.{asks_words, bounded, claim_line, joined_line, numbers, told_text}
+use Rattle.claim_text.specs.Parts.{part_at}
+use Rattle.claim_text.proofs.AnswerLemmas.{answer-no_lf, claim-no_lf, decimal-no_lf, join_no_lf, no_side}
+use Rattle.claim_text.proofs.CutLemmas.{other_rest}
+use Rattle.puz_board.specs.Boards.{IsBoard, side_of}
+use Rattle.puz_board.specs.BoardTexts.{board_of_text}
 use Rattle.puz_board.specs.MovesTexts.{moves_of}
+use Rattle.puz_board.specs.declared.texts.BoardFault.{BoardFault}
+use Rattle.puz_board.proofs.BoardLemmas.{cells_most}
+use Rattle.puz_board.proofs.SpellingLemmas.{spelled-board_of_text}
 use Rattle.puz_board.specs.declared.moves.Move.{Move}
 use Rattle.puz_board.specs.declared.moves.Move.TheVariants.{Up, Down, Left, Right}
 use Rattle.byte_io.specs.Shelf.{Bytes}
 use Rattle.byte_io.specs.declared.shelf.KeepFault.{KeepFault}
 use Rattle.byte_io.specs.declared.shelf.KeepFault.TheVariants as keep
 use Rattle.byte_io.specs.declared.streams.ReadFault.TheVariants as read
-use Rattle.pdb_request.specs.Asked.{Asked, ProveArguments, bound, make_table, optimal, prove, replay, solve, table}
+use Rattle.pdb_request.specs.Asked.{Asked, PartsArguments, ProveArguments, bound, make_table, optimal, parts, prove, replay, solve, table}
 use Rattle.pdb_run.specs.Commands.{Reply}
 use Rattle.pdb_run.specs.Inputs.{Failures}
 use Rattle.pdb_run.specs.Runs.{HasCause, IsRight, Outcome, World, made_wrong, no_memory, replied, spared, status_of, status_of_reply, text_of, unkept, unkept_status, unkept_text, unlisted, unread, unwritable}
@@ -23,13 +32,17 @@ use Rattle.pdb_verdict.specs.Inputs.{Given}
 use Rattle.pdb_verdict.specs.Lines.{counted, line_of_fault, line_of_verdict, reply_to}
 use Rattle.pdb_verdict.specs.Verdicts.{TellsResult}
 use Rattle.pdb_verdict.specs.declared.verdicts.Fault.{Fault}
+use Rattle.pdb_verdict.specs.declared.verdicts.Fault.TheVariants as fault
 use Rattle.pdb_verdict.specs.declared.verdicts.Verdict.{Verdict}
 use Rattle.pdb_verdict.specs.declared.verdicts.Verdict.TheVariants as verdict
 use Rattle.pdb_keep.specs.MakeTable.{Build, built, reply_to_build, unbuilt}
 use Rattle.pdb_keep.specs.Solve.{SearchOutcome, letter_of, letters_of, moves_line, reply_to_search, searched, unmade}
+use Rattle.pdb_parts.specs.Joining.{ShownBoundInParts, are_told, is_told, open_claim, open_claims, whole_lines}
+use Rattle.pdb_parts.specs.Parts.{IsPartsReply, asked_of_board, joined_reply, parts_reply}
 use Rattle.pdb_program.specs.Programs.{plan_of}
 use Rattle.pdb_program.proofs.ElseLemmas.{IsElseLine, IsOfNoYes, SaysElse, SaysNoYes, digest_no_yes, digests_are, else_alone, else_no_yes, fault_line, known, maker, memory, named, says_else, with_number}
 use Rattle.pdb_program.proofs.LineLemmas.{joined_lines}
+use Rattle.pdb_program.proofs.SpellLemmas.{digit_first}
 
 -- this line is the last of the lines, and those above it say no yes
 pub record IsLast (line lines : Bytes) : Type 0 where
@@ -153,6 +166,7 @@ else_moves behind one = (
   (λ e. omega (arith, e)),
   (λ e. omega (arith, e)),
   (λ e. omega (arith, e)),
+  (λ e. omega (arith, e)),
   join_no_lf (codes "moves") behind (known (codes "moves") refl) one,
 )
 
@@ -173,6 +187,93 @@ search_answer tables (searched moves log n) =
     digested tables (log ∷ []) _ Yes
     (yes_answer (codes "optimal " ++ decimal n) _ (behind_lines (moves_line (letters_of moves)) _ (counted (codes "optimal ") n) (moves_say_no_yes moves) last))
 
+-- ---- parts of bounds
+
+-- the words of the line of a bound in parts
+abbrev pub joined_words : (n count : ℕ) → List ℕ → Bytes
+joined_words n count b = codes "bound " ++ decimal n ++ codes " of" ++ numbers b ++ codes " from " ++ decimal count ++ codes " parts"
+
+-- they are one line
+pub joined_one : (n count : ℕ) (b : List ℕ) → HasNo 10 (joined_words n count b)
+joined_one n count b =
+    let bound = told_text (bounded n b) in
+    let front = bound ++ codes " from " in
+    let one = join_no_lf bound (codes " from ") (answer-no_lf (bounded n b) tt) (known (codes " from ") refl) in
+    join_no_lf (front ++ decimal count) (codes " parts") (join_no_lf front (decimal count) one (decimal-no_lf count)) (known (codes " parts") refl)
+
+-- which their end makes whole
+pub joined_ended : (n count : ℕ) (b : List ℕ) → joined_line n count b ≡ joined_words n count b ++ codes "\n"
+joined_ended n count b = sym (append_assoc (told_text (bounded n b) ++ codes " from " ++ decimal count) (codes " parts") (codes "\n"))
+
+digit_other : (digit letter : ℕ) → digit ≤ 57 → 57 < letter → digit ≢ letter
+digit_other digit letter low high = λ same. omega (arith, low, high, same)
+
+-- the line of a claim begins with a digit, so it says no yes
+claim_else : (b : List ℕ) (asks : ShownAsks) → IsBoard b → IsElseLine (claim_line (record { board = b; asks = asks }))
+claim_else [] asks board = absurd (let low : 2 ≤ side_of [] = board.low in no_side low)
+claim_else (n ∷ b) asks board =
+    let most : side_of (n ∷ b) * side_of (n ∷ b) ≤ 25 = cells_most (side_of (n ∷ b)) (n ∷ b) board in
+    let size : suc (length b) ≡ side_of (n ∷ b) * side_of (n ∷ b) = board.size in
+    let low : n < side_of (n ∷ b) * side_of (n ∷ b) = board.below 0 (omega (arith, size)) in
+    let digit = digit_first n (omega (arith, low, most)) in
+    let words = decimal n ++ numbers b ++ asks_words asks in
+    let one : HasNo 10 words = other_rest 10 32 words (claim-no_lf (record { board = n ∷ b; asks = asks })) in
+    let begins : words ≡ digit.0 ∷ (digit.1 ++ numbers b ++ asks_words asks) = ap (λ (t : Bytes). t ++ numbers b ++ asks_words asks) digit.2 in
+    let other = λ (letter : ℕ) (high : 57 < letter). digit_other digit.0 letter digit.4 high in (
+      words,
+      refl,
+      subst SaysElse (sym begins)
+          (other 115 (lit< tt), other 101 (lit< tt), other 98 (lit< tt), other 111 (lit< tt), other 112 (lit< tt), subst (HasNo 10) begins one),
+    )
+
+module _ (asked : ShownBoundInParts) (board : IsBoard asked.board) where
+  open_else : (index : ℕ) → IsElseLine (open_claim asked index)
+  open_else index = claim_else asked.board (part asked.bound (part_at asked.count index)) board
+
+  -- so the last of such lines says none
+  open_answer : (first : ℕ) (more : List ℕ) (status : Status) → IsAnswerText (flat_map (open_claim asked) (first ∷ more)) status
+  open_answer first [] status =
+      subst (λ (text : Bytes). IsAnswerText text status) (sym (append-nil (open_claim asked first))) (else_answer (open_claim asked first) status (open_else first))
+  open_answer first (next ∷ more) status =
+      let rest = flat_map (open_claim asked) (next ∷ more) in
+      let last = open_answer next more status in
+      (last.0, behind_lines (open_claim asked first) last.0 rest (else_alone (open_claim asked first) (open_else first)) last.1, last.2)
+
+-- where not all elements pass a test, there are some that don't
+some_fail : (passes : ℕ → Bool) (all : List ℕ) → list_all passes all ≡ false
+    → (first : ℕ) × (more : List ℕ) × (filter (λ x. not (passes x)) all ≡ first ∷ more)
+some_fail passes [] none = absurd (let clash : true ≡ false = none in cc)
+some_fail passes (x ∷ all) none = go (passes x) none (some_fail passes all)
+  where
+    go : (b : Bool) → (b && list_all passes all) ≡ false
+        → (list_all passes all ≡ false → (first : ℕ) × (more : List ℕ) × (filter (λ x. not (passes x)) all ≡ first ∷ more))
+        → (first : ℕ) × (more : List ℕ)
+        × (cond (not b) (x ∷ filter (λ x. not (passes x)) all) (filter (λ x. not (passes x)) all) ≡ first ∷ more)
+    go true none later = later none
+    go false none later = (x, filter (λ x. not (passes x)) all, refl)
+
+-- the bound is told in one line, and what is open in such lines
+joined_answer : (answers : List Bytes) (asked : ShownBoundInParts) → IsBoard asked.board → IsAnswerReply (joined_reply answers asked)
+joined_answer answers asked board = go (are_told (flat_map whole_lines answers) asked) refl
+  where
+    go : (told : Bool) → are_told (flat_map whole_lines answers) asked ≡ told
+        → IsAnswerText (cond told (joined_line asked.bound asked.count asked.board) (open_claims (flat_map whole_lines answers) asked)) (status_of_reply told)
+    go true is =
+        let words = joined_words asked.bound asked.count asked.board in
+        let last = line_last words (joined_one asked.bound asked.count asked.board) in
+        yes_answer words _ (subst (IsLast words) (sym (joined_ended asked.bound asked.count asked.board)) last)
+    go false is =
+        let left = some_fail (is_told (flat_map whole_lines answers) asked) (range_with_len 0 asked.count) is in
+        subst (λ (indices : List ℕ). IsAnswerText (flat_map (open_claim asked) indices) (status_of_reply false)) (sym left.2)
+        (open_answer asked board left.0 left.1 (status_of_reply false))
+
+parts_answer : (arguments : PartsArguments) (inputs : List Bytes) (reply : Reply) → IsPartsReply arguments inputs reply → IsAnswerReply reply
+parts_answer arguments inputs reply is = subst IsAnswerReply (sym is.said) (go (board_of_text is.text) refl)
+  where
+    go : (r : Result (List ℕ) BoardFault) → board_of_text is.text ≡ r → IsAnswerReply (parts_reply arguments r is.answers)
+    go (Err refused) same = digested [] [] _ _ (else_answer (line_of_fault (fault.Board refused)) _ (fault_line (fault.Board refused)))
+    go (Ok b) same = joined_answer is.answers (asked_of_board arguments b) (spelled-board_of_text is.text b same).board
+
 -- ---- whatever a run comes to
 
 -- the words ask for a command that answers once
@@ -188,6 +289,7 @@ right_answer (optimal a) old inputs reply once is = check_answer _ reply is.1.2
 right_answer (make_table a) old inputs reply once is = subst IsAnswerReply (sym is.1.told) (build_answer is.1.build)
 right_answer (solve a) old inputs reply once is = subst IsAnswerReply (sym is.1.4.told) (search_answer is.1.2 is.1.4.outcome)
 right_answer (prove a) old inputs reply once is = absurd (once a refl)
+right_answer (parts a) old inputs reply once is = parts_answer a inputs reply is.1
 
 unkept_answer : (name : Bytes) (why : KeepFault) → IsAnswerText (unkept_text name why) (unkept_status why)
 unkept_answer name keep.F3 = else_answer _ _ (named (codes "write ") (Some name) refl)

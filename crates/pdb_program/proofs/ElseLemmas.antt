@@ -23,16 +23,18 @@ use Rattle.pdb_verdict.specs.Lines.{counted, line_of_fault}
 use Rattle.pdb_verdict.specs.declared.verdicts.Fault.{Fault}
 use Rattle.pdb_verdict.specs.declared.verdicts.Fault.TheVariants as fault
 use Rattle.pdb_program.specs.Headline.{SaysYes}
+use Rattle.pdb_program.specs.PartLines.{SaysPart}
 use Rattle.pdb_program.proofs.LineLemmas.{IsOfLines, joined_lines, line_alone}
 
 -- a line that says no yes
 abbrev pub SaysNoYes : Bytes → Type 0
 SaysNoYes line = ¬ SaysYes line
 
--- the words are of one line, and begin with another letter than the words of a yes do: `s`, `e`, `b` or `o`
+-- the words are of one line, and begin with another letter than the words of a yes do, `s`, `e`, `b` or `o`, and with another than the
+-- line of a part does, `p`
 abbrev pub SaysElse : Bytes → Type 0
 SaysElse [] = ⊥
-SaysElse (first ∷ rest) = (first ≢ 115) × (first ≢ 101) × (first ≢ 98) × (first ≢ 111) × HasNo 10 (first ∷ rest)
+SaysElse (first ∷ rest) = (first ≢ 115) × (first ≢ 101) × (first ≢ 98) × (first ≢ 111) × (first ≢ 112) × HasNo 10 (first ∷ rest)
 
 head_of : ℕ → Bytes → ℕ
 head_of d [] = d
@@ -56,7 +58,27 @@ else_no_yes (first ∷ words) behind says = λ yes. elim yes.1 [
 -- such words are of one line
 pub says_else : (words : Bytes) → SaysElse words → HasNo 10 words
 says_else [] says = absurd says
-says_else (first ∷ words) says = says.4
+says_else (first ∷ words) says = says.5
+
+-- what begins with another letter is no line of a part
+pub other_no_part : (first : ℕ) (rest : Bytes) → first ≢ 112 → ¬ SaysPart (first ∷ rest)
+unfolding head_of
+other_no_part first rest other says = other (ap (head_of 0) says.1)
+
+-- so such words say no part, whatever stands behind them
+pub else_no_part : (words behind : Bytes) → SaysElse words → ¬ SaysPart (words ++ behind)
+else_no_part [] behind says = absurd says
+else_no_part (first ∷ words) behind says = other_no_part first (words ++ behind) says.4
+
+-- a line of a part says no yes
+pub part_no_yes : (rest : Bytes) → SaysNoYes (codes "part " ++ rest)
+unfolding head_of
+part_no_yes rest = λ yes. elim yes.1 [
+  | inl e ↦ let first : 112 ≡ 115 = ap (head_of 0) e in absurd (omega (arith, first))
+  | inr (inl e) ↦ let first : 112 ≡ 101 = ap (head_of 0) e in absurd (omega (arith, first))
+  | inr (inr (inl e)) ↦ let first : 112 ≡ 98 = ap (head_of 0) e in absurd (omega (arith, first))
+  | inr (inr (inr e)) ↦ let first : 112 ≡ 111 = ap (head_of 0) e in absurd (omega (arith, first))
+]
 
 -- nor does the line of a digest
 pub digest_no_yes : (digest : Bytes) → SaysNoYes (codes "sha256 " ++ digest)
@@ -79,7 +101,7 @@ known text all = AllPass-from_list_all (λ b. not (eqb b 10)) text all
 -- a refusal begins with the letter r, whose byte is 114
 refused_else : (words : Bytes) → HasNo 10 words → SaysElse (codes "refused " ++ words)
 refused_else words none =
-    ((λ e. omega (arith, e)), (λ e. omega (arith, e)), (λ e. omega (arith, e)), (λ e. omega (arith, e)), join_no_lf (codes "refused ") words (known (codes "refused ") refl) none)
+    ((λ e. omega (arith, e)), (λ e. omega (arith, e)), (λ e. omega (arith, e)), (λ e. omega (arith, e)), (λ e. omega (arith, e)), join_no_lf (codes "refused ") words (known (codes "refused ") refl) none)
 
 refused_line : (words : Bytes) → HasNo 10 words → IsElseLine ((codes "refused " ++ words) ++ codes "\n")
 refused_line words none = (codes "refused " ++ words, refl, refused_else words none)
@@ -106,11 +128,11 @@ twice_numbered text other n m first second =
 
 -- want of memory is said so
 pub memory : IsElseLine memory_line
-memory = (codes "no memory", refl, ((λ e. omega (arith, e)), (λ e. omega (arith, e)), (λ e. omega (arith, e)), (λ e. omega (arith, e)), known (codes "no memory") refl))
+memory = (codes "no memory", refl, ((λ e. omega (arith, e)), (λ e. omega (arith, e)), (λ e. omega (arith, e)), (λ e. omega (arith, e)), (λ e. omega (arith, e)), known (codes "no memory") refl))
 
 -- what a maker made is wrong
 pub maker : IsElseLine maker_line
-maker = (codes "fault maker", refl, ((λ e. omega (arith, e)), (λ e. omega (arith, e)), (λ e. omega (arith, e)), (λ e. omega (arith, e)), known (codes "fault maker") refl))
+maker = (codes "fault maker", refl, ((λ e. omega (arith, e)), (λ e. omega (arith, e)), (λ e. omega (arith, e)), (λ e. omega (arith, e)), (λ e. omega (arith, e)), known (codes "fault maker") refl))
 
 -- the lines of refusals
 pub fault_line : (refused : Fault) → IsElseLine (line_of_fault refused)
@@ -186,6 +208,7 @@ named text name all = (
   codes "fault " ++ (text ++ shown name),
   ap (λ (t : Bytes). codes "fault " ++ t) (sym (append_assoc text (shown name) (codes "\n"))),
   (
+    (λ e. omega (arith, e)),
     (λ e. omega (arith, e)),
     (λ e. omega (arith, e)),
     (λ e. omega (arith, e)),

@@ -1,18 +1,20 @@
 -- What lines and statuses mean follows from what is answered and what is kept.
-use Rattle.std.proofs.Common.{◌≡◌, ◌∙◌, ◌⊎◌, ◌≤◌, inl, inr, ℕ, Bool, true, false, List, [], ◌∷◌, ◌++◌, Option, Some, None, IfSome, ap, arith, codes, append_assoc, decimal, drop, length, length-append, refl, subst, sym, take, take-append-drop}
+use Rattle.std.proofs.Common.{◌≡◌, ◌∙◌, ◌⊎◌, ◌≤◌, ◌^◌, inl, inr, ℕ, Bool, true, false, List, [], ◌∷◌, ◌++◌, Option, Some, None, IfSome, ap, arith, codes, append_assoc, decimal, drop, length, length-append, refl, subst, sym, take, take-append-drop}
 use Rattle.std.specs.Option.{option_map_or}
 use Rattle.std.proofs.lemmas.List.{append-nil, append_cancel_left, length-drop}
 use Rattle.std.specs.Prelude.{◌≢◌}
+use Rattle.claim_text.specs.Lines.{numbers}
 use Rattle.claim_text.proofs.AnswerLemmas.{decimal-no_lf, join_no_lf}
+use Rattle.tab_file.specs.TableFiles.{most_table_bytes}
 use Rattle.tab_file.specs.Tables.{Table}
 use Rattle.tab_rule.specs.ExactTables.{IsExactFile}
 use Rattle.byte_io.specs.Shelf.{Bytes, Files, with_file}
 use Rattle.byte_io.specs.Streams.{output}
-use Rattle.pdb_request.specs.Asked.{Asked, ProveArguments, TableArguments, bound, make_table, optimal, prove, replay, solve, table}
+use Rattle.pdb_request.specs.Asked.{Asked, ProveArguments, TableArguments, bound, make_table, optimal, parts, prove, replay, solve, table}
 use Rattle.pdb_request.specs.declared.requests.Claim.TheVariants.{Bound, Optimum}
 use Rattle.pdb_run.specs.Calls.{Calls}
 use Rattle.pdb_run.specs.Commands.{Wanted}
-use Rattle.pdb_run.specs.Inputs.{AreRead, Failures, IsReadFrom}
+use Rattle.pdb_run.specs.Inputs.{AreRead, Failures, IsReadFrom, left}
 use Rattle.pdb_run.specs.Runs.{Ends, IsAnswered, World, status_of, status_of_reply, text_of, world}
 use Rattle.pdb_run.specs.Writing.{digests_of}
 use Rattle.pdb_run.specs.Statuses.{status_number}
@@ -23,21 +25,23 @@ use Rattle.pdb_verdict.specs.Lines.{digested_of, line_of_verdict}
 use Rattle.pdb_verdict.specs.Plans.{check_plan, log_check_inputs, log_given, replay_inputs, table_inputs, table_plan}
 use Rattle.pdb_verdict.specs.Verdicts.{HoldsOfSolutions, IsTrueOf}
 use Rattle.pdb_verdict.specs.declared.verdicts.Verdict.{Verdict}
-use Rattle.pdb_verdict.proofs.ReadLemmas.{log_stood, replay_stood, table_stood, tables_stood}
+use Rattle.pdb_verdict.proofs.ReadLemmas.{files_stood, log_stood, replay_stood, table_stood}
 use Rattle.pdb_verdict.proofs.VerdictLemmas.{no_told, yes_told}
 use Rattle.pdb_keep.specs.Laws.{told_moves}
 use Rattle.pdb_keep.specs.Solve.{letters_of, moves_line}
 use Rattle.pdb_keep.proofs.KeptLemmas.{file-kept, log_answered, search_stood, table_answered}
 use Rattle.pdb_keep.proofs.LetterLemmas.{told_solution}
-use Rattle.pdb_words.specs.CommandLine.{asked_of}
+use Rattle.pdb_parts.proofs.ReplyLemmas.{yes_says}
+use Rattle.pdb_words.specs.CommandLine.{Parses, asked_of}
 use Rattle.pdb_program.specs.Headline.{AreAYes, AreWholeLines, HasLine, Headline, HoldsOfYes, SaysExact, SaysYes}
 use Rattle.pdb_program.specs.Programs.{EndsFor, IsNumberOfStatus, RunsOn, plan_of}
-use Rattle.pdb_program.specs.Steps.{SaysHeadline}
-use Rattle.pdb_program.proofs.AnswerLemmas.{AnswersOnce, IsLast, behind_digests, counted_last, digests_say_no_yes, exact_one, exact_words, line_last, moves_say_no_yes, outcome_answer}
+use Rattle.pdb_program.specs.Steps.{SaysHeadline, SaysParts}
+use Rattle.pdb_program.proofs.AnswerLemmas.{AnswersOnce, IsLast, behind_digests, counted_last, digests_say_no_yes, exact_one, exact_words, joined_ended, joined_one, joined_words, line_last, moves_say_no_yes, outcome_answer}
 use Rattle.pdb_program.proofs.ElseLemmas.{SaysNoYes, known}
 use Rattle.pdb_program.proofs.LineLemmas.{ended, joined_lines, last_yes, whole_lines}
 use Rattle.pdb_program.proofs.ProgramLemmas.{answered_by}
-use Rattle.pdb_program.proofs.TrueLemmas.{claims_true, claims_yes, yes_lines}
+use Rattle.pdb_program.proofs.SpellLemmas.{numbers_spelt}
+use Rattle.pdb_program.proofs.TrueLemmas.{claims_true, claims_yes, part_lines_true, yes_lines}
 
 -- ---- a yes or a no
 
@@ -187,11 +191,11 @@ module _ (before later : Files) (input start lines : Bytes) (calls calls_after :
         none = joined_lines SaysNoYes digests ml no_digest (moves_say_no_yes kept.moves);
         one = join_no_lf (codes "optimal ") (decimal n) (known (codes "optimal ") refl) (decimal-no_lf n);
       } in
-      let moves_above : HasLine digests (codes "moves" ++ told) [] (digests ++ ml) = record {
-        begins = subst AreWholeLines (sym no_digest.1) (whole_lines no_digest.0);
-        one = join_no_lf (codes "moves") told (known (codes "moves") refl) solution.one_line;
-        whole = ap (λ (t : Bytes). digests ++ t) solution.line;
-      } in
+      let moves_above : HasLine digests (codes "moves" ++ told) [] (digests ++ ml) = (
+        subst AreWholeLines (sym no_digest.1) (whole_lines no_digest.0),
+        join_no_lf (codes "moves") told (known (codes "moves") refl) solution.one_line,
+        ap (λ (t : Bytes). digests ++ t) solution.line,
+      ) in
       record {
         line = line;
         is_last = is_last;
@@ -212,12 +216,37 @@ module _ (before later : Files) (input start lines : Bytes) (calls calls_after :
           kept.files,
           kept.log,
           read.sets,
-          tables_stood before (Some input) arguments.tables kept.files read.tables,
+          files_stood before (Some input) most_table_bytes arguments.tables kept.files read.tables,
           stands arguments.out kept.log kept.kept,
           f.proved,
         );
       }
   yes_by (prove arguments) once a = absurd (once arguments refl)
+  yes_by (parts arguments) once a =
+      let is = a.right.1 in
+      let said = yes_says arguments a.inputs a.reply is (says a.reply.is_yes true a.is_status) in
+      let read = rw is.order at a.right.0 in
+      let words = joined_words arguments.bound arguments.count said.board in
+      let one = joined_one arguments.bound arguments.count said.board in
+      let whole : lines ≡ words ++ codes "\n" =
+      append_cancel_left start lines _ a.lines.0 ∙ said.line ∙ joined_ended arguments.bound arguments.count said.board in
+      record {
+        line = words;
+        is_last = subst (IsLast words) (sym whole) (line_last words one);
+        says = (_, inr (inr (inl refl)));
+        holds = (
+          is.text,
+          numbers said.board,
+          said.board,
+          stood arguments.board is.text read.0.0,
+          said.spelt,
+          numbers_spelt said.board said.spelt.board,
+          refl,
+          is.answers,
+          files_stood before (left (Some input) arguments.board) (2 ^ 26) arguments.answers is.answers read.1,
+          said.bounded,
+        );
+      }
 
   no_by : (arguments : TableArguments) → IsAnswered (table_plan arguments) old new Refused
       → (file : Bytes) × (before arguments.file ≡ Some file) × ((t : Table) → ¬ IsExactFile t file)
@@ -279,7 +308,7 @@ module _ (before later : Files) (input start lines : Bytes) (calls calls_after :
   yes_is_there asked ends =
       let all = ends.is_last.none in
       let begins = subst AreWholeLines (sym all.1) (whole_lines all.0) in
-      (ends.is_last.above, ends.line, record { begins = begins; one = ends.is_last.one; whole = ends.is_last.whole }, ends.says)
+      (ends.is_last.above, ends.line, (begins, ends.is_last.one, ends.is_last.whole), ends.says)
 
   -- no status is another than these
   low : (status : Status) (number : ℕ) → number ≡ status_number status → number ≤ 3
@@ -332,6 +361,7 @@ module _ (before later : Files) (input start lines : Bytes) (calls calls_after :
   headline_told (make_table a) number ended = once_told (make_table a) number (λ b e. cc) ended
   headline_told (solve a) number ended = once_told (solve a) number (λ b e. cc) ended
   headline_told (prove a) number ended = prove_told a number ended
+  headline_told (parts a) number ended = once_told (parts a) number (λ b e. cc) ended
 
 -- so of a run on words, and on the same words
 pub headline_of : (words other : List Bytes) (old new : World) (old_err new_err : Option Bytes) (number : ℕ) → other ≡ words
@@ -342,3 +372,9 @@ headline_of words other old new old_err new_err number same runs before later in
     (subst (λ (w : World × World). IsNumberOfStatus (EndsFor (asked_of words) w.0 w.1) number)
     (λ i. (world (had i) old.calls old.failed (left i) (output (stood i) old.written.failed), world (has i) new.calls new.failed new.reader (output (wrote i) new.written.failed)))
     ends)
+
+-- what the lines of `prove` on parts mean follows from it too
+pub part_lines_of : (words other : List Bytes) (old new : World) (status : Status) → other ≡ words
+    → (Parses other → EndsFor (asked_of other) old new status) → SaysParts words old new
+part_lines_of words other old new status same ended a start lines parses asked stood wrote =
+    part_lines_true start lines a old new status (rw asked at (rw same at (ended (rw same parses)))) stood wrote

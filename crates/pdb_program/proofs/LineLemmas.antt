@@ -102,13 +102,13 @@ grown : (above line below lines rest text : Bytes) → HasLine above line below 
     → above ++ (line ++ (codes "\n" ++ (below ++ rest))) ≡ text
 grown above line below lines rest text has is =
     sym (append_assoc above (line ++ (10 ∷ below)) rest ∙ ap (λ (t : Bytes). above ++ t) (append_assoc line (10 ∷ below) rest)) ∙
-    ap (λ (t : Bytes). t ++ rest) (sym has.whole) ∙ is
+    ap (λ (t : Bytes). t ++ rest) (sym has.2) ∙ is
 
 -- what holds of the lines of a text holds of each line of a front of it
 pub line_holds : (Holds : Bytes → Type 0) (all : List Bytes) (above line below lines rest : Bytes) → AreLines Holds all
     → HasLine above line below lines → lines ++ rest ≡ ended all → Holds line
 line_holds Holds all above line below lines rest each has is =
-    elim (line_among Holds all [] above line (below ++ rest) each has.one has.begins (grown above line below lines rest (ended all) has is ∙ sym (append-nil (ended all)))) [
+    elim (line_among Holds all [] above line (below ++ rest) each has.1 has.0 (grown above line below lines rest (ended all) has is ∙ sym (append-nil (ended all)))) [
       | inl holds ↦ holds
       | inr more ↦ no_line more.0 line (below ++ rest) more.3
     ]
@@ -118,9 +118,9 @@ pub last_yes : (all : List Bytes) (last above line below lines rest : Bytes) →
     → HasLine above line below lines → SaysYes line → lines ++ rest ≡ ended all ++ (last ++ codes "\n")
     → (above ≡ ended all) × (line ≡ last) × (below ++ rest ≡ [])
 last_yes all last above line below lines rest each one has says is =
-    elim (line_among (λ l. ¬ SaysYes l) all (last ++ codes "\n") above line (below ++ rest) each has.one has.begins (grown above line below lines rest _ has is)) [
+    elim (line_among (λ l. ¬ SaysYes l) all (last ++ codes "\n") above line (below ++ rest) each has.1 has.0 (grown above line below lines rest _ has is)) [
       | inl none ↦ absurd (none says)
-      | inr more ↦ elim (first_line last [] more.0 line (below ++ rest) one has.one more.1 more.3) [
+      | inr more ↦ elim (first_line last [] more.0 line (below ++ rest) one has.1 more.1 more.3) [
         | inl same ↦ (more.2 ∙ ap (λ (t : Bytes). ended all ++ t) same.0 ∙ append-nil (ended all), same.1, same.2)
         | inr behind ↦ no_line behind.0 line (below ++ rest) behind.3
       ]

@@ -6,7 +6,7 @@ use Rattle.pdb_request.specs.Asked.{Asked, make_table, prove, solve}
 use Rattle.byte_io.specs.declared.shelf.KeepFault.TheVariants as keep
 use Rattle.byte_io.specs.declared.streams.ReadFault.TheVariants as read
 use Rattle.pdb_run.specs.Inputs.{Failures, HasFailed}
-use Rattle.pdb_run.specs.Runs.{Ends, HasCause, IsAnswered, Outcome, World, made_wrong, replied, spared, status_of, status_of_reply, unkept, unlisted, unread, unwritable}
+use Rattle.pdb_run.specs.Runs.{HasCause, IsAnswered, Outcome, World, made_wrong, replied, spared, status_of, status_of_reply, unkept, unlisted, unread, unwritable}
 use Rattle.pdb_run.specs.Statuses.{status_number}
 use Rattle.pdb_run.specs.declared.statuses.Status.{Status}
 use Rattle.pdb_run.specs.declared.statuses.Status.TheVariants.{Fault, NoMemory, Refused, Yes}

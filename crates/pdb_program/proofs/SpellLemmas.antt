@@ -84,6 +84,14 @@ cell_text n low =
       value = is.1;
     }
 
+-- the decimal of a number on a board begins with a digit
+pub digit_first : (n : ℕ) → n < 25 → (digit : ℕ) × (rest : Bytes) × (decimal n ≡ digit ∷ rest) × (48 ≤ digit) × (digit ≤ 57)
+digit_first n low = let is = decimal_is_IsNumeral n (omega arith) in go (decimal n) is.0.0 is.0.1
+  where
+    go : (ds : Bytes) → 0 < length ds → AllDigits 10 ds → (digit : ℕ) × (rest : Bytes) × (ds ≡ digit ∷ rest) × (48 ≤ digit) × (digit ≤ 57)
+    go [] some each = absurd (omega (arith, some))
+    go (d ∷ ds) some each = let is = digit_from_value d each.0 in (d, ds, refl, is.0, is.1)
+
 module _ (behind : Bytes) (none : parts behind ≡ []) (parted : IsParted behind) where
   parted_numbers : (b : List ℕ) → IsParted (numbers b ++ behind)
   parted_numbers [] = parted
@@ -130,10 +138,13 @@ module _ (behind : Bytes) (none : parts behind ≡ []) (parted : IsParted behind
         board = board;
       }
 
--- so the numbers of a board that is bounded are a text of one
+-- so the numbers of a board spell it
+pub numbers_spelt : (b : List ℕ) → IsBoard b → Spells (numbers b) b
+numbers_spelt b board = subst (λ text. Spells text b) (append-nil (numbers b)) (spelt [] refl tt b board)
+
+-- and those of a board that is bounded are a text of one
 pub numbers_bounded : (b : List ℕ) (n : ℕ) → IsBoard b → IsBounded b n → IsBoundedText (numbers b) n
-numbers_bounded b n board bounded =
-    record { board = b; spelt = subst (λ text. Spells text b) (append-nil (numbers b)) (spelt [] refl tt b board); bounded = bounded }
+numbers_bounded b n board bounded = (b, numbers_spelt b board, bounded)
 
 -- ---- the letters of moves
 

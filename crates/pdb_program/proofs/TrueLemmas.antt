@@ -7,7 +7,7 @@ use Rattle.std.specs.List.{AllByRecursion, AllZip}
 use Rattle.claim_text.specs.Claims as claims
 use Rattle.claim_text.specs.Claims.{IsClaim, IsClaimOf, ShownAsks, ShownClaim}
 use Rattle.claim_text.specs.Lines as line
-use Rattle.claim_text.specs.Lines.{Told, WhatHasNoLf, claim_words, numbers, spaced_letters, told_text}
+use Rattle.claim_text.specs.Lines.{Told, WhatHasNoLf, claim_words, numbers, told_text}
 use Rattle.claim_text.proofs.AnswerLemmas.{answer-no_lf}
 use Rattle.puz_board.specs.Boards.{IsBoard}
 use Rattle.puz_board.specs.MovesTexts.{Solves}
@@ -32,10 +32,11 @@ use Rattle.pdb_prove.specs.Prove.{ClaimsFiles, IsOutcomeOf, Outcome, TellsClaims
 use Rattle.pdb_prove.specs.declared.answers.Found.{Found}
 use Rattle.pdb_prove.specs.declared.answers.Found.TheVariants.{Bound, Optimum, Part, Refused, Shorter, Shortest}
 use Rattle.pdb_program.specs.Headline.{AreAYes, AreWholeLines, HasLine, HoldsOfClaim, SaysYes}
+use Rattle.pdb_program.specs.PartLines.{ArePartLinesTrue, HoldsOfPart, SaysPart}
 use Rattle.pdb_program.specs.Programs.{EndsFor}
-use Rattle.pdb_program.proofs.ElseLemmas.{IsElseLine, SaysElse, SaysNoYes, digest_no_yes, digests_are, else_no_yes, fault_line, known, memory, named, says_else}
+use Rattle.pdb_program.proofs.ElseLemmas.{IsElseLine, SaysElse, SaysNoYes, digest_no_yes, digests_are, else_no_part, else_no_yes, fault_line, known, memory, named, other_no_part, part_no_yes, says_else}
 use Rattle.pdb_program.proofs.LineLemmas.{IsOfLines, joined_lines, line_alone, line_holds, whole_lines}
-use Rattle.pdb_program.proofs.SpellLemmas.{numbers_bounded, words_optimal}
+use Rattle.pdb_program.proofs.SpellLemmas.{numbers_bounded, numbers_spelt, words_optimal}
 
 -- ---- what is told of claims
 
@@ -132,11 +133,7 @@ told_one (line.refused what claim) is = says_else what is
 -- what a yes of what is told says
 yes_of_told : (t : Told) → IsTrueTold t → SaysYes (told_text t) → HoldsOfClaim (told_text t)
 yes_of_told (line.bounded n b) is says = inl (numbers b, n, refl, numbers_bounded b n is.0 is.1)
-yes_of_told (line.part_bounded p n b) is says =
-    absurd (else_no_yes (codes "part ") _ part says)
-  where
-    part : SaysElse (codes "part ")
-    part = ((λ e. omega (arith, e)), (λ e. omega (arith, e)), (λ e. omega (arith, e)), (λ e. omega (arith, e)), known (codes "part ") refl)
+yes_of_told (line.part_bounded p n b) is says = absurd (part_no_yes _ says)
 yes_of_told (line.optimal n b text) is says =
     let least = words_optimal b text n is.0 is.1 is.2 in
     inr (claim_words (record { board = b; asks = claims.moves text }), n, least.0, refl, least.1)
@@ -144,31 +141,41 @@ yes_of_told (line.shorter solution claim) is says =
     absurd (else_no_yes (codes "refused") _ refused says)
   where
     refused : SaysElse (codes "refused")
-    refused = ((λ e. omega (arith, e)), (λ e. omega (arith, e)), (λ e. omega (arith, e)), (λ e. omega (arith, e)), known (codes "refused") refl)
+    refused = ((λ e. omega (arith, e)), (λ e. omega (arith, e)), (λ e. omega (arith, e)), (λ e. omega (arith, e)), (λ e. omega (arith, e)), known (codes "refused") refl)
 yes_of_told (line.refused what claim) is says =
     absurd (else_no_yes what (codes " of" ++ claim_words claim) is (subst SaysYes (append_assoc what (codes " of") (claim_words claim)) says))
 
--- a line of which what it says as a yes is true
-abbrev IsTrueLine : Bytes → Type 0
-IsTrueLine line = SaysYes line → HoldsOfClaim line
+-- and what a line of a part does
+part_of_told : (t : Told) → IsTrueTold t → SaysPart (told_text t) → HoldsOfPart (told_text t)
+part_of_told (line.bounded n b) is says = absurd (other_no_part 98 _ (λ e. omega (arith, e)) says)
+part_of_told (line.part_bounded p n b) is says = (p, n, numbers b, b, numbers_spelt b is.0, is.1, refl)
+part_of_told (line.optimal n b text) is says = absurd (other_no_part 111 _ (λ e. omega (arith, e)) says)
+part_of_told (line.shorter solution claim) is says = absurd (other_no_part 114 _ (λ e. omega (arith, e)) says)
+part_of_told (line.refused what claim) is says =
+    absurd (else_no_part what (codes " of" ++ claim_words claim) is (subst SaysPart (append_assoc what (codes " of") (claim_words claim)) says))
 
-no_yes_true : (line : Bytes) → SaysNoYes line → IsTrueLine line
-no_yes_true line none = λ yes. absurd (none yes)
+-- a line of which what it says as a yes is true, and what it says of a part
+abbrev IsTrueLine : Bytes → Type 0
+IsTrueLine line = (SaysYes line → HoldsOfClaim line) × (SaysPart line → HoldsOfPart line)
+
+none_true : (line : Bytes) → SaysNoYes line → ¬ SaysPart line → IsTrueLine line
+none_true line no_yes no_part = (λ yes. absurd (no_yes yes), λ part. absurd (no_part part))
 
 told_true : (told : List Told) → AllByRecursion IsTrueTold told → IsOfLines IsTrueLine (told_lines told)
 told_true [] each = ([], refl, tt)
 told_true (t ∷ told) each =
     joined_lines IsTrueLine _ (told_lines told)
-    (line_alone IsTrueLine (told_text t) (answer-no_lf t (told_one t each.0)) (yes_of_told t each.0)) (told_true told each.1)
+    (line_alone IsTrueLine (told_text t) (answer-no_lf t (told_one t each.0)) (yes_of_told t each.0, part_of_told t each.0)) (told_true told each.1)
 
 digests_true : (files : List Bytes) → IsOfLines IsTrueLine (digests_of files)
-digests_true files = digests_are IsTrueLine (λ digest. no_yes_true (codes "sha256 " ++ digest) (digest_no_yes digest)) files
+digests_true files = digests_are IsTrueLine (λ digest. none_true (codes "sha256 " ++ digest) (digest_no_yes digest) (other_no_part 115 _ (λ e. omega (arith, e)))) files
 
 -- one other line
 alone : (line : Bytes) → IsElseLine line → IsOfLines IsTrueLine line
 alone line is =
     subst (IsOfLines IsTrueLine) (sym is.1)
-    (line_alone IsTrueLine is.0 (says_else is.0 is.2) (no_yes_true is.0 (subst SaysNoYes (append-nil is.0) (else_no_yes is.0 [] is.2))))
+    (line_alone IsTrueLine is.0 (says_else is.0 is.2)
+    (none_true is.0 (subst SaysNoYes (append-nil is.0) (else_no_yes is.0 [] is.2)) (subst (λ (t : Bytes). ¬ SaysPart t) (append-nil is.0) (else_no_part is.0 [] is.2))))
 
 -- digest lines and what is told truly
 answers_true : (files : ClaimsFiles) (told : List Told) → AllByRecursion IsTrueTold told
@@ -233,13 +240,26 @@ module _ (start lines : Bytes) where
       cut_true _ (rw (had, wrote) at cut.front.0)
       (answers_true cut.files cut.told (each_true cut.bundle (budget_of arguments.budget) cut.first cut.told boards cut.each))
 
-  -- so is each of them that says a yes
+  -- so is each of them
+  each_line : (arguments : ProveArguments) (old new : World) (status : Status) → EndsFor (prove arguments) old new status
+      → old.written.bytes ≡ Some start → new.written.bytes ≡ Some (start ++ lines)
+      → (above line below : Bytes) → HasLine above line below lines → IsTrueLine line
+  each_line arguments old new status ends had wrote above line below has =
+      let are = lines_told arguments old new status ends had wrote in
+      line_holds IsTrueLine are.1.0 above line below lines are.0 are.1.2 has are.1.1
+
+  -- that says a yes
   pub claims_true : (arguments : ProveArguments) (old new : World) (status : Status) → EndsFor (prove arguments) old new status
       → old.written.bytes ≡ Some start → new.written.bytes ≡ Some (start ++ lines)
       → (above line below : Bytes) → HasLine above line below lines → SaysYes line → HoldsOfClaim line
-  claims_true arguments old new status ends had wrote above line below has says =
-      let are = lines_told arguments old new status ends had wrote in
-      line_holds IsTrueLine are.1.0 above line below lines are.0 are.1.2 has are.1.1 says
+  claims_true arguments old new status ends had wrote above line below has =
+      (each_line arguments old new status ends had wrote above line below has).0
+
+  -- or says that a part holds
+  pub part_lines_true : (arguments : ProveArguments) (old new : World) (status : Status) → EndsFor (prove arguments) old new status
+      → old.written.bytes ≡ Some start → new.written.bytes ≡ Some (start ++ lines) → ArePartLinesTrue lines
+  part_lines_true arguments old new status ends had wrote above line below has =
+      (each_line arguments old new status ends had wrote above line below has).1
 
 -- ---- a yes
 

@@ -12,10 +12,11 @@ use Rattle.tab_file.specs.Tables.{Table}
 use Rattle.tab_rule.specs.ExactTables.{IsExactFile}
 use Rattle.set_sum.specs.Bounds.{IsBounded}
 use Rattle.byte_io.specs.Shelf.{Bytes}
-use Rattle.pdb_request.specs.Asked.{Asked, ProveArguments, TableArguments, bound, make_table, optimal, prove, replay, solve, table}
+use Rattle.pdb_request.specs.Asked.{Asked, ProveArguments, TableArguments, bound, make_table, optimal, parts, prove, replay, solve, table}
 use Rattle.pdb_verdict.specs.Bound.{IsBoundedText, IsProvedBound}
 use Rattle.pdb_verdict.specs.Lines.{exact_line}
 use Rattle.pdb_verdict.specs.Replay.{IsSolvedPuzzle}
+use Rattle.pdb_parts.specs.Laws.{AreTrueAnswers}
 
 -- ---- whole lines
 
@@ -25,10 +26,8 @@ AreWholeLines text = (text ≡ []) ⊎ ((front : Bytes) × (text ≡ front ++ co
 
 -- the text has this line, with that above and below it: it begins the text or stands behind an LF, an LF ends it, and it has no
 -- other LF, whose byte is 10
-pub record HasLine (above line below text : Bytes) : Type 0 where
-  pub begins : AreWholeLines above
-  pub one : HasNo 10 line
-  pub whole : text ≡ above ++ (line ++ (codes "\n" ++ below))
+abbrev pub HasLine : (above line below text : Bytes) → Type 0
+HasLine above line below text = AreWholeLines above × HasNo 10 line × (text ≡ above ++ (line ++ (codes "\n" ++ below)))
 
 -- the line begins as the lines of a yes do
 abbrev pub SaysYes : Bytes → Type 0
@@ -46,17 +45,14 @@ SaysExact line file side mask =
 -- the line is `bound n of` a board text, and no solution of its board has fewer than n moves; or it is `optimal n of` a puzzle text,
 -- whose moves, n of them, solve its board, and no solution has fewer
 abbrev pub HoldsOfClaim : Bytes → Type 0
-HoldsOfClaim line =
-    ((text : Bytes) × (n : ℕ) × (line ≡ codes "bound " ++ decimal n ++ codes " of" ++ text) × IsBoundedText text n)
-    ⊎ ((puzzle : Bytes) × (n : ℕ) × (solved : IsSolvedPuzzle puzzle n)
-    × (line ≡ codes "optimal " ++ decimal n ++ codes " of" ++ puzzle) × IsBounded solved.board n)
+HoldsOfClaim line = ((text : Bytes) × (n : ℕ) × (line ≡ codes "bound " ++ decimal n ++ codes " of" ++ text) × IsBoundedText text n)
+    ⊎ ((puzzle : Bytes) × (n : ℕ) × (is : IsSolvedPuzzle puzzle n) × (line ≡ codes "optimal " ++ decimal n ++ codes " of" ++ puzzle) × IsBounded is.board n)
 
 -- what a line of a yes means below what stands above it, command by command, with the arguments of the command
 abbrev pub HoldsOfYes : Asked → (before later : Bytes → Option Bytes) → (input above line : Bytes) → Type 0
 -- the line is `solution n`, and the moves of the puzzle text, n of them, solve its board
 HoldsOfYes (replay a) before later input above line =
-    (puzzle : Bytes) × (n : ℕ) × (option_map_or before a.puzzle (Some input) ≡ Some puzzle)
-    × (line ≡ codes "solution " ++ decimal n) × IsSolvedPuzzle puzzle n
+    (puzzle : Bytes) × (n : ℕ) × (option_map_or before a.puzzle (Some input) ≡ Some puzzle) × (line ≡ codes "solution " ++ decimal n) × IsSolvedPuzzle puzzle n
 -- the line is `exact` of a side and a mask, and the file is the exact one of their pattern
 HoldsOfYes (table a) before later input above line =
     (file : Bytes) × (side : ℕ) × (mask : ℕ) × (before a.file ≡ Some file) × (mask < 2 ^ 32) × SaysExact line file side mask
@@ -65,12 +61,10 @@ HoldsOfYes (bound a) before later input above line =
     (text : Bytes) × (n : ℕ) × (before a.text ≡ Some text) × (line ≡ codes "bound " ++ decimal n) × IsBoundedText text n
 -- the line is `optimal n`; the moves of the puzzle text, n of them, solve its board, and no solution has fewer
 HoldsOfYes (optimal a) before later input above line =
-    (puzzle : Bytes) × (n : ℕ) × (solved : IsSolvedPuzzle puzzle n) × (before a.text ≡ Some puzzle)
-    × (line ≡ codes "optimal " ++ decimal n) × IsBounded solved.board n
+    (puzzle : Bytes) × (n : ℕ) × (is : IsSolvedPuzzle puzzle n) × (before a.text ≡ Some puzzle) × (line ≡ codes "optimal " ++ decimal n) × IsBounded is.board n
 -- the bytes that stand under OUT afterwards are the exact file of the pattern of this side and this mask, and the line is `exact`
 -- of these
-HoldsOfYes (make_table a) before later input above line =
-    (file : Bytes) × (later a.out ≡ Some file) × SaysExact line file a.side a.mask
+HoldsOfYes (make_table a) before later input above line = (file : Bytes) × (later a.out ≡ Some file) × SaysExact line file a.side a.mask
 -- the line is `optimal n`, and the one above it `moves` with a moves text; its n moves solve the board in the text, and no solution
 -- has fewer; and the bytes that stand under OUT afterwards are a log that proves this bound, over the sets and the tables
 HoldsOfYes (solve a) before later input above line =
@@ -80,6 +74,12 @@ HoldsOfYes (solve a) before later input above line =
     × (later a.out ≡ Some log) × IsProvedBound a.fold b set_text log files n
 -- the line is a true answer to a claim
 HoldsOfYes (prove a) before later input above line = HoldsOfClaim line
+-- the line is `bound n of` the board in the text, `from k parts`; and if each line of the answers is true that says that a part of a
+-- bound holds, no solution of the board has fewer than n moves
+HoldsOfYes (parts a) before later input above line =
+    (text : Bytes) × (told : Bytes) × (b : List ℕ) × (option_map_or before a.board (Some input) ≡ Some text) × Spells text b × Spells told b
+    × (line ≡ codes "bound " ++ decimal a.bound ++ codes " of" ++ told ++ codes " from " ++ decimal a.count ++ codes " parts")
+    × (files : List Bytes) × (map before a.answers ≡ map Some files) × (AreTrueAnswers files → IsBounded b a.bound)
 
 -- ---- the program's answers
 

@@ -4,7 +4,7 @@ use Rattle.std.specs.Io.KnownBytes.{Keeps}
 use Rattle.byte_io.specs.Shelf.{Bytes}
 use Rattle.byte_io.specs.Streams.{WritesAll}
 use Rattle.byte_io.specs.declared.streams.ReadFault.TheVariants.{F2}
-use Rattle.pdb_request.specs.Asked.{Asked, bound, make_table, optimal, prove, replay, solve, table}
+use Rattle.pdb_request.specs.Asked.{Asked, bound, make_table, optimal, parts, prove, replay, solve, table}
 use Rattle.pdb_request.specs.declared.requests.Claim.TheVariants.{Bound, Optimum}
 use Rattle.pdb_run.specs.Commands.{Plan, Wanted}
 use Rattle.pdb_run.specs.Inputs.{IsFirstUnread}
@@ -16,6 +16,7 @@ use Rattle.pdb_keep.specs.Kept.{IsLogKept, IsTableKept}
 use Rattle.pdb_keep.specs.MakeTable.{make_table_plan}
 use Rattle.pdb_keep.specs.Solve.{solve_plan}
 use Rattle.pdb_prove.specs.Prove.{IsCutShort, prove_plan}
+use Rattle.pdb_parts.specs.Parts.{parts_plan}
 use Rattle.pdb_words.specs.CommandLine.{Parses, asked_of}
 use Rattle.pdb_words.specs.Faults.{IsMistaken}
 use Rattle.pdb_program.specs.Refusals.{Refuses}
@@ -29,6 +30,7 @@ plan_of (optimal arguments) = log_check_plan Optimum arguments
 plan_of (make_table arguments) = make_table_plan arguments
 plan_of (solve arguments) = solve_plan arguments
 plan_of (prove arguments) = prove_plan arguments
+plan_of (parts arguments) = parts_plan arguments
 
 -- a write of a command that writes line by line failed before all lines were written
 abbrev pub IsCut : Asked → World → World → Status → Type 0

@@ -1,9 +1,11 @@
 -- What the steps of a run say.
 use Rattle.std.specs.Prelude.{◌≡◌, ℕ, List, ◌++◌, Option, Some}
 use Rattle.byte_io.specs.Shelf.{Bytes}
+use Rattle.pdb_request.specs.Asked.{ProveArguments, prove}
 use Rattle.pdb_run.specs.Runs.{World}
 use Rattle.pdb_words.specs.CommandLine.{Parses, asked_of}
 use Rattle.pdb_program.specs.Headline.{Headline}
+use Rattle.pdb_program.specs.PartLines.{ArePartLinesTrue}
 
 -- nothing has changed but what was written
 pub record OnlyWrites (old new : World) : Type 0 where
@@ -18,3 +20,9 @@ SaysHeadline words old new number =
     (before later : Bytes → Option Bytes) (input start lines : Bytes) → Parses words → old.files ≡ Some before → new.files ≡ Some later
     → old.reader ≡ Some input → old.written.bytes ≡ Some start → new.written.bytes ≡ Some (start ++ lines)
     → Headline (asked_of words) before later input lines number
+
+-- of words that ask for `prove`, the lines of parts of bounds that are written are true, where the writer tells its bytes
+abbrev pub SaysParts : List Bytes → World → World → Type 0
+SaysParts words old new =
+    (a : ProveArguments) (start lines : Bytes) → Parses words → asked_of words ≡ prove a
+    → old.written.bytes ≡ Some start → new.written.bytes ≡ Some (start ++ lines) → ArePartLinesTrue lines

@@ -3,14 +3,16 @@
 ghost use Rattle.std.specs.Prelude.{◌≡◌, ◌⊎◌, ◌++◌, Option, map, string_bytes};
 ghost use Rattle.std.specs.Io.KnownBytes.{Keeps};
 ghost use Rattle.byte_io.specs.Shelf.{Bytes};
+ghost use Rattle.pdb_request.specs.Asked.{ProveArguments, prove};
 ghost use Rattle.pdb_run.specs.Calls.{calls};
 ghost use Rattle.pdb_run.specs.Inputs.{failures};
 ghost use Rattle.pdb_run.specs.Runs.{world};
 ghost use Rattle.pdb_words.specs.CommandLine.{Parses, asked_of};
 ghost use Rattle.pdb_words.specs.Faults.{IsMistaken};
 ghost use Rattle.pdb_program.specs.Headline.{Headline};
+ghost use Rattle.pdb_program.specs.PartLines.{ArePartLinesTrue};
 ghost use Rattle.pdb_program.specs.Programs.{AskToKeepNothing, EndsFor, RunsOn};
-ghost use Rattle.pdb_program.specs.Steps.{SaysHeadline};
+ghost use Rattle.pdb_program.specs.Steps.{SaysHeadline, SaysParts};
 ghost use Rattle.pdb_program.specs.Refusals.{Refuses};
 
 use crate::hosts::Host;
@@ -19,6 +21,7 @@ use byte_io::shelf::Shelf;
 use byte_io::sinks::Sink;
 use byte_io::sources::Source;
 use pdb_keep::{run_make_table, run_solve};
+use pdb_parts::run_parts;
 use pdb_prove::run_prove;
 use pdb_request::Request;
 use pdb_run::{BorrowedIo, Io, Status};
@@ -53,6 +56,12 @@ pub fn run<H: Threads + Wait + Sync, S: Shelf, R: Source, W: Sink, E: Write, G: 
         → (W.output out.old).bytes ≡ Some start → (W.output out.new).bytes ≡ Some (start ++ lines)
         → Headline (asked_of words) before later input lines result }
 
+    // What each line means that `prove` writes of a part of a bound.
+    ensures part_lines { let words = map string_bytes words.items in
+        (a : ProveArguments) (start lines : Bytes) → Parses words → asked_of words ≡ prove a
+        → (W.output out.old).bytes ≡ Some start → (W.output out.new).bytes ≡ Some (start ++ lines)
+        → ArePartLinesTrue lines }
+
     // With a yes or a no the writer got exactly the lines on the inputs that the words ask for, and with a yes what was made
     // and checked stands under its name. In any case the run says one thing that it has cause to say, or a proper front of it
     // where the writer failed; so it does of words that don't parse.
@@ -80,6 +89,8 @@ pub(crate) fn run_on<H: Threads + Wait + Sync, I: Io, E: Write, G: Gate + Sync>(
     ensures same_streams { I.streams io.new ≡ I.streams io.old }
     ensures headline { let words = map string_bytes words.items in
         SaysHeadline words (I.world io.old) (I.world io.new) result }
+    ensures part_lines { let words = map string_bytes words.items in
+        SaysParts words (I.world io.old) (I.world io.new) }
     ensures runs { let words = map string_bytes words.items in let old = I.world io.old in
         RunsOn words old (I.world io.new) (E.contents err.old) (E.contents err.new) result }
 {
@@ -111,6 +122,7 @@ fn answer<H: Threads + Wait + Sync, I: Io, E: Write, G: Gate + Sync>(
         Ok(Request::MakeTable(asked)) => run_make_table(&asked, &host.workers(asked.workers), io),
         Ok(Request::Search(search)) => run_solve(&search, &host.workers(search.workers), io),
         Ok(Request::Prove(prove)) => run_prove(&prove, &host.workers(prove.workers), io),
+        Ok(Request::Parts(parts)) => run_parts(host.alloc, &parts, io),
         Err(fault) => explain(fault, io, err),
     }
 }

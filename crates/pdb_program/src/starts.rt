@@ -3,6 +3,7 @@
 ghost use Rattle.std.specs.Prelude.{◌≡◌, ◌++◌, ℕ, Option, drop, map, string_bytes, IfErr, IfOk, OnErr};
 ghost use Rattle.std.specs.Io.KnownBytes.{Keeps};
 ghost use Rattle.byte_io.specs.Shelf.{Bytes};
+ghost use Rattle.pdb_request.specs.Asked.{ProveArguments, prove};
 ghost use Rattle.pdb_run.specs.Writing.{memory_line};
 ghost use Rattle.pdb_run.specs.Calls.{calls};
 ghost use Rattle.pdb_run.specs.Inputs.{failures};
@@ -10,6 +11,7 @@ ghost use Rattle.pdb_run.specs.Runs.{Says, world};
 ghost use Rattle.pdb_words.specs.CommandLine.{Parses, asked_of};
 ghost use Rattle.pdb_words.specs.Faults.{unreadable_word};
 ghost use Rattle.pdb_program.specs.Headline.{Headline};
+ghost use Rattle.pdb_program.specs.PartLines.{ArePartLinesTrue};
 ghost use Rattle.pdb_program.specs.Programs.{IsNumberOfStatus, RunsOn};
 ghost use Rattle.pdb_program.specs.Refusals.{AppendsWholeOrFront};
 
@@ -44,6 +46,12 @@ pub fn start<H: Threads + Wait + Sync, S: Shelf, R: Source, W: Sink, E: Write, G
         → R.remaining reader.old ≡ Some input
         → (W.output out.old).bytes ≡ Some start → (W.output out.new).bytes ≡ Some (start ++ lines)
         → Headline (asked_of words) before later input lines result) }
+
+    ensures part_lines { IfOk call.entry.arguments (λ all.
+        let words = drop 1 (map string_bytes all.items) in
+        (a : ProveArguments) (start lines : Bytes) → Parses words → asked_of words ≡ prove a
+        → (W.output out.old).bytes ≡ Some start → (W.output out.new).bytes ≡ Some (start ++ lines)
+        → ArePartLinesTrue lines) }
 
     ensures runs { IfOk call.entry.arguments (λ all. RunsOn (drop 1 (map string_bytes all.items))
         (world (S.held shelf.old) (calls (S.calls shelf.old) (R.may_have_ended reader.old))

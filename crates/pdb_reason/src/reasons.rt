@@ -6,7 +6,7 @@ use crate::names::ShownName;
 use crate::outs::spared_text;
 use crate::texts::{NO_MEMORY, Subject, Text, WRONG, fault_text, text_of};
 use byte_io::shelf::Shelf;
-use pdb_request::{Prove, Replay, Request};
+use pdb_request::{Parts, Prove, Replay, Request};
 use std::fmt;
 use std::fmt::{Display, Formatter};
 
@@ -117,7 +117,9 @@ fn fault<'a>(asked: &Request<'a>, kind: &str, name: &'a str) -> Option<Reason<'a
     }
     let reads_input = matches!(
         asked,
-        Request::Replay(Replay { puzzle: None }) | Request::Prove(Prove { claims: None, .. })
+        Request::Replay(Replay { puzzle: None })
+            | Request::Prove(Prove { claims: None, .. })
+            | Request::Parts(Parts { board: None, .. })
     );
     let name = if reads_input && name == "-" {
         Named::StandardInput
@@ -151,7 +153,7 @@ fn table_name<'a>(asked: &Request<'a>, number: u64) -> Named<'a> {
         Request::LogCheck(check) => &check.tables,
         Request::Search(search) => &search.tables,
         Request::Prove(prove) => &prove.tables,
-        Request::Replay(_) | Request::MakeTable(_) => return Named::Nothing,
+        Request::Replay(_) | Request::MakeTable(_) | Request::Parts(_) => return Named::Nothing,
     };
     match usize::try_from(number) {
         Ok(number) => tables
@@ -177,6 +179,7 @@ fn name_of<'a>(asked: &Request<'a>, subject: Subject) -> Named<'a> {
         (Request::Search(search), Subject::Sets) => Named::File(search.sets),
         (Request::Prove(prove), Subject::Claims) => file_or_input(prove.claims),
         (Request::Prove(prove), Subject::Sets) => Named::File(prove.sets),
+        (Request::Parts(parts), Subject::Board) => file_or_input(parts.board),
         _ => Named::Nothing,
     }
 }

@@ -1,11 +1,12 @@
 -- What words ask for, as bytes and numbers.
 use Rattle.std.specs.Borrow.{Bor}
-use Rattle.std.specs.Prelude.{⊤, ℕ, ◌≤◌, Bool, IfSome, List, Option, map, option_map}
+use Rattle.std.specs.Prelude.{◌≡◌, ⊤, ℕ, ◌%◌, ◌≤◌, Bool, IfSome, List, Option, map, option_map}
 use Rattle.book_core.specs.Books.{AreWorkers}
 use Rattle.pdb_request.specs.declared.requests.Claim.{Claim}
 use Rattle.pdb_request.specs.declared.requests.Claim.TheVariants as claim
 use Rattle.pdb_request.specs.declared.requests.LogCheck.{LogCheck}
 use Rattle.pdb_request.specs.declared.requests.MakeTable.{MakeTable}
+use Rattle.pdb_request.specs.declared.requests.Parts.{Parts}
 use Rattle.pdb_request.specs.declared.requests.Prove.{Prove}
 use Rattle.pdb_request.specs.declared.requests.Replay.{Replay}
 use Rattle.pdb_request.specs.declared.requests.Request.{Request}
@@ -84,6 +85,16 @@ pub record ProveArguments : Type 0 where
   -- how many boards may be expanded for a claim, or none for as many as it takes
   pub budget : Option ℕ
 
+-- `parts`
+pub record PartsArguments : Type 0 where
+  -- the name of the board text, or none for standard input
+  pub board : Option (List ℕ)
+  -- how many moves each solution is to have at least, and how many parts that bound has
+  pub bound : ℕ
+  pub count : ℕ
+  -- the names of the files of answer lines
+  pub answers : List (List ℕ)
+
 -- what words ask for: a command with its arguments
 pub data Asked : Type 0 where
   -- whether the moves of a puzzle text solve its board
@@ -98,6 +109,8 @@ pub data Asked : Type 0 where
   solve : SolveArguments → Asked
   -- bounds and optima of the boards of claims, by a search and without a log
   prove : ProveArguments → Asked
+  -- a bound of a board, from lines that say that its parts hold
+  parts : PartsArguments → Asked
 
 -- ---- the same of the code's requests
 
@@ -152,6 +165,14 @@ prove_shown command = record {
   budget = command.budget;
 }
 
+abbrev pub parts_shown : Parts → PartsArguments
+parts_shown command = record {
+  board = option_map (λ s. s.now) command.board;
+  bound = command.bound;
+  count = command.count;
+  answers = file_names command.answers.items;
+}
+
 -- what is claimed of a log makes the command
 abbrev pub claimed : Claim → LogArguments → Asked
 claimed claim.Bound = bound
@@ -165,6 +186,7 @@ request_shown (request.LogCheck check) = claimed check.claim (log_check_shown ch
 request_shown (request.MakeTable command) = make_table (make_table_shown command)
 request_shown (request.Search search) = solve (search_shown search)
 request_shown (request.Prove command) = prove (prove_shown command)
+request_shown (request.Parts command) = parts (parts_shown command)
 
 -- ---- which numbers a request can have
 
@@ -176,6 +198,7 @@ HasWorkers (request.LogCheck check) = AreWorkers check.workers
 HasWorkers (request.MakeTable command) = AreWorkers command.workers
 HasWorkers (request.Search search) = AreWorkers search.workers
 HasWorkers (request.Prove command) = AreWorkers command.workers
+HasWorkers (request.Parts command) = ⊤
 
 -- a search may be let expand so many boards at most
 abbrev pub most_budget : ℕ
@@ -190,3 +213,12 @@ abbrev pub HasBudget : Request → Type 0
 HasBudget (request.Search search) = IsBudget search.budget
 HasBudget (request.Prove command) = IfSome command.budget IsBudget
 HasBudget other = ⊤
+
+-- a bound may have so many parts at most
+abbrev pub most_parts : ℕ
+most_parts = 65535
+
+-- a bound has an odd count of parts, and no more than it may have, where any is asked for
+abbrev pub HasOddCount : Request → Type 0
+HasOddCount (request.Parts command) = (command.count % 2 ≡ 1) × (command.count ≤ most_parts)
+HasOddCount other = ⊤

@@ -3,4 +3,4 @@
 
 mod requests;
 
-pub use requests::{Claim, LogCheck, MakeTable, Prove, Replay, Request, Search, TableCheck};
+pub use requests::{Claim, LogCheck, MakeTable, Parts, Prove, Replay, Request, Search, TableCheck};

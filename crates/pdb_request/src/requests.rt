@@ -15,6 +15,8 @@ pub enum Request<'a> {
     Search(Search<'a, &'a str>),
     /// `prove`.
     Prove(Prove<'a>),
+    /// `parts`.
+    Parts(Parts<'a>),
 }
 
 /// Whether the moves of a puzzle text solve its board.
@@ -111,4 +113,18 @@ pub struct Prove<'a> {
     pub fold: bool,
     /// How many boards may be expanded for a claim, 1 to 1,000,000,000,000, or none for as many as it takes.
     pub budget: Option<u64>,
+}
+
+/// A bound of a board, from lines that say that its parts hold: the files that are read, by their names and in the order in which
+/// they are read.
+#[derive(Debug, PartialEq, Drop)]
+pub struct Parts<'a> {
+    /// The file of the board text, or none for standard input.
+    pub board: Option<&'a str>,
+    /// How many moves each solution is to have at least.
+    pub bound: u8,
+    /// How many parts the bound has: an odd number.
+    pub count: u16,
+    /// The files of answer lines: one or more.
+    pub answers: Vec<&'a str>,
 }

@@ -1,21 +1,26 @@
 -- What was read for a command stood under the names that it was given.
-use Rattle.std.proofs.Common.{◌≡◌, List, [], ◌∷◌, Option, Some, map, refl}
+use Rattle.std.proofs.Common.{◌≡◌, ℕ, List, [], ◌∷◌, Option, Some, map, refl}
 use Rattle.byte_io.specs.Shelf.{Bytes, Files}
 use Rattle.pdb_request.specs.Asked.{LogArguments, ReplayArguments, TableArguments}
 use Rattle.pdb_request.specs.declared.requests.Claim.{Claim}
+use Rattle.pdb_run.specs.Commands.{Wanted}
 use Rattle.pdb_run.specs.Inputs.{AreRead, IsReadFrom}
 use Rattle.pdb_verdict.specs.Inputs.{LogFiles, files_in_order, puzzle_text, table_file}
 use Rattle.pdb_verdict.specs.Limits.{a_table}
 use Rattle.pdb_verdict.specs.Plans.{log_check_inputs, log_given, replay_inputs, table_inputs}
 
--- the tables of a told shelf, name by name
-pub tables_stood : (before : Files) (reader : Option Bytes) (names files : List Bytes)
-    → AreRead (Some before) reader (map a_table names) files → map before names ≡ map Some files
-tables_stood before reader [] [] read = refl
-tables_stood before reader (name ∷ names) (file ∷ files) read =
-    let rest = tables_stood before reader names files read.1 in
+-- a file under this name of this many bytes at most
+abbrev pub of_limit : ℕ → Bytes → Wanted
+of_limit limit name = record { name = Some name; limit = limit }
+
+-- files of a told shelf, name by name
+pub files_stood : (before : Files) (reader : Option Bytes) (limit : ℕ) (names files : List Bytes)
+    → AreRead (Some before) reader (map (of_limit limit) names) files → map before names ≡ map Some files
+files_stood before reader limit [] [] read = refl
+files_stood before reader limit (name ∷ names) (file ∷ files) read =
+    let rest = files_stood before reader limit names files read.1 in
     λ i. read.0.0 i ∷ rest i
-tables_stood before reader _ _ read = absurd read
+files_stood before reader limit _ _ read = absurd read
 
 module _ (shelf : Option Files) (reader : Option Bytes) where
   -- the puzzle text of `replay`

@@ -35,7 +35,7 @@ true_holds (puzzle_text puzzle) v h = tt
 true_holds (table_file table) v h = tt
 true_holds (log_claim Bound files) v h =
     let bounded = proved_bounds files.fold h.1.board files.sets files.log files.tables h.0 h.1.found_for in
-    (h.0, record { board = h.1.board; spelt = h.1.spelt; bounded = bounded }, h.2)
+    (h.0, (h.1.board, h.1.spelt, bounded), h.2)
 true_holds (log_claim Optimum files) v h = (h.0, record { solved = h.1.solved; least = proved_least files h.0 h.1 }, h.2)
 
 -- there is one result

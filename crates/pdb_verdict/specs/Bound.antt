@@ -51,7 +51,5 @@ abbrev pub TakesMemoryForBound : Bytes → List Bytes → Type 0
 TakesMemoryForBound text tables = (board : List ℕ) × Spells text board × TakesMemoryForTables tables
 
 -- what a bound says: no solution of the board that the text spells has fewer moves
-pub record IsBoundedText (text : Bytes) (bound : ℕ) : Type 0 where
-  pub board : List ℕ
-  pub spelt : Spells text board
-  pub bounded : IsBounded board bound
+abbrev pub IsBoundedText : Bytes → ℕ → Type 0
+IsBoundedText text bound = (board : List ℕ) × Spells text board × IsBounded board bound

@@ -118,8 +118,7 @@ line_of_fault fault.Memory = memory_line
 -- the line `exact`: the side and the mask of a table's pattern, how many entries it has, how many of them say that no walk leads
 -- home, and the greatest count
 abbrev pub exact_line : (side mask entries unreachable deepest : ℕ) → Bytes
-exact_line side mask entries unreachable deepest =
-    codes "exact side " ++ decimal side ++ codes " mask " ++ decimal mask ++ codes " entries " ++ decimal entries
+exact_line side mask entries unreachable deepest = codes "exact side " ++ decimal side ++ codes " mask " ++ decimal mask ++ codes " entries " ++ decimal entries
     ++ codes " unreachable " ++ decimal unreachable ++ codes " deepest " ++ decimal deepest ++ codes "\n"
 
 -- of a yes

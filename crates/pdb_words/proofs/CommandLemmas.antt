@@ -14,7 +14,7 @@ use Rattle.clap.specs.declared.parser.matches.ArgMatches.{ArgMatches}
 use Rattle.clap.specs.declared.error.Error.{Error}
 use Rattle.clap.specs.declared.error.kind.ErrorKind.{ErrorKind}
 use Rattle.clap.specs.declared.error.kind.ErrorKind.TheVariants as kind
-use Rattle.pdb_words.specs.CommandLine.{Parses, asked_by, asked_of, command_line, faults_of, mask_faults_by, mask_faults_in, parse_faults}
+use Rattle.pdb_words.specs.CommandLine.{Parses, asked_by, asked_of, command_line, faults_of, value_faults_by, value_faults_in, parse_faults}
 use Rattle.pdb_words.specs.Commands.{BeginsWithCommand, IsCommand, IsPlain, commands}
 use Rattle.pdb_words.specs.Faults.{IsCauseOfWordFault, IsMistakeOrMemory, IsMistaken}
 use Rattle.pdb_words.specs.declared.faults.WordFault.{WordFault}
@@ -152,9 +152,9 @@ module _ (name : Text) (is : IsCommand name) (words : List Text) where
   pub met : subcommand_of command_line (name ∷ words) ≡ Some (name, rows_after (leaf name).rules [] words)
   met = let e = is_entered name is in rw (e.stops, ← walk_stopped top.rules names start name [] words, e.found, e.label)
 
-  -- so is what is wrong with them, and with the mask in these rows
-  pub faults_behind : faults_of (name ∷ words) ≡ mask_faults_by name (rows_after (leaf name).rules [] words) ++ or_else (level_fault (leaf name) [] nothing_held words false []) []
-  faults_behind = λ i. mask_faults_in (met i) ++ parse_faults_behind i
+  -- so is what is wrong with them, and with a value in these rows
+  pub faults_behind : faults_of (name ∷ words) ≡ value_faults_by name (rows_after (leaf name).rules [] words) ++ or_else (level_fault (leaf name) [] nothing_held words false []) []
+  faults_behind = λ i. value_faults_in (met i) ++ parse_faults_behind i
 
   -- what is asked for is what these rows ask for
   pub asked_behind : asked_of (name ∷ words) ≡ asked_by name (rows_after (leaf name).rules [] words)
@@ -191,8 +191,8 @@ mistake_cause words fault.Memory mistaken is = tt
 mistake_cause words (fault.Help text) mistaken is = absurd is
 mistake_cause words fault.Version mistaken is = absurd is
 
--- so does a word that writes no mask
-pub mask_cause : (words : List Text) (rows : Option (Text × List Row)) (f : WordFault) → rows ≡ subcommand_of command_line words → mask_faults_in rows ≡ kind.ValueValidation ∷ []
+-- so does a value that is wrong
+pub value_cause : (words : List Text) (rows : Option (Text × List Row)) (f : WordFault) → rows ≡ subcommand_of command_line words → value_faults_in rows ≡ kind.ValueValidation ∷ []
     → IsMistakeOrMemory f → IsCauseOfWordFault words f
-mask_cause words rows f found wrong is =
+value_cause words rows f found wrong is =
     mistake_cause words f (record { kind = kind.ValueValidation; among = rw (← found, wrong) (inl refl); no_help = λ e. cc; no_version = λ e. cc }) is

@@ -9,6 +9,7 @@ use Rattle.pdb_request.specs.Asked.{Asked}
 use Rattle.pdb_request.specs.declared.requests.Claim.TheVariants.{Bound, Optimum}
 use Rattle.pdb_words.specs.LogChecks.{check_command, check_in}
 use Rattle.pdb_words.specs.MakeTable.{make_table_command, make_table_in, mask_faults}
+use Rattle.pdb_words.specs.Parts.{count_faults, parts_command, parts_in}
 use Rattle.pdb_words.specs.Prove.{prove_command, prove_in}
 use Rattle.pdb_words.specs.Replay.{replay_command, replay_in, replay_input}
 use Rattle.pdb_words.specs.Solve.{solve_command, solve_in}
@@ -25,7 +26,8 @@ checks = with_subcommand (with_subcommand (with_subcommand (with_subcommand prog
 
 -- the program with all its commands
 abbrev pub command_line : App
-command_line = with_subcommand (with_subcommand (with_subcommand checks make_table_command.top) solve_command.top) prove_command.top
+command_line = with_subcommand (with_subcommand (with_subcommand (with_subcommand checks
+    make_table_command.top) solve_command.top) prove_command.top) parts_command.top
 
 -- ---- what words ask for
 
@@ -38,6 +40,7 @@ asked_by name rows = if bytes_eq name (codes "replay") then replay_in rows
     else if bytes_eq name (codes "make-table") then make_table_in rows
     else if bytes_eq name (codes "solve") then solve_in rows
     else if bytes_eq name (codes "prove") then prove_in rows
+    else if bytes_eq name (codes "parts") then parts_in rows
     else replay_input
 
 -- without a command it is `replay` on standard input
@@ -55,18 +58,20 @@ asked_of words = asked_in (subcommand_of command_line words)
 abbrev pub parse_faults : List Text → Kinds
 parse_faults words = fault_of command_line words
 
--- what is wrong with the mask among the values found of the command of this name: only `make-table` has one
-abbrev pub mask_faults_by : Text → List Row → Kinds
-mask_faults_by name rows = if bytes_eq name (codes "make-table") then mask_faults rows else []
+-- what is wrong with a value among those found of the command of this name: `make-table` may have a mask that is none, and `parts`
+-- a count of parts that isn't odd
+abbrev pub value_faults_by : Text → List Row → Kinds
+value_faults_by name rows = if bytes_eq name (codes "make-table") then mask_faults rows
+    else if bytes_eq name (codes "parts") then count_faults rows else []
 
 -- the same, or nothing without a command
-abbrev pub mask_faults_in : Option (Text × List Row) → Kinds
-mask_faults_in None = []
-mask_faults_in (Some found) = mask_faults_by found.0 found.1
+abbrev pub value_faults_in : Option (Text × List Row) → Kinds
+value_faults_in None = []
+value_faults_in (Some found) = value_faults_by found.0 found.1
 
 -- what is wrong with the words: nothing, where they parse
 abbrev pub faults_of : List Text → Kinds
-faults_of words = mask_faults_in (subcommand_of command_line words) ++ parse_faults words
+faults_of words = value_faults_in (subcommand_of command_line words) ++ parse_faults words
 
 -- nothing is wrong with the words, and they ask neither for help nor for the version
 abbrev pub Parses : List Text → Type 0

@@ -1,5 +1,5 @@
 -- The names of the commands, and which words begin with one.
-use Rattle.std.specs.Prelude.{◌≡◌, ◌≢◌, ◌⊎◌, ⊤, List, [], ◌∷◌, codes}
+use Rattle.std.specs.Prelude.{◌≡◌, ◌≢◌, ◌⊎◌, ⊤, List, [], ◌∷◌, ◌++◌, codes}
 use Rattle.clap.specs.Walk.{Text}
 
 -- the names of the commands that take `--workers`
@@ -8,7 +8,7 @@ shared_commands = codes "table" ∷ codes "bound" ∷ codes "optimal" ∷ codes 
 
 -- the names of the commands
 abbrev pub commands : List Text
-commands = codes "replay" ∷ shared_commands
+commands = codes "replay" ∷ (shared_commands ++ codes "parts" ∷ [])
 
 -- the text is among these
 abbrev pub IsOneOf : List Text → Text → Type 0

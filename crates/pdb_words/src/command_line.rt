@@ -4,15 +4,16 @@ ghost use Rattle.std.specs.Prelude.{◌≡◌, ◌∷◌, [], IfErr, IfOk, IfSom
 ghost use Rattle.std.specs.Option.{MatchOption};
 ghost use Rattle.clap.specs.Words.{App, FailsBy, app_of, subcommand_of, subcommand_rows_of, with_subcommand};
 ghost use Rattle.clap.specs.declared.error.kind.ErrorKind.TheVariants.{ValueValidation};
-ghost use Rattle.pdb_request.specs.Asked.{HasBudget, HasWorkers, request_shown};
-ghost use Rattle.pdb_words.specs.CommandLine.{Parses, asked_in, asked_of, checks, command_line, mask_faults_in, parse_faults, program};
+ghost use Rattle.pdb_request.specs.Asked.{HasBudget, HasOddCount, HasWorkers, request_shown};
+ghost use Rattle.pdb_words.specs.CommandLine.{Parses, asked_in, asked_of, checks, command_line, parse_faults, program, value_faults_in};
 ghost use Rattle.pdb_words.specs.Commands.{IsCommand};
-ghost use Rattle.pdb_words.specs.Faults.{IsCauseOfWordFault, IsPlainlySaid};
+ghost use Rattle.pdb_words.specs.Faults.{IsCauseOfWordFault, IsMistakeOrMemory, IsPlainlySaid};
 
 use crate::commands::with_statuses;
-use crate::faults::{WordFault, fault_by, mask_fault};
+use crate::faults::{WordFault, count_fault, fault_by, mask_fault};
 use crate::log_checks::{bound_command, check_in, optimal_command};
 use crate::make_table::{make_table_command, make_table_in, wrong_mask_in};
+use crate::parts::{count_in, has_odd_count, parts_command, parts_in};
 use crate::prove::{prove_command, prove_in};
 use crate::replay::{replay_command, replay_in};
 use crate::solve::{solve_command, solve_in};
@@ -35,13 +36,14 @@ pub fn read_words<'a>(alloc: Global, words: &'a [String]) -> Result<Request<'a>,
         request_shown asked ≡ asked_of (map string_bytes words.now)) }
     ensures workers { IfOk result HasWorkers }
     ensures budget { IfOk result HasBudget }
+    ensures count { IfOk result HasOddCount }
     ensures cause { IfErr result (λ fault. IsCauseOfWordFault (map string_bytes words.now) fault) }
     ensures plain { IfErr result IsPlainlySaid }
 {
     match matches_of(alloc, words) {
-        Ok(matches) => match wrong_mask(&matches) {
+        Ok(matches) => match wrong_value(alloc, &matches) {
             None => request_in(alloc, &matches).map_err(|_| WordFault::Memory),
-            Some(word) => Err(mask_fault(alloc, word)),
+            Some(fault) => Err(fault),
         },
         Err(error) => Err(fault_by(alloc, error)),
     }
@@ -53,7 +55,8 @@ fn command_line<'a>(alloc: Global) -> Result<Command<'a>, AllocError>
 {
     let program = with_command(checks(alloc), make_table_command(alloc));
     let program = with_command(program, solve_command(alloc));
-    with_command(program, prove_command(alloc))
+    let program = with_command(program, prove_command(alloc));
+    with_command(program, parts_command(alloc))
 }
 
 /// The program with the commands that only check.
@@ -106,24 +109,36 @@ fn matches_of<'a>(alloc: Global, words: &'a [String]) -> Result<ArgMatches<'a>, 
     command_line(alloc)?.try_get_matches_from(words)
 }
 
-/// The word for a mask that writes none, in these matches of words.
-fn wrong_mask<'a>(matches: &ArgMatches<'a>) -> Option<&'a str>
-    ensures { let faults = mask_faults_in (subcommand_rows_of matches.now) in
+/// The fault of a value in these matches of words, where one is wrong: a mask, or an even count of parts.
+fn wrong_value(alloc: Global, matches: &ArgMatches<'_>) -> Option<WordFault>
+    ensures faults { let faults = value_faults_in (subcommand_rows_of matches.now) in
         MatchOption result (faults ≡ []) (λ _. faults ≡ ValueValidation ∷ []) }
+    ensures kind { IfSome result IsMistakeOrMemory }
+    ensures plain { IfSome result IsPlainlySaid }
 {
     match matches.subcommand() {
-        Some(("make-table", found)) => wrong_mask_in(found),
+        Some(("make-table", found)) => match wrong_mask_in(found) {
+            None => None,
+            Some(word) => Some(mask_fault(alloc, word)),
+        },
+        Some(("parts", found)) => if has_odd_count(found) {
+            None
+        } else {
+            Some(count_fault(alloc, count_in(found)))
+        },
         _ => None,
     }
 }
 
 /// What the words ask for, in which these matches were found.
 fn request_in<'a>(alloc: Global, matches: &ArgMatches<'a>) -> Result<Request<'a>, AllocError>
-    requires { IfSome (subcommand_rows_of matches.now) (λ found. IsCommand found.0) }
+    requires command { IfSome (subcommand_rows_of matches.now) (λ found. IsCommand found.0) }
+    requires values { value_faults_in (subcommand_rows_of matches.now) ≡ [] }
     ensures asked { IfOk result (λ asked.
         request_shown asked ≡ asked_in (subcommand_rows_of matches.now)) }
     ensures workers { IfOk result HasWorkers }
     ensures budget { IfOk result HasBudget }
+    ensures count { IfOk result HasOddCount }
 {
     match matches.subcommand() {
         None => Ok(Request::Replay(Replay { puzzle: None })),
@@ -134,6 +149,7 @@ fn request_in<'a>(alloc: Global, matches: &ArgMatches<'a>) -> Result<Request<'a>
         Some(("make-table", found)) => Ok(make_table_in(found)),
         Some(("solve", found)) => solve_in(alloc, found),
         Some(("prove", found)) => prove_in(alloc, found),
+        Some(("parts", found)) => parts_in(alloc, found),
         Some(_) => unreachable!(),
     }
 }

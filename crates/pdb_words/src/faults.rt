@@ -95,6 +95,24 @@ fn mask_mistake(alloc: Global, word: &str) -> Result<String, AllocError> {
     format!(in alloc; "{before}{wanted}{behind}")
 }
 
+/// The fault that this count of parts isn't odd.
+pub(crate) fn count_fault(alloc: Global, count: u16) -> WordFault
+    ensures kind { IsMistakeOrMemory result }
+    ensures plain { IsPlainlySaid result }
+{
+    match count_mistake(alloc, count) {
+        Ok(text) => mistake(alloc, text.as_str()),
+        Err(_) => WordFault::Memory,
+    }
+}
+
+/// What is said of a count of parts that isn't odd, in the form of any other mistake.
+fn count_mistake(alloc: Global, count: u16) -> Result<String, AllocError> {
+    format!(in alloc;
+        "error: invalid value '{count}' for '<K>': a bound has an odd number of parts\n\nFor more information, try '--help'.\n"
+    )
+}
+
 /// The mistake that a text explains, with `?` for each byte that is neither LF nor printable ASCII, so that no word of the
 /// user's moves a terminal.
 fn mistake(alloc: Global, text: &str) -> WordFault

@@ -11,6 +11,7 @@ mod log_checks;
 mod make_table;
 mod masks;
 mod numbers;
+mod parts;
 mod prove;
 mod replace;
 mod replay;

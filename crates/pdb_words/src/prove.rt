@@ -18,11 +18,13 @@ use std::alloc::{AllocError, Global};
 /// What stands at the end of its help.
 const AFTER_HELP: &str = with_statuses!(
     "CLAIMS has a claim a line:
-  BOARD          asks for a shortest solution
-  BOARD ; MOVES  says that these moves are a shortest solution
-  BOARD : N      says that no solution has fewer than N moves
+  BOARD               asks for a shortest solution
+  BOARD ; MOVES       says that these moves are a shortest solution
+  BOARD : N           says that no solution has fewer than N moves
+  BOARD : N part I/K  says that part I of the K parts of that bound holds
 Answers come a line a claim, in order, each written as soon as it and those before are done:
-`optimal N of BOARD ; MOVES`, `bound N of BOARD`, or `refused .. of ..`: why, and the claim.
+`optimal N of BOARD ; MOVES`, `bound N of BOARD`, `part I/K of bound N of BOARD`, or
+`refused .. of ..`: why, and the claim.
 No log is needed. Workers share the check of the tables and the search.",
     ""
 );
@@ -46,7 +48,7 @@ pub(crate) fn prove_command<'a>(alloc: Global) -> Result<Command<'a>, AllocError
 }
 
 /// The file that a name stands for, or none for `-`, which stands for standard input.
-fn file_or_input(name: &str) -> Option<&str>
+pub(crate) fn file_or_input(name: &str) -> Option<&str>
     ensures { option_map (λ file. file.now) result ≡ file_or_input name.now }
 {
     if name == "-" { None } else { Some(name) }

@@ -12,10 +12,15 @@ use std::test::Fail;
 use std::thread::Threads;
 
 /// The names of the files here and their bytes.
-const FILES: [(&str, &[u8]); 7] = [
+const FILES: [(&str, &[u8]); 9] = [
     ("board", b"3 2 1 0"),
     ("puzzle", b"3 2 1 0 ; ULDRUL"),
     ("claims", b"3 2 1 0\n3 2 1 0 : 6\n"),
+    ("first", b"part 0/3 of bound 6 of 3 2 1 0\n"),
+    (
+        "others",
+        b"part 1/3 of bound 6 of 3 2 1 0\npart 2/3 of bound 6 of 3 2 1 0\n",
+    ),
     ("sets", b"set 0 1\n"),
     ("log", &BRANCHES),
     ("f12", &TILES_12),
@@ -31,7 +36,7 @@ struct Task<'a> {
     line: &'a [u8],
 }
 
-const TASKS: [Task<'static>; 8] = [
+const TASKS: [Task<'static>; 9] = [
     Task {
         words: &["replay", "puzzle"],
         reads: &["puzzle"],
@@ -79,6 +84,12 @@ const TASKS: [Task<'static>; 8] = [
         reads: &["claims", "sets", "f12", "f3"],
         keeps: None,
         line: b"\noptimal 6 of 3 2 1 0 ; ULDRUL\nbound 6 of 3 2 1 0\n",
+    },
+    Task {
+        words: &["parts", "board", "6", "3", "first", "others"],
+        reads: &["board", "first", "others"],
+        keeps: None,
+        line: b"bound 6 of 3 2 1 0 from 3 parts\n",
     },
 ];
 

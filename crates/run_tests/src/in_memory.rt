@@ -19,13 +19,14 @@ const DIGEST_OF_BOARD: &str = "b685654d46b018f87826c97ecd0c72fb5e7f96df4693bd2fe
 const DIGEST_OF_CLAIMS: &str = "50c1fa83c0095d9e9f271e68c72c9af9a64e3e95e5c38fed39da59d3094f305f";
 
 /// The files of all runs here, by their names.
-const FILES: [(&str, &[u8]); 6] = [
+const FILES: [(&str, &[u8]); 7] = [
     ("board", b"3 2 1 0"),
     ("six", b"3 2 1 0 ; ULDRUL"),
     ("sets", b"set 0\n"),
     ("leaf", &LEAF),
     ("f123", &TILES_123),
     ("claims", b"3 2 1 0 : 6\n3 2 1 0 : 7\n"),
+    ("answers", b"part 0/1 of bound 6 of 3 2 1 0\n"),
 ];
 
 /// A run of these words, which one space parts, over the files and this input.
@@ -70,7 +71,7 @@ type Case<'a> = (&'a str, &'a [&'a str], &'a str, u8);
 fn answers_are_those_over_any_shelf(rt: HostRuntime) -> Result<(), Fail> {
     let alloc = rt.alloc();
     let exact = "exact side 2 mask 14 entries 24 unreachable 12 deepest 6";
-    let cases: [Case<'_>; 9] = [
+    let cases: [Case<'_>; 11] = [
         ("replay six", &[], "solution 6", 0),
         ("replay board", &[], "refused P1", 1),
         ("replay", &[], "solution 1", 0),
@@ -95,6 +96,13 @@ fn answers_are_those_over_any_shelf(rt: HostRuntime) -> Result<(), Fail> {
             "bound 6 of 3 2 1 0\nrefused O2 by ULDRUL of 3 2 1 0 : 7",
             1,
         ),
+        (
+            "parts board 6 1 answers",
+            &[],
+            "bound 6 of 3 2 1 0 from 1 parts",
+            0,
+        ),
+        ("parts board 7 1 answers", &[], "3 2 1 0 : 7 part 0/1", 1),
     ];
     for (words, digests, last, status) in cases {
         let want = lines(alloc, digests, last)?;

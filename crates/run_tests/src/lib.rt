@@ -18,6 +18,8 @@ mod makers;
 #[cfg(test)]
 mod parity;
 #[cfg(test)]
+mod parts;
+#[cfg(test)]
 mod proofs;
 #[cfg(test)]
 mod replays;

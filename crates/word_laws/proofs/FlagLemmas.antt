@@ -73,14 +73,14 @@ prove_knows name = elim (cases_Bool (bytes_eq (codes "budget") name)) [
 
 all_know : (command : Text) → IsCommand command → KnowsItsFlags command
 all_know = each_holds KnowsItsFlags commands
-    (λ name. grind arith, (λ name. grind arith, (λ name. grind arith, (λ name. grind arith, (make_table_knows, (solve_knows, (prove_knows, tt)))))))
+    (λ name. grind arith, (λ name. grind arith, (λ name. grind arith, (λ name. grind arith, (make_table_knows, (solve_knows, (prove_knows, (λ name. grind arith, tt))))))))
 
 -- behind a command's name, and no `--`, there are no flags but these
 pub flags_known : (command name flag : Text) (before after : List Text) → IsCommand command → All (λ word. word ≢ codes "--") before → IsLongFlag name flag
     → Parses (command ∷ before ++ flag ∷ after) → TakesFlag command name
 flags_known command name flag before after is all is_flag parses =
     let s = leaf command in
-    let none = each_holds (λ c. NoneTrails (leaf c)) commands (λ place. grind arith, (λ place. grind arith, (λ place. grind arith, (λ place. grind arith, (λ place. grind arith, (λ place. grind arith, (λ place. grind arith, tt))))))) command is in
+    let none = each_holds (λ c. NoneTrails (leaf c)) commands (λ place. grind arith, (λ place. grind arith, (λ place. grind arith, (λ place. grind arith, (λ place. grind arith, (λ place. grind arith, (λ place. grind arith, (λ place. grind arith, tt)))))))) command is in
     let behind = none_wrong _ _ (none_wrong _ _ (sym (parse_faults_behind command is (before ++ flag ∷ after)) ∙ parse_right (command ∷ before ++ flag ∷ after) parses)).0 in
     let met = flag_right s none (walk_from nothing_held) before flag name is_flag.0 after (refl, refl) all is_flag.1 behind.0 in
     elim (all_know command is name) [

@@ -1,5 +1,7 @@
 mod FlagLemmas
 mod LogLemmas
 mod MaskWordLemmas
+mod PartsLemmas
 mod ProveLemmas
+mod TextLemmas
 mod WalkLemmas

@@ -2,7 +2,6 @@
 use Rattle.std.proofs.Common.{◌≡◌, ◌∙◌, arith, inl, inr, refl, ℕ, Bool, false, true, List, [], ◌∷◌, ◌++◌, Option, Some, None, append-nil, codes, map}
 use Rattle.std.specs.List.{AllByRecursion}
 use Rattle.std.proofs.lemmas.List.Elements.{recursion_from_All}
-use Rattle.std.proofs.lemmas.Bool.Decides.{nat_tests}
 use Rattle.clap.specs.Kinds.{Kinds, or_else}
 use Rattle.clap.specs.Walk.{Text}
 use Rattle.clap.specs.declared.error.kind.ErrorKind.TheVariants as kind
@@ -15,32 +14,14 @@ use Rattle.pdb_words.specs.Numbers.{number_of, number_written}
 use Rattle.pdb_words.specs.Prove.{file_or_input}
 use Rattle.pdb_words.proofs.CommandLemmas.{faults_behind, mistaken}
 use Rattle.word_laws.proofs.WalkLemmas.{AsksIf, Comes, FitsTables, Word, asks_if, asks_when, budgets, flag, missing, numbered, plain, tables_come, text_of, unless, workers}
-use Rattle.word_laws.specs.Asking.{AsksFor}
+use Rattle.word_laws.proofs.TextLemmas.{by_source, file_is, word_for, word_is}
+use Rattle.word_laws.specs.Asking.{AsksFor, TextFrom, file, input, text_word}
 use Rattle.word_laws.specs.LogWords.{with_fold}
 use Rattle.word_laws.specs.NumberTexts.{writes_budget, writes_workers}
-use Rattle.word_laws.specs.ProveWords.{ClaimsFrom, ProveNames, asks_for_proofs, claims_file, claims_word, file, input, prove_words}
+use Rattle.word_laws.specs.ProveWords.{ProveNames, asks_for_proofs, prove_words}
 
 is_command : IsCommand (codes "prove")
 is_command = inr (inr (inr (inr (inr (inr (inl refl))))))
-
-by_claims : (P : ClaimsFrom → Type 0) → ((name : Text) (is : IsPlain name) → P (file name is)) × P input → (claims : ClaimsFrom) → P claims
-by_claims P all (file name is) = all.0 name is
-by_claims P all input = all.1
-
--- the word for the claims, which `clap` doesn't read as a flag
-abbrev word_for : ClaimsFrom → Word
-word_for (file name is) = plain name is
-word_for input = flag (codes "-")
-
-word_is : (claims : ClaimsFrom) → text_of (word_for claims) ≡ claims_word claims
-word_is (file name is) = refl
-word_is input = refl
-
--- a name that doesn't begin with `-` is that of a file
-file_is : (claims : ClaimsFrom) → file_or_input (claims_word claims) ≡ claims_file claims
-file_is (file [] is) = refl
-file_is (file (first ∷ rest) is) = grind (arith, nat_tests)
-file_is input = refl
 
 -- what is read of a text that writes a budget
 budget_read : (budget : Text) → writes_budget budget ≡ true → number_written 1 most_budget budget ≡ Some (number_of budget)
@@ -51,13 +32,13 @@ module _ (names : ProveNames) where
   all_plain = recursion_from_All IsPlain (names.sets ∷ names.table ∷ names.more_tables) names.are_names.0
 
   -- the word for the claims, and the names as far as the first table
-  abbrev leading : ClaimsFrom → List Word
+  abbrev leading : TextFrom → List Word
   leading claims = word_for claims ∷ plain names.sets all_plain.0 ∷ plain names.table all_plain.1.0 ∷ []
 
   -- what is asked for, as it is read of the words
-  abbrev read_as : ClaimsFrom → ℕ → Bool → Option ℕ → Asked
+  abbrev read_as : TextFrom → ℕ → Bool → Option ℕ → Asked
   read_as claims workers folds budget = prove (record {
-    claims = file_or_input (claims_word claims);
+    claims = file_or_input (text_word claims);
     sets = names.sets;
     tables = names.table ∷ names.more_tables;
     workers = workers;
@@ -68,7 +49,7 @@ module _ (names : ProveNames) where
   is_read : (workers : ℕ) (folds : Bool) (budget : Option ℕ) → read_as names.claims workers folds budget ≡ asks_for_proofs names workers folds budget
   is_read workers folds budget = rw (file_is names.claims) refl
 
-  abbrev Fits : List Word → List Word → (Kinds → Kinds) → Asked → ClaimsFrom → Type 0
+  abbrev Fits : List Word → List Word → (Kinds → Kinds) → Asked → TextFrom → Type 0
   Fits before behind kinds asked claims = FitsTables (codes "prove") 3 (leading claims) names.table names.more_tables before behind kinds asked
 
   all_come : (before behind : List Word) (kinds : Kinds → Kinds) (workers : ℕ) (folds : Bool) (budget : Option ℕ) → Fits before behind kinds (read_as names.claims workers folds budget) names.claims
@@ -79,7 +60,7 @@ module _ (names : ProveNames) where
       rw (word_is names.claims, is_read workers folds budget) at come
 
   -- the same whether `--fold` comes first or not
-  record FitsBoth (flags behind : List Word) (kinds : Kinds → Kinds) (workers : ℕ) (budget : Option ℕ) (claims : ClaimsFrom) : Type 0 where
+  record FitsBoth (flags behind : List Word) (kinds : Kinds → Kinds) (workers : ℕ) (budget : Option ℕ) (claims : TextFrom) : Type 0 where
     whole : Fits flags behind kinds (read_as claims workers false budget) claims
     folded : Fits (flag (codes "--fold") ∷ flags) behind kinds (read_as claims workers true budget) claims
 
@@ -91,7 +72,7 @@ module _ (names : ProveNames) where
 
     prove_comes : (folds : Bool) → ((name : Text) (is : IsPlain name) → FitsBoth flags behind kinds workers budget (file name is)) × FitsBoth flags behind kinds workers budget input
         → Comes (codes "prove") (with_fold folds (map text_of flags ++ (prove_words names ++ map text_of behind))) (kinds []) (asks_for_proofs names workers folds budget)
-    prove_comes folds all = one_comes folds (by_claims (FitsBoth flags behind kinds workers budget) all names.claims)
+    prove_comes folds all = one_comes folds (by_source (FitsBoth flags behind kinds workers budget) all names.claims)
 
   -- no number
   pub plain_asked : (folds : Bool) → AsksFor (codes "prove" ∷ with_fold folds (prove_words names)) (asks_for_proofs names 1 folds None)
@@ -152,10 +133,10 @@ module _ (names : ProveNames) where
   fold_asked =
       let kinds : Kinds → Kinds = λ tables. or_else (or_else (or_else (or_else tables []) []) []) [] in
       all_come [] (flag (codes "--fold") ∷ []) kinds 1 true None
-      (by_claims (λ claims. Fits [] (flag (codes "--fold") ∷ []) kinds (read_as claims 1 true None) claims) (λ name is. assumption, assumption) names.claims)
+      (by_source (λ claims. Fits [] (flag (codes "--fold") ∷ []) kinds (read_as claims 1 true None) claims) (λ name is. assumption, assumption) names.claims)
 
 -- no table
-pub tableless : (claims : ClaimsFrom) (sets : Text) (folds : Bool) → IsPlain sets → IsMistaken (codes "prove" ∷ with_fold folds (claims_word claims ∷ sets ∷ []))
+pub tableless : (claims : TextFrom) (sets : Text) (folds : Bool) → IsPlain sets → IsMistaken (codes "prove" ∷ with_fold folds (text_word claims ∷ sets ∷ []))
 unfolding clap_on_literals
 tableless (file name is) sets true s = missing is_command (flag (codes "--fold") ∷ plain name is ∷ plain sets s ∷ []) refl
 tableless (file name is) sets false s = missing is_command (plain name is ∷ plain sets s ∷ []) refl

@@ -4,6 +4,8 @@ use Rattle.std.specs.List.{AllByRecursion, fold}
 use Rattle.std.specs.Prelude.{if◌then◌else◌, pos, unwrap_or}
 use Rattle.std.proofs.lemmas.Bool.Decides.{nat_tests}
 use Rattle.std.proofs.lemmas.List.{map-append}
+use Rattle.std.proofs.lemmas.Slice.Eq.{bytes_eq-Decides}
+use Rattle.std.specs.Str.{bytes_eq}
 use Rattle.clap.specs.Faults.{check_fault, defaults_fault, settle_fault, step_fault, turn_fault, use_fault, values_fault, walk_fault}
 use Rattle.clap.specs.Kinds.{Kinds, or_else}
 use Rattle.clap.specs.Lexer.{usize_max, without_minus}
@@ -13,12 +15,12 @@ use Rattle.clap.specs.Walk.{Held, Row, Rule, Text, Walk, after_step, arg_by_inde
 use Rattle.clap.specs.declared.builder.value_parser.ValueParser.TheVariants as parser
 use Rattle.clap.specs.declared.error.kind.ErrorKind.TheVariants as kind
 use Rattle.book_core.specs.Books.{most_workers}
-use Rattle.pdb_request.specs.Asked.{Asked, most_budget}
+use Rattle.pdb_request.specs.Asked.{Asked, most_budget, most_parts}
 use Rattle.pdb_words.specs.Budget.{usual_budget}
-use Rattle.pdb_words.specs.CommandLine.{asked_by, asked_of, faults_of, mask_faults_by, parse_faults}
+use Rattle.pdb_words.specs.CommandLine.{asked_by, asked_of, faults_of, value_faults_by, parse_faults}
 use Rattle.pdb_words.specs.Commands.{IsCommand, IsPlain}
 use Rattle.pdb_words.specs.Faults.{IsMistaken}
-use Rattle.pdb_words.specs.Files.{needed_tables}
+use Rattle.pdb_words.specs.Files.{needed_file}
 use Rattle.pdb_words.specs.MakeTable.{most_side}
 use Rattle.pdb_words.specs.Numbers.{number_of, number_written, writes_within}
 use Rattle.pdb_words.proofs.CommandLemmas.{asked_behind, faults_behind, leaf, mistaken, mistaken_parse, parse_faults_behind, start}
@@ -95,40 +97,47 @@ pub turns-append : (s : Shape) (w : Walk) (xs ys : List Word)
 turns-append s w [] ys = refl
 turns-append s w (x ∷ xs) ys = grind (arith, or_assoc, turns-append s (turn_of s w x).0 xs ys)
 
--- ---- one table or more, as the last names of a command
+-- ---- one file or more, as the last names of a command
 
-module _ (place : ℕ) where
-  -- the tables, as they are built: in this place
-  abbrev pub tables_rule : Rule
-  tables_rule = with_index place (filled needed_tables)
+-- files under this id, one or more
+abbrev files_of : Text → Rule
+files_of id = record (needed_file id) { range = Some (record { start_inclusive = 1; end_inclusive = usize_max }) }
 
-  -- the walk behind some tables, where these rows were found before them
+module _ (id : Text) (place : ℕ) where
+  -- the files, as they are built: in this place
+  abbrev pub files_rule : Rule
+  files_rule = with_index place (filled (files_of id))
+
+  -- the walk behind some files, where these rows were found before them
   abbrev pub gathering : List Row → List Text → Walk
-  gathering rows tables = record {
-    held = record { rows = rows; pending = Some (codes "TABLES", tables); skip = 0 };
+  gathering rows files = record {
+    held = record { rows = rows; pending = Some (id, files); skip = 0 };
     waiting = positional;
     position = place;
     is_trailing = false;
     stopped = None;
   }
 
-  -- more tables
-  turns-plains : (s : Shape) → arg_by_index s.rules place ≡ Some tables_rule → (rows : List Row) (tables more : List Text) (all : AllByRecursion IsPlain more) (behind : List Word)
-      → turns s (gathering rows tables) (plains more all ++ behind) ≡ turns s (gathering rows (tables ++ more)) behind
-  turns-plains s met rows tables [] all behind = rw append-nil refl
-  turns-plains s met rows tables (word ∷ more) all behind = grind (arith, append_assoc, turns-plains s met rows (tables ++ word ∷ []) more all.1 behind)
+  same_id : bytes_eq id id ≡ true
+  same_id = (bytes_eq-Decides id id).1 refl
 
-  texts_pass : (texts : List Text) → values_fault tables_rule texts ≡ []
+  -- more files
+  turns-plains : (s : Shape) → arg_by_index s.rules place ≡ Some files_rule → (rows : List Row) (files more : List Text) (all : AllByRecursion IsPlain more) (behind : List Word)
+      → turns s (gathering rows files) (plains more all ++ behind) ≡ turns s (gathering rows (files ++ more)) behind
+  turns-plains s met rows files [] all behind = rw append-nil refl
+  turns-plains s met rows files (word ∷ more) all behind = grind (arith, same_id, append_assoc, turns-plains s met rows (files ++ word ∷ []) more all.1 behind)
+
+  texts_pass : (texts : List Text) → values_fault files_rule texts ≡ []
   texts_pass [] = refl
   texts_pass (text ∷ texts) = texts_pass texts
 
-  -- what is wrong with the tables at the end
-  abbrev pub tables_fault : List Text → Kinds
-  tables_fault tables = use_fault false tables_rule tables []
+  -- what is wrong with the files at the end
+  abbrev pub files_fault : List Text → Kinds
+  files_fault files = use_fault false files_rule files []
 
-  -- as many tables as a machine can name pass
-  tables_pass : (table : Text) (tables : List Text) → length (table ∷ tables) ≤ usize_max → tables_fault (table ∷ tables) ≡ []
-  tables_pass table tables many = grind (arith, nat_tests, texts_pass tables)
+  -- as many files as a machine can name pass
+  files_pass : (first : Text) (files : List Text) → length (first ∷ files) ≤ usize_max → files_fault (first ∷ files) ≡ []
+  files_pass first files many = grind (arith, nat_tests, texts_pass files)
 
 -- ---- all words
 
@@ -151,39 +160,48 @@ parse_comes {name = name} is words =
 
 -- they come to what stands at the end of the walk
 pub comes : {name : Text} → IsCommand name → (words : List Word) {end : Walk × Kinds} {kinds : Kinds} {asked : Asked} → turns (leaf name) start words ≡ end
-    → mask_faults_by name (finished (leaf name).rules end.0.held) ++ or_else end.1 (last_fault (leaf name) end.0.held) ≡ kinds → asked_by name (finished (leaf name).rules end.0.held) ≡ asked
+    → value_faults_by name (finished (leaf name).rules end.0.held) ++ or_else end.1 (last_fault (leaf name) end.0.held) ≡ kinds → asked_by name (finished (leaf name).rules end.0.held) ≡ asked
     → Comes name (map text_of words) kinds asked
 unfolding walk_fault
 comes {name = name} is words run ends found =
     let read = words_read (leaf name) start words ∙ run in (
-      faults_behind name is (map text_of words) ∙ (λ i. mask_faults_by name (finished (leaf name).rules (read i).0.held) ++ or_nothing (or_else (read i).1 (last_fault (leaf name) (read i).0.held)) i) ∙ ends,
+      faults_behind name is (map text_of words) ∙ (λ i. value_faults_by name (finished (leaf name).rules (read i).0.held) ++ or_nothing (or_else (read i).1 (last_fault (leaf name) (read i).0.held)) i) ∙ ends,
       asked_behind name is (map text_of words) ∙ (λ i. asked_by name (finished (leaf name).rules (read i).0.held)) ∙ found,
     )
 
--- the walk of a command over flags, the names as far as the first table, all tables, and the flags behind them has this wrong, by
--- what is with the tables, and asks for this
-abbrev pub FitsTables : (name : Text) (place : ℕ) (leading : List Word) (table : Text) (more : List Text) (before behind : List Word) → (Kinds → Kinds) → Asked → Type 0
-FitsTables name place leading table more before behind kinds asked =
+-- the walk of a command over flags, the names as far as the first of its files, all of these, and the flags behind them has this
+-- wrong, by what is with the files, and asks for this
+abbrev pub FitsFiles : (id name : Text) (place : ℕ) (leading : List Word) (file : Text) (more : List Text) (before behind : List Word) → (Kinds → Kinds) → Asked → Type 0
+FitsFiles id name place leading file more before behind kinds asked =
     let s = leaf name in
     let first = turns s start (before ++ leading) in
-    let end = turns s (gathering place first.0.held.rows (table ∷ more)) behind in
+    let end = turns s (gathering id place first.0.held.rows (file ∷ more)) behind in
     ◌≡◌ {A = Option Rule × Walk × Kinds × Asked}
-    (arg_by_index s.rules place, first.0, mask_faults_by name (finished s.rules end.0.held) ++ or_else (or_else first.1 end.1) (last_fault s end.0.held), asked_by name (finished s.rules end.0.held))
-    (Some (tables_rule place), gathering place first.0.held.rows (table ∷ []), kinds (tables_fault place (table ∷ more)), asked)
+    (arg_by_index s.rules place, first.0, value_faults_by name (finished s.rules end.0.held) ++ or_else (or_else first.1 end.1) (last_fault s end.0.held), asked_by name (finished s.rules end.0.held))
+    (Some (files_rule id place), gathering id place first.0.held.rows (file ∷ []), kinds (files_fault id place (file ∷ more)), asked)
 
 -- so the words come to this
-pub tables_come : {name : Text} → IsCommand name → (place : ℕ) (leading : List Word) (table : Text) (more : List Text) (all : AllByRecursion IsPlain more) → length (table ∷ more) ≤ usize_max
-    → (before behind : List Word) (kinds : Kinds → Kinds) (asked : Asked) → FitsTables name place leading table more before behind kinds asked
+pub files_come : (id : Text) {name : Text} → IsCommand name → (place : ℕ) (leading : List Word) (file : Text) (more : List Text) (all : AllByRecursion IsPlain more) → length (file ∷ more) ≤ usize_max
+    → (before behind : List Word) (kinds : Kinds → Kinds) (asked : Asked) → FitsFiles id name place leading file more before behind kinds asked
     → Comes name (map text_of before ++ (map text_of leading ++ (more ++ map text_of behind))) (kinds []) asked
-tables_come {name = name} is place leading table more all many before behind kinds asked fits =
+files_come id {name = name} is place leading file more all many before behind kinds asked fits =
     let s = leaf name in
     let first = turns s start (before ++ leading) in
     let rest = ap (λ (w : Walk). turns s w (plains more all ++ behind)) (λ i. (fits i).1)
-    ∙ turns-plains place s (λ i. (fits i).0) first.0.held.rows (table ∷ []) more all behind in
+    ∙ turns-plains id place s (λ i. (fits i).0) first.0.held.rows (file ∷ []) more all behind in
     let come = comes is ((before ++ leading) ++ (plains more all ++ behind))
     (turns-append s start (before ++ leading) (plains more all ++ behind) ∙ ap (λ (t : Walk × Kinds). (t.0, or_else first.1 t.1)) rest)
-    ((λ i. (fits i).2) ∙ ap kinds (tables_pass place table more many)) (λ i. (fits i).3) in
+    ((λ i. (fits i).2) ∙ ap kinds (files_pass id place file more many)) (λ i. (fits i).3) in
     simp (map-append, map-plains, append_assoc) at come
+
+-- the same of tables
+abbrev pub FitsTables : (name : Text) (place : ℕ) (leading : List Word) (table : Text) (more : List Text) (before behind : List Word) → (Kinds → Kinds) → Asked → Type 0
+FitsTables = FitsFiles (codes "TABLES")
+
+pub tables_come : {name : Text} → IsCommand name → (place : ℕ) (leading : List Word) (table : Text) (more : List Text) (all : AllByRecursion IsPlain more) → length (table ∷ more) ≤ usize_max
+    → (before behind : List Word) (kinds : Kinds → Kinds) (asked : Asked) → FitsTables name place leading table more before behind kinds asked
+    → Comes name (map text_of before ++ (map text_of leading ++ (more ++ map text_of behind))) (kinds []) asked
+tables_come is place leading table more all many before behind kinds asked fits = files_come (codes "TABLES") is place leading table more all many before behind kinds asked fits
 
 -- words that lack what has to be there are mistaken
 pub missing : {name : Text} → IsCommand name → (words : List Word)
@@ -226,6 +244,14 @@ workers = signed 1 most_workers 1 (omega arith)
 -- numbers that may be meant for a side
 abbrev pub sides : Numbers
 sides = signed 0 most_side 0 (omega arith)
+
+-- bounds
+abbrev pub bounds : Numbers
+bounds = signed 0 255 0 (omega arith)
+
+-- counts of parts
+abbrev pub counts : Numbers
+counts = signed 1 most_parts 1 (omega arith)
 
 -- budgets
 abbrev pub budgets : Numbers

@@ -5,4 +5,5 @@ pub mod LogWords
 pub mod MakeTableWords
 pub mod MaskWords
 pub mod NumberTexts
+pub mod PartsWords
 pub mod ProveWords

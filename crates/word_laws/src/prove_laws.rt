@@ -4,10 +4,10 @@ ghost use Rattle.std.specs.Prelude.{◌≡◌, ◌∷◌, ◌++◌, [], None, So
 ghost use Rattle.pdb_words.specs.Commands.{IsPlain};
 ghost use Rattle.pdb_words.specs.Faults.{IsMistaken};
 ghost use Rattle.pdb_words.specs.Numbers.{number_of};
-ghost use Rattle.word_laws.specs.Asking.{AsksFor};
+ghost use Rattle.word_laws.specs.Asking.{AsksFor, TextFrom, text_word};
 ghost use Rattle.word_laws.specs.LogWords.{with_fold};
 ghost use Rattle.word_laws.specs.NumberTexts.{writes_budget, writes_workers};
-ghost use Rattle.word_laws.specs.ProveWords.{ClaimsFrom, ProveNames, asks_for_proofs, claims_word, prove_words};
+ghost use Rattle.word_laws.specs.ProveWords.{ProveNames, asks_for_proofs, prove_words};
 
 /// `prove` with the name of the claims, or `-` for standard input, with the sets and one table or more asks for an
 /// answer to each claim: the tables in their order, one worker, or as many as `--workers` says, and as many boards as it
@@ -17,8 +17,8 @@ pub fn what_prove_asks()
     ensures files { (names : ProveNames) (folds : Bool)
         → AsksFor (codes "prove" ∷ with_fold folds (prove_words names))
         (asks_for_proofs names 1 folds None) }
-    ensures no_tables { (claims : ClaimsFrom) (sets : List ℕ) (folds : Bool) → IsPlain sets
-        → IsMistaken (codes "prove" ∷ with_fold folds (claims_word claims ∷ sets ∷ [])) }
+    ensures no_tables { (claims : TextFrom) (sets : List ℕ) (folds : Bool) → IsPlain sets
+        → IsMistaken (codes "prove" ∷ with_fold folds (text_word claims ∷ sets ∷ [])) }
     ensures workers { (names : ProveNames) (folds : Bool) (number : List ℕ)
         → IsPlain number → writes_workers number ≡ true
         → AsksFor (codes "prove" ∷ with_fold folds

@@ -16,6 +16,7 @@ Commands:
   make-table  Makes the table of a pattern, and keeps it if it is exact
   solve       Searches for a shortest solution of a board, and keeps the log that proves it
   prove       Proves bounds and shortest solutions of many boards by a search, without a log
+  parts       Says a bound where lines say that all its parts hold, or which parts are open
   help        Print this message or the help of the given subcommand(s)
 
 Options:
@@ -179,12 +180,36 @@ Options:
   -h, --help         Print help
 
 CLAIMS has a claim a line:
-  BOARD          asks for a shortest solution
-  BOARD ; MOVES  says that these moves are a shortest solution
-  BOARD : N      says that no solution has fewer than N moves
+  BOARD               asks for a shortest solution
+  BOARD ; MOVES       says that these moves are a shortest solution
+  BOARD : N           says that no solution has fewer than N moves
+  BOARD : N part I/K  says that part I of the K parts of that bound holds
 Answers come a line a claim, in order, each written as soon as it and those before are done:
-`optimal N of BOARD ; MOVES`, `bound N of BOARD`, or `refused .. of ..`: why, and the claim.
+`optimal N of BOARD ; MOVES`, `bound N of BOARD`, `part I/K of bound N of BOARD`, or
+`refused .. of ..`: why, and the claim.
 No log is needed. Workers share the check of the tables and the search.
+
+Status: 0 yes, 1 refused, 2 bad words or a fault of a read, a write or a maker, 3 no memory.
+";
+
+const HELP_OF_PARTS: &str =
+    "Says a bound where lines say that all its parts hold, or which parts are open
+
+Usage: pdb_cli parts BOARD N K ANSWERS..
+
+Arguments:
+  <BOARD>       The file of the board, or - for standard input
+  <N>           How many moves each solution is to have at least, 0 to 255
+  <K>           How many parts the bound has, an odd number up to 65535
+  <ANSWERS>...  The files of answer lines
+
+Options:
+  -h, --help  Print help
+
+ANSWERS are files of lines as `prove` writes them. Where a line `part I/K of bound N of BOARD`
+stands in them for each I below K, it says `bound N of BOARD from K parts`: whoever trusts the
+lines trusts the bound. Else it writes the claims `BOARD : N part I/K` that are still open, with
+status 1: they are the next CLAIMS of `prove`. A last line without its end is no line.
 
 Status: 0 yes, 1 refused, 2 bad words or a fault of a read, a write or a maker, 3 no memory.
 ";
@@ -213,7 +238,7 @@ fn help_of_the_program_is_shown_whole(rt: HostRuntime) -> Result<(), Fail> {
 
 #[test]
 fn help_of_a_command_is_shown_whole(rt: HostRuntime) -> Result<(), Fail> {
-    let cases: [(&[&str], &str); 15] = [
+    let cases: [(&[&str], &str); 17] = [
         (&["replay", "--help"], HELP_OF_REPLAY),
         (&["help", "replay"], HELP_OF_REPLAY),
         (&["table", "--help"], HELP_OF_TABLE),
@@ -229,6 +254,8 @@ fn help_of_a_command_is_shown_whole(rt: HostRuntime) -> Result<(), Fail> {
         (&["help", "solve"], HELP_OF_SOLVE),
         (&["prove", "--help"], HELP_OF_PROVE),
         (&["help", "prove"], HELP_OF_PROVE),
+        (&["parts", "-h"], HELP_OF_PARTS),
+        (&["help", "parts"], HELP_OF_PARTS),
     ];
     for (words, help) in cases {
         expect_help(rt.alloc(), words, help)?;

@@ -320,6 +320,38 @@ fn words_of_prove(rt: HostRuntime) -> Result<(), Fail> {
 }
 
 #[test]
+fn words_of_parts(rt: HostRuntime) -> Result<(), Fail> {
+    expect_mistakes(
+        rt.alloc(),
+        &[
+            (&["parts"], "<BOARD>"),
+            (&["parts", "b"], "<N>"),
+            (&["parts", "b", "6"], "<K>"),
+            (&["parts", "b", "6", "3"], "<ANSWERS>"),
+            (&["parts", "b", "256", "3", "a"], "256 is not in 0..=255"),
+            (&["parts", "b", "x", "3", "a"], "invalid value 'x'"),
+            (&["parts", "b", "6", "0", "a"], "0 is not in 1..=65535"),
+            (
+                &["parts", "b", "6", "65536", "a"],
+                "65536 is not in 1..=65535",
+            ),
+            (
+                &["parts", "b", "6", "2", "a"],
+                "error: invalid value '2' for '<K>': a bound has an odd number of parts",
+            ),
+            (
+                &["parts", "b", "6", "65534", "a"],
+                "error: invalid value '65534' for '<K>': a bound has an odd number of parts",
+            ),
+            (
+                &["parts", "--workers", "2", "b", "6", "3", "a"],
+                "unexpected argument '--workers'",
+            ),
+        ],
+    )
+}
+
+#[test]
 fn a_mistake_shows_the_usage(rt: HostRuntime) -> Result<(), Fail> {
     let alloc = rt.alloc();
     let whole = format!(in alloc; "error: unrecognized subcommand 'shuffle'{USAGE}")?;

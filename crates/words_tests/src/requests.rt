@@ -1,7 +1,7 @@
 //! What words ask for.
 
 use crate::readings::{behind, expect_request};
-use pdb_request::{Claim, LogCheck, MakeTable, Prove, Replay, Request, Search, TableCheck};
+use pdb_request::{Claim, LogCheck, MakeTable, Parts, Prove, Replay, Request, Search, TableCheck};
 use std::alloc::{AllocError, Global};
 use std::test::Fail;
 
@@ -296,6 +296,32 @@ fn words_ask_for_proofs_of_claims(rt: HostRuntime) -> Result<(), Fail> {
         expect_request(
             alloc,
             behind(alloc, "prove", words.as_slice())?.as_slice(),
+            &wanted,
+        )?;
+    }
+    Ok(())
+}
+
+#[test]
+fn words_ask_for_parts_to_be_joined(rt: HostRuntime) -> Result<(), Fail> {
+    let cases = [
+        ("b 6 3 a", Some("b"), 6, 3, "a"),
+        ("- 0 1 a c", None, 0, 1, "a c"),
+        ("./- 255 65535 - a", Some("./-"), 255, 65_535, "- a"),
+        ("-- -b 100 63 -a", Some("-b"), 100, 63, "-a"),
+    ];
+    for (words, board, bound, count, answers) in cases {
+        let alloc = rt.alloc();
+        let wanted = Request::Parts(Parts {
+            board,
+            bound,
+            count,
+            answers: words_of(alloc, answers)?,
+        });
+        let words = words_of(alloc, words)?;
+        expect_request(
+            alloc,
+            behind(alloc, "parts", words.as_slice())?.as_slice(),
             &wanted,
         )?;
     }

@@ -7,3 +7,8 @@ returns-clause-headline g c = λ before later input start lines parses had has l
     let out : c.out-1.given.0 ≡ c.run_on.new.io.out.now = search rules in
     c.run_on.ensures.headline before later input start lines parses had
     (ap g.S.Shelf.held (sym shelf) ∙ has) left stood (ap (λ w. (g.W.Sink.output w).bytes) (sym out) ∙ wrote)
+
+pub returns-clause-part_lines : goal.returns-clause-part_lines
+returns-clause-part_lines g c = λ a start lines parses asked stood wrote.
+    let out : c.out-1.given.0 ≡ c.run_on.new.io.out.now = search rules in
+    c.run_on.ensures.part_lines a start lines parses asked stood (ap (λ w. (g.W.Sink.output w).bytes) (sym out) ∙ wrote)

@@ -20,3 +20,8 @@ returns-in-Ok-clause-headline g c = rw (c.in-Ok.is, ← c.words_in.ensures) (λ 
     let out : c.out-1.given.0 ≡ c.run_on.new.io.out.now = search rules in
     c.run_on.ensures.headline before later input start lines parses had
     (ap g.S.Shelf.held (sym shelf) ∙ has) left stood (ap (λ w. (g.W.Sink.output w).bytes) (sym out) ∙ wrote))
+
+pub returns-in-Ok-clause-part_lines : goal.returns-in-Ok-clause-part_lines
+returns-in-Ok-clause-part_lines g c = rw (c.in-Ok.is, ← c.words_in.ensures) (λ a start lines parses asked stood wrote.
+    let out : c.out-1.given.0 ≡ c.run_on.new.io.out.now = search rules in
+    c.run_on.ensures.part_lines a start lines parses asked stood (ap (λ w. (g.W.Sink.output w).bytes) (sym out) ∙ wrote))

@@ -1,0 +1,122 @@
+//! A run of `parts`.
+
+ghost use Rattle.std.specs.Prelude.{◌≡◌, ◌∷◌, ◌≤◌, IfOk, MatchResult, length, map, string_bytes};
+ghost use Rattle.claim_text.specs.Parts.{AreParts};
+ghost use Rattle.pdb_request.specs.Asked.{file_names, parts_shown};
+ghost use Rattle.pdb_run.specs.Answers.{all_bytes};
+ghost use Rattle.pdb_run.specs.Inputs.{wanted_of};
+ghost use Rattle.pdb_run.specs.Io.{IsSaid};
+ghost use Rattle.pdb_run.specs.Runs.{Ends, status_of_reply};
+ghost use Rattle.pdb_run.specs.Writing.{memory_line};
+ghost use Rattle.pdb_parts.specs.Parts.{an_answers_text, parts_plan};
+
+use crate::joining::{Joined, join};
+use crate::marks::BoundInParts;
+use pdb_request::Parts;
+use pdb_run::{
+    Command, Digested, Input, Io, Status, conclude, read_inputs, say_no_memory, say_text,
+};
+use pdb_verdict::{Fault, a_text, told};
+use puz_board::Board;
+use std::alloc::{AllocError, Global};
+
+/// The most bytes of a file of answer lines.
+const ANSWERS_LIMIT: u64 = 1 << 26;
+
+/// Parts that are joined, as a command.
+#[derive(Clone, Copy)]
+struct Joining<'c, 'n>(&'c Parts<'n>);
+
+impl Command for Joining<'_, '_> {
+    ghost plan = { λ command. parts_plan (parts_shown command.0.now) };
+
+    fn inputs(&self, alloc: Global) -> Result<Vec<Input<'_>>, AllocError> {
+        let parts = self.0;
+        with_answers(alloc, a_text(parts.board), parts.answers.as_slice())
+    }
+}
+
+/// An input, and behind it the files of answer lines under these names.
+fn with_answers<'n>(
+    alloc: Global,
+    first: Input<'n>,
+    names: &[&'n str],
+) -> Result<Vec<Input<'n>>, AllocError>
+    ensures { let answers = map an_answers_text (file_names names.now) in
+        IfOk result (λ all. map wanted_of all.items ≡ wanted_of first.entry ∷ answers) }
+{
+    let mut all = Vec::new(alloc);
+    all.push(first)?;
+    for name in names {
+        all.push(an_answers_text(name))?;
+    }
+    Ok(all)
+}
+
+/// A file of answer lines under this name.
+fn an_answers_text<'a>(name: &'a str) -> Input<'a>
+    ensures { wanted_of result ≡ an_answers_text name.now }
+{
+    Input {
+        name: Some(name),
+        limit: ANSWERS_LIMIT,
+    }
+}
+
+/// The board text and the files of answer lines, which were read in this order.
+fn files_read(inputs: Vec<Vec<u8>>) -> (Vec<u8>, Vec<Vec<u8>>)
+    requires { 1 ≤ length inputs.items }
+    ensures { all_bytes inputs.items ≡ result.0.items ∷ all_bytes result.1.items }
+{
+    let mut answers = inputs;
+    (answers.remove(0), answers)
+}
+
+/// A whole run of `parts`, without threads: it returns where its shelf, its reader and its writer do.
+#[inline(never)] // so that the stack has the values of one command alone
+pub fn run_parts<I: Io>(alloc: Global, asked: &Parts<'_>, io: &mut I) -> Status
+    requires { AreParts asked.now.count }
+    ensures same_streams { I.streams io.new ≡ I.streams io.old }
+    ensures ends { let plan = parts_plan (parts_shown asked.now) in
+        Ends plan (I.world io.old) (I.world io.new) result }
+{
+    let command = Joining(asked);
+    let (text, answers) = match read_inputs(alloc, &command, io) {
+        Ok(inputs) => files_read(inputs),
+        Err(status) => return status,
+    };
+    let board = match Board::read(text.as_slice()) {
+        Ok(board) => board,
+        Err(fault) => {
+            let refused = told(Digested::Files(&[], None), &Err(Fault::Board(fault)));
+            return conclude(&command, &Ok(refused), io);
+        }
+    };
+    let asked = BoundInParts {
+        board,
+        bound: asked.bound,
+        count: asked.count,
+    };
+    say_joined(&join(alloc, answers.as_slice(), &asked), io)
+}
+
+/// Says what comes of parts, or that there isn't the memory to join them.
+fn say_joined<I: Io>(joined: &Result<Joined, AllocError>, io: &mut I) -> Status
+    ensures same_streams { I.streams io.new ≡ I.streams io.old }
+    ensures said { let old = I.world io.old in let new = I.world io.new in
+        MatchResult joined.now
+        (λ joined. IsSaid (string_bytes joined.text) (status_of_reply joined.is_yes) old new result)
+        (λ _. IsSaid memory_line Status.NoMemory old new result) }
+{
+    match joined {
+        Ok(joined) => {
+            let status = if joined.is_yes {
+                Status::Yes
+            } else {
+                Status::Refused
+            };
+            say_text(joined.text.as_str(), status, io)
+        }
+        Err(_) => say_no_memory(io),
+    }
+}
