@@ -133,7 +133,7 @@ struct Makes<'a> {
 }
 
 impl Command for Makes<'_> {
-    ghost use Rattle.std.specs.Prelude.{⊤, [], Some};
+    ghost use Rattle.std.specs.Prelude.{⊤, [], None, Some};
     ghost use Rattle.pdb_run.specs.Commands.{plan_under};
 
     ghost plan = { λ command. plan_under (Some command.out.now) None [] (λ _ _. ⊤) (λ _. ⊤) (λ _. ⊤) };
