@@ -1,9 +1,14 @@
 //! What is told of a check's progress, and when.
 
+ghost use Rattle.book_core.specs.Books.{AreWorkers};
+
 use crate::stages::Stage;
 use crate::workers::Good;
 use pdb_progress::{Pace, Progress, Share, Watch, is_time};
+use std::alloc::Global;
+use std::sync::Wait;
 use std::test::Fail;
+use std::thread::Threads;
 use work_run::{Gate, run_jobs};
 
 #[test]
@@ -116,16 +121,24 @@ fn the_file_that_is_checked_is_named(rt: HostRuntime) -> Result<(), Fail> {
     let stage = Stage::new(rt.alloc())?;
     let files = vec![in rt.alloc(); "t0", "t\n1"]?;
     let gate = Progress::start(&stage, files)?;
-    let wanted = [
-        "pdb_cli: t0, 1 of 2: 50 percent of 2 blocks or lemmas begun",
-        "pdb_cli: t?1, 2 of 2: 33 percent of 3 blocks or lemmas begun",
-        "pdb_cli: 25 percent of 4 blocks or lemmas begun",
+    let cases = [
+        (
+            2,
+            1000,
+            "pdb_cli: t0, 1 of 2: 50 percent of 2 blocks or lemmas begun",
+        ),
+        (
+            3,
+            2000,
+            "pdb_cli: t?1, 2 of 2: 33 percent of 3 blocks or lemmas begun",
+        ),
+        (4, 3000, "pdb_cli: 25 percent of 4 blocks or lemmas begun"),
     ];
-    for (check, line) in (0..).zip(wanted) {
-        gate.begins(check + 2);
-        stage.set_clock(1000 * (check + 1));
+    for (place, (blocks, millis, line)) in cases.iter().enumerate() {
+        gate.begins(*blocks);
+        stage.set_clock(*millis);
         gate.before(0);
-        assert_eq!(rt; stage.line(check as usize), line);
+        assert_eq!(rt; stage.line(place), *line);
     }
     Ok(())
 }
@@ -260,22 +273,33 @@ fn the_environment_asks_by_the_value_1_alone(rt: HostRuntime) -> Result<(), Fail
     Ok(())
 }
 
+/// So many workers together tell once.
+fn expect_told_once<H: Threads + Wait + Sync>(
+    rt: &H,
+    alloc: Global,
+    workers: u8,
+) -> Result<(), Fail>
+    requires { AreWorkers workers }
+{
+    let stage = Stage::new(alloc)?;
+    let gate = Progress::start(&stage, Vec::new(alloc))?;
+    stage.set_clock(5000);
+    let jobs = Good { count: 5000 };
+    let fault = run_jobs(rt, alloc, &jobs, workers, &gate)?;
+    let line = stage.line(0);
+    let is_told = line.ends_with(" percent of 5000 blocks or lemmas begun");
+    if fault.is_none() && stage.told() == 1 && is_told {
+        Ok(())
+    } else {
+        Err(Fail::new(format_args!("{workers} workers: {line}")))
+    }
+}
+
 #[test]
 fn workers_together_tell_once(rt: HostRuntime) -> Result<(), Fail> {
-    for workers in [1, 2, 7] {
-        let stage = Stage::new(rt.alloc())?;
-        let gate = Progress::start(&stage, Vec::new(rt.alloc()))?;
-        stage.set_clock(5000);
-        let jobs = Good { count: 5000 };
-        assert_eq!(rt; run_jobs(&rt, rt.alloc(), &jobs, workers, &gate)?, None);
-        assert_eq!(rt; stage.told(), 1, "{workers} workers");
-        let line = stage.line(0);
-        assert!(rt;
-            line.ends_with(" percent of 5000 blocks or lemmas begun"),
-            "{line}"
-        );
-    }
-    Ok(())
+    expect_told_once(&rt, rt.alloc(), 1)?;
+    expect_told_once(&rt, rt.alloc(), 2)?;
+    expect_told_once(&rt, rt.alloc(), 7)
 }
 
 #[test]
