@@ -1,5 +1,6 @@
 -- The law of a book holds at the start, and each step keeps it.
-use Rattle.std.proofs.Common.{◌≡◌, ℕ, zero, suc, ◌+◌, ◌*◌, ◌<◌, ◌≤◌, ◌^◌, Bool, true, false, cond, eqb, ltb, ◌⊎◌, List, [], ◌∷◌, length, set, min, replicate, Option, Some, None, Ok, Err, inl, inr, refl, sym, ◌∙◌, ap, subst, arith, slice_get, length-append}
+use Rattle.std.proofs.Common.{◌≡◌, ℕ, zero, suc, ◌+◌, ◌*◌, ◌<◌, ◌≤◌, ◌^◌, Bool, true, false, cond, eqb, ltb, ◌⊎◌, List, [], ◌∷◌, length, set, min}
+use Rattle.std.proofs.Common.{replicate, Option, Some, None, Ok, Err, inl, inr, refl, sym, ◌∙◌, ap, subst, arith, slice_get, length-append}
 use Rattle.std.specs.List.{sum_by, count_by, Contains}
 use Rattle.std.proofs.lemmas.Bool.{cases_eq, cases_lt, cond-false, le-ltb, ltb-true, ltb-false, true≢false}
 use Rattle.std.proofs.lemmas.Bool.Decides.{nat_tests}
@@ -55,7 +56,8 @@ module _ (ps : List Deeds) (w : ℕ) (p q : Deeds) (at : slice_get ps w ≡ Some
   -- what was reported stays, where the pass keeps its places
   reported-still : ((x : ℕ) → Contains p.reported x → Contains q.reported x) → (x : ℕ) → IsReported ps x → IsReported (set ps w q) x
   reported-still more x r = elim (cases_eq r.0 w) [
-    | inl e ↦ reported-here x (more x (let s : slice_get ps r.0 ≡ slice_get ps w = ap (slice_get ps) e in let f = r.2 in let same : r.1 ≡ p = cc in subst (λ (d : Deeds). Contains d.reported x) same r.3))
+    | inl e ↦ reported-here x (more x (let s : slice_get ps r.0 ≡ slice_get ps w = ap (slice_get ps) e in let f = r.2 in let same : r.1 ≡ p = cc in
+        subst (λ (d : Deeds). Contains d.reported x) same r.3))
     | inr ne ↦ (r.0, r.1, slice_get-set_other ps w r.0 q ne ∙ r.2, r.3)
   ]
 
@@ -63,7 +65,8 @@ module _ (ps : List Deeds) (w : ℕ) (p q : Deeds) (at : slice_get ps w ≡ Some
   reported-same : q.reported ≡ p.reported → (x : ℕ) → IsReported (set ps w q) x → IsReported ps x
   reported-same same x r = elim (reported-cases x r) [ inl has ↦ (w, p, at, subst (λ l. Contains l x) same has) | inr old ↦ old ]
 
-least-same : (o : Option ℕ) (ps qs : List Deeds) → ((x : ℕ) → IsReported ps x → IsReported qs x) → ((x : ℕ) → IsReported qs x → IsReported ps x) → IsLeast o ps → IsLeast o qs
+least-same : (o : Option ℕ) (ps qs : List Deeds) → ((x : ℕ) → IsReported ps x → IsReported qs x) → ((x : ℕ) → IsReported qs x → IsReported ps x)
+    → IsLeast o ps → IsLeast o qs
 least-same None ps qs to from l = λ x r. l x (from x r)
 least-same (Some z) ps qs to from l = (to z l.0, λ y r. l.1 y (from y r))
 
@@ -86,7 +89,8 @@ module _ (ps : List Deeds) (w place : ℕ) (p : Deeds) (at : slice_get ps w ≡ 
   report-least None l = (report-new, λ y r. elim (report-cases y r) [ inl old ↦ absurd (l y old) | inr e ↦ omega arith ])
   report-least (Some z) l =
       let qs = set ps w (with_report p place) in
-      let above : (y : ℕ) → IsReported qs y → min z place ≤ y = λ y r. elim (report-cases y r) [ inl old ↦ (let le : z ≤ y = l.1 y old in omega arith) | inr e ↦ omega arith ] in (
+      let above : (y : ℕ) → IsReported qs y → min z place ≤ y =
+      λ y r. elim (report-cases y r) [ inl old ↦ (let le : z ≤ y = l.1 y old in omega arith) | inr e ↦ omega arith ] in (
         elim (cases_lt z place) [
           | inl lt ↦ subst (IsReported qs) (sym (let e : min z place ≡ z = min-eq_left (omega arith) in e)) (report-old z l.0)
           | inr ge ↦ subst (IsReported qs) (sym (let e : min z place ≡ place = min-eq_right ge in e)) report-new
@@ -127,7 +131,13 @@ module _ (b : Book) (law : BookLaw b) (w : ℕ) (p : Deeds) (at : slice_get b.pa
       let ends = sum_by-changed (λ d. cond d.ended 1 0) b.passes w p q at in
       let grown : length q.drawn ≡ length p.drawn + 1 = length-append p.drawn (b.next ∷ []) in
       record {
-        once = λ j. omega (arith, sum_by-changed (λ d. times j d.drawn) b.passes w p q at, law.once j, once_below-next j b.next b.jobs room, sum_by_push (λ y. cond (eqb y j) 1 0) p.drawn b.next);
+        once = λ j. omega (
+          arith,
+          sum_by-changed (λ d. times j d.drawn) b.passes w p q at,
+          law.once j,
+          once_below-next j b.next b.jobs room,
+          sum_by_push (λ y. cond (eqb y j) 1 0) p.drawn b.next,
+        );
         drawn = (let d = law.drawn in omega arith);
         total = (let t = law.total in omega arith);
         least = least-kept q refl;
@@ -186,6 +196,7 @@ module _ (b : Book) (law : BookLaw b) (w : ℕ) (p : Deeds) (at : slice_get b.pa
 
 -- ---- every step
 
+-- where the step is answered, the book after it meets the law
 abbrev pub Keeps : StepOutcome → Type 0
 Keeps (Ok r) = BookLaw r.0
 Keeps (Err f) = Unit {0}
@@ -209,6 +220,7 @@ by_pass-keeps : (o : Option Deeds) (act : Deeds → StepOutcome) → ((p : Deeds
 by_pass-keeps None act each = tt
 by_pass-keeps (Some p) act each = each p refl
 
+-- a step of a book that meets the law leads to one that meets it, whatever the event
 pub step-keeps : (b : Book) → BookLaw b → (e : Event) → Keeps (step b e)
 step-keeps b law (Claim w) = by_pass-keeps (slice_get b.passes w) (claims b w) (claims-keeps b law w)
 step-keeps b law (Report w place) = by_pass-keeps (slice_get b.passes w) (reports b w place) (reports-keeps b law w place)
@@ -228,12 +240,16 @@ fresh-at (suc n) (suc w) p e = fresh-at n w p e
 not-Contains-nil : (x : ℕ) (xs : List ℕ) → xs ≡ [] → ¬ Contains xs x
 not-Contains-nil x xs e c = omega (arith, c.1, ap length e)
 
+-- at its start a book meets the law, with any number of jobs and passes
 pub BookLaw-start : (jobs workers : ℕ) → BookLaw (start jobs workers)
 BookLaw-start jobs workers = record {
-  once = λ j. sum_by-replicate (λ (d : Deeds). times j d.drawn) workers fresh ∙ zeros workers ∙ sym (cond-false (ltb j (min 0 jobs)) 1 0 (le-ltb j (min 0 jobs) (omega arith)));
+  once = λ j. sum_by-replicate (λ (d : Deeds). times j d.drawn) workers fresh ∙ zeros workers
+      ∙ sym (cond-false (ltb j (min 0 jobs)) 1 0 (le-ltb j (min 0 jobs) (omega arith)));
   drawn = sum_by-replicate (λ (d : Deeds). length d.drawn) workers fresh ∙ zeros workers ∙ omega arith;
-  total = (let a : sum_by (λ (d : Deeds). length d.drawn) (replicate workers fresh) ≡ 0 = sum_by-replicate (λ (d : Deeds). length d.drawn) workers fresh ∙ zeros workers in
-      let c : count_by (λ (d : Deeds). d.ended) (replicate workers fresh) ≡ 0 = sum_by-replicate (λ (d : Deeds). cond d.ended 1 0) workers fresh ∙ zeros workers in omega arith);
+  total = (let a : sum_by (λ (d : Deeds). length d.drawn) (replicate workers fresh) ≡ 0 =
+      sum_by-replicate (λ (d : Deeds). length d.drawn) workers fresh ∙ zeros workers in
+      let c : count_by (λ (d : Deeds). d.ended) (replicate workers fresh) ≡ 0 = sum_by-replicate (λ (d : Deeds). cond d.ended 1 0) workers fresh
+      ∙ zeros workers in omega arith);
   least = λ x r. none x r;
   small = λ x r. absurd (none x r);
   seen = λ w p e. subst (λ (d : Deeds). IsAtMost None d.seen) (sym (fresh-at workers w p e)) tt;

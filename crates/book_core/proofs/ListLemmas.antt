@@ -1,5 +1,6 @@
 -- Lists where one element changes, one comes to the end, or two are put together.
-use Rattle.std.proofs.Common.{◌≡◌, ◌≢◌, ◌⊎◌, ℕ, zero, suc, ◌+◌, ◌≤◌, List, [], ◌∷◌, ◌++◌, length, set, Some, inl, inr, refl, sym, ◌∙◌, ap, subst, arith, slice_get}
+use Rattle.std.proofs.Common.{◌≡◌, ◌≢◌, ◌⊎◌, ℕ, zero, suc, ◌+◌, ◌≤◌, List, [], ◌∷◌, ◌++◌, length, set, Some, inl, inr, refl, sym, ◌∙◌, ap, subst}
+use Rattle.std.proofs.Common.{arith, slice_get}
 use Rattle.std.specs.List.{sum_by}
 use Rattle.std.proofs.lemmas.Option.{slice_get_within, get_or_from_slice_get}
 use Rattle.std.proofs.lemmas.List.Sums.{sum_by-cons, sum_by-set, get_or-le-sum_by}
@@ -23,11 +24,13 @@ module _ {A : Type 0} where
   sum_by-two f (z ∷ xs) (suc i) zero x y far e e' = let same : z ≡ y = cc in omega (arith, ap f same, le-sum_by f xs i x e, sum_by-cons f z xs)
   sum_by-two f (z ∷ xs) (suc i) (suc j) x y far e e' = omega (arith, sum_by-two f xs i j x y (λ s. far (ap suc s)) e e', sum_by-cons f z xs)
 
+  -- where an element of a list is replaced, the new one is found in its place
   pub slice_get-set_same : (xs : List A) (i : ℕ) (x y : A) → slice_get xs i ≡ Some x → slice_get (set xs i y) i ≡ Some y
   slice_get-set_same [] i x y e = cc
   slice_get-set_same (z ∷ xs) zero x y e = refl
   slice_get-set_same (z ∷ xs) (suc i) x y e = slice_get-set_same xs i x y e
 
+  -- where an element of a list is replaced, what is found at each other place stays
   pub slice_get-set_other : (xs : List A) (i j : ℕ) (y : A) → j ≢ i → slice_get (set xs i y) j ≡ slice_get xs j
   slice_get-set_other [] i j y ne = refl
   slice_get-set_other (z ∷ xs) zero zero y ne = absurd (ne refl)
@@ -53,7 +56,9 @@ module _ {A : Type 0} where
   slice_get-push_cases (x ∷ xs) zero y z e = inl e
   slice_get-push_cases (x ∷ xs) (suc j) y z e = elim (slice_get-push_cases xs j y z e) [ inl h ↦ inl h | inr h ↦ inr (omega (arith, h.0), h.1) ]
 
-  pub slice_get-append_cases : (xs ys : List A) (j : ℕ) (z : A) → slice_get (xs ++ ys) j ≡ Some z → (slice_get xs j ≡ Some z) ⊎ ((k : ℕ) × (slice_get ys k ≡ Some z))
+  -- what is found in two lists put together is in the first at that place, or in the second at some place
+  pub slice_get-append_cases : (xs ys : List A) (j : ℕ) (z : A) → slice_get (xs ++ ys) j ≡ Some z → (slice_get xs j ≡ Some z)
+      ⊎ ((k : ℕ) × (slice_get ys k ≡ Some z))
   slice_get-append_cases [] ys j z e = inr (j, e)
   slice_get-append_cases (x ∷ xs) ys zero z e = inl e
   slice_get-append_cases (x ∷ xs) ys (suc j) z e = slice_get-append_cases xs ys j z e

@@ -1,5 +1,6 @@
 -- Runs: one more event, where a run stops, and what every run keeps.
-use Rattle.std.proofs.Common.{◌≡◌, ℕ, ◌+◌, ◌<◌, ◌^◌, List, [], ◌∷◌, ◌++◌, length, take, drop, get_or, fold, Option, Some, None, Ok, Err, IsOk, Bool, true, false, ltb, refl, sym, ◌∙◌, ap, subst, slice_get}
+use Rattle.std.proofs.Common.{◌≡◌, ℕ, ◌+◌, ◌<◌, ◌^◌, List, [], ◌∷◌, ◌++◌, length, take, drop, get_or, fold, Option, Some, None, Ok, Err, IsOk, Bool}
+use Rattle.std.proofs.Common.{true, false, ltb, refl, sym, ◌∙◌, ap, subst, slice_get}
 use Rattle.std.proofs.lemmas.List.{length-set, length-replicate, take-append-drop}
 use Rattle.std.proofs.lemmas.List.Sums.{fold-append, fold_more}
 use Rattle.book_core.specs.declared.events.Event.{Event}
@@ -33,6 +34,7 @@ fold-keeps r law (e ∷ es) = fold-keeps (run_on r e) (unless_ended-keeps r.faul
 BookLaw-run_from : (b : Book) → BookLaw b → (es : List Event) → BookLaw (run_from b es).book
 BookLaw-run_from b law es = fold-keeps (going b []) law es
 
+-- a run without a fault, from a book that meets the law, leads to one that does
 pub BookLaw-going : (b c : Book) (es : List Event) (told : List Answer) → run_from b es ≡ going c told → BookLaw b → BookLaw c
 BookLaw-going b c es told is law = subst (λ (r : Run). BookLaw r.book) is (BookLaw-run_from b law es)
 
@@ -43,7 +45,8 @@ BookLaw-after jobs workers es = BookLaw-run_from (start jobs workers) (BookLaw-s
 -- ---- one more event
 
 -- which is no fault
-pub after-snoc : (jobs workers : ℕ) (es : List Event) (e : Event) (b : Book) (a : Answer) → (run_after jobs workers es).fault ≡ None → step (run_after jobs workers es).book e ≡ Ok (b, a)
+pub after-snoc : (jobs workers : ℕ) (es : List Event) (e : Event) (b : Book) (a : Answer) → (run_after jobs workers es).fault ≡ None
+    → step (run_after jobs workers es).book e ≡ Ok (b, a)
     → run_after jobs workers (es ++ e ∷ []) ≡ going b ((run_after jobs workers es).answers ++ a ∷ [])
 after-snoc jobs workers es e b a sound is =
     let r = run_after jobs workers es in
@@ -58,7 +61,8 @@ fold-ended r f is (e ∷ es) = ap (λ s. fold run_on s es) (ap (λ g. unless_end
 
 -- ---- where a run stops
 
-module _ (b : Book) (es : List Event) (i : ℕ) (c : Book) (told : List Answer) (before : run_from b (take i es) ≡ going c told) (count : length told ≡ i) (within : i < length es) where
+module _ (b : Book) (es : List Event) (i : ℕ) (c : Book) (told : List Answer) (before : run_from b (take i es) ≡ going c told)
+    (count : length told ≡ i) (within : i < length es) where
   -- the run of the first events and one more
   run_from-more : (d : Event) → run_from b (take (i + 1) es) ≡ run_on (going c told) (get_or es i d)
   run_from-more d = fold_more run_on (going b []) es i d within ∙ ap (λ r. run_on r (get_or es i d)) before
@@ -115,6 +119,7 @@ step-sizes b (Claim w) = by_pass-sizes b (slice_get b.passes w) (claims b w) (cl
 step-sizes b (Report w place) = by_pass-sizes b (slice_get b.passes w) (reports b w place) (reports-sizes b w place)
 step-sizes b (Look w) = by_pass-sizes b (slice_get b.passes w) (looks b w) (λ p. (refl, length-set b.passes w _))
 
+-- a step that is answered leaves as many jobs and passes as there were
 pub SameSizes-step : (b c : Book) (e : Event) (a : Answer) → step b e ≡ Ok (c, a) → SameSizes b c
 SameSizes-step b c e a is = let k : KeepsSizes b (Ok (c, a)) = subst (KeepsSizes b) is (step-sizes b e) in k
 
@@ -130,8 +135,11 @@ fold-sizes : (r : Run) (es : List Event) → SameSizes r.book (fold run_on r es)
 fold-sizes r [] = (refl, refl)
 fold-sizes r (e ∷ es) = let one = unless_ended-sizes r.fault r e in let more = fold-sizes (run_on r e) es in (more.0 ∙ one.0, more.1 ∙ one.1)
 
+-- a run without a fault leaves as many jobs and passes as there were
 pub SameSizes-going : (b c : Book) (es : List Event) (told : List Answer) → run_from b es ≡ going c told → SameSizes b c
 SameSizes-going b c es told is = subst (λ (r : Run). SameSizes b r.book) is (fold-sizes (going b []) es)
 
-pub sizes-after : (jobs workers : ℕ) (es : List Event) → ((run_after jobs workers es).book.jobs ≡ jobs) × (length (run_after jobs workers es).book.passes ≡ workers)
+-- after any events from the start, there are as many jobs as at first, and a pass for each worker
+pub sizes-after : (jobs workers : ℕ) (es : List Event) → ((run_after jobs workers es).book.jobs ≡ jobs)
+    × (length (run_after jobs workers es).book.passes ≡ workers)
 sizes-after jobs workers es = let s = fold-sizes (going (start jobs workers) []) es in (s.0, s.1 ∙ length-replicate workers fresh)

@@ -1,5 +1,6 @@
 -- The passes of a book stay shared out by each step, by a cut and by putting two shares together.
-use Rattle.std.proofs.Common.{◌≡◌, ◌≢◌, ℕ, zero, suc, ◌+◌, ◌-◌, ◌<◌, ◌≤◌, cond, eqb, ltb, List, [], ◌∷◌, ◌++◌, length, map, set, replicate, Some, inl, inr, refl, sym, ◌∙◌, ap, subst, arith, slice_get}
+use Rattle.std.proofs.Common.{◌≡◌, ◌≢◌, ℕ, zero, suc, ◌+◌, ◌-◌, ◌<◌, ◌≤◌, cond, eqb, ltb, List, [], ◌∷◌, ◌++◌, length, map, set, replicate, Some, inl}
+use Rattle.std.proofs.Common.{inr, refl, sym, ◌∙◌, ap, subst, arith, slice_get}
 use Rattle.std.proofs.lemmas.Bool.{cond-true, cond-false, eq-eqb, le-ltb}
 use Rattle.std.proofs.lemmas.Bool.Decides.{nat_tests}
 use Rattle.std.proofs.lemmas.List.{length-set, length-replicate}
@@ -8,7 +9,8 @@ use Rattle.book_core.specs.Passes.{Deeds, fresh}
 use Rattle.book_core.specs.Books.{Book, start}
 use Rattle.book_core.specs.Jobs.{once_below}
 use Rattle.book_core.specs.Shares.{NumberedPass, numbered_pass, times_held, IsDealt, all_fresh, first, others, IsCounted}
-use Rattle.book_core.proofs.ListLemmas.{sum_by-changed, sum_by-two, slice_get-set_same, slice_get-set_other, slice_get-set_cases, slice_get-push_cases, slice_get-append_cases}
+use Rattle.book_core.proofs.ListLemmas.{sum_by-changed, sum_by-two, slice_get-set_same, slice_get-set_other, slice_get-set_cases}
+use Rattle.book_core.proofs.ListLemmas.{slice_get-push_cases, slice_get-append_cases}
 
 -- ---- how often a number is held
 
@@ -17,9 +19,14 @@ times_held-some : (hs : List NumberedPass) (k : ℕ) (h : NumberedPass) → slic
 times_held-some [] k h e = cc
 times_held-some (x ∷ hs) zero h e =
     let is : x ≡ h = cc in
-    let one : cond {A = ℕ} (eqb x.number h.number) 1 0 ≡ 1 = cond-true {A = ℕ} (eqb x.number h.number) 1 0 (eq-eqb x.number h.number (ap (λ (y : NumberedPass). y.number) is)) in
+    let one : cond {A = ℕ} (eqb x.number h.number) 1 0 ≡ 1 =
+    cond-true {A = ℕ} (eqb x.number h.number) 1 0 (eq-eqb x.number h.number (ap (λ (y : NumberedPass). y.number) is)) in
     omega (arith, sum_by-cons (λ (y : NumberedPass). cond {A = ℕ} (eqb y.number h.number) 1 0) x hs)
-times_held-some (x ∷ hs) (suc k) h e = omega (arith, times_held-some hs k h e, sum_by-cons (λ (y : NumberedPass). cond {A = ℕ} (eqb y.number h.number) 1 0) x hs)
+times_held-some (x ∷ hs) (suc k) h e = omega (
+  arith,
+  times_held-some hs k h e,
+  sum_by-cons (λ (y : NumberedPass). cond {A = ℕ} (eqb y.number h.number) 1 0) x hs,
+)
 
 times_held-alone : (w : ℕ) (p : Deeds) → times_held w (numbered_pass w p ∷ []) ≡ 1
 times_held-alone w p = let one : cond {A = ℕ} (eqb w w) 1 0 ≡ 1 = cond-true {A = ℕ} (eqb w w) 1 0 (eq-eqb w w refl) in omega arith
@@ -54,7 +61,8 @@ times_held-all_fresh w k (suc n) =
 
 slice_get-all_fresh : (k n i : ℕ) (h : NumberedPass) → slice_get (all_fresh k n) i ≡ Some h → (h.deeds ≡ fresh) × (h.number ≡ k + i) × (i < n)
 slice_get-all_fresh k zero i h e = cc
-slice_get-all_fresh k (suc n) zero h e = let same : numbered_pass k fresh ≡ h = cc in (ap (λ (x : NumberedPass). x.deeds) (sym same), (let a : h.number ≡ k = ap (λ (x : NumberedPass). x.number) (sym same) in omega arith), omega arith)
+slice_get-all_fresh k (suc n) zero h e = let same : numbered_pass k fresh ≡ h = cc in
+    (ap (λ (x : NumberedPass). x.deeds) (sym same), (let a : h.number ≡ k = ap (λ (x : NumberedPass). x.number) (sym same) in omega arith), omega arith)
 slice_get-all_fresh k (suc n) (suc i) h e = let t = slice_get-all_fresh (suc k) n i h e in (t.0, omega (arith, t.1), omega (arith, t.2))
 
 slice_get-replicate : (n i : ℕ) → i < n → slice_get (replicate n fresh) i ≡ Some fresh
@@ -68,7 +76,8 @@ IsCounted-above (x ∷ hs) n c zero h e = let same : x ≡ h = cc in omega (arit
 IsCounted-above (x ∷ hs) n c (suc k) h e = omega (arith, IsCounted-above hs (suc n) c.1 k h e)
 
 -- numbered passes in order, from the number n on, are all there are
-counted-all : (ps : List Deeds) (hs : List NumberedPass) (n : ℕ) → length ps ≡ length hs → IsCounted n hs → ((k : ℕ) (h : NumberedPass) → slice_get hs k ≡ Some h → slice_get ps (h.number - n) ≡ Some h.deeds) → ps ≡ map (λ (h : NumberedPass). h.deeds) hs
+counted-all : (ps : List Deeds) (hs : List NumberedPass) (n : ℕ) → length ps ≡ length hs → IsCounted n hs
+    → ((k : ℕ) (h : NumberedPass) → slice_get hs k ≡ Some h → slice_get ps (h.number - n) ≡ Some h.deeds) → ps ≡ map (λ (h : NumberedPass). h.deeds) hs
 counted-all [] [] n len in_order each = refl
 counted-all (p ∷ ps) [] n len in_order each = absurd (omega arith)
 counted-all [] (h ∷ hs) n len in_order each = absurd (omega arith)
@@ -91,7 +100,8 @@ module _ (b : Book) (shares : List (List NumberedPass)) (dealt : IsDealt b share
     IsDealt-alone = dealt.deeds i (numbered_pass w p ∷ []) at zero (numbered_pass w p) refl
 
     -- no other share has it
-    held-once : (j : ℕ) (share : List NumberedPass) → j ≢ i → slice_get shares j ≡ Some share → (k : ℕ) (h : NumberedPass) → slice_get share k ≡ Some h → h.number ≢ w
+    held-once : (j : ℕ) (share : List NumberedPass) → j ≢ i → slice_get shares j ≡ Some share → (k : ℕ) (h : NumberedPass)
+        → slice_get share k ≡ Some h → h.number ≢ w
     held-once j share far e k h there same =
         omega (
           arith,
@@ -114,14 +124,16 @@ module _ (b : Book) (shares : List (List NumberedPass)) (dealt : IsDealt b share
       deeds = λ j share e k h there. ap (λ l. slice_get l h.number) is ∙ now j share e k h there;
     }
       where
-        now : (j : ℕ) (share : List NumberedPass) → slice_get (set shares i (numbered_pass w q ∷ [])) j ≡ Some share → (k : ℕ) (h : NumberedPass) → slice_get share k ≡ Some h → slice_get (set b.passes w q) h.number ≡ Some h.deeds
+        now : (j : ℕ) (share : List NumberedPass) → slice_get (set shares i (numbered_pass w q ∷ [])) j ≡ Some share → (k : ℕ) (h : NumberedPass)
+            → slice_get share k ≡ Some h → slice_get (set b.passes w q) h.number ≡ Some h.deeds
         now j share e k h there = elim (slice_get-set_cases shares i j (numbered_pass w q ∷ []) share e) [
           | inl t ↦ here k (ap (λ l. slice_get l k) t.1 ∙ there)
           | inr t ↦ slice_get-set_other b.passes w h.number q (held-once j share t.0 t.1 k h there) ∙ dealt.deeds j share t.1 k h there
         ]
           where
             here : (n : ℕ) → slice_get (numbered_pass w q ∷ []) n ≡ Some h → slice_get (set b.passes w q) h.number ≡ Some h.deeds
-            here zero e = let same : numbered_pass w q ≡ h = cc in subst (λ (x : NumberedPass). slice_get (set b.passes w q) x.number ≡ Some x.deeds) same (slice_get-set_same b.passes w p q IsDealt-alone)
+            here zero e = let same : numbered_pass w q ≡ h = cc in
+                subst (λ (x : NumberedPass). slice_get (set b.passes w q) x.number ≡ Some x.deeds) same (slice_get-set_same b.passes w p q IsDealt-alone)
             here (suc n) e = cc
 
   -- the first pass of a share becomes a share of its own
@@ -144,7 +156,8 @@ module _ (b : Book) (shares : List (List NumberedPass)) (dealt : IsDealt b share
   }
 
   -- a share takes the passes of another, which is left with none
-  pub IsDealt-join : (i j : ℕ) (one other : List NumberedPass) → j ≢ i → slice_get shares i ≡ Some one → slice_get shares j ≡ Some other → IsDealt b (set (set shares i (one ++ other)) j [])
+  pub IsDealt-join : (i j : ℕ) (one other : List NumberedPass) → j ≢ i → slice_get shares i ≡ Some one → slice_get shares j ≡ Some other
+      → IsDealt b (set (set shares i (one ++ other)) j [])
   IsDealt-join i j one other far at there = record {
     numbers = λ x. omega (
       arith,
@@ -166,9 +179,11 @@ module _ (b : Book) (shares : List (List NumberedPass)) (dealt : IsDealt b share
   }
 
   -- a share of all passes in the order of their numbers is what the book has
-  pub IsDealt-whole : (i : ℕ) (share : List NumberedPass) → slice_get shares i ≡ Some share → length share ≡ length b.passes → IsCounted 0 share → b.passes ≡ map (λ (h : NumberedPass). h.deeds) share
+  pub IsDealt-whole : (i : ℕ) (share : List NumberedPass) → slice_get shares i ≡ Some share → length share ≡ length b.passes → IsCounted 0 share
+      → b.passes ≡ map (λ (h : NumberedPass). h.deeds) share
   IsDealt-whole i share at len in_order =
-      counted-all b.passes share 0 (sym len) in_order (λ k h e. ap (slice_get b.passes) (let n : h.number - 0 ≡ h.number = omega arith in n) ∙ dealt.deeds i share at k h e)
+      counted-all b.passes share 0 (sym len) in_order (λ k h e. ap (slice_get b.passes) (let n : h.number - 0 ≡ h.number = omega arith in n)
+      ∙ dealt.deeds i share at k h e)
 
 -- ---- the start
 
@@ -176,7 +191,8 @@ module _ (b : Book) (shares : List (List NumberedPass)) (dealt : IsDealt b share
 pub IsDealt-start : (jobs workers : ℕ) → IsDealt (start jobs workers) (all_fresh 0 workers ∷ [])
 IsDealt-start jobs workers = record {
   numbers = λ w.
-      let n : once_below w (0 + workers) ≡ once_below w (length (replicate workers fresh)) = ap (once_below w) (let e : 0 + workers ≡ length (replicate workers fresh) = omega (arith, length-replicate workers fresh) in e) in
+      let n : once_below w (0 + workers) ≡ once_below w (length (replicate workers fresh)) =
+      ap (once_below w) (let e : 0 + workers ≡ length (replicate workers fresh) = omega (arith, length-replicate workers fresh) in e) in
       omega (arith, times_held-all_fresh w 0 workers, none_below w, n);
   deeds = each;
 }
@@ -184,7 +200,8 @@ IsDealt-start jobs workers = record {
     none_below : (w : ℕ) → once_below w 0 ≡ 0
     none_below w = cond-false {A = ℕ} (ltb w 0) 1 0 (le-ltb w 0 (omega arith))
 
-    each : (i : ℕ) (share : List NumberedPass) → slice_get (all_fresh 0 workers ∷ []) i ≡ Some share → (k : ℕ) (h : NumberedPass) → slice_get share k ≡ Some h → slice_get (replicate workers fresh) h.number ≡ Some h.deeds
+    each : (i : ℕ) (share : List NumberedPass) → slice_get (all_fresh 0 workers ∷ []) i ≡ Some share → (k : ℕ) (h : NumberedPass)
+        → slice_get share k ≡ Some h → slice_get (replicate workers fresh) h.number ≡ Some h.deeds
     each zero share e k h there =
         let is : all_fresh 0 workers ≡ share = cc in
         let t = slice_get-all_fresh 0 workers k h (ap (λ l. slice_get l k) is ∙ there) in

@@ -1,5 +1,6 @@
 -- What each kind of step does to a book, where it is answered.
-use Rattle.std.proofs.Common.{◌≡◌, ℕ, ◌+◌, ◌<◌, ◌≤◌, ◌^◌, Bool, true, false, cond, ltb, length, get_or, Option, Some, None, Ok, Err, IsOk, refl, ◌∙◌, ap, subst, arith, slice_get}
+use Rattle.std.proofs.Common.{◌≡◌, ℕ, ◌+◌, ◌<◌, ◌≤◌, ◌^◌, Bool, true, false, cond, ltb, length, get_or, Option, Some, None, Ok, Err, IsOk, refl, ◌∙◌}
+use Rattle.std.proofs.Common.{ap, subst, arith, slice_get}
 use Rattle.std.proofs.lemmas.Bool.{lt-ltb, le-ltb, cond-false}
 use Rattle.std.proofs.lemmas.List.{length-set}
 use Rattle.std.proofs.lemmas.Option.{slice_get_read, slice_get_within}
@@ -35,11 +36,13 @@ module _ (b : Book) (w : ℕ) (p : Deeds) (at : slice_get b.passes w ≡ Some p)
       ∙ ap (λ t. claimed b w p t (ltb b.next b.jobs)) going
       ∙ ap (claimed b w p false) (le-ltb b.next b.jobs over)
 
+  -- a report of a place below 2^32 is taken, and the book keeps the place and the least of all
   pub step-reported : (place : ℕ) → place < 2 ^ 32 → step b (Report w place) ≡ Ok (reported_by b w place p, Reported)
   step-reported place small =
       ap (λ o. by_pass o (reports b w place)) at
       ∙ ap (placed b w place p) (lt-ltb place (2 ^ 32) small)
 
+  -- a look is answered with the least place, which the book keeps as seen by the pass
   pub step-looked : step b (Look w) ≡ Ok (looked_by b w p, Least b.least)
   step-looked = ap (λ o. by_pass o (looks b w)) at
 
@@ -65,9 +68,11 @@ module _ (b : Book) (w : ℕ) (p : Deeds) (ok : IsOk (step b (Claim w))) (is : p
   claimant : slice_get b.passes w ≡ Some p
   claimant = slice_get_read b.passes (length b.passes) w p refl (answered-within b w (claims b w) ok) is
 
+  -- a claim that is taken while a job is left draws the next job
   pub claim-drawn : b.next < b.jobs → step b (Claim w) ≡ Ok (drawn_by b w p, Drawn b.next)
   claim-drawn room = step-drawn b w p claimant (answered-open b w p claimant ok) room
 
+  -- a claim that is taken while no job is left ends the pass
   pub claim-ended : b.jobs ≤ b.next → step b (Claim w) ≡ Ok (ended_by b w p, Ended)
   claim-ended over = step-ended b w p claimant (answered-open b w p claimant ok) over
 

@@ -11,6 +11,7 @@ use Rattle.book_core.proofs.RunLemmas.{BookLaw-after, after-snoc, sizes-after}
 use Rattle.book_live.specs.declared.views.Sizes.{Sizes}
 use Rattle.book_live.specs.Shown.{IsReachedBook}
 
+-- no events at all lead the machine to its start
 pub IsReached-start : (z : Sizes) → IsReachedBook z (start z.jobs z.workers)
 IsReached-start z = ([], [], refl)
 
@@ -20,12 +21,15 @@ IsReached-step z b c e a r is =
     (r.0 ++ e ∷ [], _, after-snoc z.jobs z.workers r.0 e c a (ap (λ (x : Run). x.fault) r.2) (ap (λ (x : Run). step x.book e) r.2 ∙ is))
 
 module _ (z : Sizes) (b : Book) (r : IsReachedBook z b) where
+  -- each book that the machine reaches meets the law of a book
   pub BookLaw-reached : BookLaw b
   BookLaw-reached = subst (λ (x : Run). BookLaw x.book) r.2 (BookLaw-after z.jobs z.workers r.0)
 
+  -- a book that the machine reaches has the jobs that it began with
   pub jobs-reached : b.jobs ≡ z.jobs
   jobs-reached = sym (ap (λ (x : Run). x.book.jobs) r.2) ∙ (sizes-after z.jobs z.workers r.0).0
 
+  -- a book that the machine reaches has as many passes as workers
   pub passes-reached : length b.passes ≡ z.workers
   passes-reached = sym (ap (λ (x : Run). length x.book.passes) r.2) ∙ (sizes-after z.jobs z.workers r.0).1
 

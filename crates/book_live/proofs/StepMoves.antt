@@ -1,5 +1,6 @@
 -- Each step of a pass is its one event: the words and the views then show the book after it.
-use Rattle.std.proofs.Common.{◌≡◌, ℕ, ◌+◌, ◌%◌, ◌^◌, ◌<◌, ◌≤◌, cond, List, length, set, min, false, Some, Ok, refl, sym, ap, ◌∙◌, subst, inl, inr, arith, slice_get, slice_index}
+use Rattle.std.proofs.Common.{◌≡◌, ℕ, ◌+◌, ◌%◌, ◌^◌, ◌<◌, ◌≤◌, cond, List, length, set, min, false, Some, Ok, refl, sym, ap, ◌∙◌, subst, inl, inr}
+use Rattle.std.proofs.Common.{arith, slice_get, slice_index}
 use Rattle.std.proofs.lemmas.List.{get_or-set_same, get_or-set_other, length-set, set-get_or}
 use Rattle.std.proofs.lemmas.Bool.{cases_lt, lt-ltb, le-ltb}
 use Rattle.std.proofs.Math.Nat.{mod-eq_of_lt}
@@ -36,7 +37,8 @@ least s = slice_index s.words 1
 
 -- ---- the seat of one pass and one word change
 
-module _ {S : Type 0} (z : Sizes) (b : Book) (s : State S View) (reached : IsReachedBook z b) (shows : Shows z b s) (id w : ℕ) (p : Deeds) (at : get_elem? s.views id ≡ some (alone z w p)) where
+module _ {S : Type 0} (z : Sizes) (b : Book) (s : State S View) (reached : IsReachedBook z b) (shows : Shows z b s) (id w : ℕ) (p : Deeds)
+    (at : get_elem? s.views id ≡ some (alone z w p)) where
   pass-shown : slice_get b.passes w ≡ Some p
   pass-shown = IsDealt-alone b (shares s.views) shows.dealt id w p (share-at s.views id (alone z w p) at)
 
@@ -49,7 +51,8 @@ module _ {S : Type 0} (z : Sizes) (b : Book) (s : State S View) (reached : IsRea
     words = length-set s.words word n ∙ shows.words;
     next = next-is;
     least = least-is;
-    dealt = subst (IsDealt c) (sym (shares-set s.views id (alone z w q))) (IsDealt-step b (shares s.views) shows.dealt id w p (share-at s.views id (alone z w p) at) q c passes);
+    dealt = subst (IsDealt c) (sym (shares-set s.views id (alone z w q)))
+        (IsDealt-step b (shares s.views) shows.dealt id w p (share-at s.views id (alone z w p) at) q c passes);
   }
 
   -- an answer and deeds under other names
@@ -80,13 +83,18 @@ module _ {S : Type 0} (z : Sizes) (b : Book) (s : State S View) (reached : IsRea
   ShowsEvent-claim : p.ended ≡ false → ShowsEvent z b s id (Claim w) p
   ShowsEvent-claim going = elim (cases_lt (next s) z.jobs) [
     | inl room ↦
-        let told : answer_to z (Claim w) (next s) ≡ Drawn b.next = ap (λ t. cond {A = Answer} t (Drawn (next s)) Ended) (lt-ltb (next s) z.jobs room) ∙ ap Drawn shows.next in
-        let done : deeds_after z (Claim w) (next s) p ≡ with_drawn p b.next = ap (λ t. cond {A = Deeds} t (with_drawn p (next s)) (with_end p)) (lt-ltb (next s) z.jobs room) ∙ ap (with_drawn p) shows.next in
-        Moves-as (Claim w) (Drawn b.next) (answer_to z (Claim w) (next s)) (with_drawn p b.next) (deeds_after z (Claim w) (next s) p) told done (drawn_by b w p, step-draws going room, Shows-drawn)
+        let told : answer_to z (Claim w) (next s) ≡ Drawn b.next = ap (λ t. cond {A = Answer} t (Drawn (next s)) Ended) (lt-ltb (next s) z.jobs room)
+        ∙ ap Drawn shows.next in
+        let done : deeds_after z (Claim w) (next s) p ≡ with_drawn p b.next =
+        ap (λ t. cond {A = Deeds} t (with_drawn p (next s)) (with_end p)) (lt-ltb (next s) z.jobs room) ∙ ap (with_drawn p) shows.next in
+        Moves-as (Claim w) (Drawn b.next) (answer_to z (Claim w) (next s)) (with_drawn p b.next) (deeds_after z (Claim w) (next s) p) told done
+        (drawn_by b w p, step-draws going room, Shows-drawn)
     | inr over ↦
         let told : answer_to z (Claim w) (next s) ≡ Ended = ap (λ t. cond {A = Answer} t (Drawn (next s)) Ended) (le-ltb (next s) z.jobs over) in
-        let done : deeds_after z (Claim w) (next s) p ≡ with_end p = ap (λ t. cond {A = Deeds} t (with_drawn p (next s)) (with_end p)) (le-ltb (next s) z.jobs over) in
-        Moves-as (Claim w) Ended (answer_to z (Claim w) (next s)) (with_end p) (deeds_after z (Claim w) (next s) p) told done (ended_by b w p, step-ends going over, Shows-ended)
+        let done : deeds_after z (Claim w) (next s) p ≡ with_end p =
+        ap (λ t. cond {A = Deeds} t (with_drawn p (next s)) (with_end p)) (le-ltb (next s) z.jobs over) in
+        Moves-as (Claim w) Ended (answer_to z (Claim w) (next s)) (with_end p) (deeds_after z (Claim w) (next s) p) told done
+        (ended_by b w p, step-ends going over, Shows-ended)
   ]
 
   Shows-reported : (place : ℕ) → place < 2 ^ 32 → Shows z (reported_by b w place p) (state_after (Report w place) s id (alone z w (with_report p place)))
@@ -94,7 +102,8 @@ module _ {S : Type 0} (z : Sizes) (b : Book) (s : State S View) (reached : IsRea
       let m = min (least s) place in
       let word1 : slice_index (set s.words 1 m) 1 ≡ m = get_or-set_same s.words 1 m 0 (omega (arith, shows.words)) in
       let word0 : slice_index (set s.words 1 m) 0 ≡ next s = get_or-set_other s.words 1 0 m 0 (λ e. absurd (omega (arith, e))) in
-      Shows-after (with_report p place) (reported_by b w place p) 1 m refl (word0 ∙ shows.next) (word1 ∙ ap (λ k. min k place) shows.least ∙ sym (word_of-lesser b.least place small))
+      Shows-after (with_report p place) (reported_by b w place p) 1 m refl (word0 ∙ shows.next)
+      (word1 ∙ ap (λ k. min k place) shows.least ∙ sym (word_of-lesser b.least place small))
 
   ShowsEvent-report : (place : ℕ) → place < 2 ^ 32 → ShowsEvent z b s id (Report w place) p
   ShowsEvent-report place small = (reported_by b w place p, step-reported b w p pass-shown place small, Shows-reported place small)
@@ -135,6 +144,7 @@ IsOneStep-taken z b s reached shows id p e at may = record {
   moves = ShowsEvent-taken z b s reached shows id p e at may;
 }
 
+-- a claim of a pass that hasn't ended may add one to the first word, and draws the number found or ends the pass
 pub allows-claim : (z : Sizes) (slots id w : ℕ) (p : Deeds) (c : List (ℕ × Unit {0})) → p.ended ≡ false
     → Allows (Shown z) slots id (alone z w p, c) 0 (λ n. (n + 1) % 2 ^ 64) (λ n u. Claimed (alone z w p) n u.0 × (u.1 ≡ c))
 allows-claim z slots id w p c going s h _ at fits =
@@ -162,6 +172,7 @@ allows-claim z slots id w p c going s h _ at fits =
       ),
     )
 
+-- a report may lower the second word to a place below 2^32, and adds the place to those of the pass
 pub allows-report : (z : Sizes) (slots id w place : ℕ) (p : Deeds) (c : List (ℕ × Unit {0})) → place < 2 ^ 32
     → Allows (Shown z) slots id (alone z w p, c) 1 (λ n. min n place) (λ n u. Placed (alone z w p) place u.0 × (u.1 ≡ c))
 allows-report z slots id w place p c small s h _ at fits =
@@ -173,6 +184,7 @@ allows-report z slots id w place p c small s h _ at fits =
       (record { added = refl; event = IsOneStep-taken z h.0 s h.1 h.2 id p (Report w place) at small }, refl),
     )
 
+-- a look may leave the second word as it is, and keeps its place as the one that the pass has seen
 pub allows-look : (z : Sizes) (slots id w : ℕ) (p : Deeds) (c : List (ℕ × Unit {0}))
     → Allows (Shown z) slots id (alone z w p, c) 1 (λ n. n) (λ n u. Looked (alone z w p) n u.0 × (u.1 ≡ c))
 allows-look z slots id w p c s h _ at fits =

@@ -6,6 +6,7 @@ use Rattle.book_core.specs.Places.{lesser, IsLeast}
 use Rattle.book_core.specs.Laws.{BookLaw}
 use Rattle.book_live.specs.Shown.{word_of, place_in_word}
 
+-- the word of the lesser of the least place and another is the smaller of the least one's word and that place
 pub word_of-lesser : (o : Option ℕ) (place : ℕ) → place < 2 ^ 32 → word_of (Some (lesser o place)) ≡ min (word_of o) place
 word_of-lesser None place small = omega arith
 word_of-lesser (Some least) place small = refl

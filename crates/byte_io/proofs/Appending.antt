@@ -19,6 +19,7 @@ writes_behind a b c xs ys (Err e) p q =
 front_grows : (a b : Option Bytes) (xs ys : Bytes) → AppendsFront a b xs → AppendsFront a b (xs ++ ys)
 front_grows a b xs ys p = (p.0, grind (arith, common_steps), grind (arith, common_steps))
 
+-- what writes a front of some bytes writes a front of them with more behind
 pub front_of_more : (a b : Output) (xs ys : Bytes) → WritesFront a b xs → WritesFront a b (xs ++ ys)
 front_of_more a b xs ys p = (front_grows a.bytes b.bytes xs ys p.0, p.1)
 

@@ -1,5 +1,6 @@
 -- What a full table, a set of full tables and a parity leaf say of a board is no less than what folded ones say.
-use Rattle.std.proofs.Common.{◌≡◌, ◌∙◌, ◌+◌, ◌%◌, ◌≤◌, ◌<◌, inl, inr, ap, ℕ, suc, zero, Bool, true, false, List, [], ◌∷◌, arith, cond, eqb, get_or, length, refl, subst, sym}
+use Rattle.std.proofs.Common.{◌≡◌, ◌∙◌, ◌+◌, ◌%◌, ◌≤◌, ◌<◌, inl, inr, ap, ℕ, suc, zero, Bool, true, false, List, [], ◌∷◌, arith, cond, eqb, get_or}
+use Rattle.std.proofs.Common.{length, refl, subst, sym}
 use Rattle.std.specs.Prelude.{⊤, Any}
 use Rattle.std.proofs.lemmas.Bool.{cases_lt, eqb-false, eqb-true}
 use Rattle.puz_board.specs.Boards.{IsBoard, IsBoardOf}
@@ -72,6 +73,7 @@ module _ (n : ℕ) (folded full : List ShownPart) (are : (m : Member) → IsFull
       let says = subst (λ x. MemberSays full x b (Finite found.0)) never.3 found.1 in
       member_most m Never (Finite found.0) never.4 says
 
+  -- what a set says of a board by folded tables is no more than it says by the full ones
   pub set_most : (set : List Member) (c e : Count) → SetSays folded set b c → SetSays full set b e → IsAtMost c e
   set_most set c Never says also = tt
   set_most set (Finite d) (Finite e) says also = sum_most set d e says also

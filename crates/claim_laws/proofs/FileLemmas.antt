@@ -73,7 +73,8 @@ one_file t u f g p q exact also same =
     let here = bytes_behind 8 f p in
     let there = bytes_behind 8 g q in
     let tiles = ap (λ r. r.tiles) same in
-    let mask = numbers_of-one (big_number 4 (drop 8 f)) (big_number 4 (drop 8 g)) (four_low (drop 8 f) here 0) (four_low (drop 8 g) there 0) (h.mask ∙ tiles ∙ sym k.mask) in
+    let mask = numbers_of-one (big_number 4 (drop 8 f)) (big_number 4 (drop 8 g)) (four_low (drop 8 f) here 0) (four_low (drop 8 g) there 0)
+    (h.mask ∙ tiles ∙ sym k.mask) in
     let m = four (drop 8 f) (drop 8 g) here there 0 mask in
     let bytes = bytes_behind 12 f p in
     let others = bytes_behind 12 g q in

@@ -1,5 +1,6 @@
 -- What a log refutes over folded tables it refutes over the full ones.
-use Rattle.std.proofs.Common.{◌≡◌, ◌∙◌, ◌-◌, ◌<◌, inl, inr, ap, ℕ, suc, zero, Bool, true, false, List, [], ◌∷◌, Option, Some, None, ◌≤◌, cond, get_or, length, map, refl, subst, sym}
+use Rattle.std.proofs.Common.{◌≡◌, ◌∙◌, ◌-◌, ◌<◌, inl, inr, ap, ℕ, suc, zero, Bool, true, false, List, [], ◌∷◌, Option, Some, None, ◌≤◌, cond, get_or}
+use Rattle.std.proofs.Common.{length, map, refl, subst, sym}
 use Rattle.std.specs.Prelude.{Any, slice_get}
 use Rattle.std.specs.List.{AllByRecursion}
 use Rattle.puz_board.specs.Boards.{IsBoardOf, moved}
@@ -32,14 +33,16 @@ use Rattle.claim_laws.proofs.CountLemmas.{IsFullOf, set_most, told_most}
 
 -- where the one bundle says of boards at least what the other says
 module _ (v w : ShownBundle) (log : Log) (n i : ℕ)
-    (more : (by_parity : Bool) (number : ℕ) (b : List ℕ) (r : ℕ) → IsBoardOf n b → SaysAtLeast v by_parity number b r → SaysAtLeast w by_parity number b r) where
+    (more : (by_parity : Bool) (number : ℕ) (b : List ℕ) (r : ℕ) → IsBoardOf n b → SaysAtLeast v by_parity number b r
+    → SaysAtLeast w by_parity number b r) where
   child_more : (b : List ℕ) (m : Move) (o : Option (List ℕ)) (back : Bool) (child : Tree) (H K : List ℕ → Type 0) → moved b m ≡ o
       → ((c : List ℕ) → moved b m ≡ Some c → H c → K c) → IsChild o back child H → IsChild o back child K
   child_more b m None back child H K is on holds = holds
   child_more b m (Some c) true child H K is on holds = holds
   child_more b m (Some c) false child H K is on holds = on c is holds
 
-  refutes_more : (tree : Tree) (b : List ℕ) (arriving : Option Move) (r : ℕ) → IsBoardOf n b → Refutes v log i tree b arriving r → Refutes w log i tree b arriving r
+  refutes_more : (tree : Tree) (b : List ℕ) (arriving : Option Move) (r : ℕ) → IsBoardOf n b → Refutes v log i tree b arriving r
+      → Refutes w log i tree b arriving r
   refutes_more absent b arriving r good refutes = refutes
   refutes_more (leaf by_parity set) b arriving r good refutes = (refutes.0, more by_parity set b r good refutes.1)
   refutes_more (citation j) b arriving r good refutes = refutes
@@ -59,7 +62,8 @@ module _ (v w : ShownBundle) (log : Log) (n i : ℕ)
 -- ---- bundles
 
 -- the full table in the place of a folded one
-full_at : (tables : List Table) (k : ℕ) → IsFullOf (get_or (parts_shown (parts_for true tables)) k no_part) (get_or (parts_shown (parts_for false tables)) k no_part)
+full_at : (tables : List Table) (k : ℕ) → IsFullOf (get_or (parts_shown (parts_for true tables)) k no_part)
+    (get_or (parts_shown (parts_for false tables)) k no_part)
 full_at [] k = record { tiles = refl; full = refl }
 full_at (t ∷ tables) zero = record { tiles = refl; full = refl }
 full_at (t ∷ tables) (suc k) = full_at tables k

@@ -37,9 +37,11 @@ shorter (x ∷ front) b behind n c good solves =
     let side : side_of d ≡ side_of b = side_of-slid n b good x near.0 in
     let here : blank d ≡ x = blank-slid n b good x near.0 in
     let path = front ++ (c ∷ blank (after d front) ∷ behind) in
-    let on : IsPath (side_of d) (blank d) path = subst (λ k. IsPath k (blank d) path) (sym side) (subst (λ z. IsPath (side_of b) z path) (sym here) solves.0.1) in
+    let on : IsPath (side_of d) (blank d) path = subst (λ k. IsPath k (blank d) path) (sym side)
+    (subst (λ z. IsPath (side_of b) z path) (sym here) solves.0.1) in
     let rest = shorter front d behind n c (IsBoardOf-slid n b good x near.0) (on, solves.1) in
-    let back : IsPath (side_of b) x (front ++ behind) = subst (λ z. IsPath (side_of b) z (front ++ behind)) here (subst (λ k. IsPath k (blank d) (front ++ behind)) side rest.0) in
+    let back : IsPath (side_of b) x (front ++ behind) =
+    subst (λ z. IsPath (side_of b) z (front ++ behind)) here (subst (λ k. IsPath k (blank d) (front ++ behind)) side rest.0) in
     ((solves.0.0, back), rest.1)
 
 -- so a shortest solution has no such moves

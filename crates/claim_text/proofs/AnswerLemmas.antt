@@ -1,5 +1,7 @@
 -- The lines that answer claims.
-use Rattle.std.proofs.Common.{◌≡◌, ℕ, zero, suc, ◌+◌, ◌*◌, ◌/◌, ◌%◌, ◌<◌, ◌≤◌, Bool, true, false, List, [], ◌∷◌, ◌++◌, append_assoc, append-nil, None, cond, length, length-append, get_or, take, drop, eqb, ltb, not, refl, sym, ◌∙◌, ap, subst, arith, codes, decimal, inl, inr, lit<}
+use Rattle.std.proofs.Common.{◌≡◌, ℕ, zero, suc, ◌+◌, ◌*◌, ◌/◌, ◌%◌, ◌<◌, ◌≤◌, Bool, true, false, List, [], ◌∷◌, ◌++◌, append_assoc, append-nil, None}
+use Rattle.std.proofs.Common.{cond, length, length-append, get_or, take, drop, eqb, ltb, not, refl, sym, ◌∙◌, ap, subst, arith, codes, decimal, inl}
+use Rattle.std.proofs.Common.{inr, lit<}
 use Rattle.std.proofs.Math.Seq.{drop-cons}
 use Rattle.std.proofs.lemmas.Bool.{cases_lt, cond-false, cond-true, ne_eqb, not_from_false}
 use Rattle.std.proofs.lemmas.Fmt.{length-decimal-le}
@@ -31,7 +33,8 @@ cell_short b n c board side within =
     (omega arith, length-decimal-le 2 (at b c) (omega arith) (omega arith) (omega arith), omega arith)
 
 -- a number more
-pub numbers-more : (front b : List ℕ) (c : ℕ) → c < length b → ((front ++ numbers (take c b)) ++ codes " ") ++ decimal (at b c) ≡ front ++ numbers (take (c + 1) b)
+pub numbers-more : (front b : List ℕ) (c : ℕ) → c < length b
+    → ((front ++ numbers (take c b)) ++ codes " ") ++ decimal (at b c) ≡ front ++ numbers (take (c + 1) b)
 numbers-more front b c within =
     append_assoc (front ++ numbers (take c b)) (codes " ") (decimal (at b c)) ∙ append_assoc front (numbers (take c b)) (codes " " ++ decimal (at b c)) ∙
     ap (λ text. front ++ text)
@@ -64,7 +67,8 @@ join_no_lf a b p q = All-append (λ byte. not (eqb byte 10) ≡ true) a b p q
 
 numbers-no_lf : (b : List ℕ) → HasNo 10 (numbers b)
 numbers-no_lf [] = All-nil (λ b. not (eqb b 10) ≡ true)
-numbers-no_lf (n ∷ b) = join_no_lf (codes " " ++ decimal n) (numbers b) (join_no_lf (codes " ") (decimal n) (known (codes " ") refl) (decimal-no_lf n)) (numbers-no_lf b)
+numbers-no_lf (n ∷ b) = join_no_lf (codes " " ++ decimal n) (numbers b)
+    (join_no_lf (codes " ") (decimal n) (known (codes " ") refl) (decimal-no_lf n)) (numbers-no_lf b)
 
 letter_other : (x : ℕ) → is_letter x ≡ true → eqb x 10 ≡ false
 letter_other x e = ne_eqb x 10 (λ same. let no : false ≡ true = subst (λ n. is_letter n ≡ true) same e in cc)
@@ -85,7 +89,8 @@ spaced-no_lf text = go (list_any is_letter text)
     go false = All-nil (λ b. not (eqb b 10) ≡ true)
 
 part-no_lf : (p : ShownPart) → HasNo 10 (part_words p)
-part-no_lf p = join_no_lf (decimal p.index ++ codes "/") (decimal p.count) (join_no_lf (decimal p.index) (codes "/") (decimal-no_lf p.index) (known (codes "/") refl)) (decimal-no_lf p.count)
+part-no_lf p = join_no_lf (decimal p.index ++ codes "/") (decimal p.count)
+    (join_no_lf (decimal p.index) (codes "/") (decimal-no_lf p.index) (known (codes "/") refl)) (decimal-no_lf p.count)
 
 asks-no_lf : (asks : ShownAsks) → HasNo 10 (asks_words asks)
 asks-no_lf shortest = All-nil (λ b. not (eqb b 10) ≡ true)
@@ -93,7 +98,8 @@ asks-no_lf (moves text) = join_no_lf (codes " ;") (spaced_letters text) (known (
 asks-no_lf (bound n) = join_no_lf (codes " : ") (decimal n) (known (codes " : ") refl) (decimal-no_lf n)
 asks-no_lf (part n p) =
     let bounded = join_no_lf (codes " : ") (decimal n) (known (codes " : ") refl) (decimal-no_lf n) in
-    join_no_lf (codes " : " ++ decimal n ++ codes " part ") (part_words p) (join_no_lf (codes " : " ++ decimal n) (codes " part ") bounded (known (codes " part ") refl)) (part-no_lf p)
+    join_no_lf (codes " : " ++ decimal n ++ codes " part ") (part_words p)
+    (join_no_lf (codes " : " ++ decimal n) (codes " part ") bounded (known (codes " part ") refl)) (part-no_lf p)
 
 -- nor do the words of a claim
 pub claim-no_lf : (claim : ShownClaim) → HasNo 10 (claim_words claim)
@@ -106,13 +112,16 @@ of_no_lf front words p q =
 
 -- a line that answers a claim has no LF before its end
 pub answer-no_lf : AnswersAreLines
-answer-no_lf (bounded n b) what = of_no_lf (codes "bound " ++ decimal n) (numbers b) (join_no_lf (codes "bound ") (decimal n) (known (codes "bound ") refl) (decimal-no_lf n)) (numbers-no_lf b)
+answer-no_lf (bounded n b) what = of_no_lf (codes "bound " ++ decimal n) (numbers b)
+    (join_no_lf (codes "bound ") (decimal n) (known (codes "bound ") refl) (decimal-no_lf n)) (numbers-no_lf b)
 answer-no_lf (part_bounded p n b) what =
     let one = join_no_lf (codes "part ") (part_words p) (known (codes "part ") refl) (part-no_lf p) in
     let more = join_no_lf (codes "part " ++ part_words p) (codes " of bound ") one (known (codes " of bound ") refl) in
-    of_no_lf (codes "part " ++ part_words p ++ codes " of bound " ++ decimal n) (numbers b) (join_no_lf (codes "part " ++ part_words p ++ codes " of bound ") (decimal n) more (decimal-no_lf n)) (numbers-no_lf b)
+    of_no_lf (codes "part " ++ part_words p ++ codes " of bound " ++ decimal n) (numbers b)
+    (join_no_lf (codes "part " ++ part_words p ++ codes " of bound ") (decimal n) more (decimal-no_lf n)) (numbers-no_lf b)
 answer-no_lf (optimal n b text) what =
-    of_no_lf (codes "optimal " ++ decimal n) (claim_words (record { board = b; asks = moves text })) (join_no_lf (codes "optimal ") (decimal n) (known (codes "optimal ") refl) (decimal-no_lf n))
+    of_no_lf (codes "optimal " ++ decimal n) (claim_words (record { board = b; asks = moves text }))
+    (join_no_lf (codes "optimal ") (decimal n) (known (codes "optimal ") refl) (decimal-no_lf n))
     (claim-no_lf (record { board = b; asks = moves text }))
 answer-no_lf (shorter solution claim) what =
     of_no_lf (codes "refused O2 by" ++ spaced_letters solution) (claim_words claim)
@@ -127,7 +136,10 @@ regroup_four a b c d = simp append_assoc
 
 -- it begins as its kind says
 pub answer_begins : AnswersBegin
-answer_begins (bounded n b) = (decimal n ++ (codes " of" ++ (numbers b ++ codes "\n")), regroup (codes "bound ") (decimal n) (codes " of") (numbers b) (codes "\n"))
+answer_begins (bounded n b) = (
+  decimal n ++ (codes " of" ++ (numbers b ++ codes "\n")),
+  regroup (codes "bound ") (decimal n) (codes " of") (numbers b) (codes "\n"),
+)
 answer_begins (part_bounded p n b) = (
   part_words p ++ (codes " of bound " ++ (decimal n ++ (codes " of" ++ (numbers b ++ codes "\n")))),
   simp append_assoc,
@@ -147,7 +159,8 @@ answer_begins (refused what claim) = (codes " of" ++ (claim_words claim ++ codes
 pub letters_room : (text : List ℕ) (i : ℕ) → i < length text → is_letter (get_or text i 0) ≡ true → length (letters (take i text)) + 1 ≤ length (letters text)
 letters_room text i within letter =
     let whole = ap letters (sym (take-append-drop i text)) ∙ filter-append is_letter (take i text) (drop i text) in
-    let rest = ap letters (drop-cons text i 0 within) ∙ cond-true (is_letter (get_or text i 0)) (get_or text i 0 ∷ letters (drop (suc i) text)) (letters (drop (suc i) text)) letter in
+    let rest = ap letters (drop-cons text i 0 within)
+    ∙ cond-true (is_letter (get_or text i 0)) (get_or text i 0 ∷ letters (drop (suc i) text)) (letters (drop (suc i) text)) letter in
     omega (arith, ap length whole, ap length rest, length-append (letters (take i text)) (letters (drop i text)))
 
 -- a letter is an ASCII byte

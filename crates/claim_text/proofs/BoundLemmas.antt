@@ -1,5 +1,6 @@
 -- Bounds and their parts, as claims say them.
-use Rattle.std.proofs.Common.{◌≡◌, ℕ, ◌<◌, ◌≤◌, List, [], ◌∷◌, ◌++◌, append_assoc, Option, Some, None, Ok, Err, Result, lit<, refl, sym, ◌∙◌, ap, subst, arith, codes, decimal}
+use Rattle.std.proofs.Common.{◌≡◌, ℕ, ◌<◌, ◌≤◌, List, [], ◌∷◌, ◌++◌, append_assoc, Option, Some, None, Ok, Err, Result, lit<, refl, sym, ◌∙◌, ap}
+use Rattle.std.proofs.Common.{subst, arith, codes, decimal}
 use Rattle.std.specs.Option.{SomeIff}
 use Rattle.std.specs.Prelude.{IfNone}
 use Rattle.std.specs.Result.{OkIff, result_ok}
@@ -17,7 +18,8 @@ cut_of_part : (p : ShownPart) → IsCutAt 47 (part_words p) (decimal p.index) (d
 cut_of_part p = record { whole = whole_part p; first = decimal-no 47 p.index (lit< tt) }
 
 -- so a text that is cut there has these numbers where it is a part in words
-pub part_cut : (words index count : List ℕ) (p : ShownPart) → IsCutAt 47 words index count → words ≡ part_words p → (index ≡ decimal p.index) × (count ≡ decimal p.count)
+pub part_cut : (words index count : List ℕ) (p : ShownPart) → IsCutAt 47 words index count → words ≡ part_words p → (index ≡ decimal p.index)
+    × (count ≡ decimal p.count)
 part_cut words index count p cut e =
     one_cut 47 (part_words p) index count (decimal p.index) (decimal p.count) (subst (λ text. IsCutAt 47 text index count) e cut) (cut_of_part p)
 
@@ -48,12 +50,14 @@ first_word : List (List ℕ) → List ℕ
 first_word [] = []
 first_word (word ∷ more) = word
 
+-- the words behind the first one of a list
 pub later_words : List (List ℕ) → List (List ℕ)
 later_words [] = []
 later_words (word ∷ more) = more
 
 -- a text that begins with a larger number says nothing there
-pub no_bound : (text digits : List ℕ) (behind : List (List ℕ)) (m : ℕ) → parts text ≡ digits ∷ behind → digits ≡ decimal m → m ≤ 65535 → ¬ (m < 256) → (asks : ShownAsks) → ¬ SpellsAsks text asks
+pub no_bound : (text digits : List ℕ) (behind : List (List ℕ)) (m : ℕ) → parts text ≡ digits ∷ behind → digits ≡ decimal m → m ≤ 65535 → ¬ (m < 256)
+    → (asks : ShownAsks) → ¬ SpellsAsks text asks
 unfolding first_word
 no_bound text digits behind m front is most large shortest says = says
 no_bound text digits behind m front is most large (moves u) says = says

@@ -2,7 +2,8 @@
 use Rattle.std.proofs.Common.{◌≡◌, ℕ, List, [], ◌∷◌, Option, Some, None, refl, sym, ◌∙◌, ap, subst}
 use Rattle.std.specs.Prelude.{IfNone, is_some, true, false}
 use Rattle.puz_board.specs.BoardTexts.{Spells}
-use Rattle.claim_text.specs.Claims.{HasNo, IsClaim, IsClaimOf, IsColonClaim, IsCutAt, IsMovesText, IsNoClaim, ShownAsks, ShownClaim, SpellsAsks, bound, moves, part, shortest}
+use Rattle.claim_text.specs.Claims.{HasNo, IsClaim, IsClaimOf, IsColonClaim, IsCutAt, IsMovesText, IsNoClaim, ShownAsks, ShownClaim, SpellsAsks}
+use Rattle.claim_text.specs.Claims.{bound, moves, part, shortest}
 use Rattle.claim_text.proofs.BoundLemmas.{one_spelt}
 use Rattle.claim_text.proofs.CutLemmas.{no_cut, one_cut}
 
@@ -79,7 +80,8 @@ no_spelt line before behind cut none b asks s =
     let same = one_cut 58 line s.before s.behind before behind s.whole cut in
     none b asks (subst (λ text. Spells text b) same.0 s.board) (subst (λ text. SpellsAsks text asks) same.1 s.spelt)
 
-no_colon : (line before behind : List ℕ) → HasNo 59 line → IsCutAt 58 line before behind → ((b : List ℕ) (asks : ShownAsks) → Spells before b → ¬ SpellsAsks behind asks)
+no_colon : (line before behind : List ℕ) → HasNo 59 line → IsCutAt 58 line before behind
+    → ((b : List ℕ) (asks : ShownAsks) → Spells before b → ¬ SpellsAsks behind asks)
     → (b : List ℕ) (asks : ShownAsks) → ¬ IsClaimOf line b asks
 no_colon line before behind first cut none b shortest s = no_cut 58 line before behind s.no_colon cut
 no_colon line before behind first cut none b (moves u) s = no_cut 59 line s.before u first s.whole
@@ -87,7 +89,8 @@ no_colon line before behind first cut none b (bound n) s = no_spelt line before 
 no_colon line before behind first cut none b (part n p) s = no_spelt line before behind cut none b (part n p) s
 
 -- a line with a `:` and no `;` is none where what comes before it is no board, or what comes behind it no bound and no part of one
-pub no_colon_claim : (line before behind : List ℕ) → HasNo 59 line → IsCutAt 58 line before behind → ((b : List ℕ) (asks : ShownAsks) → Spells before b → ¬ SpellsAsks behind asks)
+pub no_colon_claim : (line before behind : List ℕ) → HasNo 59 line → IsCutAt 58 line before behind
+    → ((b : List ℕ) (asks : ShownAsks) → Spells before b → ¬ SpellsAsks behind asks)
     → IsNoClaim line
 no_colon_claim line before behind first cut none claim = no_colon line before behind first cut none claim.board claim.asks
 

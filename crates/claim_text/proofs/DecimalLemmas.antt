@@ -17,7 +17,8 @@ glyph_other byte d small = go (ltb d 10)
 digits_onto-no : (byte k n : ℕ) (acc : List ℕ) → byte < 48 → HasNo byte acc → HasNo byte (digits_onto k 10 false n acc)
 digits_onto-no byte zero n acc small none = none
 digits_onto-no byte (suc k) n acc small none =
-    go (eqb (n / 10) 0) (All-cons (λ b. not (eqb b byte) ≡ true) (digit_glyph false (n % 10)) acc (not_from_false (eqb (digit_glyph false (n % 10)) byte) (glyph_other byte (n % 10) small)) none)
+    go (eqb (n / 10) 0) (All-cons (λ b. not (eqb b byte) ≡ true) (digit_glyph false (n % 10)) acc
+    (not_from_false (eqb (digit_glyph false (n % 10)) byte) (glyph_other byte (n % 10) small)) none)
     (λ m more. digits_onto-no byte k m more small)
   where
     go : (b : Bool) → HasNo byte (digit_glyph false (n % 10) ∷ acc) → ((m : ℕ) (acc : List ℕ) → HasNo byte acc → HasNo byte (digits_onto k 10 false m acc))

@@ -1,5 +1,6 @@
 -- What a text of claims is read as: one thing.
-use Rattle.std.proofs.Common.{◌≡◌, ℕ, zero, suc, ◌+◌, ◌<◌, ◌≤◌, ◌^◌, List, [], ◌∷◌, ◌++◌, add-one, length, length-drop, get_or, drop, take, true, false, refl, sym, ◌∙◌, ap, subst, arith, inl, inr}
+use Rattle.std.proofs.Common.{◌≡◌, ℕ, zero, suc, ◌+◌, ◌<◌, ◌≤◌, ◌^◌, List, [], ◌∷◌, ◌++◌, add-one, length, length-drop, get_or, drop, take, true}
+use Rattle.std.proofs.Common.{false, refl, sym, ◌∙◌, ap, subst, arith, inl, inr}
 use Rattle.std.proofs.Math.Seq.{drop-cons}
 use Rattle.std.proofs.lemmas.Bool.{cases_lt}
 use Rattle.std.proofs.lemmas.List.Elements.{All-head, All-tail}
@@ -47,7 +48,8 @@ one_fault text a b p q = elim (cases_lt a b) [
   ]
 ]
 
-claims_say : (lines : List (List ℕ)) (claims : List ShownClaim) → AllZip IsClaim lines claims → (k : ℕ) (d : List ℕ) → k < length lines → SaysClaim (get_or lines k d)
+claims_say : (lines : List (List ℕ)) (claims : List ShownClaim) → AllZip IsClaim lines claims → (k : ℕ) (d : List ℕ) → k < length lines
+    → SaysClaim (get_or lines k d)
 claims_say [] claims all k d within = absurd (omega arith)
 claims_say (line ∷ lines) [] all k d within = absurd all
 claims_say (line ∷ lines) (x ∷ xs) all zero d within = (x, all.0)
@@ -87,7 +89,8 @@ pub few_letters : (line : List ℕ) (claim : ShownClaim) → IsClaim line claim 
 few_letters line claim is = few_letters_of line claim.board claim.asks is
 
 -- each claim that is read of a text has
-pub all_few : {A : Type 0} (shown : A → ShownClaim) (lines : List (List ℕ)) (read : List A) → AllZip IsClaim lines (map shown read) → (k : ℕ) (d : A) → k < length read
+pub all_few : {A : Type 0} (shown : A → ShownClaim) (lines : List (List ℕ)) (read : List A) → AllZip IsClaim lines (map shown read) → (k : ℕ) (d : A)
+    → k < length read
     → HasFewLetters (shown (get_or read k d))
 all_few shown lines [] all k d within = absurd (omega arith)
 all_few shown [] (x ∷ xs) all k d within = absurd all
@@ -118,7 +121,8 @@ no_more_lines lines n few e = omega (arith, length-drop n lines, ap length e)
 
 -- one claim more
 pub AllZip-more : (lines : List (List ℕ)) (claims : List ShownClaim) (n : ℕ) (line : List ℕ) (claim : ShownClaim)
-    → n < length lines → get_or lines n [] ≡ line → AllZip IsClaim (take n lines) claims → IsClaim line claim → AllZip IsClaim (take (n + 1) lines) (claims ++ claim ∷ [])
+    → n < length lines → get_or lines n [] ≡ line → AllZip IsClaim (take n lines) claims → IsClaim line claim
+    → AllZip IsClaim (take (n + 1) lines) (claims ++ claim ∷ [])
 AllZip-more lines claims n line claim within here all is =
     subst (λ first. AllZip IsClaim first (claims ++ claim ∷ [])) (sym (take_more lines n [] within))
     (snoc (take n lines) claims all)
@@ -138,7 +142,8 @@ claims_there (line ∷ lines) all =
     (first.0 ∷ rest.0, (first.1, rest.1))
 
 -- a text whose lines are claims, so many of them
-pub are_claims : (text : List ℕ) (count : ℕ) (claims : List ShownClaim) → length (lines_of text) ≡ count → 1 ≤ count → count ≤ 2 ^ 20 → AllZip IsClaim (lines_of text) claims
+pub are_claims : (text : List ℕ) (count : ℕ) (claims : List ShownClaim) → length (lines_of text) ≡ count → 1 ≤ count → count ≤ 2 ^ 20
+    → AllZip IsClaim (lines_of text) claims
     → AreClaims text claims
 are_claims text count claims size some few all =
     let same = length-claims (lines_of text) claims all in
@@ -159,6 +164,7 @@ no_empty_claim = no_shortest_claim [] (λ k d l. absurd (omega arith)) (λ k d l
         let low : 2 ≤ side_of [] = board.low in no_side low
 
 -- a line of which a claim was read says one
-pub says_claim : {A : Type 0} (shown : A → ShownClaim) (line : List ℕ) (r : Option A) → is_some r ≡ true → IfSome r (λ x. IsClaim line (shown x)) → SaysClaim line
+pub says_claim : {A : Type 0} (shown : A → ShownClaim) (line : List ℕ) (r : Option A) → is_some r ≡ true → IfSome r (λ x. IsClaim line (shown x))
+    → SaysClaim line
 says_claim shown line None there is = absurd (let no : false ≡ true = there in cc)
 says_claim shown line (Some x) there is = (shown x, is)

@@ -25,10 +25,12 @@ pub no_index : (line words : List ℕ) (p : ShownPart) (n : ℕ) (b : List ℕ) 
 no_index line words p n b e none is = cut_nowhere 47 (decimal p.index) (told_rest p n b) (subst (HasNo 47) (words_of line words p n b e is) none)
 
 -- what comes before the first one is the index
-pub index_of : (line words index rest : List ℕ) (p : ShownPart) (n : ℕ) (b : List ℕ) → words ≡ drop 5 line → IsCutAt 47 words index rest → line ≡ told_line (part_bounded p n b)
+pub index_of : (line words index rest : List ℕ) (p : ShownPart) (n : ℕ) (b : List ℕ) → words ≡ drop 5 line → IsCutAt 47 words index rest
+    → line ≡ told_line (part_bounded p n b)
     → index ≡ decimal p.index
 index_of line words index rest p n b e cut is =
-    let whole : IsCutAt 47 words (decimal p.index) (told_rest p n b) = record { whole = words_of line words p n b e is; first = decimal-no 47 p.index (lit< tt) } in
+    let whole : IsCutAt 47 words (decimal p.index) (told_rest p n b) =
+    record { whole = words_of line words p n b e is; first = decimal-no 47 p.index (lit< tt) } in
     (one_cut 47 words index rest (decimal p.index) (told_rest p n b) cut whole).0
 
 -- an index below a count of parts that a bound may have is one of a part

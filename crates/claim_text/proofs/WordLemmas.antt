@@ -1,5 +1,6 @@
 -- The words of a text: what it has between its separators.
-use Rattle.std.proofs.Common.{◌≡◌, ℕ, suc, ◌<◌, get_or-take, Bool, true, false, List, [], ◌∷◌, ◌++◌, length, get_or, take, drop, ltb, not, refl, sym, ◌∙◌, ap, subst, arith, Some, None, inl, inr}
+use Rattle.std.proofs.Common.{◌≡◌, ℕ, suc, ◌<◌, get_or-take, Bool, true, false, List, [], ◌∷◌, ◌++◌, length, get_or, take, drop, ltb, not, refl, sym}
+use Rattle.std.proofs.Common.{◌∙◌, ap, subst, arith, Some, None, inl, inr}
 use Rattle.std.proofs.Math.Seq.{drop-cons}
 use Rattle.std.proofs.lemmas.Bool.{cases_Bool, cases_eq, cond-true, lt-ltb, not-false, not-true}
 use Rattle.std.proofs.lemmas.Grind.{get_or_default_zero}
@@ -54,11 +55,13 @@ parts-drop text start e =
     let front : AllPass is_separator (take start text) =
     λ k d l.
     let below : k < start = omega arith in
-    ap is_separator (get_or_default_zero (take start text) k d l ∙ get_or-take start text k 0 below) ∙ not-false (is_separator (get_or text k 0)) (first.before k below) in
+    ap is_separator (get_or_default_zero (take start text) k d l ∙ get_or-take start text k 0 below)
+    ∙ not-false (is_separator (get_or text k 0)) (first.before k below) in
     sym (ap parts (sym (take-append-drop start text)) ∙ parts-separators (take start text) (drop start text) front)
 
 -- where no separator stands behind the first other byte, what begins there is the one word
-pub word_alone : (text rest : List ℕ) (start : ℕ) → rest ≡ drop start text → Some start ≡ position (λ b. not (is_separator b)) text → None ≡ position is_separator rest
+pub word_alone : (text rest : List ℕ) (start : ℕ) → rest ≡ drop start text → Some start ≡ position (λ b. not (is_separator b)) text
+    → None ≡ position is_separator rest
     → parts text ≡ rest ∷ []
 word_alone text rest start r e f =
     let first = first-position (λ b. not (is_separator b)) text start (sym e) in
@@ -80,7 +83,8 @@ true≢false : {A : Type 0} (b : Bool) → b ≡ true → b ≡ false → A
 true≢false b e f = absurd (let g : true ≡ false = sym e ∙ f in cc)
 
 -- where one stands there, the first word is what comes before it
-pub parts-cut : (text rest : List ℕ) (start end : ℕ) → rest ≡ drop start text → Some start ≡ position (λ b. not (is_separator b)) text → Some end ≡ position is_separator rest
+pub parts-cut : (text rest : List ℕ) (start end : ℕ) → rest ≡ drop start text → Some start ≡ position (λ b. not (is_separator b)) text
+    → Some end ≡ position is_separator rest
     → parts text ≡ take end rest ∷ parts (drop end rest)
 parts-cut text rest start end r e f =
     let first = first-position is_separator rest end (sym f) in

@@ -1,5 +1,6 @@
 -- Words filled in run by run.
-use Rattle.std.proofs.Common.{◌≡◌, ◌≢◌, ℕ, zero, suc, ◌+◌, ◌-◌, ◌*◌, ◌/◌, ◌^◌, ◌<◌, ◌≤◌, ◌⊎◌, Bool, true, false, List, [], ◌∷◌, ◌++◌, length, drop, take, get_or, set, inl, inr, refl, sym, ◌∙◌, ap, ap₂, subst, arith, get_or-set_same, get_or-set_other, length-set}
+use Rattle.std.proofs.Common.{◌≡◌, ◌≢◌, ℕ, zero, suc, ◌+◌, ◌-◌, ◌*◌, ◌/◌, ◌^◌, ◌<◌, ◌≤◌, ◌⊎◌, Bool, true, false, List, [], ◌∷◌, ◌++◌, length, drop}
+use Rattle.std.proofs.Common.{take, get_or, set, inl, inr, refl, sym, ◌∙◌, ap, ap₂, subst, arith, get_or-set_same, get_or-set_other, length-set}
 use Rattle.std.specs.Bool.{OnTrue}
 use Rattle.std.specs.List.{AllByRecursion}
 use Rattle.std.specs.Prelude.{slice_index, slice_set}
@@ -22,7 +23,8 @@ use Rattle.edge_words.proofs.IndexLemmas.{index_of-append, index_of-below, index
 pub part_low : (low high threads half : ℕ) → low ≤ high → half ≤ threads → low + (high - low) / threads * half ≤ high
 part_low low high threads half order part =
     let split = div-add-mod' (high - low) threads in
-    let less : (high - low) / threads * half ≤ (high - low) / threads * threads = mul-le ((high - low) / threads) half ((high - low) / threads) threads (omega arith) part in
+    let less : (high - low) / threads * half ≤ (high - low) / threads * threads =
+    mul-le ((high - low) / threads) half ((high - low) / threads) threads (omega arith) part in
     omega arith
 
 -- a cell put in front of those from there on
@@ -32,6 +34,7 @@ drop_set zero (y ∷ ys) x low = refl
 drop_set (suc i) (y ∷ ys) x low = drop_set i ys x (omega arith)
 
 module _ (p : ShownPattern) where
+  -- the count of a board's cells, to which base runs are indexed
   abbrev pub base : ℕ
   base = p.side * p.side
 
@@ -42,9 +45,11 @@ module _ (p : ShownPattern) where
   pub index_low : (cells : List ℕ) → IsRun p cells → index_in p cells < run_count p
   index_low cells run = subst (λ k. index_in p cells < base ^ k) (run_size cells run) (index_of-below base cells run.inside)
 
+  -- two runs of a pattern with one index have the same cells
   pub index_once : (cells others : List ℕ) → IsRun p cells → IsRun p others → index_in p cells ≡ index_in p others → cells ≡ others
   index_once cells others run also = index_of-one base cells others (run_size cells run ∙ sym (run_size others also)) run.inside also.inside
 
+  -- there are as many indexes of placements as indexes of runs times cells
   pub count_is : IsPattern p → index_count p ≡ run_count p * base
   count_is pat =
       let some = pat.some in
@@ -67,12 +72,15 @@ module _ (p : ShownPattern) where
       omega arith
 
   module _ (s : Span) where
+    -- the place of a word, of a span's run and a last cell, is below the count of the span's words
     pub place_low : (index last : ℕ) → s.low ≤ index → index < s.high → last < base → (index - s.low) * base + last < (s.high - s.low) * base
     place_low index last from to low =
         let h : (index - s.low) * base + last < base * (s.high - s.low) = mul-add-lt (index - s.low) base last (s.high - s.low) (omega arith) low in
         omega arith
 
-    pub place_fits : IsPattern p → index_count p ≤ 2 ^ 28 → IsSpan p s → (index last : ℕ) → s.low ≤ index → index < s.high → last < base → (index - s.low) * base + last < 2 ^ 28
+    -- where there are at most 2^28 indexes, the place of a word in its span is below 2^28
+    pub place_fits : IsPattern p → index_count p ≤ 2 ^ 28 → IsSpan p s → (index last : ℕ) → s.low ≤ index → index < s.high → last < base
+        → (index - s.low) * base + last < 2 ^ 28
     place_fits pat few span index last from to low =
         let h = place_low index last from to low in
         let within = span.within in
@@ -94,8 +102,10 @@ module _ (p : ShownPattern) where
     }
 
     -- one word more, which tells where the last tile can be in the cell
-    pub told_more : (run_cells : List ℕ) → IsRun p run_cells → (index end : ℕ) → index_in p run_cells ≡ index → s.low ≤ index → index < s.high → end < base → (words : List ℕ) → AreToldUpTo p s index end words
-        → (word : ℕ) → (IsFree p.side run_cells end → IsEdgeWord p (with_last run_cells end) word) → (at : ℕ) → at ≡ (index - s.low) * base + end → AreToldUpTo p s index (end + 1) (slice_set words at word)
+    pub told_more : (run_cells : List ℕ) → IsRun p run_cells → (index end : ℕ) → index_in p run_cells ≡ index → s.low ≤ index → index < s.high
+        → end < base → (words : List ℕ) → AreToldUpTo p s index end words
+        → (word : ℕ) → (IsFree p.side run_cells end → IsEdgeWord p (with_last run_cells end) word) → (at : ℕ) → at ≡ (index - s.low) * base + end
+        → AreToldUpTo p s index (end + 1) (slice_set words at word)
     told_more run_cells is index end at_index from_low to_high small words told word tells at at_is = record {
       size = length-set words at word ∙ told.size;
       each = each;
@@ -104,12 +114,14 @@ module _ (p : ShownPattern) where
         low : at < length words
         low = let l = place_low index end from_low to_high small in let size = told.size in omega arith
 
-        same_place : (cells : List ℕ) (last : ℕ) → IsRun p cells → last < base → s.low ≤ index_in p cells → at ≡ place_in p s cells last → (last ≡ end) × (cells ≡ run_cells)
+        same_place : (cells : List ℕ) (last : ℕ) → IsRun p cells → last < base → s.low ≤ index_in p cells → at ≡ place_in p s cells last
+            → (last ≡ end) × (cells ≡ run_cells)
         same_place cells last run inside from e =
             let parts = same_from_place (index_in p cells - s.low) last (index - s.low) end base inside small (sym e ∙ at_is) in
             (parts.1, index_once cells run_cells run is (let h = parts.0 in omega arith))
 
-        each : (cells : List ℕ) (last : ℕ) → IsRun p cells → IsFree p.side cells last → s.low ≤ index_in p cells → index_in p cells < s.high → ((index_in p cells < index) ⊎ ((index_in p cells ≡ index) × (last < end + 1)))
+        each : (cells : List ℕ) (last : ℕ) → IsRun p cells → IsFree p.side cells last → s.low ≤ index_in p cells → index_in p cells < s.high
+            → ((index_in p cells < index) ⊎ ((index_in p cells ≡ index) × (last < end + 1)))
             → IsEdgeWord p (with_last cells last) (slice_index (slice_set words at word) (place_in p s cells last))
         each cells last run free from to done = elim (cases_eq at (place_in p s cells last)) [
           | inl e ↦
@@ -126,7 +138,8 @@ module _ (p : ShownPattern) where
             place_same : (cells : List ℕ) (last : ℕ) → last ≡ end → index_in p cells ≡ index → place_in p s cells last ≡ (index - s.low) * base + end
             place_same cells last e both = ap₂ (λ k c. (k - s.low) * base + c) both e
 
-            before : (cells : List ℕ) (last : ℕ) → ((index_in p cells < index) ⊎ ((index_in p cells ≡ index) × (last < end + 1))) → (last ≡ end → index_in p cells ≡ index → ⊥)
+            before : (cells : List ℕ) (last : ℕ) → ((index_in p cells < index) ⊎ ((index_in p cells ≡ index) × (last < end + 1)))
+                → (last ≡ end → index_in p cells ≡ index → ⊥)
                 → (index_in p cells < index) ⊎ ((index_in p cells ≡ index) × (last < end))
             before cells last done apart = elim done [
               | inl below ↦ inl below
@@ -147,7 +160,8 @@ module _ (p : ShownPattern) where
         split k last below inside = elim (cases_eq k index) [ inl e ↦ inr (e, omega arith) | inr ne ↦ inl (omega arith) ]
 
     -- no run has the index
-    pub told_past : (index : ℕ) (words : List ℕ) → ((cells : List ℕ) → IsRun p cells → index_in p cells ≢ index) → AreToldBelow p s index words → AreToldBelow p s (index + 1) words
+    pub told_past : (index : ℕ) (words : List ℕ) → ((cells : List ℕ) → IsRun p cells → index_in p cells ≢ index) → AreToldBelow p s index words
+        → AreToldBelow p s (index + 1) words
     told_past index words none told = record {
       size = told.size;
       each = λ cells last run free from to below. told.each cells last run free from to (let ne = none cells run in less (index_in p cells) below ne);
@@ -162,9 +176,11 @@ module _ (p : ShownPattern) where
 
   -- two spans, one behind the other
   module _ (s : Span) (middle : ℕ) (from : s.low ≤ middle) (to : middle ≤ s.high) where
+    -- the runs of a span before its middle
     abbrev pub lower : Span
     lower = record { low = s.low; high = middle }
 
+    -- the runs of a span from its middle on
     abbrev pub upper : Span
     upper = record { low = middle; high = s.high }
 
@@ -174,13 +190,17 @@ module _ (p : ShownPattern) where
         let spread : (middle - s.low + (s.high - middle)) * base ≡ (middle - s.low) * base + (s.high - middle) * base = omega arith in
         sym spread ∙ ap (λ k. k * base) e
 
+    -- the words of the runs before a span's middle are no more than those of the span
     pub lower_within : (words : List ℕ) → IsFillable p s words → (middle - s.low) * base ≤ length words
     lower_within words is = let both = sizes in let size = is.size in omega arith
 
+    -- the front of a span's words, up to the middle, has the room that the lower half's words need
     pub lower_fillable : (words front : List ℕ) → IsFillable p s words → length front ≡ (middle - s.low) * base → IsFillable p lower front
     lower_fillable words front is long = record { span = record { order = from; within = (let w = is.span.within in omega arith) }; few = is.few; size = long }
 
-    pub upper_fillable : (words front back : List ℕ) → IsFillable p s words → words ≡ front ++ back → length front ≡ (middle - s.low) * base → IsFillable p upper back
+    -- the back of a span's words, behind the front, has the room that the upper half's words need
+    pub upper_fillable : (words front back : List ℕ) → IsFillable p s words → words ≡ front ++ back → length front ≡ (middle - s.low) * base
+        → IsFillable p upper back
     upper_fillable words front back is whole long = record {
       span = record { order = to; within = is.span.within };
       few = is.few;
@@ -192,8 +212,10 @@ module _ (p : ShownPattern) where
       size = length-append front back ∙ (let a = one.size in let b = other.size in let both = sizes in omega arith);
       each = λ cells last run free begin end done. elim (cases_lt (index_in p cells) middle) [
         | inl below ↦
-            let low : place_in p s cells last < length front = (let l = place_low lower (index_in p cells) last begin below free.0 in let size = one.size in omega arith) in
-            subst (IsEdgeWord p (with_last cells last)) (sym (get_or_append_left front back 0 (place_in p s cells last) low)) (one.each cells last run free begin below tt)
+            let low : place_in p s cells last < length front = (let l = place_low lower (index_in p cells) last begin below free.0 in
+            let size = one.size in omega arith) in
+            subst (IsEdgeWord p (with_last cells last)) (sym (get_or_append_left front back 0 (place_in p s cells last) low))
+            (one.each cells last run free begin below tt)
         | inr above ↦
             let split : index_in p cells - s.low ≡ middle - s.low + (index_in p cells - middle) = omega arith in
             let spread : (middle - s.low + (index_in p cells - middle)) * base ≡ (middle - s.low) * base + (index_in p cells - middle) * base = omega arith in
@@ -207,8 +229,10 @@ module _ (p : ShownPattern) where
     }
 
     -- all are told where both are
-    pub filled_join : (front back : List ℕ) (one other : Bool) → IsFilled p lower front one → IsFilled p upper back other → one ≡ true → IsFilled p s (front ++ back) other
-    filled_join front back one true first second is_told = record { told = told_join front back (subst (λ b. OnTrue b (AreAllTold p lower front)) is_told first.told) second.told; odd = tt }
+    pub filled_join : (front back : List ℕ) (one other : Bool) → IsFilled p lower front one → IsFilled p upper back other → one ≡ true
+        → IsFilled p s (front ++ back) other
+    filled_join front back one true first second is_told =
+        record { told = told_join front back (subst (λ b. OnTrue b (AreAllTold p lower front)) is_told first.told) second.told; odd = tt }
     filled_join front back one false first second is_told = record { told = tt; odd = second.odd }
 
   -- the words of all placements
@@ -233,6 +257,8 @@ module _ (p : ShownPattern) where
           let apart = apart_front q c (subst IsApart (sym whole) place.apart) in
           let run : IsRun p q = record { size = (let l = length-take-le index cells (omega arith) in omega arith); inside = inside.0; apart = apart.0 } in
           let at : place_in p s q c ≡ index_in p cells =
-          ap (λ k. (index_in p q - k) * base + c) low ∙ ap (λ k. k * base + c) (let e : index_in p q - 0 ≡ index_in p q = omega arith in e) ∙ sym (index_of-append base q c) ∙ ap (index_in p) whole in
+          ap (λ k. (index_in p q - k) * base + c) low ∙ ap (λ k. k * base + c) (let e : index_in p q - 0 ≡ index_in p q = omega arith in e)
+          ∙ sym (index_of-append base q c) ∙ ap (index_in p) whole in
           subst (λ xs. IsEdgeWord p xs (slice_index words (index_in p cells))) whole
-          (subst (λ k. IsEdgeWord p (with_last q c) (slice_index words k)) at (told.each q c run (inside.1, apart.1) (omega arith) (let l = index_low q run in omega arith) tt))
+          (subst (λ k. IsEdgeWord p (with_last q c) (slice_index words k))
+          at (told.each q c run (inside.1, apart.1) (omega arith) (let l = index_low q run in omega arith) tt))

@@ -61,7 +61,7 @@ fn each_has_its_sentence<'x>(
     cases: &[(&'x str, Beginning, &'x str)],
 ) -> Result<(), Fail> {
     for (line, beginning, wanted) in cases {
-        let told = match Reason::of(asked, line.as_bytes()) {
+        let told = match Reason::of(asked, line.as_bytes(), None) {
             Some(reason) => {
                 let reason = reason.beginning(*beginning);
                 format!(in alloc; "{reason}")?
@@ -197,6 +197,43 @@ fn answers_to_claims_have_no_sentence(rt: HostRuntime) -> Result<(), Fail> {
     each_has_its_sentence(&rt, rt.alloc(), &prove(rt.alloc())?, &cases)
 }
 
+/// The sentence of a run that ended with this line, behind searches that ended below this bound.
+fn said_behind(
+    alloc: Global,
+    asked: &Request<'_>,
+    line: &str,
+    ended: Option<u8>,
+) -> Result<String, AllocError> {
+    match Reason::of(asked, line.as_bytes(), ended) {
+        Some(reason) => format!(in alloc; "{reason}"),
+        None => Ok(String::new(alloc)),
+    }
+}
+
+#[test]
+fn a_spent_budget_has_the_bound_that_was_reached(rt: HostRuntime) -> Result<(), Fail> {
+    let alloc = rt.alloc();
+    let (search, prove) = (search(alloc)?, prove(alloc)?);
+    let spent =
+        "pdb_cli: the budget of boards is spent: `--budget N` allows more. The searches that ended found no solution of fewer than 46 moves";
+    let of_claim =
+        "pdb_cli: the last claim: the budget of boards is spent: `--budget N` allows more. The searches that ended found no solution of fewer than 1 moves";
+    let unsolvable = "pdb_cli: board: the board has no solution, or none of fewer than 255 moves";
+    let cases = [
+        (&search, "refused K1", Some(46), spent),
+        (&search, "refused K2", Some(46), unsolvable),
+        (&prove, "refused K1 of 3 2 1 0", Some(1), of_claim),
+        (&prove, "refused K1 of 3 2 1 0", None, ""),
+        (&prove, "refused K2 of 0 1 3 2", Some(46), ""),
+        (&prove, "optimal 0 of 0 1 2 3 ;", Some(46), ""),
+    ];
+    for (asked, line, ended, wanted) in cases {
+        let said = said_behind(alloc, asked, line, ended)?;
+        assert_eq!(rt; said.as_str(), wanted, "{line}");
+    }
+    Ok(())
+}
+
 #[test]
 fn names_of_one_file_and_of_none(rt: HostRuntime) -> Result<(), Fail> {
     let any = Beginning::OfAny;
@@ -284,7 +321,7 @@ fn said_of_out(
     files: &[(&str, &[u8])],
 ) -> Result<String, Fail> {
     let shelf = MemShelf::of(alloc, files)?;
-    let reason = Reason::of(asked, b"fault write out").ok_or("a reason")?;
+    let reason = Reason::of(asked, b"fault write out", None).ok_or("a reason")?;
     let reason = reason.on_shelf(asked, &shelf);
     Ok(format!(in alloc; "{reason}")?)
 }
@@ -359,7 +396,7 @@ fn what_is_heard_goes_on_and_its_last_line_is_kept(rt: HostRuntime) -> Result<()
 #[test]
 fn the_example_of_its_page(rt: HostRuntime) -> Result<(), Fail> {
     let asked = log_check(rt.alloc())?;
-    let reason = Reason::of(&asked, b"refused S1 at line 0");
+    let reason = Reason::of(&asked, b"refused S1 at line 0", None);
     assert_eq!(rt; reason.and_then(|reason| reason.name()), Some("sets"));
     Ok(())
 }

@@ -87,12 +87,15 @@ module _ (v : ShownBundle) (b file : List ℕ) where
   fault_of L5 is = inr (is.0, is.2, (is.1, is.3, is.4, is.5))
   fault_of (L6 i) is = inr (is.0, is.2, (is.1, is.3, is.4))
 
+  -- a file is that of good logs for one bound of the board at most
   pub one_bound : (m n : ℕ) → IsGoodFile v b file m → IsGoodFile v b file n → m ≡ n
   one_bound m n is also =
       let same : also.log ≡ is.log = one_log file also.log is.log also.is_file is.is_file in
-      let last = last_one is.log.lemmas is.good.last also.good.last is.good.is_for.is_last (subst (λ log. IsLast log.lemmas also.good.last) same also.good.is_for.is_last) in
+      let last = last_one is.log.lemmas is.good.last also.good.last is.good.is_for.is_last
+      (subst (λ log. IsLast log.lemmas also.good.last) same also.good.is_for.is_last) in
       sym is.good.bound_is ∙ ap (λ lemma. lemma.bound) last ∙ also.good.bound_is
 
+  -- a file has at most one fault as the log for a board
   pub one_fault : (f g : LogRefusal) → IsLogRefusalOf f v b file → IsLogRefusalOf g v b file → f ≡ g
   one_fault f g is also = elim (fault_of f is) [
     | inl a ↦ elim (fault_of g also) [
@@ -105,6 +108,7 @@ module _ (v : ShownBundle) (b file : List ℕ) where
     ]
   ]
 
+  -- the file of a good log for the board has no fault
   pub good_or_fault : (bound : ℕ) (f : LogRefusal) → IsGoodFile v b file bound → ¬ IsLogRefusalOf f v b file
   good_or_fault bound f good is = elim (fault_of f is) [
     | inl a ↦ no_fault file good.log a.0 good.is_file a.2
@@ -113,18 +117,21 @@ module _ (v : ShownBundle) (b file : List ℕ) where
 
   -- ---- what is answered
 
+  -- the bound of a good log is what is answered of its file, or memory is wanting
   pub good_answered : (r : Result ℕ LogFault) → IfOk r (IsGoodFile v b file) → IfErr r (λ fault. IsCauseOfLogFault fault v b file)
       → (bound : ℕ) → IsGoodFile v b file bound → (r ≡ Ok bound) ⊎ (r ≡ Err Memory)
   good_answered (Ok found) ok err bound good = inl (ap Ok (one_bound found bound ok good))
   good_answered (Err Memory) ok err bound good = inr refl
   good_answered (Err (Refused fault)) ok err bound good = absurd (good_or_fault bound fault good err)
 
+  -- a fault of the form is what is answered of a file, and memory is never wanting
   pub form_answered : (r : Result ℕ LogFault) → IfOk r (IsGoodFile v b file) → IfErr r (λ fault. IsCauseOfLogFault fault v b file)
       → (fault : FormFault) → form.IsFormFaultOf fault file → r ≡ Err (Refused (Form fault))
   form_answered (Ok found) ok err fault is = absurd (good_or_fault found (Form fault) ok is)
   form_answered (Err Memory) ok err fault is = absurd (no_fault file err.0 fault err.1 is)
   form_answered (Err (Refused other)) ok err fault is = ap (λ f. Err (Refused f)) (one_fault other (Form fault) err is)
 
+  -- any fault is what is answered of a file, or memory is wanting
   pub fault_answered : (r : Result ℕ LogFault) → IfOk r (IsGoodFile v b file) → IfErr r (λ fault. IsCauseOfLogFault fault v b file)
       → (fault : LogRefusal) → IsLogRefusalOf fault v b file → (r ≡ Err (Refused fault)) ⊎ (r ≡ Err Memory)
   fault_answered (Ok found) ok err fault is = absurd (good_or_fault found fault ok is)
@@ -161,5 +168,6 @@ module _ (v : ShownBundle) (is : IsBundle v) (b file : List ℕ) where
       ]
     ]
 
+  -- over a bundle, a file is that of a good log for the board or has a fault
   pub check_answer : Answer
   check_answer = elim (file_answer file) [ inl has ↦ log_answer has.0 has.1 | inr fault ↦ inr (Form fault.0, fault.1) ]

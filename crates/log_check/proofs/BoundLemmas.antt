@@ -25,7 +25,8 @@ by_move P up down left right Left = left
 by_move P up down left right Right = right
 
 -- a child that is there
-child_holds : (o : Option (List ℕ)) (back : Bool) (child : Tree) (Holds : List ℕ → Type 0) (next : List ℕ) → IsChild o back child Holds → o ≡ Some next → back ≡ false → Holds next
+child_holds : (o : Option (List ℕ)) (back : Bool) (child : Tree) (Holds : List ℕ → Type 0) (next : List ℕ) → IsChild o back child Holds
+    → o ≡ Some next → back ≡ false → Holds next
 child_holds None back child Holds next is leads on = cc
 child_holds (Some b) true child Holds next is leads on = cc
 child_holds (Some b) false child Holds next is leads on = subst Holds (let e : b ≡ next = cc in e) is
@@ -33,7 +34,8 @@ child_holds (Some b) false child Holds next is leads on = subst Holds (let e : b
 module _ (v : ShownBundle) (is_bundle : IsBundle v) (log : Log) (i : ℕ) (earlier : EarlierBound log.lemmas i) where
   citation_bounds : (j : ℕ) (b : List ℕ) (r : ℕ) → Cites log.lemmas i j b r → IsBounded b r
   citation_bounds j b r cites = λ path solves.
-      let low : cites.lemma.bound ≤ length path = earlier j cites.lemma cites.earlier cites.there path (subst (λ c. IsSolution c path) (sym cites.board) solves) in
+      let low : cites.lemma.bound ≤ length path = earlier j cites.lemma cites.earlier cites.there path
+      (subst (λ c. IsSolution c path) (sym cites.board) solves) in
       let enough : r ≤ cites.lemma.bound = cites.enough in
       omega arith
 
@@ -58,4 +60,7 @@ module _ (v : ShownBundle) (is_bundle : IsBundle v) (log : Log) (i : ℕ) (earli
 
   -- where no move led to the board
   pub first_tree_bounds : (tree : Tree) (b : List ℕ) (r : ℕ) → IsBoardOf v.side b → Refutes v log i tree b None r → IsBounded b r
-  first_tree_bounds tree b r good refutes = λ path solves. elim (tree_bounds tree b None r good refutes path solves) [ inl enough ↦ enough | inr had ↦ absurd had ]
+  first_tree_bounds tree b r good refutes = λ path solves. elim (tree_bounds tree b None r good refutes path solves) [
+    | inl enough ↦ enough
+    | inr had ↦ absurd had
+  ]

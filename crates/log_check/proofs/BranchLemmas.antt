@@ -1,6 +1,7 @@
 -- A branch bounds the solutions of its board where each child bounds those of the board after its move. It has no child for
 -- the move that takes back the arriving one: what follows that move in a solution is a shorter solution of the board before.
-use Rattle.std.proofs.Common.{◌≡◌, ℕ, zero, suc, ◌-◌, ◌<◌, ◌≤◌, ◌⊎◌, Bool, true, false, List, [], ◌∷◌, length, Option, Some, None, inl, inr, refl, sym, subst, arith}
+use Rattle.std.proofs.Common.{◌≡◌, ℕ, zero, suc, ◌-◌, ◌<◌, ◌≤◌, ◌⊎◌, Bool, true, false, List, [], ◌∷◌, length, Option, Some, None, inl, inr, refl}
+use Rattle.std.proofs.Common.{sym, subst, arith}
 use Rattle.puz_board.specs.declared.moves.Move.{Move}
 use Rattle.puz_board.specs.declared.moves.Move.TheVariants.{Up, Down, Left, Right}
 use Rattle.puz_board.specs.Boards.{IsBoardOf, IsGoal, moved}
@@ -47,7 +48,8 @@ same_move-is Right Right e = refl
 same_move-is m k e = cc
 
 -- a solution that begins by taking the arriving move back
-HadShorter-back : (b rest : List ℕ) (arriving : Option Move) (first : FirstMove b rest) → takes_back arriving first.move ≡ true → HadShorter b arriving (suc (length rest))
+HadShorter-back : (b rest : List ℕ) (arriving : Option Move) (first : FirstMove b rest) → takes_back arriving first.move ≡ true
+    → HadShorter b arriving (suc (length rest))
 HadShorter-back b rest None first back = cc
 HadShorter-back b rest (Some arriving) first back = record {
   next = first.next;
@@ -83,5 +85,6 @@ module _ (n : ℕ) (b : List ℕ) (good : IsBoardOf n b) (arriving : Option Move
   enough_below (suc k) [] low solves = absurd (far solves.1)
   enough_below (suc k) (c ∷ rest) low solves = enough_after rest (λ path fewer is. enough_below k path (omega arith) is) (first_move n b good c rest solves)
 
+  -- a board that isn't a goal has the bound r where each board after a move has the bound r - 1
   pub branch_bounds : Bounds b arriving r
   branch_bounds path solves = enough_below (suc (length path)) path (omega arith) solves

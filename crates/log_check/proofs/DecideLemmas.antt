@@ -1,5 +1,6 @@
 -- Whether bytes spell trees that refute the boards that wait is settled, and so whether a lemma is good.
-use Rattle.std.proofs.Common.{◌≡◌, ℕ, zero, suc, ◌+◌, ◌-◌, ◌<◌, ◌≤◌, ◌^◌, ◌↔◌, Bool, true, false, List, [], ◌∷◌, ◌++◌, length, drop, take, Option, Some, None, inl, inr, refl, sym, ◌∙◌, ap, subst, arith, drop_at, length-append, slice_get, take_at}
+use Rattle.std.proofs.Common.{◌≡◌, ℕ, zero, suc, ◌+◌, ◌-◌, ◌<◌, ◌≤◌, ◌^◌, ◌↔◌, Bool, true, false, List, [], ◌∷◌, ◌++◌, length, drop, take, Option}
+use Rattle.std.proofs.Common.{Some, None, inl, inr, refl, sym, ◌∙◌, ap, subst, arith, drop_at, length-append, slice_get, take_at}
 use Rattle.std.specs.Int.{from_be_bytes, to_be_bytes, w32}
 use Rattle.std.specs.List.{AllByRecursion}
 use Rattle.std.proofs.lemmas.Bool.{both_ways, cases_Bool, cases_eq, cases_lt}
@@ -19,7 +20,8 @@ use Rattle.log_check.specs.Refutations.{Cites, takes_back}
 use Rattle.log_check.specs.Trees.{HasLeaf, first_leaf}
 use Rattle.log_check.proofs.GoodLemmas.{board_of}
 use Rattle.log_check.proofs.Pending.{Pending, Waiting, all_moves, with_child_at, with_children}
-use Rattle.log_check.proofs.WalkLemmas.{BeginsWithNumber, IsLeaf, branch_byte, citation_byte, citation_number, empty_bytes, good_is_pending, leaf_byte, lemma_waiting, other_byte}
+use Rattle.log_check.proofs.WalkLemmas.{BeginsWithNumber, IsLeaf, branch_byte, citation_byte, citation_number, empty_bytes, good_is_pending}
+use Rattle.log_check.proofs.WalkLemmas.{leaf_byte, lemma_waiting, other_byte}
 
 -- of two facts that imply each other, one is settled where the other is
 equally_decided : {A B : Type 0} → A ↔ B → Decided B → Decided A
@@ -34,7 +36,8 @@ goal_decided b = elim (cases_Bool (is_goal b)) [
 -- ---- numbers of citations
 
 -- the number is that of the first four bytes, and the rest is what is behind them
-number_read : (bytes : List ℕ) → BeginsWithNumber bytes → (from_be_bytes w32 (take 4 bytes) < 2 ^ 32) × (to_be_bytes w32 (from_be_bytes w32 (take 4 bytes)) ++ drop 4 bytes ≡ bytes)
+number_read : (bytes : List ℕ) → BeginsWithNumber bytes → (from_be_bytes w32 (take 4 bytes) < 2 ^ 32)
+    × (to_be_bytes w32 (from_be_bytes w32 (take 4 bytes)) ++ drop 4 bytes ≡ bytes)
 number_read bytes begins =
     let front : take 4 bytes ≡ to_be_bytes w32 begins.number = ap (take 4) begins.is ∙ take_at (to_be_bytes w32 begins.number) begins.rest 4 refl in
     let back : drop 4 bytes ≡ begins.rest = ap (drop 4) begins.is ∙ drop_at (to_be_bytes w32 begins.number) begins.rest 4 refl in
@@ -90,7 +93,9 @@ child_boards n w move None back ws is more = more
 child_boards n w move (Some b) true ws is more = more
 child_boards n w move (Some b) false ws is more = (is b refl, more)
 
-pub children_boards : (n : ℕ) (w : Waiting) → IsBoardOf n w.board → (moves : List Move) (ws : List Waiting) → AreBoards n ws → AreBoards n (with_children w moves ws)
+-- the boards after moves of a board of side n, before others of side n, are boards of side n
+pub children_boards : (n : ℕ) (w : Waiting) → IsBoardOf n w.board → (moves : List Move) (ws : List Waiting) → AreBoards n ws
+    → AreBoards n (with_children w moves ws)
 children_boards n w good [] ws more = more
 children_boards n w good (move ∷ moves) ws more =
     child_boards n w move (moved w.board move) (takes_back w.arriving move) (with_children w moves ws) (IsBoardOf-moved n w.board good move)
@@ -181,6 +186,7 @@ module _ (v : ShownBundle) (is : IsBundle v) (log : Log) (i : ℕ) (fits : i < 2
 
 -- ---- lemmas
 
+-- whether a lemma of a log is good over a bundle is decided
 pub good_decided : (v : ShownBundle) → IsBundle v → (log : Log) → IsLog log → log.side ≡ v.side → (i : ℕ) → Decided (IsGood v log i)
 good_decided v is log is_log side i = equally_decided (good_is_pending v log i) (go (slice_get log.lemmas i) refl)
   where

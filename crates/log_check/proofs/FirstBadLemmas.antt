@@ -16,9 +16,11 @@ module _ (v : ShownBundle) (is : IsBundle v) (log : Log) (is_log : IsLog log) (s
   good_unless_bad : (i : ℕ) → ¬ IsBad i → IsGood v log i
   good_unless_bad i not = elim (good_decided v is log is_log side i) [ inl good ↦ good | inr bad ↦ absurd (not bad) ]
 
+  -- where no lemma of a log is bad, each one is good
   pub good_whole : IsFault IsBad (length log.lemmas) None → AreGood v log
   good_whole none i low = good_unless_bad i (none i (omega arith) low)
 
+  -- the least number of a bad lemma is that of the first lemma that isn't good
   pub first_bad_whole : (i : ℕ) → IsFault IsBad (length log.lemmas) (Some i) → IsFirstBadLemma v log i
   first_bad_whole i least = record { there = least.1; bad = least.2; before = λ j low. good_unless_bad j (least.3 j (omega arith) low) }
 
@@ -37,5 +39,6 @@ module _ (v : ShownBundle) (is : IsBundle v) (log : Log) (is_log : IsLog log) (s
     ]
   ]
 
+  -- all lemmas of a log are good, or there is a first one that isn't
   pub good_or_first_bad : AreGood v log ⊎ ((i : ℕ) × IsFirstBadLemma v log i)
   good_or_first_bad = good_up_to (length log.lemmas) (omega arith)

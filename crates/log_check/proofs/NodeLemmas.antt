@@ -1,5 +1,6 @@
 -- What a node asks of its board.
-use Rattle.std.proofs.Common.{◌≡◌, ℕ, zero, suc, ◌-◌, ◌*◌, ◌<◌, ◌≤◌, ◌^◌, ◌↔◌, ◌&&◌, Bool, true, false, List, [], ◌∷◌, ◌++◌, Some, None, ap, ap₂, arith, eqb, eqb-true, IsTrue, le-leb, leb, leb-true, length, refl, replicate, slice_get, subst, sym, take, take_at, ◌∙◌}
+use Rattle.std.proofs.Common.{◌≡◌, ℕ, zero, suc, ◌-◌, ◌*◌, ◌<◌, ◌≤◌, ◌^◌, ◌↔◌, ◌&&◌, Bool, true, false, List, [], ◌∷◌, ◌++◌, Some, None, ap, ap₂}
+use Rattle.std.proofs.Common.{arith, eqb, eqb-true, IsTrue, le-leb, leb, leb-true, length, refl, replicate, slice_get, subst, sym, take, take_at, ◌∙◌}
 use lib.Pointwise.{pointwise}
 use Rattle.std.specs.Cmp.Lexicographic.{same_text}
 use Rattle.std.specs.Prelude.{nat_eq}
@@ -62,7 +63,8 @@ Cites-bound lemmas i j b r bound within earlier board_is bound_is = (
 -- the bytes begin with a node, for one version and number of sets as for the same ones
 pub BeginsWith-same : {version sets also_version also_sets : ℕ} (node : Node) (behind bytes : List ℕ) → version ≡ also_version → sets ≡ also_sets
     → BeginsWith version sets node behind bytes → BeginsWith also_version also_sets node behind bytes
-BeginsWith-same node behind bytes versions counts begins = subst (λ A. A) (ap₂ (λ version sets. BeginsWith version sets node behind bytes) versions counts) begins
+BeginsWith-same node behind bytes versions counts begins =
+    subst (λ A. A) (ap₂ (λ version sets. BeginsWith version sets node behind bytes) versions counts) begins
 
 module _ (v : ShownBundle) (few : length v.sets ≤ 16) (log : Log) (i : ℕ) (fits : i < 2 ^ 32) (w : Waiting) (ws : List Waiting) (bytes : List ℕ) where
   -- it is a node that it may have, and the boards behind wait for the bytes behind
@@ -102,6 +104,7 @@ with_node-other Branch w ws other = absurd (other refl)
 with_node-other (Leaf by_parity set) w ws other = refl
 with_node-other (Citation lemma) w ws other = refl
 
+-- where all boards that wait are of side n, so are those that wait behind a node
 pub AreBoards-node : (n : ℕ) (node : Node) (w : Waiting) (ws : List Waiting) → AreBoards n (w ∷ ws) → AreBoards n (with_node node w ws)
 AreBoards-node n Branch w ws boards = children_boards n w boards.0 all_moves ws boards.1
 AreBoards-node n (Leaf by_parity set) w ws boards = boards.1
@@ -109,7 +112,8 @@ AreBoards-node n (Citation lemma) w ws boards = boards.1
 
 -- a lemma's board waits at first, and no other
 pub root-pending : (v : ShownBundle) (log : Log) (i : ℕ) → i < length log.lemmas → (board : List ℕ) (bound : ℕ) (tree : List ℕ) (ws : List Waiting)
-    → ((lemma : Lemma) → slice_get log.lemmas i ≡ Some lemma → board ≡ lemma.board) → ((lemma : Lemma) → slice_get log.lemmas i ≡ Some lemma → bound ≡ lemma.bound)
+    → ((lemma : Lemma) → slice_get log.lemmas i ≡ Some lemma → board ≡ lemma.board)
+    → ((lemma : Lemma) → slice_get log.lemmas i ≡ Some lemma → bound ≡ lemma.bound)
     → ((lemma : Lemma) → slice_get log.lemmas i ≡ Some lemma → tree ≡ lemma.tree) → ws ≡ []
     → IsGood v log i ↔ Pending v log i (record { board = board; arriving = None; bound = bound } ∷ ws) tree
 root-pending v log i within board bound tree ws board_is bound_is tree_is none =
@@ -137,7 +141,11 @@ walked v few log i fits w ws bytes good node behind begins may now is =
 -- no bytes are left over
 pub none_left : (G : Type 0) (r : Bool) (bytes : List ℕ) → r ≡ eqb (length bytes) 0 → G ↔ (bytes ≡ []) → IsTrue r ↔ G
 none_left G r [] is good = (λ _. good.1 refl, λ _. is)
-none_left G r (byte ∷ bytes) is good = (λ test. absurd (let some : length (byte ∷ bytes) ≡ 0 = eqb-true _ 0 (sym is ∙ test) in omega arith), λ g. absurd (cc (good.0 g)))
+none_left G r (byte ∷ bytes) is good = (
+  λ test. absurd (let some : length (byte ∷ bytes) ≡ 0 = eqb-true _ 0 (sym is ∙ test) in
+      omega arith),
+  λ g. absurd (cc (good.0 g)),
+)
 
 -- what is refused isn't so
 pub refused : (G : Type 0) → ¬ G → IsTrue false ↔ G

@@ -1,5 +1,6 @@
 -- What the first byte tells of the boards that wait: one lemma for each kind of node.
-use Rattle.std.proofs.Common.{◌≡◌, ◌≢◌, ℕ, ◌+◌, ◌-◌, ◌<◌, ◌≤◌, ◌^◌, ◌⊎◌, ◌↔◌, Bool, true, false, List, [], ◌∷◌, ◌++◌, length, drop, take, Option, Some, None, inl, inr, refl, sym, ◌∙◌, ap, subst, arith, append_assoc, drop_at, slice_get, take_at}
+use Rattle.std.proofs.Common.{◌≡◌, ◌≢◌, ℕ, ◌+◌, ◌-◌, ◌<◌, ◌≤◌, ◌^◌, ◌⊎◌, ◌↔◌, Bool, true, false, List, [], ◌∷◌, ◌++◌, length, drop, take, Option}
+use Rattle.std.proofs.Common.{Some, None, inl, inr, refl, sym, ◌∙◌, ap, subst, arith, append_assoc, drop_at, slice_get, take_at}
 use Rattle.std.specs.Int.{from_be_bytes, to_be_bytes, w32}
 use Rattle.std.proofs.lemmas.Nat.{from_be_bytes-to_be_bytes_4}
 use Rattle.puz_board.specs.Boards.{IsGoal, moved}
@@ -120,6 +121,7 @@ module _ (v : ShownBundle) (few : length v.sets ≤ 16) (log : Log) (i : ℕ) (f
       split (citation j) rest e refutes = (rest, inr (inr (j, let earlier = refutes.earlier in omega arith, e)))
       split (branch up down left right) rest e refutes = ((spelling up ++ spelling down ++ spelling left ++ spelling right) ++ rest, inl e)
 
+  -- a board never waits for bytes that are empty
   pub empty_bytes : ¬ Pending v log i (w ∷ ws) []
   empty_bytes p = none (begins_with_node [] p)
     where
@@ -128,6 +130,7 @@ module _ (v : ShownBundle) (few : length v.sets ≤ 16) (log : Log) (i : ℕ) (f
       none (rest, inr (inl (byte, is, e))) = cc
       none (rest, inr (inr (j, small, e))) = cc
 
+  -- a board never waits for bytes whose first is that of no branch, leaf or citation
   pub other_byte : (byte : ℕ) (bytes : List ℕ) → byte ≢ 0 → (¬ IsLeaf log.version byte) → byte ≢ 32 → ¬ Pending v log i (w ∷ ws) (byte ∷ bytes)
   other_byte byte bytes some no_leaf other p = none (begins_with_node (byte ∷ bytes) p)
     where
@@ -169,21 +172,29 @@ module _ (v : ShownBundle) (few : length v.sets ≤ 16) (log : Log) (i : ℕ) (f
           let up = pop_child v log i w Up _ bytes q.2 in
           let down = pop_child v log i w Down _ up.1 up.4 in
           let left = pop_child v log i w Left _ down.1 down.4 in
-          let right = pop_child v log i w Right ws left.1 left.4 in
-          (branch up.0 down.0 left.0 right.0, right.1, branch_spelt up.0 down.0 left.0 right.0 bytes up.1 down.1 left.1 right.1 up.2 down.2 left.2 right.2, (q.0, q.1, up.3, down.3, left.3, right.3), right.4)
+          let right = pop_child v log i w Right ws left.1 left.4 in (
+            branch up.0 down.0 left.0 right.0,
+            right.1,
+            branch_spelt up.0 down.0 left.0 right.0 bytes up.1 down.1 left.1 right.1 up.2 down.2 left.2
+                right.2,
+            (q.0, q.1, up.3, down.3, left.3, right.3),
+            right.4,
+          )
 
   -- a leaf's byte
   pub leaf_byte : (by_parity : Bool) (set : ℕ) (bytes : List ℕ) → HasLeaf log.version by_parity → set < 16
       → Pending v log i (w ∷ ws) ((set + first_leaf by_parity) ∷ bytes) ↔ (SaysAtLeast v by_parity set w.board w.bound × Pending v log i ws bytes)
   leaf_byte by_parity set bytes has small = (λ p. split p.0 p.1 p.2 p.3 p.4, λ q. (leaf by_parity set, bytes, refl, (has, q.0), q.1))
     where
-      split : (tree : Tree) (rest : List ℕ) → (set + first_leaf by_parity) ∷ bytes ≡ spelling tree ++ rest → Refutes v log i tree w.board w.arriving w.bound → Pending v log i ws rest
+      split : (tree : Tree) (rest : List ℕ) → (set + first_leaf by_parity) ∷ bytes ≡ spelling tree ++ rest
+          → Refutes v log i tree w.board w.arriving w.bound → Pending v log i ws rest
           → SaysAtLeast v by_parity set w.board w.bound × Pending v log i ws bytes
       split absent rest e refutes more = absurd refutes
       split (leaf other_parity other) rest e refutes more =
           let byte : ℕ = set + first_leaf by_parity in
           let other_byte : ℕ = other + first_leaf other_parity in
-          let same = leaf_once other_parity by_parity other set (let there = refutes.1.says.there in omega arith) small (sym (head_is byte other_byte bytes rest e)) in (
+          let same = leaf_once other_parity by_parity other set (let there = refutes.1.says.there in
+          omega arith) small (sym (head_is byte other_byte bytes rest e)) in (
             subst (λ p. SaysAtLeast v p set w.board w.bound) same.0 (subst (λ s. SaysAtLeast v other_parity s w.board w.bound) same.1 refutes.1),
             subst (Pending v log i ws) (sym (tail_is byte other_byte bytes rest e)) more,
           )
@@ -195,7 +206,8 @@ module _ (v : ShownBundle) (few : length v.sets ≤ 16) (log : Log) (i : ℕ) (f
       → Pending v log i (w ∷ ws) (32 ∷ (to_be_bytes w32 j ++ bytes)) ↔ (Cites log.lemmas i j w.board w.bound × Pending v log i ws bytes)
   citation_byte j bytes j_fits = (λ p. split p.0 p.1 p.2 p.3 p.4, λ q. (citation j, bytes, refl, q.0, q.1))
     where
-      split : (tree : Tree) (rest : List ℕ) → 32 ∷ (to_be_bytes w32 j ++ bytes) ≡ spelling tree ++ rest → Refutes v log i tree w.board w.arriving w.bound → Pending v log i ws rest
+      split : (tree : Tree) (rest : List ℕ) → 32 ∷ (to_be_bytes w32 j ++ bytes) ≡ spelling tree ++ rest
+          → Refutes v log i tree w.board w.arriving w.bound → Pending v log i ws rest
           → Cites log.lemmas i j w.board w.bound × Pending v log i ws bytes
       split absent rest e refutes more = absurd refutes
       split (leaf by_parity set) rest e refutes more = absurd

@@ -3,7 +3,8 @@ use Rattle.std.proofs.Common.{◌≡◌, ◌≢◌, ℕ, zero, suc, ◌+◌, ◌
 use Rattle.std.proofs.lemmas.Bool.{cases_eq, cases_lt}
 use Rattle.puz_board.specs.Boards.{IsBoardOf, at}
 use Rattle.log_file.specs.Logs.{IsSize, IsVersion, Log, most_lemmas}
-use Rattle.log_file.specs.LogFiles.{HasLemma, IsLogFile, lemma_count_in, front_lemma, head_length, header_length, log_side_in, log_signature, tree_length, version_in}
+use Rattle.log_file.specs.LogFiles.{HasLemma, IsLogFile, lemma_count_in, front_lemma, head_length, header_length, log_side_in, log_signature}
+use Rattle.log_file.specs.LogFiles.{tree_length, version_in}
 use Rattle.log_file.specs.FormFaults.{AreFilled, HasHeader, IsFormFaultOf, behind_first}
 use Rattle.log_file.specs.FirstLemmas.{first_lemmas}
 use Rattle.log_file.specs.declared.faults.FormFault.{FormFault}
@@ -122,7 +123,11 @@ header_decided file = elim (at_most_decided header_length (length file)) [
       | inr not ↦ inr (λ has. not has.version)
       | inl version ↦ elim (size_decided (log_side_in file) (lemma_count_in file)) [
         | inr not ↦ inr (λ has. not has.size)
-        | inl size ↦ inl (record { header = record { room = room; begins = begins; is_version = refl; is_side = refl; is_count = refl }; version = version; size = size })
+        | inl size ↦ inl (record {
+          header = record { room = room; begins = begins; is_version = refl; is_side = refl; is_count = refl };
+          version = version;
+          size = size;
+        })
       ]
     ]
   ]
@@ -162,5 +167,6 @@ module _ (file : List ℕ) (has : HasHeader file) where
     ]
   ]
 
+-- any bytes are the file of a log or have a fault of form
 pub file_answer : (file : List ℕ) → ((log : Log) × IsLogFile log file) ⊎ ((fault : FormFault) × IsFormFaultOf fault file)
 file_answer file = elim (header_decided file) [ inl has ↦ lemmas_answer file has | inr none ↦ inr (L1, none) ]

@@ -17,6 +17,7 @@ use Rattle.log_file.proofs.RowLemmas.{AreFilled-lemmas, AreLemmas-first, boards-
 -- ---- one log
 
 module _ (file : List ℕ) (log : Log) (is : IsLogFile log file) where
+  -- the file of a log has a header of known version and allowed size
   pub HasHeader-log : HasHeader file
   HasHeader-log = record {
     header = record { room = is.header.room; begins = is.header.begins; is_version = refl; is_side = refl; is_count = refl };
@@ -32,8 +33,10 @@ module _ (file : List ℕ) (log : Log) (is : IsLogFile log file) where
   filled : AreFilled (log_side_in file) (lemma_count_in file) (drop header_length file)
   filled =
       subst (λ n. AreFilled n (lemma_count_in file) (drop header_length file)) (sym is.header.is_side)
-      (subst (λ count. AreFilled log.side count (drop header_length file)) (sym is.header.is_count) (AreFilled-lemmas log.side log.lemmas (drop header_length file) is.lemmas))
+      (subst (λ count. AreFilled log.side count (drop header_length file)) (sym is.header.is_count)
+      (AreFilled-lemmas log.side log.lemmas (drop header_length file) is.lemmas))
 
+-- two logs of one file are the same
 pub one_log : (file : List ℕ) (a b : Log) → IsLogFile a file → IsLogFile b file → a ≡ b
 one_log file a b is_a is_b =
     let versions : a.version ≡ b.version = sym is_a.header.is_version ∙ is_b.header.is_version in
@@ -66,6 +69,7 @@ module _ (n count : ℕ) (bytes : List ℕ) where
   one_no_board : (i j : ℕ) → IsFirstNoBoard n count bytes i → IsFirstNoBoard n count bytes j → i ≡ j
   one_no_board i j a b = same_first (λ k. IsBoardOf n (front_lemma n (behind_first n k bytes)).board) i j a.boards a.no_board b.boards b.no_board
 
+-- two faults of form of one file are the same
 pub one_fault : (file : List ℕ) (a b : FormFault) → IsFormFaultOf a file → IsFormFaultOf b file → a ≡ b
 one_fault file L1 L1 a b = refl
 one_fault file L1 (L2 j) a b = absurd (a b.0)
@@ -79,13 +83,15 @@ one_fault file (L3 i) (L3 j) a b = ap L3 (one_no_board _ _ _ i j a.1 b.1)
 
 -- ---- not both
 
+-- the file of a log has no fault of form
 pub no_fault : (file : List ℕ) (log : Log) (fault : FormFault) → IsLogFile log file → ¬ IsFormFaultOf fault file
 no_fault file log L1 is stands = stands (HasHeader-log file log is)
 no_fault file log (L2 i) is stands = filled_or_cut _ _ _ i (filled file log is) stands.1
 no_fault file log (L3 i) is stands =
     stands.1.no_board (first-boards (log_side_in file) (lemma_count_in file) (drop header_length file) boards i stands.1.within)
   where
-    boards : AllByRecursion (λ lemma. IsBoardOf (log_side_in file) lemma.board) (first_lemmas (log_side_in file) (lemma_count_in file) (drop header_length file))
+    boards : AllByRecursion (λ lemma. IsBoardOf (log_side_in file) lemma.board)
+        (first_lemmas (log_side_in file) (lemma_count_in file) (drop header_length file))
     boards =
         subst (AllByRecursion (λ lemma. IsBoardOf (log_side_in file) lemma.board)) (lemmas_are file log is)
         (subst (λ n. AllByRecursion (λ lemma. IsBoardOf n lemma.board) log.lemmas) (sym is.header.is_side) is.is_log.boards)
@@ -97,6 +103,7 @@ behind_header : (file : List ℕ) → take (length file - header_length) (drop h
 behind_header file = ap (λ k. take k (drop header_length file)) (sym (length-drop header_length file)) ∙ take-length (drop header_length file)
 
 module _ (version side count : ℕ) (file : List ℕ) (header : IsLogHeader version side count file) (known : IsVersion version) (size : IsSize side count) where
+  -- a good header, and behind it as many whole lemmas with boards, are the file of their log
   pub IsLogFile-first : (lemmas : List Lemma) → AreFilled side count (drop header_length file) → AreBoards side count (drop header_length file)
       → lemmas ≡ first_lemmas side count (drop header_length file) → IsLogFile (record { version = version; side = side; lemmas = lemmas }) file
   IsLogFile-first lemmas filled boards are =
@@ -112,7 +119,8 @@ module _ (version side count : ℕ) (file : List ℕ) (header : IsLogHeader vers
       }
 
   -- the same of the bytes behind the header, as they are taken
-  pub IsLogFile-read : (lemmas : List Lemma) → let bytes = take (length file - header_length) (drop header_length file) in AreFilled side count bytes → AreBoards side count bytes
+  pub IsLogFile-read : (lemmas : List Lemma) → let bytes = take (length file - header_length) (drop header_length file) in
+      AreFilled side count bytes → AreBoards side count bytes
       → lemmas ≡ first_lemmas side count bytes → IsLogFile (record { version = version; side = side; lemmas = lemmas }) file
   IsLogFile-read lemmas filled boards are =
       IsLogFile-first lemmas (subst (AreFilled side count) (behind_header file) filled) (subst (AreBoards side count) (behind_header file) boards)
@@ -120,6 +128,7 @@ module _ (version side count : ℕ) (file : List ℕ) (header : IsLogHeader vers
 
 module _ (file : List ℕ) (r : Result Log ViewFault) (ok : IfOk r (λ log. IsLogFile log file))
     (refused : (fault : FormFault) → r ≡ Err (Refused fault) → IsFormFaultOf fault file) where
+  -- what is answered of a log's file is that log, or that memory is wanting
   pub log_viewed : (log : Log) → IsLogFile log file → (r ≡ Ok log) ⊎ (r ≡ Err Memory)
   log_viewed log is = go r ok refused
     where
@@ -129,6 +138,7 @@ module _ (file : List ℕ) (r : Result Log ViewFault) (ok : IfOk r (λ log. IsLo
       go (Err Memory) ok refused = inr refl
       go (Err (Refused fault)) ok refused = absurd (no_fault file log fault is (refused fault refl))
 
+  -- where memory is wanting for logs' files alone, a fault of form is what is answered
   pub fault_named : (r ≡ Err Memory → (log : Log) × IsLogFile log file) → (fault : FormFault) → IsFormFaultOf fault file → r ≡ Err (Refused fault)
   fault_named memory fault stands = go r ok refused memory
     where

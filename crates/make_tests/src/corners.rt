@@ -22,7 +22,7 @@ const MASKS: [u32; 5] = [
     1 << 23,
 ];
 
-// How many boards are expanded was counted by another program: `tools/plain_search.py`. From the first board tile 24 goes
+// How many boards are expanded was counted by another program: `tools/plain/plain_search.py`. From the first board tile 24 goes
 // home by one move, and from the other region of the same tiles it takes three, so a sum of all tables is exact with the
 // right region alone.
 #[test]

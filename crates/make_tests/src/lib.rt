@@ -14,6 +14,8 @@ mod finding;
 #[cfg(test)]
 mod folded;
 #[cfg(test)]
+mod kept_slots;
+#[cfg(test)]
 mod layers;
 #[cfg(test)]
 mod many_lemmas;
@@ -27,3 +29,5 @@ mod solvable;
 mod tables;
 #[cfg(test)]
 mod transposed;
+#[cfg(test)]
+mod watched;

@@ -141,7 +141,7 @@ fn folded_tables_have_good_logs(rt: HostRuntime) -> Result<(), Fail> {
 }
 
 /// How many bytes the trees of the boards of side 3 have over the table of the tiles 1 to 3, by another program:
-/// benches/make_log.c.
+/// benches/peers/make_log.c.
 const TREES_OF_SIDE_3: [usize; 40] = [
     21115, 39096, 109297, 68495, 41345, 44640, 95813, 46465, 113992, 11303, 156748, 59596, 2306,
     351, 4703, 26493, 4083, 115, 26652, 988785, 211919, 3723, 394954, 22956, 290219, 7039, 7612,
@@ -169,7 +169,7 @@ struct Near {
 }
 
 /// Boards at the ends of random walks of 40 moves. The moves were found by another program, breadth first from both ends, and the
-/// trees by benches/make_log.c.
+/// trees by benches/peers/make_log.c.
 const NEAR_BOARDS: [Near; 10] = [
     Near {
         numbers: [3, 8, 2, 7, 1, 6, 10, 5, 9, 4, 14, 11, 12, 0, 13, 15],
@@ -243,6 +243,18 @@ fn logs_of_large_trees_of_side_4_have_many_lemmas(rt: HostRuntime) {
     }
 }
 
+// A lemma costs a search of its own: more of them than workers can use are a loss.
+#[test]
+fn a_tree_of_megabytes_has_at_most_a_lemma_for_each_500_bytes(rt: HostRuntime) {
+    let (first, second, third) = tables_of_side_4(&rt);
+    let bundle = bundle(&rt, &[&first, &second, &third], b"set 0 1 2\n");
+    let near = &NEAR_BOARDS[3];
+    let found = found_within(&rt, &bundle, &near.numbers, &Limits::USUAL).expect(&rt, "a solution");
+    let (bytes, lemmas) = (found.log.len(), lemmas_of(&found.log) as usize);
+    assert!(rt; bytes > 1 << 20 && bytes <= near.tree, "{bytes}");
+    assert!(rt; lemmas <= bytes / 500, "{lemmas}");
+}
+
 #[test]
 fn a_log_has_no_more_lemmas_than_it_may(rt: HostRuntime) {
     let (first, second, third) = tables_of_side_4(&rt);
@@ -257,6 +269,16 @@ fn a_log_has_no_more_lemmas_than_it_may(rt: HostRuntime) {
         expect_proved(&rt, &bundle, &near.numbers, &found, near.moves);
         assert_eq!(rt; lemmas_of(&found.log), lemmas);
     }
+}
+
+// Of the 2^30 bytes of a log ten are its header, 25 the numbers of a board, one is the bound and four are the length.
+#[test]
+fn the_usual_limits_are_those_of_a_log(rt: HostRuntime) {
+    let usual = Limits::USUAL;
+    assert_eq!(rt; usual.tree, (1 << 30) - 40);
+    assert_eq!(rt; usual.early_tree, 1 << 28);
+    assert_eq!(rt; usual.lemmas, 1 << 20);
+    assert_eq!(rt; usual.one_lemma_below, FROM_MANY);
 }
 
 #[test]

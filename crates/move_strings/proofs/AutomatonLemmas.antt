@@ -1,5 +1,6 @@
 -- Moves that an automaton refuses end, at the step that is left out, with a forbidden string.
-use Rattle.std.proofs.Common.{◌≡◌, ℕ, zero, suc, ◌+◌, ◌*◌, ◌/◌, ◌%◌, ◌<◌, true, eqb, List, [], ◌∷◌, ◌++◌, length, get_or, map, inl, inr, refl, sym, ◌∙◌, ap, ap₂, subst, arith, append_assoc, ne_eqb}
+use Rattle.std.proofs.Common.{◌≡◌, ℕ, zero, suc, ◌+◌, ◌*◌, ◌/◌, ◌%◌, ◌<◌, true, eqb, List, [], ◌∷◌, ◌++◌, length, get_or, map, inl, inr, refl, sym}
+use Rattle.std.proofs.Common.{◌∙◌, ap, ap₂, subst, arith, append_assoc, ne_eqb}
 use Rattle.std.specs.Prelude.{◌↔◌, All, Bool, IsTrue}
 use Rattle.std.specs.declared.vec.Vec.{Vec}
 use Rattle.std.proofs.lemmas.Bool.{cond-false}
@@ -53,7 +54,8 @@ module _ (n : ℕ) (label : ℕ → List Move) (states : ℕ) (string : ℕ → 
     | inl on ↦
         let low : next_at steps s m < states = on.0 in
         let goes_on : refuses steps (next_at steps s m) ms ≡ true =
-        sym (cond-false (eqb (next_at steps s m) left_out) true (refuses steps (next_at steps s m) ms) (ne_eqb (next_at steps s m) left_out (λ e. omega arith))) ∙ refused in
+        sym (cond-false (eqb (next_at steps s m) left_out) true (refuses steps (next_at steps s m) ms)
+        (ne_eqb (next_at steps s m) left_out (λ e. omega arith))) ∙ refused in
         subst (HasForbidden n) (one_on done m ms)
         (refused_from ms (next_at steps s m) (done ++ m ∷ []) low (ends_on done (label s) m (label (next_at steps s m)) ends on.1) goes_on)
     | inr out ↦
@@ -81,7 +83,8 @@ label_of-get [] k d inside = absurd (omega arith)
 label_of-get (label ∷ labels) zero d inside = refl
 label_of-get (label ∷ labels) (suc k) d inside = label_of-get labels k d (omega arith)
 
-first_entry : (P : List Move → Type 0) (forbidden : List Forbidden) → All (λ entry. P entry.string.items) forbidden → (k : ℕ) → k < length forbidden → P (string_of forbidden k)
+first_entry : (P : List Move → Type 0) (forbidden : List Forbidden) → All (λ entry. P entry.string.items) forbidden → (k : ℕ) → k < length forbidden
+    → P (string_of forbidden k)
 first_entry P [] each k inside = absurd (omega arith)
 first_entry P (entry ∷ forbidden) each zero inside = each 0 entry inside
 first_entry P (entry ∷ forbidden) each (suc k) inside = first_entry P forbidden (λ j d low. each (suc j) d (omega arith)) k (omega arith)
@@ -92,7 +95,8 @@ is_state steps states s long inside m = let few = rank_of-few m in omega arith
 state_is : (steps : List ℕ) (states s : ℕ) → length steps ≡ 4 * states → IsState steps s → s < states
 state_is steps states s long is = let last : 4 * s + 0 < length steps = is Up in omega arith
 
-number_right : {Z : Type 0} → (labels : List (Vec Move Z)) (forbidden : List Forbidden) (moves : List Move) (step : Step) → IsRightStep labels forbidden moves step
+number_right : {Z : Type 0} → (labels : List (Vec Move Z)) (forbidden : List Forbidden) (moves : List Move) (step : Step)
+    → IsRightStep labels forbidden moves step
     → IsRight (label_of labels) (length labels) (string_of forbidden) (length forbidden) moves (number_of step)
 number_right labels forbidden moves (To state) right = inl (right.0, right.1)
 number_right labels forbidden moves (LeftOut number) right = inr (refl, number, right.0, right.1)
@@ -112,7 +116,8 @@ IsAutomaton-right n draft is = record {
   ];
   refused = λ moves refused.
       refused_from n (label_of draft.labels.items) states (string_of draft.forbidden.items) (length draft.forbidden.items) steps is.few
-      (λ number low. first_entry (IsForbidden n) draft.forbidden.items (λ k d inside. record { witness = (get_or draft.forbidden.items k d).witness.items; is = is.witnesses k d inside }) number low)
+      (λ number low. first_entry (IsForbidden n) draft.forbidden.items
+      (λ k d inside. record { witness = (get_or draft.forbidden.items k d).witness.items; is = is.witnesses k d inside }) number low)
       right moves 0 [] is.some ([], sym is.first) refused;
 }
   where
@@ -125,21 +130,28 @@ IsAutomaton-right n draft is = record {
     long : length (map number_of draft.steps.items) ≡ 4 * length draft.labels.items
     long = length-map draft.steps.items number_of ∙ is.four
 
-    right : (s : ℕ) (m : Move) → s < states → IsRight (label_of draft.labels.items) states (string_of draft.forbidden.items) (length draft.forbidden.items) (label_of draft.labels.items s ++ m ∷ []) (next_at steps s m)
+    right : (s : ℕ) (m : Move) → s < states → IsRight (label_of draft.labels.items) states (string_of draft.forbidden.items)
+        (length draft.forbidden.items) (label_of draft.labels.items s ++ m ∷ []) (next_at steps s m)
     right s m inside =
         let few_ranks = rank_of-few m in
         let four = is.four in
         let there : 4 * s + rank_of m < length draft.steps.items = omega arith in
-        subst (λ k. IsRight (label_of draft.labels.items) states (string_of draft.forbidden.items) (length draft.forbidden.items) k (next_at steps s m)) (moves_at-place draft.labels.items s m)
-        (subst (IsRight (label_of draft.labels.items) states (string_of draft.forbidden.items) (length draft.forbidden.items) (moves_at draft.labels.items (4 * s + rank_of m)))
+        subst (λ k. IsRight (label_of draft.labels.items) states (string_of draft.forbidden.items) (length draft.forbidden.items) k
+        (next_at steps s m)) (moves_at-place draft.labels.items s m)
+        (subst (IsRight (label_of draft.labels.items) states (string_of draft.forbidden.items) (length draft.forbidden.items)
+        (moves_at draft.labels.items (4 * s + rank_of m)))
         (sym (get_or-map number_of draft.steps.items (4 * s + rank_of m) (To 0) 0 there))
-        (number_right draft.labels.items draft.forbidden.items (moves_at draft.labels.items (4 * s + rank_of m)) (get_or draft.steps.items (4 * s + rank_of m) (To 0)) (is.steps (4 * s + rank_of m) (To 0) there)))
+        (number_right draft.labels.items draft.forbidden.items (moves_at draft.labels.items (4 * s + rank_of m))
+        (get_or draft.steps.items (4 * s + rank_of m) (To 0)) (is.steps (4 * s + rank_of m) (To 0) there)))
 
 -- ---- what is read of a draft
 
-pub label_of-read : {Z : Type 0} → (labels : List (Vec Move Z)) (k : ℕ) (label : Vec Move Z) → k < length labels → label ≡ get_or labels k label → label.items ≡ label_of labels k
+-- what is read of the labels at a state's number is the label of the state
+pub label_of-read : {Z : Type 0} → (labels : List (Vec Move Z)) (k : ℕ) (label : Vec Move Z) → k < length labels → label ≡ get_or labels k label
+    → label.items ≡ label_of labels k
 label_of-read labels k label inside is = ap (λ v. v.items) is ∙ sym (label_of-get labels k label inside)
 
+-- what is read of the forbidden strings at a number is the string with it
 pub string_of-read : (forbidden : List Forbidden) (k : ℕ) (d : Forbidden) → k < length forbidden → (get_or forbidden k d).string.items ≡ string_of forbidden k
 string_of-read forbidden k d inside = sym (string_of-get forbidden k d inside)
 
@@ -150,16 +162,22 @@ ends_as label other m k string shown e f g t ends =
     subst (λ ls. IsTrue t ↔ EndsWith (ls ++ k ∷ []) shown) e
     (subst (λ x. IsTrue t ↔ EndsWith (label ++ x ∷ []) shown) f (subst (λ s. IsTrue t ↔ EndsWith (label ++ m ∷ []) s) g ends))
 
-pub right_to : {Z : Type 0} → (labels : List (Vec Move Z)) (forbidden : List Forbidden) (place state : ℕ) (step : Step) → step ≡ To state → state < length labels
+-- a step to a state is right exactly where the moves that it completes end with the state's label
+pub right_to : {Z : Type 0} → (labels : List (Vec Move Z)) (forbidden : List Forbidden) (place state : ℕ) (step : Step) → step ≡ To state
+    → state < length labels
     → {t : Bool} → IsTrue t ↔ EndsWith (moves_at labels place) (label_of labels state) → IsTrue t ↔ IsRightStep labels forbidden (moves_at labels place) step
 right_to labels forbidden place state step is inside {t} ends =
     subst (λ s. IsTrue t ↔ IsRightStep labels forbidden (moves_at labels place) s) (sym is) (λ holds. (inside, ends.0 holds), λ right. ends.1 right.1)
 
-pub right_left_out : {Z : Type 0} → (labels : List (Vec Move Z)) (forbidden : List Forbidden) (place number : ℕ) (step : Step) → step ≡ LeftOut number → number < length forbidden
-    → {t : Bool} → IsTrue t ↔ EndsWith (moves_at labels place) (string_of forbidden number) → IsTrue t ↔ IsRightStep labels forbidden (moves_at labels place) step
+-- a step that is left out is right exactly where the moves that it completes end with its string
+pub right_left_out : {Z : Type 0} → (labels : List (Vec Move Z)) (forbidden : List Forbidden) (place number : ℕ) (step : Step)
+    → step ≡ LeftOut number → number < length forbidden
+    → {t : Bool} → IsTrue t ↔ EndsWith (moves_at labels place) (string_of forbidden number) → IsTrue t
+    ↔ IsRightStep labels forbidden (moves_at labels place) step
 right_left_out labels forbidden place number step is inside {t} ends =
     subst (λ s. IsTrue t ↔ IsRightStep labels forbidden (moves_at labels place) s) (sym is) (λ holds. (inside, ends.0 holds), λ right. ends.1 right.1)
 
+-- any moves end with a string without moves
 pub ends_with_none : (moves string : List Move) → length string ≡ 0 → EndsWith moves string
 ends_with_none moves [] none = (moves, sym (append_none moves))
   where
@@ -168,6 +186,7 @@ ends_with_none moves [] none = (moves, sym (append_none moves))
     append_none (m ∷ ms) = ap (λ ks. m ∷ ks) (append_none ms)
 ends_with_none moves (m ∷ string) none = absurd (omega arith)
 
+-- a list of moves whose length is 0 is empty
 pub nothing : (moves : List Move) → length moves ≡ 0 → moves ≡ []
 nothing [] none = refl
 nothing (m ∷ moves) none = absurd (omega arith)

@@ -1,5 +1,6 @@
 -- The goal board, with the blank exchanged with the number in a cell, is a board.
-use Rattle.std.proofs.Common.{◌≡◌, ◌≢◌, ℕ, ◌*◌, ◌<◌, ◌≤◌, eqb, List, length, get_or, take, Option, Some, None, inl, inr, refl, sym, ◌∙◌, ap, subst, arith, eq-eqb, ne_eqb}
+use Rattle.std.proofs.Common.{◌≡◌, ◌≢◌, ℕ, ◌*◌, ◌<◌, ◌≤◌, eqb, List, length, get_or, take, Option, Some, None, inl, inr, refl, sym, ◌∙◌, ap, subst}
+use Rattle.std.proofs.Common.{arith, eq-eqb, ne_eqb}
 use Rattle.std.specs.Prelude.{IfSome, IsSome, SomeIff}
 use Rattle.std.proofs.lemmas.Bool.{cases_eq, cond-true, cond-false}
 use Rattle.std.proofs.lemmas.List.{get_or-take, length-take-le}
@@ -70,6 +71,7 @@ pub some_board : (n : ℕ) (b : List ℕ) → IsBoardOf n b → (o : Option (Lis
 some_board n b good None none = absurd (none (subst (λ k. IsBoardOf k b) (sym (side_of-board n b good)) good))
 some_board n b good (Some x) is = (refl, is.1)
 
+-- what holds of a board holds of an option's value that is that board
 pub if_board : (P : List ℕ → Type 0) (b : List ℕ) → P b → (o : Option (List ℕ)) → IfSome o (λ x. x ≡ b) → IfSome o P
 if_board P b holds None is = tt
 if_board P b holds (Some x) is = subst P (sym is) holds

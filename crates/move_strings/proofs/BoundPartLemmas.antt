@@ -15,6 +15,7 @@ none_of_all b n count some parts moves least =
     let below : index < count = omega arith in
     parts index below moves (inr refl) least
 
+-- where all parts of a bound hold of a board, no solution has fewer moves than the bound
 pub of_all_parts : (side : ℕ) (b : List ℕ) → IsBoardOf side b → (n count : ℕ) → 0 < count
     → ((index : ℕ) → index < count → IsPartBounded (record { index = index; count = count }) n b) → (path : List ℕ) → IsSolution b path → n ≤ length path
 of_all_parts side b good n count some parts path solves = no_least-bound side b good n (none_of_all b n count some parts) path solves

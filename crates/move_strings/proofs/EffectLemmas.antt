@@ -1,6 +1,7 @@
 -- Strings with the same effect on one board have it on each board of its side whose blank is in the same cell: each of these is
 -- that board with other numbers on its tiles.
-use Rattle.std.proofs.Common.{◌≡◌, ◌≢◌, ℕ, suc, ◌-◌, ◌*◌, ◌<◌, cond, eqb, List, [], ◌∷◌, length, map, set, Option, Some, None, inl, inr, refl, sym, ◌∙◌, ap, ap₂, subst, arith, eq-eqb, ne_eqb}
+use Rattle.std.proofs.Common.{◌≡◌, ◌≢◌, ℕ, suc, ◌-◌, ◌*◌, ◌<◌, cond, eqb, List, [], ◌∷◌, length, map, set, Option, Some, None, inl, inr, refl, sym}
+use Rattle.std.proofs.Common.{◌∙◌, ap, ap₂, subst, arith, eq-eqb, ne_eqb}
 use Rattle.std.specs.Prelude.{option_and_then, option_map}
 use Rattle.std.proofs.lemmas.Bool.{cases_eq, cond-true, cond-false}
 use Rattle.std.proofs.lemmas.List.{ext_get_or, get_or-map, length-map, map-set}
@@ -39,7 +40,8 @@ module _ (f : ℕ → ℕ) (zero_is : f 0 ≡ 0) (tiles_are : (x : ℕ) → x �
       ap (set (map f (set b (blank b) (at b c))) c) (sym zero_is) ∙
       sym (map-set f (set b (blank b) (at b c)) c 0)
 
-  moved_to : (b : List ℕ) (m : Move) → (o : Option ℕ) → ((c : ℕ) → o ≡ Some c → c < length b) → option_map (slid (map f b)) o ≡ option_map (map f) (option_map (slid b) o)
+  moved_to : (b : List ℕ) (m : Move) → (o : Option ℕ) → ((c : ℕ) → o ≡ Some c → c < length b)
+      → option_map (slid (map f b)) o ≡ option_map (map f) (option_map (slid b) o)
   moved_to b m None inside = refl
   moved_to b m (Some c) inside = ap Some (slid-map b c (inside c refl))
 
@@ -51,7 +53,8 @@ module _ (f : ℕ → ℕ) (zero_is : f 0 ≡ 0) (tiles_are : (x : ℕ) → x �
       let side = side_of-board n b good in
       ap₂ (λ k z. option_map (slid (map f b)) (step_of k z m)) (side_of-map b) (blank-map b) ∙
       moved_to b m (step_of (side_of b) (blank b) m)
-      (λ c leads. let inside : c < n * n = step_of-inside n (blank b) m c good.low good.high (omega arith) (subst (λ k. step_of k (blank b) m ≡ Some c) side leads) in omega arith)
+      (λ c leads. let inside : c < n * n = step_of-inside n (blank b) m c good.low good.high (omega arith)
+      (subst (λ k. step_of k (blank b) m ≡ Some c) side leads) in omega arith)
 
   after_on : (n : ℕ) (b : List ℕ) → IsBoardOf n b → (m : Move) (ms : List Move)
       → ((d : List ℕ) → IsBoardOf n d → board_after (map f d) ms ≡ option_map (map f) (board_after d ms))

@@ -13,6 +13,7 @@ use Rattle.move_strings.proofs.TrailLemmas.{along}
 
 -- ---- no forbidden string
 
+-- a least solution has no forbidden string in it
 pub least-no_forbidden : (n : ℕ) (b : List ℕ) → IsBoardOf n b → (r : ℕ) (moves : List Move) → IsLeastSolution b r moves → ¬ HasForbidden n moves
 least-no_forbidden n b good r moves is has =
     let new = replaced n b good moves is.solves.end is.solves.leads has in
@@ -24,12 +25,15 @@ kept_by : (t : Bool) → (t ≡ true → ⊥) → t ≡ false
 kept_by true not = absurd (not refl)
 kept_by false not = refl
 
-pub least-kept : (a : ShownAutomaton) → IsAutomaton a → (b : List ℕ) → IsBoardOf a.side b → (r : ℕ) (moves : List Move) → IsLeastSolution b r moves → refuses a.steps 0 moves ≡ false
+-- no automaton refuses a least solution of a board of its side
+pub least-kept : (a : ShownAutomaton) → IsAutomaton a → (b : List ℕ) → IsBoardOf a.side b → (r : ℕ) (moves : List Move) → IsLeastSolution b r moves
+    → refuses a.steps 0 moves ≡ false
 least-kept a is b good r moves least = kept_by (refuses a.steps 0 moves) (λ refused. least-no_forbidden a.side b good r moves least (is.refused moves refused))
 
 -- ---- a board with no least solution has none
 
-none_below : (b : List ℕ) (r : ℕ) → ((moves : List Move) → ¬ IsLeastSolution b r moves) → (k : ℕ) (moves : List Move) → spelled 0 moves < k → ¬ IsShortSolution b r moves
+none_below : (b : List ℕ) (r : ℕ) → ((moves : List Move) → ¬ IsLeastSolution b r moves) → (k : ℕ) (moves : List Move) → spelled 0 moves < k
+    → ¬ IsShortSolution b r moves
 none_below b r none zero moves low solves = absurd (omega arith)
 none_below b r none (suc k) moves low solves = none moves (record {
   solves = solves;
@@ -38,11 +42,14 @@ none_below b r none (suc k) moves low solves = none moves (record {
       none_below b r none k others (omega arith) other;
 })
 
-pub no_least-bound : (n : ℕ) (b : List ℕ) → IsBoardOf n b → (r : ℕ) → ((moves : List Move) → ¬ IsLeastSolution b r moves) → (path : List ℕ) → IsSolution b path → r ≤ length path
+-- a board without a least solution of fewer than r moves has no solution of fewer at all
+pub no_least-bound : (n : ℕ) (b : List ℕ) → IsBoardOf n b → (r : ℕ) → ((moves : List Move) → ¬ IsLeastSolution b r moves) → (path : List ℕ)
+    → IsSolution b path → r ≤ length path
 no_least-bound n b good r none path solves = elim (cases_lt (length path) r) [
   | inl short ↦
       let way = along n b good path solves in
       let count = way.count in
-      absurd (none_below b r none (suc (spelled 0 way.moves)) way.moves (omega arith) (record { end = way.end; leads = way.leads; goal = way.goal; short = omega arith }))
+      absurd (none_below b r none (suc (spelled 0 way.moves)) way.moves (omega arith)
+      (record { end = way.end; leads = way.leads; goal = way.goal; short = omega arith }))
   | inr enough ↦ omega arith
 ]

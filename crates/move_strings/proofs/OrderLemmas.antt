@@ -9,6 +9,7 @@ pub spelled : ℕ → List Move → ℕ
 spelled a [] = a
 spelled a (m ∷ ms) = spelled (4 * a + rank_of m + 1) ms
 
+-- the rank of a move is one below 4
 pub rank_of-few : (m : Move) → rank_of m < 4
 rank_of-few Up = omega arith
 rank_of-few Down = omega arith
@@ -61,6 +62,7 @@ pub ComesBefore-few : (witness string : List Move) → ComesBefore witness strin
 ComesBefore-few witness string (inl few) = omega arith
 ComesBefore-few witness string (inr is) = let long = IsEarlier-long witness string is in omega arith
 
+-- a string that comes before another spells a smaller number behind any number
 pub ComesBefore-spelled : (witness string : List Move) → ComesBefore witness string → (a : ℕ) → spelled a witness < spelled a string
 ComesBefore-spelled witness string (inl few) a = spelled-shorter witness string few a
 ComesBefore-spelled witness string (inr is) a = spelled-earlier witness string is a
@@ -71,9 +73,11 @@ pub spelled-replaced : (front witness string rest : List Move) → ComesBefore w
 spelled-replaced front witness string rest before =
     let left = spelled-append 0 front (witness ++ rest) ∙ spelled-append (spelled 0 front) witness rest in
     let right = spelled-append 0 front (string ++ rest) ∙ spelled-append (spelled 0 front) string rest in
-    let less = spelled-less rest rest (omega arith) (spelled (spelled 0 front) witness) (spelled (spelled 0 front) string) (ComesBefore-spelled witness string before (spelled 0 front)) in
+    let less = spelled-less rest rest (omega arith) (spelled (spelled 0 front) witness) (spelled (spelled 0 front) string)
+    (ComesBefore-spelled witness string before (spelled 0 front)) in
     omega arith
 
+-- with a string in the place of one that it comes before, moves are no more than they were
 pub length-replaced : (front witness string rest : List Move) → ComesBefore witness string
     → length (front ++ (witness ++ rest)) ≤ length (front ++ (string ++ rest))
 length-replaced front witness string rest before =
@@ -96,7 +100,9 @@ IsEarlier-front : (front ls ms : List Move) → IsEarlier ls ms → IsEarlier (f
 IsEarlier-front [] ls ms is = is
 IsEarlier-front (m ∷ front) ls ms is = inr (refl, IsEarlier-front front ls ms is)
 
-pub ComesBefore-around : (front witness string rest : List Move) → ComesBefore witness string → ComesBefore (front ++ (witness ++ rest)) (front ++ (string ++ rest))
+-- between the same moves, a string that comes before another makes moves that come before
+pub ComesBefore-around : (front witness string rest : List Move) → ComesBefore witness string
+    → ComesBefore (front ++ (witness ++ rest)) (front ++ (string ++ rest))
 ComesBefore-around front witness string rest (inl few) =
     let a = length-append front (witness ++ rest) in
     let b = length-append witness rest in

@@ -8,6 +8,7 @@ use Rattle.move_strings.specs.Strings.{HasForbidden, HasString, IsForbidden, ran
 
 -- ---- letters
 
+-- two moves of one rank are the same move
 pub same_rank : (l m : Move) → rank_of l ≡ rank_of m → l ≡ m
 same_rank Up Up e = refl
 same_rank Down Down e = refl
@@ -21,13 +22,16 @@ nat_same a b = (a ≡ b) ⊎ (a ≡ b → ⊥)
 nat_or : (a b : ℕ) → nat_same a b
 nat_or a b = cases_eq a b
 
+-- two moves are the same one or different ones
 pub same_or : (l m : Move) → (l ≡ m) ⊎ (l ≡ m → ⊥)
 same_or l m = elim (nat_or (rank_of l) (rank_of m)) [ inl e ↦ inl (same_rank l m e) | inr ne ↦ inr (λ e. ne (ap rank_of e)) ]
 
+-- the first of some moves, and up where there are none
 abbrev pub first_of_moves : List Move → Move
 first_of_moves [] = Up
 first_of_moves (m ∷ ms) = m
 
+-- the moves behind the first one, and none where there is none
 abbrev pub rest_of_moves : List Move → List Move
 rest_of_moves [] = []
 rest_of_moves (m ∷ ms) = ms
@@ -58,6 +62,7 @@ at_front : (moves string front rest : List Move) → (BeginsWith moves string �
 at_front moves string [] rest miss whole later = miss (rest, whole)
 at_front moves string (l ∷ ls) rest miss whole later = later ls (ap rest_of_moves whole) (ap count_one whole)
 
+-- moves have a string in them or haven't
 pub string_or : (moves string : List Move) → HasString moves string ⊎ (HasString moves string → ⊥)
 string_or [] string = elim (begins_or string []) [
   | inl h ↦ inl (record { front = []; rest = h.0; whole = h.1 })

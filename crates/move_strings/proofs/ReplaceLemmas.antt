@@ -16,7 +16,8 @@ pub record Between (b : List ℕ) (front rest : List Move) (end : List ℕ) : Ty
   pub leads : board_after b front ≡ Some middle
   pub on : board_after middle rest ≡ Some end
 
-between_on : (b : List ℕ) (m : Move) (front rest : List Move) (end : List ℕ) → ((d : List ℕ) → board_after d (front ++ rest) ≡ Some end → Between d front rest end)
+between_on : (b : List ℕ) (m : Move) (front rest : List Move) (end : List ℕ)
+    → ((d : List ℕ) → board_after d (front ++ rest) ≡ Some end → Between d front rest end)
     → (o : Option (List ℕ)) → moved b m ≡ o → option_and_then (λ d. board_after d (front ++ rest)) o ≡ Some end → Between b (m ∷ front) rest end
 unfolding board_after
 between_on b m front rest end later None is leads = cc
@@ -24,16 +25,19 @@ between_on b m front rest end later (Some d) is leads =
     let on = later d leads in
     record { middle = on.middle; leads = ap (option_and_then (λ e. board_after e front)) is ∙ on.leads; on = on.on }
 
+-- where some moves and then others lead to a board, there is a board between them
 pub between : (b : List ℕ) (front rest : List Move) (end : List ℕ) → board_after b (front ++ rest) ≡ Some end → Between b front rest end
 unfolding board_after
 between b [] rest end leads = record { middle = b; leads = refl; on = leads }
 between b (m ∷ front) rest end leads = between_on b m front rest end (λ d on. between d front rest end on) (moved b m) refl leads
 
-join_on : (b : List ℕ) (m : Move) (front rest : List Move) (middle end : List ℕ) → ((d : List ℕ) → board_after d front ≡ Some middle → board_after d (front ++ rest) ≡ Some end)
+join_on : (b : List ℕ) (m : Move) (front rest : List Move) (middle end : List ℕ)
+    → ((d : List ℕ) → board_after d front ≡ Some middle → board_after d (front ++ rest) ≡ Some end)
     → (o : Option (List ℕ)) → option_and_then (λ d. board_after d front) o ≡ Some middle → option_and_then (λ d. board_after d (front ++ rest)) o ≡ Some end
 join_on b m front rest middle end later None leads = cc
 join_on b m front rest middle end later (Some d) leads = later d leads
 
+-- moves to a board, and other moves on from it, are moves to where these lead
 pub joined : (b : List ℕ) (front rest : List Move) (middle end : List ℕ) → board_after b front ≡ Some middle → board_after middle rest ≡ Some end
     → board_after b (front ++ rest) ≡ Some end
 unfolding board_after
@@ -44,11 +48,13 @@ joined b (m ∷ front) rest middle end leads on = join_on b m front rest middle 
 
 -- ---- boards stay boards
 
-stays_on : (n : ℕ) (b : List ℕ) → IsBoardOf n b → (m : Move) (ms : List Move) (end : List ℕ) → ((d : List ℕ) → IsBoardOf n d → board_after d ms ≡ Some end → IsBoardOf n end)
+stays_on : (n : ℕ) (b : List ℕ) → IsBoardOf n b → (m : Move) (ms : List Move) (end : List ℕ)
+    → ((d : List ℕ) → IsBoardOf n d → board_after d ms ≡ Some end → IsBoardOf n end)
     → (o : Option (List ℕ)) → moved b m ≡ o → option_and_then (λ d. board_after d ms) o ≡ Some end → IsBoardOf n end
 stays_on n b good m ms end later None is leads = cc
 stays_on n b good m ms end later (Some d) is leads = later d (IsBoardOf-moved n b good m d is) leads
 
+-- where moves lead a board of side n, there is a board of side n again
 pub IsBoardOf-after : (n : ℕ) (b : List ℕ) → IsBoardOf n b → (ms : List Move) (end : List ℕ) → board_after b ms ≡ Some end → IsBoardOf n end
 unfolding board_after
 IsBoardOf-after n b good [] end leads =
@@ -66,7 +72,9 @@ pub record Replaced (b : List ℕ) (moves : List Move) (end : List ℕ) : Type 0
   pub less : spelled 0 others < spelled 0 moves
   pub before : ComesBefore others moves
 
-pub replaced : (n : ℕ) (b : List ℕ) → IsBoardOf n b → (moves : List Move) (end : List ℕ) → board_after b moves ≡ Some end → HasForbidden n moves → Replaced b moves end
+-- moves with a forbidden string in them have others that come before and lead to the same board
+pub replaced : (n : ℕ) (b : List ℕ) → IsBoardOf n b → (moves : List Move) (end : List ℕ) → board_after b moves ≡ Some end → HasForbidden n moves
+    → Replaced b moves end
 replaced n b good moves end leads has =
     let front = has.has.front in
     let rest = has.has.rest in
@@ -78,8 +86,10 @@ replaced n b good moves end leads has =
     record {
       others = front ++ (witness ++ rest);
       leads = joined b front (witness ++ rest) first.middle end first.leads (joined first.middle witness rest second.middle end same second.on);
-      few = subst (λ ms. length (front ++ (witness ++ rest)) ≤ length ms) (sym has.has.whole) (length-replaced front witness string rest has.forbidden.is.before);
-      less = subst (λ ms. spelled 0 (front ++ (witness ++ rest)) < spelled 0 ms) (sym has.has.whole) (spelled-replaced front witness string rest has.forbidden.is.before);
+      few = subst (λ ms. length (front ++ (witness ++ rest)) ≤ length ms) (sym has.has.whole)
+          (length-replaced front witness string rest has.forbidden.is.before);
+      less = subst (λ ms. spelled 0 (front ++ (witness ++ rest)) < spelled 0 ms) (sym has.has.whole)
+          (spelled-replaced front witness string rest has.forbidden.is.before);
       before = subst (ComesBefore (front ++ (witness ++ rest))) (sym has.has.whole) (ComesBefore-around front witness string rest has.forbidden.is.before);
     }
 

@@ -1,5 +1,6 @@
 -- The automaton of reversals refuses the moves that somewhere take one of them straight back.
-use Rattle.std.proofs.Common.{◌≡◌, ◌≢◌, ℕ, zero, suc, ◌+◌, ◌*◌, ◌<◌, ◌≤◌, ◌⊎◌, ◌↔◌, true, eqb, List, [], ◌∷◌, ◌++◌, length, length-append, get_or, Option, Some, None, inl, inr, refl, sym, ◌∙◌, ap, subst, arith, eq-eqb, ne_eqb}
+use Rattle.std.proofs.Common.{◌≡◌, ◌≢◌, ℕ, zero, suc, ◌+◌, ◌*◌, ◌<◌, ◌≤◌, ◌⊎◌, ◌↔◌, true, eqb, List, [], ◌∷◌, ◌++◌, length, length-append, get_or}
+use Rattle.std.proofs.Common.{Option, Some, None, inl, inr, refl, sym, ◌∙◌, ap, subst, arith, eq-eqb, ne_eqb}
 use Rattle.std.specs.Prelude.{option_and_then}
 use Rattle.std.specs.List.{AllByRecursion}
 use Rattle.std.proofs.lemmas.Bool.{cond-false, cond-true}
@@ -135,15 +136,19 @@ few_states = low_or reversal_steps (
 
 -- ---- what is refused
 
-goes_on : (s next : ℕ) (m : Move) (ms : List Move) → next_at reversal_steps s m ≡ next → next < left_out → refuses reversal_steps s (m ∷ ms) ≡ refuses reversal_steps next ms
+goes_on : (s next : ℕ) (m : Move) (ms : List Move) → next_at reversal_steps s m ≡ next → next < left_out
+    → refuses reversal_steps s (m ∷ ms) ≡ refuses reversal_steps next ms
 goes_on s next m ms is low =
-    cond-false (eqb (next_at reversal_steps s m) left_out) true (refuses reversal_steps (next_at reversal_steps s m) ms) (ne_eqb (next_at reversal_steps s m) left_out (λ e. omega arith)) ∙
+    cond-false (eqb (next_at reversal_steps s m) left_out) true (refuses reversal_steps (next_at reversal_steps s m) ms)
+    (ne_eqb (next_at reversal_steps s m) left_out (λ e. omega arith)) ∙
     ap (λ k. refuses reversal_steps k ms) is
 
 stops : (s : ℕ) (m : Move) (ms : List Move) → next_at reversal_steps s m ≡ left_out → refuses reversal_steps s (m ∷ ms) ≡ true
-stops s m ms is = cond-true (eqb (next_at reversal_steps s m) left_out) true (refuses reversal_steps (next_at reversal_steps s m) ms) (eq-eqb (next_at reversal_steps s m) left_out is)
+stops s m ms is = cond-true (eqb (next_at reversal_steps s m) left_out) true (refuses reversal_steps (next_at reversal_steps s m) ms)
+    (eq-eqb (next_at reversal_steps s m) left_out is)
 
-goes_after : (s : ℕ) (m : Move) (ms : List Move) → next_at reversal_steps s m ≡ arrived m → refuses reversal_steps s (m ∷ ms) ≡ refuses reversal_steps (arrived m) ms
+goes_after : (s : ℕ) (m : Move) (ms : List Move) → next_at reversal_steps s m ≡ arrived m
+    → refuses reversal_steps s (m ∷ ms) ≡ refuses reversal_steps (arrived m) ms
 goes_after s m ms is = let few = rank_of-few m in goes_on s (arrived m) m ms is (omega arith)
 
 later : (m : Move) (ms : List Move) → HasReversal ms → HasReversal (m ∷ ms)
@@ -156,7 +161,8 @@ has_after (k ∷ ms) m refused = elim (step_after m k) [
   | inr on ↦ later m (k ∷ ms) (has_after ms k (sym (goes_after (arrived m) k ms on) ∙ refused))
 ]
 
-refused_by : (ms : List Move) (m x : Move) (front rest : List Move) → m ∷ ms ≡ front ++ ((x ∷ reverse_of x ∷ []) ++ rest) → refuses reversal_steps (arrived m) ms ≡ true
+refused_by : (ms : List Move) (m x : Move) (front rest : List Move) → m ∷ ms ≡ front ++ ((x ∷ reverse_of x ∷ []) ++ rest)
+    → refuses reversal_steps (arrived m) ms ≡ true
 refused_by [] m x [] rest whole = let none : 0 ≡ suc (length rest) = ap (λ t. length (rest_of_moves t)) whole in absurd (omega arith)
 refused_by [] m x (l ∷ ls) rest whole =
     let none : 0 ≡ length (ls ++ ((x ∷ reverse_of x ∷ []) ++ rest)) = ap (λ t. length (rest_of_moves t)) whole in
@@ -171,6 +177,7 @@ refused_by (k ∷ ms) m x (l ∷ ls) rest whole = elim (step_after m k) [
   | inr on ↦ goes_after (arrived m) k ms on ∙ refused_by ms k x ls rest (ap rest_of_moves whole)
 ]
 
+-- the automaton of reversals refuses exactly the moves that take one of them straight back
 pub refused-reversal : (moves : List Move) → (refuses reversal_steps 0 moves ≡ true) ↔ HasReversal moves
 refused-reversal [] = (λ refused. cc, λ has. none has.1.front has.0 has.1.rest has.1.whole)
   where
@@ -184,6 +191,7 @@ refused-reversal (m ∷ ms) = (
 
 -- ---- it is an automaton
 
+-- the table of reversals is an automaton for boards of any side
 pub IsAutomaton-reversals : (n : ℕ) → IsAutomaton (record { side = n; steps = reversal_steps })
 IsAutomaton-reversals n = record {
   first = λ m. let few = rank_of-few m in omega arith;

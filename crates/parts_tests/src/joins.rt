@@ -1,9 +1,9 @@
 //! What is said of a bound in parts where texts of answer lines were read: each part there, left out, twice, of another board, of
-//! another bound or of another count, and lines that are cut.
+//! another bound or of another count, and lines that are cut. And how many of the lines are skipped.
 
 use claim_text::{Asks, part_line, read_claims};
 use move_strings::BoundPart;
-use pdb_parts::{BoundInParts, Joined, join};
+use pdb_parts::{BoundInParts, Joined, LineCounts, join};
 use puz_board::Board;
 use std::alloc::{AllocGlobal, Global};
 use std::process::Abort;
@@ -58,6 +58,8 @@ fn all_parts_give_the_bound(rt: HostRuntime) -> Result<(), Fail> {
         let joined = joined(&rt, count, &texts);
         assert!(rt; joined.is_yes);
         assert_eq!(rt; joined.text.as_str(), line);
+        let all = usize::from(count);
+        assert_eq!(rt; joined.counts, LineCounts { all, skipped: 0 });
     }
     Ok(())
 }
@@ -119,6 +121,60 @@ fn other_lines_count_for_nothing(rt: HostRuntime) -> Result<(), Fail> {
     ];
     for (text, wanted) in texts {
         assert!(rt; said(&rt, text, wanted)?, "{text:?}");
+    }
+    Ok(())
+}
+
+/// The counts of the lines of these texts, where that bound in three parts is asked for.
+fn counted<R: AllocGlobal + Abort>(rt: &R, texts: &[&[u8]]) -> Result<LineCounts, Fail> {
+    let mut all = Vec::new(rt.alloc());
+    for text in texts {
+        all.push(text.to_vec(rt.alloc())?)?;
+    }
+    Ok(joined(rt, 3, &all).counts)
+}
+
+#[test]
+fn whole_lines_of_no_part_are_skipped(rt: HostRuntime) -> Result<(), Fail> {
+    let texts: [(&[&[u8]], usize, usize); 14] = [
+        (&[], 0, 0),
+        (&[b""], 0, 0),
+        (&[b"\n"], 1, 1),
+        (&[b"part 0/3 of bound 6 of 3 2 1 0\n"], 1, 0),
+        // One that is told twice is of a part.
+        (
+            &[b"part 0/3 of bound 6 of 3 2 1 0\npart 0/3 of bound 6 of 3 2 1 0\n"],
+            2,
+            0,
+        ),
+        (&[b"part 0/3 of bound 6 of 0 1 2 3\n"], 1, 1),
+        (&[b"part 0/3 of bound 7 of 3 2 1 0\n"], 1, 1),
+        (&[b"part 0/5 of bound 6 of 3 2 1 0\n"], 1, 1),
+        (&[b"part 3/3 of bound 6 of 3 2 1 0\n"], 1, 1),
+        (&[b"bound 6 of 3 2 1 0\nsha256 0\n"], 2, 2),
+        (
+            &[
+                b"part 00/3 of bound 6 of 3 2 1 0\npart 0/3 of bound 6 of 3 2 1 0\r\n part 0/3 of bound 6 of 3 2 1 0\n",
+            ],
+            3,
+            3,
+        ),
+        // What stands behind the last LF is no line.
+        (&[b"part 0/3 of bound 6 of 3 2 1 0"], 0, 0),
+        (&[b"x\npart 0/3 of bound 6 of 3 2 1 0\nx"], 2, 1),
+        // No line goes on in the next text.
+        (
+            &[
+                b"x\npart 0/3 of bound 6",
+                b" of 3 2 1 0\npart 1/3 of bound 6 of 3 2 1 0\n",
+                b"y\n",
+            ],
+            4,
+            3,
+        ),
+    ];
+    for (texts, all, skipped) in texts {
+        assert_eq!(rt; counted(&rt, texts)?, LineCounts { all, skipped });
     }
     Ok(())
 }

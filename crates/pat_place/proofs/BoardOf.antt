@@ -1,5 +1,6 @@
 -- Every placement with a free cell is that of a board with its blank there: made from the goal board by exchanges.
-use Rattle.std.proofs.Common.{◌≡◌, ◌≢◌, ℕ, zero, suc, ◌+◌, ◌*◌, ◌<◌, ◌≤◌, false, eqb, ◌⊎◌, List, [], ◌∷◌, length, set, inl, inr, refl, sym, ◌∙◌, ap, ap₂, arith, get_or-set_same, get_or-set_other, length-set}
+use Rattle.std.proofs.Common.{◌≡◌, ◌≢◌, ℕ, zero, suc, ◌+◌, ◌*◌, ◌<◌, ◌≤◌, false, eqb, ◌⊎◌, List, [], ◌∷◌, length, set, inl, inr, refl, sym, ◌∙◌, ap}
+use Rattle.std.proofs.Common.{ap₂, arith, get_or-set_same, get_or-set_other, length-set}
 use Rattle.std.proofs.lemmas.Bool.{cases_eq, or_parts, or_from, ne_eqb, eqb-false}
 use Rattle.std.proofs.lemmas.List.FromFn.{length-range_with_len}
 use Rattle.std.specs.List.{AllByRecursion, range_with_len}
@@ -30,7 +31,8 @@ module _ (n : ℕ) (b : List ℕ) (good : IsBoardOf n b) (z : ℕ) (z_in : z < n
   unfolding exchanged
   length-exchanged = length-set (set b z (at b c)) c (at b z) ∙ length-set b z (at b c) ∙ good.size
 
-  origin : (x : ℕ) → (x < n * n) → (y : ℕ) × (y < n * n) × (at (exchanged b z c) x ≡ at b y) × (((x ≡ c) × (y ≡ z)) ⊎ ((x ≡ z) × (y ≡ c)) ⊎ ((x ≢ c) × (x ≢ z) × (y ≡ x)))
+  origin : (x : ℕ) → (x < n * n) → (y : ℕ) × (y < n * n) × (at (exchanged b z c) x ≡ at b y)
+      × (((x ≡ c) × (y ≡ z)) ⊎ ((x ≡ z) × (y ≡ c)) ⊎ ((x ≢ c) × (x ≢ z) × (y ≡ x)))
   origin x l = elim (cases_eq x c) [
     | inl e ↦ (z, z_in, ap (at (exchanged b z c)) e ∙ at-exchanged_there, inl (e, refl))
     | inr p ↦ elim (cases_eq x z) [
@@ -48,7 +50,8 @@ module _ (n : ℕ) (b : List ℕ) (good : IsBoardOf n b) (z : ℕ) (z_in : z < n
     distinct = λ x y l k e. let o = origin x l in let u = origin y k in same x y o.0 u.0 (good.distinct o.0 u.0 o.1 u.1 (sym o.2 ∙ e ∙ u.2)) o.3 u.3;
   }
     where
-      same : (x y o u : ℕ) → o ≡ u → (((x ≡ c) × (o ≡ z)) ⊎ ((x ≡ z) × (o ≡ c)) ⊎ ((x ≢ c) × (x ≢ z) × (o ≡ x))) → (((y ≡ c) × (u ≡ z)) ⊎ ((y ≡ z) × (u ≡ c)) ⊎ ((y ≢ c) × (y ≢ z) × (u ≡ y))) → x ≡ y
+      same : (x y o u : ℕ) → o ≡ u → (((x ≡ c) × (o ≡ z)) ⊎ ((x ≡ z) × (o ≡ c)) ⊎ ((x ≢ c) × (x ≢ z) × (o ≡ x)))
+          → (((y ≡ c) × (u ≡ z)) ⊎ ((y ≡ z) × (u ≡ c)) ⊎ ((y ≢ c) × (y ≢ z) × (u ≡ y))) → x ≡ y
       same x y o u e p q = omega arith
 
 abbrev arranged : List ℕ → List ℕ → List ℕ → List ℕ
@@ -57,10 +60,13 @@ arranged b (t ∷ ts) [] = b
 arranged b (t ∷ ts) (c ∷ cs) = arranged (exchanged b (cell_of t b) c) ts cs
 
 module _ (n : ℕ) where
-  IsBoardOf-arranged : (ts cs b : List ℕ) → IsBoardOf n b → AllByRecursion (λ t. t < n * n) ts → AllByRecursion (λ c. c < n * n) cs → IsBoardOf n (arranged b ts cs)
+  IsBoardOf-arranged : (ts cs b : List ℕ) → IsBoardOf n b → AllByRecursion (λ t. t < n * n) ts → AllByRecursion (λ c. c < n * n) cs
+      → IsBoardOf n (arranged b ts cs)
   IsBoardOf-arranged [] cs b good tiles cells = good
   IsBoardOf-arranged (t ∷ ts) [] b good tiles cells = good
-  IsBoardOf-arranged (t ∷ ts) (c ∷ cs) b good tiles cells = IsBoardOf-arranged ts cs (exchanged b (cell_of t b) c) (IsBoardOf-exchanged n b good (cell_of t b) (cell_of-below n b good t tiles.0) c cells.0) tiles.1 cells.1
+  IsBoardOf-arranged (t ∷ ts) (c ∷ cs) b good tiles cells =
+      IsBoardOf-arranged ts cs (exchanged b (cell_of t b) c)
+      (IsBoardOf-exchanged n b good (cell_of t b) (cell_of-below n b good t tiles.0) c cells.0) tiles.1 cells.1
 
   -- a tile that is not arranged, in a cell that is not wanted, stays
   stays : (ts cs b : List ℕ) → IsBoardOf n b → AllByRecursion (λ t. t < n * n) ts → AllByRecursion (λ c. c < n * n) cs
@@ -77,10 +83,12 @@ module _ (n : ℕ) where
       let not_c : y ≢ c = λ e. eqb-false c y a.0 (sym e) in
       let not_z : y ≢ z = λ e. eqb-false t x o.0 (sym (at-cell_of n b good t tiles.0) ∙ ap (at b) (sym e) ∙ at-cell_of n b good x l) in
       let once : IsBoardOf n (exchanged b z c) = IsBoardOf-exchanged n b good z z_in c cells.0 in
-      let here : cell_of x (exchanged b z c) ≡ y = cell_of-is n (exchanged b z c) once x y y_in (at-exchanged_other n b good z z_in c cells.0 y not_c not_z ∙ at-cell_of n b good x l) in
+      let here : cell_of x (exchanged b z c) ≡ y = cell_of-is n (exchanged b z c) once x y y_in
+      (at-exchanged_other n b good z z_in c cells.0 y not_c not_z ∙ at-cell_of n b good x l) in
       stays ts cs (exchanged b z c) once tiles.1 cells.1 x l o.1 (ap (has cs) here ∙ a.1) ∙ here
 
-  placed : (ts cs b : List ℕ) → IsBoardOf n b → AllByRecursion (λ t. t < n * n) ts → AllByRecursion (λ c. c < n * n) cs → IsApart ts → IsApart cs → length ts ≡ length cs
+  placed : (ts cs b : List ℕ) → IsBoardOf n b → AllByRecursion (λ t. t < n * n) ts → AllByRecursion (λ c. c < n * n) cs → IsApart ts → IsApart cs
+      → length ts ≡ length cs
       → placement_of ts (arranged b ts cs) ≡ cs
   placed [] [] b good tiles cells apart_t apart_c e = refl
   placed [] (c ∷ cs) b good tiles cells apart_t apart_c e = absurd (omega arith)
@@ -89,7 +97,8 @@ module _ (n : ℕ) where
       let z : ℕ = cell_of t b in
       let z_in : z < n * n = cell_of-below n b good t tiles.0 in
       let once : IsBoardOf n (exchanged b z c) = IsBoardOf-exchanged n b good z z_in c cells.0 in
-      let here : cell_of t (exchanged b z c) ≡ c = cell_of-is n (exchanged b z c) once t c cells.0 (at-exchanged_there n b good z z_in c cells.0 ∙ at-cell_of n b good t tiles.0) in
+      let here : cell_of t (exchanged b z c) ≡ c = cell_of-is n (exchanged b z c) once t c cells.0
+      (at-exchanged_there n b good z z_in c cells.0 ∙ at-cell_of n b good t tiles.0) in
       ap₂ (λ x xs. x ∷ xs)
       (stays ts cs (exchanged b z c) once tiles.1 cells.1 t tiles.0 apart_t.0 (ap (has cs) here ∙ apart_c.0) ∙ here)
       (placed ts cs (exchanged b z c) once tiles.1 cells.1 apart_t.1 apart_c.1 (omega arith))
@@ -99,7 +108,8 @@ module _ (n : ℕ) where
 get-range : (first count c : ℕ) → c < count → at (range_with_len first count) c ≡ first + c
 get-range first zero c l = absurd (omega arith)
 get-range first (suc count) zero l = omega arith
-get-range first (suc count) (suc c) l = let e : at (range_with_len (first + 1) count) c ≡ first + 1 + c = get-range (first + 1) count c (omega arith) in omega arith
+get-range first (suc count) (suc c) l = let e : at (range_with_len (first + 1) count) c ≡ first + 1 + c =
+    get-range (first + 1) count c (omega arith) in omega arith
 
 IsBoardOf-goal : (n : ℕ) → 2 ≤ n → n ≤ 5 → IsBoardOf n (range_with_len 0 (n * n))
 IsBoardOf-goal n low high = record {
@@ -114,6 +124,7 @@ tiles_below : (n : ℕ) (ts : List ℕ) → AllByRecursion (λ t. (0 < t) × (t 
 tiles_below n [] all = tt
 tiles_below n (t ∷ ts) all = (all.0.1, tiles_below n ts all.1)
 
+-- among numbers that are all greater than 0, as tiles are, there is no blank
 pub no_blank : (n : ℕ) (ts : List ℕ) → AllByRecursion (λ t. (0 < t) × (t < n * n)) ts → has ts 0 ≡ false
 no_blank n [] all = refl
 no_blank n (t ∷ ts) all = let big : 0 < t = all.0.0 in or_from (eqb t 0) (has ts 0) (ne_eqb t 0 (λ e. omega arith)) (no_blank n ts all.1)

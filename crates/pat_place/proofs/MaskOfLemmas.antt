@@ -31,7 +31,8 @@ mask_of-filter m (suc n) a = go (mask_of-filter m n (a + 1)) (cases_eq (bit_at m
         mod-pow-add (m / 2 ^ a) n 1 ∙
         ap (λ q. q % 2 ^ n * 2 + bit_at m a) (shr-shr m a 1)
 
-    go : mask_of rest ≡ quotient * 2 ^ (a + 1) → (bit_at m a ≡ 1) ⊎ (bit_at m a ≡ 1 → ⊥) → mask_of (cond (has_bit m a) (a ∷ rest) rest) ≡ (m / 2 ^ a % 2 ^ suc n) * 2 ^ a
+    go : mask_of rest ≡ quotient * 2 ^ (a + 1) → (bit_at m a ≡ 1) ⊎ (bit_at m a ≡ 1 → ⊥)
+        → mask_of (cond (has_bit m a) (a ∷ rest) rest) ≡ (m / 2 ^ a % 2 ^ suc n) * 2 ^ a
     go ih (inl e) =
         ap mask_of (cond-true (has_bit m a) (a ∷ rest) rest (eq-eqb (bit_at m a) 1 e)) ∙
         ap (λ s. 2 ^ a + s) (ih ∙ ap (λ p. quotient * p) (pow-add 2 a 1)) ∙

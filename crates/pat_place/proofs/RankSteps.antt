@@ -1,5 +1,7 @@
 -- A rank made cell by cell, and a placement made cell by cell from its rank.
-use Rattle.std.proofs.Common.{◌≡◌, ◌≢◌, ℕ, suc, ◌+◌, ◌-◌, ◌*◌, ◌/◌, ◌%◌, ◌^◌, ◌<◌, ◌≤◌, List, [], ◌∷◌, ◌++◌, length, take, drop, get_or, set, replicate, Some, inl, inr, refl, sym, ◌∙◌, ap, ap₂, subst, arith, append_assoc, lit<, zero-mul, mul-zero, mul_comm, mod-eq_of_lt}
+use Rattle.std.proofs.Common.{◌≡◌, ◌≢◌, ℕ, suc, ◌+◌, ◌-◌, ◌*◌, ◌/◌, ◌%◌, ◌^◌, ◌<◌, ◌≤◌, List, [], ◌∷◌, ◌++◌, length, take, drop, get_or, set}
+use Rattle.std.proofs.Common.{replicate, Some, inl, inr, refl, sym, ◌∙◌, ap, ap₂, subst, arith, append_assoc, lit<, zero-mul, mul-zero, mul_comm}
+use Rattle.std.proofs.Common.{mod-eq_of_lt}
 use Rattle.std.specs.Prelude.{slice_get, count_ones}
 use Rattle.std.specs.Int.{bit_at}
 use Rattle.std.specs.List.{AllByRecursion, range_with_len}
@@ -13,7 +15,8 @@ use Rattle.puz_board.proofs.OnesLemmas.{ones_below-mono, ones_below-suc}
 use Rattle.pat_place.specs.Placements.{IsApart}
 use Rattle.pat_place.specs.Ranks.{lists_of, falling_factorial}
 use Rattle.pat_place.proofs.ListLemmas.{apart_from_ascending, ascending-range, apart_at, all_at}
-use Rattle.pat_place.proofs.MaskLemmas.{get-numbers_below, numbers_below-clear, ascending-numbers_below, length-numbers_below, numbers_below-full, has-numbers_below}
+use Rattle.pat_place.proofs.MaskLemmas.{get-numbers_below, numbers_below-clear, ascending-numbers_below, length-numbers_below, numbers_below-full}
+use Rattle.pat_place.proofs.MaskLemmas.{has-numbers_below}
 use Rattle.pat_place.proofs.RankLemmas.{rank_step, length-without, length_lists}
 use Rattle.std.proofs.lemmas.List.FromFn.{length-range_with_len}
 
@@ -21,15 +24,18 @@ regroup : (rank room block place r : ℕ) → rank * (room * block) + (place * b
 regroup rank room block place r = omega arith
 
 -- one cell more of a list of free cells
-pub step : (m free next c : ℕ) → c < 32 → bit_at free c ≡ 1 → bit_at next c ≡ 0 → ((x : ℕ) → x < 32 → x ≢ c → bit_at next x ≡ bit_at free x) → (r : ℕ) (q : List ℕ)
-    → slice_get (lists_of m (numbers_of next)) r ≡ Some q → slice_get (lists_of (suc m) (numbers_of free)) (ones_below free c * falling_factorial (length (numbers_of free) - 1) m + r) ≡ Some (c ∷ q)
+pub step : (m free next c : ℕ) → c < 32 → bit_at free c ≡ 1 → bit_at next c ≡ 0 → ((x : ℕ) → x < 32 → x ≢ c → bit_at next x ≡ bit_at free x)
+    → (r : ℕ) (q : List ℕ)
+    → slice_get (lists_of m (numbers_of next)) r ≡ Some q
+    → slice_get (lists_of (suc m) (numbers_of free)) (ones_below free c * falling_factorial (length (numbers_of free) - 1) m + r) ≡ Some (c ∷ q)
 step m free next c below here clear same r q e =
     rank_step m (numbers_of free) (apart_from_ascending (numbers_of free) (ascending-numbers_below 32 free)) (ones_below free c) c r q
     (get-numbers_below 32 free c here below)
     (ap (λ cs. slice_get (lists_of m cs) r) (sym (numbers_below-clear 32 free next c clear same)) ∙ e)
 
 -- one cell fewer is free
-pub count-clear : (free next c : ℕ) → c < 32 → bit_at free c ≡ 1 → bit_at next c ≡ 0 → ((x : ℕ) → x < 32 → x ≢ c → bit_at next x ≡ bit_at free x) → suc (length (numbers_of next)) ≡ length (numbers_of free)
+pub count-clear : (free next c : ℕ) → c < 32 → bit_at free c ≡ 1 → bit_at next c ≡ 0 → ((x : ℕ) → x < 32 → x ≢ c → bit_at next x ≡ bit_at free x)
+    → suc (length (numbers_of next)) ≡ length (numbers_of free)
 count-clear free next c below here clear same =
     ap (λ cs. suc (length cs)) (numbers_below-clear 32 free next c clear same) ∙
     length-without c (numbers_of free) (apart_from_ascending (numbers_of free) (ascending-numbers_below 32 free)) (has-numbers_below 32 free c below here)
@@ -48,6 +54,7 @@ pub record IsRanking (cells : List ℕ) (count i free room rank : ℕ) : Type 0 
   pub whole : (r : ℕ) → slice_get (lists_of (length cells - i) (numbers_of free)) r ≡ Some (drop i cells)
       → slice_get (lists_of (length cells) (range_with_len 0 count)) (rank * falling_factorial room (length cells - i) + r) ≡ Some cells
 
+-- before a cell is ranked, all cells are free, and the rank is 0
 pub IsRanking-start : (cells : List ℕ) (count : ℕ) → count ≤ 25 → AllByRecursion (λ c. c < count) cells → IsRanking cells count 0 (2 ^ count - 1) count 0
 IsRanking-start cells count few inside = record {
   left = omega arith;
@@ -58,7 +65,8 @@ IsRanking-start cells count few inside = record {
   inside = (λ j l. let k = all_at cells j inside l in omega arith);
   coming = (λ j low l. bit_at_ones count (get_or cells j 0) (all_at cells j inside l));
   whole = (λ r e.
-      ap (slice_get (lists_of (length cells) (range_with_len 0 count))) (let z = zero-mul (falling_factorial count (length cells - 0)) in let q : 0 * falling_factorial count (length cells - 0) + r ≡ r = omega arith in q) ∙
+      ap (slice_get (lists_of (length cells) (range_with_len 0 count))) (let z = zero-mul (falling_factorial count (length cells - 0)) in
+      let q : 0 * falling_factorial count (length cells - 0) + r ≡ r = omega arith in q) ∙
       ap (λ cs. slice_get (lists_of (length cells) cs) r) (sym full) ∙
       ap (λ k. slice_get (lists_of k (numbers_of (2 ^ count - 1))) r) (let q : length cells ≡ length cells - 0 = omega arith in q) ∙
       e);
@@ -82,25 +90,34 @@ module _ (cells : List ℕ) (apart : IsApart cells) (count i free room rank : �
       let place = place_fits free (get_or cells i 0) h.bits (h.inside i here) (h.coming i (omega arith) here) in
       let e = h.free_count in
       let few : room ≤ 25 = let a = h.left in let b = h.few in omega arith in
-      let low : rank + 1 ≤ 25 ^ i = let f = h.fits in omega arith in
-      (omega arith, let f = mul-le (rank + 1) room (25 ^ i) 25 low few in let g : 25 ^ (i + 1) ≡ 25 ^ i * 25 = ap (λ k. 25 ^ k) (let e : i + 1 ≡ suc i = omega arith in e) ∙ pow-suc 25 i in let q : (rank + 1) * room ≡ rank * room + room = omega arith in omega arith)
+      let low : rank + 1 ≤ 25 ^ i = let f = h.fits in omega arith in (
+        omega arith,
+        let f = mul-le (rank + 1) room (25 ^ i) 25 low few in
+            let g : 25 ^ (i + 1) ≡ 25 ^ i * 25 = ap (λ k. 25 ^ k) (let e : i + 1 ≡ suc i = omega arith in e) ∙ pow-suc 25 i in
+            let q : (rank + 1) * room ≡ rank * room + room = omega arith in omega arith,
+      )
 
+  -- while one of at most 8 cells isn't ranked, there is room, and the next rank is below 25^8
   pub IsRanking-fits : length cells ≤ 8 → (0 < room) × (rank * room + ones_below free (get_or cells i 0) < 25 ^ 8)
   IsRanking-fits few =
       let next = IsRanking-room.1 in
       let more : 25 ^ (i + 1) ≤ 25 ^ 8 = pow-le-pow_right (lit< tt) (let l : i + 1 ≤ 8 = omega arith in l) in
       (IsRanking-room.0, omega arith)
 
-  pub IsRanking-more : (next : ℕ) → next < 2 ^ 32 → bit_at next (get_or cells i 0) ≡ 0 → ((x : ℕ) → x < 32 → x ≢ get_or cells i 0 → bit_at next x ≡ bit_at free x)
+  -- the next rank is the rank times the room, and the free cells below the next cell, which is taken
+  pub IsRanking-more : (next : ℕ) → next < 2 ^ 32 → bit_at next (get_or cells i 0) ≡ 0
+      → ((x : ℕ) → x < 32 → x ≢ get_or cells i 0 → bit_at next x ≡ bit_at free x)
       → IsRanking cells count (i + 1) next (room - 1) (rank * room + ones_below free (get_or cells i 0))
   IsRanking-more next bits clear same = record {
     left = (let l = h.left in let r = IsRanking-room.0 in omega arith);
     few = h.few;
     bits = bits;
-    free_count = (let e = count-clear free next (get_or cells i 0) (h.inside i here) (h.coming i (omega arith) here) clear same in let f = h.free_count in omega arith);
+    free_count = (let e = count-clear free next (get_or cells i 0) (h.inside i here) (h.coming i (omega arith) here) clear same in
+        let f = h.free_count in omega arith);
     fits = IsRanking-room.1;
     inside = h.inside;
-    coming = (λ j low l. same (get_or cells j 0) (h.inside j l) (λ e. let z : j ≡ i = apart_at cells apart j i l here e in omega arith) ∙ h.coming j (omega arith) l);
+    coming = (λ j low l. same (get_or cells j 0) (h.inside j l) (λ e. let z : j ≡ i = apart_at cells apart j i l here e in omega arith)
+        ∙ h.coming j (omega arith) l);
     whole = (λ r e.
         let m : length cells - i ≡ suc (length cells - (i + 1)) = omega arith in
         let one = h.coming i (omega arith) here in
@@ -112,15 +129,19 @@ module _ (cells : List ℕ) (apart : IsApart cells) (count i free room rank : �
         ap (λ k. rank * falling_factorial room k + (ones_below free (get_or cells i 0) * falling_factorial (room - 1) (length cells - (i + 1)) + r)) (sym m)) ∙
         h.whole (ones_below free (get_or cells i 0) * falling_factorial (room - 1) (length cells - (i + 1)) + r) (
         ap (λ k. slice_get (lists_of k (numbers_of free)) (ones_below free (get_or cells i 0) * falling_factorial (room - 1) (length cells - (i + 1)) + r)) m ∙
-        ap (λ k. slice_get (lists_of (suc (length cells - (i + 1))) (numbers_of free)) (ones_below free (get_or cells i 0) * falling_factorial (k - 1) (length cells - (i + 1)) + r)) (sym room_is) ∙
+        ap (λ k. slice_get (lists_of (suc (length cells - (i + 1))) (numbers_of free))
+        (ones_below free (get_or cells i 0) * falling_factorial (k - 1) (length cells - (i + 1)) + r)) (sym room_is) ∙
         found ∙
         ap Some (sym (drop_more cells i 0 here))));
   }
 
-pub IsRanking-all : (cells : List ℕ) (count i free room rank : ℕ) → IsRanking cells count i free room rank → length cells ≤ i → i ≤ length cells → slice_get (lists_of (length cells) (range_with_len 0 count)) rank ≡ Some cells
+-- once all cells are ranked, the rank is their list's place among all lists
+pub IsRanking-all : (cells : List ℕ) (count i free room rank : ℕ) → IsRanking cells count i free room rank → length cells ≤ i → i ≤ length cells
+    → slice_get (lists_of (length cells) (range_with_len 0 count)) rank ≡ Some cells
 IsRanking-all cells count i free room rank h low high =
     let none : length cells - i ≡ 0 = omega arith in
-    ap (slice_get (lists_of (length cells) (range_with_len 0 count))) ((let e : rank ≡ rank * 1 + 0 = omega arith in e) ∙ ap (λ k. rank * falling_factorial room k + 0) (sym none)) ∙
+    ap (slice_get (lists_of (length cells) (range_with_len 0 count)))
+    ((let e : rank ≡ rank * 1 + 0 = omega arith in e) ∙ ap (λ k. rank * falling_factorial room k + 0) (sym none)) ∙
     h.whole 0 (ap (λ k. slice_get (lists_of k (numbers_of free)) 0) none ∙ ap Some (sym (drop_all i cells low)))
 
 -- ---- a placement
@@ -140,7 +161,9 @@ pub record IsUnranking (size count rank : ℕ) (cells : List ℕ) (i free block 
   pub whole : (q : List ℕ) → slice_get (lists_of (size - i) (numbers_of free)) rest ≡ Some q
       → slice_get (lists_of size (range_with_len 0 count)) rank ≡ Some (take i cells ++ q)
 
-pub IsUnranking-start : (size count rank ranks : ℕ) → count ≤ 25 → size ≤ 8 → size ≤ count → ranks ≡ length (lists_of size (range_with_len 0 count)) → rank < ranks
+-- before a cell is put down, all cells are free, the block is all ranks, and the whole rank is left
+pub IsUnranking-start : (size count rank ranks : ℕ) → count ≤ 25 → size ≤ 8 → size ≤ count → ranks ≡ length (lists_of size (range_with_len 0 count))
+    → rank < ranks
     → IsUnranking size count rank (replicate 8 0) 0 (2 ^ count - 1) ranks rank
 IsUnranking-start size count rank ranks small few room is below = record {
   small = small;
@@ -149,17 +172,20 @@ IsUnranking-start size count rank ranks small few room is below = record {
   upto = omega arith;
   bits = (let up : 2 ^ count ≤ 2 ^ 31 = pow-le-pow_right (lit< tt) (let l : count ≤ 31 = omega arith in l) in omega arith);
   free_count = (let e : length (numbers_of (2 ^ count - 1)) ≡ count = ap length full ∙ length-range_with_len 0 count in omega arith);
-  block_is = is ∙ length_lists size (range_with_len 0 count) (apart_from_ascending (range_with_len 0 count) (ascending-range 0 count)) ∙ ap₂ falling_factorial (length-range_with_len 0 count ∙ (let e : count ≡ count - 0 = omega arith in e)) (let e : size ≡ size - 0 = omega arith in e);
+  block_is = is ∙ length_lists size (range_with_len 0 count) (apart_from_ascending (range_with_len 0 count) (ascending-range 0 count))
+      ∙ ap₂ falling_factorial (length-range_with_len 0 count ∙ (let e : count ≡ count - 0 = omega arith in e)) (let e : size ≡ size - 0 = omega arith in e);
   less = below;
   long = refl;
   zeros = refl;
-  whole = (λ q e. ap (λ cs. slice_get (lists_of size cs) rank) (sym full) ∙ ap (λ k. slice_get (lists_of k (numbers_of (2 ^ count - 1))) rank) (let e : size ≡ size - 0 = omega arith in e) ∙ e);
+  whole = (λ q e. ap (λ cs. slice_get (lists_of size cs) rank) (sym full)
+      ∙ ap (λ k. slice_get (lists_of k (numbers_of (2 ^ count - 1))) rank) (let e : size ≡ size - 0 = omega arith in e) ∙ e);
 }
   where
     full : numbers_of (2 ^ count - 1) ≡ range_with_len 0 count
     full = numbers_below-full 32 count (omega arith)
 
 module _ (size count rank : ℕ) (cells : List ℕ) (i free block rest : ℕ) (h : IsUnranking size count rank cells i free block rest) (here : i < size) where
+  -- while a cell is to be put down, some cell is free
   pub IsUnranking-cells : 0 < count - i
   IsUnranking-cells = let r = h.room in omega arith
 
@@ -173,8 +199,10 @@ module _ (size count rank : ℕ) (cells : List ℕ) (i free block rest : ℕ) (h
   quotient = ap (λ x. x / (count - i)) product ∙ div-mul-add (falling_factorial (count - i - 1) (size - (i + 1))) (count - i) 0 IsUnranking-cells
 
   divides : block ≡ (count - i) * (block / (count - i))
-  divides = product ∙ (let e = mul_comm (falling_factorial (count - i - 1) (size - (i + 1))) (count - i) in omega arith) ∙ ap (λ x. (count - i) * x) (sym quotient)
+  divides = product ∙ (let e = mul_comm (falling_factorial (count - i - 1) (size - (i + 1))) (count - i) in omega arith)
+      ∙ ap (λ x. (count - i) * x) (sym quotient)
 
+  -- while a cell is to be put down, the block divided by the number of free cells is not 0
   pub IsUnranking-block : 0 < block / (count - i)
   IsUnranking-block = elim (cases_eq (block / (count - i)) 0) [
     | inl e ↦ absurd (let l = h.less in let z : block ≡ 0 = divides ∙ ap (λ x. (count - i) * x) e ∙ mul-zero (count - i) in omega arith)
@@ -185,11 +213,15 @@ module _ (size count rank : ℕ) (cells : List ℕ) (i free block rest : ℕ) (h
   pub IsUnranking-place : rest / (block / (count - i)) < count - i
   IsUnranking-place = div_below rest (block / (count - i)) (count - i) IsUnranking-block (let l = h.less in let e = divides in omega arith)
 
+  -- what is left of the rank, divided by the smaller block, is the place of a free cell
   pub IsUnranking-free : rest / (block / (count - i)) < count_ones free
   IsUnranking-free = let l = IsUnranking-place in let e = length-numbers_below 32 free h.bits in let f = h.free_count in omega arith
 
-  pub IsUnranking-more : (cell next : ℕ) → cell < 32 → bit_at free cell ≡ 1 → ones_below free cell ≡ rest / (block / (count - i)) → next < 2 ^ 32 → bit_at next cell ≡ 0
-      → ((x : ℕ) → x < 32 → x ≢ cell → bit_at next x ≡ bit_at free x) → IsUnranking size count rank (set cells i cell) (i + 1) next (block / (count - i)) (rest % (block / (count - i)))
+  -- the free cell at that place is put down, and the remainder is what is left of the rank
+  pub IsUnranking-more : (cell next : ℕ) → cell < 32 → bit_at free cell ≡ 1 → ones_below free cell ≡ rest / (block / (count - i)) → next < 2 ^ 32
+      → bit_at next cell ≡ 0
+      → ((x : ℕ) → x < 32 → x ≢ cell → bit_at next x ≡ bit_at free x)
+      → IsUnranking size count rank (set cells i cell) (i + 1) next (block / (count - i)) (rest % (block / (count - i)))
   IsUnranking-more cell next below one place bits clear same = record {
     small = h.small;
     few = h.few;
@@ -220,6 +252,7 @@ module _ (size count rank : ℕ) (cells : List ℕ) (i free block rest : ℕ) (h
         ap Some (sym (append_assoc (take i cells) (cell ∷ []) q) ∙ ap (λ xs. xs ++ q) (sym (take_more_set cells i cell inside))));
   }
 
+-- once all cells are put down, they are the list of the rank, and zeros are behind them
 pub IsUnranking-all : (size count rank : ℕ) (cells : List ℕ) (i free block rest : ℕ) → IsUnranking size count rank cells i free block rest → size ≤ i
     → (slice_get (lists_of size (range_with_len 0 count)) rank ≡ Some (take size cells)) × (drop size cells ≡ replicate (8 - size) 0)
 IsUnranking-all size count rank cells i free block rest h l =

@@ -23,9 +23,11 @@ module _ (p : ShownPattern) (pat : IsPattern p) (set : ℕ) (bits : set < 2 ^ (p
   counted : length (numbers_of set) ≡ count_ones set
   counted = length-numbers_below 32 set fits
 
+  -- a set of as many cells as a pattern has tiles lists at most 8 of them
   pub few_numbers : length (numbers_of set) ≤ 8
   few_numbers = let c = counted in let few = few_tiles p pat in omega arith
 
+  -- the cells of a set of a pattern's size, ascending, are a placement of the pattern
   pub placement_of_set : IsPlacement (record { pattern = p; cells = numbers_of set })
   placement_of_set = record {
     size = counted ∙ size;
@@ -33,6 +35,7 @@ module _ (p : ShownPattern) (pat : IsPattern p) (set : ℕ) (bits : set < 2 ^ (p
     apart = apart_from_ascending (numbers_of set) (ascending-numbers_below 32 set);
   }
 
+  -- a set is the mask of the cells that are listed from it
   pub set_of_numbers : IsMaskOf set (λ c. has (numbers_of set) c ≡ true)
   set_of_numbers x = (λ h. has-numbers_below 32 set x (in_below set 32 x fits h) h, λ h. (in_numbers_below 32 set x h).1)
 
@@ -42,6 +45,7 @@ module _ (p : ShownPattern) (pat : IsPattern p) (set : ℕ) (bits : set < 2 ^ (p
 abbrev pub SameCells : List ℕ → List ℕ → Type 0
 SameCells p q = (x : ℕ) → has p x ≡ has q x
 
+-- a list has the cells of another where the other has its cells
 pub same_back : (p q : List ℕ) → SameCells p q → SameCells q p
 same_back p q same x = sym (same x)
 
@@ -55,6 +59,7 @@ same_of_mask mask p q is also x = elim (cases_Bool (has p x)) [
   ]
 ]
 
+-- a cell that is free by one list of cells is free by any list of the same cells
 pub free_same : (n : ℕ) (p q : List ℕ) → SameCells p q → (c : ℕ) → IsFree n p c → IsFree n q c
 free_same n p q same c free = (free.0, sym (same c) ∙ free.1)
 
@@ -71,6 +76,7 @@ count_of_same A B to back (suc m) j a = elim a [
   | inr x ↦ inr (λ b. x.0 (back m b), count_of_same A B to back m j x.1)
 ]
 
+-- a cell's slot by one list of cells is its slot by any list of the same cells
 pub slot_same : (n : ℕ) (p q : List ℕ) → SameCells p q → (c j : ℕ) → IsSlot n p c j → IsSlot n q c j
 slot_same n p q same c j s = record {
   free = free_same n p q same c s.free;

@@ -24,7 +24,8 @@ module _ (n : ℕ) (b : List ℕ) (good : IsBoardOf n b) (c : ℕ) (inside : c <
       let e = at-cell_of n b good t l in
       let ne : cell_of t b ≢ c = λ w. q (sym e ∙ ap (at b) w) in
       let nz : cell_of t b ≢ blank b = λ w. p (sym e ∙ ap (at b) w ∙ at_blank n b good c inside) in
-      cell_of-is n (slid b c) (IsBoardOf-slid n b good c inside) t (cell_of t b) (cell_of-below n b good t l) (at-slid_other n b good c inside (cell_of t b) ne nz ∙ e)
+      cell_of-is n (slid b c) (IsBoardOf-slid n b good c inside) t (cell_of t b) (cell_of-below n b good t l)
+      (at-slid_other n b good c inside (cell_of t b) ne nz ∙ e)
 
 -- ---- the cells of several tiles
 
@@ -50,7 +51,8 @@ module _ (n : ℕ) (b : List ℕ) (good : IsBoardOf n b) (c : ℕ) (inside : c <
       → placement_of ts (slid b c) ≡ set (placement_of ts b) i (blank b)
   placement_of-slid_tile [] all apart ne i l e = absurd (omega arith)
   placement_of-slid_tile (t ∷ ts) all apart ne zero l e =
-      ap₂ (λ x xs. x ∷ xs) (ap (λ x. cell_of x (slid b c)) e ∙ cell_of-slid_moved n b good c inside ne) (placement_of-slid_other ts all.1 (ap (has ts) (sym e) ∙ apart.0))
+      ap₂ (λ x xs. x ∷ xs) (ap (λ x. cell_of x (slid b c)) e ∙ cell_of-slid_moved n b good c inside ne)
+      (placement_of-slid_other ts all.1 (ap (has ts) (sym e) ∙ apart.0))
   placement_of-slid_tile (t ∷ ts) all apart ne (suc i) l e =
       let big : 0 < t = all.0.0 in
       let q : t ≢ 0 = omega arith in
@@ -59,11 +61,13 @@ module _ (n : ℕ) (b : List ℕ) (good : IsBoardOf n b) (c : ℕ) (inside : c <
 
 -- ---- the cells of a placement hold the tiles
 
+-- the cell at a place of a board's placement is that of the tile at this place
 pub get-placement_of : (ts b : List ℕ) (i : ℕ) → i < length ts → get_or (placement_of ts b) i 0 ≡ cell_of (get_or ts i 0) b
 get-placement_of [] b i l = absurd (omega arith)
 get-placement_of (t ∷ ts) b zero l = refl
 get-placement_of (t ∷ ts) b (suc i) l = get-placement_of ts b i (omega arith)
 
+-- the tile at a place of a pattern is above 0 and below the count of cells
 pub tile_at : (n : ℕ) (ts : List ℕ) (i : ℕ) → AreTiles n ts → i < length ts → (0 < get_or ts i 0) × (get_or ts i 0 < n * n)
 tile_at n [] i all l = absurd (omega arith)
 tile_at n (t ∷ ts) zero all l = all.0
@@ -103,12 +107,15 @@ module _ (n : ℕ) (ts : List ℕ) (all : AreTiles n ts) (b : List ℕ) (good : 
 
 -- ---- a step of a tile of the pattern
 
-pub MovesOneTile-slid : (p : ShownPattern) → IsPattern p → (b : List ℕ) → IsBoardOf p.side b → (c : ℕ) → Adjacent p.side (blank b) c → has p.tiles (at b c) ≡ true → MovesOneTile p b c
+-- where the blank goes to a tile of the pattern, this tile alone moves, to where the blank was
+pub MovesOneTile-slid : (p : ShownPattern) → IsPattern p → (b : List ℕ) → IsBoardOf p.side b → (c : ℕ) → Adjacent p.side (blank b) c
+    → has p.tiles (at b c) ≡ true → MovesOneTile p b c
 MovesOneTile-slid p pat b good c near h =
     let i = at-has p.tiles (at b c) h in
     record {
       index = i.0;
       is_index = i.1;
       from = get-placement_of p.tiles b i.0 i.1 ∙ ap (λ t. cell_of t b) i.2 ∙ cell_of-content p.side b good c near.0;
-      to = placement_of-slid_tile p.side b good c near.0 p.tiles pat.tiles (apart_from_ascending p.tiles pat.ascending) (Adjacent-apart p.side (blank b) c pat.low near) i.0 i.1 i.2;
+      to = placement_of-slid_tile p.side b good c near.0 p.tiles pat.tiles (apart_from_ascending p.tiles pat.ascending)
+          (Adjacent-apart p.side (blank b) c pat.low near) i.0 i.1 i.2;
     }

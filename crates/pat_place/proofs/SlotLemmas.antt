@@ -19,6 +19,7 @@ least_below Q dec (suc m) = elim (least_below Q dec m) [
 -- ---- counting
 
 module _ (Q : ℕ → Type 0) where
+  -- the numbers below m that have a property have one count alone
   pub count_one : (m i j : ℕ) → IsCount Q m i → IsCount Q m j → i ≡ j
   count_one zero i j a b = a ∙ sym b
   count_one (suc m) i j a b = elim a [
@@ -26,6 +27,7 @@ module _ (Q : ℕ → Type 0) where
     | inr x ↦ elim b [ inl y ↦ absurd (x.0 y.0) | inr y ↦ count_one m i j x.1 y.1 ]
   ]
 
+  -- where it is decided which numbers have a property, those below m have a count
   pub count_of : ((k : ℕ) → Decided (Q k)) → (m : ℕ) → (j : ℕ) × IsCount Q m j
   count_of dec zero = (0, refl)
   count_of dec (suc m) = let r = count_of dec m in elim (dec m) [ inl q ↦ (suc r.0, inl (q, r.0, refl, r.1)) | inr none ↦ (r.0, inr (none, r.1)) ]
@@ -36,11 +38,13 @@ module _ (Q : ℕ → Type 0) where
   count_place (suc m) j i a l = elim a [
     | inl x ↦ elim (cases_eq i x.1) [
       | inl e ↦ (m, omega arith, x.0, subst (λ y. IsCount Q m y) (sym e) x.3)
-      | inr ne ↦ let less : i < x.1 = (let e : j ≡ suc x.1 = x.2 in omega arith) in let r = count_place m x.1 i x.3 less in (r.0, let w : r.0 < m = r.1 in omega arith, r.2, r.3)
+      | inr ne ↦ let less : i < x.1 = (let e : j ≡ suc x.1 = x.2 in omega arith) in let r = count_place m x.1 i x.3 less in
+          (r.0, let w : r.0 < m = r.1 in omega arith, r.2, r.3)
     ]
     | inr x ↦ let r = count_place m j i x.1 l in (r.0, let w : r.0 < m = r.1 in omega arith, r.2, r.3)
   ]
 
+  -- below a number with the property are fewer of them than below any greater number
   pub count_grows : (x m i j : ℕ) → Q x → x < m → IsCount Q x i → IsCount Q m j → i < j
   count_grows x zero i j q l a b = absurd (omega arith)
   count_grows x (suc m) i j q l a b = elim b [
@@ -67,18 +71,21 @@ module _ (Q : ℕ → Type 0) where
 -- ---- leaders
 
 module _ (n : ℕ) (low : 2 ≤ n) (high : n ≤ 5) (p : List ℕ) where
+  -- each free cell is joined to a least cell of its region
   pub leader_of : (c : ℕ) → IsFree n p c → (l : ℕ) × Joins n p c l × IsLeader n p l
   leader_of c free = elim (least_below (Joins n p c) (joins_decided n p c) (n * n)) [
     | inl h ↦ (h.0, h.2, (Joins-free n p free h.2, λ d r. h.3 d (Joins-trans n p h.2 r)))
     | inr none ↦ absurd (none c free.0 here)
   ]
 
+  -- a free cell is joined to one leader alone
   pub leader_one : (c k l : ℕ) → IsFree n p c → Joins n p c k → IsLeader n p k → Joins n p c l → IsLeader n p l → k ≡ l
   leader_one c k l free to_k is_k to_l is_l =
       let a : k ≤ l = is_k.1 l (Joins-trans n p (Joins-sym n p low high free to_k) to_l) in
       let b : l ≤ k = is_l.1 k (Joins-trans n p (Joins-sym n p low high free to_l) to_k) in
       omega arith
 
+  -- whether a cell is a leader, the least of its region, is decided
   pub leader_decided : (c : ℕ) → Decided (IsLeader n p c)
   leader_decided c = elim (free_decided n p c) [
     | inr none ↦ inr (λ l. none l.0)
@@ -88,9 +95,12 @@ module _ (n : ℕ) (low : 2 ≤ n) (high : n ≤ 5) (p : List ℕ) where
     ]
   ]
 
+  -- each free cell of a board of side 2 to 5 has a slot
   pub slot_some : (c : ℕ) → IsFree n p c → (j : ℕ) × IsSlot n p c j
-  slot_some c free = let l = leader_of c free in let j = count_of (IsLeader n p) leader_decided l.0 in (j.0, record { free = free; leader = l.0; joined = l.1; is_leader = l.2; below = j.1 })
+  slot_some c free = let l = leader_of c free in let j = count_of (IsLeader n p) leader_decided l.0 in
+      (j.0, record { free = free; leader = l.0; joined = l.1; is_leader = l.2; below = j.1 })
 
+  -- no cell has two different slots
   pub slot_one : (c i j : ℕ) → IsSlot n p c i → IsSlot n p c j → i ≡ j
   slot_one c i j a b =
       let e : a.leader ≡ b.leader = leader_one c a.leader b.leader a.free a.joined a.is_leader b.joined b.is_leader in
@@ -102,5 +112,12 @@ module _ (n : ℕ) (low : 2 ≤ n) (high : n ≤ 5) (p : List ℕ) where
       let e : a.leader ≡ b.leader = count_same (IsLeader n p) a.leader b.leader j a.is_leader b.is_leader a.below b.below in
       Joins-trans n p a.joined (subst (λ x. Joins n p x d) (sym e) (Joins-sym n p low high b.free b.joined))
 
+  -- a cell that is joined to a cell of a slot has this slot as well
   pub region_slot : (c d j : ℕ) → Joins n p c d → IsSlot n p c j → IsSlot n p d j
-  region_slot c d j r a = record { free = Joins-free n p a.free r; leader = a.leader; joined = Joins-trans n p (Joins-sym n p low high a.free r) a.joined; is_leader = a.is_leader; below = a.below }
+  region_slot c d j r a = record {
+    free = Joins-free n p a.free r;
+    leader = a.leader;
+    joined = Joins-trans n p (Joins-sym n p low high a.free r) a.joined;
+    is_leader = a.is_leader;
+    below = a.below;
+  }

@@ -1,5 +1,6 @@
 -- Regions taken one after another from the free cells, by their least cells.
-use Rattle.std.proofs.Common.{◌≡◌, ◌≢◌, ℕ, zero, suc, ◌-◌, ◌*◌, ◌^◌, ◌<◌, ◌≤◌, true, List, [], ◌∷◌, ◌++◌, length, get_or, inl, inr, refl, sym, ◌∙◌, ap, subst, arith, lit<, ◌↔◌}
+use Rattle.std.proofs.Common.{◌≡◌, ◌≢◌, ℕ, zero, suc, ◌-◌, ◌*◌, ◌^◌, ◌<◌, ◌≤◌, true, List, [], ◌∷◌, ◌++◌, length, get_or, inl, inr, refl, sym, ◌∙◌}
+use Rattle.std.proofs.Common.{ap, subst, arith, lit<, ◌↔◌}
 use Rattle.std.specs.Prelude.{bit_and}
 use Rattle.std.specs.Int.{bit_at}
 use Rattle.std.specs.List.{AllByRecursion}
@@ -20,6 +21,7 @@ use Rattle.pat_place.proofs.WidthLemmas.{slot_within}
 
 -- ---- the free cells
 
+-- all cells of the board but the occupied ones make the mask of the free cells
 pub free_is : (n occupied : ℕ) (cells : List ℕ) (count : ℕ) → count ≡ n * n → count < 32 → occupied < 2 ^ 32 → IsMaskOf occupied (λ c. has cells c ≡ true)
     → IsMaskOf (bit_and (2 ^ count - 1) (2 ^ 32 - 1 - occupied)) (IsFree n cells)
 free_is n occupied cells count e small fits is x = (
@@ -30,18 +32,22 @@ free_is n occupied cells count e small fits is x = (
       ),
   λ free.
       let inside : x < count = let l = free.0 in omega arith in
-      in_but (2 ^ count - 1) occupied x low fits (bit_at_ones count x inside) (elim (in_or_out occupied x) [ inl i ↦ absurd (both_ways (has cells x) free.1 ((is x).0 i)) | inr o ↦ o ]),
+      in_but (2 ^ count - 1) occupied x low fits (bit_at_ones count x inside)
+      (elim (in_or_out occupied x) [ inl i ↦ absurd (both_ways (has cells x) free.1 ((is x).0 i)) | inr o ↦ o ]),
 )
   where
     low : 2 ^ count - 1 < 2 ^ 32
     low = let up : 2 ^ count ≤ 2 ^ 31 = pow-le-pow_right (lit< tt) (let l : count ≤ 31 = omega arith in l) in omega arith
 
+-- what a mask has in common with all cells of the board has no bit beyond the board
 pub free_within : (n occupied count : ℕ) → count ≡ n * n → bit_and (2 ^ count - 1) occupied < 2 ^ (n * n)
-free_within n occupied count e = let l = and_le_l (2 ^ count - 1) occupied in let p = pow_pos count in let same : 2 ^ count ≡ 2 ^ (n * n) = ap (λ k. 2 ^ k) e in omega arith
+free_within n occupied count e = let l = and_le_l (2 ^ count - 1) occupied in let p = pow_pos count in
+    let same : 2 ^ count ≡ 2 ^ (n * n) = ap (λ k. 2 ^ k) e in omega arith
 
 -- ---- counts
 
 module _ (Q : ℕ → Type 0) where
+  -- where no number from m on has the property, the count below a later number is the same
   pub count_skip : (m x j : ℕ) → m ≤ x → IsCount Q m j → ((l : ℕ) → m ≤ l → l < x → ¬ Q l) → IsCount Q x j
   count_skip m zero j le a none = subst (λ y. IsCount Q y j) (let e : m ≡ 0 = omega arith in e) a
   count_skip m (suc x) j le a none = elim (cases_eq m (suc x)) [
@@ -58,6 +64,7 @@ pub record IsRest (n : ℕ) (cells : List ℕ) (rest j : ℕ) : Type 0 where
   pub bits : rest < 2 ^ 32
   pub is : (c : ℕ) → IsIn rest c ↔ (IsFree n cells c × ((l : ℕ) → Joins n cells c l → start ≤ l))
 
+-- before a region is taken, all free cells are left
 pub IsRest-start : (n : ℕ) (cells : List ℕ) (free : ℕ) → free < 2 ^ 32 → IsMaskOf free (IsFree n cells) → IsRest n cells free 0
 IsRest-start n cells free fits is = record {
   start = 0;
@@ -67,18 +74,21 @@ IsRest-start n cells free fits is = record {
   is = (λ c. (λ h. ((is c).0 h, λ l r. omega arith), λ w. (is c).1 w.0));
 }
 
+-- a path through cells of one kind is a path through cells of a kind that includes it
 pub same_paths : (n : ℕ) (A B : ℕ → Type 0) → ((x : ℕ) → A x → B x) → {c d : ℕ} → Reaches n A c d → Reaches n B c d
 same_paths n A B to here = here
 same_paths n A B to (onward {d = d} a o r) = onward a (to d o) (same_paths n A B to r)
 
 -- a region of a mask of the free cells is a region
-joins_is : (n : ℕ) (cells : List ℕ) (free region seed : ℕ) → IsMaskOf free (IsFree n cells) → IsMaskOf region (Reaches n (IsIn free) seed) → IsMaskOf region (Joins n cells seed)
+joins_is : (n : ℕ) (cells : List ℕ) (free region seed : ℕ) → IsMaskOf free (IsFree n cells) → IsMaskOf region (Reaches n (IsIn free) seed)
+    → IsMaskOf region (Joins n cells seed)
 joins_is n cells free region seed is reached x = (
   λ h. same_paths n (IsIn free) (IsFree n cells) (λ y. (is y).0) ((reached x).0 h),
   λ r. (reached x).1 (same_paths n (IsFree n cells) (IsIn free) (λ y. (is y).1) r),
 )
 
-module _ (n : ℕ) (low : 2 ≤ n) (high : n ≤ 5) (cells : List ℕ) (rest j : ℕ) (h : IsRest n cells rest j) (seed : ℕ) (set : IsIn rest seed) (lowest : (x : ℕ) → x < seed → bit_at rest x ≡ 0) where
+module _ (n : ℕ) (low : 2 ≤ n) (high : n ≤ 5) (cells : List ℕ) (rest j : ℕ) (h : IsRest n cells rest j) (seed : ℕ) (set : IsIn rest seed)
+    (lowest : (x : ℕ) → x < seed → bit_at rest x ≡ 0) where
   seed_free : IsFree n cells seed
   seed_free = ((h.is seed).0 set).0
 
@@ -92,11 +102,18 @@ module _ (n : ℕ) (low : 2 ≤ n) (high : n ≤ 5) (cells : List ℕ) (rest j :
   seed_leader = (seed_free, λ d r. at_least d (in_rest d r))
 
   seed_count : IsCount (IsLeader n cells) seed j
-  seed_count = count_skip (IsLeader n cells) h.start seed j (((h.is seed).0 set).1 seed here) h.count (λ l a b leader. let i = (h.is l).1 (leader.0, λ d r. let m = leader.1 d r in omega arith) in let c = at_least l i in omega arith)
+  seed_count = count_skip (IsLeader n cells) h.start seed j (((h.is seed).0 set).1 seed here) h.count
+      (λ l a b leader. let i = (h.is l).1 (leader.0, λ d r. let m = leader.1 d r in omega arith) in let c = at_least l i in omega arith)
 
   -- the cells of its region have slot j
   joined_slot : (c : ℕ) → Joins n cells seed c → IsSlot n cells c j
-  joined_slot c r = record { free = Joins-free n cells seed_free r; leader = seed; joined = Joins-sym n cells low high seed_free r; is_leader = seed_leader; below = seed_count }
+  joined_slot c r = record {
+    free = Joins-free n cells seed_free r;
+    leader = seed;
+    joined = Joins-sym n cells low high seed_free r;
+    is_leader = seed_leader;
+    below = seed_count;
+  }
 
   -- and no other cells have it
   slot_joined : (c : ℕ) → IsSlot n cells c j → Joins n cells seed c
@@ -107,7 +124,8 @@ module _ (n : ℕ) (low : 2 ≤ n) (high : n ≤ 5) (cells : List ℕ) (rest j :
   slot_small : AllByRecursion (λ c. c < n * n) cells → IsApart cells → j < width n (length cells)
   slot_small inside apart = slot_within n low high cells seed j inside apart (joined_slot seed here)
 
-module _ (n : ℕ) (low : 2 ≤ n) (high : n ≤ 5) (cells : List ℕ) (rest j : ℕ) (h : IsRest n cells rest j) (seed : ℕ) (set : IsIn rest seed) (lowest : (x : ℕ) → x < seed → bit_at rest x ≡ 0) (region : ℕ) (fits : region < 2 ^ 32) (is : IsMaskOf region (Joins n cells seed)) where
+module _ (n : ℕ) (low : 2 ≤ n) (high : n ≤ 5) (cells : List ℕ) (rest j : ℕ) (h : IsRest n cells rest j) (seed : ℕ) (set : IsIn rest seed)
+    (lowest : (x : ℕ) → x < seed → bit_at rest x ≡ 0) (region : ℕ) (fits : region < 2 ^ 32) (is : IsMaskOf region (Joins n cells seed)) where
   first_free : IsFree n cells seed
   first_free = seed_free n low high cells rest j h seed set lowest
 
@@ -123,7 +141,8 @@ module _ (n : ℕ) (low : 2 ≤ n) (high : n ≤ 5) (cells : List ℕ) (rest j :
           let free = ((h.is c).0 parts.0).0 in (
             free,
             λ l r.
-                let other : l ≢ seed = λ e. (let one = (is c).1 (Joins-sym n cells low high free (subst (λ x. Joins n cells c x) e r)) in let z = parts.1 in omega arith) in
+                let other : l ≢ seed = λ e. (let one = (is c).1 (Joins-sym n cells low high free (subst (λ x. Joins n cells c x) e r)) in
+                let z = parts.1 in omega arith) in
                 let in_l = (h.is l).1 (Joins-free n cells free r, λ m s. ((h.is c).0 parts.0).1 m (Joins-trans n cells r s)) in
                 let le = at_least n low high cells rest j h seed set lowest l in_l in
                 omega arith,
@@ -139,7 +158,8 @@ module _ (n : ℕ) (low : 2 ≤ n) (high : n ≤ 5) (cells : List ℕ) (rest j :
 
   rest_smaller : bit_and rest (2 ^ 32 - 1 - region) < rest
   rest_smaller = elim (cases_eq (bit_and rest (2 ^ 32 - 1 - region)) rest) [
-    | inl e ↦ absurd (let parts = but_in rest region seed h.bits fits (ap (λ m. bit_at m seed) e ∙ set) in let one = (is seed).1 here in let z = parts.1 in omega arith)
+    | inl e ↦ absurd (let parts = but_in rest region seed h.bits fits (ap (λ m. bit_at m seed) e ∙ set) in let one = (is seed).1 here in
+        let z = parts.1 in omega arith)
     | inr ne ↦ (let l = and_le_l rest (2 ^ 32 - 1 - region) in omega arith)
   ]
 
@@ -155,6 +175,7 @@ pub record IsTaken (p : ShownPlacement) (rest j region : ℕ) : Type 0 where
   pub smaller : bit_and rest (2 ^ 32 - 1 - region) < rest
   pub left : (c : ℕ) → IsIn rest c → bit_at region c ≡ 0 → IsIn (bit_and rest (2 ^ 32 - 1 - region)) c
 
+-- the region of the least cell that is left is the region of the next slot
 pub taken : (p : ShownPlacement) → IsPattern p.pattern → IsPlacement p → (rest j : ℕ) → IsRest p.pattern.side p.cells rest j
     → (side free : ℕ) → side ≡ p.pattern.side → IsMaskOf free (IsFree p.pattern.side p.cells)
     → (seed : ℕ) → IsIn rest seed → ((x : ℕ) → x < seed → bit_at rest x ≡ 0)
@@ -180,14 +201,16 @@ pub met : (p : ShownPlacement) → IsPattern p.pattern → IsPlacement p → (re
     → (c : ℕ) → Reaches side (IsIn free) seed c → IsSlot p.pattern.side p.cells c j × (j < width p.pattern.side (length p.cells))
 met p good placed rest j h side free same is seed set lowest c r =
     let n = p.pattern.side in (
-      joined_slot n good.low good.high p.cells rest j h seed set lowest c (same_paths n (IsIn free) (IsFree n p.cells) (λ y. (is y).0) (subst (λ k. Reaches k (IsIn free) seed c) same r)),
+      joined_slot n good.low good.high p.cells rest j h seed set lowest c
+          (same_paths n (IsIn free) (IsFree n p.cells) (λ y. (is y).0) (subst (λ k. Reaches k (IsIn free) seed c) same r)),
       slot_small n good.low good.high p.cells rest j h seed set lowest placed.inside placed.apart,
     )
 
 -- where no cell is left, all leaders are counted
 pub IsRest-all : (n : ℕ) (cells : List ℕ) (rest j : ℕ) → IsRest n cells rest j → rest ≡ 0 → IsCount (IsLeader n cells) (n * n) j
 IsRest-all n cells rest j h none = count_skip (IsLeader n cells) h.start (n * n) j h.within h.count
-    (λ l a b leader. let i = (h.is l).1 (leader.0, λ d r. let m = leader.1 d r in omega arith) in let z = ap (λ m. bit_at m l) none ∙ bit_at-zero l in omega arith)
+    (λ l a b leader. let i = (h.is l).1 (leader.0, λ d r. let m = leader.1 d r in omega arith) in
+    let z = ap (λ m. bit_at m l) none ∙ bit_at-zero l in omega arith)
 
 -- ---- the list of the regions
 
@@ -195,13 +218,16 @@ pub record AreListed (n : ℕ) (cells masks : List ℕ) (rest : ℕ) : Type 0 wh
   pub left : IsRest n cells rest (length masks)
   pub each : (j c : ℕ) → j < length masks → IsIn (get_or masks j 0) c ↔ IsSlot n cells c j
 
+-- the region of the next slot, put behind the list of masks, makes a list of one slot more
 pub AreListed-more : (n : ℕ) (cells masks : List ℕ) (rest region next : ℕ) → AreListed n cells masks rest
     → ((c : ℕ) → IsIn region c ↔ IsSlot n cells c (length masks)) → IsRest n cells next (suc (length masks)) → AreListed n cells (masks ++ region ∷ []) next
 AreListed-more n cells masks rest region next h is left = record {
   left = subst (λ k. IsRest n cells next k) (sym count) left;
   each = (λ j c l. elim (cases_eq j (length masks)) [
-    | inl e ↦ subst (λ m. IsIn m c ↔ IsSlot n cells c j) (sym (get_or_at masks region [] 0 j (sym e))) (subst (λ k. IsIn region c ↔ IsSlot n cells c k) (sym e) (is c))
-    | inr ne ↦ (let before : j < length masks = let k = count in omega arith in subst (λ m. IsIn m c ↔ IsSlot n cells c j) (sym (get_or_append_left masks (region ∷ []) 0 j before)) (h.each j c before))
+    | inl e ↦ subst (λ m. IsIn m c ↔ IsSlot n cells c j) (sym (get_or_at masks region [] 0 j (sym e)))
+        (subst (λ k. IsIn region c ↔ IsSlot n cells c k) (sym e) (is c))
+    | inr ne ↦ (let before : j < length masks = let k = count in omega arith in
+        subst (λ m. IsIn m c ↔ IsSlot n cells c j) (sym (get_or_append_left masks (region ∷ []) 0 j before)) (h.each j c before))
   ]);
 }
   where
@@ -209,16 +235,21 @@ AreListed-more n cells masks rest region next h is left = record {
     count = length_push masks region ∙ (omega arith)
 
 -- there are no more of them than W
-pub count_within : (n : ℕ) → 2 ≤ n → n ≤ 5 → (cells : List ℕ) (j : ℕ) → AllByRecursion (λ c. c < n * n) cells → IsApart cells → IsCount (IsLeader n cells) (n * n) j → j ≤ width n (length cells)
+pub count_within : (n : ℕ) → 2 ≤ n → n ≤ 5 → (cells : List ℕ) (j : ℕ) → AllByRecursion (λ c. c < n * n) cells → IsApart cells
+    → IsCount (IsLeader n cells) (n * n) j → j ≤ width n (length cells)
 count_within n low high cells zero inside apart a = omega arith
 count_within n low high cells (suc i) inside apart a =
     let last = count_place (IsLeader n cells) (n * n) (suc i) i a (omega arith) in
-    let l = slot_within n low high cells last.0 i inside apart (record { free = last.2.0; leader = last.0; joined = here; is_leader = last.2; below = last.3 }) in
+    let l = slot_within n low high cells last.0 i inside apart
+    (record { free = last.2.0; leader = last.0; joined = here; is_leader = last.2; below = last.3 }) in
     omega arith
 
 -- W is at most 8
 width_at : (n : ℕ) → 2 ≤ n → n ≤ 5 → (k : ℕ) → 0 < k → k ≤ most_tiles n → width n k ≤ 8
-width_at = by_side (λ n. (k : ℕ) → 0 < k → k ≤ most_tiles n → width n k ≤ 8) (λ k some few. omega arith) (λ k some few. omega arith) (λ k some few. omega arith) (λ k some few. omega arith)
+width_at = by_side (λ n. (k : ℕ) → 0 < k → k ≤ most_tiles n → width n k ≤ 8) (λ k some few. omega arith) (λ k some few. omega arith)
+    (λ k some few. omega arith) (λ k some few. omega arith)
 
+-- the width of a placement is at most 8
 pub width_le : (p : ShownPlacement) → IsPattern p.pattern → IsPlacement p → width p.pattern.side (length p.cells) ≤ 8
-width_le p good is = subst (λ k. width p.pattern.side k ≤ 8) (sym is.size) (width_at p.pattern.side good.low good.high (length p.pattern.tiles) good.some good.most)
+width_le p good is = subst (λ k. width p.pattern.side k ≤ 8) (sym is.size)
+    (width_at p.pattern.side good.low good.high (length p.pattern.tiles) good.some good.most)

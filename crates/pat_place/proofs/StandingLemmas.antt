@@ -1,5 +1,6 @@
 -- A rank made tile by tile, from the cells that were found for the numbers of a mask.
-use Rattle.std.proofs.Common.{◌≡◌, ◌≢◌, ℕ, zero, suc, ◌+◌, ◌-◌, ◌*◌, ◌^◌, ◌<◌, ◌≤◌, ◌⊎◌, ◌↔◌, true, List, [], ◌∷◌, ◌++◌, length, take, drop, get_or, bit_and, Some, inl, inr, sym, ◌∙◌, ap, subst, arith, lit<}
+use Rattle.std.proofs.Common.{◌≡◌, ◌≢◌, ℕ, zero, suc, ◌+◌, ◌-◌, ◌*◌, ◌^◌, ◌<◌, ◌≤◌, ◌⊎◌, ◌↔◌, true, List, [], ◌∷◌, ◌++◌, length, take, drop, get_or}
+use Rattle.std.proofs.Common.{bit_and, Some, inl, inr, sym, ◌∙◌, ap, subst, arith, lit<}
 use Rattle.std.specs.Int.{bit_at}
 use Rattle.std.specs.List.{AllByRecursion, range_with_len}
 use Rattle.std.specs.Prelude.{slice_get}
@@ -25,7 +26,8 @@ pub drop_first : (xs : List ℕ) (i x : ℕ) (ys : List ℕ) → drop i xs ≡ x
 drop_first [] zero x ys e = cc
 drop_first [] (suc i) x ys e = cc
 drop_first (z ∷ xs) zero x ys e = (omega arith, cc, cc)
-drop_first (z ∷ xs) (suc i) x ys e = let later = drop_first xs i x ys e in (let l = later.0 in omega arith, later.1, (let k : suc i + 1 ≡ suc (i + 1) = omega arith in ap (λ j. drop j (z ∷ xs)) k ∙ later.2))
+drop_first (z ∷ xs) (suc i) x ys e = let later = drop_first xs i x ys e in
+    (let l = later.0 in omega arith, later.1, (let k : suc i + 1 ≡ suc (i + 1) = omega arith in ap (λ j. drop j (z ∷ xs)) k ∙ later.2))
 
 drop_none : (xs : List ℕ) (i : ℕ) → drop i xs ≡ [] → length xs ≤ i
 drop_none xs i e = let n = length-drop i xs in let z : length (drop i xs) ≡ 0 = ap length e in omega arith
@@ -59,7 +61,9 @@ pub record IsStanding (tiles found : List ℕ) (count rest free room rank : ℕ)
   pub ranking : IsRanking (cells_found tiles found) count i free room rank
   pub taken : (x : ℕ) → x < count → (bit_at free x ≡ 0) ↔ (has (take i (cells_found tiles found)) x ≡ true)
 
-pub IsStanding-start : (tiles found : List ℕ) (count mask : ℕ) → count ≤ 25 → AllByRecursion (λ c. c < count) (cells_found tiles found) → numbers_of mask ≡ tiles
+-- before a tile is ranked, the whole mask is left, all cells are free, and the rank is 0
+pub IsStanding-start : (tiles found : List ℕ) (count mask : ℕ) → count ≤ 25 → AllByRecursion (λ c. c < count) (cells_found tiles found)
+    → numbers_of mask ≡ tiles
     → IsStanding tiles found count mask (2 ^ count - 1) count 0
 IsStanding-start tiles found count mask few inside is = record {
   i = 0;
@@ -87,18 +91,23 @@ module _ (tiles found : List ℕ) (apart : IsApart (cells_found tiles found)) (f
   pub standing_cell : get_or cells h.i 0 ≡ get_or found tile 0
   standing_cell = get_or-map (λ t. get_or found t 0) tiles h.i 0 0 split.0 ∙ ap (λ t. get_or found t 0) split.1
 
+  -- the cell that was found for the next tile is below 32
   pub standing_below : get_or found tile 0 < 32
   standing_below = subst (λ c. c < 32) standing_cell (h.ranking.inside h.i here)
 
+  -- the next tile is below m where all the tiles are
   pub standing_inside : (m : ℕ) → AllByRecursion (λ t. (0 < t) × (t < m)) tiles → tile < m
   standing_inside m all = (has_from_all (λ t. (0 < t) × (t < m)) tiles tile all (has-at tiles tile h.i split.0 split.1)).1
 
+  -- while a tile isn't ranked, there is room, and the rank with its cell is below 25^8
   pub standing_fits : (0 < room) × (rank * room + ones_below free (get_or found tile 0) < 25 ^ 8)
   standing_fits =
       subst (λ c. (0 < room) × (rank * room + ones_below free c < 25 ^ 8)) standing_cell
       (IsRanking-fits cells apart count h.i free room rank h.ranking here (let e = as_many in omega arith))
 
-  pub standing_more : (cell now : ℕ) → cell ≡ get_or found tile 0 → now < 2 ^ 32 → bit_at now cell ≡ 0 → ((x : ℕ) → x < 32 → x ≢ cell → bit_at now x ≡ bit_at free x)
+  -- the next tile's cell is ranked among the free ones and taken, and the tile is left no longer
+  pub standing_more : (cell now : ℕ) → cell ≡ get_or found tile 0 → now < 2 ^ 32 → bit_at now cell ≡ 0
+      → ((x : ℕ) → x < 32 → x ≢ cell → bit_at now x ≡ bit_at free x)
       → IsStanding tiles found count next now (room - 1) (rank * room + ones_below free cell)
   standing_more cell now is bits clear same = record {
     i = h.i + 1;
@@ -144,11 +153,13 @@ module _ (n : ℕ) (tiles found : List ℕ) (count free room rank : ℕ) (is : c
   no_more : h.i ≤ length (cells_found tiles found)
   no_more = let u = h.upto in let e = length-map tiles (λ t. get_or found t 0) in omega arith
 
+  -- once no tile is left, the rank is that of the cells that were found
   pub standing_rank : IsRank n (cells_found tiles found) rank
   standing_rank = IsRank-from n (cells_found tiles found) rank (
       subst (λ k. slice_get (lists_of (length (cells_found tiles found)) (range_with_len 0 k)) rank ≡ Some (cells_found tiles found)) is (
       IsRanking-all (cells_found tiles found) count h.i free room rank h.ranking all no_more))
 
+  -- once no tile is left, the cells that are free no longer are those that were found
   pub standing_occupied : IsMaskOf (bit_and (2 ^ count - 1) (2 ^ 32 - 1 - free)) (λ c. has (cells_found tiles found) c ≡ true)
   standing_occupied x = (
     λ set.

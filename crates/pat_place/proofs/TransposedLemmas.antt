@@ -1,5 +1,6 @@
 -- Patterns transposed.
-use Rattle.std.proofs.Common.{◌≡◌, ◌≢◌, ℕ, zero, suc, ◌+◌, ◌-◌, ◌*◌, ◌^◌, ◌<◌, ◌≤◌, ◌⊎◌, Bool, true, false, cond, eqb, List, [], ◌∷◌, ◌++◌, length, filter, get_or, inl, inr, refl, sym, ◌∙◌, ap, ap₂, arith, eq-eqb, ne_eqb}
+use Rattle.std.proofs.Common.{◌≡◌, ◌≢◌, ℕ, zero, suc, ◌+◌, ◌-◌, ◌*◌, ◌^◌, ◌<◌, ◌≤◌, ◌⊎◌, Bool, true, false, cond, eqb, List, [], ◌∷◌, ◌++◌, length}
+use Rattle.std.proofs.Common.{filter, get_or, inl, inr, refl, sym, ◌∙◌, ap, ap₂, arith, eq-eqb, ne_eqb}
 use Rattle.std.specs.Int.{bit_at}
 use Rattle.std.specs.List.{range_with_len}
 use Rattle.std.proofs.lemmas.Bool.{cases_eq, cases_Bool, cond-true, cond-false, true≢false}
@@ -34,7 +35,8 @@ place_in (y ∷ xs) x is = elim (cases_eq y x) [
 ]
 
 -- a list of different numbers, each of which leads to another number of a second list, is no longer than that
-no_longer : (f : ℕ → ℕ) (xs ys : List ℕ) → IsApart xs → ((x : ℕ) → has xs x ≡ true → has ys (f x) ≡ true) → ((x z : ℕ) → has xs x ≡ true → has xs z ≡ true → f x ≡ f z → x ≡ z) → length xs ≤ length ys
+no_longer : (f : ℕ → ℕ) (xs ys : List ℕ) → IsApart xs → ((x : ℕ) → has xs x ≡ true → has ys (f x) ≡ true)
+    → ((x z : ℕ) → has xs x ≡ true → has xs z ≡ true → f x ≡ f z → x ≡ z) → length xs ≤ length ys
 no_longer f xs ys apart into one = pigeonhole (length xs) (length ys) (λ i. cell_of (f (get_or xs i 0)) ys)
     (λ i l. (place_in ys (f (get_or xs i 0)) (into (get_or xs i 0) (has-at xs (get_or xs i 0) i l refl))).0)
     (λ i j l k e.
@@ -44,6 +46,7 @@ no_longer f xs ys apart into one = pigeonhole (length xs) (length ys) (λ i. cel
     apart_at xs apart i j l k (one (get_or xs i 0) (get_or xs j 0) (has-at xs (get_or xs i 0) i l refl) (has-at xs (get_or xs j 0) j k refl) same))
 
 module _ (n : ℕ) (low : 2 ≤ n) (high : n ≤ 5) (tiles : List ℕ) (up : IsAscending tiles) (inside : (t : ℕ) → has tiles t ≡ true → t < n * n) where
+  -- the tiles that these become where rows and columns are exchanged
   abbrev pub others : List ℕ
   others = transposed_tiles n tiles
 
@@ -53,16 +56,19 @@ module _ (n : ℕ) (low : 2 ≤ n) (high : n ≤ 5) (tiles : List ℕ) (up : IsA
   one_of : (P : ℕ → Type 0) → ((t : ℕ) → P t → t < n * n) → (x z : ℕ) → P x → P z → transposed_cell n x ≡ transposed_cell n z → x ≡ z
   one_of P below x z p q e = sym (cell_twice n low high x (below x p)) ∙ ap (transposed_cell n) e ∙ cell_twice n low high z (below z q)
 
+  -- tiles with rows and columns exchanged are as many as before
   pub length-transposed : length others ≡ length tiles
   length-transposed =
       let to : length others ≤ length tiles = no_longer (transposed_cell n) others tiles (apart_from_ascending others others_up)
       (λ x is. sym (transposed_tiles-are n tiles x (transposed_tiles-inside n tiles x is)) ∙ is)
       (one_of (λ t. has others t ≡ true) (transposed_tiles-inside n tiles)) in
       let back : length tiles ≤ length others = no_longer (transposed_cell n) tiles others (apart_from_ascending tiles up)
-      (λ x is. transposed_tiles-are n tiles (transposed_cell n x) (cell_below n low high x (inside x is)) ∙ ap (has tiles) (cell_twice n low high x (inside x is)) ∙ is)
+      (λ x is. transposed_tiles-are n tiles (transposed_cell n x) (cell_below n low high x (inside x is))
+      ∙ ap (has tiles) (cell_twice n low high x (inside x is)) ∙ is)
       (one_of (λ t. has tiles t ≡ true) inside) in
       omega arith
 
+-- a pattern with rows and columns exchanged is a pattern
 pub IsPattern-transposed : (p : ShownPattern) → IsPattern p → IsPattern (record { side = p.side; tiles = transposed_tiles p.side p.tiles })
 IsPattern-transposed p pat =
     let n = p.side in
@@ -101,7 +107,8 @@ filter_same p q a (suc m) same =
 
 none_of : (p : ℕ → Bool) (a m : ℕ) → ((x : ℕ) → a ≤ x → x < a + m → p x ≡ false) → filter p (range_with_len a m) ≡ []
 none_of p a zero none = refl
-none_of p a (suc m) none = cond-false (p a) (a ∷ filter p (range_with_len (a + 1) m)) (filter p (range_with_len (a + 1) m)) (none a (omega arith) (omega arith)) ∙ none_of p (a + 1) m (λ x l k. none x (omega arith) (omega arith))
+none_of p a (suc m) none = cond-false (p a) (a ∷ filter p (range_with_len (a + 1) m)) (filter p (range_with_len (a + 1) m))
+    (none a (omega arith) (omega arith)) ∙ none_of p (a + 1) m (λ x l k. none x (omega arith) (omega arith))
 
 -- the mask of the cells whose transposed cells are in another mask
 pub record IsTurned (n from count mask : ℕ) : Type 0 where
@@ -116,6 +123,7 @@ chosen p c l = go (cases_Bool (p c))
     go (inl holds) = has-filter p c (range_with_len 0 32) holds ∙ has-range 0 32 c (omega arith) (omega arith) ∙ sym holds
     go (inr fails) = has-filter_not p c (range_with_len 0 32) fails ∙ sym fails
 
+-- once all cells are seen, the mask has the transposed tiles of the other one
 pub turned_all : (n from mask : ℕ) → 2 ≤ n → n ≤ 5 → IsTurned n from (n * n) mask → numbers_of mask ≡ transposed_tiles n (numbers_of from)
 unfolding numbers_below
 turned_all n from mask low high turned =
@@ -132,6 +140,7 @@ turned_all n from mask low high turned =
     (λ x l k. let c : ℕ = transposed_cell n x in let below = cell_below n low high x (omega arith) in
     ap (λ b. eqb b 1) (turned.below x (omega arith)) ∙ sym (chosen (has_bit from) c (omega arith)))
 
+-- before a cell is seen, the mask is empty
 pub turned_none : (n from : ℕ) → IsTurned n from 0 0
 turned_none n from = record { few = omega arith; below = λ x l. omega arith; above = λ x l k. bit_at-zero x }
 
@@ -140,10 +149,14 @@ pub turned_in : (n from i mask more : ℕ) → IsTurned n from i mask → i < 32
     → ((x : ℕ) → x ≢ i → bit_at more x ≡ bit_at mask x) → IsTurned n from (i + 1) more
 turned_in n from i mask more turned low few set here others = record {
   few = few;
-  below = λ x l. elim (cases_eq x i) [ inl e ↦ ap (bit_at more) e ∙ here ∙ sym (ap (λ y. bit_at from (transposed_cell n y)) e ∙ set) | inr ne ↦ others x ne ∙ turned.below x (omega arith) ];
+  below = λ x l. elim (cases_eq x i) [
+    | inl e ↦ ap (bit_at more) e ∙ here ∙ sym (ap (λ y. bit_at from (transposed_cell n y)) e ∙ set)
+    | inr ne ↦ others x ne ∙ turned.below x (omega arith)
+  ];
   above = λ x l k. others x (λ e. omega arith) ∙ turned.above x (omega arith) k;
 }
 
+-- where the transposed cell of the next one isn't in the other mask, the mask stays as it is
 pub turned_out : (n from i mask : ℕ) → IsTurned n from i mask → i < 32 → bit_at from (transposed_cell n i) ≢ 1 → IsTurned n from (i + 1) mask
 turned_out n from i mask turned low unset = record {
   few = turned.few;

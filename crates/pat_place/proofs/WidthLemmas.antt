@@ -1,5 +1,6 @@
 -- No placement has more than W regions.
-use Rattle.std.proofs.Common.{◌≡◌, ℕ, zero, suc, ◌+◌, ◌-◌, ◌*◌, ◌<◌, ◌≤◌, Bool, true, false, eqb, ltb, not, ◌⊎◌, List, [], ◌∷◌, length, Option, Some, None, inl, inr, refl, sym, ◌∙◌, ap, subst, arith}
+use Rattle.std.proofs.Common.{◌≡◌, ℕ, zero, suc, ◌+◌, ◌-◌, ◌*◌, ◌<◌, ◌≤◌, Bool, true, false, eqb, ltb, not, ◌⊎◌, List, [], ◌∷◌, length, Option, Some}
+use Rattle.std.proofs.Common.{None, inl, inr, refl, sym, ◌∙◌, ap, subst, arith}
 use Rattle.std.proofs.lemmas.Bool.{cases_eq, cases_lt, both_ways, and_parts, or_cases, eqb-true, ltb-true, true≢false, not-true}
 use Rattle.std.specs.Prelude.{◌&&◌, ◌||◌}
 use Rattle.std.specs.List.{AllByRecursion}
@@ -24,7 +25,8 @@ is_step (Some c) d = eqb c d
 
 abbrev linked : ℕ → ℕ → List ℕ → Bool
 linked n c [] = true
-linked n c (d ∷ ds) = (ltb d (n * n) && (is_step (step_of n c Up) d || (is_step (step_of n c Down) d || (is_step (step_of n c Left) d || is_step (step_of n c Right) d)))) && linked n d ds
+linked n c (d ∷ ds) = (ltb d (n * n) && (is_step (step_of n c Up)
+    d || (is_step (step_of n c Down) d || (is_step (step_of n c Left) d || is_step (step_of n c Right) d)))) && linked n d ds
 
 step-is : (o : Option ℕ) (d : ℕ) → is_step o d ≡ true → o ≡ Some d
 step-is None d e = absurd (true≢false (sym e))
@@ -32,19 +34,27 @@ step-is (Some c) d e = ap Some (eqb-true c d e)
 
 path_from_linked : (n c : ℕ) (ds : List ℕ) → linked n c ds ≡ true → IsPath n c ds
 path_from_linked n c [] e = tt
-path_from_linked n c (d ∷ ds) e = let parts = and_parts (ltb d (n * n) && (is_step (step_of n c Up) d || (is_step (step_of n c Down) d || (is_step (step_of n c Left) d || is_step (step_of n c Right) d)))) (linked n d ds) e in (first (and_parts (ltb d (n * n)) (is_step (step_of n c Up) d || (is_step (step_of n c Down) d || (is_step (step_of n c Left) d || is_step (step_of n c Right) d))) parts.0), path_from_linked n d ds parts.1)
+path_from_linked n c (d ∷ ds) e = let parts = and_parts
+    (ltb d (n * n) && (is_step (step_of n c Up) d || (is_step
+    (step_of n c Down) d || (is_step (step_of n c Left) d || is_step (step_of n c Right) d)))) (linked n d ds) e in (
+      first (and_parts (ltb d (n * n)) (is_step (step_of n c Up)
+          d || (is_step (step_of n c Down) d || (is_step (step_of n c Left) d || is_step (step_of n c Right) d))) parts.0),
+      path_from_linked n d ds parts.1,
+    )
   where
-    first : ((ltb d (n * n) ≡ true) × ((is_step (step_of n c Up) d || (is_step (step_of n c Down) d || (is_step (step_of n c Left) d || is_step (step_of n c Right) d))) ≡ true)) → Adjacent n c d
-    first h = elim (or_cases (is_step (step_of n c Up) d) (is_step (step_of n c Down) d || (is_step (step_of n c Left) d || is_step (step_of n c Right) d)) h.1) [
-      | inl e ↦ (ltb-true d (n * n) h.0, Up, step-is (step_of n c Up) d e)
-      | inr r ↦ elim (or_cases (is_step (step_of n c Down) d) (is_step (step_of n c Left) d || is_step (step_of n c Right) d) r) [
-        | inl e ↦ (ltb-true d (n * n) h.0, Down, step-is (step_of n c Down) d e)
-        | inr r ↦ elim (or_cases (is_step (step_of n c Left) d) (is_step (step_of n c Right) d) r) [
-          | inl e ↦ (ltb-true d (n * n) h.0, Left, step-is (step_of n c Left) d e)
-          | inr e ↦ (ltb-true d (n * n) h.0, Right, step-is (step_of n c Right) d e)
+    first : ((ltb d (n * n) ≡ true) × ((is_step (step_of n c Up)
+        d || (is_step (step_of n c Down) d || (is_step (step_of n c Left) d || is_step (step_of n c Right) d))) ≡ true)) → Adjacent n c d
+    first h = elim (or_cases (is_step (step_of n c Up) d)
+        (is_step (step_of n c Down) d || (is_step (step_of n c Left) d || is_step (step_of n c Right) d)) h.1) [
+          | inl e ↦ (ltb-true d (n * n) h.0, Up, step-is (step_of n c Up) d e)
+          | inr r ↦ elim (or_cases (is_step (step_of n c Down) d) (is_step (step_of n c Left) d || is_step (step_of n c Right) d) r) [
+            | inl e ↦ (ltb-true d (n * n) h.0, Down, step-is (step_of n c Down) d e)
+            | inr r ↦ elim (or_cases (is_step (step_of n c Left) d) (is_step (step_of n c Right) d) r) [
+              | inl e ↦ (ltb-true d (n * n) h.0, Left, step-is (step_of n c Left) d e)
+              | inr e ↦ (ltb-true d (n * n) h.0, Right, step-is (step_of n c Right) d e)
+            ]
+          ]
         ]
-      ]
-    ]
 
 -- all numbers below m are in the list
 abbrev holds_all : ℕ → List ℕ → Bool
@@ -53,7 +63,8 @@ holds_all (suc m) xs = has xs m && holds_all m xs
 
 holds-at : (m : ℕ) (xs : List ℕ) (c : ℕ) → holds_all m xs ≡ true → c < m → has xs c ≡ true
 holds-at zero xs c e l = absurd (omega arith)
-holds-at (suc m) xs c e l = let parts = and_parts (has xs m) (holds_all m xs) e in elim (cases_eq c m) [ inl same ↦ ap (has xs) same ∙ parts.0 | inr ne ↦ holds-at m xs c parts.1 (omega arith) ]
+holds-at (suc m) xs c e l = let parts = and_parts (has xs m) (holds_all m xs) e in
+    elim (cases_eq c m) [ inl same ↦ ap (has xs) same ∙ parts.0 | inr ne ↦ holds-at m xs c parts.1 (omega arith) ]
 
 abbrev all_apart : List ℕ → Bool
 all_apart [] = true
@@ -71,10 +82,33 @@ record Tour (n : ℕ) : Type 0 where
 
 tour : (n : ℕ) → 2 ≤ n → n ≤ 5 → Tour n
 tour = by_side Tour
-    (record { rest = 1 ∷ 3 ∷ 2 ∷ []; walk = path_from_linked 2 0 (1 ∷ 3 ∷ 2 ∷ []) refl; onto = λ c l. holds-at 4 (0 ∷ 1 ∷ 3 ∷ 2 ∷ []) c refl l; apart = apart_from (0 ∷ 1 ∷ 3 ∷ 2 ∷ []) refl })
-    (record { rest = 1 ∷ 2 ∷ 5 ∷ 4 ∷ 3 ∷ 6 ∷ 7 ∷ 8 ∷ []; walk = path_from_linked 3 0 (1 ∷ 2 ∷ 5 ∷ 4 ∷ 3 ∷ 6 ∷ 7 ∷ 8 ∷ []) refl; onto = λ c l. holds-at 9 (0 ∷ 1 ∷ 2 ∷ 5 ∷ 4 ∷ 3 ∷ 6 ∷ 7 ∷ 8 ∷ []) c refl l; apart = apart_from (0 ∷ 1 ∷ 2 ∷ 5 ∷ 4 ∷ 3 ∷ 6 ∷ 7 ∷ 8 ∷ []) refl })
-    (record { rest = 1 ∷ 2 ∷ 3 ∷ 7 ∷ 6 ∷ 5 ∷ 4 ∷ 8 ∷ 9 ∷ 10 ∷ 11 ∷ 15 ∷ 14 ∷ 13 ∷ 12 ∷ []; walk = path_from_linked 4 0 (1 ∷ 2 ∷ 3 ∷ 7 ∷ 6 ∷ 5 ∷ 4 ∷ 8 ∷ 9 ∷ 10 ∷ 11 ∷ 15 ∷ 14 ∷ 13 ∷ 12 ∷ []) refl; onto = λ c l. holds-at 16 (0 ∷ 1 ∷ 2 ∷ 3 ∷ 7 ∷ 6 ∷ 5 ∷ 4 ∷ 8 ∷ 9 ∷ 10 ∷ 11 ∷ 15 ∷ 14 ∷ 13 ∷ 12 ∷ []) c refl l; apart = apart_from (0 ∷ 1 ∷ 2 ∷ 3 ∷ 7 ∷ 6 ∷ 5 ∷ 4 ∷ 8 ∷ 9 ∷ 10 ∷ 11 ∷ 15 ∷ 14 ∷ 13 ∷ 12 ∷ []) refl })
-    (record { rest = 1 ∷ 2 ∷ 3 ∷ 4 ∷ 9 ∷ 8 ∷ 7 ∷ 6 ∷ 5 ∷ 10 ∷ 11 ∷ 12 ∷ 13 ∷ 14 ∷ 19 ∷ 18 ∷ 17 ∷ 16 ∷ 15 ∷ 20 ∷ 21 ∷ 22 ∷ 23 ∷ 24 ∷ []; walk = path_from_linked 5 0 (1 ∷ 2 ∷ 3 ∷ 4 ∷ 9 ∷ 8 ∷ 7 ∷ 6 ∷ 5 ∷ 10 ∷ 11 ∷ 12 ∷ 13 ∷ 14 ∷ 19 ∷ 18 ∷ 17 ∷ 16 ∷ 15 ∷ 20 ∷ 21 ∷ 22 ∷ 23 ∷ 24 ∷ []) refl; onto = λ c l. holds-at 25 (0 ∷ 1 ∷ 2 ∷ 3 ∷ 4 ∷ 9 ∷ 8 ∷ 7 ∷ 6 ∷ 5 ∷ 10 ∷ 11 ∷ 12 ∷ 13 ∷ 14 ∷ 19 ∷ 18 ∷ 17 ∷ 16 ∷ 15 ∷ 20 ∷ 21 ∷ 22 ∷ 23 ∷ 24 ∷ []) c refl l; apart = apart_from (0 ∷ 1 ∷ 2 ∷ 3 ∷ 4 ∷ 9 ∷ 8 ∷ 7 ∷ 6 ∷ 5 ∷ 10 ∷ 11 ∷ 12 ∷ 13 ∷ 14 ∷ 19 ∷ 18 ∷ 17 ∷ 16 ∷ 15 ∷ 20 ∷ 21 ∷ 22 ∷ 23 ∷ 24 ∷ []) refl })
+    (record {
+      rest = 1 ∷ 3 ∷ 2 ∷ [];
+      walk = path_from_linked 2 0 (1 ∷ 3 ∷ 2 ∷ []) refl;
+      onto = λ c l. holds-at 4 (0 ∷ 1 ∷ 3 ∷ 2 ∷ []) c refl l;
+      apart = apart_from (0 ∷ 1 ∷ 3 ∷ 2 ∷ []) refl;
+    })
+    (record {
+      rest = 1 ∷ 2 ∷ 5 ∷ 4 ∷ 3 ∷ 6 ∷ 7 ∷ 8 ∷ [];
+      walk = path_from_linked 3 0 (1 ∷ 2 ∷ 5 ∷ 4 ∷ 3 ∷ 6 ∷ 7 ∷ 8 ∷ []) refl;
+      onto = λ c l. holds-at 9 (0 ∷ 1 ∷ 2 ∷ 5 ∷ 4 ∷ 3 ∷ 6 ∷ 7 ∷ 8 ∷ []) c refl l;
+      apart = apart_from (0 ∷ 1 ∷ 2 ∷ 5 ∷ 4 ∷ 3 ∷ 6 ∷ 7 ∷ 8 ∷ []) refl;
+    })
+    (record {
+      rest = 1 ∷ 2 ∷ 3 ∷ 7 ∷ 6 ∷ 5 ∷ 4 ∷ 8 ∷ 9 ∷ 10 ∷ 11 ∷ 15 ∷ 14 ∷ 13 ∷ 12 ∷ [];
+      walk = path_from_linked 4 0 (1 ∷ 2 ∷ 3 ∷ 7 ∷ 6 ∷ 5 ∷ 4 ∷ 8 ∷ 9 ∷ 10 ∷ 11 ∷ 15 ∷ 14 ∷ 13 ∷ 12 ∷ []) refl;
+      onto = λ c l. holds-at 16 (0 ∷ 1 ∷ 2 ∷ 3 ∷ 7 ∷ 6 ∷ 5 ∷ 4 ∷ 8 ∷ 9 ∷ 10 ∷ 11 ∷ 15 ∷ 14 ∷ 13 ∷ 12 ∷ []) c refl l;
+      apart = apart_from (0 ∷ 1 ∷ 2 ∷ 3 ∷ 7 ∷ 6 ∷ 5 ∷ 4 ∷ 8 ∷ 9 ∷ 10 ∷ 11 ∷ 15 ∷ 14 ∷ 13 ∷ 12 ∷ []) refl;
+    })
+    (record {
+      rest = 1 ∷ 2 ∷ 3 ∷ 4 ∷ 9 ∷ 8 ∷ 7 ∷ 6 ∷ 5 ∷ 10 ∷ 11 ∷ 12 ∷ 13 ∷ 14 ∷ 19 ∷ 18 ∷ 17 ∷ 16 ∷ 15 ∷ 20 ∷ 21 ∷ 22 ∷ 23 ∷ 24 ∷ [];
+      walk = path_from_linked 5 0 (1 ∷ 2 ∷ 3 ∷ 4 ∷ 9 ∷ 8 ∷ 7 ∷ 6 ∷ 5 ∷ 10 ∷ 11 ∷ 12 ∷ 13 ∷ 14 ∷ 19 ∷ 18 ∷ 17 ∷ 16 ∷ 15 ∷ 20 ∷ 21 ∷ 22 ∷ 23 ∷ 24
+          ∷ []) refl;
+      onto = λ c l. holds-at 25 (0 ∷ 1 ∷ 2 ∷ 3 ∷ 4 ∷ 9 ∷ 8 ∷ 7 ∷ 6 ∷ 5 ∷ 10 ∷ 11 ∷ 12 ∷ 13 ∷ 14 ∷ 19 ∷ 18 ∷ 17 ∷ 16 ∷ 15 ∷ 20 ∷ 21 ∷ 22
+          ∷ 23 ∷ 24 ∷ []) c refl l;
+      apart = apart_from (0 ∷ 1 ∷ 2 ∷ 3 ∷ 4 ∷ 9 ∷ 8 ∷ 7 ∷ 6 ∷ 5 ∷ 10 ∷ 11 ∷ 12 ∷ 13 ∷ 14 ∷ 19 ∷ 18 ∷ 17 ∷ 16 ∷ 15 ∷ 20
+          ∷ 21 ∷ 22 ∷ 23 ∷ 24 ∷ []) refl;
+    })
 
 path_at : (n c : ℕ) (ds : List ℕ) (i : ℕ) → IsPath n c ds → i < length ds → Adjacent n (at (c ∷ ds) i) (at (c ∷ ds) (suc i))
 path_at n c [] i w l = absurd (omega arith)
@@ -98,6 +132,7 @@ module _ (n m : ℕ) (R : ℕ → ℕ → Type 0) (total : (i : ℕ) → i < n �
   pick-is i (inl l) k = ((total i l).1, (total i l).2)
   pick-is i (inr l) k = absurd (omega arith)
 
+  -- things with marks below m, no mark for two of them, are at most m
   pub pigeonhole_by : n ≤ m
   pigeonhole_by = pigeonhole n m (λ i. pick i (cases_lt i n)) (λ i l. (pick-is i (cases_lt i n) l).0)
       (λ i j l k e. one i j (pick j (cases_lt j n)) l k (subst (λ y. R i y) e (pick-is i (cases_lt i n) l).1) (pick-is j (cases_lt j n) k).1)
@@ -109,7 +144,8 @@ module _ (n : ℕ) (low : 2 ≤ n) (high : n ≤ 5) (p : List ℕ) where
   cells = 0 ∷ (tour n low high).rest
 
   Mark : ℕ → ℕ → Type 0
-  Mark l m = (i : ℕ) × (i < length cells) × Joins n p l (at cells i) × (((i ≡ 0) × (m ≡ 0)) ⊎ ((h : ℕ) × (i ≡ suc h) × (k : ℕ) × (m ≡ suc k) × (k < length p) × (at p k ≡ at cells h)))
+  Mark l m = (i : ℕ) × (i < length cells) × Joins n p l (at cells i)
+      × (((i ≡ 0) × (m ≡ 0)) ⊎ ((h : ℕ) × (i ≡ suc h) × (k : ℕ) × (m ≡ suc k) × (k < length p) × (at p k ≡ at cells h)))
 
   square : 0 < n * n
   square = by_side (λ n. 0 < n * n) (omega arith) (omega arith) (omega arith) (omega arith) n low high
@@ -127,7 +163,8 @@ module _ (n : ℕ) (low : 2 ≤ n) (high : n ≤ 5) (p : List ℕ) where
     | inr none ↦ absurd (let w = at-has cells l ((tour n low high).onto l free.0) in none w.0 w.1 (w.1, subst (λ x. Joins n p l x) (sym w.2) here))
   ]
     where
-      go : (i : ℕ) → i < length cells → Joins n p l (at cells i) → ((j : ℕ) → (j < length cells) × Joins n p l (at cells j) → i ≤ j) → (m : ℕ) × (m < suc (length p)) × Mark l m
+      go : (i : ℕ) → i < length cells → Joins n p l (at cells i) → ((j : ℕ) → (j < length cells) × Joins n p l (at cells j) → i ≤ j) → (m : ℕ)
+          × (m < suc (length p)) × Mark l m
       go zero in' r least = (0, omega arith, (0, in', r, inl (refl, refl)))
       go (suc h) in' r least = before (has p (at cells h)) refl
         where
@@ -135,7 +172,8 @@ module _ (n : ℕ) (low : 2 ≤ n) (high : n ≤ 5) (p : List ℕ) where
           step = path_at n 0 (tour n low high).rest h (tour n low high).walk (omega arith)
 
           before : (x : Bool) → has p (at cells h) ≡ x → (m : ℕ) × (m < suc (length p)) × Mark l m
-          before true e = let k = at-has p (at cells h) e in let w : k.0 < length p = k.1 in (suc k.0, omega arith, (suc h, in', r, inr (h, refl, k.0, refl, k.1, k.2)))
+          before true e = let k = at-has p (at cells h) e in let w : k.0 < length p = k.1 in
+              (suc k.0, omega arith, (suc h, in', r, inr (h, refl, k.0, refl, k.1, k.2)))
           before false e = absurd (
               let h_free : IsFree n p (at cells h) = (path_below n 0 (tour n low high).rest h square (tour n low high).walk (omega arith), e) in
               let onto : Joins n p (at cells h) (at cells (suc h)) = onward step (Joins-free n p free r) here in
@@ -163,6 +201,7 @@ module _ (n : ℕ) (low : 2 ≤ n) (high : n ≤ 5) (p : List ℕ) where
           let lb : y.0 < length cells = (let u : b.0 < length cells = b.1 in let w : b.0 ≡ suc y.0 = y.1 in omega arith) in
           x.1 ∙ ap suc (apart_at cells (tour n low high).apart x.0 y.0 la lb (sym x.5 ∙ ap (at p) e ∙ y.5)) ∙ sym y.1
 
+  -- the slot of a cell is at most the number of cells in the list
   pub slot_below : (c j : ℕ) → IsSlot n p c j → j < suc (length p)
   slot_below c j s = pigeonhole_by (suc j) (suc (length p)) (λ i m. (l : ℕ) × IsLeader n p l × IsCount (IsLeader n p) l i × Mark l m) total one
     where
@@ -172,8 +211,10 @@ module _ (n : ℕ) (low : 2 ≤ n) (high : n ≤ 5) (p : List ℕ) where
       total : (i : ℕ) → i < suc j → (m : ℕ) × (m < suc (length p)) × ((l : ℕ) × IsLeader n p l × IsCount (IsLeader n p) l i × Mark l m)
       total i l = let x = count_place (IsLeader n p) (suc s.leader) (suc j) i counted l in let m = mark_of x.0 x.2.0 in (m.0, m.1, (x.0, x.2, x.3, m.2))
 
-      one : (i j' m : ℕ) → i < suc j → j' < suc j → ((l : ℕ) × IsLeader n p l × IsCount (IsLeader n p) l i × Mark l m) → ((l : ℕ) × IsLeader n p l × IsCount (IsLeader n p) l j' × Mark l m) → i ≡ j'
-      one i j' m l k a b = let e : a.0 ≡ b.0 = mark_one a.0 b.0 m a.1 b.1 a.3 b.3 in count_one (IsLeader n p) b.0 i j' (subst (λ x. IsCount (IsLeader n p) x i) e a.2) b.2
+      one : (i j' m : ℕ) → i < suc j → j' < suc j → ((l : ℕ) × IsLeader n p l × IsCount (IsLeader n p) l i × Mark l m)
+          → ((l : ℕ) × IsLeader n p l × IsCount (IsLeader n p) l j' × Mark l m) → i ≡ j'
+      one i j' m l k a b = let e : a.0 ≡ b.0 = mark_one a.0 b.0 m a.1 b.1 a.3 b.3 in
+          count_one (IsLeader n p) b.0 i j' (subst (λ x. IsCount (IsLeader n p) x i) e a.2) b.2
 
   -- leaders and the pattern's cells are different cells of the board
   pub slot_room : (c j : ℕ) → AllByRecursion (λ c. c < n * n) p → IsApart p → IsSlot n p c j → j < n * n - length p
@@ -201,9 +242,11 @@ module _ (n : ℕ) (low : 2 ≤ n) (high : n ≤ 5) (p : List ℕ) where
         | inl x ↦ elim b [ inl z ↦ count_one (IsLeader n p) y i i' x.1 z.1 | inr z ↦ absurd (both_ways (has p y) x.0.0.1 (has-at p y z.0 z.2 z.3)) ]
         | inr x ↦ elim b [
           | inl z ↦ absurd (both_ways (has p y) z.0.0.1 (has-at p y x.0 x.2 x.3))
-          | inr z ↦ let h : x.0 ≡ z.0 = apart_at p apart x.0 z.0 x.2 z.2 (x.3 ∙ sym z.3) in let e : i ≡ suc j + x.0 = x.1 in let f : i' ≡ suc j + z.0 = z.1 in omega arith
+          | inr z ↦ let h : x.0 ≡ z.0 = apart_at p apart x.0 z.0 x.2 z.2 (x.3 ∙ sym z.3) in let e : i ≡ suc j + x.0 = x.1 in
+              let f : i' ≡ suc j + z.0 = z.1 in omega arith
         ]
       ]
 
+  -- the slot of a cell is below the width, where the list's cells are different ones of the board
   pub slot_within : (c j : ℕ) → AllByRecursion (λ c. c < n * n) p → IsApart p → IsSlot n p c j → j < width n (length p)
   slot_within c j inside apart s = let a = slot_below c j s in let b = slot_room c j inside apart s in omega arith

@@ -3,14 +3,20 @@
 
 use byte_io::disk::DiskShelf;
 use byte_io::watched::Watched;
+use pdb_early::{Look, line_ahead, takes_long};
 use pdb_program::{ArgumentFault, Call, Host, start};
 use pdb_progress::{Watch, checked_files, is_asked_for};
 use pdb_reason::{Beginning, Heard, Reason};
+use pdb_run::Lines;
 use pdb_words::read_words;
+use std::alloc::Global;
 use std::env::Env;
 use std::fs::File;
 use std::io::Read;
 use std::process::ExitCode;
+use std::rt::Files;
+use std::sync::Wait;
+use std::thread::Threads;
 use std::{env, fs, io, str};
 
 /// The system lets no argument take more bytes.
@@ -51,8 +57,9 @@ fn beginning_of(rt: &HostRuntime, name: &str) -> io::Result<Beginning> {
     Ok(Beginning::of(&bytes[..count]))
 }
 
-/// Tells on standard error why a run ended without a yes, by its last line. What can't be told is left out.
-fn tell_reason(rt: &HostRuntime, line: &[u8]) -> io::Result<()> {
+/// Tells on standard error why a run ended without a yes, by its last line, and by the bound below which its last searches ended
+/// without a solution; or why it will end so, by the line that is ahead. What can't be told is left out.
+fn tell_reason(rt: &HostRuntime, line: &[u8], ended: Option<u8>, is_ahead: bool) -> io::Result<()> {
     let Ok(words) = arguments(rt) else {
         return Ok(());
     };
@@ -60,7 +67,7 @@ fn tell_reason(rt: &HostRuntime, line: &[u8]) -> io::Result<()> {
     let Ok(asked) = read_words(rt.alloc(), words) else {
         return Ok(());
     };
-    let Some(reason) = Reason::of(&asked, line) else {
+    let Some(reason) = Reason::of(&asked, line, ended) else {
         return Ok(());
     };
     let reason = reason.on_shelf(&asked, &DiskShelf::new(rt));
@@ -68,7 +75,27 @@ fn tell_reason(rt: &HostRuntime, line: &[u8]) -> io::Result<()> {
         None => Beginning::OfAny,
         Some(name) => beginning_of(rt, name).unwrap_or(Beginning::OfAny),
     };
-    rt.eprintln(reason.beginning(beginning))
+    let reason = reason.beginning(beginning);
+    rt.eprintln(if is_ahead { reason.ahead() } else { reason })
+}
+
+/// The line of a refusal that the starts of the files show before the run begins, where the run may take long.
+#[inline(never)] // so that the stack hasn't its values while the run is on
+fn line_before<R: Files + Threads + Wait>(
+    rt: &R,
+    alloc: Global,
+    words: &[String],
+) -> Option<Lines> {
+    let asked = read_words(alloc, words.get(1..).unwrap_or_default()).ok()?;
+    if !takes_long(rt, &asked) {
+        return None;
+    }
+    let look = Look {
+        rt,
+        alloc,
+        files: rt,
+    };
+    line_ahead(&look, &asked)
 }
 
 /// The files that the run checks, in order, where they are to be told and can be.
@@ -93,6 +120,10 @@ fn main(rt: HostRuntime) -> ExitCode {
     let mut out = Heard::new(&mut watched);
     let mut err = rt.stderr();
     let words = arguments(&rt).unwrap_or_else(|_| Vec::new(rt.alloc()));
+    if let Some(line) = line_before(&rt, rt.alloc(), words.as_slice()) {
+        // The run goes on, whether this is told or not.
+        let _ = tell_reason(&rt, line.trim_end().as_bytes(), None, true);
+    }
     let gate = Watch::asked_for(&rt, files_to_tell(&rt, words.as_slice()));
     let call = Call {
         host: Host {
@@ -104,8 +135,14 @@ fn main(rt: HostRuntime) -> ExitCode {
     };
     let status = start(call, &mut shelf, &mut reader, &mut out, &mut err);
     if status != 0 {
+        // Where a write failed, the last line need not be that of the last search.
+        let ended = if status == 1 {
+            gate.ended_below()
+        } else {
+            None
+        };
         // Nobody is left to be told that standard error failed.
-        let _ = tell_reason(&rt, out.line());
+        let _ = tell_reason(&rt, out.line(), ended, false);
     }
     ExitCode::from(status)
 }

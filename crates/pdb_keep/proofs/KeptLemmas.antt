@@ -63,11 +63,13 @@ table_kept arguments old new ends = table_answered arguments old new (IsAnswered
 -- ---- logs
 
 -- what a search read stood under the names that it was given
-pub record SearchStood (shelf : Option Files) (reader : Option Bytes) (arguments : SolveArguments) (board_text set_text : Bytes) (files : List Bytes) : Type 0 where
+pub record SearchStood (shelf : Option Files) (reader : Option Bytes) (arguments : SolveArguments) (board_text set_text : Bytes)
+    (files : List Bytes) : Type 0 where
   pub board : IsReadFrom shelf reader (Some arguments.board) board_text
   pub sets : IsReadFrom shelf reader (Some arguments.sets) set_text
   pub tables : AreRead shelf reader (map a_table arguments.tables) files
 
+-- the files that were read for a search were there under the names that it was given
 pub search_stood : (shelf : Option Files) (reader : Option Bytes) (arguments : SolveArguments) (board_text set_text : Bytes) (files : List Bytes)
     → AreRead shelf reader (solve_inputs arguments) (board_text ∷ set_text ∷ files) → SearchStood shelf reader arguments board_text set_text files
 search_stood shelf reader arguments board_text set_text files read =

@@ -44,7 +44,8 @@ module _ (before : Files) (out log : Bytes) where
   tables_read old_reader new_reader _ _ _ differ was is = absurd was
 
 module _ (arguments : SolveArguments) (check : LogArguments) (of : IsOfSearch arguments check) (before : Files) (old mid later new : World) (status : Status)
-    (not_text : arguments.out ≢ arguments.board) (not_sets : arguments.out ≢ arguments.sets) (not_tables : AllByRecursion (λ name. arguments.out ≢ name) arguments.tables)
+    (not_text : arguments.out ≢ arguments.board) (not_sets : arguments.out ≢ arguments.sets)
+    (not_tables : AllByRecursion (λ name. arguments.out ≢ name) arguments.tables)
     (had : old.files ≡ Some before) (same : later.files ≡ mid.files) (kept : IsLogKept arguments old mid) where
   -- the log that was kept and the files that were read for it, as a claim
   abbrev claim : Given

@@ -1,9 +1,11 @@
 -- `make-table SIDE MASK OUT`: a table is built, and kept where it is that of the pattern which the words name.
 --
--- The maker is free: it may build any bytes, or give up. What is told of them, and whether they are kept, is not free.
+-- The maker is free: it may build any bytes, or give up. What is told of them, whether they are kept, and why it may give up, is not
+-- free.
 use Rattle.std.specs.Prelude.{◌≡◌, ℕ, [], Some, Ok, Err, true}
 use Rattle.puz_board.specs.Masks.{numbers_of}
 use Rattle.pat_place.specs.Patterns.{IsPattern}
+use Rattle.tab_rule.specs.Limits.{HasBoardOfCost}
 use Rattle.byte_io.specs.Shelf.{Bytes}
 use Rattle.pdb_request.specs.Asked.{MakeTableArguments}
 use Rattle.pdb_run.specs.Commands.{Plan, Reply, plan_under}
@@ -32,10 +34,15 @@ pub record IsBuilt (side mask : ℕ) (file : Bytes) (said : Verdict) : Type 0 wh
   pub is_result : IsTableTold file (Ok said)
   pub own : SpeaksOf side mask said
 
--- why no file is told of: K4 where they are no pattern; K3 where they are one. Where the maker gave up isn't seen here
+-- they are a pattern, and some board of its side has 254 as the least cost of the tiles: no table of the pattern is exact
+pub record IsBeyondTables (side mask : ℕ) : Type 0 where
+  pub pattern : ArePattern side mask
+  pub board : HasBoardOfCost (record { side = side; tiles = numbers_of mask }) 254
+
+-- why no file is told of: K4 where they are no pattern; K3 where they are one of which no table can say all counts
 abbrev pub IsUnbuilt : ℕ → ℕ → Fault → Type 0
 IsUnbuilt side mask K4 = ¬ ArePattern side mask
-IsUnbuilt side mask K3 = ArePattern side mask
+IsUnbuilt side mask K3 = IsBeyondTables side mask
 IsUnbuilt side mask _ = ⊥
 
 -- ---- what is told of it

@@ -7,13 +7,16 @@ ghost use Rattle.puz_make.specs.Faults.{IsSearchFault};
 ghost use Rattle.pdb_keep.specs.GivenUp.{IsSpent, IsTooLong, search_guide};
 ghost use Rattle.pdb_keep.specs.Steps.{IsGivenUp};
 
+use crate::searches_alone::SearchesAlone;
 use move_strings::Automaton;
 use pdb_verdict::Fault;
 use puz_board::Board;
 use puz_make::MakeFault;
-use puz_search::{Answer, Deepened, Guide, refute, shortest};
+use puz_search::{Answer, Deepened, Guide, refute, shortest, shortest_by};
 use set_sum::Bundle;
-use std::alloc::{AllocError, Global};
+use std::alloc::AllocError;
+use std::thread::Threads;
+use work_run::{Gate, Workers};
 
 /// The least boards of a search whose tree may be too large for a log: each has at most four nodes after it.
 const MANY_BOARDS: u64 = 1 << 28;
@@ -22,49 +25,64 @@ const MANY_BOARDS: u64 = 1 << 28;
 const LARGEST_BOUND: u8 = 254;
 
 /// Why a search is given up, as it is told, where the maker gives it up for this; `None` where the maker is wrong. A spent budget
-/// and too long a log are told where a search that is proved comes to them too.
-pub(crate) fn cause_of(
-    alloc: Global,
+/// and too long a log are told where a search that is proved comes to them too, of which the gate is told.
+pub(crate) fn cause_of<H: Threads + Sync, G: Gate + Sync>(
     bundle: &Bundle<'_>,
     board: &Board,
     budget: u64,
     fault: MakeFault,
+    workers: &Workers<'_, H, G>,
 ) -> Result<Option<Fault>, AllocError>
     requires side { side_of board.now ≡ bundle.now.side }
     requires fault { IsSearchFault bundle.now board.now fault }
     ensures { IfOk result (λ cause. IfSome cause (IsGivenUp bundle.now board.now budget)) }
 {
-    let reversals = Automaton::of_reversals(alloc, bundle.side())?;
+    let reversals = Automaton::of_reversals(workers.alloc, bundle.side())?;
     let guide = Guide::new(bundle, &reversals);
     match fault {
-        MakeFault::K1 if is_spent(&guide, board, budget) => Ok(Some(Fault::K1)),
+        MakeFault::K1 if is_spent(&guide, board, budget, workers) => Ok(Some(Fault::K1)),
         MakeFault::K2 => Ok(Some(Fault::K2)),
-        MakeFault::K5 if is_too_long(&guide, board) => Ok(Some(Fault::K5)),
+        MakeFault::K5 if is_too_long(&guide, board, workers.gate) => Ok(Some(Fault::K5)),
         MakeFault::Memory => Ok(Some(Fault::Memory)),
         _ => Ok(None),
     }
 }
 
-/// Whether a search for a shortest solution spends the budget.
-fn is_spent(guide: &Guide<'_>, board: &Board, budget: u64) -> bool
+/// Whether a search for a shortest solution spends the budget: by all workers, or where they can't be started by one thread.
+fn is_spent<H: Threads + Sync, G: Gate + Sync>(
+    guide: &Guide<'_>,
+    board: &Board,
+    budget: u64,
+    workers: &Workers<'_, H, G>,
+) -> bool
     requires side { side_of board.now ≡ guide.now.bundle.side }
     requires guide { guide.now ≡ search_guide guide.now.bundle }
     ensures { IsTrue result → IsSpent guide.now.bundle board.now budget }
 {
-    matches!(shortest(guide, board, budget), Deepened::Spent(_))
+    let gate = SearchesAlone { gate: workers.gate };
+    let workers = Workers::new(workers.rt, workers.alloc, workers.count, &gate);
+    let found = match shortest_by(guide, board, budget, &workers) {
+        Ok(found) => found,
+        Err(_) => shortest(guide, board, budget),
+    };
+    matches!(found, Deepened::Spent(_))
 }
 
 /// Whether the search below some threshold fails and expands so many boards that its log may be too long.
-fn is_too_long(guide: &Guide<'_>, board: &Board) -> bool
+fn is_too_long<G: Gate>(guide: &Guide<'_>, board: &Board, gate: &G) -> bool
     requires side { side_of board.now ≡ guide.now.bundle.side }
     requires guide { guide.now ≡ search_guide guide.now.bundle }
     ensures { IsTrue result → IsTooLong guide.now.bundle board.now }
 {
     let mut bound = board.blank_parity();
     while bound < LARGEST_BOUND {
+        gate.searches(bound + 1);
         match refute(guide, board, bound + 1, u64::MAX) {
             Answer::Refuted(boards) if boards >= MANY_BOARDS => return true,
-            Answer::Refuted(_) => bound += 2,
+            Answer::Refuted(boards) => {
+                gate.expanded(boards);
+                bound += 2;
+            }
             Answer::Solved(_) | Answer::Spent => return false,
         }
     }

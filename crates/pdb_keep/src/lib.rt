@@ -7,6 +7,7 @@ mod laws;
 mod made;
 mod make_table;
 mod search_inputs;
+mod searches_alone;
 mod solutions;
 mod solve;
 mod spared;

@@ -1,7 +1,11 @@
 //! Makes a table, and keeps it once it is found exact for the pattern that was asked for.
 
-ghost use Rattle.std.specs.Prelude.{◌≡◌, ◌↔◌, ◌∷◌, [], IsSome, IfErr, IfNone, IfOk, IfSome, option_map};
+ghost use Rattle.std.specs.Prelude.{◌≡◌, ◌↔◌, ◌∷◌, [], IsSome, IsTrue, IfErr, IfNone, IfOk, IfSome, option_map};
 ghost use Rattle.puz_board.specs.Masks.{numbers_of};
+ghost use Rattle.tab_file.specs.EntryBytes.{greatest_count};
+ghost use Rattle.tab_file.specs.TableFiles.{IsTableFile};
+ghost use Rattle.tab_file.specs.Tables.{Table};
+ghost use Rattle.tab_rule.specs.Limits.{IsPassed};
 ghost use Rattle.pdb_request.specs.Asked.{make_table_shown};
 ghost use Rattle.pdb_run.specs.Writing.{digests_of};
 ghost use Rattle.pdb_run.specs.Answers.{IsMadeBy};
@@ -20,10 +24,12 @@ use pdb_run::{
 };
 use pdb_verdict::{Fault, Verdict, line_of, settled, told, verify_table};
 use puz_board::Side;
-use puz_make::{MakeFault, build};
+use puz_make::{MakeFault, draft};
 use std::alloc::{AllocError, Global};
 use std::sync::Wait;
 use std::thread::Threads;
+use tab_columns::passes;
+use tab_file::{GREATEST_COUNT, view};
 use work_run::{Gate, Workers};
 
 /// The making of a table, as a command.
@@ -98,8 +104,8 @@ struct Built {
         ≡ option_map (λ _. digests_of (file.items ∷ [])) digest },
 }
 
-/// The file that is built for a side and a mask, once it is found exact; none where it is not, or the maker finds that it is wrong.
-/// Or why nothing is built: they are no pattern, or the maker gave up.
+/// The file that is built for a side and a mask, once it is found exact; none where it is not, the maker finds that it is wrong, or
+/// it gives up without a cause. Or why nothing is built: they are no pattern, or the least cost of some board is above 253.
 fn build_table<H: Threads + Wait + Sync, G: Gate + Sync>(
     side: u8,
     mask: u32,
@@ -113,12 +119,19 @@ fn build_table<H: Threads + Wait + Sync, G: Gate + Sync>(
     let Some(pattern) = pattern_of(side, mask) else {
         return Err(Fault::K4);
     };
-    let file = match build(workers.rt, workers.alloc, &pattern) {
-        Ok(file) => file,
-        Err(MakeFault::K3) => return Err(Fault::K3),
+    let draft = match draft(workers.rt, workers.alloc, &pattern, workers.gate) {
+        Ok(draft) => draft,
         Err(MakeFault::Memory) => return Err(Fault::Memory),
         Err(_) => return Ok(None),
     };
+    if draft.is_passed {
+        return if shows_greater_count(draft.file.as_slice()) {
+            Err(Fault::K3)
+        } else {
+            Ok(None)
+        };
+    }
+    let file = draft.file;
     let table = file.as_slice();
     let check = || -> Result<Verdict, Fault>
         ensures { IsAnswerTo (table_file table.entry.now) result }
@@ -127,6 +140,18 @@ fn build_table<H: Threads + Wait + Sync, G: Gate + Sync>(
     match settled(answer)? {
         Ok(said) => Ok(Some(Built { file, digest, said })),
         Err(_) => Ok(None),
+    }
+}
+
+/// Whether a table file shows that some board of its pattern has a least cost above 253: its entries are right up to that count,
+/// and one is past it.
+fn shows_greater_count(file: &[u8]) -> bool
+    ensures { (table : Table) → IsTableFile table file.now
+        → IsTrue result ↔ IsPassed greatest_count table }
+{
+    match view(file) {
+        Ok(table) => passes(&table, GREATEST_COUNT),
+        Err(_) => false,
     }
 }
 

@@ -28,9 +28,8 @@ use pdb_run::{
 };
 use pdb_verdict::{Bundling, Fault, optimum_over, over_tables, settled, told};
 use puz_board::Board;
-use puz_make::{Found, solve};
+use puz_make::{Found, solve_watched};
 use set_sum::Bundle;
-use std::alloc::Global;
 use std::sync::Wait;
 use std::thread::Threads;
 use work_run::{Gate, Workers};
@@ -173,7 +172,7 @@ fn search_over<H: Threads + Wait + Sync, G: Gate + Sync>(
         let puzzle = puzzle_of text made.moves.items in
         IsOptimumResult (log_files fold puzzle sets made.log.items tables) (Ok made.count))) }
 {
-    let Some(found) = find(workers.alloc, bundle, board, budget)? else {
+    let Some(found) = find(bundle, board, budget, workers)? else {
         return Ok(None);
     };
     let (moves, log) = (found.moves.as_slice(), found.log.as_slice());
@@ -194,18 +193,18 @@ fn search_over<H: Threads + Wait + Sync, G: Gate + Sync>(
 }
 
 /// What a search finds, unchecked; nothing where the maker finds that it is wrong, or gives up without a cause.
-fn find(
-    alloc: Global,
+fn find<H: Threads + Sync, G: Gate + Sync>(
     bundle: &Bundle<'_>,
     board: &Board,
     budget: u64,
+    workers: &Workers<'_, H, G>,
 ) -> Result<Option<Found>, Fault>
     requires { side_of board.now ≡ bundle.now.side }
     ensures { IfErr result (IsGivenUp bundle.now board.now budget) }
 {
-    match solve(alloc, bundle, board, budget) {
+    match solve_watched(workers.alloc, bundle, board, budget, workers.gate) {
         Ok(found) => Ok(Some(found)),
-        Err(fault) => match cause_of(alloc, bundle, board, budget, fault)? {
+        Err(fault) => match cause_of(bundle, board, budget, fault, workers)? {
             Some(cause) => Err(cause),
             None => Ok(None),
         },

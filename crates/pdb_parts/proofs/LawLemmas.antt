@@ -23,7 +23,8 @@ part_holds (line ∷ lines) asked index told all =
     go : (b : Bool) → bytes_eq line (part_line asked index) ≡ b → (b || is_told lines asked index) ≡ true
         → (is_told lines asked index ≡ true → IsPartBounded (part_at asked.count index) asked.bound asked.board)
         → IsPartBounded (part_at asked.count index) asked.bound asked.board
-    go true e told later = All-head IsTrueLine line lines all (part_at asked.count index) asked.bound asked.board ((bytes_eq-Decides line (part_line asked index)).0 e)
+    go true e told later = All-head IsTrueLine line lines all (part_at asked.count index) asked.bound asked.board
+        ((bytes_eq-Decides line (part_line asked index)).0 e)
     go false e told later = later told
 
 -- true lines that say so of all parts give the bound
@@ -35,5 +36,6 @@ lines_give lines asked board some told all =
     let within : index < length range = subst (λ n. index < n) (sym (length-range_with_len 0 asked.count)) below in
     let place : 0 + index ≡ index = omega arith in
     let here : get_or range index 0 ≡ index = get_or-range_with_len 0 asked.count index 0 below ∙ place in
-    let is : is_told lines asked index ≡ true = subst (λ k. is_told lines asked k ≡ true) here (AllPass-from_list_all (is_told lines asked) range told index 0 within) in
+    let is : is_told lines asked index ≡ true = subst (λ k. is_told lines asked k ≡ true) here
+    (AllPass-from_list_all (is_told lines asked) range told index 0 within) in
     part_holds lines asked index is all)

@@ -1,3 +1,4 @@
+mod CountLemmas
 mod LawLemmas
 mod LineLemmas
 mod MarkLemmas

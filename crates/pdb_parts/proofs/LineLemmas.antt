@@ -1,5 +1,6 @@
 -- The whole lines of a text.
-use Rattle.std.proofs.Common.{◌≡◌, ℕ, suc, ◌+◌, ◌-◌, ◌<◌, ◌≤◌, false, List, [], ◌∷◌, ◌++◌, Some, None, length, take, drop, get_or, get_or-take, add-one, eqb, map, refl, sym, ◌∙◌, ap, arith, codes}
+use Rattle.std.proofs.Common.{◌≡◌, ℕ, suc, ◌+◌, ◌-◌, ◌<◌, ◌≤◌, false, List, [], ◌∷◌, ◌++◌, Some, None, length, take, drop, get_or, get_or-take}
+use Rattle.std.proofs.Common.{add-one, eqb, map, refl, sym, ◌∙◌, ap, arith, codes}
 use Rattle.std.proofs.Math.Seq.{drop-cons}
 use Rattle.std.proofs.lemmas.Bool.{eqb-true}
 use Rattle.std.proofs.lemmas.Grind.{get_or_default_zero}
@@ -13,11 +14,13 @@ use Rattle.pdb_parts.specs.Joining.{whole_lines}
 -- a text without an LF has no whole line
 pub no_line : (text : List ℕ) → None ≡ position (λ byte. eqb byte 10) text → whole_lines text ≡ []
 no_line text e =
-    let each : All (λ byte. eqb byte 10 ≡ false) text = λ k d l. ap (λ byte. eqb byte 10) (get_or_default_zero text k d l) ∙ fails_each (λ byte. eqb byte 10) text (sym e) k l in
+    let each : All (λ byte. eqb byte 10 ≡ false) text = λ k d l. ap (λ byte. eqb byte 10) (get_or_default_zero text k d l)
+    ∙ fails_each (λ byte. eqb byte 10) text (sym e) k l in
     ap (λ pieces. map (λ piece. piece ++ codes "\n") (take (length pieces - 1) pieces)) (slice_split_none (λ byte. eqb byte 10) text each)
 
 but_last : (word : List ℕ) (pieces : List (List ℕ)) → 1 ≤ length pieces
-    → map (λ piece. piece ++ codes "\n") (take (length (word ∷ pieces) - 1) (word ∷ pieces)) ≡ (word ++ codes "\n") ∷ map (λ piece. piece ++ codes "\n") (take (length pieces - 1) pieces)
+    → map (λ piece. piece ++ codes "\n") (take (length (word ∷ pieces) - 1) (word ∷ pieces)) ≡ (word ++ codes "\n") ∷ map
+    (λ piece. piece ++ codes "\n") (take (length pieces - 1) pieces)
 but_last word [] some = absurd (omega arith)
 but_last word (piece ∷ pieces) some =
     let more : length (word ∷ piece ∷ pieces) - 1 ≡ suc (length pieces) = omega arith in
@@ -26,7 +29,8 @@ but_last word (piece ∷ pieces) some =
     sym (ap (λ k. (word ++ codes "\n") ∷ map (λ piece. piece ++ codes "\n") (take k (piece ∷ pieces))) fewer)
 
 -- a text with one has what stands before it, with it, as its first, and then those of what follows
-pub next_whole_line : (text : List ℕ) (end : ℕ) → Some end ≡ position (λ byte. eqb byte 10) text → whole_lines text ≡ take (end + 1) text ∷ whole_lines (drop (end + 1) text)
+pub next_whole_line : (text : List ℕ) (end : ℕ) → Some end ≡ position (λ byte. eqb byte 10) text
+    → whole_lines text ≡ take (end + 1) text ∷ whole_lines (drop (end + 1) text)
 next_whole_line text end e =
     let first = first-position (λ byte. eqb byte 10) text end (sym e) in
     let within : end < length text = first.within in

@@ -1,5 +1,6 @@
 -- Marks of parts.
-use Rattle.std.proofs.Common.{◌≡◌, ℕ, suc, zero, ◌+◌, ◌<◌, ◌≤◌, ◌||◌, ◌&&◌, add-one, Bool, true, false, List, [], ◌∷◌, ◌++◌, cond, get_or, set, length, not, refl, sym, ◌∙◌, ap, arith, inl, inr}
+use Rattle.std.proofs.Common.{◌≡◌, ℕ, suc, zero, ◌+◌, ◌<◌, ◌≤◌, ◌||◌, ◌&&◌, add-one, Bool, true, false, List, [], ◌∷◌, ◌++◌, cond, get_or, set}
+use Rattle.std.proofs.Common.{length, not, refl, sym, ◌∙◌, ap, arith, inl, inr}
 use Rattle.std.proofs.lemmas.Bool.{cases_Bool, cases_eq, cond-false, cond-true}
 use Rattle.std.proofs.lemmas.Grind.{flat_map-append, get_or-set_at}
 use Rattle.std.proofs.lemmas.List.{append-nil, get_or-set_other}
@@ -23,14 +24,16 @@ or_false false = refl
 same_bytes : (a b : List ℕ) → a ≡ b → bytes_eq a b ≡ true
 same_bytes a b e = (bytes_eq-Decides a b).1 e
 
-other_bytes : (a b : List ℕ) → (a ≡ b → ⊥) → bytes_eq a b ≡ false
+-- bytes that differ are told apart
+pub other_bytes : (a b : List ℕ) → (a ≡ b → ⊥) → bytes_eq a b ≡ false
 other_bytes a b differ = elim (cases_Bool (bytes_eq a b)) [
   | inl same ↦ absurd (differ ((bytes_eq-Decides a b).0 same))
   | inr other ↦ other
 ]
 
 -- a line that says that one part holds marks that part, and no other
-pub one_marked : (told : List Bool) (line : List ℕ) (asked : ShownBoundInParts) (place index : ℕ) → place ≡ index → index < asked.count → length told ≡ asked.count → line ≡ part_line asked index
+pub one_marked : (told : List Bool) (line : List ℕ) (asked : ShownBoundInParts) (place index : ℕ) → place ≡ index → index < asked.count
+    → length told ≡ asked.count → line ≡ part_line asked index
     → ((j : ℕ) → j < asked.count → line ≡ part_line asked j → j ≡ index) → (i : ℕ) → i < asked.count
     → get_or (set told place true) i false ≡ (get_or told i false || bytes_eq line (part_line asked i))
 one_marked told line asked place index e below size is one i within = elim (cases_eq i index) [
@@ -47,7 +50,8 @@ pub line_more : (done : List (List ℕ)) (line : List ℕ) (asked : ShownBoundIn
     → now ≡ ((before || is_told done asked i) || bytes_eq line (part_line asked i)) → now ≡ (before || is_told (done ++ line ∷ []) asked i)
 line_more done line asked i before now e =
     e ∙ or_assoc before (is_told done asked i) (bytes_eq line (part_line asked i)) ∙
-    ap (λ b. before || b) (ap (λ b. is_told done asked i || b) (sym (or_false (bytes_eq line (part_line asked i)))) ∙ sym (list_any-append (λ l. bytes_eq l (part_line asked i)) done (line ∷ [])))
+    ap (λ b. before || b) (ap (λ b. is_told done asked i || b) (sym (or_false (bytes_eq line (part_line asked i))))
+    ∙ sym (list_any-append (λ l. bytes_eq l (part_line asked i)) done (line ∷ [])))
   where
     or_assoc : (a b c : Bool) → ((a || b) || c) ≡ (a || (b || c))
     or_assoc true b c = refl
@@ -63,13 +67,16 @@ lines_more done more asked i before now e f =
 
 range_more : (a n : ℕ) → range_with_len a (suc n) ≡ range_with_len a n ++ (a + n) ∷ []
 range_more a zero = let same : a ≡ a + 0 = omega arith in ap (λ k. k ∷ []) same
-range_more a (suc n) = let same : a + 1 + n ≡ a + suc n = omega arith in ap (λ xs. a ∷ xs) (range_more (a + 1) n ∙ ap (λ k. range_with_len (a + 1) n ++ k ∷ []) same)
+range_more a (suc n) = let same : a + 1 + n ≡ a + suc n = omega arith in
+    ap (λ xs. a ∷ xs) (range_more (a + 1) n ∙ ap (λ k. range_with_len (a + 1) n ++ k ∷ []) same)
 
 -- the texts of those that pass, with one number more
-pub left_more : (f : ℕ → List ℕ) (p : ℕ → Bool) (n : ℕ) → flat_map f (filter p (range_with_len 0 (n + 1))) ≡ flat_map f (filter p (range_with_len 0 n)) ++ cond (p n) (f n) []
+pub left_more : (f : ℕ → List ℕ) (p : ℕ → Bool) (n : ℕ)
+    → flat_map f (filter p (range_with_len 0 (n + 1))) ≡ flat_map f (filter p (range_with_len 0 n)) ++ cond (p n) (f n) []
 left_more f p n =
     let last : 0 + n ≡ n = omega arith in
-    ap (λ k. flat_map f (filter p (range_with_len 0 k))) (add-one n) ∙ ap (λ ns. flat_map f (filter p ns)) (range_more 0 n ∙ ap (λ k. range_with_len 0 n ++ k ∷ []) last) ∙
+    ap (λ k. flat_map f (filter p (range_with_len 0 k))) (add-one n)
+    ∙ ap (λ ns. flat_map f (filter p ns)) (range_more 0 n ∙ ap (λ k. range_with_len 0 n ++ k ∷ []) last) ∙
     ap (flat_map f) (filter-append p (range_with_len 0 n) (n ∷ [])) ∙ flat_map-append f (filter p (range_with_len 0 n)) (filter p (n ∷ [])) ∙
     ap (λ text. flat_map f (filter p (range_with_len 0 n)) ++ text) (one (p n))
   where
@@ -85,18 +92,21 @@ filter_same p q a (suc n) same =
     ap (λ ns. cond (q a) (a ∷ ns) ns) (filter_same p q (a + 1) n (λ i low high. same i (omega arith) (omega arith)))
 
 -- and all of them pass the one where they pass the other
-pub all_same : (p : ℕ → Bool) (told : List Bool) (a : ℕ) → ((i : ℕ) → i < length told → get_or told i false ≡ p (a + i)) → list_all (λ b. b) told ≡ list_all p (range_with_len a (length told))
+pub all_same : (p : ℕ → Bool) (told : List Bool) (a : ℕ) → ((i : ℕ) → i < length told → get_or told i false ≡ p (a + i))
+    → list_all (λ b. b) told ≡ list_all p (range_with_len a (length told))
 all_same p [] a same = refl
 all_same p (b ∷ told) a same =
     let first : a + 0 ≡ a = omega arith in
-    (λ i. (same 0 (omega arith) ∙ ap p first) i && all_same p told (a + 1) (λ k below. let next : a + suc k ≡ a + 1 + k = omega arith in same (suc k) (omega arith) ∙ ap p next) i)
+    (λ i. (same 0 (omega arith) ∙ ap p first) i && all_same p told (a + 1) (λ k below. let next : a + suc k ≡ a + 1 + k = omega arith in
+    same (suc k) (omega arith) ∙ ap p next) i)
 
 module _ (lines : List (List ℕ)) (asked : ShownBoundInParts) (told : List Bool) (size : length told ≡ asked.count)
     (marks : (i : ℕ) → i < asked.count → get_or told i false ≡ is_told lines asked i) where
   -- all parts have a mark where lines say so of all
   pub all_told : list_all (λ b. b) told ≡ are_told lines asked
   all_told =
-      all_same (is_told lines asked) told 0 (λ i below. let same : 0 + i ≡ i = omega arith in marks i (omega (arith, size)) ∙ ap (is_told lines asked) (sym same)) ∙
+      all_same (is_told lines asked) told 0 (λ i below. let same : 0 + i ≡ i = omega arith in
+      marks i (omega (arith, size)) ∙ ap (is_told lines asked) (sym same)) ∙
       ap (λ n. list_all (is_told lines asked) (range_with_len 0 n)) size
 
   -- then the bound is said
@@ -108,4 +118,5 @@ module _ (lines : List (List ℕ)) (asked : ShownBoundInParts) (told : List Bool
       → joined_text lines asked ≡ flat_map (open_claim asked) (filter (λ i. not (get_or told i false)) (range_with_len 0 asked.count))
   no_joined some =
       cond-false (are_told lines asked) (joined_line asked.bound asked.count asked.board) (open_claims lines asked) (sym all_told ∙ some) ∙
-      ap (flat_map (open_claim asked)) (filter_same (λ i. not (is_told lines asked i)) (λ i. not (get_or told i false)) 0 asked.count (λ i low high. ap not (sym (marks i (omega arith)))))
+      ap (flat_map (open_claim asked)) (filter_same (λ i. not (is_told lines asked i)) (λ i. not (get_or told i false)) 0 asked.count
+      (λ i low high. ap not (sym (marks i (omega arith)))))

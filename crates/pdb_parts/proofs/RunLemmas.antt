@@ -1,47 +1,164 @@
 -- How a run of `parts` ends.
-use Rattle.std.proofs.Common.{◌≡◌, ◌∷◌, ℕ, List, [], Ok, Err, IfOk, MatchResult, Result, ap, flat_map, refl, string_bytes, subst}
-use Rattle.std.specs.declared.alloc.AllocError.{AllocError}
+use Rattle.std.proofs.Common.{◌≡◌, ◌∙◌, ◌∷◌, ◌⊎◌, ℕ, List, [], None, Option, Some, Ok, Err, ap, false, flat_map, inl, inr, refl, string_bytes, subst, sym}
+use Rattle.std.proofs.KnownBytes.{Appends-nil, Keeps-refl}
+use Rattle.std.specs.Io.KnownBytes.{Appends, Keeps}
 use Rattle.puz_board.specs.BoardTexts.{Spells, board_of_text}
 use Rattle.puz_board.specs.declared.texts.BoardFault.{BoardFault}
 use Rattle.claim_text.specs.Parts.{AreParts}
 use Rattle.byte_io.specs.Shelf.{Bytes}
+use Rattle.byte_io.specs.Streams.{AppendsFront, Output}
 use Rattle.pdb_request.specs.Asked.{PartsArguments}
+use Rattle.pdb_run.specs.Commands.{Reply}
+use Rattle.pdb_run.specs.Inputs.{AreRead}
 use Rattle.pdb_run.specs.Io.{HasRead, IsSaid}
-use Rattle.pdb_run.specs.Runs.{Ends, World, replied, status_of_reply}
+use Rattle.pdb_run.specs.Runs.{Ends, HasCause, LeavesCalls, LeavesFailure, LeavesFiles, LeavesReader, Outcome, Says, SparesFiles, World, made_wrong}
+use Rattle.pdb_run.specs.Runs.{no_memory, replied, spared, status_of, status_of_reply, text_of, unkept, unlisted, unread, unwritable}
 use Rattle.pdb_run.specs.Writing.{memory_line}
 use Rattle.pdb_run.specs.declared.statuses.Status.{Status}
-use Rattle.pdb_run.specs.declared.statuses.Status.TheVariants.{NoMemory}
-use Rattle.pdb_run.proofs.AnswerLemmas.{begun_reading, ends_so, ends_wanting}
+use Rattle.pdb_run.specs.declared.statuses.Status.TheVariants.{Fault, NoMemory, Refused, Yes}
+use Rattle.pdb_run.proofs.AnswerLemmas.{IsAnswered-ends, begun_reading, ends_so, ends_wanting}
 use Rattle.pdb_verdict.specs.Lines.{reply_on}
 use Rattle.pdb_verdict.specs.declared.verdicts.Fault.TheVariants as fault
 use Rattle.pdb_parts.specs.Joining.{are_told, joined_text, whole_lines}
-use Rattle.pdb_parts.specs.Parts.{IsPartsReply, asked_of_board, joined_reply, parts_inputs, parts_plan, parts_reply}
+use Rattle.pdb_parts.specs.Parts.{asked_of_board, joined_reply, parts_inputs, parts_plan, parts_reply}
+use Rattle.pdb_parts.specs.Skipped.{HasToldSkipped, TellsSkipped, skipped_text, told_of_skipped}
+use Rattle.pdb_parts.specs.Steps.{IsBoardRefused, TellsBeside, reading_plan}
+use Rattle.pdb_parts.specs.Stored.{AreCountsOf}
 use Rattle.pdb_parts.specs.declared.joining.Joined.{Joined}
 
+-- ---- a run that joins no parts
+
 -- a board text that is refused
-pub refused_right : (arguments : PartsArguments) → AreParts arguments.count → (inputs : List Bytes) (text : Bytes) (answers : List Bytes) (refused : BoardFault) → inputs ≡ text ∷ answers
-    → Err refused ≡ board_of_text text → IsPartsReply arguments inputs (reply_on [] (Err (fault.Board refused)))
-refused_right arguments count inputs text answers refused order is = record {
+pub board_refused : (inputs : List Bytes) (text : Bytes) (answers : List Bytes) (refused : BoardFault) → inputs ≡ text ∷ answers
+    → Err refused ≡ board_of_text text → IsBoardRefused inputs (reply_on [] (Err (fault.Board refused)))
+board_refused inputs text answers refused order is = record {
   text = text;
   answers = answers;
   order = order;
-  count = count;
-  said = ap (λ board. parts_reply arguments board answers) is;
+  refused = refused;
+  is = is;
+  said = refl;
 }
 
-module _ (arguments : PartsArguments) (count : AreParts arguments.count) {old mid new : World} {status : Status} {inputs : List Bytes} (text : Bytes) (answers : List Bytes) (b : List ℕ)
-    (are : HasRead (parts_inputs arguments) old mid inputs) (order : inputs ≡ text ∷ answers) (is : Ok b ≡ board_of_text text) (spelt : Spells text b) where
-  -- what was joined is said, or that memory was wanted
-  pub ends_joined : (r : Result Joined AllocError)
-      → IfOk r (λ joined. string_bytes joined.text ≡ joined_text (flat_map whole_lines answers) (asked_of_board arguments b))
-      → IfOk r (λ joined. joined.is_yes ≡ are_told (flat_map whole_lines answers) (asked_of_board arguments b))
-      → MatchResult r (λ joined. IsSaid (string_bytes joined.text) (status_of_reply joined.is_yes) mid new status) (λ _. IsSaid memory_line NoMemory mid new status)
-      → Ends (parts_plan arguments) old new status
-  ends_joined (Ok joined) same told said =
+none_kept : (name : Bytes) → ¬ (None ≡ Some name)
+none_kept name is = let clash : None ≡ Some name = is in cc
+
+module _ (arguments : PartsArguments) (count : AreParts arguments.count) {old new : World} {status : Status} where
+  read_by : (outcome : Outcome) → HasCause (reading_plan arguments) old new.failed outcome → SparesFiles (reading_plan arguments) old.files outcome
+      → LeavesFiles (reading_plan arguments) old.files new.files outcome → LeavesCalls (reading_plan arguments) old.calls new.calls outcome
+      → LeavesFailure (reading_plan arguments) old.failed new.failed outcome → LeavesReader (reading_plan arguments) old.reader new.reader outcome
+      → Says (text_of outcome) (status_of outcome) old.written new.written status → Ends (parts_plan arguments) old new status
+  read_by (replied inputs reply) cause spares files calls failure reader said = record {
+    outcome = replied inputs reply;
+    cause = (
+      cause.0,
+      record {
+        text = cause.1.text;
+        answers = cause.1.answers;
+        order = cause.1.order;
+        count = count;
+        said = cause.1.said ∙ ap (λ board. parts_reply arguments board cause.1.answers) cause.1.is;
+      },
+    );
+    spares = spares;
+    files = files;
+    calls = calls;
+    failure = failure;
+    reader = reader;
+    said = said;
+  }
+  read_by (unread wanted why) cause spares files calls failure reader said = record {
+    outcome = unread wanted why;
+    cause = cause;
+    spares = spares;
+    files = files;
+    calls = calls;
+    failure = failure;
+    reader = reader;
+    said = said;
+  }
+  read_by unlisted cause spares files calls failure reader said = record {
+    outcome = unlisted;
+    cause = cause;
+    spares = spares;
+    files = files;
+    calls = calls;
+    failure = failure;
+    reader = reader;
+    said = said;
+  }
+  read_by (spared name) cause spares files calls failure reader said = absurd (none_kept name cause.under)
+  read_by (unwritable name why) cause spares files calls failure reader said = absurd (none_kept name cause.under)
+  read_by (unkept name why) cause spares files calls failure reader said = absurd (none_kept name cause.under)
+  read_by no_memory cause spares files calls failure reader said = absurd cause.2
+  read_by made_wrong cause spares files calls failure reader said = absurd cause.2
+
+  -- it ends by the plan of parts
+  pub read_ends : Ends (reading_plan arguments) old new status → Ends (parts_plan arguments) old new status
+  read_ends ends = read_by ends.outcome ends.cause ends.spares ends.files ends.calls ends.failure ends.reader ends.said
+
+refused_no : (reply : Reply) → reply.is_yes ≡ false → ¬ (Yes ≡ status_of_reply reply.is_yes)
+refused_no reply refused is = let clash : Yes ≡ Refused = is ∙ ap status_of_reply refused in cc
+
+-- and tells nothing
+pub read_tells : (arguments : PartsArguments) (old new : World) (err : Option Bytes) (status : Status) → Ends (reading_plan arguments) old new status
+    → TellsSkipped arguments old err err status
+read_tells arguments old new err Yes ends =
+    let answered = IsAnswered-ends (reading_plan arguments) old new Yes ends (inl refl) in
+    absurd (refused_no answered.reply (ap (λ (r : Reply). r.is_yes) answered.right.1.said) answered.is_status)
+read_tells arguments old new err Refused ends =
+    let answered = IsAnswered-ends (reading_plan arguments) old new Refused ends (inr refl) in
+    let is = answered.right.1 in
+    record {
+      text = is.text;
+      answers = is.answers;
+      read = subst (AreRead old.files old.reader (parts_inputs arguments)) is.order answered.right.0;
+      told = inl (subst (λ board. Appends err err (told_of_skipped arguments board is.answers)) is.is (Appends-nil err));
+    }
+read_tells arguments old new err Fault ends = Keeps-refl err
+read_tells arguments old new err NoMemory ends = Keeps-refl err
+
+-- ---- a run that joins them
+
+module _ (arguments : PartsArguments) (count : AreParts arguments.count) {old mid new : World} {status : Status} {inputs : List Bytes} (text : Bytes)
+    (answers : List Bytes) (b : List ℕ)
+    (are : HasRead (parts_inputs arguments) old mid inputs) (order : inputs ≡ text ∷ answers) (is : Ok b ≡ board_of_text text) where
+  -- what was joined is said
+  pub ends_joined : (joined : Joined)
+      → string_bytes joined.text ≡ joined_text (flat_map whole_lines answers) (asked_of_board arguments b)
+      → joined.is_yes ≡ are_told (flat_map whole_lines answers) (asked_of_board arguments b)
+      → IsSaid (string_bytes joined.text) (status_of_reply joined.is_yes) mid new status → Ends (parts_plan arguments) old new status
+  ends_joined joined same told said =
       let begun = begun_reading {plan = parts_plan arguments} refl are in
       let reply = joined_reply answers (asked_of_board arguments b) in
       let whole = subst (λ y. IsSaid (string_bytes joined.text) (status_of_reply y) mid new status) told said in
       ends_so (replied inputs reply) (subst (λ bytes. IsSaid bytes (status_of_reply reply.is_yes) mid new status) same whole)
       (begun.read, record { text = text; answers = answers; order = order; count = count; said = ap (λ board. parts_reply arguments board answers) is })
       begun.free begun.files begun.calls (λ _ _. begun.failed) begun.behind begun.written
-  ends_joined (Err refused) same told said = ends_wanting refl are (text, answers, b, order, spelt) said
+
+  -- or that memory was wanted
+  pub ends_unjoined : Spells text b → IsSaid memory_line NoMemory mid new status → Ends (parts_plan arguments) old new status
+  ends_unjoined spelt said = ends_wanting refl are (text, answers, b, order, spelt) said
+
+module _ (arguments : PartsArguments) {old mid : World} {inputs : List Bytes} (text : Bytes) (answers : List Bytes) (b : List ℕ)
+    (are : HasRead (parts_inputs arguments) old mid inputs) (order : inputs ≡ text ∷ answers) (is : Ok b ≡ board_of_text text) (joined : Joined)
+    (counts : AreCountsOf joined.counts (flat_map whole_lines answers) (asked_of_board arguments b)) (old_err new_err : Option Bytes) where
+  told_whole : (let line = skipped_text joined.counts.skipped joined.counts.all in Appends old_err new_err line ⊎ AppendsFront old_err new_err line)
+      → HasToldSkipped arguments old old_err new_err
+  told_whole told = record {
+    text = text;
+    answers = answers;
+    read = subst (AreRead old.files old.reader (parts_inputs arguments)) order are.read;
+    told = subst
+        (λ line. Appends old_err new_err line ⊎ AppendsFront old_err new_err line)
+        ((λ i. skipped_text (counts.skipped i) (counts.all i)) ∙ ap (λ board. told_of_skipped arguments board answers) is)
+        told;
+  }
+
+  -- the lines that were skipped there are told
+  pub tells_joined : (status : Status) → TellsBeside (skipped_text joined.counts.skipped joined.counts.all) old_err new_err status
+      → TellsSkipped arguments old old_err new_err status
+  tells_joined Yes told = told_whole told
+  tells_joined Refused told = told_whole told
+  tells_joined Fault told = told
+  tells_joined NoMemory told = told

@@ -6,18 +6,20 @@ ghost use Rattle.claim_text.specs.Lines.{joined_line};
 ghost use Rattle.claim_text.specs.Parts.{AreParts};
 ghost use Rattle.pdb_run.specs.Answers.{all_bytes};
 ghost use Rattle.pdb_parts.specs.Joining.{are_told, joined_text, open_claim, whole_lines};
-ghost use Rattle.pdb_parts.specs.Stored.{shown};
+ghost use Rattle.pdb_parts.specs.Stored.{AreCountsOf, shown};
 
 use crate::marks::{BoundInParts, mark_all};
+use crate::skipped::LineCounts;
 use claim_text::{Asks, Claim, Line, claim_line, joined_line};
 use move_strings::BoundPart;
 use std::alloc::{AllocError, Global};
 
-/// What is said of a bound in parts, and whether that is that it holds.
+/// What is said of a bound in parts, whether that is that it holds, and the counts of the lines that were read.
 #[derive(Debug, Drop)]
 pub struct Joined {
     pub text: String,
     pub is_yes: bool,
+    pub counts: LineCounts,
 }
 
 /// What is said of a bound in parts where these texts of answer lines were read: that it holds, where of each part a whole line
@@ -28,16 +30,24 @@ pub fn join(alloc: Global, texts: &[Vec<u8>], asked: &BoundInParts) -> Result<Jo
         IfOk result (λ joined. string_bytes joined.text ≡ joined_text lines (shown asked.now)) }
     ensures yes { let lines = flat_map whole_lines (all_bytes texts.now) in
         IfOk result (λ joined. joined.is_yes ≡ are_told lines (shown asked.now)) }
+    ensures counts { let lines = flat_map whole_lines (all_bytes texts.now) in
+        IfOk result (λ joined. AreCountsOf joined.counts lines (shown asked.now)) }
 {
-    let told = mark_all(alloc, texts, asked)?;
-    if are_marked(told.as_slice()) {
+    let marks = mark_all(alloc, texts, asked)?;
+    let counts = marks.counts;
+    if are_marked(marks.told.as_slice()) {
         let text = bound_text(alloc, asked)?;
-        return Ok(Joined { text, is_yes: true });
+        return Ok(Joined {
+            text,
+            is_yes: true,
+            counts,
+        });
     }
-    let text = open_claims(alloc, told.as_slice(), asked)?;
+    let text = open_claims(alloc, marks.told.as_slice(), asked)?;
     Ok(Joined {
         text,
         is_yes: false,
+        counts,
     })
 }
 

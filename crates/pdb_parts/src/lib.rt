@@ -5,8 +5,10 @@ mod joining;
 pub mod laws;
 mod marks;
 mod runs;
+mod skipped;
 mod whole_lines;
 
 pub use joining::{Joined, join};
 pub use marks::BoundInParts;
 pub use runs::run_parts;
+pub use skipped::LineCounts;

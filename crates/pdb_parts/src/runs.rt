@@ -1,17 +1,19 @@
 //! A run of `parts`.
 
-ghost use Rattle.std.specs.Prelude.{◌≡◌, ◌∷◌, ◌≤◌, IfOk, MatchResult, length, map, string_bytes};
+ghost use Rattle.std.specs.Prelude.{◌≡◌, ◌∷◌, ◌≤◌, IfOk, length, map, string_bytes};
 ghost use Rattle.claim_text.specs.Parts.{AreParts};
 ghost use Rattle.pdb_request.specs.Asked.{file_names, parts_shown};
 ghost use Rattle.pdb_run.specs.Answers.{all_bytes};
 ghost use Rattle.pdb_run.specs.Inputs.{wanted_of};
 ghost use Rattle.pdb_run.specs.Io.{IsSaid};
 ghost use Rattle.pdb_run.specs.Runs.{Ends, status_of_reply};
-ghost use Rattle.pdb_run.specs.Writing.{memory_line};
 ghost use Rattle.pdb_parts.specs.Parts.{an_answers_text, parts_plan};
+ghost use Rattle.pdb_parts.specs.Skipped.{TellsSkipped, skipped_text};
+ghost use Rattle.pdb_parts.specs.Steps.{TellsBeside, reading_plan};
 
 use crate::joining::{Joined, join};
 use crate::marks::BoundInParts;
+use crate::skipped::tell_skipped;
 use pdb_request::Parts;
 use pdb_run::{
     Command, Digested, Input, Io, Status, conclude, read_inputs, say_no_memory, say_text,
@@ -19,16 +21,17 @@ use pdb_run::{
 use pdb_verdict::{Fault, a_text, told};
 use puz_board::Board;
 use std::alloc::{AllocError, Global};
+use std::io::Write;
 
 /// The most bytes of a file of answer lines.
 const ANSWERS_LIMIT: u64 = 1 << 26;
 
-/// Parts that are joined, as a command.
+/// Parts whose board text and answer lines are read, as a command: it answers a board text that is refused.
 #[derive(Clone, Copy)]
-struct Joining<'c, 'n>(&'c Parts<'n>);
+struct Reading<'c, 'n>(&'c Parts<'n>);
 
-impl Command for Joining<'_, '_> {
-    ghost plan = { λ command. parts_plan (parts_shown command.0.now) };
+impl Command for Reading<'_, '_> {
+    ghost plan = { λ command. reading_plan (parts_shown command.0.now) };
 
     fn inputs(&self, alloc: Global) -> Result<Vec<Input<'_>>, AllocError> {
         let parts = self.0;
@@ -72,16 +75,24 @@ fn files_read(inputs: Vec<Vec<u8>>) -> (Vec<u8>, Vec<Vec<u8>>)
     (answers.remove(0), answers)
 }
 
-/// A whole run of `parts`, without threads: it returns where its shelf, its reader and its writer do.
+/// A whole run of `parts`, without threads: it returns where its shelf, its reader and its writers do. Once its answer is written,
+/// it tells on the errors of lines that it skipped.
 #[inline(never)] // so that the stack has the values of one command alone
-pub fn run_parts<I: Io>(alloc: Global, asked: &Parts<'_>, io: &mut I) -> Status
+pub fn run_parts<I: Io, E: Write>(
+    alloc: Global,
+    asked: &Parts<'_>,
+    io: &mut I,
+    err: &mut E,
+) -> Status
     requires { AreParts asked.now.count }
     ensures same_streams { I.streams io.new ≡ I.streams io.old }
     ensures ends { let plan = parts_plan (parts_shown asked.now) in
         Ends plan (I.world io.old) (I.world io.new) result }
+    ensures told { let old_err = E.contents err.old in let new_err = E.contents err.new in
+        TellsSkipped (parts_shown asked.now) (I.world io.old) old_err new_err result }
 {
-    let command = Joining(asked);
-    let (text, answers) = match read_inputs(alloc, &command, io) {
+    let reading = Reading(asked);
+    let (text, answers) = match read_inputs(alloc, &reading, io) {
         Ok(inputs) => files_read(inputs),
         Err(status) => return status,
     };
@@ -89,7 +100,7 @@ pub fn run_parts<I: Io>(alloc: Global, asked: &Parts<'_>, io: &mut I) -> Status
         Ok(board) => board,
         Err(fault) => {
             let refused = told(Digested::Files(&[], None), &Err(Fault::Board(fault)));
-            return conclude(&command, &Ok(refused), io);
+            return conclude(&reading, &Ok(refused), io);
         }
     };
     let asked = BoundInParts {
@@ -97,26 +108,34 @@ pub fn run_parts<I: Io>(alloc: Global, asked: &Parts<'_>, io: &mut I) -> Status
         bound: asked.bound,
         count: asked.count,
     };
-    say_joined(&join(alloc, answers.as_slice(), &asked), io)
+    match join(alloc, answers.as_slice(), &asked) {
+        Ok(joined) => say_joined(&joined, io, err),
+        Err(_) => say_no_memory(io),
+    }
 }
 
-/// Says what comes of parts, or that there isn't the memory to join them.
-fn say_joined<I: Io>(joined: &Result<Joined, AllocError>, io: &mut I) -> Status
+/// Says what comes of parts, and then tells of the lines that were skipped.
+fn say_joined<I: Io, E: Write>(joined: &Joined, io: &mut I, err: &mut E) -> Status
     ensures same_streams { I.streams io.new ≡ I.streams io.old }
-    ensures said { let old = I.world io.old in let new = I.world io.new in
-        MatchResult joined.now
-        (λ joined. IsSaid (string_bytes joined.text) (status_of_reply joined.is_yes) old new result)
-        (λ _. IsSaid memory_line Status.NoMemory old new result) }
+    ensures said { let status = status_of_reply joined.now.is_yes in
+        IsSaid (string_bytes joined.now.text) status (I.world io.old) (I.world io.new) result }
+    ensures told { let text = skipped_text joined.now.counts.skipped joined.now.counts.all in
+        TellsBeside text (E.contents err.old) (E.contents err.new) result }
 {
-    match joined {
-        Ok(joined) => {
-            let status = if joined.is_yes {
-                Status::Yes
-            } else {
-                Status::Refused
-            };
-            say_text(joined.text.as_str(), status, io)
-        }
-        Err(_) => say_no_memory(io),
+    let status = say_text(joined.text.as_str(), status_of(joined), io);
+    if matches!(status, Status::Yes | Status::Refused) {
+        tell_skipped(joined.counts, err);
+    }
+    status
+}
+
+/// The status where what comes of parts is written whole.
+fn status_of(joined: &Joined) -> Status
+    ensures { result ≡ status_of_reply joined.now.is_yes }
+{
+    if joined.is_yes {
+        Status::Yes
+    } else {
+        Status::Refused
     }
 }

@@ -1,5 +1,6 @@
 -- What a run of a command that answers once writes: lines that say no yes, and a last line.
-use Rattle.std.proofs.Common.{◌≡◌, ◌∙◌, ◌*◌, ◌<◌, ◌≤◌, ◌&&◌, ap, ℕ, suc, Bool, true, false, List, [], ◌∷◌, ◌++◌, Some, Ok, Err, Result, append_assoc, arith, codes, cond, decimal, filter, flat_map, length, lit<, map, not, refl, subst, sym}
+use Rattle.std.proofs.Common.{◌≡◌, ◌∙◌, ◌*◌, ◌<◌, ◌≤◌, ◌&&◌, ap, ℕ, suc, Bool, true, false, List, [], ◌∷◌, ◌++◌, Some, Ok, Err, Result, append_assoc}
+use Rattle.std.proofs.Common.{arith, codes, cond, decimal, filter, flat_map, length, lit<, map, not, refl, subst, sym}
 use Rattle.std.proofs.lemmas.List.{append-nil}
 use Rattle.std.proofs.lemmas.List.Elements.{All-cons, All-nil}
 use Rattle.std.specs.Prelude.{◌==◌, ◌≢◌}
@@ -24,7 +25,8 @@ use Rattle.byte_io.specs.declared.streams.ReadFault.TheVariants as read
 use Rattle.pdb_request.specs.Asked.{Asked, PartsArguments, ProveArguments, bound, make_table, optimal, parts, prove, replay, solve, table}
 use Rattle.pdb_run.specs.Commands.{Reply}
 use Rattle.pdb_run.specs.Inputs.{Failures}
-use Rattle.pdb_run.specs.Runs.{HasCause, IsRight, Outcome, World, made_wrong, no_memory, replied, spared, status_of, status_of_reply, text_of, unkept, unkept_status, unkept_text, unlisted, unread, unwritable}
+use Rattle.pdb_run.specs.Runs.{HasCause, IsRight, Outcome, World, made_wrong, no_memory, replied, spared, status_of, status_of_reply, text_of, unkept}
+use Rattle.pdb_run.specs.Runs.{unkept_status, unkept_text, unlisted, unread, unwritable}
 use Rattle.pdb_run.specs.Writing.{digests_of, reply_text}
 use Rattle.pdb_run.specs.declared.statuses.Status.{Status}
 use Rattle.pdb_run.specs.declared.statuses.Status.TheVariants.{Yes}
@@ -40,7 +42,8 @@ use Rattle.pdb_keep.specs.Solve.{SearchOutcome, letter_of, letters_of, moves_lin
 use Rattle.pdb_parts.specs.Joining.{ShownBoundInParts, are_told, is_told, open_claim, open_claims, whole_lines}
 use Rattle.pdb_parts.specs.Parts.{IsPartsReply, asked_of_board, joined_reply, parts_reply}
 use Rattle.pdb_program.specs.Programs.{plan_of}
-use Rattle.pdb_program.proofs.ElseLemmas.{IsElseLine, IsOfNoYes, SaysElse, SaysNoYes, digest_no_yes, digests_are, else_alone, else_no_yes, fault_line, known, maker, memory, named, says_else, with_number}
+use Rattle.pdb_program.proofs.ElseLemmas.{IsElseLine, IsOfNoYes, SaysElse, SaysNoYes, digest_no_yes, digests_are, else_alone, else_no_yes, fault_line}
+use Rattle.pdb_program.proofs.ElseLemmas.{known, maker, memory, named, says_else, with_number}
 use Rattle.pdb_program.proofs.LineLemmas.{joined_lines}
 use Rattle.pdb_program.proofs.SpellLemmas.{digit_first}
 
@@ -127,7 +130,8 @@ yes_answer line lines last = (line, last, λ other. absurd (other refl))
 verdict_answer : (v : Verdict) → IsAnswerText (line_of_verdict v) Yes
 verdict_answer (verdict.Solution n) = yes_answer _ _ (counted_last (codes "solution ") n (known (codes "solution ") refl))
 verdict_answer (verdict.Exact side mask census) =
-    yes_answer _ _ (line_last (exact_words side mask census.entries census.unreachable census.deepest) (exact_one side mask census.entries census.unreachable census.deepest))
+    yes_answer _ _ (line_last (exact_words side mask census.entries census.unreachable census.deepest)
+    (exact_one side mask census.entries census.unreachable census.deepest))
 verdict_answer (verdict.Bound n) = yes_answer _ _ (counted_last (codes "bound ") n (known (codes "bound ") refl))
 verdict_answer (verdict.Optimal n) = yes_answer _ _ (counted_last (codes "optimal ") n (known (codes "optimal ") refl))
 
@@ -233,7 +237,8 @@ module _ (asked : ShownBoundInParts) (board : IsBoard asked.board) where
   -- so the last of such lines says none
   open_answer : (first : ℕ) (more : List ℕ) (status : Status) → IsAnswerText (flat_map (open_claim asked) (first ∷ more)) status
   open_answer first [] status =
-      subst (λ (text : Bytes). IsAnswerText text status) (sym (append-nil (open_claim asked first))) (else_answer (open_claim asked first) status (open_else first))
+      subst (λ (text : Bytes). IsAnswerText text status) (sym (append-nil (open_claim asked first)))
+      (else_answer (open_claim asked first) status (open_else first))
   open_answer first (next ∷ more) status =
       let rest = flat_map (open_claim asked) (next ∷ more) in
       let last = open_answer next more status in

@@ -1,5 +1,6 @@
 -- Lines that say no yes: digests, refusals, faults and want of memory.
-use Rattle.std.proofs.Common.{◌≡◌, ◌≢◌, ◌||◌, ◌/◌, ◌%◌, ◌≤◌, inl, inr, ap, ℕ, Bool, true, false, List, [], ◌∷◌, ◌++◌, Option, Some, None, append_assoc, arith, codes, cond, decimal, eqb, ltb, map, not, refl, subst, suc, sym, zero}
+use Rattle.std.proofs.Common.{◌≡◌, ◌≢◌, ◌||◌, ◌/◌, ◌%◌, ◌≤◌, inl, inr, ap, ℕ, Bool, true, false, List, [], ◌∷◌, ◌++◌, Option, Some, None}
+use Rattle.std.proofs.Common.{append_assoc, arith, codes, cond, decimal, eqb, ltb, map, not, refl, subst, suc, sym, zero}
 use Rattle.std.proofs.lemmas.Bool.{and_parts, ltb-false, ne_eqb, not-true, not_from_false}
 use Rattle.std.proofs.lemmas.List.{append-nil}
 use Rattle.std.proofs.lemmas.List.Elements.{All-cons, All-nil}
@@ -100,8 +101,14 @@ known text all = AllPass-from_list_all (λ b. not (eqb b 10)) text all
 
 -- a refusal begins with the letter r, whose byte is 114
 refused_else : (words : Bytes) → HasNo 10 words → SaysElse (codes "refused " ++ words)
-refused_else words none =
-    ((λ e. omega (arith, e)), (λ e. omega (arith, e)), (λ e. omega (arith, e)), (λ e. omega (arith, e)), (λ e. omega (arith, e)), join_no_lf (codes "refused ") words (known (codes "refused ") refl) none)
+refused_else words none = (
+  (λ e. omega (arith, e)),
+  (λ e. omega (arith, e)),
+  (λ e. omega (arith, e)),
+  (λ e. omega (arith, e)),
+  (λ e. omega (arith, e)),
+  join_no_lf (codes "refused ") words (known (codes "refused ") refl) none,
+)
 
 refused_line : (words : Bytes) → HasNo 10 words → IsElseLine ((codes "refused " ++ words) ++ codes "\n")
 refused_line words none = (codes "refused " ++ words, refl, refused_else words none)
@@ -128,11 +135,33 @@ twice_numbered text other n m first second =
 
 -- want of memory is said so
 pub memory : IsElseLine memory_line
-memory = (codes "no memory", refl, ((λ e. omega (arith, e)), (λ e. omega (arith, e)), (λ e. omega (arith, e)), (λ e. omega (arith, e)), (λ e. omega (arith, e)), known (codes "no memory") refl))
+memory = (
+  codes "no memory",
+  refl,
+  (
+    (λ e. omega (arith, e)),
+    (λ e. omega (arith, e)),
+    (λ e. omega (arith, e)),
+    (λ e. omega (arith, e)),
+    (λ e. omega (arith, e)),
+    known (codes "no memory") refl,
+  ),
+)
 
 -- what a maker made is wrong
 pub maker : IsElseLine maker_line
-maker = (codes "fault maker", refl, ((λ e. omega (arith, e)), (λ e. omega (arith, e)), (λ e. omega (arith, e)), (λ e. omega (arith, e)), (λ e. omega (arith, e)), known (codes "fault maker") refl))
+maker = (
+  codes "fault maker",
+  refl,
+  (
+    (λ e. omega (arith, e)),
+    (λ e. omega (arith, e)),
+    (λ e. omega (arith, e)),
+    (λ e. omega (arith, e)),
+    (λ e. omega (arith, e)),
+    known (codes "fault maker") refl,
+  ),
+)
 
 -- the lines of refusals
 pub fault_line : (refused : Fault) → IsElseLine (line_of_fault refused)

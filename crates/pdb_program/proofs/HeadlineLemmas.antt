@@ -1,5 +1,6 @@
 -- What lines and statuses mean follows from what is answered and what is kept.
-use Rattle.std.proofs.Common.{◌≡◌, ◌∙◌, ◌⊎◌, ◌≤◌, ◌^◌, inl, inr, ℕ, Bool, true, false, List, [], ◌∷◌, ◌++◌, Option, Some, None, IfSome, ap, arith, codes, append_assoc, decimal, drop, length, length-append, refl, subst, sym, take, take-append-drop}
+use Rattle.std.proofs.Common.{◌≡◌, ◌∙◌, ◌⊎◌, ◌≤◌, ◌^◌, inl, inr, ℕ, Bool, true, false, List, [], ◌∷◌, ◌++◌, Option, Some, None, IfSome, ap, arith}
+use Rattle.std.proofs.Common.{codes, append_assoc, decimal, drop, length, length-append, refl, subst, sym, take, take-append-drop}
 use Rattle.std.specs.Option.{option_map_or}
 use Rattle.std.proofs.lemmas.List.{append-nil, append_cancel_left, length-drop}
 use Rattle.std.specs.Prelude.{◌≢◌}
@@ -36,7 +37,8 @@ use Rattle.pdb_words.specs.CommandLine.{Parses, asked_of}
 use Rattle.pdb_program.specs.Headline.{AreAYes, AreWholeLines, HasLine, Headline, HoldsOfYes, SaysExact, SaysYes}
 use Rattle.pdb_program.specs.Programs.{EndsFor, IsNumberOfStatus, RunsOn, plan_of}
 use Rattle.pdb_program.specs.Steps.{SaysHeadline, SaysParts}
-use Rattle.pdb_program.proofs.AnswerLemmas.{AnswersOnce, IsLast, behind_digests, counted_last, digests_say_no_yes, exact_one, exact_words, joined_ended, joined_one, joined_words, line_last, moves_say_no_yes, outcome_answer}
+use Rattle.pdb_program.proofs.AnswerLemmas.{AnswersOnce, IsLast, behind_digests, counted_last, digests_say_no_yes, exact_one, exact_words}
+use Rattle.pdb_program.proofs.AnswerLemmas.{joined_ended, joined_one, joined_words, line_last, moves_say_no_yes, outcome_answer}
 use Rattle.pdb_program.proofs.ElseLemmas.{SaysNoYes, known}
 use Rattle.pdb_program.proofs.LineLemmas.{ended, joined_lines, last_yes, whole_lines}
 use Rattle.pdb_program.proofs.ProgramLemmas.{answered_by}
@@ -59,7 +61,8 @@ yes_or_not NoMemory = inr (λ e. cc)
 
 -- ---- over what tells its bytes
 
-module _ (before later : Files) (input start lines : Bytes) (calls calls_after : Calls) (failed failed_after : Failures) (cut cut_after : Bool) (reader : Option Bytes) where
+module _ (before later : Files) (input start lines : Bytes) (calls calls_after : Calls) (failed failed_after : Failures) (cut cut_after : Bool)
+    (reader : Option Bytes) where
   abbrev old : World
   old = world (Some before) calls failed (Some input) (output (Some start) cut)
 
@@ -187,7 +190,8 @@ module _ (before later : Files) (input start lines : Bytes) (calls calls_after :
       let no_digest = joined_lines SaysNoYes tables kept_digest (digests_say_no_yes kept.files) (digests_say_no_yes (kept.log ∷ [])) in
       let is_last : IsLast line lines = record {
         above = digests ++ ml;
-        whole = append_cancel_left start lines _ kept.lines.0 ∙ sym (append_assoc tables kept_digest (ml ++ (line ++ codes "\n"))) ∙ sym (append_assoc digests ml (line ++ codes "\n"));
+        whole = append_cancel_left start lines _ kept.lines.0 ∙ sym (append_assoc tables kept_digest (ml ++ (line ++ codes "\n")))
+            ∙ sym (append_assoc digests ml (line ++ codes "\n"));
         none = joined_lines SaysNoYes digests ml no_digest (moves_say_no_yes kept.moves);
         one = join_no_lf (codes "optimal ") (decimal n) (known (codes "optimal ") refl) (decimal-no_lf n);
       } in
@@ -368,9 +372,13 @@ pub headline_of : (words other : List Bytes) (old new : World) (old_err new_err 
     → RunsOn other old new old_err new_err number → SaysHeadline words old new number
 headline_of words other old new old_err new_err number same runs before later input start lines parses had has left stood wrote =
     let ends = rw same at (runs.ends (rw same parses)) in
-    headline_told before later input start lines old.calls new.calls old.failed new.failed old.written.failed new.written.failed new.reader (asked_of words) number
+    headline_told before later input start lines old.calls new.calls old.failed new.failed old.written.failed new.written.failed new.reader
+    (asked_of words) number
     (subst (λ (w : World × World). IsNumberOfStatus (EndsFor (asked_of words) w.0 w.1) number)
-    (λ i. (world (had i) old.calls old.failed (left i) (output (stood i) old.written.failed), world (has i) new.calls new.failed new.reader (output (wrote i) new.written.failed)))
+    (λ i. (
+      world (had i) old.calls old.failed (left i) (output (stood i) old.written.failed),
+      world (has i) new.calls new.failed new.reader (output (wrote i) new.written.failed),
+    ))
     ends)
 
 -- what the lines of `prove` on parts mean follows from it too

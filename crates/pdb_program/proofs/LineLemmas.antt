@@ -1,5 +1,6 @@
 -- The whole lines of a text, and of a front of it.
-use Rattle.std.proofs.Common.{◌≡◌, ◌∙◌, ◌⊎◌, inl, inr, ap, ℕ, true, false, List, [], ◌∷◌, ◌++◌, append_assoc, arith, codes, eqb, flat_map, length, length-append, refl, subst, sym}
+use Rattle.std.proofs.Common.{◌≡◌, ◌∙◌, ◌⊎◌, inl, inr, ap, ℕ, true, false, List, [], ◌∷◌, ◌++◌, append_assoc, arith, codes, eqb, flat_map, length}
+use Rattle.std.proofs.Common.{length-append, refl, subst, sym}
 use Rattle.std.proofs.lemmas.List.{append-nil}
 use Rattle.std.proofs.lemmas.List.Concat.{flat_map-append}
 use Rattle.std.specs.List.{AllByRecursion}
@@ -108,7 +109,8 @@ grown above line below lines rest text has is =
 pub line_holds : (Holds : Bytes → Type 0) (all : List Bytes) (above line below lines rest : Bytes) → AreLines Holds all
     → HasLine above line below lines → lines ++ rest ≡ ended all → Holds line
 line_holds Holds all above line below lines rest each has is =
-    elim (line_among Holds all [] above line (below ++ rest) each has.1 has.0 (grown above line below lines rest (ended all) has is ∙ sym (append-nil (ended all)))) [
+    elim (line_among Holds all [] above line (below ++ rest) each has.1 has.0
+    (grown above line below lines rest (ended all) has is ∙ sym (append-nil (ended all)))) [
       | inl holds ↦ holds
       | inr more ↦ no_line more.0 line (below ++ rest) more.3
     ]

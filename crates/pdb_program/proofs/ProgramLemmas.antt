@@ -2,19 +2,21 @@
 use Rattle.std.proofs.Common.{◌≡◌, ◌∙◌, ◌⊎◌, ap, inl, inr, refl, sym, arith, Bool, true, false, ℕ, List, Option, Some, None}
 use Rattle.std.specs.Io.KnownBytes.{Keeps}
 use Rattle.byte_io.specs.Shelf.{Bytes}
-use Rattle.pdb_request.specs.Asked.{Asked, make_table, prove, solve}
+use Rattle.byte_io.specs.Streams.{Output}
+use Rattle.pdb_request.specs.Asked.{Asked, make_table, parts, prove, solve}
 use Rattle.byte_io.specs.declared.shelf.KeepFault.TheVariants as keep
 use Rattle.byte_io.specs.declared.streams.ReadFault.TheVariants as read
 use Rattle.pdb_run.specs.Inputs.{Failures, HasFailed}
-use Rattle.pdb_run.specs.Runs.{HasCause, IsAnswered, Outcome, World, made_wrong, replied, spared, status_of, status_of_reply, unkept, unlisted, unread, unwritable}
+use Rattle.pdb_run.specs.Runs.{HasCause, IsAnswered, Outcome, Says, World, made_wrong, replied, spared, status_of, status_of_reply, unkept, unlisted}
+use Rattle.pdb_run.specs.Runs.{unread, unwritable}
 use Rattle.pdb_run.specs.Statuses.{status_number}
+use Rattle.pdb_run.specs.Writing.{memory_line}
 use Rattle.pdb_run.specs.declared.statuses.Status.{Status}
 use Rattle.pdb_run.specs.declared.statuses.Status.TheVariants.{Fault, NoMemory, Refused, Yes}
 use Rattle.pdb_run.proofs.AnswerLemmas.{IsAnswered-ends}
 use Rattle.pdb_keep.proofs.KeptLemmas.{log_answered, table_answered}
 use Rattle.pdb_words.specs.CommandLine.{Parses, asked_of}
-use Rattle.pdb_words.specs.Faults.{IsMistaken}
-use Rattle.pdb_program.specs.Programs.{AskToKeepNothing, EndsFor, HasFault, HasKept, IsCut, IsNumberOfStatus, RunsOn, SaysAll, plan_of}
+use Rattle.pdb_program.specs.Programs.{AskToKeepNothing, EndsFor, HasFault, HasKept, IsCut, IsNumberOfStatus, RunsOn, SaysAll, TellsFor, plan_of}
 use Rattle.pdb_program.specs.Refusals.{Refuses}
 use Rattle.pdb_program.specs.Steps.{OnlyWrites}
 
@@ -54,6 +56,31 @@ parsed_ends words old new old_err new_err status parses same = elim [
     reader = same.reader;
     said = memory.0;
   })
+  | inr (inl mistake) ↦ absurd (rw parses at mistake.0.among)
+  | inr (inr (inl help)) ↦ absurd (rw parses at help.0)
+  | inr (inr (inr version)) ↦ absurd (rw parses at version.0)
+]
+
+-- on the errors that tells nothing
+unread_tells : (asked : Asked) (old : World) (old_out new_out : Output) (old_err new_err : Option Bytes) (status : Status)
+    → Says memory_line NoMemory old_out new_out status → Keeps old_err new_err → TellsFor asked old old_err new_err status
+unread_tells (parts arguments) old old_out new_out old_err new_err Fault said keeps = keeps
+unread_tells (parts arguments) old old_out new_out old_err new_err NoMemory said keeps = keeps
+unread_tells (parts arguments) old old_out new_out old_err new_err Yes said keeps = elim said [
+  | inl whole ↦ let clash : Yes ≡ NoMemory = whole.1 in absurd cc
+  | inr front ↦ let clash : Yes ≡ Fault = front.1 in absurd cc
+]
+unread_tells (parts arguments) old old_out new_out old_err new_err Refused said keeps = elim said [
+  | inl whole ↦ let clash : Refused ≡ NoMemory = whole.1 in absurd cc
+  | inr front ↦ let clash : Refused ≡ Fault = front.1 in absurd cc
+]
+unread_tells _ old old_out new_out old_err new_err status said keeps = keeps
+
+-- nor does what is said of such a fault
+pub parsed_tells : (words : List Bytes) (old : World) (new_out : Output) (old_err new_err : Option Bytes) (status : Status) → Parses words
+    → Refuses words old.written new_out old_err new_err status → TellsFor (asked_of words) old old_err new_err status
+parsed_tells words old new_out old_err new_err status parses = elim [
+  | inl memory ↦ unread_tells (asked_of words) old old.written new_out old_err new_err status memory.0 memory.1
   | inr (inl mistake) ↦ absurd (rw parses at mistake.0.among)
   | inr (inr (inl help)) ↦ absurd (rw parses at help.0)
   | inr (inr (inr version)) ↦ absurd (rw parses at version.0)
@@ -120,9 +147,9 @@ yes_keeps _ old new answered = answered.files
 pub runs_on : (words : List Bytes) (old new : World) (old_err new_err : Option Bytes) (number : ℕ) (status : Status) → number ≡ status_number status
     → (Parses words → EndsFor (asked_of words) old new status)
     → ((Parses words → ⊥) → Refuses words old.written new.written old_err new_err status)
-    → Keeps old_err new_err ⊎ IsMistaken words → (AskToKeepNothing words → new.files ≡ old.files)
+    → (Parses words → TellsFor (asked_of words) old old_err new_err status) → (AskToKeepNothing words → new.files ≡ old.files)
     → RunsOn words old new old_err new_err number
-runs_on words old new old_err new_err number status is ends refuses quiet same =
+runs_on words old new old_err new_err number status is ends refuses tells same =
     let answered = λ (is_yes : Bool) (parses : Parses words).
     answered_by (asked_of words) old new is_yes number (status, is, ends parses) in
     record {
@@ -134,7 +161,7 @@ runs_on words old new old_err new_err number status is ends refuses quiet same =
       whole = λ parses. said_all (asked_of words) old new number status is (ends parses);
       fault = λ parses. faulted (asked_of words) old new number status is (ends parses);
       refuses = λ fails. (status, is, refuses fails);
-      quiet = quiet;
+      tells = λ parses. (status, is, tells parses);
       kept = λ parses zero. yes_keeps (asked_of words) old new (answered true parses zero);
       same = same;
     }

@@ -1,5 +1,6 @@
 -- The board and the moves in the line that answers a claim are spelt there.
-use Rattle.std.proofs.Common.{◌≡◌, ◌∙◌, ◌||◌, ◌<◌, ◌≤◌, ◌*◌, ap, ℕ, Bool, true, false, List, [], ◌∷◌, ◌++◌, append_assoc, arith, codes, cond, decimal, eqb, get_or, length, ltb, map, refl, subst, sym}
+use Rattle.std.proofs.Common.{◌≡◌, ◌∙◌, ◌||◌, ◌<◌, ◌≤◌, ◌*◌, ap, ℕ, Bool, true, false, List, [], ◌∷◌, ◌++◌, append_assoc, arith, codes, cond, decimal}
+use Rattle.std.proofs.Common.{eqb, get_or, length, ltb, map, refl, subst, sym}
 use Rattle.std.proofs.lemmas.Bool.{and_from, cond-true, le-leb, lt-ltb, ne_eqb, or_from}
 use Rattle.std.proofs.lemmas.Fmt.{decimal_is_IsNumeral, length-decimal-le}
 use Rattle.std.proofs.lemmas.List.{append-nil}
@@ -56,7 +57,8 @@ digit_clean c within =
     let other : (n : ℕ) → n < 48 → eqb c n ≡ false = λ n low. ne_eqb c n (λ same. omega (arith, within.0)) in (
       and_from _ _ (le-leb 48 c within.0) (le-leb c 57 within.1),
       or_from (eqb c 32 || eqb c 9 || eqb c 13) (eqb c 10)
-          (or_from (eqb c 32 || eqb c 9) (eqb c 13) (or_from (eqb c 32) (eqb c 9) (other 32 (omega arith)) (other 9 (omega arith))) (other 13 (omega arith))) (other 10 (omega arith)),
+          (or_from (eqb c 32 || eqb c 9) (eqb c 13) (or_from (eqb c 32) (eqb c 9) (other 32 (omega arith)) (other 9 (omega arith)))
+          (other 13 (omega arith))) (other 10 (omega arith)),
     )
 
 digits_clean : (ds : Bytes) → AllDigits 10 ds → AllPass is_ascii_digit ds × IsWord ds

@@ -1,5 +1,6 @@
 -- What the lines of `prove` say is true.
-use Rattle.std.proofs.Common.{◌≡◌, ◌∙◌, ◌⊎◌, ◌-◌, ◌+◌, inl, inr, ap, ℕ, Bool, true, false, List, [], ◌∷◌, ◌++◌, Some, None, append_assoc, arith, codes, drop, length, length-append, refl, subst, sym, take, take-append-drop}
+use Rattle.std.proofs.Common.{◌≡◌, ◌∙◌, ◌⊎◌, ◌-◌, ◌+◌, inl, inr, ap, ℕ, Bool, true, false, List, [], ◌∷◌, ◌++◌, Some, None, append_assoc, arith}
+use Rattle.std.proofs.Common.{codes, drop, length, length-append, refl, subst, sym, take, take-append-drop}
 use Rattle.std.proofs.lemmas.Bool.{and_parts}
 use Rattle.std.proofs.lemmas.List.{append-nil, append_cancel_left, take_at}
 use Rattle.std.specs.Prelude.{⊤}
@@ -28,13 +29,15 @@ use Rattle.pdb_run.specs.declared.statuses.Status.{Status}
 use Rattle.pdb_verdict.specs.Lines.{line_of_fault}
 use Rattle.pdb_verdict.specs.declared.verdicts.Fault.{Fault}
 use Rattle.pdb_prove.specs.Answers.{IsFoundOf, IsToldOf, are_yes, told_of, is_yes, words_of}
-use Rattle.pdb_prove.specs.Prove.{ClaimsFiles, IsOutcomeOf, Outcome, TellsClaims, answered, budget_of, digested_files, prove_plan, reply_to_claims, told_lines, unready}
+use Rattle.pdb_prove.specs.Prove.{ClaimsFiles, IsOutcomeOf, Outcome, TellsClaims, answered, budget_of, digested_files, prove_plan, reply_to_claims}
+use Rattle.pdb_prove.specs.Prove.{told_lines, unready}
 use Rattle.pdb_prove.specs.declared.answers.Found.{Found}
 use Rattle.pdb_prove.specs.declared.answers.Found.TheVariants.{Bound, Optimum, Part, Refused, Shorter, Shortest}
 use Rattle.pdb_program.specs.Headline.{AreAYes, AreWholeLines, HasLine, HoldsOfClaim, SaysYes}
 use Rattle.pdb_program.specs.PartLines.{ArePartLinesTrue, HoldsOfPart, SaysPart}
 use Rattle.pdb_program.specs.Programs.{EndsFor}
-use Rattle.pdb_program.proofs.ElseLemmas.{IsElseLine, SaysElse, SaysNoYes, digest_no_yes, digests_are, else_no_part, else_no_yes, fault_line, known, memory, named, other_no_part, part_no_yes, says_else}
+use Rattle.pdb_program.proofs.ElseLemmas.{IsElseLine, SaysElse, SaysNoYes, digest_no_yes, digests_are, else_no_part, else_no_yes, fault_line, known}
+use Rattle.pdb_program.proofs.ElseLemmas.{memory, named, other_no_part, part_no_yes, says_else}
 use Rattle.pdb_program.proofs.LineLemmas.{IsOfLines, joined_lines, line_alone, line_holds, whole_lines}
 use Rattle.pdb_program.proofs.SpellLemmas.{numbers_bounded, numbers_spelt, words_optimal}
 
@@ -141,7 +144,14 @@ yes_of_told (line.shorter solution claim) is says =
     absurd (else_no_yes (codes "refused") _ refused says)
   where
     refused : SaysElse (codes "refused")
-    refused = ((λ e. omega (arith, e)), (λ e. omega (arith, e)), (λ e. omega (arith, e)), (λ e. omega (arith, e)), (λ e. omega (arith, e)), known (codes "refused") refl)
+    refused = (
+      (λ e. omega (arith, e)),
+      (λ e. omega (arith, e)),
+      (λ e. omega (arith, e)),
+      (λ e. omega (arith, e)),
+      (λ e. omega (arith, e)),
+      known (codes "refused") refl,
+    )
 yes_of_told (line.refused what claim) is says =
     absurd (else_no_yes what (codes " of" ++ claim_words claim) is (subst SaysYes (append_assoc what (codes " of") (claim_words claim)) says))
 
@@ -168,14 +178,16 @@ told_true (t ∷ told) each =
     (line_alone IsTrueLine (told_text t) (answer-no_lf t (told_one t each.0)) (yes_of_told t each.0, part_of_told t each.0)) (told_true told each.1)
 
 digests_true : (files : List Bytes) → IsOfLines IsTrueLine (digests_of files)
-digests_true files = digests_are IsTrueLine (λ digest. none_true (codes "sha256 " ++ digest) (digest_no_yes digest) (other_no_part 115 _ (λ e. omega (arith, e)))) files
+digests_true files = digests_are IsTrueLine (λ digest. none_true (codes "sha256 " ++ digest) (digest_no_yes digest)
+    (other_no_part 115 _ (λ e. omega (arith, e)))) files
 
 -- one other line
 alone : (line : Bytes) → IsElseLine line → IsOfLines IsTrueLine line
 alone line is =
     subst (IsOfLines IsTrueLine) (sym is.1)
     (line_alone IsTrueLine is.0 (says_else is.0 is.2)
-    (none_true is.0 (subst SaysNoYes (append-nil is.0) (else_no_yes is.0 [] is.2)) (subst (λ (t : Bytes). ¬ SaysPart t) (append-nil is.0) (else_no_part is.0 [] is.2))))
+    (none_true is.0 (subst SaysNoYes (append-nil is.0) (else_no_yes is.0 [] is.2))
+    (subst (λ (t : Bytes). ¬ SaysPart t) (append-nil is.0) (else_no_part is.0 [] is.2))))
 
 -- digest lines and what is told truly
 answers_true : (files : ClaimsFiles) (told : List Told) → AllByRecursion IsTrueTold told

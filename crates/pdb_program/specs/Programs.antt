@@ -17,8 +17,8 @@ use Rattle.pdb_keep.specs.MakeTable.{make_table_plan}
 use Rattle.pdb_keep.specs.Solve.{solve_plan}
 use Rattle.pdb_prove.specs.Prove.{IsCutShort, prove_plan}
 use Rattle.pdb_parts.specs.Parts.{parts_plan}
+use Rattle.pdb_parts.specs.Skipped.{TellsSkipped}
 use Rattle.pdb_words.specs.CommandLine.{Parses, asked_of}
-use Rattle.pdb_words.specs.Faults.{IsMistaken}
 use Rattle.pdb_program.specs.Refusals.{Refuses}
 
 -- the plan of what words ask for; how many workers share a check and how far a search may go change nothing of it
@@ -71,6 +71,11 @@ HasFault asked old new =
 abbrev pub IsNumberOfStatus : (Status → Type 0) → ℕ → Type 0
 IsNumberOfStatus Holds number = (status : Status) × (number ≡ status_number status) × Holds status
 
+-- what a run tells on the errors of what words ask for: of lines that `parts` skips, and of any other command nothing
+abbrev pub TellsFor : Asked → World → (old_err new_err : Option Bytes) → Status → Type 0
+TellsFor (parts arguments) old old_err new_err status = TellsSkipped arguments old old_err new_err status
+TellsFor other old old_err new_err status = Keeps old_err new_err
+
 -- a run on these words, from the one world to the other; what stood on the errors before and after it; and its number
 pub record RunsOn (words : List Bytes) (old new : World) (old_err new_err : Option Bytes) (number : ℕ) : Type 0 where
   pub answered : Parses words → (number ≡ 0) ⊎ (number ≡ 1) → IsNumberOfStatus (IsAnswered (plan_of (asked_of words)) old new) number
@@ -80,6 +85,6 @@ pub record RunsOn (words : List Bytes) (old new : World) (old_err new_err : Opti
   pub whole : Parses words → new.written.failed ≡ false → SaysAll (asked_of words) old new number
   pub fault : Parses words → number ≡ 2 → HasFault (asked_of words) old new
   pub refuses : (Parses words → ⊥) → IsNumberOfStatus (Refuses words old.written new.written old_err new_err) number
-  pub quiet : Keeps old_err new_err ⊎ IsMistaken words
+  pub tells : Parses words → IsNumberOfStatus (TellsFor (asked_of words) old old_err new_err) number
   pub kept : Parses words → number ≡ 0 → HasKept (asked_of words) old new
   pub same : AskToKeepNothing words → new.files ≡ old.files

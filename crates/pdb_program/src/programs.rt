@@ -1,17 +1,15 @@
 //! A run of the program on words.
 
-ghost use Rattle.std.specs.Prelude.{◌≡◌, ◌⊎◌, ◌++◌, Option, map, string_bytes};
-ghost use Rattle.std.specs.Io.KnownBytes.{Keeps};
+ghost use Rattle.std.specs.Prelude.{◌≡◌, ◌++◌, Option, map, string_bytes};
 ghost use Rattle.byte_io.specs.Shelf.{Bytes};
 ghost use Rattle.pdb_request.specs.Asked.{ProveArguments, prove};
 ghost use Rattle.pdb_run.specs.Calls.{calls};
 ghost use Rattle.pdb_run.specs.Inputs.{failures};
 ghost use Rattle.pdb_run.specs.Runs.{world};
 ghost use Rattle.pdb_words.specs.CommandLine.{Parses, asked_of};
-ghost use Rattle.pdb_words.specs.Faults.{IsMistaken};
 ghost use Rattle.pdb_program.specs.Headline.{Headline};
 ghost use Rattle.pdb_program.specs.PartLines.{ArePartLinesTrue};
-ghost use Rattle.pdb_program.specs.Programs.{AskToKeepNothing, EndsFor, RunsOn};
+ghost use Rattle.pdb_program.specs.Programs.{AskToKeepNothing, EndsFor, RunsOn, TellsFor};
 ghost use Rattle.pdb_program.specs.Steps.{SaysHeadline, SaysParts};
 ghost use Rattle.pdb_program.specs.Refusals.{Refuses};
 
@@ -64,7 +62,8 @@ pub fn run<H: Threads + Wait + Sync, S: Shelf, R: Source, W: Sink, E: Write, G: 
 
     // With a yes or a no the writer got exactly the lines on the inputs that the words ask for, and with a yes what was made
     // and checked stands under its name. In any case the run says one thing that it has cause to say, or a proper front of it
-    // where the writer failed; so it does of words that don't parse.
+    // where the writer failed; so it does of words that don't parse. On the errors it tells of lines that `parts` skips, and else
+    // nothing of words that parse.
     ensures runs { RunsOn (map string_bytes words.items)
         (world (S.held shelf.old) (calls (S.calls shelf.old) (R.may_have_ended reader.old))
         (failures (S.has_failed shelf.old) (R.may_have_failed reader.old))
@@ -110,8 +109,9 @@ fn answer<H: Threads + Wait + Sync, I: Io, E: Write, G: Gate + Sync>(
     ensures refuses { let words = map string_bytes words.now in
         let old = I.world io.old in let new = I.world io.new in (Parses words → ⊥)
         → Refuses words old.written new.written (E.contents err.old) (E.contents err.new) result }
-    ensures quiet { Keeps (E.contents err.old) (E.contents err.new)
-        ⊎ IsMistaken (map string_bytes words.now) }
+    ensures tells { let words = map string_bytes words.now in
+        let old_err = E.contents err.old in let new_err = E.contents err.new in
+        Parses words → TellsFor (asked_of words) (I.world io.old) old_err new_err result }
     ensures same { AskToKeepNothing (map string_bytes words.now)
         → (I.world io.new).files ≡ (I.world io.old).files }
 {
@@ -122,7 +122,7 @@ fn answer<H: Threads + Wait + Sync, I: Io, E: Write, G: Gate + Sync>(
         Ok(Request::MakeTable(asked)) => run_make_table(&asked, &host.workers(asked.workers), io),
         Ok(Request::Search(search)) => run_solve(&search, &host.workers(search.workers), io),
         Ok(Request::Prove(prove)) => run_prove(&prove, &host.workers(prove.workers), io),
-        Ok(Request::Parts(parts)) => run_parts(host.alloc, &parts, io),
+        Ok(Request::Parts(parts)) => run_parts(host.alloc, &parts, io, err),
         Err(fault) => explain(fault, io, err),
     }
 }

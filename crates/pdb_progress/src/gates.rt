@@ -1,23 +1,25 @@
-//! Gates that tell how far a check has come, and how fast a search goes.
+//! Gates that tell how far a check or the maker of a table has come, and how fast a search goes.
 
+use crate::bounds::Bounds;
 use crate::files::FileShare;
+use crate::makings::{Making, Stage};
 use crate::paces::Pace;
 use crate::shares::Share;
 use crate::times::is_time;
 use std::io;
 use std::rt::{Clock, Env};
-use std::sync::atomic::{AtomicBool, AtomicU8, AtomicU64, AtomicUsize, Ordering};
+use std::sync::atomic::{AtomicU8, AtomicU64, AtomicUsize, Ordering};
 use std::time::Instant;
 use work_run::Gate;
 
 /// The variable of the environment that asks for progress, by the value 1.
 const VARIABLE: &str = "PDB_PROGRESS";
 
-/// Tells on standard error, while workers run, what share of the jobs was begun, or how fast a search goes: at most once
-/// a second, and not in the first second.
+/// Tells on standard error, while workers run, what share of the jobs was begun, how far a table is made, or how fast a search goes:
+/// at most once a second, and not in the first second.
 ///
 /// A job is a block of a table or a lemma of a log. Of several checks one after the other each has its own share. From
-/// the first claim or search on no share is told: the jobs are parts of searches then.
+/// the first claim on no share is told: the jobs are parts of searches then.
 /// Where the clock or standard error fails nothing is told, and the work goes on.
 #[derive(Drop)]
 pub struct Progress<'a, 'n, R> {
@@ -31,8 +33,9 @@ pub struct Progress<'a, 'n, R> {
     told: AtomicU64,
     jobs: AtomicU64,
     begun: AtomicU64,
-    /// Whether the work is a search.
-    is_search: AtomicBool,
+    /// How many entries of the table that is made are filled in.
+    filled: AtomicU64,
+    /// The number of the claim that is answered, from 1, or 0 where there is none.
     claim: AtomicU64,
     bound: AtomicU8,
     /// How many boards were expanded below this bound.
@@ -52,7 +55,7 @@ impl<'a, 'n, R: Clock + Eprint> Progress<'a, 'n, R> {
             told: AtomicU64::new(0),
             jobs: AtomicU64::new(0),
             begun: AtomicU64::new(0),
-            is_search: AtomicBool::new(false),
+            filled: AtomicU64::new(0),
             claim: AtomicU64::new(0),
             bound: AtomicU8::new(0),
             boards: AtomicU64::new(0),
@@ -68,8 +71,8 @@ impl<'a, 'n, R: Clock + Eprint> Progress<'a, 'n, R> {
 
     /// The milliseconds since the start, where it is time to tell and no other worker does.
     fn due(&self) -> Option<u64> {
-        let now = self.millis()?;
         let told = self.told.load(Ordering::SeqCst);
+        let now = self.millis()?;
         if !is_time(told, now) {
             return None;
         }
@@ -105,10 +108,21 @@ impl<'a, 'n, R: Clock + Eprint> Progress<'a, 'n, R> {
         };
     }
 
+    /// How far the table is made, to tell now, where it is time to tell that and no other worker does. What is made has the last
+    /// name.
+    fn making_due(&self, stage: Stage, done: u64, all: u64) -> Option<Making<'n>> {
+        self.due()?;
+        Some(Making {
+            file: self.files.last().copied(),
+            stage,
+            share: Share::of(done, all)?,
+        })
+    }
+
     /// The pace to tell now, where it is time to tell one and no other worker does.
     fn pace_due(&self, boards: u64) -> Option<Pace> {
         let now = self.due()?;
-        let claim = self.claim.load(Ordering::SeqCst);
+        let claim = self.claim.load(Ordering::SeqCst).checked_sub(1);
         let bound = self.bound.load(Ordering::SeqCst);
         let began = self.began.load(Ordering::SeqCst);
         Pace::of(claim, bound, boards, now.saturating_sub(began))
@@ -123,7 +137,7 @@ impl<R: Clock + Eprint> Gate for Progress<'_, '_, R> {
     }
 
     fn before(&self, _job: u64) {
-        if self.is_search.load(Ordering::SeqCst) {
+        if self.claim.load(Ordering::SeqCst) != 0 {
             return;
         }
         let begun_before = self.begun.fetch_add(1, Ordering::SeqCst);
@@ -133,12 +147,10 @@ impl<R: Clock + Eprint> Gate for Progress<'_, '_, R> {
     }
 
     fn asks(&self, claim: u64) {
-        self.is_search.store(true, Ordering::SeqCst);
-        self.claim.store(claim, Ordering::SeqCst);
+        self.claim.store(claim.saturating_add(1), Ordering::SeqCst);
     }
 
     fn searches(&self, bound: u8) {
-        self.is_search.store(true, Ordering::SeqCst);
         self.bound.store(bound, Ordering::SeqCst);
         self.boards.store(0, Ordering::SeqCst);
         // Where the clock fails no time passes below this bound, so that no pace is told.
@@ -152,59 +164,97 @@ impl<R: Clock + Eprint> Gate for Progress<'_, '_, R> {
             let _ = self.rt.eprintln(pace);
         }
     }
+
+    fn found(&self, moves: u8, counts: u64, all: u64) {
+        if let Some(making) = self.making_due(Stage::Finding(moves), counts, all) {
+            let _ = self.rt.eprintln(making);
+        }
+    }
+
+    fn filled(&self, entries: u64, all: u64) {
+        let filled_before = self.filled.fetch_add(entries, Ordering::SeqCst);
+        let filled = filled_before.saturating_add(entries);
+        if let Some(making) = self.making_due(Stage::Filling, filled, all) {
+            let _ = self.rt.eprintln(making);
+        }
+    }
 }
 
-/// The gate of the program.
+/// The gate of the program: it holds nobody. It keeps in mind how far the searches for a claim came.
 #[derive(Drop)]
-pub enum Watch<'a, 'n, R> {
-    /// Tells nothing, and holds nobody.
-    Quiet,
-    /// Tells how far the check has come, or how fast the search goes.
-    Telling(Progress<'a, 'n, R>),
+pub struct Watch<'a, 'n, R> {
+    /// What tells how far the work has come, where that is asked for.
+    progress: Option<Progress<'a, 'n, R>>,
+    /// The bounds of the searches for the last claim, or of all searches where nothing is claimed.
+    bounds: Bounds,
 }
 
 impl<'a, 'n, R: Env + Clock + Eprint> Watch<'a, 'n, R> {
     /// The gate that the environment asks for, of a run that checks these files in this order: one that tells where `PDB_PROGRESS` is
     /// 1, and otherwise a quiet one.
     pub fn asked_for(rt: &'a R, files: Vec<&'n str>) -> Watch<'a, 'n, R> {
-        if !is_asked_for(rt) {
-            return Watch::Quiet;
+        let progress = if is_asked_for(rt) {
+            Progress::start(rt, files).ok()
+        } else {
+            None
+        };
+        Watch {
+            progress,
+            bounds: Bounds::new(),
         }
-        match Progress::start(rt, files) {
-            Ok(progress) => Watch::Telling(progress),
-            Err(_) => Watch::Quiet,
-        }
+    }
+}
+
+impl<R> Watch<'_, '_, R> {
+    /// The greatest bound below which a search for the last claim has ended without a solution, and a search below a greater one
+    /// has begun. None where there is none, or the gate wasn't told.
+    pub fn ended_below(&self) -> Option<u8> {
+        self.bounds.ended()
     }
 }
 
 impl<R: Clock + Eprint> Gate for Watch<'_, '_, R> {
     fn begins(&self, jobs: u64) {
-        if let Watch::Telling(progress) = self {
+        if let Some(progress) = &self.progress {
             progress.begins(jobs);
         }
     }
 
     fn before(&self, job: u64) {
-        if let Watch::Telling(progress) = self {
+        if let Some(progress) = &self.progress {
             progress.before(job);
         }
     }
 
     fn asks(&self, claim: u64) {
-        if let Watch::Telling(progress) = self {
+        self.bounds.clear();
+        if let Some(progress) = &self.progress {
             progress.asks(claim);
         }
     }
 
     fn searches(&self, bound: u8) {
-        if let Watch::Telling(progress) = self {
+        self.bounds.begin(bound);
+        if let Some(progress) = &self.progress {
             progress.searches(bound);
         }
     }
 
     fn expanded(&self, boards: u64) {
-        if let Watch::Telling(progress) = self {
+        if let Some(progress) = &self.progress {
             progress.expanded(boards);
+        }
+    }
+
+    fn found(&self, moves: u8, counts: u64, all: u64) {
+        if let Some(progress) = &self.progress {
+            progress.found(moves, counts, all);
+        }
+    }
+
+    fn filled(&self, entries: u64, all: u64) {
+        if let Some(progress) = &self.progress {
+            progress.filled(entries, all);
         }
     }
 }

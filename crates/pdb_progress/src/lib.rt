@@ -1,8 +1,10 @@
-//! How far a check has come, and how fast a search goes, told on standard error while they run.
+//! How far a check or a maker has come, and how fast a search goes, told on standard error while they run.
 #![tactic(auto)]
 
+mod bounds;
 mod files;
 mod gates;
+mod makings;
 mod paces;
 mod shares;
 mod times;

@@ -9,12 +9,12 @@ use std::fmt::{Display, Formatter};
 /// The most boards of which a pace is told.
 const MOST_BOARDS: u64 = 1 << 53;
 
-/// How fast a claim's board is searched for a solution of fewer moves than a bound. It is shown as the line that tells
-/// it.
+/// How fast a board is searched for a solution of fewer moves than a bound. It is shown as the line that tells it.
 #[derive(Clone, Copy, Debug, PartialEq, Eq)]
 pub struct Pace {
-    /// The claim's number, from 0 as the numbers of tables, sets and lemmas are in the program's other lines.
-    pub claim: u64,
+    /// The number of the claim whose board it is, from 0 as the numbers of tables, sets and lemmas are in the program's other
+    /// lines. None where nothing is claimed.
+    pub claim: Option<u64>,
     /// The bound: only solutions of fewer moves are searched for.
     pub bound: u8,
     /// How many boards were expanded since the search for these solutions began.
@@ -27,7 +27,7 @@ pub struct Pace {
 impl Pace {
     /// The pace of so many boards in so many milliseconds, where a search may have expanded so many and some time has
     /// passed.
-    pub fn of(claim: u64, bound: u8, boards: u64, millis: u64) -> Option<Pace>
+    pub fn of(claim: Option<u64>, bound: u8, boards: u64, millis: u64) -> Option<Pace>
         ensures variant { IsSome result ↔ IsPace boards millis }
         ensures claim { IfSome result (λ pace. (pace.claim ≡ claim) × (pace.bound ≡ bound)) }
         ensures value { IfSome result (λ pace. (pace.boards ≡ boards) × (pace.millis ≡ millis)) }
@@ -53,13 +53,12 @@ impl Pace {
 
 impl Display for Pace {
     fn fmt<W: fmt::Write>(&self, f: &mut Formatter<W>) -> fmt::Result {
-        let claim = self.claim;
-        let bound = self.bound;
-        let boards = self.boards;
+        let (bound, boards) = (self.bound, self.boards);
         let rate = self.boards_a_second();
-        write!(
-            f,
-            "pdb_cli: claim {claim}, below {bound}: {boards} boards, {rate} a second"
-        )
+        f.write_str("pdb_cli: ")?;
+        if let Some(claim) = self.claim {
+            write!(f, "claim {claim}, ")?;
+        }
+        write!(f, "below {bound}: {boards} boards, {rate} a second")
     }
 }

@@ -1,4 +1,4 @@
-//! What share of its jobs a check has begun.
+//! What share of its jobs a check has begun, or of its counts or entries a table has.
 
 ghost use Rattle.std.specs.Prelude.{◌≡◌, ◌↔◌, ◌*◌, ◌/◌, ◌≤◌, IfSome, IsSome};
 ghost use Rattle.pdb_progress.specs.Shares.{IsShare};

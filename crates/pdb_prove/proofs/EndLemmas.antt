@@ -22,7 +22,8 @@ use Rattle.pdb_verdict.specs.declared.verdicts.Fault as verdict
 use Rattle.pdb_verdict.specs.declared.verdicts.Fault.TheVariants.{Memory}
 use Rattle.pdb_verdict.specs.declared.verdicts.Verdict.{Verdict}
 use Rattle.pdb_verdict.proofs.RefusalLemmas.{cause_settled}
-use Rattle.pdb_prove.specs.Prove.{AreReady, ClaimsFiles, IsClaimsReply, IsUnready, ProveEnds, TakesMemoryForClaims, answered, budget_of, digested_files, in_order, prove_inputs, reply_to_claims, unready}
+use Rattle.pdb_prove.specs.Prove.{AreReady, ClaimsFiles, IsClaimsReply, IsUnready, ProveEnds, TakesMemoryForClaims, answered, budget_of}
+use Rattle.pdb_prove.specs.Prove.{digested_files, in_order, prove_inputs, reply_to_claims, unready}
 use Rattle.pdb_prove.specs.Steps.{AreAllTold, AreCut, IsCauseForClaims, of_claims}
 use Rattle.pdb_prove.proofs.TellingLemmas.{written_behind}
 

@@ -49,7 +49,10 @@ fault_line (fault.TableOf i (table.Head head.T3)) = (codes "refused T3 of table 
 fault_line (fault.TableOf i (table.Head head.T4)) = (codes "refused T4 of table " ++ decimal i, refl)
 fault_line (fault.TableOf i (table.Head head.T5)) = (codes "refused T5 of table " ++ decimal i, refl)
 fault_line (fault.TableOf i (table.Head head.T6)) = (codes "refused T6 of table " ++ decimal i, refl)
-fault_line (fault.TableOf i (table.T7 n)) = ((codes "refused T7 at entry " ++ decimal n) ++ (codes " of table " ++ decimal i), twice (codes "refused T7 at entry ") (codes " of table ") n i)
+fault_line (fault.TableOf i (table.T7 n)) = (
+  (codes "refused T7 at entry " ++ decimal n) ++ (codes " of table " ++ decimal i),
+  twice (codes "refused T7 at entry ") (codes " of table ") n i,
+)
 fault_line (fault.Sets (set.S1 n)) = (codes "refused S1 at line " ++ decimal n, refl)
 fault_line (fault.Sets (set.S2 n)) = (codes "refused S2 at line " ++ decimal n, refl)
 fault_line (fault.Sets (set.S3 n)) = (codes "refused S3 at line " ++ decimal n, refl)
@@ -62,7 +65,10 @@ fault_line (fault.Log (log.Form (form.L3 n))) = (codes "refused L3 at lemma " ++
 fault_line (fault.Log log.L4) = (codes "refused L4", refl)
 fault_line (fault.Log log.L5) = (codes "refused L5", refl)
 fault_line (fault.Log (log.L6 n)) = (codes "refused L6 at lemma " ++ decimal n, refl)
-fault_line (fault.O1 solution bound) = ((codes "refused O1 solution " ++ decimal solution) ++ (codes " bound " ++ decimal bound), twice (codes "refused O1 solution ") (codes " bound ") solution bound)
+fault_line (fault.O1 solution bound) = (
+  (codes "refused O1 solution " ++ decimal solution) ++ (codes " bound " ++ decimal bound),
+  twice (codes "refused O1 solution ") (codes " bound ") solution bound,
+)
 fault_line fault.K1 = (codes "refused K1", refl)
 fault_line fault.K2 = (codes "refused K2", refl)
 fault_line fault.K3 = (codes "refused K3", refl)

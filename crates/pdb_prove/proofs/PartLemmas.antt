@@ -38,7 +38,9 @@ module _ (guide : ShownGuide) (budget : ℕ) (b : List ℕ) where
   part_true (claims.bound r) (Refused refused) is = tt
   part_true (claims.part r p) (Refused refused) is = tt
 
-pub all_parts : (v : ShownBundle) (budget : ℕ) (claims : List ShownClaim) (told : List Told) → AllZip (IsToldOf v budget) claims told → AllByRecursion IsTrueOfParts told
+-- where each answer is right for its claim, what the answers say of parts of bounds is true
+pub all_parts : (v : ShownBundle) (budget : ℕ) (claims : List ShownClaim) (told : List Told) → AllZip (IsToldOf v budget) claims told
+    → AllByRecursion IsTrueOfParts told
 all_parts v budget [] [] each = tt
 all_parts v budget (claim ∷ claims) (told ∷ rest) each =
     let is = each.0 in

@@ -41,7 +41,8 @@ module _ (guide : ShownGuide) (budget : ℕ) (b : List ℕ) (found : Found) wher
   bound_for (claims.part s p) r is found_for = let clash : Bound r ≡ Part (record { bound = s; part = p }) = is in cc
 
   -- a part of a bound is said
-  pub part_for : (asks : ShownAsks) (x : PartBound) → IsQuestionOf b asks (Part x) → IsPartFor guide budget b x.bound x.part found → IsFoundOf guide budget b asks found
+  pub part_for : (asks : ShownAsks) (x : PartBound) → IsQuestionOf b asks (Part x) → IsPartFor guide budget b x.bound x.part found
+      → IsFoundOf guide budget b asks found
   part_for claims.shortest x is found_for = let clash : Part x ≡ Shortest = is in cc
   part_for (claims.moves text) x is found_for = let clash : Part x ≡ Moves is.0 = is.2 in cc
   part_for (claims.bound s) x is found_for = let clash : Part x ≡ Bound s = is in cc

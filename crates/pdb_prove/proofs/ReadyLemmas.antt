@@ -1,5 +1,6 @@
 -- The first claim of another side.
-use Rattle.std.proofs.Common.{◌≡◌, ◌≢◌, ◌==◌, ◌∙◌, not, true, ◌+◌, ◌<◌, ℕ, zero, suc, List, [], ◌∷◌, ◌++◌, ap, arith, drop, get_or, length, map, subst, sym, take, take-append-drop}
+use Rattle.std.proofs.Common.{◌≡◌, ◌≢◌, ◌==◌, ◌∙◌, not, true, ◌+◌, ◌<◌, ℕ, zero, suc, List, [], ◌∷◌, ◌++◌, ap, arith, drop, get_or, length, map}
+use Rattle.std.proofs.Common.{subst, sym, take, take-append-drop}
 use Rattle.std.specs.List.{All, AllByRecursion}
 use Rattle.std.proofs.lemmas.Grind.{common_steps}
 use Rattle.std.proofs.lemmas.List.{drop_more, map-append, take_more}
@@ -23,7 +24,8 @@ first_behind : (side : ℕ) (before : List ShownClaim) (claim : ShownClaim) (beh
 first_behind side [] claim behind all other = other
 first_behind side (first ∷ before) claim behind all other = (all.0, first_behind side before claim behind all.1 other)
 
-module _ (side : ℕ) (claims : List Claim) (i : ℕ) (claim : Claim) (low : i < length claims) (is : claim ≡ get_or claims i claim) (all : HaveSide side (map claim_shown (take i claims))) where
+module _ (side : ℕ) (claims : List Claim) (i : ℕ) (claim : Claim) (low : i < length claims) (is : claim ≡ get_or claims i claim)
+    (all : HaveSide side (map claim_shown (take i claims))) where
   -- the next claim has the side
   pub next_side : side_of claim.board ≡ side → HaveSide side (map claim_shown (take (i + 1) claims))
   next_side same =

@@ -22,7 +22,8 @@ module _ (guide : ShownGuide) (few budget : ℕ) (less : few ≤ budget) where
   part_within b r p is = (is.0, (is.1.0, is.1.1, omega (arith, is.1.2, less)))
 
   -- what is found for a claim within few boards, and isn't that these are spent, is found within more
-  pub soon_enough : (b : List ℕ) (asks : ShownAsks) (found : Found) → is_spent found ≡ false → IsFoundOf guide few b asks found → IsFoundOf guide budget b asks found
+  pub soon_enough : (b : List ℕ) (asks : ShownAsks) (found : Found) → is_spent found ≡ false → IsFoundOf guide few b asks found
+      → IsFoundOf guide budget b asks found
   soon_enough b claims.shortest (Shortest n letters) settled is = is
   soon_enough b claims.shortest (Refused K2) settled is = elim is [ inl odd ↦ inl odd | inr beyond ↦ inr beyond ]
   soon_enough b claims.shortest (Refused K1) settled is = absurd (spent_not settled)

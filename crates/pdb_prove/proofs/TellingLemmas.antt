@@ -1,5 +1,6 @@
 -- Lines that are told one after the other.
-use Rattle.std.proofs.Common.{◌≡◌, ◌∙◌, ◌+◌, ◌-◌, ◌<◌, ◌≤◌, ◌&&◌, ap, ℕ, zero, suc, Bool, true, false, List, [], ◌∷◌, ◌++◌, Result, Ok, Err, append_assoc, arith, drop, get_or, length, map, refl, subst, sym, take, take-append-drop}
+use Rattle.std.proofs.Common.{◌≡◌, ◌∙◌, ◌+◌, ◌-◌, ◌<◌, ◌≤◌, ◌&&◌, ap, ℕ, zero, suc, Bool, true, false, List, [], ◌∷◌, ◌++◌, Result, Ok, Err}
+use Rattle.std.proofs.Common.{append_assoc, arith, drop, get_or, length, map, refl, subst, sym, take, take-append-drop}
 use Rattle.std.specs.List.{All, AllZip}
 use Rattle.std.proofs.KnownBytes.{Appends-nil}
 use Rattle.std.proofs.Math.Seq.{take-add}
@@ -48,7 +49,12 @@ zip_behind v budget _ _ more rest p q = absurd p
 module _ {v : ShownBundle} {budget : ℕ} where
   -- nothing was told of no claims
   pub none_told : (w : World) → AreAllTold v budget w w [] true
-  none_told w = record { told = []; each = tt; yes = refl; written = record { written = (Appends-nil w.written.bytes, refl); calls = refl; files = refl; failed = refl; reader = refl } }
+  none_told w = record {
+    told = [];
+    each = tt;
+    yes = refl;
+    written = record { written = (Appends-nil w.written.bytes, refl); calls = refl; files = refl; failed = refl; reader = refl };
+  }
 
   module _ {a b c : World} {claims more : List ShownClaim} {y : Bool} (all : AreAllTold v budget a b claims y) where
     -- all of some claims were told, and all of more behind them

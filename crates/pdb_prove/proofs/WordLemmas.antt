@@ -19,7 +19,8 @@ same_below xs y x t low is = grind (arith, common_steps, gets)
 last_is : {X : Type 0} (xs : List X) (y x : X) → slice_get (xs ++ y ∷ []) (length xs) ≡ Some x → x ≡ y
 last_is xs y x is = grind (arith, common_steps, gets)
 
-module _ (v : ShownBundle) (n : ℕ) (table : Table) (shows : part_shown (Full table) ≡ slice_index_or v.tables n no_part) (side : (part_pattern (Full table)).side ≡ v.side) where
+module _ (v : ShownBundle) (n : ℕ) (table : Table) (shows : part_shown (Full table) ≡ slice_index_or v.tables n no_part)
+    (side : (part_pattern (Full table)).side ≡ v.side) where
   -- the words of the next table stand behind those of the tables before it
   pub more_words : (all : List ShownWords) (w : ShownWords) → length all ≡ n → ((t : ℕ) → t < n → HasWords v all t) → w.pattern ≡ table.pattern
       → (t : ℕ) → t < n + 1 → HasWords v (all ++ w ∷ []) t

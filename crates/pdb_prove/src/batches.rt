@@ -176,10 +176,10 @@ fn tell_next<H: Threads + Sync, G: Gate + Sync, I: Io>(
     let batch = known.batch;
     let claims = batch.claims;
     let claim = &claims[number];
+    workers.gate.asks(batch.first.saturating_add(number as u64));
     match known.soon.get(number) {
         Some(Some(found)) => tell(batch, claim, found, io),
         _ => {
-            workers.gate.asks(batch.first.saturating_add(number as u64));
             let found = help.search(claim, batch.budget, workers);
             tell(batch, claim, &found, io)
         }

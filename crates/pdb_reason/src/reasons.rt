@@ -10,11 +10,15 @@ use pdb_request::{Parts, Prove, Replay, Request};
 use std::fmt;
 use std::fmt::{Display, Formatter};
 
+/// What stands before a reason that is told before the run ends.
+const AHEAD: &str = "this run can't end in a yes: ";
+
 /// What a sentence names.
 #[derive(Clone, Copy, Debug, PartialEq, Eq)]
 enum Named<'a> {
     File(&'a str),
     StandardInput,
+    LastClaim,
     Nothing,
 }
 
@@ -25,13 +29,20 @@ pub struct Reason<'a> {
     name: Named<'a>,
     text: Text,
     numbers: [u64; 2],
+    /// The greatest bound below which searches ended without a solution before the budget was spent, where that is known.
+    ended: Option<u8>,
     beginning: Beginning,
+    /// Whether the run has still to end.
+    is_ahead: bool,
 }
 
 impl<'a> Reason<'a> {
-    /// Why the run that does what was asked ended with this line, where that is no yes and no answer to a claim.
-    pub fn of(asked: &Request<'a>, line: &'a [u8]) -> Option<Reason<'a>> {
+    /// Why the run that does what was asked ended with this line, where that is no yes. Of an answer to a claim it is told only where
+    /// it says more: that the budget is spent, and how far the searches came. `ended` is the greatest bound below which the last
+    /// searches ended without a solution, where there is one.
+    pub fn of(asked: &Request<'a>, line: &'a [u8], ended: Option<u8>) -> Option<Reason<'a>> {
         match Answer::of(line)? {
+            Answer::Refused("K1", _) => spent(asked, ended),
             Answer::Refused(code, numbers) => refusal(asked, code, numbers),
             Answer::Fault(kind, name) => Some(fault(asked, kind, name)?),
             Answer::Maker => Some(told(Subject::Run, Named::Nothing, Text::Plain(WRONG), [0; 2])),
@@ -48,7 +59,7 @@ impl<'a> Reason<'a> {
     pub fn name(&self) -> Option<&'a str> {
         match self.name {
             Named::File(name) => Some(name),
-            Named::StandardInput | Named::Nothing => None,
+            Named::StandardInput | Named::LastClaim | Named::Nothing => None,
         }
     }
 
@@ -76,16 +87,28 @@ impl<'a> Reason<'a> {
         };
         Reason { beginning, ..self }
     }
+
+    /// The same, told before the run ends.
+    pub fn ahead(self) -> Reason<'a> {
+        Reason {
+            is_ahead: true,
+            ..self
+        }
+    }
 }
 
 impl Display for Reason<'_> {
     fn fmt<W: fmt::Write>(&self, f: &mut Formatter<W>) -> fmt::Result {
         f.write_str("pdb_cli: ")?;
+        if self.is_ahead {
+            f.write_str(AHEAD)?;
+        }
         match self.name {
             Named::File(name) => {
                 write!(f, "{}: ", ShownName(name))?;
             }
             Named::StandardInput => f.write_str("standard input: ")?,
+            Named::LastClaim => f.write_str("the last claim: ")?,
             Named::Nothing => {}
         }
         let [first, second] = self.numbers;
@@ -93,6 +116,12 @@ impl Display for Reason<'_> {
             Text::Plain(a) => f.write_str(a)?,
             Text::One(a, b) => write!(f, "{a}{first}{b}")?,
             Text::Two(a, b, c) => write!(f, "{a}{first}{b}{second}{c}")?,
+        }
+        if let Some(bound) = self.ended {
+            write!(
+                f,
+                ". The searches that ended found no solution of fewer than {bound} moves"
+            )?;
         }
         f.write_str(self.beginning.text())
     }
@@ -105,8 +134,23 @@ fn told<'a>(subject: Subject, name: Named<'a>, text: Text, numbers: [u64; 2]) ->
         name,
         text,
         numbers,
+        ended: None,
         beginning: Beginning::OfAny,
+        is_ahead: false,
     }
+}
+
+/// Why a run was refused whose budget is spent, and how far its searches came. Of the last claim of `prove` this is told where it is
+/// known how far.
+fn spent<'a>(asked: &Request<'a>, ended: Option<u8>) -> Option<Reason<'a>> {
+    let name = match (asked, ended) {
+        (Request::Prove(_), None) => return None,
+        (Request::Prove(_), Some(_)) => Named::LastClaim,
+        _ => Named::Nothing,
+    };
+    let (subject, text) = text_of("K1")?;
+    let reason = told(subject, name, text, [0; 2]);
+    Some(Reason { ended, ..reason })
 }
 
 /// Why an input can't be read, or nothing can be kept.

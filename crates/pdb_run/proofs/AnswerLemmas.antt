@@ -5,7 +5,8 @@ use Rattle.pdb_run.specs.Answers.{IsReplyOf, answer_text}
 use Rattle.pdb_run.specs.Commands.{Plan, Reply}
 use Rattle.pdb_run.specs.Calls.{with_keep}
 use Rattle.pdb_run.specs.Io.{HasRead, HasReadAndTried, IsSaid}
-use Rattle.pdb_run.specs.Runs.{Ends, HasCause, IsAnswered, IsFree, LeavesCalls, LeavesFailure, LeavesFiles, LeavesReader, MayReplace, Outcome, SparesFiles, World, made_wrong, no_memory, replied, status_of, status_of_reply, text_of, unlisted, with_kept}
+use Rattle.pdb_run.specs.Runs.{Ends, HasCause, IsAnswered, IsFree, LeavesCalls, LeavesFailure, LeavesFiles, LeavesReader, MayReplace, Outcome}
+use Rattle.pdb_run.specs.Runs.{SparesFiles, World, made_wrong, no_memory, replied, status_of, status_of_reply, text_of, unlisted, with_kept}
 use Rattle.pdb_run.specs.Steps.{HasBegun, kept_of}
 use Rattle.pdb_run.specs.declared.answers.Answer.{Answer}
 use Rattle.pdb_run.specs.declared.statuses.Status.{Status}

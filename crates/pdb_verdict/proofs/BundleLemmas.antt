@@ -1,5 +1,6 @@
 -- Table files that are checked one after the other.
-use Rattle.std.proofs.Common.{◌≡◌, ◌⊎◌, ℕ, Bool, true, false, zero, suc, ◌<◌, List, [], ◌∷◌, ◌++◌, MatchResult, Result, add-one, ap, append-nil, append_assoc, arith, inl, inr, length, min, refl}
+use Rattle.std.proofs.Common.{◌≡◌, ◌⊎◌, ℕ, Bool, true, false, zero, suc, ◌<◌, List, [], ◌∷◌, ◌++◌, MatchResult, Result, add-one, ap, append-nil}
+use Rattle.std.proofs.Common.{append_assoc, arith, inl, inr, length, min, refl}
 use Rattle.std.specs.List.{AllByRecursion}
 use Rattle.std.proofs.lemmas.Bool.{cases_eq}
 use Rattle.tab_file.specs.Tables.{Table, placement_count}
@@ -94,7 +95,8 @@ all_exact fold (t ∷ ts) (file ∷ files) are =
     (part_exact fold t (record { is_table = are.0.is_file.table; exact = are.0.exact }), all_exact fold ts files are.1)
 
 -- what makes a bundle has a table file, so it takes memory to check it
-pub bundle_taken : (fold : Bool) (files : List Bytes) (sets : Bytes) (bundle : ShownBundle) → IsBundleOfFiles fold files sets bundle → TakesMemoryForTables files
+pub bundle_taken : (fold : Bool) (files : List Bytes) (sets : Bytes) (bundle : ShownBundle) → IsBundleOfFiles fold files sets bundle
+    → TakesMemoryForTables files
 bundle_taken fold files sets bundle is = exact_taken is.tables files is.makes.alike.count.some is.exact
   where
     exact_taken : (ts : List Table) (of : List Bytes) → 0 < length (parts_for fold ts) → AreExactFiles ts of → TakesMemoryForTables of

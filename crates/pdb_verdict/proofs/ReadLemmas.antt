@@ -40,6 +40,7 @@ module _ (shelf : Option Files) (reader : Option Bytes) where
     pub log : IsReadFrom shelf reader (Some arguments.log) files.log
     pub tables : AreRead shelf reader (map a_table arguments.tables) files.tables
 
+  -- the files that were read for a check of a log are those under the names of its arguments
   pub log_stood : (claim : Claim) (arguments : LogArguments) (files : LogFiles)
       → AreRead shelf reader (log_check_inputs arguments) (files_in_order (log_given claim arguments files)) → LogStood arguments files
   log_stood claim arguments files read =

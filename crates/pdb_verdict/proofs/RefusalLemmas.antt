@@ -107,4 +107,5 @@ module _ {A : Type 0} (verdict_of : A → Verdict) (IsFound : Result A Fault →
       → IsFoundBy (IsTold verdict_of IsFound) Takes (told_as verdict_of found)
   found_told Takes (Ok a) is = (Ok a, is, refl)
   found_told Takes (Err fault) is =
-      cause_by {Was = λ refused. IsFound (Err refused)} {Is = λ refused. IsTold verdict_of IsFound (Err refused)} (λ refused is_found. (Err refused, is_found, refl)) (λ takes. takes) fault is
+      cause_by {Was = λ refused. IsFound (Err refused)} {Is = λ refused. IsTold verdict_of IsFound (Err refused)}
+      (λ refused is_found. (Err refused, is_found, refl)) (λ takes. takes) fault is

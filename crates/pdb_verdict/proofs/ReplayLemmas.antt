@@ -60,7 +60,8 @@ parts-solved puzzle n h =
     (rw (replay_of-solved h.board h.moves_text n h.spelt.board h.solved))
 
 -- the board and the moves of a puzzle text that is made of them
-pub joined-parts : (text moves board : List ℕ) → Spells text board → solved_parts (puzzle_parts (puzzle_of text moves)) ≡ solved_by board (replay_of board moves)
+pub joined-parts : (text moves board : List ℕ) → Spells text board
+    → solved_parts (puzzle_parts (puzzle_of text moves)) ≡ solved_by board (replay_of board moves)
 joined-parts text moves board spelt =
     rw (puzzle_parts-puzzle _ text moves (record { whole = refl; first = spelled-no_semicolon text board spelt }), board_of_text-spelled text board spelt) refl
 

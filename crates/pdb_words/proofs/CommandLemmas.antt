@@ -35,7 +35,8 @@ pub mistaken : (words : List Text) (k : ErrorKind) (ks : Kinds) → faults_of wo
 mistaken words k ks is no_help no_version = record { kind = k; among = rw is (inl refl); no_help = no_help; no_version = no_version }
 
 -- such a fault that `clap` finds
-pub mistaken_parse : (words : List Text) (k : ErrorKind) (ks : Kinds) → parse_faults words ≡ k ∷ ks → k ≢ kind.DisplayHelp → k ≢ kind.DisplayVersion → IsMistaken words
+pub mistaken_parse : (words : List Text) (k : ErrorKind) (ks : Kinds) → parse_faults words ≡ k ∷ ks → k ≢ kind.DisplayHelp → k ≢ kind.DisplayVersion
+    → IsMistaken words
 mistaken_parse words k ks is no_help no_version =
     record { kind = k; among = among_later k _ (parse_faults words) (rw is (inl refl)); no_help = no_help; no_version = no_version }
 
@@ -110,6 +111,7 @@ begins (word ∷ rest) parses = elim (known_or_other word) [
       inr (same, by_dashes rest (rw same at parses))
 ]
 
+-- words that parse are none, two dashes alone, or begin with the name of a command
 pub begins_with_command : (words : List Text) → Parses words → BeginsWithCommand words
 begins_with_command words parses = begins words (parse_right words parses)
 
@@ -153,7 +155,8 @@ module _ (name : Text) (is : IsCommand name) (words : List Text) where
   met = let e = is_entered name is in rw (e.stops, ← walk_stopped top.rules names start name [] words, e.found, e.label)
 
   -- so is what is wrong with them, and with a value in these rows
-  pub faults_behind : faults_of (name ∷ words) ≡ value_faults_by name (rows_after (leaf name).rules [] words) ++ or_else (level_fault (leaf name) [] nothing_held words false []) []
+  pub faults_behind : faults_of (name ∷ words) ≡ value_faults_by name (rows_after (leaf name).rules [] words) ++ or_else
+      (level_fault (leaf name) [] nothing_held words false []) []
   faults_behind = λ i. value_faults_in (met i) ++ parse_faults_behind i
 
   -- what is asked for is what these rows ask for
@@ -172,7 +175,8 @@ command_met (word ∷ rest) (inl command) = rw (met word command rest) command
 command_met (word ∷ rest) (inr dashes) = rw (dashes.0, dashes.1) tt
 
 -- the matches of words have a command of the program, or none
-pub command_found : (words : List Text) (r : Result ArgMatches Error) → FailsBy (parse_faults words) r → IfOk r (λ m. subcommand_rows_of m ≡ subcommand_of command_line words)
+pub command_found : (words : List Text) (r : Result ArgMatches Error) → FailsBy (parse_faults words) r
+    → IfOk r (λ m. subcommand_rows_of m ≡ subcommand_of command_line words)
     → IfOk r (λ m. HasCommand (subcommand_rows_of m))
 command_found words (Ok m) parses rows = rw rows (command_met words (begins words parses))
 command_found words (Err e) fails rows = tt
@@ -180,7 +184,8 @@ command_found words (Err e) fails rows = tt
 -- ---- what gives cause for a fault
 
 -- what `clap` found is among what is wrong
-pub error_among : (words : List Text) (e : Error) (k : ErrorKind) → HasKind (parse_faults words) e → k ≡ kind_of e → k ≢ kind.OutOfMemory → IsAmong k (faults_of words)
+pub error_among : (words : List Text) (e : Error) (k : ErrorKind) → HasKind (parse_faults words) e → k ≡ kind_of e → k ≢ kind.OutOfMemory
+    → IsAmong k (faults_of words)
 error_among words e k (inl memory) is other = absurd (other (is ∙ memory))
 error_among words e k (inr among) is other = among_later k _ (parse_faults words) (rw is among)
 
@@ -192,7 +197,8 @@ mistake_cause words (fault.Help text) mistaken is = absurd is
 mistake_cause words fault.Version mistaken is = absurd is
 
 -- so does a value that is wrong
-pub value_cause : (words : List Text) (rows : Option (Text × List Row)) (f : WordFault) → rows ≡ subcommand_of command_line words → value_faults_in rows ≡ kind.ValueValidation ∷ []
+pub value_cause : (words : List Text) (rows : Option (Text × List Row)) (f : WordFault) → rows ≡ subcommand_of command_line words
+    → value_faults_in rows ≡ kind.ValueValidation ∷ []
     → IsMistakeOrMemory f → IsCauseOfWordFault words f
 value_cause words rows f found wrong is =
     mistake_cause words f (record { kind = kind.ValueValidation; among = rw (← found, wrong) (inl refl); no_help = λ e. cc; no_version = λ e. cc }) is

@@ -1,5 +1,6 @@
 -- What is read of a text that writes a mask.
-use Rattle.std.proofs.Common.{◌≡◌, ◌<◌, ◌≤◌, ◌≢◌, ◌+◌, ◌-◌, ◌^◌, ◌&&◌, Bool, not, ◌*◌, ◌/◌, ◌%◌, ◌⊎◌, ◌∙◌, arith, inl, inr, refl, ap, true, false, ℕ, List, [], ◌∷◌, ◌++◌, decimal, length}
+use Rattle.std.proofs.Common.{◌≡◌, ◌<◌, ◌≤◌, ◌≢◌, ◌+◌, ◌-◌, ◌^◌, ◌&&◌, Bool, not, ◌*◌, ◌/◌, ◌%◌, ◌⊎◌, ◌∙◌, arith, inl, inr, refl, ap, true, false, ℕ}
+use Rattle.std.proofs.Common.{List, [], ◌∷◌, ◌++◌, decimal, length}
 use Rattle.std.specs.List.{after_first, before_first, list_all, list_any, position_or_len, slice_split}
 use Rattle.std.specs.Borrow.{Bor}
 use Rattle.std.specs.Char.{digit_value}
@@ -23,17 +24,20 @@ use Rattle.pdb_words.specs.TileBits.{with_tile, with_tiles}
 use Rattle.pdb_words.proofs.NumberLemmas.{digits_tested}
 
 -- what `strip_prefix` leaves
-pub behind_is : (front text : Text) (r : Option (Bor Text)) → MatchOption r (FindsTextPrefix front text None) (λ x. StripsPrefix (FindsTextPrefix front) text x.now) → option_map (λ x. x.now) r ≡ behind front text
+pub behind_is : (front text : Text) (r : Option (Bor Text))
+    → MatchOption r (FindsTextPrefix front text None) (λ x. StripsPrefix (FindsTextPrefix front) text x.now) → option_map (λ x. x.now) r ≡ behind front text
 behind_is front text None none = grind (arith, starts_text false front text none)
 behind_is front text (Some x) found = grind (arith, starts_text true front text (found.0, found.1, rw found.1.0 found.1.2))
 
 -- ---- numbers
 
 module _ {E : Type 0} (text : Text) where
+  -- a parser of decimal numbers of 32 bits reads the mask that a text writes
   pub decimal_read : (r : Result ℕ E) → ParsesUnsigned 32 10 text r → result_ok r ≡ number_written 0 most_mask text
   decimal_read (Ok n) parsed = grind (arith, nat_tests, digits_tested 10 (without_leading_plus text))
   decimal_read (Err e) parsed = grind (arith, nat_tests, digits_tested 10 (without_leading_plus text))
 
+  -- a parser of hexadecimal numbers of 32 bits reads the mask of a text without a plus in front
   pub hexadecimal_read : (r : Result ℕ E) → (slice_index text 0 == 43) ≡ false → ParsesUnsigned 32 16 text r → result_ok r ≡ hexadecimal_mask text
   hexadecimal_read (Ok n) unsigned parsed = grind (arith, nat_tests, digits_tested 16 text)
   hexadecimal_read (Err e) unsigned parsed = grind (arith, nat_tests, digits_tested 16 text)
@@ -48,14 +52,24 @@ digit_is a low high = grind (arith, nat_tests)
 two_digits : (n : ℕ) → 10 ≤ n → n < 100 → decimal n ≡ (48 + n / 10) ∷ (48 + n % 10) ∷ []
 two_digits n some few = decimal_step n some (omega arith) ∙ ap (λ ds. ds ++ ((48 + n % 10) ∷ [])) (decimal_digit (n / 10) (omega arith))
 
+-- a digit alone writes the number of its tile
 pub one_digit_written : (a : ℕ) → 48 ≤ a → a ≤ 57 → tile_written (a ∷ []) ≡ Some (a - 48)
 one_digit_written a low high = grind (arith, nat_tests, digit_is a low high, decimal_digit (a - 48) (omega arith), bytes_eq-Decides (a ∷ []) (decimal (a - 48)))
 
-two_digits_written : (a b : ℕ) → 48 < a → a ≤ 57 → 48 ≤ b → b ≤ 57 → tile_written (a ∷ b ∷ []) ≡ (let n = 10 * (a - 48) + (b - 48) in if nat_lt n 32 then Some n else None)
+two_digits_written : (a b : ℕ) → 48 < a → a ≤ 57 → 48 ≤ b → b ≤ 57
+    → tile_written (a ∷ b ∷ []) ≡ (let n = 10 * (a - 48) + (b - 48) in if nat_lt n 32 then Some n else None)
 two_digits_written a b low high low_b high_b =
     let n = 10 * (a - 48) + (b - 48) in
-    grind (arith, nat_tests, digit_is a (omega arith) high, digit_is b low_b high_b, two_digits n (omega arith) (omega arith), bytes_eq-Decides (a ∷ b ∷ []) (decimal n))
+    grind (
+      arith,
+      nat_tests,
+      digit_is a (omega arith) high,
+      digit_is b low_b high_b,
+      two_digits n (omega arith) (omega arith),
+      bytes_eq-Decides (a ∷ b ∷ []) (decimal n),
+    )
 
+-- two digits, the first not 0, write their number where it is below 32
 pub two_digits_small : (a b n : ℕ) → 48 < a → a ≤ 57 → 48 ≤ b → b ≤ 57 → n ≡ 10 * (a - 48) + (b - 48) → n < 32 → Some n ≡ tile_written (a ∷ b ∷ [])
 two_digits_small a b n low high low_b high_b is small = rw (two_digits_written a b low high low_b high_b) (grind (arith, nat_tests))
 
@@ -70,12 +84,15 @@ shape n small = elim (cases_lt n 10) [
   | inr l ↦ inr (l, two_digits n l (omega arith))
 ]
 
+-- a byte that is no digit writes no tile
 pub no_digit_written : (a : ℕ) → (a < 48) ⊎ (57 < a) → tile_written (a ∷ []) ≡ None
 no_digit_written a other = none_written (a ∷ []) (λ n small e. grind (arith, shape n small))
 
+-- two bytes write no tile where the first isn't 1 to 3 or the second is no digit
 pub no_digits_written : (a b : ℕ) → (a < 49) ⊎ ((51 < a) ⊎ ((b < 48) ⊎ (57 < b))) → tile_written (a ∷ b ∷ []) ≡ None
 no_digits_written a b other = none_written (a ∷ b ∷ []) (λ n small e. grind (arith, shape n small))
 
+-- a text of no byte or of more than two writes no tile
 pub other_length_written : (text : Text) → length text ≢ 1 → length text ≢ 2 → tile_written text ≡ None
 other_length_written text one two = none_written text (λ n small e. grind (arith, shape n small))
 
@@ -89,11 +106,15 @@ one_part [] none = refl
 one_part (byte ∷ text) none = grind (arith, nat_tests, one_part text)
 
 -- the only part, and the first of more
-pub last_tile : (mask : ℕ) (text : Text) → position_or_len is_comma text ≡ length text → with_tiles mask (slice_split is_comma text) ≡ option_and_then (with_tile mask) (tile_written text)
+pub last_tile : (mask : ℕ) (text : Text) → position_or_len is_comma text ≡ length text
+    → with_tiles mask (slice_split is_comma text) ≡ option_and_then (with_tile mask) (tile_written text)
 last_tile mask text none = rw (one_part text none) (grind arith)
 
-pub first_tile : (mask : ℕ) (text first rest : Text) → first ≡ before_first is_comma text → rest ≡ after_first is_comma text → position_or_len is_comma text < length text
-    → with_tiles mask (slice_split is_comma text) ≡ option_and_then (λ more. with_tiles more (slice_split is_comma rest)) (option_and_then (with_tile mask) (tile_written first))
+-- the mask of tiles between commas has the first one, and then those of the rest
+pub first_tile : (mask : ℕ) (text first rest : Text) → first ≡ before_first is_comma text → rest ≡ after_first is_comma text
+    → position_or_len is_comma text < length text
+    → with_tiles mask (slice_split is_comma text) ≡ option_and_then (λ more. with_tiles more (slice_split is_comma rest))
+    (option_and_then (with_tile mask) (tile_written first))
 first_tile mask text first rest is_first is_rest some = rw (slice_split_first is_comma text 0 some, is_first, is_rest) refl
 
 -- ---- the bits of tiles, and their sum
@@ -105,7 +126,8 @@ are_out mask tiles = list_all (λ tile. not (bit_at mask tile == 1)) tiles
 -- the mask with one tile more is the sum of both
 one_more : (mask tile : ℕ) → (bit_at mask tile == 1) ≡ false → bit_or mask (2 ^ tile) ≡ mask + 2 ^ tile
 one_more mask tile out =
-    or_disjoint mask (2 ^ tile) (and_pow mask tile ∙ (let low = bit_at-lt mask tile in let zero : bit_at mask tile ≡ 0 = grind (arith, nat_tests) in rw zero (omega arith)))
+    or_disjoint mask (2 ^ tile) (and_pow mask tile ∙ (let low = bit_at-lt mask tile in let zero : bit_at mask tile ≡ 0 = grind (arith, nat_tests) in
+    rw zero (omega arith)))
 
 out_of_more : (mask tile other : ℕ) → not (bit_at (bit_or mask (2 ^ tile)) other == 1) ≡ (not (bit_at mask other == 1) && not (other == tile))
 out_of_more mask tile other = elim (cases_eq other tile) [
@@ -113,7 +135,8 @@ out_of_more mask tile other = elim (cases_eq other tile) [
   | inr ne ↦ grind (arith, nat_tests, bit_at_or mask (2 ^ tile) other, bit_at-pow_other tile other ne, bit_at-lt mask other)
 ]
 
-all_out_of_more : (mask tile : ℕ) (tiles : List ℕ) → are_out (bit_or mask (2 ^ tile)) tiles ≡ (are_out mask tiles && not (list_any (λ other. other == tile) tiles))
+all_out_of_more : (mask tile : ℕ) (tiles : List ℕ)
+    → are_out (bit_or mask (2 ^ tile)) tiles ≡ (are_out mask tiles && not (list_any (λ other. other == tile) tiles))
 all_out_of_more mask tile [] = refl
 all_out_of_more mask tile (other ∷ tiles) = grind (arith, out_of_more mask tile other, all_out_of_more mask tile tiles)
 
@@ -140,7 +163,8 @@ tiles_joined : (mask : ℕ) (texts : List Text) → with_tiles mask texts ≡ op
 tiles_joined mask [] = grind arith
 tiles_joined mask (text ∷ texts) = next (λ m. tiles_joined m texts) (tile_written text)
   where
-    only : (tile : ℕ) → option_and_then (λ more. with_tiles more texts) (with_tile mask tile) ≡ option_and_then (λ m. with_tiles (bit_or mask (2 ^ tile)) texts) (with_tile mask tile)
+    only : (tile : ℕ) → option_and_then (λ more. with_tiles more texts) (with_tile mask tile) ≡ option_and_then
+        (λ m. with_tiles (bit_or mask (2 ^ tile)) texts) (with_tile mask tile)
     only tile = grind arith
 
     next : ((m : ℕ) → with_tiles m texts ≡ option_and_then (joined m) (tiles_written texts)) → (tile : Option ℕ)
@@ -154,7 +178,8 @@ none_in_zero : (tiles : List ℕ) → are_out 0 tiles ≡ true
 none_in_zero [] = refl
 none_in_zero (tile ∷ tiles) = grind (arith, nat_tests, bit_at-zero tile, none_in_zero tiles)
 
-joined_zero : (tiles : Option (List ℕ)) → option_and_then (joined 0) tiles ≡ option_and_then (λ ts. if are_apart ts then Some (mask_of_tiles ts) else None) tiles
+joined_zero : (tiles : Option (List ℕ)) → option_and_then (joined 0) tiles ≡ option_and_then
+    (λ ts. if are_apart ts then Some (mask_of_tiles ts) else None) tiles
 joined_zero None = refl
 joined_zero (Some tiles) = grind (arith, none_in_zero tiles)
 

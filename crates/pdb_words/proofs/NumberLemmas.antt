@@ -31,6 +31,7 @@ module _ (low high : ℕ) (fits : high < 2 ^ 64) where
   text_read text read reads = grind (arith, nat_tests, digits_tested 10 (without_leading_plus text))
 
   -- what `get_one` read of a text that may be missing: the number where it is one from low to high
-  pub number_read : (m : ArgMatches) (id : Text) (read : Option ℕ) → (one_text (found_of m) id ≡ None → read ≡ None) → ((text : Text) → one_text (found_of m) id ≡ Some text → ReadsOne Gives text read)
+  pub number_read : (m : ArgMatches) (id : Text) (read : Option ℕ) → (one_text (found_of m) id ≡ None → read ≡ None)
+      → ((text : Text) → one_text (found_of m) id ≡ Some text → ReadsOne Gives text read)
       → option_and_then if_within read ≡ optional_number_in low high id (rows_of (found_of m))
   number_read m id read none value = grind (arith, text_read, one_text-rows (found_of m) id)

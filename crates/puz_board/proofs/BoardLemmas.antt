@@ -1,5 +1,6 @@
 -- Each number of a board has one cell, and a slide leaves a board.
-use Rattle.std.proofs.Common.{◌≡◌, ◌≢◌, ℕ, zero, suc, ◌+◌, ◌*◌, ◌<◌, ◌≤◌, Bool, true, false, cond, eqb, ◌⊎◌, List, [], ◌∷◌, length, set, inl, inr, refl, sym, ◌∙◌, ap, subst, arith, get_or-set_same, get_or-set_other, length-set, eq-eqb, ne_eqb}
+use Rattle.std.proofs.Common.{◌≡◌, ◌≢◌, ℕ, zero, suc, ◌+◌, ◌*◌, ◌<◌, ◌≤◌, Bool, true, false, cond, eqb, ◌⊎◌, List, [], ◌∷◌, length, set, inl, inr}
+use Rattle.std.proofs.Common.{refl, sym, ◌∙◌, ap, subst, arith, get_or-set_same, get_or-set_other, length-set, eq-eqb, ne_eqb}
 use Rattle.std.proofs.lemmas.Bool.{cases_eq, cond-true, cond-false, cases_lt, eqb-true, and_parts, and_from}
 use Rattle.std.specs.List.{enumerate_from, list_all}
 use Rattle.puz_board.specs.Boards.{IsBoard, IsBoardOf, IsGoal, at, blank, cell_of, is_goal, side_of, side_of_count, slid}
@@ -37,6 +38,7 @@ avoiding f m last i = cond (eqb (f i) m) (f last) (f i)
 avoids : (x m y : ℕ) → ((x ≡ m) × (cond (eqb x m) y x ≡ y)) ⊎ ((x ≢ m) × (cond (eqb x m) y x ≡ x))
 avoids x m y = elim (cases_eq x m) [ inl e ↦ inl (e, cond-true (eqb x m) y x (eq-eqb x m e)) | inr ne ↦ inr (ne, cond-false (eqb x m) y x (ne_eqb x m ne)) ]
 
+-- a function from numbers below n to numbers below m that makes no two equal needs n to be m at most
 pub pigeonhole : (n m : ℕ) (f : ℕ → ℕ) → ((i : ℕ) → i < n → f i < m) → ((i j : ℕ) → i < n → j < n → f i ≡ f j → i ≡ j) → n ≤ m
 pigeonhole zero m f into one = omega arith
 pigeonhole (suc n) zero f into one = absurd (omega (arith, into n (omega arith)))
@@ -75,6 +77,7 @@ module _ (n : ℕ) (b : List ℕ) (good : IsBoardOf n b) where
   pub cell_of-content : (c : ℕ) → c < n * n → cell_of (at b c) b ≡ c
   cell_of-content c l = cell_of-at b c one_cell (let s = good.size in omega arith)
 
+  -- a cell of the board with the number t in it is the cell of t
   pub cell_of-is : (t c : ℕ) → c < n * n → at b c ≡ t → cell_of t b ≡ c
   cell_of-is t c l e = ap (λ x. cell_of x b) (sym e) ∙ cell_of-content c l
 
@@ -115,6 +118,7 @@ module _ (n : ℕ) (b : List ℕ) (good : IsBoardOf n b) where
             ]
           ]
 
+  -- each number below the count of cells has a cell on the board
   pub cell_of-below : (t : ℕ) → t < n * n → cell_of t b < n * n
   cell_of-below t l =
       let h = has_cell t l in
@@ -122,6 +126,7 @@ module _ (n : ℕ) (b : List ℕ) (good : IsBoardOf n b) where
       let p : h.0 < n * n = h.1 in
       omega arith
 
+  -- the cell of a number has this number in it
   pub at-cell_of : (t : ℕ) → t < n * n → at b (cell_of t b) ≡ t
   at-cell_of t l = let h = has_cell t l in ap (at b) (cell_of-is t h.0 h.1 h.2) ∙ h.2
 
@@ -137,9 +142,11 @@ square_below n l = grind arith
 pub cells_least : (n : ℕ) (b : List ℕ) → IsBoardOf n b → 4 ≤ n * n
 cells_least n b good = square_above n good.low
 
+-- a board of any side has 25 cells at most
 pub cells_most : (n : ℕ) (b : List ℕ) → IsBoardOf n b → n * n ≤ 25
 cells_most n b good = square_below n good.high
 
+-- the side of a square count of cells is the root of the count, for sides from 2 to 5
 pub side_of_count-square : (n : ℕ) → 2 ≤ n → n ≤ 5 → side_of_count (n * n) ≡ n
 unfolding side_of_count
 side_of_count-square = by_side (λ n. side_of_count (n * n) ≡ n) refl refl refl refl
@@ -152,9 +159,11 @@ abbrev side_by : Bool → Bool → Bool → Bool → ℕ
 side_by a b c d = cond a 2 (cond b 3 (cond c 4 (cond d 5 0)))
 
 -- a count that has a side is its square
-pub side_of_count-sized : (count : ℕ) → side_of_count count ≢ 0 → (2 ≤ side_of_count count) × (side_of_count count ≤ 5) × (count ≡ side_of_count count * side_of_count count)
+pub side_of_count-sized : (count : ℕ) → side_of_count count ≢ 0 → (2 ≤ side_of_count count) × (side_of_count count ≤ 5)
+    × (count ≡ side_of_count count * side_of_count count)
 unfolding side_of_count
-side_of_count-sized count ne = go (eqb count 4) (eqb count 9) (eqb count 16) (eqb count 25) (eqb-true count 4) (eqb-true count 9) (eqb-true count 16) (eqb-true count 25) ne
+side_of_count-sized count ne = go (eqb count 4) (eqb count 9) (eqb count 16) (eqb count 25) (eqb-true count 4) (eqb-true count 9) (eqb-true count 16)
+    (eqb-true count 25) ne
   where
     go : (a b c d : Bool) → (a ≡ true → count ≡ 4) → (b ≡ true → count ≡ 9) → (c ≡ true → count ≡ 16) → (d ≡ true → count ≡ 25)
         → side_by a b c d ≢ 0 → (2 ≤ side_by a b c d) × (side_by a b c d ≤ 5) × (count ≡ side_by a b c d * side_by a b c d)
@@ -173,25 +182,30 @@ module _ (n : ℕ) (b : List ℕ) (good : IsBoardOf n b) (c : ℕ) (inside : c <
   z_below : blank b < n * n
   z_below = cell_of-below n b good 0 some_cell
 
+  -- the cell of the blank has the number 0 in it
   pub at_blank : at b (blank b) ≡ 0
   at_blank = at-cell_of n b good 0 some_cell
 
+  -- after a slide, the blank is in the cell to which it went
   pub at-slid_there : at (slid b c) c ≡ 0
   unfolding slid
   at-slid_there = get_or-set_same (set b (blank b) (at b c)) c 0 0 (let e = length-set b (blank b) (at b c) in let s = good.size in omega arith)
 
+  -- after a slide to another cell, the number of that cell is in the cell that the blank left
   pub at-slid_back : blank b ≢ c → at (slid b c) (blank b) ≡ at b c
   unfolding slid
   at-slid_back ne =
       get_or-set_other (set b (blank b) (at b c)) c (blank b) 0 0 ne ∙
       get_or-set_same b (blank b) (at b c) 0 (let s = good.size in let w = z_below in omega arith)
 
+  -- a slide leaves the number of every cell but the two that change places
   pub at-slid_other : (x : ℕ) → x ≢ c → x ≢ blank b → at (slid b c) x ≡ at b x
   unfolding slid
   at-slid_other x p q = get_or-set_other (set b (blank b) (at b c)) c x 0 0 p ∙ get_or-set_other b (blank b) x (at b c) 0 q
 
   -- where the content of a cell comes from
-  origin : (x : ℕ) → (x < n * n) → (y : ℕ) × (y < n * n) × (at (slid b c) x ≡ at b y) × (((x ≡ c) × (y ≡ blank b)) ⊎ ((x ≡ blank b) × (y ≡ c)) ⊎ ((x ≢ c) × (x ≢ blank b) × (y ≡ x)))
+  origin : (x : ℕ) → (x < n * n) → (y : ℕ) × (y < n * n) × (at (slid b c) x ≡ at b y)
+      × (((x ≡ c) × (y ≡ blank b)) ⊎ ((x ≡ blank b) × (y ≡ c)) ⊎ ((x ≢ c) × (x ≢ blank b) × (y ≡ x)))
   origin x l = elim (cases_eq x c) [
     | inl e ↦ (blank b, z_below, ap (at (slid b c)) e ∙ at-slid_there ∙ sym at_blank, inl (e, refl))
     | inr p ↦ elim (cases_eq x (blank b)) [
@@ -200,13 +214,16 @@ module _ (n : ℕ) (b : List ℕ) (good : IsBoardOf n b) (c : ℕ) (inside : c <
     ]
   ]
 
+  -- a slide leaves the count of a board's numbers
   pub length-slid : length (slid b c) ≡ length b
   unfolding slid
   length-slid = length-set (set b (blank b) (at b c)) c 0 ∙ length-set b (blank b) (at b c)
 
+  -- a slide leaves the side of a board
   pub side_of-slid : side_of (slid b c) ≡ side_of b
   side_of-slid = ap side_of_count length-slid
 
+  -- a slide of the blank to any cell of a board of side n leaves a board of side n
   pub IsBoardOf-slid : IsBoardOf n (slid b c)
   IsBoardOf-slid = record {
     low = good.low;
@@ -222,12 +239,15 @@ module _ (n : ℕ) (b : List ℕ) (good : IsBoardOf n b) (c : ℕ) (inside : c <
         same x y o.0 u.0 (good.distinct o.0 u.0 o.1 u.1 (sym o.2 ∙ e ∙ u.2)) o.3 u.3;
   }
     where
-      same : (x y o u : ℕ) → o ≡ u → (((x ≡ c) × (o ≡ blank b)) ⊎ ((x ≡ blank b) × (o ≡ c)) ⊎ ((x ≢ c) × (x ≢ blank b) × (o ≡ x))) → (((y ≡ c) × (u ≡ blank b)) ⊎ ((y ≡ blank b) × (u ≡ c)) ⊎ ((y ≢ c) × (y ≢ blank b) × (u ≡ y))) → x ≡ y
+      same : (x y o u : ℕ) → o ≡ u → (((x ≡ c) × (o ≡ blank b)) ⊎ ((x ≡ blank b) × (o ≡ c)) ⊎ ((x ≢ c) × (x ≢ blank b) × (o ≡ x)))
+          → (((y ≡ c) × (u ≡ blank b)) ⊎ ((y ≡ blank b) × (u ≡ c)) ⊎ ((y ≢ c) × (y ≢ blank b) × (u ≡ y))) → x ≡ y
       same x y o u e p q = omega arith
 
+  -- after a slide, the cell of the blank is the cell to which it went
   pub blank-slid : blank (slid b c) ≡ c
   blank-slid = cell_of-is n (slid b c) IsBoardOf-slid 0 c inside at-slid_there
 
+-- a slide of the blank to any cell of a board leaves a board of its own side
 pub IsBoard-slid : (b : List ℕ) → IsBoard b → (c : ℕ) → c < side_of b * side_of b → IsBoard (slid b c)
 IsBoard-slid b good c inside =
     subst (λ n. IsBoardOf n (slid b c)) (sym (side_of-slid (side_of b) b good c inside)) (IsBoardOf-slid (side_of b) b good c inside)
@@ -246,10 +266,12 @@ ordered i (x ∷ b) h =
     let same : x ≡ i = omega arith in
     and_from (eqb x i) _ (eq-eqb x i same) (ordered (i + 1) b (λ c l. let next : at b c ≡ i + suc c = h (suc c) (omega arith) in omega arith))
 
+-- the test for the goal says yes of each goal board
 pub is_goal-goal : (b : List ℕ) → IsGoal b → is_goal b ≡ true
 unfolding is_goal
 is_goal-goal b goal = ordered 0 b (λ c l. let here = goal c l in omega arith)
 
+-- a board of which the test for the goal says yes is a goal board
 pub goal-is_goal : (b : List ℕ) → is_goal b ≡ true → IsGoal b
 unfolding is_goal
 goal-is_goal b e c l = let here = in_order 0 b e c l in omega arith

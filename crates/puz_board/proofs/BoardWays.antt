@@ -1,5 +1,6 @@
 -- Boards of one side are the states of a graph: a step of the blank is free, or it moves one of the tiles and is paid.
-use Rattle.std.proofs.Common.{◌≡◌, ◌≢◌, ℕ, suc, ◌+◌, ◌-◌, ◌/◌, ◌%◌, ◌*◌, ◌<◌, ◌≤◌, Bool, true, false, cond, eqb, List, [], ◌∷◌, Some, refl, sym, ◌∙◌, ap, subst, arith, one-add, zero-add}
+use Rattle.std.proofs.Common.{◌≡◌, ◌≢◌, ℕ, suc, ◌+◌, ◌-◌, ◌/◌, ◌%◌, ◌*◌, ◌<◌, ◌≤◌, Bool, true, false, cond, eqb, List, [], ◌∷◌, Some, refl, sym, ◌∙◌}
+use Rattle.std.proofs.Common.{ap, subst, arith, one-add, zero-add}
 use Rattle.std.proofs.lemmas.Bool.{eqb-false}
 use Rattle.puz_board.specs.declared.moves.Move.{Move}
 use Rattle.puz_board.specs.declared.moves.Move.TheVariants.{Up, Down, Left, Right}
@@ -13,13 +14,15 @@ use Rattle.puz_board.proofs.Ways
 
 -- ---- adjacent cells differ
 
+-- two adjacent cells are not the same cell
 pub Adjacent-apart : (n c d : ℕ) → 2 ≤ n → Adjacent n c d → c ≢ d
 Adjacent-apart n c d low a = go a.1 a.2
   where
     go : (m : Move) → step_of n c m ≡ Some d → c ≢ d
     go Up e = let p = stays (eqb (c / n) 0) (c - n) d e in let q = eqb-false (c / n) 0 p.0 in let r : c - n ≡ d = p.1 in λ w. q (omega arith)
     go Down e = let p = stays (eqb (c / n) (n - 1)) (c + n) d e in let r : c + n ≡ d = p.1 in λ w. omega arith
-    go Left e = let p = stays (eqb (c % n) 0) (c - 1) d e in let q = eqb-false (c % n) 0 p.0 in let r : c - 1 ≡ d = p.1 in λ w. q (let z : c ≡ 0 = omega arith in omega arith)
+    go Left e = let p = stays (eqb (c % n) 0) (c - 1) d e in let q = eqb-false (c % n) 0 p.0 in let r : c - 1 ≡ d = p.1 in
+        λ w. q (let z : c ≡ 0 = omega arith in omega arith)
     go Right e = let p = stays (eqb (c % n) (n - 1)) (c + 1) d e in let r : c + 1 ≡ d = p.1 in λ w. omega arith
 
 -- ---- boards as states
@@ -33,15 +36,19 @@ module _ (n : ℕ) (tiles : List ℕ) where
   abbrev pub Step : Bool → State n → State n → Type 0
   Step paid s t = (c : ℕ) × Adjacent n (blank s.cells) c × (has tiles (at s.cells c) ≡ paid) × (t.cells ≡ slid s.cells c)
 
+  -- a step of the blank is free where it moves none of the tiles
   abbrev pub Free : State n → State n → Type 0
   Free = Step false
 
+  -- a step of the blank is paid where it moves one of the tiles
   abbrev pub Paid : State n → State n → Type 0
   Paid = Step true
 
+  -- a state is home where its tiles are in their own cells and the blank in cell 0
   abbrev pub Home : State n → Type 0
   Home s = IsHome tiles s.cells
 
+  -- the state after the blank of a state has gone to a cell of the board
   abbrev pub moved : (s : State n) (c : ℕ) → c < n * n → State n
   moved s c l = record { cells = slid s.cells c; good = IsBoardOf-slid n s.cells s.good c l }
 
@@ -59,13 +66,15 @@ module _ (n : ℕ) (tiles : List ℕ) where
   begun s c cs l a true e w = subst (λ x. Ways.Way Free Paid Home s x) (sym (cost_paid s.cells c cs e)) (Ways.paid (c, a, e, refl) w)
   begun s c cs l a false e w = subst (λ x. Ways.Way Free Paid Home s x) (sym (cost_free s.cells c cs e)) (Ways.free (c, a, e, refl) w)
 
-  way_along : (path : List ℕ) (s : State n) → IsPath n (blank s.cells) path → IsHome tiles (after s.cells path) → Ways.Way Free Paid Home s (cost tiles s.cells path)
+  way_along : (path : List ℕ) (s : State n) → IsPath n (blank s.cells) path → IsHome tiles (after s.cells path)
+      → Ways.Way Free Paid Home s (cost tiles s.cells path)
   way_along [] s walk home = Ways.home home
   way_along (c ∷ cs) s walk home =
       let inside : c < n * n = walk.0.0 in
       let on : IsPath n (blank (slid s.cells c)) cs = subst (λ x. IsPath n x cs) (sym (blank-slid n s.cells s.good c inside)) walk.1 in
       begun s c cs inside walk.0 (has tiles (at s.cells c)) refl (way_along cs (moved s c inside) on home)
 
+  -- a path that leads the tiles home is a way home whose count of paid steps is the path's cost
   pub way_of_path : (path : List ℕ) (s : State n) → LeadsHome tiles s.cells path → Ways.Way Free Paid Home s (cost tiles s.cells path)
   way_of_path path s leads = way_along path s (subst (λ m. IsPath m (blank s.cells) path) (side_of-board n s.cells s.good) leads.walk) leads.ends
 
@@ -77,7 +86,8 @@ module _ (n : ℕ) (tiles : List ℕ) where
     ends : IsHome tiles (after s.cells path)
     costs : cost tiles s.cells path ≡ d
 
-  total : (paid : Bool) (s : State n) (c : ℕ) (cs : List ℕ) (d e : ℕ) → has tiles (at s.cells c) ≡ paid → cost tiles (slid s.cells c) cs ≡ d → cond paid (suc d) d ≡ e
+  total : (paid : Bool) (s : State n) (c : ℕ) (cs : List ℕ) (d e : ℕ) → has tiles (at s.cells c) ≡ paid → cost tiles (slid s.cells c) cs ≡ d
+      → cond paid (suc d) d ≡ e
       → cost tiles s.cells (c ∷ cs) ≡ e
   total true s c cs d e is rest sum = cost_paid s.cells c cs is ∙ ap suc rest ∙ sum
   total false s c cs d e is rest sum = cost_free s.cells c cs is ∙ rest ∙ sum
@@ -105,6 +115,7 @@ module _ (n : ℕ) (tiles : List ℕ) where
 
   -- ---- the least cost of a board is that of its ways
 
+  -- the least count of paid steps of a state's ways home is the least cost of its tiles on the board
   pub least_of_ways : (s : State n) (d : ℕ) → Ways.IsLeast Free Paid Home s d → IsLeastCost tiles s.cells d
   least_of_ways s d least =
       let on : PathOf s d = path_of_way least.0 in
@@ -115,6 +126,7 @@ module _ (n : ℕ) (tiles : List ℕ) where
         least = λ other leads. least.1 (cost tiles s.cells other) (way_of_path other s leads);
       }
 
+  -- the least cost of the tiles on a board is the least count of paid steps of a way home
   pub ways_of_least : (s : State n) (d : ℕ) → IsLeastCost tiles s.cells d → Ways.IsLeast Free Paid Home s d
   ways_of_least s d is = (
     subst (λ x. Ways.Way Free Paid Home s x) is.costs (way_of_path is.path s is.leads),
@@ -125,8 +137,10 @@ module _ (n : ℕ) (tiles : List ℕ) where
         omega arith,
   )
 
+  -- where a state has no way home, no path of its board leads the tiles home
   pub never_of_ways : (s : State n) → Ways.IsNever Free Paid Home s → IsNeverHome tiles s.cells
   never_of_ways s never = λ path leads. never (cost tiles s.cells path) (way_of_path path s leads)
 
+  -- where no path of a board leads the tiles home, its state has no way home
   pub ways_of_never : (s : State n) → IsNeverHome tiles s.cells → Ways.IsNever Free Paid Home s
   ways_of_never s never = λ c w. let on : PathOf s c = path_of_way w in never on.path (leads_along s c on)

@@ -1,5 +1,6 @@
 -- Moves among the cells of one side.
-use Rattle.std.proofs.Common.{◌≡◌, ◌≢◌, ℕ, ◌+◌, ◌-◌, ◌*◌, ◌/◌, ◌%◌, ◌<◌, ◌≤◌, Bool, true, false, cond, eqb, Some, None, inl, inr, refl, sym, ◌∙◌, ap, subst, arith, ne_eqb}
+use Rattle.std.proofs.Common.{◌≡◌, ◌≢◌, ℕ, ◌+◌, ◌-◌, ◌*◌, ◌/◌, ◌%◌, ◌<◌, ◌≤◌, Bool, true, false, cond, eqb, Some, None, inl, inr, refl, sym, ◌∙◌, ap}
+use Rattle.std.proofs.Common.{subst, arith, ne_eqb}
 use Rattle.std.proofs.lemmas.Bool.{cases_eq, cond-false, eqb-false}
 use Rattle.puz_board.specs.declared.moves.Move.{Move}
 use Rattle.puz_board.specs.declared.moves.Move.TheVariants.{Up, Down, Left, Right}
@@ -25,16 +26,20 @@ few_cells = by_side (λ n. n * n ≤ 25) (omega arith) (omega arith) (omega arit
 -- ---- the reverse of a move takes it back
 
 up_back : (n : ℕ) → 2 ≤ n → n ≤ 5 → (c d : ℕ) → c < n * n → c / n ≢ 0 → c - n ≡ d → (d / n ≢ n - 1) × (d + n ≡ c)
-up_back = by_side (λ n. (c d : ℕ) → c < n * n → c / n ≢ 0 → c - n ≡ d → (d / n ≢ n - 1) × (d + n ≡ c)) (λ c d l p e. omega arith) (λ c d l p e. omega arith) (λ c d l p e. omega arith) (λ c d l p e. omega arith)
+up_back = by_side (λ n. (c d : ℕ) → c < n * n → c / n ≢ 0 → c - n ≡ d → (d / n ≢ n - 1) × (d + n ≡ c)) (λ c d l p e. omega arith)
+    (λ c d l p e. omega arith) (λ c d l p e. omega arith) (λ c d l p e. omega arith)
 
 down_back : (n : ℕ) → 2 ≤ n → n ≤ 5 → (c d : ℕ) → c < n * n → c / n ≢ n - 1 → c + n ≡ d → (d / n ≢ 0) × (d - n ≡ c)
-down_back = by_side (λ n. (c d : ℕ) → c < n * n → c / n ≢ n - 1 → c + n ≡ d → (d / n ≢ 0) × (d - n ≡ c)) (λ c d l p e. omega arith) (λ c d l p e. omega arith) (λ c d l p e. omega arith) (λ c d l p e. omega arith)
+down_back = by_side (λ n. (c d : ℕ) → c < n * n → c / n ≢ n - 1 → c + n ≡ d → (d / n ≢ 0) × (d - n ≡ c)) (λ c d l p e. omega arith)
+    (λ c d l p e. omega arith) (λ c d l p e. omega arith) (λ c d l p e. omega arith)
 
 left_back : (n : ℕ) → 2 ≤ n → n ≤ 5 → (c d : ℕ) → c < n * n → c % n ≢ 0 → c - 1 ≡ d → (d % n ≢ n - 1) × (d + 1 ≡ c)
-left_back = by_side (λ n. (c d : ℕ) → c < n * n → c % n ≢ 0 → c - 1 ≡ d → (d % n ≢ n - 1) × (d + 1 ≡ c)) (λ c d l p e. omega arith) (λ c d l p e. omega arith) (λ c d l p e. omega arith) (λ c d l p e. omega arith)
+left_back = by_side (λ n. (c d : ℕ) → c < n * n → c % n ≢ 0 → c - 1 ≡ d → (d % n ≢ n - 1) × (d + 1 ≡ c)) (λ c d l p e. omega arith)
+    (λ c d l p e. omega arith) (λ c d l p e. omega arith) (λ c d l p e. omega arith)
 
 right_back : (n : ℕ) → 2 ≤ n → n ≤ 5 → (c d : ℕ) → c < n * n → c % n ≢ n - 1 → c + 1 ≡ d → (d % n ≢ 0) × (d - 1 ≡ c)
-right_back = by_side (λ n. (c d : ℕ) → c < n * n → c % n ≢ n - 1 → c + 1 ≡ d → (d % n ≢ 0) × (d - 1 ≡ c)) (λ c d l p e. omega arith) (λ c d l p e. omega arith) (λ c d l p e. omega arith) (λ c d l p e. omega arith)
+right_back = by_side (λ n. (c d : ℕ) → c < n * n → c % n ≢ n - 1 → c + 1 ≡ d → (d % n ≢ 0) × (d - 1 ≡ c)) (λ c d l p e. omega arith)
+    (λ c d l p e. omega arith) (λ c d l p e. omega arith) (λ c d l p e. omega arith)
 
 -- a move that stays on the board isn't stopped at its edge
 pub stays : (stopped : Bool) (x d : ℕ) → cond stopped None (Some x) ≡ Some d → (stopped ≡ false) × (x ≡ d)
@@ -45,6 +50,7 @@ stays false x d e = (refl, cc)
 pub goes : (a edge x c : ℕ) → a ≢ edge → x ≡ c → cond (eqb a edge) None (Some x) ≡ Some c
 goes a edge x c ne e = cond-false (eqb a edge) None (Some x) (ne_eqb a edge ne) ∙ ap Some e
 
+-- wherever a move leads on a board, the reverse of the move leads back
 pub reverse_of-takes_back : (m : Move) → IsTakenBackBy m (reverse_of m)
 reverse_of-takes_back Up n c d low high l e =
     let way = stays (eqb (c / n) 0) (c - n) d e in
@@ -66,11 +72,14 @@ reverse_of-takes_back Right n c d low high l e =
 -- ---- a move stays among the cells
 
 down_inside : (n : ℕ) → 2 ≤ n → n ≤ 5 → (c : ℕ) → c < n * n → c / n ≢ n - 1 → c + n < n * n
-down_inside = by_side (λ n. (c : ℕ) → c < n * n → c / n ≢ n - 1 → c + n < n * n) (λ c l ne. omega arith) (λ c l ne. omega arith) (λ c l ne. omega arith) (λ c l ne. omega arith)
+down_inside = by_side (λ n. (c : ℕ) → c < n * n → c / n ≢ n - 1 → c + n < n * n) (λ c l ne. omega arith) (λ c l ne. omega arith)
+    (λ c l ne. omega arith) (λ c l ne. omega arith)
 
 right_inside : (n : ℕ) → 2 ≤ n → n ≤ 5 → (c : ℕ) → c < n * n → c % n ≢ n - 1 → c + 1 < n * n
-right_inside = by_side (λ n. (c : ℕ) → c < n * n → c % n ≢ n - 1 → c + 1 < n * n) (λ c l ne. omega arith) (λ c l ne. omega arith) (λ c l ne. omega arith) (λ c l ne. omega arith)
+right_inside = by_side (λ n. (c : ℕ) → c < n * n → c % n ≢ n - 1 → c + 1 < n * n) (λ c l ne. omega arith) (λ c l ne. omega arith)
+    (λ c l ne. omega arith) (λ c l ne. omega arith)
 
+-- a move from a cell of the board leads to a cell of the board
 pub step_of-inside : (n c : ℕ) (m : Move) (d : ℕ) → 2 ≤ n → n ≤ 5 → c < n * n → step_of n c m ≡ Some d → d < n * n
 step_of-inside n c Up d low high l e = let way = stays (eqb (c / n) 0) (c - n) d e in let is = way.1 in omega arith
 step_of-inside n c Down d low high l e =
@@ -88,17 +97,22 @@ step_of-inside n c Right d low high l e =
 -- ---- a move leads to a cell beside, and to each of them
 
 up_beside : (n : ℕ) → 2 ≤ n → n ≤ 5 → (c d : ℕ) → c < n * n → c / n ≢ 0 → c - n ≡ d → (c % n ≡ d % n) × (d / n + 1 ≡ c / n)
-up_beside = by_side (λ n. (c d : ℕ) → c < n * n → c / n ≢ 0 → c - n ≡ d → (c % n ≡ d % n) × (d / n + 1 ≡ c / n)) (λ c d l p e. omega arith) (λ c d l p e. omega arith) (λ c d l p e. omega arith) (λ c d l p e. omega arith)
+up_beside = by_side (λ n. (c d : ℕ) → c < n * n → c / n ≢ 0 → c - n ≡ d → (c % n ≡ d % n) × (d / n + 1 ≡ c / n)) (λ c d l p e. omega arith)
+    (λ c d l p e. omega arith) (λ c d l p e. omega arith) (λ c d l p e. omega arith)
 
 down_beside : (n : ℕ) → 2 ≤ n → n ≤ 5 → (c d : ℕ) → c < n * n → c + n ≡ d → (c % n ≡ d % n) × (c / n + 1 ≡ d / n)
-down_beside = by_side (λ n. (c d : ℕ) → c < n * n → c + n ≡ d → (c % n ≡ d % n) × (c / n + 1 ≡ d / n)) (λ c d l e. omega arith) (λ c d l e. omega arith) (λ c d l e. omega arith) (λ c d l e. omega arith)
+down_beside = by_side (λ n. (c d : ℕ) → c < n * n → c + n ≡ d → (c % n ≡ d % n) × (c / n + 1 ≡ d / n)) (λ c d l e. omega arith)
+    (λ c d l e. omega arith) (λ c d l e. omega arith) (λ c d l e. omega arith)
 
 left_beside : (n : ℕ) → 2 ≤ n → n ≤ 5 → (c d : ℕ) → c < n * n → c % n ≢ 0 → c - 1 ≡ d → (c / n ≡ d / n) × (d % n + 1 ≡ c % n)
-left_beside = by_side (λ n. (c d : ℕ) → c < n * n → c % n ≢ 0 → c - 1 ≡ d → (c / n ≡ d / n) × (d % n + 1 ≡ c % n)) (λ c d l p e. omega arith) (λ c d l p e. omega arith) (λ c d l p e. omega arith) (λ c d l p e. omega arith)
+left_beside = by_side (λ n. (c d : ℕ) → c < n * n → c % n ≢ 0 → c - 1 ≡ d → (c / n ≡ d / n) × (d % n + 1 ≡ c % n)) (λ c d l p e. omega arith)
+    (λ c d l p e. omega arith) (λ c d l p e. omega arith) (λ c d l p e. omega arith)
 
 right_beside : (n : ℕ) → 2 ≤ n → n ≤ 5 → (c d : ℕ) → c < n * n → c % n ≢ n - 1 → c + 1 ≡ d → (c / n ≡ d / n) × (c % n + 1 ≡ d % n)
-right_beside = by_side (λ n. (c d : ℕ) → c < n * n → c % n ≢ n - 1 → c + 1 ≡ d → (c / n ≡ d / n) × (c % n + 1 ≡ d % n)) (λ c d l p e. omega arith) (λ c d l p e. omega arith) (λ c d l p e. omega arith) (λ c d l p e. omega arith)
+right_beside = by_side (λ n. (c d : ℕ) → c < n * n → c % n ≢ n - 1 → c + 1 ≡ d → (c / n ≡ d / n) × (c % n + 1 ≡ d % n)) (λ c d l p e. omega arith)
+    (λ c d l p e. omega arith) (λ c d l p e. omega arith) (λ c d l p e. omega arith)
 
+-- a move leads from a cell to one beside it in its row or its column
 pub step_of-beside : (n c : ℕ) (m : Move) (d : ℕ) → 2 ≤ n → n ≤ 5 → c < n * n → step_of n c m ≡ Some d → IsBeside n c d
 step_of-beside n c Up d low high l e =
     let way = stays (eqb (c / n) 0) (c - n) d e in
@@ -118,19 +132,26 @@ step_of-beside n c Right d low high l e =
     inl (at.0, inl at.1)
 
 up_reaches : (n : ℕ) → 2 ≤ n → n ≤ 5 → (c d : ℕ) → c < n * n → d < n * n → c % n ≡ d % n → d / n + 1 ≡ c / n → (c / n ≢ 0) × (c - n ≡ d)
-up_reaches = by_side (λ n. (c d : ℕ) → c < n * n → d < n * n → c % n ≡ d % n → d / n + 1 ≡ c / n → (c / n ≢ 0) × (c - n ≡ d)) (λ c d l k p e. omega arith) (λ c d l k p e. omega arith) (λ c d l k p e. omega arith) (λ c d l k p e. omega arith)
+up_reaches = by_side (λ n. (c d : ℕ) → c < n * n → d < n * n → c % n ≡ d % n → d / n + 1 ≡ c / n → (c / n ≢ 0) × (c - n ≡ d))
+    (λ c d l k p e. omega arith) (λ c d l k p e. omega arith) (λ c d l k p e. omega arith) (λ c d l k p e. omega arith)
 
 down_reaches : (n : ℕ) → 2 ≤ n → n ≤ 5 → (c d : ℕ) → c < n * n → d < n * n → c % n ≡ d % n → c / n + 1 ≡ d / n → (c / n ≢ n - 1) × (c + n ≡ d)
-down_reaches = by_side (λ n. (c d : ℕ) → c < n * n → d < n * n → c % n ≡ d % n → c / n + 1 ≡ d / n → (c / n ≢ n - 1) × (c + n ≡ d)) (λ c d l k p e. omega arith) (λ c d l k p e. omega arith) (λ c d l k p e. omega arith) (λ c d l k p e. omega arith)
+down_reaches = by_side (λ n. (c d : ℕ) → c < n * n → d < n * n → c % n ≡ d % n → c / n + 1 ≡ d / n → (c / n ≢ n - 1) × (c + n ≡ d))
+    (λ c d l k p e. omega arith) (λ c d l k p e. omega arith) (λ c d l k p e. omega arith) (λ c d l k p e. omega arith)
 
 left_reaches : (n : ℕ) → 2 ≤ n → n ≤ 5 → (c d : ℕ) → c < n * n → d < n * n → c / n ≡ d / n → d % n + 1 ≡ c % n → (c % n ≢ 0) × (c - 1 ≡ d)
-left_reaches = by_side (λ n. (c d : ℕ) → c < n * n → d < n * n → c / n ≡ d / n → d % n + 1 ≡ c % n → (c % n ≢ 0) × (c - 1 ≡ d)) (λ c d l k p e. omega arith) (λ c d l k p e. omega arith) (λ c d l k p e. omega arith) (λ c d l k p e. omega arith)
+left_reaches = by_side (λ n. (c d : ℕ) → c < n * n → d < n * n → c / n ≡ d / n → d % n + 1 ≡ c % n → (c % n ≢ 0) × (c - 1 ≡ d))
+    (λ c d l k p e. omega arith) (λ c d l k p e. omega arith) (λ c d l k p e. omega arith) (λ c d l k p e. omega arith)
 
 right_reaches : (n : ℕ) → 2 ≤ n → n ≤ 5 → (c d : ℕ) → c < n * n → d < n * n → c / n ≡ d / n → c % n + 1 ≡ d % n → (c % n ≢ n - 1) × (c + 1 ≡ d)
-right_reaches = by_side (λ n. (c d : ℕ) → c < n * n → d < n * n → c / n ≡ d / n → c % n + 1 ≡ d % n → (c % n ≢ n - 1) × (c + 1 ≡ d)) (λ c d l k p e. omega arith) (λ c d l k p e. omega arith) (λ c d l k p e. omega arith) (λ c d l k p e. omega arith)
+right_reaches = by_side (λ n. (c d : ℕ) → c < n * n → d < n * n → c / n ≡ d / n → c % n + 1 ≡ d % n → (c % n ≢ n - 1) × (c + 1 ≡ d))
+    (λ c d l k p e. omega arith) (λ c d l k p e. omega arith) (λ c d l k p e. omega arith) (λ c d l k p e. omega arith)
 
+-- to each cell beside another one in its row or column, a move leads
 pub beside-step_of : (n c d : ℕ) → 2 ≤ n → n ≤ 5 → c < n * n → d < n * n → IsBeside n c d → (m : Move) × (step_of n c m ≡ Some d)
-beside-step_of n c d low high l k (inl (same, inl next)) = let at = right_reaches n low high c d l k same next in (Right, goes (c % n) (n - 1) (c + 1) d at.0 at.1)
+beside-step_of n c d low high l k (inl (same, inl next)) = let at = right_reaches n low high c d l k same next in
+    (Right, goes (c % n) (n - 1) (c + 1) d at.0 at.1)
 beside-step_of n c d low high l k (inl (same, inr next)) = let at = left_reaches n low high c d l k same next in (Left, goes (c % n) 0 (c - 1) d at.0 at.1)
-beside-step_of n c d low high l k (inr (same, inl next)) = let at = down_reaches n low high c d l k same next in (Down, goes (c / n) (n - 1) (c + n) d at.0 at.1)
+beside-step_of n c d low high l k (inr (same, inl next)) = let at = down_reaches n low high c d l k same next in
+    (Down, goes (c / n) (n - 1) (c + n) d at.0 at.1)
 beside-step_of n c d low high l k (inr (same, inr next)) = let at = up_reaches n low high c d l k same next in (Up, goes (c / n) 0 (c - n) d at.0 at.1)

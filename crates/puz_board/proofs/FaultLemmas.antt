@@ -1,5 +1,6 @@
 -- Which fault a list of numbers has, and that a list with none is a board.
-use Rattle.std.proofs.Common.{◌≡◌, ◌≢◌, ℕ, ◌*◌, ◌<◌, ◌≤◌, true, false, eqb, List, length, take, get_or, Option, None, Ok, Err, inl, inr, sym, ◌∙◌, ap₂, arith, leb, eq-eqb, ne_eqb, get_or-take, length-take, lit≤}
+use Rattle.std.proofs.Common.{◌≡◌, ◌≢◌, ℕ, ◌*◌, ◌<◌, ◌≤◌, true, false, eqb, List, length, take, get_or, Option, None, Ok, Err, inl, inr, sym, ◌∙◌}
+use Rattle.std.proofs.Common.{ap₂, arith, leb, eq-eqb, ne_eqb, get_or-take, length-take, lit≤}
 use Rattle.std.proofs.lemmas.Bool.{cases_lt, cases_eq, cond-true, cond-false, leb-false, lt-leb, both_ways}
 use Rattle.std.proofs.lemmas.List.Folds.{list_any_at, list_any_none}
 use Rattle.std.proofs.lemmas.Grind.{get_or_default_zero}
@@ -9,11 +10,15 @@ use Rattle.puz_board.specs.Boards.{IsBoard, at, side_of, side_of_count}
 use Rattle.puz_board.specs.BoardTexts.{board_of_numbers, board_of_text, long_run, numbers_in, refuse, repeated, repeated_at, stray_byte, too_large}
 use Rattle.puz_board.proofs.FirstLemmas.{fails_below, fails_each, first_below-none, position-none}
 
+-- numbers whose count gives no side have the fault B3 with their count
 pub board_of_numbers-no_side : (xs : List ℕ) → side_of xs ≡ 0 → board_of_numbers xs ≡ Err (B3 (length xs))
 unfolding board_of_numbers
-board_of_numbers-no_side xs none = cond-true (eqb (side_of xs) 0) (Err (B3 (length xs))) (refuse B4 (too_large xs) (refuse B5 (repeated xs) (Ok xs))) (eq-eqb _ _ none)
+board_of_numbers-no_side xs none = cond-true (eqb (side_of xs) 0) (Err (B3 (length xs))) (refuse B4 (too_large xs) (refuse B5 (repeated xs) (Ok xs)))
+    (eq-eqb _ _ none)
 
-pub board_of_numbers-sided : (xs : List ℕ) (o p : Option ℕ) → side_of xs ≢ 0 → o ≡ too_large xs → p ≡ repeated xs → board_of_numbers xs ≡ refuse B4 o (refuse B5 p (Ok xs))
+-- numbers of a right count are refused for one too large, then for one repeated, and else are the board
+pub board_of_numbers-sided : (xs : List ℕ) (o p : Option ℕ) → side_of xs ≢ 0 → o ≡ too_large xs → p ≡ repeated xs
+    → board_of_numbers xs ≡ refuse B4 o (refuse B5 p (Ok xs))
 unfolding board_of_numbers
 board_of_numbers-sided xs o p side e f =
     cond-false (eqb (side_of xs) 0) (Err (B3 (length xs))) (refuse B4 (too_large xs) (refuse B5 (repeated xs) (Ok xs))) (ne_eqb _ _ side) ∙
@@ -34,6 +39,7 @@ module _ (xs : List ℕ) where
       (fails_below (repeated_at xs) (length xs) none d m)
       (list_any_at (λ x. eqb x (at xs d)) (take d xs) c 0 place same)
 
+  -- n times n numbers of side 2 to 5, none too large and none repeated, are a board
   pub IsBoard-from_tests : length xs ≡ side_of xs * side_of xs → 2 ≤ side_of xs → side_of xs ≤ 5 → too_large xs ≡ None → repeated xs ≡ None → IsBoard xs
   IsBoard-from_tests size low high below once = record {
     low = low;
@@ -74,7 +80,9 @@ module _ (xs : List ℕ) (good : IsBoard xs) where
 
 -- ---- texts
 
-pub board_of_text-is : (text : List ℕ) (o p : Option ℕ) → o ≡ stray_byte text → p ≡ long_run text → board_of_text text ≡ refuse B1 o (refuse B2 p (board_of_numbers (numbers_in text)))
+-- a text is refused for a stray byte, then for a long run, and else is what its numbers make
+pub board_of_text-is : (text : List ℕ) (o p : Option ℕ) → o ≡ stray_byte text → p ≡ long_run text
+    → board_of_text text ≡ refuse B1 o (refuse B2 p (board_of_numbers (numbers_in text)))
 unfolding board_of_text
 board_of_text-is text o p e f = ap₂ (λ u v. refuse B1 u (refuse B2 v (board_of_numbers (numbers_in text)))) (sym e) (sym f)
 
@@ -83,4 +91,5 @@ pub side_of_many : (count : ℕ) → 25 < count → side_of_count count ≡ 0
 unfolding side_of_count
 side_of_many count l =
     let no : (n : ℕ) → n ≤ 25 → eqb count n ≡ false = λ n m. ne_eqb count n (λ e. omega arith) in
-    cond-false (eqb count 4) 2 _ (no 4 (lit≤ tt)) ∙ cond-false (eqb count 9) 3 _ (no 9 (lit≤ tt)) ∙ cond-false (eqb count 16) 4 _ (no 16 (lit≤ tt)) ∙ cond-false (eqb count 25) 5 0 (no 25 (lit≤ tt))
+    cond-false (eqb count 4) 2 _ (no 4 (lit≤ tt)) ∙ cond-false (eqb count 9) 3 _ (no 9 (lit≤ tt)) ∙ cond-false (eqb count 16) 4 _ (no 16 (lit≤ tt))
+    ∙ cond-false (eqb count 25) 5 0 (no 25 (lit≤ tt))

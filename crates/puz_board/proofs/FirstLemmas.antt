@@ -1,5 +1,6 @@
 -- The first number, and the first byte, that passes a test.
-use Rattle.std.proofs.Common.{◌≡◌, ℕ, zero, suc, ◌+◌, ◌<◌, Bool, true, false, cond, ltb, List, length, get_or, Some, None, refl, sym, ◌∙◌, ap, subst, arith, not}
+use Rattle.std.proofs.Common.{◌≡◌, ℕ, zero, suc, ◌+◌, ◌<◌, Bool, true, false, cond, ltb, List, length, get_or, Some, None, refl, sym, ◌∙◌, ap, subst}
+use Rattle.std.proofs.Common.{arith, not}
 use Rattle.std.proofs.lemmas.Bool.{cond-true, cond-false, le-ltb, lt-ltb, ltb-false, ltb-true}
 use Rattle.std.proofs.lemmas.Grind.{get_or_default_zero}
 use Rattle.std.proofs.lemmas.List.Sums.{fails_before_first, passes_at_first, position_or_len_is}
@@ -16,7 +17,8 @@ find-none test a (suc n) h =
     cond-false (test a) (Some a) (find test (range_with_len (a + 1) n)) (ap test (sym here) ∙ h 0 (omega arith)) ∙
     find-none test (a + 1) n (λ k l. let next : a + 1 + k ≡ a + suc k = omega arith in ap test next ∙ h (suc k) (omega arith))
 
-find-some : (test : ℕ → Bool) (a n i : ℕ) → i < n → ((k : ℕ) → k < i → test (a + k) ≡ false) → test (a + i) ≡ true → find test (range_with_len a n) ≡ Some (a + i)
+find-some : (test : ℕ → Bool) (a n i : ℕ) → i < n → ((k : ℕ) → k < i → test (a + k) ≡ false) → test (a + i) ≡ true
+    → find test (range_with_len a n) ≡ Some (a + i)
 find-some test a zero i l h e = absurd (omega arith)
 find-some test a (suc n) zero l h e =
     let here : a + 0 ≡ a = omega arith in
@@ -62,11 +64,13 @@ fails_below test n e k l = let same : k ≡ 0 + k = omega arith in ap test same 
 
 -- ---- the first number of a list
 
+-- where all numbers of a list fail a test, the list has no first place where it passes
 pub position-none : (test : ℕ → Bool) (xs : List ℕ) → ((k : ℕ) → k < length xs → test (get_or xs k 0) ≡ false) → position test xs ≡ None
 position-none test xs h =
     let whole = position_or_len_is test xs (length xs) 0 (omega arith) h (λ l. absurd (omega arith)) in
     cond-false (ltb (position_or_len test xs) (length xs)) (Some (position_or_len test xs)) None (le-ltb (position_or_len test xs) (length xs) (omega arith))
 
+-- where a list has no first place that passes a test, each of its numbers fails the test
 pub fails_each : (test : ℕ → Bool) (xs : List ℕ) → position test xs ≡ None → (k : ℕ) → k < length xs → test (get_or xs k 0) ≡ false
 fails_each test xs e k l =
     let over = ltb-false (position_or_len test xs) (length xs) (not_below (ltb (position_or_len test xs) (length xs)) (position_or_len test xs) e) in
@@ -80,6 +84,7 @@ fails_each test xs e k l =
 pub position-AllPass : (test : ℕ → Bool) (xs : List ℕ) → AllPass test xs → position (λ x. not (test x)) xs ≡ None
 position-AllPass test xs all = position-none (λ x. not (test x)) xs (λ k l. ap not (all k 0 l))
 
+-- where no number of a list is the first to fail a test, all of them pass it
 pub AllPass-position : (test : ℕ → Bool) (xs : List ℕ) → position (λ x. not (test x)) xs ≡ None → AllPass test xs
 AllPass-position test xs e k d l =
     ap test (get_or_default_zero xs k d l) ∙ passes (test (get_or xs k 0)) (fails_each (λ x. not (test x)) xs e k l)
@@ -89,7 +94,8 @@ AllPass-position test xs e k d l =
     passes false e = cc
 
 -- the test passes at i, and at no place before
-pub position-some : (test : ℕ → Bool) (xs : List ℕ) (i : ℕ) → i < length xs → ((k : ℕ) → k < i → test (get_or xs k 0) ≡ false) → test (get_or xs i 0) ≡ true → position test xs ≡ Some i
+pub position-some : (test : ℕ → Bool) (xs : List ℕ) (i : ℕ) → i < length xs → ((k : ℕ) → k < i → test (get_or xs k 0) ≡ false)
+    → test (get_or xs i 0) ≡ true → position test xs ≡ Some i
 position-some test xs i l before here =
     let is = position_or_len_is test xs i 0 (omega arith) before (λ m. here) in
     cond-true (ltb (position_or_len test xs) (length xs)) (Some (position_or_len test xs)) None (lt-ltb (position_or_len test xs) (length xs) (omega arith)) ∙
@@ -100,6 +106,7 @@ pub record IsFirst (test : ℕ → Bool) (xs : List ℕ) (i : ℕ) : Type 0 wher
   pub before : (k : ℕ) → k < i → test (get_or xs k 0) ≡ false
   pub here : test (get_or xs i 0) ≡ true
 
+-- the place that a search answers is the first one that passes the test
 pub first-position : (test : ℕ → Bool) (xs : List ℕ) (i : ℕ) → position test xs ≡ Some i → IsFirst test xs i
 first-position test xs i e = go (ltb (position_or_len test xs) (length xs)) refl e
   where

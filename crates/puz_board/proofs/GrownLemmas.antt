@@ -10,7 +10,8 @@ use Rattle.puz_board.specs.declared.moves.Move.TheVariants.{Up, Down, Left, Righ
 use Rattle.puz_board.specs.Cells.{step_of, Adjacent}
 use Rattle.puz_board.proofs.CellLemmas.{by_side, few_cells, goes, stays}
 use Rattle.puz_board.specs.Masks.{IsMaskOf}
-use Rattle.puz_board.proofs.BitLemmas.{IsIn, both_in, in_both, either_in, in_left, in_right, in_shr, in_shl, shl_in, sub_le, in_below, in_or_out, in_but, but_in}
+use Rattle.puz_board.proofs.BitLemmas.{IsIn, both_in, in_both, either_in, in_left, in_right, in_shr, in_shl, shl_in, sub_le, in_below, in_or_out}
+use Rattle.puz_board.proofs.BitLemmas.{in_but, but_in}
 
 -- ---- adjacent cells by their numbers
 
@@ -21,10 +22,12 @@ above_row : (n : ℕ) → 2 ≤ n → n ≤ 5 → (d : ℕ) → (n + d) / n ≢ 
 above_row = by_side (λ n. (d : ℕ) → (n + d) / n ≢ 0) (λ d e. omega arith) (λ d e. omega arith) (λ d e. omega arith) (λ d e. omega arith)
 
 left_column : (n : ℕ) → 2 ≤ n → n ≤ 5 → (c : ℕ) → (1 + c) % n ≢ 0 → c % n ≢ n - 1
-left_column = by_side (λ n. (c : ℕ) → (1 + c) % n ≢ 0 → c % n ≢ n - 1) (λ c ne e. omega arith) (λ c ne e. omega arith) (λ c ne e. omega arith) (λ c ne e. omega arith)
+left_column = by_side (λ n. (c : ℕ) → (1 + c) % n ≢ 0 → c % n ≢ n - 1) (λ c ne e. omega arith) (λ c ne e. omega arith) (λ c ne e. omega arith)
+    (λ c ne e. omega arith)
 
 right_column : (n : ℕ) → 2 ≤ n → n ≤ 5 → (d : ℕ) → d % n ≢ n - 1 → (1 + d) % n ≢ 0
-right_column = by_side (λ n. (d : ℕ) → d % n ≢ n - 1 → (1 + d) % n ≢ 0) (λ d ne e. omega arith) (λ d ne e. omega arith) (λ d ne e. omega arith) (λ d ne e. omega arith)
+right_column = by_side (λ n. (d : ℕ) → d % n ≢ n - 1 → (1 + d) % n ≢ 0) (λ d ne e. omega arith) (λ d ne e. omega arith) (λ d ne e. omega arith)
+    (λ d ne e. omega arith)
 
 from_above : (n : ℕ) → 2 ≤ n → n ≤ 5 → (c : ℕ) → c / n ≢ 0 → n ≤ c
 from_above = by_side (λ n. (c : ℕ) → c / n ≢ 0 → n ≤ c) (λ c ne. omega arith) (λ c ne. omega arith) (λ c ne. omega arith) (λ c ne. omega arith)
@@ -33,22 +36,27 @@ from_first : (n : ℕ) → 2 ≤ n → n ≤ 5 → (c : ℕ) → c % n ≢ 0 →
 from_first = by_side (λ n. (c : ℕ) → c % n ≢ 0 → 1 ≤ c) (λ c ne. omega arith) (λ c ne. omega arith) (λ c ne. omega arith) (λ c ne. omega arith)
 
 module _ (n : ℕ) (low : 2 ≤ n) (high : n ≤ 5) where
+  -- a move leads from a cell to the one n further, which is below it, where the board has this
   pub adjacent_down : (c : ℕ) → n + c < n * n → Adjacent n c (n + c)
   adjacent_down c l = (l, Down, goes (c / n) (n - 1) (c + n) (n + c) (below_row n low high c l) (omega arith))
 
+  -- a move leads to a cell of the board from the one n further, which is below it
   pub adjacent_up : (d : ℕ) → d < n * n → Adjacent n (n + d) d
   adjacent_up d l = (l, Up, goes ((n + d) / n) 0 (n + d - n) d (above_row n low high d) (omega arith))
 
+  -- a move leads from a cell to the next one, where this one isn't the first of its row
   pub adjacent_right : (c : ℕ) → 1 + c < n * n → (1 + c) % n ≢ 0 → Adjacent n c (1 + c)
   adjacent_right c l ne = (l, Right, goes (c % n) (n - 1) (c + 1) (1 + c) (left_column n low high c ne) (omega arith))
 
+  -- a move leads from the next cell back to one that isn't the last of its row
   pub adjacent_left : (d : ℕ) → d < n * n → d % n ≢ n - 1 → Adjacent n (1 + d) d
   adjacent_left d l ne = (l, Left, goes ((1 + d) % n) 0 (1 + d - 1) d (right_column n low high d ne) (omega arith))
 
 -- ---- a grown mask
 
 module _ (n : ℕ) (low : 2 ≤ n) (high : n ≤ 5) (free right left mask : ℕ) (within : free < 2 ^ (n * n))
-    (is_right : IsMaskOf right (λ c. IsIn free c × (c % n ≢ 0))) (is_left : IsMaskOf left (λ c. IsIn free c × (c % n ≢ n - 1))) (inside : (c : ℕ) → IsIn mask c → IsIn free c) where
+    (is_right : IsMaskOf right (λ c. IsIn free c × (c % n ≢ 0))) (is_left : IsMaskOf left (λ c. IsIn free c × (c % n ≢ n - 1)))
+    (inside : (c : ℕ) → IsIn mask c → IsIn free c) where
   -- no cell is lost by a shift
   fits : (k : ℕ) → k ≤ 5 → mask * 2 ^ k < 2 ^ 32
   fits k l =
@@ -81,7 +89,13 @@ module _ (n : ℕ) (low : 2 ≤ n) (high : n ≤ 5) (free right left mask : ℕ)
         let from = shl_in mask 1 x (fits 1 (omega arith)) parts.0 in
         let to = (is_right x).0 parts.1 in
         let e : 1 + (x - 1) ≡ x = let l = from.0 in omega arith in
-        inr (to.0, x - 1, from.1, subst (λ d. Adjacent n (x - 1) d) e (adjacent_right n low high (x - 1) (let l = inner x to.0 in omega arith) (subst (λ d. d % n ≢ 0) (sym e) to.1))))
+        inr (
+          to.0,
+          x - 1,
+          from.1,
+          subst (λ d. Adjacent n (x - 1) d) e
+              (adjacent_right n low high (x - 1) (let l = inner x to.0 in omega arith) (subst (λ d. d % n ≢ 0) (sym e) to.1)),
+        ))
     | inr b ↦ (
         let parts = both_in (mask / 2 ^ 1) left x b in
         let to = (is_left x).0 parts.1 in
@@ -98,22 +112,28 @@ module _ (n : ℕ) (low : 2 ≤ n) (high : n ≤ 5) (free right left mask : ℕ)
   to_next d c is_free from Up e =
       let way = stays (eqb (c / n) 0) (c - n) d e in
       let is : c ≡ n + d = let l = from_above n low high c (eqb-false (c / n) 0 way.0) in let q = way.1 in omega arith in
-      inl (in_both (bit_or (mask * 2 ^ n % 2 ^ 32) (mask / 2 ^ n)) free d (in_right (mask * 2 ^ n % 2 ^ 32) (mask / 2 ^ n) d (in_shr mask n d ∙ ap (bit_at mask) (sym is) ∙ from)) is_free)
+      inl (in_both (bit_or (mask * 2 ^ n % 2 ^ 32) (mask / 2 ^ n)) free d
+      (in_right (mask * 2 ^ n % 2 ^ 32) (mask / 2 ^ n) d (in_shr mask n d ∙ ap (bit_at mask) (sym is) ∙ from)) is_free)
   to_next d c is_free from Down e =
       let way = stays (eqb (c / n) (n - 1)) (c + n) d e in
       let is : n + c ≡ d = let q = way.1 in omega arith in
-      inl (in_both (bit_or (mask * 2 ^ n % 2 ^ 32) (mask / 2 ^ n)) free d (in_left (mask * 2 ^ n % 2 ^ 32) (mask / 2 ^ n) d (subst (λ x. IsIn (mask * 2 ^ n % 2 ^ 32) x) is (in_shl mask n c (fits n high) from))) is_free)
+      inl (in_both (bit_or (mask * 2 ^ n % 2 ^ 32) (mask / 2 ^ n)) free d
+      (in_left (mask * 2 ^ n % 2 ^ 32) (mask / 2 ^ n) d (subst (λ x. IsIn (mask * 2 ^ n % 2 ^ 32) x) is (in_shl mask n c (fits n high) from))) is_free)
   to_next d c is_free from Left e =
       let way = stays (eqb (c % n) 0) (c - 1) d e in
       let is : c ≡ 1 + d = let l = from_first n low high c (eqb-false (c % n) 0 way.0) in let q = way.1 in omega arith in
       let column : d % n ≢ n - 1 = left_column n low high d (subst (λ x. x % n ≢ 0) is (eqb-false (c % n) 0 way.0)) in
-      inr (in_right (bit_and (mask * 2 ^ 1 % 2 ^ 32) right) (bit_and (mask / 2 ^ 1) left) d (in_both (mask / 2 ^ 1) left d (in_shr mask 1 d ∙ ap (bit_at mask) (sym is) ∙ from) ((is_left d).1 (is_free, column))))
+      inr (in_right (bit_and (mask * 2 ^ 1 % 2 ^ 32) right) (bit_and (mask / 2 ^ 1) left) d
+      (in_both (mask / 2 ^ 1) left d (in_shr mask 1 d ∙ ap (bit_at mask) (sym is) ∙ from) ((is_left d).1 (is_free, column))))
   to_next d c is_free from Right e =
       let way = stays (eqb (c % n) (n - 1)) (c + 1) d e in
       let is : 1 + c ≡ d = let q = way.1 in omega arith in
       let column : d % n ≢ 0 = subst (λ x. x % n ≢ 0) is (right_column n low high c (eqb-false (c % n) (n - 1) way.0)) in
-      inr (in_left (bit_and (mask * 2 ^ 1 % 2 ^ 32) right) (bit_and (mask / 2 ^ 1) left) d (in_both (mask * 2 ^ 1 % 2 ^ 32) right d (subst (λ x. IsIn (mask * 2 ^ 1 % 2 ^ 32) x) is (in_shl mask 1 c (fits 1 (omega arith)) from)) ((is_right d).1 (is_free, column))))
+      inr (in_left (bit_and (mask * 2 ^ 1 % 2 ^ 32) right) (bit_and (mask / 2 ^ 1) left) d
+      (in_both (mask * 2 ^ 1 % 2 ^ 32) right d (subst (λ x. IsIn (mask * 2 ^ 1 % 2 ^ 32) x) is (in_shl mask 1 c (fits 1 (omega arith)) from))
+      ((is_right d).1 (is_free, column))))
 
+  -- a mask grown by its neighbours has its own cells and the free cells that are adjacent to one of them
   pub grown_is : IsMaskOf (bit_or (bit_or mask up_down) side_ways) (λ d. IsIn mask d ⊎ (IsIn free d × (c : ℕ) × IsIn mask c × Adjacent n c d))
   grown_is x = (
     λ h. elim (either_in (bit_or mask up_down) side_ways x h) [
@@ -132,7 +152,8 @@ module _ (n : ℕ) (low : 2 ≤ n) (high : n ≤ 5) (free right left mask : ℕ)
 -- ---- a column
 
 -- by its test at each cell
-pub column_is : (n k mask : ℕ) → n * n ≤ 25 → mask < 2 ^ 25 → agree_below (λ x. eqb (bit_at mask x) 1) (λ x. ltb x (n * n) && eqb (x % n) k) 25 ≡ true → IsMaskOf mask (λ c. (c < n * n) × (c % n ≡ k))
+pub column_is : (n k mask : ℕ) → n * n ≤ 25 → mask < 2 ^ 25
+    → agree_below (λ x. eqb (bit_at mask x) 1) (λ x. ltb x (n * n) && eqb (x % n) k) 25 ≡ true → IsMaskOf mask (λ c. (c < n * n) × (c % n ≡ k))
 column_is n k mask few fits same x = (
   λ h.
       let l = in_below mask 25 x fits h in
@@ -148,7 +169,8 @@ column_is n k mask few fits same x = (
     agree x l = agree_below_at (λ x. eqb (bit_at mask x) 1) (λ x. ltb x (n * n) && eqb (x % n) k) 25 x same l
 
 -- the free cells outside a column
-pub outside_column : (n k free column : ℕ) → free < 2 ^ 32 → column < 2 ^ 32 → free < 2 ^ (n * n) → IsMaskOf column (λ c. (c < n * n) × (c % n ≡ k)) → IsMaskOf (bit_and free (2 ^ 32 - 1 - column)) (λ c. IsIn free c × (c % n ≢ k))
+pub outside_column : (n k free column : ℕ) → free < 2 ^ 32 → column < 2 ^ 32 → free < 2 ^ (n * n) → IsMaskOf column (λ c. (c < n * n) × (c % n ≡ k))
+    → IsMaskOf (bit_and free (2 ^ 32 - 1 - column)) (λ c. IsIn free c × (c % n ≢ k))
 outside_column n k free column fits fits_column within is x = (
   λ h.
       let parts = but_in free column x fits fits_column h in
@@ -156,5 +178,6 @@ outside_column n k free column fits fits_column within is x = (
   λ w. in_but free column x fits fits_column w.0 (elim (in_or_out column x) [ inl i ↦ absurd (w.1 ((is x).0 i).1) | inr o ↦ o ]),
 )
 
+-- a mask of the cells of a board of side 2 to 5 fits in 32 bits
 pub free_fits : (n free : ℕ) → 2 ≤ n → n ≤ 5 → free < 2 ^ (n * n) → free < 2 ^ 32
 free_fits n free low high within = let few : 2 ^ (n * n) ≤ 2 ^ 25 = pow-le-pow_right (lit< tt) (few_cells n low high) in omega arith

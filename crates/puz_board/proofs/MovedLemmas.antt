@@ -7,7 +7,8 @@ use Rattle.puz_board.specs.declared.moves.Move.{Move}
 use Rattle.puz_board.specs.Boards.{IsBoardOf, at, blank, moved, side_of, slid}
 use Rattle.puz_board.specs.Cells.{reverse_of, step_of}
 use Rattle.puz_board.specs.Paths.{IsPath, IsSolution}
-use Rattle.puz_board.proofs.BoardLemmas.{IsBoardOf-slid, at-slid_back, at-slid_other, at-slid_there, at_blank, blank-slid, cell_of-below, cells_least, side_of-board, side_of-slid}
+use Rattle.puz_board.proofs.BoardLemmas.{IsBoardOf-slid, at-slid_back, at-slid_other, at-slid_there, at_blank, blank-slid, cell_of-below, cells_least}
+use Rattle.puz_board.proofs.BoardLemmas.{side_of-board, side_of-slid}
 use Rattle.puz_board.proofs.CellLemmas.{reverse_of-takes_back, step_of-inside}
 
 blank_inside : (n : ℕ) (b : List ℕ) → IsBoardOf n b → blank b < n * n
@@ -64,6 +65,7 @@ module _ (n : ℕ) (b : List ℕ) (good : IsBoardOf n b) (m : Move) where
       go None step is = cc
       go (Some c) step is = record { cell = c; inside = step_of-inside n (blank b) m c good.low good.high (blank_inside n b good) step; step = step; is = cc }
 
+  -- a move that doesn't leave the board leads a board of side n to one of side n
   pub IsBoardOf-moved : (d : List ℕ) → moved b m ≡ Some d → IsBoardOf n d
   IsBoardOf-moved d leads = let s = slide d leads in subst (IsBoardOf n) s.is (IsBoardOf-slid n b good s.cell s.inside)
 
@@ -72,7 +74,8 @@ pub moved-reverse_of : (n : ℕ) (b : List ℕ) → IsBoardOf n b → (m : Move)
 moved-reverse_of n b good m d leads =
     let s = slide n b good m d leads in
     let there : blank (slid b s.cell) ≡ s.cell = blank-slid n b good s.cell s.inside in
-    let back : step_of n s.cell (reverse_of m) ≡ Some (blank b) = reverse_of-takes_back m n (blank b) s.cell good.low good.high (blank_inside n b good) s.step in
+    let back : step_of n s.cell (reverse_of m) ≡ Some (blank b) =
+    reverse_of-takes_back m n (blank b) s.cell good.low good.high (blank_inside n b good) s.step in
     let step : step_of n (blank (slid b s.cell)) (reverse_of m) ≡ Some (blank b) = ap (λ c. step_of n c (reverse_of m)) there ∙ back in
     ap (λ e. moved e (reverse_of m)) (sym s.is) ∙
     moved-slid n (slid b s.cell) (IsBoardOf-slid n b good s.cell s.inside) (reverse_of m) (blank b) step ∙
@@ -87,6 +90,7 @@ pub record FirstMove (b rest : List ℕ) : Type 0 where
   pub leads : moved b move ≡ Some next
   pub solves : IsSolution next rest
 
+-- a solution begins with a move to a board that the rest of its path solves
 pub first_move : (n : ℕ) (b : List ℕ) → IsBoardOf n b → (c : ℕ) (rest : List ℕ) → IsSolution b (c ∷ rest) → FirstMove b rest
 first_move n b good c rest solves =
     let inside : c < n * n = subst (λ side. c < side * side) (side_of-board n b good) solves.0.0.0 in

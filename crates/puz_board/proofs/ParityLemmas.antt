@@ -18,7 +18,8 @@ flips : (n : ℕ) → 2 ≤ n → n ≤ 5 → (c d k : ℕ) → c < n * n → Ad
 flips n low high c d k l is even = elim (farther n low high c d l is) [ inl e ↦ omega arith | inr e ↦ omega arith ]
 
 home_zero : (n : ℕ) (b : List ℕ) → IsBoardOf n b → IsGoal b → blank b ≡ 0
-home_zero n b good goal = cell_of-is n b good 0 0 (let l = cells_least n b good in omega arith) (goal 0 (let s = good.size in let l = cells_least n b good in omega arith))
+home_zero n b good goal = cell_of-is n b good 0 0 (let l = cells_least n b good in
+    omega arith) (goal 0 (let s = good.size in let l = cells_least n b good in omega arith))
 
 zero_away : (n : ℕ) → 2 ≤ n → n ≤ 5 → taxicab n 0 % 2 ≡ 0
 zero_away n low high = omega arith
@@ -29,8 +30,10 @@ path_parity n (c ∷ cs) b good walk goal =
     let there = blank-slid n b good c walk.0.0 in
     let rest : length cs % 2 ≡ taxicab n (blank (slid b c)) % 2 =
     path_parity n cs (slid b c) (IsBoardOf-slid n b good c walk.0.0) (subst (λ x. IsPath n x cs) (sym there) walk.1) goal in
-    flips n good.low good.high (blank b) c (length cs) (cell_of-below n b good 0 (let l = cells_least n b good in omega arith)) walk.0 (rest ∙ ap (λ x. taxicab n x % 2) there)
+    flips n good.low good.high (blank b) c (length cs) (cell_of-below n b good 0 (let l = cells_least n b good in omega arith)) walk.0
+    (rest ∙ ap (λ x. taxicab n x % 2) there)
 
+-- the number of steps of a solution is even or odd as the distance of the blank from cell 0
 pub solution_parity : (n : ℕ) (b : List ℕ) → IsBoardOf n b → (path : List ℕ) → IsSolution b path → length path % 2 ≡ blank_parity b
 unfolding blank_parity
 solution_parity n b good path solves =

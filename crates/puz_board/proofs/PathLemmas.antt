@@ -8,6 +8,7 @@ use Rattle.puz_board.specs.Paths.{IsPath, Leads, after, board_after}
 use Rattle.puz_board.proofs.BoardLemmas.{IsBoard-slid, blank-slid, cell_of-below, cells_least, side_of-slid}
 use Rattle.puz_board.proofs.CellLemmas.{step_of-inside}
 
+-- moves that lead along a path of the blank leave the board that the path leaves, one move to each cell
 pub board_after-led : (b : List ℕ) (ms : List Move) (path : List ℕ) → IsBoard b → IsPath (side_of b) (blank b) path → Leads (side_of b) (blank b) ms path
     → (board_after b ms ≡ Some (after b path)) × (length path ≡ length ms)
 unfolding board_after
@@ -32,7 +33,8 @@ pub record Led (b : List ℕ) (ms : List Move) (e : List ℕ) : Type 0 where
   pub ends : after b path ≡ e
   pub count : length path ≡ length ms
 
-led_on : (b e : List ℕ) (m : Move) (ms : List Move) → IsBoard b → ((d : ℕ) → d < side_of b * side_of b → board_after (slid b d) ms ≡ Some e → Led (slid b d) ms e)
+led_on : (b e : List ℕ) (m : Move) (ms : List Move) → IsBoard b
+    → ((d : ℕ) → d < side_of b * side_of b → board_after (slid b d) ms ≡ Some e → Led (slid b d) ms e)
     → (o : Option ℕ) → step_of (side_of b) (blank b) m ≡ o → option_and_then (λ x. board_after x ms) (option_map (slid b) o) ≡ Some e → Led b (m ∷ ms) e
 led_on b e m ms good rest None s f = cc
 led_on b e m ms good rest (Some d) s f =
@@ -50,6 +52,7 @@ led_on b e m ms good rest (Some d) s f =
       count = ap suc on.count;
     }
 
+-- moves that lead one board to another do so along a path of the blank
 pub led-board_after : (b e : List ℕ) (ms : List Move) → IsBoard b → board_after b ms ≡ Some e → Led b ms e
 unfolding board_after
 led-board_after b e [] good f = record { path = []; led = tt; walk = tt; ends = cc; count = refl }

@@ -1,5 +1,6 @@
 -- Moves that are played one after another.
-use Rattle.std.proofs.Common.{◌≡◌, ℕ, suc, ◌+◌, ◌<◌, ◌≤◌, min, false, cond, ltb, List, [], ◌∷◌, ◌++◌, length, take, drop, get_or, Option, Some, None, Ok, Err, refl, sym, ◌∙◌, ap, arith, length-append, take-append-drop}
+use Rattle.std.proofs.Common.{◌≡◌, ℕ, suc, ◌+◌, ◌<◌, ◌≤◌, min, false, cond, ltb, List, [], ◌∷◌, ◌++◌, length, take, drop, get_or, Option, Some, None}
+use Rattle.std.proofs.Common.{Ok, Err, refl, sym, ◌∙◌, ap, arith, length-append, take-append-drop}
 use Rattle.std.proofs.lemmas.Bool.{cond-true, cond-false, lt-ltb, le-ltb}
 use Rattle.std.proofs.lemmas.List.{take-append-le}
 use Rattle.std.proofs.lemmas.List.Elements.{filter_map-append}
@@ -60,7 +61,8 @@ module _ (b d : List ℕ) (seen : List Move) (stays : board_after b seen ≡ Som
   replay-leaves m more l e =
       let all = length-append seen (m ∷ more) in
       let here : length seen < min 1000 (length (seen ++ m ∷ more)) = omega arith in
-      ap (λ o. refuse M2 o (cond (ltb 1000 (length (seen ++ m ∷ more))) (Err M3) (cond (option_map_or is_goal (board_after b (seen ++ m ∷ more)) false) (Ok (length (seen ++ m ∷ more))) (Err M4))))
+      ap (λ o. refuse M2 o (cond (ltb 1000 (length (seen ++ m ∷ more))) (Err M3)
+      (cond (option_map_or is_goal (board_after b (seen ++ m ∷ more)) false) (Ok (length (seen ++ m ∷ more))) (Err M4))))
       (first_below-some (leaves_at b (seen ++ m ∷ more)) (min 1000 (length (seen ++ m ∷ more))) (length seen) here (stays_among m more)
       (ap (λ ms. is_none (board_after b ms)) (seen_and_one m more) ∙ ap is_none (board_after-push b d seen m stays ∙ e)))
 
@@ -70,7 +72,8 @@ module _ (b d : List ℕ) (seen : List Move) (stays : board_after b seen ≡ Som
   replay-long m more l =
       let all = length-append seen (m ∷ more) in
       let big : 1000 < length (seen ++ m ∷ more) = omega arith in
-      ap (λ o. refuse M2 o (cond (ltb 1000 (length (seen ++ m ∷ more))) (Err M3) (cond (option_map_or is_goal (board_after b (seen ++ m ∷ more)) false) (Ok (length (seen ++ m ∷ more))) (Err M4))))
+      ap (λ o. refuse M2 o (cond (ltb 1000 (length (seen ++ m ∷ more))) (Err M3)
+      (cond (option_map_or is_goal (board_after b (seen ++ m ∷ more)) false) (Ok (length (seen ++ m ∷ more))) (Err M4))))
       (first_below-none (leaves_at b (seen ++ m ∷ more)) (min 1000 (length (seen ++ m ∷ more))) (λ k p. stays_among m more k (omega arith))) ∙
       cond-true (ltb 1000 (length (seen ++ m ∷ more))) (Err M3) _ (lt-ltb _ _ big)
 
@@ -99,6 +102,7 @@ module _ (text : List ℕ) (i : ℕ) (inside : i < length text) where
       ap moves_of next_taken ∙ filter_map-append move_of_letter (take i text) (get_or text i 0 ∷ []) ∙
       ap (λ o. moves_of (take i text) ++ cons_option o []) (sym e)
 
+  -- the moves of a text around a letter of a move are those before it, this move and those after it
   pub moves_of-around : (m : Move) → Some m ≡ move_of_letter (get_or text i 0) → moves_of text ≡ moves_of (take i text) ++ m ∷ moves_of (drop (suc i) text)
   moves_of-around m e =
       ap moves_of (sym (take-append-drop i text) ∙ ap (λ t. take i text ++ t) (drop-cons text i 0 inside)) ∙
@@ -111,6 +115,7 @@ module _ (text : List ℕ) (i : ℕ) (inside : i < length text) where
       ap moves_of next_taken ∙ filter_map-append move_of_letter (take i text) (get_or text i 0 ∷ []) ∙
       ap (λ o. moves_of (take i text) ++ cons_option o []) (sym e) ∙ append_nil (moves_of (take i text))
 
+-- no moves at all leave a board what it is
 pub board_after-nothing : (b : List ℕ) → board_after b [] ≡ Some b
 unfolding board_after
 board_after-nothing b = refl

@@ -1,5 +1,6 @@
 -- What is split off at the first `;` is what the text is made of, and back.
-use Rattle.std.proofs.Common.{◌≡◌, ℕ, suc, ◌+◌, ◌<◌, Bool, true, false, List, [], ◌∷◌, ◌++◌, length, take, drop, get_or, Option, Some, None, eqb, not, refl, sym, ◌∙◌, ap, ap₂, subst, arith, eq-eqb, get_or-take, length-append, length-take}
+use Rattle.std.proofs.Common.{◌≡◌, ℕ, suc, ◌+◌, ◌<◌, Bool, true, false, List, [], ◌∷◌, ◌++◌, length, take, drop, get_or, Option, Some, None, eqb, not}
+use Rattle.std.proofs.Common.{refl, sym, ◌∙◌, ap, ap₂, subst, arith, eq-eqb, get_or-take, length-append, length-take}
 use Rattle.std.proofs.Math.ListN.{get_or-append}
 use Rattle.std.proofs.Math.Seq.{drop-append-add, drop-cons, get_or-append_seam, take-append_seam}
 use Rattle.std.proofs.lemmas.Bool.{eqb-true}
@@ -21,6 +22,7 @@ position-puzzle board moves first =
     (λ k l. ap (λ b. eqb b 59) (get_or-append board (59 ∷ moves) 0 k l) ∙ not_true (eqb (get_or board k 0) 59) (first k 0 l))
     (eq-eqb _ _ (get_or-append_seam board 59 moves 0))
 
+-- a text made of a board text, its first semicolon and a moves text is split into these two
 pub puzzle_parts-puzzle : (text board moves : List ℕ) → IsPuzzle text board moves → puzzle_parts text ≡ Some (board, moves)
 unfolding puzzle_parts
 puzzle_parts-puzzle text board moves puzzle =
@@ -52,13 +54,15 @@ back_of None = []
 back_of (Some parts) = parts.1
 
 -- the parts that are there make up the text
-pub puzzle-puzzle_parts : {A : Type 0} (text : List ℕ) (r : Option A) (front back : A → List ℕ) → option_map {U = List ℕ × List ℕ} (λ x. (front x, back x)) r ≡ puzzle_parts text
+pub puzzle-puzzle_parts : {A : Type 0} (text : List ℕ) (r : Option A) (front back : A → List ℕ)
+    → option_map {U = List ℕ × List ℕ} (λ x. (front x, back x)) r ≡ puzzle_parts text
     → IfSome r (λ x. IsPuzzle text (front x) (back x))
 unfolding puzzle_parts
 puzzle-puzzle_parts text None front back e = tt
 puzzle-puzzle_parts text (Some x) front back e = go (position (λ b. eqb b 59) text) refl e
   where
-    go : (o : Option ℕ) → position (λ b. eqb b 59) text ≡ o → option_map {U = List ℕ × List ℕ} (λ y. (front y, back y)) (Some x) ≡ option_map (λ i. (take i text, drop (i + 1) text)) o
+    go : (o : Option ℕ) → position (λ b. eqb b 59) text ≡ o
+        → option_map {U = List ℕ × List ℕ} (λ y. (front y, back y)) (Some x) ≡ option_map (λ i. (take i text, drop (i + 1) text)) o
         → IsPuzzle text (front x) (back x)
     go None p f = cc
     go (Some i) p f =
@@ -72,11 +76,13 @@ pub puzzle-parts : (text board moves : List ℕ) → puzzle_parts text ≡ Some 
 puzzle-parts text board moves e = puzzle-puzzle_parts {A = List ℕ × List ℕ} text (Some (board, moves)) (λ parts. parts.0) (λ parts. parts.1) (sym e)
 
 -- where there are none, no byte is a `;`
-pub no_semicolon-puzzle_parts : {A : Type 0} (text : List ℕ) (r : Option A) (parts : A → List ℕ × List ℕ) → option_map parts r ≡ puzzle_parts text → IfNone r (HasNoSemicolon text)
+pub no_semicolon-puzzle_parts : {A : Type 0} (text : List ℕ) (r : Option A) (parts : A → List ℕ × List ℕ) → option_map parts r ≡ puzzle_parts text
+    → IfNone r (HasNoSemicolon text)
 unfolding puzzle_parts
 no_semicolon-puzzle_parts text (Some x) parts e = tt
 no_semicolon-puzzle_parts text None parts e = go (position (λ b. eqb b 59) text) refl (sym e)
   where
-    go : (o : Option ℕ) → position (λ b. eqb b 59) text ≡ o → option_map {U = List ℕ × List ℕ} (λ i. (take i text, drop (i + 1) text)) o ≡ None → HasNoSemicolon text
+    go : (o : Option ℕ) → position (λ b. eqb b 59) text ≡ o → option_map {U = List ℕ × List ℕ} (λ i. (take i text, drop (i + 1) text)) o ≡ None
+        → HasNoSemicolon text
     go (Some i) p f = cc
     go None p f = λ k d l. ap (λ b. not (eqb b 59)) (get_or_default_zero text k d l) ∙ ap not (fails_each (λ b. eqb b 59) text p k l)

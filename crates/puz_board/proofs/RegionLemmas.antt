@@ -13,14 +13,17 @@ pub record IsGrowing (n free cell region : ℕ) : Type 0 where
   pub inside : (x : ℕ) → IsIn region x → IsIn free x
   pub reached : (x : ℕ) → IsIn region x → Reaches n (IsIn free) cell x
 
+-- a cell is in the region already, or is a free cell adjacent to one of the region
 abbrev pub Next : ℕ → ℕ → ℕ → ℕ → Type 0
 Next n free region d = IsIn region d ⊎ (IsIn free d × (c : ℕ) × IsIn region c × Adjacent n c d)
 
 module _ (n free cell : ℕ) where
+  -- a path of free cells goes on to an adjacent free cell
   pub reaches_further : {c d f : ℕ} → Reaches n (IsIn free) c d → Adjacent n d f → IsIn free f → Reaches n (IsIn free) c f
   reaches_further here a o = onward a o here
   reaches_further (onward b p r) a o = onward b p (reaches_further r a o)
 
+  -- a mask of one free cell alone has cells of this cell's region alone, and has the cell
   pub IsGrowing-start : (region : ℕ) → IsIn free cell → IsIn region cell → ((x : ℕ) → x ≢ cell → bit_at region x ≡ 0) → IsGrowing n free cell region
   IsGrowing-start region open_cell set others = record {
     start = set;
@@ -31,6 +34,7 @@ module _ (n free cell : ℕ) where
       only : (x : ℕ) → IsIn region x → x ≡ cell
       only x h = elim (cases_eq x cell) [ inl e ↦ e | inr ne ↦ absurd (let z = others x ne in omega arith) ]
 
+  -- a mask grown by the free cells next to it still has none but cells of the region
   pub IsGrowing-more : (region more : ℕ) → IsGrowing n free cell region → IsMaskOf more (Next n free region) → IsGrowing n free cell more
   IsGrowing-more region more g is = record {
     start = (is cell).1 (inl g.start);
@@ -43,8 +47,11 @@ module _ (n free cell : ℕ) where
   stays_inside region is here h = h
   stays_inside region is (onward {c = c} {d = d} a o r) h = stays_inside region is r ((is d).1 (inr (o, c, h, a)))
 
-  pub IsGrowing-all : (region more : ℕ) → IsGrowing n free cell region → IsMaskOf more (Next n free region) → more ≡ region → IsMaskOf more (Reaches n (IsIn free) cell)
-  IsGrowing-all region more g is same = subst (λ m. IsMaskOf m (Reaches n (IsIn free) cell)) (sym same) (λ x. (g.reached x, λ r. stays_inside region (subst (λ m. IsMaskOf m (Next n free region)) same is) r g.start))
+  -- a mask that its growing leaves as it was has all cells that are reached through free cells
+  pub IsGrowing-all : (region more : ℕ) → IsGrowing n free cell region → IsMaskOf more (Next n free region) → more ≡ region
+      → IsMaskOf more (Reaches n (IsIn free) cell)
+  IsGrowing-all region more g is same = subst (λ m. IsMaskOf m (Reaches n (IsIn free) cell)) (sym same)
+      (λ x. (g.reached x, λ r. stays_inside region (subst (λ m. IsMaskOf m (Next n free region)) same is) r g.start))
 
   -- until then it becomes a greater number, which free bounds
   pub grows : (region more : ℕ) → IsGrowing n free cell region → IsMaskOf more (Next n free region) → more ≢ region → free - more < free - region

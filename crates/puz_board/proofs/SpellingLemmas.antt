@@ -1,5 +1,6 @@
 -- A text with no stray byte and no long run has numbers of one or two digits between its separators; and back.
-use Rattle.std.proofs.Common.{◌≡◌, ℕ, zero, suc, ◌+◌, ◌<◌, ◌≤◌, true, false, eqb, List, [], ◌∷◌, length, drop, None, Ok, inl, inr, sym, ◌∙◌, ap, ap₂, subst, arith, ◌||◌, ◌&&◌}
+use Rattle.std.proofs.Common.{◌≡◌, ℕ, zero, suc, ◌+◌, ◌<◌, ◌≤◌, true, false, eqb, List, [], ◌∷◌, length, drop, None, Ok, inl, inr, sym, ◌∙◌, ap, ap₂}
+use Rattle.std.proofs.Common.{subst, arith, ◌||◌, ◌&&◌}
 use Rattle.std.proofs.Math.Bool.{and-false}
 use Rattle.std.proofs.lemmas.Bool.{and_parts, cases_Bool, cases_lt, cond-false, cond-true, eqb-false, ltb-false, or_left, or_right}
 use Rattle.std.proofs.lemmas.List.{drop_all}
@@ -10,7 +11,8 @@ use Rattle.std.specs.Char.{is_ascii_digit}
 use Rattle.std.specs.List.{AllPass, onto_first, slice_split}
 use Rattle.puz_board.specs.declared.texts.BoardFault.TheVariants.{B1, B2, B3, B4, B5}
 use Rattle.puz_board.specs.Boards.{IsBoard, side_of}
-use Rattle.puz_board.specs.BoardTexts.{IsShortNumeral, Spells, board_of_numbers, board_of_text, is_separator, long_run, numbers_in, parts, repeated, stray_byte, three_digits_at, too_large}
+use Rattle.puz_board.specs.BoardTexts.{IsShortNumeral, Spells, board_of_numbers, board_of_text, is_separator, long_run, numbers_in, parts, repeated}
+use Rattle.puz_board.specs.BoardTexts.{stray_byte, three_digits_at, too_large}
 use Rattle.puz_board.proofs.BoardLemmas.{side_of_count-sized}
 use Rattle.puz_board.proofs.FaultLemmas.{IsBoard-from_tests, board_of_numbers-board, board_of_text-is}
 use Rattle.puz_board.proofs.FirstLemmas.{first_below-none, position-AllPass}
@@ -48,6 +50,7 @@ module _ (text : List ℕ) (clean : stray_byte text ≡ None) (short : long_run 
     ]
   ]
 
+  -- a text with no stray byte and no long run has numerals of two digits at most alone
   pub numerals-from_tests : All IsShortNumeral (parts text)
   numerals-from_tests = numerals_from (length text) 0 (omega arith)
 
@@ -73,7 +76,10 @@ all_pieces (part ∷ rest) all = elim (cases_Bool (nat_lt 0 (length part))) [
     others = filter (λ part. nat_lt 0 (length part)) rest
 
 IsShortNumeral-tail : (x : ℕ) (part : List ℕ) → IsShortNumeral (x ∷ part) → IsShortNumeral part
-IsShortNumeral-tail x part numeral = record { digits = all_tail (λ b. is_ascii_digit b ≡ true) x part numeral.digits; short = let s = numeral.short in omega arith }
+IsShortNumeral-tail x part numeral = record {
+  digits = all_tail (λ b. is_ascii_digit b ≡ true) x part numeral.digits;
+  short = let s = numeral.short in omega arith;
+}
 
 -- without its first byte the first piece is shorter
 all_shorter : (x : ℕ) (pieces : List (List ℕ)) → All IsShortNumeral (onto_first x pieces) → All IsShortNumeral pieces
@@ -107,7 +113,8 @@ three_in_front a b c [] all = let numeral : IsShortNumeral (a ∷ b ∷ c ∷ []
 three_in_front a b c (part ∷ rest) all = let numeral : IsShortNumeral (a ∷ b ∷ c ∷ part) = all 0 part (omega arith) in let s = numeral.short in omega arith
 
 -- three digits in a row stand in one piece
-three_apart : (a b c : ℕ) (text : List ℕ) → All IsShortNumeral (slice_split is_separator (a ∷ b ∷ c ∷ text)) → (is_ascii_digit a && is_ascii_digit b && is_ascii_digit c) ≡ false
+three_apart : (a b c : ℕ) (text : List ℕ) → All IsShortNumeral (slice_split is_separator (a ∷ b ∷ c ∷ text))
+    → (is_ascii_digit a && is_ascii_digit b && is_ascii_digit c) ≡ false
 three_apart a b c text all = elim (cases_Bool (is_ascii_digit a && is_ascii_digit b && is_ascii_digit c)) [
   | inr other ↦ other
   | inl same ↦
@@ -133,16 +140,19 @@ none_long (a ∷ text) all (suc i) l =
     none_long text (pieces_after a text all) i (omega arith)
 
 module _ (text : List ℕ) (numerals : All IsShortNumeral (parts text)) where
+  -- a text of numerals of one or two digits has no stray byte
   pub stray_byte-numerals : stray_byte text ≡ None
   unfolding stray_byte
   stray_byte-numerals = position-AllPass (λ b. is_ascii_digit b || is_separator b) text (none_stray text (all_pieces (slice_split is_separator text) numerals))
 
+  -- a text of numerals of one or two digits has no run of three digits
   pub long_run-numerals : long_run text ≡ None
   unfolding long_run
   long_run-numerals = first_below-none (three_digits_at text) (length text) (none_long text (all_pieces (slice_split is_separator text) numerals))
 
 -- ---- a text that spells a board
 
+-- a text that spells a board is read as this board
 pub board_of_text-spelled : (text b : List ℕ) → Spells text b → board_of_text text ≡ Ok b
 board_of_text-spelled text b spelled =
     board_of_text-is text None None (sym (stray_byte-numerals text spelled.numerals)) (sym (long_run-numerals text spelled.numerals)) ∙
@@ -158,6 +168,7 @@ taken-board_of_numbers xs b e =
     let side = side_of_count-sized (length xs) (eqb-false _ _ sided.0) in
     (cc, IsBoard-from_tests xs side.2 side.0 side.1 below.0 once.0)
 
+-- a text that is read as a board with no fault spells this board
 pub spelled-board_of_text : (text b : List ℕ) → board_of_text text ≡ Ok b → Spells text b
 unfolding board_of_text
 spelled-board_of_text text b e =

@@ -1,5 +1,6 @@
 -- Boards, paths and costs transposed.
-use Rattle.std.proofs.Common.{◌≡◌, ℕ, ◌+◌, ◌*◌, ◌<◌, ◌≤◌, ◌↔◌, ◌⊎◌, Bool, true, false, cond, List, [], ◌∷◌, length, map, inl, inr, refl, sym, ◌∙◌, ap, ap₂, subst, arith}
+use Rattle.std.proofs.Common.{◌≡◌, ℕ, ◌+◌, ◌*◌, ◌<◌, ◌≤◌, ◌↔◌, ◌⊎◌, Bool, true, false, cond, List, [], ◌∷◌, length, map, inl, inr, refl, sym, ◌∙◌, ap}
+use Rattle.std.proofs.Common.{ap₂, subst, arith}
 use Rattle.std.specs.Prelude.{filter}
 use Rattle.std.specs.List.{AllByRecursion, range_with_len}
 use Rattle.std.proofs.lemmas.Bool.{cases_eq, cases_Bool, true≢false}
@@ -10,7 +11,8 @@ use Rattle.puz_board.specs.Cells.{Adjacent, AreNext, IsBeside, column, row}
 use Rattle.puz_board.specs.Costs.{IsHome, IsLeastCost, IsNeverHome, LeadsHome, cost, has}
 use Rattle.puz_board.specs.Paths.{IsPath, after}
 use Rattle.puz_board.specs.Transposing.{transposed, transposed_cell, transposed_on, transposed_tiles}
-use Rattle.puz_board.proofs.BoardLemmas.{IsBoardOf-slid, at-cell_of, at-slid_back, at-slid_other, at-slid_there, blank-slid, cell_of-below, cell_of-is, cells_least, side_of-board}
+use Rattle.puz_board.proofs.BoardLemmas.{IsBoardOf-slid, at-cell_of, at-slid_back, at-slid_other, at-slid_there, blank-slid, cell_of-below}
+use Rattle.puz_board.proofs.BoardLemmas.{cell_of-is, cells_least, side_of-board}
 use Rattle.puz_board.proofs.CellLemmas.{beside-step_of, by_side, step_of-beside}
 use Rattle.puz_board.proofs.HasLemmas.{all_from_has, has-filter, has-filter_not, has-range, has_from_all, in_range}
 
@@ -20,12 +22,17 @@ AreTransposed n tiles others = (t : ℕ) → t < n * n → has others t ≡ has 
 
 -- ---- cells
 
+-- the transposed cell of a cell of the board is a cell of the board
 pub cell_below : (n : ℕ) → 2 ≤ n → n ≤ 5 → (c : ℕ) → c < n * n → transposed_cell n c < n * n
-cell_below = by_side (λ n. (c : ℕ) → c < n * n → transposed_cell n c < n * n) (λ c l. omega arith) (λ c l. omega arith) (λ c l. omega arith) (λ c l. omega arith)
+cell_below = by_side (λ n. (c : ℕ) → c < n * n → transposed_cell n c < n * n) (λ c l. omega arith) (λ c l. omega arith) (λ c l. omega arith)
+    (λ c l. omega arith)
 
+-- a cell transposed twice is itself
 pub cell_twice : (n : ℕ) → 2 ≤ n → n ≤ 5 → (c : ℕ) → c < n * n → transposed_cell n (transposed_cell n c) ≡ c
-cell_twice = by_side (λ n. (c : ℕ) → c < n * n → transposed_cell n (transposed_cell n c) ≡ c) (λ c l. omega arith) (λ c l. omega arith) (λ c l. omega arith) (λ c l. omega arith)
+cell_twice = by_side (λ n. (c : ℕ) → c < n * n → transposed_cell n (transposed_cell n c) ≡ c) (λ c l. omega arith) (λ c l. omega arith)
+    (λ c l. omega arith) (λ c l. omega arith)
 
+-- cell 0 is its own transposed cell
 pub cell_zero : (n : ℕ) → 2 ≤ n → n ≤ 5 → transposed_cell n 0 ≡ 0
 cell_zero = by_side (λ n. transposed_cell n 0 ≡ 0) refl refl refl refl
 
@@ -39,16 +46,25 @@ module _ (n : ℕ) (low : 2 ≤ n) (high : n ≤ 5) where
       let p = exchanged n low high c l in
       let q = exchanged n low high d k in
       elim is [
-        | inl in_row ↦ inr (p.1 ∙ in_row.0 ∙ sym q.1, subst (λ x. AreNext x (row n (transposed_cell n d))) (sym p.0) (subst (AreNext (column n c)) (sym q.0) in_row.1))
-        | inr in_column ↦ inl (p.0 ∙ in_column.0 ∙ sym q.0, subst (λ x. AreNext x (column n (transposed_cell n d))) (sym p.1) (subst (AreNext (row n c)) (sym q.1) in_column.1))
+        | inl in_row ↦ inr (
+          p.1 ∙ in_row.0 ∙ sym q.1,
+          subst (λ x. AreNext x (row n (transposed_cell n d))) (sym p.0)
+              (subst (AreNext (column n c)) (sym q.0) in_row.1),
+        )
+        | inr in_column ↦ inl (
+          p.0 ∙ in_column.0 ∙ sym q.0,
+          subst (λ x. AreNext x (column n (transposed_cell n d))) (sym p.1) (subst (AreNext (row n c)) (sym q.1) in_column.1),
+        )
       ]
 
+  -- the transposed cells of two adjacent cells are adjacent
   pub Adjacent-transposed : (c d : ℕ) → c < n * n → Adjacent n c d → Adjacent n (transposed_cell n c) (transposed_cell n d)
   Adjacent-transposed c d l is =
       let step = beside-step_of n (transposed_cell n c) (transposed_cell n d) low high (cell_below n low high c l) (cell_below n low high d is.0)
       (beside c d l is.0 (step_of-beside n c is.1 d low high l is.2)) in
       (cell_below n low high d is.0, step.0, step.1)
 
+  -- a path, cell by cell transposed, is a path from the transposed cell
   pub IsPath-transposed : (path : List ℕ) (c : ℕ) → c < n * n → IsPath n c path → IsPath n (transposed_cell n c) (map (transposed_cell n) path)
   IsPath-transposed [] c l walk = tt
   IsPath-transposed (d ∷ path) c l walk = (Adjacent-transposed c d l walk.0, IsPath-transposed path d walk.0.0 walk.1)
@@ -60,8 +76,10 @@ module _ (n : ℕ) (b : List ℕ) (good : IsBoardOf n b) where
   unfolding transposed
   on_side = ap (λ m. transposed_on m b) (side_of-board n b good)
 
+  -- in each cell of the transposed board is the transposed number of the transposed cell
   pub at-transposed : (c : ℕ) → c < n * n → at (transposed b) c ≡ transposed_cell n (at b (transposed_cell n c))
-  at-transposed c l = ap (λ x. at x c) on_side ∙ get_or-map-range_with_len (λ c. transposed_cell n (at b (transposed_cell n c))) 0 (n * n) c c 0 l (let e : 0 + c ≡ c = omega arith in e)
+  at-transposed c l = ap (λ x. at x c) on_side ∙ get_or-map-range_with_len (λ c. transposed_cell n (at b (transposed_cell n c))) 0 (n * n) c c 0 l
+      (let e : 0 + c ≡ c = omega arith in e)
 
   below_of : (c : ℕ) → c < n * n → transposed_cell n c < n * n
   below_of = cell_below n good.low good.high
@@ -72,6 +90,7 @@ module _ (n : ℕ) (b : List ℕ) (good : IsBoardOf n b) where
   one_of : (c d : ℕ) → c < n * n → d < n * n → transposed_cell n c ≡ transposed_cell n d → c ≡ d
   one_of c d l k e = sym (twice_of c l) ∙ ap (transposed_cell n) e ∙ twice_of d k
 
+  -- a board of side n transposed is a board of side n
   pub IsBoardOf-transposed : IsBoardOf n (transposed b)
   IsBoardOf-transposed = record {
     low = good.low;
@@ -79,21 +98,25 @@ module _ (n : ℕ) (b : List ℕ) (good : IsBoardOf n b) where
     size = ap length on_side ∙ length-map-range_with_len (λ c. transposed_cell n (at b (transposed_cell n c))) 0 (n * n);
     below = λ c l. subst (λ x. x < n * n) (sym (at-transposed c l)) (below_of (at b (transposed_cell n c)) (good.below (transposed_cell n c) (below_of c l)));
     distinct = λ c d l k e.
-        let same = one_of (at b (transposed_cell n c)) (at b (transposed_cell n d)) (good.below (transposed_cell n c) (below_of c l)) (good.below (transposed_cell n d) (below_of d k))
+        let same = one_of (at b (transposed_cell n c)) (at b (transposed_cell n d)) (good.below (transposed_cell n c) (below_of c l))
+        (good.below (transposed_cell n d) (below_of d k))
         (sym (at-transposed c l) ∙ e ∙ at-transposed d k) in
         one_of c d l k (good.distinct (transposed_cell n c) (transposed_cell n d) (below_of c l) (below_of d k) same);
   }
 
+  -- on the transposed board, a transposed number is in the transposed cell
   pub cell_of-transposed : (t : ℕ) → t < n * n → cell_of (transposed_cell n t) (transposed b) ≡ transposed_cell n (cell_of t b)
   cell_of-transposed t l =
       let c = cell_of t b in
       let inside = cell_of-below n b good t l in
       cell_of-is n (transposed b) IsBoardOf-transposed (transposed_cell n t) (transposed_cell n c) (below_of c inside)
-      (at-transposed (transposed_cell n c) (below_of c inside) ∙ ap (λ x. transposed_cell n (at b x)) (twice_of c inside) ∙ ap (transposed_cell n) (at-cell_of n b good t l))
+      (at-transposed (transposed_cell n c) (below_of c inside) ∙ ap (λ x. transposed_cell n (at b x)) (twice_of c inside)
+      ∙ ap (transposed_cell n) (at-cell_of n b good t l))
 
   some_cell : 0 < n * n
   some_cell = let l = cells_least n b good in omega arith
 
+  -- the blank of a transposed board is in the transposed cell of the blank
   pub blank-transposed : blank (transposed b) ≡ transposed_cell n (blank b)
   blank-transposed = ap (λ t. cell_of t (transposed b)) (sym (cell_zero n good.low good.high)) ∙ cell_of-transposed 0 some_cell
 
@@ -101,6 +124,7 @@ module _ (n : ℕ) (b : List ℕ) (good : IsBoardOf n b) where
   turned : IsBoardOf n (transposed b)
   turned = IsBoardOf-transposed n b good
 
+  -- a board transposed twice is itself
   pub transposed-twice : transposed (transposed b) ≡ b
   transposed-twice = ext_get_or 0 (transposed (transposed b)) b (again.size ∙ sym good.size) (λ c low. each c (let e = again.size in omega arith))
     where
@@ -114,6 +138,7 @@ module _ (n : ℕ) (b : List ℕ) (good : IsBoardOf n b) where
           twice_of n b good (at b (transposed_cell n (transposed_cell n c))) (subst (λ x. at b x < n * n) (sym (twice_of n b good c l)) (good.below c l)) ∙
           ap (at b) (twice_of n b good c l)
 
+  -- the goal board transposed is itself
   pub transposed-goal : IsGoal b → transposed b ≡ b
   transposed-goal goal = ext_get_or 0 (transposed b) b (turned.size ∙ sym good.size) (λ c low. each c (let e = turned.size in omega arith))
     where
@@ -126,7 +151,8 @@ module _ (n : ℕ) (b : List ℕ) (good : IsBoardOf n b) where
   -- a slide of the transposed board is the slide, transposed
   pub slid-transposed : (c : ℕ) → c < n * n → slid (transposed b) (transposed_cell n c) ≡ transposed (slid b c)
   slid-transposed c inside =
-      ext_get_or 0 (slid (transposed b) (transposed_cell n c)) (transposed (slid b c)) (one.size ∙ sym other.size) (λ x low. each x (let e = one.size in omega arith))
+      ext_get_or 0 (slid (transposed b) (transposed_cell n c)) (transposed (slid b c)) (one.size ∙ sym other.size)
+      (λ x low. each x (let e = one.size in omega arith))
     where
       there : transposed_cell n c < n * n
       there = below_of n b good c inside
@@ -148,7 +174,8 @@ module _ (n : ℕ) (b : List ℕ) (good : IsBoardOf n b) where
         | inl e ↦
             let back : transposed_cell n x ≡ c = ap (transposed_cell n) e ∙ twice_of n b good c inside in
             ap (at (slid (transposed b) (transposed_cell n c))) e ∙ at-slid_there n (transposed b) turned (transposed_cell n c) there ∙
-            sym (at-transposed n (slid b c) on x l ∙ ap (λ y. transposed_cell n (at (slid b c) y)) back ∙ ap (transposed_cell n) (at-slid_there n b good c inside) ∙ cell_zero n good.low good.high)
+            sym (at-transposed n (slid b c) on x l ∙ ap (λ y. transposed_cell n (at (slid b c) y)) back
+            ∙ ap (transposed_cell n) (at-slid_there n b good c inside) ∙ cell_zero n good.low good.high)
         | inr p ↦ elim (cases_eq x (blank (transposed b))) [
           | inl e ↦
               let back : transposed_cell n x ≡ blank b = ap (transposed_cell n) (e ∙ blank-transposed n b good) ∙ twice_of n b good (blank b) home in
@@ -167,6 +194,7 @@ module _ (n : ℕ) (b : List ℕ) (good : IsBoardOf n b) where
 
 -- ---- paths
 
+-- a path of the blank leaves a board of the same side
 pub IsBoardOf-after : (n : ℕ) (path b : List ℕ) → IsBoardOf n b → IsPath n (blank b) path → IsBoardOf n (after b path)
 IsBoardOf-after n [] b good walk = good
 IsBoardOf-after n (c ∷ cs) b good walk =
@@ -176,12 +204,15 @@ module _ (n : ℕ) where
   onward : (b : List ℕ) → IsBoardOf n b → (c : ℕ) (cs : List ℕ) → IsPath n (blank b) (c ∷ cs) → IsPath n (blank (slid b c)) cs
   onward b good c cs walk = subst (λ x. IsPath n x cs) (sym (blank-slid n b good c walk.0.0)) walk.1
 
-  pub after-transposed : (path b : List ℕ) → IsBoardOf n b → IsPath n (blank b) path → after (transposed b) (map (transposed_cell n) path) ≡ transposed (after b path)
+  -- the transposed path leaves on the transposed board what the path leaves, transposed
+  pub after-transposed : (path b : List ℕ) → IsBoardOf n b → IsPath n (blank b) path
+      → after (transposed b) (map (transposed_cell n) path) ≡ transposed (after b path)
   after-transposed [] b good walk = refl
   after-transposed (c ∷ cs) b good walk =
       ap (λ x. after x (map (transposed_cell n) cs)) (slid-transposed n b good c walk.0.0) ∙
       after-transposed cs (slid b c) (IsBoardOf-slid n b good c walk.0.0) (onward b good c cs walk)
 
+  -- the transposed path of a board's blank is a path of the transposed board's blank
   pub walk-transposed : (path b : List ℕ) → IsBoardOf n b → IsPath n (blank b) path → IsPath n (blank (transposed b)) (map (transposed_cell n) path)
   walk-transposed path b good walk =
       subst (λ x. IsPath n x (map (transposed_cell n) path)) (sym (blank-transposed n b good))
@@ -190,25 +221,30 @@ module _ (n : ℕ) where
   -- ---- costs
 
   module _ (tiles others : List ℕ) (are : AreTransposed n tiles others) where
-    pub cost-transposed : (path b : List ℕ) → IsBoardOf n b → IsPath n (blank b) path → cost others b path ≡ cost tiles (transposed b) (map (transposed_cell n) path)
+    -- a path costs the transposed tiles what its transposed path costs the tiles on the transposed board
+    pub cost-transposed : (path b : List ℕ) → IsBoardOf n b → IsPath n (blank b) path
+        → cost others b path ≡ cost tiles (transposed b) (map (transposed_cell n) path)
     cost-transposed [] b good walk = refl
     cost-transposed (c ∷ cs) b good walk =
         let inside = walk.0.0 in
         let moved : at (transposed b) (transposed_cell n c) ≡ transposed_cell n (at b c) =
         at-transposed n b good (transposed_cell n c) (below_of n b good c inside) ∙ ap (λ x. transposed_cell n (at b x)) (twice_of n b good c inside) in
-        let paid : has others (at b c) ≡ has tiles (at (transposed b) (transposed_cell n c)) = are (at b c) (good.below c inside) ∙ ap (has tiles) (sym moved) in
+        let paid : has others (at b c) ≡ has tiles (at (transposed b) (transposed_cell n c)) = are (at b c) (good.below c inside)
+        ∙ ap (has tiles) (sym moved) in
         let rest : cost others (slid b c) cs ≡ cost tiles (slid (transposed b) (transposed_cell n c)) (map (transposed_cell n) cs) =
         cost-transposed cs (slid b c) (IsBoardOf-slid n b good c inside) (onward b good c cs walk) ∙
         ap (λ x. cost tiles x (map (transposed_cell n) cs)) (sym (slid-transposed n b good c inside)) in
         ap₂ (λ h k. cond h 1 0 + k) paid rest
 
     module _ (inside : (t : ℕ) → has tiles t ≡ true → t < n * n) where
-      home-transposed : (b : List ℕ) → IsBoardOf n b → ((t : ℕ) → has others t ≡ true → cell_of t b ≡ t) → (t : ℕ) → has tiles t ≡ true → cell_of t (transposed b) ≡ t
+      home-transposed : (b : List ℕ) → IsBoardOf n b → ((t : ℕ) → has others t ≡ true → cell_of t b ≡ t) → (t : ℕ) → has tiles t ≡ true
+          → cell_of t (transposed b) ≡ t
       home-transposed b good home t is =
           let l = inside t is in
           let k = below_of n b good t l in
           let back = twice_of n b good t l in
-          let at_home : cell_of (transposed_cell n t) b ≡ transposed_cell n t = home (transposed_cell n t) (are (transposed_cell n t) k ∙ ap (has tiles) back ∙ is) in
+          let at_home : cell_of (transposed_cell n t) b ≡ transposed_cell n t =
+          home (transposed_cell n t) (are (transposed_cell n t) k ∙ ap (has tiles) back ∙ is) in
           ap (λ x. cell_of x (transposed b)) (sym back) ∙ cell_of-transposed n b good (transposed_cell n t) k ∙ ap (transposed_cell n) at_home ∙ back
 
 -- ---- least costs
@@ -228,11 +264,13 @@ chosen_below p m t is = go (cases_Bool (p t))
     go (inr fails) = absurd (true≢false (sym is ∙ has-filter_not p t (range_with_len 0 m) fails))
 
 module _ (n : ℕ) where
+  -- each of these tiles is below the count of cells of side n
   abbrev pub AreInside : List ℕ → Type 0
   AreInside tiles = (t : ℕ) → has tiles t ≡ true → t < n * n
 
   -- a path that leads some tiles home leads the tiles that they become home on the transposed board
-  pub leads-transposed : (tiles others : List ℕ) → AreTransposed n tiles others → AreInside tiles → (b : List ℕ) → IsBoardOf n b → (path : List ℕ) → LeadsHome others b path
+  pub leads-transposed : (tiles others : List ℕ) → AreTransposed n tiles others → AreInside tiles → (b : List ℕ) → IsBoardOf n b → (path : List ℕ)
+      → LeadsHome others b path
       → LeadsHome tiles (transposed b) (map (transposed_cell n) path)
   leads-transposed tiles others are inside b good path leads =
       let walk : IsPath n (blank b) path = subst (λ m. IsPath m (blank b) path) (side_of-board n b good) leads.walk in
@@ -240,10 +278,12 @@ module _ (n : ℕ) where
       let end : IsBoardOf n (after b path) = IsBoardOf-after n path b good walk in
       let ends = sym (after-transposed n path b good walk) in
       record {
-        walk = subst (λ m. IsPath m (blank (transposed b)) (map (transposed_cell n) path)) (sym (side_of-board n (transposed b) turned_board)) (walk-transposed n path b good walk);
+        walk = subst (λ m. IsPath m (blank (transposed b)) (map (transposed_cell n) path)) (sym (side_of-board n (transposed b) turned_board))
+            (walk-transposed n path b good walk);
         ends = subst (IsHome tiles) ends (record {
           tiles_home = all_from_has (λ t. cell_of t (transposed (after b path)) ≡ t) tiles
-              (home-transposed n tiles others are inside (after b path) end (λ t is. has_from_all (λ t. cell_of t (after b path) ≡ t) others t leads.ends.tiles_home is));
+              (home-transposed n tiles others are inside (after b path) end
+              (λ t is. has_from_all (λ t. cell_of t (after b path) ≡ t) others t leads.ends.tiles_home is));
           blank_home = blank-transposed n (after b path) end ∙ ap (transposed_cell n) leads.ends.blank_home ∙ cell_zero n good.low good.high;
         });
       }
@@ -262,26 +302,32 @@ module _ (n : ℕ) where
         leads = leads-transposed tiles others are inside b good is.path is.leads;
         costs = sym (cost-transposed n tiles others are is.path b good walk) ∙ is.costs;
         least = λ other leads.
-            let on : IsPath n (blank (transposed b)) other = subst (λ m. IsPath m (blank (transposed b)) other) (side_of-board n (transposed b) turned_board) leads.walk in
+            let on : IsPath n (blank (transposed b)) other = subst (λ m. IsPath m (blank (transposed b)) other)
+            (side_of-board n (transposed b) turned_board) leads.walk in
             let ways = back_again tiles others good.low good.high are in
             let there = leads-transposed others tiles ways also (transposed b) turned_board other leads in
             let again = transposed-twice n b good in
-            let low : d ≤ cost others b (map (transposed_cell n) other) = is.least (map (transposed_cell n) other) (subst (λ c. LeadsHome others c (map (transposed_cell n) other)) again there) in
+            let low : d ≤ cost others b (map (transposed_cell n) other) =
+            is.least (map (transposed_cell n) other) (subst (λ c. LeadsHome others c (map (transposed_cell n) other)) again there) in
             let same : cost tiles (transposed b) other ≡ cost others b (map (transposed_cell n) other) =
             cost-transposed n others tiles ways other (transposed b) turned_board on ∙ ap (λ c. cost others c (map (transposed_cell n) other)) again in
             subst (λ k. d ≤ k) (sym same) low;
       }
 
-  never-transposed : (tiles others : List ℕ) → AreTransposed n tiles others → AreInside others → (b : List ℕ) → IsBoardOf n b → IsNeverHome others b → IsNeverHome tiles (transposed b)
+  never-transposed : (tiles others : List ℕ) → AreTransposed n tiles others → AreInside others → (b : List ℕ) → IsBoardOf n b → IsNeverHome others b
+      → IsNeverHome tiles (transposed b)
   never-transposed tiles others are also b good never other leads =
-      let there = leads-transposed others tiles (back_again tiles others good.low good.high are) also (transposed b) (IsBoardOf-transposed n b good) other leads in
+      let there = leads-transposed others tiles (back_again tiles others good.low good.high are) also (transposed b)
+      (IsBoardOf-transposed n b good) other leads in
       never (map (transposed_cell n) other) (subst (λ c. LeadsHome others c (map (transposed_cell n) other)) (transposed-twice n b good) there)
 
   -- ---- the tiles that a pattern's become
 
+  -- the tiles made by transposing are what the tiles become
   pub transposed_tiles-are : (tiles : List ℕ) → AreTransposed n tiles (transposed_tiles n tiles)
   transposed_tiles-are tiles t l = has-chosen (λ t. has tiles (transposed_cell n t)) 0 (n * n) t (omega arith) (omega arith)
 
+  -- the tiles made by transposing are below the count of cells
   pub transposed_tiles-inside : (tiles : List ℕ) → AreInside (transposed_tiles n tiles)
   transposed_tiles-inside tiles t is = chosen_below (λ t. has tiles (transposed_cell n t)) (n * n) t is
 
@@ -289,6 +335,7 @@ module _ (n : ℕ) where
     inside_all : AreInside tiles
     inside_all t is = has_from_all (λ t. t < n * n) tiles t all is
 
+    -- a cost is the least of the transposed tiles on a board where it is that of the tiles on the transposed board
     pub least_costs : (d : ℕ) → IsLeastCost (transposed_tiles n tiles) b d ↔ IsLeastCost tiles (transposed b) d
     least_costs d = (
       least-transposed tiles (transposed_tiles n tiles) (transposed_tiles-are tiles) inside_all (transposed_tiles-inside tiles) b good d,
@@ -297,6 +344,7 @@ module _ (n : ℕ) where
           (transposed_tiles-inside tiles) inside_all (transposed b) (IsBoardOf-transposed n b good) d is),
     )
 
+    -- transposed tiles never come home on a board where the tiles never do on the transposed board
     pub nevers : IsNeverHome (transposed_tiles n tiles) b ↔ IsNeverHome tiles (transposed b)
     nevers = (
       never-transposed tiles (transposed_tiles n tiles) (transposed_tiles-are tiles) (transposed_tiles-inside tiles) b good,

@@ -10,10 +10,12 @@ module _ {S : Type 0} (Free Paid : S → S → Type 0) (Home : S → Type 0) whe
   begins (free f w) = elim (begins w) [ inl g ↦ inl ((g.0.0, onward f g.0.1, g.0.2), g.1) | inr o ↦ inr (o.0, o.1, (o.2.0, onward f o.2.1, o.2.2), o.3, o.4) ]
   begins (paid {s = s} {t = t} {c = c} p w) = inr (t, c, (s, here, p), w, refl)
 
+  -- a way home behind free steps is a way home with as many paid steps
   pub along : {s m : S} {c : ℕ} → Frees Free Paid Home s m → Way Free Paid Home m c → Way Free Paid Home s c
   along here w = w
   along (onward f r) w = free f (along r w)
 
+  -- a way home behind free steps and one paid step is a way home with one paid step more
   pub way_from_one : {s t : S} {c : ℕ} → One Free Paid Home s t → Way Free Paid Home t c → Way Free Paid Home s (suc c)
   way_from_one o w = along o.1 (paid o.2 w)
 
@@ -30,6 +32,7 @@ module _ {S : Type 0} (Free Paid : S → S → Type 0) (Home : S → Type 0) whe
           go None is one = absurd (let n : v t ≡ None = one t (s, here, p) in let bad : Some k ≡ None = sym e ∙ n in cc)
           go (Some d) is one = (d, is, one.1 t k (s, here, p) e)
 
+      -- under the local rule, a state with a way home has a value, at most the paid steps of the way
       pub below_every_way : {s : S} {c : ℕ} → Way Free Paid Home s c → (d : ℕ) × (v s ≡ Some d) × (d ≤ c)
       below_every_way (home {s = s} h) = (0, at_home s h, omega arith)
       below_every_way (free {s = s} {t = t} f w) = let b = below_every_way w in (b.0, sym (steady s t f) ∙ b.1, b.2)
@@ -42,12 +45,16 @@ module _ {S : Type 0} (Free Paid : S → S → Type 0) (Home : S → Type 0) whe
       goal_way : (d : ℕ) (s : S) → v s ≡ Some d → IsGoal Free Paid Home s × (v s ≡ Some 0) → Way Free Paid Home s d
       goal_way d s e g = let z : 0 ≡ d = cc (e, g.1) in subst (λ x. Way Free Paid Home s x) z (along g.0.1 (home g.0.2))
 
+      -- under the local rule, a state with a value has a way home with as many paid steps
       pub way_of_value : (d : ℕ) (s : S) → v s ≡ Some d → Way Free Paid Home s d
       way_of_value zero s e = elim (rule s) [ inl g ↦ goal_way zero s e g | inr o ↦ absurd (no_zero (subst (OneMore Free Paid Home v s) e o.1)) ]
         where
           no_zero : OneMore Free Paid Home v s (Some 0) → ⊥
           no_zero one = let bad : 0 ≡ suc one.0.1 = one.0.4 in omega arith
-      way_of_value (suc d) s e = elim (rule s) [ inl g ↦ goal_way (suc d) s e g | inr o ↦ step (λ t is. way_of_value d t is) (subst (OneMore Free Paid Home v s) e o.1) ]
+      way_of_value (suc d) s e = elim (rule s) [
+        | inl g ↦ goal_way (suc d) s e g
+        | inr o ↦ step (λ t is. way_of_value d t is) (subst (OneMore Free Paid Home v s) e o.1)
+      ]
         where
           less : (k : ℕ) → suc d ≡ suc k → d ≡ k
           less k q = omega arith
@@ -67,7 +74,11 @@ module _ {S : Type 0} (Free Paid : S → S → Type 0) (Home : S → Type 0) whe
 
           go : (x : Option ℕ) → v s ≡ x → Says Free Paid Home s x
           go None e = λ c w. let b = below_every_way w in let bad : Some b.0 ≡ None = sym b.1 ∙ e in cc
-          go (Some d) e = (way_of_value d s e, λ c w. let b = below_every_way w in let same : b.0 ≡ d = some b.0 d (sym b.1 ∙ e) in let le : b.0 ≤ c = b.2 in omega arith)
+          go (Some d) e = (
+            way_of_value d s e,
+            λ c w. let b = below_every_way w in let same : b.0 ≡ d = some b.0 d (sym b.1 ∙ e) in
+                let le : b.0 ≤ c = b.2 in omega arith,
+          )
 
     -- ---- exact values keep the rule
     module _ (decided : (s : S) → IsGoal Free Paid Home s ⊎ (¬ IsGoal Free Paid Home s)) (exact : (s : S) → Says Free Paid Home s (v s)) where
@@ -98,7 +109,8 @@ module _ {S : Type 0} (Free Paid : S → S → Type 0) (Home : S → Type 0) whe
           first : (d : ℕ) → v s ≡ Some d → (t : S) × (k : ℕ) × One Free Paid Home s t × (v t ≡ Some k) × (d ≡ suc k)
           first d e = elim (begins (way_at s d e)) [ inl g ↦ absurd (far g.0) | inr o ↦ pick o ]
             where
-              pick : (t : S) × (k : ℕ) × One Free Paid Home s t × Way Free Paid Home t k × (d ≡ suc k) → (t : S) × (k : ℕ) × One Free Paid Home s t × (v t ≡ Some k) × (d ≡ suc k)
+              pick : (t : S) × (k : ℕ) × One Free Paid Home s t × Way Free Paid Home t k × (d ≡ suc k) → (t : S) × (k : ℕ) × One Free Paid Home s t
+                  × (v t ≡ Some k) × (d ≡ suc k)
               pick o =
                   let b = value_of_way o.3 in
                   let low : d ≤ suc b.0 = bound d e o.0 b.0 o.2 b.1 in
@@ -110,6 +122,7 @@ module _ {S : Type 0} (Free Paid : S → S → Type 0) (Home : S → Type 0) whe
           go None e = λ t o. none t (v t) refl e o
           go (Some d) e = (first d e, bound d e)
 
+      -- where each value is exact, the local rule holds at each state
       pub rule_from_says : (s : S) → Rule Free Paid Home v s
       rule_from_says s = elim (decided s) [ inl g ↦ inl (g, zero_at g) | inr far ↦ inr (far, one_more s far) ]
         where

@@ -17,12 +17,15 @@ module _ {S : Type 0} (Free Paid : S → S → Type 0) (Home : S → Type 0) whe
   abbrev pub One : S → S → Type 0
   One s t = (m : S) × Frees s m × Paid m t
 
+  -- free steps alone lead from the state to a home state
   abbrev pub IsGoal : S → Type 0
   IsGoal s = (m : S) × Frees s m × Home m
 
+  -- the state has a way home with this number of paid steps, and none with fewer
   abbrev pub IsLeast : S → ℕ → Type 0
   IsLeast s d = Way s d × ((c : ℕ) → Way s c → d ≤ c)
 
+  -- the state has no way home, whatever number of paid steps
   abbrev pub IsNever : S → Type 0
   IsNever s = (c : ℕ) → ¬ Way s c
 
@@ -38,5 +41,6 @@ module _ {S : Type 0} (Free Paid : S → S → Type 0) (Home : S → Type 0) whe
       ((t : S) × (k : ℕ) × One s t × (v t ≡ Some k) × (d ≡ suc k)) ×
       ((t : S) (k : ℕ) → One s t → v t ≡ Some k → d ≤ suc k)
 
+  -- goal states have the value 0, and others one more than the least that a paid step reaches
   abbrev pub Rule : (S → Option ℕ) → S → Type 0
   Rule v s = (IsGoal s × (v s ≡ Some 0)) ⊎ ((¬ IsGoal s) × OneMore v s (v s))

@@ -2,6 +2,7 @@
 #![tactic(auto)]
 
 mod board_table;
+mod budgets;
 mod cells;
 mod children;
 mod cuts;
@@ -26,6 +27,6 @@ mod writing;
 mod written;
 
 pub use limits::Limits;
-pub use searches::{Found, solve, solve_within};
+pub use searches::{Found, solve, solve_watched, solve_within};
 pub use solvable::is_solvable;
-pub use tab_make::{MakeFault, build, entry_of, layer};
+pub use tab_make::{MakeFault, TableDraft, build, draft, entry_of, layer};

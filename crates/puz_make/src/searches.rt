@@ -7,6 +7,7 @@ ghost use Rattle.puz_make.specs.Faults.{IsSearchFault, IsSearchStop};
 ghost use Rattle.puz_make.specs.Solvable.{HasTheBlanksParity};
 ghost use Rattle.tab_make.specs.declared.faults.MakeFault.TheVariants.{K1, K2};
 
+use crate::budgets::Budget;
 use crate::children::Children;
 use crate::leaves::Leaf;
 use crate::limits::Limits;
@@ -22,6 +23,7 @@ use set_sum::Bundle;
 use std::alloc::{AllocError, Global};
 use std::mem;
 use tab_make::MakeFault;
+use work_run::{Gate, OpenGate};
 
 /// By how much a threshold is above the one before: all solutions of a board have one parity.
 const BETWEEN_THRESHOLDS: u16 = 2;
@@ -61,12 +63,45 @@ pub fn solve(
     solve_within(alloc, bundle, board, budget, &Limits::USUAL)
 }
 
+/// Searches as `solve` does. The gate is told of the search below each threshold, and now and then of the boards that it has
+/// expanded; no thread is held.
+pub fn solve_watched<G: Gate>(
+    alloc: Global,
+    bundle: &Bundle<'_>,
+    board: &Board,
+    budget: u64,
+    gate: &G,
+) -> Result<Found, MakeFault>
+    requires { side_of board.now ≡ bundle.now.side }
+    ensures fault { IfErr result (IsSearchFault bundle.now board.now) }
+    ensures unsolvable { (HasTheBlanksParity board.now → ⊥) → result ≡ Err K2 }
+{
+    let budget = Budget::new(budget, gate);
+    search_in_reach(alloc, bundle, board, budget, &Limits::USUAL)
+}
+
 /// Searches as `solve` does, within other limits.
 pub fn solve_within(
     alloc: Global,
     bundle: &Bundle<'_>,
     board: &Board,
     budget: u64,
+    limits: &Limits,
+) -> Result<Found, MakeFault>
+    requires { side_of board.now ≡ bundle.now.side }
+    ensures fault { IfErr result (IsSearchFault bundle.now board.now) }
+    ensures unsolvable { (HasTheBlanksParity board.now → ⊥) → result ≡ Err K2 }
+{
+    let budget = Budget::new(budget, &OpenGate);
+    search_in_reach(alloc, bundle, board, budget, limits)
+}
+
+/// Searches for a shortest solution of a board, unless that is out of reach.
+fn search_in_reach<G: Gate>(
+    alloc: Global,
+    bundle: &Bundle<'_>,
+    board: &Board,
+    budget: Budget<'_, G>,
     limits: &Limits,
 ) -> Result<Found, MakeFault>
     requires { side_of board.now ≡ bundle.now.side }
@@ -83,11 +118,11 @@ pub fn solve_within(
 }
 
 /// Searches for a shortest solution of a board that is in reach, threshold by threshold.
-fn search(
+fn search<G: Gate>(
     alloc: Global,
     bundle: &Bundle<'_>,
     board: &Board,
-    budget: u64,
+    budget: Budget<'_, G>,
     limits: &Limits,
 ) -> Result<Found, MakeFault>
     requires { side_of board.now ≡ bundle.now.side }
@@ -114,10 +149,10 @@ fn search(
 
 /// What searches for a solution, with all that it keeps.
 #[derive(Drop)]
-struct Searcher<'a> {
+struct Searcher<'a, 'g, G> {
     position: Position<'a>,
     /// How many more boards may be expanded.
-    budget: u64,
+    budget: Budget<'g, G>,
     limits: Limits,
     /// The tree of this threshold, as far as it is written.
     tree: WrittenTree,
@@ -127,10 +162,15 @@ struct Searcher<'a> {
     moves: Vec<u8>,
 }
 
-impl<'a> Searcher<'a> {
+impl<'a, 'g, G: Gate> Searcher<'a, 'g, G> {
     /// One that may expand so many boards.
-    fn new(alloc: Global, position: Position<'a>, budget: u64, limits: &Limits) -> Searcher<'a>
-        ensures { result.budget ≡ budget }
+    fn new(
+        alloc: Global,
+        position: Position<'a>,
+        budget: Budget<'g, G>,
+        limits: &Limits,
+    ) -> Searcher<'a, 'g, G>
+        ensures { result.budget ≡ budget.entry }
     {
         let sets = position.sums.count();
         Searcher {
@@ -179,7 +219,7 @@ impl<'a> Searcher<'a> {
     fn search_again(&mut self, bound: u8, levels: &mut [Children]) -> Result<(), MakeFault>
         ensures { IfErr result IsSearchStop }
     {
-        self.budget = u64::MAX;
+        self.budget.begin_anew(u64::MAX);
         self.tree.most = self.limits.tree;
         self.tree.clear();
         let _ = self.is_solved(levels, u16::from(bound))?;
@@ -196,6 +236,7 @@ impl<'a> Searcher<'a> {
         ensures fault { IfErr result IsSearchStop }
         ensures spent { IsErrOf result K1 → self.new.budget ≡ 0 }
     {
+        self.budget.begin_search(remaining);
         let leaf = self.position.best_leaf();
         if self.is_cut(&leaf, remaining) {
             return Ok(false);
@@ -204,7 +245,9 @@ impl<'a> Searcher<'a> {
             return Ok(true);
         }
         let list = self.position.all_moves();
-        self.expand(levels, list, leaf.set, remaining)
+        let outcome = self.expand(levels, list, leaf.set, remaining);
+        self.budget.tell();
+        outcome
     }
 
     /// Writes a branch, and counts it.
@@ -214,10 +257,7 @@ impl<'a> Searcher<'a> {
         ensures spent { OnErr result ((self.old.budget ≡ 0) × (self.new.budget ≡ 0)) }
         ensures counted { OnOk result (self.new.budget + 1 ≡ self.old.budget) }
     {
-        if self.budget == 0 {
-            return Err(MakeFault::K1);
-        }
-        self.budget -= 1;
+        self.budget.expand()?;
         self.tree.put_branch();
         Ok(())
     }

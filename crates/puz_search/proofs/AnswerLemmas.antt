@@ -27,10 +27,12 @@ abbrev pub IsWhole : Search → ℕ → Answer → Type 0
 IsWhole s budget answer = IsPartAnswer (search_fails s) (most_boards s.bound) (solves_first s) budget answer
 
 -- what the search below the first node answers is that
-first_whole : (s : Search) (node : Node) → IsFirst s node → IsLed s node → (budget : ℕ) (answer : Answer) → IsPartAnswer (node_fails s node) (most_boards node.bound) (solves_below node) budget answer
+first_whole : (s : Search) (node : Node) → IsFirst s node → IsLed s node → (budget : ℕ) (answer : Answer)
+    → IsPartAnswer (node_fails s node) (most_boards node.bound) (solves_below node) budget answer
     → IsWhole s budget answer
 first_whole s node first led budget answer part =
-    let Says : Prefix → List ℕ → ℕ → ℕ → Type 0 = λ x b state r. IsPartAnswer (prefix_fails s.guide.now x r b state) (most_boards r) (solves_first s) budget answer in
+    let Says : Prefix → List ℕ → ℕ → ℕ → Type 0 = λ x b state r. IsPartAnswer (prefix_fails s.guide.now x r b state) (most_boards r)
+    (solves_first s) budget answer in
     let is : Says node.prefix node.board node.state node.bound = node_answer s node led (node_fails s node) (most_boards node.bound) budget answer part in
     subst (Says s.prefix s.board.now 0) first.bound (subst (λ a. Says s.prefix s.board.now a node.bound) first.state
     (subst (λ b. Says s.prefix b node.state node.bound) first.board (subst (λ x. Says x node.board node.state node.bound) first.prefix is)))
@@ -56,13 +58,15 @@ module _ (s : Search) (is : IsGuide s.guide.now) (read : IsRead s.prefix) (budge
   all_answer (Solved letters) part = trail_solves s.board.now s.bound letters.items (is_board s) s.small part.0
   all_answer Spent part = λ boards fails. part.0 boards ((all_same boards).1 fails)
 
+  -- where the search of all moves fails within the budget, the whole search is refuted with its count of boards
   pub all_within : (boards : ℕ) → Fails s.guide.now s.bound s.board.now 0 boards → boards ≤ budget → (answer : Answer) → IsWhole s budget answer
       → answer ≡ Refuted boards
   all_within boards fails low answer part = whole_within s budget boards ((all_same boards).1 fails) low answer part
 
 -- ---- of a part
 
-module _ (s : Search) (is : IsGuide s.guide.now) (p : ShownPart) (of_part : part_of s.prefix ≡ p) (ahead : s.prefix.ahead ≡ letters_of p) (rank : s.prefix.rank ≡ 0) (budget : ℕ) where
+module _ (s : Search) (is : IsGuide s.guide.now) (p : ShownPart) (of_part : part_of s.prefix ≡ p) (ahead : s.prefix.ahead ≡ letters_of p)
+    (rank : s.prefix.rank ≡ 0) (budget : ℕ) where
   part_same : (n : ℕ) → search_fails s n ↔ SearchOfPartFails s.guide.now p s.bound s.board.now n
   part_same n = (
     λ h. subst (λ k. PartFails s.guide.now p (letters_of p) k s.bound s.board.now 0 n) rank
@@ -73,12 +77,14 @@ module _ (s : Search) (is : IsGuide s.guide.now) (p : ShownPart) (of_part : part
         (subst (λ k. PartFails s.guide.now p (letters_of p) k s.bound s.board.now 0 n) (sym rank) h)),
   )
 
+  -- the answer of a whole search among a part's moves is one of the part
   pub part_answer : (answer : Answer) → IsWhole s budget answer → IsAnswerOfPart s.guide.now p s.board.now s.bound budget answer
   part_answer (Refuted boards) part =
       let fails = (part_same boards).0 part.0 in (part_bounds s.guide.now is p s.bound s.board.now boards s.one_side fails, fails, part.1)
   part_answer (Solved letters) part = trail_solves s.board.now s.bound letters.items (is_board s) s.small part.0
   part_answer Spent part = λ boards fails. part.0 boards ((part_same boards).1 fails)
 
+  -- where the search of the part fails within the budget, the whole search is refuted with its count of boards
   pub part_within : (boards : ℕ) → SearchOfPartFails s.guide.now p s.bound s.board.now boards → boards ≤ budget → (answer : Answer) → IsWhole s budget answer
       → answer ≡ Refuted boards
   part_within boards fails low answer part = whole_within s budget boards ((part_same boards).1 fails) low answer part
@@ -97,17 +103,21 @@ module _ (s : Search) (is : IsGuide s.guide.now) (node : Node) (first : IsFirst 
     (below : IsPartAnswer (node_fails s node) (most_boards node.bound) (solves_below node) budget answer) where
   -- of all moves
   module _ (read : IsRead s.prefix) where
+    -- what is answered below the first node, among all moves, is an answer of the board and the bound
     pub all_first : IsAnswer s.guide.now s.board.now s.bound budget answer
     all_first = all_answer s is read budget answer (first_whole s node first led budget answer below)
 
+    -- where the search of all moves fails within the budget, the answer below the first node is that it is refuted
     pub all_first_within : (boards : ℕ) → Fails s.guide.now s.bound s.board.now 0 boards → boards ≤ budget → answer ≡ Refuted boards
     all_first_within boards fails low = all_within s is read budget boards fails low answer (first_whole s node first led budget answer below)
 
   -- of a part
   module _ (p : ShownPart) (of_part : part_of s.prefix ≡ p) (ahead : s.prefix.ahead ≡ letters_of p) (rank : s.prefix.rank ≡ 0) where
+    -- what is answered below the first node, among the moves of a part, is an answer of the part
     pub part_first : IsAnswerOfPart s.guide.now p s.board.now s.bound budget answer
     part_first = part_answer s is p of_part ahead rank budget answer (first_whole s node first led budget answer below)
 
+    -- where the search of a part fails within the budget, the answer below the first node is that it is refuted
     pub part_first_within : (boards : ℕ) → SearchOfPartFails s.guide.now p s.bound s.board.now boards → boards ≤ budget → answer ≡ Refuted boards
     part_first_within boards fails low = part_within s is p of_part ahead rank budget boards fails low answer (first_whole s node first led budget answer below)
 

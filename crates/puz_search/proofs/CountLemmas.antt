@@ -98,17 +98,22 @@ module _ (s : Search) where
   pub all_push : (xs : List Node) (node : Node) → IsMore (all_fail s (xs ++ node ∷ [])) (InTurn (all_fail s xs) (node_fails s node)) 0
   all_push xs node =
       more_back (InTurn (all_fail s xs) (node_fails s node)) (all_fail s (xs ++ node ∷ []))
-      (more_then (InTurn (all_fail s xs) (node_fails s node)) (InTurn (all_fail s xs) (all_fail s (node ∷ []))) (all_fail s (xs ++ node ∷ [])) 0 0 0 (omega arith)
-      (more_both (all_fail s xs) (all_fail s xs) (node_fails s node) (all_fail s (node ∷ [])) 0 0 0 (omega arith) (more_same (all_fail s xs) (all_fail s xs) (λ n. (λ h. h, λ h. h))) (all_one node))
+      (more_then (InTurn (all_fail s xs) (node_fails s node)) (InTurn (all_fail s xs) (all_fail s (node ∷ []))) (all_fail s (xs ++ node ∷ [])) 0 0 0
+      (omega arith)
+      (more_both (all_fail s xs) (all_fail s xs) (node_fails s node) (all_fail s (node ∷ [])) 0 0 0 (omega arith)
+      (more_same (all_fail s xs) (all_fail s xs) (λ n. (λ h. h, λ h. h))) (all_one node))
       (all_append xs (node ∷ [])))
 
+  -- the most boards below two lists of nodes put together are those below the one and below the other
   pub most_append : (xs ys : List Node) → most_of (xs ++ ys) ≡ most_of xs + most_of ys
   most_append [] ys = omega arith
   most_append (x ∷ xs) ys = let rest = most_append xs ys in omega arith
 
+  -- the search below a node fails with one count of boards alone
   pub node_once : (x : Node) (m n : ℕ) → node_fails s x m → node_fails s x n → m ≡ n
   node_once x m n h k = part_once s.guide.now (part_of x.prefix) x.prefix.ahead x.prefix.rank x.bound x.board x.state m n h k
 
+  -- the search below a node that fails expands no more boards than the most for the node's bound
   pub node_few : (x : Node) (n : ℕ) → node_fails s x n → n ≤ most_boards x.bound
   node_few x n h = part_few s.guide.now (part_of x.prefix) x.prefix.ahead x.prefix.rank x.bound x.board x.state n h
 
@@ -139,7 +144,8 @@ module _ (s : Search) where
   }
 
   -- the node of a part
-  pub adds_one : (Part : ℕ → Type 0) (most : ℕ) (old : List Node) (node : Node) → ((n : ℕ) → Part n ↔ node_fails s node n) → most_boards node.bound ≤ most → IsLed s node
+  pub adds_one : (Part : ℕ → Type 0) (most : ℕ) (old : List Node) (node : Node) → ((n : ℕ) → Part n ↔ node_fails s node n)
+      → most_boards node.bound ≤ most → IsLed s node
       → Adds s Part most 0 old (old ++ node ∷ [])
   adds_one Part most old node same low led = record {
     added = node ∷ [];
@@ -150,18 +156,21 @@ module _ (s : Search) where
   }
 
   -- those of two parts
-  pub adds_both : (P Q : ℕ → Type 0) (most more x y : ℕ) (old mid new : List Node) → Adds s P most x old mid → Adds s Q more y mid new → Adds s (InTurn P Q) (most + more) (x + y) old new
+  pub adds_both : (P Q : ℕ → Type 0) (most more x y : ℕ) (old mid new : List Node) → Adds s P most x old mid → Adds s Q more y mid new
+      → Adds s (InTurn P Q) (most + more) (x + y) old new
   adds_both P Q most more x y old mid new one other = record {
     added = one.added ++ other.added;
     items = other.items ∙ ap (λ xs. xs ++ other.added) one.items ∙ append_assoc old one.added other.added;
-    counts = more_then (InTurn P Q) (InTurn (all_fail s one.added) (all_fail s other.added)) (all_fail s (one.added ++ other.added)) (x + y) 0 (x + y) (omega arith)
+    counts = more_then (InTurn P Q) (InTurn (all_fail s one.added) (all_fail s other.added)) (all_fail s (one.added ++ other.added)) (x + y) 0
+        (x + y) (omega arith)
         (more_both P (all_fail s one.added) Q (all_fail s other.added) x y (x + y) refl one.counts other.counts) (all_append one.added other.added);
     few = let a = one.few in let b = other.few in let e = most_append one.added other.added in omega arith;
     led = All-append (IsLed s) one.added other.added one.led other.led;
   }
 
   -- those of a part, for another of which so many boards were expanded
-  pub adds_as : (P Q : ℕ → Type 0) (most more x y z : ℕ) (old new : List Node) → IsMore P Q y → z ≡ x + y → most + y ≤ more → Adds s Q most x old new → Adds s P more z old new
+  pub adds_as : (P Q : ℕ → Type 0) (most more x y z : ℕ) (old new : List Node) → IsMore P Q y → z ≡ x + y → most + y ≤ more → Adds s Q most x old new
+      → Adds s P more z old new
   adds_as P Q most more x y z old new same sum low is = record {
     added = is.added;
     items = is.items;

@@ -12,9 +12,11 @@ use Rattle.puz_search.specs.declared.deepening.Deepened.TheVariants.{Beyond, Spe
 use Rattle.puz_search.proofs.FailLemmas.{fails_once, once_both}
 
 module _ (n : ℕ) (b : List ℕ) (good : IsBoardOf n b) where
+  -- no solution of a board has fewer moves than the parity of its blank
   pub first_bound : (bound : ℕ) → bound ≡ blank_parity b → IsBounded b bound
   first_bound bound e path solves = let parity : length path % 2 ≡ blank_parity b = solution_parity n b good path solves in omega arith
 
+  -- where the bound has the blank's parity and no solution has just as many moves or fewer, none has fewer than two more
   pub next_bound : (bound : ℕ) → bound % 2 ≡ blank_parity b → IsBounded b (bound + 1) → IsBounded b (bound + 2)
   next_bound bound e bounds path solves =
       let parity : length path % 2 ≡ blank_parity b = solution_parity n b good path solves in
@@ -45,9 +47,11 @@ pub record IsDeep (g : ShownGuide) (b : List ℕ) (budget left bound : ℕ) : Ty
 -- they fail with one count
 turn_once : (g : ShownGuide) (b : List ℕ) (k m n : ℕ) → FailsInTurn g b k m → FailsInTurn g b k n → m ≡ n
 turn_once g b zero m n h j = omega arith
-turn_once g b (suc k) m n h j = once_both (FailsInTurn g b k) (Fails g (blank_parity b + 2 * k + 1) b 0) (turn_once g b k) (fails_once g (blank_parity b + 2 * k + 1) b 0) m n h j
+turn_once g b (suc k) m n h j = once_both (FailsInTurn g b k) (Fails g (blank_parity b + 2 * k + 1) b 0) (turn_once g b k)
+    (fails_once g (blank_parity b + 2 * k + 1) b 0) m n h j
 
 module _ (g : ShownGuide) (b : List ℕ) (good : IsBoardOf g.bundle.side b) (budget : ℕ) where
+  -- with the blank's parity as bound, no threshold has been searched yet, and the whole budget is left
   pub deep_first : (bound : ℕ) → bound ≡ blank_parity b → bound ≤ 1 → IsDeep g b budget budget bound
   deep_first bound e bit = record {
     bounds = first_bound g.bundle.side b good bound e;
@@ -60,7 +64,8 @@ module _ (g : ShownGuide) (b : List ℕ) (good : IsBoardOf g.bundle.side b) (bud
   }
 
   -- one threshold more
-  pub deep_next : (left bound boards : ℕ) → bound < 254 → blank_parity b ≤ 1 → IsDeep g b budget left bound → IsBounded b (bound + 1) → Fails g (bound + 1) b 0 boards → boards ≤ left
+  pub deep_next : (left bound boards : ℕ) → bound < 254 → blank_parity b ≤ 1 → IsDeep g b budget left bound → IsBounded b (bound + 1)
+      → Fails g (bound + 1) b 0 boards → boards ≤ left
       → IsDeep g b budget (left - boards) (bound + 2)
   deep_next left bound boards low bit is bounds fails few =
       let reached : bound ≡ blank_parity b + 2 * is.thresholds = is.reached in
@@ -76,7 +81,8 @@ module _ (g : ShownGuide) (b : List ℕ) (good : IsBoardOf g.bundle.side b) (bud
       }
 
   -- where the budget ended below a threshold
-  pub deep_spent : (left bound : ℕ) → IsDeep g b budget left bound → ((boards : ℕ) → Fails g (bound + 1) b 0 boards → left < boards) → IsDeepened g b budget (Spent bound)
+  pub deep_spent : (left bound : ℕ) → IsDeep g b budget left bound → ((boards : ℕ) → Fails g (bound + 1) b 0 boards → left < boards)
+      → IsDeepened g b budget (Spent bound)
   deep_spent left bound is more =
       let reached : bound ≡ blank_parity b + 2 * is.thresholds = is.reached in
       let same : blank_parity b + 2 * is.thresholds + 1 ≡ bound + 1 = omega arith in

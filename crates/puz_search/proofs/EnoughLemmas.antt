@@ -22,7 +22,8 @@ IsEnough steps state b r moves =
     refuses steps state moves ≡ false → (end : List ℕ) → board_after b moves ≡ Some end → IsGoal end → r ≤ length moves
 
 -- a set cuts the board off
-pub cut_enough : (v : ShownBundle) (steps : List ℕ) (state : ℕ) (b : List ℕ) (r : ℕ) → IsCutOff v b r → IsBundle v → IsBoardOf v.side b → (moves : List Move) → IsEnough steps state b r moves
+pub cut_enough : (v : ShownBundle) (steps : List ℕ) (state : ℕ) (b : List ℕ) (r : ℕ) → IsCutOff v b r → IsBundle v → IsBoardOf v.side b
+    → (moves : List Move) → IsEnough steps state b r moves
 cut_enough v steps state b r cut is good moves on end leads goal =
     let way = led_after b end moves (subst (λ n. IsBoardOf n b) (sym (side_of-board v.side b good)) good) leads in
     let low : r ≤ length way.path = at_least_bounds v is true cut.0 b r good cut.1 way.path (way.walk, subst IsGoal (sym way.ends) goal) in
@@ -68,7 +69,8 @@ refused_or true = inl refl
 refused_or false = inr refl
 
 -- where all moves from the first state on are enough, the board is bounded: its least solution isn't refused
-pub enough_bounds : (g : ShownGuide) → IsGuide g → (b : List ℕ) → IsBoardOf g.bundle.side b → (r : ℕ) → ((moves : List Move) → IsEnough g.steps 0 b r moves) → IsBounded b r
+pub enough_bounds : (g : ShownGuide) → IsGuide g → (b : List ℕ) → IsBoardOf g.bundle.side b → (r : ℕ)
+    → ((moves : List Move) → IsEnough g.steps 0 b r moves) → IsBounded b r
 enough_bounds g is b good r each path solves =
     let n = g.bundle.side in
     let first = along n b good path solves in

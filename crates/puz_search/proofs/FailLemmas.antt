@@ -1,5 +1,6 @@
 -- Searches that fail bound the solutions of their boards, and step by step what a search fails with.
-use Rattle.std.proofs.Common.{◌≡◌, ℕ, zero, suc, ◌+◌, ◌-◌, ◌*◌, ◌%◌, ◌<◌, ◌≤◌, ◌↔◌, ◌⊎◌, Bool, true, false, eqb, List, [], ◌∷◌, length, take, Option, Some, None, inl, inr, refl, sym, subst, eq-eqb, ne_eqb, arith}
+use Rattle.std.proofs.Common.{◌≡◌, ℕ, zero, suc, ◌+◌, ◌-◌, ◌*◌, ◌%◌, ◌<◌, ◌≤◌, ◌↔◌, ◌⊎◌, Bool, true, false, eqb, List, [], ◌∷◌, length, take, Option}
+use Rattle.std.proofs.Common.{Some, None, inl, inr, refl, sym, subst, eq-eqb, ne_eqb, arith}
 use Rattle.puz_board.specs.Boards.{IsBoardOf, IsGoal, moved}
 use Rattle.puz_board.specs.declared.moves.Move.{Move}
 use Rattle.puz_board.specs.declared.moves.Move.TheVariants.{Up, Down, Left, Right}
@@ -22,13 +23,15 @@ pub at_none : (o : Option (List ℕ)) (out : Bool) (Holds : List ℕ → ℕ →
 at_none None out Holds e count = (λ h. h, λ h. h)
 at_none (Some b) out Holds e count = cc
 
+-- at the place of a move that the automaton leaves out, a count is just 0
 pub at_out : (o : Option (List ℕ)) (out : Bool) (Holds : List ℕ → ℕ → Type 0) → out ≡ true → (count : ℕ) → AtChild o out Holds count ↔ (count ≡ 0)
 at_out None out Holds e count = (λ h. h, λ h. h)
 at_out (Some b) true Holds e count = (λ h. h, λ h. h)
 at_out (Some b) false Holds e count = cc
 
 -- a child
-pub at_child : (o : Option (List ℕ)) (out : Bool) (Holds : List ℕ → ℕ → Type 0) (next : List ℕ) → o ≡ Some next → out ≡ false → (count : ℕ) → AtChild o out Holds count ↔ Holds next count
+pub at_child : (o : Option (List ℕ)) (out : Bool) (Holds : List ℕ → ℕ → Type 0) (next : List ℕ) → o ≡ Some next → out ≡ false → (count : ℕ)
+    → AtChild o out Holds count ↔ Holds next count
 at_child None out Holds next e on count = cc
 at_child (Some b) true Holds next e on count = cc
 at_child (Some b) false Holds next e on count =
@@ -92,10 +95,12 @@ module _ (g : ShownGuide) (p : ShownPart) (b : List ℕ) (state : ℕ) where
       where_true (eqb (rank % p.count) p.index) (eq-eqb (rank % p.count) p.index (inside refl)) (Fails g r b state) boards
   part_here (suc ahead) rank r none inside boards = absurd (omega arith)
 
+  -- where no letter is to come and those read aren't of the part, its search fails with 0 boards and no other count
   pub part_outside : (ahead rank r : ℕ) → IsOutside p ahead rank → (boards : ℕ) → PartFails g p ahead rank r b state boards ↔ (boards ≡ 0)
   part_outside zero rank r out boards = where_false (eqb (rank % p.count) p.index) (ne_eqb (rank % p.count) p.index out.1) (Fails g r b state) boards
   part_outside (suc ahead) rank r out boards = absurd (let none = out.0 in omega arith)
 
+  -- the search of a part from a closed board fails with 0 boards and no other count
   pub part_closed : (ahead rank r : ℕ) → IsClosed g.bundle b r → (boards : ℕ) → PartFails g p ahead rank r b state boards ↔ (boards ≡ 0)
   part_closed zero rank r closed boards = where_none (eqb (rank % p.count) p.index) (Fails g r b state) (fails_closed g b state r closed) boards
   part_closed (suc ahead) rank zero closed boards = (λ h. h, λ h. h)
@@ -110,7 +115,8 @@ module _ (g : ShownGuide) (p : ShownPart) (b : List ℕ) (state : ℕ) where
   part_open ahead rank zero inside some whole far boards = absurd (omega arith)
   part_open ahead rank (suc r) inside some whole far boards =
       let same : r ≡ suc r - 1 = omega arith in
-      let is = subst (λ k. ((n : ℕ) → PartFails g p ahead rank (suc r) b state n ↔ ((below : ℕ) × (n ≡ below + 1) × AtChildren g.steps state b (Next ahead rank k) below))) same (opened ahead inside) in
+      let is = subst (λ k. ((n : ℕ) → PartFails g p ahead rank (suc r) b state n
+      ↔ ((below : ℕ) × (n ≡ below + 1) × AtChildren g.steps state b (Next ahead rank k) below))) same (opened ahead inside) in
       is boards
     where
       opened : (k : ℕ) → IsInside p k rank → (n : ℕ)
@@ -256,12 +262,14 @@ few_both F G most more one other n h =
     let e : n ≡ h.0 + h.1 = h.4 in
     omega arith
 
-child_once : (Holds : List ℕ → ℕ → Type 0) → ((b : List ℕ) (m n : ℕ) → Holds b m → Holds b n → m ≡ n) → (o : Option (List ℕ)) (out : Bool) (m n : ℕ) → AtChild o out Holds m → AtChild o out Holds n → m ≡ n
+child_once : (Holds : List ℕ → ℕ → Type 0) → ((b : List ℕ) (m n : ℕ) → Holds b m → Holds b n → m ≡ n) → (o : Option (List ℕ)) (out : Bool) (m n : ℕ)
+    → AtChild o out Holds m → AtChild o out Holds n → m ≡ n
 child_once Holds once None out m n h k = omega arith
 child_once Holds once (Some b) true m n h k = omega arith
 child_once Holds once (Some b) false m n h k = once b m n h k
 
-child_few : (Holds : List ℕ → ℕ → Type 0) (most : ℕ) → ((b : List ℕ) (n : ℕ) → Holds b n → n ≤ most) → (o : Option (List ℕ)) (out : Bool) (n : ℕ) → AtChild o out Holds n → n ≤ most
+child_few : (Holds : List ℕ → ℕ → Type 0) (most : ℕ) → ((b : List ℕ) (n : ℕ) → Holds b n → n ≤ most) → (o : Option (List ℕ)) (out : Bool) (n : ℕ)
+    → AtChild o out Holds n → n ≤ most
 child_few Holds most few None out n h = omega arith
 child_few Holds most few (Some b) true n h = omega arith
 child_few Holds most few (Some b) false n h = few b n h
@@ -335,6 +343,7 @@ module _ (g : ShownGuide) where
         after_once g (suc r) b state (Next g p b state (suc ahead) rank r)
         (λ move next. part_once ahead (4 * rank + rank_of move) r next (next_at g.steps state move)) m n h k
 
+    -- where the search of a part fails, it expands no more boards than the most for its bound
     pub part_few : (ahead rank r : ℕ) (b : List ℕ) (state : ℕ) (n : ℕ) → PartFails g p ahead rank r b state n → n ≤ most_boards r
     part_few zero rank r b state n h = where_few (eqb (rank % p.count) p.index) (Fails g r b state) (most_boards r) (fails_few r b state) n h
     part_few (suc ahead) rank zero b state n h = omega arith

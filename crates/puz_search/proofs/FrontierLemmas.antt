@@ -1,5 +1,6 @@
 -- What the searches below the nodes of a frontier answer in turn.
-use Rattle.std.proofs.Common.{◌≡◌, ℕ, suc, ◌+◌, ◌<◌, Bool, true, false, cond, List, [], ◌∷◌, ◌++◌, length, take, drop, get_or, sym, ap, ◌∙◌, subst, take-append-drop, arith}
+use Rattle.std.proofs.Common.{◌≡◌, ℕ, suc, ◌+◌, ◌<◌, Bool, true, false, cond, List, [], ◌∷◌, ◌++◌, length, take, drop, get_or, sym, ap, ◌∙◌, subst}
+use Rattle.std.proofs.Common.{take-append-drop, arith}
 use Rattle.std.proofs.Math.Seq.{drop-cons}
 use Rattle.std.proofs.lemmas.List.{take_more}
 use Rattle.std.specs.List.{All}
@@ -45,8 +46,11 @@ module _ (s : Search) where
         omega arith,
   )
 
-  pub spent_in : (xs : List Node) (n : ℕ) (node : Node) → n < length xs → node ≡ get_or xs n node → (m left budget : ℕ) → all_fail s (take n xs) m → budget ≡ m + left
-      → ((boards : ℕ) → node_fails s node boards → left < boards) → left < most_boards node.bound → IsPartAnswer (all_fail s xs) (most_of xs) (solves_first s) budget Spent
+  -- where the budget ends below one of the nodes, behind others that fail, it ends before all of them fail
+  pub spent_in : (xs : List Node) (n : ℕ) (node : Node) → n < length xs → node ≡ get_or xs n node → (m left budget : ℕ) → all_fail s (take n xs) m
+      → budget ≡ m + left
+      → ((boards : ℕ) → node_fails s node boards → left < boards) → left < most_boards node.bound
+      → IsPartAnswer (all_fail s xs) (most_of xs) (solves_first s) budget Spent
   spent_in xs n node low is m left budget before e more few =
       subst (λ ys. IsPartAnswer (all_fail s ys) (most_of ys) (solves_first s) budget Spent) (split_at xs n node low is)
       (spent_at (take n xs) node (drop (suc n) xs) m left budget before e more few)
@@ -57,6 +61,7 @@ module _ (s : Search) where
       → ¬ all_fail s (xs ++ node ∷ ys) boards
   solved_at xs node ys not boards h = let both = (all_append s xs (node ∷ ys)).back boards boards h (omega arith) in not both.3.0 both.3.2
 
+  -- where the search below one of the nodes fails with no count, those below all nodes don't fail in turn
   pub solved_in : (xs : List Node) (n : ℕ) (node : Node) → n < length xs → node ≡ get_or xs n node → ((boards : ℕ) → ¬ node_fails s node boards)
       → (boards : ℕ) → ¬ all_fail s xs boards
   solved_in xs n node low is not =
@@ -71,15 +76,18 @@ add_none x false e = omega arith
 
 module _ (s : Search) where
   -- one node more of a level
-  pub level_more : (ys : List Node) (node : Node) (b : Bool) (x z : ℕ) → z ≡ x + cond b 1 0 → (mid new : List Node) → Adds s (all_fail s ys) (most_of ys) x [] mid
+  pub level_more : (ys : List Node) (node : Node) (b : Bool) (x z : ℕ) → z ≡ x + cond b 1 0 → (mid new : List Node)
+      → Adds s (all_fail s ys) (most_of ys) x [] mid
       → Adds s (node_fails s node) (most_boards node.bound) (cond b 1 0) mid new → Adds s (all_fail s (ys ++ node ∷ [])) (most_of (ys ++ node ∷ [])) z [] new
   level_more ys node b x z e mid new before one =
       let sum = most_append s ys (node ∷ []) in
-      adds_as s (all_fail s (ys ++ node ∷ [])) (InTurn (all_fail s ys) (node_fails s node)) (most_of ys + most_boards node.bound) (most_of (ys ++ node ∷ [])) (x + cond b 1 0) 0 z [] new (all_push s ys node) (omega arith) (omega arith)
+      adds_as s (all_fail s (ys ++ node ∷ [])) (InTurn (all_fail s ys) (node_fails s node)) (most_of ys + most_boards node.bound)
+      (most_of (ys ++ node ∷ [])) (x + cond b 1 0) 0 z [] new (all_push s ys node) (omega arith) (omega arith)
       (adds_both s (all_fail s ys) (node_fails s node) (most_of ys) (most_boards node.bound) x (cond b 1 0) [] mid new before one)
 
   -- the first level is the node of the first board
-  pub frontier_first : (node : Node) (frontier : Frontier) → IsFirst s node → IsLed s node → frontier.nodes.items ≡ node ∷ [] → frontier.expanded ≡ 0 → IsFrontier s frontier
+  pub frontier_first : (node : Node) (frontier : Frontier) → IsFirst s node → IsLed s node → frontier.nodes.items ≡ node ∷ [] → frontier.expanded ≡ 0
+      → IsFrontier s frontier
   frontier_first node frontier first led items none =
       let Says : Prefix → List ℕ → ℕ → ℕ → Type 0 = λ x b state r. IsMore (prefix_fails s.guide.now x r b state) (all_fail s (node ∷ [])) 0 in
       let counts : Says s.prefix s.board.now 0 s.bound =
@@ -96,7 +104,8 @@ module _ (s : Search) where
       }
 
   -- and the next level stands for the search as the one before does
-  pub frontier_next : (before after : Frontier) (x : ℕ) → after.expanded ≡ before.expanded + x → IsFrontier s before → Adds s (all_fail s before.nodes.items) (most_of before.nodes.items) x [] after.nodes.items → IsFrontier s after
+  pub frontier_next : (before after : Frontier) (x : ℕ) → after.expanded ≡ before.expanded + x → IsFrontier s before
+      → Adds s (all_fail s before.nodes.items) (most_of before.nodes.items) x [] after.nodes.items → IsFrontier s after
   frontier_next before after x e is adds =
       let added : after.nodes.items ≡ adds.added = adds.items in
       let most : most_of after.nodes.items ≡ most_of adds.added = ap most_of added in

@@ -1,5 +1,6 @@
 -- Nodes, the moves that lead to them, and what the searches below them answer.
-use Rattle.std.proofs.Common.{◌≡◌, ℕ, ◌+◌, ◌-◌, ◌*◌, ◌≤◌, ◌↔◌, ◌⊎◌, inl, inr, false, List, [], ◌∷◌, ◌++◌, Option, Some, IfSome, refl, sym, ap, subst, append_assoc, eq-eqb, arith}
+use Rattle.std.proofs.Common.{◌≡◌, ℕ, ◌+◌, ◌-◌, ◌*◌, ◌≤◌, ◌↔◌, ◌⊎◌, inl, inr, false, List, [], ◌∷◌, ◌++◌, Option, Some, IfSome, refl, sym, ap, subst}
+use Rattle.std.proofs.Common.{append_assoc, eq-eqb, arith}
 use Rattle.puz_board.specs.Boards.{IsGoal, moved}
 use Rattle.puz_board.specs.Cells.{move_of_letter}
 use Rattle.puz_board.specs.declared.moves.Move.{Move}
@@ -24,14 +25,16 @@ use Rattle.puz_search.proofs.TrailLemmas.{trail_move}
 use Rattle.puz_search.proofs.WalkLemmas.{most_open}
 
 -- the letters behind a move of a node
-pub led_after : (s : Search) (node : Node) (move : Move) (next : List ℕ) (letter : ℕ) (text : List ℕ) → IsLed s node → 1 ≤ node.bound → moved node.board move ≡ Some next → move_of_letter letter ≡ Some move
+pub led_after : (s : Search) (node : Node) (move : Move) (next : List ℕ) (letter : ℕ) (text : List ℕ) → IsLed s node → 1 ≤ node.bound
+    → moved node.board move ≡ Some next → move_of_letter letter ≡ Some move
     → IsTrail next (node.bound - 1) text → IsTrail s.board.now s.bound ((node.letters.items ++ letter ∷ []) ++ text)
 led_after s node move next letter text led some leads names trail =
     subst (IsTrail s.board.now s.bound) (sym (append_assoc node.letters.items (letter ∷ []) text))
     (led.leads (letter ∷ text) (trail_move node.board next node.bound letter text move some leads names trail))
 
 -- what a search below a node answers, said of the first board
-pub node_answer : (s : Search) (node : Node) → IsLed s node → (Part : ℕ → Type 0) (most budget : ℕ) (answer : Answer) → IsPartAnswer Part most (solves_below node) budget answer
+pub node_answer : (s : Search) (node : Node) → IsLed s node → (Part : ℕ → Type 0) (most budget : ℕ) (answer : Answer)
+    → IsPartAnswer Part most (solves_below node) budget answer
     → IsPartAnswer Part most (solves_first s) budget answer
 node_answer s node led Part most budget (Refuted boards) is = is
 node_answer s node led Part most budget (Solved letters) is = (subst (IsTrail s.board.now s.bound) (sym is.0.2) (led.leads is.0.0 is.0.1), is.1)
@@ -46,7 +49,8 @@ pub record IsReached {W : Type 0} (shown : W → ShownWalk) (s : Search) (node :
   pub state : reached.state ≡ node.state
 
 -- by a walk to that board
-pub reached_by : {W : Type 0} (shown : W → ShownWalk) (s : Search) (node : Node) (walk : Option W) (reached : Reached W) → IsWalkTo shown (walk_to s node) walk → walk ≡ Some reached.walk
+pub reached_by : {W : Type 0} (shown : W → ShownWalk) (s : Search) (node : Node) (walk : Option W) (reached : Reached W)
+    → IsWalkTo shown (walk_to s node) walk → walk ≡ Some reached.walk
     → reached.automaton.now ≡ automaton_of s.guide.now → reached.state ≡ node.state → IsReached shown s node reached
 reached_by shown s node walk reached to some automaton state = record {
   walk = subst (λ o. IfSome o (λ w. shown w ≡ walk_to s node)) some to.0;
@@ -68,6 +72,7 @@ module _ {W : Type 0} (shown : W → ShownWalk) (s : Search) (node : Node) (reac
             (subst (λ w. Says (guide_at shown reached) w node.state) (sym is.walk) (subst (λ g. Says g (walk_to s node) node.state) (sym reached_guide) h)),
       )
 
+  -- the most boards for the bound that was reached are those for the bound of the node
   pub reached_most : most_boards (bound_at shown reached) ≡ most_boards node.bound
   reached_most = ap (λ w. most_boards w.bound) is.walk
 
@@ -87,12 +92,14 @@ node_closed s node (inl out) n = part_outside s.guide.now (part_of node.prefix) 
 node_closed s node (inr closed) n = part_closed s.guide.now (part_of node.prefix) node.board node.state node.prefix.ahead node.prefix.rank node.bound closed n
 
 -- where the automaton leaves the move out
-pub child_out : (s : Search) (node : Node) (move : Move) → next_at s.guide.now.steps node.state move ≡ left_out → (n : ℕ) → child_fails_of s node move n ↔ (n ≡ 0)
+pub child_out : (s : Search) (node : Node) (move : Move) → next_at s.guide.now.steps node.state move ≡ left_out → (n : ℕ)
+    → child_fails_of s node move n ↔ (n ≡ 0)
 child_out s node move out n =
     at_out (moved node.board move) (leaves_out s.guide.now.steps node.state move) (NextFails s node move)
     (eq-eqb (next_at s.guide.now.steps node.state move) left_out out) n
 
-module _ (s : Search) (node child : Node) (move : Move) (next : List ℕ) (leads : moved node.board move ≡ Some next) (on : leaves_out s.guide.now.steps node.state move ≡ false)
+module _ (s : Search) (node child : Node) (move : Move) (next : List ℕ) (leads : moved node.board move ≡ Some next)
+    (on : leaves_out s.guide.now.steps node.state move ≡ false)
     (board : child.board ≡ next) (state : child.state ≡ next_at s.guide.now.steps node.state move) (bound : child.bound + 1 ≡ node.bound)
     (part : part_of child.prefix ≡ part_of node.prefix) (less : child.prefix.ahead ≡ next_ahead node.prefix.ahead)
     (read : child.prefix.rank ≡ next_rank node.prefix.ahead node.prefix.rank move) where
@@ -132,7 +139,8 @@ module _ (s : Search) (node child : Node) (move : Move) (next : List ℕ) (leads
 
 -- ---- a node that is expanded
 
-module _ (s : Search) (node : Node) (inside : IsInside (part_of node.prefix) node.prefix.ahead node.prefix.rank) (some : 1 ≤ node.bound) (whole : ¬ IsCutOff s.guide.now.bundle node.board node.bound) (far : ¬ IsGoal node.board) where
+module _ (s : Search) (node : Node) (inside : IsInside (part_of node.prefix) node.prefix.ahead node.prefix.rank) (some : 1 ≤ node.bound)
+    (whole : ¬ IsCutOff s.guide.now.bundle node.board node.bound) (far : ¬ IsGoal node.board) where
   -- the searches after its moves, in their order
   abbrev After : Move → ℕ → Type 0
   After move = child_fails_of s node move
@@ -148,7 +156,8 @@ module _ (s : Search) (node : Node) (inside : IsInside (part_of node.prefix) nod
   }
 
   -- the nodes after its moves are added
-  pub opened_adds : (old one two three new : List Node) → Adds s (After Up) (most_boards (node.bound - 1)) 0 old one → Adds s (After Down) (most_boards (node.bound - 1)) 0 one two
+  pub opened_adds : (old one two three new : List Node) → Adds s (After Up) (most_boards (node.bound - 1)) 0 old one
+      → Adds s (After Down) (most_boards (node.bound - 1)) 0 one two
       → Adds s (After Left) (most_boards (node.bound - 1)) 0 two three → Adds s (After Right) (most_boards (node.bound - 1)) 0 three new
       → Adds s (node_fails s node) (most_boards node.bound) 1 old new
   opened_adds old one two three new a b c d =
@@ -157,4 +166,5 @@ module _ (s : Search) (node : Node) (inside : IsInside (part_of node.prefix) nod
       let last = adds_both s (After Left) (After Right) M M 0 0 two three new c d in
       let rest = adds_both s (After Down) (InTurn (After Left) (After Right)) M (M + M) 0 0 one two new b last in
       let all = adds_both s (After Up) (InTurn (After Down) (InTurn (After Left) (After Right))) M (M + (M + M)) 0 0 old one new a rest in
-      adds_as s (node_fails s node) (InTurn (After Up) (InTurn (After Down) (InTurn (After Left) (After Right)))) (M + (M + (M + M))) (most_boards node.bound) 0 1 1 old new opened_more refl (omega arith) all
+      adds_as s (node_fails s node) (InTurn (After Up) (InTurn (After Down) (InTurn (After Left) (After Right)))) (M + (M + (M + M)))
+      (most_boards node.bound) 0 1 1 old new opened_more refl (omega arith) all

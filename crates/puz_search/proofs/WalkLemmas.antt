@@ -1,10 +1,12 @@
 -- The steps of a search, on a board that was reached.
-use Rattle.std.proofs.Common.{◌≡◌, ◌≢◌, ℕ, zero, suc, ◌+◌, ◌*◌, ◌-◌, ◌<◌, ◌≤◌, ◌↔◌, false, List, [], reverse, Result, Ok, Err, Some, refl, sym, ◌∙◌, ap, subst, eq-eqb, ne_eqb, arith}
+use Rattle.std.proofs.Common.{◌≡◌, ◌≢◌, ℕ, zero, suc, ◌+◌, ◌*◌, ◌-◌, ◌<◌, ◌≤◌, ◌↔◌, false, List, [], reverse, Result, Ok, Err, Some, refl, sym, ◌∙◌}
+use Rattle.std.proofs.Common.{ap, subst, eq-eqb, ne_eqb, arith}
 use Rattle.std.specs.Prelude.{IfErr, IsErrAnd, OnOk}
 use Rattle.puz_board.specs.Boards.{IsGoal, moved}
 use Rattle.puz_board.specs.declared.moves.Move.{Move}
 use Rattle.puz_board.specs.declared.moves.Move.TheVariants.{Up, Down, Left, Right}
-use Rattle.puz_search.specs.Outcomes.{AfterMove, IsRefuted, IsStop, IsTrail, after_move_fails, bound_at, fails_at, guide_at, is_solved_at, most_children, part_child_fails, part_children_fail, part_fails_at, walk_at}
+use Rattle.puz_search.specs.Outcomes.{AfterMove, IsRefuted, IsStop, IsTrail, after_move_fails, bound_at, fails_at, guide_at, is_solved_at}
+use Rattle.puz_search.specs.Outcomes.{most_children, part_child_fails, part_children_fail, part_fails_at, walk_at}
 use Rattle.move_strings.specs.Automata.{left_out, next_at}
 use Rattle.puz_walk.specs.Walks.{IsOpen, LeadsNowhere, ShownWalk}
 use Rattle.move_strings.specs.BoundParts.{ShownPart}
@@ -20,17 +22,20 @@ use Rattle.puz_search.proofs.TrailLemmas.{reverse_push, trail_end, trail_move}
 
 -- ---- results
 
+-- what is so of an error is so in each weaker form
 pub err_as : {A X : Type 0} (P Q : X → Type 0) → ((x : X) → P x → Q x) → (o : Result A X) → IfErr o P → IfErr o Q
 err_as P Q f (Ok a) h = h
 err_as P Q f (Err x) h = f x h
 
 -- of one result and an equal one
-pub err_both : {A X : Type 0} (P Q R : X → Type 0) → ((x : X) → P x → Q x → R x) → (o other : Result A X) → other ≡ o → IfErr o P → IfErr other Q → IfErr other R
+pub err_both : {A X : Type 0} (P Q R : X → Type 0) → ((x : X) → P x → Q x → R x) → (o other : Result A X) → other ≡ o → IfErr o P → IfErr other Q
+    → IfErr other R
 err_both P Q R f (Ok a) (Ok b) e h g = h
 err_both P Q R f (Ok a) (Err y) e h g = cc
 err_both P Q R f (Err x) (Ok b) e h g = g
 err_both {A} P Q R f (Err x) (Err y) e h g = let same : x ≡ y = cc in f y (subst P same h) g
 
+-- what follows from two facts that equal results bring where they are fine, they bring too
 pub ok_both : {A X : Type 0} (P Q R : Type 0) → (P → Q → R) → (o other : Result A X) → other ≡ o → OnOk o P → OnOk other Q → OnOk other R
 ok_both P Q R f (Ok a) (Ok b) e h g = f h g
 ok_both P Q R f (Ok a) (Err y) e h g = g
@@ -42,17 +47,20 @@ pub err_is : {A X : Type 0} (P : X → Type 0) (x : X) (o : Result A X) → IsEr
 err_is P x (Ok a) h p = absurd h
 err_is P x (Err y) h p = subst P (sym h) p
 
+-- what a result brings where it is fine, it brings in each weaker form
 pub ok_as : {A X : Type 0} (P Q : Type 0) → (P → Q) → (o : Result A X) → OnOk o P → OnOk o Q
 ok_as P Q f (Ok a) h = f h
 ok_as P Q f (Err x) h = h
 
 -- ---- what needs no walk
 
+-- for a bound of at least one, the most boards are four times those for one move less, and one
 pub most_open : (r : ℕ) → 1 ≤ r → most_boards r ≡ 4 * most_boards (r - 1) + 1
 most_open zero some = absurd (omega arith)
 most_open (suc r) some = ap (λ k. 4 * most_boards k + 1) (let e : r ≡ suc r - 1 = omega arith in e)
 
-stop_more : (F : ℕ → Type 0) (S : List ℕ → Type 0) (most more : ℕ) → most ≤ more → (stop : Stop) (old new : Effort) → IsStop F S most stop old new → IsStop F S more stop old new
+stop_more : (F : ℕ → Type 0) (S : List ℕ → Type 0) (most more : ℕ) → most ≤ more → (stop : Stop) (old new : Effort) → IsStop F S most stop old new
+    → IsStop F S more stop old new
 stop_more F S most more low Solved old new is = is
 stop_more F S most more low Spent old new is = (let l : old.left < most = is.0 in omega arith, is.1)
 
@@ -66,6 +74,7 @@ step_kept steps state next move to kept = ne_eqb (next_at steps state move) left
 abbrev pub only_part : ShownPart
 only_part = record { index = 0; count = 1 }
 
+-- with no letter to come and rank 0, the letters read are of the only part
 pub only_inside : IsInside only_part 0 0
 only_inside e = refl
 
@@ -80,6 +89,7 @@ module _ {W : Type 0} (shown : W → ShownWalk) (p : ShownPart) (ahead rank : �
       (λ n. let same = part_here (guide_at shown r) p (walk_at shown r).board r.state ahead rank (bound_at shown r) none inside n in (same.1, same.0))
       (most_boards (bound_at shown r)) (most_boards (bound_at shown r)) (omega arith) old new is
 
+  -- behind the last letter of a part, where the search of all moves stops, so does that of the part
   pub here_stopped : (r : Reached W) → ahead ≡ 0 → IsInside p ahead rank → (stop : Stop) (old new : Effort)
       → IsStop (fails_at shown r) (is_solved_at shown r) (most_boards (bound_at shown r)) stop old new
       → IsStop (part_fails_at shown p ahead rank r) (is_solved_at shown r) (most_boards (bound_at shown r)) stop old new
@@ -112,7 +122,9 @@ module _ {W : Type 0} (shown : W → ShownWalk) (p : ShownPart) (ahead rank : �
         boards h in omega arith,
   )
 
-  module _ (r : Reached W) (inside : IsInside p ahead rank) (open_ : IsOpen (walk_at shown r)) (far : ¬ IsGoal (walk_at shown r).board) (old spent new : Effort) (one : old.left ≡ spent.left + 1) where
+  module _ (r : Reached W) (inside : IsInside p ahead rank) (open_ : IsOpen (walk_at shown r)) (far : ¬ IsGoal (walk_at shown r).board)
+      (old spent new : Effort) (one : old.left ≡ spent.left + 1) where
+    -- where all moves of an expanded board are refuted, the board is, with itself as one board more
     pub opened_refuted : IsRefuted (part_children_fail shown p ahead rank r) (most_children 4 (bound_at shown r)) spent new
         → IsRefuted (part_fails_at shown p ahead rank r) (most_boards (bound_at shown r)) old new
     opened_refuted is = record {
@@ -130,6 +142,7 @@ module _ {W : Type 0} (shown : W → ShownWalk) (p : ShownPart) (ahead rank : �
       none = is.none;
     }
 
+    -- where the search after the moves of an expanded board stops, the search of the board stops
     pub opened_stopped : (stop : Stop)
         → IsStop (part_children_fail shown p ahead rank r) (is_solved_at shown r) (most_children 4 (bound_at shown r)) stop spent new
         → IsStop (part_fails_at shown p ahead rank r) (is_solved_at shown r) (most_boards (bound_at shown r)) stop old new
@@ -165,6 +178,7 @@ module _ {W : Type 0} (shown : W → ShownWalk) (p : ShownPart) (ahead rank : �
     Stopped stop old new = IsStop (part_children_fail shown p ahead rank r) (is_solved_at shown r) (most_children 4 (bound_at shown r)) stop old new
 
     module _ (a b : Effort) (up : Out r Up a b) where
+      -- where the move up is refuted and the search after the one down stops, the moves of the board stop
       pub stopped_second : (stop : Stop) (c : Effort) → Stops s Down stop b c → Stopped stop a c
       stopped_second stop c is =
           let m = most_children 1 (bound_at shown r) in
@@ -178,6 +192,7 @@ module _ {W : Type 0} (shown : W → ShownWalk) (p : ShownPart) (ahead rank : �
           (InTurn (part_child_fails shown p ahead rank r Left) (part_child_fails shown p ahead rank r Right)) m (m + m) (is_solved_at shown r) stop b c down))
 
       module _ (c : Effort) (down : Out s Down b c) where
+        -- where the moves up and down are refuted and the search after the one left stops, the moves of the board stop
         pub stopped_third : (stop : Stop) (d : Effort) → Stops t Left stop c d → Stopped stop a d
         stopped_third stop d is =
             let m = most_children 1 (bound_at shown r) in
@@ -194,6 +209,7 @@ module _ {W : Type 0} (shown : W → ShownWalk) (p : ShownPart) (ahead rank : �
             (stop_first (part_child_fails shown p ahead rank r Left) (part_child_fails shown p ahead rank r Right) m m (is_solved_at shown r) stop c d left)))
 
         module _ (d : Effort) (left : Out t Left c d) where
+          -- where three moves are refuted and the search after the one right stops, the moves of the board stop
           pub stopped_fourth : (stop : Stop) (e : Effort) → Stops u Right stop d e → Stopped stop a e
           stopped_fourth stop e is =
               let m = most_children 1 (bound_at shown r) in
@@ -211,6 +227,7 @@ module _ {W : Type 0} (shown : W → ShownWalk) (p : ShownPart) (ahead rank : �
               (stop_second (part_child_fails shown p ahead rank r Left) (part_child_fails shown p ahead rank r Right) m m (is_solved_at shown r) stop c d e
               left_is right)))
 
+          -- where the moves up, down, left and right are refuted in turn, the moves of the board are
           pub refuted_four : (e : Effort) → Out u Right d e → IsRefuted (part_children_fail shown p ahead rank r) (most_children 4 (bound_at shown r)) a e
           refuted_four e is =
               let m = most_children 1 (bound_at shown r) in
@@ -246,14 +263,16 @@ module _ {W : Type 0} (shown : W → ShownWalk) (p : ShownPart) (ahead rank : �
       (after_move_fails shown p ahead rank r move) (eq-eqb (next_at r.automaton.now.steps r.state move) left_out out)) clean
 
   module _ (r next : Reached W) (move : Move) (some : 1 ≤ bound_at shown r) (on : leaves_out r.automaton.now.steps r.state move ≡ false)
-      (leads : moved (walk_at shown r).board move ≡ Some (walk_at shown next).board) (guide : guide_at shown next ≡ guide_at shown r) (state : next.state ≡ next_at r.automaton.now.steps r.state move)
+      (leads : moved (walk_at shown r).board move ≡ Some (walk_at shown next).board) (guide : guide_at shown next ≡ guide_at shown r)
+      (state : next.state ≡ next_at r.automaton.now.steps r.state move)
       (bound : bound_at shown next ≡ bound_at shown r - 1)
       (q : ShownPart) (a m : ℕ) (part : q ≡ p) (less : a ≡ next_ahead ahead) (read : m ≡ next_rank ahead rank move) where
     same_counts : (boards : ℕ) → part_fails_at shown q a m next boards ↔ part_child_fails shown p ahead rank r move boards
     same_counts boards =
         let to = next_at r.automaton.now.steps r.state move in
         let on_board = (walk_at shown next).board in
-        let at = at_child (moved (walk_at shown r).board move) (leaves_out r.automaton.now.steps r.state move) (after_move_fails shown p ahead rank r move) on_board leads on boards in (
+        let at = at_child (moved (walk_at shown r).board move) (leaves_out r.automaton.now.steps r.state move)
+        (after_move_fails shown p ahead rank r move) on_board leads on boards in (
           λ h. at.1 (subst (λ g. PartFails g p (next_ahead ahead) (next_rank ahead rank move) (bound_at shown r - 1) on_board to boards) guide
               (subst (λ k. PartFails (guide_at shown next) p (next_ahead ahead) (next_rank ahead rank move) k on_board to boards) bound
               (subst (λ k. PartFails (guide_at shown next) p (next_ahead ahead) (next_rank ahead rank move) (bound_at shown next) on_board k boards) state
@@ -271,12 +290,14 @@ module _ {W : Type 0} (shown : W → ShownWalk) (p : ShownPart) (ahead rank : �
     few_after : most_boards (bound_at shown next) ≤ most_children 1 (bound_at shown r)
     few_after = let e : most_boards (bound_at shown next) ≡ most_boards (bound_at shown r - 1) = ap most_boards bound in omega arith
 
+    -- where the search of the board after a move is refuted, the move is refuted
     pub child_refuted : (old new : Effort) → IsRefuted (part_fails_at shown q a m next) (most_boards (bound_at shown next)) old new
         → IsRefuted (part_child_fails shown p ahead rank r move) (most_children 1 (bound_at shown r)) old new
     child_refuted old new is =
         refuted_as (part_fails_at shown q a m next) (part_child_fails shown p ahead rank r move) same_counts (most_boards (bound_at shown next))
         (most_children 1 (bound_at shown r)) few_after old new is
 
+    -- where the search of the board after a move stops, the move stops, and its letter is added to a solution
     pub child_stopped : (stop : Stop) (old between new : Effort)
         → IsStop (part_fails_at shown q a m next) (is_solved_at shown next) (most_boards (bound_at shown next)) stop old between
         → AfterMove move stop between new

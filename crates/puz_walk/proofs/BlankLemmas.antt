@@ -23,16 +23,20 @@ module _ (v : ShownBundle) (move : Move) (b next : List ℕ) (to : ℕ) (slides 
   to_cell : to ≡ slide.cell
   to_cell = slides.to_is ∙ ap blank (sym slide.is) ∙ blank-slid n b slides.board slide.cell slide.inside
 
+  -- a move of the blank leads from a board to a board of the same side
   pub next_is : IsBoardOf n next
   next_is = IsBoardOf-moved n b slides.board move next slides.leads
 
+  -- the cell to which the blank moves is one of the board's cells
   pub to_below : to < n * n
   to_below = subst (λ k. k < n * n) (sym to_cell) slide.inside
 
+  -- the cell to which the blank moves has its place among the 25 whose numbers are kept
   pub to_room : to < 25
   to_room = let l = to_below in let most = cells_most n b slides.board in omega arith
 
   module _ (spot : Spot) (is : IsSpotOf v b spot) where
+    -- the blank's cell before the move has its place among the 25 whose numbers are kept
     pub from_room : spot.blank < 25
     from_room = let l = blank_below n b slides.board in let most = cells_most n b slides.board in let e = is.blank_is in omega arith
 
@@ -51,7 +55,8 @@ module _ (v : ShownBundle) (move : Move) (b next : List ℕ) (to : ℕ) (slides 
     }
 
     -- the numbers after it
-    pub numbers_next : (place from there : ℕ) → place ≡ to → from ≡ spot.blank → there ≡ to → take (n * n) (slice_set (slice_set spot.numbers from (slice_index spot.numbers place)) there 0) ≡ next
+    pub numbers_next : (place from there : ℕ) → place ≡ to → from ≡ spot.blank → there ≡ to
+        → take (n * n) (slice_set (slice_set spot.numbers from (slice_index spot.numbers place)) there 0) ≡ next
     unfolding slid
     numbers_next place from there place_is from_is there_is =
         let tile : ℕ = slice_index spot.numbers place in

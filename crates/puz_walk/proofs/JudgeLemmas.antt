@@ -1,5 +1,6 @@
 -- Sums that a move changes, set by set.
-use Rattle.std.proofs.Common.{◌≡◌, ◌≢◌, ℕ, ◌+◌, ◌^◌, ◌<◌, ◌≤◌, Bool, true, false, List, length, slice_index, slice_set, Option, Some, None, inl, inr, sym, ◌∙◌, ap, subst, arith, get_or-set_same, get_or-set_other, length-set}
+use Rattle.std.proofs.Common.{◌≡◌, ◌≢◌, ℕ, ◌+◌, ◌^◌, ◌<◌, ◌≤◌, Bool, true, false, List, length, slice_index, slice_set, Option, Some, None, inl, inr}
+use Rattle.std.proofs.Common.{sym, ◌∙◌, ap, subst, arith, get_or-set_same, get_or-set_other, length-set}
 use Rattle.std.specs.Int.{bit_at}
 use Rattle.std.proofs.lemmas.Bool.{cases_eq}
 use Rattle.tab_rule.specs.declared.tables.Count.TheVariants.{Finite}
@@ -27,12 +28,15 @@ module _ (v : ShownBundle) (b next : List ℕ) (limit : ℕ) where
     pub below : (d : ℕ) → BundleSays v set next (Finite d) → d < limit
 
   -- the sum after the move is the one that was reckoned
-  pub after_is : (set sum after : ℕ) (rises : Option Bool) → BundleSays v set b (Finite sum) → (shift : IsShift v b next set rises) → Shifts rises sum after → shift.after ≡ after
+  pub after_is : (set sum after : ℕ) (rises : Option Bool) → BundleSays v set b (Finite sum) → (shift : IsShift v b next set rises)
+      → Shifts rises sum after → shift.after ≡ after
   after_is set sum after rises says shift is =
       let before = sum_once v set b shift.before sum shift.says_before says in
       shifts_once rises sum shift.after after (subst (λ d. Shifts rises d shift.after) before shift.is) is
 
-  pub judged_here : (new : Change) (set sum after : ℕ) (rises : Option Bool) → limit < 2 ^ 8 → BundleSays v set b (Finite sum) → IsShift v b next set rises → Shifts rises sum after → after < limit
+  -- a set is judged where its sum after the move is below the limit and its rise or fall is noted
+  pub judged_here : (new : Change) (set sum after : ℕ) (rises : Option Bool) → limit < 2 ^ 8 → BundleSays v set b (Finite sum)
+      → IsShift v b next set rises → Shifts rises sum after → after < limit
       → ((d e : ℕ) → Shifts rises d e → e + bit_at new.fell set ≡ d + bit_at new.rose set) → bit_at new.rose set + bit_at new.fell set ≤ 1 → IsJudged new set
   judged_here new set sum after rises small says shift is low here one =
       let same = after_is set sum after rises says shift is in
@@ -49,7 +53,9 @@ module _ (v : ShownBundle) (b next : List ℕ) (limit : ℕ) where
         below = λ d told. let e = sum_once v set next d shift.after told shift.says_after in omega arith;
       }
 
-  pub judged_kept : (old new : Change) (set : ℕ) → bit_at new.rose set ≡ bit_at old.rose set → bit_at new.fell set ≡ bit_at old.fell set → IsJudged old set → IsJudged new set
+  -- a set that was judged stays so by a new change that has the same bits for the set
+  pub judged_kept : (old new : Change) (set : ℕ) → bit_at new.rose set ≡ bit_at old.rose set → bit_at new.fell set ≡ bit_at old.fell set
+      → IsJudged old set → IsJudged new set
   judged_kept old new set rose fell is = record {
     changed = record {
       before = is.changed.before;
@@ -65,7 +71,8 @@ module _ (v : ShownBundle) (b next : List ℕ) (limit : ℕ) where
 -- ---- sets that follow
 
 -- the change the other way round
-pub changed_back : (v : ShownBundle) (b next : List ℕ) (change : Change) → AreChanged v b next change → AreChanged v next b (record { rose = change.fell; fell = change.rose })
+pub changed_back : (v : ShownBundle) (b next : List ℕ) (change : Change) → AreChanged v b next change
+    → AreChanged v next b (record { rose = change.fell; fell = change.rose })
 changed_back v b next change are set low =
     let is = are set low in
     record {
@@ -85,21 +92,26 @@ module _ (v : ShownBundle) (b next : List ℕ) (change : Change) (changed : AreC
     pub left : (set : ℕ) → count ≤ set → set < length v.sets → IsKept v b sums indexes set
 
   module _ (set : ℕ) (low : set < length v.sets) (sums : List ℕ) (says : BundleSays v set b (Finite (slice_index sums set))) where
+    -- the sum from which a set's change begins is the one that is kept of the set
     pub before_is : (changed set low).before ≡ slice_index sums set
     before_is = sum_once v set b (changed set low).before (slice_index sums set) (changed set low).says_before says
 
+    -- the kept sum of a set, with its rise added, fits into a byte
     pub fits_here : slice_index sums set + bit_at change.rose set < 2 ^ 8
     fits_here = subst (λ d. d + bit_at change.rose set < 2 ^ 8) before_is (changed set low).fits
 
     is_here : (changed set low).after + bit_at change.fell set ≡ slice_index sums set + bit_at change.rose set
     is_here = (changed set low).is ∙ ap (λ d. d + bit_at change.rose set) before_is
 
+    -- what a move takes from the sum of a set is no more than the kept sum with its rise
     pub some_here : bit_at change.fell set ≤ slice_index sums set + bit_at change.rose set
     some_here = let e = is_here in omega arith
 
+    -- the number that rise and fall make of a set's kept sum is the sum after the move
     pub after_here : (sum : ℕ) → sum + bit_at change.fell set ≡ slice_index sums set + bit_at change.rose set → sum ≡ (changed set low).after
     after_here sum e = let f = is_here in omega arith
 
+  -- where one more set's sum is changed and its indexes follow, one more set has followed the move
   pub half_more : (count : ℕ) (sums indexes new : List ℕ) (sum : ℕ) → length v.sets ≤ 16 → (low : count < length v.sets) → IsHalf count sums indexes
       → sum + bit_at change.fell count ≡ slice_index sums count + bit_at change.rose count → length new ≡ 256 → AreIndexesOf v next new count
       → ((other : ℕ) (x : List ℕ) → other < length v.sets → other ≢ count → AreIndexesOf v x indexes other → AreIndexesOf v x new other)
@@ -108,7 +120,8 @@ module _ (v : ShownBundle) (b next : List ℕ) (change : Change) (changed : AreC
     room = record { sums_room = length-set _ _ _ ∙ half.room.sums_room; indexes_room = room };
     done = λ set l there. elim (cases_eq set count) [
       | inl e ↦ subst (IsKept v next (slice_set sums count sum) new) (sym e) (record {
-        says = subst (λ d. BundleSays v count next (Finite d)) (sym (here ∙ after_here count low sums (half.left count (omega arith) low).says sum is)) (changed count low).says_after;
+        says = subst (λ d. BundleSays v count next (Finite d))
+            (sym (here ∙ after_here count low sums (half.left count (omega arith) low).says sum is)) (changed count low).says_after;
         are = follows;
       })
       | inr ne ↦ other next set ne there (half.done set (omega arith) there)
@@ -125,8 +138,10 @@ module _ (v : ShownBundle) (b next : List ℕ) (change : Change) (changed : AreC
         are = others set x there ne kept.are;
       }
 
+  -- with the sums and indexes that are kept of the board before, no set has followed the change yet
   pub half_none : (sums indexes : List ℕ) → AreKept v b sums indexes → IsHalf 0 sums indexes
   half_none sums indexes kept = record { room = kept.room; done = λ set l there. absurd (omega arith); left = λ set l there. kept.each set there }
 
+  -- once all sets have followed the change, the sums and indexes are those kept of the next board
   pub half_all : (count : ℕ) (sums indexes : List ℕ) → length v.sets ≤ count → IsHalf count sums indexes → AreKept v next sums indexes
   half_all count sums indexes all half = record { room = half.room; each = λ set there. half.done set (omega arith) there }

@@ -19,6 +19,7 @@ use Rattle.puz_walk.proofs.TurnLemmas.{blank_below}
 pub margin_even : (bound parity : ℕ) → bound % 2 ≡ parity → margin_of bound parity ≡ 2
 margin_even bound parity e = cond-true (eqb (bound % 2) parity) 2 1 (eq-eqb (bound % 2) parity e)
 
+-- the margin is 1 where the bound's parity is another one
 pub margin_odd : (bound parity : ℕ) → bound % 2 ≢ parity → margin_of bound parity ≡ 1
 margin_odd bound parity ne = cond-false (eqb (bound % 2) parity) 2 1 (ne_eqb (bound % 2) parity ne)
 
@@ -54,6 +55,7 @@ raised_reaches bound parity d bit high = elim (cases_eq (d % 2) parity) [
   ]
 ]
 
+-- the margin is 1 or 2, whatever the bound and the parity
 pub margin_some : (bound parity : ℕ) → (1 ≤ margin_of bound parity) × (margin_of bound parity ≤ 2)
 margin_some bound parity = elim (cases_eq (bound % 2) parity) [
   | inl e ↦ let m = margin_even bound parity e in (omega arith, omega arith)
@@ -62,6 +64,7 @@ margin_some bound parity = elim (cases_eq (bound % 2) parity) [
 
 -- ---- parity
 
+-- the parity of a board's blank is 0 or 1
 pub parity_bit : (b : List ℕ) → blank_parity b ≤ 1
 unfolding blank_parity
 parity_bit b = omega arith
@@ -81,7 +84,8 @@ parity_flips n b good move next leads =
     let near : Adjacent n (blank b) (blank next) = subst (Adjacent n (blank b)) (sym here) (s.inside, move, s.step) in
     let flips : taxicab n (blank b) % 2 + taxicab n (blank next) % 2 ≡ 1 = farther n good.low good.high (blank b) (blank next) (blank_below n b good) near in
     let before : blank_parity b ≡ taxicab n (blank b) % 2 = ap (λ side. taxicab side (blank b) % 2) (side_of-board n b good) in
-    let after : blank_parity next ≡ taxicab n (blank next) % 2 = ap (λ side. taxicab side (blank next) % 2) (side_of-board n next (IsBoardOf-moved n b good move next leads)) in
+    let after : blank_parity next ≡ taxicab n (blank next) % 2 =
+    ap (λ side. taxicab side (blank next) % 2) (side_of-board n next (IsBoardOf-moved n b good move next leads)) in
     omega arith
 
 -- so the margin stays

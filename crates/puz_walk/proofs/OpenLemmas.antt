@@ -38,7 +38,14 @@ module _ (v : ShownBundle) (b : List ℕ) (bound margin : ℕ) (is : margin ≡ 
   below_from not_cut set d says = elim (cases_order bound (d + margin)) [
     | inl same ↦ omega arith
     | inr rest ↦ elim rest [
-      | inl low ↦ absurd (not_cut (set, record { count = Finite d; says = says; enough = reaches (Finite d) (λ e same. let k : d ≡ e = (let f : Finite d ≡ Finite e = same in cc) in omega arith) }))
+      | inl low ↦ absurd (not_cut (
+        set,
+        record {
+          count = Finite d;
+          says = says;
+          enough = reaches (Finite d) (λ e same. let k : d ≡ e = (let f : Finite d ≡ Finite e = same in cc) in omega arith);
+        },
+      ))
       | inr high ↦ omega arith
     ]
   ]
@@ -52,8 +59,10 @@ module _ (v : ShownBundle) (b : List ℕ) (bound margin : ℕ) (is : margin ≡ 
     not_cut = λ cut.
         let set : ℕ = cut.0 in
         let there = cut.1.says.there in
-        let same : cut.1.count ≡ Finite (slice_index sums set) = set_once v.tables (set_of v set) b cut.1.count (Finite (slice_index sums set)) cut.1.says.says (says set there).says in
+        let same : cut.1.count ≡ Finite (slice_index sums set) =
+        set_once v.tables (set_of v set) b cut.1.count (Finite (slice_index sums set)) cut.1.says.says (says set there).says in
         let high : bound ≤ raised (blank_parity b) (slice_index sums set) = subst (λ k. CountReaches (told_of true b k) bound) same cut.1.enough in
-        let low : raised (blank_parity b) (slice_index sums set) < bound = raised_below bound (blank_parity b) (slice_index sums set) (parity_bit b) (let l = below set there in omega arith) in
+        let low : raised (blank_parity b) (slice_index sums set) < bound =
+        raised_below bound (blank_parity b) (slice_index sums set) (parity_bit b) (let l = below set there in omega arith) in
         omega arith;
   }

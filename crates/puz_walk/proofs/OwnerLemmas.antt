@@ -1,5 +1,6 @@
 -- The member of a set that has a tile, and what a move of the tile does to the set.
-use Rattle.std.proofs.Common.{◌≡◌, ◌≢◌, ℕ, ◌+◌, ◌*◌, ◌/◌, ◌%◌, eqb, eq-eqb, ne_eqb, ◌<◌, ◌≤◌, Bool, true, false, cond, List, [], ◌∷◌, length, get_or, slice_index, slice_set, Some, None, inl, inr, refl, sym, ◌∙◌, ap, subst, arith, get_or-set_same, get_or-set_other}
+use Rattle.std.proofs.Common.{◌≡◌, ◌≢◌, ℕ, ◌+◌, ◌*◌, ◌/◌, ◌%◌, eqb, eq-eqb, ne_eqb, ◌<◌, ◌≤◌, Bool, true, false, cond, List, [], ◌∷◌, length, get_or}
+use Rattle.std.proofs.Common.{slice_index, slice_set, Some, None, inl, inr, refl, sym, ◌∙◌, ap, subst, arith, get_or-set_same, get_or-set_other}
 use Rattle.std.specs.Prelude.{slice_get}
 use Rattle.std.specs.List.{AllByRecursion}
 use Rattle.std.specs.Int.{bit_at}
@@ -34,6 +35,7 @@ tile_below n move b next tile from to step =
 
 -- ---- tiles and masks
 
+-- a cell of a board of side 2 to 5 has a number below 32
 pub cell_small : (n c : ℕ) → 2 ≤ n → n ≤ 5 → c < n * n → c < 32
 cell_small n c low high inside = let most = few_cells n low high in omega arith
 
@@ -74,16 +76,20 @@ place_parts set t false low = (let h : (16 * set + (2 * t + 0)) % 16 / 2 ≡ t =
 -- ---- members of a set
 
 module _ (v : ShownBundle) (bundle : IsBundle v) (set : ℕ) (low : set < length v.sets) where
+  -- each set of a bundle is a set of members for the bundle's side and tables
   pub set_is : IsSetOf v.side v.tables (set_of v set)
   set_is = all_at (IsSetOf v.side v.tables) v.sets set _ low bundle.each
 
+  -- all members of a bundle's set have tables that are in the bundle
   pub tables_there : AllByRecursion (λ m. m.table < length v.tables) (set_of v set)
   tables_there = all_at (AllByRecursion (λ o. o.table < length v.tables)) v.sets set _ low bundle.there
 
   module _ (number : ℕ) (m : Member) (is : slice_get (set_of v set) number ≡ Some m) where
+    -- the table of a member with some number in a set is one of the bundle's tables
     pub member_there : m.table < length v.tables
     member_there = all_get (λ o. o.table < length v.tables) (set_of v set) number m is tables_there
 
+    -- the table of a set's member has a pattern for boards of the bundle's side
     pub member_pattern : IsPattern (pattern_at v m.table)
     member_pattern = all_get (λ o. IsPattern (pattern_at v o.table)) (set_of v set) number m is set_is.patterns
 
@@ -101,12 +107,15 @@ module _ (v : ShownBundle) (bundle : IsBundle v) (words : List ShownWords) (have
     pat : IsPattern (pattern_at v m.table)
     pat = member_pattern v bundle set low number m is
 
+    -- in a bundle with edge words, the table of a set's member isn't folded
     pub member_full : (table_of v.tables m).is_folded ≡ false
     member_full = (have.each m.table has_table).full
 
+    -- in a bundle with edge words, the table of a set's member has a number below 8
     pub table_low : m.table < 8
     table_low = let l = has_table in let few = have.few in omega arith
 
+    -- the place of a member's index is one of the 256 that a spot has
     pub index_place_low : index_place set m < 256
     index_place_low = let l = place_low set m.table m.is_transposed table_low in let few = bundle.few_sets in omega arith
 
@@ -118,7 +127,8 @@ module _ (v : ShownBundle) (bundle : IsBundle v) (words : List ShownWords) (have
         let at_table : w ≡ get_or words m.table w = subst (λ k. w ≡ get_or words k w) place_is read in
         (have.each m.table there).pattern w (get_or-slice_get words m.table w (omega arith) ∙ ap Some (sym at_table))
 
-  full_of : (ms : List Member) → AllByRecursion (λ m. IsPattern (pattern_at v m.table)) ms → AllByRecursion (λ m. m.table < length v.tables) ms → AllByRecursion (IsFull v.side v.tables) ms
+  full_of : (ms : List Member) → AllByRecursion (λ m. IsPattern (pattern_at v m.table)) ms → AllByRecursion (λ m. m.table < length v.tables) ms
+      → AllByRecursion (IsFull v.side v.tables) ms
   full_of [] patterns there = tt
   full_of (m ∷ ms) patterns there = ((patterns.0, (have.each m.table there.0).full), full_of ms patterns.1 there.1)
 
@@ -131,7 +141,8 @@ module _ (v : ShownBundle) (bundle : IsBundle v) (words : List ShownWords) (have
     tile_low : tile < v.side * v.side
     tile_low = tile_below v.side move b next tile from to step
 
-    still : (m : Member) → IsFull v.side v.tables m → has (table_pattern v.tables m) (cell_for v.side m tile) ≡ false → (d : ℕ) → MemberSays v.tables m b (Finite d) → MemberSays v.tables m next (Finite d)
+    still : (m : Member) → IsFull v.side v.tables m → has (table_pattern v.tables m) (cell_for v.side m tile) ≡ false → (d : ℕ)
+        → MemberSays v.tables m b (Finite d) → MemberSays v.tables m next (Finite d)
     still m full none d says = member_still v.side move b next tile from to step v.tables m full.0 full.1 none d says
 
     -- where no member has the tile, the sum stays
@@ -140,7 +151,11 @@ module _ (v : ShownBundle) (bundle : IsBundle v) (words : List ShownWords) (have
       before = d;
       after = d;
       says_before = says;
-      says_after = record { there = low; says = sum_still v.side v.tables tile tile_low (IsFull v.side v.tables) b next still (set_of v set) full_all none d says.says };
+      says_after = record {
+        there = low;
+        says = sum_still v.side v.tables tile tile_low (IsFull v.side v.tables) b next still
+            (set_of v set) full_all none d says.says;
+      };
       is = refl;
     }
 
@@ -151,6 +166,7 @@ module _ (v : ShownBundle) (bundle : IsBundle v) (words : List ShownWords) (have
         (all_get (λ o. has (table_pattern v.tables o) (cell_for v.side o tile) ≡ false) (set_of v set) number m is none))
 
     module _ (owner : Owner) (is : IsOwner v set tile owner) where
+      -- the member of the set whose pattern has the tile that moves
       abbrev pub own : Member
       own = owner.member
 
@@ -163,13 +179,16 @@ module _ (v : ShownBundle) (bundle : IsBundle v) (words : List ShownWords) (have
           let looked = step_for v.side move b next tile from to step own in
           record { board = looked.board; leads = looked.leads; is_index = is.low; tile = sym looked.tile_is ∙ sym is.is }
 
-      pub owner_steps : IsTileStep (pattern_at v own.table) owner.tile (board_for own b) (board_for own next) (cell_for v.side own from) (cell_for v.side own to)
+      -- on the boards that the tile's owner looks up, the move is a step of its own tile, with the blank's cells looked up alike
+      pub owner_steps : IsTileStep (pattern_at v own.table) owner.tile (board_for own b) (board_for own next) (cell_for v.side own from)
+          (cell_for v.side own to)
       owner_steps =
           let looked = step_for v.side move b next tile from to step own in
           record { move = move_for own move; moves = owner_moves; from_is = looked.from_is; to_is = looked.to_is }
 
       -- its word tells of the sum
-      pub owner_shifts : (rises : Bool) → ((d : ℕ) → IsLeastCost (table_pattern v.tables own) (board_for own b) d → RisesOrFalls rises (table_pattern v.tables own) (board_for own next) d)
+      pub owner_shifts : (rises : Bool) → ((d : ℕ) → IsLeastCost (table_pattern v.tables own) (board_for own b) d
+          → RisesOrFalls rises (table_pattern v.tables own) (board_for own next) d)
           → (d : ℕ) → BundleSays v set b (Finite d) → IsShift v b next set (Some rises)
       owner_shifts rises told d says =
           let shifts = sum_moves v.side v.tables tile tile_low (IsFull v.side v.tables) b next still own own_takes (Shifts (Some rises)) (shift_more rises)
@@ -184,25 +203,31 @@ module _ (v : ShownBundle) (bundle : IsBundle v) (words : List ShownWords) (have
           }
 
       -- its index is the one that changes
-      pub owner_indexes : (indexes : List ℕ) (place index : ℕ) → length indexes ≡ 256 → place ≡ index_place set own → index ≡ index_on (pattern_at v own.table) (board_for own next)
+      pub owner_indexes : (indexes : List ℕ) (place index : ℕ) → length indexes ≡ 256 → place ≡ index_place set own
+          → index ≡ index_on (pattern_at v own.table) (board_for own next)
           → AreIndexesOf v b indexes set → AreIndexesOf v next (slice_set indexes place index) set
-      owner_indexes indexes place index room place_is index_is are number m there = elim (owner_or_not v.side v.tables tile tile_low (set_of v set) (set_is v bundle set low).disjoint is.number own is.member own_takes number m there) [
-        | inl same ↦
-            let here : slice_index (slice_set indexes place index) place ≡ index = get_or-set_same indexes place index 0 (let l = index_place_low is.number own is.member in omega arith) in
-            subst (λ o. slice_index (slice_set indexes place index) (index_place set o) ≡ index_on (pattern_at v o.table) (board_for o next)) (sym same)
-            (ap (slice_index (slice_set indexes place index)) (sym place_is) ∙ here ∙ index_is)
-        | inr none ↦
-            let other : index_place set m ≢ place = (λ e.
-            let one : m ≡ own = same_member set m own (e ∙ place_is) in
-            let takes : has (table_pattern v.tables m) (cell_for v.side m tile) ≡ true = subst (λ o. has (table_pattern v.tables o) (cell_for v.side o tile) ≡ true) (sym one) own_takes in
-            absurd cc) in
-            get_or-set_other indexes place (index_place set m) index 0 other ∙ are number m there ∙
-            sym (member_index_still v.side move b next tile from to step v.tables m (pat number m there) none)
-      ]
+      owner_indexes indexes place index room place_is index_is are number m there =
+          elim (owner_or_not v.side v.tables tile tile_low (set_of v set) (set_is v bundle set low).disjoint is.number own is.member own_takes number m there) [
+            | inl same ↦
+                let here : slice_index (slice_set indexes place index) place ≡ index =
+                get_or-set_same indexes place index 0 (let l = index_place_low is.number own is.member in omega arith) in
+                subst (λ o. slice_index (slice_set indexes place index) (index_place set o) ≡ index_on (pattern_at v o.table) (board_for o next)) (sym same)
+                (ap (slice_index (slice_set indexes place index)) (sym place_is) ∙ here ∙ index_is)
+            | inr none ↦
+                let other : index_place set m ≢ place = (λ e.
+                let one : m ≡ own = same_member set m own (e ∙ place_is) in
+                let takes : has (table_pattern v.tables m) (cell_for v.side m tile) ≡ true =
+                subst (λ o. has (table_pattern v.tables o) (cell_for v.side o tile) ≡ true) (sym one) own_takes in
+                absurd cc) in
+                get_or-set_other indexes place (index_place set m) index 0 other ∙ are number m there ∙
+                sym (member_index_still v.side move b next tile from to step v.tables m (pat number m there) none)
+          ]
 
 -- the indexes of another set stay
-pub other_indexes : (v : ShownBundle) (bundle : IsBundle v) (words : List ShownWords) (have : HaveWords v words) (set other : ℕ) → other < length v.sets → other ≢ set → (own : Member) → own.table < 8
-    → (indexes : List ℕ) (place index : ℕ) → place ≡ index_place set own → (b : List ℕ) → AreIndexesOf v b indexes other → AreIndexesOf v b (slice_set indexes place index) other
+pub other_indexes : (v : ShownBundle) (bundle : IsBundle v) (words : List ShownWords) (have : HaveWords v words) (set other : ℕ)
+    → other < length v.sets → other ≢ set → (own : Member) → own.table < 8
+    → (indexes : List ℕ) (place index : ℕ) → place ≡ index_place set own → (b : List ℕ) → AreIndexesOf v b indexes other
+    → AreIndexesOf v b (slice_set indexes place index) other
 other_indexes v bundle words have set other low ne own few indexes place index place_is b are number m there =
     get_or-set_other indexes place (index_place other m) index 0 (λ e.
     apart_parts set other m.table own.table m.is_transposed own.is_transposed (table_low v bundle words have other low number m there) few ne (e ∙ place_is)) ∙

@@ -16,5 +16,7 @@ of_each P up down left right u d l r Left = l
 of_each P up down left right u d l r Right = r
 
 -- where an index is set to what it is, all indexes of a set stay
-pub indexes_kept : (v : ShownBundle) (set : ℕ) (b indexes : List ℕ) (place index : ℕ) → index ≡ slice_index indexes place → AreIndexesOf v b indexes set → AreIndexesOf v b (slice_set indexes place index) set
-indexes_kept v set b indexes place index same are = subst (λ xs. AreIndexesOf v b xs set) (sym (ap (slice_set indexes place) same ∙ set-get_or indexes place 0)) are
+pub indexes_kept : (v : ShownBundle) (set : ℕ) (b indexes : List ℕ) (place index : ℕ) → index ≡ slice_index indexes place
+    → AreIndexesOf v b indexes set → AreIndexesOf v b (slice_set indexes place index) set
+indexes_kept v set b indexes place index same are =
+    subst (λ xs. AreIndexesOf v b xs set) (sym (ap (slice_set indexes place) same ∙ set-get_or indexes place 0)) are

@@ -1,5 +1,7 @@
 -- Tallies, and what a move does to them: only the member that has the tile says another thing.
-use Rattle.std.proofs.Common.{◌≡◌, ◌≢◌, ℕ, ◌+◌, ◌-◌, ◌*◌, ◌<◌, ◌≤◌, ◌⊎◌, Bool, true, false, cond, eqb, eq-eqb, ne_eqb, List, [], ◌∷◌, length, get_or, slice_index, slice_set, Option, Some, None, zero, suc, inl, inr, sym, ◌∙◌, ap, subst, arith, get_or-set_same, get_or-set_other}
+use Rattle.std.proofs.Common.{◌≡◌, ◌≢◌, ℕ, ◌+◌, ◌-◌, ◌*◌, ◌<◌, ◌≤◌, ◌⊎◌, Bool, true, false, cond, eqb, eq-eqb, ne_eqb, List, [], ◌∷◌, length, get_or}
+use Rattle.std.proofs.Common.{slice_index, slice_set, Option, Some, None, zero, suc, inl, inr, sym, ◌∙◌, ap, subst, arith, get_or-set_same}
+use Rattle.std.proofs.Common.{get_or-set_other}
 use Rattle.std.specs.Prelude.{Any, slice_get}
 use Rattle.std.proofs.lemmas.Bool.{cases_eq, cond-true, cond-false}
 use Rattle.puz_board.specs.Boards.{IsBoardOf, at, blank, slid}
@@ -36,6 +38,7 @@ pub place_small : (t : ℕ) (x : Bool) → t < 16 → 2 * t + cond x 1 0 < 32
 place_small t true low = omega arith
 place_small t false low = omega arith
 
+-- of 16 sets and 16 tables, the place of each member's entry is below 512
 pub entry_place_low : (set : ℕ) (m : Member) → set < 16 → m.table < 16 → entry_place set m < 512
 entry_place_low set m low few = let l = place_small m.table m.is_transposed few in omega arith
 
@@ -47,11 +50,13 @@ other_place : (set other : ℕ) (m o : Member) → m.table < 16 → o.table < 16
 other_place set other m o low few ne e = ne (let l = place_small m.table m.is_transposed low in let k = place_small o.table o.is_transposed few in omega arith)
 
 -- the entries of another set stay
-pub other_entries : (v : ShownBundle) (bundle : IsBundle v) (set other : ℕ) → other < length v.sets → other ≢ set → (own : Member) → own.table < 16 → (entries : List ℕ) (place entry : ℕ) → place ≡ entry_place set own
+pub other_entries : (v : ShownBundle) (bundle : IsBundle v) (set other : ℕ) → other < length v.sets → other ≢ set → (own : Member) → own.table < 16
+    → (entries : List ℕ) (place entry : ℕ) → place ≡ entry_place set own
     → (x : List ℕ) → AreEntriesOf v x entries other → AreEntriesOf v x (slice_set entries place entry) other
 other_entries v bundle set other low ne own few entries place entry place_is x are number m there =
     let table : m.table < 16 = (let l = member_there v bundle other low number m there in let most = bundle.few_tables in omega arith) in
-    subst (λ k. MemberSays v.tables m x (said_by k)) (sym (get_or-set_other entries place (entry_place other m) entry 0 (λ e. other_place set other m own table few ne (e ∙ place_is)))) (are number m there)
+    subst (λ k. MemberSays v.tables m x (said_by k)) (sym
+    (get_or-set_other entries place (entry_place other m) entry 0 (λ e. other_place set other m own table few ne (e ∙ place_is)))) (are number m there)
 
 -- ---- entries
 
@@ -62,14 +67,16 @@ said_finite : (entry : ℕ) → entry ≢ 255 → said_by entry ≡ Finite entry
 said_finite entry ne = cond-false (eqb entry 255) Never (Finite entry) (ne_eqb entry 255 ne)
 
 -- an entry is the number that its member says
-pub entry_is : (tables : List ShownPart) (m : Member) (b : List ℕ) (entry d : ℕ) → MemberSays tables m b (said_by entry) → MemberSays tables m b (Finite d) → entry ≡ d
+pub entry_is : (tables : List ShownPart) (m : Member) (b : List ℕ) (entry d : ℕ) → MemberSays tables m b (said_by entry)
+    → MemberSays tables m b (Finite d) → entry ≡ d
 entry_is tables m b entry d says number = elim (cases_eq entry 255) [
   | inl e ↦ absurd (member_either tables m b d number (subst (MemberSays tables m b) (said_never entry e) says))
   | inr ne ↦ member_once tables m b entry d (subst (MemberSays tables m b) (said_finite entry ne) says) number
 ]
 
 -- a part of a sum
-part_of : (tables : List ShownPart) (b : List ℕ) (ms : List Member) (k : ℕ) (m : Member) → slice_get ms k ≡ Some m → (d : ℕ) → AddUpTo tables ms b d → (first : ℕ) × MemberSays tables m b (Finite first) × (first ≤ d)
+part_of : (tables : List ShownPart) (b : List ℕ) (ms : List Member) (k : ℕ) (m : Member) → slice_get ms k ≡ Some m → (d : ℕ) → AddUpTo tables ms b d
+    → (first : ℕ) × MemberSays tables m b (Finite first) × (first ≤ d)
 part_of tables b [] k m is d sum = absurd (let e : _ = is in cc)
 part_of tables b (x ∷ ms) zero m is d sum =
     let same : x ≡ m = (let e : Some x ≡ Some m = is in cc) in
@@ -86,9 +93,11 @@ any_at P (x ∷ ms) (suc k) m is h = Any-later P x ms (any_at P ms k m is h)
 -- ---- a move
 
 module _ (v : ShownBundle) (b next : List ℕ) (tile : ℕ) (slides : IsSlideOf v b next tile) where
+  -- a board after the slide of a tile is a board of the bundle's side
   pub next_good : IsBoardOf v.side next
   next_good = subst (IsBoardOf v.side) slides.leads (IsBoardOf-slid v.side b slides.board (blank next) slides.near.0)
 
+  -- the tile that slides has a number below the count of cells
   pub tile_low : tile < v.side * v.side
   tile_low = subst (λ t. t < v.side * v.side) (sym slides.tile_is) (slides.board.below (blank next) slides.near.0)
 
@@ -102,12 +111,15 @@ module _ (v : ShownBundle) (b next : List ℕ) (tile : ℕ) (slides : IsSlideOf 
   }
 
   -- a member that hasn't the tile says the same
-  still : (m : Member) → IsPattern (pattern_at v m.table) → has_tile v.side v.tables m tile ≡ false → (count : Count) → MemberSays v.tables m b count → MemberSays v.tables m next count
+  still : (m : Member) → IsPattern (pattern_at v m.table) → has_tile v.side v.tables m tile ≡ false → (count : Count) → MemberSays v.tables m b count
+      → MemberSays v.tables m next count
   still m pat none count says =
       subst (λ x. MemberSays v.tables m x count) slides.leads
-      (member_still v.side b slides.board (blank next) slides.near v.tables m pat.tiles (ap (has_tile v.side v.tables m) (sym slides.tile_is) ∙ none) count says)
+      (member_still v.side b slides.board (blank next) slides.near v.tables m pat.tiles
+      (ap (has_tile v.side v.tables m) (sym slides.tile_is) ∙ none) count says)
 
-  still_number : (m : Member) → IsPattern (pattern_at v m.table) → has_tile v.side v.tables m tile ≡ false → (d : ℕ) → MemberSays v.tables m b (Finite d) → MemberSays v.tables m next (Finite d)
+  still_number : (m : Member) → IsPattern (pattern_at v m.table) → has_tile v.side v.tables m tile ≡ false → (d : ℕ)
+      → MemberSays v.tables m b (Finite d) → MemberSays v.tables m next (Finite d)
   still_number m pat none d says = still m pat none (Finite d) says
 
   module _ (bundle : IsBundle v) (set : ℕ) (low : set < length v.sets) where
@@ -116,12 +128,17 @@ module _ (v : ShownBundle) (b next : List ℕ) (tile : ℕ) (slides : IsSlideOf 
 
     -- where no member has the tile, the sum stays
     pub none_says : HasNoOwner v set tile → (d : ℕ) → BundleSays v set b (Finite d) → BundleSays v set next (Finite d)
-    none_says none d says = record { there = low; says = sum_still v.side v.tables tile tile_low IsOf b next still_number (set_of v set) (set_is v bundle set low).patterns none d says.says }
+    none_says none d says = record {
+      there = low;
+      says =
+          sum_still v.side v.tables tile tile_low IsOf b next still_number (set_of v set) (set_is v bundle set low).patterns none d says.says;
+    }
 
     -- and the entries
     pub none_entries : HasNoOwner v set tile → (entries : List ℕ) → AreEntriesOf v b entries set → AreEntriesOf v next entries set
     none_entries none entries are number m is =
-        still m (member_pattern v bundle set low number m is) (all_get (λ o. has_tile v.side v.tables o tile ≡ false) (set_of v set) number m is none) _ (are number m is)
+        still m (member_pattern v bundle set low number m is)
+        (all_get (λ o. has_tile v.side v.tables o tile ≡ false) (set_of v set) number m is none) _ (are number m is)
 
     -- and nothing need be told
     pub none_told : HasNoOwner v set tile → (x : List ℕ) (entry : ℕ) → IsTold v x tile set entry
@@ -134,12 +151,14 @@ module _ (v : ShownBundle) (b next : List ℕ) (tile : ℕ) (slides : IsSlideOf 
       takes : has_tile v.side v.tables own tile ≡ true
       takes = owner_takes v bundle set low tile owner is
 
+      -- the table of the tile's owner has a number below 16
       pub own_table : own.table < 16
       own_table = let l = member_there v bundle set low is.number own is.member in let most = bundle.few_tables in omega arith
 
       -- each member is the owner, or hasn't the tile
       which : (number : ℕ) (m : Member) → slice_get (set_of v set) number ≡ Some m → (m ≡ own) ⊎ (has_tile v.side v.tables m tile ≡ false)
-      which number m there = owner_or_not v.side v.tables tile tile_low (set_of v set) (set_is v bundle set low).disjoint is.number own is.member takes number m there
+      which number m there = owner_or_not v.side v.tables tile tile_low (set_of v set)
+          (set_is v bundle set low).disjoint is.number own is.member takes number m there
 
       -- what the owner says is told of the set
       pub own_told : (x : List ℕ) (entry : ℕ) → MemberSays v.tables own x (said_by entry) → IsTold v x tile set entry
@@ -149,14 +168,16 @@ module _ (v : ShownBundle) (b next : List ℕ) (tile : ℕ) (slides : IsSlideOf 
       ]
 
       -- the entry of the owner is a part of the sum
-      pub own_number : (x : List ℕ) (entry d : ℕ) → MemberSays v.tables own x (said_by entry) → BundleSays v set x (Finite d) → MemberSays v.tables own x (Finite entry) × (entry ≤ d)
+      pub own_number : (x : List ℕ) (entry d : ℕ) → MemberSays v.tables own x (said_by entry) → BundleSays v set x (Finite d)
+          → MemberSays v.tables own x (Finite entry) × (entry ≤ d)
       own_number x entry d says sum =
           let part = part_of v.tables x (set_of v set) is.number own is.member d sum.says in
           let same : entry ≡ part.0 = entry_is v.tables own x entry part.0 says part.1 in
           (subst (λ k. MemberSays v.tables own x (Finite k)) (sym same) part.1, let l : part.0 ≤ d = part.2 in omega arith)
 
       -- the sum after the move
-      pub own_sum : (old new d : ℕ) → MemberSays v.tables own b (said_by old) → BundleSays v set b (Finite d) → MemberSays v.tables own next (Finite new) → BundleSays v set next (Finite (d - old + new))
+      pub own_sum : (old new d : ℕ) → MemberSays v.tables own b (said_by old) → BundleSays v set b (Finite d)
+          → MemberSays v.tables own next (Finite new) → BundleSays v set next (Finite (d - old + new))
       own_sum old new d before sum after =
           let part = own_number b old d before sum in
           let moves = sum_moves v.side v.tables tile tile_low IsOf b next still_number own takes (λ x y. y + old ≡ x + new) (λ x y k e. omega arith)
@@ -188,7 +209,8 @@ module _ (v : ShownBundle) (b next : List ℕ) (tile : ℕ) (slides : IsSlideOf 
       ]
 
 -- the owner that is kept of a tile in a set
-pub owner_at : (v : ShownBundle) (owners : List (Option Owner)) → AreOwnersOf v owners → (set tile : ℕ) → set < length v.sets → tile < v.side * v.side → (number low : ℕ) → number ≡ set → low ≡ tile
+pub owner_at : (v : ShownBundle) (owners : List (Option Owner)) → AreOwnersOf v owners → (set tile : ℕ) → set < length v.sets
+    → tile < v.side * v.side → (number low : ℕ) → number ≡ set → low ≡ tile
     → (o : Option Owner) → get_or owners (32 * number + low) None ≡ o → IsOwnerOf v set tile o
 owner_at v owners are set tile there inside number low number_is low_is o is =
     let same : 32 * number + low ≡ 32 * set + tile = omega arith in
@@ -196,7 +218,9 @@ owner_at v owners are set tile there inside number low number_is low_is o is =
 
 -- ---- a set that is judged
 
-module _ (v : ShownBundle) (bundle : IsBundle v) (b next : List ℕ) (tile : ℕ) (slides : IsSlideOf v b next tile) (tally : Tally) (kept : AreTallied v b tally) (set : ℕ) (low : set < length v.sets) (limit : ℕ) where
+module _ (v : ShownBundle) (bundle : IsBundle v) (b next : List ℕ) (tile : ℕ) (slides : IsSlideOf v b next tile) (tally : Tally)
+    (kept : AreTallied v b tally) (set : ℕ) (low : set < length v.sets) (limit : ℕ) where
+  -- a set of a bundle has a number below 16
   pub set_low : set < 16
   set_low = let few = bundle.few_sets in omega arith
 
@@ -208,15 +232,18 @@ module _ (v : ShownBundle) (bundle : IsBundle v) (b next : List ℕ) (tile : ℕ
     sum_stays : BundleSays v set next (Finite sum)
     sum_stays = none_says v b next tile slides bundle set low none sum (kept.each set low).says
 
+    -- where no member has the tile and the kept sum is below the limit, the set's sum is so after the move
     pub still_low : sum < limit → IsLow v next limit set
     still_low below = record { sum = sum; says = sum_stays; low = below }
 
+    -- where no member has the tile and the kept sum isn't below the limit, the next board goes beyond it
     pub still_cut : (sum < limit → ⊥) → GoesBeyond v next limit
     still_cut above = (set, Finite sum, sum_stays, let l : limit ≤ sum = omega arith in l)
 
   module _ (owner : Owner) (is : IsOwner v set tile owner) (place : ℕ) (place_is : place ≡ entry_place set owner.member) where
     old_says : MemberSays v.tables owner.member b (said_by (slice_index tally.entries place))
-    old_says = subst (λ k. MemberSays v.tables owner.member b (said_by (slice_index tally.entries k))) (sym place_is) ((kept.each set low).are is.number owner.member is.member)
+    old_says = subst (λ k. MemberSays v.tables owner.member b (said_by (slice_index tally.entries k))) (sym place_is)
+        ((kept.each set low).are is.number owner.member is.member)
 
     -- the entry before the move is a part of the sum
     pub entry_fits : slice_index tally.entries place ≤ sum
@@ -228,11 +255,24 @@ module _ (v : ShownBundle) (bundle : IsBundle v) (b next : List ℕ) (tile : ℕ
           own_sum v b next tile slides bundle set low owner is (slice_index tally.entries place) entry sum old_says (kept.each set low).says
           (subst (MemberSays v.tables owner.member next) (said_finite entry ne) says)
 
+      -- where the sum with the owner's new entry is below a limit under 255, the set's sum is so after the move
       pub moved_low : limit < 255 → sum - slice_index tally.entries place + entry < limit → IsLow v next limit set
       moved_low small below = record { sum = sum - slice_index tally.entries place + entry; says = sum_moved (λ e. omega arith); low = below }
 
+      -- where the sum with the owner's new entry isn't below the limit, the next board goes beyond it
       pub moved_cut : (sum - slice_index tally.entries place + entry < limit → ⊥) → GoesBeyond v next limit
       moved_cut above = elim (cases_eq entry 255) [
-        | inl e ↦ (set, Never, own_never v b next tile slides bundle set low owner is (subst (MemberSays v.tables owner.member next) (said_never entry e) says), tt)
-        | inr ne ↦ (set, Finite (sum - slice_index tally.entries place + entry), sum_moved ne, let l : limit ≤ sum - slice_index tally.entries place + entry = omega arith in l)
+        | inl e ↦ (
+          set,
+          Never,
+          own_never v b next tile slides bundle set low owner is
+              (subst (MemberSays v.tables owner.member next) (said_never entry e) says),
+          tt,
+        )
+        | inr ne ↦ (
+          set,
+          Finite (sum - slice_index tally.entries place + entry),
+          sum_moved ne,
+          let l : limit ≤ sum - slice_index tally.entries place + entry = omega arith in l,
+        )
       ]

@@ -19,19 +19,32 @@ use Rattle.puz_walk.specs.StoredWords.{cell_for, move_for, transposed_move}
 
 -- ---- cells
 
-up_left : (n : ℕ) → 2 ≤ n → n ≤ 5 → (c d : ℕ) → c < n * n → c / n ≢ 0 → c - n ≡ d → (transposed_cell n c % n ≢ 0) × (transposed_cell n c - 1 ≡ transposed_cell n d)
-up_left = by_side (λ n. (c d : ℕ) → c < n * n → c / n ≢ 0 → c - n ≡ d → (transposed_cell n c % n ≢ 0) × (transposed_cell n c - 1 ≡ transposed_cell n d)) (λ c d l p e. omega arith) (λ c d l p e. omega arith) (λ c d l p e. omega arith) (λ c d l p e. omega arith)
+up_left : (n : ℕ) → 2 ≤ n → n ≤ 5 → (c d : ℕ) → c < n * n → c / n ≢ 0 → c - n ≡ d → (transposed_cell n c % n ≢ 0)
+    × (transposed_cell n c - 1 ≡ transposed_cell n d)
+up_left = by_side (λ n. (c d : ℕ) → c < n * n → c / n ≢ 0 → c - n ≡ d → (transposed_cell n c % n ≢ 0)
+    × (transposed_cell n c - 1 ≡ transposed_cell n d)) (λ c d l p e. omega arith) (λ c d l p e. omega arith) (λ c d l p e. omega arith)
+    (λ c d l p e. omega arith)
 
-down_right : (n : ℕ) → 2 ≤ n → n ≤ 5 → (c d : ℕ) → c < n * n → c / n ≢ n - 1 → c + n ≡ d → (transposed_cell n c % n ≢ n - 1) × (transposed_cell n c + 1 ≡ transposed_cell n d)
-down_right = by_side (λ n. (c d : ℕ) → c < n * n → c / n ≢ n - 1 → c + n ≡ d → (transposed_cell n c % n ≢ n - 1) × (transposed_cell n c + 1 ≡ transposed_cell n d)) (λ c d l p e. omega arith) (λ c d l p e. omega arith) (λ c d l p e. omega arith) (λ c d l p e. omega arith)
+down_right : (n : ℕ) → 2 ≤ n → n ≤ 5 → (c d : ℕ) → c < n * n → c / n ≢ n - 1 → c + n ≡ d → (transposed_cell n c % n ≢ n - 1)
+    × (transposed_cell n c + 1 ≡ transposed_cell n d)
+down_right = by_side (λ n. (c d : ℕ) → c < n * n → c / n ≢ n - 1 → c + n ≡ d → (transposed_cell n c % n ≢ n - 1)
+    × (transposed_cell n c + 1 ≡ transposed_cell n d)) (λ c d l p e. omega arith) (λ c d l p e. omega arith) (λ c d l p e. omega arith)
+    (λ c d l p e. omega arith)
 
-left_up : (n : ℕ) → 2 ≤ n → n ≤ 5 → (c d : ℕ) → c < n * n → c % n ≢ 0 → c - 1 ≡ d → (transposed_cell n c / n ≢ 0) × (transposed_cell n c - n ≡ transposed_cell n d)
-left_up = by_side (λ n. (c d : ℕ) → c < n * n → c % n ≢ 0 → c - 1 ≡ d → (transposed_cell n c / n ≢ 0) × (transposed_cell n c - n ≡ transposed_cell n d)) (λ c d l p e. omega arith) (λ c d l p e. omega arith) (λ c d l p e. omega arith) (λ c d l p e. omega arith)
+left_up : (n : ℕ) → 2 ≤ n → n ≤ 5 → (c d : ℕ) → c < n * n → c % n ≢ 0 → c - 1 ≡ d → (transposed_cell n c / n ≢ 0)
+    × (transposed_cell n c - n ≡ transposed_cell n d)
+left_up = by_side (λ n. (c d : ℕ) → c < n * n → c % n ≢ 0 → c - 1 ≡ d → (transposed_cell n c / n ≢ 0)
+    × (transposed_cell n c - n ≡ transposed_cell n d)) (λ c d l p e. omega arith) (λ c d l p e. omega arith) (λ c d l p e. omega arith)
+    (λ c d l p e. omega arith)
 
-right_down : (n : ℕ) → 2 ≤ n → n ≤ 5 → (c d : ℕ) → c < n * n → c % n ≢ n - 1 → c + 1 ≡ d → (transposed_cell n c / n ≢ n - 1) × (transposed_cell n c + n ≡ transposed_cell n d)
-right_down = by_side (λ n. (c d : ℕ) → c < n * n → c % n ≢ n - 1 → c + 1 ≡ d → (transposed_cell n c / n ≢ n - 1) × (transposed_cell n c + n ≡ transposed_cell n d)) (λ c d l p e. omega arith) (λ c d l p e. omega arith) (λ c d l p e. omega arith) (λ c d l p e. omega arith)
+right_down : (n : ℕ) → 2 ≤ n → n ≤ 5 → (c d : ℕ) → c < n * n → c % n ≢ n - 1 → c + 1 ≡ d → (transposed_cell n c / n ≢ n - 1)
+    × (transposed_cell n c + n ≡ transposed_cell n d)
+right_down = by_side (λ n. (c d : ℕ) → c < n * n → c % n ≢ n - 1 → c + 1 ≡ d → (transposed_cell n c / n ≢ n - 1)
+    × (transposed_cell n c + n ≡ transposed_cell n d)) (λ c d l p e. omega arith) (λ c d l p e. omega arith) (λ c d l p e. omega arith)
+    (λ c d l p e. omega arith)
 
-step_turned : (n c : ℕ) (m : Move) (d : ℕ) → 2 ≤ n → n ≤ 5 → c < n * n → step_of n c m ≡ Some d → step_of n (transposed_cell n c) (transposed_move m) ≡ Some (transposed_cell n d)
+step_turned : (n c : ℕ) (m : Move) (d : ℕ) → 2 ≤ n → n ≤ 5 → c < n * n → step_of n c m ≡ Some d
+    → step_of n (transposed_cell n c) (transposed_move m) ≡ Some (transposed_cell n d)
 step_turned n c Up d low high l e =
     let way = stays (eqb (c / n) 0) (c - n) d e in
     let also = up_left n low high c d l (eqb-false (c / n) 0 way.0) way.1 in
@@ -51,9 +64,11 @@ step_turned n c Right d low high l e =
 
 -- ---- steps
 
+-- the blank of a board, by the number of its cell, is inside the board
 pub blank_below : (n : ℕ) (b : List ℕ) → IsBoardOf n b → blank b < n * n
 blank_below n b good = cell_of-below n b good 0 (let some = cells_least n b good in omega arith)
 
+-- the step of a tile leads to a board of the same side
 pub next_good : (n : ℕ) (move : Move) (b next : List ℕ) (tile from to : ℕ) → IsStepOf n move b next tile from to → IsBoardOf n next
 next_good n move b next tile from to step = IsBoardOf-moved n b step.board move next step.leads
 
@@ -78,9 +93,11 @@ module _ (n : ℕ) (move : Move) (b next : List ℕ) (tile from to : ℕ) (step 
       let to_inside : blank next < n * n = blank_below n next on in
       record {
         board = turned;
-        leads = moved_by n (transposed b) turned (transposed_move move) (transposed_cell n s.cell) there ∙ ap Some (slid-transposed n b good s.cell s.inside ∙ ap transposed s.is);
+        leads = moved_by n (transposed b) turned (transposed_move move) (transposed_cell n s.cell) there
+            ∙ ap Some (slid-transposed n b good s.cell s.inside ∙ ap transposed s.is);
         tile_is = ap (transposed_cell n) step.tile_is ∙
-            sym (ap (at (transposed b)) (blank-transposed n next on) ∙ at-transposed n b good (transposed_cell n (blank next)) (cell_below n good.low good.high (blank next) to_inside) ∙
+            sym (ap (at (transposed b)) (blank-transposed n next on)
+            ∙ at-transposed n b good (transposed_cell n (blank next)) (cell_below n good.low good.high (blank next) to_inside) ∙
             ap (λ x. transposed_cell n (at b x)) (cell_twice n good.low good.high (blank next) to_inside));
         from_is = ap (transposed_cell n) step.from_is ∙ sym (blank-transposed n b good);
         to_is = ap (transposed_cell n) step.to_is ∙ sym (blank-transposed n next on);

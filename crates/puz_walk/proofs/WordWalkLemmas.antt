@@ -35,24 +35,31 @@ stored_of w bundle b is margin below = record {
 }
 
 module _ (w : Inside) (kept : IsStoredWordWalk w) where
+  -- the bundle whose edge words a walk reads
   abbrev pub v : ShownBundle
   v = w.bundle.now
 
+  -- the board of a walk by edge words: the first numbers of its spot, one for each cell
   abbrev pub board : List ℕ
   board = (word_walk_shown w).board
 
+  -- the board of a walk by edge words is one of the bundle's side
   pub good : IsBoardOf v.side board
   good = kept.spot.board
 
+  -- a walk by edge words is open: its bound isn't 0, and no set cuts its board off
   pub walk_open : IsOpen (word_walk_shown w)
   walk_open = open_from v board w.bound w.margin kept.margin kept.bundle good w.spot.sums (λ set low. (kept.spot.kept.each set low).says) kept.below
 
+  -- the margin of a walk by edge words is no more than its bound
   pub margin_fits : w.margin ≤ w.bound
   margin_fits = let low = kept.below 0 kept.bundle.some_sets in omega arith
 
+  -- the bound of a walk by edge words is at least one move
   pub some_moves : 1 ≤ w.bound
   some_moves = let fits = margin_fits in let some = margin_some w.bound (blank_parity board) in let e = kept.margin in omega arith
 
+  -- the blank's cell that a walk by edge words keeps is one of the board's
   pub blank_low : w.spot.blank < v.side * v.side
   blank_low = subst (λ k. k < v.side * v.side) (sym kept.spot.blank_is) (blank_below v.side board good)
 
@@ -69,12 +76,15 @@ module _ (w : Inside) (kept : IsStoredWordWalk w) where
     none_nowhere is next leads = absurd (let none : moved board move ≡ None = moved_is None is in cc)
 
     module _ (to : ℕ) (is : Some to ≡ step_of v.side w.spot.blank move) where
+      -- in a walk by edge words, a move for which there is a cell leads to the board with the blank slid there
       pub leads : moved board move ≡ Some (slid board to)
       leads = moved_is (Some to) is
 
       inside : to < v.side * v.side
-      inside = step_of-inside v.side (blank board) move to good.low good.high (blank_below v.side board good) (ap (λ k. step_of v.side k move) (sym kept.spot.blank_is) ∙ sym is)
+      inside = step_of-inside v.side (blank board) move to good.low good.high (blank_below v.side board good)
+          (ap (λ k. step_of v.side k move) (sym kept.spot.blank_is) ∙ sym is)
 
+      -- in a walk by edge words, a move takes the blank to the cell to which it leads
       pub slides : IsSlideTo v move board (slid board to) to
       slides = record { board = good; leads = leads; to_is = sym (blank-slid v.side board good to inside) }
 
@@ -103,10 +113,13 @@ module _ (w : Inside) (kept : IsStoredWordWalk w) where
           → IsStoredWordWalk (record { bundle = w.bundle; spot = spot; bound = w.bound - 1; margin = w.margin })
       stored_next spot at low =
           stored_of (record { bundle = w.bundle; spot = spot; bound = w.bound - 1; margin = w.margin }) kept.bundle (slid board to) at still
-          (λ set there. let l = low set (slice_index spot.sums set) (at.kept.each set there).says in let some = some_moves in let fits = margin_fits in omega arith)
+          (λ set there. let l = low set (slice_index spot.sums set) (at.kept.each set there).says in let some = some_moves in
+          let fits = margin_fits in omega arith)
 
+      -- a move from a walk by edge words is a step that keeps the blank's cell, the move and the change of the sums
       pub step_next : w.bound < 2 ^ 8 → (spot : Spot) → IsSpotOf v (slid board to) spot → (change : Change) → AreChanged v board (slid board to) change
-          → IsWordStepFrom (word_walk_shown w) (word_walk_shown (record { bundle = w.bundle; spot = spot; bound = w.bound - 1; margin = w.margin })) (record { from = w.spot.blank; mv = move; change = change })
+          → IsWordStepFrom (word_walk_shown w) (word_walk_shown (record { bundle = w.bundle; spot = spot; bound = w.bound - 1; margin = w.margin }))
+          (record { from = w.spot.blank; mv = move; change = change })
       step_next small spot at change changed = record {
         is_open = walk_open;
         bundle = refl;
@@ -126,6 +139,7 @@ module _ (w : Inside) (kept : IsStoredWordWalk w) where
     good_before : IsBoardOf v.side before.board
     good_before = subst (λ u. IsBoardOf u.side before.board) bundle_is from.is_open.board
 
+    -- the reverse of the move of a word step takes the blank back to the cell that the step has kept
     pub slides_back : IsSlideTo v (reverse_of step.mv) board before.board step.from
     slides_back = record {
       board = good;
@@ -133,22 +147,30 @@ module _ (w : Inside) (kept : IsStoredWordWalk w) where
       to_is = from.from;
     }
 
+    -- the change that a word step has kept says how the sums went from the board before to this one
     pub changed_before : AreChanged v before.board board step.change
     changed_before = subst (λ u. AreChanged u before.board board step.change) bundle_is from.changed
 
+    -- the bound of a walk by edge words, with the step's one move given back, fits into a byte
     pub bound_fits : w.bound + 1 < 2 ^ 8
     bound_fits = let e = from.less in let l = from.fits in omega arith
 
     margin_back : w.margin ≡ margin_of (w.bound + 1) (blank_parity before.board)
-    margin_back = kept.margin ∙ sym (margin_still w.bound (blank_parity before.board) (blank_parity board) (parity_flips v.side before.board good_before step.mv board from.leads))
+    margin_back = kept.margin ∙ sym (margin_still w.bound (blank_parity before.board) (blank_parity board)
+        (parity_flips v.side before.board good_before step.mv board from.leads))
 
     not_cut : IsCutOff v before.board (w.bound + 1) → ⊥
-    not_cut cut = from.is_open.not_cut (subst (λ k. IsCutOff before.bundle before.board k) from.less (subst (λ u. IsCutOff u before.board (w.bound + 1)) from.bundle cut))
+    not_cut cut = from.is_open.not_cut (subst (λ k. IsCutOff before.bundle before.board k) from.less
+        (subst (λ u. IsCutOff u before.board (w.bound + 1)) from.bundle cut))
 
-    pub stored_back : (spot : Spot) → IsSpotOf v before.board spot → IsStoredWordWalk (record { bundle = w.bundle; spot = spot; bound = w.bound + 1; margin = w.margin })
+    -- at a spot of the board before a step, with a bound one more, a walk by edge words is well stored
+    pub stored_back : (spot : Spot) → IsSpotOf v before.board spot
+        → IsStoredWordWalk (record { bundle = w.bundle; spot = spot; bound = w.bound + 1; margin = w.margin })
     stored_back spot at =
         stored_of (record { bundle = w.bundle; spot = spot; bound = w.bound + 1; margin = w.margin }) kept.bundle before.board at margin_back
         (λ set there. below_from v before.board (w.bound + 1) w.margin margin_back not_cut set (slice_index spot.sums set) (at.kept.each set there).says)
 
-    pub back_is : (spot : Spot) → IsSpotOf v before.board spot → word_walk_shown (record { bundle = w.bundle; spot = spot; bound = w.bound + 1; margin = w.margin }) ≡ before
+    -- what is seen of a walk by edge words whose step is taken back is what was seen before the step
+    pub back_is : (spot : Spot) → IsSpotOf v before.board spot
+        → word_walk_shown (record { bundle = w.bundle; spot = spot; bound = w.bound + 1; margin = w.margin }) ≡ before
     back_is spot at = λ i. record { bundle = from.bundle i; board = at.numbers i; bound = from.less i }

@@ -8,8 +8,10 @@ use samples::files::{TILE_24, TILES_12, TILES_123};
 use samples::{HoldingGate, LeastCosts};
 use std::alloc::{AllocError, Global};
 use std::sync::Wait;
+use std::sync::atomic::{AtomicU64, Ordering};
 use std::test::Fail;
 use std::thread::Threads;
+use work_run::Gate;
 
 const DIGEST_OF_123: &str = "5c515b94b4098a8408358078f3f9b8b3e46255c04334fedd62c8e67da63d237b";
 
@@ -346,6 +348,68 @@ fn two_workers_check_the_table_of_a_search_side_by_side(rt: HostRuntime) -> Resu
     let ended = ran_by(&host, &words, &mut shelf, &mut reader)?;
     assert!(rt; ended.status == 0 && ended.out.ends_with(b"\nmoves L\noptimal 1\n"));
     assert!(rt; gate.saw_all(), "one worker alone");
+    Ok(())
+}
+
+/// Notes the digits of the bounds of searches, and how many counts and entries of a table it is told of.
+#[derive(Drop)]
+struct Told {
+    bounds: AtomicU64,
+    counts: AtomicU64,
+    entries: AtomicU64,
+}
+
+impl Gate for Told {
+    fn before(&self, _job: u64) {}
+
+    fn searches(&self, bound: u8) {
+        let digits = self.bounds.load(Ordering::SeqCst).wrapping_mul(10);
+        self.bounds
+            .store(digits.wrapping_add(u64::from(bound)), Ordering::SeqCst);
+    }
+
+    fn found(&self, _moves: u8, counts: u64, _all: u64) {
+        self.counts.store(counts, Ordering::SeqCst);
+    }
+
+    fn filled(&self, entries: u64, _all: u64) {
+        self.entries.fetch_add(entries, Ordering::SeqCst);
+    }
+}
+
+#[test]
+fn a_gate_is_told_of_what_makers_do(rt: HostRuntime) -> Result<(), Fail> {
+    let alloc = rt.alloc();
+    // The words of a run, and what the gate is told of bounds, counts and entries. The last search comes to K1, and so does the
+    // proved one behind it, from the least threshold on.
+    let cases = [
+        ("make-table 3 14 o", 0, 744, 2016),
+        ("solve six sets o f12", 57, 0, 0),
+        ("solve six sets o f12 --budget 8 --workers 2", 57_1357, 0, 0),
+        ("solve six sets o f12 --budget 1", 5135, 0, 0),
+    ];
+    for (words, bounds, counts, entries) in cases {
+        let mut shelf = shelf(alloc)?;
+        let mut all = Vec::new(alloc);
+        for word in words.split(' ') {
+            all.push(word)?;
+        }
+        let mut reader = b"".as_slice();
+        let gate = Told {
+            bounds: AtomicU64::new(0),
+            counts: AtomicU64::new(0),
+            entries: AtomicU64::new(0),
+        };
+        let host = Host {
+            rt: &rt,
+            alloc,
+            gate: &gate,
+        };
+        ran_by(&host, all.as_slice(), &mut shelf, &mut reader)?;
+        assert_eq!(rt; gate.bounds.load(Ordering::SeqCst), bounds, "{words}");
+        assert_eq!(rt; gate.counts.load(Ordering::SeqCst), counts, "{words}");
+        assert_eq!(rt; gate.entries.load(Ordering::SeqCst), entries, "{words}");
+    }
     Ok(())
 }
 

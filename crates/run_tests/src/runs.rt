@@ -21,7 +21,12 @@ pub struct Ended {
 impl Ended {
     /// It wrote this and nothing on its errors, and ended with this status; or the test fails, and shows what it wrote.
     pub fn expect(&self, out: &[u8], status: u8) -> Result<(), Fail> {
-        if self.status == status && self.out.as_slice() == out && self.err.is_empty() {
+        self.expect_beside(out, b"", status)
+    }
+
+    /// It wrote this, and the other on its errors, and ended with this status; or the test fails, and shows what it wrote.
+    pub fn expect_beside(&self, out: &[u8], err: &[u8], status: u8) -> Result<(), Fail> {
+        if self.status == status && self.out.as_slice() == out && self.err.as_slice() == err {
             return Ok(());
         }
         Err(Fail::new(format_args!(

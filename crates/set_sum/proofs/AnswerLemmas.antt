@@ -5,7 +5,8 @@ use Rattle.std.specs.Prelude.{Err, IfErr, IfOk, Ok, Result, slice_get}
 use Rattle.std.specs.List.{AllByRecursion}
 use Rattle.set_sum.specs.Bundles.{ShownBundle, most_sets}
 use Rattle.set_sum.specs.Parts.{part_pattern}
-use Rattle.set_sum.specs.Reading.{AreAlike, AreFew, AreNotFew, AreSets, IsBundleOf, IsSetFaultOf, IsFirstWith, NamesNoTable, NamesOverlap, NamesTwice, first_side}
+use Rattle.set_sum.specs.Reading.{AreAlike, AreFew, AreNotFew, AreSets, IsBundleOf, IsSetFaultOf, IsFirstWith, NamesNoTable, NamesOverlap, NamesTwice}
+use Rattle.set_sum.specs.Reading.{first_side}
 use Rattle.set_sum.specs.SetTexts.{AreLines}
 use Rattle.set_sum.specs.declared.faults.SetFault.{SetFault}
 use Rattle.set_sum.specs.declared.faults.SetFault.TheVariants.{S1, S2, S3, S4, S5, S6}
@@ -23,11 +24,13 @@ all_take P (y ∷ xs) i zero x low is all = absurd (omega arith)
 all_take P (y ∷ xs) zero (suc j) x low is all = subst P (let e : Some y ≡ Some x = is in cc) all.0
 all_take P (y ∷ xs) (suc i) (suc j) x low is all = all_take P xs i j x (omega arith) is all.1
 
+-- what holds all along a list holds of its element at any place
 pub all_get : {X : Type 0} (P : X → Type 0) (xs : List X) (i : ℕ) (x : X) → slice_get xs i ≡ Some x → AllByRecursion P xs → P x
 all_get P [] i x is all = absurd (let e : _ = is in cc)
 all_get P (y ∷ xs) zero x is all = subst P (let e : Some y ≡ Some x = is in cc) all.0
 all_get P (y ∷ xs) (suc i) x is all = all_get P xs i x is all.1
 
+-- a list has one first place with a property at most
 pub first-once : {X : Type 0} (Has : X → Type 0) (xs : List X) (i j : ℕ) → IsFirstWith Has xs i → IsFirstWith Has xs j → i ≡ j
 first-once Has xs i j one other = elim (cases_order i j) [
   | inl same ↦ same
@@ -37,6 +40,7 @@ first-once Has xs i j one other = elim (cases_order i j) [
   ]
 ]
 
+-- where there is a first element with a property, not all elements lack it
 pub first-none : {X : Type 0} (Has : X → Type 0) (xs : List X) (i : ℕ) → IsFirstWith Has xs i → ¬ AllByRecursion (λ x. ¬ Has x) xs
 first-none Has xs i one none = all_get (λ x. ¬ Has x) xs i one.item one.is_item none one.has
 
@@ -47,10 +51,12 @@ module _ (tables : List Part) (text : List ℕ) where
   one_side : AreAlike tables → (i : ℕ) → ¬ IsFirstWith (λ t. (part_pattern t).side ≢ first_side tables) tables i
   one_side alike i first =
       first-none (λ t. (part_pattern t).side ≢ first_side tables) tables i first
-      (all_weaker (λ t. (part_pattern t).side ≡ first_side tables) (λ t. ¬ ((part_pattern t).side ≢ first_side tables)) (λ t same other. other same) tables alike.one_side)
+      (all_weaker (λ t. (part_pattern t).side ≡ first_side tables) (λ t. ¬ ((part_pattern t).side ≢ first_side tables))
+      (λ t same other. other same) tables alike.one_side)
 
   few_lines : (ss ts : List (List Member)) → AreSets text ss → AreLines text ts → ¬ (most_sets < length ts)
-  few_lines ss ts are lines many = let same : length ss ≡ length ts = ap length (AreLines-once text ss ts are.lines lines) in let few : length ss ≤ most_sets = are.few in omega arith
+  few_lines ss ts are lines many = let same : length ss ≡ length ts = ap length (AreLines-once text ss ts are.lines lines) in
+      let few : length ss ≤ most_sets = are.few in omega arith
 
   sets-once : (ss ts : List (List Member)) → AreSets text ss → AreSets text ts → ss ≡ ts
   sets-once ss ts one other = AreLines-once text ss ts one.lines other.lines
@@ -66,6 +72,7 @@ module _ (tables : List Part) (text : List ℕ) where
 
   -- ---- one fault
 
+  -- tables and a set text have one fault at most
   pub fault-once : (f g : SetFault) → IsSetFaultOf f tables text → IsSetFaultOf g tables text → f ≡ g
   fault-once (S1 i) (S1 j) one other = ap S1 (bad_line-once text i j one.1 other.1)
   fault-once (S1 i) (S2 j) one other = absurd (no_bad_line text other.1 i other.2.lines one.1)
@@ -74,15 +81,20 @@ module _ (tables : List Part) (text : List ℕ) where
   fault-once (S1 i) (S4 j) one other = absurd (one_side one.0 j other.1)
   fault-once (S1 i) S5 one other = absurd (elim other [ inl none ↦ not_few one.0.count none | inr many ↦ no_bad_line text many.1 i many.2 one.1 ])
   fault-once (S2 i) (S1 j) one other = absurd (no_bad_line text one.1 j one.2.lines other.1)
-  fault-once (S2 i) (S2 j) one other = ap S2 (first-once No other.1 i j (subst (λ ss. IsFirstWith No ss i) (sets-once one.1 other.1 one.2 other.2) one.3) other.3)
-  fault-once (S2 i) (S3 j) one other = absurd (first-none No other.1 i (subst (λ ss. IsFirstWith No ss i) (sets-once one.1 other.1 one.2 other.2) one.3) other.3)
-  fault-once (S2 i) (S6 j) one other = absurd (first-none No other.1 i (subst (λ ss. IsFirstWith No ss i) (sets-once one.1 other.1 one.2 other.2) one.3) other.3)
+  fault-once (S2 i) (S2 j) one other = ap S2 (first-once No other.1 i j
+      (subst (λ ss. IsFirstWith No ss i) (sets-once one.1 other.1 one.2 other.2) one.3) other.3)
+  fault-once (S2 i) (S3 j) one other = absurd (first-none No other.1 i
+      (subst (λ ss. IsFirstWith No ss i) (sets-once one.1 other.1 one.2 other.2) one.3) other.3)
+  fault-once (S2 i) (S6 j) one other = absurd (first-none No other.1 i
+      (subst (λ ss. IsFirstWith No ss i) (sets-once one.1 other.1 one.2 other.2) one.3) other.3)
   fault-once (S2 i) (S4 j) one other = absurd (one_side one.0 j other.1)
   fault-once (S2 i) S5 one other = absurd (elim other [ inl none ↦ not_few one.0.count none | inr many ↦ few_lines one.1 many.1 one.2 many.2 many.3 ])
   fault-once (S3 i) (S1 j) one other = absurd (no_bad_line text one.1 j one.2.lines other.1)
   fault-once (S3 i) (S2 j) one other = absurd (first-none No one.1 j (subst (λ ss. IsFirstWith No ss j) (sets-once other.1 one.1 other.2 one.2) other.3) one.3)
-  fault-once (S3 i) (S3 j) one other = ap S3 (first-once Two other.1 i j (subst (λ ss. IsFirstWith Two ss i) (sets-once one.1 other.1 one.2 other.2) one.5) other.5)
-  fault-once (S3 i) (S6 j) one other = absurd (first-none Twice one.1 j (subst (λ ss. IsFirstWith Twice ss j) (sets-once other.1 one.1 other.2 one.2) other.4) one.4)
+  fault-once (S3 i) (S3 j) one other = ap S3 (first-once Two other.1 i j
+      (subst (λ ss. IsFirstWith Two ss i) (sets-once one.1 other.1 one.2 other.2) one.5) other.5)
+  fault-once (S3 i) (S6 j) one other = absurd (first-none Twice one.1 j
+      (subst (λ ss. IsFirstWith Twice ss j) (sets-once other.1 one.1 other.2 one.2) other.4) one.4)
   fault-once (S3 i) (S4 j) one other = absurd (one_side one.0 j other.1)
   fault-once (S3 i) S5 one other = absurd (elim other [ inl none ↦ not_few one.0.count none | inr many ↦ few_lines one.1 many.1 one.2 many.2 many.3 ])
   fault-once (S4 i) (S1 j) one other = absurd (one_side other.0 i one.1)
@@ -99,8 +111,10 @@ module _ (tables : List Part) (text : List ℕ) where
   fault-once S5 S5 one other = refl
   fault-once (S6 i) (S1 j) one other = absurd (no_bad_line text one.1 j one.2.lines other.1)
   fault-once (S6 i) (S2 j) one other = absurd (first-none No one.1 j (subst (λ ss. IsFirstWith No ss j) (sets-once other.1 one.1 other.2 one.2) other.3) one.3)
-  fault-once (S6 i) (S3 j) one other = absurd (first-none Twice other.1 i (subst (λ ss. IsFirstWith Twice ss i) (sets-once one.1 other.1 one.2 other.2) one.4) other.4)
-  fault-once (S6 i) (S6 j) one other = ap S6 (first-once Twice other.1 i j (subst (λ ss. IsFirstWith Twice ss i) (sets-once one.1 other.1 one.2 other.2) one.4) other.4)
+  fault-once (S6 i) (S3 j) one other = absurd (first-none Twice other.1 i
+      (subst (λ ss. IsFirstWith Twice ss i) (sets-once one.1 other.1 one.2 other.2) one.4) other.4)
+  fault-once (S6 i) (S6 j) one other = ap S6 (first-once Twice other.1 i j
+      (subst (λ ss. IsFirstWith Twice ss i) (sets-once one.1 other.1 one.2 other.2) one.4) other.4)
   fault-once (S6 i) (S4 j) one other = absurd (one_side one.0 j other.1)
   fault-once (S6 i) S5 one other = absurd (elim other [ inl none ↦ not_few one.0.count none | inr many ↦ few_lines one.1 many.1 one.2 many.2 many.3 ])
 
@@ -108,13 +122,16 @@ module _ (tables : List Part) (text : List ℕ) where
   pub bundle-no_fault : (v : ShownBundle) (f : SetFault) → IsBundleOf tables text v → ¬ IsSetFaultOf f tables text
   bundle-no_fault v (S1 i) is fault = no_bad_line text v.sets i is.are_sets.lines fault.1
   bundle-no_fault v (S2 i) is fault = first-none No v.sets i (subst (λ ss. IsFirstWith No ss i) (sets-once fault.1 v.sets fault.2 is.are_sets) fault.3) is.there
-  bundle-no_fault v (S3 i) is fault = first-none Two v.sets i (subst (λ ss. IsFirstWith Two ss i) (sets-once fault.1 v.sets fault.2 is.are_sets) fault.5) is.disjoint
-  bundle-no_fault v (S6 i) is fault = first-none Twice v.sets i (subst (λ ss. IsFirstWith Twice ss i) (sets-once fault.1 v.sets fault.2 is.are_sets) fault.4) is.apart
+  bundle-no_fault v (S3 i) is fault = first-none Two v.sets i
+      (subst (λ ss. IsFirstWith Two ss i) (sets-once fault.1 v.sets fault.2 is.are_sets) fault.5) is.disjoint
+  bundle-no_fault v (S6 i) is fault = first-none Twice v.sets i
+      (subst (λ ss. IsFirstWith Twice ss i) (sets-once fault.1 v.sets fault.2 is.are_sets) fault.4) is.apart
   bundle-no_fault v (S4 i) is fault = one_side is.alike i fault.1
   bundle-no_fault v S5 is fault = elim fault [ inl none ↦ not_few is.alike.count none | inr many ↦ few_lines v.sets many.1 is.are_sets many.2 many.3 ]
 
   -- ---- one bundle
 
+  -- tables and a set text make one bundle at most
   pub bundle-once : (v w : ShownBundle) → IsBundleOf tables text v → IsBundleOf tables text w → v ≡ w
   bundle-once v w one other =
       let side : v.side ≡ w.side = one.side ∙ sym other.side in
@@ -124,10 +141,14 @@ module _ (tables : List Part) (text : List ℕ) where
 
   -- ---- an answer that is right is the answer
 
-  pub made : (r : Result ShownBundle SetFault) → IfOk r (λ w. IsBundleOf tables text w) → IfErr r (λ g. IsSetFaultOf g tables text) → (v : ShownBundle) → IsBundleOf tables text v → r ≡ Ok v
+  -- a right answer about tables and a text that make a bundle is this bundle
+  pub made : (r : Result ShownBundle SetFault) → IfOk r (λ w. IsBundleOf tables text w) → IfErr r (λ g. IsSetFaultOf g tables text)
+      → (v : ShownBundle) → IsBundleOf tables text v → r ≡ Ok v
   made (Ok w) ok err v is = ap Ok (bundle-once w v ok is)
   made (Err g) ok err v is = absurd (bundle-no_fault v g is err)
 
-  pub refused : (r : Result ShownBundle SetFault) → IfOk r (λ w. IsBundleOf tables text w) → IfErr r (λ g. IsSetFaultOf g tables text) → (f : SetFault) → IsSetFaultOf f tables text → r ≡ Err f
+  -- a right answer about tables and a text that have a fault is this fault
+  pub refused : (r : Result ShownBundle SetFault) → IfOk r (λ w. IsBundleOf tables text w) → IfErr r (λ g. IsSetFaultOf g tables text)
+      → (f : SetFault) → IsSetFaultOf f tables text → r ≡ Err f
   refused (Ok w) ok err f is = absurd (bundle-no_fault w f ok is)
   refused (Err g) ok err f is = ap Err (fault-once g f err is)

@@ -29,11 +29,13 @@ use Rattle.set_sum.proofs.SumLemmas.{IsTold, set_told}
 
 -- what is stored of a set is what is shown of it
 module _ (v : Inside) (place : ℕ) (low : place < length (bundle_shown v).sets) (set : ArrayVec Member) (is : set ≡ get_or v.sets.items place set) where
+  -- what is stored of a set are the members that the bundle shows at its place
   pub stored_set : get_or (bundle_shown v).sets place [] ≡ set.items
   stored_set = mapped_at (λ s. s.items) v.sets.items place set [] (subst (λ n. place < n) (length-map v.sets.items (λ s. s.items)) low) is
 
 -- the tables of a set's members are there
-pub set_there : (v : ShownBundle) → IsBundle v → (number : ℕ) → number < length v.sets → AllByRecursion (λ m. m.table < length v.tables) (get_or v.sets number [])
+pub set_there : (v : ShownBundle) → IsBundle v → (number : ℕ) → number < length v.sets
+    → AllByRecursion (λ m. m.table < length v.tables) (get_or v.sets number [])
 set_there v is number low = all_at (AllByRecursion (λ m. m.table < length v.tables)) v.sets number [] low is.there
 
 -- ---- a bundle that is made
@@ -52,19 +54,25 @@ all_patterns n (t ∷ tables) sides patterns =
 abbrev TellsAll : ℕ → ShownPart → Type 0
 TellsAll n part = (b : List ℕ) → IsBoardOf n b → (count : Count) × PartSays part b count
 
-all_told : (n : ℕ) (tables : List Part) → AllByRecursion (λ t. (part_pattern t).side ≡ n) tables → AllByRecursion IsExactPart tables → AllByRecursion (TellsAll n) (parts_shown tables)
+all_told : (n : ℕ) (tables : List Part) → AllByRecursion (λ t. (part_pattern t).side ≡ n) tables → AllByRecursion IsExactPart tables
+    → AllByRecursion (TellsAll n) (parts_shown tables)
 all_told n [] sides exact = tt
 all_told n (t ∷ tables) sides exact = (λ b board. part_told t exact.0 b (subst (λ m. IsBoardOf m b) (sym sides.0) board), all_told n tables sides.1 exact.1)
 
 -- what holds of each table holds of the members' tables
-all_members : (P : ShownPart → Type 0) (tables : List Part) (set : List Member) → AllByRecursion P (parts_shown tables) → AllByRecursion (λ m. m.table < length tables) set
+all_members : (P : ShownPart → Type 0) (tables : List Part) (set : List Member) → AllByRecursion P (parts_shown tables)
+    → AllByRecursion (λ m. m.table < length tables) set
     → AllByRecursion (λ m. P (table_of (parts_shown tables) m)) set
 all_members P tables [] all there = tt
-all_members P tables (m ∷ set) all there =
-    (all_at P (parts_shown tables) m.table no_part (subst (λ k. m.table < k) (sym (length-map tables part_shown)) there.0) all, all_members P tables set all there.1)
+all_members P tables (m ∷ set) all there = (
+  all_at P (parts_shown tables) m.table no_part (subst (λ k. m.table < k) (sym (length-map tables part_shown)) there.0) all,
+  all_members P tables set all there.1,
+)
 
-each_set : (n : ℕ) (tables : List Part) (sets : List (List Member)) → n ≡ first_side tables → AllByRecursion (IsShownOf n) (parts_shown tables) → AllByRecursion IsLine sets
-    → AllByRecursion (AllByRecursion (λ m. m.table < length tables)) sets → AllByRecursion (λ set. ¬ NamesOverlap tables set) sets → AllByRecursion (IsSetOf n (parts_shown tables)) sets
+each_set : (n : ℕ) (tables : List Part) (sets : List (List Member)) → n ≡ first_side tables → AllByRecursion (IsShownOf n) (parts_shown tables)
+    → AllByRecursion IsLine sets
+    → AllByRecursion (AllByRecursion (λ m. m.table < length tables)) sets → AllByRecursion (λ set. ¬ NamesOverlap tables set) sets
+    → AllByRecursion (IsSetOf n (parts_shown tables)) sets
 each_set n tables [] side all lines there disjoint = tt
 each_set n tables (set ∷ sets) side all lines there disjoint = (
   record {
@@ -75,7 +83,8 @@ each_set n tables (set ∷ sets) side all lines there disjoint = (
   each_set n tables sets side all lines.1 there.1 disjoint.1,
 )
 
-first_limits : (n : ℕ) (tables : List Part) → 0 < length tables → AllByRecursion (λ t. (part_pattern t).side ≡ n) tables → AllByRecursion (λ t. IsPattern (part_pattern t)) tables → (2 ≤ n) × (n ≤ 5)
+first_limits : (n : ℕ) (tables : List Part) → 0 < length tables → AllByRecursion (λ t. (part_pattern t).side ≡ n) tables
+    → AllByRecursion (λ t. IsPattern (part_pattern t)) tables → (2 ≤ n) × (n ≤ 5)
 first_limits n [] some sides patterns = absurd (omega arith)
 first_limits n (t ∷ tables) some sides patterns = (subst (λ m. 2 ≤ m) sides.0 patterns.0.low, subst (λ m. m ≤ 5) sides.0 patterns.0.high)
 
@@ -90,7 +99,8 @@ none_missing tables (m ∷ set) none = elim (cases_lt m.table tables) [
 -- what exact tables and a text make is a bundle
 module _ (tables : List Part) (text : List ℕ) (v : ShownBundle) (exact : AllByRecursion IsExactPart tables) (is : IsBundleOf tables text v) where
   sides : AllByRecursion (λ t. (part_pattern t).side ≡ v.side) tables
-  sides = all_weaker (λ t. (part_pattern t).side ≡ first_side tables) (λ t. (part_pattern t).side ≡ v.side) (λ t same. same ∙ sym is.side) tables is.alike.one_side
+  sides = all_weaker (λ t. (part_pattern t).side ≡ first_side tables) (λ t. (part_pattern t).side ≡ v.side)
+      (λ t same. same ∙ sym is.side) tables is.alike.one_side
 
   patterns : AllByRecursion (λ t. IsPattern (part_pattern t)) tables
   patterns = all_weaker IsExactPart (λ t. IsPattern (part_pattern t)) pattern_exact tables exact
@@ -107,10 +117,12 @@ module _ (tables : List Part) (text : List ℕ) (v : ShownBundle) (exact : AllBy
       let parts : List ShownPart = parts_shown tables in
       let set_is_there = all_at (AllByRecursion (λ m. m.table < length tables)) v.sets number [] low there in
       let each = all_members (TellsAll v.side) tables set (all_told v.side tables sides exact) set_is_there in
-      let told = all_weaker (λ (m : Member). TellsAll v.side (table_of parts m)) (IsTold parts b) (λ m tells. tells (board_for m b) (board_for-good v.side m b board)) set each in
+      let told = all_weaker (λ (m : Member). TellsAll v.side (table_of parts m)) (IsTold parts b)
+      (λ m tells. tells (board_for m b) (board_for-good v.side m b board)) set each in
       let says = set_told parts set b told in
       (says.0, record { there = low; says = subst (λ ps. SetSays ps set b says.0) (sym is.shown) says.1 })
 
+  -- what exact tables and a text make is a bundle
   pub is_bundle : IsBundle v
   is_bundle =
       let limits = first_limits v.side tables is.alike.count.some sides patterns in
@@ -127,19 +139,23 @@ module _ (tables : List Part) (text : List ℕ) (v : ShownBundle) (exact : AllBy
         told = told;
       }
 
-module _ (v : Inside) (text : List ℕ) (first : v.side ≡ first_side v.tables.items) (alike : AreAlike v.tables.items) (exact : AllByRecursion IsExactPart v.tables.items)
+module _ (v : Inside) (text : List ℕ) (first : v.side ≡ first_side v.tables.items) (alike : AreAlike v.tables.items)
+    (exact : AllByRecursion IsExactPart v.tables.items)
     (are : AreSetsOf v.tables.items text (sets_stored v)) where
+  -- the bundle that is stored with these sets is the one that the tables and the text make
   pub bundle_made : IsBundleOf v.tables.items text (bundle_shown v)
   bundle_made = record {
     alike = alike;
     side = first;
     shown = refl;
     are_sets = are.are_sets;
-    there = all_weaker (AllByRecursion (λ m. m.table < length v.tables.items)) (λ set. ¬ NamesNoTable v.tables.items set) (all_there (length v.tables.items)) (sets_stored v) are.there;
+    there = all_weaker (AllByRecursion (λ m. m.table < length v.tables.items)) (λ set. ¬ NamesNoTable v.tables.items set)
+        (all_there (length v.tables.items)) (sets_stored v) are.there;
     apart = are.apart;
     disjoint = are.disjoint;
   }
 
+  -- with the owners of all tiles and all transposed cells, the fields are those of a stored bundle
   pub stored_made : AreAllOwners v.side (parts_shown v.tables.items) v.owners → AreAllTransposed v.side v.transposed → IsStoredBundle v
   stored_made owners transposed = record {
     bundle = is_bundle v.tables.items text (bundle_shown v) exact bundle_made;

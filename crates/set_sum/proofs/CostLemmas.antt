@@ -10,6 +10,7 @@ abbrev pub charge : List (List ℕ) → ℕ → ℕ
 charge [] t = 0
 charge (p ∷ ps) t = cond (has p t) 1 0 + charge ps t
 
+-- disjoint patterns without the first one are disjoint
 pub disjoint-rest : (p : List ℕ) (ps : List (List ℕ)) → AreDisjoint (p ∷ ps) → AreDisjoint ps
 disjoint-rest p ps apart = λ h. apart (inr h)
 
@@ -44,6 +45,7 @@ total_cost-step : (ps : List (List ℕ)) (b : List ℕ) (c : ℕ) (cs : List ℕ
 total_cost-step [] b c cs = refl
 total_cost-step (p ∷ ps) b c cs = let e : total_cost ps b (c ∷ cs) ≡ charge ps (at b c) + total_cost ps (slid b c) cs = total_cost-step ps b c cs in omega arith
 
+-- what a path costs disjoint patterns together is at most its number of steps
 pub total_cost-within : (ps : List (List ℕ)) → AreDisjoint ps → (path b : List ℕ) → total_cost ps b path ≤ length path
 total_cost-within ps apart [] b = let e : total_cost ps b [] ≡ 0 = total_cost-nowhere ps b in omega arith
 total_cost-within ps apart (c ∷ cs) b =

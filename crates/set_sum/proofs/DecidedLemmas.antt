@@ -1,5 +1,6 @@
 -- Tables and a set text make a bundle or have a fault.
-use Rattle.std.proofs.Common.{◌≡◌, ◌≢◌, ℕ, zero, suc, ◌+◌, ◌/◌, ◌<◌, ◌≤◌, ◌⊎◌, Bool, true, false, List, [], ◌∷◌, ◌++◌, length, inl, inr, refl, sym, ◌∙◌, ap, subst, arith, length-append}
+use Rattle.std.proofs.Common.{◌≡◌, ◌≢◌, ℕ, zero, suc, ◌+◌, ◌/◌, ◌<◌, ◌≤◌, ◌⊎◌, Bool, true, false, List, [], ◌∷◌, ◌++◌, length, inl, inr, refl, sym}
+use Rattle.std.proofs.Common.{◌∙◌, ap, subst, arith, length-append}
 use Rattle.std.specs.Prelude.{Any, ◌==◌}
 use Rattle.std.specs.List.{AllByRecursion}
 use Rattle.std.proofs.lemmas.Bool.{cases_eq, cases_lt, eqb-true, eq-eqb}
@@ -42,7 +43,8 @@ any_decided P dec (x ∷ xs) = elim (dec x) [
 ]
 
 -- each element lacks what is decided, or there is a first one that has it
-first_or_none : {X : Type 0} (Has : X → Type 0) → ((x : X) → Decided (Has x)) → (xs : List X) → AllByRecursion (λ x. ¬ Has x) xs ⊎ ((i : ℕ) × IsFirstWith Has xs i)
+first_or_none : {X : Type 0} (Has : X → Type 0) → ((x : X) → Decided (Has x)) → (xs : List X) → AllByRecursion (λ x. ¬ Has x) xs
+    ⊎ ((i : ℕ) × IsFirstWith Has xs i)
 first_or_none Has dec [] = inl tt
 first_or_none Has dec (x ∷ xs) = elim (dec x) [
   | inl here ↦ inr (0, record { item = x; is_item = refl; has = here; first = tt })
@@ -78,14 +80,17 @@ record EndsLine (low : ℕ) (text : List ℕ) : Type 0 where
   whole : text ≡ members_text members ++ 10 ∷ behind
 
 -- its first member is that of `low`, or all are behind it
-from_next : (low : ℕ) (text : List ℕ) (members : List Member) (behind : List ℕ) → AllByRecursion (λ m. low ≤ place m) members → AllByRecursion (λ m. m.table < 100) members → AreAscending members
-    → text ≡ members_text members ++ 10 ∷ behind → ((t : List ℕ) × (text ≡ 32 ∷ (member_text (member_in low) ++ t)) × EndsLine (low + 1) t) ⊎ EndsLine (low + 1) text
+from_next : (low : ℕ) (text : List ℕ) (members : List Member) (behind : List ℕ) → AllByRecursion (λ m. low ≤ place m) members
+    → AllByRecursion (λ m. m.table < 100) members → AreAscending members
+    → text ≡ members_text members ++ 10 ∷ behind → ((t : List ℕ) × (text ≡ 32 ∷ (member_text (member_in low) ++ t)) × EndsLine (low + 1) t)
+    ⊎ EndsLine (low + 1) text
 from_next low text [] behind from_low short ascending whole =
     inr (record { members = []; behind = behind; from_low = tt; short = tt; ascending = tt; whole = whole })
 from_next low text (m ∷ ms) behind from_low short ascending whole = elim (cases_eq (place m) low) [
   | inl same ↦ inl (
     members_text ms ++ 10 ∷ behind,
-    whole ∙ members_text-cons m ms (10 ∷ behind) ∙ ap (λ o. 32 ∷ (member_text o ++ (members_text ms ++ 10 ∷ behind))) (place-once m (member_in low) (same ∙ sym (place-member_in low))),
+    whole ∙ members_text-cons m ms (10 ∷ behind) ∙ ap (λ o. 32 ∷ (member_text o ++ (members_text ms ++ 10 ∷ behind)))
+        (place-once m (member_in low) (same ∙ sym (place-member_in low))),
     record {
       members = ms;
       behind = behind;
@@ -112,10 +117,12 @@ ends_decided zero low all text = elim (begins_decided (10 ∷ []) text) [
   | inr none ↦ inr (λ e. no_more none e.members e.behind e.from_low e.short e.whole)
 ]
   where
-    no_more : ¬ BeginsWith (10 ∷ []) text → (members : List Member) (behind : List ℕ) → AllByRecursion (λ m. low ≤ place m) members → AllByRecursion (λ m. m.table < 100) members
+    no_more : ¬ BeginsWith (10 ∷ []) text → (members : List Member) (behind : List ℕ) → AllByRecursion (λ m. low ≤ place m) members
+        → AllByRecursion (λ m. m.table < 100) members
         → text ≡ members_text members ++ 10 ∷ behind → ⊥
     no_more none [] behind from_low short whole = none (behind, whole)
-    no_more none (m ∷ ms) behind from_low short whole = let first : low ≤ place m = from_low.0 in let high : m.table < 100 = short.0 in let last = (place-table m).1 in omega arith
+    no_more none (m ∷ ms) behind from_low short whole = let first : low ≤ place m = from_low.0 in let high : m.table < 100 = short.0 in
+        let last = (place-table m).1 in omega arith
 ends_decided (suc k) low all text = elim (ends_decided k (low + 1) (omega arith) text) [
   | inl e ↦ inl (record {
     members = e.members;
@@ -168,15 +175,19 @@ line_decided text = elim (begins_decided (115 ∷ 101 ∷ 116 ∷ []) text) [
   ]
 ]
   where
-    behind_word : (rest : List ℕ) (members : List Member) (behind : List ℕ) → 115 ∷ 101 ∷ 116 ∷ rest ≡ set_line members ++ behind → rest ≡ members_text members ++ 10 ∷ behind
-    behind_word rest members behind same = append_cancel_left (115 ∷ 101 ∷ 116 ∷ []) rest (members_text members ++ 10 ∷ behind) (same ∙ set_line-text members behind)
+    behind_word : (rest : List ℕ) (members : List Member) (behind : List ℕ) → 115 ∷ 101 ∷ 116 ∷ rest ≡ set_line members ++ behind
+        → rest ≡ members_text members ++ 10 ∷ behind
+    behind_word rest members behind same = append_cancel_left (115 ∷ 101 ∷ 116 ∷ []) rest (members_text members ++ 10 ∷ behind)
+        (same ∙ set_line-text members behind)
 
-    no_members : (rest behind : List ℕ) (members : List Member) (other : List ℕ) → rest ≡ 10 ∷ behind → 0 < length members → rest ≡ members_text members ++ 10 ∷ other → ⊥
+    no_members : (rest behind : List ℕ) (members : List Member) (other : List ℕ) → rest ≡ 10 ∷ behind → 0 < length members
+        → rest ≡ members_text members ++ 10 ∷ other → ⊥
     no_members rest behind [] other is some same = omega arith
     no_members rest behind (m ∷ ms) other is some same =
         let first = head_is 10 32 behind (member_text m ++ (members_text ms ++ 10 ∷ other)) (sym is ∙ same ∙ members_text-cons m ms (10 ∷ other)) in omega arith
 
-    by_members : (rest : List ℕ) → text ≡ 115 ∷ 101 ∷ 116 ∷ rest → (members : List Member) (behind : List ℕ) → AllByRecursion (λ m. m.table < 100) members → AreAscending members
+    by_members : (rest : List ℕ) → text ≡ 115 ∷ 101 ∷ 116 ∷ rest → (members : List Member) (behind : List ℕ)
+        → AllByRecursion (λ m. m.table < 100) members → AreAscending members
         → rest ≡ members_text members ++ 10 ∷ behind → Decided (HasLine text)
     by_members rest word [] behind short ascending whole =
         inr (λ h. let line = h.is_line in no_members rest behind h.members h.behind whole line.some (behind_word rest h.members h.behind (sym word ∙ h.whole)))
@@ -199,7 +210,8 @@ record HasLines (text : List ℕ) : Type 0 where
 shorter : (text : List ℕ) (members : List Member) (behind : List ℕ) → text ≡ set_line members ++ behind → length behind < length text
 shorter text members behind whole =
     let size : length text ≡ length (115 ∷ 101 ∷ 116 ∷ (members_text members ++ 10 ∷ behind)) = ap length (whole ∙ set_line-text members behind) in
-    let parts : length (members_text members ++ 10 ∷ behind) ≡ length (members_text members) + length (10 ∷ behind) = length-append (members_text members) (10 ∷ behind) in
+    let parts : length (members_text members ++ 10 ∷ behind) ≡ length (members_text members) + length (10 ∷ behind) =
+    length-append (members_text members) (10 ∷ behind) in
     omega arith
 
 no_lines : (text : List ℕ) → ¬ HasLine text → HasLines text
@@ -234,7 +246,8 @@ lines_found (suc most) text low = elim (line_decided text) [
 lines_or_bad : (text : List ℕ) → ((sets : List (List Member)) × AreLines text sets) ⊎ ((line : ℕ) × IsFirstBadLine text line)
 lines_or_bad text = let has = lines_found (length text) text (omega arith) in by_rest has.lines has.rest has.are_lines has.whole has.bad
   where
-    bad_at : (lines : List (List Member)) (rest : List ℕ) → AllByRecursion IsLine lines → text ≡ set_lines lines ++ rest → BeginsWithNoLine rest → (length lines ≡ 0) ⊎ (rest ≢ []) → IsFirstBadLine text (length lines)
+    bad_at : (lines : List (List Member)) (rest : List ℕ) → AllByRecursion IsLine lines → text ≡ set_lines lines ++ rest → BeginsWithNoLine rest
+        → (length lines ≡ 0) ⊎ (rest ≢ []) → IsFirstBadLine text (length lines)
     bad_at lines rest are_lines whole bad more = record { before = lines; rest = rest; number = refl; lines = are_lines; whole = whole; more = more; bad = bad }
 
     by_rest : (lines : List (List Member)) (rest : List ℕ) → AllByRecursion IsLine lines → text ≡ set_lines lines ++ rest → BeginsWithNoLine rest
@@ -248,7 +261,8 @@ lines_or_bad text = let has = lines_found (length text) text (omega arith) in by
 overlap_decided : (p q : List ℕ) → Decided (Overlap p q)
 overlap_decided p q = elim (any_decided (λ t. has q t ≡ true) (λ t. is_true_decided (has q t)) p) [
   | inl any ↦ inl (any.1, list_any-from_Any (λ x. x == any.1) p (any.0, any.1, any.2, any.3, eq-eqb any.1 any.1 refl), any.4)
-  | inr none ↦ inr (λ h. none (Any-weaker (λ x. (x == h.0) ≡ true) (λ x. has q x ≡ true) (λ x same. subst (λ t. has q t ≡ true) (sym (eqb-true x h.0 same)) h.2) p (Any-from_list_any (λ x. x == h.0) p h.1)))
+  | inr none ↦ inr (λ h. none (Any-weaker (λ x. (x == h.0) ≡ true) (λ x. has q x ≡ true)
+      (λ x same. subst (λ t. has q t ≡ true) (sym (eqb-true x h.0 same)) h.2) p (Any-from_list_any (λ x. x == h.0) p h.1)))
 ]
 
 two_decided : {X : Type 0} (R : X → X → Type 0) → ((x y : X) → Decided (R x y)) → (xs : List X) → Decided (HaveTwo R xs)
@@ -294,16 +308,18 @@ module _ (tables : List Part) (text : List ℕ) where
   sets_answer : AreAlike tables → (sets : List (List Member)) → AreSets text sets → Answer
   sets_answer alike sets are = elim (first_or_none (NamesNoTable tables) (any_decided (λ m. length tables ≤ m.table) within) sets) [
     | inr missing ↦ inr (S2 missing.0, (alike, sets, are, missing.1))
-    | inl there ↦ elim (first_or_none (NamesTwice tables) (λ set. two_decided (AreOnePattern (first_side tables) (parts_shown tables)) (one_pattern_decided (first_side tables) (parts_shown tables)) set) sets) [
-      | inr twice ↦ inr (S6 twice.0, (alike, sets, are, there, twice.1))
-      | inl apart ↦ elim (first_or_none (NamesOverlap tables) (λ set. two_decided Overlap overlap_decided (patterns_of_set (first_side tables) (parts_shown tables) set)) sets) [
-        | inr overlap ↦ inr (S3 overlap.0, (alike, sets, are, there, apart, overlap.1))
-        | inl disjoint ↦ inl (
-          record { side = first_side tables; tables = parts_shown tables; sets = sets },
-          record { alike = alike; side = refl; shown = refl; are_sets = are; there = there; apart = apart; disjoint = disjoint },
-        )
-      ]
-    ]
+    | inl there ↦ elim (first_or_none (NamesTwice tables)
+        (λ set. two_decided (AreOnePattern (first_side tables) (parts_shown tables)) (one_pattern_decided (first_side tables) (parts_shown tables)) set) sets) [
+          | inr twice ↦ inr (S6 twice.0, (alike, sets, are, there, twice.1))
+          | inl apart ↦ elim (first_or_none (NamesOverlap tables)
+              (λ set. two_decided Overlap overlap_decided (patterns_of_set (first_side tables) (parts_shown tables) set)) sets) [
+                | inr overlap ↦ inr (S3 overlap.0, (alike, sets, are, there, apart, overlap.1))
+                | inl disjoint ↦ inl (
+                  record { side = first_side tables; tables = parts_shown tables; sets = sets },
+                  record { alike = alike; side = refl; shown = refl; are_sets = are; there = there; apart = apart; disjoint = disjoint },
+                )
+              ]
+        ]
   ]
     where
       within : (m : Member) → Decided (length tables ≤ m.table)
@@ -321,7 +337,11 @@ module _ (tables : List Part) (text : List ℕ) where
   sides_answer : AreFew tables → Answer
   sides_answer few = elim (first_or_none (λ t. (part_pattern t).side ≢ first_side tables) other_side tables) [
     | inr first ↦ inr (S4 first.0, (few, first.1))
-    | inl none ↦ text_answer (record { count = few; one_side = all_weaker (λ t. ¬ ((part_pattern t).side ≢ first_side tables)) (λ t. (part_pattern t).side ≡ first_side tables) same_side tables none })
+    | inl none ↦ text_answer (record {
+      count = few;
+      one_side =
+          all_weaker (λ t. ¬ ((part_pattern t).side ≢ first_side tables)) (λ t. (part_pattern t).side ≡ first_side tables) same_side tables none;
+    })
   ]
     where
       other_side : (t : Part) → Decided ((part_pattern t).side ≢ first_side tables)

@@ -1,5 +1,6 @@
 -- What is known of members, place by place, and which of it a move leaves.
-use Rattle.std.proofs.Common.{◌≡◌, ◌≢◌, ℕ, ◌+◌, ◌-◌, ◌*◌, ◌^◌, ◌<◌, Bool, true, false, cond, List, length, inl, inr, refl, sym, ◌∙◌, ap, subst, arith, slice_index, slice_set, bit_and, get_or-set_same, get_or-set_other, length-set, Option, Some, None}
+use Rattle.std.proofs.Common.{◌≡◌, ◌≢◌, ℕ, ◌+◌, ◌-◌, ◌*◌, ◌^◌, ◌<◌, Bool, true, false, cond, List, length, inl, inr, refl, sym, ◌∙◌, ap, subst, arith}
+use Rattle.std.proofs.Common.{slice_index, slice_set, bit_and, get_or-set_same, get_or-set_other, length-set, Option, Some, None}
 use Rattle.std.specs.Prelude.{option_map, slice_index_or}
 use Rattle.std.specs.Int.{bit_at}
 use Rattle.std.proofs.lemmas.Bool.{cases_Bool, cases_eq}
@@ -10,7 +11,8 @@ use Rattle.puz_board.specs.Costs.{has}
 use Rattle.puz_board.specs.Masks.{numbers_of}
 use Rattle.puz_board.specs.Transposing.{transposed_cell}
 use Rattle.puz_board.proofs.BitLemmas.{both_in, but_in, in_both, sub_le}
-use Rattle.puz_board.proofs.BoardLemmas.{IsBoardOf-slid, at-cell_of, at-slid_back, at-slid_other, blank-slid, cell_of-below, cell_of-is, cells_least, cells_most, side_of-board}
+use Rattle.puz_board.proofs.BoardLemmas.{IsBoardOf-slid, at-cell_of, at-slid_back, at-slid_other, blank-slid, cell_of-below, cell_of-is, cells_least}
+use Rattle.puz_board.proofs.BoardLemmas.{cells_most, side_of-board}
 use Rattle.puz_board.proofs.BoardWays.{Adjacent-apart}
 use Rattle.puz_board.proofs.CellLemmas.{step_of-inside}
 use Rattle.pat_place.specs.Patterns.{IsPattern}
@@ -42,9 +44,11 @@ one_place m o e = let both = same_flag m.table o.table m.is_transposed o.is_tran
 
 -- ---- notes
 
+-- what is known is joined with what is known elsewhere where none of its places was taken yet
 pub joined_none : (places : ℕ) (other known : Known) → known.places < 2 ^ 32 → IsJoined places other known known
 joined_none places other known small = record { size = refl; small = small; each = λ p set. inl (set, refl) }
 
+-- noting the entry known elsewhere at one of the given places leaves what is known joined with it
 pub joined_more : (places place entry : ℕ) (other known now next : Known) → IsJoined places other known now → IsNoted place entry now next
     → bit_at places place ≡ 1 → entry ≡ slice_index other.entries place → IsJoined places other known next
 joined_more places place entry other known now next joined noted one is = record {
@@ -60,7 +64,8 @@ joined_more places place entry other known now next joined noted one is = record
 }
 
 -- what is joined from some places is joined from more
-pub joined_within : (places more : ℕ) (other known now : Known) → ((p : ℕ) → bit_at places p ≡ 1 → bit_at more p ≡ 1) → IsJoined places other known now → IsJoined more other known now
+pub joined_within : (places more : ℕ) (other known now : Known) → ((p : ℕ) → bit_at places p ≡ 1 → bit_at more p ≡ 1)
+    → IsJoined places other known now → IsJoined more other known now
 joined_within places more other known now within joined = record {
   size = joined.size;
   small = joined.small;
@@ -83,19 +88,23 @@ module _ (tables : List ShownPart) (t : ℕ) (part : Part) (shown : part_shown p
   tile_bit : (mask x : ℕ) → numbers_of mask ≡ (part_pattern part).tiles → has (slice_index_or tables t no_part).tiles x ≡ true → bit_at mask x ≡ 1
   tile_bit mask x is h = (in_numbers_below 32 mask x (ap (λ tiles. has tiles x) (is ∙ sym shown_of) ∙ h)).1
 
-  module _ (n tile mask one two : ℕ) (mask_is : numbers_of mask ≡ (part_pattern part).tiles) (pattern : IsPattern (part_pattern part)) (side : (part_pattern part).side ≡ n)
+  module _ (n tile mask one two : ℕ) (mask_is : numbers_of mask ≡ (part_pattern part).tiles) (pattern : IsPattern (part_pattern part))
+      (side : (part_pattern part).side ≡ n)
       (plain : bit_at mask tile ≡ 1 → bit_at one (2 * t) ≡ 1) (turned : bit_at mask (transposed_cell n tile) ≡ 1 → bit_at two (2 * t + 1) ≡ 1)
       (kept : (x : ℕ) → bit_at one x ≡ 1 → bit_at two x ≡ 1) where
-    owned_here : (is_transposed : Bool) → has (slice_index_or tables t no_part).tiles (cond is_transposed (transposed_cell n tile) tile) ≡ true → bit_at two (2 * t + cond is_transposed 1 0) ≡ 1
+    owned_here : (is_transposed : Bool) → has (slice_index_or tables t no_part).tiles (cond is_transposed (transposed_cell n tile) tile) ≡ true
+        → bit_at two (2 * t + cond is_transposed 1 0) ≡ 1
     owned_here true h = turned (tile_bit mask (transposed_cell n tile) mask_is h)
     owned_here false h = let e : 2 * t ≡ 2 * t + 0 = omega arith in subst (λ k. bit_at two k ≡ 1) e (kept (2 * t) (plain (tile_bit mask tile mask_is h)))
 
     pattern_here : IsPattern (record { side = n; tiles = (slice_index_or tables t no_part).tiles })
-    pattern_here = subst (λ tiles. IsPattern (record { side = n; tiles = tiles })) (sym shown_of) (subst (λ k. IsPattern (record { side = k; tiles = (part_pattern part).tiles })) side pattern)
+    pattern_here = subst (λ tiles. IsPattern (record { side = n; tiles = tiles })) (sym shown_of)
+        (subst (λ k. IsPattern (record { side = k; tiles = (part_pattern part).tiles })) side pattern)
 
     owner_here : (is_transposed : Bool) → IsOwner n tables tile two (record { table = t; is_transposed = is_transposed })
     owner_here is_transposed = record { pattern = pattern_here; owned = owned_here is_transposed }
 
+    -- where the two places of a table are taken for a tile, both of its members are owners with their places
     pub owner_at : (m : Member) → m.table ≡ t → IsOwner n tables tile two m
     owner_at m e = subst (IsOwner n tables tile two) (λ i. record { table = sym e i; is_transposed = m.is_transposed }) (owner_here m.is_transposed)
 
@@ -121,7 +130,8 @@ known_noted v b known now m entry is noted says = record {
   ];
 }
 
-module _ (v : ShownBundle) (b : List ℕ) (good : IsBoardOf v.side b) (c : ℕ) (near : Adjacent v.side (blank b) c) (owners : ℕ) (own : AreOwners v.side v.tables (at b c) owners) (fits : owners < 2 ^ 32) where
+module _ (v : ShownBundle) (b : List ℕ) (good : IsBoardOf v.side b) (c : ℕ) (near : Adjacent v.side (blank b) c) (owners : ℕ)
+    (own : AreOwners v.side v.tables (at b c) owners) (fits : owners < 2 ^ 32) where
   -- a member outside the owners' places has another pattern
   other_tile : (m : Member) → m.table < length v.tables → bit_at owners (place_of m) ≡ 0 → has_tile v.side v.tables m (at b c) ≡ false
   other_tile m there clear = elim (cases_Bool (has_tile v.side v.tables m (at b c))) [
@@ -130,7 +140,8 @@ module _ (v : ShownBundle) (b : List ℕ) (good : IsBoardOf v.side b) (c : ℕ) 
   ]
 
   -- what the move leaves is known of the board after it
-  pub known_after : (known : Known) → IsKnownOf v b known → IsKnownOf v (slid b c) (record { places = bit_and known.places (2 ^ 32 - 1 - owners); entries = known.entries })
+  pub known_after : (known : Known) → IsKnownOf v b known
+      → IsKnownOf v (slid b c) (record { places = bit_and known.places (2 ^ 32 - 1 - owners); entries = known.entries })
   known_after known is = record {
     size = is.size;
     small =
@@ -199,8 +210,11 @@ cells_after n b good c near cells i from to room are tile from_is to_is t low = 
 
 -- ---- a move is a step to the blank's new cell
 
-pub stepped : (n : ℕ) (b : List ℕ) (good : IsBoardOf n b) (move : Move) (d : List ℕ) → moved b move ≡ Some d → Adjacent n (blank b) (blank d) × (slid b (blank d) ≡ d)
-stepped n b good move d leads = go (step_of n (blank b) move) refl (sym (ap (λ side. option_map (slid b) (step_of side (blank b) move)) (side_of-board n b good)) ∙ leads)
+-- a move that leads to a board is a slide to an adjacent cell, which is the blank's on that board
+pub stepped : (n : ℕ) (b : List ℕ) (good : IsBoardOf n b) (move : Move) (d : List ℕ) → moved b move ≡ Some d → Adjacent n (blank b) (blank d)
+    × (slid b (blank d) ≡ d)
+stepped n b good move d leads = go (step_of n (blank b) move) refl
+    (sym (ap (λ side. option_map (slid b) (step_of side (blank b) move)) (side_of-board n b good)) ∙ leads)
   where
     go : (o : Option ℕ) → step_of n (blank b) move ≡ o → option_map (slid b) o ≡ Some d → Adjacent n (blank b) (blank d) × (slid b (blank d) ≡ d)
     go None step is = cc

@@ -1,5 +1,6 @@
 -- Lines as they are counted and kept.
-use Rattle.std.proofs.Common.{◌≡◌, ◌≢◌, ℕ, suc, ◌+◌, ◌<◌, ◌≤◌, ◌⊎◌, List, [], ◌∷◌, ◌++◌, length, get_or, take, Option, Some, None, inl, inr, refl, sym, ◌∙◌, ap, subst, arith, length-append, Bool, true, false, not, eqb}
+use Rattle.std.proofs.Common.{◌≡◌, ◌≢◌, ℕ, suc, ◌+◌, ◌<◌, ◌≤◌, ◌⊎◌, List, [], ◌∷◌, ◌++◌, length, get_or, take, Option, Some, None, inl, inr, refl}
+use Rattle.std.proofs.Common.{sym, ◌∙◌, ap, subst, arith, length-append, Bool, true, false, not, eqb}
 use Rattle.std.proofs.lemmas.Bool.{eqb-false, eqb-true}
 use Rattle.std.proofs.lemmas.List.{append-nil, length-take, take-append-le, take_all}
 use Rattle.std.specs.Prelude.{Any, is_some, slice_get}
@@ -39,6 +40,7 @@ first-end Has xs x none has = record {
   first = subst (AllByRecursion (λ y. ¬ Has y)) (sym (take-front xs (x ∷ []))) none;
 }
 
+-- where each member's table is below the count of tables, no member's table is missing
 pub all_there : (tables : ℕ) (xs : List Member) → AllByRecursion (λ m. m.table < tables) xs → ¬ Any (λ m. tables ≤ m.table) xs
 all_there tables xs all any =
     let low : (get_or xs any.0 any.1).table < tables = all_at (λ m. m.table < tables) xs any.0 any.1 any.2 all in
@@ -54,8 +56,12 @@ module _ (tables : ℕ) (lines : List (List Member)) (members : List Member) whe
 
   -- the sets of as many lines as a bundle may have are kept
   kept_more : (kept next : List (List Member)) → AreKept tables lines None kept → AllByRecursion (λ m. m.table < tables) members
-      → ((length kept < most_sets) × (next ≡ kept ++ members ∷ [])) ⊎ ((most_sets ≤ length kept) × (next ≡ kept)) → AreKept tables (lines ++ members ∷ []) None next
-  kept_more kept next are there pushed = (elim pushed [ inl room ↦ roomy room.0 room.1 | inr full ↦ filled full.0 full.1 ], all_push (AllByRecursion (λ m. m.table < tables)) lines members are.1 there)
+      → ((length kept < most_sets) × (next ≡ kept ++ members ∷ [])) ⊎ ((most_sets ≤ length kept) × (next ≡ kept))
+      → AreKept tables (lines ++ members ∷ []) None next
+  kept_more kept next are there pushed = (
+    elim pushed [ inl room ↦ roomy room.0 room.1 | inr full ↦ filled full.0 full.1 ],
+    all_push (AllByRecursion (λ m. m.table < tables)) lines members are.1 there,
+  )
     where
       count : length kept ≡ length (take most_sets lines)
       count = ap length are.0
@@ -74,34 +80,44 @@ module _ (tables : ℕ) (lines : List (List Member)) (members : List Member) whe
           let c = count in
           is ∙ are.0 ∙ sym (take-append-le most_sets lines (members ∷ []) (omega arith))
 
-  missing_first : (kept : List (List Member)) → AreKept tables lines None kept → Any (λ m. tables ≤ m.table) members → (next : List (List Member)) → AreKept tables (lines ++ members ∷ []) (Some (length lines)) next
-  missing_first kept are missing next = first-end No lines members (all_weaker (AllByRecursion (λ m. m.table < tables)) (λ line. ¬ No line) (all_there tables) lines are.1) missing
+  missing_first : (kept : List (List Member)) → AreKept tables lines None kept → Any (λ m. tables ≤ m.table) members → (next : List (List Member))
+      → AreKept tables (lines ++ members ∷ []) (Some (length lines)) next
+  missing_first kept are missing next = first-end No lines members
+      (all_weaker (AllByRecursion (λ m. m.table < tables)) (λ line. ¬ No line) (all_there tables) lines are.1) missing
 
-  missing_before : (kept : List (List Member)) (line : ℕ) → AreKept tables lines (Some line) kept → (next : List (List Member)) → AreKept tables (lines ++ members ∷ []) (Some line) next
+  missing_before : (kept : List (List Member)) (line : ℕ) → AreKept tables lines (Some line) kept → (next : List (List Member))
+      → AreKept tables (lines ++ members ∷ []) (Some line) next
   missing_before kept line are next = first-longer No lines (members ∷ []) line are
 
   counted_more : (count : ℕ) → count ≡ length lines → count + 1 ≡ length (lines ++ members ∷ [])
   counted_more count is = let longer : length (lines ++ members ∷ []) ≡ length lines + 1 = length-append lines (members ∷ []) in omega arith
 
   -- a line all of whose tables are there
-  pub read_there : (count : ℕ) (missing : Option ℕ) (kept next : List (List Member)) → AreReadLines tables lines count missing kept → (set : List Member) → IsReadAsSet tables members (Some set)
-      → ((length kept < most_sets) × (next ≡ kept ++ set ∷ [])) ⊎ ((most_sets ≤ length kept) × (next ≡ kept)) → AreReadLines tables (lines ++ members ∷ []) (count + 1) missing next
+  pub read_there : (count : ℕ) (missing : Option ℕ) (kept next : List (List Member)) → AreReadLines tables lines count missing kept
+      → (set : List Member) → IsReadAsSet tables members (Some set)
+      → ((length kept < most_sets) × (next ≡ kept ++ set ∷ [])) ⊎ ((most_sets ≤ length kept) × (next ≡ kept))
+      → AreReadLines tables (lines ++ members ∷ []) (count + 1) missing next
   read_there count missing kept next are set is pushed = record { counted = counted_more count are.counted; are_kept = go missing are.are_kept }
     where
       go : (missing : Option ℕ) → AreKept tables lines missing kept → AreKept tables (lines ++ members ∷ []) missing next
-      go None h = kept_more kept next h is.1 (subst (λ s. ((length kept < most_sets) × (next ≡ kept ++ s ∷ [])) ⊎ ((most_sets ≤ length kept) × (next ≡ kept))) is.0 pushed)
+      go None h = kept_more kept next h is.1 (subst (λ s. ((length kept < most_sets) × (next ≡ kept ++ s ∷ []))
+          ⊎ ((most_sets ≤ length kept) × (next ≡ kept))) is.0 pushed)
       go (Some line) h = missing_before kept line h next
 
   -- a line one of whose tables isn't
-  pub read_missing : (count : ℕ) (missing after : Option ℕ) (kept : List (List Member)) → AreReadLines tables lines count missing kept → IsReadAsSet tables members None
-      → ((missing ≡ None) × (after ≡ Some count)) ⊎ ((line : ℕ) × (missing ≡ Some line) × (after ≡ missing)) → AreReadLines tables (lines ++ members ∷ []) (count + 1) after kept
+  pub read_missing : (count : ℕ) (missing after : Option ℕ) (kept : List (List Member)) → AreReadLines tables lines count missing kept
+      → IsReadAsSet tables members None
+      → ((missing ≡ None) × (after ≡ Some count)) ⊎ ((line : ℕ) × (missing ≡ Some line) × (after ≡ missing))
+      → AreReadLines tables (lines ++ members ∷ []) (count + 1) after kept
   read_missing count missing after kept are is changed = record {
     counted = counted_more count are.counted;
     are_kept = elim changed [
       | inl first ↦
-          subst (λ m. AreKept tables (lines ++ members ∷ []) m kept) (sym (first.1 ∙ ap Some are.counted)) (missing_first kept (subst (λ m. AreKept tables lines m kept) first.0 are.are_kept) is kept)
+          subst (λ m. AreKept tables (lines ++ members ∷ []) m kept) (sym (first.1 ∙ ap Some are.counted))
+          (missing_first kept (subst (λ m. AreKept tables lines m kept) first.0 are.are_kept) is kept)
       | inr before ↦
-          subst (λ m. AreKept tables (lines ++ members ∷ []) m kept) (sym (before.2 ∙ before.1)) (missing_before kept before.0 (subst (λ m. AreKept tables lines m kept) before.1 are.are_kept) kept)
+          subst (λ m. AreKept tables (lines ++ members ∷ []) m kept) (sym (before.2 ∙ before.1))
+          (missing_before kept before.0 (subst (λ m. AreKept tables lines m kept) before.1 are.are_kept) kept)
     ];
   }
 
@@ -115,6 +131,7 @@ pub record HasLines (tables : ℕ) (text rest : List ℕ) (count : ℕ) (missing
   pub are_read : AreReadLines tables lines count missing kept
   pub more : (count ≡ 0) ⊎ (rest ≢ [])
 
+-- before the first line, nothing is read or kept and all of the text is left
 pub no_lines : (tables : ℕ) (text : List ℕ) → HasLines tables text text 0 None []
 no_lines tables text = record { lines = []; are_lines = tt; whole = refl; are_read = record { counted = refl; are_kept = (refl, tt) }; more = inl refl }
 
@@ -172,10 +189,13 @@ is_some-None None e = refl
 is_some-None (Some x) e = absurd (let bad : true ≡ false = e in cc)
 
 -- how a test whether a line was missing before tells which is known after it
-pub changed_first : (missing after : Option ℕ) (count : ℕ) (r : Bool) → is_some missing ≡ not r → r ≡ true → after ≡ Some count → ((missing ≡ None) × (after ≡ Some count)) ⊎ ((line : ℕ) × (missing ≡ Some line) × (after ≡ missing))
+pub changed_first : (missing after : Option ℕ) (count : ℕ) (r : Bool) → is_some missing ≡ not r → r ≡ true → after ≡ Some count
+    → ((missing ≡ None) × (after ≡ Some count)) ⊎ ((line : ℕ) × (missing ≡ Some line) × (after ≡ missing))
 changed_first missing after count r is none set = inl (is_some-None missing (is ∙ ap not none), set)
 
-pub changed_before : (missing after : Option ℕ) (count : ℕ) (r : Bool) → is_some missing ≡ not r → r ≡ false → after ≡ missing → ((missing ≡ None) × (after ≡ Some count)) ⊎ ((line : ℕ) × (missing ≡ Some line) × (after ≡ missing))
+-- where a line was found to be noted before, it is still the one that is noted as missing a table
+pub changed_before : (missing after : Option ℕ) (count : ℕ) (r : Bool) → is_some missing ≡ not r → r ≡ false → after ≡ missing
+    → ((missing ≡ None) × (after ≡ Some count)) ⊎ ((line : ℕ) × (missing ≡ Some line) × (after ≡ missing))
 changed_before missing after count r is some same = let found = is_some-Some missing (is ∙ ap not some) in inr (found.0, found.1, same)
 
 -- nothing is left, or something
@@ -183,20 +203,25 @@ pub nothing_left : (xs : List ℕ) (r : Bool) → r ≡ eqb (length xs) 0 → r 
 nothing_left [] r is e = refl
 nothing_left (x ∷ xs) r is e = absurd (let none = eqb-true (suc (length xs)) 0 (sym is ∙ e) in omega arith)
 
+-- a list whose length isn't 0 has something in it
 pub something_left : (xs : List ℕ) (r : Bool) → r ≡ eqb (length xs) 0 → r ≡ false → xs ≢ []
 something_left xs r is e none = eqb-false (length xs) 0 (sym is ∙ e) (ap length none)
 
 -- lines that are all read are kept, where a bundle may have so many
-pub all_kept : (tables : ℕ) (lines : List (List Member)) (count : ℕ) (missing : Option ℕ) (kept : List (List Member)) → AreReadLines tables lines count missing kept → missing ≡ None → count ≤ most_sets
+pub all_kept : (tables : ℕ) (lines : List (List Member)) (count : ℕ) (missing : Option ℕ) (kept : List (List Member))
+    → AreReadLines tables lines count missing kept → missing ≡ None → count ≤ most_sets
     → (kept ≡ lines) × AllByRecursion (AllByRecursion (λ m. m.table < tables)) lines
 all_kept tables lines count missing kept are none few =
     let h = subst (λ m. AreKept tables lines m kept) none are.are_kept in
     let c : count ≡ length lines = are.counted in
     (h.0 ∙ take_all most_sets lines (omega arith), h.1)
 
-pub missing_line : (tables : ℕ) (lines : List (List Member)) (count : ℕ) (missing : Option ℕ) (kept : List (List Member)) (line : ℕ) → AreReadLines tables lines count missing kept → missing ≡ Some line
+-- the line that is noted as missing is the first one with a table that isn't there
+pub missing_line : (tables : ℕ) (lines : List (List Member)) (count : ℕ) (missing : Option ℕ) (kept : List (List Member)) (line : ℕ)
+    → AreReadLines tables lines count missing kept → missing ≡ Some line
     → IsFirstWith (λ members. Any (λ m. tables ≤ m.table) members) lines line
 missing_line tables lines count missing kept line are some = subst (λ m. AreKept tables lines m kept) some are.are_kept
 
+-- the first place with a property is a place of the list
 pub first-within : {X : Type 0} (Has : X → Type 0) (xs : List X) (i : ℕ) → IsFirstWith Has xs i → i < length xs
 first-within Has xs i first = get-below xs i first.item first.is_item

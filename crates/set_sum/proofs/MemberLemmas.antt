@@ -18,9 +18,11 @@ use Rattle.set_sum.proofs.HomeLemmas.{IsOf, solution_home}
 use Rattle.set_sum.proofs.ListLemmas.{all_weaker}
 use Rattle.set_sum.proofs.PartLemmas.{part_either, part_none, part_once, part_transposed, part_within}
 
+-- a member says no two numbers of a board
 pub member_once : (tables : List ShownPart) (m : Member) (b : List ℕ) (d e : ℕ) → MemberSays tables m b (Finite d) → MemberSays tables m b (Finite e) → d ≡ e
 member_once tables m b d e one other = part_once (table_of tables m) (board_for m b) d e one other
 
+-- a member that says a number of a board doesn't say never of it
 pub member_either : (tables : List ShownPart) (m : Member) (b : List ℕ) (d : ℕ) → MemberSays tables m b (Finite d) → ¬ MemberSays tables m b Never
 member_either tables m b d one never = part_either (table_of tables m) (board_for m b) d one never
 
@@ -47,7 +49,9 @@ module _ (n : ℕ) (b : List ℕ) (good : IsBoardOf n b) where
   own_says true part pat count says = part_transposed n part (below part.tiles pat) b good count says
   own_says false part pat count says = says
 
-  pub member_pattern : (tables : List ShownPart) (m : Member) → IsOf n (table_pattern tables m) → (count : Count) → MemberSays tables m b count → PartSays (own_part n tables m) b count
+  -- what a member says of a board is what a table of its own pattern tells of it
+  pub member_pattern : (tables : List ShownPart) (m : Member) → IsOf n (table_pattern tables m) → (count : Count) → MemberSays tables m b count
+      → PartSays (own_part n tables m) b count
   member_pattern tables m pat count says = own_says m.is_transposed (table_of tables m) pat count says
 
   module _ (path : List ℕ) (solves : IsSolution b path) (tables : List ShownPart) (m : Member) (pat : IsOf n (table_pattern tables m)) where
@@ -57,8 +61,12 @@ module _ (n : ℕ) (b : List ℕ) (good : IsBoardOf n b) where
     board : IsBoard b
     board = subst (λ k. IsBoardOf k b) (sym (side_of-board n b good)) good
 
+    -- the number that a member says of a board is at most what a solution costs its pattern
     pub member_within : (d : ℕ) → MemberSays tables m b (Finite d) → d ≤ cost (pattern_of n tables m) b path
-    member_within d says = part_within (own_part n tables m) b board d (member_pattern tables m pat (Finite d) says) path (solution_home n b good path solves (pattern_of n tables m) own)
+    member_within d says = part_within (own_part n tables m) b board d (member_pattern tables m pat (Finite d) says) path
+        (solution_home n b good path solves (pattern_of n tables m) own)
 
+    -- no member says never of a board that has a solution
     pub member_none : ¬ MemberSays tables m b Never
-    member_none never = part_none (own_part n tables m) b board (member_pattern tables m pat Never never) path (solution_home n b good path solves (pattern_of n tables m) own)
+    member_none never = part_none (own_part n tables m) b board (member_pattern tables m pat Never never) path
+        (solution_home n b good path solves (pattern_of n tables m) own)

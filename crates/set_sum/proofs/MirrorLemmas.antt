@@ -1,5 +1,6 @@
 -- The cells of numbers on a transposed board.
-use Rattle.std.proofs.Common.{◌≡◌, ℕ, ◌+◌, ◌*◌, ◌<◌, ◌≤◌, ◌⊎◌, true, false, cond, List, length, inl, inr, sym, ◌∙◌, ap, subst, arith, slice_index, slice_set, get_or-set_same, get_or-set_other}
+use Rattle.std.proofs.Common.{◌≡◌, ℕ, ◌+◌, ◌*◌, ◌<◌, ◌≤◌, ◌⊎◌, true, false, cond, List, length, inl, inr, sym, ◌∙◌, ap, subst, arith, slice_index}
+use Rattle.std.proofs.Common.{slice_set, get_or-set_same, get_or-set_other}
 use Rattle.std.proofs.lemmas.Bool.{cases_eq}
 use Rattle.puz_board.specs.Boards.{IsBoardOf, cell_of}
 use Rattle.puz_board.specs.Transposing.{transposed, transposed_cell}
@@ -25,8 +26,10 @@ module _ (n : ℕ) (b found : List ℕ) (good : IsBoardOf n b) (are : AreCellsOf
   there : (t : ℕ) → t < n * n → transposed_cell n t < length b
   there t l = subst (λ k. transposed_cell n t < k) (sym good.size) (cell_below n good.low good.high t l)
 
+  -- the cell that was found for a transposed number is a cell of the board
   pub found_below : (t : ℕ) → t < n * n → slice_index found (transposed_cell n t) < n * n
-  found_below t l = subst (λ k. k < n * n) (sym (are (transposed_cell n t) (there t l))) (cell_of-below n b good (transposed_cell n t) (cell_below n good.low good.high t l))
+  found_below t l = subst (λ k. k < n * n) (sym (are (transposed_cell n t) (there t l)))
+      (cell_of-below n b good (transposed_cell n t) (cell_below n good.low good.high t l))
 
   -- it is the cell of the number on the transposed board
   pub mirrored_is : (t : ℕ) → t < n * n → mirrored_cell n found t ≡ cell_of t (transposed b)
@@ -35,6 +38,7 @@ module _ (n : ℕ) (b found : List ℕ) (good : IsBoardOf n b) (are : AreCellsOf
       sym (cell_of-transposed n b good (transposed_cell n t) (cell_below n good.low good.high t l)) ∙
       ap (λ u. cell_of u (transposed b)) (cell_twice n good.low good.high t l)
 
+  -- cells that are all mirrored ones are those of the numbers on the transposed board
   pub mirrored_all : (cells : List ℕ) (k : ℕ) → n * n ≤ k → ((t : ℕ) → t < k → slice_index cells t ≡ mirrored_cell n found t) → AreCellsOf cells (transposed b)
   mirrored_all cells k all each t l =
       let turned = IsBoardOf-transposed n b good in

@@ -1,5 +1,6 @@
 -- Members in their order, which is that of their places: two for each table, the plain member's and the transposed one's.
-use Rattle.std.proofs.Common.{◌≡◌, ◌≢◌, ℕ, suc, ◌+◌, ◌*◌, ◌/◌, ◌%◌, ◌<◌, ◌⊎◌, Bool, true, false, cond, eqb, All, AllPairs, List, [], ◌∷◌, ◌++◌, inl, inr, refl, sym, ap₂, arith, eq-eqb, ne_eqb}
+use Rattle.std.proofs.Common.{◌≡◌, ◌≢◌, ℕ, suc, ◌+◌, ◌*◌, ◌/◌, ◌%◌, ◌<◌, ◌⊎◌, Bool, true, false, cond, eqb, All, AllPairs, List, [], ◌∷◌, ◌++◌, inl}
+use Rattle.std.proofs.Common.{inr, refl, sym, ap₂, arith, eq-eqb, ne_eqb}
 use Rattle.std.specs.Prelude.{⊤}
 use Rattle.std.specs.List.{AllByRecursion}
 use Rattle.std.proofs.lemmas.Bool.{cases_eq, cases_lt, true≢false}
@@ -9,6 +10,7 @@ use Rattle.set_sum.specs.Members.{IsBefore}
 use Rattle.set_sum.specs.declared.members.Member.{Member}
 use Rattle.set_sum.proofs.ListLemmas.{all_push, all_weaker}
 
+-- the member with this table, transposed or not
 abbrev pub member : ℕ → Bool → Member
 member table is_transposed = record { table = table; is_transposed = is_transposed }
 
@@ -22,6 +24,7 @@ before_by x y true false h = elim h [ inl low ↦ let l : x < y = low in omega a
 before_by x y false true h = elim h [ inl low ↦ let l : x < y = low in omega arith | inr same ↦ let e : x ≡ y = same.0 in omega arith ]
 before_by x y false false h = elim h [ inl low ↦ let l : x < y = low in omega arith | inr same ↦ absurd (true≢false (sym same.2)) ]
 
+-- a member that is before another has the lower place
 pub before-place : (m o : Member) → IsBefore m o → place m < place o
 before-place m o h = before_by m.table o.table m.is_transposed o.is_transposed h
 
@@ -31,6 +34,7 @@ by_place x y true false l = inl (let low : x < y = omega arith in low)
 by_place x y false true l = elim (cases_lt x y) [ inl low ↦ inl low | inr high ↦ inr (let e : x ≡ y = omega arith in e, refl, refl) ]
 by_place x y false false l = inl (let low : x < y = omega arith in low)
 
+-- a member with a lower place than another is before it
 pub place-before : (m o : Member) → place m < place o → IsBefore m o
 place-before m o l = by_place m.table o.table m.is_transposed o.is_transposed l
 
@@ -56,6 +60,7 @@ by_bit : (k : ℕ) (b : Bool) → ((b ≡ true) × (k % 2 ≡ 1)) ⊎ ((b ≡ fa
 by_bit k true h = elim h [ inl odd ↦ let e : k % 2 ≡ 1 = odd.1 in omega arith | inr even ↦ absurd (true≢false even.0) ]
 by_bit k false h = elim h [ inl odd ↦ absurd (true≢false (sym odd.0)) | inr even ↦ let e : k % 2 ≢ 1 = even.1 in omega arith ]
 
+-- the member made for a place has this place
 pub place-member_in : (k : ℕ) → place (member_in k) ≡ k
 place-member_in k =
     by_bit k (eqb (k % 2) 1) (elim (cases_eq (k % 2) 1) [ inl odd ↦ inl (eq-eqb (k % 2) 1 odd, odd) | inr even ↦ inr (ne_eqb (k % 2) 1 even, even) ])
@@ -75,9 +80,13 @@ abbrev pub AreAscending : List Member → Type 0
 AreAscending [] = ⊤
 AreAscending (m ∷ ms) = AllByRecursion (λ o. place m < place o) ms × AreAscending ms
 
+-- members each before all that follow it have ascending places
 pub ascending_from : (ms : List Member) → AllPairs IsBefore ms → AreAscending ms
 ascending_from [] h = tt
-ascending_from (m ∷ ms) h = (all_weaker (IsBefore m) (λ o. place m < place o) (before-place m) ms (recursion_from_All (IsBefore m) ms head), ascending_from ms tail)
+ascending_from (m ∷ ms) h = (
+  all_weaker (IsBefore m) (λ o. place m < place o) (before-place m) ms (recursion_from_All (IsBefore m) ms head),
+  ascending_from ms tail,
+)
   where
     head : All (IsBefore m) ms
     head = λ k d low. h 0 (suc k) d (omega arith) (omega arith)
@@ -85,11 +94,14 @@ ascending_from (m ∷ ms) h = (all_weaker (IsBefore m) (λ o. place m < place o)
     tail : AllPairs IsBefore ms
     tail = λ i j d low within. h (suc i) (suc j) d (omega arith) (omega arith)
 
+-- members with ascending places are each before all that follow it
 pub ascending_to : (ms : List Member) → AreAscending ms → AllPairs IsBefore ms
 ascending_to [] h = λ i j d low within. absurd (omega arith)
 ascending_to (m ∷ ms) h =
-    AllPairs-cons IsBefore m ms (All-from_recursion (IsBefore m) ms (all_weaker (λ o. place m < place o) (IsBefore m) (place-before m) ms h.0)) (ascending_to ms h.1)
+    AllPairs-cons IsBefore m ms (All-from_recursion (IsBefore m) ms (all_weaker (λ o. place m < place o) (IsBefore m) (place-before m) ms h.0))
+    (ascending_to ms h.1)
 
+-- ascending members and one with a higher place than all of them are ascending
 pub ascending_push : (ms : List Member) (m : Member) → AreAscending ms → AllByRecursion (λ o. place o < place m) ms → AreAscending (ms ++ m ∷ [])
 ascending_push [] m up below = (tt, tt)
 ascending_push (o ∷ ms) m up below = (all_push (λ p. place o < place p) ms m up.0 below.0, ascending_push ms m up.1 below.1)

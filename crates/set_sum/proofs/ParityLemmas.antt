@@ -20,7 +20,9 @@ raised_bounds n b good d bounds = λ path solves.
           subst (λ k. k ≤ length path) (sym (cond-false (eqb (d % 2) (blank_parity b)) d (d + 1) (ne_eqb (d % 2) (blank_parity b) other))) less
     ]
 
-pub told_bounds : (by_parity : Bool) (n : ℕ) (b : List ℕ) → IsBoardOf n b → (count : Count) → BoundsSolutions b count → BoundsSolutions b (told_of by_parity b count)
+-- a count that bounds a board's solutions still does where it is raised by parity
+pub told_bounds : (by_parity : Bool) (n : ℕ) (b : List ℕ) → IsBoardOf n b → (count : Count) → BoundsSolutions b count
+    → BoundsSolutions b (told_of by_parity b count)
 told_bounds true n b good (Finite d) bounds = raised_bounds n b good d bounds
 told_bounds true n b good Never none = none
 told_bounds false n b good count bounds = bounds

@@ -38,6 +38,7 @@ tells_once false tiles b d e one other =
     let q : cost tiles b other.path ≡ e = other.costs in
     omega arith
 
+-- a table tells no two numbers of a board
 pub part_once : (part : ShownPart) (b : List ℕ) (d e : ℕ) → PartSays part b (Finite d) → PartSays part b (Finite e) → d ≡ e
 part_once part b d e one other = tells_once part.is_folded part.tiles b d e one other
 
@@ -45,22 +46,27 @@ tells_either : (is_folded : Bool) (tiles b : List ℕ) (d : ℕ) → Tells is_fo
 tells_either true tiles b d one never = never one.board one.is_board one.places one.costs.path one.costs.leads
 tells_either false tiles b d one never = never one.path one.leads
 
+-- a table that tells a number of a board doesn't tell never of it
 pub part_either : (part : ShownPart) (b : List ℕ) (d : ℕ) → PartSays part b (Finite d) → ¬ PartSays part b Never
 part_either part b d one never = tells_either part.is_folded part.tiles b d one never
 
 -- ---- a lower bound of what paths cost
 
-tells_within : (is_folded : Bool) (tiles b : List ℕ) → IsBoard b → (d : ℕ) → Tells is_folded tiles b (Finite d) → (path : List ℕ) → LeadsHome tiles b path → d ≤ cost tiles b path
+tells_within : (is_folded : Bool) (tiles b : List ℕ) → IsBoard b → (d : ℕ) → Tells is_folded tiles b (Finite d) → (path : List ℕ)
+    → LeadsHome tiles b path → d ≤ cost tiles b path
 tells_within true tiles b board d says path leads = says.least b path board refl leads
 tells_within false tiles b board d says path leads = says.least path leads
 
-pub part_within : (part : ShownPart) (b : List ℕ) → IsBoard b → (d : ℕ) → PartSays part b (Finite d) → (path : List ℕ) → LeadsHome part.tiles b path → d ≤ cost part.tiles b path
+-- the number that a table tells of a board is at most what each path home costs its tiles
+pub part_within : (part : ShownPart) (b : List ℕ) → IsBoard b → (d : ℕ) → PartSays part b (Finite d) → (path : List ℕ) → LeadsHome part.tiles b path
+    → d ≤ cost part.tiles b path
 part_within part b board d says path leads = tells_within part.is_folded part.tiles b board d says path leads
 
 tells_none : (is_folded : Bool) (tiles b : List ℕ) → IsBoard b → Tells is_folded tiles b Never → (path : List ℕ) → ¬ LeadsHome tiles b path
 tells_none true tiles b board never path leads = never b board refl path leads
 tells_none false tiles b board never path leads = never path leads
 
+-- where a table tells never of a board, no path leads its tiles home
 pub part_none : (part : ShownPart) (b : List ℕ) → IsBoard b → PartSays part b Never → (path : List ℕ) → ¬ LeadsHome part.tiles b path
 part_none part b board never path leads = tells_none part.is_folded part.tiles b board never path leads
 
@@ -84,6 +90,7 @@ pub part_told : (part : Part) → IsExactPart part → (b : List ℕ) → IsBoar
 part_told (Full table) exact b board = count_some table exact b board
 part_told (Folded pattern) folded b board = folded_some pattern folded b board
 
+-- the tiles of an exact table are a pattern
 pub pattern_exact : (part : Part) → IsExactPart part → IsPattern (part_pattern part)
 pattern_exact (Full table) exact = exact.is_table.pattern
 pattern_exact (Folded pattern) folded = folded.pattern

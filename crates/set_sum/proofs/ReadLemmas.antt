@@ -1,5 +1,6 @@
 -- Lines as they are read, member by member.
-use Rattle.std.proofs.Common.{◌≡◌, ℕ, ◌+◌, ◌*◌, ◌<◌, ◌≤◌, ◌⊎◌, Bool, true, false, List, [], ◌∷◌, ◌++◌, length, Option, Some, None, inl, inr, refl, sym, ◌∙◌, ap, subst, arith, get_or, length-append, take}
+use Rattle.std.proofs.Common.{◌≡◌, ℕ, ◌+◌, ◌*◌, ◌<◌, ◌≤◌, ◌⊎◌, Bool, true, false, List, [], ◌∷◌, ◌++◌, length, Option, Some, None, inl, inr, refl}
+use Rattle.std.proofs.Common.{sym, ◌∙◌, ap, subst, arith, get_or, length-append, take}
 use Rattle.std.specs.Prelude.{Any}
 use Rattle.std.specs.List.{AllByRecursion}
 use Rattle.set_sum.specs.ReadLines.{MayFollow, IsReadAsSet, IsReadLine}
@@ -16,6 +17,7 @@ abbrev pub next_place : Option Member → ℕ
 next_place None = 0
 next_place (Some last) = place last + 1
 
+-- a member that may follow the last one has its place among those that may come next
 pub next-place : (last : Option Member) (m : Member) → MayFollow last m → next_place last ≤ place m
 next-place None m next = omega arith
 next-place (Some last) m next = let low : place last < place m = before-place last m next in omega arith
@@ -40,6 +42,7 @@ pub record HasMembers (tables : ℕ) (text rest : List ℕ) (kept : List Member)
   pub few : length kept ≤ next
   pub is_kept : IsKept tables members kept is_there
 
+-- behind the word of a set, no member is read yet and none is missing
 pub no_members : (tables : ℕ) (text rest : List ℕ) → text ≡ 115 ∷ 101 ∷ 116 ∷ 32 ∷ rest → HasMembers tables text (32 ∷ rest) [] true 0
 no_members tables text rest is = record {
   members = [];
@@ -52,7 +55,8 @@ no_members tables text rest is = record {
   is_kept = (refl, tt);
 }
 
-module _ (tables : ℕ) (text rest : List ℕ) (kept : List Member) (is_there : Bool) (next : ℕ) (m : Member) (behind : List ℕ) (so_far : HasMembers tables text (32 ∷ rest) kept is_there next)
+module _ (tables : ℕ) (text rest : List ℕ) (kept : List Member) (is_there : Bool) (next : ℕ) (m : Member) (behind : List ℕ)
+    (so_far : HasMembers tables text (32 ∷ rest) kept is_there next)
     (short : m.table < 100) (up : next ≤ place m) (is : rest ≡ member_text m ++ behind) where
   whole_more : text ≡ 115 ∷ 101 ∷ 116 ∷ (members_text (so_far.members ++ m ∷ []) ++ behind)
   whole_more =
@@ -60,20 +64,24 @@ module _ (tables : ℕ) (text rest : List ℕ) (kept : List Member) (is_there : 
       ap (λ s. 115 ∷ 101 ∷ 116 ∷ (members_text so_far.members ++ 32 ∷ s)) is ∙
       ap (λ s. 115 ∷ 101 ∷ 116 ∷ s) (sym (members_text-push so_far.members m behind))
 
-  more : (keeps : List Member) (there : Bool) → length keeps ≤ place m + 1 → IsKept tables (so_far.members ++ m ∷ []) keeps there → HasMembers tables text behind keeps there (place m + 1)
+  more : (keeps : List Member) (there : Bool) → length keeps ≤ place m + 1 → IsKept tables (so_far.members ++ m ∷ []) keeps there
+      → HasMembers tables text behind keeps there (place m + 1)
   more keeps there few is_kept = record {
     members = so_far.members ++ m ∷ [];
     whole = whole_more;
     short = all_push (λ o. o.table < 100) so_far.members m so_far.short short;
-    ascending = ascending_push so_far.members m so_far.ascending (all_weaker (λ o. place o < next) (λ o. place o < place m) (λ o low. omega arith) so_far.members so_far.below);
-    below = all_push (λ o. place o < place m + 1) so_far.members m (all_weaker (λ o. place o < next) (λ o. place o < place m + 1) (λ o low. omega arith) so_far.members so_far.below) (omega arith);
+    ascending = ascending_push so_far.members m so_far.ascending
+        (all_weaker (λ o. place o < next) (λ o. place o < place m) (λ o low. omega arith) so_far.members so_far.below);
+    below = all_push (λ o. place o < place m + 1) so_far.members m
+        (all_weaker (λ o. place o < next) (λ o. place o < place m + 1) (λ o low. omega arith) so_far.members so_far.below) (omega arith);
     last = inr (Any-right (λ o. place o + 1 ≡ place m + 1) so_far.members (m ∷ []) (Any-here (λ o. place o + 1 ≡ place m + 1) m [] refl));
     few = few;
     is_kept = is_kept;
   }
 
   -- a member is kept where its table is there
-  pub more_there : m.table < tables → (keeps : List Member) → keeps ≡ kept ++ m ∷ [] → length keeps ≤ place m + 1 → HasMembers tables text behind keeps is_there (place m + 1)
+  pub more_there : m.table < tables → (keeps : List Member) → keeps ≡ kept ++ m ∷ [] → length keeps ≤ place m + 1
+      → HasMembers tables text behind keeps is_there (place m + 1)
   more_there low keeps pushed few = more keeps is_there few (go is_there so_far.is_kept)
     where
       go : (there : Bool) → IsKept tables so_far.members kept there → IsKept tables (so_far.members ++ m ∷ []) keeps there
@@ -82,29 +90,36 @@ module _ (tables : ℕ) (text rest : List ℕ) (kept : List Member) (is_there : 
 
   -- any other is not
   pub more_missing : tables ≤ m.table → HasMembers tables text behind kept false (place m + 1)
-  more_missing high = more kept false (let few = so_far.few in omega arith) (Any-right (λ o. tables ≤ o.table) so_far.members (m ∷ []) (Any-here (λ o. tables ≤ o.table) m [] high))
+  more_missing high = more kept false (let few = so_far.few in
+      omega arith) (Any-right (λ o. tables ≤ o.table) so_far.members (m ∷ []) (Any-here (λ o. tables ≤ o.table) m [] high))
 
 -- a member is kept where its table is there
 abbrev pub IsPushed : ℕ → Member → List Member → Bool → List Member → Bool → Type 0
 IsPushed tables m kept is_there keeps there =
     ((m.table < tables) × (keeps ≡ kept ++ m ∷ []) × (there ≡ is_there)) ⊎ ((tables ≤ m.table) × (keeps ≡ kept) × (there ≡ false))
 
-pub member_more : (tables : ℕ) (text rest : List ℕ) (kept : List Member) (is_there : Bool) (last : Option Member) (m : Member) (behind : List ℕ) → HasMembers tables text (32 ∷ rest) kept is_there (next_place last)
-    → m.table < 100 → MayFollow last m → rest ≡ member_text m ++ behind → (keeps : List Member) (there : Bool) → IsPushed tables m kept is_there keeps there → HasMembers tables text behind keeps there (place m + 1)
+-- a next member of the line, kept where its table is there, is one more of those read
+pub member_more : (tables : ℕ) (text rest : List ℕ) (kept : List Member) (is_there : Bool) (last : Option Member) (m : Member) (behind : List ℕ)
+    → HasMembers tables text (32 ∷ rest) kept is_there (next_place last)
+    → m.table < 100 → MayFollow last m → rest ≡ member_text m ++ behind → (keeps : List Member) (there : Bool)
+    → IsPushed tables m kept is_there keeps there → HasMembers tables text behind keeps there (place m + 1)
 member_more tables text rest kept is_there last m behind so_far short next is keeps there pushed = elim pushed [
   | inl low ↦
       let up = next-place last m next in
       let few : length kept ≤ next_place last = so_far.few in
       let count : length keeps ≡ length kept + 1 = ap length low.1 ∙ length-append kept (m ∷ []) in
-      subst (λ t. HasMembers tables text behind keeps t (place m + 1)) (sym low.2) (more_there tables text rest kept is_there (next_place last) m behind so_far short up is low.0 keeps low.1 (omega arith))
+      subst (λ t. HasMembers tables text behind keeps t (place m + 1)) (sym low.2)
+      (more_there tables text rest kept is_there (next_place last) m behind so_far short up is low.0 keeps low.1 (omega arith))
   | inr high ↦
       let up = next-place last m next in
       subst (λ t. HasMembers tables text behind keeps t (place m + 1)) (sym high.2) (
-      subst (λ k. HasMembers tables text behind k false (place m + 1)) (sym high.1) (more_missing tables text rest kept is_there (next_place last) m behind so_far short up is high.0))
+      subst (λ k. HasMembers tables text behind k false (place m + 1)) (sym high.1)
+      (more_missing tables text rest kept is_there (next_place last) m behind so_far short up is high.0))
 ]
 
 -- there is room for a member whose table is there, where there are few tables
-pub member_room : (tables : ℕ) (text rest : List ℕ) (kept : List Member) (is_there : Bool) (last : Option Member) (m : Member) → HasMembers tables text rest kept is_there (next_place last)
+pub member_room : (tables : ℕ) (text rest : List ℕ) (kept : List Member) (is_there : Bool) (last : Option Member) (m : Member)
+    → HasMembers tables text rest kept is_there (next_place last)
     → MayFollow last m → m.table < tables → length kept < 2 * tables
 member_room tables text rest kept is_there last m so_far next low =
     let few : length kept ≤ next_place last = so_far.few in
@@ -113,7 +128,8 @@ member_room tables text rest kept is_there last m so_far next low =
     omega arith
 
 -- LF ends the line
-pub line_read : (tables : ℕ) (text rest : List ℕ) (kept : List Member) (is_there : Bool) (next : ℕ) → HasMembers tables text (10 ∷ rest) kept is_there (next + 1)
+pub line_read : (tables : ℕ) (text rest : List ℕ) (kept : List Member) (is_there : Bool) (next : ℕ)
+    → HasMembers tables text (10 ∷ rest) kept is_there (next + 1)
     → (set : Option (List Member)) → ((is_there ≡ true) × (set ≡ Some kept)) ⊎ ((is_there ≡ false) × (set ≡ None)) → IsReadLine tables text set rest
 line_read tables text rest kept is_there next has set end = record {
   members = has.members;
@@ -146,7 +162,9 @@ ascending_middle : (xs : List Member) (x : Member) (ys : List Member) → AreAsc
 ascending_middle [] x ys up = tt
 ascending_middle (y ∷ xs) x ys up = (all_middle (λ z. place y < place z) xs x ys up.0, ascending_middle xs x ys up.1)
 
-pub next_member : (tables : ℕ) (text rest : List ℕ) (kept : List Member) (is_there : Bool) (last : Option Member) → HasMembers tables text (32 ∷ rest) kept is_there (next_place last)
+-- where the text begins with a line, a member that may come next is at the front of the rest
+pub next_member : (tables : ℕ) (text rest : List ℕ) (kept : List Member) (is_there : Bool) (last : Option Member)
+    → HasMembers tables text (32 ∷ rest) kept is_there (next_place last)
     → (members : List Member) (behind : List ℕ) → IsLine members → text ≡ set_line members ++ behind → NextMember rest last
 next_member tables text rest kept is_there last has members behind line is = record {
   member = on.member;
@@ -165,7 +183,8 @@ next_member tables text rest kept is_there last has members behind line is = rec
     on =
         let s : List ℕ = members_text has.members ++ 32 ∷ rest in
         let t : List ℕ = members_text members ++ 10 ∷ behind in
-        goes_on has.members members rest behind has.short line.short (tail_is 116 116 s t (tail_is 101 101 (116 ∷ s) (116 ∷ t) (tail_is 115 115 (101 ∷ 116 ∷ s) (101 ∷ 116 ∷ t) same)))
+        goes_on has.members members rest behind has.short line.short
+        (tail_is 116 116 s t (tail_is 101 101 (116 ∷ s) (116 ∷ t) (tail_is 115 115 (101 ∷ 116 ∷ s) (101 ∷ 116 ∷ t) same)))
 
     first : BeginsWithEnd (members_text on.others ++ 10 ∷ behind)
     first = begins on.others 10 behind (inr refl)
@@ -182,6 +201,7 @@ next_member tables text rest kept is_there last has members behind line is = rec
     ]
 
 -- the line of a set begins with the word `set` and a space
-pub begins_with_set : (text : List ℕ) (members : List Member) (behind : List ℕ) → IsLine members → text ≡ set_line members ++ behind → take 4 text ≡ 115 ∷ 101 ∷ 116 ∷ 32 ∷ []
+pub begins_with_set : (text : List ℕ) (members : List Member) (behind : List ℕ) → IsLine members → text ≡ set_line members ++ behind
+    → take 4 text ≡ 115 ∷ 101 ∷ 116 ∷ 32 ∷ []
 begins_with_set text [] behind line is = absurd (let some : 0 < 0 = line.some in omega arith)
 begins_with_set text (m ∷ members) behind line is = ap (take 4) (is ∙ set_line-text (m ∷ members) behind)

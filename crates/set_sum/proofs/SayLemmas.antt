@@ -15,10 +15,13 @@ use Rattle.set_sum.proofs.SumLemmas.{set_bounds, set_once}
 pub says_once : (v : ShownBundle) (number : ℕ) (b : List ℕ) (c d : Count) → BundleSays v number b c → BundleSays v number b d → c ≡ d
 says_once v number b c d one other = set_once v.tables (set_of v number) b c d one.says other.says
 
+-- the set of a bundle with a number below their count has disjoint members of its side
 pub set_is : (v : ShownBundle) → IsBundle v → (number : ℕ) → number < length v.sets → IsSetOf v.side v.tables (set_of v number)
 set_is v is number there = all_at (IsSetOf v.side v.tables) v.sets number [] there is.each
 
-pub says_bounds : (v : ShownBundle) → IsBundle v → (number : ℕ) (b : List ℕ) (count : Count) → IsBoardOf v.side b → BundleSays v number b count → BoundsSolutions b count
+-- what a set of a bundle says of a board bounds the board's solutions
+pub says_bounds : (v : ShownBundle) → IsBundle v → (number : ℕ) (b : List ℕ) (count : Count) → IsBoardOf v.side b → BundleSays v number b count
+    → BoundsSolutions b count
 says_bounds v is number b count good says = set_bounds v.side v.tables (set_of v number) (set_is v is number says.there) b good count says.says
 
 reaches_bounds : (b : List ℕ) (r : ℕ) (count : Count) → CountReaches count r → BoundsSolutions b count → IsBounded b r
@@ -26,7 +29,8 @@ reaches_bounds b r (Finite d) enough bounds = λ path solves. let low : r ≤ d 
 reaches_bounds b r Never enough none = λ path solves. absurd (none path solves)
 
 -- a set that says at least r bounds the solutions by r
-pub at_least_bounds : (v : ShownBundle) → IsBundle v → (by_parity : Bool) (number : ℕ) (b : List ℕ) (r : ℕ) → IsBoardOf v.side b → SaysAtLeast v by_parity number b r → IsBounded b r
+pub at_least_bounds : (v : ShownBundle) → IsBundle v → (by_parity : Bool) (number : ℕ) (b : List ℕ) (r : ℕ) → IsBoardOf v.side b
+    → SaysAtLeast v by_parity number b r → IsBounded b r
 at_least_bounds v is by_parity number b r good at_least =
     reaches_bounds b r (told_of by_parity b at_least.count) at_least.enough
     (told_bounds by_parity v.side b good at_least.count (says_bounds v is number b at_least.count good at_least.says))

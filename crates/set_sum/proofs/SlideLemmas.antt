@@ -29,6 +29,7 @@ use Rattle.set_sum.proofs.StillLemmas.{at-back, near_turned, slid-back, slid-nea
 pub blank_first : (n : ℕ) (b cells : List ℕ) → IsBoardOf n b → AreCellsOf cells b → slice_index cells 0 ≡ blank b
 blank_first n b cells good are = are 0 (let some = cells_least n b good in let size = good.size in omega arith)
 
+-- the blank of a board of side n is in one of its n times n cells
 pub blank_below : (n : ℕ) (b : List ℕ) → IsBoardOf n b → blank b < n * n
 blank_below n b good = cell_of-below n b good 0 (let some = cells_least n b good in omega arith)
 
@@ -37,7 +38,8 @@ pub number_at : (n c : ℕ) (numbers : List ℕ) → c < n * n → slice_index n
 number_at n c numbers inside = sym (get_or-take (n * n) numbers c 0 inside)
 
 -- the numbers that are kept are the board's
-pub shown_board : (n : ℕ) (b numbers : List ℕ) → IsBoardOf n b → length numbers ≡ 25 → ((c : ℕ) → c < length b → slice_index numbers c ≡ at b c) → take (n * n) numbers ≡ b
+pub shown_board : (n : ℕ) (b numbers : List ℕ) → IsBoardOf n b → length numbers ≡ 25 → ((c : ℕ) → c < length b → slice_index numbers c ≡ at b c)
+    → take (n * n) numbers ≡ b
 shown_board n b numbers good room each =
     let size = good.size in
     let most = cells_most n b good in
@@ -47,6 +49,7 @@ shown_board n b numbers good room each =
 
 -- ---- the numbers after a slide
 
+-- setting the blank's cell to the tile and the tile's to 0 makes the front numbers the slid board
 pub numbers_slid : (n : ℕ) (numbers : List ℕ) → IsBoardOf n (take (n * n) numbers) → (c : ℕ) → c < n * n → (from tile to : ℕ)
     → from ≡ blank (take (n * n) numbers) → tile ≡ at (take (n * n) numbers) c → to ≡ c
     → take (n * n) (slice_set (slice_set numbers from tile) to 0) ≡ slid (take (n * n) numbers) c
@@ -63,6 +66,7 @@ numbers_slid n numbers good c inside from tile to from_is tile_is to_is =
 
 -- ---- the cells on the transposed board
 
+-- setting the transposed cells of the tile and the blank gives the cells on the slid board transposed
 pub transposed_after : (n : ℕ) (b : List ℕ) (good : IsBoardOf n b) (c : ℕ) (near : Adjacent n (blank b) c) (cells : List ℕ) (i from to : ℕ)
     → length cells ≡ 25 → AreCellsOf cells (transposed b) → i ≡ transposed_cell n (at b c) → from ≡ transposed_cell n (blank b) → to ≡ transposed_cell n c
     → AreCellsOf (slice_set (slice_set cells i from) 0 to) (transposed (slid b c))
@@ -78,18 +82,22 @@ pub moved_by : (n : ℕ) (b : List ℕ) → IsBoardOf n b → (move : Move) (o :
 moved_by n b good move o leads = ap (λ side. option_map (slid b) (step_of side (blank b) move)) (side_of-board n b good) ∙ ap (option_map (slid b)) leads
 
 -- as the code finds it
-pub step_leads : (n : ℕ) (b cells : List ℕ) → IsBoardOf n b → AreCellsOf cells b → (move : Move) (side : ℕ) → side ≡ n → (o : Option ℕ) → o ≡ step_of side (slice_index cells 0) move
+pub step_leads : (n : ℕ) (b cells : List ℕ) → IsBoardOf n b → AreCellsOf cells b → (move : Move) (side : ℕ) → side ≡ n → (o : Option ℕ)
+    → o ≡ step_of side (slice_index cells 0) move
     → step_of n (blank b) move ≡ o
 step_leads n b cells good are move side same o is =
     ap (λ z. step_of n z move) (sym (blank_first n b cells good are)) ∙ ap (λ m. step_of m (slice_index cells 0) move) (sym same) ∙ sym is
 
+-- a move of the blank that stays on the board leads to an adjacent cell
 pub step_adjacent : (n : ℕ) (b : List ℕ) → IsBoardOf n b → (move : Move) (to : ℕ) → step_of n (blank b) move ≡ Some to → Adjacent n (blank b) to
 step_adjacent n b good move to leads = (step_of-inside n (blank b) move to good.low good.high (blank_below n b good) leads, move, leads)
 
 module _ (v : ShownBundle) (b next : List ℕ) (step : Step) (is : IsStepFrom v b next step) where
+  -- a slide to the cell that a step left leads back to the board before it
   pub step_back : slid next step.from ≡ b
   step_back = ap (λ x. slid x step.from) (sym is.leads) ∙ ap (slid (slid b is.to)) is.from ∙ slid-back v.side b is.board is.to is.near
 
+  -- the cell that a step left is adjacent to the blank's on the board after it
   pub step_near : Adjacent v.side (blank next) step.from
   step_near =
       subst (λ x. Adjacent v.side (blank x) step.from) is.leads
@@ -107,9 +115,11 @@ module _ (v : ShownBundle) (b next : List ℕ) (step : Step) (is : IsStepFrom v 
 
 -- ---- where nothing is known
 
+-- with no place set, what is known is known of any board
 pub known_none : (v : ShownBundle) (b : List ℕ) (known : Known) → length known.entries ≡ 32 → known.places ≡ 0 → IsKnownOf v b known
 known_none v b known room none = record {
   size = room;
   small = let few : 0 < 2 ^ 32 = lit< tt in omega arith;
-  each = λ m there set. absurd (let clear : bit_at known.places (place_of m) ≡ 0 = ap (λ k. bit_at k (place_of m)) none ∙ bit_at-zero (place_of m) in omega arith);
+  each = λ m there set. absurd (let clear : bit_at known.places (place_of m) ≡ 0 = ap (λ k. bit_at k (place_of m)) none ∙ bit_at-zero (place_of m) in
+      omega arith);
 }

@@ -11,7 +11,8 @@ use Rattle.puz_board.proofs.BoardLemmas.{IsBoardOf-slid, at-slid_back, blank-sli
 use Rattle.puz_board.proofs.BoardWays.{Adjacent-apart}
 use Rattle.puz_board.proofs.CellLemmas.{reverse_of-takes_back}
 use Rattle.puz_board.proofs.MovedLemmas.{moved-reverse_of}
-use Rattle.puz_board.proofs.TransposeLemmas.{Adjacent-transposed, IsBoardOf-transposed, at-transposed, blank-transposed, cell_below, cell_twice, slid-transposed}
+use Rattle.puz_board.proofs.TransposeLemmas.{Adjacent-transposed, IsBoardOf-transposed, at-transposed, blank-transposed, cell_below, cell_twice}
+use Rattle.puz_board.proofs.TransposeLemmas.{slid-transposed}
 use Rattle.pat_place.specs.Placements.{placement_of}
 use Rattle.pat_place.proofs.SlideLemmas.{AreTiles, placement_of-slid_other}
 use Rattle.tab_rule.specs.Counts.{TableSays}
@@ -26,6 +27,7 @@ use Rattle.set_sum.specs.declared.members.Member.{Member}
 -- ---- a step, and the step back
 
 module _ (n : ℕ) (b : List ℕ) (good : IsBoardOf n b) (c : ℕ) (near : Adjacent n (blank b) c) where
+  -- the blank's cell is on the board, whatever cell is adjacent to it
   pub blank_inside : blank b < n * n
   blank_inside = cell_of-below n b good 0 (let some = cells_least n b good in omega arith)
 
@@ -116,21 +118,26 @@ module _ (n : ℕ) (b : List ℕ) (good : IsBoardOf n b) (c : ℕ) (near : Adjac
 -- ---- what a member says
 
 module _ (n : ℕ) (b : List ℕ) (good : IsBoardOf n b) (c : ℕ) (near : Adjacent n (blank b) c) where
+  -- the board, when it is transposed, is a board of the same side
   pub turned : IsBoardOf n (transposed b)
   turned = IsBoardOf-transposed n b good
 
+  -- the transposed cell of one adjacent to the blank is adjacent to the transposed board's blank
   pub near_turned : Adjacent n (blank (transposed b)) (transposed_cell n c)
   near_turned =
       subst (λ z. Adjacent n z (transposed_cell n c)) (sym (blank-transposed n b good))
       (Adjacent-transposed n good.low good.high (blank b) c (blank_inside n b good c near) near)
 
+  -- the tile in the transposed cell of the transposed board is the transposed tile of the cell
   pub tile_turned : at (transposed b) (transposed_cell n c) ≡ transposed_cell n (at b c)
   tile_turned =
       at-transposed n b good (transposed_cell n c) (cell_below n good.low good.high c near.0) ∙
       ap (λ x. transposed_cell n (at b x)) (cell_twice n good.low good.high c near.0)
 
-  says_still : (part : ShownPart) → AreTiles n part.tiles → (is_transposed : Bool) → has part.tiles (cond is_transposed (transposed_cell n (at b c)) (at b c)) ≡ false
-      → (count : Count) → PartSays part (cond is_transposed (transposed b) b) count → PartSays part (cond is_transposed (transposed (slid b c)) (slid b c)) count
+  says_still : (part : ShownPart) → AreTiles n part.tiles → (is_transposed : Bool)
+      → has part.tiles (cond is_transposed (transposed_cell n (at b c)) (at b c)) ≡ false
+      → (count : Count) → PartSays part (cond is_transposed (transposed b) b) count
+      → PartSays part (cond is_transposed (transposed (slid b c)) (slid b c)) count
   says_still part all true other count says =
       subst (λ x. PartSays part x count) (slid-transposed n b good c near.0)
       (tells_still n (transposed b) turned (transposed_cell n c) near_turned part.tiles (ap (has part.tiles) tile_turned ∙ other) all part.is_folded count says)
@@ -142,7 +149,8 @@ module _ (n : ℕ) (b : List ℕ) (good : IsBoardOf n b) (c : ℕ) (near : Adjac
   member_still tables m all other count says = says_still (table_of tables m) all m.is_transposed other count says
 
 -- and of the board before it
-pub member_before : (n : ℕ) (b : List ℕ) (good : IsBoardOf n b) (c : ℕ) (near : Adjacent n (blank b) c) (tables : List ShownPart) (m : Member) → AreTiles n (table_pattern tables m)
+pub member_before : (n : ℕ) (b : List ℕ) (good : IsBoardOf n b) (c : ℕ) (near : Adjacent n (blank b) c) (tables : List ShownPart) (m : Member)
+    → AreTiles n (table_pattern tables m)
     → has_tile n tables m (at b c) ≡ false → (count : Count) → MemberSays tables m (slid b c) count → MemberSays tables m b count
 member_before n b good c near tables m all other count says =
     subst (λ x. MemberSays tables m x count) (slid-back n b good c near)

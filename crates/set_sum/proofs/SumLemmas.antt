@@ -37,7 +37,9 @@ module _ (n : ℕ) (tables : List ShownPart) (b : List ℕ) (good : IsBoardOf n 
     | inr more ↦ never_none ms all.1 more
   ]
 
-pub set_bounds : (n : ℕ) (tables : List ShownPart) (set : List Member) → IsSetOf n tables set → (b : List ℕ) → IsBoardOf n b → (count : Count) → SetSays tables set b count → BoundsSolutions b count
+-- what a set of disjoint members says of a board bounds the board's solutions
+pub set_bounds : (n : ℕ) (tables : List ShownPart) (set : List Member) → IsSetOf n tables set → (b : List ℕ) → IsBoardOf n b → (count : Count)
+    → SetSays tables set b count → BoundsSolutions b count
 set_bounds n tables set is b good (Finite d) says = λ path solves.
     let patterns : List (List ℕ) = patterns_of_set n tables set in
     let low : d ≤ total_cost patterns b path = sum_within n tables b good path solves set is.patterns d says in
@@ -64,6 +66,7 @@ module _ (tables : List ShownPart) where
     | inr more ↦ sum_either ms b one.1 one.3 more
   ]
 
+  -- a set says no two things of a board
   pub set_once : (set : List Member) (b : List ℕ) (c d : Count) → SetSays tables set b c → SetSays tables set b d → c ≡ d
   set_once set b (Finite c) (Finite d) one other = ap Finite (sum_once set b c d one other)
   set_once set b (Finite c) Never one other = absurd (sum_either set b c one other)
@@ -72,7 +75,9 @@ module _ (tables : List ShownPart) where
 
   -- ---- member by member
 
-  pub AddUpTo-push : (set : List Member) (m : Member) (b : List ℕ) (d e : ℕ) → AddUpTo tables set b d → MemberSays tables m b (Finite e) → AddUpTo tables (set ++ m ∷ []) b (d + e)
+  -- one member more adds the number that it says to the sum of a set
+  pub AddUpTo-push : (set : List Member) (m : Member) (b : List ℕ) (d e : ℕ) → AddUpTo tables set b d → MemberSays tables m b (Finite e)
+      → AddUpTo tables (set ++ m ∷ []) b (d + e)
   AddUpTo-push [] m b d e sum says = let z : d ≡ 0 = sum in (e, 0, says, refl, let g : d + e ≡ e + 0 = omega arith in g)
   AddUpTo-push (x ∷ set) m b d e sum says =
       let z : d ≡ sum.0 + sum.1 = sum.4 in
@@ -84,7 +89,8 @@ module _ (tables : List ShownPart) where
   abbrev pub IsTold : List ℕ → Member → Type 0
   IsTold b m = (count : Count) × MemberSays tables m b count
 
-  one_more_told : (m : Member) (ms : List Member) (b : List ℕ) (c d : Count) → MemberSays tables m b c → SetSays tables ms b d → (count : Count) × SetSays tables (m ∷ ms) b count
+  one_more_told : (m : Member) (ms : List Member) (b : List ℕ) (c d : Count) → MemberSays tables m b c → SetSays tables ms b d → (count : Count)
+      × SetSays tables (m ∷ ms) b count
   one_more_told m ms b (Finite c) (Finite d) one more = (Finite (c + d), (c, d, one, more, refl))
   one_more_told m ms b (Finite c) Never one more = (Never, Any-later (λ x. MemberSays tables x b Never) m ms more)
   one_more_told m ms b Never d one more = (Never, Any-here (λ x. MemberSays tables x b Never) m ms one)

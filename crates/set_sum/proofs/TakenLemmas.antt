@@ -14,6 +14,7 @@ use Rattle.set_sum.proofs.AnyLemmas.{Any-cases, Any-either, Any-here, Any-later,
 -- ---- one element more
 
 module _ {X : Type 0} (R : X → X → Type 0) where
+  -- two related elements of a list with one more are in the list, or one of the list is related to it
   pub two_push : (ps : List X) (q : X) → HaveTwo R (ps ++ q ∷ []) → HaveTwo R ps ⊎ Any (λ p. R p q) ps
   two_push [] q h = elim h [ inl some ↦ absurd (Any-none (R q) some) | inr more ↦ absurd more ]
   two_push (p ∷ ps) q h = elim h [
@@ -30,6 +31,7 @@ module _ {X : Type 0} (R : X → X → Type 0) where
     ]
   ]
 
+  -- an element related to one before it makes two of the list, whatever follows
   pub two_new : (ps : List X) (q : X) (rest : List X) → Any (λ p. R p q) ps → HaveTwo R (ps ++ q ∷ rest)
   two_new [] q rest h = absurd (Any-none (λ p. R p q) h)
   two_new (p ∷ ps) q rest h = elim (Any-cases (λ p. R p q) p ps h) [
@@ -48,6 +50,7 @@ pub record IsTaken (patterns : List (List ℕ)) (mask : ℕ) : Type 0 where
   pub covers : (t : ℕ) → bit_at mask t ≡ 1 → Any (λ p. has p t ≡ true) patterns
   pub covered : (t : ℕ) → Any (λ p. has p t ≡ true) patterns → bit_at mask t ≡ 1
 
+-- no tile is taken by no patterns at all
 pub taken_none : IsTaken [] 0
 taken_none = record {
   disjoint = λ h. h;
@@ -62,6 +65,7 @@ module _ (ps : List (List ℕ)) (mask m : ℕ) (q : List ℕ) (taken : IsTaken p
   of_bit : (t : ℕ) → bit_at m t ≡ 1 → has q t ≡ true
   of_bit t set = sym (ap (λ s. has s t) tiles) ∙ has-numbers_below 32 m t (in_below m 32 t fits set) set
 
+  -- a pattern that shares no tile with the taken ones is taken by joining its mask
   pub taken_more : bit_and mask m ≡ 0 → IsTaken (ps ++ q ∷ []) (bit_or mask m)
   taken_more none = record {
     disjoint = λ h. elim (two_push Overlap ps q h) [
@@ -86,6 +90,7 @@ module _ (ps : List (List ℕ)) (mask m : ℕ) (q : List ℕ) (taken : IsTaken p
     ];
   }
 
+  -- a pattern that shares a tile with the taken ones makes the patterns overlap, whatever follows
   pub taken_meets : bit_and mask m ≢ 0 → (rest : List (List ℕ)) → HaveOverlap (ps ++ q ∷ rest)
   taken_meets some rest =
       let both : ℕ = bit_and mask m in

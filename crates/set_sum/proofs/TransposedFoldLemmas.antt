@@ -8,7 +8,9 @@ use Rattle.puz_board.specs.Paths.{IsPath}
 use Rattle.puz_board.specs.Transposing.{transposed, transposed_cell, transposed_tiles}
 use Rattle.puz_board.proofs.BoardLemmas.{side_of-board}
 use Rattle.puz_board.proofs.HasLemmas.{has-here, has-later, has_cases, has_from_all}
-use Rattle.puz_board.proofs.TransposeLemmas.{AreInside, AreTransposed, IsBoardOf-transposed, cell_below, cell_of-transposed, cell_twice, cost-transposed, leads-transposed, least_costs, transposed-twice, transposed_tiles-are, transposed_tiles-inside}
+use Rattle.puz_board.proofs.TransposeLemmas.{AreInside, AreTransposed, IsBoardOf-transposed, cell_below, cell_of-transposed, cell_twice}
+use Rattle.puz_board.proofs.TransposeLemmas.{cost-transposed, leads-transposed, least_costs, transposed-twice, transposed_tiles-are}
+use Rattle.puz_board.proofs.TransposeLemmas.{transposed_tiles-inside}
 use Rattle.pat_place.specs.Placements.{placement_of}
 use Rattle.tab_rule.specs.FoldedTables.{IsFoldedCost, FoldedTableSays, IsFoldedNever}
 use Rattle.tab_rule.specs.declared.tables.Count.{Count}
@@ -32,10 +34,12 @@ module _ (n : ℕ) (low : 2 ≤ n) (high : n ≤ 5) (tiles others : List ℕ) (a
   turned_cell : (b : List ℕ) → IsBoardOf n b → (t : ℕ) → has others t ≡ true → cell_of t (transposed b) ≡ transposed_cell n (cell_of (transposed_cell n t) b)
   turned_cell b good t is =
       let inside = also t is in
-      ap (λ u. cell_of u (transposed b)) (sym (cell_twice n low high t inside)) ∙ cell_of-transposed n b good (transposed_cell n t) (cell_below n low high t inside)
+      ap (λ u. cell_of u (transposed b)) (sym (cell_twice n low high t inside))
+      ∙ cell_of-transposed n b good (transposed_cell n t) (cell_below n low high t inside)
 
   -- transposed they have the transposed tiles in the same cells
-  places-transposed : (x y : List ℕ) → IsBoardOf n x → IsBoardOf n y → placement_of tiles x ≡ placement_of tiles y → placement_of others (transposed x) ≡ placement_of others (transposed y)
+  places-transposed : (x y : List ℕ) → IsBoardOf n x → IsBoardOf n y → placement_of tiles x ≡ placement_of tiles y
+      → placement_of others (transposed x) ≡ placement_of others (transposed y)
   places-transposed x y good board same = all_cells others (transposed x) (transposed y) each
     where
       each : (t : ℕ) → has others t ≡ true → cell_of t (transposed x) ≡ cell_of t (transposed y)
@@ -46,6 +50,7 @@ module _ (n : ℕ) (low : 2 ≤ n) (high : n ≤ 5) (tiles others : List ℕ) (a
 -- ---- folded tables
 
 module _ (n : ℕ) (tiles : List ℕ) (all : AllByRecursion (λ t. t < n * n) tiles) (b : List ℕ) (good : IsBoardOf n b) where
+  -- what the tiles become on the transposed board
   abbrev pub others : List ℕ
   others = transposed_tiles n tiles
 
@@ -61,12 +66,14 @@ module _ (n : ℕ) (tiles : List ℕ) (all : AllByRecursion (λ t. t < n * n) ti
   turned : IsBoardOf n (transposed b)
   turned = IsBoardOf-transposed n b good
 
-  to_others : (x : List ℕ) → IsBoardOf n x → placement_of tiles x ≡ placement_of tiles (transposed b) → placement_of others (transposed x) ≡ placement_of others b
+  to_others : (x : List ℕ) → IsBoardOf n x → placement_of tiles x ≡ placement_of tiles (transposed b)
+      → placement_of others (transposed x) ≡ placement_of others b
   to_others x board same =
       places-transposed n good.low good.high tiles others are (transposed_tiles-inside n tiles) x (transposed b) board turned same ∙
       ap (placement_of others) (transposed-twice n b good)
 
-  to_tiles : (x : List ℕ) → IsBoardOf n x → placement_of others x ≡ placement_of others b → placement_of tiles (transposed x) ≡ placement_of tiles (transposed b)
+  to_tiles : (x : List ℕ) → IsBoardOf n x → placement_of others x ≡ placement_of others b
+      → placement_of tiles (transposed x) ≡ placement_of tiles (transposed b)
   to_tiles x board same = places-transposed n good.low good.high others tiles back inside x b board good same
 
   folded_cost : (d : ℕ) → IsFoldedCost n tiles (placement_of tiles (transposed b)) d → IsFoldedCost n others (placement_of others b) d
@@ -81,14 +88,17 @@ module _ (n : ℕ) (tiles : List ℕ) (all : AllByRecursion (λ t. t < n * n) ti
         least = λ x path good_x same leads.
             let walk : IsPath n (blank x) path = subst (λ m. IsPath m (blank x) path) (side_of-board n x good_x) leads.walk in
             let low : d ≤ cost tiles (transposed x) (map (transposed_cell n) path) =
-            is.least (transposed x) (map (transposed_cell n) path) (IsBoardOf-transposed n x good_x) (to_tiles x good_x same) (leads-transposed n tiles others are inside x good_x path leads) in
+            is.least (transposed x) (map (transposed_cell n) path) (IsBoardOf-transposed n x good_x) (to_tiles x good_x same)
+            (leads-transposed n tiles others are inside x good_x path leads) in
             subst (λ k. d ≤ k) (sym (cost-transposed n tiles others are path x good_x walk)) low;
       }
 
   folded_never : IsFoldedNever n tiles (placement_of tiles (transposed b)) → IsFoldedNever n others (placement_of others b)
   folded_never never x good_x same path leads =
-      never (transposed x) (IsBoardOf-transposed n x good_x) (to_tiles x good_x same) (map (transposed_cell n) path) (leads-transposed n tiles others are inside x good_x path leads)
+      never (transposed x) (IsBoardOf-transposed n x good_x) (to_tiles x good_x same) (map (transposed_cell n) path)
+      (leads-transposed n tiles others are inside x good_x path leads)
 
+  -- a folded table of the tiles tells of the transposed board what that of the transposed tiles tells of the board
   pub folded_counts : (count : Count) → FoldedTableSays tiles (transposed b) count → FoldedTableSays others b count
   folded_counts (Finite d) is =
       subst (λ k. IsFoldedCost k others (placement_of others b) d) (sym (side_of-board n b good)) (

@@ -28,7 +28,9 @@ module _ (p : ShownPattern) (pat : IsPattern p) (cells : List ℕ) (j mask : ℕ
       low : (c : ℕ) → (bit_at mask c ≡ 1 → ⊥) → bit_at mask c ≡ 0
       low c far = let l = bit_at-lt mask c in omega arith
 
-  pub kind_of_mask : (IsGoal : Type 0) → (IsGoal → IsGoalSlot p cells j) → (IsGoalSlot p cells j → IsGoal) → (kind : ℕ) → IsKindByMask mask IsGoal kind → IsKindOf p cells j kind
+  -- the kind that the mask of a slot's region gives is the slot's kind
+  pub kind_of_mask : (IsGoal : Type 0) → (IsGoal → IsGoalSlot p cells j) → (IsGoalSlot p cells j → IsGoal) → (kind : ℕ)
+      → IsKindByMask mask IsGoal kind → IsKindOf p cells j kind
   kind_of_mask IsGoal to back kind (by_none zero kinds) = no_region (none_of_zero zero) kinds
   kind_of_mask IsGoal to back kind (by_goal some home kinds) = goal (to home) kinds
   kind_of_mask IsGoal to back kind (by_other some far kinds) = other (some_of_mask some) (λ home. far (back home)) kinds

@@ -4,6 +4,8 @@
 mod blocks;
 mod columns;
 mod floods;
+mod limits;
 mod neighbours;
 
 pub use blocks::check_block;
+pub use limits::passes;

@@ -1,9 +1,11 @@
 -- The six faults: each test decides its fault, and the first that stands is the one that is found.
-use Rattle.std.proofs.Common.{◌≡◌, ℕ, ◌+◌, ◌-◌, ◌*◌, ◌<◌, ◌≤◌, Bool, true, false, ◌⊎◌, List, [], ◌∷◌, ◌++◌, length, take, drop, Option, Some, None, Ok, Err, inl, inr, refl, sym, ◌∙◌, ap, arith, length-drop}
+use Rattle.std.proofs.Common.{◌≡◌, ℕ, ◌+◌, ◌-◌, ◌*◌, ◌<◌, ◌≤◌, Bool, true, false, ◌⊎◌, List, [], ◌∷◌, ◌++◌, length, take, drop, Option, Some, None}
+use Rattle.std.proofs.Common.{Ok, Err, inl, inr, refl, sym, ◌∙◌, ap, arith, length-drop}
 use Rattle.std.specs.Prelude.{nat_eq, nat_lt, nat_le, ◌&&◌, find}
 use Rattle.std.specs.List.{AllByRecursion, list_all, starts_with}
 use Rattle.std.specs.Option.{option_map_or}
-use Rattle.std.proofs.lemmas.Bool.{and_from, and_parts, both_ways, cases_Bool, cond-true, cond-false, eq-eqb, eqb-true, le-leb, leb-true, lt-ltb, le-ltb, ltb-true, ltb-false, not-false, not_from_true, true_from_ne_false}
+use Rattle.std.proofs.lemmas.Bool.{and_from, and_parts, both_ways, cases_Bool, cond-true, cond-false, eq-eqb, eqb-true, le-leb, leb-true, lt-ltb}
+use Rattle.std.proofs.lemmas.Bool.{le-ltb, ltb-true, ltb-false, not-false, not_from_true, true_from_ne_false}
 use Rattle.std.proofs.Math.Seq.{take-length}
 use Rattle.std.proofs.lemmas.Slice.Eq.{bytes_eq-Decides}
 use Rattle.puz_board.specs.Masks.{numbers_of}
@@ -18,6 +20,7 @@ use Rattle.tab_file.specs.declared.headers.HeadFault.TheVariants.{T1, T2, T3, T4
 
 -- ---- what a file has where a fault doesn't stand in it
 
+-- what bytes have in which this fault is not found
 abbrev pub Passes : HeadFault → List ℕ → Type 0
 Passes T1 file = 20 ≤ length file
 Passes T2 file = take 5 file ≡ table_signature
@@ -51,8 +54,10 @@ is_pattern-true p good =
 
 is_pattern-from : (p : ShownPattern) → IsAscending p.tiles → is_pattern p ≡ true → IsPattern p
 is_pattern-from p up e =
-    let most = and_parts (nat_le 2 p.side && nat_le p.side 5 && list_all (λ t. nat_lt 0 t && nat_lt t (p.side * p.side)) p.tiles && nat_lt 0 (length p.tiles)) (nat_le (length p.tiles) (most_tiles p.side)) e in
-    let some = and_parts (nat_le 2 p.side && nat_le p.side 5 && list_all (λ t. nat_lt 0 t && nat_lt t (p.side * p.side)) p.tiles) (nat_lt 0 (length p.tiles)) most.0 in
+    let most = and_parts (nat_le 2 p.side && nat_le p.side 5 && list_all (λ t. nat_lt 0 t && nat_lt t (p.side * p.side)) p.tiles && nat_lt 0
+    (length p.tiles)) (nat_le (length p.tiles) (most_tiles p.side)) e in
+    let some = and_parts (nat_le 2 p.side && nat_le p.side 5 && list_all (λ t. nat_lt 0 t && nat_lt t (p.side * p.side)) p.tiles)
+    (nat_lt 0 (length p.tiles)) most.0 in
     let tiles = and_parts (nat_le 2 p.side && nat_le p.side 5) (list_all (λ t. nat_lt 0 t && nat_lt t (p.side * p.side)) p.tiles) some.0 in
     let side = and_parts (nat_le 2 p.side) (nat_le p.side 5) tiles.0 in
     record {
@@ -70,7 +75,8 @@ passes-test : (f : HeadFault) (file : List ℕ) → Passes f file → is_standin
 passes-test T1 file p = le-ltb (length file) 20 p
 passes-test T2 file p = not_from_true _ ((bytes_eq-Decides table_signature (take 5 file)).1 (sym p))
 passes-test T3 file p = not_from_true _ (and_from _ _ (le-leb 2 (side_in file) p.0) (le-leb (side_in file) 5 p.1))
-passes-test T4 file p = not_from_true _ (and_from _ _ (and_from _ _ (is_pattern-true (pattern_in file) p.0) (eq-eqb (size_in file) (length (pattern_in file).tiles) p.1)) (eq-eqb (spare_in file) 0 p.2))
+passes-test T4 file p = not_from_true _ (and_from _ _
+    (and_from _ _ (is_pattern-true (pattern_in file) p.0) (eq-eqb (size_in file) (length (pattern_in file).tiles) p.1)) (eq-eqb (spare_in file) 0 p.2))
 passes-test T5 file p = not_from_true _ (eq-eqb (entry_count_in file) (entry_count (pattern_in file)) p)
 passes-test T6 file p = not_from_true _ (eq-eqb (length file) (20 + entry_count_in file) p)
 
@@ -82,8 +88,11 @@ passes-from T3 file e =
     (leb-true 2 (side_in file) both.0, leb-true (side_in file) 5 both.1)
 passes-from T4 file e =
     let spare = and_parts (is_pattern (pattern_in file) && nat_eq (size_in file) (length (pattern_in file).tiles)) (nat_eq (spare_in file) 0) (not-false _ e) in
-    let size = and_parts (is_pattern (pattern_in file)) (nat_eq (size_in file) (length (pattern_in file).tiles)) spare.0 in
-    (is_pattern-from (pattern_in file) (ascending-numbers_below 32 (mask_in file)) size.0, eqb-true (size_in file) (length (pattern_in file).tiles) size.1, eqb-true (spare_in file) 0 spare.1)
+    let size = and_parts (is_pattern (pattern_in file)) (nat_eq (size_in file) (length (pattern_in file).tiles)) spare.0 in (
+      is_pattern-from (pattern_in file) (ascending-numbers_below 32 (mask_in file)) size.0,
+      eqb-true (size_in file) (length (pattern_in file).tiles) size.1,
+      eqb-true (spare_in file) 0 spare.1,
+    )
 passes-from T5 file e = eqb-true (entry_count_in file) (entry_count (pattern_in file)) (not-false _ e)
 passes-from T6 file e = eqb-true (length file) (20 + entry_count_in file) (not-false _ e)
 
@@ -105,6 +114,7 @@ passes-stands T6 file p s = s p
 
 -- ---- the first that stands
 
+-- the six faults in the order in which they are tested
 abbrev pub all_faults : List HeadFault
 all_faults = T1 ∷ T2 ∷ T3 ∷ T4 ∷ T5 ∷ T6 ∷ []
 
@@ -121,7 +131,8 @@ module _ (test : HeadFault → Bool) where
   none_in [] none = refl
   none_in (f ∷ fs) none = cond-false (test f) (Some f) (find test fs) none.0 ∙ none_in fs none.1
 
-  first_in : (before : List HeadFault) (f : HeadFault) (rest : List HeadFault) → AllByRecursion (λ g. test g ≡ false) before → test f ≡ true → find test (before ++ f ∷ rest) ≡ Some f
+  first_in : (before : List HeadFault) (f : HeadFault) (rest : List HeadFault) → AllByRecursion (λ g. test g ≡ false) before → test f ≡ true
+      → find test (before ++ f ∷ rest) ≡ Some f
   first_in [] f rest none e = cond-true (test f) (Some f) (find test rest) e
   first_in (g ∷ gs) f rest none e = cond-false (test g) (Some g) (find test (gs ++ f ∷ rest)) none.0 ∙ first_in gs f rest none.1 e
 
@@ -175,9 +186,11 @@ module _ (file : List ℕ) where
   unfolding first_fault
   found o e = e
 
+  -- the first fault whose test is true is what is read of the bytes
   pub table_of_file-first : (f : HeadFault) → First (λ f. is_standing f file) f → table_of_file file ≡ Err f
   table_of_file-first f w = from_found (Some f) (found (Some f) (first_of (λ f. is_standing f file) f w.0 w.1))
 
+  -- where no fault's test is true, the table in the bytes is what is read of them
   pub table_of_file-none : AllByRecursion (λ g. is_standing g file ≡ false) all_faults → table_of_file file ≡ Ok (table_in file)
   table_of_file-none w = from_found None (found None (none_in (λ f. is_standing f file) all_faults w))
 
@@ -188,6 +201,7 @@ module _ (file : List ℕ) where
     true_from_ne_false (is_standing f file) (λ e. fails (passes-from f file e)),
   ))
 
+  -- bytes that pass all six faults are read as the table in them
   pub accepted : AllByRecursion (λ g. Passes g file) all_faults → table_of_file file ≡ Ok (table_in file)
   accepted all = table_of_file-none (all_map (λ g. Passes g file) (λ g. is_standing g file ≡ false) (λ g p. passes-test g file p) all_faults all)
 
@@ -200,10 +214,14 @@ module _ (file : List ℕ) where
   passes_unless : (f : HeadFault) → ¬ Stands f file → Passes f file
   passes_unless f none = elim (cases_Bool (is_standing f file)) [ inl e ↦ absurd (none (Stands-from f file e)) | inr e ↦ passes-from f file e ]
 
+  -- the first fault of bytes is what is read of them
   pub table_of_file-fault : (f : HeadFault) → IsFirstFault f file → table_of_file file ≡ Err f
-  table_of_file-fault f is = sym (refused f (all_map (λ g. ¬ Stands g file) (λ g. Passes g file) passes_unless (earlier f) is.first) (λ passes. passes-stands f file passes is.stands))
+  table_of_file-fault f is = sym (refused f (all_map (λ g. ¬ Stands g file) (λ g. Passes g file) passes_unless (earlier f) is.first)
+      (λ passes. passes-stands f file passes is.stands))
 
-  pub which : ((f : HeadFault) × (table_of_file file ≡ Err f) × IsFirstFault f file) ⊎ ((table_of_file file ≡ Ok (table_in file)) × AllByRecursion (λ g. Passes g file) all_faults)
+  -- bytes have a first fault, which is read of them, or pass all faults and are read as a table
+  pub which : ((f : HeadFault) × (table_of_file file ≡ Err f) × IsFirstFault f file)
+      ⊎ ((table_of_file file ≡ Ok (table_in file)) × AllByRecursion (λ g. Passes g file) all_faults)
   which = elim (some_or_none (λ f. is_standing f file)) [
     | inl w ↦ inl (w.0, table_of_file-first w.0 w.1, IsFirstFault-from w.0 w.1)
     | inr w ↦ inr (table_of_file-none w, all_map (λ g. is_standing g file ≡ false) (λ g. Passes g file) (λ g e. passes-from g file e) all_faults w)
@@ -211,9 +229,11 @@ module _ (file : List ℕ) where
 
 -- ---- what the calls of the standard library and of the patterns say
 
+-- where the test for the signature is true, the bytes begin with it
 pub begins-from : (file : List ℕ) (r : Bool) → r ≡ starts_with nat_eq file table_signature → r ≡ true → Passes T2 file
 begins-from file r e is_so = sym ((bytes_eq-Decides table_signature (take 5 file)).0 (sym e ∙ is_so))
 
+-- where bytes begin with the signature, the test for it is true
 pub begins-test : (file : List ℕ) (r : Bool) → r ≡ starts_with nat_eq file table_signature → Passes T2 file → r ≡ true
 begins-test file r e begins = e ∙ (bytes_eq-Decides table_signature (take 5 file)).1 (sym begins)
 
@@ -221,11 +241,15 @@ begins-test file r e begins = e ∙ (bytes_eq-Decides table_signature (take 5 fi
 pub drop-rest : (i : ℕ) (file : List ℕ) → take (length file - i) (drop i file) ≡ drop i file
 drop-rest i file = ap (λ n. take n (drop i file)) (sym (length-drop i file)) ∙ take-length (drop i file)
 
-pub pattern_named : (file : List ℕ) (side mask : ℕ) → side ≡ side_in file → mask ≡ big_number 4 (take (length file - 8) (drop 8 file)) → let p : ShownPattern = record { side = side; tiles = numbers_of mask } in p ≡ pattern_in file
+-- the side and the mask that are read make the pattern that the header names
+pub pattern_named : (file : List ℕ) (side mask : ℕ) → side ≡ side_in file → mask ≡ big_number 4 (take (length file - 8) (drop 8 file))
+    → let p : ShownPattern = record { side = side; tiles = numbers_of mask } in p ≡ pattern_in file
 pattern_named file side mask e f = λ i. record { side = e i; tiles = numbers_of (is_mask i) }
   where
     is_mask : mask ≡ big_number 4 (drop 8 file)
     is_mask = f ∙ ap (big_number 4) (drop-rest 8 file)
 
-pub table_named : (file : List ℕ) {p : ShownPattern} → p ≡ pattern_in file → let t : Table = record { pattern = p; entries = take (length file - 20) (drop 20 file) } in t ≡ table_in file
+-- the pattern that the header names, and all bytes behind the header, make the table in the bytes
+pub table_named : (file : List ℕ) {p : ShownPattern} → p ≡ pattern_in file
+    → let t : Table = record { pattern = p; entries = take (length file - 20) (drop 20 file) } in t ≡ table_in file
 table_named file e = λ i. record { pattern = e i; entries = drop-rest 20 file i }

@@ -1,5 +1,6 @@
 -- Table files are the bytes in which no fault stands.
-use Rattle.std.proofs.Common.{◌≡◌, ℕ, ◌+◌, ◌-◌, ◌<◌, ◌≤◌, List, [], ◌∷◌, ◌++◌, length, take, drop, Result, Ok, Err, inl, inr, refl, sym, ◌∙◌, ap, subst, arith, length-drop, get_or-take, take-take}
+use Rattle.std.proofs.Common.{◌≡◌, ℕ, ◌+◌, ◌-◌, ◌<◌, ◌≤◌, List, [], ◌∷◌, ◌++◌, length, take, drop, Result, Ok, Err, inl, inr, refl, sym, ◌∙◌, ap}
+use Rattle.std.proofs.Common.{subst, arith, length-drop, get_or-take, take-take}
 use Rattle.std.specs.Prelude.{IfErr, IfOk, slice_index}
 use Rattle.std.proofs.lemmas.List.{get_or-drop, take_more}
 use Rattle.pat_place.specs.Patterns.{IsPattern}
@@ -55,6 +56,7 @@ module _ (t : Table) (file : List ℕ) (good : IsTableFile t file) where
   table_is : table_in file ≡ t
   table_is = λ i. record { pattern = pattern_is i; entries = good.entries i }
 
+  -- the file of a table is read as that table
   pub table_of_file-file : table_of_file file ≡ Ok t
   table_of_file-file = accepted file (
     good.room,
@@ -97,7 +99,8 @@ IsTableFile-passes : (file : List ℕ) → Passes T1 file → Passes T2 file →
 IsTableFile-passes file room begins pattern count whole = record {
   table = record {
     pattern = pattern.0;
-    entries = (let rest : length (drop 20 file) ≡ length file - 20 = length-drop 20 file in let more : length file - 20 ≡ entry_count_in file = omega arith in rest ∙ more ∙ count);
+    entries = (let rest : length (drop 20 file) ≡ length file - 20 = length-drop 20 file in
+        let more : length file - 20 ≡ entry_count_in file = omega arith in rest ∙ more ∙ count);
   };
   room = room;
   begins = Begins-from file _ _ room begins refl pattern.1 pattern.2;
@@ -106,6 +109,7 @@ IsTableFile-passes file room begins pattern count whole = record {
   entries = refl;
 }
 
+-- bytes that are read as a table are the file of that table
 pub IfOk-table : (file : List ℕ) (r : Result Table HeadFault) → r ≡ table_of_file file → IfOk r (λ t. IsTableFile t file)
 IfOk-table file (Err f) e = tt
 IfOk-table file (Ok t) e = elim (which file) [
@@ -114,6 +118,7 @@ IfOk-table file (Ok t) e = elim (which file) [
       subst (λ t. IsTableFile t file) same (IsTableFile-passes file w.1.0 w.1.1.0 w.1.1.1.1.0 w.1.1.1.1.1.0 w.1.1.1.1.1.1.0)
 ]
 
+-- a fault that is read of bytes is their first one
 pub IfErr-first : (file : List ℕ) (r : Result Table HeadFault) → r ≡ table_of_file file → IfErr r (λ f. IsFirstFault f file)
 IfErr-first file (Ok t) e = tt
 IfErr-first file (Err f) e = elim (which file) [
@@ -123,12 +128,15 @@ IfErr-first file (Err f) e = elim (which file) [
 
 -- a file has one table or one fault, and not both
 module _ (file : List ℕ) where
+  -- bytes are the file of at most one table
   pub table_one : (t u : Table) → IsTableFile t file → IsTableFile u file → t ≡ u
   table_one t u is also = let both : Ok t ≡ Ok u = sym (table_of_file-file t file is) ∙ table_of_file-file u file also in cc
 
+  -- bytes have at most one first fault
   pub IsFirstFault-one : (f g : HeadFault) → IsFirstFault f file → IsFirstFault g file → f ≡ g
   IsFirstFault-one f g is also = let both : Err f ≡ Err g = sym (table_of_file-fault file f is) ∙ table_of_file-fault file g also in cc
 
+  -- the file of a table has no first fault
   pub table_or_fault : (t : Table) (f : HeadFault) → IsTableFile t file → ¬ IsFirstFault f file
   table_or_fault t f is_file is = let clash : Err f ≡ Ok t = sym (table_of_file-fault file f is) ∙ table_of_file-file t file is_file in cc
 

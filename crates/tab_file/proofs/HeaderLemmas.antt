@@ -14,7 +14,10 @@ use Rattle.tab_file.proofs.FileLemmas.{table_of_file-file}
 abbrev written : ℕ → ℕ → ℕ → ℕ → List ℕ
 written side size mask count = table_signature ++ side ∷ size ∷ 0 ∷ [] ++ big_bytes 4 mask ++ big_bytes 8 count
 
-module _ (p : ShownPattern) (side size mask count : ℕ) (good : IsPattern p) (is_side : side ≡ p.side) (is_size : size ≡ length p.tiles) (is_mask : numbers_of mask ≡ p.tiles) (mask_fits : mask < 2 ^ 32) (is_count : count ≡ entry_count p) (count_fits : count < 2 ^ 64) (entries : List ℕ) (all : length entries ≡ entry_count p) where
+module _ (p : ShownPattern) (side size mask count : ℕ) (good : IsPattern p) (is_side : side ≡ p.side) (is_size : size ≡ length p.tiles)
+    (is_mask : numbers_of mask ≡ p.tiles) (mask_fits : mask < 2 ^ 32) (is_count : count ≡ entry_count p) (count_fits : count < 2 ^ 64)
+    (entries : List ℕ) (all : length entries ≡ entry_count p) where
+  -- the header of a pattern, with the entries of a table behind it, is the file of that table
   pub IsTableFile-written : IsTableFile (record { pattern = p; entries = entries }) (written side size mask count ++ entries)
   IsTableFile-written = record {
     table = record { pattern = good; entries = all };
@@ -25,5 +28,6 @@ module _ (p : ShownPattern) (side size mask count : ℕ) (good : IsPattern p) (i
     entries = refl;
   }
 
+  -- the header of a pattern, with the entries of a table behind it, is read as that table
   pub table_of_file-written : table_of_file (written side size mask count ++ entries) ≡ Ok (record { pattern = p; entries = entries })
   table_of_file-written = table_of_file-file (record { pattern = p; entries = entries }) (written side size mask count ++ entries) IsTableFile-written

@@ -25,13 +25,17 @@ module _ (n free mask : ℕ) where
     goes_on = record {
       start = (λ c h. (is c).1 (inl (so_far.start c h)));
       inside = (λ c h. elim ((is c).0 h) [ inl a ↦ so_far.inside c a | inr b ↦ b.0 ]);
-      reached = (λ d h. elim ((is d).0 h) [ inl a ↦ so_far.reached d a | inr b ↦ (let from = so_far.reached b.1 b.2 in (from.0, from.1, reaches_further n free mask from.2 b.3 b.0)) ]);
+      reached = (λ d h. elim ((is d).0 h) [
+        | inl a ↦ so_far.reached d a
+        | inr b ↦ (let from = so_far.reached b.1 b.2 in (from.0, from.1, reaches_further n free mask from.2 b.3 b.0))
+      ]);
     }
 
     ends : more ≡ region → IsMaskOf more (IsReached n free mask)
     ends same =
         let whole = subst (λ m. IsMaskOf m (IsAStepAway n free region)) same is in
-        subst (λ m. IsMaskOf m (IsReached n free mask)) (sym same) (λ d. (so_far.reached d, λ r. stays_inside n free mask region whole r.2 (so_far.start r.0 r.1)))
+        subst (λ m. IsMaskOf m (IsReached n free mask)) (sym same)
+        (λ d. (so_far.reached d, λ r. stays_inside n free mask region whole r.2 (so_far.start r.0 r.1)))
 
     no_smaller : region ≤ more
     no_smaller = sub_le region more (λ x h. (is x).1 (inl h))
@@ -49,7 +53,8 @@ pub record AreFlooding (n : ℕ) (masks free regions : List ℕ) : Type 0 where
 abbrev pub room_of : List ℕ → List ℕ → ℕ
 room_of free regions = sum_l (zip2 (λ f r. f - r) free regions)
 
-less_room : (fs os ns : List ℕ) → length os ≡ length fs → length ns ≡ length fs → ((i : ℕ) → i < length fs → (get_or os i 0 ≤ get_or ns i 0) × (get_or ns i 0 ≤ get_or fs i 0))
+less_room : (fs os ns : List ℕ) → length os ≡ length fs → length ns ≡ length fs
+    → ((i : ℕ) → i < length fs → (get_or os i 0 ≤ get_or ns i 0) × (get_or ns i 0 ≤ get_or fs i 0))
     → (room_of fs ns < room_of fs os) ⊎ ((room_of fs ns ≡ room_of fs os) × ((i : ℕ) → i < length fs → get_or ns i 0 ≡ get_or os i 0))
 less_room [] os ns p q h = inr (refl, λ i l. absurd (omega arith))
 less_room (f ∷ fs) [] ns p q h = absurd (omega arith)
@@ -70,10 +75,12 @@ less_room (f ∷ fs) (o ∷ os) (n ∷ ns) p q h =
     at (suc i) same rest l = rest i (omega arith)
 
 module _ (n : ℕ) (masks free : List ℕ) (grow : AllMayGrow n masks free) where
+  -- at first, the cells that are found are those of the masks themselves
   pub flooding_begins : AreFlooding n masks free masks
   flooding_begins = record { len = refl; each = (λ i l. begins n (get_or free i 0) (get_or masks i 0) (grow.each i (omega arith) l)) }
 
   module _ (regions : List ℕ) (so_far : AreFlooding n masks free regions) where
+    -- what is found so far may grow on over the free cells
     pub regions_may_grow : AllMayGrow n regions free
     regions_may_grow = record {
       lengths = so_far.len ∙ grow.lengths;
@@ -86,18 +93,28 @@ module _ (n : ℕ) (masks free : List ℕ) (grow : AllMayGrow n masks free) wher
       stepped : (i : ℕ) → i < length masks → IsMaskOf (get_or more i 0) (IsAStepAway n (get_or free i 0) (get_or regions i 0))
       stepped i l = step.each i (let e = so_far.len in omega arith)
 
+      -- after one step more, all that is found is still free and reached
       pub flooding_goes_on : AreFlooding n masks free more
-      flooding_goes_on = record { len = step.len ∙ so_far.len; each = (λ i l. goes_on n (get_or free i 0) (get_or masks i 0) (get_or regions i 0) (get_or more i 0) (so_far.each i l) (stepped i l)) }
+      flooding_goes_on = record {
+        len = step.len ∙ so_far.len;
+        each = (λ i l. goes_on n (get_or free i 0) (get_or masks i 0) (get_or regions i 0) (get_or more i 0) (so_far.each i l) (stepped i l));
+      }
 
+      -- where a step gains no cell in any place, all that is reached is found
       pub flooding_ends : ((i : ℕ) → i < length masks → get_or more i 0 ≡ get_or regions i 0) → AreGrown (IsReached n) masks free more
-      flooding_ends same = record { len = step.len ∙ so_far.len; each = (λ i l. ends n (get_or free i 0) (get_or masks i 0) (get_or regions i 0) (get_or more i 0) (so_far.each i l) (stepped i l) (same i l)) }
+      flooding_ends same = record {
+        len = step.len ∙ so_far.len;
+        each = (λ i l. ends n (get_or free i 0) (get_or masks i 0) (get_or regions i 0) (get_or more i 0) (so_far.each i l) (stepped i l) (same i l));
+      }
 
       -- less room is left, or nothing was gained
       pub flooding_falls : (room_of free more < room_of free regions) ⊎ ((i : ℕ) → i < length masks → get_or more i 0 ≡ get_or regions i 0)
       flooding_falls =
           elim (less_room free regions more (so_far.len ∙ grow.lengths) (step.len ∙ so_far.len ∙ grow.lengths) (λ i l.
-          let inside : i < length masks = let e = grow.lengths in omega arith in
-          (no_smaller n (get_or free i 0) (get_or masks i 0) (get_or regions i 0) (get_or more i 0) (so_far.each i inside) (stepped i inside), bounded n (get_or free i 0) (get_or masks i 0) (get_or regions i 0) (get_or more i 0) (so_far.each i inside) (stepped i inside)))) [
+          let inside : i < length masks = let e = grow.lengths in omega arith in (
+            no_smaller n (get_or free i 0) (get_or masks i 0) (get_or regions i 0) (get_or more i 0) (so_far.each i inside) (stepped i inside),
+            bounded n (get_or free i 0) (get_or masks i 0) (get_or regions i 0) (get_or more i 0) (so_far.each i inside) (stepped i inside),
+          ))) [
             | inl less ↦ inl less
             | inr same ↦ inr (λ i l. same.1 i (let e = grow.lengths in omega arith))
           ]

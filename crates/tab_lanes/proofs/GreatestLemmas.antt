@@ -1,7 +1,9 @@
 -- The greatest counts of lanes, each of every so many bytes of a column.
-use Rattle.std.proofs.Common.{◌≡◌, ℕ, ◌+◌, ◌-◌, ◌<◌, ◌≤◌, ◌⊎◌, inl, inr, Bool, true, false, cond, ltb, leb, ltb-true, ltb-false, leb-true, leb-false, List, map, length, get_or, replicate, refl, sym, ap, ◌∙◌, subst, arith, w8}
+use Rattle.std.proofs.Common.{◌≡◌, ℕ, ◌+◌, ◌-◌, ◌<◌, ◌≤◌, ◌⊎◌, inl, inr, Bool, true, false, cond, ltb, leb, ltb-true, ltb-false, leb-true, leb-false}
+use Rattle.std.proofs.Common.{List, map, length, get_or, replicate, refl, sym, ap, ◌∙◌, subst, arith, w8}
 use Rattle.std.proofs.lemmas.Bool.{cases_lt}
-use Rattle.std.proofs.lemmas.Simd.{tops_compared, length-zip2, get_or-zip2, length-sel_l, get_or-sel_l, length-chunk, get_or-chunk, length-replicate, get_or-replicate}
+use Rattle.std.proofs.lemmas.Simd.{tops_compared, length-zip2, get_or-zip2, length-sel_l, get_or-sel_l, length-chunk, get_or-chunk, length-replicate}
+use Rattle.std.proofs.lemmas.Simd.{get_or-replicate}
 use lib.Lanes.{zip2, sel_l, top, chunk}
 use Rattle.tab_file.specs.EntryBytes.{greatest_count}
 
@@ -62,7 +64,8 @@ module _ (test : ℕ → ℕ → Bool) (xs ys us vs : List ℕ) (same : length x
 
 module _ (n : ℕ) (xs : List ℕ) (long : length xs ≡ n) where
   length-counts_or_0 : length (counts_or_0 n xs) ≡ n
-  length-counts_or_0 = length-chosen leb xs (replicate n 253) xs (replicate n 0) (long ∙ sym (length-replicate n 253)) refl (length-replicate n 0 ∙ sym long) ∙ long
+  length-counts_or_0 = length-chosen leb xs (replicate n 253) xs (replicate n 0) (long ∙ sym (length-replicate n 253)) refl
+      (length-replicate n 0 ∙ sym long) ∙ long
 
   get_or-counts_or_0 : (j : ℕ) → j < n → get_or (counts_or_0 n xs) j 0 ≡ count_or_0 (get_or xs j 0)
   get_or-counts_or_0 j l =
@@ -81,11 +84,13 @@ module _ (bytes : List ℕ) (at n : ℕ) (lanes : List ℕ) (room : at + n ≤ l
   new = larger_lanes lanes (counts_or_0 n (chunk at n bytes))
 
   new_long : length new ≡ n
-  new_long = length-chosen ltb lanes (counts_or_0 n (chunk at n bytes)) (counts_or_0 n (chunk at n bytes)) lanes (so_far.len ∙ sym counts_long) (counts_long ∙ sym so_far.len) refl ∙ so_far.len
+  new_long = length-chosen ltb lanes (counts_or_0 n (chunk at n bytes)) (counts_or_0 n (chunk at n bytes)) lanes (so_far.len ∙ sym counts_long)
+      (counts_long ∙ sym so_far.len) refl ∙ so_far.len
 
   is : (j : ℕ) → j < n → get_or new j 0 ≡ larger (get_or lanes j 0) (count_or_0 (get_or bytes (at + j) 0))
   is j l =
-      get_or-chosen ltb lanes (counts_or_0 n (chunk at n bytes)) (counts_or_0 n (chunk at n bytes)) lanes (so_far.len ∙ sym counts_long) (counts_long ∙ sym so_far.len) refl j (let e = so_far.len in omega arith) ∙
+      get_or-chosen ltb lanes (counts_or_0 n (chunk at n bytes)) (counts_or_0 n (chunk at n bytes)) lanes (so_far.len ∙ sym counts_long)
+      (counts_long ∙ sym so_far.len) refl j (let e = so_far.len in omega arith) ∙
       ap (larger (get_or lanes j 0)) (get_or-counts_or_0 n (chunk at n bytes) block_long j l ∙ ap count_or_0 (get_or-chunk at n bytes j 0 l))
 
   most : (j : ℕ) → j < n → get_or new j 0 ≤ greatest_count
@@ -125,5 +130,6 @@ module _ (bytes : List ℕ) (at n : ℕ) (lanes : List ℕ) (room : at + n ≤ l
     ]
   ]
 
+  -- lanes that take in the next n bytes, where these are counts, are the greatest counts of n bytes more
   pub greatest_more : AreGreatest bytes (at + n) n new
   greatest_more = record { len = new_long; most = most; bound = bound; reached = reached }

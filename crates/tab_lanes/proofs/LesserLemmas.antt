@@ -1,8 +1,10 @@
 -- The lesser bytes of two vectors, and of a column that is taken in place by place.
-use Rattle.std.proofs.Common.{◌≡◌, ℕ, ◌+◌, ◌-◌, ◌<◌, ◌≤◌, ◌⊎◌, inl, inr, Bool, true, false, cond, ltb, ltb-true, ltb-false, List, map, length, get_or, min, refl, sym, ap, ◌∙◌, subst, arith, w8}
+use Rattle.std.proofs.Common.{◌≡◌, ℕ, ◌+◌, ◌-◌, ◌<◌, ◌≤◌, ◌⊎◌, inl, inr, Bool, true, false, cond, ltb, ltb-true, ltb-false, List, map, length, get_or}
+use Rattle.std.proofs.Common.{min, refl, sym, ap, ◌∙◌, subst, arith, w8}
 use Rattle.std.proofs.lemmas.Bool.{cases_lt}
 use Rattle.std.proofs.lemmas.List.{ext_get_or}
-use Rattle.std.proofs.lemmas.Simd.{tops_compared, length-zip2, get_or-zip2, length-sel_l, get_or-sel_l, length-chunk, get_or-chunk, length-put_chunk, get_or-put_chunk_below, get_or-put_chunk_at, get_or-put_chunk_above}
+use Rattle.std.proofs.lemmas.Simd.{tops_compared, length-zip2, get_or-zip2, length-sel_l, get_or-sel_l, length-chunk, get_or-chunk, length-put_chunk}
+use Rattle.std.proofs.lemmas.Simd.{get_or-put_chunk_below, get_or-put_chunk_at, get_or-put_chunk_above}
 use lib.Lanes.{zip2, sel_l, top, chunk, put_chunk}
 use Rattle.tab_lanes.specs.Columns.{AreLesserBetween}
 
@@ -31,7 +33,8 @@ module _ (xs ys : List ℕ) (same : length xs ≡ length ys) where
       ap (λ t. cond t (get_or xs i 0) (get_or ys i 0)) (get_or-zip2 ltb xs ys i 0 0 false l (omega arith)) ∙
       smaller (get_or xs i 0) (get_or ys i 0)
 
-module _ (n : ℕ) (old others : List ℕ) (from at : ℕ) (now : List ℕ) (same : length old ≡ length others) (room : at + n ≤ length now) (so_far : AreLesserBetween old others from at now) (on : from ≤ at) where
+module _ (n : ℕ) (old others : List ℕ) (from at : ℕ) (now : List ℕ) (same : length old ≡ length others) (room : at + n ≤ length now)
+    (so_far : AreLesserBetween old others from at now) (on : from ≤ at) where
   abbrev block : List ℕ
   block = chunk at n now
 
@@ -60,7 +63,8 @@ module _ (n : ℕ) (old others : List ℕ) (from at : ℕ) (now : List ℕ) (sam
   inside : (i : ℕ) → from ≤ i → i < at + n → get_or new i 0 ≡ min (get_or old i 0) (get_or others i 0)
   inside i low high = elim (cases_lt i at) [
     | inl l ↦ get_or-put_chunk_below at now (lesser block other_block) i 0 l ∙ so_far.inside i low l
-    | inr l ↦ subst (λ k. get_or new k 0 ≡ min (get_or old k 0) (get_or others k 0)) (let e : at + (i - at) ≡ i = omega arith in e) (at_block (i - at) (omega arith))
+    | inr l ↦ subst (λ k. get_or new k 0 ≡ min (get_or old k 0) (get_or others k 0)) (let e : at + (i - at) ≡ i = omega arith in
+        e) (at_block (i - at) (omega arith))
   ]
 
   outside : (i : ℕ) → (i < from) ⊎ (at + n ≤ i) → get_or new i 0 ≡ get_or old i 0
@@ -69,11 +73,13 @@ module _ (n : ℕ) (old others : List ℕ) (from at : ℕ) (now : List ℕ) (sam
     | inr l ↦ get_or-put_chunk_above at now (lesser block other_block) i 0 (omega (arith, lesser_long)) ∙ so_far.outside i (inr (omega arith))
   ]
 
+  -- with n bytes more taken in, the column has the lesser ones n places further
   pub taken_in : AreLesserBetween old others from (at + n) new
   taken_in = record { len = length-put_chunk at now (lesser block other_block) ∙ so_far.len; inside = inside; outside = outside }
 
 -- two stretches that make up the whole
-pub all_lesser : (old others half new : List ℕ) (to end : ℕ) → length old ≡ length others → AreLesserBetween old others 0 to half → AreLesserBetween half others to end new
+pub all_lesser : (old others half new : List ℕ) (to end : ℕ) → length old ≡ length others → AreLesserBetween old others 0 to half
+    → AreLesserBetween half others to end new
     → to ≤ length old → length old < end + 1 → new ≡ zip2 min old others
 all_lesser old others half new to end same first second front whole =
     ext_get_or 0 new (zip2 min old others) (second.len ∙ first.len ∙ sym (length-zip2 min old others same)) (λ i l.

@@ -1,5 +1,6 @@
 -- The local rule as a test, and in the places of a column.
-use Rattle.std.proofs.Common.{◌≡◌, ℕ, ◌+◌, ◌-◌, ◌%◌, ◌^◌, ◌<◌, ◌≤◌, ◌⊎◌, inl, inr, Bool, true, false, not, ◌&&◌, ◌||◌, cond, eqb, ltb, eqb-true, eq-eqb, ltb-true, lt-ltb, List, map, length, get_or, replicate, bit_and, bit_or, refl, sym, ap, ◌∙◌, subst, arith, w64}
+use Rattle.std.proofs.Common.{◌≡◌, ℕ, ◌+◌, ◌-◌, ◌%◌, ◌^◌, ◌<◌, ◌≤◌, ◌⊎◌, inl, inr, Bool, true, false, not, ◌&&◌, ◌||◌, cond, eqb, ltb, eqb-true}
+use Rattle.std.proofs.Common.{eq-eqb, ltb-true, lt-ltb, List, map, length, get_or, replicate, bit_and, bit_or, refl, sym, ap, ◌∙◌, subst, arith, w64}
 use Rattle.std.specs.Int.{bit_at, trailing_zeros}
 use Rattle.std.proofs.lemmas.Bool.{and_parts, and_from, cases_lt}
 use Rattle.std.proofs.lemmas.Nat.Bits.{bit_at-trailing_zeros}
@@ -13,6 +14,7 @@ use Rattle.tab_lanes.specs.LocalRule.{KeepsRuleOfKind, no_region, goal, one_more
 abbrev pub keeps_other : ℕ → ℕ → ℕ → Bool
 keeps_other k m e = eqb k 2 && ((ltb m 253 && eqb e ((m + 1) % 2 ^ 8)) || (eqb m 255 && eqb e 255))
 
+-- the local rule as a test of a kind, the least near entry and an entry
 abbrev pub keeps : ℕ → ℕ → ℕ → Bool
 keeps k m e = ((eqb k 0 && eqb e 254) || (eqb k 1 && eqb e 0)) || keeps_other k m e
 
@@ -86,6 +88,7 @@ module _ (k m e : ℕ) where
       by true h = kept h
       by false h = absurd (let set = is ∙ ap (λ t. cond (not t) 1 0) h in omega arith)
 
+  -- a bit that is set where the test fails says that the rule is broken
   pub rule_broken : (bit : ℕ) → bit ≡ cond (not (keeps k m e)) 1 0 → bit ≡ 1 → ¬ KeepsRuleOfKind k m e
   rule_broken bit is some rule = let none = is ∙ ap (λ t. cond (not t) 1 0) (passes rule) in omega arith
 
@@ -146,7 +149,9 @@ module _ (n : ℕ) where
         joined n bit_or (λ x y. x || y) _ _ _ _ either (joined n bit_and (λ x y. x && y) _ _ _ _ both low next_is) (
         joined n bit_and (λ x y. x && y) _ _ _ _ both (equal mins 255 ms) (equal entries 255 es)))
 
-    pub bad_flags : AreFlags n (map (λ x. 2 ^ 8 - 1 - x) (kept_lanes entries mins kinds)) (λ j. not (keeps (get_or kinds j 0) (get_or mins j 0) (get_or entries j 0)))
+    -- the flags that the vectors give, turned over, are those of the entries that break the rule
+    pub bad_flags : AreFlags n (map (λ x. 2 ^ 8 - 1 - x) (kept_lanes entries mins kinds))
+        (λ j. not (keeps (get_or kinds j 0) (get_or mins j 0) (get_or entries j 0)))
     bad_flags =
         turned n (λ x. 2 ^ 8 - 1 - x) _ _ neither (
         joined n bit_or (λ x y. x || y) _ _ _ _ either (
@@ -160,6 +165,7 @@ module _ (entries mins kinds : List ℕ) (from at n bits : ℕ) (so_far : KeepRu
   in_place j l i = KeepsRuleOfKind (get_or-chunk at n kinds j 0 l i) (get_or-chunk at n mins j 0 l i) (get_or-chunk at n entries j 0 l i)
 
   module _ (kept_lane : (j : ℕ) → j < n → bit_at bits j ≡ 0 → KeepsRuleAt (chunk at n entries) (chunk at n mins) (chunk at n kinds) j) where
+    -- lanes whose bits aren't set make the entries keep the rule so many places further
     pub kept_up_to : (m : ℕ) → m ≤ n → ((j : ℕ) → j < m → bit_at bits j ≡ 0) → KeepRuleBetween entries mins kinds from (at + m)
     kept_up_to m few none i low high = elim (cases_lt i at) [
       | inl before ↦ so_far i low before
@@ -172,13 +178,17 @@ module _ (entries mins kinds : List ℕ) (from at n bits : ℕ) (so_far : KeepRu
 
   -- the lowest bit that is set
   module _ (fits : bits < 2 ^ n) (small : bits < 2 ^ 64) (some : 0 < bits) where
+    -- the lowest bit that is set is that of one of the n lanes
     pub lowest_inside : trailing_zeros w64 bits < n
     lowest_inside = in_below bits n (trailing_zeros w64 bits) fits (bit_at-trailing_zeros w64 bits some small).1
 
+    -- no bit below the lowest one that is set is set
     pub none_below : (j : ℕ) → j < trailing_zeros w64 bits → bit_at bits j ≡ 0
     none_below = (bit_at-trailing_zeros w64 bits some small).2
 
-    pub lowest_broken : ((j : ℕ) → j < n → bit_at bits j ≡ 1 → ¬ KeepsRuleAt (chunk at n entries) (chunk at n mins) (chunk at n kinds) j) → ¬ KeepsRuleAt entries mins kinds (at + trailing_zeros w64 bits)
+    -- the entry at the lowest bit that is set breaks the rule
+    pub lowest_broken : ((j : ℕ) → j < n → bit_at bits j ≡ 1 → ¬ KeepsRuleAt (chunk at n entries) (chunk at n mins) (chunk at n kinds) j)
+        → ¬ KeepsRuleAt entries mins kinds (at + trailing_zeros w64 bits)
     lowest_broken broken rule =
         let j = trailing_zeros w64 bits in
         broken j lowest_inside (bit_at-trailing_zeros w64 bits some small).1 (subst (λ R. R) (sym (in_place j lowest_inside)) rule)

@@ -1,5 +1,6 @@
 -- The parts of a layer.
-use Rattle.std.proofs.Common.{get_or, ◌≡◌, ℕ, false, subst, ◌≢◌, eq-eqb, ne_eqb, zero, suc, ◌+◌, ◌-◌, ◌*◌, ◌<◌, ◌≤◌, ◌==◌, ⊎_elim, Bool, cond, List, [], ◌∷◌, ◌++◌, length, take, drop, min, sym, ◌∙◌, ap, ap₂, arith, refl}
+use Rattle.std.proofs.Common.{get_or, ◌≡◌, ℕ, false, subst, ◌≢◌, eq-eqb, ne_eqb, zero, suc, ◌+◌, ◌-◌, ◌*◌, ◌<◌, ◌≤◌, ◌==◌, ⊎_elim, Bool, cond, List}
+use Rattle.std.proofs.Common.{[], ◌∷◌, ◌++◌, length, take, drop, min, sym, ◌∙◌, ap, ap₂, arith, refl}
 use Rattle.std.specs.Prelude.{filter, count_by, slice_index, Result, Ok, map}
 use Rattle.std.specs.List.{range_with_len, AllZip}
 use Rattle.std.specs.declared.vec.Vec.{Vec}
@@ -21,7 +22,8 @@ no_one b e = false_from_ne_true b (λ t. let one : weight b ≡ 1 = ap weight t 
 module _ (d : ℕ) (xs : List ℕ) where
   -- a layer is that of a part and that of the rest
   pub layer-split : (a m n : ℕ) → layer_from d xs a (m + n) ≡ layer_from d xs a m ++ layer_from d xs (a + m) n
-  layer-split a m n = ap (filter (λ i. slice_index xs i == d)) (range-append a m n) ∙ filter-append (λ i. slice_index xs i == d) (range_with_len a m) (range_with_len (a + m) n)
+  layer-split a m n = ap (filter (λ i. slice_index xs i == d)) (range-append a m n)
+      ∙ filter-append (λ i. slice_index xs i == d) (range_with_len a m) (range_with_len (a + m) n)
 
   -- one more entry
   pub layer-more : (a m : ℕ) → layer_from d xs a (m + 1) ≡ layer_from d xs a m ++ cond (slice_index xs (a + m) == d) ((a + m) ∷ []) []
@@ -68,7 +70,8 @@ module _ (d : ℕ) (xs : List ℕ) where
       let split : weight (slice_index xs a == d) + count_by (λ x. x == d) (take n (drop (suc a) xs)) ≡ 0 =
       sym (sum_by-cons (λ x. cond (x == d) 1 0) (slice_index xs a) (take n (drop (suc a) xs))) ∙ sym (ap (count_by (λ x. x == d)) head) ∙ none in
       let next : suc a ≡ a + 1 = omega arith in
-      let later : layer_from d xs (a + 1) n ≡ [] = layer-none n (a + 1) (omega arith) (subst (λ k. count_by (λ x. x == d) (take n (drop k xs)) ≡ 0) next (omega (arith, split))) in
+      let later : layer_from d xs (a + 1) n ≡ [] = layer-none n (a + 1) (omega arith)
+      (subst (λ k. count_by (λ x. x == d) (take n (drop k xs)) ≡ 0) next (omega (arith, split))) in
       ap (λ b. cond b (a ∷ layer_from d xs (a + 1) n) (layer_from d xs (a + 1) n)) (no_one (slice_index xs a == d) (omega (arith, split))) ∙ later
 
   -- the layers of all pieces from one on
@@ -111,6 +114,7 @@ module _ {A B E : Type 0} (P : A → Result B E → Type 0) (Q : A → B → Typ
   oks (x ∷ xs) [] each = elim each [ ]
   oks (x ∷ xs) (y ∷ ys) each = (turn x y each.0, oks xs ys each.1)
 
+  -- where all results are fine, what holds of each one as a result holds of the values in their order
   pub all_oks : (xs zs : List A) (us : List (Result B E)) (ys ls : List B) → xs ≡ zs → us ≡ map Ok ys → ls ≡ ys → AllZip P xs us → AllZip Q zs ls
   all_oks xs zs us ys ls same answers values each =
       subst (λ l. AllZip Q zs l) (sym values) (oks zs ys (subst (λ l. AllZip P zs l) answers (subst (λ l. AllZip P l us) same each)))

@@ -1,12 +1,12 @@
 //! How few moves lead to the tiles at home, found layer by layer.
 
-ghost use Rattle.std.specs.Prelude.{◌≡◌, ◌<◌, ◌+◌, ◌^◌, Err, IfErr, IfOk, OnErr, length};
+ghost use Rattle.std.specs.Prelude.{◌≡◌, ◌<◌, ◌+◌, ◌^◌, IfErr, IfNone, IfOk, IfSome, length};
 ghost use Rattle.tab_make.specs.Faults.{IsBuildFault};
-ghost use Rattle.tab_make.specs.declared.faults.MakeFault.TheVariants.{K3};
 
 use crate::entries::entry_of;
 use crate::faults::{MakeFault, Stop};
 use crate::grids::Grid;
+use crate::hosts::Host;
 use crate::layers::layer;
 use crate::shapes::Shapes;
 use crate::steps::Steps;
@@ -15,6 +15,7 @@ use rayon::prelude::*;
 use std::alloc::Global;
 use std::thread::Threads;
 use tab_file::{GREATEST_COUNT, NO_WAY_HOME};
+use work_run::Gate;
 
 /// How many orders the shapes of one piece of the work have together.
 const PIECE: usize = 32768;
@@ -24,21 +25,23 @@ const PIECE: usize = 32768;
 pub(crate) struct Counts {
     /// How many orders there are.
     orders: u16,
-    /// For each shape and order the count, as an entry.
+    /// For each shape and order the count, as an entry. A count above 253 stands there as none.
     entries: Vec<u8>,
+    /// Whether there is a count above 253.
+    pub(crate) is_passed: bool,
 }
 
 impl Counts {
     /// The counts for the pattern whose tiles are the bits of a mask.
-    pub(crate) fn new<R: Threads + Sync>(
-        rt: &R,
-        alloc: Global,
+    pub(crate) fn new<R: Threads + Sync, G: Gate>(
+        host: &Host<'_, R, G>,
         grid: &Grid,
         shapes: &Shapes,
         mask: u32,
     ) -> Result<Counts, MakeFault>
         ensures { IfErr result IsBuildFault }
     {
+        let (rt, alloc) = (host.rt, host.alloc);
         let steps = Steps::new(alloc, grid, shapes)?;
         // At home each tile stands on the cell of its number, and the blank is in cell 0.
         let home = shapes.with_cells(mask, 1)?;
@@ -48,9 +51,19 @@ impl Counts {
             if lists.as_slice().iter().all(|found| found.shapes.is_empty()) {
                 return Ok(reached.counts);
             }
-            reached.write_lists(&steps, &lists, entry_after(before)?)?;
+            let Some(entry) = entry_after(before) else {
+                reached.counts.is_passed = true;
+                return Ok(reached.counts);
+            };
+            reached.write_lists(&steps, &lists, entry)?;
+            host.gate.found(entry, reached.found, reached.counts.all());
         }
         Err(MakeFault::Wrong)
+    }
+
+    /// How many counts there are, those that no walk reaches among them.
+    fn all(&self) -> u64 {
+        self.entries.len() as u64
     }
 
     /// Whether there is an order of this number.
@@ -80,21 +93,20 @@ impl Counts {
     }
 }
 
-/// The entry of the layer after another one.
-fn entry_after(before: u8) -> Result<u8, MakeFault>
-    ensures entry { IfOk result (λ entry. entry ≡ before + 1) }
-    ensures above { OnErr result ((result ≡ Err K3) × (253 < before + 1)) }
+/// The entry of the layer after another one, where its count is at most 253.
+fn entry_after(before: u8) -> Option<u8>
+    ensures entry { IfSome result (λ entry. entry ≡ before + 1) }
+    ensures above { IfNone result (253 < before + 1) }
 {
-    match entry_of(u32::from(before) + 1) {
-        Some(entry) => Ok(entry),
-        None => Err(MakeFault::K3),
-    }
+    entry_of(u32::from(before) + 1)
 }
 
 /// What walks from the tiles at home have reached.
 #[derive(Drop)]
 struct Reached {
     counts: Counts,
+    /// How many counts are found.
+    found: u64,
     /// How many words a set of orders has.
     words: u16,
     /// The last layer that reached each shape.
@@ -115,9 +127,11 @@ impl Reached {
         let counts = Counts {
             orders,
             entries: vec![in alloc; NO_WAY_HOME; of_each(count, orders)?]?,
+            is_passed: false,
         };
         let mut reached = Reached {
             counts,
+            found: 1,
             words,
             last: vec![in alloc; NO_WAY_HOME; count]?,
             last_orders: vec![in alloc; 0; of_each(count, words)?]?,
@@ -174,7 +188,9 @@ impl Reached {
         for shape in shapes {
             orders.as_mut_slice().fill(0);
             self.find_orders(steps, *shape, before, orders.as_mut_slice())?;
-            if orders.as_slice().iter().any(|word| *word != 0) {
+            let count = count_of(orders.as_slice());
+            if count != 0 {
+                found.count = found.count.wrapping_add(count);
                 found.shapes.push(*shape)?;
                 found.orders.extend_from_slice(orders.as_slice())?;
             }
@@ -216,6 +232,7 @@ impl Reached {
     fn write_lists(&mut self, steps: &Steps, lists: &[Found], entry: u8) -> Result<(), Stop> {
         for found in lists {
             self.write_list(steps, found, entry)?;
+            self.found = self.found.wrapping_add(found.count);
         }
         Ok(())
     }
@@ -260,6 +277,8 @@ fn of_each(shapes: usize, count: u16) -> Result<usize, Stop> {
 /// Shapes, and for each a set of its orders.
 #[derive(Drop)]
 struct Found {
+    /// How many orders these are.
+    count: u64,
     shapes: Vec<u32>,
     orders: Vec<u64>,
 }
@@ -267,10 +286,20 @@ struct Found {
 impl Found {
     fn new(alloc: Global) -> Found {
         Found {
+            count: 0,
             shapes: Vec::new(alloc),
             orders: Vec::new(alloc),
         }
     }
+}
+
+/// How many orders a set has.
+fn count_of(orders: &[u64]) -> u64 {
+    let mut count: u64 = 0;
+    for word in orders {
+        count = count.wrapping_add(u64::from(word.count_ones()));
+    }
+    count
 }
 
 /// Copies a set of orders.

@@ -8,6 +8,7 @@ ghost use Rattle.tab_make.specs.Faults.{IsBuildFault};
 use crate::counts::Counts;
 use crate::faults::{MakeFault, Stop};
 use crate::grids::Grid;
+use crate::hosts::Host;
 use crate::shapes::Shapes;
 use crate::walks::{Placed, Walk};
 use pat_place::Pattern;
@@ -17,12 +18,21 @@ use std::alloc::{AllocError, Global};
 use std::sync::atomic::{AtomicBool, Ordering};
 use std::thread::Threads;
 use tab_file::{HEADER_LEN, NO_REGION, header_of};
+use work_run::{Gate, OpenGate};
 
 /// How many runs are filled in at once.
 const RUNS: usize = 512;
 
-/// The file of a pattern's table: each entry is filled in with the first layer that reaches it. It has the pattern's header and as
-/// many entries; what these say is for the checker.
+/// The file of a pattern's table, as far as a table can say its counts.
+#[derive(Drop)]
+pub struct TableDraft {
+    pub file: Vec<u8>,
+    /// Whether there is a count above 253. Such counts stand in the file as if no walk led home.
+    pub is_passed: bool,
+}
+
+/// The file of a pattern's table, where no count is above 253. It has the pattern's header and as many entries; what these say is
+/// for the checker.
 pub fn build<R: Threads + Sync>(
     rt: &R,
     alloc: Global,
@@ -32,13 +42,37 @@ pub fn build<R: Threads + Sync>(
         × IsTableFile (record { pattern = pattern.now; entries = entries }) file.items) }
     ensures fault { IfErr result IsBuildFault }
 {
+    let made = draft(rt, alloc, pattern, &OpenGate)?;
+    if made.is_passed {
+        Err(MakeFault::K3)
+    } else {
+        Ok(made.file)
+    }
+}
+
+/// The file of a pattern's table as far as a table can say its counts: each entry is filled in with the first layer that reaches it. The
+/// gate is told how many counts are found after each layer, and how many entries are filled in; no thread is held.
+pub fn draft<R: Threads + Sync, G: Gate + Sync>(
+    rt: &R,
+    alloc: Global,
+    pattern: &Pattern,
+    gate: &G,
+) -> Result<TableDraft, MakeFault>
+    ensures file { IfOk result (λ draft. (entries : List ℕ)
+        × IsTableFile (record { pattern = pattern.now; entries = entries }) draft.file.items) }
+    ensures fault { IfErr result IsBuildFault }
+{
+    let host = Host { rt, alloc, gate };
     let grid = Grid::new(pattern)?;
     let shapes = Shapes::new(alloc, pattern)?;
-    let counts = Counts::new(rt, alloc, &grid, &shapes, pattern.mask())?;
+    let counts = Counts::new(&host, &grid, &shapes, pattern.mask())?;
     let mut file = unfilled_file(alloc, pattern)?;
     let (_header, entries) = file.split_at_mut(HEADER_LEN);
-    fill_entries(rt, &grid, &shapes, &counts, entries)?;
-    Ok(file)
+    fill_entries(&host, &grid, &shapes, &counts, entries)?;
+    Ok(TableDraft {
+        file,
+        is_passed: counts.is_passed,
+    })
 }
 
 /// The file with entries that all say that their slot has no region.
@@ -69,18 +103,21 @@ fn unfilled_behind(alloc: Global, front: &[u8], len: usize) -> Result<Vec<u8>, A
 }
 
 /// Fills in all entries of slots that have a region, run by run: the placements of a run differ in the last tile alone.
-fn fill_entries<R: Threads + Sync>(
-    rt: &R,
+fn fill_entries<R: Threads + Sync, G: Gate + Sync>(
+    host: &Host<'_, R, G>,
     grid: &Grid,
     shapes: &Shapes,
     counts: &Counts,
     entries: &mut [u8],
 ) -> Result<(), Stop> {
+    let (rt, gate) = (host.rt, host.gate);
+    let all = entries.len() as u64;
     let is_filled = AtomicBool::new(true);
     par_chunks_mut_for_each(rt, entries, usize::from(grid.run) * RUNS, |start, runs| {
         if fill_runs(grid, shapes, counts, start, runs).is_err() {
             is_filled.store(false, Ordering::SeqCst);
         }
+        gate.filled(runs.len() as u64, all);
     });
     if is_filled.load(Ordering::SeqCst) {
         Ok(())

@@ -1,5 +1,6 @@
 -- A file is that of an exact table or has a fault, and its entries have a census.
-use Rattle.std.proofs.Common.{◌≡◌, ℕ, zero, suc, ◌+◌, ◌*◌, ◌/◌, ◌<◌, ◌≤◌, ◌⊎◌, List, [], length, get_or, take, Result, Some, Ok, Err, inl, inr, refl, sym, ◌∙◌, ap, subst, arith}
+use Rattle.std.proofs.Common.{◌≡◌, ℕ, zero, suc, ◌+◌, ◌*◌, ◌/◌, ◌<◌, ◌≤◌, ◌⊎◌, List, [], length, get_or, take, Result, Some, Ok, Err, inl, inr, refl}
+use Rattle.std.proofs.Common.{sym, ◌∙◌, ap, subst, arith}
 use Rattle.std.specs.Prelude.{count_by, slice_get, slice_index, ◌==◌}
 use Rattle.std.specs.List.{range_with_len}
 use Rattle.std.proofs.Math.Nat.{mul-le-mul_right}
@@ -67,7 +68,8 @@ module _ (t : Table) (is : IsTable t) where
       kept j none = elim (rule_decided t is.pattern cells j (entry_at t r j) place) [ inl keeps ↦ keeps | inr breaks ↦ absurd (none breaks) ]
 
   -- those of the first ranks keep the rule, or there is a least bad entry
-  ranks_below : (m : ℕ) → m ≤ placement_count t.pattern → ((number : ℕ) → number < m * slot_count t.pattern → KeepsRule t number) ⊎ ((number : ℕ) × IsLeastBadEntry t number)
+  ranks_below : (m : ℕ) → m ≤ placement_count t.pattern → ((number : ℕ) → number < m * slot_count t.pattern → KeepsRule t number)
+      ⊎ ((number : ℕ) × IsLeastBadEntry t number)
   ranks_below zero low = inl (λ number none. absurd (omega arith))
   ranks_below (suc m) low = elim (ranks_below m (omega arith)) [
     | inr bad ↦ inr bad
@@ -81,10 +83,13 @@ module _ (t : Table) (is : IsTable t) where
           → ((number : ℕ) → number < m * slot_count t.pattern → KeepsRule t number) → IsLeastBadEntry t (m * slot_count t.pattern + slot)
       least_bad m cells place is_rank slot first before =
           let block : ℕ = m / 256 in
-          let here = least_bad_in t block m slot (record { pattern = t.pattern; cells = cells }) refl place is_rank (omega arith) (omega arith) first (λ other from to. before other to) in
+          let here = least_bad_in t block m slot (record { pattern = t.pattern; cells = cells }) refl place is_rank (omega arith) (omega arith) first
+          (λ other from to. before other to) in
           let slot_low : slot < slot_count t.pattern = first.slot_low in
-          let starts : block * 256 * slot_count t.pattern ≤ m * slot_count t.pattern = mul-le-mul_right (slot_count t.pattern) (let s : block * 256 ≤ m = omega arith in s) in
-          let ends : (m + 1) * slot_count t.pattern ≤ (block + 1) * 256 * slot_count t.pattern = mul-le-mul_right (slot_count t.pattern) (let s : m + 1 ≤ (block + 1) * 256 = omega arith in s) in
+          let starts : block * 256 * slot_count t.pattern ≤ m * slot_count t.pattern =
+          mul-le-mul_right (slot_count t.pattern) (let s : block * 256 ≤ m = omega arith in s) in
+          let ends : (m + 1) * slot_count t.pattern ≤ (block + 1) * 256 * slot_count t.pattern =
+          mul-le-mul_right (slot_count t.pattern) (let s : m + 1 ≤ (block + 1) * 256 = omega arith in s) in
           record {
             bad = here.bad;
             least = λ other bad. elim (cases_lt other (m * slot_count t.pattern)) [
@@ -98,6 +103,7 @@ module _ (t : Table) (is : IsTable t) where
 
 -- ---- the answer
 
+-- each file is that of an exact table or has a fault that says why it isn't
 pub file_answer : (file : List ℕ) → ((t : Table) × IsExactFile t file) ⊎ ((fault : TableRefusal) × IsTableFaultOf fault file)
 file_answer file = by_table (table_of_file file) refl
   where
@@ -119,7 +125,8 @@ file_answer file = by_table (table_of_file file) refl
 -- ---- the census
 
 module _ (entries : List ℕ) (m d : ℕ) (is : IsGreatestCount entries m d) where
-  bound_more : (e : ℕ) → d ≤ e → (slice_index entries m ≤ 253 → slice_index entries m ≤ e) → (i : ℕ) → i < suc m → slice_index entries i ≤ 253 → slice_index entries i ≤ e
+  bound_more : (e : ℕ) → d ≤ e → (slice_index entries m ≤ 253 → slice_index entries m ≤ e) → (i : ℕ) → i < suc m → slice_index entries i ≤ 253
+      → slice_index entries i ≤ e
   bound_more e up here i low count = elim (cases_lt i m) [
     | inl l ↦ let old : slice_index entries i ≤ d = is.bound i l count in omega arith
     | inr l ↦ let same : m ≡ i = omega arith in subst (λ k. slice_index entries k ≤ e) same (here (subst (λ k. slice_index entries k ≤ 253) (sym same) count))
@@ -145,6 +152,7 @@ deepest_some : (entries : List ℕ) (first : ℕ) → (d : ℕ) × IsGreatestCou
 deepest_some entries zero = (0, record { most = omega arith; bound = λ i low small. absurd (omega arith); reached = inl refl })
 deepest_some entries (suc m) = let before = deepest_some entries m in deepest_more entries m before.0 before.1
 
+-- the entries of any list have a census
 pub census_some : (entries : List ℕ) → (census : Census) × IsCensusOf entries census
 census_some entries =
     let d = deepest_some entries (length entries) in (

@@ -29,6 +29,7 @@ pub record IsFirstBadSlot (t : Table) (cells : List ℕ) (rank slot : ℕ) : Typ
 
 -- ---- placements by their ranks
 
+-- two lists of as many cells that have one rank are the same
 pub same_cells : (n : ℕ) (cells other : List ℕ) (r : ℕ) → length cells ≡ length other → IsRank n cells r → IsRank n other r → cells ≡ other
 same_cells n cells other r e is also = Some-one cells other (sym (subst (λ k. slice_get (placements n k) r ≡ Some cells) e is) ∙ also)
 
@@ -36,32 +37,45 @@ module _ (t : Table) (p : ShownPlacement) (same : p.pattern ≡ t.pattern) (plac
   size : length p.cells ≡ length t.pattern.tiles
   size = place.size ∙ ap (λ q. length q.tiles) same
 
+  -- the rank of a placement is below the table's count of placements
   pub rank_below : r < placement_count t.pattern
   rank_below = subst (λ k. r < length (placements t.pattern.side k)) size (IsRank-below t.pattern.side p.cells r is)
 
 -- ---- the next placement
 
-pub next_rank : (p : ShownPattern) (old : ShownPlacement) (new : List ℕ) (b : Bool) (r : ℕ) → old.pattern ≡ p → IsPlacement old → IsRank p.side old.cells r → r + 1 < placement_count p
-    → ((r : ℕ) → IsRank old.pattern.side old.cells r → MatchBool b (IsRank old.pattern.side new (r + 1)) (r + 1 ≡ length (placements old.pattern.side (length old.cells)))) → IsRank p.side new (r + 1)
+-- the step to the next placement leads to the next rank, as long as there is one
+pub next_rank : (p : ShownPattern) (old : ShownPlacement) (new : List ℕ) (b : Bool) (r : ℕ) → old.pattern ≡ p → IsPlacement old
+    → IsRank p.side old.cells r → r + 1 < placement_count p
+    → ((r : ℕ) → IsRank old.pattern.side old.cells r → MatchBool b (IsRank old.pattern.side new (r + 1))
+    (r + 1 ≡ length (placements old.pattern.side (length old.cells)))) → IsRank p.side new (r + 1)
 next_rank p old new b r same place is low step = go b (step r (subst (λ q. IsRank q.side old.cells r) (sym same) is))
   where
-    go : (b : Bool) → MatchBool b (IsRank old.pattern.side new (r + 1)) (r + 1 ≡ length (placements old.pattern.side (length old.cells))) → IsRank p.side new (r + 1)
+    go : (b : Bool) → MatchBool b (IsRank old.pattern.side new (r + 1)) (r + 1 ≡ length (placements old.pattern.side (length old.cells)))
+        → IsRank p.side new (r + 1)
     go true next = subst (λ q. IsRank q.side new (r + 1)) same next
     go false last =
-        let all : length (placements old.pattern.side (length old.cells)) ≡ placement_count p = ap (λ k. length (placements old.pattern.side k)) place.size ∙ ap placement_count same in
+        let all : length (placements old.pattern.side (length old.cells)) ≡ placement_count p =
+        ap (λ k. length (placements old.pattern.side k)) place.size ∙ ap placement_count same in
         absurd (omega arith)
 
 -- ---- ranks and numbers
 
+-- an entry before those of the m-th placement has a rank below m
 pub rank_low : (r j w m : ℕ) → r * w + j < m * w → r < m
 rank_low r j w m l = elim (cases_lt r m) [ inl k ↦ k | inr k ↦ absurd (let h : m * w ≤ r * w = mul-le-mul_right w k in omega arith) ]
 
+-- an entry that isn't before those of the m-th placement has a rank of m at least
 pub rank_high : (r j w m : ℕ) → j < w → m * w ≤ r * w + j → m ≤ r
-rank_high r j w m low l = elim (cases_lt r m) [ inr k ↦ k | inl k ↦ absurd (let h : (r + 1) * w ≤ m * w = mul-le-mul_right w (let s : r + 1 ≤ m = omega arith in s) in omega arith) ]
+rank_high r j w m low l = elim (cases_lt r m) [
+  | inr k ↦ k
+  | inl k ↦ absurd (let h : (r + 1) * w ≤ m * w = mul-le-mul_right w (let s : r + 1 ≤ m = omega arith in s) in omega arith)
+]
 
+-- the ranks of a block of the table, to its end, fit in 64 bits
 pub first_fits : (p : ShownPattern) → IsPattern p → (block : ℕ) → block < (placement_count p + 255) / 256 → block * 256 + 256 < 2 ^ 64
 first_fits p pat block l = let few = few_placements p pat in omega arith
 
+-- the number of an entry, by its rank and its slot, fits in 64 bits
 pub number_fits : (p : ShownPattern) → IsPattern p → (r w j : ℕ) → r < placement_count p → w < 256 → j < 256 → r * w + j < 2 ^ 64
 number_fits p pat r w j l fit low =
     let few = few_placements p pat in
@@ -70,7 +84,8 @@ number_fits p pat r w j l fit low =
 
 module _ (t : Table) where
   -- the entries of one placement more
-  pub keeps_more : (first place : ℕ) (cells : List ℕ) → length cells ≡ length t.pattern.tiles → IsRank t.pattern.side cells place → SlotsKeepRule t cells place (slot_count t.pattern)
+  pub keeps_more : (first place : ℕ) (cells : List ℕ) → length cells ≡ length t.pattern.tiles → IsRank t.pattern.side cells place
+      → SlotsKeepRule t cells place (slot_count t.pattern)
       → ((number : ℕ) → first ≤ number → number < place * slot_count t.pattern → KeepsRule t number)
       → (number : ℕ) → first ≤ number → number < (place + 1) * slot_count t.pattern → KeepsRule t number
   keeps_more first place cells size is keeps before number from to others j number_is = elim (cases_lt number (place * slot_count t.pattern)) [
@@ -94,7 +109,8 @@ module _ (t : Table) where
       let low : number_is.rank < (block + 1) * 256 = rank_low number_is.rank j (slot_count t.pattern) ((block + 1) * 256) (omega arith) in
       let below : number_is.rank < placement_count t.pattern = entry_rank_below number_is in
       let r_low : number_is.rank < place = past number_is.rank low below in
-      let next : (number_is.rank + 1) * slot_count t.pattern ≤ place * slot_count t.pattern = mul-le-mul_right (slot_count t.pattern) (let s : number_is.rank + 1 ≤ place = omega arith in s) in
+      let next : (number_is.rank + 1) * slot_count t.pattern ≤ place * slot_count t.pattern =
+      mul-le-mul_right (slot_count t.pattern) (let s : number_is.rank + 1 ≤ place = omega arith in s) in
       let slot : j < slot_count t.pattern = number_is.slot in
       before number inside.from (omega arith) cells j number_is
 
@@ -107,7 +123,8 @@ module _ (t : Table) where
       let size : length p.cells ≡ length t.pattern.tiles = is.size ∙ ap (λ q. length q.tiles) same in
       let low : slot < slot_count t.pattern = bad.slot_low in
       let at_first : block * 256 * slot_count t.pattern ≤ place * slot_count t.pattern = mul-le-mul_right (slot_count t.pattern) from in
-      let at_end : (place + 1) * slot_count t.pattern ≤ (block + 1) * 256 * slot_count t.pattern = mul-le-mul_right (slot_count t.pattern) (let s : place + 1 ≤ (block + 1) * 256 = omega arith in s) in
+      let at_end : (place + 1) * slot_count t.pattern ≤ (block + 1) * 256 * slot_count t.pattern =
+      mul-le-mul_right (slot_count t.pattern) (let s : place + 1 ≤ (block + 1) * 256 = omega arith in s) in
       record {
         in_block = record { from = omega arith; to = omega arith };
         bad = record {
@@ -136,6 +153,7 @@ module _ (t : Table) where
               let one : cells ≡ breaks.cells = entry_cells number_is cells place size is_rank (sym same) in
               let here : place * slot_count t.pattern + breaks.slot ≡ other = ap (λ r. r * slot_count t.pattern + breaks.slot) (sym same) ∙ sym counted in
               let slot_low : breaks.slot < slot = omega arith in
-              absurd (breaks.breaks (subst (λ e. LocalRule t breaks.cells breaks.slot (slice_index t.entries e)) here (subst (λ q. LocalRule t q breaks.slot (entry_at t place breaks.slot)) one (bad.below breaks.slot slot_low))))
+              absurd (breaks.breaks (subst (λ e. LocalRule t breaks.cells breaks.slot (slice_index t.entries e)) here
+              (subst (λ q. LocalRule t q breaks.slot (entry_at t place breaks.slot)) one (bad.below breaks.slot slot_low))))
         ]
       ]

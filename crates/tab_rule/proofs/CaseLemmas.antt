@@ -7,7 +7,8 @@ use Rattle.pat_place.proofs.JoinLemmas.{Decided}
 use Rattle.tab_lanes.specs.LocalRule.{KeepsRuleOfKind, no_region as by_no_region, goal as by_goal, one_more as by_one_more, never as by_never}
 use Rattle.tab_file.specs.Tables.{Table}
 use Rattle.tab_rule.specs.Entries.{HasNoRegion, HasRegion}
-use Rattle.tab_rule.specs.LocalRule.{IsGoalSlot, IsKindOf, IsLeastNear, IsLeastOf, IsNearEntry, LocalRule, no_region as of_no_region, goal as of_goal, other as of_other}
+use Rattle.tab_rule.specs.LocalRule.{IsGoalSlot, IsKindOf, IsLeastNear, IsLeastOf, IsNearEntry, LocalRule, no_region as of_no_region, goal as of_goal}
+use Rattle.tab_rule.specs.LocalRule.{other as of_other}
 use Rattle.tab_rule.proofs.MoveLemmas.{IsLeastOf-none}
 use Rattle.tab_rule.proofs.NearestLemmas.{least_near_some}
 use Rattle.tab_rule.proofs.Values.{IsPlaced}
@@ -20,7 +21,7 @@ IsLeastOf-only Has m k is also = let a = low m k is also in let b = low k m also
     low m k is also = elim also.reached [ inl full ↦ (let l = is.most in omega arith) | inr h ↦ is.least k h ]
 
 -- a slot has one kind
-kind_one : (p : ShownPattern) (cells : List ℕ) (j k l : ℕ) → IsKindOf p cells j k → IsKindOf p cells j l → k ≡ l
+pub kind_one : (p : ShownPattern) (cells : List ℕ) (j k l : ℕ) → IsKindOf p cells j k → IsKindOf p cells j l → k ≡ l
 kind_one p cells j k l (of_no_region none is) (of_no_region also other) = omega arith
 kind_one p cells j k l (of_no_region none is) (of_goal home other) = absurd (none 0 home.1)
 kind_one p cells j k l (of_no_region none is) (of_other has away other) = absurd (none has.cell has.in_slot)
@@ -65,19 +66,30 @@ module _ (t : Table) (cells : List ℕ) (j e : ℕ) where
   case_of kind least (of_other has away is) near (by_one_more two small more) = one_more least has away near small more
   case_of kind least (of_other has away is) near (by_never two full also) = never has away (subst (IsLeastNear t cells j) full near) also
 
+  -- an entry that keeps the local rule is of one of the four cases
   pub rule_cases : LocalRule t cells j e → RuleCase
   rule_cases rule = case_of rule.kind rule.least rule.is_kind rule.is_least rule.keeps
 
+  -- an entry of a placement that is of one of the four cases keeps the local rule
   pub rule_of_case : IsPattern t.pattern → IsPlaced t.pattern cells → RuleCase → LocalRule t cells j e
-  rule_of_case pat place (no_region none full) = record { kind = 0; is_kind = of_no_region none refl; least = 255; is_least = none_near_nothing t cells j none; keeps = by_no_region refl full }
+  rule_of_case pat place (no_region none full) = record {
+    kind = 0;
+    is_kind = of_no_region none refl;
+    least = 255;
+    is_least = none_near_nothing t cells j none;
+    keeps = by_no_region refl full;
+  }
   rule_of_case pat place (goal home zero) =
       let m = least_near_some t pat cells place j (record { cell = 0; in_slot = home.1 }) in
       record { kind = 1; is_kind = of_goal home refl; least = m.0; is_least = m.1; keeps = by_goal refl zero }
-  rule_of_case pat place (one_more m has away near small more) = record { kind = 2; is_kind = of_other has away refl; least = m; is_least = near; keeps = by_one_more refl small more }
-  rule_of_case pat place (never has away near full) = record { kind = 2; is_kind = of_other has away refl; least = 255; is_least = near; keeps = by_never refl refl full }
+  rule_of_case pat place (one_more m has away near small more) =
+      record { kind = 2; is_kind = of_other has away refl; least = m; is_least = near; keeps = by_one_more refl small more }
+  rule_of_case pat place (never has away near full) =
+      record { kind = 2; is_kind = of_other has away refl; least = 255; is_least = near; keeps = by_never refl refl full }
 
 -- ---- the rule by numbers can be told
 
+-- whether an entry keeps the rule by its kind and its least near entry can be decided
 pub keeps_decided : (kind least e : ℕ) → Decided (KeepsRuleOfKind kind least e)
 keeps_decided kind least e = elim (cases_eq kind 0) [
   | inl zero ↦ elim (cases_eq e 254) [ inl full ↦ inl (by_no_region zero full) | inr bad ↦ inr (not_empty zero bad) ]

@@ -24,6 +24,7 @@ module _ (t : Table) (pat : IsPattern t.pattern) (cells : List ℕ) (j : ℕ) (p
         ]
   ]
 
+-- whether the entry of a placement and a slot keeps the local rule can be decided
 pub rule_decided : (t : Table) → IsPattern t.pattern → (cells : List ℕ) (j e : ℕ) → IsPlaced t.pattern cells → Decided (LocalRule t cells j e)
 rule_decided t pat cells j e place =
     let n = numbers_some t pat cells j place in

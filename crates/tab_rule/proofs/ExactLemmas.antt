@@ -14,7 +14,8 @@ use Rattle.tab_rule.specs.Entries.{HasRegion, IsEntryAt}
 use Rattle.tab_rule.specs.ExactTables.{AreExact, SaysOfBoard}
 use Rattle.tab_rule.specs.LocalRule.{IsGoalSlot, IsLeastNear, IsNearEntry}
 use Rattle.tab_rule.proofs.CaseLemmas.{RuleCase, goal, never, no_region, one_more, rule_of_case}
-use Rattle.tab_rule.proofs.EntryLemmas.{decode, decode_large, decode_small, decode_some, entry_total, near_entry, near_from_move, near_valid, region_cases, value, value-constant, value-is}
+use Rattle.tab_rule.proofs.EntryLemmas.{decode, decode_large, decode_small, decode_some, entry_total, near_entry, near_from_move, near_valid}
+use Rattle.tab_rule.proofs.EntryLemmas.{region_cases, value, value-constant, value-is}
 use Rattle.tab_rule.proofs.EntryNumberLemmas.{entry_placement}
 use Rattle.tab_rule.proofs.NearLemmas.{IsFree-in, IsPlaced-in}
 use Rattle.tab_rule.proofs.RuleLemmas.{exact_entries, region_from_slot, slot_from_region}
@@ -22,9 +23,11 @@ use Rattle.tab_rule.proofs.ValueLemmas.{rule_from_exact}
 use Rattle.tab_rule.proofs.Values.{IsExactValue, IsNear, IsOneMore, IsPlaced, SaysCost, table}
 
 module _ (p : ShownPattern) (pat : IsPattern p) (entries : List ℕ) (exact : AreExact (table p entries)) where
-  says_of : (cells : List ℕ) (c e : ℕ) → IsEntryAt (table p entries) cells c e → (b : List ℕ) → IsBoardOf p.side b → placement_of p.tiles b ≡ cells → blank b ≡ c → SaysOfBoard p.tiles b e
+  says_of : (cells : List ℕ) (c e : ℕ) → IsEntryAt (table p entries) cells c e → (b : List ℕ) → IsBoardOf p.side b → placement_of p.tiles b ≡ cells
+      → blank b ≡ c → SaysOfBoard p.tiles b e
   says_of cells c e is b good same z =
-      subst (SaysOfBoard p.tiles b) is.holds ((exact cells is.slot is.number is.is_number).boards b good same (subst (λ x. IsSlot p.side cells x is.slot) (sym z) is.is_slot))
+      subst (SaysOfBoard p.tiles b) is.holds ((exact cells is.slot is.number is.is_number).boards b good same
+      (subst (λ x. IsSlot p.side cells x is.slot) (sym z) is.is_slot))
 
   exact_value : IsExactValue p (value p pat entries)
   exact_value b good = elim (says_of (placement_of p.tiles b) (blank b) e.0 e.1 b good refl refl) [
@@ -54,7 +57,8 @@ module _ (p : ShownPattern) (pat : IsPattern p) (entries : List ℕ) (exact : Ar
       elim (says_of cells c e is has.board has.is_board has.places has.blank_cell) [ inl h ↦ inl h.0 | inr h ↦ inr h.0 ]
 
   -- the value of a neighbour with a count
-  near_value : (cells : List ℕ) (c : ℕ) (q : List ℕ) (t x : ℕ) → IsPlaced p cells → IsFree p.side cells c → IsNear p.side cells c q t → IsEntryAt (table p entries) q t x → x ≤ 253
+  near_value : (cells : List ℕ) (c : ℕ) (q : List ℕ) (t x : ℕ) → IsPlaced p cells → IsFree p.side cells c → IsNear p.side cells c q t
+      → IsEntryAt (table p entries) q t x → x ≤ 253
       → value p pat entries q t ≡ Some x
   near_value cells c q t x place free near at_q l =
       let ok = near_valid p pat cells c q t place free near in
@@ -65,7 +69,8 @@ module _ (p : ShownPattern) (pat : IsPattern p) (entries : List ℕ) (exact : Ar
     region = record { cell = c; in_slot = slot }
 
     -- an entry one move away is the value near by, or 255
-    near_known : (x : ℕ) → IsNearEntry (table p entries) cells j x → ((q : List ℕ) × (t : ℕ) × IsNear p.side cells c q t × (value p pat entries q t ≡ Some x)) ⊎ (x ≡ 255)
+    near_known : (x : ℕ) → IsNearEntry (table p entries) cells j x
+        → ((q : List ℕ) × (t : ℕ) × IsNear p.side cells c q t × (value p pat entries q t ≡ Some x)) ⊎ (x ≡ 255)
     near_known x next =
         let q : List ℕ = set cells next.index next.to in
         let t : ℕ = get_or cells next.index 0 in
@@ -117,16 +122,21 @@ module _ (p : ShownPattern) (pat : IsPattern p) (entries : List ℕ) (exact : Ar
             let small : k < 253 = omega arith in
             one_more k region far (least_near k one.0.0 one.0.1 small more one.0.3 one.0.4 one.1) small more
 
-        away : (¬ IsGoalSlot p cells j) → (e ≤ 253) ⊎ (e ≡ 255) → IsOneMore p (value p pat entries) cells c (value p pat entries cells c) → RuleCase (table p entries) cells j e
+        away : (¬ IsGoalSlot p cells j) → (e ≤ 253) ⊎ (e ≡ 255) → IsOneMore p (value p pat entries) cells c (value p pat entries cells c)
+            → RuleCase (table p entries) cells j e
         away far (inl l) one = counted far l (subst (IsOneMore p (value p pat entries) cells c) (known ∙ decode_small e (omega arith)) one)
-        away far (inr full) one = never region far (none_near (subst (IsOneMore p (value p pat entries) cells c) (known ∙ decode_large e (omega arith)) one)) full
+        away far (inr full) one = never region far (none_near
+            (subst (IsOneMore p (value p pat entries) cells c) (known ∙ decode_large e (omega arith)) one)) full
 
+  -- where all entries are right, each of them keeps the local rule
   pub entries_keep : AllKeepRule (table p entries)
-  entries_keep number cells j is = rule_of_case (table p entries) cells j (slice_index entries number) pat (entry_placement is) (elim (region_cases p pat cells j) [
-    | inr none ↦ no_region none ((exact cells j number is).no_region none)
-    | inl has ↦ rule_at cells has.cell j (slice_index entries number) (entry_placement is) has.in_slot
-        (record { slot = j; is_slot = has.in_slot; number = number; is_number = is; holds = refl })
-  ])
+  entries_keep number cells j is = rule_of_case (table p entries) cells j (slice_index entries number) pat (entry_placement is)
+      (elim (region_cases p pat cells j) [
+        | inr none ↦ no_region none ((exact cells j number is).no_region none)
+        | inl has ↦ rule_at cells has.cell j (slice_index entries number) (entry_placement is) has.in_slot
+            (record { slot = j; is_slot = has.in_slot; number = number; is_number = is; holds = refl })
+      ])
 
+-- the entries of a table all keep the local rule exactly where they are all right
 pub files_exact : (t : Table) → IsTable t → AllKeepRule t ↔ AreExact t
 files_exact t is = (exact_entries t.pattern is.pattern t.entries, entries_keep t.pattern is.pattern t.entries)

@@ -1,5 +1,6 @@
 -- What the least entry of a placement says of the placement's boards.
-use Rattle.std.proofs.Common.{◌≡◌, ◌≢◌, ℕ, ◌+◌, ◌*◌, ◌<◌, ◌≤◌, List, [], ◌∷◌, ◌++◌, zero, suc, ◌⊎◌, cond, eqb, length, take, drop, get_or, inl, inr, refl, sym, ◌∙◌, ap, subst, arith, length-drop, ne_eqb, eq-eqb}
+use Rattle.std.proofs.Common.{◌≡◌, ◌≢◌, ℕ, ◌+◌, ◌*◌, ◌<◌, ◌≤◌, List, [], ◌∷◌, ◌++◌, zero, suc, ◌⊎◌, cond, eqb, length, take, drop, get_or, inl, inr}
+use Rattle.std.proofs.Common.{refl, sym, ◌∙◌, ap, subst, arith, length-drop, ne_eqb, eq-eqb}
 use Rattle.std.specs.Prelude.{min, slice_index}
 use Rattle.std.proofs.lemmas.Bool.{cases_lt, cond-false, cond-true}
 use Rattle.std.proofs.lemmas.List.{get_or-drop, get_or-take, length-take-le}
@@ -30,6 +31,7 @@ use Rattle.tab_rule.proofs.EntryNumberLemmas.{entry_number}
 
 -- ---- the least of some entries
 
+-- the least entry of no entries is 255, that of no way home
 pub least_none : IsLeastEntry [] 255
 least_none = record { bound = λ j low. absurd (omega arith); reached = inl refl }
 
@@ -74,7 +76,13 @@ module _ (xs : List ℕ) (e least : ℕ) (is : IsLeastEntry xs least) where
       kept : m ≡ least → (m ≡ 255) ⊎ ((j : ℕ) × (j < length (xs ++ e ∷ [])) × (get_or (xs ++ e ∷ []) j 0 ≡ m) × (¬ (m ≡ 254)))
       kept same = elim is.reached [
         | inl none ↦ inl (same ∙ none)
-        | inr at ↦ inr (at.0, let l : at.0 < length xs = at.1 in let k = long xs e in omega arith, old xs e at.0 at.1 ∙ at.2 ∙ sym same, λ bad. at.3 (sym same ∙ bad))
+        | inr at ↦ inr (
+          at.0,
+          let l : at.0 < length xs = at.1 in let k = long xs e in
+              omega arith,
+          old xs e at.0 at.1 ∙ at.2 ∙ sym same,
+          λ bad. at.3 (sym same ∙ bad),
+        )
       ]
 
       chosen : e ≢ 254 → m ≡ min least e → (m ≡ 255) ⊎ ((j : ℕ) × (j < length (xs ++ e ∷ [])) × (get_or (xs ++ e ∷ []) j 0 ≡ m) × (¬ (m ≡ 254)))
@@ -85,7 +93,8 @@ module _ (xs : List ℕ) (e least : ℕ) (is : IsLeastEntry xs least) where
 
 -- ---- what it says of a placement
 
-module _ (t : Table) (is : IsExactTable t) (cells : List ℕ) (place : IsPlacement (record { pattern = t.pattern; cells = cells })) (r : ℕ) (is_rank : IsRank t.pattern.side cells r) where
+module _ (t : Table) (is : IsExactTable t) (cells : List ℕ) (place : IsPlacement (record { pattern = t.pattern; cells = cells })) (r : ℕ)
+    (is_rank : IsRank t.pattern.side cells r) where
   number_is : (j : ℕ) → j < slot_count t.pattern → IsEntryNumber t.pattern cells j (r * slot_count t.pattern + j)
   number_is j low = entry_number r place.size is_rank low refl
 
@@ -98,12 +107,20 @@ module _ (t : Table) (is : IsExactTable t) (cells : List ℕ) (place : IsPlaceme
   said : (b : List ℕ) → IsBoardOf t.pattern.side b → placement_of t.pattern.tiles b ≡ cells → Said b
   said b board places =
       let n : ℕ = t.pattern.side in
-      let free : IsFree n cells (blank b) = subst (λ cs. IsFree n cs (blank b)) places (IsFree-blank n t.pattern.tiles is.is_table.pattern.tiles b board (let l = cells_least n b board in omega arith)) in
+      let free : IsFree n cells (blank b) = subst (λ cs. IsFree n cs (blank b)) places
+      (IsFree-blank n t.pattern.tiles is.is_table.pattern.tiles b board (let l = cells_least n b board in omega arith)) in
       let some = slot_some n is.is_table.pattern.low is.is_table.pattern.high cells (blank b) free in
-      let low : some.0 < slot_count t.pattern = subst (λ k. some.0 < width t.pattern.side k) place.size (slot_within n is.is_table.pattern.low is.is_table.pattern.high cells (blank b) some.0 place.inside place.apart some.1) in
-      record { slot = some.0; low = low; says = (is.exact cells some.0 (r * slot_count t.pattern + some.0) (number_is some.0 low)).boards b board places some.1 }
+      let low : some.0 < slot_count t.pattern = subst (λ k. some.0 < width t.pattern.side k) place.size
+      (slot_within n is.is_table.pattern.low is.is_table.pattern.high cells (blank b) some.0 place.inside place.apart some.1) in
+      record {
+        slot = some.0;
+        low = low;
+        says = (is.exact cells some.0 (r * slot_count t.pattern + some.0) (number_is some.0 low)).boards b board
+            places some.1;
+      }
 
-  module _ (part : List ℕ) (each : (j : ℕ) → j < slot_count t.pattern → slice_index part j ≡ entry_at t r j) (size : length part ≡ slot_count t.pattern) (f : ℕ) (least : IsLeastEntry part f) where
+  module _ (part : List ℕ) (each : (j : ℕ) → j < slot_count t.pattern → slice_index part j ≡ entry_at t r j)
+      (size : length part ≡ slot_count t.pattern) (f : ℕ) (least : IsLeastEntry part f) where
     -- an entry that says something of a board is 254 never, and bounds the least one
     above : (b : List ℕ) → (h : Said b) → f ≤ entry_at t r h.slot
     above b h =
@@ -122,7 +139,8 @@ module _ (t : Table) (is : IsExactTable t) (cells : List ℕ) (place : IsPlaceme
         let l : f ≤ entry_at t r h.slot = above b h in
         elim h.says [ inl x ↦ absurd (let few : entry_at t r h.slot ≤ 253 = x.0 in omega arith) | inr x ↦ x.1 ]
 
-    under : (b path : List ℕ) → IsBoardOf t.pattern.side b → placement_of t.pattern.tiles b ≡ cells → LeadsHome t.pattern.tiles b path → f ≤ cost t.pattern.tiles b path
+    under : (b path : List ℕ) → IsBoardOf t.pattern.side b → placement_of t.pattern.tiles b ≡ cells → LeadsHome t.pattern.tiles b path
+        → f ≤ cost t.pattern.tiles b path
     under b path board places leads =
         let h = said b board places in
         let l : f ≤ entry_at t r h.slot = above b h in
@@ -135,14 +153,17 @@ module _ (t : Table) (is : IsExactTable t) (cells : List ℕ) (place : IsPlaceme
     reached j low holds some = elim (region_cases t.pattern is.is_table.pattern cells j) [
       | inr none ↦ absurd (some (sym holds ∙ (is.exact cells j (r * slot_count t.pattern + j) (number_is j low)).no_region none))
       | inl has ↦
-          let b : HasBoard (record { pattern = t.pattern; cells = cells }) has.cell = board_of (record { pattern = t.pattern; cells = cells }) is.is_table.pattern place has.cell has.in_slot.free in
-          let says = (is.exact cells j (r * slot_count t.pattern + j) (number_is j low)).boards b.board b.is_board b.places (subst (λ c. IsSlot t.pattern.side cells c j) (sym b.blank_cell) has.in_slot) in
+          let b : HasBoard (record { pattern = t.pattern; cells = cells }) has.cell =
+          board_of (record { pattern = t.pattern; cells = cells }) is.is_table.pattern place has.cell has.in_slot.free in
+          let says = (is.exact cells j (r * slot_count t.pattern + j) (number_is j low)).boards b.board b.is_board b.places
+          (subst (λ c. IsSlot t.pattern.side cells c j) (sym b.blank_cell) has.in_slot) in
           elim (subst (SaysOfBoard t.pattern.tiles b.board) holds says) [
             | inl x ↦ inl (x.0, record { board = b.board; is_board = b.is_board; places = b.places; costs = x.1; least = under })
             | inr x ↦ inr (x.0, none_home x.0)
           ]
     ]
 
+    -- the least of a placement's entries says the least cost of its boards, or that none comes home
     pub least_says : SaysOfPlacement t.pattern cells f
     least_says = elim least.reached [
       | inl full ↦ inr (full, none_home full)
@@ -158,27 +179,36 @@ abbrev pub part_of : Table → ℕ → List ℕ
 part_of t r = take (slot_count t.pattern) (drop (r * slot_count t.pattern) t.entries)
 
 module _ (t : Table) (is : IsExactTable t) (r : ℕ) (below : r < placement_count t.pattern) where
+  -- the entries of a rank end within the table's entries
   pub within : r * slot_count t.pattern + slot_count t.pattern ≤ length t.entries
   within =
       let s : length t.entries ≡ placement_count t.pattern * slot_count t.pattern = is.is_table.entries in
-      let next : (r + 1) * slot_count t.pattern ≤ placement_count t.pattern * slot_count t.pattern = mul-le-mul_right (slot_count t.pattern) (let k : r + 1 ≤ placement_count t.pattern = omega arith in k) in
+      let next : (r + 1) * slot_count t.pattern ≤ placement_count t.pattern * slot_count t.pattern =
+      mul-le-mul_right (slot_count t.pattern) (let k : r + 1 ≤ placement_count t.pattern = omega arith in k) in
       omega arith
 
+  -- the part of the entries that belongs to a rank has one for each slot
   pub part_size : length (part_of t r) ≡ slot_count t.pattern
-  part_size = length-take-le (slot_count t.pattern) (drop (r * slot_count t.pattern) t.entries) (let l = length-drop (r * slot_count t.pattern) t.entries in let w = within in omega arith)
+  part_size = length-take-le (slot_count t.pattern) (drop (r * slot_count t.pattern) t.entries)
+      (let l = length-drop (r * slot_count t.pattern) t.entries in let w = within in omega arith)
 
+  -- the part of the entries that belongs to a rank has at each slot that slot's entry
   pub part_each : (j : ℕ) → j < slot_count t.pattern → slice_index (part_of t r) j ≡ entry_at t r j
-  part_each j low = get_or-take (slot_count t.pattern) (drop (r * slot_count t.pattern) t.entries) j 0 low ∙ get_or-drop (r * slot_count t.pattern) t.entries j 0
+  part_each j low = get_or-take (slot_count t.pattern) (drop (r * slot_count t.pattern) t.entries) j 0 low
+      ∙ get_or-drop (r * slot_count t.pattern) t.entries j 0
 
 -- so many ranks are folded
 pub record AreFoldedBelow (t : Table) (count : ℕ) (folded : List ℕ) : Type 0 where
   pub size : length folded ≡ count
   pub each : (r : ℕ) → r < count → IsLeastEntry (part_of t r) (slice_index folded r)
 
+-- with no rank done, no entry is folded
 pub folded_none : (t : Table) → AreFoldedBelow t 0 []
 folded_none t = record { size = refl; each = λ r low. absurd (omega arith) }
 
-pub folded_more : (t : Table) (count : ℕ) (folded : List ℕ) (e : ℕ) → AreFoldedBelow t count folded → IsLeastEntry (part_of t count) e → AreFoldedBelow t (count + 1) (folded ++ e ∷ [])
+-- with the least entry of the next rank put behind, one rank more is folded
+pub folded_more : (t : Table) (count : ℕ) (folded : List ℕ) (e : ℕ) → AreFoldedBelow t count folded → IsLeastEntry (part_of t count) e
+    → AreFoldedBelow t (count + 1) (folded ++ e ∷ [])
 folded_more t count folded e are is = record {
   size = let k = long folded e in let s : length folded ≡ count = are.size in omega arith;
   each = λ r low. elim (cases_lt r count) [
@@ -186,30 +216,37 @@ folded_more t count folded e are is = record {
     | inr after ↦
         let same : r ≡ length folded = (let s : length folded ≡ count = are.size in omega arith) in
         let at : get_or (folded ++ e ∷ []) r 0 ≡ e = ap (λ k. get_or (folded ++ e ∷ []) k 0) same ∙ new folded e in
-        subst (λ k. IsLeastEntry (part_of t k) (get_or (folded ++ e ∷ []) r 0)) (let k : count ≡ r = (let s : length folded ≡ count = are.size in omega arith) in k) (subst (IsLeastEntry (part_of t count)) (sym at) is)
+        subst (λ k. IsLeastEntry (part_of t k) (get_or (folded ++ e ∷ []) r 0))
+        (let k : count ≡ r = (let s : length folded ≡ count = are.size in omega arith) in k) (subst (IsLeastEntry (part_of t count)) (sym at) is)
   ];
 }
 
+-- with all ranks of an exact table folded, the entries are those of a folded table
 pub folded_all : (t : Table) → IsExactTable t → (folded : List ℕ) → AreFoldedBelow t (placement_count t.pattern) folded → AreFolded t.pattern folded
 folded_all t is folded are = record {
   size = are.size;
   each = λ cells r place is_rank.
-      let below : r < placement_count t.pattern = subst (λ k. r < length (placements t.pattern.side k)) place.size (IsRank-below t.pattern.side cells r is_rank) in
+      let below : r < placement_count t.pattern = subst (λ k. r < length (placements t.pattern.side k)) place.size
+      (IsRank-below t.pattern.side cells r is_rank) in
       least_says t is cells place r is_rank (part_of t r) (part_each t is r below) (part_size t is r below) (slice_index folded r) (are.each r below);
 }
 
 -- ---- a folded table tells a count of each board of its side
 
-pub says-folded : (p : ShownPattern) (b : List ℕ) → side_of b ≡ p.side → (e : ℕ) → SaysOfPlacement p (placement_of p.tiles b) e → FoldedTableSays p.tiles b (cond (eqb e 255) Never (Finite e))
+-- what a folded entry says of a board's placement is, as a count or never, what the folded table tells of the board
+pub says-folded : (p : ShownPattern) (b : List ℕ) → side_of b ≡ p.side → (e : ℕ) → SaysOfPlacement p (placement_of p.tiles b) e
+    → FoldedTableSays p.tiles b (cond (eqb e 255) Never (Finite e))
 says-folded p b side e says = elim says [
   | inl h ↦
-      let finite : Finite e ≡ cond (eqb e 255) Never (Finite e) = sym (cond-false (eqb e 255) Never (Finite e) (ne_eqb e 255 (λ full. let l = h.0 in omega arith))) in
+      let finite : Finite e ≡ cond (eqb e 255) Never (Finite e) =
+      sym (cond-false (eqb e 255) Never (Finite e) (ne_eqb e 255 (λ full. let l = h.0 in omega arith))) in
       subst (FoldedTableSays p.tiles b) finite (subst (λ n. IsFoldedCost n p.tiles (placement_of p.tiles b) e) (sym side) h.1)
   | inr h ↦
       let never : Never ≡ cond (eqb e 255) Never (Finite e) = sym (cond-true (eqb e 255) Never (Finite e) (eq-eqb e 255 h.0)) in
       subst (FoldedTableSays p.tiles b) never (subst (λ n. IsFoldedNever n p.tiles (placement_of p.tiles b)) (sym side) h.1)
 ]
 
+-- a folded table tells a count or never of each board of its side
 pub folded_some : (p : ShownPattern) → HasFoldedTable p → (b : List ℕ) → IsBoardOf p.side b → (count : Count) × FoldedTableSays p.tiles b count
 folded_some p is b board =
     let side : side_of b ≡ p.side = side_of-board p.side b board in
@@ -221,6 +258,8 @@ folded_some p is b board =
 
 -- ---- a folded count and the paths of a board
 
-pub folded_bound : (tiles b : List ℕ) → IsBoard b → (count : Count) → FoldedTableSays tiles b count → (path : List ℕ) → LeadsHome tiles b path → (d : ℕ) × (count ≡ Finite d) × (d ≤ cost tiles b path)
+-- a folded table tells of a board with a path home a count that is at most the path's cost
+pub folded_bound : (tiles b : List ℕ) → IsBoard b → (count : Count) → FoldedTableSays tiles b count → (path : List ℕ) → LeadsHome tiles b path
+    → (d : ℕ) × (count ≡ Finite d) × (d ≤ cost tiles b path)
 folded_bound tiles b board (Finite d) is path leads = (d, refl, is.least b path board refl leads)
 folded_bound tiles b board Never is path leads = absurd (is b board refl path leads)

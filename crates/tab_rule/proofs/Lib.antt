@@ -6,6 +6,8 @@ pub mod EntryLemmas
 pub mod EntryNumberLemmas
 mod ExactLemmas
 pub mod FoldLemmas
+pub mod LimitLemmas
+mod LimitWays
 pub mod LookLemmas
 pub mod MoveLemmas
 mod NearLemmas

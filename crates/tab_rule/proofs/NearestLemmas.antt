@@ -57,6 +57,7 @@ module _ (t : Table) (pat : IsPattern t.pattern) (cells : List ℕ) (place : IsP
       | inr none ↦ inr (λ near. none near.index near.moves.is_index (near.to, (near.moves, near.entry)))
     ]
 
+    -- for a slot with a region there is a least entry one move away, or it is 255
     pub least_near_some : (m : ℕ) × IsLeastNear t cells j m
     least_near_some = elim (least_below (IsNearEntry t cells j) near_decided 255) [
       | inl h ↦ (h.0, record { most = (let l : h.0 < 255 = h.1 in omega arith); least = h.3; reached = inr h.2 })

@@ -16,19 +16,24 @@ use Rattle.tab_rule.proofs.TableLemmas.{keeps_from_exact, least_bad_one, none_ba
 -- ---- files
 
 module _ (file : List ℕ) where
+  -- a file is that of one exact table alone
   pub exact_one : (t u : Table) → IsExactFile t file → IsExactFile u file → t ≡ u
   exact_one t u is also = table_one file t u is.is_file also.is_file
 
+  -- a file has at most one fault, of the header or of an entry
   pub IsTableFaultOf-one : (f g : TableRefusal) → IsTableFaultOf f file → IsTableFaultOf g file → f ≡ g
   IsTableFaultOf-one (Head f) (Head g) is also = ap Head (IsFirstFault-one file f g is also)
   IsTableFaultOf-one (Head f) (T7 b) is also = absurd (table_or_fault file also.0 f also.1 is)
   IsTableFaultOf-one (T7 a) (Head g) is also = absurd (table_or_fault file is.0 g is.1 also)
-  IsTableFaultOf-one (T7 a) (T7 b) is also = ap T7 (least_bad_one also.0 a b (subst (λ t. IsLeastBadEntry t a) (table_one file is.0 also.0 is.1 also.1) is.2) also.2)
+  IsTableFaultOf-one (T7 a) (T7 b) is also = ap T7 (least_bad_one also.0 a b
+      (subst (λ t. IsLeastBadEntry t a) (table_one file is.0 also.0 is.1 also.1) is.2) also.2)
 
+  -- the file of an exact table has no fault, of the header or of an entry
   pub exact_or_fault : (t : Table) (f : TableRefusal) → IsExactFile t file → ¬ IsTableFaultOf f file
   exact_or_fault t (Head f) is fault = table_or_fault file t f is.is_file fault
   exact_or_fault t (T7 number) is fault =
-      none_bad t (keeps_from_exact t is.is_file.table is.exact) number (subst (λ u. IsLeastBadEntry u number) (table_one file fault.0 t fault.1 is.is_file) fault.2)
+      none_bad t (keeps_from_exact t is.is_file.table is.exact) number
+      (subst (λ u. IsLeastBadEntry u number) (table_one file fault.0 t fault.1 is.is_file) fault.2)
 
 -- ---- censuses
 
@@ -39,6 +44,7 @@ deepest_low entries first d e is also = elim is.reached [
       let bound : slice_index entries h.0 ≤ e = also.bound h.0 h.1 at_most in let same : slice_index entries h.0 ≡ d = h.2 in omega arith
 ]
 
+-- the entries of a list have at most one census
 pub IsCensusOf-one : (entries : List ℕ) (a b : Census) → IsCensusOf entries a → IsCensusOf entries b → a ≡ b
 IsCensusOf-one entries a b is also = λ i. record {
   entries = (is.entries_counted ∙ sym also.entries_counted) i;

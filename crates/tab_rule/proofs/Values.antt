@@ -18,9 +18,11 @@ pub record IsNear (n : ℕ) (cells : List ℕ) (c : ℕ) (moved : List ℕ) (t :
   pub adjacent : Adjacent n to t
   pub moves : moved ≡ set cells index to
 
+-- the table of a pattern with these entries
 abbrev pub table : ShownPattern → List ℕ → Table
 table p entries = record { pattern = p; entries = entries }
 
+-- the cells are those of a placement of the pattern
 abbrev pub IsPlaced : ShownPattern → List ℕ → Type 0
 IsPlaced p cells = IsPlacement (record { pattern = p; cells = cells })
 
@@ -31,7 +33,8 @@ IsGoalRegion p cells c = (cells ≡ p.tiles) × Joins p.side cells c 0
 module _ (p : ShownPattern) (value : List ℕ → ℕ → Option ℕ) where
   -- neighbouring free cells have one value
   abbrev pub IsConstant : Type 0
-  IsConstant = (cells : List ℕ) (c d : ℕ) → IsPlaced p cells → IsFree p.side cells c → IsFree p.side cells d → Adjacent p.side c d → value cells d ≡ value cells c
+  IsConstant = (cells : List ℕ) (c d : ℕ) → IsPlaced p cells → IsFree p.side cells c → IsFree p.side cells d → Adjacent p.side c d
+      → value cells d ≡ value cells c
 
   -- one more than the least value a pattern move away
   abbrev pub IsOneMore : List ℕ → ℕ → Option ℕ → Type 0
@@ -40,10 +43,12 @@ module _ (p : ShownPattern) (value : List ℕ → ℕ → Option ℕ) where
       ((q : List ℕ) × (t : ℕ) × (k : ℕ) × IsNear p.side cells c q t × (value q t ≡ Some k) × (d ≡ suc k)) ×
       ((q : List ℕ) (t k : ℕ) → IsNear p.side cells c q t → value q t ≡ Some k → d ≤ suc k)
 
+  -- the value is 0 in the goal's region, and elsewhere one more than the least of the neighbours', or none
   abbrev pub KeepsValueRule : List ℕ → ℕ → Type 0
   KeepsValueRule cells c =
       (IsGoalRegion p cells c × (value cells c ≡ Some 0)) ⊎ ((¬ IsGoalRegion p cells c) × IsOneMore cells c (value cells c))
 
+  -- the values of all placements and free cells keep the rule
   abbrev pub AllKeepValueRule : Type 0
   AllKeepValueRule = (cells : List ℕ) (c : ℕ) → IsPlaced p cells → IsFree p.side cells c → KeepsValueRule cells c
 

@@ -1,5 +1,5 @@
 -- What holds of every table, and of every file.
-use Rattle.std.specs.Prelude.{◌≡◌, ℕ, ◌≤◌, ◌⊎◌, ◌↔◌, false, true, List, [], ◌∷◌}
+use Rattle.std.specs.Prelude.{◌≡◌, ℕ, suc, ◌≤◌, ◌⊎◌, ◌↔◌, false, true, List, [], ◌∷◌}
 use Rattle.puz_board.specs.Boards.{IsBoard, IsBoardOf, at, blank, slid}
 use Rattle.puz_board.specs.Cells.{Adjacent}
 use Rattle.puz_board.specs.Costs.{LeadsHome, cost, has}
@@ -12,6 +12,7 @@ use Rattle.tab_rule.specs.Entries.{IsEntryAt}
 use Rattle.tab_file.specs.EntryBytes.{greatest_count}
 use Rattle.tab_rule.specs.ExactTables.{AreExact, IsExactFile}
 use Rattle.tab_rule.specs.FoldedTables.{FoldedTableSays}
+use Rattle.tab_rule.specs.Limits.{HasBoardOfCost, IsPassed}
 use Rattle.tab_rule.specs.LocalRule.{IsNearEntry}
 use Rattle.tab_rule.specs.TableFaults.{IsTableFaultOf}
 use Rattle.tab_rule.specs.declared.census.Census.{Census}
@@ -56,6 +57,14 @@ abbrev pub CountsHavePaths : Type 0
 CountsHavePaths =
     (t : Table) → IsTable t → AllKeepRule t → (b : List ℕ) → IsBoardOf t.pattern.side b → (e : ℕ) → IsEntryOf t b e →
     e ≤ greatest_count → HasPathOf t.pattern.tiles b e
+
+-- where each entry keeps the rule up to a count of at most 253, and one is past it, some board costs one more
+abbrev pub PassedCountsAreCosts : Type 0
+PassedCountsAreCosts = (most : ℕ) → most ≤ greatest_count → (t : Table) → IsTable t → IsPassed most t → HasBoardOfCost t.pattern (suc most)
+
+-- each least cost of a board of an exact table's pattern is a count that a table holds
+abbrev pub ExactTablesBoundCosts : Type 0
+ExactTablesBoundCosts = (t : Table) → IsTable t → AreExact t → (d : ℕ) → HasBoardOfCost t.pattern d → d ≤ greatest_count
 
 -- each entry keeps the local rule exactly where each entry is right
 abbrev pub FilesAreExactByRule : Type 0

@@ -6,6 +6,7 @@ pub mod Entries
 pub mod ExactTables
 pub mod FoldedTables
 pub mod Laws
+pub mod Limits
 pub mod LocalRule
 pub mod TableFaults
 -- How values are stored.

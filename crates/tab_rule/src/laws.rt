@@ -1,6 +1,6 @@
 //! Laws of tables and their files. Each function here says what holds of all of them, and does nothing.
 
-ghost use Rattle.tab_rule.specs.Laws.{CountsHavePaths, EntriesHaveACensus, EntriesHaveOneCensus, ExactFilesHaveNoFault, FilesAreExactByRule, FilesHaveOneExactTable, FoldedCountsBoundPaths, OtherStepsKeepTheEntry, PathsCostTheEntryAtLeast, TableFilesHaveAnAnswer, TableFilesHaveOneFault, TileStepsLeadToANearEntry};
+ghost use Rattle.tab_rule.specs.Laws.{CountsHavePaths, EntriesHaveACensus, EntriesHaveOneCensus, ExactFilesHaveNoFault, ExactTablesBoundCosts, FilesAreExactByRule, FilesHaveOneExactTable, FoldedCountsBoundPaths, OtherStepsKeepTheEntry, PassedCountsAreCosts, PathsCostTheEntryAtLeast, TableFilesHaveAnAnswer, TableFilesHaveOneFault, TileStepsLeadToANearEntry};
 
 /// A step that moves no tile of the pattern costs nothing and keeps the entry.
 pub fn other_steps_keep_the_entry()
@@ -20,6 +20,17 @@ pub fn paths_cost_the_entry_at_least()
 /// Where each entry keeps the local rule, a count is the cost of some path home from each of its boards.
 pub fn counts_have_paths()
     ensures { CountsHavePaths }
+{}
+
+/// Where each entry keeps the local rule up to a count of at most 253, and some entry is past it, some board has one more
+/// as its least cost.
+pub fn passed_counts_are_costs()
+    ensures { PassedCountsAreCosts }
+{}
+
+/// Where a table is exact, no board of its pattern has a least cost above 253.
+pub fn exact_tables_bound_costs()
+    ensures { ExactTablesBoundCosts }
 {}
 
 /// Each entry keeps the local rule exactly where each entry is right.

@@ -17,15 +17,22 @@ use Rattle.tab_runs.proofs.RunRanks.{first_some}
 
 -- ---- a run ends within the table
 
-pub run_few : (p : ShownPattern) (cells : List ℕ) → IsRun p cells → (r : ℕ) → IsRank p.side cells r → r * run_length p.side cells + run_length p.side cells ≤ placement_count p
+-- all placements of a run have ranks below the count of placements
+pub run_few : (p : ShownPattern) (cells : List ℕ) → IsRun p cells → (r : ℕ) → IsRank p.side cells r
+    → r * run_length p.side cells + run_length p.side cells ≤ placement_count p
 run_few p cells run r is =
-    let low : r < falling_factorial (p.side * p.side) (length cells) = (let l = IsRank-below p.side cells r is in let e = count_of_placements p.side (length cells) in omega arith) in
+    let low : r < falling_factorial (p.side * p.side) (length cells) = (let l = IsRank-below p.side cells r is in
+    let e = count_of_placements p.side (length cells) in omega arith) in
     let all : placement_count p ≡ falling_factorial (p.side * p.side) (length cells) * run_length p.side cells =
-    count_of_placements p.side (length p.tiles) ∙ ap (falling_factorial (p.side * p.side)) (sym run.size ∙ (let e : length cells + 1 ≡ suc (length cells) = omega arith in e)) ∙ falling_more (p.side * p.side) (length cells) in
-    let next : (r + 1) * run_length p.side cells ≤ falling_factorial (p.side * p.side) (length cells) * run_length p.side cells = mul-le-mul_right (run_length p.side cells) (let s : r + 1 ≤ falling_factorial (p.side * p.side) (length cells) = omega arith in s) in
+    count_of_placements p.side (length p.tiles) ∙ ap (falling_factorial (p.side * p.side))
+    (sym run.size ∙ (let e : length cells + 1 ≡ suc (length cells) = omega arith in e)) ∙ falling_more (p.side * p.side) (length cells) in
+    let next : (r + 1) * run_length p.side cells ≤ falling_factorial (p.side * p.side) (length cells) * run_length p.side cells =
+    mul-le-mul_right (run_length p.side cells) (let s : r + 1 ≤ falling_factorial (p.side * p.side) (length cells) = omega arith in s) in
     omega arith
 
-pub run_end : (p : ShownPattern) (cells : List ℕ) → IsRun p cells → (r : ℕ) → IsRank p.side cells r → (r * run_length p.side cells + run_length p.side cells) * slot_count p ≤ entry_count p
+-- the entries of a run, with those before them, are no more than the table's entries
+pub run_end : (p : ShownPattern) (cells : List ℕ) → IsRun p cells → (r : ℕ) → IsRank p.side cells r
+    → (r * run_length p.side cells + run_length p.side cells) * slot_count p ≤ entry_count p
 run_end p cells run r is = mul-le-mul_right (slot_count p) (run_few p cells run r is)
 
 -- a table file has fewer than 2 ^ 33 bytes
@@ -43,7 +50,9 @@ pub record AreNumbers (t : Table) (cells : List ℕ) (rank run width : ℕ) : Ty
   pub is_run : run ≡ run_length t.pattern.side cells
   pub is_width : width ≡ slot_count t.pattern
 
-pub are_numbers : (t : Table) (pattern : ShownPattern) (cells : List ℕ) (side count from w width rank : ℕ) → pattern ≡ t.pattern → side ≡ pattern.side → count ≡ side * side → from ≡ count → w ≡ slot_count pattern → width ≡ w
+-- what the code computes of a run's cells is their rank, the run's length and the number of slots
+pub are_numbers : (t : Table) (pattern : ShownPattern) (cells : List ℕ) (side count from w width rank : ℕ) → pattern ≡ t.pattern
+    → side ≡ pattern.side → count ≡ side * side → from ≡ count → w ≡ slot_count pattern → width ≡ w
     → slice_get (lists_of (length cells) (range_with_len 0 count)) rank ≡ Some cells → AreNumbers t cells rank (from - length cells) width
 are_numbers t pattern cells side count from w width rank same side_is count_is from_is w_is width_is found =
     let n : side ≡ t.pattern.side = side_is ∙ ap (λ q. q.side) same in
@@ -58,6 +67,7 @@ module _ (t : Table) (file p : List ℕ) (is_file : IsTableFile t file) (run : I
   w : ℕ
   w = slot_count t.pattern
 
+  -- the file reaches to the end of a run's entries, with the byte before them
   pub run_room : 19 + r * run_length t.pattern.side p * slot_count t.pattern + (run_length t.pattern.side p * slot_count t.pattern + 1) ≤ length file
   run_room =
       let e = run_end t.pattern p run r is_rank in
@@ -67,7 +77,9 @@ module _ (t : Table) (file p : List ℕ) (is_file : IsTableFile t file) (run : I
       let room = is_file.room in
       omega arith
 
-  pub run_bytes : (start len : ℕ) → start ≡ 19 + r * run_length t.pattern.side p * slot_count t.pattern → len ≡ run_length t.pattern.side p * slot_count t.pattern + 1 → AreRunEntries t p (take len (drop start file))
+  -- the bytes of the file from the one before a run on, one more than the run's entries, are the run's entries
+  pub run_bytes : (start len : ℕ) → start ≡ 19 + r * run_length t.pattern.side p * slot_count t.pattern
+      → len ≡ run_length t.pattern.side p * slot_count t.pattern + 1 → AreRunEntries t p (take len (drop start file))
   run_bytes start len start_is len_is =
       let first = first_some t.pattern.side p run.inside run.apart in
       let same : first.0 ≡ r = IsRank-one t.pattern.side p first.0 r first.1 is_rank in
@@ -88,12 +100,17 @@ module _ (t : Table) (file p : List ℕ) (is_file : IsTableFile t file) (run : I
     where
       places : (b j : ℕ) {r' : ℕ} → start ≡ 19 + r * run_length t.pattern.side p * slot_count t.pattern → r' ≡ r
           → start + (1 + b * slot_count t.pattern + j) ≡ 20 + ((r' * run_length t.pattern.side p + b) * slot_count t.pattern + j)
-      places b j is e = ap (λ s. s + (1 + b * slot_count t.pattern + j)) (is ∙ ap (λ x. 19 + x * run_length t.pattern.side p * slot_count t.pattern) (sym e)) ∙ (omega arith)
+      places b j is e = ap (λ s. s + (1 + b * slot_count t.pattern + j))
+          (is ∙ ap (λ x. 19 + x * run_length t.pattern.side p * slot_count t.pattern) (sym e)) ∙ (omega arith)
 
+  -- the run's bytes end within the file, by the numbers that the code has
   pub run_within : (run width : ℕ) → AreNumbers t p r run width → 19 + r * run * width + run * width + 1 ≤ length file
   run_within run width are = let h = run_room in let e = ap₂ (λ l w. 19 + r * l * w + l * w + 1) are.is_run are.is_width in omega arith
 
-  pub run_slice : (run width : ℕ) → AreNumbers t p r run width → AreRunEntries t p (take (19 + r * run * width + run * width + 1 - (19 + r * run * width)) (drop (19 + r * run * width) file))
+  -- the slice of the file between the code's two bounds has the run's entries and the byte before them
+  pub run_slice : (run width : ℕ) → AreNumbers t p r run width
+      → AreRunEntries t p (take (19 + r * run * width + run * width + 1 - (19 + r * run * width)) (drop (19 + r * run * width) file))
   run_slice run width are = run_bytes (19 + r * run * width) (19 + r * run * width + run * width + 1 - (19 + r * run * width))
       (ap₂ (λ l w. 19 + r * l * w) are.is_run are.is_width)
-      ((let e : 19 + r * run * width + run * width + 1 - (19 + r * run * width) ≡ run * width + 1 = omega arith in e) ∙ ap₂ (λ l w. l * w + 1) are.is_run are.is_width)
+      ((let e : 19 + r * run * width + run * width + 1 - (19 + r * run * width) ≡ run * width + 1 = omega arith in e)
+      ∙ ap₂ (λ l w. l * w + 1) are.is_run are.is_width)

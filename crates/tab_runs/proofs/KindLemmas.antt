@@ -31,7 +31,8 @@ module _ (n w : ℕ) (p : List ℕ) (c : ℕ) (old : List ℕ) (kinds : AreKinds
   }
 
   -- a free cell
-  module _ (free : IsFree n p c) (regions new : List ℕ) (are : AreRegions n (with_last p c) regions) (few : length regions ≤ w) (marked : AreMarked (free_below p c * w) (length regions) old new) where
+  module _ (free : IsFree n p c) (regions new : List ℕ) (are : AreRegions n (with_last p c) regions) (few : length regions ≤ w)
+      (marked : AreMarked (free_below p c * w) (length regions) old new) where
     kept : (d j : ℕ) → d ≢ c → IsFree n p d → j < w → get_or new (free_below p d * w + j) 0 ≡ get_or old (free_below p d * w + j) 0
     kept d j ne was low = marked.outside (free_below p d * w + j) (elim (cases_lt (free_below p d * w + j) (free_below p c * w)) [
       | inl l ↦ inl l
@@ -53,6 +54,7 @@ module _ (n w : ℕ) (p : List ℕ) (c : ℕ) (old : List ℕ) (kinds : AreKinds
       )
     ]
 
+    -- where a free cell's placement is marked by its regions, the kinds are filled for one cell more
     pub kinds_more : AreKindsUpTo n w p (c + 1) new
     kinds_more = record {
       filled = λ d j l was low. elim (cases_eq d c) [
@@ -62,23 +64,34 @@ module _ (n w : ℕ) (p : List ℕ) (c : ℕ) (old : List ℕ) (kinds : AreKinds
       empty = λ d j past was low. kept d j (λ e. past (omega arith)) was low ∙ kinds.empty d j (λ l. past (omega arith)) was low;
     }
 
+-- kinds that are filled for all cells of the board tell which slots of the run have a region
 pub kinds_all : (n w : ℕ) (p kinds : List ℕ) → AreKindsUpTo n w p (n * n) kinds → TellRegions n w p kinds
 kinds_all n w p kinds are c j free low = are.filled c j free.0 free low
 
 -- ---- the order of the cells is all the same
 
+-- kinds that tell the regions of a run tell those of any run with the same set of cells
 pub tells_same : (n w : ℕ) (p q : List ℕ) → SameCells p q → (kinds : List ℕ) → TellRegions n w p kinds → TellRegions n w q kinds
 tells_same n w p q same kinds tells c j free low =
     let back = same_back p q same in
     subst (λ k. TellsRegion n (with_last q c) j (get_or kinds (k * w + j) 0)) (free_below-same p q same c) (elim (tells c j (free_same n q p back c free) low) [
       | inl none ↦ inl (none.0, λ x s. none.1 x (slot_same n (with_last q c) (with_last p c) (same_with_last q p c back) x j s))
-      | inr some ↦ inr (some.0, record { cell = some.1.cell; in_slot = slot_same n (with_last p c) (with_last q c) (same_with_last p q c same) some.1.cell j some.1.in_slot })
+      | inr some ↦ inr (
+        some.0,
+        record {
+          cell = some.1.cell;
+          in_slot = slot_same n (with_last p c) (with_last q c) (same_with_last p q c same) some.1.cell j some.1.in_slot;
+        },
+      )
     ])
 
 -- ---- one set more
 
+-- a run has as many entries as its number of tiles and its side say
 pub entries_same : (p : ShownPattern) (cells : List ℕ) → IsRun p cells → run_length p.side cells * slot_count p ≡ entries_of_run p.side (length p.tiles)
-entries_same p cells run = ap (λ k. k * slot_count p) (let s = run.size in let e : p.side * p.side - length cells ≡ p.side * p.side + 1 - length p.tiles = omega arith in e)
+entries_same p cells run = ap (λ k. k * slot_count p) (let s = run.size in
+    let e : p.side * p.side - length cells ≡ p.side * p.side + 1 - length p.tiles = omega arith in e)
 
+-- kinds of a run tell the regions of its set, in whatever order its cells are given
 pub kinds_of_set : (n w : ℕ) (p kinds : List ℕ) (mask : ℕ) → IsMaskOf mask (λ c. has p c ≡ true) → TellRegions n w p kinds → TellRegionsOf n w mask kinds
 kinds_of_set n w p kinds mask is tells q also = tells_same n w p q (same_of_mask mask p q is also) kinds tells

@@ -1,5 +1,6 @@
 -- How many cells below another one are free, and how many of them a row lists.
-use Rattle.std.proofs.Common.{◌≡◌, ℕ, zero, suc, ◌+◌, ◌*◌, ◌<◌, ◌≤◌, false, ltb, List, length, get_or, set, inl, inr, sym, ◌∙◌, ap, arith, get_or-set_same, get_or-set_other}
+use Rattle.std.proofs.Common.{◌≡◌, ℕ, zero, suc, ◌+◌, ◌*◌, ◌<◌, ◌≤◌, false, ltb, List, length, get_or, set, inl, inr, sym, ◌∙◌, ap, arith}
+use Rattle.std.proofs.Common.{get_or-set_same, get_or-set_other}
 use Rattle.std.specs.Int.{from_bool}
 use Rattle.std.proofs.lemmas.Bool.{cases_eq, cases_lt, le-ltb, lt-ltb}
 use Rattle.pat_place.specs.Patterns.{has}
@@ -43,6 +44,7 @@ module _ (p : List ℕ) (x : ℕ) (out : has p x ≡ false) where
             omega arith
       ]
 
+  -- the count of listed cells below c, got from that of free cells below c, is right for a cell x that no tile is in
   pub listed_is : (c free : ℕ) → free ≡ free_below p c → listed_of c free x ≡ listed_below p x c
   listed_is c free e = elim (cases_lt x c) [
     | inl l ↦ (let h = listed_behind c l in let b : from_bool (ltb x c) ≡ 1 = ap from_bool (lt-ltb x c l) in omega arith)
@@ -50,7 +52,8 @@ module _ (p : List ℕ) (x : ℕ) (out : has p x ≡ false) where
   ]
 
 -- where two free cells stand in the rows of each other
-pub listed_both : (n : ℕ) (p below : List ℕ) (a b : ℕ) → AreFreeBelow p (n * n) below → IsFree n p a → IsFree n p b → a < b → (get_or below a 0 ≡ listed_below p b a) × (get_or below b 0 ≡ listed_below p a b + 1)
+pub listed_both : (n : ℕ) (p below : List ℕ) (a b : ℕ) → AreFreeBelow p (n * n) below → IsFree n p a → IsFree n p b → a < b
+    → (get_or below a 0 ≡ listed_below p b a) × (get_or below b 0 ≡ listed_below p a b + 1)
 listed_both n p below a b are free_a free_b l = (
   are a free_a.0 ∙ listed_before p b free_b.1 a (omega arith),
   are b free_b.0 ∙ listed_behind p a free_a.1 b l,

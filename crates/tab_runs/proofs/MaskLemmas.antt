@@ -1,5 +1,6 @@
 -- The set of a run after one of its tiles has moved, and the cells to which it may move.
-use Rattle.std.proofs.Common.{◌≡◌, ◌≢◌, ℕ, ◌-◌, ◌*◌, ◌^◌, ◌<◌, ◌≤◌, true, List, length, get_or, set, inl, inr, sym, ◌∙◌, ap, arith, get_or-set_same, get_or-set_other, length-set}
+use Rattle.std.proofs.Common.{◌≡◌, ◌≢◌, ℕ, ◌-◌, ◌*◌, ◌^◌, ◌<◌, ◌≤◌, true, List, length, get_or, set, inl, inr, sym, ◌∙◌, ap, arith, get_or-set_same}
+use Rattle.std.proofs.Common.{get_or-set_other, length-set}
 use Rattle.std.specs.Prelude.{bit_and}
 use Rattle.std.specs.Int.{bit_at}
 use Rattle.std.specs.List.{AllByRecursion}
@@ -13,9 +14,12 @@ use Rattle.pat_place.specs.Placements.{IsApart, IsFree}
 use Rattle.puz_board.proofs.BitLemmas.{but_in, in_but, in_or_out}
 use Rattle.pat_place.proofs.ListLemmas.{all_at, apart_at, at-has, has-at}
 
-module _ (n : ℕ) (small : n * n ≤ 25) (p : List ℕ) (inside : AllByRecursion (λ c. c < n * n) p) (apart : IsApart p) (i f : ℕ) (low : i < length p) (mask less more : ℕ) (fits : less < 2 ^ 32)
-    (is : IsMaskOf mask (λ c. has p c ≡ true)) (clear : bit_at less (get_or p i 0) ≡ 0) (same : (x : ℕ) → x < 32 → x ≢ get_or p i 0 → bit_at less x ≡ bit_at mask x)
+module _ (n : ℕ) (small : n * n ≤ 25) (p : List ℕ) (inside : AllByRecursion (λ c. c < n * n) p) (apart : IsApart p) (i f : ℕ) (low : i < length p)
+    (mask less more : ℕ) (fits : less < 2 ^ 32)
+    (is : IsMaskOf mask (λ c. has p c ≡ true)) (clear : bit_at less (get_or p i 0) ≡ 0)
+    (same : (x : ℕ) → x < 32 → x ≢ get_or p i 0 → bit_at less x ≡ bit_at mask x)
     (here : bit_at more f ≡ 1) (others : (x : ℕ) → x ≢ f → bit_at more x ≡ bit_at less x) where
+  -- the mask with a tile's cell taken out and the entered cell put in is that of the run after the move
   pub mask_moved : IsMaskOf more (λ c. has (set p i f) c ≡ true)
   mask_moved y = elim (cases_eq y f) [
     | inl e ↦ (
@@ -41,11 +45,13 @@ module _ (n : ℕ) (small : n * n ≤ 25) (p : List ℕ) (inside : AllByRecursio
     )
   ]
 
+-- on a board of side 2 to 5, cells are beside each other both ways
 pub adjacent_back : (n : ℕ) → 2 ≤ n → n ≤ 5 → (c d : ℕ) → c < n * n → Adjacent n c d → Adjacent n d c
 adjacent_back n low high c d inside a = (inside, reverse_of a.1, reverse_of-takes_back a.1 n c d low high inside a.2)
 
 -- the free cells beside a tile's
-pub targets_are : (n : ℕ) (p : List ℕ) (cell near mask : ℕ) → near < 2 ^ 32 → mask < 2 ^ 32 → IsMaskOf near (Adjacent n cell) → IsMaskOf mask (λ c. has p c ≡ true)
+pub targets_are : (n : ℕ) (p : List ℕ) (cell near mask : ℕ) → near < 2 ^ 32 → mask < 2 ^ 32 → IsMaskOf near (Adjacent n cell)
+    → IsMaskOf mask (λ c. has p c ≡ true)
     → IsMaskOf (bit_and near (2 ^ 32 - 1 - mask)) (λ f. IsFree n p f × Adjacent n cell f)
 targets_are n p cell near mask fits also beside is f = (
   λ h.

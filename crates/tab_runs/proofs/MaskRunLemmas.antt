@@ -18,9 +18,11 @@ module _ (p : ShownPattern) (pat : IsPattern p) (set : ℕ) (bits : set < 2 ^ (p
   counted : length (numbers_of set) ≡ count_ones set
   counted = length-numbers_below 32 set fits
 
+  -- a set with one cell fewer than there are tiles has at most 8 numbers
   pub few_numbers : length (numbers_of set) ≤ 8
   few_numbers = let c = counted in let few = few_tiles p pat in omega arith
 
+  -- the numbers of a set with one cell fewer than there are tiles are a run of the pattern
   pub run_of_mask : IsRun p (numbers_of set)
   run_of_mask = record {
     size = (let c = counted in omega arith);
@@ -28,5 +30,6 @@ module _ (p : ShownPattern) (pat : IsPattern p) (set : ℕ) (bits : set < 2 ^ (p
     apart = apart_from_ascending (numbers_of set) (ascending-numbers_below 32 set);
   }
 
+  -- a set is the mask of the list of its numbers
   pub mask_of_numbers : IsMaskOf set (λ c. has (numbers_of set) c ≡ true)
   mask_of_numbers x = (λ h. has-numbers_below 32 set x (in_below set 32 x fits h) h, λ h. (in_numbers_below 32 set x h).1)

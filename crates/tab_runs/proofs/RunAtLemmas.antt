@@ -1,5 +1,6 @@
 -- The run of a placement, and the last one of its placements.
-use Rattle.std.proofs.Common.{◌≡◌, ◌≢◌, ℕ, suc, ◌+◌, ◌-◌, ◌*◌, ◌/◌, ◌%◌, ◌^◌, ◌<◌, ◌≤◌, true, false, eqb, List, [], ◌∷◌, length, get_or, set, take, inl, inr, refl, sym, ◌∙◌, ap, subst, arith}
+use Rattle.std.proofs.Common.{◌≡◌, ◌≢◌, ℕ, suc, ◌+◌, ◌-◌, ◌*◌, ◌/◌, ◌%◌, ◌^◌, ◌<◌, ◌≤◌, true, false, eqb, List, [], ◌∷◌, length, get_or, set, take}
+use Rattle.std.proofs.Common.{inl, inr, refl, sym, ◌∙◌, ap, subst, arith}
 use Rattle.std.specs.Int.{bit_at}
 use Rattle.std.specs.List.{AllByRecursion}
 use Rattle.std.proofs.lemmas.Bool.{both_ways, cases_lt, eqb-false, false_from_ne_true, ne_eqb, or_from, or_left, or_parts, or_cases, eqb-true}
@@ -22,10 +23,12 @@ use Rattle.tab_runs.proofs.RowLemmas.{parts_one}
 use Rattle.tab_runs.proofs.RunLemmas.{has-with_last}
 use Rattle.tab_runs.proofs.RunRanks.{first_some, free_at, free_below-low, free_below-up}
 
+-- where all cells of a placement are on the board, so are those of the run and the last one
 pub inside_front : (m : ℕ) (p : List ℕ) (c : ℕ) → AllByRecursion (λ x. x < m) (with_last p c) → AllByRecursion (λ x. x < m) p × (c < m)
 inside_front m [] c all = (tt, all.0)
 inside_front m (x ∷ p) c all = let r = inside_front m p c all.1 in ((all.0, r.0), r.1)
 
+-- where no two tiles of a placement share a cell, none of the run do, and the last one's is in none of theirs
 pub apart_front : (p : List ℕ) (c : ℕ) → IsApart (with_last p c) → IsApart p × (has p c ≡ false)
 apart_front [] c apart = (tt, refl)
 apart_front (x ∷ p) c apart =
@@ -41,7 +44,8 @@ pub record IsRunAt (t : Table) (p : List ℕ) (last from first set : ℕ) : Type
   pub low : first ≤ from
   pub mask : IsMaskOf set (λ c. has p c ≡ true)
 
-mask_front : (p : List ℕ) (c occupied set : ℕ) → has p c ≡ false → AllByRecursion (λ x. x < 25) p → set < 2 ^ 32 → IsMaskOf occupied (λ x. has (with_last p c) x ≡ true)
+mask_front : (p : List ℕ) (c occupied set : ℕ) → has p c ≡ false → AllByRecursion (λ x. x < 25) p → set < 2 ^ 32
+    → IsMaskOf occupied (λ x. has (with_last p c) x ≡ true)
     → bit_at set c ≡ 0 → ((x : ℕ) → x < 32 → x ≢ c → bit_at set x ≡ bit_at occupied x) → IsMaskOf set (λ x. has p x ≡ true)
 mask_front p c occupied set out inside fits is clear others x = (
   λ h.
@@ -59,19 +63,25 @@ below_more : (m k : ℕ) → m ≤ k → (p : List ℕ) → AllByRecursion (λ x
 below_more m k l [] all = tt
 below_more m k l (x ∷ p) all = ((let h = all.0 in omega arith), below_more m k l p all.1)
 
-first_is : (n : ℕ) (p : List ℕ) (c from : ℕ) → AllByRecursion (λ x. x < n * n) p → IsApart p → IsFree n p c → IsRank n (with_last p c) from → IsFirstRank n p (from - from % run_length n p)
+first_is : (n : ℕ) (p : List ℕ) (c from : ℕ) → AllByRecursion (λ x. x < n * n) p → IsApart p → IsFree n p c → IsRank n (with_last p c) from
+    → IsFirstRank n p (from - from % run_length n p)
 first_is n p c from inside apart free is =
     let first = first_some n p inside apart in
     let low = free_below-low n p c inside apart free in
     let some : 0 < run_length n p = omega arith in
-    let same : from ≡ first.0 * run_length n p + free_below p c = IsRank-one n (with_last p c) from (first.0 * run_length n p + free_below p c) is (first.2.each c free) in
+    let same : from ≡ first.0 * run_length n p + free_below p c =
+    IsRank-one n (with_last p c) from (first.0 * run_length n p + free_below p c) is (first.2.each c free) in
     let split = div-add-mod' from (run_length n p) in
-    let parts = parts_one (from / run_length n p) first.0 (run_length n p) (from % run_length n p) (free_below p c) (mod_below from (run_length n p) some) low (omega arith) in
+    let parts = parts_one (from / run_length n p) first.0 (run_length n p) (from % run_length n p) (free_below p c)
+    (mod_below from (run_length n p) some) low (omega arith) in
     let e : first.0 * run_length n p ≡ from - from % run_length n p = (let k = parts.1 in omega arith) in
     subst (IsFirstRank n p) e first.2
 
-pub run_at : (t : Table) → IsPattern t.pattern → (view : ShownPlacement) → view.pattern ≡ t.pattern → IsPlacement view → (from : ℕ) → IsRank t.pattern.side view.cells from → (cells : List ℕ) → cells ≡ view.cells
-    → (index occupied set len : ℕ) → index + 1 ≡ length t.pattern.tiles → IsMaskOf occupied (λ c. has view.cells c ≡ true) → set < 2 ^ 32 → bit_at set (get_or cells index 0) ≡ 0
+-- the cells of a placement but the last, with its rank rounded down by the run's length, are its run
+pub run_at : (t : Table) → IsPattern t.pattern → (view : ShownPlacement) → view.pattern ≡ t.pattern → IsPlacement view → (from : ℕ)
+    → IsRank t.pattern.side view.cells from → (cells : List ℕ) → cells ≡ view.cells
+    → (index occupied set len : ℕ) → index + 1 ≡ length t.pattern.tiles → IsMaskOf occupied (λ c. has view.cells c ≡ true) → set < 2 ^ 32
+    → bit_at set (get_or cells index 0) ≡ 0
     → ((x : ℕ) → x < 32 → x ≢ get_or cells index 0 → bit_at set x ≡ bit_at occupied x) → len ≡ t.pattern.side * t.pattern.side + 1 - length t.pattern.tiles
     → IsRunAt t (take index cells) (get_or cells index 0) from (from - from % len) set
 run_at t pat view same placed from rank cells cells_are index occupied set len is_index is fits clear others len_is =
@@ -79,18 +89,23 @@ run_at t pat view same placed from rank cells cells_are index occupied set len i
     let p = take index cells in
     let c = get_or cells index 0 in
     let whole : with_last p c ≡ view.cells = sym (take-suc cells index 0 (omega arith)) ∙ take_all (suc index) cells (omega arith) ∙ cells_are in
-    let inside = inside_front (t.pattern.side * t.pattern.side) p c (subst (λ q. AllByRecursion (λ x. x < q.side * q.side) (with_last p c)) same (subst (AllByRecursion (λ x. x < view.pattern.side * view.pattern.side)) (sym whole) placed.inside)) in
+    let inside = inside_front (t.pattern.side * t.pattern.side) p c
+    (subst (λ q. AllByRecursion (λ x. x < q.side * q.side) (with_last p c)) same
+    (subst (AllByRecursion (λ x. x < view.pattern.side * view.pattern.side)) (sym whole) placed.inside)) in
     let apart = apart_front p c (subst IsApart (sym whole) placed.apart) in
     let free : IsFree t.pattern.side p c = (inside.1, apart.1) in
     let long : length p ≡ index = length-take-le index cells (omega arith) in
     let few = few_cells t.pattern.side pat.low pat.high in
-    let len_same : run_length t.pattern.side p ≡ len = sym (len_is ∙ (let e : t.pattern.side * t.pattern.side + 1 - length t.pattern.tiles ≡ t.pattern.side * t.pattern.side - length p = omega arith in e)) in
+    let len_same : run_length t.pattern.side p ≡ len =
+    sym (len_is ∙ (let e : t.pattern.side * t.pattern.side + 1 - length t.pattern.tiles ≡ t.pattern.side * t.pattern.side - length p = omega arith in e)) in
     record {
       run = record { size = ap (λ k. k + 1) long ∙ is_index; inside = inside.0; apart = apart.0 };
       free = free;
-      is_first = subst (λ k. IsFirstRank t.pattern.side p (from - from % k)) len_same (first_is t.pattern.side p c from inside.0 apart.0 free (subst (λ q. IsRank t.pattern.side q from) (sym whole) rank));
+      is_first = subst (λ k. IsFirstRank t.pattern.side p (from - from % k)) len_same
+          (first_is t.pattern.side p c from inside.0 apart.0 free (subst (λ q. IsRank t.pattern.side q from) (sym whole) rank));
       low = omega arith;
-      mask = mask_front p c occupied set apart.1 (below_more (t.pattern.side * t.pattern.side) 25 few p inside.0) fits (subst (λ q. IsMaskOf occupied (λ x. has q x ≡ true)) (sym whole) is) clear others;
+      mask = mask_front p c occupied set apart.1 (below_more (t.pattern.side * t.pattern.side) 25 few p inside.0) fits
+          (subst (λ q. IsMaskOf occupied (λ x. has q x ≡ true)) (sym whole) is) clear others;
     }
 
 -- the cells with the last one changed
@@ -101,11 +116,13 @@ set_last cells index g size =
     let long : length (take index cells) ≡ index = length-take-le index cells (omega arith) in
     ap (λ q. set q index g) (sym whole) ∙ ap (λ k. set (with_last (take index cells) c) k g) (sym long) ∙ set-append_seam (take index cells) c [] g
 
+-- the cells but the last, with the last one put behind, are all cells of the placement
 pub same_last : (cells : List ℕ) (index : ℕ) → length cells ≡ index + 1 → with_last (take index cells) (get_or cells index 0) ≡ cells
 same_last cells index size = sym (take-suc cells index 0 (omega arith)) ∙ take_all (suc index) cells (omega arith)
 
 -- no cell of the run's last tile is behind the greatest one
-behind_all : (n : ℕ) (p : List ℕ) (g : ℕ) → AllByRecursion (λ x. x < n * n) p → IsApart p → IsFree n p g → ((x : ℕ) → g < x → x < n * n → has p x ≡ true) → free_below p g + 1 ≡ run_length n p
+behind_all : (n : ℕ) (p : List ℕ) (g : ℕ) → AllByRecursion (λ x. x < n * n) p → IsApart p → IsFree n p g
+    → ((x : ℕ) → g < x → x < n * n → has p x ≡ true) → free_below p g + 1 ≡ run_length n p
 behind_all n p g inside apart free last =
     let low = free_below-low n p g inside apart free in
     elim (cases_lt (free_below p g + 1) (run_length n p)) [
@@ -119,15 +136,18 @@ behind_all n p g inside apart free last =
     ]
 
 -- the last placement of a run
-last_rank : (t : Table) → IsPattern t.pattern → (p : List ℕ) (c from first set : ℕ) → IsRunAt t p c from first set → (g : ℕ) → IsFree t.pattern.side p g → ((x : ℕ) → g < x → x < t.pattern.side * t.pattern.side → has p x ≡ true)
+last_rank : (t : Table) → IsPattern t.pattern → (p : List ℕ) (c from first set : ℕ) → IsRunAt t p c from first set → (g : ℕ)
+    → IsFree t.pattern.side p g → ((x : ℕ) → g < x → x < t.pattern.side * t.pattern.side → has p x ≡ true)
     → IsRank t.pattern.side (with_last p g) (first + (t.pattern.side * t.pattern.side - length t.pattern.tiles))
 last_rank t pat p c from first set at g free last =
     let e = behind_all t.pattern.side p g at.run.inside at.run.apart free last in
     let s = at.run.size in
-    subst (λ k. IsRank t.pattern.side (with_last p g) (first + k)) (let q : free_below p g ≡ t.pattern.side * t.pattern.side - length t.pattern.tiles = omega arith in q) (at.is_first.each g free)
+    subst (λ k. IsRank t.pattern.side (with_last p g) (first + k))
+    (let q : free_below p g ≡ t.pattern.side * t.pattern.side - length t.pattern.tiles = omega arith in q) (at.is_first.each g free)
 
 -- what a set of the run's cells lacks
-outside_free : (t : Table) → (p : List ℕ) (c from first set : ℕ) → IsRunAt t p c from first set → (g count : ℕ) → count ≡ t.pattern.side * t.pattern.side → IsLastOutside set count g
+outside_free : (t : Table) → (p : List ℕ) (c from first set : ℕ) → IsRunAt t p c from first set → (g count : ℕ)
+    → count ≡ t.pattern.side * t.pattern.side → IsLastOutside set count g
     → IsFree t.pattern.side p g × ((x : ℕ) → g < x → x < t.pattern.side * t.pattern.side → has p x ≡ true)
 outside_free t p c from first set at g count count_is is = (
   ((let l = is.low in omega arith), false_from_ne_true (has p g) (λ h. let one = (at.mask g).1 h in let z = is.outside in omega arith)),
@@ -170,10 +190,13 @@ module _ {q : ShownPattern} {view : ShownPlacement} {count index cell occupied r
   module _ (r : ℕ) (is : IsRank q.side view.cells r) where
     run_without : IsRunAt (record { pattern = q; entries = [] }) (take index view.cells) cell r (r - r % (q.side * q.side + 1 - length q.tiles)) rest
     run_without =
-        subst (λ x. IsRunAt (record { pattern = q; entries = [] }) (take index view.cells) x r (r - r % (q.side * q.side + 1 - length q.tiles)) rest) (sym w.cell_is)
-        (run_at (record { pattern = q; entries = [] }) w.pattern view w.same w.placed r is view.cells refl index occupied rest (q.side * q.side + 1 - length q.tiles) w.index_is w.occupies w.fits
+        subst (λ x. IsRunAt (record { pattern = q; entries = [] }) (take index view.cells) x r (r - r % (q.side * q.side + 1 - length q.tiles)) rest)
+        (sym w.cell_is)
+        (run_at (record { pattern = q; entries = [] }) w.pattern view w.same w.placed r is view.cells refl index occupied rest
+        (q.side * q.side + 1 - length q.tiles) w.index_is w.occupies w.fits
         (ap (bit_at rest) (sym w.cell_is) ∙ w.clear) (λ x low ne. w.others x low (λ e. ne (e ∙ w.cell_is))) refl)
 
+    -- the set without the last tile's cell lacks some cell of the board
     pub some_outside : ¬ ((x : ℕ) → x < count → bit_at rest x ≡ 1)
     some_outside all = let z = w.clear in let one = all cell (let l = run_without.free.0 in let b = w.board in omega arith) in omega arith
 
@@ -185,10 +208,13 @@ module _ {q : ShownPattern} {view : ShownPlacement} {count index cell occupied r
           let outside = outside_free t (take index view.cells) cell r first rest run_without g count w.board last in
           last_rank t w.pattern (take index view.cells) cell r first rest run_without g outside.0 outside.1
 
+      -- where the greatest cell that is lacking is the last tile's own, the placement has the run's last rank
       pub last_same : g ≡ cell → IsRank q.side view.cells (r - r % (q.side * q.side + 1 - length q.tiles) + (q.side * q.side - length q.tiles))
       last_same e = subst (λ cells. IsRank q.side cells (r - r % (q.side * q.side + 1 - length q.tiles) + (q.side * q.side - length q.tiles)))
           (ap (with_last (take index view.cells)) (e ∙ w.cell_is) ∙ same_last view.cells index long) last_placed
 
-      pub last_moved : {cells : List ℕ} → cells ≡ set view.cells index g → IsRank q.side cells (r - r % (q.side * q.side + 1 - length q.tiles) + (q.side * q.side - length q.tiles))
+      -- the placement with its last tile moved to the greatest cell that is lacking has the run's last rank
+      pub last_moved : {cells : List ℕ} → cells ≡ set view.cells index g
+          → IsRank q.side cells (r - r % (q.side * q.side + 1 - length q.tiles) + (q.side * q.side - length q.tiles))
       last_moved {cells} e = subst (λ cells. IsRank q.side cells (r - r % (q.side * q.side + 1 - length q.tiles) + (q.side * q.side - length q.tiles)))
           (sym (e ∙ set_last view.cells index g long)) last_placed

@@ -23,6 +23,7 @@ use Rattle.tab_runs.proofs.RunLemmas.{open_moved, placed_last, run_moved, same_m
 module _ (t : Table) (pat : IsPattern t.pattern) (p : List ℕ) (run : IsRun t.pattern p) where
   -- ---- the byte that a row leads to is an entry
 
+  -- the byte that a row leads to for an open cell is the entry of the row's cell with the last tile there
   pub row_entry : (near : List ℕ) → AreRunEntries t p near → (x : ℕ) (row : List ℕ) → IsRow t.pattern.side (length t.pattern.tiles) p x row
       → (c : ℕ) → IsOpen t.pattern.side p x c → IsEntryAt t (with_last p c) x (get_or near (get_or row (listed_below p x c) 0) 0)
   row_entry near entries x row is c o =
@@ -44,14 +45,17 @@ module _ (t : Table) (pat : IsPattern t.pattern) (p : List ℕ) (run : IsRun t.p
   -- ---- the last tile moves
 
   module _ (own : List ℕ) (entries : AreRunEntries t p own) (a b : ℕ) (free_a : IsFree t.pattern.side p a) (free_b : IsFree t.pattern.side p b) (apart : b ≢ a)
-      (row_a row_b : List ℕ) (is_a : IsRow t.pattern.side (length t.pattern.tiles) p a row_a) (is_b : IsRow t.pattern.side (length t.pattern.tiles) p b row_b) where
+      (row_a row_b : List ℕ) (is_a : IsRow t.pattern.side (length t.pattern.tiles) p a row_a)
+      (is_b : IsRow t.pattern.side (length t.pattern.tiles) p b row_b) where
     open_b : IsOpen t.pattern.side p b a
     open_b = record { last = free_a; cell = free_b; other = apart }
 
     open_a : IsOpen t.pattern.side p a b
     open_a = record { last = free_b; cell = free_a; other = λ e. apart (sym e) }
 
-    pub last_from_one : (place e : ℕ) → IsSingleStep (get_or row_b (listed_below p b a) 0) (get_or own (get_or row_a (listed_below p a b) 0) 0) place e → IsLastStep t p a b place e
+    -- the one place and entry that the rows of two free cells lead to are a move of the last tile between them
+    pub last_from_one : (place e : ℕ) → IsSingleStep (get_or row_b (listed_below p b a) 0)
+        (get_or own (get_or row_a (listed_below p a b) 0) 0) place e → IsLastStep t p a b place e
     last_from_one place e s =
         let j = slot_of_open t.pattern pat p run b a open_b in
         record {
@@ -62,7 +66,9 @@ module _ (t : Table) (pat : IsPattern t.pattern) (p : List ℕ) (run : IsRun t.p
           entry = subst (IsEntryAt t (with_last p b) a) (sym s.is_entry) (row_entry own entries a row_a is_a b open_a);
         }
 
-    pub one_from_last : (place e : ℕ) → IsLastStep t p a b place e → IsSingleStep (get_or row_b (listed_below p b a) 0) (get_or own (get_or row_a (listed_below p a b) 0) 0) place e
+    -- a move of the last tile between two free cells has the place and the entry that their rows lead to
+    pub one_from_last : (place e : ℕ) → IsLastStep t p a b place e
+        → IsSingleStep (get_or row_b (listed_below p b a) 0) (get_or own (get_or row_a (listed_below p a b) 0) 0) place e
     one_from_last place e s = record {
       is_place = s.is_place ∙ sym (is_b.place a s.slot s.opens s.in_slot);
       is_entry = entry_same a b e (get_or own (get_or row_a (listed_below p a b) 0) 0) open_a s.entry (row_entry own entries a row_a is_a b open_a);
@@ -70,8 +76,10 @@ module _ (t : Table) (pat : IsPattern t.pattern) (p : List ℕ) (run : IsRun t.p
 
 -- ---- another tile moves
 
-module _ (t : Table) (pat : IsPattern t.pattern) (p : List ℕ) (run : IsRun t.pattern p) (i f : ℕ) (low : i < length p) (free : IsFree t.pattern.side p f) (near : List ℕ) (entries : AreRunEntries t (set p i f) near)
-    (to from : List ℕ) (is_to : IsRow t.pattern.side (length t.pattern.tiles) p f to) (is_from : IsRow t.pattern.side (length t.pattern.tiles) (set p i f) (get_or p i 0) from) where
+module _ (t : Table) (pat : IsPattern t.pattern) (p : List ℕ) (run : IsRun t.pattern p) (i f : ℕ) (low : i < length p)
+    (free : IsFree t.pattern.side p f) (near : List ℕ) (entries : AreRunEntries t (set p i f) near)
+    (to from : List ℕ) (is_to : IsRow t.pattern.side (length t.pattern.tiles) p f to)
+    (is_from : IsRow t.pattern.side (length t.pattern.tiles) (set p i f) (get_or p i 0) from) where
   moved : IsRun t.pattern (set p i f)
   moved = run_moved t.pattern p i f run free
 
@@ -83,6 +91,7 @@ module _ (t : Table) (pat : IsPattern t.pattern) (p : List ℕ) (run : IsRun t.p
   from_entry c o = subst (λ k. IsEntryAt t (with_last (set p i f) c) (get_or p i 0) (get_or near (get_or from k 0) 0)) (sym (same_listed c))
       (row_entry t pat (set p i f) moved near entries (get_or p i 0) from is_from c (open_moved t.pattern.side p run.inside run.apart i f low free c o))
 
+  -- what the two rows of a tile's move lead to, cell by cell, is that move in some placement of the run
   pub tile_from_row : (place e : ℕ) → IsRowStep to near from (length to) place e → IsTileStep t p i f place e
   tile_from_row place e s =
       let at = listed_at t.pattern pat p run f s.cell free (let l : s.cell < length to = s.low in let z = is_to.size in omega arith) in
@@ -97,6 +106,7 @@ module _ (t : Table) (pat : IsPattern t.pattern) (p : List ℕ) (run : IsRun t.p
         entry = subst (IsEntryAt t (with_last (set p i f) c) (get_or p i 0)) (ap (λ k. get_or near (get_or from k 0) 0) at.2 ∙ s.is_entry) (from_entry c at.1);
       }
 
+  -- a tile's move in a placement of the run is among what the two rows of the move lead to
   pub row_from_tile : (place e : ℕ) → IsTileStep t p i f place e → IsRowStep to near from (length to) place e
   row_from_tile place e s = record {
     cell = listed_below p f s.last;
@@ -108,11 +118,13 @@ module _ (t : Table) (pat : IsPattern t.pattern) (p : List ℕ) (run : IsRun t.p
 
 -- ---- all moves of a run are the near entries of its placements
 
-module _ (t : Table) (pat : IsPattern t.pattern) (p : List ℕ) (run : IsRun t.pattern p) (c j : ℕ) (free : IsFree t.pattern.side p c) (j_low : j < slot_count t.pattern) where
+module _ (t : Table) (pat : IsPattern t.pattern) (p : List ℕ) (run : IsRun t.pattern p) (c j : ℕ) (free : IsFree t.pattern.side p c)
+    (j_low : j < slot_count t.pattern) where
   n : ℕ
   n = t.pattern.side
 
-  here : (d k e : ℕ) → IsFree t.pattern.side p d → (x : ℕ) → IsSlot t.pattern.side (with_last p d) x k → place_in_run (slot_count t.pattern) p c j ≡ place_in_run (slot_count t.pattern) p d k → (c ≡ d) × (j ≡ k)
+  here : (d k e : ℕ) → IsFree t.pattern.side p d → (x : ℕ) → IsSlot t.pattern.side (with_last p d) x k
+      → place_in_run (slot_count t.pattern) p c j ≡ place_in_run (slot_count t.pattern) p d k → (c ≡ d) × (j ≡ k)
   here d k e was x is same = place_one t.pattern.side (slot_count t.pattern) p c d j k j_low (slot_low t.pattern pat p run d x k was is) free was same
 
   near_from_among : (e : ℕ) → IsStepAmong t p (length p) (place_in_run (slot_count t.pattern) p c j) e → IsNearEntry t (with_last p c) j e
@@ -128,7 +140,8 @@ module _ (t : Table) (pat : IsPattern t.pattern) (p : List ℕ) (run : IsRun t.p
         index = i;
         to = f;
         moves = record {
-          in_slot = subst (λ k. IsSlot t.pattern.side (with_last p c) f k) (sym one.1) (subst (λ d. IsSlot t.pattern.side (with_last p d) f step.slot) (sym one.0) step.in_slot);
+          in_slot = subst (λ k. IsSlot t.pattern.side (with_last p c) f k) (sym one.1)
+              (subst (λ d. IsSlot t.pattern.side (with_last p d) f step.slot) (sym one.0) step.in_slot);
           is_index = (let l = length_push p c in omega arith);
           adjacent = subst (λ x. Adjacent t.pattern.side f x) same_get s.step.adjacent;
         };
@@ -147,16 +160,20 @@ module _ (t : Table) (pat : IsPattern t.pattern) (p : List ℕ) (run : IsRun t.p
         index = length p;
         to = b;
         moves = record {
-          in_slot = subst (λ k. IsSlot t.pattern.side (with_last p c) b k) (sym one.1) (subst (λ d. IsSlot t.pattern.side (with_last p d) b step.slot) (sym one.0) step.in_slot);
+          in_slot = subst (λ k. IsSlot t.pattern.side (with_last p c) b k) (sym one.1)
+              (subst (λ d. IsSlot t.pattern.side (with_last p d) b step.slot) (sym one.0) step.in_slot);
           is_index = (let l = length_push p c in omega arith);
           adjacent = subst (λ x. Adjacent t.pattern.side b x) (sym one.0 ∙ same_get) s.adjacent;
         };
-        entry = subst (λ q. IsEntryAt t q (get_or (with_last p c) (length p) 0) e) same_set (subst (λ x. IsEntryAt t (with_last p b) x e) (sym one.0 ∙ same_get) step.entry);
+        entry = subst (λ q. IsEntryAt t q (get_or (with_last p c) (length p) 0) e) same_set
+            (subst (λ x. IsEntryAt t (with_last p b) x e) (sym one.0 ∙ same_get) step.entry);
       }
 
+  -- a move in the run for a slot's place leads to a near entry of that slot
   pub near_from_step : (e : ℕ) → IsRunStep t p (place_in_run (slot_count t.pattern) p c j) e → IsNearEntry t (with_last p c) j e
   near_from_step e s = elim s [ inl among ↦ near_from_among e among | inr last ↦ near_from_last e last ]
 
+  -- a near entry of a slot is that of some move in the run for the slot's place
   pub step_from_near : (e : ℕ) → IsNearEntry t (with_last p c) j e → IsRunStep t p (place_in_run (slot_count t.pattern) p c j) e
   step_from_near e near = elim (cases_lt near.index (length p)) [
     | inl low ↦ inl (inner low)
@@ -187,7 +204,8 @@ module _ (t : Table) (pat : IsPattern t.pattern) (p : List ℕ) (run : IsRun t.p
                 slot = j;
                 in_slot = near.moves.in_slot;
                 is_place = refl;
-                entry = subst (λ x. IsEntryAt t (with_last (set p i near.to) c) x e) same_get (subst (λ q. IsEntryAt t q (get_or (with_last p c) i 0) e) same_set near.entry);
+                entry = subst (λ x. IsEntryAt t (with_last (set p i near.to) c) x e) same_get
+                    (subst (λ q. IsEntryAt t q (get_or (with_last p c) i 0) e) same_set near.entry);
               };
             };
           }
@@ -195,7 +213,8 @@ module _ (t : Table) (pat : IsPattern t.pattern) (p : List ℕ) (run : IsRun t.p
       outer : near.index ≡ length p → IsSomeLastStep t p (place_in_run (slot_count t.pattern) p c j) e
       outer last =
           let same_get : get_or (with_last p c) near.index 0 ≡ c = get_or_at p c [] 0 near.index (sym last) in
-          let same_set : set (with_last p c) near.index near.to ≡ with_last p near.to = ap (λ i. set (with_last p c) i near.to) last ∙ set-append_seam p c [] near.to in
+          let same_set : set (with_last p c) near.index near.to ≡ with_last p near.to = ap (λ i. set (with_last p c) i near.to) last
+          ∙ set-append_seam p c [] near.to in
           record {
             from = c;
             to = near.to;
@@ -205,9 +224,12 @@ module _ (t : Table) (pat : IsPattern t.pattern) (p : List ℕ) (run : IsRun t.p
               slot = j;
               in_slot = near.moves.in_slot;
               is_place = refl;
-              entry = subst (λ x. IsEntryAt t (with_last p near.to) x e) same_get (subst (λ q. IsEntryAt t q (get_or (with_last p c) near.index 0) e) same_set near.entry);
+              entry = subst (λ x. IsEntryAt t (with_last p near.to) x e) same_get
+                  (subst (λ q. IsEntryAt t q (get_or (with_last p c) near.index 0) e) same_set near.entry);
             };
           }
 
+  -- the least entry of all moves in the run for a slot's place is the slot's least near entry
   pub least_near_of_run : (m : ℕ) → IsLeastOf (IsRunStep t p (place_in_run (slot_count t.pattern) p c j)) m → IsLeastNear t (with_last p c) j m
-  least_near_of_run m is = IsLeastOf-same (IsRunStep t p (place_in_run (slot_count t.pattern) p c j)) (IsNearEntry t (with_last p c) j) near_from_step step_from_near m is
+  least_near_of_run m is = IsLeastOf-same (IsRunStep t p (place_in_run (slot_count t.pattern) p c j))
+      (IsNearEntry t (with_last p c) j) near_from_step step_from_near m is

@@ -11,7 +11,8 @@ use Rattle.tab_runs.specs.RunPlaces.{IsRun}
 use Rattle.tab_runs.specs.RowTables.{AreRowsOf, row_of}
 use Rattle.tab_runs.proofs.RowLemmas.{listed_low, row_same}
 
-module _ (p : ShownPattern) (pat : IsPattern p) (cells : List ℕ) (run : IsRun p cells) (block : List ℕ) (filled : AreRowsUpTo p.side (length p.tiles) cells (p.side * p.side) block) where
+module _ (p : ShownPattern) (pat : IsPattern p) (cells : List ℕ) (run : IsRun p cells) (block : List ℕ)
+    (filled : AreRowsUpTo p.side (length p.tiles) cells (p.side * p.side) block) where
   abbrev len : ℕ
   len = row_length p.side (length p.tiles)
 
@@ -32,5 +33,6 @@ module _ (p : ShownPattern) (pat : IsPattern p) (cells : List ℕ) (run : IsRun 
   pub rows_of_set : (mask : ℕ) → IsMaskOf mask (λ c. has cells c ≡ true) → AreRowsOf p.side (length p.tiles) mask block
   rows_of_set mask is = record {
     size = filled.size;
-    each = λ cell inside q also. row_same p.side (length p.tiles) cells q (same_of_mask mask cells q is also) cell (row_of (row_length p.side (length p.tiles)) block cell) (row_of_set cell inside);
+    each = λ cell inside q also. row_same p.side (length p.tiles) cells q (same_of_mask mask cells q is also) cell
+        (row_of (row_length p.side (length p.tiles)) block cell) (row_of_set cell inside);
   }

@@ -12,6 +12,8 @@ mod great_tables;
 #[cfg(test)]
 mod large_tables;
 #[cfg(test)]
+mod limits;
+#[cfg(test)]
 mod runs;
 #[cfg(test)]
 mod searches;

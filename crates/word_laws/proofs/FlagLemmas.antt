@@ -28,12 +28,15 @@ unfolding walked
 walked_going s none w word going apart = grind (arith, none w.position, same_text word (codes "--"))
 
 -- where nothing is wrong with words, nothing is with a flag among them, before which no `--` stands
-flag_right : (s : Shape) → NoneTrails s → (w : Walk) (before : List Text) (flag name : Text) (v : Option Text) (after : List Text) → IsGoing w → All (λ word. word ≢ codes "--") before
-    → long_of flag ≡ Some (name, v) → walk_fault s [] w (before ++ flag ∷ after) ≡ [] → (h : Held) × (long_fault s.rules s.args_override_self (arg_by_long s.rules name) v h ≡ [])
+flag_right : (s : Shape) → NoneTrails s → (w : Walk) (before : List Text) (flag name : Text) (v : Option Text) (after : List Text) → IsGoing w
+    → All (λ word. word ≢ codes "--") before
+    → long_of flag ≡ Some (name, v) → walk_fault s [] w (before ++ flag ∷ after) ≡ [] → (h : Held)
+    × (long_fault s.rules s.args_override_self (arg_by_long s.rules name) v h ≡ [])
 unfolding walk_fault
 flag_right s none w [] flag name v after going all is right = (w.held, grind (arith, same_text flag (codes "--")))
 flag_right s none w (word ∷ before) flag name v after going all is right =
-    flag_right s none (walked s.rules [] w word) before flag name v after (walked_going s none w word going (All-head (λ word. word ≢ codes "--") word before all))
+    flag_right s none (walked s.rules [] w word) before flag name v after
+    (walked_going s none w word going (All-head (λ word. word ≢ codes "--") word before all))
     (All-tail (λ word. word ≢ codes "--") word before all) is (none_wrong _ _ right).1
 
 -- the flag `--help` and no other, as it is built
@@ -72,18 +75,37 @@ prove_knows name = elim (cases_Bool (bytes_eq (codes "budget") name)) [
 ]
 
 all_know : (command : Text) → IsCommand command → KnowsItsFlags command
-all_know = each_holds KnowsItsFlags commands
-    (λ name. grind arith, (λ name. grind arith, (λ name. grind arith, (λ name. grind arith, (make_table_knows, (solve_knows, (prove_knows, (λ name. grind arith, tt))))))))
+all_know = each_holds KnowsItsFlags commands (
+  λ name. grind arith,
+  (
+    λ name. grind arith,
+    (
+      λ name. grind arith,
+      (λ name. grind arith, (make_table_knows, (solve_knows, (prove_knows, (λ name. grind arith, tt))))),
+    ),
+  ),
+)
 
 -- behind a command's name, and no `--`, there are no flags but these
 pub flags_known : (command name flag : Text) (before after : List Text) → IsCommand command → All (λ word. word ≢ codes "--") before → IsLongFlag name flag
     → Parses (command ∷ before ++ flag ∷ after) → TakesFlag command name
 flags_known command name flag before after is all is_flag parses =
     let s = leaf command in
-    let none = each_holds (λ c. NoneTrails (leaf c)) commands (λ place. grind arith, (λ place. grind arith, (λ place. grind arith, (λ place. grind arith, (λ place. grind arith, (λ place. grind arith, (λ place. grind arith, (λ place. grind arith, tt)))))))) command is in
-    let behind = none_wrong _ _ (none_wrong _ _ (sym (parse_faults_behind command is (before ++ flag ∷ after)) ∙ parse_right (command ∷ before ++ flag ∷ after) parses)).0 in
+    let none = each_holds (λ c. NoneTrails (leaf c)) commands (
+      λ place. grind arith,
+      (
+        λ place. grind arith,
+        (
+          λ place. grind arith,
+          (λ place. grind arith, (λ place. grind arith, (λ place. grind arith, (λ place. grind arith, (λ place. grind arith, tt))))),
+        ),
+      ),
+    ) command is in
+    let behind = none_wrong _ _ (none_wrong _ _ (sym (parse_faults_behind command is (before ++ flag ∷ after))
+    ∙ parse_right (command ∷ before ++ flag ∷ after) parses)).0 in
     let met = flag_right s none (walk_from nothing_held) before flag name is_flag.0 after (refl, refl) all is_flag.1 behind.0 in
     elim (all_know command is name) [
       | inr taken ↦ taken
-      | inl help ↦ absurd (help_wrong s.args_override_self s.rules name is_flag.0 met.0 (ap (λ (found : Option Rule). long_fault s.rules s.args_override_self found is_flag.0 met.0) (sym help) ∙ met.1))
+      | inl help ↦ absurd (help_wrong s.args_override_self s.rules name is_flag.0 met.0
+          (ap (λ (found : Option Rule). long_fault s.rules s.args_override_self found is_flag.0 met.0) (sym help) ∙ met.1))
     ]

@@ -13,7 +13,8 @@ use Rattle.pdb_words.specs.Commands.{IsCommand, IsPlain}
 use Rattle.pdb_words.specs.Faults.{IsMistaken}
 use Rattle.pdb_words.specs.Numbers.{number_of}
 use Rattle.pdb_words.proofs.CommandLemmas.{faults_behind, mistaken}
-use Rattle.word_laws.proofs.WalkLemmas.{AsksIf, Comes, FitsTables, Word, asks_if, budgets, flag, missing, numbered, plain, tables_come, text_of, unless, workers}
+use Rattle.word_laws.proofs.WalkLemmas.{AsksIf, Comes, FitsTables, Word, asks_if, budgets, flag, missing, numbered, plain, tables_come, text_of}
+use Rattle.word_laws.proofs.WalkLemmas.{unless, workers}
 use Rattle.word_laws.specs.Asking.{AsksFor}
 use Rattle.word_laws.specs.LogWords.{AsksOfLog, LogNames, NamesLog, log_words, of_names, search_within, with_fold}
 use Rattle.word_laws.specs.NumberTexts.{writes_budget, writes_workers}
@@ -57,7 +58,8 @@ module _ (names : LogNames) where
   all_come : (command : LogCommand) (before behind : List Word) (kinds : Kinds → Kinds) (asked : Asked) → Fits command before behind kinds asked
       → Comes (name_of command) (map text_of before ++ (log_words names ++ map text_of behind)) (kinds []) asked
   all_come command before behind kinds asked fits =
-      tables_come (is_command command) 4 leading names.table names.more_tables all_plain.1.1.1.1 (omega (arith, names.are_names.1)) before behind kinds asked fits
+      tables_come (is_command command) 4 leading names.table names.more_tables all_plain.1.1.1.1
+      (omega (arith, names.are_names.1)) before behind kinds asked fits
 
   -- the same whether `--fold` comes first or not
   record FitsBoth (flags behind : List Word) (kinds : Kinds → Kinds) (asked : LogCommand → Bool → Asked) (command : LogCommand) : Type 0 where
@@ -66,13 +68,15 @@ module _ (names : LogNames) where
 
   module _ (flags behind : List Word) (kinds : Kinds → Kinds) (asked : LogCommand → Bool → Asked) where
     abbrev AllCome : LogCommand → Bool → Type 0
-    AllCome command folds = Comes (name_of command) (with_fold folds (map text_of flags ++ (log_words names ++ map text_of behind))) (kinds []) (asked command folds)
+    AllCome command folds = Comes (name_of command) (with_fold folds (map text_of flags ++ (log_words names ++ map text_of behind))) (kinds [])
+        (asked command folds)
 
     log_comes : (command : LogCommand) (folds : Bool) → FitsBoth flags behind kinds asked command → AllCome command folds
     log_comes command true fits = all_come command (flag (codes "--fold") ∷ flags) behind kinds (asked command true) fits.folded
     log_comes command false fits = all_come command flags behind kinds (asked command false) fits.whole
 
-    each_comes : (command : LogCommand) (folds : Bool) → FitsBoth flags behind kinds asked on_board × FitsBoth flags behind kinds asked on_puzzle × FitsBoth flags behind kinds asked on_search
+    each_comes : (command : LogCommand) (folds : Bool) → FitsBoth flags behind kinds asked on_board × FitsBoth flags behind kinds asked on_puzzle
+        × FitsBoth flags behind kinds asked on_search
         → AllCome command folds
     each_comes command folds all = log_comes command folds (by_command (FitsBoth flags behind kinds asked) all command)
 
@@ -82,15 +86,18 @@ module _ (names : LogNames) where
 
   module _ (number : Text) (is : IsPlain number) where
     workers_first : (command : LogCommand) (folds : Bool)
-        → AsksIf (writes_workers number) (name_of command ∷ with_fold folds (codes "--workers" ∷ number ∷ log_words names)) (of_names (asks command) names (number_of number) folds)
+        → AsksIf (writes_workers number) (name_of command ∷ with_fold folds (codes "--workers" ∷ number ∷ log_words names))
+        (of_names (asks command) names (number_of number) folds)
     unfolding clap_on_literals
     workers_first command folds =
         let kinds : Kinds → Bool → Kinds = λ tables taken. or_else (or_else (unless taken []) []) (or_else tables []) in
-        asks_if workers number is (kinds []) (λ n. of_names (asks command) names n folds) (rw append-nil at (each_comes (numbered (codes "--workers") number is) []
+        asks_if workers number is (kinds []) (λ n. of_names (asks command) names n folds)
+        (rw append-nil at (each_comes (numbered (codes "--workers") number is) []
         (λ tables. kinds tables (workers.takes number)) (λ c f. of_names (asks c) names (workers.reads number) f) command folds assumption)) refl refl
 
     workers_last : (command : LogCommand) (folds : Bool)
-        → AsksIf (writes_workers number) (name_of command ∷ with_fold folds (log_words names ++ codes "--workers" ∷ number ∷ [])) (of_names (asks command) names (number_of number) folds)
+        → AsksIf (writes_workers number) (name_of command ∷ with_fold folds (log_words names ++ codes "--workers" ∷ number ∷ []))
+        (of_names (asks command) names (number_of number) folds)
     unfolding clap_on_literals
     workers_last command folds =
         let kinds : Kinds → Bool → Kinds = λ tables taken. or_else (or_else (or_else tables []) []) (unless taken []) in
@@ -99,15 +106,19 @@ module _ (names : LogNames) where
 
   module _ (budget : Text) (is : IsPlain budget) (folds : Bool) where
     -- a budget before the names
-    pub budget_first : AsksIf (writes_budget budget) (codes "solve" ∷ with_fold folds (codes "--budget" ∷ budget ∷ log_words names)) (of_names (search_within (number_of budget)) names 1 folds)
+    pub budget_first : AsksIf (writes_budget budget) (codes "solve" ∷ with_fold folds (codes "--budget" ∷ budget ∷ log_words names))
+        (of_names (search_within (number_of budget)) names 1 folds)
     unfolding clap_on_literals
     budget_first =
         let kinds : Kinds → Bool → Kinds = λ tables taken. or_else (or_else (unless taken []) []) (or_else tables []) in
-        asks_if budgets budget is (kinds []) (λ n. of_names (search_within n) names 1 folds) (rw append-nil at (log_comes (numbered (codes "--budget") budget is) []
-        (λ tables. kinds tables (budgets.takes budget)) (λ c f. of_names (search_within (budgets.reads budget)) names 1 f) on_search folds assumption)) refl refl
+        asks_if budgets budget is (kinds []) (λ n. of_names (search_within n) names 1 folds)
+        (rw append-nil at (log_comes (numbered (codes "--budget") budget is) []
+        (λ tables. kinds tables (budgets.takes budget)) (λ c f. of_names (search_within (budgets.reads budget)) names 1 f) on_search folds
+        assumption)) refl refl
 
     -- a budget behind them
-    pub budget_last : AsksIf (writes_budget budget) (codes "solve" ∷ with_fold folds (log_words names ++ codes "--budget" ∷ budget ∷ [])) (of_names (search_within (number_of budget)) names 1 folds)
+    pub budget_last : AsksIf (writes_budget budget) (codes "solve" ∷ with_fold folds (log_words names ++ codes "--budget" ∷ budget ∷ []))
+        (of_names (search_within (number_of budget)) names 1 folds)
     unfolding clap_on_literals
     budget_last =
         let kinds : Kinds → Bool → Kinds = λ tables taken. or_else (or_else (or_else tables []) []) (unless taken []) in
@@ -122,7 +133,8 @@ module _ (names : LogNames) where
   both_asked folds number budget n b writes writes_budget =
       let kinds : Kinds → Bool → Bool → Kinds = λ tables one other. or_else (or_else (or_else (unless one []) (unless other [])) []) (or_else tables []) in
       let come = rw append-nil at (log_comes (numbered (codes "--workers") number n ++ numbered (codes "--budget") budget b) []
-      (λ tables. kinds tables (workers.takes number) (budgets.takes budget)) (λ c f. of_names (search_within (budgets.reads budget)) names (workers.reads number) f) on_search folds assumption) in (
+      (λ tables. kinds tables (workers.takes number) (budgets.takes budget))
+      (λ c f. of_names (search_within (budgets.reads budget)) names (workers.reads number) f) on_search folds assumption) in (
         come.0 ∙ (λ i. kinds [] ((workers.taken number n ∙ writes) i) ((budgets.taken budget b ∙ writes_budget) i)),
         come.1 ∙ (λ i. of_names (search_within (budgets.read budget b writes_budget i)) names (workers.read number n writes i) folds),
       )
@@ -135,7 +147,8 @@ module _ (names : LogNames) where
       (by_command (λ c. Fits c [] (flag (codes "--fold") ∷ []) kinds (of_names (asks c) names 1 true)) (assumption) command)
 
 -- no table
-tableless : (command : LogCommand) (folds : Bool) (text sets log : Text) → IsPlain text → IsPlain sets → IsPlain log → IsMistaken (name_of command ∷ with_fold folds (text ∷ sets ∷ log ∷ []))
+tableless : (command : LogCommand) (folds : Bool) (text sets log : Text) → IsPlain text → IsPlain sets → IsPlain log
+    → IsMistaken (name_of command ∷ with_fold folds (text ∷ sets ∷ log ∷ []))
 unfolding clap_on_literals
 tableless on_search true text sets log t s l = missing (is_command on_search) (flag (codes "--fold") ∷ plain text t ∷ plain sets s ∷ plain log l ∷ []) refl
 tableless command true text sets log t s l = missing (is_command command) (flag (codes "--fold") ∷ plain text t ∷ plain sets s ∷ plain log l ∷ []) refl

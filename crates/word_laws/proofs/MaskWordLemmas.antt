@@ -32,7 +32,8 @@ tile_back : (tile : ℕ) → tile < 32 → tile_written (decimal tile) ≡ Some 
 tile_back tile small = grind (arith, nat_tests, decimal_is_IsNumeral tile (omega arith), bytes_eq-Decides (decimal tile) (decimal tile))
 
 -- the parts are the decimals
-parts_back : (tile : ℕ) (tiles : List ℕ) → AreSmall (tile ∷ tiles) → slice_split is_comma (join_with_byte 44 (map decimal (tile ∷ tiles))) ≡ map decimal (tile ∷ tiles)
+parts_back : (tile : ℕ) (tiles : List ℕ) → AreSmall (tile ∷ tiles)
+    → slice_split is_comma (join_with_byte 44 (map decimal (tile ∷ tiles))) ≡ map decimal (tile ∷ tiles)
 parts_back tile [] small = slice_split_none is_comma (decimal tile) (apart_from_commas tile small.0)
 parts_back tile (next ∷ tiles) small =
     slice_split_at is_comma (decimal tile) 44 (join_with_byte 44 (map decimal (next ∷ tiles))) (apart_from_commas tile small.0) refl ∙

@@ -108,13 +108,15 @@ module _ (words : PartsWords) where
   pub bound_mistaken : writes_bound words.bound ≡ false → IsMistaken (codes "parts" ∷ parts_words words)
   bound_mistaken is =
       either_wrong _ (counts.reads words.count % 2 == 1)
-      (all_come.0 ∙ ap (λ (b : Bool). wrong (counts.reads words.count % 2 == 1) b (counts.takes words.count) []) (bounds.taken words.bound words.plain_bound ∙ is))
+      (all_come.0 ∙ ap (λ (b : Bool). wrong (counts.reads words.count % 2 == 1) b (counts.takes words.count) [])
+      (bounds.taken words.bound words.plain_bound ∙ is))
 
   -- or the count of parts
   pub count_mistaken : writes_count words.count ≡ false → IsMistaken (codes "parts" ∷ parts_words words)
   count_mistaken is =
       either_wrong _ (counts.reads words.count % 2 == 1)
-      (all_come.0 ∙ ap (λ (b : Bool). wrong (counts.reads words.count % 2 == 1) (bounds.takes words.bound) b []) (counts.taken words.count words.plain_count ∙ is)
+      (all_come.0 ∙ ap (λ (b : Bool). wrong (counts.reads words.count % 2 == 1) (bounds.takes words.bound) b [])
+      (counts.taken words.count words.plain_count ∙ is)
       ∙ ap (counted (counts.reads words.count % 2 == 1)) (later_wrong (bounds.takes words.bound)))
 
   -- or it is even
@@ -130,5 +132,7 @@ answerless board bound count b c is_bound is_count =
     let lacking : Kinds = kind.MissingRequiredArgument ∷ [] in
     let lacks : or_else (unless (bounds.takes bound) []) (unless (counts.takes count) lacking) ≡ lacking =
     λ i. or_else (unless ((bounds.taken bound b ∙ is_bound) i) []) (unless ((counts.taken count c ∙ is_count) i) lacking) in
-    by_source (λ from. IsMistaken (codes "parts" ∷ text_word from ∷ bound ∷ count ∷ []))
-    (λ name is. missing is_command (plain name is ∷ plain bound b ∷ plain count c ∷ []) lacks, missing is_command (flag (codes "-") ∷ plain bound b ∷ plain count c ∷ []) lacks) board
+    by_source (λ from. IsMistaken (codes "parts" ∷ text_word from ∷ bound ∷ count ∷ [])) (
+      λ name is. missing is_command (plain name is ∷ plain bound b ∷ plain count c ∷ []) lacks,
+      missing is_command (flag (codes "-") ∷ plain bound b ∷ plain count c ∷ []) lacks,
+    ) board

@@ -13,7 +13,8 @@ use Rattle.pdb_words.specs.Faults.{IsMistaken}
 use Rattle.pdb_words.specs.Numbers.{number_of, number_written}
 use Rattle.pdb_words.specs.Prove.{file_or_input}
 use Rattle.pdb_words.proofs.CommandLemmas.{faults_behind, mistaken}
-use Rattle.word_laws.proofs.WalkLemmas.{AsksIf, Comes, FitsTables, Word, asks_if, asks_when, budgets, flag, missing, numbered, plain, tables_come, text_of, unless, workers}
+use Rattle.word_laws.proofs.WalkLemmas.{AsksIf, Comes, FitsTables, Word, asks_if, asks_when, budgets, flag, missing, numbered, plain, tables_come}
+use Rattle.word_laws.proofs.WalkLemmas.{text_of, unless, workers}
 use Rattle.word_laws.proofs.TextLemmas.{by_source, file_is, word_for, word_is}
 use Rattle.word_laws.specs.Asking.{AsksFor, TextFrom, file, input, text_word}
 use Rattle.word_laws.specs.LogWords.{with_fold}
@@ -52,10 +53,12 @@ module _ (names : ProveNames) where
   abbrev Fits : List Word → List Word → (Kinds → Kinds) → Asked → TextFrom → Type 0
   Fits before behind kinds asked claims = FitsTables (codes "prove") 3 (leading claims) names.table names.more_tables before behind kinds asked
 
-  all_come : (before behind : List Word) (kinds : Kinds → Kinds) (workers : ℕ) (folds : Bool) (budget : Option ℕ) → Fits before behind kinds (read_as names.claims workers folds budget) names.claims
+  all_come : (before behind : List Word) (kinds : Kinds → Kinds) (workers : ℕ) (folds : Bool) (budget : Option ℕ)
+      → Fits before behind kinds (read_as names.claims workers folds budget) names.claims
       → Comes (codes "prove") (map text_of before ++ (prove_words names ++ map text_of behind)) (kinds []) (asks_for_proofs names workers folds budget)
   all_come before behind kinds workers folds budget fits =
-      let come = tables_come is_command 3 (leading names.claims) names.table names.more_tables all_plain.1.1 (omega (arith, names.are_names.1)) before behind kinds
+      let come = tables_come is_command 3 (leading names.claims) names.table names.more_tables all_plain.1.1
+      (omega (arith, names.are_names.1)) before behind kinds
       (read_as names.claims workers folds budget) fits in
       rw (word_is names.claims, is_read workers folds budget) at come
 
@@ -66,12 +69,15 @@ module _ (names : ProveNames) where
 
   module _ (flags behind : List Word) (kinds : Kinds → Kinds) (workers : ℕ) (budget : Option ℕ) where
     one_comes : (folds : Bool) → FitsBoth flags behind kinds workers budget names.claims
-        → Comes (codes "prove") (with_fold folds (map text_of flags ++ (prove_words names ++ map text_of behind))) (kinds []) (asks_for_proofs names workers folds budget)
+        → Comes (codes "prove") (with_fold folds (map text_of flags ++ (prove_words names ++ map text_of behind))) (kinds [])
+        (asks_for_proofs names workers folds budget)
     one_comes true fits = all_come (flag (codes "--fold") ∷ flags) behind kinds workers true budget fits.folded
     one_comes false fits = all_come flags behind kinds workers false budget fits.whole
 
-    prove_comes : (folds : Bool) → ((name : Text) (is : IsPlain name) → FitsBoth flags behind kinds workers budget (file name is)) × FitsBoth flags behind kinds workers budget input
-        → Comes (codes "prove") (with_fold folds (map text_of flags ++ (prove_words names ++ map text_of behind))) (kinds []) (asks_for_proofs names workers folds budget)
+    prove_comes : (folds : Bool) → ((name : Text) (is : IsPlain name) → FitsBoth flags behind kinds workers budget (file name is))
+        × FitsBoth flags behind kinds workers budget input
+        → Comes (codes "prove") (with_fold folds (map text_of flags ++ (prove_words names ++ map text_of behind))) (kinds [])
+        (asks_for_proofs names workers folds budget)
     prove_comes folds all = one_comes folds (by_source (FitsBoth flags behind kinds workers budget) all names.claims)
 
   -- no number
@@ -81,15 +87,18 @@ module _ (names : ProveNames) where
 
   module _ (number : Text) (is : IsPlain number) (folds : Bool) where
     -- workers before the names
-    pub workers_first : AsksIf (writes_workers number) (codes "prove" ∷ with_fold folds (codes "--workers" ∷ number ∷ prove_words names)) (asks_for_proofs names (number_of number) folds None)
+    pub workers_first : AsksIf (writes_workers number) (codes "prove" ∷ with_fold folds (codes "--workers" ∷ number ∷ prove_words names))
+        (asks_for_proofs names (number_of number) folds None)
     unfolding clap_on_literals
     workers_first =
         let kinds : Kinds → Bool → Kinds = λ tables taken. or_else (or_else (unless taken []) []) (or_else tables []) in
-        asks_if workers number is (kinds []) (λ n. asks_for_proofs names n folds None) (rw append-nil at (prove_comes (numbered (codes "--workers") number is) []
+        asks_if workers number is (kinds []) (λ n. asks_for_proofs names n folds None)
+        (rw append-nil at (prove_comes (numbered (codes "--workers") number is) []
         (λ tables. kinds tables (workers.takes number)) (workers.reads number) None folds (λ name is. assumption, assumption))) refl refl
 
     -- workers behind them
-    pub workers_last : AsksIf (writes_workers number) (codes "prove" ∷ with_fold folds (prove_words names ++ codes "--workers" ∷ number ∷ [])) (asks_for_proofs names (number_of number) folds None)
+    pub workers_last : AsksIf (writes_workers number) (codes "prove" ∷ with_fold folds (prove_words names ++ codes "--workers" ∷ number ∷ []))
+        (asks_for_proofs names (number_of number) folds None)
     unfolding clap_on_literals
     workers_last =
         let kinds : Kinds → Bool → Kinds = λ tables taken. or_else (or_else (or_else tables []) []) (unless taken []) in
@@ -98,31 +107,37 @@ module _ (names : ProveNames) where
 
   module _ (budget : Text) (is : IsPlain budget) (folds : Bool) where
     -- a budget before the names
-    pub budget_first : AsksIf (writes_budget budget) (codes "prove" ∷ with_fold folds (codes "--budget" ∷ budget ∷ prove_words names)) (asks_for_proofs names 1 folds (Some (number_of budget)))
+    pub budget_first : AsksIf (writes_budget budget) (codes "prove" ∷ with_fold folds (codes "--budget" ∷ budget ∷ prove_words names))
+        (asks_for_proofs names 1 folds (Some (number_of budget)))
     unfolding clap_on_literals
     budget_first =
         let kinds : Kinds → Bool → Kinds = λ tables taken. or_else (or_else (unless taken []) []) (or_else tables []) in
-        asks_when (budgets.takes budget) (writes_budget budget) (number_written 1 most_budget budget) (Some (number_of budget)) (budgets.taken budget is) (budget_read budget)
+        asks_when (budgets.takes budget) (writes_budget budget) (number_written 1 most_budget budget) (Some (number_of budget))
+        (budgets.taken budget is) (budget_read budget)
         (kinds []) (asks_for_proofs names 1 folds) (rw append-nil at (prove_comes (numbered (codes "--budget") budget is) []
         (λ tables. kinds tables (budgets.takes budget)) 1 (number_written 1 most_budget budget) folds (λ name is. assumption, assumption))) refl refl
 
     -- a budget behind them
-    pub budget_last : AsksIf (writes_budget budget) (codes "prove" ∷ with_fold folds (prove_words names ++ codes "--budget" ∷ budget ∷ [])) (asks_for_proofs names 1 folds (Some (number_of budget)))
+    pub budget_last : AsksIf (writes_budget budget) (codes "prove" ∷ with_fold folds (prove_words names ++ codes "--budget" ∷ budget ∷ []))
+        (asks_for_proofs names 1 folds (Some (number_of budget)))
     unfolding clap_on_literals
     budget_last =
         let kinds : Kinds → Bool → Kinds = λ tables taken. or_else (or_else (or_else tables []) []) (unless taken []) in
-        asks_when (budgets.takes budget) (writes_budget budget) (number_written 1 most_budget budget) (Some (number_of budget)) (budgets.taken budget is) (budget_read budget)
+        asks_when (budgets.takes budget) (writes_budget budget) (number_written 1 most_budget budget) (Some (number_of budget))
+        (budgets.taken budget is) (budget_read budget)
         (kinds []) (asks_for_proofs names 1 folds) (prove_comes [] (numbered (codes "--budget") budget is)
         (λ tables. kinds tables (budgets.takes budget)) 1 (number_written 1 most_budget budget) folds (λ name is. assumption, assumption)) refl refl
 
   -- both flags with a number
   pub both_asked : (folds : Bool) (number budget : Text) → IsPlain number → IsPlain budget → writes_workers number ≡ true → writes_budget budget ≡ true
-      → AsksFor (codes "prove" ∷ with_fold folds (codes "--workers" ∷ number ∷ codes "--budget" ∷ budget ∷ prove_words names)) (asks_for_proofs names (number_of number) folds (Some (number_of budget)))
+      → AsksFor (codes "prove" ∷ with_fold folds (codes "--workers" ∷ number ∷ codes "--budget" ∷ budget ∷ prove_words names))
+      (asks_for_proofs names (number_of number) folds (Some (number_of budget)))
   unfolding clap_on_literals
   both_asked folds number budget n b writes writes_budget =
       let kinds : Kinds → Bool → Bool → Kinds = λ tables one other. or_else (or_else (or_else (unless one []) (unless other [])) []) (or_else tables []) in
       let come = rw append-nil at (prove_comes (numbered (codes "--workers") number n ++ numbered (codes "--budget") budget b) []
-      (λ tables. kinds tables (workers.takes number) (budgets.takes budget)) (workers.reads number) (number_written 1 most_budget budget) folds (λ name is. assumption, assumption)) in (
+      (λ tables. kinds tables (workers.takes number) (budgets.takes budget)) (workers.reads number) (number_written 1 most_budget budget) folds
+      (λ name is. assumption, assumption)) in (
         come.0 ∙ (λ i. kinds [] ((workers.taken number n ∙ writes) i) ((budgets.taken budget b ∙ writes_budget) i)),
         come.1 ∙ (λ i. asks_for_proofs names (workers.read number n writes i) folds (budget_read budget writes_budget i)),
       )

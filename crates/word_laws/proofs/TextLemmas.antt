@@ -7,6 +7,7 @@ use Rattle.pdb_words.specs.Prove.{file_or_input}
 use Rattle.word_laws.proofs.WalkLemmas.{Word, flag, plain, text_of}
 use Rattle.word_laws.specs.Asking.{TextFrom, file, input, text_file, text_word}
 
+-- what holds of each plain name and of the reader holds wherever a text comes from
 pub by_source : (P : TextFrom → Type 0) → ((name : Text) (is : IsPlain name) → P (file name is)) × P input → (from : TextFrom) → P from
 by_source P all (file name is) = all.0 name is
 by_source P all input = all.1
@@ -16,6 +17,7 @@ abbrev pub word_for : TextFrom → Word
 word_for (file name is) = plain name is
 word_for input = flag (codes "-")
 
+-- the word for a text is its file's name, or a dash for the reader
 pub word_is : (from : TextFrom) → text_of (word_for from) ≡ text_word from
 word_is (file name is) = refl
 word_is input = refl

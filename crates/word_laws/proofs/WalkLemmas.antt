@@ -1,5 +1,6 @@
 -- What the words behind a command come to, word by word, and the numbers among them: a word that doesn't begin with `-` is no flag.
-use Rattle.std.proofs.Common.{◌≡◌, ◌∙◌, ◌≤◌, arith, refl, ap, Bool, false, List, [], ◌∷◌, ◌++◌, Option, Some, None, append-nil, append_assoc, codes, length, map, ◌<◌, ◌^◌, ℕ, true, ne_eqb}
+use Rattle.std.proofs.Common.{◌≡◌, ◌∙◌, ◌≤◌, arith, refl, ap, Bool, false, List, [], ◌∷◌, ◌++◌, Option, Some, None, append-nil, append_assoc, codes}
+use Rattle.std.proofs.Common.{length, map, ◌<◌, ◌^◌, ℕ, true, ne_eqb}
 use Rattle.std.specs.List.{AllByRecursion, fold}
 use Rattle.std.specs.Prelude.{if◌then◌else◌, pos, unwrap_or}
 use Rattle.std.proofs.lemmas.Bool.Decides.{nat_tests}
@@ -86,7 +87,8 @@ turns s w (word ∷ rest) =
     let later = turns s here.0 rest in
     (later.0, or_else here.1 later.1)
 
-words_read : (s : Shape) (w : Walk) (words : List Word) → (fold (walked s.rules []) w (map text_of words), walk_fault s [] w (map text_of words)) ≡ turns s w words
+words_read : (s : Shape) (w : Walk) (words : List Word)
+    → (fold (walked s.rules []) w (map text_of words), walk_fault s [] w (map text_of words)) ≡ turns s w words
 unfolding walk_fault
 words_read s w [] = refl
 words_read s w (word ∷ rest) = grind (arith, turn_is s w word, words_read s (turn_of s w word).0 rest)
@@ -122,7 +124,8 @@ module _ (id : Text) (place : ℕ) where
   same_id = (bytes_eq-Decides id id).1 refl
 
   -- more files
-  turns-plains : (s : Shape) → arg_by_index s.rules place ≡ Some files_rule → (rows : List Row) (files more : List Text) (all : AllByRecursion IsPlain more) (behind : List Word)
+  turns-plains : (s : Shape) → arg_by_index s.rules place ≡ Some files_rule
+      → (rows : List Row) (files more : List Text) (all : AllByRecursion IsPlain more) (behind : List Word)
       → turns s (gathering rows files) (plains more all ++ behind) ≡ turns s (gathering rows (files ++ more)) behind
   turns-plains s met rows files [] all behind = rw append-nil refl
   turns-plains s met rows files (word ∷ more) all behind = grind (arith, same_id, append_assoc, turns-plains s met rows (files ++ word ∷ []) more all.1 behind)
@@ -160,28 +163,37 @@ parse_comes {name = name} is words =
 
 -- they come to what stands at the end of the walk
 pub comes : {name : Text} → IsCommand name → (words : List Word) {end : Walk × Kinds} {kinds : Kinds} {asked : Asked} → turns (leaf name) start words ≡ end
-    → value_faults_by name (finished (leaf name).rules end.0.held) ++ or_else end.1 (last_fault (leaf name) end.0.held) ≡ kinds → asked_by name (finished (leaf name).rules end.0.held) ≡ asked
+    → value_faults_by name (finished (leaf name).rules end.0.held) ++ or_else end.1 (last_fault (leaf name) end.0.held) ≡ kinds
+    → asked_by name (finished (leaf name).rules end.0.held) ≡ asked
     → Comes name (map text_of words) kinds asked
 unfolding walk_fault
 comes {name = name} is words run ends found =
     let read = words_read (leaf name) start words ∙ run in (
-      faults_behind name is (map text_of words) ∙ (λ i. value_faults_by name (finished (leaf name).rules (read i).0.held) ++ or_nothing (or_else (read i).1 (last_fault (leaf name) (read i).0.held)) i) ∙ ends,
+      faults_behind name is (map text_of words) ∙ (λ i. value_faults_by name (finished (leaf name).rules (read i).0.held) ++ or_nothing
+          (or_else (read i).1 (last_fault (leaf name) (read i).0.held)) i) ∙ ends,
       asked_behind name is (map text_of words) ∙ (λ i. asked_by name (finished (leaf name).rules (read i).0.held)) ∙ found,
     )
 
 -- the walk of a command over flags, the names as far as the first of its files, all of these, and the flags behind them has this
 -- wrong, by what is with the files, and asks for this
-abbrev pub FitsFiles : (id name : Text) (place : ℕ) (leading : List Word) (file : Text) (more : List Text) (before behind : List Word) → (Kinds → Kinds) → Asked → Type 0
+abbrev pub FitsFiles : (id name : Text) (place : ℕ) (leading : List Word) (file : Text) (more : List Text) (before behind : List Word)
+    → (Kinds → Kinds) → Asked → Type 0
 FitsFiles id name place leading file more before behind kinds asked =
     let s = leaf name in
     let first = turns s start (before ++ leading) in
     let end = turns s (gathering id place first.0.held.rows (file ∷ more)) behind in
-    ◌≡◌ {A = Option Rule × Walk × Kinds × Asked}
-    (arg_by_index s.rules place, first.0, value_faults_by name (finished s.rules end.0.held) ++ or_else (or_else first.1 end.1) (last_fault s end.0.held), asked_by name (finished s.rules end.0.held))
+    ◌≡◌ {A = Option Rule × Walk × Kinds × Asked} (
+      arg_by_index s.rules place,
+      first.0,
+      value_faults_by name (finished s.rules end.0.held) ++ or_else (or_else first.1 end.1)
+          (last_fault s end.0.held),
+      asked_by name (finished s.rules end.0.held),
+    )
     (Some (files_rule id place), gathering id place first.0.held.rows (file ∷ []), kinds (files_fault id place (file ∷ more)), asked)
 
 -- so the words come to this
-pub files_come : (id : Text) {name : Text} → IsCommand name → (place : ℕ) (leading : List Word) (file : Text) (more : List Text) (all : AllByRecursion IsPlain more) → length (file ∷ more) ≤ usize_max
+pub files_come : (id : Text) {name : Text} → IsCommand name
+    → (place : ℕ) (leading : List Word) (file : Text) (more : List Text) (all : AllByRecursion IsPlain more) → length (file ∷ more) ≤ usize_max
     → (before behind : List Word) (kinds : Kinds → Kinds) (asked : Asked) → FitsFiles id name place leading file more before behind kinds asked
     → Comes name (map text_of before ++ (map text_of leading ++ (more ++ map text_of behind))) (kinds []) asked
 files_come id {name = name} is place leading file more all many before behind kinds asked fits =
@@ -195,17 +207,22 @@ files_come id {name = name} is place leading file more all many before behind ki
     simp (map-append, map-plains, append_assoc) at come
 
 -- the same of tables
-abbrev pub FitsTables : (name : Text) (place : ℕ) (leading : List Word) (table : Text) (more : List Text) (before behind : List Word) → (Kinds → Kinds) → Asked → Type 0
+abbrev pub FitsTables : (name : Text) (place : ℕ) (leading : List Word) (table : Text) (more : List Text) (before behind : List Word)
+    → (Kinds → Kinds) → Asked → Type 0
 FitsTables = FitsFiles (codes "TABLES")
 
-pub tables_come : {name : Text} → IsCommand name → (place : ℕ) (leading : List Word) (table : Text) (more : List Text) (all : AllByRecursion IsPlain more) → length (table ∷ more) ≤ usize_max
+-- a command's words, with one table or more behind its other names, come to what the walk over them does
+pub tables_come : {name : Text} → IsCommand name → (place : ℕ) (leading : List Word) (table : Text) (more : List Text)
+    (all : AllByRecursion IsPlain more) → length (table ∷ more) ≤ usize_max
     → (before behind : List Word) (kinds : Kinds → Kinds) (asked : Asked) → FitsTables name place leading table more before behind kinds asked
     → Comes name (map text_of before ++ (map text_of leading ++ (more ++ map text_of behind))) (kinds []) asked
-tables_come is place leading table more all many before behind kinds asked fits = files_come (codes "TABLES") is place leading table more all many before behind kinds asked fits
+tables_come is place leading table more all many before behind kinds asked fits =
+    files_come (codes "TABLES") is place leading table more all many before behind kinds asked fits
 
 -- words that lack what has to be there are mistaken
 pub missing : {name : Text} → IsCommand name → (words : List Word)
-    → (let end = turns (leaf name) start words in or_else end.1 (last_fault (leaf name) end.0.held) ≡ kind.MissingRequiredArgument ∷ []) → IsMistaken (name ∷ map text_of words)
+    → (let end = turns (leaf name) start words in or_else end.1 (last_fault (leaf name) end.0.held) ≡ kind.MissingRequiredArgument ∷ [])
+    → IsMistaken (name ∷ map text_of words)
 missing {name = name} is words ends = mistaken_parse _ kind.MissingRequiredArgument [] (parse_comes {name = name} is words ∙ ends) (λ e. cc) (λ e. cc)
 
 -- ---- numbers in words
@@ -223,7 +240,8 @@ pub record Numbers : Type 0 where
   pub read : (number : Text) → IsPlain number → writes number ≡ true → reads number ≡ number_of number
 
 -- `clap` takes a text without `-` as a number from low to high exactly if it writes one
-pub signed_taken : (low high : ℕ) → high < 2 ^ 63 → (number : Text) → IsPlain number → accepts false (parser.Signed (pos low) (pos high)) number ≡ writes_within low high number
+pub signed_taken : (low high : ℕ) → high < 2 ^ 63 → (number : Text) → IsPlain number
+    → accepts false (parser.Signed (pos low) (pos high)) number ≡ writes_within low high number
 signed_taken low high fits [] no_dash = refl
 signed_taken low high fits (d ∷ number) no_dash = rw (ne_eqb d 45 no_dash) (grind (arith, nat_tests))
 
@@ -282,7 +300,8 @@ abbrev pub AsksIf : Bool → List Text → Asked → Type 0
 AsksIf test words asked = (test ≡ true → AsksFor words asked) × (test ≡ false → IsMistaken words)
 
 -- so do words whose faults, and what they ask for, hang on a text that is taken
-pub asks_when : {A : Type 0} {name : Text} {words : List Text} (takes writes : Bool) (read meant : A) → takes ≡ writes → (writes ≡ true → read ≡ meant) → (kinds : Bool → Kinds) (asks : A → Asked)
+pub asks_when : {A : Type 0} {name : Text} {words : List Text} (takes writes : Bool) (read meant : A) → takes ≡ writes
+    → (writes ≡ true → read ≡ meant) → (kinds : Bool → Kinds) (asks : A → Asked)
     → Comes name words (kinds takes) (asks read) → kinds true ≡ [] → kinds false ≡ kind.ValueValidation ∷ [] → AsksIf writes (name ∷ words) (asks meant)
 asks_when takes writes read meant taken is_read kinds asks come right wrong = (
   λ is. (come.0 ∙ ap kinds (taken ∙ is) ∙ right, come.1 ∙ ap asks (is_read is)),
@@ -294,4 +313,5 @@ pub asks_if : {name : Text} {words : List Text} (numbers : Numbers) (number : Te
     → Comes name words (kinds (numbers.takes number)) (asks (numbers.reads number)) → kinds true ≡ [] → kinds false ≡ kind.ValueValidation ∷ []
     → AsksIf (numbers.writes number) (name ∷ words) (asks (number_of number))
 asks_if numbers number no_dash kinds asks come right wrong =
-    asks_when (numbers.takes number) (numbers.writes number) (numbers.reads number) (number_of number) (numbers.taken number no_dash) (numbers.read number no_dash) kinds asks come right wrong
+    asks_when (numbers.takes number) (numbers.writes number) (numbers.reads number) (number_of number) (numbers.taken number no_dash)
+    (numbers.read number no_dash) kinds asks come right wrong

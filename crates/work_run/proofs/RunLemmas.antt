@@ -1,5 +1,6 @@
 -- What all workers together have found.
-use Rattle.std.proofs.Common.{◌≡◌, ℕ, zero, suc, ◌+◌, ◌<◌, ◌≤◌, cond, eqb, List, [], ◌∷◌, length, true, Option, Some, None, inl, inr, refl, sym, ◌∙◌, ap, subst, arith, slice_get}
+use Rattle.std.proofs.Common.{◌≡◌, ℕ, zero, suc, ◌+◌, ◌<◌, ◌≤◌, cond, eqb, List, [], ◌∷◌, length, true, Option, Some, None, inl, inr, refl, sym, ◌∙◌}
+use Rattle.std.proofs.Common.{ap, subst, arith, slice_get}
 use Rattle.std.specs.List.{All, Contains}
 use Rattle.std.proofs.lemmas.Bool.{cases_lt, cases_eq, lt-ltb}
 use Rattle.std.proofs.lemmas.Bool.Decides.{nat_tests}
@@ -19,7 +20,8 @@ use Rattle.work_run.proofs.WorkLemmas.{IsAbove-falls}
 -- ---- the passes that come back
 
 -- each of them stands where it stood before
-AreDone-at : (bad : ℕ → Type 0) (begins : ℕ → ℕ) (jobs : ℕ) (before after : List PassState) → AreDone bad begins jobs before after → (k : ℕ) (q : PassState) → slice_get after k ≡ Some q
+AreDone-at : (bad : ℕ → Type 0) (begins : ℕ → ℕ) (jobs : ℕ) (before after : List PassState) → AreDone bad begins jobs before after
+    → (k : ℕ) (q : PassState) → slice_get after k ≡ Some q
     → (p : PassState) × (slice_get before k ≡ Some p) × IsDone bad begins jobs p q
 AreDone-at bad begins jobs [] [] done k q at = cc
 AreDone-at bad begins jobs [] (y ∷ ys) done k q at = absurd done
@@ -27,13 +29,16 @@ AreDone-at bad begins jobs (x ∷ xs) [] done k q at = cc
 AreDone-at bad begins jobs (x ∷ xs) (y ∷ ys) done zero q at = let same : y ≡ q = cc in (x, refl, subst (IsDone bad begins jobs x) same done.0)
 AreDone-at bad begins jobs (x ∷ xs) (y ∷ ys) done (suc k) q at = AreDone-at bad begins jobs xs ys done.1 k q at
 
-AreDone-length : (bad : ℕ → Type 0) (begins : ℕ → ℕ) (jobs : ℕ) (before after : List PassState) → AreDone bad begins jobs before after → length after ≡ length before
+AreDone-length : (bad : ℕ → Type 0) (begins : ℕ → ℕ) (jobs : ℕ) (before after : List PassState) → AreDone bad begins jobs before after
+    → length after ≡ length before
 AreDone-length bad begins jobs [] [] done = refl
 AreDone-length bad begins jobs [] (y ∷ ys) done = absurd done
 AreDone-length bad begins jobs (x ∷ xs) [] done = absurd done
 AreDone-length bad begins jobs (x ∷ xs) (y ∷ ys) done = omega (arith, AreDone-length bad begins jobs xs ys done.1)
 
-pub ArePasses-done : (bad : ℕ → Type 0) (begins : ℕ → ℕ) (jobs : ℕ) (b : BookId) (before after : List PassState) → ArePasses b (λ p. p.deeds ≡ fresh) before → AreDone bad begins jobs before after → ArePasses b (λ p. p.deeds.ended ≡ true) after
+-- passes that have done their work have the book and the numbers that they had, and have ended
+pub ArePasses-done : (bad : ℕ → Type 0) (begins : ℕ → ℕ) (jobs : ℕ) (b : BookId) (before after : List PassState)
+    → ArePasses b (λ p. p.deeds ≡ fresh) before → AreDone bad begins jobs before after → ArePasses b (λ p. p.deeds.ended ≡ true) after
 ArePasses-done bad begins jobs b before after dealt done = record {
   count = AreDone-length bad begins jobs before after done ∙ dealt.count;
   each = λ k q at.
@@ -42,7 +47,9 @@ ArePasses-done bad begins jobs b before after dealt done = record {
       (was.2.book ∙ p.0, was.2.number ∙ p.1, was.2.ended);
 }
 
-pub IsWorked-each : (bad : ℕ → Type 0) (begins : ℕ → ℕ) (jobs : ℕ) (before after : List PassState) → AreDone bad begins jobs before after → (k : ℕ) (q : PassState) → slice_get after k ≡ Some q → IsWorked bad begins jobs q.deeds
+-- each pass that has done its work has worked on its jobs
+pub IsWorked-each : (bad : ℕ → Type 0) (begins : ℕ → ℕ) (jobs : ℕ) (before after : List PassState) → AreDone bad begins jobs before after
+    → (k : ℕ) (q : PassState) → slice_get after k ≡ Some q → IsWorked bad begins jobs q.deeds
 IsWorked-each bad begins jobs before after done k q at = (AreDone-at bad begins jobs before after done k q at).2.worked
 
 -- ---- who drew a job
@@ -57,7 +64,8 @@ contains-times (y ∷ xs) x some = elim (cases_eq y x) [
 ]
 
 -- a pass that drew the job
-drawn-by : (job : ℕ) (passes : List PassState) → 0 < times_drawn job (all_deeds passes) → (k : ℕ) × (p : PassState) × (slice_get passes k ≡ Some p) × Contains p.deeds.drawn job
+drawn-by : (job : ℕ) (passes : List PassState) → 0 < times_drawn job (all_deeds passes) → (k : ℕ) × (p : PassState) × (slice_get passes k ≡ Some p)
+    × Contains p.deeds.drawn job
 drawn-by job [] some = absurd (omega (arith, some))
 drawn-by job (p ∷ passes) some = elim (cases_lt 0 (times job p.deeds.drawn)) [
   | inl here ↦ (0, p, refl, contains-times p.deeds.drawn job here)
@@ -76,7 +84,8 @@ job-of begins (suc n) from place lt = elim (cases_lt place (begins n)) [
   | inr here ↦ (n, omega arith, here, subst (λ m. place < begins m) (let e : suc n ≡ n + 1 = omega arith in e) lt)
 ]
 
-deeds-at : (passes : List PassState) (k : ℕ) (d : Deeds) → slice_get (all_deeds passes) k ≡ Some d → (p : PassState) × (slice_get passes k ≡ Some p) × (p.deeds ≡ d)
+deeds-at : (passes : List PassState) (k : ℕ) (d : Deeds) → slice_get (all_deeds passes) k ≡ Some d → (p : PassState) × (slice_get passes k ≡ Some p)
+    × (p.deeds ≡ d)
 deeds-at [] k d e = cc
 deeds-at (q ∷ passes) zero d e = (q, refl, let is : q.deeds ≡ d = cc in is)
 deeds-at (q ∷ passes) (suc k) d e = deeds-at passes k d e
@@ -86,7 +95,8 @@ module _ (bad : ℕ → Type 0) (begins : ℕ → ℕ) (jobs : ℕ) (from : begi
   good-below : (job : ℕ) → job < jobs → (n place : ℕ) → place < n → begins job ≤ place → place < begins (job + 1) → place < end → ¬ bad place
   good-below job within zero place lt above below under is = absurd (omega arith)
   good-below job within (suc n) place lt above below under is =
-      let least : IsLeastBad bad (begins job) (begins (job + 1)) (Some place) = (above, below, is, λ q low before. good-below job within n q (omega arith) low (omega arith) (omega arith)) in
+      let least : IsLeastBad bad (begins job) (begins (job + 1)) (Some place) =
+      (above, below, is, λ q low before. good-below job within n q (omega arith) low (omega arith) (omega arith)) in
       absurd (omega (arith, least_bad job within place least))
 
   -- where the least bad place of no job is below the end, no place below it is bad
@@ -113,18 +123,26 @@ module _ (bad : ℕ → Type 0) (begins : ℕ → ℕ) (b : BookId) (passes : Li
       let by = drawn-by job passes (omega (arith, drawn job)) in
       let p = by.1 in
       let saw : IsAtMost closing p.deeds.seen =
-      subst (λ (q : PassState). IsAtMost closing q.deeds.seen) (get_or_from_slice_get passes by.0 p p by.2) (seen by.0 p (slice_get_within passes by.0 p by.2)) in
+      subst (λ (q : PassState). IsAtMost closing q.deeds.seen) (get_or_from_slice_get passes by.0 p p by.2)
+      (seen by.0 p (slice_get_within passes by.0 p by.2)) in
       elim ((worked by.0 p by.2).settled job by.3) [
         | inl found ↦ IsAtMost-reported closing (all_deeds passes) is_least place (by.0, p.deeds, slice_get-all_deeds passes by.0 p by.2, found place least)
         | inr above ↦ IsAtMost-above closing (begins job) place (IsAbove-falls (begins job) closing p.deeds.seen saw above) least.0
       ]
 
-  pub IsFault-least : (closing : Option ℕ) → IsLeast closing (all_deeds passes) → All (λ (p : PassState). IsAtMost closing p.deeds.seen) passes → IsFault bad (begins b.sizes.jobs) closing
+  -- the least of what all passes reported, where none saw less, is the least bad place of all jobs
+  pub IsFault-least : (closing : Option ℕ) → IsLeast closing (all_deeds passes) → All (λ (p : PassState). IsAtMost closing p.deeds.seen) passes
+      → IsFault bad (begins b.sizes.jobs) closing
   IsFault-least None none seen = λ place _ lt.
       good bad begins b.sizes.jobs from (suc place) (λ job within q least. absurd (IsAtMost-least None none seen job within q least)) place lt (omega arith)
   IsFault-least (Some least) is seen =
       let r = is.0 in
       let at = deeds-at passes r.0 r.1 r.2 in
       let has : Contains at.0.deeds.reported least = subst (λ (d : Deeds). Contains d.reported least) (sym at.2) r.3 in
-      let w = worked r.0 at.0 at.1 in
-      (omega arith, w.within least has, w.is_bad least has, λ place _ lt. good bad begins b.sizes.jobs from least (IsAtMost-least (Some least) is seen) place (omega (arith, w.within least has)) lt)
+      let w = worked r.0 at.0 at.1 in (
+        omega arith,
+        w.within least has,
+        w.is_bad least has,
+        λ place _ lt. good bad begins b.sizes.jobs from least
+            (IsAtMost-least (Some least) is seen) place (omega (arith, w.within least has)) lt,
+      )

@@ -60,21 +60,29 @@ module _ (bad : ℕ → Type 0) (begins : ℕ → ℕ) (jobs : ℕ) (d : Deeds) 
   -- one more bad place is reported
   pub IsWorked-reported : (x : ℕ) → bad x → x < begins jobs → IsWorked bad begins jobs (with_report d x)
   IsWorked-reported x is below = record {
-    settled = λ j has. elim (worked.settled j has) [ inl found ↦ inl (λ place least. Contains-append_left d.reported (x ∷ []) place (found place least)) | inr above ↦ inr above ];
+    settled = λ j has. elim (worked.settled j has) [
+      | inl found ↦ inl
+          (λ place least. Contains-append_left d.reported (x ∷ []) place (found place least))
+      | inr above ↦ inr above
+    ];
     is_bad = λ place has. elim (Contains-push_cases d.reported x place has) [ inl old ↦ worked.is_bad place old | inr e ↦ subst bad e is ];
     within = λ place has. elim (Contains-push_cases d.reported x place has) [ inl old ↦ worked.within place old | inr e ↦ omega arith ];
   }
 
+  -- ending a worker's pass leaves what it has done of its jobs
   pub IsWorked-ended : IsWorked bad begins jobs (with_end d)
   IsWorked-ended = record { settled = worked.settled; is_bad = worked.is_bad; within = worked.within }
 
 -- a job without a bad place
-pub IsSettled-good : (bad : ℕ → Type 0) (begins : ℕ → ℕ) (d : Deeds) (job : ℕ) → IsLeastBad bad (begins job) (begins (job + 1)) None → IsSettled bad begins d job
+pub IsSettled-good : (bad : ℕ → Type 0) (begins : ℕ → ℕ) (d : Deeds) (job : ℕ) → IsLeastBad bad (begins job) (begins (job + 1)) None
+    → IsSettled bad begins d job
 IsSettled-good bad begins d job none = inl (λ place least. absurd (none place least.0 least.1 least.2))
 
 -- a job whose least bad place was just reported
-pub IsSettled-bad : (bad : ℕ → Type 0) (begins : ℕ → ℕ) (d : Deeds) (job x : ℕ) → IsLeastBad bad (begins job) (begins (job + 1)) (Some x) → IsSettled bad begins (with_report d x) job
-IsSettled-bad bad begins d job x is = inl (λ place least. subst (Contains (d.reported ++ x ∷ [])) (IsLeastBad-one bad (begins job) (begins (job + 1)) x place is least) (Contains-push d.reported x))
+pub IsSettled-bad : (bad : ℕ → Type 0) (begins : ℕ → ℕ) (d : Deeds) (job x : ℕ) → IsLeastBad bad (begins job) (begins (job + 1)) (Some x)
+    → IsSettled bad begins (with_report d x) job
+IsSettled-bad bad begins d job x is = inl (λ place least. subst (Contains (d.reported ++ x ∷ []))
+    (IsLeastBad-one bad (begins job) (begins (job + 1)) x place is least) (Contains-push d.reported x))
 
 -- ---- the pass of a worker, at work
 
@@ -103,18 +111,25 @@ module _ (bad : ℕ → Type 0) (begins : ℕ → ℕ) (jobs : ℕ) (b : BookId)
   looked-is = seen ∙ ap (λ (q : PassState). record q { deeds = with_seen q.deeds least }) drawn
 
   with_deeds : (q : PassState) (d : Deeds) → q ≡ record p { deeds = d } → d.ended ≡ p.deeds.ended → IsWorked bad begins jobs d → IsAtWork bad begins jobs b w q
-  with_deeds q d is going worked = subst (IsAtWork bad begins jobs b w) (sym is) (record { book = working.book; number = working.number; going = going ∙ working.going; worked = worked })
+  with_deeds q d is going worked = subst (IsAtWork bad begins jobs b w) (sym is)
+      (record { book = working.book; number = working.number; going = going ∙ working.going; worked = worked })
 
+  -- a job that begins above the least place seen is skipped, and the pass goes on
   pub IsAtWork-skipped : IsAbove (begins job) least → IsAtWork bad begins jobs b w looked
   unfolding before
   IsAtWork-skipped above = with_deeds looked (with_drawn before job) looked-is refl (IsWorked-drawn bad begins jobs before has_seen job (inr above))
 
+  -- a job with no bad place leaves the pass at work
   pub IsAtWork-good : IsLeastBad bad (begins job) (begins (job + 1)) None → IsAtWork bad begins jobs b w looked
   unfolding before
-  IsAtWork-good none = with_deeds looked (with_drawn before job) looked-is refl (IsWorked-drawn bad begins jobs before has_seen job (IsSettled-good bad begins before job none))
+  IsAtWork-good none = with_deeds looked (with_drawn before job) looked-is refl
+      (IsWorked-drawn bad begins jobs before has_seen job (IsSettled-good bad begins before job none))
 
-  pub IsAtWork-bad : (reported : PassState) (x : ℕ) → reported ≡ record looked { deeds = with_report looked.deeds x } → IsLeastBad bad (begins job) (begins (job + 1)) (Some x) → x < begins jobs → IsAtWork bad begins jobs b w reported
+  -- a job whose least bad place was reported leaves the pass at work
+  pub IsAtWork-bad : (reported : PassState) (x : ℕ) → reported ≡ record looked { deeds = with_report looked.deeds x }
+      → IsLeastBad bad (begins job) (begins (job + 1)) (Some x) → x < begins jobs → IsAtWork bad begins jobs b w reported
   unfolding before
   IsAtWork-bad reported x is least_bad within =
       with_deeds reported (with_drawn (with_report before x) job) (is ∙ ap (λ (q : PassState). record q { deeds = with_report q.deeds x }) looked-is) refl
-      (IsWorked-drawn bad begins jobs (with_report before x) (IsWorked-reported bad begins jobs before has_seen x least_bad.2 within) job (IsSettled-bad bad begins before job x least_bad))
+      (IsWorked-drawn bad begins jobs (with_report before x) (IsWorked-reported bad begins jobs before has_seen x least_bad.2 within) job
+      (IsSettled-bad bad begins before job x least_bad))

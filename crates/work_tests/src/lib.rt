@@ -9,6 +9,8 @@ mod cores;
 #[cfg(test)]
 mod gates;
 #[cfg(test)]
+mod meetings;
+#[cfg(test)]
 mod progress;
 #[cfg(test)]
 mod stages;

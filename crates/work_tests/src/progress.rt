@@ -155,7 +155,7 @@ fn paces_are_in_whole_boards_a_second(rt: HostRuntime) {
         (5, 0, None),
     ];
     for (boards, millis, rate) in cases {
-        let pace = Pace::of(0, 93, boards, millis);
+        let pace = Pace::of(Some(0), 93, boards, millis);
         assert_eq!(rt;
             pace.map(|pace| pace.boards_a_second()),
             rate,
@@ -226,6 +226,115 @@ fn each_bound_of_each_claim_has_a_pace_of_its_own(rt: HostRuntime) -> Result<(),
         stage.line(1),
         "pdb_cli: claim 3, below 255: 4100000 boards, 2050000 a second"
     );
+    Ok(())
+}
+
+#[test]
+fn a_search_without_a_claim_names_none_and_shares_are_told_behind_it(
+    rt: HostRuntime,
+) -> Result<(), Fail> {
+    let stage = Stage::new(rt.alloc())?;
+    let files = vec![in rt.alloc(); "t0", "made"]?;
+    let gate = Progress::start(&stage, files)?;
+    gate.begins(3);
+    gate.searches(21);
+    stage.set_clock(2000);
+    gate.expanded(16_384);
+    gate.begins(2);
+    stage.set_clock(3000);
+    gate.before(0);
+    assert_eq!(rt; stage.told(), 2);
+    assert_eq!(rt;
+        stage.line(0),
+        "pdb_cli: below 21: 16384 boards, 8192 a second"
+    );
+    assert_eq!(rt;
+        stage.line(1),
+        "pdb_cli: made, 2 of 2: 50 percent of 2 blocks or lemmas begun"
+    );
+    Ok(())
+}
+
+#[test]
+fn a_table_that_is_made_is_told_and_then_its_check(rt: HostRuntime) -> Result<(), Fail> {
+    let stage = Stage::new(rt.alloc())?;
+    let gate = Progress::start(&stage, vec![in rt.alloc(); "m\nade"]?)?;
+    stage.set_clock(999);
+    gate.found(1, 2, 300);
+    stage.set_clock(1000);
+    gate.found(2, 5, 300);
+    stage.set_clock(1999);
+    gate.found(3, 9, 300);
+    stage.set_clock(2000);
+    gate.found(4, 300, 300);
+    // Entries are told as many as were filled in since the last call.
+    gate.filled(40, 200);
+    stage.set_clock(3000);
+    gate.filled(40, 200);
+    gate.begins(4);
+    stage.set_clock(4000);
+    gate.before(0);
+    assert_eq!(rt; stage.told(), 4);
+    let lines = [
+        "pdb_cli: m?ade: 1 percent of 300 counts found, those up to 2 moves",
+        "pdb_cli: m?ade: 100 percent of 300 counts found, those up to 4 moves",
+        "pdb_cli: m?ade: 40 percent of 200 entries filled in",
+        "pdb_cli: m?ade, 1 of 1: 25 percent of 4 blocks or lemmas begun",
+    ];
+    for (place, line) in lines.iter().enumerate() {
+        assert_eq!(rt; stage.line(place), *line);
+    }
+    Ok(())
+}
+
+#[test]
+fn a_table_without_a_name_is_told(rt: HostRuntime) -> Result<(), Fail> {
+    let mut stage = Stage::new(rt.alloc())?;
+    stage.value = Some(b"1");
+    let gate = Watch::asked_for(&stage, Vec::new(rt.alloc()));
+    stage.set_clock(1000);
+    gate.found(253, 1, 2);
+    stage.set_clock(2000);
+    gate.filled(3, 4);
+    // More than there are aren't told.
+    stage.set_clock(3000);
+    gate.filled(3, 4);
+    assert_eq!(rt; stage.told(), 2);
+    assert_eq!(rt;
+        stage.line(0),
+        "pdb_cli: 50 percent of 2 counts found, those up to 253 moves"
+    );
+    assert_eq!(rt; stage.line(1), "pdb_cli: 75 percent of 4 entries filled in");
+    Ok(())
+}
+
+#[test]
+fn the_bound_is_kept_below_which_the_last_searches_ended(rt: HostRuntime) -> Result<(), Fail> {
+    for value in [None, Some(b"1".as_slice())] {
+        let mut stage = Stage::new(rt.alloc())?;
+        stage.value = value;
+        let gate = Watch::asked_for(&stage, Vec::new(rt.alloc()));
+        assert_eq!(rt; gate.ended_below(), None);
+        // The bound of each search, and that of the one that has ended before it.
+        let searches = [
+            (5, None),
+            (7, Some(5)),
+            (9, Some(7)),
+            (1, None),
+            (3, Some(1)),
+            (3, None),
+            (255, Some(3)),
+        ];
+        for (bound, ended) in searches {
+            gate.searches(bound);
+            gate.expanded(1);
+            assert_eq!(rt; gate.ended_below(), ended, "{bound}");
+        }
+        gate.asks(0);
+        assert_eq!(rt; gate.ended_below(), None);
+        gate.searches(255);
+        assert_eq!(rt; gate.ended_below(), None);
+    }
     Ok(())
 }
 
@@ -317,5 +426,28 @@ fn a_clock_or_a_standard_error_that_fails_stops_nothing(rt: HostRuntime) -> Resu
     let gate = Watch::asked_for(&timeless, Vec::new(rt.alloc()));
     assert_eq!(rt; run_jobs(&rt, rt.alloc(), &jobs, 1, &gate)?, None);
     assert_eq!(rt; timeless.told(), 0);
+    Ok(())
+}
+
+#[test]
+fn large_numbers_are_told_whole(rt: HostRuntime) -> Result<(), Fail> {
+    let stage = Stage::new(rt.alloc())?;
+    let gate = Progress::start(&stage, Vec::new(rt.alloc()))?;
+    gate.begins(4_294_967_296);
+    stage.set_clock(5_000_000_000);
+    gate.before(0);
+    gate.asks(4_294_967_296);
+    gate.searches(40);
+    stage.set_clock(7_000_000_000);
+    gate.expanded(9_000_000_000_000);
+    assert_eq!(rt; stage.told(), 2);
+    assert_eq!(rt;
+        stage.line(0),
+        "pdb_cli: 0 percent of 4294967296 blocks or lemmas begun"
+    );
+    assert_eq!(rt;
+        stage.line(1),
+        "pdb_cli: claim 4294967296, below 40: 9000000000000 boards, 4500000 a second"
+    );
     Ok(())
 }

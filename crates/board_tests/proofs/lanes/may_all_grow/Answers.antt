@@ -10,10 +10,12 @@ use Rattle.board_tests.proofs.lanes.may_all_grow.Goals as goal
 below : (m k : ℕ) → m / 2 ^ k ≡ 0 → m < 2 ^ k
 below m k none = let few = (div-lt_iff_lt-mul {k = 2 ^ k} {x = m} {y = 1} (pow_pos k)).0 (omega arith) in omega arith
 
+-- where the masks before a place may grow, and the one there passes the tests, it may grow too
 pub loop-place-preserved : goal.loop-place-preserved
 loop-place-preserved c i l = elim (cases_lt i c.loop-place.place) [
   | inl before ↦ c.loop-place.invariant i before
-  | inr here ↦ subst (λ k. MayGrow c.args.side (get_or c.args.free.now k 0) (get_or c.args.masks.now k 0)) (let e : c.loop-place.place ≡ i = omega arith in e) last
+  | inr here ↦ subst (λ k. MayGrow c.args.side (get_or c.args.free.now k 0) (get_or c.args.masks.now k 0))
+      (let e : c.loop-place.place ≡ i = omega arith in e) last
 ]
   where
     free : ℕ
@@ -28,5 +30,6 @@ loop-place-preserved c i l = elim (cases_lt i c.loop-place.place) [
     last : MayGrow c.args.side (get_or c.args.free.now c.loop-place.place 0) (get_or c.args.masks.now c.loop-place.place 0)
     last = record {
       on_board = subst (λ k. free < 2 ^ k) cells (below free c.from-cells.result (let z = c.if-free-place-ne0.false in omega arith));
-      inside = (λ x h. (both_in mask free x (subst (λ m. IsIn m x) (let e : mask ≡ bit_and mask free = let z = c.if-masks-place.false in omega arith in e) h)).1);
+      inside = (λ x h. (both_in mask free x (subst (λ m. IsIn m x) (let e : mask ≡ bit_and mask free = let z = c.if-masks-place.false in
+          omega arith in e) h)).1);
     }

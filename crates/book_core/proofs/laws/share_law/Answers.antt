@@ -1,6 +1,7 @@
 use Rattle.book_core.proofs.ShareLemmas.{IsDealt-start, IsDealt-step, IsDealt-cut, IsDealt-join, IsDealt-whole}
 use Rattle.book_core.proofs.laws.share_law.Goals as goal
 
+-- the passes of a book are shared out at its start, and stay so by a step, by a cut share and by two joined ones
 pub returns : goal.returns
 returns c = record {
   start = IsDealt-start;

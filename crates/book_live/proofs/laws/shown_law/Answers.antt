@@ -3,6 +3,7 @@ use Rattle.book_live.proofs.StepMoves.{ShowsEvent-taken}
 use Rattle.book_live.proofs.SeatMoves.{Shows-opened, Shows-made, Shows-joined}
 use Rattle.book_live.proofs.laws.shown_law.Goals as goal
 
+-- what is shown meets the machine's law, from the opening on, through each event, each new seat and each joining
 pub returns : goal.returns
 returns c = record {
   law = λ z s h. (h.0, h.1, BookLaw-reached z h.0 h.1, h.2);

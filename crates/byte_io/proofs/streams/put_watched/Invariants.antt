@@ -11,5 +11,6 @@ invariant-loop-done g l =
     × (l.out.has_failed ≡ l.fn.out.has_failed)
     × (l.out.stream.ghost_name ≡ l.fn.out.stream.ghost_name)
 
+-- how many bytes are left to write gets less with each write
 abbrev pub decreases-loop-done : goal.decreases-loop-done
 decreases-loop-done g l = length l.bytes - l.done

@@ -15,5 +15,6 @@ invariant-reads g l =
     × (g.R.Source.may_have_ended l.reader.stream.now ≡ g.R.Source.may_have_ended l.fn.reader.stream.now)
     × (l.reader.stream.ghost_name ≡ l.fn.reader.stream.ghost_name)
 
+-- how many more bytes may be read, and one more, gets less with each read
 abbrev pub decreases-reads : goal.decreases-reads
 decreases-reads g l = (l.limit + 1) - l.filled

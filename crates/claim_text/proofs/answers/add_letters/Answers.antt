@@ -3,6 +3,7 @@ use Rattle.std.proofs.lemmas.Str.Ascii.{encode_ascii}
 use Rattle.claim_text.proofs.AnswerLemmas.{letter_small, letters_room}
 use Rattle.claim_text.proofs.answers.add_letters.Goals as goal
 
+-- where a letter comes next, the line has room for it
 pub push-requires : goal.push-requires
 push-requires c =
     let letter = sym c.is_letter.ensures ∙ c.if-is_letter.true in

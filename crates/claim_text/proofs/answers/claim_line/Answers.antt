@@ -10,6 +10,7 @@ where_none : {A P : Type 0} (r : Option A) (Q : A → Type 0) → r ≡ None →
 where_none None Q e p = p
 where_none (Some x) Q e p = absurd cc
 
+-- a claim in words begins with a space, so there is one to leave out
 pub unreachable-requires : goal.unreachable-requires
 unreachable-requires c =
     let claim = c.args.claim.now in
@@ -17,6 +18,8 @@ unreachable-requires c =
     let asks = asks_words (asks_shown claim.asks) in
     let front = spaced_front claim.board (asks ++ codes "\n") c.side-side.ensures.board in
     let line =
-    c.as_str.ensures.value ∙ c.with_claim-spaced.ensures ∙ ap (λ start. start ++ words ++ codes "\n") c.new.ensures ∙ append_assoc (numbers claim.board) asks (codes "\n") ∙
+    c.as_str.ensures.value ∙ c.with_claim-spaced.ensures ∙ ap (λ start. start ++ words ++ codes "\n") c.new.ensures
+    ∙ append_assoc (numbers claim.board) asks (codes "\n") ∙
     front.1 in
-    where_none c.strip_prefix.result (λ x. c.as_str.result.now ≡ 32 ∷ x.now) c.in_default.is (strip_prefix_char 32 c.as_str.result.now c.strip_prefix.result c.strip_prefix.ensures.cases (lit< tt)) front.0 line
+    where_none c.strip_prefix.result (λ x. c.as_str.result.now ≡ 32 ∷ x.now) c.in_default.is
+    (strip_prefix_char 32 c.as_str.result.now c.strip_prefix.result c.strip_prefix.ensures.cases (lit< tt)) front.0 line

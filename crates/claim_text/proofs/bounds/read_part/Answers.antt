@@ -5,6 +5,7 @@ use Rattle.claim_text.proofs.ClaimLemmas.{IfNone-always, IfNone-weaker}
 use Rattle.claim_text.proofs.DecimalLemmas.{one_decimal}
 use Rattle.claim_text.proofs.bounds.read_part.Goals as goal
 
+-- where no numeral is before the slash, the words say no part
 pub returns-in_err-read_numeral-clause-none : goal.returns-in_err-read_numeral-clause-none
 returns-in_err-read_numeral-clause-none c =
     IfNone-always c.from_residual-in_err-read_numeral.result
@@ -13,6 +14,7 @@ returns-in_err-read_numeral-clause-none c =
     let few = is.few in let below = is.below in
     c.in_err-read_numeral.ensures.none p.index (omega arith) cut.0)
 
+-- where no numeral is behind the slash, the words say no part
 pub returns-in_err-read_numeral-2-clause-none : goal.returns-in_err-read_numeral-2-clause-none
 returns-in_err-read_numeral-2-clause-none c =
     IfNone-always c.from_residual-in_err-read_numeral-2.result
@@ -20,6 +22,7 @@ returns-in_err-read_numeral-2-clause-none c =
     let cut = part_cut c.args.words.now c.in_ok-index.index.now c.in_ok-index.count.now p c.in_ok-index.ensures.some e in
     c.in_err-read_numeral-2.ensures.none p.count is.few cut.1)
 
+-- where the two numbers make no part, the words say none
 pub returns-clause-none : goal.returns-clause-none
 returns-clause-none c =
     no_part c.new.result _ _ c.new.ensures

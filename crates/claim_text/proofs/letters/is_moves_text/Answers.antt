@@ -4,6 +4,7 @@ use Rattle.puz_board.specs.BoardTexts.{is_separator}
 use Rattle.puz_board.specs.MovesTexts.{is_letter}
 use Rattle.claim_text.proofs.letters.is_moves_text.Goals as goal
 
+-- a text that has other bytes than letters and separators is no moves text
 pub returns-else-are_letters : goal.returns-else-are_letters
 returns-else-are_letters c = (
   λ is. absurd (let no : true ≡ false = sym is ∙ c.if-are_letters.false in cc),

@@ -7,8 +7,10 @@ use Rattle.claim_text.proofs.ClaimLemmas.{IfNone-there}
 use Rattle.claim_text.proofs.CutLemmas.{lines_of-none}
 use Rattle.claim_text.proofs.ReadingLemmas.{next_line, no_empty_claim, no_more_lines, says_claim}
 use Rattle.claim_text.proofs.texts.count_claims.Goals as goal
-use Rattle.claim_text.proofs.texts.count_claims.Goals.{then-count-eq-MOST_CLAIMS-via-then-count-eq-MOST_CLAIMS, then-count-eq-MOST_CLAIMS-via-else-count-eq-MOST_CLAIMS+then-is_none}
+use Rattle.claim_text.proofs.texts.count_claims.Goals.{then-count-eq-MOST_CLAIMS-via-then-count-eq-MOST_CLAIMS}
+use Rattle.claim_text.proofs.texts.count_claims.Goals.{then-count-eq-MOST_CLAIMS-via-else-count-eq-MOST_CLAIMS+then-is_none}
 
+-- the line behind the claims so far is the first that is none, or for which there is no room
 pub returns-then-count-eq-MOST_CLAIMS-clause-err : goal.returns-then-count-eq-MOST_CLAIMS-clause-err
 returns-then-count-eq-MOST_CLAIMS-clause-err c =
     let next = next_line (lines_of c.args.text.now) c.loop-line.count c.in-Some.line.now _ (c.loop-line.invariant.left ∙ c.in-Some.ensures.some) in
@@ -23,6 +25,7 @@ returns-then-count-eq-MOST_CLAIMS-clause-err c =
       ];
     }
 
+-- the next line is a claim as well, and the lines behind it are left
 pub loop-line-preserved : goal.loop-line-preserved
 loop-line-preserved c =
     let next = next_line (lines_of c.args.text.now) c.loop-line.count c.in-Some.line.now _ (c.loop-line.invariant.left ∙ c.in-Some.ensures.some) in
@@ -36,9 +39,11 @@ loop-line-preserved c =
       claims = below_more (λ i. SaysClaim (line_at c.args.text.now i)) c.loop-line.count c.loop-line.invariant.claims (subst SaysClaim (sym next.1) says);
     }
 
+-- of a text without lines, line 0 is the first that is no claim
 pub returns-then-count-eq0-clause-err : goal.returns-then-count-eq0-clause-err
 returns-then-count-eq0-clause-err c =
-    let all = no_more_lines (lines_of c.args.text.now) c.loop-line.count c.loop-line.invariant.few (c.loop-line.invariant.left ∙ ap lines_of c.in_default.ensures.none) in
+    let all = no_more_lines (lines_of c.args.text.now) c.loop-line.count c.loop-line.invariant.few
+    (c.loop-line.invariant.left ∙ ap lines_of c.in_default.ensures.none) in
     let empty = lines_of-none c.args.text.now (all ∙ c.if-count-eq0.true) in
     record {
       there = inr (empty, refl);
@@ -47,7 +52,9 @@ returns-then-count-eq0-clause-err c =
       none = inl (subst (λ text. IsNoClaim (line_at text 0)) (sym empty) no_empty_claim);
     }
 
+-- once no line is left, each line of the text is a claim
 pub returns-else-count-eq0-clause-claims : goal.returns-else-count-eq0-clause-claims
 returns-else-count-eq0-clause-claims c =
-    let all = no_more_lines (lines_of c.args.text.now) c.loop-line.count c.loop-line.invariant.few (c.loop-line.invariant.left ∙ ap lines_of c.in_default.ensures.none) in
+    let all = no_more_lines (lines_of c.args.text.now) c.loop-line.count c.loop-line.invariant.few
+    (c.loop-line.invariant.left ∙ ap lines_of c.in_default.ensures.none) in
     All-from_get_or SaysClaim (lines_of c.args.text.now) [] (λ i within. c.loop-line.invariant.claims i (omega (arith, all)))

@@ -7,6 +7,7 @@ use Rattle.claim_text.specs.Texts.{lines_of}
 use Rattle.claim_text.proofs.ReadingLemmas.{AllZip-more, next_line}
 use Rattle.claim_text.proofs.texts.list_claims.Goals as goal
 
+-- each line was found to be a claim, so this place isn't reached
 pub unreachable-requires : goal.unreachable-requires
 unreachable-requires c =
     let n = vec_len c.loop-line.claims in
@@ -14,6 +15,7 @@ unreachable-requires c =
     let says = c.requires.claims n [] next.0 in
     c.in_default-read_claim.ensures.none says.0 (subst (λ line. IsClaim line says.0) next.1 says.1)
 
+-- the claim of the next line is listed behind the others, and the lines behind it are left
 pub loop-line-preserved : goal.loop-line-preserved
 loop-line-preserved c =
     let lines = lines_of c.args.text.now in
@@ -27,7 +29,9 @@ loop-line-preserved c =
       left = ap (λ k. drop k lines) len ∙ next.2;
       listed =
           subst (λ k. AllZip IsClaim (take k lines) (map claim_shown c.push_reserved.new.self.items)) (sym len)
-          (subst (λ claims. AllZip IsClaim (take (n + 1) lines) claims) (sym (ap (map claim_shown) c.push_reserved.ensures.items ∙ map-append claim_shown c.loop-line.claims.items _))
-          (AllZip-more lines (map claim_shown c.loop-line.claims.items) n c.in-Some.line.now (claim_shown c.in-Some-read_claim.claim) next.0 next.1 c.loop-line.invariant.listed
+          (subst (λ claims. AllZip IsClaim (take (n + 1) lines) claims)
+          (sym (ap (map claim_shown) c.push_reserved.ensures.items ∙ map-append claim_shown c.loop-line.claims.items _))
+          (AllZip-more lines (map claim_shown c.loop-line.claims.items) n c.in-Some.line.now
+          (claim_shown c.in-Some-read_claim.claim) next.0 next.1 c.loop-line.invariant.listed
           c.in-Some-read_claim.ensures.some));
     }

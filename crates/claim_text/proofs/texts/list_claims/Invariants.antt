@@ -5,6 +5,7 @@ use Rattle.claim_text.specs.Shown.{claim_shown}
 use Rattle.claim_text.specs.Texts.{lines_of}
 use Rattle.claim_text.proofs.texts.list_claims.Given as goal
 
+-- the claims of the lines so far are listed, with room for the rest, and the other lines are left
 abbrev pub invariant-loop-line : goal.invariant-loop-line
 invariant-loop-line l = record {
   room : length (lines_of l.text) ≤ vec_capacity l.claims;
@@ -13,5 +14,6 @@ invariant-loop-line l = record {
   listed : AllZip IsClaim (take (vec_len l.claims) (lines_of l.text)) (map claim_shown l.claims.items);
 }
 
+-- the length of the text whose claims aren't listed
 abbrev pub decreases-loop-line : goal.decreases-loop-line
 decreases-loop-line l = length l.rest

@@ -9,12 +9,14 @@ use Rattle.edge_words.proofs.LookupLemmas.{open_place}
 use Rattle.edge_words.proofs.RunMoveLemmas.{last_none, last_told}
 use Rattle.edge_words.proofs.edges.last_edge.Goals as goal
 
+-- where the last tile's cell has no origin by the move, no board has the move, and the answer false tells of it
 pub returns-in_default : goal.returns-in_default
 returns-in_default c =
     let p = c.args.lookup.now in
     last_none p c.pattern-pattern.ensures.is_pattern (but_last p c.args.run.now.cells) c.requires.run.run c.args.last c.requires.last (move_of c.args.number)
     (λ from step free. c.in_default.not-Some from (c.origin.ensures.origin ∙ step))
 
+-- where the origin of the last tile's move isn't free, no board has the move, and the answer false tells of it
 pub returns-then-not-has_cell : goal.returns-then-not-has_cell
 returns-then-not-has_cell c =
     let p = c.args.lookup.now in
@@ -27,15 +29,18 @@ returns-then-not-has_cell c =
     let no = c.if-not-has_cell.true in
     cc)
 
+-- the entry before the last tile's move is looked up at its cell's place in the row of the blank's cell
 pub entry-before-requires-clause-place : goal.entry-before-requires-clause-place
 entry-before-requires-clause-place c =
     let p = c.args.lookup.now in
     let pat = c.pattern-pattern.ensures.is_pattern in
     let few = few_cells p.side pat.low pat.high in
     ap₂ (λ a b. a + b) c.row_start.ensures (c.from-place.ensures ∙
-    open_place p.side (omega arith) (but_last p c.args.run.now.cells) c.args.run.now.free c.without.result c.in-Some.from c.requires.run.free c.without.type_inv c.without.ensures.here c.without.ensures.others
+    open_place p.side (omega arith) (but_last p c.args.run.now.cells) c.args.run.now.free c.without.result c.in-Some.from c.requires.run.free
+    c.without.type_inv c.without.ensures.here c.without.ensures.others
     c.args.last c.requires.last.0 c.count_below.result c.count_below.ensures.count)
 
+-- the entry after the last tile's move is looked up at its new cell's place in the row of the cell it left
 pub entry-after-requires-clause-place : goal.entry-after-requires-clause-place
 entry-after-requires-clause-place c =
     let p = c.args.lookup.now in
@@ -43,9 +48,11 @@ entry-after-requires-clause-place c =
     let few = few_cells p.side pat.low pat.high in
     let free = (c.requires.run.free c.in-Some.from).0 (c.has_cell.ensures.0 c.if-not-has_cell.false) in
     ap₂ (λ a b. a + b) c.row_start-2.ensures (c.from-place-2.ensures ∙
-    open_place p.side (omega arith) (but_last p c.args.run.now.cells) c.args.run.now.free c.without-2.result c.args.last c.requires.run.free c.without-2.type_inv c.without-2.ensures.here c.without-2.ensures.others
+    open_place p.side (omega arith) (but_last p c.args.run.now.cells) c.args.run.now.free c.without-2.result c.args.last c.requires.run.free
+    c.without-2.type_inv c.without-2.ensures.here c.without-2.ensures.others
     c.in-Some.from free.0 c.count_below-2.result c.count_below-2.ensures.count)
 
+-- whether the two entries rise tells of the last tile's move, or that there is an odd edge
 pub returns : goal.returns
 returns c =
     let p = c.args.lookup.now in

@@ -5,6 +5,7 @@ use Rattle.edge_words.proofs.RunMoveLemmas.{front_none}
 use Rattle.edge_words.proofs.WordLemmas.{bits_none}
 use Rattle.edge_words.proofs.edges.take_number.Goals as goal
 
+-- where a tile's move comes from no free cell, its bit stays clear, and the words tell of one move more
 pub returns-in-None-clause-told : goal.returns-in-None-clause-told
 returns-in-None-clause-told c =
     let p = c.args.lookup.now in

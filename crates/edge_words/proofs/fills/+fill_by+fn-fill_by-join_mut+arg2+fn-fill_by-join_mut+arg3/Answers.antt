@@ -3,6 +3,7 @@ use Rattle.edge_words.specs.Fills.{IsFilled}
 use Rattle.edge_words.proofs.FillLemmas.{filled_join, lower, lower_fillable, lower_within, part_fits, part_low, upper, upper_fillable}
 use Rattle.edge_words.proofs.fills.+fill_by+fn-fill_by-join_mut+arg2+fn-fill_by-join_mut+arg3.Goals as goal
 
+-- the words of a span's first part are so few that their count fits
 pub overflow_mul-part-2 : goal.overflow_mul-part-2
 overflow_mul-part-2 g t c =
     let p = c.args.lookup.now in
@@ -18,6 +19,7 @@ overflow_mul-part-2 g t c =
     let same : part * c.from-cells.result ≡ part * (p.side * p.side) = ap (λ k. part * k) cells in
     record { fits = omega arith }
 
+-- both threads may begin: each half of the words has the room that its runs need
 pub join_mut-one-requires-after_bounds : goal.join_mut-one-requires-after_bounds
 join_mut-one-requires-after_bounds g t c κs within =
     let p = c.args.lookup.now in
@@ -35,6 +37,7 @@ join_mut-one-requires-after_bounds g t c κs within =
     let high = upper_fillable p s (s.low + part) (omega arith) to c.args.words.now cut.result.0.now cut.result.1.now c.requires cut.ensures.value long in
     search rules
 
+-- where the front was filled, the span is filled just as the back was: with all words, or up to an odd edge
 pub returns-then-one : goal.returns-then-one
 returns-then-one g t c =
     let p = c.args.lookup.now in
@@ -45,8 +48,10 @@ returns-then-one g t c =
     let to : s.low + part ≤ s.high = part_low s.low s.high c.from.result c.from-2.result c.requires.span.order (omega arith) in
     let first : IsFilled p (lower p s (s.low + part) (omega arith) to) c.front-1.given.0 c.join_mut-one.result.0 = search rules in
     let second : IsFilled p (upper p s (s.low + part) (omega arith) to) c.back-1.given.0 c.join_mut-one.result.1 = search rules in
-    filled_join p s (s.low + part) (omega arith) to c.front-1.given.0 c.back-1.given.0 c.join_mut-one.result.0 c.join_mut-one.result.1 first second c.if-one.true
+    filled_join p s (s.low + part) (omega arith) to c.front-1.given.0 c.back-1.given.0 c.join_mut-one.result.0 c.join_mut-one.result.1 first second
+    c.if-one.true
 
+-- the words of the first part are no more than the span's, so that they can be split there
 pub split_at_mut-front-requires : goal.split_at_mut-front-requires
 split_at_mut-front-requires g t c =
     let p = c.args.lookup.now in

@@ -11,6 +11,7 @@ use Rattle.edge_words.specs.Lookups.{but_last}
 use Rattle.edge_words.proofs.FillLemmas.{drop_set}
 use Rattle.edge_words.proofs.fills.cells_at.Goals as goal
 
+-- with one more cell taken from what is left of the index, the cells from there on and the rest still make the index
 pub loop-tile-preserved : goal.loop-tile-preserved
 loop-tile-preserved c =
     let p = c.args.pattern.now in
@@ -41,12 +42,16 @@ loop-tile-preserved c =
       room = length-set cells (tile - 1) (rest % base) ∙ room;
       within = omega arith;
       digits =
-          (let grown : index_of base (drop (tile - 1) (but_last p (slice_set cells (tile - 1) (rest % base)))) ≡ rest % base * base ^ (m - tile) + index_of base later = ap (index_of base) next ∙ ap (λ k. rest % base * base ^ k + index_of base later) long in
-          let power : base ^ (m - (tile - 1)) ≡ base ^ (m - tile) * base = ap (λ k. base ^ k) (let e : m - (tile - 1) ≡ suc (m - tile) = omega arith in e) ∙ pow-suc base (m - tile) in
+          (let grown : index_of base (drop (tile - 1) (but_last p (slice_set cells (tile - 1) (rest % base)))) ≡ rest % base * base ^ (m - tile)
+          + index_of base later = ap (index_of base) next ∙ ap (λ k. rest % base * base ^ k + index_of base later) long in
+          let power : base ^ (m - (tile - 1)) ≡ base ^ (m - tile) * base =
+          ap (λ k. base ^ k) (let e : m - (tile - 1) ≡ suc (m - tile) = omega arith in e) ∙ pow-suc base (m - tile) in
           let shifted : rest / base * base ^ (m - (tile - 1)) ≡ rest / base * (base ^ (m - tile) * base) = ap (λ k. rest / base * k) power in
           let turned : rest / base * (base ^ (m - tile) * base) ≡ rest / base * base * base ^ (m - tile) = omega arith in
-          let split : (rest / base * base + rest % base) * base ^ (m - tile) ≡ rest * base ^ (m - tile) = ap (λ k. k * base ^ (m - tile)) (div-add-mod' rest base) in
-          let spread : (rest / base * base + rest % base) * base ^ (m - tile) ≡ rest / base * base * base ^ (m - tile) + rest % base * base ^ (m - tile) = omega arith in
+          let split : (rest / base * base + rest % base) * base ^ (m - tile) ≡ rest * base ^ (m - tile) =
+          ap (λ k. k * base ^ (m - tile)) (div-add-mod' rest base) in
+          let spread : (rest / base * base + rest % base) * base ^ (m - tile) ≡ rest / base * base * base ^ (m - tile) + rest % base * base
+          ^ (m - tile) = omega arith in
           omega arith);
       inside = subst (AllByRecursion (λ x. x < base)) (sym next) (digit, c.loop-tile.invariant.inside);
       low =
@@ -54,6 +59,7 @@ loop-tile-preserved c =
           div_below rest base (base ^ (tile - 1)) some (subst (λ k. rest < k) step c.loop-tile.invariant.low));
     }
 
+-- the cells that were taken digit by digit have the index
 pub returns-clause-index : goal.returns-clause-index
 returns-clause-index c =
     let p = c.args.pattern.now in
@@ -63,11 +69,13 @@ returns-clause-index c =
     let done = c.loop-tile-test.false in
     let none : tile ≡ 0 = omega arith in
     let low : c.loop-tile.rest < 1 = subst (λ k. c.loop-tile.rest < k) (ap (λ k. base ^ k) none ∙ pow-zero base) c.loop-tile.invariant.low in
-    let gone : c.loop-tile.rest * base ^ (length p.tiles - 1 - tile) ≡ 0 * base ^ (length p.tiles - 1 - tile) = ap (λ k. k * base ^ (length p.tiles - 1 - tile)) (let e : c.loop-tile.rest ≡ 0 = omega arith in e) in
+    let gone : c.loop-tile.rest * base ^ (length p.tiles - 1 - tile) ≡ 0 * base ^ (length p.tiles - 1 - tile) =
+    ap (λ k. k * base ^ (length p.tiles - 1 - tile)) (let e : c.loop-tile.rest ≡ 0 = omega arith in e) in
     let digits = c.loop-tile.invariant.digits in
     let index : index_of base (drop tile (but_last p c.loop-tile.cells)) ≡ c.args.index = omega arith in
     sym (ap (λ b. index_of b (but_last p c.loop-tile.cells)) base_is) ∙ sym (ap (λ k. index_of base (drop k (but_last p c.loop-tile.cells))) none) ∙ index
 
+-- the cells that were taken digit by digit are all cells of the board
 pub returns-clause-inside : goal.returns-clause-inside
 returns-clause-inside c =
     let p = c.args.pattern.now in

@@ -14,5 +14,6 @@ invariant-loop-tile l = record {
   low : l.rest < l.count ^ l.tile;
 }
 
+-- what gets less while cells are taken from an index: the number of tiles without one
 abbrev pub decreases-loop-tile : goal.decreases-loop-tile
 decreases-loop-tile l = l.tile

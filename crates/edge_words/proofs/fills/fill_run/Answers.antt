@@ -6,9 +6,11 @@ use Rattle.edge_words.specs.Words.{IsEdgeWord}
 use Rattle.edge_words.proofs.FillLemmas.{place_low, told_more, told_next, told_start}
 use Rattle.edge_words.proofs.fills.fill_run.Goals as goal
 
+-- before the first last cell of a run, the words are those of the runs with lower indexes
 pub loop-last-init : goal.loop-last-init
 loop-last-init c = told_start c.args.lookup.now c.args.span.now c.args.index c.args.words.now c.requires.told
 
+-- the word of a run's placement is written at a place within the words of the span
 pub bounds-words-start : goal.bounds-words-start
 bounds-words-start c =
     let p = c.args.lookup.now in
@@ -17,10 +19,12 @@ bounds-words-start c =
     let count : c.cells-cells.result ≡ p.side * p.side = c.cells-cells.ensures.value ∙ ap₂ (λ m n. m * n) side side in
     let within = c.loop-last-test.true in
     let low = place_low p s c.args.index c.loop-last.last c.requires.span.1 c.requires.span.2 (omega arith) in
-    let at : (c.args.index - s.low) * c.from.result + c.from-in-loop-last-2.result ≡ (c.args.index - s.low) * (p.side * p.side) + c.loop-last.last = ap₂ (λ n last. (c.args.index - s.low) * n + last) (c.from.ensures ∙ count) c.from-in-loop-last-2.ensures in
+    let at : (c.args.index - s.low) * c.from.result + c.from-in-loop-last-2.result ≡ (c.args.index - s.low) * (p.side * p.side) + c.loop-last.last =
+    ap₂ (λ n last. (c.args.index - s.low) * n + last) (c.from.ensures ∙ count) c.from-in-loop-last-2.ensures in
     let size = c.loop-last.invariant.size in
     omega arith
 
+-- with the word of one last cell more written, the words of the run tell up to the next cell
 pub loop-last-preserved : goal.loop-last-preserved
 loop-last-preserved c =
     let p = c.args.lookup.now in
@@ -30,12 +34,15 @@ loop-last-preserved c =
     let count : c.cells-cells.result ≡ p.side * p.side = c.cells-cells.ensures.value ∙ ap₂ (λ m n. m * n) side side in
     let within = c.loop-last-test.true in
     let last = c.loop-last.last in
-    told_more p s (but_last p c.args.run.now.cells) run.run c.args.index last c.requires.index c.requires.span.1 c.requires.span.2 (omega arith) c.loop-last.words c.loop-last.invariant
+    told_more p s (but_last p c.args.run.now.cells) run.run c.args.index last c.requires.index c.requires.span.1 c.requires.span.2
+    (omega arith) c.loop-last.words c.loop-last.invariant
     (slice_index c.in-Some.found c.from-in-loop-last.result)
-    (λ free. subst (λ i. IsEdgeWord p (with_last (but_last p c.args.run.now.cells) last) (slice_index c.in-Some.found i)) (sym c.from-in-loop-last.ensures) (c.in-Some.ensures.each last free))
+    (λ free. subst (λ i. IsEdgeWord p (with_last (but_last p c.args.run.now.cells) last) (slice_index c.in-Some.found i))
+    (sym c.from-in-loop-last.ensures) (c.in-Some.ensures.each last free))
     ((c.args.index - s.low) * c.from.result + c.from-in-loop-last-2.result)
     (ap₂ (λ n k. (c.args.index - s.low) * n + k) (c.from.ensures ∙ count) c.from-in-loop-last-2.ensures)
 
+-- after all last cells of a run, the words tell of the runs up to this one
 pub returns-clause-told : goal.returns-clause-told
 returns-clause-told c =
     let p = c.args.lookup.now in

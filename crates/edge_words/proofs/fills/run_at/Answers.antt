@@ -8,6 +8,7 @@ use Rattle.edge_words.specs.Lookups.{but_last}
 use Rattle.edge_words.proofs.IndexLemmas.{index_of-one}
 use Rattle.edge_words.proofs.fills.run_at.Goals as goal
 
+-- where the cells at an index aren't different ones, no run has the index
 pub returns-in_default : goal.returns-in_default
 returns-in_default c cells run at =
     let p = c.args.lookup.now in
@@ -24,6 +25,7 @@ returns-in_default c cells run at =
     let one : cells ≡ but_last p found = index_of-one (p.side * p.side) cells (but_last p found) (omega arith) run.inside inside (at ∙ sym index) in
     c.in_default.ensures (subst (λ k. IsApart (take k found)) (sym others) (subst IsApart one run.apart))
 
+-- different cells taken from an index are those of a run
 pub run_of-requires-clause-run : goal.run_of-requires-clause-run
 run_of-requires-clause-run c =
     let p = c.args.lookup.now in

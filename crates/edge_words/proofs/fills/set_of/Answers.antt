@@ -9,6 +9,7 @@ use Rattle.tab_runs.proofs.RunLemmas.{apart_last}
 use Rattle.edge_words.proofs.LookupLemmas.{mask_with}
 use Rattle.edge_words.proofs.fills.set_of.Goals as goal
 
+-- a cell that the mask has already is twice among the cells, so that they aren't different ones
 pub returns-then-has_cell : goal.returns-then-has_cell
 returns-then-has_cell c apart =
     let cells = c.args.cells.now in
@@ -22,13 +23,15 @@ returns-then-has_cell c apart =
     let same : there.0 ≡ i = apart_at cells apart there.0 i (omega arith) low (sym (get_or-take i cells there.0 0 within) ∙ there.2) in
     omega arith
 
+-- a cell that isn't in the mask is a new one, and the mask with it is that of the cells so far
 pub loop-cell-preserved : goal.loop-cell-preserved
 loop-cell-preserved c =
     let cells = c.args.cells.now in
     let i = c.loop-cell.cell-index in
     let x = get_or cells i 0 in
     let more : take (i + 1) cells ≡ take i cells ++ x ∷ [] = take_more cells i 0 c.loop-cell-test.true in
-    let new = false_from_ne_true (has (take i cells) x) (λ h. let test = c.has_cell.ensures.1 ((c.loop-cell.invariant.set x).1 h) in let no = c.if-has_cell.false in cc) in
+    let new = false_from_ne_true (has (take i cells) x) (λ h. let test = c.has_cell.ensures.1 ((c.loop-cell.invariant.set x).1 h) in
+    let no = c.if-has_cell.false in cc) in
     record {
       apart = subst IsApart (sym more) (apart_last (take i cells) x c.loop-cell.invariant.apart new);
       set = subst (λ xs. IsMaskOf c.with-set.result (λ y. has xs y ≡ true)) (sym more)

@@ -4,6 +4,7 @@ use Rattle.std.proofs.lemmas.Nat.{mul-le}
 use Rattle.edge_words.specs.Indexes.{index_count}
 use Rattle.edge_words.proofs.indexes.index_count.Goals as goal
 
+-- where a power of the cell count is more than the most words, the count of indexes is so too
 pub returns-then-count-gt-MOST_WORDS-clause-many : goal.returns-then-count-gt-MOST_WORDS-clause-many
 returns-then-count-gt-MOST_WORDS-clause-many c =
     let p = c.args.pattern.now in

@@ -6,6 +6,7 @@ use Rattle.puz_board.proofs.CellLemmas.{few_cells}
 use Rattle.edge_words.specs.Words.{move_of}
 use Rattle.edge_words.proofs.lookups.all_origins.Goals as goal
 
+-- with the cell of one more reverse move put in, all places so far have the cells from which their moves lead
 pub loop-place-preserved : goal.loop-place-preserved
 loop-place-preserved c = record {
   room = length-set _ _ _ ∙ c.loop-place.invariant.room;
@@ -24,10 +25,12 @@ loop-place-preserved c = record {
         ap (λ i. slice_index_or (slice_set c.loop-place.origins c.from.result c.step.result) i None) (e ∙ sym c.from.ensures) ∙
         get_or-set_same c.loop-place.origins c.from.result c.step.result None low ∙ there ∙
         ap (λ i. step_of c.args.side (i / 4) (reverse_of (move_of i))) (sym e)
-    | inr ne ↦ get_or-set_other c.loop-place.origins c.from.result k c.step.result None (λ w. ne (w ∙ c.from.ensures)) ∙ c.loop-place.invariant.each k (omega arith)
+    | inr ne ↦ get_or-set_other c.loop-place.origins c.from.result k c.step.result None (λ w. ne (w ∙ c.from.ensures))
+        ∙ c.loop-place.invariant.each k (omega arith)
   ];
 }
 
+-- after the places of all cells and moves, the origins are those of the side
 pub returns : goal.returns
 returns c = record {
   room = c.loop-place.invariant.room;

@@ -4,9 +4,11 @@ use Rattle.log_check.proofs.NodeLemmas.{Cites-bound}
 use Rattle.log_check.proofs.lemmas.cites.Goals as goal
 use Rattle.log_check.proofs.lemmas.cites.Goals.{then-j-i, else-j-i}
 
+-- the board of the lemma to be cited is one of the bundle's side
 pub is_board-requires : goal.is_board-requires
 is_board-requires c = subst (λ n. IsBoardOf n c.board.result) c.requires.side c.board.ensures.board
 
+-- an earlier lemma of the same board may be cited exactly where its bound is no less
 pub returns-then-is_board : goal.returns-then-is_board
 returns-then-is_board c = elim c.if-j-i.branch [
   | then-j-i w ↦

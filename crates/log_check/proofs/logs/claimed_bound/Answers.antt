@@ -6,6 +6,7 @@ use Rattle.log_check.proofs.AnswerLemmas.{last_some}
 use Rattle.log_check.proofs.NodeLemmas.{boards_same}
 use Rattle.log_check.proofs.logs.claimed_bound.Goals as goal
 
+-- where the last lemma of a log is of another board, the log's file has fault L5
 pub returns-then-ne-3-clause-err : goal.returns-then-ne-3-clause-err
 returns-then-ne-3-clause-err c file is =
     let log = c.args.log.now in
@@ -16,6 +17,7 @@ returns-then-ne-3-clause-err c file is =
     let there = subst (λ count. slice_get log.lemmas (count - 1) ≡ Some last.0) (sym c.len-last.ensures.count) last.1 in
     (log, last.0, is, record { log_side = log_side; board_side = board_side }, last.1, λ same. other (c.board.ensures.value last.0 there ∙ same))
 
+-- the last lemma is of the given board, and its bound is the one that is answered
 pub returns-clause-ok : goal.returns-clause-ok
 returns-clause-ok c =
     let log = c.args.log.now in

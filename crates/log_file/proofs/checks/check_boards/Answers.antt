@@ -6,6 +6,7 @@ use Rattle.log_file.proofs.BoardLemmas.{IsBoard-of, IsBoardOf-sized}
 use Rattle.log_file.proofs.RowLemmas.{behind_first-next}
 use Rattle.log_file.proofs.checks.check_boards.Goals as goal
 
+-- where the numbers of a lemma are no board, it is the first such lemma
 pub returns-in_default-from_cells-clause-err : goal.returns-in_default-from_cells-clause-err
 returns-in_default-from_cells-clause-err c =
     let n = c.args.header.now.side in
@@ -21,6 +22,7 @@ returns-in_default-from_cells-clause-err c =
       },
     )
 
+-- the next lemma has a board, and the bytes behind the lemma are left
 pub loop-i-preserved : goal.loop-i-preserved
 loop-i-preserved c =
     let n = c.args.header.now.side in

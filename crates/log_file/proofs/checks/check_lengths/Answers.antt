@@ -4,6 +4,7 @@ use Rattle.log_file.specs.FormFaults.{behind_first}
 use Rattle.log_file.proofs.RowLemmas.{behind_first-next}
 use Rattle.log_file.proofs.checks.check_lengths.Goals as goal
 
+-- the next lemma is whole, and the bytes behind the lemma are left
 pub loop-i-preserved : goal.loop-i-preserved
 loop-i-preserved c =
     let n = c.args.header.now.side in

@@ -8,12 +8,14 @@ use Rattle.log_file.proofs.BoardLemmas.{IsBoard-of}
 use Rattle.log_file.proofs.RowLemmas.{behind_first-next, first_lemmas-next}
 use Rattle.log_file.proofs.views.lemmas_in.Goals as goal
 
+-- the numbers of each lemma are a board, so this place isn't reached
 pub unreachable-requires-in_default-from_cells : goal.unreachable-requires-in_default-from_cells
 unreachable-requires-in_default-from_cells c =
     let n = c.args.header.now.side in
     let cells = ap (λ m. m.board) c.in-Some.ensures.some.1 ∙ ap (λ rest. (front_lemma n rest).board) c.loop.invariant.rest in
     c.in_default-from_cells.ensures (subst IsBoard (sym cells) (IsBoard-of n _ (c.requires.boards c.loop.counter c.loop-test.true)))
 
+-- the lemma that was read is listed behind the others, and the bytes behind it are left
 pub loop-preserved : goal.loop-preserved
 loop-preserved c =
     let n = c.args.header.now.side in

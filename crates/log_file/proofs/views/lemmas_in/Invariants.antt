@@ -4,6 +4,7 @@ use Rattle.log_file.specs.FirstLemmas.{first_lemmas}
 use Rattle.log_file.specs.StoredLogs.{lemma_viewed}
 use Rattle.log_file.proofs.views.lemmas_in.Given as goal
 
+-- the lemmas so far are listed, with room for the rest, and the bytes behind them are left
 abbrev pub invariant-loop : goal.invariant-loop
 invariant-loop l = record {
   room : l.fn.header.count ≤ vec_capacity l.lemmas;

@@ -2,6 +2,7 @@ use Rattle.std.proofs.Common.{◌≡◌, ◌+◌, ◌-◌, ◌++◌, length, tak
 use Rattle.std.proofs.lemmas.List.{drop_all}
 use Rattle.move_strings.proofs.drafts.ends_with.Goals as goal
 
+-- where all moves of the string were the last ones of the moves, these end with it
 pub returns : goal.returns
 returns c =
     let moves = c.args.moves.now in

@@ -18,16 +18,19 @@ after_none : (at : List ℕ) (ms : List Move) (i : ℕ) → length ms ≤ i → 
 unfolding board_after
 after_none at ms i past = ap (board_after at) (drop_all i ms past)
 
+-- where one of the moves can't be made, there is no board after them
 pub returns-in_err-at : goal.returns-in_err-at
 returns-in_err-at c =
     c.from_residual.ensures ∙
     sym (c.loop-mv.invariant ∙ after_next c.loop-mv.at c.args.moves.now c.loop-mv.mv-index _ c.apply.result (omega arith) c.apply.ensures
     ∙ ap (option_and_then (λ e. board_after e (drop (c.loop-mv.mv-index + 1) c.args.moves.now))) (c.in_err-at.was))
 
+-- the move that was made leaves the board after all moves the same
 pub loop-mv-preserved : goal.loop-mv-preserved
 loop-mv-preserved c =
     c.loop-mv.invariant ∙ after_next c.loop-mv.at c.args.moves.now c.loop-mv.mv-index _ c.apply.result (omega arith) c.apply.ensures
     ∙ ap (option_and_then (λ e. board_after e (drop (c.loop-mv.mv-index + 1) c.args.moves.now))) (c.in_ok-at.was)
 
+-- once no move is left, the board that was reached is that after all moves
 pub returns : goal.returns
 returns c = sym (c.loop-mv.invariant ∙ after_none c.loop-mv.at c.args.moves.now c.loop-mv.mv-index c.loop-mv-test.false)

@@ -2,6 +2,7 @@ use Rattle.std.proofs.Common.{get_or}
 use Rattle.move_strings.proofs.EffectLemmas.{HasSameEffect-from}
 use Rattle.move_strings.proofs.forbidden_strings.are_forbidden.Goals as goal
 
+-- once the witnesses come before their strings, equal effects are all that is asked of them
 pub returns-then-are_before : goal.returns-then-are_before
 returns-then-are_before c = (
   λ holds k d inside.

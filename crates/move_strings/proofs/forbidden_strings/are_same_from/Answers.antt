@@ -3,6 +3,7 @@ use Rattle.move_strings.specs.Checks.{IsSameFrom}
 use Rattle.move_strings.proofs.EffectLemmas.{IsSameOn-from}
 use Rattle.move_strings.proofs.forbidden_strings.are_same_from.Goals as goal
 
+-- one board with its blank in the cell tells whether the effects are the same from this cell
 pub returns-in-Some : goal.returns-in-Some
 returns-in-Some c =
     let board = c.in-Some.board in

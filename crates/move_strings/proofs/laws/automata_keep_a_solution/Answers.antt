@@ -11,6 +11,7 @@ refused_or : (t : Bool) → (t ≡ true) ⊎ (t ≡ false)
 refused_or true = inl refl
 refused_or false = inr refl
 
+-- a board with a solution of fewer than r moves has one that the automaton doesn't refuse
 pub returns : goal.returns
 returns c a is b good r path solves short =
     let first = along a.side b good path solves in

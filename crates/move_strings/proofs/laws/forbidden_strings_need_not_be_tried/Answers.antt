@@ -9,6 +9,7 @@ use Rattle.std.specs.List.{AllByRecursion}
 use Rattle.move_strings.specs.Strings.{HasString}
 use Rattle.move_strings.proofs.laws.forbidden_strings_need_not_be_tried.Goals as goal
 
+-- a board with a solution of fewer than r moves has one with no forbidden string in it
 pub returns : goal.returns
 returns c n strings each b good r path solves short =
     let first = along n b good path solves in

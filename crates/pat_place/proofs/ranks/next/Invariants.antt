@@ -2,6 +2,7 @@ use Rattle.std.proofs.Common.{◌≡◌, ◌≤◌}
 use Rattle.pat_place.proofs.NextLemmas.{IsLifted}
 use Rattle.pat_place.proofs.ranks.next.Given as goal
 
+-- the tiles from here on are lifted from the last of their lists, and nothing is changed
 abbrev pub invariant-loop-index : goal.invariant-loop-index
 invariant-loop-index l = record {
   lifted : IsLifted l.fn.placement.pattern.side l.fn.placement.cells l.index l.free;
@@ -10,5 +11,6 @@ invariant-loop-index l = record {
   same_cells : l.cells ≡ l.initial.cells;
 }
 
+-- the number of the tiles that aren't lifted
 abbrev pub decreases-loop-index : goal.decreases-loop-index
 decreases-loop-index l = l.index

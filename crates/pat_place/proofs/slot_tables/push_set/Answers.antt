@@ -5,6 +5,7 @@ use Rattle.pat_place.specs.StoredSlots.{AreAllSlots, AreSlots}
 use Rattle.pat_place.proofs.SlotTableLemmas.{slots_more}
 use Rattle.pat_place.proofs.slot_tables.push_set.Goals as goal
 
+-- with the set and its row of slots behind, each set in the table has its slots
 pub returns : goal.returns
 returns c =
     let p = c.args.pattern.now in
@@ -21,4 +22,5 @@ returns c =
     let filled : AreSlots n cells (take k row) = λ x j is. (get_or-take k row x 0 (let l : x < n * n = is.free.0 in omega arith) ∙ all x j is) in
     let put : c.extend_from_slice.new.self.items ≡ slots ++ take k row = c.in_ok-extend_from_slice.ensures.items in
     subst (λ m. AreAllSlots n m c.extend_from_slice.new.self.items) (sym c.in_ok-push.ensures.items) (
-    subst (AreAllSlots n (masks ++ c.args.set ∷ [])) (sym put) (slots_more n masks slots cells (take k row) c.args.set c.requires.slots c.of_set.ensures.set size filled))
+    subst (AreAllSlots n (masks ++ c.args.set ∷ [])) (sym put)
+    (slots_more n masks slots cells (take k row) c.args.set c.requires.slots c.of_set.ensures.set size filled))

@@ -5,6 +5,7 @@ use Rattle.puz_board.proofs.CellLemmas.{few_cells}
 use Rattle.pat_place.proofs.SlotSteps.{free_is, free_within}
 use Rattle.pat_place.proofs.slots.free_cells.Goals as goal
 
+-- the answer has exactly the cells of the board in which no tile is
 pub returns-clause-free : goal.returns-clause-free
 returns-clause-free c =
     let p = c.args.placement.now in
@@ -15,6 +16,7 @@ returns-clause-free c =
     subst (λ all. IsMaskOf (bit_and all (2 ^ 32 - 1 - c.occupied.result)) (IsFree p.pattern.side p.cells)) (sym c.all_below.ensures) (
     free_is p.pattern.side c.occupied.result p.cells c.cells.result cells small c.occupied.type_inv c.occupied.ensures)
 
+-- the answer has no bit from the count of cells on
 pub returns-clause-within : goal.returns-clause-within
 returns-clause-within c =
     let p = c.args.placement.now in

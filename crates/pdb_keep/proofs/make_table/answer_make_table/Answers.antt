@@ -3,6 +3,7 @@ use Rattle.pdb_keep.specs.MakeTable.{ArePattern, IsUnbuilt, built, unbuilt}
 use Rattle.pdb_verdict.proofs.RefusalLemmas.{cause_settled}
 use Rattle.pdb_keep.proofs.make_table.answer_make_table.Goals as goal
 
+-- a table that was built and found exact is kept by the answer, which says its verdict
 pub returns-in-Ok-Some : goal.returns-in-Ok-Some
 returns-in-Ok-Some g c =
     let made = c.in-Ok-Some.built in
@@ -13,6 +14,7 @@ returns-in-Ok-Some g c =
       record { digested = refl; made = refl; lines = c.line_of.ensures; is_yes = refl },
     )
 
+-- where no table was built, the answer says why
 pub returns-in-Err : goal.returns-in-Err
 returns-in-Err g c =
     let settled = c.in_ok-build.ensures.ok in

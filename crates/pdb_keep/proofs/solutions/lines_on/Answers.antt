@@ -12,6 +12,7 @@ moves_parts [] n some = cc
 moves_parts (letter ∷ letters) n some =
     ap (λ (t : List ℕ). codes "moves " ++ t) (sym (append_assoc (letter ∷ letters) (codes "\n") _))
 
+-- where there are letters, they are in a line behind a word and a space, and their number in the next
 pub returns-else-is_empty : goal.returns-else-is_empty
 returns-else-is_empty c =
     let some = rw c.letters_of-letters.ensures at (sym c.is_empty.ensures ∙ c.if-is_empty.false) in

@@ -4,6 +4,7 @@ use Rattle.pdb_verdict.proofs.RefusalLemmas.{cause_settled}
 use Rattle.pdb_keep.specs.Solve.{IsUnmade, searched, unmade}
 use Rattle.pdb_keep.proofs.solve.answer_of.Goals as goal
 
+-- where a search made moves and a log, the answer keeps the log and says the moves
 pub returns-in-Ok-Some : goal.returns-in-Ok-Some
 returns-in-Ok-Some c = λ fold budget text sets tables same came.
     let made = c.in-Ok-Some.made in
@@ -11,6 +12,7 @@ returns-in-Ok-Some c = λ fold budget text sets tables same came.
     let is_made = rw (sym c.in_ok-outcome.ensures.ok.0 ∙ is) at came in
     (_, record { outcome = searched made.moves.items made.log.items made.count; is_outcome = is_made; told = refl }, c.answer_on.ensures tables same)
 
+-- where a search made nothing, the answer says why
 pub returns-in-Err : goal.returns-in-Err
 returns-in-Err c = λ fold budget text sets tables same came.
     let refused = c.in-Err.refused in

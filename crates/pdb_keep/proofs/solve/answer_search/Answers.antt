@@ -5,6 +5,7 @@ use Rattle.pdb_verdict.specs.declared.verdicts.Fault.{Fault}
 use Rattle.pdb_keep.proofs.MakerLemmas.{made_moves}
 use Rattle.pdb_keep.proofs.solve.answer_search.Goals as goal
 
+-- where a search made something, it has as many moves as it counts
 pub answer_of-requires : goal.answer_of-requires
 answer_of-requires g c =
     let asked = c.args.search.now in
@@ -12,6 +13,7 @@ answer_of-requires g c =
     let read = c.over_tables-digested.ensures.found in
     made_moves asked.fold asked.budget asked.board.items _ _ c.over_tables-digested.result.1 (read.2.1 _ _ _ _ spelt read.1)
 
+-- for a text that spells a board, what is answered is what the search over the tables came to
 pub returns-in-Ok : goal.returns-in-Ok
 returns-in-Ok g c =
     let asked = c.args.search.now in
@@ -20,6 +22,7 @@ returns-in-Ok g c =
     let lines = rw append-nil at c.over_tables-digested.ensures.digested in
     c.answer_of.ensures asked.fold asked.budget asked.board.items asked.sets.items (all_bytes asked.tables.items) lines (read.2.1 _ _ _ _ spelt read.1)
 
+-- for a text that spells no board, what is answered is the refusal of the text
 pub returns-in-Err : goal.returns-in-Err
 returns-in-Err g c =
     let asked = c.args.search.now in

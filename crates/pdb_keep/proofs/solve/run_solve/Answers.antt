@@ -2,6 +2,7 @@ use Rattle.pdb_run.specs.Answers.{all_bytes}
 use Rattle.pdb_keep.proofs.MakerLemmas.{search_answered}
 use Rattle.pdb_keep.proofs.solve.run_solve.Goals as goal
 
+-- a run that read its inputs and tried the name to keep ends as the plan for a search says
 pub returns-clause-ends : goal.returns-clause-ends
 returns-clause-ends g c =
     let read = c.with_bytes-read in

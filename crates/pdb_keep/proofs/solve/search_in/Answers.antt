@@ -3,12 +3,14 @@ use Rattle.pdb_keep.specs.Solve.{AreForBoard}
 use Rattle.pdb_keep.proofs.MakerLemmas.{no_bundle, search_came}
 use Rattle.pdb_keep.proofs.solve.search_in.Goals as goal
 
+-- where the tables and the sets make no bundle, their refusal is what the search comes to
 pub returns-in_err-bundle : goal.returns-in_err-bundle
 returns-in_err-bundle g c = λ fold text sets tables spelt read.
     let why = c.in_err-bundle.field-0.0 in
     let refused : c.from_residual.result ≡ Err why = search (rules, c.from_residual.ensures) in
     rw refused (no_bundle fold c.args.budget text sets tables c.args.board.now spelt why (rw c.in_err-bundle.was at read))
 
+-- where the bundle has another side than the board, L4 is what the search comes to
 pub returns-then-ne : goal.returns-then-ne
 returns-then-ne g c = λ fold text sets tables spelt read.
     record {
@@ -17,6 +19,7 @@ returns-then-ne g c = λ fold text sets tables spelt read.
       unmade = record { bundle = c.in_ok-bundle.bundle; is_bundle = rw c.in_ok-bundle.was at read; another_side = search rules };
     }
 
+-- over a bundle of the board's side, a search comes to what it finds or why it gave up
 pub returns : goal.returns
 returns g c = λ fold text sets tables spelt read.
     let is_bundle = rw c.in_ok-bundle.was at read in

@@ -5,6 +5,7 @@ use Rattle.pdb_verdict.specs.Replay.{puzzle_of}
 use Rattle.pdb_verdict.proofs.RefusalLemmas.{found_settled}
 use Rattle.pdb_keep.proofs.solve.search_over.Goals as goal
 
+-- moves and a log that pass the check prove an optimum of the board that the text spells
 pub returns-clause-made : goal.returns-clause-made
 returns-clause-made g c = λ fold text sets tables spelt is_bundle.
     let puzzle = puzzle_of text c.as_slice-moves.result.now in

@@ -7,6 +7,7 @@ use Rattle.pdb_parts.specs.Stored.{shown}
 use Rattle.pdb_parts.proofs.MarkLemmas.{left_more}
 use Rattle.pdb_parts.proofs.joining.open_claims.Goals as goal
 
+-- the claim of a part without a mark is put behind those of the parts before
 pub loop-index-preserved : goal.loop-index-preserved
 loop-index-preserved c =
     let claim : ℕ → List ℕ = open_claim (shown c.args.asked.now) in
@@ -17,6 +18,7 @@ loop-index-preserved c =
     c.in_ok-push_str.ensures.bytes ∙ (λ i. c.loop-index.invariant i ++ (c.as_str.ensures.value ∙ c.open_claim.ensures) i) ∙
     ap (λ text. before ++ text) (sym (cond-true (is_open index) (claim index) [] here)) ∙ sym (left_more claim is_open index)
 
+-- a part with a mark adds nothing to the claims of the parts before
 pub loop-index-preserved-then-told-from : goal.loop-index-preserved-then-told-from
 loop-index-preserved-then-told-from c =
     let claim : ℕ → List ℕ = open_claim (shown c.args.asked.now) in
@@ -24,4 +26,5 @@ loop-index-preserved-then-told-from c =
     let index = c.loop-index.index in
     let before = flat_map claim (filter is_open (range_with_len 0 index)) in
     let here : is_open index ≡ false = ap not (ap (λ k. get_or c.args.told.now k false) (sym c.from.ensures) ∙ c.if-told-from.true) in
-    c.loop-index.invariant ∙ sym (append-nil before) ∙ ap (λ text. before ++ text) (sym (cond-false (is_open index) (claim index) [] here)) ∙ sym (left_more claim is_open index)
+    c.loop-index.invariant ∙ sym (append-nil before) ∙ ap (λ text. before ++ text) (sym (cond-false (is_open index) (claim index) [] here))
+    ∙ sym (left_more claim is_open index)

@@ -9,9 +9,11 @@ if_none : {A P : Type 0} (r : Option A) → P → IfNone r P
 if_none None p = p
 if_none (Some x) p = tt
 
+-- where a text has no LF, it has no whole line
 pub returns-in_err-end-clause-none : goal.returns-in_err-end-clause-none
 returns-in_err-end-clause-none c = if_none c.from_residual.result (no_line c.args.text.now c.in_err-end.ensures.place)
 
+-- a text up to its first LF, with it, is a whole line, and the others are behind it
 pub returns-clause-some : goal.returns-clause-some
 returns-clause-some c =
     let text = c.args.text.now in

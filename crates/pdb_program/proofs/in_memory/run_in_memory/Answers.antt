@@ -2,6 +2,7 @@ use Rattle.std.proofs.Common.{Some, [], ap, refl}
 use Rattle.byte_io.specs.Memory.{files_in}
 use Rattle.pdb_program.proofs.in_memory.run_in_memory.Goals as goal
 
+-- the headline of a run in memory is that of the program on its files and its input
 pub returns : goal.returns
 returns g c = record {
   headline = λ parses.

@@ -7,6 +7,7 @@ use Rattle.pdb_program.proofs.starts.without_words.Goals as goal
 same_place : (m n : ℕ) → Unreadable m ≡ Unreadable n → m ≡ n
 same_place m n e = cc
 
+-- where a word is no text, this is said of its place and nothing of it on the output
 pub returns-in-Unreadable-clause-unreadable : goal.returns-in-Unreadable-clause-unreadable
 returns-in-Unreadable-clause-unreadable g c = λ place is.
     let same = same_place c.in-Unreadable.place place (sym c.in-Unreadable.is ∙ is) in

@@ -3,6 +3,7 @@ use Rattle.claim_text.specs.Shown.{asks_shown}
 use Rattle.pdb_prove.proofs.SoonLemmas.{soon_enough}
 use Rattle.pdb_prove.proofs.answers.answer_soon.Goals as goal
 
+-- what one thread finds over few boards, without spending them, is right for a greater budget too
 pub returns-else-is_spent : goal.returns-else-is_spent
 returns-else-is_spent c =
     let more = c.if-budget-le-FEW_BOARDS.false in

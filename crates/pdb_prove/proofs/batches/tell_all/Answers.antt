@@ -6,6 +6,7 @@ use Rattle.claim_text.specs.Shown.{claim_shown}
 use Rattle.pdb_prove.proofs.TellingLemmas.{all_in_batch, batch_shown, next_cut, next_told, none_told}
 use Rattle.pdb_prove.proofs.batches.tell_all.Goals as goal
 
+-- where the lines of a batch aren't all written, the answers to all claims are cut short in this batch
 pub returns-in-Err-clause-told : goal.returns-in-Err-clause-told
 returns-in-Err-clause-told g c =
     let claims = c.as_slice-claims.result.now in
@@ -16,6 +17,7 @@ returns-in-Err-clause-told g c =
     let cut = next_cut (map claim_shown claims) told n c.loop-told.invariant.0 (rw (c.in-Err.is, front) at c.tell_batch.ensures.told) in
     rw (← c.as_slice-claims.ensures.value) cut
 
+-- the claims before a batch and those of the batch are all answered
 pub loop-told-preserved : goal.loop-told-preserved
 loop-told-preserved g c =
     let claims = c.as_slice-claims.result.now in
@@ -31,9 +33,11 @@ loop-told-preserved g c =
       ap (λ bundle. bundle.now) c.tell_batch.ensures.bundle ∙ c.loop-told.invariant.3,
     )
 
+-- before the first batch no claim is answered, and nothing is written
 pub loop-told-init : goal.loop-told-init
 loop-told-init g c = (none_told _, refl, omega arith, c.new-help.ensures)
 
+-- the claims of a batch have the side of the bundle, as all claims do
 pub invariant_of-batch : goal.invariant_of-batch
 invariant_of-batch g c =
     let side = c.args.ready.now.bundle.side in
@@ -44,6 +48,7 @@ invariant_of-batch g c =
       one_side = c.args.ready.now.one_side;
     }
 
+-- the claims of a batch have few letters, as all claims do
 pub tell_batch-requires-clause-few : goal.tell_batch-requires-clause-few
 tell_batch-requires-clause-few g c _ _ =
     let claims = c.as_slice-claims.result.now in

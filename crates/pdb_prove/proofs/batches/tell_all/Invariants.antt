@@ -3,6 +3,7 @@ use Rattle.claim_text.specs.Shown.{claim_shown}
 use Rattle.pdb_prove.specs.Steps.{AreAllTold}
 use Rattle.pdb_prove.proofs.batches.tell_all.Given as goal
 
+-- how many claims are left to answer gets less with each batch
 abbrev pub decreases-loop-told : goal.decreases-loop-told
 decreases-loop-told g l = length l.claims - l.told
 

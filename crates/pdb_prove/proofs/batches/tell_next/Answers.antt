@@ -3,6 +3,7 @@ use Rattle.claim_text.specs.Shown.{claim_shown}
 use Rattle.pdb_prove.specs.Answers.{IsFoundFor}
 use Rattle.pdb_prove.proofs.batches.tell_next.Goals as goal
 
+-- what was found soon for a claim of a batch is right for this claim
 pub tell-requires-clause-found : goal.tell-requires-clause-found
 tell-requires-clause-found g c =
     let batch = c.args.known.now.batch.now in

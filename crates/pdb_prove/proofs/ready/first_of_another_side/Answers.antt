@@ -1,6 +1,7 @@
 use Rattle.pdb_prove.proofs.ReadyLemmas.{differ, first_other}
 use Rattle.pdb_prove.proofs.ready.first_of_another_side.Goals as goal
 
+-- a board of another side than the bundle, where all before have its side, is the first such
 pub returns-then-ne-clause-some : goal.returns-then-ne-clause-some
 returns-then-ne-clause-some c =
     let other = differ _ _ (c.if-ne.ensures) in

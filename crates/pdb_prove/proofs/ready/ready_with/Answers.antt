@@ -2,9 +2,14 @@ use Rattle.std.proofs.Common.{◌∙◌, ap}
 use Rattle.pdb_prove.proofs.ReadyLemmas.{each_side}
 use Rattle.pdb_prove.proofs.ready.ready_with.Goals as goal
 
+-- the boards of the claims and the automaton of reversals have the side of the bundle
 pub invariant_of-result : goal.invariant_of-result
-invariant_of-result c = record { sides = each_side _ _ (rw c.as_slice.ensures.value at c.in-None.ensures.none); one_side = ap (λ a. a.side) c.in_ok-reversals-in-None.ensures.value ∙ c.side.ensures.side }
+invariant_of-result c = record {
+  sides = each_side _ _ (rw c.as_slice.ensures.value at c.in-None.ensures.none);
+  one_side = ap (λ a. a.side) c.in_ok-reversals-in-None.ensures.value ∙ c.side.ensures.side;
+}
 
+-- where no board has another side, the claims and the bundle are ready to be answered
 pub returns-in-None-clause-ok : goal.returns-in-None-clause-ok
 returns-in-None-clause-ok c = λ fold text sets tables are makes. record {
   are_claims = are;

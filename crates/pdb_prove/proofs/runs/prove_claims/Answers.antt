@@ -4,6 +4,7 @@ use Rattle.pdb_verdict.specs.FileBundles.{IsReadBundle}
 use Rattle.pdb_prove.specs.Steps.{files_of}
 use Rattle.pdb_prove.proofs.runs.prove_claims.Goals as goal
 
+-- a run over claims that were read ends as its plan says, or is cut short
 pub returns-clause-ends : goal.returns-clause-ends
 returns-clause-ends g c = λ old are.
     let asked = c.args.asked in

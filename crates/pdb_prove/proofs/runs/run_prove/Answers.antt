@@ -5,6 +5,7 @@ use Rattle.pdb_prove.specs.Steps.{files_of}
 use Rattle.pdb_prove.proofs.EndLemmas.{text_cause}
 use Rattle.pdb_prove.proofs.runs.run_prove.Goals as goal
 
+-- where the claims text is refused, or memory for it, the run ends by saying so
 pub returns-in-Err-read_claims-clause-ends : goal.returns-in-Err-read_claims-clause-ends
 returns-in-Err-read_claims-clause-ends g c =
     let fold = (prove_shown c.args.prove.now).fold in
@@ -18,6 +19,7 @@ returns-in-Err-read_claims-clause-ends g c =
     (rw (c.as_slice-in-Err-read_claims.ensures.value, c.as_slice-in-Err-read_claims-2.ensures.value) refl)
     (rw c.of_claims.ensures cause)
 
+-- where the claims are read, the run ends as the proving of them does
 pub returns-clause-ends : goal.returns-clause-ends
 returns-clause-ends g c =
     c.prove_claims.ensures.ends _

@@ -4,6 +4,7 @@ use Rattle.pdb_prove.specs.Prove.{digested_files, in_order}
 use Rattle.pdb_prove.proofs.EndLemmas.{fault_told}
 use Rattle.pdb_prove.proofs.runs.tell_fault.Goals as goal
 
+-- a run that says why nothing is searched ends as its plan says
 pub returns-clause-ends : goal.returns-clause-ends
 returns-clause-ends g c = λ files old are digested is.
     let told = c.told_or_memory.ensures in

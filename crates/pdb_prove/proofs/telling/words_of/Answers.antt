@@ -2,6 +2,7 @@ use Rattle.std.proofs.Common.{◌∙◌, arith}
 use Rattle.pdb_prove.proofs.LineLemmas.{fault_line, split_at_end}
 use Rattle.pdb_prove.proofs.telling.words_of.Goals as goal
 
+-- the line of a refusal has an end, which can be cut off
 pub truncate-requires : goal.truncate-requires
 truncate-requires c =
     let words = fault_line c.args.refused in

@@ -2,6 +2,7 @@ use Rattle.std.proofs.Common.{◌∷◌, [], arith, length-append}
 use Rattle.pdb_prove.proofs.WordLemmas.{more_words}
 use Rattle.pdb_prove.proofs.worded.words_of.Goals as goal
 
+-- the words of one table more are those of the tables so far and of this one
 pub loop-number-preserved : goal.loop-number-preserved
 loop-number-preserved g c =
     let all = c.loop-number.all.items in

@@ -2,6 +2,7 @@ use Rattle.std.proofs.Common.{refl}
 use Rattle.pdb_run.proofs.AnswerLemmas.{begun_reading, ends_answered}
 use Rattle.pdb_run.proofs.runs.conclude.Goals as goal
 
+-- where there is an answer, saying it ends the run as its plan says
 pub returns-in-Ok-clause-ends : goal.returns-in-Ok-clause-ends
 returns-in-Ok-clause-ends g c = λ inputs old are by.
     let right = rw c.in-Ok.is at by in

@@ -3,6 +3,7 @@ use Rattle.pdb_run.specs.Runs.{spared, unwritable}
 use Rattle.pdb_run.proofs.AnswerLemmas.{ends_so, named_alone}
 use Rattle.pdb_run.proofs.runs.read_inputs_and_try.Goals as goal
 
+-- where the file under the name is spared, saying so ends the run before anything is made
 pub returns-then-is_spared-clause-ends : goal.returns-then-is_spared-clause-ends
 returns-then-is_spared-clause-ends g c =
     let are = c.in_ok-inputs.ensures.read in
@@ -10,6 +11,7 @@ returns-then-is_spared-clause-ends g c =
     ends_so (spared _) c.say_unkept.ensures.said record { under = c.requires.under; inputs = _; read = are.read; spares = spares } tt
     are.files are.calls are.failed are.behind are.written
 
+-- where nothing can be kept under the name, saying so ends the run before anything is made
 pub returns-clause-ends : goal.returns-clause-ends
 returns-clause-ends g c =
     let are = c.in_ok-inputs.ensures.read in

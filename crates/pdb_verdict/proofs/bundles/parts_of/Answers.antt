@@ -9,6 +9,7 @@ parted : {A : Type 0} (xs : List A) (i : ℕ) (x : A) → i < length xs → x �
 parted xs i x low is =
     ap (λ y. take i xs ++ y ∷ drop (i + 1) xs) is ∙ rw (← drop_more xs i x low) (take-append-drop i xs)
 
+-- where a file has no part, its fault is the cause for all files
 pub returns-in-Err : goal.returns-in-Err
 returns-in-Err g c =
     let whole = parted c.args.files.now c.loop-file.file-index _ c.loop-file-test.true c.file-item.is in
@@ -16,6 +17,7 @@ returns-in-Err g c =
     next_cause _ _ _ _ _ _ c.as_slice.ensures.value whole _ c.loop-file.invariant
     c.fault_at.result (rw count at (c.fault_at.ensures c.as_slice.result.now c.in-Err.ensures.err))
 
+-- where memory for a part more is refused, this is the cause for all files
 pub returns-in_err-push : goal.returns-in_err-push
 returns-in_err-push g c =
     let whole = parted c.args.files.now c.loop-file.file-index _ c.loop-file-test.true c.file-item.is in
@@ -23,6 +25,7 @@ returns-in_err-push g c =
     let memory = next_cause _ _ _ _ _ _ c.as_slice.ensures.value whole _ c.loop-file.invariant Fault.Memory (is.0, is.1.is_file) in
     search rules
 
+-- the parts for the files so far and for one file more are those for them all
 pub loop-file-preserved : goal.loop-file-preserved
 loop-file-preserved g c =
     let files = c.args.files.now in

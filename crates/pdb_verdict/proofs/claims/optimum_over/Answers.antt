@@ -8,6 +8,7 @@ use Rattle.pdb_verdict.proofs.ClaimLemmas.{optimum_by}
 use Rattle.pdb_verdict.proofs.ReplayLemmas.{joined-parts}
 use Rattle.pdb_verdict.proofs.claims.optimum_over.Goals as goal
 
+-- moves that don't solve the board refuse the optimum, with the fault of the moves
 pub returns-in_err-solution : goal.returns-in_err-solution
 returns-in_err-solution g c = λ fold text sets tables spelt is_bundle.
     let why = c.in_err-solution.field-0.0 in
@@ -15,6 +16,7 @@ returns-in_err-solution g c = λ fold text sets tables spelt is_bundle.
     let replayed = rw c.replay.ensures.exact at c.in_err-solution.was in
     rw refused (inl (joined-parts text c.args.moves.now c.args.board.now spelt ∙ ap (solved_by c.args.board.now) replayed))
 
+-- a log that proves no bound refuses the optimum, with the fault of the log
 pub returns-in_err-bound_over : goal.returns-in_err-bound_over
 returns-in_err-bound_over g c = λ fold text sets tables spelt is_bundle.
     let board = c.args.board.now in
@@ -25,6 +27,7 @@ returns-in_err-bound_over g c = λ fold text sets tables spelt is_bundle.
     let parts = joined-parts text moves board spelt ∙ ap (solved_by board) (rw c.replay.ensures.exact at c.in_ok-solution.was) in
     rw refused (optimum_by (log_files fold (puzzle_of text moves) sets c.args.log.now tables) board c.in_ok-solution.solution parts (Err (of_log why)) found)
 
+-- where the moves solve the board and a log bounds it, the optimum is the one for both
 pub returns : goal.returns
 returns g c = λ fold text sets tables spelt is_bundle.
     let board = c.args.board.now in
@@ -32,4 +35,5 @@ returns g c = λ fold text sets tables spelt is_bundle.
     let bound = c.in_ok-bound_over.field-0 in
     let found = bound_found fold tables sets board c.args.log.now c.args.bundle.now is_bundle bound c.in_ok-bound_over.ensures in
     let parts = joined-parts text moves board spelt ∙ ap (solved_by board) (rw c.replay.ensures.exact at c.in_ok-solution.was) in
-    rw c.optimum_of.ensures (optimum_by (log_files fold (puzzle_of text moves) sets c.args.log.now tables) board c.in_ok-solution.solution parts (Ok bound) found)
+    rw c.optimum_of.ensures (optimum_by (log_files fold (puzzle_of text moves) sets c.args.log.now tables) board c.in_ok-solution.solution parts
+    (Ok bound) found)

@@ -1,6 +1,7 @@
 use Rattle.std.proofs.Common.{append_assoc}
 use Rattle.pdb_verdict.proofs.lines.exact_line.Goals as goal
 
+-- the line of an exact table has its side, mask, entries, unreachable ones and deepest one
 pub returns : goal.returns
 returns c =
     rw (c.lines.ensures, c.format.ensures.text, c.get.ensures.value)

@@ -5,6 +5,7 @@ use Rattle.pdb_verdict.proofs.CheckLemmas.{result_told}
 use Rattle.pdb_verdict.proofs.ClaimLemmas.{claim_refused}
 use Rattle.pdb_verdict.proofs.log_command.answer_log_check.Goals as goal
 
+-- where the text of a claim is refused, this is answered with the digests, before the tables
 pub returns-in-Err : goal.returns-in-Err
 returns-in-Err g c =
     let files = files_read c.args.check.now in
@@ -15,6 +16,7 @@ returns-in-Err g c =
     result_told inputs _ c.told_or_memory-in-Err.result (rw same (claim_refused files c.args.check.now.claim c.in-Err.refused why))
     (c.told_or_memory-in-Err.ensures.told (digested_of inputs) lines) c.told_or_memory-in-Err.ensures.memory
 
+-- where the text of a claim has a board, the answer is that of its tables, sets and log
 pub returns-in-Ok : goal.returns-in-Ok
 returns-in-Ok g c =
     let files = files_read c.args.check.now in

@@ -8,6 +8,7 @@ use Rattle.pdb_verdict.specs.Steps.{files_read}
 use Rattle.pdb_verdict.proofs.CheckLemmas.{check_answered}
 use Rattle.pdb_verdict.proofs.log_command.run_log_check.Goals as goal
 
+-- a run that checks a log ends as its plan says, with the answer to its inputs
 pub returns-clause-ends : goal.returns-clause-ends
 returns-clause-ends g c =
     let check = c.args.check.now in

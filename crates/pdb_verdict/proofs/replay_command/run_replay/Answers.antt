@@ -3,6 +3,7 @@ use Rattle.pdb_run.specs.Answers.{all_bytes}
 use Rattle.pdb_verdict.proofs.CheckLemmas.{only_input}
 use Rattle.pdb_verdict.proofs.replay_command.run_replay.Goals as goal
 
+-- a run of replay ends as its plan says, with the verdict on the puzzle text
 pub returns-clause-ends : goal.returns-clause-ends
 returns-clause-ends g c =
     let puzzle = c.as_slice.result.now in

@@ -4,6 +4,7 @@ use Rattle.pdb_verdict.specs.Inputs.{table_file}
 use Rattle.pdb_verdict.proofs.CheckLemmas.{check_answered, only_input, result_told}
 use Rattle.pdb_verdict.proofs.table_command.run_table.Goals as goal
 
+-- a run that checks a table ends as its plan says, with the answer to the table file
 pub returns-clause-ends : goal.returns-clause-ends
 returns-clause-ends g c =
     let table = c.as_slice-table.result.now in

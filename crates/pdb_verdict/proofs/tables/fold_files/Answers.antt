@@ -4,6 +4,7 @@ use Rattle.std.proofs.lemmas.List.{map-append}
 use Rattle.pdb_verdict.proofs.FoldingLemmas.{digests_of_snoc, fold_step}
 use Rattle.pdb_verdict.proofs.tables.fold_files.Goals as goal
 
+-- the digests and the folded tables of one file more come behind those of the files before
 pub loop-file-preserved : goal.loop-file-preserved
 loop-file-preserved g c =
     let so_far = c.loop-file.invariant in

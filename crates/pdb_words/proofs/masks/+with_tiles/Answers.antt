@@ -2,11 +2,16 @@ use Rattle.std.proofs.Common.{arith}
 use Rattle.pdb_words.proofs.MaskLemmas.{first_tile, last_tile}
 use Rattle.pdb_words.proofs.masks.+with_tiles.Goals as goal
 
+-- where no comma is left, the last tile is added to the mask
 pub returns-in-None : goal.returns-in-None
 returns-in-None t c = grind (arith, last_tile c.args.mask c.args.text.now, c.in-None.ensures.byte)
 
+-- where the first tile before a comma can't be added, there is no mask
 pub returns-in_err-with_tile_written-in-Some : goal.returns-in_err-with_tile_written-in-Some
-returns-in_err-with_tile_written-in-Some t c = grind (arith, first_tile c.args.mask c.args.text.now c.in-Some.first.now c.in-Some.rest.now, c.in-Some.ensures.byte)
+returns-in_err-with_tile_written-in-Some t c = grind
+    (arith, first_tile c.args.mask c.args.text.now c.in-Some.first.now c.in-Some.rest.now, c.in-Some.ensures.byte)
 
+-- where the first tile before a comma is added, the mask goes on with those behind it
 pub returns-in_ok-with_tile_written-in-Some : goal.returns-in_ok-with_tile_written-in-Some
-returns-in_ok-with_tile_written-in-Some t c = grind (arith, first_tile c.args.mask c.args.text.now c.in-Some.first.now c.in-Some.rest.now, c.in-Some.ensures.byte)
+returns-in_ok-with_tile_written-in-Some t c = grind
+    (arith, first_tile c.args.mask c.args.text.now c.in-Some.first.now c.in-Some.rest.now, c.in-Some.ensures.byte)

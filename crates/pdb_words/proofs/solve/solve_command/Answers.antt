@@ -6,6 +6,7 @@ use Rattle.pdb_words.specs.Files.{needed_file, with_log}
 use Rattle.pdb_words.specs.Replace.{replace_flag}
 use Rattle.pdb_words.proofs.solve.solve_command.Goals as goal
 
+-- the command that solves a board is built with its files, its budget and its replacing
 pub returns : goal.returns
 returns c =
     let log = c.in_ok-command-2.ensures ∙ ap (λ (a : App). with_log a (needed_file (codes "OUT")))

@@ -3,14 +3,19 @@ use Rattle.puz_board.specs.Masks.{IsMaskOf}
 use Rattle.puz_board.proofs.GrownLemmas.{column_is}
 use Rattle.puz_board.proofs.masks.first_column.Goals as goal
 
+-- on side 2, the mask has the first cell of each row and no other cell
 pub returns-in-2 : goal.returns-in-2
 returns-in-2 c = subst (λ s. IsMaskOf 5 (λ x. (x < s * s) × (x % s ≡ 0))) (sym c.in-2.is ∙ c.get.ensures.value) (column_is 2 0 5 (lit≤ tt) (lit< tt) refl)
 
+-- on side 3, the mask has the first cell of each row and no other cell
 pub returns-in-3 : goal.returns-in-3
 returns-in-3 c = subst (λ s. IsMaskOf 73 (λ x. (x < s * s) × (x % s ≡ 0))) (sym c.in-3.is ∙ c.get.ensures.value) (column_is 3 0 73 (lit≤ tt) (lit< tt) refl)
 
+-- on side 4, the mask has the first cell of each row and no other cell
 pub returns-in-4 : goal.returns-in-4
 returns-in-4 c = subst (λ s. IsMaskOf 4369 (λ x. (x < s * s) × (x % s ≡ 0))) (sym c.in-4.is ∙ c.get.ensures.value) (column_is 4 0 4369 (lit≤ tt) (lit< tt) refl)
 
+-- on side 5, the mask has the first cell of each row and no other cell
 pub returns-in_default : goal.returns-in_default
-returns-in_default c = subst (λ s. IsMaskOf 1082401 (λ x. (x < s * s) × (x % s ≡ 0))) (let five : 5 ≡ c.args.side = omega arith in five) (column_is 5 0 1082401 (lit≤ tt) (lit< tt) refl)
+returns-in_default c = subst (λ s. IsMaskOf 1082401 (λ x. (x < s * s) × (x % s ≡ 0))) (let five : 5 ≡ c.args.side = omega arith in
+    five) (column_is 5 0 1082401 (lit≤ tt) (lit< tt) refl)

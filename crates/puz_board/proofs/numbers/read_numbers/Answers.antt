@@ -5,21 +5,25 @@ use Rattle.puz_board.specs.BoardTexts.{numbers_in}
 use Rattle.puz_board.proofs.TextLemmas.{kept_more, next_number, numbers_of-at_separator, numbers_of-nothing}
 use Rattle.puz_board.proofs.numbers.read_numbers.Goals as goal
 
+-- after a number that is counted and kept, the rest of the text has the others
 pub loop-i-preserved-then-is_ascii_digit : goal.loop-i-preserved-then-is_ascii_digit
 loop-i-preserved-then-is_ascii_digit c =
     let text = c.args.text.now in
     let before = c.loop-i.invariant in
     let number = c.number_at-number in
     let pushed = c.push.ensures in
-    let next = next_number (numbers_in text) (numbers_in (drop number.result.end text)) c.loop-i.numbers.count number.result.value (sym number.ensures.number ∙ before.rest) in
+    let next = next_number (numbers_in text) (numbers_in (drop number.result.end text)) c.loop-i.numbers.count number.result.value
+    (sym number.ensures.number ∙ before.rest) in
     record {
       few = omega arith;
       within = let w = next.0 in omega arith;
       room = ap length pushed.kept ∙ length-set _ _ _ ∙ before.room;
       rest = next.2 ∙ ap (λ n. drop n (numbers_in text)) (sym pushed.count);
-      kept = λ k l m. ap (λ xs. get_or xs k 0) pushed.kept ∙ kept_more c.loop-i.numbers.kept (numbers_in text) c.loop-i.numbers.count number.result.value before.room next.1 before.kept k (omega arith) m;
+      kept = λ k l m. ap (λ xs. get_or xs k 0) pushed.kept
+          ∙ kept_more c.loop-i.numbers.kept (numbers_in text) c.loop-i.numbers.count number.result.value before.room next.1 before.kept k (omega arith) m;
     }
 
+-- passing over a separator leaves the numbers that were read and those that are left
 pub loop-i-preserved : goal.loop-i-preserved
 loop-i-preserved c =
     let text = c.args.text.now in
@@ -28,7 +32,8 @@ loop-i-preserved c =
       few = omega arith;
       within = before.within;
       room = before.room;
-      rest = sym (numbers_of-at_separator text c.requires.clean c.requires.short c.loop-i.i c.loop-i-test.true (sym c.if-is_ascii_digit.ensures.value)) ∙ before.rest;
+      rest = sym (numbers_of-at_separator text c.requires.clean c.requires.short c.loop-i.i c.loop-i-test.true
+          (sym c.if-is_ascii_digit.ensures.value)) ∙ before.rest;
       kept = before.kept;
     }
 
@@ -42,9 +47,11 @@ counted c =
     let within = before.within in
     omega arith
 
+-- at the end of the text, as many numbers were counted as it has
 pub returns-clause-count : goal.returns-clause-count
 returns-clause-count c = counted c
 
+-- where a text has 25 numbers at most, those that are kept are all of them
 pub returns-clause-kept : goal.returns-clause-kept
 returns-clause-kept c few =
     let ns = numbers_in c.args.text.now in

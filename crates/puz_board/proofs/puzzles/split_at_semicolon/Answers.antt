@@ -4,6 +4,7 @@ use Rattle.std.proofs.lemmas.List.{take_all}
 use Rattle.puz_board.specs.PuzzleTexts.{puzzle_parts}
 use Rattle.puz_board.proofs.puzzles.split_at_semicolon.Goals as goal
 
+-- the texts before and behind the first semicolon are the two parts of a puzzle text
 pub returns : goal.returns
 unfolding puzzle_parts
 returns c =

@@ -14,18 +14,24 @@ one_more numbers b i j x place room inside is before =
     ∙ ap (λ y. take i b ++ y ∷ []) is
     ∙ sym (take_more b i 0 inside)
 
+-- before the first cell there is room for 25 numbers, and none must be the board's yet
 pub loop-cell-init : goal.loop-cell-init
 loop-cell-init c = (refl, refl)
 
+-- setting the number of one cell more makes the first cells so far those of the board
 pub loop-cell-preserved : goal.loop-cell-preserved
 loop-cell-preserved c =
     let b = c.args.board.now in
     let size = c.side-side.ensures.board.size in
     let most = cells_most (side_of b) b c.side-side.ensures.board in
     let square : c.side-side.result * c.side-side.result ≡ side_of b * side_of b = ap (λ m. m * m) c.side-side.ensures.side in
-    let inside : c.loop-cell.cell < length b = omega arith in
-    (length-set _ _ _ ∙ c.loop-cell.invariant.0, one_more c.loop-cell.numbers b c.loop-cell.cell _ _ c.from.ensures (omega arith) inside c.at.ensures c.loop-cell.invariant.1)
+    let inside : c.loop-cell.cell < length b = omega arith in (
+      length-set _ _ _ ∙ c.loop-cell.invariant.0,
+      one_more c.loop-cell.numbers b c.loop-cell.cell _ _ c.from.ensures
+          (omega arith) inside c.at.ensures c.loop-cell.invariant.1,
+    )
 
+-- at the end, the front of the array is the numbers of the board
 pub returns : goal.returns
 returns c =
     let b = c.args.board.now in

@@ -7,12 +7,14 @@ use Rattle.puz_search.proofs.NodeLemmas.{child_closed, child_out, child_same}
 use Rattle.puz_search.proofs.WalkLemmas.{step_kept}
 use Rattle.puz_search.proofs.frontiers.add_child.Goals as goal
 
+-- where the automaton leaves a move out, no node is added for it, and its search fails with 0 boards
 pub returns-in_default : goal.returns-in_default
 returns-in_default c =
     let s = c.args.task.now in
     let node = c.args.node.now in
     adds_none s (child_fails_of s node c.args.mv) (most_boards (node.bound - 1)) c.args.next.now.items (child_out s node c.args.mv c.in_default.ensures.next)
 
+-- where the board after a move is still to be searched, its node is the one that is added
 pub returns-in_ok-push-in-Goal : goal.returns-in_ok-push-in-Goal
 returns-in_ok-push-in-Goal c =
     let s = c.args.task.now in
@@ -30,6 +32,7 @@ returns-in_ok-push-in-Goal c =
     (adds_one s (child_fails_of s node move) (most_boards (node.bound - 1)) c.args.next.now.items child
     (child_same s node child move c.in-Some-apply.board leads on e.board state e.bound e.part e.ahead e.rank) (omega arith) e.led)
 
+-- where the board after a move is closed, no node is added for it
 pub returns-in-Closed : goal.returns-in-Closed
 returns-in-Closed c =
     let s = c.args.task.now in

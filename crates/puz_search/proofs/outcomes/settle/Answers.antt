@@ -5,12 +5,15 @@ use Rattle.puz_search.specs.declared.outcomes.Outcome.TheVariants.{Refuted}
 use Rattle.puz_search.proofs.FrontierLemmas.{push_at, settled_more, solved_in, spent_in}
 use Rattle.puz_search.proofs.outcomes.settle.Goals as goal
 
+-- the outcome that is taken for a node is how the search below it ended
 pub settle_node-requires-clause-outcome : goal.settle_node-requires-clause-outcome
 settle_node-requires-clause-outcome c =
     let node = c.index-nodes-at.result in
     let low : c.loop-at.at < length c.args.nodes.now = omega arith in
-    subst (λ n. IsOutcome c.args.task.now n (slice_index_or c.args.outcomes.now c.loop-at.at (Refuted 0))) (sym c.index-nodes-at.is) (c.requires.outcomes.1 c.loop-at.at (Refuted 0) low node)
+    subst (λ n. IsOutcome c.args.task.now n (slice_index_or c.args.outcomes.now c.loop-at.at (Refuted 0))) (sym c.index-nodes-at.is)
+    (c.requires.outcomes.1 c.loop-at.at (Refuted 0) low node)
 
+-- a solution found below one node is one of the first board, and not all nodes fail
 pub returns-in-Solved : goal.returns-in-Solved
 returns-in-Solved c =
     let low : c.loop-at.at < length c.args.nodes.now = omega arith in (
@@ -18,12 +21,15 @@ returns-in-Solved c =
       solved_in c.args.task.now c.args.nodes.now c.loop-at.at c.index-nodes-at.result low c.index-nodes-at.is c.in-Solved.ensures.1,
     )
 
+-- where the budget ends below a node, it is spent for all nodes
 pub returns-in-Spent : goal.returns-in-Spent
 returns-in-Spent c =
     let low : c.loop-at.at < length c.args.nodes.now = omega arith in
-    spent_in c.args.task.now c.args.nodes.now c.loop-at.at c.index-nodes-at.result low c.index-nodes-at.is (c.args.budget - c.loop-at.left) c.loop-at.left c.args.budget c.loop-at.invariant.done (omega arith)
+    spent_in c.args.task.now c.args.nodes.now c.loop-at.at c.index-nodes-at.result low c.index-nodes-at.is
+    (c.args.budget - c.loop-at.left) c.loop-at.left c.args.budget c.loop-at.invariant.done (omega arith)
     c.in-Spent.ensures.0 c.in-Spent.ensures.1
 
+-- where one more node is refuted, the nodes so far fail with what was spent
 pub loop-at-preserved : goal.loop-at-preserved
 loop-at-preserved c =
     let s = c.args.task.now in
@@ -35,5 +41,6 @@ loop-at-preserved c =
     record {
       left = omega arith;
       done = subst (λ xs. all_fail s xs (c.args.budget - (c.loop-at.left - boards))) (sym (push_at nodes at c.index-nodes-at.result low c.index-nodes-at.is))
-          (settled_more s (take at nodes) c.index-nodes-at.result (c.args.budget - c.loop-at.left) boards (c.args.budget - (c.loop-at.left - boards)) c.loop-at.invariant.done c.in-Refuted.ensures.0 (omega arith));
+          (settled_more s (take at nodes) c.index-nodes-at.result (c.args.budget - c.loop-at.left) boards
+          (c.args.budget - (c.loop-at.left - boards)) c.loop-at.invariant.done c.in-Refuted.ensures.0 (omega arith));
     }

@@ -4,6 +4,7 @@ use Rattle.puz_search.specs.Searches.{most_boards}
 use Rattle.puz_search.proofs.CountLemmas.{node_few, node_once}
 use Rattle.puz_search.proofs.outcomes.settle_node.Goals as goal
 
+-- where the search below a node fails with more boards than the budget, it is spent
 pub returns-in-Refuted-2 : goal.returns-in-Refuted-2
 returns-in-Refuted-2 c =
     let s = c.args.task.now in

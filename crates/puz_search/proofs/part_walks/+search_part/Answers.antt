@@ -3,14 +3,17 @@ use Rattle.puz_board.specs.Boards.{IsGoal}
 use Rattle.puz_board.specs.declared.moves.Move.TheVariants.{Right}
 use Rattle.move_strings.specs.Automata.{next_at}
 use Rattle.puz_search.specs.Guides.{ShownGuide}
-use Rattle.puz_search.specs.Outcomes.{AfterMove, IsRefuted, IsStop, bound_at, is_solved_at, most_children, prefix_child_fails, prefix_children_fail, prefix_fails_at, walk_at}
+use Rattle.puz_search.specs.Outcomes.{AfterMove, IsRefuted, IsStop, bound_at, is_solved_at, most_children, prefix_child_fails, prefix_children_fail}
+use Rattle.puz_search.specs.Outcomes.{prefix_fails_at, walk_at}
 use Rattle.puz_search.specs.Prefixes.{part_of}
 use Rattle.puz_search.specs.Searches.{most_boards}
 use Rattle.puz_search.specs.declared.efforts.Effort.{Effort}
 use Rattle.puz_search.specs.declared.walks.Reached.{Reached}
-use Rattle.puz_search.proofs.WalkLemmas.{child_stopped, err_as, err_both, err_is, goal_solved, nowhere_refuted, ok_as, opened_refuted, opened_stopped, refuted_four, spent_stopped, step_kept, stopped_fourth, stopped_second, stopped_third}
+use Rattle.puz_search.proofs.WalkLemmas.{child_stopped, err_as, err_both, err_is, goal_solved, nowhere_refuted, ok_as, opened_refuted, opened_stopped}
+use Rattle.puz_search.proofs.WalkLemmas.{refuted_four, spent_stopped, step_kept, stopped_fourth, stopped_second, stopped_third}
 use Rattle.puz_search.proofs.part_walks.+search_part.Goals as goal
 
+-- while letters of a part are to come, an open board that is the goal stops the search as solved
 pub search_part-returns-then-is_goal-clause-stopped : goal.search_part-returns-then-is_goal-clause-stopped
 search_part-returns-then-is_goal-clause-stopped g t c =
     let x = c.args.prefix.now in
@@ -18,12 +21,14 @@ search_part-returns-then-is_goal-clause-stopped g t c =
     (c.is_outside.ensures.inside c.if-is_outside.false) c.is_goal.ensures.«open» (c.if-is_goal.ensures.goal.0 refl) c.args.effort.now.letters.items
     c.requires.none
 
+-- while letters of a part are to come, an open board without budget stops the search as spent
 pub search_part-returns-then-effort-eq0-clause-stopped : goal.search_part-returns-then-effort-eq0-clause-stopped
 search_part-returns-then-effort-eq0-clause-stopped g t c =
     let x = c.args.prefix.now in
     spent_stopped g.W.Walk.shown (part_of x) x.ahead x.rank c.args.reached.now
     (c.is_outside.ensures.inside c.if-is_outside.false) c.is_goal.ensures.«open» c.args.effort.now c.if-effort-eq0.true
 
+-- while letters of a part are to come, a board whose moves are refuted is refuted, with itself expanded
 pub search_part-returns-clause-refuted : goal.search_part-returns-clause-refuted
 search_part-returns-clause-refuted g t c =
     let shown = g.W.Walk.shown in
@@ -40,6 +45,7 @@ search_part-returns-clause-refuted g t c =
     (c.is_outside.ensures.inside c.if-is_outside.false) c.is_goal.ensures.«open» far old spent new one is)
     c.search_part_children.result c.search_part_children.ensures.refuted
 
+-- while letters of a part are to come, a board stops where its moves do
 pub search_part-returns-clause-stopped : goal.search_part-returns-clause-stopped
 search_part-returns-clause-stopped g t c =
     let shown = g.W.Walk.shown in
@@ -56,6 +62,7 @@ search_part-returns-clause-stopped g t c =
     (c.is_outside.ensures.inside c.if-is_outside.false) c.is_goal.ensures.«open» far old spent new one stop is)
     c.search_part_children.result c.search_part_children.ensures.stopped
 
+-- in the search of a part, a board's moves stop where the one up is refuted and the one down stops
 pub search_part_children-returns-in_err-search_part_child-2-clause-stopped :
     goal.search_part_children-returns-in_err-search_part_child-2-clause-stopped
 search_part_children-returns-in_err-search_part_child-2-clause-stopped g t c =
@@ -72,6 +79,7 @@ search_part_children-returns-in_err-search_part_child-2-clause-stopped g t c =
     (stopped_second shown (part_of x) x.ahead x.rank r s s s c.search_part_child.ensures.same refl refl a b c.in_ok-search_part_child.ensures.refuted
     c.in_err-search_part_child-2.field-0.0 d c.in_err-search_part_child-2.ensures.stopped)
 
+-- in the search of a part, a board's moves stop where the first two are refuted and the one left stops
 pub search_part_children-returns-in_err-search_part_child-3-clause-stopped :
     goal.search_part_children-returns-in_err-search_part_child-3-clause-stopped
 search_part_children-returns-in_err-search_part_child-3-clause-stopped g t c =
@@ -91,6 +99,7 @@ search_part_children-returns-in_err-search_part_child-3-clause-stopped g t c =
     c.in_ok-search_part_child.ensures.refuted d c.in_ok-search_part_child-2.ensures.refuted c.in_err-search_part_child-3.field-0.0 e
     c.in_err-search_part_child-3.ensures.stopped)
 
+-- in the search of a part, a board's moves are refuted where the one right is, after the other three
 pub search_part_children-returns-clause-refuted : goal.search_part_children-returns-clause-refuted
 search_part_children-returns-clause-refuted g t c =
     let shown = g.W.Walk.shown in
@@ -111,6 +120,7 @@ search_part_children-returns-clause-refuted g t c =
     c.in_ok-search_part_child-3.ensures.refuted f is)
     c.search_part_child-4.result c.search_part_child-4.ensures.refuted
 
+-- in the search of a part, a board's moves stop where the first three are refuted and the one right stops
 pub search_part_children-returns-clause-stopped : goal.search_part_children-returns-clause-stopped
 search_part_children-returns-clause-stopped g t c =
     let shown = g.W.Walk.shown in
@@ -131,6 +141,7 @@ search_part_children-returns-clause-stopped g t c =
     c.in_ok-search_part_child-3.ensures.refuted stop f is)
     c.search_part_child-4.result c.search_part_child-4.ensures.stopped
 
+-- in the search of a part, a move stops where the board after it does, with its letter added to a solution
 pub search_part_child-returns-in-Some-enter-clause-stopped : goal.search_part_child-returns-in-Some-enter-clause-stopped
 search_part_child-returns-in-Some-enter-clause-stopped g t c =
     let shown = g.W.Walk.shown in
@@ -154,20 +165,24 @@ search_part_child-returns-in-Some-enter-clause-stopped g t c =
     e.ahead e.rank stop old between new)
     c.search_part-outcome.result c.after_move.result c.after_move.ensures.outcome c.search_part-outcome.ensures.stopped c.after_move.ensures.stopped
 
+-- in the search of a part, a move can be taken back: its step has led to the walk that is left
 pub search_part_child-leave-requires : goal.search_part_child-leave-requires
 search_part_child-leave-requires g t c =
     let r = c.args.reached.now in
     let walk = ap (λ x. x.walk) c.search_part-outcome.ensures.same in
     (r.walk, subst (λ w. g.W.Walk.leads r.walk w c.in-Some-enter.step) (sym walk) c.in-Some-enter.ensures.some.3)
 
+-- in the search of a part, once a move is taken back, what was reached is as before it
 pub search_part_child-returns-in-Some-enter-clause-same : goal.search_part_child-returns-in-Some-enter-clause-same
 search_part_child-returns-in-Some-enter-clause-same g t c =
     let r = c.args.reached.now in
     let walk = ap (λ x. x.walk) c.search_part-outcome.ensures.same in
     let automaton = ap (λ x. x.automaton) c.search_part-outcome.ensures.same in
-    let back : c.leave.new.self ≡ r.walk = c.leave.ensures r.walk (subst (λ w. g.W.Walk.leads r.walk w c.in-Some-enter.step) (sym walk) c.in-Some-enter.ensures.some.3) in
+    let back : c.leave.new.self ≡ r.walk = c.leave.ensures r.walk
+    (subst (λ w. g.W.Walk.leads r.walk w c.in-Some-enter.step) (sym walk) c.in-Some-enter.ensures.some.3) in
     λ i. record { walk = back i; automaton = automaton i; state = r.state }
 
+-- in the search of a part, a move that leads to no open board is refuted without effort
 pub search_part_child-returns-in-None-clause-refuted : goal.search_part_child-returns-in-None-clause-refuted
 search_part_child-returns-in-None-clause-refuted g t c =
     let x = c.args.prefix.now in

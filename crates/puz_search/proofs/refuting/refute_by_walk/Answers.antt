@@ -7,6 +7,7 @@ use Rattle.puz_search.specs.declared.walks.Reached.{Reached}
 use Rattle.puz_search.proofs.NodeLemmas.{node_closed, reached_by, reached_fails, reached_most}
 use Rattle.puz_search.proofs.refuting.refute_by_walk.Goals as goal
 
+-- a node to whose board there is no walk is refuted with 0 boards
 pub returns-in_default : goal.returns-in_default
 returns-in_default g c =
     let s = c.args.task.now in
@@ -14,6 +15,7 @@ returns-in_default g c =
     let closed = subst (λ o. IfNone o (IsClosed s.guide.now.bundle node.board node.bound)) c.in_default.is c.requires.walk.1 in
     ((node_closed s node (inr closed) 0).1 refl, omega arith)
 
+-- the letters of the node, and then those found in reverse order, are a solution below it
 pub returns-in-Err-Solved : goal.returns-in-Err-Solved
 returns-in-Err-Solved g c =
     let s = c.args.task.now in
@@ -32,6 +34,7 @@ returns-in-Err-Solved g c =
       λ boards fails. is.1 boards ((reached_fails g.W.Walk.shown s node reached there boards).1 fails),
     )
 
+-- where the search ends without a stop, the node is refuted with what was taken from the budget
 pub returns-in-Ok : goal.returns-in-Ok
 returns-in-Ok g c =
     let s = c.args.task.now in
@@ -43,6 +46,7 @@ returns-in-Ok g c =
     let same : is.boards ≡ c.args.effort.now.left - c.search_part.new.effort.left = omega arith in
     (subst (node_fails s node) same ((reached_fails g.W.Walk.shown s node reached there is.boards).0 is.fails), omega arith)
 
+-- where the search stops for its budget, the budget is spent below the node
 pub returns : goal.returns
 returns g c =
     let s = c.args.task.now in

@@ -6,16 +6,34 @@ use Rattle.puz_search.specs.declared.searches.Search.{Search}
 use Rattle.puz_search.proofs.AnswerLemmas.{IsWhole, part_answer, part_within, if_ok}
 use Rattle.puz_search.proofs.sharing.refute_part_by.Goals as goal
 
+-- what the workers answer for a part is right for the part, the board, the bound and the budget
 pub returns-clause-answer : goal.returns-clause-answer
 returns-clause-answer g c =
-    let s : Search = record { guide = c.args.guide; board = c.args.board; bound = c.args.claim.now.bound; first_state = c.side-2.ensures.guide.automaton.first; one_side = subst (λ n. IsBoardOf n c.args.board.now) c.requires c.side.ensures.board; small = omega arith; prefix = c.of_part.result } in
+    let s : Search = record {
+      guide = c.args.guide;
+      board = c.args.board;
+      bound = c.args.claim.now.bound;
+      first_state = c.side-2.ensures.guide.automaton.first;
+      one_side = subst (λ n. IsBoardOf n c.args.board.now) c.requires c.side.ensures.board;
+      small = omega arith;
+      prefix = c.of_part.result;
+    } in
     if_ok (IsWhole s c.args.budget) (IsAnswerOfPart c.args.guide.now c.args.claim.now.part c.args.board.now c.args.claim.now.bound c.args.budget)
     (part_answer s c.side-2.ensures.guide c.args.claim.now.part c.of_part.ensures.part c.of_part.ensures.ahead c.of_part.ensures.rank c.args.budget)
     c.search_by.result c.search_by.ensures
 
+-- where the search of a part fails within the budget, the workers answer that it is refuted
 pub returns-clause-within : goal.returns-clause-within
 returns-clause-within g c boards fails few =
-    let s : Search = record { guide = c.args.guide; board = c.args.board; bound = c.args.claim.now.bound; first_state = c.side-2.ensures.guide.automaton.first; one_side = subst (λ n. IsBoardOf n c.args.board.now) c.requires c.side.ensures.board; small = omega arith; prefix = c.of_part.result } in
+    let s : Search = record {
+      guide = c.args.guide;
+      board = c.args.board;
+      bound = c.args.claim.now.bound;
+      first_state = c.side-2.ensures.guide.automaton.first;
+      one_side = subst (λ n. IsBoardOf n c.args.board.now) c.requires c.side.ensures.board;
+      small = omega arith;
+      prefix = c.of_part.result;
+    } in
     if_ok (IsWhole s c.args.budget) (λ answer. answer ≡ Refuted boards)
     (part_within s c.side-2.ensures.guide c.args.claim.now.part c.of_part.ensures.part c.of_part.ensures.ahead c.of_part.ensures.rank c.args.budget boards fails
     few) c.search_by.result c.search_by.ensures

@@ -2,6 +2,7 @@ use Rattle.std.proofs.Common.{sym, subst, ◌∙◌}
 use Rattle.puz_search.specs.Frontiers.{AreOutcomesOf}
 use Rattle.puz_search.proofs.sharing.search_frontier.Goals as goal
 
+-- the outcomes that the workers share are those of the frontier's nodes
 pub settle-requires-clause-outcomes : goal.settle-requires-clause-outcomes
 settle-requires-clause-outcomes g c =
     let s = c.args.task.now in

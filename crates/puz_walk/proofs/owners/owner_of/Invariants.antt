@@ -7,4 +7,5 @@ use Rattle.puz_walk.proofs.owners.owner_of.Given as goal
 
 -- no member so far has the tile
 abbrev pub invariant-loop-member : goal.invariant-loop-member
-invariant-loop-member l = AllByRecursion (λ m. has (table_pattern l.bundle.tables m) (cell_for l.bundle.side m l.tile) ≡ false) (take l.member-index l.member-items)
+invariant-loop-member l = AllByRecursion (λ m. has (table_pattern l.bundle.tables m) (cell_for l.bundle.side m l.tile) ≡ false)
+    (take l.member-index l.member-items)

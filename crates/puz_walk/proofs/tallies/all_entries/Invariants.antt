@@ -8,5 +8,6 @@ use Rattle.puz_walk.proofs.tallies.all_entries.Given as goal
 abbrev pub invariant-loop-place : goal.invariant-loop-place
 invariant-loop-place l = record {
   room : length l.entries ≡ 512;
-  each : (k : ℕ) (m : Member) → k < l.place → m.table < length l.position.bundle.tables → k % 32 ≡ place_of m → MemberSays l.position.bundle.tables m l.position.board (said_by (slice_index l.entries k));
+  each : (k : ℕ) (m : Member) → k < l.place → m.table < length l.position.bundle.tables → k % 32 ≡ place_of m
+      → MemberSays l.position.bundle.tables m l.position.board (said_by (slice_index l.entries k));
 }

@@ -1,4 +1,5 @@
-use Rattle.std.proofs.Common.{◌≡◌, ◌≢◌, ◌⊎◌, ℕ, ◌+◌, ◌<◌, length, length-set, slice_index, slice_set, inl, inr, sym, ◌∙◌, ap, subst, arith, get_or-set_same, get_or-set_other}
+use Rattle.std.proofs.Common.{◌≡◌, ◌≢◌, ◌⊎◌, ℕ, ◌+◌, ◌<◌, length, length-set, slice_index, slice_set, inl, inr, sym, ◌∙◌, ap, subst, arith}
+use Rattle.std.proofs.Common.{get_or-set_same, get_or-set_other}
 use Rattle.std.proofs.lemmas.Bool.{cases_eq}
 use Rattle.puz_walk.specs.Tallies.{IsLow, IsTold}
 use Rattle.puz_walk.proofs.tallies.judge.Goals.{then-set-first+in-Some-judged, else-set-first}
@@ -11,6 +12,7 @@ one_more P first set before here k asked = elim (cases_eq k set) [
   | inr ne ↦ before k (elim asked [ inl is ↦ inl is | inr less ↦ inr (omega arith) ]) ne
 ]
 
+-- where one more set is found low, or it is the first one asked, all sets so far are low and their owners' entries listed
 pub loop-set-preserved : goal.loop-set-preserved
 loop-set-preserved c =
     let v = c.args.position.now.bundle in
@@ -25,7 +27,8 @@ loop-set-preserved c =
           let number = w.from-then-set-first.result in
           let number_is : number ≡ set = w.from-then-set-first.ensures in
           let room = was.room in
-          let most : set < 16 = (let more = c.loop-set-test.true in let count = c.sets-sets.ensures.sets in let few = c.sets-sets.ensures.bundle.few_sets in omega arith) in
+          let most : set < 16 = (let more = c.loop-set-test.true in let count = c.sets-sets.ensures.sets in
+          let few = c.sets-sets.ensures.bundle.few_sets in omega arith) in
           let here : slice_index (slice_set loop.told number entry) set ≡ entry =
           ap (λ k. slice_index (slice_set loop.told k entry) set) number_is ∙ get_or-set_same loop.told set entry 0 (omega arith) in
           let others : (k : ℕ) → k ≢ set → slice_index (slice_set loop.told number entry) k ≡ slice_index loop.told k =

@@ -5,6 +5,7 @@ use Rattle.puz_walk.specs.StoredWords.{AreOwnersOf}
 use Rattle.puz_walk.proofs.JudgeLemmas.{sum_once}
 use Rattle.puz_walk.proofs.tallies.tally_of.Goals as goal
 
+-- sums within the limit, all owners and all entries of a board make its tally, and its sums are below one more than the limit
 pub returns-clause-some : goal.returns-clause-some
 returns-clause-some c =
     let v = c.args.position.now.bundle in

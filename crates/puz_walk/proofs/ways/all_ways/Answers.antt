@@ -1,4 +1,5 @@
-use Rattle.std.proofs.Common.{◌≡◌, ℕ, zero, suc, ◌<◌, ◌/◌, ◌%◌, cond, eqb, get_or, [], ◌∷◌, None, length, length-set, inl, inr, sym, ◌∙◌, ap, arith, get_or-set_same, get_or-set_other}
+use Rattle.std.proofs.Common.{◌≡◌, ℕ, zero, suc, ◌<◌, ◌/◌, ◌%◌, cond, eqb, get_or, [], ◌∷◌, None, length, length-set, inl, inr, sym, ◌∙◌, ap, arith}
+use Rattle.std.proofs.Common.{get_or-set_same, get_or-set_other}
 use Rattle.std.specs.Prelude.{slice_index_or, slice_set}
 use Rattle.std.proofs.lemmas.Bool.{cases_eq}
 use Rattle.puz_board.specs.Cells.{step_of}
@@ -20,6 +21,7 @@ move_at (suc (suc zero)) k e = ap pick e
 move_at (suc (suc (suc zero))) k e = ap pick e
 move_at (suc (suc (suc (suc digit)))) k e = absurd (omega arith)
 
+-- with the cell of one more move put in, all places so far have the cells to which their moves lead
 pub loop-place-preserved : goal.loop-place-preserved
 loop-place-preserved c = record {
   room = length-set _ _ _ ∙ c.loop-place.invariant.room;
@@ -38,6 +40,7 @@ loop-place-preserved c = record {
         get_or-set_same c.loop-place.ways c.from-in-loop-place.result c.step.result None low ∙ there ∙
         ap (step_of c.args.side (place / 4)) (move_at c.from.result place c.from.ensures) ∙
         ap (λ i. step_of c.args.side (i / 4) (move_of i)) (sym e)
-    | inr ne ↦ get_or-set_other c.loop-place.ways c.from-in-loop-place.result k c.step.result None (λ w. ne (w ∙ c.from-in-loop-place.ensures)) ∙ c.loop-place.invariant.each k (omega arith)
+    | inr ne ↦ get_or-set_other c.loop-place.ways c.from-in-loop-place.result k c.step.result None (λ w. ne (w ∙ c.from-in-loop-place.ensures))
+        ∙ c.loop-place.invariant.each k (omega arith)
   ];
 }

@@ -7,5 +7,6 @@ use Rattle.puz_walk.proofs.word_spots.indexes_of.Given as goal
 abbrev pub invariant-loop-place : goal.invariant-loop-place
 invariant-loop-place l = record {
   room : length l.indexes ≡ 256;
-  each : (k : ℕ) → k < l.place → k % 16 / 2 < length l.bundle.tables → slice_index l.indexes k ≡ index_on (pattern_at l.bundle (k % 16 / 2)) (cond (eqb (k % 2) 1) l.turned l.board);
+  each : (k : ℕ) → k < l.place → k % 16 / 2 < length l.bundle.tables
+      → slice_index l.indexes k ≡ index_on (pattern_at l.bundle (k % 16 / 2)) (cond (eqb (k % 2) 1) l.turned l.board);
 }

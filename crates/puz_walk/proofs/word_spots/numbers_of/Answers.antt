@@ -3,6 +3,7 @@ use Rattle.std.proofs.lemmas.List.{ext_get_or, get_or-take, length-take-le}
 use Rattle.puz_board.proofs.BoardLemmas.{cells_most}
 use Rattle.puz_walk.proofs.word_spots.numbers_of.Goals as goal
 
+-- after all cells, the first numbers that were filled in are those of the board
 pub returns-clause-numbers : goal.returns-clause-numbers
 returns-clause-numbers c =
     let b = c.args.board.now in

@@ -5,6 +5,7 @@ use Rattle.set_sum.specs.Bundles.{BundleSays}
 use Rattle.puz_walk.proofs.JudgeLemmas.{sum_once}
 use Rattle.puz_walk.proofs.word_spots.spot_of.Goals as goal
 
+-- a board's numbers, its blank, its sums within the limit and its indexes make its spot
 pub returns-clause-some : goal.returns-clause-some
 returns-clause-some c =
     let v = c.args.bundle.now in
@@ -21,14 +22,16 @@ returns-clause-some c =
         kept = record {
           room = record { sums_room = c.in_ok-sums.ensures.room; indexes_room = c.indexes_of.ensures.room };
           each = λ set low. record {
-            says = subst (λ u. BundleSays u set b (Finite (slice_index sums set))) view (c.in_ok-sums.ensures.some set (subst (λ u. set < length u.sets) (sym view) low)).0;
+            says = subst (λ u. BundleSays u set b (Finite (slice_index sums set))) view
+                (c.in_ok-sums.ensures.some set (subst (λ u. set < length u.sets) (sym view) low)).0;
             are = c.indexes_of.ensures.indexes set low;
           };
         };
       },
       λ set d says.
           let told = c.in_ok-sums.ensures.some set (subst (λ u. set < length u.sets) (sym view) says.there) in
-          let same : d ≡ slice_index sums set = sum_once v set b d (slice_index sums set) says (subst (λ u. BundleSays u set b (Finite (slice_index sums set))) view told.0) in
+          let same : d ≡ slice_index sums set = sum_once v set b d (slice_index sums set) says
+          (subst (λ u. BundleSays u set b (Finite (slice_index sums set))) view told.0) in
           let most = told.1 in
           omega arith,
     )

@@ -2,6 +2,7 @@ use Rattle.std.proofs.Common.{◌≡◌, ◌*◌, length, refl, sym, ◌∙◌, 
 use Rattle.std.proofs.lemmas.List.{ext_get_or}
 use Rattle.set_sum.proofs.cells.has_numbers.Goals as goal
 
+-- the comparison says yes of the board with these numbers, and of no other board
 pub returns : goal.returns
 returns c = (
   λ _. ext_get_or 0 c.args.board.now c.args.numbers.now (sym c.requires) (λ i low.

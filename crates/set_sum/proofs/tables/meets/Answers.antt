@@ -5,9 +5,11 @@ use Rattle.std.proofs.lemmas.List.{take_all}
 use Rattle.set_sum.specs.declared.members.Member.{Member}
 use Rattle.set_sum.proofs.ListLemmas.{no_member}
 use Rattle.set_sum.proofs.TwiceLemmas.{AreOne, meets_here, meets_none, one_mask, other_mask, plain_pair}
-use Rattle.set_sum.proofs.tables.meets.Goals.{then-member, else-member, else-is_transposed-via-then-is_transposed+else-mask, else-is_transposed-via-else-is_transposed}
+use Rattle.set_sum.proofs.tables.meets.Goals.{then-member, else-member, else-is_transposed-via-then-is_transposed+else-mask}
+use Rattle.set_sum.proofs.tables.meets.Goals.{else-is_transposed-via-else-is_transposed}
 use Rattle.set_sum.proofs.tables.meets.Goals as goal
 
+-- a member with the mask of the other one, where one of them is transposed, has its pattern
 pub returns-then-mask : goal.returns-then-mask
 returns-then-mask c =
     let set = c.args.set.now in
@@ -19,10 +21,12 @@ returns-then-mask c =
         | then-member v ↦ inl v.if-member.true
         | else-member v ↦ inr (sym v.is_transposed-is ∙ c.if-is_transposed.true)
       ];
-      same = one_mask c.args.tables.now m o c.mask.result c.mask-mask.result (c.mask.ensures ∙ c.pattern_for-then-is_transposed.ensures) (c.mask-mask.ensures ∙ c.pattern_for.ensures) c.if-mask.true;
+      same = one_mask c.args.tables.now m o c.mask.result c.mask-mask.result (c.mask.ensures ∙ c.pattern_for-then-is_transposed.ensures)
+          (c.mask-mask.ensures ∙ c.pattern_for.ensures) c.if-mask.true;
     } in
     (λ _. meets_here c.args.tables.now set i no_member c.loop-member-test.true o one, λ _. refl)
 
+-- a member of another mask, or plain like the other, leaves none so far with its pattern
 pub loop-member-preserved : goal.loop-member-preserved
 loop-member-preserved c =
     let set = c.args.set.now in
@@ -31,13 +35,15 @@ loop-member-preserved c =
     let o = c.args.other in
     meets_none c.args.tables.now set i no_member c.loop-member-test.true o c.loop-member.invariant (elim c.else-is_transposed.branch [
       | else-is_transposed-via-then-is_transposed+else-mask w ↦
-          other_mask c.args.tables.now m o w.mask.result c.mask-mask.result (w.mask.ensures ∙ w.pattern_for-then-is_transposed.ensures) (c.mask-mask.ensures ∙ c.pattern_for.ensures) (omega arith) (omega arith) w.if-mask.false
+          other_mask c.args.tables.now m o w.mask.result c.mask-mask.result (w.mask.ensures ∙ w.pattern_for-then-is_transposed.ensures)
+          (c.mask-mask.ensures ∙ c.pattern_for.ensures) (omega arith) (omega arith) w.if-mask.false
       | else-is_transposed-via-else-is_transposed w ↦ elim c.if-member.branch [
         | then-member v ↦ absurd (true≢false (sym v.if-member.true ∙ sym v.is_transposed-is ∙ w.if-is_transposed.false))
         | else-member v ↦ plain_pair c.args.tables.now m o v.if-member.false (sym v.is_transposed-is ∙ w.if-is_transposed.false)
       ]
     ])
 
+-- at the end, no member has the pattern of the other one
 pub returns : goal.returns
 returns c =
     let all = take_all c.loop-member.member-index c.args.set.now c.loop-member-test.false in

@@ -10,6 +10,7 @@ use Rattle.set_sum.proofs.ListLemmas.{no_member, split_at}
 use Rattle.set_sum.proofs.TakenLemmas.{IsTaken, taken_meets, taken_more}
 use Rattle.set_sum.proofs.tables.overlap.Goals as goal
 
+-- a member that shares no taken tile adds its tiles to those of the members so far
 pub loop-member-preserved : goal.loop-member-preserved
 loop-member-preserved c =
     let set = c.args.set.now in
@@ -19,8 +20,10 @@ loop-member-preserved c =
     let patterns = patterns_of_set (first_side c.args.tables.now) (parts_shown c.args.tables.now) in
     let more = ap patterns (take_more set i no_member c.loop-member-test.true) ∙ map-append pattern (take i set) (m ∷ []) in
     subst (λ ps. IsTaken ps (bit_or c.loop-member.taken c.mask-mask.result)) (sym more) (
-    taken_more (patterns (take i set)) c.loop-member.taken c.mask-mask.result (pattern m) c.loop-member.invariant (c.mask-mask.ensures ∙ c.pattern_for.ensures) (omega arith) c.if-taken-mask-ne0.false)
+    taken_more (patterns (take i set)) c.loop-member.taken c.mask-mask.result (pattern m) c.loop-member.invariant
+    (c.mask-mask.ensures ∙ c.pattern_for.ensures) (omega arith) c.if-taken-mask-ne0.false)
 
+-- a member whose mask meets the taken tiles overlaps with one before it
 pub returns-then-taken-mask-ne0 : goal.returns-then-taken-mask-ne0
 returns-then-taken-mask-ne0 c =
     let set = c.args.set.now in
@@ -30,6 +33,7 @@ returns-then-taken-mask-ne0 c =
     let pattern = pattern_of (first_side c.args.tables.now) (parts_shown c.args.tables.now) in
     let patterns = patterns_of_set (first_side c.args.tables.now) (parts_shown c.args.tables.now) in
     let here = ap patterns (split_at set i no_member c.loop-member-test.true) ∙ map-append pattern (take i set) (m ∷ rest) in
-    let meets = taken_meets (patterns (take i set)) c.loop-member.taken c.mask-mask.result (pattern m) c.loop-member.invariant (c.mask-mask.ensures ∙ c.pattern_for.ensures) (omega arith)
+    let meets = taken_meets (patterns (take i set)) c.loop-member.taken c.mask-mask.result (pattern m) c.loop-member.invariant
+    (c.mask-mask.ensures ∙ c.pattern_for.ensures) (omega arith)
     c.if-taken-mask-ne0.true (patterns rest) in
     (λ _. subst HaveOverlap (sym here) meets, λ _. refl)

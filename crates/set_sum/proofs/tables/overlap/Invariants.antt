@@ -5,5 +5,6 @@ use Rattle.set_sum.specs.Reading.{first_side}
 use Rattle.set_sum.proofs.TakenLemmas.{IsTaken}
 use Rattle.set_sum.proofs.tables.overlap.Given as goal
 
+-- the mask of taken tiles has those of the members so far, whose patterns are disjoint
 abbrev pub invariant-loop-member : goal.invariant-loop-member
 invariant-loop-member l = IsTaken (patterns_of_set (first_side l.tables) (parts_shown l.tables) (take l.member-index l.set)) l.taken

@@ -11,6 +11,7 @@ use Rattle.tab_check.proofs.TableLemmas.{keeps_whole, least_bad_whole}
 use Rattle.tab_check.proofs.tables.check_table.Goals as goal
 use Rattle.tab_check.proofs.tables.check_table.Goals.{Joined-blocks, Joined-blocks-2}
 
+-- the blocks begin at 0, rise, and end at 2^32 at most, and the rows kept are the pattern's
 pub invariant_of-blocks : goal.invariant_of-blocks
 invariant_of-blocks g c =
     let p = c.in-Ok.view.pattern in
@@ -25,6 +26,7 @@ invariant_of-blocks g c =
       small = block_begin-small p (omega arith);
     }
 
+-- where no job gives a bad entry, each entry keeps the local rule
 pub of_view-requires : goal.of_view-requires
 of_view-requires g c =
     let keeps = keeps_whole c.in-Ok.view c.in-Ok.ensures.ok.table.pattern (rw c.in-Ok-None.field-0-is at c.in-Ok-None.ensures) in
@@ -38,20 +40,24 @@ keeps g c = keeps_whole c.in-Ok.view c.in-Ok.ensures.ok.table.pattern (rw c.in-O
 bad : (g : _) (c : Joined-blocks-2 g) → IsLeastBadEntry c.in-Ok.view c.in-Ok-Some.number
 bad g c = least_bad_whole c.in-Ok.view c.in-Ok-Some.number (rw c.in-Ok-Some.field-0-is at c.in-Ok-Some.ensures)
 
+-- where no job gives a bad entry, the table in the file has none
 pub returns-in-Ok-None-clause-bad : goal.returns-in-Ok-None-clause-bad
 returns-in-Ok-None-clause-bad g c table number is_file is =
     let same : c.in-Ok.view ≡ table = (let e = c.in-Ok.ensures.viewed table is_file in cc) in
     absurd (none_bad c.in-Ok.view (keeps g c) number (subst (λ t. IsLeastBadEntry t number) (sym same) is))
 
+-- where a job gives a bad entry, the file is no exact file
 pub returns-in-Ok-Some-clause-exact : goal.returns-in-Ok-Some-clause-exact
 returns-in-Ok-Some-clause-exact g c table is =
     let same : c.in-Ok.view ≡ table = (let e = c.in-Ok.ensures.viewed table is.is_file in cc) in
     let all = keeps_from_exact c.in-Ok.view c.in-Ok.ensures.ok.table (subst AreExact (sym same) is.exact) in
     absurd (none_bad c.in-Ok.view all c.in-Ok-Some.number (bad g c))
 
+-- the entry for which the file is refused is the least bad one of the table in it
 pub returns-in-Ok-Some-clause-fault : goal.returns-in-Ok-Some-clause-fault
 returns-in-Ok-Some-clause-fault g c = (c.in-Ok.view, c.in-Ok.ensures.ok, bad g c)
 
+-- the least bad entry of the file's table is the one for which it is refused
 pub returns-in-Ok-Some-clause-bad : goal.returns-in-Ok-Some-clause-bad
 returns-in-Ok-Some-clause-bad g c table number is_file is =
     let same : c.in-Ok.view ≡ table = (let e = c.in-Ok.ensures.viewed table is_file in cc) in

@@ -6,6 +6,7 @@ use Rattle.tab_rule.proofs.BlockLemmas.{next_rank}
 use Rattle.tab_columns.proofs.ColumnLemmas.{set_get, take_get}
 use Rattle.tab_columns.proofs.columns.placements_from.Goals as goal
 
+-- with the next placement put in, the list is right for one rank more
 pub loop-row-preserved : goal.loop-row-preserved
 loop-row-preserved c =
     let p = c.args.pattern.now in
@@ -17,8 +18,11 @@ loop-row-preserved c =
     let low : row < c.args.count = c.loop-row-test.true in
     let within : c.args.first + c.args.count ≤ placement_count p = c.requires.within in
     let last : (row - 1) + 1 ≡ row = omega arith in
-    let next : IsRank p.side new.cells (c.args.first + (row - 1) + 1) = next_rank p old new.cells c.next.result (c.args.first + (row - 1)) was.pattern was.placement (was.rank (row - 1) last) (omega arith) c.next.ensures.step in
-    let at_row : IsRank p.side new.cells (c.args.first + row) = subst (IsRank p.side new.cells) (let e : c.args.first + (row - 1) + 1 ≡ c.args.first + row = omega arith in e) next in
+    let next : IsRank p.side new.cells (c.args.first + (row - 1) + 1) =
+    next_rank p old new.cells c.next.result (c.args.first + (row - 1)) was.pattern was.placement (was.rank (row - 1) last)
+    (omega arith) c.next.ensures.step in
+    let at_row : IsRank p.side new.cells (c.args.first + row) =
+    subst (IsRank p.side new.cells) (let e : c.args.first + (row - 1) + 1 ≡ c.args.first + row = omega arith in e) next in
     let same : new.pattern ≡ p = c.next.ensures.pattern ∙ was.pattern in
     record {
       pattern = same;
@@ -31,6 +35,7 @@ loop-row-preserved c =
       ];
     }
 
+-- the placements of the list have the ranks from the first one on, one by one
 pub returns : goal.returns
 returns c row v is =
     let there = take_get c.loop-row.placements c.args.count row v is in

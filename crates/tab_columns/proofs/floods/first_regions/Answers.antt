@@ -2,6 +2,7 @@ use Rattle.std.proofs.Common.{get_or, arith}
 use Rattle.tab_columns.proofs.FloodLemmas.{first_region}
 use Rattle.tab_columns.proofs.floods.first_regions.Goals as goal
 
+-- a flood from the first cell that is left gives the first region, in each row
 pub returns-clause-each : goal.returns-clause-each
 returns-clause-each c row l =
     let all = c.loop-row-test.false in

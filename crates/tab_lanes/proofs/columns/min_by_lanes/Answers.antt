@@ -2,6 +2,7 @@ use Rattle.std.proofs.Common.{◌+◌, ◌≤◌, arith, length}
 use Rattle.tab_lanes.proofs.LesserLemmas.{taken_in}
 use Rattle.tab_lanes.proofs.columns.min_by_lanes.Goals as goal
 
+-- with one vector of lesser bytes written, the column is taken in as far as its end
 pub lanes-preserved : goal.lanes-preserved
 lanes-preserved g c =
     let so_far = c.lanes.invariant in

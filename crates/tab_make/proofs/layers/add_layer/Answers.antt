@@ -4,6 +4,7 @@ use Rattle.tab_make.proofs.LayerLemmas.{layer-yes, layer-no}
 use Rattle.tab_make.proofs.layers.add_layer.Goals as goal
 use Rattle.tab_make.proofs.layers.add_layer.Goals.{then-entries-number+in_ok-push, else-entries-number}
 
+-- the next entry is added where it holds the number, and the layer so far goes up to it
 pub loop-number-preserved : goal.loop-number-preserved
 loop-number-preserved c =
     let from = c.loop-number.invariant.1 in

@@ -3,6 +3,7 @@ use Rattle.tab_make.specs.Pieces.{all_items}
 use Rattle.tab_make.proofs.LayerLemmas.{all_items-more}
 use Rattle.tab_make.proofs.layers.joined.Goals as goal
 
+-- one list more behind the others makes all lists so far one after the other
 pub loop-list-preserved : goal.loop-list-preserved
 loop-list-preserved c =
     let list = c.list-item.result in

@@ -7,6 +7,7 @@ use Rattle.tab_make.specs.Pieces.{all_items}
 use Rattle.tab_make.proofs.LayerLemmas.{all_oks, pieces-joined}
 use Rattle.tab_make.proofs.layers.layer.Goals as goal
 
+-- each piece begins within the entries
 pub collect-requires-clause-ready : goal.collect-requires-clause-ready
 collect-requires-clause-ready g c κs within =
     let ends = c.into_par_iter.ensures in
@@ -18,6 +19,7 @@ collect-requires-clause-ready g c κs within =
     let here = get_or-range_with_len 0 (pieces - 0) k d low in
     ((c.requires, subst (λ i. i * 65536 ≤ count) (sym here) (omega (arith, low, most))), (λ y kept. tt)))
 
+-- the layers of all pieces one after the other are the layer of the table
 pub returns : goal.returns
 returns g c = IfOk-then c.joined.result _ _ c.joined.ensures (λ v h.
     let ends = c.into_par_iter.ensures in
@@ -31,4 +33,5 @@ returns g c = IfOk-then c.joined.result _ _ c.joined.ensures (λ v h.
     let lists = c.in_ok-lists.lists.items in
     let each = all_oks _ (λ k numbers. numbers.items ≡ layer_from c.args.d entries (k * 65536) (min 65536 (count - k * 65536))) (λ k numbers is. is)
     chain.1.0 (range_with_len 0 pieces) chain.0 chain.2.0 lists (chain.1.1 ∙ ap (range_with_len 0) whole) chain.2.1 chain.2.2 chain.1.2 in
-    h ∙ ap all_items c.deref.ensures.value ∙ pieces-joined c.args.d entries count 0 pieces (omega (arith, most)) lists each ∙ ap (layer_from c.args.d entries 0) from_0)
+    h ∙ ap all_items c.deref.ensures.value ∙ pieces-joined c.args.d entries count 0 pieces (omega (arith, most)) lists each
+    ∙ ap (layer_from c.args.d entries 0) from_0)

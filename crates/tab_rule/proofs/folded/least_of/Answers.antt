@@ -5,6 +5,7 @@ use Rattle.tab_rule.proofs.FoldLemmas.{least_more}
 use Rattle.tab_rule.proofs.folded.least_of.Goals.{then-entry, else-entry}
 use Rattle.tab_rule.proofs.folded.least_of.Goals as goal
 
+-- with one entry more looked at, the least is that of all entries up to it
 pub loop-entry-preserved : goal.loop-entry-preserved
 loop-entry-preserved c =
     let xs = c.args.entries.now in

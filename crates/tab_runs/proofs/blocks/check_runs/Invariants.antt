@@ -6,6 +6,7 @@ use Rattle.tab_rule.specs.Blocks.{first_of_block}
 use Rattle.tab_runs.specs.Parts.{EntriesKeepRule}
 use Rattle.tab_runs.proofs.blocks.check_runs.Given as goal
 
+-- the block keeps the rule up to this rank, and the placement is that of the rank while some are left
 abbrev pub invariant-runs : goal.invariant-runs
 invariant-runs l = record {
   begun : l.block * 256 ≤ l.from;
@@ -15,5 +16,6 @@ invariant-runs l = record {
   rank : l.from < l.end → IsRank l.table.pattern.side l.placement.cells l.from;
 }
 
+-- how many ranks are left to the block's end
 abbrev pub decreases-runs : goal.decreases-runs
 decreases-runs l = l.end - l.from

@@ -1,6 +1,7 @@
 use Rattle.std.proofs.Common.{◌≡◌, ℕ, ◌<◌, get_or, length}
 use Rattle.tab_runs.proofs.blocks.with_goal.Given as goal
 
+-- the kinds before this place are those that were given
 abbrev pub invariant-loop-place : goal.invariant-loop-place
 invariant-loop-place l = record {
   size : length l.kinds ≡ 256;

@@ -11,6 +11,7 @@ use Rattle.tab_runs.specs.RunPlaces.{AreFreeBelow}
 use Rattle.tab_runs.proofs.LoopLemmas.{left_all, left_more, left_start, was_in}
 use Rattle.tab_runs.proofs.near.take_lasts.Goals as goal
 
+-- a board has at most 25 cells to count free ones below
 pub free_below_each-below-requires-clause-small : goal.free_below_each-below-requires-clause-small
 free_below_each-below-requires-clause-small c =
     let t = c.args.table.now in
@@ -20,6 +21,7 @@ free_below_each-below-requires-clause-small c =
     let few = few_cells t.pattern.side pat.low pat.high in
     omega arith
 
+-- at first, all free cells are left, and no move of the last tile is taken in
 pub left-init : goal.left-init
 left-init c =
     let t = c.args.table.now in
@@ -31,6 +33,7 @@ left-init c =
     (subst (λ all. IsMaskOf (bit_and all (2 ^ 32 - 1 - c.args.run.now.set)) (IsFree t.pattern.side c.args.run.now.cells.now)) (sym c.all_below.ensures)
     (free_is t.pattern.side c.args.run.now.set c.args.run.now.cells.now c.cells-count.result cells (omega arith) c.requires.run.bits c.requires.run.set))
 
+-- the run, with its free cells counted below each cell, is as the last tile's moves need it
 pub take_beside-requires-clause-last : goal.take_beside-requires-clause-last
 take_beside-requires-clause-last c =
     let t = c.args.table.now in
@@ -41,6 +44,7 @@ take_beside-requires-clause-last c =
       below = subst (λ k. AreFreeBelow c.args.run.now.cells.now k c.free_below_each-below.result) cells c.free_below_each-below.ensures;
     }
 
+-- the cells that are still left are free, and above the one that was taken out
 pub take_beside-requires-clause-others : goal.take_beside-requires-clause-others
 take_beside-requires-clause-others c x h =
     let was = was_in c.left.left c.first_of-a.result c.without-left.result x
@@ -53,11 +57,15 @@ take_beside-requires-clause-others c x h =
       ],
     )
 
+-- with the moves of one cell to those above it taken in, that cell is no longer left
 pub left-preserved : goal.left-preserved
 left-preserved c =
-    left_more c.args.table.now c.pattern.ensures.table.pattern c.args.run.now.cells.now c.args.mins.now c.left.mins c.take_beside.new.mins c.left.left c.first_of-a.result c.without-left.result c.left.invariant
+    left_more c.args.table.now c.pattern.ensures.table.pattern c.args.run.now.cells.now c.args.mins.now c.left.mins c.take_beside.new.mins
+    c.left.left c.first_of-a.result c.without-left.result c.left.invariant
     (record { was = c.first_of-a.ensures.here; bits = c.without-left.type_inv; here = c.without-left.ensures.here; others = c.without-left.ensures.others })
     c.take_beside.ensures
 
+-- when no cell is left, all moves of the last tile between free cells are taken in
 pub returns : goal.returns
-returns c = left_all c.args.table.now c.pattern.ensures.table.pattern c.args.run.now.cells.now c.args.mins.now c.left.mins c.left.left c.left.invariant c.left-test.false
+returns c = left_all c.args.table.now c.pattern.ensures.table.pattern c.args.run.now.cells.now c.args.mins.now c.left.mins c.left.left
+    c.left.invariant c.left-test.false

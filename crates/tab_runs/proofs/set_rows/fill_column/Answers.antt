@@ -7,6 +7,7 @@ use Rattle.tab_runs.proofs.SetRowLemmas.{column_set, column_skip}
 use Rattle.tab_runs.proofs.set_rows.fill_column.Goals as goal
 use Rattle.tab_runs.proofs.set_rows.fill_column.Goals.{in-Some, in_default}
 
+-- a cell of some region below the last tile's has a free cell counted, from which one is taken off
 pub overflow_sub-index : goal.overflow_sub-index
 overflow_sub-index c =
     let x = c.loop-x.x in
@@ -22,6 +23,7 @@ overflow_sub-index c =
           omega arith
     ]
 
+-- with one cell's row filled in or left alone, the column is filled for one cell more
 pub loop-x-preserved : goal.loop-x-preserved
 loop-x-preserved c =
     let x = c.loop-x.x in
@@ -37,8 +39,10 @@ loop-x-preserved c =
           ap₂ (λ a b. a * m + b) w.from-in-Some.ensures (w.from-in-Some-2.ensures ∙ ap (λ k. free - k) w.from.ensures) in
           let low = c.requires.within x (w.in-Some.j, w.in-Some.ensures.low, w.in-Some.ensures.here) in
           let inside : x * m + listed_of last free x < length c.loop-x.set_rows = (let s = c.requires.size in let k = c.loop-x.auto.set_rows in omega arith) in
-          subst (λ b. IsColumn m last free before regions (x + 1) c.args.set_rows.now b) (sym (w.set_rows-is ∙ ap (λ i. set c.loop-x.set_rows i (before + w.in-Some.j)) at))
-          (column_set m last free before regions x c.args.set_rows.now c.loop-x.set_rows c.requires.within c.loop-x.invariant inside w.in-Some.j w.in-Some.ensures.low w.in-Some.ensures.here)
+          subst (λ b. IsColumn m last free before regions (x + 1) c.args.set_rows.now b)
+          (sym (w.set_rows-is ∙ ap (λ i. set c.loop-x.set_rows i (before + w.in-Some.j)) at))
+          (column_set m last free before regions x c.args.set_rows.now c.loop-x.set_rows c.requires.within c.loop-x.invariant inside w.in-Some.j
+          w.in-Some.ensures.low w.in-Some.ensures.here)
       | in_default w ↦
           subst (λ b. IsColumn m last free before regions (x + 1) c.args.set_rows.now b) (sym w.set_rows-is)
           (column_skip m last free before regions x c.args.set_rows.now c.loop-x.set_rows c.requires.within c.loop-x.invariant (w.in_default.ensures {u = tt}))

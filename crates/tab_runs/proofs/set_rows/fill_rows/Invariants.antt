@@ -4,6 +4,7 @@ use Rattle.tab_runs.specs.SetRows.{AreKindsUpTo, AreRowsUpTo}
 use Rattle.tab_runs.proofs.HeldLemmas.{IsHeld, IsRunOfSet}
 use Rattle.tab_runs.proofs.set_rows.fill_rows.Given as goal
 
+-- the rows and kinds of the cells before this one are filled, and the next free cell's placement is held
 abbrev pub invariant-loop-last : goal.invariant-loop-last
 invariant-loop-last l = record {
   of_set : IsRunOfSet l.pattern l.cells l.set l.count l.width l.run l.first;

@@ -5,6 +5,7 @@ use Rattle.pdb_words.proofs.CommandLemmas.{mistaken}
 use Rattle.pdb_words.proofs.TextLemmas.{dashless}
 use Rattle.word_laws.proofs.laws.what_replay_asks.Goals as goal
 
+-- replay alone, or with one name, asks for the puzzle text, and takes no number of workers
 pub returns : goal.returns
 unfolding clap_on_literals
 returns c = record {

@@ -25,6 +25,7 @@ module _ (number name : List ℕ) (n : IsPlain number) (f : IsPlain name) where
   behind = asks_if workers number n (λ is. unless is []) (asked name)
       (comes (inr (inl refl)) (plain name f ∷ flag (codes "--workers") ∷ plain number n ∷ []) refl refl refl) refl refl
 
+-- table with a name asks for the check of this table, with the workers that are named
 pub returns : goal.returns
 unfolding clap_on_literals
 returns c = record {

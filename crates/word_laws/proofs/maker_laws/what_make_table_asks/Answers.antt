@@ -41,7 +41,8 @@ either_wrong words true is = some_wrong words [] is
 either_wrong words false is = some_wrong words (kind.ValueValidation ∷ []) is
 
 -- of a side, a mask and no name, what isn't taken first is the mistake
-nameless : (words : List Text) (side mask : Bool) → faults_of words ≡ masked mask (or_else (unless side []) (kind.MissingRequiredArgument ∷ [])) → IsMistaken words
+nameless : (words : List Text) (side mask : Bool) → faults_of words ≡ masked mask (or_else (unless side []) (kind.MissingRequiredArgument ∷ []))
+    → IsMistaken words
 nameless words true true e = mistaken words kind.MissingRequiredArgument [] e (λ e. cc) (λ e. cc)
 nameless words false true e = some_wrong words [] e
 nameless words side false e = some_wrong words _ e
@@ -66,15 +67,18 @@ module _ (words : PatternWords) where
   unfolding clap_on_literals
   alone = comes is_command whole refl refl refl
 
-  first : (number : Text) → IsPlain number → ComesTo (codes "--workers" ∷ number ∷ pattern_words words) (workers_first (workers.takes number) side mask) (workers.reads number)
+  first : (number : Text) → IsPlain number → ComesTo (codes "--workers" ∷ number ∷ pattern_words words)
+      (workers_first (workers.takes number) side mask) (workers.reads number)
   unfolding clap_on_literals
   first number n = comes is_command (flag (codes "--workers") ∷ plain number n ∷ whole) refl refl refl
 
-  last : (number : Text) → IsPlain number → ComesTo (pattern_words words ++ codes "--workers" ∷ number ∷ []) (workers_last (workers.takes number) side mask) (workers.reads number)
+  last : (number : Text) → IsPlain number → ComesTo (pattern_words words ++ codes "--workers" ∷ number ∷ [])
+      (workers_last (workers.takes number) side mask) (workers.reads number)
   unfolding clap_on_literals
   last number n = comes is_command (whole ++ flag (codes "--workers") ∷ plain number n ∷ []) refl refl refl
 
-  asked : (ws : List Text) {taken : Bool} {read workers : ℕ} (kinds : Bool → Bool → Bool → Kinds) → ComesTo ws (kinds taken side mask) read → kinds true true true ≡ []
+  asked : (ws : List Text) {taken : Bool} {read workers : ℕ} (kinds : Bool → Bool → Bool → Kinds) → ComesTo ws (kinds taken side mask) read
+      → kinds true true true ≡ []
       → WritesPattern words → taken ≡ true → read ≡ workers → AsksFor (codes "make-table" ∷ ws) (asks_for_table words workers)
   asked ws kinds come right writes taken read = (
     come.0 ∙ (λ i. kinds (taken i) ((sides.taken words.side words.plain_side ∙ writes.0) i) (writes.1 i)) ∙ right,
@@ -85,16 +89,22 @@ later_wrong : (side : Bool) → or_else (unless side []) (unless false []) ≡ k
 later_wrong true = refl
 later_wrong false = refl
 
+-- make-table with a side, a mask and a name asks for the table of this pattern under the name
 pub returns : goal.returns
 unfolding clap_on_literals
 returns c = record {
   numbers = λ words writes. asked words (pattern_words words) workers_last (alone words) refl writes refl refl;
-  other_side = λ words is. either_wrong _ (mask words) ((alone words).0 ∙ ap (λ (s : Bool). workers_last true s (mask words)) (sides.taken words.side words.plain_side ∙ is));
+  other_side = λ words is. either_wrong _ (mask words)
+      ((alone words).0 ∙ ap (λ (s : Bool). workers_last true s (mask words)) (sides.taken words.side words.plain_side ∙ is));
   other_mask = λ words is. some_wrong _ _ ((alone words).0 ∙ ap (workers_last true (side words)) is);
   no_name = λ side mask s m. nameless _ _ _ (comes is_command (plain side s ∷ plain mask m ∷ []) refl refl refl).0;
-  workers = λ words number n is writes. asked words (codes "--workers" ∷ number ∷ pattern_words words) workers_first (first words number n) refl writes (workers.taken number n ∙ is) (workers.read number n is);
-  other_workers = λ words number n is. either_wrong _ (mask words) ((first words number n).0 ∙ ap (λ (t : Bool). workers_first t (side words) (mask words)) (workers.taken number n ∙ is));
-  workers_last = λ words number n is writes. asked words (pattern_words words ++ codes "--workers" ∷ number ∷ []) workers_last (last words number n) refl writes (workers.taken number n ∙ is) (workers.read number n is);
-  other_workers_last = λ words number n is. either_wrong _ (mask words) ((last words number n).0 ∙ ap (λ (t : Bool). workers_last t (side words) (mask words)) (workers.taken number n ∙ is)
+  workers = λ words number n is writes. asked words (codes "--workers" ∷ number ∷ pattern_words words) workers_first
+      (first words number n) refl writes (workers.taken number n ∙ is) (workers.read number n is);
+  other_workers = λ words number n is. either_wrong _ (mask words)
+      ((first words number n).0 ∙ ap (λ (t : Bool). workers_first t (side words) (mask words)) (workers.taken number n ∙ is));
+  workers_last = λ words number n is writes. asked words (pattern_words words ++ codes "--workers" ∷ number ∷ []) workers_last
+      (last words number n) refl writes (workers.taken number n ∙ is) (workers.read number n is);
+  other_workers_last = λ words number n is. either_wrong _ (mask words)
+      ((last words number n).0 ∙ ap (λ (t : Bool). workers_last t (side words) (mask words)) (workers.taken number n ∙ is)
       ∙ ap (masked (mask words)) (later_wrong (side words)));
 }

@@ -1,6 +1,7 @@
 use Rattle.word_laws.proofs.LogLemmas.{both_asked, budget_first, budget_last, names_log, on_search}
 use Rattle.word_laws.proofs.maker_laws.what_solve_asks.Goals as goal
 
+-- solve with its names asks for a shortest solution, with the workers, the budget and the folding named
 pub returns : goal.returns
 returns c = record {
   workers = names_log on_search;

@@ -5,6 +5,7 @@ use Rattle.pdb_words.proofs.CommandLemmas.{mistaken_parse}
 use Rattle.word_laws.proofs.PartsLemmas.{answerless, bound_mistaken, count_mistaken, even_mistaken, parts_asked}
 use Rattle.word_laws.proofs.parts_laws.what_parts_asks.Goals as goal
 
+-- parts with a board, a bound, a count and answers asks for joining these, and takes no flag
 pub returns : goal.returns
 unfolding clap_on_literals
 returns c = record {

@@ -1,6 +1,7 @@
 use Rattle.word_laws.proofs.ProveLemmas.{both_asked, budget_first, budget_last, fold_asked, folded_twice, plain_asked, tableless, workers_first, workers_last}
 use Rattle.word_laws.proofs.prove_laws.what_prove_asks.Goals as goal
 
+-- prove with its names asks for an answer to each claim, with the workers, the budget and the folding named
 pub returns : goal.returns
 returns c = record {
   files = plain_asked;

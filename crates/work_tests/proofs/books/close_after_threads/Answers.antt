@@ -6,6 +6,7 @@ use Rattle.work_tests.proofs.books.close_after_threads.Goals as goal
 abbrev IsEndedOf : BookId → PassState → PassState → Type 0
 IsEndedOf b p q = (q.book ≡ b) × (q.number ≡ p.number) × (q.deeds.ended ≡ true)
 
+-- the passes that come back from the threads have ended and are those of the book
 pub close-requires : goal.close-requires
 close-requires g c =
     let passes = c.in_ok-book.passes.items in
@@ -18,6 +19,8 @@ close-requires g c =
           let was = dealt.each k given.job (slice_get_read passes (length passes) k given.job refl within given.job_read) in
           let is = get_or_from_slice_get c.in_ok-ended.ended.items k p p at in
           let met = given.call.met in
-          let told : (p.book ≡ c.in_ok-book.book) × (p.number ≡ given.job.number) × (p.deeds.ended ≡ true) = rw is at (let t : (IsEndedOf c.in_ok-book.book given.job (get_or c.in_ok-ended.ended.items k p)) = search rules in t) in
+          let told : (p.book ≡ c.in_ok-book.book) × (p.number ≡ given.job.number)
+          × (p.deeds.ended ≡ true) = rw is at (let t : (IsEndedOf c.in_ok-book.book given.job (get_or c.in_ok-ended.ended.items k p)) =
+          search rules in t) in
           (told.0, told.1 ∙ was.1, told.2);
     }

@@ -3,6 +3,7 @@ use Rattle.book_live.specs.StoredPasses.{deeds_of}
 use Rattle.book_live.proofs.CallerLemmas.{seat-alone}
 use Rattle.book_live.proofs.books.Book.claim.Goals as goal
 
+-- a pass that claims is alone in its seat, and hasn't ended
 pub claim_at-found-requires-clause-open : goal.claim_at-found-requires-clause-open
 claim_at-found-requires-clause-open c = (
   c.pass.inside.number,

@@ -2,6 +2,7 @@ use Rattle.std.proofs.Common.{◌∙◌, arith, sym, ap}
 use Rattle.book_live.proofs.StepMoves.{allows-claim}
 use Rattle.book_live.proofs.books.Book.claim_at.Goals as goal
 
+-- the seat of a pass that hasn't ended may add one to the first word as a claim
 pub fetch_add-requires : goal.fetch_add-requires
 fetch_add-requires c =
     let own = c.requires.open in

@@ -5,6 +5,7 @@ use Rattle.book_live.specs.Closing.{IsWhole}
 use Rattle.book_live.proofs.SeatMoves.{IsWhole-seen, slice_index-at}
 use Rattle.book_live.proofs.books.Book.finish.Goals as goal
 
+-- the second word at the end, when one seat has all passes, is that of the whole book
 pub returns : goal.returns
 returns c =
     let last = c.close_with-closed.ensures.values.2 in

@@ -2,6 +2,7 @@ use Rattle.std.proofs.Common.{◌∙◌, arith, sym, ap}
 use Rattle.book_live.proofs.SeatMoves.{joins-behind}
 use Rattle.book_live.proofs.books.Book.join.Goals as goal
 
+-- two seats of the book's table may be joined, the second one's passes behind those of the first
 pub join_seat-requires : goal.join_seat-requires
 join_seat-requires c =
     let table = sym (ap (λ b. b.table) c.self.view_is) in (

@@ -3,6 +3,7 @@ use Rattle.book_live.specs.Views.{view}
 use Rattle.book_live.specs.Callers.{numbered_passes}
 use Rattle.book_live.proofs.books.Book.join_all.Given as goal
 
+-- the seat has its own passes, and behind them those that were taken in so far
 abbrev pub invariant-loop-pass : goal.invariant-loop-pass
 invariant-loop-pass l = record {
   can_next : (goal.iterator-loop-pass).can_next l.pass-iterator;

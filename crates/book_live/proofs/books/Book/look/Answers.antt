@@ -3,6 +3,7 @@ use Rattle.book_live.specs.StoredPasses.{deeds_of}
 use Rattle.book_live.proofs.CallerLemmas.{seat-alone}
 use Rattle.book_live.proofs.books.Book.look.Goals as goal
 
+-- a pass that looks is alone in its seat
 pub look_at-found-requires-clause-alone : goal.look_at-found-requires-clause-alone
 look_at-found-requires-clause-alone c = (
   c.pass.inside.number,

@@ -2,6 +2,7 @@ use Rattle.std.proofs.Common.{◌∙◌, arith, sym, ap}
 use Rattle.book_live.proofs.StepMoves.{allows-look}
 use Rattle.book_live.proofs.books.Book.look_at.Goals as goal
 
+-- the seat of one pass may read the second word as a look
 pub load-requires : goal.load-requires
 load-requires c =
     let own = c.requires.alone in

@@ -9,6 +9,7 @@ use Rattle.book_live.proofs.books.Book.new.Goals as goal
 one-less : (w n : ℕ) → n < w → w - n ≡ suc (w - (n + 1))
 one-less w n lt = omega arith
 
+-- before the first pass gets its seat, the one seat has all passes, and the start is shown
 pub loop-number-init : goal.loop-number-init
 loop-number-init c =
     let book = c.in_ok-book.book in
@@ -26,6 +27,7 @@ loop-number-init c =
       shown = rw (c.in_ok-passes.ensures.items, c.in_ok-book.ensures.seat.1) (ShowsFirst-opened book limits);
     }
 
+-- the seat that was cut off has the pass of the next number alone, which hasn't ended
 pub invariant_of-push_reserved : goal.invariant_of-push_reserved
 invariant_of-push_reserved c =
     let i = c.loop-number.invariant in
@@ -33,6 +35,7 @@ invariant_of-push_reserved c =
     let own = first-seat _ _ _ n _ _ c.split.ensures.first.1 i.rest (one-less c.args.workers n c.loop-number-test.true) in
     subst (λ m. (m ≡ (alone m.0.sizes n (deeds_of m.0), [])) × ((deeds_of m.0).ended ≡ false)) (sym own) (refl, refl)
 
+-- with one pass more in a seat of its own, the first seat has those behind it, and the start is still shown
 pub loop-number-preserved : goal.loop-number-preserved
 loop-number-preserved c =
     let i = c.loop-number.invariant in

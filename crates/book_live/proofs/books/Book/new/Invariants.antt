@@ -4,6 +4,7 @@ use Rattle.book_live.specs.Views.{view}
 use Rattle.book_live.proofs.CallerLemmas.{AreFirstPasses, ShowsFirst}
 use Rattle.book_live.proofs.books.Book.new.Given as goal
 
+-- the passes so far are the book's first ones in seats of their own, and the first seat has all others
 abbrev pub invariant-loop-number : goal.invariant-loop-number
 invariant-loop-number l = record {
   room : l.workers ≤ vec_capacity l.passes;

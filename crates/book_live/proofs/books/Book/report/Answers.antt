@@ -3,6 +3,7 @@ use Rattle.book_live.specs.StoredPasses.{deeds_of}
 use Rattle.book_live.proofs.CallerLemmas.{seat-alone}
 use Rattle.book_live.proofs.books.Book.report.Goals as goal
 
+-- a pass that reports is alone in its seat
 pub report_at-requires-clause-alone : goal.report_at-requires-clause-alone
 report_at-requires-clause-alone c = (
   c.pass.inside.number,

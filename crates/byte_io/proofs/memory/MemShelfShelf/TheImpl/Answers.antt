@@ -2,6 +2,7 @@ use Rattle.std.proofs.Common.{ap, arith, option_map, refl, rules}
 use Rattle.std.proofs.lemmas.Result.{on_err_weaker}
 use Rattle.byte_io.proofs.memory.MemShelfShelf.TheImpl.Goals as goal
 
+-- a shelf in memory says of keeping a file what it does, and no other file changes
 pub keep-tells : goal.keep-tells
 keep-tells c = record {
   kept = c.ensures.kept;

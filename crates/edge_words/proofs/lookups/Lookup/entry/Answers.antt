@@ -8,16 +8,19 @@ use Rattle.edge_words.specs.Lookups.{SaysOfAll, but_last}
 use Rattle.edge_words.proofs.LookupLemmas.{own_low, row_place, row_place_low, slot_there}
 use Rattle.edge_words.proofs.lookups.Lookup.entry.Goals as goal
 
+-- the place of the last tile's cell is within the rows that are kept of the run's set
 pub bounds-rows-place : goal.bounds-rows-place
 bounds-rows-place c =
     let p = c.args.self.now in
     let pat = subst IsPattern c.self.view_is c.side-side.ensures.pattern in
     let run = c.requires.run in
     let are = subst (λ o. IfSome o (λ rows. AreRowsOf p.side (length p.tiles) c.args.run.now.set rows.now)) c.in-Some.is run.rows in
-    let low = row_place_low p pat (but_last p c.args.run.now.cells) run.run c.args.cell c.args.last c.requires.open c.args.run.now.set c.in-Some.rows.now run.set are in
+    let low = row_place_low p pat (but_last p c.args.run.now.cells) run.run c.args.cell c.args.last c.requires.open c.args.run.now.set
+    c.in-Some.rows.now run.set are in
     let place = c.requires.place in
     omega arith
 
+-- what a row says is counted from 1, so that 1 can be taken away
 pub overflow_sub-result : goal.overflow_sub-result
 overflow_sub-result c =
     let p = c.args.self.now in
@@ -30,6 +33,7 @@ overflow_sub-result c =
     row_place p pat cells run.run c.args.cell c.args.last c.requires.open c.args.run.now.set c.in-Some.rows.now run.set are in
     omega arith
 
+-- what a row says, less 1, is the place of one of the run's own entries
 pub bounds-run-from : goal.bounds-run-from
 bounds-run-from c =
     let p = c.args.self.now in
@@ -43,6 +47,7 @@ bounds-run-from c =
     let low = own_low p pat cells run.run c.args.run.now.own.now run.own c.args.last c.args.cell slot.0 c.requires.open.last slot.1 in
     omega arith
 
+-- the entry to which a row leads is what the table says of all boards with these cells and this blank
 pub returns-in-Some : goal.returns-in-Some
 returns-in-Some c =
     let p = c.args.self.now in

@@ -5,6 +5,7 @@ use Rattle.edge_words.specs.Spots.{IsAddedBy}
 use Rattle.edge_words.proofs.SpotLemmas.{power, stepped}
 use Rattle.edge_words.proofs.words.Words.index_step.Goals as goal
 
+-- what is added to an index by a tile's stride and the move is what the move does to it, modulo 2^32
 pub returns : goal.returns
 returns c b next moves =
     let p = c.args.self.now.pattern in

@@ -12,6 +12,7 @@ use Rattle.edge_words.proofs.EdgeLemmas.{exactly}
 use Rattle.edge_words.proofs.SpotLemmas.{index_low}
 use Rattle.edge_words.proofs.words.Words.tells.Goals as goal
 
+-- the index of a board's placement is below the number of words
 pub bit_at-requires-clause-index : goal.bit_at-requires-clause-index
 bit_at-requires-clause-index c =
     let p = c.args.self.now.pattern in
@@ -22,6 +23,7 @@ bit_at-requires-clause-index c =
     let is = c.requires.5 in
     omega arith
 
+-- the bit with a move's number says of the board with the index whether its least cost rises or falls by one
 pub returns : goal.returns
 returns c tile move b next d is at_index number least =
     let p = c.args.self.now.pattern in
@@ -30,5 +32,7 @@ returns c tile move b next d is at_index number least =
     let good : IsBoard b = subst (λ n. IsBoardOf n b) (sym side) is.board in
     let place = IsPlacement-of b good p c.bit_at.ensures.pattern side in
     let tells = c.bit_at.ensures.words.each (placement_of p.tiles b) place tile move is.is_index b next d is refl least in
-    let bit = c.bit_at.ensures.bit ∙ ap (has_bit (slice_index words c.args.index)) number ∙ ap (λ i. has_bit (slice_index words i) (bit_number tile move)) at_index in
-    subst (λ r. RisesOrFalls r p.tiles next d) (sym bit) (exactly (has_bit (slice_index words (index_in p (placement_of p.tiles b))) (bit_number tile move)) p.tiles next d tells)
+    let bit = c.bit_at.ensures.bit ∙ ap (has_bit (slice_index words c.args.index)) number
+    ∙ ap (λ i. has_bit (slice_index words i) (bit_number tile move)) at_index in
+    subst (λ r. RisesOrFalls r p.tiles next d) (sym bit)
+    (exactly (has_bit (slice_index words (index_in p (placement_of p.tiles b))) (bit_number tile move)) p.tiles next d tells)

@@ -6,12 +6,14 @@ use Rattle.log_file.specs.StoredLogs.{lemma_viewed}
 use Rattle.log_file.specs.declared.views.LemmaView.{LemmaView}
 use Rattle.log_file.proofs.views.LogView.board.Goals as goal
 
-IsBoardOf-at : (n : ℕ) (views : List LemmaView) (i : ℕ) (default : LemmaView) → i < length views → AllByRecursion (λ lemma. IsBoardOf n lemma.board) (map lemma_viewed views)
+IsBoardOf-at : (n : ℕ) (views : List LemmaView) (i : ℕ) (default : LemmaView) → i < length views
+    → AllByRecursion (λ lemma. IsBoardOf n lemma.board) (map lemma_viewed views)
     → IsBoardOf n (get_or views i default).board
 IsBoardOf-at n [] i default within all = absurd (omega arith)
 IsBoardOf-at n (view ∷ views) zero default within all = all.0
 IsBoardOf-at n (view ∷ views) (suc i) default within all = IsBoardOf-at n views i default (omega arith) all.1
 
+-- the board that is answered is a board of the log's side
 pub returns-clause-board : goal.returns-clause-board
 returns-clause-board c =
     let views = c.self.inside.lemmas.items in

@@ -8,12 +8,15 @@ use Rattle.pat_place.proofs.placements.Placement.in_cells.Goals as goal
 filled : (c : goal.After-result-1) → c.loop-i.stored ≡ c.args.cells.now ++ replicate (8 - length c.args.cells.now) 0
 filled c = filled_all c.args.cells.now c.loop-i.stored c.loop-i.i c.loop-i-test.false c.loop-i.auto.i-end c.loop-i.invariant
 
+-- the pattern and the cells that were filled in are the fields of a placement
 pub invariant_of-result : goal.invariant_of-result
 invariant_of-result c = IsStoredPlacement-filled c.args.pattern.now c.side-side.ensures.pattern c.args.cells.now c.requires c.loop-i.stored (filled c)
 
+-- the new placement shows the pattern and the cells that were given
 pub returns : goal.returns
 returns c = ap (placed c.args.pattern.now) (shown-filled c.args.pattern.now c.side-side.ensures.pattern c.args.cells.now c.requires c.loop-i.stored (filled c))
 
+-- the next cell is stored behind the first ones, and zeros are behind it
 pub loop-i-preserved : goal.loop-i-preserved
 loop-i-preserved c =
     let i = c.loop-i.i in

@@ -19,8 +19,10 @@ filled c =
     subst (λ ts. c.loop-i.cells ≡ cells_found ts found ++ replicate (8 - length (cells_found ts found)) 0) same
     (filled_all (cells_found tiles found) c.loop-i.cells c.loop-i.i (omega arith) (omega arith) c.loop-i.invariant)
 
+-- the pattern and the cells found for its tiles are the fields of a placement
 pub invariant_of-result : goal.invariant_of-result
 invariant_of-result c = IsStoredPlacement-filled c.args.pattern.now c.tiles-tiles.ensures.pattern (cells c) c.requires c.loop-i.cells (filled c)
 
+-- the new placement has each tile in the cell that was found for it
 pub returns : goal.returns
 returns c = ap (placed c.args.pattern.now) (shown-filled c.args.pattern.now c.tiles-tiles.ensures.pattern (cells c) c.requires c.loop-i.cells (filled c))

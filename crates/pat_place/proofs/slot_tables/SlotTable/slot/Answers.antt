@@ -4,9 +4,11 @@ use Rattle.pat_place.specs.Placements.{IsFree}
 use Rattle.pat_place.specs.Regions.{IsSlot}
 use Rattle.pat_place.proofs.slot_tables.SlotTable.slot.Goals as goal
 
+-- a free cell of the placement is a cell of the table's boards
 pub slot_in-requires : goal.slot_in-requires
 slot_in-requires c = subst (λ n. c.args.cell < n * n) c.requires.side c.requires.free.0
 
+-- the slot found by the set of the placement's cells is the cell's slot in the placement
 pub returns : goal.returns
 returns c =
     let p = c.args.placement.now in

@@ -7,6 +7,7 @@ use Rattle.pat_place.proofs.SlotLemmas.{slot_some}
 use Rattle.pat_place.proofs.SlotTableLemmas.{slot_room}
 use Rattle.pat_place.proofs.slot_tables.SlotTable.slot_in.Goals as goal
 
+-- the place of the slot for the set and the cell is within the list of slots
 pub bounds-slots-number : goal.bounds-slots-number
 bounds-slots-number c =
     let r = c.self.inside in
@@ -19,6 +20,7 @@ bounds-slots-number c =
     let same = ap length c.as_slice-slots.ensures.value in
     omega arith
 
+-- the slot that is answered is the cell's for any placement on the cells of the set
 pub returns : goal.returns
 returns c cells mask_is is_free =
     let r = c.self.inside in
@@ -33,4 +35,5 @@ returns c cells mask_is is_free =
     let mask : IsMaskOf (get_or r.masks.items number 0) (λ x. has cells x ≡ true) = subst (λ m. IsMaskOf m (λ x. has cells x ≡ true)) (sym kept) mask_is in
     let byte : get_or c.as_slice-slots.result.now (number * r.cells + c.from.result) 0 ≡ some.0 =
     ap₂ (λ xs k. get_or xs k 0) c.as_slice-slots.ensures.value at ∙ c.self.invariant.slots.each number cells low mask cell some.0 some.1 in
-    subst (λ k. IsSlot k cells cell (get_or c.as_slice-slots.result.now (number * r.cells + c.from.result) 0)) (sym side) (subst (IsSlot r.side cells cell) (sym byte) some.1)
+    subst (λ k. IsSlot k cells cell (get_or c.as_slice-slots.result.now (number * r.cells + c.from.result) 0)) (sym side)
+    (subst (IsSlot r.side cells cell) (sym byte) some.1)

@@ -12,9 +12,11 @@ is_blank c = c.blank-from.ensures.cell ∙ sym (ap blank c.next.view_is)
 inside : (c : goal.After-next-2-1) → c.in_ok-to.to < side_of (numbers_shown c.next.inside) * side_of (numbers_shown c.next.inside)
 inside c = subst (λ n. c.in_ok-to.to < n * n) (c.side.ensures.side ∙ sym (ap side_of c.next.view_is)) c.in_ok-to.ensures.within
 
+-- the fields after a move of the blank are those of a stored board
 pub invariant_of-next : goal.invariant_of-next
 invariant_of-next c = IsStored-moved c.next.inside c.next.invariant c.blank-from.result c.in_ok-to.to (is_blank c) (inside c)
 
+-- where the blank stays on the board, the board that is answered is the one after the move
 pub returns : goal.returns
 returns c =
     let now = c.args.self.now in

@@ -4,6 +4,7 @@ use Rattle.puz_board.specs.Stored.{numbers_shown}
 use Rattle.puz_board.proofs.BoardLemmas.{at-cell_of, cell_of-below, cells_least}
 use Rattle.puz_board.proofs.boards.Board.blank.Goals as goal
 
+-- the blank's cell that is answered is a cell of the board
 pub returns-clause-within : goal.returns-clause-within
 returns-clause-within c =
     let shown = numbers_shown c.self.inside in
@@ -15,6 +16,7 @@ returns-clause-within c =
     let inside : c.self.inside.blank < length shown = omega arith in
     subst (λ b. c.self.inside.blank < length b) c.self.view_is inside
 
+-- the blank's cell that is answered has the number 0 in it
 pub returns-clause-holds : goal.returns-clause-holds
 returns-clause-holds c =
     let shown = numbers_shown c.self.inside in

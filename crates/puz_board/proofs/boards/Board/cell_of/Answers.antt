@@ -11,6 +11,7 @@ inside c =
     let size = c.numbers.ensures.board.size in
     cell_of-below (side_of c.args.self.now) c.args.self.now c.numbers.ensures.board c.args.number (omega arith)
 
+-- the cell of a number is small enough for a byte
 pub overflow_cast-result : goal.overflow_cast-result
 overflow_cast-result c =
     let is = is_cell c in
@@ -18,6 +19,7 @@ overflow_cast-result c =
     let few = cells_most (side_of c.args.self.now) c.args.self.now c.numbers.ensures.board in
     omega arith
 
+-- the cell that is answered for a number is a cell of the board
 pub returns-clause-within : goal.returns-clause-within
 returns-clause-within c =
     let is = is_cell c in
@@ -25,6 +27,7 @@ returns-clause-within c =
     let size = c.numbers.ensures.board.size in
     omega arith
 
+-- the cell that is answered for a number has this number in it
 pub returns-clause-holds : goal.returns-clause-holds
 returns-clause-holds c =
     let size = c.numbers.ensures.board.size in

@@ -12,6 +12,7 @@ taken : (xs : List ℕ) (r : Result (List ℕ) BoardFault) → r ≡ board_of_nu
 taken xs (Ok b) e = let parts = taken-board_of_numbers xs b (sym e) in (parts.1, sym parts.0)
 taken xs (Err fault) e = λ good. let none : Err fault ≡ Ok xs = e ∙ board_of_numbers-board xs good in cc
 
+-- a board comes of numbers just where they are those of a board, and has these numbers
 pub returns : goal.returns
 returns c =
     let xs = c.args.numbers.now in

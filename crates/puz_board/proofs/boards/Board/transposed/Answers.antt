@@ -1,4 +1,5 @@
-use Rattle.std.proofs.Common.{◌≡◌, ◌+◌, ◌*◌, ◌<◌, ◌≤◌, ◌∙◌, ℕ, List, length, take, inl, inr, refl, sym, ap, subst, arith, slice_index, slice_set, get_or-set_same, get_or-set_other, length-set}
+use Rattle.std.proofs.Common.{◌≡◌, ◌+◌, ◌*◌, ◌<◌, ◌≤◌, ◌∙◌, ℕ, List, length, take, inl, inr, refl, sym, ap, subst, arith, slice_index, slice_set}
+use Rattle.std.proofs.Common.{get_or-set_same, get_or-set_other, length-set}
 use Rattle.std.proofs.lemmas.Bool.{cases_eq}
 use Rattle.std.proofs.lemmas.List.{ext_get_or, get_or-take, length-take}
 use Rattle.puz_board.specs.Boards.{IsBoard, IsBoardOf, at, side_of}
@@ -28,9 +29,11 @@ whole n b numbers good room k all each =
 side_is : (n k : ℕ) → n ≡ k → n * n ≡ k * k
 side_is n k e = ap (λ m. m * m) e
 
+-- before the first cell, there is room for 25 numbers and none must be transposed yet
 pub loop-cell-init : goal.loop-cell-init
 loop-cell-init c = (refl, λ k l. omega arith)
 
+-- setting the transposed number of one cell more leaves those of the cells before
 pub loop-cell-preserved : goal.loop-cell-preserved
 loop-cell-preserved c =
     let b = c.args.self.now in
@@ -40,7 +43,8 @@ loop-cell-preserved c =
     let low : c.loop-cell.cell < 25 = omega arith in
     let number : c.at-number.result ≡ at b (transposed_cell n c.loop-cell.cell) = c.at-number.ensures ∙ ap (at b) c.transposed_cell.ensures.value in (
       length-set _ _ _ ∙ c.loop-cell.invariant.0,
-      noted (λ x. transposed_cell n (at b (transposed_cell n x))) c.loop-cell.numbers c.loop-cell.invariant.0 c.loop-cell.cell c.from.result _ c.from.ensures low
+      noted (λ x. transposed_cell n (at b (transposed_cell n x))) c.loop-cell.numbers c.loop-cell.invariant.0 c.loop-cell.cell c.from.result _
+          c.from.ensures low
           (c.transposed_cell-in-loop-cell.ensures.value ∙ ap (transposed_cell n) number) c.loop-cell.invariant.1,
     )
 
@@ -49,6 +53,7 @@ module _ (b numbers : List ℕ) (n k : ℕ) (good : IsBoardOf (side_of b) b) (si
   front : take k numbers ≡ transposed b
   front = whole n b numbers (subst (λ m. IsBoardOf m b) (sym side) good) room k all done
 
+-- the numbers of all cells, transposed, are those of a board
 pub with_numbers-requires-clause-board : goal.with_numbers-requires-clause-board
 with_numbers-requires-clause-board c =
     let b = c.args.self.now in
@@ -57,7 +62,9 @@ with_numbers-requires-clause-board c =
     (c.from-2.ensures ∙ c.cells.ensures.value) (λ x low. c.loop-cell.invariant.1 x (omega arith)) in
     subst IsBoard (sym is) (subst (λ m. IsBoardOf m (transposed b)) (sym (side_of-board (side_of b) (transposed b) turned)) turned)
 
+-- the board made of the transposed numbers is the transposed board
 pub returns-clause-value : goal.returns-clause-value
 returns-clause-value c =
-    c.with_numbers.ensures ∙ front c.args.self.now c.loop-cell.numbers c.side-side.result c.from-2.result c.side-side.ensures.board c.side-side.ensures.side c.loop-cell.invariant.0
+    c.with_numbers.ensures ∙ front c.args.self.now c.loop-cell.numbers c.side-side.result c.from-2.result c.side-side.ensures.board
+    c.side-side.ensures.side c.loop-cell.invariant.0
     (c.from-2.ensures ∙ c.cells.ensures.value) (λ x low. c.loop-cell.invariant.1 x (omega arith))

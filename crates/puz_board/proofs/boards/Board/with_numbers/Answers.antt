@@ -4,6 +4,7 @@ use Rattle.puz_board.proofs.BoardLemmas.{cell_of-below, cells_least, cells_most}
 use Rattle.puz_board.proofs.StoredLemmas.{one_more_stored}
 use Rattle.puz_board.proofs.boards.Board.with_numbers.Goals as goal
 
+-- copying one number more makes the cells the numbers so far, with zeros behind them
 pub loop-i-preserved : goal.loop-i-preserved
 loop-i-preserved c =
     let size = c.requires.board.size in
@@ -13,6 +14,7 @@ loop-i-preserved c =
     ap (λ cells. set cells c.loop-i.i (get_or c.args.numbers.now c.loop-i.i 0)) c.loop-i.invariant ∙
     one_more_stored c.args.numbers.now c.loop-i.i 25 here room
 
+-- the place of the number 0 on a board is small enough for a byte
 pub overflow_cast-blank : goal.overflow_cast-blank
 overflow_cast-blank c =
     let side = side_of c.args.numbers.now in

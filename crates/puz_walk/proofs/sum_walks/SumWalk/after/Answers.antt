@@ -14,6 +14,7 @@ few_ways Down = omega arith
 few_ways Left = omega arith
 few_ways Right = omega arith
 
+-- the place of a cell and a move is one of the 100 ways that a walk over sums keeps
 pub bounds-self-inside-way_place : goal.bounds-self-inside-way_place
 bounds-self-inside-way_place c =
     let s = c.self.inside in
@@ -24,6 +25,7 @@ bounds-self-inside-way_place c =
     let place = c.way_place.ensures in
     omega arith
 
+-- the way that is kept for the blank's cell and a move is the cell to which the move leads
 pub returns : goal.returns
 returns c =
     let s = c.self.inside in

@@ -6,6 +6,7 @@ use Rattle.puz_walk.proofs.OwnerLemmas.{none_indexes, other_indexes, owner_index
 use Rattle.puz_walk.proofs.SeatLemmas.{indexes_kept}
 use Rattle.puz_walk.proofs.word_bundles.WordBundle.follow.Goals as goal
 
+-- after a move is followed, the indexes of the set are those of the next board
 pub returns-clause-indexes : goal.returns-clause-indexes
 returns-clause-indexes c b next from to step are =
     let v = c.args.self.now in
@@ -20,16 +21,19 @@ returns-clause-indexes c b next from to step are =
           let moves = owner_moves v bundle have.0 have.1 c.args.set c.requires.set c.args.mv b next c.args.tile from to step seat.owner is in
           let old = ap (slice_index indexes) (c.from-place.ensures ∙ owned.place) ∙ are is.number m is.member in
           let added = ap (slice_index seat.steps) c.way_of.ensures.number in
-          let new = ap (λ k. (k + slice_index seat.steps c.way_of.result) % 2 ^ 32) old ∙ ap (λ k. (index_on (pattern_at v m.table) (board_for m b) + k) % 2 ^ 32) added ∙
+          let new = ap (λ k. (k + slice_index seat.steps c.way_of.result) % 2 ^ 32) old
+          ∙ ap (λ k. (index_on (pattern_at v m.table) (board_for m b) + k) % 2 ^ 32) added ∙
           sym (owned.steps c.args.mv (board_for m b) (board_for m next) moves) in
           owner_indexes v bundle have.0 have.1 c.args.set c.requires.set c.args.mv b next c.args.tile from to step seat.owner is
           indexes c.from-place.result _ c.requires.room (c.from-place.ensures ∙ owned.place) new are
       | inr free ↦
           indexes_kept v c.args.set next indexes c.from-place.result _
-          (let none = ap (slice_index seat.steps) c.way_of.ensures.number ∙ free.vacant.steps c.args.mv in let low = c.fits-indexes c.from-place.result in omega arith)
+          (let none = ap (slice_index seat.steps) c.way_of.ensures.number ∙ free.vacant.steps c.args.mv in
+          let low = c.fits-indexes c.from-place.result in omega arith)
           (none_indexes v bundle have.0 have.1 c.args.set c.requires.set c.args.mv b next c.args.tile from to step free.none indexes are)
     ]
 
+-- where a move is followed in one set, the indexes of each other set stay
 pub returns-clause-others : goal.returns-clause-others
 returns-clause-others c other b low ne are =
     let v = c.args.self.now in
@@ -45,5 +49,6 @@ returns-clause-others c other b low ne are =
           indexes c.from-place.result _ (c.from-place.ensures ∙ owned.place) b are
       | inr free ↦
           indexes_kept v other b indexes c.from-place.result _
-          (let none = ap (slice_index seat.steps) c.way_of.ensures.number ∙ free.vacant.steps c.args.mv in let low = c.fits-indexes c.from-place.result in omega arith) are
+          (let none = ap (slice_index seat.steps) c.way_of.ensures.number ∙ free.vacant.steps c.args.mv in
+          let low = c.fits-indexes c.from-place.result in omega arith) are
     ]

@@ -9,6 +9,7 @@ use Rattle.puz_walk.specs.WordBundles.{HaveWords}
 use Rattle.puz_walk.proofs.OwnerLemmas.{member_there, none_shifts, owner_moves, owner_shifts, words_at}
 use Rattle.puz_walk.proofs.word_bundles.WordBundle.raises.Goals as goal
 
+-- where the seat's table has no words, no member of the set has the tile, and its sum stays
 pub returns-then-words-table : goal.returns-then-words-table
 returns-then-words-table c b next from to step kept =
     let v = c.args.self.now in
@@ -22,9 +23,11 @@ returns-then-words-table c b next from to step kept =
           let none = c.if-words-table.true in
           let table = c.from-table.ensures in
           absurd (omega arith)
-      | inr free ↦ none_shifts v bundle words have c.args.set c.requires.set c.args.mv b next c.args.tile from to step free.none _ (kept.each c.args.set c.requires.set).says
+      | inr free ↦ none_shifts v bundle words have c.args.set c.requires.set c.args.mv b next c.args.tile from to step free.none _
+          (kept.each c.args.set c.requires.set).says
     ]
 
+-- a word is asked with the index of the owner's placement before the move and the bit of its tile's move
 pub tells-requires : goal.tells-requires
 tells-requires c =
     let v = c.args.self.now in
@@ -37,14 +40,16 @@ tells-requires c =
       | inl owned ↦
           let m = seat.owner.member in
           let is = owned.owner in
-          let pat = words_at v bundle words have c.args.set c.requires.set is.number m is.member c.from-table.result c.index-words-table.result c.from-table.ensures c.index-words-table.is in
+          let pat = words_at v bundle words have c.args.set c.requires.set is.number m is.member c.from-table.result c.index-words-table.result
+          c.from-table.ensures c.index-words-table.is in
           let moves = owner_moves v bundle words have c.args.set c.requires.set c.args.mv step.0 step.1 c.args.tile step.2 step.3 step.4 seat.owner is in (
             seat.owner.tile,
             move_for m c.args.mv,
             board_for m step.0,
             board_for m step.1,
             subst (λ p. IsTileMove p seat.owner.tile (move_for m c.args.mv) (board_for m step.0) (board_for m step.1)) (sym pat) moves,
-            ap (slice_index c.args.spot.now.indexes) (c.from.ensures ∙ owned.place) ∙ (step.5.each c.args.set c.requires.set).are is.number m is.member ∙ ap (λ p. index_on p (board_for m step.0)) (sym pat),
+            ap (slice_index c.args.spot.now.indexes) (c.from.ensures ∙ owned.place)
+                ∙ (step.5.each c.args.set c.requires.set).are is.number m is.member ∙ ap (λ p. index_on p (board_for m step.0)) (sym pat),
             ap (slice_index seat.bits) c.way_of.ensures.number ∙ owned.bits c.args.mv,
           )
       | inr free ↦
@@ -56,6 +61,7 @@ tells-requires c =
           absurd (omega arith)
     ]
 
+-- whether a set's sum rises or falls by a move is what the owner's word tells
 pub returns : goal.returns
 returns c b next from to step kept =
     let v = c.args.self.now in
@@ -67,14 +73,17 @@ returns c b next from to step kept =
       | inl owned ↦
           let m = seat.owner.member in
           let is = owned.owner in
-          let pat = words_at v bundle words have c.args.set c.requires.set is.number m is.member c.from-table.result c.index-words-table.result c.from-table.ensures c.index-words-table.is in
+          let pat = words_at v bundle words have c.args.set c.requires.set is.number m is.member c.from-table.result c.index-words-table.result
+          c.from-table.ensures c.index-words-table.is in
           let moves = owner_moves v bundle words have c.args.set c.requires.set c.args.mv b next c.args.tile from to step seat.owner is in
           let there = subst (λ p. IsTileMove p seat.owner.tile (move_for m c.args.mv) (board_for m b) (board_for m next)) (sym pat) moves in
-          let index = ap (slice_index c.args.spot.now.indexes) (c.from.ensures ∙ owned.place) ∙ (kept.each c.args.set c.requires.set).are is.number m is.member ∙ ap (λ p. index_on p (board_for m b)) (sym pat) in
+          let index = ap (slice_index c.args.spot.now.indexes) (c.from.ensures ∙ owned.place)
+          ∙ (kept.each c.args.set c.requires.set).are is.number m is.member ∙ ap (λ p. index_on p (board_for m b)) (sym pat) in
           let bit = ap (slice_index seat.bits) c.way_of.ensures.number ∙ owned.bits c.args.mv in
           owner_shifts v bundle words have c.args.set c.requires.set c.args.mv b next c.args.tile from to step seat.owner is c.tells.result
           (λ d least. subst (λ p. RisesOrFalls c.tells.result p.tiles (board_for m next) d) pat
-          (c.tells.ensures seat.owner.tile (move_for m c.args.mv) (board_for m b) (board_for m next) d there index bit (subst (λ p. IsLeastCost p.tiles (board_for m b) d) (sym pat) least)))
+          (c.tells.ensures seat.owner.tile (move_for m c.args.mv) (board_for m b) (board_for m next) d there index bit
+          (subst (λ p. IsLeastCost p.tiles (board_for m b) d) (sym pat) least)))
           _ (kept.each c.args.set c.requires.set).says
       | inr free ↦
           let few = have.few in

@@ -9,12 +9,16 @@ members_are : goal.returns-clause-members
 members_are c =
     let v = c.self.inside in
     let low : c.args.set < length (bundle_shown v).sets = subst (λ w. c.args.set < length w.sets) (sym c.self.view_is) c.requires in
-    let is : c.index-deref-from.result ≡ get_or v.sets.items c.args.set c.index-deref-from.result = c.index-deref-from.is ∙ ap (λ s. get_or s c.from.result c.index-deref-from.result) c.deref.ensures.0 ∙ ap (λ k. get_or v.sets.items k c.index-deref-from.result) c.from.ensures in
+    let is : c.index-deref-from.result ≡ get_or v.sets.items c.args.set c.index-deref-from.result = c.index-deref-from.is
+    ∙ ap (λ s. get_or s c.from.result c.index-deref-from.result) c.deref.ensures.0
+    ∙ ap (λ k. get_or v.sets.items k c.index-deref-from.result) c.from.ensures in
     c.as_slice.ensures.value ∙ sym (stored_set v c.args.set low c.index-deref-from.result is) ∙ ap (λ w. get_or w.sets c.args.set []) c.self.view_is
 
+-- the members of a set that are answered are those that the bundle shows
 pub returns-clause-members : goal.returns-clause-members
 returns-clause-members = members_are
 
+-- each member that is answered has a table of the bundle
 pub returns-clause-there : goal.returns-clause-there
 returns-clause-there c =
     subst (AllByRecursion (λ m. m.table < length c.args.self.now.tables)) (sym (members_are c))

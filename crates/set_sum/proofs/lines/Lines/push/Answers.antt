@@ -9,6 +9,7 @@ use Rattle.set_sum.proofs.LinesReadLemmas.{changed_before, changed_first, read_m
 use Rattle.set_sum.proofs.lines.Lines.push.Goals as goal
 use Rattle.set_sum.proofs.lines.Lines.push.Goals.{in-Some+then-not-is_full, in-Some+else-not-is_full, in-None+then-is_none, in-None+else-is_none}
 
+-- a line more is counted, and kept where there is room or noted where a table is missing
 pub returns : goal.returns
 returns c tables lines members are is =
     let old = c.args.self.now in
@@ -19,19 +20,23 @@ returns c tables lines members are is =
           let full = eqb-false (length old.sets.items) most_sets (sym w.is_full.ensures.value ∙ w.if-not-is_full.true) in
           let fits : length old.sets.items ≤ most_sets = w.is_full.ensures.fits in
           subst (λ s. AreReadLines tables (lines ++ members ∷ []) (s.count + 1) s.missing (map (λ kept. kept.items) s.sets.items)) (sym w.self-is) (
-          read_there tables lines members old.count old.missing kept (map (λ kept. kept.items) w.push.new.self.items) are w.in-Some.set.items (subst (IsReadAsSet tables members) (ap (option_map (λ kept. kept.items)) w.in-Some.is) is)
+          read_there tables lines members old.count old.missing kept (map (λ kept. kept.items) w.push.new.self.items) are w.in-Some.set.items
+          (subst (IsReadAsSet tables members) (ap (option_map (λ kept. kept.items)) w.in-Some.is) is)
           (inl (omega arith, ap (map (λ kept. kept.items)) w.push.ensures.items ∙ map-append (λ kept. kept.items) old.sets.items (w.in-Some.set ∷ []))))
       | in-Some+else-not-is_full w ↦
           let full = eqb-true (length old.sets.items) most_sets (sym w.is_full.ensures.value ∙ w.if-not-is_full.false) in
           subst (λ s. AreReadLines tables (lines ++ members ∷ []) (s.count + 1) s.missing (map (λ kept. kept.items) s.sets.items)) (sym w.self-is) (
-          read_there tables lines members old.count old.missing kept kept are w.in-Some.set.items (subst (IsReadAsSet tables members) (ap (option_map (λ kept. kept.items)) w.in-Some.is) is)
+          read_there tables lines members old.count old.missing kept kept are w.in-Some.set.items
+          (subst (IsReadAsSet tables members) (ap (option_map (λ kept. kept.items)) w.in-Some.is) is)
           (inr (omega arith, refl)))
       | in-None+then-is_none w ↦
           subst (λ s. AreReadLines tables (lines ++ members ∷ []) (s.count + 1) s.missing (map (λ kept. kept.items) s.sets.items)) (sym w.self-is) (
-          read_missing tables lines members old.count old.missing (Some old.count) kept are (subst (IsReadAsSet tables members) (ap (option_map (λ kept. kept.items)) w.in-None.is) is)
+          read_missing tables lines members old.count old.missing (Some old.count) kept are
+          (subst (IsReadAsSet tables members) (ap (option_map (λ kept. kept.items)) w.in-None.is) is)
           (changed_first old.missing (Some old.count) old.count w.is_none.result w.is_none.ensures w.if-is_none.true refl))
       | in-None+else-is_none w ↦
           subst (λ s. AreReadLines tables (lines ++ members ∷ []) (s.count + 1) s.missing (map (λ kept. kept.items) s.sets.items)) (sym w.self-is) (
-          read_missing tables lines members old.count old.missing old.missing kept are (subst (IsReadAsSet tables members) (ap (option_map (λ kept. kept.items)) w.in-None.is) is)
+          read_missing tables lines members old.count old.missing old.missing kept are
+          (subst (IsReadAsSet tables members) (ap (option_map (λ kept. kept.items)) w.in-None.is) is)
           (changed_before old.missing old.missing old.count w.is_none.result w.is_none.ensures w.if-is_none.false refl))
     ]

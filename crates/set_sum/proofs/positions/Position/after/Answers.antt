@@ -5,13 +5,16 @@ use Rattle.set_sum.specs.StoredPositions.{numbers_shown}
 use Rattle.set_sum.proofs.SlideLemmas.{blank_below, blank_first}
 use Rattle.set_sum.proofs.positions.Position.after.Goals as goal
 
+-- the cell of the blank from which a move is asked is on the board
 pub cell_after-requires : goal.cell_after-requires
 cell_after-requires c =
     let p = c.self.inside in
     let n = p.bundle.now.side in
     subst (λ m. slice_index p.cells 0 < m * m) (sym c.side.ensures.side)
-    (subst (λ z. z < n * n) (sym (blank_first n (numbers_shown p) p.cells c.self.invariant.board c.self.invariant.cells)) (blank_below n (numbers_shown p) c.self.invariant.board))
+    (subst (λ z. z < n * n) (sym (blank_first n (numbers_shown p) p.cells c.self.invariant.board c.self.invariant.cells))
+    (blank_below n (numbers_shown p) c.self.invariant.board))
 
+-- the cell to which the move leads is that of the blank's step
 pub returns : goal.returns
 returns c =
     let p = c.self.inside in

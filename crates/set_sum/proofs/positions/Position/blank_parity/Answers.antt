@@ -6,13 +6,16 @@ use Rattle.set_sum.specs.StoredPositions.{numbers_shown}
 use Rattle.set_sum.proofs.SlideLemmas.{blank_below, blank_first}
 use Rattle.set_sum.proofs.positions.Position.blank_parity.Goals as goal
 
+-- the cell of the blank whose parity is asked is on the board
 pub parity_of-requires : goal.parity_of-requires
 parity_of-requires c =
     let s = c.self.inside in
     let n = s.bundle.now.side in
     subst (λ m. slice_index s.cells 0 < m * m) (sym c.side.ensures.side)
-    (subst (λ z. z < n * n) (sym (blank_first n (numbers_shown s) s.cells c.self.invariant.board c.self.invariant.cells)) (blank_below n (numbers_shown s) c.self.invariant.board))
+    (subst (λ z. z < n * n) (sym (blank_first n (numbers_shown s) s.cells c.self.invariant.board c.self.invariant.cells))
+    (blank_below n (numbers_shown s) c.self.invariant.board))
 
+-- the parity of the blank's stored cell is that of the board's blank
 pub returns-clause-parity : goal.returns-clause-parity
 unfolding blank_parity
 returns-clause-parity c =

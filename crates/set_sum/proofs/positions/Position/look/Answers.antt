@@ -26,15 +26,18 @@ cells c =
           (subst (λ xs. AreCellsOf xs (numbers_shown s)) (sym (ap (λ r. r.now) w.cells-is)) c.self.invariant.cells)
     ]
 
+-- the cells in which the table looks are those of the board that the member looks up
 pub look_in-requires : goal.look_in-requires
 look_in-requires c = let at = (goal.at.look_in-requires c).After-part in (board_for c.args.member (numbers_shown c.self.inside), turned at, cells at)
 
+-- what the table tells of these cells is what the member says of the board
 pub returns-clause-says : goal.returns-clause-says
 returns-clause-says c =
     let at = (goal.at.returns-clause-says c).After-part in
     let s = c.self.inside in
     let b = numbers_shown s in
-    let told : PartSays (part_shown c.part.result.now) (board_for c.args.member b) c.look_in.result = c.look_in.ensures.count (board_for c.args.member b) (turned at) (cells at) in
+    let told : PartSays (part_shown c.part.result.now) (board_for c.args.member b) c.look_in.result =
+    c.look_in.ensures.count (board_for c.args.member b) (turned at) (cells at) in
     let shown : part_shown c.part.result.now ≡ table_of s.bundle.now.tables c.args.member = c.part.ensures.part in
     subst (λ w. MemberSays w.bundle.tables c.args.member w.board c.look_in.result) c.self.view_is
     (subst (λ part. PartSays part (board_for c.args.member b) c.look_in.result) shown told)

@@ -11,6 +11,7 @@ use Rattle.set_sum.proofs.KnownLemmas.{cells_after}
 use Rattle.set_sum.proofs.SlideLemmas.{blank_below, blank_first, number_at, numbers_slid, transposed_after}
 use Rattle.set_sum.proofs.positions.Position.slide.Goals as goal
 
+-- the cell that the blank leaves is one of the 25 stored numbers
 pub bounds-self-inside-from-2 : goal.bounds-self-inside-from-2
 bounds-self-inside-from-2 c =
     let s = c.self.inside in
@@ -21,19 +22,23 @@ bounds-self-inside-from-2 c =
     let same = c.from-2.ensures in
     omega arith
 
+-- the cell that the blank leaves has a transposed cell on the board
 pub transposed-requires : goal.transposed-requires
 transposed-requires c =
     let s = c.self.inside in
     let n = s.bundle.now.side in
-    subst (λ z. z < n * n) (sym (blank_first n (numbers_shown s) s.cells c.self.invariant.board c.self.invariant.cells)) (blank_below n (numbers_shown s) c.self.invariant.board)
+    subst (λ z. z < n * n) (sym (blank_first n (numbers_shown s) s.cells c.self.invariant.board c.self.invariant.cells))
+    (blank_below n (numbers_shown s) c.self.invariant.board)
 
+-- the transposed cell of the tile is one of the 25 stored ones
 pub bounds-self-inside-from-5 : goal.bounds-self-inside-from-5
 bounds-self-inside-from-5 c =
     let s = c.self.inside in
     let n = s.bundle.now.side in
     let good = c.self.invariant.board in
     let near : Adjacent n (blank (numbers_shown s)) c.args.to = subst (λ w. Adjacent w.bundle.side (blank w.board) c.args.to) (sym c.self.view_is) c.requires in
-    let tile_is : slice_index s.numbers c.from.result ≡ at (numbers_shown s) c.args.to = ap (slice_index s.numbers) c.from.ensures ∙ number_at n c.args.to s.numbers near.0 in
+    let tile_is : slice_index s.numbers c.from.result ≡ at (numbers_shown s) c.args.to = ap (slice_index s.numbers) c.from.ensures
+    ∙ number_at n c.args.to s.numbers near.0 in
     let tile : slice_index s.numbers c.from.result < n * n = subst (λ t. t < n * n) (sym tile_is) (good.below c.args.to near.0) in
     let low = cell_below n good.low good.high (slice_index s.numbers c.from.result) tile in
     let most = cells_most n (numbers_shown s) good in
@@ -54,6 +59,7 @@ shown c =
     (c.from-2.ensures ∙ blank_first n (numbers_shown s) s.cells good c.self.invariant.cells)
     (ap (slice_index s.numbers) c.from.ensures ∙ number_at n c.args.to s.numbers near.0) c.from-3.ensures
 
+-- the fields of a position after a slide are those of a stored position
 pub invariant_of-self : goal.invariant_of-self
 invariant_of-self c =
     let s = c.self.inside in
@@ -72,13 +78,17 @@ invariant_of-self c =
       board = subst (IsBoardOf n) (sym (shown c)) (IsBoardOf-slid n b good to near.0);
       room = length-set _ _ _ ∙ length-set _ _ _ ∙ c.self.invariant.room;
       cells = subst (AreCellsOf cells) (sym (shown c))
-          (cells_after n b good to near s.cells c.from-4.result (slice_index s.cells 0) to c.self.invariant.room c.self.invariant.cells (c.from-4.ensures ∙ tile_is) first refl);
+          (cells_after n b good to near s.cells c.from-4.result (slice_index s.cells 0) to c.self.invariant.room c.self.invariant.cells
+          (c.from-4.ensures ∙ tile_is) first refl);
       room_transposed = length-set _ _ _ ∙ length-set _ _ _ ∙ c.self.invariant.room_transposed;
       transposed = subst (λ x. AreCellsOf also (transposed x)) (sym (shown c))
-          (transposed_after n b good to near s.transposed c.from-5.result c.transposed.result c.transposed-3.result c.self.invariant.room_transposed c.self.invariant.transposed
-          (c.from-5.ensures ∙ c.transposed-2.ensures ∙ ap (transposed_cell n) tile_is) (c.transposed.ensures ∙ ap (transposed_cell n) first) c.transposed-3.ensures);
+          (transposed_after n b good to near s.transposed c.from-5.result c.transposed.result c.transposed-3.result c.self.invariant.room_transposed
+          c.self.invariant.transposed
+          (c.from-5.ensures ∙ c.transposed-2.ensures ∙ ap (transposed_cell n) tile_is)
+          (c.transposed.ensures ∙ ap (transposed_cell n) first) c.transposed-3.ensures);
     }
 
+-- after a slide, the position has the board with the blank in the cell it went to
 pub returns-clause-board : goal.returns-clause-board
 returns-clause-board c =
     let s = c.self.inside in
@@ -93,9 +103,11 @@ tile_at c =
     let near : Adjacent n (blank (numbers_shown s)) c.args.to = subst (λ w. Adjacent w.bundle.side (blank w.board) c.args.to) (sym c.self.view_is) c.requires in
     ap (slice_index s.numbers) c.from.ensures ∙ number_at n c.args.to s.numbers near.0
 
+-- the tile that is answered is the number of the cell to which the blank went
 pub returns-clause-tile : goal.returns-clause-tile
 returns-clause-tile c = tile_at c ∙ ap (λ w. at w.board c.args.to) c.self.view_is
 
+-- the tile that is answered is a number of the board
 pub returns-clause-below : goal.returns-clause-below
 returns-clause-below c =
     let s = c.self.inside in

@@ -13,19 +13,28 @@ none_so : {X : Type 0} (P : Type 0) → P → (o : Option X) → IfNone o P
 none_so P h None = h
 none_so P h (Some x) = tt
 
+-- where a move would leave the board, there is no step and nothing has changed
 pub returns-in_err-to-clause-none : goal.returns-in_err-to-clause-none
 returns-in_err-to-clause-none c =
     let p = c.self.inside.position in
-    none_so _ (ap (λ w. moved w.board c.args.mv) (sym c.self.view_is) ∙ moved_by p.bundle.side p.board c.blank-from.ensures.board c.args.mv None (sym c.in_err-to.ensures), refl) c.from_residual.result
+    none_so _ (
+      ap (λ w. moved w.board c.args.mv) (sym c.self.view_is)
+          ∙ moved_by p.bundle.side p.board c.blank-from.ensures.board c.args.mv None (sym c.in_err-to.ensures),
+      refl,
+    ) c.from_residual.result
 
+-- the cell to which the move leads is adjacent to the blank's
 pub slide-tile-requires : goal.slide-tile-requires
 slide-tile-requires c =
     let p = c.self.inside.position in
     step_adjacent p.bundle.side p.board c.blank-from.ensures.board c.args.mv c.in_ok-to.to (sym c.in_ok-to.ensures)
 
+-- the tile that a step moves is one of the board, so its owners may be asked
 pub owners-requires : goal.owners-requires
-owners-requires c = subst (λ v. c.slide-tile.result < v.side * v.side) (sym (c.bundle.ensures ∙ ap (λ w. w.bundle) c.slide-tile.ensures.board)) c.slide-tile.ensures.below
+owners-requires c = subst (λ v. c.slide-tile.result < v.side * v.side)
+    (sym (c.bundle.ensures ∙ ap (λ w. w.bundle) c.slide-tile.ensures.board)) c.slide-tile.ensures.below
 
+-- what is still known after a step holds of the board after it
 pub invariant_of-self : goal.invariant_of-self
 invariant_of-self c =
     let s = c.self.inside in
@@ -34,11 +43,14 @@ invariant_of-self c =
     let good = c.blank-from.ensures.board in
     let near = step_adjacent v.side p.board good c.args.mv c.in_ok-to.to (sym c.in_ok-to.ensures) in
     let own : AreOwners v.side v.tables c.slide-tile.result c.owners.result =
-    subst (λ u. AreOwners u.side u.tables c.slide-tile.result c.owners.result) (c.bundle.ensures ∙ ap (λ w. w.bundle) c.slide-tile.ensures.board) c.owners.ensures in
+    subst (λ u. AreOwners u.side u.tables c.slide-tile.result c.owners.result)
+    (c.bundle.ensures ∙ ap (λ w. w.bundle) c.slide-tile.ensures.board) c.owners.ensures in
     let left : Known = record { places = bit_and s.known.places (2 ^ 32 - 1 - c.owners.result); entries = s.known.entries } in
     subst (λ w. IsKnownOf w.bundle w.board left) (sym c.slide-tile.ensures.board)
-    (known_after v p.board good c.in_ok-to.to near c.owners.result (subst (λ t. AreOwners v.side v.tables t c.owners.result) c.slide-tile.ensures.tile own) c.owners.type_inv s.known c.self.invariant)
+    (known_after v p.board good c.in_ok-to.to near c.owners.result
+    (subst (λ t. AreOwners v.side v.tables t c.owners.result) c.slide-tile.ensures.tile own) c.owners.type_inv s.known c.self.invariant)
 
+-- the step that is answered leads from the board to the one after the move
 pub returns-clause-some : goal.returns-clause-some
 returns-clause-some c =
     let s = c.self.inside in
@@ -47,7 +59,8 @@ returns-clause-some c =
     let to = c.in_ok-to.to in
     let good = c.blank-from.ensures.board in
     let leads = sym c.in_ok-to.ensures in (
-      ap (λ w. moved w.board c.args.mv) (sym c.self.view_is) ∙ moved_by v.side p.board good c.args.mv (Some to) leads ∙ ap (λ w. Some w.board) (sym c.slide-tile.ensures.board),
+      ap (λ w. moved w.board c.args.mv) (sym c.self.view_is) ∙ moved_by v.side p.board good c.args.mv (Some to) leads
+          ∙ ap (λ w. Some w.board) (sym c.slide-tile.ensures.board),
       ap (λ w. w.bundle) c.slide-tile.ensures.board ∙ ap (λ w. w.bundle) c.self.view_is,
       record {
         board = subst (λ w. IsBoardOf w.bundle.side w.board) c.self.view_is good;

@@ -8,6 +8,7 @@ use Rattle.set_sum.proofs.ListLemmas.{no_member}
 use Rattle.set_sum.proofs.SumLemmas.{AddUpTo-push}
 use Rattle.set_sum.proofs.sums.Sums.sum.Goals as goal
 
+-- adding the number of the next member leaves the sum of the members so far
 pub loop-member-preserved : goal.loop-member-preserved
 loop-member-preserved c =
     let now = c.args.self.now in
@@ -18,7 +19,8 @@ loop-member-preserved c =
     let so_far = c.loop-member.invariant.few in
     let told = subst (λ w. MemberSays w.bundle.tables m w.board (Finite c.in-Finite.count)) c.loop-member.invariant.same c.in-Finite.ensures.says in
     record {
-      adds = subst (λ ms. AddUpTo now.bundle.tables ms now.board (c.loop-member.total + c.in-Finite.count)) (sym (take_more set i no_member c.loop-member-test.true)) (
+      adds = subst (λ ms. AddUpTo now.bundle.tables ms now.board (c.loop-member.total + c.in-Finite.count))
+          (sym (take_more set i no_member c.loop-member-test.true)) (
           AddUpTo-push now.bundle.tables (take i set) m now.board c.loop-member.total c.in-Finite.count c.loop-member.invariant.adds told);
       few = omega arith;
       same = c.said.ensures.same ∙ c.loop-member.invariant.same;

@@ -18,6 +18,7 @@ use Rattle.tab_rule.proofs.folded.FoldedTable.look_in.Goals as goal
 own : (p : ShownPattern) (b : List ℕ) → IsBoardOf p.side b → IsBoard b
 own p b board = subst (λ n. IsBoardOf n b) (sym (side_of-board p.side b board)) board
 
+-- the cells that were found for a folded table's tiles are a placement of its pattern
 pub standing_of-standing-requires : goal.standing_of-standing-requires
 standing_of-standing-requires c =
     let p = c.args.self.now in
@@ -45,6 +46,7 @@ says_of c b board found =
     let held = ap (λ entries. slice_index entries rank) (sym c.as_slice.ensures.value) in
     subst (SaysOfPlacement p (placement_of p.tiles b)) held says
 
+-- the entry that is read tells of each board with these cells what the folded table tells
 pub returns-clause-count : goal.returns-clause-count
 returns-clause-count c b board found =
     let p = c.args.self.now in
@@ -64,6 +66,7 @@ few p cells e says d is = elim says [
       absurd (let none : Never ≡ Finite d = sym never ∙ is in cc)
 ]
 
+-- a count that is read from a folded table is at most 253
 pub returns-clause-few : goal.returns-clause-few
 returns-clause-few c d is =
     let p = c.args.self.now in

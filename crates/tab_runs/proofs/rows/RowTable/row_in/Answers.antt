@@ -3,6 +3,7 @@ use Rattle.tab_runs.specs.Rows.{row_length}
 use Rattle.tab_runs.proofs.TableRowLemmas.{part_end}
 use Rattle.tab_runs.proofs.rows.RowTable.row_in.Goals as goal
 
+-- the row of a cell of the board ends within the rows of all cells
 pub slice_bounds-result-end : goal.slice_bounds-result-end
 slice_bounds-result-end c =
     let n = c.args.self.now.side in

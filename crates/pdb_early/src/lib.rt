@@ -1,0 +1,12 @@
+//! What the starts of files tell of a run before it begins: refusals that are sure to stand.
+#![tactic(auto)]
+
+mod fronts;
+mod headers;
+mod logs;
+mod looks;
+mod sets;
+mod texts;
+mod tiles;
+
+pub use looks::{Look, line_ahead, takes_long};

@@ -1,0 +1,165 @@
+//! Looks at the files of a run before it begins.
+
+use crate::fronts::Front;
+use crate::headers::patterns_of;
+use crate::logs::{differ, log_fault};
+use crate::sets::sets_fault;
+use crate::texts::{board_of, of_another_side};
+use claim_text::read_claims;
+use log_check::LogRefusal;
+use pdb_request::{Claim, LogCheck, Prove, Request, Search};
+use pdb_run::Lines;
+use pdb_verdict::{Fault, line_of};
+use puz_board::{Board, Side};
+use puz_make::is_solvable;
+use std::alloc::Global;
+use std::fs;
+use std::rt::Files;
+use std::sync::Wait;
+use std::thread::Threads;
+use tab_rule::TableRefusal;
+
+/// What is needed to look at files.
+#[derive(Drop)]
+pub struct Look<'a, H, R> {
+    pub rt: &'a H,
+    pub alloc: Global,
+    pub files: &'a R,
+}
+
+impl<H, R: Files> Look<'_, H, R> {
+    /// The start of a file.
+    fn front(&self, name: &str) -> Option<Front> {
+        Front::of(self.alloc, self.files, name)
+    }
+
+    /// The board of the text of which something is claimed, where all of the text is seen. `None` where the text is refused.
+    fn board(&self, claim: Claim, name: &str) -> Option<Option<Board>> {
+        let front = self.front(name);
+        match front.as_ref().and_then(|front| front.whole()) {
+            Some(text) => Some(Some(board_of(claim, text)?)),
+            None => Some(None),
+        }
+    }
+}
+
+/// Tables of fewer bytes together are checked before anyone has waited for it.
+const MANY_BYTES: u64 = 1 << 22;
+
+/// Whether the check of the tables may take a while, by the sizes of their files. Of what is no plain file no size is known, so it may.
+pub fn takes_long<R: Files>(files: &R, asked: &Request<'_>) -> bool {
+    let mut bytes = 0_u64;
+    for name in tables_of(asked) {
+        let size = match fs::metadata(files, *name) {
+            Ok(data) if data.is_file() => data.len(),
+            Ok(_) => MANY_BYTES,
+            Err(_) => 0,
+        };
+        bytes = bytes.saturating_add(size);
+    }
+    bytes >= MANY_BYTES
+}
+
+/// The tables that a run checks before all else that it reads but texts.
+fn tables_of<'a, 'x>(asked: &'x Request<'a>) -> &'x [&'a str] {
+    match asked {
+        Request::LogCheck(check) => check.tables.as_slice(),
+        Request::Search(search) => search.tables.as_slice(),
+        Request::Prove(prove) => prove.tables.as_slice(),
+        _ => &[],
+    }
+}
+
+/// The line of the first refusal that the starts of the files tell already, where there is one: the run that does what was asked can't
+/// end in a yes, as long as its files stay. It may still be refused for another cause, which comes first and takes a check to find.
+///
+/// Files are looked at where they are plain ones, and not read beyond 4096 bytes. Nothing is said where the text of the board or of the
+/// claims is refused, which the run tells before it checks a table.
+pub fn line_ahead<H: Threads + Wait, R: Files>(
+    look: &Look<'_, H, R>,
+    asked: &Request<'_>,
+) -> Option<Lines> {
+    let fault = match asked {
+        Request::LogCheck(check) => log_check_fault(look, check),
+        Request::Search(search) => search_fault(look, search),
+        Request::Prove(prove) => prove_fault(look, prove),
+        _ => None,
+    };
+    Some(line_of(&Err(fault?)))
+}
+
+/// Of `bound` and `optimal`.
+fn log_check_fault<H: Threads + Wait, R: Files>(
+    look: &Look<'_, H, R>,
+    check: &LogCheck<&str>,
+) -> Option<Fault> {
+    let board = look.board(check.claim, check.text)?;
+    match side_of(look, check.sets, check.tables.as_slice()) {
+        Ok(side) => {
+            let log = look.front(check.log);
+            let fault = log_fault(look.alloc, log.as_ref(), board.as_ref(), side)?;
+            Some(Fault::Log(fault))
+        }
+        Err(fault) => Some(fault),
+    }
+}
+
+/// Of `solve`.
+fn search_fault<H: Threads + Wait, R: Files>(
+    look: &Look<'_, H, R>,
+    search: &Search<'_, &str>,
+) -> Option<Fault> {
+    let board = look.board(Claim::Bound, search.board)?;
+    match side_of(look, search.sets, search.tables.as_slice()) {
+        Ok(side) => {
+            let board = board?;
+            if differ(Some(board.side()), side) {
+                Some(Fault::Log(LogRefusal::L4))
+            } else if is_solvable(&board) {
+                None
+            } else {
+                Some(Fault::K2)
+            }
+        }
+        Err(fault) => Some(fault),
+    }
+}
+
+/// Of `prove`.
+fn prove_fault<H: Threads + Wait, R: Files>(
+    look: &Look<'_, H, R>,
+    prove: &Prove<'_>,
+) -> Option<Fault> {
+    let front = prove.claims.and_then(|name| look.front(name));
+    let claims = match front.as_ref().and_then(|front| front.whole_lines()) {
+        Some(lines) => Some(read_claims(look.alloc, lines).ok()?),
+        None => None,
+    };
+    match side_of(look, prove.sets, prove.tables.as_slice()) {
+        Ok(side) => {
+            let claims = claims?;
+            let number = of_another_side(claims.as_slice(), side?)?;
+            Some(Fault::Q2(number))
+        }
+        Err(fault) => Some(fault),
+    }
+}
+
+/// The side of tables, where it is seen. Or why the tables, or these and a set text, are refused.
+fn side_of<H: Threads + Wait, R: Files>(
+    look: &Look<'_, H, R>,
+    sets: &str,
+    tables: &[&str],
+) -> Result<Option<Side>, Fault> {
+    let patterns = match patterns_of(look.alloc, look.files, tables) {
+        Ok(patterns) => patterns,
+        Err((number, fault)) => return Err(Fault::TableOf(number, TableRefusal::Head(fault))),
+    };
+    let patterns = patterns.as_ref().map(|patterns| patterns.as_slice());
+    let front = look.front(sets);
+    let text = front.as_ref().and_then(|front| front.whole());
+    match sets_fault(look, text, tables.len(), patterns) {
+        Some(fault) => Err(Fault::Sets(fault)),
+        None => Ok(patterns.and_then(|patterns| Some(patterns.first()?.side()))),
+    }
+}

@@ -1,0 +1,86 @@
+# Checks of the program's runs: what it writes, where it writes it, and its status. To be sourced by a script of bash whose only word,
+# if it has one, is the program to run; without it, that is the launcher, which builds what is not built. The script has `root`, the
+# folder of the repository, and then `passed` and `failed`; its folder is an empty one of its own, `files` in the folder `work`.
+#
+# The status is 2 where there is no program to run.
+
+if [ "$#" -gt 1 ]; then
+    echo "usage: $0 [PROGRAM]" >&2
+    exit 2
+fi
+program=$(readlink -f "${1-$root/pdb_cli}")
+if ! "$program" --help >/dev/null; then
+    echo "there is no program to run: $program --help fails" >&2
+    exit 2
+fi
+# The program itself, where bash's own need of memory is not to count.
+bare=${1+$program}
+bare=${bare:-$root/out/pdb_cli}
+
+work=$(mktemp -d) || exit 2
+trap 'rm -r "$work"' EXIT
+mkdir "$work/files"
+cd "$work/files" || exit 2
+passed=0
+failed=0
+input=/dev/null
+# How many lines a run of `parts` skips, as `1 of 5`, where it skips any.
+skipped=
+
+# Runs the program with these words, and keeps what it writes and its status.
+run() {
+    status=0
+    "$program" "$@" <"$input" >"$work/output" 2>"$work/errors" || status=$?
+}
+
+# Counts a check, whose name is $1, by the status of the words behind it.
+check() {
+    local name=$1
+    shift
+    if "$@"; then
+        passed=$((passed + 1))
+        return
+    fi
+    failed=$((failed + 1))
+    printf 'FAILED: %s: status %s; standard output: %s; standard error: %s\n' \
+        "$name" "$status" "$(head -c 400 "$work/output" | tr '\n' '|')" "$(head -c 400 "$work/errors" | tr '\n' '|')"
+}
+
+# Whether standard error has nothing, or, where the answer was no yes, one sentence that says why; and before that, of an answer for
+# which lines are skipped, the line that says how many.
+told_at_most_why() {
+    local besides=$work/errors
+    if [ -n "$skipped" ] && [ "$status" -lt 2 ]; then
+        [ "$(head -n 1 "$work/errors")" = "pdb_cli: lines that tell of no part of this bound, and were skipped: $skipped" ] || return
+        besides=$work/besides
+        tail -n +2 "$work/errors" >"$besides"
+    fi
+    [ ! -s "$besides" ] || { [ "$status" != 0 ] && [ "$(sed 's/^pdb_cli: .*/sentence/' "$besides")" = sentence ]; }
+}
+
+# Whether the run ended with status $1, wrote exactly the lines behind it, and to standard error at most why.
+wrote() {
+    local wanted=$1
+    shift
+    [ "$status" = "$wanted" ] && told_at_most_why && printf '%s\n' "$@" | cmp -s - "$work/output"
+}
+
+# A run with the words behind `:` must write these lines with this status: expect NAME STATUS LINE.. : WORD..
+expect() {
+    local name=$1 wanted=$2 lines=()
+    shift 2
+    while [ "$1" != : ]; do
+        lines+=("$1")
+        shift
+    done
+    shift
+    run "$@"
+    check "$name" wrote "$wanted" "${lines[@]}"
+}
+
+# A table file must be answered by its digest and this line: table NAME STATUS LINE WORD..
+table() {
+    local digest
+    digest=$(sha256sum <"$1")
+    expect "table $1 ${*:4}" "$2" "sha256 ${digest%% *}" "$3" : table "$1" "${@:4}"
+}

@@ -1,0 +1,118 @@
+#!/usr/bin/env python3
+"""Prints docs/RESULTS.md: the boards of the literature whose shortest solutions are proved, by the answers kept in docs/results.
+
+    tools/claims/make_results.py >docs/RESULTS.md
+
+NAME.claims has boards and moves, as `prove` reads them, and NAME.answers is what it wrote. NAME.csv has a line for each claim: its
+number in the literature, the moves that it is said to have there, and how many boards the last search expanded, which found no shorter
+solution, or nothing where that were fewer than 65,536. The files must agree, and the moves must solve the boards.
+"""
+
+import csv
+import pathlib
+import re
+import sys
+
+sys.path.insert(0, str(pathlib.Path(__file__).resolve().parents[1] / "plain"))
+
+from plain_answers import goal, moved, side_of
+
+ROOT = pathlib.Path(__file__).resolve().parents[2]
+INTRODUCTION = """\
+# Boards of the literature
+
+Each board here has a solution of so many moves, and none of fewer. `prove` says so, and that it says so only where it is true is [proved](../README.md#what-is-proved). You need not believe who made the tables or these files: the run that answers checks the tables too, and you can run it yourself. [BELIEVE](BELIEVE.md) says what is left to believe.
+
+The boards, and the lengths that the papers are said to give, were written down without the papers at hand. That `prove` finds just these lengths speaks for them; compare a board with its paper before you cite it as the paper's.
+
+The blank is first in the goal board. To look at a solution, move by move:
+
+```
+tools/claims/show_solution.py docs/results/korf_1985.answers --svg solutions.svg
+```
+"""
+KORF = """\
+## The 15-puzzle: Korf's hundred boards
+
+Korf (1985) published them with his search by iterative deepening, the first that found their shortest solutions. They have {least} to {most} moves. The files: [boards and moves](results/korf_1985.claims), and [answers](results/korf_1985.answers). This makes the tables and compares all hundred answers, in less than 20 seconds:
+
+```
+for mask in 9826 55680 28; do ./pdb_cli make-table 4 $mask t$mask; done
+printf 'set 0 1 2\\nset 0t 1t 2t\\n' >sets
+./pdb_cli prove docs/results/korf_1985.claims sets t9826 t55680 t28 --workers 4 | diff - docs/results/korf_1985.answers
+```
+
+The number of boards is that of the last search, which finds no shorter solution.
+"""
+KORF_AND_FELNER = """\
+## The 24-puzzle: {count} boards of Korf and Felner
+
+These are {count} of the fifty random boards of Korf and Felner (2002): those of which `prove` found a shortest solution within 1.5 billion boards. Their solutions have {least} to {most} moves. The files: [boards and moves](results/korf_felner_2002.claims), and [answers](results/korf_felner_2002.answers). The tables have 3.6 GB, and the run takes 7.6 GB:
+
+```
+for mask in 4326 25368 3247104 30277632; do ./pdb_cli make-table 5 $mask t$mask --workers 4; done
+printf 'set 0 1 2 3\\nset 0t 1t 2t 3t\\n' >sets
+./pdb_cli prove docs/results/korf_felner_2002.claims sets t4326 t25368 t3247104 t30277632 --workers 4 |
+    diff - docs/results/korf_felner_2002.answers
+```
+
+The last searches expand {boards} boards in all. Four idle processors expand 42 to 50 million a second ([SPEED](SPEED.md)).
+"""
+# A search of fewer boards tells nothing while it runs.
+FEW = 65_536
+
+
+def is_solved(board, letters):
+    """Whether the moves stay on the board and lead home."""
+    for letter in letters:
+        board = board and moved(board, letter)
+    return board == goal(side_of(board))
+
+
+def rows(name):
+    """The number, the moves and the boards of each claim, by three files that agree."""
+    folder = ROOT / "docs" / "results"
+    claims = (folder / f"{name}.claims").read_text().splitlines()
+    answers = [it for it in (folder / f"{name}.answers").read_text().splitlines() if not it.startswith("sha256 ")]
+    with (folder / f"{name}.csv").open() as file:
+        counts = list(csv.DictReader(file))
+    if not len(claims) == len(answers) == len(counts):
+        sys.exit(f"{name}: {len(claims)} claims, {len(answers)} answers, {len(counts)} counts")
+    for claim, answer, count in zip(claims, answers, counts):
+        board, _, letters = claim.partition(" ; ")
+        if answer != f"optimal {count['moves']} of {claim}" or len(letters) != int(count["moves"]):
+            sys.exit(f"{name}: this is no answer to {claim}: {answer}")
+        if not is_solved(tuple(map(int, board.split())), letters):
+            sys.exit(f"{name}: the moves don't solve {claim}")
+        boards = int(count["boards"] or 0)
+        yield count["number"], int(count["moves"]), f"{boards:,}" if boards else f"under {FEW:,}"
+
+
+def table(shown, across):
+    """A table of so many claims side by side, in columns from top to bottom."""
+    height = -(-len(shown) // across)
+    yield "| " + " | ".join(["no.", "moves", "boards"] * across) + " |"
+    yield "|" + "---|" * 3 * across
+    for row in range(height):
+        cells = []
+        for number, moves, boards in shown[row::height]:
+            cells += [number, str(moves), boards]
+        yield "| " + " | ".join(cells + [""] * (3 * across - len(cells))) + " |"
+
+
+def section(name, text, across):
+    shown = list(rows(name))
+    moves = [it for _, it, _ in shown]
+    boards = sum(int(it.replace(",", "")) for _, _, it in shown if it[0] != "u")
+    print()
+    print(text.format(count=len(shown), least=min(moves), most=max(moves), boards=f"{boards:,}"))
+    print("\n".join(table(shown, across)))
+
+
+def main():
+    print(INTRODUCTION, end="")
+    section("korf_1985", KORF, 4)
+    section("korf_felner_2002", KORF_AND_FELNER, 2)
+
+
+main()
