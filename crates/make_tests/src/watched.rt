@@ -96,7 +96,7 @@ fn told_of_table<R: Threads + Sync + AllocGlobal + Abort>(
     let gate = Told::new();
     let made = draft(rt, rt.alloc(), &pattern, &gate);
     assert!(rt;
-        made.is_ok_and(|made| made.file.len() as u64 == 20 + entries),
+        made.is_ok_and(|made| made.file.len() as u64 == entries.saturating_add(20)),
         "{mask}"
     );
     assert_eq!(rt;
