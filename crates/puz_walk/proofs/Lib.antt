@@ -2,6 +2,7 @@ mod BlankLemmas
 mod ExchangeLemmas
 mod JudgeLemmas
 mod MarginLemmas
+mod MoveLemmas
 mod OpenLemmas
 mod OwnerLemmas
 mod SeatLemmas

@@ -1,91 +1,90 @@
-//! For each set and tile what a walk reads and changes when the tile moves.
+//! For each set, tile and move what a walk reads and changes when the move moves the tile.
 
-ghost use Rattle.std.specs.Prelude.{◌≡◌, ◌*◌, ◌<◌, length};
-ghost use Rattle.puz_walk.specs.Seats.{AreSeatsOf, IsOwnedSeat, IsSeatOf, IsVacant};
+ghost use Rattle.std.specs.Prelude.{◌≡◌, ◌*◌, ◌<◌, ℕ, length};
 ghost use Rattle.edge_words.specs.Spots.{IsIndexStep};
 ghost use Rattle.edge_words.specs.Words.{bit_number};
+ghost use Rattle.puz_walk.specs.Seats.{AreSeatsOf, IsSeatFor, IsSeatOf, IsVacant, seat_place};
 ghost use Rattle.puz_walk.specs.StoredWords.{IsOwner, move_for};
 ghost use Rattle.puz_walk.specs.WordBundles.{HaveWords};
 
 use crate::owners::{Owner, move_for, owner_of};
+use crate::ways::way_of;
 use crate::word_spots::index_place;
 use edge_words::{Words, bit_number};
-use puz_board::Move;
-use set_sum::{Bundle, Member};
+use puz_board::{MOVES, Move};
+use set_sum::Bundle;
 
-/// How many seats there are: 32 for each of 16 sets.
-pub(crate) const MOST_SEATS: usize = 512;
+/// How many seats there are: 4 for each of 32 tiles of 16 sets.
+pub(crate) const MOST_SEATS: usize = 2048;
 
 /// The number of no table.
 const NO_TABLE: u8 = 255;
 
-/// What a walk reads and changes of a set when a tile moves.
+/// What a walk reads and changes of a set when a move moves a tile.
 #[derive(Clone, Copy)]
 pub(crate) struct Seat {
-    /// The member of the set whose pattern has the tile. Where there is none, its table is none of the bundle's.
-    pub(crate) owner: Owner,
+    /// The table of the member of the set whose pattern has the tile. Where there is none, it is none of the bundle's.
+    pub(crate) table: u8,
     /// Where the index of the member is kept.
     pub(crate) place: u8,
-    /// The bit of a word that says whether the move of the board raises the count, for each move.
-    pub(crate) bits: [u8; 4],
-    /// What the move of the board adds to the index, modulo 2^32, for each move.
-    pub(crate) steps: [u32; 4],
+    /// The bit of a word that says whether the move raises the count.
+    pub(crate) bit: u8,
+    /// What the move adds to the index, modulo 2^32.
+    pub(crate) step: u32,
 }
 
-/// The seats of the tiles of all sets.
+/// Where the seat of a tile in a set is kept for a move.
+#[inline]
+pub(crate) fn seat_place(set: u8, tile: u8, mv: Move) -> usize
+    ensures { result ≡ seat_place set tile mv }
+{
+    128 * usize::from(set) + 4 * usize::from(tile) + way_of(mv)
+}
+
+/// The seats of the tiles of all sets for all moves.
 pub(crate) fn all_seats(bundle: &Bundle<'_>, words: &[Words]) -> [Seat; MOST_SEATS]
     requires { HaveWords bundle.now words.now }
     ensures { AreSeatsOf bundle.now result }
 {
     let cells = bundle.side().cells();
     let mut seats = [vacant(); MOST_SEATS];
-    for place in 0..32 * u16::from(bundle.sets()) {
-        let tile = (place % 32) as u8;
+    for place in 0..128 * u16::from(bundle.sets()) {
+        let tile = (place / 4 % 32) as u8;
         if tile < cells {
-            seats[usize::from(place)] = seat_of(bundle, words, (place / 32) as u8, tile);
+            let mv = MOVES[usize::from(place % 4)];
+            seats[usize::from(place)] = seat_of(bundle, words, (place / 128) as u8, tile, mv);
         }
     }
     seats
 }
 
-/// The seat of a tile in a set.
-fn seat_of(bundle: &Bundle<'_>, words: &[Words], set: u8, tile: u8) -> Seat
+/// The seat of a tile in a set for a move.
+fn seat_of(bundle: &Bundle<'_>, words: &[Words], set: u8, tile: u8, mv: Move) -> Seat
     requires words { HaveWords bundle.now words.now }
     requires set { set < length bundle.now.sets }
     requires tile { tile < bundle.now.side * bundle.now.side }
-    ensures { IsSeatOf bundle.now set tile result }
+    ensures { IsSeatOf bundle.now set tile mv result }
 {
     let _sets = bundle.sets();
     match owner_of(bundle, set, tile) {
-        Some(owner) => owned_seat(bundle, words, set, tile, owner),
+        Some(owner) => owned_seat(bundle, words, set, owner, mv),
         None => vacant(),
     }
 }
 
-/// The seat of a tile that a member of a set has.
-fn owned_seat(bundle: &Bundle<'_>, words: &[Words], set: u8, tile: u8, owner: Owner) -> Seat
+/// The seat of a tile that a member of a set has, for a move.
+fn owned_seat(bundle: &Bundle<'_>, words: &[Words], set: u8, owner: Owner, mv: Move) -> Seat
     requires words { HaveWords bundle.now words.now }
     requires set { set < length bundle.now.sets }
-    requires owner { IsOwner bundle.now set tile owner }
-    ensures { IsOwnedSeat bundle.now set tile result }
+    requires owner { (tile : ℕ) × IsOwner bundle.now set tile owner }
+    ensures { IsSeatFor bundle.now set owner mv result }
 {
     let _sets = bundle.sets();
-    let words = &words[usize::from(owner.member.table)];
     Seat {
-        owner,
+        table: owner.member.table,
         place: index_place(set, owner.member) as u8,
-        bits: [
-            bit_for(owner, Move::Up),
-            bit_for(owner, Move::Down),
-            bit_for(owner, Move::Left),
-            bit_for(owner, Move::Right),
-        ],
-        steps: [
-            step_for(words, owner, Move::Up),
-            step_for(words, owner, Move::Down),
-            step_for(words, owner, Move::Left),
-            step_for(words, owner, Move::Right),
-        ],
+        bit: bit_for(owner, mv),
+        step: step_for(&words[usize::from(owner.member.table)], owner, mv),
     }
 }
 
@@ -110,15 +109,9 @@ fn vacant() -> Seat
     ensures { IsVacant result }
 {
     Seat {
-        owner: Owner {
-            member: Member {
-                table: NO_TABLE,
-                is_transposed: false,
-            },
-            tile: 0,
-        },
+        table: NO_TABLE,
         place: 0,
-        bits: [0; 4],
-        steps: [0; 4],
+        bit: 0,
+        step: 0,
     }
 }

@@ -10,8 +10,8 @@ ghost use Rattle.puz_walk.specs.WordBundles.{HaveWords, most_worded};
 ghost use Rattle.puz_walk.specs.WordSpots.{AreIndexesOf, AreKept, IsShift};
 ghost use Rattle.edge_words.specs.Spots.{IsStepOf};
 
-use crate::seats::{MOST_SEATS, Seat, all_seats};
-use crate::ways::{Ways, all_ways, way_of, way_place};
+use crate::seats::{MOST_SEATS, Seat, all_seats, seat_place};
+use crate::ways::{Ways, all_ways, way_place};
 use crate::word_spots::{MOST_INDEXES, Spot};
 use edge_words::Words;
 use pat_place::Pattern;
@@ -28,7 +28,7 @@ const MOST_WORDED: usize = 8;
 pub struct WordBundle<'a> {
     pub(crate) bundle: &'a Bundle<'a>,
     pub(crate) words: &'a [Words],
-    /// For each set and tile what is read and changed when the tile moves.
+    /// For each set, tile and move what is read and changed when the move moves the tile.
     seats: [Seat; MOST_SEATS],
     /// For each cell and move the cell to which it leads.
     ways: Ways,
@@ -93,17 +93,17 @@ impl<'a> WordBundle<'a> {
         self.ways[way_place(cell, mv)]
     }
 
-    /// The seat of a tile in a set.
+    /// The seat of a tile in a set for a move.
     #[inline]
-    fn seat(&self, set: u8, tile: u8) -> Seat
+    fn seat(&self, set: u8, tile: u8, mv: Move) -> Seat
         requires set { set < length self.now.sets }
         requires tile { tile < self.now.side * self.now.side }
-        ensures seat { IsSeatOf self.now set tile result }
+        ensures seat { IsSeatOf self.now set tile mv result }
         ensures bundle { IsBundle self.now }
         ensures words { (words : List ShownWords) × HaveWords self.now words }
     {
         let _sets = self.bundle.sets();
-        self.seats[32 * usize::from(set) + usize::from(tile)]
+        self.seats[seat_place(set, tile, mv)]
     }
 
     /// Whether a move of a tile raises the sum of a set, where a member of the set has the tile.
@@ -119,13 +119,13 @@ impl<'a> WordBundle<'a> {
             → IsShift self.now b next set result }
     {
         let words = self.words;
-        let seat = self.seat(set, tile);
-        let table = usize::from(seat.owner.member.table);
+        let seat = self.seat(set, tile, mv);
+        let table = usize::from(seat.table);
         if words.len() <= table {
             return None;
         }
         let index = spot.indexes[usize::from(seat.place)];
-        Some(words[table].tells(index, seat.bits[way_of(mv)]))
+        Some(words[table].tells(index, seat.bit))
     }
 
     /// The indexes of a set after a move of a tile.
@@ -145,9 +145,9 @@ impl<'a> WordBundle<'a> {
             → AreIndexesOf self.now b indexes.old other
             → AreIndexesOf self.now b indexes.new other }
     {
-        let seat = self.seat(set, tile);
+        let seat = self.seat(set, tile, mv);
         let place = usize::from(seat.place);
-        indexes[place] = indexes[place].wrapping_add(seat.steps[way_of(mv)]);
+        indexes[place] = indexes[place].wrapping_add(seat.step);
     }
 }
 

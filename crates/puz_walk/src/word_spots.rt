@@ -108,12 +108,8 @@ fn sum_after(sum: u8, rises: Option<bool>) -> u16
     requires { (e : ℕ) × Shifts rises sum e }
     ensures { Shifts rises sum result }
 {
-    let sum = u16::from(sum);
-    match rises {
-        Some(true) => sum + 1,
-        Some(false) => sum - 1,
-        None => sum,
-    }
+    let (rose, fell) = (matches!(rises, Some(true)), matches!(rises, Some(false)));
+    u16::from(sum) + u16::from(rose) - u16::from(fell)
 }
 
 /// The change with one set more.
@@ -128,17 +124,21 @@ fn noted(change: Change, set: u8, rises: Option<bool>) -> Change
     ensures fell { (x : ℕ) → x ≢ set → bit_at result.fell x ≡ bit_at change.fell x }
     ensures one { bit_at result.rose set + bit_at result.fell set ≤ 1 }
 {
-    match rises {
-        Some(true) => Change {
-            rose: with(change.rose, set),
-            fell: change.fell,
-        },
-        Some(false) => Change {
-            rose: change.rose,
-            fell: with(change.fell, set),
-        },
-        None => change,
+    Change {
+        rose: with_if(change.rose, set, matches!(rises, Some(true))),
+        fell: with_if(change.fell, set, matches!(rises, Some(false))),
     }
+}
+
+/// The mask with one number more where this is wanted. No jump is taken for it.
+#[inline]
+fn with_if(mask: u32, number: u8, is_wanted: bool) -> u32
+    requires number { number < 32 }
+    requires none { bit_at mask number ≡ 0 }
+    ensures here { bit_at result number ≡ (if is_wanted then 1 else 0) }
+    ensures others { (x : ℕ) → x ≢ number → bit_at result x ≡ bit_at mask x }
+{
+    if is_wanted { with(mask, number) } else { mask }
 }
 
 /// Moves the blank to a cell beside its own, and the tile there into its own.

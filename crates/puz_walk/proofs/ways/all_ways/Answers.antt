@@ -1,25 +1,13 @@
-use Rattle.std.proofs.Common.{◌≡◌, ℕ, zero, suc, ◌<◌, ◌/◌, ◌%◌, cond, eqb, get_or, [], ◌∷◌, None, length, length-set, inl, inr, sym, ◌∙◌, ap, arith}
+use Rattle.std.proofs.Common.{◌≡◌, ℕ, ◌<◌, ◌/◌, ◌%◌, get_or, [], ◌∷◌, None, length, length-set, inl, inr, sym, ◌∙◌, ap, arith}
 use Rattle.std.proofs.Common.{get_or-set_same, get_or-set_other}
 use Rattle.std.specs.Prelude.{slice_index_or, slice_set}
 use Rattle.std.proofs.lemmas.Bool.{cases_eq}
 use Rattle.puz_board.specs.Cells.{step_of}
-use Rattle.puz_board.specs.declared.moves.Move.{Move}
 use Rattle.puz_board.specs.declared.moves.Move.TheVariants.{Up, Down, Left, Right}
 use Rattle.puz_board.proofs.CellLemmas.{few_cells}
 use Rattle.edge_words.specs.Words.{move_of}
+use Rattle.puz_walk.proofs.MoveLemmas.{move_at}
 use Rattle.puz_walk.proofs.ways.all_ways.Goals as goal
-
--- the move of a last digit
-abbrev pick : ℕ → Move
-pick digit = cond (eqb digit 0) Up (cond (eqb digit 1) Down (cond (eqb digit 2) Left Right))
-
--- the moves in their order
-move_at : (digit k : ℕ) → digit ≡ k % 4 → get_or (Up ∷ Down ∷ Left ∷ Right ∷ []) digit Up ≡ move_of k
-move_at zero k e = ap pick e
-move_at (suc zero) k e = ap pick e
-move_at (suc (suc zero)) k e = ap pick e
-move_at (suc (suc (suc zero))) k e = ap pick e
-move_at (suc (suc (suc (suc digit)))) k e = absurd (omega arith)
 
 -- with the cell of one more move put in, all places so far have the cells to which their moves lead
 pub loop-place-preserved : goal.loop-place-preserved

@@ -16,19 +16,16 @@ returns-clause-indexes c b next from to step are =
     let indexes = c.args.indexes.now in
     elim c.seat-seat.ensures.seat [
       | inl owned ↦
-          let m = seat.owner.member in
-          let is = owned.owner in
-          let moves = owner_moves v bundle have.0 have.1 c.args.set c.requires.set c.args.mv b next c.args.tile from to step seat.owner is in
-          let old = ap (slice_index indexes) (c.from-place.ensures ∙ owned.place) ∙ are is.number m is.member in
-          let added = ap (slice_index seat.steps) c.way_of.ensures.number in
-          let new = ap (λ k. (k + slice_index seat.steps c.way_of.result) % 2 ^ 32) old
-          ∙ ap (λ k. (index_on (pattern_at v m.table) (board_for m b) + k) % 2 ^ 32) added ∙
-          sym (owned.steps c.args.mv (board_for m b) (board_for m next) moves) in
-          owner_indexes v bundle have.0 have.1 c.args.set c.requires.set c.args.mv b next c.args.tile from to step seat.owner is
-          indexes c.from-place.result _ c.requires.room (c.from-place.ensures ∙ owned.place) new are
+          let m = owned.owner.member in
+          let is = owned.owns in
+          let moves = owner_moves v bundle have.0 have.1 c.args.set c.requires.set c.args.mv b next c.args.tile from to step owned.owner is in
+          let old = ap (slice_index indexes) (c.from-place.ensures ∙ owned.is.place) ∙ are is.number m is.member in
+          let new = ap (λ k. (k + seat.step) % 2 ^ 32) old ∙ sym (owned.is.step (board_for m b) (board_for m next) moves) in
+          owner_indexes v bundle have.0 have.1 c.args.set c.requires.set c.args.mv b next c.args.tile from to step owned.owner is
+          indexes c.from-place.result _ c.requires.room (c.from-place.ensures ∙ owned.is.place) new are
       | inr free ↦
           indexes_kept v c.args.set next indexes c.from-place.result _
-          (let none = ap (slice_index seat.steps) c.way_of.ensures.number ∙ free.vacant.steps c.args.mv in
+          (let none = free.vacant.step in
           let low = c.fits-indexes c.from-place.result in omega arith)
           (none_indexes v bundle have.0 have.1 c.args.set c.requires.set c.args.mv b next c.args.tile from to step free.none indexes are)
     ]
@@ -43,12 +40,12 @@ returns-clause-others c other b low ne are =
     let indexes = c.args.indexes.now in
     elim c.seat-seat.ensures.seat [
       | inl owned ↦
-          let m = seat.owner.member in
-          let is = owned.owner in
+          let m = owned.owner.member in
+          let is = owned.owns in
           other_indexes v bundle have.0 have.1 c.args.set other low ne m (table_low v bundle have.0 have.1 c.args.set c.requires.set is.number m is.member)
-          indexes c.from-place.result _ (c.from-place.ensures ∙ owned.place) b are
+          indexes c.from-place.result _ (c.from-place.ensures ∙ owned.is.place) b are
       | inr free ↦
           indexes_kept v other b indexes c.from-place.result _
-          (let none = ap (slice_index seat.steps) c.way_of.ensures.number ∙ free.vacant.steps c.args.mv in
+          (let none = free.vacant.step in
           let low = c.fits-indexes c.from-place.result in omega arith) are
     ]

@@ -18,10 +18,10 @@ returns-then-words-table c b next from to step kept =
     let have = subst (λ u. HaveWords u words) c.self.view_is c.self.invariant.words in
     elim c.seat-seat.ensures.seat [
       | inl owned ↦
-          let there = member_there v bundle c.args.set c.requires.set owned.owner.number c.seat-seat.result.owner.member owned.owner.member in
+          let there = member_there v bundle c.args.set c.requires.set owned.owns.number owned.owner.member owned.owns.member in
           let size = have.size in
           let none = c.if-words-table.true in
-          let table = c.from-table.ensures in
+          let table = c.from-table.ensures ∙ owned.is.table in
           absurd (omega arith)
       | inr free ↦ none_shifts v bundle words have c.args.set c.requires.set c.args.mv b next c.args.tile from to step free.none _
           (kept.each c.args.set c.requires.set).says
@@ -38,19 +38,19 @@ tells-requires c =
     let step = c.requires.step in
     elim c.seat-seat.ensures.seat [
       | inl owned ↦
-          let m = seat.owner.member in
-          let is = owned.owner in
+          let m = owned.owner.member in
+          let is = owned.owns in
           let pat = words_at v bundle words have c.args.set c.requires.set is.number m is.member c.from-table.result c.index-words-table.result
-          c.from-table.ensures c.index-words-table.is in
-          let moves = owner_moves v bundle words have c.args.set c.requires.set c.args.mv step.0 step.1 c.args.tile step.2 step.3 step.4 seat.owner is in (
-            seat.owner.tile,
+          (c.from-table.ensures ∙ owned.is.table) c.index-words-table.is in
+          let moves = owner_moves v bundle words have c.args.set c.requires.set c.args.mv step.0 step.1 c.args.tile step.2 step.3 step.4 owned.owner is in (
+            owned.owner.tile,
             move_for m c.args.mv,
             board_for m step.0,
             board_for m step.1,
-            subst (λ p. IsTileMove p seat.owner.tile (move_for m c.args.mv) (board_for m step.0) (board_for m step.1)) (sym pat) moves,
-            ap (slice_index c.args.spot.now.indexes) (c.from.ensures ∙ owned.place)
+            subst (λ p. IsTileMove p owned.owner.tile (move_for m c.args.mv) (board_for m step.0) (board_for m step.1)) (sym pat) moves,
+            ap (slice_index c.args.spot.now.indexes) (c.from.ensures ∙ owned.is.place)
                 ∙ (step.5.each c.args.set c.requires.set).are is.number m is.member ∙ ap (λ p. index_on p (board_for m step.0)) (sym pat),
-            ap (slice_index seat.bits) c.way_of.ensures.number ∙ owned.bits c.args.mv,
+            owned.is.bit,
           )
       | inr free ↦
           let few = have.few in
@@ -71,18 +71,18 @@ returns c b next from to step kept =
     let seat = c.seat-seat.result in
     elim c.seat-seat.ensures.seat [
       | inl owned ↦
-          let m = seat.owner.member in
-          let is = owned.owner in
+          let m = owned.owner.member in
+          let is = owned.owns in
           let pat = words_at v bundle words have c.args.set c.requires.set is.number m is.member c.from-table.result c.index-words-table.result
-          c.from-table.ensures c.index-words-table.is in
-          let moves = owner_moves v bundle words have c.args.set c.requires.set c.args.mv b next c.args.tile from to step seat.owner is in
-          let there = subst (λ p. IsTileMove p seat.owner.tile (move_for m c.args.mv) (board_for m b) (board_for m next)) (sym pat) moves in
-          let index = ap (slice_index c.args.spot.now.indexes) (c.from.ensures ∙ owned.place)
+          (c.from-table.ensures ∙ owned.is.table) c.index-words-table.is in
+          let moves = owner_moves v bundle words have c.args.set c.requires.set c.args.mv b next c.args.tile from to step owned.owner is in
+          let there = subst (λ p. IsTileMove p owned.owner.tile (move_for m c.args.mv) (board_for m b) (board_for m next)) (sym pat) moves in
+          let index = ap (slice_index c.args.spot.now.indexes) (c.from.ensures ∙ owned.is.place)
           ∙ (kept.each c.args.set c.requires.set).are is.number m is.member ∙ ap (λ p. index_on p (board_for m b)) (sym pat) in
-          let bit = ap (slice_index seat.bits) c.way_of.ensures.number ∙ owned.bits c.args.mv in
-          owner_shifts v bundle words have c.args.set c.requires.set c.args.mv b next c.args.tile from to step seat.owner is c.tells.result
+          let bit = owned.is.bit in
+          owner_shifts v bundle words have c.args.set c.requires.set c.args.mv b next c.args.tile from to step owned.owner is c.tells.result
           (λ d least. subst (λ p. RisesOrFalls c.tells.result p.tiles (board_for m next) d) pat
-          (c.tells.ensures seat.owner.tile (move_for m c.args.mv) (board_for m b) (board_for m next) d there index bit
+          (c.tells.ensures owned.owner.tile (move_for m c.args.mv) (board_for m b) (board_for m next) d there index bit
           (subst (λ p. IsLeastCost p.tiles (board_for m b) d) (sym pat) least)))
           _ (kept.each c.args.set c.requires.set).says
       | inr free ↦
