@@ -6,9 +6,10 @@ use Rattle.std.proofs.lemmas.Bool.{cases_eq}
 use Rattle.tab_rule.specs.declared.tables.Count.TheVariants.{Finite}
 use Rattle.set_sum.specs.Bundles.{ShownBundle, BundleSays, set_of}
 use Rattle.set_sum.proofs.SumLemmas.{set_once}
-use Rattle.puz_walk.specs.WordSpots.{AreIndexesOf, AreKept, IsKept, IsRoomy, IsShift, Shifts}
+use Rattle.puz_walk.specs.WordSpots.{AreKept, AreKeptOf, HasPlaces, IsKept, IsRoomy, IsShift, Shifts}
 use Rattle.puz_walk.specs.WordSteps.{AreChanged, IsChangeOf}
 use Rattle.puz_walk.specs.declared.word_spots.Change.{Change}
+use Rattle.puz_walk.specs.declared.word_spots.Kept.{Kept}
 
 -- a set has one sum
 pub sum_once : (v : ShownBundle) (set : ℕ) (b : List ℕ) (d e : ℕ) → BundleSays v set b (Finite d) → BundleSays v set b (Finite e) → d ≡ e
@@ -86,10 +87,10 @@ changed_back v b next change are set low =
 
 module _ (v : ShownBundle) (b next : List ℕ) (change : Change) (changed : AreChanged v b next change) where
   -- the sums of the first sets are those of the next board, and the others those of the board before
-  pub record IsHalf (count : ℕ) (sums indexes : List ℕ) : Type 0 where
-    pub room : IsRoomy sums indexes
-    pub done : (set : ℕ) → set < count → set < length v.sets → IsKept v next sums indexes set
-    pub left : (set : ℕ) → count ≤ set → set < length v.sets → IsKept v b sums indexes set
+  pub record IsHalf (count : ℕ) (sums : List ℕ) (kept : Kept) : Type 0 where
+    pub room : IsRoomy sums kept
+    pub done : (set : ℕ) → set < count → set < length v.sets → IsKept v next sums kept set
+    pub left : (set : ℕ) → count ≤ set → set < length v.sets → IsKept v b sums kept set
 
   module _ (set : ℕ) (low : set < length v.sets) (sums : List ℕ) (says : BundleSays v set b (Finite (slice_index sums set))) where
     -- the sum from which a set's change begins is the one that is kept of the set
@@ -111,13 +112,13 @@ module _ (v : ShownBundle) (b next : List ℕ) (change : Change) (changed : AreC
     pub after_here : (sum : ℕ) → sum + bit_at change.fell set ≡ slice_index sums set + bit_at change.rose set → sum ≡ (changed set low).after
     after_here sum e = let f = is_here in omega arith
 
-  -- where one more set's sum is changed and its indexes follow, one more set has followed the move
-  pub half_more : (count : ℕ) (sums indexes new : List ℕ) (sum : ℕ) → length v.sets ≤ 16 → (low : count < length v.sets) → IsHalf count sums indexes
-      → sum + bit_at change.fell count ≡ slice_index sums count + bit_at change.rose count → length new ≡ 256 → AreIndexesOf v next new count
-      → ((other : ℕ) (x : List ℕ) → other < length v.sets → other ≢ count → AreIndexesOf v x indexes other → AreIndexesOf v x new other)
+  -- where one more set's sum is changed and its members follow, one more set has followed the move
+  pub half_more : (count : ℕ) (sums : List ℕ) (kept new : Kept) (sum : ℕ) → length v.sets ≤ 16 → (low : count < length v.sets) → IsHalf count sums kept
+      → sum + bit_at change.fell count ≡ slice_index sums count + bit_at change.rose count → HasPlaces new → AreKeptOf v next new count
+      → ((other : ℕ) (x : List ℕ) → other < length v.sets → other ≢ count → AreKeptOf v x kept other → AreKeptOf v x new other)
       → IsHalf (count + 1) (slice_set sums count sum) new
-  half_more count sums indexes new sum few low half is room follows others = record {
-    room = record { sums_room = length-set _ _ _ ∙ half.room.sums_room; indexes_room = room };
+  half_more count sums kept new sum few low half is room follows others = record {
+    room = record { sums_room = length-set _ _ _ ∙ half.room.sums_room; places = room };
     done = λ set l there. elim (cases_eq set count) [
       | inl e ↦ subst (IsKept v next (slice_set sums count sum) new) (sym e) (record {
         says = subst (λ d. BundleSays v count next (Finite d))
@@ -132,16 +133,16 @@ module _ (v : ShownBundle) (b next : List ℕ) (change : Change) (changed : AreC
       here : slice_index (slice_set sums count sum) count ≡ sum
       here = get_or-set_same sums count sum 0 (let e = half.room.sums_room in omega arith)
 
-      other : (x : List ℕ) (set : ℕ) → set ≢ count → set < length v.sets → IsKept v x sums indexes set → IsKept v x (slice_set sums count sum) new set
-      other x set ne there kept = record {
-        says = subst (λ d. BundleSays v set x (Finite d)) (sym (get_or-set_other sums count set sum 0 ne)) kept.says;
-        are = others set x there ne kept.are;
+      other : (x : List ℕ) (set : ℕ) → set ≢ count → set < length v.sets → IsKept v x sums kept set → IsKept v x (slice_set sums count sum) new set
+      other x set ne there is_kept = record {
+        says = subst (λ d. BundleSays v set x (Finite d)) (sym (get_or-set_other sums count set sum 0 ne)) is_kept.says;
+        are = others set x there ne is_kept.are;
       }
 
-  -- with the sums and indexes that are kept of the board before, no set has followed the change yet
-  pub half_none : (sums indexes : List ℕ) → AreKept v b sums indexes → IsHalf 0 sums indexes
-  half_none sums indexes kept = record { room = kept.room; done = λ set l there. absurd (omega arith); left = λ set l there. kept.each set there }
+  -- with what is kept of the board before, no set has followed the change yet
+  pub half_none : (sums : List ℕ) (kept : Kept) → AreKept v b sums kept → IsHalf 0 sums kept
+  half_none sums kept are = record { room = are.room; done = λ set l there. absurd (omega arith); left = λ set l there. are.each set there }
 
-  -- once all sets have followed the change, the sums and indexes are those kept of the next board
-  pub half_all : (count : ℕ) (sums indexes : List ℕ) → length v.sets ≤ count → IsHalf count sums indexes → AreKept v next sums indexes
-  half_all count sums indexes all half = record { room = half.room; each = λ set there. half.done set (omega arith) there }
+  -- once all sets have followed the change, what is kept is that of the next board
+  pub half_all : (count : ℕ) (sums : List ℕ) (kept : Kept) → length v.sets ≤ count → IsHalf count sums kept → AreKept v next sums kept
+  half_all count sums kept all half = record { room = half.room; each = λ set there. half.done set (omega arith) there }

@@ -5,7 +5,6 @@ mod MarginLemmas
 mod MoveLemmas
 mod OpenLemmas
 mod OwnerLemmas
-mod SeatLemmas
 mod ShiftLemmas
 mod SumWalkLemmas
 mod TallyLemmas

@@ -1,21 +1,21 @@
 -- The member of a set that has a tile, and what a move of the tile does to the set.
-use Rattle.std.proofs.Common.{◌≡◌, ◌≢◌, ℕ, ◌+◌, ◌*◌, ◌/◌, ◌%◌, eqb, eq-eqb, ne_eqb, ◌<◌, ◌≤◌, Bool, true, false, cond, List, [], ◌∷◌, length, get_or}
+use Rattle.std.proofs.Common.{◌≡◌, ◌≢◌, ℕ, ◌+◌, ◌*◌, ◌/◌, ◌%◌, ◌^◌, eqb, eq-eqb, ne_eqb, ◌<◌, ◌≤◌, Bool, true, false, cond, List, [], ◌∷◌, length, get_or}
 use Rattle.std.proofs.Common.{slice_index, slice_set, Some, None, inl, inr, refl, sym, ◌∙◌, ap, subst, arith, get_or-set_same, get_or-set_other}
 use Rattle.std.specs.Prelude.{slice_get}
 use Rattle.std.specs.List.{AllByRecursion}
 use Rattle.std.specs.Int.{bit_at}
 use Rattle.std.proofs.lemmas.Bool.{false_from_ne_true}
 use Rattle.puz_board.specs.Masks.{numbers_of}
-use Rattle.puz_board.proofs.CellLemmas.{few_cells}
+use Rattle.puz_board.proofs.CellLemmas.{by_side, few_cells}
 use Rattle.pat_place.proofs.MaskLemmas.{in_numbers_below}
-use Rattle.puz_board.specs.Boards.{blank}
+use Rattle.puz_board.specs.Boards.{IsBoardOf, blank}
 use Rattle.puz_board.specs.Costs.{IsLeastCost, has}
 use Rattle.puz_board.specs.declared.moves.Move.{Move}
 use Rattle.puz_board.proofs.HasLemmas.{has-get}
-use Rattle.pat_place.specs.Patterns.{IsPattern}
+use Rattle.pat_place.specs.Patterns.{IsPattern, ShownPattern, most_tiles}
 use Rattle.tab_rule.specs.declared.tables.Count.TheVariants.{Finite}
-use Rattle.edge_words.specs.Spots.{IsStepOf, IsTileStep, index_on}
-use Rattle.edge_words.specs.Words.{IsTileMove, RisesOrFalls, ShownWords}
+use Rattle.edge_words.specs.Spots.{IsIndexStep, IsStepOf, IsTileStep, index_on}
+use Rattle.edge_words.specs.Words.{IsEdgeWord, IsTileMove, RisesOrFalls, ShownWords, bit_number}
 use Rattle.set_sum.specs.Bundles.{ShownBundle, BundleSays, IsBundle, IsSetOf, set_of}
 use Rattle.set_sum.specs.Members.{MemberSays, board_for, table_of, table_pattern}
 use Rattle.set_sum.specs.declared.members.Member.{Member}
@@ -23,9 +23,11 @@ use Rattle.set_sum.proofs.AnswerLemmas.{all_get}
 use Rattle.set_sum.proofs.ListLemmas.{all_at, get_or-slice_get}
 use Rattle.puz_walk.specs.StoredWords.{HasNoOwner, IsOwner, cell_for, move_for}
 use Rattle.puz_walk.specs.WordBundles.{HaveWords, pattern_at}
-use Rattle.puz_walk.specs.WordSpots.{AreIndexesOf, IsShift, Shifts, index_place}
+use Rattle.puz_walk.specs.WordSpots.{AreKeptOf, HasPlaces, IsFoundOn, IsShift, Shifts, member_place}
+use Rattle.puz_walk.specs.declared.word_spots.Kept.{Kept}
 use Rattle.puz_walk.specs.declared.owners.Owner.{Owner}
-use Rattle.puz_walk.proofs.ShiftLemmas.{IsFull, member_index_still, member_shifts, member_still, owner_or_not, shift_more, sum_moves, sum_still}
+use Rattle.puz_walk.proofs.MoveLemmas.{way_low}
+use Rattle.puz_walk.proofs.ShiftLemmas.{IsFull, member_index_still, member_placement_still, member_shifts, member_still, owner_or_not, shift_more, sum_moves, sum_still}
 use Rattle.puz_walk.proofs.TurnLemmas.{blank_below, next_good, step_for}
 
 -- the tile of a step is one of the board
@@ -52,7 +54,7 @@ same_parts set t u false true e = absurd (omega arith)
 same_parts set t u false false e = (let h : t ≡ u = omega arith in h, refl)
 
 -- no two members have one place
-pub same_member : (set : ℕ) (m o : Member) → index_place set m ≡ index_place set o → m ≡ o
+pub same_member : (set : ℕ) (m o : Member) → member_place set m ≡ member_place set o → m ≡ o
 same_member set m o e =
     let parts = same_parts set m.table o.table m.is_transposed o.is_transposed e in
     λ i. record { table = parts.0 i; is_transposed = parts.1 i }
@@ -72,6 +74,14 @@ place_low set t false low = omega arith
 pub place_parts : (set t : ℕ) (x : Bool) → t < 8 → ((16 * set + (2 * t + cond x 1 0)) % 16 / 2 ≡ t) × (eqb ((16 * set + (2 * t + cond x 1 0)) % 2) 1 ≡ x)
 place_parts set t true low = (let h : (16 * set + (2 * t + 1)) % 16 / 2 ≡ t = omega arith in h, eq-eqb ((16 * set + (2 * t + 1)) % 2) 1 (omega arith))
 place_parts set t false low = (let h : (16 * set + (2 * t + 0)) % 16 / 2 ≡ t = omega arith in h, ne_eqb ((16 * set + (2 * t + 0)) % 2) 1 (λ e. omega arith))
+
+-- no pattern has more than 8 tiles
+few_tiles : (n : ℕ) → 2 ≤ n → n ≤ 5 → (k : ℕ) → k ≤ most_tiles n → k ≤ 8
+few_tiles = by_side (λ n. (k : ℕ) → k ≤ most_tiles n → k ≤ 8) 
+    (λ k l. let few : k ≤ 3 = l in omega arith)
+    (λ k l. l)
+    (λ k l. l)
+    (λ k l. let few : k ≤ 6 = l in omega arith)
 
 -- ---- members of a set
 
@@ -99,6 +109,14 @@ module _ (v : ShownBundle) (bundle : IsBundle v) (set : ℕ) (low : set < length
       let tiles = table_pattern v.tables owner.member in
       subst (λ t. has tiles t ≡ true) is.is (has-get tiles owner.tile (slice_index tiles owner.tile) (get_or-slice_get tiles owner.tile 0 is.low))
 
+-- what was found at another place than the one that is set is found there still
+pub found_set : (kept : Kept) (place index word other : ℕ) → other ≢ place → (p : ShownPattern) (b : List ℕ)
+    → IsFoundOn p b (slice_index kept.indexes other) (slice_index kept.words other)
+    → IsFoundOn p b (slice_index (slice_set kept.indexes place index) other) (slice_index (slice_set kept.words place word) other)
+found_set kept place index word other ne p b found =
+    subst (λ w. IsFoundOn p b (slice_index (slice_set kept.indexes place index) other) w) (sym (get_or-set_other kept.words place other word 0 ne))
+    (subst (λ i. IsFoundOn p b i (slice_index kept.words other)) (sym (get_or-set_other kept.indexes place other index 0 ne)) found)
+
 module _ (v : ShownBundle) (bundle : IsBundle v) (words : List ShownWords) (have : HaveWords v words) (set : ℕ) (low : set < length v.sets) where
   module _ (number : ℕ) (m : Member) (is : slice_get (set_of v set) number ≡ Some m) where
     has_table : m.table < length v.tables
@@ -115,9 +133,9 @@ module _ (v : ShownBundle) (bundle : IsBundle v) (words : List ShownWords) (have
     pub table_low : m.table < 8
     table_low = let l = has_table in let few = have.few in omega arith
 
-    -- the place of a member's index is one of the 256 that a spot has
-    pub index_place_low : index_place set m < 256
-    index_place_low = let l = place_low set m.table m.is_transposed table_low in let few = bundle.few_sets in omega arith
+    -- a member has one of the 256 places that a spot has
+    pub member_place_low : member_place set m < 256
+    member_place_low = let l = place_low set m.table m.is_transposed table_low in let few = bundle.few_sets in omega arith
 
     -- the words that were read for it are those of its table's pattern
     pub words_at : (place : ℕ) (w : ShownWords) → place ≡ m.table → w ≡ get_or words place w → w.pattern ≡ pattern_at v m.table
@@ -134,6 +152,15 @@ module _ (v : ShownBundle) (bundle : IsBundle v) (words : List ShownWords) (have
 
   full_all : AllByRecursion (IsFull v.side v.tables) (set_of v set)
   full_all = full_of (set_of v set) (set_is v bundle set low).patterns (tables_there v bundle set low)
+
+  -- the bits of an owner's moves are bits of a word
+  pub owner_bit_low : (tile : ℕ) (owner : Owner) → IsOwner v set tile owner → (move : Move) → bit_number owner.tile move < 32
+  owner_bit_low tile owner is move =
+      let p = pat is.number owner.member is.member in
+      let few = few_tiles (pattern_at v owner.member.table).side p.low p.high (length (table_pattern v.tables owner.member)) p.most in
+      let low = is.low in
+      let way = way_low move in
+      omega arith
 
   -- ---- the owner of a tile
 
@@ -159,11 +186,20 @@ module _ (v : ShownBundle) (bundle : IsBundle v) (words : List ShownWords) (have
       is = refl;
     }
 
-    -- and the indexes
-    pub none_indexes : HasNoOwner v set tile → (indexes : List ℕ) → AreIndexesOf v b indexes set → AreIndexesOf v next indexes set
-    none_indexes none indexes are number m is =
-        are number m is ∙ sym (member_index_still v.side move b next tile from to step v.tables m (pat number m is)
-        (all_get (λ o. has (table_pattern v.tables o) (cell_for v.side o tile) ≡ false) (set_of v set) number m is none))
+    -- a member that hasn't the tile looks up the same index and the same word after the move
+    found_still : (number : ℕ) (m : Member) → slice_get (set_of v set) number ≡ Some m → has (table_pattern v.tables m) (cell_for v.side m tile) ≡ false
+        → (index word : ℕ) → IsFoundOn (pattern_at v m.table) (board_for m b) index word → IsFoundOn (pattern_at v m.table) (board_for m next) index word
+    found_still number m is none index word found = record {
+      index_is = found.index_is ∙ sym (member_index_still v.side move b next tile from to step v.tables m (pat number m is) none);
+      word_is = subst (λ cells. IsEdgeWord (pattern_at v m.table) cells word)
+          (sym (member_placement_still v.side move b next tile from to step v.tables m (pat number m is) none)) found.word_is;
+    }
+
+    -- where no member has the tile, all look up the same
+    pub none_kept : HasNoOwner v set tile → (kept : Kept) → AreKeptOf v b kept set → AreKeptOf v next kept set
+    none_kept none kept are number m is =
+        found_still number m is (all_get (λ o. has (table_pattern v.tables o) (cell_for v.side o tile) ≡ false) (set_of v set) number m is none) _ _
+        (are number m is)
 
     module _ (owner : Owner) (is : IsOwner v set tile owner) where
       -- the member of the set whose pattern has the tile that moves
@@ -178,6 +214,17 @@ module _ (v : ShownBundle) (bundle : IsBundle v) (words : List ShownWords) (have
       owner_moves =
           let looked = step_for v.side move b next tile from to step own in
           record { board = looked.board; leads = looked.leads; is_index = is.low; tile = sym looked.tile_is ∙ sym is.is }
+
+      -- and the board after it is one of the side
+      pub owner_board : IsBoardOf v.side (board_for own next)
+      owner_board =
+          next_good v.side (move_for own move) (board_for own b) (board_for own next) _ _ _ (step_for v.side move b next tile from to step own)
+
+      -- what the move adds leads to the index of the board after it
+      pub owner_index : (added index : ℕ) → IsIndexStep (pattern_at v own.table) owner.tile (move_for own move) added
+          → index ≡ index_on (pattern_at v own.table) (board_for own b) → (index + added) % 2 ^ 32 ≡ index_on (pattern_at v own.table) (board_for own next)
+      owner_index added index adds is_index =
+          ap (λ k. (k + added) % 2 ^ 32) is_index ∙ sym (adds (board_for own b) (board_for own next) owner_moves)
 
       -- on the boards that the tile's owner looks up, the move is a step of its own tile, with the blank's cells looked up alike
       pub owner_steps : IsTileStep (pattern_at v own.table) owner.tile (board_for own b) (board_for own next) (cell_for v.side own from)
@@ -202,33 +249,39 @@ module _ (v : ShownBundle) (bundle : IsBundle v) (words : List ShownWords) (have
             is = shifts.2;
           }
 
-      -- its index is the one that changes
-      pub owner_indexes : (indexes : List ℕ) (place index : ℕ) → length indexes ≡ 256 → place ≡ index_place set own
-          → index ≡ index_on (pattern_at v own.table) (board_for own next)
-          → AreIndexesOf v b indexes set → AreIndexesOf v next (slice_set indexes place index) set
-      owner_indexes indexes place index room place_is index_is are number m there =
+      -- the owner's index and word are those that change
+      pub owner_kept : (kept : Kept) (place index word : ℕ) → HasPlaces kept → place ≡ member_place set own
+          → IsFoundOn (pattern_at v own.table) (board_for own next) index word → AreKeptOf v b kept set
+          → AreKeptOf v next (record { indexes = slice_set kept.indexes place index; words = slice_set kept.words place word }) set
+      owner_kept kept place index word room place_is found are number m there =
           elim (owner_or_not v.side v.tables tile tile_low (set_of v set) (set_is v bundle set low).disjoint is.number own is.member own_takes number m there) [
             | inl same ↦
-                let here : slice_index (slice_set indexes place index) place ≡ index =
-                get_or-set_same indexes place index 0 (let l = index_place_low is.number own is.member in omega arith) in
-                subst (λ o. slice_index (slice_set indexes place index) (index_place set o) ≡ index_on (pattern_at v o.table) (board_for o next)) (sym same)
-                (ap (slice_index (slice_set indexes place index)) (sym place_is) ∙ here ∙ index_is)
+                let below = member_place_low is.number own is.member in
+                let index_here : slice_index (slice_set kept.indexes place index) place ≡ index =
+                get_or-set_same kept.indexes place index 0 (let l = room.indexes_room in omega arith) in
+                let word_here : slice_index (slice_set kept.words place word) place ≡ word =
+                get_or-set_same kept.words place word 0 (let l = room.words_room in omega arith) in
+                subst (λ o. IsFoundOn (pattern_at v o.table) (board_for o next) (slice_index (slice_set kept.indexes place index) (member_place set o))
+                    (slice_index (slice_set kept.words place word) (member_place set o))) (sym same)
+                (subst (λ k. IsFoundOn (pattern_at v own.table) (board_for own next) (slice_index (slice_set kept.indexes place index) k)
+                    (slice_index (slice_set kept.words place word) k)) place_is
+                (subst (λ w. IsFoundOn (pattern_at v own.table) (board_for own next) (slice_index (slice_set kept.indexes place index) place) w) (sym word_here)
+                (subst (λ i. IsFoundOn (pattern_at v own.table) (board_for own next) i word) (sym index_here) found)))
             | inr none ↦
-                let other : index_place set m ≢ place = (λ e.
+                let other : member_place set m ≢ place = (λ e.
                 let one : m ≡ own = same_member set m own (e ∙ place_is) in
                 let takes : has (table_pattern v.tables m) (cell_for v.side m tile) ≡ true =
                 subst (λ o. has (table_pattern v.tables o) (cell_for v.side o tile) ≡ true) (sym one) own_takes in
                 absurd cc) in
-                get_or-set_other indexes place (index_place set m) index 0 other ∙ are number m there ∙
-                sym (member_index_still v.side move b next tile from to step v.tables m (pat number m there) none)
+                found_set kept place index word (member_place set m) other (pattern_at v m.table) (board_for m next) (found_still number m there none _ _ (are number m there))
           ]
 
--- the indexes of another set stay
-pub other_indexes : (v : ShownBundle) (bundle : IsBundle v) (words : List ShownWords) (have : HaveWords v words) (set other : ℕ)
+-- what is kept of another set stays
+pub other_kept : (v : ShownBundle) (bundle : IsBundle v) (words : List ShownWords) (have : HaveWords v words) (set other : ℕ)
     → other < length v.sets → other ≢ set → (own : Member) → own.table < 8
-    → (indexes : List ℕ) (place index : ℕ) → place ≡ index_place set own → (b : List ℕ) → AreIndexesOf v b indexes other
-    → AreIndexesOf v b (slice_set indexes place index) other
-other_indexes v bundle words have set other low ne own few indexes place index place_is b are number m there =
-    get_or-set_other indexes place (index_place other m) index 0 (λ e.
-    apart_parts set other m.table own.table m.is_transposed own.is_transposed (table_low v bundle words have other low number m there) few ne (e ∙ place_is)) ∙
-    are number m there
+    → (kept : Kept) (place index word : ℕ) → place ≡ member_place set own → (b : List ℕ) → AreKeptOf v b kept other
+    → AreKeptOf v b (record { indexes = slice_set kept.indexes place index; words = slice_set kept.words place word }) other
+other_kept v bundle words have set other low ne own few kept place index word place_is b are number m there =
+    found_set kept place index word (member_place other m) (λ e.
+    apart_parts set other m.table own.table m.is_transposed own.is_transposed (table_low v bundle words have other low number m there) few ne (e ∙ place_is))
+    (pattern_at v m.table) (board_for m b) (are number m there)

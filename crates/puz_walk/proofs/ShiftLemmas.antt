@@ -12,9 +12,11 @@ use Rattle.pat_place.specs.Patterns.{IsPattern}
 use Rattle.tab_rule.specs.FoldedTables.{FoldedTableSays}
 use Rattle.tab_rule.specs.Counts.{TableSays}
 use Rattle.tab_rule.specs.declared.tables.Count.TheVariants.{Finite}
+use Rattle.pat_place.specs.Placements.{placement_of}
+use Rattle.edge_words.specs.Indexes.{index_in}
 use Rattle.edge_words.specs.Spots.{IsStepOf, index_on}
 use Rattle.edge_words.specs.Words.{RisesOrFalls}
-use Rattle.edge_words.proofs.SpotLemmas.{cost_still, index_still}
+use Rattle.edge_words.proofs.SpotLemmas.{cost_still, placement_still}
 use Rattle.set_sum.specs.Members.{MemberSays, board_for, pattern_of, patterns_of_set, table_of, table_pattern}
 use Rattle.set_sum.specs.Parts.{PartSays, ShownPart}
 use Rattle.set_sum.specs.Sums.{AddUpTo, AreDisjoint, Overlap}
@@ -141,14 +143,19 @@ module _ (n : ℕ) (move : Move) (b next : List ℕ) (tile from to : ℕ) (step 
       (cell_for n m from) (cell_for n m to)
       (step_for n move b next tile from to step m) none d (full_says (table_of tables m) (board_for m b) d full says))
 
-  -- the index of a member's placement stays the same by a move of a tile that its pattern hasn't
+  -- the placement of a member stays the same by a move of a tile that its pattern hasn't
+  pub member_placement_still : has (table_pattern tables m) (cell_for n m tile) ≡ false
+      → placement_of (table_pattern tables m) (board_for m next) ≡ placement_of (table_pattern tables m) (board_for m b)
+  member_placement_still none =
+      placement_still (record { side = n; tiles = table_pattern tables m }) pat _ (board_for m b) (board_for m next) (cell_for n m tile)
+      (cell_for n m from) (cell_for n m to)
+      (step_for n move b next tile from to step m) none
+
+  -- and so does its index
   pub member_index_still : has (table_pattern tables m) (cell_for n m tile) ≡ false
       → index_on (record { side = n; tiles = table_pattern tables m }) (board_for m next) ≡ index_on
       (record { side = n; tiles = table_pattern tables m }) (board_for m b)
-  member_index_still none =
-      index_still (record { side = n; tiles = table_pattern tables m }) pat _ (board_for m b) (board_for m next) (cell_for n m tile)
-      (cell_for n m from) (cell_for n m to)
-      (step_for n move b next tile from to step m) none
+  member_index_still none = ap (index_in (record { side = n; tiles = table_pattern tables m })) (member_placement_still none)
 
   -- as its word tells
   pub member_shifts : (table_of tables m).is_folded ≡ false → (rises : Bool)

@@ -6,7 +6,7 @@ use Rattle.edge_words.specs.Words.{bit_number, way_of}
 use Rattle.set_sum.specs.Bundles.{ShownBundle}
 use Rattle.puz_walk.specs.StoredWords.{HasNoOwner, IsOwner, move_for}
 use Rattle.puz_walk.specs.WordBundles.{most_worded, pattern_at}
-use Rattle.puz_walk.specs.WordSpots.{index_place}
+use Rattle.puz_walk.specs.WordSpots.{member_place}
 use Rattle.puz_walk.specs.declared.owners.Owner.{Owner}
 use Rattle.puz_walk.specs.declared.seats.Seat.{Seat}
 
@@ -17,7 +17,7 @@ seat_place set tile move = 128 * set + 4 * tile + way_of move
 -- what is read and changed by the move of a tile with this owner
 pub record IsSeatFor (v : ShownBundle) (set : ℕ) (owner : Owner) (move : Move) (seat : Seat) : Type 0 where
   pub table : seat.table ≡ owner.member.table
-  pub place : seat.place ≡ index_place set owner.member
+  pub place : seat.place ≡ member_place set owner.member
   pub bit : seat.bit ≡ bit_number owner.tile (move_for owner.member move)
   pub step : IsIndexStep (pattern_at v owner.member.table) owner.tile (move_for owner.member move) seat.step
 
@@ -27,16 +27,10 @@ pub record IsOwnedSeat (v : ShownBundle) (set tile : ℕ) (move : Move) (seat : 
   pub owns : IsOwner v set tile owner
   pub is : IsSeatFor v set owner move seat
 
--- its table is none of a bundle with words, and a move changes no index
-pub record IsVacant (seat : Seat) : Type 0 where
-  pub table : most_worded ≤ seat.table
-  pub place : seat.place ≡ 0
-  pub step : seat.step ≡ 0
-
--- the seat of a tile that no member of the set has
+-- the seat of a tile that no member of the set has: its table is none of a bundle with words
 pub record IsFreeSeat (v : ShownBundle) (set tile : ℕ) (seat : Seat) : Type 0 where
   pub none : HasNoOwner v set tile
-  pub vacant : IsVacant seat
+  pub table : most_worded ≤ seat.table
 
 -- the seat of the tile in the set for the move
 abbrev pub IsSeatOf : ShownBundle → ℕ → ℕ → Move → Seat → Type 0

@@ -1,15 +1,15 @@
 //! For each set, tile and move what a walk reads and changes when the move moves the tile.
 
-ghost use Rattle.std.specs.Prelude.{◌≡◌, ◌*◌, ◌<◌, ℕ, length};
+ghost use Rattle.std.specs.Prelude.{◌≡◌, ◌*◌, ◌<◌, ◌≤◌, ℕ, length};
 ghost use Rattle.edge_words.specs.Spots.{IsIndexStep};
 ghost use Rattle.edge_words.specs.Words.{bit_number};
-ghost use Rattle.puz_walk.specs.Seats.{AreSeatsOf, IsSeatFor, IsSeatOf, IsVacant, seat_place};
+ghost use Rattle.puz_walk.specs.Seats.{AreSeatsOf, IsSeatFor, IsSeatOf, seat_place};
 ghost use Rattle.puz_walk.specs.StoredWords.{IsOwner, move_for};
-ghost use Rattle.puz_walk.specs.WordBundles.{HaveWords};
+ghost use Rattle.puz_walk.specs.WordBundles.{HaveWords, most_worded};
 
 use crate::owners::{Owner, move_for, owner_of};
 use crate::ways::way_of;
-use crate::word_spots::index_place;
+use crate::word_spots::member_place;
 use edge_words::{Words, bit_number};
 use puz_board::{MOVES, Move};
 use set_sum::Bundle;
@@ -25,7 +25,7 @@ const NO_TABLE: u8 = 255;
 pub(crate) struct Seat {
     /// The table of the member of the set whose pattern has the tile. Where there is none, it is none of the bundle's.
     pub(crate) table: u8,
-    /// Where the index of the member is kept.
+    /// Where the index and the word of the member are kept.
     pub(crate) place: u8,
     /// The bit of a word that says whether the move raises the count.
     pub(crate) bit: u8,
@@ -82,7 +82,7 @@ fn owned_seat(bundle: &Bundle<'_>, words: &[Words], set: u8, owner: Owner, mv: M
     let _sets = bundle.sets();
     Seat {
         table: owner.member.table,
-        place: index_place(set, owner.member) as u8,
+        place: member_place(set, owner.member) as u8,
         bit: bit_for(owner, mv),
         step: step_for(&words[usize::from(owner.member.table)], owner, mv),
     }
@@ -106,7 +106,7 @@ fn step_for(words: &Words, owner: Owner, mv: Move) -> u32
 
 /// The seat of a tile that no member of a set has.
 fn vacant() -> Seat
-    ensures { IsVacant result }
+    ensures { most_worded ≤ result.table }
 {
     Seat {
         table: NO_TABLE,

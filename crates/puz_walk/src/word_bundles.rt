@@ -7,13 +7,13 @@ ghost use Rattle.set_sum.specs.Parts.{part_pattern, part_shown};
 ghost use Rattle.edge_words.specs.Words.{ShownWords};
 ghost use Rattle.puz_walk.specs.Seats.{IsSeatOf};
 ghost use Rattle.puz_walk.specs.WordBundles.{HaveWords, most_worded};
-ghost use Rattle.puz_walk.specs.WordSpots.{AreIndexesOf, AreKept, IsShift};
+ghost use Rattle.puz_walk.specs.WordSpots.{AreKept, AreKeptOf, HasPlaces, IsShift};
 ghost use Rattle.edge_words.specs.Spots.{IsStepOf};
 
 use crate::seats::{MOST_SEATS, Seat, all_seats, seat_place};
 use crate::ways::{Ways, all_ways, way_place};
-use crate::word_spots::{MOST_INDEXES, Spot};
-use edge_words::Words;
+use crate::word_spots::{Kept, Spot};
+use edge_words::{Words, raises};
 use pat_place::Pattern;
 use puz_board::{Move, Side};
 use set_sum::{Bundle, Part};
@@ -112,42 +112,44 @@ impl<'a> WordBundle<'a> {
         requires set { set < length self.now.sets }
         requires step { (b : List ℕ) × (next : List ℕ) × (from : ℕ) × (to : ℕ)
             × IsStepOf self.now.side mv b next tile from to
-            × AreKept self.now b spot.now.sums spot.now.indexes }
+            × AreKept self.now b spot.now.sums spot.now.kept }
         ensures { (b next : List ℕ) (from to : ℕ)
             → IsStepOf self.now.side mv b next tile from to
-            → AreKept self.now b spot.now.sums spot.now.indexes
+            → AreKept self.now b spot.now.sums spot.now.kept
             → IsShift self.now b next set result }
+    {
+        let seat = self.seat(set, tile, mv);
+        if self.words.len() <= usize::from(seat.table) {
+            return None;
+        }
+        Some(raises(spot.kept.words[usize::from(seat.place)], seat.bit))
+    }
+
+    /// What is kept of a set's members after a move of a tile.
+    #[inline]
+    pub(crate) fn follow(&self, kept: &mut Kept, set: u8, tile: u8, mv: Move)
+        requires set { set < length self.now.sets }
+        requires room { HasPlaces kept.old }
+        requires step { (b : List ℕ) × (next : List ℕ) × (from : ℕ) × (to : ℕ)
+            × IsStepOf self.now.side mv b next tile from to
+            × AreKeptOf self.now b kept.old set }
+        ensures room { HasPlaces kept.new }
+        ensures each { (b next : List ℕ) (from to : ℕ)
+            → IsStepOf self.now.side mv b next tile from to
+            → AreKeptOf self.now b kept.old set
+            → AreKeptOf self.now next kept.new set }
+        ensures others { (other : ℕ) (b : List ℕ) → other < length self.now.sets → other ≢ set
+            → AreKeptOf self.now b kept.old other
+            → AreKeptOf self.now b kept.new other }
     {
         let words = self.words;
         let seat = self.seat(set, tile, mv);
-        let table = usize::from(seat.table);
-        if words.len() <= table {
-            return None;
+        let (table, place) = (usize::from(seat.table), usize::from(seat.place));
+        if table < words.len() {
+            let index = kept.indexes[place].wrapping_add(seat.step);
+            kept.indexes[place] = index;
+            kept.words[place] = words[table].word(index);
         }
-        let index = spot.indexes[usize::from(seat.place)];
-        Some(words[table].tells(index, seat.bit))
-    }
-
-    /// The indexes of a set after a move of a tile.
-    #[inline]
-    pub(crate) fn follow(&self, indexes: &mut [u32; MOST_INDEXES], set: u8, tile: u8, mv: Move)
-        requires set { set < length self.now.sets }
-        requires room { length indexes.old ≡ 256 }
-        requires step { (b : List ℕ) × (next : List ℕ) × (from : ℕ) × (to : ℕ)
-            × IsStepOf self.now.side mv b next tile from to
-            × AreIndexesOf self.now b indexes.old set }
-        ensures room { length indexes.new ≡ 256 }
-        ensures indexes { (b next : List ℕ) (from to : ℕ)
-            → IsStepOf self.now.side mv b next tile from to
-            → AreIndexesOf self.now b indexes.old set
-            → AreIndexesOf self.now next indexes.new set }
-        ensures others { (other : ℕ) (b : List ℕ) → other < length self.now.sets → other ≢ set
-            → AreIndexesOf self.now b indexes.old other
-            → AreIndexesOf self.now b indexes.new other }
-    {
-        let seat = self.seat(set, tile, mv);
-        let place = usize::from(seat.place);
-        indexes[place] = indexes[place].wrapping_add(seat.step);
     }
 }
 

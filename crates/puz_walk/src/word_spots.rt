@@ -1,13 +1,13 @@
-//! Where a walk stands: the board, and for each set its sum and the indexes of its members.
+//! Where a walk stands: the board, and for each set its sum, and the indexes and words of its members.
 
 ghost use Rattle.std.specs.Prelude.{◌≡◌, ◌≢◌, ◌*◌, ◌+◌, ◌-◌, ◌<◌, ◌≤◌, ◌^◌, if◌then◌else◌, ℕ, IfNone, IfSome, List, length, take};
 ghost use Rattle.std.specs.Int.{bit_at};
 ghost use Rattle.puz_board.specs.Boards.{IsBoardOf, at, side_of};
 ghost use Rattle.set_sum.specs.Bundles.{IsBundle};
-ghost use Rattle.edge_words.specs.Spots.{IsStepOf, index_on};
+ghost use Rattle.edge_words.specs.Spots.{IsStepOf};
 ghost use Rattle.puz_walk.specs.Cuts.{AreBelow, GoesBeyond};
 ghost use Rattle.puz_walk.specs.WordBundles.{pattern_at};
-ghost use Rattle.puz_walk.specs.WordSpots.{AreIndexesOf, AreKept, IsSlideTo, IsSpotOf, Shifts, index_place};
+ghost use Rattle.puz_walk.specs.WordSpots.{AreKept, AreKeptOf, HasPlaces, IsFoundOn, IsSlideTo, IsSpotOf, Shifts, member_place};
 ghost use Rattle.puz_walk.specs.WordSteps.{AreChanged};
 
 use crate::cuts::sums_of;
@@ -16,10 +16,19 @@ use puz_board::masks::{has_cell, with};
 use puz_board::{Board, Move};
 use set_sum::{MOST_SETS, Member};
 
-/// How many indexes there are: 16 for each of 16 sets.
-pub(crate) const MOST_INDEXES: usize = 256;
+/// How many places there are for members: 16 for each of 16 sets.
+pub(crate) const MOST_PLACES: usize = 256;
 
-/// A board, and for each set its sum and the indexes of its members: two for each table, the first for the plain member.
+/// What is kept of the members of all sets. Each set has two places for each table, the first for the plain member.
+#[derive(Drop)]
+pub(crate) struct Kept {
+    /// The index of the placement that each looks up.
+    pub(crate) indexes: [u32; MOST_PLACES],
+    /// The word with this index.
+    pub(crate) words: [u32; MOST_PLACES],
+}
+
+/// A board, and for each set its sum and what is kept of its members.
 #[derive(Drop)]
 pub(crate) struct Spot {
     /// The number in each cell.
@@ -27,7 +36,7 @@ pub(crate) struct Spot {
     /// The blank's cell.
     pub(crate) blank: u8,
     pub(crate) sums: [u8; MOST_SETS],
-    pub(crate) indexes: [u32; MOST_INDEXES],
+    pub(crate) kept: Kept,
 }
 
 /// The sets whose sums a move raises by one, and those whose sums it lowers by one: bit s for set s.
@@ -37,11 +46,11 @@ pub(crate) struct Change {
     pub(crate) fell: u32,
 }
 
-/// Where the index of a member of a set is kept.
+/// Where the index and the word of a member of a set are kept.
 #[inline]
-pub(crate) fn index_place(set: u8, member: Member) -> usize
+pub(crate) fn member_place(set: u8, member: Member) -> usize
     requires { member.table < 8 }
-    ensures { result ≡ index_place set member }
+    ensures { result ≡ member_place set member }
 {
     16 * usize::from(set) + 2 * usize::from(member.table) + usize::from(member.is_transposed)
 }
@@ -81,14 +90,14 @@ pub(crate) fn judge(
 ) -> Option<Change>
     requires { (b : List ℕ) × (next : List ℕ) × (from : ℕ) × (to : ℕ)
         × IsStepOf bundle.now.side mv b next tile from to
-        × AreKept bundle.now b spot.now.sums spot.now.indexes }
+        × AreKept bundle.now b spot.now.sums spot.now.kept }
     ensures some { IfSome result (λ change. (b next : List ℕ) (from to : ℕ)
         → IsStepOf bundle.now.side mv b next tile from to
-        → AreKept bundle.now b spot.now.sums spot.now.indexes
+        → AreKept bundle.now b spot.now.sums spot.now.kept
         → AreChanged bundle.now b next change × AreBelow bundle.now next limit) }
     ensures none { IfNone result ((b next : List ℕ) (from to : ℕ)
         → IsStepOf bundle.now.side mv b next tile from to
-        → AreKept bundle.now b spot.now.sums spot.now.indexes
+        → AreKept bundle.now b spot.now.sums spot.now.kept
         → GoesBeyond bundle.now next limit) }
 {
     let mut change = Change { rose: 0, fell: 0 };
@@ -158,25 +167,25 @@ pub(crate) fn move_blank(bundle: &WordBundle<'_>, spot: &mut Spot, to: u8, mv: M
     follow_sets(bundle, spot, tile, mv, change);
 }
 
-/// The sums and the indexes after a move of a tile.
+/// The sums, and what is kept of members, after a move of a tile.
 #[inline]
 fn follow_sets(bundle: &WordBundle<'_>, spot: &mut Spot, tile: u8, mv: Move, change: Change)
     requires { (b : List ℕ) × (next : List ℕ) × (from : ℕ) × (to : ℕ)
         × IsStepOf bundle.now.side mv b next tile from to
-        × AreKept bundle.now b spot.old.sums spot.old.indexes
+        × AreKept bundle.now b spot.old.sums spot.old.kept
         × AreChanged bundle.now b next change }
     ensures kept { (b next : List ℕ) (from to : ℕ)
         → IsStepOf bundle.now.side mv b next tile from to
-        → AreKept bundle.now b spot.old.sums spot.old.indexes
+        → AreKept bundle.now b spot.old.sums spot.old.kept
         → AreChanged bundle.now b next change
-        → AreKept bundle.now next spot.new.sums spot.new.indexes }
+        → AreKept bundle.now next spot.new.sums spot.new.kept }
     ensures numbers { spot.new.numbers ≡ spot.old.numbers }
     ensures blank { spot.new.blank ≡ spot.old.blank }
 {
     for set in 0..bundle.sets() {
         let number = usize::from(set);
         spot.sums[number] = change.apply(set, spot.sums[number]);
-        bundle.follow(&mut spot.indexes, set, tile, mv);
+        bundle.follow(&mut spot.kept, set, tile, mv);
     }
 }
 
@@ -193,7 +202,7 @@ pub(crate) fn spot_of(bundle: &WordBundle<'_>, board: &Board, most: u8) -> Optio
         numbers: numbers_of(board),
         blank: board.blank(),
         sums,
-        indexes: indexes_of(bundle, board),
+        kept: kept_of(bundle, board),
     })
 }
 
@@ -209,20 +218,25 @@ fn numbers_of(board: &Board) -> [u8; 25]
     numbers
 }
 
-/// The indexes of the members of all sets on a board.
-fn indexes_of(bundle: &WordBundle<'_>, board: &Board) -> [u32; MOST_INDEXES]
+/// What is kept of the members of all sets on a board.
+fn kept_of(bundle: &WordBundle<'_>, board: &Board) -> Kept
     requires { side_of board.now ≡ bundle.now.side }
-    ensures room { length result ≡ 256 }
-    ensures indexes { (set : ℕ) → set < length bundle.now.sets
-        → AreIndexesOf bundle.now board.now result set }
+    ensures room { HasPlaces result }
+    ensures each { (set : ℕ) → set < length bundle.now.sets
+        → AreKeptOf bundle.now board.now result set }
 {
     let turned = board.transposed();
-    let mut indexes = [0; MOST_INDEXES];
+    let mut kept = Kept {
+        indexes: [0; MOST_PLACES],
+        words: [0; MOST_PLACES],
+    };
     for place in 0..16 * usize::from(bundle.sets()) {
         let looked_up = chosen(board, &turned, place % 2 == 1);
-        indexes[place] = index_for(bundle, place % 16 / 2, &looked_up);
+        let (index, word) = found_for(bundle, place % 16 / 2, &looked_up);
+        kept.indexes[place] = index;
+        kept.words[place] = word;
     }
-    indexes
+    kept
 }
 
 /// The board, or the transposed one.
@@ -234,16 +248,19 @@ fn chosen(board: &Board, turned: &Board, is_transposed: bool) -> Board
     if is_transposed { *turned } else { *board }
 }
 
-/// The index of a board in a table's words, where there is the table.
-fn index_for(bundle: &WordBundle<'_>, table: usize, board: &Board) -> u32
+/// The index of a board in a table's words, and its word, where there is the table.
+fn found_for(bundle: &WordBundle<'_>, table: usize, board: &Board) -> (u32, u32)
     requires { side_of board.now ≡ bundle.now.side }
     ensures { table < length bundle.now.tables
-        → result ≡ index_on (pattern_at bundle.now table) board.now }
+        → IsFoundOn (pattern_at bundle.now table) board.now result.0 result.1 }
 {
     let words = bundle.words;
+    let _side = board.side();
     if table < words.len() {
-        words[table].index_of(board)
+        let words = &words[table];
+        let index = words.index_of(board);
+        (index, words.word(index))
     } else {
-        0
+        (0, 0)
     }
 }

@@ -79,7 +79,7 @@ impl<'a> Walk for WordWalk<'a> {
         is_in_order(&self.spot.numbers[..usize::from(self.bundle.side().cells())])
     }
 
-    #[inline]
+    #[inline(always)]
     fn enter(&mut self, mv: Move) -> Option<WordStep> {
         let bundle = self.bundle;
         let from = self.spot.blank;

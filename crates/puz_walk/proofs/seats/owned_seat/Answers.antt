@@ -14,7 +14,7 @@ returns c =
     c.from.result c.index-words-from.result c.from.ensures c.index-words-from.is in
     record {
       table = refl;
-      place = c.index_place.ensures;
+      place = c.member_place.ensures;
       bit = c.bit_for.ensures;
       step = subst (λ p. IsIndexStep p owner.tile (move_for owner.member c.args.mv) c.step_for.result) pattern c.step_for.ensures;
     }

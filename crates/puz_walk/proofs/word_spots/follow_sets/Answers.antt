@@ -23,7 +23,7 @@ apply-requires-clause-some c =
     let some = some_here v c.requires.0 c.requires.1 c.args.change c.requires.6 set low c.loop-set.spot.sums (half.left set (omega arith) low).says in
     subst (λ k. bit_at c.args.change.fell set ≤ slice_index c.loop-set.spot.sums k + bit_at c.args.change.rose set) (sym c.from-number.ensures) some
 
--- a set that is to follow the move still has the indexes of the board before it
+-- a set that is to follow the move still keeps what its members look up of the board before it
 pub follow-requires-clause-step : goal.follow-requires-clause-step
 follow-requires-clause-step c =
     let v = c.args.bundle.now in
@@ -32,7 +32,7 @@ follow-requires-clause-step c =
     let half = c.loop-set.invariant.half c.requires.0 c.requires.1 c.requires.2 c.requires.3 c.requires.4 c.requires.5 c.requires.6 in
     (c.requires.0, c.requires.1, c.requires.2, c.requires.3, c.requires.4, (half.left set (omega arith) low).are)
 
--- where one more set takes its new sum and its new indexes, one more set has followed the tile's move
+-- where one more set takes its new sum and its members follow, one more set has followed the tile's move
 pub loop-set-preserved : goal.loop-set-preserved
 loop-set-preserved c = record {
   numbers = c.loop-set.invariant.numbers;
@@ -44,18 +44,18 @@ loop-set-preserved c = record {
       let half = c.loop-set.invariant.half b next from to step kept changed in
       let sum : c.apply.result + bit_at c.args.change.fell set ≡ slice_index c.loop-set.spot.sums set + bit_at c.args.change.rose set =
       c.apply.ensures ∙ ap (λ k. slice_index c.loop-set.spot.sums k + bit_at c.args.change.rose set) c.from-number.ensures in
-      subst (λ k. IsHalf v b next c.args.change changed (set + 1) (slice_set c.loop-set.spot.sums k c.apply.result) c.follow.new.indexes)
+      subst (λ k. IsHalf v b next c.args.change changed (set + 1) (slice_set c.loop-set.spot.sums k c.apply.result) c.follow.new.kept)
       (sym c.from-number.ensures)
-      (half_more v b next c.args.change changed set c.loop-set.spot.sums c.loop-set.spot.indexes c.follow.new.indexes c.apply.result
+      (half_more v b next c.args.change changed set c.loop-set.spot.sums c.loop-set.spot.kept c.follow.new.kept c.apply.result
       c.sets-set-end.ensures.bundle.few_sets low half
-      sum c.follow.ensures.room (c.follow.ensures.indexes b next from to step (half.left set (omega arith) low).are)
+      sum c.follow.ensures.room (c.follow.ensures.each b next from to step (half.left set (omega arith) low).are)
       (λ other x there ne are. c.follow.ensures.others other x there ne are));
 }
 
--- after all sets have followed the tile's move, their sums and indexes are kept of the next board
+-- after all sets have followed the tile's move, what is kept is that of the next board
 pub returns-clause-kept : goal.returns-clause-kept
 returns-clause-kept c b next from to step kept changed =
     let v = c.args.bundle.now in
     let all : length v.sets ≤ c.loop-set.set = (let done = c.loop-set-test.false in let count = c.sets-set-end.ensures.sets in omega arith) in
-    half_all v b next c.args.change changed c.loop-set.set c.loop-set.spot.sums c.loop-set.spot.indexes all
+    half_all v b next c.args.change changed c.loop-set.set c.loop-set.spot.sums c.loop-set.spot.kept all
     (c.loop-set.invariant.half b next from to step kept changed)

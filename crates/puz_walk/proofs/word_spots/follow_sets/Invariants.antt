@@ -10,6 +10,6 @@ abbrev pub invariant-loop-set : goal.invariant-loop-set
 invariant-loop-set l = record {
   numbers : l.spot.numbers ≡ l.fn.spot.numbers;
   blank : l.spot.blank ≡ l.fn.spot.blank;
-  half : (b next : List ℕ) (from to : ℕ) → IsStepOf l.bundle.side l.mv b next l.tile from to → AreKept l.bundle b l.fn.spot.sums l.fn.spot.indexes
-      → (changed : AreChanged l.bundle b next l.change) → IsHalf l.bundle b next l.change changed l.set l.spot.sums l.spot.indexes;
+  half : (b next : List ℕ) (from to : ℕ) → IsStepOf l.bundle.side l.mv b next l.tile from to → AreKept l.bundle b l.fn.spot.sums l.fn.spot.kept
+      → (changed : AreChanged l.bundle b next l.change) → IsHalf l.bundle b next l.change changed l.set l.spot.sums l.spot.kept;
 }

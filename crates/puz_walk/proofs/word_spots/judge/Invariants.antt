@@ -8,7 +8,7 @@ use Rattle.puz_walk.proofs.word_spots.judge.Given as goal
 -- the sets so far are judged, and of the others nothing is noted
 abbrev pub invariant-loop-set : goal.invariant-loop-set
 invariant-loop-set l = record {
-  judged : (b next : List ℕ) (from to : ℕ) → IsStepOf l.bundle.side l.mv b next l.tile from to → AreKept l.bundle b l.spot.sums l.spot.indexes
+  judged : (b next : List ℕ) (from to : ℕ) → IsStepOf l.bundle.side l.mv b next l.tile from to → AreKept l.bundle b l.spot.sums l.spot.kept
       → (k : ℕ) → k < l.set → IsJudged l.bundle b next l.limit l.change k;
   rose : (k : ℕ) → l.set ≤ k → bit_at l.change.rose k ≡ 0;
   fell : (k : ℕ) → l.set ≤ k → bit_at l.change.fell k ≡ 0;

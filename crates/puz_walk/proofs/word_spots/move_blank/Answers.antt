@@ -27,7 +27,7 @@ follow_sets-requires c = (
   c.requires.4,
 )
 
--- after the blank's move, the board after it is at the spot, with its numbers, blank, sums and indexes
+-- after the blank's move, the board after it is at the spot, with its numbers, its blank and what is kept
 pub returns : goal.returns
 returns c b next slides is changed =
     let v = c.args.bundle.now in

@@ -5,7 +5,7 @@ use Rattle.set_sum.specs.Bundles.{BundleSays}
 use Rattle.puz_walk.proofs.JudgeLemmas.{sum_once}
 use Rattle.puz_walk.proofs.word_spots.spot_of.Goals as goal
 
--- a board's numbers, its blank, its sums within the limit and its indexes make its spot
+-- a board's numbers, its blank, its sums within the limit and what its members look up make its spot
 pub returns-clause-some : goal.returns-clause-some
 returns-clause-some c =
     let v = c.args.bundle.now in
@@ -20,11 +20,11 @@ returns-clause-some c =
         numbers = ap (λ k. take k c.numbers_of.result) (sym size) ∙ c.numbers_of.ensures.numbers;
         blank_is = c.blank.ensures.cell;
         kept = record {
-          room = record { sums_room = c.in_ok-sums.ensures.room; indexes_room = c.indexes_of.ensures.room };
+          room = record { sums_room = c.in_ok-sums.ensures.room; places = c.kept_of.ensures.room };
           each = λ set low. record {
             says = subst (λ u. BundleSays u set b (Finite (slice_index sums set))) view
                 (c.in_ok-sums.ensures.some set (subst (λ u. set < length u.sets) (sym view) low)).0;
-            are = c.indexes_of.ensures.indexes set low;
+            are = c.kept_of.ensures.each set low;
           };
         };
       },

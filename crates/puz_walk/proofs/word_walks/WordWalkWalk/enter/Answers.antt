@@ -38,7 +38,7 @@ bounds-self-inside-from c =
 pub overflow_sub-self-inside : goal.overflow_sub-self-inside
 overflow_sub-self-inside c = margin_fits c.self.inside c.self.invariant
 
--- on entering, the words are asked about a step of the tile from the board whose sums and indexes are kept
+-- on entering, the words are asked about a step of the tile from the board of which the spot keeps the sums
 pub judge-requires : goal.judge-requires
 judge-requires c =
     let s = c.self.inside in
