@@ -27,7 +27,8 @@ use Rattle.puz_walk.specs.WordSpots.{AreKeptOf, HasPlaces, IsFoundOn, IsShift, S
 use Rattle.puz_walk.specs.declared.word_spots.Kept.{Kept}
 use Rattle.puz_walk.specs.declared.owners.Owner.{Owner}
 use Rattle.puz_walk.proofs.MoveLemmas.{way_low}
-use Rattle.puz_walk.proofs.ShiftLemmas.{IsFull, member_index_still, member_placement_still, member_shifts, member_still, owner_or_not, shift_more, sum_moves, sum_still}
+use Rattle.puz_walk.proofs.ShiftLemmas.{IsFull, member_index_still, member_placement_still, member_shifts, member_still, owner_or_not, shift_more}
+use Rattle.puz_walk.proofs.ShiftLemmas.{sum_moves, sum_still}
 use Rattle.puz_walk.proofs.TurnLemmas.{blank_below, next_good, step_for}
 
 -- the tile of a step is one of the board
@@ -77,7 +78,7 @@ place_parts set t false low = (let h : (16 * set + (2 * t + 0)) % 16 / 2 ≡ t =
 
 -- no pattern has more than 8 tiles
 few_tiles : (n : ℕ) → 2 ≤ n → n ≤ 5 → (k : ℕ) → k ≤ most_tiles n → k ≤ 8
-few_tiles = by_side (λ n. (k : ℕ) → k ≤ most_tiles n → k ≤ 8) 
+few_tiles = by_side (λ n. (k : ℕ) → k ≤ most_tiles n → k ≤ 8)
     (λ k l. let few : k ≤ 3 = l in omega arith)
     (λ k l. l)
     (λ k l. l)
@@ -262,9 +263,9 @@ module _ (v : ShownBundle) (bundle : IsBundle v) (words : List ShownWords) (have
                 let word_here : slice_index (slice_set kept.words place word) place ≡ word =
                 get_or-set_same kept.words place word 0 (let l = room.words_room in omega arith) in
                 subst (λ o. IsFoundOn (pattern_at v o.table) (board_for o next) (slice_index (slice_set kept.indexes place index) (member_place set o))
-                    (slice_index (slice_set kept.words place word) (member_place set o))) (sym same)
+                (slice_index (slice_set kept.words place word) (member_place set o))) (sym same)
                 (subst (λ k. IsFoundOn (pattern_at v own.table) (board_for own next) (slice_index (slice_set kept.indexes place index) k)
-                    (slice_index (slice_set kept.words place word) k)) place_is
+                (slice_index (slice_set kept.words place word) k)) place_is
                 (subst (λ w. IsFoundOn (pattern_at v own.table) (board_for own next) (slice_index (slice_set kept.indexes place index) place) w) (sym word_here)
                 (subst (λ i. IsFoundOn (pattern_at v own.table) (board_for own next) i word) (sym index_here) found)))
             | inr none ↦
@@ -273,7 +274,8 @@ module _ (v : ShownBundle) (bundle : IsBundle v) (words : List ShownWords) (have
                 let takes : has (table_pattern v.tables m) (cell_for v.side m tile) ≡ true =
                 subst (λ o. has (table_pattern v.tables o) (cell_for v.side o tile) ≡ true) (sym one) own_takes in
                 absurd cc) in
-                found_set kept place index word (member_place set m) other (pattern_at v m.table) (board_for m next) (found_still number m there none _ _ (are number m there))
+                found_set kept place index word (member_place set m) other (pattern_at v m.table) (board_for m next)
+                (found_still number m there none _ _ (are number m there))
           ]
 
 -- what is kept of another set stays

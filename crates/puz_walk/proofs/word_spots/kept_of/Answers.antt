@@ -33,7 +33,7 @@ loop-place-preserved c =
             let p = pattern_at v (place % 16 / 2) in
             let x = cond (eqb (place % 2) 1) turned b in
             subst (λ i. IsFoundOn (pattern_at v (i % 16 / 2)) (cond (eqb (i % 2) 1) turned b) (slice_index (slice_set kept.indexes place found.0) i)
-                (slice_index (slice_set kept.words place found.1) i)) (sym e)
+            (slice_index (slice_set kept.words place found.1) i)) (sym e)
             (subst (IsFoundOn p x (slice_index (slice_set kept.indexes place found.0) place)) (sym word_here)
             (subst (λ i. IsFoundOn p x i found.1) (sym index_here)
             (subst (λ o. IsFoundOn p o found.0 found.1) c.chosen-looked_up.ensures.board
